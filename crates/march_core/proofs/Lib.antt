@@ -1,0 +1,4 @@
+pub mod Consistent
+pub mod Built
+pub mod Directions
+pub mod Scanning

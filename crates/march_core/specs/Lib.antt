@@ -1,0 +1,5 @@
+pub mod Operation
+pub mod March
+pub mod Building
+pub mod Scan
+pub mod Visits

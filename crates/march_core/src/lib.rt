@@ -1,0 +1,14 @@
+//! March tests: lists of elements, each an order and the operations that are applied to one cell.
+#![tactic(auto)]
+
+mod builder;
+mod element;
+mod fault;
+mod march;
+mod operation;
+mod reads;
+
+pub use builder::MarchBuilder;
+pub use fault::MarchFault;
+pub use march::{March, is_down};
+pub use operation::{Op, Order};
