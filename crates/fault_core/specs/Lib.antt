@@ -1,0 +1,3 @@
+pub mod Primitive
+pub mod Testing
+pub mod Cells

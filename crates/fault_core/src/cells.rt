@@ -1,0 +1,120 @@
+ghost use Rattle.std.specs.Prelude.{◌≡◌, ◌<◌, Some, length, false, IsTrue};
+ghost use Rattle.fault_core.specs.Primitive.{same_bit, agg_has_act};
+ghost use Rattle.fault_core.specs.Cells.{FitsPlace, FitsAgg, states_hold, agg_holds, has_act, close_of, acts, agg_acts, has_this_act, same_act, step_cells, step_answer, acted, plain_cells, plain_answer};
+
+use crate::primitive::{Act, Prim, Sense};
+
+/// Where an instance stands: its aggressor, if it has one, and its victim.
+#[derive(Clone, Copy, Debug, PartialEq, Eq)]
+pub struct Places {
+    pub agg: Option<usize>,
+    pub vic: usize,
+}
+
+/// Whether the aggressor's cell holds its state.
+fn does_agg_hold(agg: Option<Sense>, place: Option<usize>, vic: usize, cells: &[bool]) -> bool
+    requires { FitsAgg agg place vic (length cells.now) }
+    ensures { result ≡ agg_holds agg place cells.now }
+{
+    match (agg, place) {
+        (Some(sense), Some(at)) => cells[at] == sense.state,
+        _ => true,
+    }
+}
+
+/// Whether every state of the primitive holds.
+fn do_states_hold(prim: &Prim, places: Places, cells: &[bool]) -> bool
+    requires { FitsPlace prim.now places (length cells.now) }
+    ensures { result ≡ states_hold prim.now places cells.now }
+{
+    cells[places.vic] == prim.vic().state
+        && does_agg_hold(prim.agg(), places.agg, places.vic, cells)
+}
+
+fn has_any_act(prim: &Prim) -> bool
+    ensures { result ≡ has_act prim.now }
+{
+    prim.vic().act.is_some() || agg_acts_at_all(prim.agg())
+}
+
+fn agg_acts_at_all(agg: Option<Sense>) -> bool
+    ensures { result ≡ agg_has_act agg }
+{
+    match agg {
+        Some(sense) => sense.act.is_some(),
+        None => false,
+    }
+}
+
+/// Closes the cells: a primitive without an act acts wherever its states hold.
+#[tactic(auto, unfolding(crate::specs::Cells::close_of))]
+pub fn close(prim: &Prim, places: Places, cells: &mut [bool])
+    requires { FitsPlace prim.now places (length cells.old) }
+    ensures { cells.new ≡ close_of prim.now places cells.old }
+{
+    if !has_any_act(prim) && do_states_hold(prim, places, cells) {
+        cells[places.vic] = prim.after();
+    }
+}
+
+fn is_this_act(own: Option<Act>, act: Act) -> bool
+    ensures { result ≡ has_this_act own act }
+{
+    match (own, act) {
+        (Some(Act::Read), Act::Read) => true,
+        (Some(Act::Write(a)), Act::Write(b)) => a == b,
+        _ => false,
+    }
+}
+
+fn does_agg_act(agg: Option<Sense>, place: Option<usize>, at: usize, act: Act) -> bool
+    ensures { result ≡ agg_acts agg place at act }
+{
+    match (agg, place) {
+        (Some(sense), Some(own)) => own == at && is_this_act(sense.act, act),
+        _ => false,
+    }
+}
+
+/// Whether this act on this cell is the primitive's own.
+#[tactic(auto, unfolding(crate::specs::Cells::acts))]
+fn does_act(prim: &Prim, places: Places, cells: &[bool], at: usize, act: Act) -> bool
+    requires { FitsPlace prim.now places (length cells.now) }
+    ensures { result ≡ acts prim.now places cells.now at act }
+{
+    ((places.vic == at && is_this_act(prim.vic().act, act))
+        || does_agg_act(prim.agg(), places.agg, at, act))
+        && do_states_hold(prim, places, cells)
+}
+
+fn do_plainly(cells: &mut [bool], at: usize, act: Act) -> Option<bool>
+    requires { at < length cells.old }
+    ensures cells { cells.new ≡ plain_cells cells.old at act }
+    ensures answer { result ≡ plain_answer cells.old at act }
+{
+    match act {
+        Act::Write(bit) => {
+            cells[at] = bit;
+            None
+        }
+        Act::Read => Some(cells[at]),
+    }
+}
+
+/// One act on one cell, with what the primitive makes of it. The answer is that of a read.
+#[tactic(auto, unfolding(crate::specs::Cells::step_cells, crate::specs::Cells::step_answer))]
+pub fn step(prim: &Prim, places: Places, cells: &mut [bool], at: usize, act: Act) -> Option<bool>
+    requires places { FitsPlace prim.now places (length cells.old) }
+    requires within { at < length cells.old }
+    ensures cells { cells.new ≡ step_cells prim.now places cells.old at act }
+    ensures answer { result ≡ step_answer prim.now places cells.old at act }
+{
+    let own = does_act(prim, places, cells, at, act);
+    let plain = do_plainly(cells, at, act);
+    let answer = if own { prim.answer().or(plain) } else { plain };
+    if own {
+        cells[places.vic] = prim.after();
+    }
+    close(prim, places, cells);
+    answer
+}

@@ -1,0 +1,8 @@
+//! Static fault primitives, and their meaning on a list of cells.
+#![tactic(auto)]
+
+mod cells;
+mod primitive;
+
+pub use cells::{Places, close, step};
+pub use primitive::{Act, Prim, PrimFault, Sense};

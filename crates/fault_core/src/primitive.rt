@@ -1,0 +1,137 @@
+ghost use Rattle.std.specs.Prelude.{◌≡◌, ◌↔◌, IsOk, IfOk, IfErr};
+ghost use Rattle.fault_core.specs.Primitive.{IsPrimitive, agg_has_act, refusal_of, has_aggressor};
+ghost use Rattle.fault_core.specs.Testing.{is_fault_of};
+
+use std::marker::Model;
+
+/// What is done to a cell: a write of a bit, or a read.
+#[derive(Clone, Copy, Debug, PartialEq, Eq)]
+pub enum Act {
+    Write(bool),
+    Read,
+}
+
+/// A state, and at most one act.
+#[derive(Clone, Copy, Debug, PartialEq, Eq)]
+pub struct Sense {
+    pub state: bool,
+    pub act: Option<Act>,
+}
+
+/// Why the parts are no primitive.
+#[derive(Clone, Copy, Debug, PartialEq, Eq)]
+pub enum PrimFault {
+    /// F3: they describe no static fault.
+    NotAFault,
+    /// F4: both the aggressor and the victim have an act.
+    TooManyOperations,
+}
+
+/// A static fault primitive `<S/F/R>`: the victim's state afterwards is another than a good cell's, or its
+/// read answers another bit. It is seen by its parts.
+#[derive(Clone, Copy)]
+pub struct Prim {
+    agg: Option<Sense>,
+    vic: Sense,
+    after: bool,
+    answer: Option<bool>,
+}
+
+impl Model for Prim {
+    ghost use Rattle.fault_core.specs.Primitive.{Primitive, IsPrimitive};
+
+    ghost Value = { Primitive };
+
+    ghost view = { λ p. record { agg = p.agg; vic = p.vic; after = p.after; answer = p.answer } };
+
+    ghost invariant = { λ p. IsPrimitive (record { agg = p.agg; vic = p.vic; after = p.after; answer = p.answer }) };
+
+    ghost inverse = { λ p. record { agg = p.agg; vic = p.vic; after = p.after; answer = p.answer } };
+}
+
+impl Prim {
+    ghost use Rattle.fault_core.specs.declared.primitive.PrimFault.{PrimFault};
+
+    /// The primitive of these parts, exactly where they describe a fault. Else F4 where both senses have an
+    /// act, and F3 otherwise.
+    pub fn new(
+        agg: Option<Sense>,
+        vic: Sense,
+        after: bool,
+        answer: Option<bool>,
+    ) -> Result<Prim, PrimFault>
+        ensures variant { IsOk result ↔ IsPrimitive (record { agg = agg; vic = vic; after = after; answer = answer }) }
+        ensures value { IfOk result (λ p. p ≡ (record { agg = agg; vic = vic; after = after; answer = answer })) }
+        ensures refusal { IfErr result (λ fault. fault ≡ refusal_of (record { agg = agg; vic = vic; after = after; answer = answer })) }
+    {
+        if has_act(&agg) && vic.act.is_some() {
+            return Err(PrimFault::TooManyOperations);
+        }
+        if !is_fault(vic, after, answer) {
+            return Err(PrimFault::NotAFault);
+        }
+        Ok(Prim {
+            agg,
+            vic,
+            after,
+            answer,
+        })
+    }
+
+    /// What the aggressor holds and does, where there is one.
+    pub fn agg(&self) -> Option<Sense>
+        ensures value { result ≡ self.now.agg }
+        ensures primitive { IsPrimitive self.now }
+    {
+        self.agg
+    }
+
+    /// What the victim holds, and what is done to it.
+    pub fn vic(&self) -> Sense
+        ensures { result ≡ self.now.vic }
+    {
+        self.vic
+    }
+
+    /// The victim's state afterwards.
+    pub fn after(&self) -> bool
+        ensures { result ≡ self.now.after }
+    {
+        self.after
+    }
+
+    /// What a read of the victim answers, where the victim's act is a read.
+    pub fn answer(&self) -> Option<bool>
+        ensures { result ≡ self.now.answer }
+    {
+        self.answer
+    }
+
+    /// Whether it has an aggressor.
+    pub fn is_two_cell(&self) -> bool
+        ensures { result ≡ has_aggressor self.now }
+    {
+        self.agg.is_some()
+    }
+}
+
+fn has_act(agg: &Option<Sense>) -> bool
+    ensures { result ≡ agg_has_act agg.now }
+{
+    match agg {
+        Some(sense) => sense.act.is_some(),
+        None => false,
+    }
+}
+
+/// Whether the victim's part is a fault.
+fn is_fault(vic: Sense, after: bool, answer: Option<bool>) -> bool
+    ensures { result ≡ is_fault_of vic after answer }
+{
+    match (vic.act, answer) {
+        (None, None) => after != vic.state,
+        (Some(Act::Write(bit)), None) => after != bit,
+        (Some(Act::Read), Some(bit)) => after != vic.state || bit != vic.state,
+        _ => false,
+    }
+}
