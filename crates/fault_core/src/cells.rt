@@ -2,7 +2,7 @@ ghost use Rattle.std.specs.Prelude.{◌≡◌, ◌<◌, Some, length, false, IsT
 ghost use Rattle.fault_core.specs.Primitive.{same_bit, agg_has_act};
 ghost use Rattle.fault_core.specs.Cells.{FitsPlace, FitsAgg, states_hold, agg_holds, has_act, close_of, acts, agg_acts, has_this_act, same_act, step_cells, step_answer, acted, plain_cells, plain_answer};
 
-use crate::primitive::{Act, Prim, Sense};
+use crate::primitive::{Act, FaultPrimitive, Sense};
 
 /// Where an instance stands: its aggressor, if it has one, and its victim.
 #[derive(Clone, Copy, Debug, PartialEq, Eq)]
@@ -23,7 +23,7 @@ fn does_agg_hold(agg: Option<Sense>, place: Option<usize>, vic: usize, cells: &[
 }
 
 /// Whether every state of the primitive holds.
-fn do_states_hold(prim: &Prim, places: Places, cells: &[bool]) -> bool
+fn do_states_hold(prim: &FaultPrimitive, places: Places, cells: &[bool]) -> bool
     requires { FitsPlace prim.now places (length cells.now) }
     ensures { result ≡ states_hold prim.now places cells.now }
 {
@@ -31,7 +31,7 @@ fn do_states_hold(prim: &Prim, places: Places, cells: &[bool]) -> bool
         && does_agg_hold(prim.agg(), places.agg, places.vic, cells)
 }
 
-fn has_any_act(prim: &Prim) -> bool
+fn has_any_act(prim: &FaultPrimitive) -> bool
     ensures { result ≡ has_act prim.now }
 {
     prim.vic().act.is_some() || agg_acts_at_all(prim.agg())
@@ -48,7 +48,7 @@ fn agg_acts_at_all(agg: Option<Sense>) -> bool
 
 /// Closes the cells: a primitive without an act acts wherever its states hold.
 #[tactic(auto, unfolding(crate::specs::Cells::close_of))]
-pub fn close(prim: &Prim, places: Places, cells: &mut [bool])
+pub fn close(prim: &FaultPrimitive, places: Places, cells: &mut [bool])
     requires { FitsPlace prim.now places (length cells.old) }
     ensures { cells.new ≡ close_of prim.now places cells.old }
 {
@@ -78,7 +78,7 @@ fn does_agg_act(agg: Option<Sense>, place: Option<usize>, at: usize, act: Act) -
 
 /// Whether this act on this cell is the primitive's own.
 #[tactic(auto, unfolding(crate::specs::Cells::acts))]
-fn does_act(prim: &Prim, places: Places, cells: &[bool], at: usize, act: Act) -> bool
+fn does_act(prim: &FaultPrimitive, places: Places, cells: &[bool], at: usize, act: Act) -> bool
     requires { FitsPlace prim.now places (length cells.now) }
     ensures { result ≡ acts prim.now places cells.now at act }
 {
@@ -103,7 +103,13 @@ fn do_plainly(cells: &mut [bool], at: usize, act: Act) -> Option<bool>
 
 /// One act on one cell, with what the primitive makes of it. The answer is that of a read.
 #[tactic(auto, unfolding(crate::specs::Cells::step_cells, crate::specs::Cells::step_answer))]
-pub fn step(prim: &Prim, places: Places, cells: &mut [bool], at: usize, act: Act) -> Option<bool>
+pub fn step(
+    prim: &FaultPrimitive,
+    places: Places,
+    cells: &mut [bool],
+    at: usize,
+    act: Act,
+) -> Option<bool>
     requires places { FitsPlace prim.now places (length cells.old) }
     requires within { at < length cells.old }
     ensures cells { cells.new ≡ step_cells prim.now places cells.old at act }

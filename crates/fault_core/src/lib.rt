@@ -5,4 +5,4 @@ mod cells;
 mod primitive;
 
 pub use cells::{Places, close, step};
-pub use primitive::{Act, Prim, PrimFault, Sense};
+pub use primitive::{Act, FaultPrimitive as Prim, PrimFault, Sense};

@@ -28,16 +28,17 @@ pub enum PrimFault {
 }
 
 /// A static fault primitive `<S/F/R>`: the victim's state afterwards is another than a good cell's, or its
-/// read answers another bit. It is seen by its parts.
+/// read answers another bit. It is seen by its parts. (The crate gives it out as `Prim`, a name that the logic
+/// keeps for itself here.)
 #[derive(Clone, Copy)]
-pub struct Prim {
+pub struct FaultPrimitive {
     agg: Option<Sense>,
     vic: Sense,
     after: bool,
     answer: Option<bool>,
 }
 
-impl Model for Prim {
+impl Model for FaultPrimitive {
     ghost use Rattle.fault_core.specs.Primitive.{Primitive, IsPrimitive};
 
     ghost Value = { Primitive };
@@ -49,7 +50,7 @@ impl Model for Prim {
     ghost inverse = { λ p. record { agg = p.agg; vic = p.vic; after = p.after; answer = p.answer } };
 }
 
-impl Prim {
+impl FaultPrimitive {
     ghost use Rattle.fault_core.specs.declared.primitive.PrimFault.{PrimFault};
 
     /// The primitive of these parts, exactly where they describe a fault. Else F4 where both senses have an
@@ -59,7 +60,7 @@ impl Prim {
         vic: Sense,
         after: bool,
         answer: Option<bool>,
-    ) -> Result<Prim, PrimFault>
+    ) -> Result<FaultPrimitive, PrimFault>
         ensures variant { IsOk result ↔ IsPrimitive (record { agg = agg; vic = vic; after = after; answer = answer }) }
         ensures value { IfOk result (λ p. p ≡ (record { agg = agg; vic = vic; after = after; answer = answer })) }
         ensures refusal { IfErr result (λ fault. fault ≡ refusal_of (record { agg = agg; vic = vic; after = after; answer = answer })) }
@@ -70,7 +71,7 @@ impl Prim {
         if !is_fault(vic, after, answer) {
             return Err(PrimFault::NotAFault);
         }
-        Ok(Prim {
+        Ok(FaultPrimitive {
             agg,
             vic,
             after,

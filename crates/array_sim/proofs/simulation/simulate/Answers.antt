@@ -1,0 +1,25 @@
+use Rattle.std.proofs.Common.{arith}
+use Rattle.array_sim.specs.Run.{places_of}
+use Rattle.array_sim.proofs.Runs.{march_goes_on, march_stops}
+use Rattle.array_sim.proofs.simulation.simulate.Goals as goal
+
+pub returns-in-Some-clause-cells : goal.returns-in-Some-clause-cells
+returns-in-Some-clause-cells c =
+    (march_stops c.args.instance.now.prim (places_of c.args.instance.now) c.args.march.now c.args.directions c.loop-element.element _
+    c.loop-element.cells c.run_element.new.cells c.ops.result.now c.is_down-down.result c.in-Some.miss c.run_element.result _ (omega arith)
+    (omega arith) c.ops.ensures.value c.is_down-down.ensures.value c.run_element.ensures.cells c.run_element.ensures.miss c.in-Some.is
+    c.loop-element.invariant).0
+
+pub returns-in-Some-clause-miss : goal.returns-in-Some-clause-miss
+returns-in-Some-clause-miss c =
+    (march_stops c.args.instance.now.prim (places_of c.args.instance.now) c.args.march.now c.args.directions c.loop-element.element _
+    c.loop-element.cells c.run_element.new.cells c.ops.result.now c.is_down-down.result c.in-Some.miss c.run_element.result _ (omega arith)
+    (omega arith) c.ops.ensures.value c.is_down-down.ensures.value c.run_element.ensures.cells c.run_element.ensures.miss c.in-Some.is
+    c.loop-element.invariant).1
+
+pub loop-element-preserved : goal.loop-element-preserved
+loop-element-preserved c =
+    march_goes_on c.args.instance.now.prim (places_of c.args.instance.now) c.args.march.now c.args.directions c.loop-element.element _
+    c.loop-element.cells c.run_element.new.cells c.ops.result.now c.is_down-down.result c.run_element.result _ (omega arith)
+    (omega arith) c.ops.ensures.value c.is_down-down.ensures.value c.run_element.ensures.cells c.run_element.ensures.miss c.in_default.is
+    c.loop-element.invariant

@@ -1,0 +1,99 @@
+ghost use Rattle.std.specs.Prelude.{◌≡◌, ◌<◌, Some, None, length};
+ghost use Rattle.fault_core.specs.Cells.{FitsPlace};
+ghost use Rattle.march_core.specs.Visits.{cell_visits, address_visits, addresses, Direction, Upward, Downward};
+ghost use Rattle.array_sim.specs.Run.{act_of, is_wrong_of, run_of};
+ghost use Rattle.array_sim.specs.Addresses.{direction_of, address_at};
+
+use fault_core::{Act, Places, Prim, step};
+use march_core::Op;
+
+/// A read that didn't answer what the march expects: its element, its cell and its number in the element,
+/// all counted from 0.
+#[derive(Clone, Copy, Debug, PartialEq, Eq)]
+pub struct Miss {
+    pub element: usize,
+    pub address: usize,
+    pub op: usize,
+}
+
+/// An operation as an act: the bit that a read expects plays no part.
+pub fn act(op: Op) -> Act
+    ensures { result ≡ act_of op }
+{
+    match op {
+        Op::W0 => Act::Write(false),
+        Op::W1 => Act::Write(true),
+        Op::R0 | Op::R1 => Act::Read,
+    }
+}
+
+/// Whether an operation is a read that got another answer than it expects.
+pub fn is_wrong(op: Op, answer: Option<bool>) -> bool
+    ensures { result ≡ is_wrong_of op answer }
+{
+    match op {
+        Op::W0 | Op::W1 => false,
+        Op::R0 => answer != Some(false),
+        Op::R1 => answer != Some(true),
+    }
+}
+
+/// Does the operations of an element on one cell, up to the first miss.
+pub(crate) fn run_cell(
+    prim: &Prim,
+    places: Places,
+    cells: &mut [bool],
+    element: usize,
+    address: usize,
+    ops: &[Op],
+) -> Option<Miss>
+    requires places { FitsPlace prim.now places (length cells.old) }
+    requires within { address < length cells.old }
+    ensures cells { cells.new ≡ (run_of prim.now places cells.old (cell_visits element address 0 ops.now)).cells }
+    ensures miss { result ≡ (run_of prim.now places cells.old (cell_visits element address 0 ops.now)).miss }
+{
+    for (number, op) in ops.iter().enumerate() {
+        let answer = step(prim, places, cells, address, act(*op));
+        if is_wrong(*op, answer) {
+            return Some(Miss {
+                element,
+                address,
+                op: number,
+            });
+        }
+    }
+    None
+}
+
+/// The address at a place in the order of a direction.
+#[tactic(auto, unfolding(crate::specs::Addresses::address_at))]
+fn address_of(is_down: bool, place: usize, size: usize) -> usize
+    requires { place < size }
+    ensures value { result ≡ address_at (direction_of is_down) place size }
+    ensures within { result < size }
+{
+    if is_down { size - 1 - place } else { place }
+}
+
+/// Does the operations of an element on each cell in turn, up to the first miss.
+pub(crate) fn run_element(
+    prim: &Prim,
+    places: Places,
+    cells: &mut [bool],
+    element: usize,
+    ops: &[Op],
+    is_down: bool,
+) -> Option<Miss>
+    requires places { FitsPlace prim.now places (length cells.old) }
+    ensures cells { cells.new ≡ (run_of prim.now places cells.old (address_visits element ops.now (addresses (direction_of is_down) (length cells.old)))).cells }
+    ensures miss { result ≡ (run_of prim.now places cells.old (address_visits element ops.now (addresses (direction_of is_down) (length cells.old)))).miss }
+{
+    let size = cells.len();
+    for place in 0..size {
+        let address = address_of(is_down, place, size);
+        if let Some(miss) = run_cell(prim, places, cells, element, address, ops) {
+            return Some(miss);
+        }
+    }
+    None
+}
