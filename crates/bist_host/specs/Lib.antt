@@ -1,0 +1,4 @@
+pub mod Files
+pub mod MemHost
+pub mod MemFile
+pub mod FailHost
