@@ -1,5 +1,7 @@
 pub mod Bytes
 pub mod Powers
+pub mod Runs
+pub mod LineLemmas
 pub mod Machine
 pub mod Exclusive
 pub mod Pieces
