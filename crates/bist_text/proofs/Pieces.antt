@@ -1,7 +1,7 @@
 -- Small steps on equivalences, options and pieces of grammars, of which the laws of a machine are put together.
 use Rattle.std.proofs.Common.{◌≡◌, ℕ, ◌==◌, Bool, true, false, List, [], ◌∷◌, ◌++◌, ◌∙◌, Option, Some, None, refl, ◌↔◌, ◌⊎◌, inl, inr, subst, sym, ap, append_assoc, append-nil}
-use Rattle.std.proofs.lemmas.Bool.{eqb-true}
-use Rattle.bist_text.specs.Grammar.{when, many}
+use Rattle.std.proofs.lemmas.Bool.{eqb-true, eq-eqb}
+use Rattle.bist_text.specs.Grammar.{when, many, word}
 use Rattle.bist_text.specs.Machine.{Holds, Grows}
 
 -- a fact of every byte, from that of d and that of the others
@@ -93,3 +93,12 @@ ends_none old v P f = never (grows_never old v P f) (λ e. cc)
 
 pub ends_here : {A : Type 0} (old v : List A) (P : List A → Type 0) → ((m : List A) → P m → m ≡ []) → P [] → Grows old v P ↔ (Some old ≡ Some v)
 ends_here {A} old v P f p = (λ h. let e : v ≡ old = h.1 ∙ ap (λ m. old ++ m) (f h.0 h.2) ∙ append-nil old in cc, λ e. let e' : old ≡ v = cc in ([], sym e' ∙ sym (append-nil old), p))
+
+-- what is printed is read: no byte of a class, and the bytes of a text
+pub many_none : (p : ℕ → Bool) (K : List ℕ → Type 0) (b : List ℕ) → K b → many p K b
+many_none p K [] h = h
+many_none p K (c ∷ b) h = inl h
+
+pub word_on : (w : List ℕ) (K : List ℕ → Type 0) (r : List ℕ) → K r → word w K (w ++ r)
+word_on [] K r h = h
+word_on (c ∷ w) K r h = subst (λ t. when t (word w K (w ++ r))) (sym (eq-eqb c c refl)) (word_on w K r h)

@@ -1,7 +1,7 @@
 -- Grammars as relations between bytes and values. A piece of a grammar takes what may follow it, a set of
 -- texts, and gives the texts that begin with the piece and go on so. A grammar is then written in the order
 -- in which its text is read: `word (codes "up") (byte 40 K)` is "up", an opening parenthesis, and then K.
-use Rattle.std.specs.Prelude.{◌≡◌, ℕ, ◌+◌, ◌<◌, Bool, true, false, List, [], ◌∷◌, ◌++◌, length, take, ◌⊎◌, ◌==◌, nat_lt}
+use Rattle.std.specs.Prelude.{◌≡◌, ℕ, ◌+◌, ◌<◌, Bool, true, false, List, [], ◌∷◌, ◌++◌, length, take, ◌⊎◌, ◌==◌, ◌||◌, nat_lt}
 use Rattle.std.specs.List.{list_all}
 
 -- nothing follows
@@ -33,6 +33,10 @@ one_of (w ∷ ws) K b = word w K b ⊎ one_of ws K b
 abbrev pub many : (ℕ → Bool) → (List ℕ → Type 0) → List ℕ → Type 0
 many p K [] = K []
 many p K (x ∷ b) = K (x ∷ b) ⊎ when (p x) (many p K b)
+
+-- a blank: space, tab or carriage return
+abbrev pub is_blank : ℕ → Bool
+is_blank c = (c == 32) || (c == 9) || (c == 13)
 
 -- numbers that are bytes
 abbrev pub are_bytes : List ℕ → Bool
