@@ -3,6 +3,8 @@
 
 mod cells;
 mod primitive;
+mod table;
 
 pub use cells::{Places, close, step};
 pub use primitive::{Act, FaultPrimitive as Prim, PrimFault, Sense};
+pub use table::{Class, class_of, members, one_cell, two_cell};

@@ -79,6 +79,24 @@ impl FaultPrimitive {
         })
     }
 
+    /// The primitive of these parts, which describe a fault.
+    pub(crate) fn of_parts(
+        agg: Option<Sense>,
+        vic: Sense,
+        after: bool,
+        answer: Option<bool>,
+    ) -> FaultPrimitive
+        requires { IsPrimitive (record { agg = agg; vic = vic; after = after; answer = answer }) }
+        ensures { result ≡ (record { agg = agg; vic = vic; after = after; answer = answer }) }
+    {
+        FaultPrimitive {
+            agg,
+            vic,
+            after,
+            answer,
+        }
+    }
+
     /// What the aggressor holds and does, where there is one.
     pub fn agg(&self) -> Option<Sense>
         ensures value { result ≡ self.now.agg }
@@ -113,6 +131,17 @@ impl FaultPrimitive {
         ensures { result ≡ has_aggressor self.now }
     {
         self.agg.is_some()
+    }
+}
+
+/// A blank of a fixed list: the state fault `<0/1/->`, first in the table.
+impl Default for FaultPrimitive {
+    fn default() -> Self {
+        let vic = Sense {
+            state: false,
+            act: None,
+        };
+        FaultPrimitive::of_parts(None, vic, true, None)
     }
 }
 
