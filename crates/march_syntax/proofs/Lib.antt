@@ -1,0 +1,5 @@
+mod Spelling
+mod PlaceLaws
+mod Standing
+mod OpBuilt
+mod Outcomes

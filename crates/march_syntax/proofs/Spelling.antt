@@ -1,0 +1,68 @@
+-- The next byte of an order's spelling.
+use Rattle.std.proofs.Common.{◌≡◌, ℕ, ◌==◌, Bool, true, false, List, [], ◌∷◌, Option, Some, None, refl, ◌↔◌, ◌⊎◌, inl, inr, rules, arith, subst, sym}
+use Rattle.bist_text.proofs.Pieces.{at_byte}
+use Rattle.bist_text.specs.Grammar.{one_of, are_bytes}
+use Rattle.bist_text.specs.Machine.{Holds}
+use Rattle.march_core.specs.declared.operation.Order.{Order}
+use Rattle.march_core.specs.declared.operation.Order.TheVariants.{Up, Down, Any}
+use Rattle.march_syntax.specs.declared.place.Part.{Part}
+use Rattle.march_syntax.specs.declared.place.Part.TheVariants.{Begin, U, D, Do, Dow, A, An, Arrow, ArrowTail}
+use Rattle.march_syntax.specs.declared.place.Spelled.TheVariants.{More, Whole}
+use Rattle.march_syntax.specs.Places.{spell, left, spelled}
+
+abbrev pub Law : Part → Order → (List ℕ → Type 0) → List ℕ → ℕ → Type 0
+Law p o K b c = one_of (left p o) K (c ∷ b) ↔ Holds (spell p c) (λ s. spelled s o K b)
+
+-- what follows a part of a spelling, by the next byte
+pub spell_law : (p : Part) (o : Order) (K : List ℕ → Type 0) (b : List ℕ) (c : ℕ) → Law p o K b c
+spell_law Begin Up K b c = at_byte (λ x. Law Begin Up K b x) c 117 (grind arith) (λ n117. at_byte (λ x. Law Begin Up K b x) c 100 (grind arith) (λ n100. at_byte (λ x. Law Begin Up K b x) c 97 (grind arith) (λ n97. at_byte (λ x. Law Begin Up K b x) c 226 (grind arith) (λ n226. at_byte (λ x. Law Begin Up K b x) c 94 (grind arith) (λ n94. at_byte (λ x. Law Begin Up K b x) c 118 (grind arith) (λ n118. at_byte (λ x. Law Begin Up K b x) c 42 (grind arith) (λ n42. simp (n117, n100, n97, n226, n94, n118, n42) (grind arith))))))))
+spell_law Begin o K b c = at_byte (λ x. Law Begin o K b x) c 117 (grind arith) (λ n117. at_byte (λ x. Law Begin o K b x) c 100 (grind arith) (λ n100. at_byte (λ x. Law Begin o K b x) c 97 (grind arith) (λ n97. at_byte (λ x. Law Begin o K b x) c 226 (grind arith) (λ n226. at_byte (λ x. Law Begin o K b x) c 94 (grind arith) (λ n94. at_byte (λ x. Law Begin o K b x) c 118 (grind arith) (λ n118. at_byte (λ x. Law Begin o K b x) c 42 (grind arith) (λ n42. simp (n117, n100, n97, n226, n94, n118, n42) (grind arith))))))))
+spell_law U Up K b c = at_byte (λ x. Law U Up K b x) c 112 (grind arith) (λ n112. simp (n112) (grind arith))
+spell_law U o K b c = at_byte (λ x. Law U o K b x) c 112 (grind arith) (λ n112. simp (n112) (grind arith))
+spell_law D Up K b c = at_byte (λ x. Law D Up K b x) c 111 (grind arith) (λ n111. simp (n111) (grind arith))
+spell_law D o K b c = at_byte (λ x. Law D o K b x) c 111 (grind arith) (λ n111. simp (n111) (grind arith))
+spell_law Do Up K b c = at_byte (λ x. Law Do Up K b x) c 119 (grind arith) (λ n119. simp (n119) (grind arith))
+spell_law Do o K b c = at_byte (λ x. Law Do o K b x) c 119 (grind arith) (λ n119. simp (n119) (grind arith))
+spell_law Dow Up K b c = at_byte (λ x. Law Dow Up K b x) c 110 (grind arith) (λ n110. simp (n110) (grind arith))
+spell_law Dow o K b c = at_byte (λ x. Law Dow o K b x) c 110 (grind arith) (λ n110. simp (n110) (grind arith))
+spell_law A Up K b c = at_byte (λ x. Law A Up K b x) c 110 (grind arith) (λ n110. simp (n110) (grind arith))
+spell_law A o K b c = at_byte (λ x. Law A o K b x) c 110 (grind arith) (λ n110. simp (n110) (grind arith))
+spell_law An Up K b c = at_byte (λ x. Law An Up K b x) c 121 (grind arith) (λ n121. simp (n121) (grind arith))
+spell_law An o K b c = at_byte (λ x. Law An o K b x) c 121 (grind arith) (λ n121. simp (n121) (grind arith))
+spell_law Arrow Up K b c = at_byte (λ x. Law Arrow Up K b x) c 135 (grind arith) (λ n135. at_byte (λ x. Law Arrow Up K b x) c 134 (grind arith) (λ n134. simp (n135, n134) (grind arith)))
+spell_law Arrow o K b c = at_byte (λ x. Law Arrow o K b x) c 135 (grind arith) (λ n135. at_byte (λ x. Law Arrow o K b x) c 134 (grind arith) (λ n134. simp (n135, n134) (grind arith)))
+spell_law ArrowTail Up K b c = at_byte (λ x. Law ArrowTail Up K b x) c 145 (grind arith) (λ n145. at_byte (λ x. Law ArrowTail Up K b x) c 147 (grind arith) (λ n147. at_byte (λ x. Law ArrowTail Up K b x) c 149 (grind arith) (λ n149. simp (n145, n147, n149) (grind arith))))
+spell_law ArrowTail o K b c = at_byte (λ x. Law ArrowTail o K b x) c 145 (grind arith) (λ n145. at_byte (λ x. Law ArrowTail o K b x) c 147 (grind arith) (λ n147. at_byte (λ x. Law ArrowTail o K b x) c 149 (grind arith) (λ n149. simp (n145, n147, n149) (grind arith))))
+
+-- no part of a spelling is whole
+pub no_part : (p : Part) (o : Order) (K : List ℕ → Type 0) → one_of (left p o) K [] → ⊥
+no_part Begin Up K = grind arith
+no_part Begin o K = grind arith
+no_part U Up K = grind arith
+no_part U o K = grind arith
+no_part D Up K = grind arith
+no_part D o K = grind arith
+no_part Do Up K = grind arith
+no_part Do o K = grind arith
+no_part Dow Up K = grind arith
+no_part Dow o K = grind arith
+no_part A Up K = grind arith
+no_part A o K = grind arith
+no_part An Up K = grind arith
+no_part An o K = grind arith
+no_part Arrow Up K = grind arith
+no_part Arrow o K = grind arith
+no_part ArrowTail Up K = grind arith
+no_part ArrowTail o K = grind arith
+
+-- each part goes on to an order
+pub part_alive : (p : Part) (K : List ℕ → Type 0) (b : List ℕ) → are_bytes b ≡ true → K b → (x : List ℕ) × (o : Order) × (are_bytes x ≡ true) × one_of (left p o) K x
+part_alive Begin K b w h = (94 ∷ b, Up, w, inr (inl h))
+part_alive U K b w h = (112 ∷ b, Up, w, inl h)
+part_alive D K b w h = (111 ∷ 119 ∷ 110 ∷ b, Down, w, inl h)
+part_alive Do K b w h = (119 ∷ 110 ∷ b, Down, w, inl h)
+part_alive Dow K b w h = (110 ∷ b, Down, w, inl h)
+part_alive A K b w h = (110 ∷ 121 ∷ b, Any, w, inl h)
+part_alive An K b w h = (121 ∷ b, Any, w, inl h)
+part_alive Arrow K b w h = (135 ∷ 145 ∷ b, Up, w, inl h)
+part_alive ArrowTail K b w h = (145 ∷ b, Up, w, inl h)

@@ -1,0 +1,196 @@
+-- What a reader of a march does at each byte, and what may still follow where it stands.
+use Rattle.std.specs.Prelude.{◌≡◌, ℕ, ◌&&◌, ◌==◌, Bool, true, false, List, [], ◌∷◌, ◌++◌, ◌⊎◌, Option, Some, None, option_map, if◌then◌else◌, codes}
+use Rattle.bist_text.specs.Grammar.{finish, word, one_of}
+use Rattle.bist_text.specs.Machine.{Grows}
+use Rattle.march_core.specs.declared.operation.Order.{Order}
+use Rattle.march_core.specs.declared.operation.Order.TheVariants.{Up, Down, Any}
+use Rattle.march_core.specs.declared.operation.Op.{Op}
+use Rattle.march_core.specs.declared.operation.Op.TheVariants.{W0, W1, R0, R1}
+use Rattle.march_core.specs.March.{MarchElement}
+use Rattle.march_syntax.specs.declared.place.Part.{Part}
+use Rattle.march_syntax.specs.declared.place.Part.TheVariants.{Begin, U, D, Do, Dow, A, An, Arrow, ArrowTail}
+use Rattle.march_syntax.specs.declared.place.Spelled.{Spelled}
+use Rattle.march_syntax.specs.declared.place.Spelled.TheVariants.{More, Whole}
+use Rattle.march_syntax.specs.declared.place.Access.{Access}
+use Rattle.march_syntax.specs.declared.place.Access.TheVariants.{Write, Read}
+use Rattle.march_syntax.specs.declared.place.Place.{Place}
+use Rattle.march_syntax.specs.declared.place.Place.TheVariants.{Start, Open, Spelling, Ordered, Wanted, Digit, Operation, Ended, Next, Closed}
+use Rattle.march_syntax.specs.declared.place.Event.{Event}
+use Rattle.march_syntax.specs.declared.place.Event.TheVariants.{Quiet, Begins, Adds, Ends}
+use Rattle.march_syntax.specs.declared.place.Move.{Move}
+use Rattle.march_syntax.specs.MarchText.{is_white, ws, spellings, more_ops, ops, body, more_elements, elements, close, listed}
+
+-- ---- what a reader does
+
+abbrev pub spell : Part → ℕ → Option Spelled
+spell Begin c = if c == 117 then Some (More U) else if c == 100 then Some (More D) else if c == 97 then Some (More A) else if c == 226 then Some (More Arrow) else if c == 94 then Some (Whole Up) else if c == 118 then Some (Whole Down) else if c == 42 then Some (Whole Any) else None
+spell U c = if c == 112 then Some (Whole Up) else None
+spell D c = if c == 111 then Some (More Do) else None
+spell Do c = if c == 119 then Some (More Dow) else None
+spell Dow c = if c == 110 then Some (Whole Down) else None
+spell A c = if c == 110 then Some (More An) else None
+spell An c = if c == 121 then Some (Whole Any) else None
+spell Arrow c = if c == 135 then Some (More ArrowTail) else if c == 134 then Some (More ArrowTail) else None
+spell ArrowTail c = if c == 145 then Some (Whole Up) else if c == 147 then Some (Whole Down) else if c == 149 then Some (Whole Any) else None
+
+-- a place, and what a byte adds
+abbrev pub move : Place → Bool → Event → Option Move
+move p t e = Some (record { place = p; braced = t; event = e })
+
+-- the order's first bytes, or its last one
+abbrev pub spelling : Bool → Option Spelled → Option Move
+spelling t None = None
+spelling t (Some (More p)) = move (Spelling p) t Quiet
+spelling t (Some (Whole o)) = move Ordered t (Begins o)
+
+abbrev pub op_of : Access → Bool → Op
+op_of Write false = W0
+op_of Write true = W1
+op_of Read false = R0
+op_of Read true = R1
+
+abbrev pub move_at : Place → Bool → ℕ → Option Move
+move_at Start t c = if is_white c then move Start t Quiet else if c == 123 then move Open t Quiet else spelling false (spell Begin c)
+move_at Open t c = if is_white c then move Open t Quiet else if c == 125 then move Closed t Quiet else spelling true (spell Begin c)
+move_at (Spelling p) t c = spelling t (spell p c)
+move_at Ordered t c = if is_white c then move Ordered t Quiet else if c == 40 then move Wanted t Quiet else None
+move_at Wanted t c = if is_white c then move Wanted t Quiet else if c == 119 then move (Digit Write) t Quiet else if c == 114 then move (Digit Read) t Quiet else None
+move_at (Digit a) t c = if c == 48 then move Operation t (Adds (op_of a false)) else if c == 49 then move Operation t (Adds (op_of a true)) else None
+move_at Operation t c = if is_white c then move Operation t Quiet else if c == 44 then move Wanted t Quiet else if c == 41 then move Ended t Ends else None
+move_at Ended t c = if is_white c then move Ended t Quiet else if c == 59 then move Next t Quiet else if t && (c == 125) then move Closed t Quiet else None
+move_at Next t c = if is_white c then move Next t Quiet else spelling t (spell Begin c)
+move_at Closed t c = if is_white c then move Closed t Quiet else None
+
+-- whether a text may end at a place
+abbrev pub may_end : Place → Bool → Bool
+may_end Start t = true
+may_end Ended true = false
+may_end Ended false = true
+may_end Closed t = true
+may_end _ t = false
+
+-- ---- where a reader stands, with what it has read
+
+-- the element that is begun, and those that are whole
+pub record State : Type 0 where
+  pub place : Place
+  pub braced : Bool
+  pub order : Order
+  pub ops : List Op
+  pub done : List MarchElement
+
+abbrev pub start : State
+start = record { place = Start; braced = false; order = Any; ops = []; done = [] }
+
+abbrev pub begun : State → MarchElement
+begun s = record { order = s.order; ops = s.ops }
+
+abbrev pub after_event : Event → State → State
+after_event Quiet s = s
+after_event (Begins o) s = record s { order = o; ops = [] }
+after_event (Adds op) s = record s { ops = s.ops ++ op ∷ [] }
+after_event Ends s = record s { ops = []; done = s.done ++ begun s ∷ [] }
+
+abbrev pub moved : State → Move → State
+moved s m = after_event m.event (record s { place = m.place; braced = m.braced })
+
+abbrev pub step_at : Place → State → ℕ → Option State
+step_at p s c = option_map (moved s) (move_at p s.braced c)
+
+abbrev pub step : State → ℕ → Option State
+step s c = step_at s.place s c
+
+abbrev pub value : State → Option (List MarchElement)
+value s = if may_end s.place s.braced then Some s.done else None
+
+-- ---- what may follow
+
+-- what may follow a part of a spelling
+abbrev pub left : Part → Order → List (List ℕ)
+left Begin o = spellings o
+left U Up = codes "p" ∷ []
+left D Down = codes "own" ∷ []
+left Do Down = codes "wn" ∷ []
+left Dow Down = codes "n" ∷ []
+left A Any = codes "ny" ∷ []
+left An Any = codes "y" ∷ []
+left Arrow Up = (0x87 ∷ 0x91 ∷ []) ∷ (0x86 ∷ 0x91 ∷ []) ∷ []
+left Arrow Down = (0x87 ∷ 0x93 ∷ []) ∷ (0x86 ∷ 0x93 ∷ []) ∷ []
+left Arrow Any = (0x87 ∷ 0x95 ∷ []) ∷ (0x86 ∷ 0x95 ∷ []) ∷ []
+left ArrowTail Up = (0x91 ∷ []) ∷ []
+left ArrowTail Down = (0x93 ∷ []) ∷ []
+left ArrowTail Any = (0x95 ∷ []) ∷ []
+left _ _ = []
+
+abbrev pub spelled : Spelled → Order → (List ℕ → Type 0) → List ℕ → Type 0
+spelled (More p) o K b = one_of (left p o) K b
+spelled (Whole q) o K b = (o ≡ q) × K b
+
+-- the digit of an operation
+abbrev pub digit : Access → Op → (List ℕ → Type 0) → List ℕ → Type 0
+digit Write W0 K = word (codes "0") K
+digit Write W1 K = word (codes "1") K
+digit Read R0 K = word (codes "0") K
+digit Read R1 K = word (codes "1") K
+digit _ _ K = λ b. ⊥
+
+-- what may follow inside of an element, whose order and first operations are known
+abbrev pub ops_left : Place → List Op → (List ℕ → Type 0) → List ℕ → Type 0
+ops_left Ordered os K = body os K
+ops_left Wanted os K = ws (ops os (ws (word (codes ")") K)))
+ops_left (Digit a) [] K = λ b. ⊥
+ops_left (Digit a) (o ∷ os) K = digit a o (more_ops os (ws (word (codes ")") K)))
+ops_left Operation os K = more_ops os (ws (word (codes ")") K))
+ops_left _ os K = λ b. ⊥
+
+-- what may follow in an element whose order is known: its first operations are read
+abbrev pub in_element : Place → State → List MarchElement → List ℕ → Type 0
+in_element p s [] b = ⊥
+in_element p s (e ∷ es) b = (e.order ≡ s.order) × Grows s.ops e.ops (λ os. ops_left p os (more_elements es (ws (close s.braced))) b)
+
+abbrev pub in_spelling : Part → State → List MarchElement → List ℕ → Type 0
+in_spelling p s [] b = ⊥
+in_spelling p s (e ∷ es) b = one_of (left p e.order) (body e.ops (more_elements es (ws (close s.braced)))) b
+
+abbrev pub Nothing : List MarchElement → Type 0
+Nothing [] = Unit {0}
+Nothing (_ ∷ _) = ⊥
+
+-- which elements may follow, and how
+abbrev pub left_at : Place → State → List MarchElement → List ℕ → Type 0
+left_at Start s es b = ws (λ x. word (codes "{") (ws (listed true es)) x ⊎ listed false es x) b
+left_at Open s es b = ws (listed true es) b
+left_at (Spelling p) s es b = in_spelling p s es b
+left_at Ordered s es b = in_element Ordered s es b
+left_at Wanted s es b = in_element Wanted s es b
+left_at (Digit a) s es b = in_element (Digit a) s es b
+left_at Operation s es b = in_element Operation s es b
+left_at Ended s es b = more_elements es (ws (close s.braced)) b
+left_at Next s es b = ws (elements es (ws (close s.braced))) b
+left_at Closed s es b = Nothing es × ws finish b
+
+abbrev pub rest : State → List ℕ → List MarchElement → Type 0
+rest s b v = Grows s.done v (λ es. left_at s.place s es b)
+
+-- the same behind the next part of a spelling
+abbrev pub spelled_at : Spelled → State → List MarchElement → List ℕ → Type 0
+spelled_at (More p) s es b = in_spelling p s es b
+spelled_at (Whole o) s es b = in_element Ordered (record s { order = o; ops = [] }) es b
+
+-- ---- what a builder of marches holds then
+
+abbrev pub is_inside : Place → Bool
+is_inside Ordered = true
+is_inside Wanted = true
+is_inside (Digit a) = true
+is_inside Operation = true
+is_inside _ = false
+
+abbrev pub held : State → List MarchElement
+held s = if is_inside s.place then s.done ++ begun s ∷ [] else s.done
+
+-- a place outside of orders and operations
+abbrev pub IsBetween : Place → Type 0
+IsBetween (Spelling p) = ⊥
+IsBetween (Digit a) = ⊥
+IsBetween _ = Unit {0}
