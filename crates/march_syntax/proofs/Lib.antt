@@ -3,3 +3,4 @@ mod PlaceLaws
 mod Standing
 mod OpBuilt
 mod Outcomes
+mod PrintLaws

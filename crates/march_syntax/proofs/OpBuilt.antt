@@ -1,16 +1,16 @@
 -- What a builder's answer to an operation says of the limits.
-use Rattle.std.proofs.Common.{◌≡◌, ◌≢◌, ◌+◌, ◌-◌, ◌<◌, ◌≤◌, Bool, true, false, List, [], ◌∷◌, ◌∙◌, length, Option, Some, None, Result, Ok, Err, OnOk, IsOk, is_some, refl, sym, ap, subst, arith, ◌⊎◌, inl, inr}
+use Rattle.std.proofs.Common.{◌≡◌, ◌≢◌, ◌-◌, ◌<◌, ◌≤◌, Bool, true, false, List, [], ◌∷◌, length, Option, Some, None, Result, Ok, Err, OnOk, IsOk, is_some, sym, subst, arith, ◌⊎◌, inl, inr}
 use Rattle.std.specs.List.{AllByRecursion}
 use Rattle.std.specs.Result.{result_err}
 use Rattle.march_core.specs.declared.operation.Op.{Op}
 use Rattle.march_core.specs.declared.fault.MarchFault.{MarchFault}
-use Rattle.march_core.specs.declared.fault.MarchFault.TheVariants.{TooManyElements, TooManyOps, TooManyInAll}
+use Rattle.march_core.specs.declared.fault.MarchFault.TheVariants.{TooManyOps, TooManyInAll}
 use Rattle.march_core.specs.Building.{with_op, last_ops}
 use Rattle.march_core.specs.March.{MarchElement, all_ops}
 use Rattle.march_core.proofs.Built.{length-with_op, within-with_op, length-all_ops-with_op}
 use Rattle.march_syntax.specs.declared.place.Event.{Event}
 use Rattle.march_syntax.specs.declared.place.Event.TheVariants.{Quiet, Begins, Adds, Ends}
-use Rattle.march_syntax.specs.Building.{CanAdd, Builds, IsFull}
+use Rattle.march_syntax.specs.Building.{CanAdd, Builds}
 use Rattle.march_syntax.specs.Limits.{IsWithin}
 
 last_within : (es : List MarchElement) → AllByRecursion (λ e. length e.ops ≤ 16) es → 0 < length es → length (last_ops es) ≤ 16
@@ -21,10 +21,10 @@ last_within (x ∷ f ∷ es) all some = last_within (f ∷ es) all.1 (omega arit
 -- the elements with one more operation, where there was room
 within_op : (es : List MarchElement) (op : Op) → IsWithin es → 0 < length es → length (last_ops es) < 16 → length (all_ops es) < 256 → IsWithin (with_op es op)
 within_op es op w some room all = record {
-    elements_within = omega (arith, length-with_op es op, w.elements_within);
-    each = within-with_op es op w.each room;
-    ops_within = omega (arith, length-all_ops-with_op es op some);
-  }
+  elements_within = omega (arith, length-with_op es op, w.elements_within);
+  each = within-with_op es op w.each room;
+  ops_within = omega (arith, length-all_ops-with_op es op some);
+}
 
 -- a builder answers to an operation by the limits, 16 in the last element before 256 in all
 pub record AnswersOp (es : List MarchElement) (op : Op) (r : Result (Unit {0}) MarchFault) (new : List MarchElement) : Type 0 where

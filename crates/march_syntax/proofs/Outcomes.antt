@@ -1,9 +1,9 @@
 -- From where a reader stands to what it answers.
-use Rattle.std.proofs.Common.{◌≡◌, ◌↔◌, ℕ, ◌+◌, ◌<◌, ◌≤◌, Bool, true, false, List, [], ◌∷◌, ◌++◌, ◌∙◌, length, drop, get_or, Option, Some, None, Result, Ok, Err, IsOk, IfOk, IfErr, refl, sym, ap, subst, arith, length-append, if◌then◌else◌, inl, inr}
+use Rattle.std.proofs.Common.{◌≡◌, ◌↔◌, ℕ, ◌+◌, ◌<◌, ◌≤◌, Bool, true, false, List, [], ◌∷◌, ◌++◌, ◌∙◌, length, drop, get_or, Option, Some, None, Result, Ok, Err, IsOk, IfOk, IfErr, refl, sym, ap, subst, arith, length-append, inl, inr}
 use Rattle.std.specs.List.{AllByRecursion}
 use Rattle.std.proofs.lemmas.Grind.{flat_map-append}
 use Rattle.bist_text.specs.Grammar.{IsUnexpected, IsTruncated, are_bytes}
-use Rattle.bist_text.specs.Machine.{Outcome, read, unexpected, truncated, scan, ended, IsExact}
+use Rattle.bist_text.specs.Machine.{Outcome, read, unexpected, truncated, scan, IsExact}
 use Rattle.bist_text.proofs.Exclusive.{scan_exact}
 use Rattle.march_core.specs.declared.fault.MarchFault.{MarchFault}
 use Rattle.march_core.specs.declared.fault.MarchFault.TheVariants.{Unexpected, Truncated, Empty, TooManyElements, TooManyOps, TooManyInAll, ReadBeforeWrite, WrongExpect}
@@ -11,11 +11,10 @@ use Rattle.march_core.specs.Building.{IsRefused}
 use Rattle.march_core.specs.March.{MarchElement, all_ops, IsElement, IsMarch}
 use Rattle.march_syntax.specs.declared.place.Place.{Place}
 use Rattle.march_syntax.specs.declared.place.Place.TheVariants.{Start, Open, Spelling, Ordered, Wanted, Digit, Operation, Ended, Next, Closed}
-use Rattle.march_syntax.specs.declared.place.Move.{Move}
 use Rattle.march_syntax.specs.Answers.{Refuses, Gives}
-use Rattle.march_syntax.specs.Limits.{IsWithin, BeforeOp, so_far, BeforeElement, Exceeds}
+use Rattle.march_syntax.specs.Limits.{BeforeOp, so_far, Exceeds}
 use Rattle.march_syntax.specs.MarchText.{MarchText}
-use Rattle.march_syntax.specs.Places.{move_at, may_end, State, start, step, value, rest, is_inside, held}
+use Rattle.march_syntax.specs.Places.{move_at, may_end, start, step, value, rest, is_inside}
 use Rattle.march_syntax.proofs.PlaceLaws.{follows, start_is}
 use Rattle.march_syntax.proofs.Standing.{Stands, Keeps, stands_stop, stands_end}
 
@@ -108,23 +107,23 @@ pub record Reads (b : List ℕ) (r : Result (List MarchElement) MarchFault) : Ty
 
 answers : (b : List ℕ) (r : Result (List MarchElement) MarchFault) (o : Outcome (List MarchElement)) → IsExact MarchText b o → Gives r o → Reads b r
 answers b r (unexpected j) x g = record {
-    ok = λ es. (λ e. cc, λ h. let k : unexpected j ≡ read es = (x.reads es).1 h.0 in cc);
-    unexpected_at = λ k. (λ e. let i : j ≡ k = cc in (x.refuses k).0 (ap unexpected i), λ u. let i : unexpected j ≡ unexpected k = (x.refuses k).1 u in cc);
-    truncated_is = (λ e. cc, λ t. let i : unexpected j ≡ truncated = x.ends_early.1 t in cc);
-    refused = λ es t. let k : unexpected j ≡ read es = (x.reads es).1 t in cc;
-  }
+  ok = λ es. (λ e. cc, λ h. let k : unexpected j ≡ read es = (x.reads es).1 h.0 in cc);
+  unexpected_at = λ k. (λ e. let i : j ≡ k = cc in (x.refuses k).0 (ap unexpected i), λ u. let i : unexpected j ≡ unexpected k = (x.refuses k).1 u in cc);
+  truncated_is = (λ e. cc, λ t. let i : unexpected j ≡ truncated = x.ends_early.1 t in cc);
+  refused = λ es t. let k : unexpected j ≡ read es = (x.reads es).1 t in cc;
+}
 answers b r truncated x g = record {
-    ok = λ es. (λ e. cc, λ h. let k : truncated ≡ read es = (x.reads es).1 h.0 in cc);
-    unexpected_at = λ k. (λ e. cc, λ u. let i : truncated ≡ unexpected k = (x.refuses k).1 u in cc);
-    truncated_is = (λ e. x.ends_early.0 refl, λ t. g);
-    refused = λ es t. let k : truncated ≡ read es = (x.reads es).1 t in cc;
-  }
+  ok = λ es. (λ e. cc, λ h. let k : truncated ≡ read es = (x.reads es).1 h.0 in cc);
+  unexpected_at = λ k. (λ e. cc, λ u. let i : truncated ≡ unexpected k = (x.refuses k).1 u in cc);
+  truncated_is = (λ e. x.ends_early.0 refl, λ t. g);
+  refused = λ es t. let k : truncated ≡ read es = (x.reads es).1 t in cc;
+}
 answers b (Ok m) (read v) x g = record {
-    ok = λ es. (λ e. let i : v ≡ es = sym g.1 ∙ same m es e in ((x.reads es).0 (ap read i), subst IsMarch i (g.0.0 refl)), λ h. ap (λ z. Ok z) (g.1 ∙ value_is es ((x.reads es).1 h.0)));
-    unexpected_at = λ k. (λ e. cc, λ u. let i : read v ≡ unexpected k = (x.refuses k).1 u in cc);
-    truncated_is = (λ e. cc, λ t. let i : read v ≡ truncated = x.ends_early.1 t in cc);
-    refused = λ es t. tt;
-  }
+  ok = λ es. (λ e. let i : v ≡ es = sym g.1 ∙ same m es e in ((x.reads es).0 (ap read i), subst IsMarch i (g.0.0 refl)), λ h. ap (λ z. Ok z) (g.1 ∙ value_is es ((x.reads es).1 h.0)));
+  unexpected_at = λ k. (λ e. cc, λ u. let i : read v ≡ unexpected k = (x.refuses k).1 u in cc);
+  truncated_is = (λ e. cc, λ t. let i : read v ≡ truncated = x.ends_early.1 t in cc);
+  refused = λ es t. tt;
+}
   where
     same : (m es : List MarchElement) → (let r : Result (List MarchElement) MarchFault = Ok m in r ≡ Ok es) → m ≡ es
     same m es e = cc
@@ -132,11 +131,11 @@ answers b (Ok m) (read v) x g = record {
     value_is : (es : List MarchElement) → read v ≡ read es → v ≡ es
     value_is es e = cc
 answers b (Err f) (read v) x g = record {
-    ok = λ es. (λ e. cc, λ h. absurd (not_ok (g.0.1 (subst IsMarch (sym (value_is es ((x.reads es).1 h.0))) h.1))));
-    unexpected_at = λ k. (λ e. absurd (not_unexpected f k (fault_is f _ e) g.2), λ u. let i : read v ≡ unexpected k = (x.refuses k).1 u in cc);
-    truncated_is = (λ e. absurd (not_truncated f (fault_is f _ e) g.2), λ t. let i : read v ≡ truncated = x.ends_early.1 t in cc);
-    refused = λ es t. subst (λ z. Refuses z f) (value_is es ((x.reads es).1 t)) g.2;
-  }
+  ok = λ es. (λ e. cc, λ h. absurd (not_ok (g.0.1 (subst IsMarch (sym (value_is es ((x.reads es).1 h.0))) h.1))));
+  unexpected_at = λ k. (λ e. absurd (not_unexpected f k (fault_is f _ e) g.2), λ u. let i : read v ≡ unexpected k = (x.refuses k).1 u in cc);
+  truncated_is = (λ e. absurd (not_truncated f (fault_is f _ e) g.2), λ t. let i : read v ≡ truncated = x.ends_early.1 t in cc);
+  refused = λ es t. subst (λ z. Refuses z f) (value_is es ((x.reads es).1 t)) g.2;
+}
   where
     value_is : (es : List MarchElement) → read v ≡ read es → v ≡ es
     value_is es e = cc

@@ -1,25 +1,24 @@
 -- The four laws of the reader's places: what may follow each, by the next byte.
-use Rattle.std.proofs.Common.{◌≡◌, ℕ, ◌==◌, Bool, true, false, List, [], ◌∷◌, ◌++◌, Option, Some, None, refl, ◌↔◌, ◌⊎◌, inl, inr, subst, sym, ap, ◌∙◌, ◌&&◌, append-nil, if◌then◌else◌, arith, rules, option_map}
-use Rattle.bist_text.specs.Grammar.{finish, byte, word, one_of, many, when, are_bytes, Continues}
+use Rattle.std.proofs.Common.{◌≡◌, ℕ, ◌==◌, Bool, true, false, List, [], ◌∷◌, ◌++◌, Option, Some, None, refl, ◌↔◌, ◌⊎◌, inl, inr, subst, sym, ap, ◌∙◌, ◌&&◌, append-nil, if◌then◌else◌, arith, option_map}
+use Rattle.bist_text.specs.Grammar.{finish, byte, one_of, are_bytes, Continues}
 use Rattle.bist_text.specs.Machine.{Holds, Grows, Follows}
-use Rattle.bist_text.proofs.Pieces.{at_byte, also, back, skip, stay, neither, same, never, holds_iff, holds_never, grows_iff, grows_never, grows_from_none, Headed, grows_one, many_never, many_iff, ends_none, ends_here}
+use Rattle.bist_text.proofs.Pieces.{at_byte, also, skip, stay, neither, same, never, holds_iff, holds_never, grows_iff, grows_never, grows_from_none, Headed, grows_one, many_never, ends_none, ends_here}
 use Rattle.march_core.specs.declared.operation.Order.{Order}
 use Rattle.march_core.specs.declared.operation.Order.TheVariants.{Up, Down, Any}
 use Rattle.march_core.specs.declared.operation.Op.{Op}
 use Rattle.march_core.specs.declared.operation.Op.TheVariants.{W0, W1, R0, R1}
 use Rattle.march_core.specs.March.{MarchElement}
 use Rattle.march_syntax.specs.declared.place.Part.{Part}
-use Rattle.march_syntax.specs.declared.place.Part.TheVariants.{Begin, U, D, Do, Dow, A, An, Arrow, ArrowTail}
+use Rattle.march_syntax.specs.declared.place.Part.TheVariants.{Begin}
 use Rattle.march_syntax.specs.declared.place.Spelled.{Spelled}
 use Rattle.march_syntax.specs.declared.place.Spelled.TheVariants.{More, Whole}
 use Rattle.march_syntax.specs.declared.place.Access.{Access}
 use Rattle.march_syntax.specs.declared.place.Access.TheVariants.{Write, Read}
 use Rattle.march_syntax.specs.declared.place.Place.{Place}
 use Rattle.march_syntax.specs.declared.place.Place.TheVariants.{Start, Open, Spelling, Ordered, Wanted, Digit, Operation, Ended, Next, Closed}
-use Rattle.march_syntax.specs.declared.place.Event.{Event}
-use Rattle.march_syntax.specs.declared.place.Event.TheVariants.{Quiet, Begins, Adds, Ends}
+use Rattle.march_syntax.specs.declared.place.Event.TheVariants.{Quiet, Adds}
 use Rattle.march_syntax.specs.declared.place.Move.{Move}
-use Rattle.march_syntax.specs.MarchText.{is_white, ws, spellings, op_text, more_ops, ops, body, element, more_elements, elements, close, listed, MarchText}
+use Rattle.march_syntax.specs.MarchText.{is_white, ws, spellings, more_ops, ops, body, more_elements, elements, close, listed, MarchText}
 use Rattle.march_syntax.specs.Places.{spell, left, spelled, State, begun, spelling, op_of, start, moved, move, step_at, step, value, may_end, digit, ops_left, in_element, in_spelling, left_at, Nothing, rest, spelled_at}
 use Rattle.march_syntax.proofs.Spelling.{spell_law, no_part, part_alive}
 

@@ -1,5 +1,5 @@
 -- The next byte of an order's spelling.
-use Rattle.std.proofs.Common.{◌≡◌, ℕ, ◌==◌, Bool, true, false, List, [], ◌∷◌, Option, Some, None, refl, ◌↔◌, ◌⊎◌, inl, inr, rules, arith, subst, sym}
+use Rattle.std.proofs.Common.{◌≡◌, ℕ, true, List, [], ◌∷◌, ◌↔◌, inl, inr, arith}
 use Rattle.bist_text.proofs.Pieces.{at_byte}
 use Rattle.bist_text.specs.Grammar.{one_of, are_bytes}
 use Rattle.bist_text.specs.Machine.{Holds}
@@ -7,7 +7,6 @@ use Rattle.march_core.specs.declared.operation.Order.{Order}
 use Rattle.march_core.specs.declared.operation.Order.TheVariants.{Up, Down, Any}
 use Rattle.march_syntax.specs.declared.place.Part.{Part}
 use Rattle.march_syntax.specs.declared.place.Part.TheVariants.{Begin, U, D, Do, Dow, A, An, Arrow, ArrowTail}
-use Rattle.march_syntax.specs.declared.place.Spelled.TheVariants.{More, Whole}
 use Rattle.march_syntax.specs.Places.{spell, left, spelled}
 
 abbrev pub Law : Part → Order → (List ℕ → Type 0) → List ℕ → ℕ → Type 0

@@ -1,12 +1,12 @@
 -- Where a reader stands in a text, and what it holds there.
-use Rattle.std.proofs.Common.{◌≡◌, ◌≢◌, ℕ, ◌+◌, ◌-◌, ◌<◌, ◌≤◌, Bool, true, false, List, [], ◌∷◌, ◌++◌, ◌∙◌, length, drop, get_or, Option, Some, None, option_map, refl, sym, ap, subst, append_assoc, arith, length-append, if◌then◌else◌, ◌&&◌, ◌==◌, ◌⊎◌, inl, inr}
-use Rattle.bist_text.specs.Machine.{Outcome, read, unexpected, truncated, scan, ended, Grows}
+use Rattle.std.proofs.Common.{◌≡◌, ℕ, ◌+◌, ◌<◌, Bool, true, false, List, [], ◌∷◌, ◌++◌, ◌∙◌, length, drop, get_or, Option, Some, None, option_map, refl, sym, ap, subst, append_assoc, arith, length-append, if◌then◌else◌, ◌&&◌, ◌==◌, inl, inr}
+use Rattle.bist_text.specs.Machine.{read, unexpected, scan, ended}
 use Rattle.bist_text.proofs.Loops.{scan_on, scan_stop, scan_end}
 use Rattle.bist_text.proofs.Machine.{scan_read}
 use Rattle.march_core.specs.declared.operation.Op.{Op}
 use Rattle.march_core.specs.declared.operation.Order.{Order}
 use Rattle.march_core.specs.declared.fault.MarchFault.{MarchFault}
-use Rattle.march_core.specs.declared.fault.MarchFault.TheVariants.{TooManyElements, TooManyOps, TooManyInAll}
+use Rattle.march_core.specs.declared.fault.MarchFault.TheVariants.{TooManyElements}
 use Rattle.march_core.specs.Building.{with_op, last_ops}
 use Rattle.march_core.specs.March.{MarchElement, all_ops}
 use Rattle.march_syntax.specs.declared.place.Spelled.{Spelled}
@@ -18,7 +18,7 @@ use Rattle.march_syntax.specs.declared.place.Event.{Event}
 use Rattle.march_syntax.specs.declared.place.Event.TheVariants.{Quiet, Begins, Adds, Ends}
 use Rattle.march_syntax.specs.declared.place.Move.{Move}
 use Rattle.march_syntax.specs.Building.{with_event, HasBegun, IsFull, CanAdd, Builds}
-use Rattle.march_syntax.specs.Limits.{IsWithin, BeforeOp, so_far, BeforeElement, Exceeds}
+use Rattle.march_syntax.specs.Limits.{IsWithin, BeforeOp, so_far, Exceeds}
 use Rattle.march_syntax.specs.MarchText.{is_white}
 use Rattle.march_syntax.specs.Places.{spell, spelling, move_at, may_end, State, begun, start, after_event, moved, step, value, rest, in_element, is_inside, held}
 use Rattle.march_syntax.proofs.PlaceLaws.{follows}
@@ -135,8 +135,9 @@ op_exceeds s op t p b es fault w f full r = go p f.1 r
 
     found : (y : MarchElement) (place : BeforeOp es) → so_far place ≡ held s → place.ops ≡ s.ops → place.whole ≡ s.done → Exceeds es fault
     found y place so ops whole = elim full [
-        inl a ↦ subst (λ x. Exceeds es x) (sym a.0) (place, subst IsWithin (sym so) w, ap length ops ∙ ap length (sym last) ∙ a.1, (let n : length place.whole ≡ length s.done = ap length whole in omega (arith, count)))
-        | inr a ↦ subst (λ x. Exceeds es x) (sym a.0) (place, subst IsWithin (sym so) w, (let n : length place.ops ≡ length (last_ops (held s)) = ap length ops ∙ ap length (sym last) in omega (arith, a.1)), ap (λ x. length (all_ops x)) so ∙ a.2) ]
+      | inl a ↦ subst (λ x. Exceeds es x) (sym a.0) (place, subst IsWithin (sym so) w, ap length ops ∙ ap length (sym last) ∙ a.1, (let n : length place.whole ≡ length s.done = ap length whole in omega (arith, count)))
+      | inr a ↦ subst (λ x. Exceeds es x) (sym a.0) (place, subst IsWithin (sym so) w, (let n : length place.ops ≡ length (last_ops (held s)) = ap length ops ∙ ap length (sym last) in omega (arith, a.1)), ap (λ x. length (all_ops x)) so ∙ a.2)
+    ]
 
     split : (m : List MarchElement) → es ≡ s.done ++ m → in_element Operation (moved s (record { place = Operation; braced = t; event = Adds op })) m b → Exceeds es fault
     split [] e h = absurd h
@@ -200,12 +201,12 @@ module _ (b : List ℕ) (place : Place) (braced : Bool) (built : List MarchEleme
 
   pub stands_on : (m : Move) (new : List MarchElement) (now : Option MarchFault) → i < length b → move_at place braced (get_or b i 0) ≡ Some m → Builds exceeded m.event built now new → Stands b m.place m.braced new now (i + 1)
   stands_on m new now l e h = record {
-      state = moved x.state m;
-      reached = on;
-      at_place = place_after m.event (record x.state { place = m.place; braced = m.braced });
-      at_braced = braced_after m.event (record x.state { place = m.place; braced = m.braced });
-      kept = keeps exceeded now x.kept h;
-    }
+    state = moved x.state m;
+    reached = on;
+    at_place = place_after m.event (record x.state { place = m.place; braced = m.braced });
+    at_braced = braced_after m.event (record x.state { place = m.place; braced = m.braced });
+    kept = keeps exceeded now x.kept h;
+  }
     where
       on : scan step value b start 0 ≡ scan step value (drop (i + 1) b) (moved x.state m) (i + 1)
       on = scan_on step value b i x.state (moved x.state m) (scan step value b start 0) l (steps (get_or b i 0) (Some m) e) x.reached

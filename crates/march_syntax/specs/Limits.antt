@@ -1,11 +1,10 @@
 -- The first place in a march's text that exceeds a limit: 64 elements, 16 operations an element, 256
 -- operations in all.
-use Rattle.std.specs.Prelude.{◌≡◌, ◌<◌, ◌≤◌, ℕ, List, [], ◌∷◌, ◌++◌, length}
+use Rattle.std.specs.Prelude.{◌≡◌, ◌<◌, ◌≤◌, List, [], ◌∷◌, ◌++◌, length}
 use Rattle.std.specs.List.{AllByRecursion}
 use Rattle.march_core.specs.declared.operation.Op.{Op}
 use Rattle.march_core.specs.declared.fault.MarchFault.{MarchFault}
 use Rattle.march_core.specs.declared.fault.MarchFault.TheVariants.{Unexpected, Truncated, Empty, TooManyElements, TooManyOps, TooManyInAll, ReadBeforeWrite, WrongExpect}
-use Rattle.march_core.specs.Building.{IsRefused}
 use Rattle.march_core.specs.March.{MarchElement, all_ops}
 
 -- the elements are within the limits

@@ -1,6 +1,6 @@
 use Rattle.std.proofs.Common.{sym, ◌∙◌, drop_of_length-le, arith}
-use Rattle.march_syntax.proofs.Standing.{stands_start, stands_on, can_add}
-use Rattle.march_syntax.proofs.Outcomes.{gives_unexpected, gives_truncated, gives_exceeded, gives_built}
+use Rattle.march_syntax.proofs.Standing.{stands_start, stands_on}
+use Rattle.march_syntax.proofs.Outcomes.{gives_exceeded}
 use Rattle.march_syntax.proofs.read.scanned.Goals as goal
 
 pub loop-i-init : goal.loop-i-init

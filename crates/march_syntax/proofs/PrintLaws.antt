@@ -1,0 +1,68 @@
+-- The printed form of a march is a text of it, and how it is written part by part.
+use Rattle.std.proofs.Common.{◌≡◌, ℕ, ◌+◌, ◌<◌, suc, zero, true, List, [], ◌∷◌, ◌++◌, ◌∙◌, length, drop, inl, subst, sym, ap, append_assoc, refl, arith, add-one}
+use Rattle.std.specs.List.{AllByRecursion}
+use Rattle.bist_text.specs.Grammar.{word, one_of}
+use Rattle.bist_text.proofs.Pieces.{many_none, word_on}
+use Rattle.march_core.specs.declared.operation.Order.{Order}
+use Rattle.march_core.specs.declared.operation.Order.TheVariants.{Up, Down, Any}
+use Rattle.march_core.specs.declared.operation.Op.{Op}
+use Rattle.march_core.specs.March.{MarchElement, IsElement, IsMarch, order_at, ops_at}
+use Rattle.march_syntax.specs.MarchText.{is_white, ws, spellings, op_text, more_ops, ops, body, element, more_elements, close, listed, MarchText}
+use Rattle.march_syntax.specs.Printed.{order_text, more_ops_text, ops_text, element_text, more_elements_text, elements_text, printed, separator}
+
+-- ---- what is printed is a text of the grammar
+
+more_ops_on : (os : List Op) (K : List ℕ → Type 0) (r : List ℕ) → K r → more_ops os K (more_ops_text os ++ r)
+more_ops_on [] K r h = h
+more_ops_on (o ∷ os) K r h = inl (many_none is_white (word (op_text o) (more_ops os K)) ((op_text o ++ more_ops_text os) ++ r) (rw append_assoc (word_on (op_text o) (more_ops os K) (more_ops_text os ++ r) (more_ops_on os K r h))))
+
+body_on : (os : List Op) (K : List ℕ → Type 0) (r : List ℕ) → 0 < length os → K r → body os K (40 ∷ ((ops_text os ++ (41 ∷ [])) ++ r))
+body_on [] K r n h = absurd (omega arith)
+body_on (o ∷ os) K r n h = inl (many_none is_white (ops (o ∷ os) (ws (word (41 ∷ []) K))) ((ops_text (o ∷ os) ++ (41 ∷ [])) ++ r) (simp append_assoc (word_on (op_text o) (more_ops os (ws (word (41 ∷ []) K))) (more_ops_text os ++ (41 ∷ r)) (more_ops_on os (ws (word (41 ∷ []) K)) (41 ∷ r) (inl h)))))
+
+order_on : (o : Order) (K : List ℕ → Type 0) (r : List ℕ) → K r → one_of (spellings o) K (order_text o ++ r)
+order_on Up K r h = inl h
+order_on Down K r h = inl h
+order_on Any K r h = inl h
+
+element_is : (e : MarchElement) (r : List ℕ) → element_text e ++ r ≡ order_text e.order ++ (40 ∷ ((ops_text e.ops ++ (41 ∷ [])) ++ r))
+element_is e r = simp append_assoc
+
+element_on : (e : MarchElement) (K : List ℕ → Type 0) (r : List ℕ) → 0 < length e.ops → K r → element e K (element_text e ++ r)
+element_on e K r n h = subst (element e K) (sym (element_is e r)) (order_on e.order (body e.ops K) (40 ∷ ((ops_text e.ops ++ (41 ∷ [])) ++ r)) (body_on e.ops K r n h))
+
+more_on : (es : List MarchElement) (K : List ℕ → Type 0) (r : List ℕ) → AllByRecursion IsElement es → K r → more_elements es K (more_elements_text es ++ r)
+more_on [] K r n h = h
+more_on (e ∷ es) K r n h = inl (many_none is_white (element e (more_elements es K)) ((element_text e ++ more_elements_text es) ++ r) (rw append_assoc (element_on e (more_elements es K) (more_elements_text es ++ r) (n.0).0 (more_on es K r n.1 h))))
+
+pub printed_is : (es : List MarchElement) → IsMarch es → MarchText (printed es) es
+printed_is [] n = absurd (omega (arith, n.some))
+printed_is (e ∷ es) n = inl (inl (many_none is_white (listed true (e ∷ es)) (elements_text (e ∷ es) ++ (125 ∷ [])) (rw append_assoc (element_on e (more_elements es (ws (close true))) (more_elements_text es ++ (125 ∷ [])) ((n.each).0).0 (more_on es (ws (close true)) (125 ∷ []) (n.each).1 (inl tt))))))
+
+-- ---- part by part
+
+-- the text from operation i on
+abbrev pub ops_from : ℕ → List Op → List ℕ
+ops_from zero os = ops_text os
+ops_from (suc i) os = more_ops_text (drop (suc i) os)
+
+abbrev pub elements_from : ℕ → List MarchElement → List ℕ
+elements_from zero es = elements_text es
+elements_from (suc i) es = more_elements_text (drop (suc i) es)
+
+drop_element : (es : List MarchElement) (i : ℕ) → i < length es → drop i es ≡ (record { order = order_at es i; ops = ops_at es i }) ∷ drop (suc i) es
+drop_element [] i h = absurd (omega arith)
+drop_element (e ∷ es) zero h = refl
+drop_element (e ∷ es) (suc i) h = drop_element es i (omega arith)
+
+elements_step : (es : List MarchElement) (i : ℕ) → i < length es → elements_from i es ≡ separator 59 i ++ (element_text (record { order = order_at es i; ops = ops_at es i }) ++ elements_from (suc i) es)
+elements_step [] zero h = absurd (omega arith)
+elements_step (e ∷ es) zero h = refl
+elements_step es (suc i) h = ap more_elements_text (drop_element es (suc i) h)
+
+-- an element more is written
+pub element_written : (old mid new whole : List ℕ) (es : List MarchElement) (i : ℕ) (order : Order) (ops : List Op) → mid ≡ old ++ separator 59 i → new ≡ mid ++ element_text (record { order = order; ops = ops }) → order ≡ order_at es i → ops ≡ ops_at es i → i < length es → old ++ elements_from i es ≡ whole → new ++ elements_from (i + 1) es ≡ whole
+element_written old mid new whole es i order ops m n o p l e =
+    let text : List ℕ = element_text (record { order = order_at es i; ops = ops_at es i }) in
+    let written : new ≡ (old ++ separator 59 i) ++ text = n ∙ ap (λ (x : Order). mid ++ element_text (record { order = x; ops = ops })) o ∙ ap (λ x. mid ++ element_text (record { order = order_at es i; ops = x })) p ∙ ap (λ x. x ++ text) m in
+    rw (written, add-one) (append_assoc (old ++ separator 59 i) text (elements_from (suc i) es) ∙ append_assoc old (separator 59 i) (text ++ elements_from (suc i) es) ∙ ap (λ x. old ++ x) (sym (elements_step es i l)) ∙ e)
