@@ -7,3 +7,6 @@ mod read;
 
 pub use print::print_march;
 pub use read::read_march;
+
+#[cfg(test)]
+mod tests;
