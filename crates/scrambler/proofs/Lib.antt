@@ -1,0 +1,5 @@
+pub mod LinearLemmas
+pub mod EliminationLemmas
+pub mod Steps
+pub mod Clearing
+pub mod ScramblingLemmas

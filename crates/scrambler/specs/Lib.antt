@@ -1,0 +1,4 @@
+pub mod Linear
+pub mod Reduced
+pub mod Scrambling
+pub mod Undoing

@@ -1,0 +1,167 @@
+ghost use Rattle.std.specs.Prelude.{◌≡◌, ℕ, ◌+◌, ◌^◌, ◌<◌, ◌≤◌, ◌↔◌, IsOk, IsErr, IfOk, IfErr};
+ghost use Rattle.scrambler.specs.Linear.{combination};
+ghost use Rattle.scrambler.specs.Scrambling.{IsWithin, IsInvertible, IsLeastDependence, matrix_of, row, identity, logical};
+
+use crate::elimination::reduce;
+use crate::linear::{UNITS, combination, product};
+use crate::matrix::{Dependence, Matrix};
+use std::marker::Model;
+
+/// An invertible matrix and a constant, with the way back.
+///
+/// Contracts see the matrix alone: its width, its rows and its constant.
+#[derive(Debug, Drop)]
+pub struct Scramble {
+    matrix: Matrix,
+    vectors: [u16; 16],
+}
+
+impl Model for Scramble {
+    ghost use Rattle.scrambler.specs.Scrambling.{Scrambling, matrix_of};
+    ghost use Rattle.scrambler.specs.Undoing.{IsUndone};
+
+    ghost Value = { Scrambling };
+
+    ghost view = { λ s. matrix_of s.matrix.width s.matrix.rows s.matrix.constant };
+
+    ghost invariant = { λ s. IsUndone s.matrix.width s.matrix.rows s.matrix.constant s.vectors };
+}
+
+impl Scramble {
+    /// The scrambling that leaves each index of `width` bits as it is.
+    pub fn identity(width: u8) -> Scramble
+        requires { (1 ≤ width) × (width ≤ 16) }
+        ensures identity { result ≡ identity width }
+        ensures itself { (k : ℕ) → k < 2 ^ width → logical result k ≡ k }
+    {
+        Scramble {
+            matrix: Matrix {
+                width,
+                rows: UNITS,
+                constant: 0,
+            },
+            vectors: UNITS,
+        }
+    }
+
+    /// The same scrambling once more.
+    pub fn duplicate(&self) -> Scramble
+        ensures { result ≡ self.now }
+    {
+        Scramble {
+            matrix: self.matrix,
+            vectors: self.vectors,
+        }
+    }
+
+    /// The logical address of the physical index `k`.
+    pub fn logical_of(&self, k: u32) -> u32
+        requires { k < 2 ^ self.now.width }
+        ensures logical { result ≡ logical self.now k }
+        ensures fits { result < 2 ^ self.now.width }
+    {
+        u32::from(product(&self.matrix.rows, self.matrix.width, k as u16) ^ self.matrix.constant)
+    }
+
+    /// The physical index of the logical address `a`.
+    pub fn physical_of(&self, a: u32) -> u32
+        requires { a < 2 ^ self.now.width }
+        ensures fits { result < 2 ^ self.now.width }
+        ensures back { logical self.now result ≡ a }
+        ensures only { (k : ℕ) → k < 2 ^ self.now.width → logical self.now k ≡ a → k ≡ result }
+    {
+        u32::from(combination(
+            &self.vectors,
+            self.matrix.width,
+            a as u16 ^ self.matrix.constant,
+        ))
+    }
+
+    /// The index bits that bit `i` of the logical address names.
+    pub fn row(&self, i: u8) -> u16
+        requires { i < self.now.width }
+        ensures row { result ≡ row self.now i }
+        ensures fits { result < 2 ^ self.now.width }
+    {
+        self.matrix.rows[i as usize]
+    }
+
+    /// The constants: bit `i` is that of row `i`.
+    pub fn constant(&self) -> u16
+        ensures constant { result ≡ self.now.constant }
+        ensures fits { result < 2 ^ self.now.width }
+    {
+        self.matrix.constant
+    }
+
+    /// How many bits an index and an address have: 1 to 16.
+    pub fn width(&self) -> u8
+        ensures width { result ≡ self.now.width }
+        ensures bounds { (1 ≤ result) × (result ≤ 16) }
+        ensures invertible { IsInvertible self.now }
+    {
+        self.matrix.width
+    }
+}
+
+/// The scrambling of an invertible matrix.
+///
+/// A singular matrix is refused with the least row that is the exclusive or of rows below it, and those
+/// rows. A row of no bits stands alone.
+pub fn invert(matrix: &Matrix) -> Result<Scramble, Dependence>
+    requires { IsWithin matrix.now.width matrix.now.rows matrix.now.constant }
+    ensures ok { IsOk result ↔ IsInvertible (matrix_of matrix.now.width matrix.now.rows matrix.now.constant) }
+    ensures scramble { IfOk result (λ s. s ≡ matrix_of matrix.now.width matrix.now.rows matrix.now.constant) }
+    ensures singular { IsErr result ↔ (¬ IsInvertible (matrix_of matrix.now.width matrix.now.rows matrix.now.constant)) }
+    ensures dependence { IfErr result (λ d. IsLeastDependence (matrix_of matrix.now.width matrix.now.rows matrix.now.constant) d.rows) }
+    ensures cancel { let m = matrix_of matrix.now.width matrix.now.rows matrix.now.constant in
+        IfErr result (λ d. combination (row m) m.width d.rows ≡ 0) }
+{
+    match reduce(matrix) {
+        Ok(vectors) => Ok(Scramble {
+            matrix: *matrix,
+            vectors,
+        }),
+        Err(dependence) => Err(dependence),
+    }
+}
+
+#[cfg(test)]
+mod tests {
+    use super::*;
+
+    // Bit 0 is the exclusive or of both index bits, and bit 1 is index bit 1.
+    #[test]
+    fn gray_order(rt: HostRuntime) {
+        let mut rows = [0; 16];
+        rows[0] = 0b11;
+        rows[1] = 0b10;
+        let matrix = Matrix {
+            width: 2,
+            rows,
+            constant: 0,
+        };
+        match invert(&matrix) {
+            Ok(scramble) => {
+                for (k, a) in [(0, 0), (1, 1), (2, 3), (3, 2)] {
+                    assert_eq!(rt; scramble.logical_of(k), a);
+                    assert_eq!(rt; scramble.physical_of(a), k);
+                }
+            }
+            Err(_) => panic!(rt; "the matrix is invertible"),
+        }
+    }
+
+    #[test]
+    fn equal_rows_depend(rt: HostRuntime) {
+        let mut rows = [0; 16];
+        rows[0] = 0b01;
+        rows[1] = 0b01;
+        let matrix = Matrix {
+            width: 2,
+            rows,
+            constant: 0,
+        };
+        assert_eq!(rt; invert(&matrix).err(), Some(Dependence { rows: 0b11 }));
+    }
+}
