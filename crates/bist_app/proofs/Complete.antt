@@ -1,0 +1,38 @@
+-- Where neither count rose and there was memory, the answer is that of the told files.
+use Rattle.std.proofs.Common.{◌≡◌, ◌≢◌, ◌⊎◌, inl, inr, refl, List, ℕ, Bool, true, false, Option, Some, None, Result, Ok, Err, sym, ◌∙◌, arith}
+use Rattle.bist_host.specs.Files.{Files, Says, SaysPrefix}
+use Rattle.bist_app.specs.declared.ending.Refusal.{Refusal}
+use Rattle.bist_app.specs.declared.conclude.WriteStop.{WriteStop}
+use Rattle.bist_app.specs.Words.{Words}
+use Rattle.bist_app.specs.Ending.{Done, status_of, found_status, refusal_line}
+use Rattle.bist_app.specs.Inputs.{HasReadCause}
+use Rattle.bist_app.specs.Answer.{Answers, Refused, IsSettledRefusal, IsComplete}
+use Rattle.bist_app.specs.Run.{Decides, Runs}
+
+is_settled : (files : Option Files) (rr : Type 0) (e : Refusal) → (rr → ⊥) → (status_of e ≡ 9 → ⊥) → HasReadCause {A = Done} files rr (Err e) → IsSettledRefusal e
+is_settled files rr Refusal.Usage quiet nine c = tt
+is_settled files rr (Refusal.March f) quiet nine c = tt
+is_settled files rr (Refusal.Fault l) quiet nine c = tt
+is_settled files rr (Refusal.TooLarge p) quiet nine c = tt
+is_settled files rr (Refusal.ReadFailed p) quiet nine c = quiet c
+is_settled files rr (Refusal.Absent p) quiet nine c = tt
+is_settled files rr (Refusal.Misfit m) quiet nine c = tt
+is_settled files rr Refusal.NoMemory quiet nine c = nine refl
+
+pub complete : (words : Words) (f : Files) (f' : Option Files) (s s' : Option (List ℕ)) (rr wr : Type 0) (n : ℕ)
+    → Runs words (Some f) f' s s' rr wr n → (rr → ⊥) → (wr → ⊥) → (n ≡ 9 → ⊥) → Answers f words f' s s' n
+complete words f f' s s' rr wr n (Ok done, decides, cause, (Ok u, writes, inl h)) nr nw n9 = inr (done, decides, h.0, h.1, writes)
+complete words f f' s s' rr wr n (Ok done, decides, cause, (Ok u, writes, inr (inl h))) nr nw n9 = absurd (nw h.1)
+complete words f f' s s' rr wr n (Ok done, decides, cause, (Ok u, writes, inr (inr h))) nr nw n9 = absurd (n9 h.0)
+complete words f f' s s' rr wr n (Ok done, decides, cause, (Err (WriteStop.Failed p), writes, h)) nr nw n9 = absurd (nw h.1)
+complete words f f' s s' rr wr n (Ok done, decides, cause, (Err WriteStop.NoMemory, writes, h)) nr nw n9 = absurd (n9 h.0)
+complete words f f' s s' rr wr n (Err e, decides, cause, (same, inl h)) nr nw n9 =
+    let hn : n ≡ status_of e = h.0 in
+    inl (e, record { first = decides; settled = is_settled (Some f) rr e nr (λ k. n9 (hn ∙ k)) cause }, h.0, h.1, same)
+complete words f f' s s' rr wr n (Err e, decides, cause, (same, inr (inl h))) nr nw n9 = absurd (nw h.1)
+complete words f f' s s' rr wr n (Err e, decides, cause, (same, inr (inr h))) nr nw n9 = absurd (n9 h.0)
+
+pub complete_told : (words : Words) (told f' : Option Files) (s s' : Option (List ℕ)) (rr wr : Type 0) (n : ℕ)
+    → Runs words told f' s s' rr wr n → IsComplete words told f' s s' rr wr n
+complete_told words None f' s s' rr wr n h = tt
+complete_told words (Some f) f' s s' rr wr n h = complete words f f' s s' rr wr n h

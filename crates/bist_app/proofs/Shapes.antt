@@ -1,0 +1,9 @@
+-- Words that have the shape of no command.
+use Rattle.bist_app.specs.declared.commands.Command.{Command}
+use Rattle.bist_app.specs.declared.sim.SimShape.{SimShape}
+use Rattle.bist_app.specs.Words.{Words}
+use Rattle.bist_app.specs.Sim.{IsSimShape}
+use Rattle.bist_app.specs.Run.{HasNoShape}
+
+pub no_shape : (words : Words) → ((shape : SimShape) → IsSimShape words shape → ⊥) → HasNoShape words
+no_shape words sim (Command.Sim shape) h = sim shape h

@@ -1,0 +1,5 @@
+use Rattle.bist_app.specs.LetterBits.{HasBits}
+use Rattle.bist_app.proofs.directions.letters_value.Given as goal
+
+abbrev pub invariant-loop-letter : goal.invariant-loop-letter
+invariant-loop-letter l = HasBits l.letters l.letter-index l.value

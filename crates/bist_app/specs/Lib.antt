@@ -1,0 +1,10 @@
+pub mod Texts
+pub mod Then
+pub mod Words
+pub mod Inputs
+pub mod Ending
+pub mod Sim
+pub mod LetterBits
+pub mod Conclude
+pub mod Run
+pub mod Answer

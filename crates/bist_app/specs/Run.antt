@@ -1,0 +1,37 @@
+-- The top call: what the words ask for, decided, and ended.
+use Rattle.std.specs.Prelude.{◌≡◌, ℕ, List, Option, Some, None, Result, Ok, Err, MatchOption}
+use Rattle.bist_host.specs.Files.{Files}
+use Rattle.bist_app.specs.declared.ending.Refusal.{Refusal}
+use Rattle.bist_app.specs.declared.commands.Command.{Command}
+use Rattle.bist_app.specs.Ending.{Done}
+use Rattle.bist_app.specs.Words.{Words}
+use Rattle.bist_app.specs.Inputs.{HasReadCause}
+use Rattle.bist_app.specs.Conclude.{Ends}
+use Rattle.bist_app.specs.Sim.{IsSimShape, DecidesSim}
+
+-- the words have the shape of this command
+abbrev pub HasShape : Words → Command → Type 0
+HasShape words (Command.Sim shape) = IsSimShape words shape
+
+-- the words have no shape
+abbrev pub HasNoShape : Words → Type 0
+HasNoShape words = (command : Command) → HasShape words command → ⊥
+
+-- the checks of this command, and what it leaves
+abbrev pub DecidesCommand : Option Files → Words → Command → Result Done Refusal → Type 0
+DecidesCommand files words (Command.Sim shape) outcome = DecidesSim files words shape outcome
+
+-- the check of the words, and then the command's
+abbrev pub Decides : Option Files → Words → Result Done Refusal → Type 0
+Decides files words outcome =
+    (command : Option Command) × MatchOption command
+        (HasNoShape words × (outcome ≡ Err Refusal.Usage))
+        (λ command. HasShape words command × DecidesCommand files words command outcome)
+
+-- what a run answers and leaves
+abbrev pub Runs : Words → Option Files → Option Files → Option (List ℕ) → Option (List ℕ) → Type 0 → Type 0 → ℕ → Type 0
+Runs words files files' said said' reads_rose writes_rose status =
+    (outcome : Result Done Refusal)
+    × Decides files words outcome
+    × HasReadCause files reads_rose outcome
+    × Ends words outcome files files' said said' writes_rose status

@@ -1,0 +1,87 @@
+-- The command `sim MARCH PRIM SIZE CONTENT AGG VIC DIRS`: its shape, its checks in their order, and what it leaves.
+use Rattle.std.specs.Prelude.{◌≡◌, ◌<◌, ◌≤◌, ◌⊎◌, ◌++◌, ◌==◌, ℕ, Bool, List, [], map, All, Option, Some, None, Result, Ok, Err, length, codes, decimal, is_some, IsTrue, IsFalse, if◌then◌else◌}
+use Rattle.bist_host.specs.Files.{Files}
+use Rattle.march_core.specs.March.{MarchElement}
+use Rattle.march_core.specs.Visits.{Direction, Upward, Downward, is_direction}
+use Rattle.fault_core.specs.Primitive.{Primitive}
+use Rattle.array_sim.specs.declared.element_run.Miss.{Miss}
+use Rattle.array_sim.specs.Run.{outcome_of}
+use Rattle.bist_app.specs.declared.ending.Refusal.{Refusal}
+use Rattle.bist_app.specs.declared.ending.Misfit.{Misfit}
+use Rattle.bist_app.specs.declared.sim.SimShape.{SimShape}
+use Rattle.bist_app.specs.Ending.{Done}
+use Rattle.bist_app.specs.Then.{Then}
+use Rattle.bist_app.specs.Words.{Words, word, ArePlain, IsNumber}
+use Rattle.bist_app.specs.Inputs.{InputMarch, GivesPrim}
+
+-- a digit 0 or 1
+abbrev pub IsBit : ℕ → Type 0
+IsBit byte = (byte ≡ 48) ⊎ (byte ≡ 49)
+
+-- a letter u or d
+abbrev pub IsLetter : ℕ → Type 0
+IsLetter byte = (byte ≡ 117) ⊎ (byte ≡ 100)
+
+-- the words have the shape, and the numbers are what they say
+pub record IsSimShape (words : Words) (shape : SimShape) : Type 0 where
+  pub count : length words ≡ 8
+  pub name : word words 0 ≡ codes "sim"
+  pub plain : ArePlain words
+  pub size : IsNumber (word words 3) shape.size
+  pub size_least : 2 ≤ shape.size
+  pub size_most : shape.size ≤ 4096
+  pub content : All IsBit (word words 4)
+  pub content_length : length (word words 4) ≡ shape.size
+  pub no_aggressor : word words 5 ≡ codes "none"
+  pub victim : IsNumber (word words 6) shape.victim
+  pub victim_within : shape.victim < shape.size
+  pub letters : All IsLetter (word words 7)
+  pub letters_least : 1 ≤ length (word words 7)
+  pub letters_most : length (word words 7) ≤ 64
+
+-- the cells whose digits these are
+abbrev pub content_of : List ℕ → List Bool
+content_of digits = map (λ b. b == 49) digits
+
+-- the directions whose letters these are
+abbrev pub letter_direction : ℕ → Direction
+letter_direction letter = if letter == 100 then Downward else Upward
+
+abbrev pub directions_of_letters : List ℕ → List Direction
+directions_of_letters letters = map letter_direction letters
+
+-- there is a letter for each element, which agrees with a fixed order
+unfoldable pub FitsDirections : List ℕ → List MarchElement → Result (Unit {0}) Refusal → Type 0
+FitsDirections letters march (Ok _) = IsTrue (is_direction march (directions_of_letters letters))
+FitsDirections letters march (Err (Refusal.Misfit Misfit.Directions)) = IsTrue (is_direction march (directions_of_letters letters)) → ⊥
+FitsDirections letters march (Err other) = ⊥
+
+-- the read that caught the primitive in a one-cell place
+abbrev pub miss_of : List MarchElement → Primitive → ℕ → List ℕ → List ℕ → Option Miss
+miss_of march prim victim digits letters =
+    (outcome_of march (directions_of_letters letters) prim (record { agg = None; vic = victim }) (content_of digits)).miss
+
+abbrev pub caught_line : Miss → List ℕ
+caught_line miss =
+    codes "caught element " ++ decimal miss.element ++ codes " address " ++ decimal miss.address ++ codes " operation " ++ decimal miss.op ++ codes "\n"
+
+abbrev pub sim_line : Option Miss → List ℕ
+sim_line None = codes "passes\n"
+sim_line (Some miss) = caught_line miss
+
+-- what a run leaves: no file, and one line
+abbrev pub sim_done : Option Miss → Done
+sim_done miss = record { found = is_some miss; outputs = []; line = sim_line miss }
+
+unfoldable pub LeavesSim : Option Miss → Result Done Refusal → Type 0
+LeavesSim miss (Ok done) = done ≡ sim_done miss
+LeavesSim miss (Err Refusal.NoMemory) = Unit {0}
+LeavesSim miss (Err other) = ⊥
+
+-- the checks of `sim` in their order
+abbrev pub DecidesSim : Option Files → Words → SimShape → Result Done Refusal → Type 0
+DecidesSim files words shape =
+    Then (InputMarch files words 1) (λ march.
+    Then (GivesPrim (word words 2)) (λ prim.
+    Then (FitsDirections (word words 7) march) (λ _.
+    LeavesSim (miss_of march prim shape.victim (word words 4) (word words 7)))))

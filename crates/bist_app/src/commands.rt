@@ -1,0 +1,20 @@
+ghost use Rattle.std.specs.Prelude.{MatchOption};
+ghost use Rattle.bist_app.specs.Run.{HasShape, HasNoShape};
+
+use crate::sim::{SimShape, sim_shape};
+
+/// What the words ask for.
+#[derive(Clone, Copy)]
+pub enum Command {
+    Sim(SimShape),
+}
+
+/// The command whose shape the words have.
+pub fn command_of(words: &[&str]) -> Option<Command>
+    ensures { MatchOption result (HasNoShape words.now) (λ command. HasShape words.now command) }
+{
+    if let Some(shape) = sim_shape(words) {
+        return Some(Command::Sim(shape));
+    }
+    None
+}

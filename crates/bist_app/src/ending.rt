@@ -1,0 +1,47 @@
+use march_core::MarchFault;
+
+/// What the program ends with.
+#[derive(Clone, Copy, Debug, PartialEq, Eq)]
+pub struct Ended {
+    pub status: u8,
+}
+
+/// What doesn't fit together.
+#[derive(Clone, Copy)]
+pub enum Misfit {
+    /// The directions aren't one per element, as its order allows.
+    Directions,
+}
+
+/// Why a command is refused. A position is that of a file's word, the command itself being 0; lines are counted
+/// from 1.
+#[derive(Clone, Copy)]
+pub enum Refusal {
+    /// The words have no command's shape.
+    Usage,
+    /// The file is no text of an accepted march.
+    March(MarchFault),
+    /// This line is no fault primitive.
+    Fault { line: usize },
+    TooLarge { position: usize },
+    ReadFailed { position: usize },
+    Absent { position: usize },
+    Misfit(Misfit),
+    NoMemory,
+}
+
+/// Bytes for the file that a word names.
+#[derive(Drop)]
+pub struct Output {
+    pub position: usize,
+    pub bytes: Vec<u8>,
+}
+
+/// What a command that isn't refused leaves: the files to write, and then the line to say. `found` tells whether
+/// its status is 1.
+#[derive(Drop)]
+pub struct Plan {
+    pub found: bool,
+    pub outputs: Vec<Output>,
+    pub line: Vec<u8>,
+}

@@ -1,0 +1,16 @@
+//! The program's top call: the words of the command line, the files that they name, and how it ends.
+#![tactic(auto)]
+
+mod commands;
+mod conclude;
+mod directions;
+mod ending;
+mod inputs;
+mod lines;
+mod sim;
+mod texts;
+mod top;
+mod words;
+
+pub use ending::Ended;
+pub use top::run;

@@ -1,0 +1,45 @@
+ghost use Rattle.std.specs.Prelude.{◌≡◌, ◌≤◌, IfOk};
+ghost use Rattle.bist_host.specs.Files.{Rose};
+ghost use Rattle.bist_app.specs.Ending.{plain, done_of};
+ghost use Rattle.bist_app.specs.Inputs.{HasReadCause};
+ghost use Rattle.bist_app.specs.Conclude.{NamesWords};
+ghost use Rattle.bist_app.specs.Answer.{IsComplete};
+ghost use Rattle.bist_app.specs.Run.{Decides, Runs};
+
+use crate::commands::{command_of, Command};
+use crate::conclude::conclude;
+use crate::ending::{Ended, Plan, Refusal};
+use crate::sim::decide_sim;
+use bist_host::Host;
+use std::alloc::Global;
+
+/// What the command leaves, or why it is refused.
+fn decide<H: Host>(alloc: Global, words: &[&str], host: &mut H) -> Result<Plan, Refusal>
+    ensures files { H.files host.new ≡ H.files host.old }
+    ensures said { H.said host.new ≡ H.said host.old }
+    ensures writes { H.write_faults host.new ≡ H.write_faults host.old }
+    ensures reads { H.read_faults host.old ≤ H.read_faults host.new }
+    ensures outputs { IfOk result (λ plan. NamesWords words.now (done_of plan).outputs) }
+    ensures answer { Decides (H.files host.old) words.now (plain result) }
+    ensures cause { HasReadCause (H.files host.old) (Rose (H.read_faults host.old) (H.read_faults host.new)) result }
+{
+    match command_of(words) {
+        None => Err(Refusal::Usage),
+        Some(Command::Sim(shape)) => decide_sim(alloc, words, shape, host),
+    }
+}
+
+#[tactic(auto, using(crate::proofs::Statuses::seven, crate::proofs::Complete::complete_told))]
+/// Runs the command that the words give.
+pub fn run<H: Host>(alloc: Global, words: &[&str], host: &mut H) -> Ended
+    ensures reads { H.read_faults host.old ≤ H.read_faults host.new }
+    ensures writes { H.write_faults host.old ≤ H.write_faults host.new }
+    ensures answer { Runs words.now (H.files host.old) (H.files host.new) (H.said host.old) (H.said host.new)
+        (Rose (H.read_faults host.old) (H.read_faults host.new)) (Rose (H.write_faults host.old) (H.write_faults host.new)) result.status }
+    ensures complete { IsComplete words.now (H.files host.old) (H.files host.new) (H.said host.old) (H.said host.new)
+        (Rose (H.read_faults host.old) (H.read_faults host.new)) (Rose (H.write_faults host.old) (H.write_faults host.new)) result.status }
+    ensures read_fault { result.status ≡ 7 → Rose (H.read_faults host.old) (H.read_faults host.new) }
+{
+    let outcome = decide(alloc, words, host);
+    conclude(alloc, words, host, outcome)
+}
