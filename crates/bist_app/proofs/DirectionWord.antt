@@ -34,10 +34,10 @@ word_directions letters value has within =
     ext_get_or Upward (directions_of (value * 2 ^ (64 - n)) n) (directions_of_letters letters)
     (length-map-range_with_len f 0 n ∙ sym (length-map letters letter_direction))
     (λ i below.
-        let i_below : i < n = subst (λ m. i < m) (length-map-range_with_len f 0 n) below in
-        get_or-map-range_with_len f 0 n i i Upward i_below (omega arith)
-        ∙ word_direction letters value i has i_below within
-        ∙ sym (get_or-map letter_direction letters i 0 Upward i_below))
+    let i_below : i < n = subst (λ m. i < m) (length-map-range_with_len f 0 n) below in
+    get_or-map-range_with_len f 0 n i i Upward i_below (omega arith)
+    ∙ word_direction letters value i has i_below within
+    ∙ sym (get_or-map letter_direction letters i 0 Upward i_below))
 
 pub word_rest : (letters : List ℕ) (value : ℕ) → (value * 2 ^ (64 - length letters)) % 2 ^ (64 - length letters) ≡ 0
 word_rest letters value = mul-mod_left value (2 ^ (64 - length letters))
@@ -69,10 +69,10 @@ pub bits_more : (letters : List ℕ) (value i b : ℕ) → HasBits letters i val
 bits_more letters value i b has is small =
     let doubled : 2 ^ (i + 1) ≡ 2 ^ i * 2 = pow-add 2 i 1 in
     record {
-        below = let old = has.below in omega (arith, doubled, old, small);
-        digits = below_more _ _
-        (λ k below. ap (λ q. q % 2 == 1) (digit_kept value i b k small below) ∙ has.digits k below)
-        (ap (λ d. d == 1) (digit_new value i b small) ∙ sym is);
+      below = let old = has.below in omega (arith, doubled, old, small);
+      digits = below_more _ _
+          (λ k below. ap (λ q. q % 2 == 1) (digit_kept value i b k small below) ∙ has.digits k below)
+          (ap (λ d. d == 1) (digit_new value i b small) ∙ sym is);
     }
 
 -- there are as many directions as elements
@@ -88,8 +88,8 @@ letters_differ letters march differs h = differs (sym (length-map letters letter
 pub fits_from_letters : (letters : List ℕ) (march : List MarchElement) (word : ℕ) → length letters ≡ length march → directions_of word (length letters) ≡ directions_of_letters letters
     → word % 2 ^ (64 - length letters) ≡ 0 → IsTrue (is_direction march (directions_of_letters letters)) → FitsWord march word
 fits_from_letters letters march word same directions rest h = record {
-    allowed = subst (λ n. IsTrue (is_direction march (directions_of word n))) same (subst (λ (ds : List Direction). IsTrue (is_direction march ds)) (sym directions) h);
-    rest = subst (λ n. word % 2 ^ (64 - n) ≡ 0) same rest;
+  allowed = subst (λ n. IsTrue (is_direction march (directions_of word n))) same (subst (λ (ds : List Direction). IsTrue (is_direction march ds)) (sym directions) h);
+  rest = subst (λ n. word % 2 ^ (64 - n) ≡ 0) same rest;
 }
 
 pub letters_from_fits : (letters : List ℕ) (march : List MarchElement) (word : ℕ) → length letters ≡ length march → directions_of word (length letters) ≡ directions_of_letters letters

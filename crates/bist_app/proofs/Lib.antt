@@ -1,4 +1,5 @@
 pub mod Causes
+pub mod Usage
 pub mod Statuses
 pub mod Complete
 pub mod Shapes

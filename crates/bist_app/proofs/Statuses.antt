@@ -1,5 +1,5 @@
 -- Which status comes from what.
-use Rattle.std.proofs.Common.{◌≡◌, ◌≢◌, ◌⊎◌, inl, inr, List, ℕ, Bool, true, false, Option, Some, None, Result, Ok, Err, sym, ◌∙◌, arith}
+use Rattle.std.proofs.Common.{◌≡◌, ◌≢◌, ◌⊎◌, inl, inr, List, ℕ, Bool, true, false, Option, Some, None, Result, Ok, Err, sym, ◌∙◌, ap, refl, subst, ◌<◌, ◌≤◌, arith}
 use Rattle.bist_host.specs.Files.{Files, Says, SaysPrefix}
 use Rattle.bist_app.specs.declared.ending.Refusal.{Refusal}
 use Rattle.bist_app.specs.declared.conclude.WriteStop.{WriteStop}
@@ -7,21 +7,60 @@ use Rattle.bist_app.specs.Words.{Words}
 use Rattle.bist_app.specs.Ending.{Done, status_of, found_status, refusal_line, no_memory_line}
 use Rattle.bist_app.specs.Inputs.{HasReadCause}
 use Rattle.bist_app.specs.Conclude.{Ends, RefusalEnds, SaysDone, SaysAfterWrites, WritesInOrder}
-use Rattle.bist_app.specs.Run.{Decides, Runs, HasNoShape}
+use Rattle.bist_app.specs.Run.{Decides, Runs, HasNoShape, DecidesCommand}
+use Rattle.bist_app.proofs.Usage.{never_usage}
 
 -- 0 or 1
-found_low : (b : Bool) (n : ℕ) → n ≡ found_status b → (n ≡ 7 → ⊥) × (n ≡ 2 → ⊥)
-found_low false n e = ((λ h. omega arith), (λ h. omega arith))
-found_low true n e = ((λ h. omega arith), (λ h. omega arith))
+found_low : (b : Bool) (n : ℕ) → n ≡ found_status b → n < 2
+found_low false n e = omega arith
+found_low true n e = omega arith
 
 -- after the writes the status is 0, 1, 8 or 9
 after_writes : (done : Done) (s s' : Option (List ℕ)) (wr : Type 0) (stop : Result (Unit {0}) WriteStop) (n : ℕ)
-    → SaysAfterWrites done s s' wr stop n → (n ≡ 7 → ⊥) × (n ≡ 2 → ⊥)
-after_writes done s s' wr (Ok _) n (inl h) = found_low done.found n h.0
-after_writes done s s' wr (Ok _) n (inr (inl h)) = let e : n ≡ 8 = h.0 in ((λ h. omega arith), (λ h. omega arith))
-after_writes done s s' wr (Ok _) n (inr (inr h)) = let e : n ≡ 9 = h.0 in ((λ h. omega arith), (λ h. omega arith))
-after_writes done s s' wr (Err (WriteStop.Failed p)) n h = let e : n ≡ 8 = h.0 in ((λ h. omega arith), (λ h. omega arith))
-after_writes done s s' wr (Err WriteStop.NoMemory) n h = let e : n ≡ 9 = h.0 in ((λ h. omega arith), (λ h. omega arith))
+    → SaysAfterWrites done s s' wr stop n → 2 ≤ n → n < 8 → ⊥
+after_writes done s s' wr (Ok _) n (inl h) low high = let small = found_low done.found n h.0 in omega (arith, small)
+after_writes done s s' wr (Ok _) n (inr (inl h)) low high = omega (arith, h.0)
+after_writes done s s' wr (Ok _) n (inr (inr h)) low high = omega (arith, h.0)
+after_writes done s s' wr (Err (WriteStop.Failed p)) n h low high = omega (arith, h.0)
+after_writes done s s' wr (Err WriteStop.NoMemory) n h low high = omega (arith, h.0)
+
+done_below : (done : Done) (s s' : Option (List ℕ)) (wr : Type 0) (stop : Result (Unit {0}) WriteStop) (n : ℕ)
+    → SaysAfterWrites done s s' wr stop n → 9 < n → ⊥
+done_below done s s' wr (Ok _) n (inl h) high = let small = found_low done.found n h.0 in omega (arith, small)
+done_below done s s' wr (Ok _) n (inr (inl h)) high = omega (arith, h.0)
+done_below done s s' wr (Ok _) n (inr (inr h)) high = omega (arith, h.0)
+done_below done s s' wr (Err (WriteStop.Failed p)) n h high = omega (arith, h.0)
+done_below done s s' wr (Err WriteStop.NoMemory) n h high = omega (arith, h.0)
+
+-- it is 8 only where the count of writes rose
+failed_writes : (done : Done) (s s' : Option (List ℕ)) (wr : Type 0) (stop : Result (Unit {0}) WriteStop) (n : ℕ)
+    → SaysAfterWrites done s s' wr stop n → n ≡ 8 → wr
+failed_writes done s s' wr (Ok _) n (inl h) k = let small = found_low done.found n h.0 in absurd (omega (arith, small))
+failed_writes done s s' wr (Ok _) n (inr (inl h)) k = h.1
+failed_writes done s s' wr (Ok _) n (inr (inr h)) k = absurd (omega (arith, h.0))
+failed_writes done s s' wr (Err (WriteStop.Failed p)) n h k = h.1
+failed_writes done s s' wr (Err WriteStop.NoMemory) n h k = absurd (omega (arith, h.0))
+
+-- no refusal has the status of a failed write
+not_eight : (e : Refusal) (n : ℕ) → n ≡ status_of e → n ≡ 8 → ⊥
+not_eight Refusal.Usage n h k = omega arith
+not_eight (Refusal.March f) n h k = omega arith
+not_eight (Refusal.Fault l) n h k = omega arith
+not_eight (Refusal.TooLarge p) n h k = omega arith
+not_eight (Refusal.ReadFailed p) n h k = omega arith
+not_eight (Refusal.Absent p) n h k = omega arith
+not_eight (Refusal.Misfit m) n h k = omega arith
+not_eight Refusal.NoMemory n h k = omega arith
+
+two_is_usage : (e : Refusal) (n : ℕ) → n ≡ status_of e → n ≡ 2 → e ≡ Refusal.Usage
+two_is_usage Refusal.Usage n h k = refl
+two_is_usage (Refusal.March f) n h k = absurd (omega arith)
+two_is_usage (Refusal.Fault l) n h k = absurd (omega arith)
+two_is_usage (Refusal.TooLarge p) n h k = absurd (omega arith)
+two_is_usage (Refusal.ReadFailed p) n h k = absurd (omega arith)
+two_is_usage (Refusal.Absent p) n h k = absurd (omega arith)
+two_is_usage (Refusal.Misfit m) n h k = absurd (omega arith)
+two_is_usage Refusal.NoMemory n h k = absurd (omega arith)
 
 read_cause : (files : Option Files) (rr : Type 0) (e : Refusal) (n : ℕ) → n ≡ status_of e → n ≡ 7 → HasReadCause {A = Done} files rr (Err e) → rr
 read_cause files rr Refusal.Usage n h k c = absurd (omega arith)
@@ -33,10 +72,58 @@ read_cause files rr (Refusal.Absent p) n h k c = absurd (omega arith)
 read_cause files rr (Refusal.Misfit m) n h k c = absurd (omega arith)
 read_cause files rr Refusal.NoMemory n h k c = absurd (omega arith)
 
+-- how a refusal's status comes: its own, or 9
+refusal_status : (e : Refusal) (s s' : Option (List ℕ)) (wr : Type 0) (n : ℕ) → RefusalEnds e s s' wr n → (n ≡ status_of e) ⊎ (n ≡ 9)
+refusal_status e s s' wr n (inl h) = inl h.0
+refusal_status e s s' wr n (inr (inl h)) = inl h.0
+refusal_status e s s' wr n (inr (inr h)) = inr h.0
+
 -- a read fault comes only where the count of reads rose
-pub seven : (words : Words) (f f' : Option Files) (s s' : Option (List ℕ)) (rr wr : Type 0) (n : ℕ)
+pub read_fault_rose : (words : Words) (f f' : Option Files) (s s' : Option (List ℕ)) (rr wr : Type 0) (n : ℕ)
     → Runs words f f' s s' rr wr n → n ≡ 7 → rr
-seven words f f' s s' rr wr n (Ok done, decides, cause, (stop, writes, says)) k = absurd ((after_writes done s s' wr stop n says).0 k)
-seven words f f' s s' rr wr n (Err e, decides, cause, (same, inl h)) k = read_cause f rr e n h.0 k cause
-seven words f f' s s' rr wr n (Err e, decides, cause, (same, inr (inl h))) k = read_cause f rr e n h.0 k cause
-seven words f f' s s' rr wr n (Err e, decides, cause, (same, inr (inr h))) k = let nine : n ≡ 9 = h.0 in absurd (omega arith)
+read_fault_rose words f f' s s' rr wr n (Ok done, decides, cause, (stop, writes, says)) k = absurd (after_writes done s s' wr stop n says (omega arith) (omega arith))
+read_fault_rose words f f' s s' rr wr n (Err e, decides, cause, (same, ends)) k =
+    elim (refusal_status e s s' wr n ends) [ inl h ↦ read_cause f rr e n h k cause | inr h ↦ absurd (omega arith) ]
+
+-- a write fault comes only where the count of writes rose
+pub write_fault_rose : (words : Words) (f f' : Option Files) (s s' : Option (List ℕ)) (rr wr : Type 0) (n : ℕ)
+    → Runs words f f' s s' rr wr n → n ≡ 8 → wr
+write_fault_rose words f f' s s' rr wr n (Ok done, decides, cause, (stop, writes, says)) k = failed_writes done s s' wr stop n says k
+write_fault_rose words f f' s s' rr wr n (Err e, decides, cause, (same, ends)) k =
+    elim (refusal_status e s s' wr n ends) [ inl h ↦ absurd (not_eight e n h k) | inr h ↦ absurd (omega arith) ]
+
+silent_cause : (rr : Type 0) (e : Refusal) (n : ℕ) → n ≡ status_of e → (n ≡ 6) ⊎ (n ≡ 10) → HasReadCause {A = Done} None rr (Err e) → rr
+silent_cause rr Refusal.Usage n h k c = absurd (omega arith)
+silent_cause rr (Refusal.March f) n h k c = absurd (omega arith)
+silent_cause rr (Refusal.Fault l) n h k c = absurd (omega arith)
+silent_cause rr (Refusal.TooLarge p) n h k c = c
+silent_cause rr (Refusal.ReadFailed p) n h k c = c
+silent_cause rr (Refusal.Absent p) n h k c = c
+silent_cause rr (Refusal.Misfit m) n h k c = absurd (omega arith)
+silent_cause rr Refusal.NoMemory n h k c = absurd (omega arith)
+
+-- over files that aren't told, a file is absent or too large only where the count of reads rose
+pub silent_rose : (words : Words) (f f' : Option Files) (s s' : Option (List ℕ)) (rr wr : Type 0) (n : ℕ)
+    → Runs words f f' s s' rr wr n → f ≡ None → (n ≡ 6) ⊎ (n ≡ 10) → rr
+silent_rose words (Some f) f' s s' rr wr n h none k = cc
+silent_rose words None f' s s' rr wr n (Ok done, decides, cause, (stop, writes, says)) none (inl k) = absurd (after_writes done s s' wr stop n says (omega arith) (omega arith))
+silent_rose words None f' s s' rr wr n (Ok done, decides, cause, (stop, writes, says)) none (inr k) = absurd (done_below done s s' wr stop n says (omega arith))
+silent_rose words None f' s s' rr wr n (Err e, decides, cause, (same, ends)) none k =
+    elim (refusal_status e s s' wr n ends) [ inl h ↦ silent_cause rr e n h k cause | inr h ↦ absurd (omega arith) ]
+
+-- words without a shape end with 2, or 9
+pub no_shape_ends : (words : Words) (f f' : Option Files) (s s' : Option (List ℕ)) (rr wr : Type 0) (n : ℕ)
+    → Runs words f f' s s' rr wr n → HasNoShape words → (n ≡ 2) ⊎ (n ≡ 9)
+no_shape_ends words f f' s s' rr wr n (outcome, (Some command, (shape, rest)), cause, ends) none = absurd (none command shape)
+no_shape_ends words f f' s s' rr wr n (Ok done, (None, (shape, is)), cause, ends) none = cc
+no_shape_ends words f f' s s' rr wr n (Err e, (None, (shape, is)), cause, (same, ends)) none =
+    let usage : e ≡ Refusal.Usage = cc in
+    elim (refusal_status e s s' wr n ends) [ inl h ↦ inl (h ∙ ap status_of usage) | inr h ↦ inr h ]
+
+-- status 2 comes only of the words
+pub usage_has_no_shape : (words : Words) (f f' : Option Files) (s s' : Option (List ℕ)) (rr wr : Type 0) (n : ℕ)
+    → Runs words f f' s s' rr wr n → n ≡ 2 → HasNoShape words
+usage_has_no_shape words f f' s s' rr wr n (outcome, (None, (shape, is)), cause, ends) k = shape
+usage_has_no_shape words f f' s s' rr wr n (Ok done, (Some command, (shape, rest)), cause, (stop, writes, says)) k = absurd (after_writes done s s' wr stop n says (omega arith) (omega arith))
+usage_has_no_shape words f f' s s' rr wr n (Err e, (Some command, (shape, rest)), cause, (same, ends)) k =
+    elim (refusal_status e s s' wr n ends) [ inl h ↦ absurd (never_usage f words command (subst (λ r. DecidesCommand f words command (Err r)) (two_is_usage e n h k) rest)) | inr h ↦ absurd (omega arith) ]

@@ -25,8 +25,8 @@ DecidesCommand files words (Command.Sim shape) outcome = DecidesSim files words 
 abbrev pub Decides : Option Files → Words → Result Done Refusal → Type 0
 Decides files words outcome =
     (command : Option Command) × MatchOption command
-        (HasNoShape words × (outcome ≡ Err Refusal.Usage))
-        (λ command. HasShape words command × DecidesCommand files words command outcome)
+    (HasNoShape words × (outcome ≡ Err Refusal.Usage))
+    (λ command. HasShape words command × DecidesCommand files words command outcome)
 
 -- what a run answers and leaves
 abbrev pub Runs : Words → Option Files → Option Files → Option (List ℕ) → Option (List ℕ) → Type 0 → Type 0 → ℕ → Type 0

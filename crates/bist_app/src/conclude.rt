@@ -96,8 +96,12 @@ fn refuse<H: Host>(alloc: Global, host: &mut H, refusal: Refusal) -> Ended
 {
     match line_of_refusal(alloc, refusal) {
         Ok(line) => match say_line(host, &line) {
-            SayEnd::Said => Ended { status: status(refusal) },
-            SayEnd::Failed => Ended { status: status(refusal) },
+            SayEnd::Said => Ended {
+                status: status(refusal),
+            },
+            SayEnd::Failed => Ended {
+                status: status(refusal),
+            },
             SayEnd::NoMemory => Ended { status: 9 },
         },
         Err(AllocError) => end_without_memory(host),
@@ -161,7 +165,12 @@ fn finish<H: Host>(alloc: Global, words: &[&str], host: &mut H, plan: &Plan) -> 
 }
 
 /// Ends a decided command.
-pub fn conclude<H: Host>(alloc: Global, words: &[&str], host: &mut H, outcome: Result<Plan, Refusal>) -> Ended
+pub fn conclude<H: Host>(
+    alloc: Global,
+    words: &[&str],
+    host: &mut H,
+    outcome: Result<Plan, Refusal>,
+) -> Ended
     requires { IfOk outcome (λ plan. NamesWords words.now (done_of plan).outputs) }
     ensures reads { H.read_faults host.new ≡ H.read_faults host.old }
     ensures writes { H.write_faults host.old ≤ H.write_faults host.new }

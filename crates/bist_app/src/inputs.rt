@@ -13,7 +13,11 @@ use march_syntax::read_march;
 pub const INPUT_LIMIT: usize = 1_048_576;
 
 /// The bytes of the file that a word names.
-pub fn read_input<H: Host>(host: &mut H, words: &[&str], position: usize) -> Result<Vec<u8>, Refusal>
+pub fn read_input<H: Host>(
+    host: &mut H,
+    words: &[&str],
+    position: usize,
+) -> Result<Vec<u8>, Refusal>
     requires { position < length words.now }
     ensures files { H.files host.new ≡ H.files host.old }
     ensures said { H.said host.new ≡ H.said host.old }
@@ -33,7 +37,11 @@ pub fn read_input<H: Host>(host: &mut H, words: &[&str], position: usize) -> Res
 
 /// The march of the file that a word names.
 #[tactic(auto, using(crate::proofs::Causes::own_cause), unfolding(crate::specs::Inputs::InputMarch))]
-pub fn read_march_input<H: Host>(host: &mut H, words: &[&str], position: usize) -> Result<March, Refusal>
+pub fn read_march_input<H: Host>(
+    host: &mut H,
+    words: &[&str],
+    position: usize,
+) -> Result<March, Refusal>
     requires { position < length words.now }
     ensures files { H.files host.new ≡ H.files host.old }
     ensures said { H.said host.new ≡ H.said host.old }

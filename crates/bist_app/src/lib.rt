@@ -14,3 +14,6 @@ mod words;
 
 pub use ending::Ended;
 pub use top::run;
+
+#[cfg(test)]
+mod tests;

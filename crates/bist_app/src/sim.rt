@@ -54,7 +54,9 @@ fn are_bits(digits: &[u8]) -> bool
 fn are_letters(letters: &[u8]) -> bool
     ensures { IsTrue result ↔ All IsLetter letters.now }
 {
-    letters.iter().all(|letter| *letter == b'u' || *letter == b'd')
+    letters
+        .iter()
+        .all(|letter| *letter == b'u' || *letter == b'd')
 }
 
 /// The cells whose digits these are.
@@ -86,7 +88,13 @@ fn line_of(alloc: Global, miss: Option<Miss>) -> Result<Vec<u8>, AllocError>
 }
 
 /// Runs the march in the directions of the letters. The answer is the first read that differs.
-fn run_array(march: &March, prim: &Prim, victim: usize, cells: &mut [bool], letters: &[u8]) -> Option<Miss>
+fn run_array(
+    march: &March,
+    prim: &Prim,
+    victim: usize,
+    cells: &mut [bool],
+    letters: &[u8],
+) -> Option<Miss>
     requires one_cell { prim.now.agg ≡ None }
     requires victim { victim < length cells.old }
     requires least { 1 ≤ length letters.now }
@@ -137,7 +145,12 @@ fn plan_sim(
 
 /// Runs one array.
 #[tactic(auto, using(crate::proofs::Causes::own_cause))]
-pub fn decide_sim<H: Host>(alloc: Global, words: &[&str], shape: SimShape, host: &mut H) -> Result<Plan, Refusal>
+pub fn decide_sim<H: Host>(
+    alloc: Global,
+    words: &[&str],
+    shape: SimShape,
+    host: &mut H,
+) -> Result<Plan, Refusal>
     requires { IsSimShape words.now shape }
     ensures files { H.files host.new ≡ H.files host.old }
     ensures said { H.said host.new ≡ H.said host.old }
@@ -150,5 +163,12 @@ pub fn decide_sim<H: Host>(alloc: Global, words: &[&str], shape: SimShape, host:
     let march = read_march_input(host, words, 1)?;
     let prim = read_prim(words[2].as_bytes())?;
     fit_directions(words[7].as_bytes(), &march)?;
-    plan_sim(alloc, &march, &prim, shape.victim, words[4].as_bytes(), words[7].as_bytes())
+    plan_sim(
+        alloc,
+        &march,
+        &prim,
+        shape.victim,
+        words[4].as_bytes(),
+        words[7].as_bytes(),
+    )
 }

@@ -1,12 +1,12 @@
-ghost use Rattle.std.specs.Prelude.{◌≡◌, ◌≤◌, IfOk};
+ghost use Rattle.std.specs.Prelude.{◌≡◌, ◌≤◌, ◌⊎◌, IfOk, None};
 ghost use Rattle.bist_host.specs.Files.{Rose};
 ghost use Rattle.bist_app.specs.Ending.{plain, done_of};
 ghost use Rattle.bist_app.specs.Inputs.{HasReadCause};
 ghost use Rattle.bist_app.specs.Conclude.{NamesWords};
 ghost use Rattle.bist_app.specs.Answer.{IsComplete};
-ghost use Rattle.bist_app.specs.Run.{Decides, Runs};
+ghost use Rattle.bist_app.specs.Run.{Decides, Runs, HasNoShape};
 
-use crate::commands::{command_of, Command};
+use crate::commands::{Command, command_of};
 use crate::conclude::conclude;
 use crate::ending::{Ended, Plan, Refusal};
 use crate::sim::decide_sim;
@@ -29,8 +29,19 @@ fn decide<H: Host>(alloc: Global, words: &[&str], host: &mut H) -> Result<Plan, 
     }
 }
 
-#[tactic(auto, using(crate::proofs::Statuses::seven, crate::proofs::Complete::complete_told))]
-/// Runs the command that the words give.
+/// Decides the command and ends it.
+fn decide_and_end<H: Host>(alloc: Global, words: &[&str], host: &mut H) -> Ended
+    ensures reads { H.read_faults host.old ≤ H.read_faults host.new }
+    ensures writes { H.write_faults host.old ≤ H.write_faults host.new }
+    ensures answer { Runs words.now (H.files host.old) (H.files host.new) (H.said host.old) (H.said host.new)
+        (Rose (H.read_faults host.old) (H.read_faults host.new)) (Rose (H.write_faults host.old) (H.write_faults host.new)) result.status }
+{
+    let outcome = decide(alloc, words, host);
+    conclude(alloc, words, host, outcome)
+}
+
+/// Runs the command that the words give: reads its files, writes its outputs, says its line, and ends with a status.
+#[tactic(auto, using(crate::proofs::Complete::complete_told, crate::proofs::Statuses::read_fault_rose, crate::proofs::Statuses::write_fault_rose, crate::proofs::Statuses::silent_rose, crate::proofs::Statuses::no_shape_ends, crate::proofs::Statuses::usage_has_no_shape))]
 pub fn run<H: Host>(alloc: Global, words: &[&str], host: &mut H) -> Ended
     ensures reads { H.read_faults host.old ≤ H.read_faults host.new }
     ensures writes { H.write_faults host.old ≤ H.write_faults host.new }
@@ -38,8 +49,13 @@ pub fn run<H: Host>(alloc: Global, words: &[&str], host: &mut H) -> Ended
         (Rose (H.read_faults host.old) (H.read_faults host.new)) (Rose (H.write_faults host.old) (H.write_faults host.new)) result.status }
     ensures complete { IsComplete words.now (H.files host.old) (H.files host.new) (H.said host.old) (H.said host.new)
         (Rose (H.read_faults host.old) (H.read_faults host.new)) (Rose (H.write_faults host.old) (H.write_faults host.new)) result.status }
+
+    // When the statuses of words and of faults come.
+    ensures usage { result.status ≡ 2 → HasNoShape words.now }
+    ensures no_shape { HasNoShape words.now → (result.status ≡ 2) ⊎ (result.status ≡ 9) }
     ensures read_fault { result.status ≡ 7 → Rose (H.read_faults host.old) (H.read_faults host.new) }
+    ensures write_fault { result.status ≡ 8 → Rose (H.write_faults host.old) (H.write_faults host.new) }
+    ensures not_told { H.files host.old ≡ None → (result.status ≡ 6) ⊎ (result.status ≡ 10) → Rose (H.read_faults host.old) (H.read_faults host.new) }
 {
-    let outcome = decide(alloc, words, host);
-    conclude(alloc, words, host, outcome)
+    decide_and_end(alloc, words, host)
 }

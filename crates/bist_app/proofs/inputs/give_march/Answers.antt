@@ -22,8 +22,8 @@ returns-in-Err-clause-answer c =
     let is : result ≡ Err fault = c.in-Err.is in
     let says = c.read_march.ensures in
     record {
-        no_march = λ march text march_is. no_answer result fault march is ((says.ok march).1 (text, march_is));
-        unexpected = λ byte. ((λ e. (says.unexpected byte).0 (is ∙ ap Err e)), (λ u. same_fault result fault (Unexpected byte) is ((says.unexpected byte).1 u)));
-        truncated = ((λ e. says.truncated.0 (is ∙ ap Err e)), (λ t. same_fault result fault Truncated is (says.truncated.1 t)));
-        refused = λ march text. let P : Result (List MarchElement) MarchFault → Type 0 = λ r. IfErr r (Refuses march) in subst P is (says.refused march text);
+      no_march = λ march text march_is. no_answer result fault march is ((says.ok march).1 (text, march_is));
+      unexpected = λ byte. ((λ e. (says.unexpected byte).0 (is ∙ ap Err e)), (λ u. same_fault result fault (Unexpected byte) is ((says.unexpected byte).1 u)));
+      truncated = ((λ e. says.truncated.0 (is ∙ ap Err e)), (λ t. same_fault result fault Truncated is (says.truncated.1 t)));
+      refused = λ march text. let P : Result (List MarchElement) MarchFault → Type 0 = λ r. IfErr r (Refuses march) in subst P is (says.refused march text);
     }

@@ -13,12 +13,12 @@ loop-prim-preserved c =
     let i = c.loop-prim.prim-index in
     let P : Primitive → Type 0 = λ p. c.args.text.now ≢ one_cell_text p in
     let differs : P (get_or c.args.prims.now i item) = λ k.
-        let same : c.as_slice.result.now ≡ c.args.text.now =
-        c.as_slice.ensures.value ∙ c.printed.ensures ∙ ap one_cell_text c.prim-item.is ∙ sym k in
-        let passes : bytes_eq c.as_slice.result.now c.args.text.now ≡ true = (bytes_eq-Decides _ _).1 same in
-        let fails : bytes_eq c.as_slice.result.now c.args.text.now ≡ false = sym c.eq.ensures ∙ c.if-eq.false in
-        let bad : true ≡ false = sym passes ∙ fails in
-        cc in
+    let same : c.as_slice.result.now ≡ c.args.text.now =
+    c.as_slice.ensures.value ∙ c.printed.ensures ∙ ap one_cell_text c.prim-item.is ∙ sym k in
+    let passes : bytes_eq c.as_slice.result.now c.args.text.now ≡ true = (bytes_eq-Decides _ _).1 same in
+    let fails : bytes_eq c.as_slice.result.now c.args.text.now ≡ false = sym c.eq.ensures ∙ c.if-eq.false in
+    let bad : true ≡ false = sym passes ∙ fails in
+    cc in
     All-more P c.args.prims.now i item c.loop-prim-test.true c.loop-prim.invariant differs
 
 pub returns : goal.returns
