@@ -1,13 +1,13 @@
 -- Where neither count rose and there was memory, the answer is that of the told files.
-use Rattle.std.proofs.Common.{◌≡◌, ◌≢◌, ◌⊎◌, inl, inr, refl, List, ℕ, Bool, true, false, Option, Some, None, Result, Ok, Err, sym, ◌∙◌, arith}
-use Rattle.bist_host.specs.Files.{Files, Says, SaysPrefix}
+use Rattle.std.proofs.Common.{◌≡◌, inl, inr, refl, List, ℕ, Option, Some, None, Ok, Err, ◌∙◌}
+use Rattle.bist_host.specs.Files.{Files}
 use Rattle.bist_app.specs.declared.ending.Refusal.{Refusal}
 use Rattle.bist_app.specs.declared.conclude.WriteStop.{WriteStop}
 use Rattle.bist_app.specs.Words.{Words}
-use Rattle.bist_app.specs.Ending.{Done, status_of, found_status, refusal_line}
+use Rattle.bist_app.specs.Ending.{Done, status_of}
 use Rattle.bist_app.specs.Inputs.{HasReadCause}
-use Rattle.bist_app.specs.Answer.{Answers, Refused, IsSettledRefusal, IsComplete}
-use Rattle.bist_app.specs.Run.{Decides, Runs}
+use Rattle.bist_app.specs.Answer.{Answers, IsSettledRefusal, IsComplete}
+use Rattle.bist_app.specs.Run.{Runs}
 
 is_settled : (files : Option Files) (rr : Type 0) (e : Refusal) → (rr → ⊥) → (status_of e ≡ 9 → ⊥) → HasReadCause {A = Done} files rr (Err e) → IsSettledRefusal e
 is_settled files rr Refusal.Usage quiet nine c = tt

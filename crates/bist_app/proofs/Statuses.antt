@@ -1,13 +1,13 @@
 -- Which status comes from what.
-use Rattle.std.proofs.Common.{◌≡◌, ◌≢◌, ◌⊎◌, inl, inr, List, ℕ, Bool, true, false, Option, Some, None, Result, Ok, Err, sym, ◌∙◌, ap, refl, subst, ◌<◌, ◌≤◌, arith}
-use Rattle.bist_host.specs.Files.{Files, Says, SaysPrefix}
+use Rattle.std.proofs.Common.{◌≡◌, ◌⊎◌, inl, inr, List, ℕ, Bool, true, false, Option, Some, None, Result, Ok, Err, ◌∙◌, ap, refl, subst, ◌<◌, ◌≤◌, arith}
+use Rattle.bist_host.specs.Files.{Files}
 use Rattle.bist_app.specs.declared.ending.Refusal.{Refusal}
 use Rattle.bist_app.specs.declared.conclude.WriteStop.{WriteStop}
 use Rattle.bist_app.specs.Words.{Words}
-use Rattle.bist_app.specs.Ending.{Done, status_of, found_status, refusal_line, no_memory_line}
+use Rattle.bist_app.specs.Ending.{Done, status_of, found_status}
 use Rattle.bist_app.specs.Inputs.{HasReadCause}
-use Rattle.bist_app.specs.Conclude.{Ends, RefusalEnds, SaysDone, SaysAfterWrites, WritesInOrder}
-use Rattle.bist_app.specs.Run.{Decides, Runs, HasNoShape, DecidesCommand}
+use Rattle.bist_app.specs.Conclude.{RefusalEnds, SaysAfterWrites}
+use Rattle.bist_app.specs.Run.{Runs, HasNoShape, DecidesCommand}
 use Rattle.bist_app.proofs.Usage.{never_usage}
 
 -- 0 or 1

@@ -2,12 +2,10 @@
 use Rattle.std.proofs.Common.{◌≡◌, List, ℕ, Option, Some, None, Result, Ok, Err, subst, refl}
 use Rattle.bist_host.specs.Files.{Files}
 use Rattle.march_core.specs.March.{MarchElement}
-use Rattle.fault_core.specs.Primitive.{Primitive}
 use Rattle.array_sim.specs.declared.element_run.Miss.{Miss}
 use Rattle.bist_app.specs.declared.ending.Refusal.{Refusal}
 use Rattle.bist_app.specs.declared.commands.Command.{Command}
 use Rattle.bist_app.specs.declared.sim.SimShape.{SimShape}
-use Rattle.bist_app.specs.Then.{Then}
 use Rattle.bist_app.specs.Ending.{Done}
 use Rattle.bist_app.specs.Words.{Words, word}
 use Rattle.bist_app.specs.Inputs.{GivesBytes, GivesMarch, InputMarch, GivesPrim}

@@ -1,5 +1,5 @@
 -- The top call: what the words ask for, decided, and ended.
-use Rattle.std.specs.Prelude.{◌≡◌, ℕ, List, Option, Some, None, Result, Ok, Err, MatchOption}
+use Rattle.std.specs.Prelude.{◌≡◌, ℕ, List, Option, Result, Err, MatchOption}
 use Rattle.bist_host.specs.Files.{Files}
 use Rattle.bist_app.specs.declared.ending.Refusal.{Refusal}
 use Rattle.bist_app.specs.declared.commands.Command.{Command}

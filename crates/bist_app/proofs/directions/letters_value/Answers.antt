@@ -1,4 +1,3 @@
-use Rattle.std.proofs.Common.{◌≡◌}
 use Rattle.bist_app.proofs.DirectionWord.{bits_more}
 use Rattle.bist_app.proofs.directions.letters_value.Goals as goal
 

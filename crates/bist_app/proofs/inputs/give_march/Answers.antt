@@ -1,11 +1,9 @@
-use Rattle.std.proofs.Common.{◌≡◌, ◌↔◌, ◌∙◌, ℕ, List, Result, Ok, Err, IfErr, ap, sym, subst}
-use Rattle.bist_text.specs.Grammar.{IsUnexpected, IsTruncated}
+use Rattle.std.proofs.Common.{◌≡◌, ◌∙◌, List, Result, Ok, Err, IfErr, ap, subst}
 use Rattle.march_core.specs.declared.fault.MarchFault.{MarchFault}
 use Rattle.march_core.specs.declared.fault.MarchFault.TheVariants.{Unexpected, Truncated}
-use Rattle.march_core.specs.March.{MarchElement, IsMarch}
-use Rattle.march_syntax.specs.MarchText.{MarchText}
+use Rattle.march_core.specs.March.{MarchElement}
 use Rattle.march_syntax.specs.Answers.{Refuses}
-use Rattle.bist_app.specs.Inputs.{GivesMarch, RefusesMarch}
+use Rattle.bist_app.specs.Inputs.{GivesMarch}
 use Rattle.bist_app.proofs.inputs.give_march.Goals as goal
 
 same_fault : (r : Result (List MarchElement) MarchFault) (f g : MarchFault) → r ≡ Err f → r ≡ Err g → f ≡ g

@@ -1,4 +1,4 @@
-use Rattle.std.proofs.Common.{◌≡◌, ◌∙◌, ap, List, None}
+use Rattle.std.proofs.Common.{◌∙◌, ap, List, None}
 use Rattle.march_core.specs.Visits.{Direction}
 use Rattle.array_sim.specs.Run.{outcome_of}
 use Rattle.bist_app.proofs.DirectionWord.{fits_word, directions_whole}

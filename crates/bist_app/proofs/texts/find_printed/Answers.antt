@@ -1,4 +1,4 @@
-use Rattle.std.proofs.Common.{◌≡◌, ◌≢◌, All, List, ℕ, get_or, subst, sym, ap, ◌∙◌, true, false, take}
+use Rattle.std.proofs.Common.{◌≡◌, ◌≢◌, All, List, get_or, subst, sym, ap, ◌∙◌, true, false}
 use Rattle.std.specs.Str.{bytes_eq}
 use Rattle.std.proofs.lemmas.List.{take_all}
 use Rattle.std.proofs.lemmas.List.Elements.{All-more}
