@@ -1,0 +1,6 @@
+//! Two cells.
+#![tactic(auto)]
+
+mod pair;
+
+pub use pair::{Pair, Side};

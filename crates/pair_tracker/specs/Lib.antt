@@ -1,0 +1,3 @@
+pub mod Pairs
+pub mod Placements
+pub mod Survivors

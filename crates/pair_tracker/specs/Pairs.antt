@@ -1,0 +1,48 @@
+-- A march on two cells alone: the aggressor's (or, for a primitive of one cell, a bystander's) and the victim's.
+use Rattle.std.specs.Prelude.{ℕ, Bool, true, false, if◌then◌else◌, Option, Some, None, List, [], ◌∷◌}
+use Rattle.std.specs.Option.{option_and_then}
+use Rattle.fault_core.specs.declared.primitive.Act.{Act}
+use Rattle.fault_core.specs.Cells.{cell}
+use Rattle.march_core.specs.declared.operation.Op.{Op}
+use Rattle.march_core.specs.March.{MarchElement}
+use Rattle.march_core.specs.Visits.{Direction, Upward, Downward}
+use Rattle.array_sim.specs.Run.{act_of, is_wrong_of}
+use Rattle.cell_machine.specs.declared.pair.Pair.{Pair}
+use Rattle.cell_machine.specs.declared.pair.Side.{Side}
+use Rattle.cell_machine.specs.declared.pair.Side.TheVariants.{A, V}
+
+-- what an act on one of the two cells makes of them, and what it answers
+pub record Machine : Type 0 where
+  pub step : Pair → Side → Act → Pair
+  pub answer : Pair → Side → Act → Option Bool
+
+-- the two cells after these operations on one of them, unless a read differs
+abbrev pub ops_run : Machine → Pair → Side → List Op → Option Pair
+ops_run m q s [] = Some q
+ops_run m q s (op ∷ ops) = if is_wrong_of op (m.answer q s (act_of op)) then None else ops_run m (m.step q s (act_of op)) s ops
+
+-- the operations on each of these cells in turn
+abbrev pub sides_run : Machine → Pair → List Side → List Op → Option Pair
+sides_run m q [] ops = Some q
+sides_run m q (s ∷ ss) ops = option_and_then (λ r. sides_run m r ss ops) (ops_run m q s ops)
+
+-- the order in which a direction visits the two cells, by whether the aggressor has the lower address
+abbrev pub sides_in : Bool → Direction → List Side
+sides_in true Upward = A ∷ V ∷ []
+sides_in true Downward = V ∷ A ∷ []
+sides_in false Upward = V ∷ A ∷ []
+sides_in false Downward = A ∷ V ∷ []
+
+-- the elements one after another, each in its direction
+abbrev pub pair_run : Machine → Bool → Pair → List MarchElement → List Direction → Option Pair
+pair_run m below q [] ds = Some q
+pair_run m below q (e ∷ es) [] = Some q
+pair_run m below q (e ∷ es) (d ∷ ds) = option_and_then (λ r. pair_run m below r es ds) (sides_run m q (sides_in below d) e.ops)
+
+-- the bits of two cells of an array
+abbrev pub pair_at : ℕ → ℕ → List Bool → Pair
+pair_at a v cells = record { a = cell cells a; v = cell cells v }
+
+abbrev pub place_of : ℕ → ℕ → Side → ℕ
+place_of a v A = a
+place_of a v V = v
