@@ -26,8 +26,8 @@ use Rattle.pair_tracker.proofs.Sides.{contains, Distinct, AllBelow, sides_of, ad
 
 -- how the steps on an array of n cells look from the two cells at a and v
 pub record Laws (p : Primitive) (at : Places) (a v n : ℕ) (m : Machine) (IsClosed : List Bool → Type 0) : Type 0 where
-  pub own_answer : (s : Side) (cells : List Bool) (act : Act) → length cells ≡ n → step_answer p at cells (place_of a v s) act ≡ m.answer (pair_at a v cells) s act
-  pub own_pair : (s : Side) (cells : List Bool) (act : Act) → length cells ≡ n → pair_at a v (step_cells p at cells (place_of a v s) act) ≡ m.step (pair_at a v cells) s act
+  pub own_answer : (s : Side) (cells : List Bool) (act : Act) → place_of a v s < n → length cells ≡ n → step_answer p at cells (place_of a v s) act ≡ m.answer (pair_at a v cells) s act
+  pub own_pair : (s : Side) (cells : List Bool) (act : Act) → place_of a v s < n → length cells ≡ n → pair_at a v (step_cells p at cells (place_of a v s) act) ≡ m.step (pair_at a v cells) s act
   pub own_others : (s : Side) (cells : List Bool) (act : Act) (y : ℕ) → y ≢ a → y ≢ v → cell (step_cells p at cells (place_of a v s) act) y ≡ cell cells y
   pub same_length : (cells : List Bool) (x : ℕ) (act : Act) → length (step_cells p at cells x act) ≡ length cells
   pub closes : (cells : List Bool) (x : ℕ) (act : Act) → length cells ≡ n → IsClosed (step_cells p at cells x act)
@@ -55,7 +55,7 @@ shows_on p at a v cells xs ys None f K L h k = (h.0, ap (λ (o : Outcome). o.mis
 shows_on p at a v cells xs ys (Some q) f K L h k =
     let whole : run_of p at cells (xs ++ ys) ≡ run_of p at (run_of p at cells xs).cells ys = run_on p at cells xs ys h.0 in
     let rest : Shows a v (f q) (run_of p at (run_of p at cells xs).cells ys) L =
-        subst (λ (s : Pair). Shows a v (f s) (run_of p at (run_of p at cells xs).cells ys) L) h.1 (k (run_of p at cells xs).cells h.2) in
+    subst (λ (s : Pair). Shows a v (f s) (run_of p at (run_of p at cells xs).cells ys) L) h.1 (k (run_of p at cells xs).cells h.2) in
     subst (λ (o : Outcome). Shows a v (f q) o L) (sym whole) rest
 
 -- the length and the closing stay, and so does each cell but the two
@@ -75,23 +75,23 @@ first_visit a v false false r o c x K L e f h = shows_less a v r o K L f h
 
 -- the visits of an element to one of the two cells
 pub own_visit : (p : Primitive) (at : Places) (a v n : ℕ) (m : Machine) (IsClosed : List Bool → Type 0) (laws : Laws p at a v n m IsClosed)
-    (e k : ℕ) (s : Side) (ops : List Op) (cells : List Bool) → length cells ≡ n → IsClosed cells
+    (e k : ℕ) (s : Side) → place_of a v s < n → (ops : List Op) (cells : List Bool) → length cells ≡ n → IsClosed cells
     → Shows a v (ops_run m (pair_at a v cells) s ops) (run_of p at cells (cell_visits e (place_of a v s) k ops)) (Keeps a v n IsClosed cells)
-own_visit p at a v n m IsClosed laws e k s [] cells size closed = (refl, refl, record { size = size; closed = closed; others = λ y ya yv. refl })
-own_visit p at a v n m IsClosed laws e k s (op ∷ ops) cells size closed =
+own_visit p at a v n m IsClosed laws e k s within [] cells size closed = (refl, refl, record { size = size; closed = closed; others = λ y ya yv. refl })
+own_visit p at a v n m IsClosed laws e k s within (op ∷ ops) cells size closed =
     let x : ℕ = place_of a v s in
     let act : Act = act_of op in
     let next : List Bool = step_cells p at cells x act in
     let next_size : length next ≡ n = laws.same_length cells x act ∙ size in
-    let rest = own_visit p at a v n m IsClosed laws e (k + 1) s ops next next_size (laws.closes cells x act size) in
+    let rest = own_visit p at a v n m IsClosed laws e (k + 1) s within ops next next_size (laws.closes cells x act size) in
     let moved : Shows a v (ops_run m (m.step (pair_at a v cells) s act) s ops) (run_of p at next (cell_visits e x (k + 1) ops)) (Keeps a v n IsClosed next) =
-        subst (λ (q : Pair). Shows a v (ops_run m q s ops) (run_of p at next (cell_visits e x (k + 1) ops)) (Keeps a v n IsClosed next)) (laws.own_pair s cells act size) rest in
+    subst (λ (q : Pair). Shows a v (ops_run m q s ops) (run_of p at next (cell_visits e x (k + 1) ops)) (Keeps a v n IsClosed next)) (laws.own_pair s cells act within size) rest in
     first_visit a v (is_wrong_of op (m.answer (pair_at a v cells) s act)) (is_wrong_of op (step_answer p at cells x act))
-        (ops_run m (m.step (pair_at a v cells) s act) s ops) (run_of p at next (cell_visits e x (k + 1) ops)) next
-        (record { element = e; address = x; number = k; op = op }) (Keeps a v n IsClosed next) (Keeps a v n IsClosed cells)
-        (ap (is_wrong_of op) (laws.own_answer s cells act size))
-        (λ c kept. record { size = kept.size; closed = kept.closed; others = λ y ya yv. kept.others y ya yv ∙ laws.own_others s cells act y ya yv })
-        moved
+    (ops_run m (m.step (pair_at a v cells) s act) s ops) (run_of p at next (cell_visits e x (k + 1) ops)) next
+    (record { element = e; address = x; number = k; op = op }) (Keeps a v n IsClosed next) (Keeps a v n IsClosed cells)
+    (ap (is_wrong_of op) (laws.own_answer s cells act within size))
+    (λ c kept. record { size = kept.size; closed = kept.closed; others = λ y ya yv. kept.others y ya yv ∙ laws.own_others s cells act y ya yv })
+    moved
 
 -- what the visits of an element to another cell leave: only that cell may change, and it holds what was written last
 pub record Passes (a v n x : ℕ) (IsClosed : List Bool → Type 0) (next : Option Bool) (before after : List Bool) : Type 0 where
@@ -149,23 +149,25 @@ other_visit p at a v n m IsClosed laws e k x within xa xv (op ∷ ops) last next
     let inside : x < length cells = omega arith in
     let after_size : length after ≡ n = laws.same_length cells x act ∙ size in
     let here : (bit : Bool) → after_op last op ≡ Some bit → cell after x ≡ bit =
-        λ bit is. ap (λ l. cell l x) plain ∙ plain_held op last cells x inside held bit is in
+    λ bit is. ap (λ l. cell l x) plain ∙ plain_held op last cells x inside held bit is in
     let stays : (y : ℕ) → y ≢ x → cell after y ≡ cell cells y = λ y ne. ap (λ l. cell l y) plain ∙ plain_others act cells x y ne in
     let rest = other_visit p at a v n m IsClosed laws e (k + 1) x within xa xv ops (after_op last op) next after after_size (laws.closes cells x act size) test.1 here in
     let right : is_wrong_of op (step_answer p at cells x act) ≡ false =
-        ap (is_wrong_of op) (laws.other_answer cells x act xa xv) ∙ plain_right op last cells x test.0 held in
+    ap (is_wrong_of op) (laws.other_answer cells x act xa xv) ∙ plain_right op last cells x test.0 held in
     let first : run_of p at cells (cell_visits e x k (op ∷ ops)) ≡ run_of p at after (cell_visits e x (k + 1) ops) =
-        ap (λ b. cond b (record { cells = after; miss = Some (miss_at (record { element = e; address = x; number = k; op = op })) }) (run_of p at after (cell_visits e x (k + 1) ops))) right in
+    ap (λ b. cond b (record { cells = after; miss = Some (miss_at (record { element = e; address = x; number = k; op = op })) }) (run_of p at after (cell_visits e x (k + 1) ops))) right in
     let ax : a ≢ x = λ h. xa (sym h) in
     let vx : v ≢ x = λ h. xv (sym h) in
-    subst (λ (o : Outcome). (o.miss ≡ None) × Passes a v n x IsClosed next cells o.cells) (sym first)
-    (rest.0, record {
+    subst (λ (o : Outcome). (o.miss ≡ None) × Passes a v n x IsClosed next cells o.cells) (sym first) (
+      rest.0,
+      record {
         pair = rest.1.pair ∙ same_pair a v after cells (stays a ax) (stays v vx);
         size = rest.1.size;
         closed = rest.1.closed;
         others = λ y ne. rest.1.others y ne ∙ stays y ne;
         held = rest.1.held;
-    })
+      },
+    )
 
 -- each other cell holds what its last write wrote: before its visit, or after it
 abbrev pub Agrees : ℕ → ℕ → ℕ → List ℕ → Option Bool → Option Bool → List Bool → Type 0
@@ -185,10 +187,10 @@ agrees_off : (a v n x : ℕ) (xs : List ℕ) (last next : Option Bool) (cells af
 agrees_off a v n x xs last next cells after agrees others here off y yn ya yv bit e =
     ⊎_elim
     (λ (h : (eqb y x ≡ true) × (y ≡ x)).
-        let P : ℕ → Type 0 = λ z. z ≢ a → z ≢ v → cond (contains z xs) last next ≡ Some bit → cell after z ≡ bit in
-        subst P (sym h.1) (λ za zv is. here bit za zv (ap (λ b. cond b last next) (sym off) ∙ is)) ya yv e)
+    let P : ℕ → Type 0 = λ z. z ≢ a → z ≢ v → cond (contains z xs) last next ≡ Some bit → cell after z ≡ bit in
+    subst P (sym h.1) (λ za zv is. here bit za zv (ap (λ b. cond b last next) (sym off) ∙ is)) ya yv e)
     (λ (h : (eqb y x ≡ false) × (y ≢ x)).
-        others y yn ya yv h.1 ∙ agrees y yn ya yv bit (ap (λ b. cond (b || contains y xs) last next) h.0 ∙ e))
+    others y yn ya yv h.1 ∙ agrees y yn ya yv bit (ap (λ b. cond (b || contains y xs) last next) h.0 ∙ e))
     (eqb_tells y x)
 
 -- one of the two cells is visited
@@ -207,38 +209,38 @@ element_visit p at a v n m IsClosed laws ne e ops last next scanned [] cells dis
 element_visit p at a v n m IsClosed laws ne e ops last next scanned (x ∷ xs) cells distinct below size closed agrees =
     ⊎_elim
     (λ (h : (eqb x a ≡ true) × (x ≡ a)).
-        let own : x ≢ a → x ≢ v → ⊥ = λ xa xv. xa h.1 in
-        let first = subst (λ y. Shows a v (ops_run m (pair_at a v cells) A ops) (run_of p at cells (cell_visits e y 0 ops)) (Keeps a v n IsClosed cells)) (sym h.1)
-            (own_visit p at a v n m IsClosed laws e 0 A ops cells size closed) in
-        rw h.0
-        (shows_on p at a v cells (cell_visits e x 0 ops) (address_visits e ops xs) (ops_run m (pair_at a v cells) A ops) (λ q. sides_run m q (sides_of a v xs) ops)
-            (Keeps a v n IsClosed cells) (Leaves a v n IsClosed next) first
-            (λ c kept. element_visit p at a v n m IsClosed laws ne e ops last next scanned xs c distinct.1 below.1 kept.size kept.closed
-                (own_off a v n x xs last next IsClosed cells c own distinct.0 agrees kept))))
+    let own : x ≢ a → x ≢ v → ⊥ = λ xa xv. xa h.1 in
+    let first = subst (λ y. Shows a v (ops_run m (pair_at a v cells) A ops) (run_of p at cells (cell_visits e y 0 ops)) (Keeps a v n IsClosed cells)) (sym h.1)
+    (own_visit p at a v n m IsClosed laws e 0 A (subst (λ y. y < n) h.1 below.0) ops cells size closed) in
+    rw h.0
+    (shows_on p at a v cells (cell_visits e x 0 ops) (address_visits e ops xs) (ops_run m (pair_at a v cells) A ops) (λ q. sides_run m q (sides_of a v xs) ops)
+    (Keeps a v n IsClosed cells) (Leaves a v n IsClosed next) first
+    (λ c kept. element_visit p at a v n m IsClosed laws ne e ops last next scanned xs c distinct.1 below.1 kept.size kept.closed
+    (own_off a v n x xs last next IsClosed cells c own distinct.0 agrees kept))))
     (λ (h : (eqb x a ≡ false) × (x ≢ a)).
-        rw h.0
-        (⊎_elim
-            (λ (g : (eqb x v ≡ true) × (x ≡ v)).
-                let own : x ≢ a → x ≢ v → ⊥ = λ xa xv. xv g.1 in
-                let first = subst (λ y. Shows a v (ops_run m (pair_at a v cells) V ops) (run_of p at cells (cell_visits e y 0 ops)) (Keeps a v n IsClosed cells)) (sym g.1)
-                    (own_visit p at a v n m IsClosed laws e 0 V ops cells size closed) in
-                rw g.0
-                (shows_on p at a v cells (cell_visits e x 0 ops) (address_visits e ops xs) (ops_run m (pair_at a v cells) V ops) (λ q. sides_run m q (sides_of a v xs) ops)
-                    (Keeps a v n IsClosed cells) (Leaves a v n IsClosed next) first
-                    (λ c kept. element_visit p at a v n m IsClosed laws ne e ops last next scanned xs c distinct.1 below.1 kept.size kept.closed
-                        (own_off a v n x xs last next IsClosed cells c own distinct.0 agrees kept))))
-            (λ (g : (eqb x v ≡ false) × (x ≢ v)).
-                let held : (bit : Bool) → last ≡ Some bit → cell cells x ≡ bit =
-                    λ bit is. agrees x below.0 h.1 g.1 bit (ap (λ b. cond (b || contains x xs) last next) (eq-eqb x x refl) ∙ is) in
-                let passed = other_visit p at a v n m IsClosed laws e 0 x below.0 h.1 g.1 ops last next cells size closed scanned held in
-                let K : List Bool → Type 0 = Passes a v n x IsClosed next cells in
-                let first : Shows a v (Some (pair_at a v cells)) (run_of p at cells (cell_visits e x 0 ops)) K = (passed.0, passed.1.pair, passed.1) in
-                rw g.0
-                (shows_on p at a v cells (cell_visits e x 0 ops) (address_visits e ops xs) (Some (pair_at a v cells)) (λ q. sides_run m q (sides_of a v xs) ops)
-                    K (Leaves a v n IsClosed next) first
-                    (λ c pass. element_visit p at a v n m IsClosed laws ne e ops last next scanned xs c distinct.1 below.1 pass.size pass.closed
-                        (agrees_off a v n x xs last next cells c agrees (λ y yn ya yv other. pass.others y other) (λ bit xa xv is. pass.held bit is) distinct.0))))
-            (eqb_tells x v)))
+    rw h.0
+    (⊎_elim
+    (λ (g : (eqb x v ≡ true) × (x ≡ v)).
+    let own : x ≢ a → x ≢ v → ⊥ = λ xa xv. xv g.1 in
+    let first = subst (λ y. Shows a v (ops_run m (pair_at a v cells) V ops) (run_of p at cells (cell_visits e y 0 ops)) (Keeps a v n IsClosed cells)) (sym g.1)
+    (own_visit p at a v n m IsClosed laws e 0 V (subst (λ y. y < n) g.1 below.0) ops cells size closed) in
+    rw g.0
+    (shows_on p at a v cells (cell_visits e x 0 ops) (address_visits e ops xs) (ops_run m (pair_at a v cells) V ops) (λ q. sides_run m q (sides_of a v xs) ops)
+    (Keeps a v n IsClosed cells) (Leaves a v n IsClosed next) first
+    (λ c kept. element_visit p at a v n m IsClosed laws ne e ops last next scanned xs c distinct.1 below.1 kept.size kept.closed
+    (own_off a v n x xs last next IsClosed cells c own distinct.0 agrees kept))))
+    (λ (g : (eqb x v ≡ false) × (x ≢ v)).
+    let held : (bit : Bool) → last ≡ Some bit → cell cells x ≡ bit =
+    λ bit is. agrees x below.0 h.1 g.1 bit (ap (λ b. cond (b || contains x xs) last next) (eq-eqb x x refl) ∙ is) in
+    let passed = other_visit p at a v n m IsClosed laws e 0 x below.0 h.1 g.1 ops last next cells size closed scanned held in
+    let K : List Bool → Type 0 = Passes a v n x IsClosed next cells in
+    let first : Shows a v (Some (pair_at a v cells)) (run_of p at cells (cell_visits e x 0 ops)) K = (passed.0, passed.1.pair, passed.1) in
+    rw g.0
+    (shows_on p at a v cells (cell_visits e x 0 ops) (address_visits e ops xs) (Some (pair_at a v cells)) (λ q. sides_run m q (sides_of a v xs) ops)
+    K (Leaves a v n IsClosed next) first
+    (λ c pass. element_visit p at a v n m IsClosed laws ne e ops last next scanned xs c distinct.1 below.1 pass.size pass.closed
+    (agrees_off a v n x xs last next cells c agrees (λ y yn ya yv other. pass.others y other) (λ bit xa xv is. pass.held bit is) distinct.0))))
+    (eqb_tells x v)))
     (eqb_tells x a)
 
 -- the scan of a list in two parts
@@ -250,21 +252,46 @@ scan_parts last (x ∷ xs) ys end e =
     let rest = scan_parts (after_op last x) xs ys end h.1 in
     (rest.0, ap (λ b. cond b (scan_of (after_op last x) xs) None) h.0 ∙ rest.1, rest.2)
 
+-- the elements one after another, each on the two cells in the order that its direction has
+abbrev pub order_run : Machine → (Direction → List Side) → Pair → List MarchElement → List Direction → Option Pair
+order_run m order q [] ds = Some q
+order_run m order q (e ∷ es) [] = Some q
+order_run m order q (e ∷ es) (d ∷ ds) = option_and_then (λ r. order_run m order r es ds) (sides_run m q (order d) e.ops)
+
 -- the visits of the elements from one on
+pub order_visit : (p : Primitive) (at : Places) (a v n : ℕ) (m : Machine) (IsClosed : List Bool → Type 0) (laws : Laws p at a v n m IsClosed) → a ≢ v
+    → (order : Direction → List Side) → ((d : Direction) → sides_of a v (addresses d n) ≡ order d)
+    → (es : List MarchElement) (ds : List Direction) (k : ℕ) (last end : Option Bool) (cells : List Bool) → scan_of last (all_ops es) ≡ Some end
+    → length cells ≡ n → IsClosed cells → Agrees a v n [] None last cells
+    → Shows a v (order_run m order (pair_at a v cells) es ds) (run_of p at cells (visits_from k es ds n)) (λ c. length c ≡ n)
+order_visit p at a v n m IsClosed laws ne order ordered [] ds k last end cells scanned size closed agrees = (refl, refl, size)
+order_visit p at a v n m IsClosed laws ne order ordered (e ∷ es) [] k last end cells scanned size closed agrees = (refl, refl, size)
+order_visit p at a v n m IsClosed laws ne order ordered (e ∷ es) (d ∷ ds) k last end cells scanned size closed agrees =
+    let parts = scan_parts last e.ops (all_ops es) end scanned in
+    let mid : Option Bool = parts.0 in
+    let before : Agrees a v n (addresses d n) last mid cells =
+    λ y yn ya yv bit is. agrees y yn ya yv bit (ap (λ b. cond b last mid) (sym (addresses_all d n y yn)) ∙ is) in
+    let first = subst (λ ss. Shows a v (sides_run m (pair_at a v cells) ss e.ops) (run_of p at cells (address_visits k e.ops (addresses d n))) (Leaves a v n IsClosed mid)) (ordered d)
+    (element_visit p at a v n m IsClosed laws ne k e.ops last mid parts.1 (addresses d n) cells (addresses_distinct d n) (addresses_below d n) size closed before) in
+    shows_on p at a v cells (address_visits k e.ops (addresses d n)) (visits_from (k + 1) es ds n) (sides_run m (pair_at a v cells) (order d) e.ops)
+    (λ q. order_run m order q es ds) (Leaves a v n IsClosed mid) (λ c. length c ≡ n) first
+    (λ c left. order_visit p at a v n m IsClosed laws ne order ordered es ds (k + 1) mid end c parts.2 left.size left.closed left.agrees)
+
+-- two cells within the array are visited in the order of their addresses
+pub pair_order_run : (m : Machine) (below : Bool) (q : Pair) (es : List MarchElement) (ds : List Direction) → order_run m (sides_in below) q es ds ≡ pair_run m below q es ds
+pair_order_run m below q [] ds = refl
+pair_order_run m below q (e ∷ es) [] = refl
+pair_order_run m below q (e ∷ es) (d ∷ ds) = go (sides_run m q (sides_in below d) e.ops) (λ r. pair_order_run m below r es ds)
+  where
+    go : (r : Option Pair) → ((r : Pair) → order_run m (sides_in below) r es ds ≡ pair_run m below r es ds)
+        → option_and_then (λ r. order_run m (sides_in below) r es ds) r ≡ option_and_then (λ r. pair_run m below r es ds) r
+    go None f = refl
+    go (Some r) f = f r
+
 pub march_visit : (p : Primitive) (at : Places) (a v n : ℕ) (m : Machine) (IsClosed : List Bool → Type 0) (laws : Laws p at a v n m IsClosed) → a ≢ v → a < n → v < n
     → (es : List MarchElement) (ds : List Direction) (k : ℕ) (last end : Option Bool) (cells : List Bool) → scan_of last (all_ops es) ≡ Some end
     → length cells ≡ n → IsClosed cells → Agrees a v n [] None last cells
     → Shows a v (pair_run m (nat_lt a v) (pair_at a v cells) es ds) (run_of p at cells (visits_from k es ds n)) (λ c. length c ≡ n)
-march_visit p at a v n m IsClosed laws ne an vn [] ds k last end cells scanned size closed agrees = (refl, refl, size)
-march_visit p at a v n m IsClosed laws ne an vn (e ∷ es) [] k last end cells scanned size closed agrees = (refl, refl, size)
-march_visit p at a v n m IsClosed laws ne an vn (e ∷ es) (d ∷ ds) k last end cells scanned size closed agrees =
-    let parts = scan_parts last e.ops (all_ops es) end scanned in
-    let mid : Option Bool = parts.0 in
-    let before : Agrees a v n (addresses d n) last mid cells =
-        λ y yn ya yv bit is. agrees y yn ya yv bit (ap (λ b. cond b last mid) (sym (addresses_all d n y yn)) ∙ is) in
-    let order : sides_of a v (addresses d n) ≡ sides_in (nat_lt a v) d = addresses_sides a v n d ne an vn in
-    let first = subst (λ ss. Shows a v (sides_run m (pair_at a v cells) ss e.ops) (run_of p at cells (address_visits k e.ops (addresses d n))) (Leaves a v n IsClosed mid)) order
-        (element_visit p at a v n m IsClosed laws ne k e.ops last mid parts.1 (addresses d n) cells (addresses_distinct d n) (addresses_below d n) size closed before) in
-    shows_on p at a v cells (address_visits k e.ops (addresses d n)) (visits_from (k + 1) es ds n) (sides_run m (pair_at a v cells) (sides_in (nat_lt a v) d) e.ops)
-        (λ q. pair_run m (nat_lt a v) q es ds) (Leaves a v n IsClosed mid) (λ c. length c ≡ n) first
-        (λ c left. march_visit p at a v n m IsClosed laws ne an vn es ds (k + 1) mid end c parts.2 left.size left.closed left.agrees)
+march_visit p at a v n m IsClosed laws ne an vn es ds k last end cells scanned size closed agrees =
+    subst (λ r. Shows a v r (run_of p at cells (visits_from k es ds n)) (λ c. length c ≡ n)) (pair_order_run m (nat_lt a v) (pair_at a v cells) es ds)
+    (order_visit p at a v n m IsClosed laws ne (sides_in (nat_lt a v)) (λ d. addresses_sides a v n d ne an vn) es ds k last end cells scanned size closed agrees)

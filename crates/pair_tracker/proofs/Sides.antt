@@ -62,9 +62,9 @@ only_victim a v k (suc m) ha low high =
     let na : k ≢ a = omega arith in
     rw (ne_eqb k a na)
     (⊎_elim
-        (λ (h : (eqb k v ≡ true) × (k ≡ v)). let s : k ≡ v = h.1 in rw h.0 (ap (λ l. V ∷ l) (no_sides a v (k + 1) m (omega arith) (omega arith))))
-        (λ (h : (eqb k v ≡ false) × (k ≢ v)). let s : k ≢ v = h.1 in rw h.0 (only_victim a v (k + 1) m (omega arith) (omega arith) (omega arith)))
-        (eqb_tells k v))
+    (λ (h : (eqb k v ≡ true) × (k ≡ v)). let s : k ≡ v = h.1 in rw h.0 (ap (λ l. V ∷ l) (no_sides a v (k + 1) m (omega arith) (omega arith))))
+    (λ (h : (eqb k v ≡ false) × (k ≢ v)). let s : k ≢ v = h.1 in rw h.0 (only_victim a v (k + 1) m (omega arith) (omega arith) (omega arith)))
+    (eqb_tells k v))
 
 only_aggressor : (a v k m : ℕ) → v < k → k ≤ a → a < k + m → sides_of a v (range_with_len k m) ≡ A ∷ []
 only_aggressor a v k zero ha low high = absurd (omega arith)
@@ -72,9 +72,9 @@ only_aggressor a v k (suc m) ha low high =
     let nv : k ≢ v = omega arith in
     rw (ne_eqb k v nv)
     (⊎_elim
-        (λ (h : (eqb k a ≡ true) × (k ≡ a)). let s : k ≡ a = h.1 in rw h.0 (ap (λ l. A ∷ l) (no_sides a v (k + 1) m (omega arith) (omega arith))))
-        (λ (h : (eqb k a ≡ false) × (k ≢ a)). let s : k ≢ a = h.1 in rw h.0 (only_aggressor a v (k + 1) m (omega arith) (omega arith) (omega arith)))
-        (eqb_tells k a))
+    (λ (h : (eqb k a ≡ true) × (k ≡ a)). let s : k ≡ a = h.1 in rw h.0 (ap (λ l. A ∷ l) (no_sides a v (k + 1) m (omega arith) (omega arith))))
+    (λ (h : (eqb k a ≡ false) × (k ≢ a)). let s : k ≢ a = h.1 in rw h.0 (only_aggressor a v (k + 1) m (omega arith) (omega arith) (omega arith)))
+    (eqb_tells k a))
 
 not_less : (a v : ℕ) → v ≤ a → nat_lt a v ≡ false
 not_less a v h = grind (arith, nat_tests)
@@ -89,19 +89,19 @@ range_sides a v k zero ne ka kv am vm = absurd (omega arith)
 range_sides a v k (suc m) ne ka kv am vm =
     ⊎_elim
     (λ (h : (eqb k a ≡ true) × (k ≡ a)).
-        let s : k ≡ a = h.1 in
-        rw h.0 (ap (λ l. A ∷ l) (only_victim a v (k + 1) m (omega arith) (omega arith) (omega arith)) ∙ sym (ap sides_up (lt-ltb a v (omega arith)))))
+    let s : k ≡ a = h.1 in
+    rw h.0 (ap (λ l. A ∷ l) (only_victim a v (k + 1) m (omega arith) (omega arith) (omega arith)) ∙ sym (ap sides_up (lt-ltb a v (omega arith)))))
     (λ (h : (eqb k a ≡ false) × (k ≢ a)).
-        let r : k ≢ a = h.1 in
-        rw h.0
-        (⊎_elim
-            (λ (g : (eqb k v ≡ true) × (k ≡ v)).
-                let s : k ≡ v = g.1 in
-                rw g.0 (ap (λ l. V ∷ l) (only_aggressor a v (k + 1) m (omega arith) (omega arith) (omega arith)) ∙ sym (ap sides_up (not_less a v (omega arith)))))
-            (λ (g : (eqb k v ≡ false) × (k ≢ v)).
-                let s : k ≢ v = g.1 in
-                rw g.0 (range_sides a v (k + 1) m ne (omega arith) (omega arith) (omega arith) (omega arith)))
-            (eqb_tells k v)))
+    let r : k ≢ a = h.1 in
+    rw h.0
+    (⊎_elim
+    (λ (g : (eqb k v ≡ true) × (k ≡ v)).
+    let s : k ≡ v = g.1 in
+    rw g.0 (ap (λ l. V ∷ l) (only_aggressor a v (k + 1) m (omega arith) (omega arith) (omega arith)) ∙ sym (ap sides_up (not_less a v (omega arith)))))
+    (λ (g : (eqb k v ≡ false) × (k ≢ v)).
+    let s : k ≢ v = g.1 in
+    rw g.0 (range_sides a v (k + 1) m ne (omega arith) (omega arith) (omega arith) (omega arith)))
+    (eqb_tells k v)))
     (eqb_tells k a)
 
 -- the same lists in reverse
@@ -133,9 +133,11 @@ distinct_last (z ∷ zs) x d out =
     not_last : (p q r s : Bool) → p ≡ false → q ≡ r → r || s ≡ false → p || (q || false) ≡ false
     not_last p q true s hp same h = cc
     not_last p q false s hp same h = rw (hp, same) refl
+
     not_rest : (r s : Bool) → r || s ≡ false → s ≡ false
     not_rest true s h = cc
     not_rest false s h = h
+
     same_test : (m n : ℕ) → eqb m n ≡ eqb n m
     same_test m n = grind (arith, nat_tests)
 
