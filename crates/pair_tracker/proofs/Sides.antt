@@ -204,3 +204,27 @@ addresses_sides a v n Downward ne ha hv =
     down : (b : Bool) → reverse (sides_up b) ≡ sides_in b Downward
     down true = refl
     down false = refl
+
+no_sides_past : (a v k m : ℕ) → k + m ≤ a → v < k → sides_of a v (range_with_len k m) ≡ []
+no_sides_past a v k zero ha hv = refl
+no_sides_past a v k (suc m) ha hv =
+    let na : k ≢ a = omega arith in
+    let nv : k ≢ v = omega arith in
+    rw (ne_eqb k a na, ne_eqb k v nv) (no_sides_past a v (k + 1) m (omega arith) (omega arith))
+
+-- the victim alone, where the other address is past the array
+range_victim : (a v k m : ℕ) → k + m ≤ a → k ≤ v → v < k + m → sides_of a v (range_with_len k m) ≡ V ∷ []
+range_victim a v k zero high low within = absurd (omega arith)
+range_victim a v k (suc m) high low within =
+    let na : k ≢ a = omega arith in
+    rw (ne_eqb k a na)
+    (⊎_elim
+        (λ (h : (eqb k v ≡ true) × (k ≡ v)). let s : k ≡ v = h.1 in rw h.0 (ap (λ l. V ∷ l) (no_sides_past a v (k + 1) m (omega arith) (omega arith))))
+        (λ (h : (eqb k v ≡ false) × (k ≢ v)). let s : k ≢ v = h.1 in rw h.0 (range_victim a v (k + 1) m (omega arith) (omega arith) (omega arith)))
+        (eqb_tells k v))
+
+pub addresses_victim : (a v n : ℕ) (d : Direction) → n ≤ a → v < n → sides_of a v (addresses d n) ≡ V ∷ []
+unfolding addresses
+addresses_victim a v n Upward high within = range_victim a v 0 n (omega arith) (omega arith) (omega arith)
+addresses_victim a v n Downward high within =
+    sides_of-reverse a v (range_with_len 0 n) ∙ ap reverse (range_victim a v 0 n (omega arith) (omega arith) (omega arith))
