@@ -1,0 +1,4 @@
+pub mod Projection
+pub mod Alone
+pub mod Closing
+pub mod Seeing
