@@ -11,7 +11,7 @@ use Rattle.cell_machine.specs.Seen.{cells_of, places_of, place_of, pair_at, Sees
 use Rattle.cell_machine.proofs.Projection.{pair_at-close_of, pair_at-step_victim, pair_at-step_aggressor, step_answer-victim, step_answer-aggressor, length-close_of, length-step_cells}
 
 sees_alone : (p : Primitive) (pair : Pair) → SeesPair p (places_of p) 0 (length (cells_of pair))
-sees_alone p pair = record { aggressor = refl; apart = omega arith; inside = omega arith; victim = omega arith }
+sees_alone p pair = record { aggressor = refl; apart = omega arith; victim = omega arith }
 
 cells_of-pair_at : (cells : List Bool) → length cells ≡ 2 → cells_of (pair_at cells 0 1) ≡ cells
 cells_of-pair_at [] e = cc
@@ -27,7 +27,7 @@ close_as_cells p pair =
 pub step_as_cells : (p : Primitive) (pair : Pair) (on : Side) (act : Act)
     → cells_of (pair_step p pair on act) ≡ step_cells p (places_of p) (cells_of pair) (place_of on) act
 step_as_cells p pair A act =
-    ap cells_of (sym (pair_at-step_aggressor p (places_of p) 0 (cells_of pair) act (sees_alone p pair)))
+    ap cells_of (sym (pair_at-step_aggressor p (places_of p) 0 (cells_of pair) act (sees_alone p pair) (omega arith)))
     ∙ cells_of-pair_at _ (length-step_cells p (places_of p) (cells_of pair) 0 act)
 step_as_cells p pair V act =
     ap cells_of (sym (pair_at-step_victim p (places_of p) 0 (cells_of pair) act (sees_alone p pair)))

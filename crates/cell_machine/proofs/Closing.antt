@@ -37,7 +37,7 @@ none_here None e = refl
 none_here (Some x) e = cc
 
 -- a primitive without an act leaves its victim in another state than the one it asks for
-left_state : (p : Primitive) → IsPrimitive p → not (has_act p) ≡ true → same_bit p.after p.vic.state ≡ false
+pub left_state : (p : Primitive) → IsPrimitive p → not (has_act p) ≡ true → same_bit p.after p.vic.state ≡ false
 left_state p is idle =
     let both = or_parts (is_some p.vic.act) (agg_has_act p.agg) (not-true _ idle) in
     differs p.after p.vic.state (is.wrong_state (none_here p.vic.act both.0))

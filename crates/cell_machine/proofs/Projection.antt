@@ -176,7 +176,7 @@ plain-elsewhere cells a v x act off_a off_v =
 -- a step of an array of which the match and the plain part are known
 sees-resized : (p : Primitive) (at : Places) (a size size' : ℕ) → size' ≡ size → SeesPair p at a size → SeesPair p at a size'
 sees-resized p at a size size' e sees =
-    record { aggressor = sees.aggressor; apart = sees.apart; inside = subst (λ n. a < n) (sym e) sees.inside; victim = subst (λ n. at.vic < n) (sym e) sees.victim }
+    record { aggressor = sees.aggressor; apart = sees.apart; victim = subst (λ n. at.vic < n) (sym e) sees.victim }
 
 pair_at-step : (p : Primitive) (at : Places) (a : ℕ) (cells : List Bool) (x : ℕ) (act : Act) → SeesPair p at a (length cells)
     → (own : Bool) (plain : Pair) → acts p at cells x act ≡ own → pair_at (plain_cells cells x act) a at.vic ≡ plain
@@ -201,12 +201,12 @@ pair_at-step_victim p at a cells act sees =
     pair_at-step p at a cells at.vic act sees _ _ (acts-victim p at a (length cells) cells act sees)
     (plain-victim cells a at.vic act sees.apart sees.victim)
 
-pub pair_at-step_aggressor : (p : Primitive) (at : Places) (a : ℕ) (cells : List Bool) (act : Act) → SeesPair p at a (length cells)
+pub pair_at-step_aggressor : (p : Primitive) (at : Places) (a : ℕ) (cells : List Bool) (act : Act) → SeesPair p at a (length cells) → a < length cells
     → pair_at (step_cells p at cells a act) a at.vic ≡ pair_step p (pair_at cells a at.vic) A act
 unfolding pair_step
-pair_at-step_aggressor p at a cells act sees =
+pair_at-step_aggressor p at a cells act sees inside =
     pair_at-step p at a cells a act sees _ _ (acts-aggressor p at a (length cells) cells act sees)
-    (plain-aggressor cells a at.vic act sees.apart sees.inside)
+    (plain-aggressor cells a at.vic act sees.apart inside)
 
 pub pair_at-step_elsewhere : (p : Primitive) (at : Places) (a : ℕ) (cells : List Bool) (x : ℕ) (act : Act) → SeesPair p at a (length cells)
     → x ≢ a → x ≢ at.vic → pair_at (step_cells p at cells x act) a at.vic ≡ pair_close p (pair_at cells a at.vic)
@@ -229,16 +229,16 @@ side_at-elsewhere a v x off_a off_v =
     ∙ ap (λ b. if b then Some A else None) (ne_eqb a x (λ e. off_a (sym e)))
 
 -- one act on any cell of an array of any length, as the pair sees it
-pub pair_at-step_cells : (p : Primitive) (at : Places) (a : ℕ) (cells : List Bool) (x : ℕ) (act : Act) → SeesPair p at a (length cells)
+pub pair_at-step_cells : (p : Primitive) (at : Places) (a : ℕ) (cells : List Bool) (x : ℕ) (act : Act) → SeesPair p at a (length cells) → a < length cells
     → pair_at (step_cells p at cells x act) a at.vic ≡ seen_step p (pair_at cells a at.vic) (side_at a at.vic x) act
-pair_at-step_cells p at a cells x act sees =
+pair_at-step_cells p at a cells x act sees inside =
     let pair : Pair = pair_at cells a at.vic in
     let victim : at.vic ≡ x → pair_at (step_cells p at cells x act) a at.vic ≡ seen_step p pair (side_at a at.vic x) act =
     λ e. subst (λ (y : ℕ). pair_at (step_cells p at cells y act) a at.vic ≡ seen_step p pair (side_at a at.vic y) act) e
     (pair_at-step_victim p at a cells act sees ∙ ap (λ s. seen_step p pair s act) (sym (side_at-victim a at.vic))) in
     let aggressor : a ≡ x → pair_at (step_cells p at cells x act) a at.vic ≡ seen_step p pair (side_at a at.vic x) act =
     λ e. subst (λ (y : ℕ). pair_at (step_cells p at cells y act) a at.vic ≡ seen_step p pair (side_at a at.vic y) act) e
-    (pair_at-step_aggressor p at a cells act sees ∙ ap (λ s. seen_step p pair s act) (sym (side_at-aggressor a at.vic sees.apart))) in
+    (pair_at-step_aggressor p at a cells act sees inside ∙ ap (λ s. seen_step p pair s act) (sym (side_at-aggressor a at.vic sees.apart))) in
     let elsewhere : x ≢ a → x ≢ at.vic → pair_at (step_cells p at cells x act) a at.vic ≡ seen_step p pair (side_at a at.vic x) act =
     λ off_a off_v. pair_at-step_elsewhere p at a cells x act sees off_a off_v
     ∙ ap (λ s. seen_step p pair s act) (sym (side_at-elsewhere a at.vic x off_a off_v)) in

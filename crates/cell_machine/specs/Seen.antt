@@ -38,9 +38,8 @@ seen_step p pair None act = pair_close p pair
 seen_step p pair (Some on) act = pair_step p pair on act
 
 -- an instance at these places is about cells a and at.vic of an array of this size: a is its aggressor's cell, or any
--- other cell, a bystander, where it has no aggressor
+-- other address, a bystander's or one past the array, where it has no aggressor
 pub record SeesPair (p : Primitive) (at : Places) (a : ℕ) (size : ℕ) : Type 0 where
   pub aggressor : at.agg ≡ (if has_aggressor p then Some a else None)
   pub apart : a ≢ at.vic
-  pub inside : a < size
   pub victim : at.vic < size

@@ -128,7 +128,7 @@ plain_others : (act : Act) (cells : List Bool) (x y : ℕ) → y ≢ x → cell 
 plain_others (Write bit) cells x y ne = get_or-set_other cells x y bit false ne
 plain_others Read cells x y ne = refl
 
-same_pair : (a v : ℕ) (c d : List Bool) → cell c a ≡ cell d a → cell c v ≡ cell d v → pair_at a v c ≡ pair_at a v d
+pub same_pair : (a v : ℕ) (c d : List Bool) → cell c a ≡ cell d a → cell c v ≡ cell d v → pair_at a v c ≡ pair_at a v d
 same_pair a v c d ea ev =
     let make : Bool → Bool → Pair = λ x y. record { a = x; v = y } in
     ap (λ x. make x (cell c v)) ea ∙ ap (make (cell d a)) ev
