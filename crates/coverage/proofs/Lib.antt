@@ -1,1 +1,2 @@
 pub mod EverySize
+pub mod Seen
