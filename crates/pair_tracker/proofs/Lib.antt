@@ -1,3 +1,9 @@
 pub mod Sides
 pub mod Projection
+pub mod Words
+pub mod Reaching
 pub mod Machines
+pub mod Offers
+pub mod Passing
+pub mod Found
+pub mod Surviving

@@ -13,12 +13,9 @@ use Rattle.cell_machine.specs.Pairs.{pair_holds, side_holds, pair_close, pair_st
 use Rattle.cell_machine.specs.Seen.{SeesPair}
 use Rattle.cell_machine.proofs.Projection.{length-close_of, length-plain_cells, length-set_if, length-step_cells, states_hold-seen, pair_at-close_of, acts-elsewhere, pair_at-step_victim, pair_at-step_aggressor, step_answer-victim, step_answer-aggressor, step_answer-elsewhere, cell-step_cells_other, cell-plain_cells_other}
 use Rattle.cell_machine.proofs.Closing.{left_state, pair_close-closed}
-use Rattle.pair_tracker.specs.Pairs.{Machine, pair_at, place_of}
+use Rattle.pair_tracker.specs.Pairs.{pair_at, place_of}
+pub use Rattle.pair_tracker.specs.Pairs.{machine_of}
 use Rattle.pair_tracker.proofs.Projection.{Laws, same_pair}
-
--- a primitive's two cells
-abbrev pub machine_of : Primitive → Machine
-machine_of p = record { step = pair_step p; answer = pair_answer p }
 
 -- the array is closed, as its two cells show
 abbrev pub ShowsClosed : Primitive → ℕ → ℕ → List Bool → Type 0

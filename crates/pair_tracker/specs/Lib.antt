@@ -1,3 +1,5 @@
 pub mod Pairs
 pub mod Placements
 pub mod Survivors
+pub mod Tracking
+pub mod Slots

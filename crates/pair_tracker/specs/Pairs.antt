@@ -7,6 +7,8 @@ use Rattle.march_core.specs.declared.operation.Op.{Op}
 use Rattle.march_core.specs.March.{MarchElement}
 use Rattle.march_core.specs.Visits.{Direction, Upward, Downward}
 use Rattle.array_sim.specs.Run.{act_of, is_wrong_of}
+use Rattle.fault_core.specs.Primitive.{Primitive}
+use Rattle.cell_machine.specs.Pairs.{pair_step, pair_answer}
 use Rattle.cell_machine.specs.declared.pair.Pair.{Pair}
 use Rattle.cell_machine.specs.declared.pair.Side.{Side}
 use Rattle.cell_machine.specs.declared.pair.Side.TheVariants.{A, V}
@@ -15,6 +17,10 @@ use Rattle.cell_machine.specs.declared.pair.Side.TheVariants.{A, V}
 pub record Machine : Type 0 where
   pub step : Pair → Side → Act → Pair
   pub answer : Pair → Side → Act → Option Bool
+
+-- what an instance of a primitive makes of its own two cells
+abbrev pub machine_of : Primitive → Machine
+machine_of p = record { step = λ q on act. pair_step p q on act; answer = λ q on act. pair_answer p q on act }
 
 -- the two cells after these operations on one of them, unless a read differs
 abbrev pub ops_run : Machine → Pair → Side → List Op → Option Pair

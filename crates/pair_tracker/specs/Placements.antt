@@ -1,5 +1,5 @@
 -- Where an instance stands in an array of two cells.
-use Rattle.std.specs.Prelude.{◌≡◌, ℕ, Option, Some, None, IsSome, List, Bool}
+use Rattle.std.specs.Prelude.{◌≡◌, ℕ, Some, None, IsSome, List, Bool}
 use Rattle.fault_core.specs.declared.cells.Places.{Places}
 use Rattle.fault_core.specs.Primitive.{Primitive}
 use Rattle.cell_machine.specs.declared.pair.Pair.{Pair}

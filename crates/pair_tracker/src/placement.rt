@@ -18,3 +18,13 @@ pub struct Survivor {
     pub pair: Pair,
     pub directions: u64,
 }
+
+/// A blank of a fixed list.
+impl Default for Survivor {
+    fn default() -> Self {
+        Survivor {
+            pair: Pair { a: false, v: false },
+            directions: 0,
+        }
+    }
+}
