@@ -1,8 +1,7 @@
 -- The machine of two bits is what an instance in an array of any size looks like from its own cells.
-use Rattle.std.proofs.Common.{◌≡◌, ◌≢◌, ◌<◌, ℕ, Bool, true, false, not, ◌&&◌, cond, Option, Some, None, List, length, refl, ap, sym, subst, ◌∙◌}
+use Rattle.std.proofs.Common.{◌≡◌, ◌≢◌, ◌<◌, ℕ, Bool, true, false, not, ◌&&◌, cond, List, length, refl, ap, sym, subst, ◌∙◌}
 use Rattle.std.specs.Prelude.{slice_set}
 use Rattle.fault_core.specs.declared.primitive.Act.{Act}
-use Rattle.fault_core.specs.declared.primitive.Act.TheVariants.{Write, Read}
 use Rattle.fault_core.specs.declared.cells.Places.{Places}
 use Rattle.fault_core.specs.Primitive.{Primitive, IsPrimitive, same_bit}
 use Rattle.fault_core.specs.Cells.{cell, has_act, states_hold, close_of, acted, acts, plain_cells, step_cells, step_answer}
@@ -11,7 +10,7 @@ use Rattle.cell_machine.specs.declared.pair.Side.{Side}
 use Rattle.cell_machine.specs.declared.pair.Side.TheVariants.{A, V}
 use Rattle.cell_machine.specs.Pairs.{pair_holds, side_holds, pair_close, pair_step, pair_answer, with_victim, IsClosed}
 use Rattle.cell_machine.specs.Seen.{SeesPair}
-use Rattle.cell_machine.proofs.Projection.{length-close_of, length-plain_cells, length-set_if, length-step_cells, states_hold-seen, pair_at-close_of, acts-elsewhere, pair_at-step_victim, pair_at-step_aggressor, step_answer-victim, step_answer-aggressor, step_answer-elsewhere, cell-step_cells_other, cell-plain_cells_other}
+use Rattle.cell_machine.proofs.Projection.{length-plain_cells, length-set_if, length-step_cells, states_hold-seen, pair_at-close_of, acts-elsewhere, pair_at-step_victim, pair_at-step_aggressor, step_answer-victim, step_answer-aggressor, step_answer-elsewhere, cell-step_cells_other, cell-plain_cells_other}
 use Rattle.cell_machine.proofs.Closing.{left_state, pair_close-closed}
 use Rattle.pair_tracker.specs.Pairs.{pair_at, place_of}
 pub use Rattle.pair_tracker.specs.Pairs.{machine_of}
@@ -47,9 +46,9 @@ plain_elsewhere p at a n cells x act is sees xa xv closed =
     let own : acts p at cells x act ≡ false = acts-elsewhere p at a n cells x act sees xa xv in
     let plain : List Bool = plain_cells cells x act in
     let same : pair_at a at.vic plain ≡ pair_at a at.vic cells =
-        same_pair a at.vic plain cells (cell-plain_cells_other cells x act a (λ e. xa (sym e))) (cell-plain_cells_other cells x act at.vic (λ e. xv (sym e))) in
+    same_pair a at.vic plain cells (cell-plain_cells_other cells x act a (λ e. xa (sym e))) (cell-plain_cells_other cells x act at.vic (λ e. xv (sym e))) in
     let idle : not (has_act p) && states_hold p at plain ≡ false =
-        ap (λ b. not (has_act p) && b) (states_hold-seen p at a n plain sees ∙ ap (pair_holds p) same) ∙ closed_test p (pair_at a at.vic cells) is closed in
+    ap (λ b. not (has_act p) && b) (states_hold-seen p at a n plain sees ∙ ap (pair_holds p) same) ∙ closed_test p (pair_at a at.vic cells) is closed in
     ap (λ b. close_of p at (cond b (slice_set plain at.vic p.after) plain)) own ∙ ap (λ b. cond b (slice_set plain at.vic p.after) plain) idle
 
 closes_all : (p : Primitive) (at : Places) (a n : ℕ) (cells : List Bool) (x : ℕ) (act : Act) → IsPrimitive p → SeesPair p at a n → length cells ≡ n
@@ -62,23 +61,25 @@ closes_all p at a n cells x act is sees size =
 
 pub laws_hold : (p : Primitive) (at : Places) (a n : ℕ) → IsPrimitive p → SeesPair p at a n → Laws p at a at.vic n (machine_of p) (ShowsClosed p a at.vic)
 laws_hold p at a n is sees = record {
-    own_answer = λ s cells act within size. answers s cells act;
-    own_pair = λ s cells act within size. pairs s cells act within size;
-    own_others = λ s cells act y ya yv. others s cells act y ya yv;
-    same_length = λ cells x act. length-step_cells p at cells x act;
-    closes = λ cells x act size. closes_all p at a n cells x act is sees size;
-    other_answer = λ cells x act xa xv. step_answer-elsewhere p at a n cells x act sees xa xv;
-    other_cells = λ cells x act xa xv closed. plain_elsewhere p at a n cells x act is sees xa xv closed;
+  own_answer = λ s cells act within size. answers s cells act;
+  own_pair = λ s cells act within size. pairs s cells act within size;
+  own_others = λ s cells act y ya yv. others s cells act y ya yv;
+  same_length = λ cells x act. length-step_cells p at cells x act;
+  closes = λ cells x act size. closes_all p at a n cells x act is sees size;
+  other_answer = λ cells x act xa xv. step_answer-elsewhere p at a n cells x act sees xa xv;
+  other_cells = λ cells x act xa xv closed. plain_elsewhere p at a n cells x act is sees xa xv closed;
 }
   where
     answers : (s : Side) (cells : List Bool) (act : Act) → step_answer p at cells (place_of a at.vic s) act ≡ pair_answer p (pair_at a at.vic cells) s act
     answers A cells act = step_answer-aggressor p at a n cells act sees
     answers V cells act = step_answer-victim p at a n cells act sees
+
     pairs : (s : Side) (cells : List Bool) (act : Act) → place_of a at.vic s < n → length cells ≡ n
         → pair_at a at.vic (step_cells p at cells (place_of a at.vic s) act) ≡ pair_step p (pair_at a at.vic cells) s act
     pairs A cells act within size =
         pair_at-step_aggressor p at a cells act (resized p at a n (length cells) size sees) (subst (λ k. a < k) (sym size) within)
     pairs V cells act within size = pair_at-step_victim p at a cells act (resized p at a n (length cells) size sees)
+
     others : (s : Side) (cells : List Bool) (act : Act) (y : ℕ) → y ≢ a → y ≢ at.vic → cell (step_cells p at cells (place_of a at.vic s) act) y ≡ cell cells y
     others A cells act y ya yv = cell-step_cells_other p at cells a act y yv ∙ cell-plain_cells_other cells a act y ya
     others V cells act y ya yv = cell-step_cells_other p at cells at.vic act y yv ∙ cell-plain_cells_other cells at.vic act y yv

@@ -1,9 +1,9 @@
 -- In which order a list of addresses visits two of them.
-use Rattle.std.proofs.Common.{◌≡◌, ◌≢◌, ◌+◌, ◌<◌, ◌≤◌, ℕ, zero, suc, Bool, true, false, cond, ◌||◌, eqb, nat_lt, List, [], ◌∷◌, ◌++◌, reverse, refl, ap, sym, subst, append-nil, ◌∙◌, ◌⊎◌, ⊎_elim, arith}
+use Rattle.std.proofs.Common.{◌≡◌, ◌≢◌, ◌+◌, ◌<◌, ◌≤◌, ℕ, zero, suc, Bool, true, false, cond, ◌||◌, eqb, nat_lt, List, [], ◌∷◌, ◌++◌, reverse, refl, ap, sym, subst, append-nil, ◌∙◌, ⊎_elim, arith}
 use Rattle.std.proofs.lemmas.List.{reverse-append}
 use Rattle.std.proofs.lemmas.Bool.{ne_eqb, lt-ltb}
 use Rattle.std.proofs.lemmas.Bool.Decides.{eqb_tells, nat_tests}
-use Rattle.std.specs.List.{AllByRecursion, range_with_len}
+use Rattle.std.specs.List.{range_with_len}
 use Rattle.march_core.specs.Visits.{Direction, Upward, Downward, addresses}
 use Rattle.cell_machine.specs.declared.pair.Side.{Side}
 use Rattle.cell_machine.specs.declared.pair.Side.TheVariants.{A, V}
@@ -219,9 +219,9 @@ range_victim a v k (suc m) high low within =
     let na : k ≢ a = omega arith in
     rw (ne_eqb k a na)
     (⊎_elim
-        (λ (h : (eqb k v ≡ true) × (k ≡ v)). let s : k ≡ v = h.1 in rw h.0 (ap (λ l. V ∷ l) (no_sides_past a v (k + 1) m (omega arith) (omega arith))))
-        (λ (h : (eqb k v ≡ false) × (k ≢ v)). let s : k ≢ v = h.1 in rw h.0 (range_victim a v (k + 1) m (omega arith) (omega arith) (omega arith)))
-        (eqb_tells k v))
+    (λ (h : (eqb k v ≡ true) × (k ≡ v)). let s : k ≡ v = h.1 in rw h.0 (ap (λ l. V ∷ l) (no_sides_past a v (k + 1) m (omega arith) (omega arith))))
+    (λ (h : (eqb k v ≡ false) × (k ≢ v)). let s : k ≢ v = h.1 in rw h.0 (range_victim a v (k + 1) m (omega arith) (omega arith) (omega arith)))
+    (eqb_tells k v))
 
 pub addresses_victim : (a v n : ℕ) (d : Direction) → n ≤ a → v < n → sides_of a v (addresses d n) ≡ V ∷ []
 unfolding addresses
