@@ -207,11 +207,11 @@ from_two p at n content more fits size = go at.agg p.agg refl refl fits.aggresso
 abbrev pub SeesAll : Primitive → Machine → (Pair → Pair) → Type 1
 SeesAll p m start = (at : Places) (n : ℕ) → FitsPlace p at n → Sees p m start at n
 
-caught_unless : (o : Option Miss) → (o ≡ None → ⊥) → IsSome o
+pub caught_unless : (o : Option Miss) → (o ≡ None → ⊥) → IsSome o
 caught_unless None h = absurd (h refl)
 caught_unless (Some m) h = refl
 
-not_caught : (o : Option Miss) → IsSome o → o ≡ None → ⊥
+pub not_caught : (o : Option Miss) → IsSome o → o ≡ None → ⊥
 not_caught None s n = cc
 not_caught (Some m) s n = cc
 

@@ -1,2 +1,3 @@
 pub mod EverySize
 pub mod Seen
+pub mod Judged

@@ -1,4 +1,11 @@
+ghost use Rattle.std.specs.Prelude.{◌≡◌, ◌↔◌, IsTrue, None, length};
+ghost use Rattle.march_core.specs.Visits.{directions_of};
+ghost use Rattle.array_sim.specs.Run.{outcome_of};
+ghost use Rattle.escape_array.specs.Escapes.{IsArray, places_of_escape};
+
+use array_sim::{Instance, simulate};
 use fault_core::Prim;
+use march_core::March;
 
 /// An array of two cells with one instance of a primitive, its content before closing (cell 0 first), and a
 /// direction word.
@@ -12,4 +19,18 @@ pub struct EscapeArray {
     pub content: [bool; 2],
     /// Element `i` stands at bit `63-i`, with 1 for downward.
     pub directions: u64,
+}
+
+/// Runs the march on the array, and answers whether no read differs.
+pub fn replays(march: &March, escape: &EscapeArray) -> bool
+    requires { IsArray march.now escape.now }
+    ensures { IsTrue result ↔ ((outcome_of march.now (directions_of escape.now.directions (length march.now)) escape.now.prim (places_of_escape escape.now) escape.now.content).miss ≡ None) }
+{
+    let mut cells = escape.content;
+    let instance = Instance {
+        prim: escape.prim,
+        agg: escape.agg.map(usize::from),
+        vic: usize::from(escape.vic),
+    };
+    simulate(march, &instance, &mut cells, escape.directions).is_none()
 }

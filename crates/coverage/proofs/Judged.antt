@@ -1,0 +1,120 @@
+-- Escapes of two cells decide detection.
+use Rattle.std.proofs.Common.{◌≡◌, ◌≢◌, ◌+◌, ◌-◌, ◌<◌, ◌≤◌, ◌^◌, ℕ, suc, Bool, true, false, Option, Some, None, List, [], ◌∷◌, ◌++◌, length, refl, ap, sym, subst, ◌∙◌, append_assoc, append-nil, arith}
+use Rattle.std.specs.Option.{IsSome}
+use Rattle.std.specs.Bool.{IsTrue}
+use Rattle.std.proofs.lemmas.Bool.{and_parts}
+use Rattle.fault_core.specs.declared.cells.Places.{Places}
+use Rattle.fault_core.specs.declared.primitive.Sense.{Sense}
+use Rattle.fault_core.specs.Primitive.{Primitive, IsPrimitive}
+use Rattle.fault_core.specs.Cells.{FitsPlace, FitsAgg}
+use Rattle.march_core.specs.March.{MarchElement, IsMarch}
+use Rattle.march_core.specs.Visits.{Direction, FitsWord, is_direction, allows, directions_of}
+use Rattle.array_sim.specs.Run.{outcome_of}
+use Rattle.array_sim.specs.Detection.{DetectsAt, Detects}
+use Rattle.cell_machine.specs.Pairs.{pair_close}
+use Rattle.pair_tracker.specs.declared.placement.Placement.{Placement}
+use Rattle.pair_tracker.specs.declared.placement.Placement.TheVariants.{Alone, Below, Above}
+use Rattle.pair_tracker.specs.Placements.{places_in, FitsPlacement}
+use Rattle.pair_tracker.specs.Pairs.{machine_of}
+use Rattle.pair_tracker.specs.Tracking.{weight_in}
+use Rattle.pair_tracker.proofs.Words.{IsPrefixWord, prefix_none, prefix_more, directions_more, rest_from_prefix, prefix_below}
+use Rattle.escape_array.specs.declared.escape.EscapeArray.{EscapeArray}
+use Rattle.escape_array.specs.Escapes.{IsArray, IsEscape, IsLeastEscape, places_of_escape}
+use Rattle.coverage.specs.declared.verdict.Verdict.{Verdict}
+use Rattle.coverage.specs.declared.verdict.Verdict.TheVariants.{Covered, Escape}
+use Rattle.coverage.specs.Verdicts.{IsVerdict, IsVerdictAt}
+use Rattle.coverage.proofs.EverySize.{to_two, passes_over, caught_unless, not_caught}
+use Rattle.coverage.proofs.Seen.{seen_all, two_cells_detect, one_size_detects}
+
+-- a word for a choice of directions
+pub record WordFor (ds : List Direction) (n word : ℕ) : Type 0 where
+  pub prefix : IsPrefixWord n word
+  pub stands : directions_of word n ≡ ds
+
+word_on : (front rest : List Direction) (i u : ℕ) → i + length rest ≤ 64 → WordFor front i u → (word : ℕ) × WordFor (front ++ rest) (i + length rest) word
+word_on front [] i u h w =
+    (u, subst (λ n. WordFor (front ++ []) n u) (let e : i ≡ i + 0 = omega arith in e) (subst (λ l. WordFor l i u) (sym (append-nil front)) w))
+word_on front (d ∷ rest) i u h w =
+    let below : i < 64 = omega arith in
+    let next : WordFor (front ++ d ∷ []) (i + 1) (u + weight_in (2 ^ (63 - i)) d) =
+        record { prefix = prefix_more i u d below w.prefix; stands = directions_more i u d below w.prefix ∙ ap (λ l. l ++ d ∷ []) w.stands } in
+    let on = word_on (front ++ d ∷ []) rest (i + 1) (u + weight_in (2 ^ (63 - i)) d) (omega arith) next in
+    let count : (i + 1) + length rest ≡ i + length (d ∷ rest) = omega arith in
+    (on.0, subst (λ n. WordFor (front ++ d ∷ rest) n on.0) count (subst (λ l. WordFor l ((i + 1) + length rest) on.0) (append_assoc front (d ∷ []) rest) on.1))
+
+word_for : (ds : List Direction) → length ds ≤ 64 → (word : ℕ) × WordFor ds (length ds) word
+word_for ds h =
+    let w = word_on [] ds 0 0 (omega arith) (record { prefix = prefix_none; stands = refl }) in
+    (w.0, subst (λ n. WordFor ds n w.0) (let e : 0 + length ds ≡ length ds = omega arith in e) w.1)
+
+one_each : (es : List MarchElement) (ds : List Direction) → is_direction es ds ≡ true → length ds ≡ length es
+one_each [] [] h = refl
+one_each [] (d ∷ ds) h = cc
+one_each (e ∷ es) [] h = cc
+one_each (e ∷ es) (d ∷ ds) h = ap suc (one_each es ds (and_parts (allows e.order d) (is_direction es ds) h).1)
+
+-- a fitting word for allowed directions
+pub fitting_word : (march : List MarchElement) (ds : List Direction) → IsMarch march → IsTrue (is_direction march ds)
+    → (word : ℕ) × (word < 2 ^ 64) × FitsWord march word × (directions_of word (length march) ≡ ds)
+fitting_word march ds is allowed =
+    let count : length ds ≡ length march = one_each march ds allowed in
+    let most : length march ≤ 64 = is.elements_within in
+    let w = word_for ds (omega (arith, count, most)) in
+    let at : WordFor ds (length march) w.0 = subst (λ n. WordFor ds n w.0) count w.1 in
+    (w.0, prefix_below (length march) w.0 most at.prefix
+    , record { allowed = ap (is_direction march) at.stands ∙ allowed; rest = rest_from_prefix (length march) w.0 at.prefix }
+    , at.stands)
+
+-- where no array of two cells passes, two cells detect
+pub no_escape_detects : (p : Primitive) (march : List MarchElement) → IsPrimitive p → IsMarch march
+    → ((e : EscapeArray) → e.prim ≡ p → IsEscape march e → ⊥) → DetectsAt 2 march p
+no_escape_detects p march is is_march none ds at content allowed fits size =
+    let t = to_two p at 2 content fits size in
+    let sees = seen_all p is in
+    let w = fitting_word march ds is_march allowed in
+    let e : EscapeArray = record { prim = p; agg = (places_in t.placement).agg; vic = (places_in t.placement).vic; content = t.moved; directions = w.0 } in
+    caught_unless (outcome_of march ds p at content).miss
+    (λ passes.
+        let moved : (outcome_of march ds p (places_in t.placement) t.moved).miss ≡ None =
+            passes_over p (machine_of p) (pair_close p) march ds is_march at 2 content fits (sees at 2 fits) size (places_in t.placement) 2 t.moved t.fits_place
+                (sees (places_in t.placement) 2 t.fits_place) t.size t.view passes in
+        none e refl (record {
+            array = record { placement = t.placement; fits = t.fits; places = refl; two_cells = t.size; is_word = w.1; directions = w.2 };
+            passes = ap (λ l. (outcome_of march l p (places_in t.placement) t.moved).miss) w.3 ∙ moved;
+        }))
+
+placement_fits : (p : Primitive) (placement : Placement) → FitsPlacement p placement → FitsPlace p (places_in placement) 2
+placement_fits p Alone h = record { victim = omega arith; aggressor = subst (λ s. FitsAgg s None 0 2) (sym h) tt }
+placement_fits p Below h = record { victim = omega arith; aggressor = given p.agg h }
+  where
+    given : (agg : Option Sense) → IsSome agg → FitsAgg agg (Some 0) 1 2
+    given None h = cc
+    given (Some s) h = (omega arith, omega arith)
+placement_fits p Above h = record { victim = omega arith; aggressor = given p.agg h }
+  where
+    given : (agg : Option Sense) → IsSome agg → FitsAgg agg (Some 1) 0 2
+    given None h = cc
+    given (Some s) h = (omega arith, omega arith)
+
+-- an array that passes is not detected
+pub escape_undetected : (march : List MarchElement) (e : EscapeArray) → IsEscape march e → DetectsAt 2 march e.prim → ⊥
+escape_undetected march e escape detects =
+    let a = escape.array in
+    let fits : FitsPlace e.prim (places_of_escape e) 2 = subst (λ at. FitsPlace e.prim at 2) (sym a.places) (placement_fits e.prim a.placement a.fits) in
+    not_caught (outcome_of march (directions_of e.directions (length march)) e.prim (places_of_escape e) e.content).miss
+        (detects (directions_of e.directions (length march)) (places_of_escape e) e.content a.directions.allowed fits a.two_cells) escape.passes
+
+-- the verdict from the search
+pub none_covered : (p : Primitive) (march : List MarchElement) → IsPrimitive p → IsMarch march
+    → ((e : EscapeArray) → e.prim ≡ p → IsEscape march e → ⊥) → Detects march p
+none_covered p march is is_march none = two_cells_detect p march is is_march (no_escape_detects p march is is_march none)
+
+pub escape_never : (p : Primitive) (march : List MarchElement) (e : EscapeArray) → IsPrimitive p → IsMarch march → e.prim ≡ p → IsEscape march e
+    → (size : ℕ) → 2 ≤ size → DetectsAt size march p → ⊥
+escape_never p march e is is_march same escape size more detects =
+    escape_undetected march e escape (subst (DetectsAt 2 march) (sym same) (one_size_detects p march is is_march size more detects))
+
+pub escape_verdict : (p : Primitive) (march : List MarchElement) (e : EscapeArray) → IsPrimitive p → IsMarch march → e.prim ≡ p → IsLeastEscape march e
+    → IsVerdict march p (Escape e)
+escape_verdict p march e is is_march same least =
+    (same, least, λ detects. escape_never p march e is is_march same least.escape 2 (omega arith) (detects 2 (omega arith)))

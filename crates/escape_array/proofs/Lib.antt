@@ -1,0 +1,2 @@
+pub mod LeastWords
+pub mod LeastArray

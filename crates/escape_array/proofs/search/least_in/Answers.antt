@@ -1,0 +1,27 @@
+use Rattle.std.proofs.Common.{◌≡◌, ◌<◌, ◌∙◌, ap, sym, subst, length, ℕ, Bool, List, Some, arith}
+use Rattle.escape_array.specs.Escapes.{content_number}
+use Rattle.escape_array.specs.Searching.{NoneBefore, IsLeastWord}
+use Rattle.escape_array.proofs.LeastArray.{none_so_far}
+use Rattle.escape_array.proofs.search.least_in.Goals as goal
+
+pub returns-in-Some : goal.returns-in-Some
+returns-in-Some c =
+    let same = c.escape_at.ensures.content in
+    let number : content_number c.escape_at.result.content ≡ c.loop-number.number = ap content_number same ∙ c.content_of-content.ensures.number in
+    record {
+      prim = c.escape_at.ensures.prim;
+      places = c.escape_at.ensures.places;
+      two_cells = ap length same ∙ c.content_of-content.ensures.two_cells;
+      before = subst (λ n. NoneBefore c.args.march.now c.args.prim.now c.args.placement n) (sym number) c.loop-number.invariant;
+      word =
+          subst (λ w. IsLeastWord c.args.march.now c.args.prim.now c.args.placement c.escape_at.result.content (Some w)) (sym c.escape_at.ensures.directions)
+          (subst (λ l. IsLeastWord c.args.march.now c.args.prim.now c.args.placement l (Some c.in-Some.directions)) (sym same) c.in-Some.ensures);
+    }
+
+pub loop-number-preserved : goal.loop-number-preserved
+loop-number-preserved c =
+    none_so_far c.args.march.now c.args.prim.now c.args.placement c.loop-number.number c.content_of-content.result
+    c.content_of-content.ensures.two_cells c.content_of-content.ensures.number c.loop-number.invariant c.in_default.ensures
+
+pub returns : goal.returns
+returns c = λ content two low word through. c.loop-number.invariant content two (omega (arith, low, c.loop-number-test.false)) word through

@@ -1,0 +1,10 @@
+use Rattle.std.proofs.Common.{◌∙◌, ap, subst, sym, None}
+use Rattle.pair_tracker.specs.Survivors.{AreSurvivors}
+use Rattle.escape_array.specs.Searching.{least_of}
+use Rattle.escape_array.proofs.LeastWords.{least_word_found}
+use Rattle.escape_array.proofs.search.least_word.Goals as goal
+
+pub returns : goal.returns
+returns c =
+    least_word_found c.args.march.now c.args.prim.now c.args.placement c.args.content c.survivors-found.result.items c.survivors-found.ensures
+    c.least_directions.result (c.least_directions.ensures ∙ ap (least_of None) c.as_slice.ensures.value)
