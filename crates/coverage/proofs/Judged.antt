@@ -22,7 +22,7 @@ use Rattle.escape_array.specs.declared.escape.EscapeArray.{EscapeArray}
 use Rattle.escape_array.specs.Escapes.{IsArray, IsEscape, IsLeastEscape, places_of_escape}
 use Rattle.coverage.specs.declared.verdict.Verdict.{Verdict}
 use Rattle.coverage.specs.declared.verdict.Verdict.TheVariants.{Covered, Escape}
-use Rattle.coverage.specs.Verdicts.{IsVerdict, IsVerdictAt}
+use Rattle.coverage.specs.Verdicts.{IsVerdict, IsVerdictAt, AreVerdicts}
 use Rattle.coverage.proofs.EverySize.{to_two, passes_over, caught_unless, not_caught}
 use Rattle.coverage.proofs.Seen.{seen_all, two_cells_detect, one_size_detects}
 
@@ -118,3 +118,11 @@ pub escape_verdict : (p : Primitive) (march : List MarchElement) (e : EscapeArra
     → IsVerdict march p (Escape e)
 escape_verdict p march e is is_march same least =
     (same, least, λ detects. escape_never p march e is is_march same least.escape 2 (omega arith) (detects 2 (omega arith)))
+
+-- one more verdict
+pub one_more : (march : List MarchElement) (ps : List Primitive) (vs : List Verdict) (p : Primitive) (v : Verdict)
+    → AreVerdicts march ps vs → IsVerdict march p v → AreVerdicts march (ps ++ p ∷ []) (vs ++ v ∷ [])
+one_more march [] [] p v h k = (k, tt)
+one_more march [] (w ∷ ws) p v h k = absurd h
+one_more march (q ∷ qs) [] p v h k = absurd h
+one_more march (q ∷ qs) (w ∷ ws) p v h k = (h.0, one_more march qs ws p v h.1 k)

@@ -1,8 +1,8 @@
 //! Verdicts on primitives, for arrays of every size.
 #![tactic(auto)]
 
-mod judge;
+mod judging;
 mod verdict;
 
-pub use judge::{judge, judge_all};
+pub use judging::{judge, judge_all};
 pub use verdict::Verdict;
