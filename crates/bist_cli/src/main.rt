@@ -32,7 +32,11 @@ fn main(rt: HostRuntime) -> ExitCode {
 }
 
 /// Runs the command of the words behind the program's own name.
-fn run_words<H: bist_host::Host>(alloc: Global, args: Args, host: &mut H) -> Result<u8, AllocError> {
+fn run_words<H: bist_host::Host>(
+    alloc: Global,
+    args: Args,
+    host: &mut H,
+) -> Result<u8, AllocError> {
     let words: Vec<String> = args.skip(1).collect(alloc)?;
     let texts: Vec<&str> = words.iter().map(|word| word.as_str()).collect(alloc)?;
     Ok(run(alloc, &texts, host).status)

@@ -63,14 +63,14 @@ ordered p at n fits d = go at.agg p.agg fits.aggressor
 pub shown : (p : Primitive) (m : Machine) (start : Pair → Pair) (at : Places) (n : ℕ) → FitsPlace p at n → Sees p m start at n
     → (march : List MarchElement) (ds : List Direction) (content : List Bool) → IsMarch march → length content ≡ n
     → Shows (beside_of at.agg n) at.vic (order_run m (order_of at.agg at.vic) (start (pair_at (beside_of at.agg n) at.vic content)) march ds)
-        (outcome_of march ds p at content) (λ c. length c ≡ n)
+    (outcome_of march ds p at content) (λ c. length c ≡ n)
 shown p m start at n fits sees march ds content is_march size =
     let a : ℕ = beside_of at.agg n in
     let closed : List Bool = close_of p at content in
     let closed_size : length closed ≡ n = sees.same_length content ∙ size in
     let run = order_visit p at a at.vic n m sees.IsClosed sees.laws (apart p at n fits) (order_of at.agg at.vic) (ordered p at n fits) march ds 0 None
-        (last_after None (all_ops march)) closed (consistent_scan (all_ops march) is_march.consistent) closed_size (sees.closes content size)
-        (λ y yn ya yv bit is. cc) in
+    (last_after None (all_ops march)) closed (consistent_scan (all_ops march) is_march.consistent) closed_size (sees.closes content size)
+    (λ y yn ya yv bit is. cc) in
     let moved = subst (λ q. Shows a at.vic (order_run m (order_of at.agg at.vic) q march ds) (run_of p at closed (visits march ds n)) (λ c. length c ≡ n)) (sees.starts content size) run in
     subst (λ k. Shows a at.vic (order_run m (order_of at.agg at.vic) (start (pair_at a at.vic content)) march ds) (run_of p at closed (visits march ds k)) (λ c. length c ≡ n)) (sym size) moved
 
@@ -92,11 +92,11 @@ passes_over p m start march ds is_march at n content fits sees size to k moved f
     let s = shown p m start at n fits sees march ds content is_march size in
     let t = shown p m start to k fits' sees' march ds moved is_march size' in
     let same : order_run m (order_of to.agg to.vic) (start (pair_at (beside_of to.agg k) to.vic moved)) march ds ≡ order_run m (order_of at.agg at.vic) (start (pair_at (beside_of at.agg n) at.vic content)) march ds =
-        ap (λ q. order_run m (order_of to.agg to.vic) (start q) march ds) (sym view.pair)
-        ∙ ap (λ o. order_run m o (start (pair_at (beside_of at.agg n) at.vic content)) march ds) (sym view.order) in
+    ap (λ q. order_run m (order_of to.agg to.vic) (start q) march ds) (sym view.pair)
+    ∙ ap (λ o. order_run m o (start (pair_at (beside_of at.agg n) at.vic content)) march ds) (sym view.order) in
     same_pass (beside_of at.agg n) at.vic (beside_of to.agg k) to.vic (order_run m (order_of at.agg at.vic) (start (pair_at (beside_of at.agg n) at.vic content)) march ds)
-        (outcome_of march ds p at content) (outcome_of march ds p to moved) (λ c. length c ≡ n) (λ c. length c ≡ k) s
-        (subst (λ r. Shows (beside_of to.agg k) to.vic r (outcome_of march ds p to moved) (λ c. length c ≡ k)) same t) none
+    (outcome_of march ds p at content) (outcome_of march ds p to moved) (λ c. length c ≡ n) (λ c. length c ≡ k) s
+    (subst (λ r. Shows (beside_of to.agg k) to.vic r (outcome_of march ds p to moved) (λ c. length c ≡ k)) same t) none
 
 -- an array of two cells in one of the placements
 pub record TwoCells (p : Primitive) (at : Places) (n : ℕ) (content : List Bool) : Type 0 where
@@ -118,17 +118,17 @@ to_two p at n content fits size = go at.agg p.agg refl refl fits.aggressor
     go None None e f h =
         let alone : FitsAgg p.agg None 0 2 = subst (λ s. FitsAgg s None 0 2) (sym f) tt in
         record {
-            placement = Alone;
-            moved = cell content at.vic ∷ false ∷ [];
-            fits = f;
-            fits_place = record { victim = omega arith; aggressor = alone };
-            size = refl;
-            view = record {
-                order = ap (λ place. order_of place at.vic) e;
-                pair =
-                    ap (λ place. pair_at (beside_of place n) at.vic content) e
-                    ∙ same_pair (cell content n) (cell content at.vic) false (cell content at.vic) (get_or_past content n false (omega arith)) refl;
-            };
+          placement = Alone;
+          moved = cell content at.vic ∷ false ∷ [];
+          fits = f;
+          fits_place = record { victim = omega arith; aggressor = alone };
+          size = refl;
+          view = record {
+            order = ap (λ place. order_of place at.vic) e;
+            pair =
+                ap (λ place. pair_at (beside_of place n) at.vic content) e
+                ∙ same_pair (cell content n) (cell content at.vic) false (cell content at.vic) (get_or_past content n false (omega arith)) refl;
+          };
         }
     go None (Some sense) e f h = absurd h
     go (Some a) None e f h = absurd h
@@ -136,32 +136,34 @@ to_two p at n content fits size = go at.agg p.agg refl refl fits.aggressor
       where
         is_two : IsSome p.agg
         is_two = ap is_some f
+
         fits_agg : (x y : ℕ) → x < 2 → x ≢ y → FitsAgg p.agg (Some x) y 2
         fits_agg x y within ne = subst (λ s. FitsAgg s (Some x) y 2) (sym f) (within, ne)
+
         by_order : (below : Bool) → nat_lt a at.vic ≡ below → TwoCells p at n content
         by_order true lt =
             record {
-                placement = Below;
-                moved = cell content a ∷ cell content at.vic ∷ [];
-                fits = is_two;
-                fits_place = record { victim = omega arith; aggressor = fits_agg 0 1 (omega arith) (omega arith) };
-                size = refl;
-                view = record {
-                    order = ap (λ place. order_of place at.vic) e ∙ ap (λ b. λ d. sides_in b d) lt;
-                    pair = ap (λ place. pair_at (beside_of place n) at.vic content) e;
-                };
+              placement = Below;
+              moved = cell content a ∷ cell content at.vic ∷ [];
+              fits = is_two;
+              fits_place = record { victim = omega arith; aggressor = fits_agg 0 1 (omega arith) (omega arith) };
+              size = refl;
+              view = record {
+                order = ap (λ place. order_of place at.vic) e ∙ ap (λ b. λ d. sides_in b d) lt;
+                pair = ap (λ place. pair_at (beside_of place n) at.vic content) e;
+              };
             }
         by_order false lt =
             record {
-                placement = Above;
-                moved = cell content at.vic ∷ cell content a ∷ [];
-                fits = is_two;
-                fits_place = record { victim = omega arith; aggressor = fits_agg 1 0 (omega arith) (omega arith) };
-                size = refl;
-                view = record {
-                    order = ap (λ place. order_of place at.vic) e ∙ ap (λ b. λ d. sides_in b d) lt;
-                    pair = ap (λ place. pair_at (beside_of place n) at.vic content) e;
-                };
+              placement = Above;
+              moved = cell content at.vic ∷ cell content a ∷ [];
+              fits = is_two;
+              fits_place = record { victim = omega arith; aggressor = fits_agg 1 0 (omega arith) (omega arith) };
+              size = refl;
+              view = record {
+                order = ap (λ place. order_of place at.vic) e ∙ ap (λ b. λ d. sides_in b d) lt;
+                pair = ap (λ place. pair_at (beside_of place n) at.vic content) e;
+              };
             }
 
 -- an array of two cells with more cells behind it
@@ -174,34 +176,44 @@ from_two p at n content more fits size = go at.agg p.agg refl refl fits.aggresso
   where
     long : length (longer n content) ≡ n
     long = omega (arith, length-append content (replicate (n - 2) false), length-replicate (n - 2) false, size, more)
+
     held : (x : ℕ) → x < 2 → cell content x ≡ cell (longer n content) x
     held x h = sym (get_or-append content (replicate (n - 2) false) false x (omega (arith, size, h)))
+
     victim : at.vic < n
     victim = omega (arith, fits.victim, more)
+
     fitting : (place : Option ℕ) (agg : Option Sense) → at.agg ≡ place → p.agg ≡ agg → FitsAgg agg place at.vic n → FitsPlace p at n
     fitting place agg e f h =
         record { victim = victim; aggressor = subst (λ x. FitsAgg x at.agg at.vic n) (sym f) (subst (λ x. FitsAgg agg x at.vic n) (sym e) h) }
+
     go : (place : Option ℕ) (agg : Option Sense) → at.agg ≡ place → p.agg ≡ agg → FitsAgg agg place at.vic 2
         → FitsPlace p at n × (length (longer n content) ≡ n) × SameView at 2 content at n (longer n content)
-    go None None e f h =
-        (fitting None None e f tt, long, record {
-            order = refl;
-            pair =
-                ap (λ place. pair_at (beside_of place 2) at.vic content) e
-                ∙ same_pair (cell content 2) (cell content at.vic) (cell (longer n content) n) (cell (longer n content) at.vic)
-                    (get_or_past content 2 false (omega (arith, size)) ∙ sym (get_or_past (longer n content) n false (omega (arith, long)))) (held at.vic fits.victim)
-                ∙ sym (ap (λ place. pair_at (beside_of place n) at.vic (longer n content)) e);
-        })
+    go None None e f h = (
+      fitting None None e f tt,
+      long,
+      record {
+        order = refl;
+        pair =
+            ap (λ place. pair_at (beside_of place 2) at.vic content) e
+            ∙ same_pair (cell content 2) (cell content at.vic) (cell (longer n content) n) (cell (longer n content) at.vic)
+            (get_or_past content 2 false (omega (arith, size)) ∙ sym (get_or_past (longer n content) n false (omega (arith, long)))) (held at.vic fits.victim)
+            ∙ sym (ap (λ place. pair_at (beside_of place n) at.vic (longer n content)) e);
+      },
+    )
     go None (Some sense) e f h = absurd h
     go (Some a) None e f h = absurd h
-    go (Some a) (Some sense) e f h =
-        (fitting (Some a) (Some sense) e f (omega (arith, h.0, more), h.1), long, record {
-            order = refl;
-            pair =
-                ap (λ place. pair_at (beside_of place 2) at.vic content) e
-                ∙ same_pair (cell content a) (cell content at.vic) (cell (longer n content) a) (cell (longer n content) at.vic) (held a h.0) (held at.vic fits.victim)
-                ∙ sym (ap (λ place. pair_at (beside_of place n) at.vic (longer n content)) e);
-        })
+    go (Some a) (Some sense) e f h = (
+      fitting (Some a) (Some sense) e f (omega (arith, h.0, more), h.1),
+      long,
+      record {
+        order = refl;
+        pair =
+            ap (λ place. pair_at (beside_of place 2) at.vic content) e
+            ∙ same_pair (cell content a) (cell content at.vic) (cell (longer n content) a) (cell (longer n content) at.vic) (held a h.0) (held at.vic fits.victim)
+            ∙ sym (ap (λ place. pair_at (beside_of place n) at.vic (longer n content)) e);
+      },
+    )
 
 -- the instance looks so in every place of every array
 abbrev pub SeesAll : Primitive → Machine → (Pair → Pair) → Type 1
@@ -222,9 +234,9 @@ at_each_size p m start sees march is_march n more two ds at content allowed fits
     let t = to_two p at n content fits size in
     caught_unless (outcome_of march ds p at content).miss
     (λ none.
-        not_caught (outcome_of march ds p (places_in t.placement) t.moved).miss (two ds (places_in t.placement) t.moved allowed t.fits_place t.size)
-        (passes_over p m start march ds is_march at n content fits (sees at n fits) size (places_in t.placement) 2 t.moved t.fits_place
-            (sees (places_in t.placement) 2 t.fits_place) t.size t.view none))
+    not_caught (outcome_of march ds p (places_in t.placement) t.moved).miss (two ds (places_in t.placement) t.moved allowed t.fits_place t.size)
+    (passes_over p m start march ds is_march at n content fits (sees at n fits) size (places_in t.placement) 2 t.moved t.fits_place
+    (sees (places_in t.placement) 2 t.fits_place) t.size t.view none))
 
 pub at_two_cells : (p : Primitive) (m : Machine) (start : Pair → Pair) → SeesAll p m start → (march : List MarchElement) → IsMarch march → (n : ℕ) → 2 ≤ n
     → DetectsAt n march p → DetectsAt 2 march p
@@ -232,5 +244,5 @@ at_two_cells p m start sees march is_march n more all ds at content allowed fits
     let l = from_two p at n content more fits size in
     caught_unless (outcome_of march ds p at content).miss
     (λ none.
-        not_caught (outcome_of march ds p at (longer n content)).miss (all ds at (longer n content) allowed l.0 l.1)
-        (passes_over p m start march ds is_march at 2 content fits (sees at 2 fits) size at n (longer n content) l.0 (sees at n l.0) l.1 l.2 none))
+    not_caught (outcome_of march ds p at (longer n content)).miss (all ds at (longer n content) allowed l.0 l.1)
+    (passes_over p m start march ds is_march at 2 content fits (sees at 2 fits) size at n (longer n content) l.0 (sees at n l.0) l.1 l.2 none))

@@ -37,7 +37,7 @@ word_on front [] i u h w =
 word_on front (d ∷ rest) i u h w =
     let below : i < 64 = omega arith in
     let next : WordFor (front ++ d ∷ []) (i + 1) (u + weight_in (2 ^ (63 - i)) d) =
-        record { prefix = prefix_more i u d below w.prefix; stands = directions_more i u d below w.prefix ∙ ap (λ l. l ++ d ∷ []) w.stands } in
+    record { prefix = prefix_more i u d below w.prefix; stands = directions_more i u d below w.prefix ∙ ap (λ l. l ++ d ∷ []) w.stands } in
     let on = word_on (front ++ d ∷ []) rest (i + 1) (u + weight_in (2 ^ (63 - i)) d) (omega arith) next in
     let count : (i + 1) + length rest ≡ i + length (d ∷ rest) = omega arith in
     (on.0, subst (λ n. WordFor (front ++ d ∷ rest) n on.0) count (subst (λ l. WordFor l ((i + 1) + length rest) on.0) (append_assoc front (d ∷ []) rest) on.1))
@@ -60,10 +60,12 @@ fitting_word march ds is allowed =
     let count : length ds ≡ length march = one_each march ds allowed in
     let most : length march ≤ 64 = is.elements_within in
     let w = word_for ds (omega (arith, count, most)) in
-    let at : WordFor ds (length march) w.0 = subst (λ n. WordFor ds n w.0) count w.1 in
-    (w.0, prefix_below (length march) w.0 most at.prefix
-    , record { allowed = ap (is_direction march) at.stands ∙ allowed; rest = rest_from_prefix (length march) w.0 at.prefix }
-    , at.stands)
+    let at : WordFor ds (length march) w.0 = subst (λ n. WordFor ds n w.0) count w.1 in (
+      w.0,
+      prefix_below (length march) w.0 most at.prefix,
+      record { allowed = ap (is_direction march) at.stands ∙ allowed; rest = rest_from_prefix (length march) w.0 at.prefix },
+      at.stands,
+    )
 
 -- where no array of two cells passes, two cells detect
 pub no_escape_detects : (p : Primitive) (march : List MarchElement) → IsPrimitive p → IsMarch march
@@ -75,13 +77,13 @@ no_escape_detects p march is is_march none ds at content allowed fits size =
     let e : EscapeArray = record { prim = p; agg = (places_in t.placement).agg; vic = (places_in t.placement).vic; content = t.moved; directions = w.0 } in
     caught_unless (outcome_of march ds p at content).miss
     (λ passes.
-        let moved : (outcome_of march ds p (places_in t.placement) t.moved).miss ≡ None =
-            passes_over p (machine_of p) (pair_close p) march ds is_march at 2 content fits (sees at 2 fits) size (places_in t.placement) 2 t.moved t.fits_place
-                (sees (places_in t.placement) 2 t.fits_place) t.size t.view passes in
-        none e refl (record {
-            array = record { placement = t.placement; fits = t.fits; places = refl; two_cells = t.size; is_word = w.1; directions = w.2 };
-            passes = ap (λ l. (outcome_of march l p (places_in t.placement) t.moved).miss) w.3 ∙ moved;
-        }))
+    let moved : (outcome_of march ds p (places_in t.placement) t.moved).miss ≡ None =
+    passes_over p (machine_of p) (pair_close p) march ds is_march at 2 content fits (sees at 2 fits) size (places_in t.placement) 2 t.moved t.fits_place
+    (sees (places_in t.placement) 2 t.fits_place) t.size t.view passes in
+    none e refl (record {
+      array = record { placement = t.placement; fits = t.fits; places = refl; two_cells = t.size; is_word = w.1; directions = w.2 };
+      passes = ap (λ l. (outcome_of march l p (places_in t.placement) t.moved).miss) w.3 ∙ moved;
+    }))
 
 placement_fits : (p : Primitive) (placement : Placement) → FitsPlacement p placement → FitsPlace p (places_in placement) 2
 placement_fits p Alone h = record { victim = omega arith; aggressor = subst (λ s. FitsAgg s None 0 2) (sym h) tt }
@@ -102,7 +104,7 @@ escape_undetected march e escape detects =
     let a = escape.array in
     let fits : FitsPlace e.prim (places_of_escape e) 2 = subst (λ at. FitsPlace e.prim at 2) (sym a.places) (placement_fits e.prim a.placement a.fits) in
     not_caught (outcome_of march (directions_of e.directions (length march)) e.prim (places_of_escape e) e.content).miss
-        (detects (directions_of e.directions (length march)) (places_of_escape e) e.content a.directions.allowed fits a.two_cells) escape.passes
+    (detects (directions_of e.directions (length march)) (places_of_escape e) e.content a.directions.allowed fits a.two_cells) escape.passes
 
 -- the verdict from the search
 pub none_covered : (p : Primitive) (march : List MarchElement) → IsPrimitive p → IsMarch march

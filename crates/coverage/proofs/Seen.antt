@@ -31,13 +31,13 @@ seen_all p is at n fits =
     let a : ℕ = beside_of at.agg n in
     let sees : SeesPair p at a n = sees_itself p at n fits in
     let starts : (content : List Bool) → length content ≡ n → pair_at a at.vic (close_of p at content) ≡ pair_close p (pair_at a at.vic content) =
-        λ content size. pair_at-close_of p at a content (subst (SeesPair p at a) (sym size) sees) in
+    λ content size. pair_at-close_of p at a content (subst (SeesPair p at a) (sym size) sees) in
     record {
-        IsClosed = ShowsClosed p a at.vic;
-        laws = laws_hold p at a n is sees;
-        starts = starts;
-        closes = λ content size. subst (IsClosed p) (sym (starts content size)) (pair_close-closed p (pair_at a at.vic content) is);
-        same_length = λ content. length-close_of p at content;
+      IsClosed = ShowsClosed p a at.vic;
+      laws = laws_hold p at a n is sees;
+      starts = starts;
+      closes = λ content size. subst (IsClosed p) (sym (starts content size)) (pair_close-closed p (pair_at a at.vic content) is);
+      same_length = λ content. length-close_of p at content;
     }
 
 -- detection at two cells is detection at every size, and detection at any one size is detection at two cells

@@ -66,8 +66,8 @@ pub none_so_far : (march : List MarchElement) (p : Primitive) (placement : Place
 none_so_far march p placement number content two is before none c size low word through =
     ⊎_elim
     (λ (h : content_number c ≡ number).
-        let same : content ≡ c = same_content content c two size (is ∙ sym h) in
-        none word (subst (λ d. LetsThrough march p placement d word) (sym same) through))
+    let same : content ≡ c = same_content content c two size (is ∙ sym h) in
+    none word (subst (λ d. LetsThrough march p placement d word) (sym same) through))
     (λ (h : content_number c < number). before c size h word through)
     (eq_or_lt (content_number c) number low)
   where
@@ -77,14 +77,15 @@ none_so_far march p placement number content two is before none c size low word 
 -- an escape in a placement is let through there
 lets_through : (march : List MarchElement) (e : EscapeArray) (escape : IsEscape march e) (placement : Placement) → places_of_escape e ≡ places_in placement
     → LetsThrough march e.prim placement e.content e.directions
-lets_through march e escape placement places =
-    (pair_in placement (two_cell_run march e.prim placement e.content e.directions).cells
-    , record {
-        is_word = escape.array.is_word;
-        fits = escape.array.directions;
-        passes = ap (λ at. (outcome_of march (directions_of e.directions (length march)) e.prim at e.content).miss) (sym places) ∙ escape.passes;
-        ends = refl;
-    })
+lets_through march e escape placement places = (
+  pair_in placement (two_cell_run march e.prim placement e.content e.directions).cells,
+  record {
+    is_word = escape.array.is_word;
+    fits = escape.array.directions;
+    passes = ap (λ at. (outcome_of march (directions_of e.directions (length march)) e.prim at e.content).miss) (sym places) ∙ escape.passes;
+    ends = refl;
+  },
+)
 
 -- what the search in a placement finds is an escape
 pub found_escape : (march : List MarchElement) (p : Primitive) (placement : Placement) (e : EscapeArray) → FitsPlacement p placement → IsLeastIn march p placement e → IsEscape march e
@@ -92,17 +93,17 @@ found_escape march p placement e fits least =
     let through = least.word.0.1 in
     let same : p ≡ e.prim = sym least.prim in
     record {
-        array = record {
-            placement = placement;
-            fits = subst (λ q. FitsPlacement q placement) same fits;
-            places = least.places;
-            two_cells = least.two_cells;
-            is_word = through.is_word;
-            directions = through.fits;
-        };
-        passes =
-            ap (λ at. (outcome_of march (directions_of e.directions (length march)) e.prim at e.content).miss) least.places
-            ∙ ap (λ q. (outcome_of march (directions_of e.directions (length march)) q (places_in placement) e.content).miss) (sym same) ∙ through.passes;
+      array = record {
+        placement = placement;
+        fits = subst (λ q. FitsPlacement q placement) same fits;
+        places = least.places;
+        two_cells = least.two_cells;
+        is_word = through.is_word;
+        directions = through.fits;
+      };
+      passes =
+          ap (λ at. (outcome_of march (directions_of e.directions (length march)) e.prim at e.content).miss) least.places
+          ∙ ap (λ q. (outcome_of march (directions_of e.directions (length march)) q (places_in placement) e.content).miss) (sym same) ∙ through.passes;
     }
 
 -- it is no greater than another in the placement
@@ -111,17 +112,19 @@ pub no_greater : (march : List MarchElement) (p : Primitive) (placement : Placem
 no_greater march p placement e f least same escape places =
     let through : LetsThrough march p placement f.content f.directions = subst (λ q. LetsThrough march q placement f.content f.directions) same (lets_through march f escape placement places) in
     let agg : e.agg ≡ f.agg = ap (λ (at : Places). at.agg) (least.places ∙ sym places) in
-    inr (ap placement_number agg
-    , ⊎_elim
-        (λ (h : content_number e.content ≡ content_number f.content).
-            let content : f.content ≡ e.content = same_content f.content e.content escape.array.two_cells least.two_cells (sym h) in
-            inr (h, least.word.1 f.directions (subst (λ c. LetsThrough march p placement c f.directions) content through)))
-        (λ (h : (content_number e.content < content_number f.content) ⊎ (content_number f.content < content_number e.content)).
-            ⊎_elim
-            (λ (k : content_number e.content < content_number f.content). inl k)
-            (λ (k : content_number f.content < content_number e.content). absurd (least.before f.content escape.array.two_cells k f.directions through))
-            h)
-        (trichotomy (content_number e.content) (content_number f.content)))
+    inr (
+      ap placement_number agg,
+      ⊎_elim
+          (λ (h : content_number e.content ≡ content_number f.content).
+          let content : f.content ≡ e.content = same_content f.content e.content escape.array.two_cells least.two_cells (sym h) in
+          inr (h, least.word.1 f.directions (subst (λ c. LetsThrough march p placement c f.directions) content through)))
+          (λ (h : (content_number e.content < content_number f.content) ⊎ (content_number f.content < content_number e.content)).
+          ⊎_elim
+          (λ (k : content_number e.content < content_number f.content). inl k)
+          (λ (k : content_number f.content < content_number e.content). absurd (least.before f.content escape.array.two_cells k f.directions through))
+          h)
+          (trichotomy (content_number e.content) (content_number f.content)),
+    )
   where
     trichotomy : (m n : ℕ) → (m ≡ n) ⊎ ((m < n) ⊎ (n < m))
     trichotomy m n =
@@ -168,13 +171,15 @@ pub least_alone : (march : List MarchElement) (p : Primitive) → is_some p.agg 
     → MatchOption r (NoneBefore march p Alone 4) (λ e. IsLeastIn march p Alone e) → MatchOption r (NoEscape march p) (λ e. IsLeastOfPrim march p e)
 least_alone march p none None h = λ e same escape.
     none_there march p Alone e h same escape (alone march e escape (ap (λ (q : Primitive). is_some q.agg) same ∙ none))
-least_alone march p none (Some e) h =
-    (h.prim, record {
-        escape = found_escape march p Alone e (no_agg p.agg none) h;
-        least = λ f same escape.
-            let is : f.prim ≡ p = same ∙ h.prim in
-            no_greater march p Alone e f h is escape (alone march f escape (ap (λ (q : Primitive). is_some q.agg) is ∙ none));
-    })
+least_alone march p none (Some e) h = (
+  h.prim,
+  record {
+    escape = found_escape march p Alone e (no_agg p.agg none) h;
+    least = λ f same escape.
+        let is : f.prim ≡ p = same ∙ h.prim in
+        no_greater march p Alone e f h is escape (alone march f escape (ap (λ (q : Primitive). is_some q.agg) is ∙ none));
+  },
+)
   where
     no_agg : (agg : Option Sense) → is_some agg ≡ false → agg ≡ None
     no_agg None e = refl
@@ -182,16 +187,18 @@ least_alone march p none (Some e) h =
 
 -- a primitive of two cells, with its aggressor below
 pub least_below : (march : List MarchElement) (p : Primitive) → is_some p.agg ≡ true → (e : EscapeArray) → IsLeastIn march p Below e → IsLeastOfPrim march p e
-least_below march p some e h =
-    (h.prim, record {
-        escape = found_escape march p Below e some h;
-        least = λ f same escape.
-            let is : f.prim ≡ p = same ∙ h.prim in
-            ⊎_elim
-            (λ (k : places_of_escape f ≡ places_in Below). no_greater march p Below e f h is escape k)
-            (λ (k : places_of_escape f ≡ places_in Above). inl (before (ap (λ (at : Places). at.agg) h.places) (ap (λ (at : Places). at.agg) k)))
-            (below_or_above march f escape (ap (λ (q : Primitive). is_some q.agg) is ∙ some));
-    })
+least_below march p some e h = (
+  h.prim,
+  record {
+    escape = found_escape march p Below e some h;
+    least = λ f same escape.
+        let is : f.prim ≡ p = same ∙ h.prim in
+        ⊎_elim
+        (λ (k : places_of_escape f ≡ places_in Below). no_greater march p Below e f h is escape k)
+        (λ (k : places_of_escape f ≡ places_in Above). inl (before (ap (λ (at : Places). at.agg) h.places) (ap (λ (at : Places). at.agg) k)))
+        (below_or_above march f escape (ap (λ (q : Primitive). is_some q.agg) is ∙ some));
+  },
+)
   where
     before : {a b : Option ℕ} → a ≡ Some 0 → b ≡ Some 1 → placement_number a < placement_number b
     before x y = rw (x, y) (omega arith)
@@ -204,13 +211,15 @@ least_above march p some none_below None h = λ e same escape.
     (λ (k : places_of_escape e ≡ places_in Below). none_there march p Below e none_below same escape k)
     (λ (k : places_of_escape e ≡ places_in Above). none_there march p Above e h same escape k)
     (below_or_above march e escape (ap (λ (q : Primitive). is_some q.agg) same ∙ some))
-least_above march p some none_below (Some e) h =
-    (h.prim, record {
-        escape = found_escape march p Above e some h;
-        least = λ f same escape.
-            let is : f.prim ≡ p = same ∙ h.prim in
-            ⊎_elim
-            (λ (k : places_of_escape f ≡ places_in Below). absurd (none_there march p Below f none_below is escape k))
-            (λ (k : places_of_escape f ≡ places_in Above). no_greater march p Above e f h is escape k)
-            (below_or_above march f escape (ap (λ (q : Primitive). is_some q.agg) is ∙ some));
-    })
+least_above march p some none_below (Some e) h = (
+  h.prim,
+  record {
+    escape = found_escape march p Above e some h;
+    least = λ f same escape.
+        let is : f.prim ≡ p = same ∙ h.prim in
+        ⊎_elim
+        (λ (k : places_of_escape f ≡ places_in Below). absurd (none_there march p Below f none_below is escape k))
+        (λ (k : places_of_escape f ≡ places_in Above). no_greater march p Above e f h is escape k)
+        (below_or_above march f escape (ap (λ (q : Primitive). is_some q.agg) is ∙ some));
+  },
+)

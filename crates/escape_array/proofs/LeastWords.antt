@@ -33,10 +33,11 @@ lower : (ss : List Survivor) (held : Option ℕ) (w : ℕ) → least_of held ss 
 lower [] held w e = (λ b h. let same : w ≡ b = some_same w b (sym e ∙ h) in omega arith, λ k d h. absurd (omega arith))
 lower (s ∷ ss) held w e =
     let rest = lower ss (Some (lesser_of held s.directions)) w e in
-    let here : w ≤ lesser_of held s.directions = rest.0 (lesser_of held s.directions) refl in
-    (λ b h. let l = lesser_held held s.directions b h in omega (arith, here, l)
-    , λ k d h. elim k as (λ j. j < length (s ∷ ss) → w ≤ (get_or (s ∷ ss) j d).directions)
-        [ zero ↦ λ within. (let l = lesser_word held s.directions in omega (arith, here, l)) | suc j ↦ λ within. rest.1 j d (omega arith) ] h)
+    let here : w ≤ lesser_of held s.directions = rest.0 (lesser_of held s.directions) refl in (
+      λ b h. let l = lesser_held held s.directions b h in omega (arith, here, l),
+      λ k d h. elim k as (λ j. j < length (s ∷ ss) → w ≤ (get_or (s ∷ ss) j d).directions)
+          [ zero ↦ λ within. (let l = lesser_word held s.directions in omega (arith, here, l)) | suc j ↦ λ within. rest.1 j d (omega arith) ] h,
+    )
 
 reached : (ss : List Survivor) (held : Option ℕ) (w : ℕ) → least_of held ss ≡ Some w
     → (held ≡ Some w) ⊎ ((k : ℕ) × (d : Survivor) × (k < length ss) × ((get_or ss k d).directions ≡ w))
@@ -44,11 +45,11 @@ reached [] held w e = inl e
 reached (s ∷ ss) held w e =
     ⊎_elim
     (λ (h : Some (lesser_of held s.directions) ≡ Some w).
-        let same : lesser_of held s.directions ≡ w = some_same (lesser_of held s.directions) w h in
-        ⊎_elim
-        (λ (k : held ≡ Some (lesser_of held s.directions)). inl (k ∙ ap Some same))
-        (λ (k : s.directions ≡ lesser_of held s.directions). inr (0, s, omega arith, k ∙ same))
-        (lesser_one held s.directions))
+    let same : lesser_of held s.directions ≡ w = some_same (lesser_of held s.directions) w h in
+    ⊎_elim
+    (λ (k : held ≡ Some (lesser_of held s.directions)). inl (k ∙ ap Some same))
+    (λ (k : s.directions ≡ lesser_of held s.directions). inr (0, s, omega arith, k ∙ same))
+    (lesser_one held s.directions))
     (λ (h : (k : ℕ) × (d : Survivor) × (k < length ss) × ((get_or ss k d).directions ≡ w)). inr (suc h.0, h.1, omega (arith, h.2), h.3))
     (reached ss (Some (lesser_of held s.directions)) w e)
 
@@ -73,15 +74,16 @@ least_word_found march p placement content found are None e = λ word lets.
     let within : s.1.0 < length found = s.1.1 in
     absurd (omega (arith, within, ap length empty))
 least_word_found march p placement content found are (Some w) e =
-    let low = lower found None w (sym e) in
-    (lets (reached found None w (sym e))
-    , λ word through.
-        let s = are.all word through.0 through.1 in
-        let here : w ≤ (get_or found s.1.0 s.0).directions = low.1 s.1.0 s.0 s.1.1 in
-        let is : IsSurvivor march p placement content (get_or found s.1.0 s.0) = each_at (IsSurvivor march p placement content) found are.each s.1.0 s.0 s.1.1 in
-        let same : (get_or found s.1.0 s.0).pair ≡ through.0 = ap (λ (x : Survivor). x.pair) s.1.2 ∙ s.2 in
-        let most : (get_or found s.1.0 s.0).directions ≤ word = is.least word (subst (Survives march p placement content word) (sym same) through.1) in
-        omega (arith, here, most))
+    let low = lower found None w (sym e) in (
+      lets (reached found None w (sym e)),
+      λ word through.
+          let s = are.all word through.0 through.1 in
+          let here : w ≤ (get_or found s.1.0 s.0).directions = low.1 s.1.0 s.0 s.1.1 in
+          let is : IsSurvivor march p placement content (get_or found s.1.0 s.0) = each_at (IsSurvivor march p placement content) found are.each s.1.0 s.0 s.1.1 in
+          let same : (get_or found s.1.0 s.0).pair ≡ through.0 = ap (λ (x : Survivor). x.pair) s.1.2 ∙ s.2 in
+          let most : (get_or found s.1.0 s.0).directions ≤ word = is.least word (subst (Survives march p placement content word) (sym same) through.1) in
+          omega (arith, here, most),
+    )
   where
     lets : (None ≡ Some w) ⊎ ((k : ℕ) × (d : Survivor) × (k < length found) × ((get_or found k d).directions ≡ w)) → LetsThrough march p placement content w
     lets (inl h) = cc

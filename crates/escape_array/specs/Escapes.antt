@@ -41,8 +41,8 @@ abbrev pub IsNoGreater : EscapeArray → EscapeArray → Type 0
 IsNoGreater e f =
     (placement_number e.agg < placement_number f.agg)
     ⊎ ((placement_number e.agg ≡ placement_number f.agg)
-        × ((content_number e.content < content_number f.content)
-            ⊎ ((content_number e.content ≡ content_number f.content) × (e.directions ≤ f.directions))))
+    × ((content_number e.content < content_number f.content)
+    ⊎ ((content_number e.content ≡ content_number f.content) × (e.directions ≤ f.directions))))
 
 -- the least escape of its primitive
 pub record IsLeastEscape (march : List MarchElement) (e : EscapeArray) : Type 0 where

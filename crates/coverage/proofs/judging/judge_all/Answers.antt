@@ -13,8 +13,8 @@ loop-prim-preserved c =
     let held : List Verdict = c.loop-prim.verdicts.items in
     let pushed : is_ok c.push.result ≡ true = c.is_err.ensures.negation ∙ ap not c.if-is_err.false in
     let items : c.push.new.self.items ≡ held ++ c.judge.result ∷ [] =
-        c.push.ensures.items ∙ ap (λ b. cond b (held ++ c.judge.result ∷ []) held) pushed in
+    c.push.ensures.items ∙ ap (λ b. cond b (held ++ c.judge.result ∷ []) held) pushed in
     let more = take_more c.args.prims.now c.loop-prim.prim-index c.prim-item.result c.loop-prim-test.true ∙ ap (λ p. taken ++ p ∷ []) (sym c.prim-item.is) in
     subst (λ ps. AreVerdicts march ps c.push.new.self.items) (sym more)
     (subst (AreVerdicts march (taken ++ c.prim-item.result ∷ [])) (sym items)
-        (one_more march taken held c.prim-item.result c.judge.result c.loop-prim.invariant c.judge.ensures.verdict))
+    (one_more march taken held c.prim-item.result c.judge.result c.loop-prim.invariant c.judge.ensures.verdict))
