@@ -1,7 +1,6 @@
 -- One size stands for all: what an instance does in an array of any size, it does in an array of two cells.
-use Rattle.std.proofs.Common.{◌≡◌, ◌≢◌, ◌+◌, ◌-◌, ◌<◌, ◌≤◌, ℕ, zero, suc, Bool, true, false, cond, nat_lt, Option, Some, None, is_some, List, [], ◌∷◌, ◌++◌, length, replicate, refl, ap, sym, subst, ◌∙◌, ◌⊎◌, inl, inr, arith, length-append}
+use Rattle.std.proofs.Common.{◌≡◌, ◌≢◌, ◌-◌, ◌<◌, ◌≤◌, ℕ, Bool, true, false, nat_lt, Option, Some, None, is_some, List, [], ◌∷◌, ◌++◌, length, replicate, refl, ap, sym, subst, ◌∙◌, arith, length-append}
 use Rattle.std.specs.Option.{IsSome}
-use Rattle.std.specs.Bool.{IsTrue}
 use Rattle.std.proofs.lemmas.List.{get_or_past, length-replicate}
 use Rattle.std.proofs.Math.ListN.{get_or-append}
 use Rattle.fault_core.specs.declared.cells.Places.{Places}
@@ -9,21 +8,20 @@ use Rattle.fault_core.specs.declared.primitive.Sense.{Sense}
 use Rattle.fault_core.specs.Primitive.{Primitive}
 use Rattle.fault_core.specs.Cells.{cell, close_of, FitsPlace, FitsAgg}
 use Rattle.march_core.specs.March.{MarchElement, IsMarch, all_ops}
-use Rattle.march_core.specs.Visits.{Direction, addresses, is_direction, visits}
-use Rattle.march_core.specs.Scan.{scan_of}
+use Rattle.march_core.specs.Visits.{Direction, addresses, visits}
 use Rattle.march_core.proofs.Consistent.{consistent_scan, last_after}
 use Rattle.array_sim.specs.declared.element_run.Miss.{Miss}
 use Rattle.array_sim.specs.Run.{Outcome, run_of, outcome_of}
-use Rattle.array_sim.specs.Detection.{IsCaught, DetectsAt, Detects}
+use Rattle.array_sim.specs.Detection.{DetectsAt}
 use Rattle.cell_machine.specs.declared.pair.Pair.{Pair}
 use Rattle.cell_machine.specs.declared.pair.Side.{Side}
-use Rattle.cell_machine.specs.declared.pair.Side.TheVariants.{A, V}
+use Rattle.cell_machine.specs.declared.pair.Side.TheVariants.{V}
 use Rattle.pair_tracker.specs.Pairs.{Machine, sides_in, pair_at}
 use Rattle.pair_tracker.specs.declared.placement.Placement.{Placement}
 use Rattle.pair_tracker.specs.declared.placement.Placement.TheVariants.{Alone, Below, Above}
 use Rattle.pair_tracker.specs.Placements.{places_in, FitsPlacement}
 use Rattle.pair_tracker.proofs.Sides.{sides_of, addresses_sides, addresses_victim}
-use Rattle.pair_tracker.proofs.Projection.{Laws, Fails, Shows, order_run, order_visit}
+use Rattle.pair_tracker.proofs.Projection.{Laws, Shows, order_run, order_visit}
 
 -- the cell seen beside the victim: the aggressor's, or none of the array where there is no aggressor
 abbrev pub beside_of : Option ℕ → ℕ → ℕ

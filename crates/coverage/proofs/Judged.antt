@@ -1,9 +1,8 @@
 -- Escapes of two cells decide detection.
-use Rattle.std.proofs.Common.{◌≡◌, ◌≢◌, ◌+◌, ◌-◌, ◌<◌, ◌≤◌, ◌^◌, ℕ, suc, Bool, true, false, Option, Some, None, List, [], ◌∷◌, ◌++◌, length, refl, ap, sym, subst, ◌∙◌, append_assoc, append-nil, arith}
+use Rattle.std.proofs.Common.{◌≡◌, ◌+◌, ◌-◌, ◌<◌, ◌≤◌, ◌^◌, ℕ, suc, true, Option, Some, None, List, [], ◌∷◌, ◌++◌, length, refl, ap, sym, subst, ◌∙◌, append_assoc, append-nil, arith}
 use Rattle.std.specs.Option.{IsSome}
 use Rattle.std.specs.Bool.{IsTrue}
 use Rattle.std.proofs.lemmas.Bool.{and_parts}
-use Rattle.fault_core.specs.declared.cells.Places.{Places}
 use Rattle.fault_core.specs.declared.primitive.Sense.{Sense}
 use Rattle.fault_core.specs.Primitive.{Primitive, IsPrimitive}
 use Rattle.fault_core.specs.Cells.{FitsPlace, FitsAgg}
@@ -19,10 +18,10 @@ use Rattle.pair_tracker.specs.Pairs.{machine_of}
 use Rattle.pair_tracker.specs.Tracking.{weight_in}
 use Rattle.pair_tracker.proofs.Words.{IsPrefixWord, prefix_none, prefix_more, directions_more, rest_from_prefix, prefix_below}
 use Rattle.escape_array.specs.declared.escape.EscapeArray.{EscapeArray}
-use Rattle.escape_array.specs.Escapes.{IsArray, IsEscape, IsLeastEscape, places_of_escape}
+use Rattle.escape_array.specs.Escapes.{IsEscape, IsLeastEscape, places_of_escape}
 use Rattle.coverage.specs.declared.verdict.Verdict.{Verdict}
-use Rattle.coverage.specs.declared.verdict.Verdict.TheVariants.{Covered, Escape}
-use Rattle.coverage.specs.Verdicts.{IsVerdict, IsVerdictAt, AreVerdicts}
+use Rattle.coverage.specs.declared.verdict.Verdict.TheVariants.{Escape}
+use Rattle.coverage.specs.Verdicts.{IsVerdict, AreVerdicts}
 use Rattle.coverage.proofs.EverySize.{to_two, passes_over, caught_unless, not_caught}
 use Rattle.coverage.proofs.Seen.{seen_all, two_cells_detect, one_size_detects}
 

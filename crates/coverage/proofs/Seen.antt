@@ -1,5 +1,5 @@
 -- Every instance of a primitive is seen by the machine of its two bits.
-use Rattle.std.proofs.Common.{◌≡◌, ◌≢◌, ◌<◌, ◌≤◌, ℕ, Bool, false, Option, Some, None, is_some, List, length, refl, ap, sym, subst, arith}
+use Rattle.std.proofs.Common.{◌≡◌, ◌≢◌, ◌<◌, ◌≤◌, ℕ, Bool, Option, Some, None, is_some, List, length, refl, ap, sym, subst, arith}
 use Rattle.fault_core.specs.declared.cells.Places.{Places}
 use Rattle.fault_core.specs.declared.primitive.Sense.{Sense}
 use Rattle.fault_core.specs.Primitive.{Primitive, IsPrimitive}
@@ -13,7 +13,7 @@ use Rattle.cell_machine.proofs.Projection.{pair_at-close_of, length-close_of}
 use Rattle.cell_machine.proofs.Closing.{pair_close-closed}
 use Rattle.pair_tracker.specs.Pairs.{pair_at}
 use Rattle.pair_tracker.proofs.Machines.{machine_of, ShowsClosed, laws_hold}
-use Rattle.coverage.proofs.EverySize.{beside_of, Sees, SeesAll, at_each_size, at_two_cells}
+use Rattle.coverage.proofs.EverySize.{beside_of, SeesAll, at_each_size, at_two_cells}
 
 sees_itself : (p : Primitive) (at : Places) (n : ℕ) → FitsPlace p at n → SeesPair p at (beside_of at.agg n) n
 sees_itself p at n fits = go at.agg p.agg refl refl fits.aggressor

@@ -1,22 +1,20 @@
 -- The search in the order of the contents and of the placements finds the least escape.
-use Rattle.std.proofs.Common.{◌≡◌, ◌≢◌, ◌+◌, ◌<◌, ◌≤◌, ◌^◌, ℕ, zero, suc, Bool, true, false, cond, Option, Some, None, is_some, List, [], ◌∷◌, length, refl, ap, sym, subst, ◌∙◌, ◌⊎◌, inl, inr, ⊎_elim, arith}
-use Rattle.std.specs.Option.{IsSome}
+use Rattle.std.proofs.Common.{◌≡◌, ◌+◌, ◌<◌, ◌≤◌, ℕ, Bool, true, false, cond, Option, Some, None, is_some, List, [], ◌∷◌, length, refl, ap, sym, subst, ◌∙◌, ◌⊎◌, inl, inr, ⊎_elim, arith}
 use Rattle.std.proofs.Math.Nat.{eq-or-lt_of_le}
 use Rattle.fault_core.specs.declared.cells.Places.{Places}
 use Rattle.fault_core.specs.declared.primitive.Sense.{Sense}
 use Rattle.std.specs.Prelude.{MatchOption}
 use Rattle.std.proofs.lemmas.Bool.{cases_lt}
-use Rattle.fault_core.specs.Primitive.{Primitive, has_aggressor}
+use Rattle.fault_core.specs.Primitive.{Primitive}
 use Rattle.march_core.specs.March.{MarchElement}
 use Rattle.march_core.specs.Visits.{directions_of}
 use Rattle.array_sim.specs.Run.{outcome_of}
-use Rattle.cell_machine.specs.declared.pair.Pair.{Pair}
 use Rattle.pair_tracker.specs.declared.placement.Placement.{Placement}
 use Rattle.pair_tracker.specs.declared.placement.Placement.TheVariants.{Alone, Below, Above}
 use Rattle.pair_tracker.specs.Placements.{places_in, FitsPlacement, pair_in}
-use Rattle.pair_tracker.specs.Survivors.{Survives, two_cell_run}
+use Rattle.pair_tracker.specs.Survivors.{two_cell_run}
 use Rattle.escape_array.specs.declared.escape.EscapeArray.{EscapeArray}
-use Rattle.escape_array.specs.Escapes.{IsArray, IsEscape, IsLeastEscape, IsNoGreater, places_of_escape, placement_number, content_number}
+use Rattle.escape_array.specs.Escapes.{IsEscape, IsLeastEscape, IsNoGreater, places_of_escape, placement_number, content_number}
 use Rattle.escape_array.specs.Searching.{LetsThrough, IsLeastWord, NoneBefore, IsLeastIn}
 
 -- two cells hold one of four contents

@@ -1,7 +1,6 @@
 -- Arrays of two cells that pass a march, and the least of them.
-use Rattle.std.specs.Prelude.{◌≡◌, ◌<◌, ◌≤◌, ◌+◌, ◌*◌, ◌^◌, ◌⊎◌, ℕ, zero, suc, Bool, Option, Some, None, List, [], ◌∷◌, length, if◌then◌else◌}
+use Rattle.std.specs.Prelude.{◌≡◌, ◌<◌, ◌≤◌, ◌+◌, ◌^◌, ◌⊎◌, ℕ, Bool, Option, Some, None, List, [], ◌∷◌, length, if◌then◌else◌}
 use Rattle.fault_core.specs.declared.cells.Places.{Places}
-use Rattle.fault_core.specs.Primitive.{Primitive}
 use Rattle.march_core.specs.March.{MarchElement}
 use Rattle.march_core.specs.Visits.{FitsWord, directions_of}
 use Rattle.array_sim.specs.Run.{outcome_of}

@@ -1,4 +1,4 @@
-use Rattle.std.proofs.Common.{◌≡◌, ◌∙◌, sym, ap, subst, cond, is_ok, Bool, true, not, List, ◌++◌, ◌∷◌, [], take}
+use Rattle.std.proofs.Common.{◌≡◌, ◌∙◌, sym, ap, subst, cond, is_ok, true, not, List, ◌++◌, ◌∷◌, [], take}
 use Rattle.std.proofs.lemmas.List.{take_more}
 use Rattle.fault_core.specs.Primitive.{Primitive}
 use Rattle.coverage.specs.declared.verdict.Verdict.{Verdict}

@@ -1,4 +1,4 @@
-use Rattle.std.proofs.Common.{◌≡◌, ◌∙◌, sym, Bool, true, false}
+use Rattle.std.proofs.Common.{◌≡◌, ◌∙◌, sym, true, false}
 use Rattle.std.specs.Prelude.{is_some}
 use Rattle.escape_array.proofs.LeastArray.{least_alone, least_below, least_above}
 use Rattle.escape_array.proofs.search.least.Goals as goal

@@ -1,4 +1,4 @@
-use Rattle.std.proofs.Common.{◌≡◌, ◌<◌, ◌∙◌, ap, sym, subst, length, ℕ, Bool, List, Some, arith}
+use Rattle.std.proofs.Common.{◌≡◌, ◌∙◌, ap, sym, subst, length, Some, arith}
 use Rattle.escape_array.specs.Escapes.{content_number}
 use Rattle.escape_array.specs.Searching.{NoneBefore, IsLeastWord}
 use Rattle.escape_array.proofs.LeastArray.{none_so_far}
