@@ -1,0 +1,3 @@
+pub mod PrimText
+pub mod ListText
+pub mod Places
