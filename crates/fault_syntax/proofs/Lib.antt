@@ -1,2 +1,3 @@
 mod NameLaws
 mod PlaceLaws
+mod Kept
