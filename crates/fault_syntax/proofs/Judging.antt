@@ -1,0 +1,75 @@
+-- What the parts of a primitive stand for is one primitive, or none.
+use Rattle.std.proofs.Common.{◌≡◌, ◌≢◌, ℕ, ◌+◌, ◌<◌, ◌≤◌, ◌↔◌, Bool, true, false, ◌&&◌, List, [], ◌∷◌, ◌∙◌, length, Option, Some, None, is_some, Result, Ok, Err, IsOk, IfOk, IfErr, refl, sym, ap, subst, arith, if◌then◌else◌}
+use Rattle.fault_core.specs.declared.primitive.Act.{Act}
+use Rattle.fault_core.specs.declared.primitive.Sense.{Sense}
+use Rattle.fault_core.specs.declared.primitive.PrimFault.{PrimFault}
+use Rattle.fault_core.specs.declared.primitive.PrimFault.TheVariants.{NotAFault, TooManyOperations}
+use Rattle.fault_core.specs.Primitive.{Primitive, IsPrimitive, agg_has_act, refusal_of}
+use Rattle.fault_syntax.specs.declared.place.Access.{Access}
+use Rattle.fault_syntax.specs.declared.place.Access.TheVariants.{Write, Read}
+use Rattle.fault_syntax.specs.declared.place.Op.{Op}
+use Rattle.fault_syntax.specs.Parts.{IsAct, AreAct, IsSense, IsAggressor, StandsFor, agg_ops, op_count, Refuses, Judges}
+use Rattle.fault_syntax.specs.PrimText.{SenseText, PrimParts}
+
+-- ---- one reading
+
+act_one : (state : Bool) (os : List Op) (a b : Option Act) → AreAct state os a → AreAct state os b → a ≡ b
+act_one state [] a b h k = h ∙ sym k
+act_one state (o ∷ []) a b h k = one o.access h k
+  where
+    one : (x : Access) → IsAct state x o.bit a → IsAct state x o.bit b → a ≡ b
+    one Write h k = h ∙ sym k
+    one Read h k = h.1 ∙ sym k.1
+act_one state (o ∷ p ∷ os) a b h k = absurd h
+
+sense_same : (a c : Bool) (b d : Option Act) → a ≡ c → b ≡ d → (let s : Sense = record { state = a; act = b } in s ≡ (record { state = c; act = d }))
+sense_same a c b d e f = cc
+
+sense_one : (t : SenseText) (s u : Sense) → IsSense t s → IsSense t u → s ≡ u
+sense_one t s u h k = sense_same s.state u.state s.act u.act (h.0 ∙ sym k.0) (act_one t.state t.ops s.act u.act h.1 k.1)
+
+agg_one : (t : Option SenseText) (a b : Option Sense) → IsAggressor t a → IsAggressor t b → a ≡ b
+agg_one None a b h k = h ∙ sym k
+agg_one (Some t) a b h k = h.1 ∙ ap (λ x. Some x) (sense_one t h.0 k.0 h.2 k.2) ∙ sym k.1
+
+prim_same : (a b : Option Sense) (u v : Sense) (c d : Bool) (e f : Option Bool) → a ≡ b → u ≡ v → c ≡ d → e ≡ f → (let p : Primitive = record { agg = a; vic = u; after = c; answer = e } in p ≡ (record { agg = b; vic = v; after = d; answer = f }))
+prim_same a b u v c d e f h i j k = cc
+
+pub stands_one : (text : PrimParts) (p q : Primitive) → StandsFor text p → StandsFor text q → p ≡ q
+stands_one text p q h k = prim_same p.agg q.agg p.vic q.vic p.after q.after p.answer q.answer (agg_one text.agg p.agg q.agg h.agg k.agg) (sense_one text.vic p.vic q.vic h.vic k.vic) (h.after ∙ sym k.after) (h.answer ∙ sym k.answer)
+
+-- ---- two operations
+
+-- an act is an operation
+act_counts : (state : Bool) (os : List Op) (a : Option Act) → AreAct state os a → (is_some a ≡ true → 0 < length os) × (length os ≤ 1)
+act_counts state [] a h = (λ e. let k : is_some a ≡ false = ap is_some h in cc, omega arith)
+act_counts state (o ∷ []) a h = (λ e. omega arith, omega arith)
+act_counts state (o ∷ p ∷ os) a h = absurd h
+
+agg_counts : (t : Option SenseText) (a : Option Sense) → IsAggressor t a → (agg_has_act a ≡ true → 0 < length (agg_ops t))
+agg_counts None a h e = let k : agg_has_act a ≡ false = ap agg_has_act h in cc
+agg_counts (Some t) a h e = (act_counts t.state t.ops (h.0).act (h.2).1).0 (ap agg_has_act (sym h.1) ∙ e)
+
+-- with one operation at most, the refusal is F3
+one_fault : (text : PrimParts) (p : Primitive) → op_count text ≤ 1 → StandsFor text p → refusal_of p ≡ NotAFault
+one_fault text p n h = go (agg_has_act p.agg) (is_some p.vic.act) (agg_counts text.agg p.agg h.agg) (act_counts text.vic.state text.vic.ops p.vic.act (h.vic).1).0
+  where
+    go : (t u : Bool) → (t ≡ true → 0 < length (agg_ops text.agg)) → (u ≡ true → 0 < length text.vic.ops) → (if t && u then TooManyOperations else NotAFault) ≡ NotAFault
+    go true true f g = let a : 0 < length (agg_ops text.agg) = f refl in let b : 0 < length text.vic.ops = g refl in absurd (omega arith)
+    go true false f g = refl
+    go false u f g = refl
+
+-- ---- what is answered
+
+pub no_victim : (text : PrimParts) → op_count text ≤ 1 → ((s : Sense) → IsSense text.vic s → ⊥) → Refuses text NotAFault
+no_victim text n f = (n, λ p h i. f p.vic h.vic)
+
+pub no_aggressor : (text : PrimParts) → op_count text ≤ 1 → ((a : Option Sense) → IsAggressor text.agg a → ⊥) → Refuses text NotAFault
+no_aggressor text n f = (n, λ p h i. f p.agg h.agg)
+
+pub judged : (text : PrimParts) (p : Primitive) (r : Result Primitive PrimFault) → op_count text ≤ 1 → StandsFor text p → (IsOk r ↔ IsPrimitive p) → IfOk r (λ q. q ≡ p) → IfErr r (λ fault. fault ≡ refusal_of p) → Judges text r
+judged text p (Ok q) n h ok same bad = (subst (StandsFor text) (sym same) h, subst IsPrimitive (sym same) (ok.0 refl))
+judged text p (Err fault) n h ok same bad = subst (Refuses text) (sym (bad ∙ one_fault text p n h)) (n, λ q k i. not_ok (ok.1 (subst IsPrimitive (stands_one text q p k h) i)))
+  where
+    not_ok : (let b : Bool = false in b ≡ true) → ⊥
+    not_ok e = cc

@@ -1,0 +1,16 @@
+/// Why a text is refused. Lines are counted from 1, and bytes within a line from 0.
+#[derive(Clone, Copy, Debug, PartialEq, Eq)]
+pub enum FaultFault {
+    /// F1: the line up to and with this byte can't be continued.
+    Unexpected { line: usize, byte: usize },
+    /// F2: the last line, which no line end ends, can be continued and isn't whole.
+    Truncated { line: usize },
+    /// F3: a primitive that is none of the 48.
+    NotAFault { line: usize },
+    /// F4: a primitive with more than one operation in all.
+    TooManyOperations { line: usize },
+    /// F5: the line brings more than 1,024 primitives in all.
+    TooManyPrimitives { line: usize },
+    /// F6: there was no memory.
+    NoMemory,
+}
