@@ -73,3 +73,26 @@ judged text p (Err fault) n h ok same bad = subst (Refuses text) (sym (bad ∙ o
   where
     not_ok : (let b : Bool = false in b ≡ true) → ⊥
     not_ok e = cc
+
+-- ---- a primitive has one operation at most
+
+act_there : (state : Bool) (os : List Op) (a : Option Act) → AreAct state os a → 0 < length os → is_some a ≡ true
+act_there state [] a h n = absurd (omega arith)
+act_there state (o ∷ []) a h n = there o.access h
+  where
+    there : (x : Access) → IsAct state x o.bit a → is_some a ≡ true
+    there Write h = ap is_some h
+    there Read h = ap is_some h.1
+act_there state (o ∷ p ∷ os) a h n = absurd h
+
+agg_there : (t : Option SenseText) (a : Option Sense) → IsAggressor t a → (length (agg_ops t) ≤ 1) × (0 < length (agg_ops t) → agg_has_act a ≡ true)
+agg_there None a h = (omega arith, λ n. absurd (omega arith))
+agg_there (Some t) a h = ((act_counts t.state t.ops (h.0).act (h.2).1).1, λ n. ap agg_has_act h.1 ∙ act_there t.state t.ops (h.0).act (h.2).1 n)
+
+pub one_operation : (text : PrimParts) (p : Primitive) → StandsFor text p → IsPrimitive p → op_count text ≤ 1
+one_operation text p h i = go (agg_ops text.agg) text.vic.ops (agg_there text.agg p.agg h.agg) (act_counts text.vic.state text.vic.ops p.vic.act (h.vic).1).1 (act_there text.vic.state text.vic.ops p.vic.act (h.vic).1)
+  where
+    go : (os qs : List Op) → (length os ≤ 1) × (0 < length os → agg_has_act p.agg ≡ true) → length qs ≤ 1 → (0 < length qs → is_some p.vic.act ≡ true) → length os + length qs ≤ 1
+    go [] qs f n g = omega arith
+    go (o ∷ os) [] f n g = omega (arith, f.0)
+    go (o ∷ os) (q ∷ qs) f n g = let e : is_some p.vic.act ≡ false = ap is_some (i.one_act (f.1 (omega arith))) in let k : is_some p.vic.act ≡ true = g (omega arith) in cc

@@ -2,3 +2,6 @@ mod NameLaws
 mod PlaceLaws
 mod Kept
 mod Judging
+mod PrimReads
+mod PrintLaws
+mod ListReads

@@ -3,3 +3,7 @@ pub mod ListText
 pub mod Places
 pub mod Parts
 pub mod Brief
+pub mod Answers
+pub mod Printed
+pub mod Lists
+pub mod Adding

@@ -3,7 +3,13 @@
 
 mod fault;
 mod judge;
+mod list;
 mod place;
+mod prim;
+mod print;
 mod reader;
 
 pub use fault::FaultFault;
+pub use list::read_list;
+pub use prim::read_prim;
+pub use print::print_prim;

@@ -1,0 +1,62 @@
+ghost use Rattle.std.specs.Prelude.{◌≡◌, ◌↔◌, ℕ, Ok, Err, IfErr, false};
+ghost use Rattle.bist_text.specs.Grammar.{IsUnexpected, IsTruncated};
+ghost use Rattle.bist_text.specs.Machine.{scan};
+ghost use Rattle.fault_core.specs.Primitive.{Primitive, IsPrimitive};
+ghost use Rattle.fault_syntax.specs.Answers.{fault_at, RefusesAt, JudgesAt, GivesPrim};
+ghost use Rattle.fault_syntax.specs.Brief.{read_parts_of};
+ghost use Rattle.fault_syntax.specs.Parts.{StandsFor};
+ghost use Rattle.fault_syntax.specs.Places.{step, value, start};
+ghost use Rattle.fault_syntax.specs.PrimText.{PrimParts, PrimText};
+
+use crate::fault::FaultFault;
+use crate::judge::judge;
+use crate::reader::{ReadItem, ReadParts, Refusal, read_item};
+use fault_core::{Prim, PrimFault};
+
+fn at_line(fault: PrimFault, line: usize) -> FaultFault
+    ensures { result ≡ fault_at line fault }
+{
+    match fault {
+        PrimFault::NotAFault => FaultFault::NotAFault { line },
+        PrimFault::TooManyOperations => FaultFault::TooManyOperations { line },
+    }
+}
+
+/// The primitive of parts that were read on a line.
+pub(crate) fn judge_at(parts: ReadParts, line: usize) -> Result<Prim, FaultFault>
+    ensures { (text : PrimParts) → parts ≡ read_parts_of text → JudgesAt line text result }
+{
+    match judge(parts) {
+        Ok(prim) => Ok(prim),
+        Err(fault) => Err(at_line(fault, line)),
+    }
+}
+
+fn scanned(bytes: &[u8]) -> Result<Prim, FaultFault>
+    ensures { GivesPrim result (scan (step false) (value false) bytes.now start 0) }
+{
+    match read_item(bytes, false) {
+        Ok(item) => match item {
+            ReadItem::Primitive(parts) => judge_at(parts, 1),
+            ReadItem::Nothing => unreachable!(),
+            ReadItem::Named(_) => unreachable!(),
+        },
+        Err(Refusal::Unexpected(byte)) => Err(FaultFault::Unexpected { line: 1, byte }),
+        Err(Refusal::Truncated) => Err(FaultFault::Truncated { line: 1 }),
+    }
+}
+
+/// Reads a text that is one primitive with blanks round it. Its line is 1.
+pub fn read_prim(bytes: &[u8]) -> Result<Prim, FaultFault>
+    // A primitive is read exactly where the bytes are a text that stands for it.
+    ensures ok { (p : Primitive) → (result ≡ Ok p) ↔ ((text : PrimParts) × PrimText bytes.now text × StandsFor text p × IsPrimitive p) }
+
+    // F1 and F2, exactly where the grammar has them.
+    ensures unexpected { (k : ℕ) → (result ≡ Err (FaultFault.Unexpected 1 k)) ↔ IsUnexpected PrimText bytes.now k }
+    ensures truncated { (result ≡ Err (FaultFault.Truncated 1)) ↔ IsTruncated PrimText bytes.now }
+
+    // F4 and F3, for a text of the grammar.
+    ensures refused { (text : PrimParts) → PrimText bytes.now text → IfErr result (RefusesAt 1 text) }
+{
+    scanned(bytes)
+}
