@@ -1,10 +1,13 @@
 -- What a line's item adds to the primitives.
 use Rattle.std.specs.Prelude.{◌≡◌, ◌<◌, ◌≤◌, ◌+◌, ◌⊎◌, ℕ, Option, Some, List, ◌++◌, length, Result, Ok, Err}
+use Rattle.bist_text.specs.Grammar.{IsUnexpected, IsTruncated}
 use Rattle.bist_text.specs.Lines.{TextLine}
 use Rattle.fault_core.specs.Primitive.{Primitive}
 use Rattle.fault_syntax.specs.declared.fault.FaultFault.{FaultFault}
 use Rattle.fault_syntax.specs.declared.fault.FaultFault.TheVariants.{Unexpected, Truncated, NotAFault, TooManyOperations, TooManyPrimitives, NoMemory}
 use Rattle.fault_syntax.specs.declared.reader.ReadItem.{ReadItem}
+use Rattle.fault_syntax.specs.declared.reader.Refusal.{Refusal}
+use Rattle.fault_syntax.specs.declared.reader.Refusal.TheVariants.{Unexpected as UnexpectedAt, Truncated as EndedEarly}
 use Rattle.fault_syntax.specs.Answers.{RefusesAt}
 use Rattle.fault_syntax.specs.Brief.{read_item_of}
 use Rattle.fault_syntax.specs.ListText.{Item, Primitive as OnePrimitive, LineText}
@@ -15,6 +18,12 @@ use Rattle.fault_syntax.specs.PrimText.{PrimParts}
 -- there is no room for more primitives, or no memory
 abbrev pub HasNoRoom : List Primitive → List Primitive → ℕ → FaultFault → Type 0
 HasNoRoom held more line fault = (fault ≡ NoMemory) ⊎ ((fault ≡ TooManyPrimitives line) × (1024 < length held + length more))
+
+-- what is said of a line's bytes
+abbrev pub Says : List ℕ → Result ReadItem Refusal → Type 0
+Says b (Ok item) = (v : Option Item) × LineText b v × (item ≡ read_item_of v)
+Says b (Err (UnexpectedAt k)) = IsUnexpected LineText b k
+Says b (Err EndedEarly) = IsTruncated LineText b
 
 -- what a line is read to
 abbrev pub LineGives : TextLine → Result ReadItem FaultFault → Type 0

@@ -1,6 +1,6 @@
 ghost use Rattle.std.specs.Prelude.{◌≡◌, ◌++◌, ◌≤◌, length, OnOk, IfOk, IfErr, Option};
 ghost use Rattle.bist_text.specs.Lines.{plain_line, text_lines};
-ghost use Rattle.fault_syntax.specs.Adding.{HasNoRoom, LineGives, Adds, NotAdded};
+ghost use Rattle.fault_syntax.specs.Adding.{HasNoRoom, Says, LineGives, Adds, NotAdded};
 ghost use Rattle.fault_syntax.specs.Brief.{read_item_of};
 ghost use Rattle.fault_syntax.specs.ListText.{Item};
 ghost use Rattle.fault_syntax.specs.Lists.{Bring, FirstRefusal};
@@ -17,12 +17,18 @@ use std::alloc::Global;
 /// The most primitives that a list may have.
 const MOST: usize = 1024;
 
+fn line_item(text: &[u8]) -> Result<ReadItem, Refusal>
+    ensures { Says text.now result }
+{
+    read_item(text, true)
+}
+
 /// Reads the item of a line. A line that ended too early can't be continued at its line feed.
 fn read_line(line: &Line<'_>) -> Result<ReadItem, FaultFault>
     ensures { LineGives (plain_line line.now) result }
 {
     let number = line.number;
-    match read_item(line.text, true) {
+    match line_item(line.text) {
         Ok(item) => Ok(item),
         Err(Refusal::Unexpected(byte)) => Err(FaultFault::Unexpected { line: number, byte }),
         Err(Refusal::Truncated) if line.ended => Err(FaultFault::Unexpected {
@@ -42,7 +48,9 @@ fn append(prims: &mut Vec<Prim>, more: &[Prim], line: usize) -> Result<(), Fault
         return Err(FaultFault::TooManyPrimitives { line });
     }
     for prim in more {
-        prims.push(*prim).map_err(|_| FaultFault::NoMemory)?;
+        if prims.push(*prim).is_err() {
+            return Err(FaultFault::NoMemory);
+        }
     }
     Ok(())
 }
