@@ -1,5 +1,5 @@
 -- What the parts of a primitive stand for is one primitive, or none.
-use Rattle.std.proofs.Common.{◌≡◌, ◌≢◌, ℕ, ◌+◌, ◌<◌, ◌≤◌, ◌↔◌, Bool, true, false, ◌&&◌, List, [], ◌∷◌, ◌∙◌, length, Option, Some, None, is_some, Result, Ok, Err, IsOk, IfOk, IfErr, refl, sym, ap, subst, arith, if◌then◌else◌}
+use Rattle.std.proofs.Common.{◌≡◌, ◌+◌, ◌<◌, ◌≤◌, ◌↔◌, Bool, true, false, ◌&&◌, List, [], ◌∷◌, ◌∙◌, length, Option, Some, None, is_some, Result, Ok, Err, IsOk, IfOk, IfErr, refl, sym, ap, subst, arith, if◌then◌else◌}
 use Rattle.fault_core.specs.declared.primitive.Act.{Act}
 use Rattle.fault_core.specs.declared.primitive.Sense.{Sense}
 use Rattle.fault_core.specs.declared.primitive.PrimFault.{PrimFault}

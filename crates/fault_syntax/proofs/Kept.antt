@@ -1,11 +1,10 @@
 -- What a reader keeps, along a text.
-use Rattle.std.proofs.Common.{◌≡◌, ℕ, ◌+◌, ◌<◌, Bool, true, false, List, [], ◌∷◌, ◌∙◌, length, drop, get_or, Option, Some, None, option_map, refl, sym, ap, if◌then◌else◌}
-use Rattle.bist_text.specs.Machine.{Outcome, read, unexpected, truncated, scan, ended}
+use Rattle.std.proofs.Common.{◌≡◌, ℕ, ◌+◌, ◌<◌, Bool, List, [], ◌∙◌, length, drop, get_or, Option, Some, None, option_map, refl, if◌then◌else◌}
+use Rattle.bist_text.specs.Machine.{unexpected, scan, ended}
 use Rattle.bist_text.proofs.Loops.{scan_on, scan_stop, scan_end}
 use Rattle.fault_syntax.specs.declared.reader.Reader.{Reader}
-use Rattle.fault_syntax.specs.ListText.{Item}
 use Rattle.fault_syntax.specs.Places.{State, start, step, value, may_end, item_at}
-use Rattle.fault_syntax.specs.Brief.{reader_of, read_item_of, answer_of}
+use Rattle.fault_syntax.specs.Brief.{reader_of}
 
 -- where a reader stands in a text
 pub record Stands (b : List ℕ) (l : Bool) (reader : Reader) (i : ℕ) : Type 0 where

@@ -1,6 +1,6 @@
 -- From the outcomes of the lines to what the reader of a list promises.
-use Rattle.std.proofs.Common.{◌≡◌, ◌↔◌, ℕ, ◌+◌, ◌<◌, ◌≤◌, Bool, true, false, List, [], ◌∷◌, ◌++◌, ◌∙◌, length, Option, Some, None, Result, Ok, Err, IfErr, refl, sym, ap, subst, append_assoc, append-nil, arith, inl, inr, ◌⊎◌}
-use Rattle.bist_text.specs.Grammar.{IsUnexpected, IsTruncated, are_bytes}
+use Rattle.std.proofs.Common.{◌≡◌, ℕ, ◌≤◌, true, List, [], ◌∷◌, ◌++◌, ◌∙◌, length, Option, Some, None, Result, Ok, Err, IfErr, refl, sym, ap, subst, append_assoc, append-nil, arith, inl, inr}
+use Rattle.bist_text.specs.Grammar.{are_bytes}
 use Rattle.bist_text.specs.Lines.{TextLine}
 use Rattle.bist_text.specs.Machine.{Outcome, read, unexpected, truncated, scan, IsExact}
 use Rattle.bist_text.proofs.Exclusive.{scan_exact}
@@ -9,12 +9,10 @@ use Rattle.fault_syntax.specs.declared.fault.FaultFault.{FaultFault}
 use Rattle.fault_syntax.specs.declared.fault.FaultFault.TheVariants.{Unexpected, Truncated, NotAFault, TooManyOperations, TooManyPrimitives, NoMemory}
 use Rattle.fault_syntax.specs.declared.reader.ReadItem.{ReadItem}
 use Rattle.fault_syntax.specs.declared.reader.Refusal.{Refusal}
-use Rattle.fault_syntax.specs.declared.reader.Refusal.TheVariants.{Unexpected as UnexpectedAt, Truncated as EndedEarly}
-use Rattle.fault_syntax.specs.Adding.{Says, LineGives, HasNoRoom, Adds, NotAdded}
-use Rattle.fault_syntax.specs.Answers.{RefusesAt}
+use Rattle.fault_syntax.specs.Adding.{Says, HasNoRoom, Adds, NotAdded}
 use Rattle.fault_syntax.specs.Brief.{answer_of, read_item_of, read_parts_of}
 use Rattle.fault_syntax.specs.ListText.{Item, Primitive as OnePrimitive, Named, LineText}
-use Rattle.fault_syntax.specs.Lists.{IsLineUnexpected, Bring, IsLineFault, LineRefuses, FirstRefusal}
+use Rattle.fault_syntax.specs.Lists.{Bring, IsLineFault, LineRefuses, FirstRefusal}
 use Rattle.fault_syntax.specs.Parts.{StandsFor, Brings}
 use Rattle.fault_syntax.specs.declared.reader.ReadItem.TheVariants.{Primitive as ReadPrimitive}
 use Rattle.fault_syntax.specs.declared.reader.ReadParts.{ReadParts}
@@ -67,11 +65,11 @@ reading_starts lines = record { done = []; split = refl; brought = refl; within 
 
 pub reading_on : (lines left : List TextLine) (l : TextLine) (ps new : List Primitive) (v : Option Item) → Reading lines (l ∷ left) ps → LineText l.text v → Adds v ps new → Reading lines left new
 reading_on lines left l ps new v r t a = record {
-    done = r.done ++ l ∷ [];
-    split = r.split ∙ sym (append_assoc r.done (l ∷ []) left);
-    brought = subst (Bring (r.done ++ l ∷ [])) (sym a.joined) (bring_one r.done ps l v a.more r.brought t a.brought);
-    within = a.within;
-  }
+  done = r.done ++ l ∷ [];
+  split = r.split ∙ sym (append_assoc r.done (l ∷ []) left);
+  brought = subst (Bring (r.done ++ l ∷ [])) (sym a.joined) (bring_one r.done ps l v a.more r.brought t a.brought);
+  within = a.within;
+}
 
 pub reading_ends : (lines : List TextLine) (ps : List Primitive) → Reading lines [] ps → Bring lines ps
 reading_ends lines ps r = subst (λ x. Bring x ps) (sym (r.split ∙ append-nil r.done)) r.brought

@@ -1,8 +1,8 @@
 -- The names of a list: what may come of their first letters.
-use Rattle.std.proofs.Common.{◌≡◌, ℕ, ◌==◌, Bool, true, false, List, [], ◌∷◌, ◌++◌, Option, Some, None, refl, ◌↔◌, ◌⊎◌, inl, inr, subst, sym, map, if◌then◌else◌}
+use Rattle.std.proofs.Common.{◌≡◌, ℕ, ◌==◌, Bool, true, false, List, [], ◌∷◌, Option, Some, None, refl, ◌↔◌, ◌⊎◌, inl, inr, subst, sym, map}
 use Rattle.bist_text.specs.Grammar.{word, when, are_bytes}
 use Rattle.bist_text.specs.Machine.{Holds}
-use Rattle.bist_text.proofs.Pieces.{at_byte, also, same, never, neither, either_iff}
+use Rattle.bist_text.proofs.Pieces.{at_byte, also, same, neither, either_iff}
 use Rattle.fault_core.specs.declared.table.Class.TheVariants.{SF, TF, WDF, RDF, DRDF, IRF, CFst, CFds, CFtr, CFwd, CFrd, CFdr, CFir}
 use Rattle.fault_syntax.specs.declared.place.Name.{Name}
 use Rattle.fault_syntax.specs.declared.place.Name.TheVariants.{OfClass, One, Two, All}

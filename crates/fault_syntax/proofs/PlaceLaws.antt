@@ -1,8 +1,8 @@
 -- The four laws of the places of a primitive or a list line: what may follow each, by the next byte.
-use Rattle.std.proofs.Common.{◌≡◌, ℕ, ◌==◌, Bool, true, false, not, List, [], ◌∷◌, ◌++◌, ◌∙◌, Option, Some, None, is_some, option_map, refl, ◌↔◌, ◌⊎◌, ◌&&◌, inl, inr, subst, sym, ap, append-nil, append_assoc, if◌then◌else◌, arith}
+use Rattle.std.proofs.Common.{◌≡◌, ℕ, ◌==◌, Bool, true, false, not, List, [], ◌∷◌, ◌++◌, ◌∙◌, Option, Some, None, is_some, option_map, refl, ◌↔◌, ◌⊎◌, ◌&&◌, inl, inr, subst, sym, ap, append-nil, if◌then◌else◌}
 use Rattle.bist_text.specs.Grammar.{finish, word, when, many, is_blank, are_bytes, Continues}
 use Rattle.bist_text.specs.Machine.{Holds, Grows, Follows}
-use Rattle.bist_text.proofs.Pieces.{at_byte, also, back, skip, stay, neither, same, never, holds_iff, grows_iff, grows_never, grows_from_none, Headed, grows_one, many_never}
+use Rattle.bist_text.proofs.Pieces.{at_byte, also, skip, stay, neither, same, never, grows_iff, grows_never, grows_from_none, Headed, grows_one, many_never}
 use Rattle.fault_syntax.specs.declared.place.Access.{Access}
 use Rattle.fault_syntax.specs.declared.place.Access.TheVariants.{Write, Read}
 use Rattle.fault_syntax.specs.declared.place.Op.{Op}
@@ -13,14 +13,10 @@ use Rattle.fault_syntax.specs.declared.place.Spelled.{Spelled}
 use Rattle.fault_syntax.specs.declared.place.Spelled.TheVariants.{More, Whole}
 use Rattle.fault_syntax.specs.declared.place.Place.{Place}
 use Rattle.fault_syntax.specs.declared.place.Place.TheVariants.{Start, Spelling, Opened, Lead, Sensed, Digit, Effect, Left, Reply, Replied, Closed, Comment}
-use Rattle.fault_syntax.specs.declared.place.Event.{Event}
-use Rattle.fault_syntax.specs.declared.place.Event.TheVariants.{Quiet, Opens, Holds as HoldsState, Leads, Adds, Parts, Leaves, Answers, Closes, Names, Nothing}
-use Rattle.fault_syntax.specs.declared.place.Kind.{Kind}
-use Rattle.fault_syntax.specs.declared.place.Kind.TheVariants.{NoItem, IsPrimitive, IsNamed}
-use Rattle.fault_syntax.specs.declared.place.Move.{Move}
-use Rattle.fault_syntax.specs.ListText.{Item, Primitive, Named, name_text, anything, line_end, item, LineText}
-use Rattle.fault_syntax.specs.PrimText.{SenseText, PrimParts, ws, bit_text, access_text, answer_text, op, more_ops, led, sense, effect, senses, prim, PrimText}
-use Rattle.fault_syntax.specs.Places.{spell, to, spelling, operation, move_at, may_end, State, start, moved, step_at, step, parts_of, item_of, item_at, value, left, among, ending, begins, in_prim, in_name, victim_left, first_sense, the_sense, lead_left, digit_left, begun, answer_left, effect_left, left_at, rest}
+use Rattle.fault_syntax.specs.declared.place.Event.TheVariants.{Parts}
+use Rattle.fault_syntax.specs.ListText.{Item, Primitive, Named, name_text, anything, line_end, LineText}
+use Rattle.fault_syntax.specs.PrimText.{SenseText, PrimParts, ws, bit_text, access_text, answer_text, op, more_ops, led, sense, effect, senses, PrimText}
+use Rattle.fault_syntax.specs.Places.{spell, to, spelling, operation, may_end, State, start, moved, step_at, step, parts_of, item_of, item_at, value, left, among, ending, begins, in_prim, in_name, victim_left, first_sense, the_sense, lead_left, digit_left, begun, answer_left, effect_left, left_at, rest}
 use Rattle.fault_syntax.proofs.NameLaws.{spelled, spell_law, no_part, name_begins, part_alive}
 
 abbrev Law : Bool → Place → State → List ℕ → Option Item → ℕ → Type 0
@@ -326,7 +322,6 @@ goes_opened l s c b v = at_byte P c 32 (within l s.agg (λ t L. ws (sense t L) (
     P : ℕ → Type 0
     P x = Law l Opened s b v x
 
-
 -- ---- behind the senses
 
 keep_third : {A B C D : Type 0} → C ↔ D → (A × B × C) ↔ (A × B × D)
@@ -469,7 +464,6 @@ goes_start_false s c b v = at_byte P c 32 (skip (no_begin false v 32 b refl refl
   where
     P : ℕ → Type 0
     P x = Law false Start s b v x
-
 
 goes_at : (l : Bool) (p : Place) (s : State) (c : ℕ) (b : List ℕ) (v : Option Item) → Law l p s b v c
 goes_at true Start s c b v = goes_start_true s c b v

@@ -1,12 +1,12 @@
 -- From the outcome of the machine to what the reader of a primitive promises.
-use Rattle.std.proofs.Common.{◌≡◌, ◌↔◌, ℕ, ◌+◌, ◌<◌, Bool, true, false, List, [], ◌∷◌, ◌++◌, ◌∙◌, Option, Some, None, Result, Ok, Err, IfErr, refl, sym, ap, subst, arith, take}
+use Rattle.std.proofs.Common.{◌≡◌, ◌↔◌, ℕ, ◌+◌, true, false, List, ◌++◌, Option, Some, None, Result, Ok, Err, IfErr, refl, sym, ap, subst, arith, take}
 use Rattle.bist_text.specs.Grammar.{Continues, IsUnexpected, IsTruncated, are_bytes}
 use Rattle.bist_text.specs.Machine.{Outcome, read, unexpected, truncated, scan, IsExact}
 use Rattle.bist_text.proofs.Exclusive.{scan_exact}
 use Rattle.fault_core.specs.Primitive.{Primitive, IsPrimitive}
 use Rattle.fault_syntax.specs.declared.fault.FaultFault.{FaultFault}
 use Rattle.fault_syntax.specs.declared.fault.FaultFault.TheVariants.{Unexpected, Truncated, NotAFault, TooManyOperations, TooManyPrimitives, NoMemory}
-use Rattle.fault_syntax.specs.Answers.{RefusesAt, JudgesAt, GivesPrim}
+use Rattle.fault_syntax.specs.Answers.{RefusesAt, GivesPrim}
 use Rattle.fault_syntax.specs.ListText.{Item, Primitive as OnePrimitive, Named}
 use Rattle.fault_syntax.specs.Brief.{answer_of, read_parts_of}
 use Rattle.fault_syntax.specs.declared.reader.ReadItem.{ReadItem}
@@ -14,7 +14,7 @@ use Rattle.fault_syntax.specs.declared.reader.ReadItem.TheVariants.{Primitive as
 use Rattle.fault_syntax.specs.declared.reader.ReadParts.{ReadParts}
 use Rattle.fault_syntax.specs.declared.reader.Refusal.{Refusal}
 use Rattle.fault_syntax.specs.Parts.{StandsFor}
-use Rattle.fault_syntax.specs.Places.{State, start, step, value, rest, in_prim}
+use Rattle.fault_syntax.specs.Places.{start, step, value, rest, in_prim}
 use Rattle.fault_syntax.specs.PrimText.{PrimParts, PrimText}
 use Rattle.fault_syntax.proofs.Judging.{stands_one, one_operation}
 use Rattle.fault_syntax.proofs.PlaceLaws.{follows, Alone, alone_is}
@@ -60,25 +60,25 @@ not_refused text p NoMemory h i r = r
 
 answers : (b : List ℕ) (r : Result Primitive FaultFault) (o : Outcome (Option Item)) → IsExact Alone b o → GivesPrim r o → Reads b r
 answers b r (unexpected j) x g = record {
-    ok = λ p. (λ e. cc, λ h. let k : unexpected j ≡ read (Some (OnePrimitive h.0)) = (x.reads (Some (OnePrimitive h.0))).1 h.1 in cc);
-    unexpected_at = λ k. (λ e. let i : j ≡ k = cc in (unexpected_parts b k).0 ((x.refuses k).0 (ap unexpected i)), λ u. let i : unexpected j ≡ unexpected k = (x.refuses k).1 ((unexpected_parts b k).1 u) in cc);
-    truncated_is = (λ e. cc, λ t. let i : unexpected j ≡ truncated = x.ends_early.1 ((truncated_parts b).1 t) in cc);
-    refused = λ text t. let k : unexpected j ≡ read (Some (OnePrimitive text)) = (x.reads (Some (OnePrimitive text))).1 t in cc;
-  }
+  ok = λ p. (λ e. cc, λ h. let k : unexpected j ≡ read (Some (OnePrimitive h.0)) = (x.reads (Some (OnePrimitive h.0))).1 h.1 in cc);
+  unexpected_at = λ k. (λ e. let i : j ≡ k = cc in (unexpected_parts b k).0 ((x.refuses k).0 (ap unexpected i)), λ u. let i : unexpected j ≡ unexpected k = (x.refuses k).1 ((unexpected_parts b k).1 u) in cc);
+  truncated_is = (λ e. cc, λ t. let i : unexpected j ≡ truncated = x.ends_early.1 ((truncated_parts b).1 t) in cc);
+  refused = λ text t. let k : unexpected j ≡ read (Some (OnePrimitive text)) = (x.reads (Some (OnePrimitive text))).1 t in cc;
+}
 answers b r truncated x g = record {
-    ok = λ p. (λ e. cc, λ h. let k : truncated ≡ read (Some (OnePrimitive h.0)) = (x.reads (Some (OnePrimitive h.0))).1 h.1 in cc);
-    unexpected_at = λ k. (λ e. cc, λ u. let i : truncated ≡ unexpected k = (x.refuses k).1 ((unexpected_parts b k).1 u) in cc);
-    truncated_is = (λ e. (truncated_parts b).0 (x.ends_early.0 refl), λ t. g);
-    refused = λ text t. let k : truncated ≡ read (Some (OnePrimitive text)) = (x.reads (Some (OnePrimitive text))).1 t in cc;
-  }
+  ok = λ p. (λ e. cc, λ h. let k : truncated ≡ read (Some (OnePrimitive h.0)) = (x.reads (Some (OnePrimitive h.0))).1 h.1 in cc);
+  unexpected_at = λ k. (λ e. cc, λ u. let i : truncated ≡ unexpected k = (x.refuses k).1 ((unexpected_parts b k).1 u) in cc);
+  truncated_is = (λ e. (truncated_parts b).0 (x.ends_early.0 refl), λ t. g);
+  refused = λ text t. let k : truncated ≡ read (Some (OnePrimitive text)) = (x.reads (Some (OnePrimitive text))).1 t in cc;
+}
 answers b r (read None) x g = absurd g
 answers b r (read (Some (Named n))) x g = absurd g
 answers b (Ok q) (read (Some (OnePrimitive text))) x g = record {
-    ok = λ p. (λ e. let i : q ≡ p = same q p e in (text, (x.reads (Some (OnePrimitive text))).0 refl, subst (StandsFor text) i g.0, subst IsPrimitive i g.1), λ h. ap (λ z. Ok z) (stands_one text q p g.0 (subst (λ z. StandsFor z p) (sym (text_is h.0 h.1)) h.2)));
-    unexpected_at = λ k. (λ e. cc, λ u. let i : read (Some (OnePrimitive text)) ≡ unexpected k = (x.refuses k).1 ((unexpected_parts b k).1 u) in cc);
-    truncated_is = (λ e. cc, λ t. let i : read (Some (OnePrimitive text)) ≡ truncated = x.ends_early.1 ((truncated_parts b).1 t) in cc);
-    refused = λ text t. tt;
-  }
+  ok = λ p. (λ e. let i : q ≡ p = same q p e in (text, (x.reads (Some (OnePrimitive text))).0 refl, subst (StandsFor text) i g.0, subst IsPrimitive i g.1), λ h. ap (λ z. Ok z) (stands_one text q p g.0 (subst (λ z. StandsFor z p) (sym (text_is h.0 h.1)) h.2)));
+  unexpected_at = λ k. (λ e. cc, λ u. let i : read (Some (OnePrimitive text)) ≡ unexpected k = (x.refuses k).1 ((unexpected_parts b k).1 u) in cc);
+  truncated_is = (λ e. cc, λ t. let i : read (Some (OnePrimitive text)) ≡ truncated = x.ends_early.1 ((truncated_parts b).1 t) in cc);
+  refused = λ text t. tt;
+}
   where
     same : (q p : Primitive) → (let r : Result Primitive FaultFault = Ok q in r ≡ Ok p) → q ≡ p
     same q p e = cc
@@ -89,11 +89,11 @@ answers b (Ok q) (read (Some (OnePrimitive text))) x g = record {
     text_is : (t : PrimParts) → PrimText b t → text ≡ t
     text_is t h = read_same text t ((x.reads (Some (OnePrimitive t))).1 h)
 answers b (Err f) (read (Some (OnePrimitive text))) x g = record {
-    ok = λ p. (λ e. cc, λ h. absurd (not_refused text p f (subst (λ z. StandsFor z p) (sym (text_is h.0 h.1)) h.2) h.3 g));
-    unexpected_at = λ k. (λ e. absurd (not_unexpected f k (fault_is f _ e) g), λ u. let i : read (Some (OnePrimitive text)) ≡ unexpected k = (x.refuses k).1 ((unexpected_parts b k).1 u) in cc);
-    truncated_is = (λ e. absurd (not_truncated f (fault_is f _ e) g), λ t. let i : read (Some (OnePrimitive text)) ≡ truncated = x.ends_early.1 ((truncated_parts b).1 t) in cc);
-    refused = λ t h. subst (λ z. RefusesAt 1 z f) (text_is t h) g;
-  }
+  ok = λ p. (λ e. cc, λ h. absurd (not_refused text p f (subst (λ z. StandsFor z p) (sym (text_is h.0 h.1)) h.2) h.3 g));
+  unexpected_at = λ k. (λ e. absurd (not_unexpected f k (fault_is f _ e) g), λ u. let i : read (Some (OnePrimitive text)) ≡ unexpected k = (x.refuses k).1 ((unexpected_parts b k).1 u) in cc);
+  truncated_is = (λ e. absurd (not_truncated f (fault_is f _ e) g), λ t. let i : read (Some (OnePrimitive text)) ≡ truncated = x.ends_early.1 ((truncated_parts b).1 t) in cc);
+  refused = λ t h. subst (λ z. RefusesAt 1 z f) (text_is t h) g;
+}
   where
     read_same : (s t : PrimParts) → (let v : Outcome (Option Item) = read (Some (OnePrimitive s)) in v ≡ read (Some (OnePrimitive t))) → s ≡ t
     read_same s t e = cc

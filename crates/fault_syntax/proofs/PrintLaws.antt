@@ -1,5 +1,5 @@
 -- The printed form of a primitive is a text that stands for it.
-use Rattle.std.proofs.Common.{◌≡◌, ℕ, Bool, true, false, List, [], ◌∷◌, ◌++◌, Option, Some, None, refl, inl, inr, subst, sym, append_assoc}
+use Rattle.std.proofs.Common.{◌≡◌, ℕ, Bool, List, [], ◌∷◌, ◌++◌, Option, Some, None, refl, inl, subst, sym, append_assoc}
 use Rattle.bist_text.specs.Grammar.{finish, word, is_blank}
 use Rattle.bist_text.proofs.Pieces.{many_none, word_on}
 use Rattle.fault_core.specs.declared.primitive.Act.{Act}
@@ -8,10 +8,10 @@ use Rattle.fault_core.specs.declared.primitive.Sense.{Sense}
 use Rattle.fault_core.specs.Primitive.{Primitive}
 use Rattle.fault_syntax.specs.declared.place.Access.TheVariants.{Write, Read}
 use Rattle.fault_syntax.specs.declared.place.Op.{Op}
-use Rattle.fault_syntax.specs.Parts.{AreAct, IsSense, IsAggressor, StandsFor}
+use Rattle.fault_syntax.specs.Parts.{AreAct, IsAggressor, StandsFor}
 use Rattle.fault_syntax.specs.Places.{operation}
 use Rattle.fault_syntax.specs.Printed.{act_text, sense_text, aggressor_text, printed}
-use Rattle.fault_syntax.specs.PrimText.{SenseText, PrimParts, ws, bit_text, answer_text, more_ops, sense, senses, effect, prim, PrimText}
+use Rattle.fault_syntax.specs.PrimText.{SenseText, PrimParts, ws, bit_text, answer_text, more_ops, sense, senses, effect, PrimText}
 
 -- the written parts of a primitive
 abbrev ops_of : Bool → Option Act → List Op

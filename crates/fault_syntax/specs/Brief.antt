@@ -1,5 +1,5 @@
 -- What a reader keeps of what it has read.
-use Rattle.std.specs.Prelude.{◌≡◌, ℕ, Bool, true, false, Option, Some, None, List, [], ◌∷◌, Result, Ok, Err, option_map}
+use Rattle.std.specs.Prelude.{Bool, true, false, Option, Some, None, List, [], ◌∷◌, Result, Ok, Err, option_map}
 use Rattle.bist_text.specs.Machine.{Outcome, read, unexpected, truncated}
 use Rattle.fault_syntax.specs.declared.place.Op.{Op}
 use Rattle.fault_syntax.specs.declared.reader.Brief.{Brief}

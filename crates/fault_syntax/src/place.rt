@@ -234,13 +234,8 @@ fn next_letter(part: Part, byte: u8) -> Option<Spelled>
 {
     match part {
         Part::Begin => first_letter(byte),
-        Part::CF
-        | Part::CFs
-        | Part::CFd
-        | Part::CFt
-        | Part::CFw
-        | Part::CFr
-        | Part::CFi => coupling_letter(part, byte),
+        Part::CF | Part::CFs | Part::CFd | Part::CFt | Part::CFw | Part::CFr | Part::CFi =>
+            coupling_letter(part, byte),
         Part::LetterO
         | Part::LettersOn
         | Part::LetterT
@@ -324,12 +319,7 @@ fn next_effect(place: Place, byte: u8) -> Option<Move>
 }
 
 /// Where a reader goes by a byte; None where nothing can go on by it.
-pub(crate) fn next_move(
-    place: Place,
-    listed: bool,
-    has_aggressor: bool,
-    byte: u8,
-) -> Option<Move>
+pub(crate) fn next_move(place: Place, listed: bool, has_aggressor: bool, byte: u8) -> Option<Move>
     ensures { result ≡ move_at place listed has_aggressor byte }
 {
     match place {

@@ -5,7 +5,7 @@ use Rattle.fault_syntax.proofs.list.read_list.Given as goal
 -- the lines so far are read
 abbrev pub invariant-loop-line : goal.invariant-loop-line
 invariant-loop-line l = record {
-    can_next : (goal.iterator-loop-line).can_next l.line-iterator;
-    is_finite : (goal.iterator-loop-line).is_finite l.line-iterator;
-    reading : Reading (text_lines l.bytes) (lines_left l.line-iterator) l.prims.items;
-  }
+  can_next : (goal.iterator-loop-line).can_next l.line-iterator;
+  is_finite : (goal.iterator-loop-line).is_finite l.line-iterator;
+  reading : Reading (text_lines l.bytes) (lines_left l.line-iterator) l.prims.items;
+}
