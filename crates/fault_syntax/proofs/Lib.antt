@@ -5,3 +5,4 @@ mod Judging
 mod PrimReads
 mod PrintLaws
 mod ListReads
+mod ListExact

@@ -1,4 +1,5 @@
-ghost use Rattle.std.specs.Prelude.{◌≡◌, ◌++◌, ◌≤◌, length, OnOk, IfOk, IfErr, Option};
+ghost use Rattle.std.specs.Prelude.{◌≡◌, ◌++◌, ◌≤◌, length, List, OnOk, IfOk, IfErr, MatchResult, Option};
+ghost use Rattle.fault_core.specs.Primitive.{Primitive};
 ghost use Rattle.bist_text.specs.Lines.{plain_line, text_lines};
 ghost use Rattle.fault_syntax.specs.Adding.{HasNoRoom, Says, LineGives, Adds, NotAdded};
 ghost use Rattle.fault_syntax.specs.Brief.{read_item_of};
@@ -86,8 +87,8 @@ fn add_item(prims: &mut Vec<Prim>, item: ReadItem, line: usize) -> Result<(), Fa
     }
 }
 
-/// Reads a fault list, line by line. The first refusal decides. Repeats are kept.
-pub fn read_list(alloc: Global, bytes: &[u8]) -> Result<Vec<Prim>, FaultFault>
+/// Reads the lines, one after another.
+fn read_lines(alloc: Global, bytes: &[u8]) -> Result<Vec<Prim>, FaultFault>
     ensures ok { IfOk result (λ prims. Bring (text_lines bytes.now) prims.items) }
     ensures within { IfOk result (λ prims. length prims.items ≤ 1024) }
     ensures refused { IfErr result (FirstRefusal (text_lines bytes.now)) }
@@ -98,4 +99,19 @@ pub fn read_list(alloc: Global, bytes: &[u8]) -> Result<Vec<Prim>, FaultFault>
         add_item(&mut prims, item, line.number)?;
     }
     Ok(prims)
+}
+
+/// Reads a fault list, line by line. The first refusal decides. Repeats are kept.
+pub fn read_list(alloc: Global, bytes: &[u8]) -> Result<Vec<Prim>, FaultFault>
+    // What is read is what the lines bring, in their order, and at most 1,024.
+    ensures ok { IfOk result (λ prims. Bring (text_lines bytes.now) prims.items) }
+    ensures within { IfOk result (λ prims. length prims.items ≤ 1024) }
+
+    // Lines that bring so many are read, unless memory runs out.
+    ensures accepted { (ps : List Primitive) → Bring (text_lines bytes.now) ps → length ps ≤ 1024 → MatchResult result (λ prims. prims.items ≡ ps) (λ fault. fault ≡ FaultFault.NoMemory) }
+
+    // F1 to F5, at the first line that is refused.
+    ensures refused { IfErr result (FirstRefusal (text_lines bytes.now)) }
+{
+    read_lines(alloc, bytes)
 }

@@ -1,6 +1,6 @@
 use Rattle.bist_text.specs.Lines.{lines_left, text_lines}
 use Rattle.fault_syntax.proofs.ListReads.{Reading}
-use Rattle.fault_syntax.proofs.list.read_list.Given as goal
+use Rattle.fault_syntax.proofs.list.read_lines.Given as goal
 
 -- the lines so far are read
 abbrev pub invariant-loop-line : goal.invariant-loop-line
