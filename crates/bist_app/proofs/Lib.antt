@@ -4,3 +4,4 @@ pub mod Statuses
 pub mod Complete
 pub mod Shapes
 pub mod DirectionWord
+pub mod Judging

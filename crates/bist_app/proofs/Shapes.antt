@@ -3,7 +3,9 @@ use Rattle.bist_app.specs.declared.commands.Command.{Command}
 use Rattle.bist_app.specs.declared.sim.SimShape.{SimShape}
 use Rattle.bist_app.specs.Words.{Words}
 use Rattle.bist_app.specs.Sim.{IsSimShape}
+use Rattle.bist_app.specs.Judge.{IsJudgeShape}
 use Rattle.bist_app.specs.Run.{HasNoShape}
 
-pub no_shape : (words : Words) → ((shape : SimShape) → IsSimShape words shape → ⊥) → HasNoShape words
-no_shape words sim (Command.Sim shape) h = sim shape h
+pub no_shape : (words : Words) → ((shape : SimShape) → IsSimShape words shape → ⊥) → (IsJudgeShape words → ⊥) → HasNoShape words
+no_shape words sim judge (Command.Sim shape) h = sim shape h
+no_shape words sim judge Command.Judge h = judge h

@@ -8,8 +8,10 @@ use Rattle.bist_app.specs.declared.commands.Command.{Command}
 use Rattle.bist_app.specs.declared.sim.SimShape.{SimShape}
 use Rattle.bist_app.specs.Ending.{Done}
 use Rattle.bist_app.specs.Words.{Words, word}
-use Rattle.bist_app.specs.Inputs.{GivesBytes, GivesMarch, InputMarch, GivesPrim}
-use Rattle.bist_app.specs.Sim.{FitsDirections, LeavesSim, DecidesSim}
+use Rattle.bist_app.specs.Inputs.{GivesBytes, GivesMarch, InputMarch, GivesPrim, GivesList, InputList}
+use Rattle.bist_app.specs.Sim.{FitsAggressor, FitsDirections, LeavesSim, DecidesSim}
+use Rattle.bist_app.specs.Judge.{LeavesJudge, DecidesJudge}
+use Rattle.fault_core.specs.Primitive.{Primitive}
 use Rattle.bist_app.specs.Run.{DecidesCommand}
 
 -- a check that never answers usage
@@ -38,6 +40,20 @@ pub prim_never : (text : List ℕ) → NeverUsage (GivesPrim text)
 unfolding GivesPrim
 prim_never text h = h
 
+list_never : (bytes : List ℕ) → NeverUsage (GivesList bytes)
+unfolding GivesList
+list_never bytes h = h
+
+input_list_never : (files : Option Files) (words : Words) (position : ℕ) → NeverUsage (InputList files words position)
+unfolding InputList
+input_list_never files words position (Ok bytes, read, list) = list_never bytes list
+input_list_never files words position (Err e, read, is) =
+    bytes_never files (word words position) position (turned (GivesBytes files (word words position) position) (let x : Result (List Primitive) Refusal = Err Refusal.Usage in x) e refl is read)
+
+aggressor_never : (aggressor : Option ℕ) (prim : Primitive) → NeverUsage (FitsAggressor aggressor prim)
+unfolding FitsAggressor
+aggressor_never aggressor prim h = h
+
 directions_never : (letters : List ℕ) (march : List MarchElement) → NeverUsage (FitsDirections letters march)
 unfolding FitsDirections
 directions_never letters march h = h
@@ -52,8 +68,22 @@ sim_never files words shape (Err e, read, is) =
 sim_never files words shape (Ok march, read, (Err e, given, is)) =
     prim_never (word words 2) (turned (GivesPrim (word words 2)) (let x : Result Done Refusal = Err Refusal.Usage in x) e refl is given)
 sim_never files words shape (Ok march, read, (Ok prim, given, (Err e, fits, is))) =
+    aggressor_never shape.aggressor prim (turned (FitsAggressor shape.aggressor prim) (let x : Result Done Refusal = Err Refusal.Usage in x) e refl is fits)
+sim_never files words shape (Ok march, read, (Ok prim, given, (Ok _, stands, (Err e, fits, is)))) =
     directions_never (word words 7) march (turned (FitsDirections (word words 7) march) (let x : Result Done Refusal = Err Refusal.Usage in x) e refl is fits)
-sim_never files words shape (Ok march, read, (Ok prim, given, (Ok _, fits, leaves))) = leaves_never _ leaves
+sim_never files words shape (Ok march, read, (Ok prim, given, (Ok _, stands, (Ok _, fits, leaves)))) = leaves_never _ leaves
+
+judge_leaves_never : (march : List MarchElement) (prims : List Primitive) → NeverUsage (LeavesJudge march prims)
+unfolding LeavesJudge
+judge_leaves_never march prims h = h
+
+judge_never : (files : Option Files) (words : Words) → NeverUsage (DecidesJudge files words)
+judge_never files words (Err e, read, is) =
+    input_march_never files words 1 (turned (InputMarch files words 1) (let x : Result Done Refusal = Err Refusal.Usage in x) e refl is read)
+judge_never files words (Ok march, read, (Err e, given, is)) =
+    input_list_never files words 2 (turned (InputList files words 2) (let x : Result Done Refusal = Err Refusal.Usage in x) e refl is given)
+judge_never files words (Ok march, read, (Ok prims, given, leaves)) = judge_leaves_never march prims leaves
 
 pub never_usage : (files : Option Files) (words : Words) (command : Command) → NeverUsage (DecidesCommand files words command)
 never_usage files words (Command.Sim shape) = sim_never files words shape
+never_usage files words Command.Judge = judge_never files words

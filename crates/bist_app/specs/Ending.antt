@@ -1,6 +1,7 @@
 -- What a command ends with: its plan as plain data, the statuses and the said lines.
 use Rattle.std.specs.Prelude.{◌++◌, ℕ, Bool, true, false, List, map, Result, Ok, Err, codes, decimal}
 use Rattle.march_core.specs.declared.fault.MarchFault.{MarchFault}
+use Rattle.fault_syntax.specs.declared.fault.FaultFault.{FaultFault}
 use Rattle.bist_app.specs.declared.ending.Refusal.{Refusal}
 use Rattle.bist_app.specs.declared.ending.Misfit.{Misfit}
 use Rattle.bist_app.specs.declared.ending.Output.{Output}
@@ -30,7 +31,7 @@ plain (Err refusal) = Err refusal
 abbrev pub status_of : Refusal → ℕ
 status_of Refusal.Usage = 2
 status_of (Refusal.March fault) = 3
-status_of (Refusal.Fault line) = 5
+status_of (Refusal.Fault fault) = 5
 status_of (Refusal.TooLarge position) = 6
 status_of (Refusal.ReadFailed position) = 7
 status_of Refusal.NoMemory = 9
@@ -62,12 +63,22 @@ march_fault_text MarchFault.TooManyInAll = codes "M6"
 march_fault_text (MarchFault.ReadBeforeWrite element op) = codes "M7 element " ++ decimal element ++ codes " operation " ++ decimal op
 march_fault_text (MarchFault.WrongExpect element op) = codes "M8 element " ++ decimal element ++ codes " operation " ++ decimal op
 
+-- why a primitive or a list is refused: its code, line and byte (want of memory has a refusal of its own)
+abbrev pub fault_text : FaultFault → List ℕ
+fault_text (FaultFault.Unexpected line byte) = codes "F1 line " ++ decimal line ++ codes " byte " ++ decimal byte
+fault_text (FaultFault.Truncated line) = codes "F2 line " ++ decimal line
+fault_text (FaultFault.NotAFault line) = codes "F3 line " ++ decimal line
+fault_text (FaultFault.TooManyOperations line) = codes "F4 line " ++ decimal line
+fault_text (FaultFault.TooManyPrimitives line) = codes "F5 line " ++ decimal line
+fault_text FaultFault.NoMemory = codes "F6"
+
 abbrev pub refusal_line : Refusal → List ℕ
 refusal_line Refusal.Usage = codes "usage\n"
 refusal_line (Refusal.March fault) = codes "march " ++ march_fault_text fault ++ codes "\n"
-refusal_line (Refusal.Fault line) = numbered_line (codes "fault form line ") line
+refusal_line (Refusal.Fault fault) = codes "fault " ++ fault_text fault ++ codes "\n"
 refusal_line (Refusal.TooLarge position) = numbered_line (codes "too large ") position
 refusal_line (Refusal.ReadFailed position) = numbered_line (codes "read failed ") position
 refusal_line (Refusal.Absent position) = numbered_line (codes "absent ") position
+refusal_line (Refusal.Misfit Misfit.Aggressor) = codes "misfit aggressor\n"
 refusal_line (Refusal.Misfit Misfit.Directions) = codes "misfit directions\n"
 refusal_line Refusal.NoMemory = no_memory_line

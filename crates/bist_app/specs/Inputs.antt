@@ -1,5 +1,5 @@
 -- What the inputs of a command give: its checks in their order.
-use Rattle.std.specs.Prelude.{◌≡◌, ◌≢◌, ◌↔◌, ℕ, List, Option, Some, None, Result, Ok, Err}
+use Rattle.std.specs.Prelude.{◌≡◌, ◌≤◌, ◌↔◌, ℕ, length, List, Option, Some, None, Result, Ok, Err}
 use Rattle.bist_host.specs.Files.{Files, ReadGives, IsReadable, IsTooLarge}
 use Rattle.march_core.specs.March.{MarchElement, IsMarch}
 use Rattle.fault_core.specs.Primitive.{Primitive, IsPrimitive}
@@ -10,7 +10,13 @@ use Rattle.march_core.specs.declared.fault.MarchFault.TheVariants.{Unexpected, T
 use Rattle.bist_text.specs.Grammar.{IsUnexpected, IsTruncated}
 use Rattle.march_syntax.specs.MarchText.{MarchText}
 use Rattle.march_syntax.specs.Answers.{Refuses}
-use Rattle.bist_app.specs.Texts.{one_cell_text}
+use Rattle.bist_text.specs.Lines.{text_lines}
+use Rattle.fault_syntax.specs.declared.fault.FaultFault.{FaultFault}
+use Rattle.fault_syntax.specs.declared.fault.FaultFault.TheVariants.{Unexpected as UnexpectedFault, Truncated as TruncatedFault}
+use Rattle.fault_syntax.specs.PrimText.{PrimParts, PrimText}
+use Rattle.fault_syntax.specs.Parts.{StandsFor}
+use Rattle.fault_syntax.specs.Answers.{RefusesAt}
+use Rattle.fault_syntax.specs.Lists.{Bring, FirstRefusal}
 use Rattle.bist_app.specs.Then.{Then}
 use Rattle.bist_app.specs.Words.{Words, word}
 
@@ -57,8 +63,26 @@ GivesMarch bytes (Err other) = ⊥
 unfoldable pub InputMarch : Option Files → Words → ℕ → Result (List MarchElement) Refusal → Type 0
 InputMarch files words position = Then (GivesBytes files (word words position) position) GivesMarch
 
--- the primitive of one cell whose printed form the word is; refused exactly where there is none
+-- the bytes are no text of a primitive, for this reason
+pub record RefusesPrim (bytes : List ℕ) (fault : FaultFault) : Type 0 where
+  pub no_prim : (text : PrimParts) (prim : Primitive) → PrimText bytes text → StandsFor text prim → IsPrimitive prim → ⊥
+  pub unexpected : (byte : ℕ) → (fault ≡ UnexpectedFault 1 byte) ↔ IsUnexpected PrimText bytes byte
+  pub truncated : (fault ≡ TruncatedFault 1) ↔ IsTruncated PrimText bytes
+  pub refused : (text : PrimParts) → PrimText bytes text → RefusesAt 1 text fault
+
+-- the primitive whose text the word is
 unfoldable pub GivesPrim : List ℕ → Result Primitive Refusal → Type 0
-GivesPrim text (Ok prim) = IsPrimitive prim × (prim.agg ≡ None) × (text ≡ one_cell_text prim)
-GivesPrim text (Err (Refusal.Fault line)) = (line ≡ 1) × ((prim : Primitive) → IsPrimitive prim → prim.agg ≡ None → text ≢ one_cell_text prim)
-GivesPrim text (Err other) = ⊥
+GivesPrim bytes (Ok prim) = (text : PrimParts) × PrimText bytes text × StandsFor text prim × IsPrimitive prim
+GivesPrim bytes (Err (Refusal.Fault fault)) = RefusesPrim bytes fault
+GivesPrim bytes (Err other) = ⊥
+
+-- the primitives that the lines of a list bring, or the first line that is refused
+unfoldable pub GivesList : List ℕ → Result (List Primitive) Refusal → Type 0
+GivesList bytes (Ok prims) = Bring (text_lines bytes) prims × (length prims ≤ 1024)
+GivesList bytes (Err (Refusal.Fault fault)) = FirstRefusal (text_lines bytes) fault
+GivesList bytes (Err Refusal.NoMemory) = Unit {0}
+GivesList bytes (Err other) = ⊥
+
+-- the primitives of the list that a word names
+unfoldable pub InputList : Option Files → Words → ℕ → Result (List Primitive) Refusal → Type 0
+InputList files words position = Then (GivesBytes files (word words position) position) GivesList

@@ -1,9 +1,9 @@
-pub mod Texts
 pub mod Then
 pub mod Words
 pub mod Inputs
 pub mod Ending
 pub mod Sim
+pub mod Judge
 pub mod LetterBits
 pub mod Conclude
 pub mod Run

@@ -1,9 +1,10 @@
 -- The command `sim MARCH PRIM SIZE CONTENT AGG VIC DIRS`: its shape, its checks in their order, and what it leaves.
-use Rattle.std.specs.Prelude.{◌≡◌, ◌<◌, ◌≤◌, ◌⊎◌, ◌++◌, ◌==◌, ℕ, Bool, List, [], map, All, Option, Some, None, Result, Ok, Err, length, codes, decimal, is_some, IsTrue, if◌then◌else◌}
+use Rattle.std.specs.Prelude.{◌≡◌, ◌≢◌, ◌<◌, ◌≤◌, ◌⊎◌, ◌++◌, ◌==◌, ℕ, Bool, List, [], map, All, Option, Some, None, Result, Ok, Err, length, codes, decimal, is_some, IsTrue, if◌then◌else◌}
 use Rattle.bist_host.specs.Files.{Files}
 use Rattle.march_core.specs.March.{MarchElement}
 use Rattle.march_core.specs.Visits.{Direction, Upward, Downward, is_direction}
-use Rattle.fault_core.specs.Primitive.{Primitive}
+use Rattle.fault_core.specs.declared.cells.Places.{Places}
+use Rattle.fault_core.specs.Primitive.{Primitive, has_aggressor}
 use Rattle.array_sim.specs.declared.element_run.Miss.{Miss}
 use Rattle.array_sim.specs.Run.{outcome_of}
 use Rattle.bist_app.specs.declared.ending.Refusal.{Refusal}
@@ -22,6 +23,15 @@ IsBit byte = (byte ≡ 48) ⊎ (byte ≡ 49)
 abbrev pub IsLetter : ℕ → Type 0
 IsLetter byte = (byte ≡ 117) ⊎ (byte ≡ 100)
 
+-- the aggressor's cell, which is not the victim's, or none
+abbrev pub IsAggressorWord : List ℕ → ℕ → ℕ → Option ℕ → Type 0
+IsAggressorWord text size victim None = text ≡ codes "none"
+IsAggressorWord text size victim (Some cell) = IsNumber text cell × (cell < size) × (cell ≢ victim)
+
+-- where the instance stands
+abbrev pub places_of : SimShape → Places
+places_of shape = record { agg = shape.aggressor; vic = shape.victim }
+
 -- the words have the shape, and the numbers are what they say
 pub record IsSimShape (words : Words) (shape : SimShape) : Type 0 where
   pub count : length words ≡ 8
@@ -32,7 +42,7 @@ pub record IsSimShape (words : Words) (shape : SimShape) : Type 0 where
   pub size_most : shape.size ≤ 4096
   pub content : All IsBit (word words 4)
   pub content_length : length (word words 4) ≡ shape.size
-  pub no_aggressor : word words 5 ≡ codes "none"
+  pub aggressor : IsAggressorWord (word words 5) shape.size shape.victim shape.aggressor
   pub victim : IsNumber (word words 6) shape.victim
   pub victim_within : shape.victim < shape.size
   pub letters : All IsLetter (word words 7)
@@ -56,10 +66,15 @@ FitsDirections letters march (Ok _) = IsTrue (is_direction march (directions_of_
 FitsDirections letters march (Err (Refusal.Misfit Misfit.Directions)) = IsTrue (is_direction march (directions_of_letters letters)) → ⊥
 FitsDirections letters march (Err other) = ⊥
 
--- the read that caught the primitive in a one-cell place
-abbrev pub miss_of : List MarchElement → Primitive → ℕ → List ℕ → List ℕ → Option Miss
-miss_of march prim victim digits letters =
-    (outcome_of march (directions_of_letters letters) prim (record { agg = None; vic = victim }) (content_of digits)).miss
+-- an aggressor is given exactly for a primitive of two cells
+unfoldable pub FitsAggressor : Option ℕ → Primitive → Result (Unit {0}) Refusal → Type 0
+FitsAggressor aggressor prim (Ok _) = is_some aggressor ≡ has_aggressor prim
+FitsAggressor aggressor prim (Err (Refusal.Misfit Misfit.Aggressor)) = is_some aggressor ≢ has_aggressor prim
+FitsAggressor aggressor prim (Err other) = ⊥
+
+-- the read that caught the primitive in these places
+abbrev pub miss_of : List MarchElement → Primitive → Places → List ℕ → List ℕ → Option Miss
+miss_of march prim places digits letters = (outcome_of march (directions_of_letters letters) prim places (content_of digits)).miss
 
 abbrev pub caught_line : Miss → List ℕ
 caught_line miss =
@@ -83,5 +98,6 @@ abbrev pub DecidesSim : Option Files → Words → SimShape → Result Done Refu
 DecidesSim files words shape =
     Then (InputMarch files words 1) (λ march.
     Then (GivesPrim (word words 2)) (λ prim.
+    Then (FitsAggressor shape.aggressor prim) (λ _.
     Then (FitsDirections (word words 7) march) (λ _.
-    LeavesSim (miss_of march prim shape.victim (word words 4) (word words 7)))))
+    LeavesSim (miss_of march prim (places_of shape) (word words 4) (word words 7))))))

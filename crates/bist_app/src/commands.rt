@@ -1,12 +1,14 @@
 ghost use Rattle.std.specs.Prelude.{MatchOption};
 ghost use Rattle.bist_app.specs.Run.{HasShape, HasNoShape};
 
+use crate::judge::is_judge;
 use crate::sim::{SimShape, sim_shape};
 
 /// What the words ask for.
 #[derive(Clone, Copy)]
 pub enum Command {
     Sim(SimShape),
+    Judge,
 }
 
 /// The command whose shape the words have.
@@ -15,6 +17,9 @@ pub fn command_of(words: &[&str]) -> Option<Command>
 {
     if let Some(shape) = sim_shape(words) {
         return Some(Command::Sim(shape));
+    }
+    if is_judge(words) {
+        return Some(Command::Judge);
     }
     None
 }

@@ -4,7 +4,7 @@ ghost use Rattle.bist_app.specs.Ending.{plain, written_of, status_of, refusal_li
 ghost use Rattle.bist_app.specs.Conclude.{NamesWords, WritesInOrder, HasWriteCause, SaysLine, RefusalEnds, SaysDone, DoneEnds, Ends};
 
 use crate::ending::{Ended, Misfit, Output, Plan, Refusal};
-use crate::lines::{march_line, numbered};
+use crate::lines::{fault_line, march_line, numbered};
 use bist_host::{Host, HostFault};
 use std::alloc::{AllocError, Global};
 
@@ -63,10 +63,11 @@ fn line_of_refusal(alloc: Global, refusal: Refusal) -> Result<Vec<u8>, AllocErro
     match refusal {
         Refusal::Usage => Vec::from_slice(alloc, b"usage\n"),
         Refusal::March(fault) => march_line(alloc, fault),
-        Refusal::Fault { line } => numbered(alloc, b"fault form line ", line),
+        Refusal::Fault(fault) => fault_line(alloc, fault),
         Refusal::TooLarge { position } => numbered(alloc, b"too large ", position),
         Refusal::ReadFailed { position } => numbered(alloc, b"read failed ", position),
         Refusal::Absent { position } => numbered(alloc, b"absent ", position),
+        Refusal::Misfit(Misfit::Aggressor) => Vec::from_slice(alloc, b"misfit aggressor\n"),
         Refusal::Misfit(Misfit::Directions) => Vec::from_slice(alloc, b"misfit directions\n"),
         Refusal::NoMemory => Vec::from_slice(alloc, b"no memory\n"),
     }
@@ -78,7 +79,7 @@ fn status(refusal: Refusal) -> u8
     match refusal {
         Refusal::Usage => 2,
         Refusal::March(_) => 3,
-        Refusal::Fault { .. } => 5,
+        Refusal::Fault(_) => 5,
         Refusal::TooLarge { .. } => 6,
         Refusal::ReadFailed { .. } => 7,
         Refusal::NoMemory => 9,

@@ -1,3 +1,4 @@
+use fault_syntax::FaultFault;
 use march_core::MarchFault;
 
 /// What the program ends with.
@@ -9,20 +10,21 @@ pub struct Ended {
 /// What doesn't fit together.
 #[derive(Clone, Copy)]
 pub enum Misfit {
+    /// An aggressor is given for a primitive of one cell, or none for one of two cells.
+    Aggressor,
     /// The directions aren't one per element, as its order allows.
     Directions,
 }
 
-/// Why a command is refused. A position is that of a file's word, the command itself being 0; lines are counted
-/// from 1.
+/// Why a command is refused. A position is that of a file's word, the command itself being 0.
 #[derive(Clone, Copy)]
 pub enum Refusal {
     /// The words have no command's shape.
     Usage,
     /// The file is no text of an accepted march.
     March(MarchFault),
-    /// This line is no fault primitive.
-    Fault { line: usize },
+    /// The text is no fault primitive or no fault list.
+    Fault(FaultFault),
     TooLarge { position: usize },
     ReadFailed { position: usize },
     Absent { position: usize },

@@ -6,6 +6,7 @@ mod conclude;
 mod directions;
 mod ending;
 mod inputs;
+mod judge;
 mod lines;
 mod sim;
 mod texts;

@@ -1,6 +1,7 @@
 ghost use Rattle.std.specs.Prelude.{◌≡◌, ◌++◌, IfOk, OnOk, codes, decimal};
-ghost use Rattle.bist_app.specs.Ending.{numbered_line, march_fault_text};
+ghost use Rattle.bist_app.specs.Ending.{numbered_line, march_fault_text, fault_text};
 
+use fault_syntax::FaultFault;
 use itoa::Buffer;
 use march_core::MarchFault;
 use std::alloc::{AllocError, Global};
@@ -54,6 +55,38 @@ pub fn march_line(alloc: Global, fault: MarchFault) -> Result<Vec<u8>, AllocErro
 {
     let mut line = Vec::from_slice(alloc, b"march ")?;
     push_march_fault(&mut line, fault)?;
+    line.extend_from_slice(b"\n")?;
+    Ok(line)
+}
+
+/// Appends a text, a line and a byte.
+fn push_byte(line: &mut Vec<u8>, text: &[u8], number: usize, byte: usize) -> Result<(), AllocError>
+    ensures { OnOk result (line.new.items ≡ line.old.items ++ (text.now ++ decimal number ++ codes " byte " ++ decimal byte)) }
+{
+    push_number(line, text, number)?;
+    push_number(line, b" byte ", byte)
+}
+
+/// Appends why a primitive or a list is refused.
+fn push_fault(line: &mut Vec<u8>, fault: FaultFault) -> Result<(), AllocError>
+    ensures { OnOk result (line.new.items ≡ line.old.items ++ fault_text fault) }
+{
+    match fault {
+        FaultFault::Unexpected { line: number, byte } => push_byte(line, b"F1 line ", number, byte),
+        FaultFault::Truncated { line: number } => push_number(line, b"F2 line ", number),
+        FaultFault::NotAFault { line: number } => push_number(line, b"F3 line ", number),
+        FaultFault::TooManyOperations { line: number } => push_number(line, b"F4 line ", number),
+        FaultFault::TooManyPrimitives { line: number } => push_number(line, b"F5 line ", number),
+        FaultFault::NoMemory => line.extend_from_slice(b"F6"),
+    }
+}
+
+/// The line of a refused primitive or list.
+pub fn fault_line(alloc: Global, fault: FaultFault) -> Result<Vec<u8>, AllocError>
+    ensures { IfOk result (λ line. line.items ≡ codes "fault " ++ fault_text fault ++ codes "\n") }
+{
+    let mut line = Vec::from_slice(alloc, b"fault ")?;
+    push_fault(&mut line, fault)?;
     line.extend_from_slice(b"\n")?;
     Ok(line)
 }

@@ -1,22 +1,25 @@
-ghost use Rattle.std.specs.Prelude.{◌≡◌, ◌≤◌, ◌<◌, ◌↔◌, [], length, All, IfOk, IfErr, IsTrue, MatchOption, Option, map};
+ghost use Rattle.std.specs.Prelude.{◌≡◌, ◌≤◌, ◌<◌, ◌↔◌, ℕ, [], length, is_some, All, IfOk, IfErr, OnOk, IsTrue, MatchOption, Option, map};
 ghost use Rattle.bist_host.specs.Files.{Rose};
 ghost use Rattle.march_core.specs.Visits.{is_direction};
+ghost use Rattle.fault_core.specs.Primitive.{has_aggressor};
+ghost use Rattle.fault_core.specs.Cells.{FitsPlace};
 ghost use Rattle.array_sim.specs.Run.{outcome_of};
 ghost use Rattle.bist_app.specs.declared.sim.SimShape.{SimShape};
 ghost use Rattle.bist_app.specs.Ending.{plain, done_of};
 ghost use Rattle.bist_app.specs.Inputs.{HasReadCause, IsOwnRefusal};
 ghost use Rattle.bist_app.specs.Conclude.{NamesWords};
-ghost use Rattle.bist_app.specs.Sim.{IsBit, IsLetter, IsSimShape, content_of, directions_of_letters, miss_of, caught_line, sim_line, LeavesSim, DecidesSim};
+ghost use Rattle.bist_app.specs.Words.{word};
+ghost use Rattle.bist_app.specs.Sim.{IsBit, IsLetter, IsAggressorWord, IsSimShape, FitsAggressor, places_of, content_of, directions_of_letters, miss_of, caught_line, sim_line, LeavesSim, DecidesSim};
 
 use crate::directions::{direction_word, fit_directions};
-use crate::ending::{Plan, Refusal};
+use crate::ending::{Misfit, Plan, Refusal};
 use crate::inputs::read_march_input;
 use crate::lines::push_number;
-use crate::texts::read_prim;
+use crate::texts::give_prim;
 use crate::words::{are_plain, number_of};
 use array_sim::{Instance, Miss, simulate};
 use bist_host::Host;
-use fault_core::Prim;
+use fault_core::{Places, Prim};
 use march_core::March;
 use std::alloc::{AllocError, Global};
 
@@ -24,6 +27,7 @@ use std::alloc::{AllocError, Global};
 #[derive(Clone, Copy)]
 pub struct SimShape {
     pub size: usize,
+    pub aggressor: Option<usize>,
     pub victim: usize,
 }
 
@@ -31,18 +35,37 @@ pub struct SimShape {
 pub fn sim_shape(words: &[&str]) -> Option<SimShape>
     ensures { MatchOption result ((shape : SimShape) → IsSimShape words.now shape → ⊥) (λ shape. IsSimShape words.now shape) }
 {
-    let ["sim", _, _, size, content, "none", victim, letters] = *words else {
+    let ["sim", _, _, size, content, aggressor, victim, letters] = *words else {
         return None;
     };
     let size = number_of(size)?;
     let victim = number_of(victim)?;
+    let aggressor = aggressor_of(aggressor, size, victim)?;
     if size < 2 || size > 4096 || victim >= size || content.len() != size || letters.len() > 64 {
         return None;
     }
     if !are_plain(words) || !are_bits(content.as_bytes()) || !are_letters(letters.as_bytes()) {
         return None;
     }
-    Some(SimShape { size, victim })
+    Some(SimShape {
+        size,
+        aggressor,
+        victim,
+    })
+}
+
+/// The aggressor's cell that a word names, or none.
+fn aggressor_of(word: &str, size: usize, victim: usize) -> Option<Option<usize>>
+    ensures { MatchOption result ((cell : Option ℕ) → IsAggressorWord word.now size victim cell → ⊥) (λ cell. IsAggressorWord word.now size victim cell) }
+{
+    if word == "none" {
+        return Some(None);
+    }
+    let cell = number_of(word)?;
+    if cell >= size || cell == victim {
+        return None;
+    }
+    Some(Some(cell))
 }
 
 fn are_bits(digits: &[u8]) -> bool
@@ -87,25 +110,37 @@ fn line_of(alloc: Global, miss: Option<Miss>) -> Result<Vec<u8>, AllocError>
     }
 }
 
+/// Refuses an aggressor for a primitive of one cell, and none for one of two cells.
+#[tactic(auto, unfolding(crate::specs::Sim::FitsAggressor))]
+fn fit_aggressor(aggressor: Option<usize>, prim: &Prim) -> Result<(), Refusal>
+    ensures answer { FitsAggressor aggressor prim.now result }
+    ensures own { IfErr result IsOwnRefusal }
+    ensures given { OnOk result (is_some aggressor ≡ has_aggressor prim.now) }
+{
+    if aggressor.is_some() != prim.is_two_cell() {
+        return Err(Refusal::Misfit(Misfit::Aggressor));
+    }
+    Ok(())
+}
+
 /// Runs the march in the directions of the letters. The answer is the first read that differs.
 fn run_array(
     march: &March,
     prim: &Prim,
-    victim: usize,
+    places: Places,
     cells: &mut [bool],
     letters: &[u8],
 ) -> Option<Miss>
-    requires one_cell { prim.now.agg ≡ None }
-    requires victim { victim < length cells.old }
+    requires places { FitsPlace prim.now places (length cells.old) }
     requires least { 1 ≤ length letters.now }
     requires most { length letters.now ≤ 64 }
     requires fits { IsTrue (is_direction march.now (directions_of_letters letters.now)) }
-    ensures { result ≡ (outcome_of march.now (directions_of_letters letters.now) prim.now (record { agg = None; vic = victim }) cells.old).miss }
+    ensures { result ≡ (outcome_of march.now (directions_of_letters letters.now) prim.now places cells.old).miss }
 {
     let instance = Instance {
         prim: *prim,
-        agg: None,
-        vic: victim,
+        agg: places.agg,
+        vic: places.vic,
     };
     simulate(march, &instance, cells, direction_word(letters))
 }
@@ -116,23 +151,22 @@ fn plan_sim(
     alloc: Global,
     march: &March,
     prim: &Prim,
-    victim: usize,
+    places: Places,
     digits: &[u8],
     letters: &[u8],
 ) -> Result<Plan, Refusal>
-    requires one_cell { prim.now.agg ≡ None }
-    requires victim { victim < length digits.now }
+    requires places { FitsPlace prim.now places (length digits.now) }
     requires least { 1 ≤ length letters.now }
     requires most { length letters.now ≤ 64 }
     requires fits { IsTrue (is_direction march.now (directions_of_letters letters.now)) }
     ensures own { IfErr result IsOwnRefusal }
-    ensures answer { LeavesSim (miss_of march.now prim.now victim digits.now letters.now) (plain result) }
+    ensures answer { LeavesSim (miss_of march.now prim.now places digits.now letters.now) (plain result) }
     ensures outputs { IfOk result (λ plan. plan.outputs.items ≡ []) }
 {
     let Ok(mut cells) = cells_of(alloc, digits) else {
         return Err(Refusal::NoMemory);
     };
-    let miss = run_array(march, prim, victim, cells.as_mut_slice(), letters);
+    let miss = run_array(march, prim, places, cells.as_mut_slice(), letters);
     match line_of(alloc, miss) {
         Ok(line) => Ok(Plan {
             found: miss.is_some(),
@@ -140,6 +174,20 @@ fn plan_sim(
             line,
         }),
         Err(AllocError) => Err(Refusal::NoMemory),
+    }
+}
+
+/// Where the instance stands, which fits the primitive.
+fn places_for(shape: SimShape, words: &[&str], prim: &Prim) -> Places
+    requires shape { IsSimShape words.now shape }
+    requires given { is_some shape.aggressor ≡ has_aggressor prim.now }
+    ensures value { result ≡ places_of shape }
+    ensures fits { FitsPlace prim.now result (length (word words.now 4)) }
+{
+    let _count = words.len();
+    Places {
+        agg: shape.aggressor,
+        vic: shape.victim,
     }
 }
 
@@ -161,13 +209,15 @@ pub fn decide_sim<H: Host>(
     ensures cause { HasReadCause (H.files host.old) (Rose (H.read_faults host.old) (H.read_faults host.new)) result }
 {
     let march = read_march_input(host, words, 1)?;
-    let prim = read_prim(words[2].as_bytes())?;
+    let prim = give_prim(words[2].as_bytes())?;
+    fit_aggressor(shape.aggressor, &prim)?;
     fit_directions(words[7].as_bytes(), &march)?;
+    let places = places_for(shape, words, &prim);
     plan_sim(
         alloc,
         &march,
         &prim,
-        shape.victim,
+        places,
         words[4].as_bytes(),
         words[7].as_bytes(),
     )

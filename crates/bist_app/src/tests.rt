@@ -5,88 +5,223 @@ use std::{env, fs, process};
 
 const MATS: &[u8] = b"{any(w0);up(r0,w1);down(r1,w0)}";
 
-/// A command, the march in the file that it names, and what it says with which status.
+const MARCH_X: &[u8] = b"{any(w0);up(r0,w1);down(r1,w0);any(r0)}\n";
+
+const MARCH_C: &[u8] = b"{any(w0);up(r0,w1);up(r1,w0);down(r0,w1);down(r1,w0);any(r0)}\n";
+
+const MARCH_SS: &[u8] =
+    b"{any(w0);up(r0,r0,w0,r0,w1);up(r1,r1,w1,r1,w0);down(r0,r0,w0,r0,w1);down(r1,r1,w1,r1,w0);any(r0)}\n";
+
+/// A command, what the files `m` and `l` hold, and what the command says with which status.
 struct Row {
     words: &'static [&'static str],
     march: Option<&'static [u8]>,
+    list: Option<&'static [u8]>,
     said: &'static [u8],
     status: u8,
 }
 
-const ROWS: [Row; 11] = [
+const ROWS: [Row; 29] = [
     Row {
         words: &["sim", "m", "<0w1/0/->", "2", "00", "none", "0", "uud"],
         march: Some(MATS),
+        list: None,
         said: b"caught element 2 address 0 operation 0\n",
         status: 1,
     },
     Row {
         words: &["sim", "m", "<1w1/0/->", "2", "00", "none", "0", "uud"],
         march: Some(MATS),
+        list: None,
         said: b"passes\n",
         status: 0,
     },
     Row {
         words: &["sim", "m", "<1w1/0/->", "2", "00", "none", "0", "uuu"],
         march: Some(MATS),
+        list: None,
         said: b"misfit directions\n",
         status: 13,
     },
     Row {
-        words: &["sim", "m", "<1w1/0/->", "1", "0", "none", "0", "uud"],
+        words: &["sim", "m", "<1w1/0/->", "2", "00", "1", "0", "uud"],
         march: Some(MATS),
+        list: None,
+        said: b"misfit aggressor\n",
+        status: 13,
+    },
+    Row {
+        words: &["sim", "m", "<0;0/1/->", "2", "00", "none", "0", "uud"],
+        march: Some(MATS),
+        list: None,
+        said: b"misfit aggressor\n",
+        status: 13,
+    },
+    Row {
+        words: &["sim", "m", "<0w1;0/1/->", "2", "00", "0", "1", "uud"],
+        march: Some(MATS),
+        list: None,
+        said: b"caught element 1 address 1 operation 0\n",
+        status: 1,
+    },
+    Row {
+        words: &["sim", "m", "<0w1;0/1/->", "3", "000", "2", "0", "uud"],
+        march: Some(MATS),
+        list: None,
+        said: b"passes\n",
+        status: 0,
+    },
+    Row {
+        words: &["sim", "m", "<1w1/0/->", "2", "00", "0", "0", "uud"],
+        march: Some(MATS),
+        list: None,
         said: b"usage\n",
         status: 2,
     },
     Row {
-        words: &["sim", "m", "<0w1/1/->", "2", "00", "none", "0", "uud"],
+        words: &["sim", "m", "<1w1/0/->", "1", "0", "none", "0", "uud"],
         march: Some(MATS),
-        said: b"fault form line 1\n",
-        status: 5,
-    },
-    Row {
-        words: &["sim", "m", "<0w1/0/->", "2", "00", "none", "0", "u"],
-        march: Some(b"{up(r0,w1)}"),
-        said: b"march M7 element 0 operation 0\n",
-        status: 3,
-    },
-    Row {
-        words: &["sim", "m", "<0w1/0/->", "2", "00", "none", "0", "u"],
-        march: Some(b"{any(w2)}"),
-        said: b"march M1 byte 6\n",
-        status: 3,
-    },
-    Row {
-        words: &["sim", "m", "<0w1/0/->", "2", "00", "none", "0", "u"],
-        march: Some(b"{any(w0);up(r0,"),
-        said: b"march M2\n",
-        status: 3,
-    },
-    Row {
-        words: &["sim", "m", "<0w1/0/->", "2", "00", "none", "0", "uud"],
-        march: None,
-        said: b"absent 1\n",
-        status: 10,
-    },
-    Row {
-        words: &[
-            "sim",
-            "m",
-            "<0w1/0/->",
-            "2",
-            "00",
-            "none",
-            "0",
-            "uud",
-            "more",
-        ],
-        march: Some(MATS),
+        list: None,
         said: b"usage\n",
         status: 2,
     },
     Row {
         words: &["sim", "-m", "<0w1/0/->", "2", "00", "none", "0", "uud"],
         march: Some(MATS),
+        list: None,
+        said: b"usage\n",
+        status: 2,
+    },
+    Row {
+        words: &["sim", "m", "<0w1/1/->", "2", "00", "none", "0", "uud"],
+        march: Some(MATS),
+        list: None,
+        said: b"fault F3 line 1\n",
+        status: 5,
+    },
+    Row {
+        words: &["sim", "m", "<0w1;0w0/1/->", "2", "00", "none", "0", "uud"],
+        march: Some(MATS),
+        list: None,
+        said: b"fault F4 line 1\n",
+        status: 5,
+    },
+    Row {
+        words: &["sim", "m", "<0w1/0>", "2", "00", "none", "0", "uud"],
+        march: Some(MATS),
+        list: None,
+        said: b"fault F1 line 1 byte 6\n",
+        status: 5,
+    },
+    Row {
+        words: &["sim", "m", "<0w1/0/->", "2", "00", "none", "0", "u"],
+        march: Some(b"{up(r0,w1)}"),
+        list: None,
+        said: b"march M7 element 0 operation 0\n",
+        status: 3,
+    },
+    Row {
+        words: &["sim", "m", "<0w1/0/->", "2", "00", "none", "0", "u"],
+        march: Some(b"{any(w2)}"),
+        list: None,
+        said: b"march M1 byte 6\n",
+        status: 3,
+    },
+    Row {
+        words: &["sim", "m", "<0w1/0/->", "2", "00", "none", "0", "u"],
+        march: Some(b"{any(w0);up(r0,"),
+        list: None,
+        said: b"march M2\n",
+        status: 3,
+    },
+    Row {
+        words: &["sim", "m", "<0w1/0/->", "2", "00", "none", "0", "uud"],
+        march: None,
+        list: None,
+        said: b"absent 1\n",
+        status: 10,
+    },
+    Row {
+        words: &["judge", "m", "l", "r"],
+        march: Some(MARCH_C),
+        list: Some(b"one"),
+        said: b"total 12 covered 8 escapes 4\n",
+        status: 1,
+    },
+    Row {
+        words: &["judge", "m", "l", "r"],
+        march: Some(MATS),
+        list: Some(b"one"),
+        said: b"total 12 covered 7 escapes 5\n",
+        status: 1,
+    },
+    Row {
+        words: &["judge", "m", "l", "r"],
+        march: Some(MARCH_C),
+        list: Some(b"two"),
+        said: b"total 36 covered 24 escapes 12\n",
+        status: 1,
+    },
+    Row {
+        words: &["judge", "m", "l", "r"],
+        march: Some(MARCH_SS),
+        list: Some(b"all"),
+        said: b"total 48 covered 48 escapes 0\n",
+        status: 0,
+    },
+    Row {
+        words: &["judge", "m", "l", "r"],
+        march: Some(b"{any(w0)}"),
+        list: Some(b"all"),
+        said: b"total 48 covered 0 escapes 48\n",
+        status: 1,
+    },
+    Row {
+        words: &["judge", "m", "l", "r"],
+        march: Some(MARCH_X),
+        list: Some(b"<0/1/->"),
+        said: b"total 1 covered 1 escapes 0\n",
+        status: 0,
+    },
+    Row {
+        words: &["judge", "m", "l", "r"],
+        march: Some(MATS),
+        list: Some(b""),
+        said: b"total 0 covered 0 escapes 0\n",
+        status: 0,
+    },
+    Row {
+        words: &["judge", "m", "l", "r"],
+        march: Some(MATS),
+        list: Some(b"<0w1r1/0/0>"),
+        said: b"fault F4 line 1\n",
+        status: 5,
+    },
+    Row {
+        words: &["judge", "m", "l", "r"],
+        march: Some(MATS),
+        list: Some(b"one\n<0w1/0"),
+        said: b"fault F2 line 2\n",
+        status: 5,
+    },
+    Row {
+        words: &["judge", "m", "l", "r"],
+        march: Some(MATS),
+        list: None,
+        said: b"absent 2\n",
+        status: 10,
+    },
+    Row {
+        words: &["judge", "m", "m", "r"],
+        march: Some(MATS),
+        list: None,
+        said: b"usage\n",
+        status: 2,
+    },
+    Row {
+        words: &["judge", "-x", "l", "r"],
+        march: Some(MATS),
+        list: None,
         said: b"usage\n",
         status: 2,
     },
@@ -99,9 +234,89 @@ fn worked_rows(rt: HostRuntime) -> Result<(), Fail> {
         if let Some(march) = row.march {
             host.put("m", march)?;
         }
+        if let Some(list) = row.list {
+            host.put("l", list)?;
+        }
         assert_eq!(rt; run(rt.alloc(), row.words, &mut host).status, row.status);
         assert_eq!(rt; host.said(), row.said);
     }
+    Ok(())
+}
+
+/// A march, a list, and the report's lines behind its first.
+const REPORTS: [(&[u8], &[u8], &[u8]); 4] = [
+    (
+        MARCH_C,
+        b"one",
+        b"march {any(w0);up(r0,w1);up(r1,w0);down(r0,w1);down(r1,w0);any(r0)}
+covered <0/1/-> SF
+covered <1/0/-> SF
+covered <0w1/0/-> TF
+covered <1w0/1/-> TF
+escape <0w0/1/-> WDF aggressor none victim 0 content 10 directions uuuddu
+escape <1w1/0/-> WDF aggressor none victim 0 content 00 directions uuuddu
+covered <0r0/1/1> RDF
+covered <1r1/0/0> RDF
+escape <0r0/1/0> DRDF aggressor none victim 0 content 00 directions uuuddu
+escape <1r1/0/1> DRDF aggressor none victim 0 content 00 directions uuuddu
+covered <0r0/0/1> IRF
+covered <1r1/1/0> IRF
+total 12 covered 8 escapes 4
+",
+    ),
+    (
+        MATS,
+        b"WDF # both\n<0w1;0/1/->\n",
+        b"march {any(w0);up(r0,w1);down(r1,w0)}
+escape <0w0/1/-> WDF aggressor none victim 0 content 10 directions uud
+escape <1w1/0/-> WDF aggressor none victim 0 content 00 directions uud
+escape <0w1;0/1/-> CFds aggressor 1 victim 0 content 00 directions uud
+total 3 covered 0 escapes 3
+",
+    ),
+    (
+        b"{any(w0);any(r0,w1);any(w0);down(r0,w1)}",
+        b"<0w1;0/1/->",
+        b"march {any(w0);any(r0,w1);any(w0);down(r0,w1)}
+escape <0w1;0/1/-> CFds aggressor 0 victim 1 content 00 directions udud
+total 1 covered 0 escapes 1
+",
+    ),
+    (
+        MARCH_C,
+        b"CFwd",
+        b"march {any(w0);up(r0,w1);up(r1,w0);down(r0,w1);down(r1,w0);any(r0)}
+escape <0;0w0/1/-> CFwd aggressor 0 victim 1 content 01 directions uuuddu
+escape <0;1w1/0/-> CFwd aggressor 0 victim 1 content 00 directions uuuddu
+escape <1;0w0/1/-> CFwd aggressor 0 victim 1 content 00 directions uuuddu
+escape <1;1w1/0/-> CFwd aggressor 0 victim 1 content 00 directions uuuddu
+total 4 covered 0 escapes 4
+",
+    ),
+];
+
+#[test]
+fn reports(rt: HostRuntime) -> Result<(), Fail> {
+    for (march, list, report) in REPORTS {
+        let mut host = MemHost::new(rt.alloc());
+        host.put("m", march)?;
+        host.put("l", list)?;
+        let words = ["judge", "m", "l", "r"];
+        assert_eq!(rt; run(rt.alloc(), &words, &mut host).status, 1);
+        assert_eq!(rt; host.get("r").ok_or("a report")?, report);
+    }
+    Ok(())
+}
+
+#[test]
+fn a_report_that_fails(rt: HostRuntime) -> Result<(), Fail> {
+    let mut inner = MemHost::new(rt.alloc());
+    inner.put("m", MATS)?;
+    inner.put("l", b"one")?;
+    let mut host = FailHost::new(inner, [3].to_vec(rt.alloc())?);
+    let words = ["judge", "m", "l", "r"];
+    assert_eq!(rt; run(rt.alloc(), &words, &mut host).status, 8);
+    assert_eq!(rt; host.inner().said(), b"write failed 3\n".as_slice());
     Ok(())
 }
 

@@ -9,6 +9,7 @@ ghost use Rattle.bist_app.specs.Run.{Decides, Runs, HasNoShape};
 use crate::commands::{Command, command_of};
 use crate::conclude::conclude;
 use crate::ending::{Ended, Plan, Refusal};
+use crate::judge::decide_judge;
 use crate::sim::decide_sim;
 use bist_host::Host;
 use std::alloc::Global;
@@ -26,6 +27,7 @@ fn decide<H: Host>(alloc: Global, words: &[&str], host: &mut H) -> Result<Plan, 
     match command_of(words) {
         None => Err(Refusal::Usage),
         Some(Command::Sim(shape)) => decide_sim(alloc, words, shape, host),
+        Some(Command::Judge) => decide_judge(alloc, words, host),
     }
 }
 

@@ -1,4 +1,4 @@
-//! Vidlakost: which faults a memory march test finds, and a self-test controller for it in Verilog.
+//! Vidlakost: which memory faults a march test detects.
 #![tactic(auto)]
 
 use bist_app::run;

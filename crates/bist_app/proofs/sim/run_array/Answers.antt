@@ -1,4 +1,4 @@
-use Rattle.std.proofs.Common.{◌∙◌, ap, List, None}
+use Rattle.std.proofs.Common.{◌∙◌, ap, List}
 use Rattle.march_core.specs.Visits.{Direction}
 use Rattle.array_sim.specs.Run.{outcome_of}
 use Rattle.bist_app.proofs.DirectionWord.{fits_word, directions_whole}
@@ -10,4 +10,4 @@ simulate-requires-clause-fits c = fits_word c.args.letters.now c.args.march.now 
 pub returns : goal.returns
 returns c =
     let whole = directions_whole c.args.letters.now c.args.march.now c.direction_word.result c.direction_word.ensures.directions c.requires.fits in
-    c.simulate.ensures.miss ∙ ap (λ (ds : List Direction). (outcome_of c.args.march.now ds c.args.prim.now (record { agg = None; vic = c.args.victim }) c.args.cells.now).miss) whole
+    c.simulate.ensures.miss ∙ ap (λ (ds : List Direction). (outcome_of c.args.march.now ds c.args.prim.now c.args.places c.args.cells.now).miss) whole

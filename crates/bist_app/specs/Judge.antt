@@ -1,0 +1,49 @@
+-- The command `judge MARCH FAULTS REPORT`: its shape, its checks in their order, and what it leaves.
+use Rattle.std.specs.Prelude.{◌≡◌, ◌≢◌, ℕ, Bool, true, false, List, [], ◌∷◌, Contains, Option, Result, Ok, Err, length, codes}
+use Rattle.std.specs.List.{AllByRecursion}
+use Rattle.bist_host.specs.Files.{Files}
+use Rattle.march_core.specs.March.{MarchElement}
+use Rattle.fault_core.specs.Primitive.{Primitive}
+use Rattle.array_sim.specs.Detection.{Detects}
+use Rattle.coverage.specs.declared.verdict.Verdict.{Verdict}
+use Rattle.coverage.specs.Verdicts.{AreVerdicts}
+use Rattle.report.specs.Report.{report_text, total_line, covered_count}
+use Rattle.bist_app.specs.declared.ending.Refusal.{Refusal}
+use Rattle.bist_app.specs.Ending.{Done}
+use Rattle.bist_app.specs.Then.{Then}
+use Rattle.bist_app.specs.Words.{Words, word, ArePlain}
+use Rattle.bist_app.specs.Inputs.{InputMarch, InputList}
+
+-- the words have the shape; no two files have one name
+pub record IsJudgeShape (words : Words) : Type 0 where
+  pub count : length words ≡ 4
+  pub name : word words 0 ≡ codes "judge"
+  pub plain : ArePlain words
+  pub march_not_list : word words 1 ≢ word words 2
+  pub march_not_report : word words 1 ≢ word words 3
+  pub list_not_report : word words 2 ≢ word words 3
+
+-- some primitive of the list isn't detected, or each is
+abbrev pub SomeEscapes : List MarchElement → List Primitive → Bool → Type 0
+SomeEscapes march prims true = (p : Primitive) × Contains prims p × (Detects march p → ⊥)
+SomeEscapes march prims false = AllByRecursion (Detects march) prims
+
+-- the report in the file that the third word names, and its last line
+pub record IsJudged (march : List MarchElement) (prims : List Primitive) (done : Done) : Type 0 where
+  pub verdicts : List Verdict
+  pub are : AreVerdicts march prims verdicts
+  pub found : SomeEscapes march prims done.found
+  pub outputs : done.outputs ≡ (record { position = 3; bytes = report_text march prims verdicts }) ∷ []
+  pub line : done.line ≡ total_line (length verdicts) (covered_count verdicts)
+
+unfoldable pub LeavesJudge : List MarchElement → List Primitive → Result Done Refusal → Type 0
+LeavesJudge march prims (Ok done) = IsJudged march prims done
+LeavesJudge march prims (Err Refusal.NoMemory) = Unit {0}
+LeavesJudge march prims (Err other) = ⊥
+
+-- the checks of `judge` in their order
+abbrev pub DecidesJudge : Option Files → Words → Result Done Refusal → Type 0
+DecidesJudge files words =
+    Then (InputMarch files words 1) (λ march.
+    Then (InputList files words 2) (λ prims.
+    LeavesJudge march prims))

@@ -1,0 +1,116 @@
+ghost use Rattle.std.specs.Prelude.{◌≡◌, ◌≤◌, ◌<◌, ◌↔◌, ◌∷◌, [], length, IfOk, IfErr, IsTrue, map};
+ghost use Rattle.bist_host.specs.Files.{Rose};
+ghost use Rattle.coverage.specs.Verdicts.{AreVerdicts};
+ghost use Rattle.report.specs.Report.{total_line, covered_count};
+ghost use Rattle.bist_app.specs.Ending.{plain, done_of, written_of};
+ghost use Rattle.bist_app.specs.Inputs.{HasReadCause, IsOwnRefusal};
+ghost use Rattle.bist_app.specs.Conclude.{NamesWords};
+ghost use Rattle.bist_app.specs.Judge.{IsJudgeShape, IsJudged, LeavesJudge, DecidesJudge};
+
+use crate::ending::{Output, Plan, Refusal};
+use crate::inputs::read_march_input;
+use crate::texts::read_list_input;
+use crate::words::are_plain;
+use bist_bits::NoMemory;
+use bist_host::Host;
+use coverage::{Verdict, judge_all};
+use fault_core::Prim;
+use march_core::March;
+use report::{count_covered, write_report, write_total};
+use std::alloc::Global;
+
+/// The word that names the report's file.
+const REPORT: usize = 3;
+
+/// Whether the words have the shape of `judge`.
+pub fn is_judge(words: &[&str]) -> bool
+    ensures { IsTrue result ↔ IsJudgeShape words.now }
+{
+    let ["judge", march, list, report] = *words else {
+        return false;
+    };
+    are_plain(words) && march != list && march != report && list != report
+}
+
+/// The file of the report.
+fn report_output(alloc: Global, bytes: Vec<u8>) -> Result<Vec<Output>, NoMemory>
+    ensures { IfOk result (λ outputs. map written_of outputs.items ≡ (record { position = 3; bytes = bytes.items }) ∷ []) }
+{
+    let mut outputs = Vec::new(alloc);
+    let output = Output {
+        position: REPORT,
+        bytes,
+    };
+    match outputs.push(output) {
+        Ok(()) => Ok(outputs),
+        Err(_) => Err(NoMemory),
+    }
+}
+
+/// The report's last line.
+fn total(alloc: Global, verdicts: &[Verdict]) -> Result<Vec<u8>, NoMemory>
+    ensures { IfOk result (λ line. line.items ≡ total_line (length verdicts.now) (covered_count verdicts.now)) }
+{
+    let mut line = Vec::new(alloc);
+    write_total(&mut line, verdicts.len(), count_covered(verdicts))?;
+    Ok(line)
+}
+
+/// The report of these verdicts, and its last line.
+fn plan_of(
+    alloc: Global,
+    march: &March,
+    prims: &[Prim],
+    verdicts: &[Verdict],
+) -> Result<Plan, NoMemory>
+    requires { AreVerdicts march.now prims.now verdicts.now }
+    ensures { IfOk result (λ plan. IsJudged march.now prims.now (done_of plan)) }
+{
+    let text = write_report(alloc, march, prims, verdicts)?;
+    let outputs = report_output(alloc, text)?;
+    let line = total(alloc, verdicts)?;
+    let covered = count_covered(verdicts);
+    Ok(Plan {
+        found: covered < verdicts.len(),
+        outputs,
+        line,
+    })
+}
+
+/// The verdicts as a plan.
+fn judged(alloc: Global, march: &March, prims: &[Prim]) -> Result<Plan, NoMemory>
+    ensures { IfOk result (λ plan. IsJudged march.now prims.now (done_of plan)) }
+{
+    let verdicts = judge_all(alloc, march, prims)?;
+    plan_of(alloc, march, prims, verdicts.as_slice())
+}
+
+/// The plan, or want of memory.
+#[tactic(auto, unfolding(crate::specs::Judge::LeavesJudge))]
+fn plan_judge(alloc: Global, march: &March, prims: &[Prim]) -> Result<Plan, Refusal>
+    ensures own { IfErr result IsOwnRefusal }
+    ensures answer { LeavesJudge march.now prims.now (plain result) }
+    ensures outputs { IfOk result (λ plan. IsJudged march.now prims.now (done_of plan)) }
+{
+    match judged(alloc, march, prims) {
+        Ok(plan) => Ok(plan),
+        Err(NoMemory) => Err(Refusal::NoMemory),
+    }
+}
+
+/// Judges the primitives of a list.
+#[tactic(auto, using(crate::proofs::Causes::own_cause))]
+pub fn decide_judge<H: Host>(alloc: Global, words: &[&str], host: &mut H) -> Result<Plan, Refusal>
+    requires { IsJudgeShape words.now }
+    ensures files { H.files host.new ≡ H.files host.old }
+    ensures said { H.said host.new ≡ H.said host.old }
+    ensures writes { H.write_faults host.new ≡ H.write_faults host.old }
+    ensures reads { H.read_faults host.old ≤ H.read_faults host.new }
+    ensures outputs { IfOk result (λ plan. NamesWords words.now (done_of plan).outputs) }
+    ensures answer { DecidesJudge (H.files host.old) words.now (plain result) }
+    ensures cause { HasReadCause (H.files host.old) (Rose (H.read_faults host.old) (H.read_faults host.new)) result }
+{
+    let march = read_march_input(host, words, 1)?;
+    let prims = read_list_input(alloc, host, words, 2)?;
+    plan_judge(alloc, &march, &prims)
+}
