@@ -1,2 +1,6 @@
-pub mod Plain
 pub mod Formed
+pub mod Meaning
+pub mod Names
+pub mod Plain
+pub mod Rules
+pub mod Seen

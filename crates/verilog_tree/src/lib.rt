@@ -1,5 +1,8 @@
 //! The tree of a Verilog module, and what it means.
 #![tactic(auto)]
 
+pub mod fault;
 pub mod formed;
+pub mod mentions;
+pub mod names;
 pub mod tree;

@@ -1,0 +1,31 @@
+//! What a module is refused for.
+
+use crate::tree::Name;
+
+/// A rule that a module breaks, or that there was no memory.
+#[derive(Drop)]
+pub enum TreeFault {
+    /// N1: a name is neither a port nor declared in an earlier item.
+    Unknown { name: Name },
+    /// N2: a name is declared twice, or a wire or plain output has a second `assign`.
+    Twice { name: Name },
+    /// N3: two widths that must be equal differ, left and then right, or a concatenation is wider
+    /// than 64, told as 64 and its width.
+    Width { left: u64, right: u64 },
+    /// N4: an `always` block sets a register that an earlier block sets.
+    TwoBlocks { name: Name },
+    /// N5: `assign` names an input or a register, or `<=` names something that isn't a register.
+    NotAssignable { name: Name },
+    /// N6: a select has its high place not below the width of its name, or its low place above its
+    /// high one, or stands on a name of one bit.
+    SelectRange { name: Name },
+    /// N7: each of these names has an expression that uses the next, and the last uses the first.
+    Loop { names: Vec<Name> },
+    /// N8: there was no memory.
+    NoMemory,
+    /// N9: no `assign` names this wire or plain output.
+    Undriven { name: Name },
+    /// N10: a clock isn't an input of one bit named `clk`, or `clk` stands in an expression, or is
+    /// declared as anything but an input of one bit.
+    Clock { name: Name },
+}

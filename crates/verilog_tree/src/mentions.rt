@@ -1,0 +1,132 @@
+//! Where names stand in an item.
+ghost use Rattle.std.specs.Prelude.{◌≡◌, ℕ, ◌++◌, ◌∷◌, [], map, OnOk, IfOk};
+ghost use Rattle.verilog_tree.specs.Plain.{plain, plain_stmt, plain_stmts, plain_arm, plain_item, expressions, arms};
+ghost use Rattle.verilog_tree.specs.Rules.{mentioned, reads, all_reads, statement_mentions, statements_mentions, arms_mentions, mentions};
+ghost use Rattle.verilog_tree.specs.Seen.{mention};
+
+use crate::tree::{Arm, Expr, Item, Name, Stmt};
+use bist_bits::NoMemory;
+use std::alloc::Global;
+
+/// A name of an item: a clock, the target of an assignment, or a name in an expression, whole or
+/// selected from a high place to a low one.
+#[derive(Clone, Copy)]
+pub enum Mention {
+    Clock(Name),
+    Target(Name),
+    Whole(Name),
+    Select(Name, u8, u8),
+}
+
+impl Mention {
+    pub(crate) fn name(&self) -> Name
+        ensures { result.bytes ≡ mentioned (mention self.now) }
+    {
+        match self {
+            Mention::Clock(name)
+            | Mention::Target(name)
+            | Mention::Whole(name)
+            | Mention::Select(name, _, _) => *name,
+        }
+    }
+}
+
+fn put(out: &mut Vec<Mention>, next: Mention) -> Result<(), NoMemory>
+    ensures { OnOk result (map mention out.new.items ≡ map mention out.old.items ++ mention next ∷ []) }
+{
+    out.push(next).map_err(|_| NoMemory)
+}
+
+#[cycle(put_expr)]
+fn put_expr(out: &mut Vec<Mention>, x: &Expr) -> Result<(), NoMemory>
+    ensures { OnOk result (map mention out.new.items ≡ map mention out.old.items ++ reads (plain x.now)) }
+{
+    match x {
+        Expr::Name(name) => put(out, Mention::Whole(*name)),
+        Expr::Bit(name, place) => put(out, Mention::Select(*name, *place, *place)),
+        Expr::Part(name, high, low) => put(out, Mention::Select(*name, *high, *low)),
+        Expr::Lit(_) => Ok(()),
+        Expr::Concat(parts) => put_exprs(out, parts),
+        Expr::Unary(_, a) => put_expr(out, a),
+        Expr::Binary(_, a, b) => {
+            put_expr(out, a)?;
+            put_expr(out, b)
+        }
+        Expr::Choose(c, a, b) => {
+            put_expr(out, c)?;
+            put_expr(out, a)?;
+            put_expr(out, b)
+        }
+    }
+}
+
+#[cycle(put_expr)]
+fn put_exprs(out: &mut Vec<Mention>, parts: &[Expr]) -> Result<(), NoMemory>
+    ensures { OnOk result (map mention out.new.items ≡ map mention out.old.items ++ all_reads (expressions (map plain parts.now))) }
+{
+    for part in parts {
+        put_expr(out, part)?;
+    }
+    Ok(())
+}
+
+#[cycle(put_stmt)]
+fn put_stmt(out: &mut Vec<Mention>, s: &Stmt) -> Result<(), NoMemory>
+    ensures { OnOk result (map mention out.new.items ≡ map mention out.old.items ++ statement_mentions (plain_stmt s.now)) }
+{
+    match s {
+        Stmt::Set(name, x) => {
+            put(out, Mention::Target(*name))?;
+            put_expr(out, x)
+        }
+        Stmt::If(c, a, b) => {
+            put_expr(out, c)?;
+            put_stmts(out, a)?;
+            put_stmts(out, b)
+        }
+        Stmt::Case(x, choices, other) => {
+            put_expr(out, x)?;
+            put_arms(out, choices)?;
+            put_stmts(out, other)
+        }
+    }
+}
+
+#[cycle(put_stmt)]
+fn put_stmts(out: &mut Vec<Mention>, body: &[Stmt]) -> Result<(), NoMemory>
+    ensures { OnOk result (map mention out.new.items ≡ map mention out.old.items ++ statements_mentions (plain_stmts body.now)) }
+{
+    for s in body {
+        put_stmt(out, s)?;
+    }
+    Ok(())
+}
+
+#[cycle(put_stmt)]
+fn put_arms(out: &mut Vec<Mention>, choices: &[Arm]) -> Result<(), NoMemory>
+    ensures { OnOk result (map mention out.new.items ≡ map mention out.old.items ++ arms_mentions (arms (map plain_arm choices.now))) }
+{
+    for arm in choices {
+        put_stmts(out, &arm.body)?;
+    }
+    Ok(())
+}
+
+/// The names that an item uses, in the order of the text.
+pub(crate) fn mentions(alloc: Global, item: &Item) -> Result<Vec<Mention>, NoMemory>
+    ensures { IfOk result (λ all. map mention all.items ≡ mentions (plain_item item.now)) }
+{
+    let mut all = Vec::new(alloc);
+    match item {
+        Item::Wire(_) | Item::Reg(_) => {}
+        Item::Assign(name, x) => {
+            put(&mut all, Mention::Target(*name))?;
+            put_expr(&mut all, x)?;
+        }
+        Item::Always(clock, body) => {
+            put(&mut all, Mention::Clock(*clock))?;
+            put_stmts(&mut all, body)?;
+        }
+    }
+    Ok(all)
+}

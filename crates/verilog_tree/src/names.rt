@@ -1,0 +1,122 @@
+//! What the names of a module are.
+ghost use Rattle.std.specs.Prelude.{◌≡◌, ℕ, [], ◌∷◌, map};
+ghost use Rattle.std.specs.Option.{option_map};
+ghost use Rattle.std.specs.Str.{bytes_eq};
+ghost use Rattle.verilog_tree.specs.Plain.{plain_item, plain_port};
+ghost use Rattle.verilog_tree.specs.Names.{kind_of, lookup, port_declarations, item_declarations, declarations, width_of, is_clk};
+ghost use Rattle.verilog_tree.specs.Seen.{declaration, declares};
+
+use crate::tree::{Dir, Item, Name, Port};
+
+/// What may give a name its value: the module's user, an `assign`, or an `always` block.
+#[derive(Clone, Copy, PartialEq, Eq)]
+pub enum Kind {
+    Input,
+    /// Also a plain output.
+    Wire,
+    /// Also an output that is a register.
+    Register,
+}
+
+/// A declared name.
+#[derive(Clone, Copy)]
+pub struct Declared {
+    pub name: Name,
+    pub kind: Kind,
+    pub width: u8,
+}
+
+pub(crate) fn same(a: &Name, b: &Name) -> bool
+    ensures { result ≡ bytes_eq a.now.bytes b.now.bytes }
+{
+    a.as_str() == b.as_str()
+}
+
+pub(crate) fn is_clk(name: &Name) -> bool
+    ensures { result ≡ is_clk name.now.bytes }
+{
+    name.as_str() == "clk"
+}
+
+fn kind_of(dir: Dir) -> Kind
+    ensures { result ≡ kind_of dir }
+{
+    match dir {
+        Dir::Input => Kind::Input,
+        Dir::Output => Kind::Wire,
+        Dir::OutputReg => Kind::Register,
+    }
+}
+
+pub(crate) fn declared_port(port: &Port) -> Declared
+    ensures { declaration result ≡ record { name = port.now.name.bytes; kind = kind_of port.now.dir; width = port.now.width } }
+{
+    Declared {
+        name: port.name,
+        kind: kind_of(port.dir),
+        width: port.width,
+    }
+}
+
+fn port_lookup(ports: &[Port], name: &Name) -> Option<Declared>
+    ensures { option_map declaration result ≡ lookup (port_declarations (map plain_port ports.now)) name.now.bytes }
+{
+    for port in ports {
+        if same(name, &port.name) {
+            return Some(declared_port(port));
+        }
+    }
+    None
+}
+
+pub(crate) fn declared_item(item: &Item) -> Option<Declared>
+    ensures { declares (option_map declaration result) ≡ item_declarations (plain_item item.now ∷ []) }
+{
+    match item {
+        Item::Wire(wire) => Some(Declared {
+            name: wire.name,
+            kind: Kind::Wire,
+            width: wire.width,
+        }),
+        Item::Reg(register) => Some(Declared {
+            name: register.name,
+            kind: Kind::Register,
+            width: register.width,
+        }),
+        Item::Assign(_, _) | Item::Always(_, _) => None,
+    }
+}
+
+fn item_lookup(items: &[Item], name: &Name) -> Option<Declared>
+    ensures { option_map declaration result ≡ lookup (item_declarations (map plain_item items.now)) name.now.bytes }
+{
+    for item in items {
+        if let Some(declared) = declared_item(item) {
+            if same(name, &declared.name) {
+                return Some(declared);
+            }
+        }
+    }
+    None
+}
+
+/// The first declaration of a name, in the ports and then the items.
+#[tactic(auto, using(crate::proofs::Lookups::lookup_first, crate::proofs::Lookups::lookup_second))]
+pub(crate) fn lookup(ports: &[Port], items: &[Item], name: &Name) -> Option<Declared>
+    ensures { option_map declaration result ≡ lookup (declarations (map plain_port ports.now) (map plain_item items.now)) name.now.bytes }
+{
+    match port_lookup(ports, name) {
+        Some(declared) => Some(declared),
+        None => item_lookup(items, name),
+    }
+}
+
+/// The width that a name is declared with, or 0.
+pub(crate) fn width_of(ports: &[Port], items: &[Item], name: &Name) -> u8
+    ensures { result ≡ width_of (declarations (map plain_port ports.now) (map plain_item items.now)) name.now.bytes }
+{
+    match lookup(ports, items, name) {
+        Some(declared) => declared.width,
+        None => 0,
+    }
+}
