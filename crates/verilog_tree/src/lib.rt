@@ -6,3 +6,4 @@ pub mod formed;
 pub mod mentions;
 pub mod names;
 pub mod tree;
+pub mod widths;

@@ -1,0 +1,208 @@
+//! Widths that must be equal.
+ghost use Rattle.std.specs.Prelude.{◌≡◌, ℕ, ◌^◌, ◌-◌, ◌+◌, min, map};
+ghost use Rattle.verilog_tree.specs.Plain.{plain, plain_stmt, plain_stmts, plain_arm, plain_item, plain_port, expressions, arms};
+ghost use Rattle.verilog_tree.specs.Seen.{widths_behind};
+ghost use Rattle.verilog_tree.specs.Meaning.{prefixed_width, infixed_width, width, widths};
+ghost use Rattle.verilog_tree.specs.Rules.{Refuses, RefusesOr, unequal, too_wide, infixed_widths, expression_widths, parts_widths, assignment_widths, label_widths, statement_widths, statements_widths, arms_widths, item_widths};
+
+use bist_bits::Bits;
+
+use crate::fault::TreeFault;
+use crate::names::width_of;
+use crate::tree::{Arm, BinOp, Expr, Item, Name, Port, Stmt, UnOp};
+
+fn equal(left: u64, right: u64) -> Result<(), TreeFault>
+    ensures { Refuses (unequal left right) result }
+{
+    if left == right {
+        Ok(())
+    } else {
+        Err(TreeFault::Width { left, right })
+    }
+}
+
+fn unary_width(op: UnOp, operand: u64) -> u64
+    ensures { result ≡ prefixed_width op operand }
+{
+    match op {
+        UnOp::Invert => operand,
+        UnOp::Not | UnOp::AllOnes | UnOp::AnyOne | UnOp::Parity => 1,
+    }
+}
+
+fn binary_width(op: BinOp, left: u64) -> u64
+    ensures { result ≡ infixed_width op left }
+{
+    match op {
+        BinOp::Add
+        | BinOp::Sub
+        | BinOp::And
+        | BinOp::Or
+        | BinOp::Xor
+        | BinOp::Shl
+        | BinOp::Shr => left,
+        BinOp::Eq
+        | BinOp::Ne
+        | BinOp::Lt
+        | BinOp::Le
+        | BinOp::Gt
+        | BinOp::Ge
+        | BinOp::LogAnd
+        | BinOp::LogOr => 1,
+    }
+}
+
+// Only `&&`, `||`, `<<` and `>>` take operands of different widths.
+fn operands(op: BinOp, left: u64, right: u64) -> Result<(), TreeFault>
+    ensures { Refuses (infixed_widths op left right) result }
+{
+    match op {
+        BinOp::LogAnd | BinOp::LogOr | BinOp::Shl | BinOp::Shr => Ok(()),
+        BinOp::Add
+        | BinOp::Sub
+        | BinOp::And
+        | BinOp::Or
+        | BinOp::Xor
+        | BinOp::Eq
+        | BinOp::Ne
+        | BinOp::Lt
+        | BinOp::Le
+        | BinOp::Gt
+        | BinOp::Ge => equal(left, right),
+    }
+}
+
+fn at_most_64(total: u64) -> Result<u64, TreeFault>
+    ensures { (k : ℕ) → total ≡ min k (2 ^ 64 - 1) → RefusesOr (too_wide k) k result }
+{
+    if total > 64 {
+        Err(TreeFault::Width {
+            left: 64,
+            right: total,
+        })
+    } else {
+        Ok(total)
+    }
+}
+
+/// The width of an expression behind these ports and items, or the first two widths in it that must be
+/// equal and aren't.
+#[cycle(expr_width)]
+#[tactic(auto, using(crate::proofs::Refusals::tells_now, crate::proofs::Refusals::tells_later, crate::proofs::Refusals::none_more))]
+fn expr_width(ports: &[Port], items: &[Item], x: &Expr) -> Result<u64, TreeFault>
+    ensures { let w = widths_behind ports.now items.now in RefusesOr (expression_widths w (plain x.now)) (width w (plain x.now)) result }
+{
+    match x {
+        Expr::Name(name) => Ok(width_of(ports, items, name) as u64),
+        Expr::Bit(_, _) => Ok(1),
+        Expr::Part(_, high, low) => Ok((*high as u64 + 1).saturating_sub(*low as u64)),
+        Expr::Lit(literal) => Ok(literal.width() as u64),
+        Expr::Concat(parts) => {
+            let total = total_width(ports, items, parts)?;
+            at_most_64(total)
+        }
+        Expr::Unary(op, a) => {
+            let operand = expr_width(ports, items, a)?;
+            Ok(unary_width(*op, operand))
+        }
+        Expr::Binary(op, a, b) => {
+            let left = expr_width(ports, items, a)?;
+            let right = expr_width(ports, items, b)?;
+            operands(*op, left, right)?;
+            Ok(binary_width(*op, left))
+        }
+        Expr::Choose(c, a, b) => {
+            let _condition = expr_width(ports, items, c)?;
+            let left = expr_width(ports, items, a)?;
+            let right = expr_width(ports, items, b)?;
+            equal(left, right)?;
+            Ok(left)
+        }
+    }
+}
+
+// The sum of the widths of these parts, or the greatest number where no `u64` holds it.
+#[cycle(expr_width)]
+fn total_width(ports: &[Port], items: &[Item], parts: &[Expr]) -> Result<u64, TreeFault>
+    ensures { let w = widths_behind ports.now items.now in RefusesOr (parts_widths w (expressions (map plain parts.now))) (min (widths w (expressions (map plain parts.now))) (2 ^ 64 - 1)) result }
+{
+    let mut total: u64 = 0;
+    for part in parts {
+        let width = expr_width(ports, items, part)?;
+        total = total.saturating_add(width);
+    }
+    Ok(total)
+}
+
+// The expression before its target.
+#[tactic(auto, using(crate::proofs::Refusals::tells_now, crate::proofs::Refusals::tells_later, crate::proofs::Refusals::none_more))]
+fn assignment_widths(ports: &[Port], items: &[Item], name: &Name, x: &Expr) -> Result<(), TreeFault>
+    ensures { Refuses (assignment_widths (widths_behind ports.now items.now) name.now.bytes (plain x.now)) result }
+{
+    let right = expr_width(ports, items, x)?;
+    equal(width_of(ports, items, name) as u64, right)
+}
+
+#[tactic(auto, using(crate::proofs::Refusals::tells_now, crate::proofs::Refusals::tells_later, crate::proofs::Refusals::none_more))]
+fn label_widths(subject: u64, labels: &[Bits]) -> Result<(), TreeFault>
+    ensures { Refuses (label_widths subject labels.now) result }
+{
+    for label in labels {
+        equal(subject, label.width() as u64)?;
+    }
+    Ok(())
+}
+
+#[cycle(stmt_widths)]
+#[tactic(auto, using(crate::proofs::Refusals::tells_now, crate::proofs::Refusals::tells_later, crate::proofs::Refusals::none_more))]
+fn stmt_widths(ports: &[Port], items: &[Item], s: &Stmt) -> Result<(), TreeFault>
+    ensures { Refuses (statement_widths (widths_behind ports.now items.now) (plain_stmt s.now)) result }
+{
+    match s {
+        Stmt::Set(name, x) => assignment_widths(ports, items, name, x),
+        Stmt::If(c, a, b) => {
+            let _condition = expr_width(ports, items, c)?;
+            stmts_widths(ports, items, a)?;
+            stmts_widths(ports, items, b)
+        }
+        Stmt::Case(x, choices, other) => {
+            let subject = expr_width(ports, items, x)?;
+            arms_widths(ports, items, subject, choices)?;
+            stmts_widths(ports, items, other)
+        }
+    }
+}
+
+#[cycle(stmt_widths)]
+#[tactic(auto, using(crate::proofs::Refusals::tells_now, crate::proofs::Refusals::tells_later, crate::proofs::Refusals::none_more))]
+fn stmts_widths(ports: &[Port], items: &[Item], body: &[Stmt]) -> Result<(), TreeFault>
+    ensures { Refuses (statements_widths (widths_behind ports.now items.now) (plain_stmts body.now)) result }
+{
+    for s in body {
+        stmt_widths(ports, items, s)?;
+    }
+    Ok(())
+}
+
+#[cycle(stmt_widths)]
+#[tactic(auto, using(crate::proofs::Refusals::tells_now, crate::proofs::Refusals::tells_later, crate::proofs::Refusals::none_more))]
+fn arms_widths(ports: &[Port], items: &[Item], subject: u64, choices: &[Arm]) -> Result<(), TreeFault>
+    ensures { Refuses (arms_widths (widths_behind ports.now items.now) subject (arms (map plain_arm choices.now))) result }
+{
+    for arm in choices {
+        label_widths(subject, &arm.labels)?;
+        stmts_widths(ports, items, &arm.body)?;
+    }
+    Ok(())
+}
+
+/// The first two widths of an item that must be equal and aren't, behind these ports and items.
+pub(crate) fn item_widths(ports: &[Port], items: &[Item], item: &Item) -> Result<(), TreeFault>
+    ensures { Refuses (item_widths (widths_behind ports.now items.now) (plain_item item.now)) result }
+{
+    match item {
+        Item::Wire(_) | Item::Reg(_) => Ok(()),
+        Item::Assign(name, x) => assignment_widths(ports, items, name, x),
+        Item::Always(_, body) => stmts_widths(ports, items, body),
+    }
+}
