@@ -1,5 +1,5 @@
 -- What the names of a module are.
-use Rattle.std.specs.Prelude.{ℕ, Bool, true, false, cond, nat_eq, ◌&&◌, List, [], ◌∷◌, ◌++◌, Option, Some, None, codes}
+use Rattle.std.specs.Prelude.{ℕ, Bool, true, false, cond, nat_eq, ◌&&◌, List, [], ◌∷◌, ◌++◌, map, Option, Some, None, codes}
 use Rattle.std.specs.Str.{bytes_eq}
 use Rattle.verilog_tree.specs.declared.tree.Dir.{Dir}
 use Rattle.verilog_tree.specs.declared.tree.Dir.TheVariants.{Input, Output, OutputReg}
@@ -18,9 +18,11 @@ kind_of Input = K.Input
 kind_of Output = K.Wire
 kind_of OutputReg = K.Register
 
+abbrev pub port_declaration : ModulePort → Declaration
+port_declaration p = record { name = p.name; kind = kind_of p.dir; width = p.width }
+
 abbrev pub port_declarations : List ModulePort → List Declaration
-port_declarations [] = []
-port_declarations (p ∷ ps) = record { name = p.name; kind = kind_of p.dir; width = p.width } ∷ port_declarations ps
+port_declarations ps = map port_declaration ps
 
 -- what an item declares
 abbrev pub declared_by : ModuleItem → List Declaration

@@ -9,7 +9,7 @@ use Rattle.verilog_tree.specs.declared.fault.TreeFault.{TreeFault}
 use Rattle.verilog_tree.specs.declared.fault.TreeFault.TheVariants as T
 use Rattle.verilog_tree.specs.Plain.{Expression, Net, BitSelect, PartSelect, Literal, Concatenation, Prefixed, Infixed, Conditional, Expressions, NoMore, Followed, Statement, SetTo, IfElse, CaseOf, Statements, Done, Then, Arms, NoArm, ArmOf, ModuleItem, WireItem, RegItem, AssignItem, AlwaysItem, ModulePort, ModuleTree}
 use Rattle.verilog_tree.specs.declared.names.Kind.{Kind}
-use Rattle.verilog_tree.specs.Names.{Declaration, port_declarations, declarations, lookup, width_of, is_input, is_wire, is_register, is_clk, may_be_clock, is_declared_as}
+use Rattle.verilog_tree.specs.Names.{Declaration, port_declarations, item_declarations, declarations, lookup, width_of, is_input, is_wire, is_register, is_clk, may_be_clock, is_declared_as}
 use Rattle.verilog_tree.specs.Meaning.{width, widths}
 
 -- a broken rule: N1, N2, N3, N4, N5, N6, N9 and N10
@@ -280,7 +280,8 @@ first_break mo =
     (port_twice [] (port_declarations mo.ports)
     ∷ port_clock (port_declarations mo.ports)
     ∷ items_break mo.ports [] mo.items
-    ∷ undriven mo.items (declarations mo.ports mo.items)
+    ∷ undriven mo.items (port_declarations mo.ports)
+    ∷ undriven mo.items (item_declarations mo.items)
     ∷ [])
 
 -- A fault tells its break; want of memory tells nothing. A loop is no break of these rules.

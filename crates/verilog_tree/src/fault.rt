@@ -1,5 +1,9 @@
 //! What a module is refused for.
 
+ghost use Rattle.std.specs.Prelude.{◌≡◌};
+
+use bist_bits::NoMemory;
+
 use crate::tree::Name;
 
 /// A rule that a module breaks, or that there was no memory.
@@ -28,4 +32,14 @@ pub enum TreeFault {
     /// N10: a clock isn't an input of one bit named `clk`, or `clk` stands in an expression, or is
     /// declared as anything but an input of one bit.
     Clock { name: Name },
+}
+
+impl From<NoMemory> for TreeFault {
+    ghost use Rattle.verilog_tree.specs.declared.fault.TreeFault.TheVariants as T;
+
+    ghost from_gives = { λ _ e. e ≡ T.NoMemory };
+
+    fn from(_: NoMemory) -> TreeFault {
+        TreeFault::NoMemory
+    }
 }

@@ -1,6 +1,7 @@
 //! The tree of a Verilog module, and what it means.
 #![tactic(auto)]
 
+pub mod check;
 pub mod fault;
 pub mod formed;
 pub mod mentions;

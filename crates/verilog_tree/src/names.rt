@@ -58,7 +58,7 @@ pub(crate) fn declared_port(port: &Port) -> Declared
     }
 }
 
-fn port_lookup(ports: &[Port], name: &Name) -> Option<Declared>
+pub(crate) fn port_lookup(ports: &[Port], name: &Name) -> Option<Declared>
     ensures { option_map declaration result ≡ lookup (port_declarations (map plain_port ports.now)) name.now.bytes }
 {
     for port in ports {
