@@ -239,7 +239,7 @@ declares_clk (AssignItem n x) = None
 declares_clk (AlwaysItem c ss) = None
 
 -- The first break of an item, behind these ports and items.
-abbrev pub item_break : List ModulePort → List ModuleItem → ModuleItem → Option Break
+unfoldable pub item_break : List ModulePort → List ModuleItem → ModuleItem → Option Break
 item_break ps before i =
     let ds = declarations ps before in
     let ms = mentions i in

@@ -220,7 +220,7 @@ fn clocked(ports: &[Port], before: &[Item], all: &[Mention]) -> Result<(), TreeF
     Ok(())
 }
 
-#[tactic(auto, using(crate::proofs::Refusals::tells_now, crate::proofs::Refusals::tells_later, crate::proofs::Refusals::none_more))]
+#[tactic(auto, using(crate::proofs::Refusals::tells_now, crate::proofs::Refusals::tells_later, crate::proofs::Refusals::none_more), unfolding(crate::specs::Rules::item_break))]
 fn check_item(alloc: Global, ports: &[Port], before: &[Item], item: &Item) -> Result<(), TreeFault>
     ensures { Refuses (item_break (map plain_port ports.now) (map plain_item before.now) (plain_item item.now)) result }
 {
@@ -239,8 +239,8 @@ fn check_item(alloc: Global, ports: &[Port], before: &[Item], item: &Item) -> Re
 fn check_items(alloc: Global, ports: &[Port], items: &[Item]) -> Result<(), TreeFault>
     ensures { Refuses (items_break (map plain_port ports.now) [] (map plain_item items.now)) result }
 {
-    for i in 0..items.len() {
-        check_item(alloc, ports, &items[..i], &items[i])?;
+    for (i, item) in items.iter().enumerate() {
+        check_item(alloc, ports, &items[..i], item)?;
     }
     Ok(())
 }
