@@ -1,6 +1,10 @@
 pub mod Formed
+pub mod Grammar
 pub mod Meaning
 pub mod Names
 pub mod Plain
 pub mod Rules
 pub mod Seen
+pub mod Spells
+pub mod Tokens
+pub mod Words

@@ -6,14 +6,15 @@ ghost use Rattle.verilog_tree.specs.Formed.{formed};
 ghost use Rattle.verilog_tree.specs.Rules.{has_kind, Refuses, Unknown, SelectRange, NotAssignable, TwoBlocks, NotClock, first_bad, is_unknown, is_assigned, twice, is_out_of_range, assignable, is_wrong_target, is_target, is_set, is_set_before, is_wrong_clock, declares_clk, item_break, items_break, port_twice, port_clock, undriven, first_break};
 ghost use Rattle.verilog_tree.specs.Seen.{mention, declared_behind};
 
-use bist_bits::NoMemory;
-use std::alloc::Global;
-
 use crate::fault::TreeFault;
 use crate::mentions::{Mention, mentions};
-use crate::names::{Kind, declared_item, declared_port, is_clk, lookup, port_lookup, same, width_of};
+use crate::names::{
+    Kind, declared_item, declared_port, is_clk, lookup, port_lookup, same, width_of,
+};
 use crate::tree::{Item, Module, Name, Port};
 use crate::widths::item_widths;
+use bist_bits::NoMemory;
+use std::alloc::Global;
 
 // N1: every name is declared before.
 fn known(ports: &[Port], before: &[Item], all: &[Mention]) -> Result<(), TreeFault>
@@ -118,7 +119,12 @@ fn is_wrong_target(ports: &[Port], before: &[Item], item: &Item, next: &Mention)
 }
 
 // N5: `assign` names a wire or plain output, and `<=` a register.
-fn targets_assignable(ports: &[Port], before: &[Item], item: &Item, all: &[Mention]) -> Result<(), TreeFault>
+fn targets_assignable(
+    ports: &[Port],
+    before: &[Item],
+    item: &Item,
+    all: &[Mention],
+) -> Result<(), TreeFault>
     ensures { Refuses (first_bad (is_wrong_target (assignable (plain_item item.now)) (declared_behind ports.now before.now)) NotAssignable (map mention all.now)) result }
 {
     for next in all {
@@ -200,7 +206,9 @@ fn is_wrong_clock(ports: &[Port], before: &[Item], next: &Mention) -> bool
 {
     match next {
         Mention::Clock(name) => match lookup(ports, before, name) {
-            Some(declared) => !(is_clk(name) && declared.kind == Kind::Input && declared.width == 1),
+            Some(declared) => !(is_clk(name)
+                && declared.kind == Kind::Input
+                && declared.width == 1),
             None => true,
         },
         Mention::Target(_) => false,

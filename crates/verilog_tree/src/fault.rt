@@ -2,9 +2,8 @@
 
 ghost use Rattle.std.specs.Prelude.{◌≡◌};
 
-use bist_bits::NoMemory;
-
 use crate::tree::Name;
+use bist_bits::NoMemory;
 
 /// A rule that a module breaks, or that there was no memory.
 #[derive(Drop)]

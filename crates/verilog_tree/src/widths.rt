@@ -5,11 +5,10 @@ ghost use Rattle.verilog_tree.specs.Seen.{widths_behind};
 ghost use Rattle.verilog_tree.specs.Meaning.{prefixed_width, infixed_width, width, widths};
 ghost use Rattle.verilog_tree.specs.Rules.{Refuses, RefusesOr, unequal, too_wide, infixed_widths, expression_widths, parts_widths, assignment_widths, label_widths, statement_widths, statements_widths, arms_widths, item_widths};
 
-use bist_bits::Bits;
-
 use crate::fault::TreeFault;
 use crate::names::width_of;
 use crate::tree::{Arm, BinOp, Expr, Item, Name, Port, Stmt, UnOp};
+use bist_bits::Bits;
 
 fn equal(left: u64, right: u64) -> Result<(), TreeFault>
     ensures { Refuses (unequal left right) result }
@@ -34,13 +33,8 @@ fn binary_width(op: BinOp, left: u64) -> u64
     ensures { result ≡ infixed_width op left }
 {
     match op {
-        BinOp::Add
-        | BinOp::Sub
-        | BinOp::And
-        | BinOp::Or
-        | BinOp::Xor
-        | BinOp::Shl
-        | BinOp::Shr => left,
+        BinOp::Add | BinOp::Sub | BinOp::And | BinOp::Or | BinOp::Xor | BinOp::Shl | BinOp::Shr =>
+            left,
         BinOp::Eq
         | BinOp::Ne
         | BinOp::Lt
@@ -186,7 +180,12 @@ fn stmts_widths(ports: &[Port], items: &[Item], body: &[Stmt]) -> Result<(), Tre
 
 #[cycle(stmt_widths)]
 #[tactic(auto, using(crate::proofs::Refusals::tells_now, crate::proofs::Refusals::tells_later, crate::proofs::Refusals::none_more))]
-fn arms_widths(ports: &[Port], items: &[Item], subject: u64, choices: &[Arm]) -> Result<(), TreeFault>
+fn arms_widths(
+    ports: &[Port],
+    items: &[Item],
+    subject: u64,
+    choices: &[Arm],
+) -> Result<(), TreeFault>
     ensures { Refuses (arms_widths (widths_behind ports.now items.now) subject (arms (map plain_arm choices.now))) result }
 {
     for arm in choices {
