@@ -3,8 +3,10 @@
 
 pub mod check;
 pub mod fault;
+pub mod fits;
 pub mod formed;
 pub mod mentions;
 pub mod names;
 pub mod tree;
 pub mod widths;
+pub mod words;
