@@ -1,3 +1,5 @@
+pub mod Bounds
+pub mod Breaks
 pub mod Lists
 pub mod Lookups
 pub mod Refusals

@@ -8,4 +8,5 @@ pub mod Rules
 pub mod Seen
 pub mod Spells
 pub mod Tokens
+pub mod Wires
 pub mod Words

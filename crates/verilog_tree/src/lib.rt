@@ -5,6 +5,7 @@ pub mod check;
 pub mod fault;
 pub mod fits;
 pub mod formed;
+pub mod laws;
 pub mod mentions;
 pub mod names;
 pub mod tree;
