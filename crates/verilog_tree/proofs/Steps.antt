@@ -12,7 +12,7 @@ map_more [] x = refl
 map_more (y ∷ xs) x = ap (λ l. plain_item y ∷ l) (map_more xs x)
 
 -- the items from i on break what item i breaks, and else what those behind it do
-pub items_step : (ps : List ModulePort) (items : List Item) (i : ℕ) (d : Item) → i < length items →
-    items_break ps (map plain_item (take i items)) (map plain_item (drop i items))
-    ≡ first_of (item_break ps (map plain_item (take i items)) (plain_item (get_or items i d)) ∷ items_break ps (map plain_item (take (i + 1) items)) (map plain_item (drop (i + 1) items)) ∷ [])
-items_step ps items i d lt = rw (take_more items i d lt, map_more (take i items) (get_or items i d), add-one i, drop-cons items i d lt) refl
+pub items_step : (w : List ℕ → ℕ) (ps : List ModulePort) (items : List Item) (i : ℕ) (d : Item) → i < length items →
+    items_break w ps (map plain_item (take i items)) (map plain_item (drop i items))
+    ≡ first_of (item_break w ps (map plain_item (take i items)) (plain_item (get_or items i d)) ∷ items_break w ps (map plain_item (take (i + 1) items)) (map plain_item (drop (i + 1) items)) ∷ [])
+items_step w ps items i d lt = rw (take_more items i d lt, map_more (take i items) (get_or items i d), add-one i, drop-cons items i d lt) refl

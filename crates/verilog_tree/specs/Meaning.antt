@@ -112,7 +112,7 @@ abbrev mutual
 
 -- the widths that the names of a module are declared with
 abbrev pub names_widths : ModuleTree → List ℕ → ℕ
-names_widths mo n = width_of (declarations mo.ports mo.items) n
+names_widths mo = width_of (declarations mo.ports mo.items)
 
 -- The bits that a name has in a cycle. The clock has none: it is what parts the cycles.
 abbrev pub settled_width : ModuleTree → List ℕ → ℕ

@@ -10,7 +10,7 @@ use Rattle.verilog_tree.specs.declared.fault.TreeFault.TheVariants as T
 use Rattle.verilog_tree.specs.Plain.{Expression, Net, BitSelect, PartSelect, Literal, Concatenation, Prefixed, Infixed, Conditional, Expressions, NoMore, Followed, Statement, SetTo, IfElse, CaseOf, Statements, Done, Then, Arms, NoArm, ArmOf, ModuleItem, WireItem, RegItem, AssignItem, AlwaysItem, ModulePort, ModuleTree}
 use Rattle.verilog_tree.specs.declared.names.Kind.{Kind}
 use Rattle.verilog_tree.specs.Names.{Declaration, port_declarations, item_declarations, declarations, lookup, width_of, is_input, is_wire, is_register, is_clk, may_be_clock, is_declared_as}
-use Rattle.verilog_tree.specs.Meaning.{width, widths}
+use Rattle.verilog_tree.specs.Meaning.{width, widths, names_widths}
 
 -- a broken rule: N1, N2, N3, N4, N5, N6, N9 and N10
 pub data Break : Type 0 where
@@ -111,11 +111,11 @@ twice ds before (AlwaysItem c ss) = None
 
 -- N6: a select's high place isn't below the width of its name, or its low place is above its high one,
 -- or its name has one bit
-abbrev pub is_out_of_range : List Declaration → Mention → Bool
-is_out_of_range ds (AsClock n) = false
-is_out_of_range ds (AsTarget n) = false
-is_out_of_range ds (Whole n) = false
-is_out_of_range ds (Selected n h l) = not (nat_lt h (width_of ds n)) || nat_lt h l || nat_eq (width_of ds n) 1
+abbrev pub is_out_of_range : (List ℕ → ℕ) → Mention → Bool
+is_out_of_range w (AsClock n) = false
+is_out_of_range w (AsTarget n) = false
+is_out_of_range w (Whole n) = false
+is_out_of_range w (Selected n h l) = not (nat_lt h (w n)) || nat_lt h l || nat_eq (w n) 1
 
 -- N3: these two widths differ
 abbrev pub unequal : ℕ → ℕ → Option Break
@@ -238,25 +238,26 @@ declares_clk (RegItem n k) = cond (is_clk n) (Some (NotClock n)) None
 declares_clk (AssignItem n x) = None
 declares_clk (AlwaysItem c ss) = None
 
--- The first break of an item, behind these ports and items.
-unfoldable pub item_break : List ModulePort → List ModuleItem → ModuleItem → Option Break
-item_break ps before i =
+-- The first break of an item behind these ports and items, where names have the widths w. N1 sees to it
+-- that the names are declared before, so w may be that of the whole module.
+unfoldable pub item_break : (List ℕ → ℕ) → List ModulePort → List ModuleItem → ModuleItem → Option Break
+item_break w ps before i =
     let ds = declarations ps before in
     let ms = mentions i in
     first_of
     (first_bad (is_unknown ds) Unknown ms
     ∷ twice ds before i
-    ∷ first_bad (is_out_of_range ds) SelectRange ms
-    ∷ item_widths (width_of ds) i
+    ∷ first_bad (is_out_of_range w) SelectRange ms
+    ∷ item_widths w i
     ∷ first_bad (is_wrong_target (assignable i) ds) NotAssignable ms
     ∷ first_bad (is_set_before before) TwoBlocks ms
     ∷ declares_clk i
     ∷ first_bad (is_wrong_clock ds) NotClock ms
     ∷ [])
 
-abbrev pub items_break : List ModulePort → List ModuleItem → List ModuleItem → Option Break
-items_break ps before [] = None
-items_break ps before (i ∷ is) = first_of (item_break ps before i ∷ items_break ps (before ++ i ∷ []) is ∷ [])
+abbrev pub items_break : (List ℕ → ℕ) → List ModulePort → List ModuleItem → List ModuleItem → Option Break
+items_break w ps before [] = None
+items_break w ps before (i ∷ is) = first_of (item_break w ps before i ∷ items_break w ps (before ++ i ∷ []) is ∷ [])
 
 -- N2 in the ports: the first whose name an earlier one has
 abbrev pub port_twice : List Declaration → List Declaration → Option Break
@@ -279,7 +280,7 @@ first_break mo =
     first_of
     (port_twice [] (port_declarations mo.ports)
     ∷ port_clock (port_declarations mo.ports)
-    ∷ items_break mo.ports [] mo.items
+    ∷ items_break (names_widths mo) mo.ports [] mo.items
     ∷ undriven mo.items (port_declarations mo.ports)
     ∷ undriven mo.items (item_declarations mo.items)
     ∷ [])

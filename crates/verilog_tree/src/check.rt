@@ -4,7 +4,7 @@ ghost use Rattle.verilog_tree.specs.Plain.{plain_item, plain_port, plain_module}
 ghost use Rattle.verilog_tree.specs.Names.{is_wire, port_declarations, item_declarations};
 ghost use Rattle.verilog_tree.specs.Formed.{formed};
 ghost use Rattle.verilog_tree.specs.Rules.{has_kind, Refuses, Unknown, SelectRange, NotAssignable, TwoBlocks, NotClock, first_bad, is_unknown, is_assigned, twice, is_out_of_range, assignable, is_wrong_target, is_target, is_set, is_set_before, is_wrong_clock, declares_clk, item_break, items_break, port_twice, port_clock, undriven, first_break};
-ghost use Rattle.verilog_tree.specs.Seen.{mention, declared_behind};
+ghost use Rattle.verilog_tree.specs.Seen.{mention, declared_behind, widths_behind};
 
 use crate::fault::TreeFault;
 use crate::mentions::{Mention, mentions};
@@ -73,12 +73,12 @@ fn once(ports: &[Port], before: &[Item], item: &Item) -> Result<(), TreeFault>
     Ok(())
 }
 
-fn is_out_of_range(ports: &[Port], before: &[Item], next: &Mention) -> bool
-    ensures { result ≡ is_out_of_range (declared_behind ports.now before.now) (mention next.now) }
+fn is_out_of_range(ports: &[Port], items: &[Item], next: &Mention) -> bool
+    ensures { result ≡ is_out_of_range (widths_behind ports.now items.now) (mention next.now) }
 {
     match next {
         Mention::Select(name, high, low) => {
-            let width = width_of(ports, before, name);
+            let width = width_of(ports, items, name);
             !(*high < width) || *high < *low || width == 1
         }
         Mention::Clock(_) | Mention::Target(_) | Mention::Whole(_) => false,
@@ -86,11 +86,11 @@ fn is_out_of_range(ports: &[Port], before: &[Item], next: &Mention) -> bool
 }
 
 // N6: a select lies in a name of more than one bit.
-fn selects_in_range(ports: &[Port], before: &[Item], all: &[Mention]) -> Result<(), TreeFault>
-    ensures { Refuses (first_bad (is_out_of_range (declared_behind ports.now before.now)) SelectRange (map mention all.now)) result }
+fn selects_in_range(ports: &[Port], items: &[Item], all: &[Mention]) -> Result<(), TreeFault>
+    ensures { Refuses (first_bad (is_out_of_range (widths_behind ports.now items.now)) SelectRange (map mention all.now)) result }
 {
     for next in all {
-        if is_out_of_range(ports, before, next) {
+        if is_out_of_range(ports, items, next) {
             return Err(TreeFault::SelectRange { name: next.name() });
         }
     }
@@ -229,14 +229,20 @@ fn clocked(ports: &[Port], before: &[Item], all: &[Mention]) -> Result<(), TreeF
 }
 
 #[tactic(auto, using(crate::proofs::Refusals::tells_now, crate::proofs::Refusals::tells_later, crate::proofs::Refusals::none_more), unfolding(crate::specs::Rules::item_break))]
-fn check_item(alloc: Global, ports: &[Port], before: &[Item], item: &Item) -> Result<(), TreeFault>
-    ensures { Refuses (item_break (map plain_port ports.now) (map plain_item before.now) (plain_item item.now)) result }
+fn check_item(
+    alloc: Global,
+    ports: &[Port],
+    items: &[Item],
+    before: &[Item],
+    item: &Item,
+) -> Result<(), TreeFault>
+    ensures { Refuses (item_break (widths_behind ports.now items.now) (map plain_port ports.now) (map plain_item before.now) (plain_item item.now)) result }
 {
     let all = mentions(alloc, item)?;
     known(ports, before, &all)?;
     once(ports, before, item)?;
-    selects_in_range(ports, before, &all)?;
-    item_widths(ports, before, item)?;
+    selects_in_range(ports, items, &all)?;
+    item_widths(ports, items, item)?;
     targets_assignable(ports, before, item, &all)?;
     in_one_block(alloc, before, &all)?;
     no_second_clk(item)?;
@@ -245,10 +251,10 @@ fn check_item(alloc: Global, ports: &[Port], before: &[Item], item: &Item) -> Re
 
 #[tactic(auto, using(crate::proofs::Refusals::tells_now, crate::proofs::Refusals::tells_later, crate::proofs::Refusals::none_more))]
 fn check_items(alloc: Global, ports: &[Port], items: &[Item]) -> Result<(), TreeFault>
-    ensures { Refuses (items_break (map plain_port ports.now) [] (map plain_item items.now)) result }
+    ensures { Refuses (items_break (widths_behind ports.now items.now) (map plain_port ports.now) [] (map plain_item items.now)) result }
 {
     for (i, item) in items.iter().enumerate() {
-        check_item(alloc, ports, &items[..i], item)?;
+        check_item(alloc, ports, items, &items[..i], item)?;
     }
     Ok(())
 }

@@ -1,13 +1,19 @@
 //! Laws of the meaning, each the contract of a function that does nothing.
 ghost use Rattle.std.specs.Prelude.{◌≡◌, ℕ, ◌^◌, ◌<◌, List, true, None};
-ghost use Rattle.verilog_tree.specs.Plain.{Expression};
-ghost use Rattle.verilog_tree.specs.Formed.{expression_formed};
+ghost use Rattle.verilog_tree.specs.Plain.{Expression, ModuleTree};
+ghost use Rattle.verilog_tree.specs.Formed.{expression_formed, formed};
 ghost use Rattle.verilog_tree.specs.Meaning.{Env, value, width};
-ghost use Rattle.verilog_tree.specs.Rules.{expression_widths};
-ghost use Rattle.verilog_tree.specs.Wires.{Uses};
+ghost use Rattle.verilog_tree.specs.Rules.{expression_widths, first_break};
+ghost use Rattle.verilog_tree.specs.Wires.{Uses, Falls, Starts, OneSettles};
 
 /// The value of an expression is within its width, where the values of the names that it uses are.
 #[tactic(auto, using(crate::proofs::Bounds::value_fits))]
 pub fn values_within_widths()
     ensures { (w : List ℕ → ℕ) (e : Env) (x : Expression) → ((m : List ℕ) → Uses m x → e m < 2 ^ w m) → expression_formed x ≡ true → expression_widths w x ≡ None → value w e x < 2 ^ width w x }
+{}
+
+/// In a module that breaks no rule, exactly one environment settles where a rank of the names falls from
+/// each wire to the names that its expression uses, whatever values the registers and inputs have.
+pub fn one_environment_settles()
+    ensures { (mo : ModuleTree) → formed mo ≡ true → first_break mo ≡ None → (rank : List ℕ → ℕ) → Falls rank mo.items → (regs ins : Env) → Starts mo regs ins → OneSettles mo regs ins }
 {}

@@ -2,8 +2,8 @@ use Rattle.std.proofs.Common.{◌≡◌, map, drop, take, []}
 use Rattle.verilog_tree.specs.Plain.{plain_item, plain_port}
 use Rattle.verilog_tree.specs.Names.{port_declarations, item_declarations}
 use Rattle.verilog_tree.specs.Rules.{Unknown, SelectRange, NotAssignable, TwoBlocks, NotClock, first_bad, is_unknown, is_assigned, is_out_of_range, assignable, is_wrong_target, is_target, is_set, is_set_before, is_wrong_clock, items_break, port_twice, port_clock, undriven}
-use Rattle.verilog_tree.specs.Seen.{mention, declared_behind}
+use Rattle.verilog_tree.specs.Seen.{mention, declared_behind, widths_behind}
 use Rattle.verilog_tree.proofs.check.check_items.Given as goal
 
 abbrev pub invariant-loop-i : goal.invariant-loop-i
-invariant-loop-i l = items_break (map plain_port l.ports) (map plain_item (take l.i l.items)) (map plain_item (drop l.i l.items)) ≡ items_break (map plain_port l.ports) [] (map plain_item l.items)
+invariant-loop-i l = items_break (widths_behind l.ports l.items) (map plain_port l.ports) (map plain_item (take l.i l.items)) (map plain_item (drop l.i l.items)) ≡ items_break (widths_behind l.ports l.items) (map plain_port l.ports) [] (map plain_item l.items)
