@@ -4,5 +4,6 @@ pub mod Clean
 pub mod Lists
 pub mod Lookups
 pub mod Refusals
+pub mod Reordering
 pub mod Settling
 pub mod Steps

@@ -3,6 +3,7 @@ pub mod Formed
 pub mod Grammar
 pub mod Meaning
 pub mod Names
+pub mod Order
 pub mod Plain
 pub mod Rules
 pub mod Seen

@@ -4,6 +4,7 @@ ghost use Rattle.verilog_tree.specs.Plain.{Expression, ModuleTree};
 ghost use Rattle.verilog_tree.specs.Formed.{expression_formed, formed};
 ghost use Rattle.verilog_tree.specs.Meaning.{Env, value, width};
 ghost use Rattle.verilog_tree.specs.Rules.{expression_widths, first_break};
+ghost use Rattle.verilog_tree.specs.Order.{Reordered, MeansTheSame};
 ghost use Rattle.verilog_tree.specs.Wires.{Uses, Falls, Starts, OneSettles};
 
 /// The value of an expression is within its width, where the values of the names that it uses are.
@@ -16,4 +17,10 @@ pub fn values_within_widths()
 /// each wire to the names that its expression uses, whatever values the registers and inputs have.
 pub fn one_environment_settles()
     ensures { (mo : ModuleTree) → formed mo ≡ true → first_break mo ≡ None → (rank : List ℕ → ℕ) → Falls rank mo.items → (regs ins : Env) → Starts mo regs ins → OneSettles mo regs ins }
+{}
+
+/// The order of `assign` items and of `always` blocks does not matter: two modules that break no rule, and
+/// differ only in it, settle alike, leave the same registers, and have the same histories.
+pub fn order_does_not_matter()
+    ensures { (one other : ModuleTree) → first_break one ≡ None → first_break other ≡ None → Reordered one other → MeansTheSame one other }
 {}
