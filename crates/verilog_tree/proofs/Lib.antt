@@ -6,4 +6,5 @@ pub mod Lookups
 pub mod Refusals
 pub mod Reordering
 pub mod Settling
+pub mod Spelled
 pub mod Steps

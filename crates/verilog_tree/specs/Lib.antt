@@ -1,3 +1,4 @@
+pub mod Examples
 pub mod Fits
 pub mod Formed
 pub mod Grammar

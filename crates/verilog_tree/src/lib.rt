@@ -2,6 +2,7 @@
 #![tactic(auto)]
 
 pub mod check;
+pub mod examples;
 pub mod fault;
 pub mod fits;
 pub mod formed;
@@ -11,3 +12,6 @@ pub mod names;
 pub mod tree;
 pub mod widths;
 pub mod words;
+
+#[cfg(test)]
+mod tests;
