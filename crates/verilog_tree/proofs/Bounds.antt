@@ -1,5 +1,5 @@
 -- The value of an expression is within its width.
-use Rattle.std.proofs.Common.{◌≡◌, ℕ, zero, suc, ◌+◌, ◌-◌, ◌*◌, ◌/◌, ◌%◌, ◌^◌, ◌<◌, ◌≤◌, Bool, true, false, cond, not, ◌&&◌, nat_eq, nat_lt, List, [], ◌∷◌, Option, Some, None, refl, sym, ap, ◌∙◌, subst, arith, inl, inr, ◌⊎◌, bit_and, bit_or, bit_xor, count_ones}
+use Rattle.std.proofs.Common.{◌≡◌, ℕ, ◌+◌, ◌-◌, ◌*◌, ◌/◌, ◌%◌, ◌^◌, ◌<◌, Bool, true, false, cond, not, ◌&&◌, nat_eq, nat_lt, List, Some, None, refl, arith, inl, inr, count_ones}
 use Rattle.std.proofs.lemmas.Nat.{or_lt, xor_lt, and_le_l, mod_below, pow_pos, pow-add, mul-add-lt}
 use Rattle.std.proofs.Math.Nat.{div-le_self}
 use Rattle.std.proofs.lemmas.Bool.{and_parts, eqb-true, ltb-true}
@@ -10,7 +10,7 @@ use Rattle.verilog_tree.specs.declared.tree.BinOp.TheVariants as B
 use Rattle.verilog_tree.specs.Plain.{Expression, Net, BitSelect, PartSelect, Literal, Concatenation, Prefixed, Infixed, Conditional, Expressions, NoMore, Followed}
 use Rattle.verilog_tree.specs.Formed.{expression_formed, expressions_formed, has_expression, is_width}
 use Rattle.verilog_tree.specs.Meaning.{Env, bit, truth, prefixed_width, infixed_width, prefixed, infixed, width, widths, value, joined}
-use Rattle.verilog_tree.specs.Rules.{Break, unequal, too_wide, Widths, infixed_widths, expression_widths, parts_widths}
+use Rattle.verilog_tree.specs.Rules.{unequal, too_wide, Widths, infixed_widths, expression_widths, parts_widths}
 use Rattle.verilog_tree.specs.Wires.{Uses, UsesAny}
 use Rattle.verilog_tree.proofs.Breaks.{two, three, four}
 

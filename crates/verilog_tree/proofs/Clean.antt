@@ -1,15 +1,13 @@
 -- What a module that breaks no rule is like.
-use Rattle.std.proofs.Common.{◌≡◌, ℕ, ◌+◌, Bool, true, false, cond, not, ◌&&◌, ◌||◌, nat_eq, nat_lt, List, [], ◌∷◌, ◌++◌, Option, Some, None, is_some, is_none, refl, sym, ap, ◌∙◌, subst, append-nil, append_assoc}
+use Rattle.std.proofs.Common.{◌≡◌, ℕ, Bool, true, false, cond, not, ◌&&◌, ◌||◌, nat_eq, List, [], ◌∷◌, ◌++◌, Option, Some, None, is_some, refl, sym, ap, ◌∙◌, subst, append-nil, append_assoc}
 use Rattle.std.proofs.lemmas.Bool.{and_parts}
 use Rattle.std.proofs.lemmas.Slice.Eq.{bytes_eq-Decides}
 use Rattle.std.specs.Str.{bytes_eq}
-use Rattle.verilog_tree.specs.declared.names.Kind.{Kind}
-use Rattle.verilog_tree.specs.declared.names.Kind.TheVariants as K
 use Rattle.verilog_tree.specs.Plain.{Expression, ModuleItem, WireItem, RegItem, AssignItem, AlwaysItem, ModulePort}
-use Rattle.verilog_tree.specs.Names.{Declaration, declared_by, port_declarations, item_declarations, declarations, lookup, width_of, is_input, is_wire, is_clk, may_be_clock, is_declared_as}
+use Rattle.verilog_tree.specs.Names.{Declaration, declared_by, port_declarations, item_declarations, declarations, lookup, is_input, is_wire, is_clk, may_be_clock, is_declared_as}
 use Rattle.verilog_tree.specs.Formed.{expression_formed, item_formed, items_formed}
 use Rattle.verilog_tree.specs.Meaning.{width}
-use Rattle.verilog_tree.specs.Rules.{Break, Unknown, Twice, SelectRange, NotAssignable, TwoBlocks, NotClock, Undriven, Mention, AsTarget, reads, mentions, first_of, first_bad, is_unknown, is_assigned, has_kind, twice, is_out_of_range, unequal, expression_widths, assignment_widths, item_widths, is_wrong_target, assignable, is_set_before, declares_clk, is_wrong_clock, item_break, items_break, port_twice, port_clock, undriven}
+use Rattle.verilog_tree.specs.Rules.{Unknown, Twice, SelectRange, NotAssignable, TwoBlocks, NotClock, Undriven, Mention, AsTarget, reads, mentions, first_bad, is_unknown, is_assigned, has_kind, twice, is_out_of_range, unequal, expression_widths, assignment_widths, item_widths, is_wrong_target, assignable, is_set_before, declares_clk, is_wrong_clock, item_break, items_break, port_twice, port_clock, undriven}
 use Rattle.verilog_tree.proofs.Breaks.{two, eight}
 use Rattle.verilog_tree.proofs.Bounds.{unequal_none}
 use Rattle.verilog_tree.proofs.Lookups.{lookup_first, lookup_second}

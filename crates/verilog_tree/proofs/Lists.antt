@@ -1,6 +1,6 @@
 -- Lists and the trees that they make.
-use Rattle.std.proofs.Common.{◌≡◌, ℕ, suc, ◌==◌, not, Bool, true, false, List, [], ◌∷◌, length, map, refl, arith, ap, sym, ◌∙◌}
-use Rattle.std.proofs.lemmas.Bool.Decides.{eqb_tells, nat_tests}
+use Rattle.std.proofs.Common.{◌≡◌, ℕ, suc, ◌==◌, not, false, List, [], ◌∷◌, length, map, refl, arith, ap, sym}
+use Rattle.std.proofs.lemmas.Bool.Decides.{nat_tests}
 use Rattle.bist_bits.specs.Vector.{Vector}
 use Rattle.verilog_tree.specs.Plain.{plain, plain_arm, plain_port, expressions, arms}
 use Rattle.verilog_tree.specs.declared.tree.Arm.{Arm}

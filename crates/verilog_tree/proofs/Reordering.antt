@@ -1,19 +1,17 @@
 -- The order of assign items and of always blocks does not matter.
-use Rattle.std.proofs.Common.{◌≡◌, ℕ, zero, suc, ◌+◌, ◌^◌, ◌<◌, Bool, true, false, cond, not, ◌||◌, nat_eq, List, [], ◌∷◌, ◌++◌, Option, Some, None, refl, sym, ap, ◌∙◌, subst, arith, append_assoc, sum_by}
-use Rattle.std.specs.List.Sorted.{IsPermutation}
+use Rattle.std.proofs.Common.{◌≡◌, ℕ, zero, suc, ◌+◌, ◌^◌, ◌<◌, Bool, true, false, cond, ◌||◌, nat_eq, List, [], ◌∷◌, ◌++◌, None, refl, sym, ap, ◌∙◌, subst, arith, sum_by}
 use Rattle.std.proofs.lemmas.List.Sorted.{sum_by-IsPermutation}
 use Rattle.std.proofs.lemmas.List.Sums.{sum_by-cons}
 use Rattle.std.proofs.lemmas.Bool.{eqb-true}
 use Rattle.std.proofs.lemmas.Bool.Decides.{nat_tests}
 use Rattle.std.proofs.lemmas.Slice.Eq.{bytes_eq-Decides}
 use Rattle.std.specs.Str.{bytes_eq}
-use Rattle.bist_bits.specs.Vector.{Vector}
 use Rattle.verilog_tree.specs.declared.names.Kind.{Kind}
 use Rattle.verilog_tree.specs.declared.names.Kind.TheVariants as K
-use Rattle.verilog_tree.specs.Plain.{Expression, Net, BitSelect, PartSelect, Literal, Concatenation, Prefixed, Infixed, Conditional, Expressions, NoMore, Followed, Statement, SetTo, IfElse, CaseOf, Statements, Done, Then, Arms, NoArm, ArmOf, ModuleItem, WireItem, RegItem, AssignItem, AlwaysItem, ModulePort, ModuleTree}
+use Rattle.verilog_tree.specs.Plain.{Statement, SetTo, IfElse, CaseOf, Statements, Done, Then, Arms, NoArm, ArmOf, ModuleItem, WireItem, RegItem, AssignItem, AlwaysItem, ModulePort, ModuleTree}
 use Rattle.verilog_tree.specs.Names.{Declaration, declarations, port_declarations, item_declarations, width_of, is_clk}
 use Rattle.verilog_tree.specs.Meaning.{Env, truth, is_label, value, Given, AllGiven, Equations, Settles, names_widths, sets_of, sets, arm_sets, block_sets, last_set, next, History}
-use Rattle.verilog_tree.specs.Rules.{Break, TwoBlocks, Mention, AsClock, AsTarget, Whole, Selected, reads, all_reads, statement_mentions, statements_mentions, arms_mentions, mentions, first_bad, is_target, is_set, is_set_before, item_break, items_break, first_break, port_twice, port_clock, undriven}
+use Rattle.verilog_tree.specs.Rules.{TwoBlocks, Mention, AsClock, AsTarget, Whole, Selected, reads, statement_mentions, statements_mentions, arms_mentions, mentions, first_bad, is_target, is_set, is_set_before, item_break, items_break, first_break, port_twice, port_clock, undriven}
 use Rattle.verilog_tree.specs.Order.{Assignment, assignments, blocks, Reordered, MeansTheSame}
 use Rattle.verilog_tree.proofs.Breaks.{two, five}
 use Rattle.verilog_tree.proofs.Clean.{not_here, item_clean}

@@ -1,5 +1,5 @@
 -- Exactly one environment settles where a rank falls along the wires.
-use Rattle.std.proofs.Common.{◌≡◌, ℕ, zero, suc, ◌+◌, ◌-◌, ◌*◌, ◌/◌, ◌%◌, ◌^◌, ◌<◌, ◌≤◌, Bool, true, false, cond, ◌&&◌, List, [], ◌∷◌, ◌++◌, Option, Some, None, refl, sym, ap, ◌∙◌, subst, arith, inl, inr, ◌⊎◌, ◌||◌, append_assoc, append-nil}
+use Rattle.std.proofs.Common.{◌≡◌, ℕ, zero, suc, ◌+◌, ◌-◌, ◌*◌, ◌/◌, ◌%◌, ◌^◌, ◌<◌, Bool, true, false, cond, ◌&&◌, List, [], ◌∷◌, ◌++◌, Option, Some, None, refl, sym, ap, ◌∙◌, subst, arith, inl, inr, ◌⊎◌, ◌||◌, append_assoc, append-nil}
 use Rattle.std.proofs.lemmas.Nat.{pow_pos}
 use Rattle.std.proofs.lemmas.Slice.Eq.{bytes_eq-Decides}
 use Rattle.std.proofs.lemmas.Bool.{and_parts}
@@ -9,7 +9,7 @@ use Rattle.verilog_tree.specs.declared.names.Kind.TheVariants as K
 use Rattle.verilog_tree.specs.Plain.{Expression, Net, BitSelect, PartSelect, Literal, Concatenation, Prefixed, Infixed, Conditional, Expressions, NoMore, Followed, ModuleItem, WireItem, RegItem, AssignItem, AlwaysItem, ModulePort, ModuleTree}
 use Rattle.verilog_tree.specs.Names.{Declaration, port_declarations, item_declarations, declarations, lookup, declared_width, is_wire, is_input, is_clk}
 use Rattle.verilog_tree.specs.Formed.{formed, has_port, ports_formed, items_formed}
-use Rattle.verilog_tree.specs.Meaning.{Env, truth, prefixed, infixed, width, widths, value, joined, Given, AllGiven, Equations, Settles, names_widths, settled_width}
+use Rattle.verilog_tree.specs.Meaning.{Env, truth, prefixed, infixed, width, widths, value, joined, Given, AllGiven, Equations, names_widths}
 use Rattle.verilog_tree.specs.Rules.{is_assigned, first_break, port_twice, port_clock, items_break, undriven}
 use Rattle.verilog_tree.specs.Wires.{Uses, UsesAny, Leads, Falls, GivenWithin, AllWithin, Starts, OneSettles}
 use Rattle.verilog_tree.proofs.Breaks.{five}

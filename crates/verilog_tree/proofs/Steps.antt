@@ -1,11 +1,11 @@
 -- One more item of a list.
-use Rattle.std.proofs.Common.{◌≡◌, ℕ, ◌+◌, ◌<◌, List, [], ◌∷◌, ◌++◌, Option, None, length, take, drop, map, get_or, refl, sym, ap, ◌∙◌, arith}
+use Rattle.std.proofs.Common.{◌≡◌, ℕ, ◌+◌, ◌<◌, List, [], ◌∷◌, ◌++◌, length, take, drop, map, get_or, refl, ap}
 use Rattle.std.proofs.lemmas.List.{take_more}
 use Rattle.std.proofs.Math.Seq.{drop-cons}
 use Rattle.std.proofs.Math.Numerals.{add-one}
 use Rattle.verilog_tree.specs.declared.tree.Item.{Item}
-use Rattle.verilog_tree.specs.Plain.{ModulePort, ModuleItem, plain_item}
-use Rattle.verilog_tree.specs.Rules.{Break, first_of, item_break, items_break}
+use Rattle.verilog_tree.specs.Plain.{ModulePort, plain_item}
+use Rattle.verilog_tree.specs.Rules.{first_of, item_break, items_break}
 
 map_more : (xs : List Item) (x : Item) → map plain_item (xs ++ x ∷ []) ≡ map plain_item xs ++ plain_item x ∷ []
 map_more [] x = refl

@@ -1,8 +1,8 @@
 -- Small modules, to try the definitions on.
-use Rattle.std.specs.Prelude.{ℕ, List, [], ◌∷◌, ◌++◌, codes}
+use Rattle.std.specs.Prelude.{ℕ, List, [], ◌∷◌, codes}
 use Rattle.verilog_tree.specs.declared.tree.Dir.TheVariants.{Input, Output}
 use Rattle.verilog_tree.specs.declared.tree.BinOp.TheVariants.{Add, Shl}
-use Rattle.verilog_tree.specs.Plain.{Net, Literal, Infixed, SetTo, Statements, Done, Then, WireItem, RegItem, AssignItem, AlwaysItem, ModulePort, ModuleItem, ModuleTree}
+use Rattle.verilog_tree.specs.Plain.{Net, Literal, Infixed, SetTo, Done, Then, RegItem, AssignItem, AlwaysItem, ModuleItem, ModuleTree}
 
 abbrev pub a : List ℕ
 a = codes "a"
@@ -21,7 +21,7 @@ abbrev pub with_items : List ModuleItem → ModuleTree
 with_items is = record {
   name = codes "m";
   ports = record { dir = Input; name = clk; width = 1 } ∷ record { dir = Input; name = a; width = 4 }
-    ∷ record { dir = Input; name = b; width = 3 } ∷ record { dir = Output; name = y; width = 4 } ∷ [];
+      ∷ record { dir = Input; name = b; width = 3 } ∷ record { dir = Output; name = y; width = 4 } ∷ [];
   items = is;
 }
 
@@ -42,13 +42,13 @@ q = codes "q"
 -- two registers of four bits that exchange their values, where y shows the first
 abbrev pub swap : ModuleTree
 swap = with_items
-    ( RegItem p 4 ∷ RegItem q 4 ∷ AssignItem y (Net p)
+    (RegItem p 4 ∷ RegItem q 4 ∷ AssignItem y (Net p)
     ∷ AlwaysItem clk (Then (SetTo p (Net q)) (Then (SetTo q (Net p)) Done)) ∷ [])
 
 -- the same registers, one of them in two blocks
 abbrev pub two_blocks : ModuleTree
 two_blocks = with_items
-    ( RegItem p 4 ∷ AssignItem y (Net p)
+    (RegItem p 4 ∷ AssignItem y (Net p)
     ∷ AlwaysItem clk (Then (SetTo p (Net a)) Done) ∷ AlwaysItem clk (Then (SetTo p (Net y)) Done) ∷ [])
 
 -- the text of a module of one input and one output

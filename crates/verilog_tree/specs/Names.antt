@@ -5,7 +5,7 @@ use Rattle.verilog_tree.specs.declared.tree.Dir.{Dir}
 use Rattle.verilog_tree.specs.declared.tree.Dir.TheVariants.{Input, Output, OutputReg}
 use Rattle.verilog_tree.specs.declared.names.Kind.{Kind}
 use Rattle.verilog_tree.specs.declared.names.Kind.TheVariants as K
-use Rattle.verilog_tree.specs.Plain.{ModuleItem, WireItem, RegItem, AssignItem, AlwaysItem, ModulePort, ModuleTree}
+use Rattle.verilog_tree.specs.Plain.{ModuleItem, WireItem, RegItem, AssignItem, AlwaysItem, ModulePort}
 
 pub record Declaration : Type 0 where
   pub name : List ℕ

@@ -3,7 +3,7 @@ use Rattle.std.specs.Prelude.{◌≡◌, ℕ, List, [], ◌∷◌}
 use Rattle.std.specs.List.Sorted.{IsPermutation}
 use Rattle.verilog_tree.specs.Names.{item_declarations}
 use Rattle.verilog_tree.specs.Meaning.{Env, Settles, next, History}
-use Rattle.verilog_tree.specs.Plain.{Expression, Statements, ModuleItem, WireItem, RegItem, AssignItem, AlwaysItem, ModulePort, ModuleTree}
+use Rattle.verilog_tree.specs.Plain.{Expression, Statements, ModuleItem, WireItem, RegItem, AssignItem, AlwaysItem, ModuleTree}
 
 pub record Assignment : Type 0 where
   pub target : List ℕ

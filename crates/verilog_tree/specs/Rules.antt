@@ -1,15 +1,14 @@
 -- The first rule that a module breaks.
-use Rattle.std.specs.Prelude.{◌≡◌, ℕ, ◌+◌, ◌-◌, ◌^◌, Bool, true, false, cond, not, ◌&&◌, ◌||◌, nat_eq, nat_lt, min, List, [], ◌∷◌, ◌++◌, Option, Some, None, is_some, is_none, codes, MatchOption, Result, Ok, Err}
+use Rattle.std.specs.Prelude.{◌≡◌, ℕ, ◌-◌, ◌^◌, Bool, false, cond, not, ◌&&◌, ◌||◌, nat_eq, nat_lt, min, List, [], ◌∷◌, ◌++◌, Option, Some, None, is_some, is_none, Result, Ok, Err}
 use Rattle.std.specs.Str.{bytes_eq}
 use Rattle.bist_bits.specs.Vector.{Vector}
-use Rattle.verilog_tree.specs.declared.tree.UnOp.{UnOp}
 use Rattle.verilog_tree.specs.declared.tree.BinOp.{BinOp}
 use Rattle.verilog_tree.specs.declared.tree.BinOp.TheVariants.{Add, Sub, And, Or, Xor, Eq, Ne, Lt, Le, Gt, Ge, LogAnd, LogOr, Shl, Shr}
 use Rattle.verilog_tree.specs.declared.fault.TreeFault.{TreeFault}
 use Rattle.verilog_tree.specs.declared.fault.TreeFault.TheVariants as T
 use Rattle.verilog_tree.specs.Plain.{Expression, Net, BitSelect, PartSelect, Literal, Concatenation, Prefixed, Infixed, Conditional, Expressions, NoMore, Followed, Statement, SetTo, IfElse, CaseOf, Statements, Done, Then, Arms, NoArm, ArmOf, ModuleItem, WireItem, RegItem, AssignItem, AlwaysItem, ModulePort, ModuleTree}
 use Rattle.verilog_tree.specs.declared.names.Kind.{Kind}
-use Rattle.verilog_tree.specs.Names.{Declaration, port_declarations, item_declarations, declarations, lookup, width_of, is_input, is_wire, is_register, is_clk, may_be_clock, is_declared_as}
+use Rattle.verilog_tree.specs.Names.{Declaration, port_declarations, item_declarations, declarations, lookup, is_wire, is_register, is_clk, may_be_clock, is_declared_as}
 use Rattle.verilog_tree.specs.Meaning.{width, widths, names_widths}
 
 -- a broken rule: N1, N2, N3, N4, N5, N6, N9 and N10

@@ -1,5 +1,5 @@
 -- The module that bytes spell.
-use Rattle.std.specs.Prelude.{◌≡◌, ℕ, Bool, true, false, ◌&&◌, nat_le, List, [], ◌∷◌, length}
+use Rattle.std.specs.Prelude.{◌≡◌, ℕ, Bool, true, ◌&&◌, nat_le, List, [], ◌∷◌, length}
 use Rattle.verilog_tree.specs.Words.{number_value, literal_of}
 use Rattle.verilog_tree.specs.Formed.{is_literal, is_place}
 use Rattle.verilog_tree.specs.Plain.{ModuleTree}

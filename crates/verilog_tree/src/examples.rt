@@ -11,25 +11,21 @@ pub fn registers_swap()
     ensures legal { first_break swap ≡ None }
     ensures first { (e : Env) → next swap e p ≡ e q }
     ensures second { (e : Env) → next swap e q ≡ e p }
-{
-}
+{}
 
 /// Widths of 4 and 3 in a sum are refused, and a register that two blocks set.
 pub fn broken_rules()
     ensures widths { first_break unequal_sum ≡ Some (Widths 4 3) }
     ensures blocks { first_break two_blocks ≡ Some (TwoBlocks p) }
-{
-}
+{}
 
 /// A shift by the width leaves nothing.
 pub fn shift_by_the_width()
     ensures legal { first_break shifted_out ≡ None }
     ensures nothing { (regs ins e : Env) → Settles shifted_out regs ins e → e y ≡ 0 }
-{
-}
+{}
 
 /// A text spells its module, with white space, and parentheses that leave no trace.
 pub fn text_spells()
     ensures { Spells text spelled }
-{
-}
+{}

@@ -9,9 +9,8 @@ pub mod formed;
 pub mod laws;
 pub mod mentions;
 pub mod names;
+#[cfg(test)]
+mod tests;
 pub mod tree;
 pub mod widths;
 pub mod words;
-
-#[cfg(test)]
-mod tests;

@@ -1,15 +1,14 @@
 //! Rows of the rules, each a small module and what `check` says of it.
 
-use arrayvec::ArrayString;
-use bist_bits::{Bits, NoMemory};
-use std::alloc::Global;
-use std::test::Fail;
-
 use crate::check::check;
 use crate::fault::TreeFault;
 use crate::fits::fits;
 use crate::formed::formed;
 use crate::tree::{BinOp, Decl, Dir, Expr, Item, Module, Name, Port, Stmt};
+use arrayvec::ArrayString;
+use bist_bits::{Bits, NoMemory};
+use std::alloc::Global;
+use std::test::Fail;
 
 fn name(text: &str) -> Name {
     ArrayString::from(text).unwrap_or(ArrayString::new())
@@ -99,17 +98,46 @@ fn rules(rt: HostRuntime) -> Result<(), Fail> {
             width: 4,
         })
     };
-    assert_eq!(rt; said(alloc, with_items(alloc, [drives("y", net("a"))])), "ok");
-    assert_eq!(rt; said(alloc, with_items(alloc, [drives("y", net("w"))])), "N1");
-    assert_eq!(rt; said(alloc, with_items(alloc, [drives("y", net("a")), drives("y", net("a"))])), "N2");
+    assert_eq!(rt;
+        said(alloc, with_items(alloc, [drives("y", net("a"))])),
+        "ok"
+    );
+    assert_eq!(rt;
+        said(alloc, with_items(alloc, [drives("y", net("w"))])),
+        "N1"
+    );
+    assert_eq!(rt;
+        said(
+            alloc,
+            with_items(alloc, [drives("y", net("a")), drives("y", net("a"))])
+        ),
+        "N2"
+    );
     let sum = binary(alloc, BinOp::Add, net("a"), net("b"))?;
     assert_eq!(rt; said(alloc, with_items(alloc, [drives("y", sum)])), "N3");
-    let two = [register(), sets(alloc, "r")?, sets(alloc, "r")?, drives("y", net("r"))];
+    let two = [
+        register(),
+        sets(alloc, "r")?,
+        sets(alloc, "r")?,
+        drives("y", net("r")),
+    ];
     assert_eq!(rt; said(alloc, with_items(alloc, two)), "N4");
-    assert_eq!(rt; said(alloc, with_items(alloc, [drives("a", net("a"))])), "N5");
-    assert_eq!(rt; said(alloc, with_items(alloc, [drives("y", Expr::Part(name("a"), 4, 1))])), "N6");
+    assert_eq!(rt;
+        said(alloc, with_items(alloc, [drives("a", net("a"))])),
+        "N5"
+    );
+    assert_eq!(rt;
+        said(
+            alloc,
+            with_items(alloc, [drives("y", Expr::Part(name("a"), 4, 1))])
+        ),
+        "N6"
+    );
     assert_eq!(rt; said(alloc, with_items(alloc, [])), "N9");
-    assert_eq!(rt; said(alloc, with_items(alloc, [drives("y", net("clk"))])), "N3");
+    assert_eq!(rt;
+        said(alloc, with_items(alloc, [drives("y", net("clk"))])),
+        "N3"
+    );
     Ok(())
 }
 

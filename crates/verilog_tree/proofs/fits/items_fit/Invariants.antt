@@ -1,6 +1,6 @@
 use Rattle.std.proofs.Common.{◌≡◌, map, drop}
-use Rattle.verilog_tree.specs.Plain.{plain, plain_stmts, plain_arm, plain_item, plain_port, expressions, arms}
-use Rattle.verilog_tree.specs.Fits.{expressions_fit, statements_fit, arms_fit, items_fit, ports_fit}
+use Rattle.verilog_tree.specs.Plain.{plain_item}
+use Rattle.verilog_tree.specs.Fits.{items_fit}
 use Rattle.verilog_tree.proofs.fits.items_fit.Given as goal
 
 abbrev pub invariant-loop-item : goal.invariant-loop-item

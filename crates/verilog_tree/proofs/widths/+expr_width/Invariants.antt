@@ -1,4 +1,4 @@
-use Rattle.std.proofs.Common.{◌≡◌, ◌+◌, ◌-◌, ◌^◌, ◌≤◌, min, map, drop, List, ℕ, Option, None}
+use Rattle.std.proofs.Common.{◌≡◌, ◌+◌, ◌-◌, ◌^◌, ◌≤◌, min, map, drop, List, ℕ}
 use Rattle.verilog_tree.specs.Plain.{plain, plain_port, plain_item, expressions}
 use Rattle.verilog_tree.specs.Names.{declarations, width_of}
 use Rattle.verilog_tree.specs.Meaning.{widths}
