@@ -25,7 +25,7 @@ bit_below : (b : Bool) → bit b < 2 ^ 1
 bit_below true = omega arith
 bit_below false = omega arith
 
-prefixed_fits : (o : UnOp) (k a : ℕ) → a < 2 ^ k → prefixed o k a < 2 ^ prefixed_width o k
+pub prefixed_fits : (o : UnOp) (k a : ℕ) → a < 2 ^ k → prefixed o k a < 2 ^ prefixed_width o k
 prefixed_fits U.Not k a h = bit_below (not (truth a))
 prefixed_fits U.Invert k a h = omega (arith, pow_pos k)
 prefixed_fits U.AllOnes k a h = bit_below (nat_eq a (2 ^ k - 1))
@@ -42,7 +42,7 @@ modulo_fits a k = mod_below a (2 ^ k) (pow_pos k)
 moved : (j k b : ℕ) → k ≡ j → b < 2 ^ j → b < 2 ^ k
 moved j k b e h = rw e h
 
-infixed_fits : (o : BinOp) (k j a b : ℕ) → a < 2 ^ k → b < 2 ^ j → infixed_widths o k j ≡ None → infixed o k a b < 2 ^ infixed_width o k
+pub infixed_fits : (o : BinOp) (k j a b : ℕ) → a < 2 ^ k → b < 2 ^ j → infixed_widths o k j ≡ None → infixed o k a b < 2 ^ infixed_width o k
 infixed_fits B.Add k j a b p q h = modulo_fits (a + b) k
 infixed_fits B.Sub k j a b p q h = modulo_fits (a + 2 ^ k - b) k
 infixed_fits B.And k j a b p q h = omega (arith, and_le_l a b)

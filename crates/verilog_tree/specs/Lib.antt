@@ -10,5 +10,6 @@ pub mod Rules
 pub mod Seen
 pub mod Spells
 pub mod Tokens
+pub mod Valued
 pub mod Wires
 pub mod Words

@@ -1,6 +1,8 @@
 -- What the crate's own types are to its definitions.
 use Rattle.std.specs.Prelude.{ℕ, List, [], ◌∷◌, map, Option, Some, None}
 use Rattle.verilog_tree.specs.declared.names.Declared.{Declared}
+use Rattle.verilog_tree.specs.declared.value.Known as W
+use Rattle.verilog_tree.specs.Valued.{Known}
 use Rattle.verilog_tree.specs.declared.mentions.Mention as M
 use Rattle.verilog_tree.specs.declared.mentions.Mention.TheVariants as V
 use Rattle.verilog_tree.specs.Names.{Declaration, declarations, width_of}
@@ -30,3 +32,6 @@ declared_behind ps is = declarations (map plain_port ps) (map plain_item is)
 -- the widths of the names that they declare
 abbrev pub widths_behind : List Port → List Item → List ℕ → ℕ
 widths_behind ps is = width_of (declared_behind ps is)
+
+abbrev pub known : W.Known → Known
+known k = record { name = k.name.bytes; bits = k.bits }

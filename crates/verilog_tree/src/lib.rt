@@ -12,5 +12,6 @@ pub mod names;
 #[cfg(test)]
 mod tests;
 pub mod tree;
+pub mod value;
 pub mod widths;
 pub mod words;

@@ -20,7 +20,7 @@ fn equal(left: u64, right: u64) -> Result<(), TreeFault>
     }
 }
 
-fn unary_width(op: UnOp, operand: u64) -> u64
+pub(crate) fn unary_width(op: UnOp, operand: u64) -> u64
     ensures { result ≡ prefixed_width op operand }
 {
     match op {
@@ -29,7 +29,7 @@ fn unary_width(op: UnOp, operand: u64) -> u64
     }
 }
 
-fn binary_width(op: BinOp, left: u64) -> u64
+pub(crate) fn binary_width(op: BinOp, left: u64) -> u64
     ensures { result ≡ infixed_width op left }
 {
     match op {
