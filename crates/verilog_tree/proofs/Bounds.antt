@@ -59,7 +59,7 @@ infixed_fits B.LogOr k j a b p q h = bit_below _
 infixed_fits B.Shl k j a b p q h = chosen_below (nat_lt b k) (a * 2 ^ b % 2 ^ k) 0 (2 ^ k) (modulo_fits (a * 2 ^ b) k) (pow_pos k)
 infixed_fits B.Shr k j a b p q h = chosen_below (nat_lt b k) (a / 2 ^ b) 0 (2 ^ k) (omega (arith, div-le_self a (2 ^ b))) (pow_pos k)
 
-joins : (p q a b : ℕ) → a < 2 ^ p → b < 2 ^ q → a * 2 ^ q + b < 2 ^ (p + q)
+pub joins : (p q a b : ℕ) → a < 2 ^ p → b < 2 ^ q → a * 2 ^ q + b < 2 ^ (p + q)
 joins p q a b h k = rw (pow-add 2 p q) (omega (arith, mul-add-lt a (2 ^ q) b (2 ^ p) h k))
 
 mutual

@@ -21,7 +21,7 @@ fn literal_formed(literal: &Bits) -> bool
 }
 
 #[tactic(auto, using(crate::proofs::Lists::some_expression))]
-fn has_part(parts: &[Expr]) -> bool
+pub(crate) fn has_part(parts: &[Expr]) -> bool
     ensures { result ≡ has_expression (expressions (map plain parts.now)) }
 {
     !parts.is_empty()
