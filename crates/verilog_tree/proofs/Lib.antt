@@ -3,6 +3,7 @@ pub mod Breaks
 pub mod Clean
 pub mod Lists
 pub mod Lookups
+pub mod Loops
 pub mod Refusals
 pub mod Reordering
 pub mod Settling

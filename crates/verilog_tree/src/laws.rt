@@ -5,7 +5,7 @@ ghost use Rattle.verilog_tree.specs.Formed.{expression_formed, formed};
 ghost use Rattle.verilog_tree.specs.Meaning.{Env, value, width};
 ghost use Rattle.verilog_tree.specs.Rules.{expression_widths, first_break};
 ghost use Rattle.verilog_tree.specs.Order.{Reordered, MeansTheSame};
-ghost use Rattle.verilog_tree.specs.Wires.{Uses, Falls, Starts, OneSettles};
+ghost use Rattle.verilog_tree.specs.Wires.{Uses, IsLoop, Falls, Starts, OneSettles};
 
 /// The value of an expression is within its width, where the values of the names that it uses are.
 #[tactic(auto, using(crate::proofs::Bounds::value_fits))]
@@ -18,6 +18,12 @@ pub fn values_within_widths()
 pub fn one_environment_settles()
     ensures { (mo : ModuleTree) → formed mo ≡ true → first_break mo ≡ None → (rank : List ℕ → ℕ) → Falls rank mo.items → (regs ins : Env) → Starts mo regs ins → OneSettles mo regs ins }
 {}
+
+/// Where a rank falls along the wires, no wires form a loop.
+pub fn no_loop_where_a_rank_falls()
+    ensures { (mo : ModuleTree) (rank : List ℕ → ℕ) → Falls rank mo.items → (names : List (List ℕ)) → IsLoop mo names → ⊥ }
+{
+}
 
 /// The order of `assign` items and of `always` blocks does not matter: two modules that break no rule, and
 /// differ only in it, settle alike, leave the same registers, and have the same histories.
