@@ -1,7 +1,7 @@
 -- Numbers that hold values.
-use Rattle.std.proofs.Common.{◌≡◌, ℕ, suc, List, length, map, drop, get_or, ◌+◌, ◌-◌, ◌*◌, ◌/◌, ◌%◌, ◌^◌, ◌<◌, ◌≤◌, Bool, true, false, Option, Some, None, is_none, is_some, nat_eq, nat_le, ◌&&◌, cond, refl, sym, ap, ◌∙◌, subst, arith, count_ones, lit<}
-use Rattle.std.proofs.lemmas.Nat.{pow_pos, mod_below, pow-add, mul-add-lt}
-use Rattle.std.proofs.Math.Nat.{mod-eq_of_lt, pow-le-pow_right, mul-le-mul_left, div-le_self}
+use Rattle.std.proofs.Common.{◌≡◌, ℕ, suc, List, length, map, drop, get_or, ◌+◌, ◌-◌, ◌*◌, ◌%◌, ◌^◌, ◌<◌, ◌≤◌, Bool, true, false, Option, Some, None, is_none, is_some, nat_le, ◌&&◌, refl, sym, ap, ◌∙◌, arith, lit<}
+use Rattle.std.proofs.lemmas.Nat.{pow_pos, mod_below, pow-add}
+use Rattle.std.proofs.Math.Nat.{mod-eq_of_lt, pow-le-pow_right, mul-le-mul_left}
 use Rattle.bist_bits.specs.Vector.{Vector, IsVector}
 use Rattle.std.proofs.lemmas.Bool.Decides.{nat_tests}
 use Rattle.std.proofs.Math.Seq.{drop-cons}

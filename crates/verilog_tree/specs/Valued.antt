@@ -1,10 +1,10 @@
 -- Expressions whose names have known values.
-use Rattle.std.specs.Prelude.{◌≡◌, ℕ, Bool, true, false, cond, ◌&&◌, nat_eq, nat_lt, nat_le, List, [], ◌∷◌, Option, Some, None, is_some, is_none, MatchOption}
+use Rattle.std.specs.Prelude.{◌≡◌, ℕ, Bool, true, false, cond, ◌&&◌, nat_eq, nat_lt, nat_le, List, [], ◌∷◌, Option, Some, None, is_some, is_none}
 use Rattle.std.specs.Str.{bytes_eq}
 use Rattle.bist_bits.specs.Vector.{Vector}
 use Rattle.verilog_tree.specs.Plain.{Expression, Net, BitSelect, PartSelect, Literal, Concatenation, Prefixed, Infixed, Conditional, Expressions, NoMore, Followed}
 use Rattle.verilog_tree.specs.Formed.{has_expression}
-use Rattle.verilog_tree.specs.Meaning.{width, widths, value, joined}
+use Rattle.verilog_tree.specs.Meaning.{width, widths, value}
 use Rattle.verilog_tree.specs.Rules.{infixed_widths}
 
 -- a name, and the bits that it has

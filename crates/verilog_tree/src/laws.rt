@@ -22,8 +22,7 @@ pub fn one_environment_settles()
 /// Where a rank falls along the wires, no wires form a loop.
 pub fn no_loop_where_a_rank_falls()
     ensures { (mo : ModuleTree) (rank : List ℕ → ℕ) → Falls rank mo.items → (names : List (List ℕ)) → IsLoop mo names → ⊥ }
-{
-}
+{}
 
 /// The order of `assign` items and of `always` blocks does not matter: two modules that break no rule, and
 /// differ only in it, settle alike, leave the same registers, and have the same histories.
