@@ -9,4 +9,4 @@ pub mod Reordering
 pub mod Settling
 pub mod Spelled
 pub mod Steps
-pub mod Values
+pub mod Vectors

@@ -1,7 +1,7 @@
 -- What the crate's own types are to its definitions.
 use Rattle.std.specs.Prelude.{ℕ, List, [], ◌∷◌, map, Option, Some, None}
 use Rattle.verilog_tree.specs.declared.names.Declared.{Declared}
-use Rattle.verilog_tree.specs.declared.value.Known as W
+use Rattle.verilog_tree.specs.declared.values.Known as W
 use Rattle.verilog_tree.specs.Valued.{Known}
 use Rattle.verilog_tree.specs.declared.mentions.Mention as M
 use Rattle.verilog_tree.specs.declared.mentions.Mention.TheVariants as V

@@ -1,17 +1,30 @@
-//! The tree of a Verilog module, and what it means.
+//! The tree of a module in a subset of Verilog, IEEE 1364-2005, and what it means.
+//!
+//! Contracts see a module as a plain tree (`specs/Plain.antt`): names are their bytes, vectors are lists, a
+//! box is what it holds. Of such a tree the definitions say which bytes spell it (`Spells.antt`), which rule
+//! it breaks first (`Rules.antt`), what its names are worth in a cycle and after an edge of the clock
+//! (`Meaning.antt`), and when its wires form a loop (`Wires.antt`). Values are unsigned and two-valued.
 #![tactic(auto)]
 
-pub mod check;
 pub mod examples;
-pub mod fault;
-pub mod fits;
-pub mod formed;
+mod fault;
 pub mod laws;
-pub mod mentions;
-pub mod names;
+mod layout;
+mod mentions;
+mod names;
+mod rules;
+mod sizes;
 #[cfg(test)]
 mod tests;
-pub mod tree;
-pub mod value;
-pub mod widths;
-pub mod words;
+mod tree;
+mod values;
+mod widths;
+mod words;
+
+pub use fault::TreeFault;
+pub use layout::fits;
+pub use rules::check;
+pub use sizes::formed;
+pub use tree::{Arm, BinOp, Decl, Dir, Expr, Item, Module, Name, Port, Stmt, UnOp};
+pub use values::{Known, value};
+pub use words::is_name;

@@ -1,9 +1,9 @@
 //! Rows of the rules, each a small module and what `check` says of it.
 
-use crate::check::check;
 use crate::fault::TreeFault;
-use crate::fits::fits;
-use crate::formed::formed;
+use crate::layout::fits;
+use crate::rules::check;
+use crate::sizes::formed;
 use crate::tree::{BinOp, Decl, Dir, Expr, Item, Module, Name, Port, Stmt};
 use arrayvec::ArrayString;
 use bist_bits::{Bits, NoMemory};

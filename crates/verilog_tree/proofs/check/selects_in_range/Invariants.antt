@@ -1,7 +1,0 @@
-use Rattle.std.proofs.Common.{◌≡◌, map, drop}
-use Rattle.verilog_tree.specs.Rules.{SelectRange, first_bad, is_out_of_range}
-use Rattle.verilog_tree.specs.Seen.{mention, widths_behind}
-use Rattle.verilog_tree.proofs.check.selects_in_range.Given as goal
-
-abbrev pub invariant-loop-next : goal.invariant-loop-next
-invariant-loop-next l = first_bad (is_out_of_range (widths_behind l.ports l.items)) SelectRange (map mention (drop l.next-index l.all)) ≡ first_bad (is_out_of_range (widths_behind l.ports l.items)) SelectRange (map mention l.all)

@@ -1,0 +1,118 @@
+//! Whether a module can be written as text.
+ghost use Rattle.std.specs.Prelude.{◌≡◌, ℕ, ◌≤◌, ◌-◌, map};
+ghost use Rattle.verilog_tree.specs.Plain.{plain, plain_stmt, plain_stmts, plain_arm, plain_item, plain_port, plain_module, expressions, arms};
+ghost use Rattle.verilog_tree.specs.Fits.{expression_fits, expressions_fit, statement_fits, statements_fit, arms_fit, item_fits, items_fit, ports_fit, fits};
+
+use crate::sizes::formed;
+use crate::tree::{Arm, Expr, Item, Module, Port, Stmt};
+use crate::words::is_name;
+
+#[cycle(expr_fits)]
+fn expr_fits(room: u8, x: &Expr) -> bool
+    ensures { result ≡ expression_fits room (plain x.now) }
+{
+    match x {
+        Expr::Name(name) | Expr::Bit(name, _) | Expr::Part(name, _, _) => is_name(name),
+        Expr::Lit(_) => true,
+        Expr::Concat(parts) => 0 < room && exprs_fit(room - 1, parts),
+        Expr::Unary(_, a) => 0 < room && expr_fits(room - 1, a),
+        Expr::Binary(_, a, b) => 0 < room && expr_fits(room - 1, a) && expr_fits(room - 1, b),
+        Expr::Choose(c, a, b) => {
+            0 < room && expr_fits(room - 1, c) && expr_fits(room - 1, a) && expr_fits(room - 1, b)
+        }
+    }
+}
+
+#[cycle(expr_fits)]
+fn exprs_fit(room: u8, parts: &[Expr]) -> bool
+    ensures { result ≡ expressions_fit room (expressions (map plain parts.now)) }
+{
+    for part in parts {
+        if !expr_fits(room, part) {
+            return false;
+        }
+    }
+    true
+}
+
+#[cycle(stmt_fits)]
+fn stmt_fits(room: u8, s: &Stmt) -> bool
+    ensures { result ≡ statement_fits room (plain_stmt s.now) }
+{
+    match s {
+        Stmt::Set(name, x) => is_name(name) && expr_fits(room, x),
+        Stmt::If(c, a, b) => {
+            1 < room && expr_fits(room - 2, c) && stmts_fit(room - 2, a) && stmts_fit(room - 2, b)
+        }
+        Stmt::Case(x, choices, other) => {
+            1 < room
+                && expr_fits(room - 2, x)
+                && arms_fit(room - 2, choices)
+                && stmts_fit(room - 2, other)
+        }
+    }
+}
+
+#[cycle(stmt_fits)]
+fn stmts_fit(room: u8, body: &[Stmt]) -> bool
+    ensures { result ≡ statements_fit room (plain_stmts body.now) }
+{
+    for s in body {
+        if !stmt_fits(room, s) {
+            return false;
+        }
+    }
+    true
+}
+
+#[cycle(stmt_fits)]
+fn arms_fit(room: u8, choices: &[Arm]) -> bool
+    ensures { result ≡ arms_fit room (arms (map plain_arm choices.now)) }
+{
+    for arm in choices {
+        if !stmts_fit(room, &arm.body) {
+            return false;
+        }
+    }
+    true
+}
+
+fn item_fits(item: &Item) -> bool
+    ensures { result ≡ item_fits 64 (plain_item item.now) }
+{
+    match item {
+        Item::Wire(declared) | Item::Reg(declared) => is_name(&declared.name),
+        Item::Assign(name, x) => is_name(name) && expr_fits(64, x),
+        Item::Always(clock, body) => is_name(clock) && stmts_fit(63, body),
+    }
+}
+
+fn items_fit(items: &[Item]) -> bool
+    ensures { result ≡ items_fit 64 (map plain_item items.now) }
+{
+    for item in items {
+        if !item_fits(item) {
+            return false;
+        }
+    }
+    true
+}
+
+fn ports_fit(ports: &[Port]) -> bool
+    ensures { result ≡ ports_fit (map plain_port ports.now) }
+{
+    for port in ports {
+        if !is_name(&port.name) {
+            return false;
+        }
+    }
+    true
+}
+
+/// Whether the module is formed, its names are legal (simple identifiers that aren't reserved), and its
+/// text nests at most 64 deep: `(`, `{`, `begin`, `case` and `if` count.
+pub fn fits(module: &Module) -> bool
+    ensures { result ≡ fits (plain_module «module».now) }
+{
+    formed(module) && is_name(&module.name) && ports_fit(&module.ports) && items_fit(&module.items)
+}
