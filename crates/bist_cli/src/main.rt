@@ -41,3 +41,6 @@ fn run_words<H: bist_host::Host>(
     let texts: Vec<&str> = words.iter().map(|word| word.as_str()).collect(alloc)?;
     Ok(run(alloc, &texts, host).status)
 }
+
+#[cfg(test)]
+mod tests;
