@@ -1,0 +1,3 @@
+pub mod Commands
+pub mod PortRule
+pub mod Standing
