@@ -1,5 +1,5 @@
 -- What a march does to the words of a memory, and to its port.
-use Rattle.std.specs.Prelude.{ℕ, Bool, true, false, List, [], ◌∷◌, map, length}
+use Rattle.std.specs.Prelude.{ℕ, Bool, true, false, List, map, length}
 use Rattle.std.specs.List.{flat_map}
 use Rattle.march_core.specs.declared.operation.Order.{Order}
 use Rattle.march_core.specs.declared.operation.Order.TheVariants.{Up, Down, Any}

@@ -1,9 +1,10 @@
 -- Where an iterator over the operations stands, and what it has left.
-use Rattle.std.specs.Prelude.{◌≡◌, ℕ, suc, ◌+◌, ◌<◌, ◌≤◌, nat_lt, if◌then◌else◌, List, [], ◌∷◌, ◌++◌, drop, map, length, slice_index}
+use Rattle.std.specs.Prelude.{◌≡◌, ℕ, suc, ◌+◌, ◌<◌, ◌≤◌, nat_lt, if◌then◌else◌, List, [], ◌++◌, drop, map, length, slice_index}
 use Rattle.std.specs.List.{flat_map}
-use Rattle.march_core.specs.March.{MarchElement, IsMarch, order_at, ops_at}
+use Rattle.march_core.specs.declared.operation.Op.{Op}
+use Rattle.march_core.specs.March.{MarchElement, order_at, ops_at}
 use Rattle.march_core.specs.Visits.{Visit, cell_visits, addresses, address_visits, visits_from}
-use Rattle.memory_desc.specs.Descriptions.{Description, IsMemory}
+use Rattle.memory_desc.specs.Descriptions.{Description}
 use Rattle.word_march.specs.declared.operations.WordOp.{WordOp}
 use Rattle.word_march.specs.declared.place.Place.{Place}
 use Rattle.word_march.specs.Commands.{upward, up, word_op, run_in}
@@ -34,3 +35,21 @@ pub record IsPlace (march : List MarchElement) (d : Description) (p : Place) : T
   pub element : p.element < length march
   pub step : p.step < d.words
   pub op : p.op < length (ops_at march p.element)
+
+-- the visit at a place, of this operation
+abbrev pub visit_at : List MarchElement → ℕ → Place → Op → Visit
+visit_at march size p op =
+    record { element = p.element; address = slice_index (addresses_at march p.element size) p.step; number = p.op; op = op }
+
+-- the first place of a run
+abbrev pub first_of : ℕ → Place
+first_of background = record { background = background; element = 0; step = 0; op = 0 }
+
+-- the place behind a place, in the order of the visits
+pub data Follows (march : List MarchElement) (d : Description) (p q : Place) : Type 0 where
+  next_op : p.op + 1 < length (ops_at march p.element) → q ≡ record p { op = p.op + 1 } → Follows march d p q
+  next_step : p.op + 1 ≡ length (ops_at march p.element) → p.step + 1 < d.words → q ≡ record p { step = p.step + 1; op = 0 } → Follows march d p q
+  next_elem : p.op + 1 ≡ length (ops_at march p.element) → p.step + 1 ≡ d.words → p.element + 1 < length march
+      → q ≡ record p { element = p.element + 1; step = 0; op = 0 } → Follows march d p q
+  next_run : p.op + 1 ≡ length (ops_at march p.element) → p.step + 1 ≡ d.words → p.element + 1 ≡ length march
+      → q ≡ first_of (p.background + 1) → Follows march d p q

@@ -4,9 +4,9 @@
 //! in each cycle. No call of this crate takes memory.
 #![tactic(auto)]
 
-//mod iterators;
+mod iterators;
 mod operations;
 mod place;
 
-//pub use iterators::{PortOps, WordOps, length, port_ops, word_ops};
+pub use iterators::{PortOps, WordOps, length, port_ops, word_ops};
 pub use operations::{PortOp, WordOp};

@@ -1,12 +1,13 @@
-ghost use Rattle.std.specs.Prelude.{◌≡◌, ◌<◌, ◌∷◌, [], length};
-ghost use Rattle.std.specs.Prelude.{slice_index};
-ghost use Rattle.march_core.specs.March.{IsMarch, ops_at};
-ghost use Rattle.memory_desc.specs.Descriptions.{IsMemory};
-ghost use Rattle.word_march.specs.Standing.{IsPlace, ops_left, addresses_at};
-ghost use Rattle.word_march.specs.declared.operations.WordOp.{WordOp};
+ghost use Rattle.std.specs.Prelude.{◌≡◌, ◌<◌, length, slice_get, slice_index};
+ghost use Rattle.march_core.specs.declared.operation.Op.{Op};
+ghost use Rattle.march_core.specs.March.{ops_at};
+ghost use Rattle.march_core.specs.Visits.{addresses};
+ghost use Rattle.word_march.specs.Commands.{upward, is_write, data_value, word_op};
+ghost use Rattle.word_march.specs.Standing.{IsPlace, Follows, visit_at};
 
 use crate::operations::WordOp;
-use march_core::{March, Order};
+use backgrounds::word_of;
+use march_core::{March, Op, Order};
 use memory_desc::Memory;
 
 /// Where in the operations of a march on a memory an iterator stands.
@@ -25,3 +26,91 @@ pub const FIRST: Place = Place {
     step: 0,
     op: 0,
 };
+
+/// Whether an operation writes.
+fn writes(op: Op) -> bool
+    ensures { result ≡ is_write op }
+{
+    match op {
+        Op::W0 | Op::W1 => true,
+        Op::R0 | Op::R1 => false,
+    }
+}
+
+/// The data value that an operation writes or expects.
+fn data_of(op: Op) -> bool
+    ensures { result ≡ data_value op }
+{
+    match op {
+        Op::W0 | Op::R0 => false,
+        Op::W1 | Op::R1 => true,
+    }
+}
+
+/// The address of a step, in the order in which the hardware visits the addresses.
+#[tactic(auto, using(crate::proofs::Left::address_upward, crate::proofs::Left::address_downward))]
+fn address_of(order: Order, step: u32, words: u32) -> u32
+    requires { step < words }
+    ensures value { result ≡ slice_index (addresses (upward order) words) step }
+    ensures below { result < words }
+{
+    match order {
+        Order::Up | Order::Any => step,
+        Order::Down => words - 1 - step,
+    }
+}
+
+/// The operation at a place.
+pub fn operation_at(march: &March, memory: &Memory, place: Place) -> WordOp
+    requires place { IsPlace march.now memory.now place }
+    requires more { place.background < length memory.now.backgrounds }
+    ensures operation { (op : Op) → slice_get (ops_at march.now place.element) place.op ≡ Some op
+        → result ≡ word_op memory.now.bits (slice_index memory.now.backgrounds place.background) (visit_at march.now memory.now.words place op) }
+    ensures index { result.index < memory.now.words }
+{
+    let background = memory.backgrounds()[place.background];
+    let op = march.ops(place.element)[place.op];
+    WordOp {
+        write: writes(op),
+        index: address_of(march.order(place.element), place.step, memory.words()),
+        word: word_of(background, data_of(op), memory.bits()),
+    }
+}
+
+/// The place behind a place, in the order of the operations.
+#[tactic(auto, using(crate::proofs::Places::element_filled, crate::proofs::Places::first_place))]
+pub fn place_behind(march: &March, memory: &Memory, place: Place) -> Place
+    requires place { IsPlace march.now memory.now place }
+    requires more { place.background < length memory.now.backgrounds }
+    ensures place { IsPlace march.now memory.now result }
+    ensures behind { Follows march.now memory.now place result }
+{
+    let ops = march.ops(place.element).len();
+    let words = memory.words();
+    let elements = march.len();
+    if place.op + 1 < ops {
+        return Place {
+            op: place.op + 1,
+            ..place
+        };
+    }
+    if place.step + 1 < words {
+        return Place {
+            step: place.step + 1,
+            op: 0,
+            ..place
+        };
+    }
+    if place.element + 1 < elements {
+        return Place {
+            element: place.element + 1,
+            step: 0,
+            op: 0,
+            ..place
+        };
+    }
+    Place {
+        background: place.background + 1,
+        ..FIRST
+    }
+}
