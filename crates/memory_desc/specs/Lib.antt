@@ -1,2 +1,5 @@
 pub mod Names
 pub mod Descriptions
+pub mod LineText
+pub mod LinePlaces
+pub mod LineRest

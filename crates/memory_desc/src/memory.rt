@@ -20,13 +20,9 @@ impl Model for Memory {
 
     ghost Value = { Description };
 
-    ghost view = {
-        λ m. record { name = m.name.bytes; words = m.words; bits = m.bits; scramble = m.scramble; backgrounds = m.backgrounds.items }
-    };
+    ghost view = { λ m. record { name = m.name.bytes; words = m.words; bits = m.bits; scramble = m.scramble; backgrounds = m.backgrounds.items } };
 
-    ghost invariant = {
-        λ m. IsMemory (record { name = m.name.bytes; words = m.words; bits = m.bits; scramble = m.scramble; backgrounds = m.backgrounds.items })
-    };
+    ghost invariant = { λ m. IsMemory (record { name = m.name.bytes; words = m.words; bits = m.bits; scramble = m.scramble; backgrounds = m.backgrounds.items }) };
 }
 
 impl Memory {

@@ -1,0 +1,63 @@
+-- What may still follow where a reader of a line stands, in the pieces of the grammar.
+use Rattle.std.specs.Prelude.{◌≡◌, ℕ, ◌+◌, ◌-◌, ◌≤◌, Bool, true, false, Option, Some, None, List, [], ◌∷◌, ◌⊎◌, drop, length, codes}
+use Rattle.std.specs.List.{list_all}
+use Rattle.bist_text.specs.Grammar.{byte, word}
+use Rattle.memory_desc.specs.Names.{is_digit, is_name_byte}
+use Rattle.memory_desc.specs.declared.line_place.Key.{Key}
+use Rattle.memory_desc.specs.declared.line_place.Key.TheVariants.{Memory, Name, Words, Bits, Scramble, Backgrounds}
+use Rattle.memory_desc.specs.declared.line_place.Place.{Place}
+use Rattle.memory_desc.specs.declared.line_place.Place.TheVariants.{Opening, Begin, Remark, LetterB, Letters, Wanted, Number, Name as InName, RowNumber, RowEnd, Term as AtTerm, TermNumber, TermEnd, LetterL, LetterO, Hex, HexEnd, End}
+use Rattle.memory_desc.specs.LineText.{Term, Content, kind_of, is_hex, is_word, is_term, is_formed, space, gap, tail, term_text, more_terms, equation, more_words, argument, key_text, ContentText}
+
+-- a line of any kind, or without content
+abbrev pub KindText : List ℕ → Option Key → Type 0
+KindText b v = ((v ≡ None) × tail b) ⊎ ((c : Content) × (v ≡ Some (kind_of c)) × ContentText b c)
+
+-- a `memory` line, or one without content
+abbrev pub OpeningText : List ℕ → Option Key → Type 0
+OpeningText b v = ((v ≡ None) × tail b) ⊎ ((c : Content) × (kind_of c ≡ Memory) × (v ≡ Some Memory) × ContentText b c)
+
+-- more bytes of a class, of which n are read and there are 1 to `most`
+abbrev pub Run : (ℕ → Bool) → ℕ → ℕ → (List ℕ → Type 0) → List ℕ → Type 0
+Run p most n K b = (more : List ℕ) × (list_all p more ≡ true) × (length more ≤ most - n) × (1 ≤ n + length more) × word more K b
+
+-- any number of bytes of a class
+abbrev pub Names : (List ℕ → Type 0) → List ℕ → Type 0
+Names K b = (more : List ℕ) × (list_all is_name_byte more ≡ true) × word more K b
+
+abbrev pub words_left : List (List ℕ) → List ℕ → Type 0
+words_left [] b = tail b
+words_left (w ∷ ws) b = space (word w (more_words ws tail)) b
+
+-- a formed content line of a kind, of which this follows
+abbrev pub Of : Key → (Content → List ℕ → Type 0) → List ℕ → Type 0
+Of key follows b = (c : Content) × (kind_of c ≡ key) × (is_formed c ≡ true) × follows c b
+
+-- terms that follow
+abbrev pub Terms : (List Term → List ℕ → Type 0) → List ℕ → Type 0
+Terms follows b = (ts : List Term) × (list_all is_term ts ≡ true) × follows ts b
+
+abbrev pub HexWords : (List (List ℕ) → List ℕ → Type 0) → List ℕ → Type 0
+HexWords follows b = (ws : List (List ℕ)) × (list_all is_word ws ≡ true) × follows ws b
+
+abbrev pub rest : Place → List ℕ → Option Key → Type 0
+rest Opening b v = OpeningText b v
+rest Begin b v = KindText b v
+rest (Remark key) b v = v ≡ key
+rest LetterB b v =
+    ((v ≡ Some Bits) × Of Bits (λ c. word (codes "its") (gap (argument c tail))) b)
+    ⊎ ((v ≡ Some Backgrounds) × Of Backgrounds (λ c. word (codes "ackgrounds") (gap (argument c tail))) b)
+rest (Letters key n) b v = (v ≡ Some key) × Of key (λ c. word (drop n (key_text key)) (gap (argument c tail))) b
+rest (Wanted key) b v = (v ≡ Some key) × Of key (λ c. space (argument c tail)) b
+rest (Number key n) b v = (v ≡ Some key) × Run is_digit 9 n tail b
+rest InName b v = (v ≡ Some Name) × Names tail b
+rest (RowNumber n) b v = (v ≡ Some Scramble) × Terms (λ ts. Run is_digit 9 n (equation ts tail)) b
+rest RowEnd b v = (v ≡ Some Scramble) × Terms (λ ts. equation ts tail) b
+rest AtTerm b v = (v ≡ Some Scramble) × (t : Term) × (is_term t ≡ true) × Terms (λ ts. space (word (term_text t) (more_terms ts tail))) b
+rest (TermNumber n) b v = (v ≡ Some Scramble) × Terms (λ ts. Run is_digit 9 n (more_terms ts tail)) b
+rest TermEnd b v = (v ≡ Some Scramble) × Terms (λ ts. more_terms ts tail) b
+rest LetterL b v = (v ≡ Some Backgrounds) × word (codes "og") tail b
+rest LetterO b v = (v ≡ Some Backgrounds) × word (codes "g") tail b
+rest (Hex n) b v = (v ≡ Some Backgrounds) × HexWords (λ ws. Run is_hex 16 n (more_words ws tail)) b
+rest HexEnd b v = (v ≡ Some Backgrounds) × HexWords words_left b
+rest (End key) b v = (v ≡ Some key) × tail b

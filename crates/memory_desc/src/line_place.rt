@@ -1,0 +1,304 @@
+ghost use Rattle.std.specs.Prelude.{◌≡◌, ◌≤◌, length, slice_get};
+ghost use Rattle.memory_desc.specs.Names.{is_letter, is_digit, is_name_byte};
+ghost use Rattle.memory_desc.specs.LineText.{is_hex, key_text};
+ghost use Rattle.bist_text.specs.Grammar.{is_blank};
+ghost use Rattle.memory_desc.specs.LinePlaces.{step, value, argument_begun, begun, ended, letter_of, opened, row_ended, term_ended, word_ended};
+
+/// The kinds of content lines, by their first word.
+#[derive(Clone, Copy, Debug, PartialEq, Eq)]
+pub enum Key {
+    Memory,
+    Name,
+    Words,
+    Bits,
+    Scramble,
+    Backgrounds,
+}
+
+/// Where in a line a reader stands. A number counts the bytes of a word or a number that are read.
+#[derive(Clone, Copy, Debug)]
+pub enum Place {
+    /// Before a line that may only be a `memory` line.
+    Opening,
+    /// Before any line.
+    Begin,
+    /// In a comment, behind a content line of a kind or none.
+    Remark(Option<Key>),
+    /// Behind the `b` of `bits` or `backgrounds`.
+    LetterB,
+    Letters(Key, u8),
+    /// Behind a first word and a blank.
+    Wanted(Key),
+    Number(Key, u8),
+    Name,
+    RowNumber(u8),
+    RowEnd,
+    Term,
+    TermNumber(u8),
+    TermEnd,
+    /// Behind the `l` of `log`.
+    LetterL,
+    /// Behind the `lo` of `log`.
+    LetterO,
+    Hex(u8),
+    HexEnd,
+    /// Behind the content of a line.
+    End(Key),
+}
+
+/// A blank: space, tab or carriage return.
+pub fn is_blank(byte: u8) -> bool
+    ensures { result ≡ is_blank byte }
+{
+    byte == b' ' || byte == b'\t' || byte == b'\r'
+}
+
+pub fn is_digit(byte: u8) -> bool
+    ensures { result ≡ is_digit byte }
+{
+    byte >= b'0' && byte <= b'9'
+}
+
+pub fn is_letter(byte: u8) -> bool
+    ensures { result ≡ is_letter byte }
+{
+    (byte >= b'a' && byte <= b'z') || (byte >= b'A' && byte <= b'Z') || byte == b'_'
+}
+
+pub fn is_name_byte(byte: u8) -> bool
+    ensures { result ≡ is_name_byte byte }
+{
+    is_letter(byte) || is_digit(byte) || byte == b'$'
+}
+
+pub fn is_hex(byte: u8) -> bool
+    ensures { result ≡ is_hex byte }
+{
+    is_digit(byte) || (byte >= b'a' && byte <= b'f') || (byte >= b'A' && byte <= b'F')
+}
+
+/// The place behind one more byte; None where the line can't go on so.
+pub fn place_after(place: Place, byte: u8) -> Option<Place>
+    ensures { result ≡ step place byte }
+{
+    match place {
+        Place::Opening => opening(byte),
+        Place::Begin => begin(byte),
+        Place::Remark(key) => Some(Place::Remark(key)),
+        Place::LetterB => match byte {
+            b'i' => Some(Place::Letters(Key::Bits, 2)),
+            b'a' => Some(Place::Letters(Key::Backgrounds, 2)),
+            _ => None,
+        },
+        Place::Letters(key, count) => letter(key, count, byte),
+        Place::Wanted(key) => {
+            if is_blank(byte) {
+                Some(Place::Wanted(key))
+            } else {
+                argument(key, byte)
+            }
+        }
+        Place::Number(key, count) => {
+            if is_digit(byte) && count < 9 {
+                Some(Place::Number(key, count + 1))
+            } else if count == 0 {
+                None
+            } else {
+                end(key, byte)
+            }
+        }
+        Place::Name => {
+            if is_name_byte(byte) {
+                Some(Place::Name)
+            } else {
+                end(Key::Name, byte)
+            }
+        }
+        Place::End(key) => end(key, byte),
+        Place::RowNumber(count) => {
+            if is_digit(byte) && count < 9 {
+                Some(Place::RowNumber(count + 1))
+            } else if count == 0 {
+                None
+            } else {
+                row_end(byte)
+            }
+        }
+        Place::RowEnd => row_end(byte),
+        Place::Term => match byte {
+            b' ' | b'\t' | b'\r' => Some(Place::Term),
+            b'p' => Some(Place::TermNumber(0)),
+            b'0' | b'1' => Some(Place::TermEnd),
+            _ => None,
+        },
+        Place::TermNumber(count) => {
+            if is_digit(byte) && count < 9 {
+                Some(Place::TermNumber(count + 1))
+            } else if count == 0 {
+                None
+            } else {
+                term_end(byte)
+            }
+        }
+        Place::TermEnd => term_end(byte),
+        Place::LetterL => (byte == b'o').then_some(Place::LetterO),
+        Place::LetterO => (byte == b'g').then_some(Place::End(Key::Backgrounds)),
+        Place::Hex(count) => {
+            if is_hex(byte) && count < 16 {
+                Some(Place::Hex(count + 1))
+            } else if count == 0 {
+                None
+            } else {
+                word_end(byte)
+            }
+        }
+        Place::HexEnd if is_hex(byte) => Some(Place::Hex(1)),
+        Place::HexEnd => word_end(byte),
+    }
+}
+
+/// A byte before a line that may only be a `memory` line.
+fn opening(byte: u8) -> Option<Place>
+    ensures { result ≡ opened byte }
+{
+    match byte {
+        b' ' | b'\t' | b'\r' => Some(Place::Opening),
+        b'#' => Some(Place::Remark(None)),
+        b'm' => Some(Place::Letters(Key::Memory, 1)),
+        _ => None,
+    }
+}
+
+/// A byte before any line.
+fn begin(byte: u8) -> Option<Place>
+    ensures { result ≡ begun byte }
+{
+    match byte {
+        b' ' | b'\t' | b'\r' => Some(Place::Begin),
+        b'#' => Some(Place::Remark(None)),
+        b'm' => Some(Place::Letters(Key::Memory, 1)),
+        b'n' => Some(Place::Letters(Key::Name, 1)),
+        b'w' => Some(Place::Letters(Key::Words, 1)),
+        b's' => Some(Place::Letters(Key::Scramble, 1)),
+        b'b' => Some(Place::LetterB),
+        _ => None,
+    }
+}
+
+/// The bytes of a first word.
+fn key_bytes(key: Key) -> &'static [u8]
+    ensures text { result.now ≡ key_text key }
+    ensures short { length result.now ≤ 11 }
+{
+    match key {
+        Key::Memory => b"memory",
+        Key::Name => b"name",
+        Key::Words => b"words",
+        Key::Bits => b"bits",
+        Key::Scramble => b"scramble",
+        Key::Backgrounds => b"backgrounds",
+    }
+}
+
+/// The next letter of a first word, or the blank behind it.
+fn letter(key: Key, count: u8, byte: u8) -> Option<Place>
+    ensures { result ≡ letter_of (slice_get (key_text key) count) key count byte }
+{
+    match key_bytes(key).get(count as usize) {
+        Some(letter) => (byte == *letter).then_some(Place::Letters(key, count + 1)),
+        None => is_blank(byte).then_some(Place::Wanted(key)),
+    }
+}
+
+/// The first byte behind a first word and its blanks.
+fn argument(key: Key, byte: u8) -> Option<Place>
+    ensures { result ≡ argument_begun key byte }
+{
+    match key {
+        Key::Memory | Key::Words | Key::Bits => { is_digit(byte).then_some(Place::Number(key, 1)) }
+        Key::Name => is_letter(byte).then_some(Place::Name),
+        Key::Scramble => (byte == b'a').then_some(Place::RowNumber(0)),
+        Key::Backgrounds if byte == b'l' => Some(Place::LetterL),
+        Key::Backgrounds => is_hex(byte).then_some(Place::Hex(1)),
+    }
+}
+
+/// A byte behind the content of a line.
+fn end(key: Key, byte: u8) -> Option<Place>
+    ensures { result ≡ ended key byte }
+{
+    if is_blank(byte) {
+        Some(Place::End(key))
+    } else if byte == b'#' {
+        Some(Place::Remark(Some(key)))
+    } else {
+        None
+    }
+}
+
+/// A byte behind a row's number.
+fn row_end(byte: u8) -> Option<Place>
+    ensures { result ≡ row_ended byte }
+{
+    if is_blank(byte) {
+        Some(Place::RowEnd)
+    } else if byte == b'=' {
+        Some(Place::Term)
+    } else {
+        None
+    }
+}
+
+/// A byte behind a term.
+fn term_end(byte: u8) -> Option<Place>
+    ensures { result ≡ term_ended byte }
+{
+    if is_blank(byte) {
+        Some(Place::TermEnd)
+    } else {
+        match byte {
+            b'^' => Some(Place::Term),
+            b'#' => Some(Place::Remark(Some(Key::Scramble))),
+            _ => None,
+        }
+    }
+}
+
+/// A byte behind a background.
+fn word_end(byte: u8) -> Option<Place>
+    ensures { result ≡ word_ended byte }
+{
+    if is_blank(byte) {
+        Some(Place::HexEnd)
+    } else if byte == b'#' {
+        Some(Place::Remark(Some(Key::Backgrounds)))
+    } else {
+        None
+    }
+}
+
+/// What a line is that ends at a place: a content line of a kind, or one without content; None where it
+/// ends too early.
+pub fn kind_at(place: Place) -> Option<Option<Key>>
+    ensures { result ≡ value place }
+{
+    match place {
+        Place::Opening | Place::Begin => Some(None),
+        Place::Remark(key) => Some(key),
+        Place::Number(key, count) => (count != 0).then_some(Some(key)),
+        Place::End(key) => Some(Some(key)),
+        Place::Name => Some(Some(Key::Name)),
+        Place::TermNumber(count) => (count != 0).then_some(Some(Key::Scramble)),
+        Place::TermEnd => Some(Some(Key::Scramble)),
+        Place::Hex(count) => (count != 0).then_some(Some(Key::Backgrounds)),
+        Place::HexEnd => Some(Some(Key::Backgrounds)),
+        Place::LetterB
+        | Place::Letters(_, _)
+        | Place::Wanted(_)
+        | Place::RowNumber(_)
+        | Place::RowEnd
+        | Place::Term
+        | Place::LetterL
+        | Place::LetterO => None,
+    }
+}
