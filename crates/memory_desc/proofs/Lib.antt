@@ -1,1 +1,3 @@
 pub mod LinePieces
+pub mod Building
+pub mod Printing

@@ -1,14 +1,12 @@
 -- The pieces of a line, by the next byte.
-use Rattle.std.proofs.Common.{◌≡◌, ◌≢◌, ℕ, zero, suc, ◌+◌, ◌-◌, ◌<◌, ◌≤◌, ◌==◌, ◌&&◌, Bool, true, false, List, [], ◌∷◌, ◌++◌, ◌∙◌, drop, length, Option, Some, None, slice_get, refl, ◌↔◌, ◌⊎◌, inl, inr, subst, sym, ap, arith}
-use Rattle.std.proofs.lemmas.Bool.{eqb-true, eq-eqb, and_parts, and_from}
-use Rattle.std.specs.Prelude.{nat_lt, nat_le}
+use Rattle.std.proofs.Common.{◌≡◌, ℕ, zero, suc, ◌+◌, ◌-◌, ◌<◌, ◌≤◌, ◌==◌, ◌&&◌, Bool, true, false, List, [], ◌∷◌, ◌∙◌, drop, length, Some, None, slice_get, refl, ◌↔◌, subst, sym, ap, arith, zero-le}
+use Rattle.std.proofs.lemmas.Bool.{eqb-true, eq-eqb, and_parts, and_from, lt-ltb, ltb-true}
+use Rattle.std.specs.Prelude.{nat_lt}
 use Rattle.std.specs.List.{list_all}
-use Rattle.bist_text.specs.Grammar.{byte, word, many, when, is_blank}
-use Rattle.bist_text.specs.Machine.{Holds}
-use Rattle.bist_text.proofs.Pieces.{also, back, skip, stay, neither, same, never}
-use Rattle.memory_desc.specs.Names.{is_digit, is_letter, is_name_byte}
-use Rattle.memory_desc.specs.LineText.{is_hex, space, gap, comment, tail}
-use Rattle.memory_desc.specs.LineRest.{Run, Names}
+use Rattle.bist_text.specs.Grammar.{word, when, is_blank}
+use Rattle.bist_text.proofs.Pieces.{at_byte, also, skip, stay, same}
+use Rattle.memory_desc.specs.LineText.{space, gap, comment, tail}
+use Rattle.memory_desc.specs.LineRest.{Run}
 
 -- ---- tests
 
@@ -34,7 +32,8 @@ apart p c k h n = at_bool (λ t. (c == k) ≡ t → (c == k) ≡ false) (c == k)
 
 -- a blank is one of three bytes
 pub of_blank : (P : ℕ → Type 0) (c : ℕ) → is_blank c ≡ true → P 32 → P 9 → P 13 → P c
-of_blank P c h p q r = ?
+of_blank P c h p q r =
+    at_byte P c 32 p (λ n32. at_byte P c 9 q (λ n9. at_byte P c 13 r (λ n13. (let z : is_blank c ≡ false = simp (n32, n9, n13) in let y : ⊥ = cc in absurd y))))
 
 -- ---- blanks
 
@@ -66,18 +65,64 @@ tail_never c b e f h = when_false (c == 35) (Unit {0}) f ((tail_other c b e).0 h
 pub letters : (w : List ℕ) (n : ℕ) (K : List ℕ → Type 0) (c : ℕ) (b : List ℕ)
     → (slice_get w n ≡ None → word (drop n w) K (c ∷ b) ↔ K (c ∷ b))
     × ((l : ℕ) → slice_get w n ≡ Some l → word (drop n w) K (c ∷ b) ↔ when (c == l) (word (drop (n + 1) w) K b))
-letters w n K c b = ?
+letters [] zero K c b = (λ _. same, λ l e. (let z : ⊥ = cc in absurd z))
+letters [] (suc n) K c b = (λ _. same, λ l e. (let z : ⊥ = cc in absurd z))
+letters (x ∷ w) zero K c b = (
+  λ e. (let z : ⊥ = cc in absurd z),
+  λ l e. (let k : x ≡ l = cc in subst (λ (m : ℕ). when (c == x) (word w K b) ↔ when (c == m) (word w K b)) k same),
+)
+letters (x ∷ w) (suc n) K c b =
+    let r = letters w n K c b in
+    let k : suc n + 1 ≡ suc (n + 1) = omega arith in
+    (r.0, λ l e. subst (λ (m : ℕ). word (drop n w) K (c ∷ b) ↔ when (c == l) (word (drop m (x ∷ w)) K b)) (sym k) (r.1 l e))
 
 -- ---- runs of a class
 
-run_on : (p : ℕ → Bool) (most n : ℕ) (K : List ℕ → Type 0) (c : ℕ) (b : List ℕ) → p c ≡ true → nat_lt n most ≡ true → (K (c ∷ b) → ⊥)
+positive : (n : ℕ) → (n == 0) ≡ false → 1 ≤ n + 0
+positive zero e = (let z : ⊥ = cc in absurd z)
+positive (suc n) e = omega arith
+
+-- no byte of the class is there, or there is no room for one
+no_byte : (p : ℕ → Bool) (most n : ℕ) (K : List ℕ → Type 0) (c : ℕ) (b : List ℕ) (m : ℕ) (ms : List ℕ) → (p c && nat_lt n most) ≡ false
+    → list_all p (m ∷ ms) ≡ true → suc (length ms) ≤ most - n → word (m ∷ ms) K (c ∷ b) → ⊥
+no_byte p most n K c b m ms e a l w =
+    let same_byte : c ≡ m = eqb-true c m (when_holds (c == m) (word ms K b) w).0 in
+    let of_class : p c ≡ true = ap p same_byte ∙ (and_parts (p m) (list_all p ms) a).0 in
+    let room : nat_lt n most ≡ true = lt-ltb n most (omega arith) in
+    let both : (p c && nat_lt n most) ≡ true = and_from (p c) (nat_lt n most) of_class room in
+    let z : ⊥ = cc in z
+
+pub run_on : (p : ℕ → Bool) (most n : ℕ) (K : List ℕ → Type 0) (c : ℕ) (b : List ℕ) → p c ≡ true → nat_lt n most ≡ true → (K (c ∷ b) → ⊥)
     → Run p most n K (c ∷ b) ↔ Run p most (n + 1) K b
-run_on p most n K c b e room f = ?
+run_on p most n K c b e room f = (
+  λ h. to h.0 h.1 h.2 h.4,
+  λ h. (
+    c ∷ h.0,
+    and_from (p c) (list_all p h.0) e h.1,
+    (let l : n < most = ltb-true n most room in let k = h.2 in omega arith),
+    (let k = h.2 in omega arith),
+    (when_true (c == c) (word h.0 K b) (eq-eqb c c refl)).1 h.4,
+  ),
+)
+  where
+    to : (more : List ℕ) → list_all p more ≡ true → length more ≤ most - n → word more K (c ∷ b) → Run p most (n + 1) K b
+    to [] a l w = absurd (f w)
+    to (m ∷ ms) a l w =
+        let parts = and_parts (p m) (list_all p ms) a in
+        (ms, parts.1, omega arith, omega arith, (when_holds (c == m) (word ms K b) w).1)
 
-run_off : (p : ℕ → Bool) (most n : ℕ) (K : List ℕ → Type 0) (c : ℕ) (b : List ℕ) → (p c && nat_lt n most) ≡ false → (n == 0) ≡ false
+pub run_off : (p : ℕ → Bool) (most n : ℕ) (K : List ℕ → Type 0) (c : ℕ) (b : List ℕ) → (p c && nat_lt n most) ≡ false → (n == 0) ≡ false
     → Run p most n K (c ∷ b) ↔ K (c ∷ b)
-run_off p most n K c b e some = ?
+run_off p most n K c b e some = (λ h. to h.0 h.1 h.2 h.4, λ h. ([], refl, zero-le, positive n some, h))
+  where
+    to : (more : List ℕ) → list_all p more ≡ true → length more ≤ most - n → word more K (c ∷ b) → K (c ∷ b)
+    to [] a l w = w
+    to (m ∷ ms) a l w = absurd (no_byte p most n K c b m ms e a l w)
 
-run_none : (p : ℕ → Bool) (most n : ℕ) (K : List ℕ → Type 0) (c : ℕ) (b : List ℕ) → (p c && nat_lt n most) ≡ false → (n == 0) ≡ true
+pub run_none : (p : ℕ → Bool) (most n : ℕ) (K : List ℕ → Type 0) (c : ℕ) (b : List ℕ) → (p c && nat_lt n most) ≡ false → (n == 0) ≡ true
     → Run p most n K (c ∷ b) → ⊥
-run_none p most n K c b e none h = ?
+run_none p most n K c b e none h = to h.0 h.1 h.2 h.3 h.4
+  where
+    to : (more : List ℕ) → list_all p more ≡ true → length more ≤ most - n → 1 ≤ n + length more → word more K (c ∷ b) → ⊥
+    to [] a l o w = let z : n ≡ 0 = eqb-true n 0 none in omega arith
+    to (m ∷ ms) a l o w = no_byte p most n K c b m ms e a l w

@@ -1,6 +1,6 @@
 -- A memory, as contracts see it.
-use Rattle.std.specs.Prelude.{◌≡◌, ℕ, ◌-◌, ◌^◌, ◌<◌, ◌≤◌, List, length, All, Contains}
-use Rattle.std.specs.Int.{IsPowerOfTwo}
+use Rattle.std.specs.Prelude.{◌≡◌, ℕ, ◌-◌, ◌^◌, ◌<◌, ◌≤◌, false, List, length, All, Contains}
+use Rattle.std.specs.Int.{is_power_of_two}
 use Rattle.bist_bits.specs.Width.{IsWidthOf}
 use Rattle.scrambler.specs.Scrambling.{Scrambling, IsInvertible, identity}
 use Rattle.memory_desc.specs.Names.{IsName}
@@ -12,6 +12,13 @@ pub record Description : Type 0 where
   pub scramble : Scrambling
   pub backgrounds : List ℕ
 
+-- 1 to 8 backgrounds for words of this many bits, and the word 0 is among them
+pub record IsBackgrounds (bits : ℕ) (set : List ℕ) : Type 0 where
+  pub some : 1 ≤ length set
+  pub few : length set ≤ 8
+  pub fit : All (λ b. b < 2 ^ bits) set
+  pub solid : Contains set 0
+
 -- a memory within the limits: its addresses are as wide as the last index needs, its scrambling is invertible and, where the
 -- number of words is no power of two, changes nothing, and among its 1 to 8 backgrounds is the word 0
 pub record IsMemory (d : Description) : Type 0 where
@@ -22,8 +29,5 @@ pub record IsMemory (d : Description) : Type 0 where
   pub bits_high : d.bits ≤ 64
   pub address : IsWidthOf (d.words - 1) d.scramble.width
   pub invertible : IsInvertible d.scramble
-  pub unscrambled : (IsPowerOfTwo d.words → ⊥) → d.scramble ≡ identity d.scramble.width
-  pub backgrounds_low : 1 ≤ length d.backgrounds
-  pub backgrounds_high : length d.backgrounds ≤ 8
-  pub backgrounds_fit : All (λ b. b < 2 ^ d.bits) d.backgrounds
-  pub solid : Contains d.backgrounds 0
+  pub unscrambled : is_power_of_two d.words ≡ false → d.scramble ≡ identity d.scramble.width
+  pub tested : IsBackgrounds d.bits d.backgrounds

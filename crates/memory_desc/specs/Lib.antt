@@ -3,3 +3,4 @@ pub mod Descriptions
 pub mod LineText
 pub mod LinePlaces
 pub mod LineRest
+pub mod Printed

@@ -1,5 +1,5 @@
 -- What a reader of a line does at each byte, and what may still follow where it stands.
-use Rattle.std.specs.Prelude.{◌≡◌, ℕ, ◌+◌, ◌==◌, ◌||◌, ◌&&◌, nat_le, nat_lt, Bool, true, false, Option, Some, None, List, [], ◌∷◌, ◌++◌, ◌⊎◌, drop, length, codes, if◌then◌else◌, slice_get}
+use Rattle.std.specs.Prelude.{ℕ, ◌+◌, ◌==◌, ◌||◌, ◌&&◌, nat_lt, Option, Some, None, if◌then◌else◌, slice_get}
 use Rattle.bist_text.specs.Grammar.{is_blank}
 use Rattle.memory_desc.specs.Names.{is_letter, is_digit, is_name_byte}
 use Rattle.memory_desc.specs.declared.line_place.Key.{Key}

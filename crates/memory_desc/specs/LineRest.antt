@@ -1,10 +1,10 @@
 -- What may still follow where a reader of a line stands, in the pieces of the grammar.
-use Rattle.std.specs.Prelude.{◌≡◌, ℕ, ◌+◌, ◌-◌, ◌≤◌, Bool, true, false, Option, Some, None, List, [], ◌∷◌, ◌⊎◌, drop, length, codes}
+use Rattle.std.specs.Prelude.{◌≡◌, ℕ, ◌+◌, ◌-◌, ◌≤◌, Bool, true, Option, Some, None, List, [], ◌∷◌, ◌⊎◌, drop, length, codes}
 use Rattle.std.specs.List.{list_all}
-use Rattle.bist_text.specs.Grammar.{byte, word}
+use Rattle.bist_text.specs.Grammar.{word}
 use Rattle.memory_desc.specs.Names.{is_digit, is_name_byte}
 use Rattle.memory_desc.specs.declared.line_place.Key.{Key}
-use Rattle.memory_desc.specs.declared.line_place.Key.TheVariants.{Memory, Name, Words, Bits, Scramble, Backgrounds}
+use Rattle.memory_desc.specs.declared.line_place.Key.TheVariants.{Memory, Name, Bits, Scramble, Backgrounds}
 use Rattle.memory_desc.specs.declared.line_place.Place.{Place}
 use Rattle.memory_desc.specs.declared.line_place.Place.TheVariants.{Opening, Begin, Remark, LetterB, Letters, Wanted, Number, Name as InName, RowNumber, RowEnd, Term as AtTerm, TermNumber, TermEnd, LetterL, LetterO, Hex, HexEnd, End}
 use Rattle.memory_desc.specs.LineText.{Term, Content, kind_of, is_hex, is_word, is_term, is_formed, space, gap, tail, term_text, more_terms, equation, more_words, argument, key_text, ContentText}

@@ -1,6 +1,7 @@
 -- Names: simple identifiers of Verilog that the language doesn't keep for itself.
-use Rattle.std.specs.Prelude.{ℕ, ◌<◌, ◌≤◌, ◌≡◌, ◌==◌, ◌||◌, ◌&&◌, nat_le, Bool, true, false, List, [], ◌∷◌, length, codes, Contains}
+use Rattle.std.specs.Prelude.{ℕ, ◌≤◌, ◌≡◌, ◌==◌, ◌||◌, ◌&&◌, nat_le, Bool, true, false, List, [], ◌∷◌, length, codes}
 use Rattle.std.specs.List.{list_all}
+use Rattle.std.specs.Str.{bytes_eq}
 
 -- a letter of either case, or _
 abbrev pub is_letter : ℕ → Bool
@@ -18,9 +19,14 @@ abbrev pub is_identifier : List ℕ → Bool
 is_identifier [] = false
 is_identifier (c ∷ b) = is_letter c && list_all is_name_byte b
 
+-- a word is one of these
+abbrev pub is_among : List ℕ → List (List ℕ) → Bool
+is_among v [] = false
+is_among v (w ∷ ws) = bytes_eq v w || is_among v ws
+
 -- the reserved words of Verilog 2005
-abbrev pub reserved : List (List ℕ)
-reserved =
+abbrev pub reserved_words : List (List ℕ)
+reserved_words =
     codes "always" ∷ codes "and" ∷ codes "assign" ∷ codes "automatic" ∷ codes "begin" ∷ codes "buf" ∷ codes "bufif0" ∷ codes "bufif1" ∷ codes "case"
     ∷ codes "casex" ∷ codes "casez" ∷ codes "cell" ∷ codes "cmos" ∷ codes "config" ∷ codes "deassign" ∷ codes "default" ∷ codes "defparam" ∷ codes "design"
     ∷ codes "disable" ∷ codes "edge" ∷ codes "else" ∷ codes "end" ∷ codes "endcase" ∷ codes "endconfig" ∷ codes "endfunction" ∷ codes "endgenerate"
@@ -41,4 +47,4 @@ reserved =
 pub record IsName (name : List ℕ) : Type 0 where
   pub identifier : is_identifier name ≡ true
   pub short : length name ≤ 48
-  pub free : Contains reserved name → ⊥
+  pub free : is_among name reserved_words ≡ false

@@ -1,7 +1,18 @@
 //! Memory descriptions: what a self-test has to know of a memory.
 #![tactic(auto)]
 
+mod content;
+mod fault;
 mod line_place;
 mod memory;
+mod names;
+mod print;
+mod read;
 
+pub use fault::{Field, MemoryFault};
 pub use memory::Memory;
+pub use print::print_memory;
+pub use read::read_memory;
+
+#[cfg(test)]
+mod tests;

@@ -26,6 +26,25 @@ impl Model for Memory {
 }
 
 impl Memory {
+    pub(crate) fn new(
+        name: ArrayString<48>,
+        words: u32,
+        bits: u8,
+        scramble: Scramble,
+        backgrounds: ArrayVec<u64, 8>,
+    ) -> Memory
+        requires { IsMemory (record { name = name.bytes; words = words; bits = bits; scramble = scramble; backgrounds = backgrounds.items }) }
+        ensures { result ≡ record { name = name.bytes; words = words; bits = bits; scramble = scramble; backgrounds = backgrounds.items } }
+    {
+        Memory {
+            name,
+            words,
+            bits,
+            scramble,
+            backgrounds,
+        }
+    }
+
     /// The memory's name: a simple identifier of Verilog of at most 48 bytes.
     pub fn name(&self) -> &str
         ensures { result.now ≡ self.now.name }

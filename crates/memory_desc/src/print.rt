@@ -1,0 +1,139 @@
+//! The printer of memory descriptions.
+
+ghost use Rattle.std.specs.Prelude.{◌≡◌, ◌+◌, ◌<◌, ◌≤◌, ◌^◌, ◌++◌, ◌∷◌, [], All, OnOk, IfOk};
+ghost use Rattle.memory_desc.specs.Printed.{number_line, name_line, size_lines, background_texts, head_lines};
+
+use crate::memory::Memory;
+use bist_bits::NoMemory;
+use bist_text::{put_decimal, put_hex};
+use scrambler::Scramble;
+use std::alloc::Global;
+
+fn put(out: &mut Vec<u8>, bytes: &[u8]) -> Result<(), NoMemory>
+    ensures { OnOk result (out.new.items ≡ out.old.items ++ bytes.now) }
+{
+    out.extend_from_slice(bytes).map_err(|_| NoMemory)
+}
+
+fn put_number_line(out: &mut Vec<u8>, word: &[u8], n: u64) -> Result<(), NoMemory>
+    ensures { OnOk result (out.new.items ≡ out.old.items ++ number_line word.now n) }
+{
+    put(out, word)?;
+    put_decimal(out, n)?;
+    put(out, b"\n")
+}
+
+fn put_name_line(out: &mut Vec<u8>, name: &str) -> Result<(), NoMemory>
+    ensures { OnOk result (out.new.items ≡ out.old.items ++ name_line name.now) }
+{
+    put(out, b"name ")?;
+    put(out, name.as_bytes())?;
+    put(out, b"\n")
+}
+
+fn put_size_lines(out: &mut Vec<u8>, words: u32, bits: u8) -> Result<(), NoMemory>
+    ensures { OnOk result (out.new.items ≡ out.old.items ++ size_lines words bits) }
+{
+    put_number_line(out, b"words ", u64::from(words))?;
+    put_number_line(out, b"bits ", u64::from(bits))
+}
+
+fn put_head(out: &mut Vec<u8>, memory: &Memory) -> Result<(), NoMemory>
+    ensures { OnOk result (out.new.items ≡ out.old.items ++ head_lines memory.now) }
+{
+    put(out, b"memory 1\n")?;
+    put_name_line(out, memory.name())?;
+    put_size_lines(out, memory.words(), memory.bits())
+}
+
+/// The index bits that a row names; answers whether there are any.
+
+fn put_index_terms(out: &mut Vec<u8>, names: u16, width: u8) -> Result<bool, NoMemory>
+    requires { width ≤ 16 }
+{
+    let mut some = false;
+    for j in 0..width {
+        if (names >> j) & 1 == 1 {
+            if some {
+                put(out, b" ^ ")?;
+            }
+            put(out, b"p")?;
+            put_decimal(out, u64::from(j))?;
+            some = true;
+        }
+    }
+    Ok(some)
+}
+
+fn put_row_terms(out: &mut Vec<u8>, names: u16, constant: bool, width: u8) -> Result<(), NoMemory>
+    requires { width ≤ 16 }
+{
+    let some = put_index_terms(out, names, width)?;
+    if constant {
+        if some {
+            put(out, b" ^ ")?;
+        }
+        put(out, b"1")?;
+    }
+    Ok(())
+}
+
+fn put_row(out: &mut Vec<u8>, scramble: &Scramble, i: u8) -> Result<(), NoMemory>
+    requires { i < scramble.now.width }
+{
+    put(out, b"scramble a")?;
+    put_decimal(out, u64::from(i))?;
+    put(out, b" = ")?;
+    let width = scramble.width();
+    let constant = (scramble.constant() >> i) & 1 == 1;
+    put_row_terms(out, scramble.row(i), constant, width)?;
+    put(out, b"\n")
+}
+
+/// Whether a scrambling changes nothing.
+fn is_identity(scramble: &Scramble) -> bool {
+    if scramble.constant() != 0 {
+        return false;
+    }
+    for i in 0..scramble.width() {
+        if scramble.row(i) != 1 << i {
+            return false;
+        }
+    }
+    true
+}
+
+fn put_scramble(out: &mut Vec<u8>, scramble: &Scramble) -> Result<(), NoMemory> {
+    if is_identity(scramble) {
+        return Ok(());
+    }
+    for i in 0..scramble.width() {
+        put_row(out, scramble, i)?;
+    }
+    Ok(())
+}
+
+/// The backgrounds, each behind a blank, in as many digits as a word needs.
+fn put_background_words(out: &mut Vec<u8>, set: &[u64], bits: u8) -> Result<(), NoMemory>
+    requires width { (1 ≤ bits) × (bits ≤ 64) }
+    requires fit { All (λ b. b < 2 ^ bits) set.now }
+    ensures { OnOk result (out.new.items ≡ out.old.items ++ background_texts bits set.now) }
+{
+    for word in set {
+        put(out, b" ")?;
+        put_hex(out, *word, (bits + 3) / 4)?;
+    }
+    Ok(())
+}
+
+/// The printed form of a memory, which `read_memory` reads back.
+pub fn print_memory(alloc: Global, memory: &Memory) -> Result<Vec<u8>, NoMemory> {
+    let mut out = Vec::new(alloc);
+    put_head(&mut out, memory)?;
+    put_scramble(&mut out, memory.scramble())?;
+    put(&mut out, b"backgrounds")?;
+    let bits = memory.bits();
+    put_background_words(&mut out, memory.backgrounds(), bits)?;
+    put(&mut out, b"\n")?;
+    Ok(out)
+}
