@@ -37,6 +37,10 @@ Of key follows b = (c : Content) × (kind_of c ≡ key) × (is_formed c ≡ true
 abbrev pub Terms : (List Term → List ℕ → Type 0) → List ℕ → Type 0
 Terms follows b = (ts : List Term) × (list_all is_term ts ≡ true) × follows ts b
 
+-- a term, and the terms behind it
+abbrev pub OneTerm : List ℕ → Type 0
+OneTerm b = (t : Term) × (is_term t ≡ true) × Terms (λ ts. space (word (term_text t) (more_terms ts tail))) b
+
 abbrev pub HexWords : (List (List ℕ) → List ℕ → Type 0) → List ℕ → Type 0
 HexWords follows b = (ws : List (List ℕ)) × (list_all is_word ws ≡ true) × follows ws b
 
@@ -53,7 +57,7 @@ rest (Number key n) b v = (v ≡ Some key) × Run is_digit 9 n tail b
 rest InName b v = (v ≡ Some Name) × Names tail b
 rest (RowNumber n) b v = (v ≡ Some Scramble) × Terms (λ ts. Run is_digit 9 n (equation ts tail)) b
 rest RowEnd b v = (v ≡ Some Scramble) × Terms (λ ts. equation ts tail) b
-rest AtTerm b v = (v ≡ Some Scramble) × (t : Term) × (is_term t ≡ true) × Terms (λ ts. space (word (term_text t) (more_terms ts tail))) b
+rest AtTerm b v = (v ≡ Some Scramble) × OneTerm b
 rest (TermNumber n) b v = (v ≡ Some Scramble) × Terms (λ ts. Run is_digit 9 n (more_terms ts tail)) b
 rest TermEnd b v = (v ≡ Some Scramble) × Terms (λ ts. more_terms ts tail) b
 rest LetterL b v = (v ≡ Some Backgrounds) × word (codes "og") tail b
