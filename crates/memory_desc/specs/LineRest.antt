@@ -9,13 +9,18 @@ use Rattle.memory_desc.specs.declared.line_place.Place.{Place}
 use Rattle.memory_desc.specs.declared.line_place.Place.TheVariants.{Opening, Begin, Remark, LetterB, Letters, Wanted, Number, Name as InName, RowNumber, RowEnd, Term as AtTerm, TermNumber, TermEnd, LetterL, LetterO, Hex, HexEnd, End}
 use Rattle.memory_desc.specs.LineText.{Term, Content, kind_of, is_hex, is_word, is_term, is_formed, space, gap, tail, term_text, more_terms, equation, more_words, argument, key_text, ContentText}
 
--- a line of any kind, or without content
-abbrev pub KindText : List ℕ → Option Key → Type 0
-KindText b v = ((v ≡ None) × tail b) ⊎ ((c : Content) × (v ≡ Some (kind_of c)) × ContentText b c)
+-- a line without content, or a content line of a kind that is allowed
+abbrev pub LineOf : (Key → Type 0) → List ℕ → Option Key → Type 0
+LineOf allowed b v =
+    ((v ≡ None) × tail b) ⊎ ((c : Content) × allowed (kind_of c) × (v ≡ Some (kind_of c)) × ContentText b c)
 
--- a `memory` line, or one without content
+-- a line of any kind
+abbrev pub KindText : List ℕ → Option Key → Type 0
+KindText b v = LineOf (λ _. Unit {0}) b v
+
+-- a line that may only be a `memory` line
 abbrev pub OpeningText : List ℕ → Option Key → Type 0
-OpeningText b v = ((v ≡ None) × tail b) ⊎ ((c : Content) × (kind_of c ≡ Memory) × (v ≡ Some Memory) × ContentText b c)
+OpeningText b v = LineOf (λ k. k ≡ Memory) b v
 
 -- more bytes of a class, of which n are read and there are 1 to `most`
 abbrev pub Run : (ℕ → Bool) → ℕ → ℕ → (List ℕ → Type 0) → List ℕ → Type 0

@@ -1,0 +1,208 @@
+-- What may follow at a line's beginning and behind its first word, by the next byte.
+use Rattle.std.proofs.Common.{◌≡◌, ℕ, zero, suc, ◌+◌, ◌-◌, ◌≤◌, ◌==◌, ◌&&◌, ◌||◌, Bool, true, false, if◌then◌else◌, List, [], ◌∷◌, drop, length, codes, Option, Some, None, slice_get, refl, ◌↔◌, ◌⊎◌, inl, inr, subst, sym, ap, ◌∙◌, arith}
+use Rattle.std.proofs.lemmas.Bool.{eqb-true, eq-eqb, and_parts, and_from}
+use Rattle.std.specs.List.{list_all}
+use Rattle.bist_text.specs.Grammar.{byte, word, when, is_blank}
+use Rattle.bist_text.specs.Machine.{Holds}
+use Rattle.bist_text.proofs.Pieces.{at_byte, also, same, never}
+use Rattle.memory_desc.specs.Names.{is_digit, is_letter, is_name_byte, is_identifier}
+use Rattle.memory_desc.specs.declared.line_place.Key.{Key}
+use Rattle.memory_desc.specs.declared.line_place.Key.TheVariants.{Memory, Name, Words, Bits, Scramble, Backgrounds}
+use Rattle.memory_desc.specs.declared.line_place.Place.{Place}
+use Rattle.memory_desc.specs.declared.line_place.Place.TheVariants.{Opening, Begin, Remark, LetterB, Letters, Wanted, Number, Name as InName, RowNumber, LetterL, Hex}
+use Rattle.memory_desc.specs.LineText.{Term, index_bit, constant, Content, version, name, words, bits, scramble, log, backgrounds, kind_of, is_hex, is_number, is_word, is_term, is_formed, space, gap, tail, more_terms, equation, more_words, argument, key_text, ContentText}
+use Rattle.memory_desc.specs.LinePlaces.{step, argument_begun, begun, opened}
+use Rattle.memory_desc.specs.LineRest.{KindText, OpeningText, Run, Names, Of, Terms, HexWords, rest}
+use Rattle.memory_desc.proofs.LinePieces.{at_bool, when_true, when_false, when_holds, apart, space_on, space_off, tail_blank, tail_other, tail_never}
+use Rattle.memory_desc.proofs.LineRefusals.{hex_plain, plain_blank, blank_word}
+use Rattle.memory_desc.proofs.LineLaws.{Law, second, of_iff, not_both}
+use Rattle.memory_desc.proofs.LineStarts.{is_run, run_parts, run_of, run_begins, no_run, blank_run}
+
+-- ---- behind the first word
+
+blank_argument : (x : Content) (c : ℕ) (b : List ℕ) → is_formed x ≡ true → is_blank c ≡ true → argument x tail (c ∷ b) → ⊥
+blank_argument (version ds) c b n e w = blank_run is_digit 9 ds tail c b refl refl refl n e w
+blank_argument (name []) c b n e w = (let z : ⊥ = cc in z)
+blank_argument (name (d ∷ ds)) c b n e w = blank_word is_letter d ds tail c b refl refl refl (and_parts (is_letter d) (list_all is_name_byte ds) n).0 e w
+blank_argument (words ds) c b n e w = blank_run is_digit 9 ds tail c b refl refl refl n e w
+blank_argument (bits ds) c b n e w = blank_run is_digit 9 ds tail c b refl refl refl n e w
+blank_argument (scramble i ts) c b n e w = when_false (c == 97) (word i (equation ts tail) b) (apart is_blank c 97 e refl) w
+blank_argument log c b n e w = when_false (c == 108) (word (111 ∷ 103 ∷ []) tail b) (apart is_blank c 108 e refl) w
+blank_argument (backgrounds []) c b n e w = w
+blank_argument (backgrounds (v ∷ vs)) c b n e w =
+    blank_run is_hex 16 v (more_words vs tail) c b refl refl refl (and_parts (is_word v) (list_all is_word vs) n).0 e w
+
+-- a number, in a content line of a kind that has one
+number_begins : (key : Key) (make : List ℕ → Content) (c : ℕ) (b : List ℕ)
+    → (Of key (λ x. argument x tail) (c ∷ b) ↔ ((ds : List ℕ) × (is_number ds ≡ true) × word ds tail (c ∷ b)))
+    → (v : Option Key) → ((v ≡ Some key) × Of key (λ x. argument x tail) (c ∷ b)) ↔ Holds (if is_digit c then Some (Number key 1) else None) (λ t. rest t b v)
+number_begins key make c b f v =
+    at_bool (λ t. ((v ≡ Some key) × Of key (λ x. argument x tail) (c ∷ b)) ↔ Holds (if t then Some (Number key 1) else None) (λ t. rest t b v)) (is_digit c)
+    (λ e. second (also f (run_begins is_digit 9 tail c b e (omega arith))))
+    (λ e. never (λ h. let g = f.0 h.1 in no_run is_digit 9 g.0 tail c b e g.1 g.2) (λ z. z))
+
+of_memory : (c : ℕ) (b : List ℕ) → Of Memory (λ x. argument x tail) (c ∷ b) ↔ ((ds : List ℕ) × (is_number ds ≡ true) × word ds tail (c ∷ b))
+of_memory c b = (λ h. to h.0 h.1 h.2 h.3, λ h. (version h.0, refl, h.1, h.2))
+  where
+    to : (x : Content) → kind_of x ≡ Memory → is_formed x ≡ true → argument x tail (c ∷ b) → (ds : List ℕ) × (is_number ds ≡ true) × word ds tail (c ∷ b)
+    to (version ds) e n w = (ds, n, w)
+    to (name ds) e n w = (let z : ⊥ = cc in absurd z)
+    to (words ds) e n w = (let z : ⊥ = cc in absurd z)
+    to (bits ds) e n w = (let z : ⊥ = cc in absurd z)
+    to (scramble i ts) e n w = (let z : ⊥ = cc in absurd z)
+    to log e n w = (let z : ⊥ = cc in absurd z)
+    to (backgrounds ws) e n w = (let z : ⊥ = cc in absurd z)
+
+of_words : (c : ℕ) (b : List ℕ) → Of Words (λ x. argument x tail) (c ∷ b) ↔ ((ds : List ℕ) × (is_number ds ≡ true) × word ds tail (c ∷ b))
+of_words c b = (λ h. to h.0 h.1 h.2 h.3, λ h. (words h.0, refl, h.1, h.2))
+  where
+    to : (x : Content) → kind_of x ≡ Words → is_formed x ≡ true → argument x tail (c ∷ b) → (ds : List ℕ) × (is_number ds ≡ true) × word ds tail (c ∷ b)
+    to (words ds) e n w = (ds, n, w)
+    to (name ds) e n w = (let z : ⊥ = cc in absurd z)
+    to (version ds) e n w = (let z : ⊥ = cc in absurd z)
+    to (bits ds) e n w = (let z : ⊥ = cc in absurd z)
+    to (scramble i ts) e n w = (let z : ⊥ = cc in absurd z)
+    to log e n w = (let z : ⊥ = cc in absurd z)
+    to (backgrounds ws) e n w = (let z : ⊥ = cc in absurd z)
+
+of_bits : (c : ℕ) (b : List ℕ) → Of Bits (λ x. argument x tail) (c ∷ b) ↔ ((ds : List ℕ) × (is_number ds ≡ true) × word ds tail (c ∷ b))
+of_bits c b = (λ h. to h.0 h.1 h.2 h.3, λ h. (bits h.0, refl, h.1, h.2))
+  where
+    to : (x : Content) → kind_of x ≡ Bits → is_formed x ≡ true → argument x tail (c ∷ b) → (ds : List ℕ) × (is_number ds ≡ true) × word ds tail (c ∷ b)
+    to (bits ds) e n w = (ds, n, w)
+    to (name ds) e n w = (let z : ⊥ = cc in absurd z)
+    to (version ds) e n w = (let z : ⊥ = cc in absurd z)
+    to (words ds) e n w = (let z : ⊥ = cc in absurd z)
+    to (scramble i ts) e n w = (let z : ⊥ = cc in absurd z)
+    to log e n w = (let z : ⊥ = cc in absurd z)
+    to (backgrounds ws) e n w = (let z : ⊥ = cc in absurd z)
+
+name_begins : (c : ℕ) (b : List ℕ) (v : Option Key) → ((v ≡ Some Name) × Of Name (λ x. argument x tail) (c ∷ b)) ↔ Holds (if is_letter c then Some InName else None) (λ t. rest t b v)
+name_begins c b v =
+    at_bool (λ t. ((v ≡ Some Name) × Of Name (λ x. argument x tail) (c ∷ b)) ↔ Holds (if t then Some InName else None) (λ t. rest t b v)) (is_letter c)
+    (λ e. second (λ h. to h.0 h.1 h.2 h.3, λ h. (name (c ∷ h.0), refl, and_from (is_letter c) (list_all is_name_byte h.0) e h.1, (when_true (c == c) (word h.0 tail b) (eq-eqb c c refl)).1 h.2)))
+    (λ e. never (λ h. none e h.1.0 h.1.1 h.1.2 h.1.3) (λ z. z))
+  where
+    to : (x : Content) → kind_of x ≡ Name → is_formed x ≡ true → argument x tail (c ∷ b) → Names tail b
+    to (name []) e n w = (let z : ⊥ = cc in absurd z)
+    to (name (d ∷ ds)) e n w = (ds, (and_parts (is_letter d) (list_all is_name_byte ds) n).1, (when_holds (c == d) (word ds tail b) w).1)
+    to (version ds) e n w = (let z : ⊥ = cc in absurd z)
+    to (words ds) e n w = (let z : ⊥ = cc in absurd z)
+    to (bits ds) e n w = (let z : ⊥ = cc in absurd z)
+    to (scramble i ts) e n w = (let z : ⊥ = cc in absurd z)
+    to log e n w = (let z : ⊥ = cc in absurd z)
+    to (backgrounds ws) e n w = (let z : ⊥ = cc in absurd z)
+
+    none : is_letter c ≡ false → (x : Content) → kind_of x ≡ Name → is_formed x ≡ true → argument x tail (c ∷ b) → ⊥
+    none f (name []) e n w = (let z : ⊥ = cc in z)
+    none f (name (d ∷ ds)) e n w =
+        let same_byte : c ≡ d = eqb-true c d (when_holds (c == d) (word ds tail b) w).0 in
+        let of_class : is_letter c ≡ true = ap is_letter same_byte ∙ (and_parts (is_letter d) (list_all is_name_byte ds) n).0 in
+        (let z : ⊥ = cc in z)
+    none f (version ds) e n w = (let z : ⊥ = cc in z)
+    none f (words ds) e n w = (let z : ⊥ = cc in z)
+    none f (bits ds) e n w = (let z : ⊥ = cc in z)
+    none f (scramble i ts) e n w = (let z : ⊥ = cc in z)
+    none f log e n w = (let z : ⊥ = cc in z)
+    none f (backgrounds ws) e n w = (let z : ⊥ = cc in z)
+
+row_begins : (c : ℕ) (b : List ℕ) (v : Option Key) → ((v ≡ Some Scramble) × Of Scramble (λ x. argument x tail) (c ∷ b)) ↔ Holds (if c == 97 then Some (RowNumber 0) else None) (λ t. rest t b v)
+row_begins c b v =
+    at_bool (λ t. ((v ≡ Some Scramble) × Of Scramble (λ x. argument x tail) (c ∷ b)) ↔ Holds (if t then Some (RowNumber 0) else None) (λ t. rest t b v)) (c == 97)
+    (λ e. second (λ h. to e h.0 h.1 h.2 h.3, λ h. from e h.0 h.1 h.2))
+    (λ e. never (λ h. none e h.1.0 h.1.1 h.1.3) (λ z. z))
+  where
+    to : (c == 97) ≡ true → (x : Content) → kind_of x ≡ Scramble → is_formed x ≡ true → argument x tail (c ∷ b) → Terms (λ ts. Run is_digit 9 0 (equation ts tail)) b
+    to f (scramble i ts) e n w =
+        let parts = and_parts (is_number i) (list_all is_term ts) n in
+        let run = run_parts is_digit 9 i parts.0 in
+        let l = run.1 in
+        let m = run.2 in
+        (ts, parts.1, (i, run.0, omega arith, omega arith, (when_true (c == 97) (word i (equation ts tail) b) f).0 w))
+    to f (name ds) e n w = (let z : ⊥ = cc in absurd z)
+    to f (version ds) e n w = (let z : ⊥ = cc in absurd z)
+    to f (words ds) e n w = (let z : ⊥ = cc in absurd z)
+    to f (bits ds) e n w = (let z : ⊥ = cc in absurd z)
+    to f log e n w = (let z : ⊥ = cc in absurd z)
+    to f (backgrounds ws) e n w = (let z : ⊥ = cc in absurd z)
+
+    from : (c == 97) ≡ true → (ts : List Term) → list_all is_term ts ≡ true → Run is_digit 9 0 (equation ts tail) b → Of Scramble (λ x. argument x tail) (c ∷ b)
+    from f ts a r =
+        let one = r.3 in
+        let most = r.2 in
+        (scramble r.0 ts, refl, and_from (is_number r.0) (list_all is_term ts) (run_of is_digit 9 r.0 r.1 (omega arith) (omega arith)) a,
+            (when_true (c == 97) (word r.0 (equation ts tail) b) f).1 r.4)
+
+    none : (c == 97) ≡ false → (x : Content) → kind_of x ≡ Scramble → argument x tail (c ∷ b) → ⊥
+    none f (scramble i ts) e w = when_false (c == 97) (word i (equation ts tail) b) f w
+    none f (name ds) e w = (let z : ⊥ = cc in z)
+    none f (version ds) e w = (let z : ⊥ = cc in z)
+    none f (words ds) e w = (let z : ⊥ = cc in z)
+    none f (bits ds) e w = (let z : ⊥ = cc in z)
+    none f log e w = (let z : ⊥ = cc in z)
+    none f (backgrounds ws) e w = (let z : ⊥ = cc in z)
+
+backgrounds_begin : (c : ℕ) (b : List ℕ) (v : Option Key) → ((v ≡ Some Backgrounds) × Of Backgrounds (λ x. argument x tail) (c ∷ b))
+    ↔ Holds (if c == 108 then Some LetterL else if is_hex c then Some (Hex 1) else None) (λ t. rest t b v)
+backgrounds_begin c b v =
+    at_bool (λ t. ((v ≡ Some Backgrounds) × Of Backgrounds (λ x. argument x tail) (c ∷ b)) ↔ Holds (if t then Some LetterL else if is_hex c then Some (Hex 1) else None) (λ t. rest t b v)) (c == 108)
+    (λ e. second (λ h. as_log e h.0 h.1 h.2 h.3, λ h. (log, refl, refl, (when_true (c == 108) (word (111 ∷ 103 ∷ []) tail b) e).1 h)))
+    (λ e. at_bool (λ t. ((v ≡ Some Backgrounds) × Of Backgrounds (λ x. argument x tail) (c ∷ b)) ↔ Holds (if t then Some (Hex 1) else None) (λ t. rest t b v)) (is_hex c)
+        (λ f. second (λ h. as_words e f h.0 h.1 h.2 h.3, λ h. from f h.0 h.1 h.2))
+        (λ f. never (λ h. none e f h.1.0 h.1.1 h.1.2 h.1.3) (λ z. z)))
+  where
+    as_log : (c == 108) ≡ true → (x : Content) → kind_of x ≡ Backgrounds → is_formed x ≡ true → argument x tail (c ∷ b) → word (111 ∷ 103 ∷ []) tail b
+    as_log f log e n w = (when_true (c == 108) (word (111 ∷ 103 ∷ []) tail b) f).0 w
+    as_log f (backgrounds []) e n w = absurd w
+    as_log f (backgrounds (u ∷ us)) e n w =
+        let k : c ≡ 108 = eqb-true c 108 f in
+        absurd (no_run is_hex 16 u (more_words us tail) c b (ap is_hex k) (and_parts (is_word u) (list_all is_word us) n).0 w)
+    as_log f (name ds) e n w = (let z : ⊥ = cc in absurd z)
+    as_log f (version ds) e n w = (let z : ⊥ = cc in absurd z)
+    as_log f (words ds) e n w = (let z : ⊥ = cc in absurd z)
+    as_log f (bits ds) e n w = (let z : ⊥ = cc in absurd z)
+    as_log f (scramble i ts) e n w = (let z : ⊥ = cc in absurd z)
+
+    as_words : (c == 108) ≡ false → is_hex c ≡ true → (x : Content) → kind_of x ≡ Backgrounds → is_formed x ≡ true → argument x tail (c ∷ b)
+        → HexWords (λ us. Run is_hex 16 1 (more_words us tail)) b
+    as_words f g log e n w = absurd (when_false (c == 108) (word (111 ∷ 103 ∷ []) tail b) f w)
+    as_words f g (backgrounds []) e n w = absurd w
+    as_words f g (backgrounds (u ∷ us)) e n w =
+        let parts = and_parts (is_word u) (list_all is_word us) n in
+        (us, parts.1, (run_begins is_hex 16 (more_words us tail) c b g (omega arith)).0 (u, parts.0, w))
+    as_words f g (name ds) e n w = (let z : ⊥ = cc in absurd z)
+    as_words f g (version ds) e n w = (let z : ⊥ = cc in absurd z)
+    as_words f g (words ds) e n w = (let z : ⊥ = cc in absurd z)
+    as_words f g (bits ds) e n w = (let z : ⊥ = cc in absurd z)
+    as_words f g (scramble i ts) e n w = (let z : ⊥ = cc in absurd z)
+
+    from : is_hex c ≡ true → (us : List (List ℕ)) → list_all is_word us ≡ true → Run is_hex 16 1 (more_words us tail) b → Of Backgrounds (λ x. argument x tail) (c ∷ b)
+    from g us a r =
+        let w = (run_begins is_hex 16 (more_words us tail) c b g (omega arith)).1 r in
+        (backgrounds (w.0 ∷ us), refl, and_from (is_word w.0) (list_all is_word us) w.1 a, w.2)
+
+    none : (c == 108) ≡ false → is_hex c ≡ false → (x : Content) → kind_of x ≡ Backgrounds → is_formed x ≡ true → argument x tail (c ∷ b) → ⊥
+    none f g log e n w = when_false (c == 108) (word (111 ∷ 103 ∷ []) tail b) f w
+    none f g (backgrounds []) e n w = w
+    none f g (backgrounds (u ∷ us)) e n w = no_run is_hex 16 u (more_words us tail) c b g (and_parts (is_word u) (list_all is_word us) n).0 w
+    none f g (name ds) e n w = (let z : ⊥ = cc in z)
+    none f g (version ds) e n w = (let z : ⊥ = cc in z)
+    none f g (words ds) e n w = (let z : ⊥ = cc in z)
+    none f g (bits ds) e n w = (let z : ⊥ = cc in z)
+    none f g (scramble i ts) e n w = (let z : ⊥ = cc in z)
+
+argument_begins : (key : Key) (c : ℕ) (b : List ℕ) (v : Option Key) → ((v ≡ Some key) × Of key (λ x. argument x tail) (c ∷ b)) ↔ Holds (argument_begun key c) (λ t. rest t b v)
+argument_begins Memory c b v = number_begins Memory version c b (of_memory c b) v
+argument_begins Words c b v = number_begins Words words c b (of_words c b) v
+argument_begins Bits c b v = number_begins Bits bits c b (of_bits c b) v
+argument_begins Name c b v = name_begins c b v
+argument_begins Scramble c b v = row_begins c b v
+argument_begins Backgrounds c b v = backgrounds_begin c b v
+
+pub goes_wanted : (key : Key) (c : ℕ) (b : List ℕ) (v : Option Key) → Law (Wanted key) c b v
+goes_wanted key c b v =
+    at_bool (λ t. rest (Wanted key) (c ∷ b) v ↔ Holds (if t then Some (Wanted key) else argument_begun key c) (λ t. rest t b v)) (is_blank c)
+    (λ e. second (of_iff key (λ x. space (argument x tail)) (λ x. space (argument x tail)) (c ∷ b) b
+        (λ x n. space_on (argument x tail) c b e (blank_argument x c b n e))))
+    (λ e. also (second (of_iff key (λ x. space (argument x tail)) (λ x. argument x tail) (c ∷ b) (c ∷ b)
+        (λ x n. space_off (argument x tail) c b e))) (argument_begins key c b v))
