@@ -4,5 +4,6 @@ pub mod LineLaws
 pub mod LineStarts
 pub mod LineBegins
 pub mod LineFollows
+pub mod LineMachine
 pub mod Building
 pub mod Printing

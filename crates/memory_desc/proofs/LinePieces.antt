@@ -78,7 +78,7 @@ letters (x ∷ w) (suc n) K c b =
 
 -- ---- runs of a class
 
-positive : (n : ℕ) → (n == 0) ≡ false → 1 ≤ n + 0
+pub positive : (n : ℕ) → (n == 0) ≡ false → 1 ≤ n + 0
 positive zero e = (let z : ⊥ = cc in absurd z)
 positive (suc n) e = omega arith
 
