@@ -5,5 +5,6 @@ pub mod LineStarts
 pub mod LineBegins
 pub mod LineFollows
 pub mod LineMachine
+pub mod LineScan
 pub mod Building
 pub mod Printing

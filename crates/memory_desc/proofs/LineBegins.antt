@@ -1,22 +1,21 @@
 -- What may follow at a line's beginning and behind its first word, by the next byte.
-use Rattle.std.proofs.Common.{◌≡◌, ℕ, zero, suc, ◌+◌, ◌-◌, ◌≤◌, ◌==◌, ◌&&◌, ◌||◌, Bool, true, false, if◌then◌else◌, List, [], ◌∷◌, drop, length, codes, Option, Some, None, slice_get, refl, ◌↔◌, ◌⊎◌, inl, inr, subst, sym, ap, ◌∙◌, arith}
+use Rattle.std.proofs.Common.{◌≡◌, ℕ, ◌==◌, true, false, if◌then◌else◌, List, [], ◌∷◌, Option, Some, None, refl, ◌↔◌, ap, ◌∙◌, arith}
 use Rattle.std.proofs.lemmas.Bool.{eqb-true, eq-eqb, and_parts, and_from}
 use Rattle.std.specs.List.{list_all}
-use Rattle.bist_text.specs.Grammar.{byte, word, when, is_blank}
+use Rattle.bist_text.specs.Grammar.{word, is_blank}
 use Rattle.bist_text.specs.Machine.{Holds}
-use Rattle.bist_text.proofs.Pieces.{at_byte, also, same, never}
-use Rattle.memory_desc.specs.Names.{is_digit, is_letter, is_name_byte, is_identifier}
+use Rattle.bist_text.proofs.Pieces.{also, never}
+use Rattle.memory_desc.specs.Names.{is_digit, is_letter, is_name_byte}
 use Rattle.memory_desc.specs.declared.line_place.Key.{Key}
 use Rattle.memory_desc.specs.declared.line_place.Key.TheVariants.{Memory, Name, Words, Bits, Scramble, Backgrounds}
-use Rattle.memory_desc.specs.declared.line_place.Place.{Place}
-use Rattle.memory_desc.specs.declared.line_place.Place.TheVariants.{Opening, Begin, Remark, LetterB, Letters, Wanted, Number, Name as InName, RowNumber, LetterL, Hex}
-use Rattle.memory_desc.specs.LineText.{Term, index_bit, constant, Content, version, name, words, bits, scramble, log, backgrounds, kind_of, is_hex, is_number, is_word, is_term, is_formed, space, gap, tail, more_terms, equation, more_words, argument, key_text, ContentText}
-use Rattle.memory_desc.specs.LinePlaces.{step, argument_begun, begun, opened}
-use Rattle.memory_desc.specs.LineRest.{KindText, OpeningText, Run, Names, Of, Terms, HexWords, rest}
-use Rattle.memory_desc.proofs.LinePieces.{at_bool, when_true, when_false, when_holds, apart, space_on, space_off, tail_blank, tail_other, tail_never}
-use Rattle.memory_desc.proofs.LineRefusals.{hex_plain, plain_blank, blank_word}
-use Rattle.memory_desc.proofs.LineLaws.{Law, second, of_iff, not_both}
-use Rattle.memory_desc.proofs.LineStarts.{is_run, run_parts, run_of, run_begins, no_run, blank_run}
+use Rattle.memory_desc.specs.declared.line_place.Place.TheVariants.{Wanted, Number, Name as InName, RowNumber, LetterL, Hex}
+use Rattle.memory_desc.specs.LineText.{Term, Content, version, name, words, bits, scramble, log, backgrounds, kind_of, is_hex, is_number, is_word, is_term, is_formed, space, tail, equation, more_words, argument}
+use Rattle.memory_desc.specs.LinePlaces.{argument_begun}
+use Rattle.memory_desc.specs.LineRest.{Run, Names, Of, Terms, HexWords, rest}
+use Rattle.memory_desc.proofs.LinePieces.{at_bool, when_true, when_false, when_holds, apart, space_on, space_off}
+use Rattle.memory_desc.proofs.LineRefusals.{blank_word}
+use Rattle.memory_desc.proofs.LineLaws.{Law, second, of_iff}
+use Rattle.memory_desc.proofs.LineStarts.{run_parts, run_of, run_begins, no_run, blank_run}
 
 -- ---- behind the first word
 
@@ -129,9 +128,12 @@ row_begins c b v =
     from : (c == 97) ≡ true → (ts : List Term) → list_all is_term ts ≡ true → Run is_digit 9 0 (equation ts tail) b → Of Scramble (λ x. argument x tail) (c ∷ b)
     from f ts a r =
         let one = r.3 in
-        let most = r.2 in
-        (scramble r.0 ts, refl, and_from (is_number r.0) (list_all is_term ts) (run_of is_digit 9 r.0 r.1 (omega arith) (omega arith)) a,
-            (when_true (c == 97) (word r.0 (equation ts tail) b) f).1 r.4)
+        let most = r.2 in (
+          scramble r.0 ts,
+          refl,
+          and_from (is_number r.0) (list_all is_term ts) (run_of is_digit 9 r.0 r.1 (omega arith) (omega arith)) a,
+          (when_true (c == 97) (word r.0 (equation ts tail) b) f).1 r.4,
+        )
 
     none : (c == 97) ≡ false → (x : Content) → kind_of x ≡ Scramble → argument x tail (c ∷ b) → ⊥
     none f (scramble i ts) e w = when_false (c == 97) (word i (equation ts tail) b) f w
@@ -148,8 +150,8 @@ backgrounds_begin c b v =
     at_bool (λ t. ((v ≡ Some Backgrounds) × Of Backgrounds (λ x. argument x tail) (c ∷ b)) ↔ Holds (if t then Some LetterL else if is_hex c then Some (Hex 1) else None) (λ t. rest t b v)) (c == 108)
     (λ e. second (λ h. as_log e h.0 h.1 h.2 h.3, λ h. (log, refl, refl, (when_true (c == 108) (word (111 ∷ 103 ∷ []) tail b) e).1 h)))
     (λ e. at_bool (λ t. ((v ≡ Some Backgrounds) × Of Backgrounds (λ x. argument x tail) (c ∷ b)) ↔ Holds (if t then Some (Hex 1) else None) (λ t. rest t b v)) (is_hex c)
-        (λ f. second (λ h. as_words e f h.0 h.1 h.2 h.3, λ h. from f h.0 h.1 h.2))
-        (λ f. never (λ h. none e f h.1.0 h.1.1 h.1.2 h.1.3) (λ z. z)))
+    (λ f. second (λ h. as_words e f h.0 h.1 h.2 h.3, λ h. from f h.0 h.1 h.2))
+    (λ f. never (λ h. none e f h.1.0 h.1.1 h.1.2 h.1.3) (λ z. z)))
   where
     as_log : (c == 108) ≡ true → (x : Content) → kind_of x ≡ Backgrounds → is_formed x ≡ true → argument x tail (c ∷ b) → word (111 ∷ 103 ∷ []) tail b
     as_log f log e n w = (when_true (c == 108) (word (111 ∷ 103 ∷ []) tail b) f).0 w
@@ -203,6 +205,6 @@ pub goes_wanted : (key : Key) (c : ℕ) (b : List ℕ) (v : Option Key) → Law 
 goes_wanted key c b v =
     at_bool (λ t. rest (Wanted key) (c ∷ b) v ↔ Holds (if t then Some (Wanted key) else argument_begun key c) (λ t. rest t b v)) (is_blank c)
     (λ e. second (of_iff key (λ x. space (argument x tail)) (λ x. space (argument x tail)) (c ∷ b) b
-        (λ x n. space_on (argument x tail) c b e (blank_argument x c b n e))))
+    (λ x n. space_on (argument x tail) c b e (blank_argument x c b n e))))
     (λ e. also (second (of_iff key (λ x. space (argument x tail)) (λ x. argument x tail) (c ∷ b) (c ∷ b)
-        (λ x n. space_off (argument x tail) c b e))) (argument_begins key c b v))
+    (λ x n. space_off (argument x tail) c b e))) (argument_begins key c b v))

@@ -1,21 +1,17 @@
 -- The reader of a line follows the grammar of a line.
-use Rattle.std.proofs.Common.{◌≡◌, ℕ, zero, suc, ◌+◌, ◌-◌, ◌≤◌, ◌==◌, ◌&&◌, ◌||◌, Bool, true, false, if◌then◌else◌, List, [], ◌∷◌, ◌++◌, drop, length, codes, Option, Some, None, slice_get, refl, ◌↔◌, ◌⊎◌, inl, inr, subst, sym, ap, ◌∙◌, arith, zero-le}
-use Rattle.std.proofs.lemmas.Bool.{eqb-true, eq-eqb, and_parts, and_from}
-use Rattle.std.specs.List.{list_all}
-use Rattle.bist_text.specs.Grammar.{byte, word, when, is_blank, Continues, are_bytes}
-use Rattle.bist_text.specs.Machine.{Holds, Follows}
-use Rattle.bist_text.proofs.Pieces.{also, same, never, neither, word_on}
-use Rattle.bist_text.proofs.Bytes.{are_bytes-append, are_bytes-drop}
-use Rattle.memory_desc.specs.Names.{is_digit, is_name_byte}
+use Rattle.std.proofs.Common.{◌≡◌, ℕ, ◌==◌, true, false, if◌then◌else◌, List, [], ◌∷◌, drop, codes, Option, Some, None, refl, ◌↔◌, ◌⊎◌, inl, inr, subst, sym, ap, ◌∙◌, arith}
+use Rattle.std.proofs.lemmas.Bool.{eqb-true, eq-eqb}
+use Rattle.bist_text.specs.Grammar.{word, when, is_blank}
+use Rattle.bist_text.specs.Machine.{Holds}
+use Rattle.bist_text.proofs.Pieces.{same, never, neither}
 use Rattle.memory_desc.specs.declared.line_place.Key.{Key}
 use Rattle.memory_desc.specs.declared.line_place.Key.TheVariants.{Memory, Name, Words, Bits, Scramble, Backgrounds}
 use Rattle.memory_desc.specs.declared.line_place.Place.{Place}
 use Rattle.memory_desc.specs.declared.line_place.Place.TheVariants.{Opening, Begin, Remark, LetterB, Letters, Wanted, Number, Name as InName, RowNumber, RowEnd, Term as AtTerm, TermNumber, TermEnd, LetterL, LetterO, Hex, HexEnd, End}
-use Rattle.memory_desc.specs.LineText.{Term, index_bit, constant, Content, version, name, words, bits, scramble, log, backgrounds, kind_of, is_hex, is_number, is_word, is_term, is_formed, space, gap, tail, term_text, more_terms, equation, more_words, argument, key_text, ContentText}
-use Rattle.memory_desc.specs.LinePlaces.{step, value, begun, opened}
-use Rattle.memory_desc.specs.LineRest.{LineOf, KindText, OpeningText, Run, Names, words_left, Of, Terms, OneTerm, HexWords, rest}
+use Rattle.memory_desc.specs.LineText.{Content, kind_of, space, gap, tail, argument, key_text, ContentText}
+use Rattle.memory_desc.specs.LineRest.{LineOf, Of, rest}
 use Rattle.memory_desc.proofs.LinePieces.{at_bool, when_true, when_false, when_holds, apart, space_on, space_off, tail_blank, tail_other, tail_never}
-use Rattle.memory_desc.proofs.LineLaws.{Law, second, of_iff, not_both, ended_law, row_ended_law, term_ended_law, goes_number, goes_name, goes_row_number, goes_term_number, goes_hex, goes_letter_l, goes_letter_o, goes_letters}
+use Rattle.memory_desc.proofs.LineLaws.{Law, second, not_both, ended_law, row_ended_law, term_ended_law, goes_number, goes_name, goes_row_number, goes_term_number, goes_hex, goes_letter_l, goes_letter_o, goes_letters}
 use Rattle.memory_desc.proofs.LineStarts.{goes_hex_end, goes_term}
 use Rattle.memory_desc.proofs.LineBegins.{goes_wanted}
 
@@ -63,23 +59,29 @@ contents_blank allowed c b v e = (λ h. (h.0, h.1, h.2, (h.3.0, (on h.0).0 h.3.1
     on : (x : Content) → space (word (key_text (kind_of x)) (gap (argument x tail))) (c ∷ b) ↔ space (word (key_text (kind_of x)) (gap (argument x tail))) b
     on x = space_on (word (key_text (kind_of x)) (gap (argument x tail))) c b e
         (λ w. when_false (c == first (kind_of x)) (word (drop 1 (key_text (kind_of x))) (gap (argument x tail)) b)
-            (apart is_blank c (first (kind_of x)) e (first_blank (kind_of x))) ((key_word (kind_of x) (gap (argument x tail)) c b).0 w))
+        (apart is_blank c (first (kind_of x)) e (first_blank (kind_of x))) ((key_word (kind_of x) (gap (argument x tail)) c b).0 w))
 
 -- its first letter
 letter_at : (allowed : Key → Type 0) (c : ℕ) (b : List ℕ) (v : Option Key) → is_blank c ≡ false
     → Contents allowed (c ∷ b) v → (k : Key) × allowed k × (c ≡ first k) × (v ≡ Some k) × Of k (λ x. word (drop 1 (key_text k)) (gap (argument x tail))) b
 letter_at allowed c b v e h =
     let w = when_holds (c == first (kind_of h.0)) (word (drop 1 (key_text (kind_of h.0))) (gap (argument h.0 tail)) b)
-        ((key_word (kind_of h.0) (gap (argument h.0 tail)) c b).0 ((space_off (word (key_text (kind_of h.0)) (gap (argument h.0 tail))) c b e).0 h.3.1)) in
+    ((key_word (kind_of h.0) (gap (argument h.0 tail)) c b).0 ((space_off (word (key_text (kind_of h.0)) (gap (argument h.0 tail))) c b e).0 h.3.1)) in
     (kind_of h.0, h.1, eqb-true c (first (kind_of h.0)) w.0, h.2, (h.0, refl, h.3.0, w.1))
 
 with_letter : (allowed : Key → Type 0) (k : Key) (c : ℕ) (b : List ℕ) (v : Option Key) → is_blank c ≡ false → (c == first k) ≡ true → allowed k
     → (v ≡ Some k) → Of k (λ x. word (drop 1 (key_text k)) (gap (argument x tail))) b → Contents allowed (c ∷ b) v
-with_letter allowed k c b v e f a ev h =
-    (h.0, subst allowed (sym h.1) a, ev ∙ ap Some (sym h.1), (h.2,
-        (space_off (word (key_text (kind_of h.0)) (gap (argument h.0 tail))) c b e).1
+with_letter allowed k c b v e f a ev h = (
+  h.0,
+  subst allowed (sym h.1) a,
+  ev ∙ ap Some (sym h.1),
+  (
+    h.2,
+    (space_off (word (key_text (kind_of h.0)) (gap (argument h.0 tail))) c b e).1
         (subst (λ (j : Key). word (key_text j) (gap (argument h.0 tail)) (c ∷ b)) (sym h.1)
-            ((key_word k (gap (argument h.0 tail)) c b).1 ((when_true (c == first k) (word (drop 1 (key_text k)) (gap (argument h.0 tail)) b) f).1 h.3)))))
+        ((key_word k (gap (argument h.0 tail)) c b).1 ((when_true (c == first k) (word (drop 1 (key_text k)) (gap (argument h.0 tail)) b) f).1 h.3))),
+  ),
+)
 
 -- a letter that one kind alone begins with
 one_letter : (allowed : Key → Type 0) (k : Key) (c : ℕ) (b : List ℕ) (v : Option Key) → is_blank c ≡ false → (c == first k) ≡ true → allowed k
@@ -134,10 +136,10 @@ goes_opening c b v =
     at_bool (λ t. rest Opening (c ∷ b) v ↔ Holds (if t then Some Opening else if c == 35 then Some (Remark None) else if c == 109 then Some (Letters Memory 1) else None) (λ t. rest t b v)) (is_blank c)
     (λ e. line_blank (λ k. k ≡ Memory) c b v e)
     (λ e. at_bool (λ t. rest Opening (c ∷ b) v ↔ Holds (if t then Some (Remark None) else if c == 109 then Some (Letters Memory 1) else None) (λ t. rest t b v)) (c == 35)
-        (λ f. line_comment (λ k. k ≡ Memory) c b v e f)
-        (λ f. at_bool (λ t. rest Opening (c ∷ b) v ↔ Holds (if t then Some (Letters Memory 1) else None) (λ t. rest t b v)) (c == 109)
-            (λ g. one_letter_allowed c b v e g)
-            (λ g. never (line_never (λ k. k ≡ Memory) c b v e f (λ j a. subst (λ (k : Key). (c == first k) ≡ false) (sym a) g)) (λ z. z))))
+    (λ f. line_comment (λ k. k ≡ Memory) c b v e f)
+    (λ f. at_bool (λ t. rest Opening (c ∷ b) v ↔ Holds (if t then Some (Letters Memory 1) else None) (λ t. rest t b v)) (c == 109)
+    (λ g. one_letter_allowed c b v e g)
+    (λ g. never (line_never (λ k. k ≡ Memory) c b v e f (λ j a. subst (λ (k : Key). (c == first k) ≡ false) (sym a) g)) (λ z. z))))
   where
     one_letter_allowed : (c : ℕ) (b : List ℕ) (v : Option Key) → is_blank c ≡ false → (c == 109) ≡ true
         → LineOf (λ k. k ≡ Memory) (c ∷ b) v ↔ ((v ≡ Some Memory) × Of Memory (λ x. word (drop 1 (key_text Memory)) (gap (argument x tail))) b)
@@ -169,9 +171,10 @@ only_scramble Backgrounds h = absurd (omega arith)
 
 -- the letter of two kinds
 two_kinds : (c : ℕ) (b : List ℕ) (v : Option Key) → is_blank c ≡ false → (c == 98) ≡ true → LineOf (λ _. Unit {0}) (c ∷ b) v ↔ rest LetterB b v
-two_kinds c b v e f =
-    (elim [ inl h ↦ absurd (tail_never c b e (not_both c 98 35 f refl) h.1) | inr h ↦ (let l = letter_at (λ _. Unit {0}) c b v e h in to l.0 l.2 l.3 l.4) ],
-     elim [ inl h ↦ inr (with_letter (λ _. Unit {0}) Bits c b v e f tt h.0 h.1) | inr h ↦ inr (with_letter (λ _. Unit {0}) Backgrounds c b v e f tt h.0 h.1) ])
+two_kinds c b v e f = (
+  elim [ inl h ↦ absurd (tail_never c b e (not_both c 98 35 f refl) h.1) | inr h ↦ (let l = letter_at (λ _. Unit {0}) c b v e h in to l.0 l.2 l.3 l.4) ],
+  elim [ inl h ↦ inr (with_letter (λ _. Unit {0}) Bits c b v e f tt h.0 h.1) | inr h ↦ inr (with_letter (λ _. Unit {0}) Backgrounds c b v e f tt h.0 h.1) ],
+)
   where
     to : (j : Key) → c ≡ first j → (v ≡ Some j) → Of j (λ x. word (drop 1 (key_text j)) (gap (argument x tail))) b → rest LetterB b v
     to Bits k ev h = inl (ev, h)
@@ -213,17 +216,23 @@ goes_begin c b v =
 pub goes_letter_b : (c : ℕ) (b : List ℕ) (v : Option Key) → Law LetterB c b v
 goes_letter_b c b v =
     at_bool (λ t. rest LetterB (c ∷ b) v ↔ Holds (if t then Some (Letters Bits 2) else if c == 97 then Some (Letters Backgrounds 2) else None) (λ t. rest t b v)) (c == 105)
-    (λ e. (elim [
-        inl h ↦ (h.0, (h.1.0, h.1.1, h.1.2, (when_holds (c == 105) (word (116 ∷ 115 ∷ []) (gap (argument h.1.0 tail)) b) h.1.3).1))
-      | inr h ↦ absurd (when_false (c == 97) (word (codes "ckgrounds") (gap (argument h.1.0 tail)) b) (not_both c 105 97 e refl) h.1.3) ],
-        λ h. inl (h.0, (h.1.0, h.1.1, h.1.2, (when_true (c == 105) (word (116 ∷ 115 ∷ []) (gap (argument h.1.0 tail)) b) e).1 h.1.3))))
+    (λ e. (
+      elim [
+        | inl h ↦ (h.0, (h.1.0, h.1.1, h.1.2, (when_holds (c == 105) (word (116 ∷ 115 ∷ []) (gap (argument h.1.0 tail)) b) h.1.3).1))
+        | inr h ↦ absurd (when_false (c == 97) (word (codes "ckgrounds") (gap (argument h.1.0 tail)) b) (not_both c 105 97 e refl) h.1.3)
+      ],
+      λ h. inl (h.0, (h.1.0, h.1.1, h.1.2, (when_true (c == 105) (word (116 ∷ 115 ∷ []) (gap (argument h.1.0 tail)) b) e).1 h.1.3)),
+    ))
     (λ e. at_bool (λ t. rest LetterB (c ∷ b) v ↔ Holds (if t then Some (Letters Backgrounds 2) else None) (λ t. rest t b v)) (c == 97)
-        (λ f. (elim [
-            inl h ↦ absurd (when_false (c == 105) (word (116 ∷ 115 ∷ []) (gap (argument h.1.0 tail)) b) e h.1.3)
-          | inr h ↦ (h.0, (h.1.0, h.1.1, h.1.2, (when_holds (c == 97) (word (codes "ckgrounds") (gap (argument h.1.0 tail)) b) h.1.3).1)) ],
-            λ h. inr (h.0, (h.1.0, h.1.1, h.1.2, (when_true (c == 97) (word (codes "ckgrounds") (gap (argument h.1.0 tail)) b) f).1 h.1.3))))
-        (λ f. never (neither (λ h. when_false (c == 105) (word (116 ∷ 115 ∷ []) (gap (argument h.1.0 tail)) b) e h.1.3)
-            (λ h. when_false (c == 97) (word (codes "ckgrounds") (gap (argument h.1.0 tail)) b) f h.1.3)) (λ z. z)))
+    (λ f. (
+      elim [
+        | inl h ↦ absurd (when_false (c == 105) (word (116 ∷ 115 ∷ []) (gap (argument h.1.0 tail)) b) e h.1.3)
+        | inr h ↦ (h.0, (h.1.0, h.1.1, h.1.2, (when_holds (c == 97) (word (codes "ckgrounds") (gap (argument h.1.0 tail)) b) h.1.3).1))
+      ],
+      λ h. inr (h.0, (h.1.0, h.1.1, h.1.2, (when_true (c == 97) (word (codes "ckgrounds") (gap (argument h.1.0 tail)) b) f).1 h.1.3)),
+    ))
+    (λ f. never (neither (λ h. when_false (c == 105) (word (116 ∷ 115 ∷ []) (gap (argument h.1.0 tail)) b) e h.1.3)
+    (λ h. when_false (c == 97) (word (codes "ckgrounds") (gap (argument h.1.0 tail)) b) f h.1.3)) (λ z. z)))
 
 pub goes_at : (p : Place) (c : ℕ) (b : List ℕ) (v : Option Key) → Law p c b v
 goes_at Opening c b v = goes_opening c b v

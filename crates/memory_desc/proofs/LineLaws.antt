@@ -1,21 +1,21 @@
 -- What may follow each place of a line, by the next byte.
-use Rattle.std.proofs.Common.{◌≡◌, ℕ, ◌+◌, ◌≤◌, ◌==◌, ◌&&◌, ◌||◌, Bool, true, false, if◌then◌else◌, List, [], ◌∷◌, drop, length, Option, Some, None, slice_get, refl, ◌↔◌, ◌⊎◌, inl, inr, subst, sym, ap, ◌∙◌, arith}
+use Rattle.std.proofs.Common.{◌≡◌, ℕ, ◌+◌, ◌==◌, ◌&&◌, true, false, if◌then◌else◌, List, [], ◌∷◌, drop, Option, Some, None, slice_get, refl, ◌↔◌, subst, sym, ap, ◌∙◌}
 use Rattle.std.proofs.lemmas.Bool.{eqb-true, eq-eqb, and_parts, and_from}
 use Rattle.std.specs.Prelude.{nat_lt}
 use Rattle.std.specs.List.{list_all}
-use Rattle.bist_text.specs.Grammar.{byte, word, when, is_blank}
+use Rattle.bist_text.specs.Grammar.{byte, word, is_blank}
 use Rattle.bist_text.specs.Machine.{Holds}
 use Rattle.bist_text.proofs.Pieces.{also, same, never}
-use Rattle.memory_desc.specs.Names.{is_digit, is_letter, is_name_byte}
+use Rattle.memory_desc.specs.Names.{is_digit, is_name_byte}
 use Rattle.memory_desc.specs.declared.line_place.Key.{Key}
-use Rattle.memory_desc.specs.declared.line_place.Key.TheVariants.{Memory, Name, Words, Bits, Scramble, Backgrounds}
+use Rattle.memory_desc.specs.declared.line_place.Key.TheVariants.{Name, Scramble, Backgrounds}
 use Rattle.memory_desc.specs.declared.line_place.Place.{Place}
-use Rattle.memory_desc.specs.declared.line_place.Place.TheVariants.{Opening, Begin, Remark, LetterB, Letters, Wanted, Number, Name as InName, RowNumber, RowEnd, Term as AtTerm, TermNumber, TermEnd, LetterL, LetterO, Hex, HexEnd, End}
-use Rattle.memory_desc.specs.LineText.{Term, index_bit, constant, Content, kind_of, is_hex, is_number, is_word, is_term, is_formed, space, gap, tail, term_text, more_terms, equation, more_words, argument, key_text}
-use Rattle.memory_desc.specs.LinePlaces.{step, value, ended, term_ended, row_ended, word_ended, letter_of}
-use Rattle.memory_desc.specs.LineRest.{Run, Names, words_left, Of, Terms, OneTerm, HexWords, rest}
+use Rattle.memory_desc.specs.declared.line_place.Place.TheVariants.{Remark, Letters, Wanted, Number, Name as InName, RowNumber, RowEnd, Term as AtTerm, TermNumber, TermEnd, LetterL, LetterO, Hex, HexEnd, End}
+use Rattle.memory_desc.specs.LineText.{Term, Content, is_hex, is_word, is_term, is_formed, space, gap, tail, term_text, more_terms, equation, more_words, argument, key_text}
+use Rattle.memory_desc.specs.LinePlaces.{step, ended, term_ended, row_ended, word_ended, letter_of}
+use Rattle.memory_desc.specs.LineRest.{Run, Names, words_left, Of, Terms, HexWords, rest}
 use Rattle.memory_desc.proofs.LinePieces.{at_bool, when_true, when_false, when_holds, apart, space_on, space_off, gap_on, gap_off, tail_blank, tail_other, tail_never, letters, run_on, run_off, run_none}
-use Rattle.memory_desc.proofs.LineRefusals.{digits_plain, hex_plain, names_plain, plain_blank, no_tail, no_more_terms, no_equation, no_more_words, blank_word}
+use Rattle.memory_desc.proofs.LineRefusals.{digits_plain, names_plain, no_tail, no_more_terms, no_equation, no_more_words}
 
 abbrev pub Law : Place → ℕ → List ℕ → Option Key → Type 0
 Law p c b v = rest p (c ∷ b) v ↔ Holds (step p c) (λ t. rest t b v)
@@ -41,18 +41,18 @@ ended_law key c b v =
     (is_blank c)
     (λ e. second (tail_blank c b e))
     (λ e. at_bool (λ u. ((v ≡ Some key) × tail (c ∷ b)) ↔ Holds (if u then Some (Remark (Some key)) else None) (λ t. rest t b v)) (c == 35)
-        (λ f. (λ h. h.0, λ h. (h, (tail_other c b e).1 ((when_true (c == 35) (Unit {0}) f).1 tt))))
-        (λ f. never (λ h. tail_never c b e f h.1) (λ z. z)))
+    (λ f. (λ h. h.0, λ h. (h, (tail_other c b e).1 ((when_true (c == 35) (Unit {0}) f).1 tt))))
+    (λ f. never (λ h. tail_never c b e f h.1) (λ z. z)))
 
 pub goes_number : (key : Key) (n c : ℕ) (b : List ℕ) (v : Option Key) → Law (Number key n) c b v
 goes_number key n c b v =
     at_bool (λ t. rest (Number key n) (c ∷ b) v ↔ Holds (if t then Some (Number key (n + 1)) else if n == 0 then None else ended key c) (λ t. rest t b v))
     (is_digit c && nat_lt n 9)
     (λ e. let parts = and_parts (is_digit c) (nat_lt n 9) e in
-        second (run_on is_digit 9 n tail c b parts.0 parts.1 (no_tail is_digit c b digits_plain parts.0)))
+    second (run_on is_digit 9 n tail c b parts.0 parts.1 (no_tail is_digit c b digits_plain parts.0)))
     (λ e. at_bool (λ u. rest (Number key n) (c ∷ b) v ↔ Holds (if u then None else ended key c) (λ t. rest t b v)) (n == 0)
-        (λ z. never (λ h. run_none is_digit 9 n tail c b e z h.1) (λ x. x))
-        (λ z. also (second (run_off is_digit 9 n tail c b e z)) (ended_law key c b v)))
+    (λ z. never (λ h. run_none is_digit 9 n tail c b e z h.1) (λ x. x))
+    (λ z. also (second (run_off is_digit 9 n tail c b e z)) (ended_law key c b v)))
 
 -- ---- names
 
@@ -106,9 +106,9 @@ row_ended_law c b v =
     (is_blank c)
     (λ e. second (terms_iff (λ ts. equation ts tail) (λ ts. equation ts tail) (c ∷ b) b (blank e)))
     (λ e. at_bool (λ u. ((v ≡ Some Scramble) × Terms (λ ts. equation ts tail) (c ∷ b)) ↔ Holds (if u then Some AtTerm else None) (λ t. rest t b v)) (c == 61)
-        (λ f. second (some_term (λ t ts. space (word (term_text t) (more_terms ts tail)) b) (λ ts. equation ts tail (c ∷ b)) (λ z. z)
-            (λ t ts. mark_is 61 c (space (word (term_text t) (more_terms ts tail))) b e f)))
-        (λ f. never (λ h. none e f h.1.0 h.1.2) (λ z. z)))
+    (λ f. second (some_term (λ t ts. space (word (term_text t) (more_terms ts tail)) b) (λ ts. equation ts tail (c ∷ b)) (λ z. z)
+    (λ t ts. mark_is 61 c (space (word (term_text t) (more_terms ts tail))) b e f)))
+    (λ f. never (λ h. none e f h.1.0 h.1.2) (λ z. z)))
   where
     blank : is_blank c ≡ true → (ts : List Term) → equation ts tail (c ∷ b) ↔ equation ts tail b
     blank e [] = same
@@ -123,12 +123,12 @@ goes_row_number n c b v =
     at_bool (λ t. rest (RowNumber n) (c ∷ b) v ↔ Holds (if t then Some (RowNumber (n + 1)) else if n == 0 then None else row_ended c) (λ t. rest t b v))
     (is_digit c && nat_lt n 9)
     (λ e. let parts = and_parts (is_digit c) (nat_lt n 9) e in
-        second (terms_iff (λ ts. Run is_digit 9 n (equation ts tail)) (λ ts. Run is_digit 9 (n + 1) (equation ts tail)) (c ∷ b) b
-            (λ ts. run_on is_digit 9 n (equation ts tail) c b parts.0 parts.1 (no_equation ts c b parts.0))))
+    second (terms_iff (λ ts. Run is_digit 9 n (equation ts tail)) (λ ts. Run is_digit 9 (n + 1) (equation ts tail)) (c ∷ b) b
+    (λ ts. run_on is_digit 9 n (equation ts tail) c b parts.0 parts.1 (no_equation ts c b parts.0))))
     (λ e. at_bool (λ u. rest (RowNumber n) (c ∷ b) v ↔ Holds (if u then None else row_ended c) (λ t. rest t b v)) (n == 0)
-        (λ z. never (λ h. run_none is_digit 9 n (equation h.1.0 tail) c b e z h.1.2) (λ x. x))
-        (λ z. also (second (terms_iff (λ ts. Run is_digit 9 n (equation ts tail)) (λ ts. equation ts tail) (c ∷ b) (c ∷ b)
-            (λ ts. run_off is_digit 9 n (equation ts tail) c b e z))) (row_ended_law c b v)))
+    (λ z. never (λ h. run_none is_digit 9 n (equation h.1.0 tail) c b e z h.1.2) (λ x. x))
+    (λ z. also (second (terms_iff (λ ts. Run is_digit 9 n (equation ts tail)) (λ ts. equation ts tail) (c ∷ b) (c ∷ b)
+    (λ ts. run_off is_digit 9 n (equation ts tail) c b e z))) (row_ended_law c b v)))
 
 pub term_ended_law : (c : ℕ) (b : List ℕ) (v : Option Key) → ((v ≡ Some Scramble) × Terms (λ ts. more_terms ts tail) (c ∷ b)) ↔ Holds (term_ended c) (λ t. rest t b v)
 term_ended_law c b v =
@@ -136,12 +136,12 @@ term_ended_law c b v =
     (is_blank c)
     (λ e. second (terms_iff (λ ts. more_terms ts tail) (λ ts. more_terms ts tail) (c ∷ b) b (blank e)))
     (λ e. at_bool (λ u. ((v ≡ Some Scramble) × Terms (λ ts. more_terms ts tail) (c ∷ b)) ↔ Holds (if u then Some AtTerm else if c == 35 then Some (Remark (Some Scramble)) else None) (λ t. rest t b v)) (c == 94)
-        (λ f. second (some_term (λ t ts. space (word (term_text t) (more_terms ts tail)) b) (λ ts. more_terms ts tail (c ∷ b))
-            (tail_never c b e (not_both c 94 35 f refl))
-            (λ t ts. mark_is 94 c (space (word (term_text t) (more_terms ts tail))) b e f)))
-        (λ f. at_bool (λ u. ((v ≡ Some Scramble) × Terms (λ ts. more_terms ts tail) (c ∷ b)) ↔ Holds (if u then Some (Remark (Some Scramble)) else None) (λ t. rest t b v)) (c == 35)
-            (λ g. (λ h. h.0, λ h. (h, ([], refl, (tail_other c b e).1 ((when_true (c == 35) (Unit {0}) g).1 tt)))))
-            (λ g. never (λ h. none e f g h.1.0 h.1.2) (λ z. z))))
+    (λ f. second (some_term (λ t ts. space (word (term_text t) (more_terms ts tail)) b) (λ ts. more_terms ts tail (c ∷ b))
+    (tail_never c b e (not_both c 94 35 f refl))
+    (λ t ts. mark_is 94 c (space (word (term_text t) (more_terms ts tail))) b e f)))
+    (λ f. at_bool (λ u. ((v ≡ Some Scramble) × Terms (λ ts. more_terms ts tail) (c ∷ b)) ↔ Holds (if u then Some (Remark (Some Scramble)) else None) (λ t. rest t b v)) (c == 35)
+    (λ g. (λ h. h.0, λ h. (h, ([], refl, (tail_other c b e).1 ((when_true (c == 35) (Unit {0}) g).1 tt)))))
+    (λ g. never (λ h. none e f g h.1.0 h.1.2) (λ z. z))))
   where
     blank : is_blank c ≡ true → (ts : List Term) → more_terms ts tail (c ∷ b) ↔ more_terms ts tail b
     blank e [] = tail_blank c b e
@@ -156,12 +156,12 @@ goes_term_number n c b v =
     at_bool (λ t. rest (TermNumber n) (c ∷ b) v ↔ Holds (if t then Some (TermNumber (n + 1)) else if n == 0 then None else term_ended c) (λ t. rest t b v))
     (is_digit c && nat_lt n 9)
     (λ e. let parts = and_parts (is_digit c) (nat_lt n 9) e in
-        second (terms_iff (λ ts. Run is_digit 9 n (more_terms ts tail)) (λ ts. Run is_digit 9 (n + 1) (more_terms ts tail)) (c ∷ b) b
-            (λ ts. run_on is_digit 9 n (more_terms ts tail) c b parts.0 parts.1 (no_more_terms ts c b parts.0))))
+    second (terms_iff (λ ts. Run is_digit 9 n (more_terms ts tail)) (λ ts. Run is_digit 9 (n + 1) (more_terms ts tail)) (c ∷ b) b
+    (λ ts. run_on is_digit 9 n (more_terms ts tail) c b parts.0 parts.1 (no_more_terms ts c b parts.0))))
     (λ e. at_bool (λ u. rest (TermNumber n) (c ∷ b) v ↔ Holds (if u then None else term_ended c) (λ t. rest t b v)) (n == 0)
-        (λ z. never (λ h. run_none is_digit 9 n (more_terms h.1.0 tail) c b e z h.1.2) (λ x. x))
-        (λ z. also (second (terms_iff (λ ts. Run is_digit 9 n (more_terms ts tail)) (λ ts. more_terms ts tail) (c ∷ b) (c ∷ b)
-            (λ ts. run_off is_digit 9 n (more_terms ts tail) c b e z))) (term_ended_law c b v)))
+    (λ z. never (λ h. run_none is_digit 9 n (more_terms h.1.0 tail) c b e z h.1.2) (λ x. x))
+    (λ z. also (second (terms_iff (λ ts. Run is_digit 9 n (more_terms ts tail)) (λ ts. more_terms ts tail) (c ∷ b) (c ∷ b)
+    (λ ts. run_off is_digit 9 n (more_terms ts tail) c b e z))) (term_ended_law c b v)))
 
 -- ---- backgrounds
 
@@ -171,8 +171,8 @@ word_ended_law c b v =
     (is_blank c)
     (λ e. second (hex_iff (λ ws. more_words ws tail) words_left (c ∷ b) b (blank e)))
     (λ e. at_bool (λ u. ((v ≡ Some Backgrounds) × HexWords (λ ws. more_words ws tail) (c ∷ b)) ↔ Holds (if u then Some (Remark (Some Backgrounds)) else None) (λ t. rest t b v)) (c == 35)
-        (λ g. (λ h. h.0, λ h. (h, ([], refl, (tail_other c b e).1 ((when_true (c == 35) (Unit {0}) g).1 tt)))))
-        (λ g. never (λ h. none e g h.1.0 h.1.2) (λ z. z)))
+    (λ g. (λ h. h.0, λ h. (h, ([], refl, (tail_other c b e).1 ((when_true (c == 35) (Unit {0}) g).1 tt)))))
+    (λ g. never (λ h. none e g h.1.0 h.1.2) (λ z. z)))
   where
     blank : is_blank c ≡ true → (ws : List (List ℕ)) → list_all is_word ws ≡ true → more_words ws tail (c ∷ b) ↔ words_left ws b
     blank e [] a = tail_blank c b e
@@ -187,12 +187,12 @@ goes_hex n c b v =
     at_bool (λ t. rest (Hex n) (c ∷ b) v ↔ Holds (if t then Some (Hex (n + 1)) else if n == 0 then None else word_ended c) (λ t. rest t b v))
     (is_hex c && nat_lt n 16)
     (λ e. let parts = and_parts (is_hex c) (nat_lt n 16) e in
-        second (hex_iff (λ ws. Run is_hex 16 n (more_words ws tail)) (λ ws. Run is_hex 16 (n + 1) (more_words ws tail)) (c ∷ b) b
-            (λ ws _. run_on is_hex 16 n (more_words ws tail) c b parts.0 parts.1 (no_more_words ws c b parts.0))))
+    second (hex_iff (λ ws. Run is_hex 16 n (more_words ws tail)) (λ ws. Run is_hex 16 (n + 1) (more_words ws tail)) (c ∷ b) b
+    (λ ws _. run_on is_hex 16 n (more_words ws tail) c b parts.0 parts.1 (no_more_words ws c b parts.0))))
     (λ e. at_bool (λ u. rest (Hex n) (c ∷ b) v ↔ Holds (if u then None else word_ended c) (λ t. rest t b v)) (n == 0)
-        (λ z. never (λ h. run_none is_hex 16 n (more_words h.1.0 tail) c b e z h.1.2) (λ x. x))
-        (λ z. also (second (hex_iff (λ ws. Run is_hex 16 n (more_words ws tail)) (λ ws. more_words ws tail) (c ∷ b) (c ∷ b)
-            (λ ws _. run_off is_hex 16 n (more_words ws tail) c b e z))) (word_ended_law c b v)))
+    (λ z. never (λ h. run_none is_hex 16 n (more_words h.1.0 tail) c b e z h.1.2) (λ x. x))
+    (λ z. also (second (hex_iff (λ ws. Run is_hex 16 n (more_words ws tail)) (λ ws. more_words ws tail) (c ∷ b) (c ∷ b)
+    (λ ws _. run_off is_hex 16 n (more_words ws tail) c b e z))) (word_ended_law c b v)))
 
 pub goes_letter_l : (c : ℕ) (b : List ℕ) (v : Option Key) → Law LetterL c b v
 goes_letter_l c b v =
@@ -218,12 +218,12 @@ goes_letters key n c b v = go (slice_get (key_text key) n) refl
     go None e =
         at_bool (λ t. rest (Letters key n) (c ∷ b) v ↔ Holds (if t then Some (Wanted key) else None) (λ t. rest t b v)) (is_blank c)
         (λ f. second (of_iff key (λ x. word (drop n (key_text key)) (gap (argument x tail))) (λ x. space (argument x tail)) (c ∷ b) b
-            (λ x _. also ((letters (key_text key) n (gap (argument x tail)) c b).0 e) (gap_on (argument x tail) c b f))))
+        (λ x _. also ((letters (key_text key) n (gap (argument x tail)) c b).0 e) (gap_on (argument x tail) c b f))))
         (λ f. never (λ h. gap_off (argument h.1.0 tail) c b f (((letters (key_text key) n (gap (argument h.1.0 tail)) c b).0 e).0 h.1.3)) (λ z. z))
     go (Some l) e =
         at_bool (λ t. rest (Letters key n) (c ∷ b) v ↔ Holds (if t then Some (Letters key (n + 1)) else None) (λ t. rest t b v)) (c == l)
         (λ f. second (of_iff key (λ x. word (drop n (key_text key)) (gap (argument x tail))) (λ x. word (drop (n + 1) (key_text key)) (gap (argument x tail))) (c ∷ b) b
-            (λ x _. also ((letters (key_text key) n (gap (argument x tail)) c b).1 l e)
-                (when_true (c == l) (word (drop (n + 1) (key_text key)) (gap (argument x tail)) b) f))))
+        (λ x _. also ((letters (key_text key) n (gap (argument x tail)) c b).1 l e)
+        (when_true (c == l) (word (drop (n + 1) (key_text key)) (gap (argument x tail)) b) f))))
         (λ f. never (λ h. when_false (c == l) (word (drop (n + 1) (key_text key)) (gap (argument h.1.0 tail)) b) f
-            (((letters (key_text key) n (gap (argument h.1.0 tail)) c b).1 l e).0 h.1.3)) (λ z. z))
+        (((letters (key_text key) n (gap (argument h.1.0 tail)) c b).1 l e).0 h.1.3)) (λ z. z))

@@ -1,21 +1,20 @@
 -- Where a line ends, how each place goes on to an end, and with that: the reader of a line answers as its grammar says.
-use Rattle.std.proofs.Common.{◌≡◌, ℕ, zero, suc, ◌+◌, ◌-◌, ◌≤◌, ◌==◌, ◌&&◌, Bool, true, false, if◌then◌else◌, List, [], ◌∷◌, ◌++◌, drop, length, codes, Option, Some, None, refl, ◌↔◌, ◌⊎◌, inl, inr, subst, sym, ap, ◌∙◌, arith, zero-le}
-use Rattle.std.proofs.lemmas.Bool.{and_parts, and_from, eq-eqb}
+use Rattle.std.proofs.Common.{◌≡◌, ℕ, zero, suc, ◌+◌, ◌≤◌, ◌==◌, Bool, true, false, if◌then◌else◌, List, [], ◌∷◌, ◌++◌, drop, length, codes, Option, Some, None, refl, ◌↔◌, inl, inr, sym, ap, arith, zero-le}
+use Rattle.std.proofs.lemmas.Bool.{and_from, eq-eqb}
 use Rattle.std.proofs.Math.Dec.{eqb-suc-zero}
-use Rattle.std.specs.List.{list_all}
-use Rattle.bist_text.specs.Grammar.{byte, word, when, is_blank, Continues, are_bytes}
-use Rattle.bist_text.specs.Machine.{Holds, Follows, scan, IsExact}
-use Rattle.bist_text.proofs.Pieces.{also, same, never, neither, word_on}
+use Rattle.bist_text.specs.Grammar.{word, Continues, are_bytes}
+use Rattle.bist_text.specs.Machine.{Follows, scan, IsExact}
+use Rattle.bist_text.proofs.Pieces.{same, never, neither, word_on}
 use Rattle.bist_text.proofs.Bytes.{are_bytes-append, are_bytes-drop}
 use Rattle.bist_text.proofs.Exclusive.{scan_exact}
-use Rattle.memory_desc.specs.Names.{is_digit, is_name_byte}
+use Rattle.memory_desc.specs.Names.{is_digit}
 use Rattle.memory_desc.specs.declared.line_place.Key.{Key}
 use Rattle.memory_desc.specs.declared.line_place.Key.TheVariants.{Memory, Name, Words, Bits, Scramble, Backgrounds}
 use Rattle.memory_desc.specs.declared.line_place.Place.{Place}
 use Rattle.memory_desc.specs.declared.line_place.Place.TheVariants.{Opening, Begin, Remark, LetterB, Letters, Wanted, Number, Name as InName, RowNumber, RowEnd, Term as AtTerm, TermNumber, TermEnd, LetterL, LetterO, Hex, HexEnd, End}
-use Rattle.memory_desc.specs.LineText.{Term, index_bit, constant, Content, version, name, words, bits, scramble, log, backgrounds, kind_of, is_hex, is_number, is_word, is_term, is_formed, space, gap, tail, term_text, more_terms, equation, more_words, argument, key_text, ContentText}
+use Rattle.memory_desc.specs.LineText.{Term, index_bit, constant, Content, version, name, words, bits, scramble, log, backgrounds, kind_of, is_hex, is_formed, space, gap, tail, term_text, more_terms, equation, more_words, argument, key_text}
 use Rattle.memory_desc.specs.LinePlaces.{step, value}
-use Rattle.memory_desc.specs.LineRest.{LineOf, KindText, OpeningText, Run, Names, words_left, Of, Terms, OneTerm, HexWords, rest}
+use Rattle.memory_desc.specs.LineRest.{LineOf, KindText, OpeningText, Run, Terms, HexWords, rest}
 use Rattle.memory_desc.proofs.LinePieces.{at_bool, positive, when_true}
 use Rattle.memory_desc.proofs.LineFollows.{goes_at}
 
@@ -183,10 +182,12 @@ alive_at Opening = ([], None, refl, inl (refl, tt))
 alive_at Begin = ([], None, refl, inl (refl, tt))
 alive_at (Remark key) = ([], key, refl, refl)
 alive_at LetterB = (codes "its 1", Some Bits, refl, inl (refl, (example Bits, refl, refl, inl tt)))
-alive_at (Letters key n) =
-    (drop n (key_text key) ++ (32 ∷ example_text key), Some key,
-     are_bytes-append (drop n (key_text key)) (32 ∷ example_text key) (are_bytes-drop n (key_text key) (key_bytes key)) (example_bytes key),
-     (refl, (example key, example_kind key, example_formed key, word_on (drop n (key_text key)) (gap (argument (example key) tail)) (32 ∷ example_text key) (example_is key))))
+alive_at (Letters key n) = (
+  drop n (key_text key) ++ (32 ∷ example_text key),
+  Some key,
+  are_bytes-append (drop n (key_text key)) (32 ∷ example_text key) (are_bytes-drop n (key_text key) (key_bytes key)) (example_bytes key),
+  (refl, (example key, example_kind key, example_formed key, word_on (drop n (key_text key)) (gap (argument (example key) tail)) (32 ∷ example_text key) (example_is key))),
+)
 alive_at (Wanted key) = (example_text key, Some key, example_bytes key, (refl, (example key, example_kind key, example_formed key, example_is key)))
 alive_at (Number key n) = let r = run_goes_on is_digit 9 n 49 tail [] refl (omega arith) refl refl tt in (r.0, Some key, r.1, (refl, r.2))
 alive_at InName = ([], Some Name, refl, (refl, ([], refl, tt)))

@@ -1,12 +1,10 @@
 -- What no piece of a line begins with.
-use Rattle.std.proofs.Common.{◌≡◌, ℕ, ◌+◌, ◌==◌, ◌&&◌, Bool, true, false, List, [], ◌∷◌, Option, Some, None, refl, ◌↔◌, ◌⊎◌, inl, inr, subst, sym, ap, ◌∙◌}
+use Rattle.std.proofs.Common.{◌≡◌, ℕ, ◌==◌, ◌&&◌, Bool, true, false, List, [], ◌∷◌, refl, ap, ◌∙◌}
 use Rattle.std.proofs.lemmas.Bool.{eqb-true, and_parts}
 use Rattle.std.specs.List.{list_all}
-use Rattle.bist_text.specs.Grammar.{byte, word, when, is_blank}
-use Rattle.memory_desc.specs.Names.{is_digit, is_letter, is_name_byte, is_identifier}
-use Rattle.memory_desc.specs.declared.line_place.Key.{Key}
-use Rattle.memory_desc.specs.declared.line_place.Key.TheVariants.{Memory, Name, Words, Bits, Scramble, Backgrounds}
-use Rattle.memory_desc.specs.LineText.{Term, index_bit, constant, Content, version, name, words, bits, scramble, log, backgrounds, kind_of, is_hex, is_number, is_word, is_term, is_formed, space, gap, comment, tail, term_text, more_terms, equation, more_words, argument, key_text}
+use Rattle.bist_text.specs.Grammar.{byte, word, is_blank}
+use Rattle.memory_desc.specs.Names.{is_digit, is_name_byte}
+use Rattle.memory_desc.specs.LineText.{Term, is_hex, is_number, space, tail, more_terms, equation, more_words}
 use Rattle.memory_desc.proofs.LinePieces.{at_bool, when_false, when_holds, apart, of_blank, space_off, gap_off, tail_never}
 
 -- a byte of a class that has no blank isn't a blank

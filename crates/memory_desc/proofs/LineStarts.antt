@@ -1,22 +1,21 @@
 -- What may follow where a part of a line begins, by the next byte.
-use Rattle.std.proofs.Common.{◌≡◌, ℕ, zero, suc, ◌+◌, ◌-◌, ◌≤◌, ◌==◌, ◌&&◌, ◌||◌, Bool, true, false, if◌then◌else◌, List, [], ◌∷◌, drop, length, codes, Option, Some, None, slice_get, refl, ◌↔◌, ◌⊎◌, inl, inr, subst, sym, ap, ◌∙◌, arith}
+use Rattle.std.proofs.Common.{◌≡◌, ℕ, ◌≤◌, ◌==◌, ◌&&◌, ◌||◌, Bool, true, false, if◌then◌else◌, List, [], ◌∷◌, length, Option, Some, None, refl, ◌↔◌, ap, ◌∙◌, arith}
 use Rattle.std.proofs.lemmas.Bool.{eqb-true, eq-eqb, and_parts, and_from, le-leb, leb-true}
-use Rattle.std.specs.Prelude.{nat_lt, nat_le}
+use Rattle.std.specs.Prelude.{nat_le}
 use Rattle.std.specs.List.{list_all}
-use Rattle.bist_text.specs.Grammar.{byte, word, when, is_blank}
+use Rattle.bist_text.specs.Grammar.{word, is_blank}
 use Rattle.bist_text.specs.Machine.{Holds}
-use Rattle.bist_text.proofs.Pieces.{at_byte, also, same, never}
-use Rattle.memory_desc.specs.Names.{is_digit, is_letter, is_name_byte, is_identifier}
+use Rattle.bist_text.proofs.Pieces.{never}
+use Rattle.memory_desc.specs.Names.{is_digit}
 use Rattle.memory_desc.specs.declared.line_place.Key.{Key}
-use Rattle.memory_desc.specs.declared.line_place.Key.TheVariants.{Memory, Name, Words, Bits, Scramble, Backgrounds}
-use Rattle.memory_desc.specs.declared.line_place.Place.{Place}
-use Rattle.memory_desc.specs.declared.line_place.Place.TheVariants.{Opening, Begin, Remark, LetterB, Letters, Wanted, Number, Name as InName, RowNumber, RowEnd, Term as AtTerm, TermNumber, TermEnd, LetterL, LetterO, Hex, HexEnd, End}
-use Rattle.memory_desc.specs.LineText.{Term, index_bit, constant, Content, version, name, words, bits, scramble, log, backgrounds, kind_of, is_hex, is_number, is_word, is_term, is_formed, space, gap, tail, term_text, more_terms, equation, more_words, argument, key_text, ContentText}
-use Rattle.memory_desc.specs.LinePlaces.{step, value, ended, term_ended, row_ended, word_ended, letter_of, argument_begun, begun, opened}
-use Rattle.memory_desc.specs.LineRest.{KindText, OpeningText, Run, Names, words_left, Of, Terms, OneTerm, HexWords, rest}
-use Rattle.memory_desc.proofs.LinePieces.{at_bool, when_true, when_false, when_holds, apart, space_on, space_off, gap_on, gap_off, tail_blank, tail_other, tail_never}
-use Rattle.memory_desc.proofs.LineRefusals.{digits_plain, hex_plain, names_plain, plain_blank, no_tail, blank_word, blank_number}
-use Rattle.memory_desc.proofs.LineLaws.{Law, second, terms_iff, hex_iff, of_iff, not_both}
+use Rattle.memory_desc.specs.declared.line_place.Key.TheVariants.{Backgrounds}
+use Rattle.memory_desc.specs.declared.line_place.Place.TheVariants.{Remark, Term as AtTerm, TermNumber, TermEnd, Hex, HexEnd}
+use Rattle.memory_desc.specs.LineText.{Term, index_bit, constant, is_hex, is_word, is_term, space, tail, term_text, more_terms, more_words}
+use Rattle.memory_desc.specs.LinePlaces.{word_ended}
+use Rattle.memory_desc.specs.LineRest.{Run, words_left, Terms, OneTerm, HexWords, rest}
+use Rattle.memory_desc.proofs.LinePieces.{at_bool, when_true, when_false, when_holds, apart, space_on, space_off, tail_blank, tail_other, tail_never}
+use Rattle.memory_desc.proofs.LineRefusals.{hex_plain, plain_blank, no_tail, blank_word}
+use Rattle.memory_desc.proofs.LineLaws.{Law, second, hex_iff, not_both}
 
 -- ---- a run that begins
 
@@ -36,8 +35,14 @@ run_of p most ds a l m =
 
 pub run_begins : (p : ℕ → Bool) (most : ℕ) (K : List ℕ → Type 0) (c : ℕ) (b : List ℕ) → p c ≡ true → 1 ≤ most
     → ((ds : List ℕ) × (is_run p most ds ≡ true) × word ds K (c ∷ b)) ↔ Run p most 1 K b
-run_begins p most K c b e m = (λ h. to h.0 h.1 h.2, λ h. (c ∷ h.0, run_of p most (c ∷ h.0) (and_from (p c) (list_all p h.0) e h.1) (omega arith) (let l = h.2 in omega arith),
-    (when_true (c == c) (word h.0 K b) (eq-eqb c c refl)).1 h.4))
+run_begins p most K c b e m = (
+  λ h. to h.0 h.1 h.2,
+  λ h. (
+    c ∷ h.0,
+    run_of p most (c ∷ h.0) (and_from (p c) (list_all p h.0) e h.1) (omega arith) (let l = h.2 in omega arith),
+    (when_true (c == c) (word h.0 K b) (eq-eqb c c refl)).1 h.4,
+  ),
+)
   where
     to : (ds : List ℕ) → is_run p most ds ≡ true → word ds K (c ∷ b) → Run p most 1 K b
     to [] r w = (let parts = run_parts p most [] r in let l = parts.1 in absurd (omega arith))
@@ -66,23 +71,28 @@ goes_hex_end c b v =
     at_bool (λ t. rest HexEnd (c ∷ b) v ↔ Holds (if t then Some (Hex 1) else word_ended c) (λ t. rest t b v)) (is_hex c)
     (λ e. second (λ h. on e h.0 h.1 h.2, λ h. off e h.0 h.1 h.2))
     (λ n. at_bool (λ t. rest HexEnd (c ∷ b) v ↔ Holds (if t then Some HexEnd else if c == 35 then Some (Remark (Some Backgrounds)) else None) (λ t. rest t b v)) (is_blank c)
-        (λ e. second (hex_iff words_left words_left (c ∷ b) b (blank e)))
-        (λ e. at_bool (λ u. rest HexEnd (c ∷ b) v ↔ Holds (if u then Some (Remark (Some Backgrounds)) else None) (λ t. rest t b v)) (c == 35)
-            (λ g. (λ h. h.0, λ h. (h, ([], refl, (tail_other c b e).1 ((when_true (c == 35) (Unit {0}) g).1 tt)))))
-            (λ g. never (λ h. none n e g h.1.0 h.1.1 h.1.2) (λ z. z))))
+    (λ e. second (hex_iff words_left words_left (c ∷ b) b (blank e)))
+    (λ e. at_bool (λ u. rest HexEnd (c ∷ b) v ↔ Holds (if u then Some (Remark (Some Backgrounds)) else None) (λ t. rest t b v)) (c == 35)
+    (λ g. (λ h. h.0, λ h. (h, ([], refl, (tail_other c b e).1 ((when_true (c == 35) (Unit {0}) g).1 tt)))))
+    (λ g. never (λ h. none n e g h.1.0 h.1.1 h.1.2) (λ z. z))))
   where
     on : is_hex c ≡ true → (ws : List (List ℕ)) → list_all is_word ws ≡ true → words_left ws (c ∷ b) → HexWords (λ us. Run is_hex 16 1 (more_words us tail)) b
     on e [] a h = absurd (no_tail is_hex c b hex_plain e h)
     on e (w ∷ us) a h =
-        let parts = and_parts (is_word w) (list_all is_word us) a in
-        (us, parts.1, (run_begins is_hex 16 (more_words us tail) c b e (omega arith)).0
-            (w, parts.0, (space_off (word w (more_words us tail)) c b (plain_blank is_hex c hex_plain e)).0 h))
+        let parts = and_parts (is_word w) (list_all is_word us) a in (
+          us,
+          parts.1,
+          (run_begins is_hex 16 (more_words us tail) c b e (omega arith)).0
+              (w, parts.0, (space_off (word w (more_words us tail)) c b (plain_blank is_hex c hex_plain e)).0 h),
+        )
 
     off : is_hex c ≡ true → (us : List (List ℕ)) → list_all is_word us ≡ true → Run is_hex 16 1 (more_words us tail) b → HexWords words_left (c ∷ b)
     off e us a r =
-        let w = (run_begins is_hex 16 (more_words us tail) c b e (omega arith)).1 r in
-        (w.0 ∷ us, and_from (is_word w.0) (list_all is_word us) w.1 a,
-            (space_off (word w.0 (more_words us tail)) c b (plain_blank is_hex c hex_plain e)).1 w.2)
+        let w = (run_begins is_hex 16 (more_words us tail) c b e (omega arith)).1 r in (
+          w.0 ∷ us,
+          and_from (is_word w.0) (list_all is_word us) w.1 a,
+          (space_off (word w.0 (more_words us tail)) c b (plain_blank is_hex c hex_plain e)).1 w.2,
+        )
 
     blank : is_blank c ≡ true → (ws : List (List ℕ)) → list_all is_word ws ≡ true → words_left ws (c ∷ b) ↔ words_left ws b
     blank e [] a = tail_blank c b e
@@ -105,14 +115,18 @@ goes_term c b v =
     at_bool (λ t. rest AtTerm (c ∷ b) v ↔ Holds (if t then Some AtTerm else if c == 112 then Some (TermNumber 0) else if (c == 48) || (c == 49) then Some TermEnd else None) (λ t. rest t b v)) (is_blank c)
     (λ e. second (one_iff (c ∷ b) b (λ t ts. space_on (word (term_text t) (more_terms ts tail)) c b e (blank e t ts))))
     (λ e. at_bool (λ t. rest AtTerm (c ∷ b) v ↔ Holds (if t then Some (TermNumber 0) else if (c == 48) || (c == 49) then Some TermEnd else None) (λ t. rest t b v)) (c == 112)
-        (λ f. second (λ h. index_on e f h.0 h.1 h.2.0 h.2.1 h.2.2, λ h. index_off e f h.0 h.1 h.2))
-        (λ f. at_bool (λ t. rest AtTerm (c ∷ b) v ↔ Holds (if t || (c == 49) then Some TermEnd else None) (λ t. rest t b v)) (c == 48)
-            (λ g. second (λ h. bit_on e f h.0 h.2.0 h.2.1 h.2.2,
-                λ h. (constant false, refl, (h.0, h.1, (space_off (word (48 ∷ []) (more_terms h.0 tail)) c b e).1 ((when_true (c == 48) (more_terms h.0 tail b) g).1 h.2)))))
-            (λ g. at_bool (λ t. rest AtTerm (c ∷ b) v ↔ Holds (if t then Some TermEnd else None) (λ t. rest t b v)) (c == 49)
-                (λ k. second (λ h. bit_on e f h.0 h.2.0 h.2.1 h.2.2,
-                    λ h. (constant true, refl, (h.0, h.1, (space_off (word (49 ∷ []) (more_terms h.0 tail)) c b e).1 ((when_true (c == 49) (more_terms h.0 tail b) k).1 h.2)))))
-                (λ k. never (λ h. nothing e f g k h.1.0 h.1.2.0 h.1.2.2) (λ z. z)))))
+    (λ f. second (λ h. index_on e f h.0 h.1 h.2.0 h.2.1 h.2.2, λ h. index_off e f h.0 h.1 h.2))
+    (λ f. at_bool (λ t. rest AtTerm (c ∷ b) v ↔ Holds (if t || (c == 49) then Some TermEnd else None) (λ t. rest t b v)) (c == 48)
+    (λ g. second (
+      λ h. bit_on e f h.0 h.2.0 h.2.1 h.2.2,
+      λ h. (constant false, refl, (h.0, h.1, (space_off (word (48 ∷ []) (more_terms h.0 tail)) c b e).1 ((when_true (c == 48) (more_terms h.0 tail b) g).1 h.2))),
+    ))
+    (λ g. at_bool (λ t. rest AtTerm (c ∷ b) v ↔ Holds (if t then Some TermEnd else None) (λ t. rest t b v)) (c == 49)
+    (λ k. second (
+      λ h. bit_on e f h.0 h.2.0 h.2.1 h.2.2,
+      λ h. (constant true, refl, (h.0, h.1, (space_off (word (49 ∷ []) (more_terms h.0 tail)) c b e).1 ((when_true (c == 49) (more_terms h.0 tail b) k).1 h.2))),
+    ))
+    (λ k. never (λ h. nothing e f g k h.1.0 h.1.2.0 h.1.2.2) (λ z. z)))))
   where
     blank : is_blank c ≡ true → (t : Term) (ts : List Term) → word (term_text t) (more_terms ts tail) (c ∷ b) → ⊥
     blank e (index_bit ds) ts w = when_false (c == 112) (word ds (more_terms ts tail) b) (apart is_blank c 112 e refl) w
@@ -133,9 +147,11 @@ goes_term c b v =
     index_off : is_blank c ≡ false → (c == 112) ≡ true → (ts : List Term) → list_all is_term ts ≡ true → Run is_digit 9 0 (more_terms ts tail) b → OneTerm (c ∷ b)
     index_off e f ts a r =
         let one = r.3 in
-        let most = r.2 in
-        (index_bit r.0, run_of is_digit 9 r.0 r.1 (omega arith) (omega arith),
-            (ts, a, (space_off (word (112 ∷ r.0) (more_terms ts tail)) c b e).1 ((when_true (c == 112) (word r.0 (more_terms ts tail) b) f).1 r.4)))
+        let most = r.2 in (
+          index_bit r.0,
+          run_of is_digit 9 r.0 r.1 (omega arith) (omega arith),
+          (ts, a, (space_off (word (112 ∷ r.0) (more_terms ts tail)) c b e).1 ((when_true (c == 112) (word r.0 (more_terms ts tail) b) f).1 r.4)),
+        )
 
     bit_on : is_blank c ≡ false → (c == 112) ≡ false → (t : Term) → (ts : List Term) → list_all is_term ts ≡ true
         → space (word (term_text t) (more_terms ts tail)) (c ∷ b) → Terms (λ us. more_terms us tail) b

@@ -4,6 +4,7 @@
 mod content;
 mod fault;
 mod line_place;
+mod line_reader;
 mod memory;
 mod names;
 mod print;

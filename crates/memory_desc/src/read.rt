@@ -8,7 +8,8 @@ ghost use Rattle.memory_desc.specs.Descriptions.{IsBackgrounds};
 
 use crate::content::{Row, Words, is_log, name_of, number_of, row_of, words_of};
 use crate::fault::{Field, MemoryFault};
-use crate::line_place::{Key, Place, kind_at, place_after};
+use crate::line_place::Key;
+use crate::line_reader::{LineFault, read_line, read_opening};
 use crate::memory::Memory;
 use crate::names::name_from;
 use arrayvec::{ArrayString, ArrayVec};
@@ -17,31 +18,40 @@ use bist_bits::{all_ones, width_of};
 use bist_text::{Line, Lines};
 use scrambler::{Matrix, Scramble, invert};
 
-/// The kind of a line, or the first place at which it is none.
-fn kind_of(line: Line<'_>, start: Place) -> Result<Option<Key>, MemoryFault> {
-    let mut place = start;
-    for (i, byte) in line.text.iter().enumerate() {
-        let Some(next) = place_after(place, *byte) else {
-            return Err(MemoryFault::Unexpected {
-                line: line.number,
-                byte: i,
-            });
-        };
-        place = next;
-    }
-    match kind_at(place) {
-        Some(kind) => Ok(kind),
-        None if line.ended => Err(MemoryFault::Unexpected {
+/// A line's refusal. Where a line feed ends the line, it is the byte that can't stand there.
+fn refused(line: Line<'_>, fault: LineFault) -> MemoryFault {
+    match fault {
+        LineFault::Unexpected(byte) => MemoryFault::Unexpected {
+            line: line.number,
+            byte,
+        },
+        LineFault::Truncated if line.ended => MemoryFault::Unexpected {
             line: line.number,
             byte: line.text.len(),
-        }),
-        None => Err(MemoryFault::Truncated),
+        },
+        LineFault::Truncated => MemoryFault::Truncated,
     }
 }
 
 /// The kind of a line that is known to be one.
 fn known_kind(line: Line<'_>) -> Option<Key> {
-    kind_of(line, Place::Begin).ok().flatten()
+    read_line(line.text).ok().flatten()
+}
+
+/// Whether a line has content, where it may only be a `memory` line.
+fn opens(line: Line<'_>) -> Result<bool, MemoryFault> {
+    match read_opening(line.text) {
+        Ok(kind) => Ok(kind.is_some()),
+        Err(fault) => Err(refused(line, fault)),
+    }
+}
+
+/// A line must be one of a description.
+fn check_line(line: Line<'_>) -> Result<(), MemoryFault> {
+    match read_line(line.text) {
+        Ok(_) => Ok(()),
+        Err(fault) => Err(refused(line, fault)),
+    }
 }
 
 /// The first content line must be a `memory` line of version 1, and each later one a line of the table.
@@ -49,8 +59,8 @@ fn check_lines(bytes: &[u8]) -> Result<(), MemoryFault> {
     let mut opened = false;
     for line in Lines::new(bytes) {
         if opened {
-            kind_of(line, Place::Begin)?;
-        } else if kind_of(line, Place::Opening)?.is_some() {
+            check_line(line)?;
+        } else if opens(line)? {
             if number_of(line.text) != 1 {
                 return Err(MemoryFault::OtherVersion);
             }

@@ -1,0 +1,24 @@
+use Rattle.std.proofs.Math.Facts.{Fits-lt-pow}
+use Rattle.bist_text.specs.Machine.{scan}
+use Rattle.bist_text.proofs.Bytes.{slice_are_bytes}
+use Rattle.memory_desc.specs.declared.line_place.Place.TheVariants.{Opening}
+use Rattle.memory_desc.specs.LinePlaces.{step, value}
+use Rattle.memory_desc.specs.LineRest.{OpeningText}
+use Rattle.memory_desc.proofs.LineMachine.{opening_exact}
+use Rattle.memory_desc.proofs.LineScan.{kinds, refusals, ends}
+use Rattle.memory_desc.proofs.line_reader.read_opening.Goals as goal
+
+pub returns-clause-kind : goal.returns-clause-kind
+returns-clause-kind c =
+    let b = c.args.text.now in
+    kinds OpeningText b c.scanned.result (scan step value b Opening 0) c.scanned.ensures (opening_exact b (slice_are_bytes b (λ k _. Fits-lt-pow (c.type_inv.text k))))
+
+pub returns-clause-unexpected : goal.returns-clause-unexpected
+returns-clause-unexpected c =
+    let b = c.args.text.now in
+    refusals OpeningText b c.scanned.result (scan step value b Opening 0) c.scanned.ensures (opening_exact b (slice_are_bytes b (λ k _. Fits-lt-pow (c.type_inv.text k))))
+
+pub returns-clause-truncated : goal.returns-clause-truncated
+returns-clause-truncated c =
+    let b = c.args.text.now in
+    ends OpeningText b c.scanned.result (scan step value b Opening 0) c.scanned.ensures (opening_exact b (slice_are_bytes b (λ k _. Fits-lt-pow (c.type_inv.text k))))
