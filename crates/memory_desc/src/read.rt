@@ -99,7 +99,7 @@ fn is_said_before(bytes: &[u8], line: Line<'_>) -> bool {
 /// No line may say again what an earlier one says.
 fn check_repeats(bytes: &[u8]) -> Result<(), MemoryFault> {
     for line in Lines::new(bytes) {
-        if is_said_before(bytes, line) {
+        if known_kind(line).is_some() && is_said_before(bytes, line) {
             return Err(MemoryFault::Repeated { line: line.number });
         }
     }
