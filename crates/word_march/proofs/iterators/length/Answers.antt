@@ -11,7 +11,7 @@ run_within c =
 
 all_within : (c : After-backgrounds) → length c.backgrounds.result.now * (c.total_ops-operations.result * c.from-words.result) ≤ 134217728
 all_within c =
-    let backgrounds = c.backgrounds.ensures.memory.backgrounds_high in
+    let backgrounds = c.backgrounds.ensures.memory.tested.few in
     runs_small (length c.backgrounds.result.now) (c.total_ops-operations.result * c.from-words.result)
     (omega (arith, ap length c.backgrounds.ensures.value)) (run_within c)
 
