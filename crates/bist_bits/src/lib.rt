@@ -9,7 +9,7 @@ ghost use Rattle.bist_bits.specs.Width.{IsWidthOf};
 
 mod bits;
 
-pub use bits::Bits;
+pub use bits::{Bits, concat, select};
 
 /// There was no memory.
 #[derive(Clone, Copy, Debug, PartialEq, Eq)]
