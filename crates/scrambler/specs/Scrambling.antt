@@ -1,6 +1,6 @@
 -- Address scrambling: a logical address is an invertible matrix times the physical index, plus a constant,
 -- over the two elements 0 and 1.
-use Rattle.std.specs.Prelude.{◌≡◌, ℕ, ◌+◌, ◌%◌, ◌^◌, ◌<◌, ◌≤◌, List, [], ◌∷◌, zero, suc, slice_index, take}
+use Rattle.std.specs.Prelude.{◌≡◌, ℕ, ◌+◌, ◌%◌, ◌^◌, ◌<◌, ◌≤◌, List, [], ◌∷◌, zero, suc, length, slice_index, take}
 use Rattle.std.specs.Int.{bit_at}
 use Rattle.scrambler.specs.Linear.{dot, number, combination}
 
@@ -50,6 +50,12 @@ pub record IsWithin (width : ℕ) (rows : List ℕ) (constant : ℕ) : Type 0 wh
   pub narrow : width ≤ 16
   pub rows_fit : (i : ℕ) → i < width → slice_index rows i < 2 ^ width
   pub constant_fits : constant < 2 ^ width
+
+-- a row for each bit of the address, and nothing at or above the width
+pub record IsFull (m : Scrambling) : Type 0 where
+  pub count : length m.rows ≡ m.width
+  pub rows_fit : (i : ℕ) → i < m.width → row m i < 2 ^ m.width
+  pub constant_fits : m.constant < 2 ^ m.width
 
 -- the matrix of the first `width` rows
 abbrev pub matrix_of : ℕ → List ℕ → ℕ → Scrambling

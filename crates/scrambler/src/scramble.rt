@@ -1,6 +1,6 @@
 ghost use Rattle.std.specs.Prelude.{◌≡◌, ℕ, ◌+◌, ◌^◌, ◌<◌, ◌≤◌, ◌↔◌, IsOk, IsErr, IfOk, IfErr};
 ghost use Rattle.scrambler.specs.Linear.{combination};
-ghost use Rattle.scrambler.specs.Scrambling.{IsWithin, IsInvertible, IsLeastDependence, matrix_of, row, identity, logical};
+ghost use Rattle.scrambler.specs.Scrambling.{IsWithin, IsFull, IsInvertible, IsLeastDependence, matrix_of, row, identity, logical};
 
 use crate::elimination::reduce;
 use crate::linear::{UNITS, combination, product};
@@ -84,6 +84,14 @@ impl Scramble {
         ensures fits { result < 2 ^ self.now.width }
     {
         self.matrix.rows[i as usize]
+    }
+
+    /// The rows, one for each bit of the address.
+    pub fn rows(&self) -> &[u16]
+        ensures rows { result.now ≡ self.now.rows }
+        ensures full { IsFull self.now }
+    {
+        &self.matrix.rows[..usize::from(self.matrix.width)]
     }
 
     /// The constants: bit `i` is that of row `i`.
