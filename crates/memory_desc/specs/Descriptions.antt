@@ -2,7 +2,7 @@
 use Rattle.std.specs.Prelude.{◌≡◌, ℕ, ◌-◌, ◌^◌, ◌<◌, ◌≤◌, false, List, length, All, Contains}
 use Rattle.std.specs.Int.{is_power_of_two}
 use Rattle.bist_bits.specs.Width.{IsWidthOf}
-use Rattle.scrambler.specs.Scrambling.{Scrambling, IsInvertible, identity}
+use Rattle.scrambler.specs.Scrambling.{Scrambling, IsFull, IsInvertible, identity}
 use Rattle.memory_desc.specs.Names.{IsName}
 
 pub record Description : Type 0 where
@@ -28,6 +28,7 @@ pub record IsMemory (d : Description) : Type 0 where
   pub bits_low : 1 ≤ d.bits
   pub bits_high : d.bits ≤ 64
   pub address : IsWidthOf (d.words - 1) d.scramble.width
+  pub full : IsFull d.scramble
   pub invertible : IsInvertible d.scramble
   pub unscrambled : is_power_of_two d.words ≡ false → d.scramble ≡ identity d.scramble.width
   pub tested : IsBackgrounds d.bits d.backgrounds

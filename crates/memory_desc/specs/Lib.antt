@@ -5,3 +5,10 @@ pub mod LinePlaces
 pub mod LineRest
 pub mod LineAnswers
 pub mod Printed
+pub mod Statements
+pub mod LineFaults
+pub mod Subjects
+pub mod Values
+pub mod Table
+pub mod Standing
+pub mod ContentParts

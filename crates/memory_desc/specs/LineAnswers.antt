@@ -1,6 +1,9 @@
 -- What the reader of a line answers.
-use Rattle.std.specs.Prelude.{◌≡◌, Option, Result, Ok, Err}
+use Rattle.std.specs.Prelude.{◌≡◌, if◌then◌else◌, length, Option, Result, Ok, Err}
+use Rattle.bist_text.specs.Lines.{TextLine}
 use Rattle.bist_text.specs.Machine.{Outcome, read, unexpected, truncated}
+use Rattle.memory_desc.specs.declared.fault.MemoryFault.{MemoryFault}
+use Rattle.memory_desc.specs.declared.fault.MemoryFault.TheVariants.{Unexpected as UnexpectedAt, Truncated as TextTruncated}
 use Rattle.memory_desc.specs.declared.line_place.Key.{Key}
 use Rattle.memory_desc.specs.declared.line_reader.LineFault.{LineFault}
 use Rattle.memory_desc.specs.declared.line_reader.LineFault.TheVariants.{Unexpected, Truncated}
@@ -13,3 +16,8 @@ Fails Truncated o = o ≡ truncated
 abbrev pub Gives : Result (Option Key) LineFault → Outcome (Option Key) → Type 0
 Gives (Ok k) o = o ≡ read k
 Gives (Err f) o = Fails f o
+
+-- the refusal of a text at a line: of a line that ended too early, its line feed is the byte that can't stand there
+abbrev pub refusal_at : TextLine → LineFault → MemoryFault
+refusal_at l (Unexpected i) = UnexpectedAt l.number i
+refusal_at l Truncated = if l.ended then UnexpectedAt l.number (length l.text) else TextTruncated

@@ -1,14 +1,17 @@
 //! Memory descriptions: what a self-test has to know of a memory.
 #![tactic(auto)]
 
+mod building;
 mod content;
 mod fault;
 mod line_place;
 mod line_reader;
+mod lines;
 mod memory;
 mod names;
 mod print;
 mod read;
+mod search;
 
 pub use fault::{Field, MemoryFault};
 pub use memory::Memory;

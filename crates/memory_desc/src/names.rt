@@ -1,6 +1,6 @@
 //! Names: simple identifiers that Verilog doesn't keep for itself.
 
-ghost use Rattle.std.specs.Prelude.{◌≡◌, IfSome, map};
+ghost use Rattle.std.specs.Prelude.{◌≡◌, ◌&&◌, not, nat_le, length, IfSome, IsSome, map};
 ghost use Rattle.std.specs.List.{list_all};
 ghost use Rattle.memory_desc.specs.Names.{is_among, is_identifier, is_letter, is_name_byte, reserved_words, IsName};
 
@@ -136,18 +136,18 @@ const RESERVED: [&str; 124] = [
     "xor",
 ];
 
-fn is_among(word: &str, words: &[&str]) -> bool
+fn is_among(word: &[u8], words: &[&str]) -> bool
     ensures { result ≡ is_among word.now (map (λ w. w.now) words.now) }
 {
     for other in words {
-        if word == *other {
+        if word == other.as_bytes() {
             return true;
         }
     }
     false
 }
 
-fn is_reserved(word: &str) -> bool
+fn is_reserved(word: &[u8]) -> bool
     ensures { result ≡ is_among word.now reserved_words }
 {
     is_among(word, &RESERVED)
@@ -173,18 +173,23 @@ fn is_identifier(bytes: &[u8]) -> bool
     }
 }
 
+/// Whether an identifier is short enough for a name, and not reserved.
+pub fn is_free(bytes: &[u8]) -> bool
+    ensures { result ≡ (nat_le (length bytes.now) 48 && not (is_among bytes.now reserved_words)) }
+{
+    bytes.len() <= 48 && !is_reserved(bytes)
+}
+
 /// The name that these bytes are, unless they are none.
 pub fn name_from(bytes: &[u8]) -> Option<ArrayString<48>>
-    ensures { IfSome result (λ name. (name.bytes ≡ bytes.now) × IsName bytes.now) }
+    ensures name { IfSome result (λ name. (name.bytes ≡ bytes.now) × IsName bytes.now) }
+    ensures some { IsName bytes.now → IsSome result }
 {
-    if !is_identifier(bytes) || bytes.len() > 48 {
+    if !is_identifier(bytes) || !is_free(bytes) {
         return None;
     }
     let Ok(text) = str::from_utf8(bytes) else {
         return None;
     };
-    if is_reserved(text) {
-        return None;
-    }
     ArrayString::from(text).ok()
 }

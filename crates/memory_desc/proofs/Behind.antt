@@ -1,0 +1,218 @@
+-- What stands behind a run of bytes of a class.
+use Rattle.std.proofs.Common.{◌≡◌, ℕ, zero, suc, ◌+◌, ◌-◌, ◌<◌, ◌≤◌, ◌==◌, ◌&&◌, Bool, true, false, not, cond, List, [], ◌∷◌, ◌∙◌, length, drop, refl, sym, ap, subst, arith, inl, inr}
+use Rattle.std.proofs.lemmas.Bool.{eqb-true, and_parts, ltb-true}
+use Rattle.std.proofs.lemmas.Bool.Decides.{nat_tests}
+use Rattle.std.proofs.lemmas.List.{drop-drop}
+use Rattle.std.proofs.lemmas.List.Sums.{take_while-cons}
+use Rattle.std.proofs.lemmas.Nat.Bits.{bit_at-zero}
+use Rattle.std.specs.Prelude.{nat_lt, nat_le, codes}
+use Rattle.std.specs.Int.{bit_at}
+use Rattle.std.specs.List.{list_all, take_while}
+use Rattle.bist_text.specs.ByteSets.{in_set}
+use Rattle.bist_text.specs.declared.byte_set.ByteSet.{ByteSet}
+use Rattle.bist_text.specs.Cursors.{TextPlace, left_of}
+use Rattle.bist_text.specs.Grammar.{word, many, is_blank}
+use Rattle.memory_desc.specs.Names.{is_digit, is_letter, is_name_byte}
+use Rattle.memory_desc.specs.LineText.{Content, version, name, words, bits, scramble, log, backgrounds, kind_of, is_hex, is_word, is_formed, space, gap, tail, more_words, equation, argument, key_text, ContentText}
+use Rattle.memory_desc.specs.declared.line_place.Key.{Key}
+use Rattle.memory_desc.specs.declared.line_place.Key.TheVariants.{Memory, Name, Words, Bits, Scramble, Backgrounds}
+use Rattle.memory_desc.specs.ContentParts.{after}
+use Rattle.memory_desc.proofs.LinePieces.{at_bool, when_true, when_false, when_holds, apart, gap_off}
+use Rattle.memory_desc.proofs.LineRefusals.{not_blank, blank_word, blank_number}
+use Rattle.memory_desc.proofs.LineStarts.{blank_run}
+
+-- a piece that begins with no byte of a class
+abbrev pub Never : (ℕ → Bool) → (List ℕ → Type 0) → Type 0
+Never p K = (c : ℕ) (b : List ℕ) → p c ≡ true → K (c ∷ b) → ⊥
+
+run_yes : (p : ℕ → Bool) (c : ℕ) (b : List ℕ) → p c ≡ true → take_while p (c ∷ b) ≡ c ∷ take_while p b
+run_yes p c b e = take_while-cons p c b ∙ ap (λ t. cond t (c ∷ take_while p b) []) e
+
+run_no : (p : ℕ → Bool) (c : ℕ) (b : List ℕ) → p c ≡ false → take_while p (c ∷ b) ≡ []
+run_no p c b e = take_while-cons p c b ∙ ap (λ t. cond t (c ∷ take_while p b) []) e
+
+pub many_after : (p : ℕ → Bool) (K : List ℕ → Type 0) (b : List ℕ) → Never p K → many p K b → K (after p b)
+many_after p K [] f h = h
+many_after p K (c ∷ b) f h =
+    at_bool (λ t. p c ≡ t → K (after p (c ∷ b))) (p c)
+    (λ e _. subst (λ (r : List ℕ). K (drop (length r) (c ∷ b))) (sym (run_yes p c b e))
+    (many_after p K b f (elim h [ inl x ↦ absurd (f c b e x) | inr w ↦ (when_true (p c) (many p K b) e).0 w ])))
+    (λ e _. subst (λ (r : List ℕ). K (drop (length r) (c ∷ b))) (sym (run_no p c b e))
+    (elim h [ inl x ↦ x | inr w ↦ absurd (when_false (p c) (many p K b) e w) ]))
+    refl
+
+no_run : (p : ℕ → Bool) (K : List ℕ → Type 0) (b : List ℕ) → Never p K → K b → take_while p b ≡ []
+no_run p K [] f h = refl
+no_run p K (c ∷ b) f h = at_bool (λ t. p c ≡ t → take_while p (c ∷ b) ≡ []) (p c) (λ e _. absurd (f c b e h)) (λ e _. run_no p c b e) refl
+
+pub word_run : (p : ℕ → Bool) (ds : List ℕ) (K : List ℕ → Type 0) (b : List ℕ) → list_all p ds ≡ true → Never p K → word ds K b
+    → (take_while p b ≡ ds) × K (after p b)
+word_run p [] K b a f h =
+    let none = no_run p K b f h in
+    (none, subst (λ (r : List ℕ). K (drop (length r) b)) (sym none) h)
+word_run p (d ∷ ds) K [] a f h = absurd h
+word_run p (d ∷ ds) K (c ∷ b) a f h =
+    let w = when_holds (c == d) (word ds K b) h in
+    let same_byte : c ≡ d = eqb-true c d w.0 in
+    let parts = and_parts (p d) (list_all p ds) a in
+    let of_class : p c ≡ true = ap p same_byte ∙ parts.0 in
+    let rest = word_run p ds K b parts.1 f w.1 in
+    let run : take_while p (c ∷ b) ≡ c ∷ take_while p b = run_yes p c b of_class in
+    (run ∙ (let e : take_while p b ≡ ds = rest.0 in cc), subst (λ (r : List ℕ). K (drop (length r) (c ∷ b))) (sym run) rest.1)
+
+-- ---- the sets of the reader
+
+agree : (ℕ → Bool) → (ℕ → Bool) → ℕ → Bool
+agree p q zero = true
+agree p q (suc n) = cond (p n) (q n) (not (q n)) && agree p q n
+
+agree_at : (s t : Bool) → cond s t (not t) ≡ true → s ≡ t
+agree_at true true e = refl
+agree_at true false e = sym e
+agree_at false true e = e
+agree_at false false e = refl
+
+agrees : (p q : ℕ → Bool) (n k : ℕ) → agree p q n ≡ true → k < n → p k ≡ q k
+unfolding agree
+agrees p q zero k h l = absurd (omega arith)
+agrees p q (suc n) k h l =
+    let parts = and_parts (cond (p n) (q n) (not (q n))) (agree p q n) h in
+    at_bool (λ t. (k == n) ≡ t → p k ≡ q k) (k == n)
+    (λ e _. let same : k ≡ n = eqb-true k n e in subst (λ (x : ℕ). p x ≡ q x) (sym same) (agree_at (p n) (q n) parts.0))
+    (λ e _. agrees p q n k parts.1 (grind (arith, nat_tests))) refl
+
+-- a set has the bytes of a class
+abbrev pub Has : ByteSet → (ℕ → Bool) → Type 0
+Has set p = (c : ℕ) → in_set set c ≡ p c
+
+-- no byte from 128 on is of a class
+abbrev pub Low : (ℕ → Bool) → Type 0
+Low p = (c : ℕ) → 128 ≤ c → p c ≡ false
+
+set_has : (low : ℕ) (p : ℕ → Bool) → agree (in_set (record { low = low; high = 0 })) p 128 ≡ true → Low p → Has (record { low = low; high = 0 }) p
+set_has low p h f c =
+    at_bool (λ t. nat_lt c 128 ≡ t → in_set (record { low = low; high = 0 }) c ≡ p c) (nat_lt c 128)
+    (λ e _. agrees (in_set (record { low = low; high = 0 })) p 128 c h (ltb-true c 128 e))
+    (λ e _. (
+    let far : 128 ≤ c = grind (arith, nat_tests) in
+    let none : p c ≡ false = f c far in
+    let off : in_set (record { low = low; high = 0 }) c ≡ (bit_at 0 (c - 128) == 1) = ap (λ t. cond t (bit_at low c) (bit_at 0 (c - 128)) == 1) e in
+    off ∙ ap (λ x. x == 1) (bit_at-zero (c - 128)) ∙ sym none))
+    refl
+
+blank_low : Low is_blank
+blank_low c h = grind (arith, nat_tests)
+
+digit_low : Low is_digit
+digit_low c h = grind (arith, nat_tests)
+
+hex_low : Low is_hex
+hex_low c h = grind (arith, nat_tests)
+
+name_low : Low is_name_byte
+name_low c h = grind (arith, nat_tests)
+
+-- a letter of a first word
+abbrev pub is_small : ℕ → Bool
+is_small c = nat_le 97 c && nat_le c 122
+
+small_low : Low is_small
+small_low c h = grind (arith, nat_tests)
+
+pub blanks_have : Has (record { low = 4294976000; high = 0 }) is_blank
+unfolding agree
+blanks_have = set_has 4294976000 is_blank refl blank_low
+
+pub small_have : Has (record { low = 10633823807823001954701781295154855936; high = 0 }) is_small
+unfolding agree
+small_have = set_has 10633823807823001954701781295154855936 is_small refl small_low
+
+pub digits_have : Has (record { low = 287948901175001088; high = 0 }) is_digit
+unfolding agree
+digits_have = set_has 287948901175001088 is_digit refl digit_low
+
+pub hex_have : Has (record { low = 9982748479121884238975116247040; high = 0 }) is_hex
+unfolding agree
+hex_have = set_has 9982748479121884238975116247040 is_hex refl hex_low
+
+pub names_have : Has (record { low = 10633823849912963253799171464200454144; high = 0 }) is_name_byte
+unfolding agree
+names_have = set_has 10633823849912963253799171464200454144 is_name_byte refl name_low
+
+runs_same : (p q : ℕ → Bool) → ((c : ℕ) → p c ≡ q c) → (b : List ℕ) → take_while p b ≡ take_while q b
+runs_same p q f [] = refl
+runs_same p q f (c ∷ b) =
+    take_while-cons p c b ∙ ap (λ t. cond t (c ∷ take_while p b) []) (f c) ∙ ap (λ (r : List ℕ). cond (q c) (c ∷ r) []) (runs_same p q f b) ∙ sym (take_while-cons q c b)
+
+-- ---- steps of a cursor
+
+-- the cursor goes past a run of bytes of a set
+pub record Passes (set : ByteSet) (old new : TextPlace) : Type 0 where
+  pub text : new.text ≡ old.text
+  pub place : new.place ≡ old.place + length (take_while (in_set set) (left_of old))
+
+pub passes_to : (set : ByteSet) (p : ℕ → Bool) (old new : TextPlace) → Has set p → Passes set old new → left_of new ≡ after p (left_of old)
+passes_to set p old new f s =
+    let e : new.place ≡ old.place + length (take_while p (left_of old)) = s.place ∙ ap (λ (r : List ℕ). old.place + length r) (runs_same (in_set set) p f (left_of old)) in
+    ap (λ (t : List ℕ). drop new.place t) s.text ∙ ap (λ (n : ℕ). drop n old.text) e ∙ sym (drop-drop (length (take_while p (left_of old))) old.place old.text)
+
+pub run_is : (set : ByteSet) (p : ℕ → Bool) (b : List ℕ) → Has set p → take_while (in_set set) b ≡ take_while p b
+run_is set p b f = runs_same (in_set set) p f b
+
+pub skip_many : (set : ByteSet) (p : ℕ → Bool) (K : List ℕ → Type 0) (old new : TextPlace) → Has set p → Passes set old new → Never p K → many p K (left_of old) → K (left_of new)
+skip_many set p K old new f s n h = subst K (sym (passes_to set p old new f s)) (many_after p K (left_of old) n h)
+
+pub skip_word : (set : ByteSet) (p : ℕ → Bool) (ds : List ℕ) (K : List ℕ → Type 0) (old new : TextPlace) → Has set p → Passes set old new → list_all p ds ≡ true → Never p K
+    → word ds K (left_of old) → (take_while (in_set set) (left_of old) ≡ ds) × K (left_of new)
+skip_word set p ds K old new f s a n h =
+    let r = word_run p ds K (left_of old) a n h in
+    (run_is set p (left_of old) f ∙ r.0, subst K (sym (passes_to set p old new f s)) r.1)
+
+-- ---- behind a first word
+
+pub gap_many : (K : List ℕ → Type 0) (b : List ℕ) → gap K b → space K b
+gap_many K [] h = absurd h
+gap_many K (c ∷ b) h = inr h
+
+gap_begins : (K : List ℕ → Type 0) → Never is_small (gap K)
+gap_begins K c b e h = gap_off K c b (not_blank is_small c e refl refl refl) h
+
+key_begins : (k : Key) (K : List ℕ → Type 0) → Never is_blank (word (key_text k) K)
+key_begins Memory K c b e h = when_false (c == 109) (word (codes "emory") K b) (apart is_blank c 109 e refl) h
+key_begins Name K c b e h = when_false (c == 110) (word (codes "ame") K b) (apart is_blank c 110 e refl) h
+key_begins Words K c b e h = when_false (c == 119) (word (codes "ords") K b) (apart is_blank c 119 e refl) h
+key_begins Bits K c b e h = when_false (c == 98) (word (codes "its") K b) (apart is_blank c 98 e refl) h
+key_begins Scramble K c b e h = when_false (c == 115) (word (codes "cramble") K b) (apart is_blank c 115 e refl) h
+key_begins Backgrounds K c b e h = when_false (c == 98) (word (codes "ackgrounds") K b) (apart is_blank c 98 e refl) h
+
+key_small : (k : Key) → list_all is_small (key_text k) ≡ true
+key_small Memory = refl
+key_small Name = refl
+key_small Words = refl
+key_small Bits = refl
+key_small Scramble = refl
+key_small Backgrounds = refl
+
+argument_begins : (c : Content) → is_formed c ≡ true → Never is_blank (argument c tail)
+argument_begins (version ds) f x b e h = blank_number ds tail x b f e h
+argument_begins (name []) f x b e h = (let z : ⊥ = cc in z)
+argument_begins (name (n ∷ ns)) f x b e h = blank_word is_letter n ns tail x b refl refl refl (and_parts (is_letter n) (list_all is_name_byte ns) f).0 e h
+argument_begins (words ds) f x b e h = blank_number ds tail x b f e h
+argument_begins (bits ds) f x b e h = blank_number ds tail x b f e h
+argument_begins (scramble i ts) f x b e h = when_false (x == 97) (word i (equation ts tail) b) (apart is_blank x 97 e refl) h
+argument_begins log f x b e h = when_false (x == 108) (word (codes "og") tail b) (apart is_blank x 108 e refl) h
+argument_begins (backgrounds []) f x b e h = h
+argument_begins (backgrounds (w ∷ ws)) f x b e h = blank_run is_hex 16 w (more_words ws tail) x b refl refl refl (and_parts (is_word w) (list_all is_word ws) f).0 e h
+
+pub key_behind : (text : List ℕ) (start first second third : TextPlace) (c : Content) → start.text ≡ text → start.place ≡ 0
+    → Passes (record { low = 4294976000; high = 0 }) start first
+    → Passes (record { low = 10633823807823001954701781295154855936; high = 0 }) first second
+    → Passes (record { low = 4294976000; high = 0 }) second third
+    → ContentText text c → argument c tail (left_of third)
+key_behind text start first second third c t z a b d h =
+    let k = kind_of c in
+    let begin : left_of start ≡ text = ap (λ (n : ℕ). drop n start.text) z ∙ t in
+    let one = skip_many _ is_blank (word (key_text k) (gap (argument c tail))) start first blanks_have a (key_begins k (gap (argument c tail)))
+    (subst (λ (x : List ℕ). space (word (key_text k) (gap (argument c tail))) x) (sym begin) h.1) in
+    let two = skip_word _ is_small (key_text k) (gap (argument c tail)) first second small_have b (key_small k) (gap_begins (argument c tail)) one in
+    skip_many _ is_blank (argument c tail) second third blanks_have d (argument_begins c h.0) (gap_many (argument c tail) (left_of second) two.1)

@@ -1,0 +1,189 @@
+-- The backgrounds that are chosen, and that they serve a memory.
+use Rattle.std.proofs.Common.{◌≡◌, ℕ, zero, suc, ◌+◌, ◌^◌, ◌<◌, ◌≤◌, ◌==◌, ◌||◌, Bool, true, false, List, [], ◌∷◌, length, map, take, get_or, slice_index, Option, Some, None, Result, Ok, Err, refl, sym, ◌∙◌, ap, subst, arith, inl, inr}
+use Rattle.std.specs.Prelude.{nat_le, nat_lt, Contains, IfOk, MatchResult}
+use Rattle.std.specs.List.{list_any}
+use Rattle.std.specs.Str.Parse.{digits_value}
+use Rattle.std.proofs.lemmas.Bool.{or_parts, or_cases, or_left, or_right, leb-false, eqb-true, eq-eqb, lt-ltb, le-ltb, ltb-false, cases_Bool}
+use Rattle.std.proofs.lemmas.List.{length-map, take_all}
+use Rattle.backgrounds.specs.Backgrounds.{IsLogSet}
+use Rattle.memory_desc.specs.Descriptions.{IsBackgrounds}
+use Rattle.memory_desc.specs.LineText.{Content, version, name, words, bits, scramble, log, backgrounds, kind_of, ContentText}
+use Rattle.memory_desc.specs.Standing.{Keeps, Chooses, StandsAt, is_log}
+use Rattle.memory_desc.specs.Statements.{Statement}
+use Rattle.memory_desc.specs.Subjects.{about, said}
+use Rattle.memory_desc.specs.Table.{Unless, too_many, hollow, is_past, past, Tests}
+use Rattle.memory_desc.specs.Values.{word_values, AreBackgrounds, bits_said}
+use Rattle.memory_desc.specs.declared.line_place.Key.TheVariants.{Backgrounds as BackgroundsKey}
+use Rattle.memory_desc.specs.declared.content.Subject.TheVariants.{Backgrounds}
+use Rattle.memory_desc.specs.declared.fault.MemoryFault.{MemoryFault}
+use Rattle.memory_desc.specs.declared.fault.MemoryFault.TheVariants.{TooManyBackgrounds, NoSolidBackground}
+use Rattle.bist_text.specs.declared.text_lines.Line.{Line}
+use Rattle.memory_desc.proofs.Parts.{log_set_serves}
+use Rattle.memory_desc.proofs.Stated.{stated, says, of_backgrounds, unstated, within}
+
+-- ---- whether one is 0
+
+pub zero_in : (set : List ℕ) → list_any (λ w. w == 0) set ≡ true → Contains set 0
+zero_in [] e = (let z : ⊥ = cc in absurd z)
+zero_in (w ∷ set) e = elim (or_cases (w == 0) (list_any (λ v. v == 0) set) e) [
+  | inl h ↦ (0, omega arith, eqb-true w 0 h)
+  | inr h ↦ (let c = zero_in set h in (suc c.0, (let l = c.1 in omega arith), c.2))
+]
+
+pub zero_found : (set : List ℕ) (k : ℕ) → k < length set → slice_index set k ≡ 0 → list_any (λ w. w == 0) set ≡ true
+zero_found [] k l e = absurd (omega arith)
+zero_found (w ∷ set) zero l e = or_left (w == 0) (list_any (λ v. v == 0) set) (eq-eqb w 0 e)
+zero_found (w ∷ set) (suc k) l e = or_right (w == 0) (list_any (λ v. v == 0) set) (zero_found set k (omega arith) e)
+
+-- ---- a set that is kept
+
+few_of : (set : List ℕ) (r : Result (List ℕ) MemoryFault) (P : Type 0) → nat_lt 8 (length set) ≡ false → P → Unless (too_many set) r P
+few_of set r P e h = rw e h
+
+solid_of : (set : List ℕ) (r : Result (List ℕ) MemoryFault) (P : Type 0) → list_any (λ w. w == 0) set ≡ true → P → Unless (hollow set) r P
+solid_of set r P e h = rw e h
+
+pub keeps : (set : List ℕ) → length set ≤ 8 → Contains set 0 → Keeps set (Ok set)
+keeps set few c =
+    few_of set (Ok set) (Unless (hollow set) (Ok set) (Ok set ≡ Ok set)) (le-ltb 8 (length set) few)
+    (solid_of set (Ok set) (Ok set ≡ Ok set) (zero_found set c.0 c.1 c.2) refl)
+
+pub record Kept (set kept : List ℕ) : Type 0 where
+  pub few : length set ≤ 8
+  pub solid : Contains set 0
+  pub same : kept ≡ set
+
+kept_at : (set kept : List ℕ) (s t : Bool) → nat_lt 8 (length set) ≡ s → list_any (λ w. w == 0) set ≡ t → Keeps set (Ok kept) → Kept set kept
+kept_at set kept true t e f h = (let r : Ok kept ≡ Err TooManyBackgrounds = (rw e at h) in let z : ⊥ = cc in absurd z)
+kept_at set kept false false e f h = (let r : Ok kept ≡ Err NoSolidBackground = (rw (e, f) at h) in let z : ⊥ = cc in absurd z)
+kept_at set kept false true e f h =
+    let r : Ok kept ≡ Ok set = (rw (e, f) at h) in
+    record { few = ltb-false 8 (length set) e; solid = zero_in set f; same = (let z : kept ≡ set = cc in z) }
+
+pub kept : (set other : List ℕ) → Keeps set (Ok other) → Kept set other
+kept set other h = kept_at set other (nat_lt 8 (length set)) (list_any (λ w. w == 0) set) refl refl h
+
+-- ---- words that are listed
+
+few_words : (ws : List (List ℕ)) (count : ℕ) → count ≡ length ws → count ≤ 8 → length (word_values ws) ≤ 8
+few_words ws count n h = let m = length-map ws (digits_value 16) in omega arith
+
+whole : (ws : List (List ℕ)) (first : List ℕ) (count : ℕ) → first ≡ take 8 (word_values ws) → count ≡ length ws → count ≤ 8 → first ≡ word_values ws
+whole ws first count e n h = e ∙ take_all 8 (word_values ws) (few_words ws count n h)
+
+pub too_many_listed : (ws : List (List ℕ)) (count : ℕ) → count ≡ length ws → 8 < count → Keeps (word_values ws) (Err TooManyBackgrounds)
+too_many_listed ws count e h =
+    let more : nat_lt 8 (length (word_values ws)) ≡ true = lt-ltb 8 (length (word_values ws)) (let m = length-map ws (digits_value 16) in omega arith) in
+    rw more refl
+
+pub hollow_listed : (ws : List (List ℕ)) (first : List ℕ) (count : ℕ) → first ≡ take 8 (word_values ws) → count ≡ length ws → count ≤ 8 → (Contains first 0 → ⊥)
+    → Keeps (word_values ws) (Err NoSolidBackground)
+hollow_listed ws first count e n h none =
+    let set = word_values ws in
+    let same = whole ws first count e n h in
+    let off : list_any (λ w. w == 0) set ≡ false = elim (cases_Bool (list_any (λ w. w == 0) set)) [
+      | inl y ↦ absurd (none (subst (λ (s : List ℕ). Contains s 0) (sym same) (zero_in set y)))
+      | inr y ↦ y
+    ] in
+    few_of set (Err NoSolidBackground) (Unless (hollow set) (Err NoSolidBackground) (Err NoSolidBackground ≡ Ok set)) (le-ltb 8 (length set) (few_words ws count n h))
+    (rw off refl)
+
+pub keeps_listed : (ws : List (List ℕ)) (first : List ℕ) (count : ℕ) → first ≡ take 8 (word_values ws) → count ≡ length ws → count ≤ 8 → Contains first 0
+    → Keeps (word_values ws) (Ok first)
+keeps_listed ws first count e n h some =
+    let set = word_values ws in
+    let same = whole ws first count e n h in
+    subst (λ (s : List ℕ). Keeps set (Ok s)) (sym same) (keeps set (few_words ws count n h) (subst (λ (s : List ℕ). Contains s 0) same some))
+
+-- ---- what a line, or none, chooses
+
+pub log_keeps : (size : ℕ) (set : List ℕ) → size ≤ 64 → IsLogSet size set → Keeps set (Ok set)
+log_keeps size set h s = let b = log_set_serves size set h s in keeps set b.few b.solid
+
+pub chooses_none : (size : ℕ) (set : List ℕ) → size ≤ 64 → IsLogSet size set → Chooses None size (Ok set)
+chooses_none size set h s = (set, s, log_keeps size set h s)
+
+pub chooses_log : (c : Content) (size : ℕ) (set : List ℕ) → is_log c ≡ true → size ≤ 64 → IsLogSet size set → Chooses (Some c) size (Ok set)
+chooses_log (version ds) size set e h s = (let z : ⊥ = cc in absurd z)
+chooses_log (name b) size set e h s = (let z : ⊥ = cc in absurd z)
+chooses_log (words ds) size set e h s = (let z : ⊥ = cc in absurd z)
+chooses_log (bits ds) size set e h s = (let z : ⊥ = cc in absurd z)
+chooses_log (scramble i ts) size set e h s = (let z : ⊥ = cc in absurd z)
+chooses_log log size set e h s = (set, s, log_keeps size set h s)
+chooses_log (backgrounds ws) size set e h s = (let z : ⊥ = cc in absurd z)
+
+-- a line that lists words answers this
+abbrev Lists : {A : Type 0} → (A → List ℕ) → List (List ℕ) → Result A MemoryFault → Type 0
+Lists items ws r = MatchResult r (λ b. Keeps (word_values ws) (Ok (items b))) (λ fault. Keeps (word_values ws) (Err fault))
+
+-- what is said of the backgrounds chooses this answer
+abbrev pub Answers : {A : Type 0} → (A → List ℕ) → Option Content → ℕ → Result A MemoryFault → Type 0
+Answers items c size r = MatchResult r (λ b. Chooses c size (Ok (items b))) (λ fault. Chooses c size (Err fault))
+
+listed_by : {A : Type 0} (items : A → List ℕ) (ws : List (List ℕ)) (size : ℕ) (r : Result A MemoryFault) → Lists items ws r
+    → Answers items (Some (backgrounds ws)) size r
+listed_by items ws size (Ok b) h = (word_values ws, refl, h)
+listed_by items ws size (Err fault) h = (word_values ws, refl, h)
+
+pub chooses_listed : {A : Type 0} (items : A → List ℕ) (text : List ℕ) (c : Content) (size : ℕ) (r : Result A MemoryFault) → kind_of c ≡ BackgroundsKey → is_log c ≡ false
+    → ContentText text c → ((ws : List (List ℕ)) → ContentText text (backgrounds ws) → Lists items ws r) → Answers items (Some c) size r
+chooses_listed items text (version ds) size r k e t f = (let z : ⊥ = cc in absurd z)
+chooses_listed items text (name b) size r k e t f = (let z : ⊥ = cc in absurd z)
+chooses_listed items text (words ds) size r k e t f = (let z : ⊥ = cc in absurd z)
+chooses_listed items text (bits ds) size r k e t f = (let z : ⊥ = cc in absurd z)
+chooses_listed items text (scramble i ts) size r k e t f = (let z : ⊥ = cc in absurd z)
+chooses_listed items text log size r k e t f = (let z : ⊥ = cc in absurd z)
+chooses_listed items text (backgrounds ws) size r k e t f = listed_by items ws size r (f ws t)
+
+-- ---- what is chosen serves a memory
+
+words_fit : (size : ℕ) (ws : List (List ℕ)) → list_any (λ w. nat_le (2 ^ size) (digits_value 16 w)) ws ≡ false → (k d : ℕ) → k < length (word_values ws)
+    → get_or (word_values ws) k d < 2 ^ size
+words_fit size [] h k d l = absurd (omega arith)
+words_fit size (w ∷ ws) h zero d l =
+    leb-false (2 ^ size) (digits_value 16 w) (or_parts (nat_le (2 ^ size) (digits_value 16 w)) (list_any (λ v. nat_le (2 ^ size) (digits_value 16 v)) ws) h).0
+words_fit size (w ∷ ws) h (suc k) d l =
+    words_fit size ws (or_parts (nat_le (2 ^ size) (digits_value 16 w)) (list_any (λ v. nat_le (2 ^ size) (digits_value 16 v)) ws) h).1 k d (omega arith)
+
+words_serve : (size : ℕ) (ws : List (List ℕ)) (set : List ℕ) → list_any (λ w. nat_le (2 ^ size) (digits_value 16 w)) ws ≡ false → Kept (word_values ws) set
+    → IsBackgrounds size set
+words_serve size ws set h k =
+    subst (IsBackgrounds size) (sym k.same)
+    (record { some = (let l = k.solid.1 in omega arith); few = k.few; fit = words_fit size ws h; solid = k.solid })
+
+log_serves : (size : ℕ) (set other : List ℕ) → size ≤ 64 → IsLogSet size set → Kept set other → IsBackgrounds size other
+log_serves size set other h s k = subst (IsBackgrounds size) (sym k.same) (log_set_serves size set h s)
+
+pub chosen_serves : (c : Option Content) (width size : ℕ) (set : List ℕ) → size ≤ 64 → ((x : Content) → c ≡ Some x → is_past width size x ≡ false)
+    → Chooses c size (Ok set) → IsBackgrounds size set
+chosen_serves None width size set h f r = log_serves size r.0 set h r.1 (kept r.0 set r.2)
+chosen_serves (Some (version ds)) width size set h f r = log_serves size r.0 set h r.1 (kept r.0 set r.2)
+chosen_serves (Some (name b)) width size set h f r = log_serves size r.0 set h r.1 (kept r.0 set r.2)
+chosen_serves (Some (words ds)) width size set h f r = log_serves size r.0 set h r.1 (kept r.0 set r.2)
+chosen_serves (Some (bits ds)) width size set h f r = log_serves size r.0 set h r.1 (kept r.0 set r.2)
+chosen_serves (Some (scramble i ts)) width size set h f r = log_serves size r.0 set h r.1 (kept r.0 set r.2)
+chosen_serves (Some log) width size set h f r = log_serves size r.0 set h r.1 (kept r.0 set r.2)
+chosen_serves (Some (backgrounds ws)) width size set h f r =
+    words_serve size ws set (f (backgrounds ws) refl) (subst (λ (s : List ℕ). Kept s set) r.1 (kept r.0 set r.2))
+
+-- ---- what the statements choose
+
+pub line_answers : {A : Type 0} (items : A → List ℕ) (ss : List Statement) (size : ℕ) (l : Line) (r : Result A MemoryFault) → StandsAt (Some l) (about Backgrounds ss)
+    → ((c : Content) → ContentText l.text.now c → kind_of c ≡ BackgroundsKey → Answers items (Some c) size r) → Answers items (said Backgrounds ss) size r
+line_answers items ss size l r h f =
+    let s = stated Backgrounds ss l h in
+    let c = s.statement.content in
+    subst (λ (o : Option Content). Answers items o size r) (sym (says Backgrounds ss l.text.now s).said_is) (f c s.written (of_backgrounds c s.same))
+
+pub none_answers : (ss : List Statement) (size : ℕ) (set : List ℕ) → StandsAt None (about Backgrounds ss) → size ≤ 64 → IsLogSet size set
+    → Chooses (said Backgrounds ss) size (Ok set)
+none_answers ss size set h l s = subst (λ (o : Option Content). Chooses o size (Ok set)) (sym (unstated Backgrounds ss h)) (chooses_none size set l s)
+
+pub answer_serves : {A : Type 0} (items : A → List ℕ) (ss : List Statement) (width size : ℕ) (r : Result A MemoryFault) → size ≤ 64 → past ss width size ≡ None
+    → Answers items (said Backgrounds ss) size r → IfOk r (λ b. IsBackgrounds size (items b))
+answer_serves items ss width size (Ok b) h p a = chosen_serves (said Backgrounds ss) width size (items b) h (λ x e. within ss width size Backgrounds x p e) a
+answer_serves items ss width size (Err fault) h p a = tt
+
+pub answer_tests : {A : Type 0} (items : A → List ℕ) (ss : List Statement) (size : ℕ) (r : Result A MemoryFault) → size ≡ bits_said ss
+    → Answers items (said Backgrounds ss) size r → MatchResult r (λ b. Tests ss (Ok (items b))) (λ fault. Tests ss (Err fault))
+answer_tests items ss size r e a = subst (λ (n : ℕ). Answers items (said Backgrounds ss) n r) e a

@@ -1,0 +1,144 @@
+-- What the statement about something says, where its line is known.
+use Rattle.std.proofs.Common.{◌≡◌, ℕ, Bool, true, false, List, [], ◌∷◌, Option, Some, None, refl, sym, ◌∙◌, ap, subst, cond}
+use Rattle.std.specs.Prelude.{find}
+use Rattle.bist_text.specs.declared.text_lines.Line.{Line}
+use Rattle.memory_desc.specs.LineText.{Content, Term, version, name, words, bits, scramble, log, backgrounds, kind_of, ContentText}
+use Rattle.memory_desc.specs.Statements.{Statement}
+use Rattle.memory_desc.specs.Subjects.{subject, is_same, is_about, about, said, content_of}
+use Rattle.memory_desc.specs.Standing.{StandsAt}
+use Rattle.memory_desc.specs.Table.{at_line, is_past, past, is_out_of_range, out_of_range}
+use Rattle.memory_desc.specs.declared.line_place.Key.TheVariants.{Backgrounds as BackgroundsKey}
+use Rattle.memory_desc.specs.declared.content.Subject.{Subject}
+use Rattle.memory_desc.specs.declared.content.Subject.TheVariants.{Version, Name, Words, Bits, Row, Backgrounds}
+use Rattle.memory_desc.specs.declared.fault.MemoryFault.{MemoryFault}
+use Rattle.memory_desc.specs.declared.fault.MemoryFault.TheVariants.{OutOfRange}
+
+-- ---- what is found
+
+found_step : {X : Type 0} (p q : X → Bool) (x y : X) (r o : Option X) → (r ≡ None → o ≡ Some x → p x ≡ false) → (s t : Bool) → p y ≡ s
+    → cond s (Some y) r ≡ None → cond t (Some y) o ≡ Some x → p x ≡ false
+found_step p q x y r o f true t e a b = (let z : ⊥ = cc in absurd z)
+found_step p q x y r o f false true e a b = (let z : y ≡ x = cc in ap p (sym z) ∙ e)
+found_step p q x y r o f false false e a b = f a b
+
+-- nothing passes a test, so what passes another doesn't pass it
+found_fails : {X : Type 0} (p q : X → Bool) (xs : List X) (x : X) → find p xs ≡ None → find q xs ≡ Some x → p x ≡ false
+found_fails p q [] x a b = (let z : ⊥ = cc in absurd z)
+found_fails p q (y ∷ xs) x a b = found_step p q x y (find p xs) (find q xs) (found_fails p q xs x) (p y) (q y) refl a b
+
+passes_step : {X : Type 0} (q : X → Bool) (x y : X) (o : Option X) → (o ≡ Some x → q x ≡ true) → (t : Bool) → q y ≡ t → cond t (Some y) o ≡ Some x → q x ≡ true
+passes_step q x y o f true e b = (let z : y ≡ x = cc in ap q (sym z) ∙ e)
+passes_step q x y o f false e b = f b
+
+found_passes : {X : Type 0} (q : X → Bool) (xs : List X) (x : X) → find q xs ≡ Some x → q x ≡ true
+found_passes q [] x b = (let z : ⊥ = cc in absurd z)
+found_passes q (y ∷ xs) x b = passes_step q x y (find q xs) (found_passes q xs x) (q y) refl b
+
+at_line_none : (f : ℕ → MemoryFault) (o : Option Statement) → at_line f o ≡ None → o ≡ None
+at_line_none f None e = refl
+at_line_none f (Some s) e = (let z : ⊥ = cc in absurd z)
+
+-- ---- the statement of a line
+
+-- a line stands at a statement about q
+pub record Stated (q : Subject) (ss : List Statement) (text : List ℕ) : Type 0 where
+  pub statement : Statement
+  pub found : about q ss ≡ Some statement
+  pub same : is_same q (subject statement.content) ≡ true
+  pub written : ContentText text statement.content
+
+stated_by : (q : Subject) (ss : List Statement) (l : Line) (o : Option Statement) → about q ss ≡ o → StandsAt (Some l) o → Stated q ss l.text.now
+stated_by q ss l None e h = absurd h
+stated_by q ss l (Some s) e h = record { statement = s; found = e; same = found_passes (is_about q) ss s e; written = h.1 }
+
+pub stated : (q : Subject) (ss : List Statement) (l : Line) → StandsAt (Some l) (about q ss) → Stated q ss l.text.now
+stated q ss l h = stated_by q ss l (about q ss) refl h
+
+-- what is written on the line, and what the statements say of q
+pub record Says (q : Subject) (ss : List Statement) (text : List ℕ) (c : Content) : Type 0 where
+  pub said_is : said q ss ≡ Some c
+  pub written : ContentText text c
+
+pub says : (q : Subject) (ss : List Statement) (text : List ℕ) (r : Stated q ss text) → Says q ss text r.statement.content
+says q ss text r = record { said_is = ap content_of r.found; written = r.written }
+
+of_row : (bit : ℕ) (c : Content) → is_same (Row bit) (subject c) ≡ true → (i : List ℕ) × (ts : List Term) × (c ≡ scramble i ts)
+of_row bit (version ds) e = (let z : ⊥ = cc in absurd z)
+of_row bit (name b) e = (let z : ⊥ = cc in absurd z)
+of_row bit (words ds) e = (let z : ⊥ = cc in absurd z)
+of_row bit (bits ds) e = (let z : ⊥ = cc in absurd z)
+of_row bit (scramble i ts) e = (i, ts, refl)
+of_row bit log e = (let z : ⊥ = cc in absurd z)
+of_row bit (backgrounds ws) e = (let z : ⊥ = cc in absurd z)
+
+pub row_stated : (bit : ℕ) (ss : List Statement) (text : List ℕ) → Stated (Row bit) ss text → (i : List ℕ) × (ts : List Term) × Says (Row bit) ss text (scramble i ts)
+row_stated bit ss text r = let c = of_row bit r.statement.content r.same in (c.0, c.1, subst (Says (Row bit) ss text) c.2 (says (Row bit) ss text r))
+
+of_name : (c : Content) → is_same Name (subject c) ≡ true → (b : List ℕ) × (c ≡ name b)
+of_name (version ds) e = (let z : ⊥ = cc in absurd z)
+of_name (name b) e = (b, refl)
+of_name (words ds) e = (let z : ⊥ = cc in absurd z)
+of_name (bits ds) e = (let z : ⊥ = cc in absurd z)
+of_name (scramble i ts) e = (let z : ⊥ = cc in absurd z)
+of_name log e = (let z : ⊥ = cc in absurd z)
+of_name (backgrounds ws) e = (let z : ⊥ = cc in absurd z)
+
+pub name_stated : (ss : List Statement) (text : List ℕ) → Stated Name ss text → (b : List ℕ) × Says Name ss text (name b)
+name_stated ss text r = let c = of_name r.statement.content r.same in (c.0, subst (Says Name ss text) c.1 (says Name ss text r))
+
+of_words : (c : Content) → is_same Words (subject c) ≡ true → (ds : List ℕ) × (c ≡ words ds)
+of_words (version ds) e = (let z : ⊥ = cc in absurd z)
+of_words (name b) e = (let z : ⊥ = cc in absurd z)
+of_words (words ds) e = (ds, refl)
+of_words (bits ds) e = (let z : ⊥ = cc in absurd z)
+of_words (scramble i ts) e = (let z : ⊥ = cc in absurd z)
+of_words log e = (let z : ⊥ = cc in absurd z)
+of_words (backgrounds ws) e = (let z : ⊥ = cc in absurd z)
+
+pub words_stated : (ss : List Statement) (text : List ℕ) → Stated Words ss text → (ds : List ℕ) × Says Words ss text (words ds)
+words_stated ss text r = let c = of_words r.statement.content r.same in (c.0, subst (Says Words ss text) c.1 (says Words ss text r))
+
+of_bits : (c : Content) → is_same Bits (subject c) ≡ true → (ds : List ℕ) × (c ≡ bits ds)
+of_bits (version ds) e = (let z : ⊥ = cc in absurd z)
+of_bits (name b) e = (let z : ⊥ = cc in absurd z)
+of_bits (words ds) e = (let z : ⊥ = cc in absurd z)
+of_bits (bits ds) e = (ds, refl)
+of_bits (scramble i ts) e = (let z : ⊥ = cc in absurd z)
+of_bits log e = (let z : ⊥ = cc in absurd z)
+of_bits (backgrounds ws) e = (let z : ⊥ = cc in absurd z)
+
+pub bits_stated : (ss : List Statement) (text : List ℕ) → Stated Bits ss text → (ds : List ℕ) × Says Bits ss text (bits ds)
+bits_stated ss text r = let c = of_bits r.statement.content r.same in (c.0, subst (Says Bits ss text) c.1 (says Bits ss text r))
+
+pub of_backgrounds : (c : Content) → is_same Backgrounds (subject c) ≡ true → kind_of c ≡ BackgroundsKey
+of_backgrounds (version ds) e = (let z : ⊥ = cc in absurd z)
+of_backgrounds (name b) e = (let z : ⊥ = cc in absurd z)
+of_backgrounds (words ds) e = (let z : ⊥ = cc in absurd z)
+of_backgrounds (bits ds) e = (let z : ⊥ = cc in absurd z)
+of_backgrounds (scramble i ts) e = (let z : ⊥ = cc in absurd z)
+of_backgrounds log e = refl
+of_backgrounds (backgrounds ws) e = refl
+
+unstated_by : (o : Option Statement) → StandsAt None o → content_of o ≡ None
+unstated_by None h = refl
+unstated_by (Some s) h = absurd h
+
+-- no line stands at q
+pub unstated : (q : Subject) (ss : List Statement) → StandsAt None (about q ss) → said q ss ≡ None
+unstated q ss h = unstated_by (about q ss) h
+
+-- ---- what passed a check
+
+found_of : (q : Subject) (ss : List Statement) (c : Content) (p : Statement → Bool) (o : Option Statement) → about q ss ≡ o → content_of o ≡ Some c → find p ss ≡ None
+    → (s : Statement) × (p s ≡ false) × (s.content ≡ c)
+found_of q ss c p None e h n = (let z : ⊥ = cc in absurd z)
+found_of q ss c p (Some s) e h n = (s, found_fails p (is_about q) ss s n e, (let z : s.content ≡ c = cc in z))
+
+checked_content : (q : Subject) (ss : List Statement) (c : Content) (p : Content → Bool) → said q ss ≡ Some c → find (λ s. p s.content) ss ≡ None → p c ≡ false
+checked_content q ss c p h n = let r = found_of q ss c (λ s. p s.content) (about q ss) refl h n in ap p (sym r.2) ∙ r.1
+
+pub within : (ss : List Statement) (width size : ℕ) (q : Subject) (c : Content) → past ss width size ≡ None → said q ss ≡ Some c → is_past width size c ≡ false
+within ss width size q c n h = checked_content q ss c (is_past width size) h (at_line_none (λ k. OutOfRange k) (find (λ s. is_past width size s.content) ss) n)
+
+pub in_range : (ss : List Statement) (q : Subject) (c : Content) → out_of_range ss ≡ None → said q ss ≡ Some c → is_out_of_range c ≡ false
+in_range ss q c n h = checked_content q ss c is_out_of_range h (at_line_none (λ k. OutOfRange k) (find (λ s. is_out_of_range s.content) ss) n)

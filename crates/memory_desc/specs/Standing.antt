@@ -1,0 +1,97 @@
+-- What parts of the reader answer, said of the statements of the text.
+use Rattle.std.specs.Prelude.{◌≡◌, ◌<◌, ℕ, Bool, true, false, List, [], ◌∷◌, length, take, Option, Some, None, Result, Ok, Err, bit_or, max}
+use Rattle.std.specs.Str.Parse.{digits_value}
+use Rattle.bist_text.specs.declared.text_lines.Line.{Line}
+use Rattle.scrambler.specs.declared.matrix.Matrix.{Matrix}
+use Rattle.scrambler.specs.Scrambling.{matrix_of}
+use Rattle.memory_desc.specs.LineText.{Term, index_bit, constant, Content, words, bits, version, scramble, log, ContentText}
+use Rattle.memory_desc.specs.Statements.{Statement}
+use Rattle.memory_desc.specs.Subjects.{subject, about, said}
+use Rattle.memory_desc.specs.Values.{index_bits, constant_of, word_values, matrix_said, AreBackgrounds}
+use Rattle.memory_desc.specs.Table.{missing, missing_row, Unless, too_many, hollow}
+use Rattle.memory_desc.specs.declared.content.Subject.{Subject}
+use Rattle.memory_desc.specs.declared.content.Subject.TheVariants.{Row as BitRow}
+use Rattle.memory_desc.specs.declared.content.Row.{Row}
+use Rattle.memory_desc.specs.declared.content.Words.{Words}
+use Rattle.memory_desc.specs.declared.fault.Field.{Field}
+use Rattle.memory_desc.specs.declared.fault.Field.TheVariants.{Row as RowField}
+use Rattle.memory_desc.specs.declared.fault.MemoryFault.{MemoryFault}
+
+-- ---- what a line says
+
+-- the digits of a line with a number
+abbrev pub digits_in : Content → Option (List ℕ)
+digits_in (version ds) = Some ds
+digits_in (words ds) = Some ds
+digits_in (bits ds) = Some ds
+digits_in other = None
+
+abbrev pub is_log : Content → Bool
+is_log log = true
+is_log other = false
+
+abbrev pub subject_in : Option Content → Option Subject
+subject_in None = None
+subject_in (Some c) = Some (subject c)
+
+-- the greatest index bit that is named
+abbrev pub highest_of : List Term → ℕ
+highest_of [] = 0
+highest_of (index_bit ds ∷ ts) = max (digits_value 10 ds) (highest_of ts)
+highest_of (constant b ∷ ts) = highest_of ts
+
+-- a row is read as these terms
+pub record IsRow (i : List ℕ) (ts : List Term) (row : Row) : Type 0 where
+  pub bit : row.bit ≡ digits_value 10 i
+  pub highest : row.highest ≡ highest_of ts
+  pub names : highest_of ts < 16 → row.names ≡ index_bits ts
+  pub constant : row.constant ≡ constant_of ts
+
+-- each bit that some word has
+abbrev pub union_of : List ℕ → ℕ
+union_of [] = 0
+union_of (w ∷ ws) = bit_or w (union_of ws)
+
+-- words are read: the first eight, how many there are, and each bit that some have
+pub record AreWords (ws : List (List ℕ)) (r : Words) : Type 0 where
+  pub first : r.first.items ≡ take 8 (word_values ws)
+  pub count : r.count ≡ length ws
+  pub union : r.union ≡ union_of (word_values ws)
+
+-- ---- what the lines say
+
+-- the line of a statement
+abbrev pub StandsAt : Option Line → Option Statement → Type 0
+StandsAt None None = Unit {0}
+StandsAt (Some l) (Some s) = (l.number ≡ s.line) × ContentText l.text.now s.content
+StandsAt other s = ⊥
+
+-- a check: the refusal, where there is one
+abbrev pub checked : Option MemoryFault → Result (Unit {0}) MemoryFault
+checked None = Ok tt
+checked (Some fault) = Err fault
+
+-- the line of a field that must be there
+abbrev pub GivesField : List Statement → Subject → Field → Result Line MemoryFault → Type 0
+GivesField ss q field (Ok l) = StandsAt (Some l) (about q ss)
+GivesField ss q field (Err fault) = missing q field ss ≡ Some fault
+
+-- the row of a bit of the address, which must be there
+abbrev pub GivesRow : List Statement → ℕ → Result Row MemoryFault → Type 0
+GivesRow ss bit (Ok row) = (i : List ℕ) × (ts : List Term) × (said (BitRow bit) ss ≡ Some (scramble i ts)) × IsRow i ts row
+GivesRow ss bit (Err fault) = missing (BitRow bit) (RowField bit) ss ≡ Some fault
+
+-- the rows of the address, each of which must be there
+abbrev pub GivesMatrix : List Statement → ℕ → Result Matrix MemoryFault → Type 0
+GivesMatrix ss width (Ok m) = (missing_row ss width ≡ None) × (matrix_of m.width m.rows m.constant ≡ matrix_said ss width)
+GivesMatrix ss width (Err fault) = missing_row ss width ≡ Some fault
+
+-- ---- backgrounds
+
+-- a set of at most 8 backgrounds of which one is 0, or the refusal
+abbrev pub Keeps : List ℕ → Result (List ℕ) MemoryFault → Type 0
+Keeps set r = Unless (too_many set) r (Unless (hollow set) r (r ≡ Ok set))
+
+-- the backgrounds for words of so many bits, where this is said of them
+abbrev pub Chooses : Option Content → ℕ → Result (List ℕ) MemoryFault → Type 0
+Chooses c size r = (set : List ℕ) × AreBackgrounds c size set × Keeps set r

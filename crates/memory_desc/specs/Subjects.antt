@@ -1,0 +1,40 @@
+-- What statements speak of, and the statements about something.
+use Rattle.std.specs.Prelude.{ℕ, ◌==◌, Bool, true, false, List, Option, Some, None, find}
+use Rattle.std.specs.Str.Parse.{digits_value}
+use Rattle.memory_desc.specs.LineText.{Content, version, name, words, bits, scramble, log, backgrounds}
+use Rattle.memory_desc.specs.Statements.{Statement}
+use Rattle.memory_desc.specs.declared.content.Subject.{Subject}
+use Rattle.memory_desc.specs.declared.content.Subject.TheVariants.{Version, Name, Words, Bits, Row, Backgrounds}
+
+abbrev pub subject : Content → Subject
+subject (version ds) = Version
+subject (name b) = Name
+subject (words ds) = Words
+subject (bits ds) = Bits
+subject (scramble i ts) = Row (digits_value 10 i)
+subject log = Backgrounds
+subject (backgrounds ws) = Backgrounds
+
+abbrev pub is_same : Subject → Subject → Bool
+is_same Version Version = true
+is_same Name Name = true
+is_same Words Words = true
+is_same Bits Bits = true
+is_same (Row i) (Row j) = i == j
+is_same Backgrounds Backgrounds = true
+is_same q r = false
+
+abbrev pub is_about : Subject → Statement → Bool
+is_about q s = is_same q (subject s.content)
+
+-- the first statement about something
+abbrev pub about : Subject → List Statement → Option Statement
+about q ss = find (is_about q) ss
+
+abbrev pub content_of : Option Statement → Option Content
+content_of None = None
+content_of (Some s) = Some s.content
+
+-- what the first statement about something says
+abbrev pub said : Subject → List Statement → Option Content
+said q ss = content_of (about q ss)

@@ -1,0 +1,74 @@
+-- The values that a description's statements give.
+use Rattle.std.specs.Prelude.{◌≡◌, ℕ, zero, suc, ◌+◌, ◌^◌, ◌==◌, Bool, true, false, not, if◌then◌else◌, List, [], ◌∷◌, ◌++◌, Option, Some, None, map, bit_xor, bit_or, max}
+use Rattle.std.specs.Int.{from_bool}
+use Rattle.std.specs.Str.Parse.{digits_value}
+use Rattle.backgrounds.specs.Backgrounds.{IsLogSet}
+use Rattle.scrambler.specs.Linear.{number}
+use Rattle.scrambler.specs.Scrambling.{Scrambling}
+use Rattle.memory_desc.specs.LineText.{Term, index_bit, constant, Content, name, words, bits, scramble, log, backgrounds}
+use Rattle.memory_desc.specs.Statements.{Statement}
+use Rattle.memory_desc.specs.Subjects.{said}
+use Rattle.memory_desc.specs.declared.content.Subject.TheVariants.{Name, Words, Bits, Row, Backgrounds}
+
+-- ---- names and numbers
+
+abbrev pub number_in : Option Content → ℕ
+number_in (Some (words ds)) = digits_value 10 ds
+number_in (Some (bits ds)) = digits_value 10 ds
+number_in other = 0
+
+abbrev pub name_in : Option Content → List ℕ
+name_in (Some (name b)) = b
+name_in other = []
+
+abbrev pub name_said : List Statement → List ℕ
+name_said ss = name_in (said Name ss)
+
+abbrev pub words_said : List Statement → ℕ
+words_said ss = number_in (said Words ss)
+
+abbrev pub bits_said : List Statement → ℕ
+bits_said ss = number_in (said Bits ss)
+
+-- ---- rows
+
+-- the exclusive or of the index bits that terms name: equal terms cancel
+abbrev pub index_bits : List Term → ℕ
+index_bits [] = 0
+index_bits (index_bit ds ∷ ts) = bit_xor (2 ^ digits_value 10 ds) (index_bits ts)
+index_bits (constant b ∷ ts) = index_bits ts
+
+-- the exclusive or of the constants
+abbrev pub constant_of : List Term → Bool
+constant_of [] = false
+constant_of (index_bit ds ∷ ts) = constant_of ts
+constant_of (constant true ∷ ts) = not (constant_of ts)
+constant_of (constant false ∷ ts) = constant_of ts
+
+abbrev pub terms_in : Option Content → List Term
+terms_in (Some (scramble i ts)) = ts
+terms_in other = []
+
+-- the terms of a row
+abbrev pub terms_said : List Statement → ℕ → List Term
+terms_said ss i = terms_in (said (Row i) ss)
+
+-- the first n rows
+abbrev pub rows_said : List Statement → ℕ → List ℕ
+rows_said ss zero = []
+rows_said ss (suc n) = rows_said ss n ++ index_bits (terms_said ss n) ∷ []
+
+-- the matrix and the constants of the rows
+abbrev pub matrix_said : List Statement → ℕ → Scrambling
+matrix_said ss width =
+    record { width = width; rows = rows_said ss width; constant = number (λ i. from_bool (constant_of (terms_said ss i))) width }
+
+-- ---- backgrounds
+
+abbrev pub word_values : List (List ℕ) → List ℕ
+word_values ws = map (digits_value 16) ws
+
+-- the words that are listed, or the logarithmic set
+abbrev pub AreBackgrounds : Option Content → ℕ → List ℕ → Type 0
+AreBackgrounds (Some (backgrounds ws)) size set = set ≡ word_values ws
+AreBackgrounds other size set = IsLogSet size set

@@ -1,0 +1,160 @@
+//! Searches in the lines of a text that are all lines of a description.
+
+ghost use Rattle.std.specs.Prelude.{◌≡◌, ◌≤◌, ◌||◌, nat_lt, false, List, None};
+ghost use Rattle.bist_text.specs.Lines.{text_lines};
+ghost use Rattle.memory_desc.specs.LineText.{Content, ContentText, LineText};
+ghost use Rattle.memory_desc.specs.Statements.{Statement, Say};
+ghost use Rattle.memory_desc.specs.Subjects.{subject, is_same, about};
+ghost use Rattle.memory_desc.specs.Table.{is_repeat, is_out_of_range, is_past, is_row, is_scrambled, repeated, out_of_range, past};
+ghost use Rattle.memory_desc.specs.Standing.{StandsAt, GivesField, checked};
+
+use crate::content::{Subject, is_log, name_of, number_of, row_of, subject_of, words_of};
+use crate::fault::{Field, MemoryFault};
+use crate::names::is_free;
+use bist_bits::all_ones;
+use bist_text::{Line, Lines};
+
+/// Whether a line is about something.
+fn is_about(text: &[u8], wanted: Subject) -> bool
+    ensures content { (c : Content) → ContentText text.now c → result ≡ is_same wanted (subject c) }
+    ensures none { LineText text.now None → result ≡ false }
+{
+    subject_of(text) == Some(wanted)
+}
+
+/// The first line about something.
+pub fn line_about<'a>(bytes: &'a [u8], wanted: Subject) -> Option<Line<'a>>
+    ensures { (ss : List Statement) → Say (text_lines bytes.now) ss → StandsAt result (about wanted ss) }
+{
+    for line in Lines::new(bytes) {
+        if is_about(line.text, wanted) {
+            return Some(line);
+        }
+    }
+    None
+}
+
+/// The line of a field that must be there.
+pub fn field<'a>(bytes: &'a [u8], wanted: Subject, field: Field) -> Result<Line<'a>, MemoryFault>
+    ensures { (ss : List Statement) → Say (text_lines bytes.now) ss → GivesField ss wanted field result }
+{
+    line_about(bytes, wanted).ok_or(MemoryFault::Missing { field })
+}
+
+/// Whether an earlier line speaks of the same.
+fn is_repeat(bytes: &[u8], line: &Line<'_>) -> bool
+    ensures content { (ss : List Statement) (c : Content) → Say (text_lines bytes.now) ss → ContentText line.now.text.now c
+        → result ≡ is_repeat ss (record { line = line.now.number; content = c }) }
+    ensures none { LineText line.now.text.now None → result ≡ false }
+{
+    let Some(wanted) = subject_of(line.text) else {
+        return false;
+    };
+    match line_about(bytes, wanted) {
+        Some(first) => first.number != line.number,
+        None => false,
+    }
+}
+
+/// No line may speak of what an earlier one speaks of.
+pub fn check_repeats(bytes: &[u8]) -> Result<(), MemoryFault>
+    ensures { (ss : List Statement) → Say (text_lines bytes.now) ss → result ≡ checked (repeated ss) }
+{
+    for line in Lines::new(bytes) {
+        if is_repeat(bytes, &line) {
+            return Err(MemoryFault::Repeated { line: line.number });
+        }
+    }
+    Ok(())
+}
+
+fn is_outside(value: u32, least: u32, most: u32) -> bool
+    ensures { result ≡ (nat_lt value least || nat_lt most value) }
+{
+    value < least || value > most
+}
+
+/// Whether a line's name, number of words or number of bits is outside its range.
+fn is_out_of_range(text: &[u8]) -> bool
+    ensures content { (c : Content) → ContentText text.now c → result ≡ is_out_of_range c }
+    ensures none { LineText text.now None → result ≡ false }
+{
+    let Some(subject) = subject_of(text) else {
+        return false;
+    };
+    match subject {
+        Subject::Name => !is_free(name_of(text)),
+        Subject::Words => is_outside(number_of(text), 2, 65536),
+        Subject::Bits => is_outside(number_of(text), 1, 64),
+        _ => false,
+    }
+}
+
+/// Names, numbers of words and numbers of bits stay within their ranges.
+pub fn check_ranges(bytes: &[u8]) -> Result<(), MemoryFault>
+    ensures { (ss : List Statement) → Say (text_lines bytes.now) ss → result ≡ checked (out_of_range ss) }
+{
+    for line in Lines::new(bytes) {
+        if is_out_of_range(line.text) {
+            return Err(MemoryFault::OutOfRange { line: line.number });
+        }
+    }
+    Ok(())
+}
+
+/// Whether a line is a row.
+fn is_row(text: &[u8]) -> bool
+    ensures content { (c : Content) → ContentText text.now c → result ≡ is_row c }
+    ensures none { LineText text.now None → result ≡ false }
+{
+    let Some(subject) = subject_of(text) else {
+        return false;
+    };
+    matches!(subject, Subject::Row(_))
+}
+
+/// Whether there is a row.
+pub fn is_scrambled(bytes: &[u8]) -> bool
+    ensures { (ss : List Statement) → Say (text_lines bytes.now) ss → result ≡ is_scrambled ss }
+{
+    for line in Lines::new(bytes) {
+        if is_row(line.text) {
+            return true;
+        }
+    }
+    false
+}
+
+/// Whether a row goes past the address, or a background past the word.
+fn is_past(text: &[u8], width: u8, bits: u8) -> bool
+    requires width { 1 ≤ width }
+    requires bits { (1 ≤ bits) × (bits ≤ 64) }
+    ensures content { (c : Content) → ContentText text.now c → result ≡ is_past width bits c }
+    ensures none { LineText text.now None → result ≡ false }
+{
+    let Some(subject) = subject_of(text) else {
+        return false;
+    };
+    match subject {
+        Subject::Row(_) => {
+            let row = row_of(text);
+            row.bit.max(row.highest) >= u32::from(width)
+        }
+        Subject::Backgrounds => !is_log(text) && words_of(text).union > all_ones(bits),
+        _ => false,
+    }
+}
+
+/// Rows stay within the address, and backgrounds within the word.
+pub fn check_widths(bytes: &[u8], width: u8, bits: u8) -> Result<(), MemoryFault>
+    requires width { 1 ≤ width }
+    requires bits { (1 ≤ bits) × (bits ≤ 64) }
+    ensures { (ss : List Statement) → Say (text_lines bytes.now) ss → result ≡ checked (past ss width bits) }
+{
+    for line in Lines::new(bytes) {
+        if is_past(line.text, width, bits) {
+            return Err(MemoryFault::OutOfRange { line: line.number });
+        }
+    }
+    Ok(())
+}
