@@ -1,5 +1,5 @@
 -- The backgrounds that are chosen, and that they serve a memory.
-use Rattle.std.proofs.Common.{◌≡◌, ℕ, zero, suc, ◌+◌, ◌^◌, ◌<◌, ◌≤◌, ◌==◌, ◌||◌, Bool, true, false, List, [], ◌∷◌, length, map, take, get_or, slice_index, Option, Some, None, Result, Ok, Err, refl, sym, ◌∙◌, ap, subst, arith, inl, inr}
+use Rattle.std.proofs.Common.{◌≡◌, ℕ, zero, suc, ◌^◌, ◌<◌, ◌≤◌, ◌==◌, Bool, true, false, List, [], ◌∷◌, length, take, get_or, slice_index, Option, Some, None, Result, Ok, Err, refl, sym, ◌∙◌, subst, arith, inl, inr}
 use Rattle.std.specs.Prelude.{nat_le, nat_lt, Contains, IfOk, MatchResult}
 use Rattle.std.specs.List.{list_any}
 use Rattle.std.specs.Str.Parse.{digits_value}
@@ -12,7 +12,7 @@ use Rattle.memory_desc.specs.Standing.{Keeps, Chooses, StandsAt, is_log}
 use Rattle.memory_desc.specs.Statements.{Statement}
 use Rattle.memory_desc.specs.Subjects.{about, said}
 use Rattle.memory_desc.specs.Table.{Unless, too_many, hollow, is_past, past, Tests}
-use Rattle.memory_desc.specs.Values.{word_values, AreBackgrounds, bits_said}
+use Rattle.memory_desc.specs.Values.{word_values, bits_said}
 use Rattle.memory_desc.specs.declared.line_place.Key.TheVariants.{Backgrounds as BackgroundsKey}
 use Rattle.memory_desc.specs.declared.content.Subject.TheVariants.{Backgrounds}
 use Rattle.memory_desc.specs.declared.fault.MemoryFault.{MemoryFault}

@@ -1,5 +1,5 @@
 -- What a text is read as, from what its lines and its statements gave.
-use Rattle.std.proofs.Common.{◌≡◌, ◌↔◌, ◌⊎◌, ℕ, List, Result, Ok, Err, refl, sym, ◌∙◌, ap, subst, inl, inr}
+use Rattle.std.proofs.Common.{◌≡◌, ◌↔◌, ℕ, List, Result, Ok, Err, subst, inl, inr}
 use Rattle.bist_text.specs.Lines.{text_lines}
 use Rattle.memory_desc.specs.Descriptions.{Description}
 use Rattle.memory_desc.specs.LineFaults.{AreRefused}

@@ -1,5 +1,5 @@
 -- The rows of the scrambling, one after another.
-use Rattle.std.proofs.Common.{◌≡◌, ℕ, zero, suc, ◌+◌, ◌-◌, ◌*◌, ◌%◌, ◌^◌, ◌<◌, ◌≤◌, ◌||◌, Bool, true, false, List, [], ◌∷◌, ◌++◌, length, take, slice_set, replicate, Option, Some, None, Result, Ok, Err, refl, sym, ◌∙◌, ap, subst, arith, bit_and, bit_or, bit_xor, max, inl, inr, add-one, lit<}
+use Rattle.std.proofs.Common.{◌≡◌, ℕ, zero, suc, ◌+◌, ◌-◌, ◌*◌, ◌%◌, ◌^◌, ◌<◌, ◌≤◌, Bool, true, false, List, [], ◌∷◌, ◌++◌, length, take, slice_set, replicate, Option, Some, None, Ok, refl, sym, ◌∙◌, ap, subst, arith, bit_and, bit_or, inl, inr, add-one, lit<}
 use Rattle.std.proofs.Math.Pow.{pow-lt, pow_pos}
 use Rattle.std.proofs.Math.Nat.{mod-eq_of_lt}
 use Rattle.std.proofs.Math.Path.{ap₂}
@@ -16,8 +16,8 @@ use Rattle.scrambler.proofs.Steps.{product_begun, product_more}
 use Rattle.bist_text.specs.Lines.{TextLine}
 use Rattle.memory_desc.specs.LineText.{Content, Term, index_bit, constant, scramble}
 use Rattle.memory_desc.specs.Statements.{Statement, Say}
-use Rattle.memory_desc.specs.Subjects.{about, said, content_of}
-use Rattle.memory_desc.specs.Standing.{IsRow, GivesRow, highest_of}
+use Rattle.memory_desc.specs.Subjects.{about, content_of}
+use Rattle.memory_desc.specs.Standing.{GivesRow, highest_of}
 use Rattle.memory_desc.specs.Table.{is_term_past, past, missing, missing_row, first_refusal, unless_there}
 use Rattle.memory_desc.specs.Values.{index_bits, constant_of, terms_said, terms_in, rows_said, matrix_said}
 use Rattle.memory_desc.specs.declared.content.Row.{Row}

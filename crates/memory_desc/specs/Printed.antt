@@ -35,6 +35,15 @@ joined [] = []
 joined (t ∷ []) = t
 joined (t ∷ u ∷ ts) = t ++ (codes " ^ " ++ joined (u ∷ ts))
 
+-- what stands before a term: nothing if it is the first
+abbrev pub separator : Bool → List ℕ
+separator true = []
+separator false = codes " ^ "
+
+-- a term, behind those before it
+abbrev pub term_after : Bool → List ℕ → List ℕ
+term_after first t = separator first ++ t
+
 -- the terms of a row: its index bits, and 1 where its constant is 1
 abbrev pub row_terms : ℕ → ℕ → ℕ → List (List ℕ)
 row_terms names constant width = index_terms names width ++ (if constant == 1 then (49 ∷ []) ∷ [] else [])

@@ -1,5 +1,5 @@
 -- What the lines of a description say.
-use Rattle.std.specs.Prelude.{◌≡◌, ℕ, ◌++◌, ◌∷◌, [], List, Option, Some, None, length}
+use Rattle.std.specs.Prelude.{◌≡◌, ℕ, ◌++◌, ◌∷◌, [], List, Option, Some, None}
 use Rattle.std.specs.Str.Parse.{digits_value}
 use Rattle.bist_text.specs.Lines.{TextLine}
 use Rattle.memory_desc.specs.LineText.{Content, version, LineText}

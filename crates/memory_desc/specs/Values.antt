@@ -1,14 +1,14 @@
 -- The values that a description's statements give.
-use Rattle.std.specs.Prelude.{◌≡◌, ℕ, zero, suc, ◌+◌, ◌^◌, ◌==◌, Bool, true, false, not, if◌then◌else◌, List, [], ◌∷◌, ◌++◌, Option, Some, None, map, bit_xor, bit_or, max}
+use Rattle.std.specs.Prelude.{◌≡◌, ℕ, zero, suc, ◌^◌, Bool, true, false, not, List, [], ◌∷◌, ◌++◌, Option, Some, map, bit_xor}
 use Rattle.std.specs.Int.{from_bool}
 use Rattle.std.specs.Str.Parse.{digits_value}
 use Rattle.backgrounds.specs.Backgrounds.{IsLogSet}
 use Rattle.scrambler.specs.Linear.{number}
 use Rattle.scrambler.specs.Scrambling.{Scrambling}
-use Rattle.memory_desc.specs.LineText.{Term, index_bit, constant, Content, name, words, bits, scramble, log, backgrounds}
+use Rattle.memory_desc.specs.LineText.{Term, index_bit, constant, Content, name, words, bits, scramble, backgrounds}
 use Rattle.memory_desc.specs.Statements.{Statement}
 use Rattle.memory_desc.specs.Subjects.{said}
-use Rattle.memory_desc.specs.declared.content.Subject.TheVariants.{Name, Words, Bits, Row, Backgrounds}
+use Rattle.memory_desc.specs.declared.content.Subject.TheVariants.{Name, Words, Bits, Row}
 
 -- ---- names and numbers
 

@@ -1,7 +1,9 @@
 //! The printer of memory descriptions.
 
-ghost use Rattle.std.specs.Prelude.{◌≡◌, ◌+◌, ◌<◌, ◌≤◌, ◌^◌, ◌++◌, ◌∷◌, [], All, OnOk, IfOk};
-ghost use Rattle.memory_desc.specs.Printed.{number_line, name_line, size_lines, background_texts, head_lines};
+ghost use Rattle.std.specs.Prelude.{◌≡◌, ◌+◌, ◌<◌, ◌≤◌, ◌^◌, ◌++◌, ◌∷◌, [], All, Ok, OnOk, IfOk, decimal};
+ghost use Rattle.memory_desc.specs.Descriptions.{IsMemory};
+ghost use Rattle.memory_desc.specs.Table.{Reads};
+ghost use Rattle.memory_desc.specs.Printed.{number_line, name_line, size_lines, background_texts, backgrounds_line, head_lines, index_terms, is_none, joined, separator, term_after, row_terms, row_line, row_lines, is_identity, scramble_lines, printed};
 
 use crate::memory::Memory;
 use bist_bits::NoMemory;
@@ -46,33 +48,48 @@ fn put_head(out: &mut Vec<u8>, memory: &Memory) -> Result<(), NoMemory>
     put_size_lines(out, memory.words(), memory.bits())
 }
 
-/// The index bits that a row names; answers whether there are any.
-
-fn put_index_terms(out: &mut Vec<u8>, names: u16, width: u8) -> Result<bool, NoMemory>
-    requires { width ≤ 16 }
+/// What stands between two terms, and nothing before the first.
+fn put_separator(out: &mut Vec<u8>, first: bool) -> Result<(), NoMemory>
+    ensures { OnOk result (out.new.items ≡ out.old.items ++ separator first) }
 {
-    let mut some = false;
-    for j in 0..width {
-        if (names >> j) & 1 == 1 {
-            if some {
-                put(out, b" ^ ")?;
-            }
-            put(out, b"p")?;
-            put_decimal(out, u64::from(j))?;
-            some = true;
-        }
+    if first {
+        return Ok(());
     }
-    Ok(some)
+    put(out, b" ^ ")
 }
 
-fn put_row_terms(out: &mut Vec<u8>, names: u16, constant: bool, width: u8) -> Result<(), NoMemory>
-    requires { width ≤ 16 }
+fn put_index_term(out: &mut Vec<u8>, first: bool, j: u8) -> Result<(), NoMemory>
+    ensures { OnOk result (out.new.items ≡ out.old.items ++ term_after first (112 ∷ decimal j)) }
 {
-    let some = put_index_terms(out, names, width)?;
-    if constant {
-        if some {
-            put(out, b" ^ ")?;
+    put_separator(out, first)?;
+    put(out, b"p")?;
+    put_decimal(out, u64::from(j))
+}
+
+/// The index bits that a row names; answers whether there are none.
+fn put_index_terms(out: &mut Vec<u8>, names: u16, width: u8) -> Result<bool, NoMemory>
+    requires { width ≤ 16 }
+    ensures terms { OnOk result (out.new.items ≡ out.old.items ++ joined (index_terms names width)) }
+    ensures none { IfOk result (λ none. none ≡ is_none (index_terms names width)) }
+{
+    let mut none = true;
+    for j in 0..width {
+        if (names >> j) & 1 == 1 {
+            put_index_term(out, none, j)?;
+            none = false;
         }
+    }
+    Ok(none)
+}
+
+/// The terms of a row, whose constant is 0 or 1.
+fn put_row_terms(out: &mut Vec<u8>, names: u16, constant: u16, width: u8) -> Result<(), NoMemory>
+    requires { width ≤ 16 }
+    ensures { OnOk result (out.new.items ≡ out.old.items ++ joined (row_terms names constant width)) }
+{
+    let none = put_index_terms(out, names, width)?;
+    if constant == 1 {
+        put_separator(out, none)?;
         put(out, b"1")?;
     }
     Ok(())
@@ -80,18 +97,30 @@ fn put_row_terms(out: &mut Vec<u8>, names: u16, constant: bool, width: u8) -> Re
 
 fn put_row(out: &mut Vec<u8>, scramble: &Scramble, i: u8) -> Result<(), NoMemory>
     requires { i < scramble.now.width }
+    ensures { OnOk result (out.new.items ≡ out.old.items ++ row_line scramble.now i) }
 {
     put(out, b"scramble a")?;
     put_decimal(out, u64::from(i))?;
     put(out, b" = ")?;
     let width = scramble.width();
-    let constant = (scramble.constant() >> i) & 1 == 1;
+    let constant = (scramble.constant() >> i) & 1;
     put_row_terms(out, scramble.row(i), constant, width)?;
     put(out, b"\n")
 }
 
+fn put_rows(out: &mut Vec<u8>, scramble: &Scramble) -> Result<(), NoMemory>
+    ensures { OnOk result (out.new.items ≡ out.old.items ++ row_lines scramble.now scramble.now.width) }
+{
+    for i in 0..scramble.width() {
+        put_row(out, scramble, i)?;
+    }
+    Ok(())
+}
+
 /// Whether a scrambling changes nothing.
-fn is_identity(scramble: &Scramble) -> bool {
+fn is_identity(scramble: &Scramble) -> bool
+    ensures { result ≡ is_identity scramble.now }
+{
     if scramble.constant() != 0 {
         return false;
     }
@@ -103,14 +132,13 @@ fn is_identity(scramble: &Scramble) -> bool {
     true
 }
 
-fn put_scramble(out: &mut Vec<u8>, scramble: &Scramble) -> Result<(), NoMemory> {
+fn put_scramble(out: &mut Vec<u8>, scramble: &Scramble) -> Result<(), NoMemory>
+    ensures { OnOk result (out.new.items ≡ out.old.items ++ scramble_lines scramble.now) }
+{
     if is_identity(scramble) {
         return Ok(());
     }
-    for i in 0..scramble.width() {
-        put_row(out, scramble, i)?;
-    }
-    Ok(())
+    put_rows(out, scramble)
 }
 
 /// The backgrounds, each behind a blank, in as many digits as a word needs.
@@ -126,14 +154,34 @@ fn put_background_words(out: &mut Vec<u8>, set: &[u64], bits: u8) -> Result<(), 
     Ok(())
 }
 
-/// The printed form of a memory, which `read_memory` reads back.
-pub fn print_memory(alloc: Global, memory: &Memory) -> Result<Vec<u8>, NoMemory> {
+fn put_backgrounds(out: &mut Vec<u8>, set: &[u64], bits: u8) -> Result<(), NoMemory>
+    requires width { (1 ≤ bits) × (bits ≤ 64) }
+    requires fit { All (λ b. b < 2 ^ bits) set.now }
+    ensures { OnOk result (out.new.items ≡ out.old.items ++ backgrounds_line bits set.now) }
+{
+    put(out, b"backgrounds")?;
+    put_background_words(out, set, bits)?;
+    put(out, b"\n")
+}
+
+/// The printed form.
+fn printed_text(alloc: Global, memory: &Memory) -> Result<Vec<u8>, NoMemory>
+    ensures form { IfOk result (λ out. out.items ≡ printed memory.now) }
+    ensures memory { IfOk result (λ _. IsMemory memory.now) }
+{
     let mut out = Vec::new(alloc);
     put_head(&mut out, memory)?;
     put_scramble(&mut out, memory.scramble())?;
-    put(&mut out, b"backgrounds")?;
     let bits = memory.bits();
-    put_background_words(&mut out, memory.backgrounds(), bits)?;
-    put(&mut out, b"\n")?;
+    put_backgrounds(&mut out, memory.backgrounds(), bits)?;
     Ok(out)
+}
+
+/// The printed form of a memory, which `read_memory` reads back.
+#[tactic(auto, using(crate::proofs::ReadBack::read_back))]
+pub fn print_memory(alloc: Global, memory: &Memory) -> Result<Vec<u8>, NoMemory>
+    ensures form { IfOk result (λ out. out.items ≡ printed memory.now) }
+    ensures read_back { IfOk result (λ out. Reads out.items (Ok memory.now)) }
+{
+    printed_text(alloc, memory)
 }

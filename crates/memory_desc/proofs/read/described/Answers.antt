@@ -1,7 +1,6 @@
-use Rattle.std.proofs.Common.{◌≡◌, ◌-◌, ◌<◌, ◌≤◌, ◌∙◌, ℕ, true, false, None, arith, subst}
+use Rattle.std.proofs.Common.{◌≡◌, ◌-◌, ◌∙◌, ℕ, true, false, arith, subst}
 use Rattle.bist_bits.specs.Width.{IsWidthOf}
-use Rattle.memory_desc.specs.Table.{out_of_range, repeated, Builds}
-use Rattle.memory_desc.specs.Values.{words_said, bits_said}
+use Rattle.memory_desc.specs.Table.{out_of_range, repeated}
 use Rattle.memory_desc.specs.declared.content.Subject.TheVariants.{Name, Words, Bits}
 use Rattle.memory_desc.specs.declared.fault.Field.TheVariants.{Name as NameField, Words as WordsField, Bits as BitsField}
 use Rattle.memory_desc.proofs.Built.{passed}

@@ -1,9 +1,7 @@
 use Rattle.std.proofs.Common.{◌≡◌, ◌-◌, ◌∙◌, ℕ, None, Ok, Err, ap, arith, subst}
 use Rattle.std.proofs.lemmas.Result.{err_from_is_err_and}
 use Rattle.bist_bits.specs.Width.{IsWidthOf}
-use Rattle.memory_desc.specs.Standing.{checked}
 use Rattle.memory_desc.specs.Table.{unscramblable, past}
-use Rattle.memory_desc.specs.Values.{bits_said}
 use Rattle.memory_desc.proofs.Built.{builds_memory, builds_untested, passed}
 use Rattle.memory_desc.proofs.Parts.{width_small}
 use Rattle.memory_desc.proofs.read.memory_of.Goals as goal

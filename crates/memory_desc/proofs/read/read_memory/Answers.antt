@@ -1,4 +1,3 @@
-use Rattle.std.proofs.Common.{◌≡◌, Ok, Err}
 use Rattle.bist_text.specs.Lines.{text_lines}
 use Rattle.memory_desc.specs.LineFaults.{AreRefused}
 use Rattle.memory_desc.specs.declared.fault.MemoryFault.{MemoryFault}

@@ -1,0 +1,128 @@
+-- No line feed stands inside a printed line, and the lines make up the text.
+use Rattle.std.proofs.Common.{◌≡◌, ℕ, zero, suc, ◌+◌, ◌/◌, ◌<◌, Bool, true, false, not, if◌then◌else◌, List, [], ◌∷◌, ◌++◌, ◌∙◌, map, refl, sym, ap, arith, append_assoc, codes}
+use Rattle.std.specs.Prelude.{decimal}
+use Rattle.std.specs.Int.{bit_at}
+use Rattle.std.specs.List.{list_all}
+use Rattle.std.proofs.Math.Nat.{zero-add}
+use Rattle.std.proofs.lemmas.Bool.{and_parts, and_from}
+use Rattle.std.proofs.lemmas.List.Folds.{list_all-append}
+use Rattle.bist_text.specs.Numbers.{hex_digits}
+use Rattle.scrambler.specs.Scrambling.{Scrambling, row}
+use Rattle.memory_desc.specs.Descriptions.{Description}
+use Rattle.memory_desc.specs.Names.{is_digit, is_letter, is_name_byte, is_identifier}
+use Rattle.memory_desc.specs.LineText.{Term, index_bit, constant, is_hex, is_term, term_text}
+use Rattle.memory_desc.specs.Printed.{joined, row_terms, row_line, row_lines, background_texts, backgrounds_line, number_line, size_lines, head_lines, is_identity, printed}
+use Rattle.memory_desc.proofs.LinePieces.{apart}
+use Rattle.memory_desc.proofs.BackDigits.{decimal_digits, hex_digits_hex}
+use Rattle.memory_desc.proofs.BackLines.{is_inside, with_feeds, with_feeds_more}
+
+-- ---- no line feed
+
+inside : (p : ℕ → Bool) → p 10 ≡ false → (b : List ℕ) → list_all p b ≡ true → list_all is_inside b ≡ true
+inside p e [] h = refl
+inside p e (c ∷ b) h =
+    let parts = and_parts (p c) (list_all p b) h in
+    and_from (is_inside c) (list_all is_inside b) (ap not (apart p c 10 parts.0 e)) (inside p e b parts.1)
+
+both : (a b : List ℕ) → list_all is_inside a ≡ true → list_all is_inside b ≡ true → list_all is_inside (a ++ b) ≡ true
+both a b h g = list_all-append is_inside a b ∙ and_from (list_all is_inside a) (list_all is_inside b) h g
+
+pub decimal_inside : (n : ℕ) → n < 1000000000 → list_all is_inside (decimal n) ≡ true
+decimal_inside n h = inside is_digit refl (decimal n) (decimal_digits n h)
+
+pub name_inside : (n : List ℕ) → is_identifier n ≡ true → list_all is_inside n ≡ true
+name_inside [] h = refl
+name_inside (c ∷ b) h =
+    let parts = and_parts (is_letter c) (list_all is_name_byte b) h in
+    and_from (is_inside c) (list_all is_inside b) (ap not (apart is_letter c 10 parts.0 refl)) (inside is_name_byte refl b parts.1)
+
+term_inside : (t : Term) → is_term t ≡ true → list_all is_inside (term_text t) ≡ true
+term_inside (index_bit ds) h = inside is_digit refl ds (and_parts _ _ (and_parts _ _ h).0).0
+term_inside (constant true) h = refl
+term_inside (constant false) h = refl
+
+joined_inside : (ts : List Term) → list_all is_term ts ≡ true → list_all is_inside (joined (map term_text ts)) ≡ true
+joined_inside [] h = refl
+joined_inside (t ∷ []) h = term_inside t (and_parts (is_term t) true h).0
+joined_inside (t ∷ u ∷ ts) h =
+    let parts = and_parts (is_term t) (list_all is_term (u ∷ ts)) h in
+    both (term_text t) (codes " ^ " ++ joined (map term_text (u ∷ ts))) (term_inside t parts.0) (joined_inside (u ∷ ts) parts.1)
+
+pub row_inside : (i : ℕ) (ts : List Term) → i < 1000000000 → list_all is_term ts ≡ true
+    → list_all is_inside (codes "scramble a" ++ (decimal i ++ (codes " = " ++ joined (map term_text ts)))) ≡ true
+row_inside i ts small h = both (decimal i) (codes " = " ++ joined (map term_text ts)) (decimal_inside i small) (joined_inside ts h)
+
+pub backgrounds_inside : (size : ℕ) (set : List ℕ) → list_all is_inside (background_texts size set) ≡ true
+backgrounds_inside size [] = refl
+backgrounds_inside size (w ∷ ws) =
+    both (hex_digits ((size + 3) / 4) w) (background_texts size ws)
+    (inside is_hex refl (hex_digits ((size + 3) / 4) w) (hex_digits_hex ((size + 3) / 4) w)) (backgrounds_inside size ws)
+
+-- ---- the lines
+
+abbrev pub row_written : Scrambling → ℕ → List ℕ
+row_written s i = codes "scramble a" ++ (decimal i ++ (codes " = " ++ joined (row_terms (row s i) (bit_at s.constant i) s.width)))
+
+-- k rows from row i
+abbrev pub texts_from : Scrambling → ℕ → ℕ → List (List ℕ)
+texts_from s i zero = []
+texts_from s i (suc k) = row_written s i ∷ texts_from s (i + 1) k
+
+one_more : (s : Scrambling) (i k : ℕ) → texts_from s i (suc k) ≡ texts_from s i k ++ (row_written s (i + k) ∷ [])
+one_more s i zero = let e : i ≡ i + 0 = omega arith in ap (λ (j : ℕ). row_written s j ∷ []) e
+one_more s i (suc k) =
+    let e : (i + 1) + k ≡ i + suc k = omega arith in
+    ap (λ (t : List (List ℕ)). row_written s i ∷ t) (one_more s (i + 1) k)
+    ∙ ap (λ (j : ℕ). row_written s i ∷ (texts_from s (i + 1) k ++ (row_written s j ∷ []))) e
+
+row_ends : (s : Scrambling) (i : ℕ) → with_feeds (row_written s i ∷ []) ≡ row_line s i
+row_ends s i =
+    ap (λ (t : List ℕ). codes "scramble a" ++ t)
+    (append_assoc (decimal i) (codes " = " ++ joined (row_terms (row s i) (bit_at s.constant i) s.width)) (10 ∷ []))
+
+pub rows_end : (s : Scrambling) (k : ℕ) → with_feeds (texts_from s 0 k) ≡ row_lines s k
+rows_end s zero = refl
+rows_end s (suc k) =
+    ap with_feeds (one_more s 0 k) ∙ with_feeds_more (texts_from s 0 k) (row_written s (0 + k) ∷ [])
+    ∙ ap (λ (t : List ℕ). t ++ with_feeds (row_written s (0 + k) ∷ [])) (rows_end s k)
+    ∙ ap (λ (j : ℕ). row_lines s k ++ with_feeds (row_written s j ∷ [])) (zero-add k)
+    ∙ ap (λ (t : List ℕ). row_lines s k ++ t) (row_ends s k)
+
+-- the lines of the printed form, with k rows
+abbrev pub lines_of : Description → ℕ → List (List ℕ)
+lines_of d k =
+    codes "memory 1" ∷ (codes "name " ++ d.name) ∷ (codes "words " ++ decimal d.words) ∷ (codes "bits " ++ decimal d.bits)
+    ∷ (texts_from d.scramble 0 k ++ ((codes "backgrounds" ++ background_texts d.bits d.backgrounds) ∷ []))
+
+front : (x s r : List ℕ) → (((x ++ (10 ∷ [])) ++ s) ++ r) ≡ x ++ (10 ∷ (s ++ r))
+front x s r = append_assoc (x ++ (10 ∷ [])) s r ∙ append_assoc x (10 ∷ []) (s ++ r)
+
+head_ends : (d : Description) (r : List ℕ) → head_lines d ++ r
+    ≡ codes "memory 1" ++ (10 ∷ (codes "name " ++ (d.name ++ (10 ∷ (codes "words " ++ (decimal d.words ++ (10 ∷ (codes "bits " ++ (decimal d.bits ++ (10 ∷ r))))))))))
+head_ends d r =
+    ap (λ (t : List ℕ). codes "memory 1" ++ (10 ∷ (codes "name " ++ t))) (front d.name (size_lines d.words d.bits) r)
+    ∙ ap (λ (t : List ℕ). codes "memory 1" ++ (10 ∷ (codes "name " ++ (d.name ++ (10 ∷ (codes "words " ++ t))))))
+    (front (decimal d.words) (number_line (codes "bits ") d.bits) r)
+    ∙ ap (λ (t : List ℕ). codes "memory 1" ++ (10 ∷ (codes "name " ++ (d.name ++ (10 ∷ (codes "words " ++ (decimal d.words ++ (10 ∷ (codes "bits " ++ t)))))))))
+    (append_assoc (decimal d.bits) (10 ∷ []) r)
+
+lines_end : (d : Description) (k : ℕ) → with_feeds (lines_of d k) ≡ head_lines d ++ (row_lines d.scramble k ++ backgrounds_line d.bits d.backgrounds)
+lines_end d k =
+    let background = codes "backgrounds" ++ background_texts d.bits d.backgrounds in
+    let rest : with_feeds (texts_from d.scramble 0 k ++ (background ∷ [])) ≡ row_lines d.scramble k ++ backgrounds_line d.bits d.backgrounds =
+    with_feeds_more (texts_from d.scramble 0 k) (background ∷ [])
+    ∙ ap (λ (t : List ℕ). t ++ backgrounds_line d.bits d.backgrounds) (rows_end d.scramble k) in
+    sym (head_ends d (with_feeds (texts_from d.scramble 0 k ++ (background ∷ [])))) ∙ ap (λ (t : List ℕ). head_lines d ++ t) rest
+
+-- the rows are printed, unless they change nothing
+abbrev pub rows_printed : Scrambling → ℕ
+rows_printed s = if is_identity s then 0 else s.width
+
+pub printed_lines : (d : Description) → with_feeds (lines_of d (rows_printed d.scramble)) ≡ printed d
+printed_lines d =
+    lines_end d (rows_printed d.scramble)
+    ∙ ap (λ (t : List ℕ). head_lines d ++ (t ++ backgrounds_line d.bits d.backgrounds)) (by_test (is_identity d.scramble))
+  where
+    by_test : (t : Bool) → row_lines d.scramble (if t then 0 else d.scramble.width) ≡ (if t then [] else row_lines d.scramble d.scramble.width)
+    by_test true = refl
+    by_test false = refl

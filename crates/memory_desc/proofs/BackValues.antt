@@ -1,0 +1,123 @@
+-- The values that the statements of a printed memory give.
+use Rattle.std.proofs.Common.{◌≡◌, ℕ, zero, suc, ◌+◌, ◌/◌, ◌^◌, ◌<◌, ◌≤◌, ◌==◌, ◌||◌, Bool, true, false, if◌then◌else◌, List, [], ◌∷◌, ◌++◌, ◌∙◌, length, take, slice_index, map, Some, None, refl, sym, ap, arith}
+use Rattle.std.specs.Prelude.{decimal, nat_le, All, Contains}
+use Rattle.std.specs.Int.{bit_at, from_bool}
+use Rattle.std.specs.List.{list_any}
+use Rattle.std.specs.Str.Parse.{digits_value}
+use Rattle.std.proofs.Math.Path.{ap₂}
+use Rattle.std.proofs.lemmas.Bool.{lt-leb, eq-eqb}
+use Rattle.std.proofs.lemmas.List.{take_more, take_all}
+use Rattle.std.proofs.lemmas.Nat.Bits.{bit_at-lt}
+use Rattle.scrambler.specs.Linear.{number}
+use Rattle.scrambler.specs.Scrambling.{Scrambling, IsFull, row}
+use Rattle.scrambler.proofs.LinearLemmas.{number_same, number-bits}
+use Rattle.memory_desc.specs.Descriptions.{Description}
+use Rattle.memory_desc.specs.LineText.{Content, version, name, words, bits, backgrounds}
+use Rattle.memory_desc.specs.Statements.{Statement}
+use Rattle.memory_desc.specs.Subjects.{said, about}
+use Rattle.memory_desc.specs.Values.{index_bits, constant_of, terms_in, terms_said, rows_said, matrix_said, word_values}
+use Rattle.memory_desc.specs.Table.{is_row, is_past, is_term_past, missing_row, first_refusal, too_many, hollow}
+use Rattle.memory_desc.specs.declared.content.Subject.TheVariants.{Row}
+use Rattle.memory_desc.specs.declared.fault.Field.TheVariants.{Row as RowField}
+use Rattle.memory_desc.specs.declared.fault.MemoryFault.TheVariants.{Missing, TooManyBackgrounds, NoSolidBackground}
+use Rattle.memory_desc.proofs.Printing.{word_digits}
+use Rattle.memory_desc.proofs.BackLines.{numbered}
+use Rattle.memory_desc.proofs.BackDigits.{decimal_value, hex_digits_value}
+use Rattle.memory_desc.proofs.BackFound.{row_content, body, said_row, is_there}
+use Rattle.memory_desc.proofs.BackTerms.{terms_of, terms_bits, terms_constant, terms_within, neither_past}
+use Rattle.memory_desc.proofs.BackTexts.{digits_of_word}
+
+-- what the printed form of a memory says, with k rows
+abbrev pub contents : Description → ℕ → List Content
+contents d k =
+    version (49 ∷ []) ∷ name d.name ∷ words (decimal d.words) ∷ bits (decimal d.bits) ∷ body d.scramble 0 k (map (digits_of_word d.bits) d.backgrounds)
+
+abbrev pub statements : Description → ℕ → List Statement
+statements d k = numbered 1 (contents d k)
+
+-- ---- rows
+
+pub some_rows : (s : Scrambling) (n i k : ℕ) (ws : List (List ℕ)) → 1 ≤ k → list_any (λ t. is_row t.content) (numbered n (body s i k ws)) ≡ true
+some_rows s n i zero ws h = absurd (omega arith)
+some_rows s n i (suc k) ws h = refl
+
+said_here : (d : Description) (k j : ℕ) → j < k → k ≤ 16 → said (Row j) (statements d k) ≡ Some (row_content d.scramble j)
+said_here d k j h small = said_row d.scramble 5 0 j k (map (digits_of_word d.bits) d.backgrounds) (omega arith) (omega arith) (omega arith)
+
+terms_here : (d : Description) (k j : ℕ) → j < k → k ≤ 16
+    → terms_said (statements d k) j ≡ terms_of (row d.scramble j) (bit_at d.scramble.constant j) d.scramble.width
+terms_here d k j h small = ap terms_in (said_here d k j h small)
+
+pub no_row_missing : (d : Description) (k n : ℕ) → n ≤ k → k ≤ 16 → missing_row (statements d k) n ≡ None
+no_row_missing d k zero h small = refl
+no_row_missing d k (suc n) h small =
+    ap₂ first_refusal (no_row_missing d k n (omega arith) small)
+    (is_there (Missing (RowField n)) (about (Row n) (statements d k)) (row_content d.scramble n) (said_here d k n (omega arith) small))
+
+rows_are : (d : Description) (k n : ℕ) → IsFull d.scramble → k ≡ d.scramble.width → k ≤ 16 → n ≤ k → rows_said (statements d k) n ≡ take n d.scramble.rows
+rows_are d k zero full e small h = refl
+rows_are d k (suc n) full e small h =
+    let s = d.scramble in
+    let count = full.count in
+    let one : n + 1 ≡ suc n = omega arith in
+    let bits : index_bits (terms_said (statements d k) n) ≡ row s n =
+    ap index_bits (terms_here d k n (omega arith) small)
+    ∙ terms_bits (row s n) (bit_at s.constant n) s.width (omega arith) (full.rows_fit n (omega arith)) in
+    ap₂ (λ (xs : List ℕ) (x : ℕ). xs ++ (x ∷ [])) (rows_are d k n full e small (omega arith)) bits
+    ∙ sym (take_more s.rows n 0 (omega arith)) ∙ ap (λ (m : ℕ). take m s.rows) one
+
+constant_is : (d : Description) → IsFull d.scramble → d.scramble.width ≤ 16
+    → number (λ i. from_bool (constant_of (terms_said (statements d d.scramble.width) i))) d.scramble.width ≡ d.scramble.constant
+constant_is d full small =
+    let s = d.scramble in
+    number_same (λ i. from_bool (constant_of (terms_said (statements d s.width) i))) (bit_at s.constant) s.width
+    (λ i p. ap (λ ts. from_bool (constant_of ts)) (terms_here d s.width i p small)
+    ∙ terms_constant (row s i) (bit_at s.constant i) s.width (bit_at-lt s.constant i))
+    ∙ number-bits s.constant s.width full.constant_fits
+
+of_width : ℕ → List ℕ → ℕ → Scrambling
+of_width w rows c = record { width = w; rows = rows; constant = c }
+
+pub matrix_is : (d : Description) → IsFull d.scramble → d.scramble.width ≤ 16 → matrix_said (statements d d.scramble.width) d.scramble.width ≡ d.scramble
+unfolding of_width
+matrix_is d full small =
+    let s = d.scramble in
+    let count = full.count in
+    ap₂ (of_width s.width) (rows_are d s.width s.width full refl small (omega arith) ∙ take_all s.width s.rows (omega arith)) (constant_is d full small)
+
+pub row_within : (s : Scrambling) (size j : ℕ) → j < s.width → s.width ≤ 16 → is_past s.width size (row_content s j) ≡ false
+row_within s size j h small =
+    neither_past (nat_le s.width (digits_value 10 (decimal j))) (list_any (is_term_past s.width) (terms_of (row s j) (bit_at s.constant j) s.width))
+    (ap (nat_le s.width) (decimal_value j (omega arith)) ∙ lt-leb s.width j h) (terms_within (row s j) (bit_at s.constant j) s.width (omega arith))
+
+-- ---- backgrounds
+
+word_value : (size w : ℕ) → w < 2 ^ size → digits_value 16 (digits_of_word size w) ≡ w
+word_value size w h = hex_digits_value ((size + 3) / 4) w (word_digits size w h)
+
+pub words_are : (size : ℕ) (set : List ℕ) → All (λ b. b < 2 ^ size) set → word_values (map (digits_of_word size) set) ≡ set
+words_are size [] h = refl
+words_are size (w ∷ ws) h =
+    ap₂ (λ (x : ℕ) (xs : List ℕ). x ∷ xs) (word_value size w (h 0 w (omega arith))) (words_are size ws (λ k x l. h (suc k) x (omega arith)))
+
+pub words_within : (width size : ℕ) (set : List ℕ) → All (λ b. b < 2 ^ size) set → is_past width size (backgrounds (map (digits_of_word size) set)) ≡ false
+words_within width size [] h = refl
+words_within width size (w ∷ ws) h =
+    let fits : w < 2 ^ size = h 0 w (omega arith) in
+    neither_past (nat_le (2 ^ size) (digits_value 16 (digits_of_word size w))) (is_past width size (backgrounds (map (digits_of_word size) ws)))
+    (ap (nat_le (2 ^ size)) (word_value size w fits) ∙ lt-leb (2 ^ size) w fits) (words_within width size ws (λ k x l. h (suc k) x (omega arith)))
+
+pub few_enough : (set : List ℕ) → length set ≤ 8 → too_many set ≡ None
+few_enough set h = ap (λ (b : Bool). if b then Some TooManyBackgrounds else None) (lt-leb (suc 8) (length set) (omega arith))
+
+has_zero : (set : List ℕ) (k : ℕ) → k < length set → slice_index set k ≡ 0 → list_any (λ w. w == 0) set ≡ true
+has_zero [] k h e = absurd (omega arith)
+has_zero (w ∷ ws) zero h e = ap (λ (b : Bool). b || list_any (λ w. w == 0) ws) (eq-eqb w 0 e)
+has_zero (w ∷ ws) (suc k) h e = ap (λ (b : Bool). (w == 0) || b) (has_zero ws k (omega arith) e) ∙ or_true (w == 0)
+  where
+    or_true : (b : Bool) → (b || true) ≡ true
+    or_true true = refl
+    or_true false = refl
+
+pub solid_enough : (set : List ℕ) → Contains set 0 → hollow set ≡ None
+solid_enough set h = ap (λ (b : Bool). if b then None else Some NoSolidBackground) (has_zero set h.0 h.1 h.2)

@@ -1,0 +1,103 @@
+-- The printed form of a memory is read back as this memory: its lines are statements that describe exactly it.
+use Rattle.std.proofs.Common.{◌≡◌, ℕ, zero, suc, ◌+◌, ◌-◌, ◌<◌, ◌≤◌, Bool, true, false, if◌then◌else◌, List, [], ◌∷◌, ◌++◌, ◌∙◌, length, map, Ok, refl, sym, ap, subst, arith, codes}
+use Rattle.std.specs.Prelude.{decimal}
+use Rattle.std.specs.Int.{bit_at}
+use Rattle.std.specs.List.{list_all}
+use Rattle.bist_text.specs.Lines.{text_lines}
+use Rattle.scrambler.specs.Scrambling.{Scrambling, IsFull, IsInvertible, row}
+use Rattle.memory_desc.specs.Descriptions.{Description, IsMemory}
+use Rattle.memory_desc.specs.LineText.{Term, Content, scramble, backgrounds, ContentText, is_term, term_text}
+use Rattle.memory_desc.specs.Printed.{joined, background_texts, is_identity, printed}
+use Rattle.memory_desc.specs.Statements.{Say}
+use Rattle.memory_desc.specs.Values.{index_bits}
+use Rattle.memory_desc.specs.Table.{Reads, AreStatements}
+use Rattle.memory_desc.proofs.Parts.{width_small}
+use Rattle.memory_desc.proofs.BackLines.{is_inside, Written, written_more, lines_say}
+use Rattle.memory_desc.proofs.BackDescribed.{describes_it}
+use Rattle.memory_desc.proofs.BackFound.{row_content, rows_from}
+use Rattle.memory_desc.proofs.BackInside.{decimal_inside, name_inside, row_inside, backgrounds_inside, row_written, texts_from, lines_of, rows_printed, printed_lines}
+use Rattle.memory_desc.proofs.BackScrambling.{row_some}
+use Rattle.memory_desc.proofs.BackTerms.{terms_of, terms_text, terms_formed, terms_bits}
+use Rattle.memory_desc.proofs.BackTexts.{version_text, name_text, words_text, bits_text, row_text, backgrounds_text, digits_of_word}
+use Rattle.memory_desc.proofs.BackValues.{contents, statements}
+
+-- ---- the lines are statements
+
+abbrev pub terms_written : ℕ → List Term → List ℕ
+terms_written i ts = codes "scramble a" ++ (decimal i ++ (codes " = " ++ joined (map term_text ts)))
+
+abbrev pub IsLine : List ℕ → Content → Type 0
+IsLine x c = (list_all is_inside x ≡ true) × ContentText x c
+
+terms_line : (i : ℕ) (ts : List Term) → i < 1000000000 → list_all is_term ts ≡ true → (ts ≡ [] → ⊥) → IsLine (terms_written i ts) (scramble (decimal i) ts)
+terms_line i [] small f some = absurd (some refl)
+terms_line i (t ∷ ts) small f some = (row_inside i (t ∷ ts) small f, row_text i t ts small f)
+
+row_line_is : (s : Scrambling) (i : ℕ) → IsFull s → IsInvertible s → s.width ≤ 16 → i < s.width → IsLine (row_written s i) (row_content s i)
+row_line_is s i full inv small h =
+    let names = row s i in
+    let bit = bit_at s.constant i in
+    let some : terms_of names bit s.width ≡ [] → ⊥ =
+    λ e. row_some s i inv h (sym (terms_bits names bit s.width (omega arith) (full.rows_fit i h)) ∙ ap index_bits e) in
+    subst (λ (ts : List (List ℕ)). IsLine (codes "scramble a" ++ (decimal i ++ (codes " = " ++ joined ts))) (row_content s i))
+    (sym (terms_text names bit s.width))
+    (terms_line i (terms_of names bit s.width) (omega arith) (terms_formed names bit s.width (omega arith)) some)
+
+rows_written : (s : Scrambling) (i k : ℕ) → IsFull s → IsInvertible s → s.width ≤ 16 → i + k ≤ s.width → Written (texts_from s i k) (rows_from s i k)
+rows_written s i zero full inv small h = tt
+rows_written s i (suc k) full inv small h =
+    let line = row_line_is s i full inv small (omega arith) in
+    (line.0, line.1, rows_written s (i + 1) k full inv small (omega arith))
+
+backgrounds_line_is : (size : ℕ) (set : List ℕ) → 1 ≤ size → size ≤ 64 → 1 ≤ length set
+    → ContentText (codes "backgrounds" ++ background_texts size set) (backgrounds (map (digits_of_word size) set))
+backgrounds_line_is size [] p h some = absurd (omega arith)
+backgrounds_line_is size (w ∷ ws) p h some = backgrounds_text size w ws p h
+
+pub lines_written : (d : Description) (k : ℕ) → IsMemory d → IsFull d.scramble → d.scramble.width ≤ 16 → k ≤ d.scramble.width → Written (lines_of d k) (contents d k)
+lines_written d k mem full small h =
+    let many = mem.words_high in
+    let wide = mem.bits_high in
+    let w : d.words < 1000000000 = omega arith in
+    let b : d.bits < 1000000000 = omega arith in
+    let whole : 0 + k ≤ d.scramble.width = omega arith in (
+      refl,
+      version_text,
+      (
+        name_inside d.name mem.name.identifier,
+        name_text d.name mem.name.identifier,
+        (
+          decimal_inside d.words w,
+          words_text d.words w,
+          (
+            decimal_inside d.bits b,
+            bits_text d.bits b,
+            written_more (texts_from d.scramble 0 k) _ (rows_from d.scramble 0 k) _ (rows_written d.scramble 0 k full mem.invertible small whole)
+                (backgrounds_inside d.bits d.backgrounds, backgrounds_line_is d.bits d.backgrounds mem.bits_low mem.bits_high mem.tested.some, tt),
+          ),
+        ),
+      ),
+    )
+
+pub are_statements : (d : Description) → IsMemory d → IsFull d.scramble → d.scramble.width ≤ 16 → AreStatements (printed d) (statements d (rows_printed d.scramble))
+are_statements d mem full small =
+    let k = rows_printed d.scramble in
+    let few : k ≤ d.scramble.width = by_test (is_identity d.scramble) in (
+      subst (λ (text : List ℕ). Say (text_lines text) (statements d k)) (printed_lines d)
+          (lines_say 1 0 (lines_of d k) (contents d k) (lines_written d k mem full small few)),
+      refl,
+    )
+  where
+    by_test : (t : Bool) → (if t then 0 else d.scramble.width) ≤ d.scramble.width
+    by_test true = omega arith
+    by_test false = omega arith
+
+-- ---- the whole
+
+-- the printed form of a memory describes this memory
+pub read_back : (d : Description) → IsMemory d → Reads (printed d) (Ok d)
+read_back d mem =
+    let most = mem.words_high in
+    let some = mem.words_low in
+    let small : d.scramble.width ≤ 16 = (width_small (d.words - 1) d.scramble.width (omega arith) mem.address).1 in
+    (statements d (rows_printed d.scramble), are_statements d mem mem.full small, describes_it d mem mem.full small)

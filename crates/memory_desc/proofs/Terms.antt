@@ -1,0 +1,84 @@
+-- The terms of a row, one after another.
+use Rattle.std.proofs.Common.{◌≡◌, ◌≢◌, ℕ, zero, suc, ◌+◌, ◌*◌, ◌/◌, ◌%◌, ◌^◌, ◌<◌, Bool, true, false, List, [], ◌∷◌, ◌++◌, ◌==◌, if◌then◌else◌, codes, refl, sym, ◌∙◌, ap, subst, arith, append_assoc, append-nil, bit_and, decimal, add-one, inl, inr}
+use Rattle.std.proofs.Math.Path.{ap₂}
+use Rattle.std.proofs.Math.Pow.{pow-lt}
+use Rattle.std.proofs.Math.Nat.{one-mul, mod-eq_of_lt}
+use Rattle.std.proofs.lemmas.Bool.{cases_lt, eq-eqb, ne_eqb, and_left, and_right}
+use Rattle.std.proofs.lemmas.Nat.Bits.{shr_and_one}
+use Rattle.std.specs.Int.{bit_at}
+use Rattle.scrambler.specs.Scrambling.{Scrambling, row}
+use Rattle.memory_desc.specs.Printed.{index_terms, is_none, joined, separator, term_after, row_terms, are_units, is_identity}
+
+-- one more term
+joined-more : (ts : List (List ℕ)) (t : List ℕ) → joined (ts ++ t ∷ []) ≡ joined ts ++ term_after (is_none ts) t
+joined-more [] t = refl
+joined-more (u ∷ []) t = refl
+joined-more (u ∷ v ∷ ts) t =
+    ap (λ (x : List ℕ). u ++ (codes " ^ " ++ x)) (joined-more (v ∷ ts) t)
+    ∙ sym (append_assoc u (codes " ^ " ++ joined (v ∷ ts)) (term_after false t))
+
+is_none-more : (ts : List (List ℕ)) (t : List ℕ) → is_none (ts ++ t ∷ []) ≡ false
+is_none-more [] t = refl
+is_none-more (u ∷ ts) t = refl
+
+index_terms-more : (names j : ℕ) (b : Bool) → (bit_at names j == 1) ≡ b
+    → index_terms names (j + 1) ≡ index_terms names j ++ (if b then (112 ∷ decimal j) ∷ [] else [])
+index_terms-more names j b e =
+    ap (index_terms names) (add-one j) ∙ ap (λ (c : Bool). index_terms names j ++ (if c then (112 ∷ decimal j) ∷ [] else [])) e
+
+index_terms-taken : (names j : ℕ) → bit_and (names / 2 ^ j) 1 ≡ 1 → index_terms names (j + 1) ≡ index_terms names j ++ (112 ∷ decimal j) ∷ []
+index_terms-taken names j b = index_terms-more names j true (eq-eqb (bit_at names j) 1 (sym (shr_and_one names j) ∙ b))
+
+index_terms-left : (names j : ℕ) → bit_and (names / 2 ^ j) 1 ≢ 1 → index_terms names (j + 1) ≡ index_terms names j
+index_terms-left names j b =
+    index_terms-more names j false (ne_eqb (bit_at names j) 1 (λ e. b (shr_and_one names j ∙ e))) ∙ append-nil (index_terms names j)
+
+pub term_written : (before out new : List ℕ) (ts : List (List ℕ)) (t : List ℕ) (none : Bool) → out ≡ before ++ joined ts → none ≡ is_none ts
+    → new ≡ out ++ term_after none t → new ≡ before ++ joined (ts ++ t ∷ [])
+term_written before out new ts t none o n e =
+    e ∙ ap₂ (λ (x : List ℕ) (f : Bool). x ++ term_after f t) o n
+    ∙ append_assoc before (joined ts) (term_after (is_none ts) t) ∙ ap (λ (x : List ℕ). before ++ x) (sym (joined-more ts t))
+
+-- a bit that the row names
+pub taken_written : (before out new : List ℕ) (names j : ℕ) (none : Bool) → out ≡ before ++ joined (index_terms names j)
+    → none ≡ is_none (index_terms names j) → bit_and (names / 2 ^ j) 1 ≡ 1 → new ≡ out ++ term_after none (112 ∷ decimal j)
+    → new ≡ before ++ joined (index_terms names (j + 1))
+taken_written before out new names j none o n b e =
+    term_written before out new (index_terms names j) (112 ∷ decimal j) none o n e
+    ∙ ap (λ (ts : List (List ℕ)). before ++ joined ts) (sym (index_terms-taken names j b))
+
+pub taken_some : (names j : ℕ) → bit_and (names / 2 ^ j) 1 ≡ 1 → false ≡ is_none (index_terms names (j + 1))
+taken_some names j b = sym (ap is_none (index_terms-taken names j b) ∙ is_none-more (index_terms names j) (112 ∷ decimal j))
+
+-- a bit that it does not name
+pub left_written : (before out : List ℕ) (names j : ℕ) → out ≡ before ++ joined (index_terms names j) → bit_and (names / 2 ^ j) 1 ≢ 1
+    → out ≡ before ++ joined (index_terms names (j + 1))
+left_written before out names j o b = o ∙ ap (λ (ts : List (List ℕ)). before ++ joined ts) (sym (index_terms-left names j b))
+
+pub left_none : (names j : ℕ) (none : Bool) → none ≡ is_none (index_terms names j) → bit_and (names / 2 ^ j) 1 ≢ 1
+    → none ≡ is_none (index_terms names (j + 1))
+left_none names j none n b = n ∙ ap is_none (sym (index_terms-left names j b))
+
+-- the constant 1 of a row, behind its index bits
+pub constant_written : (before out new : List ℕ) (names constant width : ℕ) (none : Bool) → out ≡ before ++ joined (index_terms names width)
+    → none ≡ is_none (index_terms names width) → constant ≡ 1 → new ≡ (out ++ separator none) ++ 49 ∷ []
+    → new ≡ before ++ joined (row_terms names constant width)
+constant_written before out new names constant width none o n c e =
+    term_written before out new (index_terms names width) (49 ∷ []) none o n (e ∙ append_assoc out (separator none) (49 ∷ []))
+    ∙ ap (λ (b : Bool). before ++ joined (index_terms names width ++ (if b then (49 ∷ []) ∷ [] else []))) (sym (eq-eqb constant 1 c))
+
+-- ---- a row that does not name its own bit alone
+
+units_end : (s : Scrambling) (n i : ℕ) → i < n → row s i ≢ 2 ^ i → are_units s n ≡ false
+units_end s zero i h ne = absurd (omega arith)
+units_end s (suc n) i h ne =
+    elim (cases_lt i n) [
+      | inl p ↦ and_left (are_units s n) (row s n == 2 ^ n) (units_end s n i p ne)
+      | inr p ↦ let e : i ≡ n = omega arith in
+          and_right (are_units s n) (row s n == 2 ^ n) (ne_eqb (row s n) (2 ^ n) (subst (λ (k : ℕ). row s k ≢ 2 ^ k) e ne))
+    ]
+
+pub no_identity : (s : Scrambling) (i r : ℕ) → i < s.width → i < 16 → r ≡ row s i → r ≢ 1 * 2 ^ i % 65536 → false ≡ is_identity s
+no_identity s i r h w e ne =
+    let small : 1 * 2 ^ i % 65536 ≡ 2 ^ i = ap (λ (x : ℕ). x % 65536) (one-mul (2 ^ i)) ∙ mod-eq_of_lt (pow-lt {j = 16} w) in
+    sym (and_right (s.constant == 0) (are_units s s.width) (units_end s s.width i h (λ same. ne (e ∙ same ∙ sym small))))
