@@ -5,10 +5,6 @@ use Rattle.memory_desc.specs.Descriptions.{Description}
 use Rattle.word_march.specs.declared.operations.PortOp.{PortOp}
 use Rattle.word_march.specs.Commands.{port_ops, command_count}
 
--- in how many cycles the word of a read stands on `rdata`
-abbrev pub read_latency : ℕ
-read_latency = 1
-
 -- the values of the module's outputs in a cycle
 pub record PortValues : Type 0 where
   pub en : Bool

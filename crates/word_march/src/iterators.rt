@@ -1,4 +1,4 @@
-ghost use Rattle.std.specs.Prelude.{◌≡◌, ◌<◌, ◌≤◌};
+ghost use Rattle.std.specs.Prelude.{◌≡◌, ◌<◌, ◌≤◌, ◌^◌, All};
 ghost use Rattle.word_march.specs.Commands.{word_ops, port_op, port_ops, command_count};
 
 use crate::operations::{PortOp, WordOp};
@@ -83,9 +83,10 @@ impl<'a> Model for PortOps<'a> {
 }
 
 /// The commands: the word operations, each at the logical address of its index.
-#[tactic(auto, using(crate::proofs::Places::first_place, crate::proofs::Next::all_commands))]
+#[tactic(auto, using(crate::proofs::Places::first_place, crate::proofs::Next::all_commands, crate::proofs::Words::commands_fit))]
 pub fn port_ops<'a>(march: &'a March, memory: &'a Memory) -> PortOps<'a>
-    ensures { result ≡ port_ops march.now memory.now }
+    ensures commands { result ≡ port_ops march.now memory.now }
+    ensures words_fit { All (λ o. o.word < 2 ^ memory.now.bits) (port_ops march.now memory.now) }
 {
     let _ = march.len();
     let _ = memory.words();
@@ -128,6 +129,9 @@ fn at_port(memory: &Memory, operation: WordOp) -> PortOp
         word: operation.word,
     }
 }
+
+/// In how many cycles the word of a read stands on the memory's `rdata`.
+pub const READ_LATENCY: u64 = 1;
 
 /// How many commands there are: the operations of the march, times the words, times the backgrounds.
 #[tactic(auto, using(crate::proofs::Count::command_count_is))]

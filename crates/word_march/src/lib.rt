@@ -8,5 +8,5 @@ mod iterators;
 mod operations;
 mod place;
 
-pub use iterators::{PortOps, WordOps, length, port_ops, word_ops};
+pub use iterators::{PortOps, READ_LATENCY, WordOps, length, port_ops, word_ops};
 pub use operations::{PortOp, WordOp};
