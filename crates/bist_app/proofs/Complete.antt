@@ -12,7 +12,9 @@ use Rattle.bist_app.specs.Run.{Runs}
 is_settled : (files : Option Files) (rr : Type 0) (e : Refusal) → (rr → ⊥) → (status_of e ≡ 9 → ⊥) → HasReadCause {A = Done} files rr (Err e) → IsSettledRefusal e
 is_settled files rr Refusal.Usage quiet nine c = tt
 is_settled files rr (Refusal.March f) quiet nine c = tt
+is_settled files rr (Refusal.Memory f) quiet nine c = tt
 is_settled files rr (Refusal.Fault l) quiet nine c = tt
+is_settled files rr (Refusal.TooLong n) quiet nine c = tt
 is_settled files rr (Refusal.TooLarge p) quiet nine c = tt
 is_settled files rr (Refusal.ReadFailed p) quiet nine c = quiet c
 is_settled files rr (Refusal.Absent p) quiet nine c = tt

@@ -1,6 +1,5 @@
 -- What the verdicts tell of the list.
-use Rattle.std.proofs.Common.{◌≡◌, ◌+◌, ◌<◌, ◌≤◌, ℕ, zero, suc, Bool, true, false, cond, nat_lt, List, [], ◌∷◌, ◌++◌, length, refl, ap, sym, subst, ◌∙◌, arith}
-use Rattle.std.specs.List.{AllByRecursion, Contains, count_by}
+use Rattle.std.proofs.Common.{◌≡◌, ◌+◌, ◌≤◌, ℕ, suc, Bool, true, false, cond, nat_lt, List, [], ◌∷◌, length, refl, ap, sym, subst, ◌∙◌, arith}
 use Rattle.std.proofs.lemmas.List.Sums.{count_by-le-length, sum_by-cons}
 use Rattle.std.proofs.lemmas.Bool.Decides.{nat_tests}
 use Rattle.fault_core.specs.Primitive.{Primitive}
@@ -8,7 +7,7 @@ use Rattle.march_core.specs.March.{MarchElement}
 use Rattle.array_sim.specs.Detection.{Detects}
 use Rattle.coverage.specs.declared.verdict.Verdict.{Verdict}
 use Rattle.coverage.specs.declared.verdict.Verdict.TheVariants.{Covered, Escape}
-use Rattle.coverage.specs.Verdicts.{IsVerdict, AreVerdicts}
+use Rattle.coverage.specs.Verdicts.{AreVerdicts}
 use Rattle.report.specs.Report.{is_covered, covered_count}
 use Rattle.bist_app.specs.Judge.{SomeEscapes}
 

@@ -5,3 +5,5 @@ pub mod Complete
 pub mod Shapes
 pub mod DirectionWord
 pub mod Judging
+pub mod Rows
+pub mod Listing

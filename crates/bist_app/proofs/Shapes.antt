@@ -4,8 +4,10 @@ use Rattle.bist_app.specs.declared.sim.SimShape.{SimShape}
 use Rattle.bist_app.specs.Words.{Words}
 use Rattle.bist_app.specs.Sim.{IsSimShape}
 use Rattle.bist_app.specs.Judge.{IsJudgeShape}
+use Rattle.bist_app.specs.Vectors.{IsVectorsShape}
 use Rattle.bist_app.specs.Run.{HasNoShape}
 
-pub no_shape : (words : Words) → ((shape : SimShape) → IsSimShape words shape → ⊥) → (IsJudgeShape words → ⊥) → HasNoShape words
-no_shape words sim judge (Command.Sim shape) h = sim shape h
-no_shape words sim judge Command.Judge h = judge h
+pub no_shape : (words : Words) → ((shape : SimShape) → IsSimShape words shape → ⊥) → (IsJudgeShape words → ⊥) → (IsVectorsShape words → ⊥) → HasNoShape words
+no_shape words sim judge vectors (Command.Sim shape) h = sim shape h
+no_shape words sim judge vectors Command.Judge h = judge h
+no_shape words sim judge vectors Command.Vectors h = vectors h

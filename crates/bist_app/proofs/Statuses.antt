@@ -46,6 +46,8 @@ not_eight : (e : Refusal) (n : ℕ) → n ≡ status_of e → n ≡ 8 → ⊥
 not_eight Refusal.Usage n h k = omega arith
 not_eight (Refusal.March f) n h k = omega arith
 not_eight (Refusal.Fault l) n h k = omega arith
+not_eight (Refusal.Memory f) n h k = omega arith
+not_eight (Refusal.TooLong n12) n h k = omega arith
 not_eight (Refusal.TooLarge p) n h k = omega arith
 not_eight (Refusal.ReadFailed p) n h k = omega arith
 not_eight (Refusal.Absent p) n h k = omega arith
@@ -56,6 +58,8 @@ two_is_usage : (e : Refusal) (n : ℕ) → n ≡ status_of e → n ≡ 2 → e �
 two_is_usage Refusal.Usage n h k = refl
 two_is_usage (Refusal.March f) n h k = absurd (omega arith)
 two_is_usage (Refusal.Fault l) n h k = absurd (omega arith)
+two_is_usage (Refusal.Memory f) n h k = absurd (omega arith)
+two_is_usage (Refusal.TooLong n12) n h k = absurd (omega arith)
 two_is_usage (Refusal.TooLarge p) n h k = absurd (omega arith)
 two_is_usage (Refusal.ReadFailed p) n h k = absurd (omega arith)
 two_is_usage (Refusal.Absent p) n h k = absurd (omega arith)
@@ -66,6 +70,8 @@ read_cause : (files : Option Files) (rr : Type 0) (e : Refusal) (n : ℕ) → n 
 read_cause files rr Refusal.Usage n h k c = absurd (omega arith)
 read_cause files rr (Refusal.March f) n h k c = absurd (omega arith)
 read_cause files rr (Refusal.Fault l) n h k c = absurd (omega arith)
+read_cause files rr (Refusal.Memory f) n h k c = absurd (omega arith)
+read_cause files rr (Refusal.TooLong n12) n h k c = absurd (omega arith)
 read_cause files rr (Refusal.TooLarge p) n h k c = absurd (omega arith)
 read_cause files rr (Refusal.ReadFailed p) n h k c = c
 read_cause files rr (Refusal.Absent p) n h k c = absurd (omega arith)
@@ -96,6 +102,8 @@ silent_cause : (rr : Type 0) (e : Refusal) (n : ℕ) → n ≡ status_of e → (
 silent_cause rr Refusal.Usage n h k c = absurd (omega arith)
 silent_cause rr (Refusal.March f) n h k c = absurd (omega arith)
 silent_cause rr (Refusal.Fault l) n h k c = absurd (omega arith)
+silent_cause rr (Refusal.Memory f) n h k c = absurd (omega arith)
+silent_cause rr (Refusal.TooLong n12) n h k c = absurd (omega arith)
 silent_cause rr (Refusal.TooLarge p) n h k c = c
 silent_cause rr (Refusal.ReadFailed p) n h k c = c
 silent_cause rr (Refusal.Absent p) n h k c = c

@@ -12,6 +12,9 @@ use Rattle.bist_app.specs.Inputs.{GivesBytes, GivesMarch, InputMarch, GivesPrim,
 use Rattle.bist_app.specs.Sim.{FitsAggressor, FitsDirections, LeavesSim, DecidesSim}
 use Rattle.bist_app.specs.Judge.{LeavesJudge, DecidesJudge}
 use Rattle.fault_core.specs.Primitive.{Primitive}
+use Rattle.memory_desc.specs.Descriptions.{Description}
+use Rattle.bist_app.specs.Memories.{GivesMemory, InputMemory}
+use Rattle.bist_app.specs.Vectors.{FitsLength, LeavesVectors, DecidesVectors}
 use Rattle.bist_app.specs.Run.{DecidesCommand}
 
 -- a check that never answers usage
@@ -84,6 +87,34 @@ judge_never files words (Ok march, read, (Err e, given, is)) =
     input_list_never files words 2 (turned (InputList files words 2) (let x : Result Done Refusal = Err Refusal.Usage in x) e refl is given)
 judge_never files words (Ok march, read, (Ok prims, given, leaves)) = judge_leaves_never march prims leaves
 
+memory_never : (bytes : List ℕ) → NeverUsage (GivesMemory bytes)
+unfolding GivesMemory
+memory_never bytes h = h
+
+pub input_memory_never : (files : Option Files) (words : Words) (position : ℕ) → NeverUsage (InputMemory files words position)
+unfolding InputMemory
+input_memory_never files words position (Ok bytes, read, memory) = memory_never bytes memory
+input_memory_never files words position (Err e, read, is) =
+    bytes_never files (word words position) position (turned (GivesBytes files (word words position) position) (let x : Result Description Refusal = Err Refusal.Usage in x) e refl is read)
+
+length_never : (march : List MarchElement) (d : Description) → NeverUsage (FitsLength march d)
+unfolding FitsLength
+length_never march d h = h
+
+vectors_leaves_never : (march : List MarchElement) (d : Description) → NeverUsage (LeavesVectors march d)
+unfolding LeavesVectors
+vectors_leaves_never march d h = h
+
+vectors_never : (files : Option Files) (words : Words) → NeverUsage (DecidesVectors files words)
+vectors_never files words (Err e, read, is) =
+    input_march_never files words 1 (turned (InputMarch files words 1) (let x : Result Done Refusal = Err Refusal.Usage in x) e refl is read)
+vectors_never files words (Ok march, read, (Err e, given, is)) =
+    input_memory_never files words 2 (turned (InputMemory files words 2) (let x : Result Done Refusal = Err Refusal.Usage in x) e refl is given)
+vectors_never files words (Ok march, read, (Ok d, given, (Err e, fits, is))) =
+    length_never march d (turned (FitsLength march d) (let x : Result Done Refusal = Err Refusal.Usage in x) e refl is fits)
+vectors_never files words (Ok march, read, (Ok d, given, (Ok _, fits, leaves))) = vectors_leaves_never march d leaves
+
 pub never_usage : (files : Option Files) (words : Words) (command : Command) → NeverUsage (DecidesCommand files words command)
 never_usage files words (Command.Sim shape) = sim_never files words shape
 never_usage files words Command.Judge = judge_never files words
+never_usage files words Command.Vectors = vectors_never files words

@@ -1,7 +1,10 @@
 -- What a command ends with: its plan as plain data, the statuses and the said lines.
-use Rattle.std.specs.Prelude.{◌++◌, ℕ, Bool, true, false, List, map, Result, Ok, Err, codes, decimal}
+use Rattle.std.specs.Prelude.{◌++◌, ◌==◌, ℕ, zero, suc, Bool, true, false, if◌then◌else◌, List, [], map, Result, Ok, Err, codes, decimal}
+use Rattle.std.specs.Int.{bit_at}
 use Rattle.march_core.specs.declared.fault.MarchFault.{MarchFault}
 use Rattle.fault_syntax.specs.declared.fault.FaultFault.{FaultFault}
+use Rattle.memory_desc.specs.declared.fault.Field.{Field}
+use Rattle.memory_desc.specs.declared.fault.MemoryFault.{MemoryFault}
 use Rattle.bist_app.specs.declared.ending.Refusal.{Refusal}
 use Rattle.bist_app.specs.declared.ending.Misfit.{Misfit}
 use Rattle.bist_app.specs.declared.ending.Output.{Output}
@@ -31,11 +34,13 @@ plain (Err refusal) = Err refusal
 abbrev pub status_of : Refusal → ℕ
 status_of Refusal.Usage = 2
 status_of (Refusal.March fault) = 3
+status_of (Refusal.Memory fault) = 4
 status_of (Refusal.Fault fault) = 5
 status_of (Refusal.TooLarge position) = 6
 status_of (Refusal.ReadFailed position) = 7
 status_of Refusal.NoMemory = 9
 status_of (Refusal.Absent position) = 10
+status_of (Refusal.TooLong number) = 12
 status_of (Refusal.Misfit misfit) = 13
 
 abbrev pub found_status : Bool → ℕ
@@ -72,13 +77,44 @@ fault_text (FaultFault.TooManyOperations line) = codes "F4 line " ++ decimal lin
 fault_text (FaultFault.TooManyPrimitives line) = codes "F5 line " ++ decimal line
 fault_text FaultFault.NoMemory = codes "F6"
 
+-- a field that is missing
+abbrev pub field_text : Field → List ℕ
+field_text Field.Name = codes "name"
+field_text Field.Words = codes "words"
+field_text Field.Bits = codes "bits"
+field_text (Field.Row i) = codes "a" ++ decimal i
+
+-- a row behind a blank, where it is one of these
+abbrev pub row_text : ℕ → ℕ → List ℕ
+row_text rows i = if bit_at rows i == 1 then codes " a" ++ decimal i else []
+
+-- those of the first n rows that are among these, in ascending order
+abbrev pub rows_text : ℕ → ℕ → List ℕ
+rows_text rows zero = []
+rows_text rows (suc n) = rows_text rows n ++ row_text rows n
+
+-- why a memory is refused: its code, line and byte, field or rows
+abbrev pub memory_fault_text : MemoryFault → List ℕ
+memory_fault_text (MemoryFault.Unexpected line byte) = codes "D1 line " ++ decimal line ++ codes " byte " ++ decimal byte
+memory_fault_text MemoryFault.Truncated = codes "D2"
+memory_fault_text (MemoryFault.Repeated line) = codes "D3 line " ++ decimal line
+memory_fault_text (MemoryFault.Missing field) = codes "D4 " ++ field_text field
+memory_fault_text (MemoryFault.OutOfRange line) = codes "D5 line " ++ decimal line
+memory_fault_text (MemoryFault.Singular rows) = codes "D6 rows" ++ rows_text rows 16
+memory_fault_text MemoryFault.ScrambleNeedsPowerOfTwo = codes "D7"
+memory_fault_text MemoryFault.NoSolidBackground = codes "D8"
+memory_fault_text MemoryFault.TooManyBackgrounds = codes "D9"
+memory_fault_text MemoryFault.OtherVersion = codes "D11"
+
 abbrev pub refusal_line : Refusal → List ℕ
 refusal_line Refusal.Usage = codes "usage\n"
 refusal_line (Refusal.March fault) = codes "march " ++ march_fault_text fault ++ codes "\n"
+refusal_line (Refusal.Memory fault) = codes "memory " ++ memory_fault_text fault ++ codes "\n"
 refusal_line (Refusal.Fault fault) = codes "fault " ++ fault_text fault ++ codes "\n"
 refusal_line (Refusal.TooLarge position) = numbered_line (codes "too large ") position
 refusal_line (Refusal.ReadFailed position) = numbered_line (codes "read failed ") position
 refusal_line (Refusal.Absent position) = numbered_line (codes "absent ") position
+refusal_line (Refusal.TooLong number) = numbered_line (codes "too long ") number
 refusal_line (Refusal.Misfit Misfit.Aggressor) = codes "misfit aggressor\n"
 refusal_line (Refusal.Misfit Misfit.Directions) = codes "misfit directions\n"
 refusal_line Refusal.NoMemory = no_memory_line

@@ -4,6 +4,8 @@ pub mod Inputs
 pub mod Ending
 pub mod Sim
 pub mod Judge
+pub mod Memories
+pub mod Vectors
 pub mod LetterBits
 pub mod Conclude
 pub mod Run

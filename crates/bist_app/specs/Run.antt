@@ -9,11 +9,13 @@ use Rattle.bist_app.specs.Inputs.{HasReadCause}
 use Rattle.bist_app.specs.Conclude.{Ends}
 use Rattle.bist_app.specs.Sim.{IsSimShape, DecidesSim}
 use Rattle.bist_app.specs.Judge.{IsJudgeShape, DecidesJudge}
+use Rattle.bist_app.specs.Vectors.{IsVectorsShape, DecidesVectors}
 
 -- the words have the shape of this command
 abbrev pub HasShape : Words → Command → Type 0
 HasShape words (Command.Sim shape) = IsSimShape words shape
 HasShape words Command.Judge = IsJudgeShape words
+HasShape words Command.Vectors = IsVectorsShape words
 
 -- the words have no shape
 abbrev pub HasNoShape : Words → Type 0
@@ -23,6 +25,7 @@ HasNoShape words = (command : Command) → HasShape words command → ⊥
 abbrev pub DecidesCommand : Option Files → Words → Command → Result Done Refusal → Type 0
 DecidesCommand files words (Command.Sim shape) outcome = DecidesSim files words shape outcome
 DecidesCommand files words Command.Judge outcome = DecidesJudge files words outcome
+DecidesCommand files words Command.Vectors outcome = DecidesVectors files words outcome
 
 -- the check of the words, and then the command's
 abbrev pub Decides : Option Files → Words → Result Done Refusal → Type 0

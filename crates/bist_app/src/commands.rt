@@ -3,12 +3,14 @@ ghost use Rattle.bist_app.specs.Run.{HasShape, HasNoShape};
 
 use crate::judge::is_judge;
 use crate::sim::{SimShape, sim_shape};
+use crate::vectors::is_vectors;
 
 /// What the words ask for.
 #[derive(Clone, Copy)]
 pub enum Command {
     Sim(SimShape),
     Judge,
+    Vectors,
 }
 
 /// The command whose shape the words have.
@@ -20,6 +22,9 @@ pub fn command_of(words: &[&str]) -> Option<Command>
     }
     if is_judge(words) {
         return Some(Command::Judge);
+    }
+    if is_vectors(words) {
+        return Some(Command::Vectors);
     }
     None
 }

@@ -5,6 +5,7 @@ ghost use Rattle.bist_app.specs.Conclude.{NamesWords, WritesInOrder, HasWriteCau
 
 use crate::ending::{Ended, Misfit, Output, Plan, Refusal};
 use crate::lines::{fault_line, march_line, numbered};
+use crate::memory_lines::memory_line;
 use bist_host::{Host, HostFault};
 use std::alloc::{AllocError, Global};
 
@@ -63,10 +64,12 @@ fn line_of_refusal(alloc: Global, refusal: Refusal) -> Result<Vec<u8>, AllocErro
     match refusal {
         Refusal::Usage => Vec::from_slice(alloc, b"usage\n"),
         Refusal::March(fault) => march_line(alloc, fault),
+        Refusal::Memory(fault) => memory_line(alloc, fault),
         Refusal::Fault(fault) => fault_line(alloc, fault),
         Refusal::TooLarge { position } => numbered(alloc, b"too large ", position),
         Refusal::ReadFailed { position } => numbered(alloc, b"read failed ", position),
         Refusal::Absent { position } => numbered(alloc, b"absent ", position),
+        Refusal::TooLong { cycles } => numbered(alloc, b"too long ", cycles as usize),
         Refusal::Misfit(Misfit::Aggressor) => Vec::from_slice(alloc, b"misfit aggressor\n"),
         Refusal::Misfit(Misfit::Directions) => Vec::from_slice(alloc, b"misfit directions\n"),
         Refusal::NoMemory => Vec::from_slice(alloc, b"no memory\n"),
@@ -79,11 +82,13 @@ fn status(refusal: Refusal) -> u8
     match refusal {
         Refusal::Usage => 2,
         Refusal::March(_) => 3,
+        Refusal::Memory(_) => 4,
         Refusal::Fault(_) => 5,
         Refusal::TooLarge { .. } => 6,
         Refusal::ReadFailed { .. } => 7,
         Refusal::NoMemory => 9,
         Refusal::Absent { .. } => 10,
+        Refusal::TooLong { .. } => 12,
         Refusal::Misfit(_) => 13,
     }
 }

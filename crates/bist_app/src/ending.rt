@@ -1,5 +1,6 @@
 use fault_syntax::FaultFault;
 use march_core::MarchFault;
+use memory_desc::MemoryFault;
 
 /// What the program ends with.
 #[derive(Clone, Copy, Debug, PartialEq, Eq)]
@@ -23,12 +24,16 @@ pub enum Refusal {
     Usage,
     /// The file is no text of an accepted march.
     March(MarchFault),
+    /// The file is no description of a memory.
+    Memory(MemoryFault),
     /// The text is no fault primitive or no fault list.
     Fault(FaultFault),
     TooLarge { position: usize },
     ReadFailed { position: usize },
     Absent { position: usize },
     Misfit(Misfit),
+    /// The test takes this many cycles, which is too many.
+    TooLong { cycles: u64 },
     NoMemory,
 }
 

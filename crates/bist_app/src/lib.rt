@@ -8,9 +8,12 @@ mod ending;
 mod inputs;
 mod judge;
 mod lines;
+mod memories;
+mod memory_lines;
 mod sim;
 mod texts;
 mod top;
+mod vectors;
 mod words;
 
 pub use ending::Ended;

@@ -60,7 +60,12 @@ pub fn march_line(alloc: Global, fault: MarchFault) -> Result<Vec<u8>, AllocErro
 }
 
 /// Appends a text, a line and a byte.
-fn push_byte(line: &mut Vec<u8>, text: &[u8], number: usize, byte: usize) -> Result<(), AllocError>
+pub fn push_byte(
+    line: &mut Vec<u8>,
+    text: &[u8],
+    number: usize,
+    byte: usize,
+) -> Result<(), AllocError>
     ensures { OnOk result (line.new.items ≡ line.old.items ++ (text.now ++ decimal number ++ codes " byte " ++ decimal byte)) }
 {
     push_number(line, text, number)?;

@@ -21,7 +21,7 @@ struct Row {
     status: u8,
 }
 
-const ROWS: [Row; 29] = [
+const ROWS: [Row; 31] = [
     Row {
         words: &["sim", "m", "<0w1/0/->", "2", "00", "none", "0", "uud"],
         march: Some(MATS),
@@ -225,6 +225,20 @@ const ROWS: [Row; 29] = [
         said: b"usage\n",
         status: 2,
     },
+    Row {
+        words: &["vectors", "m", "l", "o"],
+        march: Some(MATS),
+        list: None,
+        said: b"absent 2\n",
+        status: 10,
+    },
+    Row {
+        words: &["vectors", "m", "l", "m"],
+        march: Some(MATS),
+        list: None,
+        said: b"usage\n",
+        status: 2,
+    },
 ];
 
 #[test]
@@ -304,6 +318,113 @@ fn reports(rt: HostRuntime) -> Result<(), Fail> {
         let words = ["judge", "m", "l", "r"];
         assert_eq!(rt; run(rt.alloc(), &words, &mut host).status, 1);
         assert_eq!(rt; host.get("r").ok_or("a report")?, report);
+    }
+    Ok(())
+}
+
+/// Four words of one bit, in Gray order.
+const GRAY: &[u8] =
+    b"memory 1\nname s4\nwords 4\nbits 1\nscramble a0 = p0 ^ p1\nscramble a1 = p1\n";
+
+/// A march, a memory, the file of its commands, and what is said.
+const VECTORS: [(&[u8], &[u8], &[u8], &[u8]); 2] = [
+    (
+        b"{up(w1);down(r1)}",
+        GRAY,
+        b"w 0 1\nw 1 1\nw 3 1\nw 2 1\nr 2 1\nr 3 1\nr 1 1\nr 0 1\n",
+        b"vectors 8\n",
+    ),
+    (
+        b"{any(w0);up(r0,w1)}",
+        b"memory 1\nname two\nwords 2\nbits 2\n",
+        b"w 0 0\nw 1 0\nr 0 0\nw 0 3\nr 1 0\nw 1 3\nw 0 2\nw 1 2\nr 0 2\nw 0 1\nr 1 2\nw 1 1\n",
+        b"vectors 12\n",
+    ),
+];
+
+#[test]
+fn vectors(rt: HostRuntime) -> Result<(), Fail> {
+    for (march, memory, commands, said) in VECTORS {
+        let mut host = MemHost::new(rt.alloc());
+        host.put("m", march)?;
+        host.put("d", memory)?;
+        let words = ["vectors", "m", "d", "o"];
+        assert_eq!(rt; run(rt.alloc(), &words, &mut host).status, 0);
+        assert_eq!(rt; host.said(), said);
+        assert_eq!(rt; host.get("o").ok_or("commands")?, commands);
+    }
+    Ok(())
+}
+
+/// A march, a memory, what `vectors` says, and its status.
+const REFUSED_VECTORS: [(&[u8], &[u8], &[u8], u8); 15] = [
+    (b"{}", b"", b"march M3\n", 3),
+    (MATS, b"", b"memory D2\n", 4),
+    (MATS, b"memory 1\nname\n", b"memory D1 line 2 byte 4\n", 4),
+    (MATS, b"memory 7\nname s4\n", b"memory D11\n", 4),
+    (
+        MATS,
+        b"memory 1\nbits 1\nbits 1\n",
+        b"memory D3 line 3\n",
+        4,
+    ),
+    (MATS, b"memory 1\n", b"memory D4 name\n", 4),
+    (MATS, b"memory 1\nname n\n", b"memory D4 words\n", 4),
+    (MATS, b"memory 1\nname n\nwords 2\n", b"memory D4 bits\n", 4),
+    (
+        MATS,
+        b"memory 1\nname s4\nwords 4\nbits 1\nscramble a0 = p0 ^ p1\n",
+        b"memory D4 a1\n",
+        4,
+    ),
+    (
+        MATS,
+        b"memory 1\nname n\nwords 1\nbits 1\n",
+        b"memory D5 line 3\n",
+        4,
+    ),
+    (
+        MATS,
+        b"memory 1\nname s4\nwords 4\nbits 1\nscramble a0 = p0\nscramble a1 = p0\n",
+        b"memory D6 rows a0 a1\n",
+        4,
+    ),
+    (
+        MATS,
+        b"memory 1\nname s4\nwords 3\nbits 1\nscramble a0 = p0 ^ p1\nscramble a1 = p1\n",
+        b"memory D7\n",
+        4,
+    ),
+    (
+        MATS,
+        b"memory 1\nname buf8\nwords 8\nbits 8\nbackgrounds aa\n",
+        b"memory D8\n",
+        4,
+    ),
+    (
+        MATS,
+        b"memory 1\nname n\nwords 2\nbits 1\nbackgrounds 0 0 0 0 0 0 0 0 0\n",
+        b"memory D9\n",
+        4,
+    ),
+    (
+        MARCH_SS,
+        b"memory 1\nname big\nwords 65536\nbits 64\n",
+        b"too long 10092547\n",
+        12,
+    ),
+];
+
+#[test]
+fn refused_vectors(rt: HostRuntime) -> Result<(), Fail> {
+    for (march, memory, said, status) in REFUSED_VECTORS {
+        let mut host = MemHost::new(rt.alloc());
+        host.put("m", march)?;
+        host.put("d", memory)?;
+        let words = ["vectors", "m", "d", "o"];
+        assert_eq!(rt; run(rt.alloc(), &words, &mut host).status, status);
+        assert_eq!(rt; host.said(), said);
+        assert!(rt; host.get("o").is_none());
     }
     Ok(())
 }

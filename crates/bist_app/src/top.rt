@@ -11,6 +11,7 @@ use crate::conclude::conclude;
 use crate::ending::{Ended, Plan, Refusal};
 use crate::judge::decide_judge;
 use crate::sim::decide_sim;
+use crate::vectors::decide_vectors;
 use bist_host::Host;
 use std::alloc::Global;
 
@@ -28,6 +29,7 @@ fn decide<H: Host>(alloc: Global, words: &[&str], host: &mut H) -> Result<Plan, 
         None => Err(Refusal::Usage),
         Some(Command::Sim(shape)) => decide_sim(alloc, words, shape, host),
         Some(Command::Judge) => decide_judge(alloc, words, host),
+        Some(Command::Vectors) => decide_vectors(alloc, words, host),
     }
 }
 

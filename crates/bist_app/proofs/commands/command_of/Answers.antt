@@ -1,7 +1,7 @@
-use Rattle.std.proofs.Common.{◌≡◌, ◌∙◌, sym, true, false, cond}
+use Rattle.std.proofs.Common.{◌∙◌, sym}
 use Rattle.std.proofs.lemmas.Bool.{false≢true}
 use Rattle.bist_app.proofs.Shapes.{no_shape}
 use Rattle.bist_app.proofs.commands.command_of.Goals as goal
 
 pub returns : goal.returns
-returns c = no_shape c.args.words.now c.in_default.ensures (λ judge. absurd (false≢true (sym c.if-is_judge.false ∙ c.is_judge.ensures.1 judge)))
+returns c = no_shape c.args.words.now c.in_default.ensures (λ judge. absurd (false≢true (sym c.if-is_judge.false ∙ c.is_judge.ensures.1 judge))) (λ vectors. absurd (false≢true (sym c.if-is_vectors.false ∙ c.is_vectors.ensures.1 vectors)))

@@ -1,4 +1,4 @@
-use Rattle.std.proofs.Common.{◌≡◌, ◌∙◌, ap, sym, subst, length, List, ◌∷◌, [], nat_lt}
+use Rattle.std.proofs.Common.{◌∙◌, ap, sym, subst, length, ◌∷◌, [], nat_lt}
 use Rattle.bist_app.specs.Ending.{Written}
 use Rattle.bist_app.specs.Judge.{SomeEscapes}
 use Rattle.bist_app.proofs.Judging.{one_each, some_escape}

@@ -1,0 +1,71 @@
+-- The command `vectors MARCH MEMORY OUT`: its shape, its checks in their order, and what it leaves.
+use Rattle.std.specs.Prelude.{◌≡◌, ◌≢◌, ◌<◌, ◌≤◌, ◌+◌, ◌/◌, ◌++◌, ℕ, Bool, true, false, List, [], ◌∷◌, length, Result, Ok, Err, Option, codes, decimal}
+use Rattle.std.specs.List.{flat_map}
+use Rattle.bist_host.specs.Files.{Files}
+use Rattle.bist_text.specs.Numbers.{hex_digits}
+use Rattle.march_core.specs.March.{MarchElement}
+use Rattle.memory_desc.specs.Descriptions.{Description}
+use Rattle.word_march.specs.declared.iterators.TheConstants.{READ_LATENCY}
+use Rattle.word_march.specs.declared.operations.PortOp.{PortOp}
+use Rattle.word_march.specs.Commands.{port_ops, command_count}
+use Rattle.bist_app.specs.declared.ending.Refusal.{Refusal}
+use Rattle.bist_app.specs.declared.vectors.TheConstants.{CYCLE_LIMIT}
+use Rattle.bist_app.specs.Ending.{Done}
+use Rattle.bist_app.specs.Then.{Then}
+use Rattle.bist_app.specs.Words.{Words, word, ArePlain}
+use Rattle.bist_app.specs.Inputs.{InputMarch}
+use Rattle.bist_app.specs.Memories.{InputMemory}
+
+-- the words have the shape; no two files have one name
+pub record IsVectorsShape (words : Words) : Type 0 where
+  pub count : length words ≡ 4
+  pub name : word words 0 ≡ codes "vectors"
+  pub plain : ArePlain words
+  pub march_not_memory : word words 1 ≢ word words 2
+  pub march_not_out : word words 1 ≢ word words 3
+  pub memory_not_out : word words 2 ≢ word words 3
+
+-- the cycles of a self-test: the reset, the commands, and those in which the last answer comes and is compared
+abbrev pub cycles : List MarchElement → Description → ℕ
+cycles march d = command_count march d + READ_LATENCY + 2
+
+-- the test isn't too long
+unfoldable pub FitsLength : List MarchElement → Description → Result (Unit {0}) Refusal → Type 0
+FitsLength march d (Ok _) = cycles march d ≤ CYCLE_LIMIT
+FitsLength march d (Err (Refusal.TooLong number)) = (number ≡ cycles march d) × (CYCLE_LIMIT < cycles march d)
+FitsLength march d (Err other) = ⊥
+
+abbrev pub kind_text : Bool → List ℕ
+kind_text true = codes "w "
+kind_text false = codes "r "
+
+-- a command's line: whether it writes, its address, and its word in as many digits as the memory's words need
+abbrev pub command_line : ℕ → PortOp → List ℕ
+command_line bits o = kind_text o.write ++ decimal o.addr ++ codes " " ++ hex_digits ((bits + 3) / 4) o.word ++ codes "\n"
+
+abbrev pub command_lines : ℕ → List PortOp → List ℕ
+command_lines bits os = flat_map (command_line bits) os
+
+abbrev pub vectors_line : ℕ → List ℕ
+vectors_line count = codes "vectors " ++ decimal count ++ codes "\n"
+
+-- the commands, a line each, in the file that the third word names, and their number
+abbrev pub vectors_done : List MarchElement → Description → Done
+vectors_done march d = record {
+  found = false;
+  outputs = (record { position = 3; bytes = command_lines d.bits (port_ops march d) }) ∷ [];
+  line = vectors_line (command_count march d);
+}
+
+unfoldable pub LeavesVectors : List MarchElement → Description → Result Done Refusal → Type 0
+LeavesVectors march d (Ok done) = done ≡ vectors_done march d
+LeavesVectors march d (Err Refusal.NoMemory) = Unit {0}
+LeavesVectors march d (Err other) = ⊥
+
+-- the checks of `vectors` in their order
+abbrev pub DecidesVectors : Option Files → Words → Result Done Refusal → Type 0
+DecidesVectors files words =
+    Then (InputMarch files words 1) (λ march.
+    Then (InputMemory files words 2) (λ d.
+    Then (FitsLength march d) (λ _.
+    LeavesVectors march d)))

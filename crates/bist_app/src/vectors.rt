@@ -1,0 +1,162 @@
+//! The command `vectors`: the commands at a memory's port, a line each.
+
+ghost use Rattle.std.specs.Prelude.{◌≡◌, ◌≤◌, ◌<◌, ◌^◌, ◌↔◌, ◌++◌, ◌∷◌, [], length, map, IfOk, IfErr, OnOk, IsTrue};
+ghost use Rattle.bist_host.specs.Files.{Rose};
+ghost use Rattle.word_march.specs.Commands.{port_ops, command_count};
+ghost use Rattle.bist_app.specs.Ending.{plain, done_of, written_of};
+ghost use Rattle.bist_app.specs.Inputs.{HasReadCause, IsOwnRefusal};
+ghost use Rattle.bist_app.specs.Conclude.{NamesWords};
+ghost use Rattle.bist_app.specs.Vectors.{IsVectorsShape, FitsLength, kind_text, command_line, command_lines, vectors_line, vectors_done, LeavesVectors, DecidesVectors};
+
+use crate::ending::{Output, Plan, Refusal};
+use crate::inputs::read_march_input;
+use crate::lines::numbered;
+use crate::memories::read_memory_input;
+use crate::words::are_plain;
+use bist_bits::NoMemory;
+use bist_host::Host;
+use bist_text::{put_decimal, put_hex};
+use march_core::March;
+use memory_desc::Memory;
+use std::alloc::{AllocError, Global};
+use word_march::{PortOp, READ_LATENCY, port_ops};
+
+/// The word that names the file of the commands.
+const OUT: usize = 3;
+
+/// A self-test takes at most this many cycles.
+pub const CYCLE_LIMIT: u64 = 2_000_000;
+
+/// Whether the words have the shape of `vectors`.
+pub fn is_vectors(words: &[&str]) -> bool
+    ensures { IsTrue result ↔ IsVectorsShape words.now }
+{
+    let ["vectors", march, memory, out] = *words else {
+        return false;
+    };
+    are_plain(words) && march != memory && march != out && memory != out
+}
+
+/// Refuses a test that takes too many cycles.
+#[tactic(auto, unfolding(crate::specs::Vectors::FitsLength))]
+fn fit_length(march: &March, memory: &Memory) -> Result<(), Refusal>
+    ensures answer { FitsLength march.now memory.now result }
+    ensures own { IfErr result IsOwnRefusal }
+{
+    let cycles = word_march::length(march, memory) + READ_LATENCY + 2;
+    if cycles > CYCLE_LIMIT {
+        return Err(Refusal::TooLong { cycles });
+    }
+    Ok(())
+}
+
+fn put(out: &mut Vec<u8>, bytes: &[u8]) -> Result<(), NoMemory>
+    ensures { OnOk result (out.new.items ≡ out.old.items ++ bytes.now) }
+{
+    out.extend_from_slice(bytes).map_err(|_| NoMemory)
+}
+
+/// Appends whether a command writes.
+fn put_kind(out: &mut Vec<u8>, write: bool) -> Result<(), NoMemory>
+    ensures { OnOk result (out.new.items ≡ out.old.items ++ kind_text write) }
+{
+    put(out, if write { b"w " } else { b"r " })
+}
+
+/// Appends a command's line.
+fn put_command(out: &mut Vec<u8>, command: PortOp, bits: u8) -> Result<(), NoMemory>
+    requires bits { bits ≤ 64 }
+    requires fits { command.word < 2 ^ bits }
+    ensures { OnOk result (out.new.items ≡ out.old.items ++ command_line bits command) }
+{
+    put_kind(out, command.write)?;
+    put_decimal(out, u64::from(command.addr))?;
+    put(out, b" ")?;
+    put_hex(out, command.word, (bits + 3) / 4)?;
+    put(out, b"\n")
+}
+
+/// The commands, a line each.
+fn put_commands(alloc: Global, march: &March, memory: &Memory) -> Result<Vec<u8>, NoMemory>
+    ensures { IfOk result (λ text. text.items ≡ command_lines memory.now.bits (port_ops march.now memory.now)) }
+{
+    let mut text = Vec::new(alloc);
+    let bits = memory.bits();
+    for command in port_ops(march, memory) {
+        put_command(&mut text, command, bits)?;
+    }
+    Ok(text)
+}
+
+/// The file of the commands.
+fn vectors_output(alloc: Global, bytes: Vec<u8>) -> Result<Vec<Output>, NoMemory>
+    ensures { IfOk result (λ outputs. map written_of outputs.items ≡ (record { position = 3; bytes = bytes.items }) ∷ []) }
+{
+    let mut outputs = Vec::new(alloc);
+    let output = Output {
+        position: OUT,
+        bytes,
+    };
+    match outputs.push(output) {
+        Ok(()) => Ok(outputs),
+        Err(_) => Err(NoMemory),
+    }
+}
+
+/// The line that tells how many commands there are.
+fn count_line(alloc: Global, march: &March, memory: &Memory) -> Result<Vec<u8>, AllocError>
+    ensures { IfOk result (λ line. line.items ≡ vectors_line (command_count march.now memory.now)) }
+{
+    numbered(
+        alloc,
+        b"vectors ",
+        word_march::length(march, memory) as usize,
+    )
+}
+
+/// The commands as a plan.
+fn planned(alloc: Global, march: &March, memory: &Memory) -> Result<Plan, NoMemory>
+    ensures { IfOk result (λ plan. done_of plan ≡ vectors_done march.now memory.now) }
+{
+    let text = put_commands(alloc, march, memory)?;
+    let outputs = vectors_output(alloc, text)?;
+    match count_line(alloc, march, memory) {
+        Ok(line) => Ok(Plan {
+            found: false,
+            outputs,
+            line,
+        }),
+        Err(AllocError) => Err(NoMemory),
+    }
+}
+
+/// The plan, or want of memory.
+#[tactic(auto, unfolding(crate::specs::Vectors::LeavesVectors))]
+fn plan_vectors(alloc: Global, march: &March, memory: &Memory) -> Result<Plan, Refusal>
+    ensures own { IfErr result IsOwnRefusal }
+    ensures answer { LeavesVectors march.now memory.now (plain result) }
+    ensures outputs { IfOk result (λ plan. done_of plan ≡ vectors_done march.now memory.now) }
+{
+    match planned(alloc, march, memory) {
+        Ok(plan) => Ok(plan),
+        Err(NoMemory) => Err(Refusal::NoMemory),
+    }
+}
+
+/// Lists the commands of a march on a memory.
+#[tactic(auto, using(crate::proofs::Causes::own_cause))]
+pub fn decide_vectors<H: Host>(alloc: Global, words: &[&str], host: &mut H) -> Result<Plan, Refusal>
+    requires { IsVectorsShape words.now }
+    ensures files { H.files host.new ≡ H.files host.old }
+    ensures said { H.said host.new ≡ H.said host.old }
+    ensures writes { H.write_faults host.new ≡ H.write_faults host.old }
+    ensures reads { H.read_faults host.old ≤ H.read_faults host.new }
+    ensures outputs { IfOk result (λ plan. NamesWords words.now (done_of plan).outputs) }
+    ensures answer { DecidesVectors (H.files host.old) words.now (plain result) }
+    ensures cause { HasReadCause (H.files host.old) (Rose (H.read_faults host.old) (H.read_faults host.new)) result }
+{
+    let march = read_march_input(host, words, 1)?;
+    let memory = read_memory_input(host, words, 2)?;
+    fit_length(&march, &memory)?;
+    plan_vectors(alloc, &march, &memory)
+}
