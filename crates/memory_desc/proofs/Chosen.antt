@@ -8,10 +8,10 @@ use Rattle.std.proofs.lemmas.List.{length-map, take_all}
 use Rattle.backgrounds.specs.Backgrounds.{IsLogSet}
 use Rattle.memory_desc.specs.Descriptions.{IsBackgrounds}
 use Rattle.memory_desc.specs.LineText.{Content, version, name, words, bits, scramble, log, backgrounds, kind_of, ContentText}
-use Rattle.memory_desc.specs.Standing.{Keeps, Chooses, StandsAt, is_log}
+use Rattle.memory_desc.specs.Standing.{StandsAt, is_log}
 use Rattle.memory_desc.specs.Statements.{Statement}
 use Rattle.memory_desc.specs.Subjects.{about, said}
-use Rattle.memory_desc.specs.Table.{Unless, too_many, hollow, is_past, past, Tests}
+use Rattle.memory_desc.specs.Table.{Unless, too_many, hollow, is_past, past, Tests, Keeps, Chooses}
 use Rattle.memory_desc.specs.Values.{word_values, bits_said}
 use Rattle.memory_desc.specs.declared.line_place.Key.TheVariants.{Backgrounds as BackgroundsKey}
 use Rattle.memory_desc.specs.declared.content.Subject.TheVariants.{Backgrounds}

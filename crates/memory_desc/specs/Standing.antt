@@ -7,8 +7,8 @@ use Rattle.scrambler.specs.Scrambling.{matrix_of}
 use Rattle.memory_desc.specs.LineText.{Term, index_bit, constant, Content, words, bits, version, scramble, log, ContentText}
 use Rattle.memory_desc.specs.Statements.{Statement}
 use Rattle.memory_desc.specs.Subjects.{subject, about, said}
-use Rattle.memory_desc.specs.Values.{index_bits, constant_of, word_values, matrix_said, AreBackgrounds}
-use Rattle.memory_desc.specs.Table.{missing, missing_row, Unless, too_many, hollow}
+use Rattle.memory_desc.specs.Values.{index_bits, constant_of, word_values, matrix_said}
+use Rattle.memory_desc.specs.Table.{missing, missing_row}
 use Rattle.memory_desc.specs.declared.content.Subject.{Subject}
 use Rattle.memory_desc.specs.declared.content.Subject.TheVariants.{Row as BitRow}
 use Rattle.memory_desc.specs.declared.content.Row.{Row}
@@ -85,13 +85,3 @@ GivesRow ss bit (Err fault) = missing (BitRow bit) (RowField bit) ss ≡ Some fa
 abbrev pub GivesMatrix : List Statement → ℕ → Result Matrix MemoryFault → Type 0
 GivesMatrix ss width (Ok m) = (missing_row ss width ≡ None) × (matrix_of m.width m.rows m.constant ≡ matrix_said ss width)
 GivesMatrix ss width (Err fault) = missing_row ss width ≡ Some fault
-
--- ---- backgrounds
-
--- a set of at most 8 backgrounds of which one is 0, or the refusal
-abbrev pub Keeps : List ℕ → Result (List ℕ) MemoryFault → Type 0
-Keeps set r = Unless (too_many set) r (Unless (hollow set) r (r ≡ Ok set))
-
--- the backgrounds for words of so many bits, where this is said of them
-abbrev pub Chooses : Option Content → ℕ → Result (List ℕ) MemoryFault → Type 0
-Chooses c size r = (set : List ℕ) × AreBackgrounds c size set × Keeps set r

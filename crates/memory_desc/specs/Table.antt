@@ -118,10 +118,16 @@ too_many set = if nat_lt 8 (length set) then Some TooManyBackgrounds else None
 abbrev pub hollow : List ℕ → Option MemoryFault
 hollow set = if list_any (λ w. w == 0) set then None else Some NoSolidBackground
 
+-- a set of at most 8 backgrounds of which one is 0, or the refusal
+abbrev pub Keeps : List ℕ → Result (List ℕ) MemoryFault → Type 0
+Keeps set r = Unless (too_many set) r (Unless (hollow set) r (r ≡ Ok set))
+
+-- the backgrounds for words of so many bits, where this is said of them
+abbrev pub Chooses : Option Content → ℕ → Result (List ℕ) MemoryFault → Type 0
+Chooses c size r = (set : List ℕ) × AreBackgrounds c size set × Keeps set r
+
 abbrev pub Tests : List Statement → Result (List ℕ) MemoryFault → Type 0
-Tests ss r =
-    (set : List ℕ) × AreBackgrounds (said Backgrounds ss) (bits_said ss) set
-    × Unless (too_many set) r (Unless (hollow set) r (r ≡ Ok set))
+Tests ss r = Chooses (said Backgrounds ss) (bits_said ss) r
 
 -- ---- the whole
 

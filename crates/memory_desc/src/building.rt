@@ -5,9 +5,9 @@ ghost use Rattle.bist_text.specs.Lines.{text_lines};
 ghost use Rattle.scrambler.specs.Scrambling.{IsFull, IsInvertible, IsWithin, identity};
 ghost use Rattle.memory_desc.specs.Descriptions.{IsBackgrounds};
 ghost use Rattle.memory_desc.specs.Statements.{Statement, Say};
-ghost use Rattle.memory_desc.specs.Table.{is_scrambled, past, Scrambles, Tests};
+ghost use Rattle.memory_desc.specs.Table.{is_scrambled, past, Scrambles, Keeps, Chooses, Tests};
 ghost use Rattle.memory_desc.specs.LineText.{Content, backgrounds, kind_of, ContentText};
-ghost use Rattle.memory_desc.specs.Standing.{GivesMatrix, GivesRow, Keeps, Chooses};
+ghost use Rattle.memory_desc.specs.Standing.{GivesMatrix, GivesRow};
 ghost use Rattle.memory_desc.specs.Values.{bits_said, word_values};
 
 use crate::content::{Row, Subject, is_log, row_of, words_of};

@@ -1,5 +1,5 @@
 use Rattle.std.proofs.Common.{ℕ, Ok, subst}
-use Rattle.memory_desc.specs.Standing.{Chooses}
+use Rattle.memory_desc.specs.Table.{Chooses}
 use Rattle.memory_desc.specs.Subjects.{said}
 use Rattle.memory_desc.specs.declared.content.Subject.TheVariants.{Backgrounds}
 use Rattle.memory_desc.proofs.Chosen.{answer_serves, answer_tests, line_answers, none_answers}
