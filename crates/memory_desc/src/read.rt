@@ -10,7 +10,7 @@ ghost use Rattle.memory_desc.specs.Names.{IsName};
 ghost use Rattle.memory_desc.specs.Statements.{Statement, Say};
 ghost use Rattle.memory_desc.specs.Values.{name_said, words_said, bits_said};
 ghost use Rattle.memory_desc.specs.Standing.{checked};
-ghost use Rattle.memory_desc.specs.Table.{is_scrambled, unscramblable, Builds, Describes, Reads};
+ghost use Rattle.memory_desc.specs.Table.{is_scrambled, unscramblable, AreStatements, Builds, Describes, Reads};
 
 use crate::building::{backgrounds_from, scramble_from};
 use crate::content::{Subject, name_of, number_of};
@@ -78,12 +78,16 @@ fn described(bytes: &[u8]) -> Result<Memory, MemoryFault>
 }
 
 /// Reads a memory description. The first refusal decides, in the order of the table.
+#[tactic(auto, using(crate::proofs::OneReading::statements_one))]
 pub fn read_memory(bytes: &[u8]) -> Result<Memory, MemoryFault>
     // What is read is the memory that the text's statements describe, and each text that describes one is read as it.
     ensures ok { (d : Description) → (result ≡ Ok d) ↔ Reads bytes.now (Ok d) }
 
     // D1 to D9 and D11, exactly where they come.
     ensures refused { (fault : MemoryFault) → (result ≡ Err fault) ↔ Reads bytes.now (Err fault) }
+
+    // A text has no two readings.
+    ensures one_reading { (ss : List Statement) (ts : List Statement) → AreStatements bytes.now ss → AreStatements bytes.now ts → ss ≡ ts }
 {
     check_lines(bytes)?;
     described(bytes)
