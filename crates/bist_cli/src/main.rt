@@ -43,4 +43,6 @@ fn run_words<H: bist_host::Host>(
 }
 
 #[cfg(test)]
+mod calls;
+#[cfg(test)]
 mod tests;
