@@ -3,6 +3,7 @@
 ghost use Rattle.std.specs.Prelude.{◌≡◌, None, IfOk};
 
 use array_sim::{Instance, is_wrong, simulate};
+use arrayvec::ArrayString;
 use backgrounds::{log_set, separates, word_of};
 use bist_bits::{Bits, all_ones, concat, parity, select, width_of};
 use bist_text::{ByteSet, Cursor, Lines, decimal, hex, put_decimal, put_hex};
@@ -19,6 +20,7 @@ use pair_tracker::{Placement, Survivor, survivors};
 use report::{count_covered, write_report, write_total};
 use scrambler::{Dependence, Matrix, Scramble, invert};
 use std::test::Fail;
+use verilog_tree::{BinOp, Expr, Known, Name, is_name, value};
 use word_march::{PortOp, WordOp, length, port_ops, word_ops};
 
 const MATS_PLUS: &[u8] = b"{any(w0);up(r0,w1);down(r1,w0)}";
@@ -288,5 +290,29 @@ fn commands_of_a_memory(rt: HostRuntime) -> Result<(), Fail> {
     assert_eq!(rt; word_ops(&march, &memory).nth(2), Some(third));
     let third = PortOp { write, addr, word };
     assert_eq!(rt; port_ops(&march, &memory).nth(2), Some(third));
+    Ok(())
+}
+
+fn name(text: &str) -> Name {
+    ArrayString::from(text).unwrap_or(ArrayString::new())
+}
+
+#[test]
+fn names_and_values(rt: HostRuntime) -> Result<(), Fail> {
+    assert!(rt; is_name(&name("buffer_1")));
+    assert!(rt; !is_name(&name("buf")));
+    assert!(rt; !is_name(&name("1st")));
+
+    let names = [Known {
+        name: name("a"),
+        bits: Bits::new(4, 0b1101),
+    }];
+    let low = Expr::Part(name("a"), 1, 0);
+    assert_eq!(rt; value(&low, &names), Some(Bits::new(2, 0b01)));
+    let whole = Box::new(rt.alloc(), Expr::Name(name("a")))?;
+    let five = Box::new(rt.alloc(), Expr::Lit(Bits::new(4, 5)))?;
+    let sum = Expr::Binary(BinOp::Add, whole, five);
+    assert_eq!(rt; value(&sum, &names), Some(Bits::new(4, 0b0010)));
+    assert_eq!(rt; value(&sum, &[]), None);
     Ok(())
 }
