@@ -4,7 +4,6 @@ use Rattle.bist_host.specs.Files.{Files, ReadGives, IsReadable, IsTooLarge}
 use Rattle.march_core.specs.March.{MarchElement, IsMarch}
 use Rattle.fault_core.specs.Primitive.{Primitive, IsPrimitive}
 use Rattle.bist_app.specs.declared.ending.Refusal.{Refusal}
-use Rattle.bist_app.specs.declared.inputs.TheConstants.{INPUT_LIMIT}
 use Rattle.march_core.specs.declared.fault.MarchFault.{MarchFault}
 use Rattle.march_core.specs.declared.fault.MarchFault.TheVariants.{Unexpected, Truncated}
 use Rattle.bist_text.specs.Grammar.{IsUnexpected, IsTruncated}
@@ -20,12 +19,16 @@ use Rattle.fault_syntax.specs.Lists.{Bring, FirstRefusal}
 use Rattle.bist_app.specs.Then.{Then}
 use Rattle.bist_app.specs.Words.{Words, word}
 
+-- an input file has at most this many bytes
+abbrev pub input_limit : ℕ
+input_limit = 1048576
+
 -- the named file's bytes, or why it has none; nothing is known of files that aren't told
 abbrev pub GivesBytes : Option Files → List ℕ → ℕ → Result (List ℕ) Refusal → Type 0
-GivesBytes files name position (Ok bytes) = ReadGives files name INPUT_LIMIT bytes
+GivesBytes files name position (Ok bytes) = ReadGives files name input_limit bytes
 GivesBytes (Some files) name position (Err (Refusal.Absent p)) = (p ≡ position) × (files name ≡ None)
-GivesBytes (Some files) name position (Err (Refusal.TooLarge p)) = (p ≡ position) × IsTooLarge (files name) INPUT_LIMIT
-GivesBytes (Some files) name position (Err (Refusal.ReadFailed p)) = (p ≡ position) × IsReadable (files name) INPUT_LIMIT
+GivesBytes (Some files) name position (Err (Refusal.TooLarge p)) = (p ≡ position) × IsTooLarge (files name) input_limit
+GivesBytes (Some files) name position (Err (Refusal.ReadFailed p)) = (p ≡ position) × IsReadable (files name) input_limit
 GivesBytes None name position (Err (Refusal.Absent p)) = p ≡ position
 GivesBytes None name position (Err (Refusal.TooLarge p)) = p ≡ position
 GivesBytes None name position (Err (Refusal.ReadFailed p)) = p ≡ position

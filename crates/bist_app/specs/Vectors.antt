@@ -5,11 +5,9 @@ use Rattle.bist_host.specs.Files.{Files}
 use Rattle.bist_text.specs.Numbers.{hex_digits}
 use Rattle.march_core.specs.March.{MarchElement}
 use Rattle.memory_desc.specs.Descriptions.{Description}
-use Rattle.word_march.specs.declared.iterators.TheConstants.{READ_LATENCY}
 use Rattle.word_march.specs.declared.operations.PortOp.{PortOp}
 use Rattle.word_march.specs.Commands.{port_ops, command_count}
 use Rattle.bist_app.specs.declared.ending.Refusal.{Refusal}
-use Rattle.bist_app.specs.declared.vectors.TheConstants.{CYCLE_LIMIT}
 use Rattle.bist_app.specs.Ending.{Done}
 use Rattle.bist_app.specs.Then.{Then}
 use Rattle.bist_app.specs.Words.{Words, word, ArePlain}
@@ -25,14 +23,18 @@ pub record IsVectorsShape (words : Words) : Type 0 where
   pub march_not_out : word words 1 ≢ word words 3
   pub memory_not_out : word words 2 ≢ word words 3
 
--- the cycles of a self-test: the reset, the commands, and those in which the last answer comes and is compared
+-- the cycles of a self-test: one for the reset, one a command, and two in which the last answer comes and is compared
 abbrev pub cycles : List MarchElement → Description → ℕ
-cycles march d = command_count march d + READ_LATENCY + 2
+cycles march d = command_count march d + 3
+
+-- a self-test takes at most this many cycles
+abbrev pub cycle_limit : ℕ
+cycle_limit = 2000000
 
 -- the test isn't too long
 unfoldable pub FitsLength : List MarchElement → Description → Result (Unit {0}) Refusal → Type 0
-FitsLength march d (Ok _) = cycles march d ≤ CYCLE_LIMIT
-FitsLength march d (Err (Refusal.TooLong number)) = (number ≡ cycles march d) × (CYCLE_LIMIT < cycles march d)
+FitsLength march d (Ok _) = cycles march d ≤ cycle_limit
+FitsLength march d (Err (Refusal.TooLong number)) = (number ≡ cycles march d) × (cycle_limit < cycles march d)
 FitsLength march d (Err other) = ⊥
 
 abbrev pub kind_text : Bool → List ℕ

@@ -10,7 +10,7 @@ use march_core::March;
 use march_syntax::read_march;
 
 /// An input file has at most this many bytes.
-pub const INPUT_LIMIT: usize = 1_048_576;
+const INPUT_LIMIT: usize = 1_048_576;
 
 /// The bytes of the file that a word names.
 pub fn read_input<H: Host>(

@@ -25,7 +25,7 @@ use word_march::{PortOp, READ_LATENCY, port_ops};
 const OUT: usize = 3;
 
 /// A self-test takes at most this many cycles.
-pub const CYCLE_LIMIT: u64 = 2_000_000;
+const CYCLE_LIMIT: u64 = 2_000_000;
 
 /// Whether the words have the shape of `vectors`.
 pub fn is_vectors(words: &[&str]) -> bool
