@@ -271,7 +271,13 @@ fn scrambled_addresses(rt: HostRuntime) -> Result<(), Fail> {
 
 #[test]
 fn words_of_backgrounds(rt: HostRuntime) {
+    assert_eq!(rt; log_set(1).as_slice(), [0].as_slice());
     assert_eq!(rt; log_set(5).as_slice(), [0x00, 0x0a, 0x0c, 0x10].as_slice());
+    assert_eq!(rt; log_set(8).as_slice(), [0x00, 0xaa, 0xcc, 0xf0].as_slice());
+    let widest = log_set(64);
+    assert_eq!(rt; widest.len(), 7);
+    assert_eq!(rt; widest.get(1), Some(&0xaaaa_aaaa_aaaa_aaaa));
+    assert_eq!(rt; widest.last(), Some(&0xffff_ffff_0000_0000));
     assert_eq!(rt; word_of(0x0a, true, 5), 0x15);
     assert!(rt; separates(&[0x00, 0x0a], 0, 1));
     assert!(rt; !separates(&[0x00, 0x0a], 0, 2));
