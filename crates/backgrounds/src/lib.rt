@@ -84,20 +84,3 @@ fn differ(word: u64, i: u8, j: u8) -> bool
 {
     (word >> i) & 1 != (word >> j) & 1
 }
-
-#[cfg(test)]
-mod tests {
-    use super::*;
-
-    #[test]
-    fn logarithmic_sets(rt: HostRuntime) {
-        assert_eq!(rt; log_set(1).as_slice(), [0].as_slice());
-        assert_eq!(rt; log_set(5).as_slice(), [0x00, 0x0a, 0x0c, 0x10].as_slice());
-        assert_eq!(rt; log_set(8).as_slice(), [0x00, 0xaa, 0xcc, 0xf0].as_slice());
-
-        let widest = log_set(64);
-        assert_eq!(rt; widest.len(), 7);
-        assert_eq!(rt; widest.as_slice().get(1), Some(&0xaaaa_aaaa_aaaa_aaaa));
-        assert_eq!(rt; widest.as_slice().last(), Some(&0xffff_ffff_0000_0000));
-    }
-}

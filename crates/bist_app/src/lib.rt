@@ -18,6 +18,3 @@ mod words;
 
 pub use ending::Ended;
 pub use top::run;
-
-#[cfg(test)]
-mod tests;

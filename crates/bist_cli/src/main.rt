@@ -43,6 +43,4 @@ fn run_words<H: bist_host::Host>(
 }
 
 #[cfg(test)]
-mod calls;
-#[cfg(test)]
-mod tests;
+mod rows;

@@ -11,6 +11,3 @@ pub use fail_host::FailHost;
 pub use host::{Host, HostFault};
 pub use mem_host::MemHost;
 pub use real_host::RealHost;
-
-#[cfg(test)]
-mod tests;

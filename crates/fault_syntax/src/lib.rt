@@ -13,6 +13,3 @@ pub use fault::FaultFault;
 pub use list::read_list;
 pub use prim::read_prim;
 pub use print::print_prim;
-
-#[cfg(test)]
-mod tests;

@@ -7,6 +7,3 @@ mod read;
 
 pub use print::print_march;
 pub use read::read_march;
-
-#[cfg(test)]
-mod tests;

@@ -17,6 +17,3 @@ pub use fault::{Field, MemoryFault};
 pub use memory::Memory;
 pub use print::print_memory;
 pub use read::read_memory;
-
-#[cfg(test)]
-mod tests;

@@ -14,8 +14,6 @@ mod mentions;
 mod names;
 mod rules;
 mod sizes;
-#[cfg(test)]
-mod tests;
 mod tree;
 mod values;
 mod widths;

@@ -1,4 +1,6 @@
-use crate::{FailHost, Host, HostFault, MemHost};
+//! The hosts in memory, without and with failing calls.
+
+use bist_host::{FailHost, Host, HostFault, MemHost};
 use std::test::Fail;
 
 #[test]

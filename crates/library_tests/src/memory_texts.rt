@@ -1,4 +1,6 @@
-use super::*;
+//! Texts of memory descriptions, and what the reader says of them.
+
+use memory_desc::{Field, MemoryFault, print_memory, read_memory};
 use std::test::Fail;
 
 fn refusal(text: &str) -> Option<MemoryFault> {

@@ -1,4 +1,6 @@
-use crate::run;
+//! Worked examples of the commands, over hosts in memory and over real files.
+
+use bist_app::run;
 use bist_host::{FailHost, Host, MemHost, RealHost};
 use std::test::Fail;
 use std::{env, fs, process};

@@ -1,14 +1,12 @@
 //! Rows of the rules, each a small module and what `check` says of it.
 
-use crate::fault::TreeFault;
-use crate::layout::fits;
-use crate::rules::check;
-use crate::sizes::formed;
-use crate::tree::{BinOp, Decl, Dir, Expr, Item, Module, Name, Port, Stmt};
 use arrayvec::ArrayString;
 use bist_bits::{Bits, NoMemory};
 use std::alloc::Global;
 use std::test::Fail;
+use verilog_tree::{
+    BinOp, Decl, Dir, Expr, Item, Module, Name, Port, Stmt, TreeFault, check, fits, formed,
+};
 
 fn name(text: &str) -> Name {
     ArrayString::from(text).unwrap_or(ArrayString::new())

@@ -1,5 +1,7 @@
-use crate::{print_march, read_march};
+//! Texts of marches, and what the reader says of them.
+
 use march_core::MarchFault;
+use march_syntax::{print_march, read_march};
 use std::alloc::{AllocError, Global};
 use std::test::Fail;
 

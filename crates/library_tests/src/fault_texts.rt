@@ -1,4 +1,6 @@
-use crate::{FaultFault, print_prim, read_list, read_prim};
+//! Texts of primitives and of lists, and what the readers say of them.
+
+use fault_syntax::{FaultFault, print_prim, read_list, read_prim};
 use std::test::Fail;
 
 fn unexpected(byte: usize) -> FaultFault {

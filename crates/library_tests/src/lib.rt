@@ -1,0 +1,18 @@
+//! Tests of the libraries through their public calls. They stand in a crate of their own above all of them, since
+//! a crate that has tests is proved once more with them.
+#![tactic(auto)]
+
+#[cfg(test)]
+mod calls;
+#[cfg(test)]
+mod fault_texts;
+#[cfg(test)]
+mod hosts;
+#[cfg(test)]
+mod march_texts;
+#[cfg(test)]
+mod memory_texts;
+#[cfg(test)]
+mod small_arrays;
+#[cfg(test)]
+mod verilog_rules;
