@@ -1,11 +1,11 @@
 -- Where neither count rose and there was memory, the answer is that of the told files.
 use Rattle.std.proofs.Common.{◌≡◌, inl, inr, refl, List, ℕ, Option, Some, None, Ok, Err, ◌∙◌}
 use Rattle.bist_host.specs.Files.{Files}
-use Rattle.bist_app.specs.declared.ending.Refusal.{Refusal}
-use Rattle.bist_app.specs.declared.conclude.WriteStop.{WriteStop}
-use Rattle.bist_app.specs.Words.{Words}
-use Rattle.bist_app.specs.Ending.{Done, status_of}
-use Rattle.bist_app.specs.Inputs.{HasReadCause}
+use Rattle.bist_endings.specs.declared.ending.Refusal.{Refusal}
+use Rattle.bist_endings.specs.declared.concluding.WriteStop.{WriteStop}
+use Rattle.bist_endings.specs.Words.{Words}
+use Rattle.bist_endings.specs.Ending.{Done, status_of}
+use Rattle.bist_inputs.specs.Inputs.{HasReadCause}
 use Rattle.bist_app.specs.Answer.{Answers, IsSettledRefusal, IsComplete}
 use Rattle.bist_app.specs.Run.{Runs}
 

@@ -1,9 +1,8 @@
-pub mod Causes
+mod Causes
 pub mod Usage
 pub mod Statuses
 pub mod Complete
 pub mod Shapes
 pub mod DirectionWord
 pub mod Judging
-pub mod Rows
 pub mod Listing

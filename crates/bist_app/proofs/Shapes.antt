@@ -1,7 +1,7 @@
 -- Words that have the shape of no command.
 use Rattle.bist_app.specs.declared.commands.Command.{Command}
 use Rattle.bist_app.specs.declared.sim.SimShape.{SimShape}
-use Rattle.bist_app.specs.Words.{Words}
+use Rattle.bist_endings.specs.Words.{Words}
 use Rattle.bist_app.specs.Sim.{IsSimShape}
 use Rattle.bist_app.specs.Judge.{IsJudgeShape}
 use Rattle.bist_app.specs.Vectors.{IsVectorsShape}

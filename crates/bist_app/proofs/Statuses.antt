@@ -1,12 +1,12 @@
 -- Which status comes from what.
 use Rattle.std.proofs.Common.{◌≡◌, ◌⊎◌, inl, inr, List, ℕ, Bool, true, false, Option, Some, None, Result, Ok, Err, ◌∙◌, ap, refl, subst, ◌<◌, ◌≤◌, arith}
 use Rattle.bist_host.specs.Files.{Files}
-use Rattle.bist_app.specs.declared.ending.Refusal.{Refusal}
-use Rattle.bist_app.specs.declared.conclude.WriteStop.{WriteStop}
-use Rattle.bist_app.specs.Words.{Words}
-use Rattle.bist_app.specs.Ending.{Done, status_of, found_status}
-use Rattle.bist_app.specs.Inputs.{HasReadCause}
-use Rattle.bist_app.specs.Conclude.{RefusalEnds, SaysAfterWrites}
+use Rattle.bist_endings.specs.declared.ending.Refusal.{Refusal}
+use Rattle.bist_endings.specs.declared.concluding.WriteStop.{WriteStop}
+use Rattle.bist_endings.specs.Words.{Words}
+use Rattle.bist_endings.specs.Ending.{Done, status_of, found_status}
+use Rattle.bist_inputs.specs.Inputs.{HasReadCause}
+use Rattle.bist_endings.specs.Conclude.{RefusalEnds, SaysAfterWrites}
 use Rattle.bist_app.specs.Run.{Runs, HasNoShape, DecidesCommand}
 use Rattle.bist_app.proofs.Usage.{never_usage}
 

@@ -1,57 +1,22 @@
 -- No command's checks refuse the words.
-use Rattle.std.proofs.Common.{◌≡◌, List, ℕ, Option, Some, None, Result, Ok, Err, subst, refl}
+use Rattle.std.proofs.Common.{List, ℕ, Option, Result, Ok, Err, refl}
 use Rattle.bist_host.specs.Files.{Files}
 use Rattle.march_core.specs.March.{MarchElement}
 use Rattle.array_sim.specs.declared.element_run.Miss.{Miss}
-use Rattle.bist_app.specs.declared.ending.Refusal.{Refusal}
-use Rattle.bist_app.specs.declared.commands.Command.{Command}
-use Rattle.bist_app.specs.declared.sim.SimShape.{SimShape}
-use Rattle.bist_app.specs.Ending.{Done}
-use Rattle.bist_app.specs.Words.{Words, word}
-use Rattle.bist_app.specs.Inputs.{GivesBytes, GivesMarch, InputMarch, GivesPrim, GivesList, InputList}
-use Rattle.bist_app.specs.Sim.{FitsAggressor, FitsDirections, LeavesSim, DecidesSim}
-use Rattle.bist_app.specs.Judge.{LeavesJudge, DecidesJudge}
 use Rattle.fault_core.specs.Primitive.{Primitive}
 use Rattle.memory_desc.specs.Descriptions.{Description}
-use Rattle.bist_app.specs.Memories.{GivesMemory, InputMemory}
+use Rattle.bist_endings.specs.declared.ending.Refusal.{Refusal}
+use Rattle.bist_endings.specs.Ending.{Done}
+use Rattle.bist_endings.specs.Words.{Words, word}
+use Rattle.bist_inputs.specs.Inputs.{InputMarch, GivesPrim, InputList}
+use Rattle.bist_inputs.specs.Memories.{InputMemory}
+use Rattle.bist_inputs.proofs.Usage.{NeverUsage, turned, input_march_never, prim_never, input_list_never, input_memory_never}
+use Rattle.bist_app.specs.declared.commands.Command.{Command}
+use Rattle.bist_app.specs.declared.sim.SimShape.{SimShape}
+use Rattle.bist_app.specs.Sim.{FitsAggressor, FitsDirections, LeavesSim, DecidesSim}
+use Rattle.bist_app.specs.Judge.{LeavesJudge, DecidesJudge}
 use Rattle.bist_app.specs.Vectors.{FitsLength, LeavesVectors, DecidesVectors}
 use Rattle.bist_app.specs.Run.{DecidesCommand}
-
--- a check that never answers usage
-abbrev pub NeverUsage : {A : Type 0} → (Result A Refusal → Type 0) → Type 0
-NeverUsage check = check (Err Refusal.Usage) → ⊥
-
--- the refusal of a check that stops the checks behind it
-turned : {A B : Type 0} (check : Result A Refusal → Type 0) (outcome : Result B Refusal) (e : Refusal) → outcome ≡ Err Refusal.Usage → outcome ≡ Err e → check (Err e) → check (Err Refusal.Usage)
-turned {A} {B} check outcome e usage is h = let same : e ≡ Refusal.Usage = cc in subst (λ f. check (Err f)) same h
-
-bytes_never : (files : Option Files) (name : List ℕ) (position : ℕ) → NeverUsage (GivesBytes files name position)
-bytes_never (Some files) name position h = h
-bytes_never None name position h = h
-
-march_never : (bytes : List ℕ) → NeverUsage (GivesMarch bytes)
-unfolding GivesMarch
-march_never bytes h = h
-
-pub input_march_never : (files : Option Files) (words : Words) (position : ℕ) → NeverUsage (InputMarch files words position)
-unfolding InputMarch
-input_march_never files words position (Ok bytes, read, march) = march_never bytes march
-input_march_never files words position (Err e, read, is) =
-    bytes_never files (word words position) position (turned (GivesBytes files (word words position) position) (let x : Result (List MarchElement) Refusal = Err Refusal.Usage in x) e refl is read)
-
-pub prim_never : (text : List ℕ) → NeverUsage (GivesPrim text)
-unfolding GivesPrim
-prim_never text h = h
-
-list_never : (bytes : List ℕ) → NeverUsage (GivesList bytes)
-unfolding GivesList
-list_never bytes h = h
-
-input_list_never : (files : Option Files) (words : Words) (position : ℕ) → NeverUsage (InputList files words position)
-unfolding InputList
-input_list_never files words position (Ok bytes, read, list) = list_never bytes list
-input_list_never files words position (Err e, read, is) =
-    bytes_never files (word words position) position (turned (GivesBytes files (word words position) position) (let x : Result (List Primitive) Refusal = Err Refusal.Usage in x) e refl is read)
 
 aggressor_never : (aggressor : Option ℕ) (prim : Primitive) → NeverUsage (FitsAggressor aggressor prim)
 unfolding FitsAggressor
@@ -86,16 +51,6 @@ judge_never files words (Err e, read, is) =
 judge_never files words (Ok march, read, (Err e, given, is)) =
     input_list_never files words 2 (turned (InputList files words 2) (let x : Result Done Refusal = Err Refusal.Usage in x) e refl is given)
 judge_never files words (Ok march, read, (Ok prims, given, leaves)) = judge_leaves_never march prims leaves
-
-memory_never : (bytes : List ℕ) → NeverUsage (GivesMemory bytes)
-unfolding GivesMemory
-memory_never bytes h = h
-
-pub input_memory_never : (files : Option Files) (words : Words) (position : ℕ) → NeverUsage (InputMemory files words position)
-unfolding InputMemory
-input_memory_never files words position (Ok bytes, read, memory) = memory_never bytes memory
-input_memory_never files words position (Err e, read, is) =
-    bytes_never files (word words position) position (turned (GivesBytes files (word words position) position) (let x : Result Description Refusal = Err Refusal.Usage in x) e refl is read)
 
 length_never : (march : List MarchElement) (d : Description) → NeverUsage (FitsLength march d)
 unfolding FitsLength

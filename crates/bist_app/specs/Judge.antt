@@ -8,11 +8,11 @@ use Rattle.array_sim.specs.Detection.{Detects}
 use Rattle.coverage.specs.declared.verdict.Verdict.{Verdict}
 use Rattle.coverage.specs.Verdicts.{AreVerdicts}
 use Rattle.report.specs.Report.{report_text, total_line, covered_count}
-use Rattle.bist_app.specs.declared.ending.Refusal.{Refusal}
-use Rattle.bist_app.specs.Ending.{Done}
-use Rattle.bist_app.specs.Then.{Then}
-use Rattle.bist_app.specs.Words.{Words, word, ArePlain}
-use Rattle.bist_app.specs.Inputs.{InputMarch, InputList}
+use Rattle.bist_endings.specs.declared.ending.Refusal.{Refusal}
+use Rattle.bist_endings.specs.Ending.{Done}
+use Rattle.bist_endings.specs.Then.{Then}
+use Rattle.bist_endings.specs.Words.{Words, word, ArePlain}
+use Rattle.bist_inputs.specs.Inputs.{InputMarch, InputList}
 
 -- the words have the shape; no two files have one name
 pub record IsJudgeShape (words : Words) : Type 0 where

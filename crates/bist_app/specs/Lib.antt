@@ -1,12 +1,6 @@
-pub mod Then
-pub mod Words
-pub mod Inputs
-pub mod Ending
 pub mod Sim
 pub mod Judge
-pub mod Memories
 pub mod Vectors
 pub mod LetterBits
-pub mod Conclude
 pub mod Run
 pub mod Answer

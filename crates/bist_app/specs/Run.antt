@@ -1,12 +1,12 @@
 -- The top call: what the words ask for, decided, and ended.
 use Rattle.std.specs.Prelude.{◌≡◌, ℕ, List, Option, Result, Err, MatchOption}
 use Rattle.bist_host.specs.Files.{Files}
-use Rattle.bist_app.specs.declared.ending.Refusal.{Refusal}
+use Rattle.bist_endings.specs.declared.ending.Refusal.{Refusal}
 use Rattle.bist_app.specs.declared.commands.Command.{Command}
-use Rattle.bist_app.specs.Ending.{Done}
-use Rattle.bist_app.specs.Words.{Words}
-use Rattle.bist_app.specs.Inputs.{HasReadCause}
-use Rattle.bist_app.specs.Conclude.{Ends}
+use Rattle.bist_endings.specs.Ending.{Done}
+use Rattle.bist_endings.specs.Words.{Words}
+use Rattle.bist_inputs.specs.Inputs.{HasReadCause}
+use Rattle.bist_endings.specs.Conclude.{Ends}
 use Rattle.bist_app.specs.Sim.{IsSimShape, DecidesSim}
 use Rattle.bist_app.specs.Judge.{IsJudgeShape, DecidesJudge}
 use Rattle.bist_app.specs.Vectors.{IsVectorsShape, DecidesVectors}

@@ -7,13 +7,13 @@ use Rattle.fault_core.specs.declared.cells.Places.{Places}
 use Rattle.fault_core.specs.Primitive.{Primitive, has_aggressor}
 use Rattle.array_sim.specs.declared.element_run.Miss.{Miss}
 use Rattle.array_sim.specs.Run.{outcome_of}
-use Rattle.bist_app.specs.declared.ending.Refusal.{Refusal}
-use Rattle.bist_app.specs.declared.ending.Misfit.{Misfit}
+use Rattle.bist_endings.specs.declared.ending.Refusal.{Refusal}
+use Rattle.bist_endings.specs.declared.ending.Misfit.{Misfit}
 use Rattle.bist_app.specs.declared.sim.SimShape.{SimShape}
-use Rattle.bist_app.specs.Ending.{Done}
-use Rattle.bist_app.specs.Then.{Then}
-use Rattle.bist_app.specs.Words.{Words, word, ArePlain, IsNumber}
-use Rattle.bist_app.specs.Inputs.{InputMarch, GivesPrim}
+use Rattle.bist_endings.specs.Ending.{Done}
+use Rattle.bist_endings.specs.Then.{Then}
+use Rattle.bist_endings.specs.Words.{Words, word, ArePlain, IsNumber}
+use Rattle.bist_inputs.specs.Inputs.{InputMarch, GivesPrim}
 
 -- a digit 0 or 1
 abbrev pub IsBit : ℕ → Type 0

@@ -7,12 +7,12 @@ use Rattle.march_core.specs.March.{MarchElement}
 use Rattle.memory_desc.specs.Descriptions.{Description}
 use Rattle.word_march.specs.declared.operations.PortOp.{PortOp}
 use Rattle.word_march.specs.Commands.{port_ops, command_count}
-use Rattle.bist_app.specs.declared.ending.Refusal.{Refusal}
-use Rattle.bist_app.specs.Ending.{Done}
-use Rattle.bist_app.specs.Then.{Then}
-use Rattle.bist_app.specs.Words.{Words, word, ArePlain}
-use Rattle.bist_app.specs.Inputs.{InputMarch}
-use Rattle.bist_app.specs.Memories.{InputMemory}
+use Rattle.bist_endings.specs.declared.ending.Refusal.{Refusal}
+use Rattle.bist_endings.specs.Ending.{Done}
+use Rattle.bist_endings.specs.Then.{Then}
+use Rattle.bist_endings.specs.Words.{Words, word, ArePlain}
+use Rattle.bist_inputs.specs.Inputs.{InputMarch}
+use Rattle.bist_inputs.specs.Memories.{InputMemory}
 
 -- the words have the shape; no two files have one name
 pub record IsVectorsShape (words : Words) : Type 0 where

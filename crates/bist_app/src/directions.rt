@@ -1,10 +1,10 @@
 ghost use Rattle.std.specs.Prelude.{◌≡◌, ◌<◌, ◌≤◌, ◌-◌, ◌%◌, ◌^◌, ◌==◌, length, OnOk, IfErr, IsTrue};
 ghost use Rattle.march_core.specs.Visits.{directions_of, is_direction, FitsWord};
-ghost use Rattle.bist_app.specs.Inputs.{IsOwnRefusal};
+ghost use Rattle.bist_inputs.specs.Inputs.{IsOwnRefusal};
 ghost use Rattle.bist_app.specs.Sim.{directions_of_letters, FitsDirections};
 ghost use Rattle.bist_app.specs.LetterBits.{HasBits};
 
-use crate::ending::{Misfit, Refusal};
+use bist_endings::{Misfit, Refusal};
 use march_core::March;
 
 /// The bit of a letter: 1 for downward.

@@ -2,17 +2,15 @@ ghost use Rattle.std.specs.Prelude.{◌≡◌, ◌≤◌, ◌<◌, ◌↔◌, �
 ghost use Rattle.bist_host.specs.Files.{Rose};
 ghost use Rattle.coverage.specs.Verdicts.{AreVerdicts};
 ghost use Rattle.report.specs.Report.{total_line, covered_count};
-ghost use Rattle.bist_app.specs.Ending.{plain, done_of, written_of};
-ghost use Rattle.bist_app.specs.Inputs.{HasReadCause, IsOwnRefusal};
-ghost use Rattle.bist_app.specs.Conclude.{NamesWords};
+ghost use Rattle.bist_endings.specs.Ending.{plain, done_of, written_of};
+ghost use Rattle.bist_inputs.specs.Inputs.{HasReadCause, IsOwnRefusal};
+ghost use Rattle.bist_endings.specs.Conclude.{NamesWords};
 ghost use Rattle.bist_app.specs.Judge.{IsJudgeShape, IsJudged, LeavesJudge, DecidesJudge};
 
-use crate::ending::{Output, Plan, Refusal};
-use crate::inputs::read_march_input;
-use crate::texts::read_list_input;
-use crate::words::are_plain;
 use bist_bits::NoMemory;
+use bist_endings::{Output, Plan, Refusal, are_plain};
 use bist_host::Host;
+use bist_inputs::{read_list_input, read_march_input};
 use coverage::{Verdict, judge_all};
 use fault_core::Prim;
 use march_core::March;

@@ -2,19 +2,11 @@
 #![tactic(auto)]
 
 mod commands;
-mod conclude;
 mod directions;
-mod ending;
-mod inputs;
 mod judge;
-mod lines;
-mod memories;
-mod memory_lines;
 mod sim;
-mod texts;
 mod top;
 mod vectors;
-mod words;
 
-pub use ending::Ended;
+pub use bist_endings::Ended;
 pub use top::run;

@@ -1,17 +1,16 @@
 ghost use Rattle.std.specs.Prelude.{◌≡◌, ◌≤◌, ◌⊎◌, IfOk, None};
 ghost use Rattle.bist_host.specs.Files.{Rose};
-ghost use Rattle.bist_app.specs.Ending.{plain, done_of};
-ghost use Rattle.bist_app.specs.Inputs.{HasReadCause};
-ghost use Rattle.bist_app.specs.Conclude.{NamesWords};
+ghost use Rattle.bist_endings.specs.Ending.{plain, done_of};
+ghost use Rattle.bist_inputs.specs.Inputs.{HasReadCause};
+ghost use Rattle.bist_endings.specs.Conclude.{NamesWords};
 ghost use Rattle.bist_app.specs.Answer.{IsComplete};
 ghost use Rattle.bist_app.specs.Run.{Decides, Runs, HasNoShape};
 
 use crate::commands::{Command, command_of};
-use crate::conclude::conclude;
-use crate::ending::{Ended, Plan, Refusal};
 use crate::judge::decide_judge;
 use crate::sim::decide_sim;
 use crate::vectors::decide_vectors;
+use bist_endings::{Ended, Plan, Refusal, conclude};
 use bist_host::Host;
 use std::alloc::Global;
 

@@ -3,18 +3,15 @@
 ghost use Rattle.std.specs.Prelude.{◌≡◌, ◌≤◌, ◌<◌, ◌^◌, ◌↔◌, ◌++◌, ◌∷◌, [], length, map, IfOk, IfErr, OnOk, IsTrue};
 ghost use Rattle.bist_host.specs.Files.{Rose};
 ghost use Rattle.word_march.specs.Commands.{port_ops, command_count};
-ghost use Rattle.bist_app.specs.Ending.{plain, done_of, written_of};
-ghost use Rattle.bist_app.specs.Inputs.{HasReadCause, IsOwnRefusal};
-ghost use Rattle.bist_app.specs.Conclude.{NamesWords};
+ghost use Rattle.bist_endings.specs.Ending.{plain, done_of, written_of};
+ghost use Rattle.bist_inputs.specs.Inputs.{HasReadCause, IsOwnRefusal};
+ghost use Rattle.bist_endings.specs.Conclude.{NamesWords};
 ghost use Rattle.bist_app.specs.Vectors.{IsVectorsShape, FitsLength, kind_text, command_line, command_lines, vectors_line, vectors_done, LeavesVectors, DecidesVectors};
 
-use crate::ending::{Output, Plan, Refusal};
-use crate::inputs::read_march_input;
-use crate::lines::numbered;
-use crate::memories::read_memory_input;
-use crate::words::are_plain;
 use bist_bits::NoMemory;
+use bist_endings::{Output, Plan, Refusal, are_plain, numbered};
 use bist_host::Host;
+use bist_inputs::{read_march_input, read_memory_input};
 use bist_text::{put_decimal, put_hex};
 use march_core::March;
 use memory_desc::Memory;

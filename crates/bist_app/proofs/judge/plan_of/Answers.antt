@@ -1,5 +1,5 @@
 use Rattle.std.proofs.Common.{◌∙◌, ap, sym, subst, length, ◌∷◌, [], nat_lt}
-use Rattle.bist_app.specs.Ending.{Written}
+use Rattle.bist_endings.specs.Ending.{Written}
 use Rattle.bist_app.specs.Judge.{SomeEscapes}
 use Rattle.bist_app.proofs.Judging.{one_each, some_escape}
 use Rattle.bist_app.proofs.judge.plan_of.Goals as goal

@@ -1,0 +1,120 @@
+-- What a command ends with: its plan as plain data, the statuses and the said lines.
+use Rattle.std.specs.Prelude.{◌++◌, ◌==◌, ℕ, zero, suc, Bool, true, false, if◌then◌else◌, List, [], map, Result, Ok, Err, codes, decimal}
+use Rattle.std.specs.Int.{bit_at}
+use Rattle.march_core.specs.declared.fault.MarchFault.{MarchFault}
+use Rattle.fault_syntax.specs.declared.fault.FaultFault.{FaultFault}
+use Rattle.memory_desc.specs.declared.fault.Field.{Field}
+use Rattle.memory_desc.specs.declared.fault.MemoryFault.{MemoryFault}
+use Rattle.bist_endings.specs.declared.ending.Refusal.{Refusal}
+use Rattle.bist_endings.specs.declared.ending.Misfit.{Misfit}
+use Rattle.bist_endings.specs.declared.ending.Output.{Output}
+use Rattle.bist_endings.specs.declared.ending.Plan.{Plan}
+
+-- the bytes for the file that a word names
+pub record Written : Type 0 where
+  pub position : ℕ
+  pub bytes : List ℕ
+
+-- what a command leaves: whether its status is 1, its files in their order, and its line
+pub record Done : Type 0 where
+  pub found : Bool
+  pub outputs : List Written
+  pub line : List ℕ
+
+abbrev pub written_of : Output → Written
+written_of o = record { position = o.position; bytes = o.bytes.items }
+
+abbrev pub done_of : Plan → Done
+done_of p = record { found = p.found; outputs = map written_of p.outputs.items; line = p.line.items }
+
+abbrev pub plain : Result Plan Refusal → Result Done Refusal
+plain (Ok plan) = Ok (done_of plan)
+plain (Err refusal) = Err refusal
+
+abbrev pub status_of : Refusal → ℕ
+status_of Refusal.Usage = 2
+status_of (Refusal.March fault) = 3
+status_of (Refusal.Memory fault) = 4
+status_of (Refusal.Fault fault) = 5
+status_of (Refusal.TooLarge position) = 6
+status_of (Refusal.ReadFailed position) = 7
+status_of Refusal.NoMemory = 9
+status_of (Refusal.Absent position) = 10
+status_of (Refusal.TooLong number) = 12
+status_of (Refusal.Misfit misfit) = 13
+
+abbrev pub found_status : Bool → ℕ
+found_status false = 0
+found_status true = 1
+
+-- a text, a number and a line end
+abbrev pub numbered_line : List ℕ → ℕ → List ℕ
+numbered_line text number = text ++ decimal number ++ codes "\n"
+
+abbrev pub no_memory_line : List ℕ
+no_memory_line = codes "no memory\n"
+
+abbrev pub write_failed_line : ℕ → List ℕ
+write_failed_line position = numbered_line (codes "write failed ") position
+
+-- why a march is refused: its code and places
+abbrev pub march_fault_text : MarchFault → List ℕ
+march_fault_text (MarchFault.Unexpected byte) = codes "M1 byte " ++ decimal byte
+march_fault_text MarchFault.Truncated = codes "M2"
+march_fault_text MarchFault.Empty = codes "M3"
+march_fault_text MarchFault.TooManyElements = codes "M4"
+march_fault_text (MarchFault.TooManyOps element) = codes "M5 element " ++ decimal element
+march_fault_text MarchFault.TooManyInAll = codes "M6"
+march_fault_text (MarchFault.ReadBeforeWrite element op) = codes "M7 element " ++ decimal element ++ codes " operation " ++ decimal op
+march_fault_text (MarchFault.WrongExpect element op) = codes "M8 element " ++ decimal element ++ codes " operation " ++ decimal op
+
+-- why a primitive or a list is refused: its code, line and byte (want of memory has a refusal of its own)
+abbrev pub fault_text : FaultFault → List ℕ
+fault_text (FaultFault.Unexpected line byte) = codes "F1 line " ++ decimal line ++ codes " byte " ++ decimal byte
+fault_text (FaultFault.Truncated line) = codes "F2 line " ++ decimal line
+fault_text (FaultFault.NotAFault line) = codes "F3 line " ++ decimal line
+fault_text (FaultFault.TooManyOperations line) = codes "F4 line " ++ decimal line
+fault_text (FaultFault.TooManyPrimitives line) = codes "F5 line " ++ decimal line
+fault_text FaultFault.NoMemory = codes "F6"
+
+-- a field that is missing
+abbrev pub field_text : Field → List ℕ
+field_text Field.Name = codes "name"
+field_text Field.Words = codes "words"
+field_text Field.Bits = codes "bits"
+field_text (Field.Row i) = codes "a" ++ decimal i
+
+-- a row behind a blank, where it is one of these
+abbrev pub row_text : ℕ → ℕ → List ℕ
+row_text rows i = if bit_at rows i == 1 then codes " a" ++ decimal i else []
+
+-- those of the first n rows that are among these, in ascending order
+abbrev pub rows_text : ℕ → ℕ → List ℕ
+rows_text rows zero = []
+rows_text rows (suc n) = rows_text rows n ++ row_text rows n
+
+-- why a memory is refused: its code, line and byte, field or rows
+abbrev pub memory_fault_text : MemoryFault → List ℕ
+memory_fault_text (MemoryFault.Unexpected line byte) = codes "D1 line " ++ decimal line ++ codes " byte " ++ decimal byte
+memory_fault_text MemoryFault.Truncated = codes "D2"
+memory_fault_text (MemoryFault.Repeated line) = codes "D3 line " ++ decimal line
+memory_fault_text (MemoryFault.Missing field) = codes "D4 " ++ field_text field
+memory_fault_text (MemoryFault.OutOfRange line) = codes "D5 line " ++ decimal line
+memory_fault_text (MemoryFault.Singular rows) = codes "D6 rows" ++ rows_text rows 16
+memory_fault_text MemoryFault.ScrambleNeedsPowerOfTwo = codes "D7"
+memory_fault_text MemoryFault.NoSolidBackground = codes "D8"
+memory_fault_text MemoryFault.TooManyBackgrounds = codes "D9"
+memory_fault_text MemoryFault.OtherVersion = codes "D11"
+
+abbrev pub refusal_line : Refusal → List ℕ
+refusal_line Refusal.Usage = codes "usage\n"
+refusal_line (Refusal.March fault) = codes "march " ++ march_fault_text fault ++ codes "\n"
+refusal_line (Refusal.Memory fault) = codes "memory " ++ memory_fault_text fault ++ codes "\n"
+refusal_line (Refusal.Fault fault) = codes "fault " ++ fault_text fault ++ codes "\n"
+refusal_line (Refusal.TooLarge position) = numbered_line (codes "too large ") position
+refusal_line (Refusal.ReadFailed position) = numbered_line (codes "read failed ") position
+refusal_line (Refusal.Absent position) = numbered_line (codes "absent ") position
+refusal_line (Refusal.TooLong number) = numbered_line (codes "too long ") number
+refusal_line (Refusal.Misfit Misfit.Aggressor) = codes "misfit aggressor\n"
+refusal_line (Refusal.Misfit Misfit.Directions) = codes "misfit directions\n"
+refusal_line Refusal.NoMemory = no_memory_line

@@ -1,0 +1,4 @@
+pub mod Then
+pub mod Words
+pub mod Ending
+pub mod Conclude

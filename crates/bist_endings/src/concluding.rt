@@ -1,0 +1,189 @@
+ghost use Rattle.std.specs.Prelude.{◌≡◌, ◌≤◌, ◌<◌, length, map, IfOk, codes};
+ghost use Rattle.bist_host.specs.Files.{Rose, SaysPrefix};
+ghost use Rattle.bist_endings.specs.Ending.{plain, written_of, status_of, refusal_line, numbered_line, done_of, no_memory_line, write_failed_line};
+ghost use Rattle.bist_endings.specs.Conclude.{NamesWords, WritesInOrder, HasWriteCause, SaysLine, RefusalEnds, SaysDone, DoneEnds, Ends};
+
+use crate::ending::{Ended, Misfit, Output, Plan, Refusal};
+use crate::lines::{fault_line, march_line, numbered};
+use crate::memory_lines::memory_line;
+use bist_host::{Host, HostFault};
+use std::alloc::{AllocError, Global};
+
+/// Why the writes stopped. A position is that of a word.
+#[derive(Clone, Copy)]
+pub enum WriteStop {
+    Failed(usize),
+    NoMemory,
+}
+
+/// How a say ended.
+#[derive(Clone, Copy)]
+pub enum SayEnd {
+    Said,
+    Failed,
+    NoMemory,
+}
+
+/// Writes the files in their order, up to the first that can't be written.
+fn write_outputs<H: Host>(host: &mut H, words: &[&str], outputs: &[Output]) -> Result<(), WriteStop>
+    requires { NamesWords words.now (map written_of outputs.now) }
+    ensures said { H.said host.new ≡ H.said host.old }
+    ensures reads { H.read_faults host.new ≡ H.read_faults host.old }
+    ensures writes { H.write_faults host.old ≤ H.write_faults host.new }
+    ensures answer { WritesInOrder words.now (map written_of outputs.now) (H.files host.old) (H.files host.new) result }
+    ensures cause { HasWriteCause (Rose (H.write_faults host.old) (H.write_faults host.new)) result }
+{
+    match outputs {
+        [] => Ok(()),
+        [first, rest @ ..] => match host.write_file(words[first.position], &first.bytes) {
+            Ok(()) => write_outputs(host, words, rest),
+            Err(HostFault::NoMemory) => Err(WriteStop::NoMemory),
+            Err(_) => Err(WriteStop::Failed(first.position)),
+        },
+    }
+}
+
+/// Says a line.
+fn say_line<H: Host>(host: &mut H, line: &[u8]) -> SayEnd
+    ensures files { H.files host.new ≡ H.files host.old }
+    ensures reads { H.read_faults host.new ≡ H.read_faults host.old }
+    ensures writes { H.write_faults host.old ≤ H.write_faults host.new }
+    ensures answer { SaysLine (H.said host.old) (H.said host.new) line.now (Rose (H.write_faults host.old) (H.write_faults host.new)) result }
+{
+    match host.say(line) {
+        Ok(()) => SayEnd::Said,
+        Err(HostFault::NoMemory) => SayEnd::NoMemory,
+        Err(_) => SayEnd::Failed,
+    }
+}
+
+/// The line of a refusal.
+fn line_of_refusal(alloc: Global, refusal: Refusal) -> Result<Vec<u8>, AllocError>
+    ensures { IfOk result (λ line. line.items ≡ refusal_line refusal) }
+{
+    match refusal {
+        Refusal::Usage => Vec::from_slice(alloc, b"usage\n"),
+        Refusal::March(fault) => march_line(alloc, fault),
+        Refusal::Memory(fault) => memory_line(alloc, fault),
+        Refusal::Fault(fault) => fault_line(alloc, fault),
+        Refusal::TooLarge { position } => numbered(alloc, b"too large ", position),
+        Refusal::ReadFailed { position } => numbered(alloc, b"read failed ", position),
+        Refusal::Absent { position } => numbered(alloc, b"absent ", position),
+        Refusal::TooLong { cycles } => numbered(alloc, b"too long ", cycles as usize),
+        Refusal::Misfit(Misfit::Aggressor) => Vec::from_slice(alloc, b"misfit aggressor\n"),
+        Refusal::Misfit(Misfit::Directions) => Vec::from_slice(alloc, b"misfit directions\n"),
+        Refusal::NoMemory => Vec::from_slice(alloc, b"no memory\n"),
+    }
+}
+
+fn status(refusal: Refusal) -> u8
+    ensures { result ≡ status_of refusal }
+{
+    match refusal {
+        Refusal::Usage => 2,
+        Refusal::March(_) => 3,
+        Refusal::Memory(_) => 4,
+        Refusal::Fault(_) => 5,
+        Refusal::TooLarge { .. } => 6,
+        Refusal::ReadFailed { .. } => 7,
+        Refusal::NoMemory => 9,
+        Refusal::Absent { .. } => 10,
+        Refusal::TooLong { .. } => 12,
+        Refusal::Misfit(_) => 13,
+    }
+}
+
+/// Says a refusal's line.
+fn refuse<H: Host>(alloc: Global, host: &mut H, refusal: Refusal) -> Ended
+    ensures files { H.files host.new ≡ H.files host.old }
+    ensures reads { H.read_faults host.new ≡ H.read_faults host.old }
+    ensures writes { H.write_faults host.old ≤ H.write_faults host.new }
+    ensures answer { RefusalEnds refusal (H.said host.old) (H.said host.new) (Rose (H.write_faults host.old) (H.write_faults host.new)) result.status }
+{
+    match line_of_refusal(alloc, refusal) {
+        Ok(line) => match say_line(host, &line) {
+            SayEnd::Said => Ended {
+                status: status(refusal),
+            },
+            SayEnd::Failed => Ended {
+                status: status(refusal),
+            },
+            SayEnd::NoMemory => Ended { status: 9 },
+        },
+        Err(AllocError) => end_without_memory(host),
+    }
+}
+
+/// Says that there was no memory.
+fn end_without_memory<H: Host>(host: &mut H) -> Ended
+    ensures files { H.files host.new ≡ H.files host.old }
+    ensures reads { H.read_faults host.new ≡ H.read_faults host.old }
+    ensures writes { H.write_faults host.old ≤ H.write_faults host.new }
+    ensures said { SaysPrefix (H.said host.old) (H.said host.new) no_memory_line }
+    ensures status { result.status ≡ 9 }
+{
+    say_line(host, b"no memory\n");
+    Ended { status: 9 }
+}
+
+/// Says that a file couldn't be written.
+fn end_failed_write<H: Host>(alloc: Global, host: &mut H, position: usize) -> Ended
+    ensures files { H.files host.new ≡ H.files host.old }
+    ensures reads { H.read_faults host.new ≡ H.read_faults host.old }
+    ensures writes { H.write_faults host.old ≤ H.write_faults host.new }
+    ensures said { SaysPrefix (H.said host.old) (H.said host.new) (write_failed_line position) }
+    ensures status { result.status ≡ 8 }
+{
+    if let Ok(line) = numbered(alloc, b"write failed ", position) {
+        say_line(host, &line);
+    }
+    Ended { status: 8 }
+}
+
+/// Says the line of a command that is done.
+fn end_done<H: Host>(host: &mut H, plan: &Plan) -> Ended
+    ensures files { H.files host.new ≡ H.files host.old }
+    ensures reads { H.read_faults host.new ≡ H.read_faults host.old }
+    ensures writes { H.write_faults host.old ≤ H.write_faults host.new }
+    ensures answer { SaysDone (done_of plan.now) (H.said host.old) (H.said host.new) (Rose (H.write_faults host.old) (H.write_faults host.new)) result.status }
+{
+    match say_line(host, &plan.line) {
+        SayEnd::Said => Ended {
+            status: if plan.found { 1 } else { 0 },
+        },
+        SayEnd::Failed => Ended { status: 8 },
+        SayEnd::NoMemory => Ended { status: 9 },
+    }
+}
+
+/// Writes the files of a command that is done, and says its line.
+fn finish<H: Host>(alloc: Global, words: &[&str], host: &mut H, plan: &Plan) -> Ended
+    requires { NamesWords words.now (done_of plan.now).outputs }
+    ensures reads { H.read_faults host.new ≡ H.read_faults host.old }
+    ensures writes { H.write_faults host.old ≤ H.write_faults host.new }
+    ensures answer { DoneEnds words.now (done_of plan.now) (H.files host.old) (H.files host.new) (H.said host.old) (H.said host.new) (Rose (H.write_faults host.old) (H.write_faults host.new)) result.status }
+{
+    match write_outputs(host, words, &plan.outputs) {
+        Ok(()) => end_done(host, plan),
+        Err(WriteStop::Failed(position)) => end_failed_write(alloc, host, position),
+        Err(WriteStop::NoMemory) => end_without_memory(host),
+    }
+}
+
+/// Ends a decided command.
+pub fn conclude<H: Host>(
+    alloc: Global,
+    words: &[&str],
+    host: &mut H,
+    outcome: Result<Plan, Refusal>,
+) -> Ended
+    requires { IfOk outcome (λ plan. NamesWords words.now (done_of plan).outputs) }
+    ensures reads { H.read_faults host.new ≡ H.read_faults host.old }
+    ensures writes { H.write_faults host.old ≤ H.write_faults host.new }
+    ensures answer { Ends words.now (plain outcome) (H.files host.old) (H.files host.new) (H.said host.old) (H.said host.new) (Rose (H.write_faults host.old) (H.write_faults host.new)) result.status }
+{
+    match outcome {
+        Ok(plan) => finish(alloc, words, host, &plan),
+        Err(refusal) => refuse(alloc, host, refusal),
+    }
+}

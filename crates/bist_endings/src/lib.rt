@@ -1,0 +1,14 @@
+//! What every command shares: the words of the command line, why a command is refused and the line that says so,
+//! and how a decided command ends, with its files written, its line said and its status.
+#![tactic(auto)]
+
+mod concluding;
+mod ending;
+mod lines;
+mod memory_lines;
+mod words;
+
+pub use concluding::conclude;
+pub use ending::{Ended, Misfit, Output, Plan, Refusal};
+pub use lines::{numbered, push_number};
+pub use words::{are_plain, number_of};

@@ -1,0 +1,6 @@
+use Rattle.bist_inputs.specs.Memories.{GivesMemory}
+use Rattle.bist_inputs.proofs.memories.give_memory.Goals as goal
+
+pub returns-in-Ok-clause-answer : goal.returns-in-Ok-clause-answer
+unfolding GivesMemory
+returns-in-Ok-clause-answer c = ((c.read_memory.ensures.ok c.in-Ok.memory).0 c.in-Ok.is, c.words.ensures.memory)

@@ -1,0 +1,67 @@
+ghost use Rattle.std.specs.Prelude.{◌≡◌, ◌≤◌, ◌<◌, length, IfErr};
+ghost use Rattle.bist_host.specs.Files.{Rose};
+ghost use Rattle.bist_endings.specs.Then.{items_of};
+ghost use Rattle.bist_endings.specs.Words.{word};
+ghost use Rattle.bist_inputs.specs.Inputs.{GivesBytes, GivesMarch, HasReadCause, InputMarch, IsOwnRefusal};
+
+use bist_endings::Refusal;
+use bist_host::{Host, HostFault};
+use march_core::March;
+use march_syntax::read_march;
+
+/// An input file has at most this many bytes.
+const INPUT_LIMIT: usize = 1_048_576;
+
+/// The bytes of the file that a word names.
+pub fn read_input<H: Host>(
+    host: &mut H,
+    words: &[&str],
+    position: usize,
+) -> Result<Vec<u8>, Refusal>
+    requires { position < length words.now }
+    ensures files { H.files host.new ≡ H.files host.old }
+    ensures said { H.said host.new ≡ H.said host.old }
+    ensures writes { H.write_faults host.new ≡ H.write_faults host.old }
+    ensures reads { H.read_faults host.old ≤ H.read_faults host.new }
+    ensures answer { GivesBytes (H.files host.old) (word words.now position) position (items_of result) }
+    ensures cause { HasReadCause (H.files host.old) (Rose (H.read_faults host.old) (H.read_faults host.new)) result }
+{
+    match host.read_file(words[position], INPUT_LIMIT) {
+        Ok(bytes) => Ok(bytes),
+        Err(HostFault::Absent) => Err(Refusal::Absent { position }),
+        Err(HostFault::TooLarge) => Err(Refusal::TooLarge { position }),
+        Err(HostFault::ReadFailed) => Err(Refusal::ReadFailed { position }),
+        Err(_) => Err(Refusal::NoMemory),
+    }
+}
+
+/// The march of the file that a word names.
+#[tactic(auto, using(crate::proofs::Causes::own_cause), unfolding(crate::specs::Inputs::InputMarch))]
+pub fn read_march_input<H: Host>(
+    host: &mut H,
+    words: &[&str],
+    position: usize,
+) -> Result<March, Refusal>
+    requires { position < length words.now }
+    ensures files { H.files host.new ≡ H.files host.old }
+    ensures said { H.said host.new ≡ H.said host.old }
+    ensures writes { H.write_faults host.new ≡ H.write_faults host.old }
+    ensures reads { H.read_faults host.old ≤ H.read_faults host.new }
+    ensures answer { InputMarch (H.files host.old) words.now position result }
+    ensures cause { HasReadCause (H.files host.old) (Rose (H.read_faults host.old) (H.read_faults host.new)) result }
+{
+    let bytes = read_input(host, words, position)?;
+    give_march(&bytes)
+}
+
+/// The march of a text.
+#[tactic(auto, unfolding(crate::specs::Inputs::GivesMarch))]
+fn give_march(bytes: &[u8]) -> Result<March, Refusal>
+    ensures answer { GivesMarch bytes.now result }
+    ensures own { IfErr result IsOwnRefusal }
+{
+    match read_march(bytes) {
+        Ok(march) => Ok(march),
+        Err(fault) => Err(Refusal::March(fault)),
+    }
+}

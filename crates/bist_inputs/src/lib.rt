@@ -1,0 +1,11 @@
+//! What the input files and texts of a command give: the bytes of a named file, its march, its list of primitives or
+//! its memory, or the refusal of the first check that does not pass.
+#![tactic(auto)]
+
+mod inputs;
+mod memories;
+mod texts;
+
+pub use inputs::read_march_input;
+pub use memories::read_memory_input;
+pub use texts::{give_prim, read_list_input};

@@ -1,0 +1,43 @@
+ghost use Rattle.std.specs.Prelude.{◌≡◌, ◌<◌, ◌≤◌, IfErr, length};
+ghost use Rattle.bist_host.specs.Files.{Rose};
+ghost use Rattle.bist_inputs.specs.Inputs.{HasReadCause, IsOwnRefusal};
+ghost use Rattle.bist_inputs.specs.Memories.{GivesMemory, InputMemory};
+
+use crate::inputs::read_input;
+use bist_endings::Refusal;
+use bist_host::Host;
+use memory_desc::{Memory, read_memory};
+
+/// The memory of a text.
+#[tactic(auto, unfolding(crate::specs::Memories::GivesMemory))]
+fn give_memory(bytes: &[u8]) -> Result<Memory, Refusal>
+    ensures answer { GivesMemory bytes.now result }
+    ensures own { IfErr result IsOwnRefusal }
+{
+    match read_memory(bytes) {
+        Ok(memory) => {
+            let _ = memory.words();
+            Ok(memory)
+        }
+        Err(fault) => Err(Refusal::Memory(fault)),
+    }
+}
+
+/// The memory of the file that a word names.
+#[tactic(auto, using(crate::proofs::Causes::own_cause), unfolding(crate::specs::Memories::InputMemory))]
+pub fn read_memory_input<H: Host>(
+    host: &mut H,
+    words: &[&str],
+    position: usize,
+) -> Result<Memory, Refusal>
+    requires { position < length words.now }
+    ensures files { H.files host.new ≡ H.files host.old }
+    ensures said { H.said host.new ≡ H.said host.old }
+    ensures writes { H.write_faults host.new ≡ H.write_faults host.old }
+    ensures reads { H.read_faults host.old ≤ H.read_faults host.new }
+    ensures answer { InputMemory (H.files host.old) words.now position result }
+    ensures cause { HasReadCause (H.files host.old) (Rose (H.read_faults host.old) (H.read_faults host.new)) result }
+{
+    let bytes = read_input(host, words, position)?;
+    give_memory(&bytes)
+}

@@ -1,0 +1,56 @@
+ghost use Rattle.std.specs.Prelude.{◌≡◌, ◌<◌, ◌≤◌, IfErr, length};
+ghost use Rattle.bist_host.specs.Files.{Rose};
+ghost use Rattle.bist_endings.specs.Then.{items_of};
+ghost use Rattle.bist_inputs.specs.Inputs.{GivesPrim, GivesList, HasReadCause, InputList, IsOwnRefusal};
+
+use crate::inputs::read_input;
+use bist_endings::Refusal;
+use bist_host::Host;
+use fault_core::Prim;
+use fault_syntax::{FaultFault, read_list, read_prim};
+use std::alloc::Global;
+
+/// The primitive of a word.
+#[tactic(auto, unfolding(crate::specs::Inputs::GivesPrim))]
+pub fn give_prim(text: &[u8]) -> Result<Prim, Refusal>
+    ensures answer { GivesPrim text.now result }
+    ensures own { IfErr result IsOwnRefusal }
+{
+    match read_prim(text) {
+        Ok(prim) => Ok(prim),
+        Err(fault) => Err(Refusal::Fault(fault)),
+    }
+}
+
+/// The primitives of a list.
+#[tactic(auto, unfolding(crate::specs::Inputs::GivesList))]
+fn give_list(alloc: Global, bytes: &[u8]) -> Result<Vec<Prim>, Refusal>
+    ensures answer { GivesList bytes.now (items_of result) }
+    ensures own { IfErr result IsOwnRefusal }
+{
+    match read_list(alloc, bytes) {
+        Ok(prims) => Ok(prims),
+        Err(FaultFault::NoMemory) => Err(Refusal::NoMemory),
+        Err(fault) => Err(Refusal::Fault(fault)),
+    }
+}
+
+/// The primitives of the list that a word names.
+#[tactic(auto, using(crate::proofs::Causes::own_cause), unfolding(crate::specs::Inputs::InputList))]
+pub fn read_list_input<H: Host>(
+    alloc: Global,
+    host: &mut H,
+    words: &[&str],
+    position: usize,
+) -> Result<Vec<Prim>, Refusal>
+    requires { position < length words.now }
+    ensures files { H.files host.new ≡ H.files host.old }
+    ensures said { H.said host.new ≡ H.said host.old }
+    ensures writes { H.write_faults host.new ≡ H.write_faults host.old }
+    ensures reads { H.read_faults host.old ≤ H.read_faults host.new }
+    ensures answer { InputList (H.files host.old) words.now position (items_of result) }
+    ensures cause { HasReadCause (H.files host.old) (Rose (H.read_faults host.old) (H.read_faults host.new)) result }
+{
+    let bytes = read_input(host, words, position)?;
+    give_list(alloc, &bytes)
+}
