@@ -1,0 +1,33 @@
+-- Checks in their order have one settled outcome, where each of them has.
+use Rattle.std.proofs.Common.{◌≡◌, Result, Ok, Err, refl, sym, subst}
+use Rattle.bist_endings.specs.declared.ending.Refusal.{Refusal}
+use Rattle.bist_endings.specs.Then.{Then}
+use Rattle.bist_endings.specs.OneOutcome.{IsSettled, IsSettledRefusal, HasOneOutcome}
+
+same_value : {A : Type 0} (a b : A) (r s : Result A Refusal) → r ≡ Ok a → s ≡ Ok b → r ≡ s → a ≡ b
+same_value a b r s x y e = cc
+
+same_refusal : {A : Type 0} (e f : Refusal) (r s : Result A Refusal) → r ≡ Err e → s ≡ Err f → r ≡ s → e ≡ f
+same_refusal e f r s x y h = cc
+
+never_both : {A : Type 0} (a : A) (e : Refusal) (r s : Result A Refusal) → r ≡ Ok a → s ≡ Err e → r ≡ s → ⊥
+never_both a e r s x y h = cc
+
+settled_of : {B : Type 0} (r : Result B Refusal) (e : Refusal) → r ≡ Err e → IsSettled r → IsSettledRefusal e
+settled_of {B} r e is settled = subst (λ (x : Result B Refusal). IsSettled x) is settled
+
+refused_alike : {B : Type 0} (r s : Result B Refusal) (e d : Refusal) → r ≡ Err e → s ≡ Err d → e ≡ d → r ≡ s
+refused_alike r s e d x y h = cc
+
+pub then_one : {A B : Type 0} (first : Result A Refusal → Type 0) (rest : A → Result B Refusal → Type 0)
+    → HasOneOutcome first → ((a : A) → HasOneOutcome (rest a)) → HasOneOutcome (Then first rest)
+then_one {A} {B} first rest one each r s (Ok a, f, x) (Ok b, g, y) rs ss =
+    let same : a ≡ b = same_value a b (Ok a) (Ok b) refl refl (one (Ok a) (Ok b) f g tt tt) in
+    each b r s (subst (λ (c : A). rest c r) same x) y rs ss
+then_one {A} {B} first rest one each r s (Ok a, f, x) (Err e, g, y) rs ss =
+    absurd (never_both a e (Ok a) (Err e) refl refl (one (Ok a) (Err e) f g tt (settled_of s e y ss)))
+then_one {A} {B} first rest one each r s (Err e, f, x) (Ok b, g, y) rs ss =
+    absurd (never_both b e (Ok b) (Err e) refl refl (sym (one (Err e) (Ok b) f g (settled_of r e x rs) tt)))
+then_one {A} {B} first rest one each r s (Err e, f, x) (Err d, g, y) rs ss =
+    refused_alike r s e d x y
+    (same_refusal {A = A} e d (Err e) (Err d) refl refl (one (Err e) (Err d) f g (settled_of r e x rs) (settled_of s d y ss)))
