@@ -6,3 +6,7 @@ pub mod Shapes
 pub mod DirectionWord
 pub mod Judging
 pub mod Listing
+pub mod OneCommand
+pub mod OnePlan
+pub mod OneVerdict
+pub mod OneJudged
