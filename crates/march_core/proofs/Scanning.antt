@@ -10,7 +10,7 @@ use Rattle.march_core.specs.declared.operation.Op.{Op}
 use Rattle.march_core.specs.declared.operation.Op.TheVariants.{W0, W1, R0, R1}
 use Rattle.march_core.specs.declared.fault.MarchFault.{MarchFault}
 use Rattle.march_core.specs.declared.fault.MarchFault.TheVariants.{Unexpected, Truncated, Empty, TooManyElements, TooManyOps, TooManyInAll, ReadBeforeWrite, WrongExpect}
-use Rattle.march_core.specs.March.{MarchElement, all_ops, ops_at, IsMarch}
+use Rattle.march_core.specs.March.{MarchElement, ops_of, all_ops, ops_at, IsMarch}
 use Rattle.march_core.specs.Operation.{written_by, expected_by, HasNoWrite, LastWrites, IsConsistent}
 use Rattle.march_core.specs.Building.{ops_before, IsFilled, IsRefused}
 use Rattle.march_core.specs.Scan.{is_right, scan_of, StopsAt, refusal_of}
@@ -75,24 +75,24 @@ wrong_expects (Some true) R0 w = (false, refl, inr refl)
 wrong_expects (Some false) R1 w = (true, refl, inr refl)
 wrong_expects (Some true) R1 w = cc
 
-ops_at-get_or : (elements : List MarchElement) (n : ℕ) (d : MarchElement) → n < length elements → ops_at elements n ≡ (get_or elements n d).ops
+ops_at-get_or : (elements : List MarchElement) (n : ℕ) (d : MarchElement) → n < length elements → ops_at elements n ≡ ops_of (get_or elements n d)
 ops_at-get_or [] n d within = absurd (omega arith)
 ops_at-get_or (e ∷ es) zero d within = refl
 ops_at-get_or (e ∷ es) (suc n) d within = ops_at-get_or es n d (omega arith)
 
 -- one more element
 pub all_ops-more : (elements : List MarchElement) (n : ℕ) (d : MarchElement) → n < length elements
-    → all_ops (take (n + 1) elements) ≡ all_ops (take n elements) ++ (get_or elements n d).ops
+    → all_ops (take (n + 1) elements) ≡ all_ops (take n elements) ++ ops_of (get_or elements n d)
 all_ops-more elements n d within =
-    ap all_ops (take_more elements n d within) ∙ flat_map-append (λ (e : MarchElement). e.ops) (take n elements) (get_or elements n d ∷ [])
-    ∙ ap (λ l. all_ops (take n elements) ++ l) (append-nil (get_or elements n d).ops)
+    ap all_ops (take_more elements n d within) ∙ flat_map-append ops_of (take n elements) (get_or elements n d ∷ [])
+    ∙ ap (λ l. all_ops (take n elements) ++ l) (append-nil (ops_of (get_or elements n d)))
 
 pub element_scanned : (elements : List MarchElement) (n : ℕ) (d : MarchElement) (ops : List Op) (last next : Option Bool) → n < length elements
-    → d ≡ get_or elements n d → ops ≡ d.ops → scan_of None (all_ops (take n elements)) ≡ Some last → scan_of last ops ≡ Some next
+    → d ≡ get_or elements n d → ops ≡ ops_of d → scan_of None (all_ops (take n elements)) ≡ Some last → scan_of last ops ≡ Some next
     → scan_of None (all_ops (take (n + 1) elements)) ≡ Some next
 element_scanned elements n d ops last next within at is before here =
-    ap (scan_of None) (all_ops-more elements n d within) ∙ scan_of-append None last (all_ops (take n elements)) (get_or elements n d).ops before
-    ∙ ap (scan_of last) (ap (λ (e : MarchElement). e.ops) (sym at) ∙ sym is) ∙ here
+    ap (scan_of None) (all_ops-more elements n d within) ∙ scan_of-append None last (all_ops (take n elements)) (ops_of (get_or elements n d)) before
+    ∙ ap (scan_of last) (ap ops_of (sym at) ∙ sym is) ∙ here
 
 some_after : (bit : Bool) (ops : List Op) → last_after (Some bit) ops ≡ None → ⊥
 some_after bit [] e = cc
@@ -117,13 +117,13 @@ last_write ops bit e =
 
 -- the refusal of the read at which the scan of an element stops
 pub stop_refused : (elements : List MarchElement) (n : ℕ) (d : MarchElement) (ops : List Op) (last held : Option Bool) (number : ℕ) → IsFilled elements
-    → n < length elements → d ≡ get_or elements n d → ops ≡ d.ops → scan_of None (all_ops (take n elements)) ≡ Some last
+    → n < length elements → d ≡ get_or elements n d → ops ≡ ops_of d → scan_of None (all_ops (take n elements)) ≡ Some last
     → StopsAt last ops number held → IsRefused elements (refusal_of n number held)
 stop_refused elements n d ops last held number filled within at is before stops =
     by_held held (wrong_expects held stops.read stops.wrong) (sym (ap Some same_held))
   where
     same : ops_at elements n ≡ ops
-    same = ops_at-get_or elements n d within ∙ ap (λ (e : MarchElement). e.ops) (sym at) ∙ sym is
+    same = ops_at-get_or elements n d within ∙ ap ops_of (sym at) ∙ sym is
 
     done : List Op
     done = ops_before elements n number
@@ -162,10 +162,10 @@ pub split_march : (elements : List MarchElement) (n k : ℕ) (read : Op) → sli
     → (rest : List Op) × (all_ops elements ≡ ops_before elements n k ++ read ∷ rest)
 split_march [] n k read e = cc
 split_march (x ∷ xs) zero k read e =
-    (drop (k + 1) x.ops ++ all_ops xs, ap (λ l. l ++ all_ops xs) (split_list x.ops k read e) ∙ append_assoc (take k x.ops) (read ∷ drop (k + 1) x.ops) (all_ops xs))
+    (drop (k + 1) (ops_of x) ++ all_ops xs, ap (λ l. l ++ all_ops xs) (split_list (ops_of x) k read e) ∙ append_assoc (take k (ops_of x)) (read ∷ drop (k + 1) (ops_of x)) (all_ops xs))
 split_march (x ∷ xs) (suc n) k read e =
     let s = split_march xs n k read e in
-    (s.0, ap (λ l. x.ops ++ l) s.1 ∙ sym (append_assoc x.ops (ops_before xs n k) (read ∷ s.0)) ∙ ap (λ l. l ++ read ∷ s.0) (sym (append_assoc x.ops (all_ops (take n xs)) (take k (ops_at xs n)))))
+    (s.0, ap (λ l. (ops_of x) ++ l) s.1 ∙ sym (append_assoc (ops_of x) (ops_before xs n k) (read ∷ s.0)) ∙ ap (λ l. l ++ read ∷ s.0) (sym (append_assoc (ops_of x) (all_ops (take n xs)) (take k (ops_at xs n)))))
 
 -- what is refused is no march
 pub refused_no_march : (elements : List MarchElement) (fault : MarchFault) → IsRefused elements fault → IsMarch elements → ⊥

@@ -1,36 +1,46 @@
 -- A march under construction: one more operation, and why it is not yet a march.
-use Rattle.std.specs.Prelude.{◌≡◌, ◌<◌, ◌≤◌, ◌==◌, ◌||◌, ℕ, Bool, false, not, Some, List, [], ◌∷◌, ◌++◌, length, take, slice_get}
+use Rattle.std.specs.Prelude.{◌≡◌, ◌<◌, ◌≤◌, ◌==◌, ◌&&◌, ◌||◌, ◌⊎◌, IsTrue, ℕ, Bool, true, false, not, Some, List, [], ◌∷◌, ◌++◌, length, take, slice_get}
 use Rattle.std.specs.List.{AllByRecursion}
 use Rattle.march_core.specs.declared.operation.Op.{Op}
 use Rattle.march_core.specs.declared.fault.MarchFault.{MarchFault}
 use Rattle.march_core.specs.declared.fault.MarchFault.TheVariants.{Unexpected, Truncated, Empty, TooManyElements, TooManyOps, TooManyInAll, ReadBeforeWrite, WrongExpect}
 use Rattle.march_core.specs.Operation.{expected_by, HasNoWrite, LastWrites, IsConsistent}
-use Rattle.march_core.specs.March.{MarchElement, all_ops, ops_at}
+use Rattle.march_core.specs.March.{MarchElement, sweep, order_of, ops_of, is_pause, all_ops, has_sweep, ops_at}
 
--- the elements with one more operation in the last one
+-- the elements with one more operation in the last one; only asked for where that isn't a pause
 abbrev pub with_op : List MarchElement → Op → List MarchElement
 with_op [] op = []
-with_op (e ∷ []) op = (record { order = e.order; ops = e.ops ++ op ∷ [] }) ∷ []
+with_op (e ∷ []) op = sweep (order_of e) (ops_of e ++ op ∷ []) ∷ []
 with_op (e ∷ f ∷ es) op = e ∷ with_op (f ∷ es) op
 
 -- the operations of the last element
 abbrev pub last_ops : List MarchElement → List Op
 last_ops [] = []
-last_ops (e ∷ []) = e.ops
+last_ops (e ∷ []) = ops_of e
 last_ops (e ∷ f ∷ es) = last_ops (f ∷ es)
 
--- some element has no operation
+-- there is a last element, and it isn't a pause
+abbrev pub ends_in_sweep : List MarchElement → Bool
+ends_in_sweep [] = false
+ends_in_sweep (e ∷ []) = not (is_pause e)
+ends_in_sweep (e ∷ f ∷ es) = ends_in_sweep (f ∷ es)
+
+-- an element other than a pause has operations
+abbrev pub HasOps : MarchElement → Type 0
+HasOps e = (is_pause e ≡ true) ⊎ (0 < length (ops_of e))
+
+-- one element at least isn't a pause, and each of these has operations
+abbrev pub IsFilled : List MarchElement → Type 0
+IsFilled elements = IsTrue (has_sweep elements) × AllByRecursion HasOps elements
+
+-- some element isn't a pause and has no operation
 abbrev pub some_empty : List MarchElement → Bool
 some_empty [] = false
-some_empty (e ∷ es) = (length e.ops == 0) || some_empty es
-
--- there is an element, and each has operations
-abbrev pub IsFilled : List MarchElement → Type 0
-IsFilled elements = (0 < length elements) × AllByRecursion (λ e. 0 < length e.ops) elements
+some_empty (e ∷ es) = (not (is_pause e) && (length (ops_of e) == 0)) || some_empty es
 
 -- what is built so far is within the limits, and its operations are counted
 pub record IsBuilt (elements : List MarchElement) (total : ℕ) : Type 0 where
-  pub each : AllByRecursion (λ e. length e.ops ≤ 16) elements
+  pub each : AllByRecursion (λ e. length (ops_of e) ≤ 16) elements
   pub counted : total ≡ length (all_ops elements)
   pub within : total ≤ 256
 

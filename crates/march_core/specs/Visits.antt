@@ -4,7 +4,7 @@ use Rattle.std.specs.List.{flat_map, range_with_len}
 use Rattle.march_core.specs.declared.operation.Order.{Order}
 use Rattle.march_core.specs.declared.operation.Order.TheVariants.{Up, Down, Any}
 use Rattle.march_core.specs.declared.operation.Op.{Op}
-use Rattle.march_core.specs.March.{MarchElement}
+use Rattle.march_core.specs.March.{MarchElement, pause, sweep, order_of}
 
 -- the way in which an element goes over the addresses
 pub data Direction : Type 0 where
@@ -19,12 +19,12 @@ allows Down Upward = false
 allows Down Downward = true
 allows Any direction = true
 
--- whether there is a direction for each element, as its order allows
+-- whether there is a direction for each element, as its order allows; upward for a pause
 abbrev pub is_direction : List MarchElement → List Direction → Bool
 is_direction [] [] = true
 is_direction [] (d ∷ ds) = false
 is_direction (e ∷ es) [] = false
-is_direction (e ∷ es) (d ∷ ds) = allows e.order d && is_direction es ds
+is_direction (e ∷ es) (d ∷ ds) = allows (order_of e) d && is_direction es ds
 
 -- element i stands at bit 63-i of a direction word, with 1 for downward
 abbrev pub is_down_at : ℕ → ℕ → Bool
@@ -64,13 +64,22 @@ addresses Downward size = reverse (range_with_len 0 size)
 abbrev pub address_visits : ℕ → List Op → List ℕ → List Visit
 address_visits element ops xs = flat_map (λ x. cell_visits element x 0 ops) xs
 
--- the visits of the elements from this one on, in an array of this size
-abbrev pub visits_from : ℕ → List MarchElement → List Direction → ℕ → List Visit
+-- what a march does next: a pause, which is named by the number of its element, or an operation on a cell
+pub data MarchStep : Type 0 where
+  pausing : ℕ → MarchStep
+  visiting : Visit → MarchStep
+
+-- one element in one direction, in an array of this size
+abbrev pub element_visits : ℕ → MarchElement → Direction → ℕ → List MarchStep
+element_visits element pause d size = pausing element ∷ []
+element_visits element (sweep order ops) d size = map visiting (address_visits element ops (addresses d size))
+
+-- the visits of the elements from this one on
+abbrev pub visits_from : ℕ → List MarchElement → List Direction → ℕ → List MarchStep
 visits_from element [] directions size = []
 visits_from element (e ∷ es) [] size = []
-visits_from element (e ∷ es) (d ∷ ds) size =
-    address_visits element e.ops (addresses d size) ++ visits_from (element + 1) es ds size
+visits_from element (e ∷ es) (d ∷ ds) size = element_visits element e d size ++ visits_from (element + 1) es ds size
 
 -- the visits of a march
-abbrev pub visits : List MarchElement → List Direction → ℕ → List Visit
-visits elements directions size = visits_from 0 elements directions size
+abbrev pub visits : List MarchElement → List Direction → ℕ → List MarchStep
+visits march directions size = visits_from 0 march directions size

@@ -1,6 +1,6 @@
 ghost use Rattle.std.specs.Prelude.{◌≡◌, ◌<◌, ◌≤◌, ◌+◌, ◌-◌, ◌++◌, ◌∷◌, [], ◌↔◌, IsOk, IfOk, IfErr, OnOk, OnErr, IsTrue, length};
-ghost use Rattle.march_core.specs.March.{MarchElement, IsMarch, all_ops};
-ghost use Rattle.march_core.specs.Building.{with_op, last_ops, some_empty, IsFilled, IsRefused};
+ghost use Rattle.march_core.specs.March.{pause, sweep, IsMarch, all_ops};
+ghost use Rattle.march_core.specs.Building.{with_op, last_ops, ends_in_sweep, some_empty, IsFilled, IsRefused};
 
 use crate::element::Element;
 use crate::fault::MarchFault;
@@ -44,7 +44,7 @@ impl MarchBuilder {
 
     /// Begins an element. M4 comes exactly where 64 elements are held.
     pub fn element(&mut self, order: Order) -> Result<(), MarchFault>
-        ensures ok { OnOk result (self.new ≡ self.old ++ (record { order = order; ops = [] }) ∷ []) }
+        ensures ok { OnOk result (self.new ≡ self.old ++ sweep order [] ∷ []) }
         ensures variant { IsOk result ↔ (length self.old < 64) }
         ensures fault { IfErr result (λ fault. fault ≡ MarchFault.TooManyElements) }
         ensures err { OnErr result (self.new ≡ self.old) }
@@ -56,14 +56,28 @@ impl MarchBuilder {
         Ok(())
     }
 
-    /// Adds an operation to the last element. M5 comes exactly where that element has 16 operations,
-    /// else M6 exactly where 256 are held in all.
+    /// Adds a pause. M4 comes exactly where 64 elements are held.
+    pub fn pause(&mut self) -> Result<(), MarchFault>
+        ensures ok { OnOk result (self.new ≡ self.old ++ pause ∷ []) }
+        ensures variant { IsOk result ↔ (length self.old < 64) }
+        ensures fault { IfErr result (λ fault. fault ≡ MarchFault.TooManyElements) }
+        ensures err { OnErr result (self.new ≡ self.old) }
+    {
+        if self.elements.is_full() {
+            return Err(MarchFault::TooManyElements);
+        }
+        self.elements.push(Element::pause());
+        Ok(())
+    }
+
+    /// Adds an operation to the last element, which `element` began. M5 comes exactly where that element has
+    /// 16 operations, else M6 exactly where 256 are held in all.
     pub fn op(&mut self, op: Op) -> Result<(), MarchFault>
-        requires { 0 < length self.old }
+        requires { IsTrue (ends_in_sweep self.old) }
         ensures ok { OnOk result (self.new ≡ with_op self.old op) }
+        ensures variant { IsOk result ↔ ((length (last_ops self.old) < 16) × (length (all_ops self.old) < 256)) }
         ensures too_many { length (last_ops self.old) ≡ 16 → result ≡ Err (MarchFault.TooManyOps (length self.old - 1)) }
         ensures too_many_in_all { length (last_ops self.old) < 16 → length (all_ops self.old) ≡ 256 → result ≡ Err MarchFault.TooManyInAll }
-        ensures within { length (last_ops self.old) < 16 → length (all_ops self.old) < 256 → IsOk result }
         ensures err { OnErr result (self.new ≡ self.old) }
     {
         if last_len(self.elements.as_slice()) == 16 {
@@ -78,14 +92,14 @@ impl MarchBuilder {
         Ok(())
     }
 
-    /// The march, exactly where each element has operations and each read expects what was written last.
-    /// Else M3, or M7 or M8 at the first read that doesn't.
+    /// The march, exactly where some element isn't a pause, each of these has operations, and each read expects what
+    /// was written last. Else M3, or M7 or M8 at the first read that doesn't.
     pub fn finish(self) -> Result<March, MarchFault>
         ensures variant { IsOk result ↔ IsMarch self }
         ensures value { IfOk result (λ march. march ≡ self) }
         ensures refusal { IfErr result (λ fault. IsRefused self fault) }
     {
-        if !is_filled(self.elements.as_slice()) {
+        if !is_filled(self.elements.as_slice(), self.total) {
             return Err(MarchFault::Empty);
         }
         if let Err(fault) = check_reads(self.elements.as_slice()) {
@@ -95,19 +109,21 @@ impl MarchBuilder {
     }
 }
 
-/// Whether there is an element, and each has operations.
-fn is_filled(elements: &[Element]) -> bool
+/// Whether some element isn't a pause, and each of these has operations.
+fn is_filled(elements: &[Element], total: usize) -> bool
+    requires { total ≡ length (all_ops elements.now) }
     ensures { IsTrue result ↔ IsFilled elements.now }
 {
-    !elements.is_empty() && !has_empty_element(elements)
+    // where nothing has an operation all elements are pauses, or some element is empty
+    total != 0 && !has_empty_element(elements)
 }
 
-/// Whether some element has no operation.
+/// Whether some element other than a pause has no operation.
 fn has_empty_element(elements: &[Element]) -> bool
     ensures { result ≡ some_empty elements.now }
 {
     for element in elements {
-        if element.ops().is_empty() {
+        if !element.is_pause() && element.ops().is_empty() {
             return true;
         }
     }
@@ -124,7 +140,7 @@ fn last_len(elements: &[Element]) -> usize
 }
 
 fn push_to_last(elements: &mut [Element], op: Op)
-    requires some { 0 < length elements.old }
+    requires sweeps { IsTrue (ends_in_sweep elements.old) }
     requires room { length (last_ops elements.old) < 16 }
     ensures { elements.new ≡ with_op elements.old op }
 {

@@ -5,7 +5,7 @@ pub enum MarchFault {
     Unexpected { byte: usize },
     /// M2: the text is no march text, but can be continued to one. Only a reader answers it.
     Truncated,
-    /// M3: there is no element, or some element has no operation.
+    /// M3: there is no element, or all are pauses, or some element other than a pause has no operation.
     Empty,
     /// M4: there are 64 elements already.
     TooManyElements,

@@ -1,5 +1,5 @@
-ghost use Rattle.std.specs.Prelude.{◌≡◌, ◌<◌, ◌≤◌, ◌-◌, ◌%◌, ◌^◌, ◌==◌, length, IsTrue, ◌↔◌};
-ghost use Rattle.march_core.specs.March.{IsMarch, all_ops, order_at, ops_at};
+ghost use Rattle.std.specs.Prelude.{◌≡◌, ◌<◌, ◌≤◌, ◌-◌, ◌%◌, ◌^◌, ◌==◌, false, length, IsTrue, ◌↔◌};
+ghost use Rattle.march_core.specs.March.{IsMarch, all_ops, is_pause_at, order_at, ops_at};
 ghost use Rattle.march_core.specs.Visits.{FitsWord, is_down_at, is_direction, directions_of, direction_at, allows};
 
 use crate::element::Element;
@@ -7,8 +7,8 @@ use crate::operation::{Op, Order};
 use arrayvec::ArrayVec;
 use std::marker::Model;
 
-/// An accepted march, seen as the list of its elements: 1 to 64 elements of 1 to 16 operations each,
-/// at most 256 operations in all, and each read expects what was written last.
+/// An accepted march, seen as the list of its elements: at most 64 elements, each a pause or 1 to 16 operations, of
+/// which one at least isn't a pause, at most 256 operations in all, and each read expects what was written last.
 #[derive(Drop)]
 pub struct March {
     elements: ArrayVec<Element, 64>,
@@ -43,7 +43,16 @@ impl March {
         self.elements.len()
     }
 
-    /// The order of an element.
+    /// Whether an element is a pause.
+    pub fn is_pause(&self, i: usize) -> bool
+        requires { i < length self.now }
+        ensures { result ≡ is_pause_at self.now i }
+    {
+        let element = &self.elements[i];
+        element.is_pause()
+    }
+
+    /// The order of an element, up for a pause.
     pub fn order(&self, i: usize) -> Order
         requires { i < length self.now }
         ensures { result ≡ order_at self.now i }
@@ -52,11 +61,11 @@ impl March {
         element.order()
     }
 
-    /// The operations of an element.
+    /// The operations of an element, none of a pause.
     pub fn ops(&self, i: usize) -> &[Op]
         requires { i < length self.now }
         ensures value { result.now ≡ ops_at self.now i }
-        ensures some { 0 < length result.now }
+        ensures some { is_pause_at self.now i ≡ false → 0 < length result.now }
     {
         let element = &self.elements[i];
         element.ops()
