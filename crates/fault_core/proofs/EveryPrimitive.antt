@@ -6,10 +6,10 @@ use Rattle.std.proofs.lemmas.List.Sums.{AllPass-from_list_all}
 use Rattle.std.proofs.lemmas.List.Kept.{AllPairs-cons}
 use Rattle.std.proofs.lemmas.Map.Views.{Contains-from_any}
 use Rattle.fault_core.specs.declared.table.Class.{Class}
-use Rattle.fault_core.specs.declared.table.Class.TheVariants.{SF, TF, WDF, RDF, DRDF, IRF, CFst, CFds, CFtr, CFwd, CFrd, CFdr, CFir}
-use Rattle.fault_core.specs.Primitive.{Primitive, IsPrimitive, has_aggressor}
+use Rattle.fault_core.specs.declared.table.Class.TheVariants.{SF, TF, WDF, RDF, DRDF, IRF, CFst, CFds, CFtr, CFwd, CFrd, CFdr, CFir, DRF}
+use Rattle.fault_core.specs.Primitive.{Primitive, IsPrimitive, has_aggressor, pauses}
 use Rattle.fault_core.specs.Classes.{class_by_parts}
-use Rattle.fault_core.specs.Table.{members_of, one_cell_table, two_cell_table}
+use Rattle.fault_core.specs.Table.{members_of, one_cell_table, two_cell_table, retention_table}
 use Rattle.fault_core.proofs.Parts.{at_all_parts, parts_pass, same_parts, same_parts-equal, same_parts-refl, is_primitive, primitive_passes, passes_primitive}
 
 -- what is shown by a test of those parts that are a primitive
@@ -35,13 +35,22 @@ pub class_has : (p : Primitive) → IsPrimitive p → Contains (members_of (clas
 class_has p is = contained _ p (shown_of_primitives (λ q. is_among (members_of (class_by_parts q)) q) refl p is)
 
 -- a primitive without an aggressor is in the table of one cell, and one with an aggressor in that of two
-pub one_cell_has : (p : Primitive) → IsPrimitive p → has_aggressor p ≡ false → Contains one_cell_table p
-one_cell_has p is alone =
-    contained one_cell_table p (from (has_aggressor p) _ alone (shown_of_primitives (λ q. has_aggressor q || is_among one_cell_table q) refl p is))
+pub one_cell_has : (p : Primitive) → IsPrimitive p → has_aggressor p ≡ false → pauses p ≡ false → Contains one_cell_table p
+one_cell_has p is alone stays =
+    contained one_cell_table p (from (pauses p) _ stays (from (has_aggressor p) _ alone
+    (shown_of_primitives (λ q. has_aggressor q || (pauses q || is_among one_cell_table q)) refl p is)))
   where
     from : (a b : Bool) → a ≡ false → (a || b) ≡ true → b ≡ true
     from true b e x = cc
     from false b e x = x
+
+pub retention_has : (p : Primitive) → IsPrimitive p → pauses p ≡ true → Contains retention_table p
+retention_has p is lost =
+    contained retention_table p (from (pauses p) _ lost (shown_of_primitives (λ q. not (pauses q) || is_among retention_table q) refl p is))
+  where
+    from : (a b : Bool) → a ≡ true → (not a || b) ≡ true → b ≡ true
+    from true b e x = x
+    from false b e x = cc
 
 pub two_cell_has : (p : Primitive) → IsPrimitive p → has_aggressor p ≡ true → Contains two_cell_table p
 two_cell_has p is beside =
@@ -52,10 +61,19 @@ two_cell_has p is beside =
     from false b e x = cc
 
 -- what is in the tables is a primitive
-pub one_cell_are : All (λ p. IsPrimitive p × (has_aggressor p ≡ false)) one_cell_table
+pub one_cell_are : All (λ p. IsPrimitive p × (has_aggressor p ≡ false) × (pauses p ≡ false)) one_cell_table
 one_cell_are k d within =
-    let both = and_parts _ _ (AllPass-from_list_all (λ q. is_primitive q && not (has_aggressor q)) one_cell_table refl k d within) in
-    (passes_primitive _ both.0, not-true _ both.1)
+    let both =
+    and_parts _ _ (AllPass-from_list_all (λ q. is_primitive q && (not (has_aggressor q) && not (pauses q))) one_cell_table refl k d within) in
+    let rest = and_parts _ _ both.1 in
+    (passes_primitive _ both.0, not-true _ rest.0, not-true _ rest.1)
+
+pub retention_are : All (λ p. IsPrimitive p × (has_aggressor p ≡ false) × (pauses p ≡ true)) retention_table
+retention_are k d within =
+    let both =
+    and_parts _ _ (AllPass-from_list_all (λ q. is_primitive q && (not (has_aggressor q) && pauses q)) retention_table refl k d within) in
+    let rest = and_parts _ _ both.1 in
+    (passes_primitive _ both.0, not-true _ rest.0, rest.1)
 
 pub two_cell_are : All (λ p. IsPrimitive p × (has_aggressor p ≡ true)) two_cell_table
 two_cell_are k d within =
@@ -77,9 +95,10 @@ rank CFwd = 9
 rank CFrd = 10
 rank CFdr = 11
 rank CFir = 12
+rank DRF = 13
 
 class_at : ℕ → Class
-class_at n = get_or (SF ∷ TF ∷ WDF ∷ RDF ∷ DRDF ∷ IRF ∷ CFst ∷ CFds ∷ CFtr ∷ CFwd ∷ CFrd ∷ CFdr ∷ CFir ∷ []) n SF
+class_at n = get_or (SF ∷ TF ∷ WDF ∷ RDF ∷ DRDF ∷ IRF ∷ CFst ∷ CFds ∷ CFtr ∷ CFwd ∷ CFrd ∷ CFdr ∷ CFir ∷ DRF ∷ []) n SF
 
 class_at-rank : (class : Class) → class_at (rank class) ≡ class
 unfolding class_at
@@ -96,6 +115,7 @@ class_at-rank CFwd = refl
 class_at-rank CFrd = refl
 class_at-rank CFdr = refl
 class_at-rank CFir = refl
+class_at-rank DRF = refl
 
 -- the parts of each member of a class tell that class
 members_tell : (class : Class) → list_all (λ p. nat_eq (rank (class_by_parts p)) (rank class)) (members_of class) ≡ true
@@ -112,6 +132,7 @@ members_tell CFwd = refl
 members_tell CFrd = refl
 members_tell CFdr = refl
 members_tell CFir = refl
+members_tell DRF = refl
 
 -- a primitive is in the list of no other class
 pub class_only : (p : Primitive) (class : Class) → Contains (members_of class) p → class ≡ class_by_parts p
@@ -138,6 +159,9 @@ all_differ-pairs (p ∷ ps) h =
 
 pub one_cell_differ : AllPairs (λ p q. p ≢ q) one_cell_table
 one_cell_differ = all_differ-pairs one_cell_table refl
+
+pub retention_differ : AllPairs (λ p q. p ≢ q) retention_table
+retention_differ = all_differ-pairs retention_table refl
 
 pub two_cell_differ : AllPairs (λ p q. p ≢ q) two_cell_table
 two_cell_differ = all_differ-pairs two_cell_table refl

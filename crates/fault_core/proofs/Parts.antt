@@ -2,10 +2,10 @@
 use Rattle.std.proofs.Common.{◌≡◌, Bool, true, false, not, ◌&&◌, Option, Some, None, is_some, refl, ap, ◌∙◌, arith}
 use Rattle.std.proofs.lemmas.Bool.{and_parts}
 use Rattle.fault_core.specs.declared.primitive.Act.{Act}
-use Rattle.fault_core.specs.declared.primitive.Act.TheVariants.{Write, Read}
+use Rattle.fault_core.specs.declared.primitive.Act.TheVariants.{Write, Read, Pause}
 use Rattle.fault_core.specs.declared.primitive.Sense.{Sense}
 use Rattle.fault_core.specs.Primitive.{Primitive, IsPrimitive, same_bit, agg_has_act}
-use Rattle.fault_core.specs.Testing.{is_fault_of}
+use Rattle.fault_core.specs.Testing.{is_fault_of, pauses_alone}
 use Rattle.fault_core.specs.Cells.{same_act}
 use Rattle.fault_core.specs.Rows.{sense_of, prim_of}
 
@@ -14,7 +14,7 @@ abbrev pub at_all_bits : (Bool → Bool) → Bool
 at_all_bits f = f false && f true
 
 abbrev pub at_all_acts : (Option Act → Bool) → Bool
-at_all_acts f = (f None && f (Some Read)) && at_all_bits (λ b. f (Some (Write b)))
+at_all_acts f = ((f None && f (Some Read)) && f (Some Pause)) && at_all_bits (λ b. f (Some (Write b)))
 
 abbrev pub at_all_answers : (Option Bool → Bool) → Bool
 at_all_answers f = f None && at_all_bits (λ b. f (Some b))
@@ -35,8 +35,9 @@ bit_passes f h false = (and_parts _ _ h).0
 bit_passes f h true = (and_parts _ _ h).1
 
 pub act_passes : (f : Option Act → Bool) → at_all_acts f ≡ true → (act : Option Act) → f act ≡ true
-act_passes f h None = (and_parts _ _ (and_parts _ _ h).0).0
-act_passes f h (Some Read) = (and_parts _ _ (and_parts _ _ h).0).1
+act_passes f h None = (and_parts _ _ (and_parts _ _ (and_parts _ _ h).0).0).0
+act_passes f h (Some Read) = (and_parts _ _ (and_parts _ _ (and_parts _ _ h).0).0).1
+act_passes f h (Some Pause) = (and_parts _ _ (and_parts _ _ h).0).1
 act_passes f h (Some (Write b)) = bit_passes (λ x. f (Some (Write x))) (and_parts _ _ h).1 b
 
 pub answer_passes : (f : Option Bool → Bool) → at_all_answers f ≡ true → (answer : Option Bool) → f answer ≡ true
@@ -101,6 +102,11 @@ same_act-equal Read Read h = refl
 same_act-equal Read (Write b) h = cc
 same_act-equal (Write a) Read h = cc
 same_act-equal (Write a) (Write b) h = ap Write (same_bit-equal a b h)
+same_act-equal Read Pause h = cc
+same_act-equal (Write a) Pause h = cc
+same_act-equal Pause Read h = cc
+same_act-equal Pause (Write b) h = cc
+same_act-equal Pause Pause h = refl
 
 same_acts-equal : (a b : Option Act) → same_acts a b ≡ true → a ≡ b
 same_acts-equal None None h = refl
@@ -144,7 +150,7 @@ same_parts-refl p = parts_pass (λ q. same_parts q q) refl p
 
 -- whether parts are a primitive
 abbrev pub is_primitive : Primitive → Bool
-is_primitive p = not (agg_has_act p.agg && is_some p.vic.act) && is_fault_of p.vic p.after p.answer
+is_primitive p = (not (agg_has_act p.agg && is_some p.vic.act) && pauses_alone p.agg p.vic.act) && is_fault_of p.vic p.after p.answer
 
 pub primitive_passes : (p : Primitive) → IsPrimitive p → is_primitive p ≡ true
 primitive_passes p h = grind arith

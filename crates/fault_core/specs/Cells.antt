@@ -1,10 +1,10 @@
 -- What one instance of a primitive does to an array of cells.
 use Rattle.std.specs.Prelude.{◌≢◌, ◌<◌, ◌==◌, ℕ, Bool, true, false, not, ◌||◌, ◌&&◌, if◌then◌else◌, Option, Some, None, is_some, List, slice_index_or, slice_set}
 use Rattle.fault_core.specs.declared.primitive.Act.{Act}
-use Rattle.fault_core.specs.declared.primitive.Act.TheVariants.{Write, Read}
+use Rattle.fault_core.specs.declared.primitive.Act.TheVariants.{Write, Read, Pause}
 use Rattle.fault_core.specs.declared.primitive.Sense.{Sense}
 use Rattle.fault_core.specs.declared.cells.Places.{Places}
-use Rattle.fault_core.specs.Primitive.{Primitive, same_bit, agg_has_act}
+use Rattle.fault_core.specs.Primitive.{Primitive, same_bit, agg_has_act, pauses}
 
 -- the content of a cell; places are within the array wherever it is asked for, so the default is never seen
 abbrev pub cell : List Bool → ℕ → Bool
@@ -32,8 +32,13 @@ close_of p at cells = if not (has_act p) && states_hold p at cells then slice_se
 abbrev pub same_act : Act → Act → Bool
 same_act Read Read = true
 same_act Read (Write b) = false
+same_act Read Pause = false
 same_act (Write a) Read = false
 same_act (Write a) (Write b) = same_bit a b
+same_act (Write a) Pause = false
+same_act Pause Read = false
+same_act Pause (Write b) = false
+same_act Pause Pause = true
 
 -- whether a sense has this act
 abbrev pub has_this_act : Option Act → Act → Bool
@@ -51,15 +56,17 @@ unfoldable pub acts : Primitive → Places → List Bool → ℕ → Act → Boo
 acts p at cells x act =
     (((at.vic == x) && has_this_act p.vic.act act) || agg_acts p.agg at.agg x act) && states_hold p at cells
 
--- the plain part of an act
+-- the plain part of an act on a cell; a pause is none, and has none
 abbrev pub plain_cells : List Bool → ℕ → Act → List Bool
 plain_cells cells x (Write bit) = slice_set cells x bit
 plain_cells cells x Read = cells
+plain_cells cells x Pause = cells
 
 -- what the plain part answers
 abbrev pub plain_answer : List Bool → ℕ → Act → Option Bool
 plain_answer cells x (Write bit) = None
 plain_answer cells x Read = Some (cell cells x)
+plain_answer cells x Pause = None
 
 -- the answer of an act that matches: the primitive's, where it has one
 abbrev pub answer_or : Option Bool → Option Bool → Option Bool
@@ -71,7 +78,7 @@ abbrev pub acted : Primitive → Places → List Bool → ℕ → Act → List B
 acted p at cells x act =
     if acts p at cells x act then slice_set (plain_cells cells x act) at.vic p.after else plain_cells cells x act
 
--- one act on one cell: the plain part, the effect of the primitive where the act is its own, and closing
+-- one act on one cell, which is no pause: the plain part, the effect of the primitive where the act is its own, and closing
 unfoldable pub step_cells : Primitive → Places → List Bool → ℕ → Act → List Bool
 step_cells p at cells x act = close_of p at (acted p at cells x act)
 
@@ -79,6 +86,11 @@ step_cells p at cells x act = close_of p at (acted p at cells x act)
 unfoldable pub step_answer : Primitive → Places → List Bool → ℕ → Act → Option Bool
 step_answer p at cells x act =
     if acts p at cells x act then answer_or p.answer (plain_answer cells x act) else plain_answer cells x act
+
+-- a pause, which is on no cell: the effect of the primitive where the pause is its own and its states hold, and closing;
+-- it answers nothing
+unfoldable pub pause_cells : Primitive → Places → List Bool → List Bool
+pause_cells p at cells = close_of p at (if pauses p && states_hold p at cells then slice_set cells at.vic p.after else cells)
 
 -- the aggressor's place: there exactly for a primitive with an aggressor, within the array, and not the victim's
 abbrev pub FitsAgg : Option Sense → Option ℕ → ℕ → ℕ → Type 0

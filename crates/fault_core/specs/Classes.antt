@@ -1,10 +1,10 @@
 -- The class of a primitive by its parts.
 use Rattle.std.specs.Prelude.{Bool, if◌then◌else◌, Option, Some, None}
 use Rattle.fault_core.specs.declared.primitive.Act.{Act}
-use Rattle.fault_core.specs.declared.primitive.Act.TheVariants.{Write, Read}
+use Rattle.fault_core.specs.declared.primitive.Act.TheVariants.{Write, Read, Pause}
 use Rattle.fault_core.specs.declared.primitive.Sense.{Sense}
 use Rattle.fault_core.specs.declared.table.Class.{Class}
-use Rattle.fault_core.specs.declared.table.Class.TheVariants.{SF, TF, WDF, RDF, DRDF, IRF, CFst, CFds, CFtr, CFwd, CFrd, CFdr, CFir}
+use Rattle.fault_core.specs.declared.table.Class.TheVariants.{SF, TF, WDF, RDF, DRDF, IRF, CFst, CFds, CFtr, CFwd, CFrd, CFdr, CFir, DRF}
 use Rattle.fault_core.specs.Primitive.{Primitive, same_bit}
 
 -- what a read does wrong: it leaves the state and answers the other bit; or it flips the cell, and answers the
@@ -19,6 +19,7 @@ abbrev pub class_of_victim : Option Act → Bool → Bool → Option Bool → Cl
 class_of_victim None state after answer = SF
 class_of_victim (Some (Write written)) state after answer = if same_bit written state then WDF else TF
 class_of_victim (Some Read) state after answer = class_of_read state after answer
+class_of_victim (Some Pause) state after answer = DRF
 
 -- the class of two cells whose victim does the same wrong, while an aggressor holds its state
 abbrev pub coupled : Class → Class
@@ -35,6 +36,7 @@ coupled CFwd = CFwd
 coupled CFrd = CFrd
 coupled CFdr = CFdr
 coupled CFir = CFir
+coupled DRF = DRF
 
 -- the class beside an aggressor, which holds a state or acts
 abbrev pub class_by_aggressor : Option Act → Class → Class

@@ -1,12 +1,12 @@
--- A class as the senses of its aggressor, each with the two states of its victim.
+-- For proofs and private contracts alone: a class as the senses of its aggressor, each with the two states of its victim.
 use Rattle.std.specs.Prelude.{◌≡◌, Bool, true, false, not, Option, Some, None, List, [], ◌∷◌}
 use Rattle.std.specs.List.{flat_map}
 use Rattle.fault_core.specs.declared.primitive.Act.{Act}
-use Rattle.fault_core.specs.declared.primitive.Act.TheVariants.{Write, Read}
+use Rattle.fault_core.specs.declared.primitive.Act.TheVariants.{Write, Read, Pause}
 use Rattle.fault_core.specs.declared.primitive.Sense.{Sense}
 use Rattle.fault_core.specs.declared.table.Class.{Class}
-use Rattle.fault_core.specs.declared.table.Class.TheVariants.{SF, TF, WDF, RDF, DRDF, IRF, CFst, CFds, CFtr, CFwd, CFrd, CFdr, CFir}
-use Rattle.fault_core.specs.Primitive.{Primitive, agg_has_act}
+use Rattle.fault_core.specs.declared.table.Class.TheVariants.{SF, TF, WDF, RDF, DRDF, IRF, CFst, CFds, CFtr, CFwd, CFrd, CFdr, CFir, DRF}
+use Rattle.fault_core.specs.Primitive.{Primitive, agg_has_act, is_pause}
 
 abbrev pub sense_of : Bool → Option Act → Sense
 sense_of state act = record { state = state; act = act }
@@ -38,6 +38,10 @@ deceived agg state = prim_of agg (sense_of state (Some Read)) (not state) (Some 
 abbrev pub misread : Option Sense → Bool → Primitive
 misread agg state = prim_of agg (sense_of state (Some Read)) state (Some (not state))
 
+-- a pause flips the state
+abbrev pub lost : Option Sense → Bool → Primitive
+lost agg state = prim_of agg (sense_of state (Some Pause)) (not state) None
+
 -- the primitive of a class with this sense of its aggressor and this state of its victim
 abbrev pub member_of : Class → Option Sense → Bool → Primitive
 member_of SF agg state = flipped agg state
@@ -53,12 +57,18 @@ member_of DRDF agg state = deceived agg state
 member_of CFdr agg state = deceived agg state
 member_of IRF agg state = misread agg state
 member_of CFir agg state = misread agg state
+member_of DRF agg state = lost agg state
 
--- an aggressor acts only where the victim doesn't
+-- whether an aggressor, if there is one, doesn't pause
+abbrev pub never_pauses : Option Sense → Bool
+never_pauses None = true
+never_pauses (Some sense) = not (is_pause sense.act)
+
+-- an aggressor acts only where the victim doesn't, and it never pauses; beside it no pause is lost
 abbrev pub FitsClass : Class → Option Sense → Type 0
-FitsClass SF agg = Unit {0}
-FitsClass CFst agg = Unit {0}
-FitsClass CFds agg = Unit {0}
+FitsClass SF agg = never_pauses agg ≡ true
+FitsClass CFst agg = never_pauses agg ≡ true
+FitsClass CFds agg = never_pauses agg ≡ true
 FitsClass TF agg = agg_has_act agg ≡ false
 FitsClass CFtr agg = agg_has_act agg ≡ false
 FitsClass WDF agg = agg_has_act agg ≡ false
@@ -69,6 +79,7 @@ FitsClass DRDF agg = agg_has_act agg ≡ false
 FitsClass CFdr agg = agg_has_act agg ≡ false
 FitsClass IRF agg = agg_has_act agg ≡ false
 FitsClass CFir agg = agg_has_act agg ≡ false
+FitsClass DRF agg = agg ≡ None
 
 abbrev pub no_aggressor : List (Option Sense)
 no_aggressor = None ∷ []
@@ -101,6 +112,7 @@ senses_of CFwd = holding
 senses_of CFrd = holding
 senses_of CFdr = holding
 senses_of CFir = holding
+senses_of DRF = no_aggressor
 
 -- the two of one sense of the aggressor
 abbrev pub both_states : Class → Option Sense → List Primitive

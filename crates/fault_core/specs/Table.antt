@@ -1,9 +1,9 @@
 -- The static unlinked fault primitives of one and of two cells, class by class, in the order in which they are printed.
 use Rattle.std.specs.Prelude.{ℕ, zero, suc, Bool, true, false, Option, Some, None, List, [], ◌∷◌, ◌++◌}
-use Rattle.fault_core.specs.declared.primitive.Act.TheVariants.{Write, Read}
+use Rattle.fault_core.specs.declared.primitive.Act.TheVariants.{Write, Read, Pause}
 use Rattle.fault_core.specs.declared.primitive.Sense.{Sense}
 use Rattle.fault_core.specs.declared.table.Class.{Class}
-use Rattle.fault_core.specs.declared.table.Class.TheVariants.{SF, TF, WDF, RDF, DRDF, IRF, CFst, CFds, CFtr, CFwd, CFrd, CFdr, CFir}
+use Rattle.fault_core.specs.declared.table.Class.TheVariants.{SF, TF, WDF, RDF, DRDF, IRF, CFst, CFds, CFtr, CFwd, CFrd, CFdr, CFir, DRF}
 use Rattle.fault_core.specs.Primitive.{Primitive}
 
 -- a printed bit
@@ -22,6 +22,10 @@ writes x y = record { state = bit x; act = Some (Write (bit y)) }
 -- the sense `xrx`
 abbrev pub reads : ℕ → Sense
 reads x = record { state = bit x; act = Some Read }
+
+-- the sense `xt`
+abbrev pub waits : ℕ → Sense
+waits x = record { state = bit x; act = Some Pause }
 
 -- the answer `-`, of what is no read of the victim
 abbrev pub no_answer : Option Bool
@@ -128,8 +132,13 @@ members_of CFir =
     ∷ beside (holds 1) (reads 0) 0 (answers 1)
     ∷ beside (holds 1) (reads 1) 1 (answers 0)
     ∷ []
+-- data retention faults
+members_of DRF =
+    alone (waits 0) 1 no_answer
+    ∷ alone (waits 1) 0 no_answer
+    ∷ []
 
--- the twelve of one cell
+-- the twelve of one cell that need no pause
 abbrev pub one_cell_table : List Primitive
 one_cell_table = members_of SF ++ members_of TF ++ members_of WDF ++ members_of RDF ++ members_of DRDF ++ members_of IRF
 
@@ -138,3 +147,7 @@ abbrev pub two_cell_table : List Primitive
 two_cell_table =
     members_of CFst ++ members_of CFds ++ members_of CFtr ++ members_of CFwd ++ members_of CFrd ++ members_of CFdr
     ++ members_of CFir
+
+-- the two that lose a state over a pause
+abbrev pub retention_table : List Primitive
+retention_table = members_of DRF

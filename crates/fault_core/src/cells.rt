@@ -1,8 +1,8 @@
-ghost use Rattle.std.specs.Prelude.{◌≡◌, ◌<◌, Some, length, false, IsTrue};
-ghost use Rattle.fault_core.specs.Primitive.{same_bit, agg_has_act};
-ghost use Rattle.fault_core.specs.Cells.{FitsPlace, FitsAgg, states_hold, agg_holds, has_act, close_of, acts, agg_acts, has_this_act, same_act, step_cells, step_answer, acted, plain_cells, plain_answer};
+ghost use Rattle.std.specs.Prelude.{◌≡◌, ◌≢◌, ◌<◌, Some, length, false, IsTrue, if◌then◌else◌, slice_set, ◌&&◌};
+ghost use Rattle.fault_core.specs.Primitive.{same_bit, agg_has_act, pauses};
+ghost use Rattle.fault_core.specs.Cells.{FitsPlace, FitsAgg, states_hold, agg_holds, has_act, close_of, acts, agg_acts, has_this_act, same_act, step_cells, step_answer, pause_cells, acted, plain_cells, plain_answer};
 
-use crate::primitive::{Act, FaultPrimitive, Sense};
+use crate::primitive::{Act, FaultPrimitive, Sense, is_pause};
 
 /// Where an instance stands: its aggressor, if it has one, and its victim.
 #[derive(Clone, Copy, Debug, PartialEq, Eq)]
@@ -48,7 +48,7 @@ fn agg_acts_at_all(agg: Option<Sense>) -> bool
 
 /// Closes the cells: a primitive without an act acts wherever its states hold.
 #[tactic(auto, unfolding(crate::specs::Cells::close_of))]
-pub fn close(prim: &FaultPrimitive, places: Places, cells: &mut [bool])
+pub fn close_cells(prim: &FaultPrimitive, places: Places, cells: &mut [bool])
     requires { FitsPlace prim.now places (length cells.old) }
     ensures { cells.new ≡ close_of prim.now places cells.old }
 {
@@ -61,7 +61,7 @@ fn is_this_act(own: Option<Act>, act: Act) -> bool
     ensures { result ≡ has_this_act own act }
 {
     match (own, act) {
-        (Some(Act::Read), Act::Read) => true,
+        (Some(Act::Read), Act::Read) | (Some(Act::Pause), Act::Pause) => true,
         (Some(Act::Write(a)), Act::Write(b)) => a == b,
         _ => false,
     }
@@ -98,10 +98,22 @@ fn do_plainly(cells: &mut [bool], at: usize, act: Act) -> Option<bool>
             None
         }
         Act::Read => Some(cells[at]),
+        Act::Pause => None,
     }
 }
 
-/// One act on one cell, with what the primitive makes of it. The answer is that of a read.
+/// The effect of the primitive where the act was its own, and closing.
+fn take_effect(prim: &FaultPrimitive, places: Places, cells: &mut [bool], own: bool)
+    requires { FitsPlace prim.now places (length cells.old) }
+    ensures { cells.new ≡ close_of prim.now places (if own then slice_set cells.old places.vic prim.now.after else cells.old) }
+{
+    if own {
+        cells[places.vic] = prim.after();
+    }
+    close_cells(prim, places, cells);
+}
+
+/// One act on one cell, which is no pause, with what the primitive makes of it. The answer is that of a read.
 #[tactic(auto, unfolding(crate::specs::Cells::step_cells, crate::specs::Cells::step_answer))]
 pub fn step(
     prim: &FaultPrimitive,
@@ -112,15 +124,23 @@ pub fn step(
 ) -> Option<bool>
     requires places { FitsPlace prim.now places (length cells.old) }
     requires within { at < length cells.old }
+    requires operates { act ≢ Act.Pause }
     ensures cells { cells.new ≡ step_cells prim.now places cells.old at act }
     ensures answer { result ≡ step_answer prim.now places cells.old at act }
 {
     let own = does_act(prim, places, cells, at, act);
     let plain = do_plainly(cells, at, act);
     let answer = if own { prim.answer().or(plain) } else { plain };
-    if own {
-        cells[places.vic] = prim.after();
-    }
-    close(prim, places, cells);
+    take_effect(prim, places, cells, own);
     answer
+}
+
+/// A pause, in which a primitive can lose its victim's state. It is on no cell and answers nothing.
+#[tactic(auto, unfolding(crate::specs::Cells::pause_cells))]
+pub fn pause_cells(prim: &FaultPrimitive, places: Places, cells: &mut [bool])
+    requires { FitsPlace prim.now places (length cells.old) }
+    ensures { cells.new ≡ pause_cells prim.now places cells.old }
+{
+    let own = is_pause(prim.vic().act) && do_states_hold(prim, places, cells);
+    take_effect(prim, places, cells, own);
 }

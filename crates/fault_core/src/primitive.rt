@@ -1,14 +1,15 @@
 ghost use Rattle.std.specs.Prelude.{◌≡◌, ◌↔◌, IsOk, IfOk, IfErr};
-ghost use Rattle.fault_core.specs.Primitive.{IsPrimitive, agg_has_act, refusal_of, has_aggressor};
-ghost use Rattle.fault_core.specs.Testing.{is_fault_of};
+ghost use Rattle.fault_core.specs.Primitive.{IsPrimitive, agg_has_act, refusal_of, has_aggressor, is_pause};
+ghost use Rattle.fault_core.specs.Testing.{is_fault_of, pauses_alone};
 
 use std::marker::Model;
 
-/// What is done to a cell: a write of a bit, or a read.
+/// What is done to a cell: a write of a bit, a read, or nothing over a pause, in which a cell can lose its content.
 #[derive(Clone, Copy, Debug, PartialEq, Eq)]
 pub enum Act {
     Write(bool),
     Read,
+    Pause,
 }
 
 /// A state, and at most one act.
@@ -68,7 +69,7 @@ impl FaultPrimitive {
         if has_act(&agg) && vic.act.is_some() {
             return Err(PrimFault::TooManyOperations);
         }
-        if !is_fault(vic, after, answer) {
+        if !is_pause_alone(agg, vic.act) || !is_fault(vic, after, answer) {
             return Err(PrimFault::NotAFault);
         }
         Ok(FaultPrimitive {
@@ -154,6 +155,23 @@ fn has_act(agg: &Option<Sense>) -> bool
     }
 }
 
+/// Whether an act is a pause.
+pub(crate) fn is_pause(act: Option<Act>) -> bool
+    ensures { result ≡ is_pause act }
+{
+    matches!(act, Some(Act::Pause))
+}
+
+/// Whether nothing pauses beside an aggressor.
+fn is_pause_alone(agg: Option<Sense>, act: Option<Act>) -> bool
+    ensures { result ≡ pauses_alone agg act }
+{
+    match agg {
+        Some(sense) => !(is_pause(sense.act) || is_pause(act)),
+        None => true,
+    }
+}
+
 /// Whether the victim's part is a fault.
 fn is_fault(vic: Sense, after: bool, answer: Option<bool>) -> bool
     ensures { result ≡ is_fault_of vic after answer }
@@ -162,6 +180,7 @@ fn is_fault(vic: Sense, after: bool, answer: Option<bool>) -> bool
         (None, None) => after != vic.state,
         (Some(Act::Write(bit)), None) => after != bit,
         (Some(Act::Read), Some(bit)) => after != vic.state || bit != vic.state,
+        (Some(Act::Pause), None) => after != vic.state,
         _ => false,
     }
 }

@@ -1,15 +1,15 @@
 ghost use Rattle.std.specs.Prelude.{◌≡◌, ◌≢◌, ◌+◌, ◌≤◌, ◌++◌, ◌∷◌, [], false, not, Some, None, All, AllPairs, Contains, length, true};
 ghost use Rattle.arrayvec.specs.ArrayVec.{array_vec_len};
-ghost use Rattle.fault_core.specs.Primitive.{Primitive, IsPrimitive, agg_has_act, has_aggressor};
+ghost use Rattle.fault_core.specs.Primitive.{Primitive, IsPrimitive, agg_has_act, has_aggressor, pauses};
 ghost use Rattle.fault_core.specs.Classes.{class_of_read, class_of_victim, coupled, class_by_parts};
-ghost use Rattle.fault_core.specs.Rows.{flipped, unwritten, disturbed, prim_of, sense_of, member_of, FitsClass, senses_of};
-ghost use Rattle.fault_core.specs.Table.{members_of, one_cell_table, two_cell_table};
+ghost use Rattle.fault_core.specs.Rows.{never_pauses, lost, flipped, unwritten, disturbed, prim_of, sense_of, member_of, FitsClass, senses_of};
+ghost use Rattle.fault_core.specs.Table.{members_of, one_cell_table, two_cell_table, retention_table};
 
 use crate::primitive::{Act, FaultPrimitive as Prim, Sense};
 use arrayvec::ArrayVec;
 
-/// The classes of static unlinked faults, in the order in which they are printed: those of one cell, then
-/// those of two.
+/// The classes of static unlinked faults, in the order in which they are printed: those of one cell, those of
+/// two, and that of pauses.
 #[derive(Clone, Copy, Debug, PartialEq, Eq)]
 pub enum Class {
     /// State fault: the cell doesn't hold a state.
@@ -38,6 +38,8 @@ pub enum Class {
     CFdr,
     /// Incorrect read coupling fault.
     CFir,
+    /// Data retention fault: the cell loses a state over a pause.
+    DRF,
 }
 
 const NO_AGGRESSOR: [Option<Sense>; 1] = [None];
@@ -85,7 +87,8 @@ fn aggressors(class: Class) -> &'static [Option<Sense>]
     ensures { result.now ≡ senses_of class }
 {
     match class {
-        Class::SF | Class::TF | Class::WDF | Class::RDF | Class::DRDF | Class::IRF => &NO_AGGRESSOR,
+        Class::SF | Class::TF | Class::WDF | Class::RDF | Class::DRDF | Class::IRF | Class::DRF =>
+            &NO_AGGRESSOR,
         Class::CFst | Class::CFtr | Class::CFwd | Class::CFrd | Class::CFdr | Class::CFir =>
             &HOLDING,
         Class::CFds => &ACTING,
@@ -94,6 +97,7 @@ fn aggressors(class: Class) -> &'static [Option<Sense>]
 
 /// The victim doesn't hold its state.
 fn flip(agg: Option<Sense>, state: bool) -> Prim
+    requires { never_pauses agg ≡ true }
     ensures { result ≡ flipped agg state }
 {
     let vic = Sense { state, act: None };
@@ -137,6 +141,18 @@ fn read(agg: Option<Sense>, state: bool, after: bool, answer: bool) -> Prim
     Prim::of_parts(agg, vic, after, Some(answer))
 }
 
+/// A pause flips the victim.
+fn loss(agg: Option<Sense>, state: bool) -> Prim
+    requires { agg ≡ None }
+    ensures { result ≡ lost agg state }
+{
+    let vic = Sense {
+        state,
+        act: Some(Act::Pause),
+    };
+    Prim::of_parts(agg, vic, !state, None)
+}
+
 /// The primitive of a class with this sense of its aggressor and this state of its victim.
 fn member(class: Class, agg: Option<Sense>, state: bool) -> Prim
     requires { FitsClass class agg }
@@ -149,6 +165,7 @@ fn member(class: Class, agg: Option<Sense>, state: bool) -> Prim
         Class::RDF | Class::CFrd => read(agg, state, !state, !state),
         Class::DRDF | Class::CFdr => read(agg, state, !state, state),
         Class::IRF | Class::CFir => read(agg, state, state, !state),
+        Class::DRF => loss(agg, state),
     }
 }
 
@@ -174,12 +191,12 @@ fn append<const N: usize>(prims: &mut ArrayVec<Prim, N>, class: Class)
     }
 }
 
-/// The twelve primitives of one cell, in order.
+/// The twelve primitives of one cell that need no pause, in order.
 #[tactic(auto, using(crate::proofs::EveryPrimitive::one_cell_has, crate::proofs::EveryPrimitive::one_cell_are, crate::proofs::EveryPrimitive::one_cell_differ))]
 pub fn one_cell() -> [Prim; 12]
     ensures rows { result ≡ one_cell_table }
-    ensures every { (p : Primitive) → IsPrimitive p → has_aggressor p ≡ false → Contains result p }
-    ensures primitives { All (λ p. IsPrimitive p × (has_aggressor p ≡ false)) result }
+    ensures every { (p : Primitive) → IsPrimitive p → has_aggressor p ≡ false → pauses p ≡ false → Contains result p }
+    ensures primitives { All (λ p. IsPrimitive p × (has_aggressor p ≡ false) × (pauses p ≡ false)) result }
     ensures distinct { AllPairs (λ p q. p ≢ q) result }
 {
     let mut prims = ArrayVec::<Prim, 12>::new();
@@ -211,6 +228,20 @@ pub fn two_cell() -> [Prim; 36]
     prims.into_inner().unwrap()
 }
 
+/// The two primitives that lose a state over a pause, in order.
+#[tactic(auto, using(crate::proofs::EveryPrimitive::retention_has, crate::proofs::EveryPrimitive::retention_are, crate::proofs::EveryPrimitive::retention_differ))]
+pub fn retention() -> [Prim; 2]
+    ensures rows { result ≡ retention_table }
+    ensures every { (p : Primitive) → IsPrimitive p → pauses p ≡ true → Contains result p }
+    ensures primitives { All (λ p. IsPrimitive p × (has_aggressor p ≡ false) × (pauses p ≡ true)) result }
+    ensures distinct { AllPairs (λ p q. p ≢ q) result }
+{
+    [
+        member(Class::DRF, None, false),
+        member(Class::DRF, None, true),
+    ]
+}
+
 fn read_class(state: bool, after: bool, answer: Option<bool>) -> Class
     ensures { result ≡ class_of_read state after answer }
 {
@@ -240,6 +271,7 @@ fn victim_class(vic: Sense, after: bool, answer: Option<bool>) -> Class
             }
         }
         Some(Act::Read) => read_class(vic.state, after, answer),
+        Some(Act::Pause) => Class::DRF,
     }
 }
 
