@@ -2,3 +2,4 @@ pub mod Consistent
 pub mod Built
 pub mod Directions
 pub mod Scanning
+pub mod Refusals

@@ -151,7 +151,7 @@ stop_refused elements n d ops last held number filled within at is before stops 
     )
 
 -- a list at one of its elements
-split_list : (xs : List Op) (k : ℕ) (x : Op) → slice_get xs k ≡ Some x → xs ≡ take k xs ++ x ∷ drop (k + 1) xs
+pub split_list : (xs : List Op) (k : ℕ) (x : Op) → slice_get xs k ≡ Some x → xs ≡ take k xs ++ x ∷ drop (k + 1) xs
 split_list xs k x e =
     let within : k < length xs = slice_get_within xs k x e in
     let here : get_or xs k x ≡ x = get_or_from_slice_get xs k x x e in

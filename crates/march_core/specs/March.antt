@@ -46,6 +46,12 @@ pub record IsMarch (march : List MarchElement) : Type 0 where
   pub ops_within : length (all_ops march) ≤ 256
   pub consistent : IsConsistent (all_ops march)
 
+-- an element by its number; only asked for below the length
+abbrev pub element_at : List MarchElement → ℕ → MarchElement
+element_at [] i = pause
+element_at (e ∷ es) zero = e
+element_at (e ∷ es) (suc i) = element_at es i
+
 -- the order of an element by its number; only asked for below the length
 abbrev pub order_at : List MarchElement → ℕ → Order
 order_at [] i = Any

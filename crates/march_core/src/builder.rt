@@ -97,7 +97,7 @@ impl MarchBuilder {
     pub fn finish(self) -> Result<March, MarchFault>
         ensures variant { IsOk result ↔ IsMarch self }
         ensures value { IfOk result (λ march. march ≡ self) }
-        ensures refusal { IfErr result (λ fault. IsRefused self fault) }
+        ensures refusal { (fault : MarchFault) → (result ≡ Err fault) ↔ IsRefused self fault }
     {
         if !is_filled(self.elements.as_slice(), self.total) {
             return Err(MarchFault::Empty);
