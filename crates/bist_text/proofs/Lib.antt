@@ -8,3 +8,4 @@ pub mod Pieces
 pub mod Loops
 pub mod Piece
 pub mod Lexed
+pub mod Unique

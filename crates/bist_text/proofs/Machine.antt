@@ -37,16 +37,16 @@ module _ {S V : Type 0} (step : S → ℕ → Option S) (value : S → Option V)
   stuck : (s : S) (c : ℕ) (b : List ℕ) → step s c ≡ None → Continues (rest s) (c ∷ b) → ⊥
   stuck s c b e h = subst (λ (o : Option S). Holds o (λ t. rest t (b ++ h.0) h.1)) e ((f.goes s c (b ++ h.0) h.1).0 h.3)
 
-  forward : (s t : S) (c : ℕ) (b : List ℕ) → step s c ≡ Some t → Continues (rest s) (c ∷ b) → Continues (rest t) b
+  pub forward : (s t : S) (c : ℕ) (b : List ℕ) → step s c ≡ Some t → Continues (rest s) (c ∷ b) → Continues (rest t) b
   forward s t c b e h = (h.0, h.1, h.2, subst (λ (o : Option S). Holds o (λ t. rest t (b ++ h.0) h.1)) e ((f.goes s c (b ++ h.0) h.1).0 h.3))
 
-  backward : (s t : S) (c : ℕ) (b : List ℕ) → step s c ≡ Some t → Continues (rest t) b → Continues (rest s) (c ∷ b)
+  pub backward : (s t : S) (c : ℕ) (b : List ℕ) → step s c ≡ Some t → Continues (rest t) b → Continues (rest s) (c ∷ b)
   backward s t c b e h = (h.0, h.1, h.2, (f.goes s c (b ++ h.0) h.1).1 (subst (λ (o : Option S). Holds o (λ t. rest t (b ++ h.0) h.1)) (sym e) h.3))
 
-  stops : (s : S) (c : ℕ) (b : List ℕ) → good s → step s c ≡ None → IsUnexpected (rest s) (c ∷ b) 0
+  pub stops : (s : S) (c : ℕ) (b : List ℕ) → good s → step s c ≡ None → IsUnexpected (rest s) (c ∷ b) 0
   stops s c b g e = record { within = omega arith; before = f.alive s g; after = λ h. stuck s c [] e h }
 
-  later : (s t : S) (c : ℕ) (b : List ℕ) (i : ℕ) → step s c ≡ Some t → IsUnexpected (rest t) b i → IsUnexpected (rest s) (c ∷ b) (suc i)
+  pub later : (s t : S) (c : ℕ) (b : List ℕ) (i : ℕ) → step s c ≡ Some t → IsUnexpected (rest t) b i → IsUnexpected (rest s) (c ∷ b) (suc i)
   later s t c b i e u = record {
     within = let h : i < length b = u.within in omega arith;
     before = backward s t c (take i b) e u.before;

@@ -5,3 +5,4 @@ pub mod Numbers
 pub mod ByteSets
 pub mod Cursors
 pub mod Lines
+pub mod ReservedWords

@@ -5,9 +5,13 @@
 mod byte_set;
 mod cursors;
 mod numbers;
+mod reserved_words;
 mod text_lines;
+mod writing;
 
 pub use byte_set::ByteSet;
 pub use cursors::Cursor;
 pub use numbers::{decimal, hex, put_decimal, put_hex};
+pub use reserved_words::is_reserved;
 pub use text_lines::{Line, Lines};
+pub use writing::put;
