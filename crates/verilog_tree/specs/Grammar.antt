@@ -10,7 +10,8 @@ use Rattle.verilog_tree.specs.declared.tree.UnOp.TheVariants as U
 use Rattle.verilog_tree.specs.declared.tree.BinOp.{BinOp}
 use Rattle.verilog_tree.specs.declared.tree.BinOp.TheVariants as B
 use Rattle.verilog_tree.specs.Plain as P
-use Rattle.verilog_tree.specs.Words.{Base, is_among, reserved_words, number_value, literal_of}
+use Rattle.bist_text.specs.ReservedWords.{is_among, reserved_words}
+use Rattle.verilog_tree.specs.Words.{Base, number_value, literal_of}
 use Rattle.verilog_tree.specs.Tokens.{Mark, Open, Close, OpenBracket, CloseBracket, OpenBrace, CloseBrace, Comma, Semicolon, Colon, At, Question, Equals, LessEquals, Plus, Minus, Ampersand, Bar, Caret, Tilde, Bang, TwoEquals, BangEquals, Less, Greater, GreaterEquals, TwoAmpersands, TwoBars, TwoLess, TwoGreater, mark_text, Token, Identifier, Number, Based, Queried, Sign}
 
 mutual
