@@ -1,31 +1,44 @@
 -- The module that bytes spell.
-use Rattle.std.specs.Prelude.{◌≡◌, ℕ, Bool, true, ◌&&◌, nat_le, List, [], ◌∷◌, length}
-use Rattle.verilog_tree.specs.Words.{number_value, literal_of}
+use Rattle.std.specs.Prelude.{◌≡◌, ℕ, Bool, true, false, not, ◌&&◌, ◌||◌, nat_le, List, [], ◌∷◌, Some, None, length}
 use Rattle.verilog_tree.specs.Formed.{is_literal, is_place}
 use Rattle.verilog_tree.specs.Plain.{ModuleTree}
 use Rattle.verilog_tree.specs.Tokens.{Token, Identifier, Number, Based, Queried, Sign, Lexed}
-use Rattle.verilog_tree.specs.Grammar.{File, file, file_tree, file_nests}
+use Rattle.verilog_tree.specs.Grammar.{Limit, File, file, file_tree}
 
--- Whether a token keeps the limits: an identifier has at most 64 bytes, a number, which always stands in
--- brackets, is at most 63, and a literal has a size from 1 to 64 and a value that it holds.
-abbrev pub token_within : Token → Bool
-token_within (Identifier w) = nat_le (length w) 64
-token_within (Number w) = is_place (number_value w)
-token_within (Based size base digits) = is_literal (literal_of size base digits)
-token_within (Queried size base digits) = is_literal (literal_of size base digits)
-token_within (Sign m) = true
+-- Which limits a text keeps: whether an identifier has at most 64 bytes; whether a number, which always stands
+-- in brackets, is at most 63, and a literal has a size from 1 to 64 and a value that it holds; and how many
+-- openings are open at once.
+pub record Limits : Type 0 where
+  pub names : Bool
+  pub numbers : Bool
+  pub openings : Limit
 
-abbrev pub tokens_within : List Token → Bool
-tokens_within [] = true
-tokens_within (t ∷ ts) = token_within t && tokens_within ts
+-- whether a token keeps them
+abbrev pub keeps : Limits → Token → Bool
+keeps l (Identifier w) = not l.names || nat_le (length w) 64
+keeps l (Number long n) = not l.numbers || is_place n
+keeps l (Based x) = not l.numbers || is_literal x
+keeps l Queried = true
+keeps l (Sign m) = true
 
--- The bytes are tokens, which are those of a derivation of a file, whose tree is the module. The tokens
--- keep the limits, and at most 64 openings are open at once.
-pub record Spells (bytes : List ℕ) (mo : ModuleTree) : Type 0 where
-  pub tokens : List Token
-  pub lexed : Lexed tokens bytes
-  pub derivation : File
-  pub derived : file derivation tokens
-  pub tree : file_tree derivation ≡ mo
-  pub within : tokens_within tokens ≡ true
-  pub nests : file_nests 64 derivation ≡ true
+abbrev pub all_keep : Limits → List Token → Bool
+all_keep l [] = true
+all_keep l (t ∷ ts) = keeps l t && all_keep l ts
+
+-- The tokens are those of a derivation of a file, whose tree is the module.
+abbrev pub Derives : Limit → List Token → ModuleTree → Type 0
+Derives l ts mo = (f : File) × file l f ts × (file_tree f ≡ mo)
+
+-- The bytes are tokens, which keep the limits and derive the module.
+abbrev pub Text : Limits → List ℕ → ModuleTree → Type 0
+Text l b mo = (ts : List Token) × Lexed ts b × (all_keep l ts ≡ true) × Derives l.openings ts mo
+
+abbrev pub all_limits : Limits
+all_limits = record { names = true; numbers = true; openings = Some 64 }
+
+abbrev pub no_limits : Limits
+no_limits = record { names = false; numbers = false; openings = None }
+
+-- The bytes spell the module: they are a text of it within all limits.
+abbrev pub Spells : List ℕ → ModuleTree → Type 0
+Spells b mo = Text all_limits b mo

@@ -5,13 +5,15 @@ ghost use Rattle.verilog_tree.specs.Words.{begins_identifier, in_identifier, all
 use crate::tree::Name;
 use bist_text::is_reserved;
 
-fn begins_identifier(c: u8) -> bool
+/// Whether a byte begins an identifier.
+pub fn begins_identifier(c: u8) -> bool
     ensures { result ≡ begins_identifier c }
 {
     (b'a' <= c && c <= b'z') || (b'A' <= c && c <= b'Z') || c == b'_'
 }
 
-fn in_identifier(c: u8) -> bool
+/// Whether a byte stands in an identifier.
+pub fn in_identifier(c: u8) -> bool
     ensures { result ≡ in_identifier c }
 {
     begins_identifier(c) || (b'0' <= c && c <= b'9') || c == b'$'
