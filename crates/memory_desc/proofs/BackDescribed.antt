@@ -1,32 +1,32 @@
 -- The statements of a printed memory describe it.
-use Rattle.std.proofs.Common.{◌≡◌, ℕ, suc, ◌-◌, ◌<◌, ◌≤◌, ◌||◌, ◌&&◌, Bool, true, false, not, if◌then◌else◌, List, ◌∷◌, ◌∙◌, length, map, Option, Some, None, Result, Ok, Err, refl, sym, ap, subst, arith}
-use Rattle.std.specs.Prelude.{decimal, nat_lt, find, MatchBool, MatchResult}
+use Rattle.std.proofs.Common.{◌≡◌, ℕ, suc, ◌+◌, ◌-◌, ◌^◌, ◌<◌, ◌≤◌, ◌==◌, ◌||◌, ◌&&◌, Bool, true, false, not, if◌then◌else◌, List, ◌∷◌, ◌++◌, ◌∙◌, length, map, Option, Some, None, Result, Ok, Err, refl, sym, ap, subst, arith}
+use Rattle.std.specs.Prelude.{decimal, nat_lt, nat_le, find, MatchBool, MatchResult}
 use Rattle.std.specs.Int.{is_power_of_two}
 use Rattle.std.specs.Str.Parse.{digits_value}
 use Rattle.std.proofs.Math.Path.{ap₂}
-use Rattle.std.proofs.lemmas.Bool.{lt-leb}
+use Rattle.std.proofs.lemmas.Bool.{lt-leb, and_parts, eqb-true}
 use Rattle.bist_bits.specs.Width.{IsWidthOf}
 use Rattle.scrambler.specs.Scrambling.{Scrambling, IsFull, identity}
-use Rattle.memory_desc.specs.Descriptions.{Description, IsMemory}
-use Rattle.memory_desc.specs.LineText.{Content, name, words, bits}
+use Rattle.memory_desc.specs.Descriptions.{Description, IsMemory, assembled}
+use Rattle.memory_desc.specs.LineText.{Content, name, words, bits, latency, polarity, pause, backgrounds}
 use Rattle.memory_desc.specs.Names.{is_among, reserved_words}
-use Rattle.memory_desc.specs.Printed.{is_identity}
+use Rattle.memory_desc.specs.Printed.{is_plain, is_identity}
 use Rattle.memory_desc.specs.Statements.{Statement}
-use Rattle.memory_desc.specs.Subjects.{is_same}
-use Rattle.memory_desc.specs.Values.{name_said, words_said, bits_said, matrix_said, AreBackgrounds}
-use Rattle.memory_desc.specs.Table.{Describes, Builds, Scrambles, Tests, Inverts, Unless, out_of_range, is_out_of_range, unscramblable, is_scrambled, past, is_past, at_line, missing_row, hollow}
+use Rattle.memory_desc.specs.Subjects.{is_same, said}
+use Rattle.memory_desc.specs.Values.{words_said, bits_said, latency_in, polarity_in, pause_in, latency_said, polarity_said, pause_said, matrix_said, AreBackgrounds}
+use Rattle.memory_desc.specs.Table.{described, Describes, Builds, Scrambles, Tests, Inverts, Unless, out_of_range, is_out_of_range, unscramblable, is_scrambled, past, is_past, at_line, missing_row, hollow}
 use Rattle.memory_desc.specs.declared.content.Subject.{Subject}
-use Rattle.memory_desc.specs.declared.content.Subject.TheVariants.{Version, Name, Words, Bits, Row, Backgrounds}
+use Rattle.memory_desc.specs.declared.content.Subject.TheVariants.{Version, Name, Words, Bits, Latency, Polarity, Pause, Row, Backgrounds}
 use Rattle.memory_desc.specs.declared.fault.MemoryFault.{MemoryFault}
 use Rattle.memory_desc.specs.declared.fault.MemoryFault.TheVariants.{OutOfRange, ScrambleNeedsPowerOfTwo}
 use Rattle.memory_desc.proofs.BackLines.{numbered}
 use Rattle.memory_desc.proofs.BackDigits.{decimal_value}
-use Rattle.memory_desc.proofs.BackFound.{Others, Distinct, not_repeated, others_head, rows_distinct, said_backgrounds, found_none, none_found, body}
+use Rattle.memory_desc.proofs.BackFound.{Others, Distinct, not_repeated, others_head, rows_distinct, said_backgrounds, unsaid, found_none, none_found, row_content, body}
 use Rattle.memory_desc.proofs.BackInside.{rows_printed}
 use Rattle.memory_desc.proofs.BackScrambling.{identity_is_identity, identity_by_rows}
 use Rattle.memory_desc.proofs.BackTerms.{neither_past}
 use Rattle.memory_desc.proofs.BackTexts.{digits_of_word}
-use Rattle.memory_desc.proofs.BackValues.{statements, some_rows, no_row_missing, matrix_is, row_within, words_are, words_within, few_enough, solid_enough}
+use Rattle.memory_desc.proofs.BackValues.{statements, later_said, word_value, some_rows, no_row_missing, matrix_is, row_within, words_are, words_within, few_enough, solid_enough}
 
 -- ---- the numbers
 
@@ -36,16 +36,49 @@ small_words d mem = let h = mem.words_high in omega arith
 small_bits : (d : Description) → IsMemory d → d.bits < 1000000000
 small_bits d mem = let h = mem.bits_high in omega arith
 
-words_are_said : (d : Description) (k : ℕ) → IsMemory d → words_said (statements d k) ≡ d.words
-words_are_said d k mem = decimal_value d.words (small_words d mem)
+small_latency : (d : Description) → IsMemory d → d.latency < 1000000000
+small_latency d mem = let h = mem.latency_high in omega arith
 
-bits_are_said : (d : Description) (k : ℕ) → IsMemory d → bits_said (statements d k) ≡ d.bits
-bits_are_said d k mem = decimal_value d.bits (small_bits d mem)
+small_pause : (d : Description) → IsMemory d → d.pause < 1000000000
+small_pause d mem = let h = mem.pause_high in omega arith
+
+-- where version 1 is printed, it says all
+abbrev pub IsEnough : Description → Bool → Type 0
+IsEnough d plain = plain ≡ true → (d.latency ≡ 1) × (d.polarity ≡ 0) × (d.pause ≡ 1)
+
+module _ (d : Description) (k : ℕ) (mem : IsMemory d) where
+  ws : List (List ℕ)
+  ws = map (digits_of_word d.bits) d.backgrounds
+
+  words_are_said : (plain : Bool) → words_said (statements d plain k) ≡ d.words
+  words_are_said plain = decimal_value d.words (small_words d mem)
+
+  bits_are_said : (plain : Bool) → bits_said (statements d plain k) ≡ d.bits
+  bits_are_said plain = decimal_value d.bits (small_bits d mem)
+
+  latency_is_said : (plain : Bool) → IsEnough d plain → latency_said (statements d plain k) ≡ d.latency
+  unfolding ws
+  latency_is_said true enough = ap latency_in (unsaid Latency d.scramble 5 0 k ws (λ j. refl) refl) ∙ sym (enough refl).0
+  latency_is_said false enough = decimal_value d.latency (small_latency d mem)
+
+  polarity_is_said : (plain : Bool) → IsEnough d plain → polarity_said (statements d plain k) ≡ d.polarity
+  unfolding ws
+  polarity_is_said true enough = ap polarity_in (unsaid Polarity d.scramble 5 0 k ws (λ j. refl) refl) ∙ sym (enough refl).1
+  polarity_is_said false enough = word_value d.bits d.polarity mem.polarity
+
+  pause_is_said : (plain : Bool) → IsEnough d plain → pause_said (statements d plain k) ≡ d.pause
+  unfolding ws
+  pause_is_said true enough = ap pause_in (unsaid Pause d.scramble 5 0 k ws (λ j. refl) refl) ∙ sym (enough refl).2
+  pause_is_said false enough = decimal_value d.pause (small_pause d mem)
+
+  backgrounds_are_said : (plain : Bool) → said Backgrounds (statements d plain k) ≡ Some (backgrounds (map (digits_of_word d.bits) d.backgrounds))
+  backgrounds_are_said true = said_backgrounds d.scramble 5 0 k (map (digits_of_word d.bits) d.backgrounds)
+  backgrounds_are_said false = said_backgrounds d.scramble 8 0 k (map (digits_of_word d.bits) d.backgrounds)
 
 -- ---- no refusal
 
-all_distinct : (d : Description) (k : ℕ) → k ≤ 16 → Distinct (statements d k)
-all_distinct d k h =
+all_distinct : (d : Description) (plain : Bool) (k : ℕ) → k ≤ 16 → Distinct (statements d plain k)
+all_distinct d true k h =
     let s = d.scramble in
     let ws = map (digits_of_word d.bits) d.backgrounds in
     let after : (q : Subject) → ((j : ℕ) → is_same (Row j) q ≡ false) → is_same Backgrounds q ≡ false → Others q (numbered 5 (body s 0 k ws)) =
@@ -56,6 +89,20 @@ all_distinct d k h =
         ((refl, after Words (λ j. refl) refl), (after Bits (λ j. refl) refl, rows_distinct s 5 0 k ws (omega arith))),
       ),
     )
+all_distinct d false k h =
+    let s = d.scramble in
+    let ws = map (digits_of_word d.bits) d.backgrounds in
+    let after : (q : Subject) → ((j : ℕ) → is_same (Row j) q ≡ false) → is_same Backgrounds q ≡ false → Others q (numbered 8 (body s 0 k ws)) =
+    λ q f g. others_head q s 8 0 k ws f g in
+    let pauses : Distinct (numbered 7 (pause (decimal d.pause) ∷ body s 0 k ws)) = (after Pause (λ j. refl) refl, rows_distinct s 8 0 k ws (omega arith)) in
+    let ports : Distinct (numbered 5 (later_said d false ++ body s 0 k ws)) =
+    ((refl, (refl, after Latency (λ j. refl) refl)), ((refl, after Polarity (λ j. refl) refl), pauses)) in (
+      (refl, (refl, (refl, (refl, (refl, (refl, after Version (λ j. refl) refl)))))),
+      (
+        (refl, (refl, (refl, (refl, (refl, after Name (λ j. refl) refl))))),
+        ((refl, (refl, (refl, (refl, after Words (λ j. refl) refl)))), ((refl, (refl, (refl, after Bits (λ j. refl) refl))), ports)),
+      ),
+    )
 
 in_range : (low high n : ℕ) (ds : List ℕ) → digits_value 10 ds ≡ n → low ≤ n → n ≤ high → (nat_lt (digits_value 10 ds) low || nat_lt high (digits_value 10 ds)) ≡ false
 in_range low high n ds e l h =
@@ -64,16 +111,30 @@ in_range low high n ds e l h =
 name_in_range : (b : List ℕ) → length b ≤ 48 → is_among b reserved_words ≡ false → is_out_of_range (name b) ≡ false
 name_in_range b h free = neither_past (nat_lt 48 (length b)) (is_among b reserved_words) (lt-leb (suc 48) (length b) (omega arith)) free
 
-all_in_range : (d : Description) (k : ℕ) → IsMemory d → out_of_range (statements d k) ≡ None
-all_in_range d k mem =
-    let s = d.scramble in
+-- no content behind the first four lines passes a test
+later_pass : (p : Content → Bool) (d : Description) (plain : Bool) (k : ℕ) → p (latency (decimal d.latency)) ≡ false → p (polarity (digits_of_word d.bits d.polarity)) ≡ false
+    → p (pause (decimal d.pause)) ≡ false → ((j : ℕ) → j < 0 + k → p (row_content d.scramble j) ≡ false) → p (backgrounds (map (digits_of_word d.bits) d.backgrounds)) ≡ false
+    → find (λ t. p t.content) (numbered 5 (later_said d plain ++ body d.scramble 0 k (map (digits_of_word d.bits) d.backgrounds))) ≡ None
+later_pass p d true k a b c rows set = none_found p d.scramble 5 0 k (map (digits_of_word d.bits) d.backgrounds) rows set
+later_pass p d false k a b c rows set =
+    let more = body d.scramble 0 k (map (digits_of_word d.bits) d.backgrounds) in
+    let q : Statement → Bool = λ t. p t.content in
+    found_none q (record { line = 5; content = latency (decimal d.latency) }) (numbered 6 (polarity (digits_of_word d.bits d.polarity) ∷ pause (decimal d.pause) ∷ more)) a
+    (found_none q (record { line = 6; content = polarity (digits_of_word d.bits d.polarity) }) (numbered 7 (pause (decimal d.pause) ∷ more)) b
+    (found_none q (record { line = 7; content = pause (decimal d.pause) }) (numbered 8 more) c
+    (none_found p d.scramble 8 0 k (map (digits_of_word d.bits) d.backgrounds) rows set)))
+
+all_in_range : (d : Description) (plain : Bool) (k : ℕ) → IsMemory d → out_of_range (statements d plain k) ≡ None
+all_in_range d plain k mem =
     let ws = map (digits_of_word d.bits) d.backgrounds in
     let p : Statement → Bool = λ t. is_out_of_range t.content in
-    let rows = numbered 5 (body s 0 k ws) in
+    let rows = numbered 5 (later_said d plain ++ body d.scramble 0 k ws) in
     let bits_line : Statement = record { line = 4; content = bits (decimal d.bits) } in
     let words_line : Statement = record { line = 3; content = words (decimal d.words) } in
     let name_line : Statement = record { line = 2; content = name d.name } in
-    let from_rows : find p rows ≡ None = none_found is_out_of_range s 5 0 k ws (λ j l. refl) refl in
+    let from_rows : find p rows ≡ None =
+    later_pass is_out_of_range d plain k (in_range 1 4 d.latency (decimal d.latency) (decimal_value d.latency (small_latency d mem)) mem.latency_low mem.latency_high) refl
+    (in_range 1 65535 d.pause (decimal d.pause) (decimal_value d.pause (small_pause d mem)) mem.pause_low mem.pause_high) (λ j l. refl) refl in
     let from_bits : find p (bits_line ∷ rows) ≡ None =
     found_none p bits_line rows (in_range 1 64 d.bits (decimal d.bits) (decimal_value d.bits (small_bits d mem)) mem.bits_low mem.bits_high) from_rows in
     let from_words : find p (words_line ∷ bits_line ∷ rows) ≡ None =
@@ -82,15 +143,15 @@ all_in_range d k mem =
     found_none p name_line (words_line ∷ bits_line ∷ rows) (name_in_range d.name mem.name.short mem.name.free) from_words in
     ap (at_line (λ n. OutOfRange n)) from_name
 
-none_past : (d : Description) (k size : ℕ) → IsMemory d → d.scramble.width ≤ 16 → k ≤ d.scramble.width → size ≡ d.bits
-    → past (statements d k) d.scramble.width size ≡ None
-none_past d k size mem small h e =
+none_past : (d : Description) (plain : Bool) (k size : ℕ) → IsMemory d → d.scramble.width ≤ 16 → k ≤ d.scramble.width → size ≡ d.bits
+    → past (statements d plain k) d.scramble.width size ≡ None
+none_past d plain k size mem small h e =
     let s = d.scramble in
-    let ws = map (digits_of_word d.bits) d.backgrounds in
-    let whole : past (statements d k) s.width d.bits ≡ None =
+    let whole : past (statements d plain k) s.width d.bits ≡ None =
     ap (at_line (λ n. OutOfRange n))
-    (none_found (is_past s.width d.bits) s 5 0 k ws (λ j l. row_within s d.bits j (omega arith) small) (words_within s.width d.bits d.backgrounds mem.tested.fit)) in
-    subst (λ (size : ℕ). past (statements d k) s.width size ≡ None) (sym e) whole
+    (later_pass (is_past s.width d.bits) d plain k refl (ap (nat_le (2 ^ d.bits)) (word_value d.bits d.polarity mem.polarity) ∙ lt-leb (2 ^ d.bits) d.polarity mem.polarity) refl
+    (λ j l. row_within s d.bits j (omega arith) small) (words_within s.width d.bits d.backgrounds mem.tested.fit)) in
+    subst (λ (size : ℕ). past (statements d plain k) s.width size ≡ None) (sym e) whole
 
 -- ---- the scrambling
 
@@ -102,96 +163,109 @@ power_by_rows d mem e false p =
     let y : ⊥ = cc in absurd y
 
 -- of a scrambling that is printed, or not
-pub record Given (d : Description) (k : ℕ) : Type 0 where
+pub record Given (d : Description) (plain : Bool) (k : ℕ) : Type 0 where
   few : k ≤ d.scramble.width
-  rows_allowed : unscramblable (statements d k) ≡ None
-  scrambles : Scrambles (statements d k) d.scramble.width (Ok d.scramble)
+  rows_allowed : unscramblable (statements d plain k) ≡ None
+  scrambles : Scrambles (statements d plain k) d.scramble.width (Ok d.scramble)
 
-given_identity : (d : Description) → IsFull d.scramble → is_identity d.scramble ≡ true → Given d 0
-given_identity d full e =
+given_identity : (d : Description) (plain : Bool) → IsFull d.scramble → is_identity d.scramble ≡ true → Given d plain 0
+given_identity d true full e =
+    let same : d.scramble ≡ identity d.scramble.width = identity_by_rows d.scramble full.count e in
+    record { few = omega arith; rows_allowed = refl; scrambles = ap (λ (s : Scrambling). Ok s) same }
+given_identity d false full e =
     let same : d.scramble ≡ identity d.scramble.width = identity_by_rows d.scramble full.count e in
     record { few = omega arith; rows_allowed = refl; scrambles = ap (λ (s : Scrambling). Ok s) same }
 
-given_rows : (d : Description) → IsMemory d → IsFull d.scramble → d.scramble.width ≤ 16 → is_identity d.scramble ≡ false → Given d d.scramble.width
-given_rows d mem full small e =
+given_rows : (d : Description) (plain : Bool) → IsMemory d → IsFull d.scramble → d.scramble.width ≤ 16 → is_identity d.scramble ≡ false → Given d plain d.scramble.width
+given_rows d plain mem full small e =
     let s = d.scramble in
-    let ss = statements d s.width in
-    let ws = map (digits_of_word d.bits) d.backgrounds in
-    let some : is_scrambled ss ≡ true = some_rows s 5 0 s.width ws mem.address.positive in
-    let power : is_power_of_two (words_said ss) ≡ true = ap is_power_of_two (words_are_said d s.width mem) ∙ power_by_rows d mem e (is_power_of_two d.words) refl in
+    let ss = statements d plain s.width in
+    let some : is_scrambled ss ≡ true = some_rows d plain s.width mem.address.positive in
+    let power : is_power_of_two (words_said ss) ≡ true = ap is_power_of_two (words_are_said d s.width mem plain) ∙ power_by_rows d mem e (is_power_of_two d.words) refl in
     let r : Result Scrambling MemoryFault = Ok s in
     record {
       few = omega arith;
       rows_allowed = ap₂ (λ (a b : Bool). if a && not b then Some ScrambleNeedsPowerOfTwo else None) some power;
       scrambles =
           subst (λ (b : Bool). MatchBool b (Unless (missing_row ss s.width) r (Inverts (matrix_said ss s.width) r)) (r ≡ Ok (identity s.width))) (sym some)
-          (subst (λ (o : Option MemoryFault). Unless o r (Inverts (matrix_said ss s.width) r)) (sym (no_row_missing d s.width s.width (omega arith) small))
-          (subst (λ (m : Scrambling). Inverts m r) (sym (matrix_is d full small)) (mem.invertible, refl)));
+          (subst (λ (o : Option MemoryFault). Unless o r (Inverts (matrix_said ss s.width) r)) (sym (no_row_missing d plain s.width s.width (omega arith) small))
+          (subst (λ (m : Scrambling). Inverts m r) (sym (matrix_is d plain full small)) (mem.invertible, refl)));
     }
 
-given_by_test : (d : Description) → IsMemory d → IsFull d.scramble → d.scramble.width ≤ 16 → (t : Bool) → is_identity d.scramble ≡ t
-    → Given d (if t then 0 else d.scramble.width)
-given_by_test d mem full small true e = given_identity d full e
-given_by_test d mem full small false e = given_rows d mem full small e
+given_by_test : (d : Description) (plain : Bool) → IsMemory d → IsFull d.scramble → d.scramble.width ≤ 16 → (t : Bool) → is_identity d.scramble ≡ t
+    → Given d plain (if t then 0 else d.scramble.width)
+given_by_test d plain mem full small true e = given_identity d plain full e
+given_by_test d plain mem full small false e = given_rows d plain mem full small e
 
 -- ---- the whole
 
-tests_are : (d : Description) (k : ℕ) → IsMemory d → Tests (statements d k) (Ok d.backgrounds)
-tests_are d k mem =
-    let ss = statements d k in
+tests_are : (d : Description) (plain : Bool) (k : ℕ) → IsMemory d → Tests (statements d plain k) (Ok d.backgrounds)
+tests_are d plain k mem =
+    let ss = statements d plain k in
     let set = d.backgrounds in
-    let ws = map (digits_of_word d.bits) set in
     let r : Result (List ℕ) MemoryFault = Ok set in (
       set,
-      subst (λ (o : Option Content). AreBackgrounds o (bits_said ss) set) (sym (said_backgrounds d.scramble 5 0 k ws)) (sym (words_are d.bits set mem.tested.fit)),
+      subst (λ (o : Option Content). AreBackgrounds o (bits_said ss) set) (sym (backgrounds_are_said d k mem plain)) (sym (words_are d.bits set mem.tested.fit)),
       subst (λ (o : Option MemoryFault). Unless o r (Unless (hollow set) r (r ≡ Ok set))) (sym (few_enough set mem.tested.few))
           (subst (λ (o : Option MemoryFault). Unless o r (r ≡ Ok set)) (sym (solid_enough set mem.tested.solid)) refl),
     )
 
-described_as : List ℕ → ℕ → ℕ → Scrambling → List ℕ → Result Description MemoryFault
-described_as n w b s set = Ok (record { name = n; words = w; bits = b; scramble = s; backgrounds = set })
+described_as : List ℕ → Scrambling → List ℕ → ℕ → ℕ → ℕ → ℕ → ℕ → Result Description MemoryFault
+described_as n s set w b l p z = Ok (assembled n w b l p z s set)
 
-same_description : (d : Description) (k : ℕ) → IsMemory d
-    → described_as d.name d.words d.bits d.scramble d.backgrounds ≡ described_as (name_said (statements d k)) (words_said (statements d k)) (bits_said (statements d k)) d.scramble d.backgrounds
-same_description d k mem =
-    ap₂ (λ (w b : ℕ). described_as d.name w b d.scramble d.backgrounds) (sym (words_are_said d k mem)) (sym (bits_are_said d k mem))
+same_description : (d : Description) (plain : Bool) (k : ℕ) → IsMemory d → IsEnough d plain
+    → described_as d.name d.scramble d.backgrounds d.words d.bits d.latency d.polarity d.pause ≡ Ok (described (statements d plain k) d.scramble d.backgrounds)
+unfolding described_as
+same_description d plain k mem enough =
+    let at = described_as d.name d.scramble d.backgrounds in
+    let ss = statements d plain k in
+    ap₂ (λ (w b : ℕ). at w b d.latency d.polarity d.pause) (sym (words_are_said d k mem plain)) (sym (bits_are_said d k mem plain))
+    ∙ ap₂ (λ (l p : ℕ). at (words_said ss) (bits_said ss) l p d.pause) (sym (latency_is_said d k mem plain enough)) (sym (polarity_is_said d k mem plain enough))
+    ∙ ap (λ (z : ℕ). at (words_said ss) (bits_said ss) (latency_said ss) (polarity_said ss) z) (sym (pause_is_said d k mem plain enough))
 
 -- what is left once no line is refused
 abbrev Tested : List Statement → Result Description MemoryFault → Scrambling → Type 0
 Tested ss r s =
     (tests : Result (List ℕ) MemoryFault) × Tests ss tests × MatchResult tests
-    (λ set. r ≡ Ok (record { name = name_said ss; words = words_said ss; bits = bits_said ss; scramble = s; backgrounds = set }))
+    (λ set. r ≡ Ok (described ss s set))
     (λ fault. r ≡ Err fault)
 
 abbrev Scrambled : List Statement → ℕ → Result Description MemoryFault → Type 0
 Scrambled ss width r =
     (scrambling : Result Scrambling MemoryFault) × Scrambles ss width scrambling × MatchResult scrambling (Tested ss r) (λ fault. r ≡ Err fault)
 
-builds_it : (d : Description) (k : ℕ) → IsMemory d → d.scramble.width ≤ 16 → Given d k → Builds (statements d k) d.scramble.width (Ok d)
+builds_it : (d : Description) (plain : Bool) (k : ℕ) → IsMemory d → IsEnough d plain → d.scramble.width ≤ 16 → Given d plain k → Builds (statements d plain k) d.scramble.width (Ok d)
 unfolding described_as
-builds_it d k mem small given =
-    let ss = statements d k in
+builds_it d plain k mem enough small given =
+    let ss = statements d plain k in
     let w = d.scramble.width in
     let r : Result Description MemoryFault = Ok d in
     subst (λ (o : Option MemoryFault). Unless o r (Unless (past ss w (bits_said ss)) r (Scrambled ss w r))) (sym given.rows_allowed)
-    (subst (λ (o : Option MemoryFault). Unless o r (Scrambled ss w r)) (sym (none_past d k (bits_said ss) mem small given.few (bits_are_said d k mem)))
-    (Ok d.scramble, given.scrambles, (Ok d.backgrounds, tests_are d k mem, same_description d k mem)))
+    (subst (λ (o : Option MemoryFault). Unless o r (Scrambled ss w r)) (sym (none_past d plain k (bits_said ss) mem small given.few (bits_are_said d k mem plain)))
+    (Ok d.scramble, given.scrambles, (Ok d.backgrounds, tests_are d plain k mem, same_description d plain k mem enough)))
 
 -- what is left once each statement is in range
 abbrev Wide : List Statement → Result Description MemoryFault → Type 0
 Wide ss r = (width : ℕ) × IsWidthOf (words_said ss - 1) width × Builds ss width r
 
-pub describes_with : (d : Description) (k : ℕ) → IsMemory d → d.scramble.width ≤ 16 → Given d k → Describes (statements d k) (Ok d)
-describes_with d k mem small given =
-    let ss = statements d k in
+pub describes_with : (d : Description) (plain : Bool) (k : ℕ) → IsMemory d → IsEnough d plain → d.scramble.width ≤ 16 → Given d plain k → Describes (statements d plain k) (Ok d)
+describes_with d plain k mem enough small given =
+    let ss = statements d plain k in
     let r : Result Description MemoryFault = Ok d in
     let few = given.few in
-    subst (λ (o : Option MemoryFault). Unless o r (Unless (out_of_range ss) r (Wide ss r))) (sym (not_repeated ss (all_distinct d k (omega arith))))
-    (subst (λ (o : Option MemoryFault). Unless o r (Wide ss r)) (sym (all_in_range d k mem)) (
+    subst (λ (o : Option MemoryFault). Unless o r (Unless (out_of_range ss) r (Wide ss r))) (sym (not_repeated ss (all_distinct d plain k (omega arith))))
+    (subst (λ (o : Option MemoryFault). Unless o r (Wide ss r)) (sym (all_in_range d plain k mem)) (
       d.scramble.width,
-      subst (λ (n : ℕ). IsWidthOf (n - 1) d.scramble.width) (sym (words_are_said d k mem)) mem.address,
-      builds_it d k mem small given,
+      subst (λ (n : ℕ). IsWidthOf (n - 1) d.scramble.width) (sym (words_are_said d k mem plain)) mem.address,
+      builds_it d plain k mem enough small given,
     ))
 
-pub describes_it : (d : Description) → IsMemory d → IsFull d.scramble → d.scramble.width ≤ 16 → Describes (statements d (rows_printed d.scramble)) (Ok d)
-describes_it d mem full small = describes_with d (rows_printed d.scramble) mem small (given_by_test d mem full small (is_identity d.scramble) refl)
+enough_by_test : (d : Description) → IsEnough d (is_plain d)
+enough_by_test d e =
+    let outer = and_parts ((d.latency == 1) && (d.polarity == 0)) (d.pause == 1) e in
+    let inner = and_parts (d.latency == 1) (d.polarity == 0) outer.0 in
+    (eqb-true d.latency 1 inner.0, eqb-true d.polarity 0 inner.1, eqb-true d.pause 1 outer.1)
+
+pub describes_it : (d : Description) → IsMemory d → IsFull d.scramble → d.scramble.width ≤ 16 → Describes (statements d (is_plain d) (rows_printed d.scramble)) (Ok d)
+describes_it d mem full small =
+    describes_with d (is_plain d) (rows_printed d.scramble) mem (enough_by_test d) small (given_by_test d (is_plain d) mem full small (is_identity d.scramble) refl)

@@ -12,7 +12,7 @@ use Rattle.memory_desc.specs.Statements.{Statement}
 use Rattle.memory_desc.specs.Subjects.{subject, is_same, is_about, content_of, said}
 use Rattle.memory_desc.specs.Table.{is_other, is_repeat, repeated, at_line, unless_there}
 use Rattle.memory_desc.specs.declared.content.Subject.{Subject}
-use Rattle.memory_desc.specs.declared.content.Subject.TheVariants.{Version, Name, Words, Bits, Row, Backgrounds}
+use Rattle.memory_desc.specs.declared.content.Subject.TheVariants.{Version, Name, Words, Bits, Latency, Polarity, Pause, Row, Backgrounds}
 use Rattle.memory_desc.specs.declared.fault.MemoryFault.{MemoryFault}
 use Rattle.memory_desc.specs.declared.fault.MemoryFault.TheVariants.{Repeated}
 use Rattle.memory_desc.proofs.BackLines.{numbered}
@@ -26,6 +26,9 @@ is_same_self Version = refl
 is_same_self Name = refl
 is_same_self Words = refl
 is_same_self Bits = refl
+is_same_self Latency = refl
+is_same_self Polarity = refl
+is_same_self Pause = refl
 is_same_self (Row i) = eq-eqb i i refl
 is_same_self Backgrounds = refl
 
@@ -120,6 +123,13 @@ said_row s n i j (suc k) ws h l small =
 pub said_backgrounds : (s : Scrambling) (n i k : ℕ) (ws : List (List ℕ)) → said Backgrounds (numbered n (body s i k ws)) ≡ Some (backgrounds ws)
 said_backgrounds s n i zero ws = refl
 said_backgrounds s n i (suc k) ws = said_backgrounds s (n + 1) (i + 1) k ws
+
+-- nothing is said of what is neither a row nor backgrounds
+pub unsaid : (q : Subject) (s : Scrambling) (n i k : ℕ) (ws : List (List ℕ)) → ((j : ℕ) → is_same q (Row j) ≡ false) → is_same q Backgrounds ≡ false
+    → said q (numbered n (body s i k ws)) ≡ None
+unsaid q s n i zero ws f g = later q (record { line = n; content = backgrounds ws }) [] g
+unsaid q s n i (suc k) ws f g =
+    later q (record { line = n; content = row_content s i }) (numbered (n + 1) (body s (i + 1) k ws)) (f (digits_value 10 (decimal i))) ∙ unsaid q s (n + 1) (i + 1) k ws f g
 
 -- what is said is there
 pub is_there : (fault : MemoryFault) (o : Option Statement) (c : Content) → content_of o ≡ Some c → unless_there fault o ≡ None

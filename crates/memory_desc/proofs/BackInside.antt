@@ -4,6 +4,7 @@ use Rattle.std.specs.Prelude.{decimal}
 use Rattle.std.specs.Int.{bit_at}
 use Rattle.std.specs.List.{list_all}
 use Rattle.std.proofs.Math.Nat.{zero-add}
+use Rattle.std.proofs.Math.Path.{ap₂}
 use Rattle.std.proofs.lemmas.Bool.{and_parts, and_from}
 use Rattle.std.proofs.lemmas.List.Folds.{list_all-append}
 use Rattle.bist_text.specs.Numbers.{hex_digits}
@@ -11,7 +12,7 @@ use Rattle.scrambler.specs.Scrambling.{Scrambling, row}
 use Rattle.memory_desc.specs.Descriptions.{Description}
 use Rattle.memory_desc.specs.Names.{is_digit, is_letter, is_name_byte, is_identifier}
 use Rattle.memory_desc.specs.LineText.{Term, index_bit, constant, is_hex, is_term, term_text}
-use Rattle.memory_desc.specs.Printed.{joined, row_terms, row_line, row_lines, background_texts, backgrounds_line, number_line, size_lines, head_lines, is_identity, printed}
+use Rattle.memory_desc.specs.Printed.{joined, row_terms, row_line, row_lines, background_texts, backgrounds_line, number_line, name_line, size_lines, is_plain, version_text, polarity_line, port_lines, later_lines, head_lines, is_identity, printed}
 use Rattle.memory_desc.proofs.LinePieces.{apart}
 use Rattle.memory_desc.proofs.BackDigits.{decimal_digits, hex_digits_hex}
 use Rattle.memory_desc.proofs.BackLines.{is_inside, with_feeds, with_feeds_more}
@@ -58,6 +59,9 @@ backgrounds_inside size (w ∷ ws) =
     both (hex_digits ((size + 3) / 4) w) (background_texts size ws)
     (inside is_hex refl (hex_digits ((size + 3) / 4) w) (hex_digits_hex ((size + 3) / 4) w)) (backgrounds_inside size ws)
 
+pub polarity_inside : (size w : ℕ) → list_all is_inside (hex_digits ((size + 3) / 4) w) ≡ true
+polarity_inside size w = inside is_hex refl (hex_digits ((size + 3) / 4) w) (hex_digits_hex ((size + 3) / 4) w)
+
 -- ---- the lines
 
 abbrev pub row_written : Scrambling → ℕ → List ℕ
@@ -88,40 +92,62 @@ rows_end s (suc k) =
     ∙ ap (λ (j : ℕ). row_lines s k ++ with_feeds (row_written s j ∷ [])) (zero-add k)
     ∙ ap (λ (t : List ℕ). row_lines s k ++ t) (row_ends s k)
 
--- the lines of the printed form, with k rows
-abbrev pub lines_of : Description → ℕ → List (List ℕ)
-lines_of d k =
-    codes "memory 1" ∷ (codes "name " ++ d.name) ∷ (codes "words " ++ decimal d.words) ∷ (codes "bits " ++ decimal d.bits)
-    ∷ (texts_from d.scramble 0 k ++ ((codes "backgrounds" ++ background_texts d.bits d.backgrounds) ∷ []))
+-- what version 2 says besides
+abbrev pub later_of : Description → Bool → List (List ℕ)
+later_of d true = []
+later_of d false = (codes "latency " ++ decimal d.latency) ∷ (codes "polarity " ++ hex_digits ((d.bits + 3) / 4) d.polarity) ∷ (codes "pause " ++ decimal d.pause) ∷ []
+
+-- the lines of the printed form of a version, with k rows
+abbrev pub lines_of : Description → Bool → ℕ → List (List ℕ)
+lines_of d plain k =
+    version_text plain ∷ (codes "name " ++ d.name) ∷ (codes "words " ++ decimal d.words) ∷ (codes "bits " ++ decimal d.bits)
+    ∷ (later_of d plain ++ (texts_from d.scramble 0 k ++ ((codes "backgrounds" ++ background_texts d.bits d.backgrounds) ∷ [])))
 
 front : (x s r : List ℕ) → (((x ++ (10 ∷ [])) ++ s) ++ r) ≡ x ++ (10 ∷ (s ++ r))
 front x s r = append_assoc (x ++ (10 ∷ [])) s r ∙ append_assoc x (10 ∷ []) (s ++ r)
 
-head_ends : (d : Description) (r : List ℕ) → head_lines d ++ r
-    ≡ codes "memory 1" ++ (10 ∷ (codes "name " ++ (d.name ++ (10 ∷ (codes "words " ++ (decimal d.words ++ (10 ∷ (codes "bits " ++ (decimal d.bits ++ (10 ∷ r))))))))))
-head_ends d r =
-    ap (λ (t : List ℕ). codes "memory 1" ++ (10 ∷ (codes "name " ++ t))) (front d.name (size_lines d.words d.bits) r)
-    ∙ ap (λ (t : List ℕ). codes "memory 1" ++ (10 ∷ (codes "name " ++ (d.name ++ (10 ∷ (codes "words " ++ t))))))
+-- the head of a version
+abbrev head_with : Description → Bool → List ℕ
+head_with d plain = version_text plain ++ (10 ∷ (name_line d.name ++ size_lines d.words d.bits))
+
+head_ends : (d : Description) (plain : Bool) (r : List ℕ) → head_with d plain ++ r
+    ≡ version_text plain ++ (10 ∷ (codes "name " ++ (d.name ++ (10 ∷ (codes "words " ++ (decimal d.words ++ (10 ∷ (codes "bits " ++ (decimal d.bits ++ (10 ∷ r))))))))))
+head_ends d plain r =
+    append_assoc (version_text plain) (10 ∷ (name_line d.name ++ size_lines d.words d.bits)) r
+    ∙ ap (λ (t : List ℕ). version_text plain ++ (10 ∷ (codes "name " ++ t))) (front d.name (size_lines d.words d.bits) r)
+    ∙ ap (λ (t : List ℕ). version_text plain ++ (10 ∷ (codes "name " ++ (d.name ++ (10 ∷ (codes "words " ++ t))))))
     (front (decimal d.words) (number_line (codes "bits ") d.bits) r)
-    ∙ ap (λ (t : List ℕ). codes "memory 1" ++ (10 ∷ (codes "name " ++ (d.name ++ (10 ∷ (codes "words " ++ (decimal d.words ++ (10 ∷ (codes "bits " ++ t)))))))))
+    ∙ ap (λ (t : List ℕ). version_text plain ++ (10 ∷ (codes "name " ++ (d.name ++ (10 ∷ (codes "words " ++ (decimal d.words ++ (10 ∷ (codes "bits " ++ t)))))))))
     (append_assoc (decimal d.bits) (10 ∷ []) r)
 
-lines_end : (d : Description) (k : ℕ) → with_feeds (lines_of d k) ≡ head_lines d ++ (row_lines d.scramble k ++ backgrounds_line d.bits d.backgrounds)
-lines_end d k =
+later_ends : (d : Description) (plain : Bool) → with_feeds (later_of d plain) ≡ (if plain then [] else port_lines d)
+later_ends d true = refl
+later_ends d false =
+    let pause = number_line (codes "pause ") d.pause in
+    sym (
+    ap (λ (t : List ℕ). codes "latency " ++ t) (append_assoc (decimal d.latency) (10 ∷ []) (polarity_line d.bits d.polarity ++ pause))
+    ∙ ap (λ (t : List ℕ). codes "latency " ++ (decimal d.latency ++ (10 ∷ (codes "polarity " ++ t)))) (append_assoc (hex_digits ((d.bits + 3) / 4) d.polarity) (10 ∷ []) pause))
+
+lines_end : (d : Description) (plain : Bool) (k : ℕ)
+    → with_feeds (lines_of d plain k) ≡ head_with d plain ++ ((if plain then [] else port_lines d) ++ (row_lines d.scramble k ++ backgrounds_line d.bits d.backgrounds))
+lines_end d plain k =
     let background = codes "backgrounds" ++ background_texts d.bits d.backgrounds in
-    let rest : with_feeds (texts_from d.scramble 0 k ++ (background ∷ [])) ≡ row_lines d.scramble k ++ backgrounds_line d.bits d.backgrounds =
+    let rows = texts_from d.scramble 0 k ++ (background ∷ []) in
+    let rest : with_feeds rows ≡ row_lines d.scramble k ++ backgrounds_line d.bits d.backgrounds =
     with_feeds_more (texts_from d.scramble 0 k) (background ∷ [])
     ∙ ap (λ (t : List ℕ). t ++ backgrounds_line d.bits d.backgrounds) (rows_end d.scramble k) in
-    sym (head_ends d (with_feeds (texts_from d.scramble 0 k ++ (background ∷ [])))) ∙ ap (λ (t : List ℕ). head_lines d ++ t) rest
+    sym (head_ends d plain (with_feeds (later_of d plain ++ rows)))
+    ∙ ap (λ (t : List ℕ). head_with d plain ++ t)
+    (with_feeds_more (later_of d plain) rows ∙ ap₂ (λ (t u : List ℕ). t ++ u) (later_ends d plain) rest)
 
 -- the rows are printed, unless they change nothing
 abbrev pub rows_printed : Scrambling → ℕ
 rows_printed s = if is_identity s then 0 else s.width
 
-pub printed_lines : (d : Description) → with_feeds (lines_of d (rows_printed d.scramble)) ≡ printed d
+pub printed_lines : (d : Description) → with_feeds (lines_of d (is_plain d) (rows_printed d.scramble)) ≡ printed d
 printed_lines d =
-    lines_end d (rows_printed d.scramble)
-    ∙ ap (λ (t : List ℕ). head_lines d ++ (t ++ backgrounds_line d.bits d.backgrounds)) (by_test (is_identity d.scramble))
+    lines_end d (is_plain d) (rows_printed d.scramble)
+    ∙ ap (λ (t : List ℕ). head_lines d ++ (later_lines d ++ (t ++ backgrounds_line d.bits d.backgrounds))) (by_test (is_identity d.scramble))
   where
     by_test : (t : Bool) → row_lines d.scramble (if t then 0 else d.scramble.width) ≡ (if t then [] else row_lines d.scramble d.scramble.width)
     by_test true = refl

@@ -7,7 +7,7 @@ use Rattle.bist_text.specs.Grammar.{byte, word, is_blank}
 use Rattle.bist_text.specs.Numbers.{hex_digits}
 use Rattle.bist_text.proofs.Pieces.{many_none, word_on}
 use Rattle.memory_desc.specs.Names.{is_identifier}
-use Rattle.memory_desc.specs.LineText.{Term, Content, version, name, words, bits, scramble, backgrounds, is_word, is_term, is_formed, space, gap, tail, term_text, more_terms, equation, more_words, argument, key_text, kind_of, ContentText}
+use Rattle.memory_desc.specs.LineText.{Term, Content, version, name, words, bits, latency, polarity, pause, scramble, backgrounds, is_word, is_term, is_formed, space, gap, tail, term_text, more_terms, equation, more_words, argument, key_text, kind_of, ContentText}
 use Rattle.memory_desc.specs.Printed.{joined, background_texts}
 use Rattle.memory_desc.proofs.BackDigits.{decimal_number, hex_word}
 
@@ -32,8 +32,11 @@ headed c b f h = (
 
 -- ---- the head
 
-pub version_text : ContentText (codes "memory 1") (version (codes "1"))
-version_text = headed (version (codes "1")) (codes "1") refl (word_last (codes "1") tail tt)
+pub version_one : ContentText (codes "memory 1") (version (codes "1"))
+version_one = headed (version (codes "1")) (codes "1") refl (word_last (codes "1") tail tt)
+
+pub version_two : ContentText (codes "memory 2") (version (codes "2"))
+version_two = headed (version (codes "2")) (codes "2") refl (word_last (codes "2") tail tt)
 
 pub name_text : (n : List ℕ) → is_identifier n ≡ true → ContentText (codes "name " ++ n) (name n)
 name_text n h = headed (name n) n h (word_last n tail tt)
@@ -43,6 +46,17 @@ words_text n h = headed (words (decimal n)) (decimal n) (decimal_number n h) (wo
 
 pub bits_text : (n : ℕ) → n < 1000000000 → ContentText (codes "bits " ++ decimal n) (bits (decimal n))
 bits_text n h = headed (bits (decimal n)) (decimal n) (decimal_number n h) (word_last (decimal n) tail tt)
+
+pub latency_text : (n : ℕ) → n < 1000000000 → ContentText (codes "latency " ++ decimal n) (latency (decimal n))
+latency_text n h = headed (latency (decimal n)) (decimal n) (decimal_number n h) (word_last (decimal n) tail tt)
+
+pub pause_text : (n : ℕ) → n < 1000000000 → ContentText (codes "pause " ++ decimal n) (pause (decimal n))
+pause_text n h = headed (pause (decimal n)) (decimal n) (decimal_number n h) (word_last (decimal n) tail tt)
+
+pub polarity_text : (size w : ℕ) → 1 ≤ size → size ≤ 64 → ContentText (codes "polarity " ++ hex_digits ((size + 3) / 4) w) (polarity (hex_digits ((size + 3) / 4) w))
+polarity_text size w p h =
+    let digits = hex_digits ((size + 3) / 4) w in
+    headed (polarity digits) digits (hex_word ((size + 3) / 4) w (omega arith) (omega arith)) (word_last digits tail tt)
 
 -- ---- rows
 

@@ -12,11 +12,11 @@ use Rattle.scrambler.specs.Linear.{number}
 use Rattle.scrambler.specs.Scrambling.{Scrambling, IsFull, row}
 use Rattle.scrambler.proofs.LinearLemmas.{number_same, number-bits}
 use Rattle.memory_desc.specs.Descriptions.{Description}
-use Rattle.memory_desc.specs.LineText.{Content, version, name, words, bits, backgrounds}
+use Rattle.memory_desc.specs.LineText.{Content, version, name, words, bits, latency, polarity, pause, backgrounds}
 use Rattle.memory_desc.specs.Statements.{Statement}
 use Rattle.memory_desc.specs.Subjects.{said, about}
 use Rattle.memory_desc.specs.Values.{index_bits, constant_of, terms_in, terms_said, rows_said, matrix_said, word_values}
-use Rattle.memory_desc.specs.Table.{is_row, is_past, is_term_past, missing_row, first_refusal, too_many, hollow}
+use Rattle.memory_desc.specs.Table.{is_row, is_scrambled, is_past, is_term_past, missing_row, first_refusal, too_many, hollow}
 use Rattle.memory_desc.specs.declared.content.Subject.TheVariants.{Row}
 use Rattle.memory_desc.specs.declared.fault.Field.TheVariants.{Row as RowField}
 use Rattle.memory_desc.specs.declared.fault.MemoryFault.TheVariants.{Missing, TooManyBackgrounds, NoSolidBackground}
@@ -27,63 +27,79 @@ use Rattle.memory_desc.proofs.BackFound.{row_content, body, said_row, is_there}
 use Rattle.memory_desc.proofs.BackTerms.{terms_of, terms_bits, terms_constant, terms_within, neither_past}
 use Rattle.memory_desc.proofs.BackTexts.{digits_of_word}
 
--- what the printed form of a memory says, with k rows
-abbrev pub contents : Description → ℕ → List Content
-contents d k =
-    version (49 ∷ []) ∷ name d.name ∷ words (decimal d.words) ∷ bits (decimal d.bits) ∷ body d.scramble 0 k (map (digits_of_word d.bits) d.backgrounds)
+-- the number of the version
+abbrev pub version_digits : Bool → List ℕ
+version_digits true = 49 ∷ []
+version_digits false = 50 ∷ []
 
-abbrev pub statements : Description → ℕ → List Statement
-statements d k = numbered 1 (contents d k)
+-- what version 2 says besides
+abbrev pub later_said : Description → Bool → List Content
+later_said d true = []
+later_said d false = latency (decimal d.latency) ∷ polarity (digits_of_word d.bits d.polarity) ∷ pause (decimal d.pause) ∷ []
+
+-- what the printed form of a memory says in a version, with k rows
+abbrev pub contents : Description → Bool → ℕ → List Content
+contents d plain k =
+    version (version_digits plain) ∷ name d.name ∷ words (decimal d.words) ∷ bits (decimal d.bits)
+    ∷ (later_said d plain ++ body d.scramble 0 k (map (digits_of_word d.bits) d.backgrounds))
+
+abbrev pub statements : Description → Bool → ℕ → List Statement
+statements d plain k = numbered 1 (contents d plain k)
 
 -- ---- rows
 
-pub some_rows : (s : Scrambling) (n i k : ℕ) (ws : List (List ℕ)) → 1 ≤ k → list_any (λ t. is_row t.content) (numbered n (body s i k ws)) ≡ true
-some_rows s n i zero ws h = absurd (omega arith)
-some_rows s n i (suc k) ws h = refl
+some_rows_from : (s : Scrambling) (n i k : ℕ) (ws : List (List ℕ)) → 1 ≤ k → list_any (λ t. is_row t.content) (numbered n (body s i k ws)) ≡ true
+some_rows_from s n i zero ws h = absurd (omega arith)
+some_rows_from s n i (suc k) ws h = refl
 
-said_here : (d : Description) (k j : ℕ) → j < k → k ≤ 16 → said (Row j) (statements d k) ≡ Some (row_content d.scramble j)
-said_here d k j h small = said_row d.scramble 5 0 j k (map (digits_of_word d.bits) d.backgrounds) (omega arith) (omega arith) (omega arith)
+pub some_rows : (d : Description) (plain : Bool) (k : ℕ) → 1 ≤ k → is_scrambled (statements d plain k) ≡ true
+some_rows d true k h = some_rows_from d.scramble 5 0 k (map (digits_of_word d.bits) d.backgrounds) h
+some_rows d false k h = some_rows_from d.scramble 8 0 k (map (digits_of_word d.bits) d.backgrounds) h
 
-terms_here : (d : Description) (k j : ℕ) → j < k → k ≤ 16
-    → terms_said (statements d k) j ≡ terms_of (row d.scramble j) (bit_at d.scramble.constant j) d.scramble.width
-terms_here d k j h small = ap terms_in (said_here d k j h small)
+said_here : (d : Description) (plain : Bool) (k j : ℕ) → j < k → k ≤ 16 → said (Row j) (statements d plain k) ≡ Some (row_content d.scramble j)
+said_here d true k j h small = said_row d.scramble 5 0 j k (map (digits_of_word d.bits) d.backgrounds) (omega arith) (omega arith) (omega arith)
+said_here d false k j h small = said_row d.scramble 8 0 j k (map (digits_of_word d.bits) d.backgrounds) (omega arith) (omega arith) (omega arith)
 
-pub no_row_missing : (d : Description) (k n : ℕ) → n ≤ k → k ≤ 16 → missing_row (statements d k) n ≡ None
-no_row_missing d k zero h small = refl
-no_row_missing d k (suc n) h small =
-    ap₂ first_refusal (no_row_missing d k n (omega arith) small)
-    (is_there (Missing (RowField n)) (about (Row n) (statements d k)) (row_content d.scramble n) (said_here d k n (omega arith) small))
+terms_here : (d : Description) (plain : Bool) (k j : ℕ) → j < k → k ≤ 16
+    → terms_said (statements d plain k) j ≡ terms_of (row d.scramble j) (bit_at d.scramble.constant j) d.scramble.width
+terms_here d plain k j h small = ap terms_in (said_here d plain k j h small)
 
-rows_are : (d : Description) (k n : ℕ) → IsFull d.scramble → k ≡ d.scramble.width → k ≤ 16 → n ≤ k → rows_said (statements d k) n ≡ take n d.scramble.rows
-rows_are d k zero full e small h = refl
-rows_are d k (suc n) full e small h =
+pub no_row_missing : (d : Description) (plain : Bool) (k n : ℕ) → n ≤ k → k ≤ 16 → missing_row (statements d plain k) n ≡ None
+no_row_missing d plain k zero h small = refl
+no_row_missing d plain k (suc n) h small =
+    ap₂ first_refusal (no_row_missing d plain k n (omega arith) small)
+    (is_there (Missing (RowField n)) (about (Row n) (statements d plain k)) (row_content d.scramble n) (said_here d plain k n (omega arith) small))
+
+rows_are : (d : Description) (plain : Bool) (k n : ℕ) → IsFull d.scramble → k ≡ d.scramble.width → k ≤ 16 → n ≤ k → rows_said (statements d plain k) n ≡ take n d.scramble.rows
+rows_are d plain k zero full e small h = refl
+rows_are d plain k (suc n) full e small h =
     let s = d.scramble in
     let count = full.count in
     let one : n + 1 ≡ suc n = omega arith in
-    let bits : index_bits (terms_said (statements d k) n) ≡ row s n =
-    ap index_bits (terms_here d k n (omega arith) small)
+    let bits : index_bits (terms_said (statements d plain k) n) ≡ row s n =
+    ap index_bits (terms_here d plain k n (omega arith) small)
     ∙ terms_bits (row s n) (bit_at s.constant n) s.width (omega arith) (full.rows_fit n (omega arith)) in
-    ap₂ (λ (xs : List ℕ) (x : ℕ). xs ++ (x ∷ [])) (rows_are d k n full e small (omega arith)) bits
+    ap₂ (λ (xs : List ℕ) (x : ℕ). xs ++ (x ∷ [])) (rows_are d plain k n full e small (omega arith)) bits
     ∙ sym (take_more s.rows n 0 (omega arith)) ∙ ap (λ (m : ℕ). take m s.rows) one
 
-constant_is : (d : Description) → IsFull d.scramble → d.scramble.width ≤ 16
-    → number (λ i. from_bool (constant_of (terms_said (statements d d.scramble.width) i))) d.scramble.width ≡ d.scramble.constant
-constant_is d full small =
+constant_is : (d : Description) (plain : Bool) → IsFull d.scramble → d.scramble.width ≤ 16
+    → number (λ i. from_bool (constant_of (terms_said (statements d plain d.scramble.width) i))) d.scramble.width ≡ d.scramble.constant
+constant_is d plain full small =
     let s = d.scramble in
-    number_same (λ i. from_bool (constant_of (terms_said (statements d s.width) i))) (bit_at s.constant) s.width
-    (λ i p. ap (λ ts. from_bool (constant_of ts)) (terms_here d s.width i p small)
+    number_same (λ i. from_bool (constant_of (terms_said (statements d plain s.width) i))) (bit_at s.constant) s.width
+    (λ i p. ap (λ ts. from_bool (constant_of ts)) (terms_here d plain s.width i p small)
     ∙ terms_constant (row s i) (bit_at s.constant i) s.width (bit_at-lt s.constant i))
     ∙ number-bits s.constant s.width full.constant_fits
 
 of_width : ℕ → List ℕ → ℕ → Scrambling
 of_width w rows c = record { width = w; rows = rows; constant = c }
 
-pub matrix_is : (d : Description) → IsFull d.scramble → d.scramble.width ≤ 16 → matrix_said (statements d d.scramble.width) d.scramble.width ≡ d.scramble
+pub matrix_is : (d : Description) (plain : Bool) → IsFull d.scramble → d.scramble.width ≤ 16 → matrix_said (statements d plain d.scramble.width) d.scramble.width ≡ d.scramble
 unfolding of_width
-matrix_is d full small =
+matrix_is d plain full small =
     let s = d.scramble in
     let count = full.count in
-    ap₂ (of_width s.width) (rows_are d s.width s.width full refl small (omega arith) ∙ take_all s.width s.rows (omega arith)) (constant_is d full small)
+    ap₂ (of_width s.width) (rows_are d plain s.width s.width full refl small (omega arith) ∙ take_all s.width s.rows (omega arith)) (constant_is d plain full small)
 
 pub row_within : (s : Scrambling) (size j : ℕ) → j < s.width → s.width ≤ 16 → is_past s.width size (row_content s j) ≡ false
 row_within s size j h small =
@@ -92,7 +108,7 @@ row_within s size j h small =
 
 -- ---- backgrounds
 
-word_value : (size w : ℕ) → w < 2 ^ size → digits_value 16 (digits_of_word size w) ≡ w
+pub word_value : (size w : ℕ) → w < 2 ^ size → digits_value 16 (digits_of_word size w) ≡ w
 word_value size w h = hex_digits_value ((size + 3) / 4) w (word_digits size w h)
 
 pub words_are : (size : ℕ) (set : List ℕ) → All (λ b. b < 2 ^ size) set → word_values (map (digits_of_word size) set) ≡ set

@@ -13,9 +13,9 @@ use Rattle.bist_text.specs.declared.byte_set.ByteSet.{ByteSet}
 use Rattle.bist_text.specs.Cursors.{TextPlace, left_of}
 use Rattle.bist_text.specs.Grammar.{word, many, is_blank}
 use Rattle.memory_desc.specs.Names.{is_digit, is_letter, is_name_byte}
-use Rattle.memory_desc.specs.LineText.{Content, version, name, words, bits, scramble, log, backgrounds, kind_of, is_hex, is_word, is_formed, space, gap, tail, more_words, equation, argument, key_text, ContentText}
+use Rattle.memory_desc.specs.LineText.{Content, version, name, words, bits, latency, polarity, pause, scramble, log, backgrounds, kind_of, is_hex, is_word, is_formed, space, gap, tail, more_words, equation, argument, key_text, ContentText}
 use Rattle.memory_desc.specs.declared.line_place.Key.{Key}
-use Rattle.memory_desc.specs.declared.line_place.Key.TheVariants.{Memory, Name, Words, Bits, Scramble, Backgrounds}
+use Rattle.memory_desc.specs.declared.line_place.Key.TheVariants.{Memory, Name, Words, Bits, Latency, Polarity, Pause, Scramble, Backgrounds}
 use Rattle.memory_desc.specs.ContentParts.{after}
 use Rattle.memory_desc.proofs.LinePieces.{at_bool, when_true, when_false, when_holds, apart, gap_off}
 use Rattle.memory_desc.proofs.LineRefusals.{not_blank, blank_word, blank_number}
@@ -182,6 +182,9 @@ key_begins Memory K c b e h = when_false (c == 109) (word (codes "emory") K b) (
 key_begins Name K c b e h = when_false (c == 110) (word (codes "ame") K b) (apart is_blank c 110 e refl) h
 key_begins Words K c b e h = when_false (c == 119) (word (codes "ords") K b) (apart is_blank c 119 e refl) h
 key_begins Bits K c b e h = when_false (c == 98) (word (codes "its") K b) (apart is_blank c 98 e refl) h
+key_begins Latency K c b e h = when_false (c == 108) (word (codes "atency") K b) (apart is_blank c 108 e refl) h
+key_begins Polarity K c b e h = when_false (c == 112) (word (codes "olarity") K b) (apart is_blank c 112 e refl) h
+key_begins Pause K c b e h = when_false (c == 112) (word (codes "ause") K b) (apart is_blank c 112 e refl) h
 key_begins Scramble K c b e h = when_false (c == 115) (word (codes "cramble") K b) (apart is_blank c 115 e refl) h
 key_begins Backgrounds K c b e h = when_false (c == 98) (word (codes "ackgrounds") K b) (apart is_blank c 98 e refl) h
 
@@ -190,6 +193,9 @@ key_small Memory = refl
 key_small Name = refl
 key_small Words = refl
 key_small Bits = refl
+key_small Latency = refl
+key_small Polarity = refl
+key_small Pause = refl
 key_small Scramble = refl
 key_small Backgrounds = refl
 
@@ -199,6 +205,9 @@ argument_begins (name []) f x b e h = (let z : ⊥ = cc in z)
 argument_begins (name (n ∷ ns)) f x b e h = blank_word is_letter n ns tail x b refl refl refl (and_parts (is_letter n) (list_all is_name_byte ns) f).0 e h
 argument_begins (words ds) f x b e h = blank_number ds tail x b f e h
 argument_begins (bits ds) f x b e h = blank_number ds tail x b f e h
+argument_begins (latency ds) f x b e h = blank_number ds tail x b f e h
+argument_begins (polarity w) f x b e h = blank_run is_hex 16 w tail x b refl refl refl f e h
+argument_begins (pause ds) f x b e h = blank_number ds tail x b f e h
 argument_begins (scramble i ts) f x b e h = when_false (x == 97) (word i (equation ts tail) b) (apart is_blank x 97 e refl) h
 argument_begins log f x b e h = when_false (x == 108) (word (codes "og") tail b) (apart is_blank x 108 e refl) h
 argument_begins (backgrounds []) f x b e h = h

@@ -1,11 +1,11 @@
 -- The memory of a name, a number of words and a number of bits, step by step.
-use Rattle.std.proofs.Common.{◌≡◌, ℕ, List, Option, Some, None, Result, Ok, Err, refl}
+use Rattle.std.proofs.Common.{◌≡◌, ℕ, List, Option, Some, None, Result, Ok, Err, refl, sym, ap}
 use Rattle.scrambler.specs.Scrambling.{Scrambling}
-use Rattle.memory_desc.specs.Descriptions.{Description}
+use Rattle.memory_desc.specs.Descriptions.{Description, assembled}
 use Rattle.memory_desc.specs.Standing.{checked}
 use Rattle.memory_desc.specs.Statements.{Statement}
-use Rattle.memory_desc.specs.Table.{unscramblable, past, Scrambles, Tests, Builds}
-use Rattle.memory_desc.specs.Values.{name_said, words_said, bits_said}
+use Rattle.memory_desc.specs.Table.{unscramblable, past, described, Scrambles, Tests, Builds}
+use Rattle.memory_desc.specs.Values.{name_said, words_said, bits_said, latency_said, polarity_said, pause_said}
 use Rattle.memory_desc.specs.declared.fault.MemoryFault.{MemoryFault}
 
 -- ---- what a check answered
@@ -23,5 +23,12 @@ module _ (ss : List Statement) (width : ℕ) (r : Result Description MemoryFault
 
   pub builds_memory : (scrambling : Scrambling) (set : List ℕ) → unscramblable ss ≡ None → past ss width (bits_said ss) ≡ None
       → Scrambles ss width (Ok scrambling) → Tests ss (Ok set)
-      → r ≡ Ok (record { name = name_said ss; words = words_said ss; bits = bits_said ss; scramble = scrambling; backgrounds = set }) → Builds ss width r
+      → r ≡ Ok (described ss scrambling set) → Builds ss width r
   builds_memory scrambling set e f s t h = rw (e, f) (Ok scrambling, s, (Ok set, t, h))
+
+-- ---- the memory of the parts that are said
+
+pub made_of : (ss : List Statement) (made : Description) (n : List ℕ) (w b l p z : ℕ) (s : Scrambling) (set : List ℕ) → made ≡ assembled n w b l p z s set
+    → n ≡ name_said ss → w ≡ words_said ss → b ≡ bits_said ss → l ≡ latency_said ss → p ≡ polarity_said ss → z ≡ pause_said ss
+    → ◌≡◌ {A = Result Description MemoryFault} (Ok made) (Ok (described ss s set))
+made_of ss made n w b l p z s set e f g h i j k = rw (sym f, sym g, sym h, sym i, sym j, sym k) (ap Ok e)

@@ -7,7 +7,7 @@ use Rattle.std.proofs.lemmas.Bool.{or_parts, or_cases, or_left, or_right, leb-fa
 use Rattle.std.proofs.lemmas.List.{length-map, take_all}
 use Rattle.backgrounds.specs.Backgrounds.{IsLogSet}
 use Rattle.memory_desc.specs.Descriptions.{IsBackgrounds}
-use Rattle.memory_desc.specs.LineText.{Content, version, name, words, bits, scramble, log, backgrounds, kind_of, ContentText}
+use Rattle.memory_desc.specs.LineText.{Content, version, name, words, bits, latency, polarity, pause, scramble, log, backgrounds, kind_of, ContentText}
 use Rattle.memory_desc.specs.Standing.{StandsAt, is_log}
 use Rattle.memory_desc.specs.Statements.{Statement}
 use Rattle.memory_desc.specs.Subjects.{about, said}
@@ -108,6 +108,9 @@ chooses_log (version ds) size set e h s = (let z : ⊥ = cc in absurd z)
 chooses_log (name b) size set e h s = (let z : ⊥ = cc in absurd z)
 chooses_log (words ds) size set e h s = (let z : ⊥ = cc in absurd z)
 chooses_log (bits ds) size set e h s = (let z : ⊥ = cc in absurd z)
+chooses_log (latency ds) size set e h s = (let z : ⊥ = cc in absurd z)
+chooses_log (polarity ds) size set e h s = (let z : ⊥ = cc in absurd z)
+chooses_log (pause ds) size set e h s = (let z : ⊥ = cc in absurd z)
 chooses_log (scramble i ts) size set e h s = (let z : ⊥ = cc in absurd z)
 chooses_log log size set e h s = (set, s, log_keeps size set h s)
 chooses_log (backgrounds ws) size set e h s = (let z : ⊥ = cc in absurd z)
@@ -131,6 +134,9 @@ chooses_listed items text (version ds) size r k e t f = (let z : ⊥ = cc in abs
 chooses_listed items text (name b) size r k e t f = (let z : ⊥ = cc in absurd z)
 chooses_listed items text (words ds) size r k e t f = (let z : ⊥ = cc in absurd z)
 chooses_listed items text (bits ds) size r k e t f = (let z : ⊥ = cc in absurd z)
+chooses_listed items text (latency ds) size r k e t f = (let z : ⊥ = cc in absurd z)
+chooses_listed items text (polarity ds) size r k e t f = (let z : ⊥ = cc in absurd z)
+chooses_listed items text (pause ds) size r k e t f = (let z : ⊥ = cc in absurd z)
 chooses_listed items text (scramble i ts) size r k e t f = (let z : ⊥ = cc in absurd z)
 chooses_listed items text log size r k e t f = (let z : ⊥ = cc in absurd z)
 chooses_listed items text (backgrounds ws) size r k e t f = listed_by items ws size r (f ws t)
@@ -161,6 +167,9 @@ chosen_serves (Some (version ds)) width size set h f r = log_serves size r.0 set
 chosen_serves (Some (name b)) width size set h f r = log_serves size r.0 set h r.1 (kept r.0 set r.2)
 chosen_serves (Some (words ds)) width size set h f r = log_serves size r.0 set h r.1 (kept r.0 set r.2)
 chosen_serves (Some (bits ds)) width size set h f r = log_serves size r.0 set h r.1 (kept r.0 set r.2)
+chosen_serves (Some (latency ds)) width size set h f r = log_serves size r.0 set h r.1 (kept r.0 set r.2)
+chosen_serves (Some (polarity ds)) width size set h f r = log_serves size r.0 set h r.1 (kept r.0 set r.2)
+chosen_serves (Some (pause ds)) width size set h f r = log_serves size r.0 set h r.1 (kept r.0 set r.2)
 chosen_serves (Some (scramble i ts)) width size set h f r = log_serves size r.0 set h r.1 (kept r.0 set r.2)
 chosen_serves (Some log) width size set h f r = log_serves size r.0 set h r.1 (kept r.0 set r.2)
 chosen_serves (Some (backgrounds ws)) width size set h f r =

@@ -11,7 +11,7 @@ use Rattle.std.specs.Str.Parse.{AllDigits, digits_value}
 use Rattle.bist_text.specs.Grammar.{byte, word, is_blank}
 use Rattle.bist_text.specs.Numbers.{IsNumber}
 use Rattle.memory_desc.specs.Names.{is_digit, is_letter, is_name_byte}
-use Rattle.memory_desc.specs.LineText.{Term, index_bit, constant, Content, version, name, words, bits, scramble, log, backgrounds, kind_of, is_hex, is_number, is_word, is_term, is_formed, space, comment, tail, term_text, more_terms, equation, more_words, argument}
+use Rattle.memory_desc.specs.LineText.{Term, index_bit, constant, Content, version, name, words, bits, latency, polarity, pause, scramble, log, backgrounds, kind_of, is_hex, is_number, is_word, is_term, is_formed, space, comment, tail, term_text, more_terms, equation, more_words, argument}
 use Rattle.memory_desc.specs.LineRest.{words_left}
 use Rattle.memory_desc.specs.Standing.{digits_in, is_log}
 use Rattle.memory_desc.specs.ContentParts.{after, IsTerm, terms_left, NextTerm, NextWord}
@@ -19,7 +19,7 @@ use Rattle.memory_desc.specs.declared.content.Summand.{Summand}
 use Rattle.memory_desc.specs.declared.content.Summand.TheVariants.{IndexBit}
 use Rattle.memory_desc.specs.declared.line_place.Key.TheVariants.{Backgrounds}
 use Rattle.memory_desc.proofs.LinePieces.{when_false, when_holds, apart}
-use Rattle.memory_desc.proofs.LineRefusals.{digits_plain, names_plain, no_tail, no_more_terms, no_equation, no_more_words}
+use Rattle.memory_desc.proofs.LineRefusals.{digits_plain, hex_plain, names_plain, no_tail, no_more_terms, no_equation, no_more_words}
 use Rattle.memory_desc.proofs.LineStarts.{run_parts, blank_run}
 use Rattle.memory_desc.proofs.Behind.{Never, many_after, word_run, gap_many}
 
@@ -72,6 +72,9 @@ pub number_said : (c : Content) (ds : List ℕ) (b : List ℕ) (r : ℕ) → is_
 number_said (version es) ds b r f e h v = let same : es ≡ ds = cc in (number_read es tail b r f tail_number h v).0 ∙ ap (digits_value 10) same
 number_said (words es) ds b r f e h v = let same : es ≡ ds = cc in (number_read es tail b r f tail_number h v).0 ∙ ap (digits_value 10) same
 number_said (bits es) ds b r f e h v = let same : es ≡ ds = cc in (number_read es tail b r f tail_number h v).0 ∙ ap (digits_value 10) same
+number_said (latency es) ds b r f e h v = let same : es ≡ ds = cc in (number_read es tail b r f tail_number h v).0 ∙ ap (digits_value 10) same
+number_said (polarity w) ds b r f e h v = cc
+number_said (pause es) ds b r f e h v = let same : es ≡ ds = cc in (number_read es tail b r f tail_number h v).0 ∙ ap (digits_value 10) same
 number_said (name n) ds b r f e h v = cc
 number_said (scramble i ts) ds b r f e h v = cc
 number_said log ds b r f e h v = cc
@@ -99,6 +102,9 @@ pub log_said : (c : Content) (b : List ℕ) (o : Option ℕ) → o ≡ slice_get
 log_said (version es) b o p f e h = cc
 log_said (words es) b o p f e h = cc
 log_said (bits es) b o p f e h = cc
+log_said (latency es) b o p f e h = cc
+log_said (polarity es) b o p f e h = cc
+log_said (pause es) b o p f e h = cc
 log_said (name n) b o p f e h = cc
 log_said (scramble i ts) b o p f e h = cc
 log_said log b o p f e h = is_first o 108 (p ∙ (first_byte 108 (codes "og") tail b h).0)
@@ -193,6 +199,13 @@ hex_byte c h = grind (arith, nat_tests)
 hex_digits : (ds : List ℕ) → list_all is_hex ds ≡ true → AllDigits 16 ds
 hex_digits [] h = tt
 hex_digits (c ∷ cs) h = let p = and_parts (is_hex c) (list_all is_hex cs) h in (hex_byte c p.0, hex_digits cs p.1)
+
+pub polarity_read : (w b run : List ℕ) (o : Option ℕ) (r : ℕ) → is_formed (polarity w) ≡ true → argument (polarity w) tail b → run ≡ take_while is_hex b
+    → SomeIff o (IsNumber 16 16 run) (digits_value 16 run) → r ≡ unwrap_or o 0 → r ≡ digits_value 16 w
+polarity_read w b run o r f h e s u =
+    let parts = run_parts is_hex 16 w f in
+    let is : run ≡ w = e ∙ (word_run is_hex w tail b parts.0 (λ c d x y. no_tail is_hex c d hex_plain x y) h).0 in
+    some_value o (IsNumber 16 16 w) (digits_value 16 w) r (subst (λ (x : List ℕ). SomeIff o (IsNumber 16 16 x) (digits_value 16 x)) is s) u ((parts.1, hex_digits w parts.0), parts.2)
 
 words_behind : (ws : List (List ℕ)) (b : List ℕ) → more_words ws tail b → words_left ws b
 words_behind [] b h = h

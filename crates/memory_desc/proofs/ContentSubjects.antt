@@ -1,25 +1,26 @@
 -- What a line speaks of, by its kind.
 use Rattle.std.proofs.Common.{◌≡◌, ℕ, List, Option, Some, None, Result, Ok, Err, refl, sym, ap, ◌∙◌, ◌↔◌, inl, inr}
 use Rattle.std.specs.Str.Parse.{digits_value}
-use Rattle.memory_desc.specs.LineText.{Term, Content, version, name, words, bits, scramble, log, backgrounds, kind_of, LineText}
+use Rattle.memory_desc.specs.LineText.{Term, Content, version, name, words, bits, latency, polarity, pause, scramble, log, backgrounds, kind_of, LineText}
 use Rattle.memory_desc.specs.LineRest.{KindText}
 use Rattle.memory_desc.specs.Standing.{subject_in}
 use Rattle.memory_desc.specs.declared.line_place.Key.{Key}
-use Rattle.memory_desc.specs.declared.line_place.Key.TheVariants.{Memory, Name, Words, Bits, Scramble, Backgrounds}
+use Rattle.memory_desc.specs.declared.line_place.Key.TheVariants.{Memory, Name, Words, Bits, Latency, Polarity, Pause, Scramble, Backgrounds}
+use Rattle.memory_desc.specs.declared.line_place.Version.TheVariants.{Two}
 use Rattle.memory_desc.specs.declared.line_reader.LineFault.{LineFault}
 use Rattle.memory_desc.specs.declared.content.Subject.{Subject}
-use Rattle.memory_desc.specs.declared.content.Subject.TheVariants.{Version, Name as OfName, Words as OfWords, Bits as OfBits, Row, Backgrounds as OfBackgrounds}
+use Rattle.memory_desc.specs.declared.content.Subject.TheVariants.{Version, Name as OfName, Words as OfWords, Bits as OfBits, Latency as OfLatency, Polarity as OfPolarity, Pause as OfPause, Row, Backgrounds as OfBackgrounds}
 
 abbrev pub kind_in : Option Content → Option Key
 kind_in None = None
 kind_in (Some c) = Some (kind_of c)
 
-kind_text : (text : List ℕ) (v : Option Content) → LineText text v → KindText text (kind_in v)
+kind_text : (text : List ℕ) (v : Option Content) → LineText text v → KindText Two text (kind_in v)
 kind_text text None h = inl (refl, h)
-kind_text text (Some c) h = inr (c, tt, refl, h)
+kind_text text (Some c) h = inr (c, refl, refl, h)
 
 -- the reader of the line answers the kind
-pub kind_said : (text : List ℕ) (v : Option Content) (r : Result (Option Key) LineFault) → ((k : Option Key) → (r ≡ Ok k) ↔ KindText text k) → LineText text v → r ≡ Ok (kind_in v)
+pub kind_said : (text : List ℕ) (v : Option Content) (r : Result (Option Key) LineFault) → ((k : Option Key) → (r ≡ Ok k) ↔ KindText Two text k) → LineText text v → r ≡ Ok (kind_in v)
 kind_said text v r f h = (f (kind_in v)).1 (kind_text text v h)
 
 pub kind_is : (v : Option Content) (r : Result (Option Key) LineFault) (k : Option Key) → r ≡ Ok (kind_in v) → r ≡ Ok k → kind_in v ≡ k
@@ -34,6 +35,9 @@ subject_of_kind Memory bit = Version
 subject_of_kind Name bit = OfName
 subject_of_kind Words bit = OfWords
 subject_of_kind Bits bit = OfBits
+subject_of_kind Latency bit = OfLatency
+subject_of_kind Polarity bit = OfPolarity
+subject_of_kind Pause bit = OfPause
 subject_of_kind Scramble bit = Row bit
 subject_of_kind Backgrounds bit = OfBackgrounds
 
@@ -47,6 +51,9 @@ subject_is (Some (version ds)) k bit e f = of_kind k Memory bit e
 subject_is (Some (name b)) k bit e f = of_kind k Name bit e
 subject_is (Some (words ds)) k bit e f = of_kind k Words bit e
 subject_is (Some (bits ds)) k bit e f = of_kind k Bits bit e
+subject_is (Some (latency ds)) k bit e f = of_kind k Latency bit e
+subject_is (Some (polarity ds)) k bit e f = of_kind k Polarity bit e
+subject_is (Some (pause ds)) k bit e f = of_kind k Pause bit e
 subject_is (Some (scramble i ts)) k bit e f =
     let same : k ≡ Scramble = cc in
     of_kind k Scramble bit e ∙ ap (λ (x : ℕ). Some (Row x)) (f same i ts refl)

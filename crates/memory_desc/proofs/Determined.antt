@@ -14,11 +14,11 @@ use Rattle.scrambler.specs.Scrambling.{Scrambling, IsLeastDependence, DependsOn,
 use Rattle.scrambler.proofs.LinearLemmas.{two_digits, number-below, bit_at-number}
 use Rattle.scrambler.proofs.ScramblingLemmas.{singular}
 use Rattle.memory_desc.specs.Descriptions.{Description}
-use Rattle.memory_desc.specs.LineText.{Content, version, name, words, bits, scramble, log, backgrounds}
+use Rattle.memory_desc.specs.LineText.{Content, version, name, words, bits, latency, polarity, pause, scramble, log, backgrounds}
 use Rattle.memory_desc.specs.Statements.{Statement}
 use Rattle.memory_desc.specs.Subjects.{said}
-use Rattle.memory_desc.specs.Values.{name_said, words_said, bits_said, matrix_said, AreBackgrounds}
-use Rattle.memory_desc.specs.Table.{Unless, Inverts, Scrambles, Tests, Builds, Describes, repeated, missing, out_of_range, unscramblable, past, is_scrambled, missing_row, too_many, hollow}
+use Rattle.memory_desc.specs.Values.{words_said, bits_said, matrix_said, AreBackgrounds}
+use Rattle.memory_desc.specs.Table.{Unless, described, Inverts, Scrambles, Tests, Builds, Describes, repeated, missing, out_of_range, unscramblable, past, is_scrambled, missing_row, too_many, hollow}
 use Rattle.memory_desc.specs.declared.content.Subject.TheVariants.{Name, Words, Bits, Backgrounds}
 use Rattle.memory_desc.specs.declared.fault.Field.TheVariants.{Name as NameField, Words as WordsField, Bits as BitsField}
 use Rattle.memory_desc.specs.declared.fault.MemoryFault.{MemoryFault}
@@ -84,6 +84,9 @@ backgrounds_one (Some (version ds)) size xs ys p q = log_set_one size xs ys p q
 backgrounds_one (Some (name b)) size xs ys p q = log_set_one size xs ys p q
 backgrounds_one (Some (words ds)) size xs ys p q = log_set_one size xs ys p q
 backgrounds_one (Some (bits ds)) size xs ys p q = log_set_one size xs ys p q
+backgrounds_one (Some (latency ds)) size xs ys p q = log_set_one size xs ys p q
+backgrounds_one (Some (polarity ds)) size xs ys p q = log_set_one size xs ys p q
+backgrounds_one (Some (pause ds)) size xs ys p q = log_set_one size xs ys p q
 backgrounds_one (Some (scramble i ts)) size xs ys p q = log_set_one size xs ys p q
 backgrounds_one (Some log) size xs ys p q = log_set_one size xs ys p q
 
@@ -239,15 +242,12 @@ scrambles_one ss width q r p h =
 abbrev Finishes : List Statement → Scrambling → Result Description MemoryFault → Type 0
 Finishes ss s r =
     (tests : Result (List ℕ) MemoryFault) × Tests ss tests × MatchResult tests (λ set.
-    r ≡ Ok (record { name = name_said ss; words = words_said ss; bits = bits_said ss; scramble = s; backgrounds = set }))
+    r ≡ Ok (described ss s set))
     (λ fault. r ≡ Err fault)
 
 finishes_one : (ss : List Statement) (s : Scrambling) (q r : Result Description MemoryFault) → Finishes ss s q → Finishes ss s r → q ≡ r
 finishes_one ss s q r (x, tx, f) (y, ty, g) =
-    after_one x y q r (λ set. q ≡ Ok (record_of set)) (λ set. r ≡ Ok (record_of set)) (tests_one ss x y tx ty) (λ set a b. a ∙ sym b) f g
-  where
-    record_of : List ℕ → Description
-    record_of set = record { name = name_said ss; words = words_said ss; bits = bits_said ss; scramble = s; backgrounds = set }
+    after_one x y q r (λ set. q ≡ Ok (described ss s set)) (λ set. r ≡ Ok (described ss s set)) (tests_one ss x y tx ty) (λ set a b. a ∙ sym b) f g
 
 -- what is left of it once no row is refused
 abbrev Continues : List Statement → ℕ → Result Description MemoryFault → Type 0

@@ -1,5 +1,5 @@
 -- What may follow at a line's beginning and behind its first word, by the next byte.
-use Rattle.std.proofs.Common.{◌≡◌, ℕ, ◌==◌, true, false, if◌then◌else◌, List, [], ◌∷◌, Option, Some, None, refl, ◌↔◌, ap, ◌∙◌, arith}
+use Rattle.std.proofs.Common.{◌≡◌, ℕ, ◌≤◌, ◌==◌, true, false, if◌then◌else◌, List, [], ◌∷◌, Option, Some, None, refl, ◌↔◌, ap, ◌∙◌, arith}
 use Rattle.std.proofs.lemmas.Bool.{eqb-true, eq-eqb, and_parts, and_from}
 use Rattle.std.specs.List.{list_all}
 use Rattle.bist_text.specs.Grammar.{word, is_blank}
@@ -7,15 +7,15 @@ use Rattle.bist_text.specs.Machine.{Holds}
 use Rattle.bist_text.proofs.Pieces.{also, never}
 use Rattle.memory_desc.specs.Names.{is_digit, is_letter, is_name_byte}
 use Rattle.memory_desc.specs.declared.line_place.Key.{Key}
-use Rattle.memory_desc.specs.declared.line_place.Key.TheVariants.{Memory, Name, Words, Bits, Scramble, Backgrounds}
+use Rattle.memory_desc.specs.declared.line_place.Key.TheVariants.{Memory, Name, Words, Bits, Latency, Polarity, Pause, Scramble, Backgrounds}
 use Rattle.memory_desc.specs.declared.line_place.Place.TheVariants.{Wanted, Number, Name as InName, RowNumber, LetterL, Hex}
-use Rattle.memory_desc.specs.LineText.{Term, Content, version, name, words, bits, scramble, log, backgrounds, kind_of, is_hex, is_number, is_word, is_term, is_formed, space, tail, equation, more_words, argument}
-use Rattle.memory_desc.specs.LinePlaces.{argument_begun}
+use Rattle.memory_desc.specs.LineText.{Term, Content, version, name, words, bits, latency, polarity, pause, scramble, log, backgrounds, kind_of, is_hex, is_number, is_word, is_term, is_formed, space, tail, equation, more_words, argument}
+use Rattle.memory_desc.specs.LinePlaces.{argument_begun, is_digit_of, most_digits}
 use Rattle.memory_desc.specs.LineRest.{Run, Names, Of, Terms, HexWords, rest}
 use Rattle.memory_desc.proofs.LinePieces.{at_bool, when_true, when_false, when_holds, apart, space_on, space_off}
 use Rattle.memory_desc.proofs.LineRefusals.{blank_word}
 use Rattle.memory_desc.proofs.LineLaws.{Law, second, of_iff}
-use Rattle.memory_desc.proofs.LineStarts.{run_parts, run_of, run_begins, no_run, blank_run}
+use Rattle.memory_desc.proofs.LineStarts.{is_run, run_parts, run_of, run_begins, no_run, blank_run}
 
 -- ---- behind the first word
 
@@ -25,6 +25,9 @@ blank_argument (name []) c b n e w = (let z : ⊥ = cc in z)
 blank_argument (name (d ∷ ds)) c b n e w = blank_word is_letter d ds tail c b refl refl refl (and_parts (is_letter d) (list_all is_name_byte ds) n).0 e w
 blank_argument (words ds) c b n e w = blank_run is_digit 9 ds tail c b refl refl refl n e w
 blank_argument (bits ds) c b n e w = blank_run is_digit 9 ds tail c b refl refl refl n e w
+blank_argument (latency ds) c b n e w = blank_run is_digit 9 ds tail c b refl refl refl n e w
+blank_argument (polarity w) c b n e h = blank_run is_hex 16 w tail c b refl refl refl n e h
+blank_argument (pause ds) c b n e w = blank_run is_digit 9 ds tail c b refl refl refl n e w
 blank_argument (scramble i ts) c b n e w = when_false (c == 97) (word i (equation ts tail) b) (apart is_blank c 97 e refl) w
 blank_argument log c b n e w = when_false (c == 108) (word (111 ∷ 103 ∷ []) tail b) (apart is_blank c 108 e refl) w
 blank_argument (backgrounds []) c b n e w = w
@@ -32,49 +35,62 @@ blank_argument (backgrounds (v ∷ vs)) c b n e w =
     blank_run is_hex 16 v (more_words vs tail) c b refl refl refl (and_parts (is_word v) (list_all is_word vs) n).0 e w
 
 -- a number, in a content line of a kind that has one
-number_begins : (key : Key) (make : List ℕ → Content) (c : ℕ) (b : List ℕ)
-    → (Of key (λ x. argument x tail) (c ∷ b) ↔ ((ds : List ℕ) × (is_number ds ≡ true) × word ds tail (c ∷ b)))
-    → (v : Option Key) → ((v ≡ Some key) × Of key (λ x. argument x tail) (c ∷ b)) ↔ Holds (if is_digit c then Some (Number key 1) else None) (λ t. rest t b v)
-number_begins key make c b f v =
-    at_bool (λ t. ((v ≡ Some key) × Of key (λ x. argument x tail) (c ∷ b)) ↔ Holds (if t then Some (Number key 1) else None) (λ t. rest t b v)) (is_digit c)
-    (λ e. second (also f (run_begins is_digit 9 tail c b e (omega arith))))
-    (λ e. never (λ h. let g = f.0 h.1 in no_run is_digit 9 g.0 tail c b e g.1 g.2) (λ z. z))
+pub some_digits : (key : Key) → 1 ≤ most_digits key
+some_digits Polarity = omega arith
+some_digits key = omega arith
 
-of_memory : (c : ℕ) (b : List ℕ) → Of Memory (λ x. argument x tail) (c ∷ b) ↔ ((ds : List ℕ) × (is_number ds ≡ true) × word ds tail (c ∷ b))
+-- what a kind with a number has behind its first word
+abbrev Digits : Key → List ℕ → Type 0
+Digits key b = (ds : List ℕ) × (is_run (is_digit_of key) (most_digits key) ds ≡ true) × word ds tail b
+
+number_begins : (key : Key) (c : ℕ) (b : List ℕ) → (Of key (λ x. argument x tail) (c ∷ b) ↔ Digits key (c ∷ b))
+    → (v : Option Key) → ((v ≡ Some key) × Of key (λ x. argument x tail) (c ∷ b)) ↔ Holds (if is_digit_of key c then Some (Number key 1) else None) (λ t. rest t b v)
+number_begins key c b f v =
+    at_bool (λ t. ((v ≡ Some key) × Of key (λ x. argument x tail) (c ∷ b)) ↔ Holds (if t then Some (Number key 1) else None) (λ t. rest t b v)) (is_digit_of key c)
+    (λ e. second (also f (run_begins (is_digit_of key) (most_digits key) tail c b e (some_digits key))))
+    (λ e. never (λ h. let g = f.0 h.1 in no_run (is_digit_of key) (most_digits key) g.0 tail c b e g.1 g.2) (λ z. z))
+
+of_memory : (c : ℕ) (b : List ℕ) → Of Memory (λ x. argument x tail) (c ∷ b) ↔ Digits Memory (c ∷ b)
 of_memory c b = (λ h. to h.0 h.1 h.2 h.3, λ h. (version h.0, refl, h.1, h.2))
   where
-    to : (x : Content) → kind_of x ≡ Memory → is_formed x ≡ true → argument x tail (c ∷ b) → (ds : List ℕ) × (is_number ds ≡ true) × word ds tail (c ∷ b)
+    to : (x : Content) → kind_of x ≡ Memory → is_formed x ≡ true → argument x tail (c ∷ b) → Digits Memory (c ∷ b)
     to (version ds) e n w = (ds, n, w)
-    to (name ds) e n w = (let z : ⊥ = cc in absurd z)
-    to (words ds) e n w = (let z : ⊥ = cc in absurd z)
-    to (bits ds) e n w = (let z : ⊥ = cc in absurd z)
-    to (scramble i ts) e n w = (let z : ⊥ = cc in absurd z)
-    to log e n w = (let z : ⊥ = cc in absurd z)
-    to (backgrounds ws) e n w = (let z : ⊥ = cc in absurd z)
+    to x e n w = (let z : ⊥ = cc in absurd z)
 
-of_words : (c : ℕ) (b : List ℕ) → Of Words (λ x. argument x tail) (c ∷ b) ↔ ((ds : List ℕ) × (is_number ds ≡ true) × word ds tail (c ∷ b))
+of_words : (c : ℕ) (b : List ℕ) → Of Words (λ x. argument x tail) (c ∷ b) ↔ Digits Words (c ∷ b)
 of_words c b = (λ h. to h.0 h.1 h.2 h.3, λ h. (words h.0, refl, h.1, h.2))
   where
-    to : (x : Content) → kind_of x ≡ Words → is_formed x ≡ true → argument x tail (c ∷ b) → (ds : List ℕ) × (is_number ds ≡ true) × word ds tail (c ∷ b)
+    to : (x : Content) → kind_of x ≡ Words → is_formed x ≡ true → argument x tail (c ∷ b) → Digits Words (c ∷ b)
     to (words ds) e n w = (ds, n, w)
-    to (name ds) e n w = (let z : ⊥ = cc in absurd z)
-    to (version ds) e n w = (let z : ⊥ = cc in absurd z)
-    to (bits ds) e n w = (let z : ⊥ = cc in absurd z)
-    to (scramble i ts) e n w = (let z : ⊥ = cc in absurd z)
-    to log e n w = (let z : ⊥ = cc in absurd z)
-    to (backgrounds ws) e n w = (let z : ⊥ = cc in absurd z)
+    to x e n w = (let z : ⊥ = cc in absurd z)
 
-of_bits : (c : ℕ) (b : List ℕ) → Of Bits (λ x. argument x tail) (c ∷ b) ↔ ((ds : List ℕ) × (is_number ds ≡ true) × word ds tail (c ∷ b))
+of_bits : (c : ℕ) (b : List ℕ) → Of Bits (λ x. argument x tail) (c ∷ b) ↔ Digits Bits (c ∷ b)
 of_bits c b = (λ h. to h.0 h.1 h.2 h.3, λ h. (bits h.0, refl, h.1, h.2))
   where
-    to : (x : Content) → kind_of x ≡ Bits → is_formed x ≡ true → argument x tail (c ∷ b) → (ds : List ℕ) × (is_number ds ≡ true) × word ds tail (c ∷ b)
+    to : (x : Content) → kind_of x ≡ Bits → is_formed x ≡ true → argument x tail (c ∷ b) → Digits Bits (c ∷ b)
     to (bits ds) e n w = (ds, n, w)
-    to (name ds) e n w = (let z : ⊥ = cc in absurd z)
-    to (version ds) e n w = (let z : ⊥ = cc in absurd z)
-    to (words ds) e n w = (let z : ⊥ = cc in absurd z)
-    to (scramble i ts) e n w = (let z : ⊥ = cc in absurd z)
-    to log e n w = (let z : ⊥ = cc in absurd z)
-    to (backgrounds ws) e n w = (let z : ⊥ = cc in absurd z)
+    to x e n w = (let z : ⊥ = cc in absurd z)
+
+of_latency : (c : ℕ) (b : List ℕ) → Of Latency (λ x. argument x tail) (c ∷ b) ↔ Digits Latency (c ∷ b)
+of_latency c b = (λ h. to h.0 h.1 h.2 h.3, λ h. (latency h.0, refl, h.1, h.2))
+  where
+    to : (x : Content) → kind_of x ≡ Latency → is_formed x ≡ true → argument x tail (c ∷ b) → Digits Latency (c ∷ b)
+    to (latency ds) e n w = (ds, n, w)
+    to x e n w = (let z : ⊥ = cc in absurd z)
+
+of_polarity : (c : ℕ) (b : List ℕ) → Of Polarity (λ x. argument x tail) (c ∷ b) ↔ Digits Polarity (c ∷ b)
+of_polarity c b = (λ h. to h.0 h.1 h.2 h.3, λ h. (polarity h.0, refl, h.1, h.2))
+  where
+    to : (x : Content) → kind_of x ≡ Polarity → is_formed x ≡ true → argument x tail (c ∷ b) → Digits Polarity (c ∷ b)
+    to (polarity ds) e n w = (ds, n, w)
+    to x e n w = (let z : ⊥ = cc in absurd z)
+
+of_pause : (c : ℕ) (b : List ℕ) → Of Pause (λ x. argument x tail) (c ∷ b) ↔ Digits Pause (c ∷ b)
+of_pause c b = (λ h. to h.0 h.1 h.2 h.3, λ h. (pause h.0, refl, h.1, h.2))
+  where
+    to : (x : Content) → kind_of x ≡ Pause → is_formed x ≡ true → argument x tail (c ∷ b) → Digits Pause (c ∷ b)
+    to (pause ds) e n w = (ds, n, w)
+    to x e n w = (let z : ⊥ = cc in absurd z)
 
 name_begins : (c : ℕ) (b : List ℕ) (v : Option Key) → ((v ≡ Some Name) × Of Name (λ x. argument x tail) (c ∷ b)) ↔ Holds (if is_letter c then Some InName else None) (λ t. rest t b v)
 name_begins c b v =
@@ -85,12 +101,7 @@ name_begins c b v =
     to : (x : Content) → kind_of x ≡ Name → is_formed x ≡ true → argument x tail (c ∷ b) → Names tail b
     to (name []) e n w = (let z : ⊥ = cc in absurd z)
     to (name (d ∷ ds)) e n w = (ds, (and_parts (is_letter d) (list_all is_name_byte ds) n).1, (when_holds (c == d) (word ds tail b) w).1)
-    to (version ds) e n w = (let z : ⊥ = cc in absurd z)
-    to (words ds) e n w = (let z : ⊥ = cc in absurd z)
-    to (bits ds) e n w = (let z : ⊥ = cc in absurd z)
-    to (scramble i ts) e n w = (let z : ⊥ = cc in absurd z)
-    to log e n w = (let z : ⊥ = cc in absurd z)
-    to (backgrounds ws) e n w = (let z : ⊥ = cc in absurd z)
+    to x e n w = (let z : ⊥ = cc in absurd z)
 
     none : is_letter c ≡ false → (x : Content) → kind_of x ≡ Name → is_formed x ≡ true → argument x tail (c ∷ b) → ⊥
     none f (name []) e n w = (let z : ⊥ = cc in z)
@@ -98,12 +109,7 @@ name_begins c b v =
         let same_byte : c ≡ d = eqb-true c d (when_holds (c == d) (word ds tail b) w).0 in
         let of_class : is_letter c ≡ true = ap is_letter same_byte ∙ (and_parts (is_letter d) (list_all is_name_byte ds) n).0 in
         (let z : ⊥ = cc in z)
-    none f (version ds) e n w = (let z : ⊥ = cc in z)
-    none f (words ds) e n w = (let z : ⊥ = cc in z)
-    none f (bits ds) e n w = (let z : ⊥ = cc in z)
-    none f (scramble i ts) e n w = (let z : ⊥ = cc in z)
-    none f log e n w = (let z : ⊥ = cc in z)
-    none f (backgrounds ws) e n w = (let z : ⊥ = cc in z)
+    none f x e n w = (let z : ⊥ = cc in z)
 
 row_begins : (c : ℕ) (b : List ℕ) (v : Option Key) → ((v ≡ Some Scramble) × Of Scramble (λ x. argument x tail) (c ∷ b)) ↔ Holds (if c == 97 then Some (RowNumber 0) else None) (λ t. rest t b v)
 row_begins c b v =
@@ -118,12 +124,7 @@ row_begins c b v =
         let l = run.1 in
         let m = run.2 in
         (ts, parts.1, (i, run.0, omega arith, omega arith, (when_true (c == 97) (word i (equation ts tail) b) f).0 w))
-    to f (name ds) e n w = (let z : ⊥ = cc in absurd z)
-    to f (version ds) e n w = (let z : ⊥ = cc in absurd z)
-    to f (words ds) e n w = (let z : ⊥ = cc in absurd z)
-    to f (bits ds) e n w = (let z : ⊥ = cc in absurd z)
-    to f log e n w = (let z : ⊥ = cc in absurd z)
-    to f (backgrounds ws) e n w = (let z : ⊥ = cc in absurd z)
+    to f x e n w = (let z : ⊥ = cc in absurd z)
 
     from : (c == 97) ≡ true → (ts : List Term) → list_all is_term ts ≡ true → Run is_digit 9 0 (equation ts tail) b → Of Scramble (λ x. argument x tail) (c ∷ b)
     from f ts a r =
@@ -137,12 +138,7 @@ row_begins c b v =
 
     none : (c == 97) ≡ false → (x : Content) → kind_of x ≡ Scramble → argument x tail (c ∷ b) → ⊥
     none f (scramble i ts) e w = when_false (c == 97) (word i (equation ts tail) b) f w
-    none f (name ds) e w = (let z : ⊥ = cc in z)
-    none f (version ds) e w = (let z : ⊥ = cc in z)
-    none f (words ds) e w = (let z : ⊥ = cc in z)
-    none f (bits ds) e w = (let z : ⊥ = cc in z)
-    none f log e w = (let z : ⊥ = cc in z)
-    none f (backgrounds ws) e w = (let z : ⊥ = cc in z)
+    none f x e w = (let z : ⊥ = cc in z)
 
 backgrounds_begin : (c : ℕ) (b : List ℕ) (v : Option Key) → ((v ≡ Some Backgrounds) × Of Backgrounds (λ x. argument x tail) (c ∷ b))
     ↔ Holds (if c == 108 then Some LetterL else if is_hex c then Some (Hex 1) else None) (λ t. rest t b v)
@@ -159,11 +155,7 @@ backgrounds_begin c b v =
     as_log f (backgrounds (u ∷ us)) e n w =
         let k : c ≡ 108 = eqb-true c 108 f in
         absurd (no_run is_hex 16 u (more_words us tail) c b (ap is_hex k) (and_parts (is_word u) (list_all is_word us) n).0 w)
-    as_log f (name ds) e n w = (let z : ⊥ = cc in absurd z)
-    as_log f (version ds) e n w = (let z : ⊥ = cc in absurd z)
-    as_log f (words ds) e n w = (let z : ⊥ = cc in absurd z)
-    as_log f (bits ds) e n w = (let z : ⊥ = cc in absurd z)
-    as_log f (scramble i ts) e n w = (let z : ⊥ = cc in absurd z)
+    as_log f x e n w = (let z : ⊥ = cc in absurd z)
 
     as_words : (c == 108) ≡ false → is_hex c ≡ true → (x : Content) → kind_of x ≡ Backgrounds → is_formed x ≡ true → argument x tail (c ∷ b)
         → HexWords (λ us. Run is_hex 16 1 (more_words us tail)) b
@@ -172,11 +164,7 @@ backgrounds_begin c b v =
     as_words f g (backgrounds (u ∷ us)) e n w =
         let parts = and_parts (is_word u) (list_all is_word us) n in
         (us, parts.1, (run_begins is_hex 16 (more_words us tail) c b g (omega arith)).0 (u, parts.0, w))
-    as_words f g (name ds) e n w = (let z : ⊥ = cc in absurd z)
-    as_words f g (version ds) e n w = (let z : ⊥ = cc in absurd z)
-    as_words f g (words ds) e n w = (let z : ⊥ = cc in absurd z)
-    as_words f g (bits ds) e n w = (let z : ⊥ = cc in absurd z)
-    as_words f g (scramble i ts) e n w = (let z : ⊥ = cc in absurd z)
+    as_words f g x e n w = (let z : ⊥ = cc in absurd z)
 
     from : is_hex c ≡ true → (us : List (List ℕ)) → list_all is_word us ≡ true → Run is_hex 16 1 (more_words us tail) b → Of Backgrounds (λ x. argument x tail) (c ∷ b)
     from g us a r =
@@ -187,16 +175,15 @@ backgrounds_begin c b v =
     none f g log e n w = when_false (c == 108) (word (111 ∷ 103 ∷ []) tail b) f w
     none f g (backgrounds []) e n w = w
     none f g (backgrounds (u ∷ us)) e n w = no_run is_hex 16 u (more_words us tail) c b g (and_parts (is_word u) (list_all is_word us) n).0 w
-    none f g (name ds) e n w = (let z : ⊥ = cc in z)
-    none f g (version ds) e n w = (let z : ⊥ = cc in z)
-    none f g (words ds) e n w = (let z : ⊥ = cc in z)
-    none f g (bits ds) e n w = (let z : ⊥ = cc in z)
-    none f g (scramble i ts) e n w = (let z : ⊥ = cc in z)
+    none f g x e n w = (let z : ⊥ = cc in z)
 
 argument_begins : (key : Key) (c : ℕ) (b : List ℕ) (v : Option Key) → ((v ≡ Some key) × Of key (λ x. argument x tail) (c ∷ b)) ↔ Holds (argument_begun key c) (λ t. rest t b v)
-argument_begins Memory c b v = number_begins Memory version c b (of_memory c b) v
-argument_begins Words c b v = number_begins Words words c b (of_words c b) v
-argument_begins Bits c b v = number_begins Bits bits c b (of_bits c b) v
+argument_begins Memory c b v = number_begins Memory c b (of_memory c b) v
+argument_begins Words c b v = number_begins Words c b (of_words c b) v
+argument_begins Bits c b v = number_begins Bits c b (of_bits c b) v
+argument_begins Latency c b v = number_begins Latency c b (of_latency c b) v
+argument_begins Polarity c b v = number_begins Polarity c b (of_polarity c b) v
+argument_begins Pause c b v = number_begins Pause c b (of_pause c b) v
 argument_begins Name c b v = name_begins c b v
 argument_begins Scramble c b v = row_begins c b v
 argument_begins Backgrounds c b v = backgrounds_begin c b v

@@ -12,6 +12,8 @@ use Rattle.memory_desc.specs.LineText.{Content, version, kind_of, tail, ContentT
 use Rattle.memory_desc.specs.LineRest.{KindText, OpeningText}
 use Rattle.memory_desc.specs.LineAnswers.{refusal_at}
 use Rattle.memory_desc.specs.LineFaults.{IsLineFault}
+use Rattle.memory_desc.specs.Statements.{is_line_of, IsVersionLine}
+use Rattle.memory_desc.specs.declared.line_place.Version.{Version}
 
 -- ---- faults
 
@@ -63,29 +65,29 @@ the_fault G l r f given fault a e k h =
 
 -- ---- kinds of lines, and what lines say
 
-pub kind_says : (b : List ℕ) (k : Option Key) → KindText b k → (v : Option Content) × LineText b v
-kind_says b k h = elim h [ inl t ↦ (None, t.1) | inr t ↦ (Some t.0, t.3) ]
+pub kind_says : (n : Version) (b : List ℕ) (k : Option Key) → KindText n b k → (v : Option Content) × LineText b v × (is_line_of n v ≡ true)
+kind_says n b k h = elim h [ inl t ↦ (None, t.1, refl) | inr t ↦ (Some t.0, t.3, t.1) ]
 
-pub says_kind : (b : List ℕ) (v : Option Content) → LineText b v → (k : Option Key) × KindText b k
-says_kind b None h = (None, inl (refl, h))
-says_kind b (Some c) h = (Some (kind_of c), inr (c, tt, refl, h))
+pub says_kind : (n : Version) (b : List ℕ) (v : Option Content) → LineText b v → is_line_of n v ≡ true → (k : Option Key) × KindText n b k
+says_kind n b None h e = (None, inl (refl, h))
+says_kind n b (Some c) h e = (Some (kind_of c), inr (c, e, refl, h))
 
 version_is : (c : Content) → kind_of c ≡ Memory → (ds : List ℕ) × (c ≡ version ds)
 version_is (version ds) e = (ds, refl)
 version_is c e = (let z : ⊥ = cc in absurd z)
 
-pub opening_says : (b : List ℕ) (k : Option Key) (t : Bool) → t ≡ is_some k → OpeningText b k → MatchBool t ((ds : List ℕ) × ContentText b (version ds)) (tail b)
+pub opening_says : (b : List ℕ) (k : Option Key) (t : Bool) → t ≡ is_some k → OpeningText b k → MatchBool t (IsVersionLine b) (tail b)
 opening_says b k t e h = elim h [
-  | inl w ↦ subst (λ t. MatchBool t ((ds : List ℕ) × ContentText b (version ds)) (tail b)) (sym (e ∙ ap is_some w.0)) w.1
+  | inl w ↦ subst (λ t. MatchBool t (IsVersionLine b) (tail b)) (sym (e ∙ ap is_some w.0)) w.1
   | inr w ↦ let v = version_is w.0 w.1 in
-      subst (λ t. MatchBool t ((ds : List ℕ) × ContentText b (version ds)) (tail b)) (sym (e ∙ ap is_some w.2)) (v.0, subst (ContentText b) v.1 w.3)
+      subst (λ t. MatchBool t (IsVersionLine b) (tail b)) (sym (e ∙ ap is_some w.2)) (v.0, subst (ContentText b) v.1 w.3)
 ]
 
 pub opening_blank : (b : List ℕ) → LineText b None → OpeningText b None
 opening_blank b h = inl (refl, h)
 
-pub opening_version : (b : List ℕ) (ds : List ℕ) → ContentText b (version ds) → OpeningText b (Some Memory)
-opening_version b ds h = inr (version ds, refl, refl, h)
+pub opening_version : (b : List ℕ) → IsVersionLine b → OpeningText b (Some Memory)
+opening_version b h = inr (version h.0, refl, refl, h.1)
 
 pub kind_given : (G : List ℕ → Option Key → Type 0) (b : List ℕ) (r : Result (Option Key) LineFault) (k j : Option Key) (t : Bool) → Answers G b r → r ≡ Ok k → t ≡ is_some k
     → G b j → t ≡ is_some j

@@ -12,10 +12,10 @@ use Rattle.memory_desc.specs.declared.line_place.Key.TheVariants.{Name, Scramble
 use Rattle.memory_desc.specs.declared.line_place.Place.{Place}
 use Rattle.memory_desc.specs.declared.line_place.Place.TheVariants.{Remark, Letters, Wanted, Number, Name as InName, RowNumber, RowEnd, Term as AtTerm, TermNumber, TermEnd, LetterL, LetterO, Hex, HexEnd, End}
 use Rattle.memory_desc.specs.LineText.{Term, Content, is_hex, is_word, is_term, is_formed, space, gap, tail, term_text, more_terms, equation, more_words, argument, key_text}
-use Rattle.memory_desc.specs.LinePlaces.{step, ended, term_ended, row_ended, word_ended, letter_of}
+use Rattle.memory_desc.specs.LinePlaces.{step, is_digit_of, most_digits, ended, term_ended, row_ended, word_ended, letter_of}
 use Rattle.memory_desc.specs.LineRest.{Run, Names, words_left, Of, Terms, HexWords, rest}
 use Rattle.memory_desc.proofs.LinePieces.{at_bool, when_true, when_false, when_holds, apart, space_on, space_off, gap_on, gap_off, tail_blank, tail_other, tail_never, letters, run_on, run_off, run_none}
-use Rattle.memory_desc.proofs.LineRefusals.{digits_plain, names_plain, no_tail, no_more_terms, no_equation, no_more_words}
+use Rattle.memory_desc.proofs.LineRefusals.{names_plain, number_plain, no_tail, no_more_terms, no_equation, no_more_words}
 
 abbrev pub Law : Place → ℕ → List ℕ → Option Key → Type 0
 Law p c b v = rest p (c ∷ b) v ↔ Holds (step p c) (λ t. rest t b v)
@@ -47,12 +47,12 @@ ended_law key c b v =
 pub goes_number : (key : Key) (n c : ℕ) (b : List ℕ) (v : Option Key) → Law (Number key n) c b v
 goes_number key n c b v =
     at_bool (λ t. rest (Number key n) (c ∷ b) v ↔ Holds (if t then Some (Number key (n + 1)) else if n == 0 then None else ended key c) (λ t. rest t b v))
-    (is_digit c && nat_lt n 9)
-    (λ e. let parts = and_parts (is_digit c) (nat_lt n 9) e in
-    second (run_on is_digit 9 n tail c b parts.0 parts.1 (no_tail is_digit c b digits_plain parts.0)))
+    (is_digit_of key c && nat_lt n (most_digits key))
+    (λ e. let parts = and_parts (is_digit_of key c) (nat_lt n (most_digits key)) e in
+    second (run_on (is_digit_of key) (most_digits key) n tail c b parts.0 parts.1 (no_tail (is_digit_of key) c b (number_plain key) parts.0)))
     (λ e. at_bool (λ u. rest (Number key n) (c ∷ b) v ↔ Holds (if u then None else ended key c) (λ t. rest t b v)) (n == 0)
-    (λ z. never (λ h. run_none is_digit 9 n tail c b e z h.1) (λ x. x))
-    (λ z. also (second (run_off is_digit 9 n tail c b e z)) (ended_law key c b v)))
+    (λ z. never (λ h. run_none (is_digit_of key) (most_digits key) n tail c b e z h.1) (λ x. x))
+    (λ z. also (second (run_off (is_digit_of key) (most_digits key) n tail c b e z)) (ended_law key c b v)))
 
 -- ---- names
 

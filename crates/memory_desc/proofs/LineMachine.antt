@@ -9,13 +9,15 @@ use Rattle.bist_text.proofs.Bytes.{are_bytes-append, are_bytes-drop}
 use Rattle.bist_text.proofs.Exclusive.{scan_exact}
 use Rattle.memory_desc.specs.Names.{is_digit}
 use Rattle.memory_desc.specs.declared.line_place.Key.{Key}
-use Rattle.memory_desc.specs.declared.line_place.Key.TheVariants.{Memory, Name, Words, Bits, Scramble, Backgrounds}
+use Rattle.memory_desc.specs.declared.line_place.Key.TheVariants.{Memory, Name, Words, Bits, Latency, Polarity, Pause, Scramble, Backgrounds}
+use Rattle.memory_desc.specs.declared.line_place.Version.{Version}
 use Rattle.memory_desc.specs.declared.line_place.Place.{Place}
-use Rattle.memory_desc.specs.declared.line_place.Place.TheVariants.{Opening, Begin, Remark, LetterB, Letters, Wanted, Number, Name as InName, RowNumber, RowEnd, Term as AtTerm, TermNumber, TermEnd, LetterL, LetterO, Hex, HexEnd, End}
-use Rattle.memory_desc.specs.LineText.{Term, index_bit, constant, Content, version, name, words, bits, scramble, log, backgrounds, kind_of, is_hex, is_formed, space, gap, tail, term_text, more_terms, equation, more_words, argument, key_text}
-use Rattle.memory_desc.specs.LinePlaces.{step, value}
+use Rattle.memory_desc.specs.declared.line_place.Place.TheVariants.{Opening, Begin, Remark, LetterB, LetterP, Letters, Wanted, Number, Name as InName, RowNumber, RowEnd, Term as AtTerm, TermNumber, TermEnd, LetterL, LetterO, Hex, HexEnd, End}
+use Rattle.memory_desc.specs.LineText.{Term, index_bit, constant, Content, version, name, words, bits, latency, polarity, pause, scramble, log, backgrounds, kind_of, in_table, is_hex, is_formed, space, gap, tail, term_text, more_terms, equation, more_words, argument, key_text}
+use Rattle.memory_desc.specs.LinePlaces.{step, value, is_digit_of, most_digits}
 use Rattle.memory_desc.specs.LineRest.{LineOf, KindText, OpeningText, Run, Terms, HexWords, rest}
 use Rattle.memory_desc.proofs.LinePieces.{at_bool, positive, when_true}
+use Rattle.memory_desc.proofs.LineBegins.{some_digits}
 use Rattle.memory_desc.proofs.LineFollows.{goes_at}
 
 -- ---- where a line ends
@@ -38,6 +40,9 @@ no_key Memory K h = h
 no_key Name K h = h
 no_key Words K h = h
 no_key Bits K h = h
+no_key Latency K h = h
+no_key Polarity K h = h
+no_key Pause K h = h
 no_key Scramble K h = h
 no_key Backgrounds K h = h
 
@@ -53,7 +58,13 @@ no_argument (name (d ∷ ds)) n w = w
 no_argument (words []) n w = (let z : ⊥ = cc in z)
 no_argument (words (d ∷ ds)) n w = w
 no_argument (bits []) n w = (let z : ⊥ = cc in z)
+no_argument (latency []) n w = (let z : ⊥ = cc in z)
+no_argument (polarity []) n w = (let z : ⊥ = cc in z)
+no_argument (pause []) n w = (let z : ⊥ = cc in z)
 no_argument (bits (d ∷ ds)) n w = w
+no_argument (latency (d ∷ ds)) n w = w
+no_argument (polarity (d ∷ ds)) n w = w
+no_argument (pause (d ∷ ds)) n w = w
 no_argument (scramble i ts) n w = w
 no_argument log n w = w
 no_argument (backgrounds []) n w = w
@@ -91,12 +102,14 @@ no_equation_end (t ∷ ts) h = h
 
 pub ends_at : (p : Place) (v : Option Key) → rest p [] v ↔ (value p ≡ Some v)
 ends_at Opening v = line_ends (λ k. k ≡ Memory) v
-ends_at Begin v = line_ends (λ _. Unit {0}) v
+ends_at (Begin n) v = line_ends (λ k. in_table n k ≡ true) v
 ends_at (Remark key) v = some_is key v
 ends_at LetterB v = none_is v (neither (λ h. h.1.3) (λ h. h.1.3))
+ends_at LetterP v = none_is v (neither (λ h. h.1.3) (λ h. h.1.3))
 ends_at (Letters key n) v = none_is v (λ h. no_gap (drop n (key_text key)) (argument h.1.0 tail) h.1.3)
 ends_at (Wanted key) v = none_is v (λ h. no_argument h.1.0 h.1.2 h.1.3)
-ends_at (Number key n) v = counted key v n (Run is_digit 9 n tail []) (λ r. (run_ends is_digit 9 n tail r).0) (λ e. run_at_end is_digit 9 n tail e tt)
+ends_at (Number key n) v = counted key v n (Run (is_digit_of key) (most_digits key) n tail []) (λ r. (run_ends (is_digit_of key) (most_digits key) n tail r).0)
+    (λ e. run_at_end (is_digit_of key) (most_digits key) n tail e tt)
 ends_at InName v = with_more (Some Name) v ([], refl, tt)
 ends_at (RowNumber n) v = none_is v (λ h. no_equation_end h.1.0 (run_ends is_digit 9 n (equation h.1.0 tail) h.1.2).1)
 ends_at RowEnd v = none_is v (λ h. no_equation_end h.1.0 h.1.2)
@@ -119,6 +132,9 @@ example Memory = version (49 ∷ [])
 example Name = name (97 ∷ [])
 example Words = words (50 ∷ [])
 example Bits = bits (49 ∷ [])
+example Latency = latency (49 ∷ [])
+example Polarity = polarity (48 ∷ [])
+example Pause = pause (49 ∷ [])
 example Scramble = scramble (48 ∷ []) (constant false ∷ [])
 example Backgrounds = log
 
@@ -127,6 +143,9 @@ example_text Memory = 49 ∷ []
 example_text Name = 97 ∷ []
 example_text Words = 50 ∷ []
 example_text Bits = 49 ∷ []
+example_text Latency = 49 ∷ []
+example_text Polarity = 48 ∷ []
+example_text Pause = 49 ∷ []
 example_text Scramble = codes "a0=0"
 example_text Backgrounds = codes "log"
 
@@ -135,6 +154,9 @@ example_kind Memory = refl
 example_kind Name = refl
 example_kind Words = refl
 example_kind Bits = refl
+example_kind Latency = refl
+example_kind Polarity = refl
+example_kind Pause = refl
 example_kind Scramble = refl
 example_kind Backgrounds = refl
 
@@ -143,6 +165,9 @@ example_formed Memory = refl
 example_formed Name = refl
 example_formed Words = refl
 example_formed Bits = refl
+example_formed Latency = refl
+example_formed Polarity = refl
+example_formed Pause = refl
 example_formed Scramble = refl
 example_formed Backgrounds = refl
 
@@ -151,6 +176,9 @@ example_bytes Memory = refl
 example_bytes Name = refl
 example_bytes Words = refl
 example_bytes Bits = refl
+example_bytes Latency = refl
+example_bytes Polarity = refl
+example_bytes Pause = refl
 example_bytes Scramble = refl
 example_bytes Backgrounds = refl
 
@@ -159,6 +187,9 @@ key_bytes Memory = refl
 key_bytes Name = refl
 key_bytes Words = refl
 key_bytes Bits = refl
+key_bytes Latency = refl
+key_bytes Polarity = refl
+key_bytes Pause = refl
 key_bytes Scramble = refl
 key_bytes Backgrounds = refl
 
@@ -167,6 +198,9 @@ example_is Memory = inl tt
 example_is Name = inl tt
 example_is Words = inl tt
 example_is Bits = inl tt
+example_is Latency = inl tt
+example_is Polarity = inl tt
+example_is Pause = inl tt
 example_is Scramble = inl (inl (inl tt))
 example_is Backgrounds = inl tt
 
@@ -177,11 +211,16 @@ run_goes_on p most zero d K b e m w u k =
     (d ∷ b, w, (d ∷ [], and_from (p d) true e refl, omega arith, omega arith, (when_true (d == d) (K b) (eq-eqb d d refl)).1 k))
 run_goes_on p most (suc n) d K b e m w u k = (b, u, ([], refl, zero-le, omega arith, k))
 
+one_digit : (key : Key) → is_digit_of key 49 ≡ true
+one_digit Polarity = refl
+one_digit key = refl
+
 pub alive_at : (p : Place) → Continues (rest p) []
 alive_at Opening = ([], None, refl, inl (refl, tt))
-alive_at Begin = ([], None, refl, inl (refl, tt))
+alive_at (Begin n) = ([], None, refl, inl (refl, tt))
 alive_at (Remark key) = ([], key, refl, refl)
 alive_at LetterB = (codes "its 1", Some Bits, refl, inl (refl, (example Bits, refl, refl, inl tt)))
+alive_at LetterP = (codes "ause 1", Some Pause, refl, inr (refl, (example Pause, refl, refl, inl tt)))
 alive_at (Letters key n) = (
   drop n (key_text key) ++ (32 ∷ example_text key),
   Some key,
@@ -189,7 +228,9 @@ alive_at (Letters key n) = (
   (refl, (example key, example_kind key, example_formed key, word_on (drop n (key_text key)) (gap (argument (example key) tail)) (32 ∷ example_text key) (example_is key))),
 )
 alive_at (Wanted key) = (example_text key, Some key, example_bytes key, (refl, (example key, example_kind key, example_formed key, example_is key)))
-alive_at (Number key n) = let r = run_goes_on is_digit 9 n 49 tail [] refl (omega arith) refl refl tt in (r.0, Some key, r.1, (refl, r.2))
+alive_at (Number key n) =
+    let r = run_goes_on (is_digit_of key) (most_digits key) n 49 tail [] (one_digit key) (some_digits key) refl refl tt in
+    (r.0, Some key, r.1, (refl, r.2))
 alive_at InName = ([], Some Name, refl, (refl, ([], refl, tt)))
 alive_at (RowNumber n) =
     let r = run_goes_on is_digit 9 n 48 (equation (constant false ∷ []) tail) (codes "=0") refl (omega arith) refl refl (inl (inl tt)) in
@@ -213,8 +254,8 @@ follows = record {
 }
 
 -- A line is read exactly as the grammar of lines says,
-pub line_exact : (b : List ℕ) → are_bytes b ≡ true → IsExact KindText b (scan step value b Begin 0)
-line_exact b w = scan_exact step value rest (λ p. Unit {0}) follows KindText Begin tt (λ x v. same) b w
+pub line_exact : (n : Version) (b : List ℕ) → are_bytes b ≡ true → IsExact (KindText n) b (scan step value b (Begin n) 0)
+line_exact n b w = scan_exact step value rest (λ p. Unit {0}) follows (KindText n) (Begin n) tt (λ x v. same) b w
 
 -- and so is one that may only be a `memory` line.
 pub opening_exact : (b : List ℕ) → are_bytes b ≡ true → IsExact OpeningText b (scan step value b Opening 0)

@@ -4,6 +4,9 @@ use Rattle.std.proofs.lemmas.Bool.{eqb-true, and_parts}
 use Rattle.std.specs.List.{list_all}
 use Rattle.bist_text.specs.Grammar.{byte, word, is_blank}
 use Rattle.memory_desc.specs.Names.{is_digit, is_name_byte}
+use Rattle.memory_desc.specs.declared.line_place.Key.{Key}
+use Rattle.memory_desc.specs.declared.line_place.Key.TheVariants.{Polarity}
+use Rattle.memory_desc.specs.LinePlaces.{is_digit_of}
 use Rattle.memory_desc.specs.LineText.{Term, is_hex, is_number, space, tail, more_terms, equation, more_words}
 use Rattle.memory_desc.proofs.LinePieces.{at_bool, when_false, when_holds, apart, of_blank, space_off, gap_off, tail_never}
 
@@ -29,6 +32,10 @@ hex_plain = record { space_no = refl; tab_no = refl; return_no = refl; hash_no =
 
 pub names_plain : IsPlain is_name_byte
 names_plain = record { space_no = refl; tab_no = refl; return_no = refl; hash_no = refl }
+
+pub number_plain : (key : Key) → IsPlain (is_digit_of key)
+number_plain Polarity = hex_plain
+number_plain key = digits_plain
 
 pub plain_blank : (p : ℕ → Bool) (c : ℕ) → IsPlain p → p c ≡ true → is_blank c ≡ false
 plain_blank p c q h = not_blank p c h q.space_no q.tab_no q.return_no

@@ -7,7 +7,7 @@ use Rattle.std.specs.List.{list_any}
 use Rattle.std.specs.Option.{option_eq}
 use Rattle.std.specs.Str.Parse.{digits_value}
 use Rattle.bist_text.specs.declared.text_lines.Line.{Line}
-use Rattle.memory_desc.specs.LineText.{Term, index_bit, constant, Content, name, words, bits, scramble, log, backgrounds, kind_of, ContentText}
+use Rattle.memory_desc.specs.LineText.{Term, index_bit, constant, Content, name, words, bits, latency, polarity, pause, scramble, log, backgrounds, kind_of, ContentText}
 use Rattle.memory_desc.specs.Names.{is_among, reserved_words}
 use Rattle.memory_desc.specs.Statements.{Statement}
 use Rattle.memory_desc.specs.Subjects.{subject, is_same, about}
@@ -17,7 +17,7 @@ use Rattle.memory_desc.specs.Values.{word_values}
 use Rattle.memory_desc.specs.contracts.content.SubjectPartialEq.TheImpl.{eq-value}
 use Rattle.memory_desc.specs.declared.content.Row.{Row as RowRead}
 use Rattle.memory_desc.specs.declared.content.Subject.{Subject}
-use Rattle.memory_desc.specs.declared.content.Subject.TheVariants.{Version, Name, Words, Bits, Row, Backgrounds}
+use Rattle.memory_desc.specs.declared.content.Subject.TheVariants.{Version, Name, Words, Bits, Latency, Polarity, Pause, Row, Backgrounds}
 use Rattle.memory_desc.specs.declared.content.Words.{Words as WordsRead}
 use Rattle.memory_desc.specs.declared.line_place.Key.TheVariants.{Backgrounds as BackgroundsKey}
 use Rattle.memory_desc.proofs.LinePieces.{at_bool}
@@ -45,6 +45,9 @@ equal_subjects Version Version = refl
 equal_subjects Name Name = refl
 equal_subjects Words Words = refl
 equal_subjects Bits Bits = refl
+equal_subjects Latency Latency = refl
+equal_subjects Polarity Polarity = refl
+equal_subjects Pause Pause = refl
 equal_subjects (Row i) (Row j) = eqb_turns j i
 equal_subjects Backgrounds Backgrounds = refl
 equal_subjects q r = refl
@@ -68,6 +71,18 @@ at_words P c e f = (let z : ⊥ = cc in absurd z)
 at_bits : (P : Content → Type 0) (c : Content) → Some Bits ≡ Some (subject c) → ((ds : List ℕ) → P (bits ds)) → P c
 at_bits P (bits ds) e f = f ds
 at_bits P c e f = (let z : ⊥ = cc in absurd z)
+
+at_latency : (P : Content → Type 0) (c : Content) → Some Latency ≡ Some (subject c) → ((ds : List ℕ) → P (latency ds)) → P c
+at_latency P (latency ds) e f = f ds
+at_latency P c e f = (let z : ⊥ = cc in absurd z)
+
+at_pause : (P : Content → Type 0) (c : Content) → Some Pause ≡ Some (subject c) → ((ds : List ℕ) → P (pause ds)) → P c
+at_pause P (pause ds) e f = f ds
+at_pause P c e f = (let z : ⊥ = cc in absurd z)
+
+at_polarity : (P : Content → Type 0) (c : Content) → Some Polarity ≡ Some (subject c) → ((w : List ℕ) → P (polarity w)) → P c
+at_polarity P (polarity w) e f = f w
+at_polarity P c e f = (let z : ⊥ = cc in absurd z)
 
 at_row : (P : Content → Type 0) (c : Content) (i : ℕ) → Some (Row i) ≡ Some (subject c) → ((i : List ℕ) (ts : List Term) → P (scramble i ts)) → P c
 at_row P (scramble i ts) k e f = f i ts
@@ -131,11 +146,26 @@ bits_ranged b n c q t text s e f k =
     at_bits (λ c. ContentText b c → t ≡ is_out_of_range c) c (ap Some (sym s) ∙ e)
     (λ ds h. k ∙ ap (λ n. nat_lt n 1 || nat_lt 64 n) (f (bits ds) ds h refl)) text
 
-pub others_ranged : (q : Subject) (c : Content) → (q ≡ Name → ⊥) → (q ≡ Words → ⊥) → (q ≡ Bits → ⊥) → Some q ≡ Some (subject c) → false ≡ is_out_of_range c
-others_ranged q (name n) f g h e = (let k : q ≡ Name = cc in absurd (f k))
-others_ranged q (words n) f g h e = (let k : q ≡ Words = cc in absurd (g k))
-others_ranged q (bits n) f g h e = (let k : q ≡ Bits = cc in absurd (h k))
-others_ranged q c f g h e = refl
+pub latency_ranged : (b : List ℕ) (n : ℕ) (c : Content) (q : Subject) (t : Bool) → ContentText b c → q ≡ Latency → Some q ≡ Some (subject c)
+    → ((c : Content) (ds : List ℕ) → ContentText b c → digits_in c ≡ Some ds → n ≡ digits_value 10 ds) → t ≡ (nat_lt n 1 || nat_lt 4 n) → t ≡ is_out_of_range c
+latency_ranged b n c q t text s e f k =
+    at_latency (λ c. ContentText b c → t ≡ is_out_of_range c) c (ap Some (sym s) ∙ e)
+    (λ ds h. k ∙ ap (λ n. nat_lt n 1 || nat_lt 4 n) (f (latency ds) ds h refl)) text
+
+pub pause_ranged : (b : List ℕ) (n : ℕ) (c : Content) (q : Subject) (t : Bool) → ContentText b c → q ≡ Pause → Some q ≡ Some (subject c)
+    → ((c : Content) (ds : List ℕ) → ContentText b c → digits_in c ≡ Some ds → n ≡ digits_value 10 ds) → t ≡ (nat_lt n 1 || nat_lt 65535 n) → t ≡ is_out_of_range c
+pause_ranged b n c q t text s e f k =
+    at_pause (λ c. ContentText b c → t ≡ is_out_of_range c) c (ap Some (sym s) ∙ e)
+    (λ ds h. k ∙ ap (λ n. nat_lt n 1 || nat_lt 65535 n) (f (pause ds) ds h refl)) text
+
+pub others_ranged : (q : Subject) (c : Content) → (q ≡ Name → ⊥) → (q ≡ Words → ⊥) → (q ≡ Bits → ⊥) → (q ≡ Latency → ⊥) → (q ≡ Pause → ⊥) → Some q ≡ Some (subject c)
+    → false ≡ is_out_of_range c
+others_ranged q (name n) f g h i j e = (let k : q ≡ Name = cc in absurd (f k))
+others_ranged q (words n) f g h i j e = (let k : q ≡ Words = cc in absurd (g k))
+others_ranged q (bits n) f g h i j e = (let k : q ≡ Bits = cc in absurd (h k))
+others_ranged q (latency n) f g h i j e = (let k : q ≡ Latency = cc in absurd (i k))
+others_ranged q (pause n) f g h i j e = (let k : q ≡ Pause = cc in absurd (j k))
+others_ranged q c f g h i j e = refl
 
 -- ---- widths
 
@@ -176,6 +206,19 @@ row_past b row width size w most i c q p text s e f k m =
     ∙ ap (λ n. nat_le width (digits_value 10 i) || nat_le width n) r.highest
     ∙ ap (λ x. nat_le width (digits_value 10 i) || x) (highest_past width ts p)) text
 
+-- past the greatest number that fits
+above : (m n : ℕ) → 0 < m → nat_lt (m - 1) n ≡ nat_le m n
+above m n p = elim (cases_lt n m) [
+  | inl h ↦ (let g : n ≤ m - 1 = omega arith in le-ltb (m - 1) n g ∙ sym (lt-leb m n h))
+  | inr h ↦ (let g : m - 1 < n = omega arith in lt-ltb (m - 1) n g ∙ sym (le-leb m n h))
+]
+
+pub polarity_past : (b : List ℕ) (n width size top : ℕ) (c : Content) (q : Subject) → ContentText b c → q ≡ Polarity → Some q ≡ Some (subject c)
+    → ((w : List ℕ) → ContentText b (polarity w) → n ≡ digits_value 16 w) → top ≡ 2 ^ size - 1 → nat_lt top n ≡ is_past width size c
+polarity_past b n width size top c q text s e f k =
+    at_polarity (λ c. ContentText b c → nat_lt top n ≡ is_past width size c) c (ap Some (sym s) ∙ e)
+    (λ w h. ap (λ t. nat_lt t n) k ∙ above (2 ^ size) n (pow_pos size) ∙ ap (nat_le (2 ^ size)) (f w h)) text
+
 pub words_past : (b : List ℕ) (read : WordsRead) (width size top : ℕ) (c : Content) (q : Subject) (logarithmic : Bool) → ContentText b c → q ≡ Backgrounds
     → Some q ≡ Some (subject c) → ((c : Content) → ContentText b c → kind_of c ≡ BackgroundsKey → logarithmic ≡ is_log c) → logarithmic ≡ false
     → ((ws : List (List ℕ)) → ContentText b (backgrounds ws) → AreWords ws read) → top ≡ 2 ^ size - 1 → nat_lt top read.union ≡ is_past width size c
@@ -184,12 +227,6 @@ words_past b read width size top c q logarithmic text s e l unlike f k =
     (λ h. let z : logarithmic ≡ true = l log h refl in let y : ⊥ = cc in absurd y)
     (λ ws h. let r = f ws h in
     ap (λ n. nat_lt top n) r.union ∙ ap (λ n. nat_lt n (union_of (word_values ws))) k ∙ above (2 ^ size) (union_of (word_values ws)) (pow_pos size) ∙ union_past size ws) text
-  where
-    above : (m n : ℕ) → 0 < m → nat_lt (m - 1) n ≡ nat_le m n
-    above m n p = elim (cases_lt n m) [
-      | inl h ↦ (let g : n ≤ m - 1 = omega arith in le-ltb (m - 1) n g ∙ sym (lt-leb m n h))
-      | inr h ↦ (let g : m - 1 < n = omega arith in lt-ltb (m - 1) n g ∙ sym (le-leb m n h))
-    ]
 
 pub log_past : (b : List ℕ) (width size : ℕ) (c : Content) (q : Subject) (logarithmic : Bool) → ContentText b c → q ≡ Backgrounds → Some q ≡ Some (subject c)
     → ((c : Content) → ContentText b c → kind_of c ≡ BackgroundsKey → logarithmic ≡ is_log c) → logarithmic ≡ true → not logarithmic ≡ is_past width size c
@@ -198,8 +235,8 @@ log_past b width size c q logarithmic text s e l alike =
     (λ h. ap not alike)
     (λ ws h. let z : logarithmic ≡ false = l (backgrounds ws) h refl in let y : ⊥ = cc in absurd y) text
 
-pub others_past : (width size : ℕ) (q : Subject) (c : Content) → ((i : ℕ) → q ≡ Row i → ⊥) → (q ≡ Backgrounds → ⊥) → Some q ≡ Some (subject c) → false ≡ is_past width size c
-others_past width size q (scramble i ts) f g e = (let k : q ≡ Row (digits_value 10 i) = cc in absurd (f (digits_value 10 i) k))
-others_past width size q log f g e = refl
-others_past width size q (backgrounds ws) f g e = (let k : q ≡ Backgrounds = cc in absurd (g k))
-others_past width size q c f g e = refl
+pub others_past : (width size : ℕ) (q : Subject) (c : Content) → ((i : ℕ) → q ≡ Row i → ⊥) → (q ≡ Polarity → ⊥) → (q ≡ Backgrounds → ⊥) → Some q ≡ Some (subject c) → false ≡ is_past width size c
+others_past width size q (scramble i ts) f h g e = (let k : q ≡ Row (digits_value 10 i) = cc in absurd (f (digits_value 10 i) k))
+others_past width size q (polarity w) f h g e = (let k : q ≡ Polarity = cc in absurd (h k))
+others_past width size q (backgrounds ws) f h g e = (let k : q ≡ Backgrounds = cc in absurd (g k))
+others_past width size q c f h g e = refl

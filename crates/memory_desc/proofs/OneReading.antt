@@ -9,8 +9,8 @@ use Rattle.bist_text.proofs.Pieces.{neither}
 use Rattle.memory_desc.specs.Descriptions.{Description}
 use Rattle.memory_desc.specs.Names.{is_digit, is_letter, is_name_byte, is_identifier}
 use Rattle.memory_desc.specs.declared.line_place.Key.{Key}
-use Rattle.memory_desc.specs.declared.line_place.Key.TheVariants.{Memory, Name, Words, Bits, Scramble, Backgrounds}
-use Rattle.memory_desc.specs.LineText.{Term, index_bit, constant, Content, version, name, words, bits, scramble, log, backgrounds, kind_of, is_hex, is_word, is_number, is_term, is_formed, space, gap, comment, tail, term_text, more_terms, equation, more_words, argument, key_text, ContentText, LineText}
+use Rattle.memory_desc.specs.declared.line_place.Key.TheVariants.{Memory, Name, Words, Bits, Latency, Polarity, Pause, Scramble, Backgrounds}
+use Rattle.memory_desc.specs.LineText.{Term, index_bit, constant, Content, version, name, words, bits, latency, polarity, pause, scramble, log, backgrounds, kind_of, is_hex, is_word, is_number, is_term, is_formed, space, gap, comment, tail, term_text, more_terms, equation, more_words, argument, key_text, ContentText, LineText}
 use Rattle.memory_desc.specs.Statements.{Statement, stated, Say}
 use Rattle.memory_desc.specs.Table.{AreStatements, Describes, Reads}
 use Rattle.memory_desc.proofs.Determined.{describes_one}
@@ -238,6 +238,9 @@ argument_stops (version ds) f = number_stops ds f
 argument_stops (name b) f = (let r = name_run b f in run_stops is_name_byte b tail names_plain r.0 r.1)
 argument_stops (words ds) f = number_stops ds f
 argument_stops (bits ds) f = number_stops ds f
+argument_stops (latency ds) f = number_stops ds f
+argument_stops (polarity w) f = hex_stops w tail f
+argument_stops (pause ds) f = number_stops ds f
 argument_stops (scramble i ts) f = word_stops is_blank 97 i (equation ts tail) refl
 argument_stops log f = word_stops is_blank 108 (111 ∷ 103 ∷ []) tail refl
 argument_stops (backgrounds []) f = λ c b on h. h
@@ -251,6 +254,10 @@ arguments_one : (c d : Content) (b : List ℕ) → is_formed c ≡ true → is_f
 arguments_one (version ds) (version es) b f g e k l = ap version (numbers_one ds es b f g k l)
 arguments_one (words ds) (words es) b f g e k l = ap words (numbers_one ds es b f g k l)
 arguments_one (bits ds) (bits es) b f g e k l = ap bits (numbers_one ds es b f g k l)
+arguments_one (latency ds) (latency es) b f g e k l = ap latency (numbers_one ds es b f g k l)
+arguments_one (pause ds) (pause es) b f g e k l = ap pause (numbers_one ds es b f g k l)
+arguments_one (polarity v) (polarity w) b f g e k l =
+    ap polarity (runs_meet is_hex v w tail tail b (run_parts is_hex 16 v f).0 (run_parts is_hex 16 w g).0 (tail_stops is_hex hex_plain) (tail_stops is_hex hex_plain) k l).0
 arguments_one (name v) (name w) b f g e k l =
     ap name (runs_meet is_name_byte v w tail tail b (name_run v f).0 (name_run w g).0 (tail_stops is_name_byte names_plain) (tail_stops is_name_byte names_plain) k l).0
 arguments_one (scramble i ts) (scramble j us) b f g e k l =
@@ -276,6 +283,9 @@ key_letters Memory = (refl, omega arith)
 key_letters Name = (refl, omega arith)
 key_letters Words = (refl, omega arith)
 key_letters Bits = (refl, omega arith)
+key_letters Latency = (refl, omega arith)
+key_letters Polarity = (refl, omega arith)
+key_letters Pause = (refl, omega arith)
 key_letters Scramble = (refl, omega arith)
 key_letters Backgrounds = (refl, omega arith)
 
@@ -288,6 +298,9 @@ keys_one Memory Memory e = refl
 keys_one Name Name e = refl
 keys_one Words Words e = refl
 keys_one Bits Bits e = refl
+keys_one Latency Latency e = refl
+keys_one Polarity Polarity e = refl
+keys_one Pause Pause e = refl
 keys_one Scramble Scramble e = refl
 keys_one Backgrounds Backgrounds e = refl
 keys_one k l e = absurd (let z : front (key_text k) ≡ front (key_text l) = ap front e in omega arith)

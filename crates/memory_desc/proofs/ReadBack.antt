@@ -6,20 +6,22 @@ use Rattle.std.specs.List.{list_all}
 use Rattle.bist_text.specs.Lines.{text_lines}
 use Rattle.scrambler.specs.Scrambling.{Scrambling, IsFull, IsInvertible, row}
 use Rattle.memory_desc.specs.Descriptions.{Description, IsMemory}
-use Rattle.memory_desc.specs.LineText.{Term, Content, scramble, backgrounds, ContentText, is_term, term_text}
-use Rattle.memory_desc.specs.Printed.{joined, background_texts, is_identity, printed}
-use Rattle.memory_desc.specs.Statements.{Say}
+use Rattle.memory_desc.specs.LineText.{Term, Content, version, scramble, backgrounds, ContentText, is_term, term_text}
+use Rattle.memory_desc.specs.Printed.{joined, background_texts, is_plain, version_text, is_identity, printed}
+use Rattle.memory_desc.specs.Statements.{Say, is_said_in, IsOfVersion}
+use Rattle.memory_desc.specs.declared.line_place.Version.{Version}
+use Rattle.memory_desc.specs.declared.line_place.Version.TheVariants.{One, Two}
 use Rattle.memory_desc.specs.Values.{index_bits}
 use Rattle.memory_desc.specs.Table.{Reads, AreStatements}
 use Rattle.memory_desc.proofs.Parts.{width_small}
-use Rattle.memory_desc.proofs.BackLines.{is_inside, Written, written_more, lines_say}
+use Rattle.memory_desc.proofs.BackLines.{is_inside, numbered, Written, written_more, lines_say}
 use Rattle.memory_desc.proofs.BackDescribed.{describes_it}
-use Rattle.memory_desc.proofs.BackFound.{row_content, rows_from}
-use Rattle.memory_desc.proofs.BackInside.{decimal_inside, name_inside, row_inside, backgrounds_inside, row_written, texts_from, lines_of, rows_printed, printed_lines}
+use Rattle.memory_desc.proofs.BackFound.{row_content, rows_from, body}
+use Rattle.memory_desc.proofs.BackInside.{decimal_inside, name_inside, row_inside, backgrounds_inside, polarity_inside, row_written, texts_from, later_of, lines_of, rows_printed, printed_lines}
 use Rattle.memory_desc.proofs.BackScrambling.{row_some}
 use Rattle.memory_desc.proofs.BackTerms.{terms_of, terms_text, terms_formed, terms_bits}
-use Rattle.memory_desc.proofs.BackTexts.{version_text, name_text, words_text, bits_text, row_text, backgrounds_text, digits_of_word}
-use Rattle.memory_desc.proofs.BackValues.{contents, statements}
+use Rattle.memory_desc.proofs.BackTexts.{version_one, version_two, name_text, words_text, bits_text, latency_text, polarity_text, pause_text, row_text, backgrounds_text, digits_of_word}
+use Rattle.memory_desc.proofs.BackValues.{version_digits, later_said, contents, statements}
 
 -- ---- the lines are statements
 
@@ -54,15 +56,40 @@ backgrounds_line_is : (size : ℕ) (set : List ℕ) → 1 ≤ size → size ≤ 
 backgrounds_line_is size [] p h some = absurd (omega arith)
 backgrounds_line_is size (w ∷ ws) p h some = backgrounds_text size w ws p h
 
-pub lines_written : (d : Description) (k : ℕ) → IsMemory d → IsFull d.scramble → d.scramble.width ≤ 16 → k ≤ d.scramble.width → Written (lines_of d k) (contents d k)
-lines_written d k mem full small h =
+version_line_is : (plain : Bool) → IsLine (version_text plain) (version (version_digits plain))
+version_line_is true = (refl, version_one)
+version_line_is false = (refl, version_two)
+
+later_written : (d : Description) (plain : Bool) → IsMemory d → Written (later_of d plain) (later_said d plain)
+later_written d true mem = tt
+later_written d false mem =
+    let cycles = mem.latency_high in
+    let long = mem.pause_high in
+    let l : d.latency < 1000000000 = omega arith in
+    let p : d.pause < 1000000000 = omega arith in (
+      decimal_inside d.latency l,
+      latency_text d.latency l,
+      (
+        polarity_inside d.bits d.polarity,
+        polarity_text d.bits d.polarity mem.bits_low mem.bits_high,
+        (decimal_inside d.pause p, pause_text d.pause p, tt),
+      ),
+    )
+
+pub lines_written : (d : Description) (plain : Bool) (k : ℕ) → IsMemory d → IsFull d.scramble → d.scramble.width ≤ 16 → k ≤ d.scramble.width
+    → Written (lines_of d plain k) (contents d plain k)
+lines_written d plain k mem full small h =
     let many = mem.words_high in
     let wide = mem.bits_high in
     let w : d.words < 1000000000 = omega arith in
     let b : d.bits < 1000000000 = omega arith in
-    let whole : 0 + k ≤ d.scramble.width = omega arith in (
-      refl,
-      version_text,
+    let whole : 0 + k ≤ d.scramble.width = omega arith in
+    let first = version_line_is plain in
+    let rows : Written (texts_from d.scramble 0 k ++ ((codes "backgrounds" ++ background_texts d.bits d.backgrounds) ∷ [])) (body d.scramble 0 k (map (digits_of_word d.bits) d.backgrounds)) =
+    written_more (texts_from d.scramble 0 k) _ (rows_from d.scramble 0 k) _ (rows_written d.scramble 0 k full mem.invertible small whole)
+    (backgrounds_inside d.bits d.backgrounds, backgrounds_line_is d.bits d.backgrounds mem.bits_low mem.bits_high mem.tested.some, tt) in (
+      first.0,
+      first.1,
       (
         name_inside d.name mem.name.identifier,
         name_text d.name mem.name.identifier,
@@ -72,20 +99,35 @@ lines_written d k mem full small h =
           (
             decimal_inside d.bits b,
             bits_text d.bits b,
-            written_more (texts_from d.scramble 0 k) _ (rows_from d.scramble 0 k) _ (rows_written d.scramble 0 k full mem.invertible small whole)
-                (backgrounds_inside d.bits d.backgrounds, backgrounds_line_is d.bits d.backgrounds mem.bits_low mem.bits_high mem.tested.some, tt),
+            written_more (later_of d plain) _ (later_said d plain) _ (later_written d plain mem) rows,
           ),
         ),
       ),
     )
 
-pub are_statements : (d : Description) → IsMemory d → IsFull d.scramble → d.scramble.width ≤ 16 → AreStatements (printed d) (statements d (rows_printed d.scramble))
+-- ---- they are of their version
+
+abbrev version_printed : Bool → Version
+version_printed true = One
+version_printed false = Two
+
+rows_tabled : (v : Version) (s : Scrambling) (n i k : ℕ) (ws : List (List ℕ)) → list_all (is_said_in v) (numbered n (body s i k ws)) ≡ true
+rows_tabled One s n i zero ws = refl
+rows_tabled Two s n i zero ws = refl
+rows_tabled One s n i (suc k) ws = rows_tabled One s (n + 1) (i + 1) k ws
+rows_tabled Two s n i (suc k) ws = rows_tabled Two s (n + 1) (i + 1) k ws
+
+of_version : (d : Description) (plain : Bool) (k : ℕ) → IsOfVersion (statements d plain k) (version_printed plain)
+of_version d true k = record { first = refl; tabled = rows_tabled One d.scramble 5 0 k (map (digits_of_word d.bits) d.backgrounds) }
+of_version d false k = record { first = refl; tabled = rows_tabled Two d.scramble 8 0 k (map (digits_of_word d.bits) d.backgrounds) }
+
+pub are_statements : (d : Description) → IsMemory d → IsFull d.scramble → d.scramble.width ≤ 16 → AreStatements (printed d) (statements d (is_plain d) (rows_printed d.scramble))
 are_statements d mem full small =
     let k = rows_printed d.scramble in
     let few : k ≤ d.scramble.width = by_test (is_identity d.scramble) in (
-      subst (λ (text : List ℕ). Say (text_lines text) (statements d k)) (printed_lines d)
-          (lines_say 1 0 (lines_of d k) (contents d k) (lines_written d k mem full small few)),
-      refl,
+      subst (λ (text : List ℕ). Say (text_lines text) (statements d (is_plain d) k)) (printed_lines d)
+          (lines_say 1 0 (lines_of d (is_plain d) k) (contents d (is_plain d) k) (lines_written d (is_plain d) k mem full small few)),
+      (version_printed (is_plain d), of_version d (is_plain d) k),
     )
   where
     by_test : (t : Bool) → (if t then 0 else d.scramble.width) ≤ d.scramble.width
@@ -100,4 +142,4 @@ read_back d mem =
     let most = mem.words_high in
     let some = mem.words_low in
     let small : d.scramble.width ≤ 16 = (width_small (d.words - 1) d.scramble.width (omega arith) mem.address).1 in
-    (statements d (rows_printed d.scramble), are_statements d mem mem.full small, describes_it d mem mem.full small)
+    (statements d (is_plain d) (rows_printed d.scramble), are_statements d mem mem.full small, describes_it d mem mem.full small)

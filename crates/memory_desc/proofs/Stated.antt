@@ -2,14 +2,14 @@
 use Rattle.std.proofs.Common.{◌≡◌, ℕ, Bool, true, false, List, [], ◌∷◌, Option, Some, None, refl, sym, ◌∙◌, ap, subst, cond}
 use Rattle.std.specs.Prelude.{find}
 use Rattle.bist_text.specs.declared.text_lines.Line.{Line}
-use Rattle.memory_desc.specs.LineText.{Content, Term, version, name, words, bits, scramble, log, backgrounds, kind_of, ContentText}
+use Rattle.memory_desc.specs.LineText.{Content, Term, name, words, bits, latency, polarity, pause, scramble, log, backgrounds, kind_of, ContentText}
 use Rattle.memory_desc.specs.Statements.{Statement}
 use Rattle.memory_desc.specs.Subjects.{subject, is_same, is_about, about, said, content_of}
 use Rattle.memory_desc.specs.Standing.{StandsAt}
 use Rattle.memory_desc.specs.Table.{at_line, is_past, past, is_out_of_range, out_of_range}
 use Rattle.memory_desc.specs.declared.line_place.Key.TheVariants.{Backgrounds as BackgroundsKey}
 use Rattle.memory_desc.specs.declared.content.Subject.{Subject}
-use Rattle.memory_desc.specs.declared.content.Subject.TheVariants.{Name, Words, Bits, Row, Backgrounds}
+use Rattle.memory_desc.specs.declared.content.Subject.TheVariants.{Name, Words, Bits, Latency, Polarity, Pause, Row, Backgrounds}
 use Rattle.memory_desc.specs.declared.fault.MemoryFault.{MemoryFault}
 use Rattle.memory_desc.specs.declared.fault.MemoryFault.TheVariants.{OutOfRange}
 
@@ -63,61 +63,58 @@ pub says : (q : Subject) (ss : List Statement) (text : List ℕ) (r : Stated q s
 says q ss text r = record { said_is = ap content_of r.found; written = r.written }
 
 of_row : (bit : ℕ) (c : Content) → is_same (Row bit) (subject c) ≡ true → (i : List ℕ) × (ts : List Term) × (c ≡ scramble i ts)
-of_row bit (version ds) e = (let z : ⊥ = cc in absurd z)
-of_row bit (name b) e = (let z : ⊥ = cc in absurd z)
-of_row bit (words ds) e = (let z : ⊥ = cc in absurd z)
-of_row bit (bits ds) e = (let z : ⊥ = cc in absurd z)
 of_row bit (scramble i ts) e = (i, ts, refl)
-of_row bit log e = (let z : ⊥ = cc in absurd z)
-of_row bit (backgrounds ws) e = (let z : ⊥ = cc in absurd z)
+of_row bit c e = (let z : ⊥ = cc in absurd z)
 
 pub row_stated : (bit : ℕ) (ss : List Statement) (text : List ℕ) → Stated (Row bit) ss text → (i : List ℕ) × (ts : List Term) × Says (Row bit) ss text (scramble i ts)
 row_stated bit ss text r = let c = of_row bit r.statement.content r.same in (c.0, c.1, subst (Says (Row bit) ss text) c.2 (says (Row bit) ss text r))
 
 of_name : (c : Content) → is_same Name (subject c) ≡ true → (b : List ℕ) × (c ≡ name b)
-of_name (version ds) e = (let z : ⊥ = cc in absurd z)
 of_name (name b) e = (b, refl)
-of_name (words ds) e = (let z : ⊥ = cc in absurd z)
-of_name (bits ds) e = (let z : ⊥ = cc in absurd z)
-of_name (scramble i ts) e = (let z : ⊥ = cc in absurd z)
-of_name log e = (let z : ⊥ = cc in absurd z)
-of_name (backgrounds ws) e = (let z : ⊥ = cc in absurd z)
+of_name c e = (let z : ⊥ = cc in absurd z)
 
 pub name_stated : (ss : List Statement) (text : List ℕ) → Stated Name ss text → (b : List ℕ) × Says Name ss text (name b)
 name_stated ss text r = let c = of_name r.statement.content r.same in (c.0, subst (Says Name ss text) c.1 (says Name ss text r))
 
 of_words : (c : Content) → is_same Words (subject c) ≡ true → (ds : List ℕ) × (c ≡ words ds)
-of_words (version ds) e = (let z : ⊥ = cc in absurd z)
-of_words (name b) e = (let z : ⊥ = cc in absurd z)
 of_words (words ds) e = (ds, refl)
-of_words (bits ds) e = (let z : ⊥ = cc in absurd z)
-of_words (scramble i ts) e = (let z : ⊥ = cc in absurd z)
-of_words log e = (let z : ⊥ = cc in absurd z)
-of_words (backgrounds ws) e = (let z : ⊥ = cc in absurd z)
+of_words c e = (let z : ⊥ = cc in absurd z)
 
 pub words_stated : (ss : List Statement) (text : List ℕ) → Stated Words ss text → (ds : List ℕ) × Says Words ss text (words ds)
 words_stated ss text r = let c = of_words r.statement.content r.same in (c.0, subst (Says Words ss text) c.1 (says Words ss text r))
 
 of_bits : (c : Content) → is_same Bits (subject c) ≡ true → (ds : List ℕ) × (c ≡ bits ds)
-of_bits (version ds) e = (let z : ⊥ = cc in absurd z)
-of_bits (name b) e = (let z : ⊥ = cc in absurd z)
-of_bits (words ds) e = (let z : ⊥ = cc in absurd z)
 of_bits (bits ds) e = (ds, refl)
-of_bits (scramble i ts) e = (let z : ⊥ = cc in absurd z)
-of_bits log e = (let z : ⊥ = cc in absurd z)
-of_bits (backgrounds ws) e = (let z : ⊥ = cc in absurd z)
+of_bits c e = (let z : ⊥ = cc in absurd z)
 
 pub bits_stated : (ss : List Statement) (text : List ℕ) → Stated Bits ss text → (ds : List ℕ) × Says Bits ss text (bits ds)
 bits_stated ss text r = let c = of_bits r.statement.content r.same in (c.0, subst (Says Bits ss text) c.1 (says Bits ss text r))
 
+of_latency : (c : Content) → is_same Latency (subject c) ≡ true → (ds : List ℕ) × (c ≡ latency ds)
+of_latency (latency ds) e = (ds, refl)
+of_latency c e = (let z : ⊥ = cc in absurd z)
+
+pub latency_stated : (ss : List Statement) (text : List ℕ) → Stated Latency ss text → (ds : List ℕ) × Says Latency ss text (latency ds)
+latency_stated ss text r = let c = of_latency r.statement.content r.same in (c.0, subst (Says Latency ss text) c.1 (says Latency ss text r))
+
+of_polarity : (c : Content) → is_same Polarity (subject c) ≡ true → (ds : List ℕ) × (c ≡ polarity ds)
+of_polarity (polarity ds) e = (ds, refl)
+of_polarity c e = (let z : ⊥ = cc in absurd z)
+
+pub polarity_stated : (ss : List Statement) (text : List ℕ) → Stated Polarity ss text → (ds : List ℕ) × Says Polarity ss text (polarity ds)
+polarity_stated ss text r = let c = of_polarity r.statement.content r.same in (c.0, subst (Says Polarity ss text) c.1 (says Polarity ss text r))
+
+of_pause : (c : Content) → is_same Pause (subject c) ≡ true → (ds : List ℕ) × (c ≡ pause ds)
+of_pause (pause ds) e = (ds, refl)
+of_pause c e = (let z : ⊥ = cc in absurd z)
+
+pub pause_stated : (ss : List Statement) (text : List ℕ) → Stated Pause ss text → (ds : List ℕ) × Says Pause ss text (pause ds)
+pause_stated ss text r = let c = of_pause r.statement.content r.same in (c.0, subst (Says Pause ss text) c.1 (says Pause ss text r))
+
 pub of_backgrounds : (c : Content) → is_same Backgrounds (subject c) ≡ true → kind_of c ≡ BackgroundsKey
-of_backgrounds (version ds) e = (let z : ⊥ = cc in absurd z)
-of_backgrounds (name b) e = (let z : ⊥ = cc in absurd z)
-of_backgrounds (words ds) e = (let z : ⊥ = cc in absurd z)
-of_backgrounds (bits ds) e = (let z : ⊥ = cc in absurd z)
-of_backgrounds (scramble i ts) e = (let z : ⊥ = cc in absurd z)
 of_backgrounds log e = refl
 of_backgrounds (backgrounds ws) e = refl
+of_backgrounds c e = (let z : ⊥ = cc in absurd z)
 
 unstated_by : (o : Option Statement) → StandsAt None o → content_of o ≡ None
 unstated_by None h = refl

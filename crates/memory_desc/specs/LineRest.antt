@@ -4,19 +4,21 @@ use Rattle.std.specs.List.{list_all}
 use Rattle.bist_text.specs.Grammar.{word}
 use Rattle.memory_desc.specs.Names.{is_digit, is_name_byte}
 use Rattle.memory_desc.specs.declared.line_place.Key.{Key}
-use Rattle.memory_desc.specs.declared.line_place.Key.TheVariants.{Memory, Name, Bits, Scramble, Backgrounds}
+use Rattle.memory_desc.specs.declared.line_place.Key.TheVariants.{Memory, Name, Bits, Polarity, Pause, Scramble, Backgrounds}
+use Rattle.memory_desc.specs.declared.line_place.Version.{Version}
 use Rattle.memory_desc.specs.declared.line_place.Place.{Place}
-use Rattle.memory_desc.specs.declared.line_place.Place.TheVariants.{Opening, Begin, Remark, LetterB, Letters, Wanted, Number, Name as InName, RowNumber, RowEnd, Term as AtTerm, TermNumber, TermEnd, LetterL, LetterO, Hex, HexEnd, End}
-use Rattle.memory_desc.specs.LineText.{Term, Content, kind_of, is_hex, is_word, is_term, is_formed, space, gap, tail, term_text, more_terms, equation, more_words, argument, key_text, ContentText}
+use Rattle.memory_desc.specs.declared.line_place.Place.TheVariants.{Opening, Begin, Remark, LetterB, LetterP, Letters, Wanted, Number, Name as InName, RowNumber, RowEnd, Term as AtTerm, TermNumber, TermEnd, LetterL, LetterO, Hex, HexEnd, End}
+use Rattle.memory_desc.specs.LinePlaces.{is_digit_of, most_digits}
+use Rattle.memory_desc.specs.LineText.{Term, Content, kind_of, in_table, is_hex, is_word, is_term, is_formed, space, gap, tail, term_text, more_terms, equation, more_words, argument, key_text, ContentText}
 
 -- a line without content, or a content line of a kind that is allowed
 abbrev pub LineOf : (Key → Type 0) → List ℕ → Option Key → Type 0
 LineOf allowed b v =
     ((v ≡ None) × tail b) ⊎ ((c : Content) × allowed (kind_of c) × (v ≡ Some (kind_of c)) × ContentText b c)
 
--- a line of any kind
-abbrev pub KindText : List ℕ → Option Key → Type 0
-KindText b v = LineOf (λ _. Unit {0}) b v
+-- a line of a version's table
+abbrev pub KindText : Version → List ℕ → Option Key → Type 0
+KindText version b v = LineOf (λ k. in_table version k ≡ true) b v
 
 -- a line that may only be a `memory` line
 abbrev pub OpeningText : List ℕ → Option Key → Type 0
@@ -51,14 +53,17 @@ HexWords follows b = (ws : List (List ℕ)) × (list_all is_word ws ≡ true) ×
 
 abbrev pub rest : Place → List ℕ → Option Key → Type 0
 rest Opening b v = OpeningText b v
-rest Begin b v = KindText b v
+rest (Begin version) b v = KindText version b v
 rest (Remark key) b v = v ≡ key
 rest LetterB b v =
     ((v ≡ Some Bits) × Of Bits (λ c. word (codes "its") (gap (argument c tail))) b)
     ⊎ ((v ≡ Some Backgrounds) × Of Backgrounds (λ c. word (codes "ackgrounds") (gap (argument c tail))) b)
+rest LetterP b v =
+    ((v ≡ Some Polarity) × Of Polarity (λ c. word (codes "olarity") (gap (argument c tail))) b)
+    ⊎ ((v ≡ Some Pause) × Of Pause (λ c. word (codes "ause") (gap (argument c tail))) b)
 rest (Letters key n) b v = (v ≡ Some key) × Of key (λ c. word (drop n (key_text key)) (gap (argument c tail))) b
 rest (Wanted key) b v = (v ≡ Some key) × Of key (λ c. space (argument c tail)) b
-rest (Number key n) b v = (v ≡ Some key) × Run is_digit 9 n tail b
+rest (Number key n) b v = (v ≡ Some key) × Run (is_digit_of key) (most_digits key) n tail b
 rest InName b v = (v ≡ Some Name) × Names tail b
 rest (RowNumber n) b v = (v ≡ Some Scramble) × Terms (λ ts. Run is_digit 9 n (equation ts tail)) b
 rest RowEnd b v = (v ≡ Some Scramble) × Terms (λ ts. equation ts tail) b

@@ -4,7 +4,9 @@ use Rattle.std.specs.List.{list_all}
 use Rattle.bist_text.specs.Grammar.{byte, word, many, when, is_blank}
 use Rattle.memory_desc.specs.Names.{is_digit, is_identifier}
 use Rattle.memory_desc.specs.declared.line_place.Key.{Key}
-use Rattle.memory_desc.specs.declared.line_place.Key.TheVariants.{Memory, Name, Words, Bits, Scramble, Backgrounds}
+use Rattle.memory_desc.specs.declared.line_place.Key.TheVariants.{Memory, Name, Words, Bits, Latency, Polarity, Pause, Scramble, Backgrounds}
+use Rattle.memory_desc.specs.declared.line_place.Version.{Version}
+use Rattle.memory_desc.specs.declared.line_place.Version.TheVariants.{One, Two}
 
 -- a term of a scrambling row: an index bit, by its digits, or a constant
 pub data Term : Type 0 where
@@ -17,6 +19,9 @@ pub data Content : Type 0 where
   name : List ℕ → Content
   words : List ℕ → Content
   bits : List ℕ → Content
+  latency : List ℕ → Content
+  polarity : List ℕ → Content
+  pause : List ℕ → Content
   scramble : List ℕ → List Term → Content
   log : Content
   backgrounds : List (List ℕ) → Content
@@ -26,9 +31,20 @@ kind_of (version ds) = Memory
 kind_of (name b) = Name
 kind_of (words ds) = Words
 kind_of (bits ds) = Bits
+kind_of (latency ds) = Latency
+kind_of (polarity w) = Polarity
+kind_of (pause ds) = Pause
 kind_of (scramble i ts) = Scramble
 kind_of log = Backgrounds
 kind_of (backgrounds ws) = Backgrounds
+
+-- the lines that a version's table has: latencies, polarities and pauses came with version 2
+abbrev pub in_table : Version → Key → Bool
+in_table Two key = true
+in_table One Latency = false
+in_table One Polarity = false
+in_table One Pause = false
+in_table One key = true
 
 abbrev pub is_hex : ℕ → Bool
 is_hex c = is_digit c || (nat_le 97 c && nat_le c 102) || (nat_le 65 c && nat_le c 70)
@@ -51,6 +67,9 @@ is_formed (version ds) = is_number ds
 is_formed (name b) = is_identifier b
 is_formed (words ds) = is_number ds
 is_formed (bits ds) = is_number ds
+is_formed (latency ds) = is_number ds
+is_formed (polarity w) = is_word w
+is_formed (pause ds) = is_number ds
 is_formed (scramble i ts) = is_number i && list_all is_term ts
 is_formed log = true
 is_formed (backgrounds ws) = list_all is_word ws
@@ -98,6 +117,9 @@ argument (version ds) K b = word ds K b
 argument (name n) K b = word n K b
 argument (words ds) K b = word ds K b
 argument (bits ds) K b = word ds K b
+argument (latency ds) K b = word ds K b
+argument (polarity w) K b = word w K b
+argument (pause ds) K b = word ds K b
 argument (scramble i ts) K b = word (97 ∷ i) (equation ts K) b
 argument log K b = word (codes "log") K b
 argument (backgrounds []) K b = ⊥
@@ -108,6 +130,9 @@ key_text Memory = codes "memory"
 key_text Name = codes "name"
 key_text Words = codes "words"
 key_text Bits = codes "bits"
+key_text Latency = codes "latency"
+key_text Polarity = codes "polarity"
+key_text Pause = codes "pause"
 key_text Scramble = codes "scramble"
 key_text Backgrounds = codes "backgrounds"
 

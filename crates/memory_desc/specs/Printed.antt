@@ -73,9 +73,29 @@ name_line name = codes "name " ++ (name ++ (10 ∷ []))
 abbrev pub size_lines : ℕ → ℕ → List ℕ
 size_lines words bits = number_line (codes "words ") words ++ number_line (codes "bits ") bits
 
-abbrev pub head_lines : Description → List ℕ
-head_lines d = codes "memory 1" ++ (10 ∷ (name_line d.name ++ size_lines d.words d.bits))
+-- version 1 can say it: the latency and the pause are one cycle, and no bit is stored inverted
+abbrev pub is_plain : Description → Bool
+is_plain d = (d.latency == 1) && (d.polarity == 0) && (d.pause == 1)
 
--- the printed form: the version, the name, the words, the bits, the scrambling unless it is the identity, and the backgrounds
+abbrev pub version_text : Bool → List ℕ
+version_text true = codes "memory 1"
+version_text false = codes "memory 2"
+
+abbrev pub head_lines : Description → List ℕ
+head_lines d = version_text (is_plain d) ++ (10 ∷ (name_line d.name ++ size_lines d.words d.bits))
+
+-- the polarity, in as many digits as the word needs
+abbrev pub polarity_line : ℕ → ℕ → List ℕ
+polarity_line bits word = codes "polarity " ++ (hex_digits ((bits + 3) / 4) word ++ (10 ∷ []))
+
+abbrev pub port_lines : Description → List ℕ
+port_lines d = number_line (codes "latency ") d.latency ++ (polarity_line d.bits d.polarity ++ number_line (codes "pause ") d.pause)
+
+-- what version 2 says besides
+abbrev pub later_lines : Description → List ℕ
+later_lines d = if is_plain d then [] else port_lines d
+
+-- the printed form: the version, 1 where it can say it, the name, the words and the bits, in version 2 the latency, the polarity
+-- and the pause, the scrambling unless it is the identity, and the backgrounds
 abbrev pub printed : Description → List ℕ
-printed d = head_lines d ++ (scramble_lines d.scramble ++ backgrounds_line d.bits d.backgrounds)
+printed d = head_lines d ++ (later_lines d ++ (scramble_lines d.scramble ++ backgrounds_line d.bits d.backgrounds))

@@ -4,7 +4,7 @@ use Rattle.std.specs.Str.Parse.{digits_value}
 use Rattle.bist_text.specs.declared.text_lines.Line.{Line}
 use Rattle.scrambler.specs.declared.matrix.Matrix.{Matrix}
 use Rattle.scrambler.specs.Scrambling.{matrix_of}
-use Rattle.memory_desc.specs.LineText.{Term, index_bit, constant, Content, words, bits, version, scramble, log, ContentText}
+use Rattle.memory_desc.specs.LineText.{Term, index_bit, constant, Content, words, bits, latency, pause, version, scramble, log, ContentText}
 use Rattle.memory_desc.specs.Statements.{Statement}
 use Rattle.memory_desc.specs.Subjects.{subject, about, said}
 use Rattle.memory_desc.specs.Values.{index_bits, constant_of, word_values, matrix_said}
@@ -24,6 +24,8 @@ abbrev pub digits_in : Content → Option (List ℕ)
 digits_in (version ds) = Some ds
 digits_in (words ds) = Some ds
 digits_in (bits ds) = Some ds
+digits_in (latency ds) = Some ds
+digits_in (pause ds) = Some ds
 digits_in other = None
 
 abbrev pub is_log : Content → Bool

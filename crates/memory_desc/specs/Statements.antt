@@ -1,8 +1,11 @@
 -- What the lines of a description say.
-use Rattle.std.specs.Prelude.{◌≡◌, ℕ, ◌++◌, ◌∷◌, [], List, Option, Some, None}
+use Rattle.std.specs.Prelude.{◌≡◌, ◌==◌, ℕ, Bool, true, if◌then◌else◌, ◌++◌, ◌∷◌, [], List, Option, Some, None}
+use Rattle.std.specs.List.{list_all}
 use Rattle.std.specs.Str.Parse.{digits_value}
 use Rattle.bist_text.specs.Lines.{TextLine}
-use Rattle.memory_desc.specs.LineText.{Content, version, LineText}
+use Rattle.memory_desc.specs.declared.line_place.Version.{Version}
+use Rattle.memory_desc.specs.declared.line_place.Version.TheVariants.{One, Two}
+use Rattle.memory_desc.specs.LineText.{Content, version, kind_of, in_table, ContentText, LineText}
 
 -- a content line: its number, and what it says
 pub record Statement : Type 0 where
@@ -18,11 +21,36 @@ abbrev pub Say : List TextLine → List Statement → Type 0
 Say [] ss = ss ≡ []
 Say (l ∷ ls) ss = (v : Option Content) × (more : List Statement) × LineText l.text v × Say ls more × (ss ≡ stated l.number v ++ more)
 
+-- the version of a number
+abbrev pub version_of : ℕ → Option Version
+version_of n = if n == 1 then Some One else if n == 2 then Some Two else None
+
+-- a `memory` line
+abbrev pub IsVersionLine : List ℕ → Type 0
+IsVersionLine b = (ds : List ℕ) × ContentText b (version ds)
+
+-- a `memory` line, and the version of its number, where it has one
+abbrev pub GivesVersion : List ℕ → Option Version → Type 0
+GivesVersion b v = (ds : List ℕ) × ContentText b (version ds) × (version_of (digits_value 10 ds) ≡ v)
+
 -- the version that the first statement gives, where it is one
-abbrev pub version_in : Content → Option ℕ
-version_in (version ds) = Some (digits_value 10 ds)
+abbrev pub version_in : Content → Option Version
+version_in (version ds) = version_of (digits_value 10 ds)
 version_in c = None
 
-abbrev pub first_version : List Statement → Option ℕ
+abbrev pub first_version : List Statement → Option Version
 first_version [] = None
 first_version (s ∷ ss) = version_in s.content
+
+-- a line without content is of any version
+abbrev pub is_line_of : Version → Option Content → Bool
+is_line_of v None = true
+is_line_of v (Some c) = in_table v (kind_of c)
+
+abbrev pub is_said_in : Version → Statement → Bool
+is_said_in v s = in_table v (kind_of s.content)
+
+-- the first statement gives this version, and each is of its table
+pub record IsOfVersion (ss : List Statement) (v : Version) : Type 0 where
+  pub first : first_version ss ≡ Some v
+  pub tabled : list_all (is_said_in v) ss ≡ true

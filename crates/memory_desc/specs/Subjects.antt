@@ -1,16 +1,19 @@
 -- What statements speak of, and the statements about something.
 use Rattle.std.specs.Prelude.{◌==◌, Bool, true, false, List, Option, Some, None, find}
 use Rattle.std.specs.Str.Parse.{digits_value}
-use Rattle.memory_desc.specs.LineText.{Content, version, name, words, bits, scramble, log, backgrounds}
+use Rattle.memory_desc.specs.LineText.{Content, version, name, words, bits, latency, polarity, pause, scramble, log, backgrounds}
 use Rattle.memory_desc.specs.Statements.{Statement}
 use Rattle.memory_desc.specs.declared.content.Subject.{Subject}
-use Rattle.memory_desc.specs.declared.content.Subject.TheVariants.{Version, Name, Words, Bits, Row, Backgrounds}
+use Rattle.memory_desc.specs.declared.content.Subject.TheVariants.{Version, Name, Words, Bits, Latency, Polarity, Pause, Row, Backgrounds}
 
 abbrev pub subject : Content → Subject
 subject (version ds) = Version
 subject (name b) = Name
 subject (words ds) = Words
 subject (bits ds) = Bits
+subject (latency ds) = Latency
+subject (polarity w) = Polarity
+subject (pause ds) = Pause
 subject (scramble i ts) = Row (digits_value 10 i)
 subject log = Backgrounds
 subject (backgrounds ws) = Backgrounds
@@ -20,6 +23,9 @@ is_same Version Version = true
 is_same Name Name = true
 is_same Words Words = true
 is_same Bits Bits = true
+is_same Latency Latency = true
+is_same Polarity Polarity = true
+is_same Pause Pause = true
 is_same (Row i) (Row j) = i == j
 is_same Backgrounds Backgrounds = true
 is_same q r = false

@@ -6,16 +6,17 @@ use Rattle.std.specs.Str.Parse.{digits_value}
 use Rattle.bist_bits.specs.Width.{IsWidthOf}
 use Rattle.bist_text.specs.Lines.{text_lines}
 use Rattle.scrambler.specs.Scrambling.{Scrambling, IsInvertible, IsLeastDependence, identity}
-use Rattle.memory_desc.specs.Descriptions.{Description}
-use Rattle.memory_desc.specs.LineText.{Term, index_bit, constant, Content, name, words, bits, scramble, backgrounds}
+use Rattle.memory_desc.specs.Descriptions.{Description, assembled}
+use Rattle.memory_desc.specs.LineText.{Term, index_bit, constant, Content, name, words, bits, latency, polarity, pause, scramble, backgrounds}
 use Rattle.memory_desc.specs.LineFaults.{AreRefused}
 use Rattle.memory_desc.specs.Names.{is_among, reserved_words}
-use Rattle.memory_desc.specs.Statements.{Statement, Say, first_version}
+use Rattle.memory_desc.specs.Statements.{Statement, Say, IsOfVersion}
 use Rattle.memory_desc.specs.Subjects.{subject, about, said}
-use Rattle.memory_desc.specs.Values.{name_said, words_said, bits_said, matrix_said, AreBackgrounds}
+use Rattle.memory_desc.specs.Values.{name_said, words_said, bits_said, latency_said, polarity_said, pause_said, matrix_said, AreBackgrounds}
 use Rattle.memory_desc.specs.declared.content.Subject.{Subject}
 use Rattle.memory_desc.specs.declared.content.Subject.TheVariants.{Name, Words, Bits, Row, Backgrounds}
 use Rattle.memory_desc.specs.declared.fault.Field.{Field}
+use Rattle.memory_desc.specs.declared.line_place.Version.{Version}
 use Rattle.memory_desc.specs.declared.fault.Field.TheVariants.{Name as NameField, Words as WordsField, Bits as BitsField, Row as RowField}
 use Rattle.memory_desc.specs.declared.fault.MemoryFault.{MemoryFault}
 use Rattle.memory_desc.specs.declared.fault.MemoryFault.TheVariants.{Repeated, Missing, OutOfRange, Singular, ScrambleNeedsPowerOfTwo, NoSolidBackground, TooManyBackgrounds}
@@ -46,12 +47,14 @@ unless_there fault (Some x) = None
 abbrev pub missing : Subject → Field → List Statement → Option MemoryFault
 missing q field ss = unless_there (Missing field) (about q ss)
 
--- ---- D5: a name, a number of words or of bits outside its range
+-- ---- D5: a name, a number of words or of bits, a latency or a pause outside its range
 
 abbrev pub is_out_of_range : Content → Bool
 is_out_of_range (name b) = nat_lt 48 (length b) || is_among b reserved_words
 is_out_of_range (words ds) = nat_lt (digits_value 10 ds) 2 || nat_lt 65536 (digits_value 10 ds)
 is_out_of_range (bits ds) = nat_lt (digits_value 10 ds) 1 || nat_lt 64 (digits_value 10 ds)
+is_out_of_range (latency ds) = nat_lt (digits_value 10 ds) 1 || nat_lt 4 (digits_value 10 ds)
+is_out_of_range (pause ds) = nat_lt (digits_value 10 ds) 1 || nat_lt 65535 (digits_value 10 ds)
 is_out_of_range other = false
 
 abbrev pub out_of_range : List Statement → Option MemoryFault
@@ -69,7 +72,7 @@ is_scrambled ss = list_any (λ s. is_row s.content) ss
 abbrev pub unscramblable : List Statement → Option MemoryFault
 unscramblable ss = if is_scrambled ss && not (is_power_of_two (words_said ss)) then Some ScrambleNeedsPowerOfTwo else None
 
--- ---- D5: a row or an index bit past the address, or a background past the word
+-- ---- D5: a row or an index bit past the address, or a background or a polarity past the word
 
 abbrev pub is_term_past : ℕ → Term → Bool
 is_term_past width (index_bit ds) = nat_le width (digits_value 10 ds)
@@ -78,6 +81,7 @@ is_term_past width (constant b) = false
 abbrev pub is_past : ℕ → ℕ → Content → Bool
 is_past width size (scramble i ts) = nat_le width (digits_value 10 i) || list_any (is_term_past width) ts
 is_past width size (backgrounds ws) = list_any (λ w. nat_le (2 ^ size) (digits_value 16 w)) ws
+is_past width size (polarity w) = nat_le (2 ^ size) (digits_value 16 w)
 is_past width size other = false
 
 abbrev pub past : List Statement → ℕ → ℕ → Option MemoryFault
@@ -131,6 +135,10 @@ Tests ss r = Chooses (said Backgrounds ss) (bits_said ss) r
 
 -- ---- the whole
 
+-- a memory of this scrambling and these backgrounds
+abbrev pub described : List Statement → Scrambling → List ℕ → Description
+described ss s set = assembled (name_said ss) (words_said ss) (bits_said ss) (latency_said ss) (polarity_said ss) (pause_said ss) s set
+
 -- the memory of a name, a number of words and a number of bits
 abbrev pub Builds : List Statement → ℕ → Result Description MemoryFault → Type 0
 Builds ss width r =
@@ -138,7 +146,7 @@ Builds ss width r =
     Unless (past ss width (bits_said ss)) r (
     (scrambling : Result Scrambling MemoryFault) × Scrambles ss width scrambling × MatchResult scrambling (λ s.
     (tests : Result (List ℕ) MemoryFault) × Tests ss tests × MatchResult tests (λ set.
-    r ≡ Ok (record { name = name_said ss; words = words_said ss; bits = bits_said ss; scramble = s; backgrounds = set }))
+    r ≡ Ok (described ss s set))
     (λ fault. r ≡ Err fault))
     (λ fault. r ≡ Err fault)))
 
@@ -152,9 +160,9 @@ Describes ss r =
     Unless (out_of_range ss) r (
     (width : ℕ) × IsWidthOf (words_said ss - 1) width × Builds ss width r)))))
 
--- the statements of a text's lines, of which the first is version 1
+-- the statements of a text's lines, of which the first is version 1 or 2, and each is of its version's table
 abbrev pub AreStatements : List ℕ → List Statement → Type 0
-AreStatements bytes ss = Say (text_lines bytes) ss × (first_version ss ≡ Some 1)
+AreStatements bytes ss = Say (text_lines bytes) ss × ((version : Version) × IsOfVersion ss version)
 
 -- What a text is read as: a line is refused, or its statements describe a memory or are refused.
 abbrev pub Reads : List ℕ → Result Description MemoryFault → Type 0

@@ -5,10 +5,10 @@ use Rattle.std.specs.Str.Parse.{digits_value}
 use Rattle.backgrounds.specs.Backgrounds.{IsLogSet}
 use Rattle.scrambler.specs.Linear.{number}
 use Rattle.scrambler.specs.Scrambling.{Scrambling}
-use Rattle.memory_desc.specs.LineText.{Term, index_bit, constant, Content, name, words, bits, scramble, backgrounds}
+use Rattle.memory_desc.specs.LineText.{Term, index_bit, constant, Content, name, words, bits, latency, polarity, pause, scramble, backgrounds}
 use Rattle.memory_desc.specs.Statements.{Statement}
 use Rattle.memory_desc.specs.Subjects.{said}
-use Rattle.memory_desc.specs.declared.content.Subject.TheVariants.{Name, Words, Bits, Row}
+use Rattle.memory_desc.specs.declared.content.Subject.TheVariants.{Name, Words, Bits, Latency, Polarity, Pause, Row}
 
 -- ---- names and numbers
 
@@ -29,6 +29,28 @@ words_said ss = number_in (said Words ss)
 
 abbrev pub bits_said : List Statement → ℕ
 bits_said ss = number_in (said Bits ss)
+
+-- where nothing is said of them, the latency and the pause are one cycle, and no bit is stored inverted
+abbrev pub latency_in : Option Content → ℕ
+latency_in (Some (latency ds)) = digits_value 10 ds
+latency_in other = 1
+
+abbrev pub polarity_in : Option Content → ℕ
+polarity_in (Some (polarity w)) = digits_value 16 w
+polarity_in other = 0
+
+abbrev pub pause_in : Option Content → ℕ
+pause_in (Some (pause ds)) = digits_value 10 ds
+pause_in other = 1
+
+abbrev pub latency_said : List Statement → ℕ
+latency_said ss = latency_in (said Latency ss)
+
+abbrev pub polarity_said : List Statement → ℕ
+polarity_said ss = polarity_in (said Polarity ss)
+
+abbrev pub pause_said : List Statement → ℕ
+pause_said ss = pause_in (said Pause ss)
 
 -- ---- rows
 

@@ -4,7 +4,7 @@ ghost use Rattle.std.specs.Prelude.{◌≡◌, ◌+◌, ◌<◌, ◌^◌, List, 
 ghost use Rattle.std.specs.List.{list_all, take_while};
 ghost use Rattle.std.specs.Str.Parse.{digits_value};
 ghost use Rattle.memory_desc.specs.Names.{is_digit};
-ghost use Rattle.memory_desc.specs.LineText.{Content, Term, name, scramble, backgrounds, kind_of, is_number, is_word, is_term, term_text, more_terms, equation, argument, tail, ContentText, LineText};
+ghost use Rattle.memory_desc.specs.LineText.{Content, Term, name, polarity, scramble, backgrounds, kind_of, is_number, is_word, is_term, term_text, more_terms, equation, argument, tail, ContentText, LineText};
 ghost use Rattle.memory_desc.specs.LineRest.{words_left};
 ghost use Rattle.memory_desc.specs.Standing.{digits_in, is_log, subject_in, IsRow, AreWords};
 ghost use Rattle.memory_desc.specs.ContentParts.{after, IsTerm, terms_left, NextTerm, Gathers, NextWord, Collects};
@@ -12,7 +12,7 @@ ghost use Rattle.bist_text.specs.Cursors.{left_of};
 ghost use Rattle.bist_text.specs.Grammar.{word, is_blank};
 ghost use Rattle.bist_text.specs.Numbers.{IsNumber};
 
-use crate::line_place::Key;
+use crate::line_place::{Key, Version};
 use crate::line_reader::read_line;
 use arrayvec::ArrayVec;
 use bist_text::{ByteSet, Cursor, decimal, hex};
@@ -49,6 +49,9 @@ pub enum Subject {
     Name,
     Words,
     Bits,
+    Latency,
+    Polarity,
+    Pause,
     /// The row of a bit of the address.
     Row(u32),
     Backgrounds,
@@ -119,11 +122,18 @@ fn number(cursor: &mut Cursor<'_>) -> u32
     decimal(cursor.take_while(DIGITS)).unwrap_or(0)
 }
 
-/// The number of a `memory`, `words` or `bits` line.
+/// The number of a `memory`, `words`, `bits`, `latency` or `pause` line.
 pub fn number_of(text: &[u8]) -> u32
     ensures { (c : Content) (ds : List ℕ) → ContentText text.now c → digits_in c ≡ Some ds → result ≡ digits_value 10 ds }
 {
     number(&mut behind_key(text))
+}
+
+/// The word of a `polarity` line.
+pub fn polarity_of(text: &[u8]) -> u64
+    ensures { (w : List ℕ) → ContentText text.now (polarity w) → result ≡ digits_value 16 w }
+{
+    hex(behind_key(text).take_while(HEX_DIGITS)).unwrap_or(0)
 }
 
 /// The name of a `name` line.
@@ -270,11 +280,14 @@ fn with_word(mut words: Words, word: u64) -> Words
 pub fn subject_of(text: &[u8]) -> Option<Subject>
     ensures { (v : Option Content) → LineText text.now v → result ≡ subject_in v }
 {
-    match read_line(text) {
+    match read_line(text, Version::Two) {
         Ok(Some(Key::Memory)) => Some(Subject::Version),
         Ok(Some(Key::Name)) => Some(Subject::Name),
         Ok(Some(Key::Words)) => Some(Subject::Words),
         Ok(Some(Key::Bits)) => Some(Subject::Bits),
+        Ok(Some(Key::Latency)) => Some(Subject::Latency),
+        Ok(Some(Key::Polarity)) => Some(Subject::Polarity),
+        Ok(Some(Key::Pause)) => Some(Subject::Pause),
         Ok(Some(Key::Scramble)) => Some(Subject::Row(row_of(text).bit)),
         Ok(Some(Key::Backgrounds)) => Some(Subject::Backgrounds),
         Ok(None) => None,

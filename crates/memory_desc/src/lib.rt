@@ -12,6 +12,7 @@ mod names;
 mod print;
 mod read;
 mod search;
+mod timing;
 
 pub use fault::{Field, MemoryFault};
 pub use memory::Memory;

@@ -2,7 +2,7 @@ ghost use Rattle.std.specs.Prelude.{◌≡◌, ◌≤◌, length, slice_get};
 ghost use Rattle.memory_desc.specs.Names.{is_letter, is_digit, is_name_byte};
 ghost use Rattle.memory_desc.specs.LineText.{is_hex, key_text};
 ghost use Rattle.bist_text.specs.Grammar.{is_blank};
-ghost use Rattle.memory_desc.specs.LinePlaces.{step, value, argument_begun, begun, ended, letter_of, opened, row_ended, term_ended, word_ended};
+ghost use Rattle.memory_desc.specs.LinePlaces.{step, value, argument_begun, begun, content_begun, ended, is_digit_of, later_begun, letter_begun, letter_of, most_digits, opened, row_ended, term_ended, word_ended};
 
 /// The kinds of content lines, by their first word.
 #[derive(Clone, Copy, Debug, PartialEq, Eq)]
@@ -11,8 +11,18 @@ pub enum Key {
     Name,
     Words,
     Bits,
+    Latency,
+    Polarity,
+    Pause,
     Scramble,
     Backgrounds,
+}
+
+/// The versions of the form. Version 2 has lines for the latency, the polarity and the pause besides.
+#[derive(Clone, Copy, Debug, PartialEq, Eq)]
+pub enum Version {
+    One,
+    Two,
 }
 
 /// Where in a line a reader stands. A number counts the bytes of a word or a number that are read.
@@ -20,12 +30,14 @@ pub enum Key {
 pub enum Place {
     /// Before a line that may only be a `memory` line.
     Opening,
-    /// Before any line.
-    Begin,
+    /// Before any line of a version.
+    Begin(Version),
     /// In a comment, behind a content line of a kind or none.
     Remark(Option<Key>),
     /// Behind the `b` of `bits` or `backgrounds`.
     LetterB,
+    /// Behind the `p` of `polarity` or `pause`.
+    LetterP,
     Letters(Key, u8),
     /// Behind a first word and a blank.
     Wanted(Key),
@@ -77,17 +89,43 @@ pub fn is_hex(byte: u8) -> bool
     is_digit(byte) || (byte >= b'a' && byte <= b'f') || (byte >= b'A' && byte <= b'F')
 }
 
+/// Whether a byte is a digit of the number that a line of a kind has. A polarity is a word.
+fn is_digit_of(key: Key, byte: u8) -> bool
+    ensures { result ≡ is_digit_of key byte }
+{
+    match key {
+        Key::Polarity => is_hex(byte),
+        _ => is_digit(byte),
+    }
+}
+
+/// How many digits that number may have.
+fn most_digits(key: Key) -> u8
+    ensures count { result ≡ most_digits key }
+    ensures few { result ≤ 16 }
+{
+    match key {
+        Key::Polarity => 16,
+        _ => 9,
+    }
+}
+
 /// The place behind one more byte; None where the line can't go on so.
 pub fn place_after(place: Place, byte: u8) -> Option<Place>
     ensures { result ≡ step place byte }
 {
     match place {
         Place::Opening => opening(byte),
-        Place::Begin => begin(byte),
+        Place::Begin(version) => begin(version, byte),
         Place::Remark(key) => Some(Place::Remark(key)),
         Place::LetterB => match byte {
             b'i' => Some(Place::Letters(Key::Bits, 2)),
             b'a' => Some(Place::Letters(Key::Backgrounds, 2)),
+            _ => None,
+        },
+        Place::LetterP => match byte {
+            b'o' => Some(Place::Letters(Key::Polarity, 2)),
+            b'a' => Some(Place::Letters(Key::Pause, 2)),
             _ => None,
         },
         Place::Letters(key, count) => letter(key, count, byte),
@@ -99,7 +137,7 @@ pub fn place_after(place: Place, byte: u8) -> Option<Place>
             }
         }
         Place::Number(key, count) => {
-            if is_digit(byte) && count < 9 {
+            if is_digit_of(key, byte) && count < most_digits(key) {
                 Some(Place::Number(key, count + 1))
             } else if count == 0 {
                 None
@@ -169,13 +207,42 @@ fn opening(byte: u8) -> Option<Place>
     }
 }
 
-/// A byte before any line.
-fn begin(byte: u8) -> Option<Place>
-    ensures { result ≡ begun byte }
+/// A byte before any line of a version.
+fn begin(version: Version, byte: u8) -> Option<Place>
+    ensures { result ≡ begun version byte }
 {
     match byte {
-        b' ' | b'\t' | b'\r' => Some(Place::Begin),
+        b' ' | b'\t' | b'\r' => Some(Place::Begin(version)),
         b'#' => Some(Place::Remark(None)),
+        _ => first_letter(version, byte),
+    }
+}
+
+fn first_letter(version: Version, byte: u8) -> Option<Place>
+    ensures { result ≡ content_begun version byte }
+{
+    match version {
+        Version::One => letter_of_both(byte),
+        Version::Two => letter_of_two(byte),
+    }
+}
+
+/// The first letter of a line of version 2.
+fn letter_of_two(byte: u8) -> Option<Place>
+    ensures { result ≡ later_begun byte }
+{
+    match byte {
+        b'l' => Some(Place::Letters(Key::Latency, 1)),
+        b'p' => Some(Place::LetterP),
+        _ => letter_of_both(byte),
+    }
+}
+
+/// The first letter of a line that both versions have.
+fn letter_of_both(byte: u8) -> Option<Place>
+    ensures { result ≡ letter_begun byte }
+{
+    match byte {
         b'm' => Some(Place::Letters(Key::Memory, 1)),
         b'n' => Some(Place::Letters(Key::Name, 1)),
         b'w' => Some(Place::Letters(Key::Words, 1)),
@@ -195,6 +262,9 @@ fn key_bytes(key: Key) -> &'static [u8]
         Key::Name => b"name",
         Key::Words => b"words",
         Key::Bits => b"bits",
+        Key::Latency => b"latency",
+        Key::Polarity => b"polarity",
+        Key::Pause => b"pause",
         Key::Scramble => b"scramble",
         Key::Backgrounds => b"backgrounds",
     }
@@ -215,7 +285,10 @@ fn argument(key: Key, byte: u8) -> Option<Place>
     ensures { result ≡ argument_begun key byte }
 {
     match key {
-        Key::Memory | Key::Words | Key::Bits => { is_digit(byte).then_some(Place::Number(key, 1)) }
+        Key::Memory | Key::Words | Key::Bits | Key::Latency | Key::Pause => {
+            is_digit(byte).then_some(Place::Number(key, 1))
+        }
+        Key::Polarity => is_hex(byte).then_some(Place::Number(key, 1)),
         Key::Name => is_letter(byte).then_some(Place::Name),
         Key::Scramble => (byte == b'a').then_some(Place::RowNumber(0)),
         Key::Backgrounds if byte == b'l' => Some(Place::LetterL),
@@ -283,7 +356,7 @@ pub fn kind_at(place: Place) -> Option<Option<Key>>
     ensures { result ≡ value place }
 {
     match place {
-        Place::Opening | Place::Begin => Some(None),
+        Place::Opening | Place::Begin(_) => Some(None),
         Place::Remark(key) => Some(key),
         Place::Number(key, count) => (count != 0).then_some(Some(key)),
         Place::End(key) => Some(Some(key)),
@@ -293,6 +366,7 @@ pub fn kind_at(place: Place) -> Option<Option<Key>>
         Place::Hex(count) => (count != 0).then_some(Some(Key::Backgrounds)),
         Place::HexEnd => Some(Some(Key::Backgrounds)),
         Place::LetterB
+        | Place::LetterP
         | Place::Letters(_, _)
         | Place::Wanted(_)
         | Place::RowNumber(_)

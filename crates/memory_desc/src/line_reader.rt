@@ -8,7 +8,7 @@ ghost use Rattle.memory_desc.specs.LinePlaces.{step, value};
 ghost use Rattle.memory_desc.specs.LineRest.{KindText, OpeningText};
 ghost use Rattle.memory_desc.specs.LineAnswers.{Gives};
 
-use crate::line_place::{Key, Place, kind_at, place_after};
+use crate::line_place::{Key, Place, Version, kind_at, place_after};
 
 /// Why a line is none of a description.
 #[derive(Clone, Copy, Debug, PartialEq, Eq)]
@@ -20,7 +20,6 @@ pub enum LineFault {
 }
 
 /// Goes over a line once, from a place.
-
 fn scanned(text: &[u8], start: Place) -> Result<Option<Key>, LineFault>
     ensures { Gives result (scan step value text.now start 0) }
 {
@@ -34,13 +33,13 @@ fn scanned(text: &[u8], start: Place) -> Result<Option<Key>, LineFault>
     kind_at(place).ok_or(LineFault::Truncated)
 }
 
-/// The kind of a content line, or none of a line without content.
-pub fn read_line(text: &[u8]) -> Result<Option<Key>, LineFault>
-    ensures kind { (k : Option Key) → (result ≡ Ok k) ↔ KindText text.now k }
-    ensures unexpected { (i : ℕ) → (result ≡ Err (LineFault.Unexpected i)) ↔ IsUnexpected KindText text.now i }
-    ensures truncated { (result ≡ Err LineFault.Truncated) ↔ IsTruncated KindText text.now }
+/// The kind of a content line of a version's table, or none of a line without content.
+pub fn read_line(text: &[u8], version: Version) -> Result<Option<Key>, LineFault>
+    ensures kind { (k : Option Key) → (result ≡ Ok k) ↔ KindText version text.now k }
+    ensures unexpected { (i : ℕ) → (result ≡ Err (LineFault.Unexpected i)) ↔ IsUnexpected (KindText version) text.now i }
+    ensures truncated { (result ≡ Err LineFault.Truncated) ↔ IsTruncated (KindText version) text.now }
 {
-    scanned(text, Place::Begin)
+    scanned(text, Place::Begin(version))
 }
 
 /// The same of a line that may only be a `memory` line or one without content.

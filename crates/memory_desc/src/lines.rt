@@ -1,17 +1,19 @@
 //! The lines of a description: each must be one of the table, and the first with content a `memory` line.
 
-ghost use Rattle.std.specs.Prelude.{◌≡◌, ℕ, true, false, List, Option, None, Ok, Err, OnOk, IfOk, IfErr, IsOk, MatchBool};
+ghost use Rattle.std.specs.Prelude.{◌≡◌, true, false, List, Option, Some, None, Ok, Err, OnOk, IfOk, IfErr, IsOk, MatchBool, MatchOption};
 ghost use Rattle.bist_text.specs.Lines.{plain_line, text_lines};
 ghost use Rattle.memory_desc.specs.declared.fault.MemoryFault.{MemoryFault};
-ghost use Rattle.memory_desc.specs.LineText.{Content, version, ContentText, LineText};
+ghost use Rattle.memory_desc.specs.LineText.{Content, LineText};
 ghost use Rattle.memory_desc.specs.LineRest.{KindText, OpeningText};
 ghost use Rattle.memory_desc.specs.LineAnswers.{refusal_at};
-ghost use Rattle.memory_desc.specs.Statements.{Statement};
-ghost use Rattle.memory_desc.specs.LineFaults.{IsLineFault, AreRefused};
+ghost use Rattle.memory_desc.specs.declared.line_place.Version.{Version};
+ghost use Rattle.memory_desc.specs.Statements.{Statement, GivesVersion, IsVersionLine, is_line_of, version_of};
+ghost use Rattle.memory_desc.specs.LineFaults.{IsLineFault, IsOpeningFault, AreRefused};
 ghost use Rattle.memory_desc.specs.Table.{AreStatements};
 
 use crate::content::number_of;
 use crate::fault::MemoryFault;
+use crate::line_place::Version;
 use crate::line_reader::{LineFault, read_line, read_opening};
 use bist_text::{Line, Lines};
 
@@ -34,10 +36,10 @@ fn refused(line: &Line<'_>, fault: LineFault) -> MemoryFault
 
 /// Whether a line has content, where it may only be a `memory` line.
 fn opens(line: &Line<'_>) -> Result<bool, MemoryFault>
-    ensures accepted { IfOk result (λ opened. MatchBool opened ((ds : List ℕ) × ContentText line.now.text.now (version ds)) (LineText line.now.text.now None)) }
+    ensures accepted { IfOk result (λ opened. MatchBool opened (IsVersionLine line.now.text.now) (LineText line.now.text.now None)) }
     ensures refused { IfErr result (IsLineFault OpeningText (plain_line line.now)) }
     ensures without { LineText line.now.text.now None → result ≡ Ok false }
-    ensures accepts { (ds : List ℕ) → ContentText line.now.text.now (version ds) → result ≡ Ok true }
+    ensures accepts { IsVersionLine line.now.text.now → result ≡ Ok true }
     ensures refuses { (fault : MemoryFault) → IsLineFault OpeningText (plain_line line.now) fault → result ≡ Err fault }
 {
     match read_opening(line.text) {
@@ -46,40 +48,64 @@ fn opens(line: &Line<'_>) -> Result<bool, MemoryFault>
     }
 }
 
-/// A line must be one of a description.
-fn check_line(line: &Line<'_>) -> Result<(), MemoryFault>
-    ensures accepted { OnOk result ((v : Option Content) × LineText line.now.text.now v) }
-    ensures refused { IfErr result (IsLineFault KindText (plain_line line.now)) }
-    ensures accepts { (v : Option Content) → LineText line.now.text.now v → IsOk result }
-    ensures refuses { (fault : MemoryFault) → IsLineFault KindText (plain_line line.now) fault → result ≡ Err fault }
+/// The version of a number.
+fn version_from(number: u32) -> Option<Version>
+    ensures { result ≡ version_of number }
 {
-    match read_line(line.text) {
+    match number {
+        1 => Some(Version::One),
+        2 => Some(Version::Two),
+        _ => None,
+    }
+}
+
+/// The version that a line gives, where it may only be a `memory` line; None of a line without content.
+fn opening(line: &Line<'_>) -> Result<Option<Version>, MemoryFault>
+    ensures accepted { IfOk result (λ given. MatchOption given (LineText line.now.text.now None) (λ v. GivesVersion line.now.text.now (Some v))) }
+    ensures refused { IfErr result (IsOpeningFault (plain_line line.now)) }
+    ensures without { LineText line.now.text.now None → result ≡ Ok None }
+    ensures accepts { (v : Version) → GivesVersion line.now.text.now (Some v) → result ≡ Ok (Some v) }
+    ensures refuses { (fault : MemoryFault) → IsOpeningFault (plain_line line.now) fault → result ≡ Err fault }
+{
+    if !opens(line)? {
+        return Ok(None);
+    }
+    match version_from(number_of(line.text)) {
+        Some(version) => Ok(Some(version)),
+        None => Err(MemoryFault::OtherVersion),
+    }
+}
+
+/// A line must be one of a version's table.
+fn check_line(line: &Line<'_>, version: Version) -> Result<(), MemoryFault>
+    ensures accepted { OnOk result ((v : Option Content) × LineText line.now.text.now v × (is_line_of version v ≡ true)) }
+    ensures refused { IfErr result (IsLineFault (KindText version) (plain_line line.now)) }
+    ensures accepts { (v : Option Content) → LineText line.now.text.now v → is_line_of version v ≡ true → IsOk result }
+    ensures refuses { (fault : MemoryFault) → IsLineFault (KindText version) (plain_line line.now) fault → result ≡ Err fault }
+{
+    match read_line(line.text, version) {
         Ok(_) => Ok(()),
         Err(fault) => Err(refused(line, fault)),
     }
 }
 
-/// The first content line must be a `memory` line of version 1, and each later one a line of the table.
+/// The first content line must be a `memory` line of version 1 or 2, and each later one a line of its version's table.
 pub fn check_lines(bytes: &[u8]) -> Result<(), MemoryFault>
     ensures accepted { OnOk result ((ss : List Statement) × AreStatements bytes.now ss) }
     ensures refused { IfErr result (AreRefused (text_lines bytes.now)) }
     ensures accepts { (ss : List Statement) → AreStatements bytes.now ss → IsOk result }
     ensures refuses { (fault : MemoryFault) → AreRefused (text_lines bytes.now) fault → result ≡ Err fault }
 {
-    let mut opened = false;
+    let mut version = None;
     for line in Lines::new(bytes) {
-        if opened {
-            check_line(&line)?;
-        } else if opens(&line)? {
-            if number_of(line.text) != 1 {
-                return Err(MemoryFault::OtherVersion);
-            }
-            opened = true;
+        if let Some(given) = version {
+            check_line(&line, given)?;
+        } else {
+            version = opening(&line)?;
         }
     }
-    if opened {
-        Ok(())
-    } else {
-        Err(MemoryFault::Truncated)
+    match version {
+        Some(_) => Ok(()),
+        None => Err(MemoryFault::Truncated),
     }
 }

@@ -1,28 +1,38 @@
 ghost use Rattle.std.specs.Prelude.{◌≡◌, ℕ, ◌<◌, ◌≤◌, length};
-ghost use Rattle.memory_desc.specs.Descriptions.{IsMemory};
+ghost use Rattle.memory_desc.specs.Descriptions.{IsMemory, assembled};
 
 use arrayvec::{ArrayString, ArrayVec};
 use scrambler::Scramble;
 use std::marker::Model;
 
-/// A memory: its name, its size, how its addresses are scrambled, and the backgrounds of its test.
+/// How many cycles a memory takes to answer a read, and how many a pause has.
+#[derive(Clone, Copy, Debug)]
+pub(crate) struct Timing {
+    pub latency: u8,
+    pub pause: u32,
+}
+
+/// A memory: its name, its size, when it answers, which bits it stores inverted, how its addresses are scrambled, and the
+/// backgrounds and the pauses of its test.
 #[derive(Debug, Drop)]
 pub struct Memory {
     name: ArrayString<48>,
     words: u32,
     bits: u8,
+    timing: Timing,
+    polarity: u64,
     scramble: Scramble,
     backgrounds: ArrayVec<u64, 8>,
 }
 
 impl Model for Memory {
-    ghost use Rattle.memory_desc.specs.Descriptions.{Description, IsMemory};
+    ghost use Rattle.memory_desc.specs.Descriptions.{Description, IsMemory, assembled};
 
     ghost Value = { Description };
 
-    ghost view = { λ m. record { name = m.name.bytes; words = m.words; bits = m.bits; scramble = m.scramble; backgrounds = m.backgrounds.items } };
+    ghost view = { λ m. assembled m.name.bytes m.words m.bits m.timing.latency m.polarity m.timing.pause m.scramble m.backgrounds.items };
 
-    ghost invariant = { λ m. IsMemory (record { name = m.name.bytes; words = m.words; bits = m.bits; scramble = m.scramble; backgrounds = m.backgrounds.items }) };
+    ghost invariant = { λ m. IsMemory (assembled m.name.bytes m.words m.bits m.timing.latency m.polarity m.timing.pause m.scramble m.backgrounds.items) };
 }
 
 impl Memory {
@@ -30,16 +40,20 @@ impl Memory {
         name: ArrayString<48>,
         words: u32,
         bits: u8,
+        timing: Timing,
+        polarity: u64,
         scramble: Scramble,
         backgrounds: ArrayVec<u64, 8>,
     ) -> Memory
-        requires { IsMemory (record { name = name.bytes; words = words; bits = bits; scramble = scramble; backgrounds = backgrounds.items }) }
-        ensures { result ≡ record { name = name.bytes; words = words; bits = bits; scramble = scramble; backgrounds = backgrounds.items } }
+        requires { IsMemory (assembled name.bytes words bits timing.latency polarity timing.pause scramble backgrounds.items) }
+        ensures { result ≡ assembled name.bytes words bits timing.latency polarity timing.pause scramble backgrounds.items }
     {
         Memory {
             name,
             words,
             bits,
+            timing,
+            polarity,
             scramble,
             backgrounds,
         }
@@ -66,6 +80,30 @@ impl Memory {
         ensures memory { IsMemory self.now }
     {
         self.bits
+    }
+
+    /// How many cycles after a read its answer stands on the port: 1 to 4.
+    pub fn latency(&self) -> u8
+        ensures value { result ≡ self.now.latency }
+        ensures memory { IsMemory self.now }
+    {
+        self.timing.latency
+    }
+
+    /// The bits of a word that it stores inverted.
+    pub fn polarity(&self) -> u64
+        ensures value { result ≡ self.now.polarity }
+        ensures memory { IsMemory self.now }
+    {
+        self.polarity
+    }
+
+    /// How many cycles a pause of its test has: 1 to 65,535.
+    pub fn pause(&self) -> u32
+        ensures value { result ≡ self.now.pause }
+        ensures memory { IsMemory self.now }
+    {
+        self.timing.pause
     }
 
     /// How many bits an address has: 1 to 16.

@@ -3,7 +3,7 @@
 ghost use Rattle.std.specs.Prelude.{◌≡◌, ◌+◌, ◌<◌, ◌≤◌, ◌^◌, ◌++◌, ◌∷◌, [], All, Ok, OnOk, IfOk, decimal};
 ghost use Rattle.memory_desc.specs.Descriptions.{IsMemory};
 ghost use Rattle.memory_desc.specs.Table.{Reads};
-ghost use Rattle.memory_desc.specs.Printed.{number_line, name_line, size_lines, background_texts, backgrounds_line, head_lines, index_terms, is_none, joined, separator, term_after, row_terms, row_line, row_lines, is_identity, scramble_lines, printed};
+ghost use Rattle.memory_desc.specs.Printed.{number_line, name_line, size_lines, is_plain, version_text, polarity_line, port_lines, later_lines, background_texts, backgrounds_line, head_lines, index_terms, is_none, joined, separator, term_after, row_terms, row_line, row_lines, is_identity, scramble_lines, printed};
 
 use crate::memory::Memory;
 use bist_bits::NoMemory;
@@ -40,12 +40,59 @@ fn put_size_lines(out: &mut Vec<u8>, words: u32, bits: u8) -> Result<(), NoMemor
     put_number_line(out, b"bits ", u64::from(bits))
 }
 
+/// Whether version 1 can say all of a memory.
+fn is_plain(memory: &Memory) -> bool
+    ensures { result ≡ is_plain memory.now }
+{
+    memory.latency() == 1 && memory.polarity() == 0 && memory.pause() == 1
+}
+
+fn put_version(out: &mut Vec<u8>, plain: bool) -> Result<(), NoMemory>
+    ensures { OnOk result (out.new.items ≡ out.old.items ++ version_text plain) }
+{
+    if plain {
+        put(out, b"memory 1")
+    } else {
+        put(out, b"memory 2")
+    }
+}
+
 fn put_head(out: &mut Vec<u8>, memory: &Memory) -> Result<(), NoMemory>
     ensures { OnOk result (out.new.items ≡ out.old.items ++ head_lines memory.now) }
 {
-    put(out, b"memory 1\n")?;
+    put_version(out, is_plain(memory))?;
+    put(out, b"\n")?;
     put_name_line(out, memory.name())?;
     put_size_lines(out, memory.words(), memory.bits())
+}
+
+/// The polarity, in as many digits as a word needs.
+fn put_polarity_line(out: &mut Vec<u8>, word: u64, bits: u8) -> Result<(), NoMemory>
+    requires width { (1 ≤ bits) × (bits ≤ 64) }
+    requires fits { word < 2 ^ bits }
+    ensures { OnOk result (out.new.items ≡ out.old.items ++ polarity_line bits word) }
+{
+    put(out, b"polarity ")?;
+    put_hex(out, word, (bits + 3) / 4)?;
+    put(out, b"\n")
+}
+
+fn put_port_lines(out: &mut Vec<u8>, memory: &Memory) -> Result<(), NoMemory>
+    ensures { OnOk result (out.new.items ≡ out.old.items ++ port_lines memory.now) }
+{
+    put_number_line(out, b"latency ", u64::from(memory.latency()))?;
+    put_polarity_line(out, memory.polarity(), memory.bits())?;
+    put_number_line(out, b"pause ", u64::from(memory.pause()))
+}
+
+/// What version 2 says besides, where it is needed.
+fn put_later_lines(out: &mut Vec<u8>, memory: &Memory) -> Result<(), NoMemory>
+    ensures { OnOk result (out.new.items ≡ out.old.items ++ later_lines memory.now) }
+{
+    if is_plain(memory) {
+        return Ok(());
+    }
+    put_port_lines(out, memory)
 }
 
 /// What stands between two terms, and nothing before the first.
@@ -171,6 +218,7 @@ fn printed_text(alloc: Global, memory: &Memory) -> Result<Vec<u8>, NoMemory>
 {
     let mut out = Vec::new(alloc);
     put_head(&mut out, memory)?;
+    put_later_lines(&mut out, memory)?;
     put_scramble(&mut out, memory.scramble())?;
     let bits = memory.bits();
     put_backgrounds(&mut out, memory.backgrounds(), bits)?;

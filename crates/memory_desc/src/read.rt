@@ -1,6 +1,6 @@
 //! The reader of memory descriptions.
 
-ghost use Rattle.std.specs.Prelude.{◌≡◌, ◌≤◌, ◌↔◌, ◌-◌, ℕ, false, List, Ok, Err, OnOk};
+ghost use Rattle.std.specs.Prelude.{◌≡◌, ◌≤◌, ◌↔◌, ◌-◌, ℕ, false, List, None, Ok, Err, OnOk};
 ghost use Rattle.std.specs.Int.{is_power_of_two};
 ghost use Rattle.bist_bits.specs.Width.{IsWidthOf};
 ghost use Rattle.bist_text.specs.Lines.{text_lines};
@@ -10,15 +10,16 @@ ghost use Rattle.memory_desc.specs.Names.{IsName};
 ghost use Rattle.memory_desc.specs.Statements.{Statement, Say};
 ghost use Rattle.memory_desc.specs.Values.{name_said, words_said, bits_said};
 ghost use Rattle.memory_desc.specs.Standing.{checked};
-ghost use Rattle.memory_desc.specs.Table.{is_scrambled, unscramblable, AreStatements, Builds, Describes, Reads};
+ghost use Rattle.memory_desc.specs.Table.{is_scrambled, unscramblable, out_of_range, AreStatements, Builds, Describes, Reads};
 
 use crate::building::{backgrounds_from, scramble_from};
 use crate::content::{Subject, name_of, number_of};
 use crate::fault::{Field, MemoryFault};
 use crate::lines::check_lines;
-use crate::memory::Memory;
+use crate::memory::{Memory, Timing};
 use crate::names::name_from;
 use crate::search::{check_ranges, check_repeats, check_widths, field, is_scrambled};
+use crate::timing::{latency_from, pause_from, polarity_from};
 use arrayvec::ArrayString;
 use bist_bits::width_of;
 
@@ -41,7 +42,7 @@ fn memory_of(
     words: u32,
     bits: u8,
 ) -> Result<Memory, MemoryFault>
-    requires stated { (ss : List Statement) × Say (text_lines bytes.now) ss }
+    requires stated { (ss : List Statement) × Say (text_lines bytes.now) ss × (out_of_range ss ≡ None) }
     requires name { IsName name.bytes }
     requires words { (2 ≤ words) × (words ≤ 65536) }
     requires bits { (1 ≤ bits) × (bits ≤ 64) }
@@ -54,7 +55,12 @@ fn memory_of(
     check_widths(bytes, width, bits)?;
     let scramble = scramble_from(bytes, scrambled, width)?;
     let backgrounds = backgrounds_from(bytes, bits)?;
-    Ok(Memory::new(name, words, bits, scramble, backgrounds))
+    let timing = Timing {
+        latency: latency_from(bytes),
+        pause: pause_from(bytes),
+    };
+    let polarity = polarity_from(bytes, bits);
+    Ok(Memory::new(name, words, bits, timing, polarity, scramble, backgrounds))
 }
 
 /// The memory that the statements of a text describe.

@@ -8,7 +8,9 @@ ghost use Rattle.memory_desc.specs.Subjects.{subject, is_same, about};
 ghost use Rattle.memory_desc.specs.Table.{is_repeat, is_out_of_range, is_past, is_row, is_scrambled, repeated, out_of_range, past};
 ghost use Rattle.memory_desc.specs.Standing.{StandsAt, GivesField, checked};
 
-use crate::content::{Subject, is_log, name_of, number_of, row_of, subject_of, words_of};
+use crate::content::{
+    Subject, is_log, name_of, number_of, polarity_of, row_of, subject_of, words_of,
+};
 use crate::fault::{Field, MemoryFault};
 use crate::names::is_free;
 use bist_bits::all_ones;
@@ -74,7 +76,7 @@ fn is_outside(value: u32, least: u32, most: u32) -> bool
     value < least || value > most
 }
 
-/// Whether a line's name, number of words or number of bits is outside its range.
+/// Whether a line's name, number of words or of bits, latency or pause is outside its range.
 fn is_out_of_range(text: &[u8]) -> bool
     ensures content { (c : Content) → ContentText text.now c → result ≡ is_out_of_range c }
     ensures none { LineText text.now None → result ≡ false }
@@ -86,11 +88,13 @@ fn is_out_of_range(text: &[u8]) -> bool
         Subject::Name => !is_free(name_of(text)),
         Subject::Words => is_outside(number_of(text), 2, 65536),
         Subject::Bits => is_outside(number_of(text), 1, 64),
+        Subject::Latency => is_outside(number_of(text), 1, 4),
+        Subject::Pause => is_outside(number_of(text), 1, 65535),
         _ => false,
     }
 }
 
-/// Names, numbers of words and numbers of bits stay within their ranges.
+/// Names, numbers of words and of bits, latencies and pauses stay within their ranges.
 pub fn check_ranges(bytes: &[u8]) -> Result<(), MemoryFault>
     ensures { (ss : List Statement) → Say (text_lines bytes.now) ss → result ≡ checked (out_of_range ss) }
 {
@@ -125,7 +129,7 @@ pub fn is_scrambled(bytes: &[u8]) -> bool
     false
 }
 
-/// Whether a row goes past the address, or a background past the word.
+/// Whether a row goes past the address, or a background or a polarity past the word.
 fn is_past(text: &[u8], width: u8, bits: u8) -> bool
     requires width { 1 ≤ width }
     requires bits { (1 ≤ bits) × (bits ≤ 64) }
@@ -140,12 +144,13 @@ fn is_past(text: &[u8], width: u8, bits: u8) -> bool
             let row = row_of(text);
             row.bit.max(row.highest) >= u32::from(width)
         }
+        Subject::Polarity => polarity_of(text) > all_ones(bits),
         Subject::Backgrounds => !is_log(text) && words_of(text).union > all_ones(bits),
         _ => false,
     }
 }
 
-/// Rows stay within the address, and backgrounds within the word.
+/// Rows stay within the address, and backgrounds and polarities within the word.
 pub fn check_widths(bytes: &[u8], width: u8, bits: u8) -> Result<(), MemoryFault>
     requires width { 1 ≤ width }
     requires bits { (1 ≤ bits) × (bits ≤ 64) }

@@ -1,7 +1,7 @@
 -- The kind of the line, and of a row its number.
 use Rattle.std.proofs.Common.{Some, None, Ok, ◌∙◌, ap, subst}
 use Rattle.memory_desc.specs.LineText.{LineText}
-use Rattle.memory_desc.specs.declared.line_place.Key.TheVariants.{Memory, Name, Words, Bits, Scramble, Backgrounds}
+use Rattle.memory_desc.specs.declared.line_place.Key.TheVariants.{Memory, Name, Words, Bits, Latency, Polarity, Pause, Scramble, Backgrounds}
 use Rattle.memory_desc.proofs.ContentSubjects.{kind_said, kind_is, not_refused, subject_is, no_subject}
 use Rattle.memory_desc.proofs.content.subject_of.Goals as goal
 
@@ -20,6 +20,18 @@ returns-in-Ok-Some-Words c v h =
 pub returns-in-Ok-Some-Bits : goal.returns-in-Ok-Some-Bits
 returns-in-Ok-Some-Bits c v h =
     subject_is v Bits 0 (kind_is v c.read_line.result (Some Bits) (kind_said c.args.text.now v c.read_line.result c.read_line.ensures.kind h) (c.in-Ok-Some-Bits.is ∙ ap (λ x. Ok x) (c.in-Ok-Some-Bits.field-0-is ∙ ap (λ x. Some x) c.in-Ok-Some-Bits.field-0-0-is))) (λ x. cc)
+
+pub returns-in-Ok-Some-Latency : goal.returns-in-Ok-Some-Latency
+returns-in-Ok-Some-Latency c v h =
+    subject_is v Latency 0 (kind_is v c.read_line.result (Some Latency) (kind_said c.args.text.now v c.read_line.result c.read_line.ensures.kind h) (c.in-Ok-Some-Latency.is ∙ ap (λ x. Ok x) (c.in-Ok-Some-Latency.field-0-is ∙ ap (λ x. Some x) c.in-Ok-Some-Latency.field-0-0-is))) (λ x. cc)
+
+pub returns-in-Ok-Some-Polarity : goal.returns-in-Ok-Some-Polarity
+returns-in-Ok-Some-Polarity c v h =
+    subject_is v Polarity 0 (kind_is v c.read_line.result (Some Polarity) (kind_said c.args.text.now v c.read_line.result c.read_line.ensures.kind h) (c.in-Ok-Some-Polarity.is ∙ ap (λ x. Ok x) (c.in-Ok-Some-Polarity.field-0-is ∙ ap (λ x. Some x) c.in-Ok-Some-Polarity.field-0-0-is))) (λ x. cc)
+
+pub returns-in-Ok-Some-Pause : goal.returns-in-Ok-Some-Pause
+returns-in-Ok-Some-Pause c v h =
+    subject_is v Pause 0 (kind_is v c.read_line.result (Some Pause) (kind_said c.args.text.now v c.read_line.result c.read_line.ensures.kind h) (c.in-Ok-Some-Pause.is ∙ ap (λ x. Ok x) (c.in-Ok-Some-Pause.field-0-is ∙ ap (λ x. Some x) c.in-Ok-Some-Pause.field-0-0-is))) (λ x. cc)
 
 pub returns-in-Ok-Some-Scramble : goal.returns-in-Ok-Some-Scramble
 returns-in-Ok-Some-Scramble c v h =

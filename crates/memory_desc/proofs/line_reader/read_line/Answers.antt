@@ -11,14 +11,14 @@ use Rattle.memory_desc.proofs.line_reader.read_line.Goals as goal
 pub returns-clause-kind : goal.returns-clause-kind
 returns-clause-kind c =
     let b = c.args.text.now in
-    kinds KindText b c.scanned.result (scan step value b Begin 0) c.scanned.ensures (line_exact b (slice_are_bytes b (λ k _. Fits-lt-pow (c.type_inv.text k))))
+    kinds (KindText c.args.version) b c.scanned.result (scan step value b (Begin c.args.version) 0) c.scanned.ensures (line_exact c.args.version b (slice_are_bytes b (λ k _. Fits-lt-pow (c.type_inv.text k))))
 
 pub returns-clause-unexpected : goal.returns-clause-unexpected
 returns-clause-unexpected c =
     let b = c.args.text.now in
-    refusals KindText b c.scanned.result (scan step value b Begin 0) c.scanned.ensures (line_exact b (slice_are_bytes b (λ k _. Fits-lt-pow (c.type_inv.text k))))
+    refusals (KindText c.args.version) b c.scanned.result (scan step value b (Begin c.args.version) 0) c.scanned.ensures (line_exact c.args.version b (slice_are_bytes b (λ k _. Fits-lt-pow (c.type_inv.text k))))
 
 pub returns-clause-truncated : goal.returns-clause-truncated
 returns-clause-truncated c =
     let b = c.args.text.now in
-    ends KindText b c.scanned.result (scan step value b Begin 0) c.scanned.ensures (line_exact b (slice_are_bytes b (λ k _. Fits-lt-pow (c.type_inv.text k))))
+    ends (KindText c.args.version) b c.scanned.result (scan step value b (Begin c.args.version) 0) c.scanned.ensures (line_exact c.args.version b (slice_are_bytes b (λ k _. Fits-lt-pow (c.type_inv.text k))))

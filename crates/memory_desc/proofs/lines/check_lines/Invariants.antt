@@ -6,5 +6,5 @@ abbrev pub invariant-loop-line : goal.invariant-loop-line
 invariant-loop-line l = record {
   can_next : (goal.iterator-loop-line).can_next l.line-iterator;
   is_finite : (goal.iterator-loop-line).is_finite l.line-iterator;
-  checked : Checked l.opened (text_lines l.bytes) (lines_left l.line-iterator);
+  checked : Checked l.version (text_lines l.bytes) (lines_left l.line-iterator);
 }

@@ -13,7 +13,7 @@ pub returns-in-Ok-clause-without : goal.returns-in-Ok-clause-without
 returns-in-Ok-clause-without c = λ h. ap Ok (kind_given OpeningText c.args.line.now.text.now c.read_opening.result c.in-Ok.kind None c.is_some.result (record { kind = c.read_opening.ensures.kind; unexpected = c.read_opening.ensures.unexpected; truncated = c.read_opening.ensures.truncated }) c.in-Ok.is c.is_some.ensures (opening_blank c.args.line.now.text.now h))
 
 pub returns-in-Ok-clause-accepts : goal.returns-in-Ok-clause-accepts
-returns-in-Ok-clause-accepts c = λ ds h. ap Ok (kind_given OpeningText c.args.line.now.text.now c.read_opening.result c.in-Ok.kind (Some Memory) c.is_some.result (record { kind = c.read_opening.ensures.kind; unexpected = c.read_opening.ensures.unexpected; truncated = c.read_opening.ensures.truncated }) c.in-Ok.is c.is_some.ensures (opening_version c.args.line.now.text.now ds h))
+returns-in-Ok-clause-accepts c = λ h. ap Ok (kind_given OpeningText c.args.line.now.text.now c.read_opening.result c.in-Ok.kind (Some Memory) c.is_some.result (record { kind = c.read_opening.ensures.kind; unexpected = c.read_opening.ensures.unexpected; truncated = c.read_opening.ensures.truncated }) c.in-Ok.is c.is_some.ensures (opening_version c.args.line.now.text.now h))
 
 pub returns-in-Ok-clause-refuses : goal.returns-in-Ok-clause-refuses
 returns-in-Ok-clause-refuses c = λ fault h. no_fault OpeningText (plain_line c.args.line.now) c.read_opening.result c.in-Ok.kind fault _ (record { kind = c.read_opening.ensures.kind; unexpected = c.read_opening.ensures.unexpected; truncated = c.read_opening.ensures.truncated }) c.in-Ok.is h
@@ -25,7 +25,7 @@ pub returns-in-Err-clause-without : goal.returns-in-Err-clause-without
 returns-in-Err-clause-without c = λ h. no_text OpeningText c.args.line.now.text.now c.read_opening.result c.in-Err.fault None _ (record { kind = c.read_opening.ensures.kind; unexpected = c.read_opening.ensures.unexpected; truncated = c.read_opening.ensures.truncated }) c.in-Err.is (opening_blank c.args.line.now.text.now h)
 
 pub returns-in-Err-clause-accepts : goal.returns-in-Err-clause-accepts
-returns-in-Err-clause-accepts c = λ ds h. no_text OpeningText c.args.line.now.text.now c.read_opening.result c.in-Err.fault (Some Memory) _ (record { kind = c.read_opening.ensures.kind; unexpected = c.read_opening.ensures.unexpected; truncated = c.read_opening.ensures.truncated }) c.in-Err.is (opening_version c.args.line.now.text.now ds h)
+returns-in-Err-clause-accepts c = λ h. no_text OpeningText c.args.line.now.text.now c.read_opening.result c.in-Err.fault (Some Memory) _ (record { kind = c.read_opening.ensures.kind; unexpected = c.read_opening.ensures.unexpected; truncated = c.read_opening.ensures.truncated }) c.in-Err.is (opening_version c.args.line.now.text.now h)
 
 pub returns-in-Err-clause-refuses : goal.returns-in-Err-clause-refuses
 returns-in-Err-clause-refuses c = λ fault h. ap Err (the_fault OpeningText (plain_line c.args.line.now) c.read_opening.result c.in-Err.fault c.refused.result fault (record { kind = c.read_opening.ensures.kind; unexpected = c.read_opening.ensures.unexpected; truncated = c.read_opening.ensures.truncated }) c.in-Err.is c.refused.ensures h)

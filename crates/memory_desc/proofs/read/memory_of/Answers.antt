@@ -1,8 +1,10 @@
-use Rattle.std.proofs.Common.{◌≡◌, ◌-◌, ◌∙◌, ℕ, None, Ok, Err, ap, arith, subst}
+use Rattle.std.proofs.Common.{◌≡◌, ◌-◌, ◌∙◌, ℕ, None, Result, Ok, Err, ap, arith, subst}
 use Rattle.std.proofs.lemmas.Result.{err_from_is_err_and}
 use Rattle.bist_bits.specs.Width.{IsWidthOf}
-use Rattle.memory_desc.specs.Table.{unscramblable, past}
-use Rattle.memory_desc.proofs.Built.{builds_memory, builds_untested, passed}
+use Rattle.memory_desc.specs.Descriptions.{Description}
+use Rattle.memory_desc.specs.Table.{unscramblable, past, described}
+use Rattle.memory_desc.specs.declared.fault.MemoryFault.{MemoryFault}
+use Rattle.memory_desc.proofs.Built.{builds_memory, builds_untested, made_of, passed}
 use Rattle.memory_desc.proofs.Parts.{width_small}
 use Rattle.memory_desc.proofs.read.memory_of.Goals as goal
 
@@ -35,9 +37,13 @@ returns c ss say name words bits =
     let plain = passed (unscramblable ss) (c.in_ok-check_power_of_two.ensures.check ss scrambled words) in
     let fits = passed (past ss width c.args.bits) (c.in_ok-check_widths.ensures ss say) in
     let fits_said = subst (λ (n : ℕ). past ss width n ≡ None) bits fits in
-    let made = c.new.ensures in (
+    let s = c.in_ok-scramble.scramble in
+    let set = c.in_ok-backgrounds.backgrounds.items in
+    let made : ◌≡◌ {A = Result Description MemoryFault} (Ok c.new.result) (Ok (described ss s set)) =
+    made_of ss c.new.result c.args.name.bytes c.args.words c.args.bits c.latency_from.result c.polarity_from-polarity.result c.pause_from.result s set c.new.ensures
+    name words bits (c.latency_from.ensures.said ss say) (c.polarity_from-polarity.ensures.said ss say) (c.pause_from.ensures.said ss say) in (
       width,
       wide,
       builds_memory ss width (Ok c.new.result) c.in_ok-scramble.scramble c.in_ok-backgrounds.backgrounds.items plain fits_said
-          (c.in_ok-scramble.ensures.rows ss c.args.bits say fits scrambled) (c.in_ok-backgrounds.ensures.tests ss say bits) (cc),
+          (c.in_ok-scramble.ensures.rows ss c.args.bits say fits scrambled) (c.in_ok-backgrounds.ensures.tests ss say bits) made,
     )

@@ -1,5 +1,5 @@
 use Rattle.std.proofs.Common.{Some, None}
-use Rattle.memory_desc.proofs.LineTests.{no_subject, name_ranged, words_ranged, bits_ranged, others_ranged}
+use Rattle.memory_desc.proofs.LineTests.{no_subject, name_ranged, words_ranged, bits_ranged, latency_ranged, pause_ranged, others_ranged}
 use Rattle.memory_desc.proofs.search.is_out_of_range.Goals as goal
 
 pub returns-in_default-clause-content : goal.returns-in_default-clause-content
@@ -23,5 +23,17 @@ returns-in-Bits-clause-content c = λ x h. bits_ranged c.args.text.now c.number_
 pub returns-in-Bits-clause-none : goal.returns-in-Bits-clause-none
 returns-in-Bits-clause-none c = λ h. no_subject c.in-Some.subject _ (c.in-Some.ensures None h)
 
+pub returns-in-Latency-clause-content : goal.returns-in-Latency-clause-content
+returns-in-Latency-clause-content c = λ x h. latency_ranged c.args.text.now c.number_of-in-Latency.result x c.in-Some.subject c.is_outside-in-Latency.result h c.in-Latency.is (c.in-Some.ensures (Some x) h) c.number_of-in-Latency.ensures c.is_outside-in-Latency.ensures
+
+pub returns-in-Latency-clause-none : goal.returns-in-Latency-clause-none
+returns-in-Latency-clause-none c = λ h. no_subject c.in-Some.subject _ (c.in-Some.ensures None h)
+
+pub returns-in-Pause-clause-content : goal.returns-in-Pause-clause-content
+returns-in-Pause-clause-content c = λ x h. pause_ranged c.args.text.now c.number_of-in-Pause.result x c.in-Some.subject c.is_outside-in-Pause.result h c.in-Pause.is (c.in-Some.ensures (Some x) h) c.number_of-in-Pause.ensures c.is_outside-in-Pause.ensures
+
+pub returns-in-Pause-clause-none : goal.returns-in-Pause-clause-none
+returns-in-Pause-clause-none c = λ h. no_subject c.in-Some.subject _ (c.in-Some.ensures None h)
+
 pub returns-in_default-subject-clause-content : goal.returns-in_default-subject-clause-content
-returns-in_default-subject-clause-content c = λ x h. others_ranged c.in-Some.subject x c.in_default-subject.not-Name c.in_default-subject.not-Words c.in_default-subject.not-Bits (c.in-Some.ensures (Some x) h)
+returns-in_default-subject-clause-content c = λ x h. others_ranged c.in-Some.subject x c.in_default-subject.not-Name c.in_default-subject.not-Words c.in_default-subject.not-Bits c.in_default-subject.not-Latency c.in_default-subject.not-Pause (c.in-Some.ensures (Some x) h)

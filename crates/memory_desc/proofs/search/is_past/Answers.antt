@@ -1,5 +1,5 @@
 use Rattle.std.proofs.Common.{Some, None}
-use Rattle.memory_desc.proofs.LineTests.{no_subject, row_past, words_past, log_past, others_past}
+use Rattle.memory_desc.proofs.LineTests.{no_subject, row_past, polarity_past, words_past, log_past, others_past}
 use Rattle.memory_desc.proofs.search.is_past.Goals as goal
 
 pub returns-in_default-clause-content : goal.returns-in_default-clause-content
@@ -11,8 +11,14 @@ returns-in-Row-clause-content c = λ x h. row_past c.args.text.now c.row_of-row.
 pub returns-in-Row-clause-none : goal.returns-in-Row-clause-none
 returns-in-Row-clause-none c = λ h. no_subject c.in-Some.subject _ (c.in-Some.ensures None h)
 
+pub returns-in-Polarity-clause-content : goal.returns-in-Polarity-clause-content
+returns-in-Polarity-clause-content c = λ x h. polarity_past c.args.text.now c.polarity_of.result c.args.width c.args.bits c.all_ones.result x c.in-Some.subject h c.in-Polarity.is (c.in-Some.ensures (Some x) h) c.polarity_of.ensures c.all_ones.ensures
+
+pub returns-in-Polarity-clause-none : goal.returns-in-Polarity-clause-none
+returns-in-Polarity-clause-none c = λ h. no_subject c.in-Some.subject _ (c.in-Some.ensures None h)
+
 pub returns-then-not-is_log-clause-content : goal.returns-then-not-is_log-clause-content
-returns-then-not-is_log-clause-content c = λ x h. words_past c.args.text.now c.words_of.result c.args.width c.args.bits c.all_ones.result x c.in-Some.subject c.is_log.result h c.in-Backgrounds.is (c.in-Some.ensures (Some x) h) c.is_log.ensures c.if-not-is_log.true c.words_of.ensures c.all_ones.ensures
+returns-then-not-is_log-clause-content c = λ x h. words_past c.args.text.now c.words_of.result c.args.width c.args.bits c.all_ones-then-not-is_log.result x c.in-Some.subject c.is_log.result h c.in-Backgrounds.is (c.in-Some.ensures (Some x) h) c.is_log.ensures c.if-not-is_log.true c.words_of.ensures c.all_ones-then-not-is_log.ensures
 
 pub returns-then-not-is_log-clause-none : goal.returns-then-not-is_log-clause-none
 returns-then-not-is_log-clause-none c = λ h. no_subject c.in-Some.subject _ (c.in-Some.ensures None h)
@@ -24,4 +30,4 @@ pub returns-else-not-is_log-clause-none : goal.returns-else-not-is_log-clause-no
 returns-else-not-is_log-clause-none c = λ h. no_subject c.in-Some.subject _ (c.in-Some.ensures None h)
 
 pub returns-in_default-subject-clause-content : goal.returns-in_default-subject-clause-content
-returns-in_default-subject-clause-content c = λ x h. others_past c.args.width c.args.bits c.in-Some.subject x c.in_default-subject.not-Row c.in_default-subject.not-Backgrounds (c.in-Some.ensures (Some x) h)
+returns-in_default-subject-clause-content c = λ x h. others_past c.args.width c.args.bits c.in-Some.subject x c.in_default-subject.not-Row c.in_default-subject.not-Polarity c.in_default-subject.not-Backgrounds (c.in-Some.ensures (Some x) h)

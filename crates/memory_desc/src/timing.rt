@@ -1,0 +1,46 @@
+//! The latency, the pause and the polarity of a text whose lines are all lines of a description.
+
+ghost use Rattle.std.specs.Prelude.{◌≡◌, ◌≤◌, ◌<◌, ◌^◌, ℕ, List, None};
+ghost use Rattle.bist_text.specs.Lines.{text_lines};
+ghost use Rattle.memory_desc.specs.Statements.{Statement, Say};
+ghost use Rattle.memory_desc.specs.Table.{out_of_range, past};
+ghost use Rattle.memory_desc.specs.Values.{latency_said, pause_said, polarity_said};
+
+use crate::content::{Subject, number_of, polarity_of};
+use crate::search::line_about;
+
+/// The latency; one cycle where nothing is said of it.
+pub fn latency_from(bytes: &[u8]) -> u8
+    requires { (ss : List Statement) × Say (text_lines bytes.now) ss × (out_of_range ss ≡ None) }
+    ensures range { (1 ≤ result) × (result ≤ 4) }
+    ensures said { (ss : List Statement) → Say (text_lines bytes.now) ss → result ≡ latency_said ss }
+{
+    match line_about(bytes, Subject::Latency) {
+        Some(line) => number_of(line.text) as u8,
+        None => 1,
+    }
+}
+
+/// The pause; one cycle where nothing is said of it.
+pub fn pause_from(bytes: &[u8]) -> u32
+    requires { (ss : List Statement) × Say (text_lines bytes.now) ss × (out_of_range ss ≡ None) }
+    ensures range { (1 ≤ result) × (result ≤ 65535) }
+    ensures said { (ss : List Statement) → Say (text_lines bytes.now) ss → result ≡ pause_said ss }
+{
+    match line_about(bytes, Subject::Pause) {
+        Some(line) => number_of(line.text),
+        None => 1,
+    }
+}
+
+/// The polarity of words of this many bits; no bit is inverted where nothing is said of it.
+pub fn polarity_from(bytes: &[u8], bits: u8) -> u64
+    requires { (ss : List Statement) × (width : ℕ) × Say (text_lines bytes.now) ss × (past ss width bits ≡ None) }
+    ensures fits { result < 2 ^ bits }
+    ensures said { (ss : List Statement) → Say (text_lines bytes.now) ss → result ≡ polarity_said ss }
+{
+    match line_about(bytes, Subject::Polarity) {
+        Some(line) => polarity_of(line.text),
+        None => 0,
+    }
+}
