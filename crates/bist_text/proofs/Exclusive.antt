@@ -6,12 +6,12 @@ use Rattle.bist_text.specs.Machine.{Outcome, read, unexpected, truncated, scan, 
 use Rattle.bist_text.proofs.Bytes.{are_bytes-append, are_bytes-drop, are_bytes-take}
 use Rattle.bist_text.proofs.Machine.{scan_answers, one_value, answers_iff}
 
-split_at : (n : ℕ) (b : List ℕ) → take n b ++ drop n b ≡ b
+pub split_at : (n : ℕ) (b : List ℕ) → take n b ++ drop n b ≡ b
 split_at zero b = refl
 split_at (suc n) [] = refl
 split_at (suc n) (c ∷ b) = ap (λ x. c ∷ x) (split_at n b)
 
-shorter : (n k : ℕ) (b : List ℕ) → n ≤ k → take n (take k b) ≡ take n b
+pub shorter : (n k : ℕ) (b : List ℕ) → n ≤ k → take n (take k b) ≡ take n b
 shorter zero k b h = refl
 shorter (suc n) zero b h = absurd (omega arith)
 shorter (suc n) (suc k) [] h = refl

@@ -9,3 +9,4 @@ pub mod Loops
 pub mod Piece
 pub mod Lexed
 pub mod Unique
+pub mod Settled
