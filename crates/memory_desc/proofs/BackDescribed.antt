@@ -9,7 +9,7 @@ use Rattle.bist_bits.specs.Width.{IsWidthOf}
 use Rattle.scrambler.specs.Scrambling.{Scrambling, IsFull, identity}
 use Rattle.memory_desc.specs.Descriptions.{Description, IsMemory, assembled}
 use Rattle.memory_desc.specs.LineText.{Content, name, words, bits, latency, polarity, pause, backgrounds}
-use Rattle.memory_desc.specs.Names.{is_among, reserved_words}
+use Rattle.bist_text.specs.ReservedWords.{is_among, reserved_words}
 use Rattle.memory_desc.specs.Printed.{is_plain, is_identity}
 use Rattle.memory_desc.specs.Statements.{Statement}
 use Rattle.memory_desc.specs.Subjects.{is_same, said}

@@ -7,7 +7,8 @@ use Rattle.bist_bits.specs.Width.{IsWidthOf}
 use Rattle.bist_text.specs.declared.text_lines.Line.{Line}
 use Rattle.memory_desc.specs.Descriptions.{Description}
 use Rattle.memory_desc.specs.LineText.{Content, name, words, bits, latency, polarity, pause, ContentText}
-use Rattle.memory_desc.specs.Names.{is_among, reserved_words, IsName}
+use Rattle.memory_desc.specs.Names.{IsName}
+use Rattle.bist_text.specs.ReservedWords.{is_among, reserved_words}
 use Rattle.memory_desc.specs.Standing.{StandsAt, digits_in}
 use Rattle.memory_desc.specs.Statements.{Statement}
 use Rattle.memory_desc.specs.Subjects.{about}

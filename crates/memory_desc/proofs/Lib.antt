@@ -37,3 +37,4 @@ pub mod Searches
 pub mod LineTests
 pub mod LineChecks
 pub mod TextChecks
+pub mod OneOutcome

@@ -8,7 +8,7 @@ use Rattle.std.specs.Option.{option_eq}
 use Rattle.std.specs.Str.Parse.{digits_value}
 use Rattle.bist_text.specs.declared.text_lines.Line.{Line}
 use Rattle.memory_desc.specs.LineText.{Term, index_bit, constant, Content, name, words, bits, latency, polarity, pause, scramble, log, backgrounds, kind_of, ContentText}
-use Rattle.memory_desc.specs.Names.{is_among, reserved_words}
+use Rattle.bist_text.specs.ReservedWords.{is_among, reserved_words}
 use Rattle.memory_desc.specs.Statements.{Statement}
 use Rattle.memory_desc.specs.Subjects.{subject, is_same, about}
 use Rattle.memory_desc.specs.Standing.{digits_in, is_log, highest_of, union_of, IsRow, AreWords, StandsAt}

@@ -4,7 +4,8 @@ use Rattle.std.proofs.lemmas.Bool.{and_parts, or_cases, leb-true, eqb-true, not-
 use Rattle.std.specs.List.{list_all}
 use Rattle.std.specs.Str.{IsAscii}
 use Rattle.std.specs.Prelude.{nat_le, not}
-use Rattle.memory_desc.specs.Names.{is_letter, is_digit, is_name_byte, is_identifier, is_among, reserved_words, IsName}
+use Rattle.memory_desc.specs.Names.{is_letter, is_digit, is_name_byte, is_identifier, IsName}
+use Rattle.bist_text.specs.ReservedWords.{is_among, reserved_words}
 
 -- a byte of a range that ends below 128
 in_range : (c low high : ℕ) → (nat_le low c && nat_le c high) ≡ true → high < 128 → c < 128

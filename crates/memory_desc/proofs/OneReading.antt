@@ -1,19 +1,17 @@
 -- A line has one reading, and so has a text.
-use Rattle.std.proofs.Common.{◌≡◌, ℕ, ◌+◌, ◌≤◌, ◌==◌, ◌||◌, Bool, true, false, List, [], ◌∷◌, ◌++◌, ◌∙◌, length, codes, slice_index, Option, Some, None, Ok, refl, inl, inr, sym, ap, subst, arith}
+use Rattle.std.proofs.Common.{◌≡◌, ℕ, ◌+◌, ◌≤◌, ◌==◌, ◌||◌, Bool, true, false, List, [], ◌∷◌, ◌++◌, ◌∙◌, length, codes, slice_index, Option, Some, None, refl, inl, inr, sym, ap, arith}
 use Rattle.std.proofs.Math.Path.{ap₂}
 use Rattle.std.proofs.lemmas.Bool.{eqb-true, and_parts, and_from}
 use Rattle.std.specs.List.{list_all}
 use Rattle.bist_text.specs.Grammar.{byte, word, is_blank}
 use Rattle.bist_text.specs.Lines.{TextLine, text_lines}
 use Rattle.bist_text.proofs.Pieces.{neither}
-use Rattle.memory_desc.specs.Descriptions.{Description}
 use Rattle.memory_desc.specs.Names.{is_digit, is_letter, is_name_byte, is_identifier}
 use Rattle.memory_desc.specs.declared.line_place.Key.{Key}
 use Rattle.memory_desc.specs.declared.line_place.Key.TheVariants.{Memory, Name, Words, Bits, Latency, Polarity, Pause, Scramble, Backgrounds}
 use Rattle.memory_desc.specs.LineText.{Term, index_bit, constant, Content, version, name, words, bits, latency, polarity, pause, scramble, log, backgrounds, kind_of, is_hex, is_word, is_number, is_term, is_formed, space, gap, comment, tail, term_text, more_terms, equation, more_words, argument, key_text, ContentText, LineText}
 use Rattle.memory_desc.specs.Statements.{Statement, stated, Say}
-use Rattle.memory_desc.specs.Table.{AreStatements, Describes, Reads}
-use Rattle.memory_desc.proofs.Determined.{describes_one}
+use Rattle.memory_desc.specs.Table.{AreStatements}
 use Rattle.memory_desc.proofs.LinePieces.{when_holds}
 use Rattle.memory_desc.proofs.LineRefusals.{IsPlain, digits_plain, hex_plain, names_plain, plain_blank, no_tail, no_more_terms, no_equation, no_more_words}
 use Rattle.memory_desc.proofs.LineStarts.{run_parts}
@@ -343,10 +341,3 @@ say_one (l ∷ ls) ss ts h i =
 
 pub statements_one : (bytes : List ℕ) (ss ts : List Statement) → AreStatements bytes ss → AreStatements bytes ts → ss ≡ ts
 statements_one bytes ss ts h i = say_one (text_lines bytes) ss ts h.0 i.0
-
--- a text describes one memory
-pub reads_one : (bytes : List ℕ) (d e : Description) → Reads bytes (Ok d) → Reads bytes (Ok e) → d ≡ e
-reads_one bytes d e (ss, a, p) (ts, b, q) =
-    let s : ts ≡ ss = statements_one bytes ts ss b a in
-    let k : Ok d ≡ Ok e = describes_one ss (Ok d) (Ok e) p (subst (λ (xs : List Statement). Describes xs (Ok e)) s q) in
-    cc

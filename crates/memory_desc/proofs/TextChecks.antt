@@ -56,13 +56,13 @@ opened_at {before = before} lines n e step u = subst (Opened n lines) step (subs
 -- ---- no line with content yet
 
 -- what a first statement says
-first_of : (number : ℕ) (c : Content) (ss more : List Statement) (n : Version) → ss ≡ stated number (Some c) ++ more → first_version ss ≡ Some n
+pub first_of : (number : ℕ) (c : Content) (ss more : List Statement) (n : Version) → ss ≡ stated number (Some c) ++ more → first_version ss ≡ Some n
     → (ds : List ℕ) × (c ≡ version ds) × (version_of (digits_value 10 ds) ≡ Some n)
 first_of number (version ds) ss more n e f = (ds, refl, ap first_version (sym e) ∙ f)
 first_of number c ss more n e f = (let k : ◌≡◌ {A = Option Version} None (Some n) = ap first_version (sym e) ∙ f in let z : ⊥ = cc in absurd z)
 
 -- behind the first statement
-behind_first : (number : ℕ) (c : Content) (ss more : List Statement) (n : Version) → ss ≡ stated number (Some c) ++ more → list_all (is_said_in n) ss ≡ true
+pub behind_first : (number : ℕ) (c : Content) (ss more : List Statement) (n : Version) → ss ≡ stated number (Some c) ++ more → list_all (is_said_in n) ss ≡ true
     → list_all (is_said_in n) more ≡ true
 behind_first number c ss more n e f =
     (and_parts (is_said_in n (record { line = number; content = c })) (list_all (is_said_in n) more) (ap (list_all (is_said_in n)) (sym e) ∙ f)).1
@@ -141,7 +141,7 @@ one_more ss n number v f e = record {
       ∙ and_from (list_all (is_said_in n) ss) (list_all (is_said_in n) (stated number v)) f.tabled (tabled_line n number v e);
 }
 
-behind_line : (n : Version) (number : ℕ) (v : Option Content) (ss more : List Statement) → ss ≡ stated number v ++ more → list_all (is_said_in n) ss ≡ true
+pub behind_line : (n : Version) (number : ℕ) (v : Option Content) (ss more : List Statement) → ss ≡ stated number v ++ more → list_all (is_said_in n) ss ≡ true
     → list_all (is_said_in n) more ≡ true
 behind_line n number None ss more e f = ap (list_all (is_said_in n)) (sym e) ∙ f
 behind_line n number (Some c) ss more e f = behind_first number c ss more n e f

@@ -9,7 +9,7 @@ use Rattle.scrambler.specs.Scrambling.{Scrambling, IsInvertible, IsLeastDependen
 use Rattle.memory_desc.specs.Descriptions.{Description, assembled}
 use Rattle.memory_desc.specs.LineText.{Term, index_bit, constant, Content, name, words, bits, latency, polarity, pause, scramble, backgrounds}
 use Rattle.memory_desc.specs.LineFaults.{AreRefused}
-use Rattle.memory_desc.specs.Names.{is_among, reserved_words}
+use Rattle.bist_text.specs.ReservedWords.{is_among, reserved_words}
 use Rattle.memory_desc.specs.Statements.{Statement, Say, IsOfVersion}
 use Rattle.memory_desc.specs.Subjects.{subject, about, said}
 use Rattle.memory_desc.specs.Values.{name_said, words_said, bits_said, latency_said, polarity_said, pause_said, matrix_said, AreBackgrounds}

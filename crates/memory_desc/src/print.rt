@@ -7,15 +7,9 @@ ghost use Rattle.memory_desc.specs.Printed.{number_line, name_line, size_lines, 
 
 use crate::memory::Memory;
 use bist_bits::NoMemory;
-use bist_text::{put_decimal, put_hex};
+use bist_text::{put, put_decimal, put_hex};
 use scrambler::Scramble;
 use std::alloc::Global;
-
-fn put(out: &mut Vec<u8>, bytes: &[u8]) -> Result<(), NoMemory>
-    ensures { OnOk result (out.new.items ≡ out.old.items ++ bytes.now) }
-{
-    out.extend_from_slice(bytes).map_err(|_| NoMemory)
-}
 
 fn put_number_line(out: &mut Vec<u8>, word: &[u8], n: u64) -> Result<(), NoMemory>
     ensures { OnOk result (out.new.items ≡ out.old.items ++ number_line word.now n) }

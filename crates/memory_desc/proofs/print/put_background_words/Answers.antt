@@ -18,6 +18,6 @@ loop-word-preserved c =
     let so_far = background_texts c.args.bits (take i set) in
     let digits = hex_digits ((c.args.bits + 3) / 4) (slice_index set i) in
     c.in_ok-put_hex.ensures.ok
-    ∙ ap (λ (t : List ℕ). t ++ digits) (c.in_ok-put.ensures ∙ ap (λ (t : List ℕ). t ++ 32 ∷ []) c.loop-word.invariant)
+    ∙ ap (λ (t : List ℕ). t ++ digits) (c.in_ok-put.ensures.ok ∙ ap (λ (t : List ℕ). t ++ 32 ∷ []) c.loop-word.invariant)
     ∙ append_assoc (before ++ so_far) (32 ∷ []) digits ∙ append_assoc before so_far (32 ∷ digits)
     ∙ ap (λ (t : List ℕ). before ++ t) (sym (words_more c.args.bits set i c.loop-word-test.true))

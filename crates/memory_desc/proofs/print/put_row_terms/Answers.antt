@@ -6,4 +6,4 @@ pub returns-in_ok-put : goal.returns-in_ok-put
 returns-in_ok-put c =
     constant_written c.args.out.now.items c.put_index_terms.new.out.items c.put.new.out.items c.args.names c.args.constant c.args.width
     c.in_ok-none.none c.in_ok-none.ensures.terms c.in_ok-none.ensures.none c.if-constant-eq1.true
-    (c.in_ok-put.ensures ∙ ap (λ (out : List ℕ). out ++ 49 ∷ []) c.in_ok-put_separator.ensures)
+    (c.in_ok-put.ensures.ok ∙ ap (λ (out : List ℕ). out ++ 49 ∷ []) c.in_ok-put_separator.ensures)
