@@ -4,3 +4,4 @@ mod Standing
 mod OpBuilt
 mod Outcomes
 mod PrintLaws
+pub mod Exceeding

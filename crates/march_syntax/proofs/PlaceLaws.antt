@@ -1,52 +1,81 @@
 -- The four laws of the reader's places: what may follow each, by the next byte.
 use Rattle.std.proofs.Common.{◌≡◌, ℕ, ◌==◌, Bool, true, false, List, [], ◌∷◌, ◌++◌, Option, Some, None, refl, ◌↔◌, ◌⊎◌, inl, inr, subst, sym, ap, ◌∙◌, ◌&&◌, append-nil, if◌then◌else◌, arith, option_map}
-use Rattle.bist_text.specs.Grammar.{finish, byte, one_of, are_bytes, Continues}
+use Rattle.bist_text.specs.Grammar.{finish, byte, are_bytes, Continues}
 use Rattle.bist_text.specs.Machine.{Holds, Grows, Follows}
 use Rattle.bist_text.proofs.Pieces.{at_byte, also, skip, stay, neither, same, never, holds_iff, holds_never, grows_iff, grows_never, grows_from_none, Headed, grows_one, many_never, ends_none, ends_here}
 use Rattle.march_core.specs.declared.operation.Order.{Order}
-use Rattle.march_core.specs.declared.operation.Order.TheVariants.{Up, Down, Any}
+use Rattle.march_core.specs.declared.operation.Order.TheVariants.{Up}
 use Rattle.march_core.specs.declared.operation.Op.{Op}
 use Rattle.march_core.specs.declared.operation.Op.TheVariants.{W0, W1, R0, R1}
-use Rattle.march_core.specs.March.{MarchElement}
+use Rattle.march_core.specs.March.{MarchElement, pause, sweep}
 use Rattle.march_syntax.specs.declared.place.Part.{Part}
 use Rattle.march_syntax.specs.declared.place.Part.TheVariants.{Begin}
 use Rattle.march_syntax.specs.declared.place.Spelled.{Spelled}
-use Rattle.march_syntax.specs.declared.place.Spelled.TheVariants.{More, Whole}
+use Rattle.march_syntax.specs.declared.place.Spelled.TheVariants.{More, Whole, Pause}
 use Rattle.march_syntax.specs.declared.place.Access.{Access}
 use Rattle.march_syntax.specs.declared.place.Access.TheVariants.{Write, Read}
 use Rattle.march_syntax.specs.declared.place.Place.{Place}
 use Rattle.march_syntax.specs.declared.place.Place.TheVariants.{Start, Open, Spelling, Ordered, Wanted, Digit, Operation, Ended, Next, Closed}
 use Rattle.march_syntax.specs.declared.place.Event.TheVariants.{Quiet, Adds}
 use Rattle.march_syntax.specs.declared.place.Move.{Move}
-use Rattle.march_syntax.specs.MarchText.{is_white, ws, spellings, more_ops, ops, body, more_elements, elements, close, listed, MarchText}
-use Rattle.march_syntax.specs.Places.{spell, left, spelled, State, begun, spelling, op_of, start, moved, move, step_at, step, value, may_end, digit, ops_left, in_element, in_spelling, left_at, Nothing, rest, spelled_at}
-use Rattle.march_syntax.proofs.Spelling.{spell_law, no_part, part_alive}
+use Rattle.march_syntax.specs.MarchText.{is_white, ws, more_ops, ops, body, element, more_elements, elements, close, listed, MarchText}
+use Rattle.march_syntax.specs.Places.{spell, spelled, pause_spelled, paused, State, begun, spelling, op_of, start, moved, move, step_at, step, value, may_end, digit, ops_left, in_element, in_spelling, left_at, Nothing, rest, spelled_at}
+use Rattle.march_syntax.proofs.Spelling.{spell_law, pause_law, no_part, no_pause_part, part_alive}
 
 -- what the next byte of a spelling leaves
 pub wants : (p : Part) (s : State) (es : List MarchElement) (c : ℕ) (b : List ℕ) → in_spelling p s es (c ∷ b) ↔ Holds (spell p c) (λ q. spelled_at q s es b)
-wants p s [] c b = never (λ h. h) (λ h. holds_never (spell p c) (λ q. spelled_at q s [] b) (elim [ More q ↦ λ z. z | Whole o ↦ λ z. z ]) h)
-wants p s (e ∷ es) c b = also (spell_law p e.order (body e.ops (more_elements es (ws (close s.braced)))) b c) (holds_iff (spell p c) (λ q. spelled q e.order (body e.ops (more_elements es (ws (close s.braced)))) b) (λ q. spelled_at q s (e ∷ es) b) each)
+wants p s [] c b =
+    never (λ h. h)
+    (λ h. holds_never (spell p c) (λ q. spelled_at q s [] b) (elim [ More q ↦ λ z. z | Whole o ↦ λ z. z | Pause ↦ λ z. z ]) h)
+wants p s (pause ∷ es) c b =
+    also (pause_law p (more_elements es (ws (close s.braced))) b c)
+    (holds_iff (spell p c) (λ q. pause_spelled q (more_elements es (ws (close s.braced))) b) (λ q. spelled_at q s (pause ∷ es) b) each)
   where
-    each : (q : Spelled) → spelled q e.order (body e.ops (more_elements es (ws (close s.braced)))) b ↔ spelled_at q s (e ∷ es) b
+    each : (q : Spelled) → pause_spelled q (more_elements es (ws (close s.braced))) b ↔ spelled_at q s (pause ∷ es) b
     each (More q) = same
-    each (Whole o) = (λ h. (h.0, (e.ops, refl, h.1)), λ h. (h.0, (grows_from_none e.ops (λ os. body os (more_elements es (ws (close s.braced))) b)).0 h.1))
+    each (Whole o) = same
+    each Pause = same
+wants p s (sweep r os ∷ es) c b =
+    also (spell_law p r (body os (more_elements es (ws (close s.braced)))) b c)
+    (holds_iff (spell p c) (λ q. spelled q r (body os (more_elements es (ws (close s.braced)))) b) (λ q. spelled_at q s (sweep r os ∷ es) b) each)
+  where
+    each : (q : Spelled) → spelled q r (body os (more_elements es (ws (close s.braced)))) b ↔ spelled_at q s (sweep r os ∷ es) b
+    each (More q) = same
+    each (Whole o) =
+        (λ h. (h.0, (os, refl, h.1)), λ h. (h.0, (grows_from_none os (λ m. body m (more_elements es (ws (close s.braced))) b)).0 h.1))
+    each Pause = same
 
 abbrev with_braces : Bool → State → State
 with_braces t s = record s { braced = t }
 
 -- the state after a byte of a spelling
-spelling_law : (t : Bool) (s : State) (o : Option Spelled) (b : List ℕ) (v : List MarchElement) → Grows s.done v (λ es. Holds o (λ q. spelled_at q (with_braces t s) es b)) ↔ Holds (option_map (moved s) (spelling t o)) (λ z. rest z b v)
+spelling_law : (t : Bool) (s : State) (o : Option Spelled) (b : List ℕ) (v : List MarchElement)
+    → Grows s.done v (λ es. Holds o (λ q. spelled_at q (with_braces t s) es b)) ↔ Holds (option_map (moved s) (spelling t o)) (λ z. rest z b v)
 spelling_law t s None b v = never (λ h. h.2) (λ h. h)
 spelling_law t s (Some (More p)) b v = same
 spelling_law t s (Some (Whole o)) b v = same
+spelling_law t s (Some Pause) b v =
+    grows_one s.done v pause (λ es. paused (with_braces t s) es b) (λ es. more_elements es (ws (close t)) b) each
+  where
+    each : (m : List MarchElement) → paused (with_braces t s) m b ↔ Headed pause (λ es. more_elements es (ws (close t)) b) m
+    each [] = same
+    each (pause ∷ m) = (λ h. (refl, h), λ h. h.1)
+    each (sweep o os ∷ m) = never (λ h. h) (λ h. let e : sweep o os ≡ pause = h.0 in cc)
 
 spelling_goes : (p : Part) (t : Bool) (s : State) (c : ℕ) (b : List ℕ) (v : List MarchElement) → Grows s.done v (λ es. in_spelling p (with_braces t s) es (c ∷ b)) ↔ Holds (option_map (moved s) (spelling t (spell p c))) (λ z. rest z b v)
 spelling_goes p t s c b v = also (grows_iff s.done v (λ es. in_spelling p (with_braces t s) es (c ∷ b)) (λ es. Holds (spell p c) (λ q. spelled_at q (with_braces t s) es b)) (λ es. wants p (with_braces t s) es c b)) (spelling_law t s (spell p c) b v)
 
+-- elements begin with a spelling
+elements_begin : (s : State) (es : List MarchElement) (b : List ℕ) → elements es (ws (close s.braced)) b ↔ in_spelling Begin s es b
+elements_begin s [] b = same
+elements_begin s (pause ∷ es) b = same
+elements_begin s (sweep o os ∷ es) b = same
+
 -- elements don't begin with a byte that begins no order
 pub no_elements : (s : State) (es : List MarchElement) (c : ℕ) (b : List ℕ) → spell Begin c ≡ None → elements es (ws (close s.braced)) (c ∷ b) → ⊥
 no_elements s [] c b e h = h
-no_elements s (x ∷ es) c b e h = subst (λ (o : Option Spelled). Holds o (λ q. spelled_at q s (x ∷ es) b)) e ((wants Begin s (x ∷ es) c b).0 h)
+no_elements s (x ∷ es) c b e h =
+    subst (λ (o : Option Spelled). Holds o (λ q. spelled_at q s (x ∷ es) b)) e ((wants Begin s (x ∷ es) c b).0 ((elements_begin s (x ∷ es) (c ∷ b)).0 h))
 
 no_listed : (s : State) (es : List MarchElement) (c : ℕ) (b : List ℕ) → spell Begin c ≡ None → (close s.braced (c ∷ b) → ⊥) → listed s.braced es (c ∷ b) → ⊥
 no_listed s [] c b e f h = f h
@@ -55,19 +84,31 @@ no_listed s (x ∷ es) c b e f h = no_elements s (x ∷ es) c b e h
 -- behind a byte that isn't the end
 listed_wants : (s : State) (es : List MarchElement) (c : ℕ) (b : List ℕ) → (close s.braced (c ∷ b) → ⊥) → listed s.braced es (c ∷ b) ↔ in_spelling Begin s es (c ∷ b)
 listed_wants s [] c b f = never f (λ h. h)
-listed_wants s (x ∷ es) c b f = same
+listed_wants s (x ∷ es) c b f = elements_begin s (x ∷ es) (c ∷ b)
 
 abbrev Law : Place → State → List ℕ → List MarchElement → ℕ → Type 0
 Law p s b v c = Grows s.done v (λ es. left_at p s es (c ∷ b)) ↔ Holds (step_at p s c) (λ t. rest t b v)
 
 pub goes_start : (s : State) (c : ℕ) (b : List ℕ) (v : List MarchElement) → Law Start s b v c
-goes_start s c b v = at_byte P c 32 (grows_iff s.done v (λ es. left_at Start s es (32 ∷ b)) (λ es. left_at Start s es b) (λ es. skip (neither (λ z. z) (no_listed (with_braces false s) es 32 b refl (λ z. z))))) (λ n32. at_byte P c 9 (grows_iff s.done v (λ es. left_at Start s es (9 ∷ b)) (λ es. left_at Start s es b) (λ es. skip (neither (λ z. z) (no_listed (with_braces false s) es 9 b refl (λ z. z))))) (λ n9. at_byte P c 13 (grows_iff s.done v (λ es. left_at Start s es (13 ∷ b)) (λ es. left_at Start s es b) (λ es. skip (neither (λ z. z) (no_listed (with_braces false s) es 13 b refl (λ z. z))))) (λ n13. at_byte P c 10 (grows_iff s.done v (λ es. left_at Start s es (10 ∷ b)) (λ es. left_at Start s es b) (λ es. skip (neither (λ z. z) (no_listed (with_braces false s) es 10 b refl (λ z. z))))) (λ n10. at_byte P c 123 (grows_iff s.done v (λ es. left_at Start s es (123 ∷ b)) (λ es. ws (listed true es) b) (λ es. also (stay (λ z. z)) (stay (no_listed (with_braces false s) es 123 b refl (λ z. z))))) (λ n123. simp (n32, n9, n13, n10, n123) (also (grows_iff s.done v (λ es. (⊥ ⊎ listed false es (c ∷ b)) ⊎ ⊥) (λ es. in_spelling Begin (with_braces false s) es (c ∷ b)) (λ es. also (stay (λ z. z)) (also (skip (λ z. z)) (listed_wants (with_braces false s) es c b (λ z. z))))) (spelling_goes Begin false s c b v)))))))
+goes_start s c b v =
+    at_byte P c 32 (grows_iff s.done v (λ es. left_at Start s es (32 ∷ b)) (λ es. left_at Start s es b) (λ es. skip (neither (λ z. z) (no_listed (with_braces false s) es 32 b refl (λ z. z))))) (λ n32.
+    at_byte P c 9 (grows_iff s.done v (λ es. left_at Start s es (9 ∷ b)) (λ es. left_at Start s es b) (λ es. skip (neither (λ z. z) (no_listed (with_braces false s) es 9 b refl (λ z. z))))) (λ n9.
+    at_byte P c 13 (grows_iff s.done v (λ es. left_at Start s es (13 ∷ b)) (λ es. left_at Start s es b) (λ es. skip (neither (λ z. z) (no_listed (with_braces false s) es 13 b refl (λ z. z))))) (λ n13.
+    at_byte P c 10 (grows_iff s.done v (λ es. left_at Start s es (10 ∷ b)) (λ es. left_at Start s es b) (λ es. skip (neither (λ z. z) (no_listed (with_braces false s) es 10 b refl (λ z. z))))) (λ n10.
+    at_byte P c 123 (grows_iff s.done v (λ es. left_at Start s es (123 ∷ b)) (λ es. ws (listed true es) b) (λ es. also (stay (λ z. z)) (stay (no_listed (with_braces false s) es 123 b refl (λ z. z))))) (λ n123.
+    simp (n32, n9, n13, n10, n123) (also (grows_iff s.done v (λ es. (⊥ ⊎ listed false es (c ∷ b)) ⊎ ⊥) (λ es. in_spelling Begin (with_braces false s) es (c ∷ b)) (λ es. also (stay (λ z. z)) (also (skip (λ z. z)) (listed_wants (with_braces false s) es c b (λ z. z))))) (spelling_goes Begin false s c b v)))))))
   where
     P : ℕ → Type 0
     P x = Law Start s b v x
 
 pub goes_open : (s : State) (c : ℕ) (b : List ℕ) (v : List MarchElement) → Law Open s b v c
-goes_open s c b v = at_byte P c 32 (grows_iff s.done v (λ es. left_at Open s es (32 ∷ b)) (λ es. left_at Open s es b) (λ es. skip (no_listed (with_braces true s) es 32 b refl (λ z. z)))) (λ n32. at_byte P c 9 (grows_iff s.done v (λ es. left_at Open s es (9 ∷ b)) (λ es. left_at Open s es b) (λ es. skip (no_listed (with_braces true s) es 9 b refl (λ z. z)))) (λ n9. at_byte P c 13 (grows_iff s.done v (λ es. left_at Open s es (13 ∷ b)) (λ es. left_at Open s es b) (λ es. skip (no_listed (with_braces true s) es 13 b refl (λ z. z)))) (λ n13. at_byte P c 10 (grows_iff s.done v (λ es. left_at Open s es (10 ∷ b)) (λ es. left_at Open s es b) (λ es. skip (no_listed (with_braces true s) es 10 b refl (λ z. z)))) (λ n10. at_byte P c 125 (grows_iff s.done v (λ es. left_at Open s es (125 ∷ b)) (λ es. Nothing es × ws finish b) (λ es. also (stay (λ z. z)) (closes es))) (λ n125. simp (n32, n9, n13, n10, n125) (also (grows_iff s.done v (λ es. listed true es (c ∷ b) ⊎ ⊥) (λ es. in_spelling Begin (with_braces true s) es (c ∷ b)) (λ es. also (stay (λ z. z)) (listed_wants (with_braces true s) es c b (simp n125 (λ z. z))))) (spelling_goes Begin true s c b v)))))))
+goes_open s c b v =
+    at_byte P c 32 (grows_iff s.done v (λ es. left_at Open s es (32 ∷ b)) (λ es. left_at Open s es b) (λ es. skip (no_listed (with_braces true s) es 32 b refl (λ z. z)))) (λ n32.
+    at_byte P c 9 (grows_iff s.done v (λ es. left_at Open s es (9 ∷ b)) (λ es. left_at Open s es b) (λ es. skip (no_listed (with_braces true s) es 9 b refl (λ z. z)))) (λ n9.
+    at_byte P c 13 (grows_iff s.done v (λ es. left_at Open s es (13 ∷ b)) (λ es. left_at Open s es b) (λ es. skip (no_listed (with_braces true s) es 13 b refl (λ z. z)))) (λ n13.
+    at_byte P c 10 (grows_iff s.done v (λ es. left_at Open s es (10 ∷ b)) (λ es. left_at Open s es b) (λ es. skip (no_listed (with_braces true s) es 10 b refl (λ z. z)))) (λ n10.
+    at_byte P c 125 (grows_iff s.done v (λ es. left_at Open s es (125 ∷ b)) (λ es. Nothing es × ws finish b) (λ es. also (stay (λ z. z)) (closes es))) (λ n125.
+    simp (n32, n9, n13, n10, n125) (also (grows_iff s.done v (λ es. listed true es (c ∷ b) ⊎ ⊥) (λ es. in_spelling Begin (with_braces true s) es (c ∷ b)) (λ es. also (stay (λ z. z)) (listed_wants (with_braces true s) es c b (simp n125 (λ z. z))))) (spelling_goes Begin true s c b v)))))))
   where
     P : ℕ → Type 0
     P x = Law Open s b v x
@@ -82,7 +123,12 @@ within p q s c b v f = grows_iff s.done v (λ es. in_element p s es (c ∷ b)) (
   where
     each : (es : List MarchElement) → in_element p s es (c ∷ b) ↔ in_element q s es b
     each [] = same
-    each (e ∷ es) = let g : Grows s.ops e.ops (λ os. ops_left p os (more_elements es (ws (close s.braced))) (c ∷ b)) ↔ Grows s.ops e.ops (λ os. ops_left q os (more_elements es (ws (close s.braced))) b) = grows_iff s.ops e.ops (λ os. ops_left p os (more_elements es (ws (close s.braced))) (c ∷ b)) (λ os. ops_left q os (more_elements es (ws (close s.braced))) b) (λ os. f os (more_elements es (ws (close s.braced)))) in (λ h. (h.0, g.0 h.1), λ h. (h.0, g.1 h.1))
+    each (pause ∷ es) = same
+    each (sweep o os ∷ es) =
+        let K = more_elements es (ws (close s.braced)) in
+        let g : Grows s.ops os (λ m. ops_left p m K (c ∷ b)) ↔ Grows s.ops os (λ m. ops_left q m K b) =
+        grows_iff s.ops os (λ m. ops_left p m K (c ∷ b)) (λ m. ops_left q m K b) (λ m. f m K) in
+        (λ h. (h.0, g.0 h.1), λ h. (h.0, g.1 h.1))
 
 -- a byte that nothing in an element begins with
 outside : (p : Place) (s : State) (c : ℕ) (b : List ℕ) (v : List MarchElement) → ((os : List Op) (K : List ℕ → Type 0) → ops_left p os K (c ∷ b) → ⊥) → Grows s.done v (λ es. in_element p s es (c ∷ b)) → ⊥
@@ -90,13 +136,20 @@ outside p s c b v f h = go h.0 h.2
   where
     go : (es : List MarchElement) → in_element p s es (c ∷ b) → ⊥
     go [] z = z
-    go (e ∷ es) z = f z.1.0 (more_elements es (ws (close s.braced))) z.1.2
+    go (pause ∷ es) z = z
+    go (sweep o os ∷ es) z = f z.1.0 (more_elements es (ws (close s.braced))) z.1.2
 
 pub goes_spelling : (p : Part) (s : State) (c : ℕ) (b : List ℕ) (v : List MarchElement) → Law (Spelling p) s b v c
 goes_spelling p s c b v = spelling_goes p s.braced s c b v
 
 pub goes_ordered : (s : State) (c : ℕ) (b : List ℕ) (v : List MarchElement) → Law Ordered s b v c
-goes_ordered s c b v = at_byte P c 32 (within Ordered Ordered s 32 b v (λ os K. skip (λ z. z))) (λ n32. at_byte P c 9 (within Ordered Ordered s 9 b v (λ os K. skip (λ z. z))) (λ n9. at_byte P c 13 (within Ordered Ordered s 13 b v (λ os K. skip (λ z. z))) (λ n13. at_byte P c 10 (within Ordered Ordered s 10 b v (λ os K. skip (λ z. z))) (λ n10. at_byte P c 40 (within Ordered Wanted s 40 b v (λ os K. stay (λ z. z))) (λ n40. simp (n32, n9, n13, n10, n40) (never (outside Ordered s c b v (λ os K. simp (n32, n9, n13, n10, n40) (neither (λ z. z) (λ z. z)))) (λ z. z)))))))
+goes_ordered s c b v =
+    at_byte P c 32 (within Ordered Ordered s 32 b v (λ os K. skip (λ z. z))) (λ n32.
+    at_byte P c 9 (within Ordered Ordered s 9 b v (λ os K. skip (λ z. z))) (λ n9.
+    at_byte P c 13 (within Ordered Ordered s 13 b v (λ os K. skip (λ z. z))) (λ n13.
+    at_byte P c 10 (within Ordered Ordered s 10 b v (λ os K. skip (λ z. z))) (λ n10.
+    at_byte P c 40 (within Ordered Wanted s 40 b v (λ os K. stay (λ z. z))) (λ n40.
+    simp (n32, n9, n13, n10, n40) (never (outside Ordered s c b v (λ os K. simp (n32, n9, n13, n10, n40) (neither (λ z. z) (λ z. z)))) (λ z. z)))))))
   where
     P : ℕ → Type 0
     P x = Law Ordered s b v x
@@ -124,7 +177,14 @@ letter_r (R0 ∷ os) K b = same
 letter_r (R1 ∷ os) K b = same
 
 pub goes_wanted : (s : State) (c : ℕ) (b : List ℕ) (v : List MarchElement) → Law Wanted s b v c
-goes_wanted s c b v = at_byte P c 32 (within Wanted Wanted s 32 b v (λ os K. skip (no_ops os (ws (byte 41 K)) 32 b refl refl))) (λ n32. at_byte P c 9 (within Wanted Wanted s 9 b v (λ os K. skip (no_ops os (ws (byte 41 K)) 9 b refl refl))) (λ n9. at_byte P c 13 (within Wanted Wanted s 13 b v (λ os K. skip (no_ops os (ws (byte 41 K)) 13 b refl refl))) (λ n13. at_byte P c 10 (within Wanted Wanted s 10 b v (λ os K. skip (no_ops os (ws (byte 41 K)) 10 b refl refl))) (λ n10. at_byte P c 119 (within Wanted (Digit Write) s 119 b v (λ os K. also (stay (λ z. z)) (letter_w os K b))) (λ n119. at_byte P c 114 (within Wanted (Digit Read) s 114 b v (λ os K. also (stay (λ z. z)) (letter_r os K b))) (λ n114. simp (n32, n9, n13, n10, n119, n114) (never (outside Wanted s c b v (λ os K. simp (n32, n9, n13, n10) (neither (no_ops os (ws (byte 41 K)) c b n119 n114) (λ z. z)))) (λ z. z))))))))
+goes_wanted s c b v =
+    at_byte P c 32 (within Wanted Wanted s 32 b v (λ os K. skip (no_ops os (ws (byte 41 K)) 32 b refl refl))) (λ n32.
+    at_byte P c 9 (within Wanted Wanted s 9 b v (λ os K. skip (no_ops os (ws (byte 41 K)) 9 b refl refl))) (λ n9.
+    at_byte P c 13 (within Wanted Wanted s 13 b v (λ os K. skip (no_ops os (ws (byte 41 K)) 13 b refl refl))) (λ n13.
+    at_byte P c 10 (within Wanted Wanted s 10 b v (λ os K. skip (no_ops os (ws (byte 41 K)) 10 b refl refl))) (λ n10.
+    at_byte P c 119 (within Wanted (Digit Write) s 119 b v (λ os K. also (stay (λ z. z)) (letter_w os K b))) (λ n119.
+    at_byte P c 114 (within Wanted (Digit Read) s 114 b v (λ os K. also (stay (λ z. z)) (letter_r os K b))) (λ n114.
+    simp (n32, n9, n13, n10, n119, n114) (never (outside Wanted s c b v (λ os K. simp (n32, n9, n13, n10) (neither (no_ops os (ws (byte 41 K)) c b n119 n114) (λ z. z)))) (λ z. z))))))))
   where
     P : ℕ → Type 0
     P x = Law Wanted s b v x
@@ -160,10 +220,18 @@ letter_ends r d s c b v f = grows_iff s.done v (λ es. in_element (Digit r) s es
   where
     each : (es : List MarchElement) → in_element (Digit r) s es (c ∷ b) ↔ in_element Operation (record s { ops = s.ops ++ (op_of r d ∷ []) }) es b
     each [] = same
-    each (e ∷ es) = let K : List ℕ → Type 0 = more_elements es (ws (close s.braced)) in let g : Grows s.ops e.ops (λ os. ops_left (Digit r) os K (c ∷ b)) ↔ Grows (s.ops ++ (op_of r d ∷ [])) e.ops (λ os. ops_left Operation os K b) = grows_one s.ops e.ops (op_of r d) (λ os. ops_left (Digit r) os K (c ∷ b)) (λ os. ops_left Operation os K b) (λ os. digit_ends r d c b K os f) in (λ h. (h.0, g.0 h.1), λ h. (h.0, g.1 h.1))
+    each (pause ∷ es) = same
+    each (sweep o os ∷ es) =
+        let K : List ℕ → Type 0 = more_elements es (ws (close s.braced)) in
+        let g : Grows s.ops os (λ m. ops_left (Digit r) m K (c ∷ b)) ↔ Grows (s.ops ++ (op_of r d ∷ [])) os (λ m. ops_left Operation m K b) =
+        grows_one s.ops os (op_of r d) (λ m. ops_left (Digit r) m K (c ∷ b)) (λ m. ops_left Operation m K b) (λ m. digit_ends r d c b K m f) in
+        (λ h. (h.0, g.0 h.1), λ h. (h.0, g.1 h.1))
 
 pub goes_letter : (r : Access) (s : State) (c : ℕ) (b : List ℕ) (v : List MarchElement) → Law (Digit r) s b v c
-goes_letter r s c b v = at_byte P c 48 (letter_ends r false s 48 b v (λ o L. (digit_is r o b L).0)) (λ n48. at_byte P c 49 (letter_ends r true s 49 b v (λ o L. (digit_is r o b L).1)) (λ n49. simp (n48, n49) (never (outside (Digit r) s c b v (λ os K. no_digit r os K c b n48 n49)) (λ z. z))))
+goes_letter r s c b v =
+    at_byte P c 48 (letter_ends r false s 48 b v (λ o L. (digit_is r o b L).0)) (λ n48.
+    at_byte P c 49 (letter_ends r true s 49 b v (λ o L. (digit_is r o b L).1)) (λ n49.
+    simp (n48, n49) (never (outside (Digit r) s c b v (λ os K. no_digit r os K c b n48 n49)) (λ z. z))))
   where
     P : ℕ → Type 0
     P x = Law (Digit r) s b v x
@@ -214,9 +282,6 @@ brace s false b v = never (grows_never s.done v (λ es. more_elements es (ws (cl
     each [] = neither (λ z. z) (λ z. z)
     each (e ∷ es) = neither (λ z. z) (λ z. z)
 
-element_same : (a b : Order) (x y : List Op) → a ≡ b → x ≡ y → (let e : MarchElement = record { order = a; ops = x } in let f : MarchElement = record { order = b; ops = y } in e ≡ f)
-element_same a b x y p q = cc
-
 -- the parenthesis ends an element
 ends_element : (s : State) (b : List ℕ) (v : List MarchElement) → Grows s.done v (λ es. in_element Operation s es (41 ∷ b)) ↔ Grows (s.done ++ (begun s ∷ [])) v (λ es. more_elements es (ws (close s.braced)) b)
 ends_element s b v = grows_one s.done v (begun s) (λ es. in_element Operation s es (41 ∷ b)) (λ es. more_elements es (ws (close s.braced)) b) each
@@ -227,35 +292,67 @@ ends_element s b v = grows_one s.done v (begun s) (λ es. in_element Operation s
 
     each : (es : List MarchElement) → in_element Operation s es (41 ∷ b) ↔ Headed (begun s) (λ m. more_elements m (ws (close s.braced)) b) es
     each [] = same
-    each (e ∷ es) = let K : List ℕ → Type 0 = more_elements es (ws (close s.braced)) in (λ h. (is_begun e h.0 h.1.0 h.1.1 ((none_left h.1.0 K).0 h.1.2).0, ((none_left h.1.0 K).0 h.1.2).1), λ h. (ap (λ (x : MarchElement). x.order) h.0, ([], ap (λ (x : MarchElement). x.ops) h.0 ∙ sym (append-nil s.ops), (none_left [] K).1 (refl, h.1))))
+    each (pause ∷ es) = never (λ h. h) (λ h. let e : pause ≡ begun s = h.0 in cc)
+    each (sweep o os ∷ es) =
+        let K : List ℕ → Type 0 = more_elements es (ws (close s.braced)) in (
+          (λ h. let left = (none_left h.1.0 K).0 h.1.2 in (is_begun h.0 h.1.0 h.1.1 left.0, left.1)),
+          (λ h. let order : o ≡ s.order = order_is h.0 in let ops : os ≡ s.ops = ops_is h.0 in
+              (order, ([], ops ∙ sym (append-nil s.ops), (none_left [] K).1 (refl, h.1)))),
+        )
       where
-        is_begun : (e : MarchElement) → e.order ≡ s.order → (os : List Op) → e.ops ≡ s.ops ++ os → os ≡ [] → e ≡ begun s
-        is_begun e h os f g = element_same e.order s.order e.ops s.ops h (f ∙ ap (λ x. s.ops ++ x) g ∙ append-nil s.ops)
+        is_begun : o ≡ s.order → (more : List Op) → os ≡ s.ops ++ more → more ≡ [] → sweep o os ≡ begun s
+        is_begun h more f g = let e : os ≡ s.ops = f ∙ ap (λ x. s.ops ++ x) g ∙ append-nil s.ops in cc
+
+        order_is : sweep o os ≡ begun s → o ≡ s.order
+        order_is e = cc
+
+        ops_is : sweep o os ≡ begun s → os ≡ s.ops
+        ops_is e = cc
 
 pub goes_operation : (s : State) (c : ℕ) (b : List ℕ) (v : List MarchElement) → Law Operation s b v c
-goes_operation s c b v = at_byte P c 32 (within Operation Operation s 32 b v (λ os K. white_op os K b 32 refl refl refl)) (λ n32. at_byte P c 9 (within Operation Operation s 9 b v (λ os K. white_op os K b 9 refl refl refl)) (λ n9. at_byte P c 13 (within Operation Operation s 13 b v (λ os K. white_op os K b 13 refl refl refl)) (λ n13. at_byte P c 10 (within Operation Operation s 10 b v (λ os K. white_op os K b 10 refl refl refl)) (λ n10. at_byte P c 44 (within Operation Wanted s 44 b v (λ os K. comma os K b)) (λ n44. at_byte P c 41 (ends_element s b v) (λ n41. simp (n32, n9, n13, n10, n44, n41) (never (outside Operation s c b v (λ os K. no_more_ops os K c b n32 n9 n13 n10 n44 n41)) (λ z. z))))))))
+goes_operation s c b v =
+    at_byte P c 32 (within Operation Operation s 32 b v (λ os K. white_op os K b 32 refl refl refl)) (λ n32.
+    at_byte P c 9 (within Operation Operation s 9 b v (λ os K. white_op os K b 9 refl refl refl)) (λ n9.
+    at_byte P c 13 (within Operation Operation s 13 b v (λ os K. white_op os K b 13 refl refl refl)) (λ n13.
+    at_byte P c 10 (within Operation Operation s 10 b v (λ os K. white_op os K b 10 refl refl refl)) (λ n10.
+    at_byte P c 44 (within Operation Wanted s 44 b v (λ os K. comma os K b)) (λ n44.
+    at_byte P c 41 (ends_element s b v) (λ n41.
+    simp (n32, n9, n13, n10, n44, n41) (never (outside Operation s c b v (λ os K. no_more_ops os K c b n32 n9 n13 n10 n44 n41)) (λ z. z))))))))
   where
     P : ℕ → Type 0
     P x = Law Operation s b v x
 
 pub goes_ended : (s : State) (c : ℕ) (b : List ℕ) (v : List MarchElement) → Law Ended s b v c
-goes_ended s c b v = at_byte P c 32 (grows_iff s.done v (λ es. left_at Ended s es (32 ∷ b)) (λ es. left_at Ended s es b) (λ es. more_listed s.braced es b 32 refl refl refl)) (λ n32. at_byte P c 9 (grows_iff s.done v (λ es. left_at Ended s es (9 ∷ b)) (λ es. left_at Ended s es b) (λ es. more_listed s.braced es b 9 refl refl refl)) (λ n9. at_byte P c 13 (grows_iff s.done v (λ es. left_at Ended s es (13 ∷ b)) (λ es. left_at Ended s es b) (λ es. more_listed s.braced es b 13 refl refl refl)) (λ n13. at_byte P c 10 (grows_iff s.done v (λ es. left_at Ended s es (10 ∷ b)) (λ es. left_at Ended s es b) (λ es. more_listed s.braced es b 10 refl refl refl)) (λ n10. at_byte P c 59 (grows_iff s.done v (λ es. left_at Ended s es (59 ∷ b)) (λ es. left_at Next s es b) (λ es. semicolon s es b)) (λ n59. at_byte P c 125 (brace s s.braced b v) (λ n125. simp (n32, n9, n13, n10, n59, n125) (never (grows_never s.done v (λ es. more_elements es (ws (close s.braced)) (c ∷ b)) (λ es. no_more_elements s.braced es c b n32 n9 n13 n10 n59 n125)) (no_brace s.braced s (move Closed s.braced Quiet) (λ t. rest t b v)))))))))
+goes_ended s c b v =
+    at_byte P c 32 (grows_iff s.done v (λ es. left_at Ended s es (32 ∷ b)) (λ es. left_at Ended s es b) (λ es. more_listed s.braced es b 32 refl refl refl)) (λ n32.
+    at_byte P c 9 (grows_iff s.done v (λ es. left_at Ended s es (9 ∷ b)) (λ es. left_at Ended s es b) (λ es. more_listed s.braced es b 9 refl refl refl)) (λ n9.
+    at_byte P c 13 (grows_iff s.done v (λ es. left_at Ended s es (13 ∷ b)) (λ es. left_at Ended s es b) (λ es. more_listed s.braced es b 13 refl refl refl)) (λ n13.
+    at_byte P c 10 (grows_iff s.done v (λ es. left_at Ended s es (10 ∷ b)) (λ es. left_at Ended s es b) (λ es. more_listed s.braced es b 10 refl refl refl)) (λ n10.
+    at_byte P c 59 (grows_iff s.done v (λ es. left_at Ended s es (59 ∷ b)) (λ es. left_at Next s es b) (λ es. semicolon s es b)) (λ n59.
+    at_byte P c 125 (brace s s.braced b v) (λ n125.
+    simp (n32, n9, n13, n10, n59, n125) (never (grows_never s.done v (λ es. more_elements es (ws (close s.braced)) (c ∷ b)) (λ es. no_more_elements s.braced es c b n32 n9 n13 n10 n59 n125)) (no_brace s.braced s (move Closed s.braced Quiet) (λ t. rest t b v)))))))))
   where
     P : ℕ → Type 0
     P x = Law Ended s b v x
 
 pub goes_next : (s : State) (c : ℕ) (b : List ℕ) (v : List MarchElement) → Law Next s b v c
-goes_next s c b v = at_byte P c 32 (grows_iff s.done v (λ es. left_at Next s es (32 ∷ b)) (λ es. left_at Next s es b) (λ es. skip (no_elements s es 32 b refl))) (λ n32. at_byte P c 9 (grows_iff s.done v (λ es. left_at Next s es (9 ∷ b)) (λ es. left_at Next s es b) (λ es. skip (no_elements s es 9 b refl))) (λ n9. at_byte P c 13 (grows_iff s.done v (λ es. left_at Next s es (13 ∷ b)) (λ es. left_at Next s es b) (λ es. skip (no_elements s es 13 b refl))) (λ n13. at_byte P c 10 (grows_iff s.done v (λ es. left_at Next s es (10 ∷ b)) (λ es. left_at Next s es b) (λ es. skip (no_elements s es 10 b refl))) (λ n10. simp (n32, n9, n13, n10) (also (grows_iff s.done v (λ es. elements es (ws (close s.braced)) (c ∷ b) ⊎ ⊥) (λ es. in_spelling Begin s es (c ∷ b)) (λ es. also (stay (λ z. z)) (first es))) (spelling_goes Begin s.braced s c b v))))))
+goes_next s c b v =
+    at_byte P c 32 (grows_iff s.done v (λ es. left_at Next s es (32 ∷ b)) (λ es. left_at Next s es b) (λ es. skip (no_elements s es 32 b refl))) (λ n32.
+    at_byte P c 9 (grows_iff s.done v (λ es. left_at Next s es (9 ∷ b)) (λ es. left_at Next s es b) (λ es. skip (no_elements s es 9 b refl))) (λ n9.
+    at_byte P c 13 (grows_iff s.done v (λ es. left_at Next s es (13 ∷ b)) (λ es. left_at Next s es b) (λ es. skip (no_elements s es 13 b refl))) (λ n13.
+    at_byte P c 10 (grows_iff s.done v (λ es. left_at Next s es (10 ∷ b)) (λ es. left_at Next s es b) (λ es. skip (no_elements s es 10 b refl))) (λ n10.
+    simp (n32, n9, n13, n10) (also (grows_iff s.done v (λ es. elements es (ws (close s.braced)) (c ∷ b) ⊎ ⊥) (λ es. in_spelling Begin s es (c ∷ b)) (λ es. also (stay (λ z. z)) (elements_begin s es (c ∷ b)))) (spelling_goes Begin s.braced s c b v))))))
   where
     P : ℕ → Type 0
     P x = Law Next s b v x
 
-    first : (es : List MarchElement) → elements es (ws (close s.braced)) (c ∷ b) ↔ in_spelling Begin s es (c ∷ b)
-    first [] = same
-    first (x ∷ es) = same
-
 pub goes_closed : (s : State) (c : ℕ) (b : List ℕ) (v : List MarchElement) → Law Closed s b v c
-goes_closed s c b v = at_byte P c 32 (grows_iff s.done v (λ es. left_at Closed s es (32 ∷ b)) (λ es. left_at Closed s es b) (λ es. behind es 32)) (λ n32. at_byte P c 9 (grows_iff s.done v (λ es. left_at Closed s es (9 ∷ b)) (λ es. left_at Closed s es b) (λ es. behind es 9)) (λ n9. at_byte P c 13 (grows_iff s.done v (λ es. left_at Closed s es (13 ∷ b)) (λ es. left_at Closed s es b) (λ es. behind es 13)) (λ n13. at_byte P c 10 (grows_iff s.done v (λ es. left_at Closed s es (10 ∷ b)) (λ es. left_at Closed s es b) (λ es. behind es 10)) (λ n10. simp (n32, n9, n13, n10) (never (grows_never s.done v (λ es. Nothing es × (⊥ ⊎ ⊥)) (λ es h. neither (λ z. z) (λ z. z) h.1)) (λ z. z))))))
+goes_closed s c b v =
+    at_byte P c 32 (grows_iff s.done v (λ es. left_at Closed s es (32 ∷ b)) (λ es. left_at Closed s es b) (λ es. behind es 32)) (λ n32.
+    at_byte P c 9 (grows_iff s.done v (λ es. left_at Closed s es (9 ∷ b)) (λ es. left_at Closed s es b) (λ es. behind es 9)) (λ n9.
+    at_byte P c 13 (grows_iff s.done v (λ es. left_at Closed s es (13 ∷ b)) (λ es. left_at Closed s es b) (λ es. behind es 13)) (λ n13.
+    at_byte P c 10 (grows_iff s.done v (λ es. left_at Closed s es (10 ∷ b)) (λ es. left_at Closed s es b) (λ es. behind es 10)) (λ n10.
+    simp (n32, n9, n13, n10) (never (grows_never s.done v (λ es. Nothing es × (⊥ ⊎ ⊥)) (λ es h. neither (λ z. z) (λ z. z) h.1)) (λ z. z))))))
   where
     P : ℕ → Type 0
     P x = Law Closed s b v x
@@ -276,14 +373,14 @@ goes_at Ended s c b v = goes_ended s c b v
 goes_at Next s c b v = goes_next s c b v
 goes_at Closed s c b v = goes_closed s c b v
 
-no_element : (o : Order) (K : List ℕ → Type 0) → one_of (spellings o) K [] → ⊥
-no_element Up K = neither (λ z. z) (neither (λ z. z) (neither (λ z. z) (neither (λ z. z) (λ z. z))))
-no_element Down K = neither (λ z. z) (neither (λ z. z) (neither (λ z. z) (neither (λ z. z) (λ z. z))))
-no_element Any K = neither (λ z. z) (neither (λ z. z) (neither (λ z. z) (neither (λ z. z) (λ z. z))))
+no_element : (e : MarchElement) (K : List ℕ → Type 0) → element e K [] → ⊥
+no_element pause K = no_pause_part Begin K
+no_element (sweep o os) K = no_part Begin o (body os K)
 
 no_end : (p : Place) (s : State) → ((os : List Op) (K : List ℕ → Type 0) → ops_left p os K [] → ⊥) → (es : List MarchElement) → in_element p s es [] → ⊥
 no_end p s f [] h = h
-no_end p s f (e ∷ es) h = f h.1.0 (more_elements es (ws (close s.braced))) h.1.2
+no_end p s f (pause ∷ es) h = h
+no_end p s f (sweep o os ∷ es) h = f h.1.0 (more_elements es (ws (close s.braced))) h.1.2
 
 ended_at : (br : Bool) (done v : List MarchElement) → Grows done v (λ es. more_elements es (ws (close br)) []) ↔ ((if may_end Ended br then Some done else None) ≡ Some v)
 ended_at true done v = ends_none done v (λ es. more_elements es (ws (close true)) []) each
@@ -302,17 +399,18 @@ ends_at Start s v = ends_here s.done v (λ es. left_at Start s es []) (λ es h. 
   where
     nothing : (br : Bool) (es : List MarchElement) → listed br es [] → es ≡ []
     nothing br [] h = refl
-    nothing br (e ∷ es) h = absurd (no_element e.order (body e.ops (more_elements es (ws (close br)))) h)
+    nothing br (e ∷ es) h = absurd (no_element e (more_elements es (ws (close br))) h)
 ends_at Open s v = ends_none s.done v (λ es. left_at Open s es []) unclosed
   where
     unclosed : (es : List MarchElement) → listed true es [] → ⊥
     unclosed [] h = h
-    unclosed (e ∷ es) h = no_element e.order (body e.ops (more_elements es (ws (close true)))) h
+    unclosed (e ∷ es) h = no_element e (more_elements es (ws (close true))) h
 ends_at (Spelling p) s v = ends_none s.done v (λ es. left_at (Spelling p) s es []) each
   where
     each : (es : List MarchElement) → in_spelling p s es [] → ⊥
     each [] h = h
-    each (e ∷ es) h = no_part p e.order (body e.ops (more_elements es (ws (close s.braced)))) h
+    each (pause ∷ es) h = no_pause_part p (more_elements es (ws (close s.braced))) h
+    each (sweep o os ∷ es) h = no_part p o (body os (more_elements es (ws (close s.braced)))) h
 ends_at Ordered s v = ends_none s.done v (λ es. left_at Ordered s es []) (no_end Ordered s (λ os K z. z))
 ends_at Wanted s v = ends_none s.done v (λ es. left_at Wanted s es []) (no_end Wanted s wanted_on)
   where
@@ -344,7 +442,7 @@ ends_at Next s v = ends_none s.done v (λ es. left_at Next s es []) each
   where
     each : (es : List MarchElement) → elements es (ws (close s.braced)) [] → ⊥
     each [] h = h
-    each (e ∷ es) h = no_element e.order (body e.ops (more_elements es (ws (close s.braced)))) h
+    each (e ∷ es) h = no_element e (more_elements es (ws (close s.braced))) h
 ends_at Closed s v = ends_here s.done v (λ es. left_at Closed s es []) nothing (tt, tt)
   where
     nothing : (es : List MarchElement) → Nothing es × Unit {0} → es ≡ []
@@ -361,7 +459,7 @@ tail_closes true = inl tt
 tail_closes false = tt
 
 abbrev an_element : Order → List Op → MarchElement
-an_element o os = record { order = o; ops = os }
+an_element o os = sweep o os
 
 -- each place goes on to an end
 tail_bytes : (br : Bool) → are_bytes (tail br) ≡ true
@@ -371,7 +469,9 @@ tail_bytes false = refl
 pub alive_at : (p : Place) (s : State) → Continues (λ b v. Grows s.done v (λ es. left_at p s es b)) []
 alive_at Start s = ([], s.done, refl, ([], sym (append-nil s.done), inr tt))
 alive_at Open s = (125 ∷ [], s.done, refl, ([], sym (append-nil s.done), inl tt))
-alive_at (Spelling p) s = let a : (b : List ℕ) × (o : Order) × (are_bytes b ≡ true) × one_of (left p o) (body (W0 ∷ []) (ws (close s.braced))) b = part_alive p (body (W0 ∷ []) (ws (close s.braced))) (40 ∷ 119 ∷ 48 ∷ 41 ∷ tail s.braced) (tail_bytes s.braced) (inl (inl (inl (tail_closes s.braced)))) in (a.0, s.done ++ (an_element a.1 (W0 ∷ []) ∷ []), a.2, (an_element a.1 (W0 ∷ []) ∷ [], refl, a.3))
+alive_at (Spelling p) s =
+    let a = part_alive p (ws (close s.braced)) (tail s.braced) (tail_bytes s.braced) (tail_closes s.braced) in
+    (a.0, s.done ++ (a.1 ∷ []), a.2, (a.1 ∷ [], refl, a.3))
 alive_at Ordered s = (40 ∷ 119 ∷ 48 ∷ 41 ∷ tail s.braced, s.done ++ (an_element s.order (s.ops ++ (W0 ∷ [])) ∷ []), tail_bytes s.braced, (an_element s.order (s.ops ++ (W0 ∷ [])) ∷ [], refl, (refl, (W0 ∷ [], refl, inl (inl (inl (tail_closes s.braced)))))))
 alive_at Wanted s = (119 ∷ 48 ∷ 41 ∷ tail s.braced, s.done ++ (an_element s.order (s.ops ++ (W0 ∷ [])) ∷ []), tail_bytes s.braced, (an_element s.order (s.ops ++ (W0 ∷ [])) ∷ [], refl, (refl, (W0 ∷ [], refl, inl (inl (tail_closes s.braced))))))
 alive_at (Digit r) s = (48 ∷ 41 ∷ tail s.braced, s.done ++ (an_element s.order (s.ops ++ (op_of r false ∷ [])) ∷ []), tail_bytes s.braced, (an_element s.order (s.ops ++ (op_of r false ∷ [])) ∷ [], refl, (refl, (op_of r false ∷ [], refl, (digit_goes r)))))

@@ -1,5 +1,5 @@
 -- Where a reader stands in a text, and what it holds there.
-use Rattle.std.proofs.Common.{◌≡◌, ℕ, ◌+◌, ◌<◌, Bool, true, false, List, [], ◌∷◌, ◌++◌, ◌∙◌, length, drop, get_or, Option, Some, None, option_map, refl, sym, ap, subst, append_assoc, arith, length-append, if◌then◌else◌, ◌&&◌, ◌==◌, inl, inr}
+use Rattle.std.proofs.Common.{◌≡◌, ℕ, ◌+◌, ◌<◌, Bool, true, false, List, [], ◌∷◌, ◌++◌, ◌∙◌, length, drop, get_or, Option, Some, None, option_map, refl, sym, ap, subst, append_assoc, arith, IsTrue, length-append, if◌then◌else◌, ◌&&◌, ◌==◌, inl, inr}
 use Rattle.bist_text.specs.Machine.{read, unexpected, scan, ended}
 use Rattle.bist_text.proofs.Loops.{scan_on, scan_stop, scan_end}
 use Rattle.bist_text.proofs.Machine.{scan_read}
@@ -7,15 +7,15 @@ use Rattle.march_core.specs.declared.operation.Op.{Op}
 use Rattle.march_core.specs.declared.operation.Order.{Order}
 use Rattle.march_core.specs.declared.fault.MarchFault.{MarchFault}
 use Rattle.march_core.specs.declared.fault.MarchFault.TheVariants.{TooManyElements}
-use Rattle.march_core.specs.Building.{with_op, last_ops}
-use Rattle.march_core.specs.March.{MarchElement, all_ops}
+use Rattle.march_core.specs.Building.{with_op, last_ops, ends_in_sweep}
+use Rattle.march_core.specs.March.{MarchElement, pause, sweep, ops_of, all_ops}
 use Rattle.march_syntax.specs.declared.place.Spelled.{Spelled}
-use Rattle.march_syntax.specs.declared.place.Spelled.TheVariants.{More, Whole}
+use Rattle.march_syntax.specs.declared.place.Spelled.TheVariants.{More, Whole, Pause}
 use Rattle.march_syntax.specs.declared.place.Place.{Place}
 use Rattle.march_syntax.specs.declared.place.Place.TheVariants.{Start, Open, Spelling, Ordered, Wanted, Digit, Operation, Ended, Next, Closed}
 use Rattle.march_syntax.specs.declared.place.Part.TheVariants.{Begin}
 use Rattle.march_syntax.specs.declared.place.Event.{Event}
-use Rattle.march_syntax.specs.declared.place.Event.TheVariants.{Quiet, Begins, Adds, Ends}
+use Rattle.march_syntax.specs.declared.place.Event.TheVariants.{Quiet, Begins, Adds, Ends, Waits}
 use Rattle.march_syntax.specs.declared.place.Move.{Move}
 use Rattle.march_syntax.specs.Building.{with_event, HasBegun, IsFull, CanAdd, Builds}
 use Rattle.march_syntax.specs.Limits.{IsWithin, BeforeOp, so_far, Exceeds}
@@ -34,12 +34,13 @@ either : (t : Bool) (x y : Option Move) (P : Move → Type 0) → Each x P → E
 either true x y P p q = p
 either false x y P p q = q
 
--- an element begins outside of one, and operations and the end come inside
+-- an element or a pause begins outside of one, and operations and the end come inside
 abbrev pub Fits : Place → Event → Place → Type 0
 Fits p Quiet q = is_inside p ≡ is_inside q
 Fits p (Begins o) q = (is_inside p ≡ false) × (q ≡ Ordered)
 Fits p (Adds op) q = (is_inside p ≡ true) × (q ≡ Operation)
 Fits p Ends q = (is_inside p ≡ true) × (q ≡ Ended)
+Fits p Waits q = (is_inside p ≡ false) × (q ≡ Ended)
 
 abbrev FitsMove : Place → Move → Type 0
 FitsMove p m = Fits p m.event m.place
@@ -48,6 +49,7 @@ spelling_fits : (p : Place) (t : Bool) (o : Option Spelled) → is_inside p ≡ 
 spelling_fits p t None h = tt
 spelling_fits p t (Some (More q)) h = h
 spelling_fits p t (Some (Whole o)) h = (h, refl)
+spelling_fits p t (Some Pause) h = (h, refl)
 
 move_fits : (p : Place) (t : Bool) (c : ℕ) → Each (move_at p t c) (FitsMove p)
 move_fits Start t c = either (is_white c) _ _ (FitsMove Start) refl (either (c == 123) _ _ (FitsMove Start) refl (spelling_fits Start false (spell Begin c) refl))
@@ -66,12 +68,13 @@ fits p t c m e = subst (λ o. Each o (FitsMove p)) e (move_fits p t c)
 
 -- ---- what is held after a move
 
-with_op_last : (es : List MarchElement) (o : Order) (os : List Op) (op : Op) → with_op (es ++ (record { order = o; ops = os }) ∷ []) op ≡ es ++ (record { order = o; ops = os ++ op ∷ [] }) ∷ []
+with_op_last : (es : List MarchElement) (o : Order) (os : List Op) (op : Op)
+    → with_op (es ++ sweep o os ∷ []) op ≡ es ++ sweep o (os ++ op ∷ []) ∷ []
 with_op_last [] o os op = refl
 with_op_last (e ∷ []) o os op = refl
 with_op_last (e ∷ f ∷ es) o os op = ap (λ x. e ∷ x) (with_op_last (f ∷ es) o os op)
 
-last_ops_last : (es : List MarchElement) (e : MarchElement) → last_ops (es ++ e ∷ []) ≡ e.ops
+last_ops_last : (es : List MarchElement) (e : MarchElement) → last_ops (es ++ e ∷ []) ≡ ops_of e
 last_ops_last [] e = refl
 last_ops_last (x ∷ []) e = refl
 last_ops_last (x ∷ y ∷ es) e = last_ops_last (y ∷ es) e
@@ -93,16 +96,23 @@ at_ended p x y e = rw e refl
 
 pub held_moved : (s : State) (p : Place) (t : Bool) (event : Event) → Fits s.place event p → held (moved s (record { place = p; braced = t; event = event })) ≡ with_event event (held s)
 held_moved s p t Quiet f = ap (λ i. if i then s.done ++ begun s ∷ [] else s.done) (sym f)
-held_moved s p t (Begins o) f = at_ordered p _ _ f.1 ∙ ap (λ x. x ++ (record { order = o; ops = [] }) ∷ []) (sym (held_outside s f.0))
+held_moved s p t (Begins o) f = at_ordered p _ _ f.1 ∙ ap (λ x. x ++ sweep o [] ∷ []) (sym (held_outside s f.0))
 held_moved s p t (Adds op) f = at_operation p _ _ f.1 ∙ sym (with_op_last s.done s.order s.ops op) ∙ ap (λ x. with_op x op) (sym (held_inside s f.0))
 held_moved s p t Ends f = at_ended p _ _ f.1 ∙ sym (held_inside s f.0)
+held_moved s p t Waits f = at_ended p _ _ f.1 ∙ ap (λ x. x ++ pause ∷ []) (sym (held_outside s f.0))
+
+sweep_last : (es : List MarchElement) (o : Order) (os : List Op) → IsTrue (ends_in_sweep (es ++ sweep o os ∷ []))
+sweep_last [] o os = refl
+sweep_last (e ∷ []) o os = refl
+sweep_last (e ∷ f ∷ es) o os = sweep_last (f ∷ es) o os
 
 -- an operation comes where an element was begun
 pub begun_before : (s : State) (p : Place) (event : Event) → Fits s.place event p → HasBegun event (held s)
 begun_before s p Quiet f = tt
 begun_before s p (Begins o) f = tt
-begun_before s p (Adds op) f = rw (held_inside s f.0) (simp length-append (omega arith))
+begun_before s p (Adds op) f = rw (held_inside s f.0) (sweep_last s.done s.order s.ops)
 begun_before s p Ends f = tt
+begun_before s p Waits f = tt
 
 -- ---- which limit is exceeded first
 
@@ -119,6 +129,18 @@ element_exceeds s o t p b es w f full r = go p f.1 r
 
     go : (p : Place) → p ≡ Ordered → rest (moved s (record { place = p; braced = t; event = Begins o })) b es → Exceeds es TooManyElements
     go p e r = let q : rest (moved s (record { place = Ordered; braced = t; event = Begins o })) b es = subst (λ p. rest (moved s (record { place = p; braced = t; event = Begins o })) b es) e r in split es q.0 q.1 (moved s (record { place = Ordered; braced = t; event = Begins o })) q.2
+
+-- and so is a pause
+pause_exceeds : (s : State) (t : Bool) (p : Place) (b : List ℕ) (es : List MarchElement) → IsWithin (held s) → Fits s.place Waits p
+    → length (held s) ≡ 64 → rest (moved s (record { place = p; braced = t; event = Waits })) b es → Exceeds es TooManyElements
+pause_exceeds s t p b es w f full r = (
+  record { whole = s.done; next = pause; others = r.0; split = r.1 ∙ append_assoc s.done (pause ∷ []) r.0 },
+  subst IsWithin same w,
+  sym (ap length same) ∙ full,
+)
+  where
+    same : held s ≡ s.done
+    same = held_outside s f.0
 
 -- an operation that can't be added is the first place that exceeds a limit
 op_exceeds : (s : State) (op : Op) (t : Bool) (p : Place) (b : List ℕ) (es : List MarchElement) (fault : MarchFault) → IsWithin (held s) → Fits s.place (Adds op) p → IsFull (Adds op) (held s) fault → rest (moved s (record { place = p; braced = t; event = Adds op })) b es → Exceeds es fault
@@ -141,7 +163,8 @@ op_exceeds s op t p b es fault w f full r = go p f.1 r
 
     split : (m : List MarchElement) → es ≡ s.done ++ m → in_element Operation (moved s (record { place = Operation; braced = t; event = Adds op })) m b → Exceeds es fault
     split [] e h = absurd h
-    split (y ∷ m) e h = found y (record { whole = s.done; element = y; others = m; ops = s.ops; next = op; more = h.1.0; split = e; ops_split = h.1.1 ∙ append_assoc s.ops (op ∷ []) h.1.0 }) (ap (λ o. s.done ++ (record { order = o; ops = s.ops }) ∷ []) h.0 ∙ sym same) refl refl
+    split (pause ∷ m) e h = absurd h
+    split (sweep o os ∷ m) e h = found (sweep o os) (record { whole = s.done; element = sweep o os; others = m; ops = s.ops; next = op; more = h.1.0; split = e; ops_split = h.1.1 ∙ append_assoc s.ops (op ∷ []) h.1.0 }) (ap (λ o. s.done ++ sweep o s.ops ∷ []) h.0 ∙ sym same) refl refl
 
     go : (p : Place) → p ≡ Operation → rest (moved s (record { place = p; braced = t; event = Adds op })) b es → Exceeds es fault
     go p e r = let q : rest (moved s (record { place = Operation; braced = t; event = Adds op })) b es = subst (λ p. rest (moved s (record { place = p; braced = t; event = Adds op })) b es) e r in split q.0 q.1 q.2
@@ -151,6 +174,7 @@ exceeds s p t Quiet b es fault w f full r = absurd full
 exceeds s p t (Begins o) b es fault w f full r = subst (λ x. Exceeds es x) (sym full.0) (element_exceeds s o t p b es w f full.1 r)
 exceeds s p t (Adds op) b es fault w f full r = op_exceeds s op t p b es fault w f full r
 exceeds s p t Ends b es fault w f full r = absurd full
+exceeds s p t Waits b es fault w f full r = subst (λ x. Exceeds es x) (sym full.0) (pause_exceeds s t p b es w f full.1 r)
 
 -- ---- where a reader stands
 
@@ -174,12 +198,14 @@ place_after Quiet s = refl
 place_after (Begins o) s = refl
 place_after (Adds op) s = refl
 place_after Ends s = refl
+place_after Waits s = refl
 
 braced_after : (event : Event) (s : State) → (after_event event s).braced ≡ s.braced
 braced_after Quiet s = refl
 braced_after (Begins o) s = refl
 braced_after (Adds op) s = refl
 braced_after Ends s = refl
+braced_after Waits s = refl
 
 module _ (b : List ℕ) (place : Place) (braced : Bool) (built : List MarchElement) (exceeded : Option MarchFault) (i : ℕ) (x : Stands b place braced built exceeded i) where
   steps : (c : ℕ) (o : Option Move) → move_at place braced c ≡ o → step x.state c ≡ option_map (moved x.state) o

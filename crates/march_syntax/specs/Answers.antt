@@ -1,18 +1,35 @@
--- Why the elements of a text are no march.
-use Rattle.std.specs.Prelude.{◌≡◌, ◌↔◌, List, ◌⊎◌, Result, Err, IsOk, IfOk, IfErr}
+-- What a text is read as: a march, or the first refusal.
+use Rattle.std.specs.Prelude.{◌≡◌, List, ℕ, ◌⊎◌, Result, Ok, Err}
+use Rattle.bist_text.specs.Grammar.{IsUnexpected, IsTruncated}
 use Rattle.bist_text.specs.Machine.{Outcome, read, unexpected, truncated}
 use Rattle.march_core.specs.declared.fault.MarchFault.{MarchFault}
 use Rattle.march_core.specs.declared.fault.MarchFault.TheVariants.{Unexpected, Truncated}
 use Rattle.march_core.specs.Building.{IsRefused}
 use Rattle.march_core.specs.March.{MarchElement, IsMarch}
 use Rattle.march_syntax.specs.Limits.{IsWithin, Exceeds}
+use Rattle.march_syntax.specs.MarchText.{MarchText}
 
--- the limits come first, and then whether each element has operations and each read is right
+-- why the elements of a text are no march: the limits come first, then whether the elements have operations, then the
+-- first wrong read
 abbrev pub Refuses : List MarchElement → MarchFault → Type 0
 Refuses elements fault = Exceeds elements fault ⊎ (IsWithin elements × IsRefused elements fault)
 
+-- What the bytes are read as. M1 and M2 speak of bytes that are no text of the grammar, the others of those that are one.
+abbrev pub Reads : List ℕ → Result (List MarchElement) MarchFault → Type 0
+Reads bytes (Ok march) = MarchText bytes march × IsMarch march
+Reads bytes (Err (Unexpected k)) = IsUnexpected MarchText bytes k
+Reads bytes (Err Truncated) = IsTruncated MarchText bytes
+Reads bytes (Err fault) = (elements : List MarchElement) × MarchText bytes elements × Refuses elements fault
+
+-- ---- for proofs and private contracts alone
+
+-- what the elements of a text are read as
+abbrev pub Decides : List MarchElement → Result (List MarchElement) MarchFault → Type 0
+Decides elements (Ok march) = (march ≡ elements) × IsMarch elements
+Decides elements (Err fault) = Refuses elements fault
+
 -- what a reader answers, by the outcome of its machine
-abbrev pub Gives : Result (List MarchElement) MarchFault → Outcome (List MarchElement) → Type 0
-Gives result (unexpected k) = result ≡ Err (Unexpected k)
-Gives result truncated = result ≡ Err Truncated
-Gives result (read es) = (IsOk result ↔ IsMarch es) × IfOk result (λ march. march ≡ es) × IfErr result (Refuses es)
+abbrev pub Gives : Outcome (List MarchElement) → Result (List MarchElement) MarchFault → Type 0
+Gives (unexpected k) result = result ≡ Err (Unexpected k)
+Gives truncated result = result ≡ Err Truncated
+Gives (read elements) result = Decides elements result

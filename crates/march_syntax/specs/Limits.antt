@@ -5,12 +5,12 @@ use Rattle.std.specs.List.{AllByRecursion}
 use Rattle.march_core.specs.declared.operation.Op.{Op}
 use Rattle.march_core.specs.declared.fault.MarchFault.{MarchFault}
 use Rattle.march_core.specs.declared.fault.MarchFault.TheVariants.{Unexpected, Truncated, Empty, TooManyElements, TooManyOps, TooManyInAll, ReadBeforeWrite, WrongExpect}
-use Rattle.march_core.specs.March.{MarchElement, all_ops}
+use Rattle.march_core.specs.March.{MarchElement, sweep, order_of, ops_of, all_ops}
 
 -- the elements are within the limits
 pub record IsWithin (elements : List MarchElement) : Type 0 where
   pub elements_within : length elements ≤ 64
-  pub each : AllByRecursion (λ e. length e.ops ≤ 16) elements
+  pub each : AllByRecursion (λ e. length (ops_of e) ≤ 16) elements
   pub ops_within : length (all_ops elements) ≤ 256
 
 -- a place before an operation: the elements that are whole, and the operations of the next one that stand
@@ -23,11 +23,11 @@ pub record BeforeOp (elements : List MarchElement) : Type 0 where
   pub next : Op
   pub more : List Op
   pub split : elements ≡ whole ++ element ∷ others
-  pub ops_split : element.ops ≡ ops ++ next ∷ more
+  pub ops_split : ops_of element ≡ ops ++ next ∷ more
 
 -- what stands before that place
 abbrev pub so_far : {elements : List MarchElement} → BeforeOp elements → List MarchElement
-so_far place = place.whole ++ (record { order = place.element.order; ops = place.ops }) ∷ []
+so_far place = place.whole ++ sweep (order_of place.element) place.ops ∷ []
 
 -- a place before an element
 pub record BeforeElement (elements : List MarchElement) : Type 0 where

@@ -2,7 +2,7 @@
 --
 --     text    = ws [ "{" ws [ list ws ] "}" | list ] ws
 --     list    = element { ws ";" ws element }
---     element = order ws "(" ws op { ws "," ws op } ws ")"
+--     element = "del" | order ws "(" ws op { ws "," ws op } ws ")"
 --     op      = "w0" | "w1" | "r0" | "r1"
 --     order   = up | down | any, each in several spellings
 --
@@ -13,7 +13,7 @@ use Rattle.march_core.specs.declared.operation.Order.{Order}
 use Rattle.march_core.specs.declared.operation.Order.TheVariants.{Up, Down, Any}
 use Rattle.march_core.specs.declared.operation.Op.{Op}
 use Rattle.march_core.specs.declared.operation.Op.TheVariants.{W0, W1, R0, R1}
-use Rattle.march_core.specs.March.{MarchElement}
+use Rattle.march_core.specs.March.{MarchElement, pause, sweep}
 
 -- a blank or a line feed
 abbrev pub is_white : ℕ → Bool
@@ -47,6 +47,10 @@ spellings Up = codes "up" ∷ codes "^" ∷ double_arrow_up ∷ arrow_up ∷ []
 spellings Down = codes "down" ∷ codes "v" ∷ double_arrow_down ∷ arrow_down ∷ []
 spellings Any = codes "any" ∷ codes "*" ∷ double_arrow_both ∷ arrow_both ∷ []
 
+-- how a pause may be written
+abbrev pub pause_spellings : List (List ℕ)
+pause_spellings = codes "del" ∷ []
+
 abbrev pub op_text : Op → List ℕ
 op_text W0 = codes "w0"
 op_text W1 = codes "w1"
@@ -68,7 +72,8 @@ abbrev pub body : List Op → (List ℕ → Type 0) → List ℕ → Type 0
 body os K = ws (word (codes "(") (ws (ops os (ws (word (codes ")") K)))))
 
 abbrev pub element : MarchElement → (List ℕ → Type 0) → List ℕ → Type 0
-element e K = one_of (spellings e.order) (body e.ops K)
+element pause K = one_of pause_spellings K
+element (sweep order os) K = one_of (spellings order) (body os K)
 
 -- { ws ";" ws element }
 abbrev pub more_elements : List MarchElement → (List ℕ → Type 0) → List ℕ → Type 0

@@ -1,4 +1,5 @@
--- What a reader of a march does at each byte, and what may still follow where it stands.
+-- For proofs and private contracts alone: what a reader of a march does at each byte, and what may still follow where it
+-- stands.
 use Rattle.std.specs.Prelude.{◌≡◌, ℕ, ◌&&◌, ◌==◌, Bool, true, false, List, [], ◌∷◌, ◌++◌, ◌⊎◌, Option, Some, None, option_map, if◌then◌else◌, codes}
 use Rattle.bist_text.specs.Grammar.{finish, word, one_of}
 use Rattle.bist_text.specs.Machine.{Grows}
@@ -6,42 +7,48 @@ use Rattle.march_core.specs.declared.operation.Order.{Order}
 use Rattle.march_core.specs.declared.operation.Order.TheVariants.{Up, Down, Any}
 use Rattle.march_core.specs.declared.operation.Op.{Op}
 use Rattle.march_core.specs.declared.operation.Op.TheVariants.{W0, W1, R0, R1}
-use Rattle.march_core.specs.March.{MarchElement}
+use Rattle.march_core.specs.March.{MarchElement, pause, sweep}
 use Rattle.march_syntax.specs.declared.place.Part.{Part}
-use Rattle.march_syntax.specs.declared.place.Part.TheVariants.{Begin, U, D, Do, Dow, A, An, Arrow, ArrowTail}
+use Rattle.march_syntax.specs.declared.place.Part.TheVariants.{Begin, U, D, Do, Dow, De, A, An, Arrow, ArrowTail}
 use Rattle.march_syntax.specs.declared.place.Spelled.{Spelled}
-use Rattle.march_syntax.specs.declared.place.Spelled.TheVariants.{More, Whole}
+use Rattle.march_syntax.specs.declared.place.Spelled.TheVariants.{More, Whole, Pause}
 use Rattle.march_syntax.specs.declared.place.Access.{Access}
 use Rattle.march_syntax.specs.declared.place.Access.TheVariants.{Write, Read}
 use Rattle.march_syntax.specs.declared.place.Place.{Place}
 use Rattle.march_syntax.specs.declared.place.Place.TheVariants.{Start, Open, Spelling, Ordered, Wanted, Digit, Operation, Ended, Next, Closed}
 use Rattle.march_syntax.specs.declared.place.Event.{Event}
-use Rattle.march_syntax.specs.declared.place.Event.TheVariants.{Quiet, Begins, Adds, Ends}
+use Rattle.march_syntax.specs.declared.place.Event.TheVariants.{Quiet, Begins, Adds, Ends, Waits}
 use Rattle.march_syntax.specs.declared.place.Move.{Move}
-use Rattle.march_syntax.specs.MarchText.{is_white, ws, spellings, more_ops, ops, body, more_elements, elements, close, listed}
+use Rattle.march_syntax.specs.MarchText.{is_white, ws, spellings, pause_spellings, more_ops, ops, body, more_elements, elements, close, listed}
 
 -- ---- what a reader does
 
 abbrev pub spell : Part → ℕ → Option Spelled
-spell Begin c = if c == 117 then Some (More U) else if c == 100 then Some (More D) else if c == 97 then Some (More A) else if c == 226 then Some (More Arrow) else if c == 94 then Some (Whole Up) else if c == 118 then Some (Whole Down) else if c == 42 then Some (Whole Any) else None
+spell Begin c =
+    if c == 117 then Some (More U) else if c == 100 then Some (More D) else if c == 97 then Some (More A)
+    else if c == 226 then Some (More Arrow) else if c == 94 then Some (Whole Up) else if c == 118 then Some (Whole Down)
+    else if c == 42 then Some (Whole Any) else None
 spell U c = if c == 112 then Some (Whole Up) else None
-spell D c = if c == 111 then Some (More Do) else None
+spell D c = if c == 111 then Some (More Do) else if c == 101 then Some (More De) else None
 spell Do c = if c == 119 then Some (More Dow) else None
+spell De c = if c == 108 then Some Pause else None
 spell Dow c = if c == 110 then Some (Whole Down) else None
 spell A c = if c == 110 then Some (More An) else None
 spell An c = if c == 121 then Some (Whole Any) else None
 spell Arrow c = if c == 135 then Some (More ArrowTail) else if c == 134 then Some (More ArrowTail) else None
-spell ArrowTail c = if c == 145 then Some (Whole Up) else if c == 147 then Some (Whole Down) else if c == 149 then Some (Whole Any) else None
+spell ArrowTail c =
+    if c == 145 then Some (Whole Up) else if c == 147 then Some (Whole Down) else if c == 149 then Some (Whole Any) else None
 
 -- a place, and what a byte adds
 abbrev pub move : Place → Bool → Event → Option Move
 move p t e = Some (record { place = p; braced = t; event = e })
 
--- the order's first bytes, or its last one
+-- the first bytes of an order or a pause, or the last one
 abbrev pub spelling : Bool → Option Spelled → Option Move
 spelling t None = None
 spelling t (Some (More p)) = move (Spelling p) t Quiet
 spelling t (Some (Whole o)) = move Ordered t (Begins o)
+spelling t (Some Pause) = move Ended t Waits
 
 abbrev pub op_of : Access → Bool → Op
 op_of Write false = W0
@@ -83,13 +90,14 @@ abbrev pub start : State
 start = record { place = Start; braced = false; order = Any; ops = []; done = [] }
 
 abbrev pub begun : State → MarchElement
-begun s = record { order = s.order; ops = s.ops }
+begun s = sweep s.order s.ops
 
 abbrev pub after_event : Event → State → State
 after_event Quiet s = s
 after_event (Begins o) s = record s { order = o; ops = [] }
 after_event (Adds op) s = record s { ops = s.ops ++ op ∷ [] }
 after_event Ends s = record s { ops = []; done = s.done ++ begun s ∷ [] }
+after_event Waits s = record s { done = s.done ++ pause ∷ [] }
 
 abbrev pub moved : State → Move → State
 moved s m = after_event m.event (record s { place = m.place; braced = m.braced })
@@ -125,6 +133,28 @@ left _ _ = []
 abbrev pub spelled : Spelled → Order → (List ℕ → Type 0) → List ℕ → Type 0
 spelled (More p) o K b = one_of (left p o) K b
 spelled (Whole q) o K b = (o ≡ q) × K b
+spelled Pause o K b = ⊥
+
+-- what may follow a part of the spelling of a pause
+abbrev pub pause_left : Part → List (List ℕ)
+pause_left Begin = pause_spellings
+pause_left D = codes "el" ∷ []
+pause_left De = codes "l" ∷ []
+pause_left _ = []
+
+abbrev pub pause_spelled : Spelled → (List ℕ → Type 0) → List ℕ → Type 0
+pause_spelled (More p) K b = one_of (pause_left p) K b
+pause_spelled (Whole q) K b = ⊥
+pause_spelled Pause K b = K b
+
+-- what may follow a part of the spelling of an element
+abbrev pub element_left : Part → MarchElement → (List ℕ → Type 0) → List ℕ → Type 0
+element_left p pause K b = one_of (pause_left p) K b
+element_left p (sweep o os) K b = one_of (left p o) (body os K) b
+
+abbrev pub element_spelled : Spelled → MarchElement → (List ℕ → Type 0) → List ℕ → Type 0
+element_spelled q pause K b = pause_spelled q K b
+element_spelled q (sweep o os) K b = spelled q o (body os K) b
 
 -- the digit of an operation
 abbrev pub digit : Access → Op → (List ℕ → Type 0) → List ℕ → Type 0
@@ -146,11 +176,12 @@ ops_left _ os K = λ b. ⊥
 -- what may follow in an element whose order is known: its first operations are read
 abbrev pub in_element : Place → State → List MarchElement → List ℕ → Type 0
 in_element p s [] b = ⊥
-in_element p s (e ∷ es) b = (e.order ≡ s.order) × Grows s.ops e.ops (λ os. ops_left p os (more_elements es (ws (close s.braced))) b)
+in_element p s (pause ∷ es) b = ⊥
+in_element p s (sweep o os ∷ es) b = (o ≡ s.order) × Grows s.ops os (λ more. ops_left p more (more_elements es (ws (close s.braced))) b)
 
 abbrev pub in_spelling : Part → State → List MarchElement → List ℕ → Type 0
 in_spelling p s [] b = ⊥
-in_spelling p s (e ∷ es) b = one_of (left p e.order) (body e.ops (more_elements es (ws (close s.braced)))) b
+in_spelling p s (e ∷ es) b = element_left p e (more_elements es (ws (close s.braced))) b
 
 abbrev pub Nothing : List MarchElement → Type 0
 Nothing [] = Unit {0}
@@ -172,10 +203,17 @@ left_at Closed s es b = Nothing es × ws finish b
 abbrev pub rest : State → List ℕ → List MarchElement → Type 0
 rest s b v = Grows s.done v (λ es. left_at s.place s es b)
 
+-- behind the spelling of a pause
+abbrev pub paused : State → List MarchElement → List ℕ → Type 0
+paused s [] b = ⊥
+paused s (pause ∷ es) b = more_elements es (ws (close s.braced)) b
+paused s (sweep o os ∷ es) b = ⊥
+
 -- the same behind the next part of a spelling
 abbrev pub spelled_at : Spelled → State → List MarchElement → List ℕ → Type 0
 spelled_at (More p) s es b = in_spelling p s es b
 spelled_at (Whole o) s es b = in_element Ordered (record s { order = o; ops = [] }) es b
+spelled_at Pause s es b = paused s es b
 
 -- ---- what a builder of marches holds then
 

@@ -1,9 +1,9 @@
--- The printed form of a march: the words `up`, `down` and `any`, braces, and no blanks.
+-- The printed form of a march: the words `up`, `down`, `any` and `del`, braces, and no blanks.
 use Rattle.std.specs.Prelude.{ℕ, zero, suc, List, [], ◌∷◌, ◌++◌, codes}
 use Rattle.march_core.specs.declared.operation.Order.{Order}
 use Rattle.march_core.specs.declared.operation.Order.TheVariants.{Up, Down, Any}
 use Rattle.march_core.specs.declared.operation.Op.{Op}
-use Rattle.march_core.specs.March.{MarchElement}
+use Rattle.march_core.specs.March.{MarchElement, pause, sweep}
 use Rattle.march_syntax.specs.MarchText.{op_text}
 
 abbrev pub order_text : Order → List ℕ
@@ -21,7 +21,8 @@ ops_text [] = []
 ops_text (o ∷ os) = op_text o ++ more_ops_text os
 
 abbrev pub element_text : MarchElement → List ℕ
-element_text e = order_text e.order ++ codes "(" ++ ops_text e.ops ++ codes ")"
+element_text pause = codes "del"
+element_text (sweep order ops) = order_text order ++ codes "(" ++ ops_text ops ++ codes ")"
 
 abbrev pub more_elements_text : List MarchElement → List ℕ
 more_elements_text [] = []

@@ -4,7 +4,7 @@ ghost use Rattle.march_syntax.specs.Places.{spell, spelling, move_at, may_end, I
 
 use march_core::{Op, Order};
 
-/// What has come of the spelling of an order; an arrow is three bytes of UTF-8.
+/// What has come of the spelling of an order or a pause; an arrow is three bytes of UTF-8.
 #[derive(Clone, Copy)]
 pub(crate) enum Part {
     Begin,
@@ -12,6 +12,7 @@ pub(crate) enum Part {
     D,
     Do,
     Dow,
+    De,
     A,
     An,
     Arrow,
@@ -22,6 +23,7 @@ pub(crate) enum Part {
 pub(crate) enum Spelled {
     More(Part),
     Whole(Order),
+    Pause,
 }
 
 /// The letter of an operation.
@@ -38,7 +40,7 @@ pub(crate) enum Place {
     Start,
     /// Behind the opening brace.
     Open,
-    /// In an order.
+    /// In an order or a pause.
     Spelling(Part),
     /// Behind an order.
     Ordered,
@@ -63,6 +65,7 @@ pub(crate) enum Event {
     Begins(Order),
     Adds(Op),
     Ends,
+    Waits,
 }
 
 /// Where a reader goes by a byte.
@@ -100,6 +103,8 @@ fn next_part(part: Part, byte: u8) -> Option<Spelled>
         (Part::Begin, b'*') => Some(Spelled::Whole(Order::Any)),
         (Part::U, b'p') => Some(Spelled::Whole(Order::Up)),
         (Part::D, b'o') => Some(Spelled::More(Part::Do)),
+        (Part::D, b'e') => Some(Spelled::More(Part::De)),
+        (Part::De, b'l') => Some(Spelled::Pause),
         (Part::Do, b'w') => Some(Spelled::More(Part::Dow)),
         (Part::Dow, b'n') => Some(Spelled::Whole(Order::Down)),
         (Part::A, b'n') => Some(Spelled::More(Part::An)),
@@ -122,6 +127,11 @@ fn next_spelling(part: Part, braced: bool, byte: u8) -> Option<Move>
             place: Place::Ordered,
             braced,
             event: Event::Begins(order),
+        }),
+        Spelled::Pause => Some(Move {
+            place: Place::Ended,
+            braced,
+            event: Event::Waits,
         }),
     }
 }

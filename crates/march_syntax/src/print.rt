@@ -1,5 +1,5 @@
-ghost use Rattle.std.specs.Prelude.{◌≡◌, ◌++◌, ◌∷◌, [], OnOk, IfOk};
-ghost use Rattle.march_core.specs.March.{IsMarch};
+ghost use Rattle.std.specs.Prelude.{◌≡◌, ◌<◌, length, ◌++◌, ◌∷◌, [], OnOk, IfOk};
+ghost use Rattle.march_core.specs.March.{pause, sweep, element_at, IsMarch};
 ghost use Rattle.march_syntax.specs.MarchText.{MarchText, op_text};
 ghost use Rattle.march_syntax.specs.Printed.{order_text, ops_text, element_text, elements_text, printed, separator};
 
@@ -48,8 +48,8 @@ fn write_ops(out: &mut Vec<u8>, ops: &[Op]) -> Result<(), AllocError>
     Ok(())
 }
 
-fn write_element(out: &mut Vec<u8>, order: Order, ops: &[Op]) -> Result<(), AllocError>
-    ensures { OnOk result (out.new.items ≡ out.old.items ++ element_text (record { order = order; ops = ops.now })) }
+fn write_sweep(out: &mut Vec<u8>, order: Order, ops: &[Op]) -> Result<(), AllocError>
+    ensures { OnOk result (out.new.items ≡ out.old.items ++ element_text (sweep order ops.now)) }
 {
     out.extend_from_slice(order_word(order))?;
     out.push(b'(')?;
@@ -58,13 +58,31 @@ fn write_element(out: &mut Vec<u8>, order: Order, ops: &[Op]) -> Result<(), Allo
     Ok(())
 }
 
+fn write_pause(out: &mut Vec<u8>) -> Result<(), AllocError>
+    ensures { OnOk result (out.new.items ≡ out.old.items ++ element_text pause) }
+{
+    out.extend_from_slice(b"del")?;
+    Ok(())
+}
+
+fn write_element(out: &mut Vec<u8>, march: &March, i: usize) -> Result<(), AllocError>
+    requires { i < length march.now }
+    ensures { OnOk result (out.new.items ≡ out.old.items ++ element_text (element_at march.now i)) }
+{
+    if march.is_pause(i) {
+        write_pause(out)
+    } else {
+        write_sweep(out, march.order(i), march.ops(i))
+    }
+}
+
 fn write_elements(out: &mut Vec<u8>, march: &March) -> Result<(), AllocError>
     ensures text { OnOk result (out.new.items ≡ out.old.items ++ elements_text march.now) }
     ensures march { IsMarch march.now }
 {
     for i in 0..march.len() {
         separate(out, b';', i)?;
-        write_element(out, march.order(i), march.ops(i))?;
+        write_element(out, march, i)?;
     }
     Ok(())
 }
@@ -80,7 +98,7 @@ fn march_text(alloc: Global, march: &March) -> Result<Vec<u8>, AllocError>
     Ok(out)
 }
 
-/// The printed form of a march: `up`, `down` and `any`, braces, and neither blanks nor a line end.
+/// The printed form of a march: `up`, `down`, `any` and `del`, braces, and neither blanks nor a line end.
 #[tactic(auto, using(crate::proofs::PrintLaws::printed_is))]
 pub fn print_march(alloc: Global, march: &March) -> Result<Vec<u8>, NoMemory>
     ensures form { IfOk result (λ text. text.items ≡ printed march.now) }

@@ -1,8 +1,7 @@
-ghost use Rattle.std.specs.Prelude.{◌≡◌, ◌↔◌, ℕ, List, Ok, Err, IfErr};
-ghost use Rattle.bist_text.specs.Grammar.{IsUnexpected, IsTruncated};
+ghost use Rattle.std.specs.Prelude.{◌≡◌, ◌↔◌, List, Ok, Err};
 ghost use Rattle.bist_text.specs.Machine.{scan};
-ghost use Rattle.march_core.specs.March.{MarchElement, IsMarch};
-ghost use Rattle.march_syntax.specs.Answers.{Refuses, Gives};
+ghost use Rattle.march_core.specs.March.{MarchElement};
+ghost use Rattle.march_syntax.specs.Answers.{Reads, Gives};
 ghost use Rattle.march_syntax.specs.Building.{CanAdd, Builds};
 ghost use Rattle.march_syntax.specs.MarchText.{MarchText};
 ghost use Rattle.march_syntax.specs.Places.{step, value, start};
@@ -25,13 +24,14 @@ fn build(
     match event {
         Event::Begins(order) => builder.element(order).err(),
         Event::Adds(op) => builder.op(op).err(),
+        Event::Waits => builder.pause().err(),
         Event::Quiet | Event::Ends => None,
     }
 }
 
 /// Goes over the text once. A limit that is exceeded is answered only behind the whole text.
 fn scanned(bytes: &[u8]) -> Result<March, MarchFault>
-    ensures { Gives result (scan step value bytes.now start 0) }
+    ensures { Gives (scan step value bytes.now start 0) result }
 {
     let mut place = Place::Start;
     let mut braced = false;
@@ -58,14 +58,13 @@ fn scanned(bytes: &[u8]) -> Result<March, MarchFault>
 /// operations and each read expects what was written last.
 pub fn read_march(bytes: &[u8]) -> Result<March, MarchFault>
     // A march is read exactly where the bytes are its text.
-    ensures ok { (es : List MarchElement) → (result ≡ Ok es) ↔ (MarchText bytes.now es × IsMarch es) }
+    ensures ok { (march : List MarchElement) → (result ≡ Ok march) ↔ Reads bytes.now (Ok march) }
 
-    // M1 and M2, exactly where the grammar has them.
-    ensures unexpected { (k : ℕ) → (result ≡ Err (MarchFault.Unexpected k)) ↔ IsUnexpected MarchText bytes.now k }
-    ensures truncated { (result ≡ Err MarchFault.Truncated) ↔ IsTruncated MarchText bytes.now }
+    // M1 to M8, exactly where they come first, each with its place.
+    ensures refused { (fault : MarchFault) → (result ≡ Err fault) ↔ Reads bytes.now (Err fault) }
 
-    // M3 to M8, for a text of the grammar.
-    ensures refused { (es : List MarchElement) → MarchText bytes.now es → IfErr result (Refuses es) }
+    // A text has no two readings.
+    ensures one_reading { (es : List MarchElement) (fs : List MarchElement) → MarchText bytes.now es → MarchText bytes.now fs → es ≡ fs }
 {
     scanned(bytes)
 }

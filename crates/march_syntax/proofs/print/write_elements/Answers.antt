@@ -5,4 +5,5 @@ use Rattle.march_syntax.proofs.print.write_elements.Goals as goal
 pub loop-i-preserved : goal.loop-i-preserved
 loop-i-preserved c =
     let within : c.loop-i.i < length c.args.march.now = omega (arith, c.len-i-end.ensures.value) in
-    element_written c.loop-i.out.items c.separate.new.out.items c.write_element.new.out.items _ c.args.march.now c.loop-i.i c.order.result c.ops.result.now c.in_ok-separate.ensures c.in_ok-write_element.ensures c.order.ensures c.ops.ensures.value within c.loop-i.invariant
+    element_written c.loop-i.out.items c.separate.new.out.items c.write_element.new.out.items _ c.args.march.now c.loop-i.i
+    c.in_ok-separate.ensures c.in_ok-write_element.ensures within c.loop-i.invariant

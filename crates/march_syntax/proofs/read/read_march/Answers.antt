@@ -1,10 +1,15 @@
-use Rattle.std.proofs.Common.{arith}
+use Rattle.std.proofs.Common.{arith, true, ◌≡◌, Ok, Err}
+use Rattle.bist_text.specs.Grammar.{are_bytes}
 use Rattle.bist_text.proofs.Bytes.{slice_are_bytes}
-use Rattle.march_syntax.proofs.Outcomes.{reads, Reads}
+use Rattle.march_syntax.proofs.Outcomes.{reads, one_text}
 use Rattle.march_syntax.proofs.read.read_march.Goals as goal
 
-whole : (c : goal.After-scanned) → Reads c.args.bytes.now c.scanned.result
-whole c = reads c.args.bytes.now c.scanned.result (slice_are_bytes c.args.bytes.now (λ k l. omega (arith, c.type_inv.bytes k))) c.scanned.ensures
+bytes : (c : goal.After-scanned) → are_bytes c.args.bytes.now ≡ true
+bytes c = slice_are_bytes c.args.bytes.now (λ k l. omega (arith, c.type_inv.bytes k))
 
 pub returns : goal.returns
-returns c = let r : Reads c.args.bytes.now c.scanned.result = whole c in record { ok = r.ok; unexpected = r.unexpected_at; truncated = r.truncated_is; refused = r.refused }
+returns c = record {
+  ok = λ march. reads c.args.bytes.now c.scanned.result (bytes c) c.scanned.ensures (Ok march);
+  refused = λ fault. reads c.args.bytes.now c.scanned.result (bytes c) c.scanned.ensures (Err fault);
+  one_reading = λ es fs. one_text c.args.bytes.now (bytes c) es fs;
+}
