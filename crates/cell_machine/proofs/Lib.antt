@@ -1,4 +1,3 @@
 pub mod Projection
 pub mod Alone
 pub mod Closing
-pub mod Seeing

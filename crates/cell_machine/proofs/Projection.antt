@@ -4,17 +4,17 @@ use Rattle.std.specs.Prelude.{if◌then◌else◌, slice_set, ◌==◌}
 use Rattle.std.proofs.lemmas.Bool.{eq-eqb, ne_eqb, cases_eq}
 use Rattle.std.proofs.lemmas.List.{length-set, get_or-set_same, get_or-set_other}
 use Rattle.fault_core.specs.declared.primitive.Act.{Act}
-use Rattle.fault_core.specs.declared.primitive.Act.TheVariants.{Write, Read}
+use Rattle.fault_core.specs.declared.primitive.Act.TheVariants.{Write, Read, Pause}
 use Rattle.fault_core.specs.declared.primitive.Sense.{Sense}
 use Rattle.fault_core.specs.declared.cells.Places.{Places}
-use Rattle.fault_core.specs.Primitive.{Primitive, same_bit}
-use Rattle.fault_core.specs.Cells.{cell, agg_holds, states_hold, has_act, close_of, has_this_act, agg_acts, acts, plain_cells, plain_answer, answer_or, acted, step_cells, step_answer}
+use Rattle.fault_core.specs.Primitive.{Primitive, same_bit, pauses}
+use Rattle.fault_core.specs.Cells.{cell, agg_holds, states_hold, has_act, close_of, has_this_act, agg_acts, acts, plain_cells, plain_answer, answer_or, acted, step_cells, step_answer, pause_cells}
 use Rattle.cell_machine.specs.declared.pair.Pair.{Pair}
 use Rattle.cell_machine.specs.declared.pair.Side.TheVariants.{A, V}
-use Rattle.cell_machine.specs.Pairs.{pair_of, side_holds, pair_holds, with_victim, pair_close, agg_act_of, pair_acts, plain_pair, plain_reply, pair_step, pair_answer}
-use Rattle.cell_machine.specs.Seen.{pair_at, side_at, seen_step, SeesPair}
+use Rattle.cell_machine.specs.Pairs.{pair_of, side_holds, pair_holds, with_victim, pair_close, agg_act_of, pair_acts, plain_pair, plain_reply, pair_step, pair_answer, pair_pause}
+use Rattle.cell_machine.specs.Seen.{pair_at, SeesPair}
 
-pub and-false : (b : Bool) → (b && false) ≡ false
+and-false : (b : Bool) → (b && false) ≡ false
 and-false true = refl
 and-false false = refl
 
@@ -38,6 +38,7 @@ length-close_of p at cells = length-set_if (not (has_act p) && states_hold p at 
 pub length-plain_cells : (cells : List Bool) (x : ℕ) (act : Act) → length (plain_cells cells x act) ≡ length cells
 length-plain_cells cells x (Write bit) = length-set cells x bit
 length-plain_cells cells x Read = refl
+length-plain_cells cells x Pause = refl
 
 pub length-step_cells : (p : Primitive) (at : Places) (cells : List Bool) (x : ℕ) (act : Act) → length (step_cells p at cells x act) ≡ length cells
 unfolding step_cells
@@ -61,9 +62,7 @@ cell-step_cells_other p at cells x act y apart =
 pub cell-plain_cells_other : (cells : List Bool) (x : ℕ) (act : Act) (y : ℕ) → y ≢ x → cell (plain_cells cells x act) y ≡ cell cells y
 cell-plain_cells_other cells x (Write bit) y apart = get_or-set_other cells x y bit false apart
 cell-plain_cells_other cells x Read y apart = refl
-
-pub cell-plain_cells_written : (cells : List Bool) (x : ℕ) (bit : Bool) → x < length cells → cell (plain_cells cells x (Write bit)) x ≡ bit
-cell-plain_cells_written cells x bit inside = get_or-set_same cells x bit false inside
+cell-plain_cells_other cells x Pause y apart = refl
 
 -- the pair after a write of its victim that may be left out
 pair_at-set_if : (b : Bool) (cells : List Bool) (a v : ℕ) (bit : Bool) → a ≢ v → v < length cells
@@ -159,6 +158,7 @@ plain-victim : (cells : List Bool) (a v : ℕ) (act : Act) → a ≢ v → v < l
     → pair_at (plain_cells cells v act) a v ≡ plain_pair (pair_at cells a v) V act
 plain-victim cells a v (Write bit) apart inside = pair_at-set_if true cells a v bit apart inside
 plain-victim cells a v Read apart inside = refl
+plain-victim cells a v Pause apart inside = refl
 
 plain-aggressor : (cells : List Bool) (a v : ℕ) (act : Act) → a ≢ v → a < length cells
     → pair_at (plain_cells cells a act) a v ≡ plain_pair (pair_at cells a v) A act
@@ -167,11 +167,7 @@ plain-aggressor cells a v (Write bit) apart inside =
     let kept : cell (slice_set cells a bit) v ≡ cell cells v = get_or-set_other cells a v bit false (λ e. apart (sym e)) in
     ap (λ x. pair_of x (cell (slice_set cells a bit) v)) written ∙ ap (pair_of bit) kept
 plain-aggressor cells a v Read apart inside = refl
-
-plain-elsewhere : (cells : List Bool) (a v x : ℕ) (act : Act) → x ≢ a → x ≢ v → pair_at (plain_cells cells x act) a v ≡ pair_at cells a v
-plain-elsewhere cells a v x act off_a off_v =
-    ap (λ b. pair_of b (cell (plain_cells cells x act) v)) (cell-plain_cells_other cells x act a (λ e. off_a (sym e)))
-    ∙ ap (pair_of (cell cells a)) (cell-plain_cells_other cells x act v (λ e. off_v (sym e)))
+plain-aggressor cells a v Pause apart inside = refl
 
 -- a step of an array of which the match and the plain part are known
 sees-resized : (p : Primitive) (at : Places) (a size size' : ℕ) → size' ≡ size → SeesPair p at a size → SeesPair p at a size'
@@ -208,53 +204,42 @@ pair_at-step_aggressor p at a cells act sees inside =
     pair_at-step p at a cells a act sees _ _ (acts-aggressor p at a (length cells) cells act sees)
     (plain-aggressor cells a at.vic act sees.apart inside)
 
-pub pair_at-step_elsewhere : (p : Primitive) (at : Places) (a : ℕ) (cells : List Bool) (x : ℕ) (act : Act) → SeesPair p at a (length cells)
-    → x ≢ a → x ≢ at.vic → pair_at (step_cells p at cells x act) a at.vic ≡ pair_close p (pair_at cells a at.vic)
-pair_at-step_elsewhere p at a cells x act sees off_a off_v =
-    pair_at-step p at a cells x act sees false _ (acts-elsewhere p at a (length cells) cells x act sees off_a off_v)
-    (plain-elsewhere cells a at.vic x act off_a off_v)
+-- a pause, as the pair sees it
+pub pair_at-pause_cells : (p : Primitive) (at : Places) (a : ℕ) (cells : List Bool) → SeesPair p at a (length cells)
+    → pair_at (pause_cells p at cells) a at.vic ≡ pair_pause p (pair_at cells a at.vic)
+unfolding pause_cells pair_pause
+pair_at-pause_cells p at a cells sees =
+    let own : Bool = pauses p && states_hold p at cells in
+    let size : length (set_if own cells at.vic p.after) ≡ length cells = length-set_if own cells at.vic p.after in
+    pair_at-close_of p at a (set_if own cells at.vic p.after) (sees-resized p at a _ _ size sees)
+    ∙ ap (pair_close p)
+    (pair_at-set_if own cells a at.vic p.after sees.apart sees.victim
+    ∙ ap (λ b. if pauses p && b then with_victim (pair_at cells a at.vic) p.after else pair_at cells a at.vic)
+    (states_hold-seen p at a (length cells) cells sees))
 
--- the side on which an act falls
-pub side_at-victim : (a v : ℕ) → side_at a v v ≡ Some V
-side_at-victim a v = ap (λ b. if b then Some V else if a == v then Some A else None) (eq-eqb v v refl)
+pub length-pause_cells : (p : Primitive) (at : Places) (cells : List Bool) → length (pause_cells p at cells) ≡ length cells
+unfolding pause_cells
+length-pause_cells p at cells =
+    length-close_of p at (set_if (pauses p && states_hold p at cells) cells at.vic p.after)
+    ∙ length-set_if (pauses p && states_hold p at cells) cells at.vic p.after
 
-pub side_at-aggressor : (a v : ℕ) → a ≢ v → side_at a v a ≡ Some A
-side_at-aggressor a v apart =
-    ap (λ b. if b then Some V else if a == a then Some A else None) (ne_eqb v a (λ e. apart (sym e)))
-    ∙ ap (λ b. if b then Some A else None) (eq-eqb a a refl)
-
-pub side_at-elsewhere : (a v x : ℕ) → x ≢ a → x ≢ v → side_at a v x ≡ None
-side_at-elsewhere a v x off_a off_v =
-    ap (λ b. if b then Some V else if a == x then Some A else None) (ne_eqb v x (λ e. off_v (sym e)))
-    ∙ ap (λ b. if b then Some A else None) (ne_eqb a x (λ e. off_a (sym e)))
-
--- one act on any cell of an array of any length, as the pair sees it
-pub pair_at-step_cells : (p : Primitive) (at : Places) (a : ℕ) (cells : List Bool) (x : ℕ) (act : Act) → SeesPair p at a (length cells) → a < length cells
-    → pair_at (step_cells p at cells x act) a at.vic ≡ seen_step p (pair_at cells a at.vic) (side_at a at.vic x) act
-pair_at-step_cells p at a cells x act sees inside =
-    let pair : Pair = pair_at cells a at.vic in
-    let victim : at.vic ≡ x → pair_at (step_cells p at cells x act) a at.vic ≡ seen_step p pair (side_at a at.vic x) act =
-    λ e. subst (λ (y : ℕ). pair_at (step_cells p at cells y act) a at.vic ≡ seen_step p pair (side_at a at.vic y) act) e
-    (pair_at-step_victim p at a cells act sees ∙ ap (λ s. seen_step p pair s act) (sym (side_at-victim a at.vic))) in
-    let aggressor : a ≡ x → pair_at (step_cells p at cells x act) a at.vic ≡ seen_step p pair (side_at a at.vic x) act =
-    λ e. subst (λ (y : ℕ). pair_at (step_cells p at cells y act) a at.vic ≡ seen_step p pair (side_at a at.vic y) act) e
-    (pair_at-step_aggressor p at a cells act sees inside ∙ ap (λ s. seen_step p pair s act) (sym (side_at-aggressor a at.vic sees.apart))) in
-    let elsewhere : x ≢ a → x ≢ at.vic → pair_at (step_cells p at cells x act) a at.vic ≡ seen_step p pair (side_at a at.vic x) act =
-    λ off_a off_v. pair_at-step_elsewhere p at a cells x act sees off_a off_v
-    ∙ ap (λ s. seen_step p pair s act) (sym (side_at-elsewhere a at.vic x off_a off_v)) in
-    elim (cases_eq at.vic x) [
-      | inl e ↦ victim e
-      | inr off_v ↦ elim (cases_eq a x) [ inl e ↦ aggressor e | inr off_a ↦ elsewhere (λ e. off_a (sym e)) (λ e. off_v (sym e)) ]
-    ]
+-- cells other than the victim stay
+pub cell-pause_cells_other : (p : Primitive) (at : Places) (cells : List Bool) (y : ℕ) → y ≢ at.vic → cell (pause_cells p at cells) y ≡ cell cells y
+unfolding pause_cells
+cell-pause_cells_other p at cells y apart =
+    cell-close_of_other p at (set_if (pauses p && states_hold p at cells) cells at.vic p.after) y apart
+    ∙ cell-set_if_other (pauses p && states_hold p at cells) cells at.vic y p.after apart
 
 -- what the acts answer
 plain_answer-reply : (cells : List Bool) (a v : ℕ) (act : Act) → plain_answer cells v act ≡ plain_reply (pair_at cells a v) V act
 plain_answer-reply cells a v (Write bit) = refl
 plain_answer-reply cells a v Read = refl
+plain_answer-reply cells a v Pause = refl
 
 plain_answer-reply_aggressor : (cells : List Bool) (a v : ℕ) (act : Act) → plain_answer cells a act ≡ plain_reply (pair_at cells a v) A act
 plain_answer-reply_aggressor cells a v (Write bit) = refl
 plain_answer-reply_aggressor cells a v Read = refl
+plain_answer-reply_aggressor cells a v Pause = refl
 
 step_answer-parts : (p : Primitive) (at : Places) (cells : List Bool) (x : ℕ) (act : Act) (own : Bool) (plain : Option Bool)
     → acts p at cells x act ≡ own → plain_answer cells x act ≡ plain

@@ -1,9 +1,9 @@
 -- The two cells of one instance, and what an act on one of them makes of both.
 use Rattle.std.specs.Prelude.{◌≡◌, Bool, true, not, ◌&&◌, if◌then◌else◌, Option, Some, None}
 use Rattle.fault_core.specs.declared.primitive.Act.{Act}
-use Rattle.fault_core.specs.declared.primitive.Act.TheVariants.{Write, Read}
+use Rattle.fault_core.specs.declared.primitive.Act.TheVariants.{Write, Read, Pause}
 use Rattle.fault_core.specs.declared.primitive.Sense.{Sense}
-use Rattle.fault_core.specs.Primitive.{Primitive, same_bit}
+use Rattle.fault_core.specs.Primitive.{Primitive, same_bit, pauses}
 use Rattle.fault_core.specs.Cells.{has_act, has_this_act, answer_or}
 use Rattle.cell_machine.specs.declared.pair.Pair.{Pair}
 use Rattle.cell_machine.specs.declared.pair.Side.{Side}
@@ -57,17 +57,19 @@ abbrev pub written_on : Pair → Side → Bool → Pair
 written_on pair A bit = pair_of bit pair.v
 written_on pair V bit = pair_of pair.a bit
 
--- the plain part of an act
+-- the plain part of an act; a pause is on no cell, and has none
 abbrev pub plain_pair : Pair → Side → Act → Pair
 plain_pair pair on (Write bit) = written_on pair on bit
 plain_pair pair on Read = pair
+plain_pair pair on Pause = pair
 
 -- what the plain part answers
 abbrev pub plain_reply : Pair → Side → Act → Option Bool
 plain_reply pair on (Write bit) = None
 plain_reply pair on Read = Some (bit_on pair on)
+plain_reply pair on Pause = None
 
--- one act: the plain part, the primitive's effect where the act is its own, and closing
+-- one act, which is no pause: the plain part, the primitive's effect where the act is its own, and closing
 unfoldable pub pair_step : Primitive → Pair → Side → Act → Pair
 pair_step p pair on act =
     pair_close p (if pair_acts p pair on act then with_victim (plain_pair pair on act) p.after else plain_pair pair on act)
@@ -76,3 +78,7 @@ pair_step p pair on act =
 unfoldable pub pair_answer : Primitive → Pair → Side → Act → Option Bool
 pair_answer p pair on act =
     if pair_acts p pair on act then answer_or p.answer (plain_reply pair on act) else plain_reply pair on act
+
+-- a pause: the primitive's effect where the pause is its act and its states hold, and closing
+unfoldable pub pair_pause : Primitive → Pair → Pair
+pair_pause p pair = pair_close p (if pauses p && pair_holds p pair then with_victim pair p.after else pair)

@@ -3,4 +3,4 @@
 
 mod pair;
 
-pub use pair::{Pair, Side, act, close};
+pub use pair::{Pair, Side, act, close, pause};

@@ -1,7 +1,8 @@
-ghost use Rattle.std.specs.Prelude.{◌≡◌};
-ghost use Rattle.fault_core.specs.Cells.{has_act, has_this_act, close_of, step_cells, step_answer};
-ghost use Rattle.cell_machine.specs.Pairs.{side_holds, pair_holds, pair_close, agg_act_of, act_on, pair_acts, plain_pair, plain_reply, pair_step, pair_answer};
-ghost use Rattle.cell_machine.specs.Seen.{cells_of, places_of, place_of};
+ghost use Rattle.std.specs.Prelude.{◌≡◌, ◌≢◌};
+ghost use Rattle.fault_core.specs.Primitive.{pauses};
+ghost use Rattle.fault_core.specs.Cells.{has_act, has_this_act, close_of, step_cells, step_answer, pause_cells};
+ghost use Rattle.cell_machine.specs.Pairs.{side_holds, pair_holds, pair_close, agg_act_of, act_on, pair_acts, plain_pair, plain_reply, pair_step, pair_answer, pair_pause};
+ghost use Rattle.cell_machine.specs.Seen.{cells_of, pair_places, place_of};
 
 use fault_core::{Act, Prim, Sense};
 
@@ -68,7 +69,7 @@ fn is_this_act(own: Option<Act>, act: Act) -> bool
     ensures { result ≡ has_this_act own act }
 {
     match (own, act) {
-        (Some(Act::Read), Act::Read) => true,
+        (Some(Act::Read), Act::Read) | (Some(Act::Pause), Act::Pause) => true,
         (Some(Act::Write(a)), Act::Write(b)) => a == b,
         _ => false,
     }
@@ -86,7 +87,7 @@ fn does_act(prim: &Prim, pair: Pair, on: Side, act: Act) -> bool
 #[tactic(auto, unfolding(crate::specs::Pairs::pair_close))]
 pub fn close(prim: &Prim, pair: Pair) -> Pair
     ensures pair { result ≡ pair_close prim.now pair }
-    ensures cells { cells_of result ≡ close_of prim.now (places_of prim.now) (cells_of pair) }
+    ensures cells { cells_of result ≡ close_of prim.now (pair_places prim.now) (cells_of pair) }
 {
     if !has_any_act(prim) && do_states_hold(prim, pair) {
         Pair {
@@ -108,16 +109,19 @@ fn do_plainly(pair: Pair, on: Side, act: Act) -> (Pair, Option<bool>)
         (Side::V, Act::Write(bit)) => (Pair { v: bit, ..pair }, None),
         (Side::A, Act::Read) => (pair, Some(pair.a)),
         (Side::V, Act::Read) => (pair, Some(pair.v)),
+        (_, Act::Pause) => (pair, None),
     }
 }
 
-/// One act on one side, with what the primitive makes of it. The second part is the answer of a read.
+/// One act on one side, which is no pause, with what the primitive makes of it. The second part is the answer of a
+/// read.
 #[tactic(auto, unfolding(crate::specs::Pairs::pair_step, crate::specs::Pairs::pair_answer))]
 pub fn act(prim: &Prim, pair: Pair, on: Side, act: Act) -> (Pair, Option<bool>)
+    requires { act ≢ Act.Pause }
     ensures pair { result.0 ≡ pair_step prim.now pair on act }
     ensures answer { result.1 ≡ pair_answer prim.now pair on act }
-    ensures cells { cells_of result.0 ≡ step_cells prim.now (places_of prim.now) (cells_of pair) (place_of on) act }
-    ensures cells_answer { result.1 ≡ step_answer prim.now (places_of prim.now) (cells_of pair) (place_of on) act }
+    ensures cells { cells_of result.0 ≡ step_cells prim.now (pair_places prim.now) (cells_of pair) (place_of 0 1 on) act }
+    ensures cells_answer { result.1 ≡ step_answer prim.now (pair_places prim.now) (cells_of pair) (place_of 0 1 on) act }
 {
     let (mut next, plain) = do_plainly(pair, on, act);
     if !does_act(prim, pair, on, act) {
@@ -125,4 +129,27 @@ pub fn act(prim: &Prim, pair: Pair, on: Side, act: Act) -> (Pair, Option<bool>)
     }
     next.v = prim.after();
     (close(prim, next), prim.answer().or(plain))
+}
+
+/// Whether the act of the primitive is a pause.
+fn does_pause(prim: &Prim) -> bool
+    ensures { result ≡ pauses prim.now }
+{
+    matches!(prim.vic().act, Some(Act::Pause))
+}
+
+/// A pause, with what the primitive makes of it: a retention fault acts where its states hold.
+#[tactic(auto, unfolding(crate::specs::Pairs::pair_pause))]
+pub fn pause(prim: &Prim, pair: Pair) -> Pair
+    ensures pair { result ≡ pair_pause prim.now pair }
+    ensures cells { cells_of result ≡ pause_cells prim.now (pair_places prim.now) (cells_of pair) }
+{
+    if does_pause(prim) && do_states_hold(prim, pair) {
+        let next = Pair {
+            v: prim.after(),
+            ..pair
+        };
+        return close(prim, next);
+    }
+    close(prim, pair)
 }
