@@ -1,11 +1,12 @@
-ghost use Rattle.std.specs.Prelude.{◌≡◌, ◌<◌, Some, None, length};
+ghost use Rattle.std.specs.Prelude.{◌≡◌, ◌≢◌, ◌<◌, Some, None, length};
 ghost use Rattle.fault_core.specs.Cells.{FitsPlace};
-ghost use Rattle.march_core.specs.Visits.{cell_visits, address_visits, addresses, Direction, Upward, Downward};
+ghost use Rattle.march_core.specs.March.{element_at};
+ghost use Rattle.march_core.specs.Visits.{cell_visits, address_visits, addresses, direction_at, element_visits, Direction, Upward, Downward};
 ghost use Rattle.array_sim.specs.Run.{act_of, is_wrong_of, run_of};
-ghost use Rattle.array_sim.specs.Addresses.{direction_of, address_at};
+ghost use Rattle.array_sim.specs.Addresses.{direction_of, address_at, steps_of};
 
-use fault_core::{Act, Places, Prim, step};
-use march_core::Op;
+use fault_core::{Act, Places, Prim, pause_cells, step};
+use march_core::{March, Op, is_down};
 
 /// A read that didn't answer what the march expects: its element, its cell and its number in the element,
 /// all counted from 0.
@@ -17,8 +18,9 @@ pub struct Miss {
 }
 
 /// An operation as an act: the bit that a read expects plays no part.
-pub fn act(op: Op) -> Act
-    ensures { result ≡ act_of op }
+pub fn act_of(op: Op) -> Act
+    ensures value { result ≡ act_of op }
+    ensures operates { result ≢ Act.Pause }
 {
     match op {
         Op::W0 => Act::Write(false),
@@ -39,7 +41,7 @@ pub fn is_wrong(op: Op, answer: Option<bool>) -> bool
 }
 
 /// Does the operations of an element on one cell, up to the first miss.
-pub(crate) fn run_cell(
+fn run_cell(
     prim: &Prim,
     places: Places,
     cells: &mut [bool],
@@ -49,11 +51,11 @@ pub(crate) fn run_cell(
 ) -> Option<Miss>
     requires places { FitsPlace prim.now places (length cells.old) }
     requires within { address < length cells.old }
-    ensures cells { cells.new ≡ (run_of prim.now places cells.old (cell_visits element address 0 ops.now)).cells }
-    ensures miss { result ≡ (run_of prim.now places cells.old (cell_visits element address 0 ops.now)).miss }
+    ensures cells { cells.new ≡ (run_of prim.now places cells.old (steps_of (cell_visits element address 0 ops.now))).cells }
+    ensures miss { result ≡ (run_of prim.now places cells.old (steps_of (cell_visits element address 0 ops.now))).miss }
 {
     for (number, op) in ops.iter().enumerate() {
-        let answer = step(prim, places, cells, address, act(*op));
+        let answer = step(prim, places, cells, address, act_of(*op));
         if is_wrong(*op, answer) {
             return Some(Miss {
                 element,
@@ -76,7 +78,7 @@ fn address_of(is_down: bool, place: usize, size: usize) -> usize
 }
 
 /// Does the operations of an element on each cell in turn, up to the first miss.
-pub(crate) fn run_element(
+fn run_sweep(
     prim: &Prim,
     places: Places,
     cells: &mut [bool],
@@ -85,8 +87,8 @@ pub(crate) fn run_element(
     is_down: bool,
 ) -> Option<Miss>
     requires places { FitsPlace prim.now places (length cells.old) }
-    ensures cells { cells.new ≡ (run_of prim.now places cells.old (address_visits element ops.now (addresses (direction_of is_down) (length cells.old)))).cells }
-    ensures miss { result ≡ (run_of prim.now places cells.old (address_visits element ops.now (addresses (direction_of is_down) (length cells.old)))).miss }
+    ensures cells { cells.new ≡ (run_of prim.now places cells.old (steps_of (address_visits element ops.now (addresses (direction_of is_down) (length cells.old))))).cells }
+    ensures miss { result ≡ (run_of prim.now places cells.old (steps_of (address_visits element ops.now (addresses (direction_of is_down) (length cells.old))))).miss }
 {
     let size = cells.len();
     for place in 0..size {
@@ -96,4 +98,27 @@ pub(crate) fn run_element(
         }
     }
     None
+}
+
+/// Does an element of a march in a direction, up to the first miss.
+pub(crate) fn run_element(
+    prim: &Prim,
+    places: Places,
+    cells: &mut [bool],
+    march: &March,
+    element: usize,
+    directions: u64,
+) -> Option<Miss>
+    requires places { FitsPlace prim.now places (length cells.old) }
+    requires there { element < length march.now }
+    requires within { element < 64 }
+    ensures cells { cells.new ≡ (run_of prim.now places cells.old (element_visits element (element_at march.now element) (direction_at directions element) (length cells.old))).cells }
+    ensures miss { result ≡ (run_of prim.now places cells.old (element_visits element (element_at march.now element) (direction_at directions element) (length cells.old))).miss }
+{
+    if march.is_pause(element) {
+        pause_cells(prim, places, cells);
+        return None;
+    }
+    let down = is_down(directions, element);
+    run_sweep(prim, places, cells, element, march.ops(element), down)
 }

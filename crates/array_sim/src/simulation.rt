@@ -1,11 +1,11 @@
-ghost use Rattle.std.specs.Prelude.{◌≡◌, ◌<◌, ◌≤◌, length};
+ghost use Rattle.std.specs.Prelude.{◌≡◌, ◌<◌, ◌≤◌, ◌↔◌, IsSome, IfSome, length};
 ghost use Rattle.fault_core.specs.Cells.{FitsPlace, close_of};
 ghost use Rattle.march_core.specs.Visits.{FitsWord, visits, directions_of};
-ghost use Rattle.array_sim.specs.Run.{run_of, places_of, outcome_of};
+ghost use Rattle.array_sim.specs.Run.{places_of, outcome_of, SomeDiffers, IsFirstMiss};
 
 use crate::element_run::{Miss, run_element};
-use fault_core::{Places, Prim, close};
-use march_core::{March, is_down};
+use fault_core::{Places, Prim, close_cells};
+use march_core::March;
 
 /// One instance of a primitive: its aggressor's cell, if it has one, and its victim's.
 #[derive(Clone, Copy)]
@@ -27,6 +27,8 @@ pub fn simulate(
     requires places { FitsPlace instance.now.prim (places_of instance.now) (length cells.old) }
     requires fits { FitsWord march.now directions }
     ensures cells { cells.new ≡ (outcome_of march.now (directions_of directions (length march.now)) instance.now.prim (places_of instance.now) cells.old).cells }
+    ensures caught { IsSome result ↔ SomeDiffers instance.now.prim (places_of instance.now) (close_of instance.now.prim (places_of instance.now) cells.old) (visits march.now (directions_of directions (length march.now)) (length cells.old)) }
+    ensures first { IfSome result (λ miss. IsFirstMiss instance.now.prim (places_of instance.now) (close_of instance.now.prim (places_of instance.now) cells.old) (visits march.now (directions_of directions (length march.now)) (length cells.old)) miss) }
     ensures miss { result ≡ (outcome_of march.now (directions_of directions (length march.now)) instance.now.prim (places_of instance.now) cells.old).miss }
 {
     let places = Places {
@@ -34,10 +36,9 @@ pub fn simulate(
         vic: instance.vic,
     };
     let prim = instance.prim;
-    close(&prim, places, cells);
+    close_cells(&prim, places, cells);
     for element in 0..march.len() {
-        let down = is_down(directions, element);
-        if let Some(miss) = run_element(&prim, places, cells, element, march.ops(element), down) {
+        if let Some(miss) = run_element(&prim, places, cells, march, element, directions) {
             return Some(miss);
         }
     }

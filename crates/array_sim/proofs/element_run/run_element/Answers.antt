@@ -1,31 +1,27 @@
-use Rattle.array_sim.specs.Addresses.{direction_of}
-use Rattle.array_sim.proofs.Runs.{element_goes_on, element_stops, element_ends}
+use Rattle.std.proofs.Common.{List, ◌∙◌, ap, sym, length}
+use Rattle.march_core.specs.Visits.{MarchStep, direction_at}
+use Rattle.array_sim.specs.Run.{run_of}
+use Rattle.array_sim.proofs.Runs.{pause_visits, sweep_visits}
 use Rattle.array_sim.proofs.element_run.run_element.Goals as goal
 
-pub returns-in-Some-clause-cells : goal.returns-in-Some-clause-cells
-returns-in-Some-clause-cells c =
-    (element_stops c.args.prim.now c.args.places c.loop-place.cells c.run_cell.new.cells c.args.element c.address_of-address.result
-    c.args.ops.now (direction_of c.args.is_down) _ c.loop-place.place c.in-Some.miss c.run_cell.result _ c.loop-place-test.true
-    c.address_of-address.ensures.value c.run_cell.ensures.cells c.run_cell.ensures.miss c.in-Some.is c.loop-place.invariant).0
+pub returns-then-is_pause-clause-cells : goal.returns-then-is_pause-clause-cells
+returns-then-is_pause-clause-cells c =
+    let visits = pause_visits c.args.march.now c.args.element (direction_at c.args.directions c.args.element) (length c.args.cells.now) c.requires.there (sym c.if-is_pause.ensures) in
+    c.pause_cells.ensures ∙ ap (λ (steps : List MarchStep). (run_of c.args.prim.now c.args.places c.args.cells.now steps).cells) (sym visits)
 
-pub returns-in-Some-clause-miss : goal.returns-in-Some-clause-miss
-returns-in-Some-clause-miss c =
-    (element_stops c.args.prim.now c.args.places c.loop-place.cells c.run_cell.new.cells c.args.element c.address_of-address.result
-    c.args.ops.now (direction_of c.args.is_down) _ c.loop-place.place c.in-Some.miss c.run_cell.result _ c.loop-place-test.true
-    c.address_of-address.ensures.value c.run_cell.ensures.cells c.run_cell.ensures.miss c.in-Some.is c.loop-place.invariant).1
-
-pub loop-place-preserved : goal.loop-place-preserved
-loop-place-preserved c =
-    element_goes_on c.args.prim.now c.args.places c.loop-place.cells c.run_cell.new.cells c.args.element c.address_of-address.result
-    c.args.ops.now (direction_of c.args.is_down) _ c.loop-place.place c.run_cell.result _ c.loop-place-test.true
-    c.address_of-address.ensures.value c.run_cell.ensures.cells c.run_cell.ensures.miss c.in_default.is c.loop-place.invariant
+pub returns-then-is_pause-clause-miss : goal.returns-then-is_pause-clause-miss
+returns-then-is_pause-clause-miss c =
+    let visits = pause_visits c.args.march.now c.args.element (direction_at c.args.directions c.args.element) (length c.args.cells.now) c.requires.there (sym c.if-is_pause.ensures) in
+    ap (λ (steps : List MarchStep). (run_of c.args.prim.now c.args.places c.args.cells.now steps).miss) (sym visits)
 
 pub returns-clause-cells : goal.returns-clause-cells
 returns-clause-cells c =
-    (element_ends c.args.prim.now c.args.places c.loop-place.cells c.args.element c.args.ops.now (direction_of c.args.is_down) _
-    c.loop-place.place _ c.loop-place-test.false c.loop-place.invariant).0
+    let visits = sweep_visits c.args.march.now c.args.element c.args.directions (length c.args.cells.now) c.ops.result.now c.is_down-down.result c.requires.there (sym c.if-is_pause.ensures)
+    c.ops.ensures.value c.is_down-down.ensures.value in
+    c.run_sweep.ensures.cells ∙ ap (λ (steps : List MarchStep). (run_of c.args.prim.now c.args.places c.args.cells.now steps).cells) (sym visits)
 
 pub returns-clause-miss : goal.returns-clause-miss
 returns-clause-miss c =
-    (element_ends c.args.prim.now c.args.places c.loop-place.cells c.args.element c.args.ops.now (direction_of c.args.is_down) _
-    c.loop-place.place _ c.loop-place-test.false c.loop-place.invariant).1
+    let visits = sweep_visits c.args.march.now c.args.element c.args.directions (length c.args.cells.now) c.ops.result.now c.is_down-down.result c.requires.there (sym c.if-is_pause.ensures)
+    c.ops.ensures.value c.is_down-down.ensures.value in
+    c.run_sweep.ensures.miss ∙ ap (λ (steps : List MarchStep). (run_of c.args.prim.now c.args.places c.args.cells.now steps).miss) (sym visits)
