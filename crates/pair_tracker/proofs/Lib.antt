@@ -1,9 +1,9 @@
+pub mod Words
 pub mod Sides
 pub mod Projection
-pub mod Words
-pub mod Reaching
 pub mod Machines
-pub mod Offers
+pub mod Leading
+pub mod Joining
 pub mod Passing
 pub mod Found
-pub mod Surviving
+pub mod Ends

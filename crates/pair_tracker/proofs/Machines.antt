@@ -1,24 +1,23 @@
 -- The machine of two bits is what an instance in an array of any size looks like from its own cells.
-use Rattle.std.proofs.Common.{◌≡◌, ◌≢◌, ◌<◌, ℕ, Bool, true, false, not, ◌&&◌, cond, List, length, refl, ap, sym, subst, ◌∙◌}
+use Rattle.std.proofs.Common.{◌≡◌, ◌≢◌, ◌<◌, ℕ, Bool, true, false, not, ◌&&◌, cond, List, length, refl, ap, sym, subst, ◌∙◌, arith}
 use Rattle.std.specs.Prelude.{slice_set}
 use Rattle.fault_core.specs.declared.primitive.Act.{Act}
 use Rattle.fault_core.specs.declared.cells.Places.{Places}
 use Rattle.fault_core.specs.Primitive.{Primitive, IsPrimitive, same_bit}
-use Rattle.fault_core.specs.Cells.{cell, has_act, states_hold, close_of, acted, acts, plain_cells, step_cells, step_answer}
+use Rattle.fault_core.specs.Cells.{cell, has_act, states_hold, close_of, acted, acts, plain_cells, step_cells, step_answer, pause_cells}
 use Rattle.cell_machine.specs.declared.pair.Pair.{Pair}
 use Rattle.cell_machine.specs.declared.pair.Side.{Side}
 use Rattle.cell_machine.specs.declared.pair.Side.TheVariants.{A, V}
-use Rattle.cell_machine.specs.Pairs.{pair_holds, side_holds, pair_close, pair_step, pair_answer, with_victim, IsClosed}
-use Rattle.cell_machine.specs.Seen.{SeesPair}
-use Rattle.cell_machine.proofs.Projection.{length-plain_cells, length-set_if, length-step_cells, states_hold-seen, pair_at-close_of, acts-elsewhere, pair_at-step_victim, pair_at-step_aggressor, step_answer-victim, step_answer-aggressor, step_answer-elsewhere, cell-step_cells_other, cell-plain_cells_other}
+use Rattle.cell_machine.specs.Pairs.{pair_holds, side_holds, pair_close, pair_step, pair_answer, pair_pause, with_victim, IsClosed}
+use Rattle.cell_machine.specs.Seen.{pair_at, place_of, SeesPair}
+use Rattle.cell_machine.proofs.Projection.{length-plain_cells, length-set_if, length-step_cells, states_hold-seen, pair_at-close_of, acts-elsewhere, pair_at-step_victim, pair_at-step_aggressor, step_answer-victim, step_answer-aggressor, step_answer-elsewhere, cell-step_cells_other, cell-plain_cells_other, pair_at-pause_cells, length-pause_cells, cell-pause_cells_other}
 use Rattle.cell_machine.proofs.Closing.{left_state, pair_close-closed}
-use Rattle.pair_tracker.specs.Pairs.{pair_at, place_of}
 pub use Rattle.pair_tracker.specs.Pairs.{machine_of}
 use Rattle.pair_tracker.proofs.Projection.{Laws, same_pair}
 
 -- the array is closed, as its two cells show
 abbrev pub ShowsClosed : Primitive → ℕ → ℕ → List Bool → Type 0
-ShowsClosed p a v cells = IsClosed p (pair_at a v cells)
+ShowsClosed p a v cells = IsClosed p (pair_at cells a v)
 
 resized : (p : Primitive) (at : Places) (a n k : ℕ) → k ≡ n → SeesPair p at a n → SeesPair p at a k
 resized p at a n k e sees = subst (SeesPair p at a) (sym e) sees
@@ -45,10 +44,10 @@ unfolding step_cells close_of
 plain_elsewhere p at a n cells x act is sees xa xv closed =
     let own : acts p at cells x act ≡ false = acts-elsewhere p at a n cells x act sees xa xv in
     let plain : List Bool = plain_cells cells x act in
-    let same : pair_at a at.vic plain ≡ pair_at a at.vic cells =
+    let same : pair_at plain a at.vic ≡ pair_at cells a at.vic =
     same_pair a at.vic plain cells (cell-plain_cells_other cells x act a (λ e. xa (sym e))) (cell-plain_cells_other cells x act at.vic (λ e. xv (sym e))) in
     let idle : not (has_act p) && states_hold p at plain ≡ false =
-    ap (λ b. not (has_act p) && b) (states_hold-seen p at a n plain sees ∙ ap (pair_holds p) same) ∙ closed_test p (pair_at a at.vic cells) is closed in
+    ap (λ b. not (has_act p) && b) (states_hold-seen p at a n plain sees ∙ ap (pair_holds p) same) ∙ closed_test p (pair_at cells a at.vic) is closed in
     ap (λ b. close_of p at (cond b (slice_set plain at.vic p.after) plain)) own ∙ ap (λ b. cond b (slice_set plain at.vic p.after) plain) idle
 
 closes_all : (p : Primitive) (at : Places) (a n : ℕ) (cells : List Bool) (x : ℕ) (act : Act) → IsPrimitive p → SeesPair p at a n → length cells ≡ n
@@ -57,29 +56,65 @@ unfolding step_cells
 closes_all p at a n cells x act is sees size =
     let done : List Bool = acted p at cells x act in
     let done_size : length done ≡ n = length-set_if (acts p at cells x act) (plain_cells cells x act) at.vic p.after ∙ length-plain_cells cells x act ∙ size in
-    subst (IsClosed p) (sym (pair_at-close_of p at a done (resized p at a n (length done) done_size sees))) (pair_close-closed p (pair_at a at.vic done) is)
+    subst (IsClosed p) (sym (pair_at-close_of p at a done (resized p at a n (length done) done_size sees))) (pair_close-closed p (pair_at done a at.vic) is)
+
+pause_closes_all : (p : Primitive) (at : Places) (a n : ℕ) (cells : List Bool) → IsPrimitive p → SeesPair p at a n → length cells ≡ n
+    → ShowsClosed p a at.vic (pause_cells p at cells)
+unfolding pair_pause
+pause_closes_all p at a n cells is sees size =
+    let paused : IsClosed p (pair_pause p (pair_at cells a at.vic)) = pair_close-closed p _ is in
+    subst (IsClosed p) (sym (pair_at-pause_cells p at a cells (resized p at a n (length cells) size sees))) paused
+
+-- the two cells of the instance, by their sides
+own_answers : (p : Primitive) (at : Places) (a n : ℕ) → SeesPair p at a n → (s : Side) (cells : List Bool) (act : Act)
+    → step_answer p at cells (place_of a at.vic s) act ≡ pair_answer p (pair_at cells a at.vic) s act
+own_answers p at a n sees A cells act = step_answer-aggressor p at a n cells act sees
+own_answers p at a n sees V cells act = step_answer-victim p at a n cells act sees
+
+own_pairs : (p : Primitive) (at : Places) (a n : ℕ) → SeesPair p at a n → (s : Side) (cells : List Bool) (act : Act) → place_of a at.vic s < n → length cells ≡ n
+    → pair_at (step_cells p at cells (place_of a at.vic s) act) a at.vic ≡ pair_step p (pair_at cells a at.vic) s act
+own_pairs p at a n sees A cells act within size =
+    pair_at-step_aggressor p at a cells act (resized p at a n (length cells) size sees) (subst (λ k. a < k) (sym size) within)
+own_pairs p at a n sees V cells act within size = pair_at-step_victim p at a cells act (resized p at a n (length cells) size sees)
+
+own_others : (p : Primitive) (at : Places) (a : ℕ) (s : Side) (cells : List Bool) (act : Act) (y : ℕ) → y ≢ a → y ≢ at.vic
+    → cell (step_cells p at cells (place_of a at.vic s) act) y ≡ cell cells y
+own_others p at a A cells act y ya yv = cell-step_cells_other p at cells a act y yv ∙ cell-plain_cells_other cells a act y ya
+own_others p at a V cells act y ya yv = cell-step_cells_other p at cells at.vic act y yv ∙ cell-plain_cells_other cells at.vic act y yv
 
 pub laws_hold : (p : Primitive) (at : Places) (a n : ℕ) → IsPrimitive p → SeesPair p at a n → Laws p at a at.vic n (machine_of p) (ShowsClosed p a at.vic)
 laws_hold p at a n is sees = record {
-  own_answer = λ s cells act within size. answers s cells act;
-  own_pair = λ s cells act within size. pairs s cells act within size;
-  own_others = λ s cells act y ya yv. others s cells act y ya yv;
+  own_answer = λ s cells act within size. own_answers p at a n sees s cells act;
+  own_pair = λ s cells act within size. own_pairs p at a n sees s cells act within size;
+  own_others = λ s cells act y ya yv. own_others p at a s cells act y ya yv;
   same_length = λ cells x act. length-step_cells p at cells x act;
   closes = λ cells x act size. closes_all p at a n cells x act is sees size;
   other_answer = λ cells x act xa xv. step_answer-elsewhere p at a n cells x act sees xa xv;
-  other_cells = λ cells x act xa xv closed. plain_elsewhere p at a n cells x act is sees xa xv closed;
+  other_cells = λ cells x act within xa xv closed. plain_elsewhere p at a n cells x act is sees xa xv closed;
+  pause_pair = λ cells size. pair_at-pause_cells p at a cells (resized p at a n (length cells) size sees);
+  pause_others = λ cells y ya yv. cell-pause_cells_other p at cells y yv;
+  pause_length = λ cells. length-pause_cells p at cells;
+  pause_closes = λ cells size. pause_closes_all p at a n cells is sees size;
+}
+
+-- two cells alone, where there is no other cell that closing could reach
+pub two_cell_laws : (p : Primitive) (at : Places) (a : ℕ) → SeesPair p at a 2 → a < 2 → Laws p at a at.vic 2 (machine_of p) (λ cells. Unit {0})
+two_cell_laws p at a sees within = record {
+  own_answer = λ s cells act inside size. own_answers p at a 2 sees s cells act;
+  own_pair = λ s cells act inside size. own_pairs p at a 2 sees s cells act inside size;
+  own_others = λ s cells act y ya yv. own_others p at a s cells act y ya yv;
+  same_length = λ cells x act. length-step_cells p at cells x act;
+  closes = λ cells x act size. tt;
+  other_answer = λ cells x act xa xv. step_answer-elsewhere p at a 2 cells x act sees xa xv;
+  other_cells = λ cells x act inside xa xv closed. absurd (no_third x inside xa xv);
+  pause_pair = λ cells size. pair_at-pause_cells p at a cells (resized p at a 2 (length cells) size sees);
+  pause_others = λ cells y ya yv. cell-pause_cells_other p at cells y yv;
+  pause_length = λ cells. length-pause_cells p at cells;
+  pause_closes = λ cells size. tt;
 }
   where
-    answers : (s : Side) (cells : List Bool) (act : Act) → step_answer p at cells (place_of a at.vic s) act ≡ pair_answer p (pair_at a at.vic cells) s act
-    answers A cells act = step_answer-aggressor p at a n cells act sees
-    answers V cells act = step_answer-victim p at a n cells act sees
-
-    pairs : (s : Side) (cells : List Bool) (act : Act) → place_of a at.vic s < n → length cells ≡ n
-        → pair_at a at.vic (step_cells p at cells (place_of a at.vic s) act) ≡ pair_step p (pair_at a at.vic cells) s act
-    pairs A cells act within size =
-        pair_at-step_aggressor p at a cells act (resized p at a n (length cells) size sees) (subst (λ k. a < k) (sym size) within)
-    pairs V cells act within size = pair_at-step_victim p at a cells act (resized p at a n (length cells) size sees)
-
-    others : (s : Side) (cells : List Bool) (act : Act) (y : ℕ) → y ≢ a → y ≢ at.vic → cell (step_cells p at cells (place_of a at.vic s) act) y ≡ cell cells y
-    others A cells act y ya yv = cell-step_cells_other p at cells a act y yv ∙ cell-plain_cells_other cells a act y ya
-    others V cells act y ya yv = cell-step_cells_other p at cells at.vic act y yv ∙ cell-plain_cells_other cells at.vic act y yv
+    no_third : (x : ℕ) → x < 2 → x ≢ a → x ≢ at.vic → ⊥
+    no_third x inside xa xv =
+        let apart : a ≢ at.vic = sees.apart in
+        let victim : at.vic < 2 = sees.victim in
+        omega arith

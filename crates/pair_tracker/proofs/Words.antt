@@ -1,176 +1,231 @@
--- Direction words of the first elements of a march: the bits of the later elements are 0.
-use Rattle.std.proofs.Common.{◌≡◌, ◌+◌, ◌-◌, ◌*◌, ◌/◌, ◌%◌, ◌^◌, ◌<◌, ◌≤◌, ℕ, zero, suc, cond, eqb, [], ◌∷◌, ◌++◌, refl, ap, sym, subst, ◌∙◌, ◌⊎◌, ⊎_elim, arith}
-use Rattle.std.proofs.lemmas.Nat.{pow_pos, pow-add, shl-shr, shr-shr, div-mul-add, mod-mul-add, shr_split, div-add-mod', mod_below, row_fits, pow_below, shr_below, shl_below}
-use Rattle.std.proofs.Math.Nat.{mul-mod_left}
-use Rattle.std.proofs.lemmas.List.FromFn.{map-range_with_len_more}
+-- Direction words of some elements of a march: the bits of the other elements are 0.
+use Rattle.std.proofs.Common.{◌≡◌, ◌+◌, ◌-◌, ◌*◌, ◌/◌, ◌%◌, ◌^◌, ◌<◌, ◌≤◌, ℕ, zero, suc, cond, eqb, List, [], ◌∷◌, ◌++◌, map, refl, ap, sym, subst, ◌∙◌, ◌⊎◌, ⊎_elim, inl, inr, arith}
+use Rattle.std.proofs.lemmas.Nat.{pow_pos, pow-add, shl-shr, shr-shr, div-mul-add, shr_split, mod_below, row_fits, shr_below, shl_below}
+use Rattle.std.proofs.Math.Pow.{pow_mono}
+use Rattle.std.proofs.Math.Nat.{mul-mod_left, mul-add-div_right, mul-add-mod_self_right}
+use Rattle.std.proofs.lemmas.List.{map-append}
+use Rattle.std.specs.List.{range_with_len}
 use Rattle.march_core.specs.Visits.{Direction, Upward, Downward, direction_at, directions_of}
-use Rattle.pair_tracker.specs.Tracking.{weight_in}
+use Rattle.pair_tracker.specs.Legs.{directions_between}
+use Rattle.pair_tracker.specs.Tracking.{weight_in, IsSpanWord}
 
--- a word whose bits past the first i elements are 0
-pub record IsPrefixWord (i word : ℕ) : Type 0 where
-  pub digits : ℕ
-  pub is : word ≡ digits * 2 ^ (64 - i)
-  pub within : digits < 2 ^ i
+-- one behind another
+pub span_below : (i j word : ℕ) → i ≤ j → j ≤ 64 → IsSpanWord i j word → word < 2 ^ (64 - i)
+span_below i j word ij j64 span =
+    let whole : (j - i) + (64 - j) ≡ 64 - i = omega arith in
+    let below : span.digits * 2 ^ (64 - j) < 2 ^ ((j - i) + (64 - j)) = shl_below span.digits (j - i) (64 - j) span.within in
+    subst (λ m. word < 2 ^ m) whole (subst (λ w. w < 2 ^ ((j - i) + (64 - j))) (sym span.is) below)
+
+pub span_fits : (i j word : ℕ) → i ≤ j → j ≤ 64 → IsSpanWord i j word → word < 2 ^ 64
+span_fits i j word ij j64 span =
+    let below : word < 2 ^ (64 - i) = span_below i j word ij j64 span in
+    let most : 2 ^ (64 - i) ≤ 2 ^ 64 = pow_mono {i = 64 - i} {j = 64} (omega arith) in
+    omega arith
+
+as_sum : (a b s t : ℕ) → a * (s * t) + b * t ≡ (a * s + b) * t
+as_sum a b s t = omega arith
+
+-- the bits above those of the elements from j on
+raised : (j k digits : ℕ) → j ≤ k → k ≤ 64 → digits * 2 ^ (64 - j) ≡ digits * (2 ^ (k - j) * 2 ^ (64 - k))
+raised j k digits jk k64 =
+    let parts : 64 - j ≡ (k - j) + (64 - k) = omega arith in
+    ap (λ n. digits * 2 ^ n) parts ∙ ap (λ n. digits * n) (pow-add 2 (k - j) (64 - k))
+
+pub span_join : (i j k u w : ℕ) → i ≤ j → j ≤ k → k ≤ 64 → IsSpanWord i j u → IsSpanWord j k w → IsSpanWord i k (u + w)
+span_join i j k u w ij jk k64 before rest =
+    let a : ℕ = 2 ^ (k - j) in
+    let b : ℕ = 2 ^ (64 - k) in
+    let front : u ≡ before.digits * (a * b) = before.is ∙ raised j k before.digits jk k64 in
+    let room : before.digits * a + a ≤ 2 ^ (j - i) * a = row_fits before.digits a (2 ^ (j - i)) a before.within (omega arith) in
+    let parts : (j - i) + (k - j) ≡ k - i = omega arith in
+    let all : 2 ^ (j - i) * a ≡ 2 ^ (k - i) = sym (pow-add 2 (j - i) (k - j)) ∙ ap (λ n. 2 ^ n) parts in
+    record {
+      digits = before.digits * a + rest.digits;
+      is = ap (λ n. n + w) front ∙ ap (λ n. before.digits * (a * b) + n) rest.is ∙ as_sum before.digits rest.digits a b;
+      within = omega (arith, rest.within);
+    }
+
+-- a word in two parts
+pub record IsSplit (i j k word : ℕ) : Type 0 where
+  pub before : ℕ
+  pub rest : ℕ
+  pub first : IsSpanWord i j before
+  pub second : IsSpanWord j k rest
+  pub is : word ≡ before + rest
+
+pub span_split : (i j k word : ℕ) → i ≤ j → j ≤ k → k ≤ 64 → IsSpanWord i k word → IsSplit i j k word
+span_split i j k word ij jk k64 span =
+    let a : ℕ = 2 ^ (k - j) in
+    let b : ℕ = 2 ^ (64 - k) in
+    let parts : k - i ≡ (j - i) + (k - j) = omega arith in
+    let split : span.digits / a * a + span.digits % a ≡ span.digits = shr_split span.digits (k - j) in
+    let is : word ≡ span.digits / a * 2 ^ (64 - j) + span.digits % a * b =
+    span.is ∙ ap (λ n. n * b) (sym split) ∙ sym (as_sum (span.digits / a) (span.digits % a) a b)
+    ∙ ap (λ n. n + span.digits % a * b) (sym (raised j k (span.digits / a) jk k64)) in
+    record {
+      before = span.digits / a * 2 ^ (64 - j);
+      rest = span.digits % a * b;
+      first = record { digits = span.digits / a; is = refl; within = shr_below span.digits (j - i) (k - j) (subst (λ m. span.digits < 2 ^ m) parts span.within) };
+      second = record { digits = span.digits % a; is = refl; within = mod_below span.digits a (pow_pos (k - j)) };
+      is = is;
+    }
 
 -- what stands above a bit is what stands there without it
 above : (b low k s : ℕ) → low < 2 ^ k → (b * 2 ^ k + low) / 2 ^ (k + s) ≡ b / 2 ^ s
 above b low k s h = sym (shr-shr (b * 2 ^ k + low) k s) ∙ ap (λ n. n / 2 ^ s) (div-mul-add b (2 ^ k) low h)
 
-low_bit : (k : ℕ) → 2 ^ (k + 1) ≡ 2 ^ k + 2 ^ k
-low_bit k = pow-add 2 k 1 ∙ omega arith
+-- the bits of the elements before j are those of the first part
+kept_before : (j x u w digits : ℕ) → x < j → j ≤ 64 → u ≡ digits * 2 ^ (64 - j) → w < 2 ^ (64 - j) → direction_at (u + w) x ≡ direction_at u x
+unfolding direction_at
+kept_before j x u w digits xj j64 is low =
+    let k : ℕ = 64 - j in
+    let s : ℕ = j - 1 - x in
+    let far : 63 - x ≡ k + s = omega arith in
+    let none : u ≡ digits * 2 ^ k + 0 = omega (arith, is) in
+    let same : (u + w) / 2 ^ (63 - x) ≡ u / 2 ^ (63 - x) =
+    ap (λ n. (u + w) / 2 ^ n) far ∙ ap (λ n. (n + w) / 2 ^ (k + s)) is ∙ above digits w k s low ∙ sym (above digits 0 k s (pow_pos k))
+    ∙ ap (λ n. n / 2 ^ (k + s)) (sym none) ∙ ap (λ n. u / 2 ^ n) (sym far) in
+    ap (λ n. cond (eqb (n % 2) 1) Downward Upward) same
 
--- the weight of an element is below that of the one before it
-small : (k : ℕ) (d : Direction) → weight_in (2 ^ k) d < 2 ^ (k + 1)
-small k Upward = pow_pos (k + 1)
-small k Downward = omega (arith, low_bit k, pow_pos k)
+-- the bits of the elements from j on are those of the second part
+kept_behind : (j x u w digits : ℕ) → j ≤ x → x < 64 → u ≡ digits * 2 ^ (64 - j) → direction_at (u + w) x ≡ direction_at w x
+unfolding direction_at
+kept_behind j x u w digits jx x64 is =
+    let k : ℕ = 63 - x in
+    let even : ℕ = digits * 2 ^ (x - j) in
+    let parts : 64 - j ≡ (x - j) + (1 + k) = omega arith in
+    let raises : digits * 2 ^ (64 - j) ≡ even * 2 * 2 ^ k =
+    ap (λ n. digits * 2 ^ n) parts ∙ ap (λ n. digits * n) (pow-add 2 (x - j) (1 + k)) ∙ ap (λ n. digits * (2 ^ (x - j) * n)) (pow-add 2 1 k) ∙ (omega arith) in
+    let bit : (u + w) / 2 ^ k % 2 ≡ w / 2 ^ k % 2 =
+    ap (λ n. (n + w) / 2 ^ k % 2) (is ∙ raises) ∙ ap (λ n. n % 2) (mul-add-div_right (pow_pos k) (even * 2) w) ∙ mul-add-mod_self_right even 2 (w / 2 ^ k) in
+    ap (λ n. cond (eqb n 1) Downward Upward) bit
 
--- the bits of the elements before i stay
-bit_kept : (b k s : ℕ) (d : Direction) → (b * 2 ^ (k + 1) + weight_in (2 ^ k) d) / 2 ^ (k + 1 + s) ≡ b * 2 ^ (k + 1) / 2 ^ (k + 1 + s)
-bit_kept b k s d =
-    let none : b * 2 ^ (k + 1) + 0 ≡ b * 2 ^ (k + 1) = omega arith in
-    above b (weight_in (2 ^ k) d) (k + 1) s (small k d) ∙ sym (above b 0 (k + 1) s (pow_pos (k + 1))) ∙ ap (λ n. n / 2 ^ (k + 1 + s)) none
+same_map : {X : Type 0} (f g : ℕ → X) (i n : ℕ) → ((x : ℕ) → i ≤ x → x < i + n → f x ≡ g x) → map f (range_with_len i n) ≡ map g (range_with_len i n)
+same_map f g i zero same = refl
+same_map f g i (suc n) same =
+    ap (λ y. y ∷ map f (range_with_len (i + 1) n)) (same i (omega arith) (omega arith))
+    ∙ ap (λ ys. g i ∷ ys) (same_map f g (i + 1) n (λ x low high. same x (omega arith) (omega arith)))
 
--- the bit of element i is its direction's
-abbrev bit_of : Direction → ℕ
+range_parts : (i m n : ℕ) → range_with_len i (m + n) ≡ range_with_len i m ++ range_with_len (i + m) n
+range_parts i zero n =
+    let none : zero + n ≡ n = omega arith in
+    let here : i ≡ i + zero = omega arith in
+    ap (range_with_len i) none ∙ ap (λ k. range_with_len k n) here
+range_parts i (suc m) n =
+    let more : suc m + n ≡ suc (m + n) = omega arith in
+    let next : (i + 1) + m ≡ i + suc m = omega arith in
+    ap (range_with_len i) more ∙ ap (λ xs. i ∷ xs) (range_parts (i + 1) m n ∙ ap (λ k. range_with_len (i + 1) m ++ range_with_len k n) next)
+
+pub directions_join : (i j k u w : ℕ) → i ≤ j → j ≤ k → k ≤ 64 → IsSpanWord i j u → IsSpanWord j k w
+    → directions_between (u + w) i k ≡ directions_between u i j ++ directions_between w j k
+directions_join i j k u w ij jk k64 before rest =
+    let low : w < 2 ^ (64 - j) = span_below j k w jk k64 rest in
+    let parts : k - i ≡ (j - i) + (k - j) = omega arith in
+    let there : i + (j - i) ≡ j = omega arith in
+    let sum : ℕ → Direction = λ x. direction_at (u + w) x in
+    ap (λ n. map sum (range_with_len i n)) parts ∙ ap (map sum) (range_parts i (j - i) (k - j))
+    ∙ ap (λ n. map sum (range_with_len i (j - i) ++ range_with_len n (k - j))) there
+    ∙ map-append sum (range_with_len i (j - i)) (range_with_len j (k - j))
+    ∙ ap (λ ds. ds ++ map sum (range_with_len j (k - j)))
+    (same_map sum (direction_at u) i (j - i) (λ x ix xj. kept_before j x u w before.digits (omega arith) (omega arith) before.is low))
+    ∙ ap (λ ds. directions_between u i j ++ ds)
+    (same_map sum (direction_at w) j (k - j) (λ x jx xk. kept_behind j x u w before.digits jx (omega arith) before.is))
+
+-- the word of one element
+bit_of : Direction → ℕ
 bit_of Upward = 0
 bit_of Downward = 1
 
 weight_bit : (k : ℕ) (d : Direction) → weight_in (2 ^ k) d ≡ bit_of d * 2 ^ k
+unfolding bit_of
 weight_bit k Upward = omega arith
 weight_bit k Downward = omega arith
 
-as_shift : (b k : ℕ) (d : Direction) → b * 2 ^ (k + 1) + weight_in (2 ^ k) d ≡ (b * 2 + bit_of d) * 2 ^ k
-as_shift b k Upward = ap (λ n. b * n + 0) (low_bit k) ∙ omega arith
-as_shift b k Downward = ap (λ n. b * n + 2 ^ k) (low_bit k) ∙ omega arith
-
-bit_new : (b k : ℕ) (d : Direction) → (b * 2 ^ (k + 1) + weight_in (2 ^ k) d) / 2 ^ k % 2 ≡ bit_of d
-bit_new b k d = ap (λ n. n / 2 ^ k % 2) (as_shift b k d) ∙ ap (λ n. n % 2) (shl-shr (b * 2 + bit_of d) k) ∙ odd b d
+pub span_one : (i : ℕ) (d : Direction) → i < 64 → IsSpanWord i (i + 1) (weight_in (2 ^ (63 - i)) d)
+unfolding bit_of
+span_one i d h =
+    let rest : 63 - i ≡ 64 - (i + 1) = omega arith in
+    let one : i + 1 - i ≡ 1 = omega arith in
+    record {
+      digits = bit_of d;
+      is = weight_bit (63 - i) d ∙ ap (λ n. bit_of d * 2 ^ n) rest;
+      within = subst (λ n. bit_of d < 2 ^ n) (sym one) (fits d);
+    }
   where
-    odd : (b : ℕ) (d : Direction) → (b * 2 + bit_of d) % 2 ≡ bit_of d
-    odd b Upward = mod-mul-add b 2 0 (omega arith)
-    odd b Downward = mod-mul-add b 2 1 (omega arith)
+    fits : (d : Direction) → bit_of d < 2 ^ 1
+    fits Upward = omega arith
+    fits Downward = omega arith
 
--- the same of words
-pub direction_new : (i u : ℕ) (d : Direction) → i < 64 → IsPrefixWord i u → direction_at (u + weight_in (2 ^ (63 - i)) d) i ≡ d
-unfolding direction_at
-direction_new i u d h prefix =
-    let next : 64 - i ≡ (63 - i) + 1 = omega arith in
-    let is : u ≡ prefix.digits * 2 ^ ((63 - i) + 1) = prefix.is ∙ ap (λ n. prefix.digits * 2 ^ n) next in
-    let bit : (u + weight_in (2 ^ (63 - i)) d) / 2 ^ (63 - i) % 2 ≡ bit_of d =
-    ap (λ n. (n + weight_in (2 ^ (63 - i)) d) / 2 ^ (63 - i) % 2) is ∙ bit_new prefix.digits (63 - i) d in
+pub direction_one : (i : ℕ) (d : Direction) → direction_at (weight_in (2 ^ (63 - i)) d) i ≡ d
+unfolding direction_at bit_of
+direction_one i d =
+    let bit : weight_in (2 ^ (63 - i)) d / 2 ^ (63 - i) % 2 ≡ bit_of d =
+    ap (λ n. n / 2 ^ (63 - i) % 2) (weight_bit (63 - i) d) ∙ ap (λ n. n % 2) (shl-shr (bit_of d) (63 - i)) ∙ small d in
     ap (λ n. cond (eqb n 1) Downward Upward) bit ∙ tells d
   where
+    small : (d : Direction) → bit_of d % 2 ≡ bit_of d
+    small Upward = refl
+    small Downward = refl
+
     tells : (d : Direction) → cond (eqb (bit_of d) 1) Downward Upward ≡ d
     tells Upward = refl
     tells Downward = refl
 
-pub direction_kept : (i j u : ℕ) (d : Direction) → j < i → i < 64 → IsPrefixWord i u → direction_at (u + weight_in (2 ^ (63 - i)) d) j ≡ direction_at u j
-unfolding direction_at
-direction_kept i j u d ji h prefix =
-    let k : ℕ = 63 - i in
-    let s : ℕ = i - 1 - j in
-    let next : 64 - i ≡ k + 1 = omega arith in
-    let far : 63 - j ≡ k + 1 + s = omega arith in
-    let is : u ≡ prefix.digits * 2 ^ (k + 1) = prefix.is ∙ ap (λ n. prefix.digits * 2 ^ n) next in
-    let same : (u + weight_in (2 ^ k) d) / 2 ^ (63 - j) ≡ u / 2 ^ (63 - j) =
-    ap (λ n. (u + weight_in (2 ^ k) d) / 2 ^ n) far ∙ ap (λ n. (n + weight_in (2 ^ k) d) / 2 ^ (k + 1 + s)) is ∙ bit_kept prefix.digits k s d
-    ∙ ap (λ n. n / 2 ^ (k + 1 + s)) (sym is) ∙ ap (λ n. u / 2 ^ n) (sym far) in
-    ap (λ n. cond (eqb (n % 2) 1) Downward Upward) same
+pub directions_one : (i : ℕ) (d : Direction) → directions_between (weight_in (2 ^ (63 - i)) d) i (i + 1) ≡ d ∷ []
+directions_one i d =
+    let one : i + 1 - i ≡ 1 = omega arith in
+    ap (λ n. map (direction_at (weight_in (2 ^ (63 - i)) d)) (range_with_len i n)) one ∙ ap (λ e. e ∷ []) (direction_one i d)
 
--- the directions of a word for n elements, by those of each
-same_directions : (u w n : ℕ) → ((j : ℕ) → j < n → direction_at u j ≡ direction_at w j) → directions_of u n ≡ directions_of w n
-same_directions u w zero same = refl
-same_directions u w (suc n) same =
-    let more : suc n ≡ n + 1 = omega arith in
-    ap (directions_of u) more ∙ map-range_with_len_more (direction_at u) 0 n n (omega arith)
-    ∙ ap (λ l. l ++ direction_at u n ∷ []) (same_directions u w n (λ j h. same j (omega arith)))
-    ∙ ap (λ d. directions_of w n ++ d ∷ []) (same n (omega arith))
-    ∙ sym (map-range_with_len_more (direction_at w) 0 n n (omega arith)) ∙ ap (directions_of w) (sym more)
-
-pub directions_more : (i u : ℕ) (d : Direction) → i < 64 → IsPrefixWord i u
-    → directions_of (u + weight_in (2 ^ (63 - i)) d) (i + 1) ≡ directions_of u i ++ d ∷ []
-directions_more i u d h prefix =
-    let w : ℕ = u + weight_in (2 ^ (63 - i)) d in
-    map-range_with_len_more (direction_at w) 0 i i (omega arith)
-    ∙ ap (λ l. l ++ direction_at w i ∷ []) (same_directions w u i (λ j ji. direction_kept i j u d ji h prefix))
-    ∙ ap (λ e. directions_of u i ++ e ∷ []) (direction_new i u d h prefix)
-
-pub prefix_none : IsPrefixWord 0 0
-prefix_none = record { digits = 0; is = omega arith; within = omega arith }
-
-pub only_none : (word : ℕ) → IsPrefixWord 0 word → word ≡ 0
-only_none word prefix = let none : prefix.digits ≡ 0 = omega (arith, prefix.within) in prefix.is ∙ ap (λ n. n * 2 ^ 64) none
-
--- one more element
-pub prefix_more : (i u : ℕ) (d : Direction) → i < 64 → IsPrefixWord i u → IsPrefixWord (i + 1) (u + weight_in (2 ^ (63 - i)) d)
-prefix_more i u d h prefix =
-    let next : 64 - i ≡ (63 - i) + 1 = omega arith in
-    let rest : 63 - i ≡ 64 - (i + 1) = omega arith in
-    let is : u ≡ prefix.digits * 2 ^ ((63 - i) + 1) = prefix.is ∙ ap (λ n. prefix.digits * 2 ^ n) next in
-    record {
-      digits = prefix.digits * 2 + bit_of d;
-      is = ap (λ n. n + weight_in (2 ^ (63 - i)) d) is ∙ as_shift prefix.digits (63 - i) d ∙ ap (λ n. (prefix.digits * 2 + bit_of d) * 2 ^ n) rest;
-      within = fits d;
-    }
+pub one_split : (i word : ℕ) → i < 64 → IsSpanWord i (i + 1) word → (d : Direction) × (word ≡ weight_in (2 ^ (63 - i)) d)
+unfolding bit_of
+one_split i word h span =
+    ⊎_elim (λ (up : span.digits ≡ bit_of Upward). with_bit Upward up) (λ (down : span.digits ≡ bit_of Downward). with_bit Downward down) cases
   where
-    fits : (d : Direction) → prefix.digits * 2 + bit_of d < 2 ^ (i + 1)
-    fits Upward = omega (arith, low_bit i, prefix.within)
-    fits Downward = omega (arith, low_bit i, prefix.within)
+    small : span.digits < 2
+    small = let one : i + 1 - i ≡ 1 = omega arith in subst (λ n. span.digits < 2 ^ n) one span.within
 
--- the last element's bit, and the word without it
-pub record IsExtended (i word : ℕ) : Type 0 where
-  pub before : ℕ
-  pub direction : Direction
-  pub prefix : IsPrefixWord i before
-  pub is : word ≡ before + weight_in (2 ^ (63 - i)) direction
+    cases : (span.digits ≡ 0) ⊎ (span.digits ≡ 1)
+    cases = which span.digits small
+      where
+        which : (n : ℕ) → n < 2 → (n ≡ 0) ⊎ (n ≡ 1)
+        which zero h = inl refl
+        which (suc zero) h = inr refl
+        which (suc (suc n)) h = absurd (omega arith)
 
-pub prefix_split : (i word : ℕ) → i < 64 → IsPrefixWord (i + 1) word → IsExtended i word
-prefix_split i word h prefix =
-    ⊎_elim (λ even. with_bit Upward even) (λ odd. with_bit Downward odd) parity
-  where
-    half : ℕ
-    half = prefix.digits / 2
-
-    parity : (prefix.digits ≡ half * 2 + bit_of Upward) ⊎ (prefix.digits ≡ half * 2 + bit_of Downward)
-    parity = grind (arith, div-add-mod' prefix.digits 2, mod_below prefix.digits 2 (omega arith))
-
-    with_bit : (d : Direction) → prefix.digits ≡ half * 2 + bit_of d → IsExtended i word
+    with_bit : (d : Direction) → span.digits ≡ bit_of d → (d : Direction) × (word ≡ weight_in (2 ^ (63 - i)) d)
     with_bit d e =
-        let next : (63 - i) + 1 ≡ 64 - i = omega arith in
         let rest : 64 - (i + 1) ≡ 63 - i = omega arith in
-        record {
-          before = half * 2 ^ (64 - i);
-          direction = d;
-          prefix = record { digits = half; is = refl; within = omega (arith, low_bit i, prefix.within, e) };
-          is = prefix.is ∙ ap (λ n. prefix.digits * 2 ^ n) rest ∙ ap (λ n. n * 2 ^ (63 - i)) e ∙ sym (as_shift half (63 - i) d)
-              ∙ ap (λ n. half * 2 ^ n + weight_in (2 ^ (63 - i)) d) next;
-        }
+        (d, span.is ∙ ap (λ n. span.digits * 2 ^ n) rest ∙ ap (λ n. n * 2 ^ (63 - i)) e ∙ sym (weight_bit (63 - i) d))
 
-whole : (i : ℕ) → i ≤ 64 → i + (64 - i) ≡ 64
-whole i h = omega arith
+-- words of the first elements
+pub span_none : IsSpanWord 0 0 0
+span_none = record { digits = 0; is = refl; within = omega arith }
 
--- room for the bit of element i
-pub word_fits : (i u : ℕ) → i < 64 → IsPrefixWord i u → u + 2 ^ (63 - i) < 2 ^ 64
-word_fits i u h prefix =
-    let room : prefix.digits * 2 ^ (64 - i) + 2 ^ (64 - i) ≤ 2 ^ i * 2 ^ (64 - i) = row_fits prefix.digits (2 ^ (64 - i)) (2 ^ i) (2 ^ (64 - i)) prefix.within (omega arith) in
-    let all : 2 ^ i * 2 ^ (64 - i) ≡ 2 ^ 64 = sym (pow-add 2 i (64 - i)) ∙ ap (λ n. 2 ^ n) (whole i (omega arith)) in
-    let less : 2 ^ (63 - i) < 2 ^ (64 - i) = pow_below (63 - i) (64 - i) (omega arith) in
-    omega (arith, prefix.is)
+pub span_more : (i u : ℕ) (d : Direction) → i < 64 → IsSpanWord 0 i u → IsSpanWord 0 (i + 1) (u + weight_in (2 ^ (63 - i)) d)
+span_more i u d h span = span_join 0 i (i + 1) u (weight_in (2 ^ (63 - i)) d) (omega arith) (omega arith) (omega arith) span (span_one i d h)
 
--- words of n elements, by their remainder
-pub prefix_from_rest : (n word : ℕ) → n ≤ 64 → word < 2 ^ 64 → word % 2 ^ (64 - n) ≡ 0 → IsPrefixWord n word
-prefix_from_rest n word h within rest =
-    let split : word / 2 ^ (64 - n) * 2 ^ (64 - n) + word % 2 ^ (64 - n) ≡ word = shr_split word (64 - n) in
+pub directions_from_first : (word n : ℕ) → directions_between word 0 n ≡ directions_of word n
+directions_from_first word n =
+    let all : n - 0 ≡ n = omega arith in
+    ap (λ m. map (direction_at word) (range_with_len 0 m)) all
+
+pub directions_more : (i u : ℕ) (d : Direction) → i < 64 → IsSpanWord 0 i u
+    → directions_of (u + weight_in (2 ^ (63 - i)) d) (i + 1) ≡ directions_of u i ++ d ∷ []
+directions_more i u d h span =
+    let w : ℕ = weight_in (2 ^ (63 - i)) d in
+    sym (directions_from_first (u + w) (i + 1)) ∙ directions_join 0 i (i + 1) u w (omega arith) (omega arith) (omega arith) span (span_one i d h)
+    ∙ ap (λ ds. ds ++ directions_between w i (i + 1)) (directions_from_first u i) ∙ ap (λ ds. directions_of u i ++ ds) (directions_one i d)
+
+-- spans by their bounds and their remainders
+pub span_from_rest : (i j word : ℕ) → i ≤ j → j ≤ 64 → word < 2 ^ (64 - i) → word % 2 ^ (64 - j) ≡ 0 → IsSpanWord i j word
+span_from_rest i j word ij j64 within rest =
+    let split : word / 2 ^ (64 - j) * 2 ^ (64 - j) + word % 2 ^ (64 - j) ≡ word = shr_split word (64 - j) in
+    let whole : 64 - i ≡ (j - i) + (64 - j) = omega arith in
     record {
-      digits = word / 2 ^ (64 - n);
+      digits = word / 2 ^ (64 - j);
       is = omega arith;
-      within = shr_below word n (64 - n) (subst (λ m. word < 2 ^ m) (sym (whole n h)) within);
+      within = shr_below word (j - i) (64 - j) (subst (λ m. word < 2 ^ m) whole within);
     }
 
-pub rest_from_prefix : (n word : ℕ) → IsPrefixWord n word → word % 2 ^ (64 - n) ≡ 0
-rest_from_prefix n word prefix = ap (λ m. m % 2 ^ (64 - n)) prefix.is ∙ mul-mod_left prefix.digits (2 ^ (64 - n))
-
-pub prefix_below : (n word : ℕ) → n ≤ 64 → IsPrefixWord n word → word < 2 ^ 64
-prefix_below n word h prefix =
-    let below : prefix.digits * 2 ^ (64 - n) < 2 ^ (n + (64 - n)) = shl_below prefix.digits n (64 - n) prefix.within in
-    subst (λ m. word < 2 ^ m) (whole n h) (subst (λ w. w < 2 ^ (n + (64 - n))) (sym prefix.is) below)
+pub rest_from_span : (i j word : ℕ) → IsSpanWord i j word → word % 2 ^ (64 - j) ≡ 0
+rest_from_span i j word span = ap (λ m. m % 2 ^ (64 - j)) span.is ∙ mul-mod_left span.digits (2 ^ (64 - j))

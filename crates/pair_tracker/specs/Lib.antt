@@ -1,5 +1,6 @@
 pub mod Pairs
 pub mod Placements
 pub mod Survivors
+pub mod Legs
 pub mod Tracking
 pub mod Slots

@@ -5,7 +5,7 @@ use Rattle.fault_core.specs.Primitive.{Primitive}
 use Rattle.cell_machine.specs.declared.pair.Pair.{Pair}
 use Rattle.pair_tracker.specs.declared.placement.Placement.{Placement}
 use Rattle.pair_tracker.specs.declared.placement.Placement.TheVariants.{Alone, Below, Above}
-use Rattle.pair_tracker.specs.Pairs.{pair_at}
+use Rattle.cell_machine.specs.Seen.{pair_at}
 
 abbrev pub places_in : Placement → Places
 places_in Alone = record { agg = None; vic = 0 }
@@ -31,4 +31,4 @@ victim_place Above = 0
 
 -- the two cells as a pair
 abbrev pub pair_in : Placement → List Bool → Pair
-pair_in placement cells = pair_at (beside_place placement) (victim_place placement) cells
+pair_in placement cells = pair_at cells (beside_place placement) (victim_place placement)

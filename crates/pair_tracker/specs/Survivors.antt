@@ -22,17 +22,21 @@ pub record Survives (march : List MarchElement) (p : Primitive) (placement : Pla
   pub passes : (two_cell_run march p placement content word).miss ≡ None
   pub ends : pair_in placement (two_cell_run march p placement content word).cells ≡ final
 
--- a final pair with the least word that ends so
-pub record IsSurvivor (march : List MarchElement) (p : Primitive) (placement : Placement) (content : List Bool) (s : Survivor) : Type 0 where
-  pub survives : Survives march p placement content s.directions s.pair
-  pub least : (word : ℕ) → Survives march p placement content word s.pair → s.directions ≤ word
-
 -- pairs in their order: the aggressor's bit first, 0 before 1
 abbrev pub pair_number : Pair → ℕ
 pair_number q = 2 * (if q.a then 1 else 0) + (if q.v then 1 else 0)
 
--- every final pair that is reached stands once, in the order of the pairs
-pub record AreSurvivors (march : List MarchElement) (p : Primitive) (placement : Placement) (content : List Bool) (found : List Survivor) : Type 0 where
-  pub each : AllByRecursion (IsSurvivor march p placement content) found
-  pub all : (word : ℕ) (final : Pair) → Survives march p placement content word final → (s : Survivor) × Contains found s × (s.pair ≡ final)
+-- a final pair with the least word that leads there
+pub record IsEnd (Leads : Pair → ℕ → Type 0) (s : Survivor) : Type 0 where
+  pub leads : Leads s.pair s.directions
+  pub least : (word : ℕ) → Leads s.pair word → s.directions ≤ word
+
+-- every final pair stands once, in the order of the pairs
+pub record AreEnds (Leads : Pair → ℕ → Type 0) (found : List Survivor) : Type 0 where
+  pub each : AllByRecursion (IsEnd Leads) found
+  pub all : (final : Pair) (word : ℕ) → Leads final word → (s : Survivor) × Contains found s × (s.pair ≡ final)
   pub ordered : IsStrictlyIncreasing (map (λ s. pair_number s.pair) found)
+
+-- the final pairs that a march lets through from this content
+abbrev pub AreSurvivors : List MarchElement → Primitive → Placement → List Bool → List Survivor → Type 0
+AreSurvivors march p placement content found = AreEnds (λ final word. Survives march p placement content word final) found

@@ -1,12 +1,13 @@
-ghost use Rattle.std.specs.Prelude.{◌≡◌, ◌∷◌, []};
+ghost use Rattle.std.specs.Prelude.{◌≡◌, ◌<◌, ◌∷◌, [], length};
 ghost use Rattle.march_core.specs.Visits.{Upward, Downward};
+ghost use Rattle.march_core.specs.March.{element_at, sweep};
 ghost use Rattle.pair_tracker.specs.Pairs.{machine_of, ops_run, sides_run};
 ghost use Rattle.pair_tracker.specs.Tracking.{end_of};
 
-use array_sim::is_wrong;
-use cell_machine::{Pair, Side, act};
+use array_sim::{act_of, is_wrong};
+use cell_machine::{Pair, Side, act, pause};
 use fault_core::Prim;
-use march_core::{Op, Order};
+use march_core::{March, Op, Order};
 
 /// Where an element leads from a pair in each direction. None where its order doesn't leave the direction
 /// open, or where a read differs.
@@ -22,7 +23,7 @@ fn run_ops(prim: &Prim, start: Pair, on: Side, ops: &[Op]) -> Option<Pair>
 {
     let mut pair = start;
     for op in ops {
-        let (next, answer) = act(prim, pair, on, array_sim::act(*op));
+        let (next, answer) = act(prim, pair, on, act_of(*op));
         if is_wrong(*op, answer) {
             return None;
         }
@@ -39,10 +40,10 @@ fn run_sides(prim: &Prim, start: Pair, first: Side, second: Side, ops: &[Op]) ->
     run_ops(prim, middle, second, ops)
 }
 
-/// Where an element of this order leads from a pair, by whether the aggressor has the lower address.
-pub(crate) fn ends_of(prim: &Prim, is_below: bool, order: Order, ops: &[Op], start: Pair) -> Ends
-    ensures up { result.up ≡ end_of (machine_of prim.now) is_below order ops.now start Upward }
-    ensures down { result.down ≡ end_of (machine_of prim.now) is_below order ops.now start Downward }
+/// Where operations in this order lead from a pair, by whether the aggressor has the lower address.
+fn sweep_ends(prim: &Prim, is_below: bool, order: Order, ops: &[Op], start: Pair) -> Ends
+    ensures up { result.up ≡ end_of (machine_of prim.now) is_below (sweep order ops.now) start Upward }
+    ensures down { result.down ≡ end_of (machine_of prim.now) is_below (sweep order ops.now) start Downward }
 {
     let (lower, upper) = if is_below {
         (Side::A, Side::V)
@@ -58,4 +59,19 @@ pub(crate) fn ends_of(prim: &Prim, is_below: bool, order: Order, ops: &[Op], sta
         Order::Up => None,
     };
     Ends { up, down }
+}
+
+/// Where an element of a march leads from a pair. A pause has no direction of its own and counts as upward.
+pub(crate) fn ends_of(prim: &Prim, is_below: bool, march: &March, i: usize, start: Pair) -> Ends
+    requires { i < length march.now }
+    ensures up { result.up ≡ end_of (machine_of prim.now) is_below (element_at march.now i) start Upward }
+    ensures down { result.down ≡ end_of (machine_of prim.now) is_below (element_at march.now i) start Downward }
+{
+    if march.is_pause(i) {
+        return Ends {
+            up: Some(pause(prim, start)),
+            down: None,
+        };
+    }
+    sweep_ends(prim, is_below, march.order(i), march.ops(i), start)
 }

@@ -1,19 +1,15 @@
-ghost use Rattle.std.specs.Prelude.{◌≡◌, ◌≢◌, ◌+◌, ◌^◌, ◌<◌, None, Some, IfSome};
+ghost use Rattle.std.specs.Prelude.{◌≡◌, ◌≢◌, ◌+◌, ◌^◌, ◌<◌, ℕ, None, Some};
 ghost use Rattle.std.specs.List.{filter_map};
 ghost use Rattle.cell_machine.specs.declared.pair.Pair.{Pair};
-ghost use Rattle.pair_tracker.specs.Pairs.{machine_of};
-ghost use Rattle.pair_tracker.specs.Tracking.{IsLeastOf, Extends};
-ghost use Rattle.pair_tracker.specs.Slots.{word_of, IsOffered, survivor_at, all_pairs};
+ghost use Rattle.pair_tracker.specs.Tracking.{IsLeastOf};
+ghost use Rattle.pair_tracker.specs.Slots.{word_of, IsOffered, lesser_of, survivor_at, all_pairs};
 
-use crate::element_step::ends_of;
 use crate::placement::Survivor;
 use arrayvec::ArrayVec;
 use cell_machine::Pair;
-use fault_core::Prim;
-use march_core::{Op, Order};
 
 /// The pairs in their order: the aggressor's bit first, 0 before 1.
-const PAIRS: [Pair; 4] = [
+pub(crate) const PAIRS: [Pair; 4] = [
     Pair { a: false, v: false },
     Pair { a: false, v: true },
     Pair { a: true, v: false },
@@ -22,19 +18,33 @@ const PAIRS: [Pair; 4] = [
 
 /// For each pair the least direction word that leads to it, where one does.
 #[derive(Clone, Copy)]
-pub(crate) struct Reached {
+pub(crate) struct Row {
     both_zero: Option<u64>,
     victim_one: Option<u64>,
     aggressor_one: Option<u64>,
     both_one: Option<u64>,
 }
 
-impl Reached {
-    /// No pair is reached.
-    fn nowhere() -> Self
+/// The lesser of a word that is kept, and of another with what leads on from it.
+fn lesser(kept: Option<u64>, word: u64, rest: Option<u64>) -> Option<u64>
+    requires { (r : ℕ) → rest ≡ Some r → word + r < 2 ^ 64 }
+    ensures { result ≡ lesser_of kept word rest }
+{
+    let Some(rest) = rest else {
+        return kept;
+    };
+    match kept {
+        None => Some(word + rest),
+        Some(least) => Some(least.min(word + rest)),
+    }
+}
+
+impl Row {
+    /// No pair is led to.
+    pub(crate) fn nowhere() -> Self
         ensures { (q : Pair) → word_of result q ≡ None }
     {
-        Reached {
+        Row {
             both_zero: None,
             victim_one: None,
             aggressor_one: None,
@@ -42,17 +52,8 @@ impl Reached {
         }
     }
 
-    /// One pair is reached, by the word of no element.
-    pub(crate) fn only(pair: Pair) -> Self
-        ensures { (q : Pair) → IsLeastOf (λ w. (q ≡ pair) × (w ≡ 0)) (word_of result q) }
-    {
-        let mut reached = Reached::nowhere();
-        reached.set(pair, 0);
-        reached
-    }
-
     /// The least word that leads to a pair.
-    fn word(&self, pair: Pair) -> Option<u64>
+    pub(crate) fn word(&self, pair: Pair) -> Option<u64>
         ensures { result ≡ word_of self.now pair }
     {
         match (pair.a, pair.v) {
@@ -76,7 +77,7 @@ impl Reached {
     }
 
     /// Keeps a word that leads to this end, where it is the least so far.
-    fn keep(&mut self, end: Option<Pair>, word: u64)
+    pub(crate) fn keep(&mut self, end: Option<Pair>, word: u64)
         ensures { (q : Pair) → IsLeastOf (IsOffered (word_of self.old q) end word q) (word_of self.new q) }
     {
         if let Some(pair) = end {
@@ -88,30 +89,20 @@ impl Reached {
         }
     }
 
-    /// What one more element makes of the pairs that are reached. Its bit has this weight in a direction word.
-    pub(crate) fn after_element(
-        &self,
-        prim: &Prim,
-        is_below: bool,
-        order: Order,
-        ops: &[Op],
-        weight: u64,
-    ) -> Self
-        requires { (q : Pair) → IfSome (word_of self.now q) (λ word. word + weight < 2 ^ 64) }
-        ensures { (q : Pair) → IsLeastOf (Extends (machine_of prim.now) is_below order ops.now weight (word_of self.now) q) (word_of result q) }
+    /// For each pair the lesser of the word that is kept, and of another with what leads on from it.
+    pub(crate) fn beside(&self, word: u64, next: &Row) -> Row
+        requires { (q : Pair) (r : ℕ) → word_of next.now q ≡ Some r → word + r < 2 ^ 64 }
+        ensures { (q : Pair) → word_of result q ≡ lesser_of (word_of self.now q) word (word_of next.now q) }
     {
-        let mut next = Reached::nowhere();
-        for pair in PAIRS {
-            if let Some(word) = self.word(pair) {
-                let ends = ends_of(prim, is_below, order, ops, pair);
-                next.keep(ends.up, word);
-                next.keep(ends.down, word + weight);
-            }
+        Row {
+            both_zero: lesser(self.both_zero, word, next.both_zero),
+            victim_one: lesser(self.victim_one, word, next.victim_one),
+            aggressor_one: lesser(self.aggressor_one, word, next.aggressor_one),
+            both_one: lesser(self.both_one, word, next.both_one),
         }
-        next
     }
 
-    /// The pairs that are reached, each with its least word.
+    /// The pairs that are led to, each with its least word.
     pub(crate) fn survivors(&self) -> ArrayVec<Survivor, 4>
         ensures { result.items ≡ filter_map (survivor_at self.now) all_pairs }
     {

@@ -1,7 +1,7 @@
 use Rattle.std.proofs.Common.{◌≡◌, ◌≤◌, length, take}
 use Rattle.std.specs.List.{filter_map}
 use Rattle.pair_tracker.specs.Slots.{survivor_at, all_pairs}
-use Rattle.pair_tracker.proofs.reached.Reached.survivors.Given as goal
+use Rattle.pair_tracker.proofs.row.Row.survivors.Given as goal
 
 abbrev pub invariant-loop-pair : goal.invariant-loop-pair
 invariant-loop-pair l = record {
