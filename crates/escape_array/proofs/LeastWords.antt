@@ -6,7 +6,8 @@ use Rattle.fault_core.specs.Primitive.{Primitive}
 use Rattle.march_core.specs.March.{MarchElement}
 use Rattle.pair_tracker.specs.declared.placement.Placement.{Placement}
 use Rattle.pair_tracker.specs.declared.placement.Survivor.{Survivor}
-use Rattle.pair_tracker.specs.Survivors.{Survives, IsSurvivor, AreSurvivors}
+use Rattle.pair_tracker.specs.Survivors.{Survives, IsEnd, AreSurvivors}
+use Rattle.pair_tracker.specs.Legs.{Leg, SumsUp}
 use Rattle.escape_array.specs.Searching.{LetsThrough, IsLeastWord, lesser_of, least_of}
 
 some_same : (a b : ℕ) → Some a ≡ Some b → a ≡ b
@@ -68,7 +69,7 @@ each_at P (s ∷ ss) all (suc k) d h = each_at P ss all.1 k d (omega arith)
 pub least_word_found : (march : List MarchElement) (p : Primitive) (placement : Placement) (content : List Bool) (found : List Survivor)
     → AreSurvivors march p placement content found → (result : Option ℕ) → result ≡ least_of None found → IsLeastWord march p placement content result
 least_word_found march p placement content found are None e = λ word lets.
-    let s = are.all word lets.0 lets.1 in
+    let s = are.all lets.0 word lets.1 in
     let empty : found ≡ [] = none_found found (sym e) in
     let within : s.1.0 < length found = s.1.1 in
     absurd (omega (arith, within, ap length empty))
@@ -76,9 +77,10 @@ least_word_found march p placement content found are (Some w) e =
     let low = lower found None w (sym e) in (
       lets (reached found None w (sym e)),
       λ word through.
-          let s = are.all word through.0 through.1 in
+          let s = are.all through.0 word through.1 in
           let here : w ≤ (get_or found s.1.0 s.0).directions = low.1 s.1.0 s.0 s.1.1 in
-          let is : IsSurvivor march p placement content (get_or found s.1.0 s.0) = each_at (IsSurvivor march p placement content) found are.each s.1.0 s.0 s.1.1 in
+          let is : IsEnd (λ final w. Survives march p placement content w final) (get_or found s.1.0 s.0) =
+          each_at (IsEnd (λ final w. Survives march p placement content w final)) found are.each s.1.0 s.0 s.1.1 in
           let same : (get_or found s.1.0 s.0).pair ≡ through.0 = ap (λ (x : Survivor). x.pair) s.1.2 ∙ s.2 in
           let most : (get_or found s.1.0 s.0).directions ≤ word = is.least word (subst (Survives march p placement content word) (sym same) through.1) in
           omega (arith, here, most),
@@ -87,5 +89,14 @@ least_word_found march p placement content found are (Some w) e =
     lets : (None ≡ Some w) ⊎ ((k : ℕ) × (d : Survivor) × (k < length found) × ((get_or found k d).directions ≡ w)) → LetsThrough march p placement content w
     lets (inl h) = cc
     lets (inr h) =
-        let is : IsSurvivor march p placement content (get_or found h.0 h.1) = each_at (IsSurvivor march p placement content) found are.each h.0 h.1 h.2 in
-        subst (LetsThrough march p placement content) h.3 ((get_or found h.0 h.1).pair, is.survives)
+        let is : IsEnd (λ final w. Survives march p placement content w final) (get_or found h.0 h.1) =
+        each_at (IsEnd (λ final w. Survives march p placement content w final)) found are.each h.0 h.1 h.2 in
+        subst (LetsThrough march p placement content) h.3 ((get_or found h.0 h.1).pair, is.leads)
+
+-- the same of a summary of the whole march
+pub least_of_whole : (march : List MarchElement) (p : Primitive) (placement : Placement) (n : ℕ) (leg : Leg) (content : List Bool) (result : Option ℕ)
+    → SumsUp march p placement 0 n leg → IsLeastWord leg.march leg.prim leg.placement content result → IsLeastWord march p placement content result
+least_of_whole march p placement n leg content result sums least =
+    subst (λ place. IsLeastWord march p place content result) sums.placement_is
+    (subst (λ q. IsLeastWord march q leg.placement content result) sums.prim_is
+    (subst (λ m. IsLeastWord m leg.prim leg.placement content result) sums.march_is least))

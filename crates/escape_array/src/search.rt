@@ -10,7 +10,7 @@ ghost use Rattle.escape_array.specs.Searching.{IsLeastWord, NoneBefore, IsLeastI
 use crate::escape::EscapeArray;
 use fault_core::Prim;
 use march_core::March;
-use pair_tracker::{Placement, Survivor, survivors};
+use pair_tracker::{Placement, Summary, Survivor};
 
 /// The least escape of a primitive, by placement, content and direction word in this order, and None exactly
 /// where the march catches it in every array of two cells.
@@ -28,14 +28,15 @@ pub fn least(march: &March, prim: &Prim) -> Option<EscapeArray>
     }
 }
 
-/// The least escape in one placement.
+/// The least escape in one placement. The contents share the tables of the elements.
 fn least_in(march: &March, prim: &Prim, placement: Placement) -> Option<EscapeArray>
     requires { FitsPlacement prim.now placement }
     ensures { MatchOption result (NoneBefore march.now prim.now placement 4) (λ e. IsLeastIn march.now prim.now placement e) }
 {
+    let whole = Summary::whole(march, prim, placement);
     for number in 0..4 {
         let content = content_of(number);
-        if let Some(directions) = least_word(march, prim, placement, content) {
+        if let Some(directions) = least_word(&whole, content) {
             return Some(escape_at(*prim, placement, content, directions));
         }
     }
@@ -72,12 +73,13 @@ fn escape_at(prim: Prim, placement: Placement, content: [bool; 2], directions: u
     }
 }
 
-/// The least direction word in which no read differs.
-fn least_word(march: &March, prim: &Prim, placement: Placement, content: [bool; 2]) -> Option<u64>
-    requires { FitsPlacement prim.now placement }
-    ensures { IsLeastWord march.now prim.now placement content result }
+/// The least direction word of a whole march in which no read differs.
+fn least_word(whole: &Summary<'_>, content: [bool; 2]) -> Option<u64>
+    requires first { whole.now.first ≡ 0 }
+    requires last { whole.now.end ≡ length whole.now.march }
+    ensures { IsLeastWord whole.now.march whole.now.prim whole.now.placement content result }
 {
-    let found = survivors(march, prim, placement, content);
+    let found = whole.survivors(content);
     least_directions(found.as_slice())
 }
 

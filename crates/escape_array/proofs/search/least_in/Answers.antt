@@ -1,7 +1,8 @@
-use Rattle.std.proofs.Common.{◌≡◌, ◌∙◌, ap, sym, subst, length, Some, arith}
+use Rattle.std.proofs.Common.{◌≡◌, ◌∙◌, ap, sym, subst, length, Some, None, arith}
 use Rattle.escape_array.specs.Escapes.{content_number}
 use Rattle.escape_array.specs.Searching.{NoneBefore, IsLeastWord}
 use Rattle.escape_array.proofs.LeastArray.{none_so_far}
+use Rattle.escape_array.proofs.LeastWords.{least_of_whole}
 use Rattle.escape_array.proofs.search.least_in.Goals as goal
 
 pub returns-in-Some : goal.returns-in-Some
@@ -15,13 +16,17 @@ returns-in-Some c =
       before = subst (λ n. NoneBefore c.args.march.now c.args.prim.now c.args.placement n) (sym number) c.loop-number.invariant;
       word =
           subst (λ w. IsLeastWord c.args.march.now c.args.prim.now c.args.placement c.escape_at.result.content (Some w)) (sym c.escape_at.ensures.directions)
-          (subst (λ l. IsLeastWord c.args.march.now c.args.prim.now c.args.placement l (Some c.in-Some.directions)) (sym same) c.in-Some.ensures);
+          (subst (λ l. IsLeastWord c.args.march.now c.args.prim.now c.args.placement l (Some c.in-Some.directions)) (sym same)
+          (least_of_whole c.args.march.now c.args.prim.now c.args.placement (length c.args.march.now) c.whole-whole.result c.content_of-content.result (Some c.in-Some.directions) c.whole-whole.ensures c.in-Some.ensures));
     }
 
 pub loop-number-preserved : goal.loop-number-preserved
 loop-number-preserved c =
     none_so_far c.args.march.now c.args.prim.now c.args.placement c.loop-number.number c.content_of-content.result
-    c.content_of-content.ensures.two_cells c.content_of-content.ensures.number c.loop-number.invariant c.in_default.ensures
+    c.content_of-content.ensures.two_cells c.content_of-content.ensures.number c.loop-number.invariant (least_of_whole c.args.march.now c.args.prim.now c.args.placement (length c.args.march.now) c.whole-whole.result c.content_of-content.result None c.whole-whole.ensures c.in_default.ensures)
 
 pub returns : goal.returns
 returns c = λ content two low word through. c.loop-number.invariant content two (omega (arith, low, c.loop-number-test.false)) word through
+
+pub least_word-requires-clause-last : goal.least_word-requires-clause-last
+least_word-requires-clause-last c = c.whole-whole.ensures.end_is ∙ ap length (sym c.whole-whole.ensures.march_is)

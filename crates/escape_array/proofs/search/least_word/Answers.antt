@@ -5,5 +5,5 @@ use Rattle.escape_array.proofs.search.least_word.Goals as goal
 
 pub returns : goal.returns
 returns c =
-    least_word_found c.args.march.now c.args.prim.now c.args.placement c.args.content c.survivors-found.result.items c.survivors-found.ensures
+    least_word_found c.args.whole.now.march c.args.whole.now.prim c.args.whole.now.placement c.args.content c.survivors-found.result.items c.survivors-found.ensures
     c.least_directions.result (c.least_directions.ensures ∙ ap (least_of None) c.as_slice.ensures.value)
