@@ -16,7 +16,8 @@ use Rattle.array_sim.specs.Detection.{DetectsAt}
 use Rattle.cell_machine.specs.declared.pair.Pair.{Pair}
 use Rattle.cell_machine.specs.declared.pair.Side.{Side}
 use Rattle.cell_machine.specs.declared.pair.Side.TheVariants.{V}
-use Rattle.pair_tracker.specs.Pairs.{Machine, sides_in, pair_at}
+use Rattle.cell_machine.specs.Seen.{pair_at}
+use Rattle.pair_tracker.specs.Pairs.{Machine, sides_in}
 use Rattle.pair_tracker.specs.declared.placement.Placement.{Placement}
 use Rattle.pair_tracker.specs.declared.placement.Placement.TheVariants.{Alone, Below, Above}
 use Rattle.pair_tracker.specs.Placements.{places_in, FitsPlacement}
@@ -37,7 +38,7 @@ order_of (Some a) v d = sides_in (nat_lt a v) d
 pub record Sees (p : Primitive) (m : Machine) (start : Pair → Pair) (at : Places) (n : ℕ) : Type 1 where
   pub IsClosed : List Bool → Type 0
   pub laws : Laws p at (beside_of at.agg n) at.vic n m IsClosed
-  pub starts : (content : List Bool) → length content ≡ n → pair_at (beside_of at.agg n) at.vic (close_of p at content) ≡ start (pair_at (beside_of at.agg n) at.vic content)
+  pub starts : (content : List Bool) → length content ≡ n → pair_at (close_of p at content) (beside_of at.agg n) at.vic ≡ start (pair_at content (beside_of at.agg n) at.vic)
   pub closes : (content : List Bool) → length content ≡ n → IsClosed (close_of p at content)
   pub same_length : (content : List Bool) → length (close_of p at content) ≡ length content
 
@@ -60,7 +61,7 @@ ordered p at n fits d = go at.agg p.agg fits.aggressor
 -- the run on the array shows the run of the cells that are seen
 pub shown : (p : Primitive) (m : Machine) (start : Pair → Pair) (at : Places) (n : ℕ) → FitsPlace p at n → Sees p m start at n
     → (march : List MarchElement) (ds : List Direction) (content : List Bool) → IsMarch march → length content ≡ n
-    → Shows (beside_of at.agg n) at.vic (order_run m (order_of at.agg at.vic) (start (pair_at (beside_of at.agg n) at.vic content)) march ds)
+    → Shows (beside_of at.agg n) at.vic (order_run m (order_of at.agg at.vic) (start (pair_at content (beside_of at.agg n) at.vic)) march ds)
     (outcome_of march ds p at content) (λ c. length c ≡ n)
 shown p m start at n fits sees march ds content is_march size =
     let a : ℕ = beside_of at.agg n in
@@ -70,7 +71,7 @@ shown p m start at n fits sees march ds content is_march size =
     (last_after None (all_ops march)) closed (consistent_scan (all_ops march) is_march.consistent) closed_size (sees.closes content size)
     (λ y yn ya yv bit is. cc) in
     let moved = subst (λ q. Shows a at.vic (order_run m (order_of at.agg at.vic) q march ds) (run_of p at closed (visits march ds n)) (λ c. length c ≡ n)) (sees.starts content size) run in
-    subst (λ k. Shows a at.vic (order_run m (order_of at.agg at.vic) (start (pair_at a at.vic content)) march ds) (run_of p at closed (visits march ds k)) (λ c. length c ≡ n)) (sym size) moved
+    subst (λ k. Shows a at.vic (order_run m (order_of at.agg at.vic) (start (pair_at content a at.vic)) march ds) (run_of p at closed (visits march ds k)) (λ c. length c ≡ n)) (sym size) moved
 
 -- two arrays that look the same let the same pass
 same_pass : (a v b w : ℕ) (r : Option Pair) (o o' : Outcome) (K L : List Bool → Type 0) → Shows a v r o K → Shows b w r o' L → o.miss ≡ None → o'.miss ≡ None
@@ -80,7 +81,7 @@ same_pass a v b w (Some q) o o' K L h k none = k.0
 -- two arrays in which an instance looks the same
 pub record SameView (at : Places) (n : ℕ) (content : List Bool) (to : Places) (k : ℕ) (moved : List Bool) : Type 0 where
   pub order : order_of at.agg at.vic ≡ order_of to.agg to.vic
-  pub pair : pair_at (beside_of at.agg n) at.vic content ≡ pair_at (beside_of to.agg k) to.vic moved
+  pub pair : pair_at content (beside_of at.agg n) at.vic ≡ pair_at moved (beside_of to.agg k) to.vic
 
 pub passes_over : (p : Primitive) (m : Machine) (start : Pair → Pair) (march : List MarchElement) (ds : List Direction) → IsMarch march
     → (at : Places) (n : ℕ) (content : List Bool) → FitsPlace p at n → Sees p m start at n → length content ≡ n
@@ -89,10 +90,10 @@ pub passes_over : (p : Primitive) (m : Machine) (start : Pair → Pair) (march :
 passes_over p m start march ds is_march at n content fits sees size to k moved fits' sees' size' view none =
     let s = shown p m start at n fits sees march ds content is_march size in
     let t = shown p m start to k fits' sees' march ds moved is_march size' in
-    let same : order_run m (order_of to.agg to.vic) (start (pair_at (beside_of to.agg k) to.vic moved)) march ds ≡ order_run m (order_of at.agg at.vic) (start (pair_at (beside_of at.agg n) at.vic content)) march ds =
+    let same : order_run m (order_of to.agg to.vic) (start (pair_at moved (beside_of to.agg k) to.vic)) march ds ≡ order_run m (order_of at.agg at.vic) (start (pair_at content (beside_of at.agg n) at.vic)) march ds =
     ap (λ q. order_run m (order_of to.agg to.vic) (start q) march ds) (sym view.pair)
-    ∙ ap (λ o. order_run m o (start (pair_at (beside_of at.agg n) at.vic content)) march ds) (sym view.order) in
-    same_pass (beside_of at.agg n) at.vic (beside_of to.agg k) to.vic (order_run m (order_of at.agg at.vic) (start (pair_at (beside_of at.agg n) at.vic content)) march ds)
+    ∙ ap (λ o. order_run m o (start (pair_at content (beside_of at.agg n) at.vic)) march ds) (sym view.order) in
+    same_pass (beside_of at.agg n) at.vic (beside_of to.agg k) to.vic (order_run m (order_of at.agg at.vic) (start (pair_at content (beside_of at.agg n) at.vic)) march ds)
     (outcome_of march ds p at content) (outcome_of march ds p to moved) (λ c. length c ≡ n) (λ c. length c ≡ k) s
     (subst (λ r. Shows (beside_of to.agg k) to.vic r (outcome_of march ds p to moved) (λ c. length c ≡ k)) same t) none
 
@@ -124,7 +125,7 @@ to_two p at n content fits size = go at.agg p.agg refl refl fits.aggressor
           view = record {
             order = ap (λ place. order_of place at.vic) e;
             pair =
-                ap (λ place. pair_at (beside_of place n) at.vic content) e
+                ap (λ place. pair_at content (beside_of place n) at.vic) e
                 ∙ same_pair (cell content n) (cell content at.vic) false (cell content at.vic) (get_or_past content n false (omega arith)) refl;
           };
         }
@@ -148,7 +149,7 @@ to_two p at n content fits size = go at.agg p.agg refl refl fits.aggressor
               size = refl;
               view = record {
                 order = ap (λ place. order_of place at.vic) e ∙ ap (λ b. λ d. sides_in b d) lt;
-                pair = ap (λ place. pair_at (beside_of place n) at.vic content) e;
+                pair = ap (λ place. pair_at content (beside_of place n) at.vic) e;
               };
             }
         by_order false lt =
@@ -160,7 +161,7 @@ to_two p at n content fits size = go at.agg p.agg refl refl fits.aggressor
               size = refl;
               view = record {
                 order = ap (λ place. order_of place at.vic) e ∙ ap (λ b. λ d. sides_in b d) lt;
-                pair = ap (λ place. pair_at (beside_of place n) at.vic content) e;
+                pair = ap (λ place. pair_at content (beside_of place n) at.vic) e;
               };
             }
 
@@ -193,10 +194,10 @@ from_two p at n content more fits size = go at.agg p.agg refl refl fits.aggresso
       record {
         order = refl;
         pair =
-            ap (λ place. pair_at (beside_of place 2) at.vic content) e
+            ap (λ place. pair_at content (beside_of place 2) at.vic) e
             ∙ same_pair (cell content 2) (cell content at.vic) (cell (longer n content) n) (cell (longer n content) at.vic)
             (get_or_past content 2 false (omega (arith, size)) ∙ sym (get_or_past (longer n content) n false (omega (arith, long)))) (held at.vic fits.victim)
-            ∙ sym (ap (λ place. pair_at (beside_of place n) at.vic (longer n content)) e);
+            ∙ sym (ap (λ place. pair_at (longer n content) (beside_of place n) at.vic) e);
       },
     )
     go None (Some sense) e f h = absurd h
@@ -207,9 +208,9 @@ from_two p at n content more fits size = go at.agg p.agg refl refl fits.aggresso
       record {
         order = refl;
         pair =
-            ap (λ place. pair_at (beside_of place 2) at.vic content) e
+            ap (λ place. pair_at content (beside_of place 2) at.vic) e
             ∙ same_pair (cell content a) (cell content at.vic) (cell (longer n content) a) (cell (longer n content) at.vic) (held a h.0) (held at.vic fits.victim)
-            ∙ sym (ap (λ place. pair_at (beside_of place n) at.vic (longer n content)) e);
+            ∙ sym (ap (λ place. pair_at (longer n content) (beside_of place n) at.vic) e);
       },
     )
 

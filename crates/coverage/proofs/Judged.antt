@@ -6,7 +6,7 @@ use Rattle.std.proofs.lemmas.Bool.{and_parts}
 use Rattle.fault_core.specs.declared.primitive.Sense.{Sense}
 use Rattle.fault_core.specs.Primitive.{Primitive, IsPrimitive}
 use Rattle.fault_core.specs.Cells.{FitsPlace, FitsAgg}
-use Rattle.march_core.specs.March.{MarchElement, IsMarch}
+use Rattle.march_core.specs.March.{MarchElement, IsMarch, order_of}
 use Rattle.march_core.specs.Visits.{Direction, FitsWord, is_direction, allows, directions_of}
 use Rattle.array_sim.specs.Run.{outcome_of}
 use Rattle.array_sim.specs.Detection.{DetectsAt, Detects}
@@ -15,8 +15,8 @@ use Rattle.pair_tracker.specs.declared.placement.Placement.{Placement}
 use Rattle.pair_tracker.specs.declared.placement.Placement.TheVariants.{Alone, Below, Above}
 use Rattle.pair_tracker.specs.Placements.{places_in, FitsPlacement}
 use Rattle.pair_tracker.specs.Pairs.{machine_of}
-use Rattle.pair_tracker.specs.Tracking.{weight_in}
-use Rattle.pair_tracker.proofs.Words.{IsPrefixWord, prefix_none, prefix_more, directions_more, rest_from_prefix, prefix_below}
+use Rattle.pair_tracker.specs.Tracking.{weight_in, IsSpanWord}
+use Rattle.pair_tracker.proofs.Words.{span_none, span_more, span_fits, directions_more, rest_from_span}
 use Rattle.escape_array.specs.declared.escape.EscapeArray.{EscapeArray}
 use Rattle.escape_array.specs.Escapes.{IsEscape, IsLeastEscape, places_of_escape}
 use Rattle.coverage.specs.declared.verdict.Verdict.{Verdict}
@@ -27,7 +27,7 @@ use Rattle.coverage.proofs.Seen.{seen_all, two_cells_detect, one_size_detects}
 
 -- a word for a choice of directions
 pub record WordFor (ds : List Direction) (n word : ℕ) : Type 0 where
-  pub prefix : IsPrefixWord n word
+  pub span : IsSpanWord 0 n word
   pub stands : directions_of word n ≡ ds
 
 word_on : (front rest : List Direction) (i u : ℕ) → i + length rest ≤ 64 → WordFor front i u → (word : ℕ) × WordFor (front ++ rest) (i + length rest) word
@@ -36,21 +36,21 @@ word_on front [] i u h w =
 word_on front (d ∷ rest) i u h w =
     let below : i < 64 = omega arith in
     let next : WordFor (front ++ d ∷ []) (i + 1) (u + weight_in (2 ^ (63 - i)) d) =
-    record { prefix = prefix_more i u d below w.prefix; stands = directions_more i u d below w.prefix ∙ ap (λ l. l ++ d ∷ []) w.stands } in
+    record { span = span_more i u d below w.span; stands = directions_more i u d below w.span ∙ ap (λ l. l ++ d ∷ []) w.stands } in
     let on = word_on (front ++ d ∷ []) rest (i + 1) (u + weight_in (2 ^ (63 - i)) d) (omega arith) next in
     let count : (i + 1) + length rest ≡ i + length (d ∷ rest) = omega arith in
     (on.0, subst (λ n. WordFor (front ++ d ∷ rest) n on.0) count (subst (λ l. WordFor l ((i + 1) + length rest) on.0) (append_assoc front (d ∷ []) rest) on.1))
 
 word_for : (ds : List Direction) → length ds ≤ 64 → (word : ℕ) × WordFor ds (length ds) word
 word_for ds h =
-    let w = word_on [] ds 0 0 (omega arith) (record { prefix = prefix_none; stands = refl }) in
+    let w = word_on [] ds 0 0 (omega arith) (record { span = span_none; stands = refl }) in
     (w.0, subst (λ n. WordFor ds n w.0) (let e : 0 + length ds ≡ length ds = omega arith in e) w.1)
 
 one_each : (es : List MarchElement) (ds : List Direction) → is_direction es ds ≡ true → length ds ≡ length es
 one_each [] [] h = refl
 one_each [] (d ∷ ds) h = cc
 one_each (e ∷ es) [] h = cc
-one_each (e ∷ es) (d ∷ ds) h = ap suc (one_each es ds (and_parts (allows e.order d) (is_direction es ds) h).1)
+one_each (e ∷ es) (d ∷ ds) h = ap suc (one_each es ds (and_parts (allows (order_of e) d) (is_direction es ds) h).1)
 
 -- a fitting word for allowed directions
 pub fitting_word : (march : List MarchElement) (ds : List Direction) → IsMarch march → IsTrue (is_direction march ds)
@@ -61,8 +61,8 @@ fitting_word march ds is allowed =
     let w = word_for ds (omega (arith, count, most)) in
     let at : WordFor ds (length march) w.0 = subst (λ n. WordFor ds n w.0) count w.1 in (
       w.0,
-      prefix_below (length march) w.0 most at.prefix,
-      record { allowed = ap (is_direction march) at.stands ∙ allowed; rest = rest_from_prefix (length march) w.0 at.prefix },
+      span_fits 0 (length march) w.0 (omega arith) most at.span,
+      record { allowed = ap (is_direction march) at.stands ∙ allowed; rest = rest_from_span 0 (length march) w.0 at.span },
       at.stands,
     )
 
