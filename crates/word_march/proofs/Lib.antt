@@ -3,3 +3,6 @@ pub mod Places
 pub mod Next
 pub mod Count
 pub mod Words
+pub mod Unpaused
+pub mod Ports
+pub mod Runs

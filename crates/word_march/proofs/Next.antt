@@ -9,7 +9,7 @@ use Rattle.memory_desc.specs.Descriptions.{Description, IsMemory}
 use Rattle.word_march.specs.declared.operations.WordOp.{WordOp}
 use Rattle.word_march.specs.declared.place.Place.{Place}
 use Rattle.word_march.specs.Commands.{word_op, port_op, port_ops}
-use Rattle.word_march.specs.Standing.{IsPlace, Follows, ops_left, visit_at, first_of}
+use Rattle.word_march.specs.Standing.{IsPlace, IsFirst, Follows, ops_left, visit_at}
 use Rattle.word_march.proofs.Left.{left_step, all_left}
 
 -- the operation of a place comes first
@@ -19,21 +19,20 @@ pub next_operation : (march : List MarchElement) (d : Description) (p q : Place)
 next_operation march d p q r place more is behind =
     let op = slice_index_or (ops_at march p.element) p.op W0 in
     let there : slice_get (ops_at march p.element) p.op ≡ Some op = slice_get-get_or (ops_at march p.element) p.op W0 place.op in
-    let inside = place.element in
     let step = place.step in
-    left_step march d p q op (omega arith) (omega arith) place more there behind
+    left_step march d p q op (omega arith) place more there behind
     ∙ ap (λ (x : WordOp). x ∷ ops_left march d q) (sym (is op there))
 
 -- and so at the port
 pub next_command : (march : List MarchElement) (d : Description) (p q : Place) (r : WordOp) → ops_left march d p ≡ r ∷ ops_left march d q
-    → map (port_op d.scramble) (ops_left march d p) ≡ port_op d.scramble r ∷ map (port_op d.scramble) (ops_left march d q)
-next_command march d p q r e = ap (map (port_op d.scramble)) e
+    → map (port_op d) (ops_left march d p) ≡ port_op d r ∷ map (port_op d) (ops_left march d q)
+next_command march d p q r e = ap (map (port_op d)) e
 
 -- an index is a vector of the scrambling
 pub index_fits : (d : Description) (k : ℕ) → IsMemory d → k < d.words → k < 2 ^ d.scramble.width
 index_fits d k m h = let holds = m.address.holds in omega arith
 
 -- all commands are left at the first place
-pub all_commands : (march : List MarchElement) (d : Description) → 0 < length march → 0 < d.words
-    → port_ops march d ≡ map (port_op d.scramble) (ops_left march d (first_of 0))
-all_commands march d m w = ap (map (port_op d.scramble)) (all_left march d m w)
+pub all_commands : (march : List MarchElement) (d : Description) (p : Place) → IsFirst march 0 p → 0 < d.words
+    → port_ops march d ≡ map (port_op d) (ops_left march d p)
+all_commands march d p first w = ap (map (port_op d)) (all_left march d p first w)

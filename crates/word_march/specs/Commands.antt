@@ -1,13 +1,13 @@
--- What a march does to the words of a memory, and to its port.
-use Rattle.std.specs.Prelude.{ℕ, Bool, true, false, List, map, length}
+-- What a march does to the words of a memory, and to its port; where in the run each command stands.
+use Rattle.std.specs.Prelude.{ℕ, zero, suc, ◌+◌, ◌*◌, Bool, true, false, List, [], ◌∷◌, Option, Some, None, map, length, replicate, filter_map, bit_xor}
 use Rattle.std.specs.List.{flat_map}
 use Rattle.march_core.specs.declared.operation.Order.{Order}
 use Rattle.march_core.specs.declared.operation.Order.TheVariants.{Up, Down, Any}
 use Rattle.march_core.specs.declared.operation.Op.{Op}
 use Rattle.march_core.specs.declared.operation.Op.TheVariants.{W0, W1, R0, R1}
-use Rattle.march_core.specs.March.{MarchElement}
-use Rattle.march_core.specs.Visits.{Direction, Upward, Downward, Visit, visits}
-use Rattle.scrambler.specs.Scrambling.{Scrambling, logical}
+use Rattle.march_core.specs.March.{MarchElement, order_of}
+use Rattle.march_core.specs.Visits.{Direction, Upward, Downward, Visit, MarchStep, pausing, visiting, visits}
+use Rattle.scrambler.specs.Scrambling.{logical}
 use Rattle.backgrounds.specs.Backgrounds.{word_of}
 use Rattle.memory_desc.specs.Descriptions.{Description}
 use Rattle.word_march.specs.declared.operations.WordOp.{WordOp}
@@ -20,7 +20,7 @@ upward Down = Downward
 upward Any = Upward
 
 abbrev pub up : List MarchElement → List Direction
-up elements = map (λ e. upward e.order) elements
+up march = map (λ e. upward (order_of e)) march
 
 abbrev pub is_write : Op → Bool
 is_write W0 = true
@@ -40,22 +40,63 @@ abbrev pub word_op : ℕ → ℕ → Visit → WordOp
 word_op bits background v =
     record { write = is_write v.op; index = v.address; word = word_of background (data_value v.op) bits }
 
+-- a step of the march in a background; none for a pause
+abbrev pub word_step : ℕ → ℕ → MarchStep → Option WordOp
+word_step bits background (pausing element) = None
+word_step bits background (visiting v) = Some (word_op bits background v)
+
 -- the march in one background
-abbrev pub run_in : List MarchElement → Description → ℕ → List WordOp
-run_in march d background = map (word_op d.bits background) (visits march (up march) d.words)
+abbrev pub run_in : List MarchElement → Description → ℕ → List (Option WordOp)
+run_in march d background = map (word_step d.bits background) (visits march (up march) d.words)
 
--- the word operations: the march in each background, one after another
+-- the march in each background, one after another
+abbrev pub word_steps : List MarchElement → Description → List (Option WordOp)
+word_steps march d = flat_map (run_in march d) d.backgrounds
+
+-- the word operations: all steps but the pauses
 abbrev pub word_ops : List MarchElement → Description → List WordOp
-word_ops march d = flat_map (run_in march d) d.backgrounds
+word_ops march d = filter_map (λ s. s) (word_steps march d)
 
--- a word operation at the port: at the logical address of its index
-abbrev pub port_op : Scrambling → WordOp → PortOp
-port_op s o = record { write = o.write; addr = logical s o.index; word = o.word }
+-- a word operation at the port: at the logical address of its index, its word as the memory inverts it
+abbrev pub port_op : Description → WordOp → PortOp
+port_op d o = record { write = o.write; addr = logical d.scramble o.index; word = bit_xor o.word d.polarity }
 
 -- the commands
 abbrev pub port_ops : List MarchElement → Description → List PortOp
-port_ops march d = map (port_op d.scramble) (word_ops march d)
+port_ops march d = map (port_op d) (word_ops march d)
 
 -- how many commands there are
 abbrev pub command_count : List MarchElement → Description → ℕ
 command_count march d = length (port_ops march d)
+
+-- how many pauses stand before operation j among these steps
+abbrev pub pauses_before : {A : Type 0} → List (Option A) → ℕ → ℕ
+pauses_before [] j = 0
+pauses_before (None ∷ steps) j = suc (pauses_before steps j)
+pauses_before (Some o ∷ steps) zero = 0
+pauses_before (Some o ∷ steps) (suc j) = pauses_before steps j
+
+-- how many pauses there are among these steps
+abbrev pub pauses : {A : Type 0} → List (Option A) → ℕ
+pauses [] = 0
+pauses (None ∷ steps) = suc (pauses steps)
+pauses (Some o ∷ steps) = pauses steps
+
+-- how many cycles the run takes before command j
+abbrev pub command_at : List MarchElement → Description → ℕ → ℕ
+command_at march d j = j + d.pause * pauses_before (word_steps march d) j
+
+-- how many cycles the run takes
+abbrev pub span : List MarchElement → Description → ℕ
+span march d = command_count march d + d.pause * pauses (word_steps march d)
+
+-- ---- the run, cycle by cycle
+
+-- the cycles of a step: the cycles of a pause are idle
+abbrev pub spread : Description → Option WordOp → List (Option PortOp)
+spread d None = replicate d.pause None
+spread d (Some o) = Some (port_op d o) ∷ []
+
+-- what the port does in each cycle of the run
+abbrev pub slots : List MarchElement → Description → List (Option PortOp)
+slots march d = flat_map (spread d) (word_steps march d)

@@ -1,3 +1,4 @@
 pub mod Commands
 pub mod PortRule
+pub mod Laws
 pub mod Standing

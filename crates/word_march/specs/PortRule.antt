@@ -1,9 +1,14 @@
 -- What a self-test does at its ports, cycle by cycle, whatever words return.
-use Rattle.std.specs.Prelude.{◌≡◌, ◌≢◌, ◌↔◌, ℕ, ◌+◌, ◌<◌, ◌≤◌, Bool, true, false, List, Some, IsTrue, slice_get}
+use Rattle.std.specs.Prelude.{◌≡◌, ◌≢◌, ◌↔◌, ℕ, ◌+◌, ◌^◌, ◌<◌, ◌≤◌, Bool, true, false, List, Some, IsTrue, slice_get}
 use Rattle.march_core.specs.March.{MarchElement}
 use Rattle.memory_desc.specs.Descriptions.{Description}
 use Rattle.word_march.specs.declared.operations.PortOp.{PortOp}
-use Rattle.word_march.specs.Commands.{port_ops, command_count}
+use Rattle.word_march.specs.Commands.{port_ops, command_count, command_at, span}
+
+-- the words on `rdata`, by cycle: words of the memory's bits. The rule of the ports holds whatever numbers stand there, so it
+-- doesn't ask for this; a module's port has no others.
+abbrev pub AreReturned : Description → (ℕ → ℕ) → Type 0
+AreReturned d returned = (t : ℕ) → returned t < 2 ^ d.bits
 
 -- the values of the module's outputs in a cycle
 pub record PortValues : Type 0 where
@@ -15,8 +20,8 @@ pub record PortValues : Type 0 where
   pub fail : Bool
 
 -- the cycle of command j
-abbrev pub cycle_of : ℕ → ℕ
-cycle_of j = 1 + j
+abbrev pub cycle_of : List MarchElement → Description → ℕ → ℕ
+cycle_of march d j = 1 + command_at march d j
 
 -- the ports carry a command
 pub record Carries (command : PortOp) (q : PortValues) : Type 0 where
@@ -26,21 +31,21 @@ pub record Carries (command : PortOp) (q : PortValues) : Type 0 where
   pub word : command.write ≡ true → q.wdata ≡ command.word
 
 -- before cycle t a word stood on `rdata` as the answer of a read that isn't the word that this read expects
-pub record SomeReadDiffers (commands : List PortOp) (latency : ℕ) (returned : ℕ → ℕ) (t : ℕ) : Type 0 where
+pub record SomeReadDiffers (march : List MarchElement) (d : Description) (returned : ℕ → ℕ) (t : ℕ) : Type 0 where
   pub number : ℕ
   pub command : PortOp
-  pub is_command : slice_get commands number ≡ Some command
+  pub is_command : slice_get (port_ops march d) number ≡ Some command
   pub is_read : command.write ≡ false
-  pub before : cycle_of number + latency < t
-  pub differs : returned (cycle_of number + latency) ≢ command.word
+  pub before : cycle_of march d number + d.latency < t
+  pub differs : returned (cycle_of march d number + d.latency) ≢ command.word
 
 -- the rule of the ports q in cycle t, where `returned` are the words on `rdata`, by cycle
-pub record PortRule (latency : ℕ) (march : List MarchElement) (d : Description) (returned : ℕ → ℕ) (t : ℕ) (q : PortValues) : Type 0 where
+pub record PortRule (march : List MarchElement) (d : Description) (returned : ℕ → ℕ) (t : ℕ) (q : PortValues) : Type 0 where
   -- in the cycle of the reset nothing is done
   pub reset : t ≡ 0 → (q.en ≡ false) × (q.done ≡ false) × (q.fail ≡ false)
   -- each command stands in its cycle, and in every other cycle the memory isn't enabled
-  pub commands : (j : ℕ) (command : PortOp) → slice_get (port_ops march d) j ≡ Some command → t ≡ cycle_of j → Carries command q
-  pub idle : ((j : ℕ) → j < command_count march d → t ≢ cycle_of j) → q.en ≡ false
+  pub commands : (j : ℕ) (command : PortOp) → slice_get (port_ops march d) j ≡ Some command → t ≡ cycle_of march d j → Carries command q
+  pub idle : ((j : ℕ) → j < command_count march d → t ≢ cycle_of march d j) → q.en ≡ false
   -- the last answer is compared before the test is done
-  pub done : IsTrue q.done ↔ (command_count march d + 1 + latency ≤ t)
-  pub fail : 1 ≤ t → IsTrue q.fail ↔ SomeReadDiffers (port_ops march d) latency returned t
+  pub done : IsTrue q.done ↔ (span march d + 1 + d.latency ≤ t)
+  pub fail : 1 ≤ t → IsTrue q.fail ↔ SomeReadDiffers march d returned t

@@ -1,30 +1,40 @@
 -- Where an iterator over the operations stands, and what it has left.
-use Rattle.std.specs.Prelude.{◌≡◌, ℕ, suc, ◌+◌, ◌<◌, ◌≤◌, nat_lt, if◌then◌else◌, List, [], ◌++◌, drop, map, length, slice_index}
+use Rattle.std.specs.Prelude.{◌≡◌, ℕ, suc, ◌+◌, ◌<◌, ◌≤◌, true, false, nat_lt, if◌then◌else◌, List, [], ◌∷◌, ◌++◌, drop, map, length, slice_index}
 use Rattle.std.specs.List.{flat_map}
 use Rattle.march_core.specs.declared.operation.Op.{Op}
-use Rattle.march_core.specs.March.{MarchElement, order_at, ops_at}
-use Rattle.march_core.specs.Visits.{Visit, cell_visits, addresses, address_visits, visits_from}
+use Rattle.march_core.specs.March.{MarchElement, pause, sweep, order_of, ops_of, order_at, ops_at, is_pause_at}
+use Rattle.march_core.specs.Visits.{Visit, cell_visits, addresses, address_visits}
 use Rattle.memory_desc.specs.Descriptions.{Description}
 use Rattle.word_march.specs.declared.operations.WordOp.{WordOp}
 use Rattle.word_march.specs.declared.place.Place.{Place}
-use Rattle.word_march.specs.Commands.{upward, up, word_op, run_in}
+use Rattle.word_march.specs.Commands.{upward, word_op}
 
 -- the addresses of an element in the order in which the hardware visits them
 abbrev pub addresses_at : List MarchElement → ℕ → ℕ → List ℕ
 addresses_at march element size = addresses (upward (order_at march element)) size
+
+-- the visits of the elements from this one on, without the pauses
+abbrev pub sweeps_from : ℕ → List MarchElement → ℕ → List Visit
+sweeps_from element [] size = []
+sweeps_from element (e ∷ es) size =
+    address_visits element (ops_of e) (addresses (upward (order_of e)) size) ++ sweeps_from (element + 1) es size
+
+-- the word operations of one run
+abbrev pub run_ops : List MarchElement → Description → ℕ → List WordOp
+run_ops march d background = map (word_op d.bits background) (sweeps_from 0 march d.words)
 
 -- the visits that are left in this run of the march
 abbrev pub visits_left : List MarchElement → ℕ → ℕ → ℕ → ℕ → List Visit
 visits_left march size element step op =
     cell_visits element (slice_index (addresses_at march element size) step) op (drop op (ops_at march element))
     ++ (address_visits element (ops_at march element) (drop (suc step) (addresses_at march element size))
-    ++ visits_from (element + 1) (drop (suc element) march) (up (drop (suc element) march)) size)
+    ++ sweeps_from (element + 1) (drop (suc element) march) size)
 
 -- the operations that are left in this run and the runs after it
 abbrev pub run_left : List MarchElement → Description → Place → List WordOp
 run_left march d p =
     map (word_op d.bits (slice_index d.backgrounds p.background)) (visits_left march d.words p.element p.step p.op)
-    ++ flat_map (run_in march d) (drop (suc p.background) d.backgrounds)
+    ++ flat_map (run_ops march d) (drop (suc p.background) d.backgrounds)
 
 abbrev pub ops_left : List MarchElement → Description → Place → List WordOp
 ops_left march d p = if nat_lt p.background (length d.backgrounds) then run_left march d p else []
@@ -41,15 +51,36 @@ abbrev pub visit_at : List MarchElement → ℕ → Place → Op → Visit
 visit_at march size p op =
     record { element = p.element; address = slice_index (addresses_at march p.element size) p.step; number = p.op; op = op }
 
--- the first place of a run
-abbrev pub first_of : ℕ → Place
-first_of background = record { background = background; element = 0; step = 0; op = 0 }
+-- all elements from this one on are pauses
+abbrev pub ArePauses : List MarchElement → ℕ → ℕ → Type 0
+ArePauses march from n = (k : ℕ) → from ≤ k → k < n → is_pause_at march k ≡ true
+
+-- the first element from this one on that isn't a pause
+pub record IsNextSweep (march : List MarchElement) (from n : ℕ) : Type 0 where
+  pub reached : from ≤ n
+  pub within : n < length march
+  pub sweeps : is_pause_at march n ≡ false
+  pub pauses : ArePauses march from n
+
+-- the first place of a run, in this element
+abbrev pub first_of : ℕ → ℕ → Place
+first_of background element = record { background = background; element = element; step = 0; op = 0 }
+
+-- a place is the first of a run
+abbrev pub IsFirst : List MarchElement → ℕ → Place → Type 0
+IsFirst march background p = (n : ℕ) × IsNextSweep march 0 n × (p ≡ first_of background n)
 
 -- the place behind a place, in the order of the visits
 pub data Follows (march : List MarchElement) (d : Description) (p q : Place) : Type 0 where
   next_op : p.op + 1 < length (ops_at march p.element) → q ≡ record p { op = p.op + 1 } → Follows march d p q
   next_step : p.op + 1 ≡ length (ops_at march p.element) → p.step + 1 < d.words → q ≡ record p { step = p.step + 1; op = 0 } → Follows march d p q
-  next_elem : p.op + 1 ≡ length (ops_at march p.element) → p.step + 1 ≡ d.words → p.element + 1 < length march
-      → q ≡ record p { element = p.element + 1; step = 0; op = 0 } → Follows march d p q
-  next_run : p.op + 1 ≡ length (ops_at march p.element) → p.step + 1 ≡ d.words → p.element + 1 ≡ length march
-      → q ≡ first_of (p.background + 1) → Follows march d p q
+  next_elem : p.op + 1 ≡ length (ops_at march p.element) → p.step + 1 ≡ d.words → IsNextSweep march (p.element + 1) q.element
+      → q ≡ record p { element = q.element; step = 0; op = 0 } → Follows march d p q
+  next_run : p.op + 1 ≡ length (ops_at march p.element) → p.step + 1 ≡ d.words → ArePauses march (p.element + 1) (length march)
+      → IsFirst march (p.background + 1) q → Follows march d p q
+
+-- how many elements are pauses
+abbrev pub pause_count : List MarchElement → ℕ
+pause_count [] = 0
+pause_count (pause ∷ march) = suc (pause_count march)
+pause_count (sweep order ops ∷ march) = pause_count march

@@ -1,8 +1,8 @@
-ghost use Rattle.std.specs.Prelude.{◌≡◌, ◌<◌, ◌≤◌, ◌^◌, All};
-ghost use Rattle.word_march.specs.Commands.{word_ops, port_op, port_ops, command_count};
+ghost use Rattle.std.specs.Prelude.{◌≡◌, ◌<◌, ◌^◌, All};
+ghost use Rattle.word_march.specs.Commands.{word_ops, port_op, port_ops};
 
 use crate::operations::{PortOp, WordOp};
-use crate::place::{FIRST, Place, operation_at, place_behind};
+use crate::place::{Place, operation_at, place_behind, run_start};
 use march_core::March;
 use memory_desc::Memory;
 use std::marker::Model;
@@ -28,7 +28,7 @@ impl<'a> Model for WordOps<'a> {
 }
 
 /// The word operations: the march in each background of the memory, one background after another, where an
-/// element of order any goes upward.
+/// element of order any goes upward and a pause does nothing.
 #[tactic(auto, using(crate::proofs::Places::first_place, crate::proofs::Left::all_left))]
 pub fn word_ops<'a>(march: &'a March, memory: &'a Memory) -> WordOps<'a>
     ensures { result ≡ word_ops march.now memory.now }
@@ -38,7 +38,7 @@ pub fn word_ops<'a>(march: &'a March, memory: &'a Memory) -> WordOps<'a>
     WordOps {
         march,
         memory,
-        place: FIRST,
+        place: run_start(march, 0),
     }
 }
 
@@ -77,12 +77,12 @@ impl<'a> Model for PortOps<'a> {
 
     ghost Value = { List PortOp };
 
-    ghost view = { λ s. map (port_op s.memory.now.scramble) (ops_left s.march.now s.memory.now s.place) };
+    ghost view = { λ s. map (port_op s.memory.now) (ops_left s.march.now s.memory.now s.place) };
 
     ghost invariant = { λ s. IsPlace s.march.now s.memory.now s.place };
 }
 
-/// The commands: the word operations, each at the logical address of its index.
+/// The commands: the word operations, each at the logical address of its index, with its word as the memory inverts it.
 #[tactic(auto, using(crate::proofs::Places::first_place, crate::proofs::Next::all_commands, crate::proofs::Words::commands_fit))]
 pub fn port_ops<'a>(march: &'a March, memory: &'a Memory) -> PortOps<'a>
     ensures commands { result ≡ port_ops march.now memory.now }
@@ -93,7 +93,7 @@ pub fn port_ops<'a>(march: &'a March, memory: &'a Memory) -> PortOps<'a>
     PortOps {
         march,
         memory,
-        place: FIRST,
+        place: run_start(march, 0),
     }
 }
 
@@ -116,32 +116,16 @@ impl<'a> Iterator for PortOps<'a> {
     }
 }
 
-/// A word operation as a command at the port.
+/// A word operation as a command at the port: its word is inverted as the memory stores it.
 #[tactic(auto, using(crate::proofs::Next::index_fits))]
 fn at_port(memory: &Memory, operation: WordOp) -> PortOp
     requires { operation.index < memory.now.words }
-    ensures { result ≡ port_op memory.now.scramble operation }
+    ensures { result ≡ port_op memory.now operation }
 {
     let _ = memory.words();
     PortOp {
         write: operation.write,
         addr: memory.scramble().logical_of(operation.index),
-        word: operation.word,
+        word: operation.word ^ memory.polarity(),
     }
-}
-
-/// In how many cycles the word of a read stands on the memory's `rdata`.
-pub const READ_LATENCY: u64 = 1;
-
-/// How many commands there are: the operations of the march, times the words, times the backgrounds.
-#[tactic(auto, using(crate::proofs::Count::command_count_is))]
-pub fn length(march: &March, memory: &Memory) -> u64
-    ensures count { result ≡ command_count march.now memory.now }
-    ensures at_most { result ≤ 134217728 }
-{
-    let _ = march.len();
-    let operations = march.total_ops() as u64;
-    let words = u64::from(memory.words());
-    let backgrounds = memory.backgrounds().len() as u64;
-    backgrounds * (operations * words)
 }

@@ -1,9 +1,9 @@
-ghost use Rattle.std.specs.Prelude.{◌≡◌, ◌<◌, length, slice_get, slice_index};
+ghost use Rattle.std.specs.Prelude.{◌≡◌, ◌<◌, length, slice_get, slice_index, IfSome, IfNone};
 ghost use Rattle.march_core.specs.declared.operation.Op.{Op};
 ghost use Rattle.march_core.specs.March.{ops_at};
 ghost use Rattle.march_core.specs.Visits.{addresses};
 ghost use Rattle.word_march.specs.Commands.{upward, is_write, data_value, word_op};
-ghost use Rattle.word_march.specs.Standing.{IsPlace, Follows, visit_at};
+ghost use Rattle.word_march.specs.Standing.{IsPlace, IsFirst, IsNextSweep, ArePauses, Follows, visit_at};
 
 use crate::operations::WordOp;
 use backgrounds::word_of;
@@ -18,14 +18,6 @@ pub struct Place {
     pub step: u32,
     pub op: usize,
 }
-
-/// The first place.
-pub const FIRST: Place = Place {
-    background: 0,
-    element: 0,
-    step: 0,
-    op: 0,
-};
 
 /// Whether an operation writes.
 fn writes(op: Op) -> bool
@@ -77,8 +69,33 @@ pub fn operation_at(march: &March, memory: &Memory, place: Place) -> WordOp
     }
 }
 
+/// The first element from this one on that isn't a pause.
+fn sweep_from(march: &March, first: usize) -> Option<usize>
+    ensures found { IfSome result (IsNextSweep march.now first) }
+    ensures none { IfNone result (ArePauses march.now first (length march.now)) }
+{
+    for element in first..march.len() {
+        if !march.is_pause(element) {
+            return Some(element);
+        }
+    }
+    None
+}
+
+/// The first place of the run in a background.
+pub fn run_start(march: &March, background: usize) -> Place
+    ensures { IsFirst march.now background result }
+{
+    let _ = march.len();
+    Place {
+        background,
+        element: sweep_from(march, 0).unwrap_or(0),
+        step: 0,
+        op: 0,
+    }
+}
+
 /// The place behind a place, in the order of the operations.
-#[tactic(auto, using(crate::proofs::Places::element_filled, crate::proofs::Places::first_place))]
 pub fn place_behind(march: &March, memory: &Memory, place: Place) -> Place
     requires place { IsPlace march.now memory.now place }
     requires more { place.background < length memory.now.backgrounds }
@@ -87,7 +104,7 @@ pub fn place_behind(march: &March, memory: &Memory, place: Place) -> Place
 {
     let ops = march.ops(place.element).len();
     let words = memory.words();
-    let elements = march.len();
+    let _ = march.len();
     if place.op + 1 < ops {
         return Place {
             op: place.op + 1,
@@ -101,16 +118,13 @@ pub fn place_behind(march: &March, memory: &Memory, place: Place) -> Place
             ..place
         };
     }
-    if place.element + 1 < elements {
-        return Place {
-            element: place.element + 1,
+    match sweep_from(march, place.element + 1) {
+        Some(element) => Place {
+            element,
             step: 0,
             op: 0,
             ..place
-        };
-    }
-    Place {
-        background: place.background + 1,
-        ..FIRST
+        },
+        None => run_start(march, place.background + 1),
     }
 }

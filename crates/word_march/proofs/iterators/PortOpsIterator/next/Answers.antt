@@ -16,7 +16,7 @@ returns-clause-steps c =
     ∙ next_command march memory c.self.inside.place q c.operation_at-operation.result
     (next_operation march memory c.self.inside.place q c.operation_at-operation.result c.self.invariant more
     c.operation_at-operation.ensures.operation c.place_behind-self-inside.ensures.behind)
-    ∙ ap (λ (x : PortOp). x ∷ map (port_op memory.scramble) (ops_left march memory q)) (sym c.at_port.ensures)
+    ∙ ap (λ (x : PortOp). x ∷ map (port_op memory) (ops_left march memory q)) (sym c.at_port.ensures)
 
 pub returns-clause-goes : goal.returns-clause-goes
 returns-clause-goes c = record {

@@ -1,7 +1,7 @@
 use Rattle.std.proofs.Common.{◌≤◌, ◌*◌, length, arith, rules, ap}
 use Rattle.word_march.proofs.Count.{run_small, runs_small}
-use Rattle.word_march.proofs.iterators.length.Goals as goal
-use Rattle.word_march.proofs.iterators.length.Goals.{After-backgrounds}
+use Rattle.word_march.proofs.counts.length.Goals as goal
+use Rattle.word_march.proofs.counts.length.Goals.{After-backgrounds}
 
 run_within : (c : After-backgrounds) → c.total_ops-operations.result * c.from-words.result ≤ 16777216
 run_within c =
