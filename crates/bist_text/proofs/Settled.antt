@@ -1,5 +1,5 @@
 -- Of any text, bytes or not, a grammar that a machine follows has one answer: what is read of one of its texts goes on.
-use Rattle.std.proofs.Common.{◌≡◌, ℕ, ◌+◌, ◌<◌, List, [], ◌∷◌, ◌++◌, ◌∙◌, take, drop, Option, Some, None, refl, arith, sym, ap, subst, append_assoc, append-nil}
+use Rattle.std.proofs.Common.{◌≡◌, ◌↔◌, ℕ, ◌+◌, ◌<◌, List, [], ◌∷◌, ◌++◌, ◌∙◌, take, drop, Option, Some, None, refl, arith, sym, ap, subst, append_assoc, append-nil}
 use Rattle.bist_text.specs.Grammar.{Continues, IsUnexpected}
 use Rattle.bist_text.specs.Machine.{Holds, Outcome, read, unexpected, truncated, Follows, Answers}
 use Rattle.bist_text.proofs.Exclusive.{split_at, shorter}
@@ -43,3 +43,28 @@ module _ {S V : Type 0} (step : S → ℕ → Option S) (value : S → Option V)
   one_answer b s g truncated (read v) t h = absurd (t.none v h)
   one_answer b s g truncated (unexpected k) t u = absurd (not_refused b t.before.0 k s t.before.1 g u t.before.3)
   one_answer b s g truncated truncated t u = refl
+
+-- ---- of a grammar that is spelled otherwise
+
+continues_so : {V : Type 0} (G H : List ℕ → V → Type 0) → ((b : List ℕ) (v : V) → G b v → H b v) → (b : List ℕ) → Continues G b → Continues H b
+continues_so G H f b h = (h.0, h.1, h.2, f (b ++ h.0) h.1 h.3)
+
+answers_so : {V : Type 0} (G H : List ℕ → V → Type 0) → ((b : List ℕ) (v : V) → G b v ↔ H b v) → (b : List ℕ) (o : Outcome V) → Answers G b o → Answers H b o
+answers_so G H f b (read v) h = (f b v).0 h
+answers_so G H f b (unexpected k) u = record {
+  within = u.within;
+  before = continues_so G H (λ c v. (f c v).0) (take k b) u.before;
+  after = λ h. u.after (continues_so H G (λ c v. (f c v).1) (take (k + 1) b) h);
+}
+answers_so G H f b truncated t = record {
+  none = λ v h. t.none v ((f b v).1 h);
+  before = continues_so G H (λ c v. (f c v).0) b t.before;
+}
+
+-- a text has one answer of a grammar that says what may follow a machine's start
+pub answers_one : {S V : Type 0} (step : S → ℕ → Option S) (value : S → Option V) (rest : S → List ℕ → V → Type 0) (good : S → Type 0) → Follows step value rest good
+    → (G : List ℕ → V → Type 0) (start : S) → good start → ((b : List ℕ) (v : V) → rest start b v ↔ G b v)
+    → (b : List ℕ) (o p : Outcome V) → Answers G b o → Answers G b p → o ≡ p
+answers_one step value rest good f G start g is b o p h k =
+    let r : (o : Outcome _) → Answers G b o → Answers (rest start) b o = λ o h. answers_so G (rest start) (λ c v. ((is c v).1, (is c v).0)) b o h in
+    one_answer step value rest good f b start g o p (r o h) (r p k)

@@ -5,3 +5,4 @@ mod OpBuilt
 mod Outcomes
 mod PrintLaws
 pub mod Exceeding
+pub mod OneOutcome

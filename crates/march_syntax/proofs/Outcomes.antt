@@ -1,5 +1,5 @@
 -- From where a reader stands to what it answers.
-use Rattle.std.proofs.Common.{◌≡◌, ◌↔◌, ℕ, ◌<◌, Bool, true, false, List, [], ◌∙◌, length, drop, get_or, Option, Some, None, Result, Ok, Err, IsOk, IfOk, refl, sym, ap, subst, inl, inr}
+use Rattle.std.proofs.Common.{◌≡◌, ◌↔◌, ℕ, ◌<◌, Bool, true, false, List, [], ◌∙◌, length, drop, get_or, Option, Some, None, Result, Ok, Err, IsOk, IfOk, refl, sym, subst, inl, inr}
 use Rattle.bist_text.specs.Grammar.{are_bytes}
 use Rattle.bist_text.specs.Machine.{Outcome, read, unexpected, truncated, scan, IsExact}
 use Rattle.bist_text.proofs.Exclusive.{scan_exact}
@@ -10,7 +10,7 @@ use Rattle.march_core.specs.March.{MarchElement, IsMarch}
 use Rattle.march_syntax.specs.declared.place.Place.{Place}
 use Rattle.march_syntax.specs.declared.place.Place.TheVariants.{Start, Open, Spelling, Ordered, Wanted, Digit, Operation, Ended, Next, Closed}
 use Rattle.march_syntax.specs.Answers.{Refuses, Decides, Gives, Reads}
-use Rattle.march_syntax.proofs.Exceeding.{refuses_once, refuses_no_march}
+use Rattle.march_syntax.proofs.OneOutcome.{reads_one}
 use Rattle.march_syntax.specs.MarchText.{MarchText}
 use Rattle.march_syntax.specs.Places.{move_at, may_end, start, step, value, rest, is_inside}
 use Rattle.march_syntax.proofs.PlaceLaws.{follows, start_is}
@@ -70,35 +70,7 @@ module _ (b : List ℕ) (place : Place) (braced : Bool) (built : List MarchEleme
 text_exact : (b : List ℕ) → are_bytes b ≡ true → IsExact MarchText b (scan step value b start 0)
 text_exact b w = scan_exact step value rest (λ s. Unit {0}) follows MarchText start tt start_is b w
 
--- elements are read as one thing
-decides_one : (es : List MarchElement) (q r : Result (List MarchElement) MarchFault) → Decides es q → Decides es r → q ≡ r
-decides_one es (Ok m) (Ok n) p s = ap (λ x. Ok x) (p.0 ∙ sym s.0)
-decides_one es (Ok m) (Err g) p s = absurd (refuses_no_march es g s p.1)
-decides_one es (Err f) (Ok n) p s = absurd (refuses_no_march es f p s.1)
-decides_one es (Err f) (Err g) p s = ap (λ x. Err x) (refuses_once es f g p s)
-
-gives_one : (o : Outcome (List MarchElement)) (q r : Result (List MarchElement) MarchFault) → Gives o q → Gives o r → q ≡ r
-gives_one (unexpected k) q r p s = p ∙ sym s
-gives_one truncated q r p s = p ∙ sym s
-gives_one (read es) q r p s = decides_one es q r p s
-
-module _ (b : List ℕ) (o : Outcome (List MarchElement)) (x : IsExact MarchText b o) where
-  text_gives : (es : List MarchElement) (r : Result (List MarchElement) MarchFault) → MarchText b es → Decides es r → Gives o r
-  text_gives es r t d = subst (λ z. Gives z r) (sym ((x.reads es).1 t)) d
-
-  -- what the bytes are read as is what the outcome gives
-  reads_given : (r : Result (List MarchElement) MarchFault) → Reads b r → Gives o r
-  reads_given (Ok es) h = text_gives es (Ok es) h.0 (refl, h.1)
-  reads_given (Err (Unexpected k)) h = subst (λ z. Gives z (Err (Unexpected k))) (sym ((x.refuses k).1 h)) refl
-  reads_given (Err Truncated) h = subst (λ z. Gives z (Err Truncated)) (sym (x.ends_early.1 h)) refl
-  reads_given (Err Empty) h = text_gives h.0 (Err Empty) h.1 h.2
-  reads_given (Err TooManyElements) h = text_gives h.0 (Err TooManyElements) h.1 h.2
-  reads_given (Err (TooManyOps i)) h = text_gives h.0 (Err (TooManyOps i)) h.1 h.2
-  reads_given (Err TooManyInAll) h = text_gives h.0 (Err TooManyInAll) h.1 h.2
-  reads_given (Err (ReadBeforeWrite i j)) h = text_gives h.0 (Err (ReadBeforeWrite i j)) h.1 h.2
-  reads_given (Err (WrongExpect i j)) h = text_gives h.0 (Err (WrongExpect i j)) h.1 h.2
-
--- and the other way round
+-- what the outcome gives is what the bytes are read as
 refusal_reads : (b : List ℕ) (es : List MarchElement) (f : MarchFault) → MarchText b es → Refuses es f → Reads b (Err f)
 refusal_reads b es Empty t h = (es, t, h)
 refusal_reads b es TooManyElements t h = (es, t, h)
@@ -119,16 +91,5 @@ given_reads b (read es) (Err f) x g = refusal_reads b es f ((x.reads es).0 refl)
 pub reads : (b : List ℕ) (r : Result (List MarchElement) MarchFault) → are_bytes b ≡ true → Gives (scan step value b start 0) r
     → (q : Result (List MarchElement) MarchFault) → (r ≡ q) ↔ Reads b q
 reads b r w g q =
-    let x = text_exact b w in let o = scan step value b start 0 in (
-      (λ e. subst (Reads b) e (given_reads b o r x g)),
-      λ h. gives_one o r q g (reads_given b o x q h),
-    )
-
--- a text has one reading
-pub one_text : (b : List ℕ) → are_bytes b ≡ true → (es fs : List MarchElement) → MarchText b es → MarchText b fs → es ≡ fs
-one_text b w es fs t u =
-    let x = text_exact b w in
-    let e : read es ≡ read fs = sym ((x.reads es).1 t) ∙ (x.reads fs).1 u in same es fs e
-  where
-    same : (es fs : List MarchElement) → read es ≡ read fs → es ≡ fs
-    same es fs e = cc
+    let x = given_reads b (scan step value b start 0) r (text_exact b w) g in
+    (λ e. subst (Reads b) e x, λ h. reads_one b r q x h)
