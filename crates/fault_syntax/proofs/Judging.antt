@@ -5,21 +5,18 @@ use Rattle.fault_core.specs.declared.primitive.Sense.{Sense}
 use Rattle.fault_core.specs.declared.primitive.PrimFault.{PrimFault}
 use Rattle.fault_core.specs.declared.primitive.PrimFault.TheVariants.{NotAFault, TooManyOperations}
 use Rattle.fault_core.specs.Primitive.{Primitive, IsPrimitive, agg_has_act, refusal_of}
-use Rattle.fault_syntax.specs.declared.place.Access.{Access}
-use Rattle.fault_syntax.specs.declared.place.Access.TheVariants.{Write, Read}
-use Rattle.fault_syntax.specs.declared.place.Op.{Op}
+use Rattle.fault_syntax.specs.declared.words.Operation.{Operation}
+use Rattle.fault_syntax.specs.declared.words.Operation.TheVariants.{Write, Read, Pause}
 use Rattle.fault_syntax.specs.Parts.{IsAct, AreAct, IsSense, IsAggressor, StandsFor, agg_ops, op_count, Refuses, Judges}
 use Rattle.fault_syntax.specs.PrimText.{SenseText, PrimParts}
 
 -- ---- one reading
 
-act_one : (state : Bool) (os : List Op) (a b : Option Act) → AreAct state os a → AreAct state os b → a ≡ b
+act_one : (state : Bool) (os : List Operation) (a b : Option Act) → AreAct state os a → AreAct state os b → a ≡ b
 act_one state [] a b h k = h ∙ sym k
-act_one state (o ∷ []) a b h k = one o.access h k
-  where
-    one : (x : Access) → IsAct state x o.bit a → IsAct state x o.bit b → a ≡ b
-    one Write h k = h ∙ sym k
-    one Read h k = h.1 ∙ sym k.1
+act_one state (Write bit ∷ []) a b h k = h ∙ sym k
+act_one state (Read bit ∷ []) a b h k = h.1 ∙ sym k.1
+act_one state (Pause ∷ []) a b h k = h ∙ sym k
 act_one state (o ∷ p ∷ os) a b h k = absurd h
 
 sense_same : (a c : Bool) (b d : Option Act) → a ≡ c → b ≡ d → (let s : Sense = record { state = a; act = b } in s ≡ (record { state = c; act = d }))
@@ -41,7 +38,7 @@ stands_one text p q h k = prim_same p.agg q.agg p.vic q.vic p.after q.after p.an
 -- ---- two operations
 
 -- an act is an operation
-act_counts : (state : Bool) (os : List Op) (a : Option Act) → AreAct state os a → (is_some a ≡ true → 0 < length os) × (length os ≤ 1)
+act_counts : (state : Bool) (os : List Operation) (a : Option Act) → AreAct state os a → (is_some a ≡ true → 0 < length os) × (length os ≤ 1)
 act_counts state [] a h = (λ e. let k : is_some a ≡ false = ap is_some h in cc, omega arith)
 act_counts state (o ∷ []) a h = (λ e. omega arith, omega arith)
 act_counts state (o ∷ p ∷ os) a h = absurd h
@@ -76,13 +73,11 @@ judged text p (Err fault) n h ok same bad = subst (Refuses text) (sym (bad ∙ o
 
 -- ---- a primitive has one operation at most
 
-act_there : (state : Bool) (os : List Op) (a : Option Act) → AreAct state os a → 0 < length os → is_some a ≡ true
+act_there : (state : Bool) (os : List Operation) (a : Option Act) → AreAct state os a → 0 < length os → is_some a ≡ true
 act_there state [] a h n = absurd (omega arith)
-act_there state (o ∷ []) a h n = there o.access h
-  where
-    there : (x : Access) → IsAct state x o.bit a → is_some a ≡ true
-    there Write h = ap is_some h
-    there Read h = ap is_some h.1
+act_there state (Write bit ∷ []) a h n = ap is_some h
+act_there state (Read bit ∷ []) a h n = ap is_some h.1
+act_there state (Pause ∷ []) a h n = ap is_some h
 act_there state (o ∷ p ∷ os) a h n = absurd h
 
 agg_there : (t : Option SenseText) (a : Option Sense) → IsAggressor t a → (length (agg_ops t) ≤ 1) × (0 < length (agg_ops t) → agg_has_act a ≡ true)
@@ -92,7 +87,7 @@ agg_there (Some t) a h = ((act_counts t.state t.ops (h.0).act (h.2).1).1, λ n. 
 pub one_operation : (text : PrimParts) (p : Primitive) → StandsFor text p → IsPrimitive p → op_count text ≤ 1
 one_operation text p h i = go (agg_ops text.agg) text.vic.ops (agg_there text.agg p.agg h.agg) (act_counts text.vic.state text.vic.ops p.vic.act (h.vic).1).1 (act_there text.vic.state text.vic.ops p.vic.act (h.vic).1)
   where
-    go : (os qs : List Op) → (length os ≤ 1) × (0 < length os → agg_has_act p.agg ≡ true) → length qs ≤ 1 → (0 < length qs → is_some p.vic.act ≡ true) → length os + length qs ≤ 1
+    go : (os qs : List Operation) → (length os ≤ 1) × (0 < length os → agg_has_act p.agg ≡ true) → length qs ≤ 1 → (0 < length qs → is_some p.vic.act ≡ true) → length os + length qs ≤ 1
     go [] qs f n g = omega arith
     go (o ∷ os) [] f n g = omega (arith, f.0)
     go (o ∷ os) (q ∷ qs) f n g = let e : is_some p.vic.act ≡ false = ap is_some (i.one_act (f.1 (omega arith))) in let k : is_some p.vic.act ≡ true = g (omega arith) in cc

@@ -3,9 +3,9 @@ use Rattle.std.proofs.Common.{◌≡◌, ℕ, ◌==◌, Bool, true, false, List,
 use Rattle.bist_text.specs.Grammar.{word, when, are_bytes}
 use Rattle.bist_text.specs.Machine.{Holds}
 use Rattle.bist_text.proofs.Pieces.{at_byte, also, same, neither, either_iff}
-use Rattle.fault_core.specs.declared.table.Class.TheVariants.{SF, TF, WDF, RDF, DRDF, IRF, CFst, CFds, CFtr, CFwd, CFrd, CFdr, CFir}
-use Rattle.fault_syntax.specs.declared.place.Name.{Name}
-use Rattle.fault_syntax.specs.declared.place.Name.TheVariants.{OfClass, One, Two, All}
+use Rattle.fault_core.specs.declared.table.Class.TheVariants.{SF, TF, WDF, RDF, DRDF, IRF, CFst, CFds, CFtr, CFwd, CFrd, CFdr, CFir, DRF}
+use Rattle.fault_syntax.specs.declared.words.Name.{Name}
+use Rattle.fault_syntax.specs.declared.words.Name.TheVariants.{OfClass, One, Two, All}
 use Rattle.fault_syntax.specs.declared.place.Part.{Part}
 use Rattle.fault_syntax.specs.declared.place.Part.TheVariants.{Begin, S, T, W, WD, R, RD, D, DR, DRD, I, IR, C, CF, CFs, CFd, CFt, CFw, CFr, CFi, LetterO, LettersOn, LetterT, LettersTw, LetterA, LettersAl}
 use Rattle.fault_syntax.specs.declared.place.Spelled.{Spelled}
@@ -83,7 +83,18 @@ Agrees (Some (More q)) xs = xs ≡ left q
 Agrees (Some (Whole n)) xs = xs ≡ (n, []) ∷ []
 
 agrees : (p : Part) (c : ℕ) → Agrees (spell p c) (advance (left p) c)
-agrees Begin c = at_byte (λ x. Agrees (spell Begin x) (advance (left Begin) x)) c 83 refl (λ n83. at_byte (λ x. Agrees (spell Begin x) (advance (left Begin) x)) c 84 refl (λ n84. at_byte (λ x. Agrees (spell Begin x) (advance (left Begin) x)) c 87 refl (λ n87. at_byte (λ x. Agrees (spell Begin x) (advance (left Begin) x)) c 82 refl (λ n82. at_byte (λ x. Agrees (spell Begin x) (advance (left Begin) x)) c 68 refl (λ n68. at_byte (λ x. Agrees (spell Begin x) (advance (left Begin) x)) c 73 refl (λ n73. at_byte (λ x. Agrees (spell Begin x) (advance (left Begin) x)) c 67 refl (λ n67. at_byte (λ x. Agrees (spell Begin x) (advance (left Begin) x)) c 111 refl (λ n111. at_byte (λ x. Agrees (spell Begin x) (advance (left Begin) x)) c 116 refl (λ n116. at_byte (λ x. Agrees (spell Begin x) (advance (left Begin) x)) c 97 refl (λ n97. simp (n83, n84, n87, n82, n68, n73, n67, n111, n116, n97) refl))))))))))
+agrees Begin c =
+    at_byte (λ x. Agrees (spell Begin x) (advance (left Begin) x)) c 83 refl (λ n83.
+    at_byte (λ x. Agrees (spell Begin x) (advance (left Begin) x)) c 84 refl (λ n84.
+    at_byte (λ x. Agrees (spell Begin x) (advance (left Begin) x)) c 87 refl (λ n87.
+    at_byte (λ x. Agrees (spell Begin x) (advance (left Begin) x)) c 82 refl (λ n82.
+    at_byte (λ x. Agrees (spell Begin x) (advance (left Begin) x)) c 68 refl (λ n68.
+    at_byte (λ x. Agrees (spell Begin x) (advance (left Begin) x)) c 73 refl (λ n73.
+    at_byte (λ x. Agrees (spell Begin x) (advance (left Begin) x)) c 67 refl (λ n67.
+    at_byte (λ x. Agrees (spell Begin x) (advance (left Begin) x)) c 111 refl (λ n111.
+    at_byte (λ x. Agrees (spell Begin x) (advance (left Begin) x)) c 116 refl (λ n116.
+    at_byte (λ x. Agrees (spell Begin x) (advance (left Begin) x)) c 97 refl (λ n97.
+    simp (n83, n84, n87, n82, n68, n73, n67, n111, n116, n97) refl))))))))))
 agrees S c = at_byte (λ x. Agrees (spell S x) (advance (left S) x)) c 70 refl (λ n70. simp n70 refl)
 agrees T c = at_byte (λ x. Agrees (spell T x) (advance (left T) x)) c 70 refl (λ n70. simp n70 refl)
 agrees W c = at_byte (λ x. Agrees (spell W x) (advance (left W) x)) c 68 refl (λ n68. simp n68 refl)
@@ -91,12 +102,22 @@ agrees WD c = at_byte (λ x. Agrees (spell WD x) (advance (left WD) x)) c 70 ref
 agrees R c = at_byte (λ x. Agrees (spell R x) (advance (left R) x)) c 68 refl (λ n68. simp n68 refl)
 agrees RD c = at_byte (λ x. Agrees (spell RD x) (advance (left RD) x)) c 70 refl (λ n70. simp n70 refl)
 agrees D c = at_byte (λ x. Agrees (spell D x) (advance (left D) x)) c 82 refl (λ n82. simp n82 refl)
-agrees DR c = at_byte (λ x. Agrees (spell DR x) (advance (left DR) x)) c 68 refl (λ n68. simp n68 refl)
+agrees DR c =
+    at_byte (λ x. Agrees (spell DR x) (advance (left DR) x)) c 68 refl (λ n68.
+    at_byte (λ x. Agrees (spell DR x) (advance (left DR) x)) c 70 refl (λ n70.
+    simp (n68, n70) refl))
 agrees DRD c = at_byte (λ x. Agrees (spell DRD x) (advance (left DRD) x)) c 70 refl (λ n70. simp n70 refl)
 agrees I c = at_byte (λ x. Agrees (spell I x) (advance (left I) x)) c 82 refl (λ n82. simp n82 refl)
 agrees IR c = at_byte (λ x. Agrees (spell IR x) (advance (left IR) x)) c 70 refl (λ n70. simp n70 refl)
 agrees C c = at_byte (λ x. Agrees (spell C x) (advance (left C) x)) c 70 refl (λ n70. simp n70 refl)
-agrees CF c = at_byte (λ x. Agrees (spell CF x) (advance (left CF) x)) c 115 refl (λ n115. at_byte (λ x. Agrees (spell CF x) (advance (left CF) x)) c 100 refl (λ n100. at_byte (λ x. Agrees (spell CF x) (advance (left CF) x)) c 116 refl (λ n116. at_byte (λ x. Agrees (spell CF x) (advance (left CF) x)) c 119 refl (λ n119. at_byte (λ x. Agrees (spell CF x) (advance (left CF) x)) c 114 refl (λ n114. at_byte (λ x. Agrees (spell CF x) (advance (left CF) x)) c 105 refl (λ n105. simp (n115, n100, n116, n119, n114, n105) refl))))))
+agrees CF c =
+    at_byte (λ x. Agrees (spell CF x) (advance (left CF) x)) c 115 refl (λ n115.
+    at_byte (λ x. Agrees (spell CF x) (advance (left CF) x)) c 100 refl (λ n100.
+    at_byte (λ x. Agrees (spell CF x) (advance (left CF) x)) c 116 refl (λ n116.
+    at_byte (λ x. Agrees (spell CF x) (advance (left CF) x)) c 119 refl (λ n119.
+    at_byte (λ x. Agrees (spell CF x) (advance (left CF) x)) c 114 refl (λ n114.
+    at_byte (λ x. Agrees (spell CF x) (advance (left CF) x)) c 105 refl (λ n105.
+    simp (n115, n100, n116, n119, n114, n105) refl))))))
 agrees CFs c = at_byte (λ x. Agrees (spell CFs x) (advance (left CFs) x)) c 116 refl (λ n116. simp n116 refl)
 agrees CFd c = at_byte (λ x. Agrees (spell CFd x) (advance (left CFd) x)) c 115 refl (λ n115. at_byte (λ x. Agrees (spell CFd x) (advance (left CFd) x)) c 114 refl (λ n114. simp (n115, n114) refl))
 agrees CFt c = at_byte (λ x. Agrees (spell CFt x) (advance (left CFt) x)) c 114 refl (λ n114. simp n114 refl)
@@ -143,9 +164,10 @@ has (OfClass CFwd) = inr (inr (inr (inr (inr (inr (inr (inr (inr (inl refl))))))
 has (OfClass CFrd) = inr (inr (inr (inr (inr (inr (inr (inr (inr (inr (inl refl))))))))))
 has (OfClass CFdr) = inr (inr (inr (inr (inr (inr (inr (inr (inr (inr (inr (inl refl)))))))))))
 has (OfClass CFir) = inr (inr (inr (inr (inr (inr (inr (inr (inr (inr (inr (inr (inl refl))))))))))))
-has One = inr (inr (inr (inr (inr (inr (inr (inr (inr (inr (inr (inr (inr (inl refl)))))))))))))
-has Two = inr (inr (inr (inr (inr (inr (inr (inr (inr (inr (inr (inr (inr (inr (inl refl))))))))))))))
-has All = inr (inr (inr (inr (inr (inr (inr (inr (inr (inr (inr (inr (inr (inr (inr (inl refl)))))))))))))))
+has (OfClass DRF) = inr (inr (inr (inr (inr (inr (inr (inr (inr (inr (inr (inr (inr (inl refl)))))))))))))
+has One = inr (inr (inr (inr (inr (inr (inr (inr (inr (inr (inr (inr (inr (inr (inl refl))))))))))))))
+has Two = inr (inr (inr (inr (inr (inr (inr (inr (inr (inr (inr (inr (inr (inr (inr (inl refl)))))))))))))))
+has All = inr (inr (inr (inr (inr (inr (inr (inr (inr (inr (inr (inr (inr (inr (inr (inr (inl refl))))))))))))))))
 
 named_iff : (xs : List Name) (n : Name) (K : List ℕ → Type 0) (b : List ℕ) → Has xs n → word (name_text n) K b ↔ among (map (λ k. (k, name_text k)) xs) n K b
 named_iff xs n K b h = (to xs h, from xs)

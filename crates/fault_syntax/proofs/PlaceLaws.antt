@@ -4,9 +4,10 @@ use Rattle.bist_text.specs.Grammar.{finish, word, when, many, is_blank, are_byte
 use Rattle.bist_text.specs.Machine.{Holds, Grows, Follows}
 use Rattle.bist_text.proofs.Pieces.{at_byte, also, skip, stay, neither, same, never, grows_iff, grows_never, grows_from_none, Headed, grows_one, many_never}
 use Rattle.fault_syntax.specs.declared.place.Access.{Access}
-use Rattle.fault_syntax.specs.declared.place.Access.TheVariants.{Write, Read}
-use Rattle.fault_syntax.specs.declared.place.Op.{Op}
-use Rattle.fault_syntax.specs.declared.place.Name.{Name}
+use Rattle.fault_syntax.specs.declared.place.Access.TheVariants.{Writes, Reads}
+use Rattle.fault_syntax.specs.declared.words.Operation.{Operation}
+use Rattle.fault_syntax.specs.declared.words.Operation.TheVariants.{Write, Read, Pause}
+use Rattle.fault_syntax.specs.declared.words.Name.{Name}
 use Rattle.fault_syntax.specs.declared.place.Part.{Part}
 use Rattle.fault_syntax.specs.declared.place.Part.TheVariants.{Begin}
 use Rattle.fault_syntax.specs.declared.place.Spelled.{Spelled}
@@ -15,8 +16,8 @@ use Rattle.fault_syntax.specs.declared.place.Place.{Place}
 use Rattle.fault_syntax.specs.declared.place.Place.TheVariants.{Start, Spelling, Opened, Lead, Sensed, Digit, Effect, Left, Reply, Replied, Closed, Comment}
 use Rattle.fault_syntax.specs.declared.place.Event.TheVariants.{Parts}
 use Rattle.fault_syntax.specs.ListText.{Item, Primitive, Named, name_text, anything, line_end, LineText}
-use Rattle.fault_syntax.specs.PrimText.{SenseText, PrimParts, ws, bit_text, access_text, answer_text, op, more_ops, led, sense, effect, senses, PrimText}
-use Rattle.fault_syntax.specs.Places.{spell, to, spelling, operation, may_end, State, start, moved, step_at, step, parts_of, item_of, item_at, value, left, among, ending, begins, in_prim, in_name, victim_left, first_sense, the_sense, lead_left, digit_left, begun, answer_left, effect_left, left_at, rest}
+use Rattle.fault_syntax.specs.PrimText.{SenseText, PrimParts, ws, bit_text, answer_text, op, more_ops, led, sense, effect, senses, PrimText}
+use Rattle.fault_syntax.specs.Places.{spell, to, spelling, operation, after_letter, may_end, State, start, moved, step_at, step, parts_of, item_of, item_at, value, left, among, ending, begins, in_prim, in_name, victim_left, first_sense, the_sense, lead_left, digit_left, begun, answer_left, effect_left, left_at, rest}
 use Rattle.fault_syntax.proofs.NameLaws.{spelled, spell_law, no_part, name_begins, part_alive}
 
 abbrev Law : Bool → Place → State → List ℕ → Option Item → ℕ → Type 0
@@ -96,28 +97,54 @@ no_answer None M c b d e f h = rw d at h
 no_answer (Some false) M c b d e f h = rw e at h
 no_answer (Some true) M c b d e f h = rw f at h
 
-no_access : (a : Access) (M : List ℕ → Type 0) (c : ℕ) (b : List ℕ) → (c == 119) ≡ false → (c == 114) ≡ false → word (access_text a) M (c ∷ b) → ⊥
-no_access Write M c b e f h = rw e at h
-no_access Read M c b e f h = rw f at h
+no_op : (o : Operation) (M : List ℕ → Type 0) (c : ℕ) (b : List ℕ) → (c == 119) ≡ false → (c == 114) ≡ false → (c == 116) ≡ false → op o M (c ∷ b) → ⊥
+no_op (Write d) M c b e f g h = rw e at h
+no_op (Read d) M c b e f g h = rw f at h
+no_op Pause M c b e f g h = rw g at h
 
-access_119 : (a : Access) (M : List ℕ → Type 0) (b : List ℕ) → word (access_text a) M (119 ∷ b) ↔ ((a ≡ Write) × M b)
-access_119 Write M b = (λ h. (refl, h), λ h. h.1)
-access_119 Read M b = never (λ h. h) (λ h. let e : Read ≡ Write = h.0 in cc)
+op_119 : (o : Operation) (M : List ℕ → Type 0) (b : List ℕ) → op o M (119 ∷ b) ↔ after_letter Writes o M b
+op_119 (Write d) M b = same
+op_119 (Read d) M b = same
+op_119 Pause M b = same
 
-access_114 : (a : Access) (M : List ℕ → Type 0) (b : List ℕ) → word (access_text a) M (114 ∷ b) ↔ ((a ≡ Read) × M b)
-access_114 Read M b = (λ h. (refl, h), λ h. h.1)
-access_114 Write M b = never (λ h. h) (λ h. let e : Write ≡ Read = h.0 in cc)
+op_114 : (o : Operation) (M : List ℕ → Type 0) (b : List ℕ) → op o M (114 ∷ b) ↔ after_letter Reads o M b
+op_114 (Write d) M b = same
+op_114 (Read d) M b = same
+op_114 Pause M b = same
 
-op_same : (a c : Access) (b d : Bool) → a ≡ c → b ≡ d → operation a b ≡ operation c d
-op_same a c b d e f = cc
+op_116 : (o : Operation) (M : List ℕ → Type 0) (b : List ℕ) → op o M (116 ∷ b) ↔ ((o ≡ Pause) × M b)
+op_116 (Write d) M b = never (λ h. h) (λ h. let e : Write d ≡ Pause = h.0 in cc)
+op_116 (Read d) M b = never (λ h. h) (λ h. let e : Read d ≡ Pause = h.0 in cc)
+op_116 Pause M b = (λ h. (refl, h), λ h. h.1)
 
-op_is : (o : Op) (a : Access) (d : Bool) → o.access ≡ a → o.bit ≡ d → o ≡ operation a d
-op_is o a d e f = op_same o.access a o.bit d e f
+-- the digit behind a letter
+after_digit : (a : Access) (d : Bool) (o : Operation) (M : List ℕ → Type 0) (c : ℕ) (b : List ℕ)
+    → ((x : Bool) (M : List ℕ → Type 0) → word (bit_text x) M (c ∷ b) ↔ ((x ≡ d) × M b)) → after_letter a o M (c ∷ b) ↔ ((o ≡ operation a d) × M b)
+after_digit Writes d (Write x) M c b f = (λ h. (ap Write ((f x M).0 h).0, ((f x M).0 h).1), λ h. (f x M).1 (bit_is h.0, h.1))
+  where
+    bit_is : Write x ≡ Write d → x ≡ d
+    bit_is e = cc
+after_digit Writes d (Read x) M c b f = never (λ h. h) (λ h. let e : Read x ≡ Write d = h.0 in cc)
+after_digit Writes d Pause M c b f = never (λ h. h) (λ h. let e : Pause ≡ Write d = h.0 in cc)
+after_digit Reads d (Write x) M c b f = never (λ h. h) (λ h. let e : Write x ≡ Read d = h.0 in cc)
+after_digit Reads d (Read x) M c b f = (λ h. (ap Read ((f x M).0 h).0, ((f x M).0 h).1), λ h. (f x M).1 (bit_is h.0, h.1))
+  where
+    bit_is : Read x ≡ Read d → x ≡ d
+    bit_is e = cc
+after_digit Reads d Pause M c b f = never (λ h. h) (λ h. let e : Pause ≡ Read d = h.0 in cc)
 
-abbrev a_sense : Bool → List Op → SenseText
+no_digit_here : (a : Access) (o : Operation) (M : List ℕ → Type 0) (c : ℕ) (b : List ℕ) → (c == 48) ≡ false → (c == 49) ≡ false → after_letter a o M (c ∷ b) → ⊥
+no_digit_here Writes (Write d) M c b e f h = no_bit d M c b e f h
+no_digit_here Writes (Read d) M c b e f h = h
+no_digit_here Writes Pause M c b e f h = h
+no_digit_here Reads (Write d) M c b e f h = h
+no_digit_here Reads (Read d) M c b e f h = no_bit d M c b e f h
+no_digit_here Reads Pause M c b e f h = h
+
+abbrev a_sense : Bool → List Operation → SenseText
 a_sense state ops = record { state = state; ops = ops }
 
-sense_same : (a c : Bool) (b d : List Op) → a ≡ c → b ≡ d → a_sense a b ≡ a_sense c d
+sense_same : (a c : Bool) (b d : List Operation) → a ≡ c → b ≡ d → a_sense a b ≡ a_sense c d
 sense_same a c b d e f = cc
 
 sense_is : (t s : SenseText) → t.state ≡ s.state → t.ops ≡ s.ops → t ≡ s
@@ -125,9 +152,10 @@ sense_is t s e f = sense_same t.state s.state t.ops s.ops e f
 
 -- ---- a sense begins
 
-no_led : (state : Bool) (os : List Op) (L : List ℕ → Type 0) (c : ℕ) (b : List ℕ) → (c == 114) ≡ false → led state os L (c ∷ b) → ⊥
+no_led : (state : Bool) (os : List Operation) (L : List ℕ → Type 0) (c : ℕ) (b : List ℕ) → (c == 114) ≡ false → led state os L (c ∷ b) → ⊥
 no_led state [] L c b e h = h
-no_led state (o ∷ os) L c b e h = let r : word (access_text Read) (word (bit_text o.bit) (more_ops os L)) (c ∷ b) = subst (λ a. word (access_text a) (word (bit_text o.bit) (more_ops os L)) (c ∷ b)) (ap (λ (x : Op). x.access) h.0) h.1 in rw e at r
+no_led state (o ∷ os) L c b e h =
+    let r : op (Read state) (more_ops os L) (c ∷ b) = subst (λ x. op x (more_ops os L) (c ∷ b)) h.0 h.1 in rw e at r
 
 no_sense : (t : SenseText) (L : List ℕ → Type 0) (c : ℕ) (b : List ℕ) → (c == 48) ≡ false → (c == 49) ≡ false → (c == 114) ≡ false → sense t L (c ∷ b) → ⊥
 no_sense t L c b e f g h = neither (no_bit t.state (more_ops t.ops L) c b e f) (no_led t.state t.ops L c b g) h
@@ -141,62 +169,94 @@ sense_49 t L b = also (stay (no_led t.state t.ops L 49 b refl)) (also (bit_49 t.
 sense_114 : (t : SenseText) (L : List ℕ → Type 0) (b : List ℕ) → sense t L (114 ∷ b) ↔ lead_left t.state t.ops L b
 sense_114 t L b = also (skip (no_bit t.state (more_ops t.ops L) 114 b refl refl)) (leads t.ops)
   where
-    leads : (os : List Op) → led t.state os L (114 ∷ b) ↔ lead_left t.state os L b
+    leads : (os : List Operation) → led t.state os L (114 ∷ b) ↔ lead_left t.state os L b
     leads [] = same
-    leads (o ∷ os) = (λ h. (h.0, ((access_114 o.access (word (bit_text o.bit) (more_ops os L)) b).0 h.1).1), λ h. (h.0, (access_114 o.access (word (bit_text o.bit) (more_ops os L)) b).1 (ap (λ (x : Op). x.access) h.0, h.1)))
+    leads (o ∷ os) =
+        (λ h. (h.0, subst (λ x. op x (more_ops os L) (114 ∷ b)) h.0 h.1), λ h. (h.0, subst (λ x. op x (more_ops os L) (114 ∷ b)) (sym h.0) h.1))
 
 -- the digit of a read that begins a sense
-lead_digit : (d : Bool) (t : SenseText) (L : List ℕ → Type 0) (c : ℕ) (b : List ℕ) → ((x : Bool) (M : List ℕ → Type 0) → word (bit_text x) M (c ∷ b) ↔ ((x ≡ d) × M b)) → lead_left t.state t.ops L (c ∷ b) ↔ begun (record { state = d; ops = operation Read d ∷ [] }) t (λ os. more_ops os L b)
+lead_digit : (d : Bool) (t : SenseText) (L : List ℕ → Type 0) (c : ℕ) (b : List ℕ)
+    → ((x : Bool) (M : List ℕ → Type 0) → word (bit_text x) M (c ∷ b) ↔ ((x ≡ d) × M b))
+    → lead_left t.state t.ops L (c ∷ b) ↔ begun (record { state = d; ops = Read d ∷ [] }) t (λ os. more_ops os L b)
 lead_digit d t L c b f = go t.ops
   where
-    go : (os : List Op) → lead_left t.state os L (c ∷ b) ↔ ((t.state ≡ d) × Grows (operation Read d ∷ []) os (λ os. more_ops os L b))
-    go [] = never (λ h. h) (λ h. let e : [] ≡ operation Read d ∷ h.1.0 = h.1.1 in cc)
-    go (o ∷ os) = (λ h. forth h.0 ((f o.bit (more_ops os L)).0 h.1), λ h. aback h.0 h.1.0 h.1.1 h.1.2)
+    go : (os : List Operation) → lead_left t.state os L (c ∷ b) ↔ ((t.state ≡ d) × Grows (Read d ∷ []) os (λ os. more_ops os L b))
+    go [] = never (λ h. h) (λ h. let e : [] ≡ Read d ∷ h.1.0 = h.1.1 in cc)
+    go (o ∷ os) = (λ h. forth h.0 ((f t.state (more_ops os L)).0 h.1), λ h. aback h.0 h.1.0 h.1.1 h.1.2)
       where
-        forth : o ≡ operation Read t.state → (o.bit ≡ d) × more_ops os L b → (t.state ≡ d) × Grows (operation Read d ∷ []) (o ∷ os) (λ os. more_ops os L b)
-        forth e h = let s : t.state ≡ d = sym (ap (λ (x : Op). x.bit) e) ∙ h.0 in (s, (os, ap (λ x. x ∷ os) (e ∙ ap (operation Read) s), h.1))
+        forth : o ≡ Read t.state → (t.state ≡ d) × more_ops os L b → (t.state ≡ d) × Grows (Read d ∷ []) (o ∷ os) (λ os. more_ops os L b)
+        forth e h = (h.0, (os, ap (λ x. x ∷ os) (e ∙ ap Read h.0), h.1))
 
-        aback : t.state ≡ d → (m : List Op) → o ∷ os ≡ operation Read d ∷ m → more_ops m L b → (o ≡ operation Read t.state) × word (bit_text o.bit) (more_ops os L) (c ∷ b)
-        aback s m e h = let o_is : o ≡ operation Read d = cc in let os_is : os ≡ m = cc in (o_is ∙ ap (operation Read) (sym s), (f o.bit (more_ops os L)).1 (ap (λ (x : Op). x.bit) o_is, subst (λ x. more_ops x L b) (sym os_is) h))
+        aback : t.state ≡ d → (m : List Operation) → o ∷ os ≡ Read d ∷ m → more_ops m L b → (o ≡ Read t.state) × word (bit_text t.state) (more_ops os L) (c ∷ b)
+        aback s m e h =
+            let o_is : o ≡ Read d = cc in
+            let os_is : os ≡ m = cc in
+            (o_is ∙ ap Read (sym s), (f t.state (more_ops os L)).1 (s, subst (λ x. more_ops x L b) (sym os_is) h))
 
-no_lead : (state : Bool) (os : List Op) (L : List ℕ → Type 0) (c : ℕ) (b : List ℕ) → (c == 48) ≡ false → (c == 49) ≡ false → lead_left state os L (c ∷ b) → ⊥
+no_lead : (state : Bool) (os : List Operation) (L : List ℕ → Type 0) (c : ℕ) (b : List ℕ) → (c == 48) ≡ false → (c == 49) ≡ false → lead_left state os L (c ∷ b) → ⊥
 no_lead state [] L c b e f h = h
-no_lead state (o ∷ os) L c b e f h = no_bit o.bit (more_ops os L) c b e f h.1
+no_lead state (o ∷ os) L c b e f h = no_bit state (more_ops os L) c b e f h.1
 
 -- ---- operations
 
+-- no blank goes on
+no_blanks : (K : List ℕ → Type 0) (c : ℕ) (b : List ℕ) → is_blank c ≡ false → when (is_blank c) (many is_blank K b) → ⊥
+no_blanks K c b w z = let k : when false (many is_blank K b) = subst (λ q. when q (many is_blank K b)) w z in k
+
 -- the letter of an operation
-letter : (a : Access) (s t : SenseText) (L : List ℕ → Type 0) (c : ℕ) (b : List ℕ) → ((x : Access) (M : List ℕ → Type 0) → word (access_text x) M (c ∷ b) ↔ ((x ≡ a) × M b)) → is_blank c ≡ false → (L (c ∷ b) → ⊥) → begun s t (λ os. more_ops os L (c ∷ b)) ↔ begun s t (λ os. digit_left a os L b)
-letter a s t L c b f w n = (λ h. (h.0, (grows_iff s.ops t.ops (λ os. more_ops os L (c ∷ b)) (λ os. digit_left a os L b) each).0 h.1), λ h. (h.0, (grows_iff s.ops t.ops (λ os. more_ops os L (c ∷ b)) (λ os. digit_left a os L b) each).1 h.1))
+letter : (a : Access) (s t : SenseText) (L : List ℕ → Type 0) (c : ℕ) (b : List ℕ)
+    → ((o : Operation) (M : List ℕ → Type 0) → op o M (c ∷ b) ↔ after_letter a o M b) → is_blank c ≡ false → (L (c ∷ b) → ⊥)
+    → begun s t (λ os. more_ops os L (c ∷ b)) ↔ begun s t (λ os. digit_left a os L b)
+letter a s t L c b f w n =
+    let g = grows_iff s.ops t.ops (λ os. more_ops os L (c ∷ b)) (λ os. digit_left a os L b) each in
+    (λ h. (h.0, g.0 h.1), λ h. (h.0, g.1 h.1))
   where
-    each : (os : List Op) → more_ops os L (c ∷ b) ↔ digit_left a os L b
+    each : (os : List Operation) → more_ops os L (c ∷ b) ↔ digit_left a os L b
     each [] = never n (λ h. h)
-    each (o ∷ os) = also (stay (λ z. let k : when false (many is_blank (op o (more_ops os L)) b) = subst (λ q. when q (many is_blank (op o (more_ops os L)) b)) w z in k)) (f o.access (word (bit_text o.bit) (more_ops os L)))
+    each (o ∷ os) = also (stay (no_blanks (op o (more_ops os L)) c b w)) (f o (more_ops os L))
+
+-- the letter of a pause is the whole of it
+pause_letter : (s t : SenseText) (L : List ℕ → Type 0) (b : List ℕ) → (L (116 ∷ b) → ⊥)
+    → begun s t (λ os. more_ops os L (116 ∷ b)) ↔ begun (record { state = s.state; ops = s.ops ++ Pause ∷ [] }) t (λ os. more_ops os L b)
+pause_letter s t L b n = (λ h. (h.0, g.0 h.1), λ h. (h.0, g.1 h.1))
+  where
+    each : (os : List Operation) → more_ops os L (116 ∷ b) ↔ Headed Pause (λ m. more_ops m L b) os
+    each [] = never n (λ h. h)
+    each (o ∷ os) = also (stay (λ z. z)) (op_116 o (more_ops os L) b)
+
+    g : Grows s.ops t.ops (λ os. more_ops os L (116 ∷ b)) ↔ Grows (s.ops ++ Pause ∷ []) t.ops (λ os. more_ops os L b)
+    g = grows_one s.ops t.ops Pause (λ os. more_ops os L (116 ∷ b)) (λ os. more_ops os L b) each
 
 -- the digit of an operation
-digit_ends : (a : Access) (d : Bool) (s t : SenseText) (L : List ℕ → Type 0) (c : ℕ) (b : List ℕ) → ((x : Bool) (M : List ℕ → Type 0) → word (bit_text x) M (c ∷ b) ↔ ((x ≡ d) × M b)) → begun s t (λ os. digit_left a os L (c ∷ b)) ↔ begun (record { state = s.state; ops = s.ops ++ operation a d ∷ [] }) t (λ os. more_ops os L b)
+digit_ends : (a : Access) (d : Bool) (s t : SenseText) (L : List ℕ → Type 0) (c : ℕ) (b : List ℕ)
+    → ((x : Bool) (M : List ℕ → Type 0) → word (bit_text x) M (c ∷ b) ↔ ((x ≡ d) × M b))
+    → begun s t (λ os. digit_left a os L (c ∷ b)) ↔ begun (record { state = s.state; ops = s.ops ++ operation a d ∷ [] }) t (λ os. more_ops os L b)
 digit_ends a d s t L c b f = (λ h. (h.0, g.0 h.1), λ h. (h.0, g.1 h.1))
   where
-    each : (os : List Op) → digit_left a os L (c ∷ b) ↔ Headed (operation a d) (λ m. more_ops m L b) os
+    each : (os : List Operation) → digit_left a os L (c ∷ b) ↔ Headed (operation a d) (λ m. more_ops m L b) os
     each [] = same
-    each (o ∷ os) = (λ h. (op_is o a d h.0 ((f o.bit (more_ops os L)).0 h.1).0, ((f o.bit (more_ops os L)).0 h.1).1), λ h. (ap (λ (x : Op). x.access) h.0, (f o.bit (more_ops os L)).1 (ap (λ (x : Op). x.bit) h.0, h.1)))
+    each (o ∷ os) = after_digit a d o (more_ops os L) c b f
 
     g : Grows s.ops t.ops (λ os. digit_left a os L (c ∷ b)) ↔ Grows (s.ops ++ operation a d ∷ []) t.ops (λ os. more_ops os L b)
     g = grows_one s.ops t.ops (operation a d) (λ os. digit_left a os L (c ∷ b)) (λ os. more_ops os L b) each
 
-no_digit : (a : Access) (os : List Op) (L : List ℕ → Type 0) (c : ℕ) (b : List ℕ) → (c == 48) ≡ false → (c == 49) ≡ false → digit_left a os L (c ∷ b) → ⊥
+no_digit : (a : Access) (os : List Operation) (L : List ℕ → Type 0) (c : ℕ) (b : List ℕ) → (c == 48) ≡ false → (c == 49) ≡ false → digit_left a os L (c ∷ b) → ⊥
 no_digit a [] L c b e f h = h
-no_digit a (o ∷ os) L c b e f h = no_bit o.bit (more_ops os L) c b e f h.1
+no_digit a (o ∷ os) L c b e f h = no_digit_here a o (more_ops os L) c b e f h
 
 -- a blank behind a state or an operation
-more_blank : (os : List Op) (L : List ℕ → Type 0) (c : ℕ) (b : List ℕ) → is_blank c ≡ true → (c == 119) ≡ false → (c == 114) ≡ false → (L (c ∷ b) ↔ L b) → more_ops os L (c ∷ b) ↔ more_ops os L b
-more_blank [] L c b w e f k = k
-more_blank (o ∷ os) L c b w e f k = also (skip (no_access o.access (word (bit_text o.bit) (more_ops os L)) c b e f)) (subst (λ q. when q (many is_blank (op o (more_ops os L)) b) ↔ many is_blank (op o (more_ops os L)) b) (sym w) same)
+more_blank : (os : List Operation) (L : List ℕ → Type 0) (c : ℕ) (b : List ℕ) → is_blank c ≡ true → (c == 119) ≡ false → (c == 114) ≡ false → (c == 116) ≡ false
+    → (L (c ∷ b) ↔ L b) → more_ops os L (c ∷ b) ↔ more_ops os L b
+more_blank [] L c b w e f g k = k
+more_blank (o ∷ os) L c b w e f g k =
+    also (skip (no_op o (more_ops os L) c b e f g))
+    (subst (λ q. when q (many is_blank (op o (more_ops os L)) b) ↔ many is_blank (op o (more_ops os L)) b) (sym w) same)
 
 -- what nothing behind a sense begins with
-no_more : (os : List Op) (L : List ℕ → Type 0) (c : ℕ) (b : List ℕ) → is_blank c ≡ false → (c == 119) ≡ false → (c == 114) ≡ false → (L (c ∷ b) → ⊥) → more_ops os L (c ∷ b) → ⊥
-no_more [] L c b w e f k h = k h
-no_more (o ∷ os) L c b w e f k h = neither (no_access o.access (word (bit_text o.bit) (more_ops os L)) c b e f) (λ z. let q : when false (many is_blank (op o (more_ops os L)) b) = subst (λ q. when q (many is_blank (op o (more_ops os L)) b)) w z in q) h
+no_more : (os : List Operation) (L : List ℕ → Type 0) (c : ℕ) (b : List ℕ) → is_blank c ≡ false → (c == 119) ≡ false → (c == 114) ≡ false → (c == 116) ≡ false
+    → (L (c ∷ b) → ⊥) → more_ops os L (c ∷ b) → ⊥
+no_more [] L c b w e f g k h = k h
+no_more (o ∷ os) L c b w e f g k h = neither (no_op o (more_ops os L) c b e f g) (no_blanks (op o (more_ops os L)) c b w) h
 
 -- ---- marks
 
@@ -212,20 +272,6 @@ mark_blank m X c b w e = go (c == m) (is_blank c) e w
     go false false e w = absurd (differ w)
       where
         differ : (let t : Bool = false in t ≡ true) → ⊥
-        differ e = cc
-
-mark_never : (m : ℕ) (X : List ℕ → Type 0) (c : ℕ) (b : List ℕ) → is_blank c ≡ false → (c == m) ≡ false → ws (word (m ∷ []) X) (c ∷ b) → ⊥
-mark_never m X c b w e h = go (c == m) (is_blank c) e w h
-  where
-    go : (t u : Bool) → t ≡ false → u ≡ false → (when t (X b) ⊎ when u (many is_blank (word (m ∷ []) X) b)) → ⊥
-    go false false e w h = neither (λ z. z) (λ z. z) h
-    go true u e w h = absurd (differ e)
-      where
-        differ : (let t : Bool = true in t ≡ false) → ⊥
-        differ e = cc
-    go false true e w h = absurd (differ w)
-      where
-        differ : (let t : Bool = true in t ≡ false) → ⊥
         differ e = cc
 
 -- ---- behind a sense
@@ -253,30 +299,32 @@ outside_known l g P f h v z = no_prim (λ p. the_sense g p (ws (ending l)) P) (�
     each None p z = first p.agg p z
     each (Some a) p z = f p.vic p z.1
 
-begun_iff : (s t : SenseText) (P Q : List Op → Type 0) → ((os : List Op) → P os ↔ Q os) → begun s t P ↔ begun s t Q
+begun_iff : (s t : SenseText) (P Q : List Operation → Type 0) → ((os : List Operation) → P os ↔ Q os) → begun s t P ↔ begun s t Q
 begun_iff s t P Q f = (λ h. (h.0, (grows_iff s.ops t.ops P Q f).0 h.1), λ h. (h.0, (grows_iff s.ops t.ops P Q f).1 h.1))
 
-no_begun : (s t : SenseText) (P : List Op → Type 0) → ((os : List Op) → P os → ⊥) → begun s t P → ⊥
+no_begun : (s t : SenseText) (P : List Operation → Type 0) → ((os : List Operation) → P os → ⊥) → begun s t P → ⊥
 no_begun s t P f h = grows_never s.ops t.ops P f h.1
 
 -- a byte that ends a sense
-sense_ends : (s t : SenseText) (L : List ℕ → Type 0) (c : ℕ) (b : List ℕ) (Y : Type 0) → is_blank c ≡ false → (c == 119) ≡ false → (c == 114) ≡ false → (L (c ∷ b) ↔ Y) → begun s t (λ os. more_ops os L (c ∷ b)) ↔ ((t ≡ s) × Y)
-sense_ends s t L c b Y w e f k = (λ h. forth h.0 h.1.0 h.1.1 h.1.2, λ h. (ap (λ (x : SenseText). x.state) h.0, ([], ap (λ (x : SenseText). x.ops) h.0 ∙ sym (append-nil s.ops), k.1 h.1)))
+sense_ends : (s t : SenseText) (L : List ℕ → Type 0) (c : ℕ) (b : List ℕ) (Y : Type 0)
+    → is_blank c ≡ false → (c == 119) ≡ false → (c == 114) ≡ false → (c == 116) ≡ false → (L (c ∷ b) ↔ Y)
+    → begun s t (λ os. more_ops os L (c ∷ b)) ↔ ((t ≡ s) × Y)
+sense_ends s t L c b Y w e f g k = (λ h. forth h.0 h.1.0 h.1.1 h.1.2, λ h. (ap (λ (x : SenseText). x.state) h.0, ([], ap (λ (x : SenseText). x.ops) h.0 ∙ sym (append-nil s.ops), k.1 h.1)))
   where
-    forth : t.state ≡ s.state → (m : List Op) → t.ops ≡ s.ops ++ m → more_ops m L (c ∷ b) → (t ≡ s) × Y
+    forth : t.state ≡ s.state → (m : List Operation) → t.ops ≡ s.ops ++ m → more_ops m L (c ∷ b) → (t ≡ s) × Y
     forth x [] y z = (sense_is t s x (y ∙ append-nil s.ops), k.0 z)
-    forth x (o ∷ os) y z = absurd (neither (no_access o.access (word (bit_text o.bit) (more_ops os L)) c b e f) (λ z. let q : when false (many is_blank (op o (more_ops os L)) b) = subst (λ q. when q (many is_blank (op o (more_ops os L)) b)) w z in q) z)
+    forth x (o ∷ os) y z = absurd (neither (no_op o (more_ops os L) c b e f g) (no_blanks (op o (more_ops os L)) c b w) z)
 
 -- the slash behind the senses
 slash : (l : Bool) (g : Option SenseText) (s : SenseText) (b : List ℕ) (v : Option Item) → in_prim (λ p. the_sense g p (ws (ending l)) (λ t L. begun s t (λ os. more_ops os L (47 ∷ b)))) v ↔ in_prim (λ p. (p.agg ≡ g) × (p.vic ≡ s) × effect_left p (ws (ending l)) b) v
 slash l g s b v = prim_iff (λ p. the_sense g p (ws (ending l)) (λ t L. begun s t (λ os. more_ops os L (47 ∷ b)))) (λ p. (p.agg ≡ g) × (p.vic ≡ s) × effect_left p (ws (ending l)) b) (λ p. each g p) v
   where
     victim : (p : PrimParts) → begun s p.vic (λ os. more_ops os (effect p (ws (ending l))) (47 ∷ b)) ↔ ((p.vic ≡ s) × effect_left p (ws (ending l)) b)
-    victim p = sense_ends s p.vic (effect p (ws (ending l))) 47 b (effect_left p (ws (ending l)) b) refl refl refl (stay (λ z. z))
+    victim p = sense_ends s p.vic (effect p (ws (ending l))) 47 b (effect_left p (ws (ending l)) b) refl refl refl refl (stay (λ z. z))
 
     first : (a : Option SenseText) (p : PrimParts) → first_sense a p (ws (ending l)) (λ t L. begun s t (λ os. more_ops os L (47 ∷ b))) ↔ ((a ≡ None) × (p.vic ≡ s) × effect_left p (ws (ending l)) b)
     first None p = (λ h. let k : (p.vic ≡ s) × effect_left p (ws (ending l)) b = (victim p).0 h in (refl, k.0, k.1), λ h. (victim p).1 (h.1, h.2))
-    first (Some a) p = never (no_begun s a (λ os. more_ops os (victim_left p (ws (ending l))) (47 ∷ b)) (λ os. no_more os (victim_left p (ws (ending l))) 47 b refl refl refl (neither (λ z. z) (λ z. z)))) (λ h. let e : Some a ≡ None = h.0 in cc)
+    first (Some a) p = never (no_begun s a (λ os. more_ops os (victim_left p (ws (ending l))) (47 ∷ b)) (λ os. no_more os (victim_left p (ws (ending l))) 47 b refl refl refl refl (neither (λ z. z) (λ z. z)))) (λ h. let e : Some a ≡ None = h.0 in cc)
 
     each : (g : Option SenseText) (p : PrimParts) → the_sense g p (ws (ending l)) (λ t L. begun s t (λ os. more_ops os L (47 ∷ b))) ↔ ((p.agg ≡ g) × (p.vic ≡ s) × effect_left p (ws (ending l)) b)
     each None p = first p.agg p
@@ -287,37 +335,100 @@ some_is a c e = cc
 
 -- the semicolon behind the aggressor's sense
 semicolon : (l : Bool) (g : Option SenseText) (s : State) (b : List ℕ) (v : Option Item) → in_prim (λ p. the_sense g p (ws (ending l)) (λ t L. begun s.sense t (λ os. more_ops os L (59 ∷ b)))) v ↔ Holds (option_map (moved s) (if not (is_some g) && true then to Opened Parts else None)) (λ t. rest l t b v)
-semicolon l (Some a) s b v = never (no_prim (λ p. the_sense (Some a) p (ws (ending l)) (λ t L. begun s.sense t (λ os. more_ops os L (59 ∷ b)))) (λ p h. no_begun s.sense p.vic (λ os. more_ops os (effect p (ws (ending l))) (59 ∷ b)) (λ os. no_more os (effect p (ws (ending l))) 59 b refl refl refl (neither (λ z. z) (λ z. z))) h.1) v) (λ h. h)
+semicolon l (Some a) s b v = never (no_prim (λ p. the_sense (Some a) p (ws (ending l)) (λ t L. begun s.sense t (λ os. more_ops os L (59 ∷ b)))) (λ p h. no_begun s.sense p.vic (λ os. more_ops os (effect p (ws (ending l))) (59 ∷ b)) (λ os. no_more os (effect p (ws (ending l))) 59 b refl refl refl refl (neither (λ z. z) (λ z. z))) h.1) v) (λ h. h)
 semicolon l None s b v = prim_iff (λ p. the_sense None p (ws (ending l)) (λ t L. begun s.sense t (λ os. more_ops os L (59 ∷ b)))) (λ p. (p.agg ≡ Some s.sense) × ws (sense p.vic (effect p (ws (ending l)))) b) (λ p. first p.agg p) v
   where
     first : (a : Option SenseText) (p : PrimParts) → first_sense a p (ws (ending l)) (λ t L. begun s.sense t (λ os. more_ops os L (59 ∷ b))) ↔ ((a ≡ Some s.sense) × ws (sense p.vic (effect p (ws (ending l)))) b)
-    first None p = never (no_begun s.sense p.vic (λ os. more_ops os (effect p (ws (ending l))) (59 ∷ b)) (λ os. no_more os (effect p (ws (ending l))) 59 b refl refl refl (neither (λ z. z) (λ z. z)))) (λ h. let e : None ≡ Some s.sense = h.0 in cc)
-    first (Some a) p = also (sense_ends s.sense a (victim_left p (ws (ending l))) 59 b (ws (sense p.vic (effect p (ws (ending l)))) b) refl refl refl (stay (λ z. z))) (λ h. (ap (λ x. Some x) h.0, h.1), λ h. (some_is a s.sense h.0, h.1))
+    first None p = never (no_begun s.sense p.vic (λ os. more_ops os (effect p (ws (ending l))) (59 ∷ b)) (λ os. no_more os (effect p (ws (ending l))) 59 b refl refl refl refl (neither (λ z. z) (λ z. z)))) (λ h. let e : None ≡ Some s.sense = h.0 in cc)
+    first (Some a) p = also (sense_ends s.sense a (victim_left p (ws (ending l))) 59 b (ws (sense p.vic (effect p (ws (ending l)))) b) refl refl refl refl (stay (λ z. z))) (λ h. (ap (λ x. Some x) h.0, h.1), λ h. (some_is a s.sense h.0, h.1))
+
+-- what may follow the sense, where it goes on so behind a byte
+abbrev Goes : Bool → State → List ℕ → Option Item → ℕ → (SenseText → (List ℕ → Type 0) → Type 0) → Type 0
+Goes l s b v d Q =
+    in_prim (λ p. the_sense s.agg p (ws (ending l)) (λ t L. begun s.sense t (λ os. more_ops os L (d ∷ b)))) v
+    ↔ in_prim (λ p. the_sense s.agg p (ws (ending l)) Q) v
 
 goes_sensed : (l : Bool) (s : State) (c : ℕ) (b : List ℕ) (v : Option Item) → Law l Sensed s b v c
-goes_sensed l s c b v = at_byte P c 32 (within_known l s.agg (λ t L. begun s.sense t (λ os. more_ops os L (32 ∷ b))) (λ t L. begun s.sense t (λ os. more_ops os L b)) (λ t p. begun_iff s.sense t (λ os. more_ops os (effect p (ws (ending l))) (32 ∷ b)) (λ os. more_ops os (effect p (ws (ending l))) b) (λ os. more_blank os (effect p (ws (ending l))) 32 b refl refl refl (skip (λ z. z)))) (λ t p. begun_iff s.sense t (λ os. more_ops os (victim_left p (ws (ending l))) (32 ∷ b)) (λ os. more_ops os (victim_left p (ws (ending l))) b) (λ os. more_blank os (victim_left p (ws (ending l))) 32 b refl refl refl (skip (λ z. z)))) v) (λ n32. at_byte P c 9 (within_known l s.agg (λ t L. begun s.sense t (λ os. more_ops os L (9 ∷ b))) (λ t L. begun s.sense t (λ os. more_ops os L b)) (λ t p. begun_iff s.sense t (λ os. more_ops os (effect p (ws (ending l))) (9 ∷ b)) (λ os. more_ops os (effect p (ws (ending l))) b) (λ os. more_blank os (effect p (ws (ending l))) 9 b refl refl refl (skip (λ z. z)))) (λ t p. begun_iff s.sense t (λ os. more_ops os (victim_left p (ws (ending l))) (9 ∷ b)) (λ os. more_ops os (victim_left p (ws (ending l))) b) (λ os. more_blank os (victim_left p (ws (ending l))) 9 b refl refl refl (skip (λ z. z)))) v) (λ n9. at_byte P c 13 (within_known l s.agg (λ t L. begun s.sense t (λ os. more_ops os L (13 ∷ b))) (λ t L. begun s.sense t (λ os. more_ops os L b)) (λ t p. begun_iff s.sense t (λ os. more_ops os (effect p (ws (ending l))) (13 ∷ b)) (λ os. more_ops os (effect p (ws (ending l))) b) (λ os. more_blank os (effect p (ws (ending l))) 13 b refl refl refl (skip (λ z. z)))) (λ t p. begun_iff s.sense t (λ os. more_ops os (victim_left p (ws (ending l))) (13 ∷ b)) (λ os. more_ops os (victim_left p (ws (ending l))) b) (λ os. more_blank os (victim_left p (ws (ending l))) 13 b refl refl refl (skip (λ z. z)))) v) (λ n13. at_byte P c 119 (within_known l s.agg (λ t L. begun s.sense t (λ os. more_ops os L (119 ∷ b))) (λ t L. begun s.sense t (λ os. digit_left Write os L b)) (λ t p. letter Write s.sense t (effect p (ws (ending l))) 119 b (λ x M. access_119 x M b) refl (neither (λ z. z) (λ z. z))) (λ t p. letter Write s.sense t (victim_left p (ws (ending l))) 119 b (λ x M. access_119 x M b) refl (neither (λ z. z) (λ z. z))) v) (λ n119. at_byte P c 114 (within_known l s.agg (λ t L. begun s.sense t (λ os. more_ops os L (114 ∷ b))) (λ t L. begun s.sense t (λ os. digit_left Read os L b)) (λ t p. letter Read s.sense t (effect p (ws (ending l))) 114 b (λ x M. access_114 x M b) refl (neither (λ z. z) (λ z. z))) (λ t p. letter Read s.sense t (victim_left p (ws (ending l))) 114 b (λ x M. access_114 x M b) refl (neither (λ z. z) (λ z. z))) v) (λ n114. at_byte P c 47 (slash l s.agg s.sense b v) (λ n47. at_byte P c 59 (semicolon l s.agg s b v) (λ n59. simp (n32, n9, n13, n119, n114, n47, n59) (never (outside_known l s.agg (λ t L. begun s.sense t (λ os. more_ops os L (c ∷ b))) (λ t p. no_begun s.sense t (λ os. more_ops os (effect p (ws (ending l))) (c ∷ b)) (λ os. no_more os (effect p (ws (ending l))) c b (simp (n32, n9, n13) refl) n119 n114 (simp (n32, n9, n13, n47) (neither (λ z. z) (λ z. z))))) (λ t p. no_begun s.sense t (λ os. more_ops os (victim_left p (ws (ending l))) (c ∷ b)) (λ os. no_more os (victim_left p (ws (ending l))) c b (simp (n32, n9, n13) refl) n119 n114 (simp (n32, n9, n13, n59) (neither (λ z. z) (λ z. z))))) v) (no_mark (is_some s.agg))))))))))
+goes_sensed l s c b v =
+    at_byte P c 32 (blank 32 (λ os L. more_blank os L 32 b refl refl refl refl) (λ p. skip (λ z. z)) (λ p. skip (λ z. z))) (λ n32.
+    at_byte P c 9 (blank 9 (λ os L. more_blank os L 9 b refl refl refl refl) (λ p. skip (λ z. z)) (λ p. skip (λ z. z))) (λ n9.
+    at_byte P c 13 (blank 13 (λ os L. more_blank os L 13 b refl refl refl refl) (λ p. skip (λ z. z)) (λ p. skip (λ z. z))) (λ n13.
+    at_byte P c 119 (lettered Writes 119 (λ o M. op_119 o M b) refl (λ p. neither (λ z. z) (λ z. z)) (λ p. neither (λ z. z) (λ z. z))) (λ n119.
+    at_byte P c 114 (lettered Reads 114 (λ o M. op_114 o M b) refl (λ p. neither (λ z. z) (λ z. z)) (λ p. neither (λ z. z) (λ z. z))) (λ n114.
+    at_byte P c 116 paused (λ n116.
+    at_byte P c 47 (slash l s.agg s.sense b v) (λ n47.
+    at_byte P c 59 (semicolon l s.agg s b v) (λ n59.
+    simp (n32, n9, n13, n119, n114, n116, n47, n59)
+    (never
+      (outside_known l s.agg (λ t L. begun s.sense t (λ os. more_ops os L (c ∷ b)))
+        (λ t p. nothing t (effect p (ws (ending l))) (simp (n32, n9, n13) refl) n119 n114 n116 (simp (n32, n9, n13, n47) (neither (λ z. z) (λ z. z))))
+        (λ t p. nothing t (victim_left p (ws (ending l))) (simp (n32, n9, n13) refl) n119 n114 n116 (simp (n32, n9, n13, n59) (neither (λ z. z) (λ z. z))))
+        v)
+      (no_mark (is_some s.agg)))))))))))
   where
     P : ℕ → Type 0
     P x = Law l Sensed s b v x
+
+    blank : (d : ℕ) → ((os : List Operation) (L : List ℕ → Type 0) → (L (d ∷ b) ↔ L b) → more_ops os L (d ∷ b) ↔ more_ops os L b)
+        → ((p : PrimParts) → effect p (ws (ending l)) (d ∷ b) ↔ effect p (ws (ending l)) b)
+        → ((p : PrimParts) → victim_left p (ws (ending l)) (d ∷ b) ↔ victim_left p (ws (ending l)) b)
+        → Goes l s b v d (λ t L. begun s.sense t (λ os. more_ops os L b))
+    blank d f g h =
+        within_known l s.agg (λ t L. begun s.sense t (λ os. more_ops os L (d ∷ b))) (λ t L. begun s.sense t (λ os. more_ops os L b))
+        (λ t p. each t (effect p (ws (ending l))) (g p)) (λ t p. each t (victim_left p (ws (ending l))) (h p)) v
+      where
+        each : (t : SenseText) (L : List ℕ → Type 0) → (L (d ∷ b) ↔ L b) → begun s.sense t (λ os. more_ops os L (d ∷ b)) ↔ begun s.sense t (λ os. more_ops os L b)
+        each t L k = begun_iff s.sense t (λ os. more_ops os L (d ∷ b)) (λ os. more_ops os L b) (λ os. f os L k)
+
+    lettered : (a : Access) (d : ℕ) → ((o : Operation) (M : List ℕ → Type 0) → op o M (d ∷ b) ↔ after_letter a o M b) → is_blank d ≡ false
+        → ((p : PrimParts) → effect p (ws (ending l)) (d ∷ b) → ⊥) → ((p : PrimParts) → victim_left p (ws (ending l)) (d ∷ b) → ⊥)
+        → Goes l s b v d (λ t L. begun s.sense t (λ os. digit_left a os L b))
+    lettered a d f w g h =
+        within_known l s.agg (λ t L. begun s.sense t (λ os. more_ops os L (d ∷ b))) (λ t L. begun s.sense t (λ os. digit_left a os L b))
+        (λ t p. letter a s.sense t (effect p (ws (ending l))) d b f w (g p)) (λ t p. letter a s.sense t (victim_left p (ws (ending l))) d b f w (h p)) v
+
+    paused : Goes l s b v 116 (λ t L. begun (a_sense s.sense.state (s.sense.ops ++ Pause ∷ [])) t (λ os. more_ops os L b))
+    paused =
+        within_known l s.agg (λ t L. begun s.sense t (λ os. more_ops os L (116 ∷ b)))
+        (λ t L. begun (a_sense s.sense.state (s.sense.ops ++ Pause ∷ [])) t (λ os. more_ops os L b))
+        (λ t p. pause_letter s.sense t (effect p (ws (ending l))) b (neither (λ z. z) (λ z. z)))
+        (λ t p. pause_letter s.sense t (victim_left p (ws (ending l))) b (neither (λ z. z) (λ z. z))) v
+
+    nothing : (t : SenseText) (L : List ℕ → Type 0) → is_blank c ≡ false → (c == 119) ≡ false → (c == 114) ≡ false → (c == 116) ≡ false → (L (c ∷ b) → ⊥)
+        → begun s.sense t (λ os. more_ops os L (c ∷ b)) → ⊥
+    nothing t L w e f g n = no_begun s.sense t (λ os. more_ops os L (c ∷ b)) (λ os. no_more os L c b w e f g n)
 
     no_mark : (t : Bool) → Holds (option_map (moved s) (if not t && false then to Opened Parts else None)) (λ t. rest l t b v) → ⊥
     no_mark true h = h
     no_mark false h = h
 
 goes_digit : (l : Bool) (a : Access) (s : State) (c : ℕ) (b : List ℕ) (v : Option Item) → Law l (Digit a) s b v c
-goes_digit l a s c b v = at_byte P c 48 (within l s.agg (λ t L. begun s.sense t (λ os. digit_left a os L (48 ∷ b))) (λ t L. begun (a_sense s.sense.state (s.sense.ops ++ operation a false ∷ [])) t (λ os. more_ops os L b)) (λ t L. digit_ends a false s.sense t L 48 b (λ x M. bit_48 x M b)) v) (λ n48. at_byte P c 49 (within l s.agg (λ t L. begun s.sense t (λ os. digit_left a os L (49 ∷ b))) (λ t L. begun (a_sense s.sense.state (s.sense.ops ++ operation a true ∷ [])) t (λ os. more_ops os L b)) (λ t L. digit_ends a true s.sense t L 49 b (λ x M. bit_49 x M b)) v) (λ n49. simp (n48, n49) (never (outside l s.agg (λ t L. begun s.sense t (λ os. digit_left a os L (c ∷ b))) (λ t L. no_begun s.sense t (λ os. digit_left a os L (c ∷ b)) (λ os. no_digit a os L c b n48 n49)) v) (λ z. z))))
+goes_digit l a s c b v =
+    at_byte P c 48 (within l s.agg (λ t L. begun s.sense t (λ os. digit_left a os L (48 ∷ b))) (λ t L. begun (a_sense s.sense.state (s.sense.ops ++ operation a false ∷ [])) t (λ os. more_ops os L b)) (λ t L. digit_ends a false s.sense t L 48 b (λ x M. bit_48 x M b)) v) (λ n48.
+    at_byte P c 49 (within l s.agg (λ t L. begun s.sense t (λ os. digit_left a os L (49 ∷ b))) (λ t L. begun (a_sense s.sense.state (s.sense.ops ++ operation a true ∷ [])) t (λ os. more_ops os L b)) (λ t L. digit_ends a true s.sense t L 49 b (λ x M. bit_49 x M b)) v) (λ n49.
+    simp (n48, n49) (never (outside l s.agg (λ t L. begun s.sense t (λ os. digit_left a os L (c ∷ b))) (λ t L. no_begun s.sense t (λ os. digit_left a os L (c ∷ b)) (λ os. no_digit a os L c b n48 n49)) v) (λ z. z))))
   where
     P : ℕ → Type 0
     P x = Law l (Digit a) s b v x
 
 goes_lead : (l : Bool) (s : State) (c : ℕ) (b : List ℕ) (v : Option Item) → Law l Lead s b v c
-goes_lead l s c b v = at_byte P c 48 (within l s.agg (λ t L. lead_left t.state t.ops L (48 ∷ b)) (λ t L. begun (a_sense false (operation Read false ∷ [])) t (λ os. more_ops os L b)) (λ t L. lead_digit false t L 48 b (λ x M. bit_48 x M b)) v) (λ n48. at_byte P c 49 (within l s.agg (λ t L. lead_left t.state t.ops L (49 ∷ b)) (λ t L. begun (a_sense true (operation Read true ∷ [])) t (λ os. more_ops os L b)) (λ t L. lead_digit true t L 49 b (λ x M. bit_49 x M b)) v) (λ n49. simp (n48, n49) (never (outside l s.agg (λ t L. lead_left t.state t.ops L (c ∷ b)) (λ t L. no_lead t.state t.ops L c b n48 n49) v) (λ z. z))))
+goes_lead l s c b v =
+    at_byte P c 48 (within l s.agg (λ t L. lead_left t.state t.ops L (48 ∷ b)) (λ t L. begun (a_sense false (Read false ∷ [])) t (λ os. more_ops os L b)) (λ t L. lead_digit false t L 48 b (λ x M. bit_48 x M b)) v) (λ n48.
+    at_byte P c 49 (within l s.agg (λ t L. lead_left t.state t.ops L (49 ∷ b)) (λ t L. begun (a_sense true (Read true ∷ [])) t (λ os. more_ops os L b)) (λ t L. lead_digit true t L 49 b (λ x M. bit_49 x M b)) v) (λ n49.
+    simp (n48, n49) (never (outside l s.agg (λ t L. lead_left t.state t.ops L (c ∷ b)) (λ t L. no_lead t.state t.ops L c b n48 n49) v) (λ z. z))))
   where
     P : ℕ → Type 0
     P x = Law l Lead s b v x
 
 goes_opened : (l : Bool) (s : State) (c : ℕ) (b : List ℕ) (v : Option Item) → Law l Opened s b v c
-goes_opened l s c b v = at_byte P c 32 (within l s.agg (λ t L. ws (sense t L) (32 ∷ b)) (λ t L. ws (sense t L) b) (λ t L. skip (no_sense t L 32 b refl refl refl)) v) (λ n32. at_byte P c 9 (within l s.agg (λ t L. ws (sense t L) (9 ∷ b)) (λ t L. ws (sense t L) b) (λ t L. skip (no_sense t L 9 b refl refl refl)) v) (λ n9. at_byte P c 13 (within l s.agg (λ t L. ws (sense t L) (13 ∷ b)) (λ t L. ws (sense t L) b) (λ t L. skip (no_sense t L 13 b refl refl refl)) v) (λ n13. at_byte P c 48 (within l s.agg (λ t L. ws (sense t L) (48 ∷ b)) (λ t L. begun (a_sense false []) t (λ os. more_ops os L b)) (λ t L. also (stay (λ z. z)) (sense_48 t L b)) v) (λ n48. at_byte P c 49 (within l s.agg (λ t L. ws (sense t L) (49 ∷ b)) (λ t L. begun (a_sense true []) t (λ os. more_ops os L b)) (λ t L. also (stay (λ z. z)) (sense_49 t L b)) v) (λ n49. at_byte P c 114 (within l s.agg (λ t L. ws (sense t L) (114 ∷ b)) (λ t L. lead_left t.state t.ops L b) (λ t L. also (stay (λ z. z)) (sense_114 t L b)) v) (λ n114. simp (n32, n9, n13, n48, n49, n114) (never (outside l s.agg (λ t L. sense t L (c ∷ b) ⊎ ⊥) (λ t L. neither (no_sense t L c b n48 n49 n114) (λ z. z)) v) (λ z. z))))))))
+goes_opened l s c b v =
+    at_byte P c 32 (within l s.agg (λ t L. ws (sense t L) (32 ∷ b)) (λ t L. ws (sense t L) b) (λ t L. skip (no_sense t L 32 b refl refl refl)) v) (λ n32.
+    at_byte P c 9 (within l s.agg (λ t L. ws (sense t L) (9 ∷ b)) (λ t L. ws (sense t L) b) (λ t L. skip (no_sense t L 9 b refl refl refl)) v) (λ n9.
+    at_byte P c 13 (within l s.agg (λ t L. ws (sense t L) (13 ∷ b)) (λ t L. ws (sense t L) b) (λ t L. skip (no_sense t L 13 b refl refl refl)) v) (λ n13.
+    at_byte P c 48 (within l s.agg (λ t L. ws (sense t L) (48 ∷ b)) (λ t L. begun (a_sense false []) t (λ os. more_ops os L b)) (λ t L. also (stay (λ z. z)) (sense_48 t L b)) v) (λ n48.
+    at_byte P c 49 (within l s.agg (λ t L. ws (sense t L) (49 ∷ b)) (λ t L. begun (a_sense true []) t (λ os. more_ops os L b)) (λ t L. also (stay (λ z. z)) (sense_49 t L b)) v) (λ n49.
+    at_byte P c 114 (within l s.agg (λ t L. ws (sense t L) (114 ∷ b)) (λ t L. lead_left t.state t.ops L b) (λ t L. also (stay (λ z. z)) (sense_114 t L b)) v) (λ n114.
+    simp (n32, n9, n13, n48, n49, n114) (never (outside l s.agg (λ t L. sense t L (c ∷ b) ⊎ ⊥) (λ t L. neither (no_sense t L c b n48 n49 n114) (λ z. z)) v) (λ z. z))))))))
   where
     P : ℕ → Type 0
     P x = Law l Opened s b v x
@@ -340,19 +451,37 @@ keep_fifth : {A B C D E F : Type 0} → E ↔ F → (A × B × C × D × E) ↔ 
 keep_fifth f = (λ h. (h.0, h.1, h.2, h.3, f.0 h.4), λ h. (h.0, h.1, h.2, h.3, f.1 h.4))
 
 goes_effect : (l : Bool) (s : State) (c : ℕ) (b : List ℕ) (v : Option Item) → Law l Effect s b v c
-goes_effect l s c b v = at_byte P c 32 (prim_iff (λ p. (p.agg ≡ s.agg) × (p.vic ≡ s.sense) × effect_left p (ws (ending l)) (32 ∷ b)) (λ p. (p.agg ≡ s.agg) × (p.vic ≡ s.sense) × effect_left p (ws (ending l)) b) (λ p. keep_third (skip (no_bit p.after (ws (word (47 ∷ []) (answer_left p (ws (ending l))))) 32 b refl refl))) v) (λ n32. at_byte P c 9 (prim_iff (λ p. (p.agg ≡ s.agg) × (p.vic ≡ s.sense) × effect_left p (ws (ending l)) (9 ∷ b)) (λ p. (p.agg ≡ s.agg) × (p.vic ≡ s.sense) × effect_left p (ws (ending l)) b) (λ p. keep_third (skip (no_bit p.after (ws (word (47 ∷ []) (answer_left p (ws (ending l))))) 9 b refl refl))) v) (λ n9. at_byte P c 13 (prim_iff (λ p. (p.agg ≡ s.agg) × (p.vic ≡ s.sense) × effect_left p (ws (ending l)) (13 ∷ b)) (λ p. (p.agg ≡ s.agg) × (p.vic ≡ s.sense) × effect_left p (ws (ending l)) b) (λ p. keep_third (skip (no_bit p.after (ws (word (47 ∷ []) (answer_left p (ws (ending l))))) 13 b refl refl))) v) (λ n13. at_byte P c 48 (prim_iff (λ p. (p.agg ≡ s.agg) × (p.vic ≡ s.sense) × effect_left p (ws (ending l)) (48 ∷ b)) (λ p. (p.agg ≡ s.agg) × (p.vic ≡ s.sense) × (p.after ≡ false) × ws (word (47 ∷ []) (answer_left p (ws (ending l)))) b) (λ p. third (also (stay (λ z. z)) (bit_48 p.after (ws (word (47 ∷ []) (answer_left p (ws (ending l))))) b))) v) (λ n48. at_byte P c 49 (prim_iff (λ p. (p.agg ≡ s.agg) × (p.vic ≡ s.sense) × effect_left p (ws (ending l)) (49 ∷ b)) (λ p. (p.agg ≡ s.agg) × (p.vic ≡ s.sense) × (p.after ≡ true) × ws (word (47 ∷ []) (answer_left p (ws (ending l)))) b) (λ p. third (also (stay (λ z. z)) (bit_49 p.after (ws (word (47 ∷ []) (answer_left p (ws (ending l))))) b))) v) (λ n49. simp (n32, n9, n13, n48, n49) (never (no_prim (λ p. (p.agg ≡ s.agg) × (p.vic ≡ s.sense) × (word (bit_text p.after) (ws (word (47 ∷ []) (answer_left p (ws (ending l))))) (c ∷ b) ⊎ ⊥)) (λ p h. neither (no_bit p.after (ws (word (47 ∷ []) (answer_left p (ws (ending l))))) c b n48 n49) (λ z. z) h.2) v) (λ z. z)))))))
+goes_effect l s c b v =
+    at_byte P c 32 (prim_iff (λ p. (p.agg ≡ s.agg) × (p.vic ≡ s.sense) × effect_left p (ws (ending l)) (32 ∷ b)) (λ p. (p.agg ≡ s.agg) × (p.vic ≡ s.sense) × effect_left p (ws (ending l)) b) (λ p. keep_third (skip (no_bit p.after (ws (word (47 ∷ []) (answer_left p (ws (ending l))))) 32 b refl refl))) v) (λ n32.
+    at_byte P c 9 (prim_iff (λ p. (p.agg ≡ s.agg) × (p.vic ≡ s.sense) × effect_left p (ws (ending l)) (9 ∷ b)) (λ p. (p.agg ≡ s.agg) × (p.vic ≡ s.sense) × effect_left p (ws (ending l)) b) (λ p. keep_third (skip (no_bit p.after (ws (word (47 ∷ []) (answer_left p (ws (ending l))))) 9 b refl refl))) v) (λ n9.
+    at_byte P c 13 (prim_iff (λ p. (p.agg ≡ s.agg) × (p.vic ≡ s.sense) × effect_left p (ws (ending l)) (13 ∷ b)) (λ p. (p.agg ≡ s.agg) × (p.vic ≡ s.sense) × effect_left p (ws (ending l)) b) (λ p. keep_third (skip (no_bit p.after (ws (word (47 ∷ []) (answer_left p (ws (ending l))))) 13 b refl refl))) v) (λ n13.
+    at_byte P c 48 (prim_iff (λ p. (p.agg ≡ s.agg) × (p.vic ≡ s.sense) × effect_left p (ws (ending l)) (48 ∷ b)) (λ p. (p.agg ≡ s.agg) × (p.vic ≡ s.sense) × (p.after ≡ false) × ws (word (47 ∷ []) (answer_left p (ws (ending l)))) b) (λ p. third (also (stay (λ z. z)) (bit_48 p.after (ws (word (47 ∷ []) (answer_left p (ws (ending l))))) b))) v) (λ n48.
+    at_byte P c 49 (prim_iff (λ p. (p.agg ≡ s.agg) × (p.vic ≡ s.sense) × effect_left p (ws (ending l)) (49 ∷ b)) (λ p. (p.agg ≡ s.agg) × (p.vic ≡ s.sense) × (p.after ≡ true) × ws (word (47 ∷ []) (answer_left p (ws (ending l)))) b) (λ p. third (also (stay (λ z. z)) (bit_49 p.after (ws (word (47 ∷ []) (answer_left p (ws (ending l))))) b))) v) (λ n49.
+    simp (n32, n9, n13, n48, n49) (never (no_prim (λ p. (p.agg ≡ s.agg) × (p.vic ≡ s.sense) × (word (bit_text p.after) (ws (word (47 ∷ []) (answer_left p (ws (ending l))))) (c ∷ b) ⊎ ⊥)) (λ p h. neither (no_bit p.after (ws (word (47 ∷ []) (answer_left p (ws (ending l))))) c b n48 n49) (λ z. z) h.2) v) (λ z. z)))))))
   where
     P : ℕ → Type 0
     P x = Law l Effect s b v x
 
 goes_left : (l : Bool) (s : State) (c : ℕ) (b : List ℕ) (v : Option Item) → Law l Left s b v c
-goes_left l s c b v = at_byte P c 32 (prim_iff (λ p. (p.agg ≡ s.agg) × (p.vic ≡ s.sense) × (p.after ≡ s.after) × ws (word (47 ∷ []) (answer_left p (ws (ending l)))) (32 ∷ b)) (λ p. (p.agg ≡ s.agg) × (p.vic ≡ s.sense) × (p.after ≡ s.after) × ws (word (47 ∷ []) (answer_left p (ws (ending l)))) b) (λ p. keep_fourth (skip (λ z. z))) v) (λ n32. at_byte P c 9 (prim_iff (λ p. (p.agg ≡ s.agg) × (p.vic ≡ s.sense) × (p.after ≡ s.after) × ws (word (47 ∷ []) (answer_left p (ws (ending l)))) (9 ∷ b)) (λ p. (p.agg ≡ s.agg) × (p.vic ≡ s.sense) × (p.after ≡ s.after) × ws (word (47 ∷ []) (answer_left p (ws (ending l)))) b) (λ p. keep_fourth (skip (λ z. z))) v) (λ n9. at_byte P c 13 (prim_iff (λ p. (p.agg ≡ s.agg) × (p.vic ≡ s.sense) × (p.after ≡ s.after) × ws (word (47 ∷ []) (answer_left p (ws (ending l)))) (13 ∷ b)) (λ p. (p.agg ≡ s.agg) × (p.vic ≡ s.sense) × (p.after ≡ s.after) × ws (word (47 ∷ []) (answer_left p (ws (ending l)))) b) (λ p. keep_fourth (skip (λ z. z))) v) (λ n13. at_byte P c 47 (prim_iff (λ p. (p.agg ≡ s.agg) × (p.vic ≡ s.sense) × (p.after ≡ s.after) × ws (word (47 ∷ []) (answer_left p (ws (ending l)))) (47 ∷ b)) (λ p. (p.agg ≡ s.agg) × (p.vic ≡ s.sense) × (p.after ≡ s.after) × answer_left p (ws (ending l)) b) (λ p. keep_fourth (stay (λ z. z))) v) (λ n47. simp (n32, n9, n13, n47) (never (no_prim (λ p. (p.agg ≡ s.agg) × (p.vic ≡ s.sense) × (p.after ≡ s.after) × (⊥ ⊎ ⊥)) (λ p h. neither (λ z. z) (λ z. z) h.3) v) (λ z. z))))))
+goes_left l s c b v =
+    at_byte P c 32 (prim_iff (λ p. (p.agg ≡ s.agg) × (p.vic ≡ s.sense) × (p.after ≡ s.after) × ws (word (47 ∷ []) (answer_left p (ws (ending l)))) (32 ∷ b)) (λ p. (p.agg ≡ s.agg) × (p.vic ≡ s.sense) × (p.after ≡ s.after) × ws (word (47 ∷ []) (answer_left p (ws (ending l)))) b) (λ p. keep_fourth (skip (λ z. z))) v) (λ n32.
+    at_byte P c 9 (prim_iff (λ p. (p.agg ≡ s.agg) × (p.vic ≡ s.sense) × (p.after ≡ s.after) × ws (word (47 ∷ []) (answer_left p (ws (ending l)))) (9 ∷ b)) (λ p. (p.agg ≡ s.agg) × (p.vic ≡ s.sense) × (p.after ≡ s.after) × ws (word (47 ∷ []) (answer_left p (ws (ending l)))) b) (λ p. keep_fourth (skip (λ z. z))) v) (λ n9.
+    at_byte P c 13 (prim_iff (λ p. (p.agg ≡ s.agg) × (p.vic ≡ s.sense) × (p.after ≡ s.after) × ws (word (47 ∷ []) (answer_left p (ws (ending l)))) (13 ∷ b)) (λ p. (p.agg ≡ s.agg) × (p.vic ≡ s.sense) × (p.after ≡ s.after) × ws (word (47 ∷ []) (answer_left p (ws (ending l)))) b) (λ p. keep_fourth (skip (λ z. z))) v) (λ n13.
+    at_byte P c 47 (prim_iff (λ p. (p.agg ≡ s.agg) × (p.vic ≡ s.sense) × (p.after ≡ s.after) × ws (word (47 ∷ []) (answer_left p (ws (ending l)))) (47 ∷ b)) (λ p. (p.agg ≡ s.agg) × (p.vic ≡ s.sense) × (p.after ≡ s.after) × answer_left p (ws (ending l)) b) (λ p. keep_fourth (stay (λ z. z))) v) (λ n47.
+    simp (n32, n9, n13, n47) (never (no_prim (λ p. (p.agg ≡ s.agg) × (p.vic ≡ s.sense) × (p.after ≡ s.after) × (⊥ ⊎ ⊥)) (λ p h. neither (λ z. z) (λ z. z) h.3) v) (λ z. z))))))
   where
     P : ℕ → Type 0
     P x = Law l Left s b v x
 
 goes_reply : (l : Bool) (s : State) (c : ℕ) (b : List ℕ) (v : Option Item) → Law l Reply s b v c
-goes_reply l s c b v = at_byte P c 32 (prim_iff (λ p. (p.agg ≡ s.agg) × (p.vic ≡ s.sense) × (p.after ≡ s.after) × answer_left p (ws (ending l)) (32 ∷ b)) (λ p. (p.agg ≡ s.agg) × (p.vic ≡ s.sense) × (p.after ≡ s.after) × answer_left p (ws (ending l)) b) (λ p. keep_fourth (skip (no_answer p.answer (ws (word (62 ∷ []) (ws (ending l)))) 32 b refl refl refl))) v) (λ n32. at_byte P c 9 (prim_iff (λ p. (p.agg ≡ s.agg) × (p.vic ≡ s.sense) × (p.after ≡ s.after) × answer_left p (ws (ending l)) (9 ∷ b)) (λ p. (p.agg ≡ s.agg) × (p.vic ≡ s.sense) × (p.after ≡ s.after) × answer_left p (ws (ending l)) b) (λ p. keep_fourth (skip (no_answer p.answer (ws (word (62 ∷ []) (ws (ending l)))) 9 b refl refl refl))) v) (λ n9. at_byte P c 13 (prim_iff (λ p. (p.agg ≡ s.agg) × (p.vic ≡ s.sense) × (p.after ≡ s.after) × answer_left p (ws (ending l)) (13 ∷ b)) (λ p. (p.agg ≡ s.agg) × (p.vic ≡ s.sense) × (p.after ≡ s.after) × answer_left p (ws (ending l)) b) (λ p. keep_fourth (skip (no_answer p.answer (ws (word (62 ∷ []) (ws (ending l)))) 13 b refl refl refl))) v) (λ n13. at_byte P c 45 (prim_iff (λ p. (p.agg ≡ s.agg) × (p.vic ≡ s.sense) × (p.after ≡ s.after) × answer_left p (ws (ending l)) (45 ∷ b)) (λ p. (p.agg ≡ s.agg) × (p.vic ≡ s.sense) × (p.after ≡ s.after) × (p.answer ≡ None) × ws (word (62 ∷ []) (ws (ending l))) b) (λ p. fourth (also (stay (λ z. z)) (answer_45 p.answer (ws (word (62 ∷ []) (ws (ending l)))) b))) v) (λ n45. at_byte P c 48 (prim_iff (λ p. (p.agg ≡ s.agg) × (p.vic ≡ s.sense) × (p.after ≡ s.after) × answer_left p (ws (ending l)) (48 ∷ b)) (λ p. (p.agg ≡ s.agg) × (p.vic ≡ s.sense) × (p.after ≡ s.after) × (p.answer ≡ Some false) × ws (word (62 ∷ []) (ws (ending l))) b) (λ p. fourth (also (stay (λ z. z)) (answer_48 p.answer (ws (word (62 ∷ []) (ws (ending l)))) b))) v) (λ n48. at_byte P c 49 (prim_iff (λ p. (p.agg ≡ s.agg) × (p.vic ≡ s.sense) × (p.after ≡ s.after) × answer_left p (ws (ending l)) (49 ∷ b)) (λ p. (p.agg ≡ s.agg) × (p.vic ≡ s.sense) × (p.after ≡ s.after) × (p.answer ≡ Some true) × ws (word (62 ∷ []) (ws (ending l))) b) (λ p. fourth (also (stay (λ z. z)) (answer_49 p.answer (ws (word (62 ∷ []) (ws (ending l)))) b))) v) (λ n49. simp (n32, n9, n13, n45, n48, n49) (never (no_prim (λ p. (p.agg ≡ s.agg) × (p.vic ≡ s.sense) × (p.after ≡ s.after) × (word (answer_text p.answer) (ws (word (62 ∷ []) (ws (ending l)))) (c ∷ b) ⊎ ⊥)) (λ p h. neither (no_answer p.answer (ws (word (62 ∷ []) (ws (ending l)))) c b n45 n48 n49) (λ z. z) h.3) v) (λ z. z))))))))
+goes_reply l s c b v =
+    at_byte P c 32 (prim_iff (λ p. (p.agg ≡ s.agg) × (p.vic ≡ s.sense) × (p.after ≡ s.after) × answer_left p (ws (ending l)) (32 ∷ b)) (λ p. (p.agg ≡ s.agg) × (p.vic ≡ s.sense) × (p.after ≡ s.after) × answer_left p (ws (ending l)) b) (λ p. keep_fourth (skip (no_answer p.answer (ws (word (62 ∷ []) (ws (ending l)))) 32 b refl refl refl))) v) (λ n32.
+    at_byte P c 9 (prim_iff (λ p. (p.agg ≡ s.agg) × (p.vic ≡ s.sense) × (p.after ≡ s.after) × answer_left p (ws (ending l)) (9 ∷ b)) (λ p. (p.agg ≡ s.agg) × (p.vic ≡ s.sense) × (p.after ≡ s.after) × answer_left p (ws (ending l)) b) (λ p. keep_fourth (skip (no_answer p.answer (ws (word (62 ∷ []) (ws (ending l)))) 9 b refl refl refl))) v) (λ n9.
+    at_byte P c 13 (prim_iff (λ p. (p.agg ≡ s.agg) × (p.vic ≡ s.sense) × (p.after ≡ s.after) × answer_left p (ws (ending l)) (13 ∷ b)) (λ p. (p.agg ≡ s.agg) × (p.vic ≡ s.sense) × (p.after ≡ s.after) × answer_left p (ws (ending l)) b) (λ p. keep_fourth (skip (no_answer p.answer (ws (word (62 ∷ []) (ws (ending l)))) 13 b refl refl refl))) v) (λ n13.
+    at_byte P c 45 (prim_iff (λ p. (p.agg ≡ s.agg) × (p.vic ≡ s.sense) × (p.after ≡ s.after) × answer_left p (ws (ending l)) (45 ∷ b)) (λ p. (p.agg ≡ s.agg) × (p.vic ≡ s.sense) × (p.after ≡ s.after) × (p.answer ≡ None) × ws (word (62 ∷ []) (ws (ending l))) b) (λ p. fourth (also (stay (λ z. z)) (answer_45 p.answer (ws (word (62 ∷ []) (ws (ending l)))) b))) v) (λ n45.
+    at_byte P c 48 (prim_iff (λ p. (p.agg ≡ s.agg) × (p.vic ≡ s.sense) × (p.after ≡ s.after) × answer_left p (ws (ending l)) (48 ∷ b)) (λ p. (p.agg ≡ s.agg) × (p.vic ≡ s.sense) × (p.after ≡ s.after) × (p.answer ≡ Some false) × ws (word (62 ∷ []) (ws (ending l))) b) (λ p. fourth (also (stay (λ z. z)) (answer_48 p.answer (ws (word (62 ∷ []) (ws (ending l)))) b))) v) (λ n48.
+    at_byte P c 49 (prim_iff (λ p. (p.agg ≡ s.agg) × (p.vic ≡ s.sense) × (p.after ≡ s.after) × answer_left p (ws (ending l)) (49 ∷ b)) (λ p. (p.agg ≡ s.agg) × (p.vic ≡ s.sense) × (p.after ≡ s.after) × (p.answer ≡ Some true) × ws (word (62 ∷ []) (ws (ending l))) b) (λ p. fourth (also (stay (λ z. z)) (answer_49 p.answer (ws (word (62 ∷ []) (ws (ending l)))) b))) v) (λ n49.
+    simp (n32, n9, n13, n45, n48, n49) (never (no_prim (λ p. (p.agg ≡ s.agg) × (p.vic ≡ s.sense) × (p.after ≡ s.after) × (word (answer_text p.answer) (ws (word (62 ∷ []) (ws (ending l)))) (c ∷ b) ⊎ ⊥)) (λ p h. neither (no_answer p.answer (ws (word (62 ∷ []) (ws (ending l)))) c b n45 n48 n49) (λ z. z) h.3) v) (λ z. z))))))))
   where
     P : ℕ → Type 0
     P x = Law l Reply s b v x
@@ -373,7 +502,12 @@ closes s X (Some (Named n)) = never (λ h. h) (λ h. let e : Some (Named n) ≡ 
 closes s X (Some (Primitive p)) = (λ h. (ap (λ x. Some (Primitive x)) (parts_same p.agg s.agg p.vic s.sense p.after s.after p.answer s.answer h.0 h.1 h.2 h.3), h.4), λ h. let e : p ≡ parts_of s = prim_is p (parts_of s) h.0 in (ap (λ (x : PrimParts). x.agg) e, ap (λ (x : PrimParts). x.vic) e, ap (λ (x : PrimParts). x.after) e, ap (λ (x : PrimParts). x.answer) e, h.1))
 
 goes_replied : (l : Bool) (s : State) (c : ℕ) (b : List ℕ) (v : Option Item) → Law l Replied s b v c
-goes_replied l s c b v = at_byte P c 32 (prim_iff (λ p. (p.agg ≡ s.agg) × (p.vic ≡ s.sense) × (p.after ≡ s.after) × (p.answer ≡ s.answer) × ws (word (62 ∷ []) (ws (ending l))) (32 ∷ b)) (λ p. (p.agg ≡ s.agg) × (p.vic ≡ s.sense) × (p.after ≡ s.after) × (p.answer ≡ s.answer) × ws (word (62 ∷ []) (ws (ending l))) b) (λ p. keep_fifth (skip (λ z. z))) v) (λ n32. at_byte P c 9 (prim_iff (λ p. (p.agg ≡ s.agg) × (p.vic ≡ s.sense) × (p.after ≡ s.after) × (p.answer ≡ s.answer) × ws (word (62 ∷ []) (ws (ending l))) (9 ∷ b)) (λ p. (p.agg ≡ s.agg) × (p.vic ≡ s.sense) × (p.after ≡ s.after) × (p.answer ≡ s.answer) × ws (word (62 ∷ []) (ws (ending l))) b) (λ p. keep_fifth (skip (λ z. z))) v) (λ n9. at_byte P c 13 (prim_iff (λ p. (p.agg ≡ s.agg) × (p.vic ≡ s.sense) × (p.after ≡ s.after) × (p.answer ≡ s.answer) × ws (word (62 ∷ []) (ws (ending l))) (13 ∷ b)) (λ p. (p.agg ≡ s.agg) × (p.vic ≡ s.sense) × (p.after ≡ s.after) × (p.answer ≡ s.answer) × ws (word (62 ∷ []) (ws (ending l))) b) (λ p. keep_fifth (skip (λ z. z))) v) (λ n13. at_byte P c 62 (also (prim_iff (λ p. (p.agg ≡ s.agg) × (p.vic ≡ s.sense) × (p.after ≡ s.after) × (p.answer ≡ s.answer) × ws (word (62 ∷ []) (ws (ending l))) (62 ∷ b)) (λ p. (p.agg ≡ s.agg) × (p.vic ≡ s.sense) × (p.after ≡ s.after) × (p.answer ≡ s.answer) × ws (ending l) b) (λ p. keep_fifth (stay (λ z. z))) v) (closes s (ws (ending l) b) v)) (λ n62. simp (n32, n9, n13, n62) (never (no_prim (λ p. (p.agg ≡ s.agg) × (p.vic ≡ s.sense) × (p.after ≡ s.after) × (p.answer ≡ s.answer) × (⊥ ⊎ ⊥)) (λ p h. neither (λ z. z) (λ z. z) h.4) v) (λ z. z))))))
+goes_replied l s c b v =
+    at_byte P c 32 (prim_iff (λ p. (p.agg ≡ s.agg) × (p.vic ≡ s.sense) × (p.after ≡ s.after) × (p.answer ≡ s.answer) × ws (word (62 ∷ []) (ws (ending l))) (32 ∷ b)) (λ p. (p.agg ≡ s.agg) × (p.vic ≡ s.sense) × (p.after ≡ s.after) × (p.answer ≡ s.answer) × ws (word (62 ∷ []) (ws (ending l))) b) (λ p. keep_fifth (skip (λ z. z))) v) (λ n32.
+    at_byte P c 9 (prim_iff (λ p. (p.agg ≡ s.agg) × (p.vic ≡ s.sense) × (p.after ≡ s.after) × (p.answer ≡ s.answer) × ws (word (62 ∷ []) (ws (ending l))) (9 ∷ b)) (λ p. (p.agg ≡ s.agg) × (p.vic ≡ s.sense) × (p.after ≡ s.after) × (p.answer ≡ s.answer) × ws (word (62 ∷ []) (ws (ending l))) b) (λ p. keep_fifth (skip (λ z. z))) v) (λ n9.
+    at_byte P c 13 (prim_iff (λ p. (p.agg ≡ s.agg) × (p.vic ≡ s.sense) × (p.after ≡ s.after) × (p.answer ≡ s.answer) × ws (word (62 ∷ []) (ws (ending l))) (13 ∷ b)) (λ p. (p.agg ≡ s.agg) × (p.vic ≡ s.sense) × (p.after ≡ s.after) × (p.answer ≡ s.answer) × ws (word (62 ∷ []) (ws (ending l))) b) (λ p. keep_fifth (skip (λ z. z))) v) (λ n13.
+    at_byte P c 62 (also (prim_iff (λ p. (p.agg ≡ s.agg) × (p.vic ≡ s.sense) × (p.after ≡ s.after) × (p.answer ≡ s.answer) × ws (word (62 ∷ []) (ws (ending l))) (62 ∷ b)) (λ p. (p.agg ≡ s.agg) × (p.vic ≡ s.sense) × (p.after ≡ s.after) × (p.answer ≡ s.answer) × ws (ending l) b) (λ p. keep_fifth (stay (λ z. z))) v) (closes s (ws (ending l) b) v)) (λ n62.
+    simp (n32, n9, n13, n62) (never (no_prim (λ p. (p.agg ≡ s.agg) × (p.vic ≡ s.sense) × (p.after ≡ s.after) × (p.answer ≡ s.answer) × (⊥ ⊎ ⊥)) (λ p h. neither (λ z. z) (λ z. z) h.4) v) (λ z. z))))))
   where
     P : ℕ → Type 0
     P x = Law l Replied s b v x
@@ -384,13 +518,22 @@ keep_second : {A B C : Type 0} → B ↔ C → (A × B) ↔ (A × C)
 keep_second f = (λ h. (h.0, f.0 h.1), λ h. (h.0, f.1 h.1))
 
 goes_closed_true : (s : State) (c : ℕ) (b : List ℕ) (v : Option Item) → Law true Closed s b v c
-goes_closed_true s c b v = at_byte P c 32 (keep_second (skip (neither (λ z. z) (λ z. z)))) (λ n32. at_byte P c 9 (keep_second (skip (neither (λ z. z) (λ z. z)))) (λ n9. at_byte P c 13 (keep_second (skip (neither (λ z. z) (λ z. z)))) (λ n13. at_byte P c 35 (keep_second (also (stay (λ z. z)) (skip (λ z. z)))) (λ n35. simp (n32, n9, n13, n35) (never (λ h. neither (neither (λ z. z) (λ z. z)) (λ z. z) h.1) (λ z. z))))))
+goes_closed_true s c b v =
+    at_byte P c 32 (keep_second (skip (neither (λ z. z) (λ z. z)))) (λ n32.
+    at_byte P c 9 (keep_second (skip (neither (λ z. z) (λ z. z)))) (λ n9.
+    at_byte P c 13 (keep_second (skip (neither (λ z. z) (λ z. z)))) (λ n13.
+    at_byte P c 35 (keep_second (also (stay (λ z. z)) (skip (λ z. z)))) (λ n35.
+    simp (n32, n9, n13, n35) (never (λ h. neither (neither (λ z. z) (λ z. z)) (λ z. z) h.1) (λ z. z))))))
   where
     P : ℕ → Type 0
     P x = Law true Closed s b v x
 
 goes_closed_false : (s : State) (c : ℕ) (b : List ℕ) (v : Option Item) → Law false Closed s b v c
-goes_closed_false s c b v = at_byte P c 32 (keep_second (skip (λ z. z))) (λ n32. at_byte P c 9 (keep_second (skip (λ z. z))) (λ n9. at_byte P c 13 (keep_second (skip (λ z. z))) (λ n13. simp (n32, n9, n13) (never (λ h. neither (λ z. z) (λ z. z) h.1) (λ z. z)))))
+goes_closed_false s c b v =
+    at_byte P c 32 (keep_second (skip (λ z. z))) (λ n32.
+    at_byte P c 9 (keep_second (skip (λ z. z))) (λ n9.
+    at_byte P c 13 (keep_second (skip (λ z. z))) (λ n13.
+    simp (n32, n9, n13) (never (λ h. neither (λ z. z) (λ z. z) h.1) (λ z. z)))))
   where
     P : ℕ → Type 0
     P x = Law false Closed s b v x
@@ -449,7 +592,13 @@ name_wants (Some (Primitive p)) c b e f = never (λ h. rw e at h) (λ h. h)
 name_wants (Some (Named n)) c b e f = name_begins n (ws line_end) (c ∷ b)
 
 goes_start_true : (s : State) (c : ℕ) (b : List ℕ) (v : Option Item) → Law true Start s b v c
-goes_start_true s c b v = at_byte P c 32 (skip (no_begin true v 32 b refl refl refl)) (λ n32. at_byte P c 9 (skip (no_begin true v 9 b refl refl refl)) (λ n9. at_byte P c 13 (skip (no_begin true v 13 b refl refl refl)) (λ n13. at_byte P c 60 (also (stay (λ z. z)) (opens true v b)) (λ n60. at_byte P c 35 (also (stay (λ z. z)) (comment v b)) (λ n35. simp (n32, n9, n13, n60, n35) (also (stay (λ z. z)) (also (name_wants v c b n60 n35) (goes_spelling true Begin s c b v))))))))
+goes_start_true s c b v =
+    at_byte P c 32 (skip (no_begin true v 32 b refl refl refl)) (λ n32.
+    at_byte P c 9 (skip (no_begin true v 9 b refl refl refl)) (λ n9.
+    at_byte P c 13 (skip (no_begin true v 13 b refl refl refl)) (λ n13.
+    at_byte P c 60 (also (stay (λ z. z)) (opens true v b)) (λ n60.
+    at_byte P c 35 (also (stay (λ z. z)) (comment v b)) (λ n35.
+    simp (n32, n9, n13, n60, n35) (also (stay (λ z. z)) (also (name_wants v c b n60 n35) (goes_spelling true Begin s c b v))))))))
   where
     P : ℕ → Type 0
     P x = Law true Start s b v x
@@ -460,7 +609,12 @@ alone (Some (Primitive p)) c b e h = rw e at h
 alone (Some (Named n)) c b e h = h
 
 goes_start_false : (s : State) (c : ℕ) (b : List ℕ) (v : Option Item) → Law false Start s b v c
-goes_start_false s c b v = at_byte P c 32 (skip (no_begin false v 32 b refl refl refl)) (λ n32. at_byte P c 9 (skip (no_begin false v 9 b refl refl refl)) (λ n9. at_byte P c 13 (skip (no_begin false v 13 b refl refl refl)) (λ n13. at_byte P c 60 (also (stay (λ z. z)) (opens false v b)) (λ n60. simp (n32, n9, n13, n60) (never (neither (alone v c b n60) (λ z. z)) (λ z. z))))))
+goes_start_false s c b v =
+    at_byte P c 32 (skip (no_begin false v 32 b refl refl refl)) (λ n32.
+    at_byte P c 9 (skip (no_begin false v 9 b refl refl refl)) (λ n9.
+    at_byte P c 13 (skip (no_begin false v 13 b refl refl refl)) (λ n13.
+    at_byte P c 60 (also (stay (λ z. z)) (opens false v b)) (λ n60.
+    simp (n32, n9, n13, n60) (never (neither (alone v c b n60) (λ z. z)) (λ z. z))))))
   where
     P : ℕ → Type 0
     P x = Law false Start s b v x
@@ -487,6 +641,11 @@ end_here : (l : Bool) → ending l []
 end_here true = inl tt
 end_here false = tt
 
+op_end : (o : Operation) (M : List ℕ → Type 0) → op o M [] → ⊥
+op_end (Write d) M z = z
+op_end (Read d) M z = z
+op_end Pause M z = z
+
 no_sense_end : (t : SenseText) (L : List ℕ → Type 0) → sense t L [] → ⊥
 no_sense_end t L h = neither (no_state t.state) (no_led_end t.ops) h
   where
@@ -494,37 +653,37 @@ no_sense_end t L h = neither (no_state t.state) (no_led_end t.ops) h
     no_state true z = z
     no_state false z = z
 
-    no_led_end : (os : List Op) → led t.state os L [] → ⊥
+    no_led_end : (os : List Operation) → led t.state os L [] → ⊥
     no_led_end [] z = z
-    no_led_end (o ∷ os) z = no_op_end o.access z.1
-      where
-        no_op_end : (a : Access) → word (access_text a) (word (bit_text o.bit) (more_ops os L)) [] → ⊥
-        no_op_end Write z = z
-        no_op_end Read z = z
+    no_led_end (o ∷ os) z = op_end o (more_ops os L) z.1
 
 no_bit_end : (d : Bool) (M : List ℕ → Type 0) → word (bit_text d) M [] → ⊥
 no_bit_end true M z = z
 no_bit_end false M z = z
 
-no_lead_end : (state : Bool) (os : List Op) (L : List ℕ → Type 0) → lead_left state os L [] → ⊥
+no_lead_end : (state : Bool) (os : List Operation) (L : List ℕ → Type 0) → lead_left state os L [] → ⊥
 no_lead_end state [] L z = z
-no_lead_end state (o ∷ os) L z = no_bit_end o.bit (more_ops os L) z.1
+no_lead_end state (o ∷ os) L z = no_bit_end state (more_ops os L) z.1
 
-no_digit_end : (a : Access) (os : List Op) (L : List ℕ → Type 0) → digit_left a os L [] → ⊥
+no_digit_end : (a : Access) (os : List Operation) (L : List ℕ → Type 0) → digit_left a os L [] → ⊥
 no_digit_end a [] L z = z
-no_digit_end a (o ∷ os) L z = no_bit_end o.bit (more_ops os L) z.1
+no_digit_end a (o ∷ os) L z = none a o z
+  where
+    none : (a : Access) (o : Operation) → after_letter a o (more_ops os L) [] → ⊥
+    none Writes (Write d) z = no_bit_end d (more_ops os L) z
+    none Writes (Read d) z = z
+    none Writes Pause z = z
+    none Reads (Write d) z = z
+    none Reads (Read d) z = no_bit_end d (more_ops os L) z
+    none Reads Pause z = z
 
 no_answer_end : (x : Option Bool) (M : List ℕ → Type 0) → word (answer_text x) M [] → ⊥
 no_answer_end None M z = z
 no_answer_end (Some d) M z = no_bit_end d M z
 
-no_more_end : (os : List Op) (L : List ℕ → Type 0) → (L [] → ⊥) → more_ops os L [] → ⊥
+no_more_end : (os : List Operation) (L : List ℕ → Type 0) → (L [] → ⊥) → more_ops os L [] → ⊥
 no_more_end [] L f z = f z
-no_more_end (o ∷ os) L f z = no_op_end o.access z
-  where
-    no_op_end : (a : Access) → word (access_text a) (word (bit_text o.bit) (more_ops os L)) [] → ⊥
-    no_op_end Write z = z
-    no_op_end Read z = z
+no_more_end (o ∷ os) L f z = op_end o (more_ops os L) z
 
 none_ends : {X : Type 0} (v : Option Item) → (X → ⊥) → X ↔ ((let o : Option (Option Item) = None in o) ≡ Some v)
 none_ends v f = never f (λ e. cc)
@@ -577,9 +736,20 @@ alive_at true Start s = ([], None, refl, inl tt)
 alive_at false Start s = (60 ∷ 48 ∷ 47 ∷ 48 ∷ 47 ∷ 45 ∷ 62 ∷ [], Some (Primitive (with_sense None (a_sense false []))), refl, inl (inl (inl (effect_on false (with_sense None (a_sense false [])) refl refl))))
 alive_at l (Spelling q) s = let a : (x : List ℕ) × (n : Name) × (are_bytes x ≡ true) × among (left q) n (ws (ending l)) x = part_alive q (ws (ending l)) [] refl (end_here l) in (a.0, Some (Named a.1), a.2, a.3)
 alive_at l Opened s = (48 ∷ 47 ∷ 48 ∷ 47 ∷ 45 ∷ 62 ∷ [], Some (Primitive (with_sense s.agg (a_sense false []))), refl, sense_on l s.agg (a_sense false []) (λ t L. ws (sense t L) (48 ∷ 47 ∷ 48 ∷ 47 ∷ 45 ∷ 62 ∷ [])) (inl (inl (effect_on l (with_sense s.agg (a_sense false [])) refl refl))))
-alive_at l Lead s = let t : SenseText = a_sense false (operation Read false ∷ []) in (48 ∷ 47 ∷ 48 ∷ 47 ∷ 45 ∷ 62 ∷ [], Some (Primitive (with_sense s.agg t)), refl, sense_on l s.agg t (λ t L. lead_left t.state t.ops L (48 ∷ 47 ∷ 48 ∷ 47 ∷ 45 ∷ 62 ∷ [])) (refl, effect_on l (with_sense s.agg t) refl refl))
+alive_at l Lead s = let t : SenseText = a_sense false (Read false ∷ []) in (48 ∷ 47 ∷ 48 ∷ 47 ∷ 45 ∷ 62 ∷ [], Some (Primitive (with_sense s.agg t)), refl, sense_on l s.agg t (λ t L. lead_left t.state t.ops L (48 ∷ 47 ∷ 48 ∷ 47 ∷ 45 ∷ 62 ∷ [])) (refl, effect_on l (with_sense s.agg t) refl refl))
 alive_at l Sensed s = (47 ∷ 48 ∷ 47 ∷ 45 ∷ 62 ∷ [], Some (Primitive (with_sense s.agg s.sense)), refl, sense_on l s.agg s.sense (λ t L. begun s.sense t (λ os. more_ops os L (47 ∷ 48 ∷ 47 ∷ 45 ∷ 62 ∷ []))) (refl, ([], sym (append-nil s.sense.ops), effect_on l (with_sense s.agg s.sense) refl refl)))
-alive_at l (Digit a) s = let t : SenseText = a_sense s.sense.state (s.sense.ops ++ operation a false ∷ []) in (48 ∷ 47 ∷ 48 ∷ 47 ∷ 45 ∷ 62 ∷ [], Some (Primitive (with_sense s.agg t)), refl, sense_on l s.agg t (λ t L. begun s.sense t (λ os. digit_left a os L (48 ∷ 47 ∷ 48 ∷ 47 ∷ 45 ∷ 62 ∷ []))) (refl, (operation a false ∷ [], refl, (refl, effect_on l (with_sense s.agg t) refl refl))))
+alive_at l (Digit a) s =
+    let t : SenseText = a_sense s.sense.state (s.sense.ops ++ operation a false ∷ []) in (
+      48 ∷ 47 ∷ 48 ∷ 47 ∷ 45 ∷ 62 ∷ [],
+      Some (Primitive (with_sense s.agg t)),
+      refl,
+      sense_on l s.agg t (λ t L. begun s.sense t (λ os. digit_left a os L (48 ∷ 47 ∷ 48 ∷ 47 ∷ 45 ∷ 62 ∷ [])))
+        (refl, (operation a false ∷ [], refl, digit_on a (effect (with_sense s.agg t) (ws (ending l))) (effect_on l (with_sense s.agg t) refl refl))),
+    )
+  where
+    digit_on : (a : Access) (L : List ℕ → Type 0) → L (47 ∷ 48 ∷ 47 ∷ 45 ∷ 62 ∷ []) → after_letter a (operation a false) L (48 ∷ 47 ∷ 48 ∷ 47 ∷ 45 ∷ 62 ∷ [])
+    digit_on Writes L h = h
+    digit_on Reads L h = h
 alive_at l Effect s = (48 ∷ 47 ∷ 45 ∷ 62 ∷ [], Some (Primitive (with_sense s.agg s.sense)), refl, (refl, refl, inl (inl (inl (inl (end_here l))))))
 alive_at l Left s = (47 ∷ 45 ∷ 62 ∷ [], Some (Primitive (some_parts s.agg s.sense s.after None)), refl, (refl, refl, refl, inl (inl (inl (end_here l)))))
 alive_at l Reply s = (45 ∷ 62 ∷ [], Some (Primitive (some_parts s.agg s.sense s.after None)), refl, (refl, refl, refl, inl (inl (end_here l))))

@@ -3,21 +3,21 @@ use Rattle.std.proofs.Common.{◌≡◌, ℕ, Bool, List, [], ◌∷◌, ◌++�
 use Rattle.bist_text.specs.Grammar.{finish, word, is_blank}
 use Rattle.bist_text.proofs.Pieces.{many_none, word_on}
 use Rattle.fault_core.specs.declared.primitive.Act.{Act}
-use Rattle.fault_core.specs.declared.primitive.Act.TheVariants.{Write as Writes, Read as Reads}
+use Rattle.fault_core.specs.declared.primitive.Act.TheVariants.{Write as Writes, Read as Reads, Pause as Pauses}
 use Rattle.fault_core.specs.declared.primitive.Sense.{Sense}
 use Rattle.fault_core.specs.Primitive.{Primitive}
-use Rattle.fault_syntax.specs.declared.place.Access.TheVariants.{Write, Read}
-use Rattle.fault_syntax.specs.declared.place.Op.{Op}
+use Rattle.fault_syntax.specs.declared.words.Operation.{Operation}
+use Rattle.fault_syntax.specs.declared.words.Operation.TheVariants.{Write, Read, Pause}
 use Rattle.fault_syntax.specs.Parts.{AreAct, IsAggressor, StandsFor}
-use Rattle.fault_syntax.specs.Places.{operation}
 use Rattle.fault_syntax.specs.Printed.{act_text, sense_text, aggressor_text, printed}
 use Rattle.fault_syntax.specs.PrimText.{SenseText, PrimParts, ws, bit_text, answer_text, more_ops, sense, senses, effect, PrimText}
 
 -- the written parts of a primitive
-abbrev ops_of : Bool → Option Act → List Op
+abbrev ops_of : Bool → Option Act → List Operation
 ops_of state None = []
-ops_of state (Some (Writes bit)) = operation Write bit ∷ []
-ops_of state (Some Reads) = operation Read state ∷ []
+ops_of state (Some (Writes bit)) = Write bit ∷ []
+ops_of state (Some Reads) = Read state ∷ []
+ops_of state (Some Pauses) = Pause ∷ []
 
 abbrev written : Sense → SenseText
 written s = record { state = s.state; ops = ops_of s.state s.act }
@@ -34,6 +34,7 @@ act_is : (state : Bool) (a : Option Act) → AreAct state (ops_of state a) a
 act_is state None = refl
 act_is state (Some (Writes bit)) = refl
 act_is state (Some Reads) = (refl, refl)
+act_is state (Some Pauses) = refl
 
 agg_is : (a : Option Sense) → IsAggressor (written_agg a) a
 agg_is None = refl
@@ -47,6 +48,7 @@ act_on : (state : Bool) (a : Option Act) (K : List ℕ → Type 0) (r : List ℕ
 act_on state None K r h = h
 act_on state (Some (Writes bit)) K r h = inl (word_on (bit_text bit) K r h)
 act_on state (Some Reads) K r h = inl (word_on (bit_text state) K r h)
+act_on state (Some Pauses) K r h = inl h
 
 sense_on : (s : Sense) (K : List ℕ → Type 0) (r : List ℕ) → K r → sense (written s) K (sense_text s ++ r)
 sense_on s K r h = subst (sense (written s) K) (sym (append_assoc (bit_text s.state) (act_text s.state s.act) r)) (inl (word_on (bit_text s.state) (more_ops (ops_of s.state s.act) K) (act_text s.state s.act ++ r) (act_on s.state s.act K r h)))

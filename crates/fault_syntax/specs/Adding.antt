@@ -1,4 +1,4 @@
--- What a line's item adds to the primitives.
+-- For proofs and private contracts alone: what a line's item adds to the primitives.
 use Rattle.std.specs.Prelude.{◌≡◌, ◌<◌, ◌≤◌, ◌+◌, ◌⊎◌, ℕ, Option, Some, List, ◌++◌, length, Result, Ok, Err}
 use Rattle.bist_text.specs.Grammar.{IsUnexpected, IsTruncated}
 use Rattle.bist_text.specs.Lines.{TextLine}

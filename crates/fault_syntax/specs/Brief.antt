@@ -1,7 +1,7 @@
--- What a reader keeps of what it has read.
+-- For proofs and private contracts alone: what a reader keeps of what it has read.
 use Rattle.std.specs.Prelude.{Bool, true, false, Option, Some, None, List, [], ◌∷◌, Result, Ok, Err, option_map}
 use Rattle.bist_text.specs.Machine.{Outcome, read, unexpected, truncated}
-use Rattle.fault_syntax.specs.declared.place.Op.{Op}
+use Rattle.fault_syntax.specs.declared.words.Operation.{Operation}
 use Rattle.fault_syntax.specs.declared.reader.Brief.{Brief}
 use Rattle.fault_syntax.specs.declared.reader.Reader.{Reader}
 use Rattle.fault_syntax.specs.declared.reader.ReadParts.{ReadParts}
@@ -13,11 +13,11 @@ use Rattle.fault_syntax.specs.ListText.{Item, Primitive, Named}
 use Rattle.fault_syntax.specs.Places.{State}
 use Rattle.fault_syntax.specs.PrimText.{SenseText, PrimParts}
 
-abbrev pub first_of : List Op → Option Op
+abbrev pub first_of : List Operation → Option Operation
 first_of [] = None
 first_of (o ∷ os) = Some o
 
-abbrev pub has_more : List Op → Bool
+abbrev pub has_more : List Operation → Bool
 has_more [] = false
 has_more (o ∷ []) = false
 has_more (o ∷ p ∷ os) = true

@@ -2,9 +2,9 @@
 -- line's end. An item is a primitive, a class, or one of the words `one`, `two` and `all`.
 use Rattle.std.specs.Prelude.{Option, Some, None, List, ℕ, ◌⊎◌, codes}
 use Rattle.bist_text.specs.Grammar.{finish, word}
-use Rattle.fault_core.specs.declared.table.Class.TheVariants.{SF, TF, WDF, RDF, DRDF, IRF, CFst, CFds, CFtr, CFwd, CFrd, CFdr, CFir}
-use Rattle.fault_syntax.specs.declared.place.Name.{Name}
-use Rattle.fault_syntax.specs.declared.place.Name.TheVariants.{OfClass, One, Two, All}
+use Rattle.fault_core.specs.declared.table.Class.TheVariants.{SF, TF, WDF, RDF, DRDF, IRF, CFst, CFds, CFtr, CFwd, CFrd, CFdr, CFir, DRF}
+use Rattle.fault_syntax.specs.declared.words.Name.{Name}
+use Rattle.fault_syntax.specs.declared.words.Name.TheVariants.{OfClass, One, Two, All}
 use Rattle.fault_syntax.specs.PrimText.{PrimParts, ws, prim}
 
 pub data Item : Type 0 where
@@ -25,6 +25,7 @@ name_text (OfClass CFwd) = codes "CFwd"
 name_text (OfClass CFrd) = codes "CFrd"
 name_text (OfClass CFdr) = codes "CFdr"
 name_text (OfClass CFir) = codes "CFir"
+name_text (OfClass DRF) = codes "DRF"
 name_text One = codes "one"
 name_text Two = codes "two"
 name_text All = codes "all"

@@ -1,29 +1,29 @@
 -- What the parts of a primitive's text stand for, and when they are refused.
 use Rattle.std.specs.Prelude.{◌≡◌, ◌<◌, ◌≤◌, ◌+◌, ℕ, Bool, Option, Some, None, List, [], ◌∷◌, ◌++◌, length, Result, Ok, Err}
 use Rattle.fault_core.specs.declared.primitive.Act.{Act}
-use Rattle.fault_core.specs.declared.primitive.Act.TheVariants.{Write as Writes, Read as Reads}
+use Rattle.fault_core.specs.declared.primitive.Act.TheVariants.{Write as Writes, Read as Reads, Pause as Pauses}
 use Rattle.fault_core.specs.declared.primitive.Sense.{Sense}
 use Rattle.fault_core.specs.declared.primitive.PrimFault.{PrimFault}
 use Rattle.fault_core.specs.declared.primitive.PrimFault.TheVariants.{NotAFault, TooManyOperations}
 use Rattle.fault_core.specs.Primitive.{Primitive, IsPrimitive}
 use Rattle.fault_core.specs.Table.{members_of, one_cell_table, two_cell_table}
-use Rattle.fault_syntax.specs.declared.place.Access.{Access}
-use Rattle.fault_syntax.specs.declared.place.Access.TheVariants.{Write, Read}
-use Rattle.fault_syntax.specs.declared.place.Op.{Op}
-use Rattle.fault_syntax.specs.declared.place.Name.{Name}
-use Rattle.fault_syntax.specs.declared.place.Name.TheVariants.{OfClass, One, Two, All}
+use Rattle.fault_syntax.specs.declared.words.Operation.{Operation}
+use Rattle.fault_syntax.specs.declared.words.Operation.TheVariants.{Write, Read, Pause}
+use Rattle.fault_syntax.specs.declared.words.Name.{Name}
+use Rattle.fault_syntax.specs.declared.words.Name.TheVariants.{OfClass, One, Two, All}
 use Rattle.fault_syntax.specs.ListText.{Item, Primitive as OnePrimitive, Named}
 use Rattle.fault_syntax.specs.PrimText.{SenseText, PrimParts}
 
 -- a written operation is this act: a read shows the state before it
-abbrev pub IsAct : Bool → Access → Bool → Option Act → Type 0
-IsAct state Write digit act = act ≡ Some (Writes digit)
-IsAct state Read digit act = (digit ≡ state) × (act ≡ Some Reads)
+abbrev pub IsAct : Bool → Operation → Option Act → Type 0
+IsAct state (Write digit) act = act ≡ Some (Writes digit)
+IsAct state (Read digit) act = (digit ≡ state) × (act ≡ Some Reads)
+IsAct state Pause act = act ≡ Some Pauses
 
 -- the operations are no act, or this one
-abbrev pub AreAct : Bool → List Op → Option Act → Type 0
+abbrev pub AreAct : Bool → List Operation → Option Act → Type 0
 AreAct state [] act = act ≡ None
-AreAct state (o ∷ []) act = IsAct state o.access o.bit act
+AreAct state (o ∷ []) act = IsAct state o act
 AreAct state (o ∷ p ∷ os) act = ⊥
 
 -- a written sense is this one
@@ -41,7 +41,7 @@ pub record StandsFor (text : PrimParts) (p : Primitive) : Type 0 where
   pub after : p.after ≡ text.after
   pub answer : p.answer ≡ text.answer
 
-abbrev pub agg_ops : Option SenseText → List Op
+abbrev pub agg_ops : Option SenseText → List Operation
 agg_ops None = []
 agg_ops (Some text) = text.ops
 

@@ -1,13 +1,14 @@
--- What a reader of primitives and list lines does at each byte, and what may still follow where it stands.
+-- For proofs and private contracts alone: what a reader of primitives and list lines does at each byte, and what may still follow where it stands.
 use Rattle.std.specs.Prelude.{◌≡◌, ℕ, ◌&&◌, ◌==◌, Bool, true, false, not, List, [], ◌∷◌, ◌++◌, ◌⊎◌, Option, Some, None, is_some, option_map, if◌then◌else◌, map, codes}
 use Rattle.bist_text.specs.Grammar.{finish, word, is_blank}
 use Rattle.bist_text.specs.Machine.{Grows}
-use Rattle.fault_core.specs.declared.table.Class.TheVariants.{SF, TF, WDF, RDF, DRDF, IRF, CFst, CFds, CFtr, CFwd, CFrd, CFdr, CFir}
+use Rattle.fault_core.specs.declared.table.Class.TheVariants.{SF, TF, WDF, RDF, DRDF, IRF, CFst, CFds, CFtr, CFwd, CFrd, CFdr, CFir, DRF}
 use Rattle.fault_syntax.specs.declared.place.Access.{Access}
-use Rattle.fault_syntax.specs.declared.place.Access.TheVariants.{Write, Read}
-use Rattle.fault_syntax.specs.declared.place.Op.{Op}
-use Rattle.fault_syntax.specs.declared.place.Name.{Name}
-use Rattle.fault_syntax.specs.declared.place.Name.TheVariants.{OfClass, One, Two, All}
+use Rattle.fault_syntax.specs.declared.place.Access.TheVariants.{Writes, Reads}
+use Rattle.fault_syntax.specs.declared.words.Operation.{Operation}
+use Rattle.fault_syntax.specs.declared.words.Operation.TheVariants.{Write, Read, Pause}
+use Rattle.fault_syntax.specs.declared.words.Name.{Name}
+use Rattle.fault_syntax.specs.declared.words.Name.TheVariants.{OfClass, One, Two, All}
 use Rattle.fault_syntax.specs.declared.place.Part.{Part}
 use Rattle.fault_syntax.specs.declared.place.Part.TheVariants.{Begin, S, T, W, WD, R, RD, D, DR, DRD, I, IR, C, CF, CFs, CFd, CFt, CFw, CFr, CFi, LetterO, LettersOn, LetterT, LettersTw, LetterA, LettersAl}
 use Rattle.fault_syntax.specs.declared.place.Spelled.{Spelled}
@@ -25,7 +26,11 @@ use Rattle.fault_syntax.specs.PrimText.{SenseText, PrimParts, ws, bit_text, answ
 -- ---- what a reader does
 
 abbrev pub spell : Part → ℕ → Option Spelled
-spell Begin c = if c == 83 then Some (More S) else if c == 84 then Some (More T) else if c == 87 then Some (More W) else if c == 82 then Some (More R) else if c == 68 then Some (More D) else if c == 73 then Some (More I) else if c == 67 then Some (More C) else if c == 111 then Some (More LetterO) else if c == 116 then Some (More LetterT) else if c == 97 then Some (More LetterA) else None
+spell Begin c =
+    if c == 83 then Some (More S) else if c == 84 then Some (More T) else if c == 87 then Some (More W)
+    else if c == 82 then Some (More R) else if c == 68 then Some (More D) else if c == 73 then Some (More I)
+    else if c == 67 then Some (More C) else if c == 111 then Some (More LetterO)
+    else if c == 116 then Some (More LetterT) else if c == 97 then Some (More LetterA) else None
 spell S c = if c == 70 then Some (Whole (OfClass SF)) else None
 spell T c = if c == 70 then Some (Whole (OfClass TF)) else None
 spell W c = if c == 68 then Some (More WD) else None
@@ -33,12 +38,15 @@ spell WD c = if c == 70 then Some (Whole (OfClass WDF)) else None
 spell R c = if c == 68 then Some (More RD) else None
 spell RD c = if c == 70 then Some (Whole (OfClass RDF)) else None
 spell D c = if c == 82 then Some (More DR) else None
-spell DR c = if c == 68 then Some (More DRD) else None
+spell DR c = if c == 68 then Some (More DRD) else if c == 70 then Some (Whole (OfClass DRF)) else None
 spell DRD c = if c == 70 then Some (Whole (OfClass DRDF)) else None
 spell I c = if c == 82 then Some (More IR) else None
 spell IR c = if c == 70 then Some (Whole (OfClass IRF)) else None
 spell C c = if c == 70 then Some (More CF) else None
-spell CF c = if c == 115 then Some (More CFs) else if c == 100 then Some (More CFd) else if c == 116 then Some (More CFt) else if c == 119 then Some (More CFw) else if c == 114 then Some (More CFr) else if c == 105 then Some (More CFi) else None
+spell CF c =
+    if c == 115 then Some (More CFs) else if c == 100 then Some (More CFd) else if c == 116 then Some (More CFt)
+    else if c == 119 then Some (More CFw) else if c == 114 then Some (More CFr)
+    else if c == 105 then Some (More CFi) else None
 spell CFs c = if c == 116 then Some (Whole (OfClass CFst)) else None
 spell CFd c = if c == 115 then Some (Whole (OfClass CFds)) else if c == 114 then Some (Whole (OfClass CFdr)) else None
 spell CFt c = if c == 114 then Some (Whole (OfClass CFtr)) else None
@@ -64,20 +72,35 @@ spelling (Some (Whole n)) = to Closed (Names n)
 abbrev pub bit_of : ℕ → Option Bool
 bit_of c = if c == 48 then Some false else if c == 49 then Some true else None
 
-abbrev pub operation : Access → Bool → Op
-operation a d = record { access = a; bit = d }
+abbrev pub operation : Access → Bool → Operation
+operation Writes d = Write d
+operation Reads d = Read d
 
 -- what a byte does at a place: in a list's line or in a primitive's text, and with an aggressor or not yet
 abbrev pub move_at : Place → Bool → Bool → ℕ → Option Move
-move_at Start l g c = if is_blank c then to Start Quiet else if c == 60 then to Opened Opens else if l then (if c == 35 then to Comment Nothing else spelling (spell Begin c)) else None
+move_at Start l g c =
+    if is_blank c then to Start Quiet else if c == 60 then to Opened Opens
+    else if l then (if c == 35 then to Comment Nothing else spelling (spell Begin c)) else None
 move_at (Spelling q) l g c = spelling (spell q c)
-move_at Opened l g c = if is_blank c then to Opened Quiet else if c == 48 then to Sensed (Holds false) else if c == 49 then to Sensed (Holds true) else if c == 114 then to Lead Quiet else None
+move_at Opened l g c =
+    if is_blank c then to Opened Quiet else if c == 48 then to Sensed (Holds false)
+    else if c == 49 then to Sensed (Holds true) else if c == 114 then to Lead Quiet else None
 move_at Lead l g c = if c == 48 then to Sensed (Leads false) else if c == 49 then to Sensed (Leads true) else None
-move_at Sensed l g c = if is_blank c then to Sensed Quiet else if c == 119 then to (Digit Write) Quiet else if c == 114 then to (Digit Read) Quiet else if c == 47 then to Effect Quiet else if not g && (c == 59) then to Opened Parts else None
-move_at (Digit a) l g c = if c == 48 then to Sensed (Adds (operation a false)) else if c == 49 then to Sensed (Adds (operation a true)) else None
-move_at Effect l g c = if is_blank c then to Effect Quiet else if c == 48 then to Left (Leaves false) else if c == 49 then to Left (Leaves true) else None
+move_at Sensed l g c =
+    if is_blank c then to Sensed Quiet else if c == 119 then to (Digit Writes) Quiet
+    else if c == 114 then to (Digit Reads) Quiet else if c == 116 then to Sensed (Adds Pause)
+    else if c == 47 then to Effect Quiet else if not g && (c == 59) then to Opened Parts else None
+move_at (Digit a) l g c =
+    if c == 48 then to Sensed (Adds (operation a false))
+    else if c == 49 then to Sensed (Adds (operation a true)) else None
+move_at Effect l g c =
+    if is_blank c then to Effect Quiet else if c == 48 then to Left (Leaves false)
+    else if c == 49 then to Left (Leaves true) else None
 move_at Left l g c = if is_blank c then to Left Quiet else if c == 47 then to Reply Quiet else None
-move_at Reply l g c = if is_blank c then to Reply Quiet else if c == 45 then to Replied (Answers None) else if c == 48 then to Replied (Answers (Some false)) else if c == 49 then to Replied (Answers (Some true)) else None
+move_at Reply l g c =
+    if is_blank c then to Reply Quiet else if c == 45 then to Replied (Answers None)
+    else if c == 48 then to Replied (Answers (Some false))
+    else if c == 49 then to Replied (Answers (Some true)) else None
 move_at Replied l g c = if is_blank c then to Replied Quiet else if c == 62 then to Closed Closes else None
 move_at Closed l g c = if is_blank c then to Closed Quiet else if l then (if c == 35 then to Comment Quiet else None) else None
 move_at Comment l g c = to Comment Quiet
@@ -106,7 +129,7 @@ abbrev pub after_event : Event → State → State
 after_event Quiet s = s
 after_event Opens s = record s { agg = None }
 after_event (Holds d) s = record s { sense = record { state = d; ops = [] } }
-after_event (Leads d) s = record s { sense = record { state = d; ops = operation Read d ∷ [] } }
+after_event (Leads d) s = record s { sense = record { state = d; ops = Read d ∷ [] } }
 after_event (Adds o) s = record s { sense = record { state = s.sense.state; ops = s.sense.ops ++ o ∷ [] } }
 after_event Parts s = record s { agg = Some s.sense }
 after_event (Leaves d) s = record s { after = d }
@@ -146,7 +169,9 @@ value l s = if may_end s.place l then Some (item_at s.place s) else None
 -- ---- what may follow
 
 abbrev pub names : List Name
-names = OfClass SF ∷ OfClass TF ∷ OfClass WDF ∷ OfClass RDF ∷ OfClass DRDF ∷ OfClass IRF ∷ OfClass CFst ∷ OfClass CFds ∷ OfClass CFtr ∷ OfClass CFwd ∷ OfClass CFrd ∷ OfClass CFdr ∷ OfClass CFir ∷ One ∷ Two ∷ All ∷ []
+names =
+    OfClass SF ∷ OfClass TF ∷ OfClass WDF ∷ OfClass RDF ∷ OfClass DRDF ∷ OfClass IRF ∷ OfClass CFst ∷ OfClass CFds
+    ∷ OfClass CFtr ∷ OfClass CFwd ∷ OfClass CFrd ∷ OfClass CFdr ∷ OfClass CFir ∷ OfClass DRF ∷ One ∷ Two ∷ All ∷ []
 
 -- the names that may come of a part, each with its other letters
 abbrev pub left : Part → List (Name × List ℕ)
@@ -157,13 +182,18 @@ left W = (OfClass WDF, codes "DF") ∷ []
 left WD = (OfClass WDF, codes "F") ∷ []
 left R = (OfClass RDF, codes "DF") ∷ []
 left RD = (OfClass RDF, codes "F") ∷ []
-left D = (OfClass DRDF, codes "RDF") ∷ []
-left DR = (OfClass DRDF, codes "DF") ∷ []
+left D = (OfClass DRDF, codes "RDF") ∷ (OfClass DRF, codes "RF") ∷ []
+left DR = (OfClass DRDF, codes "DF") ∷ (OfClass DRF, codes "F") ∷ []
 left DRD = (OfClass DRDF, codes "F") ∷ []
 left I = (OfClass IRF, codes "RF") ∷ []
 left IR = (OfClass IRF, codes "F") ∷ []
-left C = (OfClass CFst, codes "Fst") ∷ (OfClass CFds, codes "Fds") ∷ (OfClass CFtr, codes "Ftr") ∷ (OfClass CFwd, codes "Fwd") ∷ (OfClass CFrd, codes "Frd") ∷ (OfClass CFdr, codes "Fdr") ∷ (OfClass CFir, codes "Fir") ∷ []
-left CF = (OfClass CFst, codes "st") ∷ (OfClass CFds, codes "ds") ∷ (OfClass CFtr, codes "tr") ∷ (OfClass CFwd, codes "wd") ∷ (OfClass CFrd, codes "rd") ∷ (OfClass CFdr, codes "dr") ∷ (OfClass CFir, codes "ir") ∷ []
+left C =
+    (OfClass CFst, codes "Fst") ∷ (OfClass CFds, codes "Fds") ∷ (OfClass CFtr, codes "Ftr")
+    ∷ (OfClass CFwd, codes "Fwd") ∷ (OfClass CFrd, codes "Frd") ∷ (OfClass CFdr, codes "Fdr")
+    ∷ (OfClass CFir, codes "Fir") ∷ []
+left CF =
+    (OfClass CFst, codes "st") ∷ (OfClass CFds, codes "ds") ∷ (OfClass CFtr, codes "tr") ∷ (OfClass CFwd, codes "wd")
+    ∷ (OfClass CFrd, codes "rd") ∷ (OfClass CFdr, codes "dr") ∷ (OfClass CFir, codes "ir") ∷ []
 left CFs = (OfClass CFst, codes "t") ∷ []
 left CFd = (OfClass CFds, codes "s") ∷ (OfClass CFdr, codes "r") ∷ []
 left CFt = (OfClass CFtr, codes "r") ∷ []
@@ -220,17 +250,23 @@ the_sense None p K Q = first_sense p.agg p K Q
 the_sense (Some a) p K Q = (p.agg ≡ Some a) × Q p.vic (effect p K)
 
 -- the digit of a read that begins a sense, and the other operations
-abbrev pub lead_left : Bool → List Op → (List ℕ → Type 0) → List ℕ → Type 0
+abbrev pub lead_left : Bool → List Operation → (List ℕ → Type 0) → List ℕ → Type 0
 lead_left state [] L b = ⊥
-lead_left state (o ∷ os) L b = (o ≡ operation Read state) × word (bit_text o.bit) (more_ops os L) b
+lead_left state (o ∷ os) L b = (o ≡ Read state) × word (bit_text state) (more_ops os L) b
+
+-- the digit of an operation that has this letter
+abbrev pub after_letter : Access → Operation → (List ℕ → Type 0) → List ℕ → Type 0
+after_letter Writes (Write d) K b = word (bit_text d) K b
+after_letter Reads (Read d) K b = word (bit_text d) K b
+after_letter _ _ K b = ⊥
 
 -- the digit of an operation, and the others
-abbrev pub digit_left : Access → List Op → (List ℕ → Type 0) → List ℕ → Type 0
+abbrev pub digit_left : Access → List Operation → (List ℕ → Type 0) → List ℕ → Type 0
 digit_left a [] L b = ⊥
-digit_left a (o ∷ os) L b = (o.access ≡ a) × word (bit_text o.bit) (more_ops os L) b
+digit_left a (o ∷ os) L b = after_letter a o (more_ops os L) b
 
 -- of a sense whose first operations are read
-abbrev pub begun : SenseText → SenseText → (List Op → Type 0) → Type 0
+abbrev pub begun : SenseText → SenseText → (List Operation → Type 0) → Type 0
 begun s t P = (t.state ≡ s.state) × Grows s.ops t.ops P
 
 abbrev pub answer_left : PrimParts → (List ℕ → Type 0) → List ℕ → Type 0

@@ -2,7 +2,7 @@
 --
 --     prim   = "<" ws [ sense ws ";" ws ] sense ws "/" ws bit ws "/" ws answer ws ">"
 --     sense  = bit { ws op } | read { ws op }
---     op     = "w0" | "w1" | read
+--     op     = "w0" | "w1" | read | "t"
 --     read   = "r0" | "r1"
 --     bit    = "0" | "1"
 --     answer = "-" | "0" | "1"
@@ -11,14 +11,13 @@
 -- read's digit.
 use Rattle.std.specs.Prelude.{◌≡◌, Bool, true, false, Option, Some, None, List, [], ◌∷◌, ℕ, ◌⊎◌, codes}
 use Rattle.bist_text.specs.Grammar.{finish, word, many, is_blank}
-use Rattle.fault_syntax.specs.declared.place.Access.{Access}
-use Rattle.fault_syntax.specs.declared.place.Access.TheVariants.{Write, Read}
-use Rattle.fault_syntax.specs.declared.place.Op.{Op}
+use Rattle.fault_syntax.specs.declared.words.Operation.{Operation}
+use Rattle.fault_syntax.specs.declared.words.Operation.TheVariants.{Write, Read, Pause}
 
 -- a sense: the state, and the operations on it
 pub record SenseText : Type 0 where
   pub state : Bool
-  pub ops : List Op
+  pub ops : List Operation
 
 -- the parts of a primitive: the senses of the aggressor, where there is one, and of the victim; the
 -- victim's state afterwards; the answer
@@ -36,26 +35,24 @@ abbrev pub bit_text : Bool → List ℕ
 bit_text false = codes "0"
 bit_text true = codes "1"
 
-abbrev pub access_text : Access → List ℕ
-access_text Write = codes "w"
-access_text Read = codes "r"
-
 abbrev pub answer_text : Option Bool → List ℕ
 answer_text None = codes "-"
 answer_text (Some b) = bit_text b
 
-abbrev pub op : Op → (List ℕ → Type 0) → List ℕ → Type 0
-op o K = word (access_text o.access) (word (bit_text o.bit) K)
+abbrev pub op : Operation → (List ℕ → Type 0) → List ℕ → Type 0
+op (Write bit) K = word (codes "w") (word (bit_text bit) K)
+op (Read bit) K = word (codes "r") (word (bit_text bit) K)
+op Pause K = word (codes "t") K
 
 -- { ws op }
-abbrev pub more_ops : List Op → (List ℕ → Type 0) → List ℕ → Type 0
+abbrev pub more_ops : List Operation → (List ℕ → Type 0) → List ℕ → Type 0
 more_ops [] K = K
 more_ops (o ∷ os) K = ws (op o (more_ops os K))
 
 -- a sense that begins with a read: its digit is the state
-abbrev pub led : Bool → List Op → (List ℕ → Type 0) → List ℕ → Type 0
+abbrev pub led : Bool → List Operation → (List ℕ → Type 0) → List ℕ → Type 0
 led state [] K b = ⊥
-led state (o ∷ os) K b = (o ≡ (record { access = Read; bit = state })) × op o (more_ops os K) b
+led state (o ∷ os) K b = (o ≡ Read state) × op o (more_ops os K) b
 
 abbrev pub sense : SenseText → (List ℕ → Type 0) → List ℕ → Type 0
 sense s K b = word (bit_text s.state) (more_ops s.ops K) b ⊎ led s.state s.ops K b

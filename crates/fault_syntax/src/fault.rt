@@ -5,7 +5,7 @@ pub enum FaultFault {
     Unexpected { line: usize, byte: usize },
     /// F2: the last line, which no line end ends, can be continued and isn't whole.
     Truncated { line: usize },
-    /// F3: a primitive that is none of the 48.
+    /// F3: a primitive that is none of the 50.
     NotAFault { line: usize },
     /// F4: a primitive with more than one operation in all.
     TooManyOperations { line: usize },

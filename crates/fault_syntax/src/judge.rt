@@ -5,17 +5,18 @@ ghost use Rattle.fault_syntax.specs.Brief.{brief_of, read_parts_of};
 ghost use Rattle.fault_syntax.specs.Parts.{IsAct, IsSense, IsAggressor, Judges, agg_ops, op_count};
 ghost use Rattle.fault_syntax.specs.PrimText.{SenseText, PrimParts};
 
-use crate::place::{Access, Op};
 use crate::reader::{Brief, ReadParts};
+use crate::words::Operation;
 use fault_core::{Act, Prim, PrimFault, Sense};
 
 /// The act that an operation is; None for a read of another bit than the state.
-fn act_of(state: bool, op: Op) -> Option<Act>
-    ensures { MatchOption result ((act : Option Act) → IsAct state op.access op.bit act → ⊥) (λ act. IsAct state op.access op.bit (Some act)) }
+fn act_of(state: bool, op: Operation) -> Option<Act>
+    ensures { MatchOption result ((act : Option Act) → IsAct state op act → ⊥) (λ act. IsAct state op (Some act)) }
 {
-    match op.access {
-        Access::Write => Some(Act::Write(op.bit)),
-        Access::Read => (op.bit == state).then_some(Act::Read),
+    match op {
+        Operation::Write(bit) => Some(Act::Write(bit)),
+        Operation::Read(bit) => (bit == state).then_some(Act::Read),
+        Operation::Pause => Some(Act::Pause),
     }
 }
 

@@ -8,8 +8,10 @@ mod place;
 mod prim;
 mod print;
 mod reader;
+mod words;
 
 pub use fault::FaultFault;
 pub use list::read_list;
 pub use prim::read_prim;
 pub use print::print_prim;
+pub use words::{Name, Operation};

@@ -8,9 +8,9 @@ ghost use Rattle.fault_syntax.specs.Lists.{Bring, FirstRefusal};
 ghost use Rattle.fault_syntax.specs.Parts.{primitives_of};
 
 use crate::fault::FaultFault;
-use crate::place::Name;
 use crate::prim::judge_at;
 use crate::reader::{ReadItem, Refusal, read_item};
+use crate::words::Name;
 use bist_text::{Line, Lines};
 use fault_core::{Prim, members, one_cell, two_cell};
 use std::alloc::Global;

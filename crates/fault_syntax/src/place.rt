@@ -1,30 +1,15 @@
 ghost use Rattle.std.specs.Prelude.{◌≡◌, Bool, Some, false};
 ghost use Rattle.bist_text.specs.Grammar.{is_blank};
-ghost use Rattle.fault_syntax.specs.Places.{spell, spelling, bit_of, move_at, may_end, IsOfOneCell, IsCoupling, IsWord, IsOutside, IsSense, IsEffect};
+ghost use Rattle.fault_syntax.specs.Places.{spell, spelling, bit_of, operation, move_at, may_end, IsOfOneCell, IsCoupling, IsWord, IsOutside, IsSense, IsEffect};
 
+use crate::words::{Name, Operation};
 use fault_core::Class;
 
-/// The letter of an operation.
+/// The letter of an operation that has a digit.
 #[derive(Clone, Copy)]
 pub(crate) enum Access {
-    Write,
-    Read,
-}
-
-/// An operation as it is written: a letter and a digit.
-#[derive(Clone, Copy)]
-pub(crate) struct Op {
-    pub access: Access,
-    pub bit: bool,
-}
-
-/// A word that stands for primitives.
-#[derive(Clone, Copy)]
-pub(crate) enum Name {
-    OfClass(Class),
-    One,
-    Two,
-    All,
+    Writes,
+    Reads,
 }
 
 /// The first letters of a name.
@@ -103,7 +88,7 @@ pub(crate) enum Event {
     Holds(bool),
     /// A sense begins with a read.
     Leads(bool),
-    Adds(Op),
+    Adds(Operation),
     /// The sense that was read is the aggressor's.
     Parts,
     Leaves(bool),
@@ -183,6 +168,7 @@ fn class_letter(part: Part, byte: u8) -> Option<Spelled>
         (Part::RD, b'F') => class(Class::RDF),
         (Part::D, b'R') => more(Part::DR),
         (Part::DR, b'D') => more(Part::DRD),
+        (Part::DR, b'F') => class(Class::DRF),
         (Part::DRD, b'F') => class(Class::DRDF),
         (Part::I, b'R') => more(Part::IR),
         (Part::IR, b'F') => class(Class::IRF),
@@ -267,6 +253,16 @@ fn digit(byte: u8) -> Option<bool>
     }
 }
 
+/// The operation of a letter and a digit.
+fn operation(access: Access, bit: bool) -> Operation
+    ensures { result ≡ operation access bit }
+{
+    match access {
+        Access::Writes => Operation::Write(bit),
+        Access::Reads => Operation::Read(bit),
+    }
+}
+
 fn is_space(byte: u8) -> bool
     ensures { result ≡ is_blank byte }
 {
@@ -295,8 +291,9 @@ fn next_sense(place: Place, has_aggressor: bool, byte: u8) -> Option<Move>
     match (place, byte) {
         (Place::Opened, b'r') => Move::to(Place::Lead, Event::Quiet),
         (Place::Opened, _) => Move::to(Place::Sensed, Event::Holds(digit(byte)?)),
-        (Place::Sensed, b'w') => Move::to(Place::Digit(Access::Write), Event::Quiet),
-        (Place::Sensed, b'r') => Move::to(Place::Digit(Access::Read), Event::Quiet),
+        (Place::Sensed, b'w') => Move::to(Place::Digit(Access::Writes), Event::Quiet),
+        (Place::Sensed, b'r') => Move::to(Place::Digit(Access::Reads), Event::Quiet),
+        (Place::Sensed, b't') => Move::to(Place::Sensed, Event::Adds(Operation::Pause)),
         (Place::Sensed, b'/') => Move::to(Place::Effect, Event::Quiet),
         (Place::Sensed, b';') if !has_aggressor => Move::to(Place::Opened, Event::Parts),
         _ => None,
@@ -327,8 +324,7 @@ pub(crate) fn next_move(place: Place, listed: bool, has_aggressor: bool, byte: u
         Place::Spelling(part) => next_spelling(part, byte),
         Place::Lead => Move::to(Place::Sensed, Event::Leads(digit(byte)?)),
         Place::Digit(access) => {
-            let bit = digit(byte)?;
-            Move::to(Place::Sensed, Event::Adds(Op { access, bit }))
+            Move::to(Place::Sensed, Event::Adds(operation(access, digit(byte)?)))
         }
         _ if is_space(byte) => Move::to(place, Event::Quiet),
         Place::Start | Place::Closed => next_outside(place, listed, byte),

@@ -39,6 +39,7 @@ fn push_act(out: &mut ArrayString<32>, state: bool, act: Option<Act>)
             out.push_str("r");
             out.push_str(bit(state));
         }
+        Some(Act::Pause) => out.push_str("t"),
     }
 }
 

@@ -2,15 +2,16 @@ ghost use Rattle.std.specs.Prelude.{◌≡◌, ◌++◌, ◌∷◌, [], option_m
 ghost use Rattle.bist_text.specs.Machine.{scan};
 ghost use Rattle.fault_syntax.specs.Brief.{brief_of, reader_of, read_item_of, answer_of};
 ghost use Rattle.fault_syntax.specs.PrimText.{SenseText};
-ghost use Rattle.fault_syntax.specs.Places.{State, start, step, value, after_event, item_at, operation};
+ghost use Rattle.fault_syntax.specs.Places.{State, start, step, value, after_event, item_at};
 
-use crate::place::{Access, Event, Kind, Name, Op, Place, is_end, next_move};
+use crate::place::{Event, Kind, Place, is_end, next_move};
+use crate::words::{Name, Operation};
 
 /// What is kept of a sense: of its operations the first, and whether there are more.
 #[derive(Clone, Copy)]
 pub(crate) struct Brief {
     pub state: bool,
-    pub first: Option<Op>,
+    pub first: Option<Operation>,
     pub more: bool,
 }
 
@@ -62,18 +63,17 @@ impl Brief {
 
     /// A sense that begins with a read of its state.
     fn led(state: bool) -> Brief
-        ensures { result ≡ brief_of (record { state = state; ops = operation Access.Read state ∷ [] }) }
+        ensures { result ≡ brief_of (record { state = state; ops = Operation.Read state ∷ [] }) }
     {
-        let access = Access::Read;
         Brief {
             state,
-            first: Some(Op { access, bit: state }),
+            first: Some(Operation::Read(state)),
             more: false,
         }
     }
 
     /// The same with one more operation.
-    fn with(self, op: Op) -> Brief
+    fn with(self, op: Operation) -> Brief
         ensures { (text : SenseText) → self ≡ brief_of text → result ≡ brief_of (record { state = text.state; ops = text.ops ++ op ∷ [] }) }
     {
         match self.first {
