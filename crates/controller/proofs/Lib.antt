@@ -1,0 +1,8 @@
+pub mod Turn
+pub mod Spread
+pub mod Slots
+pub mod Stages
+pub mod Steps
+pub mod Rule
+pub mod Pushed
+pub mod Mirror

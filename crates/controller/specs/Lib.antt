@@ -1,0 +1,5 @@
+pub mod Places
+pub mod Machine
+pub mod Standing
+pub mod Running
+pub mod States

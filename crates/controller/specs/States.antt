@@ -1,0 +1,69 @@
+-- The controller as contracts see it, and what it mirrors.
+use Rattle.std.specs.Prelude.{◌≡◌, ℕ, ◌+◌, ◌<◌, Bool, true, if◌then◌else◌, not, ◌&&◌, List, length}
+use Rattle.std.specs.List.{AllByRecursion}
+use Rattle.word_march.specs.PortRule.{PortValues}
+use Rattle.microcode.specs.declared.code.Instr.{Instr}
+use Rattle.microcode.specs.declared.place.Place.{Place as CodePlace}
+use Rattle.controller.specs.declared.stage.Stage.{Stage}
+use Rattle.controller.specs.declared.control.Ports.{Ports}
+use Rattle.march_core.specs.March.{MarchElement}
+use Rattle.memory_desc.specs.Descriptions.{Description}
+use Rattle.controller.specs.Places.{next_place, is_last}
+use Rattle.controller.specs.Machine.{Control}
+use Rattle.controller.specs.Standing.{Stands}
+use Rattle.microcode.specs.Running.{digits}
+use Rattle.controller.specs.Running.{IsAt, IsSomewhere}
+
+pub record State : Type 0 where
+  pub code : List Instr
+  pub memory : Description
+  pub place : CodePlace
+  pub run : Bool
+  pub stages : List Stage
+  pub reads : Bool
+  pub over : Bool
+  pub want : ℕ
+  pub bad : Bool
+
+-- the controller of the march
+abbrev pub control_of : State → Control
+control_of s = record { place = digits s.place; run = s.run; stages = s.stages; reads = s.reads; over = s.over; want = s.want; bad = s.bad }
+
+-- a stage's background is one of the memory's
+abbrev pub IsKnown : Description → Stage → Type 0
+IsKnown d s = s.back < length d.backgrounds
+
+-- a controller of the code of some march
+pub record IsControl (s : State) : Type 0 where
+  pub somewhere : IsSomewhere s.code s.memory s.place
+  pub count : length s.stages + 1 ≡ s.memory.latency
+  pub known : AllByRecursion (IsKnown s.memory) s.stages
+
+-- the place and whether the run goes on, a cycle later
+pub record IsTurned (march : List MarchElement) (code : List Instr) (d : Description) (p : CodePlace) (run : Bool) (q : CodePlace) (goes_on : Bool) : Type 0 where
+  pub there : IsAt march code d q
+  pub place : digits q ≡ (if run then next_place march d (digits p) else digits p)
+  pub run_is : goes_on ≡ (run && not (is_last march d (digits p)))
+
+-- what an instruction leaves for the comparison
+abbrev pub stage_from : Instr → Bool → ℕ → Stage
+stage_from i run back = record { reads = (run && not i.pause) && not i.write; over = not run; value = i.bit; back = back }
+
+-- the controller of a march's code and a memory stands in cycle k+1 of the run, where `returned` are the words on `rdata`, by
+-- cycle
+pub record StandsIn (march : List MarchElement) (d : Description) (s : State) (returned : ℕ → ℕ) (k : ℕ) : Type 0 where
+  pub memory : s.memory ≡ d
+  pub there : IsAt march s.code s.memory s.place
+  pub stands : Stands march s.memory returned k (control_of s)
+
+abbrev pub values : Ports → PortValues
+values p = record { en = p.en; we = p.we; addr = p.addr; wdata = p.wdata; done = p.done; fail = p.fail }
+
+-- the same outputs, as far as anyone looks
+pub record Answers (q e : PortValues) : Type 0 where
+  pub en : e.en ≡ q.en
+  pub we : q.en ≡ true → e.we ≡ q.we
+  pub addr : q.en ≡ true → e.addr ≡ q.addr
+  pub wdata : q.en ≡ true → e.wdata ≡ q.wdata
+  pub done : e.done ≡ q.done
+  pub fail : e.fail ≡ q.fail

@@ -1,0 +1,4 @@
+pub mod Rows
+pub mod Turn
+pub mod Behind
+pub mod Assembled

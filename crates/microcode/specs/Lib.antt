@@ -1,0 +1,5 @@
+pub mod Code
+pub mod Bytes
+pub mod Rows
+pub mod Places
+pub mod Running
