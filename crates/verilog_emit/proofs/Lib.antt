@@ -1,0 +1,8 @@
+pub mod Bodies
+pub mod Derivations
+pub mod Digits
+pub mod Numerals
+pub mod Pieces
+pub mod WrittenExpressions
+pub mod WrittenStatements
+pub mod WrittenModule

@@ -1,0 +1,12 @@
+use Rattle.std.proofs.Common.{List, ℕ, ◌++◌, ◌∙◌, ap, sym, subst}
+use Rattle.verilog_tree.specs.Plain.{plain_module}
+use Rattle.verilog_tree.specs.Spells.{Spells}
+use Rattle.verilog_emit.specs.Printed.{printed}
+use Rattle.verilog_emit.proofs.WrittenModule.{printed_spells}
+use Rattle.verilog_emit.proofs.emit.Goals as goal
+
+pub returns-clause-spells : goal.returns-clause-spells
+returns-clause-spells c =
+    let m = plain_module c.args.«module».now in
+    let text = c.in_ok-put_module.ensures ∙ ap (λ (out : List ℕ). out ++ printed m) c.new-out.ensures.items in
+    subst (λ (out : List ℕ). Spells out m) (sym text) (printed_spells m c.requires)

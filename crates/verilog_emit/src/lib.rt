@@ -1,0 +1,42 @@
+//! The printer of modules in a subset of Verilog, IEEE 1364-2005. `specs/Printed.antt` is the layout.
+#![tactic(auto)]
+
+ghost use Rattle.std.specs.Prelude.{◌≡◌, ◌++◌, codes, map, true, OnOk, IfOk};
+ghost use Rattle.verilog_tree.specs.Fits.{fits, items_fit};
+ghost use Rattle.verilog_tree.specs.Plain.{plain_module, plain_item, plain_port};
+ghost use Rattle.verilog_tree.specs.Spells.{Spells};
+ghost use Rattle.verilog_emit.specs.Printed.{line, items_text, ports_text, printed};
+
+use crate::items::{put_items, put_ports};
+use crate::writing::{put_line, put_name_line};
+use bist_bits::NoMemory;
+use std::alloc::Global;
+use verilog_tree::Module;
+
+mod expressions;
+mod items;
+mod statements;
+mod writing;
+
+/// Appends a module.
+fn put_module(out: &mut Vec<u8>, module: &Module) -> Result<(), NoMemory>
+    requires { fits (plain_module «module».now) ≡ true }
+    ensures { OnOk result (out.new.items ≡ out.old.items ++ printed (plain_module «module».now)) }
+{
+    put_name_line(out, 0, b"module ", &module.name, b"(")?;
+    put_ports(out, &module.ports)?;
+    put_line(out, 0, b");")?;
+    put_items(out, &module.items)?;
+    put_line(out, 0, b"endmodule")
+}
+
+/// The text of a module that fits: the bytes are its layout, and spell it.
+pub fn emit(alloc: Global, module: &Module) -> Result<Vec<u8>, NoMemory>
+    requires { fits (plain_module «module».now) ≡ true }
+    ensures form { IfOk result (λ out. out.items ≡ printed (plain_module «module».now)) }
+    ensures spells { IfOk result (λ out. Spells out.items (plain_module «module».now)) }
+{
+    let mut out = Vec::new(alloc);
+    put_module(&mut out, module)?;
+    Ok(out)
+}
