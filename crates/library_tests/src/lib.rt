@@ -15,4 +15,6 @@ mod memory_texts;
 #[cfg(test)]
 mod small_arrays;
 #[cfg(test)]
+mod verilog_emit_rows;
+#[cfg(test)]
 mod verilog_rules;
