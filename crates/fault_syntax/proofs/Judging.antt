@@ -7,7 +7,7 @@ use Rattle.fault_core.specs.declared.primitive.PrimFault.TheVariants.{NotAFault,
 use Rattle.fault_core.specs.Primitive.{Primitive, IsPrimitive, agg_has_act, refusal_of}
 use Rattle.fault_syntax.specs.declared.words.Operation.{Operation}
 use Rattle.fault_syntax.specs.declared.words.Operation.TheVariants.{Write, Read, Pause}
-use Rattle.fault_syntax.specs.Parts.{IsAct, AreAct, IsSense, IsAggressor, StandsFor, agg_ops, op_count, Refuses, Judges}
+use Rattle.fault_syntax.specs.Parts.{AreAct, IsSense, IsAggressor, StandsFor, agg_ops, op_count, Refuses, Judges}
 use Rattle.fault_syntax.specs.PrimText.{SenseText, PrimParts}
 
 -- ---- one reading
@@ -57,9 +57,6 @@ one_fault text p n h = go (agg_has_act p.agg) (is_some p.vic.act) (agg_counts te
     go false u f g = refl
 
 -- ---- what is answered
-
-pub no_victim : (text : PrimParts) → op_count text ≤ 1 → ((s : Sense) → IsSense text.vic s → ⊥) → Refuses text NotAFault
-no_victim text n f = (n, λ p h i. f p.vic h.vic)
 
 pub no_aggressor : (text : PrimParts) → op_count text ≤ 1 → ((a : Option Sense) → IsAggressor text.agg a → ⊥) → Refuses text NotAFault
 no_aggressor text n f = (n, λ p h i. f p.agg h.agg)

@@ -6,3 +6,4 @@ mod PrimReads
 mod PrintLaws
 mod ListReads
 mod ListExact
+pub mod OneOutcome

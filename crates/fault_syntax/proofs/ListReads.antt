@@ -1,18 +1,17 @@
 -- From the outcomes of the lines to what the reader of a list promises.
-use Rattle.std.proofs.Common.{◌≡◌, ℕ, ◌≤◌, true, List, [], ◌∷◌, ◌++◌, ◌∙◌, length, Option, Some, None, Result, Ok, Err, IfErr, refl, sym, ap, subst, append_assoc, append-nil, arith, inl, inr}
+use Rattle.std.proofs.Common.{◌≡◌, ℕ, ◌≤◌, true, List, [], ◌∷◌, ◌++◌, ◌∙◌, length, Option, Some, None, Result, Ok, Err, IfErr, refl, sym, ap, subst, append_assoc, append-nil, inl, inr}
 use Rattle.bist_text.specs.Grammar.{are_bytes}
 use Rattle.bist_text.specs.Lines.{TextLine}
 use Rattle.bist_text.specs.Machine.{Outcome, read, unexpected, truncated, scan, IsExact}
 use Rattle.bist_text.proofs.Exclusive.{scan_exact}
 use Rattle.fault_core.specs.Primitive.{Primitive, IsPrimitive}
 use Rattle.fault_syntax.specs.declared.fault.FaultFault.{FaultFault}
-use Rattle.fault_syntax.specs.declared.fault.FaultFault.TheVariants.{Unexpected, Truncated, NotAFault, TooManyOperations, TooManyPrimitives, NoMemory}
 use Rattle.fault_syntax.specs.declared.reader.ReadItem.{ReadItem}
 use Rattle.fault_syntax.specs.declared.reader.Refusal.{Refusal}
 use Rattle.fault_syntax.specs.Adding.{Says, HasNoRoom, Adds, NotAdded}
 use Rattle.fault_syntax.specs.Brief.{answer_of, read_item_of, read_parts_of}
 use Rattle.fault_syntax.specs.ListText.{Item, Primitive as OnePrimitive, Named, LineText}
-use Rattle.fault_syntax.specs.Lists.{Bring, IsLineFault, LineRefuses, FirstRefusal}
+use Rattle.fault_syntax.specs.Lists.{Bring}
 use Rattle.fault_syntax.specs.Parts.{StandsFor, Brings}
 use Rattle.fault_syntax.specs.declared.reader.ReadItem.TheVariants.{Primitive as ReadPrimitive}
 use Rattle.fault_syntax.specs.declared.reader.ReadParts.{ReadParts}
@@ -60,9 +59,6 @@ pub record Reading (lines left : List TextLine) (ps : List Primitive) : Type 0 w
   pub brought : Bring done ps
   pub within : length ps ≤ 1024
 
-pub reading_starts : (lines : List TextLine) → Reading lines lines []
-reading_starts lines = record { done = []; split = refl; brought = refl; within = omega arith }
-
 pub reading_on : (lines left : List TextLine) (l : TextLine) (ps new : List Primitive) (v : Option Item) → Reading lines (l ∷ left) ps → LineText l.text v → Adds v ps new → Reading lines left new
 reading_on lines left l ps new v r t a = record {
   done = r.done ++ l ∷ [];
@@ -70,28 +66,3 @@ reading_on lines left l ps new v r t a = record {
   brought = subst (Bring (r.done ++ l ∷ [])) (sym a.joined) (bring_one r.done ps l v a.more r.brought t a.brought);
   within = a.within;
 }
-
-pub reading_ends : (lines : List TextLine) (ps : List Primitive) → Reading lines [] ps → Bring lines ps
-reading_ends lines ps r = subst (λ x. Bring x ps) (sym (r.split ∙ append-nil r.done)) r.brought
-
-line_refused : (held : List Primitive) (l : TextLine) (fault : FaultFault) → IsLineFault l fault → LineRefuses held l fault
-line_refused held l (Unexpected n k) h = h
-line_refused held l (Truncated n) h = h
-line_refused held l (NotAFault n) h = h
-line_refused held l (TooManyOperations n) h = h
-line_refused held l (TooManyPrimitives n) h = absurd h
-line_refused held l NoMemory h = tt
-
-pub reading_refused : (lines left : List TextLine) (l : TextLine) (ps : List Primitive) (fault : FaultFault) → Reading lines (l ∷ left) ps → IsLineFault l fault → FirstRefusal lines fault
-reading_refused lines left l ps fault r f = record { before = r.done; line = l; after = left; held = ps; split = r.split; brought = r.brought; within = r.within; refused = line_refused ps l fault f }
-
-not_added : (held : List Primitive) (l : TextLine) (v : Option Item) (fault : FaultFault) → LineText l.text v → NotAdded v l.number held fault → LineRefuses held l fault
-not_added held l v (Unexpected n k) t h = absurd h
-not_added held l v (Truncated n) t h = absurd h
-not_added held l v (NotAFault n) t h = (h.0, subst (LineText l.text) h.1 t, h.2)
-not_added held l v (TooManyOperations n) t h = (h.0, subst (LineText l.text) h.1 t, h.2)
-not_added held l v (TooManyPrimitives n) t h = (h.0, v, h.1, t, h.2, h.3)
-not_added held l v NoMemory t h = tt
-
-pub reading_full : (lines left : List TextLine) (l : TextLine) (ps : List Primitive) (v : Option Item) (fault : FaultFault) → Reading lines (l ∷ left) ps → LineText l.text v → NotAdded v l.number ps fault → FirstRefusal lines fault
-reading_full lines left l ps v fault r t f = record { before = r.done; line = l; after = left; held = ps; split = r.split; brought = r.brought; within = r.within; refused = not_added ps l v fault t f }

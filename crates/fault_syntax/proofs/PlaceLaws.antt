@@ -360,11 +360,11 @@ goes_sensed l s c b v =
     at_byte P c 59 (semicolon l s.agg s b v) (λ n59.
     simp (n32, n9, n13, n119, n114, n116, n47, n59)
     (never
-      (outside_known l s.agg (λ t L. begun s.sense t (λ os. more_ops os L (c ∷ b)))
-        (λ t p. nothing t (effect p (ws (ending l))) (simp (n32, n9, n13) refl) n119 n114 n116 (simp (n32, n9, n13, n47) (neither (λ z. z) (λ z. z))))
-        (λ t p. nothing t (victim_left p (ws (ending l))) (simp (n32, n9, n13) refl) n119 n114 n116 (simp (n32, n9, n13, n59) (neither (λ z. z) (λ z. z))))
-        v)
-      (no_mark (is_some s.agg)))))))))))
+    (outside_known l s.agg (λ t L. begun s.sense t (λ os. more_ops os L (c ∷ b)))
+    (λ t p. nothing t (effect p (ws (ending l))) (simp (n32, n9, n13) refl) n119 n114 n116 (simp (n32, n9, n13, n47) (neither (λ z. z) (λ z. z))))
+    (λ t p. nothing t (victim_left p (ws (ending l))) (simp (n32, n9, n13) refl) n119 n114 n116 (simp (n32, n9, n13, n59) (neither (λ z. z) (λ z. z))))
+    v)
+    (no_mark (is_some s.agg)))))))))))
   where
     P : ℕ → Type 0
     P x = Law l Sensed s b v x
@@ -744,7 +744,7 @@ alive_at l (Digit a) s =
       Some (Primitive (with_sense s.agg t)),
       refl,
       sense_on l s.agg t (λ t L. begun s.sense t (λ os. digit_left a os L (48 ∷ 47 ∷ 48 ∷ 47 ∷ 45 ∷ 62 ∷ [])))
-        (refl, (operation a false ∷ [], refl, digit_on a (effect (with_sense s.agg t) (ws (ending l))) (effect_on l (with_sense s.agg t) refl refl))),
+          (refl, (operation a false ∷ [], refl, digit_on a (effect (with_sense s.agg t) (ws (ending l))) (effect_on l (with_sense s.agg t) refl refl))),
     )
   where
     digit_on : (a : Access) (L : List ℕ → Type 0) → L (47 ∷ 48 ∷ 47 ∷ 45 ∷ 62 ∷ []) → after_letter a (operation a false) L (48 ∷ 47 ∷ 48 ∷ 47 ∷ 45 ∷ 62 ∷ [])

@@ -1,5 +1,6 @@
--- Why a text is refused, and what its reader answers.
-use Rattle.std.specs.Prelude.{◌≡◌, ℕ, Option, Some, None, Result, Ok, Err}
+-- What the text of a primitive is read as: the primitive, or the first refusal.
+use Rattle.std.specs.Prelude.{◌≡◌, ℕ, List, Option, Some, None, Result, Ok, Err}
+use Rattle.bist_text.specs.Grammar.{IsUnexpected, IsTruncated}
 use Rattle.bist_text.specs.Machine.{Outcome, read, unexpected, truncated}
 use Rattle.fault_core.specs.declared.primitive.PrimFault.{PrimFault}
 use Rattle.fault_core.specs.declared.primitive.PrimFault.TheVariants.{NotAFault, TooManyOperations}
@@ -8,7 +9,7 @@ use Rattle.fault_syntax.specs.declared.fault.FaultFault.{FaultFault}
 use Rattle.fault_syntax.specs.declared.fault.FaultFault.TheVariants.{Unexpected, Truncated, NotAFault as NotAFaultAt, TooManyOperations as TooManyOperationsAt, TooManyPrimitives, NoMemory}
 use Rattle.fault_syntax.specs.ListText.{Item, Primitive as OnePrimitive, Named}
 use Rattle.fault_syntax.specs.Parts.{StandsFor, Refuses}
-use Rattle.fault_syntax.specs.PrimText.{PrimParts}
+use Rattle.fault_syntax.specs.PrimText.{PrimParts, PrimText}
 
 -- a refused primitive, with its line
 abbrev pub fault_at : ℕ → PrimFault → FaultFault
@@ -24,14 +25,25 @@ RefusesAt line text (Truncated l) = ⊥
 RefusesAt line text (TooManyPrimitives l) = ⊥
 RefusesAt line text NoMemory = ⊥
 
+-- What the bytes are read as: the primitive that their text stands for, or the first refusal, on line 1. F1 and F2 speak of
+-- bytes that are no text of the grammar, F4 and F3 of those that are one.
+abbrev pub ReadsPrim : List ℕ → Result Primitive FaultFault → Type 0
+ReadsPrim bytes (Ok p) = (text : PrimParts) × PrimText bytes text × StandsFor text p × IsPrimitive p
+ReadsPrim bytes (Err (Unexpected line byte)) = (line ≡ 1) × IsUnexpected PrimText bytes byte
+ReadsPrim bytes (Err (Truncated line)) = (line ≡ 1) × IsTruncated PrimText bytes
+ReadsPrim bytes (Err fault) = (text : PrimParts) × PrimText bytes text × RefusesAt 1 text fault
+
+-- ---- for proofs and private contracts alone
+
+-- what a text on this line is read as
 abbrev pub JudgesAt : ℕ → PrimParts → Result Primitive FaultFault → Type 0
 JudgesAt line text (Ok p) = StandsFor text p × IsPrimitive p
 JudgesAt line text (Err fault) = RefusesAt line text fault
 
 -- what the reader of a primitive alone answers, by the outcome of its machine
-abbrev pub GivesPrim : Result Primitive FaultFault → Outcome (Option Item) → Type 0
-GivesPrim r (unexpected k) = r ≡ Err (Unexpected 1 k)
-GivesPrim r truncated = r ≡ Err (Truncated 1)
-GivesPrim r (read None) = ⊥
-GivesPrim r (read (Some (OnePrimitive text))) = JudgesAt 1 text r
-GivesPrim r (read (Some (Named n))) = ⊥
+abbrev pub GivesPrim : Outcome (Option Item) → Result Primitive FaultFault → Type 0
+GivesPrim (unexpected k) r = r ≡ Err (Unexpected 1 k)
+GivesPrim truncated r = r ≡ Err (Truncated 1)
+GivesPrim (read None) r = ⊥
+GivesPrim (read (Some (OnePrimitive text))) r = JudgesAt 1 text r
+GivesPrim (read (Some (Named n))) r = ⊥

@@ -1,7 +1,7 @@
 -- What the lines of a fault list bring, and the first line that is refused.
-use Rattle.std.specs.Prelude.{◌≡◌, ◌<◌, ◌≤◌, ◌+◌, ◌⊎◌, ℕ, true, false, Option, Some, List, [], ◌∷◌, ◌++◌, length}
+use Rattle.std.specs.Prelude.{Result, Ok, Err, ◌≡◌, ◌<◌, ◌≤◌, ◌+◌, ◌⊎◌, ℕ, true, false, Option, Some, List, [], ◌∷◌, ◌++◌, length}
 use Rattle.bist_text.specs.Grammar.{IsUnexpected, IsTruncated}
-use Rattle.bist_text.specs.Lines.{TextLine}
+use Rattle.bist_text.specs.Lines.{TextLine, text_lines}
 use Rattle.fault_core.specs.Primitive.{Primitive}
 use Rattle.fault_syntax.specs.declared.fault.FaultFault.{FaultFault}
 use Rattle.fault_syntax.specs.declared.fault.FaultFault.TheVariants.{Unexpected, Truncated, NotAFault, TooManyOperations, TooManyPrimitives, NoMemory}
@@ -17,7 +17,9 @@ IsLineUnexpected l byte = IsUnexpected LineText l.text byte ⊎ ((l.ended ≡ tr
 -- lines that are read, and the primitives that they bring, in their order
 abbrev pub Bring : List TextLine → List Primitive → Type 0
 Bring [] ps = ps ≡ []
-Bring (l ∷ ls) ps = (item : Option Item) × (first : List Primitive) × (others : List Primitive) × LineText l.text item × Brings item first × Bring ls others × (ps ≡ first ++ others)
+Bring (l ∷ ls) ps =
+    (item : Option Item) × (first : List Primitive) × (others : List Primitive) × LineText l.text item × Brings item first
+    × Bring ls others × (ps ≡ first ++ others)
 
 -- why a line isn't read
 abbrev pub IsLineFault : TextLine → FaultFault → Type 0
@@ -28,10 +30,11 @@ IsLineFault l (TooManyOperations line) = (text : PrimParts) × LineText l.text (
 IsLineFault l (TooManyPrimitives line) = ⊥
 IsLineFault l NoMemory = ⊥
 
--- why a line is refused behind others that brought these primitives: want of memory is free
+-- why a line is refused behind others that brought these primitives
 abbrev pub LineRefuses : List Primitive → TextLine → FaultFault → Type 0
-LineRefuses held l (TooManyPrimitives line) = (line ≡ l.number) × (item : Option Item) × (more : List Primitive) × LineText l.text item × Brings item more × (1024 < length held + length more)
-LineRefuses held l NoMemory = Unit {0}
+LineRefuses held l (TooManyPrimitives line) =
+    (line ≡ l.number) × (item : Option Item) × (more : List Primitive) × LineText l.text item × Brings item more
+    × (1024 < length held + length more)
 LineRefuses held l fault = IsLineFault l fault
 
 -- the first line that is refused: those before it are read
@@ -44,3 +47,9 @@ pub record FirstRefusal (lines : List TextLine) (fault : FaultFault) : Type 0 wh
   pub brought : Bring before held
   pub within : length held ≤ 1024
   pub refused : LineRefuses held line fault
+
+-- What the bytes of a list are read as: what its lines bring, at most 1,024, or the refusal of the first line that is
+-- refused. Want of memory is no refusal of a list.
+abbrev pub ReadsList : List ℕ → Result (List Primitive) FaultFault → Type 0
+ReadsList bytes (Ok prims) = Bring (text_lines bytes) prims × (length prims ≤ 1024)
+ReadsList bytes (Err fault) = FirstRefusal (text_lines bytes) fault

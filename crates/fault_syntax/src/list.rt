@@ -1,10 +1,10 @@
-ghost use Rattle.std.specs.Prelude.{◌≡◌, ◌++◌, ◌≤◌, length, List, OnOk, IfOk, IfErr, MatchResult, Option};
+ghost use Rattle.std.specs.Prelude.{◌≡◌, ◌++◌, ◌≤◌, ◌⊎◌, ℕ, length, List, Ok, Err, OnOk, IfOk, IfErr, MatchResult, Option};
 ghost use Rattle.fault_core.specs.Primitive.{Primitive};
 ghost use Rattle.bist_text.specs.Lines.{plain_line, text_lines};
 ghost use Rattle.fault_syntax.specs.Adding.{HasNoRoom, Says, LineGives, Adds, NotAdded};
 ghost use Rattle.fault_syntax.specs.Brief.{read_item_of};
-ghost use Rattle.fault_syntax.specs.ListText.{Item};
-ghost use Rattle.fault_syntax.specs.Lists.{Bring, FirstRefusal};
+ghost use Rattle.fault_syntax.specs.ListText.{Item, LineText};
+ghost use Rattle.fault_syntax.specs.Lists.{ReadsList};
 ghost use Rattle.fault_syntax.specs.Parts.{primitives_of};
 
 use crate::fault::FaultFault;
@@ -89,9 +89,8 @@ fn add_item(prims: &mut Vec<Prim>, item: ReadItem, line: usize) -> Result<(), Fa
 
 /// Reads the lines, one after another.
 fn read_lines(alloc: Global, bytes: &[u8]) -> Result<Vec<Prim>, FaultFault>
-    ensures ok { IfOk result (λ prims. Bring (text_lines bytes.now) prims.items) }
-    ensures within { IfOk result (λ prims. length prims.items ≤ 1024) }
-    ensures refused { IfErr result (FirstRefusal (text_lines bytes.now)) }
+    ensures ok { IfOk result (λ prims. ReadsList bytes.now (Ok prims.items)) }
+    ensures refused { IfErr result (λ fault. (fault ≡ FaultFault.NoMemory) ⊎ ReadsList bytes.now (Err fault)) }
 {
     let mut prims = Vec::new(alloc);
     for line in Lines::new(bytes) {
@@ -103,15 +102,16 @@ fn read_lines(alloc: Global, bytes: &[u8]) -> Result<Vec<Prim>, FaultFault>
 
 /// Reads a fault list, line by line. The first refusal decides. Repeats are kept.
 pub fn read_list(alloc: Global, bytes: &[u8]) -> Result<Vec<Prim>, FaultFault>
-    // What is read is what the lines bring, in their order, and at most 1,024.
-    ensures ok { IfOk result (λ prims. Bring (text_lines bytes.now) prims.items) }
-    ensures within { IfOk result (λ prims. length prims.items ≤ 1024) }
+    // What is read is what the lines bring, in their order, and at most 1,024; and that is read, unless memory runs out.
+    ensures ok { IfOk result (λ prims. ReadsList bytes.now (Ok prims.items)) }
+    ensures accepted { (ps : List Primitive) → ReadsList bytes.now (Ok ps) → MatchResult result (λ prims. prims.items ≡ ps) (λ fault. fault ≡ FaultFault.NoMemory) }
 
-    // Lines that bring so many are read, unless memory runs out.
-    ensures accepted { (ps : List Primitive) → Bring (text_lines bytes.now) ps → length ps ≤ 1024 → MatchResult result (λ prims. prims.items ≡ ps) (λ fault. fault ≡ FaultFault.NoMemory) }
+    // F1 to F5, at the first line that is refused and nowhere else; and they come, unless memory runs out before.
+    ensures refused { IfErr result (λ fault. (fault ≡ FaultFault.NoMemory) ⊎ ReadsList bytes.now (Err fault)) }
+    ensures refuses { (fault : FaultFault) → ReadsList bytes.now (Err fault) → MatchResult result (λ prims. ⊥) (λ other. (other ≡ fault) ⊎ (other ≡ FaultFault.NoMemory)) }
 
-    // F1 to F5, at the first line that is refused.
-    ensures refused { IfErr result (FirstRefusal (text_lines bytes.now)) }
+    // A line has no two readings.
+    ensures one_reading { (line : List ℕ) (item : Option Item) (other : Option Item) → LineText line item → LineText line other → item ≡ other }
 {
     read_lines(alloc, bytes)
 }

@@ -1,10 +1,8 @@
-ghost use Rattle.std.specs.Prelude.{◌≡◌, ◌↔◌, ℕ, Ok, Err, IfErr, false};
-ghost use Rattle.bist_text.specs.Grammar.{IsUnexpected, IsTruncated};
+ghost use Rattle.std.specs.Prelude.{◌≡◌, ◌↔◌, Ok, Err, false};
 ghost use Rattle.bist_text.specs.Machine.{scan};
-ghost use Rattle.fault_core.specs.Primitive.{Primitive, IsPrimitive};
-ghost use Rattle.fault_syntax.specs.Answers.{fault_at, RefusesAt, JudgesAt, GivesPrim};
+ghost use Rattle.fault_core.specs.Primitive.{Primitive};
+ghost use Rattle.fault_syntax.specs.Answers.{fault_at, JudgesAt, GivesPrim, ReadsPrim};
 ghost use Rattle.fault_syntax.specs.Brief.{read_parts_of};
-ghost use Rattle.fault_syntax.specs.Parts.{StandsFor};
 ghost use Rattle.fault_syntax.specs.Places.{step, value, start};
 ghost use Rattle.fault_syntax.specs.PrimText.{PrimParts, PrimText};
 
@@ -33,7 +31,7 @@ pub(crate) fn judge_at(parts: ReadParts, line: usize) -> Result<Prim, FaultFault
 }
 
 fn scanned(bytes: &[u8]) -> Result<Prim, FaultFault>
-    ensures { GivesPrim result (scan (step false) (value false) bytes.now start 0) }
+    ensures { GivesPrim (scan (step false) (value false) bytes.now start 0) result }
 {
     match read_item(bytes, false) {
         Ok(item) => match item {
@@ -49,14 +47,13 @@ fn scanned(bytes: &[u8]) -> Result<Prim, FaultFault>
 /// Reads a text that is one primitive with blanks round it. Its line is 1.
 pub fn read_prim(bytes: &[u8]) -> Result<Prim, FaultFault>
     // A primitive is read exactly where the bytes are a text that stands for it.
-    ensures ok { (p : Primitive) → (result ≡ Ok p) ↔ ((text : PrimParts) × PrimText bytes.now text × StandsFor text p × IsPrimitive p) }
+    ensures ok { (p : Primitive) → (result ≡ Ok p) ↔ ReadsPrim bytes.now (Ok p) }
 
-    // F1 and F2, exactly where the grammar has them.
-    ensures unexpected { (k : ℕ) → (result ≡ Err (FaultFault.Unexpected 1 k)) ↔ IsUnexpected PrimText bytes.now k }
-    ensures truncated { (result ≡ Err (FaultFault.Truncated 1)) ↔ IsTruncated PrimText bytes.now }
+    // F1 to F4, exactly where they come first.
+    ensures refused { (fault : FaultFault) → (result ≡ Err fault) ↔ ReadsPrim bytes.now (Err fault) }
 
-    // F4 and F3, for a text of the grammar.
-    ensures refused { (text : PrimParts) → PrimText bytes.now text → IfErr result (RefusesAt 1 text) }
+    // A text has no two readings.
+    ensures one_reading { (text : PrimParts) (other : PrimParts) → PrimText bytes.now text → PrimText bytes.now other → text ≡ other }
 {
     scanned(bytes)
 }

@@ -1,10 +1,16 @@
-use Rattle.std.proofs.Common.{arith}
+use Rattle.std.proofs.Common.{arith, true, ◌≡◌, Ok, Err}
+use Rattle.bist_text.specs.Grammar.{are_bytes}
 use Rattle.bist_text.proofs.Bytes.{slice_are_bytes}
-use Rattle.fault_syntax.proofs.PrimReads.{reads, Reads}
+use Rattle.fault_syntax.proofs.OneOutcome.{text_one}
+use Rattle.fault_syntax.proofs.PrimReads.{reads}
 use Rattle.fault_syntax.proofs.prim.read_prim.Goals as goal
 
-whole : (c : goal.After-scanned) → Reads c.args.bytes.now c.scanned.result
-whole c = reads c.args.bytes.now c.scanned.result (slice_are_bytes c.args.bytes.now (λ k l. omega (arith, c.type_inv.bytes k))) c.scanned.ensures
+bytes : (c : goal.After-scanned) → are_bytes c.args.bytes.now ≡ true
+bytes c = slice_are_bytes c.args.bytes.now (λ k l. omega (arith, c.type_inv.bytes k))
 
 pub returns : goal.returns
-returns c = let r : Reads c.args.bytes.now c.scanned.result = whole c in record { ok = r.ok; unexpected = r.unexpected_at; truncated = r.truncated_is; refused = r.refused }
+returns c = record {
+  ok = λ p. reads c.args.bytes.now c.scanned.result (bytes c) c.scanned.ensures (Ok p);
+  refused = λ fault. reads c.args.bytes.now c.scanned.result (bytes c) c.scanned.ensures (Err fault);
+  one_reading = λ text other. text_one c.args.bytes.now text other;
+}
