@@ -42,41 +42,6 @@ run_stops p at cells (visiting x ∷ xs) ys miss some =
     → after_first wrong next x (run_of p at next (xs ++ ys)) ≡ after_first wrong next x (run_of p at next xs))
     [ true ↦ λ n. refl | false ↦ λ n. run_stops p at next xs ys miss n ] some
 
--- the first visit of a cell's rest
-pub cell_rest : (p : Primitive) (at : Places) (cells : List Bool) (element address n : ℕ) (op : Op) (ops : List Op)
-    → n < length ops → op ≡ get_or ops n op
-    → run_of p at cells (steps_of (cell_visits element address n (drop n ops)))
-    ≡ after_first (is_wrong_of op (step_answer p at cells address (act_of op))) (step_cells p at cells address (act_of op))
-    (record { element = element; address = address; number = n; op = op })
-    (run_of p at (step_cells p at cells address (act_of op)) (steps_of (cell_visits element address (n + 1) (drop (n + 1) ops))))
-cell_rest p at cells element address n op ops within is =
-    let cut : drop n ops ≡ op ∷ drop (n + 1) ops = drop_more ops n op within ∙ ap (λ o. o ∷ drop (n + 1) ops) (sym is) in
-    ap (λ l. run_of p at cells (steps_of (cell_visits element address n l))) cut
-
-pub cell_goes_on : (p : Primitive) (at : Places) (cells next : List Bool) (element address n : ℕ) (op : Op) (ops : List Op) (answer : Option Bool) (whole : Outcome)
-    → n < length ops → op ≡ get_or ops n op → next ≡ step_cells p at cells address (act_of op) → answer ≡ step_answer p at cells address (act_of op)
-    → is_wrong_of op answer ≡ false → run_of p at cells (steps_of (cell_visits element address n (drop n ops))) ≡ whole
-    → run_of p at next (steps_of (cell_visits element address (n + 1) (drop (n + 1) ops))) ≡ whole
-cell_goes_on p at cells next element address n op ops answer whole within is next_is answer_is right before =
-    let rest : Outcome = run_of p at (step_cells p at cells address (act_of op)) (steps_of (cell_visits element address (n + 1) (drop (n + 1) ops))) in
-    let test : is_wrong_of op (step_answer p at cells address (act_of op)) ≡ false = ap (is_wrong_of op) (sym answer_is) ∙ right in
-    ap (λ l. run_of p at l (steps_of (cell_visits element address (n + 1) (drop (n + 1) ops)))) next_is
-    ∙ sym (cell_rest p at cells element address n op ops within is
-    ∙ ap (λ b. after_first b (step_cells p at cells address (act_of op)) (record { element = element; address = address; number = n; op = op }) rest) test)
-    ∙ before
-
-pub cell_stops : (p : Primitive) (at : Places) (cells next : List Bool) (element address n : ℕ) (op : Op) (ops : List Op) (answer : Option Bool) (whole : Outcome)
-    → n < length ops → op ≡ get_or ops n op → next ≡ step_cells p at cells address (act_of op) → answer ≡ step_answer p at cells address (act_of op)
-    → is_wrong_of op answer ≡ true → run_of p at cells (steps_of (cell_visits element address n (drop n ops))) ≡ whole
-    → (next ≡ whole.cells) × (Some (record { element = element; address = address; op = n }) ≡ whole.miss)
-cell_stops p at cells next element address n op ops answer whole within is next_is answer_is wrong before =
-    let rest : Outcome = run_of p at (step_cells p at cells address (act_of op)) (steps_of (cell_visits element address (n + 1) (drop (n + 1) ops))) in
-    let test : is_wrong_of op (step_answer p at cells address (act_of op)) ≡ true = ap (is_wrong_of op) (sym answer_is) ∙ wrong in
-    let ends = sym (cell_rest p at cells element address n op ops within is
-    ∙ ap (λ b. after_first b (step_cells p at cells address (act_of op)) (record { element = element; address = address; number = n; op = op }) rest) test)
-    ∙ before in
-    (next_is ∙ ap (λ (o : Outcome). o.cells) ends, ap (λ (o : Outcome). o.miss) ends)
-
 -- the addresses from a place on
 pub addresses_rest : (d : Direction) (n place : ℕ) → place < n → drop place (addresses d n) ≡ address_at d place n ∷ drop (place + 1) (addresses d n)
 unfolding addresses address_at

@@ -138,7 +138,8 @@ impl<'a> Summary<'a> {
         requires last { self.now.end ≡ length self.now.march }
         ensures { AreSurvivors self.now.march self.now.prim self.now.placement content result.items }
     {
-        let start = close(&self.prim, start_of(self.placement, content));
+        let open = start_of(self.placement, content);
+        let start = close(&self.prim, open);
         self.table.row(start).survivors()
     }
 }
