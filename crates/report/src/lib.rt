@@ -1,7 +1,8 @@
 //! The report of a march's verdicts as text.
 #![tactic(auto)]
 
-mod lines;
+mod class_lines;
+mod memory_line;
 mod total;
 mod verdict_lines;
 mod write;

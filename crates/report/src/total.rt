@@ -1,9 +1,8 @@
-ghost use Rattle.std.specs.Prelude.{◌≡◌, ◌≤◌, ◌++◌, OnOk, length};
+ghost use Rattle.std.specs.Prelude.{◌≡◌, ◌≤◌, ◌++◌, OnOk, OnErr, length};
 ghost use Rattle.report.specs.Report.{is_covered, covered_count, total_line};
 
-use crate::lines::push_text;
 use bist_bits::NoMemory;
-use bist_text::put_decimal;
+use bist_text::{put, put_decimal};
 use coverage::Verdict;
 
 /// How many verdicts are covered.
@@ -17,7 +16,7 @@ pub fn count_covered(verdicts: &[Verdict]) -> usize
         .count()
 }
 
-fn is_verdict_covered(verdict: &Verdict) -> bool
+pub(crate) fn is_verdict_covered(verdict: &Verdict) -> bool
     ensures { result ≡ is_covered verdict.now }
 {
     match verdict {
@@ -26,16 +25,16 @@ fn is_verdict_covered(verdict: &Verdict) -> bool
     }
 }
 
-/// Appends the line of the total.
+/// Appends the line of the total. After want of memory `out` ends in a part of the line, or in none of it.
 pub fn write_total(out: &mut Vec<u8>, count: usize, covered: usize) -> Result<(), NoMemory>
     requires { covered ≤ count }
     ensures { OnOk result (out.new.items ≡ out.old.items ++ total_line count covered) }
 {
-    push_text(out, b"total ")?;
+    put(out, b"total ")?;
     put_decimal(out, count as u64)?;
-    push_text(out, b" covered ")?;
+    put(out, b" covered ")?;
     put_decimal(out, covered as u64)?;
-    push_text(out, b" escapes ")?;
+    put(out, b" escapes ")?;
     put_decimal(out, (count - covered) as u64)?;
-    push_text(out, b"\n")
+    put(out, b"\n")
 }

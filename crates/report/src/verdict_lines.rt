@@ -2,9 +2,9 @@ ghost use Rattle.std.specs.Prelude.{◌≡◌, ◌<◌, ◌≤◌, ◌++◌, OnO
 ghost use Rattle.march_core.specs.Visits.{direction_at};
 ghost use Rattle.report.specs.Report.{digit, letter, prim_text, aggressor_text, content_text, directions_text, places_text, escape_text, verdict_line, verdict_lines};
 
-use crate::lines::{class_name, push_text};
+use crate::class_lines::class_name;
 use bist_bits::NoMemory;
-use bist_text::put_decimal;
+use bist_text::{put, put_decimal};
 use coverage::Verdict;
 use escape_array::EscapeArray;
 use fault_core::{Prim, class_of};
@@ -15,16 +15,16 @@ use march_core::is_down;
 fn write_prim(out: &mut Vec<u8>, prim: &Prim) -> Result<(), NoMemory>
     ensures { OnOk result (out.new.items ≡ out.old.items ++ prim_text prim.now) }
 {
-    push_text(out, print_prim(prim).as_str().as_bytes())?;
-    push_text(out, b" ")?;
-    push_text(out, class_name(class_of(prim)))
+    put(out, print_prim(prim).as_str().as_bytes())?;
+    put(out, b" ")?;
+    put(out, class_name(class_of(prim)))
 }
 
 fn write_aggressor(out: &mut Vec<u8>, agg: Option<u8>) -> Result<(), NoMemory>
     ensures { OnOk result (out.new.items ≡ out.old.items ++ aggressor_text agg) }
 {
     match agg {
-        None => push_text(out, b"none"),
+        None => put(out, b"none"),
         Some(cell) => put_decimal(out, u64::from(cell)),
     }
 }
@@ -54,7 +54,7 @@ fn write_directions(out: &mut Vec<u8>, directions: u64, size: usize) -> Result<(
     ensures { OnOk result (out.new.items ≡ out.old.items ++ directions_text directions size) }
 {
     for element in 0..size {
-        push_text(out, letter_at(directions, element))?;
+        put(out, letter_at(directions, element))?;
     }
     Ok(())
 }
@@ -64,7 +64,7 @@ fn write_content(out: &mut Vec<u8>, content: &[bool]) -> Result<(), NoMemory>
     ensures { OnOk result (out.new.items ≡ out.old.items ++ content_text content.now) }
 {
     for bit in content {
-        push_text(out, digit(*bit))?;
+        put(out, digit(*bit))?;
     }
     Ok(())
 }
@@ -73,9 +73,9 @@ fn write_content(out: &mut Vec<u8>, content: &[bool]) -> Result<(), NoMemory>
 fn write_places(out: &mut Vec<u8>, escape: &EscapeArray) -> Result<(), NoMemory>
     ensures { OnOk result (out.new.items ≡ out.old.items ++ places_text escape.now) }
 {
-    push_text(out, b" aggressor ")?;
+    put(out, b" aggressor ")?;
     write_aggressor(out, escape.agg)?;
-    push_text(out, b" victim ")?;
+    put(out, b" victim ")?;
     put_decimal(out, u64::from(escape.vic))
 }
 
@@ -85,9 +85,9 @@ fn write_escape(out: &mut Vec<u8>, escape: &EscapeArray, size: usize) -> Result<
     ensures { OnOk result (out.new.items ≡ out.old.items ++ escape_text size escape.now) }
 {
     write_places(out, escape)?;
-    push_text(out, b" content ")?;
+    put(out, b" content ")?;
     write_content(out, &escape.content[..])?;
-    push_text(out, b" directions ")?;
+    put(out, b" directions ")?;
     write_directions(out, escape.directions, size)?;
     Ok(())
 }
@@ -104,16 +104,16 @@ fn write_line(
 {
     match verdict {
         Verdict::Covered => {
-            push_text(out, b"covered ")?;
+            put(out, b"covered ")?;
             write_prim(out, prim)?;
         }
         Verdict::Escape(escape) => {
-            push_text(out, b"escape ")?;
+            put(out, b"escape ")?;
             write_prim(out, prim)?;
             write_escape(out, escape, size)?;
         }
     }
-    push_text(out, b"\n")
+    put(out, b"\n")
 }
 
 /// Appends the lines of primitives with their verdicts.

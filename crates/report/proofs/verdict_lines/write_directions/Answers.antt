@@ -13,5 +13,5 @@ loop-element-preserved c =
     let old : List ℕ = c.args.out.now.items in
     let before : List ℕ = directions_text c.args.directions c.loop-element.element in
     let here : List ℕ = letter (direction_at c.args.directions c.loop-element.element) in
-    c.in_ok-push_text.ensures ∙ ap (λ l. c.loop-element.out.items ++ l) c.letter_at.ensures ∙ ap (λ l. l ++ here) c.loop-element.invariant
+    c.in_ok-put.ensures.ok ∙ ap (λ l. c.loop-element.out.items ++ l) c.letter_at.ensures ∙ ap (λ l. l ++ here) c.loop-element.invariant
     ∙ append_assoc old before here ∙ ap (λ l. old ++ l) (sym (one_letter_more c.args.directions c.loop-element.element))
