@@ -2,7 +2,7 @@
 
 ghost use Rattle.std.specs.Prelude.{◌≡◌, None, IfOk};
 
-use array_sim::{Instance, is_wrong, simulate};
+use array_sim::{Instance, act_of, is_wrong, simulate};
 use arrayvec::ArrayString;
 use backgrounds::{log_set, separates, word_of};
 use bist_bits::{Bits, all_ones, concat, parity, select, width_of};
@@ -11,7 +11,8 @@ use cell_machine::{Pair, Side, act, close};
 use coverage::{Verdict, judge, judge_all};
 use escape_array::{EscapeArray, least, replays};
 use fault_core::{
-    Act, Class, Places, Prim, PrimFault, Sense, class_of, members, one_cell, step, two_cell,
+    Act, Class, Places, Prim, PrimFault, Sense, class_of, close_cells, members, one_cell, step,
+    two_cell,
 };
 use march_core::{MarchBuilder, MarchFault, Op, Order, is_down};
 use march_syntax::read_march;
@@ -111,7 +112,7 @@ fn operations(rt: HostRuntime) {
     assert_eq!(rt; Op::W1.written(), Some(true));
     assert_eq!(rt; Op::R0.expected(), Some(false));
     assert!(rt; is_down(UP_UP_DOWN, 2));
-    assert_eq!(rt; array_sim::act(Op::R1), Act::Read);
+    assert_eq!(rt; act_of(Op::R1), Act::Read);
     assert!(rt; is_wrong(Op::R1, Some(false)));
 }
 
@@ -155,7 +156,7 @@ fn acts_on_cells(rt: HostRuntime) -> Result<(), Fail> {
     let mut cells = [false, false];
     assert_eq!(rt; step(&keeps_zero, places, &mut cells, 1, write), None);
     assert_eq!(rt; cells, [false, false]);
-    fault_core::close(&loses_zero, places, &mut cells);
+    close_cells(&loses_zero, places, &mut cells);
     assert_eq!(rt; cells, [false, true]);
     Ok(())
 }
@@ -215,6 +216,7 @@ fn escapes(rt: HostRuntime) -> Result<(), Fail> {
 const REPORT: &[u8] = b"march {any(w0);up(r0,w1);down(r1,w0)}
 covered <0w1/0/-> TF
 escape <1w0/1/-> TF aggressor none victim 0 content 00 directions uud
+class TF 2 covered 1
 total 2 covered 1 escapes 1
 ";
 
@@ -233,7 +235,7 @@ fn verdicts_and_reports(rt: HostRuntime) -> Result<(), Fail> {
     let verdicts = judge_all(rt.alloc(), &march, &prims)?;
     assert_eq!(rt; verdicts.len(), 2);
     assert_eq!(rt; count_covered(&verdicts), 1);
-    let text = write_report(rt.alloc(), &march, &prims, &verdicts)?;
+    let text = write_report(rt.alloc(), &march, None, &prims, &verdicts)?;
     assert_eq!(rt; text.as_slice(), REPORT);
     let mut total = Vec::new(rt.alloc());
     write_total(&mut total, 5, 3)?;
