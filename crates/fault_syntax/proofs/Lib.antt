@@ -5,5 +5,5 @@ mod Judging
 mod PrimReads
 mod PrintLaws
 mod ListReads
-mod ListExact
+pub mod ListExact
 pub mod OneOutcome
