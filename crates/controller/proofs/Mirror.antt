@@ -4,7 +4,7 @@ use Rattle.std.specs.List.{AllByRecursion}
 use Rattle.march_core.specs.declared.operation.Order.{Order}
 use Rattle.march_core.specs.declared.operation.Order.TheVariants.{Up, Down, Any}
 use Rattle.scrambler.specs.Scrambling.{logical}
-use Rattle.word_march.specs.Commands.{upward}
+use Rattle.march_core.specs.Runs.{upward}
 use Rattle.word_march.specs.PortRule.{PortValues}
 use Rattle.microcode.specs.declared.code.Instr.{Instr}
 use Rattle.microcode.specs.declared.place.Place.{Place as CodePlace}
@@ -12,7 +12,8 @@ use Rattle.controller.specs.declared.stage.Stage.{Stage}
 use Rattle.march_core.specs.March.{MarchElement, pause, sweep, order_of, is_pause, IsMarch}
 use Rattle.memory_desc.specs.Descriptions.{Description, IsMemory}
 use Rattle.word_march.specs.PortRule.{PortRule}
-use Rattle.controller.specs.Places.{IsPlace, index_in, word_at, visits_of}
+use Rattle.controller.specs.Places.{IsPlace, word_at, visits_of}
+use Rattle.microcode.specs.Places.{index_in}
 use Rattle.march_core.specs.March.{element_at}
 use Rattle.microcode.specs.Places.{first_place}
 use Rattle.controller.specs.Machine.{blank, Control, outputs, stage_of, pushed, last_stage, compared, step}

@@ -1,22 +1,25 @@
 -- The slots of the run are the lists of lists of the four digits.
-use Rattle.std.proofs.Common.{◌≡◌, ℕ, zero, suc, ◌+◌, ◌<◌, if◌then◌else◌, List, [], ◌∷◌, ◌++◌, length, map, replicate, slice_get, slice_index, slice_index_or, flat_map, Option, Some, None, refl, sym, ◌∙◌, ap, ap₂, arith, append-nil, zero-add}
+use Rattle.std.proofs.Common.{◌≡◌, ℕ, zero, suc, ◌+◌, ◌<◌, if◌then◌else◌, List, [], ◌∷◌, ◌++◌, length, map, replicate, slice_get, slice_index_or, flat_map, Option, Some, None, refl, sym, ◌∙◌, ap, ap₂, arith, append-nil, zero-add}
 use Rattle.std.proofs.lemmas.List.Concat.{flat_map-append}
-use Rattle.std.proofs.lemmas.Option.{get_or_from_slice_get, slice_get_within}
+use Rattle.std.proofs.lemmas.Option.{get_or_from_slice_get}
 use Rattle.march_core.specs.declared.operation.Op.{Op}
 use Rattle.march_core.specs.declared.operation.Op.TheVariants.{R0}
-use Rattle.march_core.specs.Visits.{Direction, Upward, Downward, cell_visits, addresses, address_visits}
+use Rattle.march_core.specs.Visits.{cell_visits, addresses, address_visits}
 use Rattle.backgrounds.specs.Backgrounds.{word_of}
 use Rattle.word_march.specs.declared.operations.PortOp.{PortOp}
-use Rattle.word_march.specs.Commands.{upward, is_write, data_value}
-use Rattle.word_march.proofs.Left.{length-addresses, address_upward, address_downward}
-use Rattle.march_core.specs.March.{MarchElement, pause, sweep, order_of, ops_of, is_pause, element_at, IsMarch}
+use Rattle.march_core.specs.Runs.{upward, is_write, data_value}
+use Rattle.march_core.proofs.Addresses.{length-addresses}
+use Rattle.march_core.specs.March.{MarchElement, pause, sweep, order_of, ops_of, is_pause, IsMarch}
 use Rattle.march_core.specs.Visits.{MarchStep, visiting, element_visits, visits_from, visits}
 use Rattle.memory_desc.specs.Descriptions.{Description, IsMemory}
-use Rattle.word_march.specs.Commands.{up, word_step, run_in, word_steps, port_op, spread, slots}
+use Rattle.march_core.specs.Runs.{up}
+use Rattle.word_march.specs.Commands.{word_step, run_in, word_steps, port_op, spread, slots}
 use Rattle.microcode.specs.Rows.{rows}
 use Rattle.microcode.specs.Code.{opers_of}
-use Rattle.controller.specs.Places.{visits_of, index_in, element_slots, run_slots, all_slots}
+use Rattle.controller.specs.Places.{visits_of, element_slots, run_slots, all_slots}
+use Rattle.microcode.specs.Places.{index_in}
 use Rattle.controller.specs.Standing.{Starts}
+use Rattle.microcode.proofs.Stepped.{address_is, element_is as element_found}
 use Rattle.microcode.proofs.Rows.{rows_are}
 use Rattle.controller.proofs.Turn.{all_starts, visits_some}
 use Rattle.microcode.proofs.Turn.{opers_some}
@@ -91,17 +94,6 @@ slots_are march d =
 
 -- ---- the digits
 
-address_is : (order : Direction) (size k x : ℕ) → slice_get (addresses order size) k ≡ Some x → index_in order size k ≡ x
-address_is order size k x h =
-    let within = slice_get_within (addresses order size) k x h in
-    let count = length-addresses order size in
-    let there : slice_index (addresses order size) k ≡ x = get_or_from_slice_get (addresses order size) k x 0 h in
-    by_order order (omega arith) there
-  where
-    by_order : (o : Direction) → k < size → slice_index (addresses o size) k ≡ x → index_in o size k ≡ x
-    by_order Upward l e = sym (address_upward size k l) ∙ e
-    by_order Downward l e = sym (address_downward size k l) ∙ e
-
 -- what the port does at a visit and operation of this element
 abbrev slot_in : Description → ℕ → MarchElement → ℕ → ℕ → Option PortOp
 slot_in d b x y o = if is_pause x then None else Some (port_op d (record {
@@ -122,16 +114,11 @@ element_is d b (sweep order ops) =
     (λ y x there. rows_of (λ o. slot_in d b (sweep order ops) y o ∷ []) (op_slot d b x) ops
     (λ o op here. ap₂ (λ x' op'. op_slot d b x' op') (address_is (upward order) d.words y x there) (get_or_from_slice_get ops o op R0 here)))
 
-element_is_at : (march : List MarchElement) (e : ℕ) (x : MarchElement) → slice_get march e ≡ Some x → element_at march e ≡ x
-element_is_at [] e x h = cc
-element_is_at (y ∷ march) zero x h = cc
-element_is_at (y ∷ march) (suc e) x h = element_is_at march e x h
-
 digits_are : (march : List MarchElement) (d : Description) → all_slots march d ≡ flat_map (λ b. flat_map (by_element d b) march) d.backgrounds
 digits_are march d =
     rows_of (run_slots march d) (λ b. flat_map (by_element d b) march) d.backgrounds
     (λ i b at_b. rows_of (element_slots march d i) (by_element d b) march
-    (λ e x at_x. ap₂ (λ b' x'. slots_in d b' x') (get_or_from_slice_get d.backgrounds i b 0 at_b) (element_is_at march e x at_x) ∙ element_is d b x))
+    (λ e x at_x. ap₂ (λ b' x'. slots_in d b' x') (get_or_from_slice_get d.backgrounds i b 0 at_b) (element_found march e x at_x) ∙ element_is d b x))
 
 pub start : (march : List MarchElement) (d : Description) → IsMarch march → IsMemory d → Starts march d
 start march d m n =

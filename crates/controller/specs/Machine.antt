@@ -1,6 +1,6 @@
 -- The controller as a machine: one step a cycle.
 use Rattle.std.specs.Prelude.{ℕ, zero, suc, ◌-◌, ◌==◌, Bool, true, false, if◌then◌else◌, not, ◌&&◌, List, [], ◌∷◌, replicate}
-use Rattle.word_march.specs.Commands.{is_write, data_value}
+use Rattle.march_core.specs.Runs.{is_write, data_value}
 use Rattle.word_march.specs.PortRule.{PortValues}
 use Rattle.march_core.specs.March.{MarchElement, is_pause}
 use Rattle.memory_desc.specs.Descriptions.{Description}

@@ -1,17 +1,16 @@
 -- What the port does at the places of a march's run on a memory.
-use Rattle.std.specs.Prelude.{ℕ, ◌-◌, Bool, if◌then◌else◌, List, Option, Some, None, length, slice_index, bit_xor}
+use Rattle.std.specs.Prelude.{ℕ, Bool, if◌then◌else◌, List, Option, Some, None, length, slice_index, bit_xor}
 use Rattle.std.specs.List.{slice_index_or}
 use Rattle.march_core.specs.declared.operation.Op.{Op}
 use Rattle.march_core.specs.declared.operation.Op.TheVariants.{R0}
 use Rattle.march_core.specs.March.{MarchElement, order_of, ops_of, is_pause, element_at}
-use Rattle.march_core.specs.Visits.{Direction, Upward, Downward}
 use Rattle.scrambler.specs.Scrambling.{logical}
 use Rattle.backgrounds.specs.Backgrounds.{word_of}
 use Rattle.memory_desc.specs.Descriptions.{Description}
 use Rattle.word_march.specs.declared.operations.PortOp.{PortOp}
-use Rattle.word_march.specs.Commands.{upward, is_write, data_value}
+use Rattle.march_core.specs.Runs.{upward, is_write, data_value}
 use Rattle.microcode.specs.declared.place.Extent.{Extent}
-use Rattle.microcode.specs.Places.{Place, Lasts, visits_of as visits_in, visits_at as visits_within, IsPlace as IsWithin, lasts_at as lasts_within, next_place as next_within, is_last as is_last_within, element_slots as element_rows, run_slots as run_rows, all_slots as all_rows, rest as rest_within, Turns as TurnsWithin}
+use Rattle.microcode.specs.Places.{Place, Lasts, index_in, visits_of as visits_in, visits_at as visits_within, IsPlace as IsWithin, lasts_at as lasts_within, next_place as next_within, is_last as is_last_within, element_slots as element_rows, run_slots as run_rows, all_slots as all_rows, rest as rest_within, Turns as TurnsWithin}
 
 -- an element is done at each word, a pause takes some cycles, and the march runs in each background
 abbrev pub extent_of : Description → Extent
@@ -28,11 +27,6 @@ visits_at march d e = visits_within march (extent_of d) e
 -- the operation; a read of 0 where there is none
 abbrev pub op_at : List MarchElement → ℕ → ℕ → Op
 op_at march e o = slice_index_or (ops_of (element_at march e)) o R0
-
--- the index of a visit
-abbrev pub index_in : Direction → ℕ → ℕ → ℕ
-index_in Upward words x = x
-index_in Downward words x = words - 1 - x
 
 abbrev pub index_at : List MarchElement → Description → ℕ → ℕ → ℕ
 index_at march d e x = index_in (upward (order_of (element_at march e))) d.words x

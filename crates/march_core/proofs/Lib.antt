@@ -3,3 +3,4 @@ pub mod Built
 pub mod Directions
 pub mod Scanning
 pub mod Refusals
+pub mod Addresses

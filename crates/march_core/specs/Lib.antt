@@ -3,3 +3,4 @@ pub mod March
 pub mod Building
 pub mod Scan
 pub mod Visits
+pub mod Runs

@@ -5,7 +5,7 @@ use Rattle.std.proofs.lemmas.List.{get_or_default}
 use Rattle.std.specs.List.{slice_index_or}
 use Rattle.march_core.specs.declared.operation.Op.{Op}
 use Rattle.march_core.specs.declared.operation.Op.TheVariants.{W0, R0}
-use Rattle.word_march.specs.Commands.{is_write, data_value}
+use Rattle.march_core.specs.Runs.{is_write, data_value}
 use Rattle.microcode.specs.declared.code.Instr.{Instr}
 use Rattle.march_core.specs.March.{MarchElement, pause, sweep, order_of, ops_of, order_at, ops_at, is_pause, is_pause_at, element_at, all_ops, IsMarch}
 use Rattle.microcode.specs.Code.{goes_down, opers_of, opers_at, instr_of, instrs_from, assemble, first_of}

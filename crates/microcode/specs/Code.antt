@@ -5,7 +5,7 @@ use Rattle.march_core.specs.declared.operation.Order.{Order}
 use Rattle.march_core.specs.declared.operation.Order.TheVariants.{Up, Down, Any}
 use Rattle.march_core.specs.declared.operation.Op.TheVariants.{R0}
 use Rattle.march_core.specs.March.{MarchElement, pause, sweep, order_of, ops_of, is_pause, element_at, IsMarch}
-use Rattle.word_march.specs.Commands.{is_write, data_value}
+use Rattle.march_core.specs.Runs.{is_write, data_value}
 use Rattle.microcode.specs.declared.code.Instr.{Instr}
 
 abbrev pub goes_down : Order → Bool

@@ -3,3 +3,4 @@ pub mod Bytes
 pub mod Rows
 pub mod Places
 pub mod Running
+pub mod Steps

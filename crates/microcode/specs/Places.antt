@@ -1,6 +1,7 @@
 -- Places in the run of a march, by four digits, and what is left from one of them on.
 use Rattle.std.specs.Prelude.{ℕ, ◌+◌, ◌-◌, ◌<◌, ◌≤◌, ◌≡◌, ◌==◌, Bool, true, if◌then◌else◌, ◌&&◌, List, [], ◌∷◌, length}
 use Rattle.march_core.specs.March.{MarchElement, pause, sweep, element_at}
+use Rattle.march_core.specs.Visits.{Direction, Upward, Downward}
 use Rattle.microcode.specs.declared.place.Extent.{Extent}
 use Rattle.microcode.specs.Code.{opers_at}
 use Rattle.microcode.specs.Rows.{rows, rest_of}
@@ -26,6 +27,11 @@ visits_of g (sweep order ops) = g.words
 
 abbrev pub visits_at : List MarchElement → Extent → ℕ → ℕ
 visits_at march g e = visits_of g (element_at march e)
+
+-- the index of a visit
+abbrev pub index_in : Direction → ℕ → ℕ → ℕ
+index_in Upward words x = x
+index_in Downward words x = words - 1 - x
 
 -- ---- the digits
 

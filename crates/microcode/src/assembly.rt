@@ -1,6 +1,6 @@
 ghost use Rattle.std.specs.Prelude.{◌≡◌, ◌+◌, ◌<◌, ◌≤◌, ◌++◌, length};
 ghost use Rattle.march_core.specs.March.{sweep, element_at};
-ghost use Rattle.word_march.specs.Commands.{is_write, data_value};
+ghost use Rattle.march_core.specs.Runs.{is_write, data_value};
 ghost use Rattle.microcode.specs.Code.{goes_down, opers_at, instrs_from, assemble};
 
 use crate::code::{Code, Instr};

@@ -9,9 +9,11 @@ use Rattle.march_core.specs.declared.operation.Op.{Op}
 use Rattle.march_core.specs.March.{MarchElement, pause, sweep, order_of, ops_of, all_ops, is_pause_at}
 use Rattle.march_core.specs.Visits.{Visit, cell_visits, addresses, address_visits, visiting, visits_from}
 use Rattle.memory_desc.specs.Descriptions.{Description}
-use Rattle.word_march.specs.Commands.{upward, up, word_op, word_step, run_in, word_steps, word_ops, port_op, command_count, pauses, span}
+use Rattle.march_core.specs.Runs.{upward, up}
+use Rattle.word_march.specs.Commands.{word_op, word_step, run_in, word_steps, word_ops, port_op, command_count, pauses, span}
 use Rattle.word_march.specs.Standing.{sweeps_from, run_ops, pause_count}
-use Rattle.word_march.proofs.Left.{length-addresses, runs_are}
+use Rattle.march_core.proofs.Addresses.{length-addresses}
+use Rattle.word_march.proofs.Left.{runs_are}
 
 length-cell_visits : (element address number : ℕ) (ops : List Op) → length (cell_visits element address number ops) ≡ length ops
 length-cell_visits element address number [] = refl

@@ -1,40 +1,21 @@
 -- One operation after another: what is left at a place is its operation, and what is left at the next place.
 use Rattle.std.proofs.Common.{◌≡◌, ℕ, zero, suc, ◌+◌, ◌-◌, ◌<◌, ◌≤◌, Bool, true, if◌then◌else◌, List, [], ◌∷◌, ◌++◌, drop, map, length, slice_index, slice_get, filter_map, Option, Some, None, inl, inr, refl, sym, ◌∙◌, ap, subst, arith, append_assoc, add-one}
-use Rattle.std.proofs.Math.Nat.{zero-add}
 use Rattle.std.proofs.Math.Path.{ap₂}
 use Rattle.std.proofs.Math.Seq.{drop-cons}
 use Rattle.std.proofs.lemmas.Bool.{lt-ltb, le-ltb, cases_lt}
-use Rattle.std.proofs.lemmas.List.{drop_all, get_or-reverse, length-reverse, map-append}
-use Rattle.std.proofs.lemmas.List.FromFn.{get_or-range_with_len, length-range_with_len}
+use Rattle.std.proofs.lemmas.List.{drop_all, map-append}
 use Rattle.std.proofs.lemmas.Option.{get_or_from_slice_get}
-use Rattle.std.specs.List.{flat_map, range_with_len}
+use Rattle.std.specs.List.{flat_map}
 use Rattle.march_core.specs.declared.operation.Op.{Op}
 use Rattle.march_core.specs.March.{MarchElement, pause, sweep, order_at, ops_at, is_pause_at}
-use Rattle.march_core.specs.Visits.{Direction, Upward, Downward, Visit, cell_visits, addresses, address_visits, visiting, visits_from}
+use Rattle.march_core.specs.Visits.{Upward, Visit, cell_visits, addresses, address_visits, visiting, visits_from}
+use Rattle.march_core.proofs.Addresses.{length-addresses}
 use Rattle.memory_desc.specs.Descriptions.{Description}
 use Rattle.word_march.specs.declared.operations.WordOp.{WordOp}
 use Rattle.word_march.specs.declared.place.Place.{Place}
-use Rattle.word_march.specs.Commands.{upward, up, word_op, word_step, run_in, word_ops}
+use Rattle.march_core.specs.Runs.{upward, up}
+use Rattle.word_march.specs.Commands.{word_op, word_step, run_in, word_ops}
 use Rattle.word_march.specs.Standing.{addresses_at, sweeps_from, run_ops, visits_left, run_left, ops_left, IsPlace, visit_at, ArePauses, IsNextSweep, first_of, IsFirst, Follows, next_op, next_step, next_elem, next_run}
-
--- ---- the addresses
-
-pub length-addresses : (d : Direction) (size : ℕ) → length (addresses d size) ≡ size
-unfolding addresses
-length-addresses Upward size = length-range_with_len 0 size
-length-addresses Downward size = length-reverse (range_with_len 0 size) ∙ length-range_with_len 0 size
-
-pub address_upward : (size step : ℕ) → step < size → slice_index (addresses Upward size) step ≡ step
-unfolding addresses
-address_upward size step h = get_or-range_with_len 0 size step 0 h ∙ zero-add step
-
-pub address_downward : (size step : ℕ) → step < size → slice_index (addresses Downward size) step ≡ size - 1 - step
-unfolding addresses
-address_downward size step h =
-    let count : length (range_with_len 0 size) ≡ size = length-range_with_len 0 size in
-    get_or-reverse (range_with_len 0 size) step 0 (omega arith)
-    ∙ ap (λ (n : ℕ). slice_index (range_with_len 0 size) (n - 1 - step)) count
-    ∙ get_or-range_with_len 0 size (size - 1 - step) 0 (omega arith) ∙ zero-add (size - 1 - step)
 
 -- ---- lists from a place on
 

@@ -10,7 +10,8 @@ use Rattle.backgrounds.specs.Backgrounds.{word_of}
 use Rattle.memory_desc.specs.Descriptions.{Description, IsMemory}
 use Rattle.word_march.specs.declared.operations.WordOp.{WordOp}
 use Rattle.word_march.specs.declared.operations.PortOp.{PortOp}
-use Rattle.word_march.specs.Commands.{word_op, word_ops, port_op, port_ops, data_value}
+use Rattle.march_core.specs.Runs.{data_value}
+use Rattle.word_march.specs.Commands.{word_op, word_ops, port_op, port_ops}
 use Rattle.word_march.specs.Standing.{sweeps_from, run_ops}
 use Rattle.word_march.proofs.Left.{runs_are}
 

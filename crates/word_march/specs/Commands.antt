@@ -1,39 +1,14 @@
 -- What a march does to the words of a memory, and to its port; where in the run each command stands.
-use Rattle.std.specs.Prelude.{ℕ, zero, suc, ◌+◌, ◌*◌, Bool, true, false, List, [], ◌∷◌, Option, Some, None, map, length, replicate, filter_map, bit_xor}
+use Rattle.std.specs.Prelude.{ℕ, zero, suc, ◌+◌, ◌*◌, List, [], ◌∷◌, Option, Some, None, map, length, replicate, filter_map, bit_xor}
 use Rattle.std.specs.List.{flat_map}
-use Rattle.march_core.specs.declared.operation.Order.{Order}
-use Rattle.march_core.specs.declared.operation.Order.TheVariants.{Up, Down, Any}
-use Rattle.march_core.specs.declared.operation.Op.{Op}
-use Rattle.march_core.specs.declared.operation.Op.TheVariants.{W0, W1, R0, R1}
-use Rattle.march_core.specs.March.{MarchElement, order_of}
-use Rattle.march_core.specs.Visits.{Direction, Upward, Downward, Visit, MarchStep, pausing, visiting, visits}
+use Rattle.march_core.specs.March.{MarchElement}
+use Rattle.march_core.specs.Runs.{up, is_write, data_value}
+use Rattle.march_core.specs.Visits.{Visit, MarchStep, pausing, visiting, visits}
 use Rattle.scrambler.specs.Scrambling.{logical}
 use Rattle.backgrounds.specs.Backgrounds.{word_of}
 use Rattle.memory_desc.specs.Descriptions.{Description}
 use Rattle.word_march.specs.declared.operations.WordOp.{WordOp}
 use Rattle.word_march.specs.declared.operations.PortOp.{PortOp}
-
--- the direction in which the hardware runs an element
-abbrev pub upward : Order → Direction
-upward Up = Upward
-upward Down = Downward
-upward Any = Upward
-
-abbrev pub up : List MarchElement → List Direction
-up march = map (λ e. upward (order_of e)) march
-
-abbrev pub is_write : Op → Bool
-is_write W0 = true
-is_write W1 = true
-is_write R0 = false
-is_write R1 = false
-
--- the data value that an operation writes or expects
-abbrev pub data_value : Op → Bool
-data_value W0 = false
-data_value W1 = true
-data_value R0 = false
-data_value R1 = true
 
 -- a visit, done to a whole word in a background
 abbrev pub word_op : ℕ → ℕ → Visit → WordOp

@@ -7,7 +7,8 @@ use Rattle.march_core.specs.Visits.{Visit, cell_visits, addresses, address_visit
 use Rattle.memory_desc.specs.Descriptions.{Description}
 use Rattle.word_march.specs.declared.operations.WordOp.{WordOp}
 use Rattle.word_march.specs.declared.place.Place.{Place}
-use Rattle.word_march.specs.Commands.{upward, word_op}
+use Rattle.march_core.specs.Runs.{upward}
+use Rattle.word_march.specs.Commands.{word_op}
 
 -- the addresses of an element in the order in which the hardware visits them
 abbrev pub addresses_at : List MarchElement → ℕ → ℕ → List ℕ

@@ -2,7 +2,8 @@ ghost use Rattle.std.specs.Prelude.{◌≡◌, ◌<◌, length, slice_get, slice
 ghost use Rattle.march_core.specs.declared.operation.Op.{Op};
 ghost use Rattle.march_core.specs.March.{ops_at};
 ghost use Rattle.march_core.specs.Visits.{addresses};
-ghost use Rattle.word_march.specs.Commands.{upward, is_write, data_value, word_op};
+ghost use Rattle.march_core.specs.Runs.{upward, is_write, data_value};
+ghost use Rattle.word_march.specs.Commands.{word_op};
 ghost use Rattle.word_march.specs.Standing.{IsPlace, IsFirst, IsNextSweep, ArePauses, Follows, visit_at};
 
 use crate::operations::WordOp;
@@ -40,7 +41,7 @@ fn data_of(op: Op) -> bool
 }
 
 /// The address of a step, in the order in which the hardware visits the addresses.
-#[tactic(auto, using(crate::proofs::Left::address_upward, crate::proofs::Left::address_downward))]
+#[tactic(auto, using(march_core::proofs::Addresses::address_upward, march_core::proofs::Addresses::address_downward))]
 fn address_of(order: Order, step: u32, words: u32) -> u32
     requires { step < words }
     ensures value { result ≡ slice_index (addresses (upward order) words) step }
