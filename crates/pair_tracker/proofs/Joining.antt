@@ -107,12 +107,6 @@ lesser_least (Some least) word (Some rest) =
     low w (inl e) = let same : least ≡ w = cc in omega arith
     low w (inr x) = let e : Some rest ≡ Some x.0 = x.1 in let same : rest ≡ x.0 = cc in let is : w ≡ word + x.0 = x.2 in omega arith
 
--- no pair is done yet
-pub joins_none : (words found : Pair → Option ℕ) (next : Pair → Pair → Option ℕ) → ((q : Pair) → found q ≡ None)
-    → (q : Pair) → IsLeastOf (JoinsBy 0 words next q) (found q)
-joins_none words found next none q =
-    subst (IsLeastOf (JoinsBy 0 words next q)) (sym (none q)) (λ w x. let no : pair_number x.0.middle < 0 = x.1 in omega arith)
-
 -- a pair that isn't reached
 pub joins_past : (words found : Pair → Option ℕ) (next : Pair → Pair → Option ℕ) (k : ℕ) (pair : Pair) → pair_number pair ≡ k → words pair ≡ None
     → ((q : Pair) → IsLeastOf (JoinsBy k words next q) (found q)) → (q : Pair) → IsLeastOf (JoinsBy (k + 1) words next q) (found q)

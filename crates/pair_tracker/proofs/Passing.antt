@@ -42,11 +42,6 @@ beside_within Alone = omega arith
 beside_within Below = omega arith
 beside_within Above = omega arith
 
-victim_of : (placement : Placement) → (places_in placement).vic ≡ victim_place placement
-victim_of Alone = refl
-victim_of Below = refl
-victim_of Above = refl
-
 -- the order of the sides, by whether the cell beside the victim has the lower address
 pair_order_run : (m : Machine) (below : Bool) (q : Pair) (es : List MarchElement) (ds : List Direction) → order_run m (sides_in below) q es ds ≡ pair_run m below q es ds
 pair_order_run m below q [] ds = refl
