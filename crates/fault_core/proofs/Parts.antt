@@ -93,10 +93,6 @@ same_bit-equal true false h = cc
 same_bit-equal false true h = cc
 same_bit-equal false false h = refl
 
-pub same_bit-refl : (a : Bool) → same_bit a a ≡ true
-same_bit-refl true = refl
-same_bit-refl false = refl
-
 same_act-equal : (a b : Act) → same_act a b ≡ true → a ≡ b
 same_act-equal Read Read h = refl
 same_act-equal Read (Write b) h = cc

@@ -5,7 +5,7 @@ ghost use Rattle.fault_core.specs.Cells.{FitsPlace, FitsAgg, states_hold, agg_ho
 use crate::primitive::{Act, FaultPrimitive, Sense, is_pause};
 
 /// Where an instance stands: its aggressor, if it has one, and its victim.
-#[derive(Clone, Copy, Debug, PartialEq, Eq)]
+#[derive(Clone, Copy)]
 pub struct Places {
     pub agg: Option<usize>,
     pub vic: usize,

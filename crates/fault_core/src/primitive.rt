@@ -5,7 +5,7 @@ ghost use Rattle.fault_core.specs.Testing.{is_fault_of, pauses_alone};
 use std::marker::Model;
 
 /// What is done to a cell: a write of a bit, a read, or nothing over a pause, in which a cell can lose its content.
-#[derive(Clone, Copy, Debug, PartialEq, Eq)]
+#[derive(Clone, Copy, Debug, PartialEq)]
 pub enum Act {
     Write(bool),
     Read,
@@ -13,14 +13,14 @@ pub enum Act {
 }
 
 /// A state, and at most one act.
-#[derive(Clone, Copy, Debug, PartialEq, Eq)]
+#[derive(Clone, Copy, Debug, PartialEq)]
 pub struct Sense {
     pub state: bool,
     pub act: Option<Act>,
 }
 
 /// Why the parts are no primitive.
-#[derive(Clone, Copy, Debug, PartialEq, Eq)]
+#[derive(Clone, Copy, Debug)]
 pub enum PrimFault {
     /// F3: they describe no static fault.
     NotAFault,

@@ -21,7 +21,7 @@ use Rattle.fault_syntax.proofs.PlaceLaws.{follows, line_is}
 outcome_one : (b : List ℕ) (o p : Outcome (Option Item)) → Answers LineText b o → Answers LineText b p → o ≡ p
 outcome_one b o p h k = answers_one (step true) (value true) (rest true) (λ s. Unit {0}) (follows true) LineText start tt line_is b o p h k
 
-pub line_one : (b : List ℕ) (v w : Option Item) → LineText b v → LineText b w → v ≡ w
+line_one : (b : List ℕ) (v w : Option Item) → LineText b v → LineText b w → v ≡ w
 line_one b v w p q = same (outcome_one b (read v) (read w) p q)
   where
     same : (let o : Outcome (Option Item) = read v in o ≡ read w) → v ≡ w
@@ -220,7 +220,7 @@ not_earlier lines f g r q rest e =
     passes q.before q.held f q.brought q.within
     (record { before = r.before; line = r.line; after = rest; held = r.held; split = e; brought = r.brought; within = r.within; refused = r.refused })
 
-pub refusal_one : (lines : List TextLine) (f g : FaultFault) → FirstRefusal lines f → FirstRefusal lines g → f ≡ g
+refusal_one : (lines : List TextLine) (f g : FaultFault) → FirstRefusal lines f → FirstRefusal lines g → f ≡ g
 refusal_one lines f g r q = elim (compared r.before r.line r.after q.before q.line q.after (sym r.split ∙ q.split)) [
   | inl h ↦ (
       let held : r.held ≡ q.held = bring_one q.before r.held q.held (subst (λ ls. Bring ls r.held) h.0 r.brought) q.brought in

@@ -1,9 +1,9 @@
-ghost use Rattle.std.specs.Prelude.{◌≡◌, ◌++◌, ◌≤◌, ◌⊎◌, ℕ, length, List, Ok, Err, OnOk, IfOk, IfErr, MatchResult, Option};
+ghost use Rattle.std.specs.Prelude.{◌≡◌, ◌++◌, ◌≤◌, ◌⊎◌, Result, length, List, Ok, Err, OnOk, IfOk, IfErr, MatchResult, Option};
 ghost use Rattle.fault_core.specs.Primitive.{Primitive};
 ghost use Rattle.bist_text.specs.Lines.{plain_line, text_lines};
 ghost use Rattle.fault_syntax.specs.Adding.{HasNoRoom, Says, LineGives, Adds, NotAdded};
 ghost use Rattle.fault_syntax.specs.Brief.{read_item_of};
-ghost use Rattle.fault_syntax.specs.ListText.{Item, LineText};
+ghost use Rattle.fault_syntax.specs.ListText.{Item};
 ghost use Rattle.fault_syntax.specs.Lists.{ReadsList};
 ghost use Rattle.fault_syntax.specs.Parts.{primitives_of};
 
@@ -110,8 +110,8 @@ pub fn read_list(alloc: Global, bytes: &[u8]) -> Result<Vec<Prim>, FaultFault>
     ensures refused { IfErr result (λ fault. (fault ≡ FaultFault.NoMemory) ⊎ ReadsList bytes.now (Err fault)) }
     ensures refuses { (fault : FaultFault) → ReadsList bytes.now (Err fault) → MatchResult result (λ prims. ⊥) (λ other. (other ≡ fault) ⊎ (other ≡ FaultFault.NoMemory)) }
 
-    // A line has no two readings.
-    ensures one_reading { (line : List ℕ) (item : Option Item) (other : Option Item) → LineText line item → LineText line other → item ≡ other }
+    // The bytes are read as one thing.
+    ensures one_reading { (q : Result (List Primitive) FaultFault) (r : Result (List Primitive) FaultFault) → ReadsList bytes.now q → ReadsList bytes.now r → q ≡ r }
 {
     read_lines(alloc, bytes)
 }

@@ -5,7 +5,7 @@ use Rattle.std.specs.Option.{option_eq}
 use mathlib.Core.Bool.{beq}
 use Rattle.std.proofs.lemmas.List.{take_more, drop_more, take-append-drop}
 use Rattle.std.proofs.lemmas.Grind.{flat_map-append}
-use Rattle.std.proofs.lemmas.Option.{slice_get-get_or, slice_get_within, get_or_from_slice_get}
+use Rattle.std.proofs.lemmas.Option.{slice_get_within, get_or_from_slice_get}
 use Rattle.march_core.specs.declared.operation.Op.{Op}
 use Rattle.march_core.specs.declared.operation.Op.TheVariants.{W0, W1, R0, R1}
 use Rattle.march_core.specs.declared.fault.MarchFault.{MarchFault}
@@ -48,21 +48,6 @@ same_expected (Some false) (Some false) e = refl
 same_expected (Some false) (Some true) e = cc
 same_expected (Some true) (Some false) e = cc
 same_expected (Some true) (Some true) e = refl
-
-wrong_read : (held : Option Bool) (op : Op) → None ≡ written_by op → true ≡ not (option_eq beq (expected_by op) held) → is_right held op ≡ false
-wrong_read held W0 e x = cc
-wrong_read held W1 e x = cc
-wrong_read None R0 e x = refl
-wrong_read None R1 e x = refl
-wrong_read (Some false) R0 e x = cc
-wrong_read (Some true) R0 e x = refl
-wrong_read (Some false) R1 e x = refl
-wrong_read (Some true) R1 e x = cc
-
-pub stops_here : (last held : Option Bool) (ops : List Op) (i : ℕ) → i < length ops → scan_of last (take i ops) ≡ Some held
-    → None ≡ written_by (get_or ops i W0) → true ≡ not (option_eq beq (expected_by (get_or ops i W0)) held) → StopsAt last ops i held
-stops_here last held ops i within before reads differs =
-    record { read = get_or ops i W0; is_there = slice_get-get_or ops i W0 within; reached = before; wrong = wrong_read held (get_or ops i W0) reads differs }
 
 -- an operation that isn't right is a read that expects a bit, and another one than is held
 wrong_expects : (held : Option Bool) (op : Op) → is_right held op ≡ false → (bit : Bool) × (expected_by op ≡ Some bit) × ((held ≡ None) ⊎ (held ≡ Some (not bit)))

@@ -152,10 +152,6 @@ abbrev pub element_left : Part → MarchElement → (List ℕ → Type 0) → Li
 element_left p pause K b = one_of (pause_left p) K b
 element_left p (sweep o os) K b = one_of (left p o) (body os K) b
 
-abbrev pub element_spelled : Spelled → MarchElement → (List ℕ → Type 0) → List ℕ → Type 0
-element_spelled q pause K b = pause_spelled q K b
-element_spelled q (sweep o os) K b = spelled q o (body os K) b
-
 -- the digit of an operation
 abbrev pub digit : Access → Op → (List ℕ → Type 0) → List ℕ → Type 0
 digit Write W0 K = word (codes "0") K

@@ -1,4 +1,4 @@
-use Rattle.fault_syntax.proofs.ListExact.{accepted, refuses, line_one}
+use Rattle.fault_syntax.proofs.ListExact.{accepted, refuses, list_one}
 use Rattle.fault_syntax.proofs.list.read_list.Goals as goal
 
 pub returns-clause-accepted : goal.returns-clause-accepted
@@ -8,4 +8,4 @@ pub returns-clause-refuses : goal.returns-clause-refuses
 returns-clause-refuses c = refuses (λ prims. prims.items) c.args.bytes.now c.read_lines.result c.read_lines.ensures.ok c.read_lines.ensures.refused
 
 pub returns-clause-one_reading : goal.returns-clause-one_reading
-returns-clause-one_reading c = line_one
+returns-clause-one_reading c = list_one c.args.bytes.now
