@@ -13,6 +13,8 @@ mod march_texts;
 #[cfg(test)]
 mod memory_texts;
 #[cfg(test)]
+mod pause_texts;
+#[cfg(test)]
 mod retention_rows;
 #[cfg(test)]
 mod small_arrays;
