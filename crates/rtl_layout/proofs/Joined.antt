@@ -1,0 +1,35 @@
+-- Lists that grow at their end, as the builders write them.
+use Rattle.std.proofs.Common.{◌≡◌, ℕ, suc, ◌+◌, List, [], ◌∷◌, ◌++◌, codes, ap, ◌∙◌, sym, arith, append_assoc}
+use Rattle.verilog_tree.specs.Plain.{Expression, Net}
+use Rattle.rtl_layout.specs.Layout.{aged, over_at, gated}
+
+pub join : {A : Type 0} (xs ys zs as' bs : List A) → ys ≡ xs ++ as' → zs ≡ ys ++ bs → zs ≡ xs ++ (as' ++ bs)
+join xs ys zs as' bs p q = q ∙ ap (λ l. l ++ bs) p ∙ append_assoc xs as' bs
+
+-- what is written under a name, with the name and the value told otherwise
+pub named : {A X : Type 0} (f : List ℕ → X → A) (xs ys : List A) (n m : List ℕ) (x y : X) → n ≡ m → x ≡ y → ys ≡ xs ++ f n x ∷ [] → ys ≡ xs ++ f m y ∷ []
+named f xs ys n m x y p q h = h ∙ ap (λ k. xs ++ f k x ∷ []) p ∙ ap (λ z. xs ++ f m z ∷ []) q
+
+-- the same with a value that stays
+pub renamed : {A X : Type 0} (f : List ℕ → X → A) (xs ys : List A) (n m : List ℕ) (x : X) → n ≡ m → ys ≡ xs ++ f n x ∷ [] → ys ≡ xs ++ f m x ∷ []
+renamed f xs ys n m x p h = h ∙ ap (λ k. xs ++ f k x ∷ []) p
+
+pub gated_net : (n m : List ℕ) (x y : Expression) → n ≡ m → y ≡ Net n → x ≡ gated y → x ≡ gated (Net m)
+gated_net n m x y p q r = r ∙ ap gated (q ∙ ap Net p)
+
+pub over_next : (n : List ℕ) (i : ℕ) → n ≡ aged (codes "over") (i + 1) → n ≡ over_at (suc i)
+over_next n i p = let up : i + 1 ≡ suc i = omega arith in p ∙ ap (λ k. aged (codes "over") k) up
+
+pub from_nothing : {A : Type 0} (none xs as' : List A) → none ≡ [] → xs ≡ none ++ as' → xs ≡ as'
+from_nothing none xs as' p q = q ∙ ap (λ l. l ++ as') p
+
+-- the items in their nesting
+pub nested : {A : Type 0} (v1 v2 v3 v4 d s e w a o q : List A) → v1 ≡ (d ++ (s ++ e)) ++ w → v2 ≡ v1 ++ a → v3 ≡ v2 ++ o → v4 ≡ v3 ++ q
+    → v4 ≡ d ++ (s ++ (e ++ (w ++ (a ++ (o ++ q)))))
+nested v1 v2 v3 v4 d s e w a o q h1 h2 h3 h4 =
+    h4 ∙ ap (λ l. l ++ q) (h3 ∙ ap (λ l. l ++ o) (h2 ∙ ap (λ l. l ++ a) h1))
+    ∙ append_assoc (((d ++ (s ++ e)) ++ w) ++ a) o q
+    ∙ append_assoc ((d ++ (s ++ e)) ++ w) a (o ++ q)
+    ∙ append_assoc (d ++ (s ++ e)) w (a ++ (o ++ q))
+    ∙ append_assoc d (s ++ e) (w ++ (a ++ (o ++ q)))
+    ∙ ap (λ l. d ++ l) (append_assoc s e (w ++ (a ++ (o ++ q))))

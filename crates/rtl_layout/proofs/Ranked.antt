@@ -1,0 +1,193 @@
+-- A rank falls along the wires.
+use Rattle.std.proofs.Common.{◌≡◌, ℕ, zero, suc, ◌+◌, ◌-◌, ◌^◌, ◌<◌, ◌≤◌, Bool, true, false, cond, nat_lt, List, [], ◌∷◌, ◌++◌, length, take, drop, map, refl, sym, subst, arith, inl, inr}
+use Rattle.std.proofs.lemmas.Bool.{ltb-true}
+use Rattle.std.proofs.lemmas.Bool.Decides.{eqb_tells, leb_tells}
+use Rattle.std.proofs.lemmas.List.{length-drop}
+use Rattle.std.proofs.lemmas.Nat.{pow_pos}
+use Rattle.std.specs.Prelude.{slice_index_or}
+use Rattle.std.specs.Str.{bytes_eq}
+use Rattle.verilog_tree.specs.Plain.{Expression, Net, BitSelect, PartSelect, Literal, Concatenation, Prefixed, Infixed, Conditional, Expressions, NoMore, Followed, ModuleItem, WireItem, RegItem, AssignItem, AlwaysItem}
+use Rattle.verilog_tree.specs.Meaning.{bit}
+use Rattle.verilog_tree.specs.Wires.{Uses, UsesAny, Leads, Falls}
+use Rattle.rtl_layout.specs.Build.{lit, choose, bit_of, leaf, below, pick}
+use Rattle.rtl_layout.specs.declared.element.Operation.{Operation}
+use Rattle.rtl_layout.specs.declared.row.Row.{Row}
+use Rattle.rtl_layout.specs.Plan.{Element, Plan, several, port_word}
+use Rattle.rtl_layout.specs.Layout as L
+use Rattle.rtl_layout.specs.Layout.{stage_regs, items_after, by_operation, by_element, word}
+use Rattle.rtl_layout.specs.Control.{nothing, idle, element_at}
+use Rattle.rtl_layout.specs.Shows.{Ready}
+use Rattle.rtl_layout.proofs.Choice.{leaf_map, length_map, leaf_drop, leaf_take, length_take}
+
+-- What holds of all leaves, and of a choice where it holds of both sides, holds of the whole. The number
+-- counts the choices above a leaf.
+pub below_has : (n : List ℕ) (k : ℕ) (P : ℕ → Expression → Type 0) → ((i : ℕ) (x : Expression) → P i x → P (suc i) x)
+    → ((i : ℕ) (x y : Expression) → i < k → P i x → P i y → P (suc i) (choose (bit_of n k i) x y))
+    → (i : ℕ) (xs : List Expression) → i ≤ k → 0 < length xs → ((j : ℕ) → j < length xs → P 0 (leaf xs j)) → P i (below n k i xs)
+below_has n k P up both zero xs h l a = a 0 l
+below_has n k P up both (suc i) xs h l a =
+    elim (leb_tells (length xs) (2 ^ i)) [
+      | inl q ↦ subst (λ t. P (suc i) (cond t (below n k i xs) (choose (bit_of n k i) (below n k i (drop (2 ^ i) xs)) (below n k i (take (2 ^ i) xs))))) (sym q.0) (up i (below n k i xs) (below_has n k P up both i xs (omega arith) l a))
+      | inr q ↦
+          let many = q.1 in
+          let behind = length-drop (2 ^ i) xs in
+          let before = length_take (2 ^ i) xs (omega arith) in
+          let p = pow_pos i in
+          subst (λ t. P (suc i) (cond t (below n k i xs) (choose (bit_of n k i) (below n k i (drop (2 ^ i) xs)) (below n k i (take (2 ^ i) xs))))) (sym q.0)
+          (both i (below n k i (drop (2 ^ i) xs)) (below n k i (take (2 ^ i) xs)) (omega arith)
+          (below_has n k P up both i (drop (2 ^ i) xs) (omega arith) (omega arith) (λ j g. subst (λ x. P 0 x) (sym (leaf_drop (2 ^ i) j (2 ^ i + j) xs refl)) (a (2 ^ i + j) (omega arith))))
+          (below_has n k P up both i (take (2 ^ i) xs) (omega arith) (omega arith) (λ j g. subst (λ x. P 0 x) (sym (leaf_take (2 ^ i) j xs (omega arith))) (a j (omega arith)))))
+    ]
+
+pub pick_has : {A : Type 0} (n : List ℕ) (k : ℕ) (P : ℕ → Expression → Type 0) → ((i : ℕ) (x : Expression) → P i x → P (suc i) x)
+    → ((i : ℕ) (x y : Expression) → i < k → P i x → P i y → P (suc i) (choose (bit_of n k i) x y))
+    → (f : A → Expression) (d : A) (xs : List A) → 0 < length xs → ((j : ℕ) → j < length xs → P 0 (f (slice_index_or xs j d))) → P k (pick n k (map f xs))
+pick_has n k P up both f d xs h a =
+    let size = length_map f xs in
+    below_has n k P up both k (map f xs) (omega arith) (omega arith) (λ j g. subst (λ x. P 0 x) (sym (leaf_map f d xs j (omega arith))) (a j (omega arith)))
+
+-- ---- ranks
+
+abbrev mutual
+  pub Under : (List ℕ → ℕ) → ℕ → Expression → Type 0
+  Under rank r (Net m) = nat_lt (rank m) r ≡ true
+  Under rank r (BitSelect m i) = nat_lt (rank m) r ≡ true
+  Under rank r (PartSelect m h l) = nat_lt (rank m) r ≡ true
+  Under rank r (Literal b) = Unit {0}
+  Under rank r (Concatenation xs) = UnderAll rank r xs
+  Under rank r (Prefixed o x) = Under rank r x
+  Under rank r (Infixed o x y) = Under rank r x × Under rank r y
+  Under rank r (Conditional c x y) = Under rank r c × Under rank r x × Under rank r y
+
+  pub UnderAll : (List ℕ → ℕ) → ℕ → Expressions → Type 0
+  UnderAll rank r NoMore = Unit {0}
+  UnderAll rank r (Followed x xs) = Under rank r x × UnderAll rank r xs
+
+mutual
+  under_uses : (rank : List ℕ → ℕ) (r : ℕ) (m : List ℕ) (x : Expression) → Under rank r x → Uses m x → rank m < r
+  under_uses rank r m (Net k) h u = rw u (ltb-true _ _ h)
+  under_uses rank r m (BitSelect k i) h u = rw u (ltb-true _ _ h)
+  under_uses rank r m (PartSelect k i l) h u = rw u (ltb-true _ _ h)
+  under_uses rank r m (Literal b) h u = absurd u
+  under_uses rank r m (Concatenation xs) h u = all_uses rank r m xs h u
+  under_uses rank r m (Prefixed o x) h u = under_uses rank r m x h u
+  under_uses rank r m (Infixed o x y) h u = elim u [ inl v ↦ under_uses rank r m x h.0 v | inr v ↦ under_uses rank r m y h.1 v ]
+  under_uses rank r m (Conditional c x y) h u =
+      elim u [ inl v ↦ under_uses rank r m c h.0 v | inr q ↦ elim q [ inl v ↦ under_uses rank r m x h.1 v | inr v ↦ under_uses rank r m y h.2 v ] ]
+
+  all_uses : (rank : List ℕ → ℕ) (r : ℕ) (m : List ℕ) (xs : Expressions) → UnderAll rank r xs → UsesAny m xs → rank m < r
+  all_uses rank r m NoMore h u = absurd u
+  all_uses rank r m (Followed x xs) h u = elim u [ inl v ↦ under_uses rank r m x h.0 v | inr v ↦ all_uses rank r m xs h.1 v ]
+
+-- the rank falls along each assign
+abbrev pub Ranked : (List ℕ → ℕ) → List ModuleItem → Type 0
+Ranked rank [] = Unit {0}
+Ranked rank (WireItem n k ∷ is) = Ranked rank is
+Ranked rank (RegItem n k ∷ is) = Ranked rank is
+Ranked rank (AssignItem n x ∷ is) = Under rank (rank n) x × Ranked rank is
+Ranked rank (AlwaysItem c ss ∷ is) = Ranked rank is
+
+falls : (rank : List ℕ → ℕ) (is : List ModuleItem) → Ranked rank is → (n m : List ℕ) → Leads is n m → rank m < rank n
+falls rank [] h n m l = absurd l
+falls rank (WireItem k v ∷ is) h n m l = falls rank is h n m l
+falls rank (RegItem k v ∷ is) h n m l = falls rank is h n m l
+falls rank (AssignItem k x ∷ is) h n m l = elim l [ inl v ↦ rw v.0 (under_uses rank (rank k) m x h.0 v.1) | inr v ↦ falls rank is h.1 n m v ]
+falls rank (AlwaysItem c ss ∷ is) h n m l = falls rank is h n m l
+
+stages_ranked : (rank : List ℕ → ℕ) (many : Bool) (w i n : ℕ) (rest : List ModuleItem) → Ranked rank rest → Ranked rank (stage_regs many w i n ++ rest)
+stages_ranked rank many w i zero rest h = h
+stages_ranked rank true w i (suc n) rest h = stages_ranked rank true w (suc i) n rest h
+stages_ranked rank false w i (suc n) rest h = stages_ranked rank false w (suc i) n rest h
+
+-- registers and inputs have 0, wires 1 or 2, ports 3
+abbrev level : List (List ℕ) → ℕ → ℕ → List ℕ → ℕ
+level [] k other n = other
+level (m ∷ ms) k other n = cond (bytes_eq n m) k (level ms k other n)
+
+abbrev pub rank : List ℕ → ℕ
+rank n =
+    level (L.write ∷ L.value ∷ L.down ∷ L.pause ∷ L.last_oper ∷ L.last_element ∷ L.last_back ∷ []) 1
+    (level (L.last_visit ∷ L.live ∷ L.index ∷ []) 2
+    (level (L.en ∷ L.we ∷ L.addr ∷ L.wdata ∷ L.done ∷ L.fail ∷ []) 3 0 n) n) n
+
+bit_under : (r : List ℕ → ℕ) (k : ℕ) (n : List ℕ) (v i : ℕ) → nat_lt (r n) k ≡ true → Under r k (bit_of n v i)
+bit_under r k n v i h = elim (eqb_tells v 1) [ inl q ↦ subst (λ t. Under r k (cond t (Net n) (BitSelect n i))) (sym q.0) h | inr q ↦ subst (λ t. Under r k (cond t (Net n) (BitSelect n i))) (sym q.0) h ]
+
+pick_under : {A : Type 0} (r : List ℕ → ℕ) (k : ℕ) (n : List ℕ) (v : ℕ) (f : A → Expression) (d : A) (xs : List A) → nat_lt (r n) k ≡ true → 0 < length xs → ((j : ℕ) → j < length xs → Under r k (f (slice_index_or xs j d))) → Under r k (pick n v (map f xs))
+pick_under r k n v f d xs h l a = pick_has n v (λ i x. Under r k x) (λ i x u. u) (λ i x y g a b. (bit_under r k n v i h, a, b)) f d xs l a
+
+module _ (p : Plan) (ready : Ready p) where
+  element_under : (k s : ℕ) (f : Element → ℕ) → nat_lt 0 k ≡ true → Under rank k (by_element p s f)
+  element_under k s f h = pick_under rank k L.element p.element_width (λ (x : Element). lit s (f x)) nothing p.elements h ready.has_element (λ j g. tt)
+
+  operation_under : (k : ℕ) (f : Operation → Bool) → nat_lt 0 k ≡ true → Under rank k (by_operation p f)
+  operation_under k f h =
+      pick_under rank k L.element p.element_width (λ (x : Element). pick L.oper p.oper_width (map (λ (o : Operation). lit 1 (bit (f o))) x.operations)) nothing p.elements h ready.has_element
+      (λ j g. pick_under rank k L.oper p.oper_width (λ (o : Operation). lit 1 (bit (f o))) idle (element_at p j).operations h (ready.has_operation j) (λ i m. tt))
+
+  word_under : Under rank 3 (word p L.back L.value)
+  word_under = pick_under rank 3 L.back p.back_width (λ b. choose (Net L.value) (lit p.bits (port_word p true b)) (lit p.bits (port_word p false b))) 0 p.backgrounds refl ready.has_background (λ j g. (refl, tt, tt))
+
+  visited_under : Under rank 2 (L.visited p)
+  visited_under = elim (eqb_tells p.addr_width p.visit_width) [
+    | inl q ↦ subst (λ t. Under rank 2 (cond t (Net L.visit) (PartSelect L.visit (p.addr_width - 1) 0))) (sym q.0) refl
+    | inr q ↦ subst (λ t. Under rank 2 (cond t (Net L.visit) (PartSelect L.visit (p.addr_width - 1) 0))) (sym q.0) refl
+  ]
+
+  rows_under : (rs : List Row) (xs : Expressions) → UnderAll rank 3 xs → UnderAll rank 3 (L.address_bits p rs xs)
+  rows_under [] xs h = h
+  rows_under (r ∷ rs) xs h = rows_under rs (Followed (L.row_bit p.addr_width r) xs) (((refl, tt), tt), h)
+
+  address_under : Under rank 3 (L.address p)
+  address_under = elim p.straight as (λ t. Under rank 3 (cond t (Net L.index) (Concatenation (L.address_bits p p.rows NoMore)))) [ true ↦ refl | false ↦ rows_under p.rows NoMore tt ]
+
+  pub rank_falls : Falls rank (L.items p)
+  rank_falls = falls rank (L.items p) (stages_ranked rank (several p) p.back_width 0 p.delay (items_after p) (
+    operation_under 1 (λ o. o.write) refl,
+    (
+      operation_under 1 (λ o. o.bit) refl,
+      (
+        element_under 1 1 (λ x. bit x.down) refl,
+        (
+          element_under 1 1 (λ x. bit x.pause) refl,
+          (
+            (refl, element_under 1 p.oper_width (λ x. length x.operations - 1) refl),
+            (
+              (refl, (refl, tt, tt)),
+              (
+                (refl, tt),
+                (
+                  (refl, tt),
+                  (
+                    (refl, tt, refl),
+                    (
+                      (refl, (tt, visited_under), visited_under),
+                      (
+                        (refl, tt, refl),
+                        (
+                          refl,
+                          (
+                            address_under,
+                            (
+                              word_under,
+                              (
+                                (refl, tt, refl),
+                                (
+                                  (refl, tt, refl),
+                                  tt,
+                                ),
+                              ),
+                            ),
+                          ),
+                        ),
+                      ),
+                    ),
+                  ),
+                ),
+              ),
+            ),
+          ),
+        ),
+      ),
+    ),
+  ))

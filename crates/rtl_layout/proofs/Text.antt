@@ -1,0 +1,338 @@
+-- The module can be written as text: its names are legal, and it nests at most 64 deep.
+use Rattle.std.proofs.Common.{◌≡◌, ℕ, zero, suc, ◌+◌, ◌-◌, ◌<◌, ◌≤◌, Bool, true, false, cond, ◌&&◌, nat_lt, List, [], ◌∷◌, ◌++◌, length, map, refl, sym, subst, arith, inl, inr}
+use Rattle.std.proofs.lemmas.Bool.{lt-ltb, ltb-true, and_parts}
+use Rattle.std.proofs.lemmas.Bool.Decides.{eqb_tells}
+use Rattle.std.specs.Prelude.{slice_index_or}
+use Rattle.verilog_tree.specs.Plain.{Expression, Net, BitSelect, PartSelect, Literal, Concatenation, Prefixed, Infixed, Conditional, Expressions, NoMore, Followed, Statement, SetTo, IfElse, CaseOf, statements, ModuleItem}
+use Rattle.verilog_tree.specs.declared.tree.BinOp.TheVariants.{Ne}
+use Rattle.verilog_tree.specs.Words.{is_name}
+use Rattle.verilog_tree.specs.Formed.{formed}
+use Rattle.verilog_tree.specs.Fits.{expression_fits, expressions_fit, statements_fit, item_fits, items_fit, ports_fit, fits}
+use Rattle.verilog_tree.specs.Meaning.{bit}
+use Rattle.rtl_layout.specs.Build.{lit, choose, bit_of, pick, at_reset}
+use Rattle.rtl_layout.specs.declared.element.Operation.{Operation}
+use Rattle.rtl_layout.specs.declared.row.Row.{Row}
+use Rattle.rtl_layout.specs.Plan.{Element, Plan, several, port_word}
+use Rattle.rtl_layout.specs.Layout as L
+use Rattle.rtl_layout.specs.Layout.{stage_regs, stage_sets, items_after, by_operation, by_element, word, feed_reads, feed_over, self_test, reads_at, over_at, value_at, back_at, aged}
+use Rattle.rtl_layout.specs.Control.{nothing, idle, element_at}
+use Rattle.rtl_layout.specs.Shows.{Ready, Sized}
+use Rattle.rtl_layout.proofs.Ranked.{pick_has}
+use Rattle.rtl_layout.proofs.Forms.{both, is_formed}
+
+-- more openings may be open
+mutual
+  more : (j k : ℕ) → j ≤ k → (x : Expression) → expression_fits j x ≡ true → expression_fits k x ≡ true
+  more j k l (Net n) h = h
+  more j k l (BitSelect n i) h = h
+  more j k l (PartSelect n i o) h = h
+  more j k l (Literal b) h = h
+  more j k l (Concatenation xs) h =
+      let p = and_parts (nat_lt 0 j) (expressions_fit (j - 1) xs) h in
+      let some = ltb-true 0 j p.0 in
+      both (nat_lt 0 k) (expressions_fit (k - 1) xs) (lt-ltb 0 k (omega arith)) (more_parts (j - 1) (k - 1) (omega arith) xs p.1)
+  more j k l (Prefixed o x) h =
+      let p = and_parts (nat_lt 0 j) (expression_fits (j - 1) x) h in
+      let some = ltb-true 0 j p.0 in
+      both (nat_lt 0 k) (expression_fits (k - 1) x) (lt-ltb 0 k (omega arith)) (more (j - 1) (k - 1) (omega arith) x p.1)
+  more j k l (Infixed o x y) h =
+      let q = and_parts (nat_lt 0 j && expression_fits (j - 1) x) (expression_fits (j - 1) y) h in
+      let p = and_parts (nat_lt 0 j) (expression_fits (j - 1) x) q.0 in
+      let some = ltb-true 0 j p.0 in
+      both (nat_lt 0 k && expression_fits (k - 1) x) (expression_fits (k - 1) y) (both (nat_lt 0 k) (expression_fits (k - 1) x) (lt-ltb 0 k (omega arith)) (more (j - 1) (k - 1) (omega arith) x p.1)) (more (j - 1) (k - 1) (omega arith) y q.1)
+  more j k l (Conditional c x y) h =
+      let r = and_parts (nat_lt 0 j && expression_fits (j - 1) c && expression_fits (j - 1) x) (expression_fits (j - 1) y) h in
+      let q = and_parts (nat_lt 0 j && expression_fits (j - 1) c) (expression_fits (j - 1) x) r.0 in
+      let p = and_parts (nat_lt 0 j) (expression_fits (j - 1) c) q.0 in
+      let some = ltb-true 0 j p.0 in
+      both (nat_lt 0 k && expression_fits (k - 1) c && expression_fits (k - 1) x) (expression_fits (k - 1) y)
+      (both (nat_lt 0 k && expression_fits (k - 1) c) (expression_fits (k - 1) x) (both (nat_lt 0 k) (expression_fits (k - 1) c) (lt-ltb 0 k (omega arith)) (more (j - 1) (k - 1) (omega arith) c p.1)) (more (j - 1) (k - 1) (omega arith) x q.1))
+      (more (j - 1) (k - 1) (omega arith) y r.1)
+
+  more_parts : (j k : ℕ) → j ≤ k → (xs : Expressions) → expressions_fit j xs ≡ true → expressions_fit k xs ≡ true
+  more_parts j k l NoMore h = refl
+  more_parts j k l (Followed x xs) h =
+      let p = and_parts (expression_fits j x) (expressions_fit j xs) h in
+      both (expression_fits k x) (expressions_fit k xs) (more j k l x p.0) (more_parts j k l xs p.1)
+
+choose_fits : (k : ℕ) (c x y : Expression) → expression_fits k c ≡ true → expression_fits k x ≡ true → expression_fits k y ≡ true → expression_fits (suc k) (choose c x y) ≡ true
+choose_fits k c x y p q r =
+    let e : suc k - 1 ≡ k = omega arith in
+    subst (λ j. (nat_lt 0 (suc k) && expression_fits j c && expression_fits j x && expression_fits j y) ≡ true) (sym e)
+    (both (nat_lt 0 (suc k) && expression_fits k c && expression_fits k x) (expression_fits k y) (both (nat_lt 0 (suc k) && expression_fits k c) (expression_fits k x) (both (nat_lt 0 (suc k)) (expression_fits k c) (lt-ltb 0 (suc k) (omega arith)) p) q) r)
+
+bit_of_fits : (k : ℕ) (n : List ℕ) (v i : ℕ) → is_name n ≡ true → expression_fits k (bit_of n v i) ≡ true
+bit_of_fits k n v i h = elim (eqb_tells v 1) [
+  | inl q ↦ subst (λ t. expression_fits k (cond t (Net n) (BitSelect n i)) ≡ true) (sym q.0) h
+  | inr q ↦ subst (λ t. expression_fits k (cond t (Net n) (BitSelect n i)) ≡ true) (sym q.0) h
+]
+
+-- a choice among leaves that nest d deep, on v bits
+pick_fits : {A : Type 0} (d : ℕ) (n : List ℕ) (v : ℕ) (f : A → Expression) (o : A) (xs : List A) → is_name n ≡ true → 0 < length xs → ((j : ℕ) → j < length xs → expression_fits d (f (slice_index_or xs j o)) ≡ true) → expression_fits (d + v) (pick n v (map f xs)) ≡ true
+pick_fits d n v f o xs h l a =
+    pick_has n v (λ i x. expression_fits (d + i) x ≡ true)
+    (λ i x u. more (d + i) (d + suc i) (omega arith) x u)
+    (λ i x y g p q. let e : suc (d + i) ≡ d + suc i = omega arith in subst (λ k. expression_fits k (choose (bit_of n v i) x y) ≡ true) e (choose_fits (d + i) (bit_of n v i) x y (bit_of_fits (d + i) n v i h) p q))
+    f o xs l (λ j g. let e : d ≡ d + 0 = omega arith in subst (λ k. expression_fits k (f (slice_index_or xs j o)) ≡ true) e (a j g))
+
+-- the names of ages
+reads_name : (j : ℕ) → j < 4 → is_name (reads_at (suc j)) ≡ true
+reads_name (suc (suc (suc (suc j)))) h = absurd (omega arith)
+reads_name j h = refl
+
+over_name : (j : ℕ) → j < 4 → is_name (over_at (suc j)) ≡ true
+over_name (suc (suc (suc (suc j)))) h = absurd (omega arith)
+over_name j h = refl
+
+value_name : (j : ℕ) → j < 4 → is_name (value_at (suc j)) ≡ true
+value_name (suc (suc (suc (suc j)))) h = absurd (omega arith)
+value_name j h = refl
+
+back_name : (j : ℕ) → j < 4 → is_name (aged L.back (suc j)) ≡ true
+back_name (suc (suc (suc (suc j)))) h = absurd (omega arith)
+back_name j h = refl
+
+abbrev Fit : ℕ → Expression → Type 0
+Fit k x = expression_fits k x ≡ true
+
+module _ (p : Plan) (ready : Ready p) (sized : Sized p) (few : p.delay < 4) (element_few : p.element_width ≤ 16) (oper_few : p.oper_width ≤ 16) (back_few : p.back_width ≤ 16) where
+  by_element_fits : (s : ℕ) (f : Element → ℕ) → Fit 63 (by_element p s f)
+  by_element_fits s f = more (0 + p.element_width) 63 (omega arith) (by_element p s f) (pick_fits 0 L.element p.element_width (λ (x : Element). lit s (f x)) nothing p.elements refl ready.has_element (λ j g. refl))
+
+  by_operation_fits : (f : Operation → Bool) → Fit 64 (by_operation p f)
+  by_operation_fits f =
+      more (0 + p.oper_width + p.element_width) 64 (omega arith) (by_operation p f)
+      (pick_fits (0 + p.oper_width) L.element p.element_width (λ (x : Element). pick L.oper p.oper_width (map (λ (o : Operation). lit 1 (bit (f o))) x.operations)) nothing p.elements refl ready.has_element
+      (λ j g. pick_fits 0 L.oper p.oper_width (λ (o : Operation). lit 1 (bit (f o))) idle (element_at p j).operations refl (ready.has_operation j) (λ i h. refl)))
+
+  word_fits : (k v : List ℕ) → is_name k ≡ true → is_name v ≡ true → Fit 62 (word p k v)
+  word_fits k v h g =
+      more (1 + p.back_width) 62 (omega arith) (word p k v)
+      (pick_fits 1 k p.back_width (λ b. choose (Net v) (lit p.bits (port_word p true b)) (lit p.bits (port_word p false b))) 0 p.backgrounds h ready.has_background
+      (λ j l. choose_fits 0 (Net v) (lit p.bits (port_word p true (slice_index_or p.backgrounds j 0))) (lit p.bits (port_word p false (slice_index_or p.backgrounds j 0))) g refl refl))
+
+  visited_fits : (k : ℕ) → Fit k (L.visited p)
+  visited_fits k = elim (eqb_tells p.addr_width p.visit_width) [
+    | inl q ↦ subst (λ t. Fit k (cond t (Net L.visit) (PartSelect L.visit (p.addr_width - 1) 0))) (sym q.0) refl
+    | inr q ↦ subst (λ t. Fit k (cond t (Net L.visit) (PartSelect L.visit (p.addr_width - 1) 0))) (sym q.0) refl
+  ]
+
+  rows_fit : (rs : List Row) (xs : Expressions) → expressions_fit 63 xs ≡ true → expressions_fit 63 (L.address_bits p rs xs) ≡ true
+  rows_fit [] xs h = h
+  rows_fit (r ∷ rs) xs h = rows_fit rs (Followed (L.row_bit p.addr_width r) xs) h
+
+  address_fits : Fit 64 (L.address p)
+  address_fits = elim p.straight as (λ t. Fit 64 (cond t (Net L.index) (Concatenation (L.address_bits p p.rows NoMore)))) [ true ↦ refl | false ↦ rows_fit p.rows NoMore refl ]
+
+  abbrev SetsFit : List Statement → Type 0
+  SetsFit [] = Unit {0}
+  SetsFit (SetTo n x ∷ ss) = (is_name n ≡ true) × Fit 63 x × SetsFit ss
+  SetsFit (IfElse c a b ∷ ss) = ⊥
+  SetsFit (CaseOf x a d ∷ ss) = ⊥
+
+  sets_fit : (ss : List Statement) → SetsFit ss → statements_fit 63 (statements ss) ≡ true
+  sets_fit [] h = refl
+  sets_fit (SetTo n x ∷ ss) h = both (is_name n && expression_fits 63 x) (statements_fit 63 (statements ss)) (both (is_name n) (expression_fits 63 x) h.0 h.1) (sets_fit ss h.2)
+  sets_fit (IfElse c a b ∷ ss) h = absurd h
+  sets_fit (CaseOf x a d ∷ ss) h = absurd h
+
+  gated_fits : (w a : ℕ) (x : Expression) → Fit 62 x → Fit 63 (at_reset (lit w a) x)
+  gated_fits w a x h = choose_fits 62 (Net L.reset) (lit w a) x refl refl h
+
+  feeds_fit : (i : ℕ) → i < 4 → Fit 62 (feed_reads i) × Fit 62 (feed_over i)
+  feeds_fit zero h = (refl, refl)
+  feeds_fit (suc i) h = (reads_name i (omega arith), over_name i (omega arith))
+
+  value_fits : (i : ℕ) → i < 4 → Fit 62 (Net (value_at i))
+  value_fits zero h = refl
+  value_fits (suc i) h = value_name i (omega arith)
+
+  back_fits : (many : Bool) (i : ℕ) → i < 4 → Fit 62 (Net (back_at many i))
+  back_fits many zero h = refl
+  back_fits true (suc i) h = back_name i (omega arith)
+  back_fits false (suc i) h = refl
+
+  stages_fit : (many : Bool) (i n : ℕ) → i + n < 4 → (ss : List Statement) → SetsFit ss → SetsFit (stage_sets many p.back_width i n ++ ss)
+  stages_fit many i zero l ss h = (reads_name i (omega arith), gated_fits 1 0 (feed_reads i) ((feeds_fit i (omega arith)).0), (over_name i (omega arith), gated_fits 1 0 (feed_over i) ((feeds_fit i (omega arith)).1), h))
+  stages_fit true i (suc n) l ss h = (
+    reads_name i (omega arith),
+    gated_fits 1 0 (feed_reads i) ((feeds_fit i (omega arith)).0),
+    (
+      over_name i (omega arith),
+      gated_fits 1 0 (feed_over i) ((feeds_fit i (omega arith)).1),
+      (
+        value_name i (omega arith),
+        gated_fits 1 0 (Net (value_at i)) (value_fits i (omega arith)),
+        (
+          back_name i (omega arith),
+          gated_fits p.back_width 0 (Net (back_at true i)) (back_fits true i (omega arith)),
+          stages_fit true (suc i) n (omega arith) ss h,
+        ),
+      ),
+    ),
+  )
+  stages_fit false i (suc n) l ss h = (
+    reads_name i (omega arith),
+    gated_fits 1 0 (feed_reads i) ((feeds_fit i (omega arith)).0),
+    (
+      over_name i (omega arith),
+      gated_fits 1 0 (feed_over i) ((feeds_fit i (omega arith)).1),
+      (
+        value_name i (omega arith),
+        gated_fits 1 0 (Net (value_at i)) (value_fits i (omega arith)),
+        stages_fit false (suc i) n (omega arith) ss h,
+      ),
+    ),
+  )
+
+  block_fits : statements_fit 63 (statements (L.sets_all p)) ≡ true
+  block_fits =
+      let inner = choose (Infixed Ne (Net L.rdata) (Net L.want)) (lit 1 1) (Net L.bad) in
+      sets_fit (L.sets_all p) (
+        refl,
+        refl,
+        (
+          refl,
+          refl,
+          (
+            refl,
+            refl,
+            (
+              refl,
+              refl,
+              (
+                refl,
+                refl,
+                stages_fit (several p) 0 p.delay (omega arith) (L.end_sets p) (
+                  refl,
+                  gated_fits p.bits 0 (word p (back_at (several p) p.delay) (value_at p.delay)) (word_fits (back_at (several p) p.delay) (value_at p.delay) (back_fits (several p) p.delay few) (value_fits p.delay few)),
+                  (refl, gated_fits 1 0 (choose (Net (reads_at (suc p.delay))) inner (Net L.bad)) (choose_fits 61 (Net (reads_at (suc p.delay))) inner (Net L.bad) (reads_name p.delay few) refl refl), tt),
+                ),
+              ),
+            ),
+          ),
+        ),
+      )
+
+  abbrev ItemsFit : List ModuleItem → Type 0
+  ItemsFit [] = Unit {0}
+  ItemsFit (i ∷ is) = (item_fits 64 i ≡ true) × ItemsFit is
+
+  all_fit : (is : List ModuleItem) → ItemsFit is → items_fit 64 is ≡ true
+  all_fit [] h = refl
+  all_fit (i ∷ is) h = both (item_fits 64 i) (items_fit 64 is) h.0 (all_fit is h.1)
+
+  stage_items_fit : (many : Bool) (i n : ℕ) → i + n < 4 → (rest : List ModuleItem) → ItemsFit rest → ItemsFit (stage_regs many p.back_width i n ++ rest)
+  stage_items_fit many i zero l rest h = (reads_name i (omega arith), (over_name i (omega arith), h))
+  stage_items_fit true i (suc n) l rest h = (reads_name i (omega arith), (over_name i (omega arith), (value_name i (omega arith), (back_name i (omega arith), stage_items_fit true (suc i) n (omega arith) rest h))))
+  stage_items_fit false i (suc n) l rest h = (reads_name i (omega arith), (over_name i (omega arith), (value_name i (omega arith), stage_items_fit false (suc i) n (omega arith) rest h)))
+
+  items_are_fit : items_fit 64 (L.items p) ≡ true
+  items_are_fit = all_fit (L.items p) (
+    refl,
+    (
+      refl,
+      (
+        refl,
+        (
+          refl,
+          (
+            refl,
+            stage_items_fit (several p) 0 p.delay (omega arith) (items_after p) (
+              refl,
+              (
+                refl,
+                (
+                  refl,
+                  (
+                    refl,
+                    (
+                      refl,
+                      (
+                        refl,
+                        (
+                          refl,
+                          (
+                            refl,
+                            (
+                              refl,
+                              (
+                                refl,
+                                (
+                                  refl,
+                                  (
+                                    refl,
+                                    (
+                                      by_operation_fits (λ o. o.write),
+                                      (
+                                        by_operation_fits (λ o. o.bit),
+                                        (
+                                          more 63 64 (omega arith) (by_element p 1 (λ x. bit x.down)) (by_element_fits 1 (λ x. bit x.down)),
+                                          (
+                                            more 63 64 (omega arith) (by_element p 1 (λ x. bit x.pause)) (by_element_fits 1 (λ x. bit x.pause)),
+                                            (
+                                              by_element_fits p.oper_width (λ x. length x.operations - 1),
+                                              (
+                                                refl,
+                                                (
+                                                  refl,
+                                                  (
+                                                    refl,
+                                                    (
+                                                      refl,
+                                                      (
+                                                        both (expression_fits 62 (L.visited p)) (expression_fits 63 (L.visited p)) (visited_fits 62) (visited_fits 63),
+                                                        (
+                                                          refl,
+                                                          (
+                                                            refl,
+                                                            (
+                                                              address_fits,
+                                                              (
+                                                                more 62 64 (omega arith) (word p L.back L.value) (word_fits L.back L.value refl refl),
+                                                                (
+                                                                  over_name p.delay few,
+                                                                  (
+                                                                    refl,
+                                                                    (
+                                                                      block_fits,
+                                                                      tt,
+                                                                    ),
+                                                                  ),
+                                                                ),
+                                                              ),
+                                                            ),
+                                                          ),
+                                                        ),
+                                                      ),
+                                                    ),
+                                                  ),
+                                                ),
+                                              ),
+                                            ),
+                                          ),
+                                        ),
+                                      ),
+                                    ),
+                                  ),
+                                ),
+                              ),
+                            ),
+                          ),
+                        ),
+                      ),
+                    ),
+                  ),
+                ),
+              ),
+            ),
+          ),
+        ),
+      ),
+    ),
+  )
+
+  pub all_fits : is_name p.name ≡ true → fits (self_test p) ≡ true
+  all_fits n =
+      both (formed (self_test p) && is_name p.name && ports_fit (L.ports p)) (items_fit 64 (L.items p))
+      (both (formed (self_test p) && is_name p.name) (ports_fit (L.ports p)) (both (formed (self_test p)) (is_name p.name) (is_formed p ready sized) n) refl) items_are_fit

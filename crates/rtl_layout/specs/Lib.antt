@@ -1,0 +1,7 @@
+pub mod Build
+pub mod Plan
+pub mod Layout
+pub mod Control
+pub mod Shows
+pub mod Seen
+pub mod Flags

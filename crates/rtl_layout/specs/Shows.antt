@@ -1,0 +1,116 @@
+-- When registers show a controller, and ports answer for it.
+use Rattle.std.specs.Prelude.{◌≡◌, ℕ, suc, ◌^◌, ◌<◌, ◌≤◌, Bool, true, false, List, [], ◌∷◌, length, slice_index_or}
+use Rattle.verilog_tree.specs.Words.{is_name}
+use Rattle.verilog_tree.specs.Meaning.{Env, bit, History}
+use Rattle.rtl_layout.specs.declared.row.Row.{Row}
+use Rattle.rtl_layout.specs.Plan.{Plan, several, limit}
+use Rattle.rtl_layout.specs.Layout.{reset, rdata, self_test, reads_at, over_at, value_at, back_at, oper, visit, element, back, run, want, bad, en, we, addr, wdata, done, fail}
+use Rattle.rtl_layout.specs.Control.{Stage, Control, Ports, start, step, outputs, here, logical, element_at, background_at}
+
+-- the numbers of a plan fit
+pub record Ready (p : Plan) : Type 0 where
+  pub has_element : 0 < length p.elements
+  pub has_background : 0 < length p.backgrounds
+  pub has_operation : (k : ℕ) → 0 < length (element_at p k).operations
+  pub has_word : 0 < p.words
+  pub has_pause : 0 < p.pause
+  pub elements_fit : length p.elements ≤ 2 ^ p.element_width
+  pub backgrounds_fit : length p.backgrounds ≤ 2 ^ p.back_width
+  pub words_fit : p.words ≤ 2 ^ p.visit_width
+  pub pause_fits : p.pause ≤ 2 ^ p.visit_width
+  pub operations_fit : (k : ℕ) → length (element_at p k).operations ≤ 2 ^ p.oper_width
+  pub index_fits : p.words ≤ 2 ^ p.addr_width
+  pub addr_some : 1 ≤ p.addr_width
+
+pub record ShowsStage (many : Bool) (i : ℕ) (s : Stage) (regs : Env) : Type 0 where
+  pub reads_is : regs (reads_at i) ≡ bit s.reads
+  pub over_is : regs (over_at i) ≡ bit s.over
+  pub value_is : regs (value_at i) ≡ bit s.value
+  pub back_is : regs (back_at many i) ≡ s.back
+
+abbrev pub ShowsStages : Bool → ℕ → List Stage → Env → Type 0
+ShowsStages many i [] regs = Unit {0}
+ShowsStages many i (s ∷ ss) regs = ShowsStage many (suc i) s regs × ShowsStages many (suc i) ss regs
+
+abbrev pub BacksIn : ℕ → List Stage → Type 0
+BacksIn k [] = Unit {0}
+BacksIn k (s ∷ ss) = (s.back < k) × BacksIn k ss
+
+pub record Shows (p : Plan) (c : Control) (regs : Env) : Type 0 where
+  pub oper_is : regs oper ≡ c.oper
+  pub visit_is : regs visit ≡ c.visit
+  pub element_is : regs element ≡ c.element
+  pub back_is : regs back ≡ c.back
+  pub run_is : regs run ≡ bit c.run
+  pub stages_are : ShowsStages (several p) 0 c.stages regs
+  pub reads_is : regs (reads_at (suc p.delay)) ≡ bit c.reads
+  pub over_is : regs (over_at (suc p.delay)) ≡ bit c.over
+  pub want_is : regs want ≡ c.want
+  pub bad_is : regs bad ≡ bit c.bad
+  pub stages_count : length c.stages ≡ p.delay
+  pub backs_in : BacksIn (length p.backgrounds) c.stages
+  pub oper_in : c.oper < length (here p c).operations
+  pub visit_in : c.visit < limit p (here p c)
+  pub element_in : c.element < length p.elements
+  pub back_in : c.back < length p.backgrounds
+
+-- The ports answer for the controller: the address where a command goes out.
+pub record Answers (p : Plan) (q : Ports) (e : Env) : Type 0 where
+  pub en_is : e en ≡ bit q.en
+  pub we_is : e we ≡ bit q.we
+  pub addr_is : q.en ≡ true → e addr ≡ logical p q.index
+  pub wdata_is : e wdata ≡ q.wdata
+  pub done_is : e done ≡ bit q.done
+  pub fail_is : e fail ≡ bit q.fail
+
+abbrev pub no_row : Row
+no_row = record { mask = 0; flip = false }
+
+abbrev pub mask_at : Plan → ℕ → ℕ
+mask_at p j = (slice_index_or p.rows j no_row).mask
+
+-- the widths of a plan are those of its module
+pub record Sized (p : Plan) : Type 0 where
+  pub addr_some : 1 ≤ p.addr_width
+  pub addr_narrow : p.addr_width ≤ 64
+  pub visit_holds : p.addr_width ≤ p.visit_width
+  pub visit_narrow : p.visit_width ≤ 64
+  pub element_some : 1 ≤ p.element_width
+  pub element_narrow : p.element_width ≤ 64
+  pub oper_some : 1 ≤ p.oper_width
+  pub oper_narrow : p.oper_width ≤ 64
+  pub back_some : 1 ≤ p.back_width
+  pub back_narrow : p.back_width ≤ 64
+  pub bits_some : 1 ≤ p.bits
+  pub bits_narrow : p.bits ≤ 64
+  pub rows_full : length p.rows ≡ p.addr_width
+  pub masks_fit : (j : ℕ) → j < length p.rows → mask_at p j < 2 ^ p.addr_width
+  pub grounds_fit : (j : ℕ) → j < length p.backgrounds → background_at p j < 2 ^ p.bits
+  pub polarity_fits : p.polarity < 2 ^ p.bits
+
+abbrev pub NoReset : List Env → Type 0
+NoReset [] = Unit {0}
+NoReset (i ∷ is) = (i reset ≡ 0) × NoReset is
+
+-- each cycle's ports answer for the controller of that cycle
+abbrev pub AllAnswer : Plan → Control → List Env → List Env → Type 0
+AllAnswer p c [] es = Unit {0}
+AllAnswer p c (i ∷ is) [] = Unit {0}
+AllAnswer p c (i ∷ is) (e ∷ es) = Answers p (outputs p c) e × AllAnswer p (step p (i rdata) c) is es
+
+-- Whatever the registers hold, the ports are quiet in a cycle with reset, and then answer for the
+-- controller from its start.
+abbrev pub AnswersAlways : Plan → Type 0
+AnswersAlways p =
+    (regs i e : Env) (is es : List Env) → i reset ≡ 1 → NoReset is → History (self_test p) regs (i ∷ is) (e ∷ es)
+    → ((e en ≡ 0) × (e done ≡ 0) × (e fail ≡ 0)) × AllAnswer p (start p) is es
+
+-- A plan of a module that can be written: at most four ages, which have a digit each, and names that are legal.
+pub record IsPlan (p : Plan) : Type 0 where
+  pub ready : Ready p
+  pub sized : Sized p
+  pub few_ages : p.delay ≤ 3
+  pub element_small : p.element_width ≤ 16
+  pub oper_small : p.oper_width ≤ 16
+  pub back_small : p.back_width ≤ 16
+  pub name : is_name p.name ≡ true

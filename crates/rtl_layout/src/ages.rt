@@ -1,0 +1,209 @@
+//! The registers of what was commanded some cycles ago.
+ghost use Rattle.std.specs.Prelude.{◌≡◌, ℕ, suc, ◌+◌, ◌<◌, ◌≤◌, IfOk, OnOk, length, map, ◌++◌, ◌∷◌, []};
+ghost use Rattle.verilog_tree.specs.Plain.{plain, plain_item, plain_stmt, RegItem, SetTo};
+ghost use Rattle.rtl_layout.specs.Build.{lit, at_reset};
+ghost use Rattle.rtl_layout.specs.Layout as L;
+
+use crate::digits::set;
+use crate::trees::{after_reset, choose, flag, gate, literal, name, net, unary};
+use arrayvec::ArrayString;
+use std::alloc::{AllocError, Global};
+use verilog_tree::{Decl, Expr, Item, Name, Stmt, UnOp};
+
+// The digit of an age.
+fn digit(age: u8) -> &'static str
+    requires some { 1 ≤ age }
+    requires few { age ≤ 4 }
+    ensures { result.now ≡ (48 + age) ∷ [] }
+{
+    match age {
+        1 => "1",
+        2 => "2",
+        3 => "3",
+        _ => "4",
+    }
+}
+
+/// A register's name with an age behind it.
+pub fn aged(text: &str, age: u8) -> Name
+    requires some { 1 ≤ age }
+    requires few { age ≤ 4 }
+    requires short { length text.now ≤ 8 }
+    ensures { result.bytes ≡ L.aged text.now age }
+{
+    let mut name = ArrayString::new();
+    name.push_str(text);
+    name.push_str(digit(age));
+    name
+}
+
+/// One register more.
+pub fn declare(items: &mut Vec<Item>, name: Name, width: u8) -> Result<(), AllocError>
+    ensures { OnOk result (map plain_item items.new.items ≡ map plain_item items.old.items ++ RegItem name.bytes width ∷ []) }
+{
+    items.push(Item::Reg(Decl { name, width }))?;
+    Ok(())
+}
+
+// The registers of an age that has a value.
+fn declare_age(items: &mut Vec<Item>, many: bool, width: u8, age: u8) -> Result<(), AllocError>
+    requires some { 1 ≤ age }
+    requires few { age ≤ 4 }
+    ensures { OnOk result (map plain_item items.new.items ≡ map plain_item items.old.items ++ L.age_regs many width age) }
+{
+    declare(items, aged("reads", age), 1)?;
+    declare(items, aged("over", age), 1)?;
+    declare(items, aged("value", age), 1)?;
+    if many {
+        declare(items, aged("back", age), width)?;
+    }
+    Ok(())
+}
+
+/// The registers of all ages, of which `delay` have a value.
+pub fn declare_ages(
+    items: &mut Vec<Item>,
+    many: bool,
+    width: u8,
+    delay: u8,
+) -> Result<(), AllocError>
+    requires { delay ≤ 3 }
+    ensures { OnOk result (map plain_item items.new.items ≡ map plain_item items.old.items ++ L.stage_regs many width 0 delay) }
+{
+    for i in 0..delay {
+        declare_age(items, many, width, i + 1)?;
+    }
+    declare(items, aged("reads", delay + 1), 1)?;
+    declare(items, aged("over", delay + 1), 1)?;
+    Ok(())
+}
+
+/// The name of the value of what was commanded `age` cycles ago.
+pub fn value_at(age: u8) -> Name
+    requires { age ≤ 4 }
+    ensures { result.bytes ≡ L.value_at age }
+{
+    if age == 0 {
+        name("value")
+    } else {
+        aged("value", age)
+    }
+}
+
+/// The name of its background's number, which needs no register of its own where there is one background.
+pub fn back_at(many: bool, age: u8) -> Name
+    requires { age ≤ 4 }
+    ensures { result.bytes ≡ L.back_at many age }
+{
+    if age == 0 || !many {
+        name("back")
+    } else {
+        aged("back", age)
+    }
+}
+
+// Whether a read was commanded `age` cycles ago.
+fn feed_reads(alloc: Global, age: u8) -> Result<Expr, AllocError>
+    requires { age ≤ 4 }
+    ensures { IfOk result (λ x. plain x ≡ L.feed_reads age) }
+{
+    if age == 0 {
+        choose(alloc, net(name("write")), flag(false), net(name("live")))
+    } else {
+        Ok(net(aged("reads", age)))
+    }
+}
+
+// Whether the run was over `age` cycles ago.
+fn feed_over(alloc: Global, age: u8) -> Result<Expr, AllocError>
+    requires { age ≤ 4 }
+    ensures { IfOk result (λ x. plain x ≡ L.feed_over age) }
+{
+    if age == 0 {
+        unary(alloc, UnOp::Not, net(name("run")))
+    } else {
+        Ok(net(aged("over", age)))
+    }
+}
+
+fn gated_reads(alloc: Global, age: u8) -> Result<Expr, AllocError>
+    requires { age ≤ 4 }
+    ensures { IfOk result (λ x. plain x ≡ L.gated (L.feed_reads age)) }
+{
+    let reads = feed_reads(alloc, age)?;
+    gate(alloc, reads)
+}
+
+fn gated_over(alloc: Global, age: u8) -> Result<Expr, AllocError>
+    requires { age ≤ 4 }
+    ensures { IfOk result (λ x. plain x ≡ L.gated (L.feed_over age)) }
+{
+    let over = feed_over(alloc, age)?;
+    gate(alloc, over)
+}
+
+// What an age takes from the one before it, whether it read and whether the run was over.
+fn set_ends(block: &mut Vec<Stmt>, alloc: Global, age: u8) -> Result<(), AllocError>
+    requires { age ≤ 3 }
+    ensures { OnOk result (map plain_stmt block.new.items ≡ map plain_stmt block.old.items ++ L.end_age_sets age) }
+{
+    let reads = gated_reads(alloc, age)?;
+    let over = gated_over(alloc, age)?;
+    set(block, aged("reads", age + 1), reads)?;
+    set(block, aged("over", age + 1), over)?;
+    Ok(())
+}
+
+// The number of its background.
+fn set_back(block: &mut Vec<Stmt>, alloc: Global, width: u8, age: u8) -> Result<(), AllocError>
+    requires few { age ≤ 3 }
+    requires positive { 1 ≤ width }
+    requires narrow { width ≤ 64 }
+    ensures { OnOk result (map plain_stmt block.new.items ≡ map plain_stmt block.old.items ++ L.back_set width age ∷ []) }
+{
+    let back = after_reset(alloc, literal(width, 0), net(back_at(true, age)))?;
+    set(block, aged("back", age + 1), back)?;
+    Ok(())
+}
+
+// The same, its value and its background.
+fn set_age(
+    block: &mut Vec<Stmt>,
+    alloc: Global,
+    many: bool,
+    width: u8,
+    age: u8,
+) -> Result<(), AllocError>
+    requires few { age ≤ 3 }
+    requires positive { 1 ≤ width }
+    requires narrow { width ≤ 64 }
+    ensures { OnOk result (map plain_stmt block.new.items ≡ map plain_stmt block.old.items ++ L.age_sets many width age) }
+{
+    let value = gate(alloc, net(value_at(age)))?;
+    set_ends(block, alloc, age)?;
+    set(block, aged("value", age + 1), value)?;
+    if many {
+        set_back(block, alloc, width, age)?;
+    }
+    Ok(())
+}
+
+/// What all ages take, of which `delay` have a value.
+pub fn set_ages(
+    block: &mut Vec<Stmt>,
+    alloc: Global,
+    many: bool,
+    width: u8,
+    delay: u8,
+) -> Result<(), AllocError>
+    requires few { delay ≤ 3 }
+    requires positive { 1 ≤ width }
+    requires narrow { width ≤ 64 }
+    ensures { OnOk result (map plain_stmt block.new.items ≡ map plain_stmt block.old.items ++ L.stage_sets many width 0 delay) }
+{
+    for i in 0..delay {
+        set_age(block, alloc, many, width, i)?;
+    }
+    set_ends(block, alloc, delay)?;
+    Ok(())
+}

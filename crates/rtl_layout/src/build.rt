@@ -1,0 +1,165 @@
+//! The module of a plan.
+ghost use Rattle.std.specs.Prelude.{◌≡◌, ◌≤◌, IfOk, OnOk, map, ◌++◌, ◌∷◌, []};
+ghost use Rattle.verilog_tree.specs.Plain.{plain, plain_item, plain_stmt, plain_module, statements, SetTo, AlwaysItem};
+ghost use Rattle.rtl_layout.specs.Layout as L;
+ghost use Rattle.rtl_layout.specs.Plan.{several};
+ghost use Rattle.rtl_layout.specs.Seen.{seen};
+
+use crate::ages::{aged, back_at, declare, declare_ages, set_ages, value_at};
+use crate::assigns::assign_wires;
+use crate::digits::{set, set_digits};
+use crate::plan::Plan;
+use crate::ports::{assign_ports, ports};
+use crate::tables::word;
+use crate::trees::{after_reset, binary, choose, flag, gate, literal, name, net};
+use std::alloc::{AllocError, Global};
+use verilog_tree::{BinOp, Decl, Expr, Item, Module, Name, Stmt};
+
+fn is_several(plan: &Plan) -> bool
+    ensures { result ≡ several (seen plan.now) }
+{
+    plan.backgrounds.len() > 1
+}
+
+fn declare_digits(items: &mut Vec<Item>, plan: &Plan) -> Result<(), AllocError>
+    ensures { OnOk result (map plain_item items.new.items ≡ map plain_item items.old.items ++ L.digit_regs (seen plan.now)) }
+{
+    declare(items, name("oper"), plan.oper_width)?;
+    declare(items, name("visit"), plan.visit_width)?;
+    declare(items, name("element"), plan.element_width)?;
+    declare(items, name("back"), plan.back_width)?;
+    declare(items, name("run"), 1)?;
+    Ok(())
+}
+
+// All registers.
+fn declare_registers(items: &mut Vec<Item>, plan: &Plan) -> Result<(), AllocError>
+    ensures { OnOk result (map plain_item items.new.items ≡ map plain_item items.old.items ++ L.registers (seen plan.now)) }
+{
+    declare_digits(items, plan)?;
+    declare_ages(items, is_several(plan), plan.back_width, plan.delay)?;
+    declare(items, name("want"), plan.bits)?;
+    declare(items, name("bad"), 1)?;
+    Ok(())
+}
+
+fn declare_wire(items: &mut Vec<Item>, name: Name, width: u8) -> Result<(), AllocError>
+    ensures { OnOk result (map plain_item items.new.items ≡ map plain_item items.old.items ++ L.wire name.bytes width ∷ []) }
+{
+    items.push(Item::Wire(Decl { name, width }))?;
+    Ok(())
+}
+
+fn declare_flags(items: &mut Vec<Item>) -> Result<(), AllocError>
+    ensures { OnOk result (map plain_item items.new.items ≡ map plain_item items.old.items ++ L.flag_wires) }
+{
+    declare_wire(items, name("write"), 1)?;
+    declare_wire(items, name("value"), 1)?;
+    declare_wire(items, name("down"), 1)?;
+    declare_wire(items, name("pause"), 1)?;
+    Ok(())
+}
+
+fn declare_lasts(items: &mut Vec<Item>) -> Result<(), AllocError>
+    ensures { OnOk result (map plain_item items.new.items ≡ map plain_item items.old.items ++ L.last_wires) }
+{
+    declare_wire(items, name("last_oper"), 1)?;
+    declare_wire(items, name("last_visit"), 1)?;
+    declare_wire(items, name("last_element"), 1)?;
+    declare_wire(items, name("last_back"), 1)?;
+    Ok(())
+}
+
+// All wires.
+fn declare_wires(items: &mut Vec<Item>, plan: &Plan) -> Result<(), AllocError>
+    ensures { OnOk result (map plain_item items.new.items ≡ map plain_item items.old.items ++ L.wires (seen plan.now)) }
+{
+    declare_flags(items)?;
+    declare_lasts(items)?;
+    declare_wire(items, name("live"), 1)?;
+    declare_wire(items, name("index"), plan.addr_width)?;
+    Ok(())
+}
+
+// The word that the read of the last age expects.
+fn want_next(alloc: Global, plan: &Plan) -> Result<Expr, AllocError>
+    ensures { IfOk result (λ x. plain x ≡ L.want_next (seen plan.now)) }
+{
+    let back = back_at(is_several(plan), plan.delay);
+    let word = word(alloc, plan, back, value_at(plan.delay))?;
+    after_reset(alloc, literal(plan.bits, 0), word)
+}
+
+// Whether some word was wrong.
+fn bad_next(alloc: Global, delay: u8) -> Result<Expr, AllocError>
+    requires { delay ≤ 3 }
+    ensures { IfOk result (λ x. plain x ≡ L.bad_after delay) }
+{
+    let differs = binary(alloc, BinOp::Ne, net(name("rdata")), net(name("want")))?;
+    let compared = choose(alloc, differs, flag(true), net(name("bad")))?;
+    let reads = net(aged("reads", delay + 1));
+    let bad = choose(alloc, reads, compared, net(name("bad")))?;
+    gate(alloc, bad)
+}
+
+fn set_ends(block: &mut Vec<Stmt>, alloc: Global, plan: &Plan) -> Result<(), AllocError>
+    ensures { OnOk result (map plain_stmt block.new.items ≡ map plain_stmt block.old.items ++ L.end_sets (seen plan.now)) }
+{
+    let want = want_next(alloc, plan)?;
+    let bad = bad_next(alloc, plan.delay)?;
+    set(block, name("want"), want)?;
+    set(block, name("bad"), bad)?;
+    Ok(())
+}
+
+// What all registers take.
+fn block(alloc: Global, plan: &Plan) -> Result<Vec<Stmt>, AllocError>
+    ensures { IfOk result (λ v. map plain_stmt v.items ≡ L.sets_all (seen plan.now)) }
+{
+    let mut block = Vec::new(alloc);
+    set_digits(&mut block, alloc, plan)?;
+    let many = is_several(plan);
+    set_ages(&mut block, alloc, many, plan.back_width, plan.delay)?;
+    set_ends(&mut block, alloc, plan)?;
+    Ok(block)
+}
+
+fn declare_all(items: &mut Vec<Item>, plan: &Plan) -> Result<(), AllocError>
+    ensures { OnOk result (map plain_item items.new.items ≡ map plain_item items.old.items ++ (L.registers (seen plan.now) ++ L.wires (seen plan.now))) }
+{
+    declare_registers(items, plan)?;
+    declare_wires(items, plan)?;
+    Ok(())
+}
+
+fn add_block(items: &mut Vec<Item>, alloc: Global, plan: &Plan) -> Result<(), AllocError>
+    ensures { OnOk result (map plain_item items.new.items ≡ map plain_item items.old.items ++ AlwaysItem L.clk (statements (L.sets_all (seen plan.now))) ∷ []) }
+{
+    let block = block(alloc, plan)?;
+    items.push(Item::Always(name("clk"), block))?;
+    Ok(())
+}
+
+fn items(alloc: Global, plan: &Plan) -> Result<Vec<Item>, AllocError>
+    ensures { IfOk result (λ v. map plain_item v.items ≡ L.items (seen plan.now)) }
+{
+    let mut items = Vec::new(alloc);
+    declare_all(&mut items, plan)?;
+    assign_wires(&mut items, alloc, plan)?;
+    assign_ports(&mut items, alloc, plan)?;
+    add_block(&mut items, alloc, plan)?;
+    Ok(items)
+}
+
+/// The module of a plan.
+pub fn module(alloc: Global, plan: &Plan) -> Result<Module, AllocError>
+    ensures { IfOk result (λ m. plain_module m ≡ L.self_test (seen plan.now)) }
+{
+    let ports = ports(alloc, plan)?;
+    let items = items(alloc, plan)?;
+    Ok(Module {
+        name: plan.name,
+        ports,
+        items,
+    })
+}

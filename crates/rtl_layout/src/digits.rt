@@ -1,0 +1,140 @@
+//! The statements of the four digits of the place.
+ghost use Rattle.std.specs.Prelude.{◌≡◌, ℕ, ◌≤◌, IfOk, OnOk, length, map, ◌++◌, ◌∷◌, [], List};
+ghost use Rattle.verilog_tree.specs.Plain.{plain, plain_stmt, Net, SetTo};
+ghost use Rattle.rtl_layout.specs.Build.{counter};
+ghost use Rattle.rtl_layout.specs.Layout as L;
+ghost use Rattle.rtl_layout.specs.Seen.{seen};
+
+use crate::plan::Plan;
+use crate::trees::{after_reset, counting, flag, name, while_all};
+use std::alloc::{AllocError, Global};
+use verilog_tree::{Expr, Name, Stmt};
+
+/// One register's next value more.
+pub fn set(block: &mut Vec<Stmt>, register: Name, value: Expr) -> Result<(), AllocError>
+    ensures { OnOk result (map plain_stmt block.new.items ≡ map plain_stmt block.old.items ++ SetTo register.bytes (plain value) ∷ []) }
+{
+    block.push(Stmt::Set(register, value))?;
+    Ok(())
+}
+
+fn oper_next(alloc: Global, width: u8) -> Result<Expr, AllocError>
+    requires some { 1 ≤ width }
+    requires narrow { width ≤ 64 }
+    ensures { IfOk result (λ x. plain x ≡ counter L.oper width (Net L.run ∷ []) L.last_oper) }
+{
+    counting(
+        alloc,
+        name("oper"),
+        width,
+        &[name("run")],
+        name("last_oper"),
+    )
+}
+
+fn visit_next(alloc: Global, width: u8) -> Result<Expr, AllocError>
+    requires some { 1 ≤ width }
+    requires narrow { width ≤ 64 }
+    ensures { IfOk result (λ x. plain x ≡ counter L.visit width (Net L.run ∷ Net L.last_oper ∷ []) L.last_visit) }
+{
+    counting(
+        alloc,
+        name("visit"),
+        width,
+        &[name("run"), name("last_oper")],
+        name("last_visit"),
+    )
+}
+
+// `oper` and `visit`.
+fn set_inner(block: &mut Vec<Stmt>, alloc: Global, oper: u8, visit: u8) -> Result<(), AllocError>
+    requires oper_some { 1 ≤ oper }
+    requires oper_narrow { oper ≤ 64 }
+    requires visit_some { 1 ≤ visit }
+    requires visit_narrow { visit ≤ 64 }
+    ensures { OnOk result (map plain_stmt block.new.items ≡ map plain_stmt block.old.items ++ SetTo L.oper (counter L.oper oper (Net L.run ∷ []) L.last_oper) ∷ SetTo L.visit (counter L.visit visit (Net L.run ∷ Net L.last_oper ∷ []) L.last_visit) ∷ []) }
+{
+    let first = oper_next(alloc, oper)?;
+    let second = visit_next(alloc, visit)?;
+    set(block, name("oper"), first)?;
+    set(block, name("visit"), second)?;
+    Ok(())
+}
+
+fn element_next(alloc: Global, width: u8) -> Result<Expr, AllocError>
+    requires some { 1 ≤ width }
+    requires narrow { width ≤ 64 }
+    ensures { IfOk result (λ x. plain x ≡ counter L.element width (Net L.run ∷ Net L.last_oper ∷ Net L.last_visit ∷ []) L.last_element) }
+{
+    counting(
+        alloc,
+        name("element"),
+        width,
+        &[name("run"), name("last_oper"), name("last_visit")],
+        name("last_element"),
+    )
+}
+
+fn back_next(alloc: Global, width: u8) -> Result<Expr, AllocError>
+    requires some { 1 ≤ width }
+    requires narrow { width ≤ 64 }
+    ensures { IfOk result (λ x. plain x ≡ counter L.back width (Net L.run ∷ Net L.last_oper ∷ Net L.last_visit ∷ Net L.last_element ∷ []) L.last_back) }
+{
+    counting(
+        alloc,
+        name("back"),
+        width,
+        &[
+            name("run"),
+            name("last_oper"),
+            name("last_visit"),
+            name("last_element"),
+        ],
+        name("last_back"),
+    )
+}
+
+// `element` and `back`.
+fn set_outer(block: &mut Vec<Stmt>, alloc: Global, element: u8, back: u8) -> Result<(), AllocError>
+    requires element_some { 1 ≤ element }
+    requires element_narrow { element ≤ 64 }
+    requires back_some { 1 ≤ back }
+    requires back_narrow { back ≤ 64 }
+    ensures { OnOk result (map plain_stmt block.new.items ≡ map plain_stmt block.old.items ++ SetTo L.element (counter L.element element (Net L.run ∷ Net L.last_oper ∷ Net L.last_visit ∷ []) L.last_element) ∷ SetTo L.back (counter L.back back (Net L.run ∷ Net L.last_oper ∷ Net L.last_visit ∷ Net L.last_element ∷ []) L.last_back) ∷ []) }
+{
+    let first = element_next(alloc, element)?;
+    let second = back_next(alloc, back)?;
+    set(block, name("element"), first)?;
+    set(block, name("back"), second)?;
+    Ok(())
+}
+
+// Whether the run goes on.
+fn run_next(alloc: Global) -> Result<Expr, AllocError>
+    ensures { IfOk result (λ x. plain x ≡ L.run_next) }
+{
+    let run = while_all(
+        alloc,
+        &[
+            name("run"),
+            name("last_oper"),
+            name("last_visit"),
+            name("last_element"),
+            name("last_back"),
+        ],
+        flag(false),
+        name("run"),
+    )?;
+    after_reset(alloc, flag(true), run)
+}
+
+/// The place in the march, and whether the run goes on.
+pub fn set_digits(block: &mut Vec<Stmt>, alloc: Global, plan: &Plan) -> Result<(), AllocError>
+    ensures { OnOk result (map plain_stmt block.new.items ≡ map plain_stmt block.old.items ++ L.digit_sets (seen plan.now)) }
+{
+    let run = run_next(alloc)?;
+    set_inner(block, alloc, plan.oper_width, plan.visit_width)?;
+    set_outer(block, alloc, plan.element_width, plan.back_width)?;
+    set(block, name("run"), run)?;
+    Ok(())
+}

@@ -1,0 +1,21 @@
+//! The layout of a self-test module, made from a plan: a march and a memory as plain numbers and tables.
+#![tactic(auto)]
+
+mod ages;
+mod assigns;
+mod build;
+mod digits;
+mod element;
+mod flags;
+mod laws;
+mod plan;
+mod ports;
+mod row;
+mod tables;
+mod trees;
+
+pub use build::module;
+pub use element::{Element, Operation};
+pub use laws::{choice_gives_its_leaf, module_breaks_no_rule, module_is_a_controller};
+pub use plan::Plan;
+pub use row::Row;

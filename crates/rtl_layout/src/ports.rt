@@ -1,0 +1,129 @@
+//! The ports, and what is assigned to them.
+ghost use Rattle.std.specs.Prelude.{◌≡◌, ℕ, ◌+◌, ◌-◌, ◌<◌, ◌≤◌, ◌^◌, IfOk, OnOk, map, ◌++◌, ◌∷◌, [], length, reverse, slice_index_or};
+ghost use Rattle.verilog_tree.specs.Plain.{plain, plain_item, plain_port, AssignItem};
+ghost use Rattle.rtl_layout.specs.Layout as L;
+ghost use Rattle.rtl_layout.specs.Seen.{seen};
+ghost use Rattle.rtl_layout.specs.Shows.{no_row};
+
+use crate::ages::aged;
+use crate::assigns::assign;
+use crate::plan::Plan;
+use crate::row::Row;
+use crate::tables::word;
+use crate::trees::{binary, concat, flag, gate, literal, name, net, unary};
+use std::alloc::{AllocError, Global};
+use verilog_tree::{BinOp, Dir, Expr, Item, Name, Port, UnOp};
+
+fn push_port(ports: &mut Vec<Port>, dir: Dir, name: Name, width: u8) -> Result<(), AllocError>
+    ensures { OnOk result (map plain_port ports.new.items ≡ map plain_port ports.old.items ++ (record { dir = dir; name = name.bytes; width = width }) ∷ []) }
+{
+    ports.push(Port { dir, name, width })?;
+    Ok(())
+}
+
+fn push_inputs(ports: &mut Vec<Port>, bits: u8) -> Result<(), AllocError>
+    ensures { OnOk result (map plain_port ports.new.items ≡ map plain_port ports.old.items ++ L.input_ports bits) }
+{
+    push_port(ports, Dir::Input, name("clk"), 1)?;
+    push_port(ports, Dir::Input, name("reset"), 1)?;
+    push_port(ports, Dir::Input, name("rdata"), bits)?;
+    Ok(())
+}
+
+fn push_command(ports: &mut Vec<Port>, addr: u8, bits: u8) -> Result<(), AllocError>
+    ensures { OnOk result (map plain_port ports.new.items ≡ map plain_port ports.old.items ++ L.command_ports addr bits) }
+{
+    push_port(ports, Dir::Output, name("en"), 1)?;
+    push_port(ports, Dir::Output, name("we"), 1)?;
+    push_port(ports, Dir::Output, name("addr"), addr)?;
+    push_port(ports, Dir::Output, name("wdata"), bits)?;
+    Ok(())
+}
+
+/// The ports in their order.
+pub fn ports(alloc: Global, plan: &Plan) -> Result<Vec<Port>, AllocError>
+    ensures { IfOk result (λ v. map plain_port v.items ≡ L.ports (seen plan.now)) }
+{
+    let mut ports = Vec::new(alloc);
+    push_inputs(&mut ports, plan.bits)?;
+    push_command(&mut ports, plan.addr_width, plan.bits)?;
+    push_port(&mut ports, Dir::Output, name("done"), 1)?;
+    push_port(&mut ports, Dir::Output, name("fail"), 1)?;
+    Ok(ports)
+}
+
+// A bit of the address.
+fn row_bit(alloc: Global, width: u8, row: Row) -> Result<Expr, AllocError>
+    requires positive { 1 ≤ width }
+    requires narrow { width ≤ 64 }
+    requires fits { row.mask < 2 ^ width }
+    ensures { IfOk result (λ x. plain x ≡ L.row_bit width row) }
+{
+    let named = binary(
+        alloc,
+        BinOp::And,
+        net(name("index")),
+        literal(width, row.mask),
+    )?;
+    let parity = unary(alloc, UnOp::Parity, named)?;
+    binary(alloc, BinOp::Xor, parity, flag(row.flip))
+}
+
+// The bits of the address, the highest first.
+fn address_bits(alloc: Global, width: u8, rows: &[Row]) -> Result<Vec<Expr>, AllocError>
+    requires positive { 1 ≤ width }
+    requires narrow { width ≤ 64 }
+    requires fits { (k : ℕ) → k < length rows.now → (slice_index_or rows.now k no_row).mask < 2 ^ width }
+    ensures { IfOk result (λ v. map plain v.items ≡ reverse (map (L.row_bit width) rows.now)) }
+{
+    let mut bits = Vec::new(alloc);
+    for i in 0..rows.len() {
+        let row = rows[rows.len() - 1 - i];
+        bits.push(row_bit(alloc, width, row)?)?;
+    }
+    Ok(bits)
+}
+
+fn address(alloc: Global, plan: &Plan) -> Result<Expr, AllocError>
+    ensures { IfOk result (λ x. plain x ≡ L.address (seen plan.now)) }
+{
+    if plan.straight {
+        return Ok(net(name("index")));
+    }
+    let rows = plan.rows.as_slice();
+    let bits = address_bits(alloc, plan.addr_width, rows)?;
+    Ok(concat(bits))
+}
+
+fn assign_command(items: &mut Vec<Item>, alloc: Global, plan: &Plan) -> Result<(), AllocError>
+    ensures { OnOk result (map plain_item items.new.items ≡ map plain_item items.old.items ++ L.command_outputs (seen plan.now)) }
+{
+    let en = gate(alloc, net(name("live")))?;
+    let addr = address(alloc, plan)?;
+    let wdata = word(alloc, plan, name("back"), name("value"))?;
+    assign(items, name("en"), en)?;
+    assign(items, name("we"), net(name("write")))?;
+    assign(items, name("addr"), addr)?;
+    assign(items, name("wdata"), wdata)?;
+    Ok(())
+}
+
+fn assign_ends(items: &mut Vec<Item>, alloc: Global, delay: u8) -> Result<(), AllocError>
+    requires { delay ≤ 3 }
+    ensures { OnOk result (map plain_item items.new.items ≡ map plain_item items.old.items ++ L.end_outputs delay) }
+{
+    let done = gate(alloc, net(aged("over", delay + 1)))?;
+    let fail = gate(alloc, net(name("bad")))?;
+    assign(items, name("done"), done)?;
+    assign(items, name("fail"), fail)?;
+    Ok(())
+}
+
+/// All outputs.
+pub fn assign_ports(items: &mut Vec<Item>, alloc: Global, plan: &Plan) -> Result<(), AllocError>
+    ensures { OnOk result (map plain_item items.new.items ≡ map plain_item items.old.items ++ L.port_assigns (seen plan.now)) }
+{
+    assign_command(items, alloc, plan)?;
+    assign_ends(items, alloc, plan.delay)?;
+    Ok(())
+}

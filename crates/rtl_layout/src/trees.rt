@@ -1,0 +1,210 @@
+//! Expressions of the module.
+ghost use Rattle.std.specs.Prelude.{◌≡◌, ℕ, ◌+◌, ◌^◌, ◌<◌, ◌≤◌, IfOk, OnOk, length, map, drop, take};
+ghost use Rattle.verilog_tree.specs.Plain.{plain, expressions, Net, Concatenation, Prefixed, Infixed, Conditional};
+ghost use Rattle.verilog_tree.specs.Meaning.{bit};
+ghost use Rattle.rtl_layout.specs.Layout.{gated};
+ghost use Rattle.rtl_layout.specs.Build.{lit, bit_of, low_bits, below, pick, counter, at_reset, step_while};
+
+use arrayvec::ArrayString;
+use bist_bits::Bits;
+use std::alloc::{AllocError, Global};
+use verilog_tree::{BinOp, Expr, Name, UnOp};
+
+/// A name of at most 64 bytes.
+pub fn name(text: &str) -> Name
+    requires { length text.now ≤ 64 }
+    ensures { result.bytes ≡ text.now }
+{
+    match ArrayString::from(text) {
+        Ok(name) => name,
+        Err(_) => unreachable!(),
+    }
+}
+
+/// A whole name.
+pub fn net(name: Name) -> Expr
+    ensures { plain result ≡ Net name.bytes }
+{
+    Expr::Name(name)
+}
+
+/// A literal of `width` bits.
+pub fn literal(width: u8, value: u64) -> Expr
+    requires positive { 1 ≤ width }
+    requires narrow { width ≤ 64 }
+    requires fits { value < 2 ^ width }
+    ensures { plain result ≡ lit width value }
+{
+    Expr::Lit(Bits::new(width, value))
+}
+
+/// A literal of one bit.
+pub fn flag(value: bool) -> Expr
+    ensures { plain result ≡ lit 1 (bit value) }
+{
+    literal(1, u64::from(value))
+}
+
+/// An operator before an expression.
+pub fn unary(alloc: Global, op: UnOp, a: Expr) -> Result<Expr, AllocError>
+    ensures { IfOk result (λ x. plain x ≡ Prefixed op (plain a)) }
+{
+    let a = Box::new(alloc, a)?;
+    Ok(Expr::Unary(op, a))
+}
+
+/// An operator between two expressions.
+pub fn binary(alloc: Global, op: BinOp, a: Expr, b: Expr) -> Result<Expr, AllocError>
+    ensures { IfOk result (λ x. plain x ≡ Infixed op (plain a) (plain b)) }
+{
+    let a = Box::new(alloc, a)?;
+    let b = Box::new(alloc, b)?;
+    Ok(Expr::Binary(op, a, b))
+}
+
+/// The parts of a vector, the highest first.
+pub fn concat(parts: Vec<Expr>) -> Expr
+    ensures { plain result ≡ Concatenation (expressions (map plain parts.items)) }
+{
+    Expr::Concat(parts)
+}
+
+/// `c ? a : b`.
+pub fn choose(alloc: Global, c: Expr, a: Expr, b: Expr) -> Result<Expr, AllocError>
+    ensures { IfOk result (λ x. plain x ≡ Conditional (plain c) (plain a) (plain b)) }
+{
+    let c = Box::new(alloc, c)?;
+    let a = Box::new(alloc, a)?;
+    let b = Box::new(alloc, b)?;
+    Ok(Expr::Choose(c, a, b))
+}
+
+/// Bit `i` of a name of `width` bits.
+pub fn bit(name: Name, width: u8, i: u8) -> Expr
+    ensures { plain result ≡ bit_of name.bytes width i }
+{
+    if width == 1 {
+        Expr::Name(name)
+    } else {
+        Expr::Bit(name, i)
+    }
+}
+
+/// The lowest bits of a name of `width` bits.
+pub fn low(name: Name, width: u8, bits: u8) -> Expr
+    requires { 1 ≤ bits }
+    ensures { plain result ≡ low_bits name.bytes width bits }
+{
+    if bits == width {
+        Expr::Name(name)
+    } else {
+        Expr::Part(name, bits - 1, 0)
+    }
+}
+
+// Two to the power of i.
+#[tactic(auto, using(crate::proofs::Taken::power))]
+fn power(i: u8) -> usize
+    requires { i ≤ 16 }
+    ensures { result ≡ 2 ^ i }
+{
+    1 << i
+}
+
+/// The leaf whose number the name holds, among those from `start` on, by the lowest `i` bits of the name.
+/// The leaves are taken out.
+fn choices(
+    alloc: Global,
+    name: Name,
+    width: u8,
+    i: u8,
+    leaves: &mut Vec<Expr>,
+    start: usize,
+) -> Result<Expr, AllocError>
+    requires some { start < length leaves.now.items }
+    requires fits { length leaves.now.items ≤ start + 2 ^ i }
+    requires narrow { i ≤ 16 }
+    ensures tree { IfOk result (λ x. plain x ≡ below name.bytes width i (drop start (map plain leaves.old.items))) }
+    ensures taken { OnOk result (leaves.new.items ≡ take start leaves.old.items) }
+{
+    if i == 0 {
+        return match leaves.pop() {
+            Some(leaf) => Ok(leaf),
+            None => unreachable!(),
+        };
+    }
+    let half = power(i - 1);
+    if leaves.len() - start <= half {
+        return choices(alloc, name, width, i - 1, leaves, start);
+    }
+    let high = choices(alloc, name, width, i - 1, leaves, start + half)?;
+    let low = choices(alloc, name, width, i - 1, leaves, start)?;
+    choose(alloc, bit(name, width, i - 1), high, low)
+}
+
+/// The leaf whose number the name of `width` bits holds.
+pub fn pick_leaf(
+    alloc: Global,
+    name: Name,
+    width: u8,
+    leaves: &mut Vec<Expr>,
+) -> Result<Expr, AllocError>
+    requires some { 0 < length leaves.now.items }
+    requires fits { length leaves.now.items ≤ 2 ^ width }
+    requires narrow { width ≤ 16 }
+    ensures { IfOk result (λ x. plain x ≡ pick name.bytes width (map plain leaves.old.items)) }
+{
+    choices(alloc, name, width, width, leaves, 0)
+}
+
+/// `stepped` where all the named conditions hold, else `kept`.
+pub fn while_all(
+    alloc: Global,
+    conditions: &[Name],
+    stepped: Expr,
+    kept: Name,
+) -> Result<Expr, AllocError>
+    ensures { IfOk result (λ x. plain x ≡ step_while (map (λ c. Net c.bytes) conditions.now) (plain stepped) (Net kept.bytes)) }
+{
+    match conditions {
+        [] => Ok(stepped),
+        [first, rest @ ..] => {
+            let inner = while_all(alloc, rest, stepped, kept)?;
+            let condition = net(*first);
+            choose(alloc, condition, inner, net(kept))
+        }
+    }
+}
+
+/// `first` in a cycle with reset, else `later`.
+pub fn after_reset(alloc: Global, first: Expr, later: Expr) -> Result<Expr, AllocError>
+    ensures { IfOk result (λ x. plain x ≡ at_reset (plain first) (plain later)) }
+{
+    choose(alloc, net(name("reset")), first, later)
+}
+
+/// 0 in a cycle with reset.
+pub fn gate(alloc: Global, later: Expr) -> Result<Expr, AllocError>
+    ensures { IfOk result (λ x. plain x ≡ gated (plain later)) }
+{
+    after_reset(alloc, flag(false), later)
+}
+
+/// The next value of a register that counts up where all conditions hold, and from its last value to 0.
+#[tactic(auto, using(crate::proofs::Taken::one_below))]
+pub fn counting(
+    alloc: Global,
+    register: Name,
+    width: u8,
+    conditions: &[Name],
+    last: Name,
+) -> Result<Expr, AllocError>
+    requires positive { 1 ≤ width }
+    requires narrow { width ≤ 64 }
+    ensures { IfOk result (λ x. plain x ≡ counter register.bytes width (map (λ c. Net c.bytes) conditions.now) last.bytes) }
+{
+    let more = binary(alloc, BinOp::Add, net(register), literal(width, 1))?;
+    let turned = choose(alloc, net(last), literal(width, 0), more)?;
+    let stepped = while_all(alloc, conditions, turned, register)?;
+    after_reset(alloc, literal(width, 0), stepped)
+}
