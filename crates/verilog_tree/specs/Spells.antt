@@ -39,6 +39,13 @@ all_limits = record { names = true; numbers = true; openings = Some 64 }
 abbrev pub no_limits : Limits
 no_limits = record { names = false; numbers = false; openings = None }
 
+-- each limit of tokens alone
+abbrev pub short_names : Limits
+short_names = record { names = true; numbers = false; openings = None }
+
+abbrev pub small_numbers : Limits
+small_numbers = record { names = false; numbers = true; openings = None }
+
 -- The bytes spell the module: they are a text of it within all limits.
 abbrev pub Spells : List ℕ → ModuleTree → Type 0
 Spells b mo = Text all_limits b mo
