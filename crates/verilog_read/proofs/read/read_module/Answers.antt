@@ -1,0 +1,13 @@
+use Rattle.verilog_tree.specs.Spells.{all_limits}
+use Rattle.verilog_read.proofs.Contract.{read_spells, spelled_read}
+use Rattle.verilog_read.proofs.ReadingLaws.{one_text}
+use Rattle.verilog_read.proofs.read.read_module.Goals as goal
+
+pub returns-clause-ok : goal.returns-clause-ok
+returns-clause-ok c = read_spells c.args.bytes.now c.scan_text.result c.scan_text.ensures
+
+pub returns-clause-accepted : goal.returns-clause-accepted
+returns-clause-accepted c = λ v h. spelled_read c.args.bytes.now v c.scan_text.result c.scan_text.ensures h
+
+pub returns-clause-one_module : goal.returns-clause-one_module
+returns-clause-one_module c = λ v w p q. one_text all_limits c.args.bytes.now v w p q

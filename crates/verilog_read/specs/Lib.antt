@@ -1,0 +1,12 @@
+pub mod Lexing
+pub mod Places
+pub mod Following
+pub mod Steps
+pub mod Lexemes
+pub mod Frames
+pub mod Spots
+pub mod Answers
+pub mod Expected
+pub mod Reading
+pub mod WordSets
+pub mod Answering

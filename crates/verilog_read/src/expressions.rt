@@ -1,0 +1,286 @@
+//! What a token does in an expression.
+ghost use Rattle.std.specs.Prelude.{◌≡◌, Some};
+ghost use Rattle.verilog_tree.specs.Plain.{plain, NoMore, Literal};
+ghost use Rattle.verilog_tree.specs.Tokens.{Identifier};
+ghost use Rattle.verilog_read.specs.Places.{Outside, AtExpr, Want, Have, InBraces};
+ghost use Rattle.verilog_read.specs.Steps.{want_step, inside_step, have_step, step_expr, unary_of, infix_of};
+ghost use Rattle.verilog_read.specs.Lexemes.{token_of};
+ghost use Rattle.verilog_read.specs.Frames.{frame, base_of, outside_of};
+ghost use Rattle.verilog_read.specs.Spots.{spot};
+ghost use Rattle.verilog_read.specs.Answers.{Steps, Goes};
+
+use crate::lexemes::Lexeme;
+use crate::places::{Base, Frame, Holder, ItemSpot, Outer, ParseFault, Place, Spot, StmtSpot};
+use crate::stacks::{add_item, deeper, hold, is_mark, pop, push};
+use crate::trees::{conditional, infixed, only, prefixed, with_part};
+use bist_bits::Bits;
+use bist_text::is_reserved;
+use std::alloc::Global;
+use verilog_tree::{BinOp, Expr, Item, Mark, Name, Stmt, UnOp};
+
+fn unary_of(mark: Mark) -> Option<UnOp>
+    ensures { result ≡ unary_of mark }
+{
+    match mark {
+        Mark::Bang => Some(UnOp::Not),
+        Mark::Tilde => Some(UnOp::Invert),
+        Mark::Ampersand => Some(UnOp::AllOnes),
+        Mark::Bar => Some(UnOp::AnyOne),
+        Mark::Caret => Some(UnOp::Parity),
+        _ => None,
+    }
+}
+
+fn infix_of(mark: Mark) -> Option<BinOp>
+    ensures { result ≡ infix_of mark }
+{
+    match mark {
+        Mark::Plus => Some(BinOp::Add),
+        Mark::Minus => Some(BinOp::Sub),
+        Mark::Ampersand => Some(BinOp::And),
+        Mark::Bar => Some(BinOp::Or),
+        Mark::Caret => Some(BinOp::Xor),
+        Mark::TwoEquals => Some(BinOp::Eq),
+        Mark::BangEquals => Some(BinOp::Ne),
+        Mark::Less => Some(BinOp::Lt),
+        Mark::LessEquals => Some(BinOp::Le),
+        Mark::Greater => Some(BinOp::Gt),
+        Mark::GreaterEquals => Some(BinOp::Ge),
+        Mark::TwoAmpersands => Some(BinOp::LogAnd),
+        Mark::TwoBars => Some(BinOp::LogOr),
+        Mark::TwoLess => Some(BinOp::Shl),
+        Mark::TwoGreater => Some(BinOp::Shr),
+        _ => None,
+    }
+}
+
+fn named(outer: &Outer, depth: u8, name: Name) -> Result<Spot, ParseFault>
+    ensures { Steps (want_step (Some 64) depth (outside_of outer.now) (Identifier name.bytes)) result (outside_of outer.now) }
+{
+    if is_reserved(name.as_str().as_bytes()) {
+        Err(ParseFault::Unexpected)
+    } else {
+        Ok(Spot::Named(depth, name))
+    }
+}
+
+/// A place behind a frame that is pushed.
+fn pushed(outer: &mut Outer, f: Frame, inner: u8) -> Result<Spot, ParseFault>
+    ensures { Steps (Some (AtExpr (Want inner (frame f (outside_of outer.old))))) result (outside_of outer.new) }
+{
+    push(outer, f)?;
+    Ok(Spot::Want(inner))
+}
+
+fn literal(depth: u8, bits: Bits) -> Spot
+    ensures { (o : Outside) → spot result o ≡ Have depth (Literal bits) o }
+{
+    Spot::Have(depth, Expr::Lit(bits))
+}
+
+fn braces(alloc: Global, depth: u8) -> Frame
+    ensures { (o : Outside) → frame result o ≡ InBraces depth NoMore o }
+{
+    Frame::Braces(depth, Vec::new(alloc))
+}
+
+fn want(alloc: Global, outer: &mut Outer, depth: u8, token: &Lexeme) -> Result<Spot, ParseFault>
+    ensures { Steps (want_step (Some 64) depth (outside_of outer.old) (token_of token.now)) result (outside_of outer.new) }
+{
+    match token {
+        Lexeme::Word(name) => named(outer, depth, *name),
+        Lexeme::Constant(bits) => Ok(literal(depth, *bits)),
+        Lexeme::Sign(Mark::Open) => match deeper(depth) {
+            Some(inner) => Ok(Spot::Inside(inner, depth)),
+            None => Err(ParseFault::Unexpected),
+        },
+        Lexeme::Sign(Mark::OpenBrace) => match deeper(depth) {
+            Some(inner) => pushed(outer, braces(alloc, depth), inner),
+            None => Err(ParseFault::Unexpected),
+        },
+        _ => Err(ParseFault::Unexpected),
+    }
+}
+
+fn inside(
+    alloc: Global,
+    outer: &mut Outer,
+    inner: u8,
+    depth: u8,
+    token: &Lexeme,
+) -> Result<Spot, ParseFault>
+    ensures { Steps (inside_step (Some 64) inner depth (outside_of outer.old) (token_of token.now)) result (outside_of outer.new) }
+{
+    if let Lexeme::Sign(mark) = token {
+        if let Some(op) = unary_of(*mark) {
+            return pushed(outer, Frame::Prefix(depth, op), inner);
+        }
+    }
+    push(outer, Frame::Paren(depth))?;
+    want(alloc, outer, inner, token)
+}
+
+fn in_braces(
+    outer: &mut Outer,
+    inner: u8,
+    depth: u8,
+    parts: Vec<Expr>,
+    x: Expr,
+    token: &Lexeme,
+) -> Result<Spot, ParseFault>
+    ensures { Steps (have_step inner (plain x) (frame (Frame.Braces depth parts) (outside_of outer.old)) (token_of token.now)) result (outside_of outer.new) }
+{
+    match token {
+        Lexeme::Sign(Mark::Comma) => {
+            let parts = with_part(parts, x)?;
+            pushed(outer, Frame::Braces(depth, parts), inner)
+        }
+        Lexeme::Sign(Mark::CloseBrace) => {
+            let parts = with_part(parts, x)?;
+            Ok(Spot::Have(depth, Expr::Concat(parts)))
+        }
+        _ => Err(ParseFault::Unexpected),
+    }
+}
+
+fn in_parens(
+    outer: &mut Outer,
+    inner: u8,
+    depth: u8,
+    x: Expr,
+    token: &Lexeme,
+) -> Result<Spot, ParseFault>
+    ensures { Steps (have_step inner (plain x) (frame (Frame.Paren depth) (outside_of outer.old)) (token_of token.now)) result (outside_of outer.new) }
+{
+    let Lexeme::Sign(mark) = token else {
+        return Err(ParseFault::Unexpected);
+    };
+    match mark {
+        Mark::Close => Ok(Spot::Have(depth, x)),
+        Mark::Question => pushed(outer, Frame::Yes(depth, x), inner),
+        _ => match infix_of(*mark) {
+            Some(op) => pushed(outer, Frame::Right(depth, op, x), inner),
+            None => Err(ParseFault::Unexpected),
+        },
+    }
+}
+
+/// What a token does behind a whole expression that stands in a frame.
+#[tactic(auto, using(crate::proofs::FrameLemmas::expects_is))]
+fn have_in(
+    alloc: Global,
+    outer: &mut Outer,
+    f: Frame,
+    inner: u8,
+    x: Expr,
+    token: &Lexeme,
+) -> Result<Spot, ParseFault>
+    ensures { Steps (have_step inner (plain x) (frame f (outside_of outer.old)) (token_of token.now)) result (outside_of outer.new) }
+{
+    match f {
+        Frame::Braces(depth, parts) => in_braces(outer, inner, depth, parts, x, token),
+        Frame::Paren(depth) => in_parens(outer, inner, depth, x, token),
+        Frame::Prefix(depth, op) if is_mark(Mark::Close, token) => {
+            Ok(Spot::Have(depth, prefixed(alloc, op, x)?))
+        }
+        Frame::Right(depth, op, y) if is_mark(Mark::Close, token) => {
+            Ok(Spot::Have(depth, infixed(alloc, op, y, x)?))
+        }
+        Frame::Yes(depth, c) if is_mark(Mark::Colon, token) => {
+            pushed(outer, Frame::No(depth, c, x), inner)
+        }
+        Frame::No(depth, c, y) if is_mark(Mark::Close, token) => {
+            Ok(Spot::Have(depth, conditional(alloc, c, y, x)?))
+        }
+        _ => Err(ParseFault::Unexpected),
+    }
+}
+
+/// What a token does behind a whole expression that stands in no frame.
+#[tactic(auto, using(crate::proofs::FrameLemmas::expects_is))]
+fn have_whole(
+    alloc: Global,
+    outer: &mut Outer,
+    depth: u8,
+    x: Expr,
+    token: &Lexeme,
+) -> Result<Place, ParseFault>
+    ensures { Goes (have_step depth (plain x) (base_of outer.old) (token_of token.now)) result outer.new }
+{
+    let base = outer.base;
+    match &base {
+        Base::Drive(name) if is_mark(Mark::Semicolon, token) => {
+            add_item(outer, Item::Assign(*name, x))?;
+            Ok(Place::InItem(ItemSpot::Want))
+        }
+        Base::Test(depth, inner) if is_mark(Mark::Close, token) => {
+            hold(outer, Holder::Then(*depth, x))?;
+            Ok(Place::InStmt(StmtSpot::WantStmt(*inner)))
+        }
+        Base::Pick(depth, inner) if is_mark(Mark::Close, token) => {
+            Ok(Place::InStmt(StmtSpot::FirstLabel(*depth, *inner, x)))
+        }
+        Base::Set(name) if is_mark(Mark::Semicolon, token) => {
+            let body = only(alloc, Stmt::Set(*name, x))?;
+            Ok(Place::InStmt(StmtSpot::HaveStmt(depth, body)))
+        }
+        _ => Err(ParseFault::Unexpected),
+    }
+}
+
+/// What a token does behind a whole expression.
+fn have(
+    alloc: Global,
+    outer: &mut Outer,
+    depth: u8,
+    x: Expr,
+    token: &Lexeme,
+) -> Result<Place, ParseFault>
+    ensures { Goes (have_step depth (plain x) (outside_of outer.old) (token_of token.now)) result outer.new }
+{
+    match pop(outer) {
+        Some(f) => Ok(Place::InExpr(have_in(alloc, outer, f, depth, x, token)?)),
+        None => have_whole(alloc, outer, depth, x, token),
+    }
+}
+
+/// What a token does in an expression.
+#[tactic(auto, using(crate::proofs::FrameLemmas::expects_is))]
+pub(crate) fn step_expr(
+    alloc: Global,
+    outer: &mut Outer,
+    place: Spot,
+    token: &Lexeme,
+) -> Result<Place, ParseFault>
+    ensures { Goes (step_expr (Some 64) (spot place (outside_of outer.old)) (token_of token.now)) result outer.new }
+{
+    let next = match place {
+        Spot::Want(depth) => want(alloc, outer, depth, token)?,
+        Spot::Inside(inner, depth) => inside(alloc, outer, inner, depth, token)?,
+        Spot::Named(depth, name) => match token {
+            Lexeme::Sign(Mark::OpenBracket) => Spot::Bracket(depth, name),
+            _ => return have(alloc, outer, depth, Expr::Name(name), token),
+        },
+        Spot::Bracket(depth, name) => match token {
+            Lexeme::Number(_, high) => Spot::HighRead(depth, name, high.value),
+            _ => return Err(ParseFault::Unexpected),
+        },
+        Spot::HighRead(depth, name, high) => match token {
+            Lexeme::Sign(Mark::CloseBracket) => Spot::Have(depth, Expr::Bit(name, high)),
+            Lexeme::Sign(Mark::Colon) => Spot::ColonRead(depth, name, high),
+            _ => return Err(ParseFault::Unexpected),
+        },
+        Spot::ColonRead(depth, name, high) => match token {
+            Lexeme::Number(_, low) => Spot::LowRead(depth, name, high, low.value),
+            _ => return Err(ParseFault::Unexpected),
+        },
+        Spot::LowRead(depth, name, high, low) => {
+            if !is_mark(Mark::CloseBracket, token) {
+                return Err(ParseFault::Unexpected);
+            }
+            Spot::Have(depth, Expr::Part(name, high, low))
+        }
+        Spot::Have(depth, x) => return have(alloc, outer, depth, x, token),
+    };
+    Ok(Place::InExpr(next))
+}

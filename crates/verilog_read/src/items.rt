@@ -1,0 +1,247 @@
+//! What a token does between statements.
+ghost use Rattle.std.specs.Prelude.{◌≡◌, Some, OnOk, IfErr, ◌∷◌, []};
+ghost use Rattle.verilog_tree.specs.Plain.{plain_port};
+ghost use Rattle.verilog_read.specs.Places.{HeadOpen, ClockRead, AtItem};
+ghost use Rattle.verilog_read.specs.Following.{with_ports};
+ghost use Rattle.verilog_read.specs.Steps.{declared, takes_name, range_step, name_step, port_step, input_step, output_step, step_item, step};
+ghost use Rattle.verilog_read.specs.Lexemes.{token_of};
+ghost use Rattle.verilog_read.specs.Frames.{head_of};
+ghost use Rattle.verilog_read.specs.Spots.{use_of, item_spot, state_of};
+ghost use Rattle.verilog_read.specs.Answers.{Goes, a_name, bytes_of, is_zero_number};
+
+use crate::expressions::step_expr;
+use crate::lexemes::Lexeme;
+use crate::places::{Base, ItemSpot, Outer, ParseFault, Place, Spot, StmtSpot, Use};
+use crate::stacks::{add_item, is_mark, is_word, start};
+use crate::statements::{step_stmt, want_item};
+use bist_text::is_reserved;
+use std::alloc::Global;
+use verilog_tree::{Decl, Dir, Item, Mark, Name, Port};
+
+fn name_in(token: &Lexeme) -> Option<Name>
+    ensures { bytes_of result ≡ a_name (token_of token.now) }
+{
+    match token {
+        Lexeme::Word(name) => {
+            if is_reserved(name.as_str().as_bytes()) {
+                None
+            } else {
+                Some(*name)
+            }
+        }
+        _ => None,
+    }
+}
+
+fn is_zero(token: &Lexeme) -> bool
+    ensures { result ≡ is_zero_number (token_of token.now) }
+{
+    match token {
+        Lexeme::Number(long, n) => !*long && n.value == 0,
+        _ => false,
+    }
+}
+
+fn add_port(outer: &mut Outer, port: Port) -> Result<(), ParseFault>
+    ensures added { OnOk result (head_of outer.new.tree ≡ with_ports (head_of outer.old.tree) (plain_port port ∷ [])) }
+    ensures fault { IfErr result (λ e. e ≡ ParseFault.NoMemory) }
+{
+    outer
+        .tree
+        .ports
+        .push(port)
+        .map_err(|_| ParseFault::NoMemory)
+}
+
+/// A name is declared.
+fn declare(outer: &mut Outer, what: &Use, width: u8, name: Name) -> Result<Place, ParseFault>
+    ensures { Goes (Some (declared (use_of what.now (head_of outer.old.tree)) width name.bytes)) result outer.new }
+{
+    match what {
+        Use::Wire => add_item(outer, Item::Wire(Decl { name, width }))?,
+        Use::Reg => add_item(outer, Item::Reg(Decl { name, width }))?,
+        Use::Port(dir) => add_port(
+            outer,
+            Port {
+                dir: *dir,
+                name,
+                width,
+            },
+        )?,
+    }
+    Ok(Place::InItem(ItemSpot::NameRead(*what, width)))
+}
+
+/// A name that is declared with this width comes.
+#[tactic(auto, using(crate::proofs::FrameLemmas::takes_name_is))]
+fn want_name(outer: &mut Outer, what: &Use, width: u8, token: &Lexeme) -> Result<Place, ParseFault>
+    ensures { Goes (takes_name (declared (use_of what.now (head_of outer.old.tree)) width) (token_of token.now)) result outer.new }
+{
+    match name_in(token) {
+        Some(name) => declare(outer, what, width, name),
+        None => Err(ParseFault::Unexpected),
+    }
+}
+
+fn want_range(outer: &mut Outer, what: Use, token: &Lexeme) -> Result<Place, ParseFault>
+    ensures { Goes (range_step (use_of what (head_of outer.old.tree)) (token_of token.now)) result outer.new }
+{
+    match token {
+        Lexeme::Sign(Mark::OpenBracket) => Ok(Place::InItem(ItemSpot::WantHigh(what))),
+        _ => want_name(outer, &what, 1, token),
+    }
+}
+
+fn in_port(outer: &Outer, token: &Lexeme) -> Result<Place, ParseFault>
+    ensures { Goes (port_step (head_of outer.now.tree) (token_of token.now)) result outer.now }
+{
+    if is_word("input", token) {
+        Ok(Place::InItem(ItemSpot::InputRead))
+    } else if is_word("output", token) {
+        Ok(Place::InItem(ItemSpot::OutputRead))
+    } else {
+        Err(ParseFault::Unexpected)
+    }
+}
+
+fn in_input(outer: &mut Outer, token: &Lexeme) -> Result<Place, ParseFault>
+    ensures { Goes (input_step (head_of outer.old.tree) (token_of token.now)) result outer.new }
+{
+    if is_word("wire", token) {
+        Ok(Place::InItem(ItemSpot::WantRange(Use::Port(Dir::Input))))
+    } else {
+        want_range(outer, Use::Port(Dir::Input), token)
+    }
+}
+
+fn in_output(outer: &mut Outer, token: &Lexeme) -> Result<Place, ParseFault>
+    ensures { Goes (output_step (head_of outer.old.tree) (token_of token.now)) result outer.new }
+{
+    if is_word("wire", token) {
+        Ok(Place::InItem(ItemSpot::WantRange(Use::Port(Dir::Output))))
+    } else if is_word("reg", token) {
+        Ok(Place::InItem(ItemSpot::WantRange(Use::Port(Dir::OutputReg))))
+    } else {
+        want_range(outer, Use::Port(Dir::Output), token)
+    }
+}
+
+/// What a token does behind a name that is declared.
+#[tactic(auto, using(crate::proofs::FrameLemmas::expects_is))]
+fn name_read(outer: &Outer, what: &Use, width: u8, token: &Lexeme) -> Result<Place, ParseFault>
+    ensures { Goes (name_step (use_of what.now (head_of outer.now.tree)) width (token_of token.now)) result outer.now }
+{
+    if let Lexeme::Sign(Mark::Comma) = token {
+        return match what {
+            Use::Port(_) => Ok(Place::InItem(ItemSpot::WantPort)),
+            _ => Ok(Place::InItem(ItemSpot::WantName(*what, width))),
+        };
+    }
+    match what {
+        Use::Port(_) if is_mark(Mark::Close, token) => Ok(Place::InItem(ItemSpot::PortsRead)),
+        Use::Port(_) => Err(ParseFault::Unexpected),
+        _ if is_mark(Mark::Semicolon, token) => Ok(Place::InItem(ItemSpot::Want)),
+        _ => Err(ParseFault::Unexpected),
+    }
+}
+
+/// What a token does between statements.
+#[tactic(auto, using(crate::proofs::FrameLemmas::expects_is, crate::proofs::FrameLemmas::takes_name_is))]
+pub(crate) fn step_item(
+    outer: &mut Outer,
+    place: &ItemSpot,
+    token: &Lexeme,
+) -> Result<Place, ParseFault>
+    ensures { Goes (step_item (Some 64) (item_spot place.now outer.old) (token_of token.now)) result outer.new }
+{
+    let next = match place {
+        ItemSpot::Begin if is_word("module", token) => ItemSpot::HeadName,
+        ItemSpot::HeadName => return head_name(outer, token),
+        ItemSpot::HeadOpen if is_mark(Mark::Open, token) => {
+            outer.tree.ports.clear();
+            outer.tree.items.clear();
+            ItemSpot::WantPort
+        }
+        ItemSpot::WantPort => return in_port(outer, token),
+        ItemSpot::InputRead => return in_input(outer, token),
+        ItemSpot::OutputRead => return in_output(outer, token),
+        ItemSpot::WantRange(what) => return want_range(outer, *what, token),
+        ItemSpot::WantHigh(what) => match token {
+            Lexeme::Number(_, high) => ItemSpot::WantColon(*what, *high),
+            _ => return Err(ParseFault::Unexpected),
+        },
+        ItemSpot::WantColon(what, high) if is_mark(Mark::Colon, token) => {
+            ItemSpot::WantZero(*what, *high)
+        }
+        ItemSpot::WantZero(what, high) if is_zero(token) => ItemSpot::WantBracket(*what, *high),
+        ItemSpot::WantBracket(what, high) if is_mark(Mark::CloseBracket, token) => {
+            ItemSpot::WantName(*what, high.value + 1)
+        }
+        ItemSpot::WantName(what, width) => return want_name(outer, what, *width, token),
+        ItemSpot::NameRead(what, width) => return name_read(outer, what, *width, token),
+        ItemSpot::PortsRead if is_mark(Mark::Semicolon, token) => ItemSpot::Want,
+        ItemSpot::Want => return want_item(outer, token),
+        ItemSpot::AssignRead => match name_in(token) {
+            Some(name) => ItemSpot::DriveRead(name),
+            None => return Err(ParseFault::Unexpected),
+        },
+        ItemSpot::DriveRead(name) if is_mark(Mark::Equals, token) => {
+            start(outer, Base::Drive(*name));
+            return Ok(Place::InExpr(Spot::Want(0)));
+        }
+        ItemSpot::AlwaysRead if is_mark(Mark::At, token) => ItemSpot::AtRead,
+        ItemSpot::AtRead if is_mark(Mark::Open, token) => ItemSpot::ClockOpen,
+        ItemSpot::ClockOpen if is_word("posedge", token) => ItemSpot::EdgeRead,
+        ItemSpot::EdgeRead => return clock_name(outer, token),
+        ItemSpot::ClockRead if is_mark(Mark::Close, token) => {
+            outer.holders.clear();
+            return Ok(Place::InStmt(StmtSpot::WantStmt(0)));
+        }
+        _ => return Err(ParseFault::Unexpected),
+    };
+    Ok(Place::InItem(next))
+}
+
+/// The name of the module.
+#[tactic(auto, using(crate::proofs::FrameLemmas::takes_name_is))]
+fn head_name(outer: &mut Outer, token: &Lexeme) -> Result<Place, ParseFault>
+    ensures { Goes (takes_name (λ n. AtItem (HeadOpen n)) (token_of token.now)) result outer.new }
+{
+    match name_in(token) {
+        Some(name) => {
+            outer.tree.name = name;
+            Ok(Place::InItem(ItemSpot::HeadOpen))
+        }
+        None => Err(ParseFault::Unexpected),
+    }
+}
+
+/// The name of a clock.
+#[tactic(auto, using(crate::proofs::FrameLemmas::takes_name_is))]
+fn clock_name(outer: &mut Outer, token: &Lexeme) -> Result<Place, ParseFault>
+    ensures { Goes (takes_name (λ c. AtItem (ClockRead (head_of outer.old.tree) c)) (token_of token.now)) result outer.new }
+{
+    match name_in(token) {
+        Some(name) => {
+            outer.clock = name;
+            Ok(Place::InItem(ItemSpot::ClockRead))
+        }
+        None => Err(ParseFault::Unexpected),
+    }
+}
+
+/// What a token does where the parser stands.
+pub(crate) fn step(
+    alloc: Global,
+    outer: &mut Outer,
+    place: Place,
+    token: &Lexeme,
+) -> Result<Place, ParseFault>
+    ensures { Goes (step (Some 64) (state_of place outer.old) (token_of token.now)) result outer.new }
+{
+    match place {
+        Place::InExpr(spot) => step_expr(alloc, outer, spot, token),
+        Place::InStmt(spot) => step_stmt(alloc, outer, spot, token),
+        Place::InItem(spot) => step_item(outer, &spot, token),
+    }
+}

@@ -1,0 +1,365 @@
+//! The lexer: what a byte does where it stands.
+ghost use Rattle.std.specs.Prelude.{◌≡◌, ◌+◌, ◌*◌, ◌∷◌, [], ◌++◌, true, Some, None, ◌≤◌, ◌<◌, ◌↔◌, length, IsOk, IfOk, IfErr};
+ghost use Rattle.verilog_tree.specs.Tokens.{is_space, is_query, mark_of, lengthened};
+ghost use Rattle.verilog_tree.specs.Words.{is_digit, digit_value, radix, is_digit_of, base_of};
+ghost use Rattle.verilog_read.specs.Lexing.{begin, lex, last, with_token, InGap, InWord, InNumber, Quoted, Lettered, InDigits, Marked};
+ghost use Rattle.verilog_read.specs.Lexemes.{token_of, lexer_of, ends_of, Scans, Begins, BeginsAs, Stays};
+
+use crate::lexemes::{Lexeme, SmallNumber};
+use bist_bits::Bits;
+use verilog_tree::{Base, Mark, Name, Within, begins_identifier, in_identifier};
+
+/// Where the lexer stands. Behind the `'` of a literal a vector has the literal's size, and the value of the
+/// digits so far.
+#[derive(Clone, Copy)]
+pub enum Scanner {
+    InGap(Within),
+    InWord(Name),
+    InNumber(bool, SmallNumber),
+    Quoted(Bits),
+    Lettered(Bits, Base),
+    InDigits(Base, Bits),
+    Marked(Mark),
+    Whole(Lexeme),
+}
+
+/// Where a byte leads, and the token that it ends.
+#[derive(Clone, Copy)]
+pub struct Read {
+    pub lexer: Scanner,
+    pub token: Option<Lexeme>,
+}
+
+/// Why a byte is refused: no token goes on so, an identifier becomes too long, or a number too large.
+#[derive(Clone, Copy)]
+pub enum LexFault {
+    Unexpected,
+    LongName,
+    OutOfRange,
+}
+
+fn is_space(c: u8) -> bool
+    ensures { result ≡ is_space c }
+{
+    c == b' ' || c == b'\t' || c == b'\n' || c == 12 || c == b'\r'
+}
+
+fn is_digit(c: u8) -> bool
+    ensures { result ≡ is_digit c }
+{
+    b'0' <= c && c <= b'9'
+}
+
+fn is_digit_of(base: Base, c: u8) -> bool
+    ensures { result ≡ is_digit_of base c }
+{
+    match base {
+        Base::Binary => b'0' <= c && c <= b'1',
+        Base::Octal => b'0' <= c && c <= b'7',
+        Base::Decimal => is_digit(c),
+        Base::Hexadecimal => { is_digit(c) || (b'a' <= c && c <= b'f') || (b'A' <= c && c <= b'F') }
+    }
+}
+
+fn digit_value(base: Base, c: u8) -> u8
+    requires { is_digit_of base c ≡ true }
+    ensures { result ≡ digit_value c }
+{
+    if c <= b'9' {
+        c - b'0'
+    } else if c <= b'F' {
+        c - (b'A' - 10)
+    } else {
+        c - (b'a' - 10)
+    }
+}
+
+fn radix(base: Base) -> u8
+    ensures { result ≡ radix base }
+{
+    match base {
+        Base::Binary => 2,
+        Base::Octal => 8,
+        Base::Decimal => 10,
+        Base::Hexadecimal => 16,
+    }
+}
+
+fn base_of(c: u8) -> Option<Base>
+    ensures { result ≡ base_of c }
+{
+    match c {
+        b'b' | b'B' => Some(Base::Binary),
+        b'o' | b'O' => Some(Base::Octal),
+        b'd' | b'D' => Some(Base::Decimal),
+        b'h' | b'H' => Some(Base::Hexadecimal),
+        _ => None,
+    }
+}
+
+fn is_query(base: Base, c: u8) -> bool
+    ensures { result ≡ is_query base c }
+{
+    match base {
+        Base::Decimal => false,
+        _ => c == b'?',
+    }
+}
+
+fn mark_of(c: u8) -> Option<Mark>
+    ensures { result ≡ mark_of c }
+{
+    Some(match c {
+        b'(' => Mark::Open,
+        b')' => Mark::Close,
+        b'[' => Mark::OpenBracket,
+        b']' => Mark::CloseBracket,
+        b'{' => Mark::OpenBrace,
+        b'}' => Mark::CloseBrace,
+        b',' => Mark::Comma,
+        b';' => Mark::Semicolon,
+        b':' => Mark::Colon,
+        b'@' => Mark::At,
+        b'?' => Mark::Question,
+        b'=' => Mark::Equals,
+        b'+' => Mark::Plus,
+        b'-' => Mark::Minus,
+        b'&' => Mark::Ampersand,
+        b'|' => Mark::Bar,
+        b'^' => Mark::Caret,
+        b'~' => Mark::Tilde,
+        b'!' => Mark::Bang,
+        b'<' => Mark::Less,
+        b'>' => Mark::Greater,
+        _ => return None,
+    })
+}
+
+fn lengthened(mark: Mark, c: u8) -> Option<Mark>
+    ensures { result ≡ lengthened mark c }
+{
+    match (mark, c) {
+        (Mark::Equals, b'=') => Some(Mark::TwoEquals),
+        (Mark::Bang, b'=') => Some(Mark::BangEquals),
+        (Mark::Less, b'=') => Some(Mark::LessEquals),
+        (Mark::Less, b'<') => Some(Mark::TwoLess),
+        (Mark::Greater, b'=') => Some(Mark::GreaterEquals),
+        (Mark::Greater, b'>') => Some(Mark::TwoGreater),
+        (Mark::Ampersand, b'&') => Some(Mark::TwoAmpersands),
+        (Mark::Bar, b'|') => Some(Mark::TwoBars),
+        _ => None,
+    }
+}
+
+fn longer(name: Name, c: u8) -> Result<Name, LexFault>
+    requires { c < 128 }
+    ensures value { IfOk result (λ n. n.bytes ≡ name.bytes ++ c ∷ []) }
+    ensures fault { IfErr result (λ f. f ≡ LexFault.LongName) }
+    ensures variant { IsOk result ↔ (length name.bytes + 1 ≤ 64) }
+{
+    let mut name = name;
+    match name.try_push(char::from(c)) {
+        Ok(()) => Ok(name),
+        Err(_) => Err(LexFault::LongName),
+    }
+}
+
+/// What a byte begins, in white space or behind a token.
+fn begin(c: u8) -> Option<Scanner>
+    ensures { BeginsAs (begin c) result }
+{
+    if is_space(c) {
+        return Some(Scanner::InGap(Within::Between));
+    }
+    if c == b'/' {
+        return Some(Scanner::InGap(Within::Slash));
+    }
+    if begins_identifier(c) {
+        return Some(Scanner::InWord(longer(Name::new(), c).ok()?));
+    }
+    if is_digit(c) {
+        return Some(Scanner::InNumber(false, SmallNumber { value: c - b'0' }));
+    }
+    Some(Scanner::Marked(mark_of(c)?))
+}
+
+fn with_token(token: Lexeme, c: u8) -> Result<Read, LexFault>
+    ensures { Scans 63 64 (with_token (token_of token) (begin c)) result }
+{
+    match begin(c) {
+        Some(lexer) => Ok(Read {
+            lexer,
+            token: Some(token),
+        }),
+        None => Err(LexFault::Unexpected),
+    }
+}
+
+fn silent(lexer: Scanner) -> Read
+    ensures lexer { result.lexer ≡ lexer }
+    ensures token { result.token ≡ None }
+{
+    Read { lexer, token: None }
+}
+
+/// What a byte does in white space.
+#[tactic(auto, using(crate::proofs::LexerLimits::begins_stays))]
+fn gap(within: Within, c: u8) -> Result<Scanner, LexFault>
+    ensures { Stays (lex (InGap within) c) result }
+{
+    match (within, c) {
+        (Within::Between, _) => begin(c).ok_or(LexFault::Unexpected),
+        (Within::Line, b'\n') => Ok(Scanner::InGap(Within::Between)),
+        (Within::Slash, b'/') | (Within::Line, _) => Ok(Scanner::InGap(Within::Line)),
+        (Within::Slash, b'*') => Ok(Scanner::InGap(Within::Block)),
+        (Within::Slash, _) => Err(LexFault::Unexpected),
+        (Within::Block | Within::Star, b'*') => Ok(Scanner::InGap(Within::Star)),
+        (Within::Star, b'/') => Ok(Scanner::InGap(Within::Between)),
+        (Within::Block | Within::Star, _) => Ok(Scanner::InGap(Within::Block)),
+    }
+}
+
+fn lex_gap(within: Within, c: u8) -> Result<Read, LexFault>
+    ensures { Scans 63 64 (lex (InGap within) c) result }
+{
+    let next = gap(within, c)?;
+    Ok(silent(next))
+}
+
+fn lex_word(name: Name, c: u8) -> Result<Read, LexFault>
+    ensures { Scans 63 64 (lex (InWord name.bytes) c) result }
+{
+    if in_identifier(c) {
+        let longer = longer(name, c)?;
+        Ok(silent(Scanner::InWord(longer)))
+    } else {
+        with_token(Lexeme::Word(name), c)
+    }
+}
+
+/// Behind the `'` of a literal of this size.
+#[tactic(auto, using(crate::proofs::LexerLimits::size_vector))]
+fn sized(n: SmallNumber) -> Result<Scanner, LexFault>
+    ensures { Begins 63 64 (Some (Quoted n.value)) result }
+{
+    match Bits::try_new(n.value, 0) {
+        Some(size) => Ok(Scanner::Quoted(size)),
+        None => Err(LexFault::OutOfRange),
+    }
+}
+
+/// Behind the digits of a number, which may be at most `most`.
+fn lex_number(long: bool, n: SmallNumber, c: u8, most: u8) -> Result<Read, LexFault>
+    requires low { 63 ≤ most }
+    requires high { most ≤ 64 }
+    ensures { Scans most most (lex (InNumber long n.value) c) result }
+{
+    if is_digit(c) {
+        if n.value > 6 || n.value * 10 + (c - b'0') > most {
+            return Err(LexFault::OutOfRange);
+        }
+        let value = n.value * 10 + (c - b'0');
+        Ok(silent(Scanner::InNumber(true, SmallNumber { value })))
+    } else if c == b'\'' {
+        let size = sized(n)?;
+        Ok(silent(size))
+    } else {
+        with_token(Lexeme::Number(long, n), c)
+    }
+}
+
+/// The digits so far, and a further one.
+fn pushed(base: Base, size: u8, value: u64, c: u8) -> Result<Scanner, LexFault>
+    requires { is_digit_of base c ≡ true }
+    ensures { Begins 63 64 (Some (InDigits size base (value * radix base + digit_value c))) result }
+{
+    let Some(shifted) = value.checked_mul(u64::from(radix(base))) else {
+        return Err(LexFault::OutOfRange);
+    };
+    let Some(value) = shifted.checked_add(u64::from(digit_value(base, c))) else {
+        return Err(LexFault::OutOfRange);
+    };
+    match Bits::try_new(size, value) {
+        Some(bits) => Ok(Scanner::InDigits(base, bits)),
+        None => Err(LexFault::OutOfRange),
+    }
+}
+
+fn lex_digits(base: Base, bits: Bits, c: u8) -> Result<Read, LexFault>
+    ensures { Scans 63 64 (lex (InDigits bits.width base bits.value) c) result }
+{
+    if is_digit_of(base, c) {
+        let digits = pushed(base, bits.width(), bits.value(), c)?;
+        Ok(silent(digits))
+    } else if c == b'_' {
+        Ok(silent(Scanner::InDigits(base, bits)))
+    } else if is_query(base, c) {
+        Ok(silent(Scanner::Whole(Lexeme::Queried)))
+    } else {
+        with_token(Lexeme::Constant(bits), c)
+    }
+}
+
+/// Behind the letter of a literal's base.
+fn lex_first_digit(size: Bits, base: Base, c: u8) -> Result<Read, LexFault>
+    ensures { Scans 63 64 (lex (Lettered size.width base) c) result }
+{
+    if !is_digit_of(base, c) {
+        return Err(LexFault::Unexpected);
+    }
+    let digits = pushed(base, size.width(), 0, c)?;
+    Ok(silent(digits))
+}
+
+/// Behind the `'` of a literal.
+fn lex_base(size: Bits, c: u8) -> Result<Read, LexFault>
+    ensures { Scans 63 64 (lex (Quoted size.width) c) result }
+{
+    match base_of(c) {
+        Some(base) => Ok(silent(Scanner::Lettered(size, base))),
+        None => Err(LexFault::Unexpected),
+    }
+}
+
+fn lex_mark(mark: Mark, c: u8) -> Result<Read, LexFault>
+    ensures { Scans 63 64 (lex (Marked mark) c) result }
+{
+    match lengthened(mark, c) {
+        Some(mark) => Ok(silent(Scanner::Whole(Lexeme::Sign(mark)))),
+        None => with_token(Lexeme::Sign(mark), c),
+    }
+}
+
+/// What the lexer does at a byte, where a number that goes on may be at most `most`.
+#[tactic(auto, using(crate::proofs::LexerLimits::any_numbers))]
+pub(crate) fn lex(lexer: Scanner, c: u8, most: u8) -> Result<Read, LexFault>
+    requires low { 63 ≤ most }
+    requires high { most ≤ 64 }
+    ensures { Scans most most (lex (lexer_of lexer) c) result }
+{
+    match lexer {
+        Scanner::InGap(within) => lex_gap(within, c),
+        Scanner::InWord(name) => lex_word(name, c),
+        Scanner::InNumber(long, n) => lex_number(long, n, c, most),
+        Scanner::Quoted(size) => lex_base(size, c),
+        Scanner::Lettered(size, base) => lex_first_digit(size, base, c),
+        Scanner::InDigits(base, bits) => lex_digits(base, bits, c),
+        Scanner::Marked(mark) => lex_mark(mark, c),
+        Scanner::Whole(token) => with_token(token, c),
+    }
+}
+
+/// The token that a text's end ends, if the text may end.
+pub(crate) fn last(lexer: Scanner) -> Option<Option<Lexeme>>
+    ensures { ends_of result ≡ last (lexer_of lexer) }
+{
+    match &lexer {
+        Scanner::InGap(Within::Between | Within::Line) => Some(None),
+        Scanner::InGap(_) | Scanner::Quoted(_) | Scanner::Lettered(_, _) => None,
+        Scanner::InWord(name) => Some(Some(Lexeme::Word(*name))),
+        Scanner::InNumber(long, n) => Some(Some(Lexeme::Number(*long, *n))),
+        Scanner::InDigits(_, bits) => Some(Some(Lexeme::Constant(*bits))),
+        Scanner::Marked(mark) => Some(Some(Lexeme::Sign(*mark))),
+        Scanner::Whole(token) => Some(Some(*token)),
+    }
+}

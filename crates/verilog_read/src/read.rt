@@ -1,0 +1,236 @@
+//! The reader of a module's text.
+ghost use Rattle.std.specs.Prelude.{◌≡◌, ◌≤◌, Some, None, IfOk, MatchResult};
+ghost use Rattle.verilog_tree.specs.Plain.{ModuleTree, plain_module};
+ghost use Rattle.verilog_tree.specs.Spells.{Spells};
+ghost use Rattle.verilog_read.specs.Answering.{Takes, Moves, Scanned, Gives, take_token, stuck, arrive, is_between, read_within, byte_move, fault_at, value_answer, end_answer, last_answer, answer, both_of};
+ghost use Rattle.verilog_read.specs.Expected.{most_of};
+ghost use Rattle.verilog_read.specs.Lexemes.{token_of, tokens_of, lexer_of, ends_of};
+ghost use Rattle.verilog_read.specs.Lexing.{last};
+ghost use Rattle.verilog_read.specs.Spots.{state_of};
+ghost use Rattle.verilog_read.specs.Steps.{value};
+
+use crate::fault::ReadFault;
+use crate::items::step;
+use crate::lexemes::Lexeme;
+use crate::lexer::{LexFault, Read, Scanner, last, lex};
+use crate::places::{ItemSpot, Outer, ParseFault, Place};
+use crate::takes::{is_live, takes, takes_number};
+use std::alloc::Global;
+use verilog_tree::{Module, Within};
+
+/// Where a byte leads, and whether a token may begin with it.
+#[derive(Drop)]
+pub(crate) struct Next {
+    pub place: Place,
+    pub lexer: Scanner,
+    pub fresh: bool,
+}
+
+/// Why a byte is refused.
+#[derive(Clone, Copy)]
+pub(crate) enum ByteFault {
+    Unexpected,
+    TooDeep,
+    LongName,
+    OutOfRange,
+    NoMemory,
+}
+
+/// How large a number may be that goes on: 63 in brackets, and else 64, as the size of a literal.
+fn most_at(place: &Place, outer: &Outer) -> u8
+    ensures value { result ≡ most_of (state_of place.now outer.now) }
+    ensures low { 63 ≤ result }
+    ensures high { result ≤ 64 }
+{
+    if takes_number(place, outer, false, 0) {
+        63
+    } else {
+        64
+    }
+}
+
+/// What the lexer does at a byte.
+#[tactic(auto, using(crate::proofs::Scanning::scanned))]
+fn scan(place: &Place, outer: &Outer, lexer: Scanner, c: u8) -> Result<Read, LexFault>
+    ensures { Scanned (both_of place.now outer.now lexer) (byte_move (both_of place.now outer.now lexer) c) result }
+{
+    let most = most_at(place, outer);
+    lex(lexer, c, most)
+}
+
+/// A token that ends goes to the parser.
+fn take(alloc: Global, outer: &mut Outer, place: Place, token: &Lexeme) -> Result<Place, ByteFault>
+    ensures { Takes (take_token (state_of place outer.old) (token_of token.now)) result outer.new }
+{
+    let taken = takes(&place, outer, token);
+    match step(alloc, outer, place, token) {
+        Ok(place) => Ok(place),
+        Err(ParseFault::NoMemory) => Err(ByteFault::NoMemory),
+        Err(ParseFault::Unexpected) if taken => Err(ByteFault::TooDeep),
+        Err(ParseFault::Unexpected) => Err(ByteFault::Unexpected),
+    }
+}
+
+/// Where a byte leads, if what is begun can go on.
+fn arrive(outer: &Outer, place: Place, lexer: Scanner, fresh: bool) -> Result<Next, ByteFault>
+    ensures { Moves (arrive (state_of place outer.now) (lexer_of lexer) fresh) result outer.now }
+{
+    if is_live(&place, outer, &lexer) {
+        Ok(Next {
+            place,
+            lexer,
+            fresh,
+        })
+    } else {
+        Err(ByteFault::Unexpected)
+    }
+}
+
+fn is_between(lexer: &Scanner) -> bool
+    ensures { result ≡ is_between (lexer_of lexer.now) }
+{
+    matches!(lexer, Scanner::InGap(Within::Between))
+}
+
+/// A byte that the lexer takes.
+fn read_on(
+    alloc: Global,
+    outer: &mut Outer,
+    place: Place,
+    lexer: &Scanner,
+    read: Read,
+) -> Result<Next, ByteFault>
+    ensures { Moves (read_within (both_of place outer.old lexer.now) (lexer_of read.lexer) (tokens_of read.token)) result outer.new }
+{
+    match &read.token {
+        Some(token) => {
+            let place = take(alloc, outer, place, token)?;
+            arrive(outer, place, read.lexer, true)
+        }
+        None => arrive(outer, place, read.lexer, is_between(lexer)),
+    }
+}
+
+/// A byte with which no token goes on and none begins: it is unexpected, unless the token that it ends is an opening
+/// too many.
+fn stuck(alloc: Global, outer: &mut Outer, place: Place, lexer: Scanner) -> Result<Next, ByteFault>
+    ensures { Moves (stuck (state_of place outer.old) (last (lexer_of lexer))) result outer.new }
+{
+    if let Some(Some(token)) = last(lexer) {
+        take(alloc, outer, place, &token)?;
+    }
+    Err(ByteFault::Unexpected)
+}
+
+/// What a byte does.
+fn step_byte(
+    alloc: Global,
+    outer: &mut Outer,
+    place: Place,
+    lexer: Scanner,
+    c: u8,
+) -> Result<Next, ByteFault>
+    ensures { Moves (byte_move (both_of place outer.old lexer) c) result outer.new }
+{
+    match scan(&place, outer, lexer, c) {
+        Ok(read) => read_on(alloc, outer, place, &lexer, read),
+        Err(LexFault::Unexpected) => stuck(alloc, outer, place, lexer),
+        Err(LexFault::LongName) => Err(ByteFault::LongName),
+        Err(LexFault::OutOfRange) => Err(ByteFault::OutOfRange),
+    }
+}
+
+/// The module, where a text may end.
+fn value(outer: Outer, place: Place) -> Result<Module, ReadFault>
+    ensures { Gives (value_answer (value (state_of place outer))) result }
+{
+    match place {
+        Place::InItem(ItemSpot::Ended) => Ok(outer.tree),
+        _ => Err(ReadFault::Truncated),
+    }
+}
+
+/// The text ends with a token that began at byte `start`.
+fn end_token(
+    alloc: Global,
+    outer: Outer,
+    place: Place,
+    token: &Lexeme,
+    start: usize,
+) -> Result<Module, ReadFault>
+    ensures { Gives (last_answer (take_token (state_of place outer) (token_of token.now)) start) result }
+{
+    let mut outer = outer;
+    match take(alloc, &mut outer, place, token) {
+        Ok(place) => value(outer, place),
+        Err(ByteFault::TooDeep) => Err(ReadFault::TooDeep { byte: start }),
+        Err(ByteFault::NoMemory) => Err(ReadFault::NoMemory),
+        Err(_) => Err(ReadFault::Truncated),
+    }
+}
+
+/// The text ends.
+fn finish(
+    alloc: Global,
+    outer: Outer,
+    place: Place,
+    lexer: Scanner,
+    start: usize,
+) -> Result<Module, ReadFault>
+    ensures { Gives (end_answer (state_of place outer) (last (lexer_of lexer)) start) result }
+{
+    match last(lexer) {
+        Some(Some(token)) => end_token(alloc, outer, place, &token, start),
+        Some(None) => value(outer, place),
+        None => Err(ReadFault::Truncated),
+    }
+}
+
+/// The fault of byte `byte`, where the token that is read began at byte `start`.
+fn fault_at(fault: ByteFault, start: usize, byte: usize) -> ReadFault
+    ensures { result ≡ fault_at fault start byte }
+{
+    match fault {
+        ByteFault::Unexpected => ReadFault::Unexpected { byte },
+        ByteFault::TooDeep => ReadFault::TooDeep { byte: start },
+        ByteFault::LongName => ReadFault::LongName { byte },
+        ByteFault::OutOfRange => ReadFault::OutOfRange { byte },
+        ByteFault::NoMemory => ReadFault::NoMemory,
+    }
+}
+
+/// Reads the bytes one after another, until one is refused.
+fn scan_text(alloc: Global, bytes: &[u8]) -> Result<Module, ReadFault>
+    ensures { Gives (answer bytes.now) result }
+{
+    let mut outer = Outer::new(alloc);
+    let mut place = Place::InItem(ItemSpot::Begin);
+    let mut lexer = Scanner::InGap(Within::Between);
+    let mut start = 0;
+    for (i, c) in bytes.iter().enumerate() {
+        let next = match step_byte(alloc, &mut outer, place, lexer, *c) {
+            Ok(next) => next,
+            Err(fault) => return Err(fault_at(fault, start, i)),
+        };
+        place = next.place;
+        lexer = next.lexer;
+        if next.fresh {
+            start = i;
+        }
+    }
+    finish(alloc, outer, place, lexer, start)
+}
+
+/// Reads the text of a module. The first byte at which one of L1, L3, L4 and L5 stands decides.
+///
+/// The time is linear in the text, and nothing recurses deeper than openings may be open at once, 64.
+pub fn read_module(alloc: Global, bytes: &[u8]) -> Result<Module, ReadFault>
+    // A text is read as the module that it spells, within all limits, unless memory runs out.
+    ensures ok { IfOk result (λ m. Spells bytes.now (plain_module m)) }
+    ensures accepted { (mo : ModuleTree) → Spells bytes.now mo → MatchResult result (λ m. plain_module m ≡ mo) (λ fault. fault ≡ ReadFault.NoMemory) }
+
+    // No bytes spell two modules.
+    ensures one_module { (mo : ModuleTree) (other : ModuleTree) → Spells bytes.now mo → Spells bytes.now other → mo ≡ other }
+{
+    scan_text(alloc, bytes)
+}

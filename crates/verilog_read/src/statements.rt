@@ -1,0 +1,263 @@
+//! What a token does in a statement.
+ghost use Rattle.std.specs.Prelude.{◌≡◌, Some, map};
+ghost use Rattle.verilog_tree.specs.Plain.{plain, plain_stmts, plain_arm, arms, AlwaysItem};
+ghost use Rattle.verilog_read.specs.Places.{with_item};
+ghost use Rattle.verilog_read.specs.Steps.{word_step, want_stmt_step, block_step, arm_step, want_item_step, have_stmt_step, step_stmt};
+ghost use Rattle.verilog_read.specs.Lexemes.{token_of};
+ghost use Rattle.verilog_read.specs.Frames.{base, holder, around_of, head_of};
+ghost use Rattle.verilog_read.specs.Spots.{stmt_spot};
+ghost use Rattle.verilog_read.specs.Answers.{StmtSteps, Goes, opens_expr};
+
+use crate::lexemes::Lexeme;
+use crate::places::{Base, Holder, ItemSpot, Outer, ParseFault, Place, Spot, StmtSpot, Use};
+use crate::stacks::{add_item, deeper, hold, is_mark, is_word, release, start};
+use crate::trees::{case_of, condition, join, with_arm, with_label};
+use bist_text::is_reserved;
+use std::alloc::Global;
+use verilog_tree::{Arm, Expr, Item, Mark, Name, Stmt};
+
+fn begin_stmt(alloc: Global, outer: &Outer, depth: u8, name: &Name) -> Result<StmtSpot, ParseFault>
+    ensures { StmtSteps (word_step (Some 64) depth (around_of outer.now) name.now.bytes) result (around_of outer.now) }
+{
+    let word = name.as_str();
+    if word == "begin" {
+        match deeper(depth) {
+            Some(inner) => Ok(StmtSpot::Block(inner, depth, Vec::new(alloc))),
+            None => Err(ParseFault::Unexpected),
+        }
+    } else if word == "if" {
+        match deeper(depth) {
+            Some(inner) => Ok(StmtSpot::IfRead(depth, inner)),
+            None => Err(ParseFault::Unexpected),
+        }
+    } else if word == "case" {
+        match deeper(depth) {
+            Some(inner) => Ok(StmtSpot::CaseRead(depth, inner)),
+            None => Err(ParseFault::Unexpected),
+        }
+    } else if is_reserved(word.as_bytes()) {
+        Err(ParseFault::Unexpected)
+    } else {
+        Ok(StmtSpot::Target(depth, *name))
+    }
+}
+
+fn want_stmt(
+    alloc: Global,
+    outer: &Outer,
+    depth: u8,
+    token: &Lexeme,
+) -> Result<StmtSpot, ParseFault>
+    ensures { StmtSteps (want_stmt_step (Some 64) depth (around_of outer.now) (token_of token.now)) result (around_of outer.now) }
+{
+    match token {
+        Lexeme::Word(name) => begin_stmt(alloc, outer, depth, name),
+        _ => Err(ParseFault::Unexpected),
+    }
+}
+
+/// A statement begins in a holder.
+fn want_held(
+    alloc: Global,
+    outer: &mut Outer,
+    h: Holder,
+    depth: u8,
+    token: &Lexeme,
+) -> Result<StmtSpot, ParseFault>
+    ensures { StmtSteps (want_stmt_step (Some 64) depth (holder h (around_of outer.old)) (token_of token.now)) result (around_of outer.new) }
+{
+    hold(outer, h)?;
+    want_stmt(alloc, outer, depth, token)
+}
+
+fn in_block(
+    alloc: Global,
+    outer: &mut Outer,
+    inner: u8,
+    depth: u8,
+    old: Vec<Stmt>,
+    token: &Lexeme,
+) -> Result<StmtSpot, ParseFault>
+    ensures { StmtSteps (block_step (Some 64) inner depth (plain_stmts old.items) (around_of outer.old) (token_of token.now)) result (around_of outer.new) }
+{
+    if is_word("end", token) {
+        Ok(StmtSpot::HaveStmt(depth, old))
+    } else {
+        want_held(alloc, outer, Holder::Block(depth, old), inner, token)
+    }
+}
+
+pub(crate) fn want_item(outer: &Outer, token: &Lexeme) -> Result<Place, ParseFault>
+    ensures { Goes (want_item_step (head_of outer.now.tree) (token_of token.now)) result outer.now }
+{
+    let Lexeme::Word(name) = token else {
+        return Err(ParseFault::Unexpected);
+    };
+    let word = name.as_str();
+    let next = if word == "wire" {
+        ItemSpot::WantRange(Use::Wire)
+    } else if word == "reg" {
+        ItemSpot::WantRange(Use::Reg)
+    } else if word == "assign" {
+        ItemSpot::AssignRead
+    } else if word == "always" {
+        ItemSpot::AlwaysRead
+    } else if word == "endmodule" {
+        ItemSpot::Ended
+    } else {
+        return Err(ParseFault::Unexpected);
+    };
+    Ok(Place::InItem(next))
+}
+
+fn have_always(outer: &mut Outer, body: Vec<Stmt>, token: &Lexeme) -> Result<Place, ParseFault>
+    ensures { Goes (want_item_step (with_item (head_of outer.old.tree) (AlwaysItem outer.old.clock.bytes (plain_stmts body.items))) (token_of token.now)) result outer.new }
+{
+    let clock = outer.clock;
+    add_item(outer, Item::Always(clock, body))?;
+    want_item(outer, token)
+}
+
+/// Where an arm, the default or the end of a case may come.
+fn in_case(
+    alloc: Global,
+    outer: &Outer,
+    depth: u8,
+    inner: u8,
+    x: Expr,
+    choices: Vec<Arm>,
+    token: &Lexeme,
+) -> Result<StmtSpot, ParseFault>
+    ensures { StmtSteps (arm_step depth inner (plain x) (arms (map plain_arm choices.items)) (around_of outer.now) (token_of token.now)) result (around_of outer.now) }
+{
+    if let Lexeme::Constant(label) = token {
+        let labels = with_label(Vec::new(alloc), *label)?;
+        return Ok(StmtSpot::Labels(depth, inner, x, choices, labels));
+    }
+    if is_word("default", token) {
+        Ok(StmtSpot::DefaultRead(depth, inner, x, choices))
+    } else if is_word("endcase", token) {
+        let body = case_of(alloc, x, choices, Vec::new(alloc))?;
+        Ok(StmtSpot::HaveStmt(depth, body))
+    } else {
+        Err(ParseFault::Unexpected)
+    }
+}
+
+/// What a token does behind a whole statement: an if without else ends where no else comes.
+fn have_stmt(
+    alloc: Global,
+    outer: &mut Outer,
+    depth: u8,
+    body: Vec<Stmt>,
+    token: &Lexeme,
+) -> Result<Place, ParseFault>
+    ensures { Goes (have_stmt_step (Some 64) (around_of outer.old) depth (plain_stmts body.items) (token_of token.now)) result outer.new }
+{
+    match release(outer) {
+        None => have_always(outer, body, token),
+        Some(Holder::Block(above, old)) => {
+            let old = join(old, body)?;
+            Ok(Place::InStmt(in_block(alloc, outer, depth, above, old, token)?))
+        }
+        Some(Holder::Then(above, c)) => {
+            if is_word("else", token) {
+                hold(outer, Holder::Else(above, c, body))?;
+                return Ok(Place::InStmt(StmtSpot::WantStmt(depth)));
+            }
+            let body = condition(alloc, c, body, Vec::new(alloc))?;
+            have_stmt(alloc, outer, above, body, token)
+        }
+        Some(Holder::Else(above, c, yes)) => {
+            let body = condition(alloc, c, yes, body)?;
+            have_stmt(alloc, outer, above, body, token)
+        }
+        Some(Holder::Labelled(above, x, arms, labels)) => {
+            let arms = with_arm(arms, labels, body)?;
+            Ok(Place::InStmt(in_case(alloc, outer, above, depth, x, arms, token)?))
+        }
+        Some(Holder::Other(above, x, arms)) => {
+            if !is_word("endcase", token) {
+                return Err(ParseFault::Unexpected);
+            }
+            let body = case_of(alloc, x, arms, body)?;
+            Ok(Place::InStmt(StmtSpot::HaveStmt(above, body)))
+        }
+    }
+}
+
+/// An expression begins behind an opening parenthesis.
+fn opened(outer: &mut Outer, depth: u8, whole: Base, token: &Lexeme) -> Result<Place, ParseFault>
+    ensures { Goes (opens_expr (Some 64) depth (base whole outer.old) (token_of token.now)) result outer.new }
+{
+    if !is_mark(Mark::Open, token) {
+        return Err(ParseFault::Unexpected);
+    }
+    match deeper(depth) {
+        Some(inner) => {
+            start(outer, whole);
+            Ok(Place::InExpr(Spot::Want(inner)))
+        }
+        None => Err(ParseFault::Unexpected),
+    }
+}
+
+/// What a token does in a statement.
+#[tactic(auto, using(crate::proofs::FrameLemmas::expects_is))]
+pub(crate) fn step_stmt(
+    alloc: Global,
+    outer: &mut Outer,
+    place: StmtSpot,
+    token: &Lexeme,
+) -> Result<Place, ParseFault>
+    ensures { Goes (step_stmt (Some 64) (stmt_spot place (around_of outer.old)) (token_of token.now)) result outer.new }
+{
+    let next = match place {
+        StmtSpot::WantStmt(depth) => want_stmt(alloc, outer, depth, token)?,
+        StmtSpot::Target(depth, name) => {
+            if !is_mark(Mark::LessEquals, token) {
+                return Err(ParseFault::Unexpected);
+            }
+            start(outer, Base::Set(name));
+            return Ok(Place::InExpr(Spot::Want(depth)));
+        }
+        StmtSpot::IfRead(depth, inner) => {
+            return opened(outer, inner, Base::Test(depth, inner), token);
+        }
+        StmtSpot::CaseRead(depth, inner) => {
+            return opened(outer, inner, Base::Pick(depth, inner), token);
+        }
+        StmtSpot::FirstLabel(depth, inner, x) => match token {
+            Lexeme::Constant(label) => {
+                let labels = with_label(Vec::new(alloc), *label)?;
+                StmtSpot::Labels(depth, inner, x, Vec::new(alloc), labels)
+            }
+            _ => return Err(ParseFault::Unexpected),
+        },
+        StmtSpot::Labels(depth, inner, x, choices, labels) => match token {
+            Lexeme::Sign(Mark::Comma) => StmtSpot::NextLabel(depth, inner, x, choices, labels),
+            Lexeme::Sign(Mark::Colon) => {
+                hold(outer, Holder::Labelled(depth, x, choices, labels))?;
+                StmtSpot::WantStmt(inner)
+            }
+            _ => return Err(ParseFault::Unexpected),
+        },
+        StmtSpot::NextLabel(depth, inner, x, choices, labels) => match token {
+            Lexeme::Constant(label) => {
+                let labels = with_label(labels, *label)?;
+                StmtSpot::Labels(depth, inner, x, choices, labels)
+            }
+            _ => return Err(ParseFault::Unexpected),
+        },
+        StmtSpot::DefaultRead(depth, inner, x, choices) => match token {
+            Lexeme::Sign(Mark::Colon) => {
+                hold(outer, Holder::Other(depth, x, choices))?;
+                StmtSpot::WantStmt(inner)
+            }
+            _ => want_held(alloc, outer, Holder::Other(depth, x, choices), inner, token)?,
+        },
+        StmtSpot::Block(inner, depth, old) => in_block(alloc, outer, inner, depth, old, token)?,
+        StmtSpot::HaveStmt(depth, body) => return have_stmt(alloc, outer, depth, body, token),
+    };
+    Ok(Place::InStmt(next))
+}

@@ -1,0 +1,211 @@
+//! Whether a text may go on with a token, and with what is begun of one.
+ghost use Rattle.std.specs.Prelude.{◌≡◌, ℕ, None};
+ghost use Rattle.verilog_tree.specs.Plain.{Expression};
+ghost use Rattle.verilog_tree.specs.Tokens.{Number, Sign};
+ghost use Rattle.verilog_read.specs.Expected.{is_step, taken, live, longer_marks, some_taken};
+ghost use Rattle.verilog_read.specs.Lexemes.{token_of, lexer_of};
+ghost use Rattle.verilog_read.specs.Frames.{frame, base, base_of, outside_of, around_of};
+ghost use Rattle.verilog_read.specs.Places.{Outside, AtExpr, AtStmt, AtItem};
+ghost use Rattle.verilog_read.specs.Spots.{spot, stmt_spot, item_spot, state_of};
+ghost use Rattle.verilog_read.specs.Steps.{have_step};
+
+use crate::lexemes::Lexeme;
+use crate::lexer::Scanner;
+use crate::places::{Base, Frame, ItemSpot, Outer, Place, Spot, StmtSpot, Use};
+use crate::words::expected_at;
+use bist_text::is_reserved;
+use verilog_tree::Mark;
+
+/// Whether a mark may come behind a whole expression that stands in this.
+fn frame_takes(inner: &Frame, mark: Mark) -> bool
+    ensures { (p : ℕ) (x : Expression) (o : Outside) → result ≡ is_step (have_step p x (frame inner.now o) (Sign mark)) }
+{
+    match inner {
+        Frame::Braces(_, _) => matches!(mark, Mark::Comma | Mark::CloseBrace),
+        Frame::Paren(_) => matches!(
+            mark,
+            Mark::Close
+                | Mark::Question
+                | Mark::Plus
+                | Mark::Minus
+                | Mark::Ampersand
+                | Mark::Bar
+                | Mark::Caret
+                | Mark::TwoEquals
+                | Mark::BangEquals
+                | Mark::Less
+                | Mark::LessEquals
+                | Mark::Greater
+                | Mark::GreaterEquals
+                | Mark::TwoAmpersands
+                | Mark::TwoBars
+                | Mark::TwoLess
+                | Mark::TwoGreater
+        ),
+        Frame::Prefix(_, _) | Frame::Right(_, _, _) | Frame::No(_, _, _) => {
+            matches!(mark, Mark::Close)
+        }
+        Frame::Yes(_, _) => matches!(mark, Mark::Colon),
+    }
+}
+
+/// The same where it stands in no frame.
+fn base_takes(outer: &Outer, mark: Mark) -> bool
+    ensures { (p : ℕ) (x : Expression) → result ≡ is_step (have_step p x (base_of outer.now) (Sign mark)) }
+{
+    match &outer.base {
+        Base::Drive(_) | Base::Set(_) => matches!(mark, Mark::Semicolon),
+        Base::Test(_, _) | Base::Pick(_, _) => matches!(mark, Mark::Close),
+    }
+}
+
+/// Whether a mark may come behind a whole expression.
+#[tactic(auto, using(crate::proofs::FrameLemmas::stack_push))]
+fn have_takes(outer: &Outer, mark: Mark) -> bool
+    ensures { (p : ℕ) (x : Expression) → result ≡ is_step (have_step p x (outside_of outer.now) (Sign mark)) }
+{
+    match outer.frames.as_slice() {
+        [] => base_takes(outer, mark),
+        [.., innermost] => frame_takes(innermost, mark),
+    }
+}
+
+fn expr_takes(place: &Spot, outer: &Outer, mark: Mark) -> bool
+    ensures { result ≡ taken (AtExpr (spot place.now (outside_of outer.now))) (Sign mark) }
+{
+    match place {
+        Spot::Want(_) => matches!(mark, Mark::Open | Mark::OpenBrace),
+        Spot::Inside(_, _) => matches!(
+            mark,
+            Mark::Open
+                | Mark::OpenBrace
+                | Mark::Bang
+                | Mark::Tilde
+                | Mark::Ampersand
+                | Mark::Bar
+                | Mark::Caret
+        ),
+        Spot::Named(_, _) => matches!(mark, Mark::OpenBracket) || have_takes(outer, mark),
+        Spot::Bracket(_, _) | Spot::ColonRead(_, _, _) => false,
+        Spot::HighRead(_, _, _) => matches!(mark, Mark::CloseBracket | Mark::Colon),
+        Spot::LowRead(_, _, _, _) => matches!(mark, Mark::CloseBracket),
+        Spot::Have(_, _) => have_takes(outer, mark),
+    }
+}
+
+#[tactic(auto, using(crate::proofs::Expectations::no_mark_behind))]
+fn stmt_takes(place: &StmtSpot, outer: &Outer, mark: Mark) -> bool
+    ensures { result ≡ taken (AtStmt (stmt_spot place.now (around_of outer.now))) (Sign mark) }
+{
+    match place {
+        StmtSpot::Target(_, _) => matches!(mark, Mark::LessEquals),
+        StmtSpot::IfRead(_, _) | StmtSpot::CaseRead(_, _) => matches!(mark, Mark::Open),
+        StmtSpot::Labels(_, _, _, _, _) => matches!(mark, Mark::Comma | Mark::Colon),
+        StmtSpot::DefaultRead(_, _, _, _) => matches!(mark, Mark::Colon),
+        _ => false,
+    }
+}
+
+fn item_takes(place: &ItemSpot, outer: &Outer, mark: Mark) -> bool
+    ensures { result ≡ taken (AtItem (item_spot place.now outer.now)) (Sign mark) }
+{
+    match place {
+        ItemSpot::HeadOpen | ItemSpot::AtRead => matches!(mark, Mark::Open),
+        ItemSpot::InputRead | ItemSpot::OutputRead | ItemSpot::WantRange(_) => {
+            matches!(mark, Mark::OpenBracket)
+        }
+        ItemSpot::WantColon(_, _) => matches!(mark, Mark::Colon),
+        ItemSpot::WantBracket(_, _) => matches!(mark, Mark::CloseBracket),
+        ItemSpot::NameRead(Use::Port(_), _) => matches!(mark, Mark::Comma | Mark::Close),
+        ItemSpot::NameRead(_, _) => matches!(mark, Mark::Comma | Mark::Semicolon),
+        ItemSpot::PortsRead => matches!(mark, Mark::Semicolon),
+        ItemSpot::DriveRead(_) => matches!(mark, Mark::Equals),
+        ItemSpot::AlwaysRead => matches!(mark, Mark::At),
+        ItemSpot::ClockRead => matches!(mark, Mark::Close),
+        _ => false,
+    }
+}
+
+fn takes_mark(place: &Place, outer: &Outer, mark: Mark) -> bool
+    ensures { result ≡ taken (state_of place.now outer.now) (Sign mark) }
+{
+    match place {
+        Place::InExpr(spot) => expr_takes(spot, outer, mark),
+        Place::InStmt(spot) => stmt_takes(spot, outer, mark),
+        Place::InItem(spot) => item_takes(spot, outer, mark),
+    }
+}
+
+/// Whether a number may come, told by whether it has more than one digit, and its value.
+#[tactic(auto, using(crate::proofs::Expectations::number_taken))]
+pub(crate) fn takes_number(place: &Place, outer: &Outer, long: bool, value: u8) -> bool
+    ensures { result ≡ taken (state_of place.now outer.now) (Number long value) }
+{
+    match place {
+        Place::InExpr(Spot::Bracket(_, _) | Spot::ColonRead(_, _, _)) => true,
+        Place::InItem(ItemSpot::WantHigh(_)) => true,
+        Place::InItem(ItemSpot::WantZero(_, _)) => !long && value == 0,
+        _ => false,
+    }
+}
+
+/// Whether a text may go on with a token.
+#[tactic(auto, using(crate::proofs::Expectations::word_taken, crate::proofs::Expectations::literals_alike, crate::proofs::Expectations::no_query))]
+pub(crate) fn takes(place: &Place, outer: &Outer, token: &Lexeme) -> bool
+    ensures { result ≡ taken (state_of place.now outer.now) (token_of token.now) }
+{
+    match token {
+        Lexeme::Word(name) => {
+            let expected = expected_at(place, outer);
+            let word = name.as_str().as_bytes();
+            expected.lists(word) || (expected.names && !is_reserved(word))
+        }
+        Lexeme::Number(long, n) => takes_number(place, outer, *long, n.value),
+        Lexeme::Constant(_) => expected_at(place, outer).literals,
+        Lexeme::Queried => false,
+        Lexeme::Sign(mark) => takes_mark(place, outer, *mark),
+    }
+}
+
+/// Whether a longer mark that begins with a mark may come.
+fn takes_longer(place: &Place, outer: &Outer, mark: Mark) -> bool
+    ensures { result ≡ some_taken (state_of place.now outer.now) (longer_marks mark) }
+{
+    match mark {
+        Mark::Equals => takes_mark(place, outer, Mark::TwoEquals),
+        Mark::Bang => takes_mark(place, outer, Mark::BangEquals),
+        Mark::Less => {
+            takes_mark(place, outer, Mark::LessEquals) || takes_mark(place, outer, Mark::TwoLess)
+        }
+        Mark::Greater => {
+            takes_mark(place, outer, Mark::GreaterEquals)
+                || takes_mark(place, outer, Mark::TwoGreater)
+        }
+        Mark::Ampersand => takes_mark(place, outer, Mark::TwoAmpersands),
+        Mark::Bar => takes_mark(place, outer, Mark::TwoBars),
+        _ => false,
+    }
+}
+
+/// Whether what the lexer has begun can go on to a token with which a text may go on.
+pub(crate) fn is_live(place: &Place, outer: &Outer, lexer: &Scanner) -> bool
+    ensures { result ≡ live (state_of place.now outer.now) (lexer_of lexer.now) }
+{
+    match lexer {
+        Scanner::InGap(_) => true,
+        Scanner::InWord(name) => {
+            let expected = expected_at(place, outer);
+            expected.names || expected.lists_longer(name.as_str().as_bytes())
+        }
+        Scanner::InNumber(long, n) => {
+            takes_number(place, outer, *long, n.value) || expected_at(place, outer).literals
+        }
+        Scanner::Quoted(_) | Scanner::Lettered(_, _) | Scanner::InDigits(_, _) => {
+            expected_at(place, outer).literals
+        }
+        Scanner::Marked(mark) => {
+            takes_mark(place, outer, *mark) || takes_longer(place, outer, *mark)
+        }
+        Scanner::Whole(token) => takes(place, outer, token),
+    }
+}

@@ -1,0 +1,135 @@
+//! Parts of trees, each built of its parts.
+ghost use Rattle.std.specs.Prelude.{◌≡◌, ◌++◌, ◌∷◌, [], map, IfOk, IfErr};
+ghost use Rattle.verilog_tree.specs.Plain.{plain, plain_stmt, plain_stmts, plain_arm, arms, ArmOf, NoArm, IfElse, expressions, Prefixed, Infixed, Conditional, NoMore, Followed};
+ghost use Rattle.verilog_tree.specs.Grammar.{then_all, alone};
+ghost use Rattle.verilog_read.specs.Places.{more_parts, more_arms};
+ghost use Rattle.verilog_read.specs.Following.{case_of};
+
+use crate::places::ParseFault;
+use bist_bits::Bits;
+use std::alloc::Global;
+use verilog_tree::{Arm, BinOp, Expr, Stmt, UnOp};
+
+pub(crate) fn prefixed(alloc: Global, op: UnOp, x: Expr) -> Result<Expr, ParseFault>
+    ensures value { IfOk result (λ y. plain y ≡ Prefixed op (plain x)) }
+    ensures fault { IfErr result (λ f. f ≡ ParseFault.NoMemory) }
+{
+    Ok(Expr::Unary(op, boxed(alloc, x)?))
+}
+
+pub(crate) fn boxed(alloc: Global, x: Expr) -> Result<Box<Expr>, ParseFault>
+    ensures value { IfOk result (λ y. plain y.value ≡ plain x) }
+    ensures fault { IfErr result (λ f. f ≡ ParseFault.NoMemory) }
+{
+    Box::new(alloc, x).map_err(|_| ParseFault::NoMemory)
+}
+
+pub(crate) fn infixed(alloc: Global, op: BinOp, x: Expr, y: Expr) -> Result<Expr, ParseFault>
+    ensures value { IfOk result (λ z. plain z ≡ Infixed op (plain x) (plain y)) }
+    ensures fault { IfErr result (λ f. f ≡ ParseFault.NoMemory) }
+{
+    let x = boxed(alloc, x)?;
+    Ok(Expr::Binary(op, x, boxed(alloc, y)?))
+}
+
+pub(crate) fn conditional(alloc: Global, c: Expr, x: Expr, y: Expr) -> Result<Expr, ParseFault>
+    ensures value { IfOk result (λ z. plain z ≡ Conditional (plain c) (plain x) (plain y)) }
+    ensures fault { IfErr result (λ f. f ≡ ParseFault.NoMemory) }
+{
+    let c = boxed(alloc, c)?;
+    let x = boxed(alloc, x)?;
+    Ok(Expr::Choose(c, x, boxed(alloc, y)?))
+}
+
+#[tactic(auto, using(crate::proofs::FrameLemmas::parts_push))]
+pub(crate) fn with_part(parts: Vec<Expr>, x: Expr) -> Result<Vec<Expr>, ParseFault>
+    ensures value { IfOk result (λ ys. expressions (map plain ys.items) ≡ more_parts (expressions (map plain parts.items)) (Followed (plain x) NoMore)) }
+    ensures fault { IfErr result (λ f. f ≡ ParseFault.NoMemory) }
+{
+    let mut parts = parts;
+    match parts.push(x) {
+        Ok(()) => Ok(parts),
+        Err(_) => Err(ParseFault::NoMemory),
+    }
+}
+
+pub(crate) fn only(alloc: Global, stmt: Stmt) -> Result<Vec<Stmt>, ParseFault>
+    ensures value { IfOk result (λ b. plain_stmts b.items ≡ alone (plain_stmt stmt)) }
+    ensures fault { IfErr result (λ e. e ≡ ParseFault.NoMemory) }
+{
+    let mut body = Vec::new(alloc);
+    match body.push(stmt) {
+        Ok(()) => Ok(body),
+        Err(_) => Err(ParseFault::NoMemory),
+    }
+}
+
+#[tactic(auto, using(crate::proofs::FrameLemmas::stmts_join))]
+pub(crate) fn join(old: Vec<Stmt>, more: Vec<Stmt>) -> Result<Vec<Stmt>, ParseFault>
+    ensures value { IfOk result (λ b. plain_stmts b.items ≡ then_all (plain_stmts old.items) (plain_stmts more.items)) }
+    ensures fault { IfErr result (λ e. e ≡ ParseFault.NoMemory) }
+{
+    let mut old = old;
+    let mut more = more;
+    match old.append(&mut more) {
+        Ok(()) => Ok(old),
+        Err(_) => Err(ParseFault::NoMemory),
+    }
+}
+
+pub(crate) fn condition(
+    alloc: Global,
+    c: Expr,
+    yes: Vec<Stmt>,
+    no: Vec<Stmt>,
+) -> Result<Vec<Stmt>, ParseFault>
+    ensures value { IfOk result (λ b. plain_stmts b.items ≡ alone (IfElse (plain c) (plain_stmts yes.items) (plain_stmts no.items))) }
+    ensures fault { IfErr result (λ e. e ≡ ParseFault.NoMemory) }
+{
+    only(alloc, Stmt::If(c, yes, no))
+}
+
+pub(crate) fn arm_of(labels: Vec<Bits>, body: Vec<Stmt>) -> Arm
+    ensures { plain_arm result ≡ record { labels = labels.items; body = plain_stmts body.items } }
+{
+    Arm { labels, body }
+}
+
+#[tactic(auto, using(crate::proofs::FrameLemmas::arms_push))]
+pub(crate) fn with_arm(
+    choices: Vec<Arm>,
+    labels: Vec<Bits>,
+    body: Vec<Stmt>,
+) -> Result<Vec<Arm>, ParseFault>
+    ensures value { IfOk result (λ as'. arms (map plain_arm as'.items) ≡ more_arms (arms (map plain_arm choices.items)) (ArmOf labels.items (plain_stmts body.items) NoArm)) }
+    ensures fault { IfErr result (λ e. e ≡ ParseFault.NoMemory) }
+{
+    let mut choices = choices;
+    match choices.push(arm_of(labels, body)) {
+        Ok(()) => Ok(choices),
+        Err(_) => Err(ParseFault::NoMemory),
+    }
+}
+
+pub(crate) fn with_label(labels: Vec<Bits>, label: Bits) -> Result<Vec<Bits>, ParseFault>
+    ensures value { IfOk result (λ ls. ls.items ≡ labels.items ++ label ∷ []) }
+    ensures fault { IfErr result (λ e. e ≡ ParseFault.NoMemory) }
+{
+    let mut labels = labels;
+    match labels.push(label) {
+        Ok(()) => Ok(labels),
+        Err(_) => Err(ParseFault::NoMemory),
+    }
+}
+
+pub(crate) fn case_of(
+    alloc: Global,
+    x: Expr,
+    choices: Vec<Arm>,
+    other: Vec<Stmt>,
+) -> Result<Vec<Stmt>, ParseFault>
+    ensures value { IfOk result (λ b. plain_stmts b.items ≡ case_of (plain x) (arms (map plain_arm choices.items)) (plain_stmts other.items)) }
+    ensures fault { IfErr result (λ e. e ≡ ParseFault.NoMemory) }
+{
+    only(alloc, Stmt::Case(x, choices, other))
+}

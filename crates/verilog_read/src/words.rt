@@ -1,0 +1,188 @@
+//! The words, names and literals that may come where the parser stands.
+ghost use Rattle.std.specs.Prelude.{◌≡◌, ℕ, List, false, map};
+ghost use Rattle.bist_text.specs.ReservedWords.{is_among};
+ghost use Rattle.verilog_read.specs.Expected.{some_begins};
+ghost use Rattle.verilog_read.specs.Places.{Head, InAlways, AtExpr, AtStmt, AtItem};
+ghost use Rattle.verilog_read.specs.Frames.{holders, outside_of, around_of};
+ghost use Rattle.verilog_read.specs.Spots.{spot, stmt_spot, item_spot, state_of};
+ghost use Rattle.verilog_read.specs.WordSets.{words_of, Expects, ExpectsBehind};
+
+use crate::places::{Holder, ItemSpot, Outer, Place, Spot, StmtSpot};
+
+/// Reserved words that may come at one place.
+#[derive(Clone, Copy)]
+pub enum WordSet {
+    Nothing,
+    Module,
+    Directions,
+    Wire,
+    WireOrReg,
+    Items,
+    Edge,
+    Statements,
+    Block,
+    Arms,
+    CaseEnd,
+}
+
+/// What may come: an else, these words, names, literals.
+#[derive(Clone, Copy)]
+pub struct Expected {
+    pub alternative: bool,
+    pub words: WordSet,
+    pub names: bool,
+    pub literals: bool,
+}
+
+fn is_among(word: &[u8], words: &[&str]) -> bool
+    ensures { result ≡ is_among word.now (map (λ w. w.now) words.now) }
+{
+    for other in words {
+        if word == other.as_bytes() {
+            return true;
+        }
+    }
+    false
+}
+
+fn some_begins(prefix: &[u8], words: &[&str]) -> bool
+    ensures { result ≡ some_begins prefix.now (map (λ w. w.now) words.now) }
+{
+    for word in words {
+        if word.as_bytes().starts_with(prefix) {
+            return true;
+        }
+    }
+    false
+}
+
+fn words_of(set: WordSet) -> &'static [&'static str]
+    ensures { map (λ w. w.now) result.now ≡ words_of set }
+{
+    match set {
+        WordSet::Nothing => &[],
+        WordSet::Module => &["module"],
+        WordSet::Directions => &["input", "output"],
+        WordSet::Wire => &["wire"],
+        WordSet::WireOrReg => &["wire", "reg"],
+        WordSet::Items => &["wire", "reg", "assign", "always", "endmodule"],
+        WordSet::Edge => &["posedge"],
+        WordSet::Statements => &["begin", "if", "case"],
+        WordSet::Block => &["end", "begin", "if", "case"],
+        WordSet::Arms => &["default", "endcase"],
+        WordSet::CaseEnd => &["endcase"],
+    }
+}
+
+impl Expected {
+    ghost use Rattle.verilog_read.specs.Expected.{with_else, some_begins};
+    ghost use Rattle.verilog_read.specs.WordSets.{words_of};
+
+    /// Whether a word is one of those that may come.
+    pub(crate) fn lists(self, word: &[u8]) -> bool
+        ensures { result ≡ is_among word.now (with_else self.alternative (words_of self.words)) }
+    {
+        (self.alternative && word == b"else".as_slice()) || is_among(word, words_of(self.words))
+    }
+
+    /// Whether one of the words that may come begins so.
+    pub(crate) fn lists_longer(self, prefix: &[u8]) -> bool
+        ensures { result ≡ some_begins prefix.now (with_else self.alternative (words_of self.words)) }
+    {
+        (self.alternative && b"else".starts_with(prefix))
+            || some_begins(prefix, words_of(self.words))
+    }
+}
+
+fn plain(words: WordSet, names: bool, literals: bool) -> Expected
+    ensures { result ≡ record { alternative = false; words = words; names = names; literals = literals } }
+{
+    Expected {
+        alternative: false,
+        words,
+        names,
+        literals,
+    }
+}
+
+/// What may come behind a whole statement: where it ends an if, what may come behind that, too. The holders are at
+/// most as many as the openings that are open, 64.
+#[tactic(auto, using(crate::proofs::FrameLemmas::holders_push))]
+fn expected_behind(waiting: &[Holder]) -> Expected
+    ensures { (h : Head) (c : List ℕ) → ExpectsBehind result (holders waiting.now (InAlways h c)) }
+{
+    let [outer @ .., innermost] = waiting else {
+        return plain(WordSet::Items, false, false);
+    };
+    match innermost {
+        Holder::Block(_, _) => plain(WordSet::Block, true, false),
+        Holder::Then(_, _) => {
+            let above = expected_behind(outer);
+            Expected {
+                alternative: true,
+                words: above.words,
+                names: above.names,
+                literals: above.literals,
+            }
+        }
+        Holder::Else(_, _, _) => expected_behind(outer),
+        Holder::Labelled(_, _, _, _) => plain(WordSet::Arms, false, true),
+        Holder::Other(_, _, _) => plain(WordSet::CaseEnd, false, false),
+    }
+}
+
+fn expected_in_expr(place: &Spot, outer: &Outer) -> Expected
+    ensures { Expects result (AtExpr (spot place.now (outside_of outer.now))) }
+{
+    match place {
+        Spot::Want(_) | Spot::Inside(_, _) => plain(WordSet::Nothing, true, true),
+        _ => plain(WordSet::Nothing, false, false),
+    }
+}
+
+#[tactic(auto, using(crate::proofs::Expectations::literal_behind))]
+fn expected_in_stmt(place: &StmtSpot, outer: &Outer) -> Expected
+    ensures { Expects result (AtStmt (stmt_spot place.now (around_of outer.now))) }
+{
+    match place {
+        StmtSpot::WantStmt(_) | StmtSpot::DefaultRead(_, _, _, _) => {
+            plain(WordSet::Statements, true, false)
+        }
+        StmtSpot::Block(_, _, _) => plain(WordSet::Block, true, false),
+        StmtSpot::FirstLabel(_, _, _) | StmtSpot::NextLabel(_, _, _, _, _) => {
+            plain(WordSet::Nothing, false, true)
+        }
+        StmtSpot::HaveStmt(_, _) => expected_behind(outer.holders.as_slice()),
+        _ => plain(WordSet::Nothing, false, false),
+    }
+}
+
+fn expected_in_item(place: &ItemSpot, outer: &Outer) -> Expected
+    ensures { Expects result (AtItem (item_spot place.now outer.now)) }
+{
+    match place {
+        ItemSpot::Begin => plain(WordSet::Module, false, false),
+        ItemSpot::WantPort => plain(WordSet::Directions, false, false),
+        ItemSpot::InputRead => plain(WordSet::Wire, true, false),
+        ItemSpot::OutputRead => plain(WordSet::WireOrReg, true, false),
+        ItemSpot::Want => plain(WordSet::Items, false, false),
+        ItemSpot::ClockOpen => plain(WordSet::Edge, false, false),
+        ItemSpot::HeadName
+        | ItemSpot::WantRange(_)
+        | ItemSpot::WantName(_, _)
+        | ItemSpot::AssignRead
+        | ItemSpot::EdgeRead => plain(WordSet::Nothing, true, false),
+        _ => plain(WordSet::Nothing, false, false),
+    }
+}
+
+/// The words, names and literals that may come where the parser stands.
+pub(crate) fn expected_at(place: &Place, outer: &Outer) -> Expected
+    ensures { Expects result (state_of place.now outer.now) }
+{
+    match place {
+        Place::InExpr(spot) => expected_in_expr(spot, outer),
+        Place::InStmt(spot) => expected_in_stmt(spot, outer),
+        Place::InItem(spot) => expected_in_item(spot, outer),
+    }
+}
