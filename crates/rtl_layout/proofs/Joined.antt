@@ -1,5 +1,5 @@
 -- Lists that grow at their end, as the builders write them.
-use Rattle.std.proofs.Common.{◌≡◌, ℕ, suc, ◌+◌, List, [], ◌∷◌, ◌++◌, codes, ap, ◌∙◌, sym, arith, append_assoc}
+use Rattle.std.proofs.Common.{◌≡◌, ℕ, suc, ◌+◌, List, [], ◌∷◌, ◌++◌, codes, ap, ◌∙◌, arith, append_assoc}
 use Rattle.verilog_tree.specs.Plain.{Expression, Net}
 use Rattle.rtl_layout.specs.Layout.{aged, over_at, gated}
 

@@ -1,5 +1,4 @@
 use Rattle.std.proofs.Common.{ap, ◌∙◌, map}
-use Rattle.verilog_tree.specs.Plain.{Expression}
 use Rattle.verilog_tree.specs.Meaning.{bit}
 use Rattle.rtl_layout.specs.Build.{lit}
 use Rattle.rtl_layout.specs.Flags.{element_flag}

@@ -1,4 +1,3 @@
-use Rattle.std.proofs.Common.{◌<◌, ◌^◌}
 use Rattle.rtl_layout.specs.Seen.{seen}
 use Rattle.rtl_layout.proofs.Words.{word_below}
 use Rattle.rtl_layout.proofs.tables.word_literal.Goals as goal
