@@ -1,0 +1,7 @@
+pub mod Mirror
+pub mod Runs
+pub mod Listed
+pub mod Addressed
+pub mod Named
+pub mod Sizes
+pub mod Made

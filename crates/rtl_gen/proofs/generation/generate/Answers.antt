@@ -1,0 +1,18 @@
+use Rattle.std.proofs.Common.{sym, ap, ◌∙◌, subst, arith}
+use Rattle.verilog_tree.specs.Plain.{ModuleTree}
+use Rattle.verilog_tree.specs.Fits.{fits}
+use Rattle.self_test.specs.SelfTest.{SelfTest}
+use Rattle.rtl_layout.specs.Seen.{seen}
+use Rattle.rtl_layout.proofs.Text.{all_fits}
+use Rattle.rtl_gen.proofs.Runs.{self_tested}
+use Rattle.rtl_gen.proofs.generation.generate.Goals as goal
+
+pub returns-in-Ok-clause-fits : goal.returns-in-Ok-clause-fits
+returns-in-Ok-clause-fits c =
+    let p = c.plan-plan.result.is_plan in
+    ap fits c.in-Ok.ensures ∙ all_fits (seen c.plan-plan.result) p.ready p.sized (let l = p.few_ages in omega arith) p.element_small p.oper_small p.back_small p.name
+
+pub returns-in-Ok-clause-self_test : goal.returns-in-Ok-clause-self_test
+returns-in-Ok-clause-self_test c =
+    subst (λ (mo : ModuleTree). SelfTest mo c.args.march.now c.args.memory.now) (sym c.in-Ok.ensures)
+    (self_tested c.args.march.now c.args.memory.now (seen c.plan-plan.result) c.plan-plan.ensures.plans c.plan-plan.result.is_plan c.plan-plan.ensures.march c.plan-plan.ensures.memory)

@@ -1,0 +1,26 @@
+ghost use Rattle.std.specs.Prelude.{◌≡◌, true, IfOk};
+ghost use Rattle.verilog_tree.specs.Plain.{plain_module};
+ghost use Rattle.verilog_tree.specs.Fits.{fits};
+ghost use Rattle.self_test.specs.SelfTest.{SelfTest};
+
+use crate::planning::plan;
+use bist_bits::NoMemory;
+use march_core::March;
+use memory_desc::Memory;
+use rtl_layout::module;
+use std::alloc::Global;
+use verilog_tree::Module;
+
+/// The self-test module of a march and a memory.
+///
+/// Want of memory is its only refusal.
+pub fn generate(alloc: Global, march: &March, memory: &Memory) -> Result<Module, NoMemory>
+    ensures fits { IfOk result (λ m. fits (plain_module m) ≡ true) }
+    ensures self_test { IfOk result (λ m. SelfTest (plain_module m) march.now memory.now) }
+{
+    let plan = plan(march, memory);
+    match module(alloc, &plan) {
+        Ok(module) => Ok(module),
+        Err(_) => Err(NoMemory),
+    }
+}
