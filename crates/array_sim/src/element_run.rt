@@ -1,7 +1,7 @@
 ghost use Rattle.std.specs.Prelude.{◌≡◌, ◌≢◌, ◌<◌, Some, None, length};
 ghost use Rattle.fault_core.specs.Cells.{FitsPlace};
 ghost use Rattle.march_core.specs.March.{element_at};
-ghost use Rattle.march_core.specs.Visits.{cell_visits, address_visits, addresses, direction_at, element_visits, Direction, Upward, Downward};
+ghost use Rattle.march_core.specs.Visits.{cell_visits, address_visits, addresses, direction_at, element_visits};
 ghost use Rattle.array_sim.specs.Run.{act_of, is_wrong_of, run_of};
 ghost use Rattle.array_sim.specs.Addresses.{direction_of, address_at, steps_of};
 

@@ -1,4 +1,4 @@
-ghost use Rattle.std.specs.Prelude.{◌≡◌, ◌<◌, ◌≤◌, ◌↔◌, IsSome, IfSome, length};
+ghost use Rattle.std.specs.Prelude.{◌≡◌, ◌<◌, ◌↔◌, IsSome, IfSome, length};
 ghost use Rattle.fault_core.specs.Cells.{FitsPlace, close_of};
 ghost use Rattle.march_core.specs.Visits.{FitsWord, visits, directions_of};
 ghost use Rattle.array_sim.specs.Run.{places_of, outcome_of, SomeDiffers, IsFirstMiss};

@@ -1,8 +1,5 @@
 ghost use Rattle.std.specs.Prelude.{◌≡◌, ◌<◌, None, MatchOption, length};
-ghost use Rattle.march_core.specs.March.{IsMarch};
-ghost use Rattle.fault_core.specs.Primitive.{IsPrimitive};
 ghost use Rattle.pair_tracker.specs.Placements.{FitsPlacement, places_in};
-ghost use Rattle.pair_tracker.specs.Survivors.{AreSurvivors};
 ghost use Rattle.escape_array.specs.declared.escape.EscapeArray.{EscapeArray};
 ghost use Rattle.escape_array.specs.Escapes.{IsEscape, IsLeastEscape, content_number, places_of_escape};
 ghost use Rattle.escape_array.specs.Searching.{IsLeastWord, NoneBefore, IsLeastIn, lesser_of, least_of};

@@ -1,5 +1,5 @@
 -- What a table says is what its rows list.
-use Rattle.std.proofs.Common.{◌≡◌, ◌+◌, ◌^◌, ◌<◌, ◌≤◌, ℕ, Bool, true, false, Option, Some, None, List, [], length, get_or, refl, ap, sym, subst, ◌∙◌, arith}
+use Rattle.std.proofs.Common.{◌≡◌, ◌≤◌, ℕ, Bool, Option, Some, List, [], length, get_or, refl, sym, subst, arith}
 use Rattle.std.specs.List.{filter_map, Contains}
 use Rattle.fault_core.specs.Primitive.{Primitive, IsPrimitive}
 use Rattle.march_core.specs.March.{MarchElement, IsMarch}

@@ -6,7 +6,7 @@ use Rattle.march_core.specs.March.{MarchElement, element_at}
 use Rattle.cell_machine.specs.declared.pair.Pair.{Pair}
 use Rattle.pair_tracker.specs.Pairs.{Machine}
 use Rattle.pair_tracker.specs.Survivors.{pair_number}
-use Rattle.pair_tracker.specs.Slots.{IsOffered, lesser_of, all_pairs}
+use Rattle.pair_tracker.specs.Slots.{IsOffered, lesser_sum_of, all_pairs}
 use Rattle.pair_tracker.specs.Tracking.{IsLeastOf, Leads, Joins, end_of, weight_in}
 use Rattle.pair_tracker.proofs.Leading.{IsOneWay, leads_one, one_leads, least_by, least_same, least_there, least_holds}
 
@@ -81,7 +81,7 @@ least_beside P Q kept after before least =
 abbrev pub LeadsOn : ℕ → Option ℕ → ℕ → Type 0
 LeadsOn word rest w = (r : ℕ) × (rest ≡ Some r) × (w ≡ word + r)
 
-lesser_least : (kept : Option ℕ) (word : ℕ) (rest : Option ℕ) → IsLeastOf (λ w. (kept ≡ Some w) ⊎ LeadsOn word rest w) (lesser_of kept word rest)
+lesser_least : (kept : Option ℕ) (word : ℕ) (rest : Option ℕ) → IsLeastOf (λ w. (kept ≡ Some w) ⊎ LeadsOn word rest w) (lesser_sum_of kept word rest)
 lesser_least None word None = none
   where
     none : (w : ℕ) → (None ≡ Some w) ⊎ LeadsOn word None w → ⊥
@@ -122,12 +122,12 @@ joins_past words found next k pair number none before q =
 
 -- a pair that is reached, with where the table leads on from it
 pub joins_more : (words found after : Pair → Option ℕ) (next : Pair → Pair → Option ℕ) (k word : ℕ) (pair : Pair) → pair_number pair ≡ k → words pair ≡ Some word
-    → ((q : Pair) → IsLeastOf (JoinsBy k words next q) (found q)) → ((q : Pair) → after q ≡ lesser_of (found q) word (next pair q))
+    → ((q : Pair) → IsLeastOf (JoinsBy k words next q) (found q)) → ((q : Pair) → after q ≡ lesser_sum_of (found q) word (next pair q))
     → (q : Pair) → IsLeastOf (JoinsBy (k + 1) words next q) (after q)
 joins_more words found after next k word pair number some before kept q =
     subst (IsLeastOf (JoinsBy (k + 1) words next q)) (sym (kept q))
-    (least_same (λ w. JoinsBy k words next q w ⊎ LeadsOn word (next pair q) w) (JoinsBy (k + 1) words next q) forward backward (lesser_of (found q) word (next pair q))
-    (least_beside (JoinsBy k words next q) (LeadsOn word (next pair q)) (found q) (lesser_of (found q) word (next pair q)) (before q) (lesser_least (found q) word (next pair q))))
+    (least_same (λ w. JoinsBy k words next q w ⊎ LeadsOn word (next pair q) w) (JoinsBy (k + 1) words next q) forward backward (lesser_sum_of (found q) word (next pair q))
+    (least_beside (JoinsBy k words next q) (LeadsOn word (next pair q)) (found q) (lesser_sum_of (found q) word (next pair q)) (before q) (lesser_least (found q) word (next pair q))))
   where
     forward : (w : ℕ) → JoinsBy k words next q w ⊎ LeadsOn word (next pair q) w → JoinsBy (k + 1) words next q w
     forward w (inl x) = let low : pair_number x.0.middle < k = x.1 in (x.0, omega arith)

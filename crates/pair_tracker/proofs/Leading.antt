@@ -1,5 +1,5 @@
 -- Where neighbouring elements of a march lead, one part behind another, and the least words that lead there.
-use Rattle.std.proofs.Common.{◌≡◌, ◌+◌, ◌-◌, ◌^◌, ◌<◌, ◌≤◌, ℕ, zero, suc, Bool, true, false, cond, ◌&&◌, Option, Some, None, List, [], ◌∷◌, ◌++◌, length, take, drop, get_or, refl, ap, sym, subst, ◌∙◌, arith}
+use Rattle.std.proofs.Common.{◌≡◌, ◌+◌, ◌-◌, ◌^◌, ◌<◌, ◌≤◌, ℕ, zero, suc, Bool, true, false, cond, ◌&&◌, Option, Some, None, List, [], ◌∷◌, ◌++◌, length, take, drop, refl, ap, sym, subst, ◌∙◌, arith}
 use Rattle.std.proofs.Math.Seq.{take-add}
 use Rattle.std.proofs.lemmas.Bool.{and_parts, and_from}
 use Rattle.std.proofs.lemmas.List.{drop_more, length-take-le, length-drop}
@@ -12,7 +12,7 @@ use Rattle.array_sim.proofs.Runs.{element_at-get}
 use Rattle.cell_machine.specs.declared.pair.Pair.{Pair}
 use Rattle.pair_tracker.specs.Legs.{elements_between, directions_between}
 use Rattle.pair_tracker.specs.Pairs.{Machine, sides_in, element_run, pair_run}
-use Rattle.pair_tracker.specs.Tracking.{IsLeastOf, IsSpanWord, weight_in, end_of, Leads, AreLeast, Joins, CanJoin}
+use Rattle.pair_tracker.specs.Tracking.{IsLeastOf, weight_in, end_of, Leads, AreLeast, Joins, CanJoin}
 use Rattle.pair_tracker.proofs.Words.{IsSplit, span_join, span_split, span_fits, span_one, directions_join, directions_one, one_split}
 
 -- the elements in parts

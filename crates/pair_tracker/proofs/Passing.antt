@@ -2,20 +2,17 @@
 use Rattle.std.proofs.Common.{◌≡◌, ◌+◌, ◌-◌, ◌<◌, ◌≤◌, ℕ, Bool, nat_lt, Option, Some, None, is_some, List, [], ◌∷◌, ◌++◌, length, take, drop, refl, ap, sym, subst, ◌∙◌, arith}
 use Rattle.std.specs.Prelude.{if◌then◌else◌}
 use Rattle.std.specs.Option.{option_and_then}
-use Rattle.std.specs.List.{flat_map}
 use Rattle.std.proofs.lemmas.List.{take_all, take-append-drop}
 use Rattle.std.proofs.lemmas.Grind.{flat_map-append}
 use Rattle.fault_core.specs.declared.cells.Places.{Places}
-use Rattle.fault_core.specs.Primitive.{Primitive, IsPrimitive}
+use Rattle.fault_core.specs.Primitive.{Primitive}
 use Rattle.fault_core.specs.Cells.{close_of}
-use Rattle.march_core.specs.declared.operation.Op.{Op}
 use Rattle.march_core.specs.March.{MarchElement, IsMarch, all_ops, ops_of}
 use Rattle.march_core.specs.Scan.{scan_of}
 use Rattle.march_core.specs.Visits.{Direction, is_direction, directions_of, visits_from}
 use Rattle.march_core.proofs.Consistent.{consistent_scan, last_after}
 use Rattle.array_sim.specs.Run.{Outcome, run_of, outcome_of}
 use Rattle.cell_machine.specs.declared.pair.Pair.{Pair}
-use Rattle.cell_machine.specs.declared.pair.Side.{Side}
 use Rattle.cell_machine.specs.Pairs.{pair_close}
 use Rattle.cell_machine.specs.Seen.{pair_at, SeesPair}
 use Rattle.cell_machine.proofs.Projection.{length-close_of, pair_at-close_of}

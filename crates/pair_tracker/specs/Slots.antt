@@ -29,10 +29,10 @@ abbrev pub IsOffered : Option ℕ → Option Pair → ℕ → Pair → ℕ → T
 IsOffered kept end word q w = (kept ≡ Some w) ⊎ ((end ≡ Some q) × (w ≡ word))
 
 -- the lesser of a word that is kept, and of another with what leads on from it
-abbrev pub lesser_of : Option ℕ → ℕ → Option ℕ → Option ℕ
-lesser_of kept word None = kept
-lesser_of None word (Some rest) = Some (word + rest)
-lesser_of (Some least) word (Some rest) = Some (min least (word + rest))
+abbrev pub lesser_sum_of : Option ℕ → ℕ → Option ℕ → Option ℕ
+lesser_sum_of kept word None = kept
+lesser_sum_of None word (Some rest) = Some (word + rest)
+lesser_sum_of (Some least) word (Some rest) = Some (min least (word + rest))
 
 -- the pairs in their order
 abbrev pub all_pairs : List Pair

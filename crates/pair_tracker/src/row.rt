@@ -2,7 +2,7 @@ ghost use Rattle.std.specs.Prelude.{◌≡◌, ◌≢◌, ◌+◌, ◌^◌, ◌<
 ghost use Rattle.std.specs.List.{filter_map};
 ghost use Rattle.cell_machine.specs.declared.pair.Pair.{Pair};
 ghost use Rattle.pair_tracker.specs.Tracking.{IsLeastOf};
-ghost use Rattle.pair_tracker.specs.Slots.{word_of, IsOffered, lesser_of, survivor_at, all_pairs};
+ghost use Rattle.pair_tracker.specs.Slots.{word_of, IsOffered, lesser_sum_of, survivor_at, all_pairs};
 
 use crate::placement::Survivor;
 use arrayvec::ArrayVec;
@@ -26,9 +26,9 @@ pub(crate) struct Row {
 }
 
 /// The lesser of a word that is kept, and of another with what leads on from it.
-fn lesser(kept: Option<u64>, word: u64, rest: Option<u64>) -> Option<u64>
+fn lesser_sum(kept: Option<u64>, word: u64, rest: Option<u64>) -> Option<u64>
     requires { (r : ℕ) → rest ≡ Some r → word + r < 2 ^ 64 }
-    ensures { result ≡ lesser_of kept word rest }
+    ensures { result ≡ lesser_sum_of kept word rest }
 {
     let Some(rest) = rest else {
         return kept;
@@ -92,13 +92,13 @@ impl Row {
     /// For each pair the lesser of the word that is kept, and of another with what leads on from it.
     pub(crate) fn beside(&self, word: u64, next: &Row) -> Row
         requires { (q : Pair) (r : ℕ) → word_of next.now q ≡ Some r → word + r < 2 ^ 64 }
-        ensures { (q : Pair) → word_of result q ≡ lesser_of (word_of self.now q) word (word_of next.now q) }
+        ensures { (q : Pair) → word_of result q ≡ lesser_sum_of (word_of self.now q) word (word_of next.now q) }
     {
         Row {
-            both_zero: lesser(self.both_zero, word, next.both_zero),
-            victim_one: lesser(self.victim_one, word, next.victim_one),
-            aggressor_one: lesser(self.aggressor_one, word, next.aggressor_one),
-            both_one: lesser(self.both_one, word, next.both_one),
+            both_zero: lesser_sum(self.both_zero, word, next.both_zero),
+            victim_one: lesser_sum(self.victim_one, word, next.victim_one),
+            aggressor_one: lesser_sum(self.aggressor_one, word, next.aggressor_one),
+            both_one: lesser_sum(self.both_one, word, next.both_one),
         }
     }
 

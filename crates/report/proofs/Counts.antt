@@ -1,5 +1,5 @@
 -- The lines and the counts of right verdicts are those of the primitives that the march detects.
-use Rattle.std.proofs.Common.{◌≡◌, ◌+◌, ℕ, Bool, true, false, cond, ◌&&◌, Option, List, [], ◌∷◌, length, refl, ap, sym, subst, ◌∙◌, inl, inr, zero-add, Result, Ok, Err, Vec, Global}
+use Rattle.std.proofs.Common.{◌≡◌, ◌+◌, ℕ, Bool, true, false, cond, ◌&&◌, Option, List, [], ◌∷◌, length, refl, sym, subst, ◌∙◌, inl, inr, zero-add, Result, Ok, Err, Vec, Global}
 use Rattle.std.specs.List.{filter}
 use Rattle.std.specs.Prelude.{IfOk}
 use Rattle.std.proofs.lemmas.List.Sums.{sum_by-cons}

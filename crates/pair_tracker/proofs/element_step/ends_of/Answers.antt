@@ -1,6 +1,6 @@
-use Rattle.std.proofs.Common.{◌≡◌, ◌∙◌, Some, List, ap, sym, subst}
-use Rattle.march_core.specs.March.{MarchElement, element_at, sweep, order_at, ops_at}
-use Rattle.march_core.specs.Visits.{Direction, Upward, Downward}
+use Rattle.std.proofs.Common.{◌∙◌, Some, ap, sym}
+use Rattle.march_core.specs.March.{sweep, order_at}
+use Rattle.march_core.specs.Visits.{Upward, Downward}
 use Rattle.array_sim.proofs.Runs.{pause_there, sweep_there}
 use Rattle.pair_tracker.specs.Pairs.{machine_of}
 use Rattle.pair_tracker.specs.Tracking.{end_of}

@@ -1,5 +1,4 @@
-use Rattle.std.proofs.Common.{◌+◌, ◌-◌, ◌^◌, sym, subst}
-use Rattle.cell_machine.specs.declared.pair.Pair.{Pair}
+use Rattle.std.proofs.Common.{◌-◌}
 use Rattle.cell_machine.specs.Pairs.{pair_of}
 use Rattle.pair_tracker.specs.Pairs.{machine_of}
 use Rattle.pair_tracker.specs.Slots.{word_of}

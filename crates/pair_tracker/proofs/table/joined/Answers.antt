@@ -1,7 +1,7 @@
 use Rattle.std.proofs.Common.{◌+◌, ℕ, false, get_or, sym, subst, ap, ◌∙◌}
 use Rattle.cell_machine.specs.declared.pair.Pair.{Pair}
 use Rattle.cell_machine.specs.Pairs.{pair_of}
-use Rattle.pair_tracker.specs.Slots.{word_of, word_in, lesser_of, all_pairs}
+use Rattle.pair_tracker.specs.Slots.{word_of, word_in, lesser_sum_of, all_pairs}
 use Rattle.pair_tracker.specs.Tracking.{IsLeastOf}
 use Rattle.pair_tracker.specs.declared.row.Row.{Row}
 use Rattle.pair_tracker.proofs.Joining.{JoinsBy, joins_past, joins_more, joins_all, number_at}
@@ -21,7 +21,7 @@ loop-middle-preserved c =
       | in-Some w ↦ subst Done (sym w.found-is)
           (joins_more (word_of c.args.row.now) (word_of c.loop-middle.found) (word_of w.beside-found.result) (word_in c.args.next.now) k w.in-Some.word middle
           (number_at k blank c.loop-middle-test.true) (sym c.word.ensures ∙ w.in-Some.is) c.loop-middle.invariant
-          (λ q. w.beside-found.ensures q ∙ ap (λ r. lesser_of (word_of c.loop-middle.found q) w.in-Some.word (word_of r q)) w.row.ensures))
+          (λ q. w.beside-found.ensures q ∙ ap (λ r. lesser_sum_of (word_of c.loop-middle.found q) w.in-Some.word (word_of r q)) w.row.ensures))
       | in_default w ↦ subst Done (sym w.found-is)
           (joins_past (word_of c.args.row.now) (word_of c.loop-middle.found) (word_in c.args.next.now) k middle
           (number_at k blank c.loop-middle-test.true) (sym c.word.ensures ∙ w.in_default.is) c.loop-middle.invariant)

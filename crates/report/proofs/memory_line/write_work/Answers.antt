@@ -1,4 +1,4 @@
-use Rattle.std.proofs.Common.{◌≡◌, ◌∙◌, ◌++◌, ℕ, List, length, ap}
+use Rattle.std.proofs.Common.{◌≡◌, ◌∙◌, ◌++◌, length, ap}
 use Rattle.std.specs.Prelude.{codes, decimal}
 use Rattle.word_march.specs.Commands.{command_count}
 use Rattle.report.proofs.ReportLines.{four_parts}

@@ -1,4 +1,4 @@
-use Rattle.std.proofs.Common.{◌≡◌, ◌∙◌, length, ap, sym, subst}
+use Rattle.std.proofs.Common.{◌∙◌, length, ap, sym, subst}
 use Rattle.std.specs.List.{filter_map}
 use Rattle.cell_machine.specs.Pairs.{pair_close}
 use Rattle.pair_tracker.specs.Legs.{Leg}

@@ -1,9 +1,6 @@
-use Rattle.std.proofs.Common.{◌≡◌, ◌∙◌, ℕ, ap, sym, subst, List}
-use Rattle.fault_core.specs.Primitive.{Primitive}
-use Rattle.march_core.specs.March.{MarchElement}
-use Rattle.pair_tracker.specs.declared.placement.Placement.{Placement}
+use Rattle.std.proofs.Common.{◌≡◌, ◌∙◌, ap, sym, subst}
 use Rattle.pair_tracker.specs.Legs.{Leg, SumsUp}
-use Rattle.pair_tracker.specs.Slots.{IsTableOf, rows_of}
+use Rattle.pair_tracker.specs.Slots.{rows_of}
 use Rattle.pair_tracker.proofs.Ends.{IsNext, joinable, joined_table, table_sums_up}
 use Rattle.pair_tracker.proofs.summary.Summary.then.Goals as goal
 

@@ -1,8 +1,8 @@
-use Rattle.std.proofs.Common.{◌≡◌, ◌+◌, ◌≤◌, ◌∙◌, ℕ, length, sym, subst, arith}
+use Rattle.std.proofs.Common.{◌≡◌, ◌+◌, ◌≤◌, length, subst, arith}
 use Rattle.march_core.proofs.Built.{march_some}
 use Rattle.pair_tracker.specs.Legs.{Leg, SumsUp}
 use Rattle.pair_tracker.specs.Pairs.{machine_of}
-use Rattle.pair_tracker.specs.Slots.{word_in, IsTableOf, rows_of}
+use Rattle.pair_tracker.specs.Slots.{word_in, rows_of}
 use Rattle.pair_tracker.specs.Tracking.{AreLeast}
 use Rattle.pair_tracker.proofs.Ends.{table_of, table_sums_up}
 use Rattle.pair_tracker.proofs.Leading.{least_joined, can_join}
