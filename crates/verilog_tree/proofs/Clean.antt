@@ -206,7 +206,7 @@ clean_assign w ds es n x f h k =
     let d = declared_as (λ d. is_wire d.kind) (lookup ds n) k in
     (f, p.0, unequal_none (w n) (width w x) p.1, (d.0, lookup_first ds es n d.0 d.1, d.2))
 
-one_item : (b : List ModuleItem) (i : ModuleItem) (is : List ModuleItem) → (b ++ i ∷ []) ++ is ≡ b ++ i ∷ is
+pub one_item : (b : List ModuleItem) (i : ModuleItem) (is : List ModuleItem) → (b ++ i ∷ []) ++ is ≡ b ++ i ∷ is
 one_item b i is = append_assoc b (i ∷ []) is
 
 pub clean_items : (w : List ℕ → ℕ) (ps : List ModulePort) (b is : List ModuleItem) → items_break w ps b is ≡ None → items_formed is ≡ true → CleanItems w (declarations ps (b ++ is)) is

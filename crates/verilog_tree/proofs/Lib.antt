@@ -4,6 +4,7 @@ pub mod Clean
 pub mod Lists
 pub mod Lookups
 pub mod Loops
+pub mod ReadNames
 pub mod Refusals
 pub mod Reordering
 pub mod Settling

@@ -18,7 +18,7 @@ use Rattle.verilog_tree.proofs.Clean.{Each, each_append, found, same_bytes, Fres
 
 -- a value rests on the names that it uses
 mutual
-  same_value : (w : List ℕ → ℕ) (e f : Env) (x : Expression) → ((m : List ℕ) → Uses m x → e m ≡ f m) → value w e x ≡ value w f x
+  pub same_value : (w : List ℕ → ℕ) (e f : Env) (x : Expression) → ((m : List ℕ) → Uses m x → e m ≡ f m) → value w e x ≡ value w f x
   same_value w e f (Net n) h = h n refl
   same_value w e f (BitSelect n i) h = ap (λ v. v / 2 ^ i % 2) (h n refl)
   same_value w e f (PartSelect n i l) h = ap (λ v. v / 2 ^ l % 2 ^ (i + 1 - l)) (h n refl)
@@ -33,7 +33,7 @@ mutual
       ∙ ap (λ v. cond (truth (value w f c)) v (value w e y)) (same_value w e f x (λ m u. h m (inr (inl u))))
       ∙ ap (λ v. cond (truth (value w f c)) (value w f x) v) (same_value w e f y (λ m u. h m (inr (inr u))))
 
-  same_joined : (w : List ℕ → ℕ) (e f : Env) (xs : Expressions) → ((m : List ℕ) → UsesAny m xs → e m ≡ f m) → joined w e xs ≡ joined w f xs
+  pub same_joined : (w : List ℕ → ℕ) (e f : Env) (xs : Expressions) → ((m : List ℕ) → UsesAny m xs → e m ≡ f m) → joined w e xs ≡ joined w f xs
   same_joined w e f NoMore h = refl
   same_joined w e f (Followed x xs) h =
       ap (λ v. v * 2 ^ widths w xs + joined w e xs) (same_value w e f x (λ m u. h m (inl u)))
@@ -47,7 +47,7 @@ driven_by P true n k x y o same p later h =
     subst (λ m. P m x) (sym a) (subst (λ z. P k z) b p)
 driven_by P false n k x y o same p later h = later h
 
-leads_of : (is : List ModuleItem) (n m : List ℕ) (x : Expression) → driver is n ≡ Some x → Uses m x → Leads is n m
+pub leads_of : (is : List ModuleItem) (n m : List ℕ) (x : Expression) → driver is n ≡ Some x → Uses m x → Leads is n m
 leads_of [] n m x h u = cc
 leads_of (WireItem k v ∷ is) n m x h u = leads_of is n m x h u
 leads_of (RegItem k v ∷ is) n m x h u = leads_of is n m x h u
@@ -55,14 +55,14 @@ leads_of (AssignItem k y ∷ is) n m x h u =
     driven_by (λ j z. Uses m z → ((j ≡ k) × Uses m y) ⊎ Leads is j m) (bytes_eq n k) n k x y (driver is n) ((bytes_eq-Decides n k).0) (λ v. inl (refl, v)) (λ g v. inr (leads_of is n m x g v)) h u
 leads_of (AlwaysItem c v ∷ is) n m x h u = leads_of is n m x h u
 
-clean_of : (w : List ℕ → ℕ) (ds : List Declaration) (is : List ModuleItem) (n : List ℕ) (x : Expression) → CleanItems w ds is → driver is n ≡ Some x → CleanAssign w ds n x
+pub clean_of : (w : List ℕ → ℕ) (ds : List Declaration) (is : List ModuleItem) (n : List ℕ) (x : Expression) → CleanItems w ds is → driver is n ≡ Some x → CleanAssign w ds n x
 clean_of w ds [] n x c h = cc
 clean_of w ds (WireItem k v ∷ is) n x c h = clean_of w ds is n x c h
 clean_of w ds (RegItem k v ∷ is) n x c h = clean_of w ds is n x c h
 clean_of w ds (AssignItem k y ∷ is) n x c h = driven_by (CleanAssign w ds) (bytes_eq n k) n k x y (driver is n) ((bytes_eq-Decides n k).0) c.0 (clean_of w ds is n x c.1) h
 clean_of w ds (AlwaysItem k v ∷ is) n x c h = clean_of w ds is n x c h
 
-equation_of : (w : List ℕ → ℕ) (e : Env) (is : List ModuleItem) (n : List ℕ) (x : Expression) → Equations w e is → driver is n ≡ Some x → e n ≡ value w e x
+pub equation_of : (w : List ℕ → ℕ) (e : Env) (is : List ModuleItem) (n : List ℕ) (x : Expression) → Equations w e is → driver is n ≡ Some x → e n ≡ value w e x
 equation_of w e [] n x q h = cc
 equation_of w e (WireItem k v ∷ is) n x q h = equation_of w e is n x q h
 equation_of w e (RegItem k v ∷ is) n x q h = equation_of w e is n x q h
@@ -92,7 +92,7 @@ abbrev pub by_source : (List ℕ → ℕ) → Env → Env → Env → Option Dec
 by_source w regs ins e None o n = 0
 by_source w regs ins e (Some d) o n = by_kind w regs ins e d.kind o n
 
-each_given : (regs ins e : Env) (ds : List Declaration) → AllGiven regs ins e ds → Each (λ d. Given regs ins e d.kind d.name) ds
+pub each_given : (regs ins e : Env) (ds : List Declaration) → AllGiven regs ins e ds → Each (λ d. Given regs ins e d.kind d.name) ds
 each_given regs ins e [] h = tt
 each_given regs ins e (d ∷ ds) h = (h.0, each_given regs ins e ds h.1)
 
@@ -100,11 +100,11 @@ each_within : (regs ins : Env) (ds : List Declaration) → AllWithin regs ins ds
 each_within regs ins [] h = tt
 each_within regs ins (d ∷ ds) h = (h.0, each_within regs ins ds h.1)
 
-narrowed : (t : Bool) (a k : ℕ) → a < 2 ^ cond t 0 k → a < 2 ^ k
+pub narrowed : (t : Bool) (a k : ℕ) → a < 2 ^ cond t 0 k → a < 2 ^ k
 narrowed true a k h = let p = pow_pos k in omega arith
 narrowed false a k h = h
 
-no_bits : (t : Bool) (a : ℕ) → a < 2 ^ cond t 0 0 → a ≡ 0
+pub no_bits : (t : Bool) (a : ℕ) → a < 2 ^ cond t 0 0 → a ≡ 0
 no_bits true a h = omega arith
 no_bits false a h = omega arith
 

@@ -1,8 +1,8 @@
 -- Wires whose expressions use wires.
-use Rattle.std.specs.Prelude.{◌≡◌, ℕ, ◌^◌, ◌<◌, List, [], ◌∷◌, ◌⊎◌}
+use Rattle.std.specs.Prelude.{◌≡◌, ℕ, ◌^◌, ◌<◌, false, List, [], ◌∷◌, ◌⊎◌, Some}
 use Rattle.verilog_tree.specs.declared.names.Kind.{Kind}
 use Rattle.verilog_tree.specs.declared.names.Kind.TheVariants as K
-use Rattle.verilog_tree.specs.Names.{Declaration, declarations}
+use Rattle.verilog_tree.specs.Names.{Declaration, declarations, lookup, is_clk}
 use Rattle.verilog_tree.specs.Meaning.{Env, Settles}
 use Rattle.verilog_tree.specs.Plain.{Expression, Net, BitSelect, PartSelect, Literal, Concatenation, Prefixed, Infixed, Conditional, Expressions, NoMore, Followed, ModuleItem, WireItem, RegItem, AssignItem, AlwaysItem, ModuleTree}
 
@@ -29,6 +29,12 @@ Leads (WireItem k w ∷ is) n m = Leads is n m
 Leads (RegItem k w ∷ is) n m = Leads is n m
 Leads (AssignItem k x ∷ is) n m = ((n ≡ k) × Uses m x) ⊎ Leads is n m
 Leads (AlwaysItem c ss ∷ is) n m = Leads is n m
+
+-- the name is declared, and isn't the clock
+pub record Read (ds : List Declaration) (m : List ℕ) : Type 0 where
+  pub declaration : Declaration
+  pub found : lookup ds m ≡ Some declaration
+  pub unclocked : is_clk m ≡ false
 
 -- n leads to the first of these names, each of them to the next, and the last to m
 abbrev pub Chain : List ModuleItem → List ℕ → List (List ℕ) → List ℕ → Type 0

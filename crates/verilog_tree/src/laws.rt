@@ -1,11 +1,12 @@
 //! Laws of the meaning, each the contract of a function that does nothing.
 ghost use Rattle.std.specs.Prelude.{◌≡◌, ℕ, ◌^◌, ◌<◌, List, true, None};
 ghost use Rattle.verilog_tree.specs.Plain.{Expression, ModuleTree};
+ghost use Rattle.verilog_tree.specs.Names.{declarations};
 ghost use Rattle.verilog_tree.specs.Formed.{expression_formed, formed};
 ghost use Rattle.verilog_tree.specs.Meaning.{Env, value, width};
 ghost use Rattle.verilog_tree.specs.Rules.{expression_widths, first_break};
 ghost use Rattle.verilog_tree.specs.Order.{Reordered, MeansTheSame};
-ghost use Rattle.verilog_tree.specs.Wires.{Uses, IsLoop, Falls, Starts, OneSettles};
+ghost use Rattle.verilog_tree.specs.Wires.{Uses, Leads, Read, IsLoop, Falls, Starts, OneSettles};
 
 /// The value of an expression is within its width, where the values of the names that it uses are.
 #[tactic(auto, using(crate::proofs::Bounds::value_fits))]
@@ -17,6 +18,13 @@ pub fn values_within_widths()
 /// each wire to the names that its expression uses, whatever values the registers and inputs have.
 pub fn one_environment_settles()
     ensures { (mo : ModuleTree) → formed mo ≡ true → first_break mo ≡ None → (rank : List ℕ → ℕ) → Falls rank mo.items → (regs ins : Env) → Starts mo regs ins → OneSettles mo regs ins }
+{}
+
+/// In a module that breaks no rule, what the expression of a wire or plain output uses is declared, and isn't the
+/// clock.
+#[tactic(auto, using(crate::proofs::ReadNames::reads_declared))]
+pub fn what_is_read_is_declared()
+    ensures { (mo : ModuleTree) → first_break mo ≡ None → (n m : List ℕ) → Leads mo.items n m → Read (declarations mo.ports mo.items) m }
 {}
 
 /// Where a rank falls along the wires, no wires form a loop.

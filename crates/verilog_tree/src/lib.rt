@@ -22,6 +22,8 @@ mod words;
 
 pub use fault::TreeFault;
 pub use layout::fits;
+pub use mentions::names_read;
+pub use names::{Declared, Kind, all_declared};
 pub use rules::check;
 pub use sizes::formed;
 pub use tokens::{Base, Mark, Within};

@@ -112,6 +112,19 @@ fn put_arms(out: &mut Vec<Mention>, choices: &[Arm]) -> Result<(), NoMemory>
     Ok(())
 }
 
+/// The names that an expression reads, in the order of the text.
+pub fn names_read(alloc: Global, x: &Expr) -> Result<Vec<Name>, NoMemory>
+    ensures { IfOk result (λ all. map (λ n. n.bytes) all.items ≡ map mentioned (reads (plain x.now))) }
+{
+    let mut all = Vec::new(alloc);
+    put_expr(&mut all, x)?;
+    let mut names = Vec::new(alloc);
+    for next in &all {
+        names.push(next.name()).map_err(|_| NoMemory)?;
+    }
+    Ok(names)
+}
+
 /// The names that an item uses, in the order of the text.
 pub(crate) fn mentions(alloc: Global, item: &Item) -> Result<Vec<Mention>, NoMemory>
     ensures { IfOk result (λ all. map mention all.items ≡ mentions (plain_item item.now)) }

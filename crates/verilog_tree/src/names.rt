@@ -1,12 +1,14 @@
 //! What the names of a module are.
-ghost use Rattle.std.specs.Prelude.{◌≡◌, ℕ, [], ◌∷◌, map};
+ghost use Rattle.std.specs.Prelude.{◌≡◌, ℕ, [], ◌∷◌, ◌++◌, map, OnOk, IfOk};
 ghost use Rattle.std.specs.Option.{option_map};
 ghost use Rattle.std.specs.Str.{bytes_eq};
-ghost use Rattle.verilog_tree.specs.Plain.{plain_item, plain_port};
+ghost use Rattle.verilog_tree.specs.Plain.{plain_item, plain_port, plain_module};
 ghost use Rattle.verilog_tree.specs.Names.{kind_of, lookup, port_declarations, item_declarations, declarations, width_of, is_clk};
 ghost use Rattle.verilog_tree.specs.Seen.{declaration, declares};
 
-use crate::tree::{Dir, Item, Name, Port};
+use crate::tree::{Dir, Item, Module, Name, Port};
+use bist_bits::NoMemory;
+use std::alloc::Global;
 
 /// What may give a name its value: the module's user, an `assign`, or an `always` block.
 #[derive(Clone, Copy, PartialEq, Eq)]
@@ -119,4 +121,40 @@ pub(crate) fn width_of(ports: &[Port], items: &[Item], name: &Name) -> u8
         Some(declared) => declared.width,
         None => 0,
     }
+}
+
+fn push(all: &mut Vec<Declared>, next: Declared) -> Result<(), NoMemory>
+    ensures { OnOk result (map declaration all.new.items ≡ map declaration all.old.items ++ declaration next ∷ []) }
+{
+    all.push(next).map_err(|_| NoMemory)
+}
+
+fn push_ports(all: &mut Vec<Declared>, ports: &[Port]) -> Result<(), NoMemory>
+    ensures { OnOk result (map declaration all.new.items ≡ map declaration all.old.items ++ port_declarations (map plain_port ports.now)) }
+{
+    for port in ports {
+        push(all, declared_port(port))?;
+    }
+    Ok(())
+}
+
+fn push_items(all: &mut Vec<Declared>, items: &[Item]) -> Result<(), NoMemory>
+    ensures { OnOk result (map declaration all.new.items ≡ map declaration all.old.items ++ item_declarations (map plain_item items.now)) }
+{
+    for item in items {
+        if let Some(declared) = declared_item(item) {
+            push(all, declared)?;
+        }
+    }
+    Ok(())
+}
+
+/// What a module declares, in the order of its ports and then its items.
+pub fn all_declared(alloc: Global, module: &Module) -> Result<Vec<Declared>, NoMemory>
+    ensures { IfOk result (λ all. map declaration all.items ≡ declarations (plain_module «module».now).ports (plain_module «module».now).items) }
+{
+    let mut all = Vec::new(alloc);
+    push_ports(&mut all, &module.ports)?;
+    push_items(&mut all, &module.items)?;
+    Ok(all)
 }
