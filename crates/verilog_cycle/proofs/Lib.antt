@@ -1,0 +1,17 @@
+pub mod Acting
+pub mod ActingTurns
+pub mod Building
+pub mod Compiling
+pub mod Declarations
+pub mod Designs
+pub mod Edge
+pub mod Kept
+pub mod Named
+pub mod Picking
+pub mod Places
+pub mod Programs
+pub mod Ranks
+pub mod Results
+pub mod Settled
+pub mod Turns
+pub mod Walk

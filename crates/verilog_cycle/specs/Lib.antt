@@ -1,0 +1,11 @@
+pub mod Actions
+pub mod Built
+pub mod Code
+pub mod Compile
+pub mod Design
+pub mod Graph
+pub mod Inside
+pub mod Nets
+pub mod Scope
+pub mod Seen
+pub mod Settled
