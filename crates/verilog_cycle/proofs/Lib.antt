@@ -1,5 +1,6 @@
 pub mod Acting
 pub mod ActingTurns
+pub mod Alike
 pub mod Building
 pub mod Compiling
 pub mod Declarations

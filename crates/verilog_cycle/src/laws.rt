@@ -1,33 +1,19 @@
-//! Laws that join the order of numbers to the names of a module, each the contract of a function that does nothing.
-ghost use Rattle.std.specs.Prelude.{◌≡◌, ℕ, ◌<◌, List, [], map, get_or, length, true, None};
-ghost use Rattle.verilog_tree.specs.Plain.{ModuleItem, ModuleTree};
-ghost use Rattle.verilog_tree.specs.Wires as wires;
-ghost use Rattle.verilog_tree.specs.Formed.{formed};
-ghost use Rattle.verilog_tree.specs.Meaning.{names_widths};
+//! Laws of a cycle, each the contract of a function that does nothing.
+ghost use Rattle.std.specs.Prelude.{◌≡◌, ℕ, List, None};
+ghost use Rattle.verilog_tree.specs.Plain.{ModuleTree};
+ghost use Rattle.verilog_tree.specs.Order.{Reordered};
 ghost use Rattle.verilog_tree.specs.Rules.{first_break};
-ghost use Rattle.verilog_tree.specs.Wires.{OneSettles};
-ghost use Rattle.verilog_cycle.specs.declared.code.Code.{Code};
-ghost use Rattle.verilog_cycle.specs.Settled.{AreSteps};
-ghost use Rattle.verilog_cycle.specs.Design.{names, registers_of, inputs_of, AreNets, Fit, places};
-ghost use Rattle.verilog_cycle.specs.Graph.{IsOrder, IsLoop, place};
-ghost use Rattle.verilog_cycle.specs.Nets.{number, valued, net_graph, Declares};
+ghost use Rattle.verilog_cycle.specs.Design.{Cycle};
 
-/// An order of numbers rules out a loop of them.
-pub fn no_loop_in_an_order()
-    ensures { (g : List (List ℕ)) (o : List ℕ) → IsOrder g o → (ks : List ℕ) → IsLoop g ks → ⊥ }
+/// A cycle has one answer: the values of the output ports, and those of the registers behind the edge.
+#[tactic(auto, using(crate::proofs::Alike::one_answer))]
+pub fn a_cycle_has_one_answer()
+    ensures { (mo : ModuleTree) (registers inputs outs after other later : List ℕ) → Cycle mo registers inputs outs after → Cycle mo registers inputs other later → (outs ≡ other) × (after ≡ later) }
 {}
 
-/// A loop of numbers is a loop of the wires that they stand for.
-pub fn loop_of_names()
-    ensures { (mo : ModuleTree) (ns : List (List ℕ)) → Declares ns mo.items → (ks : List ℕ) → IsLoop (net_graph ns mo.items) ks → wires.IsLoop mo (map (λ k. get_or ns k []) ks) }
-{}
-
-/// The place in an order of numbers is a rank that falls along the wires.
-pub fn rank_of_names()
-    ensures { (ns : List (List ℕ)) (is : List ModuleItem) → Declares ns is → (o : List ℕ) → IsOrder (net_graph ns is) o → wires.Falls (λ n. place o (number ns n)) is }
-{}
-
-#[tactic(auto, using(crate::proofs::Settled::computed))]
-pub fn fit()
-    ensures { (mo : ModuleTree) → formed mo ≡ true → first_break mo ≡ None → (ns : List (List ℕ)) → AreNets mo ns → (cs : List Code) → AreSteps (names_widths mo) mo.items (places mo ns) ns cs → (registers inputs rest : List ℕ) → Fit (registers_of mo) registers → Fit (inputs_of mo) inputs → length rest ≡ length ns → OneSettles mo (valued (names (registers_of mo)) registers) (valued (names (inputs_of mo)) inputs) }
+/// The order of `assign` items and of `always` blocks does not matter to what `outputs` gives and what `edge` leaves: a
+/// cycle of a module is one of each module that differs only in it.
+#[tactic(auto, using(crate::proofs::Alike::reordered_cycle))]
+pub fn order_does_not_matter()
+    ensures { (one other : ModuleTree) → first_break one ≡ None → first_break other ≡ None → Reordered one other → (registers inputs outs after : List ℕ) → Cycle one registers inputs outs after → Cycle other registers inputs outs after }
 {}

@@ -17,4 +17,4 @@ mod statement;
 
 pub use design::Design;
 pub use elaboration::elaborate;
-pub use ordering::{Stuck, order};
+
