@@ -1,8 +1,9 @@
--- Checks in their order have one settled outcome, where each of them has.
-use Rattle.std.proofs.Common.{◌≡◌, Result, Ok, Err, refl, sym, subst}
+-- Checks in their order have one settled outcome, or one answer, where each of them has.
+use Rattle.std.proofs.Common.{◌≡◌, Result, Ok, Err, refl, sym, subst, ap}
 use Rattle.bist_endings.specs.declared.ending.Refusal.{Refusal}
 use Rattle.bist_endings.specs.Then.{Then}
-use Rattle.bist_endings.specs.OneOutcome.{IsSettled, IsSettledRefusal, HasOneOutcome}
+use Rattle.bist_endings.specs.Ending.{Done}
+use Rattle.bist_endings.specs.OneOutcome.{IsSettled, IsSettledRefusal, HasOneOutcome, answer_of, HasOneAnswer}
 
 same_value : {A : Type 0} (a b : A) (r s : Result A Refusal) → r ≡ Ok a → s ≡ Ok b → r ≡ s → a ≡ b
 same_value a b r s x y e = cc
@@ -31,3 +32,20 @@ then_one {A} {B} first rest one each r s (Err e, f, x) (Ok b, g, y) rs ss =
 then_one {A} {B} first rest one each r s (Err e, f, x) (Err d, g, y) rs ss =
     refused_alike r s e d x y
     (same_refusal {A = A} e d (Err e) (Err d) refl refl (one (Err e) (Err d) f g (settled_of r e x rs) (settled_of s d y ss)))
+
+-- checks with one outcome have one answer
+pub outcome_answer : (checks : Result Done Refusal → Type 0) → HasOneOutcome checks → HasOneAnswer checks
+outcome_answer checks one r s f g rs ss = ap answer_of (one r s f g rs ss)
+
+pub then_answer : {A : Type 0} (first : Result A Refusal → Type 0) (rest : A → Result Done Refusal → Type 0)
+    → HasOneOutcome first → ((a : A) → HasOneAnswer (rest a)) → HasOneAnswer (Then first rest)
+then_answer {A} first rest one each r s (Ok a, f, x) (Ok b, g, y) rs ss =
+    let same : a ≡ b = same_value a b (Ok a) (Ok b) refl refl (one (Ok a) (Ok b) f g tt tt) in
+    each b r s (subst (λ (c : A). rest c r) same x) y rs ss
+then_answer {A} first rest one each r s (Ok a, f, x) (Err e, g, y) rs ss =
+    absurd (never_both a e (Ok a) (Err e) refl refl (one (Ok a) (Err e) f g tt (settled_of s e y ss)))
+then_answer {A} first rest one each r s (Err e, f, x) (Ok b, g, y) rs ss =
+    absurd (never_both b e (Ok b) (Err e) refl refl (sym (one (Err e) (Ok b) f g (settled_of r e x rs) tt)))
+then_answer {A} first rest one each r s (Err e, f, x) (Err d, g, y) rs ss =
+    ap answer_of (refused_alike r s e d x y
+    (same_refusal {A = A} e d (Err e) (Err d) refl refl (one (Err e) (Err d) f g (settled_of r e x rs) (settled_of s d y ss))))

@@ -1,6 +1,7 @@
--- Checks that have one settled outcome alone.
-use Rattle.std.specs.Prelude.{◌≡◌, Result, Ok, Err}
+-- Checks that have one settled outcome alone, and commands that have one answer.
+use Rattle.std.specs.Prelude.{◌≡◌, ℕ, List, Result, Ok, Err}
 use Rattle.bist_endings.specs.declared.ending.Refusal.{Refusal}
+use Rattle.bist_endings.specs.Ending.{Done, status_of, found_status, refusal_line}
 
 -- not a refusal that the memory or the host's faults choose
 abbrev pub IsSettledRefusal : Refusal → Type 0
@@ -16,3 +17,16 @@ IsSettled (Err refusal) = IsSettledRefusal refusal
 -- two settled outcomes that a check allows are the same
 abbrev pub HasOneOutcome : {A : Type 0} → (Result A Refusal → Type 0) → Type 0
 HasOneOutcome {A} check = (r s : Result A Refusal) → check r → check s → IsSettled r → IsSettled s → r ≡ s
+
+-- the status and the line of an outcome
+pub record Answer : Type 0 where
+  pub status : ℕ
+  pub line : List ℕ
+
+abbrev pub answer_of : Result Done Refusal → Answer
+answer_of (Ok done) = record { status = found_status done.found; line = done.line }
+answer_of (Err refusal) = record { status = status_of refusal; line = refusal_line refusal }
+
+-- two settled outcomes that a command's checks allow have the same status and the same line
+abbrev pub HasOneAnswer : (Result Done Refusal → Type 0) → Type 0
+HasOneAnswer checks = (r s : Result Done Refusal) → checks r → checks s → IsSettled r → IsSettled s → answer_of r ≡ answer_of s

@@ -1,5 +1,6 @@
-ghost use Rattle.std.specs.Prelude.{◌≡◌, ◌<◌, ◌≤◌, IfErr, length};
+ghost use Rattle.std.specs.Prelude.{◌≡◌, ◌<◌, ◌≤◌, ◌⊎◌, IfErr, Err, length};
 ghost use Rattle.bist_host.specs.Files.{Rose};
+ghost use Rattle.fault_syntax.specs.Lists.{ReadsList};
 ghost use Rattle.bist_endings.specs.Then.{items_of};
 ghost use Rattle.bist_inputs.specs.Inputs.{GivesPrim, GivesList, HasReadCause, InputList, IsOwnRefusal};
 
@@ -22,6 +23,19 @@ pub fn give_prim(text: &[u8]) -> Result<Prim, Refusal>
     }
 }
 
+/// Why a list is refused; want of memory is no refusal of a list.
+#[tactic(auto, unfolding(crate::specs::Inputs::GivesList))]
+fn list_refusal(bytes: &[u8], fault: FaultFault) -> Refusal
+    requires { (fault ≡ FaultFault.NoMemory) ⊎ ReadsList bytes.now (Err fault) }
+    ensures answer { GivesList bytes.now (Err result) }
+    ensures own { IsOwnRefusal result }
+{
+    if fault == FaultFault::NoMemory {
+        return Refusal::NoMemory;
+    }
+    Refusal::Fault(fault)
+}
+
 /// The primitives of a list.
 #[tactic(auto, unfolding(crate::specs::Inputs::GivesList))]
 fn give_list(alloc: Global, bytes: &[u8]) -> Result<Vec<Prim>, Refusal>
@@ -30,8 +44,7 @@ fn give_list(alloc: Global, bytes: &[u8]) -> Result<Vec<Prim>, Refusal>
 {
     match read_list(alloc, bytes) {
         Ok(prims) => Ok(prims),
-        Err(FaultFault::NoMemory) => Err(Refusal::NoMemory),
-        Err(fault) => Err(Refusal::Fault(fault)),
+        Err(fault) => Err(list_refusal(bytes, fault)),
     }
 }
 
