@@ -3,7 +3,7 @@
 
 ghost use Rattle.std.specs.Prelude.{◌≡◌, ◌++◌, codes, map, true, OnOk, IfOk};
 ghost use Rattle.verilog_tree.specs.Fits.{fits, items_fit};
-ghost use Rattle.verilog_tree.specs.Plain.{plain_module, plain_item, plain_port};
+ghost use Rattle.verilog_tree.specs.Plain.{ModuleTree, plain_module, plain_item, plain_port};
 ghost use Rattle.verilog_tree.specs.Spells.{Spells};
 ghost use Rattle.verilog_emit.specs.Printed.{line, items_text, ports_text, printed};
 
@@ -30,11 +30,12 @@ fn put_module(out: &mut Vec<u8>, module: &Module) -> Result<(), NoMemory>
     put_line(out, 0, b"endmodule")
 }
 
-/// The text of a module that fits: the bytes are its layout, and spell it.
+/// The text of a module that fits: the bytes are its layout, and spell it and no other.
 pub fn emit(alloc: Global, module: &Module) -> Result<Vec<u8>, NoMemory>
     requires { fits (plain_module «module».now) ≡ true }
     ensures form { IfOk result (λ out. out.items ≡ printed (plain_module «module».now)) }
     ensures spells { IfOk result (λ out. Spells out.items (plain_module «module».now)) }
+    ensures no_other { IfOk result (λ out. (other : ModuleTree) → Spells out.items other → other ≡ plain_module «module».now) }
 {
     let mut out = Vec::new(alloc);
     put_module(&mut out, module)?;
