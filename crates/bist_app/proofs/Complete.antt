@@ -6,7 +6,8 @@ use Rattle.bist_endings.specs.declared.concluding.WriteStop.{WriteStop}
 use Rattle.bist_endings.specs.Words.{Words}
 use Rattle.bist_endings.specs.Ending.{Done, status_of}
 use Rattle.bist_inputs.specs.Inputs.{HasReadCause}
-use Rattle.bist_app.specs.Answer.{Answers, IsSettledRefusal, IsComplete}
+use Rattle.bist_endings.specs.OneOutcome.{IsSettledRefusal}
+use Rattle.bist_app.specs.Answer.{Answers, IsComplete}
 use Rattle.bist_app.specs.Run.{Runs}
 
 is_settled : (files : Option Files) (rr : Type 0) (e : Refusal) → (rr → ⊥) → (status_of e ≡ 9 → ⊥) → HasReadCause {A = Done} files rr (Err e) → IsSettledRefusal e

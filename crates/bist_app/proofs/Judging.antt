@@ -9,7 +9,7 @@ use Rattle.coverage.specs.declared.verdict.Verdict.{Verdict}
 use Rattle.coverage.specs.declared.verdict.Verdict.TheVariants.{Covered, Escape}
 use Rattle.coverage.specs.Verdicts.{AreVerdicts}
 use Rattle.report.specs.Report.{is_covered, covered_count}
-use Rattle.bist_app.specs.Judge.{SomeEscapes}
+use Rattle.bist_app.specs.Reported.{SomeEscapes}
 
 pub one_each : (march : List MarchElement) (ps : List Primitive) (vs : List Verdict) → AreVerdicts march ps vs → length ps ≡ length vs
 one_each march [] [] h = refl

@@ -8,5 +8,5 @@ pub mod Judging
 pub mod Listing
 pub mod OneCommand
 pub mod OnePlan
-pub mod OneVerdict
 pub mod OneJudged
+pub mod OneAnswer

@@ -8,6 +8,7 @@ use Rattle.bist_app.specs.declared.sim.SimShape.{SimShape}
 use Rattle.bist_app.specs.Sim.{IsSimShape, IsAggressorWord}
 use Rattle.bist_app.specs.Judge.{IsJudgeShape}
 use Rattle.bist_app.specs.Vectors.{IsVectorsShape}
+use Rattle.bist_app.specs.Compile.{IsCompileShape}
 use Rattle.bist_app.specs.Run.{HasShape}
 
 below_64 : (n : ℕ) → n < 10 ^ 9 → n < 2 ^ 64
@@ -56,3 +57,10 @@ command_one words Command.Judge Command.Vectors h i = absurd (judge_or_vectors w
 command_one words Command.Vectors (Command.Sim t) h i = absurd (eight_or_four words i.count h.count)
 command_one words Command.Vectors Command.Judge h i = absurd (judge_or_vectors words i h)
 command_one words Command.Vectors Command.Vectors h i = refl
+command_one words (Command.Sim s) Command.Compile h i = absurd (omega (arith, h.count, i.count))
+command_one words Command.Judge Command.Compile h i = absurd (omega (arith, h.count, i.count))
+command_one words Command.Vectors Command.Compile h i = absurd (omega (arith, h.count, i.count))
+command_one words Command.Compile (Command.Sim t) h i = absurd (omega (arith, h.count, i.count))
+command_one words Command.Compile Command.Judge h i = absurd (omega (arith, h.count, i.count))
+command_one words Command.Compile Command.Vectors h i = absurd (omega (arith, h.count, i.count))
+command_one words Command.Compile Command.Compile h i = refl

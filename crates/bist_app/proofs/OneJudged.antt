@@ -1,17 +1,17 @@
--- What `judge` leaves is one plan alone.
-use Rattle.std.proofs.Common.{◌≡◌, ◌<◌, ℕ, zero, suc, Bool, true, false, List, [], ◌∷◌, Ok, Err, refl, sym, ◌∙◌, ap, arith, subst, length, slice_index_or}
+-- What is said of a judged list is one line and one status alone.
+use Rattle.std.proofs.Common.{◌≡◌, ◌<◌, ◌+◌, ℕ, zero, suc, Bool, true, false, List, [], ◌∷◌, Option, Result, Ok, Err, inl, inr, refl, sym, ◌∙◌, ap, arith, subst, length, slice_index_or}
 use Rattle.std.specs.List.{AllByRecursion}
 use Rattle.march_core.specs.March.{MarchElement}
 use Rattle.fault_core.specs.Primitive.{Primitive}
+use Rattle.memory_desc.specs.Descriptions.{Description}
 use Rattle.array_sim.specs.Detection.{Detects}
-use Rattle.coverage.specs.declared.verdict.Verdict.{Verdict}
-use Rattle.report.specs.Report.{report_text, total_line, covered_count}
+use Rattle.report.specs.Report.{total_line, DetectsOf}
 use Rattle.bist_endings.specs.declared.ending.Refusal.{Refusal}
-use Rattle.bist_endings.specs.Ending.{Done, Written}
-use Rattle.bist_endings.specs.OneOutcome.{HasOneOutcome}
-use Rattle.bist_app.specs.Judge.{SomeEscapes, IsJudged, LeavesJudge}
-use Rattle.bist_app.proofs.OneVerdict.{verdicts_one}
-use Rattle.bist_app.proofs.OnePlan.{same_done}
+use Rattle.bist_endings.specs.Ending.{found_status}
+use Rattle.bist_endings.specs.OneOutcome.{Answer, HasOneAnswer}
+use Rattle.bist_app.specs.Reported.{SomeEscapes, Reports}
+use Rattle.bist_app.specs.Judge.{LeavesJudge}
+use Rattle.bist_app.specs.Compile.{LeavesCompile}
 
 all_hold : {A : Type 0} (P : A → Type 0) (xs : List A) (x : A) (k : ℕ) → AllByRecursion P xs → k < length xs → slice_index_or xs k x ≡ x → P x
 all_hold P [] x k h below is = absurd (omega (arith, below))
@@ -24,19 +24,33 @@ found_one march prims false false h i = refl
 found_one march prims true false h i = absurd (h.2 (all_hold (Detects march) prims h.0 h.1.0 i h.1.1 h.1.2))
 found_one march prims false true h i = absurd (i.2 (all_hold (Detects march) prims i.0 i.1.0 h i.1.1 i.1.2))
 
-judged_one : (march : List MarchElement) (prims : List Primitive) (d e : Done) → IsJudged march prims d → IsJudged march prims e → d ≡ e
-judged_one march prims d e h i =
-    let verdicts = verdicts_one march prims h.verdicts i.verdicts h.are i.are in
-    let found = found_one march prims d.found e.found h.found i.found in
-    let outputs : d.outputs ≡ e.outputs =
-    h.outputs ∙ ap (λ (vs : List Verdict). (let w : Written = record { position = 3; bytes = report_text march prims vs } in w) ∷ []) verdicts ∙ sym i.outputs in
-    let line : d.line ≡ e.line = h.line ∙ ap (λ (vs : List Verdict). total_line (length vs) (covered_count vs)) verdicts ∙ sym i.line in
-    λ j. record { found = found j; outputs = outputs j; line = line j }
+detects_one : (march : List MarchElement) (prims : List Primitive) (m n : ℕ) → DetectsOf march prims m → DetectsOf march prims n → m ≡ n
+detects_one march [] m n h i = h ∙ sym i
+detects_one march (p ∷ ps) m n (inl (d, k, a, x)) (inl (e, l, b, y)) = x ∙ ap (λ (z : ℕ). 1 + z) (detects_one march ps k l a b) ∙ sym y
+detects_one march (p ∷ ps) m n (inl h) (inr i) = absurd (i.0 h.0)
+detects_one march (p ∷ ps) m n (inr h) (inl i) = absurd (h.0 i.0)
+detects_one march (p ∷ ps) m n (inr h) (inr i) = detects_one march ps m n h.1 i.1
 
-pub judge_one : (march : List MarchElement) (prims : List Primitive) → HasOneOutcome (LeavesJudge march prims)
+pub reports_one : (march : List MarchElement) (memory : Option Description) (prims : List Primitive) (b c : Bool) (bytes other line said : List ℕ)
+    → Reports march memory prims b bytes line → Reports march memory prims c other said
+    → (let a : Answer = record { status = found_status b; line = line } in a) ≡ record { status = found_status c; line = said }
+reports_one march memory prims b c bytes other line said h i =
+    let status = ap found_status (found_one march prims b c h.found i.found) in
+    let lines : line ≡ said = h.last ∙ ap (total_line (length prims)) (detects_one march prims h.covered i.covered h.detects i.detects) ∙ sym i.last in
+    λ j. record { status = status j; line = lines j; }
+
+pub judge_one : (march : List MarchElement) (prims : List Primitive) → HasOneAnswer (LeavesJudge march prims)
 unfolding LeavesJudge
-judge_one march prims (Ok d) (Ok e) f g r s = same_done d e e (judged_one march prims d e f g) refl
+judge_one march prims (Ok d) (Ok e) f g r s = reports_one march _ prims d.found e.found f.bytes g.bytes d.line e.line f.reports g.reports
 judge_one march prims (Ok d) (Err Refusal.NoMemory) f g r s = absurd s
 judge_one march prims (Ok d) (Err other) f g r s = absurd g
 judge_one march prims (Err Refusal.NoMemory) outcome f g r s = absurd r
 judge_one march prims (Err other) outcome f g r s = absurd f
+
+pub compile_one : (march : List MarchElement) (m : Description) (prims : List Primitive) → HasOneAnswer (LeavesCompile march m prims)
+unfolding LeavesCompile
+compile_one march m prims (Ok d) (Ok e) f g r s = reports_one march _ prims d.found e.found f.bytes g.bytes d.line e.line f.reports g.reports
+compile_one march m prims (Ok d) (Err Refusal.NoMemory) f g r s = absurd s
+compile_one march m prims (Ok d) (Err other) f g r s = absurd g
+compile_one march m prims (Err Refusal.NoMemory) outcome f g r s = absurd r
+compile_one march m prims (Err other) outcome f g r s = absurd f

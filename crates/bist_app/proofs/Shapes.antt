@@ -5,9 +5,11 @@ use Rattle.bist_endings.specs.Words.{Words}
 use Rattle.bist_app.specs.Sim.{IsSimShape}
 use Rattle.bist_app.specs.Judge.{IsJudgeShape}
 use Rattle.bist_app.specs.Vectors.{IsVectorsShape}
+use Rattle.bist_app.specs.Compile.{IsCompileShape}
 use Rattle.bist_app.specs.Run.{HasNoShape}
 
-pub no_shape : (words : Words) → ((shape : SimShape) → IsSimShape words shape → ⊥) → (IsJudgeShape words → ⊥) → (IsVectorsShape words → ⊥) → HasNoShape words
-no_shape words sim judge vectors (Command.Sim shape) h = sim shape h
-no_shape words sim judge vectors Command.Judge h = judge h
-no_shape words sim judge vectors Command.Vectors h = vectors h
+pub no_shape : (words : Words) → ((shape : SimShape) → IsSimShape words shape → ⊥) → (IsJudgeShape words → ⊥) → (IsVectorsShape words → ⊥) → (IsCompileShape words → ⊥) → HasNoShape words
+no_shape words sim judge vectors compile (Command.Sim shape) h = sim shape h
+no_shape words sim judge vectors compile Command.Judge h = judge h
+no_shape words sim judge vectors compile Command.Vectors h = vectors h
+no_shape words sim judge vectors compile Command.Compile h = compile h

@@ -16,6 +16,7 @@ use Rattle.bist_app.specs.declared.sim.SimShape.{SimShape}
 use Rattle.bist_app.specs.Sim.{FitsAggressor, FitsDirections, LeavesSim, DecidesSim}
 use Rattle.bist_app.specs.Judge.{LeavesJudge, DecidesJudge}
 use Rattle.bist_app.specs.Vectors.{FitsLength, LeavesVectors, DecidesVectors}
+use Rattle.bist_app.specs.Compile.{LeavesCompile, DecidesCompile}
 use Rattle.bist_app.specs.Run.{DecidesCommand}
 
 aggressor_never : (aggressor : Option ℕ) (prim : Primitive) → NeverUsage (FitsAggressor aggressor prim)
@@ -69,7 +70,21 @@ vectors_never files words (Ok march, read, (Ok d, given, (Err e, fits, is))) =
     length_never march d (turned (FitsLength march d) (let x : Result Done Refusal = Err Refusal.Usage in x) e refl is fits)
 vectors_never files words (Ok march, read, (Ok d, given, (Ok _, fits, leaves))) = vectors_leaves_never march d leaves
 
+compile_leaves_never : (march : List MarchElement) (d : Description) (prims : List Primitive) → NeverUsage (LeavesCompile march d prims)
+unfolding LeavesCompile
+compile_leaves_never march d prims h = h
+
+compile_never : (files : Option Files) (words : Words) → NeverUsage (DecidesCompile files words)
+compile_never files words (Err e, read, is) =
+    input_march_never files words 1 (turned (InputMarch files words 1) (let x : Result Done Refusal = Err Refusal.Usage in x) e refl is read)
+compile_never files words (Ok march, read, (Err e, given, is)) =
+    input_memory_never files words 2 (turned (InputMemory files words 2) (let x : Result Done Refusal = Err Refusal.Usage in x) e refl is given)
+compile_never files words (Ok march, read, (Ok d, given, (Err e, listed, is))) =
+    input_list_never files words 3 (turned (InputList files words 3) (let x : Result Done Refusal = Err Refusal.Usage in x) e refl is listed)
+compile_never files words (Ok march, read, (Ok d, given, (Ok prims, listed, leaves))) = compile_leaves_never march d prims leaves
+
 pub never_usage : (files : Option Files) (words : Words) (command : Command) → NeverUsage (DecidesCommand files words command)
 never_usage files words (Command.Sim shape) = sim_never files words shape
 never_usage files words Command.Judge = judge_never files words
 never_usage files words Command.Vectors = vectors_never files words
+never_usage files words Command.Compile = compile_never files words

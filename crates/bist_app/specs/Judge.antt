@@ -1,18 +1,14 @@
 -- The command `judge MARCH FAULTS REPORT`: its shape, its checks in their order, and what it leaves.
-use Rattle.std.specs.Prelude.{◌≡◌, ◌≢◌, Bool, true, false, List, [], ◌∷◌, Contains, Option, Result, Ok, Err, length, codes}
-use Rattle.std.specs.List.{AllByRecursion}
+use Rattle.std.specs.Prelude.{◌≡◌, ◌≢◌, ℕ, List, [], ◌∷◌, Option, None, Result, Ok, Err, length, codes}
 use Rattle.bist_host.specs.Files.{Files}
 use Rattle.march_core.specs.March.{MarchElement}
 use Rattle.fault_core.specs.Primitive.{Primitive}
-use Rattle.array_sim.specs.Detection.{Detects}
-use Rattle.coverage.specs.declared.verdict.Verdict.{Verdict}
-use Rattle.coverage.specs.Verdicts.{AreVerdicts}
-use Rattle.report.specs.Report.{report_text, total_line, covered_count}
 use Rattle.bist_endings.specs.declared.ending.Refusal.{Refusal}
 use Rattle.bist_endings.specs.Ending.{Done}
 use Rattle.bist_endings.specs.Then.{Then}
 use Rattle.bist_endings.specs.Words.{Words, word, ArePlain}
 use Rattle.bist_inputs.specs.Inputs.{InputMarch, InputList}
+use Rattle.bist_app.specs.Reported.{Reports}
 
 -- the words have the shape; no two files have one name
 pub record IsJudgeShape (words : Words) : Type 0 where
@@ -23,18 +19,11 @@ pub record IsJudgeShape (words : Words) : Type 0 where
   pub march_not_report : word words 1 ≢ word words 3
   pub list_not_report : word words 2 ≢ word words 3
 
--- some primitive of the list isn't detected, or each is
-abbrev pub SomeEscapes : List MarchElement → List Primitive → Bool → Type 0
-SomeEscapes march prims true = (p : Primitive) × Contains prims p × (Detects march p → ⊥)
-SomeEscapes march prims false = AllByRecursion (Detects march) prims
-
 -- the report in the file that the third word names, and its last line
 pub record IsJudged (march : List MarchElement) (prims : List Primitive) (done : Done) : Type 0 where
-  pub verdicts : List Verdict
-  pub are : AreVerdicts march prims verdicts
-  pub found : SomeEscapes march prims done.found
-  pub outputs : done.outputs ≡ (record { position = 3; bytes = report_text march prims verdicts }) ∷ []
-  pub line : done.line ≡ total_line (length verdicts) (covered_count verdicts)
+  pub bytes : List ℕ
+  pub reports : Reports march None prims done.found bytes done.line
+  pub outputs : done.outputs ≡ (record { position = 3; bytes = bytes }) ∷ []
 
 unfoldable pub LeavesJudge : List MarchElement → List Primitive → Result Done Refusal → Type 0
 LeavesJudge march prims (Ok done) = IsJudged march prims done

@@ -10,12 +10,14 @@ use Rattle.bist_endings.specs.Conclude.{Ends}
 use Rattle.bist_app.specs.Sim.{IsSimShape, DecidesSim}
 use Rattle.bist_app.specs.Judge.{IsJudgeShape, DecidesJudge}
 use Rattle.bist_app.specs.Vectors.{IsVectorsShape, DecidesVectors}
+use Rattle.bist_app.specs.Compile.{IsCompileShape, DecidesCompile}
 
 -- the words have the shape of this command
 abbrev pub HasShape : Words → Command → Type 0
 HasShape words (Command.Sim shape) = IsSimShape words shape
 HasShape words Command.Judge = IsJudgeShape words
 HasShape words Command.Vectors = IsVectorsShape words
+HasShape words Command.Compile = IsCompileShape words
 
 -- the words have no shape
 abbrev pub HasNoShape : Words → Type 0
@@ -26,6 +28,7 @@ abbrev pub DecidesCommand : Option Files → Words → Command → Result Done R
 DecidesCommand files words (Command.Sim shape) outcome = DecidesSim files words shape outcome
 DecidesCommand files words Command.Judge outcome = DecidesJudge files words outcome
 DecidesCommand files words Command.Vectors outcome = DecidesVectors files words outcome
+DecidesCommand files words Command.Compile outcome = DecidesCompile files words outcome
 
 -- the check of the words, and then the command's
 abbrev pub Decides : Option Files → Words → Result Done Refusal → Type 0

@@ -6,7 +6,7 @@ use Rattle.bist_text.specs.Numbers.{hex_digits}
 use Rattle.march_core.specs.March.{MarchElement}
 use Rattle.memory_desc.specs.Descriptions.{Description}
 use Rattle.word_march.specs.declared.operations.PortOp.{PortOp}
-use Rattle.word_march.specs.Commands.{port_ops, command_count}
+use Rattle.word_march.specs.Commands.{port_ops, command_count, span}
 use Rattle.bist_endings.specs.declared.ending.Refusal.{Refusal}
 use Rattle.bist_endings.specs.Ending.{Done}
 use Rattle.bist_endings.specs.Then.{Then}
@@ -23,9 +23,10 @@ pub record IsVectorsShape (words : Words) : Type 0 where
   pub march_not_out : word words 1 ≢ word words 3
   pub memory_not_out : word words 2 ≢ word words 3
 
--- the cycles of a self-test: one for the reset, one a command, and two in which the last answer comes and is compared
+-- the cycles of a self-test: one for the reset, those of the run, those in which the last answer comes, and one in which
+-- its comparison shows
 abbrev pub cycles : List MarchElement → Description → ℕ
-cycles march d = command_count march d + 3
+cycles march d = span march d + d.latency + 2
 
 -- a self-test takes at most this many cycles
 abbrev pub cycle_limit : ℕ

@@ -1,6 +1,7 @@
 ghost use Rattle.std.specs.Prelude.{MatchOption};
 ghost use Rattle.bist_app.specs.Run.{HasShape, HasNoShape};
 
+use crate::compile::is_compile;
 use crate::judge::is_judge;
 use crate::sim::{SimShape, sim_shape};
 use crate::vectors::is_vectors;
@@ -11,6 +12,7 @@ pub enum Command {
     Sim(SimShape),
     Judge,
     Vectors,
+    Compile,
 }
 
 /// The command whose shape the words have.
@@ -25,6 +27,9 @@ pub fn command_of(words: &[&str]) -> Option<Command>
     }
     if is_vectors(words) {
         return Some(Command::Vectors);
+    }
+    if is_compile(words) {
+        return Some(Command::Compile);
     }
     None
 }

@@ -1,20 +1,17 @@
-ghost use Rattle.std.specs.Prelude.{◌≡◌, ◌≤◌, ◌<◌, ◌↔◌, ◌∷◌, [], length, IfOk, IfErr, IsTrue, map};
+ghost use Rattle.std.specs.Prelude.{◌≡◌, ◌≤◌, ◌↔◌, ◌∷◌, [], IfOk, IfErr, IsTrue, map};
 ghost use Rattle.bist_host.specs.Files.{Rose};
-ghost use Rattle.coverage.specs.Verdicts.{AreVerdicts};
-ghost use Rattle.report.specs.Report.{total_line, covered_count};
 ghost use Rattle.bist_endings.specs.Ending.{plain, done_of, written_of};
 ghost use Rattle.bist_inputs.specs.Inputs.{HasReadCause, IsOwnRefusal};
 ghost use Rattle.bist_endings.specs.Conclude.{NamesWords};
 ghost use Rattle.bist_app.specs.Judge.{IsJudgeShape, IsJudged, LeavesJudge, DecidesJudge};
 
+use crate::reporting::report_list;
 use bist_bits::NoMemory;
 use bist_endings::{Output, Plan, Refusal, are_plain};
 use bist_host::Host;
 use bist_inputs::{read_list_input, read_march_input};
-use coverage::{Verdict, judge_all};
 use fault_core::Prim;
 use march_core::March;
-use report::{count_covered, write_report, write_total};
 use std::alloc::Global;
 
 /// The word that names the report's file.
@@ -45,42 +42,17 @@ fn report_output(alloc: Global, bytes: Vec<u8>) -> Result<Vec<Output>, NoMemory>
     }
 }
 
-/// The report's last line.
-fn total(alloc: Global, verdicts: &[Verdict]) -> Result<Vec<u8>, NoMemory>
-    ensures { IfOk result (λ line. line.items ≡ total_line (length verdicts.now) (covered_count verdicts.now)) }
-{
-    let mut line = Vec::new(alloc);
-    write_total(&mut line, verdicts.len(), count_covered(verdicts))?;
-    Ok(line)
-}
-
-/// The report of these verdicts, and its last line.
-fn plan_of(
-    alloc: Global,
-    march: &March,
-    prims: &[Prim],
-    verdicts: &[Verdict],
-) -> Result<Plan, NoMemory>
-    requires { AreVerdicts march.now prims.now verdicts.now }
-    ensures { IfOk result (λ plan. IsJudged march.now prims.now (done_of plan)) }
-{
-    let text = write_report(alloc, march, prims, verdicts)?;
-    let outputs = report_output(alloc, text)?;
-    let line = total(alloc, verdicts)?;
-    let covered = count_covered(verdicts);
-    Ok(Plan {
-        found: covered < verdicts.len(),
-        outputs,
-        line,
-    })
-}
-
-/// The verdicts as a plan.
+/// The report as a plan.
 fn judged(alloc: Global, march: &March, prims: &[Prim]) -> Result<Plan, NoMemory>
     ensures { IfOk result (λ plan. IsJudged march.now prims.now (done_of plan)) }
 {
-    let verdicts = judge_all(alloc, march, prims)?;
-    plan_of(alloc, march, prims, verdicts.as_slice())
+    let reported = report_list(alloc, march, None, prims)?;
+    let outputs = report_output(alloc, reported.bytes)?;
+    Ok(Plan {
+        found: reported.found,
+        outputs,
+        line: reported.line,
+    })
 }
 
 /// The plan, or want of memory.

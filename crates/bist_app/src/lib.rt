@@ -2,8 +2,10 @@
 #![tactic(auto)]
 
 mod commands;
+mod compile;
 mod directions;
 mod judge;
+mod reporting;
 mod sim;
 mod top;
 mod vectors;

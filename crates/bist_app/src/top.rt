@@ -3,10 +3,11 @@ ghost use Rattle.bist_host.specs.Files.{Rose};
 ghost use Rattle.bist_endings.specs.Ending.{plain, done_of};
 ghost use Rattle.bist_inputs.specs.Inputs.{HasReadCause};
 ghost use Rattle.bist_endings.specs.Conclude.{NamesWords};
-ghost use Rattle.bist_app.specs.Answer.{IsComplete};
+ghost use Rattle.bist_app.specs.Answer.{IsComplete, RunHasOneAnswer};
 ghost use Rattle.bist_app.specs.Run.{Decides, Runs, HasNoShape};
 
 use crate::commands::{Command, command_of};
+use crate::compile::decide_compile;
 use crate::judge::decide_judge;
 use crate::sim::decide_sim;
 use crate::vectors::decide_vectors;
@@ -29,6 +30,7 @@ fn decide<H: Host>(alloc: Global, words: &[&str], host: &mut H) -> Result<Plan, 
         Some(Command::Sim(shape)) => decide_sim(alloc, words, shape, host),
         Some(Command::Judge) => decide_judge(alloc, words, host),
         Some(Command::Vectors) => decide_vectors(alloc, words, host),
+        Some(Command::Compile) => decide_compile(alloc, words, host),
     }
 }
 
@@ -44,7 +46,7 @@ fn decide_and_end<H: Host>(alloc: Global, words: &[&str], host: &mut H) -> Ended
 }
 
 /// Runs the command that the words give: reads its files, writes its outputs, says its line, and ends with a status.
-#[tactic(auto, using(crate::proofs::Complete::complete_told, crate::proofs::Statuses::read_fault_rose, crate::proofs::Statuses::write_fault_rose, crate::proofs::Statuses::silent_rose, crate::proofs::Statuses::no_shape_ends, crate::proofs::Statuses::usage_has_no_shape))]
+#[tactic(auto, using(crate::proofs::Complete::complete_told, crate::proofs::Statuses::read_fault_rose, crate::proofs::Statuses::write_fault_rose, crate::proofs::Statuses::silent_rose, crate::proofs::Statuses::no_shape_ends, crate::proofs::Statuses::usage_has_no_shape, crate::proofs::OneAnswer::one_answer))]
 pub fn run<H: Host>(alloc: Global, words: &[&str], host: &mut H) -> Ended
     ensures reads { H.read_faults host.old ≤ H.read_faults host.new }
     ensures writes { H.write_faults host.old ≤ H.write_faults host.new }
@@ -52,6 +54,7 @@ pub fn run<H: Host>(alloc: Global, words: &[&str], host: &mut H) -> Ended
         (Rose (H.read_faults host.old) (H.read_faults host.new)) (Rose (H.write_faults host.old) (H.write_faults host.new)) result.status }
     ensures complete { IsComplete words.now (H.files host.old) (H.files host.new) (H.said host.old) (H.said host.new)
         (Rose (H.read_faults host.old) (H.read_faults host.new)) (Rose (H.write_faults host.old) (H.write_faults host.new)) result.status }
+    ensures one_answer { RunHasOneAnswer (H.files host.old) words.now }
 
     // When the statuses of words and of faults come.
     ensures usage { result.status ≡ 2 → HasNoShape words.now }

@@ -12,11 +12,11 @@ use bist_bits::NoMemory;
 use bist_endings::{Output, Plan, Refusal, are_plain, numbered};
 use bist_host::Host;
 use bist_inputs::{read_march_input, read_memory_input};
-use bist_text::{put_decimal, put_hex};
+use bist_text::{put, put_decimal, put_hex};
 use march_core::March;
 use memory_desc::Memory;
 use std::alloc::{AllocError, Global};
-use word_march::{PortOp, READ_LATENCY, port_ops};
+use word_march::{PortOp, port_ops};
 
 /// The word that names the file of the commands.
 const OUT: usize = 3;
@@ -40,17 +40,11 @@ fn fit_length(march: &March, memory: &Memory) -> Result<(), Refusal>
     ensures answer { FitsLength march.now memory.now result }
     ensures own { IfErr result IsOwnRefusal }
 {
-    let cycles = word_march::length(march, memory) + READ_LATENCY + 2;
+    let cycles = word_march::span(march, memory) + u64::from(memory.latency()) + 2;
     if cycles > CYCLE_LIMIT {
         return Err(Refusal::TooLong { cycles });
     }
     Ok(())
-}
-
-fn put(out: &mut Vec<u8>, bytes: &[u8]) -> Result<(), NoMemory>
-    ensures { OnOk result (out.new.items ≡ out.old.items ++ bytes.now) }
-{
-    out.extend_from_slice(bytes).map_err(|_| NoMemory)
 }
 
 /// Appends whether a command writes.

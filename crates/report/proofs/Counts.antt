@@ -12,7 +12,7 @@ use Rattle.coverage.specs.declared.verdict.Verdict.TheVariants.{Covered, Escape}
 use Rattle.coverage.specs.Verdicts.{IsVerdict, AreVerdicts}
 use Rattle.report.specs.Report.{verdict_line, verdict_lines, is_covered, covered_count, is_in_class, class_covered, class_lines, class_order, report_text, DetectsOf, IsLine, AreLines, AreClassLines, IsReport}
 
-counted : (march : List MarchElement) (ps : List Primitive) (vs : List Verdict) → AreVerdicts march ps vs → DetectsOf march ps (covered_count vs)
+pub counted : (march : List MarchElement) (ps : List Primitive) (vs : List Verdict) → AreVerdicts march ps vs → DetectsOf march ps (covered_count vs)
 counted march [] [] h = refl
 counted march [] (v ∷ vs) h = absurd h
 counted march (p ∷ ps) [] h = absurd h

@@ -1,0 +1,72 @@
+-- Over files that are told, words have one settled answer.
+use Rattle.std.proofs.Common.{◌≡◌, List, ℕ, Option, Some, None, Result, Ok, Err, refl, sym, ◌∙◌, ap, subst}
+use Rattle.bist_host.specs.Files.{Files}
+use Rattle.march_core.specs.March.{MarchElement}
+use Rattle.fault_core.specs.Primitive.{Primitive}
+use Rattle.memory_desc.specs.Descriptions.{Description}
+use Rattle.bist_endings.specs.declared.ending.Refusal.{Refusal}
+use Rattle.bist_endings.specs.Ending.{Done}
+use Rattle.bist_endings.specs.Then.{Then}
+use Rattle.bist_endings.specs.Words.{Words, word}
+use Rattle.bist_endings.specs.OneOutcome.{HasOneOutcome, HasOneAnswer, answer_of}
+use Rattle.bist_endings.proofs.OneOutcome.{then_answer, outcome_answer}
+use Rattle.bist_inputs.specs.Inputs.{InputMarch, GivesPrim, InputList}
+use Rattle.bist_inputs.specs.Memories.{InputMemory}
+use Rattle.bist_inputs.proofs.OneInput.{input_march_one, prim_one, input_list_one, input_memory_one}
+use Rattle.bist_app.specs.declared.commands.Command.{Command}
+use Rattle.bist_app.specs.declared.sim.SimShape.{SimShape}
+use Rattle.bist_app.specs.Sim.{FitsAggressor, FitsDirections, LeavesSim, DecidesSim, miss_of, places_of}
+use Rattle.bist_app.specs.Judge.{LeavesJudge, DecidesJudge}
+use Rattle.bist_app.specs.Vectors.{FitsLength, LeavesVectors, DecidesVectors}
+use Rattle.bist_app.specs.Compile.{LeavesCompile, DecidesCompile}
+use Rattle.bist_app.specs.Run.{DecidesCommand, Decides}
+use Rattle.bist_app.specs.Answer.{RunHasOneAnswer}
+use Rattle.bist_app.proofs.OneCommand.{command_one}
+use Rattle.bist_app.proofs.OnePlan.{aggressor_one, directions_one, sim_one, vectors_one, length_one}
+use Rattle.bist_app.proofs.OneJudged.{judge_one, compile_one}
+
+sim_answer : (files : Files) (words : Words) (shape : SimShape) → HasOneAnswer (DecidesSim (Some files) words shape)
+sim_answer files words shape =
+    then_answer (InputMarch (Some files) words 1) _ (input_march_one files words 1) (λ march.
+    then_answer (GivesPrim (word words 2)) _ (prim_one (word words 2)) (λ prim.
+    then_answer (FitsAggressor shape.aggressor prim) _ (aggressor_one shape.aggressor prim) (λ _.
+    then_answer (FitsDirections (word words 7) march) _ (directions_one (word words 7) march) (λ _.
+    outcome_answer _ (sim_one (miss_of march prim (places_of shape) (word words 4) (word words 7)))))))
+
+judge_answer : (files : Files) (words : Words) → HasOneAnswer (DecidesJudge (Some files) words)
+judge_answer files words =
+    then_answer (InputMarch (Some files) words 1) _ (input_march_one files words 1) (λ march.
+    then_answer (InputList (Some files) words 2) _ (input_list_one files words 2) (λ prims.
+    judge_one march prims))
+
+vectors_answer : (files : Files) (words : Words) → HasOneAnswer (DecidesVectors (Some files) words)
+vectors_answer files words =
+    then_answer (InputMarch (Some files) words 1) _ (input_march_one files words 1) (λ march.
+    then_answer (InputMemory (Some files) words 2) _ (input_memory_one files words 2) (λ d.
+    then_answer (FitsLength march d) _ (length_one march d) (λ _.
+    outcome_answer _ (vectors_one march d))))
+
+compile_answer : (files : Files) (words : Words) → HasOneAnswer (DecidesCompile (Some files) words)
+compile_answer files words =
+    then_answer (InputMarch (Some files) words 1) _ (input_march_one files words 1) (λ march.
+    then_answer (InputMemory (Some files) words 2) _ (input_memory_one files words 2) (λ d.
+    then_answer (InputList (Some files) words 3) _ (input_list_one files words 3) (λ prims.
+    compile_one march d prims)))
+
+command_answer : (files : Files) (words : Words) (command : Command) → HasOneAnswer (DecidesCommand (Some files) words command)
+command_answer files words (Command.Sim shape) = sim_answer files words shape
+command_answer files words Command.Judge = judge_answer files words
+command_answer files words Command.Vectors = vectors_answer files words
+command_answer files words Command.Compile = compile_answer files words
+
+decides_answer : (files : Files) (words : Words) → HasOneAnswer (Decides (Some files) words)
+decides_answer files words r s (None, f) (None, g) rs ss = ap answer_of (f.1 ∙ sym g.1)
+decides_answer files words r s (None, f) (Some d, g) rs ss = absurd (f.0 d g.0)
+decides_answer files words r s (Some c, f) (None, g) rs ss = absurd (g.0 c f.0)
+decides_answer files words r s (Some c, f) (Some d, g) rs ss =
+    let same : c ≡ d = command_one words c d f.0 g.0 in
+    command_answer files words d r s (subst (λ (command : Command). DecidesCommand (Some files) words command r) same f.1) g.1 rs ss
+
+pub one_answer : (told : Option Files) (words : Words) → RunHasOneAnswer told words
+one_answer None words = tt
+one_answer (Some files) words = decides_answer files words

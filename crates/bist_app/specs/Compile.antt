@@ -1,0 +1,64 @@
+-- The command `compile MARCH MEMORY FAULTS VERILOG REPORT`: its shape, its checks in their order, and what it leaves. This is
+-- what the program is for: the written bytes spell one module, which tests the described memory by the march whatever its
+-- registers hold at first and whatever words return; and the report says of each primitive whether the march detects it in
+-- arrays of every size, or gives its least escape.
+use Rattle.std.specs.Prelude.{◌≡◌, ◌≢◌, ℕ, List, [], ◌∷◌, Option, Some, Result, Ok, Err, length, codes}
+use Rattle.bist_host.specs.Files.{Files}
+use Rattle.march_core.specs.March.{MarchElement}
+use Rattle.fault_core.specs.Primitive.{Primitive}
+use Rattle.memory_desc.specs.Descriptions.{Description}
+use Rattle.verilog_tree.specs.Plain.{ModuleTree}
+use Rattle.verilog_tree.specs.Spells.{Spells}
+use Rattle.self_test.specs.SelfTest.{SelfTest}
+use Rattle.bist_endings.specs.declared.ending.Refusal.{Refusal}
+use Rattle.bist_endings.specs.Ending.{Done}
+use Rattle.bist_endings.specs.Then.{Then}
+use Rattle.bist_endings.specs.Words.{Words, word, ArePlain}
+use Rattle.bist_inputs.specs.Inputs.{InputMarch, InputList}
+use Rattle.bist_inputs.specs.Memories.{InputMemory}
+use Rattle.bist_app.specs.Reported.{Reports}
+
+-- the words have the shape; no two files have one name
+pub record IsCompileShape (words : Words) : Type 0 where
+  pub count : length words ≡ 6
+  pub name : word words 0 ≡ codes "compile"
+  pub plain : ArePlain words
+  pub march_not_memory : word words 1 ≢ word words 2
+  pub march_not_list : word words 1 ≢ word words 3
+  pub march_not_module : word words 1 ≢ word words 4
+  pub march_not_report : word words 1 ≢ word words 5
+  pub memory_not_list : word words 2 ≢ word words 3
+  pub memory_not_module : word words 2 ≢ word words 4
+  pub memory_not_report : word words 2 ≢ word words 5
+  pub list_not_module : word words 3 ≢ word words 4
+  pub list_not_report : word words 3 ≢ word words 5
+  pub module_not_report : word words 4 ≢ word words 5
+
+-- the bytes spell a module and no other, which is a self-test of the memory by the march
+pub record IsSelfTestText (march : List MarchElement) (d : Description) (text : List ℕ) : Type 0 where
+  pub tree : ModuleTree
+  pub spells : Spells text tree
+  pub no_other : (other : ModuleTree) → Spells text other → other ≡ tree
+  pub self_test : SelfTest tree march d
+
+-- The file that the fourth word names has the module's text, and that of the fifth word the report of the list, whose last
+-- line is said.
+pub record IsCompiled (march : List MarchElement) (d : Description) (prims : List Primitive) (done : Done) : Type 0 where
+  pub text : List ℕ
+  pub bytes : List ℕ
+  pub tests : IsSelfTestText march d text
+  pub reports : Reports march (Some d) prims done.found bytes done.line
+  pub outputs : done.outputs ≡ (record { position = 4; bytes = text }) ∷ (record { position = 5; bytes = bytes }) ∷ []
+
+unfoldable pub LeavesCompile : List MarchElement → Description → List Primitive → Result Done Refusal → Type 0
+LeavesCompile march d prims (Ok done) = IsCompiled march d prims done
+LeavesCompile march d prims (Err Refusal.NoMemory) = Unit {0}
+LeavesCompile march d prims (Err other) = ⊥
+
+-- the checks of `compile` in their order
+abbrev pub DecidesCompile : Option Files → Words → Result Done Refusal → Type 0
+DecidesCompile files words =
+    Then (InputMarch files words 1) (λ march.
+    Then (InputMemory files words 2) (λ d.
+    Then (InputList files words 3) (λ prims.
+    LeavesCompile march d prims)))

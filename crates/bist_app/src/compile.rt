@@ -1,0 +1,131 @@
+//! The command `compile`: a self-test module for a march and a memory, and the report of what the march detects.
+
+ghost use Rattle.std.specs.Prelude.{◌≡◌, ◌≤◌, ◌↔◌, ◌∷◌, [], IfOk, IfErr, IsTrue, map, true};
+ghost use Rattle.bist_host.specs.Files.{Rose};
+ghost use Rattle.verilog_tree.specs.Plain.{plain_module};
+ghost use Rattle.self_test.specs.SelfTest.{SelfTest};
+ghost use Rattle.bist_endings.specs.Ending.{plain, done_of, written_of};
+ghost use Rattle.bist_endings.specs.Conclude.{NamesWords};
+ghost use Rattle.bist_inputs.specs.Inputs.{HasReadCause, IsOwnRefusal};
+ghost use Rattle.bist_app.specs.Compile.{IsCompileShape, IsSelfTestText, IsCompiled, LeavesCompile, DecidesCompile};
+
+use crate::reporting::report_list;
+use bist_bits::NoMemory;
+use bist_endings::{Output, Plan, Refusal, are_plain};
+use bist_host::Host;
+use bist_inputs::{read_list_input, read_march_input, read_memory_input};
+use fault_core::Prim;
+use march_core::March;
+use memory_desc::Memory;
+use rtl_gen::generate;
+use std::alloc::Global;
+use verilog_emit::emit;
+
+/// The word that names the module's file.
+const VERILOG: usize = 4;
+
+/// The word that names the report's file.
+const REPORT: usize = 5;
+
+/// Whether the words have the shape of `compile`.
+pub fn is_compile(words: &[&str]) -> bool
+    ensures { IsTrue result ↔ IsCompileShape words.now }
+{
+    let ["compile", march, memory, list, verilog, report] = *words else {
+        return false;
+    };
+    are_plain(words)
+        && march != memory
+        && march != list
+        && march != verilog
+        && march != report
+        && memory != list
+        && memory != verilog
+        && memory != report
+        && list != verilog
+        && list != report
+        && verilog != report
+}
+
+/// The text of the self-test module.
+fn module_text(alloc: Global, march: &March, memory: &Memory) -> Result<Vec<u8>, NoMemory>
+    ensures { IfOk result (λ text. IsSelfTestText march.now memory.now text.items) }
+{
+    let tree = generate(alloc, march, memory)?;
+    let text = emit(alloc, &tree)?;
+    Ok(text)
+}
+
+/// The files of the module and of the report.
+fn compile_outputs(
+    alloc: Global,
+    text: Vec<u8>,
+    report: Vec<u8>,
+) -> Result<Vec<Output>, NoMemory>
+    ensures { IfOk result (λ outputs. map written_of outputs.items ≡ (record { position = 4; bytes = text.items }) ∷ (record { position = 5; bytes = report.items }) ∷ []) }
+{
+    let first = Output {
+        position: VERILOG,
+        bytes: text,
+    };
+    let second = Output {
+        position: REPORT,
+        bytes: report,
+    };
+    Vec::from_array(alloc, [first, second]).map_err(|_| NoMemory)
+}
+
+/// The module and the report as a plan.
+fn compiled(
+    alloc: Global,
+    march: &March,
+    memory: &Memory,
+    prims: &[Prim],
+) -> Result<Plan, NoMemory>
+    ensures { IfOk result (λ plan. IsCompiled march.now memory.now prims.now (done_of plan)) }
+{
+    let text = module_text(alloc, march, memory)?;
+    let reported = report_list(alloc, march, Some(memory), prims)?;
+    let outputs = compile_outputs(alloc, text, reported.bytes)?;
+    Ok(Plan {
+        found: reported.found,
+        outputs,
+        line: reported.line,
+    })
+}
+
+/// The plan, or want of memory.
+#[tactic(auto, unfolding(crate::specs::Compile::LeavesCompile))]
+fn plan_compile(
+    alloc: Global,
+    march: &March,
+    memory: &Memory,
+    prims: &[Prim],
+) -> Result<Plan, Refusal>
+    ensures own { IfErr result IsOwnRefusal }
+    ensures answer { LeavesCompile march.now memory.now prims.now (plain result) }
+    ensures outputs { IfOk result (λ plan. IsCompiled march.now memory.now prims.now (done_of plan)) }
+{
+    match compiled(alloc, march, memory, prims) {
+        Ok(plan) => Ok(plan),
+        Err(NoMemory) => Err(Refusal::NoMemory),
+    }
+}
+
+/// Compiles a self-test and judges the primitives of a list.
+#[tactic(auto, using(crate::proofs::Causes::own_cause))]
+pub fn decide_compile<H: Host>(alloc: Global, words: &[&str], host: &mut H) -> Result<Plan, Refusal>
+    requires { IsCompileShape words.now }
+    ensures files { H.files host.new ≡ H.files host.old }
+    ensures said { H.said host.new ≡ H.said host.old }
+    ensures writes { H.write_faults host.new ≡ H.write_faults host.old }
+    ensures reads { H.read_faults host.old ≤ H.read_faults host.new }
+    ensures outputs { IfOk result (λ plan. NamesWords words.now (done_of plan).outputs) }
+    ensures answer { DecidesCompile (H.files host.old) words.now (plain result) }
+    ensures cause { HasReadCause (H.files host.old) (Rose (H.read_faults host.old) (H.read_faults host.new)) result }
+{
+    let march = read_march_input(host, words, 1)?;
+    let memory = read_memory_input(host, words, 2)?;
+    let prims = read_list_input(alloc, host, words, 3)?;
+    plan_compile(alloc, &march, &memory, &prims)
+}
