@@ -1,7 +1,9 @@
 //! Worked examples of the commands, over hosts in memory and over real files.
 
 use bist_app::run;
+use bist_bits::NoMemory;
 use bist_host::{FailHost, Host, MemHost, RealHost};
+use std::alloc::Global;
 use std::test::Fail;
 use std::{env, fs, process};
 
@@ -14,6 +16,9 @@ const MARCH_C: &[u8] = b"{any(w0);up(r0,w1);up(r1,w0);down(r0,w1);down(r1,w0);an
 const MARCH_SS: &[u8] =
     b"{any(w0);up(r0,r0,w0,r0,w1);up(r1,r1,w1,r1,w0);down(r0,r0,w0,r0,w1);down(r1,r1,w1,r1,w0);any(r0)}\n";
 
+/// Each cell is written, left alone, and read.
+const RETENTION: &[u8] = b"{any(w0);del;any(r0)}";
+
 /// A command, what the files `m` and `l` hold, and what the command says with which status.
 struct Row {
     words: &'static [&'static str],
@@ -23,7 +28,7 @@ struct Row {
     status: u8,
 }
 
-const ROWS: [Row; 31] = [
+const ROWS: [Row; 37] = [
     Row {
         words: &["sim", "m", "<0w1/0/->", "2", "00", "none", "0", "uud"],
         march: Some(MATS),
@@ -144,6 +149,48 @@ const ROWS: [Row; 31] = [
         status: 10,
     },
     Row {
+        words: &["sim", "m", "<0t/1/->", "2", "00", "none", "1", "uuu"],
+        march: Some(RETENTION),
+        list: None,
+        said: b"caught element 2 address 1 operation 0\n",
+        status: 1,
+    },
+    Row {
+        words: &["sim", "m", "<0t/1/->", "2", "00", "none", "1", "udu"],
+        march: Some(RETENTION),
+        list: None,
+        said: b"misfit directions\n",
+        status: 13,
+    },
+    Row {
+        words: &["judge", "m", "l", "r"],
+        march: Some(b"{any(w0);del;any(r0,w1);del;any(r1)}"),
+        list: Some(b"DRF"),
+        said: b"total 2 covered 2 escapes 0\n",
+        status: 0,
+    },
+    Row {
+        words: &["judge", "m", "l", "r"],
+        march: Some(RETENTION),
+        list: Some(b"DRF"),
+        said: b"total 2 covered 1 escapes 1\n",
+        status: 1,
+    },
+    Row {
+        words: &["judge", "m", "l", "r"],
+        march: Some(b"{del}"),
+        list: Some(b"DRF"),
+        said: b"march M3\n",
+        status: 3,
+    },
+    Row {
+        words: &["compile", "m", "d", "l", "v", "l"],
+        march: Some(MATS),
+        list: None,
+        said: b"usage\n",
+        status: 2,
+    },
+    Row {
         words: &["judge", "m", "l", "r"],
         march: Some(MARCH_C),
         list: Some(b"one"),
@@ -260,7 +307,7 @@ fn worked_rows(rt: HostRuntime) -> Result<(), Fail> {
 }
 
 /// A march, a list, and the report's lines behind its first.
-const REPORTS: [(&[u8], &[u8], &[u8]); 4] = [
+const REPORTS: [(&[u8], &[u8], &[u8]); 5] = [
     (
         MARCH_C,
         b"one",
@@ -277,6 +324,12 @@ escape <0r0/1/0> DRDF aggressor none victim 0 content 00 directions uuuddu
 escape <1r1/0/1> DRDF aggressor none victim 0 content 00 directions uuuddu
 covered <0r0/0/1> IRF
 covered <1r1/1/0> IRF
+class SF 2 covered 2
+class TF 2 covered 2
+class WDF 2 covered 0
+class RDF 2 covered 2
+class DRDF 2 covered 0
+class IRF 2 covered 2
 total 12 covered 8 escapes 4
 ",
     ),
@@ -287,6 +340,8 @@ total 12 covered 8 escapes 4
 escape <0w0/1/-> WDF aggressor none victim 0 content 10 directions uud
 escape <1w1/0/-> WDF aggressor none victim 0 content 00 directions uud
 escape <0w1;0/1/-> CFds aggressor 1 victim 0 content 00 directions uud
+class WDF 2 covered 0
+class CFds 1 covered 0
 total 3 covered 0 escapes 3
 ",
     ),
@@ -295,7 +350,18 @@ total 3 covered 0 escapes 3
         b"<0w1;0/1/->",
         b"march {any(w0);any(r0,w1);any(w0);down(r0,w1)}
 escape <0w1;0/1/-> CFds aggressor 0 victim 1 content 00 directions udud
+class CFds 1 covered 0
 total 1 covered 0 escapes 1
+",
+    ),
+    (
+        MARCH_C,
+        b"DRF",
+        b"march {any(w0);up(r0,w1);up(r1,w0);down(r0,w1);down(r1,w0);any(r0)}
+escape <0t/1/-> DRF aggressor none victim 0 content 00 directions uuuddu
+escape <1t/0/-> DRF aggressor none victim 0 content 00 directions uuuddu
+class DRF 2 covered 0
+total 2 covered 0 escapes 2
 ",
     ),
     (
@@ -306,6 +372,7 @@ escape <0;0w0/1/-> CFwd aggressor 0 victim 1 content 01 directions uuuddu
 escape <0;1w1/0/-> CFwd aggressor 0 victim 1 content 00 directions uuuddu
 escape <1;0w0/1/-> CFwd aggressor 0 victim 1 content 00 directions uuuddu
 escape <1;1w1/0/-> CFwd aggressor 0 victim 1 content 00 directions uuuddu
+class CFwd 4 covered 0
 total 4 covered 0 escapes 4
 ",
     ),
@@ -329,7 +396,7 @@ const GRAY: &[u8] =
     b"memory 1\nname s4\nwords 4\nbits 1\nscramble a0 = p0 ^ p1\nscramble a1 = p1\n";
 
 /// A march, a memory, the file of its commands, and what is said.
-const VECTORS: [(&[u8], &[u8], &[u8], &[u8]); 2] = [
+const VECTORS: [(&[u8], &[u8], &[u8], &[u8]); 4] = [
     (
         b"{up(w1);down(r1)}",
         GRAY,
@@ -341,6 +408,18 @@ const VECTORS: [(&[u8], &[u8], &[u8], &[u8]); 2] = [
         b"memory 1\nname two\nwords 2\nbits 2\n",
         b"w 0 0\nw 1 0\nr 0 0\nw 0 3\nr 1 0\nw 1 3\nw 0 2\nw 1 2\nr 0 2\nw 0 1\nr 1 2\nw 1 1\n",
         b"vectors 12\n",
+    ),
+    (
+        b"{up(w1);down(r1)}",
+        b"memory 2\nname two\nwords 2\nbits 1\npolarity 1\n",
+        b"w 0 0\nw 1 0\nr 1 0\nr 0 0\n",
+        b"vectors 4\n",
+    ),
+    (
+        RETENTION,
+        b"memory 2\nname two\nwords 2\nbits 1\npause 5\n",
+        b"w 0 0\nw 1 0\nr 0 0\nr 1 0\n",
+        b"vectors 4\n",
     ),
 ];
 
@@ -359,7 +438,7 @@ fn vectors(rt: HostRuntime) -> Result<(), Fail> {
 }
 
 /// A march, a memory, what `vectors` says, and its status.
-const REFUSED_VECTORS: [(&[u8], &[u8], &[u8], u8); 15] = [
+const REFUSED_VECTORS: [(&[u8], &[u8], &[u8], u8); 18] = [
     (b"{}", b"", b"march M3\n", 3),
     (MATS, b"", b"memory D2\n", 4),
     (MATS, b"memory 1\nname\n", b"memory D1 line 2 byte 4\n", 4),
@@ -407,6 +486,24 @@ const REFUSED_VECTORS: [(&[u8], &[u8], &[u8], u8); 15] = [
         MATS,
         b"memory 1\nname n\nwords 2\nbits 1\nbackgrounds 0 0 0 0 0 0 0 0 0\n",
         b"memory D9\n",
+        4,
+    ),
+    (
+        MATS,
+        b"memory 2\nname n\nwords 2\nbits 1\nlatency 5\n",
+        b"memory D5 line 5\n",
+        4,
+    ),
+    (
+        MATS,
+        b"memory 1\nname n\nwords 2\nbits 1\nlatency 1\n",
+        b"memory D1 line 5 byte 0\n",
+        4,
+    ),
+    (
+        b"{any(w0);del;any(r0)}",
+        b"memory 2\nname n\nwords 65536\nbits 64\nlatency 3\npause 155353\n",
+        b"memory D5 line 6\n",
         4,
     ),
     (
@@ -480,5 +577,76 @@ fn real_files(rt: HostRuntime) -> Result<(), Fail> {
     let words = ["sim", name, "<0w1/0/->", "2", "00", "none", "0", "uud"];
     assert_eq!(rt; run(rt.alloc(), &words, &mut host).status, 1);
     fs::remove_file(&rt, name)?;
+    Ok(())
+}
+
+/// Sixteen words of one bit.
+const SIXTEEN: &[u8] = b"memory 1\nname buf0\nwords 16\nbits 1\n";
+
+const COMPILE: [&str; 6] = ["compile", "m", "d", "l", "v", "r"];
+
+const COMPILED_REPORT: &[u8] = b"march {any(w0);up(r0,w1);up(r1,w0);down(r0,w1);down(r1,w0);any(r0)}
+memory buf0 words 16 bits 1 backgrounds 1 commands 160
+covered <0/1/-> SF
+covered <1/0/-> SF
+class SF 2 covered 2
+total 2 covered 2 escapes 0
+";
+
+/// A host with the inputs of a compilation.
+fn with_inputs(alloc: Global) -> Result<MemHost, NoMemory> {
+    let mut host = MemHost::new(alloc);
+    host.put("m", MARCH_C)?;
+    host.put("d", SIXTEEN)?;
+    host.put("l", b"SF")?;
+    Ok(host)
+}
+
+#[test]
+fn a_compilation(rt: HostRuntime) -> Result<(), Fail> {
+    let mut host = with_inputs(rt.alloc())?;
+    assert_eq!(rt; run(rt.alloc(), &COMPILE, &mut host).status, 0);
+    assert_eq!(rt; host.said(), b"total 2 covered 2 escapes 0\n".as_slice());
+    assert_eq!(rt; host.get("r").ok_or("a report")?, COMPILED_REPORT);
+    let module = host.get("v").ok_or("a module")?;
+    assert!(rt; module.starts_with(b"module buf0_bist(\n  input clk,\n  input reset,\n  input rdata,\n"));
+    assert!(rt; module.ends_with(b"endmodule\n"));
+    Ok(())
+}
+
+/// Which calls of the host fail, the status, what is said, and how many bytes of the module and of the report are
+/// there, in halves of the whole.
+const FAILING: [(&[u64], u8, &[u8], usize, usize); 7] = [
+    (&[1], 7, b"read failed 1\n", 0, 0),
+    (&[2], 7, b"read failed 2\n", 0, 0),
+    (&[3], 7, b"read failed 3\n", 0, 0),
+    (&[1, 2], 7, b"", 0, 0),
+    (&[4], 8, b"write failed 4\n", 1, 0),
+    (&[5], 8, b"write failed 5\n", 2, 1),
+    (&[6], 8, b"", 2, 2),
+];
+
+/// Whether the file has so many halves of the whole one.
+fn has_halves(host: &MemHost, name: &str, whole: &[u8], halves: usize) -> bool {
+    match host.get(name) {
+        None => halves == 0,
+        Some(bytes) if halves == 1 => bytes == &whole[..whole.len() / 2],
+        Some(bytes) => halves == 2 && bytes == whole,
+    }
+}
+
+#[test]
+fn compilations_with_failing_calls(rt: HostRuntime) -> Result<(), Fail> {
+    let mut whole = with_inputs(rt.alloc())?;
+    assert_eq!(rt; run(rt.alloc(), &COMPILE, &mut whole).status, 0);
+    let module = whole.get("v").ok_or("a module")?;
+    for (calls, status, said, module_halves, report_halves) in FAILING {
+        let inner = with_inputs(rt.alloc())?;
+        let mut host = FailHost::new(inner, calls.to_vec(rt.alloc())?);
+        assert_eq!(rt; run(rt.alloc(), &COMPILE, &mut host).status, status);
+        assert_eq!(rt; host.inner().said(), said);
+        assert!(rt; has_halves(host.inner(), "v", module, module_halves));
+        assert!(rt; has_halves(host.inner(), "r", COMPILED_REPORT, report_halves));
+    }
     Ok(())
 }
