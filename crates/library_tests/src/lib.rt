@@ -17,6 +17,8 @@ mod pause_texts;
 #[cfg(test)]
 mod retention_rows;
 #[cfg(test)]
+mod self_test_rows;
+#[cfg(test)]
 mod small_arrays;
 #[cfg(test)]
 mod verilog_emit_rows;
