@@ -5,6 +5,8 @@
 #[cfg(test)]
 mod calls;
 #[cfg(test)]
+mod controller_rows;
+#[cfg(test)]
 mod fault_texts;
 #[cfg(test)]
 mod hosts;
