@@ -13,6 +13,8 @@ mod hosts;
 #[cfg(test)]
 mod march_texts;
 #[cfg(test)]
+mod memory_rows;
+#[cfg(test)]
 mod memory_texts;
 #[cfg(test)]
 mod pause_texts;
