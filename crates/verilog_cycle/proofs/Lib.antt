@@ -6,6 +6,7 @@ pub mod Compiling
 pub mod Declarations
 pub mod Designs
 pub mod Edge
+pub mod Fits
 pub mod Kept
 pub mod Named
 pub mod Picking

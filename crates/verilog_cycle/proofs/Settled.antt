@@ -240,23 +240,6 @@ no_place mo ns nets n h =
     by_lookup None l r i v = no_width (is_clk n) (names_widths mo n) (ap declared_width l)
     by_lookup (Some d) l r i v = by_kind d l r i v d.kind refl
 
--- registers and inputs have different names
-apart_names : (ds : List Declaration) → Apart ds → (n : List ℕ) → is_among n (names (filter is_open ds)) ≡ true → is_among n (names (filter (λ d. is_register d.kind) ds)) ≡ false
-apart_names ds a n i = by_test (is_among n (names (filter (λ d. is_register d.kind) ds))) refl
-  where
-    both : (k : Kind) (c : Bool) → (is_input k && not c) ≡ true → is_register k ≡ true → ⊥
-    both K.Input c h r = cc
-    both K.Wire c h r = cc
-    both K.Register c h r = cc
-
-    by_test : (t : Bool) → is_among n (names (filter (λ d. is_register d.kind) ds)) ≡ t → t ≡ false
-    by_test true e =
-        let f = found_among is_open ds n a i in
-        let g = found_among (λ d. is_register d.kind) ds n a e in
-        let same = same_declaration ds n f.declaration g.declaration f.found g.found in
-        absurd (both g.declaration.kind (is_clk g.declaration.name) (subst (λ (x : Declaration). is_open x ≡ true) same f.passes) g.passes)
-    by_test false e = refl
-
 -- a register or an input has its value before anything is computed
 start_value : (rs is : List (List ℕ)) (registers inputs : List ℕ) (env : Env) → length registers ≡ length rs → ((m : List ℕ) → is_among m rs ≡ true → env m ≡ valued rs registers m) → ((m : List ℕ) → is_among m is ≡ true → env m ≡ valued is inputs m) →
     (m : List ℕ) (t : Bool) → is_among m rs ≡ t → (t || is_among m is) ≡ true → get_or (registers ++ inputs) (number (rs ++ is) m) 0 ≡ env m

@@ -3,6 +3,7 @@ pub mod Built
 pub mod Code
 pub mod Compile
 pub mod Design
+pub mod Fitting
 pub mod Graph
 pub mod Inside
 pub mod Nets

@@ -1,5 +1,5 @@
 //! A module made to run.
-ghost use Rattle.std.specs.Prelude.{◌≡◌, ℕ, ◌<◌, List, IsTrue, None, Some, length, map, slice_get, IfOk, true, ⊤};
+ghost use Rattle.std.specs.Prelude.{◌≡◌, ℕ, ◌<◌, ◌↔◌, List, IsTrue, None, Some, length, map, slice_get, IfOk, true, ⊤};
 ghost use Rattle.std.specs.Borrow.{sem};
 ghost use denote.Follow.{follows_so};
 ghost use mathlib.Core.Option.{none};
@@ -15,6 +15,7 @@ ghost use Rattle.verilog_cycle.specs.contracts.design.Design.{the_row};
 use crate::action::Action;
 use crate::code::Code;
 use crate::copy::copy_module;
+use crate::fit::fit;
 use crate::nets::{inputs, registers};
 use crate::program::{blocks, outputs, places, steps, zeros};
 use crate::scope::Scope;
@@ -141,6 +142,20 @@ impl Design {
     {
         let register = &self.registers[i];
         (register.name.as_str(), register.width)
+    }
+
+    /// Whether there is one value for each register, within its width: what `set_registers` requires.
+    pub fn registers_fit(&self, values: &[u64]) -> bool
+        ensures { IsTrue result ↔ Fit (registers_of (plain_module self.now.tree)) values.now }
+    {
+        fit(&self.registers, values)
+    }
+
+    /// Whether there is one value for each input port without the clock, within its width: what a cycle requires.
+    pub fn inputs_fit(&self, values: &[u64]) -> bool
+        ensures { IsTrue result ↔ Fit (inputs_of (plain_module self.now.tree)) values.now }
+    {
+        fit(&self.inputs, values)
     }
 
     /// Gives the registers these values.
