@@ -25,6 +25,8 @@ mod self_test_rows;
 #[cfg(test)]
 mod small_arrays;
 #[cfg(test)]
+mod verilog_cycle_rows;
+#[cfg(test)]
 mod verilog_emit_rows;
 #[cfg(test)]
 mod verilog_rules;
