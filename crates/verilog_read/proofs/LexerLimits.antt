@@ -1,15 +1,15 @@
 -- What the parts of the lexer answer, for the whole.
-use Rattle.std.proofs.Common.{◌≡◌, ℕ, ◌≤◌, Option, Some, None, Result, Ok, Err, ap, arith}
+use Rattle.std.proofs.Common.{true, false, ◌≡◌, ℕ, ◌≤◌, Option, Some, None, Result, Ok, Err, ap, arith}
 use Rattle.std.specs.Option.{ok_or}
 use Rattle.std.proofs.lemmas.Nat.{pow_pos}
 use Rattle.bist_bits.specs.Vector.{IsVector}
 use Rattle.bist_text.specs.Machine.{Holds}
 use Rattle.verilog_tree.specs.Tokens.{Token}
 use Rattle.verilog_read.specs.declared.lexer.LexFault.{LexFault}
-use Rattle.verilog_read.specs.declared.lexer.LexFault.TheVariants.{Unexpected, LongName, OutOfRange}
+use Rattle.verilog_read.specs.declared.lexer.LexFault.TheVariants.{Unexpected, LongName, LargeNumber, WrongLiteral}
 use Rattle.verilog_read.specs.declared.lexer.Read.{Read}
 use Rattle.verilog_read.specs.declared.lexer.Scanner.{Scanner}
-use Rattle.verilog_read.specs.Lexemes.{lexer_of, Fits, IsOut, IsSize, Scans, BeginsAs, Stays}
+use Rattle.verilog_read.specs.Lexemes.{lexer_of, Fits, IsLarge, IsSize, Scans, BeginsAs, Stays}
 use Rattle.verilog_read.specs.Lexing.{Lexer, InWord, InNumber, silent}
 
 fits_more : (most : ℕ) (l : Lexer) → 63 ≤ most → Fits 63 l → Fits most l
@@ -17,20 +17,22 @@ fits_more most (InNumber long n) h f = omega (arith, f, h)
 fits_more most (InWord w) h f = f
 fits_more most l h f = f
 
-out_more : (most : ℕ) (l : Lexer) → most ≤ 64 → IsOut 64 l → IsOut most l
-out_more most (InNumber long n) h f = omega (arith, f, h)
-out_more most l h f = f
+large_more : (most : ℕ) (l : Lexer) → most ≤ 64 → IsLarge 64 l → IsLarge most l
+large_more most (InNumber true n) h f = omega (arith, f, h)
+large_more most (InNumber false n) h f = f
+large_more most l h f = f
 
-holds_out : (most : ℕ) (o : Option (Lexer × Option Token)) → most ≤ 64 → Holds o (λ r. (r.1 ≡ None) × IsOut 64 r.0) → Holds o (λ r. (r.1 ≡ None) × IsOut most r.0)
-holds_out most None h f = f
-holds_out most (Some r) h f = (f.0, out_more most r.0 h f.1)
+holds_large : (most : ℕ) (o : Option (Lexer × Option Token)) → most ≤ 64 → Holds o (λ r. (r.1 ≡ None) × IsLarge 64 r.0) → Holds o (λ r. (r.1 ≡ None) × IsLarge most r.0)
+holds_large most None h f = f
+holds_large most (Some r) h f = (f.0, large_more most r.0 h f.1)
 
 -- a part that reads no number, where numbers may be at most `most`
 pub any_numbers : (most : ℕ) (o : Option (Lexer × Option Token)) (r : Result Read LexFault) → 63 ≤ most → most ≤ 64 → Scans 63 64 o r → Scans most most o r
 any_numbers most o (Ok r) l h s = (s.0, fits_more most (lexer_of r.lexer) l s.1)
 any_numbers most o (Err Unexpected) l h s = s
 any_numbers most o (Err LongName) l h s = s
-any_numbers most o (Err OutOfRange) l h s = holds_out most o h s
+any_numbers most o (Err LargeNumber) l h s = holds_large most o h s
+any_numbers most o (Err WrongLiteral) l h s = s
 
 pub begins_stays : (o : Option Lexer) (r : Option Scanner) → BeginsAs o r → Stays (silent o) (ok_or r Unexpected)
 begins_stays o (Some s) h = (ap silent h.0, h.1)

@@ -16,3 +16,6 @@ pub mod Scanning
 pub mod Moving
 pub mod Finishing
 pub mod Contract
+pub mod LexingOn
+pub mod Alive
+pub mod Extends

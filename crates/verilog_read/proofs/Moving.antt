@@ -9,7 +9,7 @@ use Rattle.verilog_tree.specs.Formed.{is_place}
 use Rattle.verilog_tree.specs.Spells.{all_limits, keeps}
 use Rattle.verilog_tree.specs.Tokens.{Token, Identifier, Number, Based, Queried, Sign, is_space, is_query, lengthened, mark_of, Start, AWord, ANumber, AMark, NoToken, start_of, start_mark}
 use Rattle.verilog_tree.specs.Words.{in_identifier, begins_identifier, is_digit, digit_value, radix, base_of, is_digit_of}
-use Rattle.verilog_read.specs.Answering.{Taking, Leads, Refused, OneTooMany, taking, take_token, Move, Goes, Stops, is_between, going, arrive, within, ended, stuck_at, stuck, read_on, lexed, byte_move}
+use Rattle.verilog_read.specs.Answering.{Taking, Leads, Refused, OneTooMany, taking, take_token, Move, Goes, Stops, is_between, while_live, gone, arrive, within, ended, stuck_at, stuck, read_on, lexed, byte_move}
 use Rattle.verilog_read.specs.Expected.{Numbers, AllNumbers, ZeroAlone, NoNumber, numbers, taken_as, is_step, taken, most_of, live, name_fits, number_fits, live_in}
 use Rattle.verilog_read.specs.Lexing.{Lexer, InGap, InWord, InNumber, Quoted, Lettered, InDigits, Marked, Whole, literal, begin_token, begin, with_token, silent, lettered, second, lex, last}
 use Rattle.verilog_read.specs.Places.{State}
@@ -187,7 +187,7 @@ abbrev place : State → Lexer → Both State Lexer
 place s l = record { parser = s; lexer = l }
 
 -- a state whose parts pass or fail
-arrives : (s : State) (l : Lexer) (fresh a b d : Bool) → live s l ≡ a → name_fits l ≡ b → number_fits (most_of s) l ≡ d → Agrees (within b d (going a s l fresh)) (only_if ((a && b) && d) (place s l))
+arrives : (s : State) (l : Lexer) (fresh a b d : Bool) → live s l ≡ a → name_fits l ≡ b → number_fits (most_of s) l ≡ d → Agrees (while_live a (within b d (gone s l fresh))) (only_if ((a && b) && d) (place s l))
 arrives s l fresh true true true e f g = (refl, and_from _ _ (and_from _ _ e f) g)
 arrives s l fresh true true false e f g = refl
 arrives s l fresh true false true e f g = refl
@@ -201,7 +201,7 @@ arrives s l fresh false false false e f g = refl
 behind : (s : State) (l : Lexer) → Small l → Agrees (arrive s l true) (only_if (live_in all_limits s l) (place s l))
 behind s l k = go (live s l) (name_fits l) (number_fits (most_of s) l) refl refl refl
   where
-    go : (a b d : Bool) → live s l ≡ a → name_fits l ≡ b → number_fits (most_of s) l ≡ d → Agrees (going a s l true) (only_if ((a && b) && d) (place s l))
+    go : (a b d : Bool) → live s l ≡ a → name_fits l ≡ b → number_fits (most_of s) l ≡ d → Agrees (while_live a (gone s l true)) (only_if ((a && b) && d) (place s l))
     go true true true e f g = (refl, and_from _ _ (and_from _ _ e f) g)
     go true true false e f g = let h : true ≡ false = sym (k.1 (most_of s) (most_low s)) ∙ g in cc
     go true false d e f g = let h : true ≡ false = sym k.0 ∙ f in cc

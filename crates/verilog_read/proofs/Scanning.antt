@@ -1,6 +1,10 @@
 -- What the lexer's answer says of the byte.
-use Rattle.std.proofs.Common.{◌≡◌, ℕ, ◌^◌, Bool, true, false, Option, Some, None, Result, Ok, Err, refl, ap, subst, ◌∙◌, arith, length, nat_le, nat_lt}
-use Rattle.std.proofs.lemmas.Bool.{le-leb, lt-ltb, and_from, leb-true, ltb-true, and_parts}
+use Rattle.std.proofs.Common.{◌≡◌, ℕ, ◌^◌, ◌<◌, ◌≤◌, ◌+◌, ◌||◌, ◌&&◌, List, [], ◌∷◌, ◌++◌, drop, nat_eq, sym, Bool, true, false, Option, Some, None, Result, Ok, Err, refl, ap, subst, ◌∙◌, arith, length, nat_le, nat_lt}
+use Rattle.std.proofs.lemmas.Bool.{le-leb, lt-ltb, and_from, leb-true, ltb-true, and_parts, or_from}
+use Rattle.std.proofs.lemmas.Bool.Decides.{Decides-eqb}
+use Rattle.std.proofs.lemmas.List.{length-append}
+use Rattle.std.proofs.lemmas.Slice.Eq.{starts_is}
+use Rattle.std.specs.List.{starts_with}
 use Rattle.bist_text.specs.Lexed.{Both}
 use Rattle.bist_text.specs.Machine.{Holds}
 use Rattle.verilog_tree.specs.Formed.{is_width, is_literal}
@@ -9,11 +13,12 @@ use Rattle.verilog_read.specs.declared.lexer.LexFault.{LexFault}
 use Rattle.verilog_read.specs.declared.lexer.LexFault.TheVariants as L
 use Rattle.verilog_read.specs.declared.lexer.Read.{Read}
 use Rattle.verilog_read.specs.declared.read.ByteFault.TheVariants.{LongName, OutOfRange}
-use Rattle.verilog_read.specs.Answering.{Move, Stops, within, read_on, read_within, lexed, byte_move, Scanned}
-use Rattle.verilog_read.specs.Expected.{most_of, name_fits, number_fits}
-use Rattle.verilog_read.specs.Lexemes.{lexer_of, tokens_of, Fits, IsLong, IsOut, IsSize, Scans}
+use Rattle.verilog_read.specs.Answering.{Move, Stops, while_live, within, read_on, read_within, lexed, byte_move, Scanned}
+use Rattle.verilog_read.specs.Expected.{Numbers, AllNumbers, ZeroAlone, NoNumber, numbers, taken_as, else_behind, words_behind, with_else, place_words, words, takes_names, taken, takes_literals, some_begins, live, most_of, name_fits, number_fits}
+use Rattle.verilog_read.specs.Lexemes.{lexer_of, tokens_of, Fits, IsLong, IsLarge, IsWrong, IsSize, Scans}
 use Rattle.verilog_read.specs.Lexing.{Lexer, InWord, InNumber, Quoted, Lettered, InDigits, Whole, lex}
-use Rattle.verilog_read.specs.Places.{State}
+use Rattle.verilog_read.specs.Places.{Around, InAlways, InBlock, InThen, InElse, InArm, InDefault, WantStmt, DefaultRead, Block, HaveStmt, ItemPlace, Begin, WantPort, InputRead, OutputRead, WantItem, ClockOpen, State, AtExpr, AtStmt, AtItem}
+use Rattle.verilog_read.proofs.Expectations.{number_taken}
 
 size_is : (n : ℕ) → IsSize n → is_width n ≡ true
 size_is n h = and_from (nat_le 1 n) (nat_le n 64) (le-leb 1 n h.0) (le-leb n 64 h.1)
@@ -49,20 +54,97 @@ pub long_names : (l : Lexer) → IsLong l → name_fits l ≡ false
 long_names (InWord w) h = fails (nat_le (length w) 64) (λ e. let k = leb-true (length w) 64 e in omega (arith, k, h))
 long_names l h = absurd h
 
-pub out_names : (most : ℕ) (l : Lexer) → IsOut most l → name_fits l ≡ true
-out_names most (InNumber long n) h = refl
-out_names most (Quoted n) h = refl
-out_names most (InDigits n base v) h = refl
-out_names most l h = absurd h
+pub large_names : (most : ℕ) (l : Lexer) → IsLarge most l → name_fits l ≡ true
+large_names most (InNumber true n) h = refl
+large_names most (InNumber false n) h = absurd h
+large_names most l h = absurd h
+
+pub large_numbers : (most : ℕ) (l : Lexer) → IsLarge most l → number_fits most l ≡ false
+large_numbers most (InNumber true n) h = fails (nat_le n most) (λ e. let k = leb-true n most e in omega (arith, k, h))
+large_numbers most (InNumber false n) h = absurd h
+large_numbers most l h = absurd h
+
+pub wrong_names : (l : Lexer) → IsWrong l → name_fits l ≡ true
+wrong_names (Quoted n) h = refl
+wrong_names (InDigits n base v) h = refl
+wrong_names l h = absurd h
 
 width_size : (n : ℕ) → is_width n ≡ true → IsSize n
 width_size n e = let p = and_parts (nat_le 1 n) (nat_le n 64) e in (leb-true 1 n p.0, leb-true n 64 p.1)
 
-pub out_numbers : (most : ℕ) (l : Lexer) → IsOut most l → number_fits most l ≡ false
-out_numbers most (InNumber long n) h = fails (nat_le n most) (λ e. let k = leb-true n most e in omega (arith, k, h))
-out_numbers most (Quoted n) h = fails (is_width n) (λ e. h (width_size n e))
-out_numbers most (InDigits n base v) h = fails (is_literal (record { width = n; value = v })) (λ e. let p = and_parts (is_width n) (nat_lt v (2 ^ n)) e in let q = width_size n p.0 in h (record { positive = q.0; narrow = q.1; fits = ltb-true v (2 ^ n) p.1 }))
-out_numbers most l h = absurd h
+pub wrong_numbers : (most : ℕ) (l : Lexer) → IsWrong l → number_fits most l ≡ false
+wrong_numbers most (Quoted n) h = fails (is_width n) (λ e. h (width_size n e))
+wrong_numbers most (InDigits n base v) h = fails (is_literal (record { width = n; value = v })) (λ e. let p = and_parts (is_width n) (nat_lt v (2 ^ n)) e in let q = width_size n p.0 in h (record { positive = q.0; narrow = q.1; fits = ltb-true v (2 ^ n) p.1 }))
+wrong_numbers most l h = absurd h
+
+abbrev all_short : List (List ℕ) → Bool
+all_short [] = true
+all_short (w ∷ ws) = nat_le (length w) 64 && all_short ws
+
+-- a word of more than 64 bytes begins no reserved word
+long_begins : (w : List ℕ) (ws : List (List ℕ)) → 64 < length w → all_short ws ≡ true → some_begins w ws ≡ false
+long_begins w [] h e = refl
+long_begins w (v ∷ vs) h e =
+    let p = and_parts (nat_le (length v) 64) (all_short vs) e in
+    or_from (starts_with nat_eq v w) (some_begins w vs) (fails (starts_with nat_eq v w) (λ k.
+    let whole : v ≡ w ++ drop (length w) v = (starts_is (λ x y. Decides-eqb x y) v w (starts_with nat_eq v w) refl).0 k in
+    let same : length v ≡ length w + length (drop (length w) v) = ap length whole ∙ length-append w (drop (length w) v) in
+    let short : length v ≤ 64 = leb-true (length v) 64 p.0 in omega (arith, h, same, short)))
+    (long_begins w vs h p.1)
+
+else_short : (b : Bool) (ws : List (List ℕ)) → all_short ws ≡ true → all_short (with_else b ws) ≡ true
+else_short true ws e = e
+else_short false ws e = e
+
+behind_short : (a : Around) → all_short (words_behind a) ≡ true
+behind_short (InThen r c a) = behind_short a
+behind_short (InElse r c s a) = behind_short a
+behind_short (InAlways h c) = refl
+behind_short (InBlock r old a) = refl
+behind_short (InArm r x as' ls a) = refl
+behind_short (InDefault r x as' a) = refl
+
+words_short : (s : State) → all_short (words s) ≡ true
+words_short (AtExpr p) = refl
+words_short (AtStmt (HaveStmt q s a)) = else_short (else_behind a) (words_behind a) (behind_short a)
+words_short (AtStmt (WantStmt q a)) = refl
+words_short (AtStmt (DefaultRead r q x as' a)) = refl
+words_short (AtStmt (Block p r old a)) = refl
+words_short (AtStmt p) = refl
+words_short (AtItem p) = item_short p
+  where
+    item_short : (p : ItemPlace) → all_short (place_words p) ≡ true
+    item_short Begin = refl
+    item_short (WantPort h) = refl
+    item_short (InputRead h) = refl
+    item_short (OutputRead h) = refl
+    item_short (WantItem h) = refl
+    item_short (ClockOpen h) = refl
+    item_short p = refl
+
+-- a long word goes on where names come
+pub long_live : (s : State) (l : Lexer) → IsLong l → live s l ≡ takes_names s
+long_live s (InWord w) h = ap (λ b. takes_names s || b) (long_begins w (words s) h (words_short s)) ∙ or_false (takes_names s)
+  where
+    or_false : (b : Bool) → (b || false) ≡ b
+    or_false true = refl
+    or_false false = refl
+long_live s l h = absurd h
+
+pub large_live : (s : State) (most : ℕ) (l : Lexer) → IsLarge most l → live s l ≡ (taken s (Number true 0) || takes_literals s)
+large_live s most (InNumber true n) h = ap (λ b. b || takes_literals s) (number_taken s true n ∙ alike (numbers s) ∙ sym (number_taken s true 0))
+  where
+    alike : (k : Numbers) → taken_as k true n ≡ taken_as k true 0
+    alike AllNumbers = refl
+    alike ZeroAlone = refl
+    alike NoNumber = refl
+large_live s most (InNumber false n) h = absurd h
+large_live s most l h = absurd h
+
+pub wrong_live : (s : State) (l : Lexer) → IsWrong l → live s l ≡ takes_literals s
+wrong_live s (Quoted n) h = refl
+wrong_live s (InDigits n base v) h = refl
+wrong_live s l h = absurd h
 
 within_is : (a b : Bool) (m : Move) → a ≡ true → b ≡ true → within a b m ≡ m
 within_is true true m e f = refl
@@ -79,16 +161,24 @@ within_out true false m e f = refl
 within_out false b m e f = cc
 
 on_fits : (q : Both State Lexer) (l : Lexer) (t : Option Token) → Fits (most_of q.parser) l → read_on q l t ≡ read_within q l t
-on_fits q l None h = within_is (name_fits l) (number_fits (most_of q.parser) l) _ (names_fit (most_of q.parser) l h) (numbers_fit (most_of q.parser) l h)
+on_fits q l None h = ap (while_live (live q.parser l)) (within_is (name_fits l) (number_fits (most_of q.parser) l) _ (names_fit (most_of q.parser) l h) (numbers_fit (most_of q.parser) l h))
 on_fits q l (Some t) h = refl
 
-long_stops : (q : Both State Lexer) (o : Option (Lexer × Option Token)) → Holds o (λ r. (r.1 ≡ None) × IsLong r.0) → lexed q o ≡ Stops LongName
-long_stops q None h = absurd h
-long_stops q (Some r) h = ap (λ t. read_on q r.0 t) h.0 ∙ within_long (name_fits r.0) (number_fits (most_of q.parser) r.0) _ (long_names r.0 h.1)
+-- where a limit stops what is begun, if it can go on
+stops : (a b : Bool) (m n : Move) → a ≡ b → m ≡ n → while_live a m ≡ while_live b n
+stops a b m n e f = ap (λ x. while_live x m) e ∙ ap (while_live b) f
 
-out_stops : (q : Both State Lexer) (o : Option (Lexer × Option Token)) → Holds o (λ r. (r.1 ≡ None) × IsOut (most_of q.parser) r.0) → lexed q o ≡ Stops OutOfRange
-out_stops q None h = absurd h
-out_stops q (Some r) h = ap (λ t. read_on q r.0 t) h.0 ∙ within_out (name_fits r.0) (number_fits (most_of q.parser) r.0) _ (out_names (most_of q.parser) r.0 h.1) (out_numbers (most_of q.parser) r.0 h.1)
+long_stops : (q : Both State Lexer) (o : Option (Lexer × Option Token)) → Holds o (λ r. (r.1 ≡ None) × IsLong r.0) → lexed q o ≡ while_live (takes_names q.parser) (Stops LongName)
+long_stops q None h = absurd h
+long_stops q (Some r) h = ap (λ t. read_on q r.0 t) h.0 ∙ stops _ _ _ _ (long_live q.parser r.0 h.1) (within_long (name_fits r.0) (number_fits (most_of q.parser) r.0) _ (long_names r.0 h.1))
+
+large_stops : (q : Both State Lexer) (o : Option (Lexer × Option Token)) → Holds o (λ r. (r.1 ≡ None) × IsLarge (most_of q.parser) r.0) → lexed q o ≡ while_live (taken q.parser (Number true 0) || takes_literals q.parser) (Stops OutOfRange)
+large_stops q None h = absurd h
+large_stops q (Some r) h = ap (λ t. read_on q r.0 t) h.0 ∙ stops _ _ _ _ (large_live q.parser (most_of q.parser) r.0 h.1) (within_out (name_fits r.0) (number_fits (most_of q.parser) r.0) _ (large_names (most_of q.parser) r.0 h.1) (large_numbers (most_of q.parser) r.0 h.1))
+
+wrong_stops : (q : Both State Lexer) (o : Option (Lexer × Option Token)) → Holds o (λ r. (r.1 ≡ None) × IsWrong r.0) → lexed q o ≡ while_live (takes_literals q.parser) (Stops OutOfRange)
+wrong_stops q None h = absurd h
+wrong_stops q (Some r) h = ap (λ t. read_on q r.0 t) h.0 ∙ stops _ _ _ _ (wrong_live q.parser r.0 h.1) (within_out (name_fits r.0) (number_fits (most_of q.parser) r.0) _ (wrong_names r.0 h.1) (wrong_numbers (most_of q.parser) r.0 h.1))
 
 pub scanned : (q : Both State Lexer) (c most : ℕ) (r : Result Read LexFault) → most ≡ most_of q.parser → Scans most most (lex q.lexer c) r → Scanned q (byte_move q c) r
 scanned q c most r e s = go r (subst (λ m. Scans m m (lex q.lexer c) r) e s)
@@ -97,4 +187,5 @@ scanned q c most r e s = go r (subst (λ m. Scans m m (lex q.lexer c) r) e s)
     go (Ok r) s = ap (lexed q) s.0 ∙ on_fits q (lexer_of r.lexer) (tokens_of r.token) s.1
     go (Err L.Unexpected) s = ap (lexed q) s
     go (Err L.LongName) s = long_stops q (lex q.lexer c) s
-    go (Err L.OutOfRange) s = out_stops q (lex q.lexer c) s
+    go (Err L.LargeNumber) s = large_stops q (lex q.lexer c) s
+    go (Err L.WrongLiteral) s = wrong_stops q (lex q.lexer c) s

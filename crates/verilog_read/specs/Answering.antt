@@ -1,10 +1,10 @@
 -- What the reader does at each byte and at the end, with the place where the token that is read began.
-use Rattle.std.specs.Prelude.{◌≡◌, ℕ, ◌+◌, ⊤, Bool, true, false, List, [], ◌∷◌, Option, Some, None, Result, Ok, Err, if◌then◌else◌}
+use Rattle.std.specs.Prelude.{◌||◌, ◌≡◌, ℕ, ◌+◌, ⊤, Bool, true, false, List, [], ◌∷◌, Option, Some, None, Result, Ok, Err, if◌then◌else◌}
 use Rattle.bist_text.specs.Lexed.{Both}
 use Rattle.verilog_tree.specs.declared.tokens.Within.TheVariants.{Between}
 use Rattle.verilog_tree.specs.declared.tree.Module.{Module}
 use Rattle.verilog_tree.specs.Plain.{ModuleTree, plain_module}
-use Rattle.verilog_tree.specs.Tokens.{Token}
+use Rattle.verilog_tree.specs.Tokens.{Token, Number}
 use Rattle.verilog_read.specs.declared.fault.ReadFault.{ReadFault}
 use Rattle.verilog_read.specs.declared.fault.ReadFault.TheVariants as R
 use Rattle.verilog_read.specs.declared.places.Outer.{Outer}
@@ -12,7 +12,7 @@ use Rattle.verilog_read.specs.declared.places.Place.{Place}
 use Rattle.verilog_read.specs.declared.read.Next.{Next}
 use Rattle.verilog_read.specs.declared.read.ByteFault.{ByteFault}
 use Rattle.verilog_read.specs.declared.read.ByteFault.TheVariants.{Unexpected, TooDeep, LongName, OutOfRange, NoMemory}
-use Rattle.verilog_read.specs.Expected.{taken, live, name_fits, number_fits, most_of}
+use Rattle.verilog_read.specs.Expected.{taken, takes_names, takes_literals, live, name_fits, number_fits, most_of}
 use Rattle.verilog_read.specs.declared.lexer.LexFault.{LexFault}
 use Rattle.verilog_read.specs.declared.lexer.LexFault.TheVariants as L
 use Rattle.verilog_read.specs.declared.lexer.Read.{Read}
@@ -47,19 +47,22 @@ abbrev pub is_between : Lexer → Bool
 is_between (InGap Between) = true
 is_between _ = false
 
--- the state, where what is begun can go on
-abbrev pub going : Bool → State → Lexer → Bool → Move
-going true s l fresh = Goes (record { parser = s; lexer = l }) fresh
-going false s l fresh = Stops Unexpected
-
-abbrev pub arrive : State → Lexer → Bool → Move
-arrive s l fresh = going (live s l) s l fresh
+-- where what is begun can go on
+abbrev pub while_live : Bool → Move → Move
+while_live true m = m
+while_live false m = Stops Unexpected
 
 -- within the limits of names and numbers
 abbrev pub within : Bool → Bool → Move → Move
 within false n m = Stops LongName
 within true false m = Stops OutOfRange
 within true true m = m
+
+abbrev pub gone : State → Lexer → Bool → Move
+gone s l fresh = Goes (record { parser = s; lexer = l }) fresh
+
+abbrev pub arrive : State → Lexer → Bool → Move
+arrive s l fresh = while_live (live s l) (gone s l fresh)
 
 -- a token that ends
 abbrev pub ended : Taking → Lexer → Move
@@ -79,7 +82,7 @@ stuck s (Some None) = Stops Unexpected
 stuck s None = Stops Unexpected
 
 abbrev pub read_on : Both State Lexer → Lexer → Option Token → Move
-read_on q l None = within (name_fits l) (number_fits (most_of q.parser) l) (arrive q.parser l (is_between q.lexer))
+read_on q l None = while_live (live q.parser l) (within (name_fits l) (number_fits (most_of q.parser) l) (gone q.parser l (is_between q.lexer)))
 read_on q l (Some t) = ended (take_token q.parser t) l
 
 -- the same, of a state within the limits
@@ -159,8 +162,9 @@ Moves m (Err OutOfRange) w = m ≡ Stops OutOfRange
 abbrev pub Scanned : Both State Lexer → Move → Result Read LexFault → Type 0
 Scanned q m (Ok r) = m ≡ read_within q (lexer_of r.lexer) (tokens_of r.token)
 Scanned q m (Err L.Unexpected) = m ≡ stuck q.parser (last q.lexer)
-Scanned q m (Err L.LongName) = m ≡ Stops LongName
-Scanned q m (Err L.OutOfRange) = m ≡ Stops OutOfRange
+Scanned q m (Err L.LongName) = m ≡ while_live (takes_names q.parser) (Stops LongName)
+Scanned q m (Err L.LargeNumber) = m ≡ while_live (taken q.parser (Number true 0) || takes_literals q.parser) (Stops OutOfRange)
+Scanned q m (Err L.WrongLiteral) = m ≡ while_live (takes_literals q.parser) (Stops OutOfRange)
 
 -- the module that is read, or the fault; or there was no memory
 abbrev pub Gives : Answer → Result Module ReadFault → Type 0

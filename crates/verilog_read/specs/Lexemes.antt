@@ -1,12 +1,12 @@
 -- What the code's tokens and the places of its lexer are, and what the lexer answers.
-use Rattle.std.specs.Prelude.{◌≡◌, ℕ, ◌<◌, ◌≤◌, length, Option, Some, None, Result, Ok, Err}
+use Rattle.std.specs.Prelude.{true, ◌≡◌, ℕ, ◌<◌, ◌≤◌, length, Option, Some, None, Result, Ok, Err}
 use Rattle.bist_bits.specs.Vector.{IsVector}
 use Rattle.bist_text.specs.Machine.{Holds}
 use Rattle.verilog_tree.specs.Tokens.{Token, Identifier, Number, Based, Queried, Sign}
 use Rattle.verilog_read.specs.declared.lexemes.Lexeme.{Lexeme}
 use Rattle.verilog_read.specs.declared.lexemes.Lexeme.TheVariants as X
 use Rattle.verilog_read.specs.declared.lexer.LexFault.{LexFault}
-use Rattle.verilog_read.specs.declared.lexer.LexFault.TheVariants.{Unexpected, LongName, OutOfRange}
+use Rattle.verilog_read.specs.declared.lexer.LexFault.TheVariants.{Unexpected, LongName, LargeNumber, WrongLiteral}
 use Rattle.verilog_read.specs.declared.lexer.Read.{Read}
 use Rattle.verilog_read.specs.declared.lexer.Scanner.{Scanner}
 use Rattle.verilog_read.specs.declared.lexer.Scanner.TheVariants as S
@@ -63,12 +63,16 @@ abbrev pub IsLong : Lexer → Type 0
 IsLong (InWord w) = 64 < length w
 IsLong _ = ⊥
 
--- a number or a literal out of range
-abbrev pub IsOut : ℕ → Lexer → Type 0
-IsOut most (InNumber long n) = most < n
-IsOut most (Quoted n) = IsSize n → ⊥
-IsOut most (InDigits n base v) = IsVector n v → ⊥
-IsOut most _ = ⊥
+-- a number above `most`, of more than one digit
+abbrev pub IsLarge : ℕ → Lexer → Type 0
+IsLarge most (InNumber true n) = most < n
+IsLarge most _ = ⊥
+
+-- a literal with a size or a value out of range
+abbrev pub IsWrong : Lexer → Type 0
+IsWrong (Quoted n) = IsSize n → ⊥
+IsWrong (InDigits n base v) = IsVector n v → ⊥
+IsWrong _ = ⊥
 
 -- What the code answers, by what the lexer does: the same state and token, where numbers are at most `most`; a
 -- refusal where there is none; or the limit that the state exceeds, which for a number is `limit`.
@@ -76,14 +80,16 @@ abbrev pub Scans : ℕ → ℕ → Option (Lexer × Option Token) → Result Rea
 Scans most limit o (Ok r) = (o ≡ Some (lexer_of r.lexer, tokens_of r.token)) × Fits most (lexer_of r.lexer)
 Scans most limit o (Err Unexpected) = o ≡ None
 Scans most limit o (Err LongName) = Holds o (λ r. (r.1 ≡ None) × IsLong r.0)
-Scans most limit o (Err OutOfRange) = Holds o (λ r. (r.1 ≡ None) × IsOut limit r.0)
+Scans most limit o (Err LargeNumber) = Holds o (λ r. (r.1 ≡ None) × IsLarge limit r.0)
+Scans most limit o (Err WrongLiteral) = Holds o (λ r. (r.1 ≡ None) × IsWrong r.0)
 
 -- the same, of the state alone
 abbrev pub Begins : ℕ → ℕ → Option Lexer → Result Scanner LexFault → Type 0
 Begins most limit o (Ok s) = (o ≡ Some (lexer_of s)) × Fits most (lexer_of s)
 Begins most limit o (Err Unexpected) = o ≡ None
 Begins most limit o (Err LongName) = Holds o (λ l. IsLong l)
-Begins most limit o (Err OutOfRange) = Holds o (λ l. IsOut limit l)
+Begins most limit o (Err LargeNumber) = Holds o (λ l. IsLarge limit l)
+Begins most limit o (Err WrongLiteral) = Holds o (λ l. IsWrong l)
 
 -- the same of a state that is new
 abbrev pub BeginsAs : Option Lexer → Option Scanner → Type 0
@@ -95,4 +101,5 @@ abbrev pub Stays : Option (Lexer × Option Token) → Result Scanner LexFault �
 Stays o (Ok s) = (o ≡ Some (lexer_of s, None)) × Fits 63 (lexer_of s)
 Stays o (Err Unexpected) = o ≡ None
 Stays o (Err LongName) = ⊥
-Stays o (Err OutOfRange) = ⊥
+Stays o (Err LargeNumber) = ⊥
+Stays o (Err WrongLiteral) = ⊥

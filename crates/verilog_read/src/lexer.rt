@@ -30,12 +30,14 @@ pub struct Read {
     pub token: Option<Lexeme>,
 }
 
-/// Why a byte is refused: no token goes on so, an identifier becomes too long, or a number too large.
+/// Why a byte is refused: no token goes on so, an identifier becomes too long, a number too large, or a literal has a
+/// size or a value out of range.
 #[derive(Clone, Copy)]
 pub enum LexFault {
     Unexpected,
     LongName,
-    OutOfRange,
+    LargeNumber,
+    WrongLiteral,
 }
 
 fn is_space(c: u8) -> bool
@@ -244,7 +246,7 @@ fn sized(n: SmallNumber) -> Result<Scanner, LexFault>
 {
     match Bits::try_new(n.value, 0) {
         Some(size) => Ok(Scanner::Quoted(size)),
-        None => Err(LexFault::OutOfRange),
+        None => Err(LexFault::WrongLiteral),
     }
 }
 
@@ -256,7 +258,7 @@ fn lex_number(long: bool, n: SmallNumber, c: u8, most: u8) -> Result<Read, LexFa
 {
     if is_digit(c) {
         if n.value > 6 || n.value * 10 + (c - b'0') > most {
-            return Err(LexFault::OutOfRange);
+            return Err(LexFault::LargeNumber);
         }
         let value = n.value * 10 + (c - b'0');
         Ok(silent(Scanner::InNumber(true, SmallNumber { value })))
@@ -274,14 +276,14 @@ fn pushed(base: Base, size: u8, value: u64, c: u8) -> Result<Scanner, LexFault>
     ensures { Begins 63 64 (Some (InDigits size base (value * radix base + digit_value c))) result }
 {
     let Some(shifted) = value.checked_mul(u64::from(radix(base))) else {
-        return Err(LexFault::OutOfRange);
+        return Err(LexFault::WrongLiteral);
     };
     let Some(value) = shifted.checked_add(u64::from(digit_value(base, c))) else {
-        return Err(LexFault::OutOfRange);
+        return Err(LexFault::WrongLiteral);
     };
     match Bits::try_new(size, value) {
         Some(bits) => Ok(Scanner::InDigits(base, bits)),
-        None => Err(LexFault::OutOfRange),
+        None => Err(LexFault::WrongLiteral),
     }
 }
 

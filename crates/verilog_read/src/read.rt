@@ -15,6 +15,7 @@ use crate::lexemes::Lexeme;
 use crate::lexer::{LexFault, Read, Scanner, last, lex};
 use crate::places::{ItemSpot, Outer, ParseFault, Place};
 use crate::takes::{is_live, takes, takes_number};
+use crate::words::expected_at;
 use std::alloc::Global;
 use verilog_tree::{Module, Within};
 
@@ -135,8 +136,27 @@ fn step_byte(
     match scan(&place, outer, lexer, c) {
         Ok(read) => read_on(alloc, outer, place, &lexer, read),
         Err(LexFault::Unexpected) => stuck(alloc, outer, place, lexer),
-        Err(LexFault::LongName) => Err(ByteFault::LongName),
-        Err(LexFault::OutOfRange) => Err(ByteFault::OutOfRange),
+        Err(LexFault::LongName) => {
+            if expected_at(&place, outer).names {
+                Err(ByteFault::LongName)
+            } else {
+                Err(ByteFault::Unexpected)
+            }
+        }
+        Err(LexFault::LargeNumber) => {
+            if takes_number(&place, outer, true, 0) || expected_at(&place, outer).literals {
+                Err(ByteFault::OutOfRange)
+            } else {
+                Err(ByteFault::Unexpected)
+            }
+        }
+        Err(LexFault::WrongLiteral) => {
+            if expected_at(&place, outer).literals {
+                Err(ByteFault::OutOfRange)
+            } else {
+                Err(ByteFault::Unexpected)
+            }
+        }
     }
 }
 
