@@ -30,3 +30,5 @@ mod verilog_cycle_rows;
 mod verilog_emit_rows;
 #[cfg(test)]
 mod verilog_rules;
+#[cfg(test)]
+mod verilog_text_rows;
