@@ -37,7 +37,7 @@ pub reports_one : (march : List MarchElement) (memory : Option Description) (pri
 reports_one march memory prims b c bytes other line said h i =
     let status = ap found_status (found_one march prims b c h.found i.found) in
     let lines : line ≡ said = h.last ∙ ap (total_line (length prims)) (detects_one march prims h.covered i.covered h.detects i.detects) ∙ sym i.last in
-    λ j. record { status = status j; line = lines j; }
+    λ j. record { status = status j; line = lines j }
 
 pub judge_one : (march : List MarchElement) (prims : List Primitive) → HasOneAnswer (LeavesJudge march prims)
 unfolding LeavesJudge

@@ -57,11 +57,7 @@ fn module_text(alloc: Global, march: &March, memory: &Memory) -> Result<Vec<u8>,
 }
 
 /// The files of the module and of the report.
-fn compile_outputs(
-    alloc: Global,
-    text: Vec<u8>,
-    report: Vec<u8>,
-) -> Result<Vec<Output>, NoMemory>
+fn compile_outputs(alloc: Global, text: Vec<u8>, report: Vec<u8>) -> Result<Vec<Output>, NoMemory>
     ensures { IfOk result (λ outputs. map written_of outputs.items ≡ (record { position = 4; bytes = text.items }) ∷ (record { position = 5; bytes = report.items }) ∷ []) }
 {
     let first = Output {
@@ -76,12 +72,7 @@ fn compile_outputs(
 }
 
 /// The module and the report as a plan.
-fn compiled(
-    alloc: Global,
-    march: &March,
-    memory: &Memory,
-    prims: &[Prim],
-) -> Result<Plan, NoMemory>
+fn compiled(alloc: Global, march: &March, memory: &Memory, prims: &[Prim]) -> Result<Plan, NoMemory>
     ensures { IfOk result (λ plan. IsCompiled march.now memory.now prims.now (done_of plan)) }
 {
     let text = module_text(alloc, march, memory)?;

@@ -609,7 +609,9 @@ fn a_compilation(rt: HostRuntime) -> Result<(), Fail> {
     assert_eq!(rt; host.said(), b"total 2 covered 2 escapes 0\n".as_slice());
     assert_eq!(rt; host.get("r").ok_or("a report")?, COMPILED_REPORT);
     let module = host.get("v").ok_or("a module")?;
-    assert!(rt; module.starts_with(b"module buf0_bist(\n  input clk,\n  input reset,\n  input rdata,\n"));
+    assert!(rt;
+        module.starts_with(b"module buf0_bist(\n  input clk,\n  input reset,\n  input rdata,\n")
+    );
     assert!(rt; module.ends_with(b"endmodule\n"));
     Ok(())
 }

@@ -1,11 +1,9 @@
-//! Tests of the libraries through their public calls. They stand in a crate of their own above all of them, since
-//! a crate that has tests is proved once more with them.
+//! Tests of the libraries through their public calls. They stand in crates of their own above all of them, since a
+//! crate that has tests is proved once more with them; those on Verilog stand in `verilog_tests`.
 #![tactic(auto)]
 
 #[cfg(test)]
 mod calls;
-#[cfg(test)]
-mod controller_rows;
 #[cfg(test)]
 mod fault_texts;
 #[cfg(test)]
@@ -21,14 +19,4 @@ mod pause_texts;
 #[cfg(test)]
 mod retention_rows;
 #[cfg(test)]
-mod self_test_rows;
-#[cfg(test)]
 mod small_arrays;
-#[cfg(test)]
-mod verilog_cycle_rows;
-#[cfg(test)]
-mod verilog_emit_rows;
-#[cfg(test)]
-mod verilog_rules;
-#[cfg(test)]
-mod verilog_text_rows;

@@ -31,7 +31,7 @@ next_arm w ns choices i a ls rs all more bs lt is le d e so ds =
     let b : BranchRun = record { labels = ls; run = run_all rs } in
     subst (λ (l : List BranchRun). DoesArms w ns (arms (map plain_arm choices)) l) (grown all more b bs e)
     (so (b ∷ bs) (subst (λ (l : List Arm). DoesArms w ns (arms (map plain_arm l)) (b ∷ bs)) (sym (next_of choices i a lt is))
-        (arm_does w ns (plain_arm a).labels (plain_arm a).body (arms (map plain_arm (drop (i + 1) choices))) b rs bs le refl d ds)))
+    (arm_does w ns (plain_arm a).labels (plain_arm a).body (arms (map plain_arm (drop (i + 1) choices))) b rs bs le refl d ds)))
 
 pub last_arm : (w : List ℕ → ℕ) (ns : List (List ℕ)) (choices : List Arm) (i : ℕ) (all : List BranchRun) → length choices ≤ i → ((bs : List BranchRun) → DoesArms w ns (arms (map plain_arm (drop i choices))) bs → DoesArms w ns (arms (map plain_arm choices)) (all ++ bs)) → DoesArms w ns (arms (map plain_arm choices)) all
 last_arm w ns choices i all le so =

@@ -14,9 +14,10 @@ use Rattle.verilog_cycle.specs.Design.{names, registers_of, inputs_of, outputs_o
 
 pub one_answer : (mo : ModuleTree) (registers inputs outs after other later : List ℕ) → Cycle mo registers inputs outs after → Cycle mo registers inputs other later → (outs ≡ other) × (after ≡ later)
 one_answer mo registers inputs outs after other later c d =
-    let same : d.one.env ≡ c.one.env = λ i n. c.one.only d.one.env d.one.settles n i in
-    (c.shown ∙ ap (λ (e : Env). map (λ d. e d.name) (outputs_of mo)) (sym same) ∙ sym d.shown,
-        c.left ∙ ap (λ (e : Env). map (λ d. next mo e d.name) (registers_of mo)) (sym same) ∙ sym d.left)
+    let same : d.one.env ≡ c.one.env = λ i n. c.one.only d.one.env d.one.settles n i in (
+      c.shown ∙ ap (λ (e : Env). map (λ d. e d.name) (outputs_of mo)) (sym same) ∙ sym d.shown,
+      c.left ∙ ap (λ (e : Env). map (λ d. next mo e d.name) (registers_of mo)) (sym same) ∙ sym d.left,
+    )
 
 flipped : (one other : ModuleTree) → Reordered one other → Reordered other one
 flipped one other r = record {
@@ -31,7 +32,7 @@ reordered_cycle one other h g r registers inputs outs after c =
     let there = means_the_same one other h g r in
     let back = means_the_same other one g h (flipped one other r) in
     let same : declarations one.ports one.items ≡ declarations other.ports other.items =
-        ap (λ ps. port_declarations ps ++ item_declarations one.items) r.ports ∙ ap (λ (l : List Declaration). port_declarations other.ports ++ l) r.declared in
+    ap (λ ps. port_declarations ps ++ item_declarations one.items) r.ports ∙ ap (λ (l : List Declaration). port_declarations other.ports ++ l) r.declared in
     let rs : registers_of one ≡ registers_of other = ap (filter (λ (d : Declaration). is_register d.kind)) same in
     let is : inputs_of one ≡ inputs_of other = ap (filter (λ (d : Declaration). is_input d.kind && not (is_clk d.name))) same in
     let os : outputs_of one ≡ outputs_of other = ap (λ ps. filter (λ (d : Declaration). not (is_input d.kind)) (port_declarations ps)) r.ports in

@@ -67,7 +67,7 @@ pub holds_new : (mo : ModuleTree) (ns : List (List ℕ)) (values next shown : Li
 holds_new mo ns values next shown a b c ev en es ea eb ec =
     subst (λ (l : List ℕ). Holds mo ns l next shown) (sym ev)
     (subst (λ (l : List ℕ). Holds mo ns (replicate a 0) l shown) (sym en)
-        (subst (λ (l : List ℕ). Holds mo ns (replicate a 0) (replicate b 0) l) (sym es) (holds_zeros mo ns a b c ea eb ec)))
+    (subst (λ (l : List ℕ). Holds mo ns (replicate a 0) (replicate b 0) l) (sym es) (holds_zeros mo ns a b c ea eb ec)))
 
 pub places_are : (mo : ModuleTree) (ns ps : List (List ℕ)) (rs is : List Declaration) → ps ≡ (names rs ++ names is) ++ ns → rs ≡ registers_of mo → is ≡ inputs_of mo → ps ≡ places mo ns
 places_are mo ns ps rs is ep er ei = ep ∙ ap (λ (l : List Declaration). (names l ++ names is) ++ ns) er ∙ ap (λ (l : List Declaration). (names (registers_of mo) ++ names l) ++ ns) ei

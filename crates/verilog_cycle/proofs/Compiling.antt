@@ -286,12 +286,12 @@ joined_value a b p q h k n =
     let small : b < 2 ^ 64 = omega (arith, j, top) in
     elim (cases_lt q 64) [
       | inl lt ↦
-        ap (λ (t : Bool). (cond t (a * 2 ^ q % 2 ^ 64) 0 + b) % 2 ^ 64) (is_less q 64 lt)
-        ∙ ap (λ (v : ℕ). (v + b) % 2 ^ 64) (mod-eq_of_lt high)
-        ∙ mod-eq_of_lt low
+          ap (λ (t : Bool). (cond t (a * 2 ^ q % 2 ^ 64) 0 + b) % 2 ^ 64) (is_less q 64 lt)
+          ∙ ap (λ (v : ℕ). (v + b) % 2 ^ 64) (mod-eq_of_lt high)
+          ∙ mod-eq_of_lt low
       | inr ge ↦
-        let z = no_bits a p (omega arith) h in
-        ap (λ (v : ℕ). (raised v q + b) % 2 ^ 64) z ∙ moved_nothing (nat_lt q 64) b q small ∙ sym (ap (λ (v : ℕ). v * 2 ^ q + b) z)
+          let z = no_bits a p (omega arith) h in
+          ap (λ (v : ℕ). (raised v q + b) % 2 ^ 64) z ∙ moved_nothing (nat_lt q 64) b q small ∙ sym (ap (λ (v : ℕ). v * 2 ^ q + b) z)
     ]
 
 -- the code of the part, where nothing is behind it
@@ -343,6 +343,5 @@ concatenation_compiles w ns xs k c g = record {
   gives = λ nw f h.
       let h' = two (parts_widths w xs) (too_wide (widths w xs)) h in
       let j = g.gives nw ((and_parts (has_expression xs) (expressions_formed xs) f).1) h'.0 (not_too_wide (widths w xs) h'.1) in
-      record { width = j.width; value = j.value }
-  ;
+      record { width = j.width; value = j.value };
 }

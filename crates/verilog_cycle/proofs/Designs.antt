@@ -59,7 +59,7 @@ pub shown_of : (d : Inside) (v : DesignView) (xs after : List ℕ) → IsDesign 
 shown_of d v xs after i e f ea =
     let n = count_of d i in
     let r = ran (tree_of d) (plain_names d.nets.items) (map declaration d.registers.items) (map declaration d.inputs.items) (codes_of d) (runs_of d) d.outputs.items d.values.items d.next.items d.shown.items xs after i.0 i.1 (inputs_fit d v xs e f)
-        (ea ∙ ap (λ (k : ℕ). settled (k + length xs) (codes_of d) (put_all k xs d.values.items)) n) in
+    (ea ∙ ap (λ (k : ℕ). settled (k + length xs) (codes_of d) (put_all k xs d.values.items)) n) in
     let regs : take (length (registers_of (tree_of d))) d.values.items ≡ v.registers = ap (λ (k : ℕ). take k d.values.items) (sym n) ∙ ap (λ (v : DesignView). v.registers) e in
     record {
       cycle = subst (λ (m : Module). Cycle (plain_module m) v.registers xs (map (λ k. at after k) d.outputs.items) (run_blocks (runs_of d) after v.registers)) (ap (λ (v : DesignView). v.tree) e)
@@ -107,8 +107,8 @@ stepped_of d v xs after stepped next i e s es en =
     let room = (has_values d i) in
     let short : length (take (length d.next.items) after) ≡ length d.next.items = length-take (length d.next.items) after ∙ (let q : min (length d.next.items) (length after) ≡ length d.next.items = omega (arith, room, long, ln) in q) in
     let old : put_all 0 (take (length d.next.items) after) d.next.items ≡ v.registers =
-        put_whole (take (length d.next.items) after) d.next.items short
-        ∙ ap (λ (k : ℕ). take k after) (ln ∙ sym n) ∙ s.kept in
+    put_whole (take (length d.next.items) after) d.next.items short
+    ∙ ap (λ (k : ℕ). take k after) (ln ∙ sym n) ∙ s.kept in
     let x : List ℕ = run_blocks (runs_of d) after v.registers in
     let is : stepped ≡ put_all 0 x after = es ∙ ap (λ (l : List ℕ). put_all 0 (run_blocks (runs_of d) after l) after) old in
     let f = set_front (tree_of d) (plain_names d.nets.items) after d.next.items d.shown.items x h s.fits in

@@ -164,18 +164,18 @@ cycle_of mo f h ns nets cs steps blocks db outs eo registers inputs rest after f
     let d = distinct_of (λ d. is_register d.kind) ds (fresh_apart [] ds (lawful_module mo f h).fresh) in
     let within : Within w ps after = λ m. subst (λ (e : Env). e m < 2 ^ w m) (sym c.is) (narrowed (is_clk m) (env m) (w m) (c.one.settles.within m)) in
     let olds : registers ≡ map env rs =
-        sym (named_values rs registers d (fit_length (registers_of mo) registers fr))
-        ∙ map_on (valued rs registers) env rs (λ n a. sym (given_register (valued rs registers) (valued (names (inputs_of mo)) inputs) env ds n c.one.settles.given a)) in
+    sym (named_values rs registers d (fit_length (registers_of mo) registers fr))
+    ∙ map_on (valued rs registers) env rs (λ n a. sym (given_register (valued rs registers) (valued (names (inputs_of mo)) inputs) env ds n c.one.settles.given a)) in
     record {
       one = c.one;
       shown = ap (map (λ k. get_or after k 0)) eo ∙ at_numbers ps after (names (outputs_of mo)) ∙ ap (λ (e : Env). map e (names (outputs_of mo))) c.is ∙ of_names env (outputs_of mo);
       left =
-        db.does (names_narrow mo f) (wide_blocks mo f h) after within registers
-        ∙ ap (λ (e : Env). written ps (block_sets w e mo.items) registers) c.is
-        ∙ ap (written ps (block_sets w env mo.items)) olds
-        ∙ ap (λ (l : List (List ℕ)). written l (block_sets w env mo.items) (map env rs)) (append_assoc rs (names (inputs_of mo)) ns)
-        ∙ write_all rs (names (inputs_of mo) ++ ns) d (block_sets w env mo.items) env
-        ∙ of_names (next mo env) (registers_of mo);
+          db.does (names_narrow mo f) (wide_blocks mo f h) after within registers
+          ∙ ap (λ (e : Env). written ps (block_sets w e mo.items) registers) c.is
+          ∙ ap (written ps (block_sets w env mo.items)) olds
+          ∙ ap (λ (l : List (List ℕ)). written l (block_sets w env mo.items) (map env rs)) (append_assoc rs (names (inputs_of mo)) ns)
+          ∙ write_all rs (names (inputs_of mo) ++ ns) d (block_sets w env mo.items) env
+          ∙ of_names (next mo env) (registers_of mo);
     }
 
 -- one more block

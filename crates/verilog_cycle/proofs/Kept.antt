@@ -108,7 +108,7 @@ left_fits mo f h registers inputs outs after c =
     let all = blocks_fit w env within mo.items (wide_blocks mo f h) in
     subst (Fit (registers_of mo)) (sym c.left)
     (fit_of (λ d. is_register d.kind) (next mo env) ds (fresh_apart [] ds (lawful_module mo f h).fresh)
-        (λ n d l. subst (λ (k : ℕ). next mo env n < 2 ^ k) (ap declared_width l) (last_fits w n (block_sets w env mo.items) (env n) all (within n))))
+    (λ n d l. subst (λ (k : ℕ). next mo env n < 2 ^ k) (ap declared_width l) (last_fits w n (block_sets w env mo.items) (env n) all (within n))))
 
 -- values put in the middle
 put_at : (a : List ℕ) (y : ℕ) (b : List ℕ) (x : ℕ) → put (a ++ y ∷ b) (length a) x ≡ a ++ x ∷ b
@@ -170,25 +170,25 @@ ran mo ns rs is cs blocks outs values next shown inputs after b h fi ea =
     let lb : length (take k (drop r values)) ≡ k = length-take k (drop r values) ∙ (let e : min k (length (drop r values)) ≡ k = (let d = length-drop r values in omega (arith, q0, d)) in e) in
     let lc : length rest ≡ length ns = (let d = length-drop r values in let d2 = length-drop k (drop r values) in omega (arith, q0, d, d2)) in
     let put : put_all r inputs values ≡ (regs ++ inputs) ++ rest =
-        ap (put_all r inputs) (sym (parted values r k))
-        ∙ ap (λ (j : ℕ). put_all j inputs (regs ++ (take k (drop r values) ++ rest))) (sym la)
-        ∙ put_middle regs (take k (drop r values)) rest inputs lb
-        ∙ sym (append_assoc regs inputs rest) in
+    ap (put_all r inputs) (sym (parted values r k))
+    ∙ ap (λ (j : ℕ). put_all j inputs (regs ++ (take k (drop r values) ++ rest))) (sym la)
+    ∙ put_middle regs (take k (drop r values)) rest inputs lb
+    ∙ sym (append_assoc regs inputs rest) in
     let first : r + k ≡ length (names (registers_of mo) ++ names (inputs_of mo)) =
-        (let l1 = length-append (names (registers_of mo)) (names (inputs_of mo)) in
-        let lr = length-map (registers_of mo) (λ d. d.name) in
-        let ln = length-map (inputs_of mo) (λ d. d.name) in omega (arith, l1, lr, ln, q2)) in
+    (let l1 = length-append (names (registers_of mo)) (names (inputs_of mo)) in
+    let lr = length-map (registers_of mo) (λ d. d.name) in
+    let ln = length-map (inputs_of mo) (λ d. d.name) in omega (arith, l1, lr, ln, q2)) in
     let is_after : after ≡ settled (length (names (registers_of mo) ++ names (inputs_of mo))) cs ((regs ++ inputs) ++ rest) =
-        ea ∙ ap (λ (l : List ℕ). settled (r + k) cs l) put ∙ ap (λ (j : ℕ). settled j cs ((regs ++ inputs) ++ rest)) first in
+    ea ∙ ap (λ (l : List ℕ). settled (r + k) cs l) put ∙ ap (λ (j : ℕ). settled j cs ((regs ++ inputs) ++ rest)) first in
     let cycle = cycle_of mo b.well_formed b.legal ns b.nets cs b.steps blocks b.does outs b.outs_are regs inputs rest after h.fits fi lc is_after in
     record {
       cycle = cycle;
       kept =
-        ap (take r) (ea ∙ ap (λ (l : List ℕ). settled (r + k) cs l) put)
-        ∙ settled_keeps (r + k) r cs ((regs ++ inputs) ++ rest) (omega arith)
-        ∙ ap (take r) (append_assoc regs inputs rest)
-        ∙ ap (λ (j : ℕ). take j (regs ++ (inputs ++ rest))) (sym la)
-        ∙ take-append_seam regs (inputs ++ rest);
+          ap (take r) (ea ∙ ap (λ (l : List ℕ). settled (r + k) cs l) put)
+          ∙ settled_keeps (r + k) r cs ((regs ++ inputs) ++ rest) (omega arith)
+          ∙ ap (take r) (append_assoc regs inputs rest)
+          ∙ ap (λ (j : ℕ). take j (regs ++ (inputs ++ rest))) (sym la)
+          ∙ take-append_seam regs (inputs ++ rest);
       long = ap length ea ∙ settled_length (r + k) cs (put_all r inputs values) ∙ length_put_all r inputs values;
       fits = left_fits mo b.well_formed b.legal regs inputs (map (λ k. at after k) outs) (run_blocks blocks after regs) cycle;
     }
@@ -213,13 +213,17 @@ set_front mo ns values next shown xs h fx =
     let l2 = length-append (names (registers_of mo) ++ names (inputs_of mo)) ns in
     let le : length xs ≤ length values = omega (arith, n, room, l1, l2, lr) in
     let front : take r (put_all 0 xs values) ≡ xs =
-        ap (take r) (put_front xs values le) ∙ ap (λ (j : ℕ). take j (xs ++ drop (length xs) values)) (sym n) ∙ take-append_seam xs (drop (length xs) values) in
-    (n, le, front, record {
-      fits = subst (Fit (registers_of mo)) (sym front) fx;
-      room = length_put_all 0 xs values ∙ room;
-      next_room = h.next_room;
-      shown_room = h.shown_room;
-    })
+    ap (take r) (put_front xs values le) ∙ ap (λ (j : ℕ). take j (xs ++ drop (length xs) values)) (sym n) ∙ take-append_seam xs (drop (length xs) values) in (
+      n,
+      le,
+      front,
+      record {
+        fits = subst (Fit (registers_of mo)) (sym front) fx;
+        room = length_put_all 0 xs values ∙ room;
+        next_room = h.next_room;
+        shown_room = h.shown_room;
+      },
+    )
 
 -- there is room for a cycle
 pub record HasRoom (registers inputs steps values outs shown next : ℕ) : Type 0 where

@@ -30,7 +30,7 @@ use Rattle.verilog_cycle.proofs.Walk.{same, itself as walk_itself, in_left, in_r
 pub not_a_wire : (ns : List (List ℕ)) (xs : List Declared) (n : ℕ) (d : Declared) → n < length xs → d ≡ get_or xs n d → is_wire d.kind ≡ false → ns ≡ ns ++ wire_named (slice_get (map declaration xs) n)
 not_a_wire ns xs n d lt is k =
     let found : slice_get (map declaration xs) n ≡ Some (declaration d) =
-        slice_get-map declaration xs n ∙ ap (option_map declaration) (slice_get-get_or xs n d lt ∙ ap Some (sym is)) in
+    slice_get-map declaration xs n ∙ ap (option_map declaration) (slice_get-get_or xs n d lt ∙ ap Some (sym is)) in
     sym (ap (λ o. ns ++ wire_named o) found ∙ ap (λ (t : Bool). ns ++ cond t (d.name.bytes ∷ []) []) k ∙ append-nil ns)
 
 pub nothing_there : (ns : List (List ℕ)) (xs : List Declared) (n : ℕ) → length xs ≤ n → ns ≡ ns ++ wire_named (slice_get (map declaration xs) n)
@@ -42,9 +42,10 @@ nothing_there ns xs n le =
 apart_at : (ds : List Declaration) (k : ℕ) (d : Declaration) → Apart ds → slice_get ds k ≡ Some d → (lookup ds d.name ≡ Some d) × (number (names ds) d.name ≡ k)
 apart_at [] k d a h = cc
 apart_at (e ∷ ds) zero d a h =
-    let i : e ≡ d = cc in
-    (subst (λ (x : Declaration). cond (bytes_eq x.name e.name) (Some e) (lookup ds x.name) ≡ Some x) i (ap (λ (t : Bool). cond t (Some e) (lookup ds e.name)) (itself e.name)),
-    subst (λ (x : Declaration). cond (bytes_eq x.name e.name) 0 (1 + number (names ds) x.name) ≡ 0) i (ap (λ (t : Bool). cond t 0 (1 + number (names ds) e.name)) (itself e.name)))
+    let i : e ≡ d = cc in (
+      subst (λ (x : Declaration). cond (bytes_eq x.name e.name) (Some e) (lookup ds x.name) ≡ Some x) i (ap (λ (t : Bool). cond t (Some e) (lookup ds e.name)) (itself e.name)),
+      subst (λ (x : Declaration). cond (bytes_eq x.name e.name) 0 (1 + number (names ds) x.name) ≡ 0) i (ap (λ (t : Bool). cond t 0 (1 + number (names ds) e.name)) (itself e.name)),
+    )
 apart_at (e ∷ ds) (suc k) d a h = by_test (bytes_eq d.name e.name) (same_name d.name e.name) (apart_at ds k d a.1 h)
   where
     by_test : (t : Bool) → (t ≡ true → d.name ≡ e.name) → (lookup ds d.name ≡ Some d) × (number (names ds) d.name ≡ k) → (cond t (Some e) (lookup ds d.name) ≡ Some d) × (cond t 0 (1 + number (names ds) d.name) ≡ suc k)

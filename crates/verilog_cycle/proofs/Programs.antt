@@ -41,7 +41,7 @@ pub always_next : (w : List ℕ → ℕ) (ps : List (List ℕ)) (items : List It
 always_next w ps items i item c ss rs all more bs lt at is d e so rest =
     subst (λ (l : List (List Run)). Blocks w ps items l) (grown all more rs bs e)
     (so (rs ∷ bs) (subst (λ (l : List Item). Blocks w ps l (rs ∷ bs)) (sym (next_of items i item lt at))
-        (subst (λ (j : ModuleItem). DoesBlocks w ps (j ∷ map plain_item (drop (i + 1) items)) (rs ∷ bs)) (sym is) (next_block w ps c ss (map plain_item (drop (i + 1) items)) rs bs d rest))))
+    (subst (λ (j : ModuleItem). DoesBlocks w ps (j ∷ map plain_item (drop (i + 1) items)) (rs ∷ bs)) (sym is) (next_block w ps c ss (map plain_item (drop (i + 1) items)) rs bs d rest))))
 
 pub other_next : (w : List ℕ → ℕ) (ps : List (List ℕ)) (items : List Item) (i : ℕ) (item : Item) (all bs : List (List Run)) → i < length items → item ≡ get_or items i item → ((js : List ModuleItem) (bs : List (List Run)) → DoesBlocks w ps js bs → DoesBlocks w ps (plain_item item ∷ js) bs) →
     ((bs : List (List Run)) → Blocks w ps (drop i items) bs → Blocks w ps items (all ++ bs)) → Blocks w ps (drop (i + 1) items) bs → Blocks w ps items (all ++ bs)

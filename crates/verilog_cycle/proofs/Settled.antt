@@ -92,23 +92,23 @@ agree w ds is ps env nw clean equations fits b (n ∷ ns) (c ∷ cs) vs dr e h s
     let k = length b in
     let used : (r : List ℕ) → Uses r x → valued ps vs r ≡ env r = λ r u. before r (h.1 r (leads_of is n r x y.1 u)) in
     let got : meaning vs c ≡ env n =
-        ((s.0.coded x y.1).compiles.gives nw ok.0 ok.1).value vs (λ r u. subst (λ (v : ℕ). v < 2 ^ w r) (sym (used r u)) (fits r))
-        ∙ same_value w (valued ps vs) env x used
-        ∙ sym (equation_of w env is n x equations y.1) in
+    ((s.0.coded x y.1).compiles.gives nw ok.0 ok.1).value vs (λ r u. subst (λ (v : ℕ). v < 2 ^ w r) (sym (used r u)) (fits r))
+    ∙ same_value w (valued ps vs) env x used
+    ∙ sym (equation_of w env is n x equations y.1) in
     let at : number ps n ≡ k = ap (λ (p : List (List ℕ)). number p n) e ∙ number_at b ns n h.0 in
     let long : length ps ≡ k + suc (length ns) = ap length e ∙ length-append b (n ∷ ns) in
     let room : k < length vs = omega (arith, len, long) in
     let vs' = put vs k (meaning vs c) in
     let here : valued ps vs' n ≡ env n = ap (λ (j : ℕ). get_or vs' j 0) at ∙ put_here vs k (meaning vs c) room ∙ got in
     let earlier : (r : List ℕ) → is_among r b ≡ true → valued ps vs' r ≡ env r = λ r g.
-        let left = number_left b (n ∷ ns) r g in
-        let place : number ps r ≡ number b r = ap (λ (p : List (List ℕ)). number p r) e ∙ left.0 in
-        let low = left.1 in
-        let other : number ps r ≢ k = λ z. absurd (omega (arith, place, low, z)) in
-        put_there vs k (number ps r) (meaning vs c) other ∙ before r g in
+    let left = number_left b (n ∷ ns) r g in
+    let place : number ps r ≡ number b r = ap (λ (p : List (List ℕ)). number p r) e ∙ left.0 in
+    let low = left.1 in
+    let other : number ps r ≢ k = λ z. absurd (omega (arith, place, low, z)) in
+    put_there vs k (number ps r) (meaning vs c) other ∙ before r g in
     subst (λ (j : ℕ). valued ps (settled j cs vs') m ≡ env m) (one_longer b n)
     (agree w ds is ps env nw clean equations fits (b ++ n ∷ []) ns cs vs' (λ r g. dr r (or_right (bytes_eq r n) (is_among r ns) g)) (e ∙ sym (shifted b ns n)) h.2 s.1 (length_put vs k (meaning vs c) ∙ len)
-        (λ r g. by_part r (among_one b n r g) here (earlier r)) m a)
+    (λ r g. by_part r (among_one b n r g) here (earlier r)) m a)
   where
     by_part : (r : List ℕ) → (is_among r b ≡ true) ⊎ (r ≡ n) → valued ps (put vs (length b) (meaning vs c)) n ≡ env n → (is_among r b ≡ true → valued ps (put vs (length b) (meaning vs c)) r ≡ env r) → valued ps (put vs (length b) (meaning vs c)) r ≡ env r
     by_part r (inl g) here earlier = earlier g
@@ -287,11 +287,11 @@ computed mo f h ns nets cs steps registers inputs rest fr fi lr =
     let len : length vs ≡ length ps = omega (arith, la, lb, l1, l2, l3, l4, lr) in
     let front : length (registers ++ inputs) ≡ length (rs ++ is) = omega (arith, la, lb, l1, l3) in
     let begins : (m : List ℕ) → is_among m (rs ++ is) ≡ true → valued ps vs m ≡ one.env m = λ m g.
-        let left = number_left (rs ++ is) ns m g in
-        let low = left.1 in
-        ap (λ (j : ℕ). get_or vs j 0) left.0
-        ∙ get_or_append_left (registers ++ inputs) rest 0 (number (rs ++ is) m) (omega (arith, low, front))
-        ∙ start_value rs is registers inputs one.env la (λ m. given_register regs ins one.env ds m one.settles.given) (λ m. given_input regs ins one.env ds m one.settles.given) m (is_among m rs) refl (sym (among_append rs is m) ∙ g) in
+    let left = number_left (rs ++ is) ns m g in
+    let low = left.1 in
+    ap (λ (j : ℕ). get_or vs j 0) left.0
+    ∙ get_or_append_left (registers ++ inputs) rest 0 (number (rs ++ is) m) (omega (arith, low, front))
+    ∙ start_value rs is registers inputs one.env la (λ m. given_register regs ins one.env ds m one.settles.given) (λ m. given_input regs ins one.env ds m one.settles.given) m (is_among m rs) refl (sym (among_append rs is m) ∙ g) in
     let inner = agree w ds mo.items ps one.env (names_narrow mo f) lawful.clean one.settles.equations (λ n. narrowed (is_clk n) (one.env n) (w n) (one.settles.within n)) (rs ++ is) ns cs vs (λ n g. net_driven ds mo.items a lawful.driven n (sym (nets.all n) ∙ g)) refl nets.behind steps len begins in
     let after = settled (length (rs ++ is)) cs vs in
     let long : length after ≡ length ps = settled_length (length (rs ++ is)) cs vs ∙ len in

@@ -69,7 +69,11 @@ pub(crate) fn value(x: &Code, values: &[u64]) -> u64
 {
     match x {
         Code::PickNet(place, a, b) => {
-            if at(values, *place) != 0 { value(a, values) } else { value(b, values) }
+            if at(values, *place) != 0 {
+                value(a, values)
+            } else {
+                value(b, values)
+            }
         }
         Code::PickBit(place, bit, a, b) => {
             if lowered(at(values, *place), *bit as u64) & 1 != 0 {
@@ -107,7 +111,11 @@ fn operated(x: &Code, values: &[u64]) -> u64
 {
     match x {
         Code::Choose(c, a, b) => {
-            if quick(c, values) != 0 { value(a, values) } else { value(b, values) }
+            if quick(c, values) != 0 {
+                value(a, values)
+            } else {
+                value(b, values)
+            }
         }
         Code::Not(a) => (quick(a, values) == 0) as u64,
         Code::Invert(ones, a) => (*ones).saturating_sub(quick(a, values)),
@@ -132,7 +140,11 @@ fn operated(x: &Code, values: &[u64]) -> u64
         Code::Net(place) => at(values, *place),
         Code::Part(place, low, ones) => lowered(at(values, *place), *low as u64) & *ones,
         Code::PickNet(place, a, b) => {
-            if at(values, *place) != 0 { value(a, values) } else { value(b, values) }
+            if at(values, *place) != 0 {
+                value(a, values)
+            } else {
+                value(b, values)
+            }
         }
         Code::PickBit(place, bit, a, b) => {
             if lowered(at(values, *place), *bit as u64) & 1 != 0 {

@@ -30,7 +30,11 @@ fn boxed(alloc: Global, width: u64, code: Code) -> Result<Compiled, NoMemory>
 fn ones(width: u64) -> u64
     ensures { width ≤ 64 → result ≡ 2 ^ width - 1 }
 {
-    if width < 64 { (1u64 << width) - 1 } else { u64::MAX }
+    if width < 64 {
+        (1u64 << width) - 1
+    } else {
+        u64::MAX
+    }
 }
 
 fn unary_code(op: UnOp, ones: u64, a: Box<Code>) -> Code
@@ -179,14 +183,22 @@ fn binary_width(op: BinOp, left: u64) -> u64
 fn unary(alloc: Global, op: UnOp, a: Compiled) -> Result<Compiled, NoMemory>
     ensures { IfOk result (λ c. (w : List ℕ → ℕ) (ns : List (List ℕ)) (x : Expression) → Compiles w ns x a.width a.code.value → Compiles w ns (Prefixed op x) c.width c.code.value) }
 {
-    boxed(alloc, unary_width(op, a.width), unary_code(op, ones(a.width), a.code))
+    boxed(
+        alloc,
+        unary_width(op, a.width),
+        unary_code(op, ones(a.width), a.code),
+    )
 }
 
 #[tactic(auto, using(crate::proofs::Compiling::infixed_compiles))]
 fn binary(alloc: Global, op: BinOp, a: Compiled, b: Compiled) -> Result<Compiled, NoMemory>
     ensures { IfOk result (λ c. (w : List ℕ → ℕ) (ns : List (List ℕ)) (x y : Expression) → Compiles w ns x a.width a.code.value → Compiles w ns y b.width b.code.value → Compiles w ns (Infixed op x y) c.width c.code.value) }
 {
-    boxed(alloc, binary_width(op, a.width), binary_code(op, ones(a.width), a.code, b.code))
+    boxed(
+        alloc,
+        binary_width(op, a.width),
+        binary_code(op, ones(a.width), a.code, b.code),
+    )
 }
 
 #[tactic(auto, using(crate::proofs::Compiling::choice_compiles))]

@@ -76,7 +76,11 @@ fn row(alloc: Global, names: &[Name], items: &[Item], name: &Name) -> Result<Vec
 }
 
 /// What each of these names needs, by number.
-pub(crate) fn graph(alloc: Global, names: &[Name], items: &[Item]) -> Result<Vec<Vec<usize>>, NoMemory>
+pub(crate) fn graph(
+    alloc: Global,
+    names: &[Name],
+    items: &[Item],
+) -> Result<Vec<Vec<usize>>, NoMemory>
     ensures { IfOk result (λ all. plain_graph all.items ≡ net_graph (plain_names names.now) (map plain_item items.now)) }
 {
     let mut all = Vec::new(alloc);
@@ -100,7 +104,11 @@ fn push_wire(all: &mut Vec<Name>, declared: &[Declared], n: usize) -> Result<(),
 }
 
 /// The wires and plain outputs that have these numbers, in the order of the numbers.
-pub(crate) fn wires(alloc: Global, declared: &[Declared], order: &[usize]) -> Result<Vec<Name>, NoMemory>
+pub(crate) fn wires(
+    alloc: Global,
+    declared: &[Declared],
+    order: &[usize],
+) -> Result<Vec<Name>, NoMemory>
     ensures { IfOk result (λ all. plain_names all.items ≡ picked (map declaration declared.now) order.now) }
 {
     let mut all = Vec::new(alloc);
@@ -120,7 +128,11 @@ fn named(names: &[Name], n: usize) -> Name
 }
 
 /// The names that have these numbers.
-pub(crate) fn names_at(alloc: Global, names: &[Name], numbers: &[usize]) -> Result<Vec<Name>, NoMemory>
+pub(crate) fn names_at(
+    alloc: Global,
+    names: &[Name],
+    numbers: &[usize],
+) -> Result<Vec<Name>, NoMemory>
     ensures { IfOk result (λ all. plain_names all.items ≡ map (λ k. get_or (plain_names names.now) k []) numbers.now) }
 {
     let mut all = Vec::new(alloc);

@@ -45,7 +45,12 @@ fn push_step(all: &mut Vec<Box<Code>>, next: Box<Code>) -> Result<(), NoMemory>
 }
 
 /// The code of each net.
-pub(crate) fn steps(alloc: Global, scope: &Scope, items: &[Item], nets: &[Name]) -> Result<Vec<Box<Code>>, NoMemory>
+pub(crate) fn steps(
+    alloc: Global,
+    scope: &Scope,
+    items: &[Item],
+    nets: &[Name],
+) -> Result<Vec<Box<Code>>, NoMemory>
     ensures { IfOk result (λ all. AreSteps (scope_widths scope.now) (map plain_item items.now) (scope_places scope.now) (plain_names nets.now) (map (λ b. b.value) all.items)) }
 {
     let mut all = Vec::new(alloc);
@@ -73,7 +78,11 @@ fn body(item: &Item) -> Option<&[Stmt]>
 }
 
 /// What each block does.
-pub(crate) fn blocks(alloc: Global, scope: &Scope, items: &[Item]) -> Result<Vec<Vec<Action>>, NoMemory>
+pub(crate) fn blocks(
+    alloc: Global,
+    scope: &Scope,
+    items: &[Item],
+) -> Result<Vec<Vec<Action>>, NoMemory>
     ensures { IfOk result (λ all. DoesBlocks (scope_widths scope.now) (scope_places scope.now) (map plain_item items.now) (map (λ b. map action_run b.items) all.items)) }
 {
     let mut all = Vec::new(alloc);
@@ -94,7 +103,11 @@ fn push(list: &mut Vec<usize>, n: usize) -> Result<(), NoMemory>
 }
 
 /// The places of the output ports.
-pub(crate) fn outputs(alloc: Global, places: &[Name], ports: &[Port]) -> Result<Vec<usize>, NoMemory>
+pub(crate) fn outputs(
+    alloc: Global,
+    places: &[Name],
+    ports: &[Port],
+) -> Result<Vec<usize>, NoMemory>
     ensures { IfOk result (λ all. all.items ≡ map (number (plain_names places.now)) (names (filter (λ d. not (is_input d.kind)) (port_declarations (map plain_port ports.now))))) }
 {
     let mut all = Vec::new(alloc);
@@ -132,7 +145,12 @@ fn push_names(list: &mut Vec<Name>, more: &[Name]) -> Result<(), NoMemory>
 }
 
 /// The names whose values have places: the registers, the inputs, and the nets.
-pub(crate) fn places(alloc: Global, registers: &[Declared], inputs: &[Declared], nets: &[Name]) -> Result<Vec<Name>, NoMemory>
+pub(crate) fn places(
+    alloc: Global,
+    registers: &[Declared],
+    inputs: &[Declared],
+    nets: &[Name],
+) -> Result<Vec<Name>, NoMemory>
     ensures { IfOk result (λ all. plain_names all.items ≡ (names (map declaration registers.now) ++ names (map declaration inputs.now)) ++ plain_names nets.now) }
 {
     let mut all = Vec::new(alloc);

@@ -108,7 +108,11 @@ fn statement(alloc: Global, scope: &Scope, s: &Stmt) -> Result<Action, NoMemory>
 /// What statements do.
 #[cycle(statement)]
 #[tactic(auto, using(crate::proofs::Acting::none_do))]
-pub(crate) fn statements(alloc: Global, scope: &Scope, body: &[Stmt]) -> Result<Vec<Action>, NoMemory>
+pub(crate) fn statements(
+    alloc: Global,
+    scope: &Scope,
+    body: &[Stmt],
+) -> Result<Vec<Action>, NoMemory>
     ensures { IfOk result (λ all. DoesAll (scope_widths scope.now) (scope_places scope.now) (plain_stmts body.now) (map action_run all.items)) }
 {
     let mut all = Vec::new(alloc);

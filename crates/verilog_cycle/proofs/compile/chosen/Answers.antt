@@ -13,5 +13,5 @@ returns c =
     (λ (k : Compiled). (w : List ℕ → ℕ) (ns : List (List ℕ)) (x y z : Expression) → Compiles w ns x c.args.c.width c.args.c.code.value → Compiles w ns y c.args.a.width c.args.a.code.value → Compiles w ns z c.args.b.width c.args.b.code.value → Compiles w ns (Conditional x y z) k.width k.code.value)
     c.boxed.result
     (λ k h w ns x y z p a b. subst (λ (j : ℕ). Compiles w ns (Conditional x y z) j k.code.value) (sym h.0)
-        (choice_compiles w ns x y z c.args.c.width c.args.a.width c.args.b.width c.args.c.code.value c.args.a.code.value c.args.b.code.value k.code.value p a b (λ vs. ap (meaning vs) h.1 ∙ c.choice.ensures vs)))
+    (choice_compiles w ns x y z c.args.c.width c.args.a.width c.args.b.width c.args.c.code.value c.args.a.code.value c.args.b.code.value k.code.value p a b (λ vs. ap (meaning vs) h.1 ∙ c.choice.ensures vs)))
     c.boxed.ensures

@@ -16,5 +16,5 @@ returns c =
     (λ (k : Compiled). Compiles w ns (Literal c.args.literal.now) k.width k.code.value)
     c.boxed.result
     (λ k h. subst (λ (j : ℕ). Compiles w ns (Literal c.args.literal.now) j k.code.value) (sym (h.0 ∙ c.width.ensures.width))
-        (literal_compiles w ns c.args.literal.now k.code.value (λ vs. ap (meaning vs) h.1 ∙ c.literal_code.ensures vs ∙ c.value.ensures.value)))
+    (literal_compiles w ns c.args.literal.now k.code.value (λ vs. ap (meaning vs) h.1 ∙ c.literal_code.ensures vs ∙ c.value.ensures.value)))
     c.boxed.ensures

@@ -16,10 +16,10 @@ order-requires c =
     let mo = plain_module c.args.module.now in
     let ds = declarations mo.ports mo.items in
     let g : plain_graph c.deref-3.result.now ≡ net_graph (names ds) mo.items =
-        ap plain_graph c.deref-3.ensures.value ∙ c.in_ok-graph.ensures
-        ∙ ap (λ l. net_graph (plain_names l) (map plain_item c.deref-2.result.now)) c.deref.ensures.value
-        ∙ ap (λ l. net_graph (plain_names c.in_ok-names.names.items) (map plain_item l)) c.deref-2.ensures.value
-        ∙ ap (λ (l : List (List ℕ)). net_graph l mo.items) (c.in_ok-names.ensures ∙ ap names c.requires.all) in
+    ap plain_graph c.deref-3.ensures.value ∙ c.in_ok-graph.ensures
+    ∙ ap (λ l. net_graph (plain_names l) (map plain_item c.deref-2.result.now)) c.deref.ensures.value
+    ∙ ap (λ l. net_graph (plain_names c.in_ok-names.names.items) (map plain_item l)) c.deref-2.ensures.value
+    ∙ ap (λ (l : List (List ℕ)). net_graph l mo.items) (c.in_ok-names.ensures ∙ ap names c.requires.all) in
     subst Within (sym g) (graph_within (names ds) mo.items (declares_all mo c.requires.well_formed c.requires.legal))
 
 pub returns-in-Ok : goal.returns-in-Ok
@@ -27,10 +27,10 @@ returns-in-Ok c =
     let mo = plain_module c.args.module.now in
     let ds = declarations mo.ports mo.items in
     let g : plain_graph c.deref-3.result.now ≡ net_graph (names ds) mo.items =
-        ap plain_graph c.deref-3.ensures.value ∙ c.in_ok-graph.ensures
-        ∙ ap (λ l. net_graph (plain_names l) (map plain_item c.deref-2.result.now)) c.deref.ensures.value
-        ∙ ap (λ l. net_graph (plain_names c.in_ok-names.names.items) (map plain_item l)) c.deref-2.ensures.value
-        ∙ ap (λ (l : List (List ℕ)). net_graph l mo.items) (c.in_ok-names.ensures ∙ ap names c.requires.all) in
+    ap plain_graph c.deref-3.ensures.value ∙ c.in_ok-graph.ensures
+    ∙ ap (λ l. net_graph (plain_names l) (map plain_item c.deref-2.result.now)) c.deref.ensures.value
+    ∙ ap (λ l. net_graph (plain_names c.in_ok-names.names.items) (map plain_item l)) c.deref-2.ensures.value
+    ∙ ap (λ (l : List (List ℕ)). net_graph l mo.items) (c.in_ok-names.ensures ∙ ap names c.requires.all) in
     let o = subst (λ (h : List (List ℕ)). IsOrder h c.in-Ok.all.items) g c.in-Ok.ensures in
     subst (AreNets mo) (sym (c.in_ok-wires-in-Ok.ensures ∙ ap (λ l. picked l c.deref-in-Ok.result.now) c.requires.all ∙ ap (picked ds) c.deref-in-Ok.ensures.value))
     (order_nets mo c.requires.well_formed c.requires.legal c.in-Ok.all.items o)
@@ -40,13 +40,13 @@ returns-in-Err-Loop c =
     let mo = plain_module c.args.module.now in
     let ds = declarations mo.ports mo.items in
     let g : plain_graph c.deref-3.result.now ≡ net_graph (names ds) mo.items =
-        ap plain_graph c.deref-3.ensures.value ∙ c.in_ok-graph.ensures
-        ∙ ap (λ l. net_graph (plain_names l) (map plain_item c.deref-2.result.now)) c.deref.ensures.value
-        ∙ ap (λ l. net_graph (plain_names c.in_ok-names.names.items) (map plain_item l)) c.deref-2.ensures.value
-        ∙ ap (λ (l : List (List ℕ)). net_graph l mo.items) (c.in_ok-names.ensures ∙ ap names c.requires.all) in
+    ap plain_graph c.deref-3.ensures.value ∙ c.in_ok-graph.ensures
+    ∙ ap (λ l. net_graph (plain_names l) (map plain_item c.deref-2.result.now)) c.deref.ensures.value
+    ∙ ap (λ l. net_graph (plain_names c.in_ok-names.names.items) (map plain_item l)) c.deref-2.ensures.value
+    ∙ ap (λ (l : List (List ℕ)). net_graph l mo.items) (c.in_ok-names.ensures ∙ ap names c.requires.all) in
     let l : IsLoop (net_graph (names ds) mo.items) c.in-Err-Loop.numbers.items = subst (λ (h : List (List ℕ)). IsLoop h c.in-Err-Loop.numbers.items) g (rw c.in-Err-Loop.field-0-is at c.in-Err-Loop.ensures) in
     let e = c.in_ok-names_at-in-Err-Loop.ensures
-        ∙ ap (λ l. map (λ k. get_or (plain_names l) k []) c.deref-in-Err-Loop-2.result.now) c.deref-in-Err-Loop.ensures.value
-        ∙ ap (λ (l : List (List ℕ)). map (λ k. get_or l k []) c.deref-in-Err-Loop-2.result.now) (c.in_ok-names.ensures ∙ ap names c.requires.all)
-        ∙ ap (map (λ k. get_or (names ds) k [])) c.deref-in-Err-Loop-2.ensures.value in
+    ∙ ap (λ l. map (λ k. get_or (plain_names l) k []) c.deref-in-Err-Loop-2.result.now) c.deref-in-Err-Loop.ensures.value
+    ∙ ap (λ (l : List (List ℕ)). map (λ k. get_or l k []) c.deref-in-Err-Loop-2.result.now) (c.in_ok-names.ensures ∙ ap names c.requires.all)
+    ∙ ap (map (λ k. get_or (names ds) k [])) c.deref-in-Err-Loop-2.ensures.value in
     (c.requires.legal, subst (wires.IsLoop mo) (sym e) (loop_named mo (names ds) (declares_all mo c.requires.well_formed c.requires.legal) c.in-Err-Loop.numbers.items l))

@@ -22,15 +22,15 @@ invariant_of-result c =
     let is = map declaration c.in_ok-inputs.inputs.items in
     let ps = plain_names c.in_ok-places.places.items in
     let er : rs ≡ registers_of mo = c.in_ok-registers.ensures
-        ∙ ap (λ l. filter (λ (d : Declaration). is_register d.kind) (map declaration l)) c.deref.ensures.value
-        ∙ ap (filter (λ (d : Declaration). is_register d.kind)) c.requires.all in
+    ∙ ap (λ l. filter (λ (d : Declaration). is_register d.kind) (map declaration l)) c.deref.ensures.value
+    ∙ ap (filter (λ (d : Declaration). is_register d.kind)) c.requires.all in
     let ei : is ≡ inputs_of mo = c.in_ok-inputs.ensures
-        ∙ ap (λ l. filter (λ (d : Declaration). is_input d.kind && not (is_clk d.name)) (map declaration l)) c.deref-2.ensures.value
-        ∙ ap (filter (λ (d : Declaration). is_input d.kind && not (is_clk d.name))) c.requires.all in
+    ∙ ap (λ l. filter (λ (d : Declaration). is_input d.kind && not (is_clk d.name)) (map declaration l)) c.deref-2.ensures.value
+    ∙ ap (filter (λ (d : Declaration). is_input d.kind && not (is_clk d.name))) c.requires.all in
     let ep : ps ≡ (names rs ++ names is) ++ ns = c.in_ok-places.ensures
-        ∙ ap (λ l. (names (map declaration l) ++ names (map declaration c.deref-4.result.now)) ++ plain_names c.deref-5.result.now) c.deref-3.ensures.value
-        ∙ ap (λ l. (names rs ++ names (map declaration l)) ++ plain_names c.deref-5.result.now) c.deref-4.ensures.value
-        ∙ ap (λ l. (names rs ++ names is) ++ plain_names l) c.deref-5.ensures.value in
+    ∙ ap (λ l. (names (map declaration l) ++ names (map declaration c.deref-4.result.now)) ++ plain_names c.deref-5.result.now) c.deref-3.ensures.value
+    ∙ ap (λ l. (names rs ++ names (map declaration l)) ++ plain_names c.deref-5.result.now) c.deref-4.ensures.value
+    ∙ ap (λ l. (names rs ++ names is) ++ plain_names l) c.deref-5.ensures.value in
     let pl = places_are mo ns ps rs is ep er ei in
     let n1 = c.len.ensures in
     let n2 = c.len-2.ensures in
@@ -44,19 +44,20 @@ invariant_of-result c =
     let cs = map (λ b. b.value) c.in_ok-steps.steps.items in
     let runs = map (λ b. map action_run b.items) c.in_ok-blocks.blocks.items in
     let steps : AreSteps (width_of ds) mo.items ps ns cs =
-        subst (λ l. AreSteps (width_of ds) (map plain_item l) ps ns cs) c.deref-6.ensures.value
-        (subst (λ l. AreSteps (width_of ds) (map plain_item c.deref-6.result.now) ps (plain_names l) cs) c.deref-7.ensures.value c.in_ok-steps.ensures) in
+    subst (λ l. AreSteps (width_of ds) (map plain_item l) ps ns cs) c.deref-6.ensures.value
+    (subst (λ l. AreSteps (width_of ds) (map plain_item c.deref-6.result.now) ps (plain_names l) cs) c.deref-7.ensures.value c.in_ok-steps.ensures) in
     let does : DoesBlocks (width_of ds) ps mo.items runs = subst (λ l. DoesBlocks (width_of ds) ps (map plain_item l) runs) c.deref-8.ensures.value c.in_ok-blocks.ensures in
     let outs : c.in_ok-outputs.outputs.items ≡ map (number ps) (names (filter (λ (d : Declaration). not (is_input d.kind)) (port_declarations mo.ports))) = c.in_ok-outputs.ensures
-        ∙ ap (λ l. map (number (plain_names l)) (names (filter (λ (d : Declaration). not (is_input d.kind)) (port_declarations (map plain_port c.deref-10.result.now))))) c.deref-9.ensures.value
-        ∙ ap (λ l. map (number ps) (names (filter (λ (d : Declaration). not (is_input d.kind)) (port_declarations (map plain_port l))))) c.deref-10.ensures.value in
+    ∙ ap (λ l. map (number (plain_names l)) (names (filter (λ (d : Declaration). not (is_input d.kind)) (port_declarations (map plain_port c.deref-10.result.now))))) c.deref-9.ensures.value
+    ∙ ap (λ l. map (number ps) (names (filter (λ (d : Declaration). not (is_input d.kind)) (port_declarations (map plain_port l))))) c.deref-10.ensures.value in
     let m3 = length-map (names (outputs_of mo)) (number ps) in
     let m4 = length-map (outputs_of mo) (λ (d : Declaration). d.name) in
     let q3 = ap length outs in
     let a3 : c.len-3.result ≡ length (outputs_of mo) = omega (arith, n3, m3, m4, q3) in
-    subst (λ (m : ModuleTree). IsBuilt m ns rs is cs runs c.in_ok-outputs.outputs.items × Holds m ns c.in_ok-values.values.items c.in_ok-next.next.items c.in_ok-shown.shown.items) (sym c.in_ok-module.ensures)
-    (built_of mo c.requires.well_formed c.requires.legal ns ps c.requires.nets ds rs is c.requires.all er ei ep cs runs c.in_ok-outputs.outputs.items steps does outs,
-        holds_new mo ns c.in_ok-values.values.items c.in_ok-next.next.items c.in_ok-shown.shown.items c.len.result c.len-2.result c.len-3.result c.in_ok-values.ensures c.in_ok-next.ensures c.in_ok-shown.ensures a1 a2 a3)
+    subst (λ (m : ModuleTree). IsBuilt m ns rs is cs runs c.in_ok-outputs.outputs.items × Holds m ns c.in_ok-values.values.items c.in_ok-next.next.items c.in_ok-shown.shown.items) (sym c.in_ok-module.ensures) (
+      built_of mo c.requires.well_formed c.requires.legal ns ps c.requires.nets ds rs is c.requires.all er ei ep cs runs c.in_ok-outputs.outputs.items steps does outs,
+      holds_new mo ns c.in_ok-values.values.items c.in_ok-next.next.items c.in_ok-shown.shown.items c.len.result c.len-2.result c.len-3.result c.in_ok-values.ensures c.in_ok-next.ensures c.in_ok-shown.ensures a1 a2 a3,
+    )
 
 pub returns : goal.returns
 returns c =
@@ -67,15 +68,15 @@ returns c =
     let is = map declaration c.in_ok-inputs.inputs.items in
     let ps = plain_names c.in_ok-places.places.items in
     let er : rs ≡ registers_of mo = c.in_ok-registers.ensures
-        ∙ ap (λ l. filter (λ (d : Declaration). is_register d.kind) (map declaration l)) c.deref.ensures.value
-        ∙ ap (filter (λ (d : Declaration). is_register d.kind)) c.requires.all in
+    ∙ ap (λ l. filter (λ (d : Declaration). is_register d.kind) (map declaration l)) c.deref.ensures.value
+    ∙ ap (filter (λ (d : Declaration). is_register d.kind)) c.requires.all in
     let ei : is ≡ inputs_of mo = c.in_ok-inputs.ensures
-        ∙ ap (λ l. filter (λ (d : Declaration). is_input d.kind && not (is_clk d.name)) (map declaration l)) c.deref-2.ensures.value
-        ∙ ap (filter (λ (d : Declaration). is_input d.kind && not (is_clk d.name))) c.requires.all in
+    ∙ ap (λ l. filter (λ (d : Declaration). is_input d.kind && not (is_clk d.name)) (map declaration l)) c.deref-2.ensures.value
+    ∙ ap (filter (λ (d : Declaration). is_input d.kind && not (is_clk d.name))) c.requires.all in
     let ep : ps ≡ (names rs ++ names is) ++ ns = c.in_ok-places.ensures
-        ∙ ap (λ l. (names (map declaration l) ++ names (map declaration c.deref-4.result.now)) ++ plain_names c.deref-5.result.now) c.deref-3.ensures.value
-        ∙ ap (λ l. (names rs ++ names (map declaration l)) ++ plain_names c.deref-5.result.now) c.deref-4.ensures.value
-        ∙ ap (λ l. (names rs ++ names is) ++ plain_names l) c.deref-5.ensures.value in
+    ∙ ap (λ l. (names (map declaration l) ++ names (map declaration c.deref-4.result.now)) ++ plain_names c.deref-5.result.now) c.deref-3.ensures.value
+    ∙ ap (λ l. (names rs ++ names (map declaration l)) ++ plain_names c.deref-5.result.now) c.deref-4.ensures.value
+    ∙ ap (λ l. (names rs ++ names is) ++ plain_names l) c.deref-5.ensures.value in
     let pl = places_are mo ns ps rs is ep er ei in
     let n1 = c.len.ensures in
     let n2 = c.len-2.ensures in

@@ -25,9 +25,9 @@ invariant_of-self c =
     let l = c.len.ensures in
     let n : c.len.result ≡ length c.self.inside.registers.items = omega (arith, l) in
     let s = shown_of c.self.inside c.args.self.now c.args.inputs.now c.compute.new.values.items c.self.invariant c.self.view_is c.requires
-        (c.compute.ensures
-        ∙ ap (λ l. settled (c.len.result + length c.args.inputs.now) (map (λ b. b.value) l) (put_all c.len.result c.args.inputs.now c.self.inside.values.items)) c.deref.ensures.value
-        ∙ ap (λ (k : ℕ). settled (k + length c.args.inputs.now) (map (λ b. b.value) c.self.inside.steps.items) (put_all k c.args.inputs.now c.self.inside.values.items)) n) in
+    (c.compute.ensures
+    ∙ ap (λ l. settled (c.len.result + length c.args.inputs.now) (map (λ b. b.value) l) (put_all c.len.result c.args.inputs.now c.self.inside.values.items)) c.deref.ensures.value
+    ∙ ap (λ (k : ℕ). settled (k + length c.args.inputs.now) (map (λ b. b.value) c.self.inside.steps.items) (put_all k c.args.inputs.now c.self.inside.values.items)) n) in
     (c.self.invariant.0, holds_with c.self.inside c.args.self.now c.args.inputs.now c.compute.new.values.items c.show.new.shown.items c.self.invariant c.self.view_is s c.show.ensures.len)
 
 pub returns : goal.returns
@@ -35,14 +35,16 @@ returns c =
     let l = c.len.ensures in
     let n : c.len.result ≡ length c.self.inside.registers.items = omega (arith, l) in
     let s = shown_of c.self.inside c.args.self.now c.args.inputs.now c.compute.new.values.items c.self.invariant c.self.view_is c.requires
-        (c.compute.ensures
-        ∙ ap (λ l. settled (c.len.result + length c.args.inputs.now) (map (λ b. b.value) l) (put_all c.len.result c.args.inputs.now c.self.inside.values.items)) c.deref.ensures.value
-        ∙ ap (λ (k : ℕ). settled (k + length c.args.inputs.now) (map (λ b. b.value) c.self.inside.steps.items) (put_all k c.args.inputs.now c.self.inside.values.items)) n) in
+    (c.compute.ensures
+    ∙ ap (λ l. settled (c.len.result + length c.args.inputs.now) (map (λ b. b.value) l) (put_all c.len.result c.args.inputs.now c.self.inside.values.items)) c.deref.ensures.value
+    ∙ ap (λ (k : ℕ). settled (k + length c.args.inputs.now) (map (λ b. b.value) c.self.inside.steps.items) (put_all k c.args.inputs.now c.self.inside.values.items)) n) in
     let after : List ℕ = run_blocks (map (λ b. map action_run b.items) c.self.inside.blocks.items) c.compute.new.values.items c.args.self.now.registers in
     let shown = c.deref-4.ensures.value ∙ c.show.ensures.items
-        ∙ ap (λ l. map (λ k. at c.deref-3.result.now k) l) c.deref-2.ensures.value
-        ∙ ap (λ (vs : List ℕ). map (λ k. at vs k) c.self.inside.outputs.items) c.deref-3.ensures.value in
-    ((refl, λ _. tt, same_view c.self.inside c.args.self.now c.args.inputs.now c.compute.new.values.items c.self.view_is s), record {
-      after = tt;
-      shown = (after, subst (λ (l : List ℕ). Cycle (plain_module c.args.self.now.tree) c.args.self.now.registers c.args.inputs.now l after) (sym shown) s.cycle);
-    })
+    ∙ ap (λ l. map (λ k. at c.deref-3.result.now k) l) c.deref-2.ensures.value
+    ∙ ap (λ (vs : List ℕ). map (λ k. at vs k) c.self.inside.outputs.items) c.deref-3.ensures.value in (
+      (refl, λ _. tt, same_view c.self.inside c.args.self.now c.args.inputs.now c.compute.new.values.items c.self.view_is s),
+      record {
+        after = tt;
+        shown = (after, subst (λ (l : List ℕ). Cycle (plain_module c.args.self.now.tree) c.args.self.now.registers c.args.inputs.now l after) (sym shown) s.cycle);
+      },
+    )

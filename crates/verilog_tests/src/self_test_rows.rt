@@ -149,7 +149,10 @@ fn ports_that_are_wrong(rt: HostRuntime) -> Result<(), Fail> {
     ];
     for (without, more, name) in rows {
         let changed = exchanged(rt.alloc(), ports, without, more)?;
-        assert!(rt; is_found(wrong_port(changed.as_slice(), &memory), name), "{name}");
+        assert!(rt;
+            is_found(wrong_port(changed.as_slice(), &memory), name),
+            "{name}"
+        );
     }
     Ok(())
 }
