@@ -1,5 +1,5 @@
 -- Each state of the reader goes on to a module, by tokens that keep all limits, and by bytes that are those tokens.
-use Rattle.std.proofs.Common.{◌≡◌, ℕ, ◌+◌, Bool, true, false, ◌&&◌, List, [], ◌∷◌, ◌++◌, Option, Some, None, refl, sym, subst, inl, codes}
+use Rattle.std.proofs.Common.{◌≡◌, ℕ, ◌+◌, Bool, true, false, List, [], ◌∷◌, ◌++◌, Option, Some, None, refl, sym, subst, inl, codes}
 use Rattle.std.proofs.lemmas.Bool.{and_parts, and_from}
 use Rattle.bist_bits.specs.Vector.{Vector}
 use Rattle.bist_text.specs.Grammar.{are_bytes}

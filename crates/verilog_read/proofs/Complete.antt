@@ -26,7 +26,7 @@ if_from true t f = f refl
 if_from false t f = refl
 
 -- the parts of being live
-live_from : (limits : Limits) (s : State) (l : Lexer) → live s l ≡ true → (limits.names ≡ true → name_fits l ≡ true) → (limits.numbers ≡ true → number_fits (most_of s) l ≡ true) → live_in limits s l ≡ true
+pub live_from : (limits : Limits) (s : State) (l : Lexer) → live s l ≡ true → (limits.names ≡ true → name_fits l ≡ true) → (limits.numbers ≡ true → number_fits (most_of s) l ≡ true) → live_in limits s l ≡ true
 live_from limits s l a b c = and_from _ _ (and_from _ _ a (if_from limits.names (name_fits l) b)) (if_from limits.numbers (number_fits (most_of s) l) c)
 
 -- a limit that is kept

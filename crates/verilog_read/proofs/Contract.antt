@@ -1,11 +1,13 @@
 -- What the reader's answer says of the text.
-use Rattle.std.proofs.Common.{◌≡◌, ℕ, List, Result, Ok, Err, IfOk, MatchResult, refl, sym, ◌∙◌}
+use Rattle.std.proofs.Common.{◌≡◌, ℕ, List, Result, Ok, Err, IfOk, IfErr, MatchResult, refl, sym, ◌∙◌}
 use Rattle.verilog_tree.specs.declared.tree.Module.{Module}
 use Rattle.verilog_tree.specs.Plain.{ModuleTree, plain_module}
 use Rattle.verilog_tree.specs.Spells.{Spells}
 use Rattle.verilog_read.specs.declared.fault.ReadFault.{ReadFault}
 use Rattle.verilog_read.specs.declared.fault.ReadFault.TheVariants as R
 use Rattle.verilog_read.specs.Answering.{Answer, Finished, Faulty, answer, Gives}
+use Rattle.verilog_read.specs.Refusals.{Says}
+use Rattle.verilog_read.proofs.Faults.{says}
 use Rattle.verilog_read.proofs.Finishing.{finishes}
 
 pub read_spells : (b : List ℕ) (r : Result Module ReadFault) → Gives (answer b) r → IfOk r (λ m. Spells b (plain_module m))
@@ -26,3 +28,13 @@ spelled_read b v (Err R.Truncated) g h = no_fault (answer b) v R.Truncated ((fin
 spelled_read b v (Err (R.TooDeep k)) g h = no_fault (answer b) v (R.TooDeep k) ((finishes b v).1 h) g
 spelled_read b v (Err (R.LongName k)) g h = no_fault (answer b) v (R.LongName k) ((finishes b v).1 h) g
 spelled_read b v (Err (R.OutOfRange k)) g h = no_fault (answer b) v (R.OutOfRange k) ((finishes b v).1 h) g
+
+-- a fault says what stands at its byte
+pub read_says : (b : List ℕ) (r : Result Module ReadFault) → Gives (answer b) r → IfErr r (Says b)
+read_says b (Ok m) g = tt
+read_says b (Err R.NoMemory) g = tt
+read_says b (Err (R.Unexpected k)) g = says b (R.Unexpected k) g
+read_says b (Err R.Truncated) g = says b R.Truncated g
+read_says b (Err (R.TooDeep k)) g = tt
+read_says b (Err (R.LongName k)) g = says b (R.LongName k) g
+read_says b (Err (R.OutOfRange k)) g = says b (R.OutOfRange k) g

@@ -1,5 +1,5 @@
 -- What is live goes on to a text: the token that is begun can be ended so that it is taken and keeps the limits.
-use Rattle.std.proofs.Common.{◌≡◌, ℕ, zero, suc, ◌+◌, ◌*◌, ◌^◌, ◌<◌, ◌≤◌, Bool, true, false, not, ◌||◌, ◌&&◌, ◌==◌, List, [], ◌∷◌, ◌++◌, Option, Some, None, refl, sym, ap, subst, ◌∙◌, ◌⊎◌, inl, inr, arith, codes, length, drop, nat_eq, nat_le, nat_lt, if◌then◌else◌, append_assoc, append-nil}
+use Rattle.std.proofs.Common.{◌≡◌, ℕ, zero, suc, ◌+◌, ◌^◌, ◌<◌, ◌≤◌, Bool, true, false, not, ◌||◌, ◌&&◌, ◌==◌, List, [], ◌∷◌, ◌++◌, Option, Some, None, refl, sym, ap, subst, ◌∙◌, ◌⊎◌, inl, inr, arith, codes, length, drop, nat_eq, nat_le, nat_lt, if◌then◌else◌, append_assoc, append-nil}
 use Rattle.std.specs.List.{starts_with}
 use Rattle.std.specs.Str.{bytes_eq}
 use Rattle.std.proofs.lemmas.Bool.{and_parts, and_from, or_cases, or_left, or_right, or_from, le-leb, leb-true, lt-ltb, eqb-true}
@@ -17,7 +17,6 @@ use Rattle.verilog_tree.specs.declared.tokens.Base.{Base}
 use Rattle.verilog_tree.specs.declared.tokens.Base.TheVariants.{Binary, Octal, Decimal, Hexadecimal}
 use Rattle.verilog_tree.specs.declared.tokens.Mark.{Mark}
 use Rattle.verilog_tree.specs.declared.tokens.Mark.TheVariants.{Open, Equals, Bang, Less, Greater, Ampersand, Bar, TwoEquals, BangEquals, LessEquals, TwoLess, GreaterEquals, TwoGreater, TwoAmpersands, TwoBars}
-use Rattle.verilog_tree.specs.declared.tokens.Within.{Within}
 use Rattle.verilog_tree.specs.declared.tokens.Within.TheVariants.{Between, Slash, Line, Block, Star}
 use Rattle.verilog_tree.specs.Formed.{is_place, is_width, is_literal}
 use Rattle.verilog_tree.specs.Plain.{ModuleTree}
@@ -26,12 +25,12 @@ use Rattle.verilog_tree.specs.Tokens.{Token, Identifier, Number, Based, Queried,
 use Rattle.verilog_tree.specs.Words.{in_identifier, all_in_identifier}
 use Rattle.verilog_read.specs.Expected.{Numbers, AllNumbers, ZeroAlone, NoNumber, numbers, taken_as, else_behind, words_behind, with_else, place_words, words, takes_names, is_step, taken, takes_literals, some_begins, some_taken, longer_marks, live, most_of, name_fits, number_fits, live_in}
 use Rattle.verilog_read.specs.Following.{rest}
-use Rattle.verilog_read.specs.Lexing.{Lexer, InGap, InWord, InNumber, Quoted, Lettered, InDigits, Marked, Whole, lex, unread, with_token, begin}
+use Rattle.verilog_read.specs.Lexing.{Lexer, InGap, InWord, InNumber, Quoted, Lettered, InDigits, Marked, Whole, unread, with_token, begin}
 use Rattle.verilog_read.specs.Places.{Around, InAlways, InBlock, InThen, InElse, InArm, InDefault, StmtPlace, WantStmt, IfRead, CaseRead, DefaultRead, HaveStmt, ItemPlace, Begin, WantPort, InputRead, OutputRead, WantItem, ClockOpen, State, AtExpr, AtStmt, AtItem}
 use Rattle.verilog_read.specs.Places as L
 use Rattle.verilog_read.specs.Reading.{rest_in}
 use Rattle.verilog_read.specs.Steps.{step}
-use Rattle.verilog_read.proofs.Alive.{Alive, HasRoom, alive}
+use Rattle.verilog_read.proofs.Alive.{HasRoom, alive}
 use Rattle.verilog_read.proofs.Complete.{most_literal, complete}
 use Rattle.verilog_read.proofs.Expectations.{word_taken, literals_alike, number_taken}
 use Rattle.verilog_read.proofs.ItemLaws.{parse_goes}
@@ -196,7 +195,7 @@ module _ (names_kept numbers_kept : Bool) where
   kept_or true t e = e
   kept_or false t e = refl
 
-  all_kept : (t : Token) → keeps all_limits t ≡ true → keeps limits t ≡ true
+  pub all_kept : (t : Token) → keeps all_limits t ≡ true → keeps limits t ≡ true
   all_kept (Identifier w) k = kept_or names_kept (nat_le (length w) 64) k
   all_kept (Number l n) k = kept_or numbers_kept (is_place n) k
   all_kept (Based x) k = kept_or numbers_kept (is_literal x) k

@@ -1,9 +1,9 @@
 -- What the lexer makes of bytes, whatever follows.
-use Rattle.std.proofs.Common.{◌≡◌, ℕ, List, [], ◌∷◌, ◌++◌, Option, Some, None, refl, sym, ap, subst, ◌∙◌, ◌↔◌, append_assoc}
+use Rattle.std.proofs.Common.{◌≡◌, ℕ, List, [], ◌∷◌, ◌++◌, Option, Some, None, refl, sym, ap, subst, ◌∙◌}
 use Rattle.bist_text.specs.Lexed.{emitted, then as and_then}
 use Rattle.bist_text.specs.Machine.{Holds}
 use Rattle.verilog_tree.specs.Tokens.{Token}
-use Rattle.verilog_read.specs.Lexing.{Lexer, lex, last, unread}
+use Rattle.verilog_read.specs.Lexing.{Lexer, lex, unread}
 use Rattle.verilog_read.proofs.LexerLaws.{lexes}
 
 -- the tokens that end in these bytes, and where the lexer then stands

@@ -19,3 +19,6 @@ pub mod Contract
 pub mod LexingOn
 pub mod Alive
 pub mod Extends
+pub mod Reached
+pub mod Stopping
+pub mod Faults

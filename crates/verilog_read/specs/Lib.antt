@@ -10,3 +10,4 @@ pub mod Expected
 pub mod Reading
 pub mod WordSets
 pub mod Answering
+pub mod Refusals

@@ -1,0 +1,196 @@
+-- Which fault the reader answers says what stands at its byte.
+use Rattle.std.proofs.Common.{◌≡◌, ℕ, suc, ◌+◌, Bool, true, false, List, [], ◌∷◌, ◌++◌, length, take, Option, Some, None, refl, sym, ap, subst, ◌∙◌, ◌⊎◌, inl, inr, arith, if◌then◌else◌, append-nil, add-one}
+use Rattle.bist_text.specs.Grammar.{Continues, IsUnexpected, IsTruncated}
+use Rattle.bist_text.specs.Lexed.{Both, advance, then as and_then}
+use Rattle.verilog_tree.specs.Plain.{ModuleTree}
+use Rattle.verilog_tree.specs.Spells.{Limits, all_limits, no_limits, Text}
+use Rattle.verilog_tree.specs.Tokens.{Token}
+use Rattle.verilog_read.specs.declared.fault.ReadFault.{ReadFault}
+use Rattle.verilog_read.specs.declared.fault.ReadFault.TheVariants as R
+use Rattle.verilog_read.specs.declared.read.ByteFault.{ByteFault}
+use Rattle.verilog_read.specs.declared.read.ByteFault.TheVariants.{Unexpected, TooDeep, LongName, OutOfRange, NoMemory}
+use Rattle.verilog_read.specs.Answering.{Taking, Leads, Refused, OneTooMany, taking, take_token, Move, Goes, Stops, byte_move, Faulty, fault_at, value_answer, last_answer, end_answer, on_move, run, answer}
+use Rattle.verilog_read.specs.Expected.{taken, live_in}
+use Rattle.verilog_read.specs.Lexing.{Lexer, last}
+use Rattle.verilog_read.specs.Places.{State}
+use Rattle.verilog_read.specs.Reading.{step_in, start, byte_step, end_value, unread_in}
+use Rattle.verilog_read.specs.Refusals.{Says}
+use Rattle.verilog_read.specs.Steps.{step, value}
+use Rattle.verilog_read.proofs.Extends.{limits}
+use Rattle.verilog_read.proofs.Limits.{unlimited}
+use Rattle.verilog_read.proofs.Moving.{Sound, Agrees, move_agrees}
+use Rattle.verilog_read.proofs.Reached.{come, reached, stops_at, follows_on}
+use Rattle.verilog_read.proofs.ReadingLaws.{start_is}
+use Rattle.verilog_read.proofs.Stopping.{follows, come_sub, unexpected_byte, long_byte, out_byte, free_step, not_taken}
+
+-- ---- where the reader is
+
+-- the reader has read a, and this byte stops it
+pub record StopsAt (b : List ℕ) (q : Both State Lexer) (i : ℕ) (f : ReadFault) : Type 0 where
+  pub front : List ℕ
+  pub byte : ℕ
+  pub more : List ℕ
+  pub state : Both State Lexer
+  pub kind : ByteFault
+  pub began : ℕ
+  pub split : b ≡ front ++ (byte ∷ more)
+  pub come_there : come (byte_step all_limits) front q ≡ Some state
+  pub sound : Sound state
+  pub stopped : byte_move state byte ≡ Stops kind
+  pub fault : f ≡ fault_at kind began (i + length front)
+
+-- or it has read all
+pub record EndsAt (b : List ℕ) (q : Both State Lexer) (f : ReadFault) : Type 0 where
+  pub state : Both State Lexer
+  pub began : ℕ
+  pub come_there : come (byte_step all_limits) b q ≡ Some state
+  pub sound : Sound state
+  pub ended : end_answer state.parser (last state.lexer) began ≡ Faulty f
+
+further : (c : ℕ) (b : List ℕ) (q z : Both State Lexer) (i : ℕ) (f : ReadFault) → byte_step all_limits q c ≡ Some z → StopsAt b z (i + 1) f ⊎ EndsAt b z f → StopsAt (c ∷ b) q i f ⊎ EndsAt (c ∷ b) q f
+further c b q z i f e (inl s) = inl (record {
+  front = c ∷ s.front;
+  byte = s.byte;
+  more = s.more;
+  state = s.state;
+  kind = s.kind;
+  began = s.began;
+  split = ap (λ x. c ∷ x) s.split;
+  come_there = ap (λ o. and_then o (λ t. come (byte_step all_limits) s.front t)) e ∙ s.come_there;
+  sound = s.sound;
+  stopped = s.stopped;
+  fault = s.fault ∙ ap (λ n. fault_at s.kind s.began n) (omega arith);
+})
+further c b q z i f e (inr s) = inr (record { state = s.state; began = s.began; come_there = ap (λ o. and_then o (λ t. come (byte_step all_limits) b t)) e ∙ s.come_there; sound = s.sound; ended = s.ended })
+
+faulty_is : (f g : ReadFault) → Faulty f ≡ Faulty g → g ≡ f
+faulty_is f g e = cc
+
+pub stopped_where : (b : List ℕ) (q : Both State Lexer) (k i : ℕ) (f : ReadFault) → Sound q → run b q k i ≡ Faulty f → StopsAt b q i f ⊎ EndsAt b q f
+stopped_where [] q k i f h e = inr (record { state = q; began = k; come_there = refl; sound = h; ended = e })
+stopped_where (c ∷ b) q k i f h e = go (byte_move q c) refl (move_agrees q c h) e (λ z n s. stopped_where b z n (i + 1) f s)
+  where
+    go : (m : Move) → byte_move q c ≡ m → Agrees m (byte_step all_limits q c) → on_move m k i (λ z j. run b z j (i + 1)) ≡ Faulty f → ((z : Both State Lexer) (n : ℕ) → Sound z → run b z n (i + 1) ≡ Faulty f → StopsAt b z (i + 1) f ⊎ EndsAt b z f) → StopsAt (c ∷ b) q i f ⊎ EndsAt (c ∷ b) q f
+    go (Goes z fresh) m a r g = further c b q z i f a.0 (g z (if fresh then i else k) a.1 r)
+    go (Stops x) m a r g = inl (record { front = []; byte = c; more = b; state = q; kind = x; began = k; split = refl; come_there = refl; sound = h; stopped = m; fault = faulty_is (fault_at x k i) f r ∙ ap (λ n. fault_at x k n) (omega arith) })
+
+-- ---- of texts
+
+module _ (l : Limits) where
+  continues_text : (b : List ℕ) → Continues (unread_in l start) b → Continues (Text l) b
+  continues_text b h = (h.0, h.1, h.2, (start_is l (b ++ h.0) h.1).0 h.3)
+
+  text_continues : (b : List ℕ) → Continues (Text l) b → Continues (unread_in l start) b
+  text_continues b h = (h.0, h.1, h.2, (start_is l (b ++ h.0) h.1).1 h.3)
+
+  unexpected_text : (b : List ℕ) (k : ℕ) → IsUnexpected (unread_in l start) b k → IsUnexpected (Text l) b k
+  unexpected_text b k u = record { within = u.within; before = continues_text (take k b) u.before; after = λ h. u.after (text_continues (take (k + 1) b) h) }
+
+take_next : (a : List ℕ) (c : ℕ) (more : List ℕ) → take (suc (length a)) (a ++ (c ∷ more)) ≡ a ++ (c ∷ [])
+take_next [] c more = refl
+take_next (d ∷ a) c more = ap (λ x. d ∷ x) (take_next a c more)
+
+take_front : (a : List ℕ) (c : ℕ) (more : List ℕ) → take (length a + 1) (a ++ (c ∷ more)) ≡ a ++ (c ∷ [])
+take_front a c more = rw add-one (take_next a c more)
+
+module _ (a b : Bool) where
+  -- a grammar with limits of tokens alone refuses the byte that stops its machine
+  pub refused_there : (front : List ℕ) (c : ℕ) (more : List ℕ) (z : Both State Lexer) → come (byte_step all_limits) front start ≡ Some z → byte_step (limits a b) z c ≡ None → IsUnexpected (Text (limits a b)) (front ++ (c ∷ more)) (length front)
+  refused_there front c more z e n = unexpected_text (limits a b) (front ++ (c ∷ more)) (length front) (stops_at (byte_step (limits a b)) (end_value (limits a b)) (unread_in (limits a b)) (λ q. live_in (limits a b) q.parser q.lexer ≡ true) (follows a b) front c more start z (starts a b) (come_sub a b front start z e) n)
+    where
+      starts : (a b : Bool) → live_in (limits a b) start.parser start.lexer ≡ true
+      starts true true = refl
+      starts true false = refl
+      starts false true = refl
+      starts false false = refl
+
+come_on : (front : List ℕ) (c : ℕ) (q z y : Both State Lexer) → come (byte_step no_limits) front q ≡ Some z → byte_step no_limits z c ≡ Some y → come (byte_step no_limits) (front ++ (c ∷ [])) q ≡ Some y
+come_on [] c q z y e n = let k : z ≡ q = cc in ap (λ o. and_then o (λ t. Some t)) (subst (λ (x : Both State Lexer). byte_step no_limits x c ≡ Some y) k n)
+come_on (d ∷ front) c q z y e n = go (byte_step no_limits q d) e (λ t k. come_on front c t z y k n)
+  where
+    go : (o : Option (Both State Lexer)) → and_then o (λ t. come (byte_step no_limits) front t) ≡ Some z → ((t : Both State Lexer) → come (byte_step no_limits) front t ≡ Some z → come (byte_step no_limits) (front ++ (c ∷ [])) t ≡ Some y) → and_then o (λ t. come (byte_step no_limits) (front ++ (c ∷ [])) t) ≡ Some y
+    go None k g = cc
+    go (Some t) k g = g t k
+
+-- without limits the text goes on behind the byte
+free_there : (front : List ℕ) (c : ℕ) (more : List ℕ) (z y : Both State Lexer) → come (byte_step all_limits) front start ≡ Some z → byte_step no_limits z c ≡ Some y → Continues (Text no_limits) (take (length front + 1) (front ++ (c ∷ more)))
+free_there front c more z y e n = subst (λ x. Continues (Text no_limits) x) (sym (take_front front c more)) (continues_text no_limits (front ++ (c ∷ [])) (reached (byte_step no_limits) (end_value no_limits) (unread_in no_limits) (λ q. live_in no_limits q.parser q.lexer ≡ true) (follows false false) (front ++ (c ∷ [])) start y refl (come_on front c start z y (come_sub false false front start z e) n)).1)
+
+says_byte : (front : List ℕ) (c : ℕ) (more : List ℕ) (z : Both State Lexer) (kind : ByteFault) (began : ℕ) → come (byte_step all_limits) front start ≡ Some z → byte_move z c ≡ Stops kind → Says (front ++ (c ∷ more)) (fault_at kind began (length front))
+says_byte front c more z Unexpected began e s = refused_there false false front c more z e (unexpected_byte z c s)
+says_byte front c more z LongName began e s = let p = long_byte z c s in (refused_there true false front c more z e p.0, free_there front c more z p.1.0 e p.1.1)
+says_byte front c more z OutOfRange began e s = let p = out_byte z c s in (refused_there false true front c more z e p.0, free_there front c more z p.1.0 e p.1.1)
+says_byte front c more z TooDeep began e s = tt
+says_byte front c more z NoMemory began e s = tt
+
+-- ---- at the end
+
+no_value : (o : Option ModuleTree) (f : ReadFault) → value_answer o ≡ Faulty f → (f ≡ R.Truncated) × (o ≡ None)
+no_value None f e = (faulty_is R.Truncated f e, refl)
+no_value (Some v) f e = cc
+
+last_ends : (s : State) (t : Token) (k : ℕ) (o : Option State) (b : Bool) → step (Some 64) s t ≡ o → taken s t ≡ b → last_answer (taking o b) k ≡ Faulty R.Truncated → and_then (step None s t) value ≡ None
+last_ends s t k (Some z) b e f h = ap (λ o. and_then o value) (unlimited (Some 64) s t z e) ∙ (no_value (value z) R.Truncated h).1
+last_ends s t k None true e f h = cc
+last_ends s t k None false e f h = ap (λ o. and_then o value) (not_taken s t f)
+
+-- the text is none of the grammar without limits
+cut_end : (q : Both State Lexer) (k : ℕ) → end_answer q.parser (last q.lexer) k ≡ Faulty R.Truncated → end_value no_limits q ≡ None
+cut_end q k h = go (last q.lexer) h
+  where
+    go : (o : Option (Option Token)) → end_answer q.parser o k ≡ Faulty R.Truncated → and_then o (λ x. and_then (advance (step_in no_limits) q.parser x) value) ≡ None
+    go None h = refl
+    go (Some None) h = (no_value (value q.parser) R.Truncated h).1
+    go (Some (Some t)) h = ap (λ o. and_then o value) (free_step q.parser t) ∙ last_ends q.parser t k (step (Some 64) q.parser t) (taken q.parser t) refl refl h
+
+says_end : (b : List ℕ) (q : Both State Lexer) (k : ℕ) → come (byte_step all_limits) b start ≡ Some q → end_answer q.parser (last q.lexer) k ≡ Faulty R.Truncated → IsTruncated (Text no_limits) b
+says_end b q k e h = record {
+  none = λ v t. let r : unread_in no_limits q [] v = follows_on (byte_step no_limits) (end_value no_limits) (unread_in no_limits) (λ q. live_in no_limits q.parser q.lexer ≡ true) (follows false false) b [] start q v (come_sub false false b start q e) (subst (λ (x : List ℕ). unread_in no_limits start x v) (sym (append-nil b)) ((start_is no_limits b v).1 t)) in
+      let k' : None ≡ Some v = sym (cut_end q k h) ∙ ((follows false false).ends q v).0 r in cc;
+  before = continues_text no_limits b (reached (byte_step no_limits) (end_value no_limits) (unread_in no_limits) (λ q. live_in no_limits q.parser q.lexer ≡ true) (follows false false) b start q refl (come_sub false false b start q e)).1;
+}
+
+end_says : (b : List ℕ) (q : Both State Lexer) (k : ℕ) (f : ReadFault) → come (byte_step all_limits) b start ≡ Some q → end_answer q.parser (last q.lexer) k ≡ Faulty f → Says b f
+end_says b q k R.Truncated e h = says_end b q k e h
+end_says b q k (R.TooDeep n) e h = tt
+end_says b q k R.NoMemory e h = tt
+end_says b q k (R.Unexpected n) e h = absurd (not_here (last q.lexer) h)
+  where
+    not_here : (o : Option (Option Token)) → end_answer q.parser o k ≡ Faulty (R.Unexpected n) → ⊥
+    not_here None h = cc
+    not_here (Some None) h = let p = (no_value (value q.parser) (R.Unexpected n) h).0 in cc
+    not_here (Some (Some t)) h = by (take_token q.parser t) h
+      where
+        by : (x : Taking) → last_answer x k ≡ Faulty (R.Unexpected n) → ⊥
+        by (Leads z) h = let p = (no_value (value z) (R.Unexpected n) h).0 in cc
+        by Refused h = cc
+        by OneTooMany h = cc
+end_says b q k (R.LongName n) e h = absurd (not_here (last q.lexer) h)
+  where
+    not_here : (o : Option (Option Token)) → end_answer q.parser o k ≡ Faulty (R.LongName n) → ⊥
+    not_here None h = cc
+    not_here (Some None) h = let p = (no_value (value q.parser) (R.LongName n) h).0 in cc
+    not_here (Some (Some t)) h = by (take_token q.parser t) h
+      where
+        by : (x : Taking) → last_answer x k ≡ Faulty (R.LongName n) → ⊥
+        by (Leads z) h = let p = (no_value (value z) (R.LongName n) h).0 in cc
+        by Refused h = cc
+        by OneTooMany h = cc
+end_says b q k (R.OutOfRange n) e h = absurd (not_here (last q.lexer) h)
+  where
+    not_here : (o : Option (Option Token)) → end_answer q.parser o k ≡ Faulty (R.OutOfRange n) → ⊥
+    not_here None h = cc
+    not_here (Some None) h = let p = (no_value (value q.parser) (R.OutOfRange n) h).0 in cc
+    not_here (Some (Some t)) h = by (take_token q.parser t) h
+      where
+        by : (x : Taking) → last_answer x k ≡ Faulty (R.OutOfRange n) → ⊥
+        by (Leads z) h = let p = (no_value (value z) (R.OutOfRange n) h).0 in cc
+        by Refused h = cc
+        by OneTooMany h = cc
+
+-- the fault that the reader answers
+pub says : (b : List ℕ) (f : ReadFault) → answer b ≡ Faulty f → Says b f
+says b f e = elim (stopped_where b start 0 0 f refl e) [
+  | inl s ↦ subst (λ x. Says x f) (sym s.split) (subst (λ y. Says (s.front ++ (s.byte ∷ s.more)) y) (sym (s.fault ∙ ap (λ n. fault_at s.kind s.began n) (omega arith))) (says_byte s.front s.byte s.more s.state s.kind s.began s.come_there s.stopped))
+  | inr s ↦ end_says b s.state s.began f s.come_there s.ended
+]
