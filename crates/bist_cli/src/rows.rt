@@ -616,6 +616,28 @@ fn a_compilation(rt: HostRuntime) -> Result<(), Fail> {
     Ok(())
 }
 
+/// A memory whose number of words is no power of two, and the report's line on it.
+const FIVE: &[u8] = b"memory 1\nname buf0\nwords 5\nbits 1\n";
+
+const FIVE_REPORT: &[u8] = b"march {any(w0);up(r0,w1);up(r1,w0);down(r0,w1);down(r1,w0);any(r0)}
+memory buf0 words 5 bits 1 backgrounds 1 commands 50
+escape <0w0/1/-> WDF aggressor none victim 0 content 10 directions uuuddu
+class WDF 1 covered 0
+total 1 covered 0 escapes 1
+";
+
+#[test]
+fn a_compilation_with_an_escape(rt: HostRuntime) -> Result<(), Fail> {
+    let mut host = with_inputs(rt.alloc())?;
+    host.put("d", FIVE)?;
+    host.put("l", b"<0w0/1/->")?;
+    assert_eq!(rt; run(rt.alloc(), &COMPILE, &mut host).status, 1);
+    assert_eq!(rt; host.said(), b"total 1 covered 0 escapes 1\n".as_slice());
+    assert_eq!(rt; host.get("r").ok_or("a report")?, FIVE_REPORT);
+    assert!(rt; host.get("v").is_some());
+    Ok(())
+}
+
 /// Which calls of the host fail, the status, what is said, and how many bytes of the module and of the report are
 /// there, in halves of the whole.
 const FAILING: [(&[u64], u8, &[u8], usize, usize); 7] = [
