@@ -35,6 +35,6 @@ read_says b (Ok m) g = tt
 read_says b (Err R.NoMemory) g = tt
 read_says b (Err (R.Unexpected k)) g = says b (R.Unexpected k) g
 read_says b (Err R.Truncated) g = says b R.Truncated g
-read_says b (Err (R.TooDeep k)) g = tt
+read_says b (Err (R.TooDeep k)) g = says b (R.TooDeep k) g
 read_says b (Err (R.LongName k)) g = says b (R.LongName k) g
 read_says b (Err (R.OutOfRange k)) g = says b (R.OutOfRange k) g

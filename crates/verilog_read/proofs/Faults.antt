@@ -1,5 +1,6 @@
 -- Which fault the reader answers says what stands at its byte.
-use Rattle.std.proofs.Common.{◌≡◌, ℕ, suc, ◌+◌, Bool, true, false, List, [], ◌∷◌, ◌++◌, length, take, Option, Some, None, refl, sym, ap, subst, ◌∙◌, ◌⊎◌, inl, inr, arith, if◌then◌else◌, append-nil, add-one}
+use Rattle.std.proofs.Common.{◌≡◌, ℕ, suc, ◌+◌, Bool, true, false, List, [], ◌∷◌, ◌++◌, length, take, Option, Some, None, refl, sym, ap, subst, ◌∙◌, ◌⊎◌, inl, inr, arith, if◌then◌else◌, append-nil, append_assoc, add-one}
+use Rattle.std.proofs.lemmas.List.{length-append}
 use Rattle.bist_text.specs.Grammar.{Continues, IsUnexpected, IsTruncated}
 use Rattle.bist_text.specs.Lexed.{Both, advance, then as and_then}
 use Rattle.verilog_tree.specs.Plain.{ModuleTree}
@@ -16,17 +17,20 @@ use Rattle.verilog_read.specs.Places.{State}
 use Rattle.verilog_read.specs.Reading.{step_in, start, byte_step, end_value, unread_in}
 use Rattle.verilog_read.specs.Refusals.{Says}
 use Rattle.verilog_read.specs.Steps.{step, value}
+use Rattle.verilog_read.specs.Openings.{IsDeep}
+use Rattle.verilog_read.proofs.Deep.{deep_at, deep_end}
 use Rattle.verilog_read.proofs.Extends.{limits}
 use Rattle.verilog_read.proofs.Limits.{unlimited}
 use Rattle.verilog_read.proofs.Moving.{Sound, Agrees, move_agrees}
+use Rattle.verilog_read.proofs.Pending.{Pending, at_start, To, moves_on}
 use Rattle.verilog_read.proofs.Reached.{come, reached, stops_at, follows_on}
 use Rattle.verilog_read.proofs.ReadingLaws.{start_is}
 use Rattle.verilog_read.proofs.Stopping.{follows, come_sub, unexpected_byte, long_byte, out_byte, free_step, not_taken}
 
 -- ---- where the reader is
 
--- the reader has read a, and this byte stops it
-pub record StopsAt (b : List ℕ) (q : Both State Lexer) (i : ℕ) (f : ReadFault) : Type 0 where
+-- the reader, which has read p, has read more, and this byte stops it
+pub record StopsAt (p b : List ℕ) (q : Both State Lexer) (i : ℕ) (f : ReadFault) : Type 0 where
   pub front : List ℕ
   pub byte : ℕ
   pub more : List ℕ
@@ -37,18 +41,20 @@ pub record StopsAt (b : List ℕ) (q : Both State Lexer) (i : ℕ) (f : ReadFaul
   pub come_there : come (byte_step all_limits) front q ≡ Some state
   pub sound : Sound state
   pub stopped : byte_move state byte ≡ Stops kind
+  pub pending : Pending (p ++ front) state began
   pub fault : f ≡ fault_at kind began (i + length front)
 
 -- or it has read all
-pub record EndsAt (b : List ℕ) (q : Both State Lexer) (f : ReadFault) : Type 0 where
+pub record EndsAt (p b : List ℕ) (q : Both State Lexer) (f : ReadFault) : Type 0 where
   pub state : Both State Lexer
   pub began : ℕ
   pub come_there : come (byte_step all_limits) b q ≡ Some state
   pub sound : Sound state
   pub ended : end_answer state.parser (last state.lexer) began ≡ Faulty f
+  pub pending : Pending (p ++ b) state began
 
-further : (c : ℕ) (b : List ℕ) (q z : Both State Lexer) (i : ℕ) (f : ReadFault) → byte_step all_limits q c ≡ Some z → StopsAt b z (i + 1) f ⊎ EndsAt b z f → StopsAt (c ∷ b) q i f ⊎ EndsAt (c ∷ b) q f
-further c b q z i f e (inl s) = inl (record {
+further : (p : List ℕ) (c : ℕ) (b : List ℕ) (q z : Both State Lexer) (i : ℕ) (f : ReadFault) → byte_step all_limits q c ≡ Some z → StopsAt (p ++ (c ∷ [])) b z (i + 1) f ⊎ EndsAt (p ++ (c ∷ [])) b z f → StopsAt p (c ∷ b) q i f ⊎ EndsAt p (c ∷ b) q f
+further p c b q z i f e (inl s) = inl (record {
   front = c ∷ s.front;
   byte = s.byte;
   more = s.more;
@@ -59,20 +65,21 @@ further c b q z i f e (inl s) = inl (record {
   come_there = ap (λ o. and_then o (λ t. come (byte_step all_limits) s.front t)) e ∙ s.come_there;
   sound = s.sound;
   stopped = s.stopped;
+  pending = subst (λ (x : List ℕ). Pending x s.state s.began) (append_assoc p (c ∷ []) s.front) s.pending;
   fault = s.fault ∙ ap (λ n. fault_at s.kind s.began n) (omega arith);
 })
-further c b q z i f e (inr s) = inr (record { state = s.state; began = s.began; come_there = ap (λ o. and_then o (λ t. come (byte_step all_limits) b t)) e ∙ s.come_there; sound = s.sound; ended = s.ended })
+further p c b q z i f e (inr s) = inr (record { state = s.state; began = s.began; come_there = ap (λ o. and_then o (λ t. come (byte_step all_limits) b t)) e ∙ s.come_there; sound = s.sound; ended = s.ended; pending = subst (λ (x : List ℕ). Pending x s.state s.began) (append_assoc p (c ∷ []) b) s.pending })
 
 faulty_is : (f g : ReadFault) → Faulty f ≡ Faulty g → g ≡ f
 faulty_is f g e = cc
 
-pub stopped_where : (b : List ℕ) (q : Both State Lexer) (k i : ℕ) (f : ReadFault) → Sound q → run b q k i ≡ Faulty f → StopsAt b q i f ⊎ EndsAt b q f
-stopped_where [] q k i f h e = inr (record { state = q; began = k; come_there = refl; sound = h; ended = e })
-stopped_where (c ∷ b) q k i f h e = go (byte_move q c) refl (move_agrees q c h) e (λ z n s. stopped_where b z n (i + 1) f s)
+pub stopped_where : (p b : List ℕ) (q : Both State Lexer) (k i : ℕ) (f : ReadFault) → Sound q → Pending p q k → i ≡ length p → run b q k i ≡ Faulty f → StopsAt p b q i f ⊎ EndsAt p b q f
+stopped_where p [] q k i f h w n e = inr (record { state = q; began = k; come_there = refl; sound = h; ended = e; pending = subst (λ (x : List ℕ). Pending x q k) (sym (append-nil p)) w })
+stopped_where p (c ∷ b) q k i f h w n e = go (byte_move q c) refl (move_agrees q c h) (moves_on p q k c w) e (λ z m s u. stopped_where (p ++ (c ∷ [])) b z m (i + 1) f s u (ap (λ x. x + 1) n ∙ sym (length-append p (c ∷ []))))
   where
-    go : (m : Move) → byte_move q c ≡ m → Agrees m (byte_step all_limits q c) → on_move m k i (λ z j. run b z j (i + 1)) ≡ Faulty f → ((z : Both State Lexer) (n : ℕ) → Sound z → run b z n (i + 1) ≡ Faulty f → StopsAt b z (i + 1) f ⊎ EndsAt b z f) → StopsAt (c ∷ b) q i f ⊎ EndsAt (c ∷ b) q f
-    go (Goes z fresh) m a r g = further c b q z i f a.0 (g z (if fresh then i else k) a.1 r)
-    go (Stops x) m a r g = inl (record { front = []; byte = c; more = b; state = q; kind = x; began = k; split = refl; come_there = refl; sound = h; stopped = m; fault = faulty_is (fault_at x k i) f r ∙ ap (λ n. fault_at x k n) (omega arith) })
+    go : (m : Move) → byte_move q c ≡ m → Agrees m (byte_step all_limits q c) → To (p ++ (c ∷ [])) k (length p) m → on_move m k i (λ z j. run b z j (i + 1)) ≡ Faulty f → ((z : Both State Lexer) (n : ℕ) → Sound z → Pending (p ++ (c ∷ [])) z n → run b z n (i + 1) ≡ Faulty f → StopsAt (p ++ (c ∷ [])) b z (i + 1) f ⊎ EndsAt (p ++ (c ∷ [])) b z f) → StopsAt p (c ∷ b) q i f ⊎ EndsAt p (c ∷ b) q f
+    go (Goes z fresh) m a t r g = further p c b q z i f a.0 (g z (if fresh then i else k) a.1 (subst (λ (x : ℕ). Pending (p ++ (c ∷ [])) z (if fresh then x else k)) (sym n) t) r)
+    go (Stops x) m a t r g = inl (record { front = []; byte = c; more = b; state = q; kind = x; began = k; split = refl; come_there = refl; sound = h; stopped = m; pending = subst (λ (x : List ℕ). Pending x q k) (sym (append-nil p)) w; fault = faulty_is (fault_at x k i) f r ∙ ap (λ n. fault_at x k n) (omega arith) })
 
 -- ---- of texts
 
@@ -116,12 +123,12 @@ come_on (d ∷ front) c q z y e n = go (byte_step no_limits q d) e (λ t k. come
 free_there : (front : List ℕ) (c : ℕ) (more : List ℕ) (z y : Both State Lexer) → come (byte_step all_limits) front start ≡ Some z → byte_step no_limits z c ≡ Some y → Continues (Text no_limits) (take (length front + 1) (front ++ (c ∷ more)))
 free_there front c more z y e n = subst (λ x. Continues (Text no_limits) x) (sym (take_front front c more)) (continues_text no_limits (front ++ (c ∷ [])) (reached (byte_step no_limits) (end_value no_limits) (unread_in no_limits) (λ q. live_in no_limits q.parser q.lexer ≡ true) (follows false false) (front ++ (c ∷ [])) start y refl (come_on front c start z y (come_sub false false front start z e) n)).1)
 
-says_byte : (front : List ℕ) (c : ℕ) (more : List ℕ) (z : Both State Lexer) (kind : ByteFault) (began : ℕ) → come (byte_step all_limits) front start ≡ Some z → byte_move z c ≡ Stops kind → Says (front ++ (c ∷ more)) (fault_at kind began (length front))
-says_byte front c more z Unexpected began e s = refused_there false false front c more z e (unexpected_byte z c s)
-says_byte front c more z LongName began e s = let p = long_byte z c s in (refused_there true false front c more z e p.0, free_there front c more z p.1.0 e p.1.1)
-says_byte front c more z OutOfRange began e s = let p = out_byte z c s in (refused_there false true front c more z e p.0, free_there front c more z p.1.0 e p.1.1)
-says_byte front c more z TooDeep began e s = tt
-says_byte front c more z NoMemory began e s = tt
+says_byte : (front : List ℕ) (c : ℕ) (more : List ℕ) (z : Both State Lexer) (kind : ByteFault) (began : ℕ) → come (byte_step all_limits) front start ≡ Some z → Pending front z began → byte_move z c ≡ Stops kind → Says (front ++ (c ∷ more)) (fault_at kind began (length front))
+says_byte front c more z Unexpected began e w s = refused_there false false front c more z e (unexpected_byte z c s)
+says_byte front c more z LongName began e w s = let p = long_byte z c s in (refused_there true false front c more z e p.0, free_there front c more z p.1.0 e p.1.1)
+says_byte front c more z OutOfRange began e w s = let p = out_byte z c s in (refused_there false true front c more z e p.0, free_there front c more z p.1.0 e p.1.1)
+says_byte front c more z TooDeep began e w s = (deep_at front c more z began w s).0
+says_byte front c more z NoMemory began e w s = tt
 
 -- ---- at the end
 
@@ -150,11 +157,11 @@ says_end b q k e h = record {
   before = continues_text no_limits b (reached (byte_step no_limits) (end_value no_limits) (unread_in no_limits) (λ q. live_in no_limits q.parser q.lexer ≡ true) (follows false false) b start q refl (come_sub false false b start q e)).1;
 }
 
-end_says : (b : List ℕ) (q : Both State Lexer) (k : ℕ) (f : ReadFault) → come (byte_step all_limits) b start ≡ Some q → end_answer q.parser (last q.lexer) k ≡ Faulty f → Says b f
-end_says b q k R.Truncated e h = says_end b q k e h
-end_says b q k (R.TooDeep n) e h = tt
-end_says b q k R.NoMemory e h = tt
-end_says b q k (R.Unexpected n) e h = absurd (not_here (last q.lexer) h)
+end_says : (b : List ℕ) (q : Both State Lexer) (k : ℕ) (f : ReadFault) → come (byte_step all_limits) b start ≡ Some q → Pending b q k → end_answer q.parser (last q.lexer) k ≡ Faulty f → Says b f
+end_says b q k R.Truncated e w h = says_end b q k e h
+end_says b q k (R.TooDeep n) e w h = let d = deep_end b q k n w h in subst (λ (m : ℕ). IsDeep b m) (sym d.0) d.1
+end_says b q k R.NoMemory e w h = tt
+end_says b q k (R.Unexpected n) e w h = absurd (not_here (last q.lexer) h)
   where
     not_here : (o : Option (Option Token)) → end_answer q.parser o k ≡ Faulty (R.Unexpected n) → ⊥
     not_here None h = cc
@@ -165,7 +172,7 @@ end_says b q k (R.Unexpected n) e h = absurd (not_here (last q.lexer) h)
         by (Leads z) h = let p = (no_value (value z) (R.Unexpected n) h).0 in cc
         by Refused h = cc
         by OneTooMany h = cc
-end_says b q k (R.LongName n) e h = absurd (not_here (last q.lexer) h)
+end_says b q k (R.LongName n) e w h = absurd (not_here (last q.lexer) h)
   where
     not_here : (o : Option (Option Token)) → end_answer q.parser o k ≡ Faulty (R.LongName n) → ⊥
     not_here None h = cc
@@ -176,7 +183,7 @@ end_says b q k (R.LongName n) e h = absurd (not_here (last q.lexer) h)
         by (Leads z) h = let p = (no_value (value z) (R.LongName n) h).0 in cc
         by Refused h = cc
         by OneTooMany h = cc
-end_says b q k (R.OutOfRange n) e h = absurd (not_here (last q.lexer) h)
+end_says b q k (R.OutOfRange n) e w h = absurd (not_here (last q.lexer) h)
   where
     not_here : (o : Option (Option Token)) → end_answer q.parser o k ≡ Faulty (R.OutOfRange n) → ⊥
     not_here None h = cc
@@ -190,7 +197,7 @@ end_says b q k (R.OutOfRange n) e h = absurd (not_here (last q.lexer) h)
 
 -- the fault that the reader answers
 pub says : (b : List ℕ) (f : ReadFault) → answer b ≡ Faulty f → Says b f
-says b f e = elim (stopped_where b start 0 0 f refl e) [
-  | inl s ↦ subst (λ x. Says x f) (sym s.split) (subst (λ y. Says (s.front ++ (s.byte ∷ s.more)) y) (sym (s.fault ∙ ap (λ n. fault_at s.kind s.began n) (omega arith))) (says_byte s.front s.byte s.more s.state s.kind s.began s.come_there s.stopped))
-  | inr s ↦ end_says b s.state s.began f s.come_there s.ended
+says b f e = elim (stopped_where [] b start 0 0 f refl at_start refl e) [
+  | inl s ↦ subst (λ x. Says x f) (sym s.split) (subst (λ y. Says (s.front ++ (s.byte ∷ s.more)) y) (sym (s.fault ∙ ap (λ n. fault_at s.kind s.began n) (omega arith))) (says_byte s.front s.byte s.more s.state s.kind s.began s.come_there s.pending s.stopped))
+  | inr s ↦ end_says b s.state s.began f s.come_there s.pending s.ended
 ]

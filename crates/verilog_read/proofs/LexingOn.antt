@@ -11,7 +11,7 @@ abbrev pub lexing : List ℕ → Lexer → Option (List Token × Lexer)
 lexing [] l = Some ([], l)
 lexing (c ∷ b) l = and_then (lex l c) (λ r. and_then (lexing b r.0) (λ s. Some (emitted r.1 s.0, s.1)))
 
-emitted_on : (o : Option Token) (ts us : List Token) → emitted o (ts ++ us) ≡ emitted o ts ++ us
+pub emitted_on : (o : Option Token) (ts us : List Token) → emitted o (ts ++ us) ≡ emitted o ts ++ us
 emitted_on None ts us = refl
 emitted_on (Some t) ts us = refl
 

@@ -22,3 +22,6 @@ pub mod Extends
 pub mod Reached
 pub mod Stopping
 pub mod Faults
+pub mod Parsing
+pub mod Pending
+pub mod Deep

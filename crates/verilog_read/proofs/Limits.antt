@@ -1,5 +1,5 @@
 -- What a limit of openings refuses: where a state has a step within a limit, it has the same without.
-use Rattle.std.proofs.Common.{◌≡◌, ℕ, ◌+◌, Bool, true, false, List, ◌∷◌, Option, Some, None, refl, if◌then◌else◌, codes, nat_lt, ap}
+use Rattle.std.proofs.Common.{◌≡◌, ℕ, ◌+◌, Bool, true, false, List, ◌∷◌, Option, Some, None, refl, if◌then◌else◌, codes, nat_lt, ap, ◌∙◌}
 use Rattle.std.specs.Str.{bytes_eq}
 use Rattle.bist_text.specs.Machine.{Holds}
 use Rattle.verilog_tree.specs.declared.tokens.Mark.{Mark}
@@ -18,14 +18,6 @@ use Rattle.verilog_read.proofs.ItemLaws.{parse_goes}
 abbrev Within : Option State → Option State → Type 0
 Within o p = (q : State) → o ≡ Some q → p ≡ Some q
 
-room : (limit : Limit) (d : ℕ) (f : ℕ → State) → Within (in_room (deeper limit d) f) (in_room (deeper None d) f)
-room None d f q e = e
-room (Some most) d f q e = go (nat_lt d most) e
-  where
-    go : (t : Bool) → in_room (if t then Some (d + 1) else None) f ≡ Some q → Some (f (d + 1)) ≡ Some q
-    go true e = e
-    go false e = cc
-
 choose : (b : Bool) (o o' p p' : Option State) → Within o o' → Within p p' → Within (if b then o else p) (if b then o' else p')
 choose true o o' p p' f g = f
 choose false o o' p p' f g = g
@@ -33,58 +25,65 @@ choose false o o' p p' f g = g
 same : (o : Option State) → Within o o
 same o q e = e
 
-module _ (limit : Limit) where
-  want : (p : ℕ) (o : Outside) (t : Token) → Within (want_step limit p o t) (want_step None p o t)
-  want p o (Sign Open) = room limit p _
-  want p o (Sign OpenBrace) = room limit p _
+module _ (limit wider : Limit) (more : (d e : ℕ) → deeper limit d ≡ Some e → deeper wider d ≡ Some e) where
+  room : (d : ℕ) (f : ℕ → State) → Within (in_room (deeper limit d) f) (in_room (deeper wider d) f)
+  room d f q e = go (deeper limit d) refl e
+    where
+      go : (o : Option ℕ) → deeper limit d ≡ o → in_room o f ≡ Some q → in_room (deeper wider d) f ≡ Some q
+      go None k e = cc
+      go (Some x) k e = ap (λ o. in_room o f) (more d x k) ∙ e
+
+  want : (p : ℕ) (o : Outside) (t : Token) → Within (want_step limit p o t) (want_step wider p o t)
+  want p o (Sign Open) = room p _
+  want p o (Sign OpenBrace) = room p _
   want p o (Sign m) = same _
   want p o t = same _
 
-  unary : (u : Option UnOp) (q r : ℕ) (o : Outside) (m : Mark) → Within (unary_step limit u q r o m) (unary_step None u q r o m)
+  unary : (u : Option UnOp) (q r : ℕ) (o : Outside) (m : Mark) → Within (unary_step limit u q r o m) (unary_step wider u q r o m)
   unary None q r o m = want q (InParens r o) (Sign m)
   unary (Some u) q r o m = same _
 
-  inner : (q r : ℕ) (o : Outside) (t : Token) → Within (inside_step limit q r o t) (inside_step None q r o t)
+  inner : (q r : ℕ) (o : Outside) (t : Token) → Within (inside_step limit q r o t) (inside_step wider q r o t)
   inner q r o (Sign m) = unary (unary_of m) q r o m
   inner q r o t = want q (InParens r o) t
 
-  expression : (p : ExprPlace) (t : Token) → Within (step_expr limit p t) (step_expr None p t)
+  expression : (p : ExprPlace) (t : Token) → Within (step_expr limit p t) (step_expr wider p t)
   expression (Want p o) t = want p o t
   expression (Inside q r o) t = inner q r o t
   expression p t = same _
 
-  word : (q : ℕ) (a : Around) (w : List ℕ) → Within (word_step limit q a w) (word_step None q a w)
-  word q a w = choose (bytes_eq w (codes "begin")) _ _ _ _ (room limit q _) (choose (bytes_eq w (codes "if")) _ _ _ _ (room limit q _) (choose (bytes_eq w (codes "case")) _ _ _ _ (room limit q _) (same _)))
+  word : (q : ℕ) (a : Around) (w : List ℕ) → Within (word_step limit q a w) (word_step wider q a w)
+  word q a w = choose (bytes_eq w (codes "begin")) _ _ _ _ (room q _) (choose (bytes_eq w (codes "if")) _ _ _ _ (room q _) (choose (bytes_eq w (codes "case")) _ _ _ _ (room q _) (same _)))
 
-  statement : (q : ℕ) (a : Around) (t : Token) → Within (want_stmt_step limit q a t) (want_stmt_step None q a t)
+  statement : (q : ℕ) (a : Around) (t : Token) → Within (want_stmt_step limit q a t) (want_stmt_step wider q a t)
   statement q a (Identifier w) = word q a w
   statement q a t = same _
 
-  block : (p r : ℕ) (old : P.Statements) (a : Around) (t : Token) → Within (block_step limit p r old a t) (block_step None p r old a t)
+  block : (p r : ℕ) (old : P.Statements) (a : Around) (t : Token) → Within (block_step limit p r old a t) (block_step wider p r old a t)
   block p r old a t = choose (is_word (codes "end") t) _ _ _ _ (same _) (statement p (InBlock r old a) t)
 
-  behind : (a : Around) (q : ℕ) (s : P.Statements) (t : Token) → Within (have_stmt_step limit a q s t) (have_stmt_step None a q s t)
+  behind : (a : Around) (q : ℕ) (s : P.Statements) (t : Token) → Within (have_stmt_step limit a q s t) (have_stmt_step wider a q s t)
   behind (InBlock r old a) q s t = block q r (then_all old s) a t
   behind (InThen r c a) q s t = choose (is_word (codes "else") t) _ _ _ _ (same _) (behind a r (alone (P.IfElse c s P.Done)) t)
   behind (InElse r c s' a) q s t = behind a r (alone (P.IfElse c s' s)) t
   behind a q s t = same _
 
-  if_read : (r q : ℕ) (a : Around) (t : Token) → Within (step_stmt limit (IfRead r q a) t) (step_stmt None (IfRead r q a) t)
-  if_read r q a (Sign Open) = room limit q _
+  if_read : (r q : ℕ) (a : Around) (t : Token) → Within (step_stmt limit (IfRead r q a) t) (step_stmt wider (IfRead r q a) t)
+  if_read r q a (Sign Open) = room q _
   if_read r q a (Sign m) = same _
   if_read r q a t = same _
 
-  case_read : (r q : ℕ) (a : Around) (t : Token) → Within (step_stmt limit (CaseRead r q a) t) (step_stmt None (CaseRead r q a) t)
-  case_read r q a (Sign Open) = room limit q _
+  case_read : (r q : ℕ) (a : Around) (t : Token) → Within (step_stmt limit (CaseRead r q a) t) (step_stmt wider (CaseRead r q a) t)
+  case_read r q a (Sign Open) = room q _
   case_read r q a (Sign m) = same _
   case_read r q a t = same _
 
-  default_read : (r q : ℕ) (x : P.Expression) (as' : P.Arms) (a : Around) (t : Token) → Within (step_stmt limit (DefaultRead r q x as' a) t) (step_stmt None (DefaultRead r q x as' a) t)
+  default_read : (r q : ℕ) (x : P.Expression) (as' : P.Arms) (a : Around) (t : Token) → Within (step_stmt limit (DefaultRead r q x as' a) t) (step_stmt wider (DefaultRead r q x as' a) t)
   default_read r q x as' a (Sign Colon) = same _
   default_read r q x as' a (Sign m) = same _
   default_read r q x as' a t = statement q (InDefault r x as' a) t
 
-  in_stmt : (p : StmtPlace) (t : Token) → Within (step_stmt limit p t) (step_stmt None p t)
+  in_stmt : (p : StmtPlace) (t : Token) → Within (step_stmt limit p t) (step_stmt wider p t)
   in_stmt (WantStmt q a) t = statement q a t
   in_stmt (IfRead r q a) t = if_read r q a t
   in_stmt (CaseRead r q a) t = case_read r q a t
@@ -93,26 +92,38 @@ module _ (limit : Limit) where
   in_stmt (HaveStmt q s a) t = behind a q s t
   in_stmt p t = same _
 
-  opening : (d : ℕ) (s : State) (t : Token) → Within (opens limit d s t) (opens None d s t)
-  opening d s (Sign Open) = room limit d _
+  opening : (d : ℕ) (s : State) (t : Token) → Within (opens limit d s t) (opens wider d s t)
+  opening d s (Sign Open) = room d _
   opening d s (Sign m) = same _
   opening d s t = same _
 
-  item : (p : ItemPlace) (t : Token) → Within (step_item limit p t) (step_item None p t)
+  item : (p : ItemPlace) (t : Token) → Within (step_item limit p t) (step_item wider p t)
   item (HeadOpen n) t = opening 0 _ t
   item (AtRead h) t = opening 0 _ t
   item p t = same _
 
-  -- a step within a limit is one without
-  pub unlimited : (s : State) (t : Token) → Within (step limit s t) (step None s t)
-  unlimited (AtExpr p) t = expression p t
-  unlimited (AtStmt p) t = in_stmt p t
-  unlimited (AtItem p) t = item p t
+  -- a step within a limit is one within a wider one
+  pub wider_step : (s : State) (t : Token) → Within (step limit s t) (step wider s t)
+  wider_step (AtExpr p) t = expression p t
+  wider_step (AtStmt p) t = in_stmt p t
+  wider_step (AtItem p) t = item p t
 
-  -- what may follow begins with a token that is taken
-  pub first_taken : (s : State) (t : Token) (ts : List Token) (v : P.ModuleTree) → rest limit s (t ∷ ts) v → taken s t ≡ true
-  first_taken s t ts v h = go (step limit s t) refl ((parse_goes limit s t ts v).0 h)
-    where
-      go : (o : Option State) → step limit s t ≡ o → Holds o (λ z. rest limit z ts v) → taken s t ≡ true
-      go None e k = absurd k
-      go (Some q) e k = ap is_step (unlimited s t q e)
+pub no_limit : (limit : Limit) (d e : ℕ) → deeper limit d ≡ Some e → deeper None d ≡ Some e
+no_limit None d e h = h
+no_limit (Some most) d e h = go (nat_lt d most) h
+  where
+    go : (t : Bool) → (if t then Some (d + 1) else None) ≡ Some e → Some (d + 1) ≡ Some e
+    go true h = h
+    go false h = cc
+
+-- a step within a limit is one without
+pub unlimited : (limit : Limit) (s : State) (t : Token) (q : State) → step limit s t ≡ Some q → step None s t ≡ Some q
+unlimited limit s t q h = wider_step limit None (no_limit limit) s t q h
+
+-- what may follow begins with a token that is taken
+pub first_taken : (limit : Limit) (s : State) (t : Token) (ts : List Token) (v : P.ModuleTree) → rest limit s (t ∷ ts) v → taken s t ≡ true
+first_taken limit s t ts v h = go (step limit s t) refl ((parse_goes limit s t ts v).0 h)
+  where
+    go : (o : Option State) → step limit s t ≡ o → Holds o (λ z. rest limit z ts v) → taken s t ≡ true
+    go None e k = absurd k
+    go (Some q) e k = ap is_step (unlimited limit s t q e)

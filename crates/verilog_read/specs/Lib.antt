@@ -11,3 +11,4 @@ pub mod Reading
 pub mod WordSets
 pub mod Answering
 pub mod Refusals
+pub mod Openings

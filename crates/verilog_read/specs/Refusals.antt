@@ -2,6 +2,7 @@
 use Rattle.std.specs.Prelude.{ℕ, ◌+◌, List, take}
 use Rattle.bist_text.specs.Grammar.{Continues, IsUnexpected, IsTruncated}
 use Rattle.verilog_tree.specs.Spells.{Limits, no_limits, short_names, small_numbers, Text}
+use Rattle.verilog_read.specs.Openings.{IsDeep}
 use Rattle.verilog_read.specs.declared.fault.ReadFault.{ReadFault}
 use Rattle.verilog_read.specs.declared.fault.ReadFault.TheVariants as R
 
@@ -10,10 +11,11 @@ abbrev pub Passes : Limits → List ℕ → ℕ → Type 0
 Passes l b k = IsUnexpected (Text l) b k × Continues (Text no_limits) (take (k + 1) b)
 
 -- What a fault says of a text: at its byte no text of the grammar goes on so; or a text that keeps a limit doesn't,
--- and one that needn't keep it does; or the text is none and goes on to one.
+-- and one that needn't keep it does; or the text is none and goes on to one; or its opening is one too many.
 abbrev pub Says : List ℕ → ReadFault → Type 0
 Says b (R.Unexpected k) = IsUnexpected (Text no_limits) b k
 Says b (R.LongName k) = Passes short_names b k
 Says b (R.OutOfRange k) = Passes small_numbers b k
 Says b R.Truncated = IsTruncated (Text no_limits) b
+Says b (R.TooDeep k) = IsDeep b k
 Says b _ = Unit {0}

@@ -250,7 +250,7 @@ pub fn read_module(alloc: Global, bytes: &[u8]) -> Result<Module, ReadFault>
     ensures ok { IfOk result (λ m. Spells bytes.now (plain_module m)) }
     ensures accepted { (mo : ModuleTree) → Spells bytes.now mo → MatchResult result (λ m. plain_module m ≡ mo) (λ fault. fault ≡ ReadFault.NoMemory) }
 
-    // What L1, L2, L4 and L5 say of the text, at the byte that they name.
+    // What each fault says of the text, at the byte that it names.
     ensures fault { IfErr result (Says bytes.now) }
 
     // No bytes spell two modules.
