@@ -1,16 +1,17 @@
 -- The module has the sizes that a text can have, so exactly one environment settles.
-use Rattle.std.proofs.Common.{◌≡◌, ℕ, zero, suc, ◌-◌, ◌^◌, ◌<◌, ◌≤◌, Bool, true, false, cond, ◌&&◌, nat_lt, List, [], ◌∷◌, ◌++◌, length, map, refl, sym, subst, arith, inl, inr}
+use Rattle.std.proofs.Common.{◌≡◌, ℕ, zero, suc, ◌-◌, ◌/◌, ◌^◌, ◌<◌, ◌≤◌, Bool, true, false, cond, ◌&&◌, nat_lt, List, [], ◌∷◌, ◌++◌, length, map, refl, sym, subst, arith, inl, inr}
 use Rattle.std.proofs.lemmas.Bool.{lt-ltb, le-leb}
 use Rattle.std.proofs.lemmas.Bool.Decides.{eqb_tells}
 use Rattle.std.proofs.lemmas.Nat.{pow_pos}
 use Rattle.std.specs.Prelude.{slice_index_or, nat_le}
-use Rattle.verilog_tree.specs.Plain.{Expression, Net, BitSelect, PartSelect, Concatenation, Infixed, Expressions, NoMore, Followed, Statement, SetTo, IfElse, CaseOf, statements, ModuleItem}
+use Rattle.verilog_tree.specs.Plain.{Expression, Net, BitSelect, PartSelect, Concatenation, Prefixed, Infixed, Expressions, NoMore, Followed, Statement, SetTo, IfElse, CaseOf, expressions, statements, ModuleItem}
+use Rattle.verilog_tree.specs.declared.tree.UnOp.TheVariants.{AllOnes}
 use Rattle.verilog_tree.specs.declared.tree.BinOp.TheVariants.{Add, Sub}
 use Rattle.verilog_tree.specs.Meaning.{Env, bit}
 use Rattle.verilog_tree.specs.Formed.{is_width, is_place, has_expression, expression_formed, expressions_formed, statements_formed, item_formed, items_formed, ports_formed, formed}
 use Rattle.verilog_tree.specs.Wires.{Starts, OneSettles, Falls}
 use Rattle.verilog_tree.proofs.Settling.{one_settles}
-use Rattle.rtl_layout.specs.Build.{lit, choose, bit_of, pick, step_while, at_reset, counter}
+use Rattle.rtl_layout.specs.Build.{lit, choose, bit_of, pick, step_while, at_reset, low_more, high_more, in_halves, one_more, counter}
 use Rattle.rtl_layout.specs.declared.element.Operation.{Operation}
 use Rattle.rtl_layout.specs.declared.row.Row.{Row}
 use Rattle.rtl_layout.specs.Plan.{Element, Plan, several, port_word}
@@ -21,6 +22,7 @@ use Rattle.rtl_layout.specs.Shows.{Ready, Sized, no_row}
 use Rattle.rtl_layout.proofs.Words.{word_below}
 use Rattle.rtl_layout.proofs.Ranked.{pick_has, rank, rank_falls}
 use Rattle.rtl_layout.proofs.Choice.{double}
+use Rattle.rtl_layout.proofs.Counter.{either, half_in}
 use Rattle.rtl_layout.proofs.Whole.{legal}
 
 pub both : (a b : Bool) → a ≡ true → b ≡ true → (a && b) ≡ true
@@ -64,17 +66,33 @@ step_formed (c ∷ cs) x y a h k = choose_formed c (step_while cs x y) y a.0 (st
 reset_formed : (v a : ℕ) (x : Expression) → 1 ≤ v → v ≤ 64 → a < 2 ^ v → IsFormed x → IsFormed (at_reset (lit v a) x)
 reset_formed v a x h k l f = choose_formed (Net L.reset) (lit v a) x refl (lit_formed v a h k l) f
 
-counter_formed : (r : List ℕ) (v : ℕ) (cs : List Expression) (last : List ℕ) → 1 ≤ v → v ≤ 64 → AllFormed cs → IsFormed (counter r v cs last)
-counter_formed r v cs last h k a =
-    let z = pow_pos v in
-    let o : 1 < 2 ^ v = one_below v h in
-    reset_formed v 0 (step_while cs (choose (Net last) (lit v 0) (Infixed Add (Net r) (lit v 1))) (Net r)) h k (omega arith)
-    (step_formed cs (choose (Net last) (lit v 0) (Infixed Add (Net r) (lit v 1))) (Net r) a
-    (choose_formed (Net last) (lit v 0) (Infixed Add (Net r) (lit v 1)) refl (lit_formed v 0 h k (omega arith)) (both (expression_formed (Net r)) (expression_formed (lit v 1)) refl (lit_formed v 1 h k o))) refl)
+sum_formed : (x : Expression) (v : ℕ) → IsFormed x → 1 ≤ v → v ≤ 64 → IsFormed (Infixed Add x (lit v 1))
+sum_formed x v f h k = both (expression_formed x) (expression_formed (lit v 1)) f (lit_formed v 1 h k (one_below v h))
   where
     one_below : (v : ℕ) → 1 ≤ v → 1 < 2 ^ v
     one_below zero h = absurd (omega arith)
     one_below (suc v) h = omega (arith, double v, pow_pos v)
+
+part_formed : (r : List ℕ) (h l : ℕ) → h ≤ 63 → l ≤ 63 → IsFormed (PartSelect r h l)
+part_formed r h l s t = both (is_place h) (is_place l) (le-leb h 63 s) (le-leb l 63 t)
+
+in_halves_formed : (r : List ℕ) (v l : ℕ) → v ≤ 64 → 1 ≤ l → l < v → IsFormed (in_halves r v l)
+in_halves_formed r v l n some less =
+    let low = part_formed r (l - 1) 0 (omega arith) (omega arith) in
+    let high = part_formed r (v - 1) l (omega arith) (omega arith) in
+    let above = choose_formed (Prefixed AllOnes (PartSelect r (l - 1) 0)) (Infixed Add (PartSelect r (v - 1) l) (lit (v - l) 1)) (PartSelect r (v - 1) l) low (sum_formed (PartSelect r (v - 1) l) (v - l) high (omega arith) (omega arith)) high in
+    let below = sum_formed (PartSelect r (l - 1) 0) l low some (omega arith) in
+    both (expression_formed (high_more r v l)) (expressions_formed (expressions (low_more r l ∷ []))) above (both (expression_formed (low_more r l)) true below refl)
+
+one_more_formed : (r : List ℕ) (v : ℕ) → 1 ≤ v → v ≤ 64 → IsFormed (one_more r v)
+one_more_formed r v h k = either IsFormed r v (λ s. sum_formed (Net r) v refl h k) (λ s. let i = half_in v s in in_halves_formed r v (v / 2) k i.0 i.1)
+
+counter_formed : (r : List ℕ) (v : ℕ) (cs : List Expression) (last : List ℕ) → 1 ≤ v → v ≤ 64 → AllFormed cs → IsFormed (counter r v cs last)
+counter_formed r v cs last h k a =
+    let z = pow_pos v in
+    reset_formed v 0 (step_while cs (choose (Net last) (lit v 0) (one_more r v)) (Net r)) h k (omega arith)
+    (step_formed cs (choose (Net last) (lit v 0) (one_more r v)) (Net r) a
+    (choose_formed (Net last) (lit v 0) (one_more r v) refl (lit_formed v 0 h k (omega arith)) (one_more_formed r v h k)) refl)
 
 -- ---- the module
 

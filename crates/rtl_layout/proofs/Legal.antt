@@ -1,17 +1,17 @@
 -- The module breaks no rule.
-use Rattle.std.proofs.Common.{◌≡◌, ℕ, zero, suc, ◌+◌, ◌-◌, ◌^◌, ◌<◌, ◌≤◌, Bool, true, false, cond, List, [], ◌∷◌, ◌++◌, length, take, drop, map, Some, is_none, refl, sym, ap, ◌∙◌, subst, arith, inl, inr}
+use Rattle.std.proofs.Common.{◌≡◌, ℕ, zero, suc, ◌+◌, ◌-◌, ◌/◌, ◌^◌, ◌<◌, ◌≤◌, Bool, true, false, cond, List, [], ◌∷◌, ◌++◌, length, take, drop, map, Some, is_none, refl, sym, ap, ◌∙◌, subst, arith, inl, inr}
 use Rattle.std.proofs.lemmas.Bool.Decides.{eqb_tells, leb_tells}
 use Rattle.std.proofs.lemmas.List.{length-drop}
 use Rattle.std.proofs.lemmas.Nat.{pow_pos}
 use Rattle.std.specs.Prelude.{slice_index_or}
 use Rattle.std.specs.Str.{bytes_eq}
-use Rattle.verilog_tree.specs.declared.tree.BinOp.TheVariants.{Add, Ne}
+use Rattle.verilog_tree.specs.declared.tree.BinOp.TheVariants.{Ne}
 use Rattle.verilog_tree.specs.declared.names.Kind.{Kind}
 use Rattle.verilog_tree.specs.declared.names.Kind.TheVariants as K
-use Rattle.verilog_tree.specs.Plain.{Expression, Net, BitSelect, PartSelect, Concatenation, Infixed, Expressions, NoMore, Followed, ModuleItem}
+use Rattle.verilog_tree.specs.Plain.{Expression, Net, BitSelect, PartSelect, Concatenation, Infixed, Expressions, NoMore, Followed, ModuleItem, expressions}
 use Rattle.verilog_tree.specs.Names.{Declaration, declarations, item_declarations, lookup, declared_width, is_wire, is_register, is_clk, is_declared_as}
 use Rattle.verilog_tree.specs.Meaning.{bit, width, widths}
-use Rattle.rtl_layout.specs.Build.{lit, choose, bit_of, leaf, below, pick, step_while, at_reset, counter}
+use Rattle.rtl_layout.specs.Build.{lit, choose, bit_of, leaf, below, pick, step_while, at_reset, low_more, high_more, in_halves, one_more, counter}
 use Rattle.rtl_layout.specs.declared.element.Operation.{Operation}
 use Rattle.rtl_layout.specs.declared.row.Row.{Row}
 use Rattle.rtl_layout.specs.Plan.{Element, Plan, several, port_word}
@@ -21,6 +21,7 @@ use Rattle.rtl_layout.specs.Control.{nothing, idle, element_at}
 use Rattle.rtl_layout.specs.Shows.{Ready, Sized}
 use Rattle.rtl_layout.proofs.Choice.{leaf_map, length_map, leaf_drop, leaf_take, length_take, AllWide, below_wide}
 use Rattle.rtl_layout.proofs.Stages.{Ageless, lookup_behind, found_reads, found_over, found_value, found_back, reg}
+use Rattle.rtl_layout.proofs.Counter.{either, half_in}
 use Rattle.rtl_layout.proofs.Sound.{Known, Sound, SoundParts, GoodAssign, GoodAssigns, GoodSet, GoodSets, sets_append}
 
 -- ---- choices
@@ -173,11 +174,27 @@ reset_known p = known p L.reset K.Input 1 refl (reset_at p)
 reset_fits : (p : Plan) (v a : ℕ) (x : Expression) → Fits p v x → Fits p v (at_reset (lit v a) x)
 reset_fits p v a x h = ((reset_known p, tt, h.0, sym h.1), refl)
 
-counter_fits : (p : Plan) (r : List ℕ) (v : ℕ) (cs : List Expression) (last : List ℕ) → is_clk r ≡ false → Is p r K.Register v → Known (names p) last → AllSound p cs → Fits p v (counter r v cs last)
-counter_fits p r v cs last c h l s =
-    let net = net_fits p r K.Register v c h in
-    reset_fits p v 0 (step_while cs (choose (Net last) (lit v 0) (Infixed Add (Net r) (lit v 1))) (Net r))
-    (step_fits p v cs (choose (Net last) (lit v 0) (Infixed Add (Net r) (lit v 1))) (Net r) s ((l, tt, (net.0, tt, net.1), sym net.1), refl) net)
+in_halves_fits : (p : Plan) (r : List ℕ) (v l : ℕ) → is_clk r ≡ false → Is p r K.Register v → v ≤ 64 → 1 ≤ l → l < v → Fits p v (in_halves r v l)
+in_halves_fits p r v l c h s some less =
+    let n = known p r K.Register v c h in
+    let w : wide p r ≡ v = ap declared_width h in
+    let low : Sound (wide p) (names p) (PartSelect r (l - 1) 0) = (n, omega arith, omega arith, omega arith) in
+    let high : Sound (wide p) (names p) (PartSelect r (v - 1) l) = (n, omega arith, omega arith, omega arith) in
+    let low_wide : l - 1 + 1 - 0 ≡ l = omega arith in
+    let high_wide : v - 1 + 1 - l ≡ v - l = omega arith in
+    let all : widths (wide p) (expressions (high_more r v l ∷ low_more r l ∷ [])) ≡ v = (let m : v - 1 + 1 - l + (l - 1 + 1 - 0 + 0) ≡ v = omega arith in m) in
+    ((((low, (high, tt, high_wide), high, refl), ((low, tt, low_wide), tt)), omega arith), all)
+
+one_more_fits : (p : Plan) (r : List ℕ) (v : ℕ) → is_clk r ≡ false → Is p r K.Register v → v ≤ 64 → Fits p v (one_more r v)
+one_more_fits p r v c h s =
+    either (λ x. Fits p v x) r v (λ k. let net = net_fits p r K.Register v c h in ((net.0, tt, net.1), net.1))
+    (λ k. let i = half_in v k in in_halves_fits p r v (v / 2) c h s i.0 i.1)
+
+counter_fits : (p : Plan) (r : List ℕ) (v : ℕ) (cs : List Expression) (last : List ℕ) → is_clk r ≡ false → Is p r K.Register v → v ≤ 64 → Known (names p) last → AllSound p cs → Fits p v (counter r v cs last)
+counter_fits p r v cs last c h n l s =
+    let more = one_more_fits p r v c h n in
+    reset_fits p v 0 (step_while cs (choose (Net last) (lit v 0) (one_more r v)) (Net r))
+    (step_fits p v cs (choose (Net last) (lit v 0) (one_more r v)) (Net r) s ((l, tt, more.0, sym more.1), refl) (net_fits p r K.Register v c h))
 
 good : (p : Plan) (n : List ℕ) (v : ℕ) (x : Expression) → Is p n K.Wire v → Fits p v x → GoodAssign (wide p) (names p) n x
 good p n v x h f = record { sound = f.0; wide = ap declared_width h ∙ sym f.1; there = ap is_none h; wire = ap (is_declared_as (λ d. is_wire d.kind)) h }
@@ -312,13 +329,13 @@ module _ (p : Plan) (ready : Ready p) (sized : Sized p) where
 
   digits_good : GoodSets w (names p) (L.digit_sets p)
   digits_good = (
-    good_set p L.oper p.oper_width (L.oper_next p) (oper_at p) (counter_fits p L.oper p.oper_width (Net L.run ∷ []) L.last_oper refl (oper_at p) last_oper_known (run_known, tt)),
+    good_set p L.oper p.oper_width (L.oper_next p) (oper_at p) (counter_fits p L.oper p.oper_width (Net L.run ∷ []) L.last_oper refl (oper_at p) sized.oper_narrow last_oper_known (run_known, tt)),
     (
-      good_set p L.visit p.visit_width (L.visit_next p) (visit_at p) (counter_fits p L.visit p.visit_width (Net L.run ∷ Net L.last_oper ∷ []) L.last_visit refl (visit_at p) last_visit_known (run_known, (last_oper_known, tt))),
+      good_set p L.visit p.visit_width (L.visit_next p) (visit_at p) (counter_fits p L.visit p.visit_width (Net L.run ∷ Net L.last_oper ∷ []) L.last_visit refl (visit_at p) sized.visit_narrow last_visit_known (run_known, (last_oper_known, tt))),
       (
-        good_set p L.element p.element_width (L.element_next p) (element_is p) (counter_fits p L.element p.element_width (Net L.run ∷ Net L.last_oper ∷ Net L.last_visit ∷ []) L.last_element refl (element_is p) last_element_known (run_known, (last_oper_known, (last_visit_known, tt)))),
+        good_set p L.element p.element_width (L.element_next p) (element_is p) (counter_fits p L.element p.element_width (Net L.run ∷ Net L.last_oper ∷ Net L.last_visit ∷ []) L.last_element refl (element_is p) sized.element_narrow last_element_known (run_known, (last_oper_known, (last_visit_known, tt)))),
         (
-          good_set p L.back p.back_width (L.back_next p) (back_is p) (counter_fits p L.back p.back_width (Net L.run ∷ Net L.last_oper ∷ Net L.last_visit ∷ Net L.last_element ∷ []) L.last_back refl (back_is p) last_back_known (run_known, (last_oper_known, (last_visit_known, (last_element_known, tt))))),
+          good_set p L.back p.back_width (L.back_next p) (back_is p) (counter_fits p L.back p.back_width (Net L.run ∷ Net L.last_oper ∷ Net L.last_visit ∷ Net L.last_element ∷ []) L.last_back refl (back_is p) sized.back_narrow last_back_known (run_known, (last_oper_known, (last_visit_known, (last_element_known, tt))))),
           (
             good_set p L.run 1 L.run_next (run_at p) (reset_fits p 1 1 (step_while (Net L.run ∷ Net L.last_oper ∷ Net L.last_visit ∷ Net L.last_element ∷ Net L.last_back ∷ []) (lit 1 0) (Net L.run))
                 (step_fits p 1 (Net L.run ∷ Net L.last_oper ∷ Net L.last_visit ∷ Net L.last_element ∷ Net L.last_back ∷ []) (lit 1 0) (Net L.run) (run_known, (last_oper_known, (last_visit_known, (last_element_known, (last_back_known, tt))))) (tt, refl) run_fits)),

@@ -9,7 +9,7 @@ use Rattle.verilog_tree.specs.Words.{is_name}
 use Rattle.verilog_tree.specs.Formed.{formed}
 use Rattle.verilog_tree.specs.Fits.{expression_fits, expressions_fit, statements_fit, item_fits, items_fit, ports_fit, fits}
 use Rattle.verilog_tree.specs.Meaning.{bit}
-use Rattle.rtl_layout.specs.Build.{lit, choose, bit_of, pick, at_reset}
+use Rattle.rtl_layout.specs.Build.{lit, choose, bit_of, pick, step_while, at_reset}
 use Rattle.rtl_layout.specs.declared.element.Operation.{Operation}
 use Rattle.rtl_layout.specs.declared.row.Row.{Row}
 use Rattle.rtl_layout.specs.Plan.{Element, Plan, several, port_word}
@@ -18,6 +18,7 @@ use Rattle.rtl_layout.specs.Layout.{stage_regs, stage_sets, items_after, by_oper
 use Rattle.rtl_layout.specs.Control.{nothing, idle, element_at}
 use Rattle.rtl_layout.specs.Shows.{Ready, Sized}
 use Rattle.rtl_layout.proofs.Ranked.{pick_has}
+use Rattle.rtl_layout.proofs.Counter.{either}
 use Rattle.rtl_layout.proofs.Forms.{both, is_formed}
 
 -- more openings may be open
@@ -185,21 +186,25 @@ module _ (p : Plan) (ready : Ready p) (sized : Sized p) (few : p.delay < 4) (ele
     ),
   )
 
+  -- a counter whose next number is x
+  abbrev next_fits : List ℕ → ℕ → List Expression → List ℕ → Expression → Type 0
+  next_fits r w cs last x = Fit 63 (at_reset (lit w 0) (step_while cs (choose (Net last) (lit w 0) x) (Net r)))
+
   block_fits : statements_fit 63 (statements (L.sets_all p)) ≡ true
   block_fits =
       let inner = choose (Infixed Ne (Net L.rdata) (Net L.want)) (lit 1 1) (Net L.bad) in
       sets_fit (L.sets_all p) (
         refl,
-        refl,
+        either (next_fits L.oper p.oper_width (Net L.run ∷ []) L.last_oper) L.oper p.oper_width (λ k. refl) (λ k. refl),
         (
           refl,
-          refl,
+          either (next_fits L.visit p.visit_width (Net L.run ∷ Net L.last_oper ∷ []) L.last_visit) L.visit p.visit_width (λ k. refl) (λ k. refl),
           (
             refl,
-            refl,
+            either (next_fits L.element p.element_width (Net L.run ∷ Net L.last_oper ∷ Net L.last_visit ∷ []) L.last_element) L.element p.element_width (λ k. refl) (λ k. refl),
             (
               refl,
-              refl,
+              either (next_fits L.back p.back_width (Net L.run ∷ Net L.last_oper ∷ Net L.last_visit ∷ Net L.last_element ∷ []) L.last_back) L.back p.back_width (λ k. refl) (λ k. refl),
               (
                 refl,
                 refl,
