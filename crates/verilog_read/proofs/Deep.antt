@@ -147,16 +147,18 @@ deep_token p more q k t h e f g =
         let behind : drop k (p ++ more) ≡ opening_text o ++ more = ap (λ x. drop k x) whole ∙ ap (λ (n : ℕ). drop n (h.front ++ (opening_text o ++ more))) h.at ∙ drop_of h.front (opening_text o ++ more) in
         let same : h.tokens ++ (t ∷ []) ≡ h.tokens ++ (opening_token o ∷ []) = ap (λ x. h.tokens ++ (x ∷ [])) i in
         let sizes : length h.front + length (opening_text o) ≡ length p = sym (ap length h.split ∙ length-append h.front h.own ∙ ap (λ (x : List ℕ). length h.front + length x) r.1) in
-        let free = step_there (step None q.parser t) n in
-        (record {
-          tokens = h.tokens;
-          opening = o;
-          front = subst (λ (x : List ℕ). Lexed h.tokens x) (sym before) r.0;
-          stands = subst (λ (x : List ℕ). word (opening_text o) (stops (opening_goes_on o) (λ r. Unit {0})) x) (sym behind) (here o more (g o i));
-          whole = subst (λ (x : List ℕ). Lexed (h.tokens ++ (opening_token o ∷ [])) (x ++ opening_text o)) (sym before) (subst (λ (x : List ℕ). Lexed (h.tokens ++ (opening_token o ∷ [])) x) (h.split ∙ ap (λ (x : List ℕ). h.front ++ x) r.1) (subst (λ (x : List Token). Lexed x p) same (lexed_end p q.lexer h.tokens (Some t) h.made e)));
-          begins = subst (λ (x : List Token). BeginsText None x) same (begins_text (h.tokens ++ (t ∷ [])) free.0 (parse_on None h.tokens t (AtItem Begin) q.parser free.0 (parse_wider (Some 64) None (no_limit (Some 64)) h.tokens (AtItem Begin) q.parser h.parsed) free.1));
-          deep = λ b. refuted b.0 b.1 b.2;
-        }, let m = long o in let j : k ≡ length h.front = h.at in omega (arith, sizes, m, j))
+        let free = step_there (step None q.parser t) n in (
+          record {
+            tokens = h.tokens;
+            opening = o;
+            front = subst (λ (x : List ℕ). Lexed h.tokens x) (sym before) r.0;
+            stands = subst (λ (x : List ℕ). word (opening_text o) (stops (opening_goes_on o) (λ r. Unit {0})) x) (sym behind) (here o more (g o i));
+            whole = subst (λ (x : List ℕ). Lexed (h.tokens ++ (opening_token o ∷ [])) (x ++ opening_text o)) (sym before) (subst (λ (x : List ℕ). Lexed (h.tokens ++ (opening_token o ∷ [])) x) (h.split ∙ ap (λ (x : List ℕ). h.front ++ x) r.1) (subst (λ (x : List Token). Lexed x p) same (lexed_end p q.lexer h.tokens (Some t) h.made e)));
+            begins = subst (λ (x : List Token). BeginsText None x) same (begins_text (h.tokens ++ (t ∷ [])) free.0 (parse_on None h.tokens t (AtItem Begin) q.parser free.0 (parse_wider (Some 64) None (no_limit (Some 64)) h.tokens (AtItem Begin) q.parser h.parsed) free.1));
+            deep = λ b. refuted b.0 b.1 b.2;
+          },
+          let m = long o in let j : k ≡ length h.front = h.at in omega (arith, sizes, m, j),
+        )
       where
         refuted : (ts : List Token) (mo : ModuleTree) → Derives (Some (needs o)) ((h.tokens ++ (opening_token o ∷ [])) ++ ts) mo → ⊥
         refuted ts mo x =
