@@ -122,7 +122,7 @@ fn a_polarity_inverts_the_words_at_the_port(rt: HostRuntime) -> Result<(), Fail>
     let text = "memory 2\nname two\nwords 2\nbits 1\npolarity 1\n";
     let memory = read_memory(text.as_bytes()).ok().ok_or("a memory")?;
     let wanted = [(true, 0, 0), (true, 1, 0), (false, 1, 0), (false, 0, 0)];
-    assert_eq!(rt; port_ops(&march, &memory).count(), wanted.len());
+    assert_eq!(rt; length(&march, &memory), 4);
     for ((write, addr, word), command) in wanted.iter().zip(port_ops(&march, &memory)) {
         assert_eq!(rt;
             (command.write, command.addr, command.word),
