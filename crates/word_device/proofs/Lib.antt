@@ -1,0 +1,4 @@
+pub mod Lanes
+pub mod Closed
+pub mod Indexes
+pub mod Filling

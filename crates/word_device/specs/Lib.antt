@@ -1,0 +1,5 @@
+pub mod Chips
+pub mod Ports
+pub mod Boxes
+pub mod Runs
+pub mod Joint
