@@ -12,3 +12,4 @@ pub mod Running
 pub mod Marching
 pub mod Joining
 pub mod Joint
+pub mod WayBack

@@ -34,10 +34,10 @@ use Rattle.word_device.proofs.Indexes.{index_found}
 
 -- ---- two indexes have two addresses
 
-product_below : (m : Scrambling) (k : ℕ) → product m k < 2 ^ m.width
+pub product_below : (m : Scrambling) (k : ℕ) → product m k < 2 ^ m.width
 product_below m k = number-below (λ i. dot (row m i) k) m.width (λ i _. dot_below (row m i) k)
 
-product_from : (m : Scrambling) (k : ℕ) → m.constant < 2 ^ m.width → product m k ≡ bit_xor (logical m k) m.constant
+pub product_from : (m : Scrambling) (k : ℕ) → m.constant < 2 ^ m.width → product m k ≡ bit_xor (logical m k) m.constant
 product_from m k h =
     sym (xor_zero_r (product m k)) ∙ ap (bit_xor (product m k)) (sym (xor_self m.constant)) ∙ sym (xor_assoc (product m k) m.constant m.constant)
     ∙ ap (λ n. bit_xor n m.constant) (logical_is m k h)

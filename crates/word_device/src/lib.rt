@@ -17,6 +17,7 @@ mod no_fit;
 mod pending;
 mod port;
 mod shape;
+mod way_back;
 
 pub use array::ArrayDevice;
 pub use constant::ConstDevice;
