@@ -125,7 +125,8 @@ pub record Ready (i : Planted) (n : ℕ) (ws : List ℕ) : Type 0 where
   pub size : length ws ≡ n
   pub closed : closed_words i ws ≡ ws
 
-pub ready_stepped : (i : Planted) (n : ℕ) (ws : List ℕ) (s : Option WordOp) → IsPrimitive i.prim → i.vic.word < n → Ready i n ws → Ready i n (stepped (Some i) ws s)
+pub ready_stepped : (i : Planted) (n : ℕ) (ws : List ℕ) (s : Option WordOp) → IsPrimitive i.prim → i.vic.word < n → Ready i n ws
+    → Ready i n (stepped (Some i) ws s)
 ready_stepped i n ws s is within ready =
     record {
       size = length_stepped (Some i) ws s ∙ ready.size;
@@ -146,7 +147,8 @@ up_fits (e ∷ es) = go (order_of e) (up_fits es)
     go Down rest = rest
     go Any rest = rest
 
-fits_agg : (agg : Option Sense) (place : Option Place) (vic : Place) (words bits : ℕ) → FitsAggPlace agg place vic words bits → FitsAgg agg (word_at place) vic.word words
+fits_agg : (agg : Option Sense) (place : Option Place) (vic : Place) (words bits : ℕ) → FitsAggPlace agg place vic words bits
+    → FitsAgg agg (word_at place) vic.word words
 fits_agg None None vic words bits h = tt
 fits_agg None (Some p) vic words bits h = absurd h
 fits_agg (Some sense) None vic words bits h = absurd h
@@ -178,7 +180,8 @@ through i words bits fits =
       agg = through_agg i i.prim.agg i.agg words bits fits.agg;
     }
 
-beside_below : (agg : Option Sense) (place : Option Place) (vic : Place) (words bits : ℕ) → vic.bit < bits → FitsAggPlace agg place vic words bits → bit_beside place vic.bit < bits
+beside_below : (agg : Option Sense) (place : Option Place) (vic : Place) (words bits : ℕ) → vic.bit < bits → FitsAggPlace agg place vic words bits
+    → bit_beside place vic.bit < bits
 beside_below agg None vic words bits low h = low
 beside_below None (Some p) vic words bits low h = absurd h
 beside_below (Some sense) (Some p) vic words bits low h = h.1

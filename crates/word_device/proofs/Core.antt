@@ -80,7 +80,8 @@ length_stepped i ws (Some o) = length-after i ws o
 
 -- ---- closed words stay closed
 
-closed_after : (i : Planted) (ws : List ℕ) (o : WordOp) → IsPrimitive i.prim → i.vic.word < length ws → closed_words i (words_after (Some i) ws o) ≡ words_after (Some i) ws o
+closed_after : (i : Planted) (ws : List ℕ) (o : WordOp) → IsPrimitive i.prim → i.vic.word < length ws
+    → closed_words i (words_after (Some i) ws o) ≡ words_after (Some i) ws o
 unfolding words_after
 closed_after i ws o is inside =
     closed_twice i (acted_words i ws o) is (subst (λ n. i.vic.word < n) (sym (length-acted i ws o)) inside)

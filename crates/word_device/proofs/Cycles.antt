@@ -84,7 +84,8 @@ module _ (march : List MarchElement) (d : Description) where
   stands j c h = command_stands d (word_steps march d) j c h
 
   -- and nothing else does in any cycle
-  pub only : (k : ℕ) (c : PortOp) → slice_get (slots march d) k ≡ Some (Some c) → (j : ℕ) × (slice_get (port_ops march d) j ≡ Some c) × (k ≡ command_at march d j)
+  pub only : (k : ℕ) (c : PortOp) → slice_get (slots march d) k ≡ Some (Some c)
+      → (j : ℕ) × (slice_get (port_ops march d) j ≡ Some c) × (k ≡ command_at march d j)
   only k c h = only_commands d (word_steps march d) k c h
 
   blank : PortOp

@@ -33,7 +33,8 @@ led s way addr a k leads low is =
     (subst (IsIndexOf s a) (sym is) (leads a (subst (λ x. x < 2 ^ s.width) (sym low) (mod_below addr (2 ^ s.width) (pow_pos s.width)))))
 
 -- it is the one index with this address, if it is below the words
-pub index_is : (shape : Shape) (way : WayBack) (addr a k : ℕ) → IsShape shape → IsWayBack shape.scramble way → a ≡ addr % 2 ^ shape.scramble.width → k ≡ led_to way a
+pub index_is : (shape : Shape) (way : WayBack) (addr a k : ℕ) → IsShape shape → IsWayBack shape.scramble way → a ≡ addr % 2 ^ shape.scramble.width
+    → k ≡ led_to way a
     → k < shape.words → Some k ≡ addressed shape addr
 unfolding addressed
 index_is shape way addr a k is leads low at inside =
@@ -45,7 +46,8 @@ index_is shape way addr a k is leads low at inside =
     ∙ index_found shape.scramble shape.words k inside (λ j l e. here.only j (omega arith) (e ∙ here.back))
     )
 
-pub index_none : (shape : Shape) (way : WayBack) (addr a k : ℕ) → IsShape shape → IsWayBack shape.scramble way → a ≡ addr % 2 ^ shape.scramble.width → k ≡ led_to way a
+pub index_none : (shape : Shape) (way : WayBack) (addr a k : ℕ) → IsShape shape → IsWayBack shape.scramble way → a ≡ addr % 2 ^ shape.scramble.width
+    → k ≡ led_to way a
     → shape.words ≤ k → None ≡ addressed shape addr
 unfolding addressed
 index_none shape way addr a k is leads low at outside =

@@ -127,7 +127,8 @@ module _ (march : List MarchElement) (d : Description) (chip : Chip) (q : ℕ �
   alone joined t within =
       let size = length-slots march d in
       let same : 0 + t ≡ t = omega arith in
-      ap (λ (l : List ℕ). slice_index l t) (sym (answers_of_slots (shape_of d) (run_slots march d) (commands_from (shape_of d) chip q 0 (length (run_slots march d))) (joined_slots joined) chip))
+      let cmds : List PortCmd = commands_from (shape_of d) chip q 0 (length (run_slots march d)) in
+      ap (λ (l : List ℕ). slice_index l t) (sym (answers_of_slots (shape_of d) (run_slots march d) cmds (joined_slots joined) chip))
       ∙ own_in (shape_of d) chip q (length (run_slots march d)) 0 t (omega arith) ∙ ap (own_at (shape_of d) chip q) same
 
   returns : Joined march d chip q returned last → (j : ℕ) → j < command_count march d → returned_word march d returned j ≡ run_word march d chip j

@@ -21,7 +21,8 @@ command_within march d j c at = slice_get_within (port_ops march d) j c at
 
 -- ---- the first wrong word
 
-right_too : (march : List MarchElement) (d : Description) (f g : ℕ → ℕ) → ((j : ℕ) → j < command_count march d → f j ≡ g j) → (j : ℕ) → IsRight march d f j → IsRight march d g j
+right_too : (march : List MarchElement) (d : Description) (f g : ℕ → ℕ) → ((j : ℕ) → j < command_count march d → f j ≡ g j) → (j : ℕ)
+    → IsRight march d f j → IsRight march d g j
 right_too march d f g same j right c at read = sym (same j (command_within march d j c at)) ∙ right c at read
 
 first_too : (march : List MarchElement) (d : Description) (f g : ℕ → ℕ) → ((j : ℕ) → j < command_count march d → f j ≡ g j) → (j : ℕ)
@@ -48,7 +49,8 @@ same_first march d chip q returned last j joined =
 
 -- ---- the end
 
-wrong_too : (march : List MarchElement) (d : Description) (f g : ℕ → ℕ) → ((j : ℕ) → j < command_count march d → f j ≡ g j) → SomeWrong march d f → SomeWrong march d g
+wrong_too : (march : List MarchElement) (d : Description) (f g : ℕ → ℕ) → ((j : ℕ) → j < command_count march d → f j ≡ g j) → SomeWrong march d f
+    → SomeWrong march d g
 wrong_too march d f g same some =
     let wrong : IsWrong march d f some.0 = some.1 in (
       some.0,
@@ -91,7 +93,9 @@ joint_ends march d chip q returned last joined =
       done = here.done.1 late;
       fail = (
         λ f. wrong_too march d (returned_word march d returned) (run_word march d chip) there (read_is_wrong march d returned last (fail.0 f)),
-        λ s. fail.1 (wrong_is_read march d returned last late (wrong_too march d (run_word march d chip) (returned_word march d returned) (λ k l. sym (there k l)) s)),
+        λ s.
+            let back = wrong_too march d (run_word march d chip) (returned_word march d returned) (λ k l. sym (there k l)) s in
+            fail.1 (wrong_is_read march d returned last late back),
       );
     }
 
@@ -112,7 +116,8 @@ fits_at bits (x ∷ os) all zero o e =
 fits_at bits (x ∷ os) all (suc j) o e = fits_at bits os (λ k y l. all (suc k) y (omega arith)) j o e
 
 -- the low bits of a right answer are the answer
-low_right : (march : List MarchElement) (d : Description) (chip : Chip) → IsMemory d → (j : ℕ) → IsRight march d (answer_to march d (run_answers march d chip)) j
+low_right : (march : List MarchElement) (d : Description) (chip : Chip) → IsMemory d → (j : ℕ)
+    → IsRight march d (answer_to march d (run_answers march d chip)) j
     → IsRight march d (run_word march d chip) j
 low_right march d chip m j right c at read =
     ap (λ (n : ℕ). n % 2 ^ d.bits) (right c at read) ∙ mod-eq_of_lt (fits_at d.bits (port_ops march d) (commands_fit march d m) j c at)
@@ -124,11 +129,13 @@ pub joint_passes : (march : List MarchElement) (d : Description) → IsMarch mar
 joint_passes march d is m chip q returned last plain joined =
     let ends = joint_ends march d chip q returned last joined in
     let right = passes_alone march d is m chip plain in
+    let there : (k : ℕ) → k < command_count march d → run_word march d chip k ≡ returned_word march d returned k =
+    λ k l. sym (same_words march d chip q returned last k joined l) in
     record {
       done = ends.done;
       passes = not_true (q last).fail (λ fail.
           let some = ends.fail.0 fail in
           let wrong : IsWrong march d (run_word march d chip) some.0 = some.1 in
           wrong.differs (right some.0 wrong.command wrong.is_command wrong.is_read));
-      right = λ j. right_too march d (run_word march d chip) (returned_word march d returned) (λ k l. sym (same_words march d chip q returned last k joined l)) j (right j);
+      right = λ j. right_too march d (run_word march d chip) (returned_word march d returned) there j (right j);
     }

@@ -30,7 +30,8 @@ operation_at d [] j c e = cc
 operation_at d (x ∷ os) zero c e = (x, refl, cc)
 operation_at d (x ∷ os) (suc j) c e = operation_at d os j c e
 
-command_of_operation : (d : Description) (os : List WordOp) (j : ℕ) (o : WordOp) → slice_get os j ≡ Some o → slice_get (map (port_op d) os) j ≡ Some (port_op d o)
+command_of_operation : (d : Description) (os : List WordOp) (j : ℕ) (o : WordOp) → slice_get os j ≡ Some o
+    → slice_get (map (port_op d) os) j ≡ Some (port_op d o)
 command_of_operation d [] j o e = cc
 command_of_operation d (x ∷ os) zero o e = let same : x ≡ o = cc in ap (λ y. Some (port_op d y)) same
 command_of_operation d (x ∷ os) (suc j) o e = command_of_operation d os j o e

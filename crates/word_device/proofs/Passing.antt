@@ -57,7 +57,8 @@ pub record Passed (f : Bool → ℕ) (x : ℕ) (next : Option Bool) (before afte
 abbrev after_visit : (Bool → ℕ) → List ℕ → ℕ → Op → List ℕ
 after_visit f ws x op = if is_write op then slice_set ws x (f (data_value op)) else ws
 
-visit_right : (f : Bool → ℕ) (ws : List ℕ) (x : ℕ) (op : Op) (last : Option Bool) → is_right last op ≡ true → ((v : Bool) → last ≡ Some v → slice_index ws x ≡ f v)
+visit_right : (f : Bool → ℕ) (ws : List ℕ) (x : ℕ) (op : Op) (last : Option Bool) → is_right last op ≡ true
+    → ((v : Bool) → last ≡ Some v → slice_index ws x ≡ f v)
     → is_write op ≡ false → slice_index ws x ≡ f (data_value op)
 visit_right f ws x W0 last right held read = cc
 visit_right f ws x W1 last right held read = cc
@@ -128,7 +129,8 @@ agrees_off f n x xs last next before after agrees passed off y yn v e =
     (eqb_tells y x)
 
 -- the visits of an element to these addresses
-element_goes : (bits b n e : ℕ) (ops : List Op) (last next : Option Bool) → scan_of last ops ≡ Some next → (xs : List ℕ) (ws : List ℕ) → Distinct xs → AllBelow n xs
+element_goes : (bits b n e : ℕ) (ops : List Op) (last next : Option Bool) → scan_of last ops ≡ Some next → (xs : List ℕ) (ws : List ℕ) → Distinct xs
+    → AllBelow n xs
     → Holds (λ v. word_of b v bits) n xs last next ws
     → Goes (Holds (λ v. word_of b v bits) n [] None next) ws (map (word_op bits b) (address_visits e ops xs))
 element_goes bits b n e ops last next scanned [] ws distinct below holds = record { right = tt; left = record { size = holds.size; agrees = λ y yn v is. holds.agrees y yn v is } }
@@ -173,7 +175,8 @@ elements_go bits b n (e ∷ es) k last end ws scanned holds =
     (λ c left. elements_go bits b n es (k + 1) mid end c parts.2 left)
 
 -- the runs of the backgrounds
-runs_go : (march : List MarchElement) (d : Description) (end : Option Bool) → scan_of None (all_ops march) ≡ Some end → (set : List ℕ) (ws : List ℕ) → length ws ≡ d.words
+runs_go : (march : List MarchElement) (d : Description) (end : Option Bool) → scan_of None (all_ops march) ≡ Some end → (set : List ℕ) (ws : List ℕ)
+    → length ws ≡ d.words
     → Goes (IsSize d.words) ws (flat_map (run_ops march d) set)
 runs_go march d end scanned [] ws size = record { right = tt; left = size }
 runs_go march d end scanned (b ∷ bs) ws size =

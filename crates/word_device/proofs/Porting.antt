@@ -90,7 +90,8 @@ run_in_memory : (words bits b : ℕ) (vs : List Visit) → b < 2 ^ bits → Visi
 run_in_memory words bits b [] fits h = tt
 run_in_memory words bits b (v ∷ vs) fits h = (h.0, word_below bits b (data_value v.op) fits, run_in_memory words bits b vs fits h.1)
 
-runs_in_memory : (march : List MarchElement) (d : Description) (set : List ℕ) → All (λ b. b < 2 ^ d.bits) set → InMemory d.words d.bits (flat_map (run_ops march d) set)
+runs_in_memory : (march : List MarchElement) (d : Description) (set : List ℕ) → All (λ b. b < 2 ^ d.bits) set
+    → InMemory d.words d.bits (flat_map (run_ops march d) set)
 runs_in_memory march d [] fit = tt
 runs_in_memory march d (b ∷ bs) fit =
     in_on d.words d.bits (run_ops march d b) (flat_map (run_ops march d) bs)
@@ -117,7 +118,8 @@ unfolding matches
 matches_read i ws k a b =
     ap (λ t. (falls_on i.prim.vic.act i.vic (op_of false k a) || t) && bits_hold i ws) (falls_same i.prim.agg i.agg k a b)
 
-pub words_same : (i : Option Planted) (ws : List ℕ) (w : Bool) (k a b : ℕ) → (w ≡ true → a ≡ b) → words_after i ws (op_of w k a) ≡ words_after i ws (op_of w k b)
+pub words_same : (i : Option Planted) (ws : List ℕ) (w : Bool) (k a b : ℕ) → (w ≡ true → a ≡ b)
+    → words_after i ws (op_of w k a) ≡ words_after i ws (op_of w k b)
 unfolding words_after
 words_same i ws true k a b h = ap (λ x. words_after i ws (op_of true k x)) (h refl)
 words_same None ws false k a b h = refl

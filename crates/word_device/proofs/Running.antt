@@ -100,8 +100,10 @@ module _ (shape : Shape) (i : Option Planted) where
 -- ---- the run
 
 -- the answer to operation j is its reply, as it is shown
-pub answer_in_run : (d : Description) (i : Option Planted) → IsMemory d → Settles i d.words → (ss : List (Option WordOp)) → InMemory d.words d.bits (operations ss)
-    → (ws pending : List ℕ) (a : ℕ) → length ws ≡ d.words → (j : ℕ) (o : WordOp) (r : ℕ) → slice_get (operations ss) j ≡ Some o → slice_get (replies i ws ss) j ≡ Some r
+pub answer_in_run : (d : Description) (i : Option Planted) → IsMemory d → Settles i d.words → (ss : List (Option WordOp))
+    → InMemory d.words d.bits (operations ss)
+    → (ws pending : List ℕ) (a : ℕ) → length ws ≡ d.words → (j : ℕ) (o : WordOp) (r : ℕ) → slice_get (operations ss) j ≡ Some o
+    → slice_get (replies i ws ss) j ≡ Some r
     → slice_get (own_answers (shape_of d) (chip_of (shape_of d) i ws pending a) (map command_in (cycles d ss))) (place d ss j) ≡ Some (shown o.write d.polarity r)
 answer_in_run d i m settles [] within ws pending a size j o r op reply = cc
 answer_in_run d i m settles (None ∷ ss) within ws pending a size j o r op reply =

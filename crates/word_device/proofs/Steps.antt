@@ -39,11 +39,13 @@ lane_with_bit at ws p b e =
     let w : ℕ = with_bit (slice_index ws p.word) p.bit b in
     lane_set at ws p.word w ∙ ap (slice_set (lane at ws) p.word) (ap (has_bit w) e ∙ with_bit_same (slice_index ws p.word) p.bit b)
 
-pub lane_if : (at : ℕ → ℕ) (b : Bool) (xs ys : List ℕ) (cs ds : List Bool) → lane at xs ≡ cs → lane at ys ≡ ds → lane at (if b then xs else ys) ≡ (if b then cs else ds)
+pub lane_if : (at : ℕ → ℕ) (b : Bool) (xs ys : List ℕ) (cs ds : List Bool) → lane at xs ≡ cs → lane at ys ≡ ds
+    → lane at (if b then xs else ys) ≡ (if b then cs else ds)
 lane_if at true xs ys cs ds ex ey = ex
 lane_if at false xs ys cs ds ex ey = ey
 
-agg_state : (agg : Option Sense) (place : Option Place) (at : ℕ → ℕ) (ws : List ℕ) → ThroughAgg place at → agg_bit_holds agg place ws ≡ agg_holds agg (word_at place) (lane at ws)
+agg_state : (agg : Option Sense) (place : Option Place) (at : ℕ → ℕ) (ws : List ℕ) → ThroughAgg place at
+    → agg_bit_holds agg place ws ≡ agg_holds agg (word_at place) (lane at ws)
 agg_state None place at ws e = refl
 agg_state (Some sense) None at ws e = refl
 agg_state (Some sense) (Some p) at ws e = ap (λ b. same_bit b sense.state) (sym (lane_place at ws p e))

@@ -35,9 +35,14 @@ impl Model for ArrayDevice {
 
     ghost Value = { ArrayState };
 
-    ghost view = { λ s. record { room = s.room; shape = s.shape; chip = record { words = s.words.items; planted = s.planted; pending = s.pending.items; idle = s.idle } } };
+    ghost view = { λ s. record {
+      room = s.room;
+      shape = s.shape;
+      chip = record { words = s.words.items; planted = s.planted; pending = s.pending.items; idle = s.idle };
+    } };
 
-    ghost invariant = { λ s. IsArray s.shape (record { words = s.words.items; planted = s.planted; pending = s.pending.items; idle = s.idle }) × LeadsBack s.shape s.way };
+    ghost invariant = { λ s. LeadsBack s.shape s.way
+        × IsArray s.shape (record { words = s.words.items; planted = s.planted; pending = s.pending.items; idle = s.idle }) };
 }
 
 impl ArrayDevice {
