@@ -1,0 +1,6 @@
+pub mod Chips
+pub mod Ports
+pub mod Boxes
+pub mod Runs
+pub mod Joint
+pub mod WayBack

@@ -1,0 +1,103 @@
+ghost use Rattle.std.specs.Prelude.{◌≡◌, ◌≢◌, ℕ, ◌<◌, ◌↔◌, Option, Some, IsTrue, IsSome, IsOk, IfErr, is_some, Err, OnOk, OnErr};
+ghost use Rattle.fault_core.specs.Primitive.{has_aggressor};
+ghost use Rattle.word_device.specs.Boxes.{Tells, told, IsShape, IsTold, FitsBox, after_fit, after_plant, after_fill, after_cycle, Answers};
+
+use crate::shape::Shape;
+use fault_core::Prim;
+
+/// A bit of a word, by the word's physical index.
+#[derive(Clone, Copy, Debug, PartialEq, Eq)]
+pub struct Place {
+    pub word: u32,
+    pub bit: u8,
+}
+
+/// One instance of a primitive, and where its cells stand.
+#[derive(Clone, Copy)]
+pub struct Planted {
+    pub prim: Prim,
+    /// The aggressor's place, exactly for a primitive of two cells.
+    pub agg: Option<Place>,
+    pub vic: Place,
+}
+
+/// What stands at the port in a cycle.
+#[derive(Clone, Copy, Debug, PartialEq, Eq)]
+pub struct PortCmd {
+    /// Whether the memory is enabled; else the cycle is idle.
+    pub en: bool,
+    /// Whether it writes; else it reads.
+    pub we: bool,
+    /// The logical address.
+    pub addr: u32,
+    /// The word to write.
+    pub wdata: u64,
+}
+
+/// Why a box takes no shape or no instance.
+#[derive(Clone, Copy, Debug, PartialEq, Eq)]
+pub enum DeviceFault {
+    /// V1: it has room for fewer words.
+    TooBig,
+    /// V2: a place is outside the shape, or both are in one word.
+    BadPlace,
+    /// V3: no memory was found.
+    NoMemory,
+}
+
+/// A memory behind a port, in a box.
+///
+/// It tells its chip, or the script of its answers, or nothing; which of them never changes.
+pub trait Device: Drop {
+    ghost use Rattle.word_device.specs.declared.shape.Shape.{Shape};
+
+    ghost room_of: { Self → ℕ };
+
+    ghost shape_of: { Self → Option Shape };
+
+    ghost tells: { Self → Tells };
+
+    /// How many words it has room for.
+    fn room(&self) -> u32
+        ensures { result ≡ room_of self.now };
+
+    /// Whether it has a shape.
+    fn fitted(&self) -> bool
+        ensures fitted { IsTrue result ↔ IsSome (shape_of self.now) }
+        ensures told { IsTold (shape_of self.now) (tells self.now) };
+
+    /// Takes a shape: all words are 0, nothing is planted, and the answers under way are 0. Refused with V1 exactly where it has room for
+    /// fewer words.
+    fn fit(&mut self, shape: &Shape) -> Result<(), DeviceFault>
+        requires { IsShape shape.now }
+        ensures ok { OnOk result (told (room_of self.new) (shape_of self.new) (tells self.new)
+            ≡ told (room_of self.old) (Some shape.now) (after_fit shape.now (tells self.old))) }
+        ensures err { OnErr result (told (room_of self.new) (shape_of self.new) (tells self.new)
+            ≡ told (room_of self.old) (shape_of self.old) (tells self.old)) }
+        ensures too_big { result ≡ Err DeviceFault.TooBig ↔ (room_of self.old < shape.now.words) }
+        ensures places { IfErr result (λ fault. fault ≢ DeviceFault.BadPlace) };
+
+    /// Plants an instance in place of an earlier one, and closes the words. Refused, with V2, exactly where the instance doesn't fit.
+    fn plant(&mut self, planted: &Planted) -> Result<(), DeviceFault>
+        requires fitted { IsSome (shape_of self.old) }
+        requires places { is_some planted.now.agg ≡ has_aggressor planted.now.prim }
+        ensures ok { OnOk result (told (room_of self.new) (shape_of self.new) (tells self.new)
+            ≡ told (room_of self.old) (shape_of self.old) (after_plant planted.now (tells self.old))) }
+        ensures err { OnErr result (told (room_of self.new) (shape_of self.new) (tells self.new)
+            ≡ told (room_of self.old) (shape_of self.old) (tells self.old)) }
+        ensures fits { IsOk result ↔ FitsBox (shape_of self.old) planted.now }
+        ensures bad_place { IfErr result (λ fault. fault ≡ DeviceFault.BadPlace) };
+
+    /// Stores the words that a number stands for, and closes them. The number 0 stands for zeros.
+    fn fill(&mut self, number: u64)
+        requires fitted { IsSome (shape_of self.old) }
+        ensures { told (room_of self.new) (shape_of self.new) (tells self.new)
+            ≡ told (room_of self.old) (shape_of self.old) (after_fill (shape_of self.old) number (tells self.old)) };
+
+    /// Acts on the command, and answers the word that stands at the port in the next cycle.
+    fn cycle(&mut self, cmd: &PortCmd) -> u64
+        requires fitted { IsSome (shape_of self.old) }
+        ensures new { told (room_of self.new) (shape_of self.new) (tells self.new)
+            ≡ told (room_of self.old) (shape_of self.old) (after_cycle (shape_of self.old) cmd.now (tells self.old)) }
+        ensures answer { Answers (shape_of self.old) cmd.now (tells self.old) result };
+}

@@ -1,0 +1,244 @@
+ghost use Rattle.std.specs.Prelude.{◌≡◌, ◌<◌, ◌↔◌, if◌then◌else◌, IsTrue, IsOk, IfErr, is_some, length, Some, None};
+ghost use Rattle.fault_core.specs.Primitive.{agg_has_act, has_aggressor, pauses};
+ghost use Rattle.fault_core.specs.Cells.{has_act, has_this_act};
+ghost use Rattle.word_device.specs.Boxes.{FitsBox};
+ghost use Rattle.word_device.specs.Chips.{bit_in, with_bit_in, agg_bit_holds, bits_hold, closed_words, paused_words, act_on, falls_on, falls_on_agg, matches, plain_words, plain_reply, answered, words_after, reply_to, FitsMemory, FitsAggPlace};
+
+use crate::bits::{has_bit, with_bit};
+use crate::device::{DeviceFault, Place, Planted};
+use crate::shape::Shape;
+use fault_core::{Act, Prim, Sense};
+use word_march::WordOp;
+
+fn bit_in(words: &[u64], at: Place) -> bool
+    requires word { at.word < length words.now }
+    requires bit { at.bit < 64 }
+    ensures { result ≡ bit_in words.now at }
+{
+    has_bit(words[at.word as usize], at.bit)
+}
+
+fn set_bit(words: &mut [u64], at: Place, bit: bool)
+    requires word { at.word < length words.old }
+    requires bit { at.bit < 64 }
+    ensures { words.new ≡ with_bit_in words.old at bit }
+{
+    words[at.word as usize] = with_bit(words[at.word as usize], at.bit, bit);
+}
+
+/// Whether the aggressor's bit holds its state.
+fn does_agg_hold(agg: Option<Sense>, place: Option<Place>, vic: Place, words: &[u64]) -> bool
+    requires { FitsAggPlace agg place vic (length words.now) 64 }
+    ensures { result ≡ agg_bit_holds agg place words.now }
+{
+    match (agg, place) {
+        (Some(sense), Some(at)) => bit_in(words, at) == sense.state,
+        _ => true,
+    }
+}
+
+/// Whether every state of the instance holds.
+fn do_states_hold(planted: &Planted, words: &[u64]) -> bool
+    requires { FitsMemory planted.now (length words.now) 64 }
+    ensures { result ≡ bits_hold planted.now words.now }
+{
+    bit_in(words, planted.vic) == planted.prim.vic().state
+        && does_agg_hold(planted.prim.agg(), planted.agg, planted.vic, words)
+}
+
+fn has_agg_act(agg: Option<Sense>) -> bool
+    ensures { result ≡ agg_has_act agg }
+{
+    match agg {
+        Some(sense) => sense.act.is_some(),
+        None => false,
+    }
+}
+
+fn has_any_act(prim: &Prim) -> bool
+    ensures { result ≡ has_act prim.now }
+{
+    prim.vic().act.is_some() || has_agg_act(prim.agg())
+}
+
+/// Closes the words: an instance without an act acts wherever its states hold.
+#[tactic(auto, unfolding(crate::specs::Chips::closed_words))]
+pub(crate) fn close(planted: &Planted, words: &mut [u64])
+    requires { FitsMemory planted.now (length words.old) 64 }
+    ensures { words.new ≡ closed_words planted.now words.old }
+{
+    if !has_any_act(&planted.prim) && do_states_hold(planted, words) {
+        set_bit(words, planted.vic, planted.prim.after());
+    }
+}
+
+/// The effect of the instance where the act was its own, and closing.
+fn take_effect(planted: &Planted, words: &mut [u64], own: bool)
+    requires { FitsMemory planted.now (length words.old) 64 }
+    ensures { words.new ≡ closed_words planted.now (if own then with_bit_in words.old planted.now.vic planted.now.prim.after else words.old) }
+{
+    if own {
+        set_bit(words, planted.vic, planted.prim.after());
+    }
+    close(planted, words);
+}
+
+fn is_retention(prim: &Prim) -> bool
+    ensures { result ≡ pauses prim.now }
+{
+    matches!(prim.vic().act, Some(Act::Pause))
+}
+
+/// A pause of the words: an instance whose act it is acts where its states hold.
+#[tactic(auto, unfolding(crate::specs::Chips::paused_words))]
+pub(crate) fn pause(planted: &Planted, words: &mut [u64])
+    requires { FitsMemory planted.now (length words.old) 64 }
+    ensures { words.new ≡ paused_words planted.now words.old }
+{
+    let own = is_retention(&planted.prim) && do_states_hold(planted, words);
+    take_effect(planted, words, own);
+}
+
+fn is_this_act(own: Option<Act>, act: Act) -> bool
+    ensures { result ≡ has_this_act own act }
+{
+    match (own, act) {
+        (Some(Act::Read), Act::Read) | (Some(Act::Pause), Act::Pause) => true,
+        (Some(Act::Write(a)), Act::Write(b)) => a == b,
+        _ => false,
+    }
+}
+
+/// What an operation does to a bit of its word.
+fn act_on(op: WordOp, bit: u8) -> Act
+    requires { bit < 64 }
+    ensures { result ≡ act_on op bit }
+{
+    if op.write {
+        Act::Write(has_bit(op.word, bit))
+    } else {
+        Act::Read
+    }
+}
+
+fn does_fall_on(act: Option<Act>, at: Place, op: WordOp) -> bool
+    requires { at.bit < 64 }
+    ensures { result ≡ falls_on act at op }
+{
+    at.word == op.index && is_this_act(act, act_on(op, at.bit))
+}
+
+fn does_fall_on_agg(
+    agg: Option<Sense>,
+    place: Option<Place>,
+    vic: Place,
+    words: &[u64],
+    op: WordOp,
+) -> bool
+    requires { FitsAggPlace agg place vic (length words.now) 64 }
+    ensures { result ≡ falls_on_agg agg place op }
+{
+    match (agg, place) {
+        (Some(sense), Some(at)) => does_fall_on(sense.act, at, op),
+        _ => false,
+    }
+}
+
+/// Whether the operation is the act of the instance, on words where its states hold.
+#[tactic(auto, unfolding(crate::specs::Chips::matches))]
+fn does_match(planted: &Planted, words: &[u64], op: WordOp) -> bool
+    requires { FitsMemory planted.now (length words.now) 64 }
+    ensures { result ≡ matches planted.now words.now op }
+{
+    (does_fall_on(planted.prim.vic().act, planted.vic, op)
+        || does_fall_on_agg(planted.prim.agg(), planted.agg, planted.vic, words, op))
+        && do_states_hold(planted, words)
+}
+
+fn do_plainly(words: &mut [u64], op: WordOp) -> u64
+    requires { op.index < length words.old }
+    ensures words { words.new ≡ plain_words words.old op }
+    ensures reply { result ≡ plain_reply words.old op }
+{
+    if op.write {
+        words[op.index as usize] = op.word;
+        0
+    } else {
+        words[op.index as usize]
+    }
+}
+
+fn with_answer(answer: Option<bool>, vic: Place, word: u64) -> u64
+    requires { vic.bit < 64 }
+    ensures { result ≡ answered answer vic word }
+{
+    match answer {
+        Some(bit) => with_bit(word, vic.bit, bit),
+        None => word,
+    }
+}
+
+/// One operation on words with a planted instance: its reply.
+#[tactic(auto, unfolding(crate::specs::Chips::words_after, crate::specs::Chips::reply_to))]
+pub(crate) fn operate_planted(planted: &Planted, words: &mut [u64], op: WordOp) -> u64
+    requires fits { FitsMemory planted.now (length words.old) 64 }
+    requires within { op.index < length words.old }
+    ensures words { words.new ≡ words_after (Some planted.now) words.old op }
+    ensures reply { result ≡ reply_to (Some planted.now) words.old op }
+{
+    let own = does_match(planted, words, op);
+    let plain = do_plainly(words, op);
+    take_effect(planted, words, own);
+    if own {
+        with_answer(planted.prim.answer(), planted.vic, plain)
+    } else {
+        plain
+    }
+}
+
+/// One operation on words with nothing planted.
+#[tactic(auto, unfolding(crate::specs::Chips::words_after, crate::specs::Chips::reply_to))]
+pub(crate) fn operate_plain(words: &mut [u64], op: WordOp) -> u64
+    requires within { op.index < length words.old }
+    ensures words { words.new ≡ words_after None words.old op }
+    ensures reply { result ≡ reply_to None words.old op }
+{
+    do_plainly(words, op)
+}
+
+fn is_within(at: Place, shape: &Shape) -> bool
+    ensures { IsTrue result ↔ ((at.word < shape.now.words) × (at.bit < shape.now.bits)) }
+{
+    at.word < shape.words && at.bit < shape.bits
+}
+
+fn does_agg_fit(agg: Option<Sense>, place: Option<Place>, vic: Place, shape: &Shape) -> bool
+    requires { is_some place ≡ is_some agg }
+    ensures { IsTrue result ↔ FitsAggPlace agg place vic shape.now.words shape.now.bits }
+{
+    match (agg, place) {
+        (Some(_), Some(at)) => is_within(at, shape) && at.word != vic.word,
+        _ => true,
+    }
+}
+
+/// Whether the instance's places are in the shape, and in different words.
+pub(crate) fn does_fit(planted: &Planted, shape: &Shape) -> bool
+    requires { is_some planted.now.agg ≡ has_aggressor planted.now.prim }
+    ensures { IsTrue result ↔ FitsMemory planted.now shape.now.words shape.now.bits }
+{
+    is_within(planted.vic, shape)
+        && does_agg_fit(planted.prim.agg(), planted.agg, planted.vic, shape)
+}
+
+/// The instance fits the shape, or is refused.
+pub(crate) fn check_place(shape: &Option<Shape>, planted: &Planted) -> Result<(), DeviceFault>
+    requires { is_some planted.now.agg ≡ has_aggressor planted.now.prim }
+    ensures fits { IsOk result ↔ FitsBox shape.now planted.now }
+    ensures bad_place { IfErr result (λ fault. fault ≡ DeviceFault.BadPlace) }
+{
+    match shape {
+        Some(shape) if does_fit(planted, shape) => Ok(()),
+        _ => Err(DeviceFault::BadPlace),
+    }
+}

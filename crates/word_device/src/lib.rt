@@ -1,0 +1,31 @@
+//! Memories of words behind a port, in boxes, with at most one planted instance of a fault primitive.
+//!
+//! A memory keeps its words by physical index, as it stores them. A read is answered some cycles after it, and an instance can lose a
+//! bit over a pause, which is some cycles in which nothing is enabled. In `specs/`: what a box tells (its chip, a script of answers, or
+//! nothing) and what each call makes of that; a chip beside the cycles of a march, and beside the ports of a self-test. Only `fit` takes
+//! memory.
+#![tactic(auto)]
+
+mod array;
+mod bits;
+mod constant;
+mod counting;
+mod device;
+mod instance;
+mod laws;
+mod no_fit;
+mod pending;
+mod port;
+mod shape;
+mod way_back;
+
+pub use array::ArrayDevice;
+pub use constant::ConstDevice;
+pub use counting::CountDevice;
+pub use device::{Device, DeviceFault, Place, Planted, PortCmd};
+pub use laws::{
+    closing, first_differs, freshly_planted_fails, joint_fails, joint_passes, planted_fails,
+    unplanted_passes,
+};
+pub use no_fit::NoFitDevice;
+pub use shape::{Shape, shape_of};
