@@ -1,11 +1,10 @@
 -- A design as contracts see it, and what its calls answer.
 use Rattle.std.specs.Prelude.{◌≡◌, ℕ, ◌+◌, ◌^◌, ◌<◌, true, false, not, ◌&&◌, List, [], ◌∷◌, ◌++◌, length, map, None, Result, Ok, Err}
 use Rattle.std.specs.List.{filter}
-use Rattle.verilog_tree.specs.declared.tree.Module.{Module}
 use Rattle.verilog_tree.specs.declared.fault.TreeFault.{TreeFault}
 use Rattle.verilog_tree.specs.declared.fault.TreeFault.TheVariants as T
 use Rattle.bist_text.specs.ReservedWords.{is_among}
-use Rattle.verilog_tree.specs.Plain.{ModuleItem, ModuleTree, plain_module}
+use Rattle.verilog_tree.specs.Plain.{ModuleItem, ModuleTree}
 use Rattle.verilog_tree.specs.Names.{Declaration, port_declarations, declarations, is_input, is_wire, is_register, is_clk}
 use Rattle.verilog_tree.specs.Meaning.{next}
 use Rattle.verilog_tree.specs.Rules.{first_break, Tells}
@@ -18,7 +17,7 @@ use Rattle.verilog_cycle.specs.Seen.{plain_names}
 -- A design: its module, its registers' values in the order of ports and items, and its nets in the order in which
 -- they are computed.
 pub record DesignView : Type 0 where
-  pub tree : Module
+  pub tree : ModuleTree
   pub registers : List ℕ
   pub nets : List (List ℕ)
 
@@ -61,7 +60,7 @@ pub record Cycle (mo : ModuleTree) (registers inputs outs after : List ℕ) : Ty
 
 -- the design after a cycle with these inputs, in which its outputs had these values
 abbrev pub Clocked : DesignView → DesignView → List ℕ → List ℕ → Type 0
-Clocked old new inputs outs = (new ≡ with_registers old new.registers) × Cycle (plain_module old.tree) old.registers inputs outs new.registers
+Clocked old new inputs outs = (new ≡ with_registers old new.registers) × Cycle old.tree old.registers inputs outs new.registers
 
 -- each of these is new behind the names b, and its expression uses only those, and names of these before it
 abbrev pub Behind : List ModuleItem → List (List ℕ) → List (List ℕ) → Type 0
@@ -85,7 +84,7 @@ NoLoop mo = (ns : List (List ℕ)) → IsLoop mo ns → ⊥
 pub record IsNew (mo : ModuleTree) (d : DesignView) : Type 0 where
   pub legal : first_break mo ≡ None
   pub loopless : NoLoop mo
-  pub tree : plain_module d.tree ≡ mo
+  pub tree : d.tree ≡ mo
   pub zero : d.registers ≡ map (λ _. 0) (registers_of mo)
   pub nets : AreNets mo d.nets
 

@@ -8,6 +8,6 @@ use Rattle.verilog_cycle.proofs.design.Design.inputs_fit.Goals as goal
 
 pub returns : goal.returns
 returns c =
-    fit_iff (map declaration c.self.inside.inputs.items) (inputs_of (plain_module c.args.self.now.tree)) c.args.values.now c.fit.result
-    (c.self.invariant.0.inputs_are ∙ ap (λ (v : DesignView). inputs_of (plain_module v.tree)) c.self.view_is)
+    fit_iff (map declaration c.self.inside.inputs.items) (inputs_of c.args.self.now.tree) c.args.values.now c.fit.result
+    (c.self.invariant.0.inputs_are ∙ ap (λ (v : DesignView). inputs_of v.tree) c.self.view_is)
     (c.fit.ensures ∙ ap (λ l. fit (map declaration l) c.args.values.now) c.deref.ensures.value)

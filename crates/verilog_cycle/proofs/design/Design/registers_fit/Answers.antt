@@ -8,6 +8,6 @@ use Rattle.verilog_cycle.proofs.design.Design.registers_fit.Goals as goal
 
 pub returns : goal.returns
 returns c =
-    fit_iff (map declaration c.self.inside.registers.items) (registers_of (plain_module c.args.self.now.tree)) c.args.values.now c.fit.result
-    (c.self.invariant.0.registers_are ∙ ap (λ (v : DesignView). registers_of (plain_module v.tree)) c.self.view_is)
+    fit_iff (map declaration c.self.inside.registers.items) (registers_of c.args.self.now.tree) c.args.values.now c.fit.result
+    (c.self.invariant.0.registers_are ∙ ap (λ (v : DesignView). registers_of v.tree) c.self.view_is)
     (c.fit.ensures ∙ ap (λ l. fit (map declaration l) c.args.values.now) c.deref.ensures.value)
