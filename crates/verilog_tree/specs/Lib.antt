@@ -10,6 +10,7 @@ pub mod Rules
 pub mod Seen
 pub mod Spells
 pub mod Stored
+pub mod Tables
 pub mod Tokens
 pub mod Valued
 pub mod Wires
