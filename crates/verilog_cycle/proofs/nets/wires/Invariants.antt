@@ -1,4 +1,4 @@
-use Rattle.std.proofs.Common.{◌≡◌, [], ◌++◌, map, drop, get_or}
+use Rattle.std.proofs.Common.{◌≡◌, ◌++◌, map, drop}
 use Rattle.verilog_tree.specs.Seen.{declaration}
 use Rattle.verilog_cycle.specs.Nets.{picked}
 use Rattle.verilog_cycle.specs.Seen.{plain_names}
