@@ -3,10 +3,13 @@ pub mod Built
 pub mod Code
 pub mod Compile
 pub mod Design
+pub mod DesignStored
 pub mod Fitting
 pub mod Graph
 pub mod Inside
 pub mod Nets
+pub mod Numbering
 pub mod Scope
 pub mod Seen
 pub mod Settled
+pub mod Tabled

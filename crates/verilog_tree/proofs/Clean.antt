@@ -51,7 +51,7 @@ pub not_here : {A : Type 0} (t : Bool) (b : A) (o : Option A) → cond t (Some b
 not_here true b o h = cc
 not_here false b o h = (refl, h)
 
-none_of : (o : Option Declaration) → is_some o ≡ false → o ≡ None
+pub none_of : (o : Option Declaration) → is_some o ≡ false → o ≡ None
 none_of None h = refl
 none_of (Some d) h = cc
 
@@ -99,7 +99,7 @@ fresh_one ds b (RegItem n k) h = (none_of (lookup ds n) ((not_here (is_some (loo
 fresh_one ds b (AssignItem n x) h = tt
 fresh_one ds b (AlwaysItem c ss) h = tt
 
-one_more : (ps : List ModulePort) (b : List ModuleItem) (i : ModuleItem) → declarations ps (b ++ i ∷ []) ≡ declarations ps b ++ declared_by i
+pub one_more : (ps : List ModulePort) (b : List ModuleItem) (i : ModuleItem) → declarations ps (b ++ i ∷ []) ≡ declarations ps b ++ declared_by i
 one_more ps b i = declarations_more ps b (i ∷ []) ∙ ap (λ l. declarations ps b ++ l) (append-nil (declared_by i))
 
 pub items_fresh : (w : List ℕ → ℕ) (ps : List ModulePort) (b is : List ModuleItem) → items_break w ps b is ≡ None → Fresh (declarations ps b) (item_declarations is)

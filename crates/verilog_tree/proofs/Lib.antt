@@ -1,6 +1,8 @@
+pub mod Behind
 pub mod Bounds
 pub mod Breaks
 pub mod Clean
+pub mod Hashed
 pub mod Lists
 pub mod Lookups
 pub mod Loops

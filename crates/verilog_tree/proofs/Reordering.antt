@@ -137,7 +137,7 @@ only_here b n (AsTarget m ∷ ms) h t =
 only_here b n (Whole m ∷ ms) h t = only_here b n ms h t
 only_here b n (Selected m i l ∷ ms) h t = only_here b n ms h t
 
-set_append : (b is : List ModuleItem) (n : List ℕ) → is_set (b ++ is) n ≡ (is_set b n || is_set is n)
+pub set_append : (b is : List ModuleItem) (n : List ℕ) → is_set (b ++ is) n ≡ (is_set b n || is_set is n)
 set_append [] is n = refl
 set_append (WireItem k v ∷ b) is n = set_append b is n
 set_append (RegItem k v ∷ b) is n = set_append b is n

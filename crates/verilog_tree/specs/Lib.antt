@@ -9,6 +9,8 @@ pub mod Plain
 pub mod Rules
 pub mod Seen
 pub mod Spells
+pub mod Stored
+pub mod Tables
 pub mod Tokens
 pub mod Valued
 pub mod Wires

@@ -28,12 +28,6 @@ pub struct Declared {
     pub width: u8,
 }
 
-pub(crate) fn same(a: &Name, b: &Name) -> bool
-    ensures { result ≡ bytes_eq a.now.bytes b.now.bytes }
-{
-    a.as_str() == b.as_str()
-}
-
 pub(crate) fn is_clk(name: &Name) -> bool
     ensures { result ≡ is_clk name.now.bytes }
 {
@@ -60,17 +54,6 @@ pub(crate) fn declared_port(port: &Port) -> Declared
     }
 }
 
-pub(crate) fn port_lookup(ports: &[Port], name: &Name) -> Option<Declared>
-    ensures { option_map declaration result ≡ lookup (port_declarations (map plain_port ports.now)) name.now.bytes }
-{
-    for port in ports {
-        if same(name, &port.name) {
-            return Some(declared_port(port));
-        }
-    }
-    None
-}
-
 pub(crate) fn declared_item(item: &Item) -> Option<Declared>
     ensures { declares (option_map declaration result) ≡ item_declarations (plain_item item.now ∷ []) }
 {
@@ -86,40 +69,6 @@ pub(crate) fn declared_item(item: &Item) -> Option<Declared>
             width: register.width,
         }),
         Item::Assign(_, _) | Item::Always(_, _) => None,
-    }
-}
-
-fn item_lookup(items: &[Item], name: &Name) -> Option<Declared>
-    ensures { option_map declaration result ≡ lookup (item_declarations (map plain_item items.now)) name.now.bytes }
-{
-    for item in items {
-        if let Some(declared) = declared_item(item) {
-            if same(name, &declared.name) {
-                return Some(declared);
-            }
-        }
-    }
-    None
-}
-
-/// The first declaration of a name, in the ports and then the items.
-#[tactic(auto, using(crate::proofs::Lookups::lookup_first, crate::proofs::Lookups::lookup_second))]
-pub(crate) fn lookup(ports: &[Port], items: &[Item], name: &Name) -> Option<Declared>
-    ensures { option_map declaration result ≡ lookup (declarations (map plain_port ports.now) (map plain_item items.now)) name.now.bytes }
-{
-    match port_lookup(ports, name) {
-        Some(declared) => Some(declared),
-        None => item_lookup(items, name),
-    }
-}
-
-/// The width that a name is declared with, or 0.
-pub(crate) fn width_of(ports: &[Port], items: &[Item], name: &Name) -> u8
-    ensures { result ≡ width_of (declarations (map plain_port ports.now) (map plain_item items.now)) name.now.bytes }
-{
-    match lookup(ports, items, name) {
-        Some(declared) => declared.width,
-        None => 0,
     }
 }
 

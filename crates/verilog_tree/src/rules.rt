@@ -1,70 +1,56 @@
 //! The rules that a module must keep.
-ghost use Rattle.std.specs.Prelude.{◌≡◌, ℕ, IsTrue, [], ◌∷◌, map, IfOk};
+ghost use Rattle.std.specs.Prelude.{◌≡◌, ℕ, IsTrue, [], ◌∷◌, map, OnOk};
 ghost use Rattle.verilog_tree.specs.Plain.{plain_item, plain_port, plain_module};
-ghost use Rattle.verilog_tree.specs.Names.{is_wire, port_declarations, item_declarations};
+ghost use Rattle.verilog_tree.specs.Names.{is_wire, port_declarations, item_declarations, width_of};
 ghost use Rattle.verilog_tree.specs.Formed.{formed};
-ghost use Rattle.verilog_tree.specs.Rules.{has_kind, Refuses, Unknown, SelectRange, NotAssignable, TwoBlocks, NotClock, first_bad, is_unknown, is_assigned, twice, is_out_of_range, assignable, is_wrong_target, is_target, is_set, is_set_before, is_wrong_clock, declares_clk, item_break, items_break, port_twice, port_clock, undriven, first_break};
-ghost use Rattle.verilog_tree.specs.Seen.{mention, declared_behind, widths_behind};
+ghost use Rattle.verilog_tree.specs.Rules.{has_kind, Refuses, Unknown, SelectRange, NotAssignable, TwoBlocks, NotClock, mentions, first_bad, is_unknown, is_out_of_range, assignable, is_wrong_target, is_wrong_clock, declares_clk, port_twice, port_clock, first_of, items_break, first_break};
+ghost use Rattle.verilog_tree.specs.Meaning.{names_widths};
+ghost use Rattle.verilog_tree.specs.Seen.{mention};
+ghost use Rattle.verilog_tree.specs.Tables.{RefusesElse, AssignedElse, among, again, is_target_among, with_targets, break_behind, declared_behind, assigned_behind, set_behind, breaks_behind, all_assigned, unassigned};
 
 use crate::fault::TreeFault;
 use crate::mentions::{Mention, mentions};
-use crate::names::{
-    Kind, declared_item, declared_port, is_clk, lookup, port_lookup, same, width_of,
-};
+use crate::names::{Kind, declared_item, declared_port, is_clk};
+use crate::tables::{Declarations, NameSet, add_item, all_declarations};
 use crate::tree::{Item, Module, Name, Port};
 use crate::widths::item_widths;
 use bist_bits::NoMemory;
 use std::alloc::Global;
 
 // N1: every name is declared before.
-fn known(ports: &[Port], before: &[Item], all: &[Mention]) -> Result<(), TreeFault>
-    ensures { Refuses (first_bad (is_unknown (declared_behind ports.now before.now)) Unknown (map mention all.now)) result }
+fn known(declared: &Declarations, all: &[Mention]) -> Result<(), TreeFault>
+    ensures { Refuses (first_bad (is_unknown declared.now) Unknown (map mention all.now)) result }
 {
     for next in all {
         let name = next.name();
-        if lookup(ports, before, &name).is_none() {
+        if declared.get(&name).is_none() {
             return Err(TreeFault::Unknown { name });
         }
     }
     Ok(())
 }
 
-fn is_assigned(items: &[Item], name: &Name) -> bool
-    ensures { result ≡ is_assigned (map plain_item items.now) name.now.bytes }
+fn is_wire(declared: &Declarations, name: &Name) -> bool
+    ensures { result ≡ has_kind is_wire declared.now name.now.bytes }
 {
-    for item in items {
-        if let Item::Assign(target, _) = item {
-            if same(name, target) {
-                return true;
-            }
-        }
-    }
-    false
-}
-
-fn is_wire(ports: &[Port], before: &[Item], name: &Name) -> bool
-    ensures { result ≡ has_kind is_wire (declared_behind ports.now before.now) name.now.bytes }
-{
-    match lookup(ports, before, name) {
-        Some(declared) => declared.kind == Kind::Wire,
+    match declared.get(name) {
+        Some(found) => found.kind == Kind::Wire,
         None => false,
     }
 }
 
 // N2: no name is declared twice, and no wire or plain output has a second `assign`.
-fn once(ports: &[Port], before: &[Item], item: &Item) -> Result<(), TreeFault>
-    ensures { Refuses (twice (declared_behind ports.now before.now) (map plain_item before.now) (plain_item item.now)) result }
+fn once(declared: &Declarations, assigned: &NameSet, item: &Item) -> Result<(), TreeFault>
+    ensures { Refuses (again declared.now (among assigned.now) (plain_item item.now)) result }
 {
     match item {
-        Item::Wire(declared) | Item::Reg(declared) => {
-            if lookup(ports, before, &declared.name).is_some() {
-                return Err(TreeFault::Twice {
-                    name: declared.name,
-                });
+        Item::Wire(next) | Item::Reg(next) => {
+            if declared.get(&next.name).is_some() {
+                return Err(TreeFault::Twice { name: next.name });
             }
         }
         Item::Assign(name, _) => {
-            if is_wire(ports, before, name) && is_assigned(before, name) {
+            if is_wire(declared, name) && assigned.contains(name) {
                 return Err(TreeFault::Twice { name: *name });
             }
         }
@@ -73,12 +59,12 @@ fn once(ports: &[Port], before: &[Item], item: &Item) -> Result<(), TreeFault>
     Ok(())
 }
 
-fn is_out_of_range(ports: &[Port], items: &[Item], next: &Mention) -> bool
-    ensures { result ≡ is_out_of_range (widths_behind ports.now items.now) (mention next.now) }
+fn is_out_of_range(widths: &Declarations, next: &Mention) -> bool
+    ensures { result ≡ is_out_of_range (width_of widths.now) (mention next.now) }
 {
     match next {
         Mention::Select(name, high, low) => {
-            let width = width_of(ports, items, name);
+            let width = widths.width(name);
             !(*high < width) || *high < *low || width == 1
         }
         Mention::Clock(_) | Mention::Target(_) | Mention::Whole(_) => false,
@@ -86,11 +72,11 @@ fn is_out_of_range(ports: &[Port], items: &[Item], next: &Mention) -> bool
 }
 
 // N6: a select lies in a name of more than one bit.
-fn selects_in_range(ports: &[Port], items: &[Item], all: &[Mention]) -> Result<(), TreeFault>
-    ensures { Refuses (first_bad (is_out_of_range (widths_behind ports.now items.now)) SelectRange (map mention all.now)) result }
+fn selects_in_range(widths: &Declarations, all: &[Mention]) -> Result<(), TreeFault>
+    ensures { Refuses (first_bad (is_out_of_range (width_of widths.now)) SelectRange (map mention all.now)) result }
 {
     for next in all {
-        if is_out_of_range(ports, items, next) {
+        if is_out_of_range(widths, next) {
             return Err(TreeFault::SelectRange { name: next.name() });
         }
     }
@@ -106,12 +92,12 @@ fn assignable(item: &Item, kind: Kind) -> bool
     }
 }
 
-fn is_wrong_target(ports: &[Port], before: &[Item], item: &Item, next: &Mention) -> bool
-    ensures { result ≡ is_wrong_target (assignable (plain_item item.now)) (declared_behind ports.now before.now) (mention next.now) }
+fn is_wrong_target(declared: &Declarations, item: &Item, next: &Mention) -> bool
+    ensures { result ≡ is_wrong_target (assignable (plain_item item.now)) declared.now (mention next.now) }
 {
     match next {
-        Mention::Target(name) => match lookup(ports, before, name) {
-            Some(declared) => !assignable(item, declared.kind),
+        Mention::Target(name) => match declared.get(name) {
+            Some(found) => !assignable(item, found.kind),
             None => true,
         },
         Mention::Clock(_) | Mention::Whole(_) | Mention::Select(_, _, _) => false,
@@ -120,64 +106,35 @@ fn is_wrong_target(ports: &[Port], before: &[Item], item: &Item, next: &Mention)
 
 // N5: `assign` names a wire or plain output, and `<=` a register.
 fn targets_assignable(
-    ports: &[Port],
-    before: &[Item],
+    declared: &Declarations,
     item: &Item,
     all: &[Mention],
 ) -> Result<(), TreeFault>
-    ensures { Refuses (first_bad (is_wrong_target (assignable (plain_item item.now)) (declared_behind ports.now before.now)) NotAssignable (map mention all.now)) result }
+    ensures { Refuses (first_bad (is_wrong_target (assignable (plain_item item.now)) declared.now) NotAssignable (map mention all.now)) result }
 {
     for next in all {
-        if is_wrong_target(ports, before, item, next) {
+        if is_wrong_target(declared, item, next) {
             return Err(TreeFault::NotAssignable { name: next.name() });
         }
     }
     Ok(())
 }
 
-fn is_target(name: &Name, all: &[Mention]) -> bool
-    ensures { result ≡ is_target name.now.bytes (map mention all.now) }
-{
-    for next in all {
-        if let Mention::Target(target) = next {
-            if same(name, target) {
-                return true;
-            }
-        }
-    }
-    false
-}
-
-// Whether an earlier block sets the register.
-fn is_set(alloc: Global, before: &[Item], name: &Name) -> Result<bool, NoMemory>
-    ensures { IfOk result (λ set. set ≡ is_set (map plain_item before.now) name.now.bytes) }
-{
-    for item in before {
-        if let Item::Always(_, _) = item {
-            let all = mentions(alloc, item)?;
-            if is_target(name, &all) {
-                return Ok(true);
-            }
-        }
-    }
-    Ok(false)
-}
-
-fn is_set_before(alloc: Global, before: &[Item], next: &Mention) -> Result<bool, NoMemory>
-    ensures { IfOk result (λ set. set ≡ is_set_before (map plain_item before.now) (mention next.now)) }
+fn is_set(set: &NameSet, next: &Mention) -> bool
+    ensures { result ≡ is_target_among set.now (mention next.now) }
 {
     match next {
-        Mention::Target(name) => is_set(alloc, before, name),
-        Mention::Clock(_) | Mention::Whole(_) | Mention::Select(_, _, _) => Ok(false),
+        Mention::Target(name) => set.contains(name),
+        Mention::Clock(_) | Mention::Whole(_) | Mention::Select(_, _, _) => false,
     }
 }
 
 // N4: no earlier block sets what is set here.
-fn in_one_block(alloc: Global, before: &[Item], all: &[Mention]) -> Result<(), TreeFault>
-    ensures { Refuses (first_bad (is_set_before (map plain_item before.now)) TwoBlocks (map mention all.now)) result }
+fn in_one_block(set: &NameSet, all: &[Mention]) -> Result<(), TreeFault>
+    ensures { Refuses (first_bad (is_target_among set.now) TwoBlocks (map mention all.now)) result }
 {
     for next in all {
-        if is_set_before(alloc, before, next)? {
+        if is_set(set, next) {
             return Err(TreeFault::TwoBlocks { name: next.name() });
         }
     }
@@ -201,14 +158,12 @@ fn no_second_clk(item: &Item) -> Result<(), TreeFault>
     Ok(())
 }
 
-fn is_wrong_clock(ports: &[Port], before: &[Item], next: &Mention) -> bool
-    ensures { result ≡ is_wrong_clock (declared_behind ports.now before.now) (mention next.now) }
+fn is_wrong_clock(declared: &Declarations, next: &Mention) -> bool
+    ensures { result ≡ is_wrong_clock declared.now (mention next.now) }
 {
     match next {
-        Mention::Clock(name) => match lookup(ports, before, name) {
-            Some(declared) => !(is_clk(name)
-                && declared.kind == Kind::Input
-                && declared.width == 1),
+        Mention::Clock(name) => match declared.get(name) {
+            Some(found) => !(is_clk(name) && found.kind == Kind::Input && found.width == 1),
             None => true,
         },
         Mention::Target(_) => false,
@@ -217,59 +172,103 @@ fn is_wrong_clock(ports: &[Port], before: &[Item], next: &Mention) -> bool
 }
 
 // N10: a clock is an input of one bit named `clk`, which stands in no expression.
-fn clocked(ports: &[Port], before: &[Item], all: &[Mention]) -> Result<(), TreeFault>
-    ensures { Refuses (first_bad (is_wrong_clock (declared_behind ports.now before.now)) NotClock (map mention all.now)) result }
+fn clocked(declared: &Declarations, all: &[Mention]) -> Result<(), TreeFault>
+    ensures { Refuses (first_bad (is_wrong_clock declared.now) NotClock (map mention all.now)) result }
 {
     for next in all {
-        if is_wrong_clock(ports, before, next) {
+        if is_wrong_clock(declared, next) {
             return Err(TreeFault::Clock { name: next.name() });
         }
     }
     Ok(())
 }
 
-#[tactic(auto, using(crate::proofs::Refusals::tells_now, crate::proofs::Refusals::tells_later, crate::proofs::Refusals::none_more), unfolding(crate::specs::Rules::item_break))]
+/// What stands before an item.
+#[derive(Drop)]
+struct Before {
+    declared: Declarations,
+    // What `assign` items name.
+    assigned: NameSet,
+    // What blocks set.
+    set: NameSet,
+}
+
+#[tactic(auto, using(crate::proofs::Refusals::tells_now, crate::proofs::Refusals::tells_later, crate::proofs::Refusals::none_more), unfolding(crate::specs::Tables::break_behind))]
 fn check_item(
-    alloc: Global,
-    ports: &[Port],
-    items: &[Item],
-    before: &[Item],
+    widths: &Declarations,
+    before: &Before,
     item: &Item,
+    all: &[Mention],
 ) -> Result<(), TreeFault>
-    ensures { Refuses (item_break (widths_behind ports.now items.now) (map plain_port ports.now) (map plain_item before.now) (plain_item item.now)) result }
+    requires { map mention all.now ≡ mentions (plain_item item.now) }
+    ensures { Refuses (break_behind (width_of widths.now) before.now.declared (among before.now.assigned) before.now.set (plain_item item.now)) result }
 {
-    let all = mentions(alloc, item)?;
-    known(ports, before, &all)?;
-    once(ports, before, item)?;
-    selects_in_range(ports, items, &all)?;
-    item_widths(ports, items, item)?;
-    targets_assignable(ports, before, item, &all)?;
-    in_one_block(alloc, before, &all)?;
+    known(&before.declared, all)?;
+    once(&before.declared, &before.assigned, item)?;
+    selects_in_range(widths, all)?;
+    item_widths(widths, item)?;
+    targets_assignable(&before.declared, item, all)?;
+    in_one_block(&before.set, all)?;
     no_second_clk(item)?;
-    clocked(ports, before, &all)
+    clocked(&before.declared, all)
 }
 
-#[tactic(auto, using(crate::proofs::Refusals::tells_now, crate::proofs::Refusals::tells_later, crate::proofs::Refusals::none_more))]
-fn check_items(alloc: Global, ports: &[Port], items: &[Item]) -> Result<(), TreeFault>
-    ensures { Refuses (items_break (widths_behind ports.now items.now) (map plain_port ports.now) [] (map plain_item items.now)) result }
+fn add_targets(set: &mut NameSet, all: &[Mention]) -> Result<(), NoMemory>
+    ensures { OnOk result (set.new ≡ with_targets set.old (map mention all.now)) }
 {
-    for (i, item) in items.iter().enumerate() {
-        check_item(alloc, ports, items, &items[..i], item)?;
-    }
-    Ok(())
-}
-
-// N2 in the ports.
-fn ports_once(ports: &[Port]) -> Result<(), TreeFault>
-    ensures { Refuses (port_twice [] (port_declarations (map plain_port ports.now))) result }
-{
-    for i in 0..ports.len() {
-        let name = ports[i].name;
-        if port_lookup(&ports[..i], &name).is_some() {
-            return Err(TreeFault::Twice { name });
+    for next in all {
+        if let Mention::Target(name) = next {
+            set.add(*name)?;
         }
     }
     Ok(())
+}
+
+// Goes behind an item.
+fn pass(before: &mut Before, item: &Item, all: &[Mention]) -> Result<(), NoMemory>
+    requires { map mention all.now ≡ mentions (plain_item item.now) }
+    ensures declared { OnOk result (before.new.declared ≡ declared_behind before.old.declared (plain_item item.now)) }
+    ensures assigned { OnOk result (before.new.assigned ≡ assigned_behind before.old.assigned (plain_item item.now)) }
+    ensures set { OnOk result (before.new.set ≡ set_behind before.old.set (plain_item item.now)) }
+{
+    match item {
+        Item::Wire(_) | Item::Reg(_) => add_item(&mut before.declared, item),
+        Item::Assign(name, _) => before.assigned.add(*name),
+        Item::Always(_, _) => add_targets(&mut before.set, all),
+    }
+}
+
+// Goes behind the items, as far as they break no rule.
+#[tactic(auto, using(crate::proofs::Refusals::tells_now, crate::proofs::Refusals::tells_later, crate::proofs::Refusals::none_more))]
+fn check_items(
+    alloc: Global,
+    widths: &Declarations,
+    before: &mut Before,
+    items: &[Item],
+) -> Result<(), TreeFault>
+    ensures refuses { Refuses (breaks_behind (width_of widths.now) before.old.declared before.old.assigned before.old.set (map plain_item items.now)) result }
+    ensures assigned { OnOk result (before.new.assigned ≡ all_assigned before.old.assigned (map plain_item items.now)) }
+{
+    for item in items {
+        let all = mentions(alloc, item)?;
+        check_item(widths, before, item, &all)?;
+        pass(before, item, &all)?;
+    }
+    Ok(())
+}
+
+// N2 in the ports, which it gives.
+fn ports_once(alloc: Global, ports: &[Port]) -> Result<Declarations, TreeFault>
+    ensures { RefusesElse (port_twice [] (port_declarations (map plain_port ports.now))) (port_declarations (map plain_port ports.now)) result }
+{
+    let mut all = Declarations::new(alloc);
+    for port in ports {
+        if all.get(&port.name).is_some() {
+            return Err(TreeFault::Twice { name: port.name });
+        }
+        all.add(declared_port(port))?;
+    }
+    Ok(all)
 }
 
 // N10 in the ports.
@@ -288,12 +287,12 @@ fn clk_is_input(ports: &[Port]) -> Result<(), TreeFault>
 }
 
 // N9 in the ports.
-fn outputs_driven(items: &[Item], ports: &[Port]) -> Result<(), TreeFault>
-    ensures { Refuses (undriven (map plain_item items.now) (port_declarations (map plain_port ports.now))) result }
+fn outputs_driven(assigned: &NameSet, ports: &[Port]) -> Result<(), TreeFault>
+    ensures { Refuses (unassigned (among assigned.now) (port_declarations (map plain_port ports.now))) result }
 {
     for port in ports {
         let declared = declared_port(port);
-        if declared.kind == Kind::Wire && !is_assigned(items, &declared.name) {
+        if declared.kind == Kind::Wire && !assigned.contains(&declared.name) {
             return Err(TreeFault::Undriven {
                 name: declared.name,
             });
@@ -303,12 +302,12 @@ fn outputs_driven(items: &[Item], ports: &[Port]) -> Result<(), TreeFault>
 }
 
 // N9 in the items.
-fn wires_driven(items: &[Item], rest: &[Item]) -> Result<(), TreeFault>
-    ensures { Refuses (undriven (map plain_item items.now) (item_declarations (map plain_item rest.now))) result }
+fn wires_driven(assigned: &NameSet, items: &[Item]) -> Result<(), TreeFault>
+    ensures { Refuses (unassigned (among assigned.now) (item_declarations (map plain_item items.now))) result }
 {
-    for item in rest {
+    for item in items {
         if let Some(declared) = declared_item(item) {
-            if declared.kind == Kind::Wire && !is_assigned(items, &declared.name) {
+            if declared.kind == Kind::Wire && !assigned.contains(&declared.name) {
                 return Err(TreeFault::Undriven {
                     name: declared.name,
                 });
@@ -316,6 +315,34 @@ fn wires_driven(items: &[Item], rest: &[Item]) -> Result<(), TreeFault>
         }
     }
     Ok(())
+}
+
+// The answer is what `assign` items name.
+fn check_all_items(
+    alloc: Global,
+    module: &Module,
+    ports: Declarations,
+) -> Result<NameSet, TreeFault>
+    requires { ports ≡ port_declarations (plain_module «module».now).ports }
+    ensures { let mo = plain_module «module».now in AssignedElse (items_break (names_widths mo) mo.ports [] mo.items) mo.items result }
+{
+    let widths = all_declarations(alloc, module)?;
+    let mut before = Before {
+        declared: ports,
+        assigned: NameSet::new(alloc),
+        set: NameSet::new(alloc),
+    };
+    check_items(alloc, &widths, &mut before, &module.items)?;
+    Ok(before.assigned)
+}
+
+// N9.
+#[tactic(auto, using(crate::proofs::Refusals::tells_now, crate::proofs::Refusals::tells_later, crate::proofs::Refusals::none_more))]
+fn driven(assigned: &NameSet, module: &Module) -> Result<(), TreeFault>
+    ensures { let mo = plain_module «module».now in Refuses (first_of (unassigned (among assigned.now) (port_declarations mo.ports) ∷ unassigned (among assigned.now) (item_declarations mo.items) ∷ [])) result }
+{
+    outputs_driven(assigned, &module.ports)?;
+    wires_driven(assigned, &module.items)
 }
 
 /// Refuses a module for the first rule that it breaks: N1 to N6, N10 and N9. The ports are item 0, and
@@ -327,9 +354,8 @@ pub fn check(alloc: Global, module: &Module) -> Result<(), TreeFault>
     requires { IsTrue (formed (plain_module «module».now)) }
     ensures { Refuses (first_break (plain_module «module».now)) result }
 {
-    ports_once(&module.ports)?;
+    let ports = ports_once(alloc, &module.ports)?;
     clk_is_input(&module.ports)?;
-    check_items(alloc, &module.ports, &module.items)?;
-    outputs_driven(&module.items, &module.ports)?;
-    wires_driven(&module.items, &module.items)
+    let assigned = check_all_items(alloc, module, ports)?;
+    driven(&assigned, module)
 }

@@ -8,7 +8,6 @@ ghost use Rattle.verilog_tree.specs.Rules.{infixed_widths};
 ghost use Rattle.verilog_tree.specs.Valued.{bits_in, width_or_none, value_or_none, width_in, value_in, has_value, have_values, bits_of, Gives};
 ghost use Rattle.verilog_tree.specs.Seen.{known};
 
-use crate::names::same;
 use crate::sizes::has_part;
 use crate::tree::{BinOp, Expr, Name, UnOp};
 use crate::widths::{binary_width, unary_width};
@@ -25,7 +24,7 @@ fn known_bits(names: &[Known], name: &Name) -> Option<Bits>
     ensures { result ≡ bits_in (map known names.now) name.now.bytes }
 {
     for next in names {
-        if same(name, &next.name) {
+        if name.as_str() == next.name.as_str() {
             return Some(next.bits);
         }
     }

@@ -1,13 +1,13 @@
 //! Widths that must be equal.
 ghost use Rattle.std.specs.Prelude.{◌≡◌, ℕ, ◌^◌, ◌-◌, ◌+◌, min, map};
-ghost use Rattle.verilog_tree.specs.Plain.{plain, plain_stmt, plain_stmts, plain_arm, plain_item, plain_port, expressions, arms};
-ghost use Rattle.verilog_tree.specs.Seen.{widths_behind};
+ghost use Rattle.verilog_tree.specs.Plain.{plain, plain_stmt, plain_stmts, plain_arm, plain_item, expressions, arms};
+ghost use Rattle.verilog_tree.specs.Names.{width_of};
 ghost use Rattle.verilog_tree.specs.Meaning.{prefixed_width, infixed_width, width, widths};
 ghost use Rattle.verilog_tree.specs.Rules.{Refuses, RefusesOr, unequal, too_wide, infixed_widths, expression_widths, parts_widths, assignment_widths, label_widths, statement_widths, statements_widths, arms_widths, item_widths};
 
 use crate::fault::TreeFault;
-use crate::names::width_of;
-use crate::tree::{Arm, BinOp, Expr, Item, Name, Port, Stmt, UnOp};
+use crate::tables::Declarations;
+use crate::tree::{Arm, BinOp, Expr, Item, Name, Stmt, UnOp};
 use bist_bits::Bits;
 
 fn equal(left: u64, right: u64) -> Result<(), TreeFault>
@@ -79,36 +79,36 @@ fn at_most_64(total: u64) -> Result<u64, TreeFault>
     }
 }
 
-/// The width of an expression behind these ports and items, or the first two widths in it that must be
+/// The width of an expression where names are declared so, or the first two widths in it that must be
 /// equal and aren't.
 #[cycle(expr_width)]
 #[tactic(auto, using(crate::proofs::Refusals::tells_now, crate::proofs::Refusals::tells_later, crate::proofs::Refusals::none_more))]
-fn expr_width(ports: &[Port], items: &[Item], x: &Expr) -> Result<u64, TreeFault>
-    ensures { let w = widths_behind ports.now items.now in RefusesOr (expression_widths w (plain x.now)) (width w (plain x.now)) result }
+fn expr_width(names: &Declarations, x: &Expr) -> Result<u64, TreeFault>
+    ensures { let w = width_of names.now in RefusesOr (expression_widths w (plain x.now)) (width w (plain x.now)) result }
 {
     match x {
-        Expr::Name(name) => Ok(width_of(ports, items, name) as u64),
+        Expr::Name(name) => Ok(names.width(name) as u64),
         Expr::Bit(_, _) => Ok(1),
         Expr::Part(_, high, low) => Ok((*high as u64 + 1).saturating_sub(*low as u64)),
         Expr::Lit(literal) => Ok(literal.width() as u64),
         Expr::Concat(parts) => {
-            let total = total_width(ports, items, parts)?;
+            let total = total_width(names, parts)?;
             at_most_64(total)
         }
         Expr::Unary(op, a) => {
-            let operand = expr_width(ports, items, a)?;
+            let operand = expr_width(names, a)?;
             Ok(unary_width(*op, operand))
         }
         Expr::Binary(op, a, b) => {
-            let left = expr_width(ports, items, a)?;
-            let right = expr_width(ports, items, b)?;
+            let left = expr_width(names, a)?;
+            let right = expr_width(names, b)?;
             operands(*op, left, right)?;
             Ok(binary_width(*op, left))
         }
         Expr::Choose(c, a, b) => {
-            let _condition = expr_width(ports, items, c)?;
-            let left = expr_width(ports, items, a)?;
-            let right = expr_width(ports, items, b)?;
+            let _condition = expr_width(names, c)?;
+            let left = expr_width(names, a)?;
+            let right = expr_width(names, b)?;
             equal(left, right)?;
             Ok(left)
         }
@@ -117,12 +117,12 @@ fn expr_width(ports: &[Port], items: &[Item], x: &Expr) -> Result<u64, TreeFault
 
 // The sum of the widths of these parts, or the greatest number where no `u64` holds it.
 #[cycle(expr_width)]
-fn total_width(ports: &[Port], items: &[Item], parts: &[Expr]) -> Result<u64, TreeFault>
-    ensures { let w = widths_behind ports.now items.now in RefusesOr (parts_widths w (expressions (map plain parts.now))) (min (widths w (expressions (map plain parts.now))) (2 ^ 64 - 1)) result }
+fn total_width(names: &Declarations, parts: &[Expr]) -> Result<u64, TreeFault>
+    ensures { let w = width_of names.now in RefusesOr (parts_widths w (expressions (map plain parts.now))) (min (widths w (expressions (map plain parts.now))) (2 ^ 64 - 1)) result }
 {
     let mut total: u64 = 0;
     for part in parts {
-        let width = expr_width(ports, items, part)?;
+        let width = expr_width(names, part)?;
         total = total.saturating_add(width);
     }
     Ok(total)
@@ -130,11 +130,11 @@ fn total_width(ports: &[Port], items: &[Item], parts: &[Expr]) -> Result<u64, Tr
 
 // The expression before its target.
 #[tactic(auto, using(crate::proofs::Refusals::tells_now, crate::proofs::Refusals::tells_later, crate::proofs::Refusals::none_more))]
-fn assignment_widths(ports: &[Port], items: &[Item], name: &Name, x: &Expr) -> Result<(), TreeFault>
-    ensures { Refuses (assignment_widths (widths_behind ports.now items.now) name.now.bytes (plain x.now)) result }
+fn assignment_widths(names: &Declarations, name: &Name, x: &Expr) -> Result<(), TreeFault>
+    ensures { Refuses (assignment_widths (width_of names.now) name.now.bytes (plain x.now)) result }
 {
-    let right = expr_width(ports, items, x)?;
-    equal(width_of(ports, items, name) as u64, right)
+    let right = expr_width(names, x)?;
+    equal(names.width(name) as u64, right)
 }
 
 #[tactic(auto, using(crate::proofs::Refusals::tells_now, crate::proofs::Refusals::tells_later, crate::proofs::Refusals::none_more))]
@@ -149,59 +149,54 @@ fn label_widths(subject: u64, labels: &[Bits]) -> Result<(), TreeFault>
 
 #[cycle(stmt_widths)]
 #[tactic(auto, using(crate::proofs::Refusals::tells_now, crate::proofs::Refusals::tells_later, crate::proofs::Refusals::none_more))]
-fn stmt_widths(ports: &[Port], items: &[Item], s: &Stmt) -> Result<(), TreeFault>
-    ensures { Refuses (statement_widths (widths_behind ports.now items.now) (plain_stmt s.now)) result }
+fn stmt_widths(names: &Declarations, s: &Stmt) -> Result<(), TreeFault>
+    ensures { Refuses (statement_widths (width_of names.now) (plain_stmt s.now)) result }
 {
     match s {
-        Stmt::Set(name, x) => assignment_widths(ports, items, name, x),
+        Stmt::Set(name, x) => assignment_widths(names, name, x),
         Stmt::If(c, a, b) => {
-            let _condition = expr_width(ports, items, c)?;
-            stmts_widths(ports, items, a)?;
-            stmts_widths(ports, items, b)
+            let _condition = expr_width(names, c)?;
+            stmts_widths(names, a)?;
+            stmts_widths(names, b)
         }
         Stmt::Case(x, choices, other) => {
-            let subject = expr_width(ports, items, x)?;
-            arms_widths(ports, items, subject, choices)?;
-            stmts_widths(ports, items, other)
+            let subject = expr_width(names, x)?;
+            arms_widths(names, subject, choices)?;
+            stmts_widths(names, other)
         }
     }
 }
 
 #[cycle(stmt_widths)]
 #[tactic(auto, using(crate::proofs::Refusals::tells_now, crate::proofs::Refusals::tells_later, crate::proofs::Refusals::none_more))]
-fn stmts_widths(ports: &[Port], items: &[Item], body: &[Stmt]) -> Result<(), TreeFault>
-    ensures { Refuses (statements_widths (widths_behind ports.now items.now) (plain_stmts body.now)) result }
+fn stmts_widths(names: &Declarations, body: &[Stmt]) -> Result<(), TreeFault>
+    ensures { Refuses (statements_widths (width_of names.now) (plain_stmts body.now)) result }
 {
     for s in body {
-        stmt_widths(ports, items, s)?;
+        stmt_widths(names, s)?;
     }
     Ok(())
 }
 
 #[cycle(stmt_widths)]
 #[tactic(auto, using(crate::proofs::Refusals::tells_now, crate::proofs::Refusals::tells_later, crate::proofs::Refusals::none_more))]
-fn arms_widths(
-    ports: &[Port],
-    items: &[Item],
-    subject: u64,
-    choices: &[Arm],
-) -> Result<(), TreeFault>
-    ensures { Refuses (arms_widths (widths_behind ports.now items.now) subject (arms (map plain_arm choices.now))) result }
+fn arms_widths(names: &Declarations, subject: u64, choices: &[Arm]) -> Result<(), TreeFault>
+    ensures { Refuses (arms_widths (width_of names.now) subject (arms (map plain_arm choices.now))) result }
 {
     for arm in choices {
         label_widths(subject, &arm.labels)?;
-        stmts_widths(ports, items, &arm.body)?;
+        stmts_widths(names, &arm.body)?;
     }
     Ok(())
 }
 
-/// The first two widths of an item that must be equal and aren't, behind these ports and items.
-pub(crate) fn item_widths(ports: &[Port], items: &[Item], item: &Item) -> Result<(), TreeFault>
-    ensures { Refuses (item_widths (widths_behind ports.now items.now) (plain_item item.now)) result }
+/// The first two widths of an item that must be equal and aren't, where names are declared so.
+pub(crate) fn item_widths(names: &Declarations, item: &Item) -> Result<(), TreeFault>
+    ensures { Refuses (item_widths (width_of names.now) (plain_item item.now)) result }
 {
     match item {
         Item::Wire(_) | Item::Reg(_) => Ok(()),
-        Item::Assign(name, x) => assignment_widths(ports, items, name, x),
-        Item::Always(_, body) => stmts_widths(ports, items, body),
+        Item::Assign(name, x) => assignment_widths(names, name, x),
+        Item::Always(_, body) => stmts_widths(names, body),
     }
 }

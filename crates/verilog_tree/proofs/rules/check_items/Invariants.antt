@@ -1,8 +1,11 @@
-use Rattle.std.proofs.Common.{◌≡◌, map, drop, take, []}
-use Rattle.verilog_tree.specs.Plain.{plain_item, plain_port}
-use Rattle.verilog_tree.specs.Rules.{items_break}
-use Rattle.verilog_tree.specs.Seen.{widths_behind}
+use Rattle.std.proofs.Common.{◌≡◌, map, drop}
+use Rattle.verilog_tree.specs.Plain.{plain_item}
+use Rattle.verilog_tree.specs.Names.{width_of}
+use Rattle.verilog_tree.specs.Tables.{breaks_behind, all_assigned}
 use Rattle.verilog_tree.proofs.rules.check_items.Given as goal
 
-abbrev pub invariant-loop-i : goal.invariant-loop-i
-invariant-loop-i l = items_break (widths_behind l.ports l.items) (map plain_port l.ports) (map plain_item (take l.i l.items)) (map plain_item (drop l.i l.items)) ≡ items_break (widths_behind l.ports l.items) (map plain_port l.ports) [] (map plain_item l.items)
+abbrev pub invariant-loop-item : goal.invariant-loop-item
+invariant-loop-item l =
+    let rest = map plain_item (drop l.item-index l.items) in
+    (breaks_behind (width_of l.widths) l.before.declared l.before.assigned l.before.set rest ≡ breaks_behind (width_of l.widths) l.initial.before.declared l.initial.before.assigned l.initial.before.set (map plain_item l.items))
+    × (all_assigned l.before.assigned rest ≡ all_assigned l.initial.before.assigned (map plain_item l.items))

@@ -1,8 +1,8 @@
 use Rattle.std.proofs.Common.{◌≡◌, map, drop}
-use Rattle.verilog_tree.specs.Plain.{plain_item}
-use Rattle.verilog_tree.specs.Rules.{TwoBlocks, first_bad, is_set_before}
+use Rattle.verilog_tree.specs.Rules.{TwoBlocks, first_bad}
 use Rattle.verilog_tree.specs.Seen.{mention}
+use Rattle.verilog_tree.specs.Tables.{is_target_among}
 use Rattle.verilog_tree.proofs.rules.in_one_block.Given as goal
 
 abbrev pub invariant-loop-next : goal.invariant-loop-next
-invariant-loop-next l = first_bad (is_set_before (map plain_item l.before)) TwoBlocks (map mention (drop l.next-index l.all)) ≡ first_bad (is_set_before (map plain_item l.before)) TwoBlocks (map mention l.all)
+invariant-loop-next l = first_bad (is_target_among l.set) TwoBlocks (map mention (drop l.next-index l.all)) ≡ first_bad (is_target_among l.set) TwoBlocks (map mention l.all)

@@ -1,8 +1,8 @@
 use Rattle.std.proofs.Common.{◌≡◌, map, drop}
 use Rattle.verilog_tree.specs.Plain.{plain_item}
 use Rattle.verilog_tree.specs.Names.{item_declarations}
-use Rattle.verilog_tree.specs.Rules.{undriven}
+use Rattle.verilog_tree.specs.Tables.{among, unassigned}
 use Rattle.verilog_tree.proofs.rules.wires_driven.Given as goal
 
 abbrev pub invariant-loop-item : goal.invariant-loop-item
-invariant-loop-item l = undriven (map plain_item l.items) (item_declarations (map plain_item (drop l.item-index l.rest))) ≡ undriven (map plain_item l.items) (item_declarations (map plain_item l.rest))
+invariant-loop-item l = unassigned (among l.assigned) (item_declarations (map plain_item (drop l.item-index l.items))) ≡ unassigned (among l.assigned) (item_declarations (map plain_item l.items))

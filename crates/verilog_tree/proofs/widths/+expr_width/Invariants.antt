@@ -1,13 +1,13 @@
 use Rattle.std.proofs.Common.{◌≡◌, ◌+◌, ◌-◌, ◌^◌, ◌≤◌, min, map, drop, List, ℕ}
-use Rattle.verilog_tree.specs.Plain.{plain, plain_port, plain_item, expressions}
-use Rattle.verilog_tree.specs.Names.{declarations, width_of}
+use Rattle.verilog_tree.specs.Plain.{plain, expressions}
+use Rattle.verilog_tree.specs.Names.{width_of}
 use Rattle.verilog_tree.specs.Meaning.{widths}
 use Rattle.verilog_tree.specs.Rules.{parts_widths}
 use Rattle.verilog_tree.proofs.widths.+expr_width.Given as goal
 
 abbrev pub invariant-total_width-loop-part : goal.invariant-total_width-loop-part
 invariant-total_width-loop-part l =
-    let w : List ℕ → ℕ = width_of (declarations (map plain_port l.ports) (map plain_item l.items)) in
+    let w : List ℕ → ℕ = width_of l.names in
     record {
       fits : l.total ≤ 2 ^ 64 - 1;
       total : min (l.total + widths w (expressions (map plain (drop l.part-index l.parts)))) (2 ^ 64 - 1) ≡ min (widths w (expressions (map plain l.parts))) (2 ^ 64 - 1);

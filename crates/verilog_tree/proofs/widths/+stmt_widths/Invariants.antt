@@ -1,11 +1,11 @@
 use Rattle.std.proofs.Common.{◌≡◌, map, drop}
 use Rattle.verilog_tree.specs.Plain.{plain_stmts, plain_arm, arms}
 use Rattle.verilog_tree.specs.Rules.{statements_widths, arms_widths}
-use Rattle.verilog_tree.specs.Seen.{widths_behind}
+use Rattle.verilog_tree.specs.Names.{width_of}
 use Rattle.verilog_tree.proofs.widths.+stmt_widths.Given as goal
 
 abbrev pub invariant-stmts_widths-loop-s : goal.invariant-stmts_widths-loop-s
-invariant-stmts_widths-loop-s l = statements_widths (widths_behind l.ports l.items) (plain_stmts (drop l.s-index l.body)) ≡ statements_widths (widths_behind l.ports l.items) (plain_stmts l.body)
+invariant-stmts_widths-loop-s l = statements_widths (width_of l.names) (plain_stmts (drop l.s-index l.body)) ≡ statements_widths (width_of l.names) (plain_stmts l.body)
 
 abbrev pub invariant-arms_widths-loop-arm : goal.invariant-arms_widths-loop-arm
-invariant-arms_widths-loop-arm l = arms_widths (widths_behind l.ports l.items) l.subject (arms (map plain_arm (drop l.arm-index l.choices))) ≡ arms_widths (widths_behind l.ports l.items) l.subject (arms (map plain_arm l.choices))
+invariant-arms_widths-loop-arm l = arms_widths (width_of l.names) l.subject (arms (map plain_arm (drop l.arm-index l.choices))) ≡ arms_widths (width_of l.names) l.subject (arms (map plain_arm l.choices))

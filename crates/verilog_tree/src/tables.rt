@@ -1,0 +1,184 @@
+//! Names looked up by their hash.
+ghost use Rattle.std.specs.Prelude.{◌≡◌, ℕ, List, [], map, IfOk, OnOk};
+ghost use Rattle.std.specs.Option.{option_map};
+ghost use Rattle.verilog_tree.specs.Plain.{plain_item, plain_port, plain_module};
+ghost use Rattle.verilog_tree.specs.Names.{lookup, width_of, port_declarations, item_declarations, declarations};
+ghost use Rattle.verilog_tree.specs.Seen.{declaration};
+ghost use Rattle.verilog_tree.specs.Tables.{same_name, with_declared, with_all, with_name, declared_behind};
+ghost use Rattle.indexmap.specs.IndexMap.{insert_entry};
+ghost use Rattle.indexmap.specs.IndexSet.{insert_key};
+ghost use Rattle.bist_text.specs.ReservedWords.{is_among};
+
+use crate::names::{Declared, Kind, declared_item, declared_port};
+use crate::tree::{Item, Module, Name, Port};
+use bist_bits::NoMemory;
+use indexmap::{IndexMap, IndexSet};
+use std::alloc::Global;
+use std::marker::Model;
+
+// What a name is declared as.
+#[derive(Clone, Copy)]
+struct Form {
+    kind: Kind,
+    width: u8,
+}
+
+/// The first declarations of names, in order.
+#[derive(Drop)]
+pub struct Declarations {
+    forms: IndexMap<Name, Form>,
+}
+
+impl Model for Declarations {
+    ghost use Rattle.std.specs.Prelude.{List};
+    ghost use Rattle.verilog_tree.specs.Names.{Declaration};
+
+    ghost Value = { List Declaration };
+
+    ghost use Rattle.verilog_tree.specs.Tables.{declarations_of};
+
+    ghost view = { declarations_of };
+}
+
+fn put_form(forms: &mut IndexMap<Name, Form>, name: Name, form: Form) -> Result<(), NoMemory>
+    ensures { OnOk result (forms.new.entries ≡ insert_entry same_name forms.old.entries name form) }
+{
+    match forms.insert(name, form) {
+        Ok(_) => Ok(()),
+        Err(_) => Err(NoMemory),
+    }
+}
+
+impl Declarations {
+    pub fn new(alloc: Global) -> Declarations
+        ensures { result ≡ [] }
+    {
+        Declarations {
+            forms: IndexMap::new(alloc),
+        }
+    }
+
+    /// What a name is declared as.
+    pub fn get(&self, name: &Name) -> Option<Declared>
+        ensures { option_map declaration result ≡ lookup self.now name.now.bytes }
+    {
+        match self.forms.get(name) {
+            Some(form) => Some(Declared {
+                name: *name,
+                kind: form.kind,
+                width: form.width,
+            }),
+            None => None,
+        }
+    }
+
+    /// The width that a name is declared with, or 0.
+    pub fn width(&self, name: &Name) -> u8
+        ensures { result ≡ width_of self.now name.now.bytes }
+    {
+        match self.get(name) {
+            Some(declared) => declared.width,
+            None => 0,
+        }
+    }
+
+    /// Declares a name, if it isn't declared yet.
+    pub fn add(&mut self, declared: Declared) -> Result<(), NoMemory>
+        ensures { OnOk result (self.new ≡ with_declared self.old (declaration declared)) }
+    {
+        if self.forms.contains_key(&declared.name) {
+            return Ok(());
+        }
+        let form = Form {
+            kind: declared.kind,
+            width: declared.width,
+        };
+        put_form(&mut self.forms, declared.name, form)
+    }
+}
+
+/// Declares what an item declares, if it isn't declared yet.
+pub(crate) fn add_item(all: &mut Declarations, item: &Item) -> Result<(), NoMemory>
+    ensures { OnOk result (all.new ≡ declared_behind all.old (plain_item item.now)) }
+{
+    match declared_item(item) {
+        Some(declared) => all.add(declared),
+        None => Ok(()),
+    }
+}
+
+fn add_items(all: &mut Declarations, items: &[Item]) -> Result<(), NoMemory>
+    ensures { OnOk result (all.new ≡ with_all all.old (item_declarations (map plain_item items.now))) }
+{
+    for item in items {
+        add_item(all, item)?;
+    }
+    Ok(())
+}
+
+fn add_ports(all: &mut Declarations, ports: &[Port]) -> Result<(), NoMemory>
+    ensures { OnOk result (all.new ≡ with_all all.old (port_declarations (map plain_port ports.now))) }
+{
+    for port in ports {
+        all.add(declared_port(port))?;
+    }
+    Ok(())
+}
+
+/// What a module declares, by name.
+pub fn all_declarations(alloc: Global, module: &Module) -> Result<Declarations, NoMemory>
+    ensures { IfOk result (λ all. (n : List ℕ) → lookup all n ≡ lookup (declarations (plain_module «module».now).ports (plain_module «module».now).items) n) }
+{
+    let mut all = Declarations::new(alloc);
+    add_ports(&mut all, &module.ports)?;
+    add_items(&mut all, &module.items)?;
+    Ok(all)
+}
+
+/// Names, each once, in the order in which they came.
+#[derive(Drop)]
+pub struct NameSet {
+    names: IndexSet<Name>,
+}
+
+impl Model for NameSet {
+    ghost use Rattle.std.specs.Prelude.{ℕ, List};
+
+    ghost Value = { List (List ℕ) };
+
+    ghost use Rattle.verilog_tree.specs.Tables.{names_of};
+
+    ghost view = { names_of };
+}
+
+fn put_name(names: &mut IndexSet<Name>, name: Name) -> Result<(), NoMemory>
+    ensures { OnOk result (names.new.keys ≡ insert_key same_name names.old.keys name) }
+{
+    match names.insert(name) {
+        Ok(_) => Ok(()),
+        Err(_) => Err(NoMemory),
+    }
+}
+
+impl NameSet {
+    pub fn new(alloc: Global) -> NameSet
+        ensures { result ≡ [] }
+    {
+        NameSet {
+            names: IndexSet::new(alloc),
+        }
+    }
+
+    pub fn contains(&self, name: &Name) -> bool
+        ensures { result ≡ is_among name.now.bytes self.now }
+    {
+        self.names.contains(name)
+    }
+
+    /// Adds a name, if it isn't there yet.
+    pub fn add(&mut self, name: Name) -> Result<(), NoMemory>
+        ensures { OnOk result (self.new ≡ with_name self.old name.bytes) }
+    {
+        put_name(&mut self.names, name)
+    }
+}
