@@ -25,3 +25,4 @@ pub mod Faults
 pub mod Parsing
 pub mod Pending
 pub mod Deep
+pub mod Landing
