@@ -26,3 +26,4 @@ pub mod Parsing
 pub mod Pending
 pub mod Deep
 pub mod Landing
+pub mod Room

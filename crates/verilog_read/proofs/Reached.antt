@@ -1,5 +1,5 @@
 -- What a machine that has come so far says of a text: where it stops, and where it goes on.
-use Rattle.std.proofs.Common.{◌≡◌, ℕ, suc, List, [], ◌∷◌, ◌++◌, length, Option, Some, None, refl, subst}
+use Rattle.std.proofs.Common.{◌≡◌, ℕ, suc, List, [], ◌∷◌, ◌++◌, length, Option, Some, None, refl, ap, subst, ◌∙◌}
 use Rattle.bist_text.specs.Grammar.{Continues, IsUnexpected}
 use Rattle.bist_text.specs.Lexed.{then as and_then}
 use Rattle.bist_text.specs.Machine.{Holds, Follows}
@@ -9,6 +9,15 @@ use Rattle.bist_text.proofs.Machine.{forward, backward, stops, later}
 abbrev pub come : {S : Type 0} → (S → ℕ → Option S) → List ℕ → S → Option S
 come step [] s = Some s
 come step (c ∷ b) s = and_then (step s c) (λ t. come step b t)
+
+-- behind the first of two parts, and behind both
+pub come_split : {S : Type 0} (step : S → ℕ → Option S) (a b : List ℕ) (s z : S) → come step (a ++ b) s ≡ Some z → (y : S) × (come step a s ≡ Some y) × (come step b y ≡ Some z)
+come_split step [] b s z e = (s, refl, e)
+come_split {S} step (c ∷ a) b s z e = go (step s c) refl e (λ t k. come_split step a b t z k)
+  where
+    go : (o : Option S) → step s c ≡ o → and_then o (λ t. come step (a ++ b) t) ≡ Some z → ((t : S) → come step (a ++ b) t ≡ Some z → (y : S) × (come step a t ≡ Some y) × (come step b y ≡ Some z)) → (y : S) × (come step (c ∷ a) s ≡ Some y) × (come step b y ≡ Some z)
+    go None k h r = cc
+    go (Some t) k h r = let w = r t h in (w.0, ap (λ o. and_then o (λ t. come step a t)) k ∙ w.1, w.2)
 
 module _ {S V : Type 0} (step : S → ℕ → Option S) (value : S → Option V) (rest : S → List ℕ → V → Type 0) (good : S → Type 0) (f : Follows step value rest good) where
   -- it goes on
