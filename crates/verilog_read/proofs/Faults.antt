@@ -23,7 +23,7 @@ use Rattle.verilog_read.proofs.Extends.{limits}
 use Rattle.verilog_read.proofs.Limits.{unlimited}
 use Rattle.verilog_read.proofs.Moving.{Sound, Agrees, move_agrees}
 use Rattle.verilog_read.proofs.Pending.{Pending, at_start, To, moves_on}
-use Rattle.verilog_read.proofs.Reached.{come, reached, stops_at, follows_on}
+use Rattle.verilog_read.proofs.Reached.{come, come_on, reached, stops_at, follows_on}
 use Rattle.verilog_read.proofs.ReadingLaws.{start_is}
 use Rattle.verilog_read.proofs.Stopping.{follows, come_sub, unexpected_byte, long_byte, out_byte, free_step, not_taken}
 
@@ -100,28 +100,20 @@ take_next (d ∷ a) c more = ap (λ x. d ∷ x) (take_next a c more)
 take_front : (a : List ℕ) (c : ℕ) (more : List ℕ) → take (length a + 1) (a ++ (c ∷ more)) ≡ a ++ (c ∷ [])
 take_front a c more = rw add-one (take_next a c more)
 
+pub starts : (a b : Bool) → live_in (limits a b) start.parser start.lexer ≡ true
+starts true true = refl
+starts true false = refl
+starts false true = refl
+starts false false = refl
+
 module _ (a b : Bool) where
   -- a grammar with limits of tokens alone refuses the byte that stops its machine
   pub refused_there : (front : List ℕ) (c : ℕ) (more : List ℕ) (z : Both State Lexer) → come (byte_step all_limits) front start ≡ Some z → byte_step (limits a b) z c ≡ None → IsUnexpected (Text (limits a b)) (front ++ (c ∷ more)) (length front)
   refused_there front c more z e n = unexpected_text (limits a b) (front ++ (c ∷ more)) (length front) (stops_at (byte_step (limits a b)) (end_value (limits a b)) (unread_in (limits a b)) (λ q. live_in (limits a b) q.parser q.lexer ≡ true) (follows a b) front c more start z (starts a b) (come_sub a b front start z e) n)
-    where
-      starts : (a b : Bool) → live_in (limits a b) start.parser start.lexer ≡ true
-      starts true true = refl
-      starts true false = refl
-      starts false true = refl
-      starts false false = refl
-
-come_on : (front : List ℕ) (c : ℕ) (q z y : Both State Lexer) → come (byte_step no_limits) front q ≡ Some z → byte_step no_limits z c ≡ Some y → come (byte_step no_limits) (front ++ (c ∷ [])) q ≡ Some y
-come_on [] c q z y e n = let k : z ≡ q = cc in ap (λ o. and_then o (λ t. Some t)) (subst (λ (x : Both State Lexer). byte_step no_limits x c ≡ Some y) k n)
-come_on (d ∷ front) c q z y e n = go (byte_step no_limits q d) e (λ t k. come_on front c t z y k n)
-  where
-    go : (o : Option (Both State Lexer)) → and_then o (λ t. come (byte_step no_limits) front t) ≡ Some z → ((t : Both State Lexer) → come (byte_step no_limits) front t ≡ Some z → come (byte_step no_limits) (front ++ (c ∷ [])) t ≡ Some y) → and_then o (λ t. come (byte_step no_limits) (front ++ (c ∷ [])) t) ≡ Some y
-    go None k g = cc
-    go (Some t) k g = g t k
 
 -- without limits the text goes on behind the byte
 pub free_there : (front : List ℕ) (c : ℕ) (more : List ℕ) (z y : Both State Lexer) → come (byte_step all_limits) front start ≡ Some z → byte_step no_limits z c ≡ Some y → Continues (Text no_limits) (take (length front + 1) (front ++ (c ∷ more)))
-free_there front c more z y e n = subst (λ x. Continues (Text no_limits) x) (sym (take_front front c more)) (continues_text no_limits (front ++ (c ∷ [])) (reached (byte_step no_limits) (end_value no_limits) (unread_in no_limits) (λ q. live_in no_limits q.parser q.lexer ≡ true) (follows false false) (front ++ (c ∷ [])) start y refl (come_on front c start z y (come_sub false false front start z e) n)).1)
+free_there front c more z y e n = subst (λ x. Continues (Text no_limits) x) (sym (take_front front c more)) (continues_text no_limits (front ++ (c ∷ [])) (reached (byte_step no_limits) (end_value no_limits) (unread_in no_limits) (λ q. live_in no_limits q.parser q.lexer ≡ true) (follows false false) (front ++ (c ∷ [])) start y refl (come_on (byte_step no_limits) front c start z y (come_sub false false front start z e) n)).1)
 
 says_byte : (front : List ℕ) (c : ℕ) (more : List ℕ) (z : Both State Lexer) (kind : ByteFault) (began : ℕ) → come (byte_step all_limits) front start ≡ Some z → Pending front z began → byte_move z c ≡ Stops kind → Says (front ++ (c ∷ more)) (fault_at kind began (length front))
 says_byte front c more z Unexpected began e w s = refused_there false false front c more z e (unexpected_byte z c s)

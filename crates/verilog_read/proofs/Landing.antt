@@ -46,7 +46,7 @@ token_in (Some r) = r.1
 abbrev stepped : Lexer → Option Token → Option (Lexer × Option Token)
 stepped l o = Some (l, o)
 
-abbrev made : List Token → Lexer → Option (List Token × Lexer)
+abbrev pub made : List Token → Lexer → Option (List Token × Lexer)
 made ts l = Some (ts, l)
 
 came_to : (l : Lexer) (c : ℕ) (m : Lexer) (o : Option Token) → From l c m o → Came l c (Some (m, o))

@@ -27,3 +27,5 @@ pub mod Pending
 pub mod Deep
 pub mod Landing
 pub mod Room
+pub mod DeepFirst
+pub mod Firsts
