@@ -1,19 +1,17 @@
 -- An opening too many is where the reader stops, if it has read so far.
-use Rattle.std.proofs.Common.{◌≡◌, ℕ, suc, ◌+◌, ◌<◌, ◌≤◌, Bool, true, false, ◌==◌, List, [], ◌∷◌, ◌++◌, length, take, drop, Option, Some, None, refl, sym, ap, subst, ◌∙◌, ◌⊎◌, inl, inr, arith, append-nil, append_assoc, take-append-drop, length-append, nat_lt, ◌-◌, length-drop}
+use Rattle.std.proofs.Common.{◌≡◌, ℕ, ◌+◌, ◌<◌, ◌≤◌, Bool, true, false, ◌==◌, List, [], ◌∷◌, ◌++◌, length, take, drop, Option, Some, None, refl, sym, ap, subst, ◌∙◌, ◌⊎◌, inl, inr, arith, append-nil, append_assoc, take-append-drop, length-append, nat_lt, ◌-◌, length-drop}
 use Rattle.std.proofs.lemmas.Bool.{eqb-true, ltb-true, ltb-false, and_from}
 use Rattle.std.proofs.lemmas.List.{append_cancel_left, append_cancel_right, take-append-le, length-take-le}
 use Rattle.bist_text.specs.Grammar.{when, word, Continues}
 use Rattle.bist_text.specs.Lexed.{Both, emitted, then as and_then}
 use Rattle.bist_text.specs.Machine.{Holds}
 use Rattle.verilog_tree.specs.declared.tokens.Within.TheVariants.{Between}
-use Rattle.verilog_tree.specs.Plain.{ModuleTree}
 use Rattle.verilog_tree.specs.Spells.{all_limits, no_limits, all_keep, keeps, Text}
 use Rattle.verilog_tree.specs.Tokens.{Token, Lexed, stops, whether}
-use Rattle.verilog_read.specs.declared.fault.ReadFault.{ReadFault}
 use Rattle.verilog_read.specs.declared.fault.ReadFault.TheVariants as R
 use Rattle.verilog_read.specs.declared.read.ByteFault.{ByteFault}
 use Rattle.verilog_read.specs.declared.read.ByteFault.TheVariants.{Unexpected, TooDeep, LongName, OutOfRange, NoMemory}
-use Rattle.verilog_read.specs.Answering.{Taking, Leads, Refused, OneTooMany, taking, take_token, Move, Goes, Stops, ended, stuck, stuck_at, read_on, lexed, byte_move, Answer, Faulty, fault_at, last_answer, end_answer}
+use Rattle.verilog_read.specs.Answering.{OneTooMany, taking, take_token, Move, Goes, Stops, ended, stuck, stuck_at, read_on, lexed, byte_move, Faulty, last_answer, end_answer}
 use Rattle.verilog_read.specs.Expected.{taken, live_in}
 use Rattle.verilog_read.specs.Following.{rest}
 use Rattle.verilog_read.specs.Lexing.{Lexer, InGap, lex, last, unread}
@@ -21,11 +19,11 @@ use Rattle.verilog_read.specs.Openings.{Opening, Parenthesis, Brace, BlockWord, 
 use Rattle.verilog_read.specs.Places.{State, AtItem, Begin}
 use Rattle.verilog_read.specs.Reading.{start, byte_step, end_value, unread_in}
 use Rattle.verilog_read.specs.Steps.{step}
-use Rattle.verilog_read.proofs.Alive.{HasRoom, alive}
+use Rattle.verilog_read.proofs.Alive.{alive}
 use Rattle.verilog_read.proofs.Deep.{opening_read, deep_at, room_free}
 use Rattle.verilog_read.proofs.Faults.{text_continues}
 use Rattle.verilog_read.proofs.GrammarPieces.{begins_file}
-use Rattle.verilog_read.proofs.Landing.{Landed, lands, made, after_all, after_ends, not_silent, steps_on, lexing_split, StepsOn}
+use Rattle.verilog_read.proofs.Landing.{Landed, lands, made, after_all, after_ends, not_silent, steps_on, lexing_split}
 use Rattle.verilog_read.proofs.LexerLaws.{lexes}
 use Rattle.verilog_read.proofs.LexingOn.{lexing, lexed_on}
 use Rattle.verilog_read.proofs.Limits.{no_limit, first_taken}

@@ -3,7 +3,7 @@ use Rattle.std.proofs.Common.{◌≡◌, ℕ, ◌+◌, ◌<◌, ◌≤◌, Bool,
 use Rattle.std.proofs.lemmas.Bool.{leb-true, leb-false, ltb-true, ltb-false}
 use Rattle.std.proofs.lemmas.List.{take-append-le}
 use Rattle.bist_text.specs.Grammar.{Continues, IsUnexpected, IsTruncated}
-use Rattle.bist_text.specs.Lexed.{Both, then as and_then}
+use Rattle.bist_text.specs.Lexed.{Both}
 use Rattle.bist_text.specs.Machine.{Holds}
 use Rattle.verilog_tree.specs.Plain.{ModuleTree}
 use Rattle.verilog_tree.specs.Spells.{all_limits, no_limits, short_names, small_numbers, Text, Spells}
@@ -16,15 +16,14 @@ use Rattle.verilog_read.specs.Answering.{Taking, Leads, Refused, OneTooMany, tak
 use Rattle.verilog_read.specs.Expected.{live_in}
 use Rattle.verilog_read.specs.Following.{rest}
 use Rattle.verilog_read.specs.Lexing.{Lexer, last}
-use Rattle.verilog_read.specs.Openings.{IsDeep}
 use Rattle.verilog_read.specs.Places.{State, AtItem, Begin}
 use Rattle.verilog_read.specs.Reading.{start, byte_step, end_value, unread_in}
 use Rattle.verilog_read.specs.Refusals.{Stands, byte_of}
 use Rattle.verilog_read.specs.Steps.{value}
 use Rattle.verilog_read.proofs.Deep.{deep_at, deep_end}
-use Rattle.verilog_read.proofs.DeepFirst.{SameOrBefore, stop_deep, end_deep, free_keeps}
+use Rattle.verilog_read.proofs.DeepFirst.{stop_deep, end_deep, free_keeps}
 use Rattle.verilog_read.proofs.Extends.{limits}
-use Rattle.verilog_read.proofs.Faults.{StopsAt, EndsAt, stopped_where, continues_text, starts, refused_there, free_there}
+use Rattle.verilog_read.proofs.Faults.{StopsAt, stopped_where, continues_text, starts, refused_there}
 use Rattle.verilog_read.proofs.Finishing.{finishes}
 use Rattle.verilog_read.proofs.GrammarPieces.{begins_file}
 use Rattle.verilog_read.proofs.ItemLaws.{parses}

@@ -1,5 +1,5 @@
 -- Behind an opening within 64 there is room for what must come: behind an if and a case one opening more.
-use Rattle.std.proofs.Common.{◌≡◌, ℕ, ◌+◌, ◌<◌, Bool, true, false, List, [], ◌∷◌, ◌++◌, Option, Some, None, refl, sym, ap, subst, ◌∙◌, arith, if◌then◌else◌, codes, nat_lt}
+use Rattle.std.proofs.Common.{◌≡◌, ℕ, ◌+◌, Bool, true, false, List, Option, Some, None, refl, sym, ap, subst, arith, if◌then◌else◌, codes, nat_lt}
 use Rattle.std.specs.Str.{bytes_eq}
 use Rattle.std.proofs.lemmas.Bool.{lt-ltb, ltb-true}
 use Rattle.std.proofs.lemmas.Slice.Eq.{bytes_eq-Decides}
@@ -10,15 +10,14 @@ use Rattle.verilog_tree.specs.declared.tokens.Mark.TheVariants.{Open, Close, Ope
 use Rattle.verilog_tree.specs.declared.tree.BinOp.{BinOp}
 use Rattle.verilog_tree.specs.declared.tree.Dir.TheVariants.{Input, Output, OutputReg}
 use Rattle.verilog_tree.specs.declared.tree.UnOp.{UnOp}
-use Rattle.verilog_tree.specs.Grammar.{Limit, deeper, is_sign, is_zero, then_all, alone}
+use Rattle.verilog_tree.specs.Grammar.{deeper, is_sign, is_zero, then_all, alone}
 use Rattle.verilog_tree.specs.Plain as P
 use Rattle.verilog_tree.specs.Tokens.{Token, Identifier, Number, Based, Queried, Sign}
 use Rattle.verilog_read.specs.Following.{case_of, declare, new_head}
 use Rattle.verilog_read.specs.Openings.{Opening, Parenthesis, Brace, BlockWord, IfWord, CaseWord, opening_token, needs}
-use Rattle.verilog_read.specs.Places.{Head, with_item, Around, InAlways, InBlock, InThen, InElse, InArm, InDefault, Outside, Driving, Condition, Subject, Setting, InBraces, InParens, Operand, Second, Chosen, Otherwise, more_parts, more_arms, ExprPlace, Want, Inside, Named, Bracket, HighRead, ColonRead, LowRead, Have, StmtPlace, WantStmt, Target, IfRead, CaseRead, FirstLabel, Labels, NextLabel, DefaultRead, Block, HaveStmt, Use, AsWire, AsReg, AsPort, ItemPlace, Begin, HeadName, HeadOpen, WantPort, InputRead, OutputRead, WantRange, WantHigh, WantColon, WantZero, WantBracket, WantName, NameRead, PortsRead, WantItem, AssignRead, DriveRead, AlwaysRead, AtRead, ClockOpen, EdgeRead, ClockRead, Ended, State, AtExpr, AtStmt, AtItem}
-use Rattle.verilog_read.specs.Steps.{in_room, only_where, expects, expects_word, unary_of, infix_of, infix_step, paren_step, brace_step, have_step, target_step, is_word, arm_step, item_word_step, want_item_step, labels_step, unless, takes_name, takes_number, takes_zero, declared, range_step, port_step, input_step, output_step, list_step, name_step, want_step, unary_step, inside_step, step_expr, word_step, want_stmt_step, block_step, have_stmt_step, step_stmt, opens, step_item, step}
+use Rattle.verilog_read.specs.Places.{Head, with_item, Around, InAlways, InBlock, InThen, InElse, InArm, InDefault, Outside, Driving, Condition, Subject, Setting, InBraces, InParens, Operand, Second, Chosen, Otherwise, more_arms, ExprPlace, Want, Inside, Named, Bracket, HighRead, ColonRead, LowRead, Have, StmtPlace, WantStmt, Target, IfRead, CaseRead, FirstLabel, Labels, NextLabel, DefaultRead, Block, HaveStmt, Use, AsWire, AsReg, AsPort, ItemPlace, Begin, HeadName, HeadOpen, WantPort, InputRead, OutputRead, WantRange, WantHigh, WantColon, WantZero, WantBracket, WantName, NameRead, PortsRead, WantItem, AssignRead, DriveRead, AlwaysRead, AtRead, ClockOpen, EdgeRead, ClockRead, Ended, State, AtExpr, AtStmt, AtItem}
+use Rattle.verilog_read.specs.Steps.{in_room, only_where, expects, expects_word, unary_of, infix_of, infix_step, paren_step, brace_step, have_step, target_step, is_word, arm_step, want_item_step, labels_step, unless, takes_name, takes_number, takes_zero, declared, range_step, list_step, name_step, want_step, unary_step, inside_step, step_expr, word_step, want_stmt_step, block_step, have_stmt_step, step_stmt, opens, step_item, step}
 use Rattle.verilog_read.proofs.Alive.{HasRoom}
-use Rattle.verilog_read.proofs.Parsing.{next_limit}
 
 abbrev Fits : State → Type 0
 Fits s = (x : Opening) → HasRoom (Some (needs x)) s

@@ -1,10 +1,10 @@
 //! The reader of a module's text.
-ghost use Rattle.std.specs.Prelude.{◌≡◌, ◌≤◌, Some, None, IfOk, IfErr, MatchResult};
+ghost use Rattle.std.specs.Prelude.{◌≡◌, ◌↔◌, ◌≤◌, Some, None, Err, IfOk, IfErr, MatchResult};
 ghost use Rattle.verilog_tree.specs.Plain.{ModuleTree, plain_module};
 ghost use Rattle.verilog_tree.specs.Spells.{Spells};
 ghost use Rattle.verilog_read.specs.Answering.{Takes, Moves, Scanned, Gives, take_token, stuck, arrive, is_between, read_within, byte_move, fault_at, value_answer, end_answer, last_answer, answer, both_of};
 ghost use Rattle.verilog_read.specs.Expected.{most_of};
-ghost use Rattle.verilog_read.specs.Refusals.{Says};
+ghost use Rattle.verilog_read.specs.Refusals.{Says, IsFirst};
 ghost use Rattle.verilog_read.specs.Lexemes.{token_of, tokens_of, lexer_of, ends_of};
 ghost use Rattle.verilog_read.specs.Lexing.{last};
 ghost use Rattle.verilog_read.specs.Spots.{state_of};
@@ -251,7 +251,10 @@ pub fn read_module(alloc: Global, bytes: &[u8]) -> Result<Module, ReadFault>
     ensures accepted { (mo : ModuleTree) → Spells bytes.now mo → MatchResult result (λ m. plain_module m ≡ mo) (λ fault. fault ≡ ReadFault.NoMemory) }
 
     // What each fault says of the text, at the byte that it names.
-    ensures fault { IfErr result (Says bytes.now) }
+    ensures says { IfErr result (Says bytes.now) }
+
+    // Unless memory runs out, a fault is answered exactly where it is the first that stands in the text.
+    ensures fault { (result ≡ Err ReadFault.NoMemory → ⊥) → (f : ReadFault) → (result ≡ Err f) ↔ IsFirst bytes.now f }
 
     // No bytes spell two modules.
     ensures one_module { (mo : ModuleTree) (other : ModuleTree) → Spells bytes.now mo → Spells bytes.now other → mo ≡ other }
