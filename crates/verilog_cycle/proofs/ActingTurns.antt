@@ -5,7 +5,7 @@ use Rattle.std.proofs.Math.Numerals.{add-one}
 use Rattle.std.proofs.lemmas.List.{drop_all}
 use Rattle.verilog_tree.specs.declared.tree.Stmt.{Stmt}
 use Rattle.verilog_tree.specs.declared.tree.Arm.{Arm}
-use Rattle.verilog_tree.specs.Plain.{ArmTree, ArmOf, Then, plain_stmt, plain_stmts, plain_arm, arms, statements}
+use Rattle.verilog_tree.specs.Plain.{plain_stmt, plain_stmts, plain_arm, arms}
 use Rattle.verilog_cycle.specs.Actions.{Run, BranchRun, run_all, Does, DoesAll, DoesArms}
 use Rattle.verilog_cycle.proofs.Acting.{none_do, no_arms_do, then_does, arm_does}
 

@@ -1,6 +1,6 @@
 -- The code of an expression gives its value.
-use Rattle.std.proofs.Common.{◌≡◌, ℕ, ◌+◌, ◌-◌, ◌*◌, ◌/◌, ◌%◌, ◌^◌, ◌<◌, ◌≤◌, Bool, true, false, cond, not, ◌&&◌, nat_eq, nat_lt, nat_le, List, [], ◌∷◌, get_or, Option, Some, None, suc, min, lit<, zero-add, refl, sym, ap, ◌∙◌, subst, arith, inl, inr, bit_and}
-use Rattle.std.proofs.lemmas.Nat.{and_mask, pow_pos, pow-add, mod_below}
+use Rattle.std.proofs.Common.{◌≡◌, ℕ, ◌+◌, ◌-◌, ◌*◌, ◌/◌, ◌%◌, ◌^◌, ◌<◌, ◌≤◌, Bool, true, false, cond, not, ◌&&◌, nat_eq, nat_lt, nat_le, List, Some, None, suc, min, lit<, zero-add, refl, sym, ap, ◌∙◌, subst, arith, inl, inr, bit_and}
+use Rattle.std.proofs.lemmas.Nat.{and_mask, pow_pos, pow-add}
 use Rattle.std.proofs.Math.Nat.{mod-eq_of_lt, pow-le-pow_right, div-eq_of_lt, add-mul-mod_self_left, mul-mod_left, mul_assoc, zero-mul}
 use Rattle.std.proofs.Math.Pow.{mod-mod-pow}
 use Rattle.std.proofs.lemmas.Bool.{and_parts, cases_lt}
@@ -12,15 +12,14 @@ use Rattle.verilog_tree.specs.declared.tree.BinOp.{BinOp}
 use Rattle.verilog_tree.specs.declared.tree.BinOp.TheVariants as B
 use Rattle.verilog_tree.specs.Plain.{Expression, Net, BitSelect, PartSelect, Literal, Concatenation, Prefixed, Infixed, Conditional, Expressions, NoMore, Followed}
 use Rattle.verilog_tree.specs.Formed.{expression_formed, expressions_formed, has_expression, is_width, is_place}
-use Rattle.verilog_tree.specs.Meaning.{Env, bit, truth, prefixed_width, infixed_width, prefixed, infixed, width, widths, value, joined}
+use Rattle.verilog_tree.specs.Meaning.{truth, prefixed_width, infixed_width, prefixed, infixed, width, widths, value, joined}
 use Rattle.verilog_tree.specs.Rules.{unequal, too_wide, Widths, infixed_widths, expression_widths, parts_widths}
-use Rattle.verilog_tree.specs.Wires.{Uses, UsesAny}
 use Rattle.verilog_tree.proofs.Breaks.{two, three, four}
 use Rattle.verilog_tree.proofs.Bounds.{value_fits, joined_fits, joins, unequal_none}
 use Rattle.verilog_cycle.specs.Code.{at, lowered, raised, meaning}
 use Rattle.verilog_cycle.specs.declared.code.Code.{Code}
 use Rattle.verilog_cycle.specs.Nets.{number, valued}
-use Rattle.verilog_cycle.specs.Compile.{prefixed_code, infixed_code, Narrow, Gives, Compiles, Joins, JoinsParts}
+use Rattle.verilog_cycle.specs.Compile.{prefixed_code, infixed_code, Narrow, Compiles, JoinsParts}
 
 below_64 : (i : ℕ) → i ≤ 63 → nat_lt i 64 ≡ true
 below_64 i h = grind (arith, nat_tests)

@@ -1,5 +1,5 @@
 -- A design's fields, and what its calls leave of them.
-use Rattle.std.proofs.Common.{◌≡◌, ℕ, ◌+◌, ◌<◌, ◌≤◌, List, [], ◌++◌, length, map, take, drop, slice_get, get_or, option_map, Some, refl, sym, ap, ◌∙◌, subst, append-nil, arith, length-take, length-append, min}
+use Rattle.std.proofs.Common.{◌≡◌, ℕ, ◌+◌, ◌<◌, ◌≤◌, List, ◌++◌, length, map, take, slice_get, get_or, option_map, Some, refl, sym, ap, ◌∙◌, subst, append-nil, arith, length-take, length-append, min}
 use Rattle.std.proofs.lemmas.List.{length-map, drop_all}
 use Rattle.std.proofs.lemmas.Option.{slice_get-map, slice_get-get_or}
 use Rattle.verilog_tree.specs.declared.names.Declared.{Declared}
@@ -11,11 +11,11 @@ use Rattle.verilog_cycle.specs.declared.code.Code.{Code}
 use Rattle.verilog_cycle.specs.Actions.{Run, action_run, run_blocks}
 use Rattle.verilog_cycle.specs.Code.{at}
 use Rattle.verilog_cycle.specs.Settled.{settled}
-use Rattle.verilog_cycle.specs.Built.{put_all, IsBuilt, Holds}
-use Rattle.verilog_cycle.specs.Design.{DesignView, with_registers, names, registers_of, inputs_of, outputs_of, Fit, Cycle}
+use Rattle.verilog_cycle.specs.Built.{put_all, Holds}
+use Rattle.verilog_cycle.specs.Design.{DesignView, with_registers, names, registers_of, inputs_of, Fit, Cycle}
 use Rattle.verilog_cycle.specs.Inside.{view_of, IsDesign}
 use Rattle.verilog_cycle.specs.Seen.{plain_names}
-use Rattle.verilog_cycle.proofs.Kept.{Ran, ran, rooms, put_front, set_front, HasRoom, has_room}
+use Rattle.verilog_cycle.proofs.Kept.{ran, put_front, set_front, HasRoom, has_room}
 
 abbrev tree_of : Inside → ModuleTree
 tree_of d = plain_module d.module

@@ -1,13 +1,13 @@
 -- The registers after an edge.
-use Rattle.std.proofs.Common.{◌≡◌, ℕ, suc, ◌+◌, ◌^◌, ◌<◌, ◌≤◌, Bool, true, false, cond, ◌||◌, nat_lt, List, [], ◌∷◌, ◌++◌, length, map, get_or, slice_set, None, ◌&&◌, append_assoc, refl, sym, ap, ◌∙◌, subst, arith}
+use Rattle.std.proofs.Common.{◌≡◌, ℕ, suc, ◌+◌, ◌^◌, ◌<◌, Bool, true, false, cond, ◌||◌, List, [], ◌∷◌, ◌++◌, length, map, get_or, slice_set, None, ◌&&◌, append_assoc, refl, sym, ap, ◌∙◌, subst, arith}
 use Rattle.std.specs.List.{filter}
 use Rattle.std.specs.Str.{bytes_eq}
 use Rattle.std.proofs.lemmas.Bool.{and_parts}
 use Rattle.std.proofs.lemmas.List.{length-map}
 use Rattle.bist_text.specs.ReservedWords.{is_among}
 use Rattle.verilog_tree.specs.Plain.{Statements, ModulePort, ModuleItem, WireItem, RegItem, AssignItem, AlwaysItem, ModuleTree}
-use Rattle.verilog_tree.specs.Names.{Declaration, port_declarations, item_declarations, declarations, lookup, is_register, is_clk}
-use Rattle.verilog_tree.specs.Formed.{formed, has_port, ports_formed, items_formed, item_formed, statements_formed}
+use Rattle.verilog_tree.specs.Names.{Declaration, port_declarations, item_declarations, declarations, is_register, is_clk}
+use Rattle.verilog_tree.specs.Formed.{formed, has_port, ports_formed, items_formed, item_formed}
 use Rattle.verilog_tree.specs.Meaning.{Env, names_widths, sets, block_sets, last_set, next}
 use Rattle.verilog_tree.specs.Rules.{first_break, item_break, items_break, item_widths, port_twice, port_clock, undriven}
 use Rattle.verilog_tree.proofs.Breaks.{two, five}
@@ -15,7 +15,7 @@ use Rattle.verilog_tree.proofs.Clean.{item_clean}
 use Rattle.verilog_tree.proofs.Settling.{narrowed}
 use Rattle.verilog_cycle.specs.declared.code.Code.{Code}
 use Rattle.verilog_cycle.specs.Nets.{number, valued}
-use Rattle.verilog_cycle.specs.Actions.{Run, put, written, run_all, run_blocks, BlocksWide, DoesBlocks, DoesAll, Within}
+use Rattle.verilog_cycle.specs.Actions.{Run, put, written, run_blocks, BlocksWide, DoesBlocks, DoesAll, Within}
 use Rattle.verilog_cycle.specs.Settled.{settled, AreSteps}
 use Rattle.verilog_cycle.specs.Design.{names, registers_of, inputs_of, outputs_of, Fit, AreNets, places, Cycle}
 use Rattle.verilog_cycle.proofs.Acting.{written_append}

@@ -15,5 +15,6 @@ pub mod Programs
 pub mod Ranks
 pub mod Results
 pub mod Settled
+pub mod Tabled
 pub mod Turns
 pub mod Walk

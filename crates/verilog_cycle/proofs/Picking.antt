@@ -1,8 +1,8 @@
 -- The nets of an order.
-use Rattle.std.proofs.Common.{◌≡◌, ◌≢◌, ℕ, zero, suc, ◌+◌, ◌<◌, ◌≤◌, Bool, true, false, cond, eqb, not, ◌&&◌, ◌||◌, ◌⊎◌, inl, inr, List, [], ◌∷◌, ◌++◌, length, map, get_or, slice_get, option_map, Option, Some, None, refl, sym, ap, ◌∙◌, subst, arith, append-nil, append_assoc}
-use Rattle.std.specs.List.{filter, list_all, IsDistinct}
+use Rattle.std.proofs.Common.{◌≡◌, ℕ, zero, suc, ◌+◌, ◌<◌, ◌≤◌, Bool, true, false, cond, eqb, not, ◌&&◌, ◌||◌, ◌⊎◌, inl, inr, List, [], ◌∷◌, ◌++◌, length, map, get_or, slice_get, option_map, Option, Some, None, refl, sym, ap, ◌∙◌, subst, arith, append-nil, append_assoc}
+use Rattle.std.specs.List.{filter, IsDistinct}
 use Rattle.std.specs.Str.{bytes_eq}
-use Rattle.std.proofs.lemmas.List.{length-map, get_or_past}
+use Rattle.std.proofs.lemmas.List.{length-map}
 use Rattle.std.proofs.lemmas.Option.{slice_get-map, slice_get_past, slice_get-get_or}
 use Rattle.verilog_tree.specs.declared.names.Declared.{Declared}
 use Rattle.verilog_tree.specs.declared.names.Kind.{Kind}
@@ -13,13 +13,13 @@ use Rattle.verilog_tree.specs.Plain.{ModuleItem, ModuleTree}
 use Rattle.verilog_tree.specs.Formed.{formed}
 use Rattle.verilog_tree.specs.Names.{Declaration, declarations, lookup, is_input, is_wire, is_register, is_clk}
 use Rattle.verilog_tree.specs.Rules.{first_break}
-use Rattle.verilog_tree.specs.Wires.{Leads, Read}
+use Rattle.verilog_tree.specs.Wires.{Leads}
 use Rattle.verilog_tree.proofs.ReadNames.{reads_declared}
 use Rattle.verilog_tree.proofs.Settling.{lawful_module}
 use Rattle.verilog_cycle.specs.Graph.{is_in, needed, LeadsTo, Within, Sorted, IsOrder}
 use Rattle.verilog_cycle.specs.Nets.{number, row, net_graph, Declares, wire_named, picked}
 use Rattle.verilog_cycle.specs.Design.{names, registers_of, inputs_of, wires_of, Behind, AreNets}
-use Rattle.verilog_cycle.proofs.Declarations.{Apart, fresh_apart, Found, found_among, among_found, same_declaration}
+use Rattle.verilog_cycle.proofs.Declarations.{Apart, fresh_apart, found_among, among_found, same_declaration}
 use Rattle.verilog_cycle.proofs.Places.{same_name, itself, among_append, among_one}
 use Rattle.verilog_cycle.proofs.Settled.{target_wire}
 use Rattle.verilog_cycle.proofs.Named.{named, leads_row, row_at, row_leads}

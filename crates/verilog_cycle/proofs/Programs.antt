@@ -1,8 +1,6 @@
 -- The code of a module, piece by piece.
-use Rattle.std.proofs.Common.{false, ◌≡◌, ℕ, suc, ◌+◌, ◌<◌, ◌≤◌, List, [], ◌∷◌, ◌++◌, length, map, drop, get_or, Option, Some, None, refl, sym, ap, ◌∙◌, subst, append-nil, append_assoc}
+use Rattle.std.proofs.Common.{false, ◌≡◌, ℕ, ◌+◌, ◌<◌, ◌≤◌, List, [], ◌∷◌, ◌++◌, length, map, drop, get_or, Some, None, sym, ◌∙◌, subst, append-nil}
 use Rattle.std.proofs.lemmas.List.{drop_all}
-use Rattle.std.proofs.Math.Seq.{drop-cons}
-use Rattle.std.proofs.Math.Numerals.{add-one}
 use Rattle.arrayvec.specs.ArrayString.{ArrayString}
 use Rattle.verilog_tree.specs.declared.tree.Item.{Item}
 use Rattle.verilog_tree.specs.Plain.{Expression, Statements, ModuleItem, WireItem, RegItem, AssignItem, AlwaysItem, plain_item}
@@ -12,7 +10,7 @@ use Rattle.verilog_cycle.specs.declared.code.Code.{Code}
 use Rattle.verilog_cycle.specs.Compile.{Compiles}
 use Rattle.verilog_cycle.specs.Actions.{Run, DoesAll, DoesBlocks}
 use Rattle.verilog_cycle.specs.Seen.{plain_names}
-use Rattle.verilog_cycle.specs.Settled.{HasCode, IsStep, AreSteps}
+use Rattle.verilog_cycle.specs.Settled.{IsStep, AreSteps}
 use Rattle.verilog_cycle.proofs.ActingTurns.{next_of, grown}
 use Rattle.verilog_cycle.proofs.Edge.{no_block, next_block}
 

@@ -1,31 +1,31 @@
 -- The values that are computed in order settle.
-use Rattle.std.proofs.Common.{◌≡◌, ◌≢◌, ℕ, suc, ◌+◌, ◌^◌, ◌<◌, ◌≤◌, Bool, true, false, cond, not, ◌&&◌, ◌||◌, ◌⊎◌, inl, inr, List, [], ◌∷◌, ◌++◌, length, map, take, drop, get_or, Option, Some, None, refl, sym, ap, ◌∙◌, subst, arith, nat_le, append-nil, append_assoc, length-append}
+use Rattle.std.proofs.Common.{◌≡◌, ◌≢◌, ℕ, suc, ◌+◌, ◌^◌, ◌<◌, ◌≤◌, Bool, true, false, cond, not, ◌&&◌, ◌||◌, ◌⊎◌, inl, inr, List, [], ◌∷◌, ◌++◌, length, take, get_or, Option, Some, None, refl, sym, ap, ◌∙◌, subst, arith, nat_le, append-nil, append_assoc, length-append}
 use Rattle.std.specs.List.{filter}
 use Rattle.std.specs.Str.{bytes_eq}
 use Rattle.std.proofs.lemmas.Nat.{pow_pos}
 use Rattle.std.proofs.lemmas.Bool.{and_parts, cases_lt}
 use Rattle.std.proofs.lemmas.Bool.Decides.{nat_tests}
-use Rattle.std.proofs.lemmas.List.{get_or-append-add, get_or_append_left, length-map, take-set-le, take-append-drop}
+use Rattle.std.proofs.lemmas.List.{get_or-append-add, get_or_append_left, take-set-le}
 use Rattle.verilog_tree.specs.declared.names.Kind.{Kind}
 use Rattle.verilog_tree.specs.declared.names.Kind.TheVariants as K
 use Rattle.bist_text.specs.ReservedWords.{is_among}
 use Rattle.verilog_tree.specs.Plain.{Expression, ModulePort, ModuleItem, WireItem, RegItem, AssignItem, AlwaysItem, ModuleTree}
 use Rattle.verilog_tree.specs.Names.{Declaration, port_declarations, item_declarations, declarations, lookup, width_of, declared_width, is_input, is_wire, is_register, is_clk}
 use Rattle.verilog_tree.specs.Formed.{formed, is_width, has_port, ports_formed, items_formed, expression_formed, statements_formed}
-use Rattle.verilog_tree.specs.Meaning.{Env, Settles, Equations, value, names_widths, settled_width, AllGiven}
-use Rattle.verilog_tree.specs.Rules.{is_assigned, first_break, expression_widths}
+use Rattle.verilog_tree.specs.Meaning.{Env, Equations, names_widths, settled_width}
+use Rattle.verilog_tree.specs.Rules.{is_assigned, first_break}
 use Rattle.verilog_tree.specs.Wires.{Uses, Leads, Falls, GivenWithin, AllWithin, Starts, OneSettles}
 use Rattle.verilog_tree.proofs.Clean.{driver, driver_of, IsDriven, CleanItems, Fresh, fresh_found, Each, each_append, found}
-use Rattle.verilog_tree.proofs.Settling.{Lawful, lawful_module, one_settles, same_value, leads_of, clean_of, equation_of, narrowed, no_bits}
+use Rattle.verilog_tree.proofs.Settling.{lawful_module, one_settles, same_value, leads_of, clean_of, equation_of, narrowed}
 use Rattle.verilog_cycle.specs.declared.code.Code.{Code}
 use Rattle.verilog_cycle.specs.Code.{meaning}
-use Rattle.verilog_cycle.specs.Compile.{Narrow, Compiles}
+use Rattle.verilog_cycle.specs.Compile.{Narrow}
 use Rattle.verilog_cycle.specs.Actions.{put}
 use Rattle.verilog_cycle.specs.Nets.{number, valued}
-use Rattle.verilog_cycle.specs.Settled.{settled, IsStep, AreSteps}
+use Rattle.verilog_cycle.specs.Settled.{settled, AreSteps}
 use Rattle.verilog_cycle.specs.Design.{names, registers_of, inputs_of, wires_of, Fit, Behind, AreNets, places}
 use Rattle.verilog_cycle.proofs.Places.{same_name, itself, number_left, number_right, number_at, among_append, among_one, length_put, put_within, put_here, put_there, put_beyond, valued_out}
-use Rattle.verilog_cycle.proofs.Declarations.{Apart, fresh_apart, Found, found_among, among_found, same_declaration, filtered_width, valued_fits, fit_length, given_register, given_input}
+use Rattle.verilog_cycle.proofs.Declarations.{Apart, fresh_apart, found_among, among_found, same_declaration, filtered_width, valued_fits, fit_length, given_register, given_input}
 
 -- the expressions of nets use only what stands before them
 falls_behind : (is : List ModuleItem) (b ns : List (List ℕ)) → Behind is b ns → (n m : List ℕ) → is_among n ns ≡ true → Leads is n m → number (b ++ ns) m < number (b ++ ns) n

@@ -1,13 +1,12 @@
 -- Which code an expression of a module becomes.
-use Rattle.std.specs.Prelude.{◌≡◌, ℕ, ◌+◌, ◌-◌, ◌*◌, ◌/◌, ◌%◌, ◌^◌, ◌<◌, ◌≤◌, true, List, [], ◌∷◌, None, cond, nat_eq, bit_and, map}
-use Rattle.std.specs.Str.{bytes_eq}
+use Rattle.std.specs.Prelude.{◌≡◌, ℕ, ◌+◌, ◌-◌, ◌%◌, ◌^◌, ◌<◌, ◌≤◌, true, List, None, cond, nat_eq, bit_and}
 use Rattle.verilog_tree.specs.declared.tree.UnOp.{UnOp}
 use Rattle.verilog_tree.specs.declared.tree.UnOp.TheVariants as U
 use Rattle.verilog_tree.specs.declared.tree.BinOp.{BinOp}
 use Rattle.verilog_tree.specs.declared.tree.BinOp.TheVariants as B
 use Rattle.verilog_tree.specs.Plain.{Expression, Expressions}
 use Rattle.verilog_tree.specs.Formed.{expression_formed, expressions_formed}
-use Rattle.verilog_tree.specs.Meaning.{Env, prefixed, infixed, width, widths, value, joined}
+use Rattle.verilog_tree.specs.Meaning.{prefixed, infixed, width, widths, value, joined}
 use Rattle.verilog_tree.specs.Rules.{expression_widths, parts_widths}
 use Rattle.verilog_tree.specs.Wires.{Uses, UsesAny}
 use Rattle.verilog_cycle.specs.declared.code.Code.{Code}

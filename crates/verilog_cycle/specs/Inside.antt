@@ -1,5 +1,5 @@
 -- A design's fields, as contracts see them.
-use Rattle.std.specs.Prelude.{ℕ, List, length, map, take}
+use Rattle.std.specs.Prelude.{length, map, take}
 use Rattle.verilog_tree.specs.Plain.{plain_module}
 use Rattle.verilog_tree.specs.Seen.{declaration}
 use Rattle.verilog_cycle.specs.declared.design.Design.TheInside.{Inside}

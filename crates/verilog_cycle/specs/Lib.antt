@@ -8,6 +8,8 @@ pub mod Fitting
 pub mod Graph
 pub mod Inside
 pub mod Nets
+pub mod Numbering
 pub mod Scope
 pub mod Seen
 pub mod Settled
+pub mod Tabled

@@ -23,7 +23,7 @@ use crate::scope::Scope;
 use bist_bits::NoMemory;
 use std::alloc::Global;
 use std::marker::Model;
-use verilog_tree::{Declared, Module, Name, Port};
+use verilog_tree::{Declared, Module, Name, Port, all_declarations};
 
 /// A module made to run: its module, its registers' values, and its nets in the order in which they are computed.
 #[derive(Drop)]
@@ -75,6 +75,7 @@ impl Design {
         let registers = registers(alloc, &declared)?;
         let inputs = inputs(alloc, &declared)?;
         let places = places(alloc, &registers, &inputs, &nets)?;
+        let declared = all_declarations(alloc, module)?;
         let scope = Scope { declared, places };
         let steps = steps(alloc, &scope, &module.items, &nets)?;
         let blocks = blocks(alloc, &scope, &module.items)?;

@@ -26,7 +26,7 @@ fn nets(alloc: Global, module: &Module, declared: &[Declared]) -> Result<Vec<Nam
     match order(alloc, &graph) {
         Ok(all) => Ok(wires(alloc, declared, &all)?),
         Err(Stuck::Loop(numbers)) => Err(TreeFault::Loop {
-            names: names_at(alloc, &names, &numbers)?,
+            names: names_at(alloc, names.names(), &numbers)?,
         }),
         Err(Stuck::NoMemory) => Err(TreeFault::NoMemory),
     }

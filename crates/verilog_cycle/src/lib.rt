@@ -20,6 +20,7 @@ mod elaboration;
 mod fit;
 pub mod laws;
 mod nets;
+mod numbering;
 mod ordering;
 mod program;
 mod run;

@@ -9,8 +9,10 @@ ghost use Rattle.verilog_tree.specs.Seen.{declaration};
 ghost use Rattle.verilog_cycle.specs.Design.{names};
 ghost use Rattle.verilog_cycle.specs.Nets.{number, row, net_graph, picked, wire_named};
 ghost use Rattle.verilog_cycle.specs.Seen.{plain_graph, plain_names};
+ghost use Rattle.verilog_cycle.specs.Tabled.{AreDrivers};
+ghost use Rattle.verilog_tree.proofs.Clean.{Once};
 
-use crate::scope::number;
+use crate::numbering::{Drivers, Numbering};
 use bist_bits::NoMemory;
 use std::alloc::Global;
 use verilog_tree::{Declared, Expr, Item, Kind, Name, names_read};
@@ -34,58 +36,59 @@ fn push_row(graph: &mut Vec<Vec<usize>>, row: Vec<usize>) -> Result<(), NoMemory
 }
 
 /// The declared names, in the order of the declarations.
-pub(crate) fn names_of(alloc: Global, declared: &[Declared]) -> Result<Vec<Name>, NoMemory>
-    ensures { IfOk result (λ all. plain_names all.items ≡ names (map declaration declared.now)) }
+pub(crate) fn names_of(alloc: Global, declared: &[Declared]) -> Result<Numbering, NoMemory>
+    ensures { IfOk result (λ all. all ≡ names (map declaration declared.now)) }
 {
     let mut all = Vec::new(alloc);
     for next in declared {
         push_name(&mut all, next.name)?;
     }
-    Ok(all)
+    Numbering::new(alloc, all)
 }
 
 // The numbers of the names that an expression reads.
-fn push_numbers(
-    alloc: Global,
-    all: &mut Vec<usize>,
-    names: &[Name],
-    x: &Expr,
-) -> Result<(), NoMemory>
-    ensures { OnOk result (all.new.items ≡ all.old.items ++ map (number (plain_names names.now)) (map mentioned (reads (plain x.now)))) }
+fn numbers_read(alloc: Global, names: &Numbering, x: &Expr) -> Result<Vec<usize>, NoMemory>
+    ensures { IfOk result (λ all. all.items ≡ map (number names.now) (map mentioned (reads (plain x.now)))) }
 {
     let read = names_read(alloc, x)?;
-    for name in &read {
-        push(all, number(names, name))?;
-    }
-    Ok(())
-}
-
-// The numbers that the expressions assigned to a name use.
-fn row(alloc: Global, names: &[Name], items: &[Item], name: &Name) -> Result<Vec<usize>, NoMemory>
-    ensures { IfOk result (λ all. all.items ≡ map (number (plain_names names.now)) (row (map plain_item items.now) name.now.bytes)) }
-{
     let mut all = Vec::new(alloc);
-    for item in items {
-        if let Item::Assign(target, x) = item {
-            if name.as_str() == target.as_str() {
-                push_numbers(alloc, &mut all, names, x)?;
-            }
-        }
+    for name in &read {
+        push(&mut all, names.number(name))?;
     }
     Ok(all)
 }
 
-/// What each of these names needs, by number.
+// The numbers that the expression assigned to a name uses.
+fn row(
+    alloc: Global,
+    names: &Numbering,
+    drivers: &Drivers,
+    items: &[Item],
+    name: &Name,
+) -> Result<Vec<usize>, NoMemory>
+    requires drivers { AreDrivers drivers.now (map plain_item items.now) }
+    requires once { Once [] (map plain_item items.now) }
+    ensures { IfOk result (λ all. all.items ≡ map (number names.now) (row (map plain_item items.now) name.now.bytes)) }
+{
+    match drivers.expression(items, name) {
+        Some(x) => numbers_read(alloc, names, x),
+        None => Ok(Vec::new(alloc)),
+    }
+}
+
+/// What each of these names needs, by number. No item assigns what an earlier one does.
 pub(crate) fn graph(
     alloc: Global,
-    names: &[Name],
+    names: &Numbering,
     items: &[Item],
 ) -> Result<Vec<Vec<usize>>, NoMemory>
-    ensures { IfOk result (λ all. plain_graph all.items ≡ net_graph (plain_names names.now) (map plain_item items.now)) }
+    requires { Once [] (map plain_item items.now) }
+    ensures { IfOk result (λ all. plain_graph all.items ≡ net_graph names.now (map plain_item items.now)) }
 {
+    let drivers = Drivers::new(alloc, items)?;
     let mut all = Vec::new(alloc);
-    for name in names {
-        let row = row(alloc, names, items, name)?;
+    for name in names.names() {
+        let row = row(alloc, names, &drivers, items, name)?;
         push_row(&mut all, row)?;
     }
     Ok(all)

@@ -12,11 +12,13 @@ ghost use Rattle.verilog_cycle.specs.Nets.{number};
 ghost use Rattle.verilog_cycle.specs.Scope.{scope_widths, scope_places};
 ghost use Rattle.verilog_cycle.specs.Seen.{plain_names};
 ghost use Rattle.verilog_cycle.specs.Settled.{IsStep, AreSteps};
+ghost use Rattle.verilog_cycle.specs.Tabled.{AreDrivers};
 
 use crate::action::Action;
 use crate::code::Code;
 use crate::compile::expression;
-use crate::scope::{Scope, number};
+use crate::numbering::{Drivers, Numbering};
+use crate::scope::Scope;
 use crate::statement::statements;
 use bist_bits::NoMemory;
 use std::alloc::Global;
@@ -24,18 +26,23 @@ use verilog_tree::{Declared, Dir, Item, Name, Port, Stmt};
 
 // The code of the expression that a net is assigned. A net that nothing drives never comes.
 #[tactic(auto, using(crate::proofs::Programs::step_found, crate::proofs::Programs::step_missing))]
-fn step(alloc: Global, scope: &Scope, items: &[Item], net: &Name) -> Result<Box<Code>, NoMemory>
+fn step(
+    alloc: Global,
+    scope: &Scope,
+    drivers: &Drivers,
+    items: &[Item],
+    net: &Name,
+) -> Result<Box<Code>, NoMemory>
+    requires { AreDrivers drivers.now (map plain_item items.now) }
     ensures { IfOk result (λ c. IsStep (scope_widths scope.now) (map plain_item items.now) (scope_places scope.now) net.now.bytes c.value) }
 {
-    for item in items {
-        if let Item::Assign(target, x) = item {
-            if net.as_str() == target.as_str() {
-                let compiled = expression(alloc, scope, x)?;
-                return Ok(compiled.code);
-            }
+    match drivers.expression(items, net) {
+        Some(x) => {
+            let compiled = expression(alloc, scope, x)?;
+            Ok(compiled.code)
         }
+        None => Box::new(alloc, Code::Lit(0)).map_err(|_| NoMemory),
     }
-    Box::new(alloc, Code::Lit(0)).map_err(|_| NoMemory)
 }
 
 fn push_step(all: &mut Vec<Box<Code>>, next: Box<Code>) -> Result<(), NoMemory>
@@ -53,9 +60,10 @@ pub(crate) fn steps(
 ) -> Result<Vec<Box<Code>>, NoMemory>
     ensures { IfOk result (λ all. AreSteps (scope_widths scope.now) (map plain_item items.now) (scope_places scope.now) (plain_names nets.now) (map (λ b. b.value) all.items)) }
 {
+    let drivers = Drivers::new(alloc, items)?;
     let mut all = Vec::new(alloc);
     for net in nets {
-        let next = step(alloc, scope, items, net)?;
+        let next = step(alloc, scope, &drivers, items, net)?;
         push_step(&mut all, next)?;
     }
     Ok(all)
@@ -105,16 +113,16 @@ fn push(list: &mut Vec<usize>, n: usize) -> Result<(), NoMemory>
 /// The places of the output ports.
 pub(crate) fn outputs(
     alloc: Global,
-    places: &[Name],
+    places: &Numbering,
     ports: &[Port],
 ) -> Result<Vec<usize>, NoMemory>
-    ensures { IfOk result (λ all. all.items ≡ map (number (plain_names places.now)) (names (filter (λ d. not (is_input d.kind)) (port_declarations (map plain_port ports.now))))) }
+    ensures { IfOk result (λ all. all.items ≡ map (number places.now) (names (filter (λ d. not (is_input d.kind)) (port_declarations (map plain_port ports.now))))) }
 {
     let mut all = Vec::new(alloc);
     for port in ports {
         match port.dir {
             Dir::Input => {}
-            Dir::Output | Dir::OutputReg => push(&mut all, number(places, &port.name))?,
+            Dir::Output | Dir::OutputReg => push(&mut all, places.number(&port.name))?,
         }
     }
     Ok(all)
@@ -150,14 +158,14 @@ pub(crate) fn places(
     registers: &[Declared],
     inputs: &[Declared],
     nets: &[Name],
-) -> Result<Vec<Name>, NoMemory>
-    ensures { IfOk result (λ all. plain_names all.items ≡ (names (map declaration registers.now) ++ names (map declaration inputs.now)) ++ plain_names nets.now) }
+) -> Result<Numbering, NoMemory>
+    ensures { IfOk result (λ all. all ≡ (names (map declaration registers.now) ++ names (map declaration inputs.now)) ++ plain_names nets.now) }
 {
     let mut all = Vec::new(alloc);
     push_declared(&mut all, registers)?;
     push_declared(&mut all, inputs)?;
     push_names(&mut all, nets)?;
-    Ok(all)
+    Numbering::new(alloc, all)
 }
 
 /// This many zeros.

@@ -78,7 +78,7 @@ with_targets_has ns (AsTarget m ∷ ms) n = with_targets_has (with_name ns m) ms
 with_targets_has ns (Whole m ∷ ms) n = with_targets_has ns ms n
 with_targets_has ns (Selected m h l ∷ ms) n = with_targets_has ns ms n
 
-assigned_append : (b is : List ModuleItem) (n : List ℕ) → is_assigned (b ++ is) n ≡ (is_assigned b n || is_assigned is n)
+pub assigned_append : (b is : List ModuleItem) (n : List ℕ) → is_assigned (b ++ is) n ≡ (is_assigned b n || is_assigned is n)
 assigned_append [] is n = refl
 assigned_append (WireItem m k ∷ b) is n = assigned_append b is n
 assigned_append (RegItem m k ∷ b) is n = assigned_append b is n

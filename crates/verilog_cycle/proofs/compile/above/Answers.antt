@@ -1,4 +1,4 @@
-use Rattle.std.proofs.Common.{◌≡◌, ℕ, ◌≤◌, List, ap, ◌∙◌, arith}
+use Rattle.std.proofs.Common.{◌≡◌, ℕ, List, ap, ◌∙◌, arith}
 use Rattle.verilog_tree.specs.Plain.{Expression, Expressions, Followed}
 use Rattle.verilog_cycle.specs.Code.{meaning}
 use Rattle.verilog_cycle.specs.Compile.{Compiles, JoinsParts}

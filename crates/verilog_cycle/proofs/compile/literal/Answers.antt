@@ -1,4 +1,4 @@
-use Rattle.std.proofs.Common.{◌≡◌, ℕ, List, ap, ◌∙◌, subst, sym}
+use Rattle.std.proofs.Common.{◌≡◌, ℕ, ap, ◌∙◌, subst, sym}
 use Rattle.verilog_tree.specs.Plain.{Literal}
 use Rattle.verilog_cycle.specs.Code.{meaning}
 use Rattle.verilog_cycle.specs.Compile.{Compiles}

@@ -1,4 +1,4 @@
-use Rattle.std.proofs.Common.{◌≡◌, ℕ, ◌-◌, ◌^◌, ◌≤◌, List, ap, sym, subst, ◌∙◌, bit_and}
+use Rattle.std.proofs.Common.{◌≡◌, ℕ, ◌-◌, ◌^◌, ◌≤◌, ap, sym, subst, ◌∙◌, bit_and}
 use Rattle.verilog_tree.specs.Plain.{PartSelect}
 use Rattle.verilog_cycle.specs.Code.{at, lowered, meaning}
 use Rattle.verilog_cycle.specs.Compile.{Compiles}

@@ -1,4 +1,4 @@
-use Rattle.std.proofs.Common.{◌≡◌, ◌++◌, List, not, map, drop}
+use Rattle.std.proofs.Common.{◌++◌, List, map, drop}
 use Rattle.verilog_tree.specs.Plain.{plain_item}
 use Rattle.verilog_cycle.specs.declared.code.Code.{Code}
 use Rattle.verilog_cycle.specs.Scope.{scope_widths, scope_places}

@@ -1,8 +1,6 @@
-use Rattle.std.proofs.Common.{◌≡◌, ℕ, ◌≤◌, ◌+◌, List, [], ◌∷◌, ◌++◌, length, map, drop, get_or, refl, sym, ap, ◌∙◌, subst, append-nil, append_assoc}
-use Rattle.verilog_tree.specs.Plain.{plain_stmt, plain_stmts, plain_arm, arms}
-use Rattle.verilog_cycle.specs.Actions.{Run, BranchRun, run_all, action_run, branch_run, DoesAll, DoesArms}
+use Rattle.std.proofs.Common.{map}
+use Rattle.verilog_cycle.specs.Actions.{action_run, branch_run}
 use Rattle.verilog_cycle.specs.Scope.{scope_widths, scope_places}
-use Rattle.verilog_cycle.proofs.Acting.{none_do, no_arms_do}
 use Rattle.verilog_cycle.proofs.ActingTurns.{next_statement, next_arm, last_statement, last_arm}
 use Rattle.verilog_cycle.proofs.statement.+statement.Goals as goal
 

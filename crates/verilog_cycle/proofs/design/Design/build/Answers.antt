@@ -1,8 +1,9 @@
-use Rattle.std.proofs.Common.{◌≡◌, ℕ, not, ◌&&◌, List, ◌++◌, length, map, refl, sym, ap, ◌∙◌, subst, arith}
+use Rattle.std.proofs.Common.{◌≡◌, not, ◌&&◌, ◌++◌, length, map, sym, ap, ◌∙◌, subst, arith}
+use mathlib.Core.Path.{fun_ext}
 use Rattle.std.specs.List.{filter}
 use Rattle.std.proofs.lemmas.List.{length-map}
 use Rattle.verilog_tree.specs.Plain.{ModuleTree, plain_module, plain_item, plain_port}
-use Rattle.verilog_tree.specs.Names.{Declaration, port_declarations, width_of, is_input, is_register, is_clk}
+use Rattle.verilog_tree.specs.Names.{Declaration, port_declarations, lookup, declared_width, width_of, is_input, is_register, is_clk}
 use Rattle.verilog_tree.specs.Seen.{declaration}
 use Rattle.verilog_cycle.specs.Actions.{action_run, DoesBlocks}
 use Rattle.verilog_cycle.specs.Built.{IsBuilt, Holds}
@@ -20,7 +21,7 @@ invariant_of-result c =
     let ds = map declaration c.args.declared.items in
     let rs = map declaration c.in_ok-registers.registers.items in
     let is = map declaration c.in_ok-inputs.inputs.items in
-    let ps = plain_names c.in_ok-places.places.items in
+    let ps = c.in_ok-places.places in
     let er : rs ≡ registers_of mo = c.in_ok-registers.ensures
     ∙ ap (λ l. filter (λ (d : Declaration). is_register d.kind) (map declaration l)) c.deref.ensures.value
     ∙ ap (filter (λ (d : Declaration). is_register d.kind)) c.requires.all in
@@ -35,21 +36,21 @@ invariant_of-result c =
     let n1 = c.len.ensures in
     let n2 = c.len-2.ensures in
     let n3 = c.len-3.ensures in
-    let m1 = length-map c.in_ok-places.places.items (λ n. n.bytes) in
     let m2 = length-map c.in_ok-registers.registers.items declaration in
     let q1 = ap length pl in
     let q2 = ap length er in
-    let a1 : c.len.result ≡ length (places mo ns) = omega (arith, n1, m1, q1) in
+    let a1 : c.len.result ≡ length (places mo ns) = omega (arith, n1, q1) in
     let a2 : c.len-2.result ≡ length (registers_of mo) = omega (arith, n2, m2, q2) in
     let cs = map (λ b. b.value) c.in_ok-steps.steps.items in
     let runs = map (λ b. map action_run b.items) c.in_ok-blocks.blocks.items in
+    let w : width_of c.in_ok-declared.declared ≡ width_of ds = fun_ext (λ n. ap declared_width (c.in_ok-declared.ensures n ∙ ap (λ l. lookup l n) (sym c.requires.all))) in
     let steps : AreSteps (width_of ds) mo.items ps ns cs =
-    subst (λ l. AreSteps (width_of ds) (map plain_item l) ps ns cs) c.deref-6.ensures.value
-    (subst (λ l. AreSteps (width_of ds) (map plain_item c.deref-6.result.now) ps (plain_names l) cs) c.deref-7.ensures.value c.in_ok-steps.ensures) in
-    let does : DoesBlocks (width_of ds) ps mo.items runs = subst (λ l. DoesBlocks (width_of ds) ps (map plain_item l) runs) c.deref-8.ensures.value c.in_ok-blocks.ensures in
+    subst (λ w. AreSteps w mo.items ps ns cs) w (
+    subst (λ l. AreSteps (width_of c.in_ok-declared.declared) (map plain_item l) ps ns cs) c.deref-6.ensures.value
+    (subst (λ l. AreSteps (width_of c.in_ok-declared.declared) (map plain_item c.deref-6.result.now) ps (plain_names l) cs) c.deref-7.ensures.value c.in_ok-steps.ensures)) in
+    let does : DoesBlocks (width_of ds) ps mo.items runs = subst (λ w. DoesBlocks w ps mo.items runs) w (subst (λ l. DoesBlocks (width_of c.in_ok-declared.declared) ps (map plain_item l) runs) c.deref-8.ensures.value c.in_ok-blocks.ensures) in
     let outs : c.in_ok-outputs.outputs.items ≡ map (number ps) (names (filter (λ (d : Declaration). not (is_input d.kind)) (port_declarations mo.ports))) = c.in_ok-outputs.ensures
-    ∙ ap (λ l. map (number (plain_names l)) (names (filter (λ (d : Declaration). not (is_input d.kind)) (port_declarations (map plain_port c.deref-10.result.now))))) c.deref-9.ensures.value
-    ∙ ap (λ l. map (number ps) (names (filter (λ (d : Declaration). not (is_input d.kind)) (port_declarations (map plain_port l))))) c.deref-10.ensures.value in
+    ∙ ap (λ l. map (number ps) (names (filter (λ (d : Declaration). not (is_input d.kind)) (port_declarations (map plain_port l))))) c.deref-9.ensures.value in
     let m3 = length-map (names (outputs_of mo)) (number ps) in
     let m4 = length-map (outputs_of mo) (λ (d : Declaration). d.name) in
     let q3 = ap length outs in
@@ -66,7 +67,7 @@ returns c =
     let ds = map declaration c.args.declared.items in
     let rs = map declaration c.in_ok-registers.registers.items in
     let is = map declaration c.in_ok-inputs.inputs.items in
-    let ps = plain_names c.in_ok-places.places.items in
+    let ps = c.in_ok-places.places in
     let er : rs ≡ registers_of mo = c.in_ok-registers.ensures
     ∙ ap (λ l. filter (λ (d : Declaration). is_register d.kind) (map declaration l)) c.deref.ensures.value
     ∙ ap (filter (λ (d : Declaration). is_register d.kind)) c.requires.all in
@@ -81,11 +82,10 @@ returns c =
     let n1 = c.len.ensures in
     let n2 = c.len-2.ensures in
     let n3 = c.len-3.ensures in
-    let m1 = length-map c.in_ok-places.places.items (λ n. n.bytes) in
     let m2 = length-map c.in_ok-registers.registers.items declaration in
     let q1 = ap length pl in
     let q2 = ap length er in
-    let a1 : c.len.result ≡ length (places mo ns) = omega (arith, n1, m1, q1) in
+    let a1 : c.len.result ≡ length (places mo ns) = omega (arith, n1, q1) in
     let a2 : c.len-2.result ≡ length (registers_of mo) = omega (arith, n2, m2, q2) in
     let k : length c.in_ok-registers.registers.items ≡ length (registers_of mo) = omega (arith, m2, q2) in
     record {

@@ -1,11 +1,10 @@
-use Rattle.std.proofs.Common.{◌≡◌, ℕ, ◌+◌, List, take, length, map, refl, sym, ap, ◌∙◌, subst, arith}
-use Rattle.verilog_tree.specs.Plain.{plain_module}
+use Rattle.std.proofs.Common.{◌≡◌, ℕ, ◌+◌, List, take, length, map, sym, ap, ◌∙◌, subst, arith}
 use Rattle.verilog_cycle.specs.Actions.{action_run, run_blocks}
 use Rattle.verilog_cycle.specs.Code.{at}
 use Rattle.verilog_cycle.specs.Settled.{settled}
 use Rattle.verilog_cycle.specs.Built.{put_all}
 use Rattle.verilog_cycle.specs.Design.{Cycle}
-use Rattle.verilog_cycle.proofs.Designs.{room_of, shown_of, holds_with, same_view, stepped_of, view_with}
+use Rattle.verilog_cycle.proofs.Designs.{room_of, shown_of, stepped_of}
 use Rattle.verilog_cycle.proofs.design.Design.edge.Goals as goal
 
 pub compute-requires : goal.compute-requires

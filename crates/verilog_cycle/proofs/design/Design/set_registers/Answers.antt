@@ -1,4 +1,4 @@
-use Rattle.std.proofs.Common.{◌≡◌, ℕ, ◌≤◌, ◌+◌, List, take, length, sym, ap, ◌∙◌, subst, arith}
+use Rattle.std.proofs.Common.{ℕ, List, take, length, sym, ap, ◌∙◌, subst, arith}
 use Rattle.verilog_tree.specs.Plain.{plain_module}
 use Rattle.verilog_cycle.specs.Built.{put_all, Holds}
 use Rattle.verilog_cycle.specs.Design.{with_registers}
