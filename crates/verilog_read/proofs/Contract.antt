@@ -1,6 +1,7 @@
 -- What the reader's answer says of the text.
-use Rattle.std.proofs.Common.{◌≡◌, ℕ, List, Result, Ok, Err, IfOk, IfErr, MatchResult, refl, sym, ap, subst, ◌∙◌, ◌↔◌, inl, inr, arith}
+use Rattle.std.proofs.Common.{◌≡◌, ℕ, true, List, Result, Ok, Err, IfOk, IfErr, MatchResult, refl, sym, ap, subst, ◌∙◌, ◌↔◌, inl, inr, arith}
 use Rattle.verilog_tree.specs.declared.tree.Module.{Module}
+use Rattle.verilog_tree.specs.Formed.{formed}
 use Rattle.verilog_tree.specs.Plain.{ModuleTree, plain_module}
 use Rattle.verilog_tree.specs.Spells.{Spells}
 use Rattle.verilog_read.specs.declared.fault.ReadFault.{ReadFault}
@@ -10,10 +11,15 @@ use Rattle.verilog_read.specs.Refusals.{Says, Stands, IsFirst}
 use Rattle.verilog_read.proofs.Faults.{says}
 use Rattle.verilog_read.proofs.Finishing.{finishes}
 use Rattle.verilog_read.proofs.Firsts.{first}
+use Rattle.verilog_read.proofs.Sizes.{spelled_formed}
 
 pub read_spells : (b : List ℕ) (r : Result Module ReadFault) → Gives (answer b) r → IfOk r (λ m. Spells b (plain_module m))
 read_spells b (Ok m) g = (finishes b (plain_module m)).0 g
 read_spells b (Err f) g = tt
+
+pub read_formed : (b : List ℕ) (r : Result Module ReadFault) → Gives (answer b) r → IfOk r (λ m. formed (plain_module m) ≡ true)
+read_formed b (Ok m) g = spelled_formed b (plain_module m) ((finishes b (plain_module m)).0 g)
+read_formed b (Err f) g = tt
 
 same_module : (a : Answer) (v w : ModuleTree) → a ≡ Finished v → a ≡ Finished w → v ≡ w
 same_module a v w e f = let k : Finished v ≡ Finished w = sym e ∙ f in cc

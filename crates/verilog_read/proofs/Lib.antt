@@ -29,3 +29,4 @@ pub mod Landing
 pub mod Room
 pub mod DeepFirst
 pub mod Firsts
+pub mod Sizes

@@ -1,5 +1,6 @@
 //! The reader of a module's text.
-ghost use Rattle.std.specs.Prelude.{◌≡◌, ◌↔◌, ◌≤◌, Some, None, Err, IfOk, IfErr, MatchResult};
+ghost use Rattle.std.specs.Prelude.{true, ◌≡◌, ◌↔◌, ◌≤◌, Some, None, Err, IfOk, IfErr, MatchResult};
+ghost use Rattle.verilog_tree.specs.Formed.{formed};
 ghost use Rattle.verilog_tree.specs.Plain.{ModuleTree, plain_module};
 ghost use Rattle.verilog_tree.specs.Spells.{Spells};
 ghost use Rattle.verilog_read.specs.Answering.{Takes, Moves, Scanned, Gives, take_token, stuck, arrive, is_between, read_within, byte_move, fault_at, value_answer, end_answer, last_answer, answer, both_of};
@@ -249,6 +250,9 @@ pub fn read_module(alloc: Global, bytes: &[u8]) -> Result<Module, ReadFault>
     // A text is read as the module that it spells, within all limits, unless memory runs out.
     ensures ok { IfOk result (λ m. Spells bytes.now (plain_module m)) }
     ensures accepted { (mo : ModuleTree) → Spells bytes.now mo → MatchResult result (λ m. plain_module m ≡ mo) (λ fault. fault ≡ ReadFault.NoMemory) }
+
+    // Every module that is read has the sizes of one.
+    ensures formed { IfOk result (λ m. formed (plain_module m) ≡ true) }
 
     // What each fault says of the text, at the byte that it names.
     ensures says { IfErr result (Says bytes.now) }

@@ -1,5 +1,5 @@
 use Rattle.verilog_tree.specs.Spells.{all_limits}
-use Rattle.verilog_read.proofs.Contract.{read_first, read_says, read_spells, spelled_read}
+use Rattle.verilog_read.proofs.Contract.{read_formed, read_first, read_says, read_spells, spelled_read}
 use Rattle.verilog_read.proofs.ReadingLaws.{one_text}
 use Rattle.verilog_read.proofs.read.read_module.Goals as goal
 
@@ -17,3 +17,6 @@ returns-clause-says c = read_says c.args.bytes.now c.scan_text.result c.scan_tex
 
 pub returns-clause-fault : goal.returns-clause-fault
 returns-clause-fault c = λ n f. read_first c.args.bytes.now c.scan_text.result c.scan_text.ensures n f
+
+pub returns-clause-formed : goal.returns-clause-formed
+returns-clause-formed c = read_formed c.args.bytes.now c.scan_text.result c.scan_text.ensures
