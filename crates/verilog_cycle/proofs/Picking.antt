@@ -1,9 +1,9 @@
 -- The nets of an order.
-use Rattle.std.proofs.Common.{◌≡◌, ℕ, zero, suc, ◌+◌, ◌<◌, ◌≤◌, Bool, true, false, cond, eqb, not, ◌&&◌, ◌||◌, ◌⊎◌, inl, inr, List, [], ◌∷◌, ◌++◌, length, map, get_or, slice_get, option_map, Option, Some, None, refl, sym, ap, ◌∙◌, subst, arith, append-nil, append_assoc}
+use Rattle.std.proofs.Common.{◌≡◌, ℕ, zero, suc, ◌+◌, ◌<◌, ◌≤◌, Bool, true, false, cond, eqb, not, ◌&&◌, ◌||◌, ◌⊎◌, inl, inr, List, [], ◌∷◌, ◌++◌, length, map, get_or, slice_get, drop, option_map, Option, Some, None, refl, sym, ap, ◌∙◌, subst, arith, append-nil, append_assoc}
 use Rattle.std.specs.List.{filter, IsDistinct}
 use Rattle.std.specs.Str.{bytes_eq}
 use Rattle.std.proofs.lemmas.List.{length-map}
-use Rattle.std.proofs.lemmas.Option.{slice_get-map, slice_get_past, slice_get-get_or}
+use Rattle.std.proofs.lemmas.Option.{slice_get-map, slice_get_past, slice_get-get_or, slice_get_within, get_or_from_slice_get}
 use Rattle.verilog_tree.specs.declared.names.Declared.{Declared}
 use Rattle.verilog_tree.specs.declared.names.Kind.{Kind}
 use Rattle.verilog_tree.specs.declared.names.Kind.TheVariants as K
@@ -16,6 +16,7 @@ use Rattle.verilog_tree.specs.Rules.{first_break}
 use Rattle.verilog_tree.specs.Wires.{Leads}
 use Rattle.verilog_tree.proofs.ReadNames.{reads_declared}
 use Rattle.verilog_tree.proofs.Settling.{lawful_module}
+use Rattle.verilog_cycle.proofs.ActingTurns.{next_of}
 use Rattle.verilog_cycle.specs.Graph.{is_in, needed, LeadsTo, Within, Sorted, IsOrder}
 use Rattle.verilog_cycle.specs.Nets.{number, row, net_graph, Declares, wire_named, picked}
 use Rattle.verilog_cycle.specs.Design.{names, registers_of, inputs_of, wires_of, Behind, AreNets}
@@ -308,3 +309,14 @@ order_nets mo f h o order =
         by_part : (is_among n (names (filter (λ d. is_register d.kind) ds)) ≡ true) ⊎ (is_among n (names (filter (λ d. is_input d.kind && not (is_clk d.name)) ds)) ≡ true) → false ≡ true
         by_part (inl r) = let q = found_among (λ d. is_register d.kind) ds n a r in no_register d.kind (subst (λ (x : Declaration). is_register x.kind ≡ true) (same_declaration ds n q.declaration d q.found l) q.passes) w
         by_part (inr r) = let q = found_among (λ d. is_input d.kind && not (is_clk d.name)) ds n a r in no_input d.kind (is_clk d.name) (subst (λ (x : Declaration). (is_input x.kind && not (is_clk x.name)) ≡ true) (same_declaration ds n q.declaration d q.found l) q.passes) w
+
+-- one number more is picked
+pub picked_next : (ds : List Declaration) (keys : List ℕ) (i n : ℕ) (all more whole : List (List ℕ)) → slice_get keys i ≡ Some n → all ++ picked ds (drop i keys) ≡ whole → more ≡ all ++ wire_named (slice_get ds n) → more ++ picked ds (drop (i + 1) keys) ≡ whole
+picked_next ds keys i n all more whole at so is =
+    ap (λ l. l ++ picked ds (drop (i + 1) keys)) is
+    ∙ append_assoc all (wire_named (slice_get ds n)) (picked ds (drop (i + 1) keys))
+    ∙ ap (λ l. all ++ picked ds l) (sym (next_at keys i n at))
+    ∙ so
+  where
+    next_at : (keys : List ℕ) (i n : ℕ) → slice_get keys i ≡ Some n → drop i keys ≡ n ∷ drop (i + 1) keys
+    next_at keys i n at = next_of keys i n (slice_get_within keys i n at) (sym (get_or_from_slice_get keys i n n at))

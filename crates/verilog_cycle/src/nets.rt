@@ -14,6 +14,7 @@ ghost use Rattle.verilog_tree.proofs.Clean.{Once};
 
 use crate::numbering::{Drivers, Numbering};
 use bist_bits::NoMemory;
+use indexmap::IndexSet;
 use std::alloc::Global;
 use verilog_tree::{Declared, Expr, Item, Kind, Name, names_read};
 
@@ -110,13 +111,13 @@ fn push_wire(all: &mut Vec<Name>, declared: &[Declared], n: usize) -> Result<(),
 pub(crate) fn wires(
     alloc: Global,
     declared: &[Declared],
-    order: &[usize],
+    order: &IndexSet<usize>,
 ) -> Result<Vec<Name>, NoMemory>
-    ensures { IfOk result (λ all. plain_names all.items ≡ picked (map declaration declared.now) order.now) }
+    ensures { IfOk result (λ all. plain_names all.items ≡ picked (map declaration declared.now) order.now.keys) }
 {
     let mut all = Vec::new(alloc);
-    for n in order {
-        push_wire(&mut all, declared, *n)?;
+    for i in 0..order.len() {
+        push_wire(&mut all, declared, order[i])?;
     }
     Ok(all)
 }
