@@ -1,18 +1,25 @@
 -- What the reader's answer says of the text.
-use Rattle.std.proofs.Common.{◌≡◌, ℕ, List, Result, Ok, Err, IfOk, IfErr, MatchResult, refl, sym, ◌∙◌}
+use Rattle.std.proofs.Common.{◌≡◌, ℕ, true, List, Result, Ok, Err, IfOk, IfErr, MatchResult, refl, sym, ap, subst, ◌∙◌, ◌↔◌, inl, inr, arith}
 use Rattle.verilog_tree.specs.declared.tree.Module.{Module}
+use Rattle.verilog_tree.specs.Formed.{formed}
 use Rattle.verilog_tree.specs.Plain.{ModuleTree, plain_module}
 use Rattle.verilog_tree.specs.Spells.{Spells}
 use Rattle.verilog_read.specs.declared.fault.ReadFault.{ReadFault}
 use Rattle.verilog_read.specs.declared.fault.ReadFault.TheVariants as R
 use Rattle.verilog_read.specs.Answering.{Answer, Finished, Faulty, answer, Gives}
-use Rattle.verilog_read.specs.Refusals.{Says}
+use Rattle.verilog_read.specs.Refusals.{Says, Stands, IsFirst}
 use Rattle.verilog_read.proofs.Faults.{says}
 use Rattle.verilog_read.proofs.Finishing.{finishes}
+use Rattle.verilog_read.proofs.Firsts.{first}
+use Rattle.verilog_read.proofs.Sizes.{spelled_formed}
 
 pub read_spells : (b : List ℕ) (r : Result Module ReadFault) → Gives (answer b) r → IfOk r (λ m. Spells b (plain_module m))
 read_spells b (Ok m) g = (finishes b (plain_module m)).0 g
 read_spells b (Err f) g = tt
+
+pub read_formed : (b : List ℕ) (r : Result Module ReadFault) → Gives (answer b) r → IfOk r (λ m. formed (plain_module m) ≡ true)
+read_formed b (Ok m) g = spelled_formed b (plain_module m) ((finishes b (plain_module m)).0 g)
+read_formed b (Err f) g = tt
 
 same_module : (a : Answer) (v w : ModuleTree) → a ≡ Finished v → a ≡ Finished w → v ≡ w
 same_module a v w e f = let k : Finished v ≡ Finished w = sym e ∙ f in cc
@@ -38,3 +45,41 @@ read_says b (Err R.Truncated) g = says b R.Truncated g
 read_says b (Err (R.TooDeep k)) g = says b (R.TooDeep k) g
 read_says b (Err (R.LongName k)) g = says b (R.LongName k) g
 read_says b (Err (R.OutOfRange k)) g = says b (R.OutOfRange k) g
+
+-- ---- the first refusal
+
+faulty : (a : Answer) (f : ReadFault) → Gives a (Err f) → (f ≡ R.NoMemory → ⊥) → a ≡ Faulty f
+faulty a R.NoMemory g n = absurd (n refl)
+faulty a (R.Unexpected k) g n = g
+faulty a R.Truncated g n = g
+faulty a (R.TooDeep k) g n = g
+faulty a (R.LongName k) g n = g
+faulty a (R.OutOfRange k) g n = g
+
+stands : (b : List ℕ) (f : ReadFault) → Says b f → (f ≡ R.NoMemory → ⊥) → Stands b f
+stands b R.NoMemory h n = absurd (n refl)
+stands b (R.Unexpected k) h n = h
+stands b R.Truncated h n = h
+stands b (R.TooDeep k) h n = h
+stands b (R.LongName k) h n = h
+stands b (R.OutOfRange k) h n = h
+
+-- what the reader answers is the first
+answered : (b : List ℕ) (f : ReadFault) → answer b ≡ Faulty f → (f ≡ R.NoMemory → ⊥) → IsFirst b f
+answered b f e n = (stands b f (says b f e) n, λ g h. first b (Faulty f) g e h)
+
+pub read_first : (b : List ℕ) (r : Result Module ReadFault) → Gives (answer b) r → (r ≡ Err R.NoMemory → ⊥) → (f : ReadFault) → (r ≡ Err f) ↔ IsFirst b f
+read_first b (Ok m) g n f = (λ e. cc, λ h. absurd (first b (Finished (plain_module m)) f g h.0))
+read_first b (Err k) g n f = (λ e. let i : k ≡ f = cc in subst (λ x. IsFirst b x) i (answered b k there not_memory), back)
+  where
+    not_memory : k ≡ R.NoMemory → ⊥
+    not_memory e = n (ap Err e)
+
+    there : answer b ≡ Faulty k
+    there = faulty (answer b) k g not_memory
+
+    back : IsFirst b f → (let r : Result Module ReadFault = Err k in r) ≡ Err f
+    back h = elim (first b (Faulty k) f there h.0) [
+      | inl e ↦ ap Err (sym e)
+      | inr l ↦ elim (h.1 k (answered b k there not_memory).0) [ inl e ↦ ap Err e | inr m ↦ absurd (omega (arith, l, m)) ]
+    ]

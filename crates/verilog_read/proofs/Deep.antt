@@ -103,7 +103,7 @@ here IfWord more h = h
 here CaseWord more h = h
 
 -- without limits there is always room
-room_free : (s : State) → HasRoom None s
+pub room_free : (s : State) → HasRoom None s
 room_free (AtExpr p) = tt
 room_free (AtStmt (IfRead r q x)) = (q + 1, refl)
 room_free (AtStmt (CaseRead r q x)) = (q + 1, refl)

@@ -10,7 +10,7 @@ use Rattle.verilog_read.specs.declared.fault.ReadFault.{ReadFault}
 use Rattle.verilog_read.specs.declared.fault.ReadFault.TheVariants as R
 use Rattle.verilog_read.specs.declared.read.ByteFault.{ByteFault}
 use Rattle.verilog_read.specs.declared.read.ByteFault.TheVariants.{Unexpected, TooDeep, LongName, OutOfRange, NoMemory}
-use Rattle.verilog_read.specs.Answering.{Taking, Leads, Refused, OneTooMany, taking, take_token, Move, Goes, Stops, byte_move, Faulty, fault_at, value_answer, last_answer, end_answer, on_move, run, answer}
+use Rattle.verilog_read.specs.Answering.{Taking, Leads, Refused, OneTooMany, taking, take_token, Move, Goes, Stops, byte_move, Answer, Faulty, fault_at, value_answer, last_answer, end_answer, on_move, run, answer}
 use Rattle.verilog_read.specs.Expected.{taken, live_in}
 use Rattle.verilog_read.specs.Lexing.{Lexer, last}
 use Rattle.verilog_read.specs.Places.{State}
@@ -23,14 +23,14 @@ use Rattle.verilog_read.proofs.Extends.{limits}
 use Rattle.verilog_read.proofs.Limits.{unlimited}
 use Rattle.verilog_read.proofs.Moving.{Sound, Agrees, move_agrees}
 use Rattle.verilog_read.proofs.Pending.{Pending, at_start, To, moves_on}
-use Rattle.verilog_read.proofs.Reached.{come, reached, stops_at, follows_on}
+use Rattle.verilog_read.proofs.Reached.{come, come_on, reached, stops_at, follows_on}
 use Rattle.verilog_read.proofs.ReadingLaws.{start_is}
 use Rattle.verilog_read.proofs.Stopping.{follows, come_sub, unexpected_byte, long_byte, out_byte, free_step, not_taken}
 
 -- ---- where the reader is
 
 -- the reader, which has read p, has read more, and this byte stops it
-pub record StopsAt (p b : List ℕ) (q : Both State Lexer) (i : ℕ) (f : ReadFault) : Type 0 where
+pub record StopsAt (p b : List ℕ) (q : Both State Lexer) (i : ℕ) (a : Answer) : Type 0 where
   pub front : List ℕ
   pub byte : ℕ
   pub more : List ℕ
@@ -42,19 +42,19 @@ pub record StopsAt (p b : List ℕ) (q : Both State Lexer) (i : ℕ) (f : ReadFa
   pub sound : Sound state
   pub stopped : byte_move state byte ≡ Stops kind
   pub pending : Pending (p ++ front) state began
-  pub fault : f ≡ fault_at kind began (i + length front)
+  pub fault : a ≡ Faulty (fault_at kind began (i + length front))
 
 -- or it has read all
-pub record EndsAt (p b : List ℕ) (q : Both State Lexer) (f : ReadFault) : Type 0 where
+pub record EndsAt (p b : List ℕ) (q : Both State Lexer) (a : Answer) : Type 0 where
   pub state : Both State Lexer
   pub began : ℕ
   pub come_there : come (byte_step all_limits) b q ≡ Some state
   pub sound : Sound state
-  pub ended : end_answer state.parser (last state.lexer) began ≡ Faulty f
+  pub ended : end_answer state.parser (last state.lexer) began ≡ a
   pub pending : Pending (p ++ b) state began
 
-further : (p : List ℕ) (c : ℕ) (b : List ℕ) (q z : Both State Lexer) (i : ℕ) (f : ReadFault) → byte_step all_limits q c ≡ Some z → StopsAt (p ++ (c ∷ [])) b z (i + 1) f ⊎ EndsAt (p ++ (c ∷ [])) b z f → StopsAt p (c ∷ b) q i f ⊎ EndsAt p (c ∷ b) q f
-further p c b q z i f e (inl s) = inl (record {
+further : (p : List ℕ) (c : ℕ) (b : List ℕ) (q z : Both State Lexer) (i : ℕ) (a : Answer) → byte_step all_limits q c ≡ Some z → StopsAt (p ++ (c ∷ [])) b z (i + 1) a ⊎ EndsAt (p ++ (c ∷ [])) b z a → StopsAt p (c ∷ b) q i a ⊎ EndsAt p (c ∷ b) q a
+further p c b q z i a e (inl s) = inl (record {
   front = c ∷ s.front;
   byte = s.byte;
   more = s.more;
@@ -66,28 +66,28 @@ further p c b q z i f e (inl s) = inl (record {
   sound = s.sound;
   stopped = s.stopped;
   pending = subst (λ (x : List ℕ). Pending x s.state s.began) (append_assoc p (c ∷ []) s.front) s.pending;
-  fault = s.fault ∙ ap (λ n. fault_at s.kind s.began n) (omega arith);
+  fault = s.fault ∙ ap (λ n. Faulty (fault_at s.kind s.began n)) (omega arith);
 })
-further p c b q z i f e (inr s) = inr (record { state = s.state; began = s.began; come_there = ap (λ o. and_then o (λ t. come (byte_step all_limits) b t)) e ∙ s.come_there; sound = s.sound; ended = s.ended; pending = subst (λ (x : List ℕ). Pending x s.state s.began) (append_assoc p (c ∷ []) b) s.pending })
+further p c b q z i a e (inr s) = inr (record { state = s.state; began = s.began; come_there = ap (λ o. and_then o (λ t. come (byte_step all_limits) b t)) e ∙ s.come_there; sound = s.sound; ended = s.ended; pending = subst (λ (x : List ℕ). Pending x s.state s.began) (append_assoc p (c ∷ []) b) s.pending })
 
 faulty_is : (f g : ReadFault) → Faulty f ≡ Faulty g → g ≡ f
 faulty_is f g e = cc
 
-pub stopped_where : (p b : List ℕ) (q : Both State Lexer) (k i : ℕ) (f : ReadFault) → Sound q → Pending p q k → i ≡ length p → run b q k i ≡ Faulty f → StopsAt p b q i f ⊎ EndsAt p b q f
-stopped_where p [] q k i f h w n e = inr (record { state = q; began = k; come_there = refl; sound = h; ended = e; pending = subst (λ (x : List ℕ). Pending x q k) (sym (append-nil p)) w })
-stopped_where p (c ∷ b) q k i f h w n e = go (byte_move q c) refl (move_agrees q c h) (moves_on p q k c w) e (λ z m s u. stopped_where (p ++ (c ∷ [])) b z m (i + 1) f s u (ap (λ x. x + 1) n ∙ sym (length-append p (c ∷ []))))
+pub stopped_where : (p b : List ℕ) (q : Both State Lexer) (k i : ℕ) (a : Answer) → Sound q → Pending p q k → i ≡ length p → run b q k i ≡ a → StopsAt p b q i a ⊎ EndsAt p b q a
+stopped_where p [] q k i a h w n e = inr (record { state = q; began = k; come_there = refl; sound = h; ended = e; pending = subst (λ (x : List ℕ). Pending x q k) (sym (append-nil p)) w })
+stopped_where p (c ∷ b) q k i a h w n e = go (byte_move q c) refl (move_agrees q c h) (moves_on p q k c w) e (λ z m s u. stopped_where (p ++ (c ∷ [])) b z m (i + 1) a s u (ap (λ x. x + 1) n ∙ sym (length-append p (c ∷ []))))
   where
-    go : (m : Move) → byte_move q c ≡ m → Agrees m (byte_step all_limits q c) → To (p ++ (c ∷ [])) k (length p) m → on_move m k i (λ z j. run b z j (i + 1)) ≡ Faulty f → ((z : Both State Lexer) (n : ℕ) → Sound z → Pending (p ++ (c ∷ [])) z n → run b z n (i + 1) ≡ Faulty f → StopsAt (p ++ (c ∷ [])) b z (i + 1) f ⊎ EndsAt (p ++ (c ∷ [])) b z f) → StopsAt p (c ∷ b) q i f ⊎ EndsAt p (c ∷ b) q f
-    go (Goes z fresh) m a t r g = further p c b q z i f a.0 (g z (if fresh then i else k) a.1 (subst (λ (x : ℕ). Pending (p ++ (c ∷ [])) z (if fresh then x else k)) (sym n) t) r)
-    go (Stops x) m a t r g = inl (record { front = []; byte = c; more = b; state = q; kind = x; began = k; split = refl; come_there = refl; sound = h; stopped = m; pending = subst (λ (x : List ℕ). Pending x q k) (sym (append-nil p)) w; fault = faulty_is (fault_at x k i) f r ∙ ap (λ n. fault_at x k n) (omega arith) })
+    go : (m : Move) → byte_move q c ≡ m → Agrees m (byte_step all_limits q c) → To (p ++ (c ∷ [])) k (length p) m → on_move m k i (λ z j. run b z j (i + 1)) ≡ a → ((z : Both State Lexer) (n : ℕ) → Sound z → Pending (p ++ (c ∷ [])) z n → run b z n (i + 1) ≡ a → StopsAt (p ++ (c ∷ [])) b z (i + 1) a ⊎ EndsAt (p ++ (c ∷ [])) b z a) → StopsAt p (c ∷ b) q i a ⊎ EndsAt p (c ∷ b) q a
+    go (Goes z fresh) m g t r f = further p c b q z i a g.0 (f z (if fresh then i else k) g.1 (subst (λ (x : ℕ). Pending (p ++ (c ∷ [])) z (if fresh then x else k)) (sym n) t) r)
+    go (Stops x) m g t r f = inl (record { front = []; byte = c; more = b; state = q; kind = x; began = k; split = refl; come_there = refl; sound = h; stopped = m; pending = subst (λ (x : List ℕ). Pending x q k) (sym (append-nil p)) w; fault = sym r ∙ ap (λ n. Faulty (fault_at x k n)) (omega arith) })
 
 -- ---- of texts
 
 module _ (l : Limits) where
-  continues_text : (b : List ℕ) → Continues (unread_in l start) b → Continues (Text l) b
+  pub continues_text : (b : List ℕ) → Continues (unread_in l start) b → Continues (Text l) b
   continues_text b h = (h.0, h.1, h.2, (start_is l (b ++ h.0) h.1).0 h.3)
 
-  text_continues : (b : List ℕ) → Continues (Text l) b → Continues (unread_in l start) b
+  pub text_continues : (b : List ℕ) → Continues (Text l) b → Continues (unread_in l start) b
   text_continues b h = (h.0, h.1, h.2, (start_is l (b ++ h.0) h.1).1 h.3)
 
   unexpected_text : (b : List ℕ) (k : ℕ) → IsUnexpected (unread_in l start) b k → IsUnexpected (Text l) b k
@@ -100,28 +100,20 @@ take_next (d ∷ a) c more = ap (λ x. d ∷ x) (take_next a c more)
 take_front : (a : List ℕ) (c : ℕ) (more : List ℕ) → take (length a + 1) (a ++ (c ∷ more)) ≡ a ++ (c ∷ [])
 take_front a c more = rw add-one (take_next a c more)
 
+pub starts : (a b : Bool) → live_in (limits a b) start.parser start.lexer ≡ true
+starts true true = refl
+starts true false = refl
+starts false true = refl
+starts false false = refl
+
 module _ (a b : Bool) where
   -- a grammar with limits of tokens alone refuses the byte that stops its machine
   pub refused_there : (front : List ℕ) (c : ℕ) (more : List ℕ) (z : Both State Lexer) → come (byte_step all_limits) front start ≡ Some z → byte_step (limits a b) z c ≡ None → IsUnexpected (Text (limits a b)) (front ++ (c ∷ more)) (length front)
   refused_there front c more z e n = unexpected_text (limits a b) (front ++ (c ∷ more)) (length front) (stops_at (byte_step (limits a b)) (end_value (limits a b)) (unread_in (limits a b)) (λ q. live_in (limits a b) q.parser q.lexer ≡ true) (follows a b) front c more start z (starts a b) (come_sub a b front start z e) n)
-    where
-      starts : (a b : Bool) → live_in (limits a b) start.parser start.lexer ≡ true
-      starts true true = refl
-      starts true false = refl
-      starts false true = refl
-      starts false false = refl
-
-come_on : (front : List ℕ) (c : ℕ) (q z y : Both State Lexer) → come (byte_step no_limits) front q ≡ Some z → byte_step no_limits z c ≡ Some y → come (byte_step no_limits) (front ++ (c ∷ [])) q ≡ Some y
-come_on [] c q z y e n = let k : z ≡ q = cc in ap (λ o. and_then o (λ t. Some t)) (subst (λ (x : Both State Lexer). byte_step no_limits x c ≡ Some y) k n)
-come_on (d ∷ front) c q z y e n = go (byte_step no_limits q d) e (λ t k. come_on front c t z y k n)
-  where
-    go : (o : Option (Both State Lexer)) → and_then o (λ t. come (byte_step no_limits) front t) ≡ Some z → ((t : Both State Lexer) → come (byte_step no_limits) front t ≡ Some z → come (byte_step no_limits) (front ++ (c ∷ [])) t ≡ Some y) → and_then o (λ t. come (byte_step no_limits) (front ++ (c ∷ [])) t) ≡ Some y
-    go None k g = cc
-    go (Some t) k g = g t k
 
 -- without limits the text goes on behind the byte
-free_there : (front : List ℕ) (c : ℕ) (more : List ℕ) (z y : Both State Lexer) → come (byte_step all_limits) front start ≡ Some z → byte_step no_limits z c ≡ Some y → Continues (Text no_limits) (take (length front + 1) (front ++ (c ∷ more)))
-free_there front c more z y e n = subst (λ x. Continues (Text no_limits) x) (sym (take_front front c more)) (continues_text no_limits (front ++ (c ∷ [])) (reached (byte_step no_limits) (end_value no_limits) (unread_in no_limits) (λ q. live_in no_limits q.parser q.lexer ≡ true) (follows false false) (front ++ (c ∷ [])) start y refl (come_on front c start z y (come_sub false false front start z e) n)).1)
+pub free_there : (front : List ℕ) (c : ℕ) (more : List ℕ) (z y : Both State Lexer) → come (byte_step all_limits) front start ≡ Some z → byte_step no_limits z c ≡ Some y → Continues (Text no_limits) (take (length front + 1) (front ++ (c ∷ more)))
+free_there front c more z y e n = subst (λ x. Continues (Text no_limits) x) (sym (take_front front c more)) (continues_text no_limits (front ++ (c ∷ [])) (reached (byte_step no_limits) (end_value no_limits) (unread_in no_limits) (λ q. live_in no_limits q.parser q.lexer ≡ true) (follows false false) (front ++ (c ∷ [])) start y refl (come_on (byte_step no_limits) front c start z y (come_sub false false front start z e) n)).1)
 
 says_byte : (front : List ℕ) (c : ℕ) (more : List ℕ) (z : Both State Lexer) (kind : ByteFault) (began : ℕ) → come (byte_step all_limits) front start ≡ Some z → Pending front z began → byte_move z c ≡ Stops kind → Says (front ++ (c ∷ more)) (fault_at kind began (length front))
 says_byte front c more z Unexpected began e w s = refused_there false false front c more z e (unexpected_byte z c s)
@@ -197,7 +189,7 @@ end_says b q k (R.OutOfRange n) e w h = absurd (not_here (last q.lexer) h)
 
 -- the fault that the reader answers
 pub says : (b : List ℕ) (f : ReadFault) → answer b ≡ Faulty f → Says b f
-says b f e = elim (stopped_where [] b start 0 0 f refl at_start refl e) [
-  | inl s ↦ subst (λ x. Says x f) (sym s.split) (subst (λ y. Says (s.front ++ (s.byte ∷ s.more)) y) (sym (s.fault ∙ ap (λ n. fault_at s.kind s.began n) (omega arith))) (says_byte s.front s.byte s.more s.state s.kind s.began s.come_there s.pending s.stopped))
+says b f e = elim (stopped_where [] b start 0 0 (Faulty f) refl at_start refl e) [
+  | inl s ↦ subst (λ x. Says x f) (sym s.split) (subst (λ y. Says (s.front ++ (s.byte ∷ s.more)) y) (faulty_is f (fault_at s.kind s.began (length s.front)) (s.fault ∙ ap (λ n. Faulty (fault_at s.kind s.began n)) (omega arith))) (says_byte s.front s.byte s.more s.state s.kind s.began s.come_there s.pending s.stopped))
   | inr s ↦ end_says b s.state s.began f s.come_there s.pending s.ended
 ]

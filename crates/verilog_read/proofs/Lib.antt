@@ -25,3 +25,8 @@ pub mod Faults
 pub mod Parsing
 pub mod Pending
 pub mod Deep
+pub mod Landing
+pub mod Room
+pub mod DeepFirst
+pub mod Firsts
+pub mod Sizes

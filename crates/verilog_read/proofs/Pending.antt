@@ -23,19 +23,19 @@ use Rattle.verilog_read.proofs.Parsing.{parse, parse_on}
 
 -- ---- one byte more
 
-abbrev tokens_in : Option (List Token × Lexer) → List Token
+abbrev pub tokens_in : Option (List Token × Lexer) → List Token
 tokens_in None = []
 tokens_in (Some s) = s.0
 
-abbrev state_in : Lexer → Option (List Token × Lexer) → Lexer
+abbrev pub state_in : Lexer → Option (List Token × Lexer) → Lexer
 state_in l None = l
 state_in l (Some s) = s.1
 
 -- the same behind a byte that may have ended a token
-abbrev adding : Option Token → Option (List Token × Lexer) → Option (List Token × Lexer)
+abbrev pub adding : Option Token → Option (List Token × Lexer) → Option (List Token × Lexer)
 adding o p = and_then p (λ s. Some (emitted o s.0, s.1))
 
-abbrev behind : List ℕ → Option (Lexer × Option Token) → Option (List Token × Lexer)
+abbrev pub behind : List ℕ → Option (Lexer × Option Token) → Option (List Token × Lexer)
 behind b p = and_then p (λ r. adding r.1 (lexing b r.0))
 
 pub lexing_on : (b : List ℕ) (l m : Lexer) (ts : List Token) (c : ℕ) (n : Lexer) (o : Option Token) → lexing b l ≡ Some (ts, m) → lex m c ≡ Some (n, o) → lexing (b ++ (c ∷ [])) l ≡ Some (ts ++ emitted o [], n)
@@ -130,7 +130,7 @@ loud l ts front own t None n e = cc
 loud l ts front own t (Some m) n e = let k : Some t ≡ None = ap token_of e in cc
 
 -- no mark of two bytes opens
-no_opening : (m : Mark) (c : ℕ) (k : Mark) → lengthened m c ≡ Some k → NoOpening (Sign k)
+pub no_opening : (m : Mark) (c : ℕ) (k : Mark) → lengthened m c ≡ Some k → NoOpening (Sign k)
 no_opening m c Open h o e = absurd (not_open m h)
   where
     not_open : (m : Mark) → lengthened m c ≡ Some Open → ⊥
@@ -157,7 +157,7 @@ no_opening m c k h BlockWord e = cc
 no_opening m c k h IfWord e = cc
 no_opening m c k h CaseWord e = cc
 
-queried : NoOpening Queried
+pub queried : NoOpening Queried
 queried Parenthesis e = cc
 queried Brace e = cc
 queried BlockWord e = cc

@@ -6,18 +6,18 @@ use Rattle.bist_text.proofs.Lexed.{both_follows}
 use Rattle.verilog_tree.specs.Spells.{all_limits, no_limits, short_names, small_numbers, keeps}
 use Rattle.verilog_tree.specs.Tokens.{Token, Identifier, Number, Based, Queried, Sign}
 use Rattle.verilog_read.specs.declared.read.ByteFault.{ByteFault}
-use Rattle.verilog_read.specs.declared.read.ByteFault.TheVariants.{Unexpected, TooDeep, LongName, OutOfRange}
+use Rattle.verilog_read.specs.declared.read.ByteFault.TheVariants.{Unexpected, TooDeep, LongName, OutOfRange, NoMemory}
 use Rattle.verilog_read.specs.Answering.{Taking, Leads, Refused, OneTooMany, taking, take_token, Stops, is_between, while_live, gone, arrive, within, ended, stuck_at, stuck, read_on, lexed, byte_move}
 use Rattle.verilog_read.specs.Expected.{is_step, taken, live, name_fits, number_fits, most_of, live_in}
-use Rattle.verilog_read.specs.Lexing.{Lexer, lex, last, unread}
+use Rattle.verilog_read.specs.Lexing.{Lexer, InWord, Whole, lex, last, unread}
 use Rattle.verilog_read.specs.Places.{State}
 use Rattle.verilog_read.specs.Reading.{step_in, rest_in, byte_step, end_value, unread_in}
 use Rattle.verilog_read.specs.Steps.{step, value}
-use Rattle.verilog_read.proofs.Complete.{live_from}
+use Rattle.verilog_read.proofs.Complete.{live_from, most_low}
 use Rattle.verilog_read.proofs.Extends.{limits, all_kept, decides}
 use Rattle.verilog_read.proofs.LexerLaws.{lexes}
 use Rattle.verilog_read.proofs.Limits.{unlimited}
-use Rattle.verilog_read.proofs.Moving.{sound_parts}
+use Rattle.verilog_read.proofs.Moving.{Small, sound_parts}
 use Rattle.verilog_read.proofs.Reached.{come}
 use Rattle.verilog_read.proofs.ReadingLaws.{parses_in}
 
@@ -92,7 +92,7 @@ no_out (Some (Some t)) s e = go (take_token s t) e
     go Refused e = cc
     go OneTooMany e = cc
 
-keeps_any : (t : Token) → keeps no_limits t ≡ true
+pub keeps_any : (t : Token) → keeps no_limits t ≡ true
 keeps_any (Identifier w) = refl
 keeps_any (Number l n) = refl
 keeps_any (Based x) = refl
@@ -150,7 +150,7 @@ unexpected_byte q c h = go (lex q.lexer c) h
     go (Some r) h = on r.0 r.1 h
 
 -- what a token that ends does
-ended_only : (k : Taking) (l : Lexer) (f : ByteFault) → ended k l ≡ Stops f → (f ≡ Unexpected) ⊎ (f ≡ TooDeep)
+pub ended_only : (k : Taking) (l : Lexer) (f : ByteFault) → ended k l ≡ Stops f → (f ≡ Unexpected) ⊎ (f ≡ TooDeep)
 ended_only (Leads s) l f e = go (live s l) e
   where
     go : (b : Bool) → while_live b (gone s l true) ≡ Stops f → (f ≡ Unexpected) ⊎ (f ≡ TooDeep)
@@ -202,3 +202,91 @@ out_byte q c h = go (lex q.lexer c) h
     go : (o : Option (Lexer × Option Token)) → lexed q o ≡ Stops OutOfRange → (and_then o (λ r. and_then (advance (step_in small_numbers) q.parser r.1) (λ s. only_if (live_in small_numbers s r.0) (place s r.0))) ≡ None) × ((z : Both State Lexer) × (and_then o (λ r. and_then (advance (step_in no_limits) q.parser r.1) (λ s. only_if (live_in no_limits s r.0) (place s r.0))) ≡ Some z))
     go None h = absurd (no_out (last q.lexer) q.parser h)
     go (Some r) h = on r.0 r.1 h
+
+-- ---- what it does in the grammar of the other limit
+
+long_parts : (a b d : Bool) (s : State) (l : Lexer) (fresh : Bool) → while_live a (within b d (gone s l fresh)) ≡ Stops LongName → (a ≡ true) × (b ≡ false)
+long_parts true false d s l fresh e = (refl, refl)
+long_parts true true true s l fresh e = cc
+long_parts true true false s l fresh e = cc
+long_parts false b d s l fresh e = cc
+
+out_parts : (a b d : Bool) (s : State) (l : Lexer) (fresh : Bool) → while_live a (within b d (gone s l fresh)) ≡ Stops OutOfRange → (a ≡ true) × (b ≡ true)
+out_parts true true d s l fresh e = (refl, refl)
+out_parts true false d s l fresh e = cc
+out_parts false b d s l fresh e = cc
+
+-- what is too long a name is no number
+long_number : (most : ℕ) (l : Lexer) → name_fits l ≡ false → number_fits most l ≡ true
+long_number most (InWord w) e = refl
+long_number most (Whole (Identifier w)) e = refl
+long_number most (Whole (Number b n)) e = cc
+long_number most (Whole (Based x)) e = cc
+long_number most (Whole Queried) e = cc
+long_number most (Whole (Sign m)) e = cc
+long_number most l e = cc
+
+pub long_elsewhere : (q : Both State Lexer) (c : ℕ) → byte_move q c ≡ Stops LongName → (z : Both State Lexer) × (byte_step small_numbers q c ≡ Some z)
+long_elsewhere q c h = go (lex q.lexer c) h
+  where
+    on : (l : Lexer) (t : Option Token) → read_on q l t ≡ Stops LongName → (z : Both State Lexer) × (and_then (advance (step_in small_numbers) q.parser t) (λ s. only_if (live_in small_numbers s l) (place s l)) ≡ Some z)
+    on l None h = let p = long_parts (live q.parser l) (name_fits l) (number_fits (most_of q.parser) l) q.parser l (is_between q.lexer) h in (place q.parser l, ap (λ x. only_if x (place q.parser l)) (ap (λ x. (x && true) && number_fits (most_of q.parser) l) p.0 ∙ long_number (most_of q.parser) l p.1))
+    on l (Some t) h = absurd (not_ended (take_token q.parser t) l LongName h (λ e. cc) (λ e. cc))
+
+    go : (o : Option (Lexer × Option Token)) → lexed q o ≡ Stops LongName → (z : Both State Lexer) × (and_then o (λ r. and_then (advance (step_in small_numbers) q.parser r.1) (λ s. only_if (live_in small_numbers s r.0) (place s r.0))) ≡ Some z)
+    go None h = absurd (no_long (last q.lexer) q.parser h)
+    go (Some r) h = on r.0 r.1 h
+
+pub out_elsewhere : (q : Both State Lexer) (c : ℕ) → byte_move q c ≡ Stops OutOfRange → (z : Both State Lexer) × (byte_step short_names q c ≡ Some z)
+out_elsewhere q c h = go (lex q.lexer c) h
+  where
+    on : (l : Lexer) (t : Option Token) → read_on q l t ≡ Stops OutOfRange → (z : Both State Lexer) × (and_then (advance (step_in short_names) q.parser t) (λ s. only_if (live_in short_names s l) (place s l)) ≡ Some z)
+    on l None h = let p = out_parts (live q.parser l) (name_fits l) (number_fits (most_of q.parser) l) q.parser l (is_between q.lexer) h in (place q.parser l, ap (λ x. only_if x (place q.parser l)) (ap (λ x. (x && name_fits l) && true) p.0 ∙ ap (λ x. (true && x) && true) p.1))
+    on l (Some t) h = absurd (not_ended (take_token q.parser t) l OutOfRange h (λ e. cc) (λ e. cc))
+
+    go : (o : Option (Lexer × Option Token)) → lexed q o ≡ Stops OutOfRange → (z : Both State Lexer) × (and_then o (λ r. and_then (advance (step_in short_names) q.parser r.1) (λ s. only_if (live_in short_names s r.0) (place s r.0))) ≡ Some z)
+    go None h = absurd (no_out (last q.lexer) q.parser h)
+    go (Some r) h = on r.0 r.1 h
+
+-- ---- a byte that goes on with what is small, or begins it
+
+-- no byte stops it for want of memory
+pub never_memory : (q : Both State Lexer) (c : ℕ) → byte_move q c ≡ Stops NoMemory → ⊥
+never_memory q c h = go (lex q.lexer c) h
+  where
+    stuck_not : (o : Option (Option Token)) → stuck q.parser o ≡ Stops NoMemory → ⊥
+    stuck_not None e = cc
+    stuck_not (Some None) e = cc
+    stuck_not (Some (Some t)) e = by (take_token q.parser t) e
+      where
+        by : (k : Taking) → stuck_at k ≡ Stops NoMemory → ⊥
+        by (Leads z) e = cc
+        by Refused e = cc
+        by OneTooMany e = cc
+
+    silent_not : (a b d : Bool) (l : Lexer) → while_live a (within b d (gone q.parser l (is_between q.lexer))) ≡ Stops NoMemory → ⊥
+    silent_not true true true l e = cc
+    silent_not true true false l e = cc
+    silent_not true false d l e = cc
+    silent_not false b d l e = cc
+
+    on : (l : Lexer) (t : Option Token) → read_on q l t ≡ Stops NoMemory → ⊥
+    on l None h = silent_not (live q.parser l) (name_fits l) (number_fits (most_of q.parser) l) l h
+    on l (Some t) h = not_ended (take_token q.parser t) l NoMemory h (λ e. cc) (λ e. cc)
+
+    go : (o : Option (Lexer × Option Token)) → lexed q o ≡ Stops NoMemory → ⊥
+    go None h = stuck_not (last q.lexer) h
+    go (Some r) h = on r.0 r.1 h
+
+pub small_stops : (q : Both State Lexer) (c : ℕ) (m : Lexer) (t : Option Token) (f : ByteFault) → lex q.lexer c ≡ Some (m, t) → Small m → byte_move q c ≡ Stops f → (f ≡ Unexpected) ⊎ ((f ≡ TooDeep) × (t ≡ None → ⊥))
+small_stops q c m t f e s h = on t (sym (ap (lexed q) e) ∙ h)
+  where
+    silent : (a b d : Bool) → b ≡ true → d ≡ true → while_live a (within b d (gone q.parser m (is_between q.lexer))) ≡ Stops f → f ≡ Unexpected
+    silent true true true i j e = cc
+    silent true true false i j e = cc
+    silent true false d i j e = cc
+    silent false b d i j e = let k : Unexpected ≡ f = cc in sym k
+
+    on : (t : Option Token) → read_on q m t ≡ Stops f → (f ≡ Unexpected) ⊎ ((f ≡ TooDeep) × (t ≡ None → ⊥))
+    on None h = inl (silent (live q.parser m) (name_fits m) (number_fits (most_of q.parser) m) s.0 (s.1 (most_of q.parser) (most_low q.parser)) h)
+    on (Some t) h = elim (ended_only (take_token q.parser t) m f h) [ inl x ↦ inl x | inr x ↦ inr (x, λ e. cc) ]

@@ -142,21 +142,21 @@ abbrev pub both_of : Place → Outer → Scanner → Both State Lexer
 both_of p w l = record { parser = state_of p w; lexer = lexer_of l }
 
 -- a token that ends
-abbrev pub Takes : Taking → Result Place ByteFault → Outer → Type 0
-Takes t (Ok p) w = t ≡ Leads (state_of p w)
-Takes t (Err Unexpected) w = t ≡ Refused
-Takes t (Err TooDeep) w = t ≡ OneTooMany
-Takes t (Err NoMemory) w = ⊤
-Takes t (Err LongName) w = ⊥
-Takes t (Err OutOfRange) w = ⊥
+abbrev pub Takes : Taking → Result (Unit {0}) ByteFault → Place → Outer → Type 0
+Takes t (Ok u) p w = t ≡ Leads (state_of p w)
+Takes t (Err Unexpected) p w = t ≡ Refused
+Takes t (Err TooDeep) p w = t ≡ OneTooMany
+Takes t (Err NoMemory) p w = ⊤
+Takes t (Err LongName) p w = ⊥
+Takes t (Err OutOfRange) p w = ⊥
 
-abbrev pub Moves : Move → Result Next ByteFault → Outer → Type 0
-Moves m (Ok n) w = m ≡ Goes (both_of n.place w n.lexer) n.fresh
-Moves m (Err NoMemory) w = ⊤
-Moves m (Err Unexpected) w = m ≡ Stops Unexpected
-Moves m (Err TooDeep) w = m ≡ Stops TooDeep
-Moves m (Err LongName) w = m ≡ Stops LongName
-Moves m (Err OutOfRange) w = m ≡ Stops OutOfRange
+abbrev pub Moves : Move → Result Next ByteFault → Place → Outer → Type 0
+Moves m (Ok n) p w = m ≡ Goes (both_of p w n.lexer) n.fresh
+Moves m (Err NoMemory) p w = ⊤
+Moves m (Err Unexpected) p w = m ≡ Stops Unexpected
+Moves m (Err TooDeep) p w = m ≡ Stops TooDeep
+Moves m (Err LongName) p w = m ≡ Stops LongName
+Moves m (Err OutOfRange) p w = m ≡ Stops OutOfRange
 
 -- a byte of the lexer
 abbrev pub Scanned : Both State Lexer → Move → Result Read LexFault → Type 0

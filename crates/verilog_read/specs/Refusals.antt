@@ -1,5 +1,5 @@
--- What stands at a byte of a text that is refused.
-use Rattle.std.specs.Prelude.{ℕ, ◌+◌, List, take}
+-- What stands at a byte of a text that is refused, and which refusal is the first.
+use Rattle.std.specs.Prelude.{◌≡◌, ℕ, ◌+◌, ◌<◌, List, take, length, ◌⊎◌}
 use Rattle.bist_text.specs.Grammar.{Continues, IsUnexpected, IsTruncated}
 use Rattle.verilog_tree.specs.Spells.{Limits, no_limits, short_names, small_numbers, Text}
 use Rattle.verilog_read.specs.Openings.{IsDeep}
@@ -19,3 +19,21 @@ Says b (R.OutOfRange k) = Passes small_numbers b k
 Says b R.Truncated = IsTruncated (Text no_limits) b
 Says b (R.TooDeep k) = IsDeep b k
 Says b _ = Unit {0}
+
+-- a refusal stands in a text; that there is no memory stands in none
+abbrev pub Stands : List ℕ → ReadFault → Type 0
+Stands b R.NoMemory = ⊥
+Stands b f = Says b f
+
+-- its byte; of a text that ends too early, the one behind the last
+abbrev pub byte_of : List ℕ → ReadFault → ℕ
+byte_of b (R.Unexpected k) = k
+byte_of b (R.LongName k) = k
+byte_of b (R.OutOfRange k) = k
+byte_of b (R.TooDeep k) = k
+byte_of b R.Truncated = length b
+byte_of b R.NoMemory = length b
+
+-- it stands, and each other one that stands has a later byte
+abbrev pub IsFirst : List ℕ → ReadFault → Type 0
+IsFirst b f = Stands b f × ((g : ReadFault) → Stands b g → (g ≡ f) ⊎ (byte_of b f < byte_of b g))

@@ -1,10 +1,11 @@
 //! The reader of a module's text.
-ghost use Rattle.std.specs.Prelude.{◌≡◌, ◌≤◌, Some, None, IfOk, IfErr, MatchResult};
+ghost use Rattle.std.specs.Prelude.{true, ◌≡◌, ◌↔◌, ◌≤◌, Some, None, Err, IfOk, IfErr, MatchResult};
+ghost use Rattle.verilog_tree.specs.Formed.{formed};
 ghost use Rattle.verilog_tree.specs.Plain.{ModuleTree, plain_module};
 ghost use Rattle.verilog_tree.specs.Spells.{Spells};
 ghost use Rattle.verilog_read.specs.Answering.{Takes, Moves, Scanned, Gives, take_token, stuck, arrive, is_between, read_within, byte_move, fault_at, value_answer, end_answer, last_answer, answer, both_of};
 ghost use Rattle.verilog_read.specs.Expected.{most_of};
-ghost use Rattle.verilog_read.specs.Refusals.{Says};
+ghost use Rattle.verilog_read.specs.Refusals.{Says, IsFirst};
 ghost use Rattle.verilog_read.specs.Lexemes.{token_of, tokens_of, lexer_of, ends_of};
 ghost use Rattle.verilog_read.specs.Lexing.{last};
 ghost use Rattle.verilog_read.specs.Spots.{state_of};
@@ -18,12 +19,12 @@ use crate::places::{ItemSpot, Outer, ParseFault, Place};
 use crate::takes::{is_live, takes, takes_number};
 use crate::words::expected_at;
 use std::alloc::Global;
+use std::mem;
 use verilog_tree::{Module, Within};
 
-/// Where a byte leads, and whether a token may begin with it.
-#[derive(Drop)]
+/// Where a byte leads the lexer, and whether a token may begin with it.
+#[derive(Clone, Copy)]
 pub(crate) struct Next {
-    pub place: Place,
     pub lexer: Scanner,
     pub fresh: bool,
 }
@@ -61,12 +62,21 @@ fn scan(place: &Place, outer: &Outer, lexer: Scanner, c: u8) -> Result<Read, Lex
 }
 
 /// A token that ends goes to the parser.
-fn take(alloc: Global, outer: &mut Outer, place: Place, token: &Lexeme) -> Result<Place, ByteFault>
-    ensures { Takes (take_token (state_of place outer.old) (token_of token.now)) result outer.new }
+fn take(
+    alloc: Global,
+    outer: &mut Outer,
+    place: &mut Place,
+    token: &Lexeme,
+) -> Result<(), ByteFault>
+    ensures { Takes (take_token (state_of place.old outer.old) (token_of token.now)) result place.new outer.new }
 {
-    let taken = takes(&place, outer, token);
-    match step(alloc, outer, place, token) {
-        Ok(place) => Ok(place),
+    let taken = takes(place, outer, token);
+    let held = mem::replace(place, Place::InItem(ItemSpot::Begin));
+    match step(alloc, outer, held, token) {
+        Ok(next) => {
+            *place = next;
+            Ok(())
+        }
         Err(ParseFault::NoMemory) => Err(ByteFault::NoMemory),
         Err(ParseFault::Unexpected) if taken => Err(ByteFault::TooDeep),
         Err(ParseFault::Unexpected) => Err(ByteFault::Unexpected),
@@ -74,15 +84,11 @@ fn take(alloc: Global, outer: &mut Outer, place: Place, token: &Lexeme) -> Resul
 }
 
 /// Where a byte leads, if what is begun can go on.
-fn arrive(outer: &Outer, place: Place, lexer: Scanner, fresh: bool) -> Result<Next, ByteFault>
-    ensures { Moves (arrive (state_of place outer.now) (lexer_of lexer) fresh) result outer.now }
+fn arrive(outer: &Outer, place: &Place, lexer: Scanner, fresh: bool) -> Result<Next, ByteFault>
+    ensures { Moves (arrive (state_of place.now outer.now) (lexer_of lexer) fresh) result place.now outer.now }
 {
-    if is_live(&place, outer, &lexer) {
-        Ok(Next {
-            place,
-            lexer,
-            fresh,
-        })
+    if is_live(place, outer, &lexer) {
+        Ok(Next { lexer, fresh })
     } else {
         Err(ByteFault::Unexpected)
     }
@@ -98,15 +104,15 @@ fn is_between(lexer: &Scanner) -> bool
 fn read_on(
     alloc: Global,
     outer: &mut Outer,
-    place: Place,
+    place: &mut Place,
     lexer: &Scanner,
     read: Read,
 ) -> Result<Next, ByteFault>
-    ensures { Moves (read_within (both_of place outer.old lexer.now) (lexer_of read.lexer) (tokens_of read.token)) result outer.new }
+    ensures { Moves (read_within (both_of place.old outer.old lexer.now) (lexer_of read.lexer) (tokens_of read.token)) result place.new outer.new }
 {
     match &read.token {
         Some(token) => {
-            let place = take(alloc, outer, place, token)?;
+            take(alloc, outer, place, token)?;
             arrive(outer, place, read.lexer, true)
         }
         None => arrive(outer, place, read.lexer, is_between(lexer)),
@@ -115,8 +121,13 @@ fn read_on(
 
 /// A byte with which no token goes on and none begins: it is unexpected, unless the token that it ends is an opening
 /// too many.
-fn stuck(alloc: Global, outer: &mut Outer, place: Place, lexer: Scanner) -> Result<Next, ByteFault>
-    ensures { Moves (stuck (state_of place outer.old) (last (lexer_of lexer))) result outer.new }
+fn stuck(
+    alloc: Global,
+    outer: &mut Outer,
+    place: &mut Place,
+    lexer: Scanner,
+) -> Result<Next, ByteFault>
+    ensures { Moves (stuck (state_of place.old outer.old) (last (lexer_of lexer))) result place.new outer.new }
 {
     if let Some(Some(token)) = last(lexer) {
         take(alloc, outer, place, &token)?;
@@ -128,31 +139,31 @@ fn stuck(alloc: Global, outer: &mut Outer, place: Place, lexer: Scanner) -> Resu
 fn step_byte(
     alloc: Global,
     outer: &mut Outer,
-    place: Place,
+    place: &mut Place,
     lexer: Scanner,
     c: u8,
 ) -> Result<Next, ByteFault>
-    ensures { Moves (byte_move (both_of place outer.old lexer) c) result outer.new }
+    ensures { Moves (byte_move (both_of place.old outer.old lexer) c) result place.new outer.new }
 {
-    match scan(&place, outer, lexer, c) {
+    match scan(place, outer, lexer, c) {
         Ok(read) => read_on(alloc, outer, place, &lexer, read),
         Err(LexFault::Unexpected) => stuck(alloc, outer, place, lexer),
         Err(LexFault::LongName) => {
-            if expected_at(&place, outer).names {
+            if expected_at(place, outer).names {
                 Err(ByteFault::LongName)
             } else {
                 Err(ByteFault::Unexpected)
             }
         }
         Err(LexFault::LargeNumber) => {
-            if takes_number(&place, outer, true, 0) || expected_at(&place, outer).literals {
+            if takes_number(place, outer, true, 0) || expected_at(place, outer).literals {
                 Err(ByteFault::OutOfRange)
             } else {
                 Err(ByteFault::Unexpected)
             }
         }
         Err(LexFault::WrongLiteral) => {
-            if expected_at(&place, outer).literals {
+            if expected_at(place, outer).literals {
                 Err(ByteFault::OutOfRange)
             } else {
                 Err(ByteFault::Unexpected)
@@ -182,8 +193,9 @@ fn end_token(
     ensures { Gives (last_answer (take_token (state_of place outer) (token_of token.now)) start) result }
 {
     let mut outer = outer;
-    match take(alloc, &mut outer, place, token) {
-        Ok(place) => value(outer, place),
+    let mut place = place;
+    match take(alloc, &mut outer, &mut place, token) {
+        Ok(()) => value(outer, place),
         Err(ByteFault::TooDeep) => Err(ReadFault::TooDeep { byte: start }),
         Err(ByteFault::NoMemory) => Err(ReadFault::NoMemory),
         Err(_) => Err(ReadFault::Truncated),
@@ -229,11 +241,10 @@ fn scan_text(alloc: Global, bytes: &[u8]) -> Result<Module, ReadFault>
     let mut lexer = Scanner::InGap(Within::Between);
     let mut start = 0;
     for (i, c) in bytes.iter().enumerate() {
-        let next = match step_byte(alloc, &mut outer, place, lexer, *c) {
+        let next = match step_byte(alloc, &mut outer, &mut place, lexer, *c) {
             Ok(next) => next,
             Err(fault) => return Err(fault_at(fault, start, i)),
         };
-        place = next.place;
         lexer = next.lexer;
         if next.fresh {
             start = i;
@@ -250,8 +261,14 @@ pub fn read_module(alloc: Global, bytes: &[u8]) -> Result<Module, ReadFault>
     ensures ok { IfOk result (λ m. Spells bytes.now (plain_module m)) }
     ensures accepted { (mo : ModuleTree) → Spells bytes.now mo → MatchResult result (λ m. plain_module m ≡ mo) (λ fault. fault ≡ ReadFault.NoMemory) }
 
+    // Every module that is read has the sizes of one.
+    ensures formed { IfOk result (λ m. formed (plain_module m) ≡ true) }
+
     // What each fault says of the text, at the byte that it names.
-    ensures fault { IfErr result (Says bytes.now) }
+    ensures says { IfErr result (Says bytes.now) }
+
+    // Unless memory runs out, a fault is answered exactly where it is the first that stands in the text.
+    ensures fault { (result ≡ Err ReadFault.NoMemory → ⊥) → (f : ReadFault) → (result ≡ Err f) ↔ IsFirst bytes.now f }
 
     // No bytes spell two modules.
     ensures one_module { (mo : ModuleTree) (other : ModuleTree) → Spells bytes.now mo → Spells bytes.now other → mo ≡ other }

@@ -1,5 +1,5 @@
 use Rattle.verilog_tree.specs.Spells.{all_limits}
-use Rattle.verilog_read.proofs.Contract.{read_says, read_spells, spelled_read}
+use Rattle.verilog_read.proofs.Contract.{read_formed, read_first, read_says, read_spells, spelled_read}
 use Rattle.verilog_read.proofs.ReadingLaws.{one_text}
 use Rattle.verilog_read.proofs.read.read_module.Goals as goal
 
@@ -12,5 +12,11 @@ returns-clause-accepted c = λ v h. spelled_read c.args.bytes.now v c.scan_text.
 pub returns-clause-one_module : goal.returns-clause-one_module
 returns-clause-one_module c = λ v w p q. one_text all_limits c.args.bytes.now v w p q
 
+pub returns-clause-says : goal.returns-clause-says
+returns-clause-says c = read_says c.args.bytes.now c.scan_text.result c.scan_text.ensures
+
 pub returns-clause-fault : goal.returns-clause-fault
-returns-clause-fault c = read_says c.args.bytes.now c.scan_text.result c.scan_text.ensures
+returns-clause-fault c = λ n f. read_first c.args.bytes.now c.scan_text.result c.scan_text.ensures n f
+
+pub returns-clause-formed : goal.returns-clause-formed
+returns-clause-formed c = read_formed c.args.bytes.now c.scan_text.result c.scan_text.ensures
