@@ -1,2 +1,5 @@
 pub mod Primitive
 pub mod Testing
+pub mod Dynamic
+pub mod Detecting
+pub mod Instances

@@ -3,6 +3,10 @@
 
 mod item;
 mod primitive;
+mod simulation;
+mod stepping;
 
 pub use item::Item;
 pub use primitive::{DynPrim, DynSense};
+pub use simulation::{DynInstance, simulate_dyn};
+pub use stepping::step;
