@@ -1,0 +1,9 @@
+//! Verdicts on dynamic fault primitives, for arrays of every size.
+#![tactic(auto)]
+
+mod escape;
+mod leg;
+mod own_cells;
+mod shape;
+
+pub use escape::{DynEscape, DynVerdict};
