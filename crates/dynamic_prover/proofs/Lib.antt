@@ -6,3 +6,5 @@ pub mod Sized
 pub mod Greedy
 pub mod Wording
 pub mod Alone
+pub mod Tables
+pub mod Rows

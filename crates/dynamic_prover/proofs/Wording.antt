@@ -35,6 +35,11 @@ is_word (d ∷ ds) i j e h =
           ∙ ap (λ l. l ++ directions_between (ways_word (i + 1) ds) (i + 1) j) (directions_one i d) ∙ ap (λ l. d ∷ l) rest.stands;
     }
 
+pub word_below : (ds : List Direction) (i : ℕ) → i + length ds ≤ 64 → ways_word i ds < 2 ^ 64
+word_below ds i h =
+    let w = is_word ds i (i + length ds) refl h in
+    span_fits i (i + length ds) (ways_word i ds) (omega arith) h w.span
+
 -- each word is that of its directions
 word_again : (n i j w : ℕ) → j ≡ i + n → j ≤ 64 → IsSpanWord i j w → w ≡ ways_word i (directions_between w i j)
 word_again zero i j w e h span =

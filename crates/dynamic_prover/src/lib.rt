@@ -4,6 +4,7 @@
 mod escape;
 mod leg;
 mod own_cells;
+mod row;
 mod shape;
 
 pub use escape::{DynEscape, DynVerdict};

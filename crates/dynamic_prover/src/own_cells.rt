@@ -1,6 +1,7 @@
 ghost use Rattle.std.specs.Prelude.{◌≡◌, ◌<◌};
+ghost use Rattle.cell_machine.specs.Pairs.{pair_of};
 ghost use Rattle.cell_machine.specs.Seen.{place_of};
-ghost use Rattle.dynamic_prover.specs.Own.{own_step, own_answer, own_run, disarmed, two_places};
+ghost use Rattle.dynamic_prover.specs.Own.{own_as, own_step, own_answer, own_run, disarmed, two_places};
 ghost use Rattle.dynamic_prover.specs.Legs.{own_number, passed_where};
 
 use array_sim::{act_of, is_wrong};
@@ -14,6 +15,15 @@ use march_core::Op;
 pub(crate) struct OwnCells {
     pub(crate) pair: Pair,
     pub(crate) armed: bool,
+}
+
+pub(crate) fn own_cells(a: bool, v: bool, armed: bool) -> OwnCells
+    ensures { result ≡ own_as (pair_of a v) armed }
+{
+    OwnCells {
+        pair: Pair { a, v },
+        armed,
+    }
 }
 
 impl OwnCells {
