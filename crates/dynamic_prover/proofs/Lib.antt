@@ -8,3 +8,4 @@ pub mod Wording
 pub mod Alone
 pub mod Tables
 pub mod Rows
+pub mod Searching

@@ -3,5 +3,6 @@ pub mod Shapes
 pub mod Ways
 pub mod Legs
 pub mod Rows
+pub mod Spots
 pub mod Escapes
 pub mod Verdicts

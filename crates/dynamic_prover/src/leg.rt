@@ -1,4 +1,4 @@
-ghost use Rattle.std.specs.Prelude.{◌≡◌, ◌<◌, length};
+ghost use Rattle.std.specs.Prelude.{◌≡◌, ◌<◌, ◌≤◌, length};
 ghost use Rattle.march_core.specs.March.{element_at};
 ghost use Rattle.march_core.specs.Visits.{allows};
 ghost use Rattle.array_sim.specs.Addresses.{direction_of};
@@ -137,7 +137,8 @@ fn leg_of(march: &March, prim: &DynPrim, element: usize) -> Leg
 
 /// The tables of the elements of a march.
 pub(crate) fn legs_of(march: &March, prim: &DynPrim) -> ArrayVec<Leg, 64>
-    ensures { AreLegs prim.now march.now result.items }
+    ensures legs { AreLegs prim.now march.now result.items }
+    ensures few { length result.items ≤ 64 }
 {
     let mut legs = ArrayVec::new();
     for element in 0..march.len() {

@@ -2,9 +2,11 @@
 #![tactic(auto)]
 
 mod escape;
+mod judging;
 mod leg;
 mod own_cells;
 mod row;
 mod shape;
+mod spot;
 
 pub use escape::{DynEscape, DynVerdict};
