@@ -9,3 +9,7 @@ pub mod Alone
 pub mod Tables
 pub mod Rows
 pub mod Searching
+pub mod Ordered
+pub mod Listed
+pub mod Arrays
+pub mod Judged

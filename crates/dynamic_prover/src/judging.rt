@@ -1,12 +1,14 @@
-ghost use Rattle.std.specs.Prelude.{◌≡◌, ◌≤◌, false, true, length, MatchOption};
+ghost use Rattle.std.specs.Prelude.{ℕ, ◌≡◌, ◌≤◌, false, true, length, MatchOption};
+ghost use Rattle.march_core.specs.March.{IsMarch};
 ghost use Rattle.dynamic_core.specs.Primitive.{has_aggressor};
 ghost use Rattle.dynamic_prover.specs.Shapes.{end_in};
 ghost use Rattle.dynamic_prover.specs.Ways.{least_ways, ways_word};
 ghost use Rattle.dynamic_prover.specs.Legs.{leg_end};
 ghost use Rattle.dynamic_prover.specs.Rows.{AreRows};
 ghost use Rattle.dynamic_prover.specs.Spots.{shape_at, spots_of, candidate_at, candidates_at, candidates_of, passes_by, IsMadeOf, FindsFirst};
+ghost use Rattle.dynamic_prover.specs.Verdicts.{IsDynVerdict, IsDynVerdictAt};
 
-use crate::escape::DynEscape;
+use crate::escape::{DynEscape, DynVerdict};
 use crate::leg::{Leg, legs_of};
 use crate::own_cells::own_cells;
 use crate::row::{Row, least_word, rows_of};
@@ -68,4 +70,25 @@ fn least(march: &March, prim: &DynPrim) -> Option<DynEscape>
         }
     }
     None
+}
+
+/// Covered exactly where every placement of one instance, in every array of at least two cells, from every
+/// content and for every choice of directions, is caught; for each single size from 4 the verdict is the same.
+/// Else the least escape of all sizes.
+pub fn judge_dyn(march: &March, prim: &DynPrim) -> DynVerdict
+    ensures verdict { IsDynVerdict march.now prim.now result }
+    ensures each_size { (size : ℕ) → 4 ≤ size → IsDynVerdictAt size march.now prim.now result }
+{
+    recall(march);
+    match least(march, prim) {
+        Some(escape) => DynVerdict::Escape(escape),
+        None => DynVerdict::Covered,
+    }
+}
+
+/// Says as a fact what every march is.
+fn recall(march: &March)
+    ensures { IsMarch march.now }
+{
+    let _elements = march.len();
 }

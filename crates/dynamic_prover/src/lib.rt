@@ -10,3 +10,4 @@ mod shape;
 mod spot;
 
 pub use escape::{DynEscape, DynVerdict};
+pub use judging::judge_dyn;
