@@ -1,2 +1,3 @@
 pub mod Primitive
 pub mod Testing
+pub mod Table

@@ -3,6 +3,8 @@
 
 mod item;
 mod primitive;
+mod table;
 
 pub use item::Item;
 pub use primitive::{DynPrim, DynSense};
+pub use table::{dyn_one, dyn_two};

@@ -28,6 +28,16 @@ impl Model for DynSense {
     ghost inverse_ok = { λ s h. array_back (λ acts. record { state = s.state; acts = acts }) s.acts h };
 }
 
+/// A blank of a fixed list: the state 0 alone.
+impl Default for DynSense {
+    fn default() -> Self {
+        DynSense {
+            state: false,
+            acts: None,
+        }
+    }
+}
+
 /// A dynamic fault primitive `<S/F/R>`: after its two operations the victim's state is another than a good
 /// cell's, or their read answers another bit. It is seen by its parts.
 #[derive(Clone, Copy)]
@@ -80,6 +90,24 @@ impl DynPrim {
         })
     }
 
+    /// The dynamic primitive of these parts, which describe a fault.
+    pub(crate) fn of_parts(
+        agg: Option<DynSense>,
+        vic: DynSense,
+        after: bool,
+        answer: Option<bool>,
+    ) -> DynPrim
+        requires { IsDynamic (record { agg = agg; vic = vic; after = after; answer = answer }) }
+        ensures { result ≡ (record { agg = agg; vic = vic; after = after; answer = answer }) }
+    {
+        DynPrim {
+            agg,
+            vic,
+            after,
+            answer,
+        }
+    }
+
     /// What the aggressor holds and does, where there is one.
     pub fn agg(&self) -> Option<DynSense>
         ensures value { result ≡ self.now.agg }
@@ -114,6 +142,17 @@ impl DynPrim {
         ensures { result ≡ has_aggressor self.now }
     {
         self.agg.is_some()
+    }
+}
+
+/// A blank of a fixed list: `<0w0w0/1/->`, first in the table.
+impl Default for DynPrim {
+    fn default() -> Self {
+        let vic = DynSense {
+            state: false,
+            acts: Some([Act::Write(false), Act::Write(false)]),
+        };
+        DynPrim::of_parts(None, vic, true, None)
     }
 }
 
