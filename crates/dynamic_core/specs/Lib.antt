@@ -1,3 +1,9 @@
 pub mod Primitive
 pub mod Testing
 pub mod Table
+pub mod ItemText
+pub mod ItemParts
+pub mod Items
+pub mod Printed
+pub mod Words
+pub mod Reading

@@ -2,8 +2,10 @@
 #![tactic(auto)]
 
 mod item;
+mod line;
 mod primitive;
 mod table;
+mod words;
 
 pub use item::Item;
 pub use primitive::{DynPrim, DynSense};

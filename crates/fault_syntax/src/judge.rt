@@ -10,7 +10,7 @@ use crate::words::Operation;
 use fault_core::{Act, Prim, PrimFault, Sense};
 
 /// The act that an operation is; None for a read of another bit than the state.
-fn act_of(state: bool, op: Operation) -> Option<Act>
+pub fn act_of(state: bool, op: Operation) -> Option<Act>
     ensures { MatchOption result ((act : Option Act) → IsAct state op act → ⊥) (λ act. IsAct state op (Some act)) }
 {
     match op {

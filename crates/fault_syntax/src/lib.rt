@@ -11,7 +11,7 @@ mod reader;
 mod words;
 
 pub use fault::FaultFault;
-pub use judge::judge as judge_parts;
+pub use judge::{act_of, judge as judge_parts};
 pub use list::{line_item, read_list};
 pub use prim::read_prim;
 pub use print::print_prim;

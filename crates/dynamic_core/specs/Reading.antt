@@ -1,0 +1,66 @@
+-- For proofs and private contracts alone: what is read of a line, and what it adds to the primitives.
+use Rattle.std.specs.Prelude.{◌≡◌, ◌<◌, ◌≤◌, ◌+◌, ◌⊎◌, ℕ, Option, Some, None, List, ◌++◌, length, Result, Ok, Err}
+use Rattle.bist_text.specs.Grammar.{IsUnexpected, IsTruncated}
+use Rattle.bist_text.specs.Lines.{TextLine}
+use Rattle.bist_text.specs.Machine.{Outcome, read, unexpected, truncated}
+use Rattle.fault_core.specs.declared.primitive.PrimFault.{PrimFault}
+use Rattle.fault_syntax.specs.declared.fault.FaultFault.{FaultFault}
+use Rattle.fault_syntax.specs.declared.fault.FaultFault.TheVariants.{Unexpected, Truncated, NotAFault, TooManyOperations, TooManyPrimitives, NoMemory}
+use Rattle.fault_syntax.specs.declared.reader.ReadItem.TheVariants.{Nothing}
+use Rattle.fault_syntax.specs.declared.reader.Refusal.{Refusal}
+use Rattle.fault_syntax.specs.declared.reader.Refusal.TheVariants.{Unexpected as UnexpectedAt, Truncated as EndedEarly}
+use Rattle.fault_syntax.specs.Answers.{fault_at}
+use Rattle.fault_syntax.specs.Brief.{read_item_of}
+use Rattle.fault_syntax.specs.ListText.{Primitive as OnePrimitive}
+use Rattle.fault_syntax.specs.PrimText.{PrimParts}
+use Rattle.dynamic_core.specs.declared.item.Item.{Item}
+use Rattle.dynamic_core.specs.declared.line.ReadLine.{ReadLine}
+use Rattle.dynamic_core.specs.declared.line.ReadLine.TheVariants.{OfList, OfWord}
+use Rattle.dynamic_core.specs.declared.words.DynWord.{DynWord}
+use Rattle.dynamic_core.specs.ItemParts.{Is, RefusesItem, BringsItems}
+use Rattle.dynamic_core.specs.ItemText.{LineItem, Listed, Worded, WordText, ItemLine}
+use Rattle.dynamic_core.specs.Items.{ItemRefuses}
+
+-- what is kept of a line
+abbrev pub read_line_of : Option LineItem → ReadLine
+read_line_of None = OfList Nothing
+read_line_of (Some (Listed i)) = OfList (read_item_of (Some i))
+read_line_of (Some (Worded w)) = OfWord w
+
+-- what is said of a line's bytes as a word
+abbrev pub SaysWord : List ℕ → Result DynWord Refusal → Type 0
+SaysWord b (Ok w) = WordText b w
+SaysWord b (Err (UnexpectedAt k)) = IsUnexpected WordText b k
+SaysWord b (Err EndedEarly) = IsTruncated WordText b
+
+-- and as a line
+abbrev pub SaysLine : List ℕ → Result ReadLine Refusal → Type 0
+SaysLine b (Ok line) = (v : Option LineItem) × ItemLine b v × (line ≡ read_line_of v)
+SaysLine b (Err (UnexpectedAt k)) = IsUnexpected ItemLine b k
+SaysLine b (Err EndedEarly) = IsTruncated ItemLine b
+
+-- what a line is read to
+abbrev pub GivesLine : TextLine → Result ReadLine FaultFault → Type 0
+GivesLine l (Ok line) = (v : Option LineItem) × ItemLine l.text v × (line ≡ read_line_of v)
+GivesLine l (Err fault) = (held : List Item) → ItemRefuses held l fault
+
+-- what is made of written parts
+abbrev pub JudgesItem : PrimParts → Result Item PrimFault → Type 0
+JudgesItem text (Ok item) = Is text item
+JudgesItem text (Err fault) = RefusesItem text fault
+
+-- there is no room for more primitives, or no memory
+abbrev pub HasNoRoom : List Item → List Item → ℕ → FaultFault → Type 0
+HasNoRoom held more line fault = (fault ≡ NoMemory) ⊎ ((fault ≡ TooManyPrimitives line) × (1024 < length held + length more))
+
+-- what a line brings is added
+pub record Adds (v : Option LineItem) (old new : List Item) : Type 0 where
+  pub more : List Item
+  pub brought : BringsItems v more
+  pub joined : new ≡ old ++ more
+  pub within : length new ≤ 1024
+
+-- or isn't, since a primitive is refused, or since there is no room
+pub data NotAdded (v : Option LineItem) (line : ℕ) (old : List Item) (fault : FaultFault) : Type 0 where
+  refused : (text : PrimParts) (why : PrimFault) → v ≡ Some (Listed (OnePrimitive text)) → RefusesItem text why → fault ≡ fault_at line why → NotAdded v line old fault
+  no_room : (more : List Item) → BringsItems v more → HasNoRoom old more line fault → NotAdded v line old fault
