@@ -1,5 +1,5 @@
 -- For proofs and private contracts alone: what is read of a line, and what it adds to the primitives.
-use Rattle.std.specs.Prelude.{◌≡◌, ◌<◌, ◌≤◌, ◌+◌, ◌⊎◌, ℕ, Option, Some, None, List, ◌++◌, length, Result, Ok, Err}
+use Rattle.std.specs.Prelude.{◌≡◌, ◌<◌, ◌≤◌, ◌+◌, ◌⊎◌, ℕ, max, Option, Some, None, List, ◌++◌, length, Result, Ok, Err}
 use Rattle.bist_text.specs.Grammar.{IsUnexpected, IsTruncated}
 use Rattle.bist_text.specs.Lines.{TextLine}
 use Rattle.bist_text.specs.Machine.{Outcome, read, unexpected, truncated}
@@ -27,17 +27,26 @@ read_line_of None = OfList Nothing
 read_line_of (Some (Listed i)) = OfList (read_item_of (Some i))
 read_line_of (Some (Worded w)) = OfWord w
 
+-- why a text is refused by a grammar
+abbrev pub RefusesBy : {V : Type 0} → (List ℕ → V → Type 0) → List ℕ → Refusal → Type 0
+RefusesBy G b (UnexpectedAt k) = IsUnexpected G b k
+RefusesBy G b EndedEarly = IsTruncated G b
+
 -- what is said of a line's bytes as a word
 abbrev pub SaysWord : List ℕ → Result DynWord Refusal → Type 0
 SaysWord b (Ok w) = WordText b w
-SaysWord b (Err (UnexpectedAt k)) = IsUnexpected WordText b k
-SaysWord b (Err EndedEarly) = IsTruncated WordText b
+SaysWord b (Err refusal) = RefusesBy WordText b refusal
 
 -- and as a line
 abbrev pub SaysLine : List ℕ → Result ReadLine Refusal → Type 0
 SaysLine b (Ok line) = (v : Option LineItem) × ItemLine b v × (line ≡ read_line_of v)
-SaysLine b (Err (UnexpectedAt k)) = IsUnexpected ItemLine b k
-SaysLine b (Err EndedEarly) = IsTruncated ItemLine b
+SaysLine b (Err refusal) = RefusesBy ItemLine b refusal
+
+-- the refusal that comes later in a text
+abbrev pub later_of : Refusal → Refusal → Refusal
+later_of (UnexpectedAt j) (UnexpectedAt k) = UnexpectedAt (max j k)
+later_of (UnexpectedAt j) EndedEarly = EndedEarly
+later_of EndedEarly other = EndedEarly
 
 -- what a line is read to
 abbrev pub GivesLine : TextLine → Result ReadLine FaultFault → Type 0
