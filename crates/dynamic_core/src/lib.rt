@@ -2,6 +2,7 @@
 #![tactic(auto)]
 
 mod item;
+mod judge;
 mod line;
 mod primitive;
 mod table;
