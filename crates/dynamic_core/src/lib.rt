@@ -5,9 +5,11 @@ mod item;
 mod judge;
 mod line;
 mod primitive;
+mod print;
 mod table;
 mod words;
 
 pub use item::Item;
 pub use primitive::{DynPrim, DynSense};
+pub use print::print_dyn;
 pub use table::{dyn_one, dyn_two};

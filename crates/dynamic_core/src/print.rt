@@ -1,0 +1,105 @@
+ghost use Rattle.std.specs.Prelude.{◌≡◌, ◌≤◌, ◌+◌, ◌++◌, Some, length};
+ghost use Rattle.fault_syntax.specs.ListText.{Primitive};
+ghost use Rattle.fault_syntax.specs.Printed.{act_text};
+ghost use Rattle.fault_syntax.specs.PrimText.{PrimParts, bit_text, answer_text};
+ghost use Rattle.dynamic_core.specs.ItemParts.{StandsForDynamic};
+ghost use Rattle.dynamic_core.specs.ItemText.{Listed, ItemLine};
+ghost use Rattle.dynamic_core.specs.Primitive.{IsDynamic};
+ghost use Rattle.dynamic_core.specs.Printed.{acts_text, dynamic_sense_text, dynamic_aggressor_text, printed_dynamic};
+ghost use Rattle.dynamic_core.specs.Testing.{acts_in};
+
+use crate::primitive::{DynPrim, DynSense, left_by};
+use arrayvec::ArrayString;
+use fault_core::Act;
+
+fn bit(value: bool) -> &'static str
+    ensures text { result.now ≡ bit_text value }
+    ensures short { length result.now ≡ 1 }
+{
+    if value { "1" } else { "0" }
+}
+
+fn answer(value: Option<bool>) -> &'static str
+    ensures text { result.now ≡ answer_text value }
+    ensures short { length result.now ≡ 1 }
+{
+    match value {
+        None => "-",
+        Some(value) => bit(value),
+    }
+}
+
+fn push_act(out: &mut ArrayString<32>, content: bool, act: Act)
+    requires room { length out.old.bytes ≤ 24 }
+    ensures text { out.new.bytes ≡ out.old.bytes ++ act_text content (Some act) }
+    ensures short { length out.new.bytes ≤ length out.old.bytes + 2 }
+{
+    match act {
+        Act::Write(value) => {
+            out.push_str("w");
+            out.push_str(bit(value));
+        }
+        Act::Read => {
+            out.push_str("r");
+            out.push_str(bit(content));
+        }
+        Act::Pause => out.push_str("t"),
+    }
+}
+
+fn push_acts(out: &mut ArrayString<32>, state: bool, acts: Option<[Act; 2]>)
+    requires room { length out.old.bytes ≤ 20 }
+    ensures text { out.new.bytes ≡ out.old.bytes ++ acts_text state (acts_in acts) }
+    ensures short { length out.new.bytes ≤ length out.old.bytes + 4 }
+{
+    if let Some(acts) = acts {
+        push_act(out, state, acts[0]);
+        push_act(out, left_by(state, acts[0]), acts[1]);
+    }
+}
+
+fn push_sense(out: &mut ArrayString<32>, sense: &DynSense)
+    requires room { length out.old.bytes ≤ 16 }
+    ensures text { out.new.bytes ≡ out.old.bytes ++ dynamic_sense_text sense.now }
+    ensures short { length out.new.bytes ≤ length out.old.bytes + 5 }
+{
+    out.push_str(bit(sense.state));
+    push_acts(out, sense.state, sense.acts);
+}
+
+fn push_aggressor(out: &mut ArrayString<32>, agg: &Option<DynSense>)
+    requires room { length out.old.bytes ≤ 1 }
+    ensures text { out.new.bytes ≡ out.old.bytes ++ dynamic_aggressor_text agg.now }
+    ensures short { length out.new.bytes ≤ length out.old.bytes + 6 }
+{
+    if let Some(sense) = agg {
+        push_sense(out, sense);
+        out.push_str(";");
+    }
+}
+
+fn prim_text(prim: &DynPrim) -> ArrayString<32>
+    ensures form { result.bytes ≡ printed_dynamic prim.now }
+    ensures primitive { IsDynamic prim.now }
+{
+    let mut out = ArrayString::new();
+    out.push_str("<");
+    push_aggressor(&mut out, &prim.agg());
+    push_sense(&mut out, &prim.vic());
+    out.push_str("/");
+    out.push_str(bit(prim.after()));
+    out.push_str("/");
+    out.push_str(answer(prim.answer()));
+    out.push_str(">");
+    out
+}
+
+/// The printed form of a dynamic primitive: no blanks, and the state always shown.
+pub fn print_dyn(prim: &DynPrim) -> ArrayString<32>
+    ensures form { result.bytes ≡ printed_dynamic prim.now }
+
+    // It is the line of a list whose item is this very primitive, as which `read_items` reads it.
+    ensures read_back { (text : PrimParts) × ItemLine result.bytes (Some (Listed (Primitive text))) × StandsForDynamic text prim.now × IsDynamic prim.now }
+{
+    prim_text(prim)
+}
