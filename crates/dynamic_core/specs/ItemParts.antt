@@ -1,8 +1,10 @@
 -- What the parts of a primitive's text stand for where two operations may act together, and when they are refused.
-use Rattle.std.specs.Prelude.{◌≡◌, ◌<◌, ◌⊎◌, Bool, Option, Some, None, List, [], ◌∷◌, map, length, Result, Ok, Err}
+use Rattle.std.specs.Prelude.{◌≡◌, ◌<◌, ◌⊎◌, ℕ, Bool, Option, Some, None, List, [], ◌∷◌, map, length}
 use Rattle.fault_core.specs.declared.primitive.PrimFault.{PrimFault}
-use Rattle.fault_core.specs.declared.primitive.PrimFault.TheVariants.{NotAFault, TooManyOperations}
+use Rattle.fault_core.specs.declared.primitive.PrimFault.TheVariants.{NotAFault as IsNotAFault, TooManyOperations as HasTooManyOperations}
 use Rattle.fault_core.specs.Primitive.{IsPrimitive}
+use Rattle.fault_syntax.specs.declared.fault.FaultFault.{FaultFault}
+use Rattle.fault_syntax.specs.declared.fault.FaultFault.TheVariants.{Unexpected, Truncated, NotAFault, TooManyOperations, TooManyPrimitives, NoMemory}
 use Rattle.fault_syntax.specs.declared.words.Operation.{Operation}
 use Rattle.fault_syntax.specs.ListText.{Primitive as OnePrimitive, Named}
 use Rattle.fault_syntax.specs.Parts.{IsAct, StandsFor, agg_ops, op_count, primitives_of}
@@ -53,8 +55,17 @@ HasTooMany text = (2 < op_count text) ⊎ ((length (agg_ops text.agg) ≡ 1) × 
 
 -- why written parts are no primitive: too many operations come first
 abbrev pub RefusesItem : PrimParts → PrimFault → Type 0
-RefusesItem text TooManyOperations = HasTooMany text
-RefusesItem text NotAFault = (HasTooMany text → ⊥) × ((item : Item) → Is text item → ⊥)
+RefusesItem text HasTooManyOperations = HasTooMany text
+RefusesItem text IsNotAFault = (HasTooMany text → ⊥) × ((item : Item) → Is text item → ⊥)
+
+-- and on a line
+abbrev pub RefusesItemAt : ℕ → PrimParts → FaultFault → Type 0
+RefusesItemAt line text (TooManyOperations l) = (l ≡ line) × RefusesItem text HasTooManyOperations
+RefusesItemAt line text (NotAFault l) = (l ≡ line) × RefusesItem text IsNotAFault
+RefusesItemAt line text (Unexpected l byte) = ⊥
+RefusesItemAt line text (Truncated l) = ⊥
+RefusesItemAt line text (TooManyPrimitives l) = ⊥
+RefusesItemAt line text NoMemory = ⊥
 
 -- the dynamic primitives of a word, in their order
 abbrev pub dynamic_of : DynWord → List DynamicPrimitive

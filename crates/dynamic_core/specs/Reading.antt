@@ -2,14 +2,12 @@
 use Rattle.std.specs.Prelude.{◌≡◌, ◌<◌, ◌≤◌, ◌+◌, ◌⊎◌, ℕ, max, Option, Some, None, List, ◌++◌, length, Result, Ok, Err}
 use Rattle.bist_text.specs.Grammar.{IsUnexpected, IsTruncated}
 use Rattle.bist_text.specs.Lines.{TextLine}
-use Rattle.bist_text.specs.Machine.{Outcome, read, unexpected, truncated}
 use Rattle.fault_core.specs.declared.primitive.PrimFault.{PrimFault}
 use Rattle.fault_syntax.specs.declared.fault.FaultFault.{FaultFault}
 use Rattle.fault_syntax.specs.declared.fault.FaultFault.TheVariants.{Unexpected, Truncated, NotAFault, TooManyOperations, TooManyPrimitives, NoMemory}
 use Rattle.fault_syntax.specs.declared.reader.ReadItem.TheVariants.{Nothing}
 use Rattle.fault_syntax.specs.declared.reader.Refusal.{Refusal}
 use Rattle.fault_syntax.specs.declared.reader.Refusal.TheVariants.{Unexpected as UnexpectedAt, Truncated as EndedEarly}
-use Rattle.fault_syntax.specs.Answers.{fault_at}
 use Rattle.fault_syntax.specs.Brief.{read_item_of}
 use Rattle.fault_syntax.specs.ListText.{Primitive as OnePrimitive}
 use Rattle.fault_syntax.specs.PrimText.{PrimParts}
@@ -17,9 +15,9 @@ use Rattle.dynamic_core.specs.declared.item.Item.{Item}
 use Rattle.dynamic_core.specs.declared.line.ReadLine.{ReadLine}
 use Rattle.dynamic_core.specs.declared.line.ReadLine.TheVariants.{OfList, OfWord}
 use Rattle.dynamic_core.specs.declared.words.DynWord.{DynWord}
-use Rattle.dynamic_core.specs.ItemParts.{Is, RefusesItem, BringsItems}
+use Rattle.dynamic_core.specs.ItemParts.{Is, RefusesItem, RefusesItemAt, BringsItems}
 use Rattle.dynamic_core.specs.ItemText.{LineItem, Listed, Worded, WordText, ItemLine}
-use Rattle.dynamic_core.specs.Items.{ItemRefuses}
+use Rattle.dynamic_core.specs.Items.{IsItemFault}
 
 -- what is kept of a line
 abbrev pub read_line_of : Option LineItem → ReadLine
@@ -51,25 +49,33 @@ later_of EndedEarly other = EndedEarly
 -- what a line is read to
 abbrev pub GivesLine : TextLine → Result ReadLine FaultFault → Type 0
 GivesLine l (Ok line) = (v : Option LineItem) × ItemLine l.text v × (line ≡ read_line_of v)
-GivesLine l (Err fault) = (held : List Item) → ItemRefuses held l fault
+GivesLine l (Err fault) = IsItemFault l fault
 
--- what is made of written parts
+-- what is made of written parts, and of those on a line
 abbrev pub JudgesItem : PrimParts → Result Item PrimFault → Type 0
 JudgesItem text (Ok item) = Is text item
 JudgesItem text (Err fault) = RefusesItem text fault
+
+abbrev pub JudgesItemAt : ℕ → PrimParts → Result Item FaultFault → Type 0
+JudgesItemAt line text (Ok item) = Is text item
+JudgesItemAt line text (Err fault) = RefusesItemAt line text fault
 
 -- there is no room for more primitives, or no memory
 abbrev pub HasNoRoom : List Item → List Item → ℕ → FaultFault → Type 0
 HasNoRoom held more line fault = (fault ≡ NoMemory) ⊎ ((fault ≡ TooManyPrimitives line) × (1024 < length held + length more))
 
 -- what a line brings is added
-pub record Adds (v : Option LineItem) (old new : List Item) : Type 0 where
+pub record AddsItems (v : Option LineItem) (old new : List Item) : Type 0 where
   pub more : List Item
   pub brought : BringsItems v more
   pub joined : new ≡ old ++ more
   pub within : length new ≤ 1024
 
--- or isn't, since a primitive is refused, or since there is no room
-pub data NotAdded (v : Option LineItem) (line : ℕ) (old : List Item) (fault : FaultFault) : Type 0 where
-  refused : (text : PrimParts) (why : PrimFault) → v ≡ Some (Listed (OnePrimitive text)) → RefusesItem text why → fault ≡ fault_at line why → NotAdded v line old fault
-  no_room : (more : List Item) → BringsItems v more → HasNoRoom old more line fault → NotAdded v line old fault
+-- or isn't
+abbrev pub NotAdded : Option LineItem → ℕ → List Item → FaultFault → Type 0
+NotAdded v line old (TooManyPrimitives l) = (l ≡ line) × (more : List Item) × BringsItems v more × (1024 < length old + length more)
+NotAdded v line old NoMemory = Unit {0}
+NotAdded v line old (NotAFault l) = (text : PrimParts) × (v ≡ Some (Listed (OnePrimitive text))) × RefusesItemAt line text (NotAFault l)
+NotAdded v line old (TooManyOperations l) = (text : PrimParts) × (v ≡ Some (Listed (OnePrimitive text))) × RefusesItemAt line text (TooManyOperations l)
+NotAdded v line old (Unexpected l byte) = ⊥
+NotAdded v line old (Truncated l) = ⊥

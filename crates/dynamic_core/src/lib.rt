@@ -4,12 +4,14 @@
 mod item;
 mod judge;
 mod line;
+mod list;
 mod primitive;
 mod print;
 mod table;
 mod words;
 
 pub use item::Item;
+pub use list::read_items;
 pub use primitive::{DynPrim, DynSense};
 pub use print::print_dyn;
 pub use table::{dyn_one, dyn_two};
