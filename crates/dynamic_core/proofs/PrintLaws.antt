@@ -1,6 +1,13 @@
 -- The printed form of a dynamic primitive is a line that stands for it.
-use Rattle.std.proofs.Common.{◌≡◌, ℕ, Bool, List, [], ◌∷◌, ◌++◌, Option, Some, None, refl, inl, subst, sym, append_assoc}
+use Rattle.std.proofs.Common.{◌≡◌, ℕ, Bool, true, false, not, List, [], ◌∷◌, ◌++◌, ◌∙◌, Option, Some, None, Ok, refl, inl, ap, subst, sym, append_assoc, arith}
+use Rattle.std.specs.Char.{is_newline}
+use Rattle.std.specs.List.{All, list_all}
+use Rattle.std.proofs.Math.Dec.{eqb-suc-zero}
+use Rattle.std.proofs.lemmas.Bool.{and_parts, not-true}
+use Rattle.std.proofs.lemmas.List.Splits.{slice_split_none}
+use Rattle.std.proofs.lemmas.List.Sums.{AllPass-from_list_all}
 use Rattle.bist_text.specs.Grammar.{finish, word, is_blank}
+use Rattle.bist_text.specs.Lines.{TextLine, lines_of_parts, text_lines}
 use Rattle.bist_text.proofs.Pieces.{many_none, word_on}
 use Rattle.fault_core.specs.declared.primitive.Act.{Act}
 use Rattle.fault_core.specs.declared.primitive.Act.TheVariants.{Write as Writes, Read as Reads, Pause as Pauses}
@@ -10,10 +17,13 @@ use Rattle.fault_syntax.specs.ListText.{Primitive, line_end}
 use Rattle.fault_syntax.specs.Parts.{IsAct}
 use Rattle.fault_syntax.specs.Printed.{act_text}
 use Rattle.fault_syntax.specs.PrimText.{SenseText, PrimParts, ws, bit_text, answer_text, op, more_ops, sense, senses, effect}
+use Rattle.dynamic_core.specs.declared.item.Item.TheVariants.{Dyn}
 use Rattle.dynamic_core.specs.ItemParts.{AreActs, IsDynamicAggressor, StandsForDynamic}
+use Rattle.dynamic_core.specs.Items.{BringAll, ReadsItems}
 use Rattle.dynamic_core.specs.ItemText.{Listed, ItemLine}
-use Rattle.dynamic_core.specs.Primitive.{TwoActs, DynamicSense, DynamicPrimitive, left_by}
+use Rattle.dynamic_core.specs.Primitive.{TwoActs, DynamicSense, DynamicPrimitive, IsDynamic, left_by}
 use Rattle.dynamic_core.specs.Printed.{acts_text, dynamic_sense_text, dynamic_aggressor_text, printed_dynamic}
+use Rattle.dynamic_core.proofs.Parts.{parts_pass, dynamic_passes}
 
 -- the written parts of a dynamic primitive
 abbrev op_of : Bool → Act → Operation
@@ -101,3 +111,32 @@ printed_line p =
     (inl (many_none is_blank (senses (written_agg p.agg) (written p.vic) (effect (parts p) (ws line_end)))
     (dynamic_aggressor_text p.agg ++ (dynamic_sense_text p.vic ++ ending p))
     (senses_on p.agg p.vic (effect (parts p) (ws line_end)) (ending p) (effect_on p (ws line_end) (inl tt)))))
+
+-- ---- it is a list of one line
+
+abbrev has_no_feed : DynamicPrimitive → Bool
+has_no_feed p = list_all (λ c. not (is_newline c)) (printed_dynamic p)
+
+no_feed : (p : DynamicPrimitive) → IsDynamic p → All (λ c. is_newline c ≡ false) (printed_dynamic p)
+no_feed p is k d within =
+    not-true _ (AllPass-from_list_all (λ c. not (is_newline c)) (printed_dynamic p)
+    (parts_pass has_no_feed refl p (and_parts _ _ (dynamic_passes p is)).0) k d within)
+
+abbrev line_of : List ℕ → TextLine
+line_of b = record { number = 1; start = 0; text = b; ended = false }
+
+one_part : (c : ℕ) (b : List ℕ) → lines_of_parts 1 0 ((c ∷ b) ∷ []) ≡ line_of (c ∷ b) ∷ []
+one_part c b = rw eqb-suc-zero refl
+
+one_line : (p : DynamicPrimitive) → IsDynamic p → text_lines (printed_dynamic p) ≡ line_of (printed_dynamic p) ∷ []
+one_line p is =
+    ap (lines_of_parts 1 0) (slice_split_none is_newline (printed_dynamic p) (no_feed p is))
+    ∙ ap (λ (b : List ℕ). lines_of_parts 1 0 (b ∷ [])) (printed_is p)
+    ∙ one_part 60 (dynamic_aggressor_text p.agg ++ (dynamic_sense_text p.vic ++ ending p))
+    ∙ ap (λ (b : List ℕ). line_of b ∷ []) (sym (printed_is p))
+
+pub printed_list : (p : DynamicPrimitive) → IsDynamic p → ReadsItems (printed_dynamic p) (Ok (Dyn p ∷ []))
+printed_list p is =
+    let here : BringAll (line_of (printed_dynamic p) ∷ []) (Dyn p ∷ []) =
+    (Some (Listed (Primitive (parts p))), Dyn p ∷ [], [], printed_line p, (Dyn p, (parts_stand p, is), refl), refl, refl) in
+    (subst (λ (ls : List TextLine). BringAll ls (Dyn p ∷ [])) (sym (one_line p is)) here, omega arith)

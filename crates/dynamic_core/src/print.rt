@@ -1,8 +1,9 @@
-ghost use Rattle.std.specs.Prelude.{◌≡◌, ◌≤◌, ◌+◌, ◌++◌, Some, length};
+ghost use Rattle.std.specs.Prelude.{◌≡◌, ◌≤◌, ◌+◌, ◌++◌, ◌∷◌, [], Some, Ok, length};
 ghost use Rattle.fault_syntax.specs.ListText.{Primitive};
-ghost use Rattle.fault_syntax.specs.Printed.{act_text};
 ghost use Rattle.fault_syntax.specs.PrimText.{PrimParts, bit_text, answer_text};
+ghost use Rattle.dynamic_core.specs.declared.item.Item.TheVariants.{Dyn};
 ghost use Rattle.dynamic_core.specs.ItemParts.{StandsForDynamic};
+ghost use Rattle.dynamic_core.specs.Items.{ReadsItems};
 ghost use Rattle.dynamic_core.specs.ItemText.{Listed, ItemLine};
 ghost use Rattle.dynamic_core.specs.Primitive.{IsDynamic};
 ghost use Rattle.dynamic_core.specs.Printed.{acts_text, dynamic_sense_text, dynamic_aggressor_text, printed_dynamic};
@@ -11,55 +12,21 @@ ghost use Rattle.dynamic_core.specs.Testing.{acts_in};
 use crate::primitive::{DynPrim, DynSense, left_by};
 use arrayvec::ArrayString;
 use fault_core::Act;
-
-fn bit(value: bool) -> &'static str
-    ensures text { result.now ≡ bit_text value }
-    ensures short { length result.now ≡ 1 }
-{
-    if value { "1" } else { "0" }
-}
-
-fn answer(value: Option<bool>) -> &'static str
-    ensures text { result.now ≡ answer_text value }
-    ensures short { length result.now ≡ 1 }
-{
-    match value {
-        None => "-",
-        Some(value) => bit(value),
-    }
-}
-
-fn push_act(out: &mut ArrayString<32>, content: bool, act: Act)
-    requires room { length out.old.bytes ≤ 24 }
-    ensures text { out.new.bytes ≡ out.old.bytes ++ act_text content (Some act) }
-    ensures short { length out.new.bytes ≤ length out.old.bytes + 2 }
-{
-    match act {
-        Act::Write(value) => {
-            out.push_str("w");
-            out.push_str(bit(value));
-        }
-        Act::Read => {
-            out.push_str("r");
-            out.push_str(bit(content));
-        }
-        Act::Pause => out.push_str("t"),
-    }
-}
+use fault_syntax::{answer, bit, push_act};
 
 fn push_acts(out: &mut ArrayString<32>, state: bool, acts: Option<[Act; 2]>)
-    requires room { length out.old.bytes ≤ 20 }
+    requires room { length out.old.bytes ≤ 14 }
     ensures text { out.new.bytes ≡ out.old.bytes ++ acts_text state (acts_in acts) }
     ensures short { length out.new.bytes ≤ length out.old.bytes + 4 }
 {
     if let Some(acts) = acts {
-        push_act(out, state, acts[0]);
-        push_act(out, left_by(state, acts[0]), acts[1]);
+        push_act(out, state, Some(acts[0]));
+        push_act(out, left_by(state, acts[0]), Some(acts[1]));
     }
 }
 
 fn push_sense(out: &mut ArrayString<32>, sense: &DynSense)
-    requires room { length out.old.bytes ≤ 16 }
+    requires room { length out.old.bytes ≤ 13 }
     ensures text { out.new.bytes ≡ out.old.bytes ++ dynamic_sense_text sense.now }
     ensures short { length out.new.bytes ≤ length out.old.bytes + 5 }
 {
@@ -98,8 +65,9 @@ fn prim_text(prim: &DynPrim) -> ArrayString<32>
 pub fn print_dyn(prim: &DynPrim) -> ArrayString<32>
     ensures form { result.bytes ≡ printed_dynamic prim.now }
 
-    // It is the line of a list whose item is this very primitive, as which `read_items` reads it.
+    // It is the line of a list whose item is this very primitive, and a list of it alone, as `read_items` reads it.
     ensures read_back { (text : PrimParts) × ItemLine result.bytes (Some (Listed (Primitive text))) × StandsForDynamic text prim.now × IsDynamic prim.now }
+    ensures list { ReadsItems result.bytes (Ok (Dyn prim.now ∷ [])) }
 {
     prim_text(prim)
 }
