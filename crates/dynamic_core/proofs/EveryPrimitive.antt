@@ -7,7 +7,7 @@ use Rattle.std.proofs.lemmas.List.Kept.{AllPairs-cons}
 use Rattle.std.proofs.lemmas.Map.Views.{Contains-from_any}
 use Rattle.dynamic_core.specs.Primitive.{DynamicPrimitive, IsDynamic, has_aggressor}
 use Rattle.dynamic_core.specs.Table.{dyn_one_table, dyn_two_table}
-use Rattle.dynamic_core.proofs.Parts.{acts_once, at_all_parts, parts_pass, same_parts, same_parts-equal, same_parts-refl, is_dynamic, dynamic_passes, passes_dynamic}
+use Rattle.dynamic_core.proofs.Parts.{at_all_parts, parts_pass, same_parts, same_parts-equal, same_parts-refl, is_dynamic, dynamic_passes, passes_dynamic}
 
 abbrev is_among : List DynamicPrimitive → DynamicPrimitive → Bool
 is_among xs p = list_any (same_parts p) xs

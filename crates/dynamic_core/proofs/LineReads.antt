@@ -1,29 +1,27 @@
 -- A line is a line of a static list or a word, and never both; and what is said of it as the one and as the other.
-use Rattle.std.proofs.Common.{◌≡◌, ℕ, ◌==◌, ◌≤◌, Bool, true, false, List, [], ◌∷◌, ◌++◌, ◌⊎◌, Option, Some, None, Result, Ok, Err, refl, inl, inr, sym, ap, subst, max}
+use Rattle.std.proofs.Common.{◌≡◌, ℕ, ◌==◌, true, false, List, [], ◌∷◌, ◌++◌, ◌⊎◌, Option, Some, None, Ok, Err, refl, inl, inr, sym, ap, subst}
 use Rattle.std.proofs.Math.Nat.{max-eq_left, max-eq_right, le_of_lt}
 use Rattle.std.proofs.lemmas.Bool.{cases_lt}
-use Rattle.bist_text.specs.Grammar.{word, when, many, is_blank, IsUnexpected, IsTruncated}
+use Rattle.bist_text.specs.Grammar.{IsUnexpected}
 use Rattle.bist_text.specs.Machine.{Holds, Outcome, Answers}
 use Rattle.bist_text.proofs.Machine.{one_value}
-use Rattle.bist_text.proofs.Pieces.{at_byte, neither, same}
+use Rattle.bist_text.proofs.Pieces.{at_byte}
 use Rattle.bist_text.proofs.Settled.{goes_on}
 use Rattle.fault_syntax.specs.declared.reader.ReadItem.{ReadItem}
 use Rattle.fault_syntax.specs.declared.reader.Refusal.{Refusal}
 use Rattle.fault_syntax.specs.declared.reader.Refusal.TheVariants.{Unexpected, Truncated}
 use Rattle.fault_syntax.specs.Adding.{Says}
 use Rattle.fault_syntax.specs.Brief.{read_item_of}
-use Rattle.fault_syntax.specs.ListText.{Item as ListedItem, Primitive, Named, name_text, line_end, item, LineText}
+use Rattle.fault_syntax.specs.ListText.{Item as ListedItem, item, LineText}
 use Rattle.fault_syntax.specs.Places as list
-use Rattle.fault_syntax.specs.PrimText.{ws}
 use Rattle.fault_syntax.proofs.PlaceLaws as places
-use Rattle.dynamic_core.specs.declared.line.ReadLine.{ReadLine}
 use Rattle.dynamic_core.specs.declared.line.ReadLine.TheVariants.{OfList, OfWord}
 use Rattle.dynamic_core.specs.declared.words.DynWord.{DynWord}
 use Rattle.dynamic_core.specs.declared.words.DynWord.TheVariants.{One as DynOne, Two as DynTwo}
 use Rattle.dynamic_core.specs.declared.words.WordPlace.{WordPlace}
 use Rattle.dynamic_core.specs.declared.words.WordPlace.TheVariants.{Start}
-use Rattle.dynamic_core.specs.ItemText.{LineItem, Listed, Worded, word_text, WordText, ItemLine}
-use Rattle.dynamic_core.specs.Reading.{RefusesBy, SaysWord, SaysLine, later_of, read_line_of}
+use Rattle.dynamic_core.specs.ItemText.{LineItem, Listed, Worded, WordText, ItemLine}
+use Rattle.dynamic_core.specs.Reading.{RefusesBy, SaysWord, SaysLine, later_of}
 use Rattle.dynamic_core.specs.Words as words
 use Rattle.dynamic_core.proofs.SideBySide.{Begins, IsOneValued, IsUnion, one_answer, not_read, union_begins, union_one, refused_later, refused_behind, early_left, early_right}
 use Rattle.dynamic_core.proofs.WordLaws.{follows}

@@ -1,5 +1,5 @@
 -- A list with dynamic primitives is read as one list, or refused in one way.
-use Rattle.std.proofs.Common.{◌≡◌, ℕ, ◌+◌, ◌<◌, ◌≤◌, true, List, [], ◌∷◌, ◌++◌, ◌∙◌, ◌⊎◌, length, Option, Some, None, Result, Ok, Err, IfOk, IfErr, MatchResult, refl, sym, ap, subst, append_assoc, length-append, arith, inl, inr, if◌then◌else◌}
+use Rattle.std.proofs.Common.{◌≡◌, ℕ, ◌+◌, ◌<◌, ◌≤◌, List, [], ◌∷◌, ◌++◌, ◌∙◌, ◌⊎◌, length, Option, Some, None, Result, Ok, Err, IfOk, IfErr, MatchResult, refl, sym, ap, subst, append_assoc, length-append, arith, inl, inr, if◌then◌else◌}
 use Rattle.bist_text.specs.Lines.{TextLine, text_lines}
 use Rattle.bist_text.specs.Machine.{Outcome, read, unexpected, truncated, Answers}
 use Rattle.fault_core.specs.declared.primitive.PrimFault.{PrimFault}

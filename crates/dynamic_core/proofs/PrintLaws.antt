@@ -1,12 +1,12 @@
 -- The printed form of a dynamic primitive is a line that stands for it.
-use Rattle.std.proofs.Common.{◌≡◌, ℕ, Bool, true, false, not, List, [], ◌∷◌, ◌++◌, ◌∙◌, Option, Some, None, Ok, refl, inl, ap, subst, sym, append_assoc, arith}
+use Rattle.std.proofs.Common.{◌≡◌, ℕ, Bool, false, not, List, [], ◌∷◌, ◌++◌, ◌∙◌, Option, Some, None, Ok, refl, inl, ap, subst, sym, append_assoc, arith}
 use Rattle.std.specs.Char.{is_newline}
 use Rattle.std.specs.List.{All, list_all}
 use Rattle.std.proofs.Math.Dec.{eqb-suc-zero}
 use Rattle.std.proofs.lemmas.Bool.{and_parts, not-true}
 use Rattle.std.proofs.lemmas.List.Splits.{slice_split_none}
 use Rattle.std.proofs.lemmas.List.Sums.{AllPass-from_list_all}
-use Rattle.bist_text.specs.Grammar.{finish, word, is_blank}
+use Rattle.bist_text.specs.Grammar.{word, is_blank}
 use Rattle.bist_text.specs.Lines.{TextLine, lines_of_parts, text_lines}
 use Rattle.bist_text.proofs.Pieces.{many_none, word_on}
 use Rattle.fault_core.specs.declared.primitive.Act.{Act}

@@ -1,5 +1,5 @@
 -- Two grammars side by side: what is read of their union, and where it is refused.
-use Rattle.std.proofs.Common.{◌≡◌, ℕ, ◌+◌, ◌<◌, ◌≤◌, List, [], ◌∷◌, ◌++◌, ◌∙◌, ◌⊎◌, take, drop, refl, arith, sym, ap, subst, append_assoc, append-nil, inl, inr}
+use Rattle.std.proofs.Common.{◌≡◌, ℕ, ◌+◌, ◌<◌, ◌≤◌, List, [], ◌++◌, ◌∙◌, ◌⊎◌, take, drop, refl, arith, sym, ap, subst, append_assoc, append-nil, inl, inr}
 use Rattle.bist_text.specs.Grammar.{Continues, IsUnexpected, IsTruncated}
 use Rattle.bist_text.specs.Machine.{Outcome, read, unexpected, truncated, Answers}
 use Rattle.bist_text.proofs.Exclusive.{split_at, shorter}

@@ -1,12 +1,11 @@
 -- What the parts of a primitive stand for is one primitive of at most one operation or of two, or none.
-use Rattle.std.proofs.Common.{◌≡◌, ◌≢◌, ◌+◌, ◌<◌, ◌≤◌, ◌⊎◌, ℕ, Bool, true, false, not, List, [], ◌∷◌, ◌∙◌, length, Option, Some, None, is_some, refl, sym, ap, subst, arith, inl, inr}
+use Rattle.std.proofs.Common.{◌≡◌, ◌+◌, ◌<◌, ◌≤◌, ◌⊎◌, ℕ, Bool, true, false, not, List, [], ◌∷◌, ◌∙◌, length, Option, Some, None, is_some, refl, sym, ap, subst, arith, inl, inr}
 use Rattle.fault_core.specs.declared.primitive.Act.{Act}
-use Rattle.fault_core.specs.Primitive.{Primitive, IsPrimitive}
 use Rattle.fault_syntax.specs.declared.reader.Brief.{Brief}
 use Rattle.fault_syntax.specs.declared.words.Operation.{Operation}
 use Rattle.fault_syntax.specs.declared.words.Operation.TheVariants.{Write, Read, Pause}
 use Rattle.fault_syntax.specs.Brief.{brief_of, first_of, second_of}
-use Rattle.fault_syntax.specs.Parts.{IsAct, StandsFor, agg_ops, op_count}
+use Rattle.fault_syntax.specs.Parts.{IsAct, agg_ops, op_count}
 use Rattle.fault_syntax.specs.PrimText.{SenseText, PrimParts}
 use Rattle.fault_syntax.proofs.Judging.{stands_one, one_operation}
 use Rattle.dynamic_core.specs.declared.item.Item.{Item}

@@ -1,11 +1,10 @@
 -- The four laws of the places of a word: what may follow each, by the next byte.
-use Rattle.std.proofs.Common.{◌≡◌, ℕ, ◌==◌, ◌<◌, ◌+◌, Bool, true, false, List, [], ◌∷◌, ◌++◌, ◌∙◌, length, drop, get_or, Option, Some, None, Result, Ok, Err, refl, ◌↔◌, ◌⊎◌, inl, inr, sym, ap, subst}
-use Rattle.bist_text.specs.Grammar.{word, when, is_blank, Continues, IsUnexpected}
+use Rattle.std.proofs.Common.{◌≡◌, ℕ, ◌==◌, ◌<◌, ◌+◌, false, List, [], ◌∷◌, length, drop, get_or, Option, Some, None, Ok, Err, refl, ◌↔◌, inl, sym, ap, subst}
+use Rattle.bist_text.specs.Grammar.{word, when, Continues, IsUnexpected}
 use Rattle.bist_text.specs.Machine.{Holds, Follows, Outcome, unexpected, ended, scan, Answers}
 use Rattle.bist_text.proofs.Pieces.{at_byte, also, skip, stay, neither, same, never}
 use Rattle.bist_text.proofs.Machine.{scan_answers, answers_iff}
 use Rattle.bist_text.proofs.Loops.{scan_on, scan_stop, scan_end}
-use Rattle.fault_syntax.specs.declared.reader.Refusal.{Refusal}
 use Rattle.fault_syntax.specs.declared.reader.Refusal.TheVariants.{Truncated}
 use Rattle.fault_syntax.specs.ListText.{line_end, anything}
 use Rattle.fault_syntax.specs.PrimText.{ws}

@@ -1,7 +1,5 @@
-use Rattle.std.proofs.Common.{subst, sym, Result, Err}
-use Rattle.dynamic_core.specs.declared.line.ReadLine.{ReadLine}
-use Rattle.fault_syntax.specs.declared.reader.Refusal.{Refusal}
-use Rattle.dynamic_core.specs.Reading.{SaysLine, RefusesBy, later_of}
+use Rattle.std.proofs.Common.{subst, sym}
+use Rattle.dynamic_core.specs.Reading.{RefusesBy}
 use Rattle.dynamic_core.specs.ItemText.{ItemLine}
 use Rattle.dynamic_core.proofs.LineReads.{says_item, says_word, says_refusal}
 use Rattle.dynamic_core.proofs.line.read_text.Goals as goal
