@@ -116,8 +116,10 @@ no_item_read b Truncated t v h = t.none v h
 
 both_refuse : (b : List ℕ) (one other : Refusal) → RefusesBy LineText b one → RefusesBy WordText b other → RefusesBy ItemLine b (later_of one other)
 both_refuse b (Unexpected j) (Unexpected k) u w = elim (cases_lt j k) [
-  | inl l ↦ subst (λ (n : ℕ). IsUnexpected ItemLine b n) (sym (max-eq_right (le_of_lt l))) (refused_behind LineText WordText ItemLine on_line as_word line_union list_begins word_begins b j k u w (le_of_lt l))
-  | inr l ↦ subst (λ (n : ℕ). IsUnexpected ItemLine b n) (sym (max-eq_left l)) (refused_later LineText WordText ItemLine on_line as_word line_union list_begins word_begins b j k u w l)
+  | inl l ↦ subst (λ (n : ℕ). IsUnexpected ItemLine b n) (sym (max-eq_right (le_of_lt l)))
+      (refused_behind LineText WordText ItemLine on_line as_word line_union list_begins word_begins b j k u w (le_of_lt l))
+  | inr l ↦ subst (λ (n : ℕ). IsUnexpected ItemLine b n) (sym (max-eq_left l))
+      (refused_later LineText WordText ItemLine on_line as_word line_union list_begins word_begins b j k u w l)
 ]
 both_refuse b (Unexpected j) Truncated u t =
     early_right LineText WordText ItemLine on_line as_word line_union list_begins word_begins b (no_item_read b (Unexpected j) u) t

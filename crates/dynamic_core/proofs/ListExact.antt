@@ -11,7 +11,7 @@ use Rattle.fault_syntax.specs.ListText.{Primitive as OnePrimitive, Named}
 use Rattle.fault_syntax.specs.PrimText.{PrimParts}
 use Rattle.fault_syntax.proofs.ListExact.{compared}
 use Rattle.dynamic_core.specs.declared.item.Item.{Item}
-use Rattle.dynamic_core.specs.ItemParts.{Is, RefusesItem, RefusesItemAt, BringsItems}
+use Rattle.dynamic_core.specs.ItemParts.{IsItem, RefusesItem, RefusesItemAt, BringsItems}
 use Rattle.dynamic_core.specs.Items.{BringAll, ItemRefuses, FirstRefused, ReadsItems}
 use Rattle.dynamic_core.specs.ItemText.{LineItem, Listed, Worded, ItemLine}
 use Rattle.dynamic_core.proofs.LineReads.{line_one, outcome_one}
@@ -57,11 +57,11 @@ refuses_one line text f g h k =
     x.1 ∙ ap (fault_at line) (why_one text x.0 y.0 x.2 y.2) ∙ sym y.1
 
 -- a primitive isn't
-no_why : (text : PrimParts) (item : Item) (why : PrimFault) → Is text item → RefusesItem text why → ⊥
+no_why : (text : PrimParts) (item : Item) (why : PrimFault) → IsItem text item → RefusesItem text why → ⊥
 no_why text item HasTooManyOperations h r = within_two text item h r
 no_why text item IsNotAFault h r = r.1 item h
 
-not_refused : (line : ℕ) (text : PrimParts) (item : Item) (fault : FaultFault) → Is text item → RefusesItemAt line text fault → ⊥
+not_refused : (line : ℕ) (text : PrimParts) (item : Item) (fault : FaultFault) → IsItem text item → RefusesItemAt line text fault → ⊥
 not_refused line text item fault h r = let x = refusal_why line text fault r in no_why text item x.0 h x.2
 
 -- ---- why a line is refused, by the outcome of its text

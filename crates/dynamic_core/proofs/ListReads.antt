@@ -9,7 +9,7 @@ use Rattle.fault_syntax.specs.ListText.{Primitive as OnePrimitive, Named}
 use Rattle.fault_syntax.specs.PrimText.{PrimParts}
 use Rattle.dynamic_core.specs.declared.item.Item.{Item}
 use Rattle.dynamic_core.specs.declared.line.ReadLine.TheVariants.{OfList}
-use Rattle.dynamic_core.specs.ItemParts.{Is, BringsItems}
+use Rattle.dynamic_core.specs.ItemParts.{IsItem, BringsItems}
 use Rattle.dynamic_core.specs.Items.{BringAll}
 use Rattle.dynamic_core.specs.ItemText.{LineItem, Listed, Worded, ItemLine}
 use Rattle.dynamic_core.specs.Reading.{HasNoRoom, AddsItems, NotAdded, read_line_of}
@@ -38,7 +38,7 @@ reading_on lines left l items new v r t a = record {
 
 -- a primitive for which there is no room
 pub one_not_added : (v : Option LineItem) (parts : ReadParts) (item : Item) (line : ℕ) (old : List Item) (r : Result (Unit {0}) FaultFault)
-    → OfList (ReadPrimitive parts) ≡ read_line_of v → ((text : PrimParts) → parts ≡ read_parts_of text → Is text item)
+    → OfList (ReadPrimitive parts) ≡ read_line_of v → ((text : PrimParts) → parts ≡ read_parts_of text → IsItem text item)
     → IfErr r (HasNoRoom old (item ∷ []) line) → IfErr r (NotAdded v line old)
 one_not_added v parts item line old (Ok u) e f h = tt
 one_not_added None parts item line old (Err fault) e f h = cc

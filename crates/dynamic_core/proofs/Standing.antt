@@ -10,7 +10,7 @@ use Rattle.fault_syntax.specs.PrimText.{SenseText, PrimParts}
 use Rattle.fault_syntax.proofs.Judging.{stands_one, one_operation}
 use Rattle.dynamic_core.specs.declared.item.Item.{Item}
 use Rattle.dynamic_core.specs.declared.item.Item.TheVariants.{Plain, Dyn}
-use Rattle.dynamic_core.specs.ItemParts.{AreTwo, AreActs, IsDynamicSense, IsDynamicAggressor, StandsForDynamic, Is, HasTooMany}
+use Rattle.dynamic_core.specs.ItemParts.{AreTwo, AreActs, IsDynamicSense, IsDynamicAggressor, StandsForDynamic, IsItem, HasTooMany}
 use Rattle.dynamic_core.specs.Primitive.{TwoActs, DynamicSense, DynamicPrimitive, IsDynamic, agg_acts, left_by}
 
 -- ---- one reading
@@ -110,14 +110,14 @@ two_operations text p h i =
     go false false m n e f g = cc
 
 -- what is a primitive isn't refused
-pub within_two : (text : PrimParts) (item : Item) → Is text item → HasTooMany text → ⊥
+pub within_two : (text : PrimParts) (item : Item) → IsItem text item → HasTooMany text → ⊥
 within_two text (Plain p) h k =
     let n : op_count text ≤ 1 = one_operation text p h.0 h.1 in
     elim k [ inl m ↦ omega (arith, n, m) | inr m ↦ omega (arith, n, m.0, m.1) ]
 within_two text (Dyn p) h k = (two_operations text p h.0 h.1).1 k
 
 -- parts are one primitive
-pub item_one : (text : PrimParts) (a b : Item) → Is text a → Is text b → a ≡ b
+pub item_one : (text : PrimParts) (a b : Item) → IsItem text a → IsItem text b → a ≡ b
 item_one text (Plain p) (Plain q) h k = ap Plain (stands_one text p q h.0 k.0)
 item_one text (Plain p) (Dyn q) h k = let n = one_operation text p h.0 h.1 in let m = (two_operations text q k.0 k.1).0 in absurd (omega (arith, n, m))
 item_one text (Dyn p) (Plain q) h k = let n = one_operation text q k.0 k.1 in let m = (two_operations text p h.0 h.1).0 in absurd (omega (arith, n, m))

@@ -1,10 +1,10 @@
 -- The four laws of the places of a word: what may follow each, by the next byte.
-use Rattle.std.proofs.Common.{◌≡◌, ℕ, ◌==◌, ◌<◌, ◌+◌, false, List, [], ◌∷◌, length, drop, get_or, Option, Some, None, Ok, Err, refl, ◌↔◌, inl, sym, ap, subst}
+use Rattle.std.proofs.Common.{◌≡◌, ℕ, ◌==◌, ◌<◌, false, List, [], ◌∷◌, length, drop, get_or, Option, Some, None, Ok, Err, refl, ◌↔◌, inl, sym, ap, subst}
 use Rattle.bist_text.specs.Grammar.{word, when, Continues, IsUnexpected}
 use Rattle.bist_text.specs.Machine.{Holds, Follows, Outcome, unexpected, ended, scan, Answers}
 use Rattle.bist_text.proofs.Pieces.{at_byte, also, skip, stay, neither, same, never}
 use Rattle.bist_text.proofs.Machine.{scan_answers, answers_iff}
-use Rattle.bist_text.proofs.Loops.{scan_on, scan_stop, scan_end}
+use Rattle.bist_text.proofs.Loops.{scan_stop, scan_end}
 use Rattle.fault_syntax.specs.declared.reader.Refusal.TheVariants.{Truncated}
 use Rattle.fault_syntax.specs.ListText.{line_end, anything}
 use Rattle.fault_syntax.specs.PrimText.{ws}
@@ -156,9 +156,6 @@ answered b o e = subst (Answers WordText b) e (answers_iff (rest Start) WordText
 -- where a reader stands in a text
 abbrev pub Stands : List ℕ → WordPlace → ℕ → Type 0
 Stands b p i = scan step value b Start 0 ≡ scan step value (drop i b) p i
-
-pub stands_on : (b : List ℕ) (p q : WordPlace) (i : ℕ) → Stands b p i → i < length b → Some q ≡ step p (get_or b i 0) → Stands b q (i + 1)
-stands_on b p q i h l e = scan_on step value b i p q (scan step value b Start 0) l (sym e) h
 
 pub stands_stop : (b : List ℕ) (p : WordPlace) (i : ℕ) → Stands b p i → i < length b → (let o : Option WordPlace = None in o ≡ step p (get_or b i 0)) → IsUnexpected WordText b i
 stands_stop b p i h l e = answered b (unexpected i) (scan_stop step value b i p (scan step value b Start 0) l (sym e) h)

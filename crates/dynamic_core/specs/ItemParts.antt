@@ -45,18 +45,19 @@ pub record StandsForDynamic (text : PrimParts) (p : DynamicPrimitive) : Type 0 w
   pub answer : p.answer ≡ text.answer
 
 -- the written parts are this primitive, of at most one operation or of two
-abbrev pub Is : PrimParts → Item → Type 0
-Is text (Plain p) = StandsFor text p × IsPrimitive p
-Is text (Dyn p) = StandsForDynamic text p × IsDynamic p
+abbrev pub IsItem : PrimParts → Item → Type 0
+IsItem text (Plain p) = StandsFor text p × IsPrimitive p
+IsItem text (Dyn p) = StandsForDynamic text p × IsDynamic p
 
 -- more than two operations, or two in different senses
 abbrev pub HasTooMany : PrimParts → Type 0
 HasTooMany text = (2 < op_count text) ⊎ ((length (agg_ops text.agg) ≡ 1) × (length text.vic.ops ≡ 1))
 
--- why written parts are no primitive: too many operations come first
+-- why written parts are no primitive: too many operations come first; then that they are no static primitive where they have
+-- at most one, and no dynamic one where they have two
 abbrev pub RefusesItem : PrimParts → PrimFault → Type 0
 RefusesItem text HasTooManyOperations = HasTooMany text
-RefusesItem text IsNotAFault = (HasTooMany text → ⊥) × ((item : Item) → Is text item → ⊥)
+RefusesItem text IsNotAFault = (HasTooMany text → ⊥) × ((item : Item) → IsItem text item → ⊥)
 
 -- and on a line
 abbrev pub RefusesItemAt : ℕ → PrimParts → FaultFault → Type 0
@@ -75,6 +76,6 @@ dynamic_of Two = dyn_two_table
 -- the primitives that a line brings
 abbrev pub BringsItems : Option LineItem → List Item → Type 0
 BringsItems None items = items ≡ []
-BringsItems (Some (Listed (OnePrimitive text))) items = (item : Item) × Is text item × (items ≡ item ∷ [])
+BringsItems (Some (Listed (OnePrimitive text))) items = (item : Item) × IsItem text item × (items ≡ item ∷ [])
 BringsItems (Some (Listed (Named n))) items = items ≡ map Plain (primitives_of n)
 BringsItems (Some (Worded w)) items = items ≡ map Dyn (dynamic_of w)

@@ -15,7 +15,7 @@ use Rattle.dynamic_core.specs.declared.item.Item.{Item}
 use Rattle.dynamic_core.specs.declared.line.ReadLine.{ReadLine}
 use Rattle.dynamic_core.specs.declared.line.ReadLine.TheVariants.{OfList, OfWord}
 use Rattle.dynamic_core.specs.declared.words.DynWord.{DynWord}
-use Rattle.dynamic_core.specs.ItemParts.{Is, RefusesItem, RefusesItemAt, BringsItems}
+use Rattle.dynamic_core.specs.ItemParts.{IsItem, RefusesItem, RefusesItemAt, BringsItems}
 use Rattle.dynamic_core.specs.ItemText.{LineItem, Listed, Worded, WordText, ItemLine}
 use Rattle.dynamic_core.specs.Items.{IsItemFault}
 
@@ -53,11 +53,11 @@ GivesLine l (Err fault) = IsItemFault l fault
 
 -- what is made of written parts, and of those on a line
 abbrev pub JudgesItem : PrimParts → Result Item PrimFault → Type 0
-JudgesItem text (Ok item) = Is text item
+JudgesItem text (Ok item) = IsItem text item
 JudgesItem text (Err fault) = RefusesItem text fault
 
 abbrev pub JudgesItemAt : ℕ → PrimParts → Result Item FaultFault → Type 0
-JudgesItemAt line text (Ok item) = Is text item
+JudgesItemAt line text (Ok item) = IsItem text item
 JudgesItemAt line text (Err fault) = RefusesItemAt line text fault
 
 -- there is no room for more primitives, or no memory

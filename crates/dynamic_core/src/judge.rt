@@ -1,8 +1,8 @@
-ghost use Rattle.std.specs.Prelude.{◌≡◌, ◌≤◌, ◌<◌, ◌+◌, ◌↔◌, ◌⊎◌, IsTrue, MatchOption, length, min, Option, option_map};
+ghost use Rattle.std.specs.Prelude.{◌≡◌, ◌≤◌, ◌<◌, ◌+◌, MatchOption, length, min, Option, option_map};
 ghost use Rattle.fault_syntax.specs.Brief.{brief_of, read_parts_of};
-ghost use Rattle.fault_syntax.specs.Parts.{agg_ops, op_count};
+ghost use Rattle.fault_syntax.specs.Parts.{agg_ops};
 ghost use Rattle.fault_syntax.specs.PrimText.{SenseText, PrimParts};
-ghost use Rattle.dynamic_core.specs.ItemParts.{AreTwo, AreActs, HasTooMany, IsDynamicSense, IsDynamicAggressor, StandsForDynamic};
+ghost use Rattle.dynamic_core.specs.ItemParts.{AreTwo, AreActs, IsDynamicSense, IsDynamicAggressor, StandsForDynamic};
 ghost use Rattle.dynamic_core.specs.Primitive.{TwoActs, DynamicSense, DynamicPrimitive, IsDynamic};
 ghost use Rattle.dynamic_core.specs.Reading.{JudgesItem};
 ghost use Rattle.dynamic_core.specs.Testing.{two_acts, acts_in};

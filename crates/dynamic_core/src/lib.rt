@@ -15,3 +15,4 @@ pub use list::read_items;
 pub use primitive::{DynPrim, DynSense};
 pub use print::print_dyn;
 pub use table::{dyn_one, dyn_two};
+pub use words::DynWord;

@@ -1,6 +1,6 @@
-ghost use Rattle.std.specs.Prelude.{◌≡◌, ◌↔◌, IsOk, IfOk, IfErr, length};
-ghost use Rattle.dynamic_core.specs.Primitive.{IsDynamic, TwoActs, agg_acts, left_by, refusal_of, has_aggressor};
-ghost use Rattle.dynamic_core.specs.Testing.{two_acts, acts_in, is_access, fault_by_second, victim_fault, aggressor_fault, fault_by_acts};
+ghost use Rattle.std.specs.Prelude.{◌≡◌, ◌↔◌, IsOk, IfOk, IfErr};
+ghost use Rattle.dynamic_core.specs.Primitive.{IsDynamic, agg_acts, left_by, refusal_of, has_aggressor};
+ghost use Rattle.dynamic_core.specs.Testing.{acts_in, is_access, fault_by_second, fault_by_acts};
 
 use fault_core::{Act, PrimFault};
 use std::marker::Model;

@@ -1,6 +1,6 @@
 ghost use Rattle.std.specs.Prelude.{◌≡◌, ◌≤◌, ◌+◌, ◌++◌, ◌∷◌, [], Some, Ok, length};
 ghost use Rattle.fault_syntax.specs.ListText.{Primitive};
-ghost use Rattle.fault_syntax.specs.PrimText.{PrimParts, bit_text, answer_text};
+ghost use Rattle.fault_syntax.specs.PrimText.{PrimParts};
 ghost use Rattle.dynamic_core.specs.declared.item.Item.TheVariants.{Dyn};
 ghost use Rattle.dynamic_core.specs.ItemParts.{StandsForDynamic};
 ghost use Rattle.dynamic_core.specs.Items.{ReadsItems};

@@ -1,4 +1,4 @@
-ghost use Rattle.std.specs.Prelude.{◌≡◌, ◌≢◌, ◌+◌, ◌≤◌, ◌++◌, false, true, not, Some, None, All, AllPairs, Contains, length, map, IsSome};
+ghost use Rattle.std.specs.Prelude.{◌≡◌, ◌≢◌, ◌+◌, ◌≤◌, ◌++◌, false, true, Some, None, All, AllPairs, Contains, length, map, IsSome};
 ghost use Rattle.std.specs.List.{flat_map};
 ghost use Rattle.fault_core.specs.declared.primitive.Act.{Act};
 ghost use Rattle.dynamic_core.specs.Primitive.{DynamicPrimitive, IsDynamic, TwoActs, AreAccesses, agg_acts, has_aggressor};

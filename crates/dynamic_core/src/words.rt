@@ -7,7 +7,7 @@ use fault_syntax::Refusal;
 
 /// A word of a list that stands for dynamic primitives: `dyn1` for those of one cell, `dyn2` for those of two.
 #[derive(Clone, Copy)]
-pub(crate) enum DynWord {
+pub enum DynWord {
     One,
     Two,
 }
