@@ -3,3 +3,10 @@ pub mod Testing
 pub mod Dynamic
 pub mod Detecting
 pub mod Instances
+pub mod Table
+pub mod ItemText
+pub mod ItemParts
+pub mod Items
+pub mod Printed
+pub mod Words
+pub mod Reading

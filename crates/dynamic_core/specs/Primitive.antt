@@ -1,5 +1,5 @@
 -- Dynamic fault primitives <S/F/R> of two operations, after van de Goor and Al-Ars.
-use Rattle.std.specs.Prelude.{◌≡◌, ◌≢◌, ◌↔◌, Bool, not, ◌&&◌, if◌then◌else◌, Option, Some, None, IsSome, is_some, option_map}
+use Rattle.std.specs.Prelude.{◌≡◌, ◌≢◌, ◌↔◌, Bool, not, ◌&&◌, if◌then◌else◌, Option, Some, None, IsSome, is_some}
 use Rattle.fault_core.specs.declared.primitive.Act.{Act}
 use Rattle.fault_core.specs.declared.primitive.Act.TheVariants.{Write, Read, Pause}
 use Rattle.fault_core.specs.declared.primitive.PrimFault.{PrimFault}

@@ -3,7 +3,7 @@ use Rattle.std.specs.Prelude.{◌≡◌, Bool, true, false, not, ◌&&◌, ◌||
 use Rattle.fault_core.specs.declared.primitive.Act.{Act}
 use Rattle.fault_core.specs.declared.primitive.Act.TheVariants.{Write, Read, Pause}
 use Rattle.fault_core.specs.Primitive.{same_bit}
-use Rattle.dynamic_core.specs.Primitive.{TwoActs, DynamicSense, left_by}
+use Rattle.dynamic_core.specs.Primitive.{TwoActs, left_by}
 
 -- an array has two acts
 abbrev pub HasTwo : Option (List Act) → Type 0

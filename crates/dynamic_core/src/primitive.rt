@@ -1,6 +1,6 @@
-ghost use Rattle.std.specs.Prelude.{◌≡◌, ◌↔◌, IsOk, IfOk, IfErr, length};
-ghost use Rattle.dynamic_core.specs.Primitive.{IsDynamic, TwoActs, agg_acts, left_by, refusal_of, has_aggressor};
-ghost use Rattle.dynamic_core.specs.Testing.{two_acts, acts_in, is_access, fault_by_second, victim_fault, aggressor_fault, fault_by_acts};
+ghost use Rattle.std.specs.Prelude.{◌≡◌, ◌↔◌, IsOk, IfOk, IfErr};
+ghost use Rattle.dynamic_core.specs.Primitive.{IsDynamic, agg_acts, left_by, refusal_of, has_aggressor};
+ghost use Rattle.dynamic_core.specs.Testing.{acts_in, is_access, fault_by_second, fault_by_acts};
 
 use fault_core::{Act, PrimFault};
 use std::marker::Model;
@@ -26,6 +26,16 @@ impl Model for DynSense {
     ghost inverse = { λ s. record { state = s.state; acts = array_of s.acts } };
 
     ghost inverse_ok = { λ s h. array_back (λ acts. record { state = s.state; acts = acts }) s.acts h };
+}
+
+/// A blank of a fixed list: the state 0 alone.
+impl Default for DynSense {
+    fn default() -> Self {
+        DynSense {
+            state: false,
+            acts: None,
+        }
+    }
 }
 
 /// A dynamic fault primitive `<S/F/R>`: after its two operations the victim's state is another than a good
@@ -80,6 +90,24 @@ impl DynPrim {
         })
     }
 
+    /// The dynamic primitive of these parts, which describe a fault.
+    pub(crate) fn of_parts(
+        agg: Option<DynSense>,
+        vic: DynSense,
+        after: bool,
+        answer: Option<bool>,
+    ) -> DynPrim
+        requires { IsDynamic (record { agg = agg; vic = vic; after = after; answer = answer }) }
+        ensures { result ≡ (record { agg = agg; vic = vic; after = after; answer = answer }) }
+    {
+        DynPrim {
+            agg,
+            vic,
+            after,
+            answer,
+        }
+    }
+
     /// What the aggressor holds and does, where there is one.
     pub fn agg(&self) -> Option<DynSense>
         ensures value { result ≡ self.now.agg }
@@ -114,6 +142,17 @@ impl DynPrim {
         ensures { result ≡ has_aggressor self.now }
     {
         self.agg.is_some()
+    }
+}
+
+/// A blank of a fixed list: `<0w0w0/1/->`, first in the table.
+impl Default for DynPrim {
+    fn default() -> Self {
+        let vic = DynSense {
+            state: false,
+            acts: Some([Act::Write(false), Act::Write(false)]),
+        };
+        DynPrim::of_parts(None, vic, true, None)
     }
 }
 
