@@ -1,7 +1,7 @@
 mod NameLaws
-mod PlaceLaws
+pub mod PlaceLaws
 mod Kept
-mod Judging
+pub mod Judging
 mod PrimReads
 mod PrintLaws
 mod ListReads

@@ -179,11 +179,11 @@ passes lines ps fault h n r =
 -- ---- and there is one first line that is refused
 
 -- where two lines stand in a list
-abbrev Compared : List TextLine → TextLine → List TextLine → TextLine → Type 0
+abbrev pub Compared : List TextLine → TextLine → List TextLine → TextLine → Type 0
 Compared a l b m =
     ((a ≡ b) × (l ≡ m)) ⊎ (((rest : List TextLine) × (b ≡ a ++ l ∷ rest)) ⊎ ((rest : List TextLine) × (a ≡ b ++ m ∷ rest)))
 
-compared : (a : List TextLine) (l : TextLine) (c : List TextLine) (b : List TextLine) (m : TextLine) (d : List TextLine) → a ++ l ∷ c ≡ b ++ m ∷ d → Compared a l b m
+pub compared : (a : List TextLine) (l : TextLine) (c : List TextLine) (b : List TextLine) (m : TextLine) (d : List TextLine) → a ++ l ∷ c ≡ b ++ m ∷ d → Compared a l b m
 compared [] l c [] m d e = inl (refl, first_is l c m d e)
   where
     first_is : (l : TextLine) (c : List TextLine) (m : TextLine) (d : List TextLine) → l ∷ c ≡ m ∷ d → l ≡ m

@@ -17,13 +17,19 @@ abbrev pub first_of : List Operation → Option Operation
 first_of [] = None
 first_of (o ∷ os) = Some o
 
+abbrev pub second_of : List Operation → Option Operation
+second_of [] = None
+second_of (o ∷ os) = first_of os
+
+-- whether there are more than two
 abbrev pub has_more : List Operation → Bool
 has_more [] = false
 has_more (o ∷ []) = false
-has_more (o ∷ p ∷ os) = true
+has_more (o ∷ p ∷ []) = false
+has_more (o ∷ p ∷ q ∷ os) = true
 
 abbrev pub brief_of : SenseText → Brief
-brief_of text = record { state = text.state; first = first_of text.ops; more = has_more text.ops }
+brief_of text = record { state = text.state; first = first_of text.ops; second = second_of text.ops; more = has_more text.ops }
 
 abbrev pub reader_of : State → Reader
 reader_of s = record { place = s.place; agg = option_map brief_of s.agg; sense = brief_of s.sense; after = s.after; answer = s.answer; kind = s.kind }

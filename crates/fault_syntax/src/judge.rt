@@ -10,7 +10,7 @@ use crate::words::Operation;
 use fault_core::{Act, Prim, PrimFault, Sense};
 
 /// The act that an operation is; None for a read of another bit than the state.
-fn act_of(state: bool, op: Operation) -> Option<Act>
+pub fn act_of(state: bool, op: Operation) -> Option<Act>
     ensures { MatchOption result ((act : Option Act) → IsAct state op act → ⊥) (λ act. IsAct state op (Some act)) }
 {
     match op {
@@ -47,10 +47,10 @@ fn count_of(brief: Brief) -> u8
     ensures count { (text : SenseText) → brief ≡ brief_of text → result ≡ min 2 (length text.ops) }
     ensures bounded { result ≤ 2 }
 {
-    match brief.first {
-        None => 0,
-        Some(_) if brief.more => 2,
-        Some(_) => 1,
+    match (brief.first, brief.second) {
+        (None, _) => 0,
+        (Some(_), None) => 1,
+        (Some(_), Some(_)) => 2,
     }
 }
 
@@ -65,8 +65,9 @@ fn has_too_many(parts: ReadParts) -> bool
     }
 }
 
-/// The primitive of parts that were read.
-pub(crate) fn judge(parts: ReadParts) -> Result<Prim, PrimFault>
+/// The primitive of parts that were read: F4 where they have more than one operation in all, and else F3 where
+/// they are none of the 50.
+pub fn judge(parts: ReadParts) -> Result<Prim, PrimFault>
     ensures { (text : PrimParts) → parts ≡ read_parts_of text → Judges text result }
 {
     if has_too_many(parts) {

@@ -11,7 +11,9 @@ mod reader;
 mod words;
 
 pub use fault::FaultFault;
-pub use list::read_list;
+pub use judge::{act_of, judge as judge_parts};
+pub use list::{line_item, read_list};
 pub use prim::read_prim;
-pub use print::print_prim;
+pub use print::{answer, bit, print_prim, push_act};
+pub use reader::{Brief, ReadItem, ReadParts, Refusal};
 pub use words::{Name, Operation};

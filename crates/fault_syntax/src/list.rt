@@ -18,7 +18,8 @@ use std::alloc::Global;
 /// The most primitives that a list may have.
 const MOST: usize = 1024;
 
-fn line_item(text: &[u8]) -> Result<ReadItem, Refusal>
+/// Reads the text of a line, without its line feed.
+pub fn line_item(text: &[u8]) -> Result<ReadItem, Refusal>
     ensures { Says text.now result }
 {
     read_item(text, true)

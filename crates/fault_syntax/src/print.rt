@@ -7,14 +7,16 @@ ghost use Rattle.fault_syntax.specs.PrimText.{PrimParts, PrimText, bit_text, ans
 use arrayvec::ArrayString;
 use fault_core::{Act, Prim, Sense};
 
-fn bit(value: bool) -> &'static str
+/// A bit as it is printed: `0` or `1`.
+pub fn bit(value: bool) -> &'static str
     ensures text { result.now ≡ bit_text value }
     ensures short { length result.now ≡ 1 }
 {
     if value { "1" } else { "0" }
 }
 
-fn answer(value: Option<bool>) -> &'static str
+/// An answer as it is printed: `-` where there is none.
+pub fn answer(value: Option<bool>) -> &'static str
     ensures text { result.now ≡ answer_text value }
     ensures short { length result.now ≡ 1 }
 {
@@ -24,7 +26,8 @@ fn answer(value: Option<bool>) -> &'static str
     }
 }
 
-fn push_act(out: &mut ArrayString<32>, state: bool, act: Option<Act>)
+/// Appends an act: `w` with its bit, `r` with the content of the cell before it, or `t`; nothing where there is none.
+pub fn push_act(out: &mut ArrayString<32>, state: bool, act: Option<Act>)
     requires room { length out.old.bytes ≤ 16 }
     ensures text { out.new.bytes ≡ out.old.bytes ++ act_text state act }
     ensures short { length out.new.bytes ≤ length out.old.bytes + 2 }

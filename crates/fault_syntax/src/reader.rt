@@ -7,11 +7,12 @@ ghost use Rattle.fault_syntax.specs.Places.{State, start, step, value, after_eve
 use crate::place::{Event, Kind, Place, is_end, next_move};
 use crate::words::{Name, Operation};
 
-/// What is kept of a sense: of its operations the first, and whether there are more.
+/// What is kept of a written sense: of its operations the first two, and whether there are more.
 #[derive(Clone, Copy)]
-pub(crate) struct Brief {
+pub struct Brief {
     pub state: bool,
     pub first: Option<Operation>,
+    pub second: Option<Operation>,
     pub more: bool,
 }
 
@@ -28,7 +29,7 @@ pub(crate) struct Reader {
 
 /// The parts of a primitive that was read.
 #[derive(Clone, Copy)]
-pub(crate) struct ReadParts {
+pub struct ReadParts {
     pub agg: Option<Brief>,
     pub vic: Brief,
     pub after: bool,
@@ -37,7 +38,7 @@ pub(crate) struct ReadParts {
 
 /// What was read on a line.
 #[derive(Clone, Copy)]
-pub(crate) enum ReadItem {
+pub enum ReadItem {
     Nothing,
     Primitive(ReadParts),
     Named(Name),
@@ -45,7 +46,7 @@ pub(crate) enum ReadItem {
 
 /// Why a text is refused, with the byte.
 #[derive(Clone, Copy)]
-pub(crate) enum Refusal {
+pub enum Refusal {
     Unexpected(usize),
     Truncated,
 }
@@ -57,6 +58,7 @@ impl Brief {
         Brief {
             state,
             first: None,
+            second: None,
             more: false,
         }
     }
@@ -68,6 +70,7 @@ impl Brief {
         Brief {
             state,
             first: Some(Operation::Read(state)),
+            second: None,
             more: false,
         }
     }
@@ -76,12 +79,16 @@ impl Brief {
     fn with(self, op: Operation) -> Brief
         ensures { (text : SenseText) → self ≡ brief_of text → result ≡ brief_of (record { state = text.state; ops = text.ops ++ op ∷ [] }) }
     {
-        match self.first {
-            None => Brief {
+        match (self.first, self.second) {
+            (None, _) => Brief {
                 first: Some(op),
                 ..self
             },
-            Some(_) => Brief { more: true, ..self },
+            (Some(_), None) => Brief {
+                second: Some(op),
+                ..self
+            },
+            (Some(_), Some(_)) => Brief { more: true, ..self },
         }
     }
 }

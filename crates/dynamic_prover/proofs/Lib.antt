@@ -1,0 +1,15 @@
+pub mod Own
+pub mod Passing
+pub mod Crossing
+pub mod Blocks
+pub mod Sized
+pub mod Greedy
+pub mod Wording
+pub mod Alone
+pub mod Tables
+pub mod Rows
+pub mod Searching
+pub mod Ordered
+pub mod Listed
+pub mod Arrays
+pub mod Judged

@@ -1,0 +1,7 @@
+use Rattle.std.proofs.Common.{map, take}
+use Rattle.dynamic_prover.specs.Legs.{leg_end}
+use Rattle.dynamic_prover.specs.Spots.{candidate_at, NonePasses}
+use Rattle.dynamic_prover.proofs.judging.least_at.Given as goal
+
+abbrev pub invariant-loop-pair : goal.invariant-loop-pair
+invariant-loop-pair l = NonePasses leg_end l.legs (map (candidate_at l.spot) (take l.pair-index l.pair-items))

@@ -1,0 +1,8 @@
+pub mod Own
+pub mod Shapes
+pub mod Ways
+pub mod Legs
+pub mod Rows
+pub mod Spots
+pub mod Escapes
+pub mod Verdicts

@@ -1,0 +1,94 @@
+ghost use Rattle.std.specs.Prelude.{ℕ, ◌≡◌, ◌≤◌, false, true, length, MatchOption};
+ghost use Rattle.march_core.specs.March.{IsMarch};
+ghost use Rattle.dynamic_core.specs.Primitive.{has_aggressor};
+ghost use Rattle.dynamic_prover.specs.Shapes.{end_in};
+ghost use Rattle.dynamic_prover.specs.Ways.{least_ways, ways_word};
+ghost use Rattle.dynamic_prover.specs.Legs.{leg_end};
+ghost use Rattle.dynamic_prover.specs.Rows.{AreRows};
+ghost use Rattle.dynamic_prover.specs.Spots.{shape_at, spots_of, candidate_at, candidates_at, candidates_of, passes_by, IsMadeOf, FindsFirst};
+ghost use Rattle.dynamic_prover.specs.Verdicts.{IsDynVerdict, IsDynVerdictAt};
+
+use crate::escape::{DynEscape, DynVerdict};
+use crate::leg::{Leg, legs_of};
+use crate::own_cells::own_cells;
+use crate::row::{Row, least_word, rows_of};
+use crate::spot::{Spot, spots_of};
+use cell_machine::Pair;
+use dynamic_core::DynPrim;
+use march_core::March;
+
+/// The escape in an array with these places and this content of its instance's cells, where it can pass.
+fn escape_from(
+    prim: &DynPrim,
+    legs: &[Leg],
+    rows: &[Row],
+    spot: Spot,
+    pair: Pair,
+) -> Option<DynEscape>
+    requires few { length legs.now ≤ 64 }
+    requires rows { AreRows (shape_at spot) legs.now 0 rows.now }
+    requires each { length rows.now ≡ 65 }
+    ensures { MatchOption result (passes_by leg_end legs.now (candidate_at spot pair) ≡ false)
+        (λ e. (passes_by leg_end legs.now (candidate_at spot pair) ≡ true) × IsMadeOf leg_end legs.now prim.now (candidate_at spot pair) e) }
+{
+    let start = own_cells(pair.a, pair.v, false);
+    if !rows[0].can_from(start) {
+        return None;
+    }
+    Some(DynEscape {
+        prim: *prim,
+        size: spot.size,
+        agg: spot.agg,
+        vic: spot.vic,
+        content: spot.content(pair),
+        directions: least_word(legs, rows, spot.shape(), start),
+    })
+}
+
+/// The least escape in an array with these places.
+fn least_at(prim: &DynPrim, legs: &[Leg], spot: Spot) -> Option<DynEscape>
+    requires { length legs.now ≤ 64 }
+    ensures { FindsFirst leg_end legs.now prim.now (candidates_at spot) result }
+{
+    let rows = rows_of(legs, spot.shape());
+    for pair in spot.starts() {
+        if let Some(escape) = escape_from(prim, legs, &rows, spot, *pair) {
+            return Some(escape);
+        }
+    }
+    None
+}
+
+/// The least escape in all the small arrays, which show every case.
+fn least(march: &March, prim: &DynPrim) -> Option<DynEscape>
+    ensures { FindsFirst (end_in prim.now) march.now prim.now (candidates_of (spots_of (has_aggressor prim.now))) result }
+{
+    let legs = legs_of(march, prim);
+    for spot in spots_of(prim) {
+        if let Some(escape) = least_at(prim, legs.as_slice(), *spot) {
+            return Some(escape);
+        }
+    }
+    None
+}
+
+/// Covered exactly where every placement of one instance, in every array of at least two cells, from every
+/// content and for every choice of directions, is caught; for each single size from 4 the verdict is the same.
+/// Else the least escape of all sizes.
+pub fn judge_dyn(march: &March, prim: &DynPrim) -> DynVerdict
+    ensures verdict { IsDynVerdict march.now prim.now result }
+    ensures each_size { (size : ℕ) → 4 ≤ size → IsDynVerdictAt size march.now prim.now result }
+{
+    recall(march);
+    match least(march, prim) {
+        Some(escape) => DynVerdict::Escape(escape),
+        None => DynVerdict::Covered,
+    }
+}
+
+/// Says as a fact what every march is.
+fn recall(march: &March)
+    ensures { IsMarch march.now }
+{
+    let _elements = march.len();
+}

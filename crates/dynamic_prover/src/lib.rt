@@ -1,0 +1,13 @@
+//! Verdicts on dynamic fault primitives, for arrays of every size.
+#![tactic(auto)]
+
+mod escape;
+mod judging;
+mod leg;
+mod own_cells;
+mod row;
+mod shape;
+mod spot;
+
+pub use escape::{DynEscape, DynVerdict};
+pub use judging::judge_dyn;
