@@ -15,11 +15,11 @@ use Rattle.report.specs.Items.{DetectsItem, IsJudged, AreJudged, item_of, is_cov
 use Rattle.report.specs.Report.{march_line, memory_line, total_line, judged_line, judged_lines, is_in_class, is_covered_in, class_size, class_covered, class_line, class_lines, class_order, report_text, DetectsOf, IsLine, AreLines, AreClassLines, IsMixedReport}
 
 -- what a right verdict says: that the item is detected, where it is covered, and else that it isn't
-abbrev TellsDetects : List MarchElement → Item → Bool → Type 0
+abbrev pub TellsDetects : List MarchElement → Item → Bool → Type 0
 TellsDetects march i true = DetectsItem march i
 TellsDetects march i false = DetectsItem march i → ⊥
 
-tells : (march : List MarchElement) (j : JudgedItem) → IsJudged march j → TellsDetects march (item_of j) (is_covered j)
+pub tells : (march : List MarchElement) (j : JudgedItem) → IsJudged march j → TellsDetects march (item_of j) (is_covered j)
 unfolding is_covered
 tells march (JudgedItem.Plain p Verdict.Covered) h = h
 tells march (JudgedItem.Plain p (Verdict.Escape e)) h = h.2
