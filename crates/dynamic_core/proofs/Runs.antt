@@ -1,19 +1,19 @@
 -- Runs of steps, one part after another.
-use Rattle.std.proofs.Common.{◌≡◌, ℕ, ◌+◌, ◌<◌, ◌≤◌, Bool, true, false, cond, Option, Some, None, List, [], ◌∷◌, ◌++◌, length, get_or, drop, reverse, refl, ap, sym, ◌∙◌}
+use Rattle.std.proofs.Common.{◌≡◌, ℕ, ◌+◌, ◌<◌, ◌≤◌, Bool, true, false, cond, Option, Some, None, List, [], ◌∷◌, ◌++◌, length, drop, reverse, refl, ap, sym, ◌∙◌}
 use Rattle.std.proofs.lemmas.List.{drop_more, drop_all, length-reverse, map-append}
 use Rattle.std.proofs.lemmas.List.FromFn.{length-range_with_len}
 use Rattle.std.specs.List.{range_with_len}
 use Rattle.fault_core.specs.declared.cells.Places.{Places}
 use Rattle.march_core.specs.declared.operation.Op.{Op}
-use Rattle.march_core.specs.March.{MarchElement, pause, element_at, ops_at, is_pause_at}
-use Rattle.march_core.specs.Visits.{Visit, MarchStep, pausing, visiting, Direction, Upward, Downward, cell_visits, address_visits, addresses, element_visits, visits_from, is_down_at, direction_at}
-use Rattle.march_core.proofs.Directions.{directions_from, range_more}
+use Rattle.march_core.specs.March.{MarchElement, pause, element_at}
+use Rattle.march_core.specs.Visits.{MarchStep, pausing, visiting, Direction, Upward, Downward, cell_visits, address_visits, addresses, element_visits, direction_at}
+use Rattle.march_core.proofs.Directions.{range_more}
 use Rattle.array_sim.specs.declared.element_run.Miss.{Miss}
 use Rattle.array_sim.specs.Run.{act_of, is_wrong_of, miss_at}
-use Rattle.array_sim.specs.Addresses.{address_at, direction_of, steps_of}
-use Rattle.array_sim.proofs.Runs.{addresses_rest, visits_rest, element_at-get, pause_visits, sweep_visits, march_rest}
+use Rattle.array_sim.specs.Addresses.{address_at, steps_of}
+use Rattle.array_sim.proofs.Runs.{addresses_rest, visits_rest, element_at-get, march_rest}
 use Rattle.dynamic_core.specs.Primitive.{DynamicPrimitive}
-use Rattle.dynamic_core.specs.Dynamic.{Held, held_as, dyn_step, dyn_answer, after_pause, Ending, Differs, Ends, dyn_run, miss_of, held_of, ending_as}
+use Rattle.dynamic_core.specs.Dynamic.{Held, dyn_step, dyn_answer, after_pause, Ending, Differs, Ends, dyn_run, miss_of, ending_as}
 
 -- one part of a run behind another
 abbrev pub then_run : Ending → (Held → Ending) → Ending
@@ -31,50 +31,6 @@ run_append p at h (visiting x ∷ xs) ys =
         → cond wrong (Differs (miss_at x) next) both ≡ then_run (cond wrong (Differs (miss_at x) next) one) (λ g. dyn_run p at g ys)
     first next true both one e = refl
     first next false both one e = e
-
--- the first visit of a cell's rest
-cell_rest : (p : DynamicPrimitive) (at : Places) (h : Held) (element address n : ℕ) (op : Op) (ops : List Op) → n < length ops → op ≡ get_or ops n op
-    → dyn_run p at h (steps_of (cell_visits element address n (drop n ops)))
-    ≡ cond (is_wrong_of op (dyn_answer p at h address (act_of op)))
-    (Differs (record { element = element; address = address; op = n }) (dyn_step p at h address (act_of op)))
-    (dyn_run p at (dyn_step p at h address (act_of op)) (steps_of (cell_visits element address (n + 1) (drop (n + 1) ops))))
-cell_rest p at h element address n op ops within is =
-    let cut : drop n ops ≡ op ∷ drop (n + 1) ops = drop_more ops n op within ∙ ap (λ o. o ∷ drop (n + 1) ops) (sym is) in
-    ap (λ l. dyn_run p at h (steps_of (cell_visits element address n l))) cut
-
-pub same_held : (cells : List Bool) (armed : Bool) (h : Held) → cells ≡ h.cells → armed ≡ h.armed → held_as cells armed ≡ h
-same_held cells armed h e f = ap (λ c. held_as c armed) e ∙ ap (held_as h.cells) f
-
-pub cell_goes_on : (p : DynamicPrimitive) (at : Places) (h : Held) (cells : List Bool) (armed : Bool) (element address n : ℕ) (op : Op) (ops : List Op) (answer : Option Bool) (whole : Ending)
-    → n < length ops → op ≡ get_or ops n op → cells ≡ (dyn_step p at h address (act_of op)).cells → armed ≡ (dyn_step p at h address (act_of op)).armed
-    → answer ≡ dyn_answer p at h address (act_of op) → is_wrong_of op answer ≡ false
-    → dyn_run p at h (steps_of (cell_visits element address n (drop n ops))) ≡ whole
-    → dyn_run p at (held_as cells armed) (steps_of (cell_visits element address (n + 1) (drop (n + 1) ops))) ≡ whole
-cell_goes_on p at h cells armed element address n op ops answer whole within is cells_are armed_is answer_is right before =
-    let test : is_wrong_of op (dyn_answer p at h address (act_of op)) ≡ false = ap (is_wrong_of op) (sym answer_is) ∙ right in
-    let next : Held = dyn_step p at h address (act_of op) in
-    let rest : Ending = dyn_run p at next (steps_of (cell_visits element address (n + 1) (drop (n + 1) ops))) in
-    ap (λ g. dyn_run p at g (steps_of (cell_visits element address (n + 1) (drop (n + 1) ops)))) (same_held cells armed next cells_are armed_is)
-    ∙ sym (cell_rest p at h element address n op ops within is ∙ ap (λ b. cond b (Differs (record { element = element; address = address; op = n }) next) rest) test)
-    ∙ before
-
-pub cell_stops : (p : DynamicPrimitive) (at : Places) (h : Held) (cells : List Bool) (armed : Bool) (element address n : ℕ) (op : Op) (ops : List Op) (answer : Option Bool) (whole : Ending)
-    → n < length ops → op ≡ get_or ops n op → cells ≡ (dyn_step p at h address (act_of op)).cells → armed ≡ (dyn_step p at h address (act_of op)).armed
-    → answer ≡ dyn_answer p at h address (act_of op) → is_wrong_of op answer ≡ true
-    → dyn_run p at h (steps_of (cell_visits element address n (drop n ops))) ≡ whole
-    → Differs (record { element = element; address = address; op = n }) (held_as cells armed) ≡ whole
-cell_stops p at h cells armed element address n op ops answer whole within is cells_are armed_is answer_is wrong before =
-    let test : is_wrong_of op (dyn_answer p at h address (act_of op)) ≡ true = ap (is_wrong_of op) (sym answer_is) ∙ wrong in
-    let next : Held = dyn_step p at h address (act_of op) in
-    let rest : Ending = dyn_run p at next (steps_of (cell_visits element address (n + 1) (drop (n + 1) ops))) in
-    ap (Differs (record { element = element; address = address; op = n })) (same_held cells armed next cells_are armed_is)
-    ∙ sym (cell_rest p at h element address n op ops within is ∙ ap (λ b. cond b (Differs (record { element = element; address = address; op = n }) next) rest) test)
-    ∙ before
-
-pub cell_ends : (p : DynamicPrimitive) (at : Places) (h : Held) (element address n : ℕ) (ops : List Op) (whole : Ending)
-    → length ops ≤ n → dyn_run p at h (steps_of (cell_visits element address n (drop n ops))) ≡ whole → Ends h ≡ whole
-cell_ends p at h element address n ops whole past before =
-    sym (ap (λ l. dyn_run p at h (steps_of (cell_visits element address n l))) (drop_all n ops past)) ∙ before
 
 -- a part that ended so is followed by the rest
 pub part_goes_on : (p : DynamicPrimitive) (at : Places) (h next : Held) (miss : Option Miss) (part rest steps : List MarchStep) (whole : Ending)
@@ -114,19 +70,10 @@ element_next m word i n within =
     let cut : drop i m ≡ element_at m i ∷ drop (i + 1) m = drop_more m i pause within ∙ ap (λ e. e ∷ drop (i + 1) m) (sym (element_at-get m i pause within)) in
     rw (cut, range_more i (length m) within) refl
 
-pub march_ends : (p : DynamicPrimitive) (at : Places) (h : Held) (m : List MarchElement) (word i n : ℕ) (whole : Ending)
-    → length m ≤ i → dyn_run p at h (march_rest m word i n) ≡ whole → Ends h ≡ whole
-march_ends p at h m word i n whole past before =
-    sym (ap (λ l. dyn_run p at h (visits_from i l (directions_from word i (length m)) n)) (drop_all i m past)) ∙ before
-
 -- an ending by its parts
 pub ending_miss : (miss : Option Miss) (h : Held) → miss ≡ miss_of (ending_as miss h)
 ending_miss None h = refl
 ending_miss (Some miss) h = refl
-
-pub ending_held : (miss : Option Miss) (h : Held) → h ≡ held_of (ending_as miss h)
-ending_held None h = refl
-ending_held (Some miss) h = refl
 
 -- a cell's part, and an element's part
 pub sweep_goes_on : (p : DynamicPrimitive) (at : Places) (h next : Held) (miss : Option Miss) (element address : ℕ) (ops : List Op) (d : Direction) (n place : ℕ) (whole : Ending)

@@ -1,6 +1,7 @@
 pub mod Primitive
 pub mod Testing
 pub mod Dynamic
+pub mod Differing
 pub mod Detecting
 pub mod Instances
 pub mod Table

@@ -1,8 +1,7 @@
 -- The two cells of an instance as an array of their own.
-use Rattle.std.proofs.Common.{◌≡◌, ◌<◌, ℕ, Bool, Option, Some, None, is_some, List, [], ◌∷◌, length, refl, ap, ◌∙◌, arith}
+use Rattle.std.proofs.Common.{◌≡◌, ◌<◌, ℕ, Bool, Option, Some, None, is_some, List, [], ◌∷◌, refl, ap, ◌∙◌, arith}
 use Rattle.std.specs.Prelude.{if◌then◌else◌}
 use Rattle.fault_core.specs.declared.primitive.Act.{Act}
-use Rattle.fault_core.specs.declared.cells.Places.{Places}
 use Rattle.cell_machine.specs.declared.pair.Side.{Side}
 use Rattle.cell_machine.specs.declared.pair.Side.TheVariants.{A, V}
 use Rattle.cell_machine.specs.Seen.{pair_at, place_of}

@@ -1,20 +1,17 @@
 -- Each array has the shape of a small one, which is not after it; and from four cells on each size has every shape.
-use Rattle.std.proofs.Common.{◌≡◌, ◌≢◌, ◌+◌, ◌-◌, ◌<◌, ◌≤◌, ℕ, zero, suc, Bool, true, false, cond, nat_lt, is_some, Option, Some, None, List, [], ◌∷◌, ◌++◌, ◌⊎◌, inl, inr, ⊎_elim, length, refl, ap, sym, subst, ◌∙◌, arith}
+use Rattle.std.proofs.Common.{◌≡◌, ◌≢◌, ◌-◌, ◌<◌, ◌≤◌, ℕ, zero, suc, Bool, true, false, cond, nat_lt, is_some, Option, Some, None, List, ◌⊎◌, inl, inr, ⊎_elim, refl, ap, sym, ◌∙◌, arith}
 use Rattle.std.specs.List.{AllByRecursion}
-use Rattle.std.proofs.lemmas.Bool.{lt-ltb, cases_lt, cases_eq}
+use Rattle.std.proofs.lemmas.Bool.{lt-ltb, cases_lt}
 use Rattle.std.proofs.lemmas.Bool.Decides.{nat_tests}
 use Rattle.std.proofs.lemmas.List.{get_or_past}
 use Rattle.fault_core.specs.declared.cells.Places.{Places}
 use Rattle.fault_core.specs.Cells.{cell}
 use Rattle.cell_machine.specs.declared.pair.Pair.{Pair}
-use Rattle.cell_machine.specs.declared.pair.Side.{Side}
 use Rattle.cell_machine.specs.declared.pair.Side.TheVariants.{A, V}
 use Rattle.cell_machine.specs.Pairs.{pair_of}
-use Rattle.cell_machine.specs.Seen.{pair_at}
 use Rattle.dynamic_core.specs.Primitive.{DynamicSense, DynamicPrimitive, has_aggressor}
 use Rattle.dynamic_core.specs.Detecting.{FitsDynAgg, FitsDyn}
 use Rattle.dynamic_prover.specs.declared.own_cells.OwnCells.{OwnCells}
-use Rattle.dynamic_prover.specs.declared.shape.Shape.{Shape}
 use Rattle.dynamic_prover.specs.declared.spot.Spot.{Spot}
 use Rattle.dynamic_prover.specs.Own.{own_as}
 use Rattle.dynamic_prover.specs.Shapes.{is_some_cell, shape_as, shape_of}

@@ -5,13 +5,12 @@ use Rattle.std.proofs.lemmas.Bool.Decides.{nat_tests}
 use Rattle.std.specs.List.{range_with_len}
 use Rattle.std.specs.Option.{option_and_then}
 use Rattle.march_core.specs.declared.operation.Op.{Op}
-use Rattle.march_core.specs.Visits.{Direction, Upward, Downward, addresses}
+use Rattle.march_core.specs.Visits.{Upward, Downward, addresses}
 use Rattle.cell_machine.specs.declared.pair.Side.{Side}
 use Rattle.cell_machine.specs.declared.pair.Side.TheVariants.{A, V}
 use Rattle.dynamic_core.specs.Primitive.{DynamicPrimitive}
 use Rattle.dynamic_prover.specs.declared.own_cells.OwnCells.{OwnCells}
-use Rattle.dynamic_prover.specs.declared.shape.Shape.{Shape}
-use Rattle.dynamic_prover.specs.Own.{own_run, disarmed}
+use Rattle.dynamic_prover.specs.Own.{own_run}
 use Rattle.dynamic_prover.specs.Shapes.{is_some_cell, shape_as, shape_of, in_direction, other_cells, tags_of, passed, tags_run}
 use Rattle.dynamic_prover.proofs.Passing.{side_at, side_at-aggressor, side_at-victim, side_at-elsewhere, DoesSame}
 use Rattle.dynamic_prover.proofs.Crossing.{other_side, crossing}

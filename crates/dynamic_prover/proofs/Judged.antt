@@ -1,13 +1,12 @@
 -- What the search among the small arrays finds is the verdict for arrays of every size.
-use Rattle.std.proofs.Common.{◌≡◌, ◌≢◌, ◌+◌, ◌<◌, ◌≤◌, ◌^◌, ℕ, Bool, true, false, is_some, Option, Some, None, List, [], ◌∷◌, ◌++◌, ◌⊎◌, inl, inr, ⊎_elim, length, take, drop, refl, ap, sym, subst, ◌∙◌, arith}
+use Rattle.std.proofs.Common.{◌≡◌, ◌+◌, ◌<◌, ◌≤◌, ℕ, Bool, true, false, is_some, Option, Some, None, List, [], ◌∷◌, ◌++◌, ◌⊎◌, inl, inr, ⊎_elim, length, take, drop, refl, ap, sym, subst, ◌∙◌, arith}
 use Rattle.std.specs.List.{AllByRecursion}
 use Rattle.std.specs.Option.{IsSome}
-use Rattle.std.specs.Bool.{IsTrue}
 use Rattle.std.proofs.lemmas.List.{get_or_past}
 use Rattle.fault_core.specs.declared.cells.Places.{Places}
 use Rattle.fault_core.specs.Cells.{cell}
 use Rattle.march_core.specs.March.{MarchElement, IsMarch}
-use Rattle.march_core.specs.Visits.{Direction, is_direction, directions_of, FitsWord}
+use Rattle.march_core.specs.Visits.{Direction, is_direction, directions_of}
 use Rattle.array_sim.specs.declared.element_run.Miss.{Miss}
 use Rattle.cell_machine.specs.declared.pair.Pair.{Pair}
 use Rattle.cell_machine.specs.Seen.{pair_at}
@@ -20,7 +19,7 @@ use Rattle.dynamic_prover.specs.declared.spot.Spot.{Spot}
 use Rattle.dynamic_prover.specs.declared.escape.DynEscape.{DynEscape}
 use Rattle.dynamic_prover.specs.Own.{own_as}
 use Rattle.dynamic_prover.specs.Shapes.{shape_of, end_in}
-use Rattle.dynamic_prover.specs.Ways.{can_pass, least_ways, ways_word}
+use Rattle.dynamic_prover.specs.Ways.{least_ways, ways_word}
 use Rattle.dynamic_prover.specs.Escapes.{DynArray, places_of_array, PassesDyn, address_number, digits_of, order_of_array, IsInOrder, array_of, LeastDyn, digit_of}
 use Rattle.dynamic_prover.specs.Verdicts.{IsDynVerdict}
 use Rattle.dynamic_prover.specs.declared.escape.DynVerdict.TheVariants.{Escape}
@@ -28,7 +27,7 @@ use Rattle.dynamic_prover.specs.Spots.{spots_of, shape_at, content_from, Candida
 use Rattle.dynamic_prover.proofs.Sized.{beside_of, own_start}
 use Rattle.dynamic_prover.proofs.Greedy.{IsNotAfter, Foretells, foretold}
 use Rattle.dynamic_prover.proofs.Wording.{IsFitting, fitting_word, word_least}
-use Rattle.dynamic_prover.proofs.Ordered.{in_order_on, before_in_order, same_in_order, last_in_order, length-content, take-content, blank-content, not_before, no_less}
+use Rattle.dynamic_prover.proofs.Ordered.{in_order_on, before_in_order, length-content, take-content, blank-content, not_before, no_less}
 use Rattle.dynamic_prover.proofs.Listed.{IsIn, all_in, in_split, in_middle, in_candidates, IsListed, listed, order_of, before_behind, start_listed, start_off}
 use Rattle.dynamic_prover.proofs.Arrays.{IsSpotFor, spot_for, FitsIn, fits_in, places_below, IsSmall, is_small, IsLarge, has_large, start_seen}
 

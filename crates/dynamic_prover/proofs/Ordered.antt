@@ -1,5 +1,5 @@
 -- The order of lists of numbers, and the contents of the small arrays in it.
-use Rattle.std.proofs.Common.{◌≡◌, ◌≢◌, ◌+◌, ◌-◌, ◌<◌, ◌≤◌, ℕ, zero, suc, Bool, true, false, cond, ◌&&◌, nat_lt, eqb, Option, Some, None, List, [], ◌∷◌, ◌++◌, ◌⊎◌, inl, inr, ⊎_elim, length, map, take, drop, refl, ap, sym, subst, ◌∙◌, arith}
+use Rattle.std.proofs.Common.{◌≡◌, ◌≢◌, ◌+◌, ◌<◌, ◌≤◌, ℕ, zero, suc, Bool, true, false, cond, ◌&&◌, nat_lt, eqb, Option, Some, None, List, [], ◌∷◌, ◌++◌, ◌⊎◌, inl, inr, ⊎_elim, length, take, drop, refl, ap, sym, subst, ◌∙◌, arith}
 use Rattle.std.specs.List.{AllByRecursion}
 use Rattle.std.proofs.Math.Nat.{eq-or-lt_of_le}
 use Rattle.std.proofs.lemmas.Bool.{eq-eqb, ne_eqb, cases_eq}
@@ -43,10 +43,6 @@ before_in_order (x ∷ xs) (y ∷ ys) us vs e = go (λ h. before_in_order xs ys 
     go rest true t c f h = inl (less t)
     go rest false t true f h = inr (same f, rest h)
     go rest false t false f h = cc
-
-pub same_in_order : (xs : List ℕ) (us vs : List ℕ) → IsInOrder us vs → IsInOrder (xs ++ us) (xs ++ vs)
-same_in_order [] us vs h = h
-same_in_order (x ∷ xs) us vs h = inr (refl, same_in_order xs us vs h)
 
 pub last_in_order : (v w : ℕ) → v ≤ w → IsInOrder (v ∷ []) (w ∷ [])
 last_in_order v w h = ⊎_elim (λ (e : v ≡ w). inr (e, tt)) (λ (l : v < w). inl l) (eq-or-lt_of_le h)

@@ -17,7 +17,7 @@ use Rattle.array_sim.specs.Run.{act_of, is_wrong_of, miss_at}
 use Rattle.array_sim.specs.Addresses.{steps_of}
 use Rattle.cell_machine.specs.declared.pair.Side.{Side}
 use Rattle.cell_machine.specs.declared.pair.Side.TheVariants.{A, V}
-use Rattle.cell_machine.specs.Seen.{pair_at, place_of}
+use Rattle.cell_machine.specs.Seen.{place_of}
 use Rattle.pair_tracker.proofs.Sides.{contains, Distinct, AllBelow, addresses_distinct, addresses_below, addresses_all}
 use Rattle.dynamic_core.specs.Primitive.{DynamicPrimitive}
 use Rattle.dynamic_core.specs.Dynamic.{Held, held_as, dyn_step, dyn_answer, Ending, Differs, Ends, dyn_run}

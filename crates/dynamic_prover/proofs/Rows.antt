@@ -1,5 +1,5 @@
 -- The rows, from the last element to the first, and the walk by them.
-use Rattle.std.proofs.Common.{◌≡◌, ◌≢◌, ◌+◌, ◌-◌, ◌^◌, ◌<◌, ◌≤◌, ℕ, zero, suc, Bool, true, false, cond, not, ◌||◌, Option, Some, None, List, [], ◌∷◌, length, get_or, set, drop, replicate, refl, ap, sym, subst, ◌∙◌, ⊎_elim, arith}
+use Rattle.std.proofs.Common.{◌≡◌, ◌≢◌, ◌+◌, ◌-◌, ◌^◌, ◌<◌, ◌≤◌, ℕ, suc, Bool, true, false, cond, not, ◌||◌, Option, Some, None, List, [], ◌∷◌, length, get_or, set, drop, replicate, refl, ap, sym, ◌∙◌, ⊎_elim, arith}
 use Rattle.std.proofs.lemmas.Bool.{cases_eq}
 use Rattle.std.proofs.lemmas.List.{drop_more, drop_all, get_or-replicate, get_or-set_same, get_or-set_other}
 use Rattle.march_core.specs.Visits.{Direction, Upward, Downward}
@@ -12,7 +12,7 @@ use Rattle.array_sim.specs.Addresses.{direction_of}
 use Rattle.pair_tracker.specs.Tracking.{weight_in}
 use Rattle.dynamic_prover.specs.Ways.{holds_at, ways_at, can_pass, least_ways, ways_word}
 use Rattle.dynamic_prover.specs.Legs.{leg_end}
-use Rattle.dynamic_prover.specs.Rows.{can_from, Tells, AreRows, is_way_up}
+use Rattle.dynamic_prover.specs.Rows.{can_from, AreRows, is_way_up}
 use Rattle.dynamic_prover.proofs.Wording.{word_below}
 
 pub rows_begin : (shape : Shape) (legs : List Leg) (row : Row) → ((q : OwnCells) → can_from row q ≡ true) → length legs ≤ 64 → AreRows shape legs (length legs) (replicate 65 row)
@@ -108,9 +108,6 @@ walk_fits shape legs start word weight rest most is =
     let count : length (least_ways (leg_end shape) legs start) ≤ length legs = length-ways shape legs start in
     let below : ways_word 0 (least_ways (leg_end shape) legs start) < 2 ^ 64 = word_below (least_ways (leg_end shape) legs start) 0 (omega arith) in
     omega arith
-
-pub walk_ends : (shape : Shape) (legs : List Leg) (i : ℕ) (own : OwnCells) → length legs ≤ i → ways_word i (least_ways (leg_end shape) (drop i legs) own) ≡ 0
-walk_ends shape legs i own past = ap (λ l. ways_word i (least_ways (leg_end shape) l own)) (drop_all i legs past)
 
 -- the same with what the code has so far
 pub walk_step : (shape : Shape) (legs : List Leg) (rows : List Row) (start : OwnCells) (i word weight : ℕ) (own : OwnCells) (leg : Leg) (down : Bool) (end : Option OwnCells)

@@ -1,6 +1,6 @@
 -- The search among the small arrays, one after another.
-use Rattle.std.proofs.Common.{◌≡◌, ◌+◌, ◌<◌, ◌≤◌, ℕ, Bool, true, false, Option, Some, None, List, [], ◌∷◌, ◌++◌, length, map, take, drop, get_or, refl, ap, sym, subst, ◌∙◌, append_assoc, append-nil, arith}
-use Rattle.std.specs.List.{AllByRecursion, flat_map}
+use Rattle.std.proofs.Common.{◌≡◌, ◌+◌, ◌<◌, ℕ, true, false, List, [], ◌∷◌, ◌++◌, length, map, take, drop, get_or, refl, ap, sym, subst, ◌∙◌, append_assoc, append-nil, arith}
+use Rattle.std.specs.List.{AllByRecursion}
 use Rattle.std.proofs.lemmas.List.{take_more, drop_more, map-append, take-append-drop}
 use Rattle.cell_machine.specs.declared.pair.Pair.{Pair}
 use Rattle.march_core.specs.March.{MarchElement}
@@ -13,10 +13,10 @@ use Rattle.dynamic_prover.specs.declared.spot.Spot.{Spot}
 use Rattle.dynamic_prover.specs.declared.escape.DynEscape.{DynEscape}
 use Rattle.dynamic_prover.specs.Own.{own_as}
 use Rattle.dynamic_prover.specs.Shapes.{end_in}
-use Rattle.dynamic_prover.specs.Ways.{Leading, can_pass, least_ways, ways_word}
+use Rattle.dynamic_prover.specs.Ways.{can_pass, ways_word}
 use Rattle.dynamic_prover.specs.Legs.{leg_end, AreLegs}
 use Rattle.dynamic_prover.specs.Rows.{can_from, AreRows}
-use Rattle.dynamic_prover.specs.Spots.{shape_at, starts_of, content_from, Candidate, candidate_at, candidates_at, candidates_of, passes_by, IsMadeOf, NonePasses, IsFirstOf, FindsFirst}
+use Rattle.dynamic_prover.specs.Spots.{shape_at, starts_of, Candidate, candidate_at, candidates_at, candidates_of, passes_by, IsMadeOf, NonePasses, IsFirstOf}
 use Rattle.dynamic_prover.proofs.Rows.{blank_row}
 use Rattle.dynamic_prover.proofs.Tables.{can_by_legs, ways_by_legs}
 
@@ -67,9 +67,6 @@ none_by_march p march legs are (c ∷ cs) none = (sym (passes_same p march legs 
 candidates-append : (xs ys : List Spot) → candidates_of (xs ++ ys) ≡ candidates_of xs ++ candidates_of ys
 candidates-append [] ys = refl
 candidates-append (x ∷ xs) ys = ap (λ l. candidates_at x ++ l) (candidates-append xs ys) ∙ sym (append_assoc (candidates_at x) (candidates_of xs) (candidates_of ys))
-
-candidates-one : (x : Spot) (ys : List Spot) → candidates_of (x ∷ ys) ≡ candidates_at x ++ candidates_of ys
-candidates-one x ys = refl
 
 pub none_at_more : (p : DynamicPrimitive) (march : List MarchElement) (legs : List Leg) (spots : List Spot) (i : ℕ) (s blank : Spot) → AreLegs p march legs
     → i < length spots → s ≡ get_or spots i blank

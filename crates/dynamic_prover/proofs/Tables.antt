@@ -1,9 +1,8 @@
 -- The tables lead where the elements of the march lead.
-use Rattle.std.proofs.Common.{◌≡◌, ◌+◌, ◌<◌, ◌≤◌, ℕ, zero, suc, Bool, true, false, cond, ◌||◌, Option, Some, None, List, [], ◌∷◌, ◌++◌, length, take, refl, ap, sym, subst, ◌∙◌, arith}
+use Rattle.std.proofs.Common.{◌≡◌, ◌+◌, ◌<◌, ℕ, Bool, true, false, cond, ◌||◌, Option, Some, None, List, [], ◌∷◌, ◌++◌, length, take, refl, ap, sym, subst, ◌∙◌, arith}
 use Rattle.std.specs.Option.{option_and_then, option_map}
-use Rattle.std.proofs.lemmas.List.{take_more, take_all}
+use Rattle.std.proofs.lemmas.List.{take_more}
 use Rattle.march_core.specs.declared.operation.Op.{Op}
-use Rattle.march_core.specs.declared.operation.Order.{Order}
 use Rattle.march_core.specs.March.{MarchElement, pause, sweep, element_at, order_at, ops_at, is_pause_at}
 use Rattle.march_core.specs.Visits.{Direction, Upward, Downward, allows}
 use Rattle.array_sim.proofs.Runs.{element_at-get, pause_there, sweep_there}
@@ -18,7 +17,7 @@ use Rattle.dynamic_prover.specs.declared.leg.Leg.{Leg}
 use Rattle.dynamic_prover.specs.declared.leg.Leg.TheVariants.{Pause, Sweep}
 use Rattle.dynamic_prover.specs.Own.{own_as, own_run, disarmed}
 use Rattle.dynamic_prover.specs.Shapes.{in_direction, other_cells, one_more, tags_of, passed, tags_run, end_in}
-use Rattle.dynamic_prover.specs.Ways.{Leading, holds_at, ways_at, can_pass, least_ways}
+use Rattle.dynamic_prover.specs.Ways.{holds_at, ways_at, can_pass, least_ways}
 use Rattle.dynamic_prover.specs.Rows.{can_from}
 use Rattle.dynamic_prover.specs.Legs.{passed_where, end_from, ends_on, second_end, sweep_end, leg_end, IsLeg, AreLegs}
 
@@ -134,12 +133,6 @@ legs_more p es ls i l h are is =
     let next : take (i + 1) es ≡ take i es ++ element_at es i ∷ [] =
     take_more es i pause h ∙ ap (λ e. take i es ++ e ∷ []) (sym (element_at-get es i pause h)) in
     subst (λ xs. AreLegs p xs (ls ++ l ∷ [])) (sym next) (one_more_leg p (take i es) ls (element_at es i) l are is)
-
-pub length-legs : (p : DynamicPrimitive) (es : List MarchElement) (ls : List Leg) → AreLegs p es ls → length ls ≡ length es
-length-legs p [] [] are = refl
-length-legs p [] (l ∷ ls) are = absurd are
-length-legs p (e ∷ es) [] are = absurd are
-length-legs p (e ∷ es) (l ∷ ls) are = ap suc (length-legs p es ls are.1)
 
 -- what the tables say of the whole march
 held_same : (f g : OwnCells → Bool) → ((r : OwnCells) → f r ≡ g r) → (o w : Option OwnCells) → o ≡ w → holds_at f o ≡ holds_at g w

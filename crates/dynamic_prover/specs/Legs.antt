@@ -1,5 +1,5 @@
 -- Only helps proofs: the tables of the elements of a march, in which the code looks up where each leads.
-use Rattle.std.specs.Prelude.{◌≡◌, ◌+◌, ◌*◌, ℕ, Bool, true, false, ◌||◌, if◌then◌else◌, nat_lt, Option, Some, None, List, [], ◌∷◌, slice_index_or}
+use Rattle.std.specs.Prelude.{◌≡◌, ◌+◌, ◌*◌, ℕ, Bool, true, false, if◌then◌else◌, Option, Some, None, List, [], ◌∷◌, slice_index_or}
 use Rattle.std.specs.Option.{option_and_then, option_map}
 use Rattle.march_core.specs.March.{MarchElement}
 use Rattle.march_core.specs.Visits.{Direction, Upward, Downward, allows}
@@ -13,7 +13,6 @@ use Rattle.dynamic_prover.specs.declared.leg.Leg.{Leg}
 use Rattle.dynamic_prover.specs.declared.leg.Leg.TheVariants.{Pause, Sweep}
 use Rattle.dynamic_prover.specs.Own.{disarmed}
 use Rattle.dynamic_prover.specs.Shapes.{in_direction, end_in}
-use Rattle.dynamic_prover.specs.Ways.{holds_at}
 
 abbrev pub bit_number : Bool → ℕ
 bit_number true = 1

@@ -1,11 +1,10 @@
 -- Only helps proofs: from which contents of the two cells the rest of a march can still be passed, and the walk that picks the first way.
-use Rattle.std.specs.Prelude.{◌≡◌, ◌+◌, ◌-◌, ◌<◌, ◌≤◌, ◌^◌, ℕ, Bool, true, false, if◌then◌else◌, Option, List, length, drop, slice_index_or, slice_get, IfSome}
-use Rattle.march_core.specs.Visits.{Direction, Upward, Downward}
+use Rattle.std.specs.Prelude.{◌≡◌, ◌≤◌, ℕ, Bool, false, List, length, drop, slice_index_or}
+use Rattle.march_core.specs.Visits.{Upward}
 use Rattle.dynamic_prover.specs.declared.own_cells.OwnCells.{OwnCells}
 use Rattle.dynamic_prover.specs.declared.shape.Shape.{Shape}
 use Rattle.dynamic_prover.specs.declared.leg.Leg.{Leg}
 use Rattle.dynamic_prover.specs.declared.row.Row.{Row}
-use Rattle.dynamic_prover.specs.declared.row.Way.{Way}
 use Rattle.dynamic_prover.specs.Ways.{holds_at, can_pass}
 use Rattle.dynamic_prover.specs.Legs.{own_number, leg_end}
 

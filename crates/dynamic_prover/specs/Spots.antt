@@ -1,10 +1,9 @@
 -- Only helps proofs: the small arrays that show every case, in their order.
-use Rattle.std.specs.Prelude.{◌+◌, ◌-◌, ◌==◌, ◌≡◌, ℕ, zero, suc, Bool, true, false, ◌&&◌, not, if◌then◌else◌, nat_lt, Option, Some, None, List, [], ◌∷◌, ◌++◌, map}
+use Rattle.std.specs.Prelude.{◌+◌, ◌==◌, ◌≡◌, ℕ, zero, suc, Bool, true, false, ◌&&◌, not, if◌then◌else◌, nat_lt, Option, Some, None, List, [], ◌∷◌, ◌++◌, map}
 use Rattle.std.specs.List.{AllByRecursion, flat_map}
 use Rattle.cell_machine.specs.declared.pair.Pair.{Pair}
 use Rattle.cell_machine.specs.Pairs.{pair_of}
 use Rattle.dynamic_core.specs.Primitive.{DynamicPrimitive}
-use Rattle.dynamic_prover.specs.declared.own_cells.OwnCells.{OwnCells}
 use Rattle.dynamic_prover.specs.declared.shape.Shape.{Shape}
 use Rattle.dynamic_prover.specs.declared.spot.Spot.{Spot}
 use Rattle.dynamic_prover.specs.declared.escape.DynEscape.{DynEscape}

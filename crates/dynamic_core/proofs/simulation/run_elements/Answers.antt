@@ -1,6 +1,6 @@
 use Rattle.std.proofs.Common.{arith}
 use Rattle.dynamic_core.specs.Dynamic.{held_as}
-use Rattle.dynamic_core.proofs.Runs.{march_goes_on, march_stops, march_ends}
+use Rattle.dynamic_core.proofs.Runs.{march_goes_on, march_stops}
 use Rattle.dynamic_core.proofs.simulation.run_elements.Goals as goal
 
 pub returns-in-Some : goal.returns-in-Some

@@ -1,7 +1,6 @@
-use Rattle.std.proofs.Common.{◌≡◌, true, refl, sym, ap, ◌∙◌}
+use Rattle.std.proofs.Common.{refl, sym, ap, ◌∙◌}
 use Rattle.dynamic_prover.specs.declared.own_cells.OwnCells.{OwnCells}
 use Rattle.dynamic_prover.specs.declared.shape.Shape.{Shape}
-use Rattle.dynamic_prover.specs.Own.{own_as}
 use Rattle.dynamic_prover.specs.Ways.{can_pass, least_ways, ways_word}
 use Rattle.dynamic_prover.specs.Legs.{leg_end}
 use Rattle.dynamic_prover.specs.Spots.{shape_at}

@@ -1,5 +1,3 @@
-use Rattle.std.proofs.Common.{ap, ◌∙◌}
-use Rattle.dynamic_prover.specs.declared.own_cells.OwnCells.{OwnCells}
 use Rattle.dynamic_prover.specs.Own.{own_run}
 use Rattle.dynamic_prover.proofs.Tables.{eight}
 use Rattle.dynamic_prover.proofs.leg.ends_of.Goals as goal

@@ -1,5 +1,4 @@
-use Rattle.std.proofs.Common.{List, ◌+◌, length, ap, sym, subst, ◌∙◌, arith, take, length-append}
-use Rattle.march_core.specs.March.{MarchElement}
+use Rattle.std.proofs.Common.{List, ◌+◌, length, ap, sym, subst, arith, take, length-append}
 use Rattle.dynamic_prover.specs.declared.leg.Leg.{Leg}
 use Rattle.dynamic_prover.specs.Legs.{AreLegs}
 use Rattle.dynamic_prover.proofs.Tables.{legs_more}

@@ -1,7 +1,4 @@
-use Rattle.std.proofs.Common.{◌≡◌, ◌+◌, ◌<◌, ◌^◌, Option, drop, refl, ap, sym, ◌∙◌, arith}
-use Rattle.dynamic_prover.specs.declared.own_cells.OwnCells.{OwnCells}
-use Rattle.dynamic_prover.specs.Ways.{ways_at, least_ways, ways_word}
-use Rattle.dynamic_prover.specs.Legs.{leg_end}
+use Rattle.std.proofs.Common.{◌+◌, ◌<◌, ◌^◌, drop, refl, arith}
 use Rattle.dynamic_prover.proofs.Rows.{walk_fits, walk_step, walk_stops, walk_goes_on}
 use Rattle.dynamic_prover.proofs.row.least_word.Goals as goal
 

@@ -1,6 +1,5 @@
 use Rattle.std.specs.Prelude.{◌||◌}
 use Rattle.march_core.specs.Visits.{Upward, Downward}
-use Rattle.dynamic_prover.specs.declared.own_cells.OwnCells.{OwnCells}
 use Rattle.dynamic_prover.specs.Ways.{holds_at}
 use Rattle.dynamic_prover.specs.Legs.{leg_end}
 use Rattle.dynamic_prover.specs.Rows.{can_from}
