@@ -1,25 +1,21 @@
 -- What the verdicts tell of the list.
-use Rattle.std.proofs.Common.{◌≡◌, ◌+◌, ◌≤◌, ℕ, suc, Bool, true, false, cond, nat_lt, List, [], ◌∷◌, length, refl, ap, sym, subst, ◌∙◌, arith}
+use Rattle.std.proofs.Common.{◌≡◌, ◌+◌, ◌≤◌, ℕ, suc, Bool, true, false, cond, nat_lt, List, [], ◌∷◌, length, map, refl, ap, sym, subst, ◌∙◌, arith, Option}
+use Rattle.std.specs.List.{AllByRecursion}
+use Rattle.std.proofs.lemmas.List.{length-map}
 use Rattle.std.proofs.lemmas.List.Sums.{count_by-le-length, sum_by-cons}
 use Rattle.std.proofs.lemmas.Bool.Decides.{nat_tests}
-use Rattle.fault_core.specs.Primitive.{Primitive}
 use Rattle.march_core.specs.March.{MarchElement}
-use Rattle.array_sim.specs.Detection.{Detects}
-use Rattle.coverage.specs.declared.verdict.Verdict.{Verdict}
-use Rattle.coverage.specs.declared.verdict.Verdict.TheVariants.{Covered, Escape}
-use Rattle.coverage.specs.Verdicts.{AreVerdicts}
-use Rattle.report.specs.Report.{is_covered, covered_count}
-use Rattle.bist_app.specs.Reported.{SomeEscapes}
+use Rattle.memory_desc.specs.Descriptions.{Description}
+use Rattle.dynamic_core.specs.declared.item.Item.{Item}
+use Rattle.report.specs.declared.judged.JudgedItem.{JudgedItem}
+use Rattle.report.specs.Items.{DetectsItem, IsJudged, AreJudged, item_of, is_covered, covered_count}
+use Rattle.report.specs.Report.{IsMixedReport, total_line}
+use Rattle.report.proofs.Counts.{TellsDetects, tells, counted}
+use Rattle.bist_app.specs.Reported.{SomeEscapes, Reports}
 
-pub one_each : (march : List MarchElement) (ps : List Primitive) (vs : List Verdict) → AreVerdicts march ps vs → length ps ≡ length vs
-one_each march [] [] h = refl
-one_each march [] (v ∷ vs) h = absurd h
-one_each march (p ∷ ps) [] h = absurd h
-one_each march (p ∷ ps) (v ∷ vs) h = ap suc (one_each march ps vs h.1)
-
-behind : (march : List MarchElement) (p : Primitive) (ps : List Primitive) (b : Bool) → Detects march p → SomeEscapes march ps b → SomeEscapes march (p ∷ ps) b
-behind march p ps true d h = (h.0, (suc h.1.0, omega (arith, h.1.1), h.1.2), h.2)
-behind march p ps false d h = (d, h)
+behind : (march : List MarchElement) (i : Item) (items : List Item) (b : Bool) → DetectsItem march i → SomeEscapes march items b → SomeEscapes march (i ∷ items) b
+behind march i items true d h = (h.0, (suc h.1.0, omega (arith, h.1.1), h.1.2), h.2)
+behind march i items false d h = (d, h)
 
 lt_more : (m n : ℕ) → nat_lt (1 + m) (suc n) ≡ nat_lt m n
 lt_more m n = grind (arith, nat_tests)
@@ -27,15 +23,29 @@ lt_more m n = grind (arith, nat_tests)
 lt_here : (m n : ℕ) → m ≤ n → nat_lt (0 + m) (suc n) ≡ true
 lt_here m n h = grind (arith, nat_tests)
 
--- some primitive escapes exactly where fewer verdicts are covered than there are
-pub some_escape : (march : List MarchElement) (ps : List Primitive) (vs : List Verdict) → AreVerdicts march ps vs
-    → SomeEscapes march ps (nat_lt (covered_count vs) (length vs))
-some_escape march [] [] h = tt
-some_escape march [] (v ∷ vs) h = absurd h
-some_escape march (p ∷ ps) [] h = absurd h
-some_escape march (p ∷ ps) (Covered ∷ vs) h =
-    subst (SomeEscapes march (p ∷ ps)) (sym (ap (λ m. nat_lt m (suc (length vs))) (sum_by-cons (λ v. cond (is_covered v) 1 0) Covered vs) ∙ lt_more (covered_count vs) (length vs)))
-    (behind march p ps (nat_lt (covered_count vs) (length vs)) h.0 (some_escape march ps vs h.1))
-some_escape march (p ∷ ps) (Escape e ∷ vs) h =
-    subst (SomeEscapes march (p ∷ ps)) (sym (ap (λ m. nat_lt m (suc (length vs))) (sum_by-cons (λ v. cond (is_covered v) 1 0) (Escape e) vs) ∙ lt_here (covered_count vs) (length vs) (count_by-le-length is_covered vs)))
-    (p, (0, omega arith, refl), h.0.2)
+-- one item before others
+one_before : (march : List MarchElement) (i : Item) (items : List Item) (b : Bool) (m n : ℕ) → TellsDetects march i b → m ≤ n → SomeEscapes march items (nat_lt m n)
+    → SomeEscapes march (i ∷ items) (nat_lt (cond b 1 0 + m) (suc n))
+one_before march i items true m n d le h = subst (SomeEscapes march (i ∷ items)) (sym (lt_more m n)) (behind march i items (nat_lt m n) d h)
+one_before march i items false m n d le h = subst (SomeEscapes march (i ∷ items)) (sym (lt_here m n le)) (i, (0, omega arith, refl), d)
+
+-- some item escapes exactly where fewer are covered than there are
+some_escape : (march : List MarchElement) (js : List JudgedItem) → AllByRecursion (IsJudged march) js
+    → SomeEscapes march (map item_of js) (nat_lt (covered_count js) (length js))
+some_escape march [] h = tt
+some_escape march (j ∷ js) h =
+    subst (λ n. SomeEscapes march (map item_of (j ∷ js)) (nat_lt n (suc (length js)))) (sym (sum_by-cons (λ k. cond (is_covered k) 1 0) j js))
+    (one_before march (item_of j) (map item_of js) (is_covered j) (covered_count js) (length js) (tells march j h.0) (count_by-le-length is_covered js) (some_escape march js h.1))
+
+-- what was written and said of rightly judged items
+pub reports_of : (march : List MarchElement) (memory : Option Description) (js : List JudgedItem) (items : List Item) (found : Bool) (bytes line : List ℕ)
+    → found ≡ nat_lt (covered_count js) (length js) → (AllByRecursion (IsJudged march) js → IsMixedReport bytes march memory (map item_of js))
+    → line ≡ total_line (length js) (covered_count js) → AreJudged march items js → Reports march memory items found bytes line
+reports_of march memory js items found bytes line is_found report is_line h =
+    subst (λ l. Reports march memory l found bytes line) h.in_order record {
+      found = subst (SomeEscapes march (map item_of js)) (sym is_found) (some_escape march js h.each);
+      report = report h.each;
+      covered = covered_count js;
+      detects = counted march js h.each;
+      last = is_line ∙ ap (λ n. total_line n (covered_count js)) (sym (length-map js item_of));
+    }

@@ -36,8 +36,8 @@ sim_answer files words shape =
 judge_answer : (files : Files) (words : Words) → HasOneAnswer (DecidesJudge (Some files) words)
 judge_answer files words =
     then_answer (InputMarch (Some files) words 1) _ (input_march_one files words 1) (λ march.
-    then_answer (InputList (Some files) words 2) _ (input_list_one files words 2) (λ prims.
-    judge_one march prims))
+    then_answer (InputList (Some files) words 2) _ (input_list_one files words 2) (λ items.
+    judge_one march items))
 
 vectors_answer : (files : Files) (words : Words) → HasOneAnswer (DecidesVectors (Some files) words)
 vectors_answer files words =
@@ -50,8 +50,8 @@ compile_answer : (files : Files) (words : Words) → HasOneAnswer (DecidesCompil
 compile_answer files words =
     then_answer (InputMarch (Some files) words 1) _ (input_march_one files words 1) (λ march.
     then_answer (InputMemory (Some files) words 2) _ (input_memory_one files words 2) (λ d.
-    then_answer (InputList (Some files) words 3) _ (input_list_one files words 3) (λ prims.
-    compile_one march d prims)))
+    then_answer (InputList (Some files) words 3) _ (input_list_one files words 3) (λ items.
+    compile_one march d items)))
 
 command_answer : (files : Files) (words : Words) (command : Command) → HasOneAnswer (DecidesCommand (Some files) words command)
 command_answer files words (Command.Sim shape) = sim_answer files words shape

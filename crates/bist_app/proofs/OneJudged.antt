@@ -2,9 +2,9 @@
 use Rattle.std.proofs.Common.{◌≡◌, ◌<◌, ◌+◌, ℕ, zero, suc, Bool, true, false, List, [], ◌∷◌, Option, Result, Ok, Err, inl, inr, refl, sym, ◌∙◌, ap, arith, subst, length, slice_index_or}
 use Rattle.std.specs.List.{AllByRecursion}
 use Rattle.march_core.specs.March.{MarchElement}
-use Rattle.fault_core.specs.Primitive.{Primitive}
+use Rattle.dynamic_core.specs.declared.item.Item.{Item}
 use Rattle.memory_desc.specs.Descriptions.{Description}
-use Rattle.array_sim.specs.Detection.{Detects}
+use Rattle.report.specs.Items.{DetectsItem}
 use Rattle.report.specs.Report.{total_line, DetectsOf}
 use Rattle.bist_endings.specs.declared.ending.Refusal.{Refusal}
 use Rattle.bist_endings.specs.Ending.{found_status}
@@ -18,39 +18,39 @@ all_hold P [] x k h below is = absurd (omega (arith, below))
 all_hold P (y ∷ ys) x zero h below is = subst P is h.0
 all_hold P (y ∷ ys) x (suc k) h below is = all_hold P ys x k h.1 (omega (arith, below)) is
 
-found_one : (march : List MarchElement) (prims : List Primitive) (b c : Bool) → SomeEscapes march prims b → SomeEscapes march prims c → b ≡ c
-found_one march prims true true h i = refl
-found_one march prims false false h i = refl
-found_one march prims true false h i = absurd (h.2 (all_hold (Detects march) prims h.0 h.1.0 i h.1.1 h.1.2))
-found_one march prims false true h i = absurd (i.2 (all_hold (Detects march) prims i.0 i.1.0 h i.1.1 i.1.2))
+found_one : (march : List MarchElement) (items : List Item) (b c : Bool) → SomeEscapes march items b → SomeEscapes march items c → b ≡ c
+found_one march items true true h i = refl
+found_one march items false false h i = refl
+found_one march items true false h i = absurd (h.2 (all_hold (DetectsItem march) items h.0 h.1.0 i h.1.1 h.1.2))
+found_one march items false true h i = absurd (i.2 (all_hold (DetectsItem march) items i.0 i.1.0 h i.1.1 i.1.2))
 
-detects_one : (march : List MarchElement) (prims : List Primitive) (m n : ℕ) → DetectsOf march prims m → DetectsOf march prims n → m ≡ n
+detects_one : (march : List MarchElement) (items : List Item) (m n : ℕ) → DetectsOf march items m → DetectsOf march items n → m ≡ n
 detects_one march [] m n h i = h ∙ sym i
 detects_one march (p ∷ ps) m n (inl (d, k, a, x)) (inl (e, l, b, y)) = x ∙ ap (λ (z : ℕ). 1 + z) (detects_one march ps k l a b) ∙ sym y
 detects_one march (p ∷ ps) m n (inl h) (inr i) = absurd (i.0 h.0)
 detects_one march (p ∷ ps) m n (inr h) (inl i) = absurd (h.0 i.0)
 detects_one march (p ∷ ps) m n (inr h) (inr i) = detects_one march ps m n h.1 i.1
 
-pub reports_one : (march : List MarchElement) (memory : Option Description) (prims : List Primitive) (b c : Bool) (bytes other line said : List ℕ)
-    → Reports march memory prims b bytes line → Reports march memory prims c other said
+pub reports_one : (march : List MarchElement) (memory : Option Description) (items : List Item) (b c : Bool) (bytes other line said : List ℕ)
+    → Reports march memory items b bytes line → Reports march memory items c other said
     → (let a : Answer = record { status = found_status b; line = line } in a) ≡ record { status = found_status c; line = said }
-reports_one march memory prims b c bytes other line said h i =
-    let status = ap found_status (found_one march prims b c h.found i.found) in
-    let lines : line ≡ said = h.last ∙ ap (total_line (length prims)) (detects_one march prims h.covered i.covered h.detects i.detects) ∙ sym i.last in
+reports_one march memory items b c bytes other line said h i =
+    let status = ap found_status (found_one march items b c h.found i.found) in
+    let lines : line ≡ said = h.last ∙ ap (total_line (length items)) (detects_one march items h.covered i.covered h.detects i.detects) ∙ sym i.last in
     λ j. record { status = status j; line = lines j }
 
-pub judge_one : (march : List MarchElement) (prims : List Primitive) → HasOneAnswer (LeavesJudge march prims)
+pub judge_one : (march : List MarchElement) (items : List Item) → HasOneAnswer (LeavesJudge march items)
 unfolding LeavesJudge
-judge_one march prims (Ok d) (Ok e) f g r s = reports_one march _ prims d.found e.found f.bytes g.bytes d.line e.line f.reports g.reports
-judge_one march prims (Ok d) (Err Refusal.NoMemory) f g r s = absurd s
-judge_one march prims (Ok d) (Err other) f g r s = absurd g
-judge_one march prims (Err Refusal.NoMemory) outcome f g r s = absurd r
-judge_one march prims (Err other) outcome f g r s = absurd f
+judge_one march items (Ok d) (Ok e) f g r s = reports_one march _ items d.found e.found f.bytes g.bytes d.line e.line f.reports g.reports
+judge_one march items (Ok d) (Err Refusal.NoMemory) f g r s = absurd s
+judge_one march items (Ok d) (Err other) f g r s = absurd g
+judge_one march items (Err Refusal.NoMemory) outcome f g r s = absurd r
+judge_one march items (Err other) outcome f g r s = absurd f
 
-pub compile_one : (march : List MarchElement) (m : Description) (prims : List Primitive) → HasOneAnswer (LeavesCompile march m prims)
+pub compile_one : (march : List MarchElement) (m : Description) (items : List Item) → HasOneAnswer (LeavesCompile march m items)
 unfolding LeavesCompile
-compile_one march m prims (Ok d) (Ok e) f g r s = reports_one march _ prims d.found e.found f.bytes g.bytes d.line e.line f.reports g.reports
-compile_one march m prims (Ok d) (Err Refusal.NoMemory) f g r s = absurd s
-compile_one march m prims (Ok d) (Err other) f g r s = absurd g
-compile_one march m prims (Err Refusal.NoMemory) outcome f g r s = absurd r
-compile_one march m prims (Err other) outcome f g r s = absurd f
+compile_one march m items (Ok d) (Ok e) f g r s = reports_one march _ items d.found e.found f.bytes g.bytes d.line e.line f.reports g.reports
+compile_one march m items (Ok d) (Err Refusal.NoMemory) f g r s = absurd s
+compile_one march m items (Ok d) (Err other) f g r s = absurd g
+compile_one march m items (Err Refusal.NoMemory) outcome f g r s = absurd r
+compile_one march m items (Err other) outcome f g r s = absurd f

@@ -4,6 +4,7 @@ use Rattle.bist_host.specs.Files.{Files}
 use Rattle.march_core.specs.March.{MarchElement}
 use Rattle.array_sim.specs.declared.element_run.Miss.{Miss}
 use Rattle.fault_core.specs.Primitive.{Primitive}
+use Rattle.dynamic_core.specs.declared.item.Item.{Item}
 use Rattle.memory_desc.specs.Descriptions.{Description}
 use Rattle.bist_endings.specs.declared.ending.Refusal.{Refusal}
 use Rattle.bist_endings.specs.Ending.{Done}
@@ -42,16 +43,16 @@ sim_never files words shape (Ok march, read, (Ok prim, given, (Ok _, stands, (Er
     directions_never (word words 7) march (turned (FitsDirections (word words 7) march) (let x : Result Done Refusal = Err Refusal.Usage in x) e refl is fits)
 sim_never files words shape (Ok march, read, (Ok prim, given, (Ok _, stands, (Ok _, fits, leaves)))) = leaves_never _ leaves
 
-judge_leaves_never : (march : List MarchElement) (prims : List Primitive) → NeverUsage (LeavesJudge march prims)
+judge_leaves_never : (march : List MarchElement) (items : List Item) → NeverUsage (LeavesJudge march items)
 unfolding LeavesJudge
-judge_leaves_never march prims h = h
+judge_leaves_never march items h = h
 
 judge_never : (files : Option Files) (words : Words) → NeverUsage (DecidesJudge files words)
 judge_never files words (Err e, read, is) =
     input_march_never files words 1 (turned (InputMarch files words 1) (let x : Result Done Refusal = Err Refusal.Usage in x) e refl is read)
 judge_never files words (Ok march, read, (Err e, given, is)) =
     input_list_never files words 2 (turned (InputList files words 2) (let x : Result Done Refusal = Err Refusal.Usage in x) e refl is given)
-judge_never files words (Ok march, read, (Ok prims, given, leaves)) = judge_leaves_never march prims leaves
+judge_never files words (Ok march, read, (Ok items, given, leaves)) = judge_leaves_never march items leaves
 
 length_never : (march : List MarchElement) (d : Description) → NeverUsage (FitsLength march d)
 unfolding FitsLength
@@ -70,9 +71,9 @@ vectors_never files words (Ok march, read, (Ok d, given, (Err e, fits, is))) =
     length_never march d (turned (FitsLength march d) (let x : Result Done Refusal = Err Refusal.Usage in x) e refl is fits)
 vectors_never files words (Ok march, read, (Ok d, given, (Ok _, fits, leaves))) = vectors_leaves_never march d leaves
 
-compile_leaves_never : (march : List MarchElement) (d : Description) (prims : List Primitive) → NeverUsage (LeavesCompile march d prims)
+compile_leaves_never : (march : List MarchElement) (d : Description) (items : List Item) → NeverUsage (LeavesCompile march d items)
 unfolding LeavesCompile
-compile_leaves_never march d prims h = h
+compile_leaves_never march d items h = h
 
 compile_never : (files : Option Files) (words : Words) → NeverUsage (DecidesCompile files words)
 compile_never files words (Err e, read, is) =
@@ -81,7 +82,7 @@ compile_never files words (Ok march, read, (Err e, given, is)) =
     input_memory_never files words 2 (turned (InputMemory files words 2) (let x : Result Done Refusal = Err Refusal.Usage in x) e refl is given)
 compile_never files words (Ok march, read, (Ok d, given, (Err e, listed, is))) =
     input_list_never files words 3 (turned (InputList files words 3) (let x : Result Done Refusal = Err Refusal.Usage in x) e refl is listed)
-compile_never files words (Ok march, read, (Ok d, given, (Ok prims, listed, leaves))) = compile_leaves_never march d prims leaves
+compile_never files words (Ok march, read, (Ok d, given, (Ok items, listed, leaves))) = compile_leaves_never march d items leaves
 
 pub never_usage : (files : Option Files) (words : Words) (command : Command) → NeverUsage (DecidesCommand files words command)
 never_usage files words (Command.Sim shape) = sim_never files words shape

@@ -1,11 +1,11 @@
 -- The command `compile MARCH MEMORY FAULTS VERILOG REPORT`: its shape, its checks in their order, and what it leaves. This is
 -- what the program is for: the written bytes spell one module, which tests the described memory by the march whatever its
--- registers hold at first and whatever words return; and the report says of each primitive whether the march detects it in
+-- registers hold at first and whatever words return; and the report says of each item of the list whether the march detects it in
 -- arrays of every size, or gives its least escape.
 use Rattle.std.specs.Prelude.{◌≡◌, ◌≢◌, ℕ, List, [], ◌∷◌, Option, Some, Result, Ok, Err, length, codes}
 use Rattle.bist_host.specs.Files.{Files}
 use Rattle.march_core.specs.March.{MarchElement}
-use Rattle.fault_core.specs.Primitive.{Primitive}
+use Rattle.dynamic_core.specs.declared.item.Item.{Item}
 use Rattle.memory_desc.specs.Descriptions.{Description}
 use Rattle.verilog_tree.specs.Plain.{ModuleTree}
 use Rattle.verilog_tree.specs.Spells.{Spells}
@@ -43,22 +43,22 @@ pub record IsSelfTestText (march : List MarchElement) (d : Description) (text : 
 
 -- The file that the fourth word names has the module's text, and that of the fifth word the report of the list, whose last
 -- line is said.
-pub record IsCompiled (march : List MarchElement) (d : Description) (prims : List Primitive) (done : Done) : Type 0 where
+pub record IsCompiled (march : List MarchElement) (d : Description) (items : List Item) (done : Done) : Type 0 where
   pub text : List ℕ
   pub bytes : List ℕ
   pub tests : IsSelfTestText march d text
-  pub reports : Reports march (Some d) prims done.found bytes done.line
+  pub reports : Reports march (Some d) items done.found bytes done.line
   pub outputs : done.outputs ≡ (record { position = 4; bytes = text }) ∷ (record { position = 5; bytes = bytes }) ∷ []
 
-unfoldable pub LeavesCompile : List MarchElement → Description → List Primitive → Result Done Refusal → Type 0
-LeavesCompile march d prims (Ok done) = IsCompiled march d prims done
-LeavesCompile march d prims (Err Refusal.NoMemory) = Unit {0}
-LeavesCompile march d prims (Err other) = ⊥
+unfoldable pub LeavesCompile : List MarchElement → Description → List Item → Result Done Refusal → Type 0
+LeavesCompile march d items (Ok done) = IsCompiled march d items done
+LeavesCompile march d items (Err Refusal.NoMemory) = Unit {0}
+LeavesCompile march d items (Err other) = ⊥
 
 -- the checks of `compile` in their order
 abbrev pub DecidesCompile : Option Files → Words → Result Done Refusal → Type 0
 DecidesCompile files words =
     Then (InputMarch files words 1) (λ march.
     Then (InputMemory files words 2) (λ d.
-    Then (InputList files words 3) (λ prims.
-    LeavesCompile march d prims)))
+    Then (InputList files words 3) (λ items.
+    LeavesCompile march d items)))

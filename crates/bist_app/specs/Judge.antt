@@ -2,7 +2,7 @@
 use Rattle.std.specs.Prelude.{◌≡◌, ◌≢◌, ℕ, List, [], ◌∷◌, Option, None, Result, Ok, Err, length, codes}
 use Rattle.bist_host.specs.Files.{Files}
 use Rattle.march_core.specs.March.{MarchElement}
-use Rattle.fault_core.specs.Primitive.{Primitive}
+use Rattle.dynamic_core.specs.declared.item.Item.{Item}
 use Rattle.bist_endings.specs.declared.ending.Refusal.{Refusal}
 use Rattle.bist_endings.specs.Ending.{Done}
 use Rattle.bist_endings.specs.Then.{Then}
@@ -20,19 +20,19 @@ pub record IsJudgeShape (words : Words) : Type 0 where
   pub list_not_report : word words 2 ≢ word words 3
 
 -- the report in the file that the third word names, and its last line
-pub record IsJudged (march : List MarchElement) (prims : List Primitive) (done : Done) : Type 0 where
+pub record IsJudged (march : List MarchElement) (items : List Item) (done : Done) : Type 0 where
   pub bytes : List ℕ
-  pub reports : Reports march None prims done.found bytes done.line
+  pub reports : Reports march None items done.found bytes done.line
   pub outputs : done.outputs ≡ (record { position = 3; bytes = bytes }) ∷ []
 
-unfoldable pub LeavesJudge : List MarchElement → List Primitive → Result Done Refusal → Type 0
-LeavesJudge march prims (Ok done) = IsJudged march prims done
-LeavesJudge march prims (Err Refusal.NoMemory) = Unit {0}
-LeavesJudge march prims (Err other) = ⊥
+unfoldable pub LeavesJudge : List MarchElement → List Item → Result Done Refusal → Type 0
+LeavesJudge march items (Ok done) = IsJudged march items done
+LeavesJudge march items (Err Refusal.NoMemory) = Unit {0}
+LeavesJudge march items (Err other) = ⊥
 
 -- the checks of `judge` in their order
 abbrev pub DecidesJudge : Option Files → Words → Result Done Refusal → Type 0
 DecidesJudge files words =
     Then (InputMarch files words 1) (λ march.
-    Then (InputList files words 2) (λ prims.
-    LeavesJudge march prims))
+    Then (InputList files words 2) (λ items.
+    LeavesJudge march items))

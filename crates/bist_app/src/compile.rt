@@ -14,7 +14,7 @@ use bist_bits::NoMemory;
 use bist_endings::{Output, Plan, Refusal, are_plain};
 use bist_host::Host;
 use bist_inputs::{read_list_input, read_march_input, read_memory_input};
-use fault_core::Prim;
+use dynamic_core::Item;
 use march_core::March;
 use memory_desc::Memory;
 use rtl_gen::generate;
@@ -72,11 +72,11 @@ fn compile_outputs(alloc: Global, text: Vec<u8>, report: Vec<u8>) -> Result<Vec<
 }
 
 /// The module and the report as a plan.
-fn compiled(alloc: Global, march: &March, memory: &Memory, prims: &[Prim]) -> Result<Plan, NoMemory>
-    ensures { IfOk result (λ plan. IsCompiled march.now memory.now prims.now (done_of plan)) }
+fn compiled(alloc: Global, march: &March, memory: &Memory, items: &[Item]) -> Result<Plan, NoMemory>
+    ensures { IfOk result (λ plan. IsCompiled march.now memory.now items.now (done_of plan)) }
 {
     let text = module_text(alloc, march, memory)?;
-    let reported = report_list(alloc, march, Some(memory), prims)?;
+    let reported = report_list(alloc, march, Some(memory), items)?;
     let outputs = compile_outputs(alloc, text, reported.bytes)?;
     Ok(Plan {
         found: reported.found,
@@ -91,19 +91,19 @@ fn plan_compile(
     alloc: Global,
     march: &March,
     memory: &Memory,
-    prims: &[Prim],
+    items: &[Item],
 ) -> Result<Plan, Refusal>
     ensures own { IfErr result IsOwnRefusal }
-    ensures answer { LeavesCompile march.now memory.now prims.now (plain result) }
-    ensures outputs { IfOk result (λ plan. IsCompiled march.now memory.now prims.now (done_of plan)) }
+    ensures answer { LeavesCompile march.now memory.now items.now (plain result) }
+    ensures outputs { IfOk result (λ plan. IsCompiled march.now memory.now items.now (done_of plan)) }
 {
-    match compiled(alloc, march, memory, prims) {
+    match compiled(alloc, march, memory, items) {
         Ok(plan) => Ok(plan),
         Err(NoMemory) => Err(Refusal::NoMemory),
     }
 }
 
-/// Compiles a self-test and judges the primitives of a list.
+/// Compiles a self-test and judges the items of a list.
 #[tactic(auto, using(crate::proofs::Causes::own_cause))]
 pub fn decide_compile<H: Host>(alloc: Global, words: &[&str], host: &mut H) -> Result<Plan, Refusal>
     requires { IsCompileShape words.now }
@@ -117,6 +117,6 @@ pub fn decide_compile<H: Host>(alloc: Global, words: &[&str], host: &mut H) -> R
 {
     let march = read_march_input(host, words, 1)?;
     let memory = read_memory_input(host, words, 2)?;
-    let prims = read_list_input(alloc, host, words, 3)?;
-    plan_compile(alloc, &march, &memory, &prims)
+    let items = read_list_input(alloc, host, words, 3)?;
+    plan_compile(alloc, &march, &memory, &items)
 }

@@ -10,7 +10,7 @@ use bist_bits::NoMemory;
 use bist_endings::{Output, Plan, Refusal, are_plain};
 use bist_host::Host;
 use bist_inputs::{read_list_input, read_march_input};
-use fault_core::Prim;
+use dynamic_core::Item;
 use march_core::March;
 use std::alloc::Global;
 
@@ -43,10 +43,10 @@ fn report_output(alloc: Global, bytes: Vec<u8>) -> Result<Vec<Output>, NoMemory>
 }
 
 /// The report as a plan.
-fn judged(alloc: Global, march: &March, prims: &[Prim]) -> Result<Plan, NoMemory>
-    ensures { IfOk result (λ plan. IsJudged march.now prims.now (done_of plan)) }
+fn judged(alloc: Global, march: &March, items: &[Item]) -> Result<Plan, NoMemory>
+    ensures { IfOk result (λ plan. IsJudged march.now items.now (done_of plan)) }
 {
-    let reported = report_list(alloc, march, None, prims)?;
+    let reported = report_list(alloc, march, None, items)?;
     let outputs = report_output(alloc, reported.bytes)?;
     Ok(Plan {
         found: reported.found,
@@ -57,18 +57,18 @@ fn judged(alloc: Global, march: &March, prims: &[Prim]) -> Result<Plan, NoMemory
 
 /// The plan, or want of memory.
 #[tactic(auto, unfolding(crate::specs::Judge::LeavesJudge))]
-fn plan_judge(alloc: Global, march: &March, prims: &[Prim]) -> Result<Plan, Refusal>
+fn plan_judge(alloc: Global, march: &March, items: &[Item]) -> Result<Plan, Refusal>
     ensures own { IfErr result IsOwnRefusal }
-    ensures answer { LeavesJudge march.now prims.now (plain result) }
-    ensures outputs { IfOk result (λ plan. IsJudged march.now prims.now (done_of plan)) }
+    ensures answer { LeavesJudge march.now items.now (plain result) }
+    ensures outputs { IfOk result (λ plan. IsJudged march.now items.now (done_of plan)) }
 {
-    match judged(alloc, march, prims) {
+    match judged(alloc, march, items) {
         Ok(plan) => Ok(plan),
         Err(NoMemory) => Err(Refusal::NoMemory),
     }
 }
 
-/// Judges the primitives of a list.
+/// Judges the items of a list.
 #[tactic(auto, using(crate::proofs::Causes::own_cause))]
 pub fn decide_judge<H: Host>(alloc: Global, words: &[&str], host: &mut H) -> Result<Plan, Refusal>
     requires { IsJudgeShape words.now }
@@ -81,6 +81,6 @@ pub fn decide_judge<H: Host>(alloc: Global, words: &[&str], host: &mut H) -> Res
     ensures cause { HasReadCause (H.files host.old) (Rose (H.read_faults host.old) (H.read_faults host.new)) result }
 {
     let march = read_march_input(host, words, 1)?;
-    let prims = read_list_input(alloc, host, words, 2)?;
-    plan_judge(alloc, &march, &prims)
+    let items = read_list_input(alloc, host, words, 2)?;
+    plan_judge(alloc, &march, &items)
 }

@@ -1,17 +1,16 @@
-//! The verdicts of a list as a report and its last line, which `judge` and `compile` share.
+//! The verdicts on a list as a report and its last line, which `judge` and `compile` share.
 
-ghost use Rattle.std.specs.Prelude.{◌≡◌, IfOk, length};
+ghost use Rattle.std.specs.Prelude.{◌≡◌, IfOk, List, length};
 ghost use Rattle.std.specs.Option.{option_copied};
-ghost use Rattle.coverage.specs.Verdicts.{AreVerdicts};
-ghost use Rattle.report.specs.Report.{total_line, covered_count};
+ghost use Rattle.report.specs.Items.{AreJudged, covered_count};
+ghost use Rattle.report.specs.Report.{total_line};
 ghost use Rattle.bist_app.specs.Reported.{Reports};
 
 use bist_bits::NoMemory;
-use coverage::{Verdict, judge_all};
-use fault_core::Prim;
+use dynamic_core::Item;
 use march_core::March;
 use memory_desc::Memory;
-use report::{count_covered, write_report, write_total};
+use report::{JudgedItem, count_covered, judge_items, write_judged, write_total};
 use std::alloc::Global;
 
 /// A report, its last line, and whether something escapes.
@@ -23,44 +22,42 @@ pub struct Reported {
 }
 
 /// The report's last line.
-fn total(alloc: Global, verdicts: &[Verdict]) -> Result<Vec<u8>, NoMemory>
-    ensures { IfOk result (λ line. line.items ≡ total_line (length verdicts.now) (covered_count verdicts.now)) }
+fn total(alloc: Global, judged: &[JudgedItem]) -> Result<Vec<u8>, NoMemory>
+    ensures { IfOk result (λ line. line.items ≡ total_line (length judged.now) (covered_count judged.now)) }
 {
     let mut line = Vec::new(alloc);
-    write_total(&mut line, verdicts.len(), count_covered(verdicts))?;
+    write_total(&mut line, judged.len(), count_covered(judged))?;
     Ok(line)
 }
 
-/// The report of these verdicts.
+/// The report of these judged items.
 fn report_of(
     alloc: Global,
     march: &March,
     memory: Option<&Memory>,
-    prims: &[Prim],
-    verdicts: &[Verdict],
+    judged: &[JudgedItem],
 ) -> Result<Reported, NoMemory>
-    requires { AreVerdicts march.now prims.now verdicts.now }
-    ensures { IfOk result (λ r. Reports march.now (option_copied memory.entry) prims.now r.found r.bytes.items r.line.items) }
+    ensures { IfOk result (λ r. (items : List Item) → AreJudged march.now items judged.now → Reports march.now (option_copied memory.entry) items r.found r.bytes.items r.line.items) }
 {
-    let bytes = write_report(alloc, march, memory, prims, verdicts)?;
-    let line = total(alloc, verdicts)?;
-    let covered = count_covered(verdicts);
+    let bytes = write_judged(alloc, march, memory, judged)?;
+    let line = total(alloc, judged)?;
+    let covered = count_covered(judged);
     Ok(Reported {
-        found: covered < verdicts.len(),
+        found: covered < judged.len(),
         bytes,
         line,
     })
 }
 
-/// Judges the primitives of a list.
+/// Judges the items of a list.
 pub fn report_list(
     alloc: Global,
     march: &March,
     memory: Option<&Memory>,
-    prims: &[Prim],
+    items: &[Item],
 ) -> Result<Reported, NoMemory>
-    ensures { IfOk result (λ r. Reports march.now (option_copied memory.entry) prims.now r.found r.bytes.items r.line.items) }
+    ensures { IfOk result (λ r. Reports march.now (option_copied memory.entry) items.now r.found r.bytes.items r.line.items) }
 {
-    let verdicts = judge_all(alloc, march, prims)?;
-    report_of(alloc, march, memory, prims, verdicts.as_slice())
+    let judged = judge_items(alloc, march, items)?;
+    report_of(alloc, march, memory, judged.as_slice())
 }

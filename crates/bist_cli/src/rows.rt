@@ -28,7 +28,7 @@ struct Row {
     status: u8,
 }
 
-const ROWS: [Row; 37] = [
+const ROWS: [Row; 44] = [
     Row {
         words: &["sim", "m", "<0w1/0/->", "2", "00", "none", "0", "uud"],
         march: Some(MATS),
@@ -242,9 +242,58 @@ const ROWS: [Row; 37] = [
     Row {
         words: &["judge", "m", "l", "r"],
         march: Some(MATS),
-        list: Some(b"<0w1r1/0/0>"),
+        list: Some(b"<0w1r1w0/1/->"),
         said: b"fault F4 line 1\n",
         status: 5,
+    },
+    Row {
+        words: &["judge", "m", "l", "r"],
+        march: Some(MATS),
+        list: Some(b"dyn1\n<0w1;0r0/1/0>\n"),
+        said: b"fault F4 line 2\n",
+        status: 5,
+    },
+    Row {
+        words: &["judge", "m", "l", "r"],
+        march: Some(MATS),
+        list: Some(b"<0w1r0/0/1>"),
+        said: b"fault F3 line 1\n",
+        status: 5,
+    },
+    Row {
+        words: &["sim", "m", "<0w1r1/0/0>", "2", "00", "none", "0", "uud"],
+        march: Some(MATS),
+        list: None,
+        said: b"fault F4 line 1\n",
+        status: 5,
+    },
+    Row {
+        words: &["judge", "m", "l", "r"],
+        march: Some(b"{any(w0);any(w1,r1)}"),
+        list: Some(b"<0w1r1/0/0>"),
+        said: b"total 1 covered 1 escapes 0\n",
+        status: 0,
+    },
+    Row {
+        words: &["judge", "m", "l", "r"],
+        march: Some(MARCH_C),
+        list: Some(b"dyn1"),
+        said: b"total 30 covered 2 escapes 28\n",
+        status: 1,
+    },
+    Row {
+        words: &["judge", "m", "l", "r"],
+        march: Some(MARCH_C),
+        list: Some(b" dyn2 # two cells\n"),
+        said: b"total 96 covered 8 escapes 88\n",
+        status: 1,
+    },
+    Row {
+        words: &["judge", "m", "l", "r"],
+        march: Some(MARCH_C),
+        list: Some(b"all\nDRF\ndyn1\ndyn2\n"),
+        said: b"total 176 covered 42 escapes 134\n",
+        status: 1,
     },
     Row {
         words: &["judge", "m", "l", "r"],
@@ -307,7 +356,7 @@ fn worked_rows(rt: HostRuntime) -> Result<(), Fail> {
 }
 
 /// A march, a list, and the report's lines behind its first.
-const REPORTS: [(&[u8], &[u8], &[u8]); 5] = [
+const REPORTS: [(&[u8], &[u8], &[u8]); 8] = [
     (
         MARCH_C,
         b"one",
@@ -374,6 +423,42 @@ escape <1;0w0/1/-> CFwd aggressor 0 victim 1 content 00 directions uuuddu
 escape <1;1w1/0/-> CFwd aggressor 0 victim 1 content 00 directions uuuddu
 class CFwd 4 covered 0
 total 4 covered 0 escapes 4
+",
+    ),
+    (
+        b"{any(w0);up(w1);down(r1);up(w0);down(w1);up(r1)}",
+        b"<0w1r1/0/0>",
+        b"march {any(w0);up(w1);down(r1);up(w0);down(w1);up(r1)}
+escape <0w1r1/0/0> DYN1 cells 3 aggressor none victim 1 content 000 directions uududu
+class DYN1 1 covered 0
+total 1 covered 0 escapes 1
+",
+    ),
+    (
+        MARCH_C,
+        b"DRF\n<1w0r0/1/1>\nSF\n<0r0w1;0/1/->\n<1w0r0/1/1>\n",
+        b"march {any(w0);up(r0,w1);up(r1,w0);down(r0,w1);down(r1,w0);any(r0)}
+escape <0t/1/-> DRF aggressor none victim 0 content 00 directions uuuddu
+escape <1t/0/-> DRF aggressor none victim 0 content 00 directions uuuddu
+escape <1w0r0/1/1> DYN1 cells 2 aggressor none victim 0 content 00 directions uuuddd
+covered <0/1/-> SF
+covered <1/0/-> SF
+covered <0r0w1;0/1/-> DYN2
+escape <1w0r0/1/1> DYN1 cells 2 aggressor none victim 0 content 00 directions uuuddd
+class SF 2 covered 2
+class DRF 2 covered 0
+class DYN1 2 covered 0
+class DYN2 1 covered 1
+total 7 covered 3 escapes 4
+",
+    ),
+    (
+        MATS,
+        b"<0;0w1r1/0/0>",
+        b"march {any(w0);up(r0,w1);down(r1,w0)}
+escape <0;0w1r1/0/0> DYN2 cells 2 aggressor 0 victim 1 content 00 directions uud
+class DYN2 1 covered 0
+total 1 covered 0 escapes 1
 ",
     ),
 ];
@@ -635,6 +720,24 @@ fn a_compilation_with_an_escape(rt: HostRuntime) -> Result<(), Fail> {
     assert_eq!(rt; host.said(), b"total 1 covered 0 escapes 1\n".as_slice());
     assert_eq!(rt; host.get("r").ok_or("a report")?, FIVE_REPORT);
     assert!(rt; host.get("v").is_some());
+    Ok(())
+}
+
+const DYNAMIC_REPORT: &[u8] = b"march {any(w0);up(r0,w1);up(r1,w0);down(r0,w1);down(r1,w0);any(r0)}
+memory buf0 words 16 bits 1 backgrounds 1 commands 160
+escape <1w0r0/1/1> DYN1 cells 2 aggressor none victim 0 content 00 directions uuuddd
+covered <0r0w1/0/-> DYN1
+class DYN1 2 covered 1
+total 2 covered 1 escapes 1
+";
+
+#[test]
+fn a_compilation_with_dynamic_primitives(rt: HostRuntime) -> Result<(), Fail> {
+    let mut host = with_inputs(rt.alloc())?;
+    host.put("l", b"<1w0r0/1/1>\n<r0w1/0/->\n")?;
+    assert_eq!(rt; run(rt.alloc(), &COMPILE, &mut host).status, 1);
+    assert_eq!(rt; host.said(), b"total 2 covered 1 escapes 1\n".as_slice());
+    assert_eq!(rt; host.get("r").ok_or("a report")?, DYNAMIC_REPORT);
     Ok(())
 }
 

@@ -4,7 +4,8 @@ use Rattle.bist_host.specs.Files.{Files, IsTooLarge}
 use Rattle.fault_core.specs.Primitive.{Primitive}
 use Rattle.fault_syntax.specs.declared.fault.FaultFault.{FaultFault}
 use Rattle.fault_syntax.proofs.OneOutcome.{prim_one as prim_reads_one}
-use Rattle.fault_syntax.proofs.ListExact.{list_one as list_reads_one}
+use Rattle.dynamic_core.specs.declared.item.Item.{Item}
+use Rattle.dynamic_core.proofs.ListExact.{list_one as list_reads_one}
 use Rattle.march_core.specs.declared.fault.MarchFault.{MarchFault}
 use Rattle.march_core.specs.March.{MarchElement}
 use Rattle.march_syntax.proofs.OneOutcome.{reads_one as march_reads_one}
@@ -125,13 +126,13 @@ prim_one bytes (Err (Refusal.Fault d)) (Err (Refusal.Fault e)) f g r s = prim_re
 prim_one bytes (Err (Refusal.Fault d)) (Err other) f g r s = absurd g
 prim_one bytes (Err other) outcome f g r s = absurd f
 
-list_alike : (q r : Result (List Primitive) FaultFault) (m n : List Primitive) → q ≡ Ok m → r ≡ Ok n → q ≡ r → (let x : Result (List Primitive) Refusal = Ok m in x) ≡ Ok n
+list_alike : (q r : Result (List Item) FaultFault) (m n : List Item) → q ≡ Ok m → r ≡ Ok n → q ≡ r → (let x : Result (List Item) Refusal = Ok m in x) ≡ Ok n
 list_alike q r m n x y h = cc
 
-list_refused_alike : (q r : Result (List Primitive) FaultFault) (e f : FaultFault) → q ≡ Err e → r ≡ Err f → q ≡ r → (let x : Result (List Primitive) Refusal = Err (Refusal.Fault e) in x) ≡ Err (Refusal.Fault f)
+list_refused_alike : (q r : Result (List Item) FaultFault) (e f : FaultFault) → q ≡ Err e → r ≡ Err f → q ≡ r → (let x : Result (List Item) Refusal = Err (Refusal.Fault e) in x) ≡ Err (Refusal.Fault f)
 list_refused_alike q r e f x y h = cc
 
-list_never_both : (q r : Result (List Primitive) FaultFault) (m : List Primitive) (f : FaultFault) → q ≡ Ok m → r ≡ Err f → q ≡ r → ⊥
+list_never_both : (q r : Result (List Item) FaultFault) (m : List Item) (f : FaultFault) → q ≡ Ok m → r ≡ Err f → q ≡ r → ⊥
 list_never_both q r m f x y h = cc
 
 list_one : (bytes : List ℕ) → HasOneOutcome (GivesList bytes)

@@ -2,7 +2,7 @@
 use Rattle.std.proofs.Common.{◌≡◌, List, ℕ, Option, Some, None, Result, Ok, Err, subst, refl}
 use Rattle.bist_host.specs.Files.{Files}
 use Rattle.march_core.specs.March.{MarchElement}
-use Rattle.fault_core.specs.Primitive.{Primitive}
+use Rattle.dynamic_core.specs.declared.item.Item.{Item}
 use Rattle.memory_desc.specs.Descriptions.{Description}
 use Rattle.bist_endings.specs.declared.ending.Refusal.{Refusal}
 use Rattle.bist_endings.specs.Words.{Words, word}
@@ -43,7 +43,7 @@ pub input_list_never : (files : Option Files) (words : Words) (position : ℕ) �
 unfolding InputList
 input_list_never files words position (Ok bytes, read, list) = list_never bytes list
 input_list_never files words position (Err e, read, is) =
-    bytes_never files (word words position) position (turned (GivesBytes files (word words position) position) (let x : Result (List Primitive) Refusal = Err Refusal.Usage in x) e refl is read)
+    bytes_never files (word words position) position (turned (GivesBytes files (word words position) position) (let x : Result (List Item) Refusal = Err Refusal.Usage in x) e refl is read)
 
 memory_never : (bytes : List ℕ) → NeverUsage (GivesMemory bytes)
 unfolding GivesMemory

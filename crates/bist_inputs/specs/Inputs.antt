@@ -5,7 +5,8 @@ use Rattle.march_core.specs.March.{MarchElement}
 use Rattle.march_syntax.specs.Answers.{Reads as ReadsMarch}
 use Rattle.fault_core.specs.Primitive.{Primitive}
 use Rattle.fault_syntax.specs.Answers.{ReadsPrim}
-use Rattle.fault_syntax.specs.Lists.{ReadsList}
+use Rattle.dynamic_core.specs.declared.item.Item.{Item}
+use Rattle.dynamic_core.specs.Items.{ReadsItems}
 use Rattle.bist_endings.specs.declared.ending.Refusal.{Refusal}
 use Rattle.bist_endings.specs.Then.{Then}
 use Rattle.bist_endings.specs.Words.{Words, word}
@@ -56,13 +57,13 @@ GivesPrim bytes (Ok prim) = ReadsPrim bytes (Ok prim)
 GivesPrim bytes (Err (Refusal.Fault fault)) = ReadsPrim bytes (Err fault)
 GivesPrim bytes (Err other) = ⊥
 
--- the primitives that the lines of a list bring, or the first line that is refused
-unfoldable pub GivesList : List ℕ → Result (List Primitive) Refusal → Type 0
-GivesList bytes (Ok prims) = ReadsList bytes (Ok prims)
-GivesList bytes (Err (Refusal.Fault fault)) = ReadsList bytes (Err fault)
+-- the items that the lines of a list bring, or the first line that is refused
+unfoldable pub GivesList : List ℕ → Result (List Item) Refusal → Type 0
+GivesList bytes (Ok items) = ReadsItems bytes (Ok items)
+GivesList bytes (Err (Refusal.Fault fault)) = ReadsItems bytes (Err fault)
 GivesList bytes (Err Refusal.NoMemory) = Unit {0}
 GivesList bytes (Err other) = ⊥
 
--- the primitives of the list that a word names
-unfoldable pub InputList : Option Files → Words → ℕ → Result (List Primitive) Refusal → Type 0
+-- the items of the list that a word names
+unfoldable pub InputList : Option Files → Words → ℕ → Result (List Item) Refusal → Type 0
 InputList files words position = Then (GivesBytes files (word words position) position) GivesList

@@ -1,5 +1,5 @@
-//! What the input files and texts of a command give: the bytes of a named file, its march, its list of primitives or
-//! its memory, or the refusal of the first check that does not pass.
+//! What the input files and texts of a command give: the bytes of a named file, its march, its list of items or its
+//! memory, or the refusal of the first check that does not pass.
 #![tactic(auto)]
 
 mod inputs;

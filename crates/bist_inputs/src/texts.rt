@@ -1,14 +1,15 @@
 ghost use Rattle.std.specs.Prelude.{◌≡◌, ◌<◌, ◌≤◌, ◌⊎◌, IfErr, Err, length};
 ghost use Rattle.bist_host.specs.Files.{Rose};
-ghost use Rattle.fault_syntax.specs.Lists.{ReadsList};
+ghost use Rattle.dynamic_core.specs.Items.{ReadsItems};
 ghost use Rattle.bist_endings.specs.Then.{items_of};
 ghost use Rattle.bist_inputs.specs.Inputs.{GivesPrim, GivesList, HasReadCause, InputList, IsOwnRefusal};
 
 use crate::inputs::read_input;
 use bist_endings::Refusal;
 use bist_host::Host;
+use dynamic_core::{Item, read_items};
 use fault_core::Prim;
-use fault_syntax::{FaultFault, read_list, read_prim};
+use fault_syntax::{FaultFault, read_prim};
 use std::alloc::Global;
 
 /// The primitive of a word.
@@ -26,7 +27,7 @@ pub fn give_prim(text: &[u8]) -> Result<Prim, Refusal>
 /// Why a list is refused; want of memory is no refusal of a list.
 #[tactic(auto, unfolding(crate::specs::Inputs::GivesList))]
 fn list_refusal(bytes: &[u8], fault: FaultFault) -> Refusal
-    requires { (fault ≡ FaultFault.NoMemory) ⊎ ReadsList bytes.now (Err fault) }
+    requires { (fault ≡ FaultFault.NoMemory) ⊎ ReadsItems bytes.now (Err fault) }
     ensures answer { GivesList bytes.now (Err result) }
     ensures own { IsOwnRefusal result }
 {
@@ -36,26 +37,26 @@ fn list_refusal(bytes: &[u8], fault: FaultFault) -> Refusal
     Refusal::Fault(fault)
 }
 
-/// The primitives of a list.
+/// The items of a list.
 #[tactic(auto, unfolding(crate::specs::Inputs::GivesList))]
-fn give_list(alloc: Global, bytes: &[u8]) -> Result<Vec<Prim>, Refusal>
+fn give_list(alloc: Global, bytes: &[u8]) -> Result<Vec<Item>, Refusal>
     ensures answer { GivesList bytes.now (items_of result) }
     ensures own { IfErr result IsOwnRefusal }
 {
-    match read_list(alloc, bytes) {
-        Ok(prims) => Ok(prims),
+    match read_items(alloc, bytes) {
+        Ok(items) => Ok(items),
         Err(fault) => Err(list_refusal(bytes, fault)),
     }
 }
 
-/// The primitives of the list that a word names.
+/// The items of the list that a word names.
 #[tactic(auto, using(crate::proofs::Causes::own_cause), unfolding(crate::specs::Inputs::InputList))]
 pub fn read_list_input<H: Host>(
     alloc: Global,
     host: &mut H,
     words: &[&str],
     position: usize,
-) -> Result<Vec<Prim>, Refusal>
+) -> Result<Vec<Item>, Refusal>
     requires { position < length words.now }
     ensures files { H.files host.new ≡ H.files host.old }
     ensures said { H.said host.new ≡ H.said host.old }

@@ -9,6 +9,7 @@ use bist_bits::{Bits, all_ones, concat, parity, select, width_of};
 use bist_text::{ByteSet, Cursor, Lines, decimal, hex, put_decimal, put_hex};
 use cell_machine::{Pair, Side, act, close};
 use coverage::{Verdict, judge, judge_all};
+use dynamic_core::Item;
 use escape_array::{EscapeArray, least, replays};
 use fault_core::{
     Act, Class, Places, Prim, PrimFault, Sense, class_of, close_cells, members, one_cell, step,
@@ -18,7 +19,7 @@ use march_core::{MarchBuilder, MarchFault, Op, Order, is_down};
 use march_syntax::read_march;
 use memory_desc::read_memory;
 use pair_tracker::{Placement, Survivor, survivors};
-use report::{count_covered, write_report, write_total};
+use report::{count_covered, judge_items, write_judged, write_mixed, write_total};
 use scrambler::{Dependence, Matrix, Scramble, invert};
 use std::test::Fail;
 use verilog_tree::{BinOp, Expr, Known, Name, is_name, value};
@@ -234,8 +235,12 @@ fn verdicts_and_reports(rt: HostRuntime) -> Result<(), Fail> {
     let prims = [keeps_zero, keeps_one];
     let verdicts = judge_all(rt.alloc(), &march, &prims)?;
     assert_eq!(rt; verdicts.len(), 2);
-    assert_eq!(rt; count_covered(&verdicts), 1);
-    let text = write_report(rt.alloc(), &march, None, &prims, &verdicts)?;
+    let items = [Item::Plain(keeps_zero), Item::Plain(keeps_one)];
+    let judged = judge_items(rt.alloc(), &march, &items)?;
+    assert_eq!(rt; count_covered(&judged), 1);
+    let text = write_judged(rt.alloc(), &march, None, &judged)?;
+    assert_eq!(rt; text.as_slice(), REPORT);
+    let text = write_mixed(rt.alloc(), &march, None, &items)?;
     assert_eq!(rt; text.as_slice(), REPORT);
     let mut total = Vec::new(rt.alloc());
     write_total(&mut total, 5, 3)?;

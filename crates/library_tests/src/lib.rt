@@ -6,6 +6,8 @@
 #[cfg(test)]
 mod calls;
 #[cfg(test)]
+mod dynamic_rows;
+#[cfg(test)]
 mod hosts;
 #[cfg(test)]
 mod retention_rows;

@@ -6,11 +6,12 @@ ghost use Rattle.std.specs.Prelude.{◌≡◌, None, IsSome, IfOk};
 use array_sim::{Instance, simulate};
 use cell_machine::{Pair, pause};
 use coverage::{Verdict, judge_all};
-use fault_core::{Act, Class, Prim, PrimFault, Sense, members, one_cell, retention};
+use dynamic_core::read_items;
+use fault_core::{Act, Prim, PrimFault, Sense, retention};
 use march_syntax::read_march;
 use memory_desc::read_memory;
 use pair_tracker::{Placement, Summary, Survivor};
-use report::write_report;
+use report::write_mixed;
 use std::test::Fail;
 
 const MATS_PLUS: &[u8] = b"{any(w0);up(r0,w1);down(r1,w0)}";
@@ -145,10 +146,8 @@ total 12 covered 8 escapes 4
 #[test]
 fn classes_are_counted(rt: HostRuntime) -> Result<(), Fail> {
     let march = read_march(MARCH_C)?;
-    let prims = one_cell();
-    let verdicts = judge_all(rt.alloc(), &march, &prims)?;
-    assert_eq!(rt; verdicts.len(), 12);
-    let text = write_report(rt.alloc(), &march, None, &prims, &verdicts)?;
+    let items = read_items(rt.alloc(), b"one").ok().ok_or("a list")?;
+    let text = write_mixed(rt.alloc(), &march, None, &items)?;
     assert_eq!(rt; text.as_slice(), REPORT);
     Ok(())
 }
@@ -165,16 +164,8 @@ total 2 covered 2 escapes 0
 fn a_memory_has_a_line(rt: HostRuntime) -> Result<(), Fail> {
     let march = read_march(MARCH_C)?;
     let memory = read_memory(b"memory 1\nname buf0\nwords 16\nbits 1\n")?;
-    let prims = members(Class::SF);
-    let verdicts = judge_all(rt.alloc(), &march, prims.as_slice())?;
-    assert_eq!(rt; verdicts.len(), prims.len());
-    let text = write_report(
-        rt.alloc(),
-        &march,
-        Some(&memory),
-        prims.as_slice(),
-        &verdicts,
-    )?;
+    let items = read_items(rt.alloc(), b"SF").ok().ok_or("a list")?;
+    let text = write_mixed(rt.alloc(), &march, Some(&memory), &items)?;
     assert_eq!(rt; text.as_slice(), WITH_A_MEMORY);
     Ok(())
 }

@@ -1,72 +1,107 @@
--- The lines and the counts of right verdicts are those of the primitives that the march detects.
-use Rattle.std.proofs.Common.{◌≡◌, ◌+◌, ℕ, Bool, true, false, cond, ◌&&◌, Option, List, [], ◌∷◌, length, refl, sym, subst, ◌∙◌, inl, inr, zero-add, Result, Ok, Err, Vec, Global}
-use Rattle.std.specs.List.{filter}
-use Rattle.std.specs.Prelude.{IfOk}
+-- The lines and the counts of right verdicts are those of the items that the march detects.
+use Rattle.std.proofs.Common.{◌≡◌, ◌+◌, ℕ, Bool, true, false, cond, ◌&&◌, Option, List, [], ◌∷◌, ◌++◌, length, map, refl, ap, sym, subst, ◌∙◌, inl, inr, zero-add, Result, Ok, Err, Vec, Global}
+use Rattle.std.specs.List.{filter, AllByRecursion}
+use Rattle.std.specs.Prelude.{IfOk, count_by}
+use Rattle.std.proofs.lemmas.List.{map-append, length-map}
 use Rattle.std.proofs.lemmas.List.Sums.{sum_by-cons}
-use Rattle.fault_core.specs.declared.table.Class.{Class}
-use Rattle.fault_core.specs.Primitive.{Primitive}
 use Rattle.march_core.specs.March.{MarchElement}
 use Rattle.memory_desc.specs.Descriptions.{Description}
 use Rattle.coverage.specs.declared.verdict.Verdict.{Verdict}
-use Rattle.coverage.specs.declared.verdict.Verdict.TheVariants.{Covered, Escape}
-use Rattle.coverage.specs.Verdicts.{IsVerdict, AreVerdicts}
-use Rattle.report.specs.Report.{verdict_line, verdict_lines, is_covered, covered_count, is_in_class, class_covered, class_lines, class_order, report_text, DetectsOf, IsLine, AreLines, AreClassLines, IsReport}
+use Rattle.dynamic_core.specs.declared.item.Item.{Item}
+use Rattle.dynamic_prover.specs.declared.escape.DynVerdict.{DynVerdict}
+use Rattle.report.specs.declared.class_lines.ItemClass.{ItemClass}
+use Rattle.report.specs.declared.judged.JudgedItem.{JudgedItem}
+use Rattle.report.specs.Items.{DetectsItem, IsJudged, AreJudged, item_of, is_covered, covered_count}
+use Rattle.report.specs.Report.{march_line, memory_line, total_line, judged_line, judged_lines, is_in_class, is_covered_in, class_size, class_covered, class_line, class_lines, class_order, report_text, DetectsOf, IsLine, AreLines, AreClassLines, IsMixedReport}
 
-pub counted : (march : List MarchElement) (ps : List Primitive) (vs : List Verdict) → AreVerdicts march ps vs → DetectsOf march ps (covered_count vs)
-counted march [] [] h = refl
-counted march [] (v ∷ vs) h = absurd h
-counted march (p ∷ ps) [] h = absurd h
-counted march (p ∷ ps) (Covered ∷ vs) h =
-    inl (h.0, covered_count vs, counted march ps vs h.1, sum_by-cons (λ v. cond (is_covered v) 1 0) Covered vs)
-counted march (p ∷ ps) (Escape e ∷ vs) h =
-    let same : covered_count (Escape e ∷ vs) ≡ covered_count vs = sum_by-cons (λ v. cond (is_covered v) 1 0) (Escape e) vs ∙ zero-add (covered_count vs) in
-    inr (h.0.2, subst (DetectsOf march ps) (sym same) (counted march ps vs h.1))
+-- what a right verdict says: that the item is detected, where it is covered, and else that it isn't
+abbrev pub TellsDetects : List MarchElement → Item → Bool → Type 0
+TellsDetects march i true = DetectsItem march i
+TellsDetects march i false = DetectsItem march i → ⊥
+
+pub tells : (march : List MarchElement) (j : JudgedItem) → IsJudged march j → TellsDetects march (item_of j) (is_covered j)
+unfolding is_covered
+tells march (JudgedItem.Plain p Verdict.Covered) h = h
+tells march (JudgedItem.Plain p (Verdict.Escape e)) h = h.2
+tells march (JudgedItem.Dyn p DynVerdict.Covered) h = h
+tells march (JudgedItem.Dyn p (DynVerdict.Escape e)) h = h.2
+
+-- one item more, of some that may count
+one_detected : (march : List MarchElement) (i : Item) (items : List Item) (b : Bool) (n : ℕ) → TellsDetects march i b → DetectsOf march items n
+    → DetectsOf march (i ∷ items) (cond b 1 0 + n)
+one_detected march i items true n h rest = inl (h, n, rest, refl)
+one_detected march i items false n h rest = inr (h, subst (DetectsOf march items) (sym (zero-add n)) rest)
+
+pub counted : (march : List MarchElement) (js : List JudgedItem) → AllByRecursion (IsJudged march) js → DetectsOf march (map item_of js) (covered_count js)
+counted march [] h = refl
+counted march (j ∷ js) h =
+    subst (DetectsOf march (map item_of (j ∷ js))) (sym (sum_by-cons (λ k. cond (is_covered k) 1 0) j js))
+    (one_detected march (item_of j) (map item_of js) (is_covered j) (covered_count js) (tells march j h.0) (counted march js h.1))
+
+-- and where the item counts only if it is of a class
+filtered : (march : List MarchElement) (i : Item) (items : List Item) (b d : Bool) (n : ℕ) → TellsDetects march i d → DetectsOf march items n
+    → DetectsOf march (cond b (i ∷ items) items) (cond (b && d) 1 0 + n)
+filtered march i items true d n h rest = one_detected march i items d n h rest
+filtered march i items false d n h rest = subst (DetectsOf march items) (sym (zero-add n)) rest
 
 -- the same of a class
-class_counted : (march : List MarchElement) (c : Class) (ps : List Primitive) (vs : List Verdict) → AreVerdicts march ps vs
-    → DetectsOf march (filter (is_in_class c) ps) (class_covered c ps vs)
-class_counted march c [] [] h = refl
-class_counted march c [] (v ∷ vs) h = absurd h
-class_counted march c (p ∷ ps) [] h = absurd h
-class_counted march c (p ∷ ps) (v ∷ vs) h = go (is_in_class c p) v h.0 (class_counted march c ps vs h.1)
-  where
-    go : (b : Bool) (w : Verdict) → IsVerdict march p w → DetectsOf march (filter (is_in_class c) ps) (class_covered c ps vs)
-        → DetectsOf march (cond b (p ∷ filter (is_in_class c) ps) (filter (is_in_class c) ps)) (cond (b && is_covered w) 1 0 + class_covered c ps vs)
-    go true Covered k rest = inl (k, class_covered c ps vs, rest, refl)
-    go true (Escape e) k rest = inr (k.2, subst (DetectsOf march (filter (is_in_class c) ps)) (sym (zero-add (class_covered c ps vs))) rest)
-    go false w k rest = subst (DetectsOf march (filter (is_in_class c) ps)) (sym (zero-add (class_covered c ps vs))) rest
+class_counted : (march : List MarchElement) (c : ItemClass) (js : List JudgedItem) → AllByRecursion (IsJudged march) js
+    → DetectsOf march (filter (is_in_class c) (map item_of js)) (class_covered c js)
+class_counted march c [] h = refl
+class_counted march c (j ∷ js) h =
+    subst (DetectsOf march (filter (is_in_class c) (map item_of (j ∷ js)))) (sym (sum_by-cons (λ k. cond (is_covered_in c k) 1 0) j js))
+    (filtered march (item_of j) (filter (is_in_class c) (map item_of js)) (is_in_class c (item_of j)) (is_covered j) (class_covered c js) (tells march j h.0)
+    (class_counted march c js h.1))
 
-line : (march : List MarchElement) (p : Primitive) (v : Verdict) → IsVerdict march p v → IsLine march p (verdict_line (length march) p v)
-line march p Covered h = inl (h, refl)
-line march p (Escape e) h = inr (h.2, e, h.0, h.1, refl)
+-- the same of one item more
+all_behind : {X : Type 0} (P : X → Type 0) (xs : List X) (x : X) → AllByRecursion P xs → P x → AllByRecursion P (xs ++ x ∷ [])
+all_behind P [] x h p = (p, tt)
+all_behind P (y ∷ ys) x h p = (h.0, all_behind P ys x h.1 p)
 
-lines : (march : List MarchElement) (ps : List Primitive) (vs : List Verdict) → AreVerdicts march ps vs → AreLines march ps (verdict_lines (length march) ps vs)
-lines march [] [] h = refl
-lines march [] (v ∷ vs) h = absurd h
-lines march (p ∷ ps) [] h = absurd h
-lines march (p ∷ ps) (v ∷ vs) h =
-    (verdict_line (length march) p v, verdict_lines (length march) ps vs, line march p v h.0, lines march ps vs h.1, refl)
+pub one_judged : (march : List MarchElement) (items : List Item) (js : List JudgedItem) (j : JudgedItem) → AreJudged march items js → IsJudged march j
+    → AreJudged march (items ++ item_of j ∷ []) (js ++ j ∷ [])
+one_judged march items js j h right = record {
+  each = all_behind (IsJudged march) js j h.each right;
+  in_order = map-append item_of js (j ∷ []) ∙ ap (λ l. l ++ item_of j ∷ []) h.in_order;
+}
 
-classes : (march : List MarchElement) (ps : List Primitive) (vs : List Verdict) → AreVerdicts march ps vs → (cs : List Class)
-    → AreClassLines march ps cs (class_lines cs ps vs)
-classes march ps vs h [] = refl
-classes march ps vs h (c ∷ cs) = (class_covered c ps vs, class_lines cs ps vs, class_counted march c ps vs h, classes march ps vs h cs, refl)
+-- how many items are of a class, counted among the judged ones
+pub class_size_of : (c : ItemClass) (js : List JudgedItem) → count_by (λ j. is_in_class c (item_of j)) js ≡ class_size c (map item_of js)
+class_size_of c [] = refl
+class_size_of c (j ∷ js) =
+    sum_by-cons (λ k. cond (is_in_class c (item_of k)) 1 0) j js ∙ ap (λ n. cond (is_in_class c (item_of j)) 1 0 + n) (class_size_of c js)
+    ∙ sym (sum_by-cons (λ i. cond (is_in_class c i) 1 0) (item_of j) (map item_of js))
 
-pub report_is : (march : List MarchElement) (memory : Option Description) (ps : List Primitive) (vs : List Verdict) → AreVerdicts march ps vs
-    → IsReport (report_text march memory ps vs) march memory ps
-report_is march memory ps vs h = record {
-  lines = verdict_lines (length march) ps vs;
-  classes = class_lines class_order ps vs;
-  covered = covered_count vs;
-  are_lines = lines march ps vs h;
-  are_classes = classes march ps vs h class_order;
-  detects = counted march ps vs h;
-  is = refl;
+line : (march : List MarchElement) (j : JudgedItem) → IsJudged march j → IsLine march (item_of j) (judged_line (length march) j)
+line march (JudgedItem.Plain p Verdict.Covered) h = inl (h, refl)
+line march (JudgedItem.Plain p (Verdict.Escape e)) h = inr (h.2, _, (e, h.0, h.1, refl), refl)
+line march (JudgedItem.Dyn p DynVerdict.Covered) h = inl (h, refl)
+line march (JudgedItem.Dyn p (DynVerdict.Escape e)) h = inr (h.2, _, (e, h.0, h.1, refl), refl)
+
+lines : (march : List MarchElement) (js : List JudgedItem) → AllByRecursion (IsJudged march) js → AreLines march (map item_of js) (judged_lines (length march) js)
+lines march [] h = refl
+lines march (j ∷ js) h = (judged_line (length march) j, judged_lines (length march) js, line march j h.0, lines march js h.1, refl)
+
+classes : (march : List MarchElement) (js : List JudgedItem) → AllByRecursion (IsJudged march) js → (cs : List ItemClass)
+    → AreClassLines march (map item_of js) cs (class_lines cs js)
+classes march js h [] = refl
+classes march js h (c ∷ cs) = (class_covered c js, class_lines cs js, class_counted march c js h, classes march js h cs, refl)
+
+pub report_is : (march : List MarchElement) (memory : Option Description) (js : List JudgedItem) → AllByRecursion (IsJudged march) js
+    → IsMixedReport (report_text march memory js) march memory (map item_of js)
+report_is march memory js h = record {
+  lines = judged_lines (length march) js;
+  classes = class_lines class_order js;
+  covered = covered_count js;
+  are_lines = lines march js h;
+  are_classes = classes march js h class_order;
+  detects = counted march js h;
+  is = ap (λ n. march_line march ++ memory_line march memory ++ judged_lines (length march) js ++ class_lines class_order js ++ total_line n (covered_count js)) (sym (length-map js item_of));
 }
 
 -- the same of what the code wrote, if it found memory
-pub written_report : {E : Type 0} (march : List MarchElement) (memory : Option Description) (ps : List Primitive) (vs : List Verdict) (result : Result (Vec ℕ Global) E)
-    → IfOk result (λ text. text.items ≡ report_text march memory ps vs)
-    → IfOk result (λ text. AreVerdicts march ps vs → IsReport text.items march memory ps)
-written_report march memory ps vs (Ok text) is = λ verdicts. subst (λ bytes. IsReport bytes march memory ps) (sym is) (report_is march memory ps vs verdicts)
-written_report march memory ps vs (Err e) is = is
+pub written_report : {E : Type 0} (march : List MarchElement) (memory : Option Description) (js : List JudgedItem) (result : Result (Vec ℕ Global) E)
+    → IfOk result (λ text. text.items ≡ report_text march memory js)
+    → IfOk result (λ text. AllByRecursion (IsJudged march) js → IsMixedReport text.items march memory (map item_of js))
+written_report march memory js (Ok text) is = λ right. subst (λ bytes. IsMixedReport bytes march memory (map item_of js)) (sym is) (report_is march memory js right)
+written_report march memory js (Err e) is = is

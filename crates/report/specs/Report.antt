@@ -1,10 +1,9 @@
--- The report of verdicts: the march, the memory where there is one, one line for each primitive, one for each class that
+-- The report of verdicts: the march, the memory where there is one, one line for each item of the list, one for each class that
 -- occurs, and the total. Every line ends with a line feed.
-use Rattle.std.specs.Prelude.{◌≡◌, ◌-◌, ◌+◌, ◌++◌, ◌&&◌, ◌==◌, ◌⊎◌, ℕ, zero, suc, Bool, true, false, if◌then◌else◌, Option, Some, None, List, [], ◌∷◌, length, filter, count_by, codes, decimal}
+use Rattle.std.specs.Prelude.{◌≡◌, ◌-◌, ◌+◌, ◌++◌, ◌&&◌, ◌==◌, ◌⊎◌, ℕ, zero, suc, Bool, true, false, if◌then◌else◌, Option, Some, None, List, [], ◌∷◌, length, filter, count_by, map, take, codes, decimal}
 use Rattle.std.specs.List.{flat_map}
 use Rattle.fault_core.specs.declared.table.Class.{Class}
 use Rattle.fault_core.specs.declared.table.Class.TheVariants.{SF, TF, WDF, RDF, DRDF, IRF, CFst, CFds, CFtr, CFwd, CFrd, CFdr, CFir, DRF}
-use Rattle.fault_core.specs.Primitive.{Primitive}
 use Rattle.fault_core.specs.Classes.{class_by_parts}
 use Rattle.fault_syntax.specs.Printed.{printed as printed_prim}
 use Rattle.march_core.specs.March.{MarchElement}
@@ -12,56 +11,81 @@ use Rattle.march_core.specs.Visits.{Direction, Upward, Downward, directions_of}
 use Rattle.march_syntax.specs.Printed.{printed}
 use Rattle.memory_desc.specs.Descriptions.{Description}
 use Rattle.word_march.specs.Commands.{command_count}
-use Rattle.array_sim.specs.Detection.{Detects}
 use Rattle.escape_array.specs.declared.escape.EscapeArray.{EscapeArray}
 use Rattle.escape_array.specs.Escapes.{IsLeastEscape}
 use Rattle.coverage.specs.declared.verdict.Verdict.{Verdict}
-use Rattle.coverage.specs.declared.verdict.Verdict.TheVariants.{Covered, Escape}
+use Rattle.dynamic_core.specs.declared.item.Item.{Item}
+use Rattle.dynamic_core.specs.declared.item.Item.TheVariants.{Plain, Dyn}
+use Rattle.dynamic_core.specs.Primitive.{has_aggressor}
+use Rattle.dynamic_core.specs.Printed.{printed_dynamic}
+use Rattle.dynamic_prover.specs.declared.escape.DynEscape.{DynEscape}
+use Rattle.dynamic_prover.specs.declared.escape.DynVerdict.{DynVerdict}
+use Rattle.dynamic_prover.specs.Escapes.{LeastDyn}
+use Rattle.report.specs.declared.class_lines.ItemClass.{ItemClass}
+use Rattle.report.specs.declared.class_lines.ItemClass.TheVariants.{Static, DynOne, DynTwo}
+use Rattle.report.specs.declared.judged.JudgedItem.{JudgedItem}
+use Rattle.report.specs.Items.{DetectsItem, item_of, is_covered, covered_count}
 
-abbrev pub class_text : Class → List ℕ
-class_text SF = codes "SF"
-class_text TF = codes "TF"
-class_text WDF = codes "WDF"
-class_text RDF = codes "RDF"
-class_text DRDF = codes "DRDF"
-class_text IRF = codes "IRF"
-class_text CFst = codes "CFst"
-class_text CFds = codes "CFds"
-class_text CFtr = codes "CFtr"
-class_text CFwd = codes "CFwd"
-class_text CFrd = codes "CFrd"
-class_text CFdr = codes "CFdr"
-class_text CFir = codes "CFir"
-class_text DRF = codes "DRF"
+abbrev pub class_text : ItemClass → List ℕ
+class_text (Static SF) = codes "SF"
+class_text (Static TF) = codes "TF"
+class_text (Static WDF) = codes "WDF"
+class_text (Static RDF) = codes "RDF"
+class_text (Static DRDF) = codes "DRDF"
+class_text (Static IRF) = codes "IRF"
+class_text (Static CFst) = codes "CFst"
+class_text (Static CFds) = codes "CFds"
+class_text (Static CFtr) = codes "CFtr"
+class_text (Static CFwd) = codes "CFwd"
+class_text (Static CFrd) = codes "CFrd"
+class_text (Static CFdr) = codes "CFdr"
+class_text (Static CFir) = codes "CFir"
+class_text (Static DRF) = codes "DRF"
+class_text DynOne = codes "DYN1"
+class_text DynTwo = codes "DYN2"
 
--- the classes in the order of the table, and that of the retention faults behind the others
-abbrev pub class_order : List Class
-class_order = SF ∷ TF ∷ WDF ∷ RDF ∷ DRDF ∷ IRF ∷ CFst ∷ CFds ∷ CFtr ∷ CFwd ∷ CFrd ∷ CFdr ∷ CFir ∷ DRF ∷ []
+-- the classes in their order: those of the table, that of the retention faults, and those of the dynamic primitives
+abbrev pub class_order : List ItemClass
+class_order =
+    Static SF ∷ Static TF ∷ Static WDF ∷ Static RDF ∷ Static DRDF ∷ Static IRF ∷ Static CFst ∷ Static CFds ∷ Static CFtr ∷ Static CFwd
+    ∷ Static CFrd ∷ Static CFdr ∷ Static CFir ∷ Static DRF ∷ DynOne ∷ DynTwo ∷ []
 
 -- the place of a class in that order
-abbrev pub class_number : Class → ℕ
-class_number SF = 0
-class_number TF = 1
-class_number WDF = 2
-class_number RDF = 3
-class_number DRDF = 4
-class_number IRF = 5
-class_number CFst = 6
-class_number CFds = 7
-class_number CFtr = 8
-class_number CFwd = 9
-class_number CFrd = 10
-class_number CFdr = 11
-class_number CFir = 12
-class_number DRF = 13
+abbrev pub class_number : ItemClass → ℕ
+class_number (Static SF) = 0
+class_number (Static TF) = 1
+class_number (Static WDF) = 2
+class_number (Static RDF) = 3
+class_number (Static DRDF) = 4
+class_number (Static IRF) = 5
+class_number (Static CFst) = 6
+class_number (Static CFds) = 7
+class_number (Static CFtr) = 8
+class_number (Static CFwd) = 9
+class_number (Static CFrd) = 10
+class_number (Static CFdr) = 11
+class_number (Static CFir) = 12
+class_number (Static DRF) = 13
+class_number DynOne = 14
+class_number DynTwo = 15
 
--- whether a primitive is of this class
-abbrev pub is_in_class : Class → Primitive → Bool
-is_in_class c p = class_number (class_by_parts p) == class_number c
+-- the class of an item; that of a dynamic primitive says how many cells take part
+abbrev pub item_class : Item → ItemClass
+item_class (Plain p) = Static (class_by_parts p)
+item_class (Dyn p) = if has_aggressor p then DynTwo else DynOne
 
--- a primitive and its class
-abbrev pub prim_text : Primitive → List ℕ
-prim_text p = printed_prim p ++ codes " " ++ class_text (class_by_parts p)
+-- whether an item is of this class
+abbrev pub is_in_class : ItemClass → Item → Bool
+is_in_class c item = class_number (item_class item) == class_number c
+
+-- an item in its printed form
+abbrev pub printed_item : Item → List ℕ
+printed_item (Plain p) = printed_prim p
+printed_item (Dyn p) = printed_dynamic p
+
+-- an item and its class
+abbrev pub item_text : Item → List ℕ
+item_text item = printed_item item ++ codes " " ++ class_text (item_class item)
 
 abbrev pub aggressor_text : Option ℕ → List ℕ
 aggressor_text None = codes "none"
@@ -83,53 +107,66 @@ letter Downward = codes "d"
 unfoldable pub directions_text : ℕ → ℕ → List ℕ
 directions_text word size = flat_map letter (directions_of word size)
 
--- where an escape stands
-abbrev pub places_text : EscapeArray → List ℕ
-places_text e = codes " aggressor " ++ aggressor_text e.agg ++ codes " victim " ++ decimal e.vic
+-- where an instance stands
+abbrev pub places_text : Option ℕ → ℕ → List ℕ
+places_text agg vic = codes " aggressor " ++ aggressor_text agg ++ codes " victim " ++ decimal vic
 
--- where an escape stands, what it holds before closing, and the directions in which the march passes
+-- what an array holds, and the directions in which the march passes
+abbrev pub passing_text : ℕ → List Bool → ℕ → List ℕ
+passing_text size content directions = codes " content " ++ content_text content ++ codes " directions " ++ directions_text directions size
+
+-- an escape of a march with so many elements: its content is that before closing
 abbrev pub escape_text : ℕ → EscapeArray → List ℕ
-escape_text size e = places_text e ++ codes " content " ++ content_text e.content ++ codes " directions " ++ directions_text e.directions size
+escape_text size e = places_text e.agg e.vic ++ passing_text size e.content e.directions
 
--- the line of a primitive under a march with so many elements
-abbrev pub verdict_line : ℕ → Primitive → Verdict → List ℕ
-verdict_line size p Covered = codes "covered " ++ prim_text p ++ codes "\n"
-verdict_line size p (Escape e) = codes "escape " ++ prim_text p ++ escape_text size e ++ codes "\n"
+-- how many cells the array of an escape has, and where its instance stands
+abbrev pub dyn_places_text : DynEscape → List ℕ
+dyn_places_text e = codes " cells " ++ decimal e.size ++ places_text e.agg e.vic
 
--- the lines of primitives with their verdicts
-abbrev pub verdict_lines : ℕ → List Primitive → List Verdict → List ℕ
-verdict_lines size [] vs = []
-verdict_lines size (p ∷ ps) [] = []
-verdict_lines size (p ∷ ps) (v ∷ vs) = verdict_line size p v ++ verdict_lines size ps vs
+-- an escape of a dynamic primitive, with a digit for each of its cells
+abbrev pub dyn_escape_text : ℕ → DynEscape → List ℕ
+dyn_escape_text size e = dyn_places_text e ++ passing_text size (take e.size e.content) e.directions
 
-abbrev pub is_covered : Verdict → Bool
-is_covered Covered = true
-is_covered (Escape e) = false
+-- the line of an item that is covered, and of one that escapes
+abbrev pub covered_line : Item → List ℕ
+covered_line item = codes "covered " ++ item_text item ++ codes "\n"
 
--- how many verdicts are covered
-abbrev pub covered_count : List Verdict → ℕ
-covered_count verdicts = count_by is_covered verdicts
+abbrev pub escape_line : Item → List ℕ → List ℕ
+escape_line item escape = codes "escape " ++ item_text item ++ escape ++ codes "\n"
 
--- how many primitives are of this class, repeats included
-abbrev pub class_size : Class → List Primitive → ℕ
-class_size c prims = count_by (is_in_class c) prims
+-- the line of a judged item under a march with so many elements
+abbrev pub judged_line : ℕ → JudgedItem → List ℕ
+judged_line size (JudgedItem.Plain p Verdict.Covered) = covered_line (Plain p)
+judged_line size (JudgedItem.Plain p (Verdict.Escape e)) = escape_line (Plain p) (escape_text size e)
+judged_line size (JudgedItem.Dyn p DynVerdict.Covered) = covered_line (Dyn p)
+judged_line size (JudgedItem.Dyn p (DynVerdict.Escape e)) = escape_line (Dyn p) (dyn_escape_text size e)
+
+-- the lines of judged items
+abbrev pub judged_lines : ℕ → List JudgedItem → List ℕ
+judged_lines size judged = flat_map (judged_line size) judged
+
+-- how many items are of this class, repeats included
+abbrev pub class_size : ItemClass → List Item → ℕ
+class_size c items = count_by (is_in_class c) items
+
+-- whether a judged item is of this class, and covered
+abbrev pub is_covered_in : ItemClass → JudgedItem → Bool
+is_covered_in c j = is_in_class c (item_of j) && is_covered j
 
 -- how many of them are covered
-abbrev pub class_covered : Class → List Primitive → List Verdict → ℕ
-class_covered c [] vs = 0
-class_covered c (p ∷ ps) [] = 0
-class_covered c (p ∷ ps) (v ∷ vs) = (if is_in_class c p && is_covered v then 1 else 0) + class_covered c ps vs
+abbrev pub class_covered : ItemClass → List JudgedItem → ℕ
+class_covered c judged = count_by (is_covered_in c) judged
 
--- the line of a class with so many primitives, of which so many are covered; a class that doesn't occur has none
-abbrev pub class_line : Class → ℕ → ℕ → List ℕ
+-- the line of a class with so many items, of which so many are covered; a class that doesn't occur has none
+abbrev pub class_line : ItemClass → ℕ → ℕ → List ℕ
 class_line c zero covered = []
 class_line c (suc n) covered = codes "class " ++ class_text c ++ codes " " ++ decimal (suc n) ++ codes " covered " ++ decimal covered ++ codes "\n"
 
 -- the lines of these classes
-abbrev pub class_lines : List Class → List Primitive → List Verdict → List ℕ
-class_lines classes prims verdicts = flat_map (λ c. class_line c (class_size c prims) (class_covered c prims verdicts)) classes
+abbrev pub class_lines : List ItemClass → List JudgedItem → List ℕ
+class_lines classes judged = flat_map (λ c. class_line c (class_size c (map item_of judged)) (class_covered c judged)) classes
 
--- the number of primitives, and how many of them are covered
+-- the number of items, and how many of them are covered
 abbrev pub total_line : ℕ → ℕ → List ℕ
 total_line count covered =
     codes "total " ++ decimal count ++ codes " covered " ++ decimal covered ++ codes " escapes " ++ decimal (count - covered) ++ codes "\n"
@@ -151,44 +188,49 @@ memory_line march (Some d) = size_text d ++ work_text march d ++ codes "\n"
 abbrev pub march_line : List MarchElement → List ℕ
 march_line march = codes "march " ++ printed march ++ codes "\n"
 
--- the lines of verdicts
-abbrev pub report_text : List MarchElement → Option Description → List Primitive → List Verdict → List ℕ
-report_text march memory prims verdicts =
-    march_line march ++ memory_line march memory ++ verdict_lines (length march) prims verdicts ++ class_lines class_order prims verdicts
-    ++ total_line (length prims) (covered_count verdicts)
+-- the lines of judged items as a report
+abbrev pub report_text : List MarchElement → Option Description → List JudgedItem → List ℕ
+report_text march memory judged =
+    march_line march ++ memory_line march memory ++ judged_lines (length march) judged ++ class_lines class_order judged
+    ++ total_line (length judged) (covered_count judged)
 
 -- What a report says, whatever the verdicts were made from.
 
--- the march detects so many of these primitives, repeats included
-abbrev pub DetectsOf : List MarchElement → List Primitive → ℕ → Type 0
+-- the march detects so many of these items, repeats included
+abbrev pub DetectsOf : List MarchElement → List Item → ℕ → Type 0
 DetectsOf march [] n = n ≡ 0
-DetectsOf march (p ∷ ps) n =
-    (Detects march p × (k : ℕ) × DetectsOf march ps k × (n ≡ 1 + k)) ⊎ ((Detects march p → ⊥) × DetectsOf march ps n)
+DetectsOf march (i ∷ items) n =
+    (DetectsItem march i × (k : ℕ) × DetectsOf march items k × (n ≡ 1 + k)) ⊎ ((DetectsItem march i → ⊥) × DetectsOf march items n)
 
--- the line of a primitive: covered exactly where the march detects it, and else its least escape
-abbrev pub IsLine : List MarchElement → Primitive → List ℕ → Type 0
-IsLine march p line =
-    (Detects march p × (line ≡ verdict_line (length march) p Covered))
-    ⊎ ((Detects march p → ⊥) × (e : EscapeArray) × (e.prim ≡ p) × IsLeastEscape march e × (line ≡ verdict_line (length march) p (Escape e)))
+-- the text is that of the least escape of an item
+abbrev pub IsEscapeText : List MarchElement → Item → List ℕ → Type 0
+IsEscapeText march (Plain p) text = (e : EscapeArray) × (e.prim ≡ p) × IsLeastEscape march e × (text ≡ escape_text (length march) e)
+IsEscapeText march (Dyn p) text = (e : DynEscape) × (e.prim ≡ p) × LeastDyn march e × (text ≡ dyn_escape_text (length march) e)
 
--- the lines of primitives in their order
-abbrev pub AreLines : List MarchElement → List Primitive → List ℕ → Type 0
+-- the line of an item: covered exactly where the march detects it, and else its least escape
+abbrev pub IsLine : List MarchElement → Item → List ℕ → Type 0
+IsLine march item line =
+    (DetectsItem march item × (line ≡ covered_line item))
+    ⊎ ((DetectsItem march item → ⊥) × (escape : List ℕ) × IsEscapeText march item escape × (line ≡ escape_line item escape))
+
+-- the lines of items in their order
+abbrev pub AreLines : List MarchElement → List Item → List ℕ → Type 0
 AreLines march [] text = text ≡ []
-AreLines march (p ∷ ps) text = (line : List ℕ) × (rest : List ℕ) × IsLine march p line × AreLines march ps rest × (text ≡ line ++ rest)
+AreLines march (i ∷ items) text = (line : List ℕ) × (rest : List ℕ) × IsLine march i line × AreLines march items rest × (text ≡ line ++ rest)
 
--- the lines of classes: for each that occurs the number of its primitives, and of those that the march detects
-abbrev pub AreClassLines : List MarchElement → List Primitive → List Class → List ℕ → Type 0
-AreClassLines march prims [] text = text ≡ []
-AreClassLines march prims (c ∷ cs) text =
-    (covered : ℕ) × (rest : List ℕ) × DetectsOf march (filter (is_in_class c) prims) covered × AreClassLines march prims cs rest
-    × (text ≡ class_line c (class_size c prims) covered ++ rest)
+-- the lines of classes: for each that occurs the number of its items, and of those that the march detects
+abbrev pub AreClassLines : List MarchElement → List Item → List ItemClass → List ℕ → Type 0
+AreClassLines march items [] text = text ≡ []
+AreClassLines march items (c ∷ cs) text =
+    (covered : ℕ) × (rest : List ℕ) × DetectsOf march (filter (is_in_class c) items) covered × AreClassLines march items cs rest
+    × (text ≡ class_line c (class_size c items) covered ++ rest)
 
--- the bytes are the report of these primitives
-pub record IsReport (text : List ℕ) (march : List MarchElement) (memory : Option Description) (prims : List Primitive) : Type 0 where
+-- The bytes are the report of these items. Without dynamic ones it has no line of their classes, and no escape with a size.
+pub record IsMixedReport (text : List ℕ) (march : List MarchElement) (memory : Option Description) (items : List Item) : Type 0 where
   pub lines : List ℕ
   pub classes : List ℕ
   pub covered : ℕ
-  pub are_lines : AreLines march prims lines
-  pub are_classes : AreClassLines march prims class_order classes
-  pub detects : DetectsOf march prims covered
-  pub is : text ≡ march_line march ++ memory_line march memory ++ lines ++ classes ++ total_line (length prims) covered
+  pub are_lines : AreLines march items lines
+  pub are_classes : AreClassLines march items class_order classes
+  pub detects : DetectsOf march items covered
+  pub is : text ≡ march_line march ++ memory_line march memory ++ lines ++ classes ++ total_line (length items) covered

@@ -1,33 +1,57 @@
-ghost use Rattle.std.specs.Prelude.{◌≡◌, ◌&&◌, ◌<◌, ◌≤◌, ◌++◌, OnOk, length};
-ghost use Rattle.report.specs.Report.{class_text, class_number, is_in_class, class_size, class_covered, class_line, class_lines, class_order, is_covered};
+ghost use Rattle.std.specs.Prelude.{◌≡◌, ◌<◌, ◌≤◌, ◌++◌, OnOk, length, map};
+ghost use Rattle.dynamic_core.specs.declared.item.Item.TheVariants.{Dyn};
+ghost use Rattle.report.specs.Items.{item_of};
+ghost use Rattle.report.specs.Report.{class_text, class_number, item_class, is_in_class, is_covered_in, class_size, class_covered, class_line, class_lines, class_order};
 
-use crate::total::is_verdict_covered;
+use crate::judged::JudgedItem;
+use crate::total::is_item_covered;
 use bist_bits::NoMemory;
 use bist_text::{put, put_decimal};
-use coverage::Verdict;
-use fault_core::{Class, Prim, class_of};
+use dynamic_core::DynPrim;
+use fault_core::{Class, class_of};
 
-/// The classes in the order of the table, and that of the retention faults behind the others.
-const CLASSES: [Class; 14] = [
-    Class::SF,
-    Class::TF,
-    Class::WDF,
-    Class::RDF,
-    Class::DRDF,
-    Class::IRF,
-    Class::CFst,
-    Class::CFds,
-    Class::CFtr,
-    Class::CFwd,
-    Class::CFrd,
-    Class::CFdr,
-    Class::CFir,
-    Class::DRF,
+/// The class of an item: that of a static primitive, or of a dynamic one by the number of its cells.
+#[derive(Clone, Copy)]
+pub(crate) enum ItemClass {
+    Static(Class),
+    DynOne,
+    DynTwo,
+}
+
+/// The classes in the order of the report: those of the table, that of the retention faults, and those of the
+/// dynamic primitives.
+const CLASSES: [ItemClass; 16] = [
+    ItemClass::Static(Class::SF),
+    ItemClass::Static(Class::TF),
+    ItemClass::Static(Class::WDF),
+    ItemClass::Static(Class::RDF),
+    ItemClass::Static(Class::DRDF),
+    ItemClass::Static(Class::IRF),
+    ItemClass::Static(Class::CFst),
+    ItemClass::Static(Class::CFds),
+    ItemClass::Static(Class::CFtr),
+    ItemClass::Static(Class::CFwd),
+    ItemClass::Static(Class::CFrd),
+    ItemClass::Static(Class::CFdr),
+    ItemClass::Static(Class::CFir),
+    ItemClass::Static(Class::DRF),
+    ItemClass::DynOne,
+    ItemClass::DynTwo,
 ];
 
 /// The printed name of a class.
-pub(crate) fn class_name(class: Class) -> &'static [u8]
+pub(crate) fn class_name(class: ItemClass) -> &'static [u8]
     ensures { result.now ≡ class_text class }
+{
+    match class {
+        ItemClass::Static(class) => static_name(class),
+        ItemClass::DynOne => b"DYN1",
+        ItemClass::DynTwo => b"DYN2",
+    }
+}
+
+fn static_name(class: Class) -> &'static [u8]
+    ensures { result.now ≡ class_text (ItemClass.Static class) }
 {
     match class {
         Class::SF => b"SF",
@@ -48,8 +72,18 @@ pub(crate) fn class_name(class: Class) -> &'static [u8]
 }
 
 /// The place of a class in the order of the report.
-fn number_of(class: Class) -> u8
+fn number_of(class: ItemClass) -> u8
     ensures { result ≡ class_number class }
+{
+    match class {
+        ItemClass::Static(class) => static_number(class),
+        ItemClass::DynOne => 14,
+        ItemClass::DynTwo => 15,
+    }
+}
+
+fn static_number(class: Class) -> u8
+    ensures { result ≡ class_number (ItemClass.Static class) }
 {
     match class {
         Class::SF => 0,
@@ -69,64 +103,79 @@ fn number_of(class: Class) -> u8
     }
 }
 
-fn is_of_class(prim: &Prim, class: Class) -> bool
-    ensures { result ≡ is_in_class class prim.now }
+/// The class of a dynamic primitive.
+pub(crate) fn dyn_class(prim: &DynPrim) -> ItemClass
+    ensures { result ≡ item_class (Dyn prim.now) }
 {
-    number_of(class_of(prim)) == number_of(class)
-}
-
-/// How many primitives are of a class.
-fn count_class(class: Class, prims: &[Prim]) -> usize
-    ensures value { result ≡ class_size class prims.now }
-    ensures within { result ≤ length prims.now }
-{
-    prims.iter().filter(|prim| is_of_class(prim, class)).count()
-}
-
-/// Whether a primitive is of a class and covered.
-fn is_covered_there(class: Class, prim: &Prim, verdict: &Verdict) -> bool
-    ensures { result ≡ (is_in_class class prim.now && is_covered verdict.now) }
-{
-    is_of_class(prim, class) && is_verdict_covered(verdict)
-}
-
-/// How many primitives of a class are covered.
-fn count_class_covered(class: Class, prims: &[Prim], verdicts: &[Verdict]) -> usize
-    requires { length prims.now ≡ length verdicts.now }
-    ensures { result ≡ class_covered class prims.now verdicts.now }
-{
-    let mut count = 0;
-    for (i, prim) in prims.iter().enumerate() {
-        if is_covered_there(class, prim, &verdicts[i]) {
-            count += 1;
-        }
+    if prim.is_two_cell() {
+        ItemClass::DynTwo
+    } else {
+        ItemClass::DynOne
     }
-    count
+}
+
+/// The class of a judged item.
+fn judged_class(judged: &JudgedItem) -> ItemClass
+    ensures { result ≡ item_class (item_of judged.now) }
+{
+    match judged {
+        JudgedItem::Plain(prim, _) => ItemClass::Static(class_of(prim)),
+        JudgedItem::Dyn(prim, _) => dyn_class(prim),
+    }
+}
+
+fn is_of_class(judged: &JudgedItem, class: ItemClass) -> bool
+    ensures { result ≡ is_in_class class (item_of judged.now) }
+{
+    number_of(judged_class(judged)) == number_of(class)
+}
+
+/// How many judged items are of a class.
+#[tactic(auto, using(crate::proofs::Counts::class_size_of))]
+fn count_class(class: ItemClass, judged: &[JudgedItem]) -> usize
+    ensures value { result ≡ class_size class (map item_of judged.now) }
+    ensures within { result ≤ length judged.now }
+{
+    judged
+        .iter()
+        .filter(|item| is_of_class(item, class))
+        .count()
+}
+
+/// Whether a judged item is of a class and covered.
+fn is_covered_there(class: ItemClass, judged: &JudgedItem) -> bool
+    ensures { result ≡ is_covered_in class judged.now }
+{
+    is_of_class(judged, class) && is_item_covered(judged)
+}
+
+/// How many judged items of a class are covered.
+fn count_class_covered(class: ItemClass, judged: &[JudgedItem]) -> usize
+    ensures { result ≡ class_covered class judged.now }
+{
+    judged
+        .iter()
+        .filter(|item| is_covered_there(class, item))
+        .count()
 }
 
 /// Appends the line of a class that occurs.
-fn write_class(
-    out: &mut Vec<u8>,
-    class: Class,
-    prims: &[Prim],
-    verdicts: &[Verdict],
-) -> Result<(), NoMemory>
-    requires { length prims.now ≡ length verdicts.now }
-    ensures { OnOk result (out.new.items ≡ out.old.items ++ class_line class (class_size class prims.now) (class_covered class prims.now verdicts.now)) }
+fn write_class(out: &mut Vec<u8>, class: ItemClass, judged: &[JudgedItem]) -> Result<(), NoMemory>
+    ensures { OnOk result (out.new.items ≡ out.old.items ++ class_line class (class_size class (map item_of judged.now)) (class_covered class judged.now)) }
 {
-    let count = count_class(class, prims);
+    let count = count_class(class, judged);
     if count == 0 {
         return Ok(());
     }
-    put_class(
-        out,
-        class,
-        count,
-        count_class_covered(class, prims, verdicts),
-    )
+    put_class(out, class, count, count_class_covered(class, judged))
 }
 
-fn put_class(out: &mut Vec<u8>, class: Class, count: usize, covered: usize) -> Result<(), NoMemory>
+fn put_class(
+    out: &mut Vec<u8>,
+    class: ItemClass,
+    count: usize,
+    covered: usize,
+) -> Result<(), NoMemory>
     requires { 0 < count }
     ensures { OnOk result (out.new.items ≡ out.old.items ++ class_line class count covered) }
 {
@@ -140,16 +189,11 @@ fn put_class(out: &mut Vec<u8>, class: Class, count: usize, covered: usize) -> R
 }
 
 /// Appends a line for each class that occurs.
-pub(crate) fn write_classes(
-    out: &mut Vec<u8>,
-    prims: &[Prim],
-    verdicts: &[Verdict],
-) -> Result<(), NoMemory>
-    requires { length prims.now ≡ length verdicts.now }
-    ensures { OnOk result (out.new.items ≡ out.old.items ++ class_lines class_order prims.now verdicts.now) }
+pub(crate) fn write_classes(out: &mut Vec<u8>, judged: &[JudgedItem]) -> Result<(), NoMemory>
+    ensures { OnOk result (out.new.items ≡ out.old.items ++ class_lines class_order judged.now) }
 {
     for class in CLASSES {
-        write_class(out, class, prims, verdicts)?;
+        write_class(out, class, judged)?;
     }
     Ok(())
 }

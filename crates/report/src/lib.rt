@@ -1,11 +1,13 @@
-//! The report of a march's verdicts as text.
+//! The verdicts on a list of static and dynamic primitives, and their report as text.
 #![tactic(auto)]
 
 mod class_lines;
+mod judged;
+mod judged_lines;
 mod memory_line;
 mod total;
-mod verdict_lines;
 mod write;
 
+pub use judged::{JudgedItem, judge_items};
 pub use total::{count_covered, write_total};
-pub use write::write_report;
+pub use write::{write_judged, write_mixed};

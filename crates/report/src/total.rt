@@ -1,28 +1,31 @@
 ghost use Rattle.std.specs.Prelude.{◌≡◌, ◌≤◌, ◌++◌, OnOk, length};
-ghost use Rattle.report.specs.Report.{is_covered, covered_count, total_line};
+ghost use Rattle.report.specs.Items.{covered_count, is_covered};
+ghost use Rattle.report.specs.Report.{total_line};
 
+use crate::judged::JudgedItem;
 use bist_bits::NoMemory;
 use bist_text::{put, put_decimal};
 use coverage::Verdict;
+use dynamic_prover::DynVerdict;
 
-/// How many verdicts are covered.
-pub fn count_covered(verdicts: &[Verdict]) -> usize
-    ensures value { result ≡ covered_count verdicts.now }
-    ensures within { result ≤ length verdicts.now }
+/// Whether a judged item is covered.
+#[tactic(auto, unfolding(crate::specs::Items::is_covered))]
+pub(crate) fn is_item_covered(judged: &JudgedItem) -> bool
+    ensures { result ≡ is_covered judged.now }
 {
-    verdicts
-        .iter()
-        .filter(|verdict| is_verdict_covered(verdict))
-        .count()
+    match judged {
+        JudgedItem::Plain(_, Verdict::Covered) | JudgedItem::Dyn(_, DynVerdict::Covered) => true,
+        JudgedItem::Plain(_, Verdict::Escape(_)) | JudgedItem::Dyn(_, DynVerdict::Escape(_)) =>
+            false,
+    }
 }
 
-pub(crate) fn is_verdict_covered(verdict: &Verdict) -> bool
-    ensures { result ≡ is_covered verdict.now }
+/// How many judged items are covered.
+pub fn count_covered(judged: &[JudgedItem]) -> usize
+    ensures value { result ≡ covered_count judged.now }
+    ensures within { result ≤ length judged.now }
 {
-    match verdict {
-        Verdict::Covered => true,
-        Verdict::Escape(_) => false,
-    }
+    judged.iter().filter(|item| is_item_covered(item)).count()
 }
 
 /// Appends the line of the total. After want of memory `out` ends in a part of the line, or in none of it.

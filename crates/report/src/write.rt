@@ -1,16 +1,17 @@
-ghost use Rattle.std.specs.Prelude.{◌≡◌, ◌++◌, OnOk, IfOk, length};
+ghost use Rattle.std.specs.Prelude.{◌≡◌, ◌++◌, OnOk, IfOk, map};
+ghost use Rattle.std.specs.List.{AllByRecursion};
 ghost use Rattle.std.specs.Option.{option_copied};
-ghost use Rattle.coverage.specs.Verdicts.{AreVerdicts};
-ghost use Rattle.report.specs.Report.{march_line, report_text, IsReport};
+ghost use Rattle.report.specs.Items.{IsJudged, item_of};
+ghost use Rattle.report.specs.Report.{march_line, report_text, IsMixedReport};
 
 use crate::class_lines::write_classes;
+use crate::judged::{JudgedItem, judge_items};
+use crate::judged_lines::write_lines;
 use crate::memory_line::write_memory;
 use crate::total::{count_covered, write_total};
-use crate::verdict_lines::write_lines;
 use bist_bits::NoMemory;
 use bist_text::put;
-use coverage::Verdict;
-use fault_core::Prim;
+use dynamic_core::Item;
 use march_core::March;
 use march_syntax::print_march;
 use memory_desc::Memory;
@@ -30,35 +31,44 @@ fn text_of(
     alloc: Global,
     march: &March,
     memory: Option<&Memory>,
-    prims: &[Prim],
-    verdicts: &[Verdict],
+    judged: &[JudgedItem],
 ) -> Result<Vec<u8>, NoMemory>
-    requires { length prims.now ≡ length verdicts.now }
-    ensures { IfOk result (λ text. text.items ≡ report_text march.now (option_copied memory.entry) prims.now verdicts.now) }
+    ensures { IfOk result (λ text. text.items ≡ report_text march.now (option_copied memory.entry) judged.now) }
 {
     let mut out = Vec::new(alloc);
     write_march(alloc, &mut out, march)?;
     write_memory(&mut out, march, memory)?;
-    write_lines(&mut out, prims, verdicts, march.len())?;
-    write_classes(&mut out, prims, verdicts)?;
-    write_total(&mut out, prims.len(), count_covered(verdicts))?;
+    write_lines(&mut out, judged, march.len())?;
+    write_classes(&mut out, judged)?;
+    write_total(&mut out, judged.len(), count_covered(judged))?;
     Ok(out)
 }
 
-/// The report: the march, the memory where one is given, one line for each primitive in their order, one for each
+/// The report: the march, the memory where one is given, one line for each judged item in their order, one for each
 /// class that occurs, and the total. Every line ends with a line feed. The only refusal is want of memory.
-pub fn write_report(
+pub fn write_judged(
     alloc: Global,
     march: &March,
     memory: Option<&Memory>,
-    prims: &[Prim],
-    verdicts: &[Verdict],
+    judged: &[JudgedItem],
 ) -> Result<Vec<u8>, NoMemory>
-    requires { length prims.now ≡ length verdicts.now }
-    ensures text { IfOk result (λ text. text.items ≡ report_text march.now (option_copied memory.entry) prims.now verdicts.now) }
+    ensures text { IfOk result (λ text. text.items ≡ report_text march.now (option_copied memory.entry) judged.now) }
 
-    // Where each verdict is that of its primitive, the lines and the counts say what the march detects.
-    ensures report { IfOk result (λ text. AreVerdicts march.now prims.now verdicts.now → IsReport text.items march.now (option_copied memory.entry) prims.now) }
+    // Where each verdict is right, the lines and the counts say what the march detects.
+    ensures report { IfOk result (λ text. AllByRecursion (IsJudged march.now) judged.now → IsMixedReport text.items march.now (option_copied memory.entry) (map item_of judged.now)) }
 {
-    text_of(alloc, march, memory, prims, verdicts)
+    text_of(alloc, march, memory, judged)
+}
+
+/// The report of these items: each is judged once. The only refusal is want of memory.
+pub fn write_mixed(
+    alloc: Global,
+    march: &March,
+    memory: Option<&Memory>,
+    items: &[Item],
+) -> Result<Vec<u8>, NoMemory>
+    ensures { IfOk result (λ text. IsMixedReport text.items march.now (option_copied memory.entry) items.now) }
+{
+    let judged = judge_items(alloc, march, items)?;
+    write_judged(alloc, march, memory, judged.as_slice())
 }

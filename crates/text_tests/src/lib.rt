@@ -2,6 +2,8 @@
 #![tactic(auto)]
 
 #[cfg(test)]
+mod dynamic_texts;
+#[cfg(test)]
 mod fault_texts;
 #[cfg(test)]
 mod march_texts;

@@ -2,7 +2,7 @@ use Rattle.std.proofs.Common.{◌∙◌, ap, sym, ◌++◌, List, ℕ, append_as
 use Rattle.report.proofs.ReportLines.{no_letters, one_letter_more}
 use Rattle.report.specs.Report.{directions_text, letter}
 use Rattle.march_core.specs.Visits.{direction_at}
-use Rattle.report.proofs.verdict_lines.write_directions.Goals as goal
+use Rattle.report.proofs.judged_lines.write_directions.Goals as goal
 
 pub loop-element-init : goal.loop-element-init
 loop-element-init c =

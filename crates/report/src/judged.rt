@@ -1,0 +1,46 @@
+ghost use Rattle.std.specs.Prelude.{◌≡◌, ◌++◌, ◌∷◌, [], IfOk, OnOk};
+ghost use Rattle.report.specs.Items.{AreJudged, IsJudged, item_of};
+
+use bist_bits::NoMemory;
+use coverage::{Verdict, judge};
+use dynamic_core::{DynPrim, Item};
+use dynamic_prover::{DynVerdict, judge_dyn};
+use fault_core::Prim;
+use march_core::March;
+use std::alloc::Global;
+
+/// An item of a list, with what is said of it under a march.
+#[derive(Clone, Copy)]
+pub enum JudgedItem {
+    Plain(Prim, Verdict),
+    Dyn(DynPrim, DynVerdict),
+}
+
+/// Judges one item more.
+fn judge_next(judged: &mut Vec<JudgedItem>, march: &March, item: &Item) -> Result<(), NoMemory>
+    ensures { OnOk result ((j : JudgedItem) × (judged.new.items ≡ judged.old.items ++ j ∷ []) × (item_of j ≡ item.now) × IsJudged march.now j) }
+{
+    let next = match item {
+        Item::Plain(prim) => JudgedItem::Plain(*prim, judge(march, prim)),
+        Item::Dyn(prim) => JudgedItem::Dyn(*prim, judge_dyn(march, prim)),
+    };
+    match judged.push(next) {
+        Ok(()) => Ok(()),
+        Err(_) => Err(NoMemory),
+    }
+}
+
+/// The items of a list with their verdicts, in their order. The only refusal is want of memory.
+pub fn judge_items(
+    alloc: Global,
+    march: &March,
+    items: &[Item],
+) -> Result<Vec<JudgedItem>, NoMemory>
+    ensures { IfOk result (λ judged. AreJudged march.now items.now judged.items) }
+{
+    let mut judged = Vec::new(alloc);
+    for item in items {
+        judge_next(&mut judged, march, item)?;
+    }
+    Ok(judged)
+}
