@@ -167,12 +167,15 @@ module _ (march : List MarchElement) (d : Description) (returned : ℕ → ℕ) 
     fail = λ l. failed.1;
   }
 
+  searched : Found Stands (command_count march d)
+  searched = found Stands (command_count march d) (λ j. stands_or_not j (slice_get (port_ops march d) j) refl)
+
   some_ports : Found Stands (command_count march d) → (q : PortValues) × PortRule march d returned t q
   some_ports (inl h) = (busy h.0 h.2, busy_meets h.0 h.2)
   some_ports (inr n) = (still, still_meets n)
 
   pub met : (q : PortValues) × PortRule march d returned t q
-  met = some_ports (found Stands (command_count march d) (λ j. stands_or_not j (slice_get (port_ops march d) j) refl))
+  met = some_ports searched
 
   -- ---- ports that meet the rule agree
 
@@ -183,6 +186,27 @@ module _ (march : List MarchElement) (d : Description) (returned : ℕ → ℕ) 
       none : (j : ℕ) → j < command_count march d → t ≢ cycle_of march d j
       none j l e = n j l (slice_index_or (port_ops march d) j blank, slice_get-get_or (port_ops march d) j blank l, e)
 
+  -- in a cycle that enables the memory a command stands, which both carry
+  standing : (q : PortValues) → PortRule march d returned t q → q.en ≡ true → Found Stands (command_count march d) → (j : ℕ) × Stands j
+  standing q f e (inl h) = (h.0, h.2)
+  standing q f e (inr n) = absurd (let i = f.idle none in cc)
+    where
+      none : (j : ℕ) → j < command_count march d → t ≢ cycle_of march d j
+      none j l s = n j l (slice_index_or (port_ops march d) j blank, slice_get-get_or (port_ops march d) j blank l, s)
+
+  same_write : (q r : PortValues) → PortRule march d returned t q → PortRule march d returned t r → (h : (j : ℕ) × Stands j) → q.we ≡ r.we
+  same_write q r f g h = (f.commands h.0 h.1.0 h.1.1 h.1.2).write ∙ sym (g.commands h.0 h.1.0 h.1.1 h.1.2).write
+
+  same_address : (q r : PortValues) → PortRule march d returned t q → PortRule march d returned t r → (h : (j : ℕ) × Stands j) → q.addr ≡ r.addr
+  same_address q r f g h = (f.commands h.0 h.1.0 h.1.1 h.1.2).address ∙ sym (g.commands h.0 h.1.0 h.1.1 h.1.2).address
+
+  same_word : (q r : PortValues) → PortRule march d returned t q → PortRule march d returned t r → (h : (j : ℕ) × Stands j) → q.we ≡ true
+      → q.wdata ≡ r.wdata
+  same_word q r f g h w =
+      let c = f.commands h.0 h.1.0 h.1.1 h.1.2 in
+      let writes = sym c.write ∙ w in
+      c.word writes ∙ sym ((g.commands h.0 h.1.0 h.1.1 h.1.2).word writes)
+
   failed_both : (q r : PortValues) → PortRule march d returned t q → PortRule march d returned t r → q.fail ≡ r.fail
   failed_both q r f g = elim (cases_lt 0 t) [
     | inl l ↦ same_bits (SomeReadDiffers march d returned t) q.fail r.fail (f.fail l) (g.fail l)
@@ -191,7 +215,10 @@ module _ (march : List MarchElement) (d : Description) (returned : ℕ → ℕ) 
 
   pub agree : (q r : PortValues) → PortRule march d returned t q → PortRule march d returned t r → Agree q r
   agree q r f g = record {
-    en = enabled_both q r f g (found Stands (command_count march d) (λ j. stands_or_not j (slice_get (port_ops march d) j) refl));
+    en = enabled_both q r f g searched;
+    we = λ e. same_write q r f g (standing q f e searched);
+    addr = λ e. same_address q r f g (standing q f e searched);
+    wdata = λ e w. same_word q r f g (standing q f e searched) w;
     done = same_bits (span march d + 1 + d.latency ≤ t) q.done r.done f.done g.done;
     fail = failed_both q r f g;
   }

@@ -15,9 +15,12 @@ use Rattle.word_march.specs.PortRule.{PortValues, PortRule, cycle_of}
 abbrev pub Met : Type 0
 Met = (march : List MarchElement) (d : Description) (returned : ℕ → ℕ) (t : ℕ) → (q : PortValues) × PortRule march d returned t q
 
--- and no two of them enable, are done or fail differently
+-- and no two of them command, are done or fail differently; where nothing is enabled or written, the rest is free
 pub record Agree (q r : PortValues) : Type 0 where
   pub en : q.en ≡ r.en
+  pub we : q.en ≡ true → q.we ≡ r.we
+  pub addr : q.en ≡ true → q.addr ≡ r.addr
+  pub wdata : q.en ≡ true → q.we ≡ true → q.wdata ≡ r.wdata
   pub done : q.done ≡ r.done
   pub fail : q.fail ≡ r.fail
 
