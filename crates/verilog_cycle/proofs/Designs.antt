@@ -3,7 +3,6 @@ use Rattle.std.proofs.Common.{◌≡◌, ℕ, ◌+◌, ◌<◌, ◌≤◌, List,
 use Rattle.std.proofs.lemmas.List.{length-map, drop_all}
 use Rattle.std.proofs.lemmas.Option.{slice_get-map, slice_get-get_or}
 use Rattle.verilog_tree.specs.declared.names.Declared.{Declared}
-use Rattle.verilog_tree.specs.declared.tree.Module.{Module}
 use Rattle.verilog_tree.specs.Plain.{ModuleTree, plain_module}
 use Rattle.verilog_tree.specs.Names.{Declaration}
 use Rattle.verilog_tree.specs.Seen.{declaration}
@@ -32,14 +31,14 @@ pub count_of : (d : Inside) → IsDesign d → length d.registers.items ≡ leng
 count_of d i = sym (length-map d.registers.items declaration) ∙ ap length (i.0.registers_are)
 
 -- what fits the view fits the fields
-pub inputs_fit : (d : Inside) (v : DesignView) (xs : List ℕ) → view_of d ≡ v → Fit (inputs_of (plain_module v.tree)) xs → Fit (inputs_of (tree_of d)) xs
-inputs_fit d v xs e f = subst (λ (m : Module). Fit (inputs_of (plain_module m)) xs) (sym (ap (λ (v : DesignView). v.tree) e)) f
+pub inputs_fit : (d : Inside) (v : DesignView) (xs : List ℕ) → view_of d ≡ v → Fit (inputs_of v.tree) xs → Fit (inputs_of (tree_of d)) xs
+inputs_fit d v xs e f = subst (λ (m : ModuleTree). Fit (inputs_of m) xs) (sym (ap (λ (v : DesignView). v.tree) e)) f
 
-pub registers_fit : (d : Inside) (v : DesignView) (xs : List ℕ) → view_of d ≡ v → Fit (registers_of (plain_module v.tree)) xs → Fit (registers_of (tree_of d)) xs
-registers_fit d v xs e f = subst (λ (m : Module). Fit (registers_of (plain_module m)) xs) (sym (ap (λ (v : DesignView). v.tree) e)) f
+pub registers_fit : (d : Inside) (v : DesignView) (xs : List ℕ) → view_of d ≡ v → Fit (registers_of v.tree) xs → Fit (registers_of (tree_of d)) xs
+registers_fit d v xs e f = subst (λ (m : ModuleTree). Fit (registers_of m) xs) (sym (ap (λ (v : DesignView). v.tree) e)) f
 
 -- room for a cycle
-pub room_of : (d : Inside) (v : DesignView) (xs : List ℕ) → IsDesign d → view_of d ≡ v → Fit (inputs_of (plain_module v.tree)) xs → HasRoom (length d.registers.items) (length xs) (length d.steps.items) (length d.values.items) (length d.outputs.items) (length d.shown.items) (length d.next.items)
+pub room_of : (d : Inside) (v : DesignView) (xs : List ℕ) → IsDesign d → view_of d ≡ v → Fit (inputs_of v.tree) xs → HasRoom (length d.registers.items) (length xs) (length d.steps.items) (length d.values.items) (length d.outputs.items) (length d.shown.items) (length d.next.items)
 room_of d v xs i e f =
     let h = has_room (tree_of d) (plain_names d.nets.items) (map declaration d.registers.items) (map declaration d.inputs.items) (codes_of d) (runs_of d) d.outputs.items d.values.items d.next.items d.shown.items xs i.0 i.1 (inputs_fit d v xs e f) in
     let a = length-map d.registers.items declaration in
@@ -50,19 +49,19 @@ room_of d v xs i e f =
 
 -- the cycle that is computed, as the view has it
 pub record Shown (d : Inside) (v : DesignView) (xs after : List ℕ) : Type 0 where
-  pub cycle : Cycle (plain_module v.tree) v.registers xs (map (λ k. at after k) d.outputs.items) (run_blocks (runs_of d) after v.registers)
+  pub cycle : Cycle v.tree v.registers xs (map (λ k. at after k) d.outputs.items) (run_blocks (runs_of d) after v.registers)
   pub kept : take (length d.registers.items) after ≡ v.registers
   pub long : length after ≡ length d.values.items
   pub fits : Fit (registers_of (tree_of d)) (run_blocks (runs_of d) after v.registers)
 
-pub shown_of : (d : Inside) (v : DesignView) (xs after : List ℕ) → IsDesign d → view_of d ≡ v → Fit (inputs_of (plain_module v.tree)) xs → after ≡ settled (length d.registers.items + length xs) (codes_of d) (put_all (length d.registers.items) xs d.values.items) → Shown d v xs after
+pub shown_of : (d : Inside) (v : DesignView) (xs after : List ℕ) → IsDesign d → view_of d ≡ v → Fit (inputs_of v.tree) xs → after ≡ settled (length d.registers.items + length xs) (codes_of d) (put_all (length d.registers.items) xs d.values.items) → Shown d v xs after
 shown_of d v xs after i e f ea =
     let n = count_of d i in
     let r = ran (tree_of d) (plain_names d.nets.items) (map declaration d.registers.items) (map declaration d.inputs.items) (codes_of d) (runs_of d) d.outputs.items d.values.items d.next.items d.shown.items xs after i.0 i.1 (inputs_fit d v xs e f)
     (ea ∙ ap (λ (k : ℕ). settled (k + length xs) (codes_of d) (put_all k xs d.values.items)) n) in
     let regs : take (length (registers_of (tree_of d))) d.values.items ≡ v.registers = ap (λ (k : ℕ). take k d.values.items) (sym n) ∙ ap (λ (v : DesignView). v.registers) e in
     record {
-      cycle = subst (λ (m : Module). Cycle (plain_module m) v.registers xs (map (λ k. at after k) d.outputs.items) (run_blocks (runs_of d) after v.registers)) (ap (λ (v : DesignView). v.tree) e)
+      cycle = subst (λ (m : ModuleTree). Cycle m v.registers xs (map (λ k. at after k) d.outputs.items) (run_blocks (runs_of d) after v.registers)) (ap (λ (v : DesignView). v.tree) e)
           (subst (λ (l : List ℕ). Cycle (tree_of d) l xs (map (λ k. at after k) d.outputs.items) (run_blocks (runs_of d) after l)) regs r.cycle);
       kept = ap (λ (k : ℕ). take k after) n ∙ r.kept ∙ regs;
       long = r.long;
@@ -81,11 +80,11 @@ holds_with d v xs after shown i e s l =
       shown_room = l ∙ h.shown_room;
     }
 
-pub view_with : (d : Inside) (v : DesignView) (rs : List ℕ) → view_of d ≡ v → record { tree = d.module; registers = rs; nets = plain_names d.nets.items } ≡ with_registers v rs
+pub view_with : (d : Inside) (v : DesignView) (rs : List ℕ) → view_of d ≡ v → record { tree = tree_of d; registers = rs; nets = plain_names d.nets.items } ≡ with_registers v rs
 view_with d v rs e = ap (λ (v : DesignView). with_registers v rs) e
 
 -- the design after its values are computed
-pub same_view : (d : Inside) (v : DesignView) (xs after : List ℕ) → view_of d ≡ v → Shown d v xs after → record { tree = d.module; registers = take (length d.registers.items) after; nets = plain_names d.nets.items } ≡ v
+pub same_view : (d : Inside) (v : DesignView) (xs after : List ℕ) → view_of d ≡ v → Shown d v xs after → record { tree = tree_of d; registers = take (length d.registers.items) after; nets = plain_names d.nets.items } ≡ v
 same_view d v xs after e s = view_with d v (take (length d.registers.items) after) e ∙ ap (with_registers v) s.kept
 
 -- all of a list put over another that is as long
@@ -126,10 +125,10 @@ stepped_of d v xs after stepped next i e s es en =
         omega (arith, r, l1, l2, l3)
 
 -- the declaration of a register
-pub register_at : (d : Inside) (v : DesignView) → IsDesign d → view_of d ≡ v → (i : ℕ) → i < length v.registers → (r : Declared) → r ≡ get_or d.registers.items i r → slice_get (registers_of (plain_module v.tree)) i ≡ Some (declaration r)
+pub register_at : (d : Inside) (v : DesignView) → IsDesign d → view_of d ≡ v → (i : ℕ) → i < length v.registers → (r : Declared) → r ≡ get_or d.registers.items i r → slice_get (registers_of v.tree) i ≡ Some (declaration r)
 register_at d v g e i lt r is =
     let n : length v.registers ≡ min (length d.registers.items) (length d.values.items) = ap length (ap (λ (v : DesignView). v.registers) (sym e)) ∙ length-take (length d.registers.items) d.values.items in
     let within : i < length d.registers.items = omega (arith, lt, n) in
-    ap (λ (l : List Declaration). slice_get l i) (sym (g.0.registers_are ∙ ap (λ (v : DesignView). registers_of (plain_module v.tree)) e))
+    ap (λ (l : List Declaration). slice_get l i) (sym (g.0.registers_are ∙ ap (λ (v : DesignView). registers_of v.tree) e))
     ∙ slice_get-map declaration d.registers.items i
     ∙ ap (option_map declaration) (slice_get-get_or d.registers.items i r within ∙ ap Some (sym is))

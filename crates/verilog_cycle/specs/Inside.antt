@@ -9,7 +9,7 @@ use Rattle.verilog_cycle.specs.Design.{DesignView}
 use Rattle.verilog_cycle.specs.Seen.{plain_names}
 
 abbrev pub view_of : Inside → DesignView
-view_of d = record { tree = d.module; registers = take (length d.registers.items) d.values.items; nets = plain_names d.nets.items }
+view_of d = record { tree = plain_module d.module; registers = take (length d.registers.items) d.values.items; nets = plain_names d.nets.items }
 
 abbrev pub IsDesign : Inside → Type 0
 IsDesign d =

@@ -3,6 +3,7 @@ pub mod Built
 pub mod Code
 pub mod Compile
 pub mod Design
+pub mod DesignStored
 pub mod Fitting
 pub mod Graph
 pub mod Inside

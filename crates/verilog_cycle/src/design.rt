@@ -3,7 +3,7 @@ ghost use Rattle.std.specs.Prelude.{◌≡◌, ℕ, ◌<◌, ◌↔◌, List, Is
 ghost use Rattle.std.specs.Borrow.{sem};
 ghost use denote.Follow.{follows_so};
 ghost use mathlib.Core.Option.{none};
-ghost use Rattle.verilog_tree.specs.Plain.{plain_module};
+ghost use Rattle.verilog_tree.specs.Plain.{plain_module, plain_port};
 ghost use Rattle.verilog_tree.specs.Formed.{formed};
 ghost use Rattle.verilog_tree.specs.Names.{declarations};
 ghost use Rattle.verilog_tree.specs.Rules.{first_break};
@@ -45,12 +45,11 @@ pub struct Design {
 
 impl Model for Design {
     ghost use Rattle.verilog_cycle.specs.Design.{DesignView};
-    ghost use Rattle.verilog_tree.specs.contracts.Module as module_type;
-    ghost use Rattle.std.specs.Coded.{codes};
+    ghost use Rattle.verilog_cycle.specs.DesignStored.{design_code};
 
     ghost Value = { DesignView };
 
-    ghost coded = { Prim.hlevel (codes, module_type.the_row.coded) };
+    ghost coded = { design_code };
 
     ghost use Rattle.verilog_cycle.specs.Inside.{view_of, IsDesign};
 
@@ -107,14 +106,14 @@ impl Design {
 
     /// The module's ports, in their order.
     pub fn ports(&self) -> &[Port]
-        ensures { result.now ≡ self.now.tree.ports.items }
+        ensures { map plain_port result.now ≡ self.now.tree.ports }
     {
         &self.module.ports
     }
 
     /// How many inputs there are without the clock.
     pub fn inputs(&self) -> usize
-        ensures { result ≡ length (inputs_of (plain_module self.now.tree)) }
+        ensures { result ≡ length (inputs_of self.now.tree) }
     {
         self.inputs.len()
     }
@@ -137,8 +136,8 @@ impl Design {
     /// The name and the width of a register.
     pub fn register(&self, i: usize) -> (&str, u8)
         requires { i < length self.now.registers }
-        ensures name { slice_get (names (registers_of (plain_module self.now.tree))) i ≡ Some result.0.now }
-        ensures width { slice_get (map (λ d. d.width) (registers_of (plain_module self.now.tree))) i ≡ Some result.1 }
+        ensures name { slice_get (names (registers_of self.now.tree)) i ≡ Some result.0.now }
+        ensures width { slice_get (map (λ d. d.width) (registers_of self.now.tree)) i ≡ Some result.1 }
     {
         let register = &self.registers[i];
         (register.name.as_str(), register.width)
@@ -146,21 +145,21 @@ impl Design {
 
     /// Whether there is one value for each register, within its width: what `set_registers` requires.
     pub fn registers_fit(&self, values: &[u64]) -> bool
-        ensures { IsTrue result ↔ Fit (registers_of (plain_module self.now.tree)) values.now }
+        ensures { IsTrue result ↔ Fit (registers_of self.now.tree) values.now }
     {
         fit(&self.registers, values)
     }
 
     /// Whether there is one value for each input port without the clock, within its width: what a cycle requires.
     pub fn inputs_fit(&self, values: &[u64]) -> bool
-        ensures { IsTrue result ↔ Fit (inputs_of (plain_module self.now.tree)) values.now }
+        ensures { IsTrue result ↔ Fit (inputs_of self.now.tree) values.now }
     {
         fit(&self.inputs, values)
     }
 
     /// Gives the registers these values.
     pub fn set_registers(&mut self, values: &[u64])
-        requires { Fit (registers_of (plain_module self.old.tree)) values.now }
+        requires { Fit (registers_of self.old.tree) values.now }
         ensures { self.new ≡ with_registers self.old values.now }
     {
         put_all(&mut self.values, 0, values);
@@ -169,9 +168,9 @@ impl Design {
     /// The values of the output ports, in port order, in a cycle with these inputs: one value for each input port
     /// without the clock, in port order.
     pub fn outputs(&mut self, inputs: &[u64]) -> &[u64]
-        requires { Fit (inputs_of (plain_module self.old.tree)) inputs.now }
+        requires { Fit (inputs_of self.old.tree) inputs.now }
         ensures* after { sem 𝓛 (follows_so the_row the_row self.entry.ghost_name none (λ _ _. ⊤) (λ v. v ≡ self.old)) }
-        ensures shown { (after : List ℕ) × Cycle (plain_module self.old.tree) self.old.registers inputs.now result.now after }
+        ensures shown { (after : List ℕ) × Cycle self.old.tree self.old.registers inputs.now result.now after }
     {
         compute(&mut self.values, self.registers.len(), inputs, &self.steps);
         show(&mut self.shown, &self.outputs, &self.values);
@@ -180,8 +179,8 @@ impl Design {
 
     /// One edge of the clock: the registers take the values that the cycle with these inputs leaves.
     pub fn edge(&mut self, inputs: &[u64])
-        requires { Fit (inputs_of (plain_module self.old.tree)) inputs.now }
-        ensures registers { (outs : List ℕ) × Cycle (plain_module self.old.tree) self.old.registers inputs.now outs self.new.registers }
+        requires { Fit (inputs_of self.old.tree) inputs.now }
+        ensures registers { (outs : List ℕ) × Cycle self.old.tree self.old.registers inputs.now outs self.new.registers }
         ensures kept { self.new ≡ with_registers self.old self.new.registers }
     {
         compute(&mut self.values, self.registers.len(), inputs, &self.steps);
@@ -190,9 +189,9 @@ impl Design {
 
     /// One cycle: gives what `outputs` gives, and leaves the registers that `edge` leaves.
     pub fn clock(&mut self, inputs: &[u64]) -> &[u64]
-        requires { Fit (inputs_of (plain_module self.old.tree)) inputs.now }
+        requires { Fit (inputs_of self.old.tree) inputs.now }
         ensures* after { sem 𝓛 (follows_so the_row the_row self.entry.ghost_name none (λ _ _. ⊤) (λ v. Clocked self.old v inputs.now result.now)) }
-        ensures shown { (after : List ℕ) × Cycle (plain_module self.old.tree) self.old.registers inputs.now result.now after }
+        ensures shown { (after : List ℕ) × Cycle self.old.tree self.old.registers inputs.now result.now after }
     {
         compute(&mut self.values, self.registers.len(), inputs, &self.steps);
         show(&mut self.shown, &self.outputs, &self.values);

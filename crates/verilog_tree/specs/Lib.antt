@@ -9,6 +9,7 @@ pub mod Plain
 pub mod Rules
 pub mod Seen
 pub mod Spells
+pub mod Stored
 pub mod Tokens
 pub mod Valued
 pub mod Wires

@@ -60,8 +60,8 @@ returns c =
     ∙ ap (λ l. map (λ k. at c.deref-3.result.now k) l) c.deref-2.ensures.value
     ∙ ap (λ (vs : List ℕ). map (λ k. at vs k) c.self.inside.outputs.items) c.deref-3.ensures.value in
     let after : List ℕ = take (length c.self.inside.registers.items) c.step_registers.new.values.items in
-    let cycle = subst (λ (l : List ℕ). Cycle (plain_module c.args.self.now.tree) c.args.self.now.registers c.args.inputs.now l after) (sym shown)
-    (subst (λ (l : List ℕ). Cycle (plain_module c.args.self.now.tree) c.args.self.now.registers c.args.inputs.now (map (λ k. at c.compute.new.values.items k) c.self.inside.outputs.items) l) (sym st.front) s.cycle) in
+    let cycle = subst (λ (l : List ℕ). Cycle c.args.self.now.tree c.args.self.now.registers c.args.inputs.now l after) (sym shown)
+    (subst (λ (l : List ℕ). Cycle c.args.self.now.tree c.args.self.now.registers c.args.inputs.now (map (λ k. at c.compute.new.values.items k) c.self.inside.outputs.items) l) (sym st.front) s.cycle) in
     let tree = ap (λ v. v.tree) c.self.view_is in (
       (refl, λ _. tt, (view_with c.self.inside c.args.self.now after c.self.view_is, cycle)),
       record {

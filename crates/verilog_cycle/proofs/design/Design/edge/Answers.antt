@@ -49,4 +49,4 @@ returns-clause-registers c =
     ∙ ap (λ (k : ℕ). settled (k + length c.args.inputs.now) (map (λ b. b.value) c.self.inside.steps.items) (put_all k c.args.inputs.now c.self.inside.values.items)) n) in
     let st = stepped_of c.self.inside c.args.self.now c.args.inputs.now c.compute.new.values.items c.step_registers.new.values.items c.step_registers.new.next.items c.self.invariant c.self.view_is s
     (c.step_registers.ensures.items ∙ ap (λ l. put_all 0 (run_blocks (map (λ b. map action_run b.items) l) c.compute.new.values.items (put_all 0 (take (length c.self.inside.next.items) c.compute.new.values.items) c.self.inside.next.items)) c.compute.new.values.items) c.deref-2.ensures.value) c.step_registers.ensures.len in
-    (map (λ k. at c.compute.new.values.items k) c.self.inside.outputs.items, subst (λ (l : List ℕ). Cycle (plain_module c.args.self.now.tree) c.args.self.now.registers c.args.inputs.now (map (λ k. at c.compute.new.values.items k) c.self.inside.outputs.items) l) (sym st.front) s.cycle)
+    (map (λ k. at c.compute.new.values.items k) c.self.inside.outputs.items, subst (λ (l : List ℕ). Cycle c.args.self.now.tree c.args.self.now.registers c.args.inputs.now (map (λ k. at c.compute.new.values.items k) c.self.inside.outputs.items) l) (sym st.front) s.cycle)

@@ -45,6 +45,6 @@ returns c =
       (refl, λ _. tt, same_view c.self.inside c.args.self.now c.args.inputs.now c.compute.new.values.items c.self.view_is s),
       record {
         after = tt;
-        shown = (after, subst (λ (l : List ℕ). Cycle (plain_module c.args.self.now.tree) c.args.self.now.registers c.args.inputs.now l after) (sym shown) s.cycle);
+        shown = (after, subst (λ (l : List ℕ). Cycle c.args.self.now.tree c.args.self.now.registers c.args.inputs.now l after) (sym shown) s.cycle);
       },
     )
