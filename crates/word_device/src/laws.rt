@@ -5,7 +5,6 @@ use march_core::March;
 use memory_desc::Memory;
 
 /// Closed words stay as they are.
-#[tactic(auto, using(crate::proofs::Closed::closes))]
 pub fn closing()
     ensures { Closes }
 {}

@@ -1,10 +1,16 @@
-use Rattle.std.proofs.Common.{◌≡◌, ◌∙◌, ◌^◌, ◌%◌, ap, arith}
+use Rattle.std.proofs.Common.{◌∙◌, ◌^◌, ◌%◌, ℕ}
+use Rattle.std.proofs.Math.Path.{ap₂}
 use Rattle.word_device.proofs.port.addressed.Goals as goal
 use Rattle.word_device.proofs.Indexes.{index_is, index_none}
 
 pub returns-then-index-shape-clause-index : goal.returns-then-index-shape-clause-index
 returns-then-index-shape-clause-index c =
-    index_is c.args.shape.now c.args.addr _ c.physical_of-index.result c.requires ? c.physical_of-index.ensures.back c.physical_of-index.ensures.only (omega arith)
+    index_is c.args.shape.now c.args.addr c.low_bits-address.result c.physical_of-index.result c.requires
+    (c.low_bits-address.ensures ∙ ap₂ (λ (x w : ℕ). x % 2 ^ w) c.from.ensures c.width.ensures.width)
+    c.physical_of-index.ensures.back c.physical_of-index.ensures.only c.if-index-shape.true
 
 pub returns-else-index-shape-clause-index : goal.returns-else-index-shape-clause-index
-returns-else-index-shape-clause-index c = ?
+returns-else-index-shape-clause-index c =
+    index_none c.args.shape.now c.args.addr c.low_bits-address.result c.physical_of-index.result c.requires
+    (c.low_bits-address.ensures ∙ ap₂ (λ (x w : ℕ). x % 2 ^ w) c.from.ensures c.width.ensures.width)
+    c.physical_of-index.ensures.only c.if-index-shape.false
