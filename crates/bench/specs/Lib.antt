@@ -1,0 +1,5 @@
+pub mod Pins
+pub mod Joint
+pub mod Endings
+pub mod Refusals
+pub mod Cycles
