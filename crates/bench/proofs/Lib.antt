@@ -1,3 +1,4 @@
 pub mod Inputs
 pub mod Outputs
 pub mod Turning
+pub mod Stages

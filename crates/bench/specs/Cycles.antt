@@ -17,6 +17,7 @@ use Rattle.word_device.specs.Runs.{IsRight, IsFirstWrong}
 use Rattle.bench.specs.declared.ending.Seen.{Seen}
 use Rattle.bench.specs.declared.pins.Pins.{Pins}
 use Rattle.bench.specs.declared.cycle.Outputs.{Outputs}
+use Rattle.bench.specs.declared.cycle.CycleEnd.{CycleEnd}
 use Rattle.bench.specs.declared.run.Watch.{Watch}
 use Rattle.bench.specs.Joint.{Between, Turn, Joint, at_first, word_in, ports_in, first_done}
 
@@ -71,6 +72,26 @@ seen_by None cycle (Some word) returned =
 abbrev pub done_by : Option ℕ → Bool → ℕ → Option ℕ
 done_by (Some t) done cycle = Some t
 done_by None done cycle = if done then Some cycle else None
+
+-- what was seen, with a cycle more
+abbrev pub watched_by : Watch → ℕ → Option ℕ → CycleEnd → Watch
+watched_by watch cycle expected end = record {
+  rdata = end.rdata;
+  fail = end.fail;
+  done_cycle = done_by watch.done_cycle end.done cycle;
+  first = seen_by watch.first cycle expected watch.rdata;
+}
+
+-- what was seen before the first cycle
+abbrev pub unwatched : Watch
+unwatched = record { rdata = 0; fail = false; done_cycle = None; first = None }
+
+-- the first cycle is done
+pub record FirstWatched (mo : ModuleTree) (d : Description) (before after : List ℕ) (box left : Tells) (watch : Watch) : Type 0 where
+  pub end : CycleEnd
+  pub turned : Turned mo d 0 before after 0 end.rdata box left end.done end.fail
+  pub low : end.rdata < 2 ^ d.bits
+  pub watch_is : watch ≡ watched_by unwatched 0 None end
 
 -- the controller stands in cycle k of the run, where these words returned
 abbrev pub Controls : List MarchElement → Description → State → ℕ → List Env → Type 0

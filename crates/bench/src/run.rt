@@ -1,4 +1,23 @@
+ghost use Rattle.std.specs.Prelude.{◌≡◌, ◌<◌, ◌≤◌, ◌+◌, ◌^◌, Some, None, Ok, Err, Option, List, IfOk, IfErr};
+ghost use Rattle.march_core.specs.March.{IsMarch};
+ghost use Rattle.memory_desc.specs.Descriptions.{IsMemory};
+ghost use Rattle.controller.specs.States.{State};
+ghost use Rattle.verilog_cycle.specs.Nets.{valued};
+ghost use Rattle.verilog_cycle.specs.Design.{names, registers_of, with_registers};
+ghost use Rattle.self_test.specs.WrongPort.{ArePorts};
+ghost use Rattle.word_device.specs.Ports.{shape_of as memory_shape};
+ghost use Rattle.bench.specs.Pins.{ArePins};
+ghost use Rattle.bench.specs.Cycles.{seen_by, done_by, watched_by, FirstWatched, Stage};
+
+use crate::cycle::{CycleEnd, turn};
 use crate::ending::Seen;
+use crate::pins::{Pins, pins_of};
+use controller::Control;
+use march_core::March;
+use memory_desc::Memory;
+use microcode::assemble;
+use verilog_cycle::Design;
+use word_device::Device;
 
 /// What was seen so far.
 #[derive(Clone, Copy)]
@@ -11,4 +30,93 @@ pub struct Watch {
     pub done_cycle: Option<u32>,
     /// The first read that was answered wrong.
     pub first: Option<Seen>,
+}
+
+/// The first read that was answered wrong, with the one that is answered in this cycle.
+fn seen_with(first: Option<Seen>, cycle: u32, expected: Option<u64>, returned: u64) -> Option<Seen>
+    ensures { result ≡ seen_by first cycle expected returned }
+{
+    if first.is_some() {
+        return first;
+    }
+    let expected = expected?;
+    if expected == returned {
+        return None;
+    }
+    Some(Seen {
+        cycle,
+        expected,
+        returned,
+    })
+}
+
+/// The first cycle with `done`, with this one.
+fn done_with(done_cycle: Option<u32>, done: bool, cycle: u32) -> Option<u32>
+    ensures { result ≡ done_by done_cycle done cycle }
+{
+    match done_cycle {
+        Some(first) => Some(first),
+        None => {
+            if done {
+                Some(cycle)
+            } else {
+                None
+            }
+        }
+    }
+}
+
+/// What was seen, with a cycle more.
+fn watched(watch: Watch, cycle: u32, expected: Option<u64>, end: CycleEnd) -> Watch
+    ensures { result ≡ watched_by watch cycle expected end }
+{
+    Watch {
+        rdata: end.rdata,
+        fail: end.fail,
+        done_cycle: done_with(watch.done_cycle, end.done, cycle),
+        first: seen_with(watch.first, cycle, expected, watch.rdata),
+    }
+}
+
+/// The first cycle, that of the reset.
+fn first_cycle(design: &mut Design, pins: Pins, memory: &Memory, device: &mut Box<dyn Device>) -> Watch
+    requires ports { ArePorts memory.now design.old.tree.ports }
+    requires pins { ArePins design.old.tree.ports pins }
+    requires fitted { shape_of device.old ≡ Some (memory_shape memory.now) }
+    ensures kept { design.new ≡ with_registers design.old design.new.registers }
+    ensures device { (room_of device.new ≡ room_of device.old) × (shape_of device.new ≡ shape_of device.old) }
+    ensures low { result.rdata < 2 ^ memory.now.bits }
+    ensures watched { FirstWatched design.old.tree memory.now design.old.registers design.new.registers (tells device.old) (tells device.new) result }
+{
+    let end = turn(design, pins, memory, device, 0, 0);
+    let watch = Watch {
+        rdata: 0,
+        fail: false,
+        done_cycle: None,
+        first: None,
+    };
+    watched(watch, 0, None, end)
+}
+
+/// The cycles of a run, one after another.
+fn run_cycles(design: &mut Design, pins: Pins, march: &March, memory: &Memory, device: &mut Box<dyn Device>, cycles: u32) -> Watch
+    requires ports { ArePorts memory.now design.old.tree.ports }
+    requires pins { ArePins design.old.tree.ports pins }
+    requires fitted { shape_of device.old ≡ Some (memory_shape memory.now) }
+    requires some { 1 ≤ cycles }
+    ensures kept { design.new ≡ with_registers design.old design.new.registers }
+    ensures device { (room_of device.new ≡ room_of device.old) × (shape_of device.new ≡ shape_of device.old) }
+    ensures stage { (control : State) × Stage design.old.tree march.now memory.now design.old.registers (tells device.old) cycles design.new.registers result (tells device.new) control }
+{
+    let _ = march.len();
+    let code = assemble(march);
+    let mut control = Control::reset(&code, memory);
+    let mut watch = first_cycle(design, pins, memory, device);
+    for cycle in 1..cycles {
+        let expected = control.expected();
+        control.step(watch.rdata);
+        let end = turn(design, pins, memory, device, cycle, watch.rdata);
+        watch = watched(watch, cycle, expected, end);
+    }
+    watch
 }
