@@ -74,10 +74,10 @@ is_one d n k h c = elim (or_true (bytes_eq n (codes "clk") && nat_eq k 1) _ h) [
   | inl g ↦ (let z = (and_true (bytes_eq n (codes "clk")) (nat_eq k 1) g).0 in cc)
   | inr g ↦ elim (or_true (bytes_eq n (codes "reset") && nat_eq k 1) _ g) [
     | inl f ↦ (let a = and_true (bytes_eq n (codes "reset")) (nat_eq k 1) f in
-      inl (ap₂ (λ m w. record { name = m; kind = K.Input; width = w }) ((bytes_eq-Decides n (codes "reset")).0 a.0) ((Decides-eqb k 1).0 a.1)))
+        inl (ap₂ (λ m w. record { name = m; kind = K.Input; width = w }) ((bytes_eq-Decides n (codes "reset")).0 a.0) ((Decides-eqb k 1).0 a.1)))
     | inr f ↦ elim (or_true (bytes_eq n (codes "rdata") && nat_eq k d.bits) _ f) [
       | inl e ↦ (let a = and_true (bytes_eq n (codes "rdata")) (nat_eq k d.bits) e in
-        inr (ap₂ (λ m w. record { name = m; kind = K.Input; width = w }) ((bytes_eq-Decides n (codes "rdata")).0 a.0) ((Decides-eqb k d.bits).0 a.1)))
+          inr (ap₂ (λ m w. record { name = m; kind = K.Input; width = w }) ((bytes_eq-Decides n (codes "rdata")).0 a.0) ((Decides-eqb k d.bits).0 a.1)))
       | inr e ↦ absurd (none_left e)
     ]
   ]
@@ -193,8 +193,8 @@ is_there n k (q ∷ qs) c h = elim (or_true _ _ h) [
         let parts = and_true (bytes_eq n q.name) _ g in
         let width = (and_true (same_direction Input q.dir) (nat_eq k q.width) parts.1).1 in
         let same : ◌≡◌ {A = ModulePort} (record { dir = Input; name = n; width = k }) q =
-            ap (λ x. record { dir = x; name = n; width = k }) (sym e)
-            ∙ ap₂ (λ m w. record { dir = q.dir; name = m; width = w }) ((bytes_eq-Decides n q.name).0 parts.0) ((Decides-eqb k q.width).0 width) in
+        ap (λ x. record { dir = x; name = n; width = k }) (sym e)
+        ∙ ap₂ (λ m w. record { dir = q.dir; name = m; width = w }) ((bytes_eq-Decides n q.name).0 parts.0) ((Decides-eqb k q.width).0 width) in
         subst (λ (x : ModulePort). Holds (if is_data (port_declaration x) then port_declaration x ∷ data_inputs qs else data_inputs qs) (record { name = n; kind = K.Input; width = k })) same
         (subst (λ b. Holds (if not b then (record { name = n; kind = K.Input; width = k }) ∷ data_inputs qs else data_inputs qs) (record { name = n; kind = K.Input; width = k })) (sym c) (0, refl))
     here Output e g = absurd (no_way Output e refl g)

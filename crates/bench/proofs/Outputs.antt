@@ -45,7 +45,7 @@ stands n k (p ∷ ps) h = by (is_plain_input p.dir) refl (λ g. stands n k ps g)
     not_here : is_plain_input p.dir ≡ true → has_port (record { dir = Output; name = n; width = k }) ps ≡ true
     not_here e = elim (or_true (same_port (record { dir = Output; name = n; width = k }) p) (has_port (record { dir = Output; name = n; width = k }) ps) h) [
       | inl g ↦ (let a = and_true (bytes_eq n p.name) (same_direction Output p.dir && nat_eq k p.width) g in let b = and_true (same_direction Output p.dir) (nat_eq k p.width) a.1 in
-        absurd (nothing_left (sym (input_differs p.dir e) ∙ b.0)))
+          absurd (nothing_left (sym (input_differs p.dir e) ∙ b.0)))
       | inr g ↦ g
     ]
 
@@ -102,7 +102,7 @@ width_there n k (p ∷ ps) rest h f = by (bytes_eq n p.name) refl (λ g. width_t
         → width_of (port_declarations (p ∷ ps) ++ rest) n ≡ k
     by true e r = elim (or_true (same_port (record { dir = Output; name = n; width = k }) p) (has_port (record { dir = Output; name = n; width = k }) ps) f) [
       | inl g ↦ (let a = and_true (bytes_eq n p.name) (same_direction Output p.dir && nat_eq k p.width) g in let w = and_true (same_direction Output p.dir) (nat_eq k p.width) a.1 in
-        ap (λ b. declared_width (cond b (Some (port_declaration p)) (lookup (port_declarations ps ++ rest) n))) e ∙ sym ((Decides-eqb k p.width).0 w.1))
+          ap (λ b. declared_width (cond b (Some (port_declaration p)) (lookup (port_declarations ps ++ rest) n))) e ∙ sym ((Decides-eqb k p.width).0 w.1))
       | inr g ↦ absurd (twice e g)
     ]
     by false e r = elim (or_true (same_port (record { dir = Output; name = n; width = k }) p) (has_port (record { dir = Output; name = n; width = k }) ps) f) [

@@ -14,7 +14,10 @@ use Rattle.verilog_tree.specs.Meaning.{Env, Given, AllGiven, Settles, next}
 use Rattle.march_core.specs.March.{MarchElement, IsMarch}
 use Rattle.memory_desc.specs.Descriptions.{Description, IsMemory}
 use Rattle.word_march.specs.declared.operations.PortOp.{PortOp}
-use Rattle.word_march.specs.Commands.{port_ops, command_at}
+use Rattle.std.proofs.lemmas.Option.{slice_get_within}
+use Rattle.word_march.specs.Commands.{port_ops, command_at, slots, span}
+use Rattle.controller.specs.Standing.{Starts}
+use Rattle.controller.proofs.Slots.{start}
 use Rattle.word_march.specs.PortRule.{PortValues, cycle_of}
 use Rattle.word_march.proofs.Ports.{at_more, one_command}
 use Rattle.self_test.specs.Ports.{port_values}
@@ -29,6 +32,7 @@ use Rattle.bench.specs.declared.ending.Seen.{Seen}
 use Rattle.bench.specs.declared.cycle.CycleEnd.{CycleEnd}
 use Rattle.bench.specs.declared.run.Watch.{Watch}
 use Rattle.bench.specs.Joint.{Between, Turn, Joint, at_first, word_in, ports_in, first_done}
+use Rattle.bench.specs.Endings.{cycle_count, IsFirstSeen, Shows, Runs}
 use Rattle.bench.specs.Cycles.{Turned, IsFirstSeenBefore, seen_by, done_by, watched_by, unwatched, FirstWatched, Controls, Stage}
 
 -- ---- registers by their list
@@ -72,12 +76,14 @@ given_same r s ins e (d ∷ ds) a g = by d.kind refl (λ b. given_same r s ins e
   where
     by : (k : Kind) → d.kind ≡ k → (AllByRecursion (λ x. r x.name ≡ s x.name) (filter (λ d. is_register d.kind) ds) → AllGiven s ins e ds)
         → Given s ins e d.kind d.name × AllGiven s ins e ds
-    by K.Input f rest =
-        (subst (λ k. Given s ins e k d.name) (sym f) (subst (λ k. Given r ins e k d.name) f g.0),
-        rest (subst (λ k. AllByRecursion (λ x. r x.name ≡ s x.name) (if is_register k then d ∷ filter (λ d. is_register d.kind) ds else filter (λ d. is_register d.kind) ds)) f a))
-    by K.Wire f rest =
-        (subst (λ k. Given s ins e k d.name) (sym f) tt,
-        rest (subst (λ k. AllByRecursion (λ x. r x.name ≡ s x.name) (if is_register k then d ∷ filter (λ d. is_register d.kind) ds else filter (λ d. is_register d.kind) ds)) f a))
+    by K.Input f rest = (
+      subst (λ k. Given s ins e k d.name) (sym f) (subst (λ k. Given r ins e k d.name) f g.0),
+      rest (subst (λ k. AllByRecursion (λ x. r x.name ≡ s x.name) (if is_register k then d ∷ filter (λ d. is_register d.kind) ds else filter (λ d. is_register d.kind) ds)) f a),
+    )
+    by K.Wire f rest = (
+      subst (λ k. Given s ins e k d.name) (sym f) tt,
+      rest (subst (λ k. AllByRecursion (λ x. r x.name ≡ s x.name) (if is_register k then d ∷ filter (λ d. is_register d.kind) ds else filter (λ d. is_register d.kind) ds)) f a),
+    )
     by K.Register f rest =
         let b = subst (λ k. AllByRecursion (λ x. r x.name ≡ s x.name) (if is_register k then d ∷ filter (λ d. is_register d.kind) ds else filter (λ d. is_register d.kind) ds)) f a in
         let was : e d.name ≡ r d.name = subst (λ k. Given r ins e k d.name) f g.0 in
@@ -156,10 +162,10 @@ module _ (march : List MarchElement) (d : Description) where
   right_new k v w word same x is f j h command e r = elim (cases_lt (cycle_of march d j + d.latency) k) [
     | inl l ↦ moved_right k v w j same l (f j l) command e r
     | inr l ↦ (let at : cycle_of march d j + d.latency ≡ k = omega arith in
-      let there = x.4 in
-      let one : j ≡ x.0 = one_command march d j x.0 (cycle_of march d j) refl (omega arith) in
-      let command_is : x.1 ≡ command = same_command j x.1 command (subst (λ i. slice_get (port_ops march d) i ≡ Some x.1) (sym one) x.2) e in
-      ap w at ∙ is ∙ x.5 ∙ ap (λ o. o.word) command_is)
+        let there = x.4 in
+        let one : j ≡ x.0 = one_command march d j x.0 (cycle_of march d j) refl (omega arith) in
+        let command_is : x.1 ≡ command = same_command j x.1 command (subst (λ i. slice_get (port_ops march d) i ≡ Some x.1) (sym one) x.2) e in
+        ap w at ∙ is ∙ x.5 ∙ ap (λ o. o.word) command_is)
   ]
 
   -- and by another
@@ -167,14 +173,18 @@ module _ (march : List MarchElement) (d : Description) where
       → IsFirstSeenBefore march d k v None → IsFirstSeenBefore march d (k + 1) w (Some (record { cycle = k; expected = word; returned = returned }))
   wrong_new k v w word returned same x is other f =
       let at : k ≡ cycle_of march d x.0 + d.latency = x.4 in
-      let back : w (cycle_of march d x.0 + d.latency) ≡ returned = ap w (sym at) ∙ is in
-      (x.0, x.1, omega arith,
-      record {
-        wrong = record { command = x.1; is_command = x.2; is_read = x.3; differs = λ z. other (x.5 ∙ sym z ∙ back) };
-        right_before = λ i l. (let before : cycle_of march d i + d.latency < k = (let m = at_more march d i x.0 l in omega arith) in
-            moved_right k v w i same before (f i before));
-      },
-      x.2, seen_is k (cycle_of march d x.0 + d.latency) word x.1.word returned (w (cycle_of march d x.0 + d.latency)) at x.5 (sym back))
+      let back : w (cycle_of march d x.0 + d.latency) ≡ returned = ap w (sym at) ∙ is in (
+        x.0,
+        x.1,
+        omega arith,
+        record {
+          wrong = record { command = x.1; is_command = x.2; is_read = x.3; differs = λ z. other (x.5 ∙ sym z ∙ back) };
+          right_before = λ i l. (let before : cycle_of march d i + d.latency < k = (let m = at_more march d i x.0 l in omega arith) in
+              moved_right k v w i same before (f i before));
+        },
+        x.2,
+        seen_is k (cycle_of march d x.0 + d.latency) word x.1.word returned (w (cycle_of march d x.0 + d.latency)) at x.5 (sym back),
+      )
     where
       seen_is : (k l m n o p : ℕ) → k ≡ l → m ≡ n → o ≡ p → ◌≡◌ {A = Seen} (record { cycle = k; expected = m; returned = o }) (record { cycle = l; expected = n; returned = p })
       seen_is k l m n o p e f g = ap (λ x. record { cycle = x; expected = m; returned = o }) e ∙ ap₂ (λ x y. record { cycle = l; expected = x; returned = y }) f g
@@ -182,15 +192,20 @@ module _ (march : List MarchElement) (d : Description) where
   first_new : (k : ℕ) (v w : ℕ → ℕ) (seen : Option Seen) (expected : Option ℕ) (returned : ℕ) → ((t : ℕ) → t < k → w t ≡ v t) → w k ≡ returned
       → IsExpected march d k expected → IsFirstSeenBefore march d k v seen → IsFirstSeenBefore march d (k + 1) w (seen_by seen k expected returned)
   first_new k v w (Some seen) expected returned same is x f =
-      let l = f.2 in
-      (f.0, f.1, omega arith, moved_first k v w f.0 same f.2 f.3, f.4,
-      f.5 ∙ ap (λ r. record { cycle = cycle_of march d f.0 + d.latency; expected = f.1.word; returned = r }) (sym (same (cycle_of march d f.0 + d.latency) f.2)))
+      let l = f.2 in (
+        f.0,
+        f.1,
+        omega arith,
+        moved_first k v w f.0 same f.2 f.3,
+        f.4,
+        f.5 ∙ ap (λ r. record { cycle = cycle_of march d f.0 + d.latency; expected = f.1.word; returned = r }) (sym (same (cycle_of march d f.0 + d.latency) f.2)),
+      )
   first_new k v w None None returned same is x f = none_new k v w same x f
   first_new k v w None (Some word) returned same is x f = elim (eqb_tells word returned) [
     | inl r ↦ subst (λ b. IsFirstSeenBefore march d (k + 1) w (if b then None else Some (record { cycle = k; expected = word; returned = returned }))) (sym r.0)
-      (right_new k v w word same x (is ∙ sym r.1) f)
+        (right_new k v w word same x (is ∙ sym r.1) f)
     | inr r ↦ subst (λ b. IsFirstSeenBefore march d (k + 1) w (if b then None else Some (record { cycle = k; expected = word; returned = returned }))) (sym r.0)
-      (wrong_new k v w word returned same x is r.1 f)
+        (wrong_new k v w word returned same x is r.1 f)
   ]
 
 -- ---- the stages of a run
@@ -300,3 +315,38 @@ stage_more mo mo' march d first_registers first_box k now after watch watch' box
     subst (λ (w : Watch). Stage mo march d first_registers first_box (k + 1) after w left stepped) (sym is)
     (stage_next mo march d first_registers first_box k now after watch box left control stepped expected end s
     (subst (λ (m : ModuleTree). Turned m d k now after watch.rdata end.rdata box left end.done end.fail) same t) low x steps)
+
+-- ---- the whole run
+
+-- every read is answered before the last cycle
+all_before : (march : List MarchElement) (d : Description) (j : ℕ) (c : PortOp) → IsMarch march → IsMemory d → slice_get (port_ops march d) j ≡ Some c
+    → cycle_of march d j + d.latency < cycle_count march d
+all_before march d j c m n e =
+    let s = start march d m n in
+    let within = slice_get_within (slots march d) (command_at march d j) (Some c) (s.stands j c e) in
+    let count = s.count in
+    omega arith
+
+pub whole : (mo : ModuleTree) (march : List MarchElement) (d : Description) (registers now : List ℕ) (before after : Tells) (k : ℕ) (watch : Watch)
+    → IsMarch march → IsMemory d → k ≡ cycle_count march d
+    → (control : State) × Stage mo march d registers before k now watch after control
+    → Runs mo march d registers now before after watch.fail watch.done_cycle watch.first
+whole mo march d registers now before after k watch m n e h =
+    let s = h.1 in
+    record {
+      cycles = s.cycles;
+      left = s.left;
+      joint = s.joint;
+      count = s.count ∙ e;
+      registers_are = s.registers;
+      box = s.box_is;
+      shows = record {
+        fail = s.fail (span march d + 1 + d.latency) (omega arith);
+        done = s.done;
+        first = seen watch.first s.first;
+      };
+    }
+  where
+    seen : (o : Option Seen) → IsFirstSeenBefore march d k (word_in h.1.cycles) o → IsFirstSeen march d (word_in h.1.cycles) o
+    seen None f = λ j c a b. f j (subst (λ x. cycle_of march d j + d.latency < x) (sym e) (all_before march d j c m n a)) c a b
+    seen (Some x) f = (f.0, f.1, f.3, f.4, f.5)

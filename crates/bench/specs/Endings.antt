@@ -1,5 +1,5 @@
 -- What a bench run sees: how it ends, and the first read that is answered wrong.
-use Rattle.std.specs.Prelude.{◌≡◌, ◌+◌, ℕ, Bool, List, length, Option, Some, None, slice_get}
+use Rattle.std.specs.Prelude.{◌≡◌, ◌+◌, ℕ, Bool, List, length, Option, Some, None, map, slice_get}
 use Rattle.verilog_tree.specs.Plain.{ModuleTree}
 use Rattle.verilog_tree.specs.Meaning.{Env}
 use Rattle.march_core.specs.March.{MarchElement}
@@ -7,6 +7,8 @@ use Rattle.memory_desc.specs.Descriptions.{Description}
 use Rattle.word_march.specs.declared.operations.PortOp.{PortOp}
 use Rattle.word_march.specs.Commands.{port_ops, span}
 use Rattle.word_march.specs.PortRule.{cycle_of}
+use Rattle.verilog_cycle.specs.Nets.{valued}
+use Rattle.verilog_cycle.specs.Design.{names, registers_of}
 use Rattle.word_device.specs.Boxes.{Tells}
 use Rattle.word_device.specs.Joint.{returned_word}
 use Rattle.word_device.specs.Runs.{AllRight, IsFirstWrong}
@@ -31,11 +33,12 @@ pub record Shows (march : List MarchElement) (d : Description) (es : List Env) (
   pub done : done_in ≡ first_done 0 es
   pub first : IsFirstSeen march d (word_in es) seen
 
--- a run of the module from these registers, joined with a box that tells this: what is seen, and what the box tells then
-pub record Runs (mo : ModuleTree) (march : List MarchElement) (d : Description) (registers : Env) (before after : Tells) (failed : Bool) (done_in : Option ℕ) (seen : Option Seen) : Type 0 where
+-- a run of the module from these registers, joined with a box that tells this: what is seen, and what registers and box are then
+pub record Runs (mo : ModuleTree) (march : List MarchElement) (d : Description) (registers now : List ℕ) (before after : Tells) (failed : Bool) (done_in : Option ℕ) (seen : Option Seen) : Type 0 where
   pub cycles : List Env
   pub left : Between
-  pub joint : Joint mo d 0 cycles (at_first registers before) left
+  pub joint : Joint mo d 0 cycles (at_first (valued (names (registers_of mo)) registers) before) left
   pub count : length cycles ≡ cycle_count march d
+  pub registers_are : now ≡ map (λ x. left.registers x.name) (registers_of mo)
   pub box : left.box ≡ after
   pub shows : Shows march d cycles failed done_in seen

@@ -94,7 +94,14 @@ fn low_bits(word: u64, bits: u8) -> u64
 
 /// One cycle of the design and the box, with this word on `rdata`.
 #[tactic(auto, using(crate::proofs::Inputs::given, crate::proofs::Outputs::within, crate::proofs::Outputs::shown))]
-pub fn turn(design: &mut Design, pins: Pins, memory: &Memory, device: &mut Box<dyn Device>, cycle: u32, rdata: u64) -> CycleEnd
+pub fn turn(
+    design: &mut Design,
+    pins: Pins,
+    memory: &Memory,
+    device: &mut Box<dyn Device>,
+    cycle: u32,
+    rdata: u64,
+) -> CycleEnd
     requires ports { ArePorts memory.now design.old.tree.ports }
     requires pins { ArePins design.old.tree.ports pins }
     requires word { rdata < 2 ^ memory.now.bits }

@@ -8,3 +8,4 @@ mod pins;
 mod run;
 
 pub use ending::{BenchEnd, BenchFault, BenchRefused, Seen};
+pub use run::bench;
