@@ -2,3 +2,14 @@ pub mod Lanes
 pub mod Closed
 pub mod Indexes
 pub mod Filling
+pub mod Steps
+pub mod Core
+pub mod Catching
+pub mod Passing
+pub mod Cycles
+pub mod Porting
+pub mod Running
+pub mod Marching
+pub mod Joining
+pub mod Joint
+pub mod WayBack

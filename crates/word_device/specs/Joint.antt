@@ -8,7 +8,7 @@ use Rattle.word_device.specs.declared.device.Planted.{Planted}
 use Rattle.word_device.specs.declared.device.PortCmd.{PortCmd}
 use Rattle.word_device.specs.declared.shape.Shape.{Shape}
 use Rattle.word_device.specs.Ports.{Chip, shape_of, chip_after, cycle_answer}
-use Rattle.word_device.specs.Runs.{run_word, AllRight, IsFirstWrong, HasDetected, IsPlain}
+use Rattle.word_device.specs.Runs.{run_word, AllRight, SomeWrong, IsFirstWrong, HasDetected, IsPlain}
 
 -- what the ports of a cycle say to the memory
 abbrev pub command_on : PortValues → PortCmd
@@ -59,7 +59,16 @@ SameWords march d =
     (chip : Chip) (q : ℕ → PortValues) (returned : ℕ → ℕ) (last j : ℕ) → Joined march d chip q returned last
     → j < length (port_ops march d) → returned_word march d returned j ≡ run_word march d chip j
 
--- so the first wrong word is the same
+-- so the test is done, and has failed exactly where the chip alone answers some read wrong
+pub record EndsAs (march : List MarchElement) (d : Description) (chip : Chip) (q : PortValues) : Type 0 where
+  pub done : IsTrue q.done
+  pub fail : IsTrue q.fail ↔ SomeWrong march d (run_word march d chip)
+
+abbrev pub JointEnds : List MarchElement → Description → Type 0
+JointEnds march d =
+    (chip : Chip) (q : ℕ → PortValues) (returned : ℕ → ℕ) (last : ℕ) → Joined march d chip q returned last → EndsAs march d chip (q last)
+
+-- and the first wrong word is the same
 abbrev pub SameFirst : List MarchElement → Description → Type 0
 SameFirst march d =
     (chip : Chip) (q : ℕ → PortValues) (returned : ℕ → ℕ) (last j : ℕ) → Joined march d chip q returned last

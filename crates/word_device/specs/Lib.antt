@@ -3,3 +3,4 @@ pub mod Ports
 pub mod Boxes
 pub mod Runs
 pub mod Joint
+pub mod WayBack

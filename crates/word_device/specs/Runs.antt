@@ -103,6 +103,10 @@ FailsPlanted march d =
     (chip : Chip) (i : Planted) (cmds : List PortCmd) → HasDetected march d i chip → AreSlots (run_slots march d) cmds
     → SomeWrong march d (λ j. answer_to march d (own_answers (shape_of d) chip cmds) j % 2 ^ d.bits)
 
+-- and so does the chip alone
+abbrev pub FailsAlone : List MarchElement → Description → Type 0
+FailsAlone march d = (chip : Chip) (i : Planted) → HasDetected march d i chip → SomeWrong march d (run_word march d chip)
+
 -- so does one that was just planted
 abbrev pub FailsFresh : List MarchElement → Description → Type 0
 FailsFresh march d =
@@ -116,6 +120,10 @@ abbrev pub PassesPlain : List MarchElement → Description → Type 0
 PassesPlain march d =
     (chip : Chip) (cmds : List PortCmd) → IsPlain d chip → AreSlots (run_slots march d) cmds
     → AllRight march d (answer_to march d (own_answers (shape_of d) chip cmds))
+
+-- and so does the chip alone
+abbrev pub PassesAlone : List MarchElement → Description → Type 0
+PassesAlone march d = (chip : Chip) → IsPlain d chip → AllRight march d (run_word march d chip)
 
 -- closed words stay as they are, and are as many
 pub record IsClosing (i : Planted) (words : List ℕ) : Type 0 where

@@ -3,12 +3,14 @@ ghost use Rattle.std.specs.List.{range_with_len};
 ghost use Rattle.word_device.specs.Chips.{words_after, reply_to, words_paused, closed_by};
 ghost use Rattle.word_device.specs.Ports.{addressed, acted_at, answer_at, rested, idle_more};
 ghost use Rattle.word_device.specs.Boxes.{IsShape, FitsPlanted, pattern};
+ghost use Rattle.word_device.specs.WayBack.{IsWayBack};
 
 use crate::device::{Device, DeviceFault, Planted, PortCmd};
 use crate::instance::{close, does_fit, operate_plain, operate_planted, pause};
 use crate::pending::{no_answers, pass_on};
 use crate::port::{addressed, low_bits, shown, stored_op};
 use crate::shape::Shape;
+use crate::way_back::WayBack;
 use arrayvec::ArrayVec;
 use std::alloc::Global;
 use std::marker::Model;
@@ -20,6 +22,7 @@ pub struct ArrayDevice {
     room: u32,
     shape: Option<Shape>,
     words: Vec<u64>,
+    way: WayBack,
     planted: Option<Planted>,
     pending: ArrayVec<u64, 3>,
     idle: u32,
@@ -28,12 +31,18 @@ pub struct ArrayDevice {
 
 impl Model for ArrayDevice {
     ghost use Rattle.word_device.specs.Boxes.{ArrayState, IsArray};
+    ghost use Rattle.word_device.specs.WayBack.{LeadsBack};
 
     ghost Value = { ArrayState };
 
-    ghost view = { λ s. record { room = s.room; shape = s.shape; chip = record { words = s.words.items; planted = s.planted; pending = s.pending.items; idle = s.idle } } };
+    ghost view = { λ s. record {
+      room = s.room;
+      shape = s.shape;
+      chip = record { words = s.words.items; planted = s.planted; pending = s.pending.items; idle = s.idle };
+    } };
 
-    ghost invariant = { λ s. IsArray s.shape (record { words = s.words.items; planted = s.planted; pending = s.pending.items; idle = s.idle }) };
+    ghost invariant = { λ s. LeadsBack s.shape s.way
+        × IsArray s.shape (record { words = s.words.items; planted = s.planted; pending = s.pending.items; idle = s.idle }) };
 }
 
 impl ArrayDevice {
@@ -47,6 +56,7 @@ impl ArrayDevice {
             room,
             shape: None,
             words: Vec::new(alloc),
+            way: WayBack::none(),
             planted: None,
             pending: ArrayVec::new(),
             idle: 0,
@@ -100,14 +110,21 @@ fn fill_words(words: &mut [u64], number: u64, bits: u8)
 }
 
 /// A command that is enabled: its own answer.
-fn act(shape: &Shape, planted: &Option<Planted>, words: &mut [u64], cmd: &PortCmd) -> u64
+fn act(
+    shape: &Shape,
+    way: &WayBack,
+    planted: &Option<Planted>,
+    words: &mut [u64],
+    cmd: &PortCmd,
+) -> u64
     requires shape { IsShape shape.now }
+    requires way { IsWayBack shape.now.scramble way.now }
     requires words { length words.old ≡ shape.now.words }
     requires fits { FitsPlanted planted.now (length words.old) 64 }
     ensures words { words.new ≡ acted_at shape.now planted.now words.old cmd.now (addressed shape.now cmd.now.addr) }
     ensures answer { result ≡ answer_at shape.now planted.now words.old cmd.now (addressed shape.now cmd.now.addr) }
 {
-    match addressed(shape, cmd.addr) {
+    match addressed(shape, way, cmd.addr) {
         Some(index) => {
             let op = stored_op(shape, cmd, index);
             shown(cmd.we, shape.polarity, operate(planted, words, op))
@@ -160,6 +177,7 @@ impl Device for ArrayDevice {
             Ok(words) => {
                 self.words = words;
                 self.shape = Some(shape.duplicate());
+                self.way = WayBack::of(&shape.scramble);
                 self.planted = None;
                 self.pending = no_answers(shape.latency);
                 self.idle = 0;
@@ -195,7 +213,7 @@ impl Device for ArrayDevice {
         };
         let own = if cmd.en {
             self.idle = 0;
-            act(shape, &self.planted, &mut self.words, cmd)
+            act(shape, &self.way, &self.planted, &mut self.words, cmd)
         } else {
             self.idle = rest(shape, &self.planted, &mut self.words, self.idle);
             0

@@ -66,12 +66,14 @@ pub trait Device: Drop {
         ensures fitted { IsTrue result ↔ IsSome (shape_of self.now) }
         ensures told { IsTold (shape_of self.now) (tells self.now) };
 
-    /// Takes a shape: all words are 0, nothing is planted, and no answer is under way. Refused with V1 exactly where it has room for
+    /// Takes a shape: all words are 0, nothing is planted, and the answers under way are 0. Refused with V1 exactly where it has room for
     /// fewer words.
     fn fit(&mut self, shape: &Shape) -> Result<(), DeviceFault>
         requires { IsShape shape.now }
-        ensures ok { OnOk result (told (room_of self.new) (shape_of self.new) (tells self.new) ≡ told (room_of self.old) (Some shape.now) (after_fit shape.now (tells self.old))) }
-        ensures err { OnErr result (told (room_of self.new) (shape_of self.new) (tells self.new) ≡ told (room_of self.old) (shape_of self.old) (tells self.old)) }
+        ensures ok { OnOk result (told (room_of self.new) (shape_of self.new) (tells self.new)
+            ≡ told (room_of self.old) (Some shape.now) (after_fit shape.now (tells self.old))) }
+        ensures err { OnErr result (told (room_of self.new) (shape_of self.new) (tells self.new)
+            ≡ told (room_of self.old) (shape_of self.old) (tells self.old)) }
         ensures too_big { result ≡ Err DeviceFault.TooBig ↔ (room_of self.old < shape.now.words) }
         ensures places { IfErr result (λ fault. fault ≢ DeviceFault.BadPlace) };
 
@@ -79,19 +81,23 @@ pub trait Device: Drop {
     fn plant(&mut self, planted: &Planted) -> Result<(), DeviceFault>
         requires fitted { IsSome (shape_of self.old) }
         requires places { is_some planted.now.agg ≡ has_aggressor planted.now.prim }
-        ensures ok { OnOk result (told (room_of self.new) (shape_of self.new) (tells self.new) ≡ told (room_of self.old) (shape_of self.old) (after_plant planted.now (tells self.old))) }
-        ensures err { OnErr result (told (room_of self.new) (shape_of self.new) (tells self.new) ≡ told (room_of self.old) (shape_of self.old) (tells self.old)) }
+        ensures ok { OnOk result (told (room_of self.new) (shape_of self.new) (tells self.new)
+            ≡ told (room_of self.old) (shape_of self.old) (after_plant planted.now (tells self.old))) }
+        ensures err { OnErr result (told (room_of self.new) (shape_of self.new) (tells self.new)
+            ≡ told (room_of self.old) (shape_of self.old) (tells self.old)) }
         ensures fits { IsOk result ↔ FitsBox (shape_of self.old) planted.now }
         ensures bad_place { IfErr result (λ fault. fault ≡ DeviceFault.BadPlace) };
 
     /// Stores the words that a number stands for, and closes them. The number 0 stands for zeros.
     fn fill(&mut self, number: u64)
         requires fitted { IsSome (shape_of self.old) }
-        ensures { told (room_of self.new) (shape_of self.new) (tells self.new) ≡ told (room_of self.old) (shape_of self.old) (after_fill (shape_of self.old) number (tells self.old)) };
+        ensures { told (room_of self.new) (shape_of self.new) (tells self.new)
+            ≡ told (room_of self.old) (shape_of self.old) (after_fill (shape_of self.old) number (tells self.old)) };
 
     /// Acts on the command, and answers the word that stands at the port in the next cycle.
     fn cycle(&mut self, cmd: &PortCmd) -> u64
         requires fitted { IsSome (shape_of self.old) }
-        ensures new { told (room_of self.new) (shape_of self.new) (tells self.new) ≡ told (room_of self.old) (shape_of self.old) (after_cycle (shape_of self.old) cmd.now (tells self.old)) }
+        ensures new { told (room_of self.new) (shape_of self.new) (tells self.new)
+            ≡ told (room_of self.old) (shape_of self.old) (after_cycle (shape_of self.old) cmd.now (tells self.old)) }
         ensures answer { Answers (shape_of self.old) cmd.now (tells self.old) result };
 }

@@ -1,4 +1,4 @@
-ghost use Rattle.std.specs.Prelude.{◌≡◌, ◌<◌, ◌↔◌, IsTrue, IsOk, IfErr, is_some, length, Some, None};
+ghost use Rattle.std.specs.Prelude.{◌≡◌, ◌<◌, ◌↔◌, if◌then◌else◌, IsTrue, IsOk, IfErr, is_some, length, Some, None};
 ghost use Rattle.fault_core.specs.Primitive.{agg_has_act, has_aggressor, pauses};
 ghost use Rattle.fault_core.specs.Cells.{has_act, has_this_act};
 ghost use Rattle.word_device.specs.Boxes.{FitsBox};
@@ -72,6 +72,17 @@ pub(crate) fn close(planted: &Planted, words: &mut [u64])
     }
 }
 
+/// The effect of the instance where the act was its own, and closing.
+fn take_effect(planted: &Planted, words: &mut [u64], own: bool)
+    requires { FitsMemory planted.now (length words.old) 64 }
+    ensures { words.new ≡ closed_words planted.now (if own then with_bit_in words.old planted.now.vic planted.now.prim.after else words.old) }
+{
+    if own {
+        set_bit(words, planted.vic, planted.prim.after());
+    }
+    close(planted, words);
+}
+
 fn is_retention(prim: &Prim) -> bool
     ensures { result ≡ pauses prim.now }
 {
@@ -84,10 +95,8 @@ pub(crate) fn pause(planted: &Planted, words: &mut [u64])
     requires { FitsMemory planted.now (length words.old) 64 }
     ensures { words.new ≡ paused_words planted.now words.old }
 {
-    if is_retention(&planted.prim) && do_states_hold(planted, words) {
-        set_bit(words, planted.vic, planted.prim.after());
-    }
-    close(planted, words);
+    let own = is_retention(&planted.prim) && do_states_hold(planted, words);
+    take_effect(planted, words, own);
 }
 
 fn is_this_act(own: Option<Act>, act: Act) -> bool
@@ -179,16 +188,12 @@ pub(crate) fn operate_planted(planted: &Planted, words: &mut [u64], op: WordOp) 
 {
     let own = does_match(planted, words, op);
     let plain = do_plainly(words, op);
-    let reply = if own {
+    take_effect(planted, words, own);
+    if own {
         with_answer(planted.prim.answer(), planted.vic, plain)
     } else {
         plain
-    };
-    if own {
-        set_bit(words, planted.vic, planted.prim.after());
     }
-    close(planted, words);
-    reply
 }
 
 /// One operation on words with nothing planted.

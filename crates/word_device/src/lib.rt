@@ -17,11 +17,15 @@ mod no_fit;
 mod pending;
 mod port;
 mod shape;
+mod way_back;
 
 pub use array::ArrayDevice;
 pub use constant::ConstDevice;
 pub use counting::CountDevice;
 pub use device::{Device, DeviceFault, Place, Planted, PortCmd};
-pub use laws::closing;
+pub use laws::{
+    closing, first_differs, freshly_planted_fails, joint_fails, joint_passes, planted_fails,
+    unplanted_passes,
+};
 pub use no_fit::NoFitDevice;
 pub use shape::{Shape, shape_of};

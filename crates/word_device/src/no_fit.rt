@@ -1,30 +1,34 @@
-ghost use Rattle.std.specs.Prelude.{◌≡◌};
+ghost use Rattle.std.specs.Prelude.{◌≡◌, ◌≢◌, ◌<◌, ◌↔◌, Err, IsErr, IfErr};
 
 use crate::device::{Device, DeviceFault, Planted, PortCmd};
+use crate::instance::check_place;
 use crate::shape::Shape;
 
-/// A memory that never finds memory for its words, so it never has a shape. It tells nothing.
+/// A memory that never finds memory for its words, and tells nothing.
 #[derive(Drop)]
 pub struct NoFitDevice {
     room: u32,
+    /// It has none at first, and `fit` never takes one.
+    shape: Option<Shape>,
 }
 
 impl NoFitDevice {
-    /// A memory with room for so many words.
+    ghost use Rattle.std.specs.Prelude.{None};
+
+    /// A memory with room for so many words, and without a shape.
     pub fn new(room: u32) -> NoFitDevice
-        ensures { result ≡ record { room = room } }
+        ensures { result ≡ record { room = room; shape = None } }
     {
-        NoFitDevice { room }
+        NoFitDevice { room, shape: None }
     }
 }
 
 impl Device for NoFitDevice {
-    ghost use Rattle.std.specs.Prelude.{None};
     ghost use Rattle.word_device.specs.Boxes.{TellsNothing};
 
     ghost room_of = { λ s. s.room };
 
-    ghost shape_of = { λ s. None };
+    ghost shape_of = { λ s. s.shape };
 
     ghost tells = { λ s. TellsNothing };
 
@@ -33,10 +37,16 @@ impl Device for NoFitDevice {
     }
 
     fn fitted(&self) -> bool {
-        false
+        self.shape.is_some()
     }
 
-    fn fit(&mut self, shape: &Shape) -> Result<(), DeviceFault> {
+    /// Refused: with V1 exactly where it has room for fewer words, else with V3.
+    fn fit(&mut self, shape: &Shape) -> Result<(), DeviceFault>
+        ensures refused { IsErr result }
+        ensures same { self.new ≡ self.old }
+        ensures too_big { result ≡ Err DeviceFault.TooBig ↔ (self.old.room < shape.now.words) }
+        ensures places { IfErr result (λ fault. fault ≢ DeviceFault.BadPlace) }
+    {
         if shape.words > self.room {
             Err(DeviceFault::TooBig)
         } else {
@@ -44,8 +54,8 @@ impl Device for NoFitDevice {
         }
     }
 
-    fn plant(&mut self, _planted: &Planted) -> Result<(), DeviceFault> {
-        Err(DeviceFault::BadPlace)
+    fn plant(&mut self, planted: &Planted) -> Result<(), DeviceFault> {
+        check_place(&self.shape, planted)
     }
 
     fn fill(&mut self, _number: u64) {}

@@ -1,9 +1,11 @@
 ghost use Rattle.std.specs.Prelude.{◌≡◌, ◌<◌, ◌≤◌, ◌%◌, ◌^◌, IfSome};
 ghost use Rattle.word_device.specs.Ports.{addressed, stored_op, shown};
 ghost use Rattle.word_device.specs.Boxes.{IsShape};
+ghost use Rattle.word_device.specs.WayBack.{IsWayBack};
 
 use crate::device::PortCmd;
 use crate::shape::Shape;
+use crate::way_back::WayBack;
 use bist_bits::all_ones;
 use word_march::WordOp;
 
@@ -18,13 +20,14 @@ pub(crate) fn low_bits(word: u64, bits: u8) -> u64
 
 /// The index of the word with this address, where there is one.
 #[tactic(auto, unfolding(crate::specs::Ports::addressed))]
-pub(crate) fn addressed(shape: &Shape, addr: u32) -> Option<u32>
-    requires { IsShape shape.now }
+pub(crate) fn addressed(shape: &Shape, way: &WayBack, addr: u32) -> Option<u32>
+    requires shape { IsShape shape.now }
+    requires way { IsWayBack shape.now.scramble way.now }
     ensures index { result ≡ addressed shape.now addr }
     ensures within { IfSome result (λ k. k < shape.now.words) }
 {
     let address = low_bits(u64::from(addr), shape.scramble.width()) as u32;
-    let index = shape.scramble.physical_of(address);
+    let index = way.index_of(address);
     if index < shape.words {
         Some(index)
     } else {

@@ -55,7 +55,11 @@ pub fn shape_of(memory: &Memory) -> Shape
 }
 
 /// Keeps the shape, where there is room for its words.
-pub(crate) fn take_shape(kept: &mut Option<Shape>, room: u32, shape: &Shape) -> Result<(), DeviceFault>
+pub(crate) fn take_shape(
+    kept: &mut Option<Shape>,
+    room: u32,
+    shape: &Shape,
+) -> Result<(), DeviceFault>
     ensures fits { IsOk result ↔ (shape.now.words ≤ room) }
     ensures ok { OnOk result (kept.new ≡ Some shape.now) }
     ensures err { OnErr result (kept.new ≡ kept.old) }

@@ -1,0 +1,9 @@
+use Rattle.word_device.proofs.laws.unplanted_passes.Goals as goal
+use Rattle.word_device.proofs.Marching.{passes_plain}
+use Rattle.word_device.proofs.Joint.{passes_alone}
+
+pub returns-clause-commands : goal.returns-clause-commands
+returns-clause-commands c = passes_plain c.args.march.now c.args.memory.now c.len.ensures.march c.words.ensures.memory
+
+pub returns-clause-alone : goal.returns-clause-alone
+returns-clause-alone c = passes_alone c.args.march.now c.args.memory.now c.len.ensures.march c.words.ensures.memory
