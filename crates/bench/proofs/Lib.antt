@@ -2,3 +2,4 @@ pub mod Inputs
 pub mod Outputs
 pub mod Turning
 pub mod Stages
+pub mod Histories

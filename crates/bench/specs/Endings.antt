@@ -19,13 +19,17 @@ use Rattle.bench.specs.Joint.{Between, Joint, at_first, word_in, ports_in, first
 abbrev pub cycle_count : List MarchElement → Description → ℕ
 cycle_count march d = span march d + d.latency + 2
 
--- the first read that isn't answered by its expected word: the cycle in which its answer stands on `rdata`, and both words;
--- none where every read is answered right
+-- the first read whose word isn't the one that it expects, where command j has word j: the cycle in which its answer stands on
+-- `rdata`, and both words; none where every read's word is right
+abbrev pub IsFirstRead : List MarchElement → Description → (ℕ → ℕ) → Option Seen → Type 0
+IsFirstRead march d words None = AllRight march d words
+IsFirstRead march d words (Some seen) =
+    (j : ℕ) × (command : PortOp) × IsFirstWrong march d words j × (slice_get (port_ops march d) j ≡ Some command)
+    × (seen ≡ record { cycle = cycle_of march d j + d.latency; expected = command.word; returned = words j })
+
+-- the same, where these words stand on `rdata` by cycle
 abbrev pub IsFirstSeen : List MarchElement → Description → (ℕ → ℕ) → Option Seen → Type 0
-IsFirstSeen march d returned None = AllRight march d (returned_word march d returned)
-IsFirstSeen march d returned (Some seen) =
-    (j : ℕ) × (command : PortOp) × IsFirstWrong march d (returned_word march d returned) j × (slice_get (port_ops march d) j ≡ Some command)
-    × (seen ≡ record { cycle = cycle_of march d j + d.latency; expected = command.word; returned = returned_word march d returned j })
+IsFirstSeen march d returned seen = IsFirstRead march d (returned_word march d returned) seen
 
 -- what is seen of these cycles
 pub record Shows (march : List MarchElement) (d : Description) (es : List Env) (failed : Bool) (done_in : Option ℕ) (seen : Option Seen) : Type 0 where

@@ -3,3 +3,4 @@ pub mod Joint
 pub mod Endings
 pub mod Refusals
 pub mod Cycles
+pub mod Laws

@@ -4,6 +4,7 @@
 
 mod cycle;
 mod ending;
+pub mod laws;
 mod pins;
 mod run;
 
