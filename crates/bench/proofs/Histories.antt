@@ -1,9 +1,10 @@
 -- A joint run of a self-test is a history of it, so each cycle meets the rule of the ports.
-use Rattle.std.proofs.Common.{◌≡◌, ◌≢◌, ◌↔◌, ◌⊎◌, ℕ, zero, suc, ◌+◌, ◌<◌, ◌≤◌, ◌^◌, ◌%◌, Bool, true, false, IsTrue, nat_eq, ◌&&◌, ◌||◌, if◌then◌else◌, List, [], ◌∷◌, length, Option, Some, None, is_some, slice_get, slice_index, refl, sym, ap, ap₂, ◌∙◌, subst, arith, codes, inl, inr}
+use Rattle.std.proofs.Common.{◌≡◌, ◌≢◌, ◌↔◌, ◌⊎◌, ℕ, zero, suc, ◌+◌, ◌-◌, ◌*◌, ◌<◌, ◌≤◌, ◌^◌, ◌%◌, Bool, true, false, IsTrue, nat_eq, ◌&&◌, ◌||◌, if◌then◌else◌, List, [], ◌∷◌, length, Option, Some, None, is_some, slice_get, slice_index, refl, sym, ap, ap₂, ◌∙◌, subst, arith, lit<, codes, inl, inr}
 use Rattle.std.proofs.lemmas.Bool.{cases_lt}
 use Rattle.std.proofs.lemmas.Bool.Decides.{Decides-eqb, eqb_tells}
 use Rattle.std.proofs.lemmas.Option.{slice_get_within}
-use Rattle.std.proofs.Math.Nat.{one-le-pow, mod-lt}
+use Rattle.std.proofs.Math.Nat.{one-le-pow, mod-lt, mod-eq_of_lt}
+
 use Rattle.verilog_tree.specs.declared.tree.Dir.TheVariants.{Input}
 use Rattle.verilog_tree.specs.Plain.{ModulePort, ModuleTree}
 use Rattle.verilog_tree.specs.Names.{item_declarations}
@@ -24,7 +25,7 @@ use Rattle.word_device.specs.declared.device.Planted.{Planted}
 use Rattle.word_device.specs.declared.device.PortCmd.{PortCmd}
 use Rattle.word_device.specs.declared.shape.Shape.{Shape}
 use Rattle.word_device.specs.Ports.{Chip, shape_of, chip_after, cycle_answer}
-use Rattle.word_device.specs.Boxes.{Tells, TellsChip, Answers, after_cycle}
+use Rattle.word_device.specs.Boxes.{Script, Tells, TellsChip, TellsScript, Answers, script_answer, script_after, after_cycle}
 use Rattle.word_device.specs.Joint.{command_on, chip_at, Joined, returned_word}
 use Rattle.word_device.specs.Runs.{IsRight, IsFirstWrong, AllRight, HasDetected, IsPlain, run_word}
 use Rattle.word_device.proofs.Joint.{joint_fails, joint_passes, same_first}
@@ -32,7 +33,7 @@ use Rattle.word_device.proofs.Joining.{same_words}
 use Rattle.bench.specs.declared.ending.Seen.{Seen}
 use Rattle.bench.specs.Joint.{Between, Turn, Joint, at_first, word_in, ports_in, first_done}
 use Rattle.bench.specs.Endings.{cycle_count, IsFirstRead, IsFirstSeen, Runs}
-use Rattle.bench.specs.Laws.{done_at, EndsFailed, PlantedFails, EndsPassed, PlainPasses, IsWrongWord, EndsAsSeen, AnyBox, SeenAlone}
+use Rattle.bench.specs.Laws.{done_at, EndsFailed, PlantedFails, EndsPassed, PlainPasses, IsWrongRead, EndsAsSeen, AnyBox, SeenAlone, script_word, SeenScript}
 use Rattle.bench.proofs.Inputs.{given_there}
 
 same_number : (n : ℕ) → nat_eq n n ≡ true
@@ -193,22 +194,22 @@ module _ (mo : ModuleTree) (march : List MarchElement) (d : Description) (test :
       word_low (suc t) es j.0 r
       (subst (λ w. w < 2 ^ d.bits) (sym (ap (λ (b : Between). b.rdata) j.1.left)) (mod-lt j.1.answer (one-le-pow d.bits 2 (omega arith)))) j.2 k
 
-  wrong_word : (o : Option Seen) → IsFirstSeen march d (word_in run.cycles) o → IsWrongWord d o
-  wrong_word None f = tt
-  wrong_word (Some x) f =
+  wrong_read : (o : Option Seen) → IsFirstSeen march d (word_in run.cycles) o → IsWrongRead march d o
+  wrong_read None f = tt
+  wrong_read (Some x) f =
       let low = word_low 0 run.cycles (at_first (valued (names (registers_of mo)) registers) before) run.left (one-le-pow d.bits 2 (omega arith)) run.joint
-      (cycle_of march d f.0 + d.latency) in
+          (cycle_of march d f.0 + d.latency) in
       let wrong = f.2.wrong in
-      let same : wrong.command ≡ f.1 = same_command f.0 wrong.command f.1 wrong.is_command f.3 in (
-        subst (λ w. w < 2 ^ d.bits) (sym (ap (λ (s : Seen). s.returned) f.4)) low,
-        λ e. wrong.differs (sym (ap (λ (s : Seen). s.returned) f.4) ∙ e ∙ ap (λ (s : Seen). s.expected) f.4 ∙ ap (λ c. c.word) (sym same)),
-      )
+      let same : wrong.command ≡ f.1 = same_command f.0 wrong.command f.1 wrong.is_command f.3 in
+      (f.0, f.1, f.3, ap (λ c. c.write) (sym same) ∙ wrong.is_read, ap (λ (s : Seen). s.cycle) f.4, ap (λ (s : Seen). s.expected) f.4,
+      subst (λ w. w < 2 ^ d.bits) (sym (ap (λ (s : Seen). s.returned) f.4)) low,
+      λ e. wrong.differs (sym (ap (λ (s : Seen). s.returned) f.4) ∙ e ∙ ap (λ (s : Seen). s.expected) f.4 ∙ ap (λ c. c.word) (sym same)))
     where
       same_command : (j : ℕ) (c x : PortOp) → slice_get (port_ops march d) j ≡ Some c → slice_get (port_ops march d) j ≡ Some x → c ≡ x
       same_command j c x e f = let z : Some c ≡ Some x = sym e ∙ f in cc
 
   ends_as_seen : IsMarch march → IsMemory d → EndsAsSeen march d failed done_in seen
-  ends_as_seen m n = record { fail = fails_as_seen m n seen run.shows.first; done = done_is; word = wrong_word seen run.shows.first }
+  ends_as_seen m n = record { fail = fails_as_seen m n seen run.shows.first; done = done_is; read = wrong_read seen run.shows.first }
 
 pub any_box : (march : List MarchElement) (d : Description) → IsMarch march → IsMemory d → AnyBox march d
 any_box march d m n mo registers now before after failed done_in seen test run = ends_as_seen mo march d test registers now before after failed done_in seen run m n
@@ -289,3 +290,57 @@ alone march d mo registers now chip after failed done_in seen test way run = by 
       f.3,
       f.4 ∙ ap (λ w. record { cycle = cycle_of march d f.0 + d.latency; expected = f.1.word; returned = w }) (same f.0 f.1 f.3),
     )
+
+-- ---- beside a script
+
+module _ (mo : ModuleTree) (march : List MarchElement) (d : Description) (test : SelfTest mo march d) where
+  scripted : (t : ℕ) (es : List Env) (s r : Between) (script : Script) → s.box ≡ TellsScript script → script.count + length es < 2 ^ 64 → Joint mo d t es s r
+      → (k : ℕ) → suc k < length es → word_in es (suc k) ≡ (script.base + script.step * (script.count + k)) % 2 ^ 64 % 2 ^ d.bits
+  scripted t [] s r script b few j k h = absurd (omega arith)
+  scripted t (e ∷ []) s r script b few j k h = absurd (omega arith)
+  scripted t (e ∷ f ∷ es) s r script b few j zero h =
+      let G : Tells → Type 0 = λ x. Answers (Some (shape_of d)) (command_on (port_values e)) x j.1.answer in
+      let is : j.1.answer ≡ script_answer script = subst G b j.1.answers in
+      let same : script.count ≡ script.count + 0 = omega arith in
+      word_now mo march d test (suc t) f j.0 j.2.0 j.2.1 ∙ ap (λ (x : Between). x.rdata) j.1.left ∙ ap (λ a. a % 2 ^ d.bits) is
+      ∙ ap (λ c. (script.base + script.step * c) % 2 ^ 64 % 2 ^ d.bits) same
+  scripted t (e ∷ f ∷ es) s r script b few j (suc k) h =
+      let next : Script = record { base = script.base; step = script.step; count = script.count + 1 } in
+      let whole : script_after script ≡ next =
+          ap (λ c. record { base = script.base; step = script.step; count = c }) (mod-eq_of_lt (let l : script.count + 1 < 2 ^ 64 = omega arith in l)) in
+      let box : j.0.box ≡ TellsScript next =
+          ap (λ (x : Between). x.box) j.1.left ∙ ap (after_cycle (Some (shape_of d)) (command_on (port_values e))) b ∙ ap TellsScript whole in
+      let same : script.count + 1 + k ≡ script.count + suc k = omega arith in
+      scripted (suc t) (f ∷ es) j.0 r next box (omega arith) j.2 k (omega arith)
+      ∙ ap (λ c. (script.base + script.step * c) % 2 ^ 64 % 2 ^ d.bits) same
+
+pub script : (march : List MarchElement) (d : Description) → IsMarch march → IsMemory d → span march d ≤ 167771648 → SeenScript march d
+script march d m n few mo registers now told after failed done_in seen test new run = by seen run.shows.first
+  where
+    word_is : (i : ℕ) (c : PortOp) → slice_get (port_ops march d) i ≡ Some c → returned_word march d (word_in run.cycles) i ≡ script_word march d told i
+    word_is i c e =
+        let before = read_before mo march d test registers now (TellsScript told) after failed done_in seen run m n i c e in
+        let count = run.count in
+        let latency = n.latency_high in
+        let big : 200000000 < 2 ^ 64 = lit< tt in
+        let k = cycle_of march d i + d.latency - 1 in
+        let at : cycle_of march d i + d.latency ≡ suc k = omega arith in
+        let from : told.count + k ≡ k = omega (arith, new) in
+        ap (word_in run.cycles) at
+        ∙ scripted mo march d test 0 run.cycles (at_first (valued (names (registers_of mo)) registers) (TellsScript told)) run.left told refl (omega (arith, new)) run.joint k (omega arith)
+        ∙ ap (λ c. (told.base + told.step * c) % 2 ^ 64 % 2 ^ d.bits) from
+
+    by : (o : Option Seen) → IsFirstSeen march d (word_in run.cycles) o → IsFirstRead march d (script_word march d told) o
+    by None f = λ i c e r. sym (word_is i c e) ∙ f i c e r
+    by (Some x) f =
+        (f.0, f.1,
+        record {
+          wrong = record {
+            command = f.2.wrong.command;
+            is_command = f.2.wrong.is_command;
+            is_read = f.2.wrong.is_read;
+            differs = λ z. f.2.wrong.differs (word_is f.0 f.2.wrong.command f.2.wrong.is_command ∙ z);
+          };
+          right_before = λ i l c e r. sym (word_is i c e) ∙ f.2.right_before i l c e r;
+        },
+        f.3, f.4 ∙ ap (λ w. record { cycle = cycle_of march d f.0 + d.latency; expected = f.1.word; returned = w }) (word_is f.0 f.1 f.3))

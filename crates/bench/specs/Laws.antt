@@ -1,13 +1,14 @@
 -- What a run of a self-test ends with, beside a sound memory, one with a detected fault, and any box.
-use Rattle.std.specs.Prelude.{◌≡◌, ◌≢◌, ◌+◌, ◌<◌, ◌^◌, ℕ, Bool, true, false, List, length, Option, Some, None, is_some}
+use Rattle.std.specs.Prelude.{◌≡◌, ◌≢◌, ◌+◌, ◌-◌, ◌*◌, ◌%◌, ◌<◌, ◌^◌, ℕ, Bool, true, false, List, length, Option, Some, None, is_some, slice_get}
 use Rattle.verilog_tree.specs.Plain.{ModuleTree}
 use Rattle.march_core.specs.March.{MarchElement}
 use Rattle.memory_desc.specs.Descriptions.{Description}
-use Rattle.word_march.specs.Commands.{span}
+use Rattle.word_march.specs.Commands.{port_ops, span}
+use Rattle.word_march.specs.PortRule.{cycle_of}
 use Rattle.self_test.specs.SelfTest.{SelfTest}
 use Rattle.word_device.specs.declared.device.Planted.{Planted}
 use Rattle.word_device.specs.Ports.{Chip}
-use Rattle.word_device.specs.Boxes.{Tells, TellsChip}
+use Rattle.word_device.specs.Boxes.{Script, Tells, TellsChip, TellsScript}
 use Rattle.word_device.specs.Runs.{HasDetected, IsPlain, IsFirstWrong, AllRight, run_word}
 use Rattle.word_march.specs.declared.operations.PortOp.{PortOp}
 use Rattle.bench.specs.declared.ending.Seen.{Seen}
@@ -41,15 +42,18 @@ PlainPasses march d =
     → SelfTest mo march d → length chip.pending + 1 ≡ d.latency → IsPlain d chip
     → Runs mo march d registers now (TellsChip chip) after failed done_in seen → EndsPassed march d failed done_in seen
 
--- beside any box it ends with `fail` exactly where a read is seen whose word, of the memory's bits, isn't the expected one
-abbrev pub IsWrongWord : Description → Option Seen → Type 0
-IsWrongWord d None = Unit {0}
-IsWrongWord d (Some seen) = (seen.returned < 2 ^ d.bits) × (seen.returned ≢ seen.expected)
+-- what is seen is a read of the march, by the cycle of its answer and its expected word, and another word of the memory's bits
+abbrev pub IsWrongRead : List MarchElement → Description → Option Seen → Type 0
+IsWrongRead march d None = Unit {0}
+IsWrongRead march d (Some seen) =
+    (j : ℕ) × (command : PortOp) × (slice_get (port_ops march d) j ≡ Some command) × (command.write ≡ false)
+    × (seen.cycle ≡ cycle_of march d j + d.latency) × (seen.expected ≡ command.word) × (seen.returned < 2 ^ d.bits) × (seen.returned ≢ seen.expected)
 
+-- beside any box it ends with `fail` exactly where a read is seen that is answered wrong
 pub record EndsAsSeen (march : List MarchElement) (d : Description) (failed : Bool) (done_in : Option ℕ) (seen : Option Seen) : Type 0 where
   pub fail : failed ≡ is_some seen
   pub done : done_in ≡ Some (done_at march d)
-  pub word : IsWrongWord d seen
+  pub read : IsWrongRead march d seen
 
 abbrev pub AnyBox : List MarchElement → Description → Type 0
 AnyBox march d =
@@ -62,3 +66,14 @@ SeenAlone march d =
     (mo : ModuleTree) (registers now : List ℕ) (chip : Chip) (after : Tells) (failed : Bool) (done_in : Option ℕ) (seen : Option Seen)
     → SelfTest mo march d → length chip.pending + 1 ≡ d.latency → Runs mo march d registers now (TellsChip chip) after failed done_in seen
     → IsFirstRead march d (run_word march d chip) seen
+
+-- the word on `rdata` that answers command j, of a script from its beginning: its first answer stands there in cycle 1
+abbrev pub script_word : List MarchElement → Description → Script → ℕ → ℕ
+script_word march d script j = (script.base + script.step * (cycle_of march d j + d.latency - 1)) % 2 ^ 64 % 2 ^ d.bits
+
+-- beside a box that tells its script, from the script's beginning, the read that is seen is the first that the script answers wrong
+abbrev pub SeenScript : List MarchElement → Description → Type 0
+SeenScript march d =
+    (mo : ModuleTree) (registers now : List ℕ) (script : Script) (after : Tells) (failed : Bool) (done_in : Option ℕ) (seen : Option Seen)
+    → SelfTest mo march d → script.count ≡ 0 → Runs mo march d registers now (TellsScript script) after failed done_in seen
+    → IsFirstRead march d (script_word march d script) seen

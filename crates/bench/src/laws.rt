@@ -1,7 +1,8 @@
-ghost use Rattle.bench.specs.Laws.{PlantedFails, PlainPasses, AnyBox, SeenAlone};
+ghost use Rattle.bench.specs.Laws.{PlantedFails, PlainPasses, AnyBox, SeenAlone, SeenScript};
 
 use march_core::March;
 use memory_desc::Memory;
+use word_march::span;
 
 /// A self-test beside a memory with a planted instance of a detected primitive ends with `fail`, whatever its registers and the memory
 /// hold at first.
@@ -34,4 +35,13 @@ pub fn seen_alone(march: &March, memory: &Memory)
 {
     let _ = march.len();
     let _ = memory.words();
+}
+
+/// Beside a box that tells its script, it is the first that the script answers wrong.
+pub fn seen_script(march: &March, memory: &Memory)
+    ensures { SeenScript march.now memory.now }
+{
+    let _ = march.len();
+    let _ = memory.words();
+    let _ = span(march, memory);
 }
