@@ -9,7 +9,7 @@ use Rattle.word_march.specs.Commands.{port_ops}
 use Rattle.word_march.specs.PortRule.{cycle_of}
 use Rattle.word_device.specs.declared.device.Planted.{Planted}
 use Rattle.word_device.specs.Ports.{Chip, shape_of, planted_chip}
-use Rattle.word_device.specs.Boxes.{Script, Tells, TellsChip, TellsScript, TellsNothing, Told, blank}
+use Rattle.word_device.specs.Boxes.{Script, Tells, TellsChip, TellsScript, TellsNothing, Told, blank, after_fit, after_fill}
 use Rattle.word_device.specs.Runs.{run_word}
 use Rattle.bench.specs.declared.ending.Seen.{Seen}
 use Rattle.bench.specs.Endings.{IsFirstRead}
@@ -35,17 +35,22 @@ pub record IsBenchShape (words : Words) : Type 0 where
   pub march_not_memory : word words 1 ≢ word words 2
 
 -- there is a box
-unfoldable pub HasBox : Boxes → Result Told Refusal → Type 0
+unfoldable pub HasBox : Boxes → Result (Unit {0}) Refusal → Type 0
 HasBox [] (Err (Refusal.Device DeviceRefusal.NoBox)) = Unit {0}
 HasBox [] other = ⊥
-HasBox (box ∷ boxes) (Ok first) = first ≡ box
+HasBox (box ∷ boxes) (Ok _) = Unit {0}
 HasBox (box ∷ boxes) (Err other) = ⊥
 
--- it has room for the memory's words
-unfoldable pub FitsRoom : Description → Told → Result (Unit {0}) Refusal → Type 0
-FitsRoom d box (Ok _) = d.words ≤ box.room
-FitsRoom d box (Err (Refusal.Device (DeviceRefusal.TooSmall words room))) = (box.room < d.words) × (words ≡ d.words) × (room ≡ box.room)
-FitsRoom d box (Err other) = ⊥
+-- the first has room for the memory's words
+unfoldable pub FitsRoom : Description → Boxes → Result (Unit {0}) Refusal → Type 0
+FitsRoom d [] result = ⊥
+FitsRoom d (box ∷ boxes) (Ok _) = d.words ≤ box.room
+FitsRoom d (box ∷ boxes) (Err (Refusal.Device (DeviceRefusal.TooSmall words room))) = (box.room < d.words) × (words ≡ d.words) × (room ≡ box.room)
+FitsRoom d (box ∷ boxes) (Err other) = ⊥
+
+-- what a box tells that is fitted with the memory's shape and filled with zeros
+abbrev pub ready : Description → Tells → Tells
+ready d tells = after_fill (Some (shape_of d)) 0 (after_fit (shape_of d) tells)
 
 -- ---- what is seen of the run
 
@@ -96,10 +101,11 @@ pub record IsBenched (march : List MarchElement) (d : Description) (planted : Op
   pub line : done.line ≡ bench_line d.bits (is_some seen) (Some (done_at march d)) seen
   pub outputs : done.outputs ≡ []
 
-unfoldable pub LeavesBench : List MarchElement → Description → Option Planted → Told → Result Done Refusal → Type 0
-LeavesBench march d planted box (Ok done) = IsBenched march d planted box.tells done
-LeavesBench march d planted box (Err Refusal.NoMemory) = Unit {0}
-LeavesBench march d planted box (Err other) = ⊥
+unfoldable pub LeavesBench : List MarchElement → Description → Option Planted → Boxes → Result Done Refusal → Type 0
+LeavesBench march d planted [] result = ⊥
+LeavesBench march d planted (box ∷ boxes) (Ok done) = IsBenched march d planted box.tells done
+LeavesBench march d planted (box ∷ boxes) (Err Refusal.NoMemory) = Unit {0}
+LeavesBench march d planted (box ∷ boxes) (Err other) = ⊥
 
 -- the checks of `bench` in their order
 abbrev pub DecidesBench : Option Files → Boxes → Words → Result Done Refusal → Type 0
@@ -107,9 +113,9 @@ DecidesBench files boxes words =
     Then (InputMarch files words 1) (λ march.
     Then (InputMemory files words 2) (λ d.
     Then (FitsLength march d) (λ _.
-    Then (HasBox boxes) (λ box.
-    Then (FitsRoom d box) (λ _.
-    LeavesBench march d None box)))))
+    Then (HasBox boxes) (λ _.
+    Then (FitsRoom d boxes) (λ _.
+    LeavesBench march d None boxes)))))
 
 -- a box that was benched is gone, and the others stay in their order; where memory ran out it may be gone or not, and after any other
 -- refusal all are as before
