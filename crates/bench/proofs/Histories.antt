@@ -2,7 +2,8 @@
 use Rattle.std.proofs.Common.{◌≡◌, ◌≢◌, ◌↔◌, ◌⊎◌, ℕ, zero, suc, ◌+◌, ◌-◌, ◌*◌, ◌<◌, ◌≤◌, ◌^◌, ◌%◌, Bool, true, false, IsTrue, nat_eq, ◌&&◌, ◌||◌, if◌then◌else◌, List, [], ◌∷◌, length, Option, Some, None, is_some, slice_get, slice_index, refl, sym, ap, ap₂, ◌∙◌, subst, arith, lit<, codes, inl, inr}
 use Rattle.std.proofs.lemmas.Bool.{cases_lt}
 use Rattle.std.proofs.lemmas.Bool.Decides.{Decides-eqb, eqb_tells}
-use Rattle.std.proofs.lemmas.Option.{slice_get_within}
+use Rattle.std.proofs.lemmas.Option.{slice_get_within, get_or_from_slice_get}
+use Rattle.word_march.proofs.Words.{commands_fit}
 use Rattle.std.proofs.Math.Nat.{one-le-pow, mod-lt, mod-eq_of_lt}
 
 use Rattle.verilog_tree.specs.declared.tree.Dir.TheVariants.{Input}
@@ -25,7 +26,7 @@ use Rattle.word_device.specs.declared.device.Planted.{Planted}
 use Rattle.word_device.specs.declared.device.PortCmd.{PortCmd}
 use Rattle.word_device.specs.declared.shape.Shape.{Shape}
 use Rattle.word_device.specs.Ports.{Chip, shape_of, chip_after, cycle_answer}
-use Rattle.word_device.specs.Boxes.{Script, Tells, TellsChip, TellsScript, Answers, script_answer, script_after, after_cycle}
+use Rattle.word_device.specs.Boxes.{Script, Tells, TellsChip, TellsScript, TellsNothing, IsTold, Answers, script_answer, script_after, after_cycle}
 use Rattle.word_device.specs.Joint.{command_on, chip_at, Joined, returned_word}
 use Rattle.word_device.specs.Runs.{IsRight, IsFirstWrong, AllRight, HasDetected, IsPlain, run_word}
 use Rattle.word_device.proofs.Joint.{joint_fails, joint_passes, same_first}
@@ -33,7 +34,7 @@ use Rattle.word_device.proofs.Joining.{same_words}
 use Rattle.bench.specs.declared.ending.Seen.{Seen}
 use Rattle.bench.specs.Joint.{Between, Turn, Joint, at_first, word_in, ports_in, first_done}
 use Rattle.bench.specs.Endings.{cycle_count, IsFirstRead, IsFirstSeen, Runs}
-use Rattle.bench.specs.Laws.{done_at, EndsFailed, PlantedFails, EndsPassed, PlainPasses, IsWrongRead, EndsAsSeen, AnyBox, SeenAlone, script_word, SeenScript}
+use Rattle.bench.specs.Laws.{done_at, EndsFailed, PlantedFails, EndsPassed, PlainPasses, IsWrongRead, EndsAsSeen, AnyBox, SeenAlone, script_word, SeenScript, IsSeenOf, EndsSelfTest}
 use Rattle.bench.proofs.Inputs.{given_there}
 
 same_number : (n : ℕ) → nat_eq n n ≡ true
@@ -194,22 +195,28 @@ module _ (mo : ModuleTree) (march : List MarchElement) (d : Description) (test :
       word_low (suc t) es j.0 r
       (subst (λ w. w < 2 ^ d.bits) (sym (ap (λ (b : Between). b.rdata) j.1.left)) (mod-lt j.1.answer (one-le-pow d.bits 2 (omega arith)))) j.2 k
 
-  wrong_read : (o : Option Seen) → IsFirstSeen march d (word_in run.cycles) o → IsWrongRead march d o
-  wrong_read None f = tt
-  wrong_read (Some x) f =
+  wrong_read : (n : IsMemory d) (o : Option Seen) → IsFirstSeen march d (word_in run.cycles) o → IsWrongRead march d o
+  wrong_read n None f = tt
+  wrong_read n (Some x) f =
       let low = word_low 0 run.cycles (at_first (valued (names (registers_of mo)) registers) before) run.left (one-le-pow d.bits 2 (omega arith)) run.joint
           (cycle_of march d f.0 + d.latency) in
       let wrong = f.2.wrong in
       let same : wrong.command ≡ f.1 = same_command f.0 wrong.command f.1 wrong.is_command f.3 in
       (f.0, f.1, f.3, ap (λ c. c.write) (sym same) ∙ wrong.is_read, ap (λ (s : Seen). s.cycle) f.4, ap (λ (s : Seen). s.expected) f.4,
+      subst (λ w. w < 2 ^ d.bits) (sym (ap (λ (s : Seen). s.expected) f.4)) (fits f.0 f.1 f.3),
       subst (λ w. w < 2 ^ d.bits) (sym (ap (λ (s : Seen). s.returned) f.4)) low,
       λ e. wrong.differs (sym (ap (λ (s : Seen). s.returned) f.4) ∙ e ∙ ap (λ (s : Seen). s.expected) f.4 ∙ ap (λ c. c.word) (sym same)))
     where
       same_command : (j : ℕ) (c x : PortOp) → slice_get (port_ops march d) j ≡ Some c → slice_get (port_ops march d) j ≡ Some x → c ≡ x
       same_command j c x e f = let z : Some c ≡ Some x = sym e ∙ f in cc
 
+      fits : (j : ℕ) (c : PortOp) → slice_get (port_ops march d) j ≡ Some c → c.word < 2 ^ d.bits
+      fits j c e =
+          subst (λ (o : PortOp). o.word < 2 ^ d.bits) (get_or_from_slice_get (port_ops march d) j c c e)
+          (commands_fit march d n j c (slice_get_within (port_ops march d) j c e))
+
   ends_as_seen : IsMarch march → IsMemory d → EndsAsSeen march d failed done_in seen
-  ends_as_seen m n = record { fail = fails_as_seen m n seen run.shows.first; done = done_is; read = wrong_read seen run.shows.first }
+  ends_as_seen m n = record { fail = fails_as_seen m n seen run.shows.first; done = done_is; read = wrong_read n seen run.shows.first }
 
 pub any_box : (march : List MarchElement) (d : Description) → IsMarch march → IsMemory d → AnyBox march d
 any_box march d m n mo registers now before after failed done_in seen test run = ends_as_seen mo march d test registers now before after failed done_in seen run m n
@@ -344,3 +351,18 @@ script march d m n few mo registers now told after failed done_in seen test new 
           right_before = λ i l c e r. sym (word_is i c e) ∙ f.2.right_before i l c e r;
         },
         f.3, f.4 ∙ ap (λ w. record { cycle = cycle_of march d f.0 + d.latency; expected = f.1.word; returned = w }) (word_is f.0 f.1 f.3))
+
+-- ---- beside a box that tells
+
+pub ends_test : (mo : ModuleTree) (march : List MarchElement) (d : Description) (registers now : List ℕ) (before after : Tells) (shape : Option Shape) (failed : Bool)
+    (done_in : Option ℕ) (seen : Option Seen) → IsMarch march → IsMemory d → cycle_count march d ≤ 2000000 → shape ≡ Some (shape_of d) → IsTold shape before
+    → Runs mo march d registers now before after failed done_in seen → SelfTest mo march d → EndsSelfTest march d before failed done_in seen
+ends_test mo march d registers now before after shape failed done_in seen m n few fits told run test = record {
+  ends = any_box march d m n mo registers now before after failed done_in seen test run;
+  is_seen = by before (subst (λ (o : Option Shape). IsTold o before) fits told) run;
+}
+  where
+    by : (tells : Tells) → IsTold (Some (shape_of d)) tells → Runs mo march d registers now tells after failed done_in seen → IsSeenOf march d tells seen
+    by (TellsChip chip) is r = alone march d mo registers now chip after failed done_in seen test is.pending r
+    by (TellsScript s) is r = λ new. script march d m n (omega arith) mo registers now s after failed done_in seen test new r
+    by TellsNothing is r = tt

@@ -8,7 +8,7 @@ use Rattle.word_march.specs.PortRule.{cycle_of}
 use Rattle.self_test.specs.SelfTest.{SelfTest}
 use Rattle.word_device.specs.declared.device.Planted.{Planted}
 use Rattle.word_device.specs.Ports.{Chip}
-use Rattle.word_device.specs.Boxes.{Script, Tells, TellsChip, TellsScript}
+use Rattle.word_device.specs.Boxes.{Script, Tells, TellsChip, TellsScript, TellsNothing}
 use Rattle.word_device.specs.Runs.{HasDetected, IsPlain, IsFirstWrong, AllRight, run_word}
 use Rattle.word_march.specs.declared.operations.PortOp.{PortOp}
 use Rattle.bench.specs.declared.ending.Seen.{Seen}
@@ -42,12 +42,13 @@ PlainPasses march d =
     → SelfTest mo march d → length chip.pending + 1 ≡ d.latency → IsPlain d chip
     → Runs mo march d registers now (TellsChip chip) after failed done_in seen → EndsPassed march d failed done_in seen
 
--- what is seen is a read of the march, by the cycle of its answer and its expected word, and another word of the memory's bits
+-- what is seen is a read of the march, by the cycle of its answer and its expected word, and another word; both are of the memory's bits
 abbrev pub IsWrongRead : List MarchElement → Description → Option Seen → Type 0
 IsWrongRead march d None = Unit {0}
 IsWrongRead march d (Some seen) =
     (j : ℕ) × (command : PortOp) × (slice_get (port_ops march d) j ≡ Some command) × (command.write ≡ false)
-    × (seen.cycle ≡ cycle_of march d j + d.latency) × (seen.expected ≡ command.word) × (seen.returned < 2 ^ d.bits) × (seen.returned ≢ seen.expected)
+    × (seen.cycle ≡ cycle_of march d j + d.latency) × (seen.expected ≡ command.word) × (seen.expected < 2 ^ d.bits)
+    × (seen.returned < 2 ^ d.bits) × (seen.returned ≢ seen.expected)
 
 -- beside any box it ends with `fail` exactly where a read is seen that is answered wrong
 pub record EndsAsSeen (march : List MarchElement) (d : Description) (failed : Bool) (done_in : Option ℕ) (seen : Option Seen) : Type 0 where
@@ -77,3 +78,14 @@ SeenScript march d =
     (mo : ModuleTree) (registers now : List ℕ) (script : Script) (after : Tells) (failed : Bool) (done_in : Option ℕ) (seen : Option Seen)
     → SelfTest mo march d → script.count ≡ 0 → Runs mo march d registers now (TellsScript script) after failed done_in seen
     → IsFirstRead march d (script_word march d script) seen
+
+-- what is seen beside a box that tells: of a chip by what it alone answers, of a script from its beginning by its answers
+abbrev pub IsSeenOf : List MarchElement → Description → Tells → Option Seen → Type 0
+IsSeenOf march d (TellsChip chip) seen = IsFirstRead march d (run_word march d chip) seen
+IsSeenOf march d (TellsScript script) seen = script.count ≡ 0 → IsFirstRead march d (script_word march d script) seen
+IsSeenOf march d TellsNothing seen = Unit {0}
+
+-- how a run of a self-test ends beside a box that tells this
+pub record EndsSelfTest (march : List MarchElement) (d : Description) (tells : Tells) (failed : Bool) (done_in : Option ℕ) (seen : Option Seen) : Type 0 where
+  pub ends : EndsAsSeen march d failed done_in seen
+  pub is_seen : IsSeenOf march d tells seen

@@ -7,10 +7,12 @@ ghost use Rattle.verilog_cycle.specs.Design.{names, registers_of, with_registers
 ghost use Rattle.self_test.specs.WrongPort.{ArePorts};
 ghost use Rattle.word_device.specs.Ports.{shape_of as memory_shape};
 ghost use Rattle.verilog_tree.specs.Plain.{plain_port};
-ghost use Rattle.word_device.specs.Boxes.{told};
+ghost use Rattle.self_test.specs.SelfTest.{SelfTest};
+ghost use Rattle.word_device.specs.Boxes.{told, IsTold};
 ghost use Rattle.bench.specs.Pins.{ArePins};
 ghost use Rattle.bench.specs.Endings.{Runs, cycle_count};
 ghost use Rattle.bench.specs.Refusals.{Refuses};
+ghost use Rattle.bench.specs.Laws.{EndsSelfTest};
 ghost use Rattle.bench.specs.Cycles.{seen_by, done_by, watched_by, FirstWatched, Stage};
 
 use crate::cycle::{CycleEnd, turn};
@@ -160,6 +162,12 @@ fn refusal(ports: &[Port], march: &March, memory: &Memory) -> Option<BenchFault>
     Some(BenchFault::WrongPorts { name })
 }
 
+fn is_fitted(device: &Box<dyn Device>) -> bool
+    ensures { IsTold (shape_of device.now) (tells device.now) }
+{
+    device.fitted()
+}
+
 /// Runs a design against a box that is fitted with the memory's shape: the cycles from 0 to the one in which the last answer is compared,
 /// with `reset` at 1 in cycle 0 alone and the word 0 on `rdata` there. In each cycle the design's command goes to the box once, and the low
 /// bits of its answer are the next `rdata`. Takes no memory.
@@ -175,6 +183,7 @@ pub fn bench(
     requires fitted { shape_of device ≡ Some (memory_shape memory.now) }
     ensures accepted { IfOk result (λ _. Refuses march.now memory.now design.old.tree.ports None) }
     ensures runs { IfOk result (λ end. Runs design.old.tree march.now memory.now design.old.registers design.new.registers (tells device) (tells end.device) end.fail end.done_cycle end.first) }
+    ensures self_test { IfOk result (λ end. SelfTest design.old.tree march.now memory.now → EndsSelfTest march.now memory.now (tells device) end.fail end.done_cycle end.first) }
     ensures kept { IfOk result (λ _. design.new ≡ with_registers design.old design.new.registers) }
     ensures device { IfOk result (λ end. (room_of end.device ≡ room_of device) × (shape_of end.device ≡ shape_of device)) }
     ensures refused { IfErr result (λ refused. Refuses march.now memory.now design.old.tree.ports (Some refused.fault)) }
@@ -184,6 +193,7 @@ pub fn bench(
     if let Some(fault) = refusal(design.ports(), march, memory) {
         return Err(BenchRefused { fault, device });
     }
+    let _ = is_fitted(&device);
     let pins = pins_of(design.ports());
     let cycles = count_cycles(march, memory);
     let watch = run_cycles(design, pins, march, memory, &mut device, cycles as u32);

@@ -10,3 +10,4 @@ pub mod OneCommand
 pub mod OnePlan
 pub mod OneJudged
 pub mod OneAnswer
+pub mod ReadBack

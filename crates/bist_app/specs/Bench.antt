@@ -82,14 +82,23 @@ seen_text bits None = []
 seen_text bits (Some seen) =
     codes " cycle " ++ decimal seen.cycle ++ codes " expected " ++ word_text bits seen.expected ++ codes " returned " ++ word_text bits seen.returned
 
-abbrev pub fail_digit : Bool → List ℕ
-fail_digit false = codes "0"
-fail_digit true = codes "1"
+-- the words that are seen have no more bits than the memory's
+abbrev pub AreWords : ℕ → Option Seen → Type 0
+AreWords bits None = Unit {0}
+AreWords bits (Some seen) = (seen.expected < 2 ^ bits) × (seen.returned < 2 ^ bits)
+
+abbrev pub fail_text : Bool → List ℕ
+fail_text false = codes "fail 0 done "
+fail_text true = codes "fail 1 done "
 
 -- whether `fail` is 1 at the end, the first cycle with `done`, and the first read that differs
 abbrev pub bench_line : ℕ → Bool → Option ℕ → Option Seen → List ℕ
 bench_line bits failed done_in seen =
-    codes "fail " ++ fail_digit failed ++ codes " done " ++ done_text done_in ++ seen_text bits seen ++ codes "\n"
+    fail_text failed ++ done_text done_in ++ seen_text bits seen ++ codes "\n"
+
+-- no file, and the line
+abbrev pub benched_done : ℕ → Bool → Option ℕ → Option Seen → Done
+benched_done bits failed done_in seen = record { found = failed; outputs = []; line = bench_line bits failed done_in seen }
 
 -- ---- what the command leaves
 
