@@ -30,3 +30,7 @@ pub new_tests : {E : Type 0} (r : Result DesignView E) (march : List MarchElemen
     → IfOk r (IsNew read) → IfOk r (λ design. SelfTest design.tree march d)
 new_tests (Ok design) march d mo read same h new = same_test march d mo read design.tree same new.tree h
 new_tests (Err e) march d mo read same h new = tt
+
+pub where_ok : {A E : Type 0} (r : Result A E) (P Q : A → Type 0) → ((a : A) → P a → Q a) → IfOk r P → IfOk r Q
+where_ok (Ok a) P Q f h = f a h
+where_ok (Err e) P Q f h = tt

@@ -13,7 +13,7 @@ use Rattle.word_device.specs.Boxes.{Script, Tells, TellsChip, TellsScript, Tells
 use Rattle.word_device.specs.Runs.{run_word}
 use Rattle.bench.specs.declared.ending.Seen.{Seen}
 use Rattle.bench.specs.Endings.{IsFirstRead}
-use Rattle.bench.specs.Laws.{done_at, script_word, IsWrongRead}
+use Rattle.bench.specs.Laws.{done_at, script_word, IsWrongRead, IsSeenOf}
 use Rattle.bist_endings.specs.declared.ending.Refusal.{Refusal}
 use Rattle.bist_endings.specs.declared.ending.DeviceRefusal.{DeviceRefusal}
 use Rattle.bist_endings.specs.Ending.{Done}
@@ -101,6 +101,13 @@ abbrev pub benched_done : ℕ → Bool → Option ℕ → Option Seen → Done
 benched_done bits failed done_in seen = record { found = failed; outputs = []; line = bench_line bits failed done_in seen }
 
 -- ---- what the command leaves
+
+-- a run beside a box that tells this at its beginning
+pub record IsRun (march : List MarchElement) (d : Description) (tells : Tells) (done : Done) : Type 0 where
+  pub seen : Option Seen
+  pub is_seen : IsSeenOf march d tells seen
+  pub read : IsWrongRead march d seen
+  pub done_is : done ≡ benched_done d.bits (is_some seen) (Some (done_at march d)) seen
 
 -- the status is 1 exactly where a read differs, and the line says which
 pub record IsBenched (march : List MarchElement) (d : Description) (planted : Option Planted) (tells : Tells) (done : Done) : Type 0 where

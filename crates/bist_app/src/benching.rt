@@ -1,6 +1,6 @@
 //! The self-test module against a box: the module is made, written, read back and run, and the line tells how it ended.
 
-ghost use Rattle.std.specs.Prelude.{◌≡◌, ◌≤◌, ◌<◌, ◌++◌, [], Some, IsTrue, IfOk, IfErr, OnOk, codes, decimal, map, drop, vec_len};
+ghost use Rattle.std.specs.Prelude.{◌≡◌, ◌⊎◌, ◌≤◌, ◌<◌, ◌++◌, ◌∷◌, [], Some, IsTrue, IfOk, OnOk, OnErr, codes, decimal, map, drop, vec_len};
 ghost use Rattle.verilog_tree.specs.Plain.{plain_module};
 ghost use Rattle.verilog_tree.specs.Formed.{formed};
 ghost use Rattle.verilog_tree.specs.Spells.{Spells};
@@ -8,13 +8,12 @@ ghost use Rattle.verilog_cycle.specs.Design.{IsNew};
 ghost use Rattle.self_test.specs.SelfTest.{SelfTest};
 ghost use Rattle.word_device.specs.Ports.{shape_of as memory_shape};
 ghost use Rattle.word_device.specs.Boxes.{told};
-ghost use Rattle.bench.specs.Refusals.{Refuses};
-ghost use Rattle.bist_endings.specs.Ending.{plain, done_of};
-ghost use Rattle.bist_inputs.specs.Inputs.{IsOwnRefusal};
-ghost use Rattle.bist_app.specs.Bench.{done_text, word_text, seen_text, bench_line, benched_done, AreWords, LeavesBench, LeavesFirst};
+ghost use Rattle.bist_endings.specs.Ending.{done_of};
+ghost use Rattle.bist_app.specs.Bench.{done_text, word_text, seen_text, bench_line, benched_done, AreWords, IsRun, ready};
 
 
-use bench::Seen;
+use crate::boxes::take_first;
+use bench::{BenchEnd, BenchRefused, Seen, bench};
 use bist_bits::NoMemory;
 use bist_endings::Plan;
 use bist_text::{put, put_decimal, put_hex};
@@ -26,6 +25,7 @@ use verilog_cycle::{Design, elaborate};
 use verilog_emit::emit;
 use verilog_read::read_module;
 use verilog_tree::Module;
+use word_device::Device;
 
 
 /// The module that a text spells; none but for want of memory where it spells one.
@@ -121,4 +121,39 @@ fn end_plan(alloc: Global, bits: u8, fail: bool, done_cycle: Option<u32>, first:
         outputs: Vec::new(alloc),
         line,
     })
+}
+
+/// Runs a self-test against a box that is fitted.
+fn run_plan(alloc: Global, design: &mut Design, march: &March, memory: &Memory, device: Box<dyn Device>) -> Result<Plan, NoMemory>
+    requires test { SelfTest design.old.tree march.now memory.now }
+    requires fitted { shape_of device ≡ Some (memory_shape memory.now) }
+    ensures { IfOk result (λ plan. IsRun march.now memory.now (tells device) (done_of plan)) }
+{
+    match bench(design, march, memory, device) {
+        Ok(BenchEnd {
+            fail,
+            done_cycle,
+            first,
+            device,
+        }) => {
+            drop(device);
+            end_plan(alloc, memory.bits(), fail, done_cycle, first)
+        }
+        Err(BenchRefused { fault: _, device }) => {
+            drop(device);
+            Err(NoMemory)
+        }
+    }
+}
+
+/// Runs the self-test of the memory by the march against the first box, which is fitted and taken.
+pub fn bench_first(alloc: Global, march: &March, memory: &Memory, devices: &mut Vec<Box<dyn Device>>) -> Result<Plan, NoMemory>
+    requires some { 0 < vec_len devices.old }
+    ensures taken { OnOk result (devices.new.items ≡ drop 1 devices.old.items) }
+    ensures kept { OnErr result ((map (λ b. told (room_of b) (shape_of b) (tells b)) devices.new.items ≡ map (λ b. told (room_of b) (shape_of b) (tells b)) devices.old.items) ⊎ (devices.new.items ≡ drop 1 devices.old.items)) }
+    ensures run { IfOk result (λ plan. (b : _) (rest : _) → devices.old.items ≡ b ∷ rest → IsRun march.now memory.now (ready memory.now (tells b)) (done_of plan)) }
+{
+    let mut design = self_test_design(alloc, march, memory)?;
+    let device = take_first(devices, memory)?;
+    run_plan(alloc, &mut design, march, memory, device)
 }
