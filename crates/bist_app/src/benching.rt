@@ -127,7 +127,8 @@ fn end_plan(alloc: Global, bits: u8, fail: bool, done_cycle: Option<u32>, first:
 fn run_plan(alloc: Global, design: &mut Design, march: &March, memory: &Memory, device: Box<dyn Device>) -> Result<Plan, NoMemory>
     requires test { SelfTest design.old.tree march.now memory.now }
     requires fitted { shape_of device ≡ Some (memory_shape memory.now) }
-    ensures { IfOk result (λ plan. IsRun march.now memory.now (tells device) (done_of plan)) }
+    ensures run { IfOk result (λ plan. IsRun march.now memory.now (tells device) (done_of plan)) }
+    ensures outputs { IfOk result (λ plan. (done_of plan).outputs ≡ []) }
 {
     match bench(design, march, memory, device) {
         Ok(BenchEnd {
@@ -152,6 +153,7 @@ pub fn bench_first(alloc: Global, march: &March, memory: &Memory, devices: &mut 
     ensures taken { OnOk result (devices.new.items ≡ drop 1 devices.old.items) }
     ensures kept { OnErr result ((map (λ b. told (room_of b) (shape_of b) (tells b)) devices.new.items ≡ map (λ b. told (room_of b) (shape_of b) (tells b)) devices.old.items) ⊎ (devices.new.items ≡ drop 1 devices.old.items)) }
     ensures run { IfOk result (λ plan. (b : _) (rest : _) → devices.old.items ≡ b ∷ rest → IsRun march.now memory.now (ready memory.now (tells b)) (done_of plan)) }
+    ensures outputs { IfOk result (λ plan. (done_of plan).outputs ≡ []) }
 {
     let mut design = self_test_design(alloc, march, memory)?;
     let device = take_first(devices, memory)?;
