@@ -9,4 +9,7 @@ pub mod Listing
 pub mod OneCommand
 pub mod OnePlan
 pub mod OneJudged
+pub mod OneBench
 pub mod OneAnswer
+pub mod ReadBack
+pub mod Benched

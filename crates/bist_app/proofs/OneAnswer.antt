@@ -20,7 +20,9 @@ use Rattle.bist_app.specs.Judge.{LeavesJudge, DecidesJudge}
 use Rattle.bist_app.specs.Vectors.{FitsLength, LeavesVectors, DecidesVectors}
 use Rattle.bist_app.specs.Compile.{LeavesCompile, DecidesCompile}
 use Rattle.bist_app.specs.Run.{DecidesCommand, Decides}
-use Rattle.bist_app.specs.Answer.{RunHasOneAnswer}
+use Rattle.bist_app.specs.Bench.{Boxes, HasBox, FitsRoom, LeavesBench, DecidesBench}
+use Rattle.bist_app.specs.Answer.{FirstTells, RunHasOneAnswer}
+use Rattle.bist_app.proofs.OneBench.{box_one, room_one, bench_one}
 use Rattle.bist_app.proofs.OneCommand.{command_one}
 use Rattle.bist_app.proofs.OnePlan.{aggressor_one, directions_one, sim_one, vectors_one, length_one}
 use Rattle.bist_app.proofs.OneJudged.{judge_one, compile_one}
@@ -53,20 +55,30 @@ compile_answer files words =
     then_answer (InputList (Some files) words 3) _ (input_list_one files words 3) (λ items.
     compile_one march d items)))
 
-command_answer : (files : Files) (words : Words) (command : Command) → HasOneAnswer (DecidesCommand (Some files) words command)
-command_answer files words (Command.Sim shape) = sim_answer files words shape
-command_answer files words Command.Judge = judge_answer files words
-command_answer files words Command.Vectors = vectors_answer files words
-command_answer files words Command.Compile = compile_answer files words
+bench_answer : (files : Files) (boxes : Boxes) (words : Words) → FirstTells boxes → HasOneAnswer (DecidesBench (Some files) boxes words)
+bench_answer files boxes words tells =
+    then_answer (InputMarch (Some files) words 1) _ (input_march_one files words 1) (λ march.
+    then_answer (InputMemory (Some files) words 2) _ (input_memory_one files words 2) (λ d.
+    then_answer (FitsLength march d) _ (length_one march d) (λ _.
+    then_answer (HasBox boxes) _ (box_one boxes) (λ _.
+    then_answer (FitsRoom d boxes) _ (room_one d boxes) (λ _.
+    bench_one march d boxes tells)))))
 
-decides_answer : (files : Files) (words : Words) → HasOneAnswer (Decides (Some files) words)
-decides_answer files words r s (None, f) (None, g) rs ss = ap answer_of (f.1 ∙ sym g.1)
-decides_answer files words r s (None, f) (Some d, g) rs ss = absurd (f.0 d g.0)
-decides_answer files words r s (Some c, f) (None, g) rs ss = absurd (g.0 c f.0)
-decides_answer files words r s (Some c, f) (Some d, g) rs ss =
+command_answer : (files : Files) (boxes : Boxes) (words : Words) (command : Command) → FirstTells boxes → HasOneAnswer (DecidesCommand (Some files) boxes words command)
+command_answer files boxes words (Command.Sim shape) tells = sim_answer files words shape
+command_answer files boxes words Command.Judge tells = judge_answer files words
+command_answer files boxes words Command.Vectors tells = vectors_answer files words
+command_answer files boxes words Command.Compile tells = compile_answer files words
+command_answer files boxes words Command.Bench tells = bench_answer files boxes words tells
+
+decides_answer : (files : Files) (boxes : Boxes) (words : Words) → FirstTells boxes → HasOneAnswer (λ outcome. (left : Boxes) × Decides (Some files) boxes left words outcome)
+decides_answer files boxes words tells r s (x, (None, f)) (y, (None, g)) rs ss = ap answer_of (f.1 ∙ sym g.1)
+decides_answer files boxes words tells r s (x, (None, f)) (y, (Some d, g)) rs ss = absurd (f.0 d g.0)
+decides_answer files boxes words tells r s (x, (Some c, f)) (y, (None, g)) rs ss = absurd (g.0 c f.0)
+decides_answer files boxes words tells r s (x, (Some c, f)) (y, (Some d, g)) rs ss =
     let same : c ≡ d = command_one words c d f.0 g.0 in
-    command_answer files words d r s (subst (λ (command : Command). DecidesCommand (Some files) words command r) same f.1) g.1 rs ss
+    command_answer files boxes words d tells r s (subst (λ (command : Command). DecidesCommand (Some files) boxes words command r) same f.1) g.1 rs ss
 
-pub one_answer : (told : Option Files) (words : Words) → RunHasOneAnswer told words
-one_answer None words = tt
-one_answer (Some files) words = decides_answer files words
+pub one_answer : (told : Option Files) (boxes : Boxes) (words : Words) → RunHasOneAnswer told boxes words
+one_answer None boxes words = tt
+one_answer (Some files) boxes words = decides_answer files boxes words

@@ -9,6 +9,7 @@ use Rattle.bist_app.specs.Sim.{IsSimShape, IsAggressorWord}
 use Rattle.bist_app.specs.Judge.{IsJudgeShape}
 use Rattle.bist_app.specs.Vectors.{IsVectorsShape}
 use Rattle.bist_app.specs.Compile.{IsCompileShape}
+use Rattle.bist_app.specs.Bench.{IsBenchShape}
 use Rattle.bist_app.specs.Run.{HasShape}
 
 below_64 : (n : ℕ) → n < 10 ^ 9 → n < 2 ^ 64
@@ -64,3 +65,12 @@ command_one words Command.Compile (Command.Sim t) h i = absurd (omega (arith, h.
 command_one words Command.Compile Command.Judge h i = absurd (omega (arith, h.count, i.count))
 command_one words Command.Compile Command.Vectors h i = absurd (omega (arith, h.count, i.count))
 command_one words Command.Compile Command.Compile h i = refl
+command_one words (Command.Sim s) Command.Bench h i = absurd (omega (arith, h.count, i.count))
+command_one words Command.Judge Command.Bench h i = absurd (omega (arith, h.count, i.count))
+command_one words Command.Vectors Command.Bench h i = absurd (omega (arith, h.count, i.count))
+command_one words Command.Compile Command.Bench h i = absurd (omega (arith, h.count, i.count))
+command_one words Command.Bench (Command.Sim t) h i = absurd (omega (arith, h.count, i.count))
+command_one words Command.Bench Command.Judge h i = absurd (omega (arith, h.count, i.count))
+command_one words Command.Bench Command.Vectors h i = absurd (omega (arith, h.count, i.count))
+command_one words Command.Bench Command.Compile h i = absurd (omega (arith, h.count, i.count))
+command_one words Command.Bench Command.Bench h i = refl

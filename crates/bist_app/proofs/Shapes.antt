@@ -6,10 +6,12 @@ use Rattle.bist_app.specs.Sim.{IsSimShape}
 use Rattle.bist_app.specs.Judge.{IsJudgeShape}
 use Rattle.bist_app.specs.Vectors.{IsVectorsShape}
 use Rattle.bist_app.specs.Compile.{IsCompileShape}
+use Rattle.bist_app.specs.Bench.{IsBenchShape}
 use Rattle.bist_app.specs.Run.{HasNoShape}
 
-pub no_shape : (words : Words) → ((shape : SimShape) → IsSimShape words shape → ⊥) → (IsJudgeShape words → ⊥) → (IsVectorsShape words → ⊥) → (IsCompileShape words → ⊥) → HasNoShape words
-no_shape words sim judge vectors compile (Command.Sim shape) h = sim shape h
-no_shape words sim judge vectors compile Command.Judge h = judge h
-no_shape words sim judge vectors compile Command.Vectors h = vectors h
-no_shape words sim judge vectors compile Command.Compile h = compile h
+pub no_shape : (words : Words) → ((shape : SimShape) → IsSimShape words shape → ⊥) → (IsJudgeShape words → ⊥) → (IsVectorsShape words → ⊥) → (IsCompileShape words → ⊥) → (IsBenchShape words → ⊥) → HasNoShape words
+no_shape words sim judge vectors compile bench (Command.Sim shape) h = sim shape h
+no_shape words sim judge vectors compile bench Command.Judge h = judge h
+no_shape words sim judge vectors compile bench Command.Vectors h = vectors h
+no_shape words sim judge vectors compile bench Command.Compile h = compile h
+no_shape words sim judge vectors compile bench Command.Bench h = bench h

@@ -7,6 +7,7 @@ use Rattle.bist_endings.specs.Words.{Words}
 use Rattle.bist_endings.specs.Ending.{Done, status_of, found_status}
 use Rattle.bist_inputs.specs.Inputs.{HasReadCause}
 use Rattle.bist_endings.specs.Conclude.{RefusalEnds, SaysAfterWrites}
+use Rattle.bist_app.specs.Bench.{Boxes}
 use Rattle.bist_app.specs.Run.{Runs, HasNoShape, DecidesCommand}
 use Rattle.bist_app.proofs.Usage.{never_usage}
 
@@ -52,6 +53,7 @@ not_eight (Refusal.TooLarge p) n h k = omega arith
 not_eight (Refusal.ReadFailed p) n h k = omega arith
 not_eight (Refusal.Absent p) n h k = omega arith
 not_eight (Refusal.Misfit m) n h k = omega arith
+not_eight (Refusal.Device d) n h k = omega arith
 not_eight Refusal.NoMemory n h k = omega arith
 
 two_is_usage : (e : Refusal) (n : ℕ) → n ≡ status_of e → n ≡ 2 → e ≡ Refusal.Usage
@@ -64,6 +66,7 @@ two_is_usage (Refusal.TooLarge p) n h k = absurd (omega arith)
 two_is_usage (Refusal.ReadFailed p) n h k = absurd (omega arith)
 two_is_usage (Refusal.Absent p) n h k = absurd (omega arith)
 two_is_usage (Refusal.Misfit m) n h k = absurd (omega arith)
+two_is_usage (Refusal.Device d) n h k = absurd (omega arith)
 two_is_usage Refusal.NoMemory n h k = absurd (omega arith)
 
 read_cause : (files : Option Files) (rr : Type 0) (e : Refusal) (n : ℕ) → n ≡ status_of e → n ≡ 7 → HasReadCause {A = Done} files rr (Err e) → rr
@@ -76,6 +79,7 @@ read_cause files rr (Refusal.TooLarge p) n h k c = absurd (omega arith)
 read_cause files rr (Refusal.ReadFailed p) n h k c = c
 read_cause files rr (Refusal.Absent p) n h k c = absurd (omega arith)
 read_cause files rr (Refusal.Misfit m) n h k c = absurd (omega arith)
+read_cause files rr (Refusal.Device d) n h k c = absurd (omega arith)
 read_cause files rr Refusal.NoMemory n h k c = absurd (omega arith)
 
 -- how a refusal's status comes: its own, or 9
@@ -85,17 +89,17 @@ refusal_status e s s' wr n (inr (inl h)) = inl h.0
 refusal_status e s s' wr n (inr (inr h)) = inr h.0
 
 -- a read fault comes only where the count of reads rose
-pub read_fault_rose : (words : Words) (f f' : Option Files) (s s' : Option (List ℕ)) (rr wr : Type 0) (n : ℕ)
-    → Runs words f f' s s' rr wr n → n ≡ 7 → rr
-read_fault_rose words f f' s s' rr wr n (Ok done, decides, cause, (stop, writes, says)) k = absurd (after_writes done s s' wr stop n says (omega arith) (omega arith))
-read_fault_rose words f f' s s' rr wr n (Err e, decides, cause, (same, ends)) k =
+pub read_fault_rose : (words : Words) (boxes left : Boxes) (f f' : Option Files) (s s' : Option (List ℕ)) (rr wr : Type 0) (n : ℕ)
+    → Runs words boxes left f f' s s' rr wr n → n ≡ 7 → rr
+read_fault_rose words boxes left f f' s s' rr wr n (Ok done, decides, cause, (stop, writes, says)) k = absurd (after_writes done s s' wr stop n says (omega arith) (omega arith))
+read_fault_rose words boxes left f f' s s' rr wr n (Err e, decides, cause, (same, ends)) k =
     elim (refusal_status e s s' wr n ends) [ inl h ↦ read_cause f rr e n h k cause | inr h ↦ absurd (omega arith) ]
 
 -- a write fault comes only where the count of writes rose
-pub write_fault_rose : (words : Words) (f f' : Option Files) (s s' : Option (List ℕ)) (rr wr : Type 0) (n : ℕ)
-    → Runs words f f' s s' rr wr n → n ≡ 8 → wr
-write_fault_rose words f f' s s' rr wr n (Ok done, decides, cause, (stop, writes, says)) k = failed_writes done s s' wr stop n says k
-write_fault_rose words f f' s s' rr wr n (Err e, decides, cause, (same, ends)) k =
+pub write_fault_rose : (words : Words) (boxes left : Boxes) (f f' : Option Files) (s s' : Option (List ℕ)) (rr wr : Type 0) (n : ℕ)
+    → Runs words boxes left f f' s s' rr wr n → n ≡ 8 → wr
+write_fault_rose words boxes left f f' s s' rr wr n (Ok done, decides, cause, (stop, writes, says)) k = failed_writes done s s' wr stop n says k
+write_fault_rose words boxes left f f' s s' rr wr n (Err e, decides, cause, (same, ends)) k =
     elim (refusal_status e s s' wr n ends) [ inl h ↦ absurd (not_eight e n h k) | inr h ↦ absurd (omega arith) ]
 
 silent_cause : (rr : Type 0) (e : Refusal) (n : ℕ) → n ≡ status_of e → (n ≡ 6) ⊎ (n ≡ 10) → HasReadCause {A = Done} None rr (Err e) → rr
@@ -108,30 +112,31 @@ silent_cause rr (Refusal.TooLarge p) n h k c = c
 silent_cause rr (Refusal.ReadFailed p) n h k c = c
 silent_cause rr (Refusal.Absent p) n h k c = c
 silent_cause rr (Refusal.Misfit m) n h k c = absurd (omega arith)
+silent_cause rr (Refusal.Device d) n h k c = absurd (omega arith)
 silent_cause rr Refusal.NoMemory n h k c = absurd (omega arith)
 
 -- over files that aren't told, a file is absent or too large only where the count of reads rose
-pub silent_rose : (words : Words) (f f' : Option Files) (s s' : Option (List ℕ)) (rr wr : Type 0) (n : ℕ)
-    → Runs words f f' s s' rr wr n → f ≡ None → (n ≡ 6) ⊎ (n ≡ 10) → rr
-silent_rose words (Some f) f' s s' rr wr n h none k = cc
-silent_rose words None f' s s' rr wr n (Ok done, decides, cause, (stop, writes, says)) none (inl k) = absurd (after_writes done s s' wr stop n says (omega arith) (omega arith))
-silent_rose words None f' s s' rr wr n (Ok done, decides, cause, (stop, writes, says)) none (inr k) = absurd (done_below done s s' wr stop n says (omega arith))
-silent_rose words None f' s s' rr wr n (Err e, decides, cause, (same, ends)) none k =
+pub silent_rose : (words : Words) (boxes left : Boxes) (f f' : Option Files) (s s' : Option (List ℕ)) (rr wr : Type 0) (n : ℕ)
+    → Runs words boxes left f f' s s' rr wr n → f ≡ None → (n ≡ 6) ⊎ (n ≡ 10) → rr
+silent_rose words boxes left (Some f) f' s s' rr wr n h none k = cc
+silent_rose words boxes left None f' s s' rr wr n (Ok done, decides, cause, (stop, writes, says)) none (inl k) = absurd (after_writes done s s' wr stop n says (omega arith) (omega arith))
+silent_rose words boxes left None f' s s' rr wr n (Ok done, decides, cause, (stop, writes, says)) none (inr k) = absurd (done_below done s s' wr stop n says (omega arith))
+silent_rose words boxes left None f' s s' rr wr n (Err e, decides, cause, (same, ends)) none k =
     elim (refusal_status e s s' wr n ends) [ inl h ↦ silent_cause rr e n h k cause | inr h ↦ absurd (omega arith) ]
 
 -- words without a shape end with 2, or 9
-pub no_shape_ends : (words : Words) (f f' : Option Files) (s s' : Option (List ℕ)) (rr wr : Type 0) (n : ℕ)
-    → Runs words f f' s s' rr wr n → HasNoShape words → (n ≡ 2) ⊎ (n ≡ 9)
-no_shape_ends words f f' s s' rr wr n (outcome, (Some command, (shape, rest)), cause, ends) none = absurd (none command shape)
-no_shape_ends words f f' s s' rr wr n (Ok done, (None, (shape, is)), cause, ends) none = cc
-no_shape_ends words f f' s s' rr wr n (Err e, (None, (shape, is)), cause, (same, ends)) none =
+pub no_shape_ends : (words : Words) (boxes left : Boxes) (f f' : Option Files) (s s' : Option (List ℕ)) (rr wr : Type 0) (n : ℕ)
+    → Runs words boxes left f f' s s' rr wr n → HasNoShape words → (n ≡ 2) ⊎ (n ≡ 9)
+no_shape_ends words boxes left f f' s s' rr wr n (outcome, (Some command, (shape, rest, _)), cause, ends) none = absurd (none command shape)
+no_shape_ends words boxes left f f' s s' rr wr n (Ok done, (None, (shape, is, _)), cause, ends) none = cc
+no_shape_ends words boxes left f f' s s' rr wr n (Err e, (None, (shape, is, _)), cause, (same, ends)) none =
     let usage : e ≡ Refusal.Usage = cc in
     elim (refusal_status e s s' wr n ends) [ inl h ↦ inl (h ∙ ap status_of usage) | inr h ↦ inr h ]
 
 -- status 2 comes only of the words
-pub usage_has_no_shape : (words : Words) (f f' : Option Files) (s s' : Option (List ℕ)) (rr wr : Type 0) (n : ℕ)
-    → Runs words f f' s s' rr wr n → n ≡ 2 → HasNoShape words
-usage_has_no_shape words f f' s s' rr wr n (outcome, (None, (shape, is)), cause, ends) k = shape
-usage_has_no_shape words f f' s s' rr wr n (Ok done, (Some command, (shape, rest)), cause, (stop, writes, says)) k = absurd (after_writes done s s' wr stop n says (omega arith) (omega arith))
-usage_has_no_shape words f f' s s' rr wr n (Err e, (Some command, (shape, rest)), cause, (same, ends)) k =
-    elim (refusal_status e s s' wr n ends) [ inl h ↦ absurd (never_usage f words command (subst (λ r. DecidesCommand f words command (Err r)) (two_is_usage e n h k) rest)) | inr h ↦ absurd (omega arith) ]
+pub usage_has_no_shape : (words : Words) (boxes left : Boxes) (f f' : Option Files) (s s' : Option (List ℕ)) (rr wr : Type 0) (n : ℕ)
+    → Runs words boxes left f f' s s' rr wr n → n ≡ 2 → HasNoShape words
+usage_has_no_shape words boxes left f f' s s' rr wr n (outcome, (None, (shape, is, _)), cause, ends) k = shape
+usage_has_no_shape words boxes left f f' s s' rr wr n (Ok done, (Some command, (shape, rest, _)), cause, (stop, writes, says)) k = absurd (after_writes done s s' wr stop n says (omega arith) (omega arith))
+usage_has_no_shape words boxes left f f' s s' rr wr n (Err e, (Some command, (shape, rest, _)), cause, (same, ends)) k =
+    elim (refusal_status e s s' wr n ends) [ inl h ↦ absurd (never_usage f boxes words command (subst (λ r. DecidesCommand f boxes words command (Err r)) (two_is_usage e n h k) rest)) | inr h ↦ absurd (omega arith) ]

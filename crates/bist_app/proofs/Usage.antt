@@ -1,5 +1,5 @@
 -- No command's checks refuse the words.
-use Rattle.std.proofs.Common.{List, ℕ, Option, Result, Ok, Err, refl}
+use Rattle.std.proofs.Common.{List, [], ◌∷◌, ℕ, Option, None, Result, Ok, Err, refl}
 use Rattle.bist_host.specs.Files.{Files}
 use Rattle.march_core.specs.March.{MarchElement}
 use Rattle.array_sim.specs.declared.element_run.Miss.{Miss}
@@ -18,6 +18,8 @@ use Rattle.bist_app.specs.Sim.{FitsAggressor, FitsDirections, LeavesSim, Decides
 use Rattle.bist_app.specs.Judge.{LeavesJudge, DecidesJudge}
 use Rattle.bist_app.specs.Vectors.{FitsLength, LeavesVectors, DecidesVectors}
 use Rattle.bist_app.specs.Compile.{LeavesCompile, DecidesCompile}
+use Rattle.word_device.specs.declared.device.Planted.{Planted}
+use Rattle.bist_app.specs.Bench.{Boxes, HasBox, FitsRoom, LeavesBench, DecidesBench}
 use Rattle.bist_app.specs.Run.{DecidesCommand}
 
 aggressor_never : (aggressor : Option ℕ) (prim : Primitive) → NeverUsage (FitsAggressor aggressor prim)
@@ -84,8 +86,37 @@ compile_never files words (Ok march, read, (Ok d, given, (Err e, listed, is))) =
     input_list_never files words 3 (turned (InputList files words 3) (let x : Result Done Refusal = Err Refusal.Usage in x) e refl is listed)
 compile_never files words (Ok march, read, (Ok d, given, (Ok items, listed, leaves))) = compile_leaves_never march d items leaves
 
-pub never_usage : (files : Option Files) (words : Words) (command : Command) → NeverUsage (DecidesCommand files words command)
-never_usage files words (Command.Sim shape) = sim_never files words shape
-never_usage files words Command.Judge = judge_never files words
-never_usage files words Command.Vectors = vectors_never files words
-never_usage files words Command.Compile = compile_never files words
+box_never : (boxes : Boxes) → NeverUsage (HasBox boxes)
+unfolding HasBox
+box_never [] h = h
+box_never (box ∷ boxes) h = h
+
+room_never : (d : Description) (boxes : Boxes) → NeverUsage (FitsRoom d boxes)
+unfolding FitsRoom
+room_never d [] h = h
+room_never d (box ∷ boxes) h = h
+
+bench_leaves_never : (march : List MarchElement) (d : Description) (planted : Option Planted) (boxes : Boxes) → NeverUsage (LeavesBench march d planted boxes)
+unfolding LeavesBench
+bench_leaves_never march d planted [] h = h
+bench_leaves_never march d planted (box ∷ boxes) h = h
+
+bench_never : (files : Option Files) (boxes : Boxes) (words : Words) → NeverUsage (DecidesBench files boxes words)
+bench_never files boxes words (Err e, read, is) =
+    input_march_never files words 1 (turned (InputMarch files words 1) (let x : Result Done Refusal = Err Refusal.Usage in x) e refl is read)
+bench_never files boxes words (Ok march, read, (Err e, given, is)) =
+    input_memory_never files words 2 (turned (InputMemory files words 2) (let x : Result Done Refusal = Err Refusal.Usage in x) e refl is given)
+bench_never files boxes words (Ok march, read, (Ok d, given, (Err e, fits, is))) =
+    length_never march d (turned (FitsLength march d) (let x : Result Done Refusal = Err Refusal.Usage in x) e refl is fits)
+bench_never files boxes words (Ok march, read, (Ok d, given, (Ok _, fits, (Err e, has, is)))) =
+    box_never boxes (turned (HasBox boxes) (let x : Result Done Refusal = Err Refusal.Usage in x) e refl is has)
+bench_never files boxes words (Ok march, read, (Ok d, given, (Ok _, fits, (Ok _, has, (Err e, room, is))))) =
+    room_never d boxes (turned (FitsRoom d boxes) (let x : Result Done Refusal = Err Refusal.Usage in x) e refl is room)
+bench_never files boxes words (Ok march, read, (Ok d, given, (Ok _, fits, (Ok _, has, (Ok _, room, leaves))))) = bench_leaves_never march d None boxes leaves
+
+pub never_usage : (files : Option Files) (boxes : Boxes) (words : Words) (command : Command) → NeverUsage (DecidesCommand files boxes words command)
+never_usage files boxes words (Command.Sim shape) = sim_never files words shape
+never_usage files boxes words Command.Judge = judge_never files words
+never_usage files boxes words Command.Vectors = vectors_never files words
+never_usage files boxes words Command.Compile = compile_never files words
+never_usage files boxes words Command.Bench = bench_never files boxes words

@@ -2,6 +2,7 @@ pub mod Sim
 pub mod Reported
 pub mod Judge
 pub mod Vectors
+pub mod Bench
 pub mod Compile
 pub mod LetterBits
 pub mod Run

@@ -11,6 +11,7 @@ use Rattle.bist_app.specs.Sim.{IsSimShape, DecidesSim}
 use Rattle.bist_app.specs.Judge.{IsJudgeShape, DecidesJudge}
 use Rattle.bist_app.specs.Vectors.{IsVectorsShape, DecidesVectors}
 use Rattle.bist_app.specs.Compile.{IsCompileShape, DecidesCompile}
+use Rattle.bist_app.specs.Bench.{Boxes, IsBenchShape, DecidesBench, LeavesFirst}
 
 -- the words have the shape of this command
 abbrev pub HasShape : Words → Command → Type 0
@@ -18,29 +19,39 @@ HasShape words (Command.Sim shape) = IsSimShape words shape
 HasShape words Command.Judge = IsJudgeShape words
 HasShape words Command.Vectors = IsVectorsShape words
 HasShape words Command.Compile = IsCompileShape words
+HasShape words Command.Bench = IsBenchShape words
 
 -- the words have no shape
 abbrev pub HasNoShape : Words → Type 0
 HasNoShape words = (command : Command) → HasShape words command → ⊥
 
--- the checks of this command, and what it leaves
-abbrev pub DecidesCommand : Option Files → Words → Command → Result Done Refusal → Type 0
-DecidesCommand files words (Command.Sim shape) outcome = DecidesSim files words shape outcome
-DecidesCommand files words Command.Judge outcome = DecidesJudge files words outcome
-DecidesCommand files words Command.Vectors outcome = DecidesVectors files words outcome
-DecidesCommand files words Command.Compile outcome = DecidesCompile files words outcome
+-- the checks of this command, and what it leaves of files and lines
+abbrev pub DecidesCommand : Option Files → Boxes → Words → Command → Result Done Refusal → Type 0
+DecidesCommand files boxes words (Command.Sim shape) outcome = DecidesSim files words shape outcome
+DecidesCommand files boxes words Command.Judge outcome = DecidesJudge files words outcome
+DecidesCommand files boxes words Command.Vectors outcome = DecidesVectors files words outcome
+DecidesCommand files boxes words Command.Compile outcome = DecidesCompile files words outcome
+DecidesCommand files boxes words Command.Bench outcome = DecidesBench files boxes words outcome
+
+-- what it leaves of the boxes
+abbrev pub LeavesBoxes : Command → Boxes → Boxes → Result Done Refusal → Type 0
+LeavesBoxes (Command.Sim shape) boxes left outcome = left ≡ boxes
+LeavesBoxes Command.Judge boxes left outcome = left ≡ boxes
+LeavesBoxes Command.Vectors boxes left outcome = left ≡ boxes
+LeavesBoxes Command.Compile boxes left outcome = left ≡ boxes
+LeavesBoxes Command.Bench boxes left outcome = LeavesFirst boxes left outcome
 
 -- the check of the words, and then the command's
-abbrev pub Decides : Option Files → Words → Result Done Refusal → Type 0
-Decides files words outcome =
+abbrev pub Decides : Option Files → Boxes → Boxes → Words → Result Done Refusal → Type 0
+Decides files boxes left words outcome =
     (command : Option Command) × MatchOption command
-    (HasNoShape words × (outcome ≡ Err Refusal.Usage))
-    (λ command. HasShape words command × DecidesCommand files words command outcome)
+    (HasNoShape words × (outcome ≡ Err Refusal.Usage) × (left ≡ boxes))
+    (λ command. HasShape words command × DecidesCommand files boxes words command outcome × LeavesBoxes command boxes left outcome)
 
 -- what a run answers and leaves
-abbrev pub Runs : Words → Option Files → Option Files → Option (List ℕ) → Option (List ℕ) → Type 0 → Type 0 → ℕ → Type 0
-Runs words files files' said said' reads_rose writes_rose status =
+abbrev pub Runs : Words → Boxes → Boxes → Option Files → Option Files → Option (List ℕ) → Option (List ℕ) → Type 0 → Type 0 → ℕ → Type 0
+Runs words boxes left files files' said said' reads_rose writes_rose status =
     (outcome : Result Done Refusal)
-    × Decides files words outcome
+    × Decides files boxes left words outcome
     × HasReadCause files reads_rose outcome
     × Ends words outcome files files' said said' writes_rose status

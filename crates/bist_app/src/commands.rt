@@ -1,6 +1,7 @@
 ghost use Rattle.std.specs.Prelude.{MatchOption};
 ghost use Rattle.bist_app.specs.Run.{HasShape, HasNoShape};
 
+use crate::bench_command::is_bench;
 use crate::compile::is_compile;
 use crate::judge::is_judge;
 use crate::sim::{SimShape, sim_shape};
@@ -13,6 +14,7 @@ pub enum Command {
     Judge,
     Vectors,
     Compile,
+    Bench,
 }
 
 /// The command whose shape the words have.
@@ -30,6 +32,9 @@ pub fn command_of(words: &[&str]) -> Option<Command>
     }
     if is_compile(words) {
         return Some(Command::Compile);
+    }
+    if is_bench(words) {
+        return Some(Command::Bench);
     }
     None
 }

@@ -1,6 +1,9 @@
 //! The program's top call: the words of the command line, the files that they name, and how it ends.
 #![tactic(auto)]
 
+mod bench_command;
+mod benching;
+mod boxes;
 mod commands;
 mod compile;
 mod directions;

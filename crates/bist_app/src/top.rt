@@ -1,11 +1,13 @@
-ghost use Rattle.std.specs.Prelude.{◌≡◌, ◌≤◌, ◌⊎◌, IfOk, None};
+ghost use Rattle.std.specs.Prelude.{◌≡◌, ◌≤◌, ◌⊎◌, IfOk, None, map};
 ghost use Rattle.bist_host.specs.Files.{Rose};
+ghost use Rattle.word_device.specs.Boxes.{told};
 ghost use Rattle.bist_endings.specs.Ending.{plain, done_of};
 ghost use Rattle.bist_inputs.specs.Inputs.{HasReadCause};
 ghost use Rattle.bist_endings.specs.Conclude.{NamesWords};
 ghost use Rattle.bist_app.specs.Answer.{IsComplete, RunHasOneAnswer};
 ghost use Rattle.bist_app.specs.Run.{Decides, Runs, HasNoShape};
 
+use crate::bench_command::decide_bench;
 use crate::commands::{Command, command_of};
 use crate::compile::decide_compile;
 use crate::judge::decide_judge;
@@ -14,15 +16,16 @@ use crate::vectors::decide_vectors;
 use bist_endings::{Ended, Plan, Refusal, conclude};
 use bist_host::Host;
 use std::alloc::Global;
+use word_device::Device;
 
 /// What the command leaves, or why it is refused.
-fn decide<H: Host>(alloc: Global, words: &[&str], host: &mut H) -> Result<Plan, Refusal>
+fn decide<H: Host>(alloc: Global, words: &[&str], host: &mut H, devices: &mut Vec<Box<dyn Device>>) -> Result<Plan, Refusal>
     ensures files { H.files host.new ≡ H.files host.old }
     ensures said { H.said host.new ≡ H.said host.old }
     ensures writes { H.write_faults host.new ≡ H.write_faults host.old }
     ensures reads { H.read_faults host.old ≤ H.read_faults host.new }
     ensures outputs { IfOk result (λ plan. NamesWords words.now (done_of plan).outputs) }
-    ensures answer { Decides (H.files host.old) words.now (plain result) }
+    ensures answer { Decides (H.files host.old) (map (λ b. told (room_of b) (shape_of b) (tells b)) devices.old.items) (map (λ b. told (room_of b) (shape_of b) (tells b)) devices.new.items) words.now (plain result) }
     ensures cause { HasReadCause (H.files host.old) (Rose (H.read_faults host.old) (H.read_faults host.new)) result }
 {
     match command_of(words) {
@@ -31,30 +34,31 @@ fn decide<H: Host>(alloc: Global, words: &[&str], host: &mut H) -> Result<Plan, 
         Some(Command::Judge) => decide_judge(alloc, words, host),
         Some(Command::Vectors) => decide_vectors(alloc, words, host),
         Some(Command::Compile) => decide_compile(alloc, words, host),
+        Some(Command::Bench) => decide_bench(alloc, words, host, devices),
     }
 }
 
 /// Decides the command and ends it.
-fn decide_and_end<H: Host>(alloc: Global, words: &[&str], host: &mut H) -> Ended
+fn decide_and_end<H: Host>(alloc: Global, words: &[&str], host: &mut H, devices: &mut Vec<Box<dyn Device>>) -> Ended
     ensures reads { H.read_faults host.old ≤ H.read_faults host.new }
     ensures writes { H.write_faults host.old ≤ H.write_faults host.new }
-    ensures answer { Runs words.now (H.files host.old) (H.files host.new) (H.said host.old) (H.said host.new)
+    ensures answer { Runs words.now (map (λ b. told (room_of b) (shape_of b) (tells b)) devices.old.items) (map (λ b. told (room_of b) (shape_of b) (tells b)) devices.new.items) (H.files host.old) (H.files host.new) (H.said host.old) (H.said host.new)
         (Rose (H.read_faults host.old) (H.read_faults host.new)) (Rose (H.write_faults host.old) (H.write_faults host.new)) result.status }
 {
-    let outcome = decide(alloc, words, host);
+    let outcome = decide(alloc, words, host, devices);
     conclude(alloc, words, host, outcome)
 }
 
 /// Runs the command that the words give: reads its files, writes its outputs, says its line, and ends with a status.
 #[tactic(auto, using(crate::proofs::Complete::complete_told, crate::proofs::Statuses::read_fault_rose, crate::proofs::Statuses::write_fault_rose, crate::proofs::Statuses::silent_rose, crate::proofs::Statuses::no_shape_ends, crate::proofs::Statuses::usage_has_no_shape, crate::proofs::OneAnswer::one_answer))]
-pub fn run<H: Host>(alloc: Global, words: &[&str], host: &mut H) -> Ended
+pub fn run<H: Host>(alloc: Global, words: &[&str], host: &mut H, devices: &mut Vec<Box<dyn Device>>) -> Ended
     ensures reads { H.read_faults host.old ≤ H.read_faults host.new }
     ensures writes { H.write_faults host.old ≤ H.write_faults host.new }
-    ensures answer { Runs words.now (H.files host.old) (H.files host.new) (H.said host.old) (H.said host.new)
+    ensures answer { Runs words.now (map (λ b. told (room_of b) (shape_of b) (tells b)) devices.old.items) (map (λ b. told (room_of b) (shape_of b) (tells b)) devices.new.items) (H.files host.old) (H.files host.new) (H.said host.old) (H.said host.new)
         (Rose (H.read_faults host.old) (H.read_faults host.new)) (Rose (H.write_faults host.old) (H.write_faults host.new)) result.status }
-    ensures complete { IsComplete words.now (H.files host.old) (H.files host.new) (H.said host.old) (H.said host.new)
+    ensures complete { IsComplete words.now (map (λ b. told (room_of b) (shape_of b) (tells b)) devices.old.items) (map (λ b. told (room_of b) (shape_of b) (tells b)) devices.new.items) (H.files host.old) (H.files host.new) (H.said host.old) (H.said host.new)
         (Rose (H.read_faults host.old) (H.read_faults host.new)) (Rose (H.write_faults host.old) (H.write_faults host.new)) result.status }
-    ensures one_answer { RunHasOneAnswer (H.files host.old) words.now }
+    ensures one_answer { RunHasOneAnswer (H.files host.old) (map (λ b. told (room_of b) (shape_of b) (tells b)) devices.old.items) words.now }
 
     // When the statuses of words and of faults come.
     ensures usage { result.status ≡ 2 → HasNoShape words.now }
@@ -63,5 +67,5 @@ pub fn run<H: Host>(alloc: Global, words: &[&str], host: &mut H) -> Ended
     ensures write_fault { result.status ≡ 8 → Rose (H.write_faults host.old) (H.write_faults host.new) }
     ensures not_told { H.files host.old ≡ None → (result.status ≡ 6) ⊎ (result.status ≡ 10) → Rose (H.read_faults host.old) (H.read_faults host.new) }
 {
-    decide_and_end(alloc, words, host)
+    decide_and_end(alloc, words, host, devices)
 }

@@ -36,7 +36,7 @@ pub fn is_vectors(words: &[&str]) -> bool
 
 /// Refuses a test that takes too many cycles.
 #[tactic(auto, unfolding(crate::specs::Vectors::FitsLength))]
-fn fit_length(march: &March, memory: &Memory) -> Result<(), Refusal>
+pub fn fit_length(march: &March, memory: &Memory) -> Result<(), Refusal>
     ensures answer { FitsLength march.now memory.now result }
     ensures own { IfErr result IsOwnRefusal }
 {

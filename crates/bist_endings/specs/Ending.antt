@@ -6,6 +6,7 @@ use Rattle.fault_syntax.specs.declared.fault.FaultFault.{FaultFault}
 use Rattle.memory_desc.specs.declared.fault.Field.{Field}
 use Rattle.memory_desc.specs.declared.fault.MemoryFault.{MemoryFault}
 use Rattle.bist_endings.specs.declared.ending.Refusal.{Refusal}
+use Rattle.bist_endings.specs.declared.ending.DeviceRefusal.{DeviceRefusal}
 use Rattle.bist_endings.specs.declared.ending.Misfit.{Misfit}
 use Rattle.bist_endings.specs.declared.ending.Output.{Output}
 use Rattle.bist_endings.specs.declared.ending.Plan.{Plan}
@@ -40,6 +41,7 @@ status_of (Refusal.TooLarge position) = 6
 status_of (Refusal.ReadFailed position) = 7
 status_of Refusal.NoMemory = 9
 status_of (Refusal.Absent position) = 10
+status_of (Refusal.Device refusal) = 11
 status_of (Refusal.TooLong number) = 12
 status_of (Refusal.Misfit misfit) = 13
 
@@ -106,6 +108,12 @@ memory_fault_text MemoryFault.NoSolidBackground = codes "D8"
 memory_fault_text MemoryFault.TooManyBackgrounds = codes "D9"
 memory_fault_text MemoryFault.OtherVersion = codes "D11"
 
+-- why the first box isn't taken
+abbrev pub device_text : DeviceRefusal → List ℕ
+device_text (DeviceRefusal.TooSmall words room) = codes "V1 words " ++ decimal words ++ codes " room " ++ decimal room
+device_text DeviceRefusal.BadPlace = codes "V2"
+device_text DeviceRefusal.NoBox = codes "V4"
+
 abbrev pub refusal_line : Refusal → List ℕ
 refusal_line Refusal.Usage = codes "usage\n"
 refusal_line (Refusal.March fault) = codes "march " ++ march_fault_text fault ++ codes "\n"
@@ -117,4 +125,5 @@ refusal_line (Refusal.Absent position) = numbered_line (codes "absent ") positio
 refusal_line (Refusal.TooLong number) = numbered_line (codes "too long ") number
 refusal_line (Refusal.Misfit Misfit.Aggressor) = codes "misfit aggressor\n"
 refusal_line (Refusal.Misfit Misfit.Directions) = codes "misfit directions\n"
+refusal_line (Refusal.Device refusal) = codes "device " ++ device_text refusal ++ codes "\n"
 refusal_line Refusal.NoMemory = no_memory_line

@@ -4,7 +4,7 @@ ghost use Rattle.bist_endings.specs.Ending.{plain, written_of, status_of, refusa
 ghost use Rattle.bist_endings.specs.Conclude.{NamesWords, WritesInOrder, HasWriteCause, SaysLine, RefusalEnds, SaysDone, DoneEnds, Ends};
 
 use crate::ending::{Ended, Misfit, Output, Plan, Refusal};
-use crate::lines::{fault_line, march_line, numbered};
+use crate::lines::{device_line, fault_line, march_line, numbered};
 use crate::memory_lines::memory_line;
 use bist_host::{Host, HostFault};
 use std::alloc::{AllocError, Global};
@@ -72,6 +72,7 @@ fn line_of_refusal(alloc: Global, refusal: Refusal) -> Result<Vec<u8>, AllocErro
         Refusal::TooLong { cycles } => numbered(alloc, b"too long ", cycles as usize),
         Refusal::Misfit(Misfit::Aggressor) => Vec::from_slice(alloc, b"misfit aggressor\n"),
         Refusal::Misfit(Misfit::Directions) => Vec::from_slice(alloc, b"misfit directions\n"),
+        Refusal::Device(refusal) => device_line(alloc, refusal),
         Refusal::NoMemory => Vec::from_slice(alloc, b"no memory\n"),
     }
 }
@@ -88,6 +89,7 @@ fn status(refusal: Refusal) -> u8
         Refusal::ReadFailed { .. } => 7,
         Refusal::NoMemory => 9,
         Refusal::Absent { .. } => 10,
+        Refusal::Device(_) => 11,
         Refusal::TooLong { .. } => 12,
         Refusal::Misfit(_) => 13,
     }

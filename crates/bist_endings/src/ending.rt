@@ -17,6 +17,17 @@ pub enum Misfit {
     Directions,
 }
 
+/// Why the first box isn't taken.
+#[derive(Clone, Copy)]
+pub enum DeviceRefusal {
+    /// V1: it has room for fewer words than the memory has.
+    TooSmall { words: u32, room: u32 },
+    /// V2: a place is outside the memory, or both are in one word.
+    BadPlace,
+    /// V4: there is no box.
+    NoBox,
+}
+
 /// Why a command is refused. A position is that of a file's word, the command itself being 0.
 #[derive(Clone, Copy)]
 pub enum Refusal {
@@ -32,6 +43,7 @@ pub enum Refusal {
     ReadFailed { position: usize },
     Absent { position: usize },
     Misfit(Misfit),
+    Device(DeviceRefusal),
     /// The test takes this many cycles, which is too many.
     TooLong { cycles: u64 },
     NoMemory,

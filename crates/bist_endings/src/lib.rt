@@ -9,6 +9,6 @@ mod memory_lines;
 mod words;
 
 pub use concluding::conclude;
-pub use ending::{Ended, Misfit, Output, Plan, Refusal};
+pub use ending::{DeviceRefusal, Ended, Misfit, Output, Plan, Refusal};
 pub use lines::{numbered, push_number};
 pub use words::{are_plain, number_of};

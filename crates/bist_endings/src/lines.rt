@@ -1,6 +1,7 @@
 ghost use Rattle.std.specs.Prelude.{◌≡◌, ◌++◌, IfOk, OnOk, codes, decimal};
-ghost use Rattle.bist_endings.specs.Ending.{numbered_line, march_fault_text, fault_text};
+ghost use Rattle.bist_endings.specs.Ending.{numbered_line, march_fault_text, fault_text, device_text};
 
+use crate::ending::DeviceRefusal;
 use fault_syntax::FaultFault;
 use itoa::Buffer;
 use march_core::MarchFault;
@@ -92,6 +93,30 @@ pub fn fault_line(alloc: Global, fault: FaultFault) -> Result<Vec<u8>, AllocErro
 {
     let mut line = Vec::from_slice(alloc, b"fault ")?;
     push_fault(&mut line, fault)?;
+    line.extend_from_slice(b"\n")?;
+    Ok(line)
+}
+
+/// Appends why the first box isn't taken.
+fn push_device(line: &mut Vec<u8>, refusal: DeviceRefusal) -> Result<(), AllocError>
+    ensures { OnOk result (line.new.items ≡ line.old.items ++ device_text refusal) }
+{
+    match refusal {
+        DeviceRefusal::TooSmall { words, room } => {
+            push_number(line, b"V1 words ", words as usize)?;
+            push_number(line, b" room ", room as usize)
+        }
+        DeviceRefusal::BadPlace => line.extend_from_slice(b"V2"),
+        DeviceRefusal::NoBox => line.extend_from_slice(b"V4"),
+    }
+}
+
+/// The line of a box that isn't taken.
+pub fn device_line(alloc: Global, refusal: DeviceRefusal) -> Result<Vec<u8>, AllocError>
+    ensures { IfOk result (λ line. line.items ≡ codes "device " ++ device_text refusal ++ codes "\n") }
+{
+    let mut line = Vec::from_slice(alloc, b"device ")?;
+    push_device(&mut line, refusal)?;
     line.extend_from_slice(b"\n")?;
     Ok(line)
 }

@@ -21,12 +21,12 @@ use Rattle.controller.specs.Standing.{Stands}
 use Rattle.microcode.specs.Code.{goes_down, assemble}
 use Rattle.microcode.specs.Running.{digits}
 use Rattle.controller.specs.Running.{IsAt, IsBehind}
-use Rattle.controller.specs.States.{State, control_of, IsKnown, IsControl, IsTurned, stage_from, StandsIn, Answers}
+use Rattle.controller.specs.States.{State, control_of, IsKnown, IsControl, IsTurned, stage_from, StandsIn, Answers, IsExpected}
 use Rattle.controller.proofs.Turn.{turns}
 use Rattle.controller.proofs.Slots.{start}
 use Rattle.controller.proofs.Stages.{length-pushed}
 use Rattle.controller.proofs.Steps.{resets, steps}
-use Rattle.controller.proofs.Rule.{rule}
+use Rattle.controller.proofs.Rule.{rule, expected_some, expected_none}
 use Rattle.microcode.proofs.Behind.{first_zero}
 use Rattle.controller.proofs.Turn.{is_instr}
 
@@ -181,3 +181,17 @@ outputs_meet march described s i live addr wdata returned k m there e_live e_add
       done = refl;
       fail = refl;
     }))
+
+-- ---- the read that is answered
+
+pub expected_read : (march : List MarchElement) (described : Description) (s : State) (returned : ℕ → ℕ) (k : ℕ) → IsMemory s.memory → s.reads ≡ true
+    → StandsIn march described s returned k → IsExpected march described (suc k) (Some s.want)
+expected_read march described s returned k m on st =
+    subst (λ d. IsExpected march d (suc k) (Some s.want)) st.memory
+    (expected_some march s.memory returned k (control_of s) (start march s.memory st.there.accepted m) st.stands on)
+
+pub none_expected : (march : List MarchElement) (described : Description) (s : State) (returned : ℕ → ℕ) (k : ℕ) → IsMemory s.memory → s.reads ≡ false
+    → StandsIn march described s returned k → IsExpected march described (suc k) None
+none_expected march described s returned k m off st =
+    subst (λ d. IsExpected march d (suc k) None) st.memory
+    (expected_none march s.memory returned k (control_of s) (start march s.memory st.there.accepted m) st.stands off)

@@ -1,5 +1,5 @@
 -- The outputs of a controller that stands in a cycle meet the rule of that cycle.
-use Rattle.std.proofs.Common.{◌≡◌, ◌≢◌, ℕ, suc, ◌+◌, ◌<◌, ◌≤◌, Bool, true, false, IsTrue, List, slice_get, Some, refl, ◌∙◌, ap, arith}
+use Rattle.std.proofs.Common.{◌≡◌, ◌≢◌, ℕ, suc, ◌+◌, ◌<◌, ◌≤◌, Bool, true, false, IsTrue, List, slice_get, Some, None, refl, ◌∙◌, ap, arith}
 use Rattle.std.proofs.lemmas.Option.{slice_get_within}
 use Rattle.word_march.specs.declared.operations.PortOp.{PortOp}
 use Rattle.word_march.specs.PortRule.{Carries}
@@ -12,6 +12,7 @@ use Rattle.controller.specs.Places.{command_of}
 use Rattle.controller.specs.Machine.{Control, live, outputs, control_after}
 use Rattle.controller.specs.Standing.{Missed, Stands, Starts}
 use Rattle.controller.specs.Places.{Turns}
+use Rattle.controller.specs.States.{IsExpected}
 use Rattle.controller.proofs.Stages.{is_command, has_command}
 use Rattle.controller.proofs.Steps.{now, stands}
 use Rattle.controller.proofs.Turn.{turns}
@@ -83,3 +84,20 @@ controlled march d returned m n k =
     let st = stands march d returned m n k in
     let c = control_after march d returned k in
     rule march d returned k c (start march d m n) (turns march d c.place m n st.place) st
+
+-- ---- the read that is answered
+
+module _ (march : List MarchElement) (d : Description) (returned : ℕ → ℕ) (k : ℕ) (c : Control) (s : Starts march d) (st : Stands march d returned k c) where
+  pub expected_some : c.reads ≡ true → IsExpected march d (suc k) (Some c.want)
+  expected_some b =
+      let r = st.last.read b in
+      let j = s.only r.0 r.1 r.3.there in
+      let before = r.2 in
+      let at = j.2 in
+      (j.0, r.1, j.1, r.3.reads, omega arith, r.4)
+
+  pub expected_none : c.reads ≡ false → IsExpected march d (suc k) None
+  expected_none b j o e r at =
+      let there = s.stands j o e in
+      let reads = st.last.found (command_at march d j) o (omega arith) (record { there = there; reads = r }) in
+      cc

@@ -1,7 +1,9 @@
 -- The controller as contracts see it, and what it mirrors.
-use Rattle.std.specs.Prelude.{◌≡◌, ℕ, ◌+◌, ◌<◌, Bool, true, if◌then◌else◌, not, ◌&&◌, List, length}
+use Rattle.std.specs.Prelude.{◌≡◌, ◌≢◌, ℕ, ◌+◌, ◌<◌, Bool, true, false, if◌then◌else◌, not, ◌&&◌, List, Option, Some, None, length, slice_get}
 use Rattle.std.specs.List.{AllByRecursion}
-use Rattle.word_march.specs.PortRule.{PortValues}
+use Rattle.word_march.specs.declared.operations.PortOp.{PortOp}
+use Rattle.word_march.specs.Commands.{port_ops}
+use Rattle.word_march.specs.PortRule.{PortValues, cycle_of}
 use Rattle.microcode.specs.declared.code.Instr.{Instr}
 use Rattle.microcode.specs.declared.place.Place.{Place as CodePlace}
 use Rattle.controller.specs.declared.stage.Stage.{Stage}
@@ -67,3 +69,10 @@ pub record Answers (q e : PortValues) : Type 0 where
   pub wdata : q.en ≡ true → e.wdata ≡ q.wdata
   pub done : e.done ≡ q.done
   pub fail : e.fail ≡ q.fail
+
+-- the read whose answer stands on `rdata` in cycle t expects this word; none where no read is answered then
+abbrev pub IsExpected : List MarchElement → Description → ℕ → Option ℕ → Type 0
+IsExpected march d t None =
+    (j : ℕ) (c : PortOp) → slice_get (port_ops march d) j ≡ Some c → c.write ≡ false → t ≢ cycle_of march d j + d.latency
+IsExpected march d t (Some word) =
+    (j : ℕ) × (c : PortOp) × (slice_get (port_ops march d) j ≡ Some c) × (c.write ≡ false) × (t ≡ cycle_of march d j + d.latency) × (word ≡ c.word)

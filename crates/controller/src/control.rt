@@ -6,7 +6,7 @@ ghost use Rattle.controller.specs.Machine.{blank, compared};
 ghost use Rattle.microcode.specs.Code.{assemble, IsCode};
 ghost use Rattle.controller.specs.Running.{IsAt, IsSomewhere};
 ghost use Rattle.word_march.specs.PortRule.{PortRule};
-ghost use Rattle.controller.specs.States.{IsTurned, stage_from, StandsIn, values};
+ghost use Rattle.controller.specs.States.{IsTurned, stage_from, StandsIn, values, IsExpected};
 
 use crate::place::{extent_of, word_at};
 use crate::stage::{Stage, push_stage};
@@ -85,6 +85,15 @@ impl<'a> Control<'a> {
             done: self.over,
             fail: self.bad,
         }
+    }
+
+    /// The word that the read expects whose answer stands on `rdata` in this cycle; none where no read is answered.
+    pub fn expected(&self) -> Option<u64>
+        ensures { (march : List MarchElement) (d : Description) (returned : ℕ → ℕ) (k : ℕ) → StandsIn march d self.now returned k
+            → IsExpected march d (suc k) result }
+    {
+        let _ = self.memory.words();
+        if self.reads { Some(self.want) } else { None }
     }
 
     /// One cycle, with the word on `rdata`.

@@ -22,14 +22,14 @@ before_more (Some o ∷ steps) (suc j) zero h = absurd (omega arith)
 before_more (Some o ∷ steps) (suc j) (suc k) h = before_more steps j k (omega arith)
 
 module _ (march : List MarchElement) (d : Description) where
-  at_more : (j k : ℕ) → j < k → command_at march d j < command_at march d k
+  pub at_more : (j k : ℕ) → j < k → command_at march d j < command_at march d k
   at_more j k h =
       let n = pauses_before (word_steps march d) j in
       let m = pauses_before (word_steps march d) k in
       let l = mul-le d.pause n d.pause m (omega arith) (before_more (word_steps march d) j k (omega arith)) in
       omega arith
 
-  one_command : (j k t : ℕ) → t ≡ cycle_of march d j → t ≡ cycle_of march d k → j ≡ k
+  pub one_command : (j k t : ℕ) → t ≡ cycle_of march d j → t ≡ cycle_of march d k → j ≡ k
   one_command j k t e f = elim (cases_lt j k) [
     | inl h ↦ (let l = at_more j k h in absurd (omega arith))
     | inr h ↦ elim (cases_lt k j) [ inl g ↦ (let l = at_more k j g in absurd (omega arith)) | inr g ↦ omega arith ]

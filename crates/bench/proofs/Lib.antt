@@ -1,0 +1,5 @@
+pub mod Inputs
+pub mod Outputs
+pub mod Turning
+pub mod Stages
+pub mod Histories

@@ -1,0 +1,5 @@
+use Rattle.bench.proofs.Histories.{any_box}
+use Rattle.bench.proofs.laws.any_box.Goals as goal
+
+pub returns : goal.returns
+returns c = any_box c.args.march.now c.args.memory.now c.len.ensures.march c.words.ensures.memory

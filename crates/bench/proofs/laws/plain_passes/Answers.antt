@@ -1,0 +1,5 @@
+use Rattle.bench.proofs.Histories.{plain}
+use Rattle.bench.proofs.laws.plain_passes.Goals as goal
+
+pub returns : goal.returns
+returns c = plain c.args.march.now c.args.memory.now c.len.ensures.march c.words.ensures.memory

@@ -1,0 +1,40 @@
+use verilog_tree::Name;
+use word_device::Device;
+
+/// The first read that was not answered by its expected word.
+#[derive(Clone, Copy, Debug, PartialEq, Eq)]
+pub struct Seen {
+    /// The cycle in which its answer stood on `rdata`; the reset is cycle 0.
+    pub cycle: u32,
+    /// The word at the port that the read expects.
+    pub expected: u64,
+    /// The word that returned.
+    pub returned: u64,
+}
+
+/// How a run ended.
+pub struct BenchEnd {
+    /// The port `fail` in the last cycle.
+    pub fail: bool,
+    /// The first cycle with the port `done` at 1.
+    pub done_cycle: Option<u32>,
+    /// The first read that was not answered by its expected word.
+    pub first: Option<Seen>,
+    /// The box, after the last cycle.
+    pub device: Box<dyn Device>,
+}
+
+/// Why a design isn't run.
+#[derive(Clone, Copy, Debug)]
+pub enum BenchFault {
+    /// B1: the run takes so many cycles, more than 2,000,000.
+    TooLong { cycles: u64 },
+    /// B2: this port is missing, goes another way or has another width; or else it is one too many.
+    WrongPorts { name: Name },
+}
+
+/// A refusal hands the box back, which was not called.
+pub struct BenchRefused {
+    pub fault: BenchFault,
+    pub device: Box<dyn Device>,
+}

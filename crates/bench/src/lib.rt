@@ -1,0 +1,12 @@
+//! A design of a module against a boxed memory, cycle by cycle: whether it ends with `fail`, when it is done, and the first read that is
+//! answered wrong. The module may be any with the ports of a self-test; the box may be any that is fitted.
+#![tactic(auto)]
+
+mod cycle;
+mod ending;
+pub mod laws;
+mod pins;
+mod run;
+
+pub use ending::{BenchEnd, BenchFault, BenchRefused, Seen};
+pub use run::bench;

@@ -1,0 +1,63 @@
+-- What a run against the first box leaves.
+use Rattle.std.proofs.Common.{◌≡◌, ◌⊎◌, ◌<◌, ◌*◌, ◌+◌, ◌%◌, ◌/◌, ◌^◌, ◌∙◌, ℕ, zero, suc, List, [], ◌∷◌, length, map, drop, replicate, Option, Some, None, Result, Ok, Err, bit_xor, refl, sym, ap, ap₂, subst, arith, inl, inr}
+use Rattle.std.specs.List.{range_with_len}
+use Rattle.std.proofs.Math.Nat.{one-le-pow, mod-eq_of_lt}
+use Rattle.march_core.specs.March.{MarchElement}
+use Rattle.memory_desc.specs.Descriptions.{Description}
+use Rattle.word_device.specs.declared.shape.Shape.{Shape}
+use Rattle.word_device.specs.Ports.{Chip, shape_of}
+use Rattle.word_device.specs.Boxes.{Tells, TellsChip, TellsScript, TellsNothing, Told, pattern, filled, filled_chip, blank}
+use Rattle.word_device.specs.Runs.{run_word}
+use Rattle.bench.specs.declared.ending.Seen.{Seen}
+use Rattle.bench.specs.Endings.{IsFirstRead}
+use Rattle.bench.specs.Laws.{done_at, IsSeenOf}
+use Rattle.bist_endings.specs.declared.ending.Refusal.{Refusal}
+use Rattle.bist_endings.specs.Ending.{Done}
+use Rattle.bist_app.specs.Bench.{Boxes, ready, benched_chip, IsSeen, IsRun, IsBenched, LeavesBench, LeavesFirst}
+
+-- the number 0 stands for words of 0
+zero_pattern : (bits k : ℕ) → pattern 0 bits k ≡ 0
+zero_pattern bits k =
+    let none : 0 * (2 * k + 1) ≡ 0 = omega arith in
+    ap (λ x. bit_xor (x % 2 ^ 64) (x % 2 ^ 64 / 2 ^ 32) % 2 ^ bits) none ∙ mod-eq_of_lt (one-le-pow bits 2 (omega arith))
+
+zero_words : (bits k n : ℕ) → map (pattern 0 bits) (range_with_len k n) ≡ replicate n 0
+zero_words bits k zero = refl
+zero_words bits k (suc n) = ap₂ (λ x xs. x ∷ xs) (zero_pattern bits k) (zero_words bits (k + 1) n)
+
+blank_filled : (shape : Shape) → filled_chip 0 shape (blank shape) ≡ blank shape
+blank_filled shape = ap (λ (words : List ℕ). record (blank shape) { words = words }) (zero_words shape.bits 0 shape.words)
+
+seen_of : (march : List MarchElement) (d : Description) (tells : Tells) (done : Done) → IsRun march d (ready d tells) done → IsBenched march d None tells done
+seen_of march d tells done r = record {
+  seen = r.seen;
+  is_seen = by tells r.is_seen;
+  found = ap (λ (x : Done). x.found) r.done_is;
+  line = ap (λ (x : Done). x.line) r.done_is;
+  outputs = ap (λ (x : Done). x.outputs) r.done_is;
+}
+  where
+    by : (t : Tells) → IsSeenOf march d (ready d t) r.seen → IsSeen march d None t r.seen
+    by (TellsChip c) h = subst (λ (x : Chip). IsFirstRead march d (run_word march d x) r.seen) (blank_filled (shape_of d)) h
+    by (TellsScript s) h = h refl
+    by TellsNothing h = r.read
+
+pub benched : {B : Type 0} (f : B → Told) (items : List B) (march : List MarchElement) (d : Description) (done : Done) → 0 < length items
+    → ((b : B) (rest : List B) → items ≡ b ∷ rest → IsRun march d (ready d (f b).tells) done) → LeavesBench march d None (map f items) (Ok done)
+unfolding LeavesBench
+benched f [] march d done some h = absurd (omega arith)
+benched f (b ∷ items) march d done some h = seen_of march d (f b).tells done (h b items refl)
+
+-- a refusal before any box is called leaves the boxes
+pub unchanged : (boxes : Boxes) (e : Refusal) → LeavesFirst boxes boxes (Err e)
+unchanged boxes Refusal.Usage = refl
+unchanged boxes (Refusal.March f) = refl
+unchanged boxes (Refusal.Memory f) = refl
+unchanged boxes (Refusal.Fault f) = refl
+unchanged boxes (Refusal.TooLarge p) = refl
+unchanged boxes (Refusal.ReadFailed p) = refl
+unchanged boxes (Refusal.Absent p) = refl
+unchanged boxes (Refusal.Misfit m) = refl
+unchanged boxes (Refusal.Device r) = refl
+unchanged boxes (Refusal.TooLong n) = refl
+unchanged boxes Refusal.NoMemory = inl refl

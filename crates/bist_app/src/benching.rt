@@ -1,0 +1,161 @@
+//! The self-test module against a box: the module is made, written, read back and run, and the line tells how it ended.
+
+ghost use Rattle.std.specs.Prelude.{◌≡◌, ◌⊎◌, ◌≤◌, ◌<◌, ◌++◌, ◌∷◌, [], Some, IsTrue, IfOk, OnOk, OnErr, codes, decimal, map, drop, vec_len};
+ghost use Rattle.verilog_tree.specs.Plain.{plain_module};
+ghost use Rattle.verilog_tree.specs.Formed.{formed};
+ghost use Rattle.verilog_tree.specs.Spells.{Spells};
+ghost use Rattle.verilog_cycle.specs.Design.{IsNew};
+ghost use Rattle.self_test.specs.SelfTest.{SelfTest};
+ghost use Rattle.word_device.specs.Ports.{shape_of as memory_shape};
+ghost use Rattle.word_device.specs.Boxes.{told};
+ghost use Rattle.bist_endings.specs.Ending.{done_of};
+ghost use Rattle.bist_app.specs.Bench.{done_text, word_text, seen_text, bench_line, benched_done, AreWords, IsRun, ready};
+
+
+use crate::boxes::take_first;
+use bench::{BenchEnd, BenchRefused, Seen, bench};
+use bist_bits::NoMemory;
+use bist_endings::Plan;
+use bist_text::{put, put_decimal, put_hex};
+use march_core::March;
+use memory_desc::Memory;
+use rtl_gen::generate;
+use std::alloc::Global;
+use verilog_cycle::{Design, elaborate};
+use verilog_emit::emit;
+use verilog_read::read_module;
+use verilog_tree::Module;
+use word_device::Device;
+
+
+/// The module that a text spells; none but for want of memory where it spells one.
+fn read_back(alloc: Global, text: &[u8]) -> Result<Module, NoMemory>
+    ensures { IfOk result (λ m. Spells text.now (plain_module m)) }
+{
+    match read_module(alloc, text) {
+        Ok(module) => Ok(module),
+        Err(_) => Err(NoMemory),
+    }
+}
+
+/// The design of a module; none but for want of memory where it breaks no rule and has no loop.
+fn designed(alloc: Global, module: &Module) -> Result<Design, NoMemory>
+    requires { IsTrue (formed (plain_module «module».now)) }
+    ensures { IfOk result (IsNew (plain_module «module».now)) }
+{
+    match elaborate(alloc, module) {
+        Ok(design) => Ok(design),
+        Err(_) => Err(NoMemory),
+    }
+}
+
+/// The self-test of the memory by the march as a design, from its written text.
+pub fn self_test_design(alloc: Global, march: &March, memory: &Memory) -> Result<Design, NoMemory>
+    ensures { IfOk result (λ design. SelfTest design.tree march.now memory.now) }
+{
+    let written = generate(alloc, march, memory)?;
+    let text = emit(alloc, &written)?;
+    let read = read_back(alloc, &text)?;
+    designed(alloc, &read)
+}
+
+/// Appends the first cycle with `done`.
+fn put_done(line: &mut Vec<u8>, done_cycle: Option<u32>) -> Result<(), NoMemory>
+    ensures { OnOk result (line.new.items ≡ line.old.items ++ done_text done_cycle) }
+{
+    match done_cycle {
+        Some(cycle) => put_decimal(line, u64::from(cycle)),
+        None => put(line, b"none"),
+    }
+}
+
+/// Appends a read that was answered wrong.
+fn put_read(line: &mut Vec<u8>, bits: u8, seen: Seen) -> Result<(), NoMemory>
+    requires bits { bits ≤ 64 }
+    requires fits { AreWords bits (Some seen) }
+    ensures { OnOk result (line.new.items ≡ line.old.items ++ seen_text bits (Some seen)) }
+{
+    put(line, b" cycle ")?;
+    put_decimal(line, u64::from(seen.cycle))?;
+    put(line, b" expected ")?;
+    put_hex(line, seen.expected, (bits + 3) / 4)?;
+    put(line, b" returned ")?;
+    put_hex(line, seen.returned, (bits + 3) / 4)
+}
+
+/// Appends the first read that was answered wrong, if one was.
+fn put_seen(line: &mut Vec<u8>, bits: u8, seen: Option<Seen>) -> Result<(), NoMemory>
+    requires bits { bits ≤ 64 }
+    requires fits { AreWords bits seen }
+    ensures { OnOk result (line.new.items ≡ line.old.items ++ seen_text bits seen) }
+{
+    match seen {
+        Some(seen) => put_read(line, bits, seen),
+        None => Ok(()),
+    }
+}
+
+/// The line that tells how a run ended.
+fn end_line(alloc: Global, bits: u8, fail: bool, done_cycle: Option<u32>, first: Option<Seen>) -> Result<Vec<u8>, NoMemory>
+    requires bits { bits ≤ 64 }
+    requires fits { AreWords bits first }
+    ensures { IfOk result (λ line. line.items ≡ bench_line bits fail done_cycle first) }
+{
+    let mut line = Vec::new(alloc);
+    put(&mut line, if fail { b"fail 1 done " } else { b"fail 0 done " })?;
+    put_done(&mut line, done_cycle)?;
+    put_seen(&mut line, bits, first)?;
+    put(&mut line, b"\n")?;
+    Ok(line)
+}
+
+/// The plan of a run that ended so.
+fn end_plan(alloc: Global, bits: u8, fail: bool, done_cycle: Option<u32>, first: Option<Seen>) -> Result<Plan, NoMemory>
+    requires bits { bits ≤ 64 }
+    requires fits { AreWords bits first }
+    ensures { IfOk result (λ plan. done_of plan ≡ benched_done bits fail done_cycle first) }
+{
+    let line = end_line(alloc, bits, fail, done_cycle, first)?;
+    Ok(Plan {
+        found: fail,
+        outputs: Vec::new(alloc),
+        line,
+    })
+}
+
+/// Runs a self-test against a box that is fitted.
+fn run_plan(alloc: Global, design: &mut Design, march: &March, memory: &Memory, device: Box<dyn Device>) -> Result<Plan, NoMemory>
+    requires test { SelfTest design.old.tree march.now memory.now }
+    requires fitted { shape_of device ≡ Some (memory_shape memory.now) }
+    ensures run { IfOk result (λ plan. IsRun march.now memory.now (tells device) (done_of plan)) }
+    ensures outputs { IfOk result (λ plan. (done_of plan).outputs ≡ []) }
+{
+    match bench(design, march, memory, device) {
+        Ok(BenchEnd {
+            fail,
+            done_cycle,
+            first,
+            device,
+        }) => {
+            drop(device);
+            end_plan(alloc, memory.bits(), fail, done_cycle, first)
+        }
+        Err(BenchRefused { fault: _, device }) => {
+            drop(device);
+            Err(NoMemory)
+        }
+    }
+}
+
+/// Runs the self-test of the memory by the march against the first box, which is fitted and taken.
+pub fn bench_first(alloc: Global, march: &March, memory: &Memory, devices: &mut Vec<Box<dyn Device>>) -> Result<Plan, NoMemory>
+    requires some { 0 < vec_len devices.old }
+    ensures taken { OnOk result (devices.new.items ≡ drop 1 devices.old.items) }
+    ensures kept { OnErr result ((map (λ b. told (room_of b) (shape_of b) (tells b)) devices.new.items ≡ map (λ b. told (room_of b) (shape_of b) (tells b)) devices.old.items) ⊎ (devices.new.items ≡ drop 1 devices.old.items)) }
+    ensures run { IfOk result (λ plan. (b : _) (rest : _) → devices.old.items ≡ b ∷ rest → IsRun march.now memory.now (ready memory.now (tells b)) (done_of plan)) }
+    ensures outputs { IfOk result (λ plan. (done_of plan).outputs ≡ []) }
+{
+    let mut design = self_test_design(alloc, march, memory)?;
+    let device = take_first(devices, memory)?;
+    run_plan(alloc, &mut design, march, memory, device)
+}

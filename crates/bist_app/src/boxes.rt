@@ -1,0 +1,78 @@
+//! The boxes that the program is given: whether there is one with room for a memory, and the first one fitted and taken.
+
+ghost use Rattle.std.specs.Prelude.{◌≡◌, ◌≤◌, ◌<◌, ◌∷◌, Some, Ok, length, map, drop, vec_len, IsSome, IfOk, IfErr, OnOk, OnErr};
+ghost use Rattle.word_device.specs.Ports.{shape_of as memory_shape};
+ghost use Rattle.word_device.specs.Boxes.{told, after_fit, after_fill, IsShape};
+ghost use Rattle.bist_inputs.specs.Inputs.{IsOwnRefusal};
+ghost use Rattle.bist_app.specs.Bench.{HasBox, FitsRoom, ready};
+
+use bist_bits::NoMemory;
+use bist_endings::{DeviceRefusal, Refusal};
+use memory_desc::Memory;
+use word_device::{Device, Shape, shape_of};
+
+/// Refuses an empty list.
+#[tactic(auto, unfolding(crate::specs::Bench::HasBox))]
+pub fn has_box(devices: &[Box<dyn Device>]) -> Result<(), Refusal>
+    ensures answer { HasBox (map (λ b. told (room_of b) (shape_of b) (tells b)) devices.now) result }
+    ensures own { IfErr result IsOwnRefusal }
+    ensures some { IfOk result (λ _. 0 < length devices.now) }
+{
+    if devices.is_empty() {
+        return Err(Refusal::Device(DeviceRefusal::NoBox));
+    }
+    Ok(())
+}
+
+fn room_of_box(device: &Box<dyn Device>) -> u32
+    ensures { result ≡ room_of device.now }
+{
+    device.room()
+}
+
+/// Refuses a first box with room for fewer words than the memory has.
+#[tactic(auto, unfolding(crate::specs::Bench::FitsRoom))]
+pub fn fits_room(devices: &[Box<dyn Device>], memory: &Memory) -> Result<(), Refusal>
+    requires some { 0 < length devices.now }
+    ensures answer { FitsRoom memory.now (map (λ b. told (room_of b) (shape_of b) (tells b)) devices.now) result }
+    ensures own { IfErr result IsOwnRefusal }
+{
+    let room = room_of_box(&devices[0]);
+    let words = memory.words();
+    if room < words {
+        return Err(Refusal::Device(DeviceRefusal::TooSmall { words, room }));
+    }
+    Ok(())
+}
+
+/// Fits a box; want of memory leaves it as it was.
+fn fit_box(device: &mut Box<dyn Device>, shape: &Shape) -> Result<(), NoMemory>
+    requires { IsShape shape.now }
+    ensures ok { OnOk result (told (room_of device.new) (shape_of device.new) (tells device.new) ≡ told (room_of device.old) (Some shape.now) (after_fit shape.now (tells device.old))) }
+    ensures err { OnErr result (told (room_of device.new) (shape_of device.new) (tells device.new) ≡ told (room_of device.old) (shape_of device.old) (tells device.old)) }
+{
+    device.fit(shape).map_err(|_| NoMemory)
+}
+
+/// Fills a box with zeros.
+fn clear_box(device: &mut Box<dyn Device>)
+    requires { IsSome (shape_of device.old) }
+    ensures { told (room_of device.new) (shape_of device.new) (tells device.new) ≡ told (room_of device.old) (shape_of device.old) (after_fill (shape_of device.old) 0 (tells device.old)) }
+{
+    device.fill(0);
+}
+
+/// Fits the first box with the memory's shape and takes it out of the list, filled with zeros. Want of memory leaves the list as it was.
+pub fn take_first(devices: &mut Vec<Box<dyn Device>>, memory: &Memory) -> Result<Box<dyn Device>, NoMemory>
+    requires some { 0 < vec_len devices.old }
+    ensures taken { OnOk result (devices.new.items ≡ drop 1 devices.old.items) }
+    ensures kept { OnErr result (map (λ b. told (room_of b) (shape_of b) (tells b)) devices.new.items ≡ map (λ b. told (room_of b) (shape_of b) (tells b)) devices.old.items) }
+    ensures fitted { IfOk result (λ d. shape_of d ≡ Some (memory_shape memory.now)) }
+    ensures tells { IfOk result (λ d. (b : _) (rest : _) → devices.old.items ≡ b ∷ rest → tells d ≡ ready memory.now (tells b)) }
+{
+    let shape = shape_of(memory);
+    fit_box(&mut devices[0], &shape)?;
+    let mut device = devices.remove(0);
+    clear_box(&mut device);
+    Ok(device)
+}
