@@ -1,0 +1,1 @@
+{down(w0);up(r0,w1,r1,w0);up(r0,r0);up(w1);down(r1,w0,r0,w1);down(r1,r1)}

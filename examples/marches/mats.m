@@ -1,0 +1,1 @@
+{any(w0);any(r0,w1);any(r1)}
