@@ -1,11 +1,18 @@
 //! Worked examples of the commands, over hosts in memory and over real files.
 
-use bist_app::run;
+use bist_app::{Ended, run};
 use bist_bits::NoMemory;
 use bist_host::{FailHost, Host, MemHost, RealHost};
 use std::alloc::Global;
 use std::test::Fail;
+use word_device::{ArrayDevice, ConstDevice, CountDevice, Device, NoFitDevice};
 use std::{env, fs, process};
+
+/// The run of a command that calls no box.
+fn run_alone<H: Host>(alloc: Global, words: &[&str], host: &mut H) -> Ended {
+    let mut devices: Vec<Box<dyn Device>> = Vec::new(alloc);
+    run(alloc, words, host, &mut devices)
+}
 
 const MATS: &[u8] = b"{any(w0);up(r0,w1);down(r1,w0)}";
 
@@ -349,7 +356,7 @@ fn worked_rows(rt: HostRuntime) -> Result<(), Fail> {
         if let Some(list) = row.list {
             host.put("l", list)?;
         }
-        assert_eq!(rt; run(rt.alloc(), row.words, &mut host).status, row.status);
+        assert_eq!(rt; run_alone(rt.alloc(), row.words, &mut host).status, row.status);
         assert_eq!(rt; host.said(), row.said);
     }
     Ok(())
@@ -470,7 +477,7 @@ fn reports(rt: HostRuntime) -> Result<(), Fail> {
         host.put("m", march)?;
         host.put("l", list)?;
         let words = ["judge", "m", "l", "r"];
-        assert_eq!(rt; run(rt.alloc(), &words, &mut host).status, 1);
+        assert_eq!(rt; run_alone(rt.alloc(), &words, &mut host).status, 1);
         assert_eq!(rt; host.get("r").ok_or("a report")?, report);
     }
     Ok(())
@@ -515,7 +522,7 @@ fn vectors(rt: HostRuntime) -> Result<(), Fail> {
         host.put("m", march)?;
         host.put("d", memory)?;
         let words = ["vectors", "m", "d", "o"];
-        assert_eq!(rt; run(rt.alloc(), &words, &mut host).status, 0);
+        assert_eq!(rt; run_alone(rt.alloc(), &words, &mut host).status, 0);
         assert_eq!(rt; host.said(), said);
         assert_eq!(rt; host.get("o").ok_or("commands")?, commands);
     }
@@ -606,7 +613,7 @@ fn refused_vectors(rt: HostRuntime) -> Result<(), Fail> {
         host.put("m", march)?;
         host.put("d", memory)?;
         let words = ["vectors", "m", "d", "o"];
-        assert_eq!(rt; run(rt.alloc(), &words, &mut host).status, status);
+        assert_eq!(rt; run_alone(rt.alloc(), &words, &mut host).status, status);
         assert_eq!(rt; host.said(), said);
         assert!(rt; host.get("o").is_none());
     }
@@ -620,7 +627,7 @@ fn a_report_that_fails(rt: HostRuntime) -> Result<(), Fail> {
     inner.put("l", b"one")?;
     let mut host = FailHost::new(inner, [3].to_vec(rt.alloc())?);
     let words = ["judge", "m", "l", "r"];
-    assert_eq!(rt; run(rt.alloc(), &words, &mut host).status, 8);
+    assert_eq!(rt; run_alone(rt.alloc(), &words, &mut host).status, 8);
     assert_eq!(rt; host.inner().said(), b"write failed 3\n".as_slice());
     Ok(())
 }
@@ -631,7 +638,7 @@ fn too_large_a_march(rt: HostRuntime) -> Result<(), Fail> {
     let mut host = MemHost::new(rt.alloc());
     host.put("m", &blanks)?;
     let words = ["sim", "m", "<0w1/0/->", "2", "00", "none", "0", "uud"];
-    assert_eq!(rt; run(rt.alloc(), &words, &mut host).status, 6);
+    assert_eq!(rt; run_alone(rt.alloc(), &words, &mut host).status, 6);
     assert_eq!(rt; host.said(), b"too large 1\n".as_slice());
     Ok(())
 }
@@ -646,7 +653,7 @@ fn failing_calls(rt: HostRuntime) -> Result<(), Fail> {
         inner.put("m", MATS)?;
         let mut host = FailHost::new(inner, [failing].to_vec(rt.alloc())?);
         let words = ["sim", "m", "<0w1/0/->", "2", "00", "none", "0", "uud"];
-        assert_eq!(rt; run(rt.alloc(), &words, &mut host).status, status);
+        assert_eq!(rt; run_alone(rt.alloc(), &words, &mut host).status, status);
         assert_eq!(rt; host.inner().said(), said);
     }
     Ok(())
@@ -660,7 +667,7 @@ fn real_files(rt: HostRuntime) -> Result<(), Fail> {
     let mut host = RealHost::new(&rt);
     host.write_file(name, MATS)?;
     let words = ["sim", name, "<0w1/0/->", "2", "00", "none", "0", "uud"];
-    assert_eq!(rt; run(rt.alloc(), &words, &mut host).status, 1);
+    assert_eq!(rt; run_alone(rt.alloc(), &words, &mut host).status, 1);
     fs::remove_file(&rt, name)?;
     Ok(())
 }
@@ -690,7 +697,7 @@ fn with_inputs(alloc: Global) -> Result<MemHost, NoMemory> {
 #[test]
 fn a_compilation(rt: HostRuntime) -> Result<(), Fail> {
     let mut host = with_inputs(rt.alloc())?;
-    assert_eq!(rt; run(rt.alloc(), &COMPILE, &mut host).status, 0);
+    assert_eq!(rt; run_alone(rt.alloc(), &COMPILE, &mut host).status, 0);
     assert_eq!(rt; host.said(), b"total 2 covered 2 escapes 0\n".as_slice());
     assert_eq!(rt; host.get("r").ok_or("a report")?, COMPILED_REPORT);
     let module = host.get("v").ok_or("a module")?;
@@ -716,7 +723,7 @@ fn a_compilation_with_an_escape(rt: HostRuntime) -> Result<(), Fail> {
     let mut host = with_inputs(rt.alloc())?;
     host.put("d", FIVE)?;
     host.put("l", b"<0w0/1/->")?;
-    assert_eq!(rt; run(rt.alloc(), &COMPILE, &mut host).status, 1);
+    assert_eq!(rt; run_alone(rt.alloc(), &COMPILE, &mut host).status, 1);
     assert_eq!(rt; host.said(), b"total 1 covered 0 escapes 1\n".as_slice());
     assert_eq!(rt; host.get("r").ok_or("a report")?, FIVE_REPORT);
     assert!(rt; host.get("v").is_some());
@@ -735,7 +742,7 @@ total 2 covered 1 escapes 1
 fn a_compilation_with_dynamic_primitives(rt: HostRuntime) -> Result<(), Fail> {
     let mut host = with_inputs(rt.alloc())?;
     host.put("l", b"<1w0r0/1/1>\n<r0w1/0/->\n")?;
-    assert_eq!(rt; run(rt.alloc(), &COMPILE, &mut host).status, 1);
+    assert_eq!(rt; run_alone(rt.alloc(), &COMPILE, &mut host).status, 1);
     assert_eq!(rt; host.said(), b"total 2 covered 1 escapes 1\n".as_slice());
     assert_eq!(rt; host.get("r").ok_or("a report")?, DYNAMIC_REPORT);
     Ok(())
@@ -765,15 +772,65 @@ fn has_halves(host: &MemHost, name: &str, whole: &[u8], halves: usize) -> bool {
 #[test]
 fn compilations_with_failing_calls(rt: HostRuntime) -> Result<(), Fail> {
     let mut whole = with_inputs(rt.alloc())?;
-    assert_eq!(rt; run(rt.alloc(), &COMPILE, &mut whole).status, 0);
+    assert_eq!(rt; run_alone(rt.alloc(), &COMPILE, &mut whole).status, 0);
     let module = whole.get("v").ok_or("a module")?;
     for (calls, status, said, module_halves, report_halves) in FAILING {
         let inner = with_inputs(rt.alloc())?;
         let mut host = FailHost::new(inner, calls.to_vec(rt.alloc())?);
-        assert_eq!(rt; run(rt.alloc(), &COMPILE, &mut host).status, status);
+        assert_eq!(rt; run_alone(rt.alloc(), &COMPILE, &mut host).status, status);
         assert_eq!(rt; host.inner().said(), said);
         assert!(rt; has_halves(host.inner(), "v", module, module_halves));
         assert!(rt; has_halves(host.inner(), "r", COMPILED_REPORT, report_halves));
     }
+    Ok(())
+}
+
+/// A memory, the sort of a box and its room, what `bench` says with March C-, its status, and how many of two boxes are left.
+const BENCHED: [(&[u8], &str, u32, &[u8], u8, usize); 10] = [
+    (M16, "array", 65_536, b"fail 0 done 162\n", 0, 1),
+    (M16, "zeros", 65_536, b"fail 1 done 162 cycle 50 expected 1 returned 0\n", 1, 1),
+    (M16, "ones", 65_536, b"fail 1 done 162 cycle 18 expected 0 returned 1\n", 1, 1),
+    (M16, "count", 65_536, b"fail 1 done 162 cycle 18 expected 0 returned 1\n", 1, 1),
+    (M16, "none", 65_536, b"no memory\n", 9, 2),
+    (M16, "array", 16, b"fail 0 done 162\n", 0, 1),
+    (M16, "array", 15, b"device V1 words 16 room 15\n", 11, 2),
+    (SLOW, "array", 65_536, b"fail 0 done 164\n", 0, 1),
+    (SLOW, "zeros", 65_536, b"fail 1 done 164 cycle 52 expected 1 returned 0\n", 1, 1),
+    (LARGE, "array", 65_536, b"too long 4587523\n", 12, 2),
+];
+
+const M16: &[u8] = b"memory 1\nname m16\nwords 16\nbits 1\n";
+const SLOW: &[u8] = b"memory 2\nname m16\nwords 16\nbits 1\nlatency 3\n";
+const LARGE: &[u8] = b"memory 1\nname large_one\nwords 65536\nbits 64\n";
+
+#[test]
+fn benched_boxes(rt: HostRuntime) -> Result<(), Fail> {
+    for (memory, sort, room, said, status, left) in BENCHED {
+        let mut host = MemHost::new(rt.alloc());
+        host.put("m", MARCH_C)?;
+        host.put("d", memory)?;
+        let mut devices: Vec<Box<dyn Device>> = Vec::new(rt.alloc());
+        match sort {
+            "array" => devices.push(Box::new(rt.alloc(), ArrayDevice::new(rt.alloc(), room))?)?,
+            "zeros" => devices.push(Box::new(rt.alloc(), ConstDevice::new(room, 0))?)?,
+            "ones" => devices.push(Box::new(rt.alloc(), ConstDevice::new(room, u64::MAX))?)?,
+            "count" => devices.push(Box::new(rt.alloc(), CountDevice::new(room))?)?,
+            _ => devices.push(Box::new(rt.alloc(), NoFitDevice::new(room))?)?,
+        }
+        devices.push(Box::new(rt.alloc(), ArrayDevice::new(rt.alloc(), 16))?)?;
+        assert_eq!(rt; run(rt.alloc(), &["bench", "m", "d"], &mut host, &mut devices).status, status);
+        assert_eq!(rt; host.said(), said);
+        assert_eq!(rt; devices.len(), left);
+    }
+    Ok(())
+}
+
+#[test]
+fn no_box(rt: HostRuntime) -> Result<(), Fail> {
+    let mut host = MemHost::new(rt.alloc());
+    host.put("m", MARCH_C)?;
+    host.put("d", M16)?;
+    assert_eq!(rt; run_alone(rt.alloc(), &["bench", "m", "d"], &mut host).status, 11);
+    assert_eq!(rt; host.said(), b"device V4\n".as_slice());
     Ok(())
 }
