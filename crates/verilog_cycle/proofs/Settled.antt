@@ -198,10 +198,6 @@ no_place mo ns nets n h =
     either true b h = cc
     either false b h = (refl, h)
 
-    zero_at : (t : Bool) (k : ℕ) → t ≡ true → cond t 0 k ≡ 0
-    zero_at true k e = refl
-    zero_at false k e = cc
-
     by_clock : (d : Declaration) → lookup (declarations mo.ports mo.items) n ≡ Some d → is_input d.kind ≡ true → is_among n (names (inputs_of mo)) ≡ false → (c : Bool) → is_clk n ≡ c → cond c 0 (names_widths mo n) ≡ 0
     by_clock d l k i true e = refl
     by_clock d l k i false e =
