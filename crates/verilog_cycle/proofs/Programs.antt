@@ -20,12 +20,6 @@ step_found w is ps n x k c d g = record { coded = λ y e. let s : x ≡ y = (let
 pub step_missing : (w : List ℕ → ℕ) (is : List ModuleItem) (ps : List (List ℕ)) (n : List ℕ) (c : Code) → driver is n ≡ None → IsStep w is ps n c
 step_missing w is ps n c d = record { coded = λ y e. let z : None ≡ Some y = sym d ∙ e in cc }
 
-pub next_step : (w : List ℕ → ℕ) (is : List ModuleItem) (ps : List (List ℕ)) (nets : List ArrayString) (i : ℕ) (n : ArrayString) (c : Code) (all more cs : List Code) → i < length nets → n ≡ get_or nets i n → IsStep w is ps n.bytes c → more ≡ all ++ c ∷ [] →
-    ((cs : List Code) → AreSteps w is ps (plain_names (drop i nets)) cs → AreSteps w is ps (plain_names nets) (all ++ cs)) → AreSteps w is ps (plain_names (drop (i + 1) nets)) cs → AreSteps w is ps (plain_names nets) (more ++ cs)
-next_step w is ps nets i n c all more cs lt at s e so rest =
-    subst (λ (l : List Code). AreSteps w is ps (plain_names nets) l) (grown all more c cs e)
-    (so (c ∷ cs) (subst (λ (l : List ArrayString). AreSteps w is ps (plain_names l) (c ∷ cs)) (sym (next_of nets i n lt at)) (s, rest)))
-
 pub last_step : (w : List ℕ → ℕ) (is : List ModuleItem) (ps : List (List ℕ)) (nets : List ArrayString) (i : ℕ) (all : List Code) → length nets ≤ i → ((cs : List Code) → AreSteps w is ps (plain_names (drop i nets)) cs → AreSteps w is ps (plain_names nets) (all ++ cs)) → AreSteps w is ps (plain_names nets) all
 last_step w is ps nets i all le so =
     subst (λ (l : List Code). AreSteps w is ps (plain_names nets) l) (append-nil all)

@@ -11,5 +11,4 @@ pub mod Refusals
 pub mod Reordering
 pub mod Settling
 pub mod Spelled
-pub mod Steps
 pub mod Vectors
