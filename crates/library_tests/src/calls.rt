@@ -19,7 +19,7 @@ use march_core::{MarchBuilder, MarchFault, Op, Order, is_down};
 use march_syntax::read_march;
 use memory_desc::read_memory;
 use pair_tracker::{Placement, Survivor, survivors};
-use report::{count_covered, judge_items, write_judged, write_mixed, write_total};
+use report::{count_covered, judge_items, write_judged, write_mixed, write_report, write_total};
 use scrambler::{Dependence, Matrix, Scramble, invert};
 use std::test::Fail;
 use verilog_tree::{BinOp, Expr, Known, Name, is_name, value};
@@ -235,6 +235,8 @@ fn verdicts_and_reports(rt: HostRuntime) -> Result<(), Fail> {
     let prims = [keeps_zero, keeps_one];
     let verdicts = judge_all(rt.alloc(), &march, &prims)?;
     assert_eq!(rt; verdicts.len(), 2);
+    let text = write_report(rt.alloc(), &march, None, &prims, &verdicts)?;
+    assert_eq!(rt; text.as_slice(), REPORT);
     let items = [Item::Plain(keeps_zero), Item::Plain(keeps_one)];
     let judged = judge_items(rt.alloc(), &march, &items)?;
     assert_eq!(rt; count_covered(&judged), 1);

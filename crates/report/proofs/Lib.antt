@@ -1,2 +1,3 @@
 pub mod ReportLines
 pub mod Counts
+pub mod PlainItems

@@ -1,6 +1,7 @@
 -- Items of a list, static and dynamic, and what is said of them under a march.
-use Rattle.std.specs.Prelude.{◌≡◌, ℕ, Bool, true, false, List, map, count_by}
+use Rattle.std.specs.Prelude.{◌≡◌, ℕ, Bool, true, false, List, [], ◌∷◌, map, count_by}
 use Rattle.std.specs.List.{AllByRecursion}
+use Rattle.fault_core.specs.Primitive.{Primitive}
 use Rattle.march_core.specs.March.{MarchElement}
 use Rattle.array_sim.specs.Detection.{Detects}
 use Rattle.coverage.specs.declared.verdict.Verdict.{Verdict}
@@ -31,6 +32,12 @@ is_covered (JudgedItem.Dyn p (DynVerdict.Escape e)) = false
 -- how many judged items are covered
 abbrev pub covered_count : List JudgedItem → ℕ
 covered_count judged = count_by is_covered judged
+
+-- static primitives with their verdicts
+abbrev pub plain_items : List Primitive → List Verdict → List JudgedItem
+plain_items [] vs = []
+plain_items (p ∷ ps) [] = []
+plain_items (p ∷ ps) (v ∷ vs) = JudgedItem.Plain p v ∷ plain_items ps vs
 
 -- the verdict is right
 abbrev pub IsJudged : List MarchElement → JudgedItem → Type 0

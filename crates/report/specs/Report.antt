@@ -2,7 +2,6 @@
 -- occurs, and the total. Every line ends with a line feed.
 use Rattle.std.specs.Prelude.{◌≡◌, ◌-◌, ◌+◌, ◌++◌, ◌&&◌, ◌==◌, ◌⊎◌, ℕ, zero, suc, Bool, true, false, if◌then◌else◌, Option, Some, None, List, [], ◌∷◌, length, filter, count_by, map, take, codes, decimal}
 use Rattle.std.specs.List.{flat_map}
-use Rattle.fault_core.specs.declared.table.Class.{Class}
 use Rattle.fault_core.specs.declared.table.Class.TheVariants.{SF, TF, WDF, RDF, DRDF, IRF, CFst, CFds, CFtr, CFwd, CFrd, CFdr, CFir, DRF}
 use Rattle.fault_core.specs.Classes.{class_by_parts}
 use Rattle.fault_syntax.specs.Printed.{printed as printed_prim}

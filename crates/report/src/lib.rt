@@ -6,8 +6,10 @@ mod judged;
 mod judged_lines;
 mod memory_line;
 mod total;
+mod verdicts;
 mod write;
 
 pub use judged::{JudgedItem, judge_items};
 pub use total::{count_covered, write_total};
+pub use verdicts::write_report;
 pub use write::{write_judged, write_mixed};

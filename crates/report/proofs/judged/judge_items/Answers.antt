@@ -2,7 +2,7 @@ use Rattle.std.proofs.Common.{◌≡◌, ◌+◌, ◌∙◌, sym, ap, subst, Lis
 use Rattle.std.proofs.lemmas.List.{take_more}
 use Rattle.dynamic_core.specs.declared.item.Item.{Item}
 use Rattle.report.specs.declared.judged.JudgedItem.{JudgedItem}
-use Rattle.report.specs.Items.{AreJudged, IsJudged, item_of}
+use Rattle.report.specs.Items.{AreJudged, item_of}
 use Rattle.report.proofs.Counts.{one_judged}
 use Rattle.report.proofs.judged.judge_items.Goals as goal
 
