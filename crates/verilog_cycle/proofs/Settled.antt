@@ -2,7 +2,6 @@
 use Rattle.std.proofs.Common.{◌≡◌, ◌≢◌, ℕ, suc, ◌+◌, ◌^◌, ◌<◌, ◌≤◌, Bool, true, false, cond, not, ◌&&◌, ◌||◌, ◌⊎◌, inl, inr, List, [], ◌∷◌, ◌++◌, length, take, get_or, Option, Some, None, refl, sym, ap, ◌∙◌, subst, arith, nat_le, append-nil, append_assoc, length-append}
 use Rattle.std.specs.List.{filter}
 use Rattle.std.specs.Str.{bytes_eq}
-use Rattle.std.proofs.lemmas.Nat.{pow_pos}
 use Rattle.std.proofs.lemmas.Bool.{and_parts, cases_lt}
 use Rattle.std.proofs.lemmas.Bool.Decides.{nat_tests}
 use Rattle.std.proofs.lemmas.List.{get_or-append-add, get_or_append_left, take-set-le}
@@ -25,7 +24,7 @@ use Rattle.verilog_cycle.specs.Nets.{number, valued}
 use Rattle.verilog_cycle.specs.Settled.{settled, AreSteps}
 use Rattle.verilog_cycle.specs.Design.{names, registers_of, inputs_of, wires_of, Fit, Behind, AreNets, places}
 use Rattle.verilog_cycle.proofs.Places.{same_name, itself, number_left, number_right, number_at, among_append, among_one, length_put, put_within, put_here, put_there, put_beyond, valued_out}
-use Rattle.verilog_cycle.proofs.Declarations.{Apart, fresh_apart, found_among, among_found, same_declaration, filtered_width, valued_fits, fit_length, given_register, given_input}
+use Rattle.verilog_cycle.proofs.Declarations.{Apart, fresh_apart, found_among, among_found, filtered_width, valued_fits, fit_length, given_register, given_input}
 
 -- the expressions of nets use only what stands before them
 falls_behind : (is : List ModuleItem) (b ns : List (List ℕ)) → Behind is b ns → (n m : List ℕ) → is_among n ns ≡ true → Leads is n m → number (b ++ ns) m < number (b ++ ns) n
@@ -136,33 +135,15 @@ starts_at regs ins ds b (d ∷ es) f e by =
 abbrev is_open : Declaration → Bool
 is_open d = is_input d.kind && not (is_clk d.name)
 
-open_clock : (k c : Bool) → (k && not c) ≡ true → c ≡ true → ⊥
-open_clock true true h e = cc
-open_clock true false h e = cc
-open_clock false c h e = cc
-
 within_of : (ds : List Declaration) (rs is : List ℕ) → Apart ds → Fit (filter (λ d. is_register d.kind) ds) rs → Fit (filter is_open ds) is → (d : Declaration) → lookup ds d.name ≡ Some d →
     GivenWithin (valued (names (filter (λ d. is_register d.kind) ds)) rs) (valued (names (filter is_open ds)) is) d.kind d.name d.width
 within_of ds rs is a fr fi d l = by_kind d.kind refl
   where
-    clocked : (g : Bool) → is_among d.name (names (filter is_open ds)) ≡ g → is_clk d.name ≡ true → valued (names (filter is_open ds)) is d.name < 2 ^ d.width
-    clocked true e c =
-        let f = found_among is_open ds d.name a e in
-        let i = same_declaration ds d.name f.declaration d f.found l in
-        absurd (open_clock (is_input d.kind) (is_clk d.name) (subst (λ (x : Declaration). is_open x ≡ true) i f.passes) c)
-    clocked false e c =
-        let z = valued_out (names (filter is_open ds)) is d.name e (fit_length (filter is_open ds) is fi) in
-        subst (λ (v : ℕ). v < 2 ^ d.width) (sym z) (pow_pos d.width)
-
-    by_clock : (c : Bool) → is_clk d.name ≡ c → is_input d.kind ≡ true → valued (names (filter is_open ds)) is d.name < 2 ^ d.width
-    by_clock true c k = clocked (is_among d.name (names (filter is_open ds))) refl c
-    by_clock false c k =
-        subst (λ (w : ℕ). valued (names (filter is_open ds)) is d.name < 2 ^ w)
-        (filtered_width is_open ds d.name d a l (ap (λ (t : Bool). t && not (is_clk d.name)) k ∙ ap not c))
-        (valued_fits (filter is_open ds) is fi d.name)
-
     by_kind : (k : Kind) → d.kind ≡ k → GivenWithin (valued (names (filter (λ d. is_register d.kind) ds)) rs) (valued (names (filter is_open ds)) is) k d.name d.width
-    by_kind K.Input e = by_clock (is_clk d.name) refl (ap is_input e)
+    by_kind K.Input e = λ c.
+        subst (λ (w : ℕ). valued (names (filter is_open ds)) is d.name < 2 ^ w)
+        (filtered_width is_open ds d.name d a l (ap (λ (t : Bool). t && not (is_clk d.name)) (ap is_input e) ∙ ap not c))
+        (valued_fits (filter is_open ds) is fi d.name)
     by_kind K.Wire e = tt
     by_kind K.Register e =
         subst (λ (w : ℕ). valued (names (filter (λ d. is_register d.kind) ds)) rs d.name < 2 ^ w)

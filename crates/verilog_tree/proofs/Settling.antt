@@ -146,16 +146,16 @@ module _ (w : List ℕ → ℕ) (ds : List Declaration) (is : List ModuleItem) (
 given_fits : (w : List ℕ → ℕ) (regs ins e : Env) (d : Declaration) (n : List ℕ) (o : Option Expression) → n ≡ d.name → ClockIsInput d → GivenWithin regs ins d.kind d.name d.width → is_wire d.kind ≡ false → by_kind w regs ins e d.kind o n < 2 ^ cond (is_clk n) 0 d.width
 given_fits w regs ins e d n o same clock within other = by_the_kind d.kind o clock within other
   where
-    input_fits : (t : Bool) (a k : ℕ) → a < 2 ^ k → cond t 0 a < 2 ^ cond t 0 k
+    input_fits : (t : Bool) (a k : ℕ) → (t ≡ false → a < 2 ^ k) → cond t 0 a < 2 ^ cond t 0 k
     input_fits true a k h = omega arith
-    input_fits false a k h = h
+    input_fits false a k h = h refl
 
     register_fits : (t : Bool) (a k : ℕ) → (t ≡ true → false ≡ true) → a < 2 ^ k → a < 2 ^ cond t 0 k
     register_fits true a k c h = let z = c refl in cc
     register_fits false a k c h = h
 
     by_the_kind : (k : Kind) (o : Option Expression) → (is_clk d.name ≡ true → is_input k ≡ true) → GivenWithin regs ins k d.name d.width → is_wire k ≡ false → by_kind w regs ins e k o n < 2 ^ cond (is_clk n) 0 d.width
-    by_the_kind K.Input o c h q = input_fits (is_clk n) (ins n) d.width (subst (λ m. ins m < 2 ^ d.width) (sym same) h)
+    by_the_kind K.Input o c h q = input_fits (is_clk n) (ins n) d.width (subst (λ m. is_clk m ≡ false → ins m < 2 ^ d.width) (sym same) h)
     by_the_kind K.Wire o c h q = cc
     by_the_kind K.Register o c h q = register_fits (is_clk n) (regs n) d.width (subst (λ m. is_clk m ≡ true → false ≡ true) (sym same) c) (subst (λ m. regs m < 2 ^ d.width) (sym same) h)
 

@@ -50,9 +50,9 @@ IsLoop mo (n ∷ ns) = Chain mo.items n ns n
 abbrev pub Falls : (List ℕ → ℕ) → List ModuleItem → Type 0
 Falls rank is = (n m : List ℕ) → Leads is n m → rank m < rank n
 
--- the values given to a declared name, where something is given, are within its width
+-- the value given to a declared name, where something is given, is within its width; nothing is given to the clock
 abbrev pub GivenWithin : Env → Env → Kind → List ℕ → ℕ → Type 0
-GivenWithin regs ins K.Input n k = ins n < 2 ^ k
+GivenWithin regs ins K.Input n k = is_clk n ≡ false → ins n < 2 ^ k
 GivenWithin regs ins K.Wire n k = Unit {0}
 GivenWithin regs ins K.Register n k = regs n < 2 ^ k
 
@@ -60,7 +60,7 @@ abbrev pub AllWithin : Env → Env → List Declaration → Type 0
 AllWithin regs ins [] = Unit {0}
 AllWithin regs ins (d ∷ ds) = GivenWithin regs ins d.kind d.name d.width × AllWithin regs ins ds
 
--- the values of registers and inputs are within their widths
+-- the values of registers, and of inputs but the clock, are within their widths
 abbrev pub Starts : ModuleTree → Env → Env → Type 0
 Starts mo regs ins = AllWithin regs ins (declarations mo.ports mo.items)
 

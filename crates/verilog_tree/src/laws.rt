@@ -15,7 +15,8 @@ pub fn values_within_widths()
 {}
 
 /// In a module that breaks no rule, exactly one environment settles where a rank of the names falls from
-/// each wire to the names that its expression uses, whatever values the registers and inputs have.
+/// each wire to the names that its expression uses, whatever values within their widths the registers, and
+/// the inputs but the clock, have.
 pub fn one_environment_settles()
     ensures { (mo : ModuleTree) → formed mo ≡ true → first_break mo ≡ None → (rank : List ℕ → ℕ) → Falls rank mo.items → (regs ins : Env) → Starts mo regs ins → OneSettles mo regs ins }
 {}
