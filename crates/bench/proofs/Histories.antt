@@ -5,7 +5,6 @@ use Rattle.std.proofs.lemmas.Bool.Decides.{Decides-eqb, eqb_tells}
 use Rattle.std.proofs.lemmas.Option.{slice_get_within, get_or_from_slice_get}
 use Rattle.word_march.proofs.Words.{commands_fit}
 use Rattle.std.proofs.Math.Nat.{one-le-pow, mod-lt, mod-eq_of_lt}
-
 use Rattle.verilog_tree.specs.declared.tree.Dir.TheVariants.{Input}
 use Rattle.verilog_tree.specs.Plain.{ModulePort, ModuleTree}
 use Rattle.verilog_tree.specs.Names.{item_declarations}
@@ -199,13 +198,19 @@ module _ (mo : ModuleTree) (march : List MarchElement) (d : Description) (test :
   wrong_read n None f = tt
   wrong_read n (Some x) f =
       let low = word_low 0 run.cycles (at_first (valued (names (registers_of mo)) registers) before) run.left (one-le-pow d.bits 2 (omega arith)) run.joint
-          (cycle_of march d f.0 + d.latency) in
+      (cycle_of march d f.0 + d.latency) in
       let wrong = f.2.wrong in
-      let same : wrong.command ≡ f.1 = same_command f.0 wrong.command f.1 wrong.is_command f.3 in
-      (f.0, f.1, f.3, ap (λ c. c.write) (sym same) ∙ wrong.is_read, ap (λ (s : Seen). s.cycle) f.4, ap (λ (s : Seen). s.expected) f.4,
-      subst (λ w. w < 2 ^ d.bits) (sym (ap (λ (s : Seen). s.expected) f.4)) (fits f.0 f.1 f.3),
-      subst (λ w. w < 2 ^ d.bits) (sym (ap (λ (s : Seen). s.returned) f.4)) low,
-      λ e. wrong.differs (sym (ap (λ (s : Seen). s.returned) f.4) ∙ e ∙ ap (λ (s : Seen). s.expected) f.4 ∙ ap (λ c. c.word) (sym same)))
+      let same : wrong.command ≡ f.1 = same_command f.0 wrong.command f.1 wrong.is_command f.3 in (
+        f.0,
+        f.1,
+        f.3,
+        ap (λ c. c.write) (sym same) ∙ wrong.is_read,
+        ap (λ (s : Seen). s.cycle) f.4,
+        ap (λ (s : Seen). s.expected) f.4,
+        subst (λ w. w < 2 ^ d.bits) (sym (ap (λ (s : Seen). s.expected) f.4)) (fits f.0 f.1 f.3),
+        subst (λ w. w < 2 ^ d.bits) (sym (ap (λ (s : Seen). s.returned) f.4)) low,
+        λ e. wrong.differs (sym (ap (λ (s : Seen). s.returned) f.4) ∙ e ∙ ap (λ (s : Seen). s.expected) f.4 ∙ ap (λ c. c.word) (sym same)),
+      )
     where
       same_command : (j : ℕ) (c x : PortOp) → slice_get (port_ops march d) j ≡ Some c → slice_get (port_ops march d) j ≡ Some x → c ≡ x
       same_command j c x e f = let z : Some c ≡ Some x = sym e ∙ f in cc
@@ -314,9 +319,9 @@ module _ (mo : ModuleTree) (march : List MarchElement) (d : Description) (test :
   scripted t (e ∷ f ∷ es) s r script b few j (suc k) h =
       let next : Script = record { base = script.base; step = script.step; count = script.count + 1 } in
       let whole : script_after script ≡ next =
-          ap (λ c. record { base = script.base; step = script.step; count = c }) (mod-eq_of_lt (let l : script.count + 1 < 2 ^ 64 = omega arith in l)) in
+      ap (λ c. record { base = script.base; step = script.step; count = c }) (mod-eq_of_lt (let l : script.count + 1 < 2 ^ 64 = omega arith in l)) in
       let box : j.0.box ≡ TellsScript next =
-          ap (λ (x : Between). x.box) j.1.left ∙ ap (after_cycle (Some (shape_of d)) (command_on (port_values e))) b ∙ ap TellsScript whole in
+      ap (λ (x : Between). x.box) j.1.left ∙ ap (after_cycle (Some (shape_of d)) (command_on (port_values e))) b ∙ ap TellsScript whole in
       let same : script.count + 1 + k ≡ script.count + suc k = omega arith in
       scripted (suc t) (f ∷ es) j.0 r next box (omega arith) j.2 k (omega arith)
       ∙ ap (λ c. (script.base + script.step * c) % 2 ^ 64 % 2 ^ d.bits) same
@@ -339,18 +344,21 @@ script march d m n few mo registers now told after failed done_in seen test new 
 
     by : (o : Option Seen) → IsFirstSeen march d (word_in run.cycles) o → IsFirstRead march d (script_word march d told) o
     by None f = λ i c e r. sym (word_is i c e) ∙ f i c e r
-    by (Some x) f =
-        (f.0, f.1,
-        record {
-          wrong = record {
-            command = f.2.wrong.command;
-            is_command = f.2.wrong.is_command;
-            is_read = f.2.wrong.is_read;
-            differs = λ z. f.2.wrong.differs (word_is f.0 f.2.wrong.command f.2.wrong.is_command ∙ z);
-          };
-          right_before = λ i l c e r. sym (word_is i c e) ∙ f.2.right_before i l c e r;
-        },
-        f.3, f.4 ∙ ap (λ w. record { cycle = cycle_of march d f.0 + d.latency; expected = f.1.word; returned = w }) (word_is f.0 f.1 f.3))
+    by (Some x) f = (
+      f.0,
+      f.1,
+      record {
+        wrong = record {
+          command = f.2.wrong.command;
+          is_command = f.2.wrong.is_command;
+          is_read = f.2.wrong.is_read;
+          differs = λ z. f.2.wrong.differs (word_is f.0 f.2.wrong.command f.2.wrong.is_command ∙ z);
+        };
+        right_before = λ i l c e r. sym (word_is i c e) ∙ f.2.right_before i l c e r;
+      },
+      f.3,
+      f.4 ∙ ap (λ w. record { cycle = cycle_of march d f.0 + d.latency; expected = f.1.word; returned = w }) (word_is f.0 f.1 f.3),
+    )
 
 -- ---- beside a box that tells
 

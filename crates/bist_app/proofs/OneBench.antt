@@ -69,7 +69,7 @@ module _ (march : List MarchElement) (d : Description) (words : ℕ → ℕ) whe
       let at = one_first f.0 g.0 f.2 g.2 in
       let command = same_command f.0 f.1 g.1 f.3 (subst (λ (i : ℕ). slice_get (port_ops march d) i ≡ Some g.1) (sym at) g.3) in
       let same : x ≡ y =
-          f.4 ∙ ap₂ (λ (j : ℕ) (c : PortOp). record { cycle = cycle_of march d j + d.latency; expected = c.word; returned = words j }) at command ∙ sym g.4 in
+      f.4 ∙ ap₂ (λ (j : ℕ) (c : PortOp). record { cycle = cycle_of march d j + d.latency; expected = c.word; returned = words j }) at command ∙ sym g.4 in
       ap Some same
 
 one_seen : (march : List MarchElement) (d : Description) (tells : Tells) (s t : Option Seen) → tells ≢ TellsNothing → IsSeen march d None tells s → IsSeen march d None tells t

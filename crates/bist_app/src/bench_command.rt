@@ -51,7 +51,12 @@ fn plan_bench(
 }
 
 /// Runs the self-test of a memory by a march against the first box.
-pub fn decide_bench<H: Host>(alloc: Global, words: &[&str], host: &mut H, devices: &mut Vec<Box<dyn Device>>) -> Result<Plan, Refusal>
+pub fn decide_bench<H: Host>(
+    alloc: Global,
+    words: &[&str],
+    host: &mut H,
+    devices: &mut Vec<Box<dyn Device>>,
+) -> Result<Plan, Refusal>
     requires { IsBenchShape words.now }
     ensures files { H.files host.new ≡ H.files host.old }
     ensures said { H.said host.new ≡ H.said host.old }

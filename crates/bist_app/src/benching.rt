@@ -11,7 +11,6 @@ ghost use Rattle.word_device.specs.Boxes.{told};
 ghost use Rattle.bist_endings.specs.Ending.{done_of};
 ghost use Rattle.bist_app.specs.Bench.{done_text, word_text, seen_text, bench_line, benched_done, AreWords, IsRun, ready};
 
-
 use crate::boxes::take_first;
 use bench::{BenchEnd, BenchRefused, Seen, bench};
 use bist_bits::NoMemory;
@@ -26,7 +25,6 @@ use verilog_emit::emit;
 use verilog_read::read_module;
 use verilog_tree::Module;
 use word_device::Device;
-
 
 /// The module that a text spells; none but for want of memory where it spells one.
 fn read_back(alloc: Global, text: &[u8]) -> Result<Module, NoMemory>
@@ -96,13 +94,26 @@ fn put_seen(line: &mut Vec<u8>, bits: u8, seen: Option<Seen>) -> Result<(), NoMe
 }
 
 /// The line that tells how a run ended.
-fn end_line(alloc: Global, bits: u8, fail: bool, done_cycle: Option<u32>, first: Option<Seen>) -> Result<Vec<u8>, NoMemory>
+fn end_line(
+    alloc: Global,
+    bits: u8,
+    fail: bool,
+    done_cycle: Option<u32>,
+    first: Option<Seen>,
+) -> Result<Vec<u8>, NoMemory>
     requires bits { bits ≤ 64 }
     requires fits { AreWords bits first }
     ensures { IfOk result (λ line. line.items ≡ bench_line bits fail done_cycle first) }
 {
     let mut line = Vec::new(alloc);
-    put(&mut line, if fail { b"fail 1 done " } else { b"fail 0 done " })?;
+    put(
+        &mut line,
+        if fail {
+            b"fail 1 done "
+        } else {
+            b"fail 0 done "
+        },
+    )?;
     put_done(&mut line, done_cycle)?;
     put_seen(&mut line, bits, first)?;
     put(&mut line, b"\n")?;
@@ -110,7 +121,13 @@ fn end_line(alloc: Global, bits: u8, fail: bool, done_cycle: Option<u32>, first:
 }
 
 /// The plan of a run that ended so.
-fn end_plan(alloc: Global, bits: u8, fail: bool, done_cycle: Option<u32>, first: Option<Seen>) -> Result<Plan, NoMemory>
+fn end_plan(
+    alloc: Global,
+    bits: u8,
+    fail: bool,
+    done_cycle: Option<u32>,
+    first: Option<Seen>,
+) -> Result<Plan, NoMemory>
     requires bits { bits ≤ 64 }
     requires fits { AreWords bits first }
     ensures { IfOk result (λ plan. done_of plan ≡ benched_done bits fail done_cycle first) }
@@ -124,19 +141,27 @@ fn end_plan(alloc: Global, bits: u8, fail: bool, done_cycle: Option<u32>, first:
 }
 
 /// Runs a self-test against a box that is fitted.
-fn run_plan(alloc: Global, design: &mut Design, march: &March, memory: &Memory, device: Box<dyn Device>) -> Result<Plan, NoMemory>
+fn run_plan(
+    alloc: Global,
+    design: &mut Design,
+    march: &March,
+    memory: &Memory,
+    device: Box<dyn Device>,
+) -> Result<Plan, NoMemory>
     requires test { SelfTest design.old.tree march.now memory.now }
     requires fitted { shape_of device ≡ Some (memory_shape memory.now) }
     ensures run { IfOk result (λ plan. IsRun march.now memory.now (tells device) (done_of plan)) }
     ensures outputs { IfOk result (λ plan. (done_of plan).outputs ≡ []) }
 {
     match bench(design, march, memory, device) {
-        Ok(BenchEnd {
-            fail,
-            done_cycle,
-            first,
-            device,
-        }) => {
+        Ok(
+            BenchEnd {
+                fail,
+                done_cycle,
+                first,
+                device,
+            },
+        ) => {
             drop(device);
             end_plan(alloc, memory.bits(), fail, done_cycle, first)
         }
@@ -148,7 +173,12 @@ fn run_plan(alloc: Global, design: &mut Design, march: &March, memory: &Memory, 
 }
 
 /// Runs the self-test of the memory by the march against the first box, which is fitted and taken.
-pub fn bench_first(alloc: Global, march: &March, memory: &Memory, devices: &mut Vec<Box<dyn Device>>) -> Result<Plan, NoMemory>
+pub fn bench_first(
+    alloc: Global,
+    march: &March,
+    memory: &Memory,
+    devices: &mut Vec<Box<dyn Device>>,
+) -> Result<Plan, NoMemory>
     requires some { 0 < vec_len devices.old }
     ensures taken { OnOk result (devices.new.items ≡ drop 1 devices.old.items) }
     ensures kept { OnErr result ((map (λ b. told (room_of b) (shape_of b) (tells b)) devices.new.items ≡ map (λ b. told (room_of b) (shape_of b) (tells b)) devices.old.items) ⊎ (devices.new.items ≡ drop 1 devices.old.items)) }

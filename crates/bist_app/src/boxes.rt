@@ -63,7 +63,10 @@ fn clear_box(device: &mut Box<dyn Device>)
 }
 
 /// Fits the first box with the memory's shape and takes it out of the list, filled with zeros. Want of memory leaves the list as it was.
-pub fn take_first(devices: &mut Vec<Box<dyn Device>>, memory: &Memory) -> Result<Box<dyn Device>, NoMemory>
+pub fn take_first(
+    devices: &mut Vec<Box<dyn Device>>,
+    memory: &Memory,
+) -> Result<Box<dyn Device>, NoMemory>
     requires some { 0 < vec_len devices.old }
     ensures taken { OnOk result (devices.new.items ≡ drop 1 devices.old.items) }
     ensures kept { OnErr result (map (λ b. told (room_of b) (shape_of b) (tells b)) devices.new.items ≡ map (λ b. told (room_of b) (shape_of b) (tells b)) devices.old.items) }

@@ -19,7 +19,12 @@ use std::alloc::Global;
 use word_device::Device;
 
 /// What the command leaves, or why it is refused.
-fn decide<H: Host>(alloc: Global, words: &[&str], host: &mut H, devices: &mut Vec<Box<dyn Device>>) -> Result<Plan, Refusal>
+fn decide<H: Host>(
+    alloc: Global,
+    words: &[&str],
+    host: &mut H,
+    devices: &mut Vec<Box<dyn Device>>,
+) -> Result<Plan, Refusal>
     ensures files { H.files host.new ≡ H.files host.old }
     ensures said { H.said host.new ≡ H.said host.old }
     ensures writes { H.write_faults host.new ≡ H.write_faults host.old }
@@ -39,7 +44,12 @@ fn decide<H: Host>(alloc: Global, words: &[&str], host: &mut H, devices: &mut Ve
 }
 
 /// Decides the command and ends it.
-fn decide_and_end<H: Host>(alloc: Global, words: &[&str], host: &mut H, devices: &mut Vec<Box<dyn Device>>) -> Ended
+fn decide_and_end<H: Host>(
+    alloc: Global,
+    words: &[&str],
+    host: &mut H,
+    devices: &mut Vec<Box<dyn Device>>,
+) -> Ended
     ensures reads { H.read_faults host.old ≤ H.read_faults host.new }
     ensures writes { H.write_faults host.old ≤ H.write_faults host.new }
     ensures answer { Runs words.now (map (λ b. told (room_of b) (shape_of b) (tells b)) devices.old.items) (map (λ b. told (room_of b) (shape_of b) (tells b)) devices.new.items) (H.files host.old) (H.files host.new) (H.said host.old) (H.said host.new)
@@ -51,7 +61,12 @@ fn decide_and_end<H: Host>(alloc: Global, words: &[&str], host: &mut H, devices:
 
 /// Runs the command that the words give: reads its files, writes its outputs, says its line, and ends with a status.
 #[tactic(auto, using(crate::proofs::Complete::complete_told, crate::proofs::Statuses::read_fault_rose, crate::proofs::Statuses::write_fault_rose, crate::proofs::Statuses::silent_rose, crate::proofs::Statuses::no_shape_ends, crate::proofs::Statuses::usage_has_no_shape, crate::proofs::OneAnswer::one_answer))]
-pub fn run<H: Host>(alloc: Global, words: &[&str], host: &mut H, devices: &mut Vec<Box<dyn Device>>) -> Ended
+pub fn run<H: Host>(
+    alloc: Global,
+    words: &[&str],
+    host: &mut H,
+    devices: &mut Vec<Box<dyn Device>>,
+) -> Ended
     ensures reads { H.read_faults host.old ≤ H.read_faults host.new }
     ensures writes { H.write_faults host.old ≤ H.write_faults host.new }
     ensures answer { Runs words.now (map (λ b. told (room_of b) (shape_of b) (tells b)) devices.old.items) (map (λ b. told (room_of b) (shape_of b) (tells b)) devices.new.items) (H.files host.old) (H.files host.new) (H.said host.old) (H.said host.new)

@@ -5,8 +5,8 @@ use bist_bits::NoMemory;
 use bist_host::{FailHost, Host, MemHost, RealHost};
 use std::alloc::Global;
 use std::test::Fail;
-use word_device::{ArrayDevice, ConstDevice, CountDevice, Device, NoFitDevice};
 use std::{env, fs, process};
+use word_device::{ArrayDevice, ConstDevice, CountDevice, Device, NoFitDevice};
 
 /// The run of a command that calls no box.
 fn run_alone<H: Host>(alloc: Global, words: &[&str], host: &mut H) -> Ended {
@@ -356,7 +356,10 @@ fn worked_rows(rt: HostRuntime) -> Result<(), Fail> {
         if let Some(list) = row.list {
             host.put("l", list)?;
         }
-        assert_eq!(rt; run_alone(rt.alloc(), row.words, &mut host).status, row.status);
+        assert_eq!(rt;
+            run_alone(rt.alloc(), row.words, &mut host).status,
+            row.status
+        );
         assert_eq!(rt; host.said(), row.said);
     }
     Ok(())
@@ -788,19 +791,49 @@ fn compilations_with_failing_calls(rt: HostRuntime) -> Result<(), Fail> {
 /// A memory, the sort of a box and its room, what `bench` says with March C-, its status, and how many of two boxes are left.
 const BENCHED: [(&[u8], &str, u32, &[u8], u8, usize); 10] = [
     (M16, "array", 65_536, b"fail 0 done 162\n", 0, 1),
-    (M16, "zeros", 65_536, b"fail 1 done 162 cycle 50 expected 1 returned 0\n", 1, 1),
-    (M16, "ones", 65_536, b"fail 1 done 162 cycle 18 expected 0 returned 1\n", 1, 1),
-    (M16, "count", 65_536, b"fail 1 done 162 cycle 18 expected 0 returned 1\n", 1, 1),
+    (
+        M16,
+        "zeros",
+        65_536,
+        b"fail 1 done 162 cycle 50 expected 1 returned 0\n",
+        1,
+        1,
+    ),
+    (
+        M16,
+        "ones",
+        65_536,
+        b"fail 1 done 162 cycle 18 expected 0 returned 1\n",
+        1,
+        1,
+    ),
+    (
+        M16,
+        "count",
+        65_536,
+        b"fail 1 done 162 cycle 18 expected 0 returned 1\n",
+        1,
+        1,
+    ),
     (M16, "none", 65_536, b"no memory\n", 9, 2),
     (M16, "array", 16, b"fail 0 done 162\n", 0, 1),
     (M16, "array", 15, b"device V1 words 16 room 15\n", 11, 2),
     (SLOW, "array", 65_536, b"fail 0 done 164\n", 0, 1),
-    (SLOW, "zeros", 65_536, b"fail 1 done 164 cycle 52 expected 1 returned 0\n", 1, 1),
+    (
+        SLOW,
+        "zeros",
+        65_536,
+        b"fail 1 done 164 cycle 52 expected 1 returned 0\n",
+        1,
+        1,
+    ),
     (LARGE, "array", 65_536, b"too long 4587523\n", 12, 2),
 ];
 
 const M16: &[u8] = b"memory 1\nname m16\nwords 16\nbits 1\n";
+
 const SLOW: &[u8] = b"memory 2\nname m16\nwords 16\nbits 1\nlatency 3\n";
+
 const LARGE: &[u8] = b"memory 1\nname large_one\nwords 65536\nbits 64\n";
 
 #[test]
@@ -818,7 +851,10 @@ fn benched_boxes(rt: HostRuntime) -> Result<(), Fail> {
             _ => devices.push(Box::new(rt.alloc(), NoFitDevice::new(room))?)?,
         }
         devices.push(Box::new(rt.alloc(), ArrayDevice::new(rt.alloc(), 16))?)?;
-        assert_eq!(rt; run(rt.alloc(), &["bench", "m", "d"], &mut host, &mut devices).status, status);
+        assert_eq!(rt;
+            run(rt.alloc(), &["bench", "m", "d"], &mut host, &mut devices).status,
+            status
+        );
         assert_eq!(rt; host.said(), said);
         assert_eq!(rt; devices.len(), left);
     }
@@ -830,7 +866,10 @@ fn no_box(rt: HostRuntime) -> Result<(), Fail> {
     let mut host = MemHost::new(rt.alloc());
     host.put("m", MARCH_C)?;
     host.put("d", M16)?;
-    assert_eq!(rt; run_alone(rt.alloc(), &["bench", "m", "d"], &mut host).status, 11);
+    assert_eq!(rt;
+        run_alone(rt.alloc(), &["bench", "m", "d"], &mut host).status,
+        11
+    );
     assert_eq!(rt; host.said(), b"device V4\n".as_slice());
     Ok(())
 }
