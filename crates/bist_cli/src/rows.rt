@@ -35,7 +35,7 @@ struct Row {
     status: u8,
 }
 
-const ROWS: [Row; 44] = [
+const SIM_ROWS: [Row; 20] = [
     Row {
         words: &["sim", "m", "<0w1/0/->", "2", "00", "none", "0", "uud"],
         march: Some(MATS),
@@ -170,6 +170,16 @@ const ROWS: [Row; 44] = [
         status: 13,
     },
     Row {
+        words: &["sim", "m", "<0w1r1/0/0>", "2", "00", "none", "0", "uud"],
+        march: Some(MATS),
+        list: None,
+        said: b"fault F4 line 1\n",
+        status: 5,
+    },
+];
+
+const OTHER_ROWS: [Row; 24] = [
+    Row {
         words: &["judge", "m", "l", "r"],
         march: Some(b"{any(w0);del;any(r0,w1);del;any(r1)}"),
         list: Some(b"DRF"),
@@ -268,13 +278,6 @@ const ROWS: [Row; 44] = [
         status: 5,
     },
     Row {
-        words: &["sim", "m", "<0w1r1/0/0>", "2", "00", "none", "0", "uud"],
-        march: Some(MATS),
-        list: None,
-        said: b"fault F4 line 1\n",
-        status: 5,
-    },
-    Row {
         words: &["judge", "m", "l", "r"],
         march: Some(b"{any(w0);any(w1,r1)}"),
         list: Some(b"<0w1r1/0/0>"),
@@ -347,8 +350,27 @@ const ROWS: [Row; 44] = [
 ];
 
 #[test]
-fn worked_rows(rt: HostRuntime) -> Result<(), Fail> {
-    for row in &ROWS {
+fn arrays(rt: HostRuntime) -> Result<(), Fail> {
+    for row in &SIM_ROWS {
+        let mut host = MemHost::new(rt.alloc());
+        if let Some(march) = row.march {
+            host.put("m", march)?;
+        }
+        if let Some(list) = row.list {
+            host.put("l", list)?;
+        }
+        assert_eq!(rt;
+            run_alone(rt.alloc(), row.words, &mut host).status,
+            row.status
+        );
+        assert_eq!(rt; host.said(), row.said);
+    }
+    Ok(())
+}
+
+#[test]
+fn other_commands(rt: HostRuntime) -> Result<(), Fail> {
+    for row in &OTHER_ROWS {
         let mut host = MemHost::new(rt.alloc());
         if let Some(march) = row.march {
             host.put("m", march)?;
