@@ -22,7 +22,7 @@ use pair_tracker::{Placement, Survivor, survivors};
 use report::{count_covered, judge_items, write_judged, write_mixed, write_report, write_total};
 use scrambler::{Dependence, Matrix, Scramble, invert};
 use std::test::Fail;
-use verilog_tree::{BinOp, Expr, Known, Name, is_name, value};
+use verilog_tree::{Name, is_name};
 use word_march::{PortOp, WordOp, length, port_ops, word_ops};
 
 const MATS_PLUS: &[u8] = b"{any(w0);up(r0,w1);down(r1,w0)}";
@@ -313,21 +313,9 @@ fn name(text: &str) -> Name {
 }
 
 #[test]
-fn names_and_values(rt: HostRuntime) -> Result<(), Fail> {
+fn names(rt: HostRuntime) -> Result<(), Fail> {
     assert!(rt; is_name(&name("buffer_1")));
     assert!(rt; !is_name(&name("buf")));
     assert!(rt; !is_name(&name("1st")));
-
-    let names = [Known {
-        name: name("a"),
-        bits: Bits::new(4, 0b1101),
-    }];
-    let low = Expr::Part(name("a"), 1, 0);
-    assert_eq!(rt; value(&low, &names), Some(Bits::new(2, 0b01)));
-    let whole = Box::new(rt.alloc(), Expr::Name(name("a")))?;
-    let five = Box::new(rt.alloc(), Expr::Lit(Bits::new(4, 5)))?;
-    let sum = Expr::Binary(BinOp::Add, whole, five);
-    assert_eq!(rt; value(&sum, &names), Some(Bits::new(4, 0b0010)));
-    assert_eq!(rt; value(&sum, &[]), None);
     Ok(())
 }

@@ -13,7 +13,7 @@ use Rattle.verilog_tree.specs.declared.tree.BinOp.TheVariants as B
 use Rattle.verilog_tree.specs.Plain.{Expression, Net, BitSelect, PartSelect, Literal, Concatenation, Prefixed, Infixed, Conditional, Expressions, NoMore, Followed}
 use Rattle.verilog_tree.specs.Formed.{expression_formed, expressions_formed, has_expression, is_width, is_place}
 use Rattle.verilog_tree.specs.Meaning.{truth, prefixed_width, infixed_width, prefixed, infixed, width, widths, value, joined}
-use Rattle.verilog_tree.specs.Rules.{unequal, too_wide, Widths, infixed_widths, expression_widths, parts_widths}
+use Rattle.verilog_tree.specs.Rules.{unequal, too_wide, Width, infixed_widths, expression_widths, parts_widths}
 use Rattle.verilog_tree.proofs.Breaks.{two, three, four}
 use Rattle.verilog_tree.proofs.Bounds.{value_fits, joined_fits, joins, unequal_none}
 use Rattle.verilog_cycle.specs.Code.{at, lowered, raised, meaning}
@@ -151,7 +151,7 @@ infixed_narrow B.LogOr k h = omega arith
 pub not_too_wide : (k : ℕ) → too_wide k ≡ None → k ≤ 64
 not_too_wide k h = by_test (nat_lt 64 k) refl h
   where
-    by_test : (t : Bool) → nat_lt 64 k ≡ t → cond t (Some (Widths 64 (min k (2 ^ 64 - 1)))) None ≡ None → k ≤ 64
+    by_test : (t : Bool) → nat_lt 64 k ≡ t → cond t (Some (Width 64 (min k (2 ^ 64 - 1)))) None ≡ None → k ≤ 64
     by_test true e g = cc
     by_test false e g = grind (arith, nat_tests, e)
 

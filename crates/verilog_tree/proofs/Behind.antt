@@ -8,7 +8,7 @@ use Rattle.verilog_tree.specs.declared.fault.TreeFault.{TreeFault}
 use Rattle.verilog_tree.specs.Plain.{ModuleItem, WireItem, RegItem, AssignItem, AlwaysItem, ModulePort, ModuleTree}
 use Rattle.verilog_tree.specs.Names.{Declaration, declared_by, port_declarations, declarations, lookup, declared_width, width_of, is_wire}
 use Rattle.verilog_tree.specs.Meaning.{names_widths}
-use Rattle.verilog_tree.specs.Rules.{Break, Unknown, Twice, SelectRange, NotAssignable, TwoBlocks, NotClock, Undriven, Mention, AsClock, AsTarget, Whole, Selected, mentions, statements_mentions, first_of, first_bad, is_unknown, is_assigned, has_kind, twice, is_out_of_range, item_widths, is_wrong_target, assignable, is_target, is_set, is_set_before, declares_clk, is_wrong_clock, item_break, items_break, undriven, Refuses}
+use Rattle.verilog_tree.specs.Rules.{Break, Unknown, Twice, SelectRange, NotAssignable, TwoBlocks, Clock, Undriven, Mention, AsClock, AsTarget, Whole, Selected, mentions, statements_mentions, first_of, first_bad, is_unknown, is_assigned, has_kind, twice, is_out_of_range, item_widths, is_wrong_target, assignable, is_target, is_set, is_set_before, declares_clk, is_wrong_clock, item_break, items_break, undriven, Refuses}
 use Rattle.verilog_tree.specs.Tables.{with_declared, with_all, with_name, with_targets, declared_behind, assigned_behind, set_behind, among, again, is_target_among, break_behind, breaks_behind, all_assigned, unassigned, Assigned}
 use Rattle.verilog_tree.proofs.Lookups.{lookup_first, lookup_second}
 use Rattle.verilog_tree.proofs.Clean.{not_here, none_of, item_clean, one_more}
@@ -129,8 +129,8 @@ unfolding break_behind item_break
 break_by w ps b as' ss i a s =
     let ds = declarations ps b in
     let ms = mentions i in
-    ap (λ o. first_of (first_bad (is_unknown ds) Unknown ms ∷ o ∷ first_bad (is_out_of_range w) SelectRange ms ∷ item_widths w i ∷ first_bad (is_wrong_target (assignable i) ds) NotAssignable ms ∷ first_bad (is_target_among ss) TwoBlocks ms ∷ declares_clk i ∷ first_bad (is_wrong_clock ds) NotClock ms ∷ [])) (again_twice ds as' b i a)
-    ∙ ap (λ f. first_of (first_bad (is_unknown ds) Unknown ms ∷ twice ds b i ∷ first_bad (is_out_of_range w) SelectRange ms ∷ item_widths w i ∷ first_bad (is_wrong_target (assignable i) ds) NotAssignable ms ∷ first_bad f TwoBlocks ms ∷ declares_clk i ∷ first_bad (is_wrong_clock ds) NotClock ms ∷ [])) (fun_ext (set_again ss b s))
+    ap (λ o. first_of (first_bad (is_unknown ds) Unknown ms ∷ o ∷ first_bad (is_out_of_range w) SelectRange ms ∷ item_widths w i ∷ first_bad (is_wrong_target (assignable i) ds) NotAssignable ms ∷ first_bad (is_target_among ss) TwoBlocks ms ∷ declares_clk i ∷ first_bad (is_wrong_clock ds) Clock ms ∷ [])) (again_twice ds as' b i a)
+    ∙ ap (λ f. first_of (first_bad (is_unknown ds) Unknown ms ∷ twice ds b i ∷ first_bad (is_out_of_range w) SelectRange ms ∷ item_widths w i ∷ first_bad (is_wrong_target (assignable i) ds) NotAssignable ms ∷ first_bad f TwoBlocks ms ∷ declares_clk i ∷ first_bad (is_wrong_clock ds) Clock ms ∷ [])) (fun_ext (set_again ss b s))
 
 first_same : (o p q : Option Break) → (o ≡ None → p ≡ q) → first_of (o ∷ p ∷ []) ≡ first_of (o ∷ q ∷ [])
 first_same None p q h = ap (λ r. first_of (None ∷ r ∷ [])) (h refl)

@@ -10,11 +10,11 @@ use Rattle.verilog_tree.specs.declared.tree.BinOp.TheVariants as B
 use Rattle.verilog_tree.specs.Plain.{Expression, Net, BitSelect, PartSelect, Literal, Concatenation, Prefixed, Infixed, Conditional, Expressions, NoMore, Followed}
 use Rattle.verilog_tree.specs.Formed.{expression_formed, expressions_formed, has_expression, is_width}
 use Rattle.verilog_tree.specs.Meaning.{Env, bit, truth, prefixed_width, infixed_width, prefixed, infixed, width, widths, value, joined}
-use Rattle.verilog_tree.specs.Rules.{unequal, too_wide, Widths, infixed_widths, expression_widths, parts_widths}
+use Rattle.verilog_tree.specs.Rules.{unequal, too_wide, Width, infixed_widths, expression_widths, parts_widths}
 use Rattle.verilog_tree.specs.Wires.{Uses, UsesAny}
 use Rattle.verilog_tree.proofs.Breaks.{two, three, four}
 
-equal_at : (t : Bool) (j k : ℕ) → (t ≡ true → j ≡ k) → cond t None (Some (Widths j k)) ≡ None → j ≡ k
+equal_at : (t : Bool) (j k : ℕ) → (t ≡ true → j ≡ k) → cond t None (Some (Width j k)) ≡ None → j ≡ k
 equal_at true j k same h = same refl
 equal_at false j k same h = cc
 

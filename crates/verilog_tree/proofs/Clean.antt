@@ -7,7 +7,7 @@ use Rattle.verilog_tree.specs.Plain.{Expression, ModuleItem, WireItem, RegItem, 
 use Rattle.verilog_tree.specs.Names.{Declaration, declared_by, port_declarations, item_declarations, declarations, lookup, is_input, is_wire, is_clk, may_be_clock, is_declared_as}
 use Rattle.verilog_tree.specs.Formed.{expression_formed, item_formed, items_formed}
 use Rattle.verilog_tree.specs.Meaning.{width}
-use Rattle.verilog_tree.specs.Rules.{Unknown, Twice, SelectRange, NotAssignable, TwoBlocks, NotClock, Undriven, Mention, AsTarget, reads, mentions, first_bad, is_unknown, is_assigned, has_kind, twice, is_out_of_range, unequal, expression_widths, assignment_widths, item_widths, is_wrong_target, assignable, is_set_before, declares_clk, is_wrong_clock, item_break, items_break, port_twice, port_clock, undriven}
+use Rattle.verilog_tree.specs.Rules.{Unknown, Twice, SelectRange, NotAssignable, TwoBlocks, Clock, Undriven, Mention, AsTarget, reads, mentions, first_bad, is_unknown, is_assigned, has_kind, twice, is_out_of_range, unequal, expression_widths, assignment_widths, item_widths, is_wrong_target, assignable, is_set_before, declares_clk, is_wrong_clock, item_break, items_break, port_twice, port_clock, undriven}
 use Rattle.verilog_tree.proofs.Breaks.{two, eight}
 use Rattle.verilog_tree.proofs.Bounds.{unequal_none}
 use Rattle.verilog_tree.proofs.Lookups.{lookup_first, lookup_second}
@@ -79,7 +79,7 @@ pub item_clean : (w : List ℕ → ℕ) (ps : List ModulePort) (b : List ModuleI
     × (first_bad (is_wrong_target (assignable i) (declarations ps b)) NotAssignable (mentions i) ≡ None)
     × (first_bad (is_set_before b) TwoBlocks (mentions i) ≡ None)
     × (declares_clk i ≡ None)
-    × (first_bad (is_wrong_clock (declarations ps b)) NotClock (mentions i) ≡ None)
+    × (first_bad (is_wrong_clock (declarations ps b)) Clock (mentions i) ≡ None)
 unfolding item_break
 item_clean w ps b i h =
     eight
@@ -90,7 +90,7 @@ item_clean w ps b i h =
     (first_bad (is_wrong_target (assignable i) (declarations ps b)) NotAssignable (mentions i))
     (first_bad (is_set_before b) TwoBlocks (mentions i))
     (declares_clk i)
-    (first_bad (is_wrong_clock (declarations ps b)) NotClock (mentions i))
+    (first_bad (is_wrong_clock (declarations ps b)) Clock (mentions i))
     h
 
 fresh_one : (ds : List Declaration) (b : List ModuleItem) (i : ModuleItem) → twice ds b i ≡ None → Fresh ds (declared_by i)
@@ -125,12 +125,12 @@ clock_at false d h e = cc
 pub ports_clock : (ds : List Declaration) → port_clock ds ≡ None → Each ClockIsInput ds
 ports_clock [] h = tt
 ports_clock (d ∷ ds) h =
-    let p = not_here (is_clk d.name && not (may_be_clock d)) (NotClock d.name) (port_clock ds) h in
+    let p = not_here (is_clk d.name && not (may_be_clock d)) (Clock d.name) (port_clock ds) h in
     (clock_at (is_clk d.name) d p.0, ports_clock ds p.1)
 
 clock_one : (i : ModuleItem) → declares_clk i ≡ None → Each ClockIsInput (declared_by i)
-clock_one (WireItem n k) h = (λ e. let f = (not_here (is_clk n) (NotClock n) None h).0 in cc, tt)
-clock_one (RegItem n k) h = (λ e. let f = (not_here (is_clk n) (NotClock n) None h).0 in cc, tt)
+clock_one (WireItem n k) h = (λ e. let f = (not_here (is_clk n) (Clock n) None h).0 in cc, tt)
+clock_one (RegItem n k) h = (λ e. let f = (not_here (is_clk n) (Clock n) None h).0 in cc, tt)
 clock_one (AssignItem n x) h = tt
 clock_one (AlwaysItem c ss) h = tt
 

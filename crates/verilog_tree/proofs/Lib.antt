@@ -11,4 +11,3 @@ pub mod Refusals
 pub mod Reordering
 pub mod Settling
 pub mod Spelled
-pub mod Vectors

@@ -3,7 +3,7 @@ use Rattle.std.proofs.Common.{◌≡◌, ℕ, Bool, true, false, cond, List, [],
 use Rattle.verilog_tree.specs.Plain.{Expression, Net, BitSelect, PartSelect, Literal, Concatenation, Prefixed, Infixed, Conditional, Expressions, NoMore, Followed, ModuleItem, WireItem, RegItem, AssignItem, AlwaysItem, ModulePort, ModuleTree}
 use Rattle.verilog_tree.specs.Names.{Declaration, port_declarations, item_declarations, declarations, lookup, is_clk}
 use Rattle.verilog_tree.specs.Meaning.{names_widths}
-use Rattle.verilog_tree.specs.Rules.{Break, Mention, AsTarget, Whole, Selected, mentioned, reads, all_reads, mentions, first_bad, Unknown, NotClock, is_unknown, is_wrong_clock, first_break, item_break, items_break, port_twice, port_clock, undriven}
+use Rattle.verilog_tree.specs.Rules.{Break, Mention, AsTarget, Whole, Selected, mentioned, reads, all_reads, mentions, first_bad, Unknown, Clock, is_unknown, is_wrong_clock, first_break, item_break, items_break, port_twice, port_clock, undriven}
 use Rattle.verilog_tree.specs.Wires.{Uses, UsesAny, Leads, Read}
 use Rattle.verilog_tree.proofs.Breaks.{two, five}
 use Rattle.verilog_tree.proofs.Clean.{not_here, item_clean, declarations_more, one_item}
@@ -58,14 +58,14 @@ unclocked : (ds : List Declaration) (m : List ℕ) → Passes (is_wrong_clock ds
 unclocked ds m (inl h) = h
 unclocked ds m (inr h) = h.2
 
-read_here : (ps : List ModulePort) (b is : List ModuleItem) (k m : List ℕ) (x : Expression) → first_bad (is_unknown (declarations ps b)) Unknown (AsTarget k ∷ reads x) ≡ None → first_bad (is_wrong_clock (declarations ps b)) NotClock (AsTarget k ∷ reads x) ≡ None → Uses m x → Read (declarations ps (b ++ is)) m
+read_here : (ps : List ModulePort) (b is : List ModuleItem) (k m : List ℕ) (x : Expression) → first_bad (is_unknown (declarations ps b)) Unknown (AsTarget k ∷ reads x) ≡ None → first_bad (is_wrong_clock (declarations ps b)) Clock (AsTarget k ∷ reads x) ≡ None → Uses m x → Read (declarations ps (b ++ is)) m
 read_here ps b is k m x h g u =
     let ds = declarations ps b in
     let d = known ds m (passes (is_unknown ds) Unknown m x ((not_here (is_unknown ds (AsTarget k)) (Unknown k) (first_bad (is_unknown ds) Unknown (reads x)) h).1) u) in
     record {
       declaration = d.0;
       found = subst (λ (l : List Declaration). lookup l m ≡ Some d.0) (sym (declarations_more ps b is)) (lookup_first ds (item_declarations is) m d.0 d.1);
-      unclocked = unclocked ds m (passes (is_wrong_clock ds) NotClock m x g u);
+      unclocked = unclocked ds m (passes (is_wrong_clock ds) Clock m x g u);
     }
 
 items_read : (w : List ℕ → ℕ) (ps : List ModulePort) (b is : List ModuleItem) (n m : List ℕ) → items_break w ps b is ≡ None → Leads is n m → Read (declarations ps (b ++ is)) m
@@ -75,7 +75,7 @@ items_read w ps b (i ∷ is) n m h l =
     let c = item_clean w ps b i p.0 in
     here i c.0 c.7 (λ (k : Leads is n m). subst (λ (r : List ModuleItem). Read (declarations ps r) m) (one_item b i is) (items_read w ps (b ++ i ∷ []) is n m p.1 k)) l
   where
-    here : (i : ModuleItem) → first_bad (is_unknown (declarations ps b)) Unknown (mentions i) ≡ None → first_bad (is_wrong_clock (declarations ps b)) NotClock (mentions i) ≡ None → (Leads is n m → Read (declarations ps (b ++ i ∷ is)) m) → Leads (i ∷ is) n m → Read (declarations ps (b ++ i ∷ is)) m
+    here : (i : ModuleItem) → first_bad (is_unknown (declarations ps b)) Unknown (mentions i) ≡ None → first_bad (is_wrong_clock (declarations ps b)) Clock (mentions i) ≡ None → (Leads is n m → Read (declarations ps (b ++ i ∷ is)) m) → Leads (i ∷ is) n m → Read (declarations ps (b ++ i ∷ is)) m
     here (WireItem k v) a c later l = later l
     here (RegItem k v) a c later l = later l
     here (AssignItem k x) a c later (inl l) = read_here ps b (AssignItem k x ∷ is) k m x a c l.1

@@ -12,6 +12,5 @@ pub mod Spells
 pub mod Stored
 pub mod Tables
 pub mod Tokens
-pub mod Valued
 pub mod Wires
 pub mod Words

@@ -15,12 +15,12 @@ use Rattle.verilog_tree.specs.Meaning.{width, widths, names_widths}
 pub data Break : Type 0 where
   Unknown : List ℕ → Break
   Twice : List ℕ → Break
-  Widths : ℕ → ℕ → Break
+  Width : ℕ → ℕ → Break
   TwoBlocks : List ℕ → Break
   NotAssignable : List ℕ → Break
   SelectRange : List ℕ → Break
   Undriven : List ℕ → Break
-  NotClock : List ℕ → Break
+  Clock : List ℕ → Break
 
 -- Where a name stands in an item: as a clock, as what is assigned, or in an expression, whole or selected
 -- from a high place to a low one.
@@ -118,11 +118,11 @@ is_out_of_range w (Selected n h l) = not (nat_lt h (w n)) || nat_lt h l || nat_e
 
 -- N3: these two widths differ
 abbrev pub unequal : ℕ → ℕ → Option Break
-unequal j k = cond (nat_eq j k) None (Some (Widths j k))
+unequal j k = cond (nat_eq j k) None (Some (Width j k))
 
 -- N3: a concatenation is wider than 64; a width that no u64 holds is told as the greatest one
 abbrev pub too_wide : ℕ → Option Break
-too_wide k = cond (nat_lt 64 k) (Some (Widths 64 (min k (2 ^ 64 - 1)))) None
+too_wide k = cond (nat_lt 64 k) (Some (Width 64 (min k (2 ^ 64 - 1)))) None
 
 -- N3 at an operator: only &&, ||, << and >> take operands of different widths
 abbrev pub infixed_widths : BinOp → ℕ → ℕ → Option Break
@@ -232,8 +232,8 @@ is_wrong_clock ds (Selected n h l) = is_clk n
 
 -- N10: clk is declared here as anything but an input of one bit
 abbrev pub declares_clk : ModuleItem → Option Break
-declares_clk (WireItem n k) = cond (is_clk n) (Some (NotClock n)) None
-declares_clk (RegItem n k) = cond (is_clk n) (Some (NotClock n)) None
+declares_clk (WireItem n k) = cond (is_clk n) (Some (Clock n)) None
+declares_clk (RegItem n k) = cond (is_clk n) (Some (Clock n)) None
 declares_clk (AssignItem n x) = None
 declares_clk (AlwaysItem c ss) = None
 
@@ -251,7 +251,7 @@ item_break w ps before i =
     ∷ first_bad (is_wrong_target (assignable i) ds) NotAssignable ms
     ∷ first_bad (is_set_before before) TwoBlocks ms
     ∷ declares_clk i
-    ∷ first_bad (is_wrong_clock ds) NotClock ms
+    ∷ first_bad (is_wrong_clock ds) Clock ms
     ∷ [])
 
 abbrev pub items_break : (List ℕ → ℕ) → List ModulePort → List ModuleItem → List ModuleItem → Option Break
@@ -266,7 +266,7 @@ port_twice before (d ∷ ds) = cond (is_some (lookup before d.name)) (Some (Twic
 -- N10 in the ports: clk is anything but an input of one bit
 abbrev pub port_clock : List Declaration → Option Break
 port_clock [] = None
-port_clock (d ∷ ds) = cond (is_clk d.name && not (may_be_clock d)) (Some (NotClock d.name)) (port_clock ds)
+port_clock (d ∷ ds) = cond (is_clk d.name && not (may_be_clock d)) (Some (Clock d.name)) (port_clock ds)
 
 -- N9: the first wire or plain output that no assign names
 abbrev pub undriven : List ModuleItem → List Declaration → Option Break
@@ -288,14 +288,14 @@ first_break mo =
 abbrev pub Tells : TreeFault → Option Break → Type 0
 Tells (T.Unknown n) o = o ≡ Some (Unknown n.bytes)
 Tells (T.Twice n) o = o ≡ Some (Twice n.bytes)
-Tells (T.Width j k) o = o ≡ Some (Widths j k)
+Tells (T.Width j k) o = o ≡ Some (Width j k)
 Tells (T.TwoBlocks n) o = o ≡ Some (TwoBlocks n.bytes)
 Tells (T.NotAssignable n) o = o ≡ Some (NotAssignable n.bytes)
 Tells (T.SelectRange n) o = o ≡ Some (SelectRange n.bytes)
 Tells (T.Loop ns) o = ⊥
 Tells T.NoMemory o = Unit {0}
 Tells (T.Undriven n) o = o ≡ Some (Undriven n.bytes)
-Tells (T.Clock n) o = o ≡ Some (NotClock n.bytes)
+Tells (T.Clock n) o = o ≡ Some (Clock n.bytes)
 
 -- What has this first break, if it has one, is refused for it and nothing else.
 abbrev pub Refuses : {A : Type 0} → Option Break → Result A TreeFault → Type 0

@@ -1,8 +1,6 @@
 -- What the crate's own types are to its definitions.
 use Rattle.std.specs.Prelude.{List, [], ◌∷◌, Option, Some, None}
 use Rattle.verilog_tree.specs.declared.names.Declared.{Declared}
-use Rattle.verilog_tree.specs.declared.values.Known as W
-use Rattle.verilog_tree.specs.Valued.{Known}
 use Rattle.verilog_tree.specs.declared.mentions.Mention as M
 use Rattle.verilog_tree.specs.declared.mentions.Mention.TheVariants as V
 use Rattle.verilog_tree.specs.Names.{Declaration}
@@ -21,6 +19,3 @@ mention (V.Clock n) = AsClock n.bytes
 mention (V.Target n) = AsTarget n.bytes
 mention (V.Whole n) = Whole n.bytes
 mention (V.Select n h l) = Selected n.bytes h l
-
-abbrev pub known : W.Known → Known
-known k = record { name = k.name.bytes; bits = k.bits }

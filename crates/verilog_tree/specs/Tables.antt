@@ -8,7 +8,7 @@ use Rattle.verilog_tree.specs.declared.tables.NameSet.TheInside as S
 use Rattle.verilog_tree.specs.declared.fault.TreeFault.{TreeFault}
 use Rattle.verilog_tree.specs.Plain.{ModuleItem, WireItem, RegItem, AssignItem, AlwaysItem}
 use Rattle.verilog_tree.specs.Names.{Declaration, declared_by, lookup, is_wire}
-use Rattle.verilog_tree.specs.Rules.{Break, Unknown, Twice, SelectRange, NotAssignable, TwoBlocks, Undriven, NotClock, Mention, AsClock, AsTarget, Whole, Selected, mentions, statements_mentions, first_of, first_bad, has_kind, is_unknown, is_out_of_range, item_widths, is_wrong_target, assignable, declares_clk, is_wrong_clock, is_assigned, Tells}
+use Rattle.verilog_tree.specs.Rules.{Break, Unknown, Twice, SelectRange, NotAssignable, TwoBlocks, Undriven, Clock, Mention, AsClock, AsTarget, Whole, Selected, mentions, statements_mentions, first_of, first_bad, has_kind, is_unknown, is_out_of_range, item_widths, is_wrong_target, assignable, declares_clk, is_wrong_clock, is_assigned, Tells}
 
 -- keys are equal where their bytes are
 abbrev pub same_name : ArrayString → ArrayString → Bool
@@ -86,7 +86,7 @@ break_behind w ds assigned set i =
     ∷ first_bad (is_wrong_target (assignable i) ds) NotAssignable ms
     ∷ first_bad (is_target_among set) TwoBlocks ms
     ∷ declares_clk i
-    ∷ first_bad (is_wrong_clock ds) NotClock ms
+    ∷ first_bad (is_wrong_clock ds) Clock ms
     ∷ [])
 
 -- the first break of these items

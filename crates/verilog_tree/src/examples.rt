@@ -2,7 +2,7 @@
 ghost use Rattle.std.specs.Prelude.{◌≡◌, true, None};
 ghost use Rattle.verilog_tree.specs.Formed.{formed};
 ghost use Rattle.verilog_tree.specs.Meaning.{Env, Settles, next};
-ghost use Rattle.verilog_tree.specs.Rules.{Widths, TwoBlocks, first_break};
+ghost use Rattle.verilog_tree.specs.Rules.{Width, TwoBlocks, first_break};
 ghost use Rattle.verilog_tree.specs.Spells.{Spells};
 ghost use Rattle.verilog_tree.specs.Examples.{y, p, q, unequal_sum, shifted_out, swap, two_blocks, text, spelled};
 
@@ -15,7 +15,7 @@ pub fn registers_swap()
 
 /// Widths of 4 and 3 in a sum are refused, and a register that two blocks set.
 pub fn broken_rules()
-    ensures widths { first_break unequal_sum ≡ Some (Widths 4 3) }
+    ensures widths { first_break unequal_sum ≡ Some (Width 4 3) }
     ensures blocks { first_break two_blocks ≡ Some (TwoBlocks p) }
 {}
 

@@ -17,7 +17,6 @@ mod sizes;
 mod tables;
 mod tokens;
 mod tree;
-mod values;
 mod widths;
 mod words;
 
@@ -30,5 +29,4 @@ pub use sizes::formed;
 pub use tables::{Declarations, NameSet, all_declarations};
 pub use tokens::{Base, Mark, Within};
 pub use tree::{Arm, BinOp, Decl, Dir, Expr, Item, Module, Name, Port, Stmt, UnOp};
-pub use values::{Known, value};
 pub use words::{begins_identifier, in_identifier, is_name};

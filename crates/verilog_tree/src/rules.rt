@@ -3,7 +3,7 @@ ghost use Rattle.std.specs.Prelude.{◌≡◌, ℕ, IsTrue, [], ◌∷◌, map, 
 ghost use Rattle.verilog_tree.specs.Plain.{plain_item, plain_port, plain_module};
 ghost use Rattle.verilog_tree.specs.Names.{is_wire, port_declarations, item_declarations, width_of};
 ghost use Rattle.verilog_tree.specs.Formed.{formed};
-ghost use Rattle.verilog_tree.specs.Rules.{has_kind, Refuses, Unknown, SelectRange, NotAssignable, TwoBlocks, NotClock, mentions, first_bad, is_unknown, is_out_of_range, assignable, is_wrong_target, is_wrong_clock, declares_clk, port_twice, port_clock, first_of, items_break, first_break};
+ghost use Rattle.verilog_tree.specs.Rules.{has_kind, Refuses, Unknown, SelectRange, NotAssignable, TwoBlocks, Clock, mentions, first_bad, is_unknown, is_out_of_range, assignable, is_wrong_target, is_wrong_clock, declares_clk, port_twice, port_clock, first_of, items_break, first_break};
 ghost use Rattle.verilog_tree.specs.Meaning.{names_widths};
 ghost use Rattle.verilog_tree.specs.Seen.{mention};
 ghost use Rattle.verilog_tree.specs.Tables.{RefusesElse, AssignedElse, among, again, is_target_among, with_targets, break_behind, declared_behind, assigned_behind, set_behind, breaks_behind, all_assigned, unassigned};
@@ -173,7 +173,7 @@ fn is_wrong_clock(declared: &Declarations, next: &Mention) -> bool
 
 // N10: a clock is an input of one bit named `clk`, which stands in no expression.
 fn clocked(declared: &Declarations, all: &[Mention]) -> Result<(), TreeFault>
-    ensures { Refuses (first_bad (is_wrong_clock declared.now) NotClock (map mention all.now)) result }
+    ensures { Refuses (first_bad (is_wrong_clock declared.now) Clock (map mention all.now)) result }
 {
     for next in all {
         if is_wrong_clock(declared, next) {
