@@ -48,4 +48,8 @@ fn run_words<H: bist_host::Host>(
 }
 
 #[cfg(test)]
+mod bench_rows;
+#[cfg(test)]
+mod make_rows;
+#[cfg(test)]
 mod rows;

@@ -6,10 +6,10 @@ use bist_host::{FailHost, Host, MemHost, RealHost};
 use std::alloc::Global;
 use std::test::Fail;
 use std::{env, fs, process};
-use word_device::{ArrayDevice, ConstDevice, CountDevice, Device, NoFitDevice};
+use word_device::Device;
 
 /// The run of a command that calls no box.
-fn run_alone<H: Host>(alloc: Global, words: &[&str], host: &mut H) -> Ended {
+pub fn run_alone<H: Host>(alloc: Global, words: &[&str], host: &mut H) -> Ended {
     let mut devices: Vec<Box<dyn Device>> = Vec::new(alloc);
     run(alloc, words, host, &mut devices)
 }
@@ -18,13 +18,13 @@ const MATS: &[u8] = b"{any(w0);up(r0,w1);down(r1,w0)}";
 
 const MARCH_X: &[u8] = b"{any(w0);up(r0,w1);down(r1,w0);any(r0)}\n";
 
-const MARCH_C: &[u8] = b"{any(w0);up(r0,w1);up(r1,w0);down(r0,w1);down(r1,w0);any(r0)}\n";
+pub const MARCH_C: &[u8] = b"{any(w0);up(r0,w1);up(r1,w0);down(r0,w1);down(r1,w0);any(r0)}\n";
 
-const MARCH_SS: &[u8] =
+pub const MARCH_SS: &[u8] =
     b"{any(w0);up(r0,r0,w0,r0,w1);up(r1,r1,w1,r1,w0);down(r0,r0,w0,r0,w1);down(r1,r1,w1,r1,w0);any(r0)}\n";
 
 /// Each cell is written, left alone, and read.
-const RETENTION: &[u8] = b"{any(w0);del;any(r0)}";
+pub const RETENTION: &[u8] = b"{any(w0);del;any(r0)}";
 
 /// A command, what the files `m` and `l` hold, and what the command says with which status.
 struct Row {
@@ -698,9 +698,9 @@ fn real_files(rt: HostRuntime) -> Result<(), Fail> {
 }
 
 /// Sixteen words of one bit.
-const SIXTEEN: &[u8] = b"memory 1\nname buf0\nwords 16\nbits 1\n";
+pub const SIXTEEN: &[u8] = b"memory 1\nname buf0\nwords 16\nbits 1\n";
 
-const COMPILE: [&str; 6] = ["compile", "m", "d", "l", "v", "r"];
+pub const COMPILE: [&str; 6] = ["compile", "m", "d", "l", "v", "r"];
 
 const COMPILED_REPORT: &[u8] = b"march {any(w0);up(r0,w1);up(r1,w0);down(r0,w1);down(r1,w0);any(r0)}
 memory buf0 words 16 bits 1 backgrounds 1 commands 160
@@ -711,7 +711,7 @@ total 2 covered 2 escapes 0
 ";
 
 /// A host with the inputs of a compilation.
-fn with_inputs(alloc: Global) -> Result<MemHost, NoMemory> {
+pub fn with_inputs(alloc: Global) -> Result<MemHost, NoMemory> {
     let mut host = MemHost::new(alloc);
     host.put("m", MARCH_C)?;
     host.put("d", SIXTEEN)?;
@@ -807,91 +807,5 @@ fn compilations_with_failing_calls(rt: HostRuntime) -> Result<(), Fail> {
         assert!(rt; has_halves(host.inner(), "v", module, module_halves));
         assert!(rt; has_halves(host.inner(), "r", COMPILED_REPORT, report_halves));
     }
-    Ok(())
-}
-
-/// A memory, the sort of a box and its room, what `bench` says with March C-, its status, and how many of two boxes are left.
-const BENCHED: [(&[u8], &str, u32, &[u8], u8, usize); 10] = [
-    (M16, "array", 65_536, b"fail 0 done 162\n", 0, 1),
-    (
-        M16,
-        "zeros",
-        65_536,
-        b"fail 1 done 162 cycle 50 expected 1 returned 0\n",
-        1,
-        1,
-    ),
-    (
-        M16,
-        "ones",
-        65_536,
-        b"fail 1 done 162 cycle 18 expected 0 returned 1\n",
-        1,
-        1,
-    ),
-    (
-        M16,
-        "count",
-        65_536,
-        b"fail 1 done 162 cycle 18 expected 0 returned 1\n",
-        1,
-        1,
-    ),
-    (M16, "none", 65_536, b"no memory\n", 9, 2),
-    (M16, "array", 16, b"fail 0 done 162\n", 0, 1),
-    (M16, "array", 15, b"device V1 words 16 room 15\n", 11, 2),
-    (SLOW, "array", 65_536, b"fail 0 done 164\n", 0, 1),
-    (
-        SLOW,
-        "zeros",
-        65_536,
-        b"fail 1 done 164 cycle 52 expected 1 returned 0\n",
-        1,
-        1,
-    ),
-    (LARGE, "array", 65_536, b"too long 4587523\n", 12, 2),
-];
-
-const M16: &[u8] = b"memory 1\nname m16\nwords 16\nbits 1\n";
-
-const SLOW: &[u8] = b"memory 2\nname m16\nwords 16\nbits 1\nlatency 3\n";
-
-const LARGE: &[u8] = b"memory 1\nname large_one\nwords 65536\nbits 64\n";
-
-#[test]
-fn benched_boxes(rt: HostRuntime) -> Result<(), Fail> {
-    for (memory, sort, room, said, status, left) in BENCHED {
-        let mut host = MemHost::new(rt.alloc());
-        host.put("m", MARCH_C)?;
-        host.put("d", memory)?;
-        let mut devices: Vec<Box<dyn Device>> = Vec::new(rt.alloc());
-        match sort {
-            "array" => devices.push(Box::new(rt.alloc(), ArrayDevice::new(rt.alloc(), room))?)?,
-            "zeros" => devices.push(Box::new(rt.alloc(), ConstDevice::new(room, 0))?)?,
-            "ones" => devices.push(Box::new(rt.alloc(), ConstDevice::new(room, u64::MAX))?)?,
-            "count" => devices.push(Box::new(rt.alloc(), CountDevice::new(room))?)?,
-            _ => devices.push(Box::new(rt.alloc(), NoFitDevice::new(room))?)?,
-        }
-        devices.push(Box::new(rt.alloc(), ArrayDevice::new(rt.alloc(), 16))?)?;
-        assert_eq!(rt;
-            run(rt.alloc(), &["bench", "m", "d"], &mut host, &mut devices).status,
-            status
-        );
-        assert_eq!(rt; host.said(), said);
-        assert_eq!(rt; devices.len(), left);
-    }
-    Ok(())
-}
-
-#[test]
-fn no_box(rt: HostRuntime) -> Result<(), Fail> {
-    let mut host = MemHost::new(rt.alloc());
-    host.put("m", MARCH_C)?;
-    host.put("d", M16)?;
-    assert_eq!(rt;
-        run_alone(rt.alloc(), &["bench", "m", "d"], &mut host).status,
-        11
-    );
-    assert_eq!(rt; host.said(), b"device V4\n".as_slice());
     Ok(())
 }
