@@ -7,9 +7,9 @@ use Rattle.bist_host.specs.declared.host.HostFault.TheVariants.{Absent, TooLarge
 abbrev pub Files : Type 0
 Files = List ℕ → Option (List ℕ)
 
--- a count rose in a call: it is greater, or stands at its last value
+-- a count, of at most 2^64-1, rose in a call: it is greater, or stands at its last value
 abbrev pub Rose : ℕ → ℕ → Type 0
-Rose before now = min (before + 1) (2 ^ 64 - 1) ≤ now
+Rose before now = (before < 2 ^ 64) × (min (before + 1) (2 ^ 64 - 1) ≤ now)
 
 -- the bytes that a read gives, where the files are told
 abbrev pub ReadGives : Option Files → List ℕ → ℕ → List ℕ → Type 0
