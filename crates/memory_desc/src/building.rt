@@ -58,18 +58,11 @@ pub fn scramble_from(bytes: &[u8], scrambled: bool, width: u8) -> Result<Scrambl
     ensures rows { (ss : List Statement) (size : ℕ) → Say (text_lines bytes.now) ss → past ss width size ≡ None → scrambled ≡ is_scrambled ss → Scrambles ss width result }
 {
     if !scrambled {
-        let scramble = Scramble::identity(width);
-        let _ = scramble.width();
-        let _ = scramble.rows();
-        return Ok(scramble);
+        return Ok(Scramble::identity(width));
     }
     let matrix = matrix_from(bytes, width)?;
     match invert(&matrix) {
-        Ok(scramble) => {
-            let _ = scramble.width();
-            let _ = scramble.rows();
-            Ok(scramble)
-        }
+        Ok(scramble) => Ok(scramble),
         Err(dependence) => Err(MemoryFault::Singular {
             rows: dependence.rows,
         }),
