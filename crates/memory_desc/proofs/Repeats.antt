@@ -21,9 +21,6 @@ pub record Passing (lines left : List TextLine) (met : List ℕ) : Type 0 where
   pub goes : (ss : List Statement) → Say lines ss → (passed : List Statement) × (more : List Statement) × Say left more × (ss ≡ passed ++ more)
       × (find (is_repeat ss) passed ≡ None) × ((q : Subject) → (MayBeMet met q → ⊥) → about q passed ≡ None)
 
-pub passing_starts : (lines : List TextLine) (met : List ℕ) → Passing lines lines met
-passing_starts lines met = record { goes = λ ss h. ([], ss, h, refl, refl, λ q f. refl) }
-
 -- what a line is tested for
 pub record Tested (lines : List TextLine) (l : TextLine) (before met : List ℕ) (t : Bool) : Type 0 where
   pub content : (ss : List Statement) (c : Content) → Say lines ss → ContentText l.text c

@@ -11,7 +11,6 @@ use Rattle.std.specs.List.{list_any}
 use Rattle.std.specs.Prelude.{nat_le}
 use Rattle.std.specs.Str.Parse.{digits_value}
 use Rattle.scrambler.specs.Linear.{number}
-use Rattle.scrambler.specs.Scrambling.{matrix_of}
 use Rattle.scrambler.proofs.Steps.{product_begun, product_more}
 use Rattle.bist_text.specs.Lines.{TextLine}
 use Rattle.memory_desc.specs.LineText.{Content, Term, index_bit, constant, scramble}
@@ -19,7 +18,7 @@ use Rattle.memory_desc.specs.Statements.{Statement, Say}
 use Rattle.memory_desc.specs.Subjects.{about, content_of}
 use Rattle.memory_desc.specs.Standing.{GivesRow, highest_of}
 use Rattle.memory_desc.specs.Table.{is_term_past, past, missing, missing_row, first_refusal, unless_there}
-use Rattle.memory_desc.specs.Values.{index_bits, constant_of, terms_said, terms_in, rows_said, matrix_said}
+use Rattle.memory_desc.specs.Values.{index_bits, constant_of, terms_said, terms_in, rows_said}
 use Rattle.memory_desc.specs.declared.content.Row.{Row}
 use Rattle.memory_desc.specs.declared.content.Subject.TheVariants.{Row as BitRow}
 use Rattle.memory_desc.specs.declared.fault.Field.TheVariants.{Row as RowField}
@@ -131,8 +130,3 @@ gathered_more lines width bit rows constants row below narrow given g = record {
   fits = rows_more width rows constants bit row.names row.constant g.fits below narrow;
   so_far = λ ss size say passed. rows_are_more ss width size bit rows constants row g.fits.count below narrow passed (given ss say) (g.so_far ss size say passed);
 }
-
-pub gathered_matrix : (ss : List Statement) (width : ℕ) (rows : List ℕ) (constants : ℕ) → RowsAre ss width rows constants
-    → (missing_row ss width ≡ None) × (matrix_of width rows constants ≡ matrix_said ss width)
-gathered_matrix ss width rows constants r =
-    (r.there, ap₂ (λ (xs : List ℕ) (n : ℕ). record { width = width; rows = xs; constant = n }) r.rows_are r.constants_are)
