@@ -6,7 +6,7 @@ ghost use Rattle.memory_desc.specs.LineText.{Content, ContentText, LineText};
 ghost use Rattle.memory_desc.specs.Met.{MayBeMet};
 ghost use Rattle.memory_desc.specs.Statements.{Statement, Say};
 ghost use Rattle.memory_desc.specs.Subjects.{subject, is_same, about};
-ghost use Rattle.memory_desc.specs.Table.{is_repeat, is_out_of_range, is_past, is_row, is_scrambled, repeated, out_of_range, past};
+ghost use Rattle.memory_desc.specs.Table.{is_repeat, is_out_of_range, is_too_wide, is_row, is_scrambled, repeated, out_of_range, too_wide};
 ghost use Rattle.memory_desc.specs.Standing.{StandsAt, GivesField, checked};
 
 use crate::content::{
@@ -139,10 +139,10 @@ pub fn is_scrambled(bytes: &[u8]) -> bool
 }
 
 /// Whether a row goes past the address, or a background or a polarity past the word.
-fn is_past(text: &[u8], width: u8, bits: u8) -> bool
+fn is_too_wide(text: &[u8], width: u8, bits: u8) -> bool
     requires width { 1 ≤ width }
     requires bits { (1 ≤ bits) × (bits ≤ 64) }
-    ensures content { (c : Content) → ContentText text.now c → result ≡ is_past width bits c }
+    ensures content { (c : Content) → ContentText text.now c → result ≡ is_too_wide width bits c }
     ensures none { LineText text.now None → result ≡ false }
 {
     let Some(subject) = subject_of(text) else {
@@ -163,10 +163,10 @@ fn is_past(text: &[u8], width: u8, bits: u8) -> bool
 pub fn check_widths(bytes: &[u8], width: u8, bits: u8) -> Result<(), MemoryFault>
     requires width { 1 ≤ width }
     requires bits { (1 ≤ bits) × (bits ≤ 64) }
-    ensures { (ss : List Statement) → Say (text_lines bytes.now) ss → result ≡ checked (past ss width bits) }
+    ensures { (ss : List Statement) → Say (text_lines bytes.now) ss → result ≡ checked (too_wide ss width bits) }
 {
     for line in Lines::new(bytes) {
-        if is_past(line.text, width, bits) {
+        if is_too_wide(line.text, width, bits) {
             return Err(MemoryFault::OutOfRange { line: line.number });
         }
     }
