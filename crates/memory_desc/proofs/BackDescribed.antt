@@ -14,7 +14,7 @@ use Rattle.memory_desc.specs.Printed.{is_plain, is_identity}
 use Rattle.memory_desc.specs.Statements.{Statement}
 use Rattle.memory_desc.specs.Subjects.{is_same, said}
 use Rattle.memory_desc.specs.Values.{words_said, bits_said, latency_in, polarity_in, pause_in, latency_said, polarity_said, pause_said, matrix_said, AreBackgrounds}
-use Rattle.memory_desc.specs.Table.{described, Describes, Builds, Scrambles, Tests, Inverts, Unless, out_of_range, is_out_of_range, unscramblable, is_scrambled, past, is_past, at_line, missing_row, hollow}
+use Rattle.memory_desc.specs.Table.{described, Describes, Builds, Scrambles, StatesBackgrounds, Inverts, Unless, out_of_range, is_out_of_range, unscramblable, is_scrambled, too_wide, is_too_wide, at_line, missing_row, without_solid}
 use Rattle.memory_desc.specs.declared.content.Subject.{Subject}
 use Rattle.memory_desc.specs.declared.content.Subject.TheVariants.{Version, Name, Words, Bits, Latency, Polarity, Pause, Row, Backgrounds}
 use Rattle.memory_desc.specs.declared.fault.MemoryFault.{MemoryFault}
@@ -24,7 +24,7 @@ use Rattle.memory_desc.proofs.BackDigits.{decimal_value}
 use Rattle.memory_desc.proofs.BackFound.{Others, Distinct, not_repeated, others_head, rows_distinct, said_backgrounds, unsaid, found_none, none_found, row_content, body}
 use Rattle.memory_desc.proofs.BackInside.{rows_printed}
 use Rattle.memory_desc.proofs.BackScrambling.{identity_is_identity, identity_by_rows}
-use Rattle.memory_desc.proofs.BackTerms.{neither_past}
+use Rattle.memory_desc.proofs.BackTerms.{neither_too_wide}
 use Rattle.memory_desc.proofs.BackTexts.{digits_of_word}
 use Rattle.memory_desc.proofs.BackValues.{statements, later_said, word_value, some_rows, no_row_missing, matrix_is, row_within, words_are, words_within, few_enough, solid_enough}
 
@@ -106,10 +106,10 @@ all_distinct d false k h =
 
 in_range : (low high n : ℕ) (ds : List ℕ) → digits_value 10 ds ≡ n → low ≤ n → n ≤ high → (nat_lt (digits_value 10 ds) low || nat_lt high (digits_value 10 ds)) ≡ false
 in_range low high n ds e l h =
-    neither_past (nat_lt (digits_value 10 ds) low) (nat_lt high (digits_value 10 ds)) (lt-leb (suc (digits_value 10 ds)) low (omega arith)) (lt-leb (suc high) (digits_value 10 ds) (omega arith))
+    neither_too_wide (nat_lt (digits_value 10 ds) low) (nat_lt high (digits_value 10 ds)) (lt-leb (suc (digits_value 10 ds)) low (omega arith)) (lt-leb (suc high) (digits_value 10 ds) (omega arith))
 
 name_in_range : (b : List ℕ) → length b ≤ 48 → is_among b reserved_words ≡ false → is_out_of_range (name b) ≡ false
-name_in_range b h free = neither_past (nat_lt 48 (length b)) (is_among b reserved_words) (lt-leb (suc 48) (length b) (omega arith)) free
+name_in_range b h free = neither_too_wide (nat_lt 48 (length b)) (is_among b reserved_words) (lt-leb (suc 48) (length b) (omega arith)) free
 
 -- no content behind the first four lines passes a test
 later_pass : (p : Content → Bool) (d : Description) (plain : Bool) (k : ℕ) → p (latency (decimal d.latency)) ≡ false → p (polarity (digits_of_word d.bits d.polarity)) ≡ false
@@ -143,15 +143,15 @@ all_in_range d plain k mem =
     found_none p name_line (words_line ∷ bits_line ∷ rows) (name_in_range d.name mem.name.short mem.name.free) from_words in
     ap (at_line (λ n. OutOfRange n)) from_name
 
-none_past : (d : Description) (plain : Bool) (k size : ℕ) → IsMemory d → d.scramble.width ≤ 16 → k ≤ d.scramble.width → size ≡ d.bits
-    → past (statements d plain k) d.scramble.width size ≡ None
-none_past d plain k size mem small h e =
+none_too_wide : (d : Description) (plain : Bool) (k size : ℕ) → IsMemory d → d.scramble.width ≤ 16 → k ≤ d.scramble.width → size ≡ d.bits
+    → too_wide (statements d plain k) d.scramble.width size ≡ None
+none_too_wide d plain k size mem small h e =
     let s = d.scramble in
-    let whole : past (statements d plain k) s.width d.bits ≡ None =
+    let whole : too_wide (statements d plain k) s.width d.bits ≡ None =
     ap (at_line (λ n. OutOfRange n))
-    (later_pass (is_past s.width d.bits) d plain k refl (ap (nat_le (2 ^ d.bits)) (word_value d.bits d.polarity mem.polarity) ∙ lt-leb (2 ^ d.bits) d.polarity mem.polarity) refl
+    (later_pass (is_too_wide s.width d.bits) d plain k refl (ap (nat_le (2 ^ d.bits)) (word_value d.bits d.polarity mem.polarity) ∙ lt-leb (2 ^ d.bits) d.polarity mem.polarity) refl
     (λ j l. row_within s d.bits j (omega arith) small) (words_within s.width d.bits d.backgrounds mem.tested.fit)) in
-    subst (λ (size : ℕ). past (statements d plain k) s.width size ≡ None) (sym e) whole
+    subst (λ (size : ℕ). too_wide (statements d plain k) s.width size ≡ None) (sym e) whole
 
 -- ---- the scrambling
 
@@ -199,14 +199,14 @@ given_by_test d plain mem full small false e = given_rows d plain mem full small
 
 -- ---- the whole
 
-tests_are : (d : Description) (plain : Bool) (k : ℕ) → IsMemory d → Tests (statements d plain k) (Ok d.backgrounds)
+tests_are : (d : Description) (plain : Bool) (k : ℕ) → IsMemory d → StatesBackgrounds (statements d plain k) (Ok d.backgrounds)
 tests_are d plain k mem =
     let ss = statements d plain k in
     let set = d.backgrounds in
     let r : Result (List ℕ) MemoryFault = Ok set in (
       set,
       subst (λ (o : Option Content). AreBackgrounds o (bits_said ss) set) (sym (backgrounds_are_said d k mem plain)) (sym (words_are d.bits set mem.tested.fit)),
-      subst (λ (o : Option MemoryFault). Unless o r (Unless (hollow set) r (r ≡ Ok set))) (sym (few_enough set mem.tested.few))
+      subst (λ (o : Option MemoryFault). Unless o r (Unless (without_solid set) r (r ≡ Ok set))) (sym (few_enough set mem.tested.few))
           (subst (λ (o : Option MemoryFault). Unless o r (r ≡ Ok set)) (sym (solid_enough set mem.tested.solid)) refl),
     )
 
@@ -226,7 +226,7 @@ same_description d plain k mem enough =
 -- what is left once no line is refused
 abbrev Tested : List Statement → Result Description MemoryFault → Scrambling → Type 0
 Tested ss r s =
-    (tests : Result (List ℕ) MemoryFault) × Tests ss tests × MatchResult tests
+    (tests : Result (List ℕ) MemoryFault) × StatesBackgrounds ss tests × MatchResult tests
     (λ set. r ≡ Ok (described ss s set))
     (λ fault. r ≡ Err fault)
 
@@ -240,8 +240,8 @@ builds_it d plain k mem enough small given =
     let ss = statements d plain k in
     let w = d.scramble.width in
     let r : Result Description MemoryFault = Ok d in
-    subst (λ (o : Option MemoryFault). Unless o r (Unless (past ss w (bits_said ss)) r (Scrambled ss w r))) (sym given.rows_allowed)
-    (subst (λ (o : Option MemoryFault). Unless o r (Scrambled ss w r)) (sym (none_past d plain k (bits_said ss) mem small given.few (bits_are_said d k mem plain)))
+    subst (λ (o : Option MemoryFault). Unless o r (Unless (too_wide ss w (bits_said ss)) r (Scrambled ss w r))) (sym given.rows_allowed)
+    (subst (λ (o : Option MemoryFault). Unless o r (Scrambled ss w r)) (sym (none_too_wide d plain k (bits_said ss) mem small given.few (bits_are_said d k mem plain)))
     (Ok d.scramble, given.scrambles, (Ok d.backgrounds, tests_are d plain k mem, same_description d plain k mem enough)))
 
 -- what is left once each statement is in range

@@ -6,22 +6,11 @@ use Rattle.std.proofs.Math.Nat.{mul-one, one-mul, pow-suc}
 use Rattle.std.proofs.Math.Pow.{pow-lt}
 use Rattle.std.proofs.lemmas.Bool.{and_parts, and_from, cases_lt, eqb-true, eq-eqb}
 use Rattle.std.proofs.lemmas.Grind.{same_number_lists}
-use Rattle.std.proofs.lemmas.List.{length-take-le}
-use Rattle.std.proofs.lemmas.Nat.{pow_pos}
 use Rattle.std.proofs.lemmas.Nat.Bits.{bit_at-pow_same}
 use Rattle.scrambler.specs.Linear.{dot}
-use Rattle.scrambler.specs.Scrambling.{Scrambling, IsWithin, IsFull, matrix_of, row, product, IsInvertible, doublings, identity}
+use Rattle.scrambler.specs.Scrambling.{Scrambling, row, product, IsInvertible, doublings, identity}
 use Rattle.scrambler.proofs.LinearLemmas.{dot_below, dot-zero_left, bit_at-number}
-use Rattle.scrambler.proofs.ScramblingLemmas.{row-matrix_of}
 use Rattle.memory_desc.specs.Printed.{are_units, is_identity}
-
--- the first rows of a list that is long enough
-pub matrix_is_full : (w : ℕ) (rows : List ℕ) (c : ℕ) → IsWithin w rows c → w ≤ length rows → IsFull (matrix_of w rows c)
-matrix_is_full w rows c within long = record {
-  count = length-take-le w rows long;
-  rows_fit = λ i p. subst (λ (x : ℕ). x < 2 ^ w) (sym (row-matrix_of w rows c i p)) (within.rows_fit i p);
-  constant_fits = within.constant_fits;
-}
 
 -- ---- the identity
 
@@ -45,13 +34,6 @@ are_units_below w zero h = refl
 are_units_below w (suc n) h =
     and_from (are_units (identity w) n) (row (identity w) n == 2 ^ n) (are_units_below w n (omega arith))
     (eq-eqb (row (identity w) n) (2 ^ n) (units_at w n (omega arith)))
-
-pub identity_is_full : (w : ℕ) → IsFull (identity w)
-identity_is_full w = record {
-  count = doublings_count 1 w;
-  rows_fit = λ i p. subst (λ (x : ℕ). x < 2 ^ w) (sym (units_at w i p)) (pow-lt p);
-  constant_fits = pow_pos w;
-}
 
 pub identity_is_identity : (w : ℕ) → is_identity (identity w) ≡ true
 identity_is_identity w = are_units_below w w (omega arith)

@@ -15,7 +15,7 @@ use Rattle.scrambler.specs.Linear.{number}
 use Rattle.scrambler.proofs.LinearLemmas.{two_digits, number-below, number-bits}
 use Rattle.memory_desc.specs.LineText.{Term, index_bit, constant, is_term, term_text}
 use Rattle.memory_desc.specs.Printed.{index_terms, row_terms}
-use Rattle.memory_desc.specs.Table.{is_term_past}
+use Rattle.memory_desc.specs.Table.{is_term_too_wide}
 use Rattle.memory_desc.specs.Values.{index_bits, constant_of}
 use Rattle.memory_desc.proofs.BackDigits.{decimal_value, decimal_number}
 
@@ -80,30 +80,30 @@ terms_formed names bit width h =
     list_all-append is_term (bit_terms names width) (one_term (bit == 1))
     ∙ and_from (list_all is_term (bit_terms names width)) (list_all is_term (one_term (bit == 1))) (bit_terms_formed names width h) (one_term_formed (bit == 1))
 
-pub neither_past : (a b : Bool) → a ≡ false → b ≡ false → (a || b) ≡ false
-neither_past a b e f = ap (λ (t : Bool). t || b) e ∙ f
+pub neither_too_wide : (a b : Bool) → a ≡ false → b ≡ false → (a || b) ≡ false
+neither_too_wide a b e f = ap (λ (t : Bool). t || b) e ∙ f
 
-bit_term_within : (width n : ℕ) (t : Bool) → n < width → n < 1000000000 → list_any (is_term_past width) (bit_term n t) ≡ false
+bit_term_within : (width n : ℕ) (t : Bool) → n < width → n < 1000000000 → list_any (is_term_too_wide width) (bit_term n t) ≡ false
 bit_term_within width n true h small =
-    neither_past (nat_le width (digits_value 10 (decimal n))) false (ap (nat_le width) (decimal_value n small) ∙ lt-leb width n h) refl
+    neither_too_wide (nat_le width (digits_value 10 (decimal n))) false (ap (nat_le width) (decimal_value n small) ∙ lt-leb width n h) refl
 bit_term_within width n false h small = refl
 
-one_term_within : (width : ℕ) (t : Bool) → list_any (is_term_past width) (one_term t) ≡ false
+one_term_within : (width : ℕ) (t : Bool) → list_any (is_term_too_wide width) (one_term t) ≡ false
 one_term_within width true = refl
 one_term_within width false = refl
 
-bit_terms_within : (names width n : ℕ) → n ≤ width → width ≤ 1000000000 → list_any (is_term_past width) (bit_terms names n) ≡ false
+bit_terms_within : (names width n : ℕ) → n ≤ width → width ≤ 1000000000 → list_any (is_term_too_wide width) (bit_terms names n) ≡ false
 bit_terms_within names width zero h small = refl
 bit_terms_within names width (suc n) h small =
     let t = bit_at names n == 1 in
-    list_any-append (is_term_past width) (bit_terms names n) (bit_term n t)
-    ∙ neither_past (list_any (is_term_past width) (bit_terms names n)) (list_any (is_term_past width) (bit_term n t))
+    list_any-append (is_term_too_wide width) (bit_terms names n) (bit_term n t)
+    ∙ neither_too_wide (list_any (is_term_too_wide width) (bit_terms names n)) (list_any (is_term_too_wide width) (bit_term n t))
     (bit_terms_within names width n (omega arith) small) (bit_term_within width n t (omega arith) (omega arith))
 
-pub terms_within : (names bit width : ℕ) → width ≤ 1000000000 → list_any (is_term_past width) (terms_of names bit width) ≡ false
+pub terms_within : (names bit width : ℕ) → width ≤ 1000000000 → list_any (is_term_too_wide width) (terms_of names bit width) ≡ false
 terms_within names bit width small =
-    list_any-append (is_term_past width) (bit_terms names width) (one_term (bit == 1))
-    ∙ neither_past (list_any (is_term_past width) (bit_terms names width)) (list_any (is_term_past width) (one_term (bit == 1)))
+    list_any-append (is_term_too_wide width) (bit_terms names width) (one_term (bit == 1))
+    ∙ neither_too_wide (list_any (is_term_too_wide width) (bit_terms names width)) (list_any (is_term_too_wide width) (one_term (bit == 1)))
     (bit_terms_within names width width (omega arith) small) (one_term_within width (bit == 1))
 
 -- ---- the index bits

@@ -16,7 +16,7 @@ use Rattle.memory_desc.specs.LineText.{Content, version, name, words, bits, late
 use Rattle.memory_desc.specs.Statements.{Statement}
 use Rattle.memory_desc.specs.Subjects.{said, about}
 use Rattle.memory_desc.specs.Values.{index_bits, constant_of, terms_in, terms_said, rows_said, matrix_said, word_values}
-use Rattle.memory_desc.specs.Table.{is_row, is_scrambled, is_past, is_term_past, missing_row, first_refusal, too_many, hollow}
+use Rattle.memory_desc.specs.Table.{is_row, is_scrambled, is_too_wide, is_term_too_wide, missing_row, first_refusal, too_many, without_solid}
 use Rattle.memory_desc.specs.declared.content.Subject.TheVariants.{Row}
 use Rattle.memory_desc.specs.declared.fault.Field.TheVariants.{Row as RowField}
 use Rattle.memory_desc.specs.declared.fault.MemoryFault.TheVariants.{Missing, TooManyBackgrounds, NoSolidBackground}
@@ -24,7 +24,7 @@ use Rattle.memory_desc.proofs.Printing.{word_digits}
 use Rattle.memory_desc.proofs.BackLines.{numbered}
 use Rattle.memory_desc.proofs.BackDigits.{decimal_value, hex_digits_value}
 use Rattle.memory_desc.proofs.BackFound.{row_content, body, said_row, is_there}
-use Rattle.memory_desc.proofs.BackTerms.{terms_of, terms_bits, terms_constant, terms_within, neither_past}
+use Rattle.memory_desc.proofs.BackTerms.{terms_of, terms_bits, terms_constant, terms_within, neither_too_wide}
 use Rattle.memory_desc.proofs.BackTexts.{digits_of_word}
 
 -- the number of the version
@@ -101,9 +101,9 @@ matrix_is d plain full small =
     let count = full.count in
     ap₂ (of_width s.width) (rows_are d plain s.width s.width full refl small (omega arith) ∙ take_all s.width s.rows (omega arith)) (constant_is d plain full small)
 
-pub row_within : (s : Scrambling) (size j : ℕ) → j < s.width → s.width ≤ 16 → is_past s.width size (row_content s j) ≡ false
+pub row_within : (s : Scrambling) (size j : ℕ) → j < s.width → s.width ≤ 16 → is_too_wide s.width size (row_content s j) ≡ false
 row_within s size j h small =
-    neither_past (nat_le s.width (digits_value 10 (decimal j))) (list_any (is_term_past s.width) (terms_of (row s j) (bit_at s.constant j) s.width))
+    neither_too_wide (nat_le s.width (digits_value 10 (decimal j))) (list_any (is_term_too_wide s.width) (terms_of (row s j) (bit_at s.constant j) s.width))
     (ap (nat_le s.width) (decimal_value j (omega arith)) ∙ lt-leb s.width j h) (terms_within (row s j) (bit_at s.constant j) s.width (omega arith))
 
 -- ---- backgrounds
@@ -116,11 +116,11 @@ words_are size [] h = refl
 words_are size (w ∷ ws) h =
     ap₂ (λ (x : ℕ) (xs : List ℕ). x ∷ xs) (word_value size w (h 0 w (omega arith))) (words_are size ws (λ k x l. h (suc k) x (omega arith)))
 
-pub words_within : (width size : ℕ) (set : List ℕ) → All (λ b. b < 2 ^ size) set → is_past width size (backgrounds (map (digits_of_word size) set)) ≡ false
+pub words_within : (width size : ℕ) (set : List ℕ) → All (λ b. b < 2 ^ size) set → is_too_wide width size (backgrounds (map (digits_of_word size) set)) ≡ false
 words_within width size [] h = refl
 words_within width size (w ∷ ws) h =
     let fits : w < 2 ^ size = h 0 w (omega arith) in
-    neither_past (nat_le (2 ^ size) (digits_value 16 (digits_of_word size w))) (is_past width size (backgrounds (map (digits_of_word size) ws)))
+    neither_too_wide (nat_le (2 ^ size) (digits_value 16 (digits_of_word size w))) (is_too_wide width size (backgrounds (map (digits_of_word size) ws)))
     (ap (nat_le (2 ^ size)) (word_value size w fits) ∙ lt-leb (2 ^ size) w fits) (words_within width size ws (λ k x l. h (suc k) x (omega arith)))
 
 pub few_enough : (set : List ℕ) → length set ≤ 8 → too_many set ≡ None
@@ -135,5 +135,5 @@ has_zero (w ∷ ws) (suc k) h e = ap (λ (b : Bool). (w == 0) || b) (has_zero ws
     or_true true = refl
     or_true false = refl
 
-pub solid_enough : (set : List ℕ) → Contains set 0 → hollow set ≡ None
+pub solid_enough : (set : List ℕ) → Contains set 0 → without_solid set ≡ None
 solid_enough set h = ap (λ (b : Bool). if b then None else Some NoSolidBackground) (has_zero set h.0 h.1 h.2)

@@ -4,7 +4,7 @@ use Rattle.scrambler.specs.Scrambling.{Scrambling}
 use Rattle.memory_desc.specs.Descriptions.{Description, assembled}
 use Rattle.memory_desc.specs.Standing.{checked}
 use Rattle.memory_desc.specs.Statements.{Statement}
-use Rattle.memory_desc.specs.Table.{unscramblable, past, described, Scrambles, Tests, Builds}
+use Rattle.memory_desc.specs.Table.{unscramblable, too_wide, described, Scrambles, StatesBackgrounds, Builds}
 use Rattle.memory_desc.specs.Values.{name_said, words_said, bits_said, latency_said, polarity_said, pause_said}
 use Rattle.memory_desc.specs.declared.fault.MemoryFault.{MemoryFault}
 
@@ -17,12 +17,12 @@ passed (Some fault) e = (let z : ⊥ = cc in absurd z)
 -- ---- the last steps, where no check refused
 
 module _ (ss : List Statement) (width : ℕ) (r : Result Description MemoryFault) where
-  pub builds_untested : (fault : MemoryFault) (scrambling : Scrambling) → unscramblable ss ≡ None → past ss width (bits_said ss) ≡ None
-      → Scrambles ss width (Ok scrambling) → Tests ss (Err fault) → r ≡ Err fault → Builds ss width r
+  pub builds_untested : (fault : MemoryFault) (scrambling : Scrambling) → unscramblable ss ≡ None → too_wide ss width (bits_said ss) ≡ None
+      → Scrambles ss width (Ok scrambling) → StatesBackgrounds ss (Err fault) → r ≡ Err fault → Builds ss width r
   builds_untested fault scrambling e f s t h = rw (e, f) (Ok scrambling, s, (Err fault, t, h))
 
-  pub builds_memory : (scrambling : Scrambling) (set : List ℕ) → unscramblable ss ≡ None → past ss width (bits_said ss) ≡ None
-      → Scrambles ss width (Ok scrambling) → Tests ss (Ok set)
+  pub builds_memory : (scrambling : Scrambling) (set : List ℕ) → unscramblable ss ≡ None → too_wide ss width (bits_said ss) ≡ None
+      → Scrambles ss width (Ok scrambling) → StatesBackgrounds ss (Ok set)
       → r ≡ Ok (described ss scrambling set) → Builds ss width r
   builds_memory scrambling set e f s t h = rw (e, f) (Ok scrambling, s, (Ok set, t, h))
 

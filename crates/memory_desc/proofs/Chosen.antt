@@ -11,7 +11,7 @@ use Rattle.memory_desc.specs.LineText.{Content, version, name, words, bits, late
 use Rattle.memory_desc.specs.Standing.{StandsAt, is_log}
 use Rattle.memory_desc.specs.Statements.{Statement}
 use Rattle.memory_desc.specs.Subjects.{about, said}
-use Rattle.memory_desc.specs.Table.{Unless, too_many, hollow, is_past, past, Tests, Keeps, Chooses}
+use Rattle.memory_desc.specs.Table.{Unless, too_many, without_solid, is_too_wide, too_wide, StatesBackgrounds, AcceptsBackgrounds, SelectsBackgrounds}
 use Rattle.memory_desc.specs.Values.{word_values, bits_said}
 use Rattle.memory_desc.specs.declared.line_place.Key.TheVariants.{Backgrounds as BackgroundsKey}
 use Rattle.memory_desc.specs.declared.content.Subject.TheVariants.{Backgrounds}
@@ -40,12 +40,12 @@ zero_found (w ∷ set) (suc k) l e = or_right (w == 0) (list_any (λ v. v == 0) 
 few_of : (set : List ℕ) (r : Result (List ℕ) MemoryFault) (P : Type 0) → nat_lt 8 (length set) ≡ false → P → Unless (too_many set) r P
 few_of set r P e h = rw e h
 
-solid_of : (set : List ℕ) (r : Result (List ℕ) MemoryFault) (P : Type 0) → list_any (λ w. w == 0) set ≡ true → P → Unless (hollow set) r P
+solid_of : (set : List ℕ) (r : Result (List ℕ) MemoryFault) (P : Type 0) → list_any (λ w. w == 0) set ≡ true → P → Unless (without_solid set) r P
 solid_of set r P e h = rw e h
 
-pub keeps : (set : List ℕ) → length set ≤ 8 → Contains set 0 → Keeps set (Ok set)
+pub keeps : (set : List ℕ) → length set ≤ 8 → Contains set 0 → AcceptsBackgrounds set (Ok set)
 keeps set few c =
-    few_of set (Ok set) (Unless (hollow set) (Ok set) (Ok set ≡ Ok set)) (le-ltb 8 (length set) few)
+    few_of set (Ok set) (Unless (without_solid set) (Ok set) (Ok set ≡ Ok set)) (le-ltb 8 (length set) few)
     (solid_of set (Ok set) (Ok set ≡ Ok set) (zero_found set c.0 c.1 c.2) refl)
 
 pub record Kept (set kept : List ℕ) : Type 0 where
@@ -53,14 +53,14 @@ pub record Kept (set kept : List ℕ) : Type 0 where
   pub solid : Contains set 0
   pub same : kept ≡ set
 
-kept_at : (set kept : List ℕ) (s t : Bool) → nat_lt 8 (length set) ≡ s → list_any (λ w. w == 0) set ≡ t → Keeps set (Ok kept) → Kept set kept
+kept_at : (set kept : List ℕ) (s t : Bool) → nat_lt 8 (length set) ≡ s → list_any (λ w. w == 0) set ≡ t → AcceptsBackgrounds set (Ok kept) → Kept set kept
 kept_at set kept true t e f h = (let r : Ok kept ≡ Err TooManyBackgrounds = (rw e at h) in let z : ⊥ = cc in absurd z)
 kept_at set kept false false e f h = (let r : Ok kept ≡ Err NoSolidBackground = (rw (e, f) at h) in let z : ⊥ = cc in absurd z)
 kept_at set kept false true e f h =
     let r : Ok kept ≡ Ok set = (rw (e, f) at h) in
     record { few = ltb-false 8 (length set) e; solid = zero_in set f; same = (let z : kept ≡ set = cc in z) }
 
-pub kept : (set other : List ℕ) → Keeps set (Ok other) → Kept set other
+pub kept : (set other : List ℕ) → AcceptsBackgrounds set (Ok other) → Kept set other
 kept set other h = kept_at set other (nat_lt 8 (length set)) (list_any (λ w. w == 0) set) refl refl h
 
 -- ---- words that are listed
@@ -71,39 +71,39 @@ few_words ws count n h = let m = length-map ws (digits_value 16) in omega arith
 whole : (ws : List (List ℕ)) (first : List ℕ) (count : ℕ) → first ≡ take 8 (word_values ws) → count ≡ length ws → count ≤ 8 → first ≡ word_values ws
 whole ws first count e n h = e ∙ take_all 8 (word_values ws) (few_words ws count n h)
 
-pub too_many_listed : (ws : List (List ℕ)) (count : ℕ) → count ≡ length ws → 8 < count → Keeps (word_values ws) (Err TooManyBackgrounds)
+pub too_many_listed : (ws : List (List ℕ)) (count : ℕ) → count ≡ length ws → 8 < count → AcceptsBackgrounds (word_values ws) (Err TooManyBackgrounds)
 too_many_listed ws count e h =
     let more : nat_lt 8 (length (word_values ws)) ≡ true = lt-ltb 8 (length (word_values ws)) (let m = length-map ws (digits_value 16) in omega arith) in
     rw more refl
 
-pub hollow_listed : (ws : List (List ℕ)) (first : List ℕ) (count : ℕ) → first ≡ take 8 (word_values ws) → count ≡ length ws → count ≤ 8 → (Contains first 0 → ⊥)
-    → Keeps (word_values ws) (Err NoSolidBackground)
-hollow_listed ws first count e n h none =
+pub without_solid_listed : (ws : List (List ℕ)) (first : List ℕ) (count : ℕ) → first ≡ take 8 (word_values ws) → count ≡ length ws → count ≤ 8 → (Contains first 0 → ⊥)
+    → AcceptsBackgrounds (word_values ws) (Err NoSolidBackground)
+without_solid_listed ws first count e n h none =
     let set = word_values ws in
     let same = whole ws first count e n h in
     let off : list_any (λ w. w == 0) set ≡ false = elim (cases_Bool (list_any (λ w. w == 0) set)) [
       | inl y ↦ absurd (none (subst (λ (s : List ℕ). Contains s 0) (sym same) (zero_in set y)))
       | inr y ↦ y
     ] in
-    few_of set (Err NoSolidBackground) (Unless (hollow set) (Err NoSolidBackground) (Err NoSolidBackground ≡ Ok set)) (le-ltb 8 (length set) (few_words ws count n h))
+    few_of set (Err NoSolidBackground) (Unless (without_solid set) (Err NoSolidBackground) (Err NoSolidBackground ≡ Ok set)) (le-ltb 8 (length set) (few_words ws count n h))
     (rw off refl)
 
 pub keeps_listed : (ws : List (List ℕ)) (first : List ℕ) (count : ℕ) → first ≡ take 8 (word_values ws) → count ≡ length ws → count ≤ 8 → Contains first 0
-    → Keeps (word_values ws) (Ok first)
+    → AcceptsBackgrounds (word_values ws) (Ok first)
 keeps_listed ws first count e n h some =
     let set = word_values ws in
     let same = whole ws first count e n h in
-    subst (λ (s : List ℕ). Keeps set (Ok s)) (sym same) (keeps set (few_words ws count n h) (subst (λ (s : List ℕ). Contains s 0) same some))
+    subst (λ (s : List ℕ). AcceptsBackgrounds set (Ok s)) (sym same) (keeps set (few_words ws count n h) (subst (λ (s : List ℕ). Contains s 0) same some))
 
 -- ---- what a line, or none, chooses
 
-pub log_keeps : (size : ℕ) (set : List ℕ) → size ≤ 64 → IsLogSet size set → Keeps set (Ok set)
+pub log_keeps : (size : ℕ) (set : List ℕ) → size ≤ 64 → IsLogSet size set → AcceptsBackgrounds set (Ok set)
 log_keeps size set h s = let b = log_set_serves size set h s in keeps set b.few b.solid
 
-pub chooses_none : (size : ℕ) (set : List ℕ) → size ≤ 64 → IsLogSet size set → Chooses None size (Ok set)
+pub chooses_none : (size : ℕ) (set : List ℕ) → size ≤ 64 → IsLogSet size set → SelectsBackgrounds None size (Ok set)
 chooses_none size set h s = (set, s, log_keeps size set h s)
 
-pub chooses_log : (c : Content) (size : ℕ) (set : List ℕ) → is_log c ≡ true → size ≤ 64 → IsLogSet size set → Chooses (Some c) size (Ok set)
+pub chooses_log : (c : Content) (size : ℕ) (set : List ℕ) → is_log c ≡ true → size ≤ 64 → IsLogSet size set → SelectsBackgrounds (Some c) size (Ok set)
 chooses_log (version ds) size set e h s = (let z : ⊥ = cc in absurd z)
 chooses_log (name b) size set e h s = (let z : ⊥ = cc in absurd z)
 chooses_log (words ds) size set e h s = (let z : ⊥ = cc in absurd z)
@@ -117,11 +117,11 @@ chooses_log (backgrounds ws) size set e h s = (let z : ⊥ = cc in absurd z)
 
 -- a line that lists words answers this
 abbrev Lists : {A : Type 0} → (A → List ℕ) → List (List ℕ) → Result A MemoryFault → Type 0
-Lists items ws r = MatchResult r (λ b. Keeps (word_values ws) (Ok (items b))) (λ fault. Keeps (word_values ws) (Err fault))
+Lists items ws r = MatchResult r (λ b. AcceptsBackgrounds (word_values ws) (Ok (items b))) (λ fault. AcceptsBackgrounds (word_values ws) (Err fault))
 
 -- what is said of the backgrounds chooses this answer
 abbrev pub Answers : {A : Type 0} → (A → List ℕ) → Option Content → ℕ → Result A MemoryFault → Type 0
-Answers items c size r = MatchResult r (λ b. Chooses c size (Ok (items b))) (λ fault. Chooses c size (Err fault))
+Answers items c size r = MatchResult r (λ b. SelectsBackgrounds c size (Ok (items b))) (λ fault. SelectsBackgrounds c size (Err fault))
 
 listed_by : {A : Type 0} (items : A → List ℕ) (ws : List (List ℕ)) (size : ℕ) (r : Result A MemoryFault) → Lists items ws r
     → Answers items (Some (backgrounds ws)) size r
@@ -160,8 +160,8 @@ words_serve size ws set h k =
 log_serves : (size : ℕ) (set other : List ℕ) → size ≤ 64 → IsLogSet size set → Kept set other → IsBackgrounds size other
 log_serves size set other h s k = subst (IsBackgrounds size) (sym k.same) (log_set_serves size set h s)
 
-pub chosen_serves : (c : Option Content) (width size : ℕ) (set : List ℕ) → size ≤ 64 → ((x : Content) → c ≡ Some x → is_past width size x ≡ false)
-    → Chooses c size (Ok set) → IsBackgrounds size set
+pub chosen_serves : (c : Option Content) (width size : ℕ) (set : List ℕ) → size ≤ 64 → ((x : Content) → c ≡ Some x → is_too_wide width size x ≡ false)
+    → SelectsBackgrounds c size (Ok set) → IsBackgrounds size set
 chosen_serves None width size set h f r = log_serves size r.0 set h r.1 (kept r.0 set r.2)
 chosen_serves (Some (version ds)) width size set h f r = log_serves size r.0 set h r.1 (kept r.0 set r.2)
 chosen_serves (Some (name b)) width size set h f r = log_serves size r.0 set h r.1 (kept r.0 set r.2)
@@ -185,14 +185,14 @@ line_answers items ss size l r h f =
     subst (λ (o : Option Content). Answers items o size r) (sym (says Backgrounds ss l.text.now s).said_is) (f c s.written (of_backgrounds c s.same))
 
 pub none_answers : (ss : List Statement) (size : ℕ) (set : List ℕ) → StandsAt None (about Backgrounds ss) → size ≤ 64 → IsLogSet size set
-    → Chooses (said Backgrounds ss) size (Ok set)
-none_answers ss size set h l s = subst (λ (o : Option Content). Chooses o size (Ok set)) (sym (unstated Backgrounds ss h)) (chooses_none size set l s)
+    → SelectsBackgrounds (said Backgrounds ss) size (Ok set)
+none_answers ss size set h l s = subst (λ (o : Option Content). SelectsBackgrounds o size (Ok set)) (sym (unstated Backgrounds ss h)) (chooses_none size set l s)
 
-pub answer_serves : {A : Type 0} (items : A → List ℕ) (ss : List Statement) (width size : ℕ) (r : Result A MemoryFault) → size ≤ 64 → past ss width size ≡ None
+pub answer_serves : {A : Type 0} (items : A → List ℕ) (ss : List Statement) (width size : ℕ) (r : Result A MemoryFault) → size ≤ 64 → too_wide ss width size ≡ None
     → Answers items (said Backgrounds ss) size r → IfOk r (λ b. IsBackgrounds size (items b))
 answer_serves items ss width size (Ok b) h p a = chosen_serves (said Backgrounds ss) width size (items b) h (λ x e. within ss width size Backgrounds x p e) a
 answer_serves items ss width size (Err fault) h p a = tt
 
 pub answer_tests : {A : Type 0} (items : A → List ℕ) (ss : List Statement) (size : ℕ) (r : Result A MemoryFault) → size ≡ bits_said ss
-    → Answers items (said Backgrounds ss) size r → MatchResult r (λ b. Tests ss (Ok (items b))) (λ fault. Tests ss (Err fault))
+    → Answers items (said Backgrounds ss) size r → MatchResult r (λ b. StatesBackgrounds ss (Ok (items b))) (λ fault. StatesBackgrounds ss (Err fault))
 answer_tests items ss size r e a = subst (λ (n : ℕ). Answers items (said Backgrounds ss) n r) e a

@@ -18,7 +18,7 @@ use Rattle.memory_desc.specs.LineText.{Content, version, name, words, bits, late
 use Rattle.memory_desc.specs.Statements.{Statement}
 use Rattle.memory_desc.specs.Subjects.{said}
 use Rattle.memory_desc.specs.Values.{words_said, bits_said, matrix_said, AreBackgrounds}
-use Rattle.memory_desc.specs.Table.{Unless, described, Inverts, Scrambles, Tests, Builds, Describes, repeated, missing, out_of_range, unscramblable, past, is_scrambled, missing_row, too_many, hollow}
+use Rattle.memory_desc.specs.Table.{Unless, described, Inverts, Scrambles, StatesBackgrounds, Builds, Describes, repeated, missing, out_of_range, unscramblable, too_wide, is_scrambled, missing_row, too_many, without_solid}
 use Rattle.memory_desc.specs.declared.content.Subject.TheVariants.{Name, Words, Bits, Backgrounds}
 use Rattle.memory_desc.specs.declared.fault.Field.TheVariants.{Name as NameField, Words as WordsField, Bits as BitsField}
 use Rattle.memory_desc.specs.declared.fault.MemoryFault.{MemoryFault}
@@ -90,12 +90,12 @@ backgrounds_one (Some (pause ds)) size xs ys p q = log_set_one size xs ys p q
 backgrounds_one (Some (scramble i ts)) size xs ys p q = log_set_one size xs ys p q
 backgrounds_one (Some log) size xs ys p q = log_set_one size xs ys p q
 
-pub tests_one : (ss : List Statement) (q r : Result (List ℕ) MemoryFault) → Tests ss q → Tests ss r → q ≡ r
+pub tests_one : (ss : List Statement) (q r : Result (List ℕ) MemoryFault) → StatesBackgrounds ss q → StatesBackgrounds ss r → q ≡ r
 tests_one ss q r (xs, p, f) (ys, s, g) =
     let k : ys ≡ xs = backgrounds_one (said Backgrounds ss) (bits_said ss) ys xs s p in
-    let g' = subst (λ (set : List ℕ). Unless (too_many set) r (Unless (hollow set) r (r ≡ Ok set))) k g in
-    unless_one (too_many xs) q r (Unless (hollow xs) q (q ≡ Ok xs)) (Unless (hollow xs) r (r ≡ Ok xs))
-    (unless_one (hollow xs) q r (q ≡ Ok xs) (r ≡ Ok xs) (λ a b. a ∙ sym b)) f g'
+    let g' = subst (λ (set : List ℕ). Unless (too_many set) r (Unless (without_solid set) r (r ≡ Ok set))) k g in
+    unless_one (too_many xs) q r (Unless (without_solid xs) q (q ≡ Ok xs)) (Unless (without_solid xs) r (r ≡ Ok xs))
+    (unless_one (without_solid xs) q r (q ≡ Ok xs) (r ≡ Ok xs) (λ a b. a ∙ sym b)) f g'
 
 -- ---- combinations of rows
 
@@ -241,7 +241,7 @@ scrambles_one ss width q r p h =
 -- what is left of `Builds` once the scrambling is there
 abbrev Finishes : List Statement → Scrambling → Result Description MemoryFault → Type 0
 Finishes ss s r =
-    (tests : Result (List ℕ) MemoryFault) × Tests ss tests × MatchResult tests (λ set.
+    (tests : Result (List ℕ) MemoryFault) × StatesBackgrounds ss tests × MatchResult tests (λ set.
     r ≡ Ok (described ss s set))
     (λ fault. r ≡ Err fault)
 
@@ -261,8 +261,8 @@ continues_one ss width q r (x, sx, f) (y, sy, g) =
 pub builds_one : (ss : List Statement) (width : ℕ) (q r : Result Description MemoryFault) → Builds ss width q → Builds ss width r → q ≡ r
 builds_one ss width q r p h =
     unless_one (unscramblable ss) q r
-    (Unless (past ss width (bits_said ss)) q (Continues ss width q)) (Unless (past ss width (bits_said ss)) r (Continues ss width r))
-    (unless_one (past ss width (bits_said ss)) q r (Continues ss width q) (Continues ss width r) (continues_one ss width q r)) p h
+    (Unless (too_wide ss width (bits_said ss)) q (Continues ss width q)) (Unless (too_wide ss width (bits_said ss)) r (Continues ss width r))
+    (unless_one (too_wide ss width (bits_said ss)) q r (Continues ss width q) (Continues ss width r) (continues_one ss width q r)) p h
 
 -- what is left of `Describes` once all the fields are there, and once those before are
 abbrev Fits : List Statement → Result Description MemoryFault → Type 0

@@ -12,7 +12,7 @@ use Rattle.bist_text.specs.ReservedWords.{is_among, reserved_words}
 use Rattle.memory_desc.specs.Standing.{StandsAt, digits_in}
 use Rattle.memory_desc.specs.Statements.{Statement}
 use Rattle.memory_desc.specs.Subjects.{about}
-use Rattle.memory_desc.specs.Table.{missing, unless_there, repeated, out_of_range, past, Builds, Describes}
+use Rattle.memory_desc.specs.Table.{missing, unless_there, repeated, out_of_range, too_wide, Builds, Describes}
 use Rattle.memory_desc.specs.Values.{number_in, name_in, latency_in, polarity_in, pause_in, name_said, words_said, bits_said, latency_said, polarity_said, pause_said}
 use Rattle.memory_desc.specs.declared.content.Subject.{Subject}
 use Rattle.memory_desc.specs.declared.content.Subject.TheVariants.{Name, Words, Bits, Latency, Polarity, Pause}
@@ -78,7 +78,7 @@ pub polarity_same : (ss : List Statement) (l : Line) (n : ℕ) → StandsAt (Som
     → ((w : List ℕ) → ContentText l.text.now (polarity w) → n ≡ digits_value 16 w) → n ≡ polarity_said ss
 polarity_same ss l n h f = let s = polarity_stated ss l.text.now (stated Polarity ss l h) in f s.0 s.1.written ∙ sym (ap polarity_in s.1.said_is)
 
-pub polarity_fits : (ss : List Statement) (l : Line) (n width size : ℕ) → StandsAt (Some l) (about Polarity ss) → past ss width size ≡ None
+pub polarity_fits : (ss : List Statement) (l : Line) (n width size : ℕ) → StandsAt (Some l) (about Polarity ss) → too_wide ss width size ≡ None
     → ((w : List ℕ) → ContentText l.text.now (polarity w) → n ≡ digits_value 16 w) → n < 2 ^ size
 polarity_fits ss l n width size h r f =
     let s = polarity_stated ss l.text.now (stated Polarity ss l h) in

@@ -12,7 +12,7 @@ use Rattle.bist_text.specs.ReservedWords.{is_among, reserved_words}
 use Rattle.memory_desc.specs.Statements.{Statement}
 use Rattle.memory_desc.specs.Subjects.{subject, is_same, about}
 use Rattle.memory_desc.specs.Standing.{digits_in, is_log, highest_of, union_of, IsRow, AreWords, StandsAt}
-use Rattle.memory_desc.specs.Table.{is_other, is_repeat, is_row, is_out_of_range, is_term_past, is_past}
+use Rattle.memory_desc.specs.Table.{is_other, is_repeat, is_row, is_out_of_range, is_term_too_wide, is_too_wide}
 use Rattle.memory_desc.specs.Values.{word_values}
 use Rattle.memory_desc.specs.contracts.content.SubjectPartialEq.TheImpl.{eq-value}
 use Rattle.memory_desc.specs.declared.content.Row.{Row as RowRead}
@@ -181,30 +181,30 @@ either_le w a b m f g h = elim (cases_lt a w) [
 max_reaches : (w a b : ℕ) → nat_le w (max a b) ≡ (nat_le w a || nat_le w b)
 max_reaches w a b = either_le w a b (max a b) (λ h. omega arith) (λ h. omega arith) (λ p q. omega arith)
 
-highest_past : (w : ℕ) (ts : List Term) → 1 ≤ w → nat_le w (highest_of ts) ≡ list_any (is_term_past w) ts
-highest_past w [] h = lt-leb w 0 h
-highest_past w (index_bit ds ∷ ts) h = max_reaches w (digits_value 10 ds) (highest_of ts) ∙ ap (λ x. nat_le w (digits_value 10 ds) || x) (highest_past w ts h)
-highest_past w (constant b ∷ ts) h = highest_past w ts h
+highest_too_wide : (w : ℕ) (ts : List Term) → 1 ≤ w → nat_le w (highest_of ts) ≡ list_any (is_term_too_wide w) ts
+highest_too_wide w [] h = lt-leb w 0 h
+highest_too_wide w (index_bit ds ∷ ts) h = max_reaches w (digits_value 10 ds) (highest_of ts) ∙ ap (λ x. nat_le w (digits_value 10 ds) || x) (highest_too_wide w ts h)
+highest_too_wide w (constant b ∷ ts) h = highest_too_wide w ts h
 
-union_past : (size : ℕ) (ws : List (List ℕ)) → nat_le (2 ^ size) (union_of (word_values ws)) ≡ list_any (λ w. nat_le (2 ^ size) (digits_value 16 w)) ws
-union_past size [] = lt-leb (2 ^ size) 0 (pow_pos size)
-union_past size (w ∷ ws) =
+union_too_wide : (size : ℕ) (ws : List (List ℕ)) → nat_le (2 ^ size) (union_of (word_values ws)) ≡ list_any (λ w. nat_le (2 ^ size) (digits_value 16 w)) ws
+union_too_wide size [] = lt-leb (2 ^ size) 0 (pow_pos size)
+union_too_wide size (w ∷ ws) =
     let a : ℕ = digits_value 16 w in
     let b : ℕ = union_of (word_values ws) in
     let left = le_or_l a b in
     let right = le_or_r a b in
     either_le (2 ^ size) a b (bit_or a b) (λ h. omega (arith, left)) (λ h. omega (arith, right)) (λ p q. or_lt size a b p q)
-    ∙ ap (λ x. nat_le (2 ^ size) a || x) (union_past size ws)
+    ∙ ap (λ x. nat_le (2 ^ size) a || x) (union_too_wide size ws)
 
-pub row_past : (b : List ℕ) (row : RowRead) (width size w most i : ℕ) (c : Content) (q : Subject) → 1 ≤ width → ContentText b c → q ≡ Row i → Some q ≡ Some (subject c)
-    → ((i : List ℕ) (ts : List Term) → ContentText b (scramble i ts) → IsRow i ts row) → w ≡ width → most ≡ max row.bit row.highest → nat_le w most ≡ is_past width size c
-row_past b row width size w most i c q p text s e f k m =
-    at_row (λ c. ContentText b c → nat_le w most ≡ is_past width size c) c i (ap Some (sym s) ∙ e)
+pub row_too_wide : (b : List ℕ) (row : RowRead) (width size w most i : ℕ) (c : Content) (q : Subject) → 1 ≤ width → ContentText b c → q ≡ Row i → Some q ≡ Some (subject c)
+    → ((i : List ℕ) (ts : List Term) → ContentText b (scramble i ts) → IsRow i ts row) → w ≡ width → most ≡ max row.bit row.highest → nat_le w most ≡ is_too_wide width size c
+row_too_wide b row width size w most i c q p text s e f k m =
+    at_row (λ c. ContentText b c → nat_le w most ≡ is_too_wide width size c) c i (ap Some (sym s) ∙ e)
     (λ i ts h. let r = f i ts h in
     ap (nat_le w) m ∙ ap (λ w. nat_le w (max row.bit row.highest)) k ∙ max_reaches width row.bit row.highest
     ∙ ap (λ n. nat_le width n || nat_le width row.highest) r.bit
     ∙ ap (λ n. nat_le width (digits_value 10 i) || nat_le width n) r.highest
-    ∙ ap (λ x. nat_le width (digits_value 10 i) || x) (highest_past width ts p)) text
+    ∙ ap (λ x. nat_le width (digits_value 10 i) || x) (highest_too_wide width ts p)) text
 
 -- past the greatest number that fits
 above : (m n : ℕ) → 0 < m → nat_lt (m - 1) n ≡ nat_le m n
@@ -213,30 +213,30 @@ above m n p = elim (cases_lt n m) [
   | inr h ↦ (let g : m - 1 < n = omega arith in lt-ltb (m - 1) n g ∙ sym (le-leb m n h))
 ]
 
-pub polarity_past : (b : List ℕ) (n width size top : ℕ) (c : Content) (q : Subject) → ContentText b c → q ≡ Polarity → Some q ≡ Some (subject c)
-    → ((w : List ℕ) → ContentText b (polarity w) → n ≡ digits_value 16 w) → top ≡ 2 ^ size - 1 → nat_lt top n ≡ is_past width size c
-polarity_past b n width size top c q text s e f k =
-    at_polarity (λ c. ContentText b c → nat_lt top n ≡ is_past width size c) c (ap Some (sym s) ∙ e)
+pub polarity_too_wide : (b : List ℕ) (n width size top : ℕ) (c : Content) (q : Subject) → ContentText b c → q ≡ Polarity → Some q ≡ Some (subject c)
+    → ((w : List ℕ) → ContentText b (polarity w) → n ≡ digits_value 16 w) → top ≡ 2 ^ size - 1 → nat_lt top n ≡ is_too_wide width size c
+polarity_too_wide b n width size top c q text s e f k =
+    at_polarity (λ c. ContentText b c → nat_lt top n ≡ is_too_wide width size c) c (ap Some (sym s) ∙ e)
     (λ w h. ap (λ t. nat_lt t n) k ∙ above (2 ^ size) n (pow_pos size) ∙ ap (nat_le (2 ^ size)) (f w h)) text
 
-pub words_past : (b : List ℕ) (read : WordsRead) (width size top : ℕ) (c : Content) (q : Subject) (logarithmic : Bool) → ContentText b c → q ≡ Backgrounds
+pub words_too_wide : (b : List ℕ) (read : WordsRead) (width size top : ℕ) (c : Content) (q : Subject) (logarithmic : Bool) → ContentText b c → q ≡ Backgrounds
     → Some q ≡ Some (subject c) → ((c : Content) → ContentText b c → kind_of c ≡ BackgroundsKey → logarithmic ≡ is_log c) → logarithmic ≡ false
-    → ((ws : List (List ℕ)) → ContentText b (backgrounds ws) → AreWords ws read) → top ≡ 2 ^ size - 1 → nat_lt top read.union ≡ is_past width size c
-words_past b read width size top c q logarithmic text s e l unlike f k =
-    at_backgrounds (λ c. ContentText b c → nat_lt top read.union ≡ is_past width size c) c (ap Some (sym s) ∙ e)
+    → ((ws : List (List ℕ)) → ContentText b (backgrounds ws) → AreWords ws read) → top ≡ 2 ^ size - 1 → nat_lt top read.union ≡ is_too_wide width size c
+words_too_wide b read width size top c q logarithmic text s e l unlike f k =
+    at_backgrounds (λ c. ContentText b c → nat_lt top read.union ≡ is_too_wide width size c) c (ap Some (sym s) ∙ e)
     (λ h. let z : logarithmic ≡ true = l log h refl in let y : ⊥ = cc in absurd y)
     (λ ws h. let r = f ws h in
-    ap (λ n. nat_lt top n) r.union ∙ ap (λ n. nat_lt n (union_of (word_values ws))) k ∙ above (2 ^ size) (union_of (word_values ws)) (pow_pos size) ∙ union_past size ws) text
+    ap (λ n. nat_lt top n) r.union ∙ ap (λ n. nat_lt n (union_of (word_values ws))) k ∙ above (2 ^ size) (union_of (word_values ws)) (pow_pos size) ∙ union_too_wide size ws) text
 
-pub log_past : (b : List ℕ) (width size : ℕ) (c : Content) (q : Subject) (logarithmic : Bool) → ContentText b c → q ≡ Backgrounds → Some q ≡ Some (subject c)
-    → ((c : Content) → ContentText b c → kind_of c ≡ BackgroundsKey → logarithmic ≡ is_log c) → logarithmic ≡ true → not logarithmic ≡ is_past width size c
-log_past b width size c q logarithmic text s e l alike =
-    at_backgrounds (λ c. ContentText b c → not logarithmic ≡ is_past width size c) c (ap Some (sym s) ∙ e)
+pub log_too_wide : (b : List ℕ) (width size : ℕ) (c : Content) (q : Subject) (logarithmic : Bool) → ContentText b c → q ≡ Backgrounds → Some q ≡ Some (subject c)
+    → ((c : Content) → ContentText b c → kind_of c ≡ BackgroundsKey → logarithmic ≡ is_log c) → logarithmic ≡ true → not logarithmic ≡ is_too_wide width size c
+log_too_wide b width size c q logarithmic text s e l alike =
+    at_backgrounds (λ c. ContentText b c → not logarithmic ≡ is_too_wide width size c) c (ap Some (sym s) ∙ e)
     (λ h. ap not alike)
     (λ ws h. let z : logarithmic ≡ false = l (backgrounds ws) h refl in let y : ⊥ = cc in absurd y) text
 
-pub others_past : (width size : ℕ) (q : Subject) (c : Content) → ((i : ℕ) → q ≡ Row i → ⊥) → (q ≡ Polarity → ⊥) → (q ≡ Backgrounds → ⊥) → Some q ≡ Some (subject c) → false ≡ is_past width size c
-others_past width size q (scramble i ts) f h g e = (let k : q ≡ Row (digits_value 10 i) = cc in absurd (f (digits_value 10 i) k))
-others_past width size q (polarity w) f h g e = (let k : q ≡ Polarity = cc in absurd (h k))
-others_past width size q (backgrounds ws) f h g e = (let k : q ≡ Backgrounds = cc in absurd (g k))
-others_past width size q c f h g e = refl
+pub others_too_wide : (width size : ℕ) (q : Subject) (c : Content) → ((i : ℕ) → q ≡ Row i → ⊥) → (q ≡ Polarity → ⊥) → (q ≡ Backgrounds → ⊥) → Some q ≡ Some (subject c) → false ≡ is_too_wide width size c
+others_too_wide width size q (scramble i ts) f h g e = (let k : q ≡ Row (digits_value 10 i) = cc in absurd (f (digits_value 10 i) k))
+others_too_wide width size q (polarity w) f h g e = (let k : q ≡ Polarity = cc in absurd (h k))
+others_too_wide width size q (backgrounds ws) f h g e = (let k : q ≡ Backgrounds = cc in absurd (g k))
+others_too_wide width size q c f h g e = refl

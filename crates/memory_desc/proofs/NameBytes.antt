@@ -1,11 +1,10 @@
 -- The bytes of a name are ASCII.
-use Rattle.std.proofs.Common.{◌≡◌, ℕ, zero, suc, ◌<◌, ◌==◌, ◌&&◌, ◌||◌, true, List, [], ◌∷◌, arith, inl, inr, length}
-use Rattle.std.proofs.lemmas.Bool.{and_parts, or_cases, leb-true, eqb-true, not-true}
+use Rattle.std.proofs.Common.{◌≡◌, ℕ, zero, suc, ◌<◌, ◌==◌, ◌&&◌, ◌||◌, true, List, [], ◌∷◌, arith, inl, inr}
+use Rattle.std.proofs.lemmas.Bool.{and_parts, or_cases, leb-true, eqb-true}
 use Rattle.std.specs.List.{list_all}
 use Rattle.std.specs.Str.{IsAscii}
-use Rattle.std.specs.Prelude.{nat_le, not}
-use Rattle.memory_desc.specs.Names.{is_letter, is_digit, is_name_byte, is_identifier, IsName}
-use Rattle.bist_text.specs.ReservedWords.{is_among, reserved_words}
+use Rattle.std.specs.Prelude.{nat_le}
+use Rattle.memory_desc.specs.Names.{is_letter, is_digit, is_name_byte, is_identifier}
 
 -- a byte of a range that ends below 128
 in_range : (c low high : ℕ) → (nat_le low c && nat_le c high) ≡ true → high < 128 → c < 128
@@ -41,9 +40,3 @@ pub identifier_ascii : (b : List ℕ) → is_identifier b ≡ true → IsAscii b
 identifier_ascii [] h i = omega arith
 identifier_ascii (c ∷ b) h zero = letter_low c (and_parts (is_letter c) (list_all is_name_byte b) h).0
 identifier_ascii (c ∷ b) h (suc i) = name_bytes_ascii b (and_parts (is_letter c) (list_all is_name_byte b) h).1 i
-
--- what the tests of a name say
-pub name_from_tests : (b : List ℕ) → is_identifier b ≡ true → (nat_le (length b) 48 && not (is_among b reserved_words)) ≡ true → IsName b
-name_from_tests b h e =
-    let parts = and_parts (nat_le (length b) 48) (not (is_among b reserved_words)) e in
-    record { identifier = h; short = leb-true (length b) 48 parts.0; free = not-true (is_among b reserved_words) parts.1 }

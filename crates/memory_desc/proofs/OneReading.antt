@@ -5,7 +5,6 @@ use Rattle.std.proofs.lemmas.Bool.{eqb-true, and_parts, and_from}
 use Rattle.std.specs.List.{list_all}
 use Rattle.bist_text.specs.Grammar.{byte, word, is_blank}
 use Rattle.bist_text.specs.Lines.{TextLine, text_lines}
-use Rattle.bist_text.proofs.Pieces.{neither}
 use Rattle.memory_desc.specs.Names.{is_digit, is_letter, is_name_byte, is_identifier}
 use Rattle.memory_desc.specs.declared.line_place.Key.{Key}
 use Rattle.memory_desc.specs.declared.line_place.Key.TheVariants.{Memory, Name, Words, Bits, Latency, Polarity, Pause, Scramble, Backgrounds}
@@ -30,10 +29,6 @@ word_stops p d w K off c b on h =
 
 comment_stops : (p : ℕ → Bool) → p 35 ≡ false → Stops p comment
 comment_stops p off c b on h = word_stops p 35 [] (λ _. Unit {0}) off c b on h
-
-space_stops : (p : ℕ → Bool) (K : List ℕ → Type 0) → IsPlain p → Stops p K → Stops p (space K)
-space_stops p K off s c b on h =
-    neither (s c b on) (λ w. (let blank : is_blank c ≡ true = (when_holds (is_blank c) (space K b) w).0 in let other = plain_blank p c off on in let z : ⊥ = cc in z)) h
 
 gap_stops : (p : ℕ → Bool) (K : List ℕ → Type 0) → IsPlain p → Stops p (gap K)
 gap_stops p K off c b on h =

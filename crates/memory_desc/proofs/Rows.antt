@@ -11,15 +11,14 @@ use Rattle.std.specs.List.{list_any}
 use Rattle.std.specs.Prelude.{nat_le}
 use Rattle.std.specs.Str.Parse.{digits_value}
 use Rattle.scrambler.specs.Linear.{number}
-use Rattle.scrambler.specs.Scrambling.{matrix_of}
 use Rattle.scrambler.proofs.Steps.{product_begun, product_more}
 use Rattle.bist_text.specs.Lines.{TextLine}
 use Rattle.memory_desc.specs.LineText.{Content, Term, index_bit, constant, scramble}
 use Rattle.memory_desc.specs.Statements.{Statement, Say}
 use Rattle.memory_desc.specs.Subjects.{about, content_of}
 use Rattle.memory_desc.specs.Standing.{GivesRow, highest_of}
-use Rattle.memory_desc.specs.Table.{is_term_past, past, missing, missing_row, first_refusal, unless_there}
-use Rattle.memory_desc.specs.Values.{index_bits, constant_of, terms_said, terms_in, rows_said, matrix_said}
+use Rattle.memory_desc.specs.Table.{is_term_too_wide, too_wide, missing, missing_row, first_refusal, unless_there}
+use Rattle.memory_desc.specs.Values.{index_bits, constant_of, terms_said, terms_in, rows_said}
 use Rattle.memory_desc.specs.declared.content.Row.{Row}
 use Rattle.memory_desc.specs.declared.content.Subject.TheVariants.{Row as BitRow}
 use Rattle.memory_desc.specs.declared.fault.Field.TheVariants.{Row as RowField}
@@ -34,10 +33,10 @@ pub record TermsFit (width : ℕ) (ts : List Term) : Type 0 where
   pub highest : highest_of ts < width
   pub names : index_bits ts < 2 ^ width
 
-pub terms_fit : (width : ℕ) (ts : List Term) → 0 < width → list_any (is_term_past width) ts ≡ false → TermsFit width ts
+pub terms_fit : (width : ℕ) (ts : List Term) → 0 < width → list_any (is_term_too_wide width) ts ≡ false → TermsFit width ts
 terms_fit width [] p h = record { highest = p; names = pow_pos width }
 terms_fit width (index_bit ds ∷ ts) p h =
-    let parts = or_parts (nat_le width (digits_value 10 ds)) (list_any (is_term_past width) ts) h in
+    let parts = or_parts (nat_le width (digits_value 10 ds)) (list_any (is_term_too_wide width) ts) h in
     let low : digits_value 10 ds < width = leb-false width (digits_value 10 ds) parts.0 in
     let rest = terms_fit width ts p parts.1 in
     record { highest = omega (arith, rest.highest); names = xor_lt width (2 ^ digits_value 10 ds) (index_bits ts) (pow-lt low) rest.names }
@@ -80,12 +79,12 @@ there_said fault (Some s) c e = refl
 
 -- one more row
 module _ (ss : List Statement) (width size bit : ℕ) (rows : List ℕ) (constants : ℕ) (row : Row) (count : length rows ≡ 16) (below : bit < width) (narrow : width ≤ 16)
-    (passed : past ss width size ≡ None) (given : GivesRow ss bit (Ok row)) (so_far : RowsAre ss bit rows constants) where
+    (passed : too_wide ss width size ≡ None) (given : GivesRow ss bit (Ok row)) (so_far : RowsAre ss bit rows constants) where
   terms_are : terms_said ss bit ≡ given.1
   terms_are = ap terms_in given.2
 
   fit : TermsFit width given.1
-  fit = terms_fit width given.1 (omega arith) (or_parts (nat_le width (digits_value 10 given.0)) (list_any (is_term_past width) given.1)
+  fit = terms_fit width given.1 (omega arith) (or_parts (nat_le width (digits_value 10 given.0)) (list_any (is_term_too_wide width) given.1)
       (within ss width size (BitRow bit) (scramble given.0 given.1) passed given.2)).1
 
   value : bit_and row.names (2 ^ width - 1) ≡ index_bits (terms_said ss bit)
@@ -119,7 +118,7 @@ module _ (ss : List Statement) (width size bit : ℕ) (rows : List ℕ) (constan
 -- what the loop over the rows keeps
 pub record Gathered (lines : List TextLine) (width bit : ℕ) (rows : List ℕ) (constants : ℕ) : Type 0 where
   pub fits : RowsFit width rows constants
-  pub so_far : (ss : List Statement) (size : ℕ) → Say lines ss → past ss width size ≡ None → RowsAre ss bit rows constants
+  pub so_far : (ss : List Statement) (size : ℕ) → Say lines ss → too_wide ss width size ≡ None → RowsAre ss bit rows constants
 
 pub gathered_begun : (lines : List TextLine) (width : ℕ) → Gathered lines width 0 (replicate 16 0) 0
 gathered_begun lines width = record { fits = rows_begun width; so_far = λ ss size say passed. rows_are_begun ss (replicate 16 0) }
@@ -131,8 +130,3 @@ gathered_more lines width bit rows constants row below narrow given g = record {
   fits = rows_more width rows constants bit row.names row.constant g.fits below narrow;
   so_far = λ ss size say passed. rows_are_more ss width size bit rows constants row g.fits.count below narrow passed (given ss say) (g.so_far ss size say passed);
 }
-
-pub gathered_matrix : (ss : List Statement) (width : ℕ) (rows : List ℕ) (constants : ℕ) → RowsAre ss width rows constants
-    → (missing_row ss width ≡ None) × (matrix_of width rows constants ≡ matrix_said ss width)
-gathered_matrix ss width rows constants r =
-    (r.there, ap₂ (λ (xs : List ℕ) (n : ℕ). record { width = width; rows = xs; constant = n }) r.rows_are r.constants_are)

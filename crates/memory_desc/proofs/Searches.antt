@@ -14,7 +14,7 @@ pub record Searching (p : List Statement → Statement → Bool) (lines left : L
   pub goes : (ss : List Statement) → Say lines ss → (more : List Statement) × Say left more × (find (p ss) ss ≡ find (p ss) more)
 
 -- a test of a line answers for the line's statement, and not at a line without content
-pub record Tests (p : List Statement → Statement → Bool) (lines : List TextLine) (l : TextLine) (t : Bool) : Type 0 where
+pub record IsTestOf (p : List Statement → Statement → Bool) (lines : List TextLine) (l : TextLine) (t : Bool) : Type 0 where
   pub content : (ss : List Statement) (c : Content) → Say lines ss → ContentText l.text c → t ≡ p ss (record { line = l.number; content = c })
   pub none : LineText l.text None → t ≡ false
 
@@ -26,7 +26,7 @@ find_later q x xs e = ap (λ b. cond b (Some x) (find q xs)) e
 
 -- one line further, which is none
 pub searching_on : {p : List Statement → Statement → Bool} {lines before left : List TextLine} {l : TextLine} {t : Bool} → Searching p lines before → before ≡ l ∷ left
-    → t ≡ false → Tests p lines l t → Searching p lines left
+    → t ≡ false → IsTestOf p lines l t → Searching p lines left
 searching_on {p = p} {lines = lines} {left = left} {l = l} {t = t} whole step f u = let s = subst (Searching p lines) step whole in record { goes = λ ss h. let w = s.goes ss h in go ss w.0 w.1.0 w.1.1 h w.1.2 w.1.3 w.1.4 w.2 }
   where
     go : (ss found : List Statement) (v : Option Content) (more : List Statement) → Say lines ss → LineText l.text v → Say left more → found ≡ stated l.number v ++ more
@@ -39,7 +39,7 @@ searching_on {p = p} {lines = lines} {left = left} {l = l} {t = t} whole step f 
 
 -- the line that is sought
 pub searching_stops : {p : List Statement → Statement → Bool} {lines before left : List TextLine} {l : TextLine} {t : Bool} → Searching p lines before → before ≡ l ∷ left
-    → t ≡ true → Tests p lines l t → (ss : List Statement) → Say lines ss
+    → t ≡ true → IsTestOf p lines l t → (ss : List Statement) → Say lines ss
     → (c : Content) × ContentText l.text c × (find (p ss) ss ≡ Some (record { line = l.number; content = c }))
 searching_stops {p = p} {lines = lines} {left = left} {l = l} {t = t} whole step f u ss h = let s = subst (Searching p lines) step whole in let w = s.goes ss h in go w.0 w.1.0 w.1.1 w.1.2 w.1.4 w.2
   where
@@ -59,7 +59,7 @@ searching_ends {p = p} {lines = lines} whole step ss h = let s = subst (Searchin
 -- ---- the line of a statement
 
 pub stands_found : {p : List Statement → Statement → Bool} {lines before left : List TextLine} {t : Bool} (line : Line) → Searching p lines before
-    → before ≡ plain_line line ∷ left → t ≡ true → Tests p lines (plain_line line) t → (ss : List Statement) → Say lines ss → StandsAt (Some line) (find (p ss) ss)
+    → before ≡ plain_line line ∷ left → t ≡ true → IsTestOf p lines (plain_line line) t → (ss : List Statement) → Say lines ss → StandsAt (Some line) (find (p ss) ss)
 stands_found line s step f u ss h =
     let w = searching_stops s step f u ss h in
     subst (StandsAt (Some line)) (sym w.2) (refl, w.1)
@@ -71,7 +71,7 @@ stands_nowhere s step ss h = subst (StandsAt None) (sym (searching_ends s step s
 -- ---- a check
 
 pub check_stops : {p : List Statement → Statement → Bool} {lines before left : List TextLine} {l : TextLine} {t : Bool} (fault : ℕ → MemoryFault)
-    → Searching p lines before → before ≡ l ∷ left → t ≡ true → Tests p lines l t → (ss : List Statement) → Say lines ss
+    → Searching p lines before → before ≡ l ∷ left → t ≡ true → IsTestOf p lines l t → (ss : List Statement) → Say lines ss
     → Err (fault l.number) ≡ checked (at_line fault (find (p ss) ss))
 check_stops fault s step f u ss h = ap (λ x. checked (at_line fault x)) (sym (searching_stops s step f u ss h).2)
 
@@ -98,7 +98,7 @@ none_found q (x ∷ xs) e = go (q x) (none_found q xs) e
     go false f e = f e
 
 pub any_stops : (q : Statement → Bool) {lines before left : List TextLine} {l : TextLine} {t : Bool} → Searching (λ _. q) lines before → before ≡ l ∷ left
-    → t ≡ true → Tests (λ _. q) lines l t → (ss : List Statement) → Say lines ss → true ≡ list_any q ss
+    → t ≡ true → IsTestOf (λ _. q) lines l t → (ss : List Statement) → Say lines ss → true ≡ list_any q ss
 any_stops q {l = l} s step f u ss h =
     let w = searching_stops s step f u ss h in
     sym (any_found q ss (record { line = l.number; content = w.0 }) w.2)

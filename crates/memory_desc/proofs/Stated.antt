@@ -6,7 +6,7 @@ use Rattle.memory_desc.specs.LineText.{Content, Term, name, words, bits, latency
 use Rattle.memory_desc.specs.Statements.{Statement}
 use Rattle.memory_desc.specs.Subjects.{subject, is_same, is_about, about, said, content_of}
 use Rattle.memory_desc.specs.Standing.{StandsAt}
-use Rattle.memory_desc.specs.Table.{at_line, is_past, past, is_out_of_range, out_of_range}
+use Rattle.memory_desc.specs.Table.{at_line, is_too_wide, too_wide, is_out_of_range, out_of_range}
 use Rattle.memory_desc.specs.declared.line_place.Key.TheVariants.{Backgrounds as BackgroundsKey}
 use Rattle.memory_desc.specs.declared.content.Subject.{Subject}
 use Rattle.memory_desc.specs.declared.content.Subject.TheVariants.{Name, Words, Bits, Latency, Polarity, Pause, Row, Backgrounds}
@@ -134,8 +134,8 @@ found_of q ss c p (Some s) e h n = (s, found_fails p (is_about q) ss s n e, (let
 checked_content : (q : Subject) (ss : List Statement) (c : Content) (p : Content → Bool) → said q ss ≡ Some c → find (λ s. p s.content) ss ≡ None → p c ≡ false
 checked_content q ss c p h n = let r = found_of q ss c (λ s. p s.content) (about q ss) refl h n in ap p (sym r.2) ∙ r.1
 
-pub within : (ss : List Statement) (width size : ℕ) (q : Subject) (c : Content) → past ss width size ≡ None → said q ss ≡ Some c → is_past width size c ≡ false
-within ss width size q c n h = checked_content q ss c (is_past width size) h (at_line_none (λ k. OutOfRange k) (find (λ s. is_past width size s.content) ss) n)
+pub within : (ss : List Statement) (width size : ℕ) (q : Subject) (c : Content) → too_wide ss width size ≡ None → said q ss ≡ Some c → is_too_wide width size c ≡ false
+within ss width size q c n h = checked_content q ss c (is_too_wide width size) h (at_line_none (λ k. OutOfRange k) (find (λ s. is_too_wide width size s.content) ss) n)
 
 pub in_range : (ss : List Statement) (q : Subject) (c : Content) → out_of_range ss ≡ None → said q ss ≡ Some c → is_out_of_range c ≡ false
 in_range ss q c n h = checked_content q ss c is_out_of_range h (at_line_none (λ k. OutOfRange k) (find (λ s. is_out_of_range s.content) ss) n)

@@ -12,3 +12,4 @@ pub mod Values
 pub mod Table
 pub mod Standing
 pub mod ContentParts
+pub mod Met

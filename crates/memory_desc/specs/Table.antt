@@ -74,18 +74,18 @@ unscramblable ss = if is_scrambled ss && not (is_power_of_two (words_said ss)) t
 
 -- ---- D5: a row or an index bit past the address, or a background or a polarity past the word
 
-abbrev pub is_term_past : ℕ → Term → Bool
-is_term_past width (index_bit ds) = nat_le width (digits_value 10 ds)
-is_term_past width (constant b) = false
+abbrev pub is_term_too_wide : ℕ → Term → Bool
+is_term_too_wide width (index_bit ds) = nat_le width (digits_value 10 ds)
+is_term_too_wide width (constant b) = false
 
-abbrev pub is_past : ℕ → ℕ → Content → Bool
-is_past width size (scramble i ts) = nat_le width (digits_value 10 i) || list_any (is_term_past width) ts
-is_past width size (backgrounds ws) = list_any (λ w. nat_le (2 ^ size) (digits_value 16 w)) ws
-is_past width size (polarity w) = nat_le (2 ^ size) (digits_value 16 w)
-is_past width size other = false
+abbrev pub is_too_wide : ℕ → ℕ → Content → Bool
+is_too_wide width size (scramble i ts) = nat_le width (digits_value 10 i) || list_any (is_term_too_wide width) ts
+is_too_wide width size (backgrounds ws) = list_any (λ w. nat_le (2 ^ size) (digits_value 16 w)) ws
+is_too_wide width size (polarity w) = nat_le (2 ^ size) (digits_value 16 w)
+is_too_wide width size other = false
 
-abbrev pub past : List Statement → ℕ → ℕ → Option MemoryFault
-past ss width size = at_line (λ n. OutOfRange n) (find (λ s. is_past width size s.content) ss)
+abbrev pub too_wide : List Statement → ℕ → ℕ → Option MemoryFault
+too_wide ss width size = at_line (λ n. OutOfRange n) (find (λ s. is_too_wide width size s.content) ss)
 
 -- ---- D4: the least row of the address that is missing
 
@@ -119,19 +119,19 @@ Scrambles ss width r =
 abbrev pub too_many : List ℕ → Option MemoryFault
 too_many set = if nat_lt 8 (length set) then Some TooManyBackgrounds else None
 
-abbrev pub hollow : List ℕ → Option MemoryFault
-hollow set = if list_any (λ w. w == 0) set then None else Some NoSolidBackground
+abbrev pub without_solid : List ℕ → Option MemoryFault
+without_solid set = if list_any (λ w. w == 0) set then None else Some NoSolidBackground
 
 -- a set of at most 8 backgrounds of which one is 0, or the refusal
-abbrev pub Keeps : List ℕ → Result (List ℕ) MemoryFault → Type 0
-Keeps set r = Unless (too_many set) r (Unless (hollow set) r (r ≡ Ok set))
+abbrev pub AcceptsBackgrounds : List ℕ → Result (List ℕ) MemoryFault → Type 0
+AcceptsBackgrounds set r = Unless (too_many set) r (Unless (without_solid set) r (r ≡ Ok set))
 
 -- the backgrounds for words of so many bits, where this is said of them
-abbrev pub Chooses : Option Content → ℕ → Result (List ℕ) MemoryFault → Type 0
-Chooses c size r = (set : List ℕ) × AreBackgrounds c size set × Keeps set r
+abbrev pub SelectsBackgrounds : Option Content → ℕ → Result (List ℕ) MemoryFault → Type 0
+SelectsBackgrounds c size r = (set : List ℕ) × AreBackgrounds c size set × AcceptsBackgrounds set r
 
-abbrev pub Tests : List Statement → Result (List ℕ) MemoryFault → Type 0
-Tests ss r = Chooses (said Backgrounds ss) (bits_said ss) r
+abbrev pub StatesBackgrounds : List Statement → Result (List ℕ) MemoryFault → Type 0
+StatesBackgrounds ss r = SelectsBackgrounds (said Backgrounds ss) (bits_said ss) r
 
 -- ---- the whole
 
@@ -143,9 +143,9 @@ described ss s set = assembled (name_said ss) (words_said ss) (bits_said ss) (la
 abbrev pub Builds : List Statement → ℕ → Result Description MemoryFault → Type 0
 Builds ss width r =
     Unless (unscramblable ss) r (
-    Unless (past ss width (bits_said ss)) r (
+    Unless (too_wide ss width (bits_said ss)) r (
     (scrambling : Result Scrambling MemoryFault) × Scrambles ss width scrambling × MatchResult scrambling (λ s.
-    (tests : Result (List ℕ) MemoryFault) × Tests ss tests × MatchResult tests (λ set.
+    (tests : Result (List ℕ) MemoryFault) × StatesBackgrounds ss tests × MatchResult tests (λ set.
     r ≡ Ok (described ss s set))
     (λ fault. r ≡ Err fault))
     (λ fault. r ≡ Err fault)))

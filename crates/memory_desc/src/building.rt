@@ -5,7 +5,7 @@ ghost use Rattle.bist_text.specs.Lines.{text_lines};
 ghost use Rattle.scrambler.specs.Scrambling.{IsFull, IsInvertible, IsWithin, identity};
 ghost use Rattle.memory_desc.specs.Descriptions.{IsBackgrounds};
 ghost use Rattle.memory_desc.specs.Statements.{Statement, Say};
-ghost use Rattle.memory_desc.specs.Table.{is_scrambled, past, Scrambles, Keeps, Chooses, Tests};
+ghost use Rattle.memory_desc.specs.Table.{is_scrambled, too_wide, Scrambles, AcceptsBackgrounds, SelectsBackgrounds, StatesBackgrounds};
 ghost use Rattle.memory_desc.specs.LineText.{Content, backgrounds, kind_of, ContentText};
 ghost use Rattle.memory_desc.specs.Standing.{GivesMatrix, GivesRow};
 ghost use Rattle.memory_desc.specs.Values.{bits_said, word_values};
@@ -32,7 +32,7 @@ fn row_at(bytes: &[u8], bit: u8) -> Result<Row, MemoryFault>
 fn matrix_from(bytes: &[u8], width: u8) -> Result<Matrix, MemoryFault>
     requires { (1 ≤ width) × (width ≤ 16) }
     ensures within { IfOk result (λ m. (m.width ≡ width) × IsWithin m.width m.rows m.constant) }
-    ensures rows { (ss : List Statement) (size : ℕ) → Say (text_lines bytes.now) ss → past ss width size ≡ None → GivesMatrix ss width result }
+    ensures rows { (ss : List Statement) (size : ℕ) → Say (text_lines bytes.now) ss → too_wide ss width size ≡ None → GivesMatrix ss width result }
 {
     let mut rows = [0; 16];
     let mut constant = 0;
@@ -55,21 +55,14 @@ pub fn scramble_from(bytes: &[u8], scrambled: bool, width: u8) -> Result<Scrambl
     ensures full { IfOk result IsFull }
     ensures invertible { IfOk result IsInvertible }
     ensures unscrambled { IfOk result (λ s. scrambled ≡ false → s ≡ identity width) }
-    ensures rows { (ss : List Statement) (size : ℕ) → Say (text_lines bytes.now) ss → past ss width size ≡ None → scrambled ≡ is_scrambled ss → Scrambles ss width result }
+    ensures rows { (ss : List Statement) (size : ℕ) → Say (text_lines bytes.now) ss → too_wide ss width size ≡ None → scrambled ≡ is_scrambled ss → Scrambles ss width result }
 {
     if !scrambled {
-        let scramble = Scramble::identity(width);
-        let _ = scramble.width();
-        let _ = scramble.rows();
-        return Ok(scramble);
+        return Ok(Scramble::identity(width));
     }
     let matrix = matrix_from(bytes, width)?;
     match invert(&matrix) {
-        Ok(scramble) => {
-            let _ = scramble.width();
-            let _ = scramble.rows();
-            Ok(scramble)
-        }
+        Ok(scramble) => Ok(scramble),
         Err(dependence) => Err(MemoryFault::Singular {
             rows: dependence.rows,
         }),
@@ -85,7 +78,7 @@ fn has_solid(set: &[u64]) -> bool
 
 /// The backgrounds that a line lists.
 fn listed(text: &[u8]) -> Result<ArrayVec<u64, 8>, MemoryFault>
-    ensures { (ws : List (List ℕ)) → ContentText text.now (backgrounds ws) → MatchResult result (λ b. Keeps (word_values ws) (Ok b.items)) (λ fault. Keeps (word_values ws) (Err fault)) }
+    ensures { (ws : List (List ℕ)) → ContentText text.now (backgrounds ws) → MatchResult result (λ b. AcceptsBackgrounds (word_values ws) (Ok b.items)) (λ fault. AcceptsBackgrounds (word_values ws) (Err fault)) }
 {
     let words = words_of(text);
     if words.count > 8 {
@@ -101,7 +94,7 @@ fn listed(text: &[u8]) -> Result<ArrayVec<u64, 8>, MemoryFault>
 fn backgrounds_of(text: &[u8], bits: u8) -> Result<ArrayVec<u64, 8>, MemoryFault>
     requires { (1 ≤ bits) × (bits ≤ 64) }
     ensures { (c : Content) → ContentText text.now c → kind_of c ≡ Key.Backgrounds
-        → MatchResult result (λ b. Chooses (Some c) bits (Ok b.items)) (λ fault. Chooses (Some c) bits (Err fault)) }
+        → MatchResult result (λ b. SelectsBackgrounds (Some c) bits (Ok b.items)) (λ fault. SelectsBackgrounds (Some c) bits (Err fault)) }
 {
     if is_log(text) {
         Ok(log_set(bits))
@@ -113,9 +106,9 @@ fn backgrounds_of(text: &[u8], bits: u8) -> Result<ArrayVec<u64, 8>, MemoryFault
 /// The backgrounds that are listed, or the logarithmic set where none are.
 pub fn backgrounds_from(bytes: &[u8], bits: u8) -> Result<ArrayVec<u64, 8>, MemoryFault>
     requires bits { (1 ≤ bits) × (bits ≤ 64) }
-    requires fit { (ss : List Statement) × (width : ℕ) × Say (text_lines bytes.now) ss × (past ss width bits ≡ None) }
+    requires fit { (ss : List Statement) × (width : ℕ) × Say (text_lines bytes.now) ss × (too_wide ss width bits ≡ None) }
     ensures set { IfOk result (λ b. IsBackgrounds bits b.items) }
-    ensures tests { (ss : List Statement) → Say (text_lines bytes.now) ss → bits ≡ bits_said ss → MatchResult result (λ b. Tests ss (Ok b.items)) (λ fault. Tests ss (Err fault)) }
+    ensures tests { (ss : List Statement) → Say (text_lines bytes.now) ss → bits ≡ bits_said ss → MatchResult result (λ b. StatesBackgrounds ss (Ok b.items)) (λ fault. StatesBackgrounds ss (Err fault)) }
 {
     match line_about(bytes, Subject::Backgrounds) {
         Some(line) => backgrounds_of(line.text, bits),

@@ -11,6 +11,7 @@ mod memory;
 mod names;
 mod print;
 mod read;
+mod row_numbers;
 mod search;
 mod timing;
 

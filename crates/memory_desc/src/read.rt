@@ -75,12 +75,8 @@ fn described(bytes: &[u8]) -> Result<Memory, MemoryFault>
     check_ranges(bytes)?;
     let words = number_of(words_line.text);
     let bits = number_of(bits_line.text);
-    match name_from(name_of(name_line.text)) {
-        Some(name) => memory_of(bytes, name, words, bits as u8),
-        None => Err(MemoryFault::OutOfRange {
-            line: name_line.number,
-        }),
-    }
+    let name = name_from(name_of(name_line.text));
+    memory_of(bytes, name, words, bits as u8)
 }
 
 /// Reads a memory description. The first refusal decides, in the order of the table.

@@ -3,9 +3,10 @@
 ghost use Rattle.std.specs.Prelude.{◌≡◌, ◌≤◌, ◌||◌, nat_lt, false, List, None};
 ghost use Rattle.bist_text.specs.Lines.{text_lines};
 ghost use Rattle.memory_desc.specs.LineText.{Content, ContentText, LineText};
+ghost use Rattle.memory_desc.specs.Met.{MayBeMet};
 ghost use Rattle.memory_desc.specs.Statements.{Statement, Say};
 ghost use Rattle.memory_desc.specs.Subjects.{subject, is_same, about};
-ghost use Rattle.memory_desc.specs.Table.{is_repeat, is_out_of_range, is_past, is_row, is_scrambled, repeated, out_of_range, past};
+ghost use Rattle.memory_desc.specs.Table.{is_repeat, is_out_of_range, is_too_wide, is_row, is_scrambled, repeated, out_of_range, too_wide};
 ghost use Rattle.memory_desc.specs.Standing.{StandsAt, GivesField, checked};
 
 use crate::content::{
@@ -13,6 +14,7 @@ use crate::content::{
 };
 use crate::fault::{Field, MemoryFault};
 use crate::names::is_free;
+use crate::row_numbers::RowNumbers;
 use bist_bits::all_ones;
 use bist_text::{Line, Lines};
 
@@ -43,15 +45,21 @@ pub fn field<'a>(bytes: &'a [u8], wanted: Subject, field: Field) -> Result<Line<
     line_about(bytes, wanted).ok_or(MemoryFault::Missing { field })
 }
 
-/// Whether an earlier line speaks of the same.
-fn is_repeat(bytes: &[u8], line: &Line<'_>) -> bool
+/// Whether an earlier line speaks of the same, where the numbers of the earlier rows were met.
+fn is_repeat(bytes: &[u8], line: &Line<'_>, met: &mut RowNumbers) -> bool
     ensures content { (ss : List Statement) (c : Content) → Say (text_lines bytes.now) ss → ContentText line.now.text.now c
+        → ((MayBeMet met.old.numbers.items (subject c) → ⊥) → is_repeat ss (record { line = line.now.number; content = c }) ≡ false)
         → result ≡ is_repeat ss (record { line = line.now.number; content = c }) }
     ensures none { LineText line.now.text.now None → result ≡ false }
+    ensures kept { (c : Content) → ContentText line.now.text.now c → MayBeMet met.new.numbers.items (subject c) }
+    ensures stay { (q : Subject) → MayBeMet met.old.numbers.items q → MayBeMet met.new.numbers.items q }
 {
     let Some(wanted) = subject_of(line.text) else {
         return false;
     };
+    if met.is_new(wanted) {
+        return false;
+    }
     match line_about(bytes, wanted) {
         Some(first) => first.number != line.number,
         None => false,
@@ -62,8 +70,9 @@ fn is_repeat(bytes: &[u8], line: &Line<'_>) -> bool
 pub fn check_repeats(bytes: &[u8]) -> Result<(), MemoryFault>
     ensures { (ss : List Statement) → Say (text_lines bytes.now) ss → result ≡ checked (repeated ss) }
 {
+    let mut met = RowNumbers::new();
     for line in Lines::new(bytes) {
-        if is_repeat(bytes, &line) {
+        if is_repeat(bytes, &line, &mut met) {
             return Err(MemoryFault::Repeated { line: line.number });
         }
     }
@@ -130,10 +139,10 @@ pub fn is_scrambled(bytes: &[u8]) -> bool
 }
 
 /// Whether a row goes past the address, or a background or a polarity past the word.
-fn is_past(text: &[u8], width: u8, bits: u8) -> bool
+fn is_too_wide(text: &[u8], width: u8, bits: u8) -> bool
     requires width { 1 ≤ width }
     requires bits { (1 ≤ bits) × (bits ≤ 64) }
-    ensures content { (c : Content) → ContentText text.now c → result ≡ is_past width bits c }
+    ensures content { (c : Content) → ContentText text.now c → result ≡ is_too_wide width bits c }
     ensures none { LineText text.now None → result ≡ false }
 {
     let Some(subject) = subject_of(text) else {
@@ -154,10 +163,10 @@ fn is_past(text: &[u8], width: u8, bits: u8) -> bool
 pub fn check_widths(bytes: &[u8], width: u8, bits: u8) -> Result<(), MemoryFault>
     requires width { 1 ≤ width }
     requires bits { (1 ≤ bits) × (bits ≤ 64) }
-    ensures { (ss : List Statement) → Say (text_lines bytes.now) ss → result ≡ checked (past ss width bits) }
+    ensures { (ss : List Statement) → Say (text_lines bytes.now) ss → result ≡ checked (too_wide ss width bits) }
 {
     for line in Lines::new(bytes) {
-        if is_past(line.text, width, bits) {
+        if is_too_wide(line.text, width, bits) {
             return Err(MemoryFault::OutOfRange { line: line.number });
         }
     }

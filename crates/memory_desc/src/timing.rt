@@ -3,7 +3,7 @@
 ghost use Rattle.std.specs.Prelude.{◌≡◌, ◌≤◌, ◌<◌, ◌^◌, ℕ, List, None};
 ghost use Rattle.bist_text.specs.Lines.{text_lines};
 ghost use Rattle.memory_desc.specs.Statements.{Statement, Say};
-ghost use Rattle.memory_desc.specs.Table.{out_of_range, past};
+ghost use Rattle.memory_desc.specs.Table.{out_of_range, too_wide};
 ghost use Rattle.memory_desc.specs.Values.{latency_said, pause_said, polarity_said};
 
 use crate::content::{Subject, number_of, polarity_of};
@@ -35,7 +35,7 @@ pub fn pause_from(bytes: &[u8]) -> u32
 
 /// The polarity of words of this many bits; no bit is inverted where nothing is said of it.
 pub fn polarity_from(bytes: &[u8], bits: u8) -> u64
-    requires { (ss : List Statement) × (width : ℕ) × Say (text_lines bytes.now) ss × (past ss width bits ≡ None) }
+    requires { (ss : List Statement) × (width : ℕ) × Say (text_lines bytes.now) ss × (too_wide ss width bits ≡ None) }
     ensures fits { result < 2 ^ bits }
     ensures said { (ss : List Statement) → Say (text_lines bytes.now) ss → result ≡ polarity_said ss }
 {

@@ -6,7 +6,7 @@ use Rattle.std.proofs.lemmas.List.{get_or-set_same, get_or-set_other}
 use Rattle.std.specs.List.{SwappedAt}
 use Rattle.std.specs.Prelude.{slice_index}
 use Rattle.scrambler.specs.Linear.{dot}
-use Rattle.scrambler.specs.Reduced.{SwapsAt, ClearsBy}
+use Rattle.scrambler.specs.Reduced.{SwapsAt}
 use Rattle.scrambler.proofs.LinearLemmas.{dot_below, scaled}
 
 -- the vectors before `done` are cleared, and those from there on are as they were
@@ -17,9 +17,6 @@ pub record ClearedBelow (place done r : ℕ) (old new : ℕ → ℕ) : Type 0 wh
 
 pub SwapsAt-swapped : (xs ys : List ℕ) (i p w : ℕ) → SwappedAt xs ys i p → SwapsAt i p w (slice_index xs) (slice_index ys)
 SwapsAt-swapped xs ys i p w s = record { first = s.0 0; second = s.1 0; others = λ l n m. s.2 l 0 n m }
-
-pub ClearsBy-all : (place w r : ℕ) (old new : ℕ → ℕ) → ClearedBelow place w r old new → ClearsBy place w r old new
-ClearsBy-all place w r old new c = record { kept = c.kept; cleared = c.cleared }
 
 -- what is added fits
 pub added-below : (r v own : ℕ) → own < 2 ^ 16 → dot r v * own < 2 ^ 16

@@ -1,17 +1,17 @@
 -- What elimination and its vectors say of a scrambling.
-use Rattle.std.proofs.Common.{◌≡◌, ℕ, zero, suc, ◌+◌, ◌-◌, ◌*◌, ◌%◌, ◌^◌, ◌<◌, ◌≤◌, List, [], ◌∷◌, take, slice_index, refl, sym, ◌∙◌, ap, subst, arith, bit_or, bit_xor, inl, inr}
+use Rattle.std.proofs.Common.{◌≡◌, ℕ, zero, suc, ◌+◌, ◌-◌, ◌*◌, ◌%◌, ◌^◌, ◌<◌, ◌≤◌, List, [], ◌∷◌, length, take, slice_index, refl, sym, ◌∙◌, ap, subst, arith, bit_or, bit_xor, inl, inr}
 use Rattle.std.proofs.Math.Path.{ap₂}
 use Rattle.std.proofs.Math.Pow.{pow-lt}
 use Rattle.std.proofs.Math.Nat.{zero-add, add_comm, zero-mul, one-mul, mul-one, mod-eq_of_lt, pow-suc}
 use Rattle.std.proofs.lemmas.Bool.{cases_lt}
-use Rattle.std.proofs.lemmas.List.{get_or-take}
+use Rattle.std.proofs.lemmas.List.{get_or-take, length-take-le}
 use Rattle.std.proofs.lemmas.Nat.{xor_lt, pow_pos, or_shifted}
 use Rattle.std.proofs.lemmas.Nat.Bits.{same_from_bits_below, bit_at-lt, bit_at_xor, bit_at-zero, bit_at_cat_low, bit_at_cat_high, bit_at_above}
 use Rattle.std.specs.Int.{bit_at}
 use Rattle.std.specs.Int.Bits.{xor_self, xor_assoc, xor_zero_r}
 use Rattle.scrambler.specs.Linear.{dot, number, combination}
 use Rattle.scrambler.specs.Reduced.{Reduced}
-use Rattle.scrambler.specs.Scrambling.{Scrambling, IsWithin, IsInvertible, IsLeastDependence, matrix_of, row, product, logical, logical_bit, doublings, identity}
+use Rattle.scrambler.specs.Scrambling.{Scrambling, IsWithin, IsFull, IsInvertible, IsLeastDependence, matrix_of, row, product, logical, logical_bit, doublings, identity}
 use Rattle.scrambler.specs.Undoing.{IsUndone}
 use Rattle.scrambler.proofs.LinearLemmas.{dot_below, dot_comm, dot-unit, number-below, bit_at-number, number_same, number-bits, combination-below}
 use Rattle.scrambler.proofs.EliminationLemmas.{units_are_reduced, named, named-below, spanned, independent, undone, only_one, never}
@@ -214,3 +214,11 @@ logical_of_identity w k h p =
     let small = bit_at-lt k i in
     ap₂ (λ (a b : ℕ). (a + b) % 2) none named_bit ∙ ap (λ (x : ℕ). x % 2) (zero-add (bit_at k i)) ∙ mod-eq_of_lt small)
     ∙ number-bits k w p
+
+-- the first rows of a list that is long enough
+pub matrix_is_full : (w : ℕ) (rows : List ℕ) (c : ℕ) → IsWithin w rows c → w ≤ length rows → IsFull (matrix_of w rows c)
+matrix_is_full w rows c within long = record {
+  count = length-take-le w rows long;
+  rows_fit = rows_fit w rows c within;
+  constant_fits = within.constant_fits;
+}

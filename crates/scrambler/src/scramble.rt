@@ -33,6 +33,8 @@ impl Scramble {
         requires { (1 ≤ width) × (width ≤ 16) }
         ensures identity { result ≡ identity width }
         ensures itself { (k : ℕ) → k < 2 ^ width → logical result k ≡ k }
+        ensures full { IsFull result }
+        ensures invertible { IsInvertible result }
     {
         Scramble {
             matrix: Matrix {
@@ -120,6 +122,8 @@ pub fn invert(matrix: &Matrix) -> Result<Scramble, Dependence>
     requires { IsWithin matrix.now.width matrix.now.rows matrix.now.constant }
     ensures ok { IsOk result ↔ IsInvertible (matrix_of matrix.now.width matrix.now.rows matrix.now.constant) }
     ensures scramble { IfOk result (λ s. s ≡ matrix_of matrix.now.width matrix.now.rows matrix.now.constant) }
+    ensures full { IfOk result IsFull }
+    ensures invertible { IfOk result IsInvertible }
     ensures singular { IsErr result ↔ (¬ IsInvertible (matrix_of matrix.now.width matrix.now.rows matrix.now.constant)) }
     ensures dependence { IfErr result (λ d. IsLeastDependence (matrix_of matrix.now.width matrix.now.rows matrix.now.constant) d.rows) }
     ensures cancel { let m = matrix_of matrix.now.width matrix.now.rows matrix.now.constant in

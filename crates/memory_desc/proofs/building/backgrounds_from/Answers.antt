@@ -1,5 +1,5 @@
 use Rattle.std.proofs.Common.{ℕ, Ok, subst}
-use Rattle.memory_desc.specs.Table.{Chooses}
+use Rattle.memory_desc.specs.Table.{SelectsBackgrounds}
 use Rattle.memory_desc.specs.Subjects.{said}
 use Rattle.memory_desc.specs.declared.content.Subject.TheVariants.{Backgrounds}
 use Rattle.memory_desc.proofs.Chosen.{answer_serves, answer_tests, line_answers, none_answers}
@@ -26,5 +26,5 @@ returns-in-None-clause-set c = log_set_serves c.args.bits c.log_set.result.items
 
 pub returns-in-None-clause-tests : goal.returns-in-None-clause-tests
 returns-in-None-clause-tests c ss say same =
-    subst (λ (n : ℕ). Chooses (said Backgrounds ss) n (Ok c.log_set.result.items)) same
+    subst (λ (n : ℕ). SelectsBackgrounds (said Backgrounds ss) n (Ok c.log_set.result.items)) same
     (none_answers ss c.args.bits c.log_set.result.items (c.in-None.ensures ss say) c.requires.bits.1 c.log_set.ensures.log_set)

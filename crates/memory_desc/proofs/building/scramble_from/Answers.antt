@@ -8,4 +8,4 @@ returns-in-Ok-clause-rows c ss size say passed same =
     let m = c.in_ok-matrix.matrix in
     let rows = c.in_ok-matrix.ensures.rows ss size say passed in
     scrambles_by ss c.args.width (matrix_of m.width m.rows m.constant) c.in-Ok.scramble (sym same ∙ c.if-not-scrambled.false) rows.0 rows.1 c.in-Ok.ensures.scramble
-    c.width-in-Ok.ensures.invertible
+    c.in-Ok.ensures.invertible

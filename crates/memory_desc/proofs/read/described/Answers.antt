@@ -1,5 +1,6 @@
-use Rattle.std.proofs.Common.{◌≡◌, ◌-◌, ◌∙◌, ℕ, true, false, arith, subst}
+use Rattle.std.proofs.Common.{◌-◌, ◌∙◌, ℕ, arith, subst, sym}
 use Rattle.bist_bits.specs.Width.{IsWidthOf}
+use Rattle.memory_desc.specs.Names.{IsName}
 use Rattle.memory_desc.specs.Table.{out_of_range, repeated}
 use Rattle.memory_desc.specs.declared.content.Subject.TheVariants.{Name, Words, Bits}
 use Rattle.memory_desc.specs.declared.fault.Field.TheVariants.{Name as NameField, Words as WordsField, Bits as BitsField}
@@ -28,8 +29,21 @@ memory_of-requires-clause-bits c =
     let bits = bits_given s.0 c.in_ok-bits_line.bits_line c.number_of-bits.result (c.in_ok-bits_line.ensures s.0 s.1) ranges c.number_of-bits.ensures in
     (bits.low_bound, bits.high_bound)
 
-pub returns-in-Some : goal.returns-in-Some
-returns-in-Some c ss say =
+pub name_from-name-requires : goal.name_from-name-requires
+name_from-name-requires c =
+    let s = c.requires.stated in
+    let ranges = passed (out_of_range s.0) (c.in_ok-check_ranges.ensures s.0 s.1) in
+    (name_given s.0 c.in_ok-name_line.name_line c.name_of.result.now (c.in_ok-name_line.ensures s.0 s.1) ranges c.name_of.ensures).1
+
+pub memory_of-requires-clause-name : goal.memory_of-requires-clause-name
+memory_of-requires-clause-name c =
+    let s = c.requires.stated in
+    let ranges = passed (out_of_range s.0) (c.in_ok-check_ranges.ensures s.0 s.1) in
+    let name = name_given s.0 c.in_ok-name_line.name_line c.name_of.result.now (c.in_ok-name_line.ensures s.0 s.1) ranges c.name_of.ensures in
+    subst IsName (sym c.name_from-name.ensures) name.1
+
+pub returns : goal.returns
+returns c ss say =
     let name_line = c.in_ok-name_line.ensures ss say in
     let words_line = c.in_ok-words_line.ensures ss say in
     let bits_line = c.in_ok-bits_line.ensures ss say in
@@ -37,15 +51,7 @@ returns-in-Some c ss say =
     let name = name_given ss c.in_ok-name_line.name_line c.name_of.result.now name_line ranges c.name_of.ensures in
     let words = words_given ss c.in_ok-words_line.words_line c.number_of-words.result words_line ranges c.number_of-words.ensures in
     let bits = bits_given ss c.in_ok-bits_line.bits_line c.number_of-bits.result bits_line ranges c.number_of-bits.ensures in
-    let built = c.memory_of.ensures ss say (c.in-Some.ensures.name.0 ∙ name.0) words.same bits.same in
+    let built = c.memory_of.ensures ss say (c.name_from-name.ensures ∙ name.0) words.same bits.same in
     describes_by ss c.memory_of.result (passed (repeated ss) (c.in_ok-check_repeats.ensures ss say)) (not_missing Name NameField ss c.in_ok-name_line.name_line name_line)
     (not_missing Words WordsField ss c.in_ok-words_line.words_line words_line) (not_missing Bits BitsField ss c.in_ok-bits_line.bits_line bits_line) ranges
     (built.0, subst (λ (n : ℕ). IsWidthOf (n - 1) built.0) words.same built.1, built.2)
-
-pub returns-in-None : goal.returns-in-None
-returns-in-None c ss say =
-    let ranges = passed (out_of_range ss) (c.in_ok-check_ranges.ensures ss say) in
-    let name = name_given ss c.in_ok-name_line.name_line c.name_of.result.now (c.in_ok-name_line.ensures ss say) ranges c.name_of.ensures in
-    let some : false ≡ true = c.in-None.ensures.some name.1 in
-    let z : ⊥ = cc in
-    absurd z

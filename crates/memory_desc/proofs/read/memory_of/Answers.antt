@@ -2,7 +2,7 @@ use Rattle.std.proofs.Common.{◌≡◌, ◌-◌, ◌∙◌, ℕ, None, Result, 
 use Rattle.std.proofs.lemmas.Result.{err_from_is_err_and}
 use Rattle.bist_bits.specs.Width.{IsWidthOf}
 use Rattle.memory_desc.specs.Descriptions.{Description}
-use Rattle.memory_desc.specs.Table.{unscramblable, past, described}
+use Rattle.memory_desc.specs.Table.{unscramblable, too_wide, described}
 use Rattle.memory_desc.specs.declared.fault.MemoryFault.{MemoryFault}
 use Rattle.memory_desc.proofs.Built.{builds_memory, builds_untested, made_of, passed}
 use Rattle.memory_desc.proofs.Parts.{width_small}
@@ -19,8 +19,8 @@ returns-in_err-backgrounds c ss say name words bits =
     let wide = subst (λ (n : ℕ). IsWidthOf n width) c.from.ensures c.width_of-width.ensures.width in
     let scrambled = c.is_scrambled-scrambled.ensures ss say in
     let plain = passed (unscramblable ss) (c.in_ok-check_power_of_two.ensures.check ss scrambled words) in
-    let fits = passed (past ss width c.args.bits) (c.in_ok-check_widths.ensures ss say) in
-    let fits_said = subst (λ (n : ℕ). past ss width n ≡ None) bits fits in
+    let fits = passed (too_wide ss width c.args.bits) (c.in_ok-check_widths.ensures ss say) in
+    let fits_said = subst (λ (n : ℕ). too_wide ss width n ≡ None) bits fits in
     let r = c.from_residual-in_err-backgrounds in
     let p = err_from_is_err_and r.result r.ensures.1 in (
       width,
@@ -35,8 +35,8 @@ returns c ss say name words bits =
     let wide = subst (λ (n : ℕ). IsWidthOf n width) c.from.ensures c.width_of-width.ensures.width in
     let scrambled = c.is_scrambled-scrambled.ensures ss say in
     let plain = passed (unscramblable ss) (c.in_ok-check_power_of_two.ensures.check ss scrambled words) in
-    let fits = passed (past ss width c.args.bits) (c.in_ok-check_widths.ensures ss say) in
-    let fits_said = subst (λ (n : ℕ). past ss width n ≡ None) bits fits in
+    let fits = passed (too_wide ss width c.args.bits) (c.in_ok-check_widths.ensures ss say) in
+    let fits_said = subst (λ (n : ℕ). too_wide ss width n ≡ None) bits fits in
     let s = c.in_ok-scramble.scramble in
     let set = c.in_ok-backgrounds.backgrounds.items in
     let made : ◌≡◌ {A = Result Description MemoryFault} (Ok c.new.result) (Ok (described ss s set)) =

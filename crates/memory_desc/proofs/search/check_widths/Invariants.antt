@@ -1,5 +1,5 @@
 use Rattle.bist_text.specs.Lines.{lines_left, text_lines}
-use Rattle.memory_desc.specs.Table.{is_past}
+use Rattle.memory_desc.specs.Table.{is_too_wide}
 use Rattle.memory_desc.proofs.Searches.{Searching}
 use Rattle.memory_desc.proofs.search.check_widths.Given as goal
 
@@ -7,5 +7,5 @@ abbrev pub invariant-loop-line : goal.invariant-loop-line
 invariant-loop-line l = record {
   can_next : (goal.iterator-loop-line).can_next l.line-iterator;
   is_finite : (goal.iterator-loop-line).is_finite l.line-iterator;
-  searching : Searching (λ _ s. is_past l.width l.bits s.content) (text_lines l.bytes) (lines_left l.line-iterator);
+  searching : Searching (λ _ s. is_too_wide l.width l.bits s.content) (text_lines l.bytes) (lines_left l.line-iterator);
 }

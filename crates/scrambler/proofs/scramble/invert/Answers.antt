@@ -26,3 +26,7 @@ returns-in-Err-clause-singular c =
 pub returns-in-Err-clause-cancel : goal.returns-in-Err-clause-cancel
 returns-in-Err-clause-cancel c =
     let m = c.args.matrix.now in cancel (matrix_of m.width m.rows m.constant) c.in-Err.dependence.rows c.in-Err.ensures.err
+
+pub returns-in-Ok-clause-invertible : goal.returns-in-Ok-clause-invertible
+returns-in-Ok-clause-invertible c =
+    let m = c.args.matrix.now in invertible m.width m.rows m.constant (slice_index c.in-Ok.vectors) c.requires c.in-Ok.ensures.ok
