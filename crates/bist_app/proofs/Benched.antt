@@ -59,5 +59,6 @@ unchanged boxes (Refusal.ReadFailed p) = refl
 unchanged boxes (Refusal.Absent p) = refl
 unchanged boxes (Refusal.Misfit m) = refl
 unchanged boxes (Refusal.Device r) = refl
+unchanged boxes (Refusal.Verilog v) = refl
 unchanged boxes (Refusal.TooLong n) = refl
 unchanged boxes Refusal.NoMemory = inl refl

@@ -22,6 +22,7 @@ is_settled files rr (Refusal.ReadFailed p) quiet nine c = quiet c
 is_settled files rr (Refusal.Absent p) quiet nine c = tt
 is_settled files rr (Refusal.Misfit m) quiet nine c = tt
 is_settled files rr (Refusal.Device d) quiet nine c = tt
+is_settled files rr (Refusal.Verilog v) quiet nine c = tt
 is_settled files rr Refusal.NoMemory quiet nine c = nine refl
 
 pub complete : (words : Words) (boxes left : Boxes) (f : Files) (f' : Option Files) (s s' : Option (List ℕ)) (rr wr : Type 0) (n : ℕ)

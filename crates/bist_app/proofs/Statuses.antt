@@ -54,6 +54,7 @@ not_eight (Refusal.ReadFailed p) n h k = omega arith
 not_eight (Refusal.Absent p) n h k = omega arith
 not_eight (Refusal.Misfit m) n h k = omega arith
 not_eight (Refusal.Device d) n h k = omega arith
+not_eight (Refusal.Verilog v) n h k = omega arith
 not_eight Refusal.NoMemory n h k = omega arith
 
 two_is_usage : (e : Refusal) (n : ℕ) → n ≡ status_of e → n ≡ 2 → e ≡ Refusal.Usage
@@ -67,6 +68,7 @@ two_is_usage (Refusal.ReadFailed p) n h k = absurd (omega arith)
 two_is_usage (Refusal.Absent p) n h k = absurd (omega arith)
 two_is_usage (Refusal.Misfit m) n h k = absurd (omega arith)
 two_is_usage (Refusal.Device d) n h k = absurd (omega arith)
+two_is_usage (Refusal.Verilog v) n h k = absurd (omega arith)
 two_is_usage Refusal.NoMemory n h k = absurd (omega arith)
 
 read_cause : (files : Option Files) (rr : Type 0) (e : Refusal) (n : ℕ) → n ≡ status_of e → n ≡ 7 → HasReadCause {A = Done} files rr (Err e) → rr
@@ -80,6 +82,7 @@ read_cause files rr (Refusal.ReadFailed p) n h k c = c
 read_cause files rr (Refusal.Absent p) n h k c = absurd (omega arith)
 read_cause files rr (Refusal.Misfit m) n h k c = absurd (omega arith)
 read_cause files rr (Refusal.Device d) n h k c = absurd (omega arith)
+read_cause files rr (Refusal.Verilog v) n h k c = absurd (omega arith)
 read_cause files rr Refusal.NoMemory n h k c = absurd (omega arith)
 
 -- how a refusal's status comes: its own, or 9
@@ -113,6 +116,7 @@ silent_cause rr (Refusal.ReadFailed p) n h k c = c
 silent_cause rr (Refusal.Absent p) n h k c = c
 silent_cause rr (Refusal.Misfit m) n h k c = absurd (omega arith)
 silent_cause rr (Refusal.Device d) n h k c = absurd (omega arith)
+silent_cause rr (Refusal.Verilog v) n h k c = absurd (omega arith)
 silent_cause rr Refusal.NoMemory n h k c = absurd (omega arith)
 
 -- over files that aren't told, a file is absent or too large only where the count of reads rose

@@ -1,12 +1,16 @@
 -- What a command ends with: its plan as plain data, the statuses and the said lines.
-use Rattle.std.specs.Prelude.{◌++◌, ◌==◌, ℕ, zero, suc, Bool, true, false, if◌then◌else◌, List, [], map, Result, Ok, Err, codes, decimal}
+use Rattle.std.specs.Prelude.{◌++◌, ◌==◌, ℕ, zero, suc, Bool, true, false, if◌then◌else◌, List, [], ◌∷◌, map, Result, Ok, Err, codes, decimal}
 use Rattle.std.specs.Int.{bit_at}
 use Rattle.march_core.specs.declared.fault.MarchFault.{MarchFault}
 use Rattle.fault_syntax.specs.declared.fault.FaultFault.{FaultFault}
 use Rattle.memory_desc.specs.declared.fault.Field.{Field}
 use Rattle.memory_desc.specs.declared.fault.MemoryFault.{MemoryFault}
+use Rattle.arrayvec.specs.ArrayString.{ArrayString}
+use Rattle.verilog_tree.specs.declared.fault.TreeFault.{TreeFault}
+use Rattle.verilog_read.specs.declared.fault.ReadFault.{ReadFault}
 use Rattle.bist_endings.specs.declared.ending.Refusal.{Refusal}
 use Rattle.bist_endings.specs.declared.ending.DeviceRefusal.{DeviceRefusal}
+use Rattle.bist_endings.specs.declared.ending.VerilogRefusal.{VerilogRefusal}
 use Rattle.bist_endings.specs.declared.ending.Misfit.{Misfit}
 use Rattle.bist_endings.specs.declared.ending.Output.{Output}
 use Rattle.bist_endings.specs.declared.ending.Plan.{Plan}
@@ -44,6 +48,7 @@ status_of (Refusal.Absent position) = 10
 status_of (Refusal.Device refusal) = 11
 status_of (Refusal.TooLong number) = 12
 status_of (Refusal.Misfit misfit) = 13
+status_of (Refusal.Verilog refusal) = 14
 
 abbrev pub found_status : Bool → ℕ
 found_status false = 0
@@ -114,6 +119,39 @@ device_text (DeviceRefusal.TooSmall words room) = codes "V1 words " ++ decimal w
 device_text DeviceRefusal.BadPlace = codes "V2"
 device_text DeviceRefusal.NoBox = codes "V4"
 
+-- why a text is no module's: its code and byte (want of memory has a refusal of its own)
+abbrev pub read_fault_text : ReadFault → List ℕ
+read_fault_text (ReadFault.Unexpected byte) = codes "L1 byte " ++ decimal byte
+read_fault_text ReadFault.Truncated = codes "L2"
+read_fault_text (ReadFault.TooDeep byte) = codes "L3 byte " ++ decimal byte
+read_fault_text (ReadFault.LongName byte) = codes "L4 byte " ++ decimal byte
+read_fault_text (ReadFault.OutOfRange byte) = codes "L5 byte " ++ decimal byte
+read_fault_text ReadFault.NoMemory = codes "L6"
+
+-- names in their order, each behind a blank
+abbrev pub names_text : List ArrayString → List ℕ
+names_text [] = []
+names_text (name ∷ names) = codes " " ++ name.bytes ++ names_text names
+
+-- why a module can't be run: its code, and the name, the two widths or the names of a loop (want of memory has a refusal of its own)
+abbrev pub tree_fault_text : TreeFault → List ℕ
+tree_fault_text (TreeFault.Unknown name) = codes "N1 " ++ name.bytes
+tree_fault_text (TreeFault.Twice name) = codes "N2 " ++ name.bytes
+tree_fault_text (TreeFault.Width left right) = codes "N3 " ++ decimal left ++ codes " " ++ decimal right
+tree_fault_text (TreeFault.TwoBlocks name) = codes "N4 " ++ name.bytes
+tree_fault_text (TreeFault.NotAssignable name) = codes "N5 " ++ name.bytes
+tree_fault_text (TreeFault.SelectRange name) = codes "N6 " ++ name.bytes
+tree_fault_text (TreeFault.Loop names) = codes "N7" ++ names_text names.items
+tree_fault_text TreeFault.NoMemory = codes "N8"
+tree_fault_text (TreeFault.Undriven name) = codes "N9 " ++ name.bytes
+tree_fault_text (TreeFault.Clock name) = codes "N10 " ++ name.bytes
+
+-- why a text gives no module that can be run beside the memory
+abbrev pub verilog_text : VerilogRefusal → List ℕ
+verilog_text (VerilogRefusal.Read fault) = read_fault_text fault
+verilog_text (VerilogRefusal.Tree fault) = tree_fault_text fault
+verilog_text (VerilogRefusal.WrongPort name) = codes "B2 " ++ name.bytes
+
 abbrev pub refusal_line : Refusal → List ℕ
 refusal_line Refusal.Usage = codes "usage\n"
 refusal_line (Refusal.March fault) = codes "march " ++ march_fault_text fault ++ codes "\n"
@@ -126,4 +164,5 @@ refusal_line (Refusal.TooLong number) = numbered_line (codes "too long ") number
 refusal_line (Refusal.Misfit Misfit.Aggressor) = codes "misfit aggressor\n"
 refusal_line (Refusal.Misfit Misfit.Directions) = codes "misfit directions\n"
 refusal_line (Refusal.Device refusal) = codes "device " ++ device_text refusal ++ codes "\n"
+refusal_line (Refusal.Verilog refusal) = codes "verilog " ++ verilog_text refusal ++ codes "\n"
 refusal_line Refusal.NoMemory = no_memory_line

@@ -1,6 +1,8 @@
 -- Checks that have one settled outcome alone, and commands that have one answer.
-use Rattle.std.specs.Prelude.{◌≡◌, ℕ, List, Result, Ok, Err}
+use Rattle.std.specs.Prelude.{◌≡◌, ◌⊎◌, ℕ, List, Result, Ok, Err}
+use Rattle.verilog_tree.specs.declared.fault.TreeFault.{TreeFault}
 use Rattle.bist_endings.specs.declared.ending.Refusal.{Refusal}
+use Rattle.bist_endings.specs.declared.ending.VerilogRefusal.{VerilogRefusal}
 use Rattle.bist_endings.specs.Ending.{Done, status_of, found_status, refusal_line}
 
 -- not a refusal that the memory or the host's faults choose
@@ -30,3 +32,32 @@ answer_of (Err refusal) = record { status = status_of refusal; line = refusal_li
 -- two settled outcomes that a command's checks allow have the same status and the same line
 abbrev pub HasOneAnswer : (Result Done Refusal → Type 0) → Type 0
 HasOneAnswer checks = (r s : Result Done Refusal) → checks r → checks s → IsSettled r → IsSettled s → answer_of r ≡ answer_of s
+
+-- a loop of wires, which may be told by the names of another one too
+abbrev pub TellsLoop : Refusal → Type 0
+TellsLoop (Refusal.Verilog (VerilogRefusal.Tree (TreeFault.Loop names))) = Unit {0}
+TellsLoop other = ⊥
+
+abbrev pub RefusesLoop : {A : Type 0} → Result A Refusal → Type 0
+RefusesLoop (Ok value) = ⊥
+RefusesLoop (Err refusal) = TellsLoop refusal
+
+-- the same, but for the names of a loop of wires: two settled outcomes have the same status and the same line, or both tell a loop
+abbrev pub HasOneAnswerButNames : (Result Done Refusal → Type 0) → Type 0
+HasOneAnswerButNames checks =
+    (r s : Result Done Refusal) → checks r → checks s → IsSettled r → IsSettled s → (answer_of r ≡ answer_of s) ⊎ (RefusesLoop r × RefusesLoop s)
+
+-- what two refusals say: the same status and the same line, or a loop both
+abbrev pub SayAlike : Refusal → Refusal → Type 0
+SayAlike e d = (answer_of (Err e) ≡ answer_of (Err d)) ⊎ (TellsLoop e × TellsLoop d)
+
+-- the same value, or refusals that say the same
+abbrev pub AreAlike : {A : Type 0} → Result A Refusal → Result A Refusal → Type 0
+AreAlike (Ok a) (Ok b) = a ≡ b
+AreAlike (Ok a) (Err d) = ⊥
+AreAlike (Err e) (Ok b) = ⊥
+AreAlike (Err e) (Err d) = SayAlike e d
+
+-- two settled outcomes that a check allows have the same value, or say the same
+abbrev pub HasOneValue : {A : Type 0} → (Result A Refusal → Type 0) → Type 0
+HasOneValue {A} check = (r s : Result A Refusal) → check r → check s → IsSettled r → IsSettled s → AreAlike r s

@@ -6,6 +6,7 @@ ghost use Rattle.bist_endings.specs.Conclude.{NamesWords, WritesInOrder, HasWrit
 use crate::ending::{Ended, Misfit, Output, Plan, Refusal};
 use crate::lines::{device_line, fault_line, march_line, numbered};
 use crate::memory_lines::memory_line;
+use crate::verilog_lines::verilog_line;
 use bist_host::{Host, HostFault};
 use std::alloc::{AllocError, Global};
 
@@ -73,12 +74,13 @@ fn line_of_refusal(alloc: Global, refusal: Refusal) -> Result<Vec<u8>, AllocErro
         Refusal::Misfit(Misfit::Aggressor) => Vec::from_slice(alloc, b"misfit aggressor\n"),
         Refusal::Misfit(Misfit::Directions) => Vec::from_slice(alloc, b"misfit directions\n"),
         Refusal::Device(refusal) => device_line(alloc, refusal),
+        Refusal::Verilog(refusal) => verilog_line(alloc, refusal),
         Refusal::NoMemory => Vec::from_slice(alloc, b"no memory\n"),
     }
 }
 
-fn status(refusal: Refusal) -> u8
-    ensures { result ≡ status_of refusal }
+fn status(refusal: &Refusal) -> u8
+    ensures { result ≡ status_of refusal.now }
 {
     match refusal {
         Refusal::Usage => 2,
@@ -92,6 +94,7 @@ fn status(refusal: Refusal) -> u8
         Refusal::Device(_) => 11,
         Refusal::TooLong { .. } => 12,
         Refusal::Misfit(_) => 13,
+        Refusal::Verilog(_) => 14,
     }
 }
 
@@ -102,14 +105,11 @@ fn refuse<H: Host>(alloc: Global, host: &mut H, refusal: Refusal) -> Ended
     ensures writes { H.write_faults host.old ≤ H.write_faults host.new }
     ensures answer { RefusalEnds refusal (H.said host.old) (H.said host.new) (Rose (H.write_faults host.old) (H.write_faults host.new)) result.status }
 {
+    let status = status(&refusal);
     match line_of_refusal(alloc, refusal) {
         Ok(line) => match say_line(host, &line) {
-            SayEnd::Said => Ended {
-                status: status(refusal),
-            },
-            SayEnd::Failed => Ended {
-                status: status(refusal),
-            },
+            SayEnd::Said => Ended { status },
+            SayEnd::Failed => Ended { status },
             SayEnd::NoMemory => Ended { status: 9 },
         },
         Err(AllocError) => end_without_memory(host),

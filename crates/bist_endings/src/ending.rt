@@ -1,6 +1,8 @@
 use fault_syntax::FaultFault;
 use march_core::MarchFault;
 use memory_desc::MemoryFault;
+use verilog_read::ReadFault;
+use verilog_tree::{Name, TreeFault};
 
 /// What the program ends with.
 #[derive(Clone, Copy, Debug, PartialEq, Eq)]
@@ -28,8 +30,19 @@ pub enum DeviceRefusal {
     NoBox,
 }
 
+/// Why the text of a module gives none that can be run beside a memory. Want of memory is a refusal of its own.
+#[derive(Drop)]
+pub enum VerilogRefusal {
+    /// L1 to L5: it is the text of no module.
+    Read(ReadFault),
+    /// N1 to N7, N9 and N10: the module breaks a rule, or its wires form a loop.
+    Tree(TreeFault),
+    /// B2: this port is missing, goes another way or has another width; or else it is one too many.
+    WrongPort { name: Name },
+}
+
 /// Why a command is refused. A position is that of a file's word, the command itself being 0.
-#[derive(Clone, Copy)]
+#[derive(Drop)]
 pub enum Refusal {
     /// The words have no command's shape.
     Usage,
@@ -46,6 +59,8 @@ pub enum Refusal {
     Device(DeviceRefusal),
     /// The test takes this many cycles, which is too many.
     TooLong { cycles: u64 },
+    /// The file is no module that can be run beside the memory.
+    Verilog(VerilogRefusal),
     NoMemory,
 }
 

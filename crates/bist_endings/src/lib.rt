@@ -6,9 +6,10 @@ mod concluding;
 mod ending;
 mod lines;
 mod memory_lines;
+mod verilog_lines;
 mod words;
 
 pub use concluding::conclude;
-pub use ending::{DeviceRefusal, Ended, Misfit, Output, Plan, Refusal};
+pub use ending::{DeviceRefusal, Ended, Misfit, Output, Plan, Refusal, VerilogRefusal};
 pub use lines::{numbered, push_number};
 pub use words::{are_plain, number_of};
