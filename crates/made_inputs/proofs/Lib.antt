@@ -1,0 +1,4 @@
+pub mod MarchLaws
+pub mod LineLaws
+pub mod MemoryLaws
+pub mod ListLaws

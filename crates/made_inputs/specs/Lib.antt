@@ -1,0 +1,3 @@
+pub mod MadeMarch
+pub mod MadeMemory
+pub mod MadeList

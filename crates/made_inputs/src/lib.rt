@@ -1,0 +1,10 @@
+//! Large inputs that a number makes: a march, a memory and a list of fault primitives, each within every limit, and their texts.
+#![tactic(auto)]
+
+mod made_list;
+mod made_march;
+mod made_memory;
+
+pub use made_list::{items_of_list, list_text};
+pub use made_march::{march_of, march_text};
+pub use made_memory::memory_of;
