@@ -34,6 +34,7 @@ pub mod ContentReads
 pub mod ContentLoops
 pub mod ContentSubjects
 pub mod Searches
+pub mod KeptNumbers
 pub mod Repeats
 pub mod LineTests
 pub mod LineChecks

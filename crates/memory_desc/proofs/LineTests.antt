@@ -32,7 +32,7 @@ no_subject q P e = (let z : ⊥ = cc in absurd z)
 
 -- ---- two subjects
 
-eqb_turns : (i j : ℕ) → (i == j) ≡ (j == i)
+pub eqb_turns : (i j : ℕ) → (i == j) ≡ (j == i)
 eqb_turns i j =
     at_bool (λ t. (i == j) ≡ t → (i == j) ≡ (j == i)) (i == j)
     (λ e _. e ∙ sym (eq-eqb j i (sym (eqb-true i j e))))

@@ -1,6 +1,8 @@
 //! The numbers of the rows that a search has met.
 
-ghost use Rattle.std.specs.Prelude.{◌≡◌, ℕ, IsTrue};
+ghost use Rattle.std.specs.Prelude.{◌≡◌, ◌≤◌, ◌↔◌, ℕ, IsTrue, Contains, length, take};
+ghost use Rattle.std.specs.List.Sorted.{IsNonDecreasing, IsPermutation};
+ghost use Rattle.std.proofs.Props.{props};
 ghost use Rattle.memory_desc.specs.Met.{MayHave, MayBeMet};
 
 use crate::content::Subject;
@@ -10,13 +12,36 @@ use arrayvec::ArrayVec;
 #[derive(Drop)]
 pub struct RowNumbers {
     numbers: ArrayVec<u32, 65536>,
+    /// How many of them, from the first on, ascend. Those behind came since they were sorted.
+    sorted: usize,
+    ghost within: { sorted ≤ length numbers.items },
+    ghost ascending: { IsNonDecreasing (take sorted numbers.items) } by { Prim.hlevel props },
 }
 
 impl RowNumbers {
     pub fn new() -> RowNumbers {
         RowNumbers {
             numbers: ArrayVec::new(),
+            sorted: 0,
         }
+    }
+
+    fn contains(&self, number: u32) -> bool
+        ensures { IsTrue result ↔ Contains self.now.numbers.items number }
+    {
+        let (ascending, recent) = self.numbers.as_slice().split_at(self.sorted);
+        recent.contains(&number) || ascending.binary_search(&number).is_ok()
+    }
+
+    /// Sorts the numbers where many came since they were sorted.
+    fn settle(&mut self)
+        ensures { IsPermutation self.old.numbers.items self.new.numbers.items }
+    {
+        if self.numbers.len() - self.sorted < 1024 {
+            return;
+        }
+        self.numbers.as_mut_slice().sort_unstable();
+        self.sorted = self.numbers.len();
     }
 
     /// Keeps a number, and answers whether it is a new one. Where there is no room none is said to be new.
@@ -25,10 +50,11 @@ impl RowNumbers {
         ensures kept { MayHave self.new.numbers.items number }
         ensures stay { (n : ℕ) → MayHave self.old.numbers.items n → MayHave self.new.numbers.items n }
     {
-        if self.numbers.is_full() || self.numbers.as_slice().contains(&number) {
+        if self.numbers.is_full() || self.contains(number) {
             return false;
         }
         self.numbers.push(number);
+        self.settle();
         true
     }
 
