@@ -3,7 +3,7 @@ use Rattle.std.proofs.Common.{◌≡◌, ◌∙◌, Result, Ok, Err, refl, sym, 
 use Rattle.bist_endings.specs.declared.ending.Refusal.{Refusal}
 use Rattle.bist_endings.specs.Then.{Then}
 use Rattle.bist_endings.specs.Ending.{Done}
-use Rattle.bist_endings.specs.OneOutcome.{IsSettled, IsSettledRefusal, HasOneOutcome, answer_of, HasOneAnswer, TellsLoop, RefusesLoop, HasOneAnswerButNames, AreAlike, HasOneValue}
+use Rattle.bist_endings.specs.OneOutcome.{IsSettled, IsSettledRefusal, HasOneOutcome, answer_of, HasOneAnswer, RefusesLoop, HasOneAnswerButNames, AreAlike, HasOneValue}
 
 same_value : {A : Type 0} (a b : A) (r s : Result A Refusal) → r ≡ Ok a → s ≡ Ok b → r ≡ s → a ≡ b
 same_value a b r s x y e = cc

@@ -1,3 +1,6 @@
 pub mod Causes
 pub mod Usage
 pub mod OneInput
+pub mod Designing
+pub mod OneDesign
+pub mod DesignUsage

@@ -17,7 +17,7 @@ NeverUsage check = check (Err Refusal.Usage) → ⊥
 pub turned : {A B : Type 0} (check : Result A Refusal → Type 0) (outcome : Result B Refusal) (e : Refusal) → outcome ≡ Err Refusal.Usage → outcome ≡ Err e → check (Err e) → check (Err Refusal.Usage)
 turned {A} {B} check outcome e usage is h = let same : e ≡ Refusal.Usage = cc in subst (λ f. check (Err f)) same h
 
-bytes_never : (files : Option Files) (name : List ℕ) (position : ℕ) → NeverUsage (GivesBytes files name position)
+pub bytes_never : (files : Option Files) (name : List ℕ) (position : ℕ) → NeverUsage (GivesBytes files name position)
 bytes_never (Some files) name position h = h
 bytes_never None name position h = h
 

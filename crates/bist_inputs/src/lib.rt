@@ -1,11 +1,13 @@
-//! What the input files and texts of a command give: the bytes of a named file, its march, its list of items or its
-//! memory, or the refusal of the first check that does not pass.
+//! What the input files and texts of a command give: the bytes of a named file, its march, its list of items, its memory or its
+//! module, or the refusal of the first check that does not pass.
 #![tactic(auto)]
 
+mod designs;
 mod inputs;
 mod memories;
 mod texts;
 
+pub use designs::read_design_input;
 pub use inputs::read_march_input;
 pub use memories::read_memory_input;
 pub use texts::{give_prim, read_list_input};

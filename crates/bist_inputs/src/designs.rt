@@ -1,0 +1,89 @@
+ghost use Rattle.std.specs.Prelude.{◌≡◌, ◌<◌, ◌≤◌, ◌⊎◌, true, Err, IfOk, IfErr, IsTrue, length};
+ghost use Rattle.bist_host.specs.Files.{Rose};
+ghost use Rattle.verilog_tree.specs.Plain.{plain_module};
+ghost use Rattle.verilog_tree.specs.Formed.{formed};
+ghost use Rattle.verilog_read.specs.Refusals.{IsFirst};
+ghost use Rattle.verilog_cycle.specs.Design.{IsNew};
+ghost use Rattle.bist_endings.specs.Words.{word};
+ghost use Rattle.bist_inputs.specs.Inputs.{HasReadCause, IsOwnRefusal};
+ghost use Rattle.bist_inputs.specs.Designs.{plain_tree, tree_of, GivesTree, GivesRunnable, GivesModule, InputModule};
+
+use crate::inputs::read_input;
+use bist_endings::{Refusal, VerilogRefusal};
+use bist_host::Host;
+use std::alloc::Global;
+use verilog_cycle::{Design, elaborate};
+use verilog_read::{ReadFault, read_module};
+use verilog_tree::{Module, TreeFault};
+
+/// Why a text is refused; want of memory is no refusal of a text.
+#[tactic(auto, unfolding(crate::specs::Designs::GivesTree))]
+fn text_refusal(bytes: &[u8], fault: ReadFault) -> Refusal
+    requires { (fault ≡ ReadFault.NoMemory) ⊎ IsFirst bytes.now fault }
+    ensures answer { GivesTree bytes.now (Err result) }
+    ensures own { IsOwnRefusal result }
+{
+    if fault == ReadFault::NoMemory {
+        return Refusal::NoMemory;
+    }
+    Refusal::Verilog(VerilogRefusal::Read(fault))
+}
+
+/// The module that a text spells.
+#[tactic(auto, unfolding(crate::specs::Designs::GivesTree))]
+fn give_tree(alloc: Global, bytes: &[u8]) -> Result<Module, Refusal>
+    ensures answer { GivesTree bytes.now (plain_tree result) }
+    ensures own { IfErr result IsOwnRefusal }
+    ensures sizes { IfOk result (λ m. formed (plain_module m) ≡ true) }
+{
+    match read_module(alloc, bytes) {
+        Ok(module) => Ok(module),
+        Err(fault) => Err(text_refusal(bytes, fault)),
+    }
+}
+
+/// The design of a module, whose registers hold 0.
+#[tactic(auto, using(crate::proofs::Designing::can_run, crate::proofs::Designing::own_new, crate::proofs::Designing::broken), unfolding(crate::specs::Designs::GivesRunnable))]
+fn give_design(alloc: Global, module: &Module) -> Result<Design, Refusal>
+    requires { IsTrue (formed (plain_module «module».now)) }
+    ensures answer { GivesRunnable (plain_module «module».now) (tree_of result) }
+    ensures own { IfErr result IsOwnRefusal }
+    ensures new { IfOk result (λ design. IsNew design.tree design) }
+{
+    match elaborate(alloc, module) {
+        Ok(design) => Ok(design),
+        Err(TreeFault::NoMemory) => Err(Refusal::NoMemory),
+        Err(fault) => Err(Refusal::Verilog(VerilogRefusal::Tree(fault))),
+    }
+}
+
+/// The design of a text.
+fn give_module(alloc: Global, bytes: &[u8]) -> Result<Design, Refusal>
+    ensures answer { GivesModule bytes.now (tree_of result) }
+    ensures own { IfErr result IsOwnRefusal }
+    ensures new { IfOk result (λ design. IsNew design.tree design) }
+{
+    let module = give_tree(alloc, bytes)?;
+    give_design(alloc, &module)
+}
+
+/// The design of the file that a word names, whose registers hold 0.
+#[tactic(auto, using(crate::proofs::Causes::own_cause), unfolding(crate::specs::Designs::InputModule))]
+pub fn read_design_input<H: Host>(
+    alloc: Global,
+    host: &mut H,
+    words: &[&str],
+    position: usize,
+) -> Result<Design, Refusal>
+    requires { position < length words.now }
+    ensures files { H.files host.new ≡ H.files host.old }
+    ensures said { H.said host.new ≡ H.said host.old }
+    ensures writes { H.write_faults host.new ≡ H.write_faults host.old }
+    ensures reads { H.read_faults host.old ≤ H.read_faults host.new }
+    ensures answer { InputModule (H.files host.old) words.now position (tree_of result) }
+    ensures new { IfOk result (λ design. IsNew design.tree design) }
+    ensures cause { HasReadCause (H.files host.old) (Rose (H.read_faults host.old) (H.read_faults host.new)) result }
+{
+    let bytes = read_input(host, words, position)?;
+    give_module(alloc, &bytes)
+}
