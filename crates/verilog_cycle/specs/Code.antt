@@ -4,7 +4,7 @@ use Rattle.verilog_tree.specs.declared.tree.UnOp.TheVariants as U
 use Rattle.verilog_tree.specs.declared.tree.BinOp.TheVariants as B
 use Rattle.verilog_tree.specs.Meaning.{prefixed, infixed}
 use Rattle.verilog_cycle.specs.declared.code.Code.{Code}
-use Rattle.verilog_cycle.specs.declared.code.Code.TheOpen.{Code-F, Lit, Net, Part, PickNet, PickBit, Choose, Not, Invert, AllOnes, AnyOne, Parity, Add, Sub, And, Or, Xor, Eq, Ne, Lt, Le, LogAnd, LogOr, Shl, Shr, Concat}
+use Rattle.verilog_cycle.specs.declared.code.Code.TheOpen.{Code-F, Lit, Net, Part, PickNet, PickBit, Choose, Not, Invert, AllOnes, AnyOne, Parity, Odd, Add, Sub, And, Or, Xor, Eq, Ne, Lt, Le, LogAnd, LogOr, Shl, Shr, Concat}
 use Rattle.verilog_cycle.specs.declared.code.Code.TheFolds.{fold-Code}
 
 -- the value at a place, 0 where there is none
@@ -19,6 +19,10 @@ lowered v low = cond (nat_lt low 64) (v / 2 ^ low) 0
 abbrev pub raised : ℕ → ℕ → ℕ
 raised v by = cond (nat_lt by 64) (v * 2 ^ by % 2 ^ 64) 0
 
+-- whether an odd number of bits are 1
+abbrev pub odd : ℕ → ℕ
+odd v = prefixed U.Parity 1 v
+
 -- one node, by the values of its parts; what doesn't depend on a width is the operator of a module's meaning
 abbrev pub layer : List ℕ → Code-F ℕ → ℕ
 layer vs (Lit v) = v
@@ -31,7 +35,8 @@ layer vs (Not a) = prefixed U.Not 1 a.value
 layer vs (Invert ones a) = ones - a.value
 layer vs (AllOnes ones a) = cond (nat_eq a.value ones) 1 0
 layer vs (AnyOne a) = prefixed U.AnyOne 1 a.value
-layer vs (Parity a) = prefixed U.Parity 1 a.value
+layer vs (Parity a) = odd a.value
+layer vs (Odd n mask) = odd (bit_and (at vs n) mask)
 layer vs (Add ones a b) = bit_and ((a.value + b.value) % 2 ^ 64) ones
 layer vs (Sub ones a b) = bit_and ((a.value + 2 ^ 64 - b.value) % 2 ^ 64) ones
 layer vs (And a b) = infixed B.And 1 a.value b.value

@@ -1,7 +1,7 @@
 //! Expressions over numbered values, in the form that runs fast: a leaf is read without a call, and a choice by a
 //! whole value or by one bit is one node, of which only the chosen side is worked out.
 ghost use Rattle.std.specs.Prelude.{◌≡◌, ◌+◌, ◌-◌, ◌%◌, ◌^◌, nat_eq, bit_and};
-ghost use Rattle.verilog_cycle.specs.Code.{at, lowered, raised, meaning};
+ghost use Rattle.verilog_cycle.specs.Code.{at, lowered, raised, odd, meaning};
 
 /// An expression. A number stands for the place of a value, a `u64` beside an operator for the ones of its width.
 #[derive(Drop)]
@@ -20,6 +20,8 @@ pub(crate) enum Code {
     AllOnes(u64, Box<Code>),
     AnyOne(Box<Code>),
     Parity(Box<Code>),
+    /// Whether an odd number of these bits of a value are 1.
+    Odd(usize, u64),
     Add(u64, Box<Code>, Box<Code>),
     Sub(u64, Box<Code>, Box<Code>),
     And(Box<Code>, Box<Code>),
@@ -53,6 +55,13 @@ fn lowered(value: u64, low: u64) -> u64
     ensures { result ≡ lowered value low }
 {
     if low < 64 { value >> low } else { 0 }
+}
+
+#[inline]
+fn odd(value: u64) -> u64
+    ensures { result ≡ odd value }
+{
+    (value.count_ones() % 2) as u64
 }
 
 #[inline]
@@ -99,6 +108,7 @@ fn quick(x: &Code, values: &[u64]) -> u64
         Code::Lit(v) => *v,
         Code::Net(place) => at(values, *place),
         Code::Part(place, low, ones) => lowered(at(values, *place), *low as u64) & *ones,
+        Code::Odd(place, mask) => odd(at(values, *place) & *mask),
         _ => value(x, values),
     }
 }
@@ -121,7 +131,8 @@ fn operated(x: &Code, values: &[u64]) -> u64
         Code::Invert(ones, a) => (*ones).saturating_sub(quick(a, values)),
         Code::AllOnes(ones, a) => (quick(a, values) == *ones) as u64,
         Code::AnyOne(a) => (quick(a, values) != 0) as u64,
-        Code::Parity(a) => (quick(a, values).count_ones() % 2) as u64,
+        Code::Parity(a) => odd(quick(a, values)),
+        Code::Odd(place, mask) => odd(at(values, *place) & *mask),
         Code::Add(ones, a, b) => quick(a, values).wrapping_add(quick(b, values)) & *ones,
         Code::Sub(ones, a, b) => quick(a, values).wrapping_sub(quick(b, values)) & *ones,
         Code::And(a, b) => quick(a, values) & quick(b, values),

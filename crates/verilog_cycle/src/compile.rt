@@ -1,8 +1,8 @@
 //! Expressions of a module, made into code over the places of values.
-ghost use Rattle.std.specs.Prelude.{◌≡◌, ℕ, ◌+◌, ◌-◌, ◌%◌, ◌^◌, ◌≤◌, List, bit_and, cond, map, nat_eq, IfOk};
+ghost use Rattle.std.specs.Prelude.{◌≡◌, ℕ, ◌+◌, ◌-◌, ◌%◌, ◌^◌, ◌≤◌, List, bit_and, cond, map, nat_eq, IfOk, IfSome};
 ghost use Rattle.verilog_tree.specs.Plain.{plain, expressions, Expression, Net, BitSelect, PartSelect, Literal, Prefixed, Infixed, Conditional, Expressions, NoMore, Followed};
 ghost use Rattle.verilog_tree.specs.Meaning.{prefixed_width, infixed_width};
-ghost use Rattle.verilog_cycle.specs.Code.{at, lowered, raised, meaning};
+ghost use Rattle.verilog_cycle.specs.Code.{at, lowered, raised, odd, meaning};
 ghost use Rattle.verilog_cycle.specs.Compile.{prefixed_code, infixed_code, Tested, Compiles, JoinsParts};
 ghost use Rattle.verilog_cycle.specs.Scope.{scope_widths, scope_places};
 
@@ -37,6 +37,28 @@ fn ones(width: u64) -> u64
     }
 }
 
+// The value of which some bits are kept, and these bits.
+fn masked(a: &Code) -> Option<(usize, u64)>
+    ensures { IfSome result (λ m. (e : List ℕ) → meaning e a.now ≡ bit_and (at e m.0) m.1) }
+{
+    let Code::And(value, mask) = a else {
+        return None;
+    };
+    match (&**value, &**mask) {
+        (Code::Net(place), Code::Lit(mask)) => Some((*place, *mask)),
+        _ => None,
+    }
+}
+
+fn parity_code(a: Box<Code>) -> Code
+    ensures { (e : List ℕ) → meaning e result ≡ odd (meaning e a.value) }
+{
+    match masked(&a) {
+        Some((place, mask)) => Code::Odd(place, mask),
+        None => Code::Parity(a),
+    }
+}
+
 fn unary_code(op: UnOp, ones: u64, a: Box<Code>) -> Code
     ensures { (e : List ℕ) → meaning e result ≡ prefixed_code op ones (meaning e a.value) }
 {
@@ -45,7 +67,7 @@ fn unary_code(op: UnOp, ones: u64, a: Box<Code>) -> Code
         UnOp::Invert => Code::Invert(ones, a),
         UnOp::AllOnes => Code::AllOnes(ones, a),
         UnOp::AnyOne => Code::AnyOne(a),
-        UnOp::Parity => Code::Parity(a),
+        UnOp::Parity => parity_code(a),
     }
 }
 
