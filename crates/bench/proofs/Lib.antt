@@ -3,3 +3,4 @@ pub mod Outputs
 pub mod Turning
 pub mod Stages
 pub mod Histories
+pub mod OneRun

@@ -13,3 +13,5 @@ pub mod OneBench
 pub mod OneAnswer
 pub mod ReadBack
 pub mod Benched
+pub mod BenchedFile
+pub mod OneBenchFile

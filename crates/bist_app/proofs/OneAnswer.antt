@@ -1,28 +1,23 @@
 -- Over files that are told, words have one settled answer.
-use Rattle.std.proofs.Common.{◌≡◌, List, ℕ, Option, Some, None, Result, Ok, Err, refl, sym, ◌∙◌, ap, subst}
+use Rattle.std.proofs.Common.{◌≡◌, Option, Some, None, sym, ◌∙◌, ap, subst, inl}
 use Rattle.bist_host.specs.Files.{Files}
-use Rattle.march_core.specs.March.{MarchElement}
-use Rattle.fault_core.specs.Primitive.{Primitive}
-use Rattle.memory_desc.specs.Descriptions.{Description}
-use Rattle.bist_endings.specs.declared.ending.Refusal.{Refusal}
-use Rattle.bist_endings.specs.Ending.{Done}
-use Rattle.bist_endings.specs.Then.{Then}
 use Rattle.bist_endings.specs.Words.{Words, word}
-use Rattle.bist_endings.specs.OneOutcome.{HasOneOutcome, HasOneAnswer, answer_of}
-use Rattle.bist_endings.proofs.OneOutcome.{then_answer, outcome_answer}
+use Rattle.bist_endings.specs.OneOutcome.{HasOneAnswer, HasOneAnswerButNames, answer_of}
+use Rattle.bist_endings.proofs.OneOutcome.{then_answer, outcome_answer, but_names}
 use Rattle.bist_inputs.specs.Inputs.{InputMarch, GivesPrim, InputList}
 use Rattle.bist_inputs.specs.Memories.{InputMemory}
 use Rattle.bist_inputs.proofs.OneInput.{input_march_one, prim_one, input_list_one, input_memory_one}
 use Rattle.bist_app.specs.declared.commands.Command.{Command}
 use Rattle.bist_app.specs.declared.sim.SimShape.{SimShape}
-use Rattle.bist_app.specs.Sim.{FitsAggressor, FitsDirections, LeavesSim, DecidesSim, miss_of, places_of}
-use Rattle.bist_app.specs.Judge.{LeavesJudge, DecidesJudge}
-use Rattle.bist_app.specs.Vectors.{FitsLength, LeavesVectors, DecidesVectors}
-use Rattle.bist_app.specs.Compile.{LeavesCompile, DecidesCompile}
+use Rattle.bist_app.specs.Sim.{FitsAggressor, FitsDirections, DecidesSim, miss_of, places_of}
+use Rattle.bist_app.specs.Judge.{DecidesJudge}
+use Rattle.bist_app.specs.Vectors.{FitsLength, DecidesVectors}
+use Rattle.bist_app.specs.Compile.{DecidesCompile}
 use Rattle.bist_app.specs.Run.{DecidesCommand, Decides}
-use Rattle.bist_app.specs.Bench.{Boxes, HasBox, FitsRoom, LeavesBench, DecidesBench}
+use Rattle.bist_app.specs.Bench.{Boxes, HasBox, FitsRoom, DecidesBench}
 use Rattle.bist_app.specs.Answer.{FirstTells, RunHasOneAnswer}
 use Rattle.bist_app.proofs.OneBench.{box_one, room_one, bench_one}
+use Rattle.bist_app.proofs.OneBenchFile.{bench_file_answer}
 use Rattle.bist_app.proofs.OneCommand.{command_one}
 use Rattle.bist_app.proofs.OnePlan.{aggressor_one, directions_one, sim_one, vectors_one, length_one}
 use Rattle.bist_app.proofs.OneJudged.{judge_one, compile_one}
@@ -64,15 +59,16 @@ bench_answer files boxes words tells =
     then_answer (FitsRoom d boxes) _ (room_one d boxes) (λ _.
     bench_one march d boxes tells)))))
 
-command_answer : (files : Files) (boxes : Boxes) (words : Words) (command : Command) → FirstTells boxes → HasOneAnswer (DecidesCommand (Some files) boxes words command)
-command_answer files boxes words (Command.Sim shape) tells = sim_answer files words shape
-command_answer files boxes words Command.Judge tells = judge_answer files words
-command_answer files boxes words Command.Vectors tells = vectors_answer files words
-command_answer files boxes words Command.Compile tells = compile_answer files words
-command_answer files boxes words Command.Bench tells = bench_answer files boxes words tells
+command_answer : (files : Files) (boxes : Boxes) (words : Words) (command : Command) → FirstTells boxes → HasOneAnswerButNames (DecidesCommand (Some files) boxes words command)
+command_answer files boxes words (Command.Sim shape) tells = but_names _ (sim_answer files words shape)
+command_answer files boxes words Command.Judge tells = but_names _ (judge_answer files words)
+command_answer files boxes words Command.Vectors tells = but_names _ (vectors_answer files words)
+command_answer files boxes words Command.Compile tells = but_names _ (compile_answer files words)
+command_answer files boxes words Command.Bench tells = but_names _ (bench_answer files boxes words tells)
+command_answer files boxes words Command.BenchFile tells = bench_file_answer files boxes words tells
 
-decides_answer : (files : Files) (boxes : Boxes) (words : Words) → FirstTells boxes → HasOneAnswer (λ outcome. (left : Boxes) × Decides (Some files) boxes left words outcome)
-decides_answer files boxes words tells r s (x, (None, f)) (y, (None, g)) rs ss = ap answer_of (f.1 ∙ sym g.1)
+decides_answer : (files : Files) (boxes : Boxes) (words : Words) → FirstTells boxes → HasOneAnswerButNames (λ outcome. (left : Boxes) × Decides (Some files) boxes left words outcome)
+decides_answer files boxes words tells r s (x, (None, f)) (y, (None, g)) rs ss = inl (ap answer_of (f.1 ∙ sym g.1))
 decides_answer files boxes words tells r s (x, (None, f)) (y, (Some d, g)) rs ss = absurd (f.0 d g.0)
 decides_answer files boxes words tells r s (x, (Some c, f)) (y, (None, g)) rs ss = absurd (g.0 c f.0)
 decides_answer files boxes words tells r s (x, (Some c, f)) (y, (Some d, g)) rs ss =

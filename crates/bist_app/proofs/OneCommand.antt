@@ -8,8 +8,7 @@ use Rattle.bist_app.specs.declared.sim.SimShape.{SimShape}
 use Rattle.bist_app.specs.Sim.{IsSimShape, IsAggressorWord}
 use Rattle.bist_app.specs.Judge.{IsJudgeShape}
 use Rattle.bist_app.specs.Vectors.{IsVectorsShape}
-use Rattle.bist_app.specs.Compile.{IsCompileShape}
-use Rattle.bist_app.specs.Bench.{IsBenchShape}
+use Rattle.bist_app.specs.BenchFile.{IsBenchFileShape}
 use Rattle.bist_app.specs.Run.{HasShape}
 
 below_64 : (n : ℕ) → n < 10 ^ 9 → n < 2 ^ 64
@@ -45,6 +44,18 @@ judge_or_vectors words h i =
     let differ : 5 ≡ 7 = lengths in
     omega (arith, differ)
 
+judge_or_file : (words : Words) → IsJudgeShape words → IsBenchFileShape words → ⊥
+judge_or_file words h i =
+    let same : codes "judge" ≡ codes "benchfile" = sym h.name ∙ i.name in
+    let differ : 5 ≡ 9 = ap length same in
+    omega (arith, differ)
+
+vectors_or_file : (words : Words) → IsVectorsShape words → IsBenchFileShape words → ⊥
+vectors_or_file words h i =
+    let same : codes "vectors" ≡ codes "benchfile" = sym h.name ∙ i.name in
+    let differ : 7 ≡ 9 = ap length same in
+    omega (arith, differ)
+
 eight_or_four : (words : Words) → length words ≡ 8 → length words ≡ 4 → ⊥
 eight_or_four words h i = omega (arith, h, i)
 
@@ -74,3 +85,14 @@ command_one words Command.Bench Command.Judge h i = absurd (omega (arith, h.coun
 command_one words Command.Bench Command.Vectors h i = absurd (omega (arith, h.count, i.count))
 command_one words Command.Bench Command.Compile h i = absurd (omega (arith, h.count, i.count))
 command_one words Command.Bench Command.Bench h i = refl
+command_one words (Command.Sim s) Command.BenchFile h i = absurd (omega (arith, h.count, i.count))
+command_one words Command.Judge Command.BenchFile h i = absurd (judge_or_file words h i)
+command_one words Command.Vectors Command.BenchFile h i = absurd (vectors_or_file words h i)
+command_one words Command.Compile Command.BenchFile h i = absurd (omega (arith, h.count, i.count))
+command_one words Command.Bench Command.BenchFile h i = absurd (omega (arith, h.count, i.count))
+command_one words Command.BenchFile (Command.Sim t) h i = absurd (omega (arith, h.count, i.count))
+command_one words Command.BenchFile Command.Judge h i = absurd (judge_or_file words i h)
+command_one words Command.BenchFile Command.Vectors h i = absurd (vectors_or_file words i h)
+command_one words Command.BenchFile Command.Compile h i = absurd (omega (arith, h.count, i.count))
+command_one words Command.BenchFile Command.Bench h i = absurd (omega (arith, h.count, i.count))
+command_one words Command.BenchFile Command.BenchFile h i = refl

@@ -7,11 +7,14 @@ use Rattle.bist_app.specs.Judge.{IsJudgeShape}
 use Rattle.bist_app.specs.Vectors.{IsVectorsShape}
 use Rattle.bist_app.specs.Compile.{IsCompileShape}
 use Rattle.bist_app.specs.Bench.{IsBenchShape}
+use Rattle.bist_app.specs.BenchFile.{IsBenchFileShape}
 use Rattle.bist_app.specs.Run.{HasNoShape}
 
-pub no_shape : (words : Words) → ((shape : SimShape) → IsSimShape words shape → ⊥) → (IsJudgeShape words → ⊥) → (IsVectorsShape words → ⊥) → (IsCompileShape words → ⊥) → (IsBenchShape words → ⊥) → HasNoShape words
-no_shape words sim judge vectors compile bench (Command.Sim shape) h = sim shape h
-no_shape words sim judge vectors compile bench Command.Judge h = judge h
-no_shape words sim judge vectors compile bench Command.Vectors h = vectors h
-no_shape words sim judge vectors compile bench Command.Compile h = compile h
-no_shape words sim judge vectors compile bench Command.Bench h = bench h
+pub no_shape : (words : Words) → ((shape : SimShape) → IsSimShape words shape → ⊥) → (IsJudgeShape words → ⊥) → (IsVectorsShape words → ⊥) → (IsCompileShape words → ⊥) → (IsBenchShape words → ⊥)
+    → (IsBenchFileShape words → ⊥) → HasNoShape words
+no_shape words sim judge vectors compile bench file (Command.Sim shape) h = sim shape h
+no_shape words sim judge vectors compile bench file Command.Judge h = judge h
+no_shape words sim judge vectors compile bench file Command.Vectors h = vectors h
+no_shape words sim judge vectors compile bench file Command.Compile h = compile h
+no_shape words sim judge vectors compile bench file Command.Bench h = bench h
+no_shape words sim judge vectors compile bench file Command.BenchFile h = file h

@@ -11,6 +11,8 @@ use Rattle.bist_endings.specs.Ending.{Done}
 use Rattle.bist_endings.specs.Words.{Words, word}
 use Rattle.bist_inputs.specs.Inputs.{InputMarch, GivesPrim, InputList}
 use Rattle.bist_inputs.specs.Memories.{InputMemory}
+use Rattle.bist_inputs.specs.Designs.{InputModule}
+use Rattle.bist_inputs.proofs.DesignUsage.{input_module_never}
 use Rattle.bist_inputs.proofs.Usage.{NeverUsage, turned, input_march_never, prim_never, input_list_never, input_memory_never}
 use Rattle.bist_app.specs.declared.commands.Command.{Command}
 use Rattle.bist_app.specs.declared.sim.SimShape.{SimShape}
@@ -20,6 +22,8 @@ use Rattle.bist_app.specs.Vectors.{FitsLength, LeavesVectors, DecidesVectors}
 use Rattle.bist_app.specs.Compile.{LeavesCompile, DecidesCompile}
 use Rattle.word_device.specs.declared.device.Planted.{Planted}
 use Rattle.bist_app.specs.Bench.{Boxes, HasBox, FitsRoom, LeavesBench, DecidesBench}
+use Rattle.verilog_tree.specs.Plain.{ModuleTree}
+use Rattle.bist_app.specs.BenchFile.{HasPorts, LeavesBenchFile, DecidesBenchFile}
 use Rattle.bist_app.specs.Run.{DecidesCommand}
 
 aggressor_never : (aggressor : Option ℕ) (prim : Primitive) → NeverUsage (FitsAggressor aggressor prim)
@@ -114,9 +118,37 @@ bench_never files boxes words (Ok march, read, (Ok d, given, (Ok _, fits, (Ok _,
     room_never d boxes (turned (FitsRoom d boxes) (let x : Result Done Refusal = Err Refusal.Usage in x) e refl is room)
 bench_never files boxes words (Ok march, read, (Ok d, given, (Ok _, fits, (Ok _, has, (Ok _, room, leaves))))) = bench_leaves_never march d None boxes leaves
 
+ports_never : (d : Description) (mo : ModuleTree) → NeverUsage (HasPorts d mo)
+unfolding HasPorts
+ports_never d mo h = h
+
+file_leaves_never : (mo : ModuleTree) (march : List MarchElement) (d : Description) (boxes : Boxes) → NeverUsage (LeavesBenchFile mo march d boxes)
+unfolding LeavesBenchFile
+file_leaves_never mo march d [] h = h
+file_leaves_never mo march d (box ∷ boxes) h = h
+
+file_never : (files : Option Files) (boxes : Boxes) (words : Words) → NeverUsage (DecidesBenchFile files boxes words)
+file_never files boxes words (Err e, read, is) =
+    input_module_never files words 1 (turned (InputModule files words 1) (let x : Result Done Refusal = Err Refusal.Usage in x) e refl is read)
+file_never files boxes words (Ok mo, read, (Err e, given, is)) =
+    input_march_never files words 2 (turned (InputMarch files words 2) (let x : Result Done Refusal = Err Refusal.Usage in x) e refl is given)
+file_never files boxes words (Ok mo, read, (Ok march, given, (Err e, described, is))) =
+    input_memory_never files words 3 (turned (InputMemory files words 3) (let x : Result Done Refusal = Err Refusal.Usage in x) e refl is described)
+file_never files boxes words (Ok mo, read, (Ok march, given, (Ok d, described, (Err e, fits, is)))) =
+    length_never march d (turned (FitsLength march d) (let x : Result Done Refusal = Err Refusal.Usage in x) e refl is fits)
+file_never files boxes words (Ok mo, read, (Ok march, given, (Ok d, described, (Ok _, fits, (Err e, ports, is))))) =
+    ports_never d mo (turned (HasPorts d mo) (let x : Result Done Refusal = Err Refusal.Usage in x) e refl is ports)
+file_never files boxes words (Ok mo, read, (Ok march, given, (Ok d, described, (Ok _, fits, (Ok _, ports, (Err e, has, is)))))) =
+    box_never boxes (turned (HasBox boxes) (let x : Result Done Refusal = Err Refusal.Usage in x) e refl is has)
+file_never files boxes words (Ok mo, read, (Ok march, given, (Ok d, described, (Ok _, fits, (Ok _, ports, (Ok _, has, (Err e, room, is))))))) =
+    room_never d boxes (turned (FitsRoom d boxes) (let x : Result Done Refusal = Err Refusal.Usage in x) e refl is room)
+file_never files boxes words (Ok mo, read, (Ok march, given, (Ok d, described, (Ok _, fits, (Ok _, ports, (Ok _, has, (Ok _, room, leaves))))))) =
+    file_leaves_never mo march d boxes leaves
+
 pub never_usage : (files : Option Files) (boxes : Boxes) (words : Words) (command : Command) → NeverUsage (DecidesCommand files boxes words command)
 never_usage files boxes words (Command.Sim shape) = sim_never files words shape
 never_usage files boxes words Command.Judge = judge_never files words
 never_usage files boxes words Command.Vectors = vectors_never files words
 never_usage files boxes words Command.Compile = compile_never files words
 never_usage files boxes words Command.Bench = bench_never files boxes words
+never_usage files boxes words Command.BenchFile = file_never files boxes words

@@ -121,7 +121,7 @@ fn end_line(
 }
 
 /// The plan of a run that ended so.
-fn end_plan(
+pub fn end_plan(
     alloc: Global,
     bits: u8,
     fail: bool,

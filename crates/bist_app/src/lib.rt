@@ -2,6 +2,7 @@
 #![tactic(auto)]
 
 mod bench_command;
+mod benchfile_command;
 mod benching;
 mod boxes;
 mod commands;

@@ -1,0 +1,73 @@
+-- The command `benchfile VERILOG MARCH MEMORY`: the module of a file against the first box. Its shape, its checks in their order, and what
+-- it leaves.
+use Rattle.std.specs.Prelude.{◌≡◌, ◌≢◌, ℕ, Bool, List, [], ◌∷◌, Option, Some, None, Result, Ok, Err, length, map, codes}
+use Rattle.bist_host.specs.Files.{Files}
+use Rattle.verilog_tree.specs.Plain.{ModuleTree}
+use Rattle.verilog_cycle.specs.Design.{registers_of}
+use Rattle.march_core.specs.March.{MarchElement}
+use Rattle.memory_desc.specs.Descriptions.{Description}
+use Rattle.self_test.specs.WrongPort.{wrong_port}
+use Rattle.word_device.specs.Boxes.{Tells}
+use Rattle.bench.specs.declared.ending.Seen.{Seen}
+use Rattle.bench.specs.Endings.{Runs}
+use Rattle.bist_endings.specs.declared.ending.Refusal.{Refusal}
+use Rattle.bist_endings.specs.declared.ending.VerilogRefusal.{VerilogRefusal}
+use Rattle.bist_endings.specs.Ending.{Done}
+use Rattle.bist_endings.specs.Then.{Then}
+use Rattle.bist_endings.specs.Words.{Words, word, ArePlain}
+use Rattle.bist_inputs.specs.Inputs.{InputMarch}
+use Rattle.bist_inputs.specs.Memories.{InputMemory}
+use Rattle.bist_inputs.specs.Designs.{InputModule}
+use Rattle.bist_app.specs.Vectors.{FitsLength}
+use Rattle.bist_app.specs.Bench.{Boxes, HasBox, FitsRoom, ready, benched_done}
+
+-- the words have the shape; no two files have one name
+pub record IsBenchFileShape (words : Words) : Type 0 where
+  pub count : length words ≡ 4
+  pub name : word words 0 ≡ codes "benchfile"
+  pub plain : ArePlain words
+  pub module_not_march : word words 1 ≢ word words 2
+  pub module_not_memory : word words 1 ≢ word words 3
+  pub march_not_memory : word words 2 ≢ word words 3
+
+-- the ports are those of a self-test of the memory, in any order, or the first wrong one is named
+unfoldable pub HasPorts : Description → ModuleTree → Result (Unit {0}) Refusal → Type 0
+HasPorts d mo (Ok _) = wrong_port d mo.ports ≡ None
+HasPorts d mo (Err (Refusal.Verilog (VerilogRefusal.WrongPort name))) = wrong_port d mo.ports ≡ Some name.bytes
+HasPorts d mo (Err other) = ⊥
+
+-- each register of the module at 0
+abbrev pub zero_registers : ModuleTree → List ℕ
+zero_registers mo = map (λ _. 0) (registers_of mo)
+
+-- What is left of a run of the module, with its registers at 0, beside a box that tells this at its beginning: the status is 1 exactly
+-- where `fail` is 1 in the last cycle, and the line tells it, the first cycle with `done` and the first read that differs.
+pub record IsFileRun (mo : ModuleTree) (march : List MarchElement) (d : Description) (tells : Tells) (done : Done) : Type 0 where
+  pub now : List ℕ
+  pub after : Tells
+  pub failed : Bool
+  pub done_in : Option ℕ
+  pub seen : Option Seen
+  pub runs : Runs mo march d (zero_registers mo) now tells after failed done_in seen
+  pub done_is : done ≡ benched_done d.bits failed done_in seen
+
+unfoldable pub LeavesBenchFile : ModuleTree → List MarchElement → Description → Boxes → Result Done Refusal → Type 0
+LeavesBenchFile mo march d [] result = ⊥
+LeavesBenchFile mo march d (box ∷ boxes) (Ok done) = IsFileRun mo march d (ready d box.tells) done
+LeavesBenchFile mo march d (box ∷ boxes) (Err Refusal.NoMemory) = Unit {0}
+LeavesBenchFile mo march d (box ∷ boxes) (Err other) = ⊥
+
+-- the checks behind the module in their order
+abbrev pub DecidesFileRun : Option Files → Boxes → Words → ModuleTree → Result Done Refusal → Type 0
+DecidesFileRun files boxes words mo =
+    Then (InputMarch files words 2) (λ march.
+    Then (InputMemory files words 3) (λ d.
+    Then (FitsLength march d) (λ _.
+    Then (HasPorts d mo) (λ _.
+    Then (HasBox boxes) (λ _.
+    Then (FitsRoom d boxes) (λ _.
+    LeavesBenchFile mo march d boxes))))))
+
+-- the module, and then these checks
+abbrev pub DecidesBenchFile : Option Files → Boxes → Words → Result Done Refusal → Type 0
+DecidesBenchFile files boxes words = Then (InputModule files words 1) (λ mo. DecidesFileRun files boxes words mo)

@@ -1,0 +1,172 @@
+//! The command `benchfile`: the module of a file against the first box.
+
+ghost use Rattle.std.specs.Prelude.{◌≡◌, ◌≤◌, ◌<◌, ◌↔◌, ◌⊎◌, ◌∷◌, [], Some, IfOk, IfErr, OnOk, OnErr, IsTrue, length, map, drop, vec_len};
+ghost use Rattle.bist_host.specs.Files.{Rose};
+ghost use Rattle.word_device.specs.Boxes.{told};
+ghost use Rattle.word_device.specs.Ports.{shape_of as memory_shape};
+ghost use Rattle.verilog_cycle.specs.Design.{IsNew};
+ghost use Rattle.bist_endings.specs.Ending.{plain, done_of};
+ghost use Rattle.bist_endings.specs.Conclude.{NamesWords};
+ghost use Rattle.bist_inputs.specs.Inputs.{HasReadCause, IsOwnRefusal};
+ghost use Rattle.bist_app.specs.Bench.{LeavesFirst, ready};
+ghost use Rattle.bist_app.specs.BenchFile.{IsBenchFileShape, HasPorts, IsFileRun, LeavesBenchFile, DecidesFileRun, DecidesBenchFile, zero_registers};
+
+use crate::benching::end_plan;
+use crate::boxes::{fits_room, has_box, take_first};
+use crate::vectors::fit_length;
+use bench::{BenchEnd, BenchRefused, bench};
+use bist_bits::NoMemory;
+use bist_endings::{Plan, Refusal, VerilogRefusal, are_plain};
+use bist_host::Host;
+use bist_inputs::{read_design_input, read_march_input, read_memory_input};
+use march_core::March;
+use memory_desc::Memory;
+use self_test::wrong_port;
+use std::alloc::Global;
+use verilog_cycle::Design;
+use word_device::Device;
+
+/// Whether the words have the shape of `benchfile`.
+pub fn is_benchfile(words: &[&str]) -> bool
+    ensures { IsTrue result ↔ IsBenchFileShape words.now }
+{
+    let ["benchfile", module, march, memory] = *words else {
+        return false;
+    };
+    are_plain(words) && module != march && module != memory && march != memory
+}
+
+/// Refuses ports that aren't those of a self-test of the memory.
+#[tactic(auto, unfolding(crate::specs::BenchFile::HasPorts))]
+fn fit_ports(design: &Design, memory: &Memory) -> Result<(), Refusal>
+    ensures answer { HasPorts memory.now design.now.tree result }
+    ensures own { IfErr result IsOwnRefusal }
+{
+    match wrong_port(design.ports(), memory) {
+        Some(name) => Err(Refusal::Verilog(VerilogRefusal::WrongPort { name })),
+        None => Ok(()),
+    }
+}
+
+/// Runs a design against a box that is fitted.
+fn run_design(
+    alloc: Global,
+    design: &mut Design,
+    march: &March,
+    memory: &Memory,
+    device: Box<dyn Device>,
+) -> Result<Plan, NoMemory>
+    requires zero { design.old.registers ≡ zero_registers design.old.tree }
+    requires fitted { shape_of device ≡ Some (memory_shape memory.now) }
+    ensures run { IfOk result (λ plan. IsFileRun design.old.tree march.now memory.now (tells device) (done_of plan)) }
+    ensures outputs { IfOk result (λ plan. (done_of plan).outputs ≡ []) }
+{
+    let bits = memory.bits();
+    match bench(design, march, memory, device) {
+        Ok(
+            BenchEnd {
+                fail,
+                done_cycle,
+                first,
+                device,
+            },
+        ) => {
+            drop(device);
+            end_plan(alloc, bits, fail, done_cycle, first)
+        }
+        Err(BenchRefused { fault: _, device }) => {
+            drop(device);
+            Err(NoMemory)
+        }
+    }
+}
+
+/// Runs a design against the first box, which is fitted and taken.
+fn run_first(
+    alloc: Global,
+    design: &mut Design,
+    march: &March,
+    memory: &Memory,
+    devices: &mut Vec<Box<dyn Device>>,
+) -> Result<Plan, NoMemory>
+    requires zero { design.old.registers ≡ zero_registers design.old.tree }
+    requires some { 0 < vec_len devices.old }
+    ensures taken { OnOk result (devices.new.items ≡ drop 1 devices.old.items) }
+    ensures kept { OnErr result ((map (λ b. told (room_of b) (shape_of b) (tells b)) devices.new.items ≡ map (λ b. told (room_of b) (shape_of b) (tells b)) devices.old.items) ⊎ (devices.new.items ≡ drop 1 devices.old.items)) }
+    ensures run { IfOk result (λ plan. (b : _) (rest : _) → devices.old.items ≡ b ∷ rest → IsFileRun design.old.tree march.now memory.now (ready memory.now (tells b)) (done_of plan)) }
+    ensures outputs { IfOk result (λ plan. (done_of plan).outputs ≡ []) }
+{
+    let device = take_first(devices, memory)?;
+    run_design(alloc, design, march, memory, device)
+}
+
+/// The plan of the run, or want of memory.
+#[tactic(auto, using(crate::proofs::BenchedFile::benched_file, crate::proofs::Benched::unchanged), unfolding(crate::specs::BenchFile::LeavesBenchFile))]
+fn plan_benchfile(
+    alloc: Global,
+    design: &mut Design,
+    march: &March,
+    memory: &Memory,
+    devices: &mut Vec<Box<dyn Device>>,
+) -> Result<Plan, Refusal>
+    requires zero { design.old.registers ≡ zero_registers design.old.tree }
+    requires some { 0 < vec_len devices.old }
+    ensures own { IfErr result IsOwnRefusal }
+    ensures answer { LeavesBenchFile design.old.tree march.now memory.now (map (λ b. told (room_of b) (shape_of b) (tells b)) devices.old.items) (plain result) }
+    ensures left { LeavesFirst (map (λ b. told (room_of b) (shape_of b) (tells b)) devices.old.items) (map (λ b. told (room_of b) (shape_of b) (tells b)) devices.new.items) (plain result) }
+    ensures outputs { IfOk result (λ plan. (done_of plan).outputs ≡ []) }
+{
+    match run_first(alloc, design, march, memory, devices) {
+        Ok(plan) => Ok(plan),
+        Err(NoMemory) => Err(Refusal::NoMemory),
+    }
+}
+
+/// Decides the rest behind the module.
+fn decide_design<H: Host>(
+    alloc: Global,
+    words: &[&str],
+    host: &mut H,
+    design: &mut Design,
+    devices: &mut Vec<Box<dyn Device>>,
+) -> Result<Plan, Refusal>
+    requires shape { IsBenchFileShape words.now }
+    requires zero { design.old.registers ≡ zero_registers design.old.tree }
+    ensures files { H.files host.new ≡ H.files host.old }
+    ensures said { H.said host.new ≡ H.said host.old }
+    ensures writes { H.write_faults host.new ≡ H.write_faults host.old }
+    ensures reads { H.read_faults host.old ≤ H.read_faults host.new }
+    ensures outputs { IfOk result (λ plan. NamesWords words.now (done_of plan).outputs) }
+    ensures answer { DecidesFileRun (H.files host.old) (map (λ b. told (room_of b) (shape_of b) (tells b)) devices.old.items) words.now design.old.tree (plain result) }
+    ensures left { LeavesFirst (map (λ b. told (room_of b) (shape_of b) (tells b)) devices.old.items) (map (λ b. told (room_of b) (shape_of b) (tells b)) devices.new.items) (plain result) }
+    ensures cause { HasReadCause (H.files host.old) (Rose (H.read_faults host.old) (H.read_faults host.new)) result }
+{
+    let march = read_march_input(host, words, 2)?;
+    let memory = read_memory_input(host, words, 3)?;
+    fit_length(&march, &memory)?;
+    fit_ports(design, &memory)?;
+    has_box(devices)?;
+    fits_room(devices, &memory)?;
+    plan_benchfile(alloc, design, &march, &memory, devices)
+}
+
+/// Runs the module of a file, which may be any with the ports of a self-test, against the first box.
+pub fn decide_benchfile<H: Host>(
+    alloc: Global,
+    words: &[&str],
+    host: &mut H,
+    devices: &mut Vec<Box<dyn Device>>,
+) -> Result<Plan, Refusal>
+    requires { IsBenchFileShape words.now }
+    ensures files { H.files host.new ≡ H.files host.old }
+    ensures said { H.said host.new ≡ H.said host.old }
+    ensures writes { H.write_faults host.new ≡ H.write_faults host.old }
+    ensures reads { H.read_faults host.old ≤ H.read_faults host.new }
+    ensures outputs { IfOk result (λ plan. NamesWords words.now (done_of plan).outputs) }
+    ensures answer { DecidesBenchFile (H.files host.old) (map (λ b. told (room_of b) (shape_of b) (tells b)) devices.old.items) words.now (plain result) }
+    ensures left { LeavesFirst (map (λ b. told (room_of b) (shape_of b) (tells b)) devices.old.items) (map (λ b. told (room_of b) (shape_of b) (tells b)) devices.new.items) (plain result) }
+    ensures cause { HasReadCause (H.files host.old) (Rose (H.read_faults host.old) (H.read_faults host.new)) result }
+{
+    let mut design = read_design_input(alloc, host, words, 1)?;
+    decide_design(alloc, words, host, &mut design, devices)
+}
