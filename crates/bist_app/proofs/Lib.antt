@@ -10,6 +10,8 @@ pub mod OneCommand
 pub mod OnePlan
 pub mod OneJudged
 pub mod OneBench
+pub mod OneMade
 pub mod OneAnswer
 pub mod ReadBack
 pub mod Benched
+pub mod Making

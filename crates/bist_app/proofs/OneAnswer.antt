@@ -26,6 +26,7 @@ use Rattle.bist_app.proofs.OneBench.{box_one, room_one, bench_one}
 use Rattle.bist_app.proofs.OneCommand.{command_one}
 use Rattle.bist_app.proofs.OnePlan.{aggressor_one, directions_one, sim_one, vectors_one, length_one}
 use Rattle.bist_app.proofs.OneJudged.{judge_one, compile_one}
+use Rattle.bist_app.proofs.OneMade.{make_one}
 
 sim_answer : (files : Files) (words : Words) (shape : SimShape) → HasOneAnswer (DecidesSim (Some files) words shape)
 sim_answer files words shape =
@@ -70,6 +71,7 @@ command_answer files boxes words Command.Judge tells = judge_answer files words
 command_answer files boxes words Command.Vectors tells = vectors_answer files words
 command_answer files boxes words Command.Compile tells = compile_answer files words
 command_answer files boxes words Command.Bench tells = bench_answer files boxes words tells
+command_answer files boxes words (Command.Make number) tells = make_one number
 
 decides_answer : (files : Files) (boxes : Boxes) (words : Words) → FirstTells boxes → HasOneAnswer (λ outcome. (left : Boxes) × Decides (Some files) boxes left words outcome)
 decides_answer files boxes words tells r s (x, (None, f)) (y, (None, g)) rs ss = ap answer_of (f.1 ∙ sym g.1)

@@ -20,6 +20,7 @@ use Rattle.bist_app.specs.Vectors.{FitsLength, LeavesVectors, DecidesVectors}
 use Rattle.bist_app.specs.Compile.{LeavesCompile, DecidesCompile}
 use Rattle.word_device.specs.declared.device.Planted.{Planted}
 use Rattle.bist_app.specs.Bench.{Boxes, HasBox, FitsRoom, LeavesBench, DecidesBench}
+use Rattle.bist_app.specs.Make.{LeavesMake}
 use Rattle.bist_app.specs.Run.{DecidesCommand}
 
 aggressor_never : (aggressor : Option ℕ) (prim : Primitive) → NeverUsage (FitsAggressor aggressor prim)
@@ -114,9 +115,14 @@ bench_never files boxes words (Ok march, read, (Ok d, given, (Ok _, fits, (Ok _,
     room_never d boxes (turned (FitsRoom d boxes) (let x : Result Done Refusal = Err Refusal.Usage in x) e refl is room)
 bench_never files boxes words (Ok march, read, (Ok d, given, (Ok _, fits, (Ok _, has, (Ok _, room, leaves))))) = bench_leaves_never march d None boxes leaves
 
+make_never : (number : ℕ) → NeverUsage (LeavesMake number)
+unfolding LeavesMake
+make_never number h = h
+
 pub never_usage : (files : Option Files) (boxes : Boxes) (words : Words) (command : Command) → NeverUsage (DecidesCommand files boxes words command)
 never_usage files boxes words (Command.Sim shape) = sim_never files words shape
 never_usage files boxes words Command.Judge = judge_never files words
 never_usage files boxes words Command.Vectors = vectors_never files words
 never_usage files boxes words Command.Compile = compile_never files words
 never_usage files boxes words Command.Bench = bench_never files boxes words
+never_usage files boxes words (Command.Make number) = make_never number

@@ -4,6 +4,7 @@ ghost use Rattle.bist_app.specs.Run.{HasShape, HasNoShape};
 use crate::bench_command::is_bench;
 use crate::compile::is_compile;
 use crate::judge::is_judge;
+use crate::make::make_number;
 use crate::sim::{SimShape, sim_shape};
 use crate::vectors::is_vectors;
 
@@ -15,6 +16,7 @@ pub enum Command {
     Vectors,
     Compile,
     Bench,
+    Make(u16),
 }
 
 /// The command whose shape the words have.
@@ -35,6 +37,9 @@ pub fn command_of(words: &[&str]) -> Option<Command>
     }
     if is_bench(words) {
         return Some(Command::Bench);
+    }
+    if let Some(number) = make_number(words) {
+        return Some(Command::Make(number));
     }
     None
 }
