@@ -9,7 +9,7 @@ use Rattle.memory_desc.specs.Descriptions.{Description}
 use Rattle.dynamic_core.specs.declared.item.Item.{Item}
 use Rattle.report.specs.declared.judged.JudgedItem.{JudgedItem}
 use Rattle.report.specs.Items.{DetectsItem, IsJudged, AreJudged, item_of, is_covered, covered_count}
-use Rattle.report.specs.Report.{IsMixedReport, total_line}
+use Rattle.report.specs.Report.{IsMixedReport, DetectsOf, total_line}
 use Rattle.report.proofs.Counts.{TellsDetects, tells, counted}
 use Rattle.bist_app.specs.Reported.{SomeEscapes, Reports}
 
@@ -49,3 +49,9 @@ reports_of march memory js items found bytes line is_found report is_line h =
       detects = counted march js h.each;
       last = is_line ∙ ap (λ n. total_line n (covered_count js)) (sym (length-map js item_of));
     }
+
+-- and how many items are detected
+pub covered_of : (march : List MarchElement) (js : List JudgedItem) (items : List Item) (covered : ℕ) → covered ≡ covered_count js → AreJudged march items js
+    → DetectsOf march items covered
+covered_of march js items covered is h =
+    subst (λ (l : List Item). DetectsOf march l covered) h.in_order (subst (DetectsOf march (map item_of js)) (sym is) (counted march js h.each))

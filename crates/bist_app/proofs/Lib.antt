@@ -10,8 +10,10 @@ pub mod OneCommand
 pub mod OnePlan
 pub mod OneJudged
 pub mod OneBench
+pub mod OneMade
 pub mod OneAnswer
 pub mod ReadBack
 pub mod Benched
 pub mod BenchedFile
 pub mod OneBenchFile
+pub mod Making

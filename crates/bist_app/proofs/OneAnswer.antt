@@ -21,6 +21,7 @@ use Rattle.bist_app.proofs.OneBenchFile.{bench_file_answer}
 use Rattle.bist_app.proofs.OneCommand.{command_one}
 use Rattle.bist_app.proofs.OnePlan.{aggressor_one, directions_one, sim_one, vectors_one, length_one}
 use Rattle.bist_app.proofs.OneJudged.{judge_one, compile_one}
+use Rattle.bist_app.proofs.OneMade.{make_one}
 
 sim_answer : (files : Files) (words : Words) (shape : SimShape) → HasOneAnswer (DecidesSim (Some files) words shape)
 sim_answer files words shape =
@@ -66,6 +67,7 @@ command_answer files boxes words Command.Vectors tells = but_names _ (vectors_an
 command_answer files boxes words Command.Compile tells = but_names _ (compile_answer files words)
 command_answer files boxes words Command.Bench tells = but_names _ (bench_answer files boxes words tells)
 command_answer files boxes words Command.BenchFile tells = bench_file_answer files boxes words tells
+command_answer files boxes words (Command.Make number) tells = but_names _ (make_one number)
 
 decides_answer : (files : Files) (boxes : Boxes) (words : Words) → FirstTells boxes → HasOneAnswerButNames (λ outcome. (left : Boxes) × Decides (Some files) boxes left words outcome)
 decides_answer files boxes words tells r s (x, (None, f)) (y, (None, g)) rs ss = inl (ap answer_of (f.1 ∙ sym g.1))

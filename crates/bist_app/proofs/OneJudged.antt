@@ -18,13 +18,13 @@ all_hold P [] x k h below is = absurd (omega (arith, below))
 all_hold P (y ∷ ys) x zero h below is = subst P is h.0
 all_hold P (y ∷ ys) x (suc k) h below is = all_hold P ys x k h.1 (omega (arith, below)) is
 
-found_one : (march : List MarchElement) (items : List Item) (b c : Bool) → SomeEscapes march items b → SomeEscapes march items c → b ≡ c
+pub found_one : (march : List MarchElement) (items : List Item) (b c : Bool) → SomeEscapes march items b → SomeEscapes march items c → b ≡ c
 found_one march items true true h i = refl
 found_one march items false false h i = refl
 found_one march items true false h i = absurd (h.2 (all_hold (DetectsItem march) items h.0 h.1.0 i h.1.1 h.1.2))
 found_one march items false true h i = absurd (i.2 (all_hold (DetectsItem march) items i.0 i.1.0 h i.1.1 i.1.2))
 
-detects_one : (march : List MarchElement) (items : List Item) (m n : ℕ) → DetectsOf march items m → DetectsOf march items n → m ≡ n
+pub detects_one : (march : List MarchElement) (items : List Item) (m n : ℕ) → DetectsOf march items m → DetectsOf march items n → m ≡ n
 detects_one march [] m n h i = h ∙ sym i
 detects_one march (p ∷ ps) m n (inl (d, k, a, x)) (inl (e, l, b, y)) = x ∙ ap (λ (z : ℕ). 1 + z) (detects_one march ps k l a b) ∙ sym y
 detects_one march (p ∷ ps) m n (inl h) (inr i) = absurd (i.0 h.0)

@@ -1,4 +1,5 @@
 -- Words that have the shape of no command.
+use Rattle.std.proofs.Common.{ℕ}
 use Rattle.bist_app.specs.declared.commands.Command.{Command}
 use Rattle.bist_app.specs.declared.sim.SimShape.{SimShape}
 use Rattle.bist_endings.specs.Words.{Words}
@@ -8,13 +9,15 @@ use Rattle.bist_app.specs.Vectors.{IsVectorsShape}
 use Rattle.bist_app.specs.Compile.{IsCompileShape}
 use Rattle.bist_app.specs.Bench.{IsBenchShape}
 use Rattle.bist_app.specs.BenchFile.{IsBenchFileShape}
+use Rattle.bist_app.specs.Make.{IsMakeShape}
 use Rattle.bist_app.specs.Run.{HasNoShape}
 
 pub no_shape : (words : Words) → ((shape : SimShape) → IsSimShape words shape → ⊥) → (IsJudgeShape words → ⊥) → (IsVectorsShape words → ⊥) → (IsCompileShape words → ⊥) → (IsBenchShape words → ⊥)
-    → (IsBenchFileShape words → ⊥) → HasNoShape words
-no_shape words sim judge vectors compile bench file (Command.Sim shape) h = sim shape h
-no_shape words sim judge vectors compile bench file Command.Judge h = judge h
-no_shape words sim judge vectors compile bench file Command.Vectors h = vectors h
-no_shape words sim judge vectors compile bench file Command.Compile h = compile h
-no_shape words sim judge vectors compile bench file Command.Bench h = bench h
-no_shape words sim judge vectors compile bench file Command.BenchFile h = file h
+    → (IsBenchFileShape words → ⊥) → ((number : ℕ) → IsMakeShape words number → ⊥) → HasNoShape words
+no_shape words sim judge vectors compile bench file make (Command.Sim shape) h = sim shape h
+no_shape words sim judge vectors compile bench file make Command.Judge h = judge h
+no_shape words sim judge vectors compile bench file make Command.Vectors h = vectors h
+no_shape words sim judge vectors compile bench file make Command.Compile h = compile h
+no_shape words sim judge vectors compile bench file make Command.Bench h = bench h
+no_shape words sim judge vectors compile bench file make Command.BenchFile h = file h
+no_shape words sim judge vectors compile bench file make (Command.Make number) h = make number h

@@ -24,6 +24,7 @@ use Rattle.word_device.specs.declared.device.Planted.{Planted}
 use Rattle.bist_app.specs.Bench.{Boxes, HasBox, FitsRoom, LeavesBench, DecidesBench}
 use Rattle.verilog_tree.specs.Plain.{ModuleTree}
 use Rattle.bist_app.specs.BenchFile.{HasPorts, LeavesBenchFile, DecidesBenchFile}
+use Rattle.bist_app.specs.Make.{LeavesMake}
 use Rattle.bist_app.specs.Run.{DecidesCommand}
 
 aggressor_never : (aggressor : Option ℕ) (prim : Primitive) → NeverUsage (FitsAggressor aggressor prim)
@@ -144,6 +145,9 @@ file_never files boxes words (Ok mo, read, (Ok march, given, (Ok d, described, (
     room_never d boxes (turned (FitsRoom d boxes) (let x : Result Done Refusal = Err Refusal.Usage in x) e refl is room)
 file_never files boxes words (Ok mo, read, (Ok march, given, (Ok d, described, (Ok _, fits, (Ok _, ports, (Ok _, has, (Ok _, room, leaves))))))) =
     file_leaves_never mo march d boxes leaves
+make_never : (number : ℕ) → NeverUsage (LeavesMake number)
+unfolding LeavesMake
+make_never number h = h
 
 pub never_usage : (files : Option Files) (boxes : Boxes) (words : Words) (command : Command) → NeverUsage (DecidesCommand files boxes words command)
 never_usage files boxes words (Command.Sim shape) = sim_never files words shape
@@ -152,3 +156,4 @@ never_usage files boxes words Command.Vectors = vectors_never files words
 never_usage files boxes words Command.Compile = compile_never files words
 never_usage files boxes words Command.Bench = bench_never files boxes words
 never_usage files boxes words Command.BenchFile = file_never files boxes words
+never_usage files boxes words (Command.Make number) = make_never number

@@ -5,6 +5,7 @@ pub mod Vectors
 pub mod Bench
 pub mod BenchFile
 pub mod Compile
+pub mod Make
 pub mod LetterBits
 pub mod Run
 pub mod Answer

@@ -11,6 +11,7 @@ use Rattle.bist_app.specs.Sim.{IsSimShape, DecidesSim}
 use Rattle.bist_app.specs.Judge.{IsJudgeShape, DecidesJudge}
 use Rattle.bist_app.specs.Vectors.{IsVectorsShape, DecidesVectors}
 use Rattle.bist_app.specs.Compile.{IsCompileShape, DecidesCompile}
+use Rattle.bist_app.specs.Make.{IsMakeShape, LeavesMake}
 use Rattle.bist_app.specs.Bench.{Boxes, IsBenchShape, DecidesBench, LeavesFirst}
 use Rattle.bist_app.specs.BenchFile.{IsBenchFileShape, DecidesBenchFile}
 
@@ -22,6 +23,7 @@ HasShape words Command.Vectors = IsVectorsShape words
 HasShape words Command.Compile = IsCompileShape words
 HasShape words Command.Bench = IsBenchShape words
 HasShape words Command.BenchFile = IsBenchFileShape words
+HasShape words (Command.Make number) = IsMakeShape words number
 
 -- the words have no shape
 abbrev pub HasNoShape : Words → Type 0
@@ -35,6 +37,7 @@ DecidesCommand files boxes words Command.Vectors outcome = DecidesVectors files 
 DecidesCommand files boxes words Command.Compile outcome = DecidesCompile files words outcome
 DecidesCommand files boxes words Command.Bench outcome = DecidesBench files boxes words outcome
 DecidesCommand files boxes words Command.BenchFile outcome = DecidesBenchFile files boxes words outcome
+DecidesCommand files boxes words (Command.Make number) outcome = LeavesMake number outcome
 
 -- what it leaves of the boxes
 abbrev pub LeavesBoxes : Command → Boxes → Boxes → Result Done Refusal → Type 0
@@ -44,6 +47,7 @@ LeavesBoxes Command.Vectors boxes left outcome = left ≡ boxes
 LeavesBoxes Command.Compile boxes left outcome = left ≡ boxes
 LeavesBoxes Command.Bench boxes left outcome = LeavesFirst boxes left outcome
 LeavesBoxes Command.BenchFile boxes left outcome = LeavesFirst boxes left outcome
+LeavesBoxes (Command.Make number) boxes left outcome = left ≡ boxes
 
 -- the check of the words, and then the command's
 abbrev pub Decides : Option Files → Boxes → Boxes → Words → Result Done Refusal → Type 0

@@ -5,6 +5,7 @@ use crate::bench_command::is_bench;
 use crate::benchfile_command::is_benchfile;
 use crate::compile::is_compile;
 use crate::judge::is_judge;
+use crate::make::make_number;
 use crate::sim::{SimShape, sim_shape};
 use crate::vectors::is_vectors;
 
@@ -17,6 +18,7 @@ pub enum Command {
     Compile,
     Bench,
     BenchFile,
+    Make(u16),
 }
 
 /// The command whose shape the words have.
@@ -40,6 +42,9 @@ pub fn command_of(words: &[&str]) -> Option<Command>
     }
     if is_benchfile(words) {
         return Some(Command::BenchFile);
+    }
+    if let Some(number) = make_number(words) {
+        return Some(Command::Make(number));
     }
     None
 }

@@ -48,7 +48,7 @@ pub fn is_compile(words: &[&str]) -> bool
 }
 
 /// The text of the self-test module.
-fn module_text(alloc: Global, march: &March, memory: &Memory) -> Result<Vec<u8>, NoMemory>
+pub fn module_text(alloc: Global, march: &March, memory: &Memory) -> Result<Vec<u8>, NoMemory>
     ensures { IfOk result (λ text. IsSelfTestText march.now memory.now text.items) }
 {
     let tree = generate(alloc, march, memory)?;

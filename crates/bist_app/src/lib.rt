@@ -9,6 +9,7 @@ mod commands;
 mod compile;
 mod directions;
 mod judge;
+mod make;
 mod reporting;
 mod sim;
 mod top;

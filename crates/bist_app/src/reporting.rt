@@ -3,7 +3,7 @@
 ghost use Rattle.std.specs.Prelude.{◌≡◌, IfOk, List, length};
 ghost use Rattle.std.specs.Option.{option_copied};
 ghost use Rattle.report.specs.Items.{AreJudged, covered_count};
-ghost use Rattle.report.specs.Report.{total_line};
+ghost use Rattle.report.specs.Report.{total_line, DetectsOf};
 ghost use Rattle.bist_app.specs.Reported.{Reports};
 
 use bist_bits::NoMemory;
@@ -13,12 +13,13 @@ use memory_desc::Memory;
 use report::{JudgedItem, count_covered, judge_items, write_judged, write_total};
 use std::alloc::Global;
 
-/// A report, its last line, and whether something escapes.
+/// A report, its last line, how many items are covered, and whether some escapes.
 #[derive(Drop)]
 pub struct Reported {
     pub found: bool,
     pub bytes: Vec<u8>,
     pub line: Vec<u8>,
+    pub covered: usize,
 }
 
 /// The report's last line.
@@ -37,7 +38,8 @@ fn report_of(
     memory: Option<&Memory>,
     judged: &[JudgedItem],
 ) -> Result<Reported, NoMemory>
-    ensures { IfOk result (λ r. (items : List Item) → AreJudged march.now items judged.now → Reports march.now (option_copied memory.entry) items r.found r.bytes.items r.line.items) }
+    ensures reports { IfOk result (λ r. (items : List Item) → AreJudged march.now items judged.now → Reports march.now (option_copied memory.entry) items r.found r.bytes.items r.line.items) }
+    ensures covered { IfOk result (λ r. (items : List Item) → AreJudged march.now items judged.now → DetectsOf march.now items r.covered) }
 {
     let bytes = write_judged(alloc, march, memory, judged)?;
     let line = total(alloc, judged)?;
@@ -46,6 +48,7 @@ fn report_of(
         found: covered < judged.len(),
         bytes,
         line,
+        covered,
     })
 }
 
@@ -56,7 +59,8 @@ pub fn report_list(
     memory: Option<&Memory>,
     items: &[Item],
 ) -> Result<Reported, NoMemory>
-    ensures { IfOk result (λ r. Reports march.now (option_copied memory.entry) items.now r.found r.bytes.items r.line.items) }
+    ensures reports { IfOk result (λ r. Reports march.now (option_copied memory.entry) items.now r.found r.bytes.items r.line.items) }
+    ensures covered { IfOk result (λ r. DetectsOf march.now items.now r.covered) }
 {
     let judged = judge_items(alloc, march, items)?;
     report_of(alloc, march, memory, judged.as_slice())

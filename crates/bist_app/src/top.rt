@@ -12,6 +12,7 @@ use crate::benchfile_command::decide_benchfile;
 use crate::commands::{Command, command_of};
 use crate::compile::decide_compile;
 use crate::judge::decide_judge;
+use crate::make::decide_make;
 use crate::sim::decide_sim;
 use crate::vectors::decide_vectors;
 use bist_endings::{Ended, Plan, Refusal, conclude};
@@ -20,6 +21,7 @@ use std::alloc::Global;
 use word_device::Device;
 
 /// What the command leaves, or why it is refused.
+#[tactic(auto, using(crate::proofs::Causes::own_cause))]
 fn decide<H: Host>(
     alloc: Global,
     words: &[&str],
@@ -42,6 +44,7 @@ fn decide<H: Host>(
         Some(Command::Compile) => decide_compile(alloc, words, host),
         Some(Command::Bench) => decide_bench(alloc, words, host, devices),
         Some(Command::BenchFile) => decide_benchfile(alloc, words, host, devices),
+        Some(Command::Make(number)) => decide_make(alloc, words, number),
     }
 }
 

@@ -1,0 +1,29 @@
+-- What is made is written to files that the words name.
+use Rattle.std.proofs.Common.{◌≡◌, ◌++◌, ◌∙◌, ℕ, List, ap, sym, subst, arith, length, codes, append_assoc}
+use Rattle.std.specs.Prelude.{decimal}
+use Rattle.memory_desc.specs.Printed.{printed}
+use Rattle.made_inputs.specs.MadeMarch.{made_march, line_of}
+use Rattle.made_inputs.specs.MadeList.{made_text}
+use Rattle.bist_endings.specs.Ending.{Done}
+use Rattle.bist_endings.specs.Words.{Words}
+use Rattle.bist_endings.specs.Conclude.{NamesWords}
+use Rattle.bist_app.specs.Make.{IsMakeShape, IsMade, made_outputs, sizes_text}
+
+are_named : (words : Words) (march memory listed text bytes : List ℕ) → length words ≡ 7 → NamesWords words (made_outputs march memory listed text bytes)
+are_named words march memory listed text bytes count =
+    (omega (arith, count), (omega (arith, count), (omega (arith, count), (omega (arith, count), (omega (arith, count), tt)))))
+
+pub names_words : (words : Words) (number : ℕ) (done : Done) → IsMakeShape words number → IsMade number done → NamesWords words done.outputs
+names_words words number done shape (d, memory, made) =
+    subst (NamesWords words) (sym made.outputs) (are_named words (line_of (made_march number)) (printed d) made_text made.text made.bytes shape.has_words.count)
+
+-- numbers behind their texts, one after another
+pub sizes_joined : (before first second third : List ℕ) (elements operations commands : ℕ) → first ≡ before ++ codes "made elements " ++ decimal elements
+    → second ≡ first ++ codes " operations " ++ decimal operations → third ≡ second ++ codes " commands " ++ decimal commands
+    → third ≡ before ++ sizes_text elements operations commands
+sizes_joined before first second third elements operations commands e f g =
+    g ∙ ap (λ (l : List ℕ). l ++ codes " commands " ++ decimal commands) (f ∙ ap (λ (l : List ℕ). l ++ codes " operations " ++ decimal operations) e)
+    ∙ in_line before (codes "made elements ") (decimal elements) (codes " operations ") (decimal operations) (codes " commands ") (decimal commands)
+  where
+    in_line : (l a x b y c z : List ℕ) → ((l ++ a ++ x) ++ b ++ y) ++ c ++ z ≡ l ++ (a ++ x ++ b ++ y ++ c ++ z)
+    in_line l a x b y c z = simp append_assoc

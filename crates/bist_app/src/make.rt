@@ -1,0 +1,205 @@
+//! The command `make`: large inputs that a number makes, compiled, and a summary.
+
+ghost use Rattle.std.specs.Prelude.{◌≡◌, ◌≤◌, ◌↔◌, ◌++◌, ◌∷◌, [], ℕ, Ok, IfOk, IfErr, OnOk, IsTrue, MatchOption, map, length, decimal};
+ghost use Rattle.march_core.specs.March.{all_ops};
+ghost use Rattle.word_march.specs.Commands.{command_count};
+ghost use Rattle.memory_desc.specs.Descriptions.{IsMemory};
+ghost use Rattle.memory_desc.specs.Printed.{printed};
+ghost use Rattle.memory_desc.specs.Table.{Reads as ReadsMemory};
+ghost use Rattle.dynamic_core.specs.Items.{ReadsItems};
+ghost use Rattle.bist_endings.specs.Ending.{plain, done_of, written_of};
+ghost use Rattle.bist_endings.specs.Conclude.{NamesWords};
+ghost use Rattle.bist_inputs.specs.Inputs.{IsOwnRefusal};
+ghost use Rattle.bist_app.specs.Make.{HasMakeWords, IsMakeShape, made_outputs, sizes_text, covered_text, made_line, IsMadeOf, IsMade, LeavesMake};
+
+use crate::compile::module_text;
+use crate::reporting::report_list;
+use bist_bits::NoMemory;
+use bist_endings::{Output, Plan, Refusal, are_plain, number_of};
+use bist_text::{put, put_decimal};
+use dynamic_core::Item;
+use made_inputs::{items_of_list, list_text, march_of, march_text, memory_of};
+use march_core::March;
+use memory_desc::{Memory, print_memory};
+use std::alloc::Global;
+
+/// The greatest number: a memory has at most 65,536 words, which is two more.
+const MOST: usize = 65_534;
+
+/// Whether the words have the shape of `make`, but for the number.
+fn has_make_words(words: &[&str]) -> bool
+    ensures { IsTrue result ↔ HasMakeWords words.now }
+{
+    let ["make", _, march, memory, list, verilog, report] = *words else {
+        return false;
+    };
+    are_plain(words)
+        && march != memory
+        && march != list
+        && march != verilog
+        && march != report
+        && memory != list
+        && memory != verilog
+        && memory != report
+        && list != verilog
+        && list != report
+        && verilog != report
+}
+
+/// The number, where the words have the shape of `make`.
+pub fn make_number(words: &[&str]) -> Option<u16>
+    ensures { MatchOption result ((number : ℕ) → IsMakeShape words.now number → ⊥) (λ number. IsMakeShape words.now number) }
+{
+    if !has_make_words(words) {
+        return None;
+    }
+    let number = number_of(words[1])?;
+    if number > MOST {
+        return None;
+    }
+    Some(number as u16)
+}
+
+/// The memory's text.
+fn memory_text(alloc: Global, memory: &Memory) -> Result<Vec<u8>, NoMemory>
+    ensures form { IfOk result (λ text. text.items ≡ printed memory.now) }
+    ensures read_back { IfOk result (λ text. ReadsMemory text.items (Ok memory.now)) }
+    ensures memory { IfOk result (λ text. IsMemory memory.now) }
+{
+    let _ = memory.words();
+    print_memory(alloc, memory)
+}
+
+/// Appends a text and a number.
+fn put_number(line: &mut Vec<u8>, text: &[u8], number: u64) -> Result<(), NoMemory>
+    ensures { OnOk result (line.new.items ≡ line.old.items ++ text.now ++ decimal number) }
+{
+    put(line, text)?;
+    put_decimal(line, number)
+}
+
+/// Appends the sizes of a march and of its test.
+fn put_sizes(
+    line: &mut Vec<u8>,
+    elements: usize,
+    operations: usize,
+    commands: u64,
+) -> Result<(), NoMemory>
+    ensures { OnOk result (line.new.items ≡ line.old.items ++ sizes_text elements operations commands) }
+{
+    put_number(line, b"made elements ", elements as u64)?;
+    put_number(line, b" operations ", operations as u64)?;
+    put_number(line, b" commands ", commands)
+}
+
+/// Appends how many of the primitives are covered, and ends the line.
+fn put_covered(line: &mut Vec<u8>, covered: usize, count: usize) -> Result<(), NoMemory>
+    ensures { OnOk result (line.new.items ≡ line.old.items ++ covered_text covered count) }
+{
+    put_number(line, b" covered ", covered as u64)?;
+    put_number(line, b" of ", count as u64)?;
+    put(line, b"\n")
+}
+
+/// The summary.
+fn summary(
+    alloc: Global,
+    march: &March,
+    memory: &Memory,
+    covered: usize,
+    count: usize,
+) -> Result<Vec<u8>, NoMemory>
+    ensures { IfOk result (λ line. line.items ≡ made_line (length march.now) (length (all_ops march.now)) (command_count march.now memory.now) covered count) }
+{
+    let commands = word_march::length(march, memory);
+    let mut line = Vec::new(alloc);
+    put_sizes(&mut line, march.len(), march.total_ops(), commands)?;
+    put_covered(&mut line, covered, count)?;
+    Ok(line)
+}
+
+/// The bytes for the file that a word names.
+fn output(position: usize, bytes: Vec<u8>) -> Output
+    ensures { written_of result ≡ record { position = position; bytes = bytes.items } }
+{
+    Output { position, bytes }
+}
+
+/// The files in their order.
+fn outputs_of(
+    alloc: Global,
+    march: Vec<u8>,
+    memory: Vec<u8>,
+    list: Vec<u8>,
+    verilog: Vec<u8>,
+    report: Vec<u8>,
+) -> Result<Vec<Output>, NoMemory>
+    ensures { IfOk result (λ outputs. map written_of outputs.items ≡ made_outputs march.items memory.items list.items verilog.items report.items) }
+{
+    let outputs = [
+        output(2, march),
+        output(3, memory),
+        output(4, list),
+        output(5, verilog),
+        output(6, report),
+    ];
+    Vec::from_array(alloc, outputs).map_err(|_| NoMemory)
+}
+
+/// The inputs, the module, the report and the summary as a plan.
+fn made_of(
+    alloc: Global,
+    march: &March,
+    memory: &Memory,
+    items: &[Item],
+    listed: Vec<u8>,
+) -> Result<Plan, NoMemory>
+    requires { ReadsItems listed.items (Ok items.now) }
+    ensures { IfOk result (λ plan. IsMadeOf march.now memory.now items.now listed.items (done_of plan)) }
+{
+    let march_bytes = march_text(alloc, march)?;
+    let memory_bytes = memory_text(alloc, memory)?;
+    let verilog = module_text(alloc, march, memory)?;
+    let reported = report_list(alloc, march, Some(memory), items)?;
+    let line = summary(alloc, march, memory, reported.covered, items.len())?;
+    let outputs = outputs_of(
+        alloc,
+        march_bytes,
+        memory_bytes,
+        listed,
+        verilog,
+        reported.bytes,
+    )?;
+    Ok(Plan {
+        found: reported.found,
+        outputs,
+        line,
+    })
+}
+
+/// What a number makes.
+fn made(alloc: Global, number: u16) -> Result<Plan, NoMemory>
+    requires { number ≤ 65534 }
+    ensures { IfOk result (λ plan. IsMade number (done_of plan)) }
+{
+    let march = march_of(number);
+    let memory = memory_of(alloc, number)?;
+    let listed = list_text(alloc)?;
+    let items = items_of_list(alloc, &listed)?;
+    made_of(alloc, &march, &memory, &items, listed)
+}
+
+/// Makes the inputs of a number and compiles them.
+#[tactic(auto, unfolding(crate::specs::Make::LeavesMake))]
+pub fn decide_make(alloc: Global, words: &[&str], number: u16) -> Result<Plan, Refusal>
+    requires { IsMakeShape words.now number }
+    ensures own { IfErr result IsOwnRefusal }
+    ensures answer { LeavesMake number (plain result) }
+    ensures outputs { IfOk result (λ plan. NamesWords words.now (done_of plan).outputs) }
+{
+    let _count = words.len();
+    match made(alloc, number) {
+        Ok(plan) => Ok(plan),
+        Err(NoMemory) => Err(Refusal::NoMemory),
+    }
+}
