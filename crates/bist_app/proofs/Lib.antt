@@ -10,6 +10,9 @@ pub mod OneCommand
 pub mod OnePlan
 pub mod OneJudged
 pub mod OneBench
+pub mod PlaceWords
 pub mod OneAnswer
 pub mod ReadBack
 pub mod Benched
+pub mod Caught
+pub mod Faulted

@@ -1,17 +1,21 @@
 -- Words that have the shape of no command.
 use Rattle.bist_app.specs.declared.commands.Command.{Command}
 use Rattle.bist_app.specs.declared.sim.SimShape.{SimShape}
+use Rattle.bist_app.specs.declared.benchfault_command.FaultShape.{FaultShape}
 use Rattle.bist_endings.specs.Words.{Words}
 use Rattle.bist_app.specs.Sim.{IsSimShape}
 use Rattle.bist_app.specs.Judge.{IsJudgeShape}
 use Rattle.bist_app.specs.Vectors.{IsVectorsShape}
 use Rattle.bist_app.specs.Compile.{IsCompileShape}
 use Rattle.bist_app.specs.Bench.{IsBenchShape}
+use Rattle.bist_app.specs.BenchFault.{IsFaultShape}
 use Rattle.bist_app.specs.Run.{HasNoShape}
 
-pub no_shape : (words : Words) → ((shape : SimShape) → IsSimShape words shape → ⊥) → (IsJudgeShape words → ⊥) → (IsVectorsShape words → ⊥) → (IsCompileShape words → ⊥) → (IsBenchShape words → ⊥) → HasNoShape words
-no_shape words sim judge vectors compile bench (Command.Sim shape) h = sim shape h
-no_shape words sim judge vectors compile bench Command.Judge h = judge h
-no_shape words sim judge vectors compile bench Command.Vectors h = vectors h
-no_shape words sim judge vectors compile bench Command.Compile h = compile h
-no_shape words sim judge vectors compile bench Command.Bench h = bench h
+pub no_shape : (words : Words) → ((shape : SimShape) → IsSimShape words shape → ⊥) → (IsJudgeShape words → ⊥) → (IsVectorsShape words → ⊥) → (IsCompileShape words → ⊥) → (IsBenchShape words → ⊥)
+    → ((shape : FaultShape) → IsFaultShape words shape → ⊥) → HasNoShape words
+no_shape words sim judge vectors compile bench fault (Command.Sim shape) h = sim shape h
+no_shape words sim judge vectors compile bench fault Command.Judge h = judge h
+no_shape words sim judge vectors compile bench fault Command.Vectors h = vectors h
+no_shape words sim judge vectors compile bench fault Command.Compile h = compile h
+no_shape words sim judge vectors compile bench fault Command.Bench h = bench h
+no_shape words sim judge vectors compile bench fault (Command.BenchFault shape) h = fault shape h

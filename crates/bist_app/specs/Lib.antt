@@ -3,6 +3,7 @@ pub mod Reported
 pub mod Judge
 pub mod Vectors
 pub mod Bench
+pub mod BenchFault
 pub mod Compile
 pub mod LetterBits
 pub mod Run

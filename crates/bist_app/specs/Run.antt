@@ -12,6 +12,7 @@ use Rattle.bist_app.specs.Judge.{IsJudgeShape, DecidesJudge}
 use Rattle.bist_app.specs.Vectors.{IsVectorsShape, DecidesVectors}
 use Rattle.bist_app.specs.Compile.{IsCompileShape, DecidesCompile}
 use Rattle.bist_app.specs.Bench.{Boxes, IsBenchShape, DecidesBench, LeavesFirst}
+use Rattle.bist_app.specs.BenchFault.{IsFaultShape, DecidesFault}
 
 -- the words have the shape of this command
 abbrev pub HasShape : Words → Command → Type 0
@@ -20,6 +21,7 @@ HasShape words Command.Judge = IsJudgeShape words
 HasShape words Command.Vectors = IsVectorsShape words
 HasShape words Command.Compile = IsCompileShape words
 HasShape words Command.Bench = IsBenchShape words
+HasShape words (Command.BenchFault shape) = IsFaultShape words shape
 
 -- the words have no shape
 abbrev pub HasNoShape : Words → Type 0
@@ -32,6 +34,7 @@ DecidesCommand files boxes words Command.Judge outcome = DecidesJudge files word
 DecidesCommand files boxes words Command.Vectors outcome = DecidesVectors files words outcome
 DecidesCommand files boxes words Command.Compile outcome = DecidesCompile files words outcome
 DecidesCommand files boxes words Command.Bench outcome = DecidesBench files boxes words outcome
+DecidesCommand files boxes words (Command.BenchFault shape) outcome = DecidesFault files boxes words shape outcome
 
 -- what it leaves of the boxes
 abbrev pub LeavesBoxes : Command → Boxes → Boxes → Result Done Refusal → Type 0
@@ -40,6 +43,7 @@ LeavesBoxes Command.Judge boxes left outcome = left ≡ boxes
 LeavesBoxes Command.Vectors boxes left outcome = left ≡ boxes
 LeavesBoxes Command.Compile boxes left outcome = left ≡ boxes
 LeavesBoxes Command.Bench boxes left outcome = LeavesFirst boxes left outcome
+LeavesBoxes (Command.BenchFault shape) boxes left outcome = LeavesFirst boxes left outcome
 
 -- the check of the words, and then the command's
 abbrev pub Decides : Option Files → Boxes → Boxes → Words → Result Done Refusal → Type 0

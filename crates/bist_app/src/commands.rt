@@ -2,6 +2,7 @@ ghost use Rattle.std.specs.Prelude.{MatchOption};
 ghost use Rattle.bist_app.specs.Run.{HasShape, HasNoShape};
 
 use crate::bench_command::is_bench;
+use crate::benchfault_command::{FaultShape, fault_shape};
 use crate::compile::is_compile;
 use crate::judge::is_judge;
 use crate::sim::{SimShape, sim_shape};
@@ -15,6 +16,7 @@ pub enum Command {
     Vectors,
     Compile,
     Bench,
+    BenchFault(FaultShape),
 }
 
 /// The command whose shape the words have.
@@ -35,6 +37,9 @@ pub fn command_of(words: &[&str]) -> Option<Command>
     }
     if is_bench(words) {
         return Some(Command::Bench);
+    }
+    if let Some(shape) = fault_shape(words) {
+        return Some(Command::BenchFault(shape));
     }
     None
 }

@@ -2,12 +2,14 @@
 #![tactic(auto)]
 
 mod bench_command;
+mod benchfault_command;
 mod benching;
 mod boxes;
 mod commands;
 mod compile;
 mod directions;
 mod judge;
+mod planting;
 mod reporting;
 mod sim;
 mod top;

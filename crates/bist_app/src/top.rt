@@ -8,6 +8,7 @@ ghost use Rattle.bist_app.specs.Answer.{IsComplete, RunHasOneAnswer};
 ghost use Rattle.bist_app.specs.Run.{Decides, Runs, HasNoShape};
 
 use crate::bench_command::decide_bench;
+use crate::benchfault_command::decide_fault;
 use crate::commands::{Command, command_of};
 use crate::compile::decide_compile;
 use crate::judge::decide_judge;
@@ -40,6 +41,7 @@ fn decide<H: Host>(
         Some(Command::Vectors) => decide_vectors(alloc, words, host),
         Some(Command::Compile) => decide_compile(alloc, words, host),
         Some(Command::Bench) => decide_bench(alloc, words, host, devices),
+        Some(Command::BenchFault(shape)) => decide_fault(alloc, words, shape, host, devices),
     }
 }
 
