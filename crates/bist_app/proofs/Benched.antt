@@ -1,19 +1,18 @@
 -- What a run against the first box leaves.
-use Rattle.std.proofs.Common.{◌≡◌, ◌⊎◌, ◌<◌, ◌*◌, ◌+◌, ◌%◌, ◌/◌, ◌^◌, ◌∙◌, ℕ, zero, suc, List, [], ◌∷◌, length, map, drop, replicate, Option, Some, None, Result, Ok, Err, bit_xor, refl, sym, ap, ap₂, subst, arith, inl, inr}
+use Rattle.std.proofs.Common.{◌≡◌, ◌<◌, ◌*◌, ◌+◌, ◌%◌, ◌/◌, ◌^◌, ◌∙◌, ℕ, zero, suc, List, [], ◌∷◌, length, map, replicate, None, Ok, Err, bit_xor, refl, ap, ap₂, subst, arith, inl}
 use Rattle.std.specs.List.{range_with_len}
 use Rattle.std.proofs.Math.Nat.{one-le-pow, mod-eq_of_lt}
 use Rattle.march_core.specs.March.{MarchElement}
 use Rattle.memory_desc.specs.Descriptions.{Description}
 use Rattle.word_device.specs.declared.shape.Shape.{Shape}
 use Rattle.word_device.specs.Ports.{Chip, shape_of}
-use Rattle.word_device.specs.Boxes.{Tells, TellsChip, TellsScript, TellsNothing, Told, pattern, filled, filled_chip, blank}
+use Rattle.word_device.specs.Boxes.{Tells, TellsChip, TellsScript, TellsNothing, Told, pattern, filled_chip, blank}
 use Rattle.word_device.specs.Runs.{run_word}
-use Rattle.bench.specs.declared.ending.Seen.{Seen}
 use Rattle.bench.specs.Endings.{IsFirstRead}
-use Rattle.bench.specs.Laws.{done_at, IsSeenOf}
+use Rattle.bench.specs.Laws.{IsSeenOf}
 use Rattle.bist_endings.specs.declared.ending.Refusal.{Refusal}
 use Rattle.bist_endings.specs.Ending.{Done}
-use Rattle.bist_app.specs.Bench.{Boxes, ready, benched_chip, IsSeen, IsRun, IsBenched, LeavesBench, LeavesFirst}
+use Rattle.bist_app.specs.Bench.{Boxes, ready, IsSeen, IsRun, IsBenched, LeavesBench, LeavesFirst}
 
 -- the number 0 stands for words of 0
 zero_pattern : (bits k : ℕ) → pattern 0 bits k ≡ 0
@@ -21,7 +20,7 @@ zero_pattern bits k =
     let none : 0 * (2 * k + 1) ≡ 0 = omega arith in
     ap (λ x. bit_xor (x % 2 ^ 64) (x % 2 ^ 64 / 2 ^ 32) % 2 ^ bits) none ∙ mod-eq_of_lt (one-le-pow bits 2 (omega arith))
 
-zero_words : (bits k n : ℕ) → map (pattern 0 bits) (range_with_len k n) ≡ replicate n 0
+pub zero_words : (bits k n : ℕ) → map (pattern 0 bits) (range_with_len k n) ≡ replicate n 0
 zero_words bits k zero = refl
 zero_words bits k (suc n) = ap₂ (λ x xs. x ∷ xs) (zero_pattern bits k) (zero_words bits (k + 1) n)
 

@@ -17,3 +17,6 @@ pub mod Benched
 pub mod BenchedFile
 pub mod OneBenchFile
 pub mod Making
+pub mod PlaceWords
+pub mod Caught
+pub mod Faulted

@@ -1,5 +1,5 @@
 -- Over files that are told, words have one settled answer.
-use Rattle.std.proofs.Common.{◌≡◌, Option, Some, None, sym, ◌∙◌, ap, subst, inl}
+use Rattle.std.proofs.Common.{◌≡◌, Option, Some, None, is_some, sym, ◌∙◌, ap, subst, inl}
 use Rattle.bist_host.specs.Files.{Files}
 use Rattle.bist_endings.specs.Words.{Words, word}
 use Rattle.bist_endings.specs.OneOutcome.{HasOneAnswer, HasOneAnswerButNames, answer_of}
@@ -16,8 +16,10 @@ use Rattle.bist_app.specs.Compile.{DecidesCompile}
 use Rattle.bist_app.specs.Run.{DecidesCommand, Decides}
 use Rattle.bist_app.specs.Bench.{Boxes, HasBox, FitsRoom, DecidesBench}
 use Rattle.bist_app.specs.Answer.{FirstTells, RunHasOneAnswer}
-use Rattle.bist_app.proofs.OneBench.{box_one, room_one, bench_one}
 use Rattle.bist_app.proofs.OneBenchFile.{bench_file_answer}
+use Rattle.bist_app.specs.declared.benchfault_command.FaultShape.{FaultShape}
+use Rattle.bist_app.specs.BenchFault.{FitsPlaces, planted_of, DecidesFault}
+use Rattle.bist_app.proofs.OneBench.{box_one, room_one, bench_one, places_one, fault_one}
 use Rattle.bist_app.proofs.OneCommand.{command_one}
 use Rattle.bist_app.proofs.OnePlan.{aggressor_one, directions_one, sim_one, vectors_one, length_one}
 use Rattle.bist_app.proofs.OneJudged.{judge_one, compile_one}
@@ -27,7 +29,7 @@ sim_answer : (files : Files) (words : Words) (shape : SimShape) → HasOneAnswer
 sim_answer files words shape =
     then_answer (InputMarch (Some files) words 1) _ (input_march_one files words 1) (λ march.
     then_answer (GivesPrim (word words 2)) _ (prim_one (word words 2)) (λ prim.
-    then_answer (FitsAggressor shape.aggressor prim) _ (aggressor_one shape.aggressor prim) (λ _.
+    then_answer (FitsAggressor (is_some shape.aggressor) prim) _ (aggressor_one (is_some shape.aggressor) prim) (λ _.
     then_answer (FitsDirections (word words 7) march) _ (directions_one (word words 7) march) (λ _.
     outcome_answer _ (sim_one (miss_of march prim (places_of shape) (word words 4) (word words 7)))))))
 
@@ -60,6 +62,18 @@ bench_answer files boxes words tells =
     then_answer (FitsRoom d boxes) _ (room_one d boxes) (λ _.
     bench_one march d boxes tells)))))
 
+fault_answer : (files : Files) (boxes : Boxes) (words : Words) (shape : FaultShape) → FirstTells boxes → HasOneAnswer (DecidesFault (Some files) boxes words shape)
+fault_answer files boxes words shape tells =
+    then_answer (InputMarch (Some files) words 1) _ (input_march_one files words 1) (λ march.
+    then_answer (InputMemory (Some files) words 2) _ (input_memory_one files words 2) (λ d.
+    then_answer (GivesPrim (word words 3)) _ (prim_one (word words 3)) (λ prim.
+    then_answer (FitsAggressor (is_some shape.aggressor) prim) _ (aggressor_one (is_some shape.aggressor) prim) (λ _.
+    then_answer (FitsLength march d) _ (length_one march d) (λ _.
+    then_answer (HasBox boxes) _ (box_one boxes) (λ _.
+    then_answer (FitsPlaces d shape) _ (places_one d shape) (λ _.
+    then_answer (FitsRoom d boxes) _ (room_one d boxes) (λ _.
+    fault_one march d (planted_of prim shape) boxes tells))))))))
+
 command_answer : (files : Files) (boxes : Boxes) (words : Words) (command : Command) → FirstTells boxes → HasOneAnswerButNames (DecidesCommand (Some files) boxes words command)
 command_answer files boxes words (Command.Sim shape) tells = but_names _ (sim_answer files words shape)
 command_answer files boxes words Command.Judge tells = but_names _ (judge_answer files words)
@@ -68,6 +82,7 @@ command_answer files boxes words Command.Compile tells = but_names _ (compile_an
 command_answer files boxes words Command.Bench tells = but_names _ (bench_answer files boxes words tells)
 command_answer files boxes words Command.BenchFile tells = bench_file_answer files boxes words tells
 command_answer files boxes words (Command.Make number) tells = but_names _ (make_one number)
+command_answer files boxes words (Command.BenchFault shape) tells = but_names _ (fault_answer files boxes words shape tells)
 
 decides_answer : (files : Files) (boxes : Boxes) (words : Words) → FirstTells boxes → HasOneAnswerButNames (λ outcome. (left : Boxes) × Decides (Some files) boxes left words outcome)
 decides_answer files boxes words tells r s (x, (None, f)) (y, (None, g)) rs ss = inl (ap answer_of (f.1 ∙ sym g.1))

@@ -1,5 +1,5 @@
 -- A run against the first box has one answer, where the box tells its chip or its script.
-use Rattle.std.proofs.Common.{◌≡◌, ◌≢◌, ◌⊎◌, ◌+◌, ◌<◌, ◌≤◌, ◌∙◌, ℕ, Bool, true, false, List, [], ◌∷◌, Option, Some, None, is_some, Result, Ok, Err, slice_get, refl, sym, ap, ap₂, subst, arith, inl, inr}
+use Rattle.std.proofs.Common.{◌≡◌, ◌≢◌, ◌+◌, ◌<◌, ◌∙◌, ℕ, List, [], ◌∷◌, Option, Some, None, is_some, Result, Ok, Err, slice_get, refl, sym, ap, ap₂, subst, arith, inl, inr}
 use Rattle.std.proofs.lemmas.Bool.{cases_lt}
 use Rattle.march_core.specs.March.{MarchElement}
 use Rattle.memory_desc.specs.Descriptions.{Description}
@@ -7,7 +7,7 @@ use Rattle.word_march.specs.declared.operations.PortOp.{PortOp}
 use Rattle.word_march.specs.Commands.{port_ops}
 use Rattle.word_march.specs.PortRule.{cycle_of}
 use Rattle.word_device.specs.declared.device.Planted.{Planted}
-use Rattle.word_device.specs.Boxes.{Tells, TellsChip, TellsScript, TellsNothing, Told}
+use Rattle.word_device.specs.Boxes.{Tells, TellsChip, TellsScript, TellsNothing}
 use Rattle.word_device.specs.Runs.{IsFirstWrong, run_word}
 use Rattle.bench.specs.declared.ending.Seen.{Seen}
 use Rattle.bench.specs.Endings.{IsFirstRead}
@@ -17,6 +17,8 @@ use Rattle.bist_endings.specs.declared.ending.DeviceRefusal.{DeviceRefusal}
 use Rattle.bist_endings.specs.Ending.{Done, found_status}
 use Rattle.bist_endings.specs.OneOutcome.{HasOneOutcome, HasOneAnswer, Answer, answer_of}
 use Rattle.bist_app.specs.Bench.{Boxes, HasBox, FitsRoom, benched_chip, IsSeen, IsBenched, LeavesBench, bench_line}
+use Rattle.bist_app.specs.declared.benchfault_command.FaultShape.{FaultShape}
+use Rattle.bist_app.specs.BenchFault.{FitsPlaces, LeavesFault}
 use Rattle.bist_app.specs.Answer.{FirstTells}
 
 pub box_one : (boxes : Boxes) → HasOneOutcome (HasBox boxes)
@@ -72,25 +74,50 @@ module _ (march : List MarchElement) (d : Description) (words : ℕ → ℕ) whe
       f.4 ∙ ap₂ (λ (j : ℕ) (c : PortOp). record { cycle = cycle_of march d j + d.latency; expected = c.word; returned = words j }) at command ∙ sym g.4 in
       ap Some same
 
-one_seen : (march : List MarchElement) (d : Description) (tells : Tells) (s t : Option Seen) → tells ≢ TellsNothing → IsSeen march d None tells s → IsSeen march d None tells t
-    → s ≡ t
-one_seen march d (TellsChip c) s t n f g = first_one march d (run_word march d (benched_chip d None)) s t f g
-one_seen march d (TellsScript x) s t n f g = first_one march d (script_word march d x) s t f g
-one_seen march d TellsNothing s t n f g = absurd (n refl)
+one_seen : (march : List MarchElement) (d : Description) (planted : Option Planted) (tells : Tells) (s t : Option Seen) → tells ≢ TellsNothing
+    → IsSeen march d planted tells s → IsSeen march d planted tells t → s ≡ t
+one_seen march d planted (TellsChip c) s t n f g = first_one march d (run_word march d (benched_chip d planted)) s t f g
+one_seen march d planted (TellsScript x) s t n f g = first_one march d (script_word march d x) s t f g
+one_seen march d planted TellsNothing s t n f g = absurd (n refl)
 
 answer_is : (march : List MarchElement) (d : Description) (done : Done) (s : Option Seen) → done.found ≡ is_some s
     → done.line ≡ bench_line d.bits (is_some s) (Some (done_at march d)) s
     → answer_of (Ok done) ≡ record { status = found_status (is_some s); line = bench_line d.bits (is_some s) (Some (done_at march d)) s }
 answer_is march d done s f l = ap₂ (λ b (x : List ℕ). record { status = found_status b; line = x }) f l
 
+benched_one : (march : List MarchElement) (d : Description) (planted : Option Planted) (tells : Tells) (x y : Done) → tells ≢ TellsNothing
+    → IsBenched march d planted tells x → IsBenched march d planted tells y → answer_of (Ok x) ≡ answer_of (Ok y)
+benched_one march d planted tells x y n f g =
+    let same = one_seen march d planted tells f.seen g.seen n f.is_seen g.is_seen in
+    let answer : Option Seen → Answer = λ o. record { status = found_status (is_some o); line = bench_line d.bits (is_some o) (Some (done_at march d)) o } in
+    answer_is march d x f.seen f.found f.line ∙ ap answer same ∙ sym (answer_is march d y g.seen g.found g.line)
+
 pub bench_one : (march : List MarchElement) (d : Description) (boxes : Boxes) → FirstTells boxes → HasOneAnswer (LeavesBench march d None boxes)
 unfolding LeavesBench
 bench_one march d [] n r s f g rs ss = absurd f
-bench_one march d (box ∷ boxes) n (Ok x) (Ok y) f g rs ss =
-    let same = one_seen march d box.tells f.seen g.seen n f.is_seen g.is_seen in
-    let answer : Option Seen → Answer = λ o. record { status = found_status (is_some o); line = bench_line d.bits (is_some o) (Some (done_at march d)) o } in
-    answer_is march d x f.seen f.found f.line ∙ ap answer same ∙ sym (answer_is march d y g.seen g.found g.line)
+bench_one march d (box ∷ boxes) n (Ok x) (Ok y) f g rs ss = benched_one march d None box.tells x y n f g
 bench_one march d (box ∷ boxes) n (Err Refusal.NoMemory) s f g rs ss = absurd rs
 bench_one march d (box ∷ boxes) n (Err other) s f g rs ss = absurd f
 bench_one march d (box ∷ boxes) n (Ok x) (Err Refusal.NoMemory) f g rs ss = absurd ss
 bench_one march d (box ∷ boxes) n (Ok x) (Err other) f g rs ss = absurd g
+
+-- ---- with a planted instance
+
+pub places_one : (d : Description) (shape : FaultShape) → HasOneOutcome (FitsPlaces d shape)
+unfolding FitsPlaces
+places_one d shape (Ok u) (Ok v) f g rs ss = refl
+places_one d shape (Ok u) (Err (Refusal.Device DeviceRefusal.BadPlace)) f g rs ss = absurd (g f)
+places_one d shape (Ok u) (Err other) f g rs ss = absurd g
+places_one d shape (Err (Refusal.Device DeviceRefusal.BadPlace)) (Ok v) f g rs ss = absurd (f g)
+places_one d shape (Err (Refusal.Device DeviceRefusal.BadPlace)) (Err (Refusal.Device DeviceRefusal.BadPlace)) f g rs ss = refl
+places_one d shape (Err (Refusal.Device DeviceRefusal.BadPlace)) (Err other) f g rs ss = absurd g
+places_one d shape (Err other) s f g rs ss = absurd f
+
+pub fault_one : (march : List MarchElement) (d : Description) (planted : Planted) (boxes : Boxes) → FirstTells boxes → HasOneAnswer (LeavesFault march d planted boxes)
+unfolding LeavesFault
+fault_one march d planted [] n r s f g rs ss = absurd f
+fault_one march d planted (box ∷ boxes) n (Ok x) (Ok y) f g rs ss = benched_one march d (Some planted) box.tells x y n f.benched g.benched
+fault_one march d planted (box ∷ boxes) n (Err Refusal.NoMemory) s f g rs ss = absurd rs
+fault_one march d planted (box ∷ boxes) n (Err other) s f g rs ss = absurd f
+fault_one march d planted (box ∷ boxes) n (Ok x) (Err Refusal.NoMemory) f g rs ss = absurd ss
+fault_one march d planted (box ∷ boxes) n (Ok x) (Err other) f g rs ss = absurd g

@@ -5,11 +5,15 @@ use Rattle.std.specs.Str.Parse.{AllDigits}
 use Rattle.bist_endings.specs.Words.{Words, word, IsNumber}
 use Rattle.bist_app.specs.declared.commands.Command.{Command}
 use Rattle.bist_app.specs.declared.sim.SimShape.{SimShape}
+use Rattle.bist_app.specs.declared.benchfault_command.FaultShape.{FaultShape}
 use Rattle.bist_app.specs.Sim.{IsSimShape, IsAggressorWord}
 use Rattle.bist_app.specs.Judge.{IsJudgeShape}
 use Rattle.bist_app.specs.Vectors.{IsVectorsShape}
 use Rattle.bist_app.specs.BenchFile.{IsBenchFileShape}
+use Rattle.bist_app.specs.Compile.{IsCompileShape}
+use Rattle.bist_app.specs.BenchFault.{IsFaultShape}
 use Rattle.bist_app.specs.Run.{HasShape}
+use Rattle.bist_app.proofs.PlaceWords.{place_one, aggressor_place_one}
 
 below_64 : (n : ℕ) → n < 10 ^ 9 → n < 2 ^ 64
 below_64 n h = let big : 10 ^ 9 < 2 ^ 64 = lit< tt in omega (arith, h, big)
@@ -58,6 +62,19 @@ vectors_or_file words h i =
 
 eight_or_four : (words : Words) → length words ≡ 8 → length words ≡ 4 → ⊥
 eight_or_four words h i = omega (arith, h, i)
+
+fault_shape_one : (words : Words) (s t : FaultShape) → IsFaultShape words s → IsFaultShape words t → s ≡ t
+fault_shape_one words s t h i =
+    let aggressor = aggressor_place_one (word words 4) s.aggressor t.aggressor h.aggressor i.aggressor in
+    let victim = place_one (word words 5) s.victim t.victim h.victim i.victim in
+    λ j. record { aggressor = aggressor j; victim = victim j }
+
+compile_or_fault : (words : Words) (shape : FaultShape) → IsCompileShape words → IsFaultShape words shape → ⊥
+compile_or_fault words shape h i =
+    let same : codes "compile" ≡ codes "benchfault" = sym h.name ∙ i.name in
+    let lengths : length (codes "compile") ≡ length (codes "benchfault") = ap length same in
+    let differ : 7 ≡ 10 = lengths in
+    omega (arith, differ)
 
 pub command_one : (words : Words) (c d : Command) → HasShape words c → HasShape words d → c ≡ d
 command_one words (Command.Sim s) (Command.Sim t) h i = ap Command.Sim (shape_one words s t h i)
@@ -109,3 +126,18 @@ command_one words (Command.Make n) Command.Bench h i = absurd (omega (arith, h.h
 command_one words (Command.Make m) (Command.Make n) h i = ap Command.Make (number_one (word words 1) m n h.says i.says)
 command_one words Command.BenchFile (Command.Make n) h i = absurd (omega (arith, h.count, i.has_words.count))
 command_one words (Command.Make n) Command.BenchFile h i = absurd (omega (arith, h.has_words.count, i.count))
+command_one words (Command.Sim s) (Command.BenchFault f) h i = absurd (omega (arith, h.count, i.count))
+command_one words Command.Judge (Command.BenchFault f) h i = absurd (omega (arith, h.count, i.count))
+command_one words Command.Vectors (Command.BenchFault f) h i = absurd (omega (arith, h.count, i.count))
+command_one words Command.Compile (Command.BenchFault f) h i = absurd (compile_or_fault words f h i)
+command_one words Command.Bench (Command.BenchFault f) h i = absurd (omega (arith, h.count, i.count))
+command_one words (Command.BenchFault f) (Command.Sim t) h i = absurd (omega (arith, h.count, i.count))
+command_one words (Command.BenchFault f) Command.Judge h i = absurd (omega (arith, h.count, i.count))
+command_one words (Command.BenchFault f) Command.Vectors h i = absurd (omega (arith, h.count, i.count))
+command_one words (Command.BenchFault f) Command.Compile h i = absurd (compile_or_fault words f i h)
+command_one words (Command.BenchFault f) Command.Bench h i = absurd (omega (arith, h.count, i.count))
+command_one words (Command.BenchFault f) (Command.BenchFault g) h i = ap Command.BenchFault (fault_shape_one words f g h i)
+command_one words Command.BenchFile (Command.BenchFault f) h i = absurd (omega (arith, h.count, i.count))
+command_one words (Command.BenchFault f) Command.BenchFile h i = absurd (omega (arith, h.count, i.count))
+command_one words (Command.Make n) (Command.BenchFault f) h i = absurd (omega (arith, h.has_words.count, i.count))
+command_one words (Command.BenchFault f) (Command.Make n) h i = absurd (omega (arith, h.count, i.has_words.count))

@@ -1,5 +1,5 @@
 -- What a command's own checks allow is one outcome alone.
-use Rattle.std.proofs.Common.{◌≡◌, ℕ, List, Result, Ok, Err, Option, refl, arith}
+use Rattle.std.proofs.Common.{◌≡◌, ℕ, Bool, List, Result, Ok, Err, Option, refl, arith}
 use Rattle.march_core.specs.March.{MarchElement}
 use Rattle.fault_core.specs.Primitive.{Primitive}
 use Rattle.memory_desc.specs.Descriptions.{Description}
@@ -11,15 +11,15 @@ use Rattle.bist_endings.specs.OneOutcome.{HasOneOutcome}
 use Rattle.bist_app.specs.Sim.{FitsAggressor, FitsDirections, LeavesSim}
 use Rattle.bist_app.specs.Vectors.{FitsLength, LeavesVectors}
 
-pub aggressor_one : (aggressor : Option ℕ) (prim : Primitive) → HasOneOutcome (FitsAggressor aggressor prim)
+pub aggressor_one : (given : Bool) (prim : Primitive) → HasOneOutcome (FitsAggressor given prim)
 unfolding FitsAggressor
-aggressor_one aggressor prim (Ok u) (Ok v) f g r s = refl
-aggressor_one aggressor prim (Ok u) (Err (Refusal.Misfit Misfit.Aggressor)) f g r s = absurd (g f)
-aggressor_one aggressor prim (Ok u) (Err other) f g r s = absurd g
-aggressor_one aggressor prim (Err (Refusal.Misfit Misfit.Aggressor)) (Ok v) f g r s = absurd (f g)
-aggressor_one aggressor prim (Err (Refusal.Misfit Misfit.Aggressor)) (Err (Refusal.Misfit Misfit.Aggressor)) f g r s = refl
-aggressor_one aggressor prim (Err (Refusal.Misfit Misfit.Aggressor)) (Err other) f g r s = absurd g
-aggressor_one aggressor prim (Err other) outcome f g r s = absurd f
+aggressor_one given prim (Ok u) (Ok v) f g r s = refl
+aggressor_one given prim (Ok u) (Err (Refusal.Misfit Misfit.Aggressor)) f g r s = absurd (g f)
+aggressor_one given prim (Ok u) (Err other) f g r s = absurd g
+aggressor_one given prim (Err (Refusal.Misfit Misfit.Aggressor)) (Ok v) f g r s = absurd (f g)
+aggressor_one given prim (Err (Refusal.Misfit Misfit.Aggressor)) (Err (Refusal.Misfit Misfit.Aggressor)) f g r s = refl
+aggressor_one given prim (Err (Refusal.Misfit Misfit.Aggressor)) (Err other) f g r s = absurd g
+aggressor_one given prim (Err other) outcome f g r s = absurd f
 
 pub directions_one : (letters : List ℕ) (march : List MarchElement) → HasOneOutcome (FitsDirections letters march)
 unfolding FitsDirections

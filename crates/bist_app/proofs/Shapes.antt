@@ -2,22 +2,25 @@
 use Rattle.std.proofs.Common.{ℕ}
 use Rattle.bist_app.specs.declared.commands.Command.{Command}
 use Rattle.bist_app.specs.declared.sim.SimShape.{SimShape}
+use Rattle.bist_app.specs.declared.benchfault_command.FaultShape.{FaultShape}
 use Rattle.bist_endings.specs.Words.{Words}
 use Rattle.bist_app.specs.Sim.{IsSimShape}
 use Rattle.bist_app.specs.Judge.{IsJudgeShape}
 use Rattle.bist_app.specs.Vectors.{IsVectorsShape}
 use Rattle.bist_app.specs.Compile.{IsCompileShape}
 use Rattle.bist_app.specs.Bench.{IsBenchShape}
+use Rattle.bist_app.specs.BenchFault.{IsFaultShape}
 use Rattle.bist_app.specs.BenchFile.{IsBenchFileShape}
 use Rattle.bist_app.specs.Make.{IsMakeShape}
 use Rattle.bist_app.specs.Run.{HasNoShape}
 
 pub no_shape : (words : Words) → ((shape : SimShape) → IsSimShape words shape → ⊥) → (IsJudgeShape words → ⊥) → (IsVectorsShape words → ⊥) → (IsCompileShape words → ⊥) → (IsBenchShape words → ⊥)
-    → (IsBenchFileShape words → ⊥) → ((number : ℕ) → IsMakeShape words number → ⊥) → HasNoShape words
-no_shape words sim judge vectors compile bench file make (Command.Sim shape) h = sim shape h
-no_shape words sim judge vectors compile bench file make Command.Judge h = judge h
-no_shape words sim judge vectors compile bench file make Command.Vectors h = vectors h
-no_shape words sim judge vectors compile bench file make Command.Compile h = compile h
-no_shape words sim judge vectors compile bench file make Command.Bench h = bench h
-no_shape words sim judge vectors compile bench file make Command.BenchFile h = file h
-no_shape words sim judge vectors compile bench file make (Command.Make number) h = make number h
+    → ((shape : FaultShape) → IsFaultShape words shape → ⊥) → (IsBenchFileShape words → ⊥) → ((number : ℕ) → IsMakeShape words number → ⊥) → HasNoShape words
+no_shape words sim judge vectors compile bench fault file make (Command.Sim shape) h = sim shape h
+no_shape words sim judge vectors compile bench fault file make Command.Judge h = judge h
+no_shape words sim judge vectors compile bench fault file make Command.Vectors h = vectors h
+no_shape words sim judge vectors compile bench fault file make Command.Compile h = compile h
+no_shape words sim judge vectors compile bench fault file make Command.Bench h = bench h
+no_shape words sim judge vectors compile bench fault file make Command.BenchFile h = file h
+no_shape words sim judge vectors compile bench fault file make (Command.Make number) h = make number h
+no_shape words sim judge vectors compile bench fault file make (Command.BenchFault shape) h = fault shape h

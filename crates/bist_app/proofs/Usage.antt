@@ -1,5 +1,5 @@
 -- No command's checks refuse the words.
-use Rattle.std.proofs.Common.{List, [], ◌∷◌, ℕ, Option, None, Result, Ok, Err, refl}
+use Rattle.std.proofs.Common.{List, [], ◌∷◌, ℕ, Bool, Option, None, Result, Ok, Err, is_some, refl}
 use Rattle.bist_host.specs.Files.{Files}
 use Rattle.march_core.specs.March.{MarchElement}
 use Rattle.array_sim.specs.declared.element_run.Miss.{Miss}
@@ -16,6 +16,7 @@ use Rattle.bist_inputs.proofs.DesignUsage.{input_module_never}
 use Rattle.bist_inputs.proofs.Usage.{NeverUsage, turned, input_march_never, prim_never, input_list_never, input_memory_never}
 use Rattle.bist_app.specs.declared.commands.Command.{Command}
 use Rattle.bist_app.specs.declared.sim.SimShape.{SimShape}
+use Rattle.bist_app.specs.declared.benchfault_command.FaultShape.{FaultShape}
 use Rattle.bist_app.specs.Sim.{FitsAggressor, FitsDirections, LeavesSim, DecidesSim}
 use Rattle.bist_app.specs.Judge.{LeavesJudge, DecidesJudge}
 use Rattle.bist_app.specs.Vectors.{FitsLength, LeavesVectors, DecidesVectors}
@@ -25,11 +26,12 @@ use Rattle.bist_app.specs.Bench.{Boxes, HasBox, FitsRoom, LeavesBench, DecidesBe
 use Rattle.verilog_tree.specs.Plain.{ModuleTree}
 use Rattle.bist_app.specs.BenchFile.{HasPorts, LeavesBenchFile, DecidesBenchFile}
 use Rattle.bist_app.specs.Make.{LeavesMake}
+use Rattle.bist_app.specs.BenchFault.{FitsPlaces, planted_of, LeavesFault, DecidesFault}
 use Rattle.bist_app.specs.Run.{DecidesCommand}
 
-aggressor_never : (aggressor : Option ℕ) (prim : Primitive) → NeverUsage (FitsAggressor aggressor prim)
+aggressor_never : (given : Bool) (prim : Primitive) → NeverUsage (FitsAggressor given prim)
 unfolding FitsAggressor
-aggressor_never aggressor prim h = h
+aggressor_never given prim h = h
 
 directions_never : (letters : List ℕ) (march : List MarchElement) → NeverUsage (FitsDirections letters march)
 unfolding FitsDirections
@@ -45,7 +47,7 @@ sim_never files words shape (Err e, read, is) =
 sim_never files words shape (Ok march, read, (Err e, given, is)) =
     prim_never (word words 2) (turned (GivesPrim (word words 2)) (let x : Result Done Refusal = Err Refusal.Usage in x) e refl is given)
 sim_never files words shape (Ok march, read, (Ok prim, given, (Err e, fits, is))) =
-    aggressor_never shape.aggressor prim (turned (FitsAggressor shape.aggressor prim) (let x : Result Done Refusal = Err Refusal.Usage in x) e refl is fits)
+    aggressor_never (is_some shape.aggressor) prim (turned (FitsAggressor (is_some shape.aggressor) prim) (let x : Result Done Refusal = Err Refusal.Usage in x) e refl is fits)
 sim_never files words shape (Ok march, read, (Ok prim, given, (Ok _, stands, (Err e, fits, is)))) =
     directions_never (word words 7) march (turned (FitsDirections (word words 7) march) (let x : Result Done Refusal = Err Refusal.Usage in x) e refl is fits)
 sim_never files words shape (Ok march, read, (Ok prim, given, (Ok _, stands, (Ok _, fits, leaves)))) = leaves_never _ leaves
@@ -148,6 +150,34 @@ file_never files boxes words (Ok mo, read, (Ok march, given, (Ok d, described, (
 make_never : (number : ℕ) → NeverUsage (LeavesMake number)
 unfolding LeavesMake
 make_never number h = h
+places_never : (d : Description) (shape : FaultShape) → NeverUsage (FitsPlaces d shape)
+unfolding FitsPlaces
+places_never d shape h = h
+
+fault_leaves_never : (march : List MarchElement) (d : Description) (planted : Planted) (boxes : Boxes) → NeverUsage (LeavesFault march d planted boxes)
+unfolding LeavesFault
+fault_leaves_never march d planted [] h = h
+fault_leaves_never march d planted (box ∷ boxes) h = h
+
+fault_never : (files : Option Files) (boxes : Boxes) (words : Words) (shape : FaultShape) → NeverUsage (DecidesFault files boxes words shape)
+fault_never files boxes words shape (Err e, read, is) =
+    input_march_never files words 1 (turned (InputMarch files words 1) (let x : Result Done Refusal = Err Refusal.Usage in x) e refl is read)
+fault_never files boxes words shape (Ok march, read, (Err e, given, is)) =
+    input_memory_never files words 2 (turned (InputMemory files words 2) (let x : Result Done Refusal = Err Refusal.Usage in x) e refl is given)
+fault_never files boxes words shape (Ok march, read, (Ok d, given, (Err e, asked, is))) =
+    prim_never (word words 3) (turned (GivesPrim (word words 3)) (let x : Result Done Refusal = Err Refusal.Usage in x) e refl is asked)
+fault_never files boxes words shape (Ok march, read, (Ok d, given, (Ok prim, asked, (Err e, agrees, is)))) =
+    aggressor_never (is_some shape.aggressor) prim (turned (FitsAggressor (is_some shape.aggressor) prim) (let x : Result Done Refusal = Err Refusal.Usage in x) e refl is agrees)
+fault_never files boxes words shape (Ok march, read, (Ok d, given, (Ok prim, asked, (Ok _, agrees, (Err e, fits, is))))) =
+    length_never march d (turned (FitsLength march d) (let x : Result Done Refusal = Err Refusal.Usage in x) e refl is fits)
+fault_never files boxes words shape (Ok march, read, (Ok d, given, (Ok prim, asked, (Ok _, agrees, (Ok _, fits, (Err e, has, is)))))) =
+    box_never boxes (turned (HasBox boxes) (let x : Result Done Refusal = Err Refusal.Usage in x) e refl is has)
+fault_never files boxes words shape (Ok march, read, (Ok d, given, (Ok prim, asked, (Ok _, agrees, (Ok _, fits, (Ok _, has, (Err e, stands, is))))))) =
+    places_never d shape (turned (FitsPlaces d shape) (let x : Result Done Refusal = Err Refusal.Usage in x) e refl is stands)
+fault_never files boxes words shape (Ok march, read, (Ok d, given, (Ok prim, asked, (Ok _, agrees, (Ok _, fits, (Ok _, has, (Ok _, stands, (Err e, room, is)))))))) =
+    room_never d boxes (turned (FitsRoom d boxes) (let x : Result Done Refusal = Err Refusal.Usage in x) e refl is room)
+fault_never files boxes words shape (Ok march, read, (Ok d, given, (Ok prim, asked, (Ok _, agrees, (Ok _, fits, (Ok _, has, (Ok _, stands, (Ok _, room, leaves)))))))) =
+    fault_leaves_never march d (planted_of prim shape) boxes leaves
 
 pub never_usage : (files : Option Files) (boxes : Boxes) (words : Words) (command : Command) → NeverUsage (DecidesCommand files boxes words command)
 never_usage files boxes words (Command.Sim shape) = sim_never files words shape
@@ -157,3 +187,4 @@ never_usage files boxes words Command.Compile = compile_never files words
 never_usage files boxes words Command.Bench = bench_never files boxes words
 never_usage files boxes words Command.BenchFile = file_never files boxes words
 never_usage files boxes words (Command.Make number) = make_never number
+never_usage files boxes words (Command.BenchFault shape) = fault_never files boxes words shape

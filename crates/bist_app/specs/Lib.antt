@@ -4,6 +4,7 @@ pub mod Judge
 pub mod Vectors
 pub mod Bench
 pub mod BenchFile
+pub mod BenchFault
 pub mod Compile
 pub mod Make
 pub mod LetterBits

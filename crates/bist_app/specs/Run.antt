@@ -14,6 +14,7 @@ use Rattle.bist_app.specs.Compile.{IsCompileShape, DecidesCompile}
 use Rattle.bist_app.specs.Make.{IsMakeShape, LeavesMake}
 use Rattle.bist_app.specs.Bench.{Boxes, IsBenchShape, DecidesBench, LeavesFirst}
 use Rattle.bist_app.specs.BenchFile.{IsBenchFileShape, DecidesBenchFile}
+use Rattle.bist_app.specs.BenchFault.{IsFaultShape, DecidesFault}
 
 -- the words have the shape of this command
 abbrev pub HasShape : Words → Command → Type 0
@@ -24,6 +25,7 @@ HasShape words Command.Compile = IsCompileShape words
 HasShape words Command.Bench = IsBenchShape words
 HasShape words Command.BenchFile = IsBenchFileShape words
 HasShape words (Command.Make number) = IsMakeShape words number
+HasShape words (Command.BenchFault shape) = IsFaultShape words shape
 
 -- the words have no shape
 abbrev pub HasNoShape : Words → Type 0
@@ -38,6 +40,7 @@ DecidesCommand files boxes words Command.Compile outcome = DecidesCompile files 
 DecidesCommand files boxes words Command.Bench outcome = DecidesBench files boxes words outcome
 DecidesCommand files boxes words Command.BenchFile outcome = DecidesBenchFile files boxes words outcome
 DecidesCommand files boxes words (Command.Make number) outcome = LeavesMake number outcome
+DecidesCommand files boxes words (Command.BenchFault shape) outcome = DecidesFault files boxes words shape outcome
 
 -- what it leaves of the boxes
 abbrev pub LeavesBoxes : Command → Boxes → Boxes → Result Done Refusal → Type 0
@@ -48,6 +51,7 @@ LeavesBoxes Command.Compile boxes left outcome = left ≡ boxes
 LeavesBoxes Command.Bench boxes left outcome = LeavesFirst boxes left outcome
 LeavesBoxes Command.BenchFile boxes left outcome = LeavesFirst boxes left outcome
 LeavesBoxes (Command.Make number) boxes left outcome = left ≡ boxes
+LeavesBoxes (Command.BenchFault shape) boxes left outcome = LeavesFirst boxes left outcome
 
 -- the check of the words, and then the command's
 abbrev pub Decides : Option Files → Boxes → Boxes → Words → Result Done Refusal → Type 0

@@ -67,10 +67,10 @@ FitsDirections letters march (Err (Refusal.Misfit Misfit.Directions)) = IsTrue (
 FitsDirections letters march (Err other) = ⊥
 
 -- an aggressor is given exactly for a primitive of two cells
-unfoldable pub FitsAggressor : Option ℕ → Primitive → Result (Unit {0}) Refusal → Type 0
-FitsAggressor aggressor prim (Ok _) = is_some aggressor ≡ has_aggressor prim
-FitsAggressor aggressor prim (Err (Refusal.Misfit Misfit.Aggressor)) = is_some aggressor ≢ has_aggressor prim
-FitsAggressor aggressor prim (Err other) = ⊥
+unfoldable pub FitsAggressor : Bool → Primitive → Result (Unit {0}) Refusal → Type 0
+FitsAggressor given prim (Ok _) = given ≡ has_aggressor prim
+FitsAggressor given prim (Err (Refusal.Misfit Misfit.Aggressor)) = given ≢ has_aggressor prim
+FitsAggressor given prim (Err other) = ⊥
 
 -- the read that caught the primitive in these places
 abbrev pub miss_of : List MarchElement → Primitive → Places → List ℕ → List ℕ → Option Miss
@@ -98,6 +98,6 @@ abbrev pub DecidesSim : Option Files → Words → SimShape → Result Done Refu
 DecidesSim files words shape =
     Then (InputMarch files words 1) (λ march.
     Then (GivesPrim (word words 2)) (λ prim.
-    Then (FitsAggressor shape.aggressor prim) (λ _.
+    Then (FitsAggressor (is_some shape.aggressor) prim) (λ _.
     Then (FitsDirections (word words 7) march) (λ _.
     LeavesSim (miss_of march prim (places_of shape) (word words 4) (word words 7))))))

@@ -141,7 +141,7 @@ pub fn end_plan(
 }
 
 /// Runs a self-test against a box that is fitted.
-fn run_plan(
+pub fn run_plan(
     alloc: Global,
     design: &mut Design,
     march: &March,

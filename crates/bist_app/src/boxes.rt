@@ -55,11 +55,27 @@ fn fit_box(device: &mut Box<dyn Device>, shape: &Shape) -> Result<(), NoMemory>
 }
 
 /// Fills a box with zeros.
-fn clear_box(device: &mut Box<dyn Device>)
+pub fn clear_box(device: &mut Box<dyn Device>)
     requires { IsSome (shape_of device.old) }
     ensures { told (room_of device.new) (shape_of device.new) (tells device.new) ≡ told (room_of device.old) (shape_of device.old) (after_fill (shape_of device.old) 0 (tells device.old)) }
 {
     device.fill(0);
+}
+
+/// Fits the first box with the memory's shape and takes it out of the list. Want of memory leaves the list as it was.
+pub fn fit_first(
+    devices: &mut Vec<Box<dyn Device>>,
+    memory: &Memory,
+) -> Result<Box<dyn Device>, NoMemory>
+    requires some { 0 < vec_len devices.old }
+    ensures taken { OnOk result (devices.new.items ≡ drop 1 devices.old.items) }
+    ensures kept { OnErr result (map (λ b. told (room_of b) (shape_of b) (tells b)) devices.new.items ≡ map (λ b. told (room_of b) (shape_of b) (tells b)) devices.old.items) }
+    ensures fitted { IfOk result (λ d. shape_of d ≡ Some (memory_shape memory.now)) }
+    ensures tells { IfOk result (λ d. (b : _) (rest : _) → devices.old.items ≡ b ∷ rest → tells d ≡ after_fit (memory_shape memory.now) (tells b)) }
+{
+    let shape = shape_of(memory);
+    fit_box(&mut devices[0], &shape)?;
+    Ok(devices.remove(0))
 }
 
 /// Fits the first box with the memory's shape and takes it out of the list, filled with zeros. Want of memory leaves the list as it was.
@@ -73,9 +89,7 @@ pub fn take_first(
     ensures fitted { IfOk result (λ d. shape_of d ≡ Some (memory_shape memory.now)) }
     ensures tells { IfOk result (λ d. (b : _) (rest : _) → devices.old.items ≡ b ∷ rest → tells d ≡ ready memory.now (tells b)) }
 {
-    let shape = shape_of(memory);
-    fit_box(&mut devices[0], &shape)?;
-    let mut device = devices.remove(0);
+    let mut device = fit_first(devices, memory)?;
     clear_box(&mut device);
     Ok(device)
 }

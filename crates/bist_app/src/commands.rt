@@ -2,6 +2,7 @@ ghost use Rattle.std.specs.Prelude.{MatchOption};
 ghost use Rattle.bist_app.specs.Run.{HasShape, HasNoShape};
 
 use crate::bench_command::is_bench;
+use crate::benchfault_command::{FaultShape, fault_shape};
 use crate::benchfile_command::is_benchfile;
 use crate::compile::is_compile;
 use crate::judge::is_judge;
@@ -17,6 +18,7 @@ pub enum Command {
     Vectors,
     Compile,
     Bench,
+    BenchFault(FaultShape),
     BenchFile,
     Make(u16),
 }
@@ -39,6 +41,9 @@ pub fn command_of(words: &[&str]) -> Option<Command>
     }
     if is_bench(words) {
         return Some(Command::Bench);
+    }
+    if let Some(shape) = fault_shape(words) {
+        return Some(Command::BenchFault(shape));
     }
     if is_benchfile(words) {
         return Some(Command::BenchFile);

@@ -3,6 +3,7 @@
 
 mod bench_command;
 mod benchfile_command;
+mod benchfault_command;
 mod benching;
 mod boxes;
 mod commands;
@@ -10,6 +11,7 @@ mod compile;
 mod directions;
 mod judge;
 mod make;
+mod planting;
 mod reporting;
 mod sim;
 mod top;

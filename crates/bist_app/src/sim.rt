@@ -109,12 +109,12 @@ fn line_of(alloc: Global, miss: Option<Miss>) -> Result<Vec<u8>, AllocError>
 
 /// Refuses an aggressor for a primitive of one cell, and none for one of two cells.
 #[tactic(auto, unfolding(crate::specs::Sim::FitsAggressor))]
-fn fit_aggressor(aggressor: Option<usize>, prim: &Prim) -> Result<(), Refusal>
-    ensures answer { FitsAggressor aggressor prim.now result }
+pub fn fit_aggressor(given: bool, prim: &Prim) -> Result<(), Refusal>
+    ensures answer { FitsAggressor given prim.now result }
     ensures own { IfErr result IsOwnRefusal }
-    ensures given { OnOk result (is_some aggressor ≡ has_aggressor prim.now) }
+    ensures given { OnOk result (given ≡ has_aggressor prim.now) }
 {
-    if aggressor.is_some() != prim.is_two_cell() {
+    if given != prim.is_two_cell() {
         return Err(Refusal::Misfit(Misfit::Aggressor));
     }
     Ok(())
@@ -207,7 +207,7 @@ pub fn decide_sim<H: Host>(
 {
     let march = read_march_input(host, words, 1)?;
     let prim = give_prim(words[2].as_bytes())?;
-    fit_aggressor(shape.aggressor, &prim)?;
+    fit_aggressor(shape.aggressor.is_some(), &prim)?;
     fit_directions(words[7].as_bytes(), &march)?;
     let places = places_for(shape, words, &prim);
     plan_sim(

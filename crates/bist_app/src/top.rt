@@ -9,6 +9,7 @@ ghost use Rattle.bist_app.specs.Run.{Decides, Runs, HasNoShape};
 
 use crate::bench_command::decide_bench;
 use crate::benchfile_command::decide_benchfile;
+use crate::benchfault_command::decide_fault;
 use crate::commands::{Command, command_of};
 use crate::compile::decide_compile;
 use crate::judge::decide_judge;
@@ -45,6 +46,7 @@ fn decide<H: Host>(
         Some(Command::Bench) => decide_bench(alloc, words, host, devices),
         Some(Command::BenchFile) => decide_benchfile(alloc, words, host, devices),
         Some(Command::Make(number)) => decide_make(alloc, words, number),
+        Some(Command::BenchFault(shape)) => decide_fault(alloc, words, shape, host, devices),
     }
 }
 

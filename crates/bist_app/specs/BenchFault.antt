@@ -1,0 +1,110 @@
+-- The command `benchfault MARCH MEMORY PRIM AGG VIC`: the self-test module against the first box, in which an instance of a primitive is
+-- planted. Its shape, its checks in their order, and what it leaves.
+use Rattle.std.specs.Prelude.{◌≡◌, ◌≢◌, ◌<◌, ◌^◌, ◌++◌, ℕ, List, [], ◌∷◌, Option, Some, None, Result, Ok, Err, IsTrue, length, codes, decimal, is_some}
+use Rattle.bist_host.specs.Files.{Files}
+use Rattle.march_core.specs.March.{MarchElement}
+use Rattle.fault_core.specs.Primitive.{Primitive}
+use Rattle.array_sim.specs.Detection.{Detects}
+use Rattle.memory_desc.specs.Descriptions.{Description}
+use Rattle.word_device.specs.declared.device.Place.{Place}
+use Rattle.word_device.specs.declared.device.Planted.{Planted}
+use Rattle.word_device.specs.Ports.{Chip, shape_of}
+use Rattle.word_device.specs.Boxes.{Tells, TellsChip, after_fit, after_plant, after_fill}
+use Rattle.bist_endings.specs.declared.ending.Refusal.{Refusal}
+use Rattle.bist_endings.specs.declared.ending.DeviceRefusal.{DeviceRefusal}
+use Rattle.bist_endings.specs.Ending.{Done}
+use Rattle.bist_endings.specs.Then.{Then}
+use Rattle.bist_endings.specs.Words.{Words, word, ArePlain}
+use Rattle.bist_inputs.specs.Inputs.{InputMarch, GivesPrim}
+use Rattle.bist_inputs.specs.Memories.{InputMemory}
+use Rattle.bist_app.specs.declared.benchfault_command.NamedPlace.{NamedPlace}
+use Rattle.bist_app.specs.declared.benchfault_command.FaultShape.{FaultShape}
+use Rattle.bist_app.specs.Sim.{FitsAggressor}
+use Rattle.bist_app.specs.Vectors.{FitsLength}
+use Rattle.bist_app.specs.Bench.{Boxes, HasBox, FitsRoom, IsBenched}
+
+-- ---- the words
+
+-- a word's number and a bit's number, joined by a full stop; both are decimal, without a leading zero, with at most 9 digits
+abbrev pub IsPlaceWord : List ℕ → NamedPlace → Type 0
+IsPlaceWord text place = (place.word < 10 ^ 9) × (place.bit < 10 ^ 9) × (text ≡ decimal place.word ++ codes "." ++ decimal place.bit)
+
+-- the aggressor's place, or none
+abbrev pub IsAggressorPlace : List ℕ → Option NamedPlace → Type 0
+IsAggressorPlace text None = text ≡ codes "none"
+IsAggressorPlace text (Some place) = IsPlaceWord text place
+
+-- the words have the shape; the files have two names
+pub record IsFaultShape (words : Words) (shape : FaultShape) : Type 0 where
+  pub count : length words ≡ 6
+  pub name : word words 0 ≡ codes "benchfault"
+  pub plain : ArePlain words
+  pub march_not_memory : word words 1 ≢ word words 2
+  pub aggressor : IsAggressorPlace (word words 4) shape.aggressor
+  pub victim : IsPlaceWord (word words 5) shape.victim
+
+-- ---- the places
+
+-- the memory has this bit
+abbrev pub IsWithin : Description → NamedPlace → Type 0
+IsWithin d place = (place.word < d.words) × (place.bit < d.bits)
+
+-- it has the aggressor's, where there is one, and in another word than the victim's
+abbrev pub IsApart : Description → NamedPlace → Option NamedPlace → Type 0
+IsApart d victim None = Unit {0}
+IsApart d victim (Some place) = IsWithin d place × (place.word ≢ victim.word)
+
+abbrev pub ArePlaces : Description → FaultShape → Type 0
+ArePlaces d shape = IsWithin d shape.victim × IsApart d shape.victim shape.aggressor
+
+-- the places are in the memory, and in two words
+unfoldable pub FitsPlaces : Description → FaultShape → Result (Unit {0}) Refusal → Type 0
+FitsPlaces d shape (Ok _) = ArePlaces d shape
+FitsPlaces d shape (Err (Refusal.Device DeviceRefusal.BadPlace)) = ArePlaces d shape → ⊥
+FitsPlaces d shape (Err other) = ⊥
+
+-- the instance that the words name
+abbrev pub place_in : NamedPlace → Place
+place_in place = record { word = place.word; bit = place.bit }
+
+abbrev pub aggressor_in : Option NamedPlace → Option Place
+aggressor_in None = None
+aggressor_in (Some place) = Some (place_in place)
+
+abbrev pub planted_of : Primitive → FaultShape → Planted
+planted_of prim shape = record { prim = prim; agg = aggressor_in shape.aggressor; vic = place_in shape.victim }
+
+-- what a box tells that is fitted with the memory's shape, planted with the instance, and filled with zeros
+abbrev pub ready_planted : Description → Planted → Tells → Tells
+ready_planted d planted tells = after_fill (Some (shape_of d)) 0 (after_plant planted (after_fit (shape_of d) tells))
+
+-- ---- what the command leaves
+
+-- the line and the status are those of the run; beside a box that tells its chip, a primitive that the march detects is found
+pub record IsFaultBenched (march : List MarchElement) (d : Description) (planted : Planted) (tells : Tells) (done : Done) : Type 0 where
+  pub benched : IsBenched march d (Some planted) tells done
+  pub caught : (chip : Chip) → tells ≡ TellsChip chip → Detects march planted.prim → IsTrue done.found
+
+unfoldable pub LeavesFault : List MarchElement → Description → Planted → Boxes → Result Done Refusal → Type 0
+LeavesFault march d planted [] result = ⊥
+LeavesFault march d planted (box ∷ boxes) (Ok done) = IsFaultBenched march d planted box.tells done
+LeavesFault march d planted (box ∷ boxes) (Err Refusal.NoMemory) = Unit {0}
+LeavesFault march d planted (box ∷ boxes) (Err other) = ⊥
+
+-- the checks behind the inputs, in their order
+abbrev pub TestsFault : List MarchElement → Description → Primitive → FaultShape → Boxes → Result Done Refusal → Type 0
+TestsFault march d prim shape boxes =
+    Then (FitsAggressor (is_some shape.aggressor) prim) (λ _.
+    Then (FitsLength march d) (λ _.
+    Then (HasBox boxes) (λ _.
+    Then (FitsPlaces d shape) (λ _.
+    Then (FitsRoom d boxes) (λ _.
+    LeavesFault march d (planted_of prim shape) boxes)))))
+
+-- the checks of `benchfault` in their order
+abbrev pub DecidesFault : Option Files → Boxes → Words → FaultShape → Result Done Refusal → Type 0
+DecidesFault files boxes words shape =
+    Then (InputMarch files words 1) (λ march.
+    Then (InputMemory files words 2) (λ d.
+    Then (GivesPrim (word words 3)) (λ prim.
+    TestsFault march d prim shape boxes)))

@@ -1,0 +1,216 @@
+//! The command `benchfault`: the self-test of a march and a memory against the first box, in which an instance of a primitive is planted.
+
+ghost use Rattle.std.specs.Prelude.{◌≡◌, ◌≤◌, ◌<◌, ◌↔◌, [], Some, IfOk, IfErr, IsTrue, MatchOption, Option, is_some, map, vec_len};
+ghost use Rattle.bist_host.specs.Files.{Rose};
+ghost use Rattle.fault_core.specs.Primitive.{has_aggressor};
+ghost use Rattle.word_device.specs.Chips.{FitsMemory};
+ghost use Rattle.word_device.specs.Boxes.{told};
+ghost use Rattle.bist_endings.specs.Ending.{plain, done_of};
+ghost use Rattle.bist_endings.specs.Conclude.{NamesWords};
+ghost use Rattle.bist_inputs.specs.Inputs.{HasReadCause, IsOwnRefusal};
+ghost use Rattle.bist_app.specs.declared.benchfault_command.NamedPlace.{NamedPlace};
+ghost use Rattle.bist_app.specs.declared.benchfault_command.FaultShape.{FaultShape};
+ghost use Rattle.bist_app.specs.Bench.{LeavesFirst};
+ghost use Rattle.bist_app.specs.BenchFault.{IsPlaceWord, IsAggressorPlace, IsFaultShape, IsWithin, IsApart, ArePlaces, FitsPlaces, place_in, aggressor_in, planted_of, LeavesFault, TestsFault, DecidesFault};
+
+use crate::boxes::{fits_room, has_box};
+use crate::planting::{answers_wrong, bench_planted};
+use crate::sim::fit_aggressor;
+use crate::vectors::fit_length;
+use bist_bits::NoMemory;
+use bist_endings::{DeviceRefusal, Plan, Refusal, are_plain, number_of};
+use bist_host::Host;
+use bist_inputs::{give_prim, read_march_input, read_memory_input};
+use fault_core::Prim;
+use march_core::March;
+use memory_desc::Memory;
+use std::alloc::Global;
+use word_device::{Device, Place, Planted};
+
+/// A bit of a word of a memory, as words name it.
+#[derive(Clone, Copy)]
+pub struct NamedPlace {
+    pub word: usize,
+    pub bit: usize,
+}
+
+/// What the words of `benchfault` say beside their texts.
+#[derive(Clone, Copy)]
+pub struct FaultShape {
+    pub aggressor: Option<NamedPlace>,
+    pub victim: NamedPlace,
+}
+
+/// The place that a word names.
+fn place_of(text: &str) -> Option<NamedPlace>
+    ensures { MatchOption result ((place : NamedPlace) → IsPlaceWord text.now place → ⊥) (λ place. IsPlaceWord text.now place) }
+{
+    let (word, bit) = text.split_once('.')?;
+    let word = number_of(word)?;
+    let bit = number_of(bit)?;
+    Some(NamedPlace { word, bit })
+}
+
+/// The aggressor's place that a word names, or none.
+fn aggressor_place(text: &str) -> Option<Option<NamedPlace>>
+    ensures { MatchOption result ((place : Option NamedPlace) → IsAggressorPlace text.now place → ⊥) (λ place. IsAggressorPlace text.now place) }
+{
+    if text == "none" {
+        return Some(None);
+    }
+    let place = place_of(text)?;
+    Some(Some(place))
+}
+
+/// What the words say, where they have the shape of `benchfault`.
+pub fn fault_shape(words: &[&str]) -> Option<FaultShape>
+    ensures { MatchOption result ((shape : FaultShape) → IsFaultShape words.now shape → ⊥) (λ shape. IsFaultShape words.now shape) }
+{
+    let ["benchfault", march, memory, _, aggressor, victim] = *words else {
+        return None;
+    };
+    if !are_plain(words) || march == memory {
+        return None;
+    }
+    let aggressor = aggressor_place(aggressor)?;
+    let victim = place_of(victim)?;
+    Some(FaultShape { aggressor, victim })
+}
+
+fn is_within(place: NamedPlace, memory: &Memory) -> bool
+    ensures { IsTrue result ↔ IsWithin memory.now place }
+{
+    place.word < memory.words() as usize && place.bit < usize::from(memory.bits())
+}
+
+fn is_apart(aggressor: Option<NamedPlace>, victim: NamedPlace, memory: &Memory) -> bool
+    ensures { IsTrue result ↔ IsApart memory.now victim aggressor }
+{
+    match aggressor {
+        None => true,
+        Some(place) => is_within(place, memory) && place.word != victim.word,
+    }
+}
+
+/// Refuses a place outside the memory, and two places in one word.
+#[tactic(auto, unfolding(crate::specs::BenchFault::FitsPlaces))]
+fn fit_places(shape: FaultShape, memory: &Memory) -> Result<(), Refusal>
+    ensures answer { FitsPlaces memory.now shape result }
+    ensures own { IfErr result IsOwnRefusal }
+    ensures fit { IfOk result (λ _. ArePlaces memory.now shape) }
+{
+    if is_within(shape.victim, memory) && is_apart(shape.aggressor, shape.victim, memory) {
+        return Ok(());
+    }
+    Err(Refusal::Device(DeviceRefusal::BadPlace))
+}
+
+fn place_in(place: NamedPlace, memory: &Memory) -> Place
+    requires { IsWithin memory.now place }
+    ensures { result ≡ place_in place }
+{
+    let _ = memory.words();
+    Place {
+        word: place.word as u32,
+        bit: place.bit as u8,
+    }
+}
+
+fn aggressor_in(aggressor: Option<NamedPlace>, victim: NamedPlace, memory: &Memory) -> Option<Place>
+    requires { IsApart memory.now victim aggressor }
+    ensures { result ≡ aggressor_in aggressor }
+{
+    match aggressor {
+        None => None,
+        Some(place) => Some(place_in(place, memory)),
+    }
+}
+
+/// The instance of a primitive that the words name.
+#[tactic(auto, using(crate::proofs::Faulted::planted_fits, crate::proofs::Faulted::planted_aggressor))]
+fn planted_for(prim: &Prim, shape: FaultShape, memory: &Memory) -> Planted
+    requires places { ArePlaces memory.now shape }
+    requires given { is_some shape.aggressor ≡ has_aggressor prim.now }
+    ensures value { result ≡ planted_of prim.now shape }
+    ensures fits { FitsMemory result memory.now.words memory.now.bits }
+    ensures aggressor { is_some result.agg ≡ has_aggressor result.prim }
+{
+    Planted {
+        prim: *prim,
+        agg: aggressor_in(shape.aggressor, shape.victim, memory),
+        vic: place_in(shape.victim, memory),
+    }
+}
+
+/// The plan of the run, or want of memory.
+#[tactic(auto, using(crate::proofs::Faulted::fault_benched, crate::proofs::Benched::unchanged), unfolding(crate::specs::BenchFault::LeavesFault))]
+fn plan_fault(
+    alloc: Global,
+    march: &March,
+    memory: &Memory,
+    planted: &Planted,
+    devices: &mut Vec<Box<dyn Device>>,
+) -> Result<Plan, Refusal>
+    requires some { 0 < vec_len devices.old }
+    requires fits { FitsMemory planted.now memory.now.words memory.now.bits }
+    requires aggressor { is_some planted.now.agg ≡ has_aggressor planted.now.prim }
+    ensures own { IfErr result IsOwnRefusal }
+    ensures answer { LeavesFault march.now memory.now planted.now (map (λ b. told (room_of b) (shape_of b) (tells b)) devices.old.items) (plain result) }
+    ensures left { LeavesFirst (map (λ b. told (room_of b) (shape_of b) (tells b)) devices.old.items) (map (λ b. told (room_of b) (shape_of b) (tells b)) devices.new.items) (plain result) }
+    ensures outputs { IfOk result (λ plan. (done_of plan).outputs ≡ []) }
+{
+    answers_wrong(march, memory, planted);
+    match bench_planted(alloc, march, memory, planted, devices) {
+        Ok(plan) => Ok(plan),
+        Err(NoMemory) => Err(Refusal::NoMemory),
+    }
+}
+
+/// The checks behind the inputs, and the run.
+#[tactic(auto, using(crate::proofs::Benched::unchanged))]
+fn test_fault(
+    alloc: Global,
+    march: &March,
+    memory: &Memory,
+    prim: &Prim,
+    shape: FaultShape,
+    devices: &mut Vec<Box<dyn Device>>,
+) -> Result<Plan, Refusal>
+    ensures own { IfErr result IsOwnRefusal }
+    ensures answer { TestsFault march.now memory.now prim.now shape (map (λ b. told (room_of b) (shape_of b) (tells b)) devices.old.items) (plain result) }
+    ensures left { LeavesFirst (map (λ b. told (room_of b) (shape_of b) (tells b)) devices.old.items) (map (λ b. told (room_of b) (shape_of b) (tells b)) devices.new.items) (plain result) }
+    ensures outputs { IfOk result (λ plan. (done_of plan).outputs ≡ []) }
+{
+    fit_aggressor(shape.aggressor.is_some(), prim)?;
+    fit_length(march, memory)?;
+    has_box(devices)?;
+    fit_places(shape, memory)?;
+    fits_room(devices, memory)?;
+    let planted = planted_for(prim, shape, memory);
+    plan_fault(alloc, march, memory, &planted, devices)
+}
+
+/// Runs the self-test of a memory by a march against the first box, in which an instance of a primitive is planted.
+#[tactic(auto, using(crate::proofs::Causes::own_cause, crate::proofs::Benched::unchanged))]
+pub fn decide_fault<H: Host>(
+    alloc: Global,
+    words: &[&str],
+    shape: FaultShape,
+    host: &mut H,
+    devices: &mut Vec<Box<dyn Device>>,
+) -> Result<Plan, Refusal>
+    requires { IsFaultShape words.now shape }
+    ensures files { H.files host.new ≡ H.files host.old }
+    ensures said { H.said host.new ≡ H.said host.old }
+    ensures writes { H.write_faults host.new ≡ H.write_faults host.old }
+    ensures reads { H.read_faults host.old ≤ H.read_faults host.new }
+    ensures outputs { IfOk result (λ plan. NamesWords words.now (done_of plan).outputs) }
+    ensures answer { DecidesFault (H.files host.old) (map (λ b. told (room_of b) (shape_of b) (tells b)) devices.old.items) words.now shape (plain result) }
+    ensures left { LeavesFirst (map (λ b. told (room_of b) (shape_of b) (tells b)) devices.old.items) (map (λ b. told (room_of b) (shape_of b) (tells b)) devices.new.items) (plain result) }
+    ensures cause { HasReadCause (H.files host.old) (Rose (H.read_faults host.old) (H.read_faults host.new)) result }
+{
+    let march = read_march_input(host, words, 1)?;
+    let memory = read_memory_input(host, words, 2)?;
+    let prim = give_prim(words[3].as_bytes())?;
+    test_fault(alloc, &march, &memory, &prim, shape, devices)
+}
