@@ -1,18 +1,21 @@
 -- What a run against the first box leaves.
-use Rattle.std.proofs.Common.{◌≡◌, ◌<◌, ◌*◌, ◌+◌, ◌%◌, ◌/◌, ◌^◌, ◌∙◌, ℕ, zero, suc, List, [], ◌∷◌, length, map, replicate, None, Ok, Err, bit_xor, refl, ap, ap₂, subst, arith, inl}
+use Rattle.std.proofs.Common.{◌≡◌, ◌<◌, ◌*◌, ◌+◌, ◌%◌, ◌/◌, ◌^◌, ◌∙◌, ℕ, zero, suc, false, List, [], ◌∷◌, length, map, replicate, Option, None, is_some, Ok, Err, bit_xor, refl, ap, ap₂, subst, arith, inl}
 use Rattle.std.specs.List.{range_with_len}
+use Rattle.std.proofs.lemmas.List.{length-replicate}
 use Rattle.std.proofs.Math.Nat.{one-le-pow, mod-eq_of_lt}
 use Rattle.march_core.specs.March.{MarchElement}
 use Rattle.memory_desc.specs.Descriptions.{Description}
 use Rattle.word_device.specs.declared.shape.Shape.{Shape}
 use Rattle.word_device.specs.Ports.{Chip, shape_of}
 use Rattle.word_device.specs.Boxes.{Tells, TellsChip, TellsScript, TellsNothing, Told, pattern, filled_chip, blank}
-use Rattle.word_device.specs.Runs.{run_word}
+use Rattle.word_device.specs.Runs.{AllRight, IsPlain, PassesAlone, run_word}
+use Rattle.bench.specs.declared.ending.Seen.{Seen}
 use Rattle.bench.specs.Endings.{IsFirstRead}
 use Rattle.bench.specs.Laws.{IsSeenOf}
 use Rattle.bist_endings.specs.declared.ending.Refusal.{Refusal}
 use Rattle.bist_endings.specs.Ending.{Done}
-use Rattle.bist_app.specs.Bench.{Boxes, ready, IsSeen, IsRun, IsBenched, LeavesBench, LeavesFirst}
+use Rattle.bist_app.specs.Bench.{Boxes, ready, benched_chip, IsSeen, IsRun, IsBenched, IsSoundBenched, LeavesBench, LeavesFirst}
+use Rattle.bist_app.proofs.OneBench.{first_one}
 
 -- the number 0 stands for words of 0
 zero_pattern : (bits k : ℕ) → pattern 0 bits k ≡ 0
@@ -41,11 +44,29 @@ seen_of march d tells done r = record {
     by (TellsScript s) h = h refl
     by TellsNothing h = r.read
 
-pub benched : {B : Type 0} (f : B → Told) (items : List B) (march : List MarchElement) (d : Description) (done : Done) → 0 < length items
-    → ((b : B) (rest : List B) → items ≡ b ∷ rest → IsRun march d (ready d (f b).tells) done) → LeavesBench march d None (map f items) (Ok done)
+-- a memory with nothing planted
+plain_chip : (d : Description) → IsPlain d (benched_chip d None)
+plain_chip d = record { words = length-replicate d.words 0; planted = refl }
+
+none_seen : (march : List MarchElement) (d : Description) (words : ℕ → ℕ) (seen : Option Seen) → AllRight march d words → IsFirstRead march d words seen → is_some seen ≡ false
+none_seen march d words seen right first = ap is_some (first_one march d words seen None first right)
+
+none_found : (march : List MarchElement) (d : Description) (tells : Tells) (done : Done) (chip : Chip) → PassesAlone march d → IsBenched march d None tells done
+    → tells ≡ TellsChip chip → done.found ≡ false
+none_found march d tells done chip passes r is =
+    let seen = subst (λ (t : Tells). IsSeen march d None t r.seen) is r.is_seen in
+    r.found ∙ none_seen march d (run_word march d (benched_chip d None)) r.seen (passes (benched_chip d None) (plain_chip d)) seen
+
+sound_of : (march : List MarchElement) (d : Description) (tells : Tells) (done : Done) → PassesAlone march d → IsRun march d (ready d tells) done → IsSoundBenched march d tells done
+sound_of march d tells done passes r =
+    let b = seen_of march d tells done r in
+    record { benched = b; passes = λ chip is. none_found march d tells done chip passes b is }
+
+pub benched : {B : Type 0} (f : B → Told) (items : List B) (march : List MarchElement) (d : Description) (done : Done) → 0 < length items → PassesAlone march d
+    → ((b : B) (rest : List B) → items ≡ b ∷ rest → IsRun march d (ready d (f b).tells) done) → LeavesBench march d (map f items) (Ok done)
 unfolding LeavesBench
-benched f [] march d done some h = absurd (omega arith)
-benched f (b ∷ items) march d done some h = seen_of march d (f b).tells done (h b items refl)
+benched f [] march d done some passes h = absurd (omega (arith, some))
+benched f (b ∷ items) march d done some passes h = sound_of march d (f b).tells done passes (h b items refl)
 
 -- a refusal before any box is called leaves the boxes
 pub unchanged : (boxes : Boxes) (e : Refusal) → LeavesFirst boxes boxes (Err e)

@@ -92,10 +92,10 @@ benched_one march d planted tells x y n f g =
     let answer : Option Seen → Answer = λ o. record { status = found_status (is_some o); line = bench_line d.bits (is_some o) (Some (done_at march d)) o } in
     answer_is march d x f.seen f.found f.line ∙ ap answer same ∙ sym (answer_is march d y g.seen g.found g.line)
 
-pub bench_one : (march : List MarchElement) (d : Description) (boxes : Boxes) → FirstTells boxes → HasOneAnswer (LeavesBench march d None boxes)
+pub bench_one : (march : List MarchElement) (d : Description) (boxes : Boxes) → FirstTells boxes → HasOneAnswer (LeavesBench march d boxes)
 unfolding LeavesBench
 bench_one march d [] n r s f g rs ss = absurd f
-bench_one march d (box ∷ boxes) n (Ok x) (Ok y) f g rs ss = benched_one march d None box.tells x y n f g
+bench_one march d (box ∷ boxes) n (Ok x) (Ok y) f g rs ss = benched_one march d None box.tells x y n f.benched g.benched
 bench_one march d (box ∷ boxes) n (Err Refusal.NoMemory) s f g rs ss = absurd rs
 bench_one march d (box ∷ boxes) n (Err other) s f g rs ss = absurd f
 bench_one march d (box ∷ boxes) n (Ok x) (Err Refusal.NoMemory) f g rs ss = absurd ss

@@ -103,10 +103,10 @@ unfolding FitsRoom
 room_never d [] h = h
 room_never d (box ∷ boxes) h = h
 
-bench_leaves_never : (march : List MarchElement) (d : Description) (planted : Option Planted) (boxes : Boxes) → NeverUsage (LeavesBench march d planted boxes)
+bench_leaves_never : (march : List MarchElement) (d : Description) (boxes : Boxes) → NeverUsage (LeavesBench march d boxes)
 unfolding LeavesBench
-bench_leaves_never march d planted [] h = h
-bench_leaves_never march d planted (box ∷ boxes) h = h
+bench_leaves_never march d [] h = h
+bench_leaves_never march d (box ∷ boxes) h = h
 
 bench_never : (files : Option Files) (boxes : Boxes) (words : Words) → NeverUsage (DecidesBench files boxes words)
 bench_never files boxes words (Err e, read, is) =
@@ -119,7 +119,7 @@ bench_never files boxes words (Ok march, read, (Ok d, given, (Ok _, fits, (Err e
     box_never boxes (turned (HasBox boxes) (let x : Result Done Refusal = Err Refusal.Usage in x) e refl is has)
 bench_never files boxes words (Ok march, read, (Ok d, given, (Ok _, fits, (Ok _, has, (Err e, room, is))))) =
     room_never d boxes (turned (FitsRoom d boxes) (let x : Result Done Refusal = Err Refusal.Usage in x) e refl is room)
-bench_never files boxes words (Ok march, read, (Ok d, given, (Ok _, fits, (Ok _, has, (Ok _, room, leaves))))) = bench_leaves_never march d None boxes leaves
+bench_never files boxes words (Ok march, read, (Ok d, given, (Ok _, fits, (Ok _, has, (Ok _, room, leaves))))) = bench_leaves_never march d boxes leaves
 
 ports_never : (d : Description) (mo : ModuleTree) → NeverUsage (HasPorts d mo)
 unfolding HasPorts

@@ -117,11 +117,16 @@ pub record IsBenched (march : List MarchElement) (d : Description) (planted : Op
   pub line : done.line ≡ bench_line d.bits (is_some seen) (Some (done_at march d)) seen
   pub outputs : done.outputs ≡ []
 
-unfoldable pub LeavesBench : List MarchElement → Description → Option Planted → Boxes → Result Done Refusal → Type 0
-LeavesBench march d planted [] result = ⊥
-LeavesBench march d planted (box ∷ boxes) (Ok done) = IsBenched march d planted box.tells done
-LeavesBench march d planted (box ∷ boxes) (Err Refusal.NoMemory) = Unit {0}
-LeavesBench march d planted (box ∷ boxes) (Err other) = ⊥
+-- with nothing planted; a box that tells its chip is a sound memory, and beside it nothing is found
+pub record IsSoundBenched (march : List MarchElement) (d : Description) (tells : Tells) (done : Done) : Type 0 where
+  pub benched : IsBenched march d None tells done
+  pub passes : (chip : Chip) → tells ≡ TellsChip chip → done.found ≡ false
+
+unfoldable pub LeavesBench : List MarchElement → Description → Boxes → Result Done Refusal → Type 0
+LeavesBench march d [] result = ⊥
+LeavesBench march d (box ∷ boxes) (Ok done) = IsSoundBenched march d box.tells done
+LeavesBench march d (box ∷ boxes) (Err Refusal.NoMemory) = Unit {0}
+LeavesBench march d (box ∷ boxes) (Err other) = ⊥
 
 -- the checks of `bench` in their order
 abbrev pub DecidesBench : Option Files → Boxes → Words → Result Done Refusal → Type 0
@@ -131,7 +136,7 @@ DecidesBench files boxes words =
     Then (FitsLength march d) (λ _.
     Then (HasBox boxes) (λ _.
     Then (FitsRoom d boxes) (λ _.
-    LeavesBench march d None boxes)))))
+    LeavesBench march d boxes)))))
 
 -- a box that was benched is gone, and the others stay in their order; where memory ran out it may be gone or not, and after any other
 -- refusal all are as before

@@ -1,6 +1,6 @@
 //! The command `bench`: the self-test of a march and a memory against the first box.
 
-ghost use Rattle.std.specs.Prelude.{◌≡◌, ◌≤◌, ◌<◌, ◌↔◌, [], None, IfOk, IfErr, IsTrue, length, map, vec_len};
+ghost use Rattle.std.specs.Prelude.{◌≡◌, ◌≤◌, ◌<◌, ◌↔◌, [], IfOk, IfErr, IsTrue, length, map, vec_len};
 ghost use Rattle.bist_host.specs.Files.{Rose};
 ghost use Rattle.word_device.specs.Boxes.{told};
 ghost use Rattle.bist_endings.specs.Ending.{plain, done_of};
@@ -18,7 +18,7 @@ use bist_inputs::{read_march_input, read_memory_input};
 use march_core::March;
 use memory_desc::Memory;
 use std::alloc::Global;
-use word_device::Device;
+use word_device::{Device, unplanted_passes};
 
 /// Whether the words have the shape of `bench`.
 pub fn is_bench(words: &[&str]) -> bool
@@ -40,10 +40,11 @@ fn plan_bench(
 ) -> Result<Plan, Refusal>
     requires some { 0 < vec_len devices.old }
     ensures own { IfErr result IsOwnRefusal }
-    ensures answer { LeavesBench march.now memory.now None (map (λ b. told (room_of b) (shape_of b) (tells b)) devices.old.items) (plain result) }
+    ensures answer { LeavesBench march.now memory.now (map (λ b. told (room_of b) (shape_of b) (tells b)) devices.old.items) (plain result) }
     ensures left { LeavesFirst (map (λ b. told (room_of b) (shape_of b) (tells b)) devices.old.items) (map (λ b. told (room_of b) (shape_of b) (tells b)) devices.new.items) (plain result) }
     ensures outputs { IfOk result (λ plan. (done_of plan).outputs ≡ []) }
 {
+    unplanted_passes(march, memory);
     match bench_first(alloc, march, memory, devices) {
         Ok(plan) => Ok(plan),
         Err(NoMemory) => Err(Refusal::NoMemory),
