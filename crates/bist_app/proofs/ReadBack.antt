@@ -1,6 +1,6 @@
 -- A self-test that is written, read back and elaborated is the same self-test.
-use Rattle.std.proofs.Common.{◌≡◌, ◌∙◌, Bool, true, false, ◌&&◌, IsTrue, List, ℕ, Result, Ok, Err, sym, ap, subst, refl}
-use Rattle.std.specs.Prelude.{IfOk}
+use Rattle.std.proofs.Common.{◌≡◌, ◌∙◌, Bool, true, false, ◌&&◌, IsTrue, List, ℕ, Option, Some, None, Result, Ok, Err, sym, ap, subst, refl}
+use Rattle.std.specs.Prelude.{IfOk, MatchResult}
 use Rattle.verilog_cycle.specs.Design.{DesignView, IsNew}
 use Rattle.verilog_tree.specs.Words.{is_name}
 use Rattle.verilog_tree.specs.Plain.{ModuleTree}
@@ -9,6 +9,41 @@ use Rattle.verilog_tree.specs.Fits.{fits, ports_fit, items_fit}
 use Rattle.march_core.specs.March.{MarchElement}
 use Rattle.memory_desc.specs.Descriptions.{Description}
 use Rattle.self_test.specs.SelfTest.{SelfTest}
+use Rattle.verilog_read.specs.declared.fault.ReadFault.{ReadFault}
+use Rattle.verilog_tree.specs.declared.fault.TreeFault.{TreeFault}
+use Rattle.verilog_tree.specs.declared.fault.TreeFault.TheVariants as T
+use Rattle.verilog_tree.specs.Rules.{Break, first_break}
+use Rattle.verilog_cycle.specs.Design.{NoLoop, Refused, Elaborates}
+use Rattle.verilog_cycle.specs.Seen.{plain_names}
+
+-- a text that spells a module is read but for want of memory
+pub want_of_read : {M : Type 0} (r : Result M ReadFault) (fault : ReadFault) (P : M → Type 0) → r ≡ Err fault → MatchResult r P (λ f. f ≡ ReadFault.NoMemory) → fault ≡ ReadFault.NoMemory
+want_of_read {M} r fault P is h = subst (λ (x : Result M ReadFault). MatchResult x P (λ f. f ≡ ReadFault.NoMemory)) is h
+
+nothing_breaks : (o : Option Break) (b : Break) → o ≡ None → o ≡ Some b → ⊥
+nothing_breaks o b none is = let z : None ≡ Some b = sym none ∙ is in cc
+
+-- a module that breaks no rule and has no loop is refused for want of memory alone
+only_memory : (mo : ModuleTree) (f : TreeFault) → first_break mo ≡ None → NoLoop mo → Refused mo f → f ≡ TreeFault.NoMemory
+only_memory mo (T.Unknown n) legal free h = absurd (nothing_breaks (first_break mo) _ legal h)
+only_memory mo (T.Twice n) legal free h = absurd (nothing_breaks (first_break mo) _ legal h)
+only_memory mo (T.Width j k) legal free h = absurd (nothing_breaks (first_break mo) _ legal h)
+only_memory mo (T.TwoBlocks n) legal free h = absurd (nothing_breaks (first_break mo) _ legal h)
+only_memory mo (T.NotAssignable n) legal free h = absurd (nothing_breaks (first_break mo) _ legal h)
+only_memory mo (T.SelectRange n) legal free h = absurd (nothing_breaks (first_break mo) _ legal h)
+only_memory mo (T.Loop ns) legal free h = absurd (free (plain_names ns.items) h.1)
+only_memory mo T.NoMemory legal free h = refl
+only_memory mo (T.Undriven n) legal free h = absurd (nothing_breaks (first_break mo) _ legal h)
+only_memory mo (T.Clock n) legal free h = absurd (nothing_breaks (first_break mo) _ legal h)
+
+pub want_of_elaborated : (mo : ModuleTree) (r : Result DesignView TreeFault) (f : TreeFault) → first_break mo ≡ None → NoLoop mo → r ≡ Err f → Elaborates mo r → f ≡ TreeFault.NoMemory
+want_of_elaborated mo r f legal free is h = only_memory mo f legal free (subst (Elaborates mo) is h)
+
+pub same_legal : (march : List MarchElement) (d : Description) (mo read : ModuleTree) → read ≡ mo → SelfTest mo march d → first_break read ≡ None
+same_legal march d mo read same h = ap first_break same ∙ h.legal
+
+pub same_loopless : (march : List MarchElement) (d : Description) (mo read : ModuleTree) → read ≡ mo → SelfTest mo march d → NoLoop read
+same_loopless march d mo read same h = subst NoLoop (sym same) h.no_loop
 
 and_first : (x y : Bool) → (x && y) ≡ true → x ≡ true
 and_first true y h = refl

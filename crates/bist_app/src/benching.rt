@@ -1,10 +1,13 @@
 //! The self-test module against a box: the module is made, written, read back and run, and the line tells how it ended.
 
-ghost use Rattle.std.specs.Prelude.{◌≡◌, ◌⊎◌, ◌≤◌, ◌<◌, ◌++◌, ◌∷◌, [], Some, IsTrue, IfOk, OnOk, OnErr, codes, decimal, map, drop, vec_len};
-ghost use Rattle.verilog_tree.specs.Plain.{plain_module};
+ghost use Rattle.std.specs.Prelude.{◌≡◌, ◌⊎◌, ◌≤◌, ◌<◌, ◌++◌, ◌∷◌, [], Some, None, IsTrue, IfOk, OnOk, OnErr, codes, decimal, map, drop, vec_len};
+ghost use Rattle.verilog_tree.specs.declared.fault.TreeFault.{TreeFault};
+ghost use Rattle.verilog_tree.specs.Plain.{ModuleTree, plain_module};
+ghost use Rattle.verilog_tree.specs.Rules.{first_break};
 ghost use Rattle.verilog_tree.specs.Formed.{formed};
 ghost use Rattle.verilog_tree.specs.Spells.{Spells};
-ghost use Rattle.verilog_cycle.specs.Design.{IsNew};
+ghost use Rattle.verilog_read.specs.declared.fault.ReadFault.{ReadFault};
+ghost use Rattle.verilog_cycle.specs.Design.{IsNew, NoLoop};
 ghost use Rattle.self_test.specs.SelfTest.{SelfTest};
 ghost use Rattle.word_device.specs.Ports.{shape_of as memory_shape};
 ghost use Rattle.word_device.specs.Boxes.{told};
@@ -22,28 +25,51 @@ use rtl_gen::generate;
 use std::alloc::Global;
 use verilog_cycle::{Design, elaborate};
 use verilog_emit::emit;
-use verilog_read::read_module;
-use verilog_tree::Module;
+use verilog_read::{ReadFault, read_module};
+use verilog_tree::{Module, TreeFault};
 use word_device::Device;
 
-/// The module that a text spells; none but for want of memory where it spells one.
+/// What is wanting where a text that spells a module isn't read: nothing but memory.
+fn want_of_text(fault: ReadFault) -> NoMemory
+    requires { fault ≡ ReadFault.NoMemory }
+{
+    match fault {
+        ReadFault::NoMemory => NoMemory,
+        _ => unreachable!(),
+    }
+}
+
+/// The module that a text spells.
 fn read_back(alloc: Global, text: &[u8]) -> Result<Module, NoMemory>
+    requires { (mo : ModuleTree) × Spells text.now mo }
     ensures { IfOk result (λ m. Spells text.now (plain_module m)) }
 {
     match read_module(alloc, text) {
         Ok(module) => Ok(module),
-        Err(_) => Err(NoMemory),
+        Err(fault) => Err(want_of_text(fault)),
     }
 }
 
-/// The design of a module; none but for want of memory where it breaks no rule and has no loop.
+/// What is wanting where a module that can be run isn't: nothing but memory.
+fn want_of_module(fault: TreeFault) -> NoMemory
+    requires { fault ≡ TreeFault.NoMemory }
+{
+    match fault {
+        TreeFault::NoMemory => NoMemory,
+        _ => unreachable!(),
+    }
+}
+
+/// The design of a module that breaks no rule and whose wires form no loop.
 fn designed(alloc: Global, module: &Module) -> Result<Design, NoMemory>
-    requires { IsTrue (formed (plain_module «module».now)) }
+    requires sizes { IsTrue (formed (plain_module «module».now)) }
+    requires legal { first_break (plain_module «module».now) ≡ None }
+    requires loopless { NoLoop (plain_module «module».now) }
     ensures { IfOk result (IsNew (plain_module «module».now)) }
 {
     match elaborate(alloc, module) {
         Ok(design) => Ok(design),
-        Err(_) => Err(NoMemory),
+        Err(fault) => Err(want_of_module(fault)),
     }
 }
 
