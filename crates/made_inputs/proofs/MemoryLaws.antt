@@ -8,14 +8,14 @@ use Rattle.std.proofs.lemmas.Bool.{and_parts, cases_lt, eqb-true}
 use Rattle.std.proofs.lemmas.List.Elements.{All-from_recursion}
 use Rattle.bist_bits.specs.Width.{IsWidthOf}
 use Rattle.bist_bits.proofs.BitLemmas.{width_by_leading_zeros}
-use Rattle.scrambler.specs.Scrambling.{IsInvertible, identity}
-use Rattle.scrambler.proofs.ScramblingLemmas.{units, units_undone, identity_is, invertible}
+use Rattle.scrambler.specs.Scrambling.{IsFull, IsInvertible, identity}
+use Rattle.scrambler.proofs.ScramblingLemmas.{units, units_undone, identity_is, invertible, matrix_is_full}
 use Rattle.backgrounds.specs.Backgrounds.{IsStripe, IsLogSet}
 use Rattle.memory_desc.specs.Descriptions.{Description, IsMemory, IsBackgrounds, assembled}
 use Rattle.memory_desc.specs.Names.{IsName}
 use Rattle.memory_desc.specs.Printed.{number_line, backgrounds_line, scramble_lines, printed, row_lines, is_identity}
 use Rattle.memory_desc.specs.Table.{Reads}
-use Rattle.memory_desc.proofs.BackScrambling.{identity_is_full, identity_is_identity}
+use Rattle.memory_desc.proofs.BackScrambling.{identity_is_identity}
 use Rattle.memory_desc.proofs.Parts.{width_small}
 use Rattle.memory_desc.proofs.ReadBack.{read_back}
 use Rattle.made_inputs.specs.MadeMemory.{IsMadeMemory, head, tail, written}
@@ -82,6 +82,9 @@ identity_is_invertible w some small =
     let undone = units_undone w some small in
     subst IsInvertible (identity_is w small) (invertible w units 0 (slice_index units) undone.within undone.reduced)
 
+identity_is_full : (w : ℕ) → 1 ≤ w → w ≤ 16 → IsFull (identity w)
+identity_is_full w some small = subst IsFull (identity_is w small) (matrix_is_full w units 0 (units_undone w some small).within small)
+
 made_is_name : IsName (codes "made")
 made_is_name = record { identifier = refl; short = lit≤ tt; free = refl }
 
@@ -101,7 +104,7 @@ made_is_memory number width within wide =
       pause_low = lit≤ tt;
       pause_high = lit≤ tt;
       address = subst (λ (n : ℕ). IsWidthOf n width) (sym last) wide;
-      full = identity_is_full width;
+      full = identity_is_full width small.0 small.1;
       invertible = identity_is_invertible width small.0 small.1;
       unscrambled = λ _. refl;
       tested = log_words_are_backgrounds;
