@@ -11,8 +11,10 @@ pub mod OnePlan
 pub mod OneJudged
 pub mod OneBench
 pub mod PlaceWords
+pub mod OneAll
 pub mod OneAnswer
 pub mod ReadBack
 pub mod Benched
 pub mod Caught
 pub mod Faulted
+pub mod AllBenched

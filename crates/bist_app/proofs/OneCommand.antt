@@ -11,6 +11,8 @@ use Rattle.bist_app.specs.Judge.{IsJudgeShape}
 use Rattle.bist_app.specs.Vectors.{IsVectorsShape}
 use Rattle.bist_app.specs.Compile.{IsCompileShape}
 use Rattle.bist_app.specs.BenchFault.{IsFaultShape}
+use Rattle.bist_app.specs.Bench.{IsBenchShape}
+use Rattle.bist_app.specs.BenchAll.{IsBenchAllShape}
 use Rattle.bist_app.specs.Run.{HasShape}
 use Rattle.bist_app.proofs.PlaceWords.{place_one, aggressor_place_one}
 
@@ -63,6 +65,13 @@ compile_or_fault words shape h i =
     let differ : 7 ≡ 10 = lengths in
     omega (arith, differ)
 
+one_or_all : (words : Words) → IsBenchShape words → IsBenchAllShape words → ⊥
+one_or_all words h i =
+    let same : codes "bench" ≡ codes "benchall" = sym h.name ∙ i.name in
+    let lengths : length (codes "bench") ≡ length (codes "benchall") = ap length same in
+    let differ : 5 ≡ 8 = lengths in
+    omega (arith, differ)
+
 pub command_one : (words : Words) (c d : Command) → HasShape words c → HasShape words d → c ≡ d
 command_one words (Command.Sim s) (Command.Sim t) h i = ap Command.Sim (shape_one words s t h i)
 command_one words (Command.Sim s) Command.Judge h i = absurd (eight_or_four words h.count i.count)
@@ -100,3 +109,16 @@ command_one words (Command.BenchFault f) Command.Vectors h i = absurd (omega (ar
 command_one words (Command.BenchFault f) Command.Compile h i = absurd (compile_or_fault words f i h)
 command_one words (Command.BenchFault f) Command.Bench h i = absurd (omega (arith, h.count, i.count))
 command_one words (Command.BenchFault f) (Command.BenchFault g) h i = ap Command.BenchFault (fault_shape_one words f g h i)
+command_one words (Command.Sim s) Command.BenchAll h i = absurd (omega (arith, h.count, i.count))
+command_one words Command.Judge Command.BenchAll h i = absurd (omega (arith, h.count, i.count))
+command_one words Command.Vectors Command.BenchAll h i = absurd (omega (arith, h.count, i.count))
+command_one words Command.Compile Command.BenchAll h i = absurd (omega (arith, h.count, i.count))
+command_one words Command.Bench Command.BenchAll h i = absurd (one_or_all words h i)
+command_one words (Command.BenchFault f) Command.BenchAll h i = absurd (omega (arith, h.count, i.count))
+command_one words Command.BenchAll (Command.Sim t) h i = absurd (omega (arith, h.count, i.count))
+command_one words Command.BenchAll Command.Judge h i = absurd (omega (arith, h.count, i.count))
+command_one words Command.BenchAll Command.Vectors h i = absurd (omega (arith, h.count, i.count))
+command_one words Command.BenchAll Command.Compile h i = absurd (omega (arith, h.count, i.count))
+command_one words Command.BenchAll Command.Bench h i = absurd (one_or_all words i h)
+command_one words Command.BenchAll (Command.BenchFault f) h i = absurd (omega (arith, h.count, i.count))
+command_one words Command.BenchAll Command.BenchAll h i = refl

@@ -9,13 +9,15 @@ use Rattle.bist_app.specs.Vectors.{IsVectorsShape}
 use Rattle.bist_app.specs.Compile.{IsCompileShape}
 use Rattle.bist_app.specs.Bench.{IsBenchShape}
 use Rattle.bist_app.specs.BenchFault.{IsFaultShape}
+use Rattle.bist_app.specs.BenchAll.{IsBenchAllShape}
 use Rattle.bist_app.specs.Run.{HasNoShape}
 
 pub no_shape : (words : Words) → ((shape : SimShape) → IsSimShape words shape → ⊥) → (IsJudgeShape words → ⊥) → (IsVectorsShape words → ⊥) → (IsCompileShape words → ⊥) → (IsBenchShape words → ⊥)
-    → ((shape : FaultShape) → IsFaultShape words shape → ⊥) → HasNoShape words
-no_shape words sim judge vectors compile bench fault (Command.Sim shape) h = sim shape h
-no_shape words sim judge vectors compile bench fault Command.Judge h = judge h
-no_shape words sim judge vectors compile bench fault Command.Vectors h = vectors h
-no_shape words sim judge vectors compile bench fault Command.Compile h = compile h
-no_shape words sim judge vectors compile bench fault Command.Bench h = bench h
-no_shape words sim judge vectors compile bench fault (Command.BenchFault shape) h = fault shape h
+    → ((shape : FaultShape) → IsFaultShape words shape → ⊥) → (IsBenchAllShape words → ⊥) → HasNoShape words
+no_shape words sim judge vectors compile bench fault all (Command.Sim shape) h = sim shape h
+no_shape words sim judge vectors compile bench fault all Command.Judge h = judge h
+no_shape words sim judge vectors compile bench fault all Command.Vectors h = vectors h
+no_shape words sim judge vectors compile bench fault all Command.Compile h = compile h
+no_shape words sim judge vectors compile bench fault all Command.Bench h = bench h
+no_shape words sim judge vectors compile bench fault all (Command.BenchFault shape) h = fault shape h
+no_shape words sim judge vectors compile bench fault all Command.BenchAll h = all h

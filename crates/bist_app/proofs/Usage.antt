@@ -22,6 +22,7 @@ use Rattle.bist_app.specs.Compile.{LeavesCompile, DecidesCompile}
 use Rattle.word_device.specs.declared.device.Planted.{Planted}
 use Rattle.bist_app.specs.Bench.{Boxes, HasBox, FitsRoom, LeavesBench, DecidesBench}
 use Rattle.bist_app.specs.BenchFault.{FitsPlaces, planted_of, LeavesFault, DecidesFault}
+use Rattle.bist_app.specs.BenchAll.{FitsRooms, LeavesAll, DecidesBenchAll}
 use Rattle.bist_app.specs.Run.{DecidesCommand}
 
 aggressor_never : (given : Bool) (prim : Primitive) → NeverUsage (FitsAggressor given prim)
@@ -145,6 +146,28 @@ fault_never files boxes words shape (Ok march, read, (Ok d, given, (Ok prim, ask
 fault_never files boxes words shape (Ok march, read, (Ok d, given, (Ok prim, asked, (Ok _, agrees, (Ok _, fits, (Ok _, has, (Ok _, stands, (Ok _, room, leaves)))))))) =
     fault_leaves_never march d (planted_of prim shape) boxes leaves
 
+rooms_never : (d : Description) (boxes : Boxes) → NeverUsage (FitsRooms d boxes)
+unfolding FitsRooms
+rooms_never d boxes h = h
+
+all_leaves_never : (march : List MarchElement) (d : Description) (boxes : Boxes) → NeverUsage (LeavesAll march d boxes)
+unfolding LeavesAll
+all_leaves_never march d boxes h = h
+
+bench_all_never : (files : Option Files) (boxes : Boxes) (words : Words) → NeverUsage (DecidesBenchAll files boxes words)
+bench_all_never files boxes words (Err e, read, is) =
+    input_march_never files words 1 (turned (InputMarch files words 1) (let x : Result Done Refusal = Err Refusal.Usage in x) e refl is read)
+bench_all_never files boxes words (Ok march, read, (Err e, given, is)) =
+    input_memory_never files words 2 (turned (InputMemory files words 2) (let x : Result Done Refusal = Err Refusal.Usage in x) e refl is given)
+bench_all_never files boxes words (Ok march, read, (Ok d, given, (Err e, fits, is))) =
+    length_never march d (turned (FitsLength march d) (let x : Result Done Refusal = Err Refusal.Usage in x) e refl is fits)
+bench_all_never files boxes words (Ok march, read, (Ok d, given, (Ok _, fits, (Err e, has, is)))) =
+    box_never boxes (turned (HasBox boxes) (let x : Result Done Refusal = Err Refusal.Usage in x) e refl is has)
+bench_all_never files boxes words (Ok march, read, (Ok d, given, (Ok _, fits, (Ok _, has, (Err e, room, is))))) =
+    rooms_never d boxes (turned (FitsRooms d boxes) (let x : Result Done Refusal = Err Refusal.Usage in x) e refl is room)
+bench_all_never files boxes words (Ok march, read, (Ok d, given, (Ok _, fits, (Ok _, has, (Ok _, room, leaves))))) =
+    all_leaves_never march d boxes leaves
+
 pub never_usage : (files : Option Files) (boxes : Boxes) (words : Words) (command : Command) → NeverUsage (DecidesCommand files boxes words command)
 never_usage files boxes words (Command.Sim shape) = sim_never files words shape
 never_usage files boxes words Command.Judge = judge_never files words
@@ -152,3 +175,4 @@ never_usage files boxes words Command.Vectors = vectors_never files words
 never_usage files boxes words Command.Compile = compile_never files words
 never_usage files boxes words Command.Bench = bench_never files boxes words
 never_usage files boxes words (Command.BenchFault shape) = fault_never files boxes words shape
+never_usage files boxes words Command.BenchAll = bench_all_never files boxes words

@@ -4,6 +4,8 @@ pub mod Judge
 pub mod Vectors
 pub mod Bench
 pub mod BenchFault
+pub mod BenchAll
+pub mod BenchedBoxes
 pub mod Compile
 pub mod LetterBits
 pub mod Run

@@ -13,6 +13,7 @@ use Rattle.bist_app.specs.Vectors.{IsVectorsShape, DecidesVectors}
 use Rattle.bist_app.specs.Compile.{IsCompileShape, DecidesCompile}
 use Rattle.bist_app.specs.Bench.{Boxes, IsBenchShape, DecidesBench, LeavesFirst}
 use Rattle.bist_app.specs.BenchFault.{IsFaultShape, DecidesFault}
+use Rattle.bist_app.specs.BenchAll.{IsBenchAllShape, DecidesBenchAll, LeavesNone}
 
 -- the words have the shape of this command
 abbrev pub HasShape : Words → Command → Type 0
@@ -22,6 +23,7 @@ HasShape words Command.Vectors = IsVectorsShape words
 HasShape words Command.Compile = IsCompileShape words
 HasShape words Command.Bench = IsBenchShape words
 HasShape words (Command.BenchFault shape) = IsFaultShape words shape
+HasShape words Command.BenchAll = IsBenchAllShape words
 
 -- the words have no shape
 abbrev pub HasNoShape : Words → Type 0
@@ -35,6 +37,7 @@ DecidesCommand files boxes words Command.Vectors outcome = DecidesVectors files 
 DecidesCommand files boxes words Command.Compile outcome = DecidesCompile files words outcome
 DecidesCommand files boxes words Command.Bench outcome = DecidesBench files boxes words outcome
 DecidesCommand files boxes words (Command.BenchFault shape) outcome = DecidesFault files boxes words shape outcome
+DecidesCommand files boxes words Command.BenchAll outcome = DecidesBenchAll files boxes words outcome
 
 -- what it leaves of the boxes
 abbrev pub LeavesBoxes : Command → Boxes → Boxes → Result Done Refusal → Type 0
@@ -44,6 +47,7 @@ LeavesBoxes Command.Vectors boxes left outcome = left ≡ boxes
 LeavesBoxes Command.Compile boxes left outcome = left ≡ boxes
 LeavesBoxes Command.Bench boxes left outcome = LeavesFirst boxes left outcome
 LeavesBoxes (Command.BenchFault shape) boxes left outcome = LeavesFirst boxes left outcome
+LeavesBoxes Command.BenchAll boxes left outcome = LeavesNone boxes left outcome
 
 -- the check of the words, and then the command's
 abbrev pub Decides : Option Files → Boxes → Boxes → Words → Result Done Refusal → Type 0

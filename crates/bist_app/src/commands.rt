@@ -2,6 +2,7 @@ ghost use Rattle.std.specs.Prelude.{MatchOption};
 ghost use Rattle.bist_app.specs.Run.{HasShape, HasNoShape};
 
 use crate::bench_command::is_bench;
+use crate::benchall_command::is_bench_all;
 use crate::benchfault_command::{FaultShape, fault_shape};
 use crate::compile::is_compile;
 use crate::judge::is_judge;
@@ -17,6 +18,7 @@ pub enum Command {
     Compile,
     Bench,
     BenchFault(FaultShape),
+    BenchAll,
 }
 
 /// The command whose shape the words have.
@@ -40,6 +42,9 @@ pub fn command_of(words: &[&str]) -> Option<Command>
     }
     if let Some(shape) = fault_shape(words) {
         return Some(Command::BenchFault(shape));
+    }
+    if is_bench_all(words) {
+        return Some(Command::BenchAll);
     }
     None
 }

@@ -2,8 +2,10 @@
 #![tactic(auto)]
 
 mod bench_command;
+mod benchall_command;
 mod benchfault_command;
 mod benching;
+mod benching_all;
 mod boxes;
 mod commands;
 mod compile;

@@ -8,6 +8,7 @@ ghost use Rattle.bist_app.specs.Answer.{IsComplete, RunHasOneAnswer};
 ghost use Rattle.bist_app.specs.Run.{Decides, Runs, HasNoShape};
 
 use crate::bench_command::decide_bench;
+use crate::benchall_command::decide_bench_all;
 use crate::benchfault_command::decide_fault;
 use crate::commands::{Command, command_of};
 use crate::compile::decide_compile;
@@ -42,6 +43,7 @@ fn decide<H: Host>(
         Some(Command::Compile) => decide_compile(alloc, words, host),
         Some(Command::Bench) => decide_bench(alloc, words, host, devices),
         Some(Command::BenchFault(shape)) => decide_fault(alloc, words, shape, host, devices),
+        Some(Command::BenchAll) => decide_bench_all(alloc, words, host, devices),
     }
 }
 
