@@ -27,7 +27,7 @@ pub zero_words : (bits k n : ℕ) → map (pattern 0 bits) (range_with_len k n) 
 zero_words bits k zero = refl
 zero_words bits k (suc n) = ap₂ (λ x xs. x ∷ xs) (zero_pattern bits k) (zero_words bits (k + 1) n)
 
-blank_filled : (shape : Shape) → filled_chip 0 shape (blank shape) ≡ blank shape
+pub blank_filled : (shape : Shape) → filled_chip 0 shape (blank shape) ≡ blank shape
 blank_filled shape = ap (λ (words : List ℕ). record (blank shape) { words = words }) (zero_words shape.bits 0 shape.words)
 
 seen_of : (march : List MarchElement) (d : Description) (tells : Tells) (done : Done) → IsRun march d (ready d tells) done → IsBenched march d None tells done

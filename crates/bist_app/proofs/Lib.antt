@@ -11,12 +11,14 @@ pub mod OnePlan
 pub mod OneJudged
 pub mod OneBench
 pub mod OneMade
+pub mod PlaceWords
+pub mod OneAll
 pub mod OneAnswer
 pub mod ReadBack
 pub mod Benched
 pub mod BenchedFile
 pub mod OneBenchFile
 pub mod Making
-pub mod PlaceWords
 pub mod Caught
 pub mod Faulted
+pub mod AllBenched

@@ -13,13 +13,15 @@ use Rattle.bist_app.specs.Sim.{FitsAggressor, FitsDirections, DecidesSim, miss_o
 use Rattle.bist_app.specs.Judge.{DecidesJudge}
 use Rattle.bist_app.specs.Vectors.{FitsLength, DecidesVectors}
 use Rattle.bist_app.specs.Compile.{DecidesCompile}
-use Rattle.bist_app.specs.Run.{DecidesCommand, Decides}
+use Rattle.bist_app.specs.Run.{HasShape, DecidesCommand, Decides}
 use Rattle.bist_app.specs.Bench.{Boxes, HasBox, FitsRoom, DecidesBench}
-use Rattle.bist_app.specs.Answer.{FirstTells, RunHasOneAnswer}
 use Rattle.bist_app.proofs.OneBenchFile.{bench_file_answer}
 use Rattle.bist_app.specs.declared.benchfault_command.FaultShape.{FaultShape}
 use Rattle.bist_app.specs.BenchFault.{FitsPlaces, planted_of, DecidesFault}
+use Rattle.bist_app.specs.BenchAll.{FitsRooms, DecidesBenchAll}
+use Rattle.bist_app.specs.Answer.{FirstTells, AllTell, CalledTell, RunHasOneAnswer}
 use Rattle.bist_app.proofs.OneBench.{box_one, room_one, bench_one, places_one, fault_one}
+use Rattle.bist_app.proofs.OneAll.{rooms_one, all_one}
 use Rattle.bist_app.proofs.OneCommand.{command_one}
 use Rattle.bist_app.proofs.OnePlan.{aggressor_one, directions_one, sim_one, vectors_one, length_one}
 use Rattle.bist_app.proofs.OneJudged.{judge_one, compile_one}
@@ -74,23 +76,34 @@ fault_answer files boxes words shape tells =
     then_answer (FitsRoom d boxes) _ (room_one d boxes) (λ _.
     fault_one march d (planted_of prim shape) boxes tells))))))))
 
-command_answer : (files : Files) (boxes : Boxes) (words : Words) (command : Command) → FirstTells boxes → HasOneAnswerButNames (DecidesCommand (Some files) boxes words command)
+all_answer : (files : Files) (boxes : Boxes) (words : Words) → AllTell boxes → HasOneAnswer (DecidesBenchAll (Some files) boxes words)
+all_answer files boxes words tells =
+    then_answer (InputMarch (Some files) words 1) _ (input_march_one files words 1) (λ march.
+    then_answer (InputMemory (Some files) words 2) _ (input_memory_one files words 2) (λ d.
+    then_answer (FitsLength march d) _ (length_one march d) (λ _.
+    then_answer (HasBox boxes) _ (box_one boxes) (λ _.
+    then_answer (FitsRooms d boxes) _ (rooms_one d boxes) (λ _.
+    all_one march d boxes tells)))))
+
+command_answer : (files : Files) (boxes : Boxes) (words : Words) (command : Command) → CalledTell command boxes → HasOneAnswerButNames (DecidesCommand (Some files) boxes words command)
 command_answer files boxes words (Command.Sim shape) tells = but_names _ (sim_answer files words shape)
 command_answer files boxes words Command.Judge tells = but_names _ (judge_answer files words)
 command_answer files boxes words Command.Vectors tells = but_names _ (vectors_answer files words)
 command_answer files boxes words Command.Compile tells = but_names _ (compile_answer files words)
 command_answer files boxes words Command.Bench tells = but_names _ (bench_answer files boxes words tells)
-command_answer files boxes words Command.BenchFile tells = bench_file_answer files boxes words tells
-command_answer files boxes words (Command.Make number) tells = but_names _ (make_one number)
 command_answer files boxes words (Command.BenchFault shape) tells = but_names _ (fault_answer files boxes words shape tells)
+command_answer files boxes words Command.BenchFile tells = bench_file_answer files boxes words tells
+command_answer files boxes words Command.BenchAll tells = but_names _ (all_answer files boxes words tells)
+command_answer files boxes words (Command.Make number) tells = but_names _ (make_one number)
 
-decides_answer : (files : Files) (boxes : Boxes) (words : Words) → FirstTells boxes → HasOneAnswerButNames (λ outcome. (left : Boxes) × Decides (Some files) boxes left words outcome)
+decides_answer : (files : Files) (boxes : Boxes) (words : Words) → ((command : Command) → HasShape words command → CalledTell command boxes)
+    → HasOneAnswerButNames (λ outcome. (left : Boxes) × Decides (Some files) boxes left words outcome)
 decides_answer files boxes words tells r s (x, (None, f)) (y, (None, g)) rs ss = inl (ap answer_of (f.1 ∙ sym g.1))
 decides_answer files boxes words tells r s (x, (None, f)) (y, (Some d, g)) rs ss = absurd (f.0 d g.0)
 decides_answer files boxes words tells r s (x, (Some c, f)) (y, (None, g)) rs ss = absurd (g.0 c f.0)
 decides_answer files boxes words tells r s (x, (Some c, f)) (y, (Some d, g)) rs ss =
     let same : c ≡ d = command_one words c d f.0 g.0 in
-    command_answer files boxes words d tells r s (subst (λ (command : Command). DecidesCommand (Some files) boxes words command r) same f.1) g.1 rs ss
+    command_answer files boxes words d (tells d g.0) r s (subst (λ (command : Command). DecidesCommand (Some files) boxes words command r) same f.1) g.1 rs ss
 
 pub one_answer : (told : Option Files) (boxes : Boxes) (words : Words) → RunHasOneAnswer told boxes words
 one_answer None boxes words = tt

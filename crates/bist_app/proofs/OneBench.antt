@@ -74,7 +74,7 @@ module _ (march : List MarchElement) (d : Description) (words : ℕ → ℕ) whe
       f.4 ∙ ap₂ (λ (j : ℕ) (c : PortOp). record { cycle = cycle_of march d j + d.latency; expected = c.word; returned = words j }) at command ∙ sym g.4 in
       ap Some same
 
-one_seen : (march : List MarchElement) (d : Description) (planted : Option Planted) (tells : Tells) (s t : Option Seen) → tells ≢ TellsNothing
+pub one_seen : (march : List MarchElement) (d : Description) (planted : Option Planted) (tells : Tells) (s t : Option Seen) → tells ≢ TellsNothing
     → IsSeen march d planted tells s → IsSeen march d planted tells t → s ≡ t
 one_seen march d planted (TellsChip c) s t n f g = first_one march d (run_word march d (benched_chip d planted)) s t f g
 one_seen march d planted (TellsScript x) s t n f g = first_one march d (script_word march d x) s t f g

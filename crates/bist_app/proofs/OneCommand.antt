@@ -12,6 +12,8 @@ use Rattle.bist_app.specs.Vectors.{IsVectorsShape}
 use Rattle.bist_app.specs.BenchFile.{IsBenchFileShape}
 use Rattle.bist_app.specs.Compile.{IsCompileShape}
 use Rattle.bist_app.specs.BenchFault.{IsFaultShape}
+use Rattle.bist_app.specs.Bench.{IsBenchShape}
+use Rattle.bist_app.specs.BenchAll.{IsBenchAllShape}
 use Rattle.bist_app.specs.Run.{HasShape}
 use Rattle.bist_app.proofs.PlaceWords.{place_one, aggressor_place_one}
 
@@ -74,6 +76,13 @@ compile_or_fault words shape h i =
     let same : codes "compile" ≡ codes "benchfault" = sym h.name ∙ i.name in
     let lengths : length (codes "compile") ≡ length (codes "benchfault") = ap length same in
     let differ : 7 ≡ 10 = lengths in
+    omega (arith, differ)
+
+one_or_all : (words : Words) → IsBenchShape words → IsBenchAllShape words → ⊥
+one_or_all words h i =
+    let same : codes "bench" ≡ codes "benchall" = sym h.name ∙ i.name in
+    let lengths : length (codes "bench") ≡ length (codes "benchall") = ap length same in
+    let differ : 5 ≡ 8 = lengths in
     omega (arith, differ)
 
 pub command_one : (words : Words) (c d : Command) → HasShape words c → HasShape words d → c ≡ d
@@ -141,3 +150,20 @@ command_one words Command.BenchFile (Command.BenchFault f) h i = absurd (omega (
 command_one words (Command.BenchFault f) Command.BenchFile h i = absurd (omega (arith, h.count, i.count))
 command_one words (Command.Make n) (Command.BenchFault f) h i = absurd (omega (arith, h.has_words.count, i.count))
 command_one words (Command.BenchFault f) (Command.Make n) h i = absurd (omega (arith, h.count, i.has_words.count))
+command_one words (Command.Sim s) Command.BenchAll h i = absurd (omega (arith, h.count, i.count))
+command_one words Command.Judge Command.BenchAll h i = absurd (omega (arith, h.count, i.count))
+command_one words Command.Vectors Command.BenchAll h i = absurd (omega (arith, h.count, i.count))
+command_one words Command.Compile Command.BenchAll h i = absurd (omega (arith, h.count, i.count))
+command_one words Command.Bench Command.BenchAll h i = absurd (one_or_all words h i)
+command_one words (Command.BenchFault f) Command.BenchAll h i = absurd (omega (arith, h.count, i.count))
+command_one words Command.BenchAll (Command.Sim t) h i = absurd (omega (arith, h.count, i.count))
+command_one words Command.BenchAll Command.Judge h i = absurd (omega (arith, h.count, i.count))
+command_one words Command.BenchAll Command.Vectors h i = absurd (omega (arith, h.count, i.count))
+command_one words Command.BenchAll Command.Compile h i = absurd (omega (arith, h.count, i.count))
+command_one words Command.BenchAll Command.Bench h i = absurd (one_or_all words i h)
+command_one words Command.BenchAll (Command.BenchFault f) h i = absurd (omega (arith, h.count, i.count))
+command_one words Command.BenchAll Command.BenchAll h i = refl
+command_one words Command.BenchFile Command.BenchAll h i = absurd (omega (arith, h.count, i.count))
+command_one words Command.BenchAll Command.BenchFile h i = absurd (omega (arith, h.count, i.count))
+command_one words (Command.Make n) Command.BenchAll h i = absurd (omega (arith, h.has_words.count, i.count))
+command_one words Command.BenchAll (Command.Make n) h i = absurd (omega (arith, h.count, i.has_words.count))

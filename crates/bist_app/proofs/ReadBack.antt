@@ -1,7 +1,7 @@
 -- A self-test that is written, read back and elaborated is the same self-test.
-use Rattle.std.proofs.Common.{◌≡◌, ◌∙◌, Bool, true, false, ◌&&◌, IsTrue, List, ℕ, Option, Some, None, Result, Ok, Err, sym, ap, subst, refl}
+use Rattle.std.proofs.Common.{map, ◌≡◌, ◌∙◌, Bool, true, false, ◌&&◌, IsTrue, List, ℕ, Option, Some, None, Result, Ok, Err, sym, ap, subst, refl}
 use Rattle.std.specs.Prelude.{IfOk, MatchResult}
-use Rattle.verilog_cycle.specs.Design.{DesignView, IsNew}
+use Rattle.verilog_cycle.specs.Design.{DesignView, IsNew, registers_of}
 use Rattle.verilog_tree.specs.Words.{is_name}
 use Rattle.verilog_tree.specs.Plain.{ModuleTree}
 use Rattle.verilog_tree.specs.Formed.{formed}
@@ -65,6 +65,11 @@ pub new_tests : {E : Type 0} (r : Result DesignView E) (march : List MarchElemen
     → IfOk r (IsNew read) → IfOk r (λ design. SelfTest design.tree march d)
 new_tests (Ok design) march d mo read same h new = same_test march d mo read design.tree same new.tree h
 new_tests (Err e) march d mo read same h new = tt
+
+-- the registers of a new design hold 0
+pub new_zero : {E : Type 0} (r : Result DesignView E) (mo : ModuleTree) → IfOk r (IsNew mo) → IfOk r (λ design. design.registers ≡ map (λ _. 0) (registers_of design.tree))
+new_zero (Ok design) mo new = new.zero ∙ ap (λ (x : ModuleTree). map (λ _. 0) (registers_of x)) (sym new.tree)
+new_zero (Err e) mo new = tt
 
 pub where_ok : {A E : Type 0} (r : Result A E) (P Q : A → Type 0) → ((a : A) → P a → Q a) → IfOk r P → IfOk r Q
 where_ok (Ok a) P Q f h = f a h

@@ -10,17 +10,19 @@ use Rattle.bist_app.specs.Vectors.{IsVectorsShape}
 use Rattle.bist_app.specs.Compile.{IsCompileShape}
 use Rattle.bist_app.specs.Bench.{IsBenchShape}
 use Rattle.bist_app.specs.BenchFault.{IsFaultShape}
+use Rattle.bist_app.specs.BenchAll.{IsBenchAllShape}
 use Rattle.bist_app.specs.BenchFile.{IsBenchFileShape}
 use Rattle.bist_app.specs.Make.{IsMakeShape}
 use Rattle.bist_app.specs.Run.{HasNoShape}
 
 pub no_shape : (words : Words) → ((shape : SimShape) → IsSimShape words shape → ⊥) → (IsJudgeShape words → ⊥) → (IsVectorsShape words → ⊥) → (IsCompileShape words → ⊥) → (IsBenchShape words → ⊥)
-    → ((shape : FaultShape) → IsFaultShape words shape → ⊥) → (IsBenchFileShape words → ⊥) → ((number : ℕ) → IsMakeShape words number → ⊥) → HasNoShape words
-no_shape words sim judge vectors compile bench fault file make (Command.Sim shape) h = sim shape h
-no_shape words sim judge vectors compile bench fault file make Command.Judge h = judge h
-no_shape words sim judge vectors compile bench fault file make Command.Vectors h = vectors h
-no_shape words sim judge vectors compile bench fault file make Command.Compile h = compile h
-no_shape words sim judge vectors compile bench fault file make Command.Bench h = bench h
-no_shape words sim judge vectors compile bench fault file make Command.BenchFile h = file h
-no_shape words sim judge vectors compile bench fault file make (Command.Make number) h = make number h
-no_shape words sim judge vectors compile bench fault file make (Command.BenchFault shape) h = fault shape h
+    → ((shape : FaultShape) → IsFaultShape words shape → ⊥) → (IsBenchFileShape words → ⊥) → (IsBenchAllShape words → ⊥) → ((number : ℕ) → IsMakeShape words number → ⊥) → HasNoShape words
+no_shape words sim judge vectors compile bench fault file all make (Command.Sim shape) h = sim shape h
+no_shape words sim judge vectors compile bench fault file all make Command.Judge h = judge h
+no_shape words sim judge vectors compile bench fault file all make Command.Vectors h = vectors h
+no_shape words sim judge vectors compile bench fault file all make Command.Compile h = compile h
+no_shape words sim judge vectors compile bench fault file all make Command.Bench h = bench h
+no_shape words sim judge vectors compile bench fault file all make Command.BenchFile h = file h
+no_shape words sim judge vectors compile bench fault file all make (Command.Make number) h = make number h
+no_shape words sim judge vectors compile bench fault file all make (Command.BenchFault shape) h = fault shape h
+no_shape words sim judge vectors compile bench fault file all make Command.BenchAll h = all h

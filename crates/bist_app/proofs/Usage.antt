@@ -27,6 +27,7 @@ use Rattle.verilog_tree.specs.Plain.{ModuleTree}
 use Rattle.bist_app.specs.BenchFile.{HasPorts, LeavesBenchFile, DecidesBenchFile}
 use Rattle.bist_app.specs.Make.{LeavesMake}
 use Rattle.bist_app.specs.BenchFault.{FitsPlaces, planted_of, LeavesFault, DecidesFault}
+use Rattle.bist_app.specs.BenchAll.{FitsRooms, LeavesAll, DecidesBenchAll}
 use Rattle.bist_app.specs.Run.{DecidesCommand}
 
 aggressor_never : (given : Bool) (prim : Primitive) → NeverUsage (FitsAggressor given prim)
@@ -179,6 +180,28 @@ fault_never files boxes words shape (Ok march, read, (Ok d, given, (Ok prim, ask
 fault_never files boxes words shape (Ok march, read, (Ok d, given, (Ok prim, asked, (Ok _, agrees, (Ok _, fits, (Ok _, has, (Ok _, stands, (Ok _, room, leaves)))))))) =
     fault_leaves_never march d (planted_of prim shape) boxes leaves
 
+rooms_never : (d : Description) (boxes : Boxes) → NeverUsage (FitsRooms d boxes)
+unfolding FitsRooms
+rooms_never d boxes h = h
+
+all_leaves_never : (march : List MarchElement) (d : Description) (boxes : Boxes) → NeverUsage (LeavesAll march d boxes)
+unfolding LeavesAll
+all_leaves_never march d boxes h = h
+
+bench_all_never : (files : Option Files) (boxes : Boxes) (words : Words) → NeverUsage (DecidesBenchAll files boxes words)
+bench_all_never files boxes words (Err e, read, is) =
+    input_march_never files words 1 (turned (InputMarch files words 1) (let x : Result Done Refusal = Err Refusal.Usage in x) e refl is read)
+bench_all_never files boxes words (Ok march, read, (Err e, given, is)) =
+    input_memory_never files words 2 (turned (InputMemory files words 2) (let x : Result Done Refusal = Err Refusal.Usage in x) e refl is given)
+bench_all_never files boxes words (Ok march, read, (Ok d, given, (Err e, fits, is))) =
+    length_never march d (turned (FitsLength march d) (let x : Result Done Refusal = Err Refusal.Usage in x) e refl is fits)
+bench_all_never files boxes words (Ok march, read, (Ok d, given, (Ok _, fits, (Err e, has, is)))) =
+    box_never boxes (turned (HasBox boxes) (let x : Result Done Refusal = Err Refusal.Usage in x) e refl is has)
+bench_all_never files boxes words (Ok march, read, (Ok d, given, (Ok _, fits, (Ok _, has, (Err e, room, is))))) =
+    rooms_never d boxes (turned (FitsRooms d boxes) (let x : Result Done Refusal = Err Refusal.Usage in x) e refl is room)
+bench_all_never files boxes words (Ok march, read, (Ok d, given, (Ok _, fits, (Ok _, has, (Ok _, room, leaves))))) =
+    all_leaves_never march d boxes leaves
+
 pub never_usage : (files : Option Files) (boxes : Boxes) (words : Words) (command : Command) → NeverUsage (DecidesCommand files boxes words command)
 never_usage files boxes words (Command.Sim shape) = sim_never files words shape
 never_usage files boxes words Command.Judge = judge_never files words
@@ -188,3 +211,4 @@ never_usage files boxes words Command.Bench = bench_never files boxes words
 never_usage files boxes words Command.BenchFile = file_never files boxes words
 never_usage files boxes words (Command.Make number) = make_never number
 never_usage files boxes words (Command.BenchFault shape) = fault_never files boxes words shape
+never_usage files boxes words Command.BenchAll = bench_all_never files boxes words

@@ -5,6 +5,8 @@ pub mod Vectors
 pub mod Bench
 pub mod BenchFile
 pub mod BenchFault
+pub mod BenchAll
+pub mod BenchedBoxes
 pub mod Compile
 pub mod Make
 pub mod LetterBits

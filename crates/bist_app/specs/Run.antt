@@ -15,6 +15,7 @@ use Rattle.bist_app.specs.Make.{IsMakeShape, LeavesMake}
 use Rattle.bist_app.specs.Bench.{Boxes, IsBenchShape, DecidesBench, LeavesFirst}
 use Rattle.bist_app.specs.BenchFile.{IsBenchFileShape, DecidesBenchFile}
 use Rattle.bist_app.specs.BenchFault.{IsFaultShape, DecidesFault}
+use Rattle.bist_app.specs.BenchAll.{IsBenchAllShape, DecidesBenchAll, LeavesNone}
 
 -- the words have the shape of this command
 abbrev pub HasShape : Words → Command → Type 0
@@ -26,6 +27,7 @@ HasShape words Command.Bench = IsBenchShape words
 HasShape words Command.BenchFile = IsBenchFileShape words
 HasShape words (Command.Make number) = IsMakeShape words number
 HasShape words (Command.BenchFault shape) = IsFaultShape words shape
+HasShape words Command.BenchAll = IsBenchAllShape words
 
 -- the words have no shape
 abbrev pub HasNoShape : Words → Type 0
@@ -41,6 +43,7 @@ DecidesCommand files boxes words Command.Bench outcome = DecidesBench files boxe
 DecidesCommand files boxes words Command.BenchFile outcome = DecidesBenchFile files boxes words outcome
 DecidesCommand files boxes words (Command.Make number) outcome = LeavesMake number outcome
 DecidesCommand files boxes words (Command.BenchFault shape) outcome = DecidesFault files boxes words shape outcome
+DecidesCommand files boxes words Command.BenchAll outcome = DecidesBenchAll files boxes words outcome
 
 -- what it leaves of the boxes
 abbrev pub LeavesBoxes : Command → Boxes → Boxes → Result Done Refusal → Type 0
@@ -52,6 +55,7 @@ LeavesBoxes Command.Bench boxes left outcome = LeavesFirst boxes left outcome
 LeavesBoxes Command.BenchFile boxes left outcome = LeavesFirst boxes left outcome
 LeavesBoxes (Command.Make number) boxes left outcome = left ≡ boxes
 LeavesBoxes (Command.BenchFault shape) boxes left outcome = LeavesFirst boxes left outcome
+LeavesBoxes Command.BenchAll boxes left outcome = LeavesNone boxes left outcome
 
 -- the check of the words, and then the command's
 abbrev pub Decides : Option Files → Boxes → Boxes → Words → Result Done Refusal → Type 0

@@ -7,7 +7,7 @@ ghost use Rattle.verilog_tree.specs.Rules.{first_break};
 ghost use Rattle.verilog_tree.specs.Formed.{formed};
 ghost use Rattle.verilog_tree.specs.Spells.{Spells};
 ghost use Rattle.verilog_read.specs.declared.fault.ReadFault.{ReadFault};
-ghost use Rattle.verilog_cycle.specs.Design.{IsNew, NoLoop};
+ghost use Rattle.verilog_cycle.specs.Design.{IsNew, NoLoop, registers_of};
 ghost use Rattle.self_test.specs.SelfTest.{SelfTest};
 ghost use Rattle.word_device.specs.Ports.{shape_of as memory_shape};
 ghost use Rattle.word_device.specs.Boxes.{told};
@@ -75,7 +75,8 @@ fn designed(alloc: Global, module: &Module) -> Result<Design, NoMemory>
 
 /// The self-test of the memory by the march as a design, from its written text.
 pub fn self_test_design(alloc: Global, march: &March, memory: &Memory) -> Result<Design, NoMemory>
-    ensures { IfOk result (λ design. SelfTest design.tree march.now memory.now) }
+    ensures test { IfOk result (λ design. SelfTest design.tree march.now memory.now) }
+    ensures zero { IfOk result (λ design. design.registers ≡ map (λ _. 0) (registers_of design.tree)) }
 {
     let written = generate(alloc, march, memory)?;
     let text = emit(alloc, &written)?;

@@ -24,7 +24,8 @@ pub fn has_box(devices: &[Box<dyn Device>]) -> Result<(), Refusal>
     Ok(())
 }
 
-fn room_of_box(device: &Box<dyn Device>) -> u32
+/// How many words a box has room for.
+pub fn room_of_box(device: &Box<dyn Device>) -> u32
     ensures { result ≡ room_of device.now }
 {
     device.room()

@@ -2,6 +2,7 @@ ghost use Rattle.std.specs.Prelude.{MatchOption};
 ghost use Rattle.bist_app.specs.Run.{HasShape, HasNoShape};
 
 use crate::bench_command::is_bench;
+use crate::benchall_command::is_bench_all;
 use crate::benchfault_command::{FaultShape, fault_shape};
 use crate::benchfile_command::is_benchfile;
 use crate::compile::is_compile;
@@ -20,6 +21,7 @@ pub enum Command {
     Bench,
     BenchFault(FaultShape),
     BenchFile,
+    BenchAll,
     Make(u16),
 }
 
@@ -47,6 +49,9 @@ pub fn command_of(words: &[&str]) -> Option<Command>
     }
     if is_benchfile(words) {
         return Some(Command::BenchFile);
+    }
+    if is_bench_all(words) {
+        return Some(Command::BenchAll);
     }
     if let Some(number) = make_number(words) {
         return Some(Command::Make(number));

@@ -3,8 +3,10 @@
 
 mod bench_command;
 mod benchfile_command;
+mod benchall_command;
 mod benchfault_command;
 mod benching;
+mod benching_all;
 mod boxes;
 mod commands;
 mod compile;

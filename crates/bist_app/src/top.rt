@@ -9,6 +9,7 @@ ghost use Rattle.bist_app.specs.Run.{Decides, Runs, HasNoShape};
 
 use crate::bench_command::decide_bench;
 use crate::benchfile_command::decide_benchfile;
+use crate::benchall_command::decide_bench_all;
 use crate::benchfault_command::decide_fault;
 use crate::commands::{Command, command_of};
 use crate::compile::decide_compile;
@@ -47,6 +48,7 @@ fn decide<H: Host>(
         Some(Command::BenchFile) => decide_benchfile(alloc, words, host, devices),
         Some(Command::Make(number)) => decide_make(alloc, words, number),
         Some(Command::BenchFault(shape)) => decide_fault(alloc, words, shape, host, devices),
+        Some(Command::BenchAll) => decide_bench_all(alloc, words, host, devices),
     }
 }
 

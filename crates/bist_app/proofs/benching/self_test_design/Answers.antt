@@ -1,7 +1,7 @@
 use Rattle.std.proofs.Common.{◌≡◌, subst, sym, List, ℕ}
 use Rattle.verilog_tree.specs.Plain.{plain_module}
 use Rattle.verilog_tree.specs.Spells.{Spells}
-use Rattle.bist_app.proofs.ReadBack.{read_formed, same_legal, same_loopless, new_tests}
+use Rattle.bist_app.proofs.ReadBack.{read_formed, same_legal, same_loopless, new_tests, new_zero}
 use Rattle.bist_app.proofs.benching.self_test_design.Goals as goal
 
 pub read_back-requires : goal.read_back-requires
@@ -30,9 +30,12 @@ designed-requires-clause-loopless c =
     (subst (λ (bytes : List ℕ). Spells bytes (plain_module c.in_ok-read.read)) c.deref.ensures.value c.in_ok-read.ensures))
     c.in_ok-written.ensures.self_test
 
-pub returns : goal.returns
-returns c =
+pub returns-clause-test : goal.returns-clause-test
+returns-clause-test c =
     new_tests c.designed.result c.args.march.now c.args.memory.now (plain_module c.in_ok-written.written) (plain_module c.in_ok-read.read)
     (c.in_ok-text.ensures.no_other (plain_module c.in_ok-read.read)
     (subst (λ (bytes : List ℕ). Spells bytes (plain_module c.in_ok-read.read)) c.deref.ensures.value c.in_ok-read.ensures))
     c.in_ok-written.ensures.self_test c.designed.ensures
+
+pub returns-clause-zero : goal.returns-clause-zero
+returns-clause-zero c = new_zero c.designed.result (plain_module c.in_ok-read.read) c.designed.ensures

@@ -8,4 +8,5 @@ returns c = no_shape c.args.words.now c.in_default.ensures (λ judge. absurd (fa
     (λ compile. absurd (false≢true (sym c.if-is_compile.false ∙ c.is_compile.ensures.1 compile)))
     (λ bench. absurd (false≢true (sym c.if-is_bench.false ∙ c.is_bench.ensures.1 bench)))
     c.in_default-fault_shape.ensures
-    (λ file. absurd (false≢true (sym c.if-is_benchfile.false ∙ c.is_benchfile.ensures.1 file))) c.in_default-make_number.ensures
+    (λ file. absurd (false≢true (sym c.if-is_benchfile.false ∙ c.is_benchfile.ensures.1 file)))
+    (λ all. absurd (false≢true (sym c.if-is_bench_all.false ∙ c.is_bench_all.ensures.1 all))) c.in_default-make_number.ensures

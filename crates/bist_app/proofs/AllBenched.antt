@@ -1,0 +1,170 @@
+-- What the runs against a list of boxes leave.
+use Rattle.std.proofs.Common.{◌≡◌, ◌+◌, ◌<◌, ◌∙◌, ℕ, zero, suc, Bool, true, false, List, [], ◌∷◌, length, map, drop, replicate, Option, Some, None, is_some, Result, Ok, Err, OnErr, IfOk, refl, sym, ap, subst, arith}
+use Rattle.std.proofs.lemmas.List.{length-replicate, length-map}
+use Rattle.std.proofs.Math.Nat.{one-le-pow}
+use Rattle.march_core.specs.March.{MarchElement}
+use Rattle.memory_desc.specs.Descriptions.{Description}
+use Rattle.verilog_tree.specs.Names.{Declaration}
+use Rattle.verilog_cycle.specs.Design.{Fit}
+use Rattle.word_device.specs.Ports.{Chip, shape_of}
+use Rattle.word_device.specs.Boxes.{Tells, TellsChip, TellsScript, TellsNothing, Told}
+use Rattle.word_device.specs.Runs.{AllRight, IsPlain, PassesAlone, run_word}
+use Rattle.bench.specs.declared.ending.Seen.{Seen}
+use Rattle.bench.specs.Endings.{IsFirstRead}
+use Rattle.bench.specs.Laws.{IsSeenOf}
+use Rattle.bist_endings.specs.declared.ending.Refusal.{Refusal}
+use Rattle.bist_bits.specs.declared.NoMemory.{NoMemory}
+use Rattle.bist_endings.specs.declared.ending.Plan.{Plan}
+use Rattle.bist_endings.specs.Ending.{Done, done_of}
+use Rattle.bist_app.specs.Bench.{Boxes, ready, benched_chip, IsSeen}
+use Rattle.bist_app.specs.BenchAll.{IsBoxSeen, failing_of, all_done, IsAllBenched, AreGone, LeavesNone}
+use Rattle.bist_app.specs.BenchedBoxes.{IsEnd, GoesOn}
+use Rattle.bist_app.proofs.Benched.{blank_filled}
+
+-- ---- what is seen of one box
+
+blank_plain : (d : Description) → IsPlain d (benched_chip d None)
+blank_plain d = record { words = length-replicate d.words 0; planted = refl }
+
+pub blank_right : (march : List MarchElement) (d : Description) → PassesAlone march d → AllRight march d (run_word march d (benched_chip d None))
+blank_right march d passes = passes (benched_chip d None) (blank_plain d)
+
+-- every read is right, so none is seen
+none_seen : (march : List MarchElement) (d : Description) (words : ℕ → ℕ) (s : Option Seen) → AllRight march d words → IsFirstRead march d words s → s ≡ None
+none_seen march d words None right h = refl
+none_seen march d words (Some s) right h = let w = h.2.wrong in absurd (w.differs (right h.0 w.command w.is_command w.is_read))
+
+box_seen : (march : List MarchElement) (d : Description) (tells : Tells) (failed : Bool) → AllRight march d (run_word march d (benched_chip d None))
+    → (end : IsEnd march d (ready d tells) failed) → IsBoxSeen march d tells end.seen
+box_seen march d tells failed right end = record {
+  is_seen = by tells end.is_seen;
+  passes = λ chip is. none_seen march d (run_word march d (benched_chip d None)) end.seen right
+      (subst (λ (t : Tells). IsSeen march d None t end.seen) is (by tells end.is_seen));
+}
+  where
+    by : (t : Tells) → IsSeenOf march d (ready d t) end.seen → IsSeen march d None t end.seen
+    by (TellsChip c) h = subst (λ (x : Chip). IsFirstRead march d (run_word march d x) end.seen) (blank_filled (shape_of d)) h
+    by (TellsScript s) h = h refl
+    by TellsNothing h = end.read
+
+-- ---- the boxes one after another
+
+pub goes_first : (march : List MarchElement) (d : Description) (boxes : Boxes) → GoesOn march d boxes boxes 0
+goes_first march d boxes later h = (later, h, omega arith)
+
+-- one box more, which failed or didn't
+abbrev pub more_failing : ℕ → Bool → ℕ
+more_failing failing false = failing
+more_failing failing true = failing + 1
+
+failing_more : (failing : ℕ) (seen : Option Seen) (later : List (Option Seen)) → failing + failing_of (seen ∷ later) ≡ more_failing failing (is_some seen) + failing_of later
+failing_more failing None later = refl
+failing_more failing (Some s) later = omega arith
+
+goes_box : (march : List MarchElement) (d : Description) (boxes left : Boxes) (box : Told) (failing : ℕ) (seen : Option Seen) → IsBoxSeen march d box.tells seen
+    → GoesOn march d boxes (box ∷ left) failing → GoesOn march d boxes left (more_failing failing (is_some seen))
+goes_box march d boxes left box failing seen is on later h =
+    let all = on (seen ∷ later) (is, h) in
+    (all.0, all.1, all.2 ∙ failing_more failing seen later)
+
+pub goes_more : {B : Type 0} (f : B → Told) (march : List MarchElement) (d : Description) (boxes : Boxes) (now next : List B) (tells : Tells) (failing : ℕ) (failed : Bool)
+    → AllRight march d (run_word march d (benched_chip d None)) → 0 < length now → next ≡ drop 1 now
+    → ((b : B) (rest : List B) → now ≡ b ∷ rest → tells ≡ ready d (f b).tells) → IsEnd march d tells failed
+    → GoesOn march d boxes (map f now) failing → GoesOn march d boxes (map f next) (more_failing failing failed)
+goes_more f march d boxes [] next tells failing failed right some gone told end on = absurd (omega (arith, some))
+goes_more {B} f march d boxes (b ∷ rest) next tells failing failed right some gone told end on =
+    let here : IsEnd march d (ready d (f b).tells) failed = subst (λ (t : Tells). IsEnd march d t failed) (told b rest refl) end in
+    let left = goes_box march d boxes (map f rest) (f b) failing here.seen (box_seen march d (f b).tells failed right here) on in
+    let counted = subst (λ (x : Bool). GoesOn march d boxes (map f rest) (more_failing failing x)) (sym here.fail) left in
+    subst (λ (xs : List B). GoesOn march d boxes (map f xs) (more_failing failing failed)) (sym gone) counted
+
+pub goes_failed : {B : Type 0} (f : B → Told) (march : List MarchElement) (d : Description) (boxes : Boxes) (now next : List B) (tells : Tells) (failing : ℕ) (failed : Bool)
+    → failed ≡ true → AllRight march d (run_word march d (benched_chip d None)) → 0 < length now → next ≡ drop 1 now
+    → ((b : B) (rest : List B) → now ≡ b ∷ rest → tells ≡ ready d (f b).tells) → IsEnd march d tells failed
+    → GoesOn march d boxes (map f now) failing → GoesOn march d boxes (map f next) (failing + 1)
+goes_failed f march d boxes now next tells failing failed is right some gone told end on =
+    subst (λ (x : Bool). GoesOn march d boxes (map f next) (more_failing failing x)) is
+    (goes_more f march d boxes now next tells failing failed right some gone told end on)
+
+pub goes_passed : {B : Type 0} (f : B → Told) (march : List MarchElement) (d : Description) (boxes : Boxes) (now next : List B) (tells : Tells) (failing : ℕ) (failed : Bool)
+    → failed ≡ false → AllRight march d (run_word march d (benched_chip d None)) → 0 < length now → next ≡ drop 1 now
+    → ((b : B) (rest : List B) → now ≡ b ∷ rest → tells ≡ ready d (f b).tells) → IsEnd march d tells failed
+    → GoesOn march d boxes (map f now) failing → GoesOn march d boxes (map f next) failing
+goes_passed f march d boxes now next tells failing failed is right some gone told end on =
+    subst (λ (x : Bool). GoesOn march d boxes (map f next) (more_failing failing x)) is
+    (goes_more f march d boxes now next tells failing failed right some gone told end on)
+
+all_benched : (march : List MarchElement) (d : Description) (boxes : Boxes) (failing count : ℕ) (done : Done) → GoesOn march d boxes [] failing → count ≡ length boxes
+    → done ≡ all_done count failing → IsAllBenched march d boxes done
+all_benched march d boxes failing count done on counted is =
+    let all = on [] tt in
+    let fails : failing ≡ failing_of all.0 = omega (arith, all.2) in
+    record { seen = all.0; are_seen = all.1; done_is = is ∙ ap (λ n. all_done n failing) counted ∙ ap (all_done (length boxes)) fails }
+
+pub boxes_benched : {B : Type 0} (f : B → Told) (march : List MarchElement) (d : Description) (items now : List B) (failing count : ℕ) (r : Result Plan NoMemory)
+    → GoesOn march d (map f items) (map f now) failing → count ≡ length items → length now ≡ 0
+    → IfOk r (λ plan. done_of plan ≡ all_done count failing) → IfOk r (λ plan. IsAllBenched march d (map f items) (done_of plan))
+boxes_benched f march d items [] failing count (Ok plan) on counted none is =
+    all_benched march d (map f items) failing count (done_of plan) on (counted ∙ sym (length-map items f)) is
+boxes_benched f march d items (b ∷ now) failing count (Ok plan) on counted none is = absurd (omega (arith, none))
+boxes_benched f march d items now failing count (Err e) on counted none is = tt
+
+-- ---- the boxes that are left
+
+drop_more : {A : Type 0} (k : ℕ) (xs : List A) → drop 1 (drop k xs) ≡ drop (suc k) xs
+drop_more zero xs = refl
+drop_more (suc k) [] = refl
+drop_more (suc k) (x ∷ xs) = drop_more k xs
+
+map_drop : {A B : Type 0} (f : A → B) (xs : List A) → map f (drop 1 xs) ≡ drop 1 (map f xs)
+map_drop f [] = refl
+map_drop f (x ∷ xs) = refl
+
+pub none_gone : (boxes : Boxes) → AreGone boxes boxes
+none_gone boxes = (0, refl)
+
+pub one_gone : {B : Type 0} (f : B → Told) (boxes : Boxes) (now next : List B) → AreGone boxes (map f now) → next ≡ drop 1 now → AreGone boxes (map f next)
+one_gone f boxes now next (k, is) gone = (suc k, ap (map f) gone ∙ map_drop f now ∙ ap (drop 1) is ∙ drop_more k boxes)
+
+pub still_gone : (boxes now next : Boxes) → AreGone boxes now → next ≡ now → AreGone boxes next
+still_gone boxes now next gone same = subst (AreGone boxes) (sym same) gone
+
+pub one_less : {A : Type 0} (now next : List A) → 0 < length now → next ≡ drop 1 now → length next + 1 ≡ length now
+one_less [] next some gone = absurd (omega (arith, some))
+one_less (x ∷ rest) next some gone = let same = ap length gone in omega (arith, same)
+
+pub where_err : {A E : Type 0} (r : Result A E) (P : Type 0) → P → OnErr r P
+where_err (Ok a) P h = tt
+where_err (Err e) P h = h
+
+-- a refusal before any box is called leaves the boxes
+pub none_unchanged : (boxes : Boxes) (e : Refusal) → LeavesNone boxes boxes (Err e)
+none_unchanged boxes Refusal.Usage = refl
+none_unchanged boxes (Refusal.March f) = refl
+none_unchanged boxes (Refusal.Memory f) = refl
+none_unchanged boxes (Refusal.Fault f) = refl
+none_unchanged boxes (Refusal.TooLarge p) = refl
+none_unchanged boxes (Refusal.ReadFailed p) = refl
+none_unchanged boxes (Refusal.Absent p) = refl
+none_unchanged boxes (Refusal.Misfit m) = refl
+none_unchanged boxes (Refusal.Device r) = refl
+none_unchanged boxes (Refusal.TooLong n) = refl
+none_unchanged boxes Refusal.NoMemory = none_gone boxes
+
+-- ---- registers of 0
+
+-- as many zeros as there are of these
+zeros_of : List Declaration → List ℕ
+zeros_of ds = map (λ _. 0) ds
+
+zeros_fit : (ds : List Declaration) → Fit ds (replicate (length (zeros_of ds)) 0)
+unfolding zeros_of
+zeros_fit [] = tt
+zeros_fit (d ∷ ds) = (one-le-pow d.width 2 (omega arith), zeros_fit ds)
+
+pub zeros_for_registers : (ds : List Declaration) (registers values shown : List ℕ) → registers ≡ map (λ _. 0) ds → values ≡ replicate (length registers) 0 → shown ≡ values
+    → Fit ds shown
+unfolding zeros_of
+zeros_for_registers ds registers values shown hold are same =
+    let shown_is : shown ≡ replicate (length (zeros_of ds)) 0 = same ∙ are ∙ ap (λ (xs : List ℕ). replicate (length xs) 0) hold in
+    subst (Fit ds) (sym shown_is) (zeros_fit ds)

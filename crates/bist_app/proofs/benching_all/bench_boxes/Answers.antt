@@ -1,0 +1,42 @@
+use Rattle.std.proofs.Common.{rules, ◌≡◌, ◌∙◌, ◌<◌, length, arith}
+use Rattle.bist_app.proofs.AllBenched.{goes_failed, goes_passed, boxes_benched, one_gone, one_less, where_err}
+use Rattle.bist_app.proofs.benching_all.bench_boxes.Goals as goal
+
+pub returns-in_err-does_fail-clause-gone : goal.returns-in_err-does_fail-clause-gone
+returns-in_err-does_fail-clause-gone g c =
+    where_err c.from_residual-in_err-does_fail.result _
+    (one_gone _ _ c.loop-devices.devices.items c.take_first.new.devices.items c.loop-devices.invariant.gone c.in_ok-device.ensures.taken)
+
+pub loop-devices-preserved-then-branch : goal.loop-devices-preserved-then-branch
+loop-devices-preserved-then-branch g c =
+    let some : 0 < length c.loop-devices.devices.items = search rules in
+    let less = one_less c.loop-devices.devices.items c.take_first.new.devices.items some c.in_ok-device.ensures.taken in
+    record {
+      tree = c.in_ok-does_fail.ensures.kept ∙ c.loop-devices.invariant.tree;
+      counted = c.loop-devices.invariant.counted;
+      bound = omega (arith, less, c.loop-devices.invariant.bound);
+      gone = one_gone _ _ c.loop-devices.devices.items c.take_first.new.devices.items c.loop-devices.invariant.gone c.in_ok-device.ensures.taken;
+      goes_on = goes_failed _ c.args.march.now c.args.memory.now _ c.loop-devices.devices.items c.take_first.new.devices.items _ c.loop-devices.failing
+          c.in_ok-does_fail.field-0 c.if-branch.true c.answers_right.ensures some c.in_ok-device.ensures.taken c.in_ok-device.ensures.tells
+          c.in_ok-does_fail.ensures.end c.loop-devices.invariant.goes_on;
+    }
+
+pub loop-devices-preserved : goal.loop-devices-preserved
+loop-devices-preserved g c =
+    let some : 0 < length c.loop-devices.devices.items = search rules in
+    let less = one_less c.loop-devices.devices.items c.take_first.new.devices.items some c.in_ok-device.ensures.taken in
+    record {
+      tree = c.in_ok-does_fail.ensures.kept ∙ c.loop-devices.invariant.tree;
+      counted = c.loop-devices.invariant.counted;
+      bound = omega (arith, less, c.loop-devices.invariant.bound);
+      gone = one_gone _ _ c.loop-devices.devices.items c.take_first.new.devices.items c.loop-devices.invariant.gone c.in_ok-device.ensures.taken;
+      goes_on = goes_passed _ c.args.march.now c.args.memory.now _ c.loop-devices.devices.items c.take_first.new.devices.items _ c.loop-devices.failing
+          c.in_ok-does_fail.field-0 c.if-branch.false c.answers_right.ensures some c.in_ok-device.ensures.taken c.in_ok-device.ensures.tells
+          c.in_ok-does_fail.ensures.end c.loop-devices.invariant.goes_on;
+    }
+
+pub returns-clause-benched : goal.returns-clause-benched
+returns-clause-benched g c =
+    let none : length c.loop-devices.devices.items ≡ 0 = search rules in
+    boxes_benched _ c.args.march.now c.args.memory.now c.args.devices.now.items c.loop-devices.devices.items c.loop-devices.failing c.len-count.result
+    c.all_plan.result c.loop-devices.invariant.goes_on c.loop-devices.invariant.counted none c.all_plan.ensures

@@ -1,0 +1,21 @@
+use Rattle.std.proofs.Common.{◌≡◌, ◌+◌, ◌≤◌, length, map}
+use Rattle.word_device.specs.Boxes.{told}
+use Rattle.bist_app.specs.BenchAll.{AreGone}
+use Rattle.bist_app.specs.BenchedBoxes.{GoesOn}
+use Rattle.bist_app.proofs.benching_all.bench_boxes.Given as goal
+
+-- the boxes that are gone were benched, and so many of them failed
+abbrev pub invariant-loop-devices : goal.invariant-loop-devices
+invariant-loop-devices g l =
+    let first = map (λ b. let B = goal.Device-dyn g (b.vtable, b.value) in told (B.room_of b.value) (B.shape_of b.value) (B.tells b.value)) l.fn.devices.items in
+    let left = map (λ b. let B = goal.Device-dyn g (b.vtable, b.value) in told (B.room_of b.value) (B.shape_of b.value) (B.tells b.value)) l.devices.items in
+    record {
+      tree : l.design.tree ≡ l.fn.design.tree;
+      counted : l.count ≡ length l.fn.devices.items;
+      bound : l.failing + length l.devices.items ≤ l.count;
+      gone : AreGone first left;
+      goes_on : GoesOn l.march l.memory first left l.failing;
+    }
+
+abbrev pub decreases-loop-devices : goal.decreases-loop-devices
+decreases-loop-devices g l = length l.devices.items

@@ -1,0 +1,22 @@
+-- Proof help, and nothing that a clause of `run` claims: the boxes that are benched so far.
+use Rattle.std.specs.Prelude.{◌≡◌, ◌+◌, ℕ, Bool, List, Option, is_some}
+use Rattle.march_core.specs.March.{MarchElement}
+use Rattle.memory_desc.specs.Descriptions.{Description}
+use Rattle.word_device.specs.Boxes.{Tells}
+use Rattle.bench.specs.declared.ending.Seen.{Seen}
+use Rattle.bench.specs.Laws.{IsWrongRead, IsSeenOf}
+use Rattle.bist_app.specs.Bench.{Boxes}
+use Rattle.bist_app.specs.BenchAll.{AreSeen, failing_of}
+
+-- a run beside a box that tells this at its beginning ended with `fail`, or without
+pub record IsEnd (march : List MarchElement) (d : Description) (tells : Tells) (failed : Bool) : Type 0 where
+  pub seen : Option Seen
+  pub is_seen : IsSeenOf march d tells seen
+  pub read : IsWrongRead march d seen
+  pub fail : failed ≡ is_some seen
+
+-- so many boxes failed so far, and these are left: with what is seen of them there is what is seen of all
+abbrev pub GoesOn : List MarchElement → Description → Boxes → Boxes → ℕ → Type 0
+GoesOn march d boxes left failing =
+    (later : List (Option Seen)) → AreSeen march d left later
+    → (all : List (Option Seen)) × AreSeen march d boxes all × (failing_of all ≡ failing + failing_of later)

@@ -1,0 +1,106 @@
+//! The command `benchall`: the self-test of a march and a memory against each box.
+
+ghost use Rattle.std.specs.Prelude.{◌≡◌, ◌≤◌, ◌<◌, ◌↔◌, [], IfOk, IfErr, IsTrue, MatchOption, map};
+ghost use Rattle.bist_host.specs.Files.{Rose};
+ghost use Rattle.word_device.specs.Boxes.{told};
+ghost use Rattle.bist_endings.specs.Ending.{plain, done_of};
+ghost use Rattle.bist_endings.specs.Conclude.{NamesWords};
+ghost use Rattle.bist_inputs.specs.Inputs.{HasReadCause, IsOwnRefusal};
+ghost use Rattle.bist_app.specs.BenchAll.{IsBenchAllShape, HaveRoom, FirstSmall, FitsRooms, LeavesAll, DecidesBenchAll, LeavesNone};
+
+use crate::benching_all::bench_all;
+use crate::boxes::{has_box, room_of_box};
+use crate::vectors::fit_length;
+use bist_bits::NoMemory;
+use bist_endings::{DeviceRefusal, Plan, Refusal, are_plain};
+use bist_host::Host;
+use bist_inputs::{read_march_input, read_memory_input};
+use march_core::March;
+use memory_desc::Memory;
+use std::alloc::Global;
+use word_device::Device;
+
+/// Whether the words have the shape of `benchall`.
+pub fn is_bench_all(words: &[&str]) -> bool
+    ensures { IsTrue result ↔ IsBenchAllShape words.now }
+{
+    let ["benchall", march, memory] = *words else {
+        return false;
+    };
+    are_plain(words) && march != memory
+}
+
+/// The room of the first box that has none for so many words, if there is one.
+fn small_room(devices: &[Box<dyn Device>], words: u32) -> Option<u32>
+    ensures { MatchOption result (HaveRoom words (map (λ b. told (room_of b) (shape_of b) (tells b)) devices.now)) (λ room. FirstSmall words (map (λ b. told (room_of b) (shape_of b) (tells b)) devices.now) room) }
+{
+    match devices {
+        [] => None,
+        [first, rest @ ..] => {
+            let room = room_of_box(first);
+            if room < words {
+                Some(room)
+            } else {
+                small_room(rest, words)
+            }
+        }
+    }
+}
+
+/// Refuses a box with room for fewer words than the memory has.
+#[tactic(auto, unfolding(crate::specs::BenchAll::FitsRooms))]
+fn fit_rooms(devices: &[Box<dyn Device>], memory: &Memory) -> Result<(), Refusal>
+    ensures answer { FitsRooms memory.now (map (λ b. told (room_of b) (shape_of b) (tells b)) devices.now) result }
+    ensures own { IfErr result IsOwnRefusal }
+{
+    let words = memory.words();
+    match small_room(devices, words) {
+        None => Ok(()),
+        Some(room) => Err(Refusal::Device(DeviceRefusal::TooSmall { words, room })),
+    }
+}
+
+/// The plan of the runs, or want of memory.
+#[tactic(auto, using(crate::proofs::AllBenched::none_unchanged), unfolding(crate::specs::BenchAll::LeavesAll))]
+fn plan_all(
+    alloc: Global,
+    march: &March,
+    memory: &Memory,
+    devices: &mut Vec<Box<dyn Device>>,
+) -> Result<Plan, Refusal>
+    ensures own { IfErr result IsOwnRefusal }
+    ensures answer { LeavesAll march.now memory.now (map (λ b. told (room_of b) (shape_of b) (tells b)) devices.old.items) (plain result) }
+    ensures left { LeavesNone (map (λ b. told (room_of b) (shape_of b) (tells b)) devices.old.items) (map (λ b. told (room_of b) (shape_of b) (tells b)) devices.new.items) (plain result) }
+    ensures outputs { IfOk result (λ plan. (done_of plan).outputs ≡ []) }
+{
+    match bench_all(alloc, march, memory, devices) {
+        Ok(plan) => Ok(plan),
+        Err(NoMemory) => Err(Refusal::NoMemory),
+    }
+}
+
+/// Runs the self-test of a memory by a march against each box.
+#[tactic(auto, using(crate::proofs::Causes::own_cause, crate::proofs::AllBenched::none_unchanged))]
+pub fn decide_bench_all<H: Host>(
+    alloc: Global,
+    words: &[&str],
+    host: &mut H,
+    devices: &mut Vec<Box<dyn Device>>,
+) -> Result<Plan, Refusal>
+    requires { IsBenchAllShape words.now }
+    ensures files { H.files host.new ≡ H.files host.old }
+    ensures said { H.said host.new ≡ H.said host.old }
+    ensures writes { H.write_faults host.new ≡ H.write_faults host.old }
+    ensures reads { H.read_faults host.old ≤ H.read_faults host.new }
+    ensures outputs { IfOk result (λ plan. NamesWords words.now (done_of plan).outputs) }
+    ensures answer { DecidesBenchAll (H.files host.old) (map (λ b. told (room_of b) (shape_of b) (tells b)) devices.old.items) words.now (plain result) }
+    ensures left { LeavesNone (map (λ b. told (room_of b) (shape_of b) (tells b)) devices.old.items) (map (λ b. told (room_of b) (shape_of b) (tells b)) devices.new.items) (plain result) }
+    ensures cause { HasReadCause (H.files host.old) (Rose (H.read_faults host.old) (H.read_faults host.new)) result }
+{
+    let march = read_march_input(host, words, 1)?;
+    let memory = read_memory_input(host, words, 2)?;
+    fit_length(&march, &memory)?;
+    has_box(devices)?;
+    fit_rooms(devices, &memory)?;
+    plan_all(alloc, &march, &memory, devices)
+}

@@ -1,0 +1,143 @@
+//! The self-test module against each box of a list: the module is made, written and read back once, and the line counts the boxes that fail.
+
+ghost use Rattle.std.specs.Prelude.{◌≡◌, ◌⊎◌, ◌≤◌, ◌<◌, ◌++◌, ◌∷◌, [], None, Some, IfOk, OnOk, OnErr, codes, decimal, length, map, drop, replicate};
+ghost use Rattle.verilog_cycle.specs.Design.{Fit, registers_of};
+ghost use Rattle.self_test.specs.SelfTest.{SelfTest};
+ghost use Rattle.word_device.specs.Ports.{shape_of as memory_shape};
+ghost use Rattle.word_device.specs.Boxes.{told};
+ghost use Rattle.word_device.specs.Runs.{AllRight, run_word};
+ghost use Rattle.bist_endings.specs.Ending.{done_of};
+ghost use Rattle.bist_app.specs.Bench.{benched_chip};
+ghost use Rattle.bist_app.specs.BenchAll.{all_line, all_done, IsAllBenched, AreGone};
+ghost use Rattle.bist_app.specs.BenchedBoxes.{IsEnd};
+
+use crate::benching::self_test_design;
+use crate::boxes::take_first;
+use bench::{BenchEnd, BenchRefused, bench};
+use bist_bits::NoMemory;
+use bist_endings::Plan;
+use bist_text::{put, put_decimal};
+use march_core::March;
+use memory_desc::Memory;
+use std::alloc::Global;
+use verilog_cycle::Design;
+use word_device::{Device, unplanted_passes};
+
+/// A chip with nothing planted answers every read of the march right.
+fn answers_right(march: &March, memory: &Memory)
+    ensures { AllRight march.now memory.now (run_word march.now memory.now (benched_chip memory.now None)) }
+{
+    unplanted_passes(march, memory);
+}
+
+/// The line that tells how many boxes failed.
+fn all_boxes_line(alloc: Global, count: usize, failing: usize) -> Result<Vec<u8>, NoMemory>
+    ensures { IfOk result (λ line. line.items ≡ all_line count failing) }
+{
+    let mut line = Vec::new(alloc);
+    put(&mut line, b"boxes ")?;
+    put_decimal(&mut line, count as u64)?;
+    put(&mut line, b" failing ")?;
+    put_decimal(&mut line, failing as u64)?;
+    put(&mut line, b"\n")?;
+    Ok(line)
+}
+
+/// The plan of so many runs, of which so many failed.
+fn all_plan(alloc: Global, count: usize, failing: usize) -> Result<Plan, NoMemory>
+    ensures { IfOk result (λ plan. done_of plan ≡ all_done count failing) }
+{
+    let line = all_boxes_line(alloc, count, failing)?;
+    Ok(Plan {
+        found: failing > 0,
+        outputs: Vec::new(alloc),
+        line,
+    })
+}
+
+/// Runs the self-test from registers 0 against a box that is fitted. The answer tells whether it ended with `fail`.
+fn does_fail(
+    design: &mut Design,
+    zeros: &[u64],
+    march: &March,
+    memory: &Memory,
+    device: Box<dyn Device>,
+) -> Result<bool, NoMemory>
+    requires test { SelfTest design.old.tree march.now memory.now }
+    requires zeros { Fit (registers_of design.old.tree) zeros.now }
+    requires fitted { shape_of device ≡ Some (memory_shape memory.now) }
+    ensures kept { design.new.tree ≡ design.old.tree }
+    ensures end { IfOk result (λ failed. IsEnd march.now memory.now (tells device) failed) }
+{
+    design.set_registers(zeros);
+    match bench(design, march, memory, device) {
+        Ok(
+            BenchEnd {
+                fail,
+                done_cycle: _,
+                first: _,
+                device,
+            },
+        ) => {
+            drop(device);
+            Ok(fail)
+        }
+        Err(BenchRefused { fault: _, device }) => {
+            drop(device);
+            Err(NoMemory)
+        }
+    }
+}
+
+/// Runs the self-test against each box, which is fitted and taken.
+fn bench_boxes(
+    alloc: Global,
+    design: &mut Design,
+    zeros: &[u64],
+    march: &March,
+    memory: &Memory,
+    devices: &mut Vec<Box<dyn Device>>,
+) -> Result<Plan, NoMemory>
+    requires test { SelfTest design.old.tree march.now memory.now }
+    requires zeros { Fit (registers_of design.old.tree) zeros.now }
+    ensures none_left { OnOk result (devices.new.items ≡ []) }
+    ensures gone { OnErr result (AreGone (map (λ b. told (room_of b) (shape_of b) (tells b)) devices.old.items) (map (λ b. told (room_of b) (shape_of b) (tells b)) devices.new.items)) }
+    ensures benched { IfOk result (λ plan. IsAllBenched march.now memory.now (map (λ b. told (room_of b) (shape_of b) (tells b)) devices.old.items) (done_of plan)) }
+{
+    answers_right(march, memory);
+    let count = devices.len();
+    let mut failing = 0;
+    while !devices.is_empty() {
+        let device = take_first(devices, memory)?;
+        if does_fail(design, zeros, march, memory, device)? {
+            failing += 1;
+        }
+    }
+    all_plan(alloc, count, failing)
+}
+
+/// As many zeros as the design has registers, which hold 0.
+fn zeros_for(alloc: Global, design: &Design) -> Result<Vec<u64>, NoMemory>
+    ensures { IfOk result (λ zeros. zeros.items ≡ replicate (length design.now.registers) 0) }
+{
+    match Vec::from_elem(alloc, 0, design.register_count()) {
+        Ok(zeros) => Ok(zeros),
+        Err(_) => Err(NoMemory),
+    }
+}
+
+/// Runs the self-test of the memory by the march against each box, which is fitted and taken.
+pub fn bench_all(
+    alloc: Global,
+    march: &March,
+    memory: &Memory,
+    devices: &mut Vec<Box<dyn Device>>,
+) -> Result<Plan, NoMemory>
+    ensures none_left { OnOk result (devices.new.items ≡ []) }
+    ensures gone { OnErr result (AreGone (map (λ b. told (room_of b) (shape_of b) (tells b)) devices.old.items) (map (λ b. told (room_of b) (shape_of b) (tells b)) devices.new.items)) }
+    ensures benched { IfOk result (λ plan. IsAllBenched march.now memory.now (map (λ b. told (room_of b) (shape_of b) (tells b)) devices.old.items) (done_of plan)) }
+{
+    let mut design = self_test_design(alloc, march, memory)?;
+    let zeros = zeros_for(alloc, &design)?;
+    bench_boxes(alloc, &mut design, &zeros, march, memory, devices)
+}
