@@ -149,6 +149,7 @@ none_unchanged boxes (Refusal.Absent p) = refl
 none_unchanged boxes (Refusal.Misfit m) = refl
 none_unchanged boxes (Refusal.Device r) = refl
 none_unchanged boxes (Refusal.TooLong n) = refl
+none_unchanged boxes (Refusal.Verilog r) = refl
 none_unchanged boxes Refusal.NoMemory = none_gone boxes
 
 -- ---- registers of 0
