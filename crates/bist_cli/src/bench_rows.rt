@@ -514,7 +514,7 @@ fn a_loop(rt: HostRuntime) -> Result<(), Fail> {
     let mut host = with_module(rt.alloc(), text)?;
     assert_eq!(rt; run_alone(rt.alloc(), BENCH_FILE, &mut host).status, 14);
     let said = host.said();
-    assert!(rt; said == b"verilog N7 a b\n" || said == b"verilog N7 b a\n");
+    assert!(rt; said == b"verilog N7 a b\n".as_slice() || said == b"verilog N7 b a\n".as_slice());
     Ok(())
 }
 
