@@ -1,7 +1,0 @@
-use Rattle.std.proofs.Common.{◌≡◌, drop, map, ◌++◌}
-use Rattle.std.specs.Map.Iter.{deref}
-use Rattle.std.specs.String.{string_bytes}
-use Rattle.bist_cli.proofs.texts_of.Given as goal
-
-abbrev pub invariant-loop-word : goal.invariant-loop-word
-invariant-loop-word l = map deref l.texts.items ++ map string_bytes (drop l.word-index l.words) ≡ map string_bytes l.words
