@@ -3,7 +3,7 @@ use Rattle.std.proofs.Common.{◌≡◌, ◌∙◌, ◌⊎◌, inl, inr, ℕ, Li
 use Rattle.bist_host.specs.Files.{Files}
 use Rattle.verilog_tree.specs.declared.fault.TreeFault.{TreeFault}
 use Rattle.verilog_tree.specs.Plain.{ModuleTree}
-use Rattle.verilog_tree.specs.Rules.{Break, Unknown, Twice, Widths, TwoBlocks, NotAssignable, SelectRange, Undriven, NotClock, first_break}
+use Rattle.verilog_tree.specs.Rules.{Break, Unknown, Twice, Width, TwoBlocks, NotAssignable, SelectRange, Undriven, Clock, first_break}
 use Rattle.verilog_tree.specs.Spells.{Spells, all_limits}
 use Rattle.verilog_tree.specs.Wires.{IsLoop}
 use Rattle.verilog_read.specs.declared.fault.ReadFault.{ReadFault}
@@ -55,12 +55,12 @@ tree_one bytes (Err other) outcome f g r s = absurd f
 abbrev break_text : Break → List ℕ
 break_text (Unknown n) = codes "N1 " ++ n
 break_text (Twice n) = codes "N2 " ++ n
-break_text (Widths j k) = codes "N3 " ++ decimal j ++ codes " " ++ decimal k
+break_text (Width j k) = codes "N3 " ++ decimal j ++ codes " " ++ decimal k
 break_text (TwoBlocks n) = codes "N4 " ++ n
 break_text (NotAssignable n) = codes "N5 " ++ n
 break_text (SelectRange n) = codes "N6 " ++ n
 break_text (Undriven n) = codes "N9 " ++ n
-break_text (NotClock n) = codes "N10 " ++ n
+break_text (Clock n) = codes "N10 " ++ n
 
 -- the first broken rule, by its text
 record TellsBreak (mo : ModuleTree) (fault : TreeFault) : Type 0 where
@@ -79,13 +79,13 @@ told : (mo : ModuleTree) (fault : TreeFault) → Breaks mo fault → TellsBreak 
 told mo TreeFault.NoMemory h = absurd h
 told mo (TreeFault.Unknown n) h = inl (record { broken = Unknown n.bytes; is_first = h; text = refl })
 told mo (TreeFault.Twice n) h = inl (record { broken = Twice n.bytes; is_first = h; text = refl })
-told mo (TreeFault.Width j k) h = inl (record { broken = Widths j k; is_first = h; text = refl })
+told mo (TreeFault.Width j k) h = inl (record { broken = Width j k; is_first = h; text = refl })
 told mo (TreeFault.TwoBlocks n) h = inl (record { broken = TwoBlocks n.bytes; is_first = h; text = refl })
 told mo (TreeFault.NotAssignable n) h = inl (record { broken = NotAssignable n.bytes; is_first = h; text = refl })
 told mo (TreeFault.SelectRange n) h = inl (record { broken = SelectRange n.bytes; is_first = h; text = refl })
 told mo (TreeFault.Loop ns) h = inr (record { legal = h.0; names = plain_names ns.items; is_loop = h.1; tells = tt })
 told mo (TreeFault.Undriven n) h = inl (record { broken = Undriven n.bytes; is_first = h; text = refl })
-told mo (TreeFault.Clock n) h = inl (record { broken = NotClock n.bytes; is_first = h; text = refl })
+told mo (TreeFault.Clock n) h = inl (record { broken = Clock n.bytes; is_first = h; text = refl })
 
 same_break : (o : Option Break) (b c : Break) → o ≡ Some b → o ≡ Some c → b ≡ c
 same_break o b c h i = cc
