@@ -148,9 +148,11 @@ file_never files boxes words (Ok mo, read, (Ok march, given, (Ok d, described, (
     room_never d boxes (turned (FitsRoom d boxes) (let x : Result Done Refusal = Err Refusal.Usage in x) e refl is room)
 file_never files boxes words (Ok mo, read, (Ok march, given, (Ok d, described, (Ok _, fits, (Ok _, ports, (Ok _, has, (Ok _, room, leaves))))))) =
     file_leaves_never mo march d boxes leaves
+
 make_never : (number : ℕ) → NeverUsage (LeavesMake number)
 unfolding LeavesMake
 make_never number h = h
+
 places_never : (d : Description) (shape : FaultShape) → NeverUsage (FitsPlaces d shape)
 unfolding FitsPlaces
 places_never d shape h = h

@@ -2,9 +2,9 @@
 #![tactic(auto)]
 
 mod bench_command;
-mod benchfile_command;
 mod benchall_command;
 mod benchfault_command;
+mod benchfile_command;
 mod benching;
 mod benching_all;
 mod boxes;

@@ -8,9 +8,9 @@ ghost use Rattle.bist_app.specs.Answer.{IsComplete, RunHasOneAnswer};
 ghost use Rattle.bist_app.specs.Run.{Decides, Runs, HasNoShape};
 
 use crate::bench_command::decide_bench;
-use crate::benchfile_command::decide_benchfile;
 use crate::benchall_command::decide_bench_all;
 use crate::benchfault_command::decide_fault;
+use crate::benchfile_command::decide_benchfile;
 use crate::commands::{Command, command_of};
 use crate::compile::decide_compile;
 use crate::judge::decide_judge;

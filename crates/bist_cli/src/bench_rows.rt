@@ -407,10 +407,7 @@ const REFUSED_MODULES: [(&[u8], &[u8]); 10] = [
         b"module m(output a);wire b;assign a=c;endmodule",
         b"verilog N1 c\n",
     ),
-    (
-        b"module m(output a);wire a;endmodule",
-        b"verilog N2 a\n",
-    ),
+    (b"module m(output a);wire a;endmodule", b"verilog N2 a\n"),
     (
         b"module m(output a);assign a=2'd0;endmodule",
         b"verilog N3 1 2\n",
@@ -435,7 +432,12 @@ const REFUSED_MODULES: [(&[u8], &[u8]); 10] = [
 ];
 
 /// A box of a sort, with a room.
-fn add(devices: &mut Vec<Box<dyn Device>>, alloc: Global, sort: Sort, room: u32) -> Result<(), AllocError> {
+fn add(
+    devices: &mut Vec<Box<dyn Device>>,
+    alloc: Global,
+    sort: Sort,
+    room: u32,
+) -> Result<(), AllocError> {
     match sort {
         Sort::Sound => devices.push(Box::new(alloc, ArrayDevice::new(alloc, room))?)?,
         Sort::Zeros => devices.push(Box::new(alloc, ConstDevice::new(room, 0))?)?,
@@ -537,7 +539,10 @@ fn a_written_module(rt: HostRuntime) -> Result<(), Fail> {
         let mut second = with_module(rt.alloc(), module)?;
         let mut devices: Vec<Box<dyn Device>> = Vec::new(rt.alloc());
         add(&mut devices, rt.alloc(), sort, 65_536)?;
-        assert_eq!(rt; run(rt.alloc(), BENCH_FILE, &mut second, &mut devices).status, status);
+        assert_eq!(rt;
+            run(rt.alloc(), BENCH_FILE, &mut second, &mut devices).status,
+            status
+        );
         assert_eq!(rt; second.said(), said);
     }
     Ok(())
