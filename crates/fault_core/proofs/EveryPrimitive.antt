@@ -1,25 +1,21 @@
 -- The table has exactly the primitives, each in one class.
-use Rattle.std.proofs.Common.{◌≡◌, ◌≢◌, ℕ, Bool, true, false, not, ◌&&◌, ◌||◌, List, [], ◌∷◌, get_or, nat_eq, refl, ap, sym, subst, ◌∙◌, arith}
+use Rattle.std.proofs.Common.{◌≡◌, ◌≢◌, ℕ, Bool, true, false, not, ◌&&◌, ◌||◌, List, [], ◌∷◌, get_or, nat_eq, refl, ap, sym, subst, ◌∙◌}
 use Rattle.std.specs.List.{All, AllPairs, Contains, list_any, list_all}
-use Rattle.std.proofs.lemmas.Bool.{and_parts, both_ways, eqb-true, not-true}
+use Rattle.std.proofs.lemmas.Bool.{and_parts, eqb-true, not-true}
 use Rattle.std.proofs.lemmas.List.Sums.{AllPass-from_list_all}
-use Rattle.std.proofs.lemmas.List.Kept.{AllPairs-cons}
 use Rattle.std.proofs.lemmas.Map.Views.{Contains-from_any}
 use Rattle.fault_core.specs.declared.table.Class.{Class}
 use Rattle.fault_core.specs.declared.table.Class.TheVariants.{SF, TF, WDF, RDF, DRDF, IRF, CFst, CFds, CFtr, CFwd, CFrd, CFdr, CFir, DRF}
 use Rattle.fault_core.specs.Primitive.{Primitive, IsPrimitive, has_aggressor, pauses}
 use Rattle.fault_core.specs.Classes.{class_by_parts}
 use Rattle.fault_core.specs.Table.{members_of, one_cell_table, two_cell_table, retention_table}
+use Rattle.fault_core.proofs.Tests.{implied, other_holds, all_differ-pairs}
 use Rattle.fault_core.proofs.Parts.{at_all_parts, parts_pass, same_parts, same_parts-equal, same_parts-refl, is_primitive, primitive_passes, passes_primitive}
 
 -- what is shown by a test of those parts that are a primitive
 pub shown_of_primitives : (f : Primitive → Bool) → at_all_parts (λ p. not (is_primitive p) || f p) ≡ true
     → (p : Primitive) → IsPrimitive p → f p ≡ true
-shown_of_primitives f h p is = from (is_primitive p) (f p) (primitive_passes p is) (parts_pass (λ q. not (is_primitive q) || f q) h p)
-  where
-    from : (a b : Bool) → a ≡ true → (not a || b) ≡ true → b ≡ true
-    from true b e x = x
-    from false b e x = cc
+shown_of_primitives f h p is = implied (is_primitive p) (f p) (primitive_passes p is) (parts_pass (λ q. not (is_primitive q) || f q) h p)
 
 abbrev pub is_among : List Primitive → Primitive → Bool
 is_among xs p = list_any (same_parts p) xs
@@ -37,28 +33,16 @@ class_has p is = contained _ p (shown_of_primitives (λ q. is_among (members_of 
 -- a primitive without an aggressor is in the table of one cell, and one with an aggressor in that of two
 pub one_cell_has : (p : Primitive) → IsPrimitive p → has_aggressor p ≡ false → pauses p ≡ false → Contains one_cell_table p
 one_cell_has p is alone stays =
-    contained one_cell_table p (from (pauses p) _ stays (from (has_aggressor p) _ alone
+    contained one_cell_table p (other_holds (pauses p) _ stays (other_holds (has_aggressor p) _ alone
     (shown_of_primitives (λ q. has_aggressor q || (pauses q || is_among one_cell_table q)) refl p is)))
-  where
-    from : (a b : Bool) → a ≡ false → (a || b) ≡ true → b ≡ true
-    from true b e x = cc
-    from false b e x = x
 
 pub retention_has : (p : Primitive) → IsPrimitive p → pauses p ≡ true → Contains retention_table p
 retention_has p is lost =
-    contained retention_table p (from (pauses p) _ lost (shown_of_primitives (λ q. not (pauses q) || is_among retention_table q) refl p is))
-  where
-    from : (a b : Bool) → a ≡ true → (not a || b) ≡ true → b ≡ true
-    from true b e x = x
-    from false b e x = cc
+    contained retention_table p (implied (pauses p) _ lost (shown_of_primitives (λ q. not (pauses q) || is_among retention_table q) refl p is))
 
 pub two_cell_has : (p : Primitive) → IsPrimitive p → has_aggressor p ≡ true → Contains two_cell_table p
 two_cell_has p is beside =
-    contained two_cell_table p (from (has_aggressor p) _ beside (shown_of_primitives (λ q. not (has_aggressor q) || is_among two_cell_table q) refl p is))
-  where
-    from : (a b : Bool) → a ≡ true → (not a || b) ≡ true → b ≡ true
-    from true b e x = x
-    from false b e x = cc
+    contained two_cell_table p (implied (has_aggressor p) _ beside (shown_of_primitives (λ q. not (has_aggressor q) || is_among two_cell_table q) refl p is))
 
 -- what is in the tables is a primitive
 pub one_cell_are : All (λ p. IsPrimitive p × (has_aggressor p ≡ false) × (pauses p ≡ false)) one_cell_table
@@ -142,26 +126,12 @@ class_only p class here =
     (AllPass-from_list_all _ (members_of class) (members_tell class)) here in
     sym (class_at-rank class) ∙ ap class_at (sym (eqb-true _ _ told)) ∙ class_at-rank (class_by_parts p)
 
--- no two elements of a list have the same parts
-abbrev pub all_differ : List Primitive → Bool
-all_differ [] = true
-all_differ (p ∷ ps) = list_all (λ q. not (same_parts p q)) ps && all_differ ps
-
-differ : (p q : Primitive) → not (same_parts p q) ≡ true → p ≢ q
-differ p q h e = both_ways (same_parts p q) (not-true _ h) (ap (same_parts p) (sym e) ∙ same_parts-refl p)
-
-all_differ-pairs : (ps : List Primitive) → all_differ ps ≡ true → AllPairs (λ p q. p ≢ q) ps
-all_differ-pairs [] h = λ i j d below within. absurd (omega arith)
-all_differ-pairs (p ∷ ps) h =
-    let both = and_parts (list_all (λ q. not (same_parts p q)) ps) (all_differ ps) h in
-    let here : All (λ q. p ≢ q) ps = λ k d within. differ p _ (AllPass-from_list_all (λ q. not (same_parts p q)) ps both.0 k d within) in
-    AllPairs-cons (λ a b. a ≢ b) p ps here (all_differ-pairs ps both.1)
-
+-- no two elements of a table have the same parts
 pub one_cell_differ : AllPairs (λ p q. p ≢ q) one_cell_table
-one_cell_differ = all_differ-pairs one_cell_table refl
+one_cell_differ = all_differ-pairs same_parts same_parts-refl one_cell_table refl
 
 pub retention_differ : AllPairs (λ p q. p ≢ q) retention_table
-retention_differ = all_differ-pairs retention_table refl
+retention_differ = all_differ-pairs same_parts same_parts-refl retention_table refl
 
 pub two_cell_differ : AllPairs (λ p q. p ≢ q) two_cell_table
-two_cell_differ = all_differ-pairs two_cell_table refl
+two_cell_differ = all_differ-pairs same_parts same_parts-refl two_cell_table refl
