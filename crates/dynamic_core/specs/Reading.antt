@@ -1,15 +1,14 @@
 -- For proofs and private contracts alone: what is read of a line, and what it adds to the primitives.
-use Rattle.std.specs.Prelude.{◌≡◌, ◌<◌, ◌≤◌, ◌+◌, ◌⊎◌, ℕ, max, Option, Some, None, List, ◌++◌, length, Result, Ok, Err}
+use Rattle.std.specs.Prelude.{◌≡◌, ℕ, max, Option, Some, None, List, Result, Ok, Err}
 use Rattle.bist_text.specs.Grammar.{IsUnexpected, IsTruncated}
 use Rattle.bist_text.specs.Lines.{TextLine}
 use Rattle.fault_core.specs.declared.primitive.PrimFault.{PrimFault}
 use Rattle.fault_syntax.specs.declared.fault.FaultFault.{FaultFault}
-use Rattle.fault_syntax.specs.declared.fault.FaultFault.TheVariants.{Unexpected, Truncated, NotAFault, TooManyOperations, TooManyPrimitives, NoMemory}
 use Rattle.fault_syntax.specs.declared.reader.ReadItem.TheVariants.{Nothing}
 use Rattle.fault_syntax.specs.declared.reader.Refusal.{Refusal}
 use Rattle.fault_syntax.specs.declared.reader.Refusal.TheVariants.{Unexpected as UnexpectedAt, Truncated as EndedEarly}
 use Rattle.fault_syntax.specs.Brief.{read_item_of}
-use Rattle.fault_syntax.specs.ListText.{Primitive as OnePrimitive}
+use Rattle.fault_syntax.specs.LineByLine.{AddsBy, NotAddedBy}
 use Rattle.fault_syntax.specs.PrimText.{PrimParts}
 use Rattle.dynamic_core.specs.declared.item.Item.{Item}
 use Rattle.dynamic_core.specs.declared.line.ReadLine.{ReadLine}
@@ -17,7 +16,7 @@ use Rattle.dynamic_core.specs.declared.line.ReadLine.TheVariants.{OfList, OfWord
 use Rattle.dynamic_core.specs.declared.words.DynWord.{DynWord}
 use Rattle.dynamic_core.specs.ItemParts.{IsItem, RefusesItem, RefusesItemAt, BringsItems}
 use Rattle.dynamic_core.specs.ItemText.{LineItem, Listed, Worded, WordText, ItemLine}
-use Rattle.dynamic_core.specs.Items.{IsItemFault}
+use Rattle.dynamic_core.specs.Items.{written_item, IsItemFault}
 
 -- what is kept of a line
 abbrev pub read_line_of : Option LineItem → ReadLine
@@ -60,22 +59,10 @@ abbrev pub JudgesItemAt : ℕ → PrimParts → Result Item FaultFault → Type 
 JudgesItemAt line text (Ok item) = IsItem text item
 JudgesItemAt line text (Err fault) = RefusesItemAt line text fault
 
--- there is no room for more primitives, or no memory
-abbrev pub HasNoRoom : List Item → List Item → ℕ → FaultFault → Type 0
-HasNoRoom held more line fault = (fault ≡ NoMemory) ⊎ ((fault ≡ TooManyPrimitives line) × (1024 < length held + length more))
-
 -- what a line brings is added
-pub record AddsItems (v : Option LineItem) (old new : List Item) : Type 0 where
-  pub more : List Item
-  pub brought : BringsItems v more
-  pub joined : new ≡ old ++ more
-  pub within : length new ≤ 1024
+abbrev pub AddsItems : Option LineItem → List Item → List Item → Type 0
+AddsItems v old new = AddsBy BringsItems v old new
 
 -- or isn't
 abbrev pub NotAdded : Option LineItem → ℕ → List Item → FaultFault → Type 0
-NotAdded v line old (TooManyPrimitives l) = (l ≡ line) × (more : List Item) × BringsItems v more × (1024 < length old + length more)
-NotAdded v line old NoMemory = Unit {0}
-NotAdded v line old (NotAFault l) = (text : PrimParts) × (v ≡ Some (Listed (OnePrimitive text))) × RefusesItemAt line text (NotAFault l)
-NotAdded v line old (TooManyOperations l) = (text : PrimParts) × (v ≡ Some (Listed (OnePrimitive text))) × RefusesItemAt line text (TooManyOperations l)
-NotAdded v line old (Unexpected l byte) = ⊥
-NotAdded v line old (Truncated l) = ⊥
+NotAdded v line old fault = NotAddedBy BringsItems written_item RefusesItemAt v line old fault

@@ -1,5 +1,6 @@
 ghost use Rattle.std.specs.Prelude.{◌≡◌, ◌++◌, ◌≤◌, ◌∷◌, [], ◌⊎◌, Result, length, List, Ok, Err, OnOk, IfOk, IfErr, MatchResult, Option, map};
 ghost use Rattle.fault_syntax.specs.Brief.{read_parts_of};
+ghost use Rattle.fault_syntax.specs.LineByLine.{HasNoRoom};
 ghost use Rattle.fault_syntax.specs.Parts.{primitives_of};
 ghost use Rattle.fault_syntax.specs.PrimText.{PrimParts};
 ghost use Rattle.dynamic_core.specs.declared.item.Item.{Item};
@@ -8,7 +9,7 @@ ghost use Rattle.dynamic_core.specs.declared.line.ReadLine.TheVariants.{OfList};
 ghost use Rattle.dynamic_core.specs.ItemParts.{dynamic_of};
 ghost use Rattle.dynamic_core.specs.ItemText.{LineItem};
 ghost use Rattle.dynamic_core.specs.Items.{ReadsItems};
-ghost use Rattle.dynamic_core.specs.Reading.{HasNoRoom, JudgesItemAt, AddsItems, NotAdded, read_line_of};
+ghost use Rattle.dynamic_core.specs.Reading.{JudgesItemAt, AddsItems, NotAdded, read_line_of};
 
 use crate::item::Item;
 use crate::judge::judge_item;

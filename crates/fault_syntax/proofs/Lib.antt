@@ -4,6 +4,7 @@ mod Kept
 pub mod Judging
 mod PrimReads
 mod PrintLaws
+pub mod LineByLine
 mod ListReads
 pub mod ListExact
 pub mod OneOutcome

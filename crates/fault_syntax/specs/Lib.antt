@@ -5,5 +5,6 @@ pub mod Parts
 pub mod Brief
 pub mod Answers
 pub mod Printed
+pub mod LineByLine
 pub mod Lists
 pub mod Adding

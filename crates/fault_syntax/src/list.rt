@@ -1,8 +1,9 @@
 ghost use Rattle.std.specs.Prelude.{◌≡◌, ◌++◌, ◌≤◌, ◌⊎◌, Result, length, List, Ok, Err, OnOk, IfOk, IfErr, MatchResult, Option};
 ghost use Rattle.fault_core.specs.Primitive.{Primitive};
 ghost use Rattle.bist_text.specs.Lines.{plain_line, text_lines};
-ghost use Rattle.fault_syntax.specs.Adding.{HasNoRoom, Says, LineGives, Adds, NotAdded};
+ghost use Rattle.fault_syntax.specs.Adding.{Says, LineGives, Adds, NotAdded};
 ghost use Rattle.fault_syntax.specs.Brief.{read_item_of};
+ghost use Rattle.fault_syntax.specs.LineByLine.{HasNoRoom};
 ghost use Rattle.fault_syntax.specs.ListText.{Item};
 ghost use Rattle.fault_syntax.specs.Lists.{ReadsList};
 ghost use Rattle.fault_syntax.specs.Parts.{primitives_of};

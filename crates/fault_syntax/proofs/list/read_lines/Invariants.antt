@@ -1,5 +1,7 @@
 use Rattle.bist_text.specs.Lines.{lines_left, text_lines}
-use Rattle.fault_syntax.proofs.ListReads.{Reading}
+use Rattle.fault_syntax.specs.ListText.{LineText}
+use Rattle.fault_syntax.specs.Parts.{Brings}
+use Rattle.fault_syntax.proofs.LineByLine.{Reading}
 use Rattle.fault_syntax.proofs.list.read_lines.Given as goal
 
 -- the lines so far are read
@@ -7,5 +9,5 @@ abbrev pub invariant-loop-line : goal.invariant-loop-line
 invariant-loop-line l = record {
   can_next : (goal.iterator-loop-line).can_next l.line-iterator;
   is_finite : (goal.iterator-loop-line).is_finite l.line-iterator;
-  reading : Reading (text_lines l.bytes) (lines_left l.line-iterator) l.prims.items;
+  reading : Reading LineText Brings (text_lines l.bytes) (lines_left l.line-iterator) l.prims.items;
 }
