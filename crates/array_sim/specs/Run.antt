@@ -1,5 +1,5 @@
 -- A run of the steps of a march on an array with one instance of a primitive.
-use Rattle.std.specs.Prelude.{◌≡◌, Bool, true, false, if◌then◌else◌, Option, Some, None, List, [], ◌∷◌, ◌++◌, length}
+use Rattle.std.specs.Prelude.{Bool, true, false, if◌then◌else◌, Option, Some, None, List, [], ◌∷◌, length}
 use Rattle.fault_core.specs.declared.primitive.Act.{Act}
 use Rattle.fault_core.specs.declared.primitive.Act.TheVariants.{Write, Read}
 use Rattle.fault_core.specs.declared.cells.Places.{Places}
@@ -54,35 +54,3 @@ places_of i = record { agg = i.agg; vic = i.vic }
 -- a march in these directions on this content, which is closed first
 abbrev pub outcome_of : List MarchElement → List Direction → Primitive → Places → List Bool → Outcome
 outcome_of march directions p at content = run_of p at (close_of p at content) (visits march directions (length content))
-
--- the cells after one step
-abbrev pub after_step : Primitive → Places → List Bool → MarchStep → List Bool
-after_step p at cells (pausing element) = pause_cells p at cells
-after_step p at cells (visiting v) = step_cells p at cells v.address (act_of v.op)
-
--- the cells after these steps, whatever the reads answer
-abbrev pub cells_after : Primitive → Places → List Bool → List MarchStep → List Bool
-cells_after p at cells [] = cells
-cells_after p at cells (s ∷ steps) = cells_after p at (after_step p at cells s) steps
-
--- whether a visit to these cells is a read that answers another bit than the march expects
-abbrev pub is_wrong_at : Primitive → Places → List Bool → Visit → Bool
-is_wrong_at p at cells v = is_wrong_of v.op (step_answer p at cells v.address (act_of v.op))
-
--- one of these steps is this visit, and its read differs
-pub record DiffersAt (p : Primitive) (at : Places) (cells : List Bool) (steps : List MarchStep) (v : Visit) : Type 0 where
-  pub before : List MarchStep
-  pub behind : List MarchStep
-  pub split : steps ≡ before ++ visiting v ∷ behind
-  pub wrong : is_wrong_at p at (cells_after p at cells before) v ≡ true
-
--- some read of these steps differs
-abbrev pub SomeDiffers : Primitive → Places → List Bool → List MarchStep → Type 0
-SomeDiffers p at cells steps = (v : Visit) × DiffersAt p at cells steps v
-
--- the first visit whose read differs
-pub record IsFirstMiss (p : Primitive) (at : Places) (cells : List Bool) (steps : List MarchStep) (miss : Miss) : Type 0 where
-  pub visit : Visit
-  pub differs : DiffersAt p at cells steps visit
-  pub none_before : SomeDiffers p at cells differs.before → ⊥
-  pub named : miss ≡ miss_at visit

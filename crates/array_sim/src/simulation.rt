@@ -1,7 +1,8 @@
 ghost use Rattle.std.specs.Prelude.{◌≡◌, ◌<◌, ◌↔◌, IsSome, IfSome, length};
 ghost use Rattle.fault_core.specs.Cells.{FitsPlace, close_of};
 ghost use Rattle.march_core.specs.Visits.{FitsWord, visits, directions_of};
-ghost use Rattle.array_sim.specs.Run.{places_of, outcome_of, SomeDiffers, IsFirstMiss};
+ghost use Rattle.array_sim.specs.Run.{places_of, outcome_of};
+ghost use Rattle.array_sim.specs.Differing.{SomeDiffers, IsFirstMiss};
 
 use crate::element_run::{Miss, run_element};
 use fault_core::{Places, Prim, close_cells};

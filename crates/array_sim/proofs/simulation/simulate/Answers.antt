@@ -1,7 +1,7 @@
-use Rattle.std.proofs.Common.{arith}
+use Rattle.std.proofs.Common.{Some, None, arith}
 use Rattle.array_sim.specs.Run.{places_of}
 use Rattle.array_sim.proofs.Runs.{march_goes_on, march_stops, march_ends}
-use Rattle.array_sim.proofs.Differing.{found_first, found_none}
+use Rattle.array_sim.proofs.Differing.{found}
 use Rattle.array_sim.proofs.simulation.simulate.Goals as goal
 
 pub returns-in-Some-clause-cells : goal.returns-in-Some-clause-cells
@@ -24,14 +24,14 @@ loop-element-preserved c =
 
 pub returns-in-Some-clause-caught : goal.returns-in-Some-clause-caught
 returns-in-Some-clause-caught c =
-    (found_first c.args.instance.now.prim (places_of c.args.instance.now) _ _ c.in-Some.miss (returns-in-Some-clause-miss c)).0
+    (found c.args.instance.now.prim (places_of c.args.instance.now) _ _ (Some c.in-Some.miss) (returns-in-Some-clause-miss c)).0
 
 pub returns-in-Some-clause-first : goal.returns-in-Some-clause-first
 returns-in-Some-clause-first c =
-    (found_first c.args.instance.now.prim (places_of c.args.instance.now) _ _ c.in-Some.miss (returns-in-Some-clause-miss c)).1
+    (found c.args.instance.now.prim (places_of c.args.instance.now) _ _ (Some c.in-Some.miss) (returns-in-Some-clause-miss c)).1
 
 pub returns-clause-caught : goal.returns-clause-caught
 returns-clause-caught c =
-    found_none c.args.instance.now.prim (places_of c.args.instance.now) _ _
+    (found c.args.instance.now.prim (places_of c.args.instance.now) _ _ None
     (march_ends c.args.instance.now.prim (places_of c.args.instance.now) c.args.march.now c.args.directions c.loop-element.element _
-    c.loop-element.cells _ (omega arith) c.loop-element.invariant).1
+    c.loop-element.cells _ (omega arith) c.loop-element.invariant).1).0
