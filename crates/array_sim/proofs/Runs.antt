@@ -60,7 +60,7 @@ addresses_rest Downward n place h =
 abbrev pub visits_rest : ℕ → List Op → Direction → ℕ → ℕ → List MarchStep
 visits_rest element ops d n place = steps_of (address_visits element ops (drop place (addresses d n)))
 
-visits_rest_more : (element : ℕ) (ops : List Op) (d : Direction) (n place : ℕ) → place < n
+pub visits_rest_more : (element : ℕ) (ops : List Op) (d : Direction) (n place : ℕ) → place < n
     → visits_rest element ops d n place ≡ steps_of (cell_visits element (address_at d place n) 0 ops) ++ visits_rest element ops d n (place + 1)
 visits_rest_more element ops d n place h =
     ap (λ xs. steps_of (address_visits element ops xs)) (addresses_rest d n place h)
@@ -86,15 +86,16 @@ element_stops p at cells next element address ops d n place found miss whole h i
     ∙ sym (ap (run_of p at cells) (visits_rest_more element ops d n place h)) ∙ before in
     (next_is ∙ ap (λ (o : Outcome). o.cells) ends, sym some ∙ miss_is ∙ ap (λ (o : Outcome). o.miss) ends)
 
+-- no address is behind the last
+pub addresses_past : (d : Direction) (n place : ℕ) → n ≤ place → drop place (addresses d n) ≡ []
+unfolding addresses
+addresses_past Upward n place h = drop_all place (range_with_len 0 n) (rw length-range_with_len h)
+addresses_past Downward n place h = drop_all place (reverse (range_with_len 0 n)) (rw (length-reverse, length-range_with_len) h)
+
 pub element_ends : (p : Primitive) (at : Places) (cells : List Bool) (element : ℕ) (ops : List Op) (d : Direction) (n place : ℕ) (whole : Outcome)
     → n ≤ place → run_of p at cells (visits_rest element ops d n place) ≡ whole → (cells ≡ whole.cells) × (None ≡ whole.miss)
-unfolding addresses
 element_ends p at cells element ops d n place whole h before =
-    let none : drop place (addresses d n) ≡ [] = elim d as (λ d. drop place (addresses d n) ≡ []) [
-      | Upward ↦ drop_all place (range_with_len 0 n) (rw length-range_with_len h)
-      | Downward ↦ drop_all place (reverse (range_with_len 0 n)) (rw (length-reverse, length-range_with_len) h)
-    ] in
-    let ends = sym (ap (λ l. run_of p at cells (steps_of (address_visits element ops l))) none) ∙ before in
+    let ends = sym (ap (λ l. run_of p at cells (steps_of (address_visits element ops l))) (addresses_past d n place h)) ∙ before in
     (ap (λ (o : Outcome). o.cells) ends, ap (λ (o : Outcome). o.miss) ends)
 
 -- an element by its number and by its parts
@@ -136,7 +137,7 @@ sweep_visits es i word n ops down h is ops_is down_is =
 abbrev pub march_rest : List MarchElement → ℕ → ℕ → ℕ → List MarchStep
 march_rest m word i n = visits_from i (drop i m) (directions_from word i (length m)) n
 
-march_rest_more : (m : List MarchElement) (word i n : ℕ) → i < length m
+pub march_rest_more : (m : List MarchElement) (word i n : ℕ) → i < length m
     → march_rest m word i n ≡ element_visits i (element_at m i) (direction_at word i) n ++ march_rest m word (i + 1) n
 march_rest_more m word i n h =
     let cut : drop i m ≡ element_at m i ∷ drop (i + 1) m = drop_more m i pause h ∙ ap (λ e. e ∷ drop (i + 1) m) (sym (element_at-get m i pause h)) in

@@ -69,7 +69,7 @@ fn run_cell(
 
 /// The address at a place in the order of a direction.
 #[tactic(auto, unfolding(crate::specs::Addresses::address_at))]
-fn address_of(is_down: bool, place: usize, size: usize) -> usize
+pub fn address_of(is_down: bool, place: usize, size: usize) -> usize
     requires { place < size }
     ensures value { result ≡ address_at (direction_of is_down) place size }
     ensures within { result < size }

@@ -5,5 +5,5 @@
 mod element_run;
 mod simulation;
 
-pub use element_run::{Miss, act_of, is_wrong};
+pub use element_run::{Miss, act_of, address_of, is_wrong};
 pub use simulation::{Instance, simulate};

@@ -11,7 +11,7 @@ use Rattle.march_core.proofs.Directions.{range_more}
 use Rattle.array_sim.specs.declared.element_run.Miss.{Miss}
 use Rattle.array_sim.specs.Run.{act_of, is_wrong_of, miss_at}
 use Rattle.array_sim.specs.Addresses.{address_at, steps_of}
-use Rattle.array_sim.proofs.Runs.{addresses_rest, visits_rest, element_at-get, march_rest}
+use Rattle.array_sim.proofs.Runs.{visits_rest, visits_rest_more, addresses_past, march_rest, march_rest_more}
 use Rattle.dynamic_core.specs.Primitive.{DynamicPrimitive}
 use Rattle.dynamic_core.specs.Dynamic.{Held, dyn_step, dyn_answer, after_pause, Ending, Differs, Ends, dyn_run, miss_of, ending_as}
 
@@ -49,26 +49,12 @@ part_stops p at h next found miss part rest steps whole split ends some before =
 pub cell_next : (element address : ℕ) (ops : List Op) (d : Direction) (n place : ℕ) → place < n → address ≡ address_at d place n
     → visits_rest element ops d n place ≡ steps_of (cell_visits element address 0 ops) ++ visits_rest element ops d n (place + 1)
 cell_next element address ops d n place within is =
-    ap (λ xs. steps_of (address_visits element ops xs)) (addresses_rest d n place within)
-    ∙ map-append visiting (cell_visits element (address_at d place n) 0 ops) (address_visits element ops (drop (place + 1) (addresses d n)))
-    ∙ ap (λ x. steps_of (cell_visits element x 0 ops) ++ visits_rest element ops d n (place + 1)) (sym is)
+    visits_rest_more element ops d n place within ∙ ap (λ x. steps_of (cell_visits element x 0 ops) ++ visits_rest element ops d n (place + 1)) (sym is)
 
 pub sweep_ends : (p : DynamicPrimitive) (at : Places) (h : Held) (element : ℕ) (ops : List Op) (d : Direction) (n place : ℕ) (whole : Ending)
     → n ≤ place → dyn_run p at h (visits_rest element ops d n place) ≡ whole → Ends h ≡ whole
-unfolding addresses
 sweep_ends p at h element ops d n place whole past before =
-    let none : drop place (addresses d n) ≡ [] = elim d as (λ d. drop place (addresses d n) ≡ []) [
-      | Upward ↦ drop_all place (range_with_len 0 n) (rw length-range_with_len past)
-      | Downward ↦ drop_all place (reverse (range_with_len 0 n)) (rw (length-reverse, length-range_with_len) past)
-    ] in
-    sym (ap (λ l. dyn_run p at h (steps_of (address_visits element ops l))) none) ∙ before
-
--- the elements of a march
-pub element_next : (m : List MarchElement) (word i n : ℕ) → i < length m
-    → march_rest m word i n ≡ element_visits i (element_at m i) (direction_at word i) n ++ march_rest m word (i + 1) n
-element_next m word i n within =
-    let cut : drop i m ≡ element_at m i ∷ drop (i + 1) m = drop_more m i pause within ∙ ap (λ e. e ∷ drop (i + 1) m) (sym (element_at-get m i pause within)) in
-    rw (cut, range_more i (length m) within) refl
+    sym (ap (λ l. dyn_run p at h (steps_of (address_visits element ops l))) (addresses_past d n place past)) ∙ before
 
 -- an ending by its parts
 pub ending_miss : (miss : Option Miss) (h : Held) → miss ≡ miss_of (ending_as miss h)
@@ -95,11 +81,11 @@ pub march_goes_on : (p : DynamicPrimitive) (at : Places) (h next : Held) (miss :
     → dyn_run p at h (march_rest m word i n) ≡ whole → dyn_run p at next (march_rest m word (i + 1) n) ≡ whole
 march_goes_on p at h next miss m word i n whole within size ends none before =
     part_goes_on p at h next miss (element_visits i (element_at m i) (direction_at word i) n) (march_rest m word (i + 1) n) (march_rest m word i n) whole
-    (element_next m word i n within) (ends ∙ ap (λ k. dyn_run p at h (element_visits i (element_at m i) (direction_at word i) k)) size) none before
+    (march_rest_more m word i n within) (ends ∙ ap (λ k. dyn_run p at h (element_visits i (element_at m i) (direction_at word i) k)) size) none before
 
 pub march_stops : (p : DynamicPrimitive) (at : Places) (h next : Held) (found : Miss) (miss : Option Miss) (m : List MarchElement) (word i n : ℕ) (whole : Ending)
     → i < length m → length h.cells ≡ n → ending_as miss next ≡ dyn_run p at h (element_visits i (element_at m i) (direction_at word i) (length h.cells)) → miss ≡ Some found
     → dyn_run p at h (march_rest m word i n) ≡ whole → Differs found next ≡ whole
 march_stops p at h next found miss m word i n whole within size ends some before =
     part_stops p at h next found miss (element_visits i (element_at m i) (direction_at word i) n) (march_rest m word (i + 1) n) (march_rest m word i n) whole
-    (element_next m word i n within) (ends ∙ ap (λ k. dyn_run p at h (element_visits i (element_at m i) (direction_at word i) k)) size) some before
+    (march_rest_more m word i n within) (ends ∙ ap (λ k. dyn_run p at h (element_visits i (element_at m i) (direction_at word i) k)) size) some before

@@ -1,7 +1,7 @@
 ghost use Rattle.std.specs.Prelude.{◌≡◌, ◌<◌, ◌↔◌, false, IsSome, IfSome, length};
 ghost use Rattle.march_core.specs.March.{element_at};
 ghost use Rattle.march_core.specs.Visits.{cell_visits, address_visits, addresses, element_visits, direction_at, FitsWord, visits, directions_of};
-ghost use Rattle.array_sim.specs.Addresses.{direction_of, address_at, steps_of};
+ghost use Rattle.array_sim.specs.Addresses.{direction_of, steps_of};
 ghost use Rattle.dynamic_core.specs.Dynamic.{held_as, dyn_run, ending_as, miss_of, held_of};
 ghost use Rattle.dynamic_core.specs.Differing.{SomeDynDiffers, IsFirstDynMiss};
 ghost use Rattle.dynamic_core.specs.Detecting.{FitsDyn, ending_of};
@@ -9,7 +9,7 @@ ghost use Rattle.dynamic_core.specs.Instances.{dyn_places};
 
 use crate::primitive::DynPrim;
 use crate::stepping::step;
-use array_sim::{Miss, act_of, is_wrong};
+use array_sim::{Miss, act_of, address_of, is_wrong};
 use fault_core::Places;
 use march_core::{March, Op, is_down};
 
@@ -46,16 +46,6 @@ fn run_cell(
         }
     }
     None
-}
-
-/// The address at a place in the order of a direction.
-#[tactic(auto, unfolding(array_sim::specs::Addresses::address_at))]
-fn address_of(is_down: bool, place: usize, size: usize) -> usize
-    requires { place < size }
-    ensures value { result ≡ address_at (direction_of is_down) place size }
-    ensures within { result < size }
-{
-    if is_down { size - 1 - place } else { place }
 }
 
 /// Does the operations of an element on each cell in turn, up to the first miss.

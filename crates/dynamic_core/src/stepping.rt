@@ -1,10 +1,9 @@
 ghost use Rattle.std.specs.Prelude.{◌≡◌, ◌<◌, length};
-ghost use Rattle.fault_core.specs.Cells.{same_act, plain_cells, plain_answer};
 ghost use Rattle.dynamic_core.specs.Dynamic.{actor_on, agg_actor, actor_of, agg_state_holds, all_states_hold, matches_of, arms_of, set_where, held_as, dyn_step, dyn_answer};
 ghost use Rattle.dynamic_core.specs.Detecting.{FitsDynAgg, FitsDyn};
 
 use crate::primitive::{DynPrim, DynSense, left_by};
-use fault_core::{Act, Places};
+use fault_core::{Act, Places, do_plainly, is_same_act};
 
 /// The cell whose sense has the acts, with its state and the acts.
 #[derive(Clone, Copy)]
@@ -49,16 +48,6 @@ fn find_actor(prim: &DynPrim, places: Places) -> Option<Actor>
     }
 }
 
-fn is_same_act(one: Act, other: Act) -> bool
-    ensures { result ≡ same_act one other }
-{
-    match (one, other) {
-        (Act::Read, Act::Read) | (Act::Pause, Act::Pause) => true,
-        (Act::Write(a), Act::Write(b)) => a == b,
-        _ => false,
-    }
-}
-
 fn does_match(actor: Option<Actor>, armed: bool, at: usize, act: Act) -> bool
     ensures { result ≡ matches_of actor armed at act }
 {
@@ -97,21 +86,6 @@ fn do_states_hold(prim: &DynPrim, places: Places, cells: &[bool]) -> bool
 {
     cells[places.vic] == prim.vic().state
         && does_agg_hold(prim.agg(), places.agg, places.vic, cells)
-}
-
-fn do_plainly(cells: &mut [bool], at: usize, act: Act) -> Option<bool>
-    requires { at < length cells.old }
-    ensures cells { cells.new ≡ plain_cells cells.old at act }
-    ensures answer { result ≡ plain_answer cells.old at act }
-{
-    match act {
-        Act::Write(bit) => {
-            cells[at] = bit;
-            None
-        }
-        Act::Read => Some(cells[at]),
-        Act::Pause => None,
-    }
 }
 
 fn set_where(hit: bool, cells: &mut [bool], at: usize, bit: bool)

@@ -2,7 +2,7 @@ ghost use Rattle.std.specs.Prelude.{◌≡◌, ◌≢◌, ◌<◌, Some, length,
 ghost use Rattle.fault_core.specs.Primitive.{same_bit, agg_has_act, pauses};
 ghost use Rattle.fault_core.specs.Cells.{FitsPlace, FitsAgg, states_hold, agg_holds, has_act, close_of, acts, agg_acts, has_this_act, same_act, step_cells, step_answer, pause_cells, acted, plain_cells, plain_answer};
 
-use crate::primitive::{Act, FaultPrimitive, Sense, is_pause};
+use crate::primitive::{Act, FaultPrimitive, Sense, has_agg_act, is_pause};
 
 /// Where an instance stands: its aggressor, if it has one, and its victim.
 #[derive(Clone, Copy)]
@@ -34,16 +34,7 @@ fn do_states_hold(prim: &FaultPrimitive, places: Places, cells: &[bool]) -> bool
 fn has_any_act(prim: &FaultPrimitive) -> bool
     ensures { result ≡ has_act prim.now }
 {
-    prim.vic().act.is_some() || agg_acts_at_all(prim.agg())
-}
-
-fn agg_acts_at_all(agg: Option<Sense>) -> bool
-    ensures { result ≡ agg_has_act agg }
-{
-    match agg {
-        Some(sense) => sense.act.is_some(),
-        None => false,
-    }
+    prim.vic().act.is_some() || has_agg_act(prim.agg())
 }
 
 /// Closes the cells: a primitive without an act acts wherever its states hold.
@@ -57,13 +48,23 @@ pub fn close_cells(prim: &FaultPrimitive, places: Places, cells: &mut [bool])
     }
 }
 
+/// Whether two acts are the same.
+pub fn is_same_act(one: Act, other: Act) -> bool
+    ensures { result ≡ same_act one other }
+{
+    match (one, other) {
+        (Act::Read, Act::Read) | (Act::Pause, Act::Pause) => true,
+        (Act::Write(a), Act::Write(b)) => a == b,
+        _ => false,
+    }
+}
+
 fn is_this_act(own: Option<Act>, act: Act) -> bool
     ensures { result ≡ has_this_act own act }
 {
-    match (own, act) {
-        (Some(Act::Read), Act::Read) | (Some(Act::Pause), Act::Pause) => true,
-        (Some(Act::Write(a)), Act::Write(b)) => a == b,
-        _ => false,
+    match own {
+        Some(own) => is_same_act(own, act),
+        None => false,
     }
 }
 
@@ -87,7 +88,8 @@ fn does_act(prim: &FaultPrimitive, places: Places, cells: &[bool], at: usize, ac
         && do_states_hold(prim, places, cells)
 }
 
-fn do_plainly(cells: &mut [bool], at: usize, act: Act) -> Option<bool>
+/// The plain part of an act on a cell; a pause has none. The answer is that of a read.
+pub fn do_plainly(cells: &mut [bool], at: usize, act: Act) -> Option<bool>
     requires { at < length cells.old }
     ensures cells { cells.new ≡ plain_cells cells.old at act }
     ensures answer { result ≡ plain_answer cells.old at act }

@@ -5,6 +5,6 @@ mod cells;
 mod primitive;
 mod table;
 
-pub use cells::{Places, close_cells, pause_cells, step};
+pub use cells::{Places, close_cells, do_plainly, is_same_act, pause_cells, step};
 pub use primitive::{Act, FaultPrimitive as Prim, PrimFault, Sense};
 pub use table::{Class, class_of, members, one_cell, retention, two_cell};

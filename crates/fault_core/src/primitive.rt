@@ -66,7 +66,7 @@ impl FaultPrimitive {
         ensures value { IfOk result (λ p. p ≡ (record { agg = agg; vic = vic; after = after; answer = answer })) }
         ensures refusal { IfErr result (λ fault. fault ≡ refusal_of (record { agg = agg; vic = vic; after = after; answer = answer })) }
     {
-        if has_act(&agg) && vic.act.is_some() {
+        if has_agg_act(agg) && vic.act.is_some() {
             return Err(PrimFault::TooManyOperations);
         }
         if !is_pause_alone(agg, vic.act) || !is_fault(vic, after, answer) {
@@ -146,8 +146,9 @@ impl Default for FaultPrimitive {
     }
 }
 
-fn has_act(agg: &Option<Sense>) -> bool
-    ensures { result ≡ agg_has_act agg.now }
+/// Whether there is an aggressor with an act.
+pub(crate) fn has_agg_act(agg: Option<Sense>) -> bool
+    ensures { result ≡ agg_has_act agg }
 {
     match agg {
         Some(sense) => sense.act.is_some(),
