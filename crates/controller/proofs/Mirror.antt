@@ -75,18 +75,22 @@ stands_first march d code stages returned a e m h = record {
       (resets march d returned m (start march d a m));
 }
 
--- ---- a step
+-- ---- a step, of a controller that is seen as a state
 
-pub stands_next : (march : List MarchElement) (d : Description) (s : State) (w : ℕ) (i : Instr) (q : CodePlace) (r : Bool) (ss : List Stage) (l : Stage) (v : ℕ) (b : Bool) (returned : ℕ → ℕ) (k : ℕ)
-    → IsMemory s.memory → slice_get s.code (s.place.first + s.place.oper) ≡ Some i
+seen : (march : List MarchElement) (d : Description) (s t : State) (returned : ℕ → ℕ) (k : ℕ) → s ≡ t → StandsIn march d t returned k → StandsIn march d s returned k
+seen march d s t returned k e st = subst (λ (x : State). StandsIn march d x returned k) (sym e) st
+
+pub stands_next : (march : List MarchElement) (d : Description) (s t : State) (w : ℕ) (i : Instr) (q : CodePlace) (r : Bool) (ss : List Stage) (l : Stage) (v : ℕ) (b : Bool) (returned : ℕ → ℕ) (k : ℕ)
+    → s ≡ t → IsMemory s.memory → slice_get s.code (s.place.first + s.place.oper) ≡ Some i
     → (IsAt march s.code s.memory s.place → IsTurned march s.code s.memory s.place s.run q r)
     → ss ≡ pushed (stage_from i s.run s.place.back) s.stages → l ≡ last_stage (stage_from i s.run s.place.back) s.stages
     → v ≡ word_at s.memory l.back l.value → b ≡ compared s.reads (w == s.want) s.bad
-    → returned (suc k) ≡ w → StandsIn march d s returned k
+    → returned (suc k) ≡ w → StandsIn march d t returned k
     → StandsIn march d (record { code = s.code; memory = s.memory; place = q; run = r; stages = ss; reads = l.reads; over = l.over; want = v; bad = b }) returned (suc k)
-stands_next march d s w i q r ss l v b returned k m there turned e_ss e_l e_v e_b e_w st =
+stands_next march d s t w i q r ss l v b returned k view m there turned e_ss e_l e_v e_b e_w stands =
+    let st = seen march d s t returned k view stands in
     let at = st.there in
-    let t = turned at in
+    let on = turned at in
     let c = control_of s in
     let stage : stage_from i s.run s.place.back ≡ stage_of march c =
     ap (λ x. stage_from x s.run s.place.back) (is_instr march s.memory s.code s.place i m at there) in
@@ -97,10 +101,10 @@ stands_next march d s w i q r ss l v b returned k m there turned e_ss e_l e_v e_
     let bad : b ≡ compared s.reads (returned (suc k) == s.want) s.bad = e_b ∙ ap (λ n. compared s.reads (n == s.want) s.bad) (sym e_w) in
     let new : Control = record { place = digits q; run = r; stages = ss; reads = l.reads; over = l.over; want = v; bad = b } in
     let same : new ≡ step march s.memory (returned (suc k)) c =
-    λ j. record { place = t.place j; run = t.run_is j; stages = stages j; reads = (leaving j).reads; over = (leaving j).over; want = want j; bad = bad j } in
+    λ j. record { place = on.place j; run = on.run_is j; stages = stages j; reads = (leaving j).reads; over = (leaving j).over; want = want j; bad = bad j } in
     record {
       memory = st.memory;
-      there = t.there;
+      there = on.there;
       stands = subst (λ x. Stands march s.memory returned (suc k) x) (sym same)
           (steps march s.memory returned k c (turns march s.memory (digits s.place) at.accepted m at.place) st.stands);
     }
@@ -123,18 +127,18 @@ control_next s i q r ss l v b h turned e =
 
 -- ---- the outputs
 
-pub visit_within : (march : List MarchElement) (s : State) (i : Instr) (run : Bool) → IsMemory s.memory → slice_get s.code (s.place.first + s.place.oper) ≡ Some i
-    → IsAt march s.code s.memory s.place → (run && not i.pause) ≡ true → s.place.visit < s.memory.words
-visit_within march s i run m there at h =
-    let pausing : i.pause ≡ is_pause (element_at march s.place.element) = ap (λ x. x.pause) (is_instr march s.memory s.code s.place i m at there) in
-    by_element (element_at march s.place.element) (no_pause run i.pause h) pausing at.place.visit
+pub visit_within : (march : List MarchElement) (d : Description) (code : List Instr) (p : CodePlace) (i : Instr) (run : Bool) → IsMemory d
+    → slice_get code (p.first + p.oper) ≡ Some i → IsAt march code d p → (run && not i.pause) ≡ true → p.visit < d.words
+visit_within march d code p i run m there at h =
+    let pausing : i.pause ≡ is_pause (element_at march p.element) = ap (λ x. x.pause) (is_instr march d code p i m at there) in
+    by_element (element_at march p.element) (no_pause run i.pause h) pausing at.place.visit
   where
     no_pause : (a b : Bool) → (a && not b) ≡ true → b ≡ false
     no_pause true false e = refl
     no_pause true true e = cc
     no_pause false b e = cc
 
-    by_element : (x : MarchElement) → i.pause ≡ false → i.pause ≡ is_pause x → s.place.visit < visits_of s.memory x → s.place.visit < s.memory.words
+    by_element : (x : MarchElement) → i.pause ≡ false → i.pause ≡ is_pause x → p.visit < visits_of d x → p.visit < d.words
     by_element pause e f l = cc
     by_element (sweep order ops) e f l = l
 
@@ -154,14 +158,15 @@ answers_rule march d returned k q e r a = record {
   fail = λ h. (λ f. (r.fail h).0 (sym a.fail ∙ f), λ x. a.fail ∙ (r.fail h).1 x);
 }
 
-pub outputs_meet : (march : List MarchElement) (described : Description) (s : State) (i : Instr) (live : Bool) (addr wdata : ℕ) (returned : ℕ → ℕ) (k : ℕ) → IsMemory s.memory
+pub outputs_meet : (march : List MarchElement) (described : Description) (s t : State) (i : Instr) (live : Bool) (addr wdata : ℕ) (returned : ℕ → ℕ) (k : ℕ) → s ≡ t → IsMemory s.memory
     → slice_get s.code (s.place.first + s.place.oper) ≡ Some i
     → live ≡ (s.run && not i.pause)
     → addr ≡ (if live then logical s.memory.scramble (if i.down then s.memory.words - 1 - s.place.visit else s.place.visit) else 0)
     → wdata ≡ word_at s.memory s.place.back i.bit
-    → StandsIn march described s returned k
+    → StandsIn march described t returned k
     → PortRule march described returned (suc k) (record { en = live; we = i.write; addr = addr; wdata = wdata; done = s.over; fail = s.bad })
-outputs_meet march described s i live addr wdata returned k m there e_live e_addr e_word st =
+outputs_meet march described s t i live addr wdata returned k view m there e_live e_addr e_word stands =
+    let st = seen march described s t returned k view stands in
     let at = st.there in
     let d = s.memory in
     let c = control_of s in
@@ -184,14 +189,16 @@ outputs_meet march described s i live addr wdata returned k m there e_live e_add
 
 -- ---- the read that is answered
 
-pub expected_read : (march : List MarchElement) (described : Description) (s : State) (returned : ℕ → ℕ) (k : ℕ) → IsMemory s.memory → s.reads ≡ true
-    → StandsIn march described s returned k → IsExpected march described (suc k) (Some s.want)
-expected_read march described s returned k m on st =
+pub expected_read : (march : List MarchElement) (described : Description) (s t : State) (returned : ℕ → ℕ) (k : ℕ) → s ≡ t → IsMemory s.memory → s.reads ≡ true
+    → StandsIn march described t returned k → IsExpected march described (suc k) (Some s.want)
+expected_read march described s t returned k view m on stands =
+    let st = seen march described s t returned k view stands in
     subst (λ d. IsExpected march d (suc k) (Some s.want)) st.memory
     (expected_some march s.memory returned k (control_of s) (start march s.memory st.there.accepted m) st.stands on)
 
-pub none_expected : (march : List MarchElement) (described : Description) (s : State) (returned : ℕ → ℕ) (k : ℕ) → IsMemory s.memory → s.reads ≡ false
-    → StandsIn march described s returned k → IsExpected march described (suc k) None
-none_expected march described s returned k m off st =
+pub none_expected : (march : List MarchElement) (described : Description) (s t : State) (returned : ℕ → ℕ) (k : ℕ) → s ≡ t → IsMemory s.memory → s.reads ≡ false
+    → StandsIn march described t returned k → IsExpected march described (suc k) None
+none_expected march described s t returned k view m off stands =
+    let st = seen march described s t returned k view stands in
     subst (λ d. IsExpected march d (suc k) None) st.memory
     (expected_none march s.memory returned k (control_of s) (start march s.memory st.there.accepted m) st.stands off)

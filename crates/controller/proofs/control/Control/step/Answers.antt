@@ -1,7 +1,7 @@
 use Rattle.std.proofs.Common.{sym, ap, ◌∙◌, subst, arith}
 use Rattle.controller.specs.declared.stage.Stage.{Stage}
 use Rattle.controller.specs.Machine.{pushed, last_stage}
-use Rattle.controller.specs.States.{State, StandsIn, stage_from, IsKnown}
+use Rattle.controller.specs.States.{stage_from, IsKnown}
 use Rattle.controller.proofs.Turn.{within}
 use Rattle.controller.proofs.Mirror.{known_pushed, control_next, stands_next}
 use Rattle.controller.proofs.control.Control.step.Goals as goal
@@ -26,37 +26,14 @@ word_at-self-inside-requires c =
 
 pub invariant_of-self : goal.invariant_of-self
 invariant_of-self c =
-    let s : State = record {
-      code = c.self.inside.code.now;
-      memory = c.self.inside.memory.now;
-      place = c.self.inside.place;
-      run = c.self.inside.run;
-      stages = c.self.inside.stages.items;
-      reads = c.self.inside.reads;
-      over = c.self.inside.over;
-      want = c.self.inside.want;
-      bad = c.self.inside.bad;
-    } in
-    control_next s c.instr_at-instr.result c.turn-turned.result.place c.turn-turned.result.run c.push_stage-leaving.new.stages.items c.push_stage-leaving.result
+    control_next _ c.instr_at-instr.result c.turn-turned.result.place c.turn-turned.result.run c.push_stage-leaving.new.stages.items c.push_stage-leaving.result
     c.word_at-self-inside.result c.compare-self-inside.result c.self.invariant c.turn-turned.ensures.turned
     (c.push_stage-leaving.ensures.stages ∙ ap (λ (x : Stage). pushed x c.self.inside.stages.items) c.stage_of-entering.ensures)
 
 pub returns : goal.returns
-returns c = λ march d returned k e st.
-    let s : State = record {
-      code = c.self.inside.code.now;
-      memory = c.self.inside.memory.now;
-      place = c.self.inside.place;
-      run = c.self.inside.run;
-      stages = c.self.inside.stages.items;
-      reads = c.self.inside.reads;
-      over = c.self.inside.over;
-      want = c.self.inside.want;
-      bad = c.self.inside.bad;
-    } in
-    stands_next march d s c.args.rdata c.instr_at-instr.result c.turn-turned.result.place c.turn-turned.result.run c.push_stage-leaving.new.stages.items c.push_stage-leaving.result
-    c.word_at-self-inside.result c.compare-self-inside.result returned k c.turn-turned.ensures.memory c.instr_at-instr.ensures (c.turn-turned.ensures.turned march)
+returns c = λ march d returned k e stands.
+    stands_next march d _ _ c.args.rdata c.instr_at-instr.result c.turn-turned.result.place c.turn-turned.result.run c.push_stage-leaving.new.stages.items c.push_stage-leaving.result
+    c.word_at-self-inside.result c.compare-self-inside.result returned k c.self.view_is c.turn-turned.ensures.memory c.instr_at-instr.ensures (c.turn-turned.ensures.turned march)
     (c.push_stage-leaving.ensures.stages ∙ ap (λ (x : Stage). pushed x c.self.inside.stages.items) c.stage_of-entering.ensures)
     (c.push_stage-leaving.ensures.last ∙ ap (λ (x : Stage). last_stage x c.self.inside.stages.items) c.stage_of-entering.ensures)
-    c.word_at-self-inside.ensures.word c.compare-self-inside.ensures e
-    (subst (λ (x : State). StandsIn march d x returned k) (sym c.self.view_is) st)
+    c.word_at-self-inside.ensures.word c.compare-self-inside.ensures e stands
