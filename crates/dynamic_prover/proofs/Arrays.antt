@@ -1,5 +1,5 @@
 -- Each array has the shape of a small one, which is not after it; and from four cells on each size has every shape.
-use Rattle.std.proofs.Common.{◌≡◌, ◌≢◌, ◌-◌, ◌<◌, ◌≤◌, ℕ, zero, suc, Bool, true, false, cond, nat_lt, is_some, Option, Some, None, List, ◌⊎◌, inl, inr, ⊎_elim, refl, ap, sym, ◌∙◌, arith}
+use Rattle.std.proofs.Common.{◌≡◌, ◌≢◌, ◌+◌, ◌-◌, ◌<◌, ◌≤◌, ℕ, zero, suc, min, Bool, true, false, cond, nat_lt, is_some, Option, Some, None, List, ◌⊎◌, inl, inr, ⊎_elim, refl, ap, sym, ◌∙◌, arith}
 use Rattle.std.specs.List.{AllByRecursion}
 use Rattle.std.proofs.lemmas.Bool.{lt-ltb, cases_lt}
 use Rattle.std.proofs.lemmas.Bool.Decides.{nat_tests}
@@ -12,6 +12,7 @@ use Rattle.cell_machine.specs.Pairs.{pair_of}
 use Rattle.dynamic_core.specs.Primitive.{DynamicSense, DynamicPrimitive, has_aggressor}
 use Rattle.dynamic_core.specs.Detecting.{FitsDynAgg, FitsDyn}
 use Rattle.dynamic_prover.specs.declared.own_cells.OwnCells.{OwnCells}
+use Rattle.dynamic_prover.specs.declared.shape.Shape.{Shape}
 use Rattle.dynamic_prover.specs.declared.spot.Spot.{Spot}
 use Rattle.dynamic_prover.specs.Own.{own_as}
 use Rattle.dynamic_prover.specs.Shapes.{is_some_cell, shape_as, shape_of}
@@ -20,34 +21,71 @@ use Rattle.dynamic_prover.proofs.Sized.{beside_of, own_start}
 use Rattle.dynamic_prover.proofs.Ordered.{PlacesBelow, length-content, cell-content, victim_bit, aggressor_bit}
 use Rattle.dynamic_prover.proofs.Listed.{IsIn, in_at, all_in}
 
--- whether any cell is there
-none_there : (k : ℕ) → k ≡ 0 → is_some_cell k ≡ false
-none_there k e = ap is_some_cell e
+-- 1 where any cell is there
+abbrev num : Bool → ℕ
+num some = cond some 1 0
 
-some_there : (k : ℕ) → 0 < k → is_some_cell k ≡ true
-some_there zero h = absurd (omega arith)
-some_there (suc k) h = refl
+num_is : (k : ℕ) → num (is_some_cell k) ≡ min k 1
+num_is zero = omega arith
+num_is (suc k) = omega arith
 
-which_there : (k : ℕ) → (k ≡ 0) ⊎ (0 < k)
-which_there zero = inl refl
-which_there (suc k) = inr (omega arith)
+at_most_one : (b : Bool) → num b ≤ 1
+at_most_one true = omega arith
+at_most_one false = omega arith
+
+cell_num : (b : Bool) → is_some_cell (num b) ≡ b
+cell_num true = refl
+cell_num false = refl
 
 not_less : (a v : ℕ) → v ≤ a → nat_lt a v ≡ false
 not_less a v h = grind (arith, nat_tests)
 
+-- of two places, the lower one first, the aggressor's and the victim's
+abbrev agg_of : Bool → ℕ → ℕ → Option ℕ
+agg_of below x y = Some (cond below x y)
+
+abbrev vic_of : Bool → ℕ → ℕ → ℕ
+vic_of below x y = cond below y x
+
 -- shapes by what lies below and above
-shape_below : (a v n : ℕ) (l h : Bool) → a < v → is_some_cell a ≡ l → is_some_cell (n - 1 - v) ≡ h → shape_of (Some a) v n ≡ shape_as l A (Some V) h
-shape_below a v n l h lt el eh =
-    ap (λ b. cond b (shape_as (is_some_cell a) A (Some V) (is_some_cell (n - 1 - v))) (shape_as (is_some_cell v) V (Some A) (is_some_cell (n - 1 - a)))) (lt-ltb a v lt)
-    ∙ ap (λ b. shape_as b A (Some V) (is_some_cell (n - 1 - v))) el ∙ ap (shape_as l A (Some V)) eh
+abbrev two_shape : Bool → Bool → Bool → Shape
+two_shape below l h = shape_as l (cond below A V) (Some (cond below V A)) h
 
-shape_above : (a v n : ℕ) (l h : Bool) → v < a → is_some_cell v ≡ l → is_some_cell (n - 1 - a) ≡ h → shape_of (Some a) v n ≡ shape_as l V (Some A) h
-shape_above a v n l h lt el eh =
-    ap (λ b. cond b (shape_as (is_some_cell a) A (Some V) (is_some_cell (n - 1 - v))) (shape_as (is_some_cell v) V (Some A) (is_some_cell (n - 1 - a)))) (not_less a v (omega arith))
-    ∙ ap (λ b. shape_as b V (Some A) (is_some_cell (n - 1 - a))) el ∙ ap (shape_as l V (Some A)) eh
+shape_two : (below : Bool) (x y n : ℕ) → x < y → shape_of (agg_of below x y) (vic_of below x y) n ≡ two_shape below (is_some_cell x) (is_some_cell (n - 1 - y))
+shape_two true x y n lt =
+    ap (λ b. cond b (shape_as (is_some_cell x) A (Some V) (is_some_cell (n - 1 - y))) (shape_as (is_some_cell y) V (Some A) (is_some_cell (n - 1 - x)))) (lt-ltb x y lt)
+shape_two false x y n lt =
+    ap (λ b. cond b (shape_as (is_some_cell y) A (Some V) (is_some_cell (n - 1 - x))) (shape_as (is_some_cell x) V (Some A) (is_some_cell (n - 1 - y)))) (not_less y x (omega arith))
 
-shape_alone : (v n : ℕ) (l h : Bool) → is_some_cell v ≡ l → is_some_cell (n - 1 - v) ≡ h → shape_of None v n ≡ shape_as l V None h
-shape_alone v n l h el eh = ap (λ b. shape_as b V None (is_some_cell (n - 1 - v))) el ∙ ap (shape_as l V None) eh
+-- the small arrays, each with its place in the list
+abbrev two_spot : Bool → Bool → Bool → Spot
+two_spot below l h = spot_as (2 + num l + num h) (agg_of below (num l) (1 + num l)) (vic_of below (num l) (1 + num l))
+
+two_is : (below l h : Bool) → IsIn (two_spot below l h) two_cell_spots × (two_shape below l h ≡ shape_at (two_spot below l h))
+two_is true false false = (in_at two_cell_spots 0 (two_spot true false false) refl, refl)
+two_is false false false = (in_at two_cell_spots 1 (two_spot false false false) refl, refl)
+two_is true false true = (in_at two_cell_spots 2 (two_spot true false true) refl, refl)
+two_is false false true = (in_at two_cell_spots 3 (two_spot false false true) refl, refl)
+two_is true true false = (in_at two_cell_spots 4 (two_spot true true false) refl, refl)
+two_is false true false = (in_at two_cell_spots 5 (two_spot false true false) refl, refl)
+two_is true true true = (in_at two_cell_spots 6 (two_spot true true true) refl, refl)
+two_is false true true = (in_at two_cell_spots 7 (two_spot false true true) refl, refl)
+
+all_two : (P : Spot → Type 0) → ((below l h : Bool) → P (two_spot below l h)) → AllByRecursion P two_cell_spots
+all_two P f =
+    (f true false false, (f false false false, (f true false true, (f false false true, (f true true false, (f false true false, (f true true true, (f false true true, tt))))))))
+
+abbrev one_spot : Bool → Bool → Spot
+one_spot l h = spot_as (1 + num l + num h) None (num l)
+
+one_is : (l h : Bool) → 1 ≤ num l + num h → IsIn (one_spot l h) one_cell_spots × (shape_as l V None h ≡ shape_at (one_spot l h))
+one_is false false m = absurd (omega arith)
+one_is false true m = (in_at one_cell_spots 0 (one_spot false true) refl, refl)
+one_is true false m = (in_at one_cell_spots 1 (one_spot true false) refl, refl)
+one_is true true m = (in_at one_cell_spots 2 (one_spot true true) refl, refl)
+
+all_one : (P : Spot → Type 0) → ((l h : Bool) → 1 ≤ num l + num h → P (one_spot l h)) → AllByRecursion P one_cell_spots
+all_one P f = (f false true (omega arith), (f true false (omega arith), (f true true (omega arith), tt)))
 
 -- a small array of the same shape, which is less or has the same places
 pub record IsSpotFor (two : Bool) (agg : Option ℕ) (vic n : ℕ) (s : Spot) : Type 0 where
@@ -55,136 +93,42 @@ pub record IsSpotFor (two : Bool) (agg : Option ℕ) (vic n : ℕ) (s : Spot) : 
   pub shape : shape_of agg vic n ≡ shape_at s
   pub order : (s.size < n) ⊎ ((s.size ≡ n) × (s.agg ≡ agg) × (s.vic ≡ vic))
 
-some_equal : (a b : ℕ) → a ≡ b → let make : ℕ → Option ℕ = λ x. Some x in make a ≡ make b
-some_equal a b e = let make : ℕ → Option ℕ = λ x. Some x in ap make e
+ends_are : (a b x y n : ℕ) → a ≤ x → b ≤ n - 1 - y → x < y → y < n → n ≤ 2 + a + b → (2 + a + b ≡ n) × (a ≡ x) × (1 + a ≡ y)
+ends_are a b x y n p q lt within m = (omega arith, omega arith, omega arith)
 
-by_size : (size a v n b w : ℕ) → (n ≤ size → (size ≡ n) × (a ≡ b) × (v ≡ w))
-    → let s : Spot = spot_as size (Some a) v in (s.size < n) ⊎ ((s.size ≡ n) × (s.agg ≡ Some b) × (s.vic ≡ w))
-by_size size a v n b w h =
-    ⊎_elim (λ (l : size < n). inl l) (λ (m : n ≤ size). let t = h m in inr (t.0, some_equal a b t.1, t.2)) (cases_lt size n)
-
-spot_below : (a v n : ℕ) → a < v → v < n → (s : Spot) × IsSpotFor true (Some a) v n s
-spot_below a v n lt within =
-    ⊎_elim
-    (λ (l : a ≡ 0).
-    ⊎_elim
-    (λ (h : n - 1 - v ≡ 0). (
-      spot_as 2 (Some 0) 1,
+spot_two : (below : Bool) (x y n : ℕ) → x < y → y < n → (s : Spot) × IsSpotFor true (agg_of below x y) (vic_of below x y) n s
+spot_two below x y n lt within =
+    let l : Bool = is_some_cell x in
+    let h : Bool = is_some_cell (n - 1 - y) in
+    let p = num_is x in
+    let q = num_is (n - 1 - y) in
+    let is = two_is below l h in (
+      two_spot below l h,
       record {
-        listed = in_at two_cell_spots 0 (spot_as 2 (Some 0) 1) refl;
-        shape = shape_below a v n false false lt (none_there a l) (none_there (n - 1 - v) h);
-        order = by_size 2 0 1 n a v (λ m. (omega arith, omega arith, omega arith));
+        listed = is.0;
+        shape = shape_two below x y n lt ∙ is.1;
+        order = ⊎_elim (λ (less : 2 + num l + num h < n). inl less)
+            (λ (m : n ≤ 2 + num l + num h).
+            let t = ends_are (num l) (num h) x y n (omega arith) (omega arith) lt within m in
+            inr (t.0, ap (λ i. agg_of below i (1 + num l)) t.1 ∙ ap (agg_of below x) t.2, ap (λ i. vic_of below i (1 + num l)) t.1 ∙ ap (vic_of below x) t.2))
+            (cases_lt (2 + num l + num h) n);
       },
-    ))
-    (λ (h : 0 < n - 1 - v). (
-      spot_as 3 (Some 0) 1,
-      record {
-        listed = in_at two_cell_spots 2 (spot_as 3 (Some 0) 1) refl;
-        shape = shape_below a v n false true lt (none_there a l) (some_there (n - 1 - v) h);
-        order = by_size 3 0 1 n a v (λ m. (omega arith, omega arith, omega arith));
-      },
-    ))
-    (which_there (n - 1 - v)))
-    (λ (l : 0 < a).
-    ⊎_elim
-    (λ (h : n - 1 - v ≡ 0). (
-      spot_as 3 (Some 1) 2,
-      record {
-        listed = in_at two_cell_spots 4 (spot_as 3 (Some 1) 2) refl;
-        shape = shape_below a v n true false lt (some_there a l) (none_there (n - 1 - v) h);
-        order = by_size 3 1 2 n a v (λ m. (omega arith, omega arith, omega arith));
-      },
-    ))
-    (λ (h : 0 < n - 1 - v). (
-      spot_as 4 (Some 1) 2,
-      record {
-        listed = in_at two_cell_spots 6 (spot_as 4 (Some 1) 2) refl;
-        shape = shape_below a v n true true lt (some_there a l) (some_there (n - 1 - v) h);
-        order = by_size 4 1 2 n a v (λ m. (omega arith, omega arith, omega arith));
-      },
-    ))
-    (which_there (n - 1 - v)))
-    (which_there a)
-
-spot_above : (a v n : ℕ) → v < a → a < n → (s : Spot) × IsSpotFor true (Some a) v n s
-spot_above a v n lt within =
-    ⊎_elim
-    (λ (l : v ≡ 0).
-    ⊎_elim
-    (λ (h : n - 1 - a ≡ 0). (
-      spot_as 2 (Some 1) 0,
-      record {
-        listed = in_at two_cell_spots 1 (spot_as 2 (Some 1) 0) refl;
-        shape = shape_above a v n false false lt (none_there v l) (none_there (n - 1 - a) h);
-        order = by_size 2 1 0 n a v (λ m. (omega arith, omega arith, omega arith));
-      },
-    ))
-    (λ (h : 0 < n - 1 - a). (
-      spot_as 3 (Some 1) 0,
-      record {
-        listed = in_at two_cell_spots 3 (spot_as 3 (Some 1) 0) refl;
-        shape = shape_above a v n false true lt (none_there v l) (some_there (n - 1 - a) h);
-        order = by_size 3 1 0 n a v (λ m. (omega arith, omega arith, omega arith));
-      },
-    ))
-    (which_there (n - 1 - a)))
-    (λ (l : 0 < v).
-    ⊎_elim
-    (λ (h : n - 1 - a ≡ 0). (
-      spot_as 3 (Some 2) 1,
-      record {
-        listed = in_at two_cell_spots 5 (spot_as 3 (Some 2) 1) refl;
-        shape = shape_above a v n true false lt (some_there v l) (none_there (n - 1 - a) h);
-        order = by_size 3 2 1 n a v (λ m. (omega arith, omega arith, omega arith));
-      },
-    ))
-    (λ (h : 0 < n - 1 - a). (
-      spot_as 4 (Some 2) 1,
-      record {
-        listed = in_at two_cell_spots 7 (spot_as 4 (Some 2) 1) refl;
-        shape = shape_above a v n true true lt (some_there v l) (some_there (n - 1 - a) h);
-        order = by_size 4 2 1 n a v (λ m. (omega arith, omega arith, omega arith));
-      },
-    ))
-    (which_there (n - 1 - a)))
-    (which_there v)
-
-by_size_alone : (size v n w : ℕ) → (n ≤ size → (size ≡ n) × (v ≡ w))
-    → let s : Spot = spot_as size None v in (s.size < n) ⊎ ((s.size ≡ n) × (s.agg ≡ None) × (s.vic ≡ w))
-by_size_alone size v n w h = ⊎_elim (λ (l : size < n). inl l) (λ (m : n ≤ size). let t = h m in inr (t.0, refl, t.1)) (cases_lt size n)
+    )
 
 spot_alone : (v n : ℕ) → v < n → 2 ≤ n → (s : Spot) × IsSpotFor false None v n s
 spot_alone v n within some =
-    ⊎_elim
-    (λ (l : v ≡ 0).
-    let h : 0 < n - 1 - v = omega arith in (
-      spot_as 2 None 0,
+    let l : Bool = is_some_cell v in
+    let h : Bool = is_some_cell (n - 1 - v) in
+    let p = num_is v in
+    let q = num_is (n - 1 - v) in
+    let is = one_is l h (omega arith) in (
+      one_spot l h,
       record {
-        listed = in_at one_cell_spots 0 (spot_as 2 None 0) refl;
-        shape = shape_alone v n false true (none_there v l) (some_there (n - 1 - v) h);
-        order = by_size_alone 2 0 n v (λ m. (omega arith, omega arith));
+        listed = is.0;
+        shape = is.1;
+        order = ⊎_elim (λ (less : 1 + num l + num h < n). inl less) (λ (m : n ≤ 1 + num l + num h). inr (omega arith, refl, omega arith)) (cases_lt (1 + num l + num h) n);
       },
-    ))
-    (λ (l : 0 < v).
-    ⊎_elim
-    (λ (h : n - 1 - v ≡ 0). (
-      spot_as 2 None 1,
-      record {
-        listed = in_at one_cell_spots 1 (spot_as 2 None 1) refl;
-        shape = shape_alone v n true false (some_there v l) (none_there (n - 1 - v) h);
-        order = by_size_alone 2 1 n v (λ m. (omega arith, omega arith));
-      },
-    ))
-    (λ (h : 0 < n - 1 - v). (
-      spot_as 3 None 1,
-      record {
-        listed = in_at one_cell_spots 2 (spot_as 3 None 1) refl;
-        shape = shape_alone v n true true (some_there v l) (some_there (n - 1 - v) h);
-        order = by_size_alone 3 1 n v (λ m. (omega arith, omega arith));
-      },
-    ))
-    (which_there (n - 1 - v)))
-    (which_there v)
+    )
 
 -- the small array of any array
 pub spot_for : (p : DynamicPrimitive) (at : Places) (n : ℕ) → FitsDyn p at n → 2 ≤ n → (s : Spot) × IsSpotFor (has_aggressor p) at.agg at.vic n s
@@ -195,8 +139,8 @@ spot_for p at n fits some = go p.agg at.agg fits.aggressor
     go None (Some a) f = absurd f
     go (Some sense) None f = absurd f
     go (Some sense) (Some a) f =
-        ⊎_elim (λ (lt : a < at.vic). spot_below a at.vic n lt fits.victim)
-        (λ (le : at.vic ≤ a). let ne : a ≢ at.vic = f.1 in spot_above a at.vic n (omega arith) f.0) (cases_lt a at.vic)
+        ⊎_elim (λ (lt : a < at.vic). spot_two true a at.vic n lt fits.victim)
+        (λ (le : at.vic ≤ a). let ne : a ≢ at.vic = f.1 in spot_two false at.vic a n (omega arith) f.0) (cases_lt a at.vic)
 
 -- places that fit a primitive with or without an aggressor
 abbrev pub FitsIn : Bool → Option ℕ → ℕ → ℕ → Type 0
@@ -226,41 +170,22 @@ pub record IsSmall (two : Bool) (s : Spot) : Type 0 where
   pub few : s.size ≤ 4
   pub fits : FitsIn two s.agg s.vic s.size
 
-small_pair : (n a v : ℕ) → 2 ≤ n → n ≤ 4 → v < n → a < n → a ≢ v → IsSmall true (spot_as n (Some a) v)
-small_pair n a v some few victim aggressor apart = record { some = some; few = few; fits = (victim, aggressor, apart) }
+fits_two : (below : Bool) (x y n : ℕ) → x < y → y < n → FitsIn true (agg_of below x y) (vic_of below x y) n
+fits_two true x y n lt within = (within, omega arith, omega arith)
+fits_two false x y n lt within = (omega arith, within, omega arith)
 
-small_alone : (n v : ℕ) → 2 ≤ n → n ≤ 4 → v < n → IsSmall false (spot_as n None v)
-small_alone n v some few victim = record { some = some; few = few; fits = victim }
+small_two : (below l h : Bool) → IsSmall true (two_spot below l h)
+small_two below l h =
+    let p = at_most_one l in
+    let q = at_most_one h in
+    record { some = omega arith; few = omega arith; fits = fits_two below (num l) (1 + num l) (2 + num l + num h) (omega arith) (omega arith) }
 
-two_small : AllByRecursion (IsSmall true) two_cell_spots
-two_small = (
-  small_pair 2 0 1 (omega arith) (omega arith) (omega arith) (omega arith) (omega arith),
-  (
-    small_pair 2 1 0 (omega arith) (omega arith) (omega arith) (omega arith) (omega arith),
-    (
-      small_pair 3 0 1 (omega arith) (omega arith) (omega arith) (omega arith) (omega arith),
-      (
-        small_pair 3 1 0 (omega arith) (omega arith) (omega arith) (omega arith) (omega arith),
-        (
-          small_pair 3 1 2 (omega arith) (omega arith) (omega arith) (omega arith) (omega arith),
-          (
-            small_pair 3 2 1 (omega arith) (omega arith) (omega arith) (omega arith) (omega arith),
-            (
-              small_pair 4 1 2 (omega arith) (omega arith) (omega arith) (omega arith) (omega arith),
-              (small_pair 4 2 1 (omega arith) (omega arith) (omega arith) (omega arith) (omega arith), tt),
-            ),
-          ),
-        ),
-      ),
-    ),
-  ),
-)
+small_one : (l h : Bool) → 1 ≤ num l + num h → IsSmall false (one_spot l h)
+small_one l h m = let p = at_most_one l in let q = at_most_one h in record { some = omega arith; few = omega arith; fits = omega arith }
 
 pub is_small : (two : Bool) (s : Spot) → IsIn s (spots_of two) → IsSmall two s
-is_small true s h = all_in (IsSmall true) two_cell_spots s two_small h
-is_small false s h =
-    all_in (IsSmall false) one_cell_spots s
-    (small_alone 2 0 (omega arith) (omega arith) (omega arith), (small_alone 2 1 (omega arith) (omega arith) (omega arith), (small_alone 3 1 (omega arith) (omega arith) (omega arith), tt))) h
+is_small true s h = all_in (IsSmall true) two_cell_spots s (all_two (IsSmall true) small_two) h
+is_small false s h = all_in (IsSmall false) one_cell_spots s (all_one (IsSmall false) small_one) h
 
 -- an array of this size with the shape of a small one
 pub record IsLarge (two : Bool) (s : Spot) (k : ℕ) : Type 0 where
@@ -269,60 +194,42 @@ pub record IsLarge (two : Bool) (s : Spot) (k : ℕ) : Type 0 where
   pub fits : FitsIn two agg vic k
   pub shape : shape_of agg vic k ≡ shape_at s
 
-abbrev HasLarge : Bool → ℕ → Spot → Type 0
-HasLarge two k s = IsLarge two s k
+-- the instance's cells are at the ends, but for one cell where any lies beside them
+large_two : (below l h : Bool) (k : ℕ) → 4 ≤ k → IsLarge true (two_spot below l h) k
+large_two below l h k more =
+    let p = at_most_one l in
+    let q = at_most_one h in
+    let y : ℕ = k - 1 - num h in
+    let rest : k - 1 - (k - 1 - num h) ≡ num h = omega arith in
+    record {
+      agg = agg_of below (num l) y;
+      vic = vic_of below (num l) y;
+      fits = fits_two below (num l) y k (omega arith) (omega arith);
+      shape = shape_two below (num l) y k (omega arith) ∙ ap (λ b. two_shape below b (is_some_cell (k - 1 - y))) (cell_num l)
+          ∙ ap (λ i. two_shape below l (is_some_cell i)) rest ∙ ap (two_shape below l) (cell_num h) ∙ (two_is below l h).1;
+    }
 
--- the aggressor at the lower end, and the victim at the upper
-large_below : (s : Spot) (k a v : ℕ) (l h : Bool) → a < v → v < k → is_some_cell a ≡ l → is_some_cell (k - 1 - v) ≡ h → shape_as l A (Some V) h ≡ shape_at s → IsLarge true s k
-large_below s k a v l h lt within el eh e =
-    record { agg = Some a; vic = v; fits = (within, omega arith, omega arith); shape = shape_below a v k l h lt el eh ∙ e }
+some_there : (k : ℕ) → 0 < k → is_some_cell k ≡ true
+some_there zero h = absurd (omega arith)
+some_there (suc k) h = refl
 
-large_above : (s : Spot) (k a v : ℕ) (l h : Bool) → v < a → a < k → is_some_cell v ≡ l → is_some_cell (k - 1 - a) ≡ h → shape_as l V (Some A) h ≡ shape_at s → IsLarge true s k
-large_above s k a v l h lt within el eh e =
-    record { agg = Some a; vic = v; fits = (omega arith, within, omega arith); shape = shape_above a v k l h lt el eh ∙ e }
-
-large_alone : (s : Spot) (k v : ℕ) (l h : Bool) → v < k → is_some_cell v ≡ l → is_some_cell (k - 1 - v) ≡ h → shape_as l V None h ≡ shape_at s → IsLarge false s k
-large_alone s k v l h within el eh e = record { agg = None; vic = v; fits = within; shape = shape_alone v k l h el eh ∙ e }
-
-two_large : (k : ℕ) → 4 ≤ k → AllByRecursion (HasLarge true k) two_cell_spots
-two_large k more =
-    let none : is_some_cell (k - 1 - (k - 1)) ≡ false = none_there (k - 1 - (k - 1)) (omega arith) in
-    let one : is_some_cell (k - 1 - (k - 2)) ≡ true = some_there (k - 1 - (k - 2)) (omega arith) in (
-      large_below (spot_as 2 (Some 0) 1) k 0 (k - 1) false false (omega arith) (omega arith) refl none refl,
-      (
-        large_above (spot_as 2 (Some 1) 0) k (k - 1) 0 false false (omega arith) (omega arith) refl none refl,
-        (
-          large_below (spot_as 3 (Some 0) 1) k 0 (k - 2) false true (omega arith) (omega arith) refl one refl,
-          (
-            large_above (spot_as 3 (Some 1) 0) k (k - 2) 0 false true (omega arith) (omega arith) refl one refl,
-            (
-              large_below (spot_as 3 (Some 1) 2) k 1 (k - 1) true false (omega arith) (omega arith) refl none refl,
-              (
-                large_above (spot_as 3 (Some 2) 1) k (k - 1) 1 true false (omega arith) (omega arith) refl none refl,
-                (
-                  large_below (spot_as 4 (Some 1) 2) k 1 (k - 2) true true (omega arith) (omega arith) refl one refl,
-                  (large_above (spot_as 4 (Some 2) 1) k (k - 2) 1 true true (omega arith) (omega arith) refl one refl, tt),
-                ),
-              ),
-            ),
-          ),
-        ),
-      ),
-    )
+-- the victim is the second of an array, or the first or the last
+large_one : (k : ℕ) → 4 ≤ k → (l h : Bool) → 1 ≤ num l + num h → IsLarge false (one_spot l h) k
+large_one k more false false m = absurd (omega arith)
+large_one k more false true m = record { agg = None; vic = 0; fits = omega arith; shape = ap (shape_as false V None) (some_there (k - 1 - 0) (omega arith)) }
+large_one k more true true m = record { agg = None; vic = 1; fits = omega arith; shape = ap (shape_as true V None) (some_there (k - 1 - 1) (omega arith)) }
+large_one k more true false m =
+    let none : k - 1 - (k - 1) ≡ 0 = omega arith in
+    record {
+      agg = None;
+      vic = k - 1;
+      fits = omega arith;
+      shape = ap (λ b. shape_as b V None (is_some_cell (k - 1 - (k - 1)))) (some_there (k - 1) (omega arith)) ∙ ap (λ i. shape_as true V None (is_some_cell i)) none;
+    }
 
 pub has_large : (two : Bool) (s : Spot) (k : ℕ) → IsIn s (spots_of two) → 4 ≤ k → IsLarge two s k
-has_large true s k h more = all_in (HasLarge true k) two_cell_spots s (two_large k more) h
-has_large false s k h more =
-    let none : is_some_cell (k - 1 - (k - 1)) ≡ false = none_there (k - 1 - (k - 1)) (omega arith) in
-    let first : is_some_cell (k - 1 - 0) ≡ true = some_there (k - 1 - 0) (omega arith) in
-    let second : is_some_cell (k - 1 - 1) ≡ true = some_there (k - 1 - 1) (omega arith) in
-    all_in (HasLarge false k) one_cell_spots s (
-      large_alone (spot_as 2 None 0) k 0 false true (omega arith) refl first refl,
-      (
-        large_alone (spot_as 2 None 1) k (k - 1) true false (omega arith) (some_there (k - 1) (omega arith)) none refl,
-        (large_alone (spot_as 3 None 1) k 1 true true (omega arith) refl second refl, tt),
-      ),
-    ) h
+has_large true s k h more = all_in (λ s. IsLarge true s k) two_cell_spots s (all_two (λ s. IsLarge true s k) (λ below l h. large_two below l h k more)) h
+has_large false s k h more = all_in (λ s. IsLarge false s k) one_cell_spots s (all_one (λ s. IsLarge false s k) (large_one k more)) h
 
 -- what is seen at the start of an array whose other cells hold 0
 pub start_seen : (two : Bool) (agg : Option ℕ) (vic n : ℕ) (q : Pair) → FitsIn two agg vic n → (two ≡ false → q.a ≡ false)
