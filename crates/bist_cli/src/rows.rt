@@ -387,7 +387,7 @@ fn other_commands(rt: HostRuntime) -> Result<(), Fail> {
     Ok(())
 }
 
-/// A march, a list, and the report's lines behind its first.
+/// A march, a list, and the whole report.
 const REPORTS: [(&[u8], &[u8], &[u8]); 8] = [
     (
         MARCH_C,

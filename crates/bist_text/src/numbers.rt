@@ -24,7 +24,7 @@ fn number(bytes: &[u8], radix: u32) -> Option<u64>
     Some(value)
 }
 
-/// The number that one to nine decimal digits write.
+/// The number that one to nine decimal digits write; None for any other bytes.
 pub fn decimal(bytes: &[u8]) -> Option<u32>
     ensures { SomeIff result (IsNumber 10 9 bytes.now) (digits_value 10 bytes.now) }
 {
@@ -35,7 +35,7 @@ pub fn decimal(bytes: &[u8]) -> Option<u32>
     Some(value as u32)
 }
 
-/// The number that one to sixteen hexadecimal digits write, in either case.
+/// The number that one to sixteen hexadecimal digits write, in either case; None for any other bytes.
 pub fn hex(bytes: &[u8]) -> Option<u64>
     ensures { SomeIff result (IsNumber 16 16 bytes.now) (digits_value 16 bytes.now) }
 {
@@ -45,7 +45,7 @@ pub fn hex(bytes: &[u8]) -> Option<u64>
     number(bytes, 16)
 }
 
-/// Appends a number in decimal, without leading zeros.
+/// Appends a number in decimal, without leading zeros. Where no memory is found nothing is appended.
 pub fn put_decimal(out: &mut Vec<u8>, n: u64) -> Result<(), NoMemory>
     ensures ok { OnOk result (out.new.items ≡ out.old.items ++ decimal n) }
     ensures err { OnErr result (out.new.items ≡ out.old.items) }
@@ -55,7 +55,7 @@ pub fn put_decimal(out: &mut Vec<u8>, n: u64) -> Result<(), NoMemory>
         .map_err(|_| NoMemory)
 }
 
-/// Appends a value in lower case hexadecimal, with this many digits.
+/// Appends a value in lower case hexadecimal, with this many digits. Where no memory is found nothing is appended.
 pub fn put_hex(out: &mut Vec<u8>, value: u64, digits: u8) -> Result<(), NoMemory>
     requires fits { value < 16 ^ digits }
     ensures ok { OnOk result (out.new.items ≡ out.old.items ++ hex_digits digits value) }

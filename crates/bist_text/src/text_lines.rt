@@ -28,6 +28,7 @@ pub struct Lines<'a> {
 impl<'a> Lines<'a> {
     ghost use Rattle.bist_text.specs.Lines.{text_lines, lines_left};
 
+    /// The lines of these bytes, from the first on, which has the number 1.
     pub fn new(bytes: &'a [u8]) -> Self
         ensures { lines_left result ≡ text_lines bytes.now }
     {

@@ -15,7 +15,8 @@ use memory_desc::Memory;
 use microcode::{Code, FIRST, Instr, Place, instr_at, place_behind};
 use std::marker::Model;
 
-/// The values of the outputs in a cycle.
+/// The values of the outputs in a cycle. `addr` is the logical address and `wdata` the word as it stands at the port; both
+/// mean something in a cycle with `en` alone, and `wdata` in that of a write.
 #[derive(Clone, Copy, Debug, PartialEq, Eq)]
 pub struct Ports {
     pub en: bool,

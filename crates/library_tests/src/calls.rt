@@ -1,4 +1,4 @@
-//! One call of each function of the libraries, with an answer that was found by hand.
+//! Calls of the libraries' functions, with answers that were found by hand. Those of texts, of Verilog and of boxes are called elsewhere.
 
 ghost use Rattle.std.specs.Prelude.{◌≡◌, None, IfOk};
 

@@ -50,6 +50,7 @@ fn put_form(forms: &mut IndexMap<Name, Form>, name: Name, form: Form) -> Result<
 }
 
 impl Declarations {
+    /// No declarations. It takes no memory yet.
     pub fn new(alloc: Global) -> Declarations
         ensures { result ≡ [] }
     {
@@ -161,6 +162,7 @@ fn put_name(names: &mut IndexSet<Name>, name: Name) -> Result<(), NoMemory>
 }
 
 impl NameSet {
+    /// No names. It takes no memory yet.
     pub fn new(alloc: Global) -> NameSet
         ensures { result ≡ [] }
     {
@@ -169,6 +171,7 @@ impl NameSet {
         }
     }
 
+    /// Whether the name is among them.
     pub fn contains(&self, name: &Name) -> bool
         ensures { result ≡ is_among name.now.bytes self.now }
     {

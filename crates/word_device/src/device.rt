@@ -67,7 +67,7 @@ pub trait Device: Drop {
         ensures told { IsTold (shape_of self.now) (tells self.now) };
 
     /// Takes a shape: all words are 0, nothing is planted, and the answers under way are 0. Refused with V1 exactly where it has room for
-    /// fewer words.
+    /// fewer words, and else with V3 where no memory is found. After a refusal the box is as before.
     fn fit(&mut self, shape: &Shape) -> Result<(), DeviceFault>
         requires { IsShape shape.now }
         ensures ok { OnOk result (told (room_of self.new) (shape_of self.new) (tells self.new)

@@ -1,7 +1,7 @@
 ghost use Rattle.word_march.specs.Laws.{Met, Determined, Lasting, Unbroken, Examples};
 
-/// The rule of the ports is one: in each cycle some ports meet it, whatever words return, and they agree on whether they
-/// enable the memory, are done and have failed. A failure stays.
+/// The rule of the ports is one: in each cycle some ports meet it, whatever words return, and those that do agree on whether
+/// they enable the memory, on the command where they do, on being done and on having failed. A failure stays.
 pub fn port_rule()
     ensures met { Met }
     ensures determined { Determined }
