@@ -1,6 +1,7 @@
 //! Worked examples of the commands that clock a module against boxes.
 
-use crate::rows::{COMPILE, MARCH_C, MARCH_SS, RETENTION, SIXTEEN, run_alone, with_inputs};
+use crate::compile_rows::{COMPILE, SIXTEEN, with_inputs};
+use crate::rows::{MARCH_C, MARCH_SS, RETENTION, run_alone};
 use bist_app::run;
 use bist_bits::NoMemory;
 use bist_host::MemHost;

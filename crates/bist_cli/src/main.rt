@@ -1,8 +1,14 @@
 //! Vidlakost: which memory faults a march test detects.
 #![tactic(auto)]
 
+ghost use Rattle.std.specs.Prelude.{◌≡◌, IfOk, IfErr, map, drop, string_bytes};
+ghost use Rattle.std.specs.Vec.Iter.{into_iter_items};
+ghost use Rattle.bist_host.specs.Files.{Rose};
+ghost use Rattle.word_device.specs.Boxes.{told};
+ghost use Rattle.bist_cli.specs.Program.{own_box, RunsAlone, RunsTexts};
+
 use bist_app::run;
-use bist_host::RealHost;
+use bist_host::{Host, RealHost};
 use std::alloc::{AllocError, Global};
 use std::env::{self, Args};
 use std::io::ErrorKind;
@@ -34,21 +40,76 @@ fn main(rt: HostRuntime) -> ExitCode {
     }
 }
 
-/// Runs the command of the words behind the program's own name, with one box, a sound memory.
-fn run_words<H: bist_host::Host>(
+/// The words behind the first, which is the program's own name.
+fn behind_name(mut args: Args) -> Args
+    ensures { into_iter_items result ≡ drop 1 (into_iter_items args) }
+{
+    args.next();
+    args
+}
+
+fn words_of(alloc: Global, args: Args) -> Result<Vec<String>, AllocError>
+    ensures { IfOk result (λ words. words.items ≡ into_iter_items args) }
+{
+    args.collect(alloc)
+}
+
+fn texts_of(alloc: Global, words: &[String]) -> Result<Vec<&str>, AllocError>
+    ensures { IfOk result (λ texts. map (λ w. w.now) texts.items ≡ map string_bytes words.now) }
+{
+    let mut texts = Vec::with_capacity(alloc, words.len())?;
+    for word in words {
+        texts.push(word.as_str())?;
+    }
+    Ok(texts)
+}
+
+/// Runs the command of the words with the program's own box.
+fn run_with<H: Host>(
     alloc: Global,
-    args: Args,
+    words: &[&str],
     host: &mut H,
-) -> Result<u8, AllocError> {
-    let words: Vec<String> = args.skip(1).collect(alloc)?;
-    let texts: Vec<&str> = words.iter().map(|word| word.as_str()).collect(alloc)?;
+    device: Box<dyn Device>,
+) -> Result<u8, AllocError>
+    requires own { told (room_of device) (shape_of device) (tells device) ≡ own_box }
+    ensures runs { IfOk result (RunsAlone words.now (H.files host.old) (H.files host.new) (H.said host.old) (H.said host.new)
+        (Rose (H.read_faults host.old) (H.read_faults host.new)) (Rose (H.write_faults host.old) (H.write_faults host.new))) }
+    ensures untouched { IfErr result (λ _. host.new ≡ host.old) }
+{
     let mut devices: Vec<Box<dyn Device>> = Vec::new(alloc);
-    devices.push(Box::new(alloc, ArrayDevice::new(alloc, ROOM))?)?;
-    Ok(run(alloc, &texts, host, &mut devices).status)
+    devices.push(device)?;
+    Ok(run(alloc, words, host, &mut devices).status)
+}
+
+/// Runs the command of the words with one box, a memory.
+fn run_texts<H: Host>(alloc: Global, words: &[&str], host: &mut H) -> Result<u8, AllocError>
+    ensures runs { IfOk result (RunsAlone words.now (H.files host.old) (H.files host.new) (H.said host.old) (H.said host.new)
+        (Rose (H.read_faults host.old) (H.read_faults host.new)) (Rose (H.write_faults host.old) (H.write_faults host.new))) }
+    ensures untouched { IfErr result (λ _. host.new ≡ host.old) }
+{
+    run_with(
+        alloc,
+        words,
+        host,
+        Box::new(alloc, ArrayDevice::new(alloc, ROOM))?,
+    )
+}
+
+/// Runs the command of the words behind the program's own name. Want of memory before it leaves the host as it was.
+fn run_words<H: Host>(alloc: Global, args: Args, host: &mut H) -> Result<u8, AllocError>
+    ensures runs { IfOk result (RunsTexts (map string_bytes (drop 1 (into_iter_items args))) (H.files host.old) (H.files host.new) (H.said host.old) (H.said host.new)
+        (Rose (H.read_faults host.old) (H.read_faults host.new)) (Rose (H.write_faults host.old) (H.write_faults host.new))) }
+    ensures untouched { IfErr result (λ _. host.new ≡ host.old) }
+{
+    let words = words_of(alloc, behind_name(args))?;
+    let texts = texts_of(alloc, &words)?;
+    run_texts(alloc, &texts, host)
 }
 
 #[cfg(test)]
 mod bench_rows;
+#[cfg(test)]
+mod compile_rows;
 #[cfg(test)]
 mod make_rows;
 #[cfg(test)]
