@@ -1,6 +1,5 @@
 -- What the check of a line answers, by the grammar of lines.
-use Rattle.std.proofs.Common.{◌≡◌, ℕ, Bool, true, false, if◌then◌else◌, List, ◌∙◌, length, Option, Some, None, is_some, Result, Ok, Err, MatchBool, ◌↔◌, refl, sym, ap, subst, inl, inr}
-use Rattle.bist_text.specs.Grammar.{IsUnexpected, IsTruncated}
+use Rattle.std.proofs.Common.{◌≡◌, ℕ, Bool, true, false, if◌then◌else◌, List, ◌∙◌, length, Option, Some, None, is_some, Result, Ok, Err, MatchBool, refl, sym, ap, subst, inl, inr}
 use Rattle.bist_text.specs.Lines.{TextLine}
 use Rattle.memory_desc.specs.declared.fault.MemoryFault.{MemoryFault}
 use Rattle.memory_desc.specs.declared.fault.MemoryFault.TheVariants.{Unexpected as UnexpectedAt, Truncated as TextTruncated}
@@ -10,20 +9,14 @@ use Rattle.memory_desc.specs.declared.line_reader.LineFault.{LineFault}
 use Rattle.memory_desc.specs.declared.line_reader.LineFault.TheVariants.{Unexpected, Truncated}
 use Rattle.memory_desc.specs.LineText.{Content, version, kind_of, tail, ContentText, LineText}
 use Rattle.memory_desc.specs.LineRest.{KindText, OpeningText}
-use Rattle.memory_desc.specs.LineAnswers.{refusal_at}
+use Rattle.memory_desc.specs.LineAnswers.{refusal_at, IsReadBy}
 use Rattle.memory_desc.specs.LineFaults.{IsLineFault}
 use Rattle.memory_desc.specs.Statements.{is_line_of, IsVersionLine}
 use Rattle.memory_desc.specs.declared.line_place.Version.{Version}
 
 -- ---- faults
 
--- a reader of a line that answers exactly as a grammar says
-pub record Answers (G : List ℕ → Option Key → Type 0) (b : List ℕ) (r : Result (Option Key) LineFault) : Type 0 where
-  pub kind : (k : Option Key) → (r ≡ Ok k) ↔ G b k
-  pub unexpected : (i : ℕ) → (r ≡ Err (Unexpected i)) ↔ IsUnexpected G b i
-  pub truncated : (r ≡ Err Truncated) ↔ IsTruncated G b
-
-pub fault_is : (G : List ℕ → Option Key → Type 0) (l : TextLine) (r : Result (Option Key) LineFault) (f : LineFault) → Answers G l.text r → r ≡ Err f
+pub fault_is : (G : List ℕ → Option Key → Type 0) (l : TextLine) (r : Result (Option Key) LineFault) (f : LineFault) → IsReadBy G l.text r → r ≡ Err f
     → IsLineFault G l (refusal_at l f)
 fault_is G l r (Unexpected i) a e = (refl, inl ((a.unexpected i).0 e))
 fault_is G l r Truncated a e = go l.ended refl
@@ -32,7 +25,7 @@ fault_is G l r Truncated a e = go l.ended refl
     go true k = (refl, inr (k, a.truncated.0 e, refl))
     go false k = (k, a.truncated.0 e)
 
-pub fault_from : (G : List ℕ → Option Key → Type 0) (l : TextLine) (r : Result (Option Key) LineFault) (fault : MemoryFault) → Answers G l.text r → IsLineFault G l fault
+pub fault_from : (G : List ℕ → Option Key → Type 0) (l : TextLine) (r : Result (Option Key) LineFault) (fault : MemoryFault) → IsReadBy G l.text r → IsLineFault G l fault
     → (f : LineFault) × (r ≡ Err f) × (refusal_at l f ≡ fault)
 fault_from G l r (UnexpectedAt n i) a h = elim h.1 [
   | inl u ↦ (Unexpected i, (a.unexpected i).1 u, ap (λ m. UnexpectedAt m i) (sym h.0))
@@ -47,16 +40,16 @@ fault_from G l r other a h = absurd h
 
 -- a line of the grammar has no fault
 pub no_fault : (G : List ℕ → Option Key → Type 0) (l : TextLine) (r : Result (Option Key) LineFault) (k : Option Key) (fault : MemoryFault) (P : Type 0)
-    → Answers G l.text r → r ≡ Ok k → IsLineFault G l fault → P
+    → IsReadBy G l.text r → r ≡ Ok k → IsLineFault G l fault → P
 no_fault G l r k fault P a e h = let w = fault_from G l r fault a h in let f = w.1 in absurd (let z : ⊥ = cc in z)
 
 -- a line with a fault is none of the grammar
 pub no_text : (G : List ℕ → Option Key → Type 0) (b : List ℕ) (r : Result (Option Key) LineFault) (f : LineFault) (k : Option Key) (P : Type 0)
-    → Answers G b r → r ≡ Err f → G b k → P
+    → IsReadBy G b r → r ≡ Err f → G b k → P
 no_text G b r f k P a e h = let g = (a.kind k).1 h in absurd (let z : ⊥ = cc in z)
 
 pub the_fault : (G : List ℕ → Option Key → Type 0) (l : TextLine) (r : Result (Option Key) LineFault) (f : LineFault) (given fault : MemoryFault)
-    → Answers G l.text r → r ≡ Err f → given ≡ refusal_at l f → IsLineFault G l fault → given ≡ fault
+    → IsReadBy G l.text r → r ≡ Err f → given ≡ refusal_at l f → IsLineFault G l fault → given ≡ fault
 the_fault G l r f given fault a e k h =
     let w = fault_from G l r fault a h in
     let g = w.1 in
@@ -89,6 +82,6 @@ opening_blank b h = inl (refl, h)
 pub opening_version : (b : List ℕ) → IsVersionLine b → OpeningText b (Some Memory)
 opening_version b h = inr (version h.0, refl, refl, h.1)
 
-pub kind_given : (G : List ℕ → Option Key → Type 0) (b : List ℕ) (r : Result (Option Key) LineFault) (k j : Option Key) (t : Bool) → Answers G b r → r ≡ Ok k → t ≡ is_some k
+pub kind_given : (G : List ℕ → Option Key → Type 0) (b : List ℕ) (r : Result (Option Key) LineFault) (k j : Option Key) (t : Bool) → IsReadBy G b r → r ≡ Ok k → t ≡ is_some k
     → G b j → t ≡ is_some j
 kind_given G b r k j t a e f h = let g = (a.kind j).1 h in let same : k ≡ j = cc in f ∙ ap is_some same

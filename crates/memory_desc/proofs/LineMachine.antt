@@ -10,12 +10,11 @@ use Rattle.bist_text.proofs.Exclusive.{scan_exact}
 use Rattle.memory_desc.specs.Names.{is_digit}
 use Rattle.memory_desc.specs.declared.line_place.Key.{Key}
 use Rattle.memory_desc.specs.declared.line_place.Key.TheVariants.{Memory, Name, Words, Bits, Latency, Polarity, Pause, Scramble, Backgrounds}
-use Rattle.memory_desc.specs.declared.line_place.Version.{Version}
 use Rattle.memory_desc.specs.declared.line_place.Place.{Place}
 use Rattle.memory_desc.specs.declared.line_place.Place.TheVariants.{Opening, Begin, Remark, LetterB, LetterP, Letters, Wanted, Number, Name as InName, RowNumber, RowEnd, Term as AtTerm, TermNumber, TermEnd, LetterL, LetterO, Hex, HexEnd, End}
 use Rattle.memory_desc.specs.LineText.{Term, index_bit, constant, Content, version, name, words, bits, latency, polarity, pause, scramble, log, backgrounds, kind_of, in_table, is_hex, is_formed, space, gap, tail, term_text, more_terms, equation, more_words, argument, key_text}
 use Rattle.memory_desc.specs.LinePlaces.{step, value, is_digit_of, most_digits}
-use Rattle.memory_desc.specs.LineRest.{LineOf, KindText, OpeningText, Run, Terms, HexWords, rest}
+use Rattle.memory_desc.specs.LineRest.{LineOf, Run, Terms, HexWords, rest}
 use Rattle.memory_desc.proofs.LinePieces.{at_bool, positive, when_true}
 use Rattle.memory_desc.proofs.LineBegins.{some_digits}
 use Rattle.memory_desc.proofs.LineFollows.{goes_at}
@@ -253,10 +252,6 @@ follows = record {
   keeps = λ p c q w e. tt;
 }
 
--- A line is read exactly as the grammar of lines says,
-pub line_exact : (n : Version) (b : List ℕ) → are_bytes b ≡ true → IsExact (KindText n) b (scan step value b (Begin n) 0)
-line_exact n b w = scan_exact step value rest (λ p. Unit {0}) follows (KindText n) (Begin n) tt (λ x v. same) b w
-
--- and so is one that may only be a `memory` line.
-pub opening_exact : (b : List ℕ) → are_bytes b ≡ true → IsExact OpeningText b (scan step value b Opening 0)
-opening_exact b w = scan_exact step value rest (λ p. Unit {0}) follows OpeningText Opening tt (λ x v. same) b w
+-- From each place on a line is read exactly as what may follow there says.
+pub line_exact : (p : Place) (b : List ℕ) → are_bytes b ≡ true → IsExact (rest p) b (scan step value b p 0)
+line_exact p b w = scan_exact step value rest (λ p. Unit {0}) follows (rest p) p tt (λ x v. same) b w

@@ -1,5 +1,6 @@
 -- What the reader of a line answers.
-use Rattle.std.specs.Prelude.{◌≡◌, if◌then◌else◌, length, Option, Result, Ok, Err}
+use Rattle.std.specs.Prelude.{◌≡◌, ◌↔◌, ℕ, List, if◌then◌else◌, length, Option, Result, Ok, Err}
+use Rattle.bist_text.specs.Grammar.{IsUnexpected, IsTruncated}
 use Rattle.bist_text.specs.Lines.{TextLine}
 use Rattle.bist_text.specs.Machine.{Outcome, read, unexpected, truncated}
 use Rattle.memory_desc.specs.declared.fault.MemoryFault.{MemoryFault}
@@ -21,3 +22,9 @@ Gives (Err f) o = Fails f o
 abbrev pub refusal_at : TextLine → LineFault → MemoryFault
 refusal_at l (Unexpected i) = UnexpectedAt l.number i
 refusal_at l Truncated = if l.ended then UnexpectedAt l.number (length l.text) else TextTruncated
+
+-- a line is read exactly as a grammar says
+pub record IsReadBy (G : List ℕ → Option Key → Type 0) (b : List ℕ) (r : Result (Option Key) LineFault) : Type 0 where
+  pub kind : (k : Option Key) → (r ≡ Ok k) ↔ G b k
+  pub unexpected : (i : ℕ) → (r ≡ Err (Unexpected i)) ↔ IsUnexpected G b i
+  pub truncated : (r ≡ Err Truncated) ↔ IsTruncated G b

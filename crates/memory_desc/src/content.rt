@@ -12,7 +12,7 @@ ghost use Rattle.bist_text.specs.Cursors.{left_of};
 ghost use Rattle.bist_text.specs.Grammar.{word, is_blank};
 ghost use Rattle.bist_text.specs.Numbers.{IsNumber};
 
-use crate::line_place::{Key, Version};
+use crate::line_place::{Key, Place, Version};
 use crate::line_reader::read_line;
 use arrayvec::ArrayVec;
 use bist_text::{ByteSet, Cursor, decimal, hex};
@@ -43,7 +43,7 @@ const NAME_BYTES: ByteSet = ByteSet {
 };
 
 /// What a content line speaks of. No two lines of a description speak of the same.
-#[derive(Clone, Copy, Debug, PartialEq, Eq)]
+#[derive(Clone, Copy, PartialEq)]
 pub enum Subject {
     Version,
     Name,
@@ -58,7 +58,7 @@ pub enum Subject {
 }
 
 /// A scrambling row as it is written.
-#[derive(Clone, Copy, Debug, PartialEq, Eq)]
+#[derive(Clone, Copy)]
 pub struct Row {
     /// The bit of the address.
     pub bit: u32,
@@ -77,7 +77,7 @@ enum Summand {
 }
 
 /// Background words as they are written.
-#[derive(Debug, Drop)]
+#[derive(Drop)]
 pub struct Words {
     /// The first eight.
     pub first: ArrayVec<u64, 8>,
@@ -280,7 +280,7 @@ fn with_word(mut words: Words, word: u64) -> Words
 pub fn subject_of(text: &[u8]) -> Option<Subject>
     ensures { (v : Option Content) → LineText text.now v → result ≡ subject_in v }
 {
-    match read_line(text, Version::Two) {
+    match read_line(text, Place::Begin(Version::Two)) {
         Ok(Some(Key::Memory)) => Some(Subject::Version),
         Ok(Some(Key::Name)) => Some(Subject::Name),
         Ok(Some(Key::Words)) => Some(Subject::Words),

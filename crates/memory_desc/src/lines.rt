@@ -13,8 +13,8 @@ ghost use Rattle.memory_desc.specs.Table.{AreStatements};
 
 use crate::content::number_of;
 use crate::fault::MemoryFault;
-use crate::line_place::Version;
-use crate::line_reader::{LineFault, read_line, read_opening};
+use crate::line_place::{Place, Version};
+use crate::line_reader::{LineFault, read_line};
 use bist_text::{Line, Lines};
 
 /// A line's refusal. Where a line feed ends the line, it is the byte that can't stand there.
@@ -42,7 +42,7 @@ fn opens(line: &Line<'_>) -> Result<bool, MemoryFault>
     ensures accepts { IsVersionLine line.now.text.now → result ≡ Ok true }
     ensures refuses { (fault : MemoryFault) → IsLineFault OpeningText (plain_line line.now) fault → result ≡ Err fault }
 {
-    match read_opening(line.text) {
+    match read_line(line.text, Place::Opening) {
         Ok(kind) => Ok(kind.is_some()),
         Err(fault) => Err(refused(line, fault)),
     }
@@ -83,7 +83,7 @@ fn check_line(line: &Line<'_>, version: Version) -> Result<(), MemoryFault>
     ensures accepts { (v : Option Content) → LineText line.now.text.now v → is_line_of version v ≡ true → IsOk result }
     ensures refuses { (fault : MemoryFault) → IsLineFault (KindText version) (plain_line line.now) fault → result ≡ Err fault }
 {
-    match read_line(line.text, version) {
+    match read_line(line.text, Place::Begin(version)) {
         Ok(_) => Ok(()),
         Err(fault) => Err(refused(line, fault)),
     }
