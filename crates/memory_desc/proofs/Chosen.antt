@@ -1,9 +1,9 @@
 -- The backgrounds that are chosen, and that they serve a memory.
-use Rattle.std.proofs.Common.{◌≡◌, ℕ, zero, suc, ◌^◌, ◌<◌, ◌≤◌, ◌==◌, Bool, true, false, List, [], ◌∷◌, length, take, get_or, slice_index, Option, Some, None, Result, Ok, Err, refl, sym, ◌∙◌, subst, arith, inl, inr}
+use Rattle.std.proofs.Common.{◌≡◌, ℕ, zero, suc, ◌^◌, ◌<◌, ◌≤◌, ◌==◌, Bool, true, false, List, [], ◌∷◌, length, take, get_or, slice_index, Option, Some, None, Result, Ok, Err, refl, sym, ap, ◌∙◌, subst, arith, inl, inr}
 use Rattle.std.specs.Prelude.{nat_le, nat_lt, Contains, IfOk, MatchResult}
 use Rattle.std.specs.List.{list_any}
 use Rattle.std.specs.Str.Parse.{digits_value}
-use Rattle.std.proofs.lemmas.Bool.{or_parts, or_cases, or_left, or_right, leb-false, eqb-true, eq-eqb, lt-ltb, le-ltb, ltb-false, cases_Bool}
+use Rattle.std.proofs.lemmas.Bool.{or_parts, or_cases, or_left, or_right, leb-false, eqb-true, eq-eqb, lt-ltb, le-ltb, ltb-false}
 use Rattle.std.proofs.lemmas.List.{length-map, take_all}
 use Rattle.backgrounds.specs.Backgrounds.{IsLogSet}
 use Rattle.memory_desc.specs.Descriptions.{IsBackgrounds}
@@ -76,24 +76,20 @@ too_many_listed ws count e h =
     let more : nat_lt 8 (length (word_values ws)) ≡ true = lt-ltb 8 (length (word_values ws)) (let m = length-map ws (digits_value 16) in omega arith) in
     rw more refl
 
-pub without_solid_listed : (ws : List (List ℕ)) (first : List ℕ) (count : ℕ) → first ≡ take 8 (word_values ws) → count ≡ length ws → count ≤ 8 → (Contains first 0 → ⊥)
+pub without_solid_listed : (ws : List (List ℕ)) (first : List ℕ) (count : ℕ) → first ≡ take 8 (word_values ws) → count ≡ length ws → count ≤ 8 → list_any (λ w. w == 0) first ≡ false
     → AcceptsBackgrounds (word_values ws) (Err NoSolidBackground)
 without_solid_listed ws first count e n h none =
     let set = word_values ws in
-    let same = whole ws first count e n h in
-    let off : list_any (λ w. w == 0) set ≡ false = elim (cases_Bool (list_any (λ w. w == 0) set)) [
-      | inl y ↦ absurd (none (subst (λ (s : List ℕ). Contains s 0) (sym same) (zero_in set y)))
-      | inr y ↦ y
-    ] in
+    let off : list_any (λ w. w == 0) set ≡ false = ap (list_any (λ w. w == 0)) (sym (whole ws first count e n h)) ∙ none in
     few_of set (Err NoSolidBackground) (Unless (without_solid set) (Err NoSolidBackground) (Err NoSolidBackground ≡ Ok set)) (le-ltb 8 (length set) (few_words ws count n h))
     (rw off refl)
 
-pub keeps_listed : (ws : List (List ℕ)) (first : List ℕ) (count : ℕ) → first ≡ take 8 (word_values ws) → count ≡ length ws → count ≤ 8 → Contains first 0
+pub keeps_listed : (ws : List (List ℕ)) (first : List ℕ) (count : ℕ) → first ≡ take 8 (word_values ws) → count ≡ length ws → count ≤ 8 → list_any (λ w. w == 0) first ≡ true
     → AcceptsBackgrounds (word_values ws) (Ok first)
 keeps_listed ws first count e n h some =
     let set = word_values ws in
     let same = whole ws first count e n h in
-    subst (λ (s : List ℕ). AcceptsBackgrounds set (Ok s)) (sym same) (keeps set (few_words ws count n h) (subst (λ (s : List ℕ). Contains s 0) same some))
+    subst (λ (s : List ℕ). AcceptsBackgrounds set (Ok s)) (sym same) (keeps set (few_words ws count n h) (zero_in set (ap (list_any (λ w. w == 0)) (sym same) ∙ some)))
 
 -- ---- what a line, or none, chooses
 

@@ -69,13 +69,6 @@ pub fn scramble_from(bytes: &[u8], scrambled: bool, width: u8) -> Result<Scrambl
     }
 }
 
-/// Whether one of the backgrounds is 0.
-fn has_solid(set: &[u64]) -> bool
-    ensures { IsTrue result ↔ Contains set.now 0 }
-{
-    set.iter().any(|word| *word == 0)
-}
-
 /// The backgrounds that a line lists.
 fn listed(text: &[u8]) -> Result<ArrayVec<u64, 8>, MemoryFault>
     ensures { (ws : List (List ℕ)) → ContentText text.now (backgrounds ws) → MatchResult result (λ b. AcceptsBackgrounds (word_values ws) (Ok b.items)) (λ fault. AcceptsBackgrounds (word_values ws) (Err fault)) }
@@ -84,7 +77,7 @@ fn listed(text: &[u8]) -> Result<ArrayVec<u64, 8>, MemoryFault>
     if words.count > 8 {
         return Err(MemoryFault::TooManyBackgrounds);
     }
-    if !has_solid(words.first.as_slice()) {
+    if !words.first.as_slice().contains(&0) {
         return Err(MemoryFault::NoSolidBackground);
     }
     Ok(words.first)

@@ -5,7 +5,7 @@ ghost use Rattle.bist_text.specs.Grammar.{is_blank};
 ghost use Rattle.memory_desc.specs.LinePlaces.{step, value, argument_begun, begun, content_begun, ended, is_digit_of, later_begun, letter_begun, letter_of, most_digits, opened, row_ended, term_ended, word_ended};
 
 /// The kinds of content lines, by their first word.
-#[derive(Clone, Copy, Debug, PartialEq, Eq)]
+#[derive(Clone, Copy)]
 pub enum Key {
     Memory,
     Name,
@@ -19,14 +19,14 @@ pub enum Key {
 }
 
 /// The versions of the form. Version 2 has lines for the latency, the polarity and the pause besides.
-#[derive(Clone, Copy, Debug, PartialEq, Eq)]
+#[derive(Clone, Copy)]
 pub enum Version {
     One,
     Two,
 }
 
 /// Where in a line a reader stands. A number counts the bytes of a word or a number that are read.
-#[derive(Clone, Copy, Debug)]
+#[derive(Clone, Copy)]
 pub enum Place {
     /// Before a line that may only be a `memory` line.
     Opening,
