@@ -1,8 +1,8 @@
-ghost use Rattle.std.specs.Prelude.{◌≡◌, ◌≤◌, length, slice_get};
-ghost use Rattle.memory_desc.specs.Names.{is_letter, is_digit, is_name_byte};
-ghost use Rattle.memory_desc.specs.LineText.{is_hex, key_text};
+ghost use Rattle.std.specs.Prelude.{◌≡◌, ◌≤◌, ◌<◌, ◌&&◌, nat_lt, length, slice_get, IsTrue};
+ghost use Rattle.memory_desc.specs.Names.{is_letter, is_name_byte};
+ghost use Rattle.memory_desc.specs.LineText.{key_text};
 ghost use Rattle.bist_text.specs.Grammar.{is_blank};
-ghost use Rattle.memory_desc.specs.LinePlaces.{step, value, argument_begun, begun, content_begun, ended, is_digit_of, later_begun, letter_begun, letter_of, most_digits, opened, row_ended, term_ended, word_ended};
+ghost use Rattle.memory_desc.specs.LinePlaces.{step, value, argument_begun, begun, content_begun, ended, is_digit_of, letter_begun, letter_of, most_digits, opened, row_ended, term_ended, word_ended};
 
 /// The kinds of content lines, by their first word.
 #[derive(Clone, Copy)]
@@ -65,12 +65,6 @@ pub fn is_blank(byte: u8) -> bool
     byte == b' ' || byte == b'\t' || byte == b'\r'
 }
 
-pub fn is_digit(byte: u8) -> bool
-    ensures { result ≡ is_digit byte }
-{
-    byte >= b'0' && byte <= b'9'
-}
-
 pub fn is_letter(byte: u8) -> bool
     ensures { result ≡ is_letter byte }
 {
@@ -80,33 +74,18 @@ pub fn is_letter(byte: u8) -> bool
 pub fn is_name_byte(byte: u8) -> bool
     ensures { result ≡ is_name_byte byte }
 {
-    is_letter(byte) || is_digit(byte) || byte == b'$'
+    is_letter(byte) || byte.is_ascii_digit() || byte == b'$'
 }
 
-pub fn is_hex(byte: u8) -> bool
-    ensures { result ≡ is_hex byte }
-{
-    is_digit(byte) || (byte >= b'a' && byte <= b'f') || (byte >= b'A' && byte <= b'F')
-}
-
-/// Whether a byte is a digit of the number that a line of a kind has. A polarity is a word.
-fn is_digit_of(key: Key, byte: u8) -> bool
-    ensures { result ≡ is_digit_of key byte }
+/// Whether a byte is one more digit of the number that a line of a kind has, of which so many are read. A polarity
+/// is a word.
+fn is_digit_of(key: Key, count: u8, byte: u8) -> bool
+    ensures digit { result ≡ (is_digit_of key byte && nat_lt count (most_digits key)) }
+    ensures few { IsTrue result → count < 16 }
 {
     match key {
-        Key::Polarity => is_hex(byte),
-        _ => is_digit(byte),
-    }
-}
-
-/// How many digits that number may have.
-fn most_digits(key: Key) -> u8
-    ensures count { result ≡ most_digits key }
-    ensures few { result ≤ 16 }
-{
-    match key {
-        Key::Polarity => 16,
-        _ => 9,
+        Key::Polarity => byte.is_ascii_hexdigit() && count < 16,
+        _ => byte.is_ascii_digit() && count < 9,
     }
 }
 
@@ -137,7 +116,7 @@ pub fn place_after(place: Place, byte: u8) -> Option<Place>
             }
         }
         Place::Number(key, count) => {
-            if is_digit_of(key, byte) && count < most_digits(key) {
+            if is_digit_of(key, count, byte) {
                 Some(Place::Number(key, count + 1))
             } else if count == 0 {
                 None
@@ -154,7 +133,7 @@ pub fn place_after(place: Place, byte: u8) -> Option<Place>
         }
         Place::End(key) => end(key, byte),
         Place::RowNumber(count) => {
-            if is_digit(byte) && count < 9 {
+            if byte.is_ascii_digit() && count < 9 {
                 Some(Place::RowNumber(count + 1))
             } else if count == 0 {
                 None
@@ -170,7 +149,7 @@ pub fn place_after(place: Place, byte: u8) -> Option<Place>
             _ => None,
         },
         Place::TermNumber(count) => {
-            if is_digit(byte) && count < 9 {
+            if byte.is_ascii_digit() && count < 9 {
                 Some(Place::TermNumber(count + 1))
             } else if count == 0 {
                 None
@@ -182,7 +161,7 @@ pub fn place_after(place: Place, byte: u8) -> Option<Place>
         Place::LetterL => (byte == b'o').then_some(Place::LetterO),
         Place::LetterO => (byte == b'g').then_some(Place::End(Key::Backgrounds)),
         Place::Hex(count) => {
-            if is_hex(byte) && count < 16 {
+            if byte.is_ascii_hexdigit() && count < 16 {
                 Some(Place::Hex(count + 1))
             } else if count == 0 {
                 None
@@ -190,7 +169,7 @@ pub fn place_after(place: Place, byte: u8) -> Option<Place>
                 word_end(byte)
             }
         }
-        Place::HexEnd if is_hex(byte) => Some(Place::Hex(1)),
+        Place::HexEnd if byte.is_ascii_hexdigit() => Some(Place::Hex(1)),
         Place::HexEnd => word_end(byte),
     }
 }
@@ -218,23 +197,17 @@ fn begin(version: Version, byte: u8) -> Option<Place>
     }
 }
 
+/// The first letter of a line of a version.
 fn first_letter(version: Version, byte: u8) -> Option<Place>
     ensures { result ≡ content_begun version byte }
 {
     match version {
         Version::One => letter_of_both(byte),
-        Version::Two => letter_of_two(byte),
-    }
-}
-
-/// The first letter of a line of version 2.
-fn letter_of_two(byte: u8) -> Option<Place>
-    ensures { result ≡ later_begun byte }
-{
-    match byte {
-        b'l' => Some(Place::Letters(Key::Latency, 1)),
-        b'p' => Some(Place::LetterP),
-        _ => letter_of_both(byte),
+        Version::Two => match byte {
+            b'l' => Some(Place::Letters(Key::Latency, 1)),
+            b'p' => Some(Place::LetterP),
+            _ => letter_of_both(byte),
+        },
     }
 }
 
@@ -286,13 +259,13 @@ fn argument(key: Key, byte: u8) -> Option<Place>
 {
     match key {
         Key::Memory | Key::Words | Key::Bits | Key::Latency | Key::Pause => {
-            is_digit(byte).then_some(Place::Number(key, 1))
+            byte.is_ascii_digit().then_some(Place::Number(key, 1))
         }
-        Key::Polarity => is_hex(byte).then_some(Place::Number(key, 1)),
+        Key::Polarity => byte.is_ascii_hexdigit().then_some(Place::Number(key, 1)),
         Key::Name => is_letter(byte).then_some(Place::Name),
         Key::Scramble => (byte == b'a').then_some(Place::RowNumber(0)),
         Key::Backgrounds if byte == b'l' => Some(Place::LetterL),
-        Key::Backgrounds => is_hex(byte).then_some(Place::Hex(1)),
+        Key::Backgrounds => byte.is_ascii_hexdigit().then_some(Place::Hex(1)),
     }
 }
 
