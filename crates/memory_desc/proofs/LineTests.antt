@@ -6,7 +6,7 @@ use Rattle.std.specs.Prelude.{nat_le, nat_lt}
 use Rattle.std.specs.List.{list_any}
 use Rattle.std.specs.Str.Parse.{digits_value}
 use Rattle.bist_text.specs.declared.text_lines.Line.{Line}
-use Rattle.memory_desc.specs.LineText.{Term, index_bit, constant, Content, version, name, words, bits, latency, polarity, pause, scramble, log, backgrounds, kind_of, ContentText}
+use Rattle.memory_desc.specs.LineText.{Term, index_bit, constant, Content, name, polarity, scramble, log, backgrounds, kind_of, ContentText}
 use Rattle.bist_text.specs.ReservedWords.{is_among, reserved_words}
 use Rattle.memory_desc.specs.Statements.{Statement}
 use Rattle.memory_desc.specs.Subjects.{subject, is_same, about}
@@ -20,6 +20,8 @@ use Rattle.memory_desc.specs.declared.content.Subject.TheVariants.{Version, Name
 use Rattle.memory_desc.specs.declared.content.Words.{Words as WordsRead}
 use Rattle.memory_desc.specs.declared.line_place.Key.TheVariants.{Backgrounds as BackgroundsKey}
 use Rattle.memory_desc.proofs.LinePieces.{at_bool}
+use Rattle.memory_desc.proofs.Stated.{is_ranged, least, most, has_digits}
+use Rattle.memory_desc.proofs.Repeats.{self_same}
 
 -- ---- two subjects
 
@@ -63,31 +65,11 @@ none_differs q ss n c e h = let same : q ≡ subject c = cc in go (about (subjec
 
 -- ---- ranges
 
--- a number outside a range
-abbrev outside : ℕ → ℕ → ℕ → Bool
-outside low high n = nat_lt n low || nat_lt high n
-
--- the number that a line about something says
-abbrev pub is_number_outside : Subject → ℕ → Bool
-is_number_outside Words n = outside 2 65536 n
-is_number_outside Bits n = outside 1 64 n
-is_number_outside Latency n = outside 1 4 n
-is_number_outside Pause n = outside 1 65535 n
-is_number_outside q n = false
-
-pub number_ranged : (q : Subject) (b : List ℕ) (n : ℕ) (t : Bool) (c : Content) → ContentText b c → q ≡ subject c → (q ≡ Name → ⊥)
-    → ((c : Content) (ds : List ℕ) → ContentText b c → digits_in c ≡ Some ds → n ≡ digits_value 10 ds) → t ≡ is_number_outside q n → t ≡ is_out_of_range c
-number_ranged Words b n t (words ds) h e o f k = k ∙ ap (outside 2 65536) (f (words ds) ds h refl)
-number_ranged Bits b n t (bits ds) h e o f k = k ∙ ap (outside 1 64) (f (bits ds) ds h refl)
-number_ranged Latency b n t (latency ds) h e o f k = k ∙ ap (outside 1 4) (f (latency ds) ds h refl)
-number_ranged Pause b n t (pause ds) h e o f k = k ∙ ap (outside 1 65535) (f (pause ds) ds h refl)
-number_ranged Name b n t c h e o f k = absurd (o refl)
-number_ranged Version b n t (version ds) h e o f k = k
-number_ranged Polarity b n t (polarity w) h e o f k = k
-number_ranged (Row j) b n t (scramble i ts) h e o f k = k
-number_ranged Backgrounds b n t log h e o f k = k
-number_ranged Backgrounds b n t (backgrounds ws) h e o f k = k
-number_ranged q b n t c h e o f k = (let z : ⊥ = cc in absurd z)
+pub number_ranged : (q : Subject) (b : List ℕ) (n : ℕ) (t : Bool) (c : Content) → is_ranged q ≡ true → ContentText b c → q ≡ subject c
+    → ((c : Content) (ds : List ℕ) → ContentText b c → digits_in c ≡ Some ds → n ≡ digits_value 10 ds) → t ≡ (nat_lt n (least q) || nat_lt (most q) n) → t ≡ is_out_of_range c
+number_ranged q b n t c r h e f k =
+    let d = has_digits q c r (ap (is_same q) (sym e) ∙ self_same q) in
+    k ∙ ap (λ n. nat_lt n (least q) || nat_lt (most q) n) (f c d.digits h d.written) ∙ sym d.tested
 
 pub name_ranged : (b r : List ℕ) (t : Bool) (c : Content) → ContentText b c → Name ≡ subject c
     → ((n : List ℕ) → ContentText b (name n) → r ≡ n) → t ≡ (nat_lt 48 (length r) || is_among r reserved_words) → t ≡ is_out_of_range c

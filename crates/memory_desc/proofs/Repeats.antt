@@ -31,7 +31,7 @@ pub record Tested (lines : List TextLine) (l : TextLine) (before met : List ℕ)
 
 -- ---- subjects
 
-self_same : (q : Subject) → is_same q q ≡ true
+pub self_same : (q : Subject) → is_same q q ≡ true
 self_same Version = refl
 self_same Name = refl
 self_same Words = refl

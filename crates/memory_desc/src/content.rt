@@ -6,6 +6,7 @@ ghost use Rattle.std.specs.Str.Parse.{digits_value};
 ghost use Rattle.memory_desc.specs.Names.{is_digit};
 ghost use Rattle.memory_desc.specs.LineText.{Content, Term, name, polarity, scramble, backgrounds, kind_of, is_number, is_word, is_term, term_text, more_terms, equation, argument, tail, ContentText, LineText};
 ghost use Rattle.memory_desc.specs.LineRest.{words_left};
+ghost use Rattle.memory_desc.specs.Subjects.{subject};
 ghost use Rattle.memory_desc.specs.Standing.{digits_in, is_log, subject_in, IsRow, AreWords};
 ghost use Rattle.memory_desc.specs.ContentParts.{after, IsTerm, terms_left, NextTerm, Gathers, NextWord, Collects};
 ghost use Rattle.bist_text.specs.Cursors.{left_of};
@@ -276,20 +277,29 @@ fn with_word(mut words: Words, word: u64) -> Words
     }
 }
 
+/// What a content line of a kind speaks of.
+fn subject_of_kind(text: &[u8], key: Key) -> Subject
+    ensures { (c : Content) → ContentText text.now c → kind_of c ≡ key → result ≡ subject c }
+{
+    match key {
+        Key::Memory => Subject::Version,
+        Key::Name => Subject::Name,
+        Key::Words => Subject::Words,
+        Key::Bits => Subject::Bits,
+        Key::Latency => Subject::Latency,
+        Key::Polarity => Subject::Polarity,
+        Key::Pause => Subject::Pause,
+        Key::Scramble => Subject::Row(row_of(text).bit),
+        Key::Backgrounds => Subject::Backgrounds,
+    }
+}
+
 /// What a line speaks of; None where it has no content.
 pub fn subject_of(text: &[u8]) -> Option<Subject>
     ensures { (v : Option Content) → LineText text.now v → result ≡ subject_in v }
 {
     match read_line(text, Place::Begin(Version::Two)) {
-        Ok(Some(Key::Memory)) => Some(Subject::Version),
-        Ok(Some(Key::Name)) => Some(Subject::Name),
-        Ok(Some(Key::Words)) => Some(Subject::Words),
-        Ok(Some(Key::Bits)) => Some(Subject::Bits),
-        Ok(Some(Key::Latency)) => Some(Subject::Latency),
-        Ok(Some(Key::Polarity)) => Some(Subject::Polarity),
-        Ok(Some(Key::Pause)) => Some(Subject::Pause),
-        Ok(Some(Key::Scramble)) => Some(Subject::Row(row_of(text).bit)),
-        Ok(Some(Key::Backgrounds)) => Some(Subject::Backgrounds),
+        Ok(Some(key)) => Some(subject_of_kind(text, key)),
         Ok(None) => None,
         Err(_) => None,
     }

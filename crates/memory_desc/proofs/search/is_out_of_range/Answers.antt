@@ -1,4 +1,4 @@
-use Rattle.std.proofs.Common.{◌∙◌, ◌||◌, length, sym, ap}
+use Rattle.std.proofs.Common.{refl, ◌∙◌, ◌||◌, length, sym, ap}
 use Rattle.std.proofs.lemmas.Bool.{lt-ltb, le-ltb}
 use Rattle.bist_text.specs.ReservedWords.{is_among, reserved_words}
 use Rattle.memory_desc.specs.declared.content.Subject.TheVariants.{Words, Bits, Latency, Pause}
@@ -17,13 +17,13 @@ returns-else-name-gt48 c = λ x h e.
     name_ranged c.args.text.now r c.is_reserved.result x h (sym c.in-Name.is ∙ e) c.name_of-name.ensures (c.is_reserved.ensures ∙ sym (ap (λ t. t || is_among r reserved_words) (le-ltb 48 (length r) c.if-name-gt48.false)))
 
 pub returns-in-Words : goal.returns-in-Words
-returns-in-Words c = λ x h e. number_ranged Words c.args.text.now c.number_of.result c.is_outside.result x h (sym c.in-Words.is ∙ e) (λ o. cc) c.number_of.ensures c.is_outside.ensures
+returns-in-Words c = λ x h e. number_ranged Words c.args.text.now c.number_of.result c.is_outside.result x refl h (sym c.in-Words.is ∙ e) c.number_of.ensures c.is_outside.ensures
 
 pub returns-in-Bits : goal.returns-in-Bits
-returns-in-Bits c = λ x h e. number_ranged Bits c.args.text.now c.number_of-in-Bits.result c.is_outside-in-Bits.result x h (sym c.in-Bits.is ∙ e) (λ o. cc) c.number_of-in-Bits.ensures c.is_outside-in-Bits.ensures
+returns-in-Bits c = λ x h e. number_ranged Bits c.args.text.now c.number_of-in-Bits.result c.is_outside-in-Bits.result x refl h (sym c.in-Bits.is ∙ e) c.number_of-in-Bits.ensures c.is_outside-in-Bits.ensures
 
 pub returns-in-Latency : goal.returns-in-Latency
-returns-in-Latency c = λ x h e. number_ranged Latency c.args.text.now c.number_of-in-Latency.result c.is_outside-in-Latency.result x h (sym c.in-Latency.is ∙ e) (λ o. cc) c.number_of-in-Latency.ensures c.is_outside-in-Latency.ensures
+returns-in-Latency c = λ x h e. number_ranged Latency c.args.text.now c.number_of-in-Latency.result c.is_outside-in-Latency.result x refl h (sym c.in-Latency.is ∙ e) c.number_of-in-Latency.ensures c.is_outside-in-Latency.ensures
 
 pub returns-in-Pause : goal.returns-in-Pause
-returns-in-Pause c = λ x h e. number_ranged Pause c.args.text.now c.number_of-in-Pause.result c.is_outside-in-Pause.result x h (sym c.in-Pause.is ∙ e) (λ o. cc) c.number_of-in-Pause.ensures c.is_outside-in-Pause.ensures
+returns-in-Pause c = λ x h e. number_ranged Pause c.args.text.now c.number_of-in-Pause.result c.is_outside-in-Pause.result x refl h (sym c.in-Pause.is ∙ e) c.number_of-in-Pause.ensures c.is_outside-in-Pause.ensures
