@@ -190,14 +190,7 @@ key_begins Backgrounds K c b e h = when_false (c == 98) (word (codes "ackgrounds
 
 key_small : (k : Key) → list_all is_small (key_text k) ≡ true
 key_small Memory = refl
-key_small Name = refl
-key_small Words = refl
-key_small Bits = refl
-key_small Latency = refl
-key_small Polarity = refl
-key_small Pause = refl
-key_small Scramble = refl
-key_small Backgrounds = refl
+key_small k = refl
 
 argument_begins : (c : Content) → is_formed c ≡ true → Never is_blank (argument c tail)
 argument_begins (version ds) f x b e h = blank_number ds tail x b f e h

@@ -73,12 +73,8 @@ number_said (version es) ds b r f e h v = let same : es ≡ ds = cc in (number_r
 number_said (words es) ds b r f e h v = let same : es ≡ ds = cc in (number_read es tail b r f tail_number h v).0 ∙ ap (digits_value 10) same
 number_said (bits es) ds b r f e h v = let same : es ≡ ds = cc in (number_read es tail b r f tail_number h v).0 ∙ ap (digits_value 10) same
 number_said (latency es) ds b r f e h v = let same : es ≡ ds = cc in (number_read es tail b r f tail_number h v).0 ∙ ap (digits_value 10) same
-number_said (polarity w) ds b r f e h v = cc
 number_said (pause es) ds b r f e h v = let same : es ≡ ds = cc in (number_read es tail b r f tail_number h v).0 ∙ ap (digits_value 10) same
-number_said (name n) ds b r f e h v = cc
-number_said (scramble i ts) ds b r f e h v = cc
-number_said log ds b r f e h v = cc
-number_said (backgrounds ws) ds b r f e h v = cc
+number_said c ds b r f e h v = cc
 
 -- ---- names
 
@@ -99,20 +95,12 @@ is_first (Some y) x e = let same : y ≡ x = cc in ap (λ (z : ℕ). z == 108) s
 
 pub log_said : (c : Content) (b : List ℕ) (o : Option ℕ) → o ≡ slice_get b 0 → is_formed c ≡ true → kind_of c ≡ Backgrounds → argument c tail b
     → option_eq nat_eq o (Some 108) ≡ is_log c
-log_said (version es) b o p f e h = cc
-log_said (words es) b o p f e h = cc
-log_said (bits es) b o p f e h = cc
-log_said (latency es) b o p f e h = cc
-log_said (polarity es) b o p f e h = cc
-log_said (pause es) b o p f e h = cc
-log_said (name n) b o p f e h = cc
-log_said (scramble i ts) b o p f e h = cc
 log_said log b o p f e h = is_first o 108 (p ∙ (first_byte 108 (codes "og") tail b h).0)
 log_said (backgrounds []) b o p f e h = absurd h
-log_said (backgrounds ([] ∷ ws)) b o p f e h = cc
 log_said (backgrounds ((d ∷ ds) ∷ ws)) b o p f e h =
     let hex : is_hex d ≡ true = (and_parts (is_hex d) (list_all is_hex ds) (run_parts is_hex 16 (d ∷ ds) (and_parts (is_word (d ∷ ds)) (list_all is_word ws) f).0).0).0 in
     is_first o d (p ∙ (first_byte d ds (more_words ws tail) b h).0) ∙ apart is_hex d 108 hex refl
+log_said c b o p f e h = cc
 
 -- ---- terms
 

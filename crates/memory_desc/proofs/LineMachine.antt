@@ -36,14 +36,7 @@ no_gap (c ∷ w) K h = h
 
 no_key : (k : Key) (K : List ℕ → Type 0) → word (key_text k) K [] → ⊥
 no_key Memory K h = h
-no_key Name K h = h
-no_key Words K h = h
-no_key Bits K h = h
-no_key Latency K h = h
-no_key Polarity K h = h
-no_key Pause K h = h
-no_key Scramble K h = h
-no_key Backgrounds K h = h
+no_key k K h = h
 
 line_ends : (allowed : Key → Type 0) (v : Option Key) → LineOf allowed [] v ↔ (Some None ≡ Some v)
 line_ends allowed v =
@@ -150,58 +143,23 @@ example_text Backgrounds = codes "log"
 
 example_kind : (k : Key) → kind_of (example k) ≡ k
 example_kind Memory = refl
-example_kind Name = refl
-example_kind Words = refl
-example_kind Bits = refl
-example_kind Latency = refl
-example_kind Polarity = refl
-example_kind Pause = refl
-example_kind Scramble = refl
-example_kind Backgrounds = refl
+example_kind k = refl
 
 example_formed : (k : Key) → is_formed (example k) ≡ true
 example_formed Memory = refl
-example_formed Name = refl
-example_formed Words = refl
-example_formed Bits = refl
-example_formed Latency = refl
-example_formed Polarity = refl
-example_formed Pause = refl
-example_formed Scramble = refl
-example_formed Backgrounds = refl
+example_formed k = refl
 
 example_bytes : (k : Key) → are_bytes (example_text k) ≡ true
 example_bytes Memory = refl
-example_bytes Name = refl
-example_bytes Words = refl
-example_bytes Bits = refl
-example_bytes Latency = refl
-example_bytes Polarity = refl
-example_bytes Pause = refl
-example_bytes Scramble = refl
-example_bytes Backgrounds = refl
+example_bytes k = refl
 
 key_bytes : (k : Key) → are_bytes (key_text k) ≡ true
 key_bytes Memory = refl
-key_bytes Name = refl
-key_bytes Words = refl
-key_bytes Bits = refl
-key_bytes Latency = refl
-key_bytes Polarity = refl
-key_bytes Pause = refl
-key_bytes Scramble = refl
-key_bytes Backgrounds = refl
+key_bytes k = refl
 
 example_is : (k : Key) → space (argument (example k) tail) (example_text k)
-example_is Memory = inl tt
-example_is Name = inl tt
-example_is Words = inl tt
-example_is Bits = inl tt
-example_is Latency = inl tt
-example_is Polarity = inl tt
-example_is Pause = inl tt
 example_is Scramble = inl (inl (inl tt))
-example_is Backgrounds = inl tt
+example_is k = inl tt
 
 -- a run that goes on to what may follow it
 run_goes_on : (p : ℕ → Bool) (most n d : ℕ) (K : List ℕ → Type 0) (b : List ℕ) → p d ≡ true → 1 ≤ most → are_bytes (d ∷ b) ≡ true → are_bytes b ≡ true → K b

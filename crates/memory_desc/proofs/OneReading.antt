@@ -273,14 +273,7 @@ letters_plain = record { space_no = refl; tab_no = refl; return_no = refl; hash_
 
 key_letters : (k : Key) → (list_all is_letter (key_text k) ≡ true) × (1 ≤ length (key_text k))
 key_letters Memory = (refl, omega arith)
-key_letters Name = (refl, omega arith)
-key_letters Words = (refl, omega arith)
-key_letters Bits = (refl, omega arith)
-key_letters Latency = (refl, omega arith)
-key_letters Polarity = (refl, omega arith)
-key_letters Pause = (refl, omega arith)
-key_letters Scramble = (refl, omega arith)
-key_letters Backgrounds = (refl, omega arith)
+key_letters k = (refl, omega arith)
 
 -- tells the first words apart
 abbrev front : List ℕ → ℕ
