@@ -12,27 +12,12 @@ use Rattle.memory_desc.specs.declared.line_place.Place.TheVariants.{Wanted, Numb
 use Rattle.memory_desc.specs.LineText.{Term, Content, version, name, words, bits, latency, polarity, pause, scramble, log, backgrounds, kind_of, is_hex, is_number, is_word, is_term, is_formed, space, tail, equation, more_words, argument}
 use Rattle.memory_desc.specs.LinePlaces.{argument_begun, is_digit_of, most_digits}
 use Rattle.memory_desc.specs.LineRest.{Run, Names, Of, Terms, HexWords, rest}
-use Rattle.memory_desc.proofs.LinePieces.{at_bool, when_true, when_false, when_holds, apart, space_on, space_off}
-use Rattle.memory_desc.proofs.LineRefusals.{blank_word}
+use Rattle.memory_desc.proofs.LinePieces.{at_bool, when_true, when_false, when_holds, space_on, space_off}
+use Rattle.memory_desc.proofs.LineStops.{argument_stops}
 use Rattle.memory_desc.proofs.LineLaws.{Law, second, of_iff}
-use Rattle.memory_desc.proofs.LineStarts.{is_run, run_parts, run_of, run_begins, no_run, blank_run}
+use Rattle.memory_desc.proofs.LineStarts.{is_run, run_parts, run_of, run_begins, no_run}
 
 -- ---- behind the first word
-
-blank_argument : (x : Content) (c : ℕ) (b : List ℕ) → is_formed x ≡ true → is_blank c ≡ true → argument x tail (c ∷ b) → ⊥
-blank_argument (version ds) c b n e w = blank_run is_digit 9 ds tail c b refl refl refl n e w
-blank_argument (name []) c b n e w = (let z : ⊥ = cc in z)
-blank_argument (name (d ∷ ds)) c b n e w = blank_word is_letter d ds tail c b refl refl refl (and_parts (is_letter d) (list_all is_name_byte ds) n).0 e w
-blank_argument (words ds) c b n e w = blank_run is_digit 9 ds tail c b refl refl refl n e w
-blank_argument (bits ds) c b n e w = blank_run is_digit 9 ds tail c b refl refl refl n e w
-blank_argument (latency ds) c b n e w = blank_run is_digit 9 ds tail c b refl refl refl n e w
-blank_argument (polarity w) c b n e h = blank_run is_hex 16 w tail c b refl refl refl n e h
-blank_argument (pause ds) c b n e w = blank_run is_digit 9 ds tail c b refl refl refl n e w
-blank_argument (scramble i ts) c b n e w = when_false (c == 97) (word i (equation ts tail) b) (apart is_blank c 97 e refl) w
-blank_argument log c b n e w = when_false (c == 108) (word (111 ∷ 103 ∷ []) tail b) (apart is_blank c 108 e refl) w
-blank_argument (backgrounds []) c b n e w = w
-blank_argument (backgrounds (v ∷ vs)) c b n e w =
-    blank_run is_hex 16 v (more_words vs tail) c b refl refl refl (and_parts (is_word v) (list_all is_word vs) n).0 e w
 
 -- a number, in a content line of a kind that has one
 pub some_digits : (key : Key) → 1 ≤ most_digits key
@@ -175,6 +160,6 @@ pub goes_wanted : (key : Key) (c : ℕ) (b : List ℕ) (v : Option Key) → Law 
 goes_wanted key c b v =
     at_bool (λ t. rest (Wanted key) (c ∷ b) v ↔ Holds (if t then Some (Wanted key) else argument_begun key c) (λ t. rest t b v)) (is_blank c)
     (λ e. second (of_iff key (λ x. space (argument x tail)) (λ x. space (argument x tail)) (c ∷ b) b
-    (λ x n. space_on (argument x tail) c b e (blank_argument x c b n e))))
+    (λ x n. space_on (argument x tail) c b e (argument_stops x n c b e))))
     (λ e. also (second (of_iff key (λ x. space (argument x tail)) (λ x. argument x tail) (c ∷ b) (c ∷ b)
     (λ x n. space_off (argument x tail) c b e))) (argument_begins key c b v))
