@@ -203,29 +203,20 @@ fn with_term(row: Row, term: Summand) -> Row
     ensures gathers { (t : Term) (left ts : List Term) → IsTerm t term → Gathers row (t ∷ left) ts → Gathers result left ts }
 {
     match term {
-        Summand::IndexBit(bit) => with_index_bit(row, bit),
+        Summand::IndexBit(bit) => Row {
+            names: if bit < 16 {
+                row.names ^ (1 << bit)
+            } else {
+                row.names
+            },
+            highest: row.highest.max(bit),
+            ..row
+        },
         Summand::Constant(false) => row,
         Summand::Constant(true) => Row {
             constant: !row.constant,
             ..row
         },
-    }
-}
-
-fn with_index_bit(row: Row, bit: u32) -> Row
-    ensures bit { result.bit ≡ row.bit }
-    ensures constant { result.constant ≡ row.constant }
-    ensures highest { result.highest ≡ max row.highest bit }
-    ensures names { bit < 16 → result.names ≡ bit_xor row.names (2 ^ bit) }
-{
-    Row {
-        names: if bit < 16 {
-            row.names ^ (1 << bit)
-        } else {
-            row.names
-        },
-        highest: row.highest.max(bit),
-        ..row
     }
 }
 

@@ -43,25 +43,16 @@ fn is_sought(text: &[u8], own: Subject, sought: Sought) -> bool
     }
 }
 
-/// Whether a line is sought. One without content is not.
-fn is_sought_line(text: &[u8], sought: Sought) -> bool
-    requires { IsPosed sought }
-    ensures content { (c : Content) → ContentText text.now c → result ≡ is_sought sought c }
-    ensures none { LineText text.now None → result ≡ false }
-{
-    match subject_of(text) {
-        Some(own) => is_sought(text, own, sought),
-        None => false,
-    }
-}
-
 /// The first line that is sought.
 fn first_line<'a>(bytes: &'a [u8], sought: Sought) -> Option<Line<'a>>
     requires { IsPosed sought }
     ensures { (ss : List Statement) → Say (text_lines bytes.now) ss → StandsAt result (find (λ s. is_sought sought s.content) ss) }
 {
     for line in Lines::new(bytes) {
-        if is_sought_line(line.text, sought) {
+        let Some(own) = subject_of(line.text) else {
+            continue;
+        };
+        if is_sought(line.text, own, sought) {
             return Some(line);
         }
     }
