@@ -1,5 +1,5 @@
 -- The name and the numbers that the statements give, each in its range.
-use Rattle.std.proofs.Common.{◌≡◌, ℕ, ◌-◌, ◌^◌, ◌<◌, ◌≤◌, ◌||◌, true, false, List, length, Some, None, Result, sym, ◌∙◌, ap, subst}
+use Rattle.std.proofs.Common.{◌⊎◌, inl, inr, arith, ◌≡◌, ℕ, ◌-◌, ◌^◌, ◌<◌, ◌≤◌, ◌||◌, true, false, List, length, Some, None, Result, sym, ◌∙◌, ap, subst}
 use Rattle.std.specs.Prelude.{nat_lt}
 use Rattle.std.specs.Str.Parse.{digits_value}
 use Rattle.std.proofs.lemmas.Bool.{or_parts, ltb-false, leb-false}
@@ -9,18 +9,18 @@ use Rattle.memory_desc.specs.Descriptions.{Description}
 use Rattle.memory_desc.specs.LineText.{Content, name, polarity, ContentText}
 use Rattle.memory_desc.specs.Names.{IsName}
 use Rattle.bist_text.specs.ReservedWords.{is_among, reserved_words}
-use Rattle.memory_desc.specs.Standing.{StandsAt, digits_in}
+use Rattle.memory_desc.specs.Standing.{is_ranged, least, most, value_in, StandsAt, digits_in}
 use Rattle.memory_desc.specs.Statements.{Statement}
 use Rattle.memory_desc.specs.Subjects.{about, said}
 use Rattle.memory_desc.specs.Table.{missing, unless_there, repeated, out_of_range, too_wide, Builds, Describes}
-use Rattle.memory_desc.specs.Values.{name_in, polarity_in, name_said, words_said, polarity_said}
+use Rattle.memory_desc.specs.Values.{name_in, polarity_in, name_said, words_said, polarity_said, latency_in, pause_in}
 use Rattle.memory_desc.specs.declared.content.Subject.{Subject}
-use Rattle.memory_desc.specs.declared.content.Subject.TheVariants.{Name, Words, Bits, Polarity}
+use Rattle.memory_desc.specs.declared.content.Subject.TheVariants.{Name, Words, Bits, Polarity, Latency, Pause}
 use Rattle.memory_desc.specs.declared.fault.Field.{Field}
 use Rattle.memory_desc.specs.declared.fault.Field.TheVariants.{Name as NameField, Words as WordsField, Bits as BitsField}
 use Rattle.memory_desc.specs.declared.fault.MemoryFault.{MemoryFault}
 use Rattle.memory_desc.specs.declared.fault.MemoryFault.TheVariants.{Missing}
-use Rattle.memory_desc.proofs.Stated.{stated, says, unstated, name_stated, polarity_stated, in_range, within, is_ranged, least, most, value_in, has_digits}
+use Rattle.memory_desc.proofs.Stated.{stated, says, unstated, name_stated, polarity_stated, in_range, within, has_digits}
 
 -- a field whose line is there isn't missing
 pub not_missing : (q : Subject) (field : Field) (ss : List Statement) (l : Line) → StandsAt (Some l) (about q ss) → missing q field ss ≡ None
@@ -69,9 +69,28 @@ polarity_fits ss l n width size h r f =
     let s = polarity_stated ss l.text.now (stated Polarity ss l h) in
     subst (λ (x : ℕ). x < 2 ^ size) (sym (f s.0 s.1.written)) (leb-false (2 ^ size) (digits_value 16 s.0) (within ss width size Polarity (polarity s.0) r s.1.said_is))
 
+-- a latency or a pause
+abbrev pub IsCycles : Subject → Type 0
+IsCycles q = (q ≡ Latency) ⊎ (q ≡ Pause)
+
+pub is_cycles : (q : Subject) → IsCycles q → is_ranged q ≡ true
+is_cycles q (inl e) = ap is_ranged e
+is_cycles q (inr e) = ap is_ranged e
+
+pub cycles_least : (q : Subject) (n : ℕ) → IsCycles q → least q ≤ n → 1 ≤ n
+cycles_least q n (inl e) h = subst (λ q. least q ≤ n) e h
+cycles_least q n (inr e) h = subst (λ q. least q ≤ n) e h
+
+pub cycles_unsaid : (q : Subject) → IsCycles q → (1 ≤ 1) × (1 ≤ most q)
+cycles_unsaid q (inl e) = (omega arith, subst (λ q. 1 ≤ most q) (sym e) (omega arith))
+cycles_unsaid q (inr e) = (omega arith, subst (λ q. 1 ≤ most q) (sym e) (omega arith))
+
 -- what is so where no line gives them
-pub number_unsaid : (q : Subject) (ss : List Statement) → StandsAt None (about q ss) → value_in q None ≡ value_in q (said q ss)
-number_unsaid q ss h = sym (ap (value_in q) (unstated q ss h))
+pub number_unsaid : (q : Subject) (ss : List Statement) → IsCycles q → StandsAt None (about q ss) → 1 ≡ value_in q (said q ss)
+number_unsaid Latency ss k h = sym (ap latency_in (unstated Latency ss h))
+number_unsaid Pause ss k h = sym (ap pause_in (unstated Pause ss h))
+number_unsaid q ss (inl e) h = (let z : ⊥ = cc in absurd z)
+number_unsaid q ss (inr e) h = (let z : ⊥ = cc in absurd z)
 
 pub polarity_unsaid : (ss : List Statement) → StandsAt None (about Polarity ss) → 0 ≡ polarity_said ss
 polarity_unsaid ss h = sym (ap polarity_in (unstated Polarity ss h))

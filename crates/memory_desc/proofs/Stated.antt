@@ -6,9 +6,8 @@ use Rattle.bist_text.specs.declared.text_lines.Line.{Line}
 use Rattle.memory_desc.specs.LineText.{Content, Term, name, words, bits, latency, polarity, pause, scramble, log, backgrounds, kind_of, ContentText}
 use Rattle.memory_desc.specs.Statements.{Statement}
 use Rattle.memory_desc.specs.Subjects.{subject, is_same, is_about, about, said, content_of}
-use Rattle.memory_desc.specs.Standing.{StandsAt, digits_in}
+use Rattle.memory_desc.specs.Standing.{StandsAt, digits_in, is_ranged, least, most, value_in}
 use Rattle.memory_desc.specs.Table.{at_line, is_too_wide, too_wide, is_out_of_range, out_of_range}
-use Rattle.memory_desc.specs.Values.{number_in, latency_in, pause_in}
 use Rattle.memory_desc.specs.declared.line_place.Key.TheVariants.{Backgrounds as BackgroundsKey}
 use Rattle.memory_desc.specs.declared.content.Subject.{Subject}
 use Rattle.memory_desc.specs.declared.content.Subject.TheVariants.{Name, Words, Bits, Latency, Polarity, Pause, Row, Backgrounds}
@@ -86,30 +85,6 @@ pub polarity_stated : (ss : List Statement) (text : List ℕ) → Stated Polarit
 polarity_stated ss text r = let c = of_polarity r.statement.content r.same in (c.0, subst (Says Polarity ss text) c.1 (says Polarity ss text r))
 
 -- ---- numbers
-
--- whether a subject has a number of a range, and the range
-abbrev pub is_ranged : Subject → Bool
-is_ranged Words = true
-is_ranged Bits = true
-is_ranged Latency = true
-is_ranged Pause = true
-is_ranged q = false
-
-abbrev pub least : Subject → ℕ
-least Words = 2
-least q = 1
-
-abbrev pub most : Subject → ℕ
-most Words = 65536
-most Bits = 64
-most Latency = 4
-most q = 65535
-
--- the number that is said of it
-abbrev pub value_in : Subject → Option Content → ℕ
-value_in Latency o = latency_in o
-value_in Pause o = pause_in o
-value_in q o = number_in o
 
 -- the digits of a line about such a subject
 pub record HasDigits (q : Subject) (c : Content) : Type 0 where

@@ -3,7 +3,7 @@
 ghost use Rattle.std.specs.Prelude.{◌≡◌, ◌+◌, ◌<◌, ◌≤◌, ◌^◌, ◌++◌, ◌∷◌, [], All, Ok, OnOk, IfOk, decimal};
 ghost use Rattle.memory_desc.specs.Descriptions.{IsMemory};
 ghost use Rattle.memory_desc.specs.Table.{Reads};
-ghost use Rattle.memory_desc.specs.Printed.{number_line, name_line, is_plain, version_text, polarity_line, later_lines, background_texts, backgrounds_line, head_lines, index_terms, is_none, joined, separator, term_after, row_terms, row_line, is_identity, scramble_lines, printed};
+ghost use Rattle.memory_desc.specs.Printed.{number_line, name_line, is_plain, version_text, later_lines, background_texts, backgrounds_line, head_lines, index_terms, is_none, joined, separator, term_after, row_terms, row_line, is_identity, scramble_lines, printed};
 
 use crate::memory::Memory;
 use bist_bits::NoMemory;
@@ -54,17 +54,6 @@ fn put_head(out: &mut Vec<u8>, memory: &Memory) -> Result<(), NoMemory>
     put_number_line(out, b"bits ", u64::from(memory.bits()))
 }
 
-/// The polarity, in as many digits as a word needs.
-fn put_polarity_line(out: &mut Vec<u8>, word: u64, bits: u8) -> Result<(), NoMemory>
-    requires width { (1 ≤ bits) × (bits ≤ 64) }
-    requires fits { word < 2 ^ bits }
-    ensures { OnOk result (out.new.items ≡ out.old.items ++ polarity_line bits word) }
-{
-    put(out, b"polarity ")?;
-    put_hex(out, word, (bits + 3) / 4)?;
-    put(out, b"\n")
-}
-
 /// What version 2 says besides, where it is needed.
 fn put_later_lines(out: &mut Vec<u8>, memory: &Memory) -> Result<(), NoMemory>
     ensures { OnOk result (out.new.items ≡ out.old.items ++ later_lines memory.now) }
@@ -73,7 +62,9 @@ fn put_later_lines(out: &mut Vec<u8>, memory: &Memory) -> Result<(), NoMemory>
         return Ok(());
     }
     put_number_line(out, b"latency ", u64::from(memory.latency()))?;
-    put_polarity_line(out, memory.polarity(), memory.bits())?;
+    put(out, b"polarity ")?;
+    put_hex(out, memory.polarity(), (memory.bits() + 3) / 4)?;
+    put(out, b"\n")?;
     put_number_line(out, b"pause ", u64::from(memory.pause()))
 }
 
