@@ -3,7 +3,7 @@
 ghost use Rattle.std.specs.Prelude.{◌≡◌, ◌+◌, ◌<◌, ◌≤◌, ◌^◌, ◌++◌, ◌∷◌, [], All, Ok, OnOk, IfOk, decimal};
 ghost use Rattle.memory_desc.specs.Descriptions.{IsMemory};
 ghost use Rattle.memory_desc.specs.Table.{Reads};
-ghost use Rattle.memory_desc.specs.Printed.{number_line, name_line, is_plain, version_text, later_lines, background_texts, backgrounds_line, head_lines, index_terms, is_none, joined, separator, term_after, row_terms, row_line, is_identity, scramble_lines, printed};
+ghost use Rattle.memory_desc.specs.Printed.{number_line, name_line, is_plain, version_text, later_lines, backgrounds_line, head_lines, index_terms, is_none, joined, separator, term_after, row_terms, row_line, is_identity, scramble_lines, printed};
 
 use crate::memory::Memory;
 use bist_bits::NoMemory;
@@ -156,25 +156,16 @@ fn put_scramble(out: &mut Vec<u8>, scramble: &Scramble) -> Result<(), NoMemory>
 }
 
 /// The backgrounds, each behind a blank, in as many digits as a word needs.
-fn put_background_words(out: &mut Vec<u8>, set: &[u64], bits: u8) -> Result<(), NoMemory>
-    requires width { (1 ≤ bits) × (bits ≤ 64) }
-    requires fit { All (λ b. b < 2 ^ bits) set.now }
-    ensures { OnOk result (out.new.items ≡ out.old.items ++ background_texts bits set.now) }
-{
-    for word in set {
-        put(out, b" ")?;
-        put_hex(out, *word, (bits + 3) / 4)?;
-    }
-    Ok(())
-}
-
 fn put_backgrounds(out: &mut Vec<u8>, set: &[u64], bits: u8) -> Result<(), NoMemory>
     requires width { (1 ≤ bits) × (bits ≤ 64) }
     requires fit { All (λ b. b < 2 ^ bits) set.now }
     ensures { OnOk result (out.new.items ≡ out.old.items ++ backgrounds_line bits set.now) }
 {
     put(out, b"backgrounds")?;
-    put_background_words(out, set, bits)?;
+    for word in set {
+        put(out, b" ")?;
+        put_hex(out, *word, (bits + 3) / 4)?;
+    }
     put(out, b"\n")
 }
 
