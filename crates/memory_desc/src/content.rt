@@ -4,7 +4,7 @@ ghost use Rattle.std.specs.Prelude.{◌≡◌, ◌+◌, ◌<◌, ◌^◌, List, 
 ghost use Rattle.std.specs.List.{list_all, take_while};
 ghost use Rattle.std.specs.Str.Parse.{digits_value};
 ghost use Rattle.memory_desc.specs.Names.{is_digit};
-ghost use Rattle.memory_desc.specs.LineText.{Content, Term, name, polarity, scramble, backgrounds, kind_of, is_number, is_word, is_term, term_text, more_terms, equation, argument, tail, ContentText, LineText};
+ghost use Rattle.memory_desc.specs.LineText.{Content, Term, name, polarity, scramble, backgrounds, kind_of, is_word, is_term, term_text, more_terms, argument, tail, ContentText, LineText};
 ghost use Rattle.memory_desc.specs.LineRest.{words_left};
 ghost use Rattle.memory_desc.specs.Subjects.{subject};
 ghost use Rattle.memory_desc.specs.Standing.{digits_in, is_log, subject_in, IsRow, AreWords};
@@ -144,12 +144,13 @@ pub fn name_of(text: &[u8]) -> &[u8]
     behind_key(text).take_while(NAME_BYTES)
 }
 
-/// The row of a `scramble` line.
+/// The row of a `scramble` line, whose number stands behind an `a`.
 pub fn row_of(text: &[u8]) -> Row
     ensures { (i : List ℕ) (ts : List Term) → ContentText text.now (scramble i ts) → IsRow i ts result }
 {
     let mut cursor = behind_key(text);
-    let bit = row_number(&mut cursor);
+    next_byte(&mut cursor);
+    let bit = number(&mut cursor);
     let mut row = Row {
         bit,
         names: 0,
@@ -160,14 +161,6 @@ pub fn row_of(text: &[u8]) -> Row
         row = with_term(row, term);
     }
     row
-}
-
-/// The number behind the `a` of a row.
-fn row_number(cursor: &mut Cursor<'_>) -> u32
-    ensures { (i : List ℕ) (ts : List Term) → is_number i ≡ true → argument (scramble i ts) tail (left_of cursor.old) → (result ≡ digits_value 10 i) × equation ts tail (left_of cursor.new) }
-{
-    next_byte(cursor);
-    number(cursor)
 }
 
 /// The next term, behind = or ^; None where none follows.
