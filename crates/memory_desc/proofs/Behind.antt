@@ -12,7 +12,7 @@ use Rattle.bist_text.specs.ByteSets.{in_set}
 use Rattle.bist_text.specs.declared.byte_set.ByteSet.{ByteSet}
 use Rattle.bist_text.specs.Cursors.{TextPlace, left_of}
 use Rattle.bist_text.specs.Grammar.{word, many, is_blank}
-use Rattle.memory_desc.specs.Names.{is_digit, is_name_byte}
+use Rattle.memory_desc.specs.Names.{is_digit, is_letter, is_name_byte}
 use Rattle.memory_desc.specs.LineText.{Content, kind_of, is_hex, space, gap, tail, argument, key_text, ContentText}
 use Rattle.memory_desc.specs.declared.line_place.Key.{Key}
 use Rattle.memory_desc.specs.declared.line_place.Key.TheVariants.{Memory}
@@ -108,6 +108,9 @@ hex_low c h = grind (arith, nat_tests)
 name_low : Low is_name_byte
 name_low c h = grind (arith, nat_tests)
 
+letter_low : Low is_letter
+letter_low c h = grind (arith, nat_tests)
+
 -- a letter of a first word
 abbrev pub is_small : ℕ → Bool
 is_small c = nat_le 97 c && nat_le c 122
@@ -134,6 +137,10 @@ hex_have = set_has 9982748479121884238975116247040 is_hex refl hex_low
 pub names_have : Has (record { low = 10633823849912963253799171464200454144; high = 0 }) is_name_byte
 unfolding agree
 names_have = set_has 10633823849912963253799171464200454144 is_name_byte refl name_low
+
+pub starts_have : Has (record { low = 10633823849912963253511222494305976320; high = 0 }) is_letter
+unfolding agree
+starts_have = set_has 10633823849912963253511222494305976320 is_letter refl letter_low
 
 runs_same : (p q : ℕ → Bool) → ((c : ℕ) → p c ≡ q c) → (b : List ℕ) → take_while p b ≡ take_while q b
 runs_same p q f [] = refl

@@ -13,35 +13,11 @@ ghost use Rattle.bist_text.specs.Cursors.{left_of};
 ghost use Rattle.bist_text.specs.Grammar.{word, is_blank};
 ghost use Rattle.bist_text.specs.Numbers.{IsNumber};
 
+use crate::byte_sets::{BLANKS, DIGITS, HEX_DIGITS, LETTERS, NAME_BYTES};
 use crate::line_place::{Key, Place, Version};
 use crate::line_reader::read_line;
 use arrayvec::ArrayVec;
-use bist_text::{ByteSet, Cursor, decimal, hex};
-
-const BLANKS: ByteSet = ByteSet {
-    low: 0x1_0000_2200,
-    high: 0,
-};
-
-const LETTERS: ByteSet = ByteSet {
-    low: 0x07ff_fffe_0000_0000_0000_0000_0000_0000,
-    high: 0,
-};
-
-const DIGITS: ByteSet = ByteSet {
-    low: 0x03ff_0000_0000_0000,
-    high: 0,
-};
-
-const HEX_DIGITS: ByteSet = ByteSet {
-    low: 0x7e_0000_007e_03ff_0000_0000_0000,
-    high: 0,
-};
-
-const NAME_BYTES: ByteSet = ByteSet {
-    low: 0x07ff_fffe_87ff_fffe_03ff_0010_0000_0000,
-    high: 0,
-};
+use bist_text::{Cursor, decimal, hex};
 
 /// What a content line speaks of. No two lines of a description speak of the same.
 #[derive(Clone, Copy, PartialEq)]

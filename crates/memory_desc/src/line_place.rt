@@ -1,8 +1,8 @@
 ghost use Rattle.std.specs.Prelude.{◌≡◌, ◌≤◌, ◌<◌, ◌&&◌, nat_lt, length, slice_get, IsTrue};
-ghost use Rattle.memory_desc.specs.Names.{is_letter, is_name_byte};
 ghost use Rattle.memory_desc.specs.LineText.{key_text};
-ghost use Rattle.bist_text.specs.Grammar.{is_blank};
 ghost use Rattle.memory_desc.specs.LinePlaces.{step, value, argument_begun, begun, content_begun, ended, is_digit_of, letter_begun, letter_of, most_digits, opened, row_ended, term_ended, word_ended};
+
+use crate::byte_sets::{BLANKS, NAME_BYTES, NAME_STARTS};
 
 /// The kinds of content lines, by their first word.
 #[derive(Clone, Copy)]
@@ -58,25 +58,6 @@ pub enum Place {
     End(Key),
 }
 
-/// A blank: space, tab or carriage return.
-pub fn is_blank(byte: u8) -> bool
-    ensures { result ≡ is_blank byte }
-{
-    byte == b' ' || byte == b'\t' || byte == b'\r'
-}
-
-pub fn is_letter(byte: u8) -> bool
-    ensures { result ≡ is_letter byte }
-{
-    (byte >= b'a' && byte <= b'z') || (byte >= b'A' && byte <= b'Z') || byte == b'_'
-}
-
-pub fn is_name_byte(byte: u8) -> bool
-    ensures { result ≡ is_name_byte byte }
-{
-    is_letter(byte) || byte.is_ascii_digit() || byte == b'$'
-}
-
 /// Whether a byte is one more digit of the number that a line of a kind has, of which so many are read. A polarity
 /// is a word.
 fn is_digit_of(key: Key, count: u8, byte: u8) -> bool
@@ -89,6 +70,7 @@ fn is_digit_of(key: Key, count: u8, byte: u8) -> bool
     }
 }
 
+#[tactic(auto, using(crate::proofs::Behind::blanks_have, crate::proofs::Behind::names_have))]
 /// The place behind one more byte; None where the line can't go on so.
 pub fn place_after(place: Place, byte: u8) -> Option<Place>
     ensures { result ≡ step place byte }
@@ -109,7 +91,7 @@ pub fn place_after(place: Place, byte: u8) -> Option<Place>
         },
         Place::Letters(key, count) => letter(key, count, byte),
         Place::Wanted(key) => {
-            if is_blank(byte) {
+            if BLANKS.contains(byte) {
                 Some(Place::Wanted(key))
             } else {
                 argument(key, byte)
@@ -125,7 +107,7 @@ pub fn place_after(place: Place, byte: u8) -> Option<Place>
             }
         }
         Place::Name => {
-            if is_name_byte(byte) {
+            if NAME_BYTES.contains(byte) {
                 Some(Place::Name)
             } else {
                 end(Key::Name, byte)
@@ -244,16 +226,18 @@ fn key_bytes(key: Key) -> &'static [u8]
 }
 
 /// The next letter of a first word, or the blank behind it.
+#[tactic(auto, using(crate::proofs::Behind::blanks_have))]
 fn letter(key: Key, count: u8, byte: u8) -> Option<Place>
     ensures { result ≡ letter_of (slice_get (key_text key) count) key count byte }
 {
     match key_bytes(key).get(count as usize) {
         Some(letter) => (byte == *letter).then_some(Place::Letters(key, count + 1)),
-        None => is_blank(byte).then_some(Place::Wanted(key)),
+        None => BLANKS.contains(byte).then_some(Place::Wanted(key)),
     }
 }
 
 /// The first byte behind a first word and its blanks.
+#[tactic(auto, using(crate::proofs::Behind::starts_have))]
 fn argument(key: Key, byte: u8) -> Option<Place>
     ensures { result ≡ argument_begun key byte }
 {
@@ -262,7 +246,7 @@ fn argument(key: Key, byte: u8) -> Option<Place>
             byte.is_ascii_digit().then_some(Place::Number(key, 1))
         }
         Key::Polarity => byte.is_ascii_hexdigit().then_some(Place::Number(key, 1)),
-        Key::Name => is_letter(byte).then_some(Place::Name),
+        Key::Name => NAME_STARTS.contains(byte).then_some(Place::Name),
         Key::Scramble => (byte == b'a').then_some(Place::RowNumber(0)),
         Key::Backgrounds if byte == b'l' => Some(Place::LetterL),
         Key::Backgrounds => byte.is_ascii_hexdigit().then_some(Place::Hex(1)),
@@ -270,10 +254,11 @@ fn argument(key: Key, byte: u8) -> Option<Place>
 }
 
 /// A byte behind the content of a line.
+#[tactic(auto, using(crate::proofs::Behind::blanks_have))]
 fn end(key: Key, byte: u8) -> Option<Place>
     ensures { result ≡ ended key byte }
 {
-    if is_blank(byte) {
+    if BLANKS.contains(byte) {
         Some(Place::End(key))
     } else if byte == b'#' {
         Some(Place::Remark(Some(key)))
@@ -283,10 +268,11 @@ fn end(key: Key, byte: u8) -> Option<Place>
 }
 
 /// A byte behind a row's number.
+#[tactic(auto, using(crate::proofs::Behind::blanks_have))]
 fn row_end(byte: u8) -> Option<Place>
     ensures { result ≡ row_ended byte }
 {
-    if is_blank(byte) {
+    if BLANKS.contains(byte) {
         Some(Place::RowEnd)
     } else if byte == b'=' {
         Some(Place::Term)
@@ -296,10 +282,11 @@ fn row_end(byte: u8) -> Option<Place>
 }
 
 /// A byte behind a term.
+#[tactic(auto, using(crate::proofs::Behind::blanks_have))]
 fn term_end(byte: u8) -> Option<Place>
     ensures { result ≡ term_ended byte }
 {
-    if is_blank(byte) {
+    if BLANKS.contains(byte) {
         Some(Place::TermEnd)
     } else {
         match byte {
@@ -311,10 +298,11 @@ fn term_end(byte: u8) -> Option<Place>
 }
 
 /// A byte behind a background.
+#[tactic(auto, using(crate::proofs::Behind::blanks_have))]
 fn word_end(byte: u8) -> Option<Place>
     ensures { result ≡ word_ended byte }
 {
-    if is_blank(byte) {
+    if BLANKS.contains(byte) {
         Some(Place::HexEnd)
     } else if byte == b'#' {
         Some(Place::Remark(Some(Key::Backgrounds)))
