@@ -1,7 +1,8 @@
 -- Where a line ends, how each place goes on to an end, and with that: the reader of a line answers as its grammar says.
 use Rattle.std.proofs.Common.{◌≡◌, ℕ, zero, suc, ◌+◌, ◌≤◌, ◌==◌, Bool, true, false, if◌then◌else◌, List, [], ◌∷◌, ◌++◌, drop, length, codes, Option, Some, None, refl, ◌↔◌, inl, inr, sym, ap, arith, zero-le}
-use Rattle.std.proofs.lemmas.Bool.{and_from, eq-eqb}
+use Rattle.std.proofs.lemmas.Bool.{and_from, and_parts, eq-eqb}
 use Rattle.std.proofs.Math.Dec.{eqb-suc-zero}
+use Rattle.std.specs.List.{list_all}
 use Rattle.bist_text.specs.Grammar.{word, Continues, are_bytes}
 use Rattle.bist_text.specs.Machine.{Follows, scan, IsExact}
 use Rattle.bist_text.proofs.Pieces.{same, never, neither, word_on}
@@ -12,10 +13,11 @@ use Rattle.memory_desc.specs.declared.line_place.Key.{Key}
 use Rattle.memory_desc.specs.declared.line_place.Key.TheVariants.{Memory, Name, Words, Bits, Latency, Polarity, Pause, Scramble, Backgrounds}
 use Rattle.memory_desc.specs.declared.line_place.Place.{Place}
 use Rattle.memory_desc.specs.declared.line_place.Place.TheVariants.{Opening, Begin, Remark, LetterB, LetterP, Letters, Wanted, Number, Name as InName, RowNumber, RowEnd, Term as AtTerm, TermNumber, TermEnd, LetterL, LetterO, Hex, HexEnd, End}
-use Rattle.memory_desc.specs.LineText.{Term, index_bit, constant, Content, version, name, words, bits, latency, polarity, pause, scramble, log, backgrounds, kind_of, in_table, is_hex, is_formed, space, gap, tail, term_text, more_terms, equation, more_words, argument, key_text}
+use Rattle.memory_desc.specs.LineText.{Term, index_bit, constant, Content, version, name, words, bits, latency, polarity, pause, scramble, log, backgrounds, kind_of, in_table, is_hex, is_word, is_formed, space, gap, tail, term_text, more_terms, equation, more_words, argument, key_text}
 use Rattle.memory_desc.specs.LinePlaces.{step, value, is_digit_of, most_digits}
 use Rattle.memory_desc.specs.LineRest.{LineOf, Run, Terms, HexWords, rest}
 use Rattle.memory_desc.proofs.LinePieces.{at_bool, positive, when_true}
+use Rattle.memory_desc.proofs.LineStarts.{is_run, run_parts}
 use Rattle.memory_desc.proofs.LineBegins.{some_digits}
 use Rattle.memory_desc.proofs.LineFollows.{goes_at}
 
@@ -42,26 +44,20 @@ line_ends : (allowed : Key → Type 0) (v : Option Key) → LineOf allowed [] v 
 line_ends allowed v =
     (elim [ inl h ↦ ap Some (sym h.0) | inr h ↦ absurd (no_key (kind_of h.0) (gap (argument h.0 tail)) h.3.1) ], λ h. inl ((some_is None v).1 h, tt))
 
+no_word : (p : ℕ → Bool) (most : ℕ) (ds : List ℕ) (K : List ℕ → Type 0) → is_run p most ds ≡ true → word ds K [] → ⊥
+no_word p most [] K r w = (let parts = run_parts p most [] r in let l = parts.1 in omega arith)
+no_word p most (d ∷ ds) K r w = w
+
 no_argument : (x : Content) → is_formed x ≡ true → argument x tail [] → ⊥
-no_argument (version []) n w = (let z : ⊥ = cc in z)
-no_argument (version (d ∷ ds)) n w = w
+no_argument (version ds) n w = no_word is_digit 9 ds tail n w
 no_argument (name []) n w = (let z : ⊥ = cc in z)
-no_argument (name (d ∷ ds)) n w = w
-no_argument (words []) n w = (let z : ⊥ = cc in z)
-no_argument (words (d ∷ ds)) n w = w
-no_argument (bits []) n w = (let z : ⊥ = cc in z)
-no_argument (latency []) n w = (let z : ⊥ = cc in z)
-no_argument (polarity []) n w = (let z : ⊥ = cc in z)
-no_argument (pause []) n w = (let z : ⊥ = cc in z)
-no_argument (bits (d ∷ ds)) n w = w
-no_argument (latency (d ∷ ds)) n w = w
-no_argument (polarity (d ∷ ds)) n w = w
-no_argument (pause (d ∷ ds)) n w = w
-no_argument (scramble i ts) n w = w
-no_argument log n w = w
-no_argument (backgrounds []) n w = w
-no_argument (backgrounds ([] ∷ ws)) n w = (let z : ⊥ = cc in z)
-no_argument (backgrounds ((d ∷ ds) ∷ ws)) n w = w
+no_argument (words ds) n w = no_word is_digit 9 ds tail n w
+no_argument (bits ds) n w = no_word is_digit 9 ds tail n w
+no_argument (latency ds) n w = no_word is_digit 9 ds tail n w
+no_argument (polarity ds) n w = no_word is_hex 16 ds tail n w
+no_argument (pause ds) n w = no_word is_digit 9 ds tail n w
+no_argument (backgrounds (v ∷ vs)) n w = no_word is_hex 16 v (more_words vs tail) (and_parts (is_word v) (list_all is_word vs) n).0 w
+no_argument x n w = w
 
 -- a run that ends with the line
 run_ends : (p : ℕ → Bool) (most n : ℕ) (K : List ℕ → Type 0) → Run p most n K [] → ((n == 0) ≡ false) × K []

@@ -70,8 +70,8 @@ fn is_digit_of(key: Key, count: u8, byte: u8) -> bool
     }
 }
 
-#[tactic(auto, using(crate::proofs::Behind::blanks_have, crate::proofs::Behind::names_have))]
 /// The place behind one more byte; None where the line can't go on so.
+#[tactic(auto, using(crate::proofs::Behind::blanks_have, crate::proofs::Behind::names_have))]
 pub fn place_after(place: Place, byte: u8) -> Option<Place>
     ensures { result ≡ step place byte }
 {
