@@ -12,25 +12,15 @@ use Rattle.memory_desc.specs.Statements.{Statement}
 use Rattle.memory_desc.specs.Subjects.{subject, is_same, is_about, content_of, said}
 use Rattle.memory_desc.specs.Table.{is_other, is_repeat, repeated, at_line, unless_there}
 use Rattle.memory_desc.specs.declared.content.Subject.{Subject}
-use Rattle.memory_desc.specs.declared.content.Subject.TheVariants.{Version, Name, Words, Bits, Latency, Polarity, Pause, Row, Backgrounds}
+use Rattle.memory_desc.specs.declared.content.Subject.TheVariants.{Row, Backgrounds}
 use Rattle.memory_desc.specs.declared.fault.MemoryFault.{MemoryFault}
 use Rattle.memory_desc.specs.declared.fault.MemoryFault.TheVariants.{Repeated}
+use Rattle.memory_desc.proofs.Repeats.{self_same}
 use Rattle.memory_desc.proofs.BackLines.{numbered}
 use Rattle.memory_desc.proofs.BackDigits.{decimal_value}
 use Rattle.memory_desc.proofs.BackTerms.{terms_of}
 
 -- ---- statements about different things
-
-is_same_self : (q : Subject) → is_same q q ≡ true
-is_same_self Version = refl
-is_same_self Name = refl
-is_same_self Words = refl
-is_same_self Bits = refl
-is_same_self Latency = refl
-is_same_self Polarity = refl
-is_same_self Pause = refl
-is_same_self (Row i) = eq-eqb i i refl
-is_same_self Backgrounds = refl
 
 -- none of them is about q
 abbrev pub Others : Subject → List Statement → Type 0
@@ -50,7 +40,7 @@ another t ss (s ∷ more) h =
 
 itself : (t : Statement) (ss : List Statement) → is_repeat (t ∷ ss) t ≡ false
 itself t ss =
-    ap (λ (b : Bool). is_other t.line (cond b (Some t) (find (is_about (subject t.content)) ss))) (is_same_self (subject t.content))
+    ap (λ (b : Bool). is_other t.line (cond b (Some t) (find (is_about (subject t.content)) ss))) (self_same (subject t.content))
     ∙ ap not (eq-eqb t.line t.line refl)
 
 no_repeat : (ss : List Statement) → Distinct ss → find (is_repeat ss) ss ≡ None

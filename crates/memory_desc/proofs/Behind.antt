@@ -5,7 +5,7 @@ use Rattle.std.proofs.lemmas.Bool.Decides.{nat_tests}
 use Rattle.std.proofs.lemmas.List.{drop-drop}
 use Rattle.std.proofs.lemmas.List.Sums.{take_while-cons}
 use Rattle.std.proofs.lemmas.Nat.Bits.{bit_at-zero}
-use Rattle.std.specs.Prelude.{nat_lt, nat_le, codes}
+use Rattle.std.specs.Prelude.{nat_lt, nat_le}
 use Rattle.std.specs.Int.{bit_at}
 use Rattle.std.specs.List.{list_all, take_while}
 use Rattle.bist_text.specs.ByteSets.{in_set}
@@ -13,17 +13,13 @@ use Rattle.bist_text.specs.declared.byte_set.ByteSet.{ByteSet}
 use Rattle.bist_text.specs.Cursors.{TextPlace, left_of}
 use Rattle.bist_text.specs.Grammar.{word, many, is_blank}
 use Rattle.memory_desc.specs.Names.{is_digit, is_letter, is_name_byte}
-use Rattle.memory_desc.specs.LineText.{Content, version, name, words, bits, latency, polarity, pause, scramble, log, backgrounds, kind_of, is_hex, is_word, is_formed, space, gap, tail, more_words, equation, argument, key_text, ContentText}
+use Rattle.memory_desc.specs.LineText.{Content, kind_of, is_hex, space, gap, tail, argument, key_text, ContentText}
 use Rattle.memory_desc.specs.declared.line_place.Key.{Key}
-use Rattle.memory_desc.specs.declared.line_place.Key.TheVariants.{Memory, Name, Words, Bits, Latency, Polarity, Pause, Scramble, Backgrounds}
+use Rattle.memory_desc.specs.declared.line_place.Key.TheVariants.{Memory}
 use Rattle.memory_desc.specs.ContentParts.{after}
-use Rattle.memory_desc.proofs.LinePieces.{at_bool, when_true, when_false, when_holds, apart, gap_off}
-use Rattle.memory_desc.proofs.LineRefusals.{not_blank, blank_word, blank_number}
-use Rattle.memory_desc.proofs.LineStarts.{blank_run}
-
--- a piece that begins with no byte of a class
-abbrev pub Never : (ℕ → Bool) → (List ℕ → Type 0) → Type 0
-Never p K = (c : ℕ) (b : List ℕ) → p c ≡ true → K (c ∷ b) → ⊥
+use Rattle.memory_desc.proofs.LinePieces.{at_bool, when_true, when_false, when_holds}
+use Rattle.memory_desc.proofs.LineRefusals.{IsPlain}
+use Rattle.memory_desc.proofs.LineStops.{Stops, gap_stops, space_of_gap, first_stops, argument_stops}
 
 run_yes : (p : ℕ → Bool) (c : ℕ) (b : List ℕ) → p c ≡ true → take_while p (c ∷ b) ≡ c ∷ take_while p b
 run_yes p c b e = take_while-cons p c b ∙ ap (λ t. cond t (c ∷ take_while p b) []) e
@@ -31,7 +27,7 @@ run_yes p c b e = take_while-cons p c b ∙ ap (λ t. cond t (c ∷ take_while p
 run_no : (p : ℕ → Bool) (c : ℕ) (b : List ℕ) → p c ≡ false → take_while p (c ∷ b) ≡ []
 run_no p c b e = take_while-cons p c b ∙ ap (λ t. cond t (c ∷ take_while p b) []) e
 
-pub many_after : (p : ℕ → Bool) (K : List ℕ → Type 0) (b : List ℕ) → Never p K → many p K b → K (after p b)
+pub many_after : (p : ℕ → Bool) (K : List ℕ → Type 0) (b : List ℕ) → Stops p K → many p K b → K (after p b)
 many_after p K [] f h = h
 many_after p K (c ∷ b) f h =
     at_bool (λ t. p c ≡ t → K (after p (c ∷ b))) (p c)
@@ -41,11 +37,11 @@ many_after p K (c ∷ b) f h =
     (elim h [ inl x ↦ x | inr w ↦ absurd (when_false (p c) (many p K b) e w) ]))
     refl
 
-no_run : (p : ℕ → Bool) (K : List ℕ → Type 0) (b : List ℕ) → Never p K → K b → take_while p b ≡ []
+no_run : (p : ℕ → Bool) (K : List ℕ → Type 0) (b : List ℕ) → Stops p K → K b → take_while p b ≡ []
 no_run p K [] f h = refl
 no_run p K (c ∷ b) f h = at_bool (λ t. p c ≡ t → take_while p (c ∷ b) ≡ []) (p c) (λ e _. absurd (f c b e h)) (λ e _. run_no p c b e) refl
 
-pub word_run : (p : ℕ → Bool) (ds : List ℕ) (K : List ℕ → Type 0) (b : List ℕ) → list_all p ds ≡ true → Never p K → word ds K b
+pub word_run : (p : ℕ → Bool) (ds : List ℕ) (K : List ℕ → Type 0) (b : List ℕ) → list_all p ds ≡ true → Stops p K → word ds K b
     → (take_while p b ≡ ds) × K (after p b)
 word_run p [] K b a f h =
     let none = no_run p K b f h in
@@ -112,6 +108,9 @@ hex_low c h = grind (arith, nat_tests)
 name_low : Low is_name_byte
 name_low c h = grind (arith, nat_tests)
 
+letter_low : Low is_letter
+letter_low c h = grind (arith, nat_tests)
+
 -- a letter of a first word
 abbrev pub is_small : ℕ → Bool
 is_small c = nat_le 97 c && nat_le c 122
@@ -139,6 +138,10 @@ pub names_have : Has (record { low = 10633823849912963253799171464200454144; hig
 unfolding agree
 names_have = set_has 10633823849912963253799171464200454144 is_name_byte refl name_low
 
+pub starts_have : Has (record { low = 10633823849912963253511222494305976320; high = 0 }) is_letter
+unfolding agree
+starts_have = set_has 10633823849912963253511222494305976320 is_letter refl letter_low
+
 runs_same : (p q : ℕ → Bool) → ((c : ℕ) → p c ≡ q c) → (b : List ℕ) → take_while p b ≡ take_while q b
 runs_same p q f [] = refl
 runs_same p q f (c ∷ b) =
@@ -159,10 +162,10 @@ passes_to set p old new f s =
 pub run_is : (set : ByteSet) (p : ℕ → Bool) (b : List ℕ) → Has set p → take_while (in_set set) b ≡ take_while p b
 run_is set p b f = runs_same (in_set set) p f b
 
-pub skip_many : (set : ByteSet) (p : ℕ → Bool) (K : List ℕ → Type 0) (old new : TextPlace) → Has set p → Passes set old new → Never p K → many p K (left_of old) → K (left_of new)
+pub skip_many : (set : ByteSet) (p : ℕ → Bool) (K : List ℕ → Type 0) (old new : TextPlace) → Has set p → Passes set old new → Stops p K → many p K (left_of old) → K (left_of new)
 skip_many set p K old new f s n h = subst K (sym (passes_to set p old new f s)) (many_after p K (left_of old) n h)
 
-pub skip_word : (set : ByteSet) (p : ℕ → Bool) (ds : List ℕ) (K : List ℕ → Type 0) (old new : TextPlace) → Has set p → Passes set old new → list_all p ds ≡ true → Never p K
+pub skip_word : (set : ByteSet) (p : ℕ → Bool) (ds : List ℕ) (K : List ℕ → Type 0) (old new : TextPlace) → Has set p → Passes set old new → list_all p ds ≡ true → Stops p K
     → word ds K (left_of old) → (take_while (in_set set) (left_of old) ≡ ds) × K (left_of new)
 skip_word set p ds K old new f s a n h =
     let r = word_run p ds K (left_of old) a n h in
@@ -170,48 +173,12 @@ skip_word set p ds K old new f s a n h =
 
 -- ---- behind a first word
 
-pub gap_many : (K : List ℕ → Type 0) (b : List ℕ) → gap K b → space K b
-gap_many K [] h = absurd h
-gap_many K (c ∷ b) h = inr h
-
-gap_begins : (K : List ℕ → Type 0) → Never is_small (gap K)
-gap_begins K c b e h = gap_off K c b (not_blank is_small c e refl refl refl) h
-
-key_begins : (k : Key) (K : List ℕ → Type 0) → Never is_blank (word (key_text k) K)
-key_begins Memory K c b e h = when_false (c == 109) (word (codes "emory") K b) (apart is_blank c 109 e refl) h
-key_begins Name K c b e h = when_false (c == 110) (word (codes "ame") K b) (apart is_blank c 110 e refl) h
-key_begins Words K c b e h = when_false (c == 119) (word (codes "ords") K b) (apart is_blank c 119 e refl) h
-key_begins Bits K c b e h = when_false (c == 98) (word (codes "its") K b) (apart is_blank c 98 e refl) h
-key_begins Latency K c b e h = when_false (c == 108) (word (codes "atency") K b) (apart is_blank c 108 e refl) h
-key_begins Polarity K c b e h = when_false (c == 112) (word (codes "olarity") K b) (apart is_blank c 112 e refl) h
-key_begins Pause K c b e h = when_false (c == 112) (word (codes "ause") K b) (apart is_blank c 112 e refl) h
-key_begins Scramble K c b e h = when_false (c == 115) (word (codes "cramble") K b) (apart is_blank c 115 e refl) h
-key_begins Backgrounds K c b e h = when_false (c == 98) (word (codes "ackgrounds") K b) (apart is_blank c 98 e refl) h
+small_plain : IsPlain is_small
+small_plain = record { space_no = refl; tab_no = refl; return_no = refl; hash_no = refl }
 
 key_small : (k : Key) → list_all is_small (key_text k) ≡ true
 key_small Memory = refl
-key_small Name = refl
-key_small Words = refl
-key_small Bits = refl
-key_small Latency = refl
-key_small Polarity = refl
-key_small Pause = refl
-key_small Scramble = refl
-key_small Backgrounds = refl
-
-argument_begins : (c : Content) → is_formed c ≡ true → Never is_blank (argument c tail)
-argument_begins (version ds) f x b e h = blank_number ds tail x b f e h
-argument_begins (name []) f x b e h = (let z : ⊥ = cc in z)
-argument_begins (name (n ∷ ns)) f x b e h = blank_word is_letter n ns tail x b refl refl refl (and_parts (is_letter n) (list_all is_name_byte ns) f).0 e h
-argument_begins (words ds) f x b e h = blank_number ds tail x b f e h
-argument_begins (bits ds) f x b e h = blank_number ds tail x b f e h
-argument_begins (latency ds) f x b e h = blank_number ds tail x b f e h
-argument_begins (polarity w) f x b e h = blank_run is_hex 16 w tail x b refl refl refl f e h
-argument_begins (pause ds) f x b e h = blank_number ds tail x b f e h
-argument_begins (scramble i ts) f x b e h = when_false (x == 97) (word i (equation ts tail) b) (apart is_blank x 97 e refl) h
-argument_begins log f x b e h = when_false (x == 108) (word (codes "og") tail b) (apart is_blank x 108 e refl) h
-argument_begins (backgrounds []) f x b e h = h
-argument_begins (backgrounds (w ∷ ws)) f x b e h = blank_run is_hex 16 w (more_words ws tail) x b refl refl refl (and_parts (is_word w) (list_all is_word ws) f).0 e h
+key_small k = refl
 
 pub key_behind : (text : List ℕ) (start first second third : TextPlace) (c : Content) → start.text ≡ text → start.place ≡ 0
     → Passes (record { low = 4294976000; high = 0 }) start first
@@ -221,7 +188,7 @@ pub key_behind : (text : List ℕ) (start first second third : TextPlace) (c : C
 key_behind text start first second third c t z a b d h =
     let k = kind_of c in
     let begin : left_of start ≡ text = ap (λ (n : ℕ). drop n start.text) z ∙ t in
-    let one = skip_many _ is_blank (word (key_text k) (gap (argument c tail))) start first blanks_have a (key_begins k (gap (argument c tail)))
+    let one = skip_many _ is_blank (word (key_text k) (gap (argument c tail))) start first blanks_have a (first_stops k (gap (argument c tail)))
     (subst (λ (x : List ℕ). space (word (key_text k) (gap (argument c tail))) x) (sym begin) h.1) in
-    let two = skip_word _ is_small (key_text k) (gap (argument c tail)) first second small_have b (key_small k) (gap_begins (argument c tail)) one in
-    skip_many _ is_blank (argument c tail) second third blanks_have d (argument_begins c h.0) (gap_many (argument c tail) (left_of second) two.1)
+    let two = skip_word _ is_small (key_text k) (gap (argument c tail)) first second small_have b (key_small k) (gap_stops is_small (argument c tail) small_plain) one in
+    skip_many _ is_blank (argument c tail) second third blanks_have d (argument_stops c h.0) (space_of_gap (argument c tail) (left_of second) two.1)

@@ -1,13 +1,13 @@
 -- The backgrounds that are chosen, and that they serve a memory.
-use Rattle.std.proofs.Common.{◌≡◌, ℕ, zero, suc, ◌^◌, ◌<◌, ◌≤◌, ◌==◌, Bool, true, false, List, [], ◌∷◌, length, take, get_or, slice_index, Option, Some, None, Result, Ok, Err, refl, sym, ◌∙◌, subst, arith, inl, inr}
+use Rattle.std.proofs.Common.{◌≡◌, ℕ, zero, suc, ◌^◌, ◌<◌, ◌≤◌, ◌==◌, Bool, true, false, List, [], ◌∷◌, length, take, get_or, slice_index, Option, Some, None, Result, Ok, Err, refl, sym, ap, ◌∙◌, subst, arith, inl, inr}
 use Rattle.std.specs.Prelude.{nat_le, nat_lt, Contains, IfOk, MatchResult}
 use Rattle.std.specs.List.{list_any}
 use Rattle.std.specs.Str.Parse.{digits_value}
-use Rattle.std.proofs.lemmas.Bool.{or_parts, or_cases, or_left, or_right, leb-false, eqb-true, eq-eqb, lt-ltb, le-ltb, ltb-false, cases_Bool}
+use Rattle.std.proofs.lemmas.Bool.{or_parts, or_cases, or_left, or_right, leb-false, eqb-true, eq-eqb, lt-ltb, le-ltb, ltb-false}
 use Rattle.std.proofs.lemmas.List.{length-map, take_all}
 use Rattle.backgrounds.specs.Backgrounds.{IsLogSet}
 use Rattle.memory_desc.specs.Descriptions.{IsBackgrounds}
-use Rattle.memory_desc.specs.LineText.{Content, version, name, words, bits, latency, polarity, pause, scramble, log, backgrounds, kind_of, ContentText}
+use Rattle.memory_desc.specs.LineText.{Content, log, backgrounds, kind_of, ContentText}
 use Rattle.memory_desc.specs.Standing.{StandsAt, is_log}
 use Rattle.memory_desc.specs.Statements.{Statement}
 use Rattle.memory_desc.specs.Subjects.{about, said}
@@ -76,24 +76,20 @@ too_many_listed ws count e h =
     let more : nat_lt 8 (length (word_values ws)) ≡ true = lt-ltb 8 (length (word_values ws)) (let m = length-map ws (digits_value 16) in omega arith) in
     rw more refl
 
-pub without_solid_listed : (ws : List (List ℕ)) (first : List ℕ) (count : ℕ) → first ≡ take 8 (word_values ws) → count ≡ length ws → count ≤ 8 → (Contains first 0 → ⊥)
+pub without_solid_listed : (ws : List (List ℕ)) (first : List ℕ) (count : ℕ) → first ≡ take 8 (word_values ws) → count ≡ length ws → count ≤ 8 → list_any (λ w. w == 0) first ≡ false
     → AcceptsBackgrounds (word_values ws) (Err NoSolidBackground)
 without_solid_listed ws first count e n h none =
     let set = word_values ws in
-    let same = whole ws first count e n h in
-    let off : list_any (λ w. w == 0) set ≡ false = elim (cases_Bool (list_any (λ w. w == 0) set)) [
-      | inl y ↦ absurd (none (subst (λ (s : List ℕ). Contains s 0) (sym same) (zero_in set y)))
-      | inr y ↦ y
-    ] in
+    let off : list_any (λ w. w == 0) set ≡ false = ap (list_any (λ w. w == 0)) (sym (whole ws first count e n h)) ∙ none in
     few_of set (Err NoSolidBackground) (Unless (without_solid set) (Err NoSolidBackground) (Err NoSolidBackground ≡ Ok set)) (le-ltb 8 (length set) (few_words ws count n h))
     (rw off refl)
 
-pub keeps_listed : (ws : List (List ℕ)) (first : List ℕ) (count : ℕ) → first ≡ take 8 (word_values ws) → count ≡ length ws → count ≤ 8 → Contains first 0
+pub keeps_listed : (ws : List (List ℕ)) (first : List ℕ) (count : ℕ) → first ≡ take 8 (word_values ws) → count ≡ length ws → count ≤ 8 → list_any (λ w. w == 0) first ≡ true
     → AcceptsBackgrounds (word_values ws) (Ok first)
 keeps_listed ws first count e n h some =
     let set = word_values ws in
     let same = whole ws first count e n h in
-    subst (λ (s : List ℕ). AcceptsBackgrounds set (Ok s)) (sym same) (keeps set (few_words ws count n h) (subst (λ (s : List ℕ). Contains s 0) same some))
+    subst (λ (s : List ℕ). AcceptsBackgrounds set (Ok s)) (sym same) (keeps set (few_words ws count n h) (zero_in set (ap (list_any (λ w. w == 0)) (sym same) ∙ some)))
 
 -- ---- what a line, or none, chooses
 
@@ -104,16 +100,8 @@ pub chooses_none : (size : ℕ) (set : List ℕ) → size ≤ 64 → IsLogSet si
 chooses_none size set h s = (set, s, log_keeps size set h s)
 
 pub chooses_log : (c : Content) (size : ℕ) (set : List ℕ) → is_log c ≡ true → size ≤ 64 → IsLogSet size set → SelectsBackgrounds (Some c) size (Ok set)
-chooses_log (version ds) size set e h s = (let z : ⊥ = cc in absurd z)
-chooses_log (name b) size set e h s = (let z : ⊥ = cc in absurd z)
-chooses_log (words ds) size set e h s = (let z : ⊥ = cc in absurd z)
-chooses_log (bits ds) size set e h s = (let z : ⊥ = cc in absurd z)
-chooses_log (latency ds) size set e h s = (let z : ⊥ = cc in absurd z)
-chooses_log (polarity ds) size set e h s = (let z : ⊥ = cc in absurd z)
-chooses_log (pause ds) size set e h s = (let z : ⊥ = cc in absurd z)
-chooses_log (scramble i ts) size set e h s = (let z : ⊥ = cc in absurd z)
 chooses_log log size set e h s = (set, s, log_keeps size set h s)
-chooses_log (backgrounds ws) size set e h s = (let z : ⊥ = cc in absurd z)
+chooses_log c size set e h s = (let z : ⊥ = cc in absurd z)
 
 -- a line that lists words answers this
 abbrev Lists : {A : Type 0} → (A → List ℕ) → List (List ℕ) → Result A MemoryFault → Type 0
@@ -130,16 +118,8 @@ listed_by items ws size (Err fault) h = (word_values ws, refl, h)
 
 pub chooses_listed : {A : Type 0} (items : A → List ℕ) (text : List ℕ) (c : Content) (size : ℕ) (r : Result A MemoryFault) → kind_of c ≡ BackgroundsKey → is_log c ≡ false
     → ContentText text c → ((ws : List (List ℕ)) → ContentText text (backgrounds ws) → Lists items ws r) → Answers items (Some c) size r
-chooses_listed items text (version ds) size r k e t f = (let z : ⊥ = cc in absurd z)
-chooses_listed items text (name b) size r k e t f = (let z : ⊥ = cc in absurd z)
-chooses_listed items text (words ds) size r k e t f = (let z : ⊥ = cc in absurd z)
-chooses_listed items text (bits ds) size r k e t f = (let z : ⊥ = cc in absurd z)
-chooses_listed items text (latency ds) size r k e t f = (let z : ⊥ = cc in absurd z)
-chooses_listed items text (polarity ds) size r k e t f = (let z : ⊥ = cc in absurd z)
-chooses_listed items text (pause ds) size r k e t f = (let z : ⊥ = cc in absurd z)
-chooses_listed items text (scramble i ts) size r k e t f = (let z : ⊥ = cc in absurd z)
-chooses_listed items text log size r k e t f = (let z : ⊥ = cc in absurd z)
 chooses_listed items text (backgrounds ws) size r k e t f = listed_by items ws size r (f ws t)
+chooses_listed items text c size r k e t f = (let z : ⊥ = cc in absurd z)
 
 -- ---- what is chosen serves a memory
 
@@ -162,18 +142,9 @@ log_serves size set other h s k = subst (IsBackgrounds size) (sym k.same) (log_s
 
 pub chosen_serves : (c : Option Content) (width size : ℕ) (set : List ℕ) → size ≤ 64 → ((x : Content) → c ≡ Some x → is_too_wide width size x ≡ false)
     → SelectsBackgrounds c size (Ok set) → IsBackgrounds size set
-chosen_serves None width size set h f r = log_serves size r.0 set h r.1 (kept r.0 set r.2)
-chosen_serves (Some (version ds)) width size set h f r = log_serves size r.0 set h r.1 (kept r.0 set r.2)
-chosen_serves (Some (name b)) width size set h f r = log_serves size r.0 set h r.1 (kept r.0 set r.2)
-chosen_serves (Some (words ds)) width size set h f r = log_serves size r.0 set h r.1 (kept r.0 set r.2)
-chosen_serves (Some (bits ds)) width size set h f r = log_serves size r.0 set h r.1 (kept r.0 set r.2)
-chosen_serves (Some (latency ds)) width size set h f r = log_serves size r.0 set h r.1 (kept r.0 set r.2)
-chosen_serves (Some (polarity ds)) width size set h f r = log_serves size r.0 set h r.1 (kept r.0 set r.2)
-chosen_serves (Some (pause ds)) width size set h f r = log_serves size r.0 set h r.1 (kept r.0 set r.2)
-chosen_serves (Some (scramble i ts)) width size set h f r = log_serves size r.0 set h r.1 (kept r.0 set r.2)
-chosen_serves (Some log) width size set h f r = log_serves size r.0 set h r.1 (kept r.0 set r.2)
 chosen_serves (Some (backgrounds ws)) width size set h f r =
     words_serve size ws set (f (backgrounds ws) refl) (subst (λ (s : List ℕ). Kept s set) r.1 (kept r.0 set r.2))
+chosen_serves c width size set h f r = log_serves size r.0 set h r.1 (kept r.0 set r.2)
 
 -- ---- what the statements choose
 

@@ -1,6 +1,6 @@
 -- What is read of the parts of a content line.
-use Rattle.std.proofs.Common.{◌≡◌, ℕ, zero, suc, ◌<◌, ◌≤◌, ◌==◌, ◌||◌, Bool, true, false, List, [], ◌∷◌, ◌∙◌, length, drop, Option, Some, None, slice_get, refl, sym, ap, subst, arith, inl, inr, ◌⊎◌, ◌≢◌, IfSome}
-use Rattle.std.proofs.lemmas.Bool.{eqb-true, eq-eqb, and_parts, and_from}
+use Rattle.std.proofs.Common.{◌≡◌, ℕ, zero, suc, ◌<◌, ◌≤◌, ◌==◌, Bool, true, false, List, [], ◌∷◌, ◌∙◌, length, drop, Option, Some, None, slice_get, refl, sym, ap, subst, arith, inl, inr, ◌⊎◌, ◌≢◌, IfSome}
+use Rattle.std.proofs.lemmas.Bool.{eqb-true, eq-eqb, and_parts}
 use Rattle.std.proofs.lemmas.Bool.Decides.{nat_tests}
 use Rattle.std.proofs.lemmas.List.{length-drop}
 use Rattle.std.specs.Char.{digit_value}
@@ -10,7 +10,7 @@ use Rattle.std.specs.Prelude.{codes, nat_eq}
 use Rattle.std.specs.Str.Parse.{AllDigits, digits_value}
 use Rattle.bist_text.specs.Grammar.{byte, word, is_blank}
 use Rattle.bist_text.specs.Numbers.{IsNumber}
-use Rattle.memory_desc.specs.Names.{is_digit, is_letter, is_name_byte}
+use Rattle.memory_desc.specs.Names.{is_digit, is_name_byte}
 use Rattle.memory_desc.specs.LineText.{Term, index_bit, constant, Content, version, name, words, bits, latency, polarity, pause, scramble, log, backgrounds, kind_of, is_hex, is_number, is_word, is_term, is_formed, space, comment, tail, term_text, more_terms, equation, more_words, argument}
 use Rattle.memory_desc.specs.LineRest.{words_left}
 use Rattle.memory_desc.specs.Standing.{digits_in, is_log}
@@ -20,8 +20,9 @@ use Rattle.memory_desc.specs.declared.content.Summand.TheVariants.{IndexBit}
 use Rattle.memory_desc.specs.declared.line_place.Key.TheVariants.{Backgrounds}
 use Rattle.memory_desc.proofs.LinePieces.{when_false, when_holds, apart}
 use Rattle.memory_desc.proofs.LineRefusals.{digits_plain, hex_plain, names_plain, no_tail, no_more_terms, no_equation, no_more_words}
-use Rattle.memory_desc.proofs.LineStarts.{run_parts, blank_run}
-use Rattle.memory_desc.proofs.Behind.{Never, many_after, word_run, gap_many}
+use Rattle.memory_desc.proofs.LineStarts.{run_parts}
+use Rattle.memory_desc.proofs.LineStops.{Stops, comment_stops, tail_stops, space_of_gap, term_stops, hex_stops, name_run}
+use Rattle.memory_desc.proofs.Behind.{many_after, word_run}
 
 -- ---- the byte at a cursor
 
@@ -57,39 +58,26 @@ ten_digits (c ∷ cs) h = let p = and_parts (is_digit c) (list_all is_digit cs) 
 is_numeral : (ds : List ℕ) → is_number ds ≡ true → IsNumber 10 9 ds
 is_numeral ds n = let p = run_parts is_digit 9 ds n in ((p.1, ten_digits ds p.0), p.2)
 
-pub number_read : (ds : List ℕ) (K : List ℕ → Type 0) (b : List ℕ) (r : ℕ) → is_number ds ≡ true → Never is_digit K → word ds K b
+pub number_read : (ds : List ℕ) (K : List ℕ → Type 0) (b : List ℕ) (r : ℕ) → is_number ds ≡ true → Stops is_digit K → word ds K b
     → (IsNumber 10 9 (take_while is_digit b) → r ≡ digits_value 10 (take_while is_digit b)) → (r ≡ digits_value 10 ds) × K (after is_digit b)
 number_read ds K b r n f h v =
     let w = word_run is_digit ds K b (run_parts is_digit 9 ds n).0 f h in
     let value : IsNumber 10 9 ds → r ≡ digits_value 10 ds = subst (λ (x : List ℕ). IsNumber 10 9 x → r ≡ digits_value 10 x) w.0 v in
     (value (is_numeral ds n), w.1)
 
-tail_number : Never is_digit tail
-tail_number c b e h = no_tail is_digit c b digits_plain e h
-
 pub number_said : (c : Content) (ds : List ℕ) (b : List ℕ) (r : ℕ) → is_formed c ≡ true → digits_in c ≡ Some ds → argument c tail b
     → (IsNumber 10 9 (take_while is_digit b) → r ≡ digits_value 10 (take_while is_digit b)) → r ≡ digits_value 10 ds
-number_said (version es) ds b r f e h v = let same : es ≡ ds = cc in (number_read es tail b r f tail_number h v).0 ∙ ap (digits_value 10) same
-number_said (words es) ds b r f e h v = let same : es ≡ ds = cc in (number_read es tail b r f tail_number h v).0 ∙ ap (digits_value 10) same
-number_said (bits es) ds b r f e h v = let same : es ≡ ds = cc in (number_read es tail b r f tail_number h v).0 ∙ ap (digits_value 10) same
-number_said (latency es) ds b r f e h v = let same : es ≡ ds = cc in (number_read es tail b r f tail_number h v).0 ∙ ap (digits_value 10) same
-number_said (polarity w) ds b r f e h v = cc
-number_said (pause es) ds b r f e h v = let same : es ≡ ds = cc in (number_read es tail b r f tail_number h v).0 ∙ ap (digits_value 10) same
-number_said (name n) ds b r f e h v = cc
-number_said (scramble i ts) ds b r f e h v = cc
-number_said log ds b r f e h v = cc
-number_said (backgrounds ws) ds b r f e h v = cc
+number_said (version es) ds b r f e h v = let same : es ≡ ds = cc in (number_read es tail b r f (tail_stops is_digit digits_plain) h v).0 ∙ ap (digits_value 10) same
+number_said (words es) ds b r f e h v = let same : es ≡ ds = cc in (number_read es tail b r f (tail_stops is_digit digits_plain) h v).0 ∙ ap (digits_value 10) same
+number_said (bits es) ds b r f e h v = let same : es ≡ ds = cc in (number_read es tail b r f (tail_stops is_digit digits_plain) h v).0 ∙ ap (digits_value 10) same
+number_said (latency es) ds b r f e h v = let same : es ≡ ds = cc in (number_read es tail b r f (tail_stops is_digit digits_plain) h v).0 ∙ ap (digits_value 10) same
+number_said (pause es) ds b r f e h v = let same : es ≡ ds = cc in (number_read es tail b r f (tail_stops is_digit digits_plain) h v).0 ∙ ap (digits_value 10) same
+number_said c ds b r f e h v = cc
 
 -- ---- names
 
-named : (n : List ℕ) → is_formed (name n) ≡ true → list_all is_name_byte n ≡ true
-named [] f = refl
-named (c ∷ n) f =
-    let p = and_parts (is_letter c) (list_all is_name_byte n) f in
-    and_from (is_name_byte c) (list_all is_name_byte n) (ap (λ t. t || is_digit c || (c == 36)) p.0) p.1
-
 pub name_said : (n b : List ℕ) → is_formed (name n) ≡ true → argument (name n) tail b → take_while is_name_byte b ≡ n
-name_said n b f h = (word_run is_name_byte n tail b (named n f) (λ c d e t. no_tail is_name_byte c d names_plain e t) h).0
+name_said n b f h = (word_run is_name_byte n tail b (name_run n f).0 (tail_stops is_name_byte names_plain) h).0
 
 -- ---- the logarithmic set
 
@@ -99,27 +87,14 @@ is_first (Some y) x e = let same : y ≡ x = cc in ap (λ (z : ℕ). z == 108) s
 
 pub log_said : (c : Content) (b : List ℕ) (o : Option ℕ) → o ≡ slice_get b 0 → is_formed c ≡ true → kind_of c ≡ Backgrounds → argument c tail b
     → option_eq nat_eq o (Some 108) ≡ is_log c
-log_said (version es) b o p f e h = cc
-log_said (words es) b o p f e h = cc
-log_said (bits es) b o p f e h = cc
-log_said (latency es) b o p f e h = cc
-log_said (polarity es) b o p f e h = cc
-log_said (pause es) b o p f e h = cc
-log_said (name n) b o p f e h = cc
-log_said (scramble i ts) b o p f e h = cc
 log_said log b o p f e h = is_first o 108 (p ∙ (first_byte 108 (codes "og") tail b h).0)
 log_said (backgrounds []) b o p f e h = absurd h
-log_said (backgrounds ([] ∷ ws)) b o p f e h = cc
 log_said (backgrounds ((d ∷ ds) ∷ ws)) b o p f e h =
     let hex : is_hex d ≡ true = (and_parts (is_hex d) (list_all is_hex ds) (run_parts is_hex 16 (d ∷ ds) (and_parts (is_word (d ∷ ds)) (list_all is_word ws) f).0).0).0 in
     is_first o d (p ∙ (first_byte d ds (more_words ws tail) b h).0) ∙ apart is_hex d 108 hex refl
+log_said c b o p f e h = cc
 
 -- ---- terms
-
-term_begins : (t : Term) (K : List ℕ → Type 0) → Never is_blank (word (term_text t) K)
-term_begins (index_bit ds) K c b e h = when_false (c == 112) (word ds K b) (apart is_blank c 112 e refl) h
-term_begins (constant false) K c b e h = when_false (c == 48) (K b) (apart is_blank c 48 e refl) h
-term_begins (constant true) K c b e h = when_false (c == 49) (K b) (apart is_blank c 49 e refl) h
 
 -- the first byte isn't two bytes
 clash : (first k j : ℕ) (b : List ℕ) → slice_get b 0 ≡ Some j → Some first ≡ slice_get b 0 → first ≡ k → (k == j) ≡ false → ⊥
@@ -166,7 +141,7 @@ no_comment_sign b k h e s =
     elim s [ inl x ↦ (let y : k ≡ 61 = x in omega arith) | inr x ↦ (let y : k ≡ 94 = x in omega arith) ]
 
 term_ahead : (t : Term) (ts : List Term) (b : List ℕ) → terms_left (t ∷ ts) b → word (term_text t) (more_terms ts tail) (after is_blank (drop 1 (after is_blank b)))
-term_ahead t ts b h = many_after is_blank (word (term_text t) (more_terms ts tail)) (drop 1 (after is_blank b)) (term_begins t (more_terms ts tail)) (elim h [
+term_ahead t ts b h = many_after is_blank (word (term_text t) (more_terms ts tail)) (drop 1 (after is_blank b)) (term_stops t (more_terms ts tail)) (elim h [
   | inl w ↦ (ahead 61 (space (word (term_text t) (more_terms ts tail))) b refl w).1
   | inr w ↦ (ahead 94 (space (word (term_text t) (more_terms ts tail))) b refl w).1
 ])
@@ -209,7 +184,7 @@ polarity_read w b run o r f h e s u =
 
 words_behind : (ws : List (List ℕ)) (b : List ℕ) → more_words ws tail b → words_left ws b
 words_behind [] b h = h
-words_behind (w ∷ ws) b h = gap_many (word w (more_words ws tail)) b h
+words_behind (w ∷ ws) b h = space_of_gap (word w (more_words ws tail)) b h
 
 no_value : (o : Option ℕ) (P : Type 0) (v : ℕ) (left : List ℕ) → SomeIff o P v → (P → ⊥) → NextWord [] o left
 no_value None P v left f n = tt
@@ -222,17 +197,14 @@ one_value w ws (Some x) P left f p h = (f.1, h)
 pub word_read : (ws : List (List ℕ)) (b mid left run : List ℕ) (o : Option ℕ) → mid ≡ after is_blank b → run ≡ take_while is_hex mid → left ≡ after is_hex mid
     → SomeIff o (IsNumber 16 16 run) (digits_value 16 run) → list_all is_word ws ≡ true → words_left ws b → NextWord ws o left
 word_read [] b mid left run o m e l f a h =
-    let none : take_while is_hex mid ≡ [] = (word_run is_hex [] comment mid refl (λ c d x y. no_comment c d x y) (subst comment (sym m) (comment_ahead b h))).0 in
+    let none : take_while is_hex mid ≡ [] = (word_run is_hex [] comment mid refl (comment_stops is_hex refl) (subst comment (sym m) (comment_ahead b h))).0 in
     let empty : run ≡ [] = e ∙ none in
     no_value o (IsNumber 16 16 run) (digits_value 16 run) left f (λ n. let z : length run ≡ 0 = ap length empty in let p = n.0.0 in absurd (omega arith))
-  where
-    no_comment : Never is_hex comment
-    no_comment c d x y = when_false (c == 35) (Unit {0}) (apart is_hex c 35 x refl) y
 word_read (w ∷ ws) b mid left run o m e l f a h =
     let parts = and_parts (is_word w) (list_all is_word ws) a in
     let run_of = run_parts is_hex 16 w parts.0 in
     let there : word w (more_words ws tail) mid = subst (word w (more_words ws tail)) (sym m)
-    (many_after is_blank (word w (more_words ws tail)) b (λ c d x y. blank_run is_hex 16 w (more_words ws tail) c d refl refl refl parts.0 x y) h) in
+    (many_after is_blank (word w (more_words ws tail)) b (hex_stops w (more_words ws tail) parts.0) h) in
     let r = word_run is_hex w (more_words ws tail) mid run_of.0 (λ c d x y. no_more_words ws c d x y) there in
     let is : run ≡ w = e ∙ r.0 in
     one_value w ws o (IsNumber 16 16 w) left (subst (λ (x : List ℕ). SomeIff o (IsNumber 16 16 x) (digits_value 16 x)) is f) ((run_of.1, hex_digits w run_of.0), run_of.2)

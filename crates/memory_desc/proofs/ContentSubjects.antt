@@ -1,15 +1,16 @@
 -- What a line speaks of, by its kind.
-use Rattle.std.proofs.Common.{◌≡◌, ℕ, List, Option, Some, None, Result, Ok, Err, refl, sym, ap, ◌∙◌, ◌↔◌, inl, inr}
-use Rattle.std.specs.Str.Parse.{digits_value}
-use Rattle.memory_desc.specs.LineText.{Term, Content, version, name, words, bits, latency, polarity, pause, scramble, log, backgrounds, kind_of, LineText}
+use Rattle.std.proofs.Common.{◌≡◌, ℕ, List, Option, Some, None, Result, Ok, Err, refl, ap, ◌↔◌, inl, inr}
+use Rattle.memory_desc.specs.LineText.{Term, Content, scramble, kind_of, ContentText, LineText}
 use Rattle.memory_desc.specs.LineRest.{KindText}
-use Rattle.memory_desc.specs.Standing.{subject_in}
+use Rattle.memory_desc.specs.Standing.{subject_in, IsRow}
+use Rattle.memory_desc.specs.Subjects.{subject}
 use Rattle.memory_desc.specs.declared.line_place.Key.{Key}
-use Rattle.memory_desc.specs.declared.line_place.Key.TheVariants.{Memory, Name, Words, Bits, Latency, Polarity, Pause, Scramble, Backgrounds}
+use Rattle.memory_desc.specs.declared.line_place.Key.TheVariants.{Scramble}
 use Rattle.memory_desc.specs.declared.line_place.Version.TheVariants.{Two}
 use Rattle.memory_desc.specs.declared.line_reader.LineFault.{LineFault}
+use Rattle.memory_desc.specs.declared.content.Row.{Row}
 use Rattle.memory_desc.specs.declared.content.Subject.{Subject}
-use Rattle.memory_desc.specs.declared.content.Subject.TheVariants.{Version, Name as OfName, Words as OfWords, Bits as OfBits, Latency as OfLatency, Polarity as OfPolarity, Pause as OfPause, Row, Backgrounds as OfBackgrounds}
+use Rattle.memory_desc.specs.declared.content.Subject.TheVariants.{Row as OfRow}
 
 abbrev pub kind_in : Option Content → Option Key
 kind_in None = None
@@ -23,43 +24,22 @@ kind_text text (Some c) h = inr (c, refl, refl, h)
 pub kind_said : (text : List ℕ) (v : Option Content) (r : Result (Option Key) LineFault) → ((k : Option Key) → (r ≡ Ok k) ↔ KindText Two text k) → LineText text v → r ≡ Ok (kind_in v)
 kind_said text v r f h = (f (kind_in v)).1 (kind_text text v h)
 
-pub kind_is : (v : Option Content) (r : Result (Option Key) LineFault) (k : Option Key) → r ≡ Ok (kind_in v) → r ≡ Ok k → kind_in v ≡ k
-kind_is v r k e f = cc
+-- a line of a kind speaks of what its content does
+pub subject_said : (text : List ℕ) (v : Option Content) (r : Result (Option Key) LineFault) (k : Key) (q : Subject) → ((k : Option Key) → (r ≡ Ok k) ↔ KindText Two text k) → LineText text v
+    → r ≡ Ok (Some k) → ((c : Content) → LineText text (Some c) → kind_of c ≡ k → q ≡ subject c) → Some q ≡ subject_in v
+subject_said text None r k q f h e g = let s = kind_said text None r f h in (let z : ⊥ = cc in absurd z)
+subject_said text (Some c) r k q f h e g = let s = kind_said text (Some c) r f h in ap Some (g c h (let z : kind_of c ≡ k = cc in z))
 
-pub not_refused : (v : Option Content) (r : Result (Option Key) LineFault) (fault : LineFault) → r ≡ Ok (kind_in v) → r ≡ Err fault → ⊥
-not_refused v r fault e f = cc
+pub none_said : (text : List ℕ) (v : Option Content) (r : Result (Option Key) LineFault) → ((k : Option Key) → (r ≡ Ok k) ↔ KindText Two text k) → LineText text v
+    → r ≡ Ok None → None ≡ subject_in v
+none_said text None r f h e = refl
+none_said text (Some c) r f h e = let s = kind_said text (Some c) r f h in (let z : ⊥ = cc in absurd z)
 
--- a subject of a kind; a row's has the bit
-abbrev pub subject_of_kind : Key → ℕ → Subject
-subject_of_kind Memory bit = Version
-subject_of_kind Name bit = OfName
-subject_of_kind Words bit = OfWords
-subject_of_kind Bits bit = OfBits
-subject_of_kind Latency bit = OfLatency
-subject_of_kind Polarity bit = OfPolarity
-subject_of_kind Pause bit = OfPause
-subject_of_kind Scramble bit = Row bit
-subject_of_kind Backgrounds bit = OfBackgrounds
+pub not_refused : (text : List ℕ) (v : Option Content) (r : Result (Option Key) LineFault) (fault : LineFault) → ((k : Option Key) → (r ≡ Ok k) ↔ KindText Two text k) → LineText text v
+    → r ≡ Err fault → ⊥
+not_refused text v r fault f h e = let s = kind_said text v r f h in cc
 
-of_kind : (k : Key) (j : Key) (bit : ℕ) → Some j ≡ Some k → Some (subject_of_kind k bit) ≡ Some (subject_of_kind j bit)
-of_kind k j bit e = let same : j ≡ k = cc in ap (λ (x : Key). Some (subject_of_kind x bit)) (sym same)
-
-pub subject_is : (v : Option Content) (k : Key) (bit : ℕ) → kind_in v ≡ Some k → (k ≡ Scramble → (i : List ℕ) (ts : List Term) → v ≡ Some (scramble i ts) → bit ≡ digits_value 10 i)
-    → Some (subject_of_kind k bit) ≡ subject_in v
-subject_is None k bit e f = cc
-subject_is (Some (version ds)) k bit e f = of_kind k Memory bit e
-subject_is (Some (name b)) k bit e f = of_kind k Name bit e
-subject_is (Some (words ds)) k bit e f = of_kind k Words bit e
-subject_is (Some (bits ds)) k bit e f = of_kind k Bits bit e
-subject_is (Some (latency ds)) k bit e f = of_kind k Latency bit e
-subject_is (Some (polarity ds)) k bit e f = of_kind k Polarity bit e
-subject_is (Some (pause ds)) k bit e f = of_kind k Pause bit e
-subject_is (Some (scramble i ts)) k bit e f =
-    let same : k ≡ Scramble = cc in
-    of_kind k Scramble bit e ∙ ap (λ (x : ℕ). Some (Row x)) (f same i ts refl)
-subject_is (Some log) k bit e f = of_kind k Backgrounds bit e
-subject_is (Some (backgrounds ws)) k bit e f = of_kind k Backgrounds bit e
-
-pub no_subject : (v : Option Content) → kind_in v ≡ None → None ≡ subject_in v
-no_subject None e = refl
-no_subject (Some c) e = cc
+pub row_said : (text : List ℕ) (row : Row) (c : Content) → ContentText text c → kind_of c ≡ Scramble
+    → ((i : List ℕ) (ts : List Term) → ContentText text (scramble i ts) → IsRow i ts row) → OfRow row.bit ≡ subject c
+row_said text row (scramble i ts) h e f = ap OfRow (f i ts h).bit
+row_said text row c h e f = (let z : ⊥ = cc in absurd z)

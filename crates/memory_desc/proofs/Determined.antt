@@ -14,7 +14,7 @@ use Rattle.scrambler.specs.Scrambling.{Scrambling, IsLeastDependence, DependsOn,
 use Rattle.scrambler.proofs.LinearLemmas.{two_digits, number-below, bit_at-number}
 use Rattle.scrambler.proofs.ScramblingLemmas.{singular}
 use Rattle.memory_desc.specs.Descriptions.{Description}
-use Rattle.memory_desc.specs.LineText.{Content, version, name, words, bits, latency, polarity, pause, scramble, log, backgrounds}
+use Rattle.memory_desc.specs.LineText.{Content, backgrounds}
 use Rattle.memory_desc.specs.Statements.{Statement}
 use Rattle.memory_desc.specs.Subjects.{said}
 use Rattle.memory_desc.specs.Values.{words_said, bits_said, matrix_said, AreBackgrounds}
@@ -80,15 +80,7 @@ log_set_one size xs ys p q =
 pub backgrounds_one : (o : Option Content) (size : ℕ) (xs ys : List ℕ) → AreBackgrounds o size xs → AreBackgrounds o size ys → xs ≡ ys
 backgrounds_one None size xs ys p q = log_set_one size xs ys p q
 backgrounds_one (Some (backgrounds ws)) size xs ys p q = p ∙ sym q
-backgrounds_one (Some (version ds)) size xs ys p q = log_set_one size xs ys p q
-backgrounds_one (Some (name b)) size xs ys p q = log_set_one size xs ys p q
-backgrounds_one (Some (words ds)) size xs ys p q = log_set_one size xs ys p q
-backgrounds_one (Some (bits ds)) size xs ys p q = log_set_one size xs ys p q
-backgrounds_one (Some (latency ds)) size xs ys p q = log_set_one size xs ys p q
-backgrounds_one (Some (polarity ds)) size xs ys p q = log_set_one size xs ys p q
-backgrounds_one (Some (pause ds)) size xs ys p q = log_set_one size xs ys p q
-backgrounds_one (Some (scramble i ts)) size xs ys p q = log_set_one size xs ys p q
-backgrounds_one (Some log) size xs ys p q = log_set_one size xs ys p q
+backgrounds_one o size xs ys p q = log_set_one size xs ys p q
 
 pub tests_one : (ss : List Statement) (q r : Result (List ℕ) MemoryFault) → StatesBackgrounds ss q → StatesBackgrounds ss r → q ≡ r
 tests_one ss q r (xs, p, f) (ys, s, g) =

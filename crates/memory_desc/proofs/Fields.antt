@@ -1,26 +1,26 @@
 -- The name and the numbers that the statements give, each in its range.
-use Rattle.std.proofs.Common.{◌≡◌, ℕ, ◌-◌, ◌^◌, ◌<◌, ◌≤◌, ◌||◌, false, List, length, Some, None, Result, sym, ◌∙◌, ap, subst, refl}
+use Rattle.std.proofs.Common.{◌⊎◌, inl, inr, arith, ◌≡◌, ℕ, ◌-◌, ◌^◌, ◌<◌, ◌≤◌, ◌||◌, true, false, List, length, Some, None, Result, sym, ◌∙◌, ap, subst}
 use Rattle.std.specs.Prelude.{nat_lt}
 use Rattle.std.specs.Str.Parse.{digits_value}
 use Rattle.std.proofs.lemmas.Bool.{or_parts, ltb-false, leb-false}
 use Rattle.bist_bits.specs.Width.{IsWidthOf}
 use Rattle.bist_text.specs.declared.text_lines.Line.{Line}
 use Rattle.memory_desc.specs.Descriptions.{Description}
-use Rattle.memory_desc.specs.LineText.{Content, name, words, bits, latency, polarity, pause, ContentText}
+use Rattle.memory_desc.specs.LineText.{Content, name, polarity, ContentText}
 use Rattle.memory_desc.specs.Names.{IsName}
 use Rattle.bist_text.specs.ReservedWords.{is_among, reserved_words}
-use Rattle.memory_desc.specs.Standing.{StandsAt, digits_in}
+use Rattle.memory_desc.specs.Standing.{is_ranged, least, most, value_in, StandsAt, digits_in}
 use Rattle.memory_desc.specs.Statements.{Statement}
-use Rattle.memory_desc.specs.Subjects.{about}
+use Rattle.memory_desc.specs.Subjects.{about, said}
 use Rattle.memory_desc.specs.Table.{missing, unless_there, repeated, out_of_range, too_wide, Builds, Describes}
-use Rattle.memory_desc.specs.Values.{number_in, name_in, latency_in, polarity_in, pause_in, name_said, words_said, bits_said, latency_said, polarity_said, pause_said}
+use Rattle.memory_desc.specs.Values.{name_in, polarity_in, name_said, words_said, polarity_said, latency_in, pause_in}
 use Rattle.memory_desc.specs.declared.content.Subject.{Subject}
-use Rattle.memory_desc.specs.declared.content.Subject.TheVariants.{Name, Words, Bits, Latency, Polarity, Pause}
+use Rattle.memory_desc.specs.declared.content.Subject.TheVariants.{Name, Words, Bits, Polarity, Latency, Pause}
 use Rattle.memory_desc.specs.declared.fault.Field.{Field}
 use Rattle.memory_desc.specs.declared.fault.Field.TheVariants.{Name as NameField, Words as WordsField, Bits as BitsField}
 use Rattle.memory_desc.specs.declared.fault.MemoryFault.{MemoryFault}
 use Rattle.memory_desc.specs.declared.fault.MemoryFault.TheVariants.{Missing}
-use Rattle.memory_desc.proofs.Stated.{stated, unstated, name_stated, words_stated, bits_stated, latency_stated, polarity_stated, pause_stated, in_range, within}
+use Rattle.memory_desc.proofs.Stated.{stated, says, unstated, name_stated, polarity_stated, in_range, within, has_digits}
 
 -- a field whose line is there isn't missing
 pub not_missing : (q : Subject) (field : Field) (ss : List Statement) (l : Line) → StandsAt (Some l) (about q ss) → missing q field ss ≡ None
@@ -41,38 +41,23 @@ given said low high n value e f h =
       high_bound = subst (λ (x : ℕ). x ≤ high) (sym e) (ltb-false high value parts.1);
     }
 
-pub words_given : (ss : List Statement) (l : Line) (n : ℕ) → StandsAt (Some l) (about Words ss) → out_of_range ss ≡ None
-    → ((c : Content) (ds : List ℕ) → ContentText l.text.now c → digits_in c ≡ Some ds → n ≡ digits_value 10 ds) → IsGiven (words_said ss) 2 65536 n
-words_given ss l n h r f =
-    let s = words_stated ss l.text.now (stated Words ss l h) in
-    given (words_said ss) 2 65536 n (digits_value 10 s.0) (f (words s.0) s.0 s.1.written refl) (ap number_in s.1.said_is) (in_range ss Words (words s.0) r s.1.said_is)
-
-pub bits_given : (ss : List Statement) (l : Line) (n : ℕ) → StandsAt (Some l) (about Bits ss) → out_of_range ss ≡ None
-    → ((c : Content) (ds : List ℕ) → ContentText l.text.now c → digits_in c ≡ Some ds → n ≡ digits_value 10 ds) → IsGiven (bits_said ss) 1 64 n
-bits_given ss l n h r f =
-    let s = bits_stated ss l.text.now (stated Bits ss l h) in
-    given (bits_said ss) 1 64 n (digits_value 10 s.0) (f (bits s.0) s.0 s.1.written refl) (ap number_in s.1.said_is) (in_range ss Bits (bits s.0) r s.1.said_is)
-
-pub latency_given : (ss : List Statement) (l : Line) (n : ℕ) → StandsAt (Some l) (about Latency ss) → out_of_range ss ≡ None
-    → ((c : Content) (ds : List ℕ) → ContentText l.text.now c → digits_in c ≡ Some ds → n ≡ digits_value 10 ds) → IsGiven (latency_said ss) 1 4 n
-latency_given ss l n h r f =
-    let s = latency_stated ss l.text.now (stated Latency ss l h) in
-    given (latency_said ss) 1 4 n (digits_value 10 s.0) (f (latency s.0) s.0 s.1.written refl) (ap latency_in s.1.said_is) (in_range ss Latency (latency s.0) r s.1.said_is)
-
-pub pause_given : (ss : List Statement) (l : Line) (n : ℕ) → StandsAt (Some l) (about Pause ss) → out_of_range ss ≡ None
-    → ((c : Content) (ds : List ℕ) → ContentText l.text.now c → digits_in c ≡ Some ds → n ≡ digits_value 10 ds) → IsGiven (pause_said ss) 1 65535 n
-pause_given ss l n h r f =
-    let s = pause_stated ss l.text.now (stated Pause ss l h) in
-    given (pause_said ss) 1 65535 n (digits_value 10 s.0) (f (pause s.0) s.0 s.1.written refl) (ap pause_in s.1.said_is) (in_range ss Pause (pause s.0) r s.1.said_is)
-
 -- the numbers that lines give, in range or not
-pub latency_same : (ss : List Statement) (l : Line) (n : ℕ) → StandsAt (Some l) (about Latency ss)
-    → ((c : Content) (ds : List ℕ) → ContentText l.text.now c → digits_in c ≡ Some ds → n ≡ digits_value 10 ds) → n ≡ latency_said ss
-latency_same ss l n h f = let s = latency_stated ss l.text.now (stated Latency ss l h) in f (latency s.0) s.0 s.1.written refl ∙ sym (ap latency_in s.1.said_is)
+pub number_same : (q : Subject) (ss : List Statement) (l : Line) (n : ℕ) → is_ranged q ≡ true → StandsAt (Some l) (about q ss)
+    → ((c : Content) (ds : List ℕ) → ContentText l.text.now c → digits_in c ≡ Some ds → n ≡ digits_value 10 ds) → n ≡ value_in q (said q ss)
+number_same q ss l n k h f =
+    let s = stated q ss l h in
+    let c = s.statement.content in
+    let d = has_digits q c k s.same in
+    f c d.digits s.written d.written ∙ sym d.value ∙ sym (ap (value_in q) (says q ss l.text.now s).said_is)
 
-pub pause_same : (ss : List Statement) (l : Line) (n : ℕ) → StandsAt (Some l) (about Pause ss)
-    → ((c : Content) (ds : List ℕ) → ContentText l.text.now c → digits_in c ≡ Some ds → n ≡ digits_value 10 ds) → n ≡ pause_said ss
-pause_same ss l n h f = let s = pause_stated ss l.text.now (stated Pause ss l h) in f (pause s.0) s.0 s.1.written refl ∙ sym (ap pause_in s.1.said_is)
+pub number_given : (q : Subject) (ss : List Statement) (l : Line) (n : ℕ) → is_ranged q ≡ true → StandsAt (Some l) (about q ss) → out_of_range ss ≡ None
+    → ((c : Content) (ds : List ℕ) → ContentText l.text.now c → digits_in c ≡ Some ds → n ≡ digits_value 10 ds) → IsGiven (value_in q (said q ss)) (least q) (most q) n
+number_given q ss l n k h r f =
+    let s = stated q ss l h in
+    let c = s.statement.content in
+    let d = has_digits q c k s.same in
+    given (value_in q (said q ss)) (least q) (most q) n (digits_value 10 d.digits) (f c d.digits s.written d.written)
+    (ap (value_in q) (says q ss l.text.now s).said_is ∙ d.value) (sym d.tested ∙ in_range ss q c r (says q ss l.text.now s).said_is)
 
 pub polarity_same : (ss : List Statement) (l : Line) (n : ℕ) → StandsAt (Some l) (about Polarity ss)
     → ((w : List ℕ) → ContentText l.text.now (polarity w) → n ≡ digits_value 16 w) → n ≡ polarity_said ss
@@ -84,12 +69,28 @@ polarity_fits ss l n width size h r f =
     let s = polarity_stated ss l.text.now (stated Polarity ss l h) in
     subst (λ (x : ℕ). x < 2 ^ size) (sym (f s.0 s.1.written)) (leb-false (2 ^ size) (digits_value 16 s.0) (within ss width size Polarity (polarity s.0) r s.1.said_is))
 
--- what is so where no line gives them
-pub latency_unsaid : (ss : List Statement) → StandsAt None (about Latency ss) → 1 ≡ latency_said ss
-latency_unsaid ss h = sym (ap latency_in (unstated Latency ss h))
+-- a latency or a pause
+abbrev pub IsCycles : Subject → Type 0
+IsCycles q = (q ≡ Latency) ⊎ (q ≡ Pause)
 
-pub pause_unsaid : (ss : List Statement) → StandsAt None (about Pause ss) → 1 ≡ pause_said ss
-pause_unsaid ss h = sym (ap pause_in (unstated Pause ss h))
+pub is_cycles : (q : Subject) → IsCycles q → is_ranged q ≡ true
+is_cycles q (inl e) = ap is_ranged e
+is_cycles q (inr e) = ap is_ranged e
+
+pub cycles_least : (q : Subject) (n : ℕ) → IsCycles q → least q ≤ n → 1 ≤ n
+cycles_least q n (inl e) h = subst (λ q. least q ≤ n) e h
+cycles_least q n (inr e) h = subst (λ q. least q ≤ n) e h
+
+pub cycles_unsaid : (q : Subject) → IsCycles q → (1 ≤ 1) × (1 ≤ most q)
+cycles_unsaid q (inl e) = (omega arith, subst (λ q. 1 ≤ most q) (sym e) (omega arith))
+cycles_unsaid q (inr e) = (omega arith, subst (λ q. 1 ≤ most q) (sym e) (omega arith))
+
+-- what is so where no line gives them
+pub number_unsaid : (q : Subject) (ss : List Statement) → IsCycles q → StandsAt None (about q ss) → 1 ≡ value_in q (said q ss)
+number_unsaid Latency ss k h = sym (ap latency_in (unstated Latency ss h))
+number_unsaid Pause ss k h = sym (ap pause_in (unstated Pause ss h))
+number_unsaid q ss (inl e) h = (let z : ⊥ = cc in absurd z)
+number_unsaid q ss (inr e) h = (let z : ⊥ = cc in absurd z)
 
 pub polarity_unsaid : (ss : List Statement) → StandsAt None (about Polarity ss) → 0 ≡ polarity_said ss
 polarity_unsaid ss h = sym (ap polarity_in (unstated Polarity ss h))

@@ -2,6 +2,7 @@ pub mod LinePieces
 pub mod LineRefusals
 pub mod LineLaws
 pub mod LineStarts
+pub mod LineStops
 pub mod LineBegins
 pub mod LineFollows
 pub mod LineMachine

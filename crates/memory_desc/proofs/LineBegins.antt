@@ -1,5 +1,5 @@
 -- What may follow at a line's beginning and behind its first word, by the next byte.
-use Rattle.std.proofs.Common.{◌≡◌, ℕ, ◌≤◌, ◌==◌, true, false, if◌then◌else◌, List, [], ◌∷◌, Option, Some, None, refl, ◌↔◌, ap, ◌∙◌, arith}
+use Rattle.std.proofs.Common.{◌≡◌, ℕ, ◌≤◌, ◌==◌, Bool, true, false, if◌then◌else◌, List, [], ◌∷◌, Option, Some, None, refl, ◌↔◌, ap, ◌∙◌, arith}
 use Rattle.std.proofs.lemmas.Bool.{eqb-true, eq-eqb, and_parts, and_from}
 use Rattle.std.specs.List.{list_all}
 use Rattle.bist_text.specs.Grammar.{word, is_blank}
@@ -12,27 +12,12 @@ use Rattle.memory_desc.specs.declared.line_place.Place.TheVariants.{Wanted, Numb
 use Rattle.memory_desc.specs.LineText.{Term, Content, version, name, words, bits, latency, polarity, pause, scramble, log, backgrounds, kind_of, is_hex, is_number, is_word, is_term, is_formed, space, tail, equation, more_words, argument}
 use Rattle.memory_desc.specs.LinePlaces.{argument_begun, is_digit_of, most_digits}
 use Rattle.memory_desc.specs.LineRest.{Run, Names, Of, Terms, HexWords, rest}
-use Rattle.memory_desc.proofs.LinePieces.{at_bool, when_true, when_false, when_holds, apart, space_on, space_off}
-use Rattle.memory_desc.proofs.LineRefusals.{blank_word}
+use Rattle.memory_desc.proofs.LinePieces.{at_bool, when_true, when_false, when_holds, space_on, space_off}
+use Rattle.memory_desc.proofs.LineStops.{argument_stops}
 use Rattle.memory_desc.proofs.LineLaws.{Law, second, of_iff}
-use Rattle.memory_desc.proofs.LineStarts.{is_run, run_parts, run_of, run_begins, no_run, blank_run}
+use Rattle.memory_desc.proofs.LineStarts.{is_run, run_parts, run_of, run_begins, no_run}
 
 -- ---- behind the first word
-
-blank_argument : (x : Content) (c : ℕ) (b : List ℕ) → is_formed x ≡ true → is_blank c ≡ true → argument x tail (c ∷ b) → ⊥
-blank_argument (version ds) c b n e w = blank_run is_digit 9 ds tail c b refl refl refl n e w
-blank_argument (name []) c b n e w = (let z : ⊥ = cc in z)
-blank_argument (name (d ∷ ds)) c b n e w = blank_word is_letter d ds tail c b refl refl refl (and_parts (is_letter d) (list_all is_name_byte ds) n).0 e w
-blank_argument (words ds) c b n e w = blank_run is_digit 9 ds tail c b refl refl refl n e w
-blank_argument (bits ds) c b n e w = blank_run is_digit 9 ds tail c b refl refl refl n e w
-blank_argument (latency ds) c b n e w = blank_run is_digit 9 ds tail c b refl refl refl n e w
-blank_argument (polarity w) c b n e h = blank_run is_hex 16 w tail c b refl refl refl n e h
-blank_argument (pause ds) c b n e w = blank_run is_digit 9 ds tail c b refl refl refl n e w
-blank_argument (scramble i ts) c b n e w = when_false (c == 97) (word i (equation ts tail) b) (apart is_blank c 97 e refl) w
-blank_argument log c b n e w = when_false (c == 108) (word (111 ∷ 103 ∷ []) tail b) (apart is_blank c 108 e refl) w
-blank_argument (backgrounds []) c b n e w = w
-blank_argument (backgrounds (v ∷ vs)) c b n e w =
-    blank_run is_hex 16 v (more_words vs tail) c b refl refl refl (and_parts (is_word v) (list_all is_word vs) n).0 e w
 
 -- a number, in a content line of a kind that has one
 pub some_digits : (key : Key) → 1 ≤ most_digits key
@@ -43,54 +28,37 @@ some_digits key = omega arith
 abbrev Digits : Key → List ℕ → Type 0
 Digits key b = (ds : List ℕ) × (is_run (is_digit_of key) (most_digits key) ds ≡ true) × word ds tail b
 
-number_begins : (key : Key) (c : ℕ) (b : List ℕ) → (Of key (λ x. argument x tail) (c ∷ b) ↔ Digits key (c ∷ b))
+abbrev has_digits : Key → Bool
+has_digits Name = false
+has_digits Scramble = false
+has_digits Backgrounds = false
+has_digits key = true
+
+digits_of : (key : Key) (x : Content) (b : List ℕ) → has_digits key ≡ true → kind_of x ≡ key → is_formed x ≡ true → argument x tail b → Digits key b
+digits_of Memory (version ds) b d e n w = (ds, n, w)
+digits_of Words (words ds) b d e n w = (ds, n, w)
+digits_of Bits (bits ds) b d e n w = (ds, n, w)
+digits_of Latency (latency ds) b d e n w = (ds, n, w)
+digits_of Polarity (polarity ds) b d e n w = (ds, n, w)
+digits_of Pause (pause ds) b d e n w = (ds, n, w)
+digits_of key x b d e n w = (let z : ⊥ = cc in absurd z)
+
+of_digits : (key : Key) (b : List ℕ) → has_digits key ≡ true → Digits key b → Of key (λ x. argument x tail) b
+of_digits Memory b d h = (version h.0, refl, h.1, h.2)
+of_digits Words b d h = (words h.0, refl, h.1, h.2)
+of_digits Bits b d h = (bits h.0, refl, h.1, h.2)
+of_digits Latency b d h = (latency h.0, refl, h.1, h.2)
+of_digits Polarity b d h = (polarity h.0, refl, h.1, h.2)
+of_digits Pause b d h = (pause h.0, refl, h.1, h.2)
+of_digits key b d h = (let z : ⊥ = cc in absurd z)
+
+number_begins : (key : Key) (c : ℕ) (b : List ℕ) → has_digits key ≡ true
     → (v : Option Key) → ((v ≡ Some key) × Of key (λ x. argument x tail) (c ∷ b)) ↔ Holds (if is_digit_of key c then Some (Number key 1) else None) (λ t. rest t b v)
-number_begins key c b f v =
+number_begins key c b d v =
+    let to : Of key (λ x. argument x tail) (c ∷ b) → Digits key (c ∷ b) = λ h. digits_of key h.0 (c ∷ b) d h.1 h.2 h.3 in
     at_bool (λ t. ((v ≡ Some key) × Of key (λ x. argument x tail) (c ∷ b)) ↔ Holds (if t then Some (Number key 1) else None) (λ t. rest t b v)) (is_digit_of key c)
-    (λ e. second (also f (run_begins (is_digit_of key) (most_digits key) tail c b e (some_digits key))))
-    (λ e. never (λ h. let g = f.0 h.1 in no_run (is_digit_of key) (most_digits key) g.0 tail c b e g.1 g.2) (λ z. z))
-
-of_memory : (c : ℕ) (b : List ℕ) → Of Memory (λ x. argument x tail) (c ∷ b) ↔ Digits Memory (c ∷ b)
-of_memory c b = (λ h. to h.0 h.1 h.2 h.3, λ h. (version h.0, refl, h.1, h.2))
-  where
-    to : (x : Content) → kind_of x ≡ Memory → is_formed x ≡ true → argument x tail (c ∷ b) → Digits Memory (c ∷ b)
-    to (version ds) e n w = (ds, n, w)
-    to x e n w = (let z : ⊥ = cc in absurd z)
-
-of_words : (c : ℕ) (b : List ℕ) → Of Words (λ x. argument x tail) (c ∷ b) ↔ Digits Words (c ∷ b)
-of_words c b = (λ h. to h.0 h.1 h.2 h.3, λ h. (words h.0, refl, h.1, h.2))
-  where
-    to : (x : Content) → kind_of x ≡ Words → is_formed x ≡ true → argument x tail (c ∷ b) → Digits Words (c ∷ b)
-    to (words ds) e n w = (ds, n, w)
-    to x e n w = (let z : ⊥ = cc in absurd z)
-
-of_bits : (c : ℕ) (b : List ℕ) → Of Bits (λ x. argument x tail) (c ∷ b) ↔ Digits Bits (c ∷ b)
-of_bits c b = (λ h. to h.0 h.1 h.2 h.3, λ h. (bits h.0, refl, h.1, h.2))
-  where
-    to : (x : Content) → kind_of x ≡ Bits → is_formed x ≡ true → argument x tail (c ∷ b) → Digits Bits (c ∷ b)
-    to (bits ds) e n w = (ds, n, w)
-    to x e n w = (let z : ⊥ = cc in absurd z)
-
-of_latency : (c : ℕ) (b : List ℕ) → Of Latency (λ x. argument x tail) (c ∷ b) ↔ Digits Latency (c ∷ b)
-of_latency c b = (λ h. to h.0 h.1 h.2 h.3, λ h. (latency h.0, refl, h.1, h.2))
-  where
-    to : (x : Content) → kind_of x ≡ Latency → is_formed x ≡ true → argument x tail (c ∷ b) → Digits Latency (c ∷ b)
-    to (latency ds) e n w = (ds, n, w)
-    to x e n w = (let z : ⊥ = cc in absurd z)
-
-of_polarity : (c : ℕ) (b : List ℕ) → Of Polarity (λ x. argument x tail) (c ∷ b) ↔ Digits Polarity (c ∷ b)
-of_polarity c b = (λ h. to h.0 h.1 h.2 h.3, λ h. (polarity h.0, refl, h.1, h.2))
-  where
-    to : (x : Content) → kind_of x ≡ Polarity → is_formed x ≡ true → argument x tail (c ∷ b) → Digits Polarity (c ∷ b)
-    to (polarity ds) e n w = (ds, n, w)
-    to x e n w = (let z : ⊥ = cc in absurd z)
-
-of_pause : (c : ℕ) (b : List ℕ) → Of Pause (λ x. argument x tail) (c ∷ b) ↔ Digits Pause (c ∷ b)
-of_pause c b = (λ h. to h.0 h.1 h.2 h.3, λ h. (pause h.0, refl, h.1, h.2))
-  where
-    to : (x : Content) → kind_of x ≡ Pause → is_formed x ≡ true → argument x tail (c ∷ b) → Digits Pause (c ∷ b)
-    to (pause ds) e n w = (ds, n, w)
-    to x e n w = (let z : ⊥ = cc in absurd z)
+    (λ e. second (also (to, of_digits key (c ∷ b) d) (run_begins (is_digit_of key) (most_digits key) tail c b e (some_digits key))))
+    (λ e. never (λ h. let g = to h.1 in no_run (is_digit_of key) (most_digits key) g.0 tail c b e g.1 g.2) (λ z. z))
 
 name_begins : (c : ℕ) (b : List ℕ) (v : Option Key) → ((v ≡ Some Name) × Of Name (λ x. argument x tail) (c ∷ b)) ↔ Holds (if is_letter c then Some InName else None) (λ t. rest t b v)
 name_begins c b v =
@@ -178,12 +146,12 @@ backgrounds_begin c b v =
     none f g x e n w = (let z : ⊥ = cc in z)
 
 argument_begins : (key : Key) (c : ℕ) (b : List ℕ) (v : Option Key) → ((v ≡ Some key) × Of key (λ x. argument x tail) (c ∷ b)) ↔ Holds (argument_begun key c) (λ t. rest t b v)
-argument_begins Memory c b v = number_begins Memory c b (of_memory c b) v
-argument_begins Words c b v = number_begins Words c b (of_words c b) v
-argument_begins Bits c b v = number_begins Bits c b (of_bits c b) v
-argument_begins Latency c b v = number_begins Latency c b (of_latency c b) v
-argument_begins Polarity c b v = number_begins Polarity c b (of_polarity c b) v
-argument_begins Pause c b v = number_begins Pause c b (of_pause c b) v
+argument_begins Memory c b v = number_begins Memory c b refl v
+argument_begins Words c b v = number_begins Words c b refl v
+argument_begins Bits c b v = number_begins Bits c b refl v
+argument_begins Latency c b v = number_begins Latency c b refl v
+argument_begins Polarity c b v = number_begins Polarity c b refl v
+argument_begins Pause c b v = number_begins Pause c b refl v
 argument_begins Name c b v = name_begins c b v
 argument_begins Scramble c b v = row_begins c b v
 argument_begins Backgrounds c b v = backgrounds_begin c b v
@@ -192,6 +160,6 @@ pub goes_wanted : (key : Key) (c : ℕ) (b : List ℕ) (v : Option Key) → Law 
 goes_wanted key c b v =
     at_bool (λ t. rest (Wanted key) (c ∷ b) v ↔ Holds (if t then Some (Wanted key) else argument_begun key c) (λ t. rest t b v)) (is_blank c)
     (λ e. second (of_iff key (λ x. space (argument x tail)) (λ x. space (argument x tail)) (c ∷ b) b
-    (λ x n. space_on (argument x tail) c b e (blank_argument x c b n e))))
+    (λ x n. space_on (argument x tail) c b e (argument_stops x n c b e))))
     (λ e. also (second (of_iff key (λ x. space (argument x tail)) (λ x. argument x tail) (c ∷ b) (c ∷ b)
     (λ x n. space_off (argument x tail) c b e))) (argument_begins key c b v))

@@ -33,36 +33,15 @@ first Backgrounds = 98
 
 key_word : (k : Key) (K : List ℕ → Type 0) (c : ℕ) (b : List ℕ) → word (key_text k) K (c ∷ b) ↔ when (c == first k) (word (drop 1 (key_text k)) K b)
 key_word Memory K c b = same
-key_word Name K c b = same
-key_word Words K c b = same
-key_word Bits K c b = same
-key_word Latency K c b = same
-key_word Polarity K c b = same
-key_word Pause K c b = same
-key_word Scramble K c b = same
-key_word Backgrounds K c b = same
+key_word k K c b = same
 
 first_blank : (k : Key) → is_blank (first k) ≡ false
 first_blank Memory = refl
-first_blank Name = refl
-first_blank Words = refl
-first_blank Bits = refl
-first_blank Latency = refl
-first_blank Polarity = refl
-first_blank Pause = refl
-first_blank Scramble = refl
-first_blank Backgrounds = refl
+first_blank k = refl
 
 letter_no_hash : (k : Key) → (first k == 35) ≡ false
 letter_no_hash Memory = refl
-letter_no_hash Name = refl
-letter_no_hash Words = refl
-letter_no_hash Bits = refl
-letter_no_hash Latency = refl
-letter_no_hash Polarity = refl
-letter_no_hash Pause = refl
-letter_no_hash Scramble = refl
-letter_no_hash Backgrounds = refl
+letter_no_hash k = refl
 
 -- a content line at its first letter
 abbrev Contents : (Key → Type 0) → List ℕ → Option Key → Type 0

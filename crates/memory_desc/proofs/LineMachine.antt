@@ -1,7 +1,8 @@
 -- Where a line ends, how each place goes on to an end, and with that: the reader of a line answers as its grammar says.
 use Rattle.std.proofs.Common.{◌≡◌, ℕ, zero, suc, ◌+◌, ◌≤◌, ◌==◌, Bool, true, false, if◌then◌else◌, List, [], ◌∷◌, ◌++◌, drop, length, codes, Option, Some, None, refl, ◌↔◌, inl, inr, sym, ap, arith, zero-le}
-use Rattle.std.proofs.lemmas.Bool.{and_from, eq-eqb}
+use Rattle.std.proofs.lemmas.Bool.{and_from, and_parts, eq-eqb}
 use Rattle.std.proofs.Math.Dec.{eqb-suc-zero}
+use Rattle.std.specs.List.{list_all}
 use Rattle.bist_text.specs.Grammar.{word, Continues, are_bytes}
 use Rattle.bist_text.specs.Machine.{Follows, scan, IsExact}
 use Rattle.bist_text.proofs.Pieces.{same, never, neither, word_on}
@@ -10,13 +11,13 @@ use Rattle.bist_text.proofs.Exclusive.{scan_exact}
 use Rattle.memory_desc.specs.Names.{is_digit}
 use Rattle.memory_desc.specs.declared.line_place.Key.{Key}
 use Rattle.memory_desc.specs.declared.line_place.Key.TheVariants.{Memory, Name, Words, Bits, Latency, Polarity, Pause, Scramble, Backgrounds}
-use Rattle.memory_desc.specs.declared.line_place.Version.{Version}
 use Rattle.memory_desc.specs.declared.line_place.Place.{Place}
 use Rattle.memory_desc.specs.declared.line_place.Place.TheVariants.{Opening, Begin, Remark, LetterB, LetterP, Letters, Wanted, Number, Name as InName, RowNumber, RowEnd, Term as AtTerm, TermNumber, TermEnd, LetterL, LetterO, Hex, HexEnd, End}
-use Rattle.memory_desc.specs.LineText.{Term, index_bit, constant, Content, version, name, words, bits, latency, polarity, pause, scramble, log, backgrounds, kind_of, in_table, is_hex, is_formed, space, gap, tail, term_text, more_terms, equation, more_words, argument, key_text}
+use Rattle.memory_desc.specs.LineText.{Term, index_bit, constant, Content, version, name, words, bits, latency, polarity, pause, scramble, log, backgrounds, kind_of, in_table, is_hex, is_word, is_formed, space, gap, tail, term_text, more_terms, equation, more_words, argument, key_text}
 use Rattle.memory_desc.specs.LinePlaces.{step, value, is_digit_of, most_digits}
-use Rattle.memory_desc.specs.LineRest.{LineOf, KindText, OpeningText, Run, Terms, HexWords, rest}
+use Rattle.memory_desc.specs.LineRest.{LineOf, Run, Terms, HexWords, rest}
 use Rattle.memory_desc.proofs.LinePieces.{at_bool, positive, when_true}
+use Rattle.memory_desc.proofs.LineStarts.{is_run, run_parts}
 use Rattle.memory_desc.proofs.LineBegins.{some_digits}
 use Rattle.memory_desc.proofs.LineFollows.{goes_at}
 
@@ -37,39 +38,26 @@ no_gap (c ∷ w) K h = h
 
 no_key : (k : Key) (K : List ℕ → Type 0) → word (key_text k) K [] → ⊥
 no_key Memory K h = h
-no_key Name K h = h
-no_key Words K h = h
-no_key Bits K h = h
-no_key Latency K h = h
-no_key Polarity K h = h
-no_key Pause K h = h
-no_key Scramble K h = h
-no_key Backgrounds K h = h
+no_key k K h = h
 
 line_ends : (allowed : Key → Type 0) (v : Option Key) → LineOf allowed [] v ↔ (Some None ≡ Some v)
 line_ends allowed v =
     (elim [ inl h ↦ ap Some (sym h.0) | inr h ↦ absurd (no_key (kind_of h.0) (gap (argument h.0 tail)) h.3.1) ], λ h. inl ((some_is None v).1 h, tt))
 
+no_word : (p : ℕ → Bool) (most : ℕ) (ds : List ℕ) (K : List ℕ → Type 0) → is_run p most ds ≡ true → word ds K [] → ⊥
+no_word p most [] K r w = (let parts = run_parts p most [] r in let l = parts.1 in omega arith)
+no_word p most (d ∷ ds) K r w = w
+
 no_argument : (x : Content) → is_formed x ≡ true → argument x tail [] → ⊥
-no_argument (version []) n w = (let z : ⊥ = cc in z)
-no_argument (version (d ∷ ds)) n w = w
+no_argument (version ds) n w = no_word is_digit 9 ds tail n w
 no_argument (name []) n w = (let z : ⊥ = cc in z)
-no_argument (name (d ∷ ds)) n w = w
-no_argument (words []) n w = (let z : ⊥ = cc in z)
-no_argument (words (d ∷ ds)) n w = w
-no_argument (bits []) n w = (let z : ⊥ = cc in z)
-no_argument (latency []) n w = (let z : ⊥ = cc in z)
-no_argument (polarity []) n w = (let z : ⊥ = cc in z)
-no_argument (pause []) n w = (let z : ⊥ = cc in z)
-no_argument (bits (d ∷ ds)) n w = w
-no_argument (latency (d ∷ ds)) n w = w
-no_argument (polarity (d ∷ ds)) n w = w
-no_argument (pause (d ∷ ds)) n w = w
-no_argument (scramble i ts) n w = w
-no_argument log n w = w
-no_argument (backgrounds []) n w = w
-no_argument (backgrounds ([] ∷ ws)) n w = (let z : ⊥ = cc in z)
-no_argument (backgrounds ((d ∷ ds) ∷ ws)) n w = w
+no_argument (words ds) n w = no_word is_digit 9 ds tail n w
+no_argument (bits ds) n w = no_word is_digit 9 ds tail n w
+no_argument (latency ds) n w = no_word is_digit 9 ds tail n w
+no_argument (polarity ds) n w = no_word is_hex 16 ds tail n w
+no_argument (pause ds) n w = no_word is_digit 9 ds tail n w
+no_argument (backgrounds (v ∷ vs)) n w = no_word is_hex 16 v (more_words vs tail) (and_parts (is_word v) (list_all is_word vs) n).0 w
+no_argument x n w = w
 
 -- a run that ends with the line
 run_ends : (p : ℕ → Bool) (most n : ℕ) (K : List ℕ → Type 0) → Run p most n K [] → ((n == 0) ≡ false) × K []
@@ -151,58 +139,23 @@ example_text Backgrounds = codes "log"
 
 example_kind : (k : Key) → kind_of (example k) ≡ k
 example_kind Memory = refl
-example_kind Name = refl
-example_kind Words = refl
-example_kind Bits = refl
-example_kind Latency = refl
-example_kind Polarity = refl
-example_kind Pause = refl
-example_kind Scramble = refl
-example_kind Backgrounds = refl
+example_kind k = refl
 
 example_formed : (k : Key) → is_formed (example k) ≡ true
 example_formed Memory = refl
-example_formed Name = refl
-example_formed Words = refl
-example_formed Bits = refl
-example_formed Latency = refl
-example_formed Polarity = refl
-example_formed Pause = refl
-example_formed Scramble = refl
-example_formed Backgrounds = refl
+example_formed k = refl
 
 example_bytes : (k : Key) → are_bytes (example_text k) ≡ true
 example_bytes Memory = refl
-example_bytes Name = refl
-example_bytes Words = refl
-example_bytes Bits = refl
-example_bytes Latency = refl
-example_bytes Polarity = refl
-example_bytes Pause = refl
-example_bytes Scramble = refl
-example_bytes Backgrounds = refl
+example_bytes k = refl
 
 key_bytes : (k : Key) → are_bytes (key_text k) ≡ true
 key_bytes Memory = refl
-key_bytes Name = refl
-key_bytes Words = refl
-key_bytes Bits = refl
-key_bytes Latency = refl
-key_bytes Polarity = refl
-key_bytes Pause = refl
-key_bytes Scramble = refl
-key_bytes Backgrounds = refl
+key_bytes k = refl
 
 example_is : (k : Key) → space (argument (example k) tail) (example_text k)
-example_is Memory = inl tt
-example_is Name = inl tt
-example_is Words = inl tt
-example_is Bits = inl tt
-example_is Latency = inl tt
-example_is Polarity = inl tt
-example_is Pause = inl tt
 example_is Scramble = inl (inl (inl tt))
-example_is Backgrounds = inl tt
+example_is k = inl tt
 
 -- a run that goes on to what may follow it
 run_goes_on : (p : ℕ → Bool) (most n d : ℕ) (K : List ℕ → Type 0) (b : List ℕ) → p d ≡ true → 1 ≤ most → are_bytes (d ∷ b) ≡ true → are_bytes b ≡ true → K b
@@ -253,10 +206,6 @@ follows = record {
   keeps = λ p c q w e. tt;
 }
 
--- A line is read exactly as the grammar of lines says,
-pub line_exact : (n : Version) (b : List ℕ) → are_bytes b ≡ true → IsExact (KindText n) b (scan step value b (Begin n) 0)
-line_exact n b w = scan_exact step value rest (λ p. Unit {0}) follows (KindText n) (Begin n) tt (λ x v. same) b w
-
--- and so is one that may only be a `memory` line.
-pub opening_exact : (b : List ℕ) → are_bytes b ≡ true → IsExact OpeningText b (scan step value b Opening 0)
-opening_exact b w = scan_exact step value rest (λ p. Unit {0}) follows OpeningText Opening tt (λ x v. same) b w
+-- From each place on a line is read exactly as what may follow there says.
+pub line_exact : (p : Place) (b : List ℕ) → are_bytes b ≡ true → IsExact (rest p) b (scan step value b p 0)
+line_exact p b w = scan_exact step value rest (λ p. Unit {0}) follows (rest p) p tt (λ x v. same) b w

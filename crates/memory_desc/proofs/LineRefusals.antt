@@ -1,13 +1,12 @@
 -- What no piece of a line begins with.
-use Rattle.std.proofs.Common.{◌≡◌, ℕ, ◌==◌, ◌&&◌, Bool, true, false, List, [], ◌∷◌, refl, ap, ◌∙◌}
-use Rattle.std.proofs.lemmas.Bool.{eqb-true, and_parts}
-use Rattle.std.specs.List.{list_all}
+use Rattle.std.proofs.Common.{◌≡◌, ℕ, ◌==◌, Bool, true, false, List, [], ◌∷◌, refl, ap, ◌∙◌}
+use Rattle.std.proofs.lemmas.Bool.{eqb-true}
 use Rattle.bist_text.specs.Grammar.{byte, word, is_blank}
 use Rattle.memory_desc.specs.Names.{is_digit, is_name_byte}
 use Rattle.memory_desc.specs.declared.line_place.Key.{Key}
 use Rattle.memory_desc.specs.declared.line_place.Key.TheVariants.{Polarity}
 use Rattle.memory_desc.specs.LinePlaces.{is_digit_of}
-use Rattle.memory_desc.specs.LineText.{Term, is_hex, is_number, space, tail, more_terms, equation, more_words}
+use Rattle.memory_desc.specs.LineText.{Term, is_hex, space, tail, more_terms, equation, more_words}
 use Rattle.memory_desc.proofs.LinePieces.{at_bool, when_false, when_holds, apart, of_blank, space_off, gap_off, tail_never}
 
 -- a byte of a class that has no blank isn't a blank
@@ -67,8 +66,3 @@ blank_word p m ms K c b a d f h e w =
     let of_class : p c ≡ true = ap p same_byte ∙ h in
     let other = not_blank p c of_class a d f in
     let z : ⊥ = cc in z
-
-pub blank_number : (ds : List ℕ) (K : List ℕ → Type 0) (c : ℕ) (b : List ℕ) → is_number ds ≡ true → is_blank c ≡ true → word ds K (c ∷ b) → ⊥
-blank_number [] K c b n e w = (let z : ⊥ = cc in z)
-blank_number (d ∷ ds) K c b n e w =
-    blank_word is_digit d ds K c b refl refl refl (and_parts (is_digit d) (list_all is_digit ds) (and_parts (list_all is_digit (d ∷ ds)) _ (and_parts (list_all is_digit (d ∷ ds) && _) _ n).0).0).0 e w

@@ -1,47 +1,20 @@
 -- A line has one reading, and so has a text.
-use Rattle.std.proofs.Common.{◌≡◌, ℕ, ◌+◌, ◌≤◌, ◌==◌, ◌||◌, Bool, true, false, List, [], ◌∷◌, ◌++◌, ◌∙◌, length, codes, slice_index, Option, Some, None, refl, inl, inr, sym, ap, arith}
+use Rattle.std.proofs.Common.{◌≡◌, ℕ, ◌+◌, ◌≤◌, ◌==◌, Bool, true, false, List, [], ◌∷◌, ◌++◌, ◌∙◌, length, codes, slice_index, Option, Some, None, refl, inl, inr, sym, ap, arith}
 use Rattle.std.proofs.Math.Path.{ap₂}
-use Rattle.std.proofs.lemmas.Bool.{eqb-true, and_parts, and_from}
+use Rattle.std.proofs.lemmas.Bool.{eqb-true, and_parts}
 use Rattle.std.specs.List.{list_all}
 use Rattle.bist_text.specs.Grammar.{byte, word, is_blank}
 use Rattle.bist_text.specs.Lines.{TextLine, text_lines}
-use Rattle.memory_desc.specs.Names.{is_digit, is_letter, is_name_byte, is_identifier}
+use Rattle.memory_desc.specs.Names.{is_digit, is_letter, is_name_byte}
 use Rattle.memory_desc.specs.declared.line_place.Key.{Key}
 use Rattle.memory_desc.specs.declared.line_place.Key.TheVariants.{Memory, Name, Words, Bits, Latency, Polarity, Pause, Scramble, Backgrounds}
 use Rattle.memory_desc.specs.LineText.{Term, index_bit, constant, Content, version, name, words, bits, latency, polarity, pause, scramble, log, backgrounds, kind_of, is_hex, is_word, is_number, is_term, is_formed, space, gap, comment, tail, term_text, more_terms, equation, more_words, argument, key_text, ContentText, LineText}
 use Rattle.memory_desc.specs.Statements.{Statement, stated, Say}
 use Rattle.memory_desc.specs.Table.{AreStatements}
 use Rattle.memory_desc.proofs.LinePieces.{when_holds}
-use Rattle.memory_desc.proofs.LineRefusals.{IsPlain, digits_plain, hex_plain, names_plain, plain_blank, no_tail, no_more_terms, no_equation, no_more_words}
+use Rattle.memory_desc.proofs.LineRefusals.{digits_plain, hex_plain, names_plain, no_more_terms, no_equation, no_more_words}
 use Rattle.memory_desc.proofs.LineStarts.{run_parts}
-
--- ---- where texts can't begin
-
--- no text of K begins with a byte of the class
-abbrev pub Stops : (ℕ → Bool) → (List ℕ → Type 0) → Type 0
-Stops p K = (c : ℕ) (b : List ℕ) → p c ≡ true → K (c ∷ b) → ⊥
-
-word_stops : (p : ℕ → Bool) (d : ℕ) (w : List ℕ) (K : List ℕ → Type 0) → p d ≡ false → Stops p (word (d ∷ w) K)
-word_stops p d w K off c b on h =
-    let e : c ≡ d = eqb-true c d (when_holds (c == d) (word w K b) h).0 in
-    let k : p c ≡ p d = ap p e in
-    (let z : ⊥ = cc in z)
-
-comment_stops : (p : ℕ → Bool) → p 35 ≡ false → Stops p comment
-comment_stops p off c b on h = word_stops p 35 [] (λ _. Unit {0}) off c b on h
-
-gap_stops : (p : ℕ → Bool) (K : List ℕ → Type 0) → IsPlain p → Stops p (gap K)
-gap_stops p K off c b on h =
-    (let blank : is_blank c ≡ true = (when_holds (is_blank c) (space K b) h).0 in let other = plain_blank p c off on in let z : ⊥ = cc in z)
-
-tail_stops : (p : ℕ → Bool) → IsPlain p → Stops p tail
-tail_stops p off c b on h = no_tail p c b off on h
-
--- a run of a class that has no blanks begins with none
-run_stops : (p : ℕ → Bool) (w : List ℕ) (K : List ℕ → Type 0) → IsPlain p → list_all p w ≡ true → 1 ≤ length w
-    → Stops is_blank (word w K)
-run_stops p [] K off a l = absurd (omega arith)
-run_stops p (d ∷ w) K off a l = word_stops is_blank d w K (plain_blank p d off (and_parts (p d) (list_all p w) a).0)
+use Rattle.memory_desc.proofs.LineStops.{Stops, word_stops, comment_stops, gap_stops, tail_stops, space_of_gap, term_stops, hex_stops, name_run, argument_stops, letters_plain, key_letters, first_stops}
 
 -- ---- two readings of one text
 
@@ -76,11 +49,6 @@ spaces_meet K L (c ∷ b) s t k l =
       ]
     ]
 
--- a gap is space
-space_of_gap : (K : List ℕ → Type 0) (b : List ℕ) → gap K b → space K b
-space_of_gap K [] h = absurd h
-space_of_gap K (c ∷ b) h = inr h
-
 runs_meet : (p : ℕ → Bool) (v w : List ℕ) (K L : List ℕ → Type 0) (b : List ℕ) → list_all p v ≡ true → list_all p w ≡ true → Stops p K → Stops p L
     → word v K b → word w L b → (v ≡ w) × Meet K L
 runs_meet p [] [] K L b a e s t k l = (refl, (b, k, l))
@@ -104,11 +72,6 @@ is_one c = c == 49
 
 abbrev is_caret : ℕ → Bool
 is_caret c = c == 94
-
-term_stops : (t : Term) (K : List ℕ → Type 0) → Stops is_blank (word (term_text t) K)
-term_stops (index_bit ds) K = word_stops is_blank 112 ds K refl
-term_stops (constant false) K = word_stops is_blank 48 [] K refl
-term_stops (constant true) K = word_stops is_blank 49 [] K refl
 
 terms_meet : (t u : Term) (K L : List ℕ → Type 0) (b : List ℕ) → is_term t ≡ true → is_term u ≡ true → Stops is_digit K → Stops is_digit L
     → word (term_text t) K b → word (term_text u) L b → (t ≡ u) × Meet K L
@@ -168,9 +131,6 @@ equation_one (t ∷ ts) (u ∷ us) b f g k l =
 
 -- ---- words
 
-hex_stops : (w : List ℕ) (K : List ℕ → Type 0) → is_word w ≡ true → Stops is_blank (word w K)
-hex_stops w K f = (let r = run_parts is_hex 16 w f in run_stops is_hex w K hex_plain r.0 r.1)
-
 no_more : (w : List ℕ) (K : List ℕ → Type 0) (b : List ℕ) → is_word w ≡ true → tail b → gap (word w K) b → ⊥
 no_more w K b f k l =
     let r = run_parts is_hex 16 w f in
@@ -215,30 +175,6 @@ no_log (w ∷ ws) b f k l =
     let r = run_parts is_hex 16 w (and_parts (is_word w) (list_all is_word ws) f).0 in
     no_start is_hex w (word (codes "log") tail) (more_words ws tail) b r.0 r.1 (word_stops is_hex 108 (111 ∷ 103 ∷ []) tail refl) k l
 
--- a name is a run of its bytes
-name_run : (b : List ℕ) → is_identifier b ≡ true → (list_all is_name_byte b ≡ true) × (1 ≤ length b)
-name_run [] f = (let z : ⊥ = cc in absurd z)
-name_run (c ∷ b) f =
-    let fs = and_parts (is_letter c) (list_all is_name_byte b) f in
-    let first : is_name_byte c ≡ true = ap (λ (t : Bool). t || is_digit c || (c == 36)) fs.0 in
-    (and_from (is_name_byte c) (list_all is_name_byte b) first fs.1, omega arith)
-
-number_stops : (ds : List ℕ) → is_number ds ≡ true → Stops is_blank (word ds tail)
-number_stops ds f = (let r = run_parts is_digit 9 ds f in run_stops is_digit ds tail digits_plain r.0 r.1)
-
-argument_stops : (c : Content) → is_formed c ≡ true → Stops is_blank (argument c tail)
-argument_stops (version ds) f = number_stops ds f
-argument_stops (name b) f = (let r = name_run b f in run_stops is_name_byte b tail names_plain r.0 r.1)
-argument_stops (words ds) f = number_stops ds f
-argument_stops (bits ds) f = number_stops ds f
-argument_stops (latency ds) f = number_stops ds f
-argument_stops (polarity w) f = hex_stops w tail f
-argument_stops (pause ds) f = number_stops ds f
-argument_stops (scramble i ts) f = word_stops is_blank 97 i (equation ts tail) refl
-argument_stops log f = word_stops is_blank 108 (111 ∷ 103 ∷ []) tail refl
-argument_stops (backgrounds []) f = λ c b on h. h
-argument_stops (backgrounds (w ∷ ws)) f = hex_stops w (more_words ws tail) (and_parts (is_word w) (list_all is_word ws) f).0
-
 numbers_one : (ds es b : List ℕ) → is_number ds ≡ true → is_number es ≡ true → word ds tail b → word es tail b → ds ≡ es
 numbers_one ds es b f g k l =
     (runs_meet is_digit ds es tail tail b (run_parts is_digit 9 ds f).0 (run_parts is_digit 9 es g).0 (tail_stops is_digit digits_plain) (tail_stops is_digit digits_plain) k l).0
@@ -268,20 +204,6 @@ arguments_one c d b f g e k l = cc
 
 -- ---- lines
 
-letters_plain : IsPlain is_letter
-letters_plain = record { space_no = refl; tab_no = refl; return_no = refl; hash_no = refl }
-
-key_letters : (k : Key) → (list_all is_letter (key_text k) ≡ true) × (1 ≤ length (key_text k))
-key_letters Memory = (refl, omega arith)
-key_letters Name = (refl, omega arith)
-key_letters Words = (refl, omega arith)
-key_letters Bits = (refl, omega arith)
-key_letters Latency = (refl, omega arith)
-key_letters Polarity = (refl, omega arith)
-key_letters Pause = (refl, omega arith)
-key_letters Scramble = (refl, omega arith)
-key_letters Backgrounds = (refl, omega arith)
-
 -- tells the first words apart
 abbrev front : List ℕ → ℕ
 front b = slice_index b 0 + slice_index b 1
@@ -297,10 +219,6 @@ keys_one Pause Pause e = refl
 keys_one Scramble Scramble e = refl
 keys_one Backgrounds Backgrounds e = refl
 keys_one k l e = absurd (let z : front (key_text k) ≡ front (key_text l) = ap front e in omega arith)
-
--- the first word of a content line
-first_stops : (k : Key) (K : List ℕ → Type 0) → Stops is_blank (word (key_text k) K)
-first_stops k K = (let r = key_letters k in run_stops is_letter (key_text k) K letters_plain r.0 r.1)
 
 contents_one : (c d : Content) (b : List ℕ) → ContentText b c → ContentText b d → c ≡ d
 contents_one c d b h i =

@@ -31,16 +31,9 @@ pub record Tested (lines : List TextLine) (l : TextLine) (before met : List ℕ)
 
 -- ---- subjects
 
-self_same : (q : Subject) → is_same q q ≡ true
-self_same Version = refl
-self_same Name = refl
-self_same Words = refl
-self_same Bits = refl
-self_same Latency = refl
-self_same Polarity = refl
-self_same Pause = refl
+pub self_same : (q : Subject) → is_same q q ≡ true
 self_same (Row i) = eq-eqb i i refl
-self_same Backgrounds = refl
+self_same q = refl
 
 same_is : (q r : Subject) → is_same q r ≡ true → q ≡ r
 same_is Version Version e = refl
@@ -129,14 +122,7 @@ repeat_ends {lines = lines} {met = met} whole step ss h =
 
 pub stays_met : (old met : List ℕ) → ((n : ℕ) → MayHave old n → MayHave met n) → (q : Subject) → MayBeMet old q → MayBeMet met q
 stays_met old met f (Row i) m = f i m
-stays_met old met f Version m = tt
-stays_met old met f Name m = tt
-stays_met old met f Words m = tt
-stays_met old met f Bits m = tt
-stays_met old met f Latency m = tt
-stays_met old met f Polarity m = tt
-stays_met old met f Pause m = tt
-stays_met old met f Backgrounds m = tt
+stays_met old met f q m = tt
 
 pub met_again : (met : List ℕ) {q : Subject} (c : Content) → Some q ≡ Some (subject c) → MayBeMet met q → MayBeMet met (subject c)
 met_again met {q = q} c e m = let same : q ≡ subject c = cc in subst (MayBeMet met) same m

@@ -1,5 +1,5 @@
 -- The rows of the scrambling, one after another.
-use Rattle.std.proofs.Common.{◌≡◌, ℕ, zero, suc, ◌+◌, ◌-◌, ◌*◌, ◌%◌, ◌^◌, ◌<◌, ◌≤◌, Bool, true, false, List, [], ◌∷◌, ◌++◌, length, take, slice_set, replicate, Option, Some, None, Ok, refl, sym, ◌∙◌, ap, subst, arith, bit_and, bit_or, inl, inr, add-one, lit<}
+use Rattle.std.proofs.Common.{◌≡◌, ℕ, zero, suc, ◌+◌, ◌-◌, ◌*◌, ◌%◌, ◌^◌, ◌<◌, ◌≤◌, Bool, true, false, List, [], ◌∷◌, ◌++◌, length, take, slice_set, replicate, Option, Some, None, refl, sym, ◌∙◌, ap, subst, arith, bit_and, bit_or, inl, inr, add-one, lit<}
 use Rattle.std.proofs.Math.Pow.{pow-lt, pow_pos}
 use Rattle.std.proofs.Math.Nat.{mod-eq_of_lt}
 use Rattle.std.proofs.Math.Path.{ap₂}
@@ -13,10 +13,11 @@ use Rattle.std.specs.Str.Parse.{digits_value}
 use Rattle.scrambler.specs.Linear.{number}
 use Rattle.scrambler.proofs.Steps.{product_begun, product_more}
 use Rattle.bist_text.specs.Lines.{TextLine}
-use Rattle.memory_desc.specs.LineText.{Content, Term, index_bit, constant, scramble}
+use Rattle.bist_text.specs.declared.text_lines.Line.{Line}
+use Rattle.memory_desc.specs.LineText.{Content, Term, index_bit, constant, scramble, ContentText}
 use Rattle.memory_desc.specs.Statements.{Statement, Say}
-use Rattle.memory_desc.specs.Subjects.{about, content_of}
-use Rattle.memory_desc.specs.Standing.{GivesRow, highest_of}
+use Rattle.memory_desc.specs.Subjects.{about, said, content_of}
+use Rattle.memory_desc.specs.Standing.{IsRow, StandsAt, highest_of}
 use Rattle.memory_desc.specs.Table.{is_term_too_wide, too_wide, missing, missing_row, first_refusal, unless_there}
 use Rattle.memory_desc.specs.Values.{index_bits, constant_of, terms_said, terms_in, rows_said}
 use Rattle.memory_desc.specs.declared.content.Row.{Row}
@@ -25,7 +26,7 @@ use Rattle.memory_desc.specs.declared.fault.Field.TheVariants.{Row as RowField}
 use Rattle.memory_desc.specs.declared.fault.MemoryFault.{MemoryFault}
 use Rattle.memory_desc.specs.declared.fault.MemoryFault.TheVariants.{Missing}
 use Rattle.memory_desc.proofs.Parts.{RowsFit, rows_begun, rows_more}
-use Rattle.memory_desc.proofs.Stated.{within}
+use Rattle.memory_desc.proofs.Stated.{within, stated, row_stated}
 
 -- ---- terms within the width
 
@@ -47,6 +48,17 @@ terms_fit width (constant b ∷ ts) p h =
 -- the mask changes no row that is within the width
 masked : (names width : ℕ) (ts : List Term) → names ≡ index_bits ts → index_bits ts < 2 ^ width → bit_and names (2 ^ width - 1) ≡ index_bits ts
 masked names width ts e h = ap (λ (n : ℕ). bit_and n (2 ^ width - 1)) e ∙ and_mask (index_bits ts) width ∙ mod-eq_of_lt h
+
+-- ---- the row of a bit
+
+abbrev pub RowIs : List Statement → ℕ → Row → Type 0
+RowIs ss bit row = (i : List ℕ) × (ts : List Term) × (said (BitRow bit) ss ≡ Some (scramble i ts)) × IsRow i ts row
+
+pub row_given : (ss : List Statement) (bit number : ℕ) (l : Line) (row : Row) → number ≡ bit → StandsAt (Some l) (about (BitRow number) ss)
+    → ((i : List ℕ) (ts : List Term) → ContentText l.text.now (scramble i ts) → IsRow i ts row) → RowIs ss bit row
+row_given ss bit number l row e h f =
+    let r = row_stated bit ss l.text.now (stated (BitRow bit) ss l (subst (λ (b : ℕ). StandsAt (Some l) (about (BitRow b) ss)) e h)) in
+    (r.0, r.1, r.2.said_is, f r.0 r.1 r.2.written)
 
 -- ---- the rows so far
 
@@ -79,7 +91,7 @@ there_said fault (Some s) c e = refl
 
 -- one more row
 module _ (ss : List Statement) (width size bit : ℕ) (rows : List ℕ) (constants : ℕ) (row : Row) (count : length rows ≡ 16) (below : bit < width) (narrow : width ≤ 16)
-    (passed : too_wide ss width size ≡ None) (given : GivesRow ss bit (Ok row)) (so_far : RowsAre ss bit rows constants) where
+    (passed : too_wide ss width size ≡ None) (given : RowIs ss bit row) (so_far : RowsAre ss bit rows constants) where
   terms_are : terms_said ss bit ≡ given.1
   terms_are = ap terms_in given.2
 
@@ -124,7 +136,7 @@ pub gathered_begun : (lines : List TextLine) (width : ℕ) → Gathered lines wi
 gathered_begun lines width = record { fits = rows_begun width; so_far = λ ss size say passed. rows_are_begun ss (replicate 16 0) }
 
 pub gathered_more : (lines : List TextLine) (width bit : ℕ) (rows : List ℕ) (constants : ℕ) (row : Row) → bit < width → width ≤ 16
-    → ((ss : List Statement) → Say lines ss → GivesRow ss bit (Ok row)) → Gathered lines width bit rows constants
+    → ((ss : List Statement) → Say lines ss → RowIs ss bit row) → Gathered lines width bit rows constants
     → Gathered lines width (bit + 1) (slice_set rows bit (bit_and row.names (2 ^ width - 1))) (bit_or constants (from_bool row.constant * 2 ^ bit % 65536))
 gathered_more lines width bit rows constants row below narrow given g = record {
   fits = rows_more width rows constants bit row.names row.constant g.fits below narrow;

@@ -1,11 +1,12 @@
 -- What the statement about something says, where its line is known.
-use Rattle.std.proofs.Common.{◌≡◌, ℕ, Bool, true, false, List, [], ◌∷◌, Option, Some, None, refl, sym, ◌∙◌, ap, subst, cond}
-use Rattle.std.specs.Prelude.{find}
+use Rattle.std.specs.Str.Parse.{digits_value}
+use Rattle.std.proofs.Common.{◌≡◌, ℕ, ◌||◌, Bool, true, false, List, [], ◌∷◌, Option, Some, None, refl, sym, ◌∙◌, ap, subst, cond}
+use Rattle.std.specs.Prelude.{find, nat_lt}
 use Rattle.bist_text.specs.declared.text_lines.Line.{Line}
 use Rattle.memory_desc.specs.LineText.{Content, Term, name, words, bits, latency, polarity, pause, scramble, log, backgrounds, kind_of, ContentText}
 use Rattle.memory_desc.specs.Statements.{Statement}
 use Rattle.memory_desc.specs.Subjects.{subject, is_same, is_about, about, said, content_of}
-use Rattle.memory_desc.specs.Standing.{StandsAt}
+use Rattle.memory_desc.specs.Standing.{StandsAt, digits_in, is_ranged, least, most, value_in}
 use Rattle.memory_desc.specs.Table.{at_line, is_too_wide, too_wide, is_out_of_range, out_of_range}
 use Rattle.memory_desc.specs.declared.line_place.Key.TheVariants.{Backgrounds as BackgroundsKey}
 use Rattle.memory_desc.specs.declared.content.Subject.{Subject}
@@ -76,27 +77,6 @@ of_name c e = (let z : ⊥ = cc in absurd z)
 pub name_stated : (ss : List Statement) (text : List ℕ) → Stated Name ss text → (b : List ℕ) × Says Name ss text (name b)
 name_stated ss text r = let c = of_name r.statement.content r.same in (c.0, subst (Says Name ss text) c.1 (says Name ss text r))
 
-of_words : (c : Content) → is_same Words (subject c) ≡ true → (ds : List ℕ) × (c ≡ words ds)
-of_words (words ds) e = (ds, refl)
-of_words c e = (let z : ⊥ = cc in absurd z)
-
-pub words_stated : (ss : List Statement) (text : List ℕ) → Stated Words ss text → (ds : List ℕ) × Says Words ss text (words ds)
-words_stated ss text r = let c = of_words r.statement.content r.same in (c.0, subst (Says Words ss text) c.1 (says Words ss text r))
-
-of_bits : (c : Content) → is_same Bits (subject c) ≡ true → (ds : List ℕ) × (c ≡ bits ds)
-of_bits (bits ds) e = (ds, refl)
-of_bits c e = (let z : ⊥ = cc in absurd z)
-
-pub bits_stated : (ss : List Statement) (text : List ℕ) → Stated Bits ss text → (ds : List ℕ) × Says Bits ss text (bits ds)
-bits_stated ss text r = let c = of_bits r.statement.content r.same in (c.0, subst (Says Bits ss text) c.1 (says Bits ss text r))
-
-of_latency : (c : Content) → is_same Latency (subject c) ≡ true → (ds : List ℕ) × (c ≡ latency ds)
-of_latency (latency ds) e = (ds, refl)
-of_latency c e = (let z : ⊥ = cc in absurd z)
-
-pub latency_stated : (ss : List Statement) (text : List ℕ) → Stated Latency ss text → (ds : List ℕ) × Says Latency ss text (latency ds)
-latency_stated ss text r = let c = of_latency r.statement.content r.same in (c.0, subst (Says Latency ss text) c.1 (says Latency ss text r))
-
 of_polarity : (c : Content) → is_same Polarity (subject c) ≡ true → (ds : List ℕ) × (c ≡ polarity ds)
 of_polarity (polarity ds) e = (ds, refl)
 of_polarity c e = (let z : ⊥ = cc in absurd z)
@@ -104,12 +84,23 @@ of_polarity c e = (let z : ⊥ = cc in absurd z)
 pub polarity_stated : (ss : List Statement) (text : List ℕ) → Stated Polarity ss text → (ds : List ℕ) × Says Polarity ss text (polarity ds)
 polarity_stated ss text r = let c = of_polarity r.statement.content r.same in (c.0, subst (Says Polarity ss text) c.1 (says Polarity ss text r))
 
-of_pause : (c : Content) → is_same Pause (subject c) ≡ true → (ds : List ℕ) × (c ≡ pause ds)
-of_pause (pause ds) e = (ds, refl)
-of_pause c e = (let z : ⊥ = cc in absurd z)
+-- ---- numbers
 
-pub pause_stated : (ss : List Statement) (text : List ℕ) → Stated Pause ss text → (ds : List ℕ) × Says Pause ss text (pause ds)
-pause_stated ss text r = let c = of_pause r.statement.content r.same in (c.0, subst (Says Pause ss text) c.1 (says Pause ss text r))
+-- the digits of a line about such a subject
+pub record HasDigits (q : Subject) (c : Content) : Type 0 where
+  pub digits : List ℕ
+  pub written : digits_in c ≡ Some digits
+  pub value : value_in q (Some c) ≡ digits_value 10 digits
+  pub tested : is_out_of_range c ≡ (nat_lt (digits_value 10 digits) (least q) || nat_lt (most q) (digits_value 10 digits))
+
+pub has_digits : (q : Subject) (c : Content) → is_ranged q ≡ true → is_same q (subject c) ≡ true → HasDigits q c
+has_digits Words (words ds) h e = record { digits = ds; written = refl; value = refl; tested = refl }
+has_digits Bits (bits ds) h e = record { digits = ds; written = refl; value = refl; tested = refl }
+has_digits Latency (latency ds) h e = record { digits = ds; written = refl; value = refl; tested = refl }
+has_digits Pause (pause ds) h e = record { digits = ds; written = refl; value = refl; tested = refl }
+has_digits q c h e = (let z : ⊥ = cc in absurd z)
+
+-- ---- backgrounds
 
 pub of_backgrounds : (c : Content) → is_same Backgrounds (subject c) ≡ true → kind_of c ≡ BackgroundsKey
 of_backgrounds log e = refl

@@ -10,21 +10,10 @@ use Rattle.memory_desc.specs.declared.line_place.Key.TheVariants.{Memory}
 use Rattle.memory_desc.specs.declared.line_place.Version.{Version}
 use Rattle.memory_desc.specs.declared.line_place.Version.TheVariants.{One, Two}
 use Rattle.memory_desc.specs.LineText.{Content, version, in_table, ContentText, LineText}
-use Rattle.memory_desc.specs.LineRest.{KindText}
-use Rattle.memory_desc.specs.LineFaults.{IsLineFault, IsLaterFault, IsOpeningFault, AreRefused}
-use Rattle.memory_desc.specs.Standing.{digits_in}
-use Rattle.memory_desc.specs.Statements.{Statement, stated, version_of, GivesVersion, IsVersionLine, first_version, is_line_of, is_said_in, IsOfVersion, Say}
+use Rattle.memory_desc.specs.LineFaults.{IsLaterFault, AreRefused}
+use Rattle.memory_desc.specs.LineAnswers.{Opens, Checks}
+use Rattle.memory_desc.specs.Statements.{Statement, stated, version_of, GivesVersion, first_version, is_line_of, is_said_in, IsOfVersion, Say}
 use Rattle.memory_desc.proofs.LineChecks.{kind_says, says_kind}
-
--- what the checks of a line promise
-pub record Opens (l : TextLine) (r : Result (Option Version) MemoryFault) : Type 0 where
-  pub without : LineText l.text None → r ≡ Ok None
-  pub accepts : (n : Version) → GivesVersion l.text (Some n) → r ≡ Ok (Some n)
-  pub refuses : (fault : MemoryFault) → IsOpeningFault l fault → r ≡ Err fault
-
-pub record Checks (n : Version) (l : TextLine) (r : Result (Unit {0}) MemoryFault) : Type 0 where
-  pub accepts : (v : Option Content) → LineText l.text v → is_line_of n v ≡ true → IsOk r
-  pub refuses : (fault : MemoryFault) → IsLineFault (KindText n) l fault → r ≡ Err fault
 
 -- no line so far has content
 pub record Unopened (lines left : List TextLine) : Type 0 where
@@ -210,13 +199,3 @@ pub checked_begins : {lines left : List TextLine} {l : TextLine} {r : Result (Op
     → MatchOption given (LineText l.text None) (λ v. GivesVersion l.text (Some v)) → Checked given lines left
 checked_begins None u o e h = unopened_on u o e h
 checked_begins (Some n) u o e h = opened_begins n u o e h
-
--- ---- the version of a first line
-
-module _ (b : List ℕ) (n : ℕ) (given : Option Version) (number : (c : Content) (ds : List ℕ) → ContentText b c → digits_in c ≡ Some ds → n ≡ digits_value 10 ds)
-    (is : given ≡ version_of n) where
-  pub given_by : IsVersionLine b → GivesVersion b given
-  given_by w = (w.0, w.1, ap version_of (sym (number (version w.0) w.0 w.1 refl)) ∙ sym is)
-
-  pub given_alone : (v : Option Version) → GivesVersion b v → given ≡ v
-  given_alone v w = is ∙ ap version_of (number (version w.0) w.0 w.1 refl) ∙ w.2

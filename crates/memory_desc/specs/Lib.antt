@@ -11,5 +11,6 @@ pub mod Subjects
 pub mod Values
 pub mod Table
 pub mod Standing
+pub mod Seeking
 pub mod ContentParts
 pub mod Met

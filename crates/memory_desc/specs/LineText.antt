@@ -47,7 +47,7 @@ in_table One Pause = false
 in_table One key = true
 
 abbrev pub is_hex : ℕ → Bool
-is_hex c = is_digit c || (nat_le 97 c && nat_le c 102) || (nat_le 65 c && nat_le c 70)
+is_hex c = is_digit c || (nat_le 65 c && nat_le c 70) || (nat_le 97 c && nat_le c 102)
 
 -- one to nine decimal digits
 abbrev pub is_number : List ℕ → Bool

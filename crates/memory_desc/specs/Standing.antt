@@ -4,17 +4,16 @@ use Rattle.std.specs.Str.Parse.{digits_value}
 use Rattle.bist_text.specs.declared.text_lines.Line.{Line}
 use Rattle.scrambler.specs.declared.matrix.Matrix.{Matrix}
 use Rattle.scrambler.specs.Scrambling.{matrix_of}
-use Rattle.memory_desc.specs.LineText.{Term, index_bit, constant, Content, words, bits, latency, pause, version, scramble, log, ContentText}
+use Rattle.memory_desc.specs.LineText.{Term, index_bit, constant, Content, words, bits, latency, pause, version, log, ContentText}
 use Rattle.memory_desc.specs.Statements.{Statement}
-use Rattle.memory_desc.specs.Subjects.{subject, about, said}
-use Rattle.memory_desc.specs.Values.{index_bits, constant_of, word_values, matrix_said}
+use Rattle.memory_desc.specs.Subjects.{subject, about}
+use Rattle.memory_desc.specs.Values.{number_in, latency_in, pause_in, index_bits, constant_of, word_values, matrix_said}
 use Rattle.memory_desc.specs.Table.{missing, missing_row}
 use Rattle.memory_desc.specs.declared.content.Subject.{Subject}
-use Rattle.memory_desc.specs.declared.content.Subject.TheVariants.{Row as BitRow}
+use Rattle.memory_desc.specs.declared.content.Subject.TheVariants.{Words as OfWords, Bits as OfBits, Latency as OfLatency, Pause as OfPause}
 use Rattle.memory_desc.specs.declared.content.Row.{Row}
 use Rattle.memory_desc.specs.declared.content.Words.{Words}
 use Rattle.memory_desc.specs.declared.fault.Field.{Field}
-use Rattle.memory_desc.specs.declared.fault.Field.TheVariants.{Row as RowField}
 use Rattle.memory_desc.specs.declared.fault.MemoryFault.{MemoryFault}
 
 -- ---- what a line says
@@ -27,6 +26,35 @@ digits_in (bits ds) = Some ds
 digits_in (latency ds) = Some ds
 digits_in (pause ds) = Some ds
 digits_in other = None
+
+-- ---- numbers of a range
+
+-- whether what is said of a subject is a number of a range
+abbrev pub is_ranged : Subject → Bool
+is_ranged OfWords = true
+is_ranged OfBits = true
+is_ranged OfLatency = true
+is_ranged OfPause = true
+is_ranged q = false
+
+-- the range
+abbrev pub least : Subject → ℕ
+least OfWords = 2
+least q = 1
+
+abbrev pub most : Subject → ℕ
+most OfWords = 65536
+most OfBits = 64
+most OfLatency = 4
+most q = 65535
+
+-- the number that is said of it
+abbrev pub value_in : Subject → Option Content → ℕ
+value_in OfLatency o = latency_in o
+value_in OfPause o = pause_in o
+value_in q o = number_in o
+
+-- ---- rows and words
 
 abbrev pub is_log : Content → Bool
 is_log log = true
@@ -77,11 +105,6 @@ checked (Some fault) = Err fault
 abbrev pub GivesField : List Statement → Subject → Field → Result Line MemoryFault → Type 0
 GivesField ss q field (Ok l) = StandsAt (Some l) (about q ss)
 GivesField ss q field (Err fault) = missing q field ss ≡ Some fault
-
--- the row of a bit of the address, which must be there
-abbrev pub GivesRow : List Statement → ℕ → Result Row MemoryFault → Type 0
-GivesRow ss bit (Ok row) = (i : List ℕ) × (ts : List Term) × (said (BitRow bit) ss ≡ Some (scramble i ts)) × IsRow i ts row
-GivesRow ss bit (Err fault) = missing (BitRow bit) (RowField bit) ss ≡ Some fault
 
 -- the rows of the address, each of which must be there
 abbrev pub GivesMatrix : List Statement → ℕ → Result Matrix MemoryFault → Type 0

@@ -7,10 +7,10 @@ ghost use Rattle.memory_desc.specs.Descriptions.{IsBackgrounds};
 ghost use Rattle.memory_desc.specs.Statements.{Statement, Say};
 ghost use Rattle.memory_desc.specs.Table.{is_scrambled, too_wide, Scrambles, AcceptsBackgrounds, SelectsBackgrounds, StatesBackgrounds};
 ghost use Rattle.memory_desc.specs.LineText.{Content, backgrounds, kind_of, ContentText};
-ghost use Rattle.memory_desc.specs.Standing.{GivesMatrix, GivesRow};
+ghost use Rattle.memory_desc.specs.Standing.{GivesMatrix};
 ghost use Rattle.memory_desc.specs.Values.{bits_said, word_values};
 
-use crate::content::{Row, Subject, is_log, row_of, words_of};
+use crate::content::{Subject, is_log, row_of, words_of};
 use crate::fault::{Field, MemoryFault};
 use crate::line_place::Key;
 use crate::search::{field, line_about};
@@ -18,14 +18,6 @@ use arrayvec::ArrayVec;
 use backgrounds::log_set;
 use bist_bits::all_ones;
 use scrambler::{Matrix, Scramble, invert};
-
-/// The row of a bit of the address; it must be there.
-fn row_at(bytes: &[u8], bit: u8) -> Result<Row, MemoryFault>
-    ensures { (ss : List Statement) → Say (text_lines bytes.now) ss → GivesRow ss bit result }
-{
-    let line = field(bytes, Subject::Row(u32::from(bit)), Field::Row(bit))?;
-    Ok(row_of(line.text))
-}
 
 /// The matrix of the rows; each row of the address must be there.
 #[tactic(auto, using(crate::proofs::Parts::rows_within))]
@@ -37,7 +29,8 @@ fn matrix_from(bytes: &[u8], width: u8) -> Result<Matrix, MemoryFault>
     let mut rows = [0; 16];
     let mut constant = 0;
     for bit in 0..width {
-        let row = row_at(bytes, bit)?;
+        let line = field(bytes, Subject::Row(u32::from(bit)), Field::Row(bit))?;
+        let row = row_of(line.text);
         rows[bit as usize] = row.names & (all_ones(width) as u16);
         constant |= (row.constant as u16) << bit;
     }
@@ -69,13 +62,6 @@ pub fn scramble_from(bytes: &[u8], scrambled: bool, width: u8) -> Result<Scrambl
     }
 }
 
-/// Whether one of the backgrounds is 0.
-fn has_solid(set: &[u64]) -> bool
-    ensures { IsTrue result ↔ Contains set.now 0 }
-{
-    set.iter().any(|word| *word == 0)
-}
-
 /// The backgrounds that a line lists.
 fn listed(text: &[u8]) -> Result<ArrayVec<u64, 8>, MemoryFault>
     ensures { (ws : List (List ℕ)) → ContentText text.now (backgrounds ws) → MatchResult result (λ b. AcceptsBackgrounds (word_values ws) (Ok b.items)) (λ fault. AcceptsBackgrounds (word_values ws) (Err fault)) }
@@ -84,7 +70,7 @@ fn listed(text: &[u8]) -> Result<ArrayVec<u64, 8>, MemoryFault>
     if words.count > 8 {
         return Err(MemoryFault::TooManyBackgrounds);
     }
-    if !has_solid(words.first.as_slice()) {
+    if !words.first.as_slice().contains(&0) {
         return Err(MemoryFault::NoSolidBackground);
     }
     Ok(words.first)

@@ -4,46 +4,23 @@ ghost use Rattle.std.specs.Prelude.{◌≡◌, ◌+◌, ◌<◌, ◌^◌, List, 
 ghost use Rattle.std.specs.List.{list_all, take_while};
 ghost use Rattle.std.specs.Str.Parse.{digits_value};
 ghost use Rattle.memory_desc.specs.Names.{is_digit};
-ghost use Rattle.memory_desc.specs.LineText.{Content, Term, name, polarity, scramble, backgrounds, kind_of, is_number, is_word, is_term, term_text, more_terms, equation, argument, tail, ContentText, LineText};
+ghost use Rattle.memory_desc.specs.LineText.{Content, Term, name, polarity, scramble, backgrounds, kind_of, is_word, is_term, term_text, more_terms, argument, tail, ContentText, LineText};
 ghost use Rattle.memory_desc.specs.LineRest.{words_left};
+ghost use Rattle.memory_desc.specs.Subjects.{subject};
 ghost use Rattle.memory_desc.specs.Standing.{digits_in, is_log, subject_in, IsRow, AreWords};
 ghost use Rattle.memory_desc.specs.ContentParts.{after, IsTerm, terms_left, NextTerm, Gathers, NextWord, Collects};
 ghost use Rattle.bist_text.specs.Cursors.{left_of};
 ghost use Rattle.bist_text.specs.Grammar.{word, is_blank};
 ghost use Rattle.bist_text.specs.Numbers.{IsNumber};
 
-use crate::line_place::{Key, Version};
+use crate::byte_sets::{BLANKS, DIGITS, HEX_DIGITS, LETTERS, NAME_BYTES};
+use crate::line_place::{Key, Place, Version};
 use crate::line_reader::read_line;
 use arrayvec::ArrayVec;
-use bist_text::{ByteSet, Cursor, decimal, hex};
-
-const BLANKS: ByteSet = ByteSet {
-    low: 0x1_0000_2200,
-    high: 0,
-};
-
-const LETTERS: ByteSet = ByteSet {
-    low: 0x07ff_fffe_0000_0000_0000_0000_0000_0000,
-    high: 0,
-};
-
-const DIGITS: ByteSet = ByteSet {
-    low: 0x03ff_0000_0000_0000,
-    high: 0,
-};
-
-const HEX_DIGITS: ByteSet = ByteSet {
-    low: 0x7e_0000_007e_03ff_0000_0000_0000,
-    high: 0,
-};
-
-const NAME_BYTES: ByteSet = ByteSet {
-    low: 0x07ff_fffe_87ff_fffe_03ff_0010_0000_0000,
-    high: 0,
-};
+use bist_text::{Cursor, decimal, hex};
 
 /// What a content line speaks of. No two lines of a description speak of the same.
-#[derive(Clone, Copy, Debug, PartialEq, Eq)]
+#[derive(Clone, Copy, PartialEq)]
 pub enum Subject {
     Version,
     Name,
@@ -58,7 +35,7 @@ pub enum Subject {
 }
 
 /// A scrambling row as it is written.
-#[derive(Clone, Copy, Debug, PartialEq, Eq)]
+#[derive(Clone, Copy)]
 pub struct Row {
     /// The bit of the address.
     pub bit: u32,
@@ -77,7 +54,7 @@ enum Summand {
 }
 
 /// Background words as they are written.
-#[derive(Debug, Drop)]
+#[derive(Drop)]
 pub struct Words {
     /// The first eight.
     pub first: ArrayVec<u64, 8>,
@@ -143,12 +120,13 @@ pub fn name_of(text: &[u8]) -> &[u8]
     behind_key(text).take_while(NAME_BYTES)
 }
 
-/// The row of a `scramble` line.
+/// The row of a `scramble` line, whose number stands behind an `a`.
 pub fn row_of(text: &[u8]) -> Row
     ensures { (i : List ℕ) (ts : List Term) → ContentText text.now (scramble i ts) → IsRow i ts result }
 {
     let mut cursor = behind_key(text);
-    let bit = row_number(&mut cursor);
+    next_byte(&mut cursor);
+    let bit = number(&mut cursor);
     let mut row = Row {
         bit,
         names: 0,
@@ -159,14 +137,6 @@ pub fn row_of(text: &[u8]) -> Row
         row = with_term(row, term);
     }
     row
-}
-
-/// The number behind the `a` of a row.
-fn row_number(cursor: &mut Cursor<'_>) -> u32
-    ensures { (i : List ℕ) (ts : List Term) → is_number i ≡ true → argument (scramble i ts) tail (left_of cursor.old) → (result ≡ digits_value 10 i) × equation ts tail (left_of cursor.new) }
-{
-    next_byte(cursor);
-    number(cursor)
 }
 
 /// The next term, behind = or ^; None where none follows.
@@ -202,29 +172,20 @@ fn with_term(row: Row, term: Summand) -> Row
     ensures gathers { (t : Term) (left ts : List Term) → IsTerm t term → Gathers row (t ∷ left) ts → Gathers result left ts }
 {
     match term {
-        Summand::IndexBit(bit) => with_index_bit(row, bit),
+        Summand::IndexBit(bit) => Row {
+            names: if bit < 16 {
+                row.names ^ (1 << bit)
+            } else {
+                row.names
+            },
+            highest: row.highest.max(bit),
+            ..row
+        },
         Summand::Constant(false) => row,
         Summand::Constant(true) => Row {
             constant: !row.constant,
             ..row
         },
-    }
-}
-
-fn with_index_bit(row: Row, bit: u32) -> Row
-    ensures bit { result.bit ≡ row.bit }
-    ensures constant { result.constant ≡ row.constant }
-    ensures highest { result.highest ≡ max row.highest bit }
-    ensures names { bit < 16 → result.names ≡ bit_xor row.names (2 ^ bit) }
-{
-    Row {
-        names: if bit < 16 {
-            row.names ^ (1 << bit)
-        } else {
-            row.names
-        },
-        highest: row.highest.max(bit),
-        ..row
     }
 }
 
@@ -276,20 +237,29 @@ fn with_word(mut words: Words, word: u64) -> Words
     }
 }
 
+/// What a content line of a kind speaks of.
+fn subject_of_kind(text: &[u8], key: Key) -> Subject
+    ensures { (c : Content) → ContentText text.now c → kind_of c ≡ key → result ≡ subject c }
+{
+    match key {
+        Key::Memory => Subject::Version,
+        Key::Name => Subject::Name,
+        Key::Words => Subject::Words,
+        Key::Bits => Subject::Bits,
+        Key::Latency => Subject::Latency,
+        Key::Polarity => Subject::Polarity,
+        Key::Pause => Subject::Pause,
+        Key::Scramble => Subject::Row(row_of(text).bit),
+        Key::Backgrounds => Subject::Backgrounds,
+    }
+}
+
 /// What a line speaks of; None where it has no content.
 pub fn subject_of(text: &[u8]) -> Option<Subject>
     ensures { (v : Option Content) → LineText text.now v → result ≡ subject_in v }
 {
-    match read_line(text, Version::Two) {
-        Ok(Some(Key::Memory)) => Some(Subject::Version),
-        Ok(Some(Key::Name)) => Some(Subject::Name),
-        Ok(Some(Key::Words)) => Some(Subject::Words),
-        Ok(Some(Key::Bits)) => Some(Subject::Bits),
-        Ok(Some(Key::Latency)) => Some(Subject::Latency),
-        Ok(Some(Key::Polarity)) => Some(Subject::Polarity),
-        Ok(Some(Key::Pause)) => Some(Subject::Pause),
-        Ok(Some(Key::Scramble)) => Some(Subject::Row(row_of(text).bit)),
-        Ok(Some(Key::Backgrounds)) => Some(Subject::Backgrounds),
+    match read_line(text, Place::Begin(Version::Two)) {
+        Ok(Some(key)) => Some(subject_of_kind(text, key)),
         Ok(None) => None,
         Err(_) => None,
     }

@@ -2,6 +2,7 @@
 #![tactic(auto)]
 
 mod building;
+mod byte_sets;
 mod content;
 mod fault;
 mod line_place;

@@ -1,11 +1,11 @@
-ghost use Rattle.std.specs.Prelude.{◌≡◌, ◌≤◌, length, slice_get};
-ghost use Rattle.memory_desc.specs.Names.{is_letter, is_digit, is_name_byte};
-ghost use Rattle.memory_desc.specs.LineText.{is_hex, key_text};
-ghost use Rattle.bist_text.specs.Grammar.{is_blank};
-ghost use Rattle.memory_desc.specs.LinePlaces.{step, value, argument_begun, begun, content_begun, ended, is_digit_of, later_begun, letter_begun, letter_of, most_digits, opened, row_ended, term_ended, word_ended};
+ghost use Rattle.std.specs.Prelude.{◌≡◌, ◌≤◌, ◌<◌, ◌&&◌, nat_lt, length, slice_get, IsTrue};
+ghost use Rattle.memory_desc.specs.LineText.{key_text};
+ghost use Rattle.memory_desc.specs.LinePlaces.{step, value, argument_begun, begun, content_begun, ended, is_digit_of, letter_begun, letter_of, most_digits, opened, row_ended, term_ended, word_ended};
+
+use crate::byte_sets::{BLANKS, NAME_BYTES, NAME_STARTS};
 
 /// The kinds of content lines, by their first word.
-#[derive(Clone, Copy, Debug, PartialEq, Eq)]
+#[derive(Clone, Copy)]
 pub enum Key {
     Memory,
     Name,
@@ -19,14 +19,14 @@ pub enum Key {
 }
 
 /// The versions of the form. Version 2 has lines for the latency, the polarity and the pause besides.
-#[derive(Clone, Copy, Debug, PartialEq, Eq)]
+#[derive(Clone, Copy)]
 pub enum Version {
     One,
     Two,
 }
 
 /// Where in a line a reader stands. A number counts the bytes of a word or a number that are read.
-#[derive(Clone, Copy, Debug)]
+#[derive(Clone, Copy)]
 pub enum Place {
     /// Before a line that may only be a `memory` line.
     Opening,
@@ -58,59 +58,20 @@ pub enum Place {
     End(Key),
 }
 
-/// A blank: space, tab or carriage return.
-pub fn is_blank(byte: u8) -> bool
-    ensures { result ≡ is_blank byte }
-{
-    byte == b' ' || byte == b'\t' || byte == b'\r'
-}
-
-pub fn is_digit(byte: u8) -> bool
-    ensures { result ≡ is_digit byte }
-{
-    byte >= b'0' && byte <= b'9'
-}
-
-pub fn is_letter(byte: u8) -> bool
-    ensures { result ≡ is_letter byte }
-{
-    (byte >= b'a' && byte <= b'z') || (byte >= b'A' && byte <= b'Z') || byte == b'_'
-}
-
-pub fn is_name_byte(byte: u8) -> bool
-    ensures { result ≡ is_name_byte byte }
-{
-    is_letter(byte) || is_digit(byte) || byte == b'$'
-}
-
-pub fn is_hex(byte: u8) -> bool
-    ensures { result ≡ is_hex byte }
-{
-    is_digit(byte) || (byte >= b'a' && byte <= b'f') || (byte >= b'A' && byte <= b'F')
-}
-
-/// Whether a byte is a digit of the number that a line of a kind has. A polarity is a word.
-fn is_digit_of(key: Key, byte: u8) -> bool
-    ensures { result ≡ is_digit_of key byte }
+/// Whether a byte is one more digit of the number that a line of a kind has, of which so many are read. A polarity
+/// is a word.
+fn is_digit_of(key: Key, count: u8, byte: u8) -> bool
+    ensures digit { result ≡ (is_digit_of key byte && nat_lt count (most_digits key)) }
+    ensures few { IsTrue result → count < 16 }
 {
     match key {
-        Key::Polarity => is_hex(byte),
-        _ => is_digit(byte),
-    }
-}
-
-/// How many digits that number may have.
-fn most_digits(key: Key) -> u8
-    ensures count { result ≡ most_digits key }
-    ensures few { result ≤ 16 }
-{
-    match key {
-        Key::Polarity => 16,
-        _ => 9,
+        Key::Polarity => byte.is_ascii_hexdigit() && count < 16,
+        _ => byte.is_ascii_digit() && count < 9,
     }
 }
 
 /// The place behind one more byte; None where the line can't go on so.
+#[tactic(auto, using(crate::proofs::Behind::blanks_have, crate::proofs::Behind::names_have))]
 pub fn place_after(place: Place, byte: u8) -> Option<Place>
     ensures { result ≡ step place byte }
 {
@@ -130,14 +91,14 @@ pub fn place_after(place: Place, byte: u8) -> Option<Place>
         },
         Place::Letters(key, count) => letter(key, count, byte),
         Place::Wanted(key) => {
-            if is_blank(byte) {
+            if BLANKS.contains(byte) {
                 Some(Place::Wanted(key))
             } else {
                 argument(key, byte)
             }
         }
         Place::Number(key, count) => {
-            if is_digit_of(key, byte) && count < most_digits(key) {
+            if is_digit_of(key, count, byte) {
                 Some(Place::Number(key, count + 1))
             } else if count == 0 {
                 None
@@ -146,7 +107,7 @@ pub fn place_after(place: Place, byte: u8) -> Option<Place>
             }
         }
         Place::Name => {
-            if is_name_byte(byte) {
+            if NAME_BYTES.contains(byte) {
                 Some(Place::Name)
             } else {
                 end(Key::Name, byte)
@@ -154,7 +115,7 @@ pub fn place_after(place: Place, byte: u8) -> Option<Place>
         }
         Place::End(key) => end(key, byte),
         Place::RowNumber(count) => {
-            if is_digit(byte) && count < 9 {
+            if byte.is_ascii_digit() && count < 9 {
                 Some(Place::RowNumber(count + 1))
             } else if count == 0 {
                 None
@@ -170,7 +131,7 @@ pub fn place_after(place: Place, byte: u8) -> Option<Place>
             _ => None,
         },
         Place::TermNumber(count) => {
-            if is_digit(byte) && count < 9 {
+            if byte.is_ascii_digit() && count < 9 {
                 Some(Place::TermNumber(count + 1))
             } else if count == 0 {
                 None
@@ -182,7 +143,7 @@ pub fn place_after(place: Place, byte: u8) -> Option<Place>
         Place::LetterL => (byte == b'o').then_some(Place::LetterO),
         Place::LetterO => (byte == b'g').then_some(Place::End(Key::Backgrounds)),
         Place::Hex(count) => {
-            if is_hex(byte) && count < 16 {
+            if byte.is_ascii_hexdigit() && count < 16 {
                 Some(Place::Hex(count + 1))
             } else if count == 0 {
                 None
@@ -190,7 +151,7 @@ pub fn place_after(place: Place, byte: u8) -> Option<Place>
                 word_end(byte)
             }
         }
-        Place::HexEnd if is_hex(byte) => Some(Place::Hex(1)),
+        Place::HexEnd if byte.is_ascii_hexdigit() => Some(Place::Hex(1)),
         Place::HexEnd => word_end(byte),
     }
 }
@@ -218,23 +179,17 @@ fn begin(version: Version, byte: u8) -> Option<Place>
     }
 }
 
+/// The first letter of a line of a version.
 fn first_letter(version: Version, byte: u8) -> Option<Place>
     ensures { result ≡ content_begun version byte }
 {
     match version {
         Version::One => letter_of_both(byte),
-        Version::Two => letter_of_two(byte),
-    }
-}
-
-/// The first letter of a line of version 2.
-fn letter_of_two(byte: u8) -> Option<Place>
-    ensures { result ≡ later_begun byte }
-{
-    match byte {
-        b'l' => Some(Place::Letters(Key::Latency, 1)),
-        b'p' => Some(Place::LetterP),
-        _ => letter_of_both(byte),
+        Version::Two => match byte {
+            b'l' => Some(Place::Letters(Key::Latency, 1)),
+            b'p' => Some(Place::LetterP),
+            _ => letter_of_both(byte),
+        },
     }
 }
 
@@ -271,36 +226,39 @@ fn key_bytes(key: Key) -> &'static [u8]
 }
 
 /// The next letter of a first word, or the blank behind it.
+#[tactic(auto, using(crate::proofs::Behind::blanks_have))]
 fn letter(key: Key, count: u8, byte: u8) -> Option<Place>
     ensures { result ≡ letter_of (slice_get (key_text key) count) key count byte }
 {
     match key_bytes(key).get(count as usize) {
         Some(letter) => (byte == *letter).then_some(Place::Letters(key, count + 1)),
-        None => is_blank(byte).then_some(Place::Wanted(key)),
+        None => BLANKS.contains(byte).then_some(Place::Wanted(key)),
     }
 }
 
 /// The first byte behind a first word and its blanks.
+#[tactic(auto, using(crate::proofs::Behind::starts_have))]
 fn argument(key: Key, byte: u8) -> Option<Place>
     ensures { result ≡ argument_begun key byte }
 {
     match key {
         Key::Memory | Key::Words | Key::Bits | Key::Latency | Key::Pause => {
-            is_digit(byte).then_some(Place::Number(key, 1))
+            byte.is_ascii_digit().then_some(Place::Number(key, 1))
         }
-        Key::Polarity => is_hex(byte).then_some(Place::Number(key, 1)),
-        Key::Name => is_letter(byte).then_some(Place::Name),
+        Key::Polarity => byte.is_ascii_hexdigit().then_some(Place::Number(key, 1)),
+        Key::Name => NAME_STARTS.contains(byte).then_some(Place::Name),
         Key::Scramble => (byte == b'a').then_some(Place::RowNumber(0)),
         Key::Backgrounds if byte == b'l' => Some(Place::LetterL),
-        Key::Backgrounds => is_hex(byte).then_some(Place::Hex(1)),
+        Key::Backgrounds => byte.is_ascii_hexdigit().then_some(Place::Hex(1)),
     }
 }
 
 /// A byte behind the content of a line.
+#[tactic(auto, using(crate::proofs::Behind::blanks_have))]
 fn end(key: Key, byte: u8) -> Option<Place>
     ensures { result ≡ ended key byte }
 {
-    if is_blank(byte) {
+    if BLANKS.contains(byte) {
         Some(Place::End(key))
     } else if byte == b'#' {
         Some(Place::Remark(Some(key)))
@@ -310,10 +268,11 @@ fn end(key: Key, byte: u8) -> Option<Place>
 }
 
 /// A byte behind a row's number.
+#[tactic(auto, using(crate::proofs::Behind::blanks_have))]
 fn row_end(byte: u8) -> Option<Place>
     ensures { result ≡ row_ended byte }
 {
-    if is_blank(byte) {
+    if BLANKS.contains(byte) {
         Some(Place::RowEnd)
     } else if byte == b'=' {
         Some(Place::Term)
@@ -323,10 +282,11 @@ fn row_end(byte: u8) -> Option<Place>
 }
 
 /// A byte behind a term.
+#[tactic(auto, using(crate::proofs::Behind::blanks_have))]
 fn term_end(byte: u8) -> Option<Place>
     ensures { result ≡ term_ended byte }
 {
-    if is_blank(byte) {
+    if BLANKS.contains(byte) {
         Some(Place::TermEnd)
     } else {
         match byte {
@@ -338,10 +298,11 @@ fn term_end(byte: u8) -> Option<Place>
 }
 
 /// A byte behind a background.
+#[tactic(auto, using(crate::proofs::Behind::blanks_have))]
 fn word_end(byte: u8) -> Option<Place>
     ensures { result ≡ word_ended byte }
 {
-    if is_blank(byte) {
+    if BLANKS.contains(byte) {
         Some(Place::HexEnd)
     } else if byte == b'#' {
         Some(Place::Remark(Some(Key::Backgrounds)))

@@ -1,17 +1,14 @@
 //! The reader of one line.
 
-ghost use Rattle.std.specs.Prelude.{◌≡◌, ◌↔◌, ℕ, Ok, Err, Option};
-ghost use Rattle.bist_text.specs.Grammar.{IsUnexpected, IsTruncated};
 ghost use Rattle.bist_text.specs.Machine.{scan};
-ghost use Rattle.memory_desc.specs.declared.line_place.Key.{Key};
 ghost use Rattle.memory_desc.specs.LinePlaces.{step, value};
-ghost use Rattle.memory_desc.specs.LineRest.{KindText, OpeningText};
-ghost use Rattle.memory_desc.specs.LineAnswers.{Gives};
+ghost use Rattle.memory_desc.specs.LineRest.{rest};
+ghost use Rattle.memory_desc.specs.LineAnswers.{Gives, IsReadBy};
 
-use crate::line_place::{Key, Place, Version, kind_at, place_after};
+use crate::line_place::{Key, Place, kind_at, place_after};
 
 /// Why a line is none of a description.
-#[derive(Clone, Copy, Debug, PartialEq, Eq)]
+#[derive(Clone, Copy)]
 pub enum LineFault {
     /// The line up to and with this byte can't go on to a line of a description.
     Unexpected(usize),
@@ -33,20 +30,9 @@ fn scanned(text: &[u8], start: Place) -> Result<Option<Key>, LineFault>
     kind_at(place).ok_or(LineFault::Truncated)
 }
 
-/// The kind of a content line of a version's table, or none of a line without content.
-pub fn read_line(text: &[u8], version: Version) -> Result<Option<Key>, LineFault>
-    ensures kind { (k : Option Key) → (result ≡ Ok k) ↔ KindText version text.now k }
-    ensures unexpected { (i : ℕ) → (result ≡ Err (LineFault.Unexpected i)) ↔ IsUnexpected (KindText version) text.now i }
-    ensures truncated { (result ≡ Err LineFault.Truncated) ↔ IsTruncated (KindText version) text.now }
+/// Reads a line from a place on: the kind of a content line, or none of a line without content.
+pub fn read_line(text: &[u8], start: Place) -> Result<Option<Key>, LineFault>
+    ensures { IsReadBy (rest start) text.now result }
 {
-    scanned(text, Place::Begin(version))
-}
-
-/// The same of a line that may only be a `memory` line or one without content.
-pub fn read_opening(text: &[u8]) -> Result<Option<Key>, LineFault>
-    ensures kind { (k : Option Key) → (result ≡ Ok k) ↔ OpeningText text.now k }
-    ensures unexpected { (i : ℕ) → (result ≡ Err (LineFault.Unexpected i)) ↔ IsUnexpected OpeningText text.now i }
-    ensures truncated { (result ≡ Err LineFault.Truncated) ↔ IsTruncated OpeningText text.now }
-{
-    scanned(text, Place::Opening)
+    scanned(text, start)
 }

@@ -1,20 +1,17 @@
 //! The lines of a description: each must be one of the table, and the first with content a `memory` line.
 
-ghost use Rattle.std.specs.Prelude.{◌≡◌, true, false, List, Option, Some, None, Ok, Err, OnOk, IfOk, IfErr, IsOk, MatchBool, MatchOption};
+ghost use Rattle.std.specs.Prelude.{◌≡◌, List, Err, OnOk, IfErr, IsOk};
 ghost use Rattle.bist_text.specs.Lines.{plain_line, text_lines};
 ghost use Rattle.memory_desc.specs.declared.fault.MemoryFault.{MemoryFault};
-ghost use Rattle.memory_desc.specs.LineText.{Content, LineText};
-ghost use Rattle.memory_desc.specs.LineRest.{KindText, OpeningText};
-ghost use Rattle.memory_desc.specs.LineAnswers.{refusal_at};
-ghost use Rattle.memory_desc.specs.declared.line_place.Version.{Version};
-ghost use Rattle.memory_desc.specs.Statements.{Statement, GivesVersion, IsVersionLine, is_line_of, version_of};
-ghost use Rattle.memory_desc.specs.LineFaults.{IsLineFault, IsOpeningFault, AreRefused};
+ghost use Rattle.memory_desc.specs.LineAnswers.{refusal_at, Opens, Checks};
+ghost use Rattle.memory_desc.specs.Statements.{Statement, version_of};
+ghost use Rattle.memory_desc.specs.LineFaults.{AreRefused};
 ghost use Rattle.memory_desc.specs.Table.{AreStatements};
 
 use crate::content::number_of;
 use crate::fault::MemoryFault;
-use crate::line_place::Version;
-use crate::line_reader::{LineFault, read_line, read_opening};
+use crate::line_place::{Place, Version};
+use crate::line_reader::{LineFault, read_line};
 use bist_text::{Line, Lines};
 
 /// A line's refusal. Where a line feed ends the line, it is the byte that can't stand there.
@@ -34,20 +31,6 @@ fn refused(line: &Line<'_>, fault: LineFault) -> MemoryFault
     }
 }
 
-/// Whether a line has content, where it may only be a `memory` line.
-fn opens(line: &Line<'_>) -> Result<bool, MemoryFault>
-    ensures accepted { IfOk result (λ opened. MatchBool opened (IsVersionLine line.now.text.now) (LineText line.now.text.now None)) }
-    ensures refused { IfErr result (IsLineFault OpeningText (plain_line line.now)) }
-    ensures without { LineText line.now.text.now None → result ≡ Ok false }
-    ensures accepts { IsVersionLine line.now.text.now → result ≡ Ok true }
-    ensures refuses { (fault : MemoryFault) → IsLineFault OpeningText (plain_line line.now) fault → result ≡ Err fault }
-{
-    match read_opening(line.text) {
-        Ok(kind) => Ok(kind.is_some()),
-        Err(fault) => Err(refused(line, fault)),
-    }
-}
-
 /// The version of a number.
 fn version_from(number: u32) -> Option<Version>
     ensures { result ≡ version_of number }
@@ -61,29 +44,23 @@ fn version_from(number: u32) -> Option<Version>
 
 /// The version that a line gives, where it may only be a `memory` line; None of a line without content.
 fn opening(line: &Line<'_>) -> Result<Option<Version>, MemoryFault>
-    ensures accepted { IfOk result (λ given. MatchOption given (LineText line.now.text.now None) (λ v. GivesVersion line.now.text.now (Some v))) }
-    ensures refused { IfErr result (IsOpeningFault (plain_line line.now)) }
-    ensures without { LineText line.now.text.now None → result ≡ Ok None }
-    ensures accepts { (v : Version) → GivesVersion line.now.text.now (Some v) → result ≡ Ok (Some v) }
-    ensures refuses { (fault : MemoryFault) → IsOpeningFault (plain_line line.now) fault → result ≡ Err fault }
+    ensures { Opens (plain_line line.now) result }
 {
-    if !opens(line)? {
-        return Ok(None);
-    }
-    match version_from(number_of(line.text)) {
-        Some(version) => Ok(Some(version)),
-        None => Err(MemoryFault::OtherVersion),
+    match read_line(line.text, Place::Opening) {
+        Ok(None) => Ok(None),
+        Ok(Some(_)) => match version_from(number_of(line.text)) {
+            Some(version) => Ok(Some(version)),
+            None => Err(MemoryFault::OtherVersion),
+        },
+        Err(fault) => Err(refused(line, fault)),
     }
 }
 
 /// A line must be one of a version's table.
 fn check_line(line: &Line<'_>, version: Version) -> Result<(), MemoryFault>
-    ensures accepted { OnOk result ((v : Option Content) × LineText line.now.text.now v × (is_line_of version v ≡ true)) }
-    ensures refused { IfErr result (IsLineFault (KindText version) (plain_line line.now)) }
-    ensures accepts { (v : Option Content) → LineText line.now.text.now v → is_line_of version v ≡ true → IsOk result }
-    ensures refuses { (fault : MemoryFault) → IsLineFault (KindText version) (plain_line line.now) fault → result ≡ Err fault }
+    ensures { Checks version (plain_line line.now) result }
 {
-    match read_line(line.text, version) {
+    match read_line(line.text, Place::Begin(version)) {
         Ok(_) => Ok(()),
         Err(fault) => Err(refused(line, fault)),
     }

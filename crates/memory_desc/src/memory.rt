@@ -6,7 +6,7 @@ use scrambler::Scramble;
 use std::marker::Model;
 
 /// How many cycles a memory takes to answer a read, and how many a pause has.
-#[derive(Clone, Copy, Debug)]
+#[derive(Clone, Copy)]
 pub(crate) struct Timing {
     pub latency: u8,
     pub pause: u32,
@@ -14,7 +14,7 @@ pub(crate) struct Timing {
 
 /// A memory: its name, its size, when it answers, which bits it stores inverted, how its addresses are scrambled, and the
 /// backgrounds and the pauses of its test.
-#[derive(Debug, Drop)]
+#[derive(Drop)]
 pub struct Memory {
     name: ArrayString<48>,
     words: u32,

@@ -3,7 +3,7 @@
 ghost use Rattle.std.specs.Prelude.{◌≡◌, ◌+◌, ◌<◌, ◌≤◌, ◌^◌, ◌++◌, ◌∷◌, [], All, Ok, OnOk, IfOk, decimal};
 ghost use Rattle.memory_desc.specs.Descriptions.{IsMemory};
 ghost use Rattle.memory_desc.specs.Table.{Reads};
-ghost use Rattle.memory_desc.specs.Printed.{number_line, name_line, size_lines, is_plain, version_text, polarity_line, port_lines, later_lines, background_texts, backgrounds_line, head_lines, index_terms, is_none, joined, separator, term_after, row_terms, row_line, row_lines, is_identity, scramble_lines, printed};
+ghost use Rattle.memory_desc.specs.Printed.{number_line, name_line, is_plain, version_text, later_lines, backgrounds_line, head_lines, index_terms, is_none, joined, separator, term_after, row_terms, row_line, is_identity, scramble_lines, printed};
 
 use crate::memory::Memory;
 use bist_bits::NoMemory;
@@ -25,13 +25,6 @@ fn put_name_line(out: &mut Vec<u8>, name: &str) -> Result<(), NoMemory>
     put(out, b"name ")?;
     put(out, name.as_bytes())?;
     put(out, b"\n")
-}
-
-fn put_size_lines(out: &mut Vec<u8>, words: u32, bits: u8) -> Result<(), NoMemory>
-    ensures { OnOk result (out.new.items ≡ out.old.items ++ size_lines words bits) }
-{
-    put_number_line(out, b"words ", u64::from(words))?;
-    put_number_line(out, b"bits ", u64::from(bits))
 }
 
 /// Whether version 1 can say all of a memory.
@@ -57,26 +50,8 @@ fn put_head(out: &mut Vec<u8>, memory: &Memory) -> Result<(), NoMemory>
     put_version(out, is_plain(memory))?;
     put(out, b"\n")?;
     put_name_line(out, memory.name())?;
-    put_size_lines(out, memory.words(), memory.bits())
-}
-
-/// The polarity, in as many digits as a word needs.
-fn put_polarity_line(out: &mut Vec<u8>, word: u64, bits: u8) -> Result<(), NoMemory>
-    requires width { (1 ≤ bits) × (bits ≤ 64) }
-    requires fits { word < 2 ^ bits }
-    ensures { OnOk result (out.new.items ≡ out.old.items ++ polarity_line bits word) }
-{
-    put(out, b"polarity ")?;
-    put_hex(out, word, (bits + 3) / 4)?;
-    put(out, b"\n")
-}
-
-fn put_port_lines(out: &mut Vec<u8>, memory: &Memory) -> Result<(), NoMemory>
-    ensures { OnOk result (out.new.items ≡ out.old.items ++ port_lines memory.now) }
-{
-    put_number_line(out, b"latency ", u64::from(memory.latency()))?;
-    put_polarity_line(out, memory.polarity(), memory.bits())?;
-    put_number_line(out, b"pause ", u64::from(memory.pause()))
+    put_number_line(out, b"words ", u64::from(memory.words()))?;
+    put_number_line(out, b"bits ", u64::from(memory.bits()))
 }
 
 /// What version 2 says besides, where it is needed.
@@ -86,7 +61,11 @@ fn put_later_lines(out: &mut Vec<u8>, memory: &Memory) -> Result<(), NoMemory>
     if is_plain(memory) {
         return Ok(());
     }
-    put_port_lines(out, memory)
+    put_number_line(out, b"latency ", u64::from(memory.latency()))?;
+    put(out, b"polarity ")?;
+    put_hex(out, memory.polarity(), (memory.bits() + 3) / 4)?;
+    put(out, b"\n")?;
+    put_number_line(out, b"pause ", u64::from(memory.pause()))
 }
 
 /// What stands between two terms, and nothing before the first.
@@ -149,15 +128,6 @@ fn put_row(out: &mut Vec<u8>, scramble: &Scramble, i: u8) -> Result<(), NoMemory
     put(out, b"\n")
 }
 
-fn put_rows(out: &mut Vec<u8>, scramble: &Scramble) -> Result<(), NoMemory>
-    ensures { OnOk result (out.new.items ≡ out.old.items ++ row_lines scramble.now scramble.now.width) }
-{
-    for i in 0..scramble.width() {
-        put_row(out, scramble, i)?;
-    }
-    Ok(())
-}
-
 /// Whether a scrambling changes nothing.
 fn is_identity(scramble: &Scramble) -> bool
     ensures { result ≡ is_identity scramble.now }
@@ -179,29 +149,23 @@ fn put_scramble(out: &mut Vec<u8>, scramble: &Scramble) -> Result<(), NoMemory>
     if is_identity(scramble) {
         return Ok(());
     }
-    put_rows(out, scramble)
-}
-
-/// The backgrounds, each behind a blank, in as many digits as a word needs.
-fn put_background_words(out: &mut Vec<u8>, set: &[u64], bits: u8) -> Result<(), NoMemory>
-    requires width { (1 ≤ bits) × (bits ≤ 64) }
-    requires fit { All (λ b. b < 2 ^ bits) set.now }
-    ensures { OnOk result (out.new.items ≡ out.old.items ++ background_texts bits set.now) }
-{
-    for word in set {
-        put(out, b" ")?;
-        put_hex(out, *word, (bits + 3) / 4)?;
+    for i in 0..scramble.width() {
+        put_row(out, scramble, i)?;
     }
     Ok(())
 }
 
+/// The backgrounds, each behind a blank, in as many digits as a word needs.
 fn put_backgrounds(out: &mut Vec<u8>, set: &[u64], bits: u8) -> Result<(), NoMemory>
     requires width { (1 ≤ bits) × (bits ≤ 64) }
     requires fit { All (λ b. b < 2 ^ bits) set.now }
     ensures { OnOk result (out.new.items ≡ out.old.items ++ backgrounds_line bits set.now) }
 {
     put(out, b"backgrounds")?;
-    put_background_words(out, set, bits)?;
+    for word in set {
+        put(out, b" ")?;
+        put_hex(out, *word, (bits + 3) / 4)?;
+    }
     put(out, b"\n")
 }
 

@@ -19,7 +19,7 @@ use crate::lines::check_lines;
 use crate::memory::{Memory, Timing};
 use crate::names::name_from;
 use crate::search::{check_ranges, check_repeats, check_widths, field, is_scrambled};
-use crate::timing::{latency_from, pause_from, polarity_from};
+use crate::timing::{cycles_from, polarity_from};
 use arrayvec::ArrayString;
 use bist_bits::width_of;
 
@@ -56,8 +56,8 @@ fn memory_of(
     let scramble = scramble_from(bytes, scrambled, width)?;
     let backgrounds = backgrounds_from(bytes, bits)?;
     let timing = Timing {
-        latency: latency_from(bytes),
-        pause: pause_from(bytes),
+        latency: cycles_from(bytes, Subject::Latency) as u8,
+        pause: cycles_from(bytes, Subject::Pause),
     };
     let polarity = polarity_from(bytes, bits);
     Ok(Memory::new(name, words, bits, timing, polarity, scramble, backgrounds))

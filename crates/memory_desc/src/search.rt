@@ -1,41 +1,69 @@
 //! Searches in the lines of a text that are all lines of a description.
 
-ghost use Rattle.std.specs.Prelude.{◌≡◌, ◌≤◌, ◌||◌, nat_lt, false, List, None};
+ghost use Rattle.std.specs.Prelude.{◌≡◌, ◌≤◌, ◌||◌, nat_lt, false, List, None, find};
 ghost use Rattle.bist_text.specs.Lines.{text_lines};
 ghost use Rattle.memory_desc.specs.LineText.{Content, ContentText, LineText};
 ghost use Rattle.memory_desc.specs.Met.{MayBeMet};
 ghost use Rattle.memory_desc.specs.Statements.{Statement, Say};
-ghost use Rattle.memory_desc.specs.Subjects.{subject, is_same, about};
-ghost use Rattle.memory_desc.specs.Table.{is_repeat, is_out_of_range, is_too_wide, is_row, is_scrambled, repeated, out_of_range, too_wide};
+ghost use Rattle.memory_desc.specs.Subjects.{subject, about};
+ghost use Rattle.memory_desc.specs.Table.{is_repeat, is_out_of_range, is_too_wide, is_scrambled, repeated, out_of_range, too_wide};
 ghost use Rattle.memory_desc.specs.Standing.{StandsAt, GivesField, checked};
+ghost use Rattle.memory_desc.specs.Seeking.{is_sought, IsPosed, refused_first};
 
 use crate::content::{
     Subject, is_log, name_of, number_of, polarity_of, row_of, subject_of, words_of,
 };
 use crate::fault::{Field, MemoryFault};
-use crate::names::is_free;
 use crate::row_numbers::RowNumbers;
 use bist_bits::all_ones;
-use bist_text::{Line, Lines};
+use bist_text::{Line, Lines, is_reserved};
 
-/// Whether a line is about something.
-fn is_about(text: &[u8], wanted: Subject) -> bool
-    ensures content { (c : Content) → ContentText text.now c → result ≡ is_same wanted (subject c) }
-    ensures none { LineText text.now None → result ≡ false }
+/// What is sought in the lines of a text.
+#[derive(Clone, Copy)]
+enum Sought {
+    /// A line about something.
+    About(Subject),
+    /// A name, a number of words or of bits, a latency or a pause outside its range.
+    OutOfRange,
+    Row,
+    /// A row past the address, or a background or a polarity past the word.
+    TooWide { width: u8, bits: u8 },
+}
+
+/// Whether a content line is sought, where this is what it is about.
+fn is_sought(text: &[u8], own: Subject, sought: Sought) -> bool
+    requires { IsPosed sought }
+    ensures { (c : Content) → ContentText text.now c → own ≡ subject c → result ≡ is_sought sought c }
 {
-    subject_of(text) == Some(wanted)
+    match sought {
+        Sought::About(wanted) => own == wanted,
+        Sought::OutOfRange => is_out_of_range(text, own),
+        Sought::Row => matches!(own, Subject::Row(_)),
+        Sought::TooWide { width, bits } => is_too_wide(text, own, width, bits),
+    }
+}
+
+/// The first line that is sought.
+fn first_line<'a>(bytes: &'a [u8], sought: Sought) -> Option<Line<'a>>
+    requires { IsPosed sought }
+    ensures { (ss : List Statement) → Say (text_lines bytes.now) ss → StandsAt result (find (λ s. is_sought sought s.content) ss) }
+{
+    for line in Lines::new(bytes) {
+        let Some(own) = subject_of(line.text) else {
+            continue;
+        };
+        if is_sought(line.text, own, sought) {
+            return Some(line);
+        }
+    }
+    None
 }
 
 /// The first line about something.
 pub fn line_about<'a>(bytes: &'a [u8], wanted: Subject) -> Option<Line<'a>>
     ensures { (ss : List Statement) → Say (text_lines bytes.now) ss → StandsAt result (about wanted ss) }
 {
-    for line in Lines::new(bytes) {
-        if is_about(line.text, wanted) {
-            return Some(line);
-        }
-    }
-    None
+    first_line(bytes, Sought::About(wanted))
 }
 
 /// The line of a field that must be there.
@@ -85,16 +113,16 @@ fn is_outside(value: u32, least: u32, most: u32) -> bool
     value < least || value > most
 }
 
-/// Whether a line's name, number of words or of bits, latency or pause is outside its range.
-fn is_out_of_range(text: &[u8]) -> bool
-    ensures content { (c : Content) → ContentText text.now c → result ≡ is_out_of_range c }
-    ensures none { LineText text.now None → result ≡ false }
+/// Whether the name, the number of words or of bits, the latency or the pause of a line about something is
+/// outside its range.
+fn is_out_of_range(text: &[u8], own: Subject) -> bool
+    ensures { (c : Content) → ContentText text.now c → own ≡ subject c → result ≡ is_out_of_range c }
 {
-    let Some(subject) = subject_of(text) else {
-        return false;
-    };
-    match subject {
-        Subject::Name => !is_free(name_of(text)),
+    match own {
+        Subject::Name => {
+            let name = name_of(text);
+            name.len() > 48 || is_reserved(name)
+        }
         Subject::Words => is_outside(number_of(text), 2, 65536),
         Subject::Bits => is_outside(number_of(text), 1, 64),
         Subject::Latency => is_outside(number_of(text), 1, 4),
@@ -103,52 +131,13 @@ fn is_out_of_range(text: &[u8]) -> bool
     }
 }
 
-/// Names, numbers of words and of bits, latencies and pauses stay within their ranges.
-pub fn check_ranges(bytes: &[u8]) -> Result<(), MemoryFault>
-    ensures { (ss : List Statement) → Say (text_lines bytes.now) ss → result ≡ checked (out_of_range ss) }
-{
-    for line in Lines::new(bytes) {
-        if is_out_of_range(line.text) {
-            return Err(MemoryFault::OutOfRange { line: line.number });
-        }
-    }
-    Ok(())
-}
-
-/// Whether a line is a row.
-fn is_row(text: &[u8]) -> bool
-    ensures content { (c : Content) → ContentText text.now c → result ≡ is_row c }
-    ensures none { LineText text.now None → result ≡ false }
-{
-    let Some(subject) = subject_of(text) else {
-        return false;
-    };
-    matches!(subject, Subject::Row(_))
-}
-
-/// Whether there is a row.
-pub fn is_scrambled(bytes: &[u8]) -> bool
-    ensures { (ss : List Statement) → Say (text_lines bytes.now) ss → result ≡ is_scrambled ss }
-{
-    for line in Lines::new(bytes) {
-        if is_row(line.text) {
-            return true;
-        }
-    }
-    false
-}
-
-/// Whether a row goes past the address, or a background or a polarity past the word.
-fn is_too_wide(text: &[u8], width: u8, bits: u8) -> bool
+/// Whether the row of a line about something goes past the address, or a background or a polarity past the word.
+fn is_too_wide(text: &[u8], own: Subject, width: u8, bits: u8) -> bool
     requires width { 1 ≤ width }
     requires bits { (1 ≤ bits) × (bits ≤ 64) }
-    ensures content { (c : Content) → ContentText text.now c → result ≡ is_too_wide width bits c }
-    ensures none { LineText text.now None → result ≡ false }
+    ensures { (c : Content) → ContentText text.now c → own ≡ subject c → result ≡ is_too_wide width bits c }
 {
-    let Some(subject) = subject_of(text) else {
-        return false;
-    };
-    match subject {
+    match own {
         Subject::Row(_) => {
             let row = row_of(text);
             row.bit.max(row.highest) >= u32::from(width)
@@ -159,16 +148,36 @@ fn is_too_wide(text: &[u8], width: u8, bits: u8) -> bool
     }
 }
 
+/// Refuses the first line that is sought.
+fn refuse_first(bytes: &[u8], sought: Sought) -> Result<(), MemoryFault>
+    requires { IsPosed sought }
+    ensures { (ss : List Statement) → Say (text_lines bytes.now) ss → result ≡ checked (refused_first sought ss) }
+{
+    match first_line(bytes, sought) {
+        Some(line) => Err(MemoryFault::OutOfRange { line: line.number }),
+        None => Ok(()),
+    }
+}
+
+/// Names, numbers of words and of bits, latencies and pauses stay within their ranges.
+pub fn check_ranges(bytes: &[u8]) -> Result<(), MemoryFault>
+    ensures { (ss : List Statement) → Say (text_lines bytes.now) ss → result ≡ checked (out_of_range ss) }
+{
+    refuse_first(bytes, Sought::OutOfRange)
+}
+
 /// Rows stay within the address, and backgrounds and polarities within the word.
 pub fn check_widths(bytes: &[u8], width: u8, bits: u8) -> Result<(), MemoryFault>
     requires width { 1 ≤ width }
     requires bits { (1 ≤ bits) × (bits ≤ 64) }
     ensures { (ss : List Statement) → Say (text_lines bytes.now) ss → result ≡ checked (too_wide ss width bits) }
 {
-    for line in Lines::new(bytes) {
-        if is_too_wide(line.text, width, bits) {
-            return Err(MemoryFault::OutOfRange { line: line.number });
-        }
-    }
-    Ok(())
+    refuse_first(bytes, Sought::TooWide { width, bits })
+}
+
+/// Whether there is a row.
+pub fn is_scrambled(bytes: &[u8]) -> bool
+    ensures { (ss : List Statement) → Say (text_lines bytes.now) ss → result ≡ is_scrambled ss }
+{
+    first_line(bytes, Sought::Row).is_some()
 }

@@ -12,7 +12,7 @@ loop-line-preserved-in-Continue-1 c =
       can_next = tt;
       is_finite = tt;
       checked = opened_on n (opened_at (text_lines c.args.bytes.now) n c.in-Some-version.is c.in-Some.ensures.steps c.loop-line.invariant.checked)
-          (record { accepts = c.check_line.ensures.accepts; refuses = c.check_line.ensures.refuses })
+          c.check_line.ensures
           (ap is_ok c.in_ok-check_line.was) c.in_ok-check_line.ensures.accepted;
     }
 
@@ -22,7 +22,7 @@ loop-line-preserved c = record {
   is_finite = tt;
   checked = checked_begins c.in_ok-version.version
       (unopened_at (text_lines c.args.bytes.now) (no_version c.loop-line.version c.in_default.not-Some) c.in-Some.ensures.steps c.loop-line.invariant.checked)
-      (record { without = c.opening.ensures.without; accepts = c.opening.ensures.accepts; refuses = c.opening.ensures.refuses })
+      c.opening.ensures
       c.in_ok-version.was c.in_ok-version.ensures.accepted;
 }
 
@@ -30,7 +30,7 @@ pub returns-in_err-check_line-clause-accepts : goal.returns-in_err-check_line-cl
 returns-in_err-check_line-clause-accepts c ss h =
     let n = c.in-Some-version.given in
     later_accepts n ss _ (opened_at (text_lines c.args.bytes.now) n c.in-Some-version.is c.in-Some.ensures.steps c.loop-line.invariant.checked)
-    (record { accepts = c.check_line.ensures.accepts; refuses = c.check_line.ensures.refuses }) c.in_err-check_line.was h.0 h.1
+    c.check_line.ensures c.in_err-check_line.was h.0 h.1
 
 pub returns-in_err-check_line-clause-refuses : goal.returns-in_err-check_line-clause-refuses
 returns-in_err-check_line-clause-refuses c fault h =
@@ -38,19 +38,19 @@ returns-in_err-check_line-clause-refuses c fault h =
     let p = err_from_is_err_and c.from_residual.result c.from_residual.ensures.1 in
     p.1 ∙ ap Err p.2
     ∙ ap Err (later_refuses n fault (opened_at (text_lines c.args.bytes.now) n c.in-Some-version.is c.in-Some.ensures.steps c.loop-line.invariant.checked)
-    (record { accepts = c.check_line.ensures.accepts; refuses = c.check_line.ensures.refuses }) c.in_err-check_line.was h)
+    c.check_line.ensures c.in_err-check_line.was h)
 
 pub returns-in_err-version-clause-accepts : goal.returns-in_err-version-clause-accepts
 returns-in_err-version-clause-accepts c ss h =
     opening_accepts ss _ (unopened_at (text_lines c.args.bytes.now) (no_version c.loop-line.version c.in_default.not-Some) c.in-Some.ensures.steps c.loop-line.invariant.checked)
-    (record { without = c.opening.ensures.without; accepts = c.opening.ensures.accepts; refuses = c.opening.ensures.refuses }) c.in_err-version.was h.0 h.1
+    c.opening.ensures c.in_err-version.was h.0 h.1
 
 pub returns-in_err-version-clause-refuses : goal.returns-in_err-version-clause-refuses
 returns-in_err-version-clause-refuses c fault h =
     let p = err_from_is_err_and c.from_residual-in_err-version.result c.from_residual-in_err-version.ensures.1 in
     p.1 ∙ ap Err p.2
     ∙ ap Err (opening_refuses fault (unopened_at (text_lines c.args.bytes.now) (no_version c.loop-line.version c.in_default.not-Some) c.in-Some.ensures.steps c.loop-line.invariant.checked)
-    (record { without = c.opening.ensures.without; accepts = c.opening.ensures.accepts; refuses = c.opening.ensures.refuses }) c.in_err-version.was h)
+    c.opening.ensures c.in_err-version.was h)
 
 pub returns-in-Some-version-2-clause-accepted : goal.returns-in-Some-version-2-clause-accepted
 returns-in-Some-version-2-clause-accepted c =

@@ -1,13 +1,36 @@
-use Rattle.std.proofs.Common.{List, ℕ, ◌++◌, ◌∷◌, [], codes, ◌∙◌, ap, append_assoc}
+use Rattle.std.proofs.Common.{List, ℕ, ◌++◌, ◌∷◌, [], ◌+◌, ◌/◌, codes, slice_index, take, sym, ◌∙◌, ap, append_assoc, arith}
+use Rattle.std.proofs.lemmas.List.{take_all}
 use Rattle.std.proofs.lemmas.Result.{on_ok_weaker}
+use Rattle.bist_text.specs.Numbers.{hex_digits}
 use Rattle.memory_desc.specs.Printed.{background_texts}
+use Rattle.memory_desc.proofs.Printing.{word_digits, words_more}
 use Rattle.memory_desc.proofs.print.put_backgrounds.Goals as goal
+
+pub put_hex-requires : goal.put_hex-requires
+put_hex-requires c =
+    let set = c.args.set.now in
+    let i = c.loop-word.word-index in
+    record { fits = word_digits c.args.bits (slice_index set i) (c.requires.fit i 0 c.loop-word-test.true) }
+
+pub loop-word-preserved : goal.loop-word-preserved
+loop-word-preserved c =
+    let set = c.args.set.now in
+    let i = c.loop-word.word-index in
+    let before = c.put.new.out.items in
+    let so_far = background_texts c.args.bits (take i set) in
+    let digits = hex_digits ((c.args.bits + 3) / 4) (slice_index set i) in
+    c.in_ok-put_hex.ensures.ok
+    ∙ ap (λ (t : List ℕ). t ++ digits) (c.in_ok-put-2.ensures.ok ∙ ap (λ (t : List ℕ). t ++ 32 ∷ []) c.loop-word.invariant)
+    ∙ append_assoc (before ++ so_far) (32 ∷ []) digits ∙ append_assoc before so_far (32 ∷ digits)
+    ∙ ap (λ (t : List ℕ). before ++ t) (sym (words_more c.args.bits set i c.loop-word-test.true))
 
 pub returns : goal.returns
 returns c =
     let before = c.args.out.now.items in
     let key = codes "backgrounds" in
     let words = background_texts c.args.bits c.args.set.now in
-    let so_far = c.in_ok-put_background_words.ensures ∙ ap (λ (out : List ℕ). out ++ words) c.in_ok-put.ensures.ok in
     let regrouped = append_assoc (before ++ key) words (10 ∷ []) ∙ append_assoc before key (words ++ 10 ∷ []) in
-    on_ok_weaker c.put-2.result (λ e. e ∙ ap (λ (out : List ℕ). out ++ 10 ∷ []) so_far ∙ regrouped) c.put-2.ensures.ok
+    let all = take_all c.loop-word.word-index c.args.set.now (let e = c.loop-word-test.false in omega arith) in
+    let written =
+    c.loop-word.invariant ∙ ap (λ (set : List ℕ). c.put.new.out.items ++ background_texts c.args.bits set) all ∙ ap (λ (out : List ℕ). out ++ words) c.in_ok-put.ensures.ok in
+    on_ok_weaker c.put-2.result (λ e. e ∙ ap (λ (out : List ℕ). out ++ 10 ∷ []) written ∙ regrouped) c.put-2.ensures.ok

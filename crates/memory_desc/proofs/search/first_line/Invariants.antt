@@ -1,11 +1,11 @@
 use Rattle.bist_text.specs.Lines.{lines_left, text_lines}
-use Rattle.memory_desc.specs.Table.{is_row}
+use Rattle.memory_desc.specs.Seeking.{is_sought}
 use Rattle.memory_desc.proofs.Searches.{Searching}
-use Rattle.memory_desc.proofs.search.is_scrambled.Given as goal
+use Rattle.memory_desc.proofs.search.first_line.Given as goal
 
 abbrev pub invariant-loop-line : goal.invariant-loop-line
 invariant-loop-line l = record {
   can_next : (goal.iterator-loop-line).can_next l.line-iterator;
   is_finite : (goal.iterator-loop-line).is_finite l.line-iterator;
-  searching : Searching (λ _ s. is_row s.content) (text_lines l.bytes) (lines_left l.line-iterator);
+  searching : Searching (is_sought l.sought) (text_lines l.bytes) (lines_left l.line-iterator);
 }

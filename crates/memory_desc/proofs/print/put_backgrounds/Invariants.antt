@@ -1,6 +1,6 @@
 use Rattle.std.proofs.Common.{◌≡◌, ◌++◌, take}
 use Rattle.memory_desc.specs.Printed.{background_texts}
-use Rattle.memory_desc.proofs.print.put_background_words.Given as goal
+use Rattle.memory_desc.proofs.print.put_backgrounds.Given as goal
 
 abbrev pub invariant-loop-word : goal.invariant-loop-word
 invariant-loop-word l = l.out.items ≡ l.initial.out.items ++ background_texts l.bits (take l.word-index l.set)
