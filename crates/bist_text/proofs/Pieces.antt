@@ -72,20 +72,12 @@ pub when_never : (t : Bool) (P : Type 0) → (P → ⊥) → when t P → ⊥
 when_never true P f h = f h
 when_never false P f h = h
 
-pub when_iff : (t : Bool) (P Q : Type 0) → P ↔ Q → when t P ↔ when t Q
-when_iff true P Q f = f
-when_iff false P Q f = same
-
 pub either_iff : {A B C D : Type 0} → A ↔ C → B ↔ D → (A ⊎ B) ↔ (C ⊎ D)
 either_iff f g = (elim [ inl a ↦ inl (f.0 a) | inr b ↦ inr (g.0 b) ], elim [ inl a ↦ inl (f.1 a) | inr b ↦ inr (g.1 b) ])
 
 pub many_never : (p : ℕ → Bool) (K : List ℕ → Type 0) → ((x : List ℕ) → K x → ⊥) → (b : List ℕ) → many p K b → ⊥
 many_never p K f [] h = f [] h
 many_never p K f (c ∷ b) h = neither (f (c ∷ b)) (when_never (p c) (many p K b) (many_never p K f b)) h
-
-pub many_iff : (p : ℕ → Bool) (K L : List ℕ → Type 0) → ((x : List ℕ) → K x ↔ L x) → (b : List ℕ) → many p K b ↔ many p L b
-many_iff p K L f [] = f []
-many_iff p K L f (c ∷ b) = either_iff (f (c ∷ b)) (when_iff (p c) (many p K b) (many p L b) (many_iff p K L f b))
 
 -- at a text's end
 pub ends_none : {A : Type 0} (old v : List A) (P : List A → Type 0) → ((m : List A) → P m → ⊥) → Grows old v P ↔ (None ≡ Some v)

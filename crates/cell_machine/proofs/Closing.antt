@@ -8,7 +8,7 @@ use Rattle.cell_machine.specs.declared.pair.Pair.{Pair}
 use Rattle.cell_machine.specs.Pairs.{side_holds, pair_holds, with_victim, pair_close, IsClosed}
 
 -- a write that ends its own condition is not done a second time
-spent : {X : Type 0} (t : Bool) (holds : X → Bool) (before after : X) → (t ≡ true → holds after ≡ false)
+pub spent : {X : Type 0} (t : Bool) (holds : X → Bool) (before after : X) → (t ≡ true → holds after ≡ false)
     → (t && holds (if t && holds before then after else before)) ≡ false
 spent false holds before after h = refl
 spent true holds before after h = at (holds before) refl
@@ -17,7 +17,7 @@ spent true holds before after h = at (holds before) refl
     at true e = h refl
     at false e = e
 
-differs : (a b : Bool) → a ≢ b → same_bit a b ≡ false
+pub differs : (a b : Bool) → a ≢ b → same_bit a b ≡ false
 differs true true h = absurd (h refl)
 differs true false h = refl
 differs false true h = refl

@@ -1,5 +1,4 @@
 pub mod Turn
-pub mod Spread
 pub mod Slots
 pub mod Stages
 pub mod Steps

@@ -24,7 +24,7 @@ use Rattle.microcode.proofs.Rows.{rows_are}
 use Rattle.controller.proofs.Turn.{all_starts, visits_some}
 use Rattle.microcode.proofs.Turn.{opers_some}
 use Rattle.march_core.proofs.Built.{march_some}
-use Rattle.controller.proofs.Spread.{all_commands, length-all, command_stands, only_commands}
+use Rattle.word_march.proofs.Spread.{all_commands, length-cycles, command_stands, only_commands}
 
 -- ---- lists
 
@@ -132,5 +132,5 @@ start march d m n =
       commands = all_commands d (word_steps march d);
       stands = command_stands d (word_steps march d);
       only = only_commands d (word_steps march d);
-      count = length-all d (word_steps march d);
+      count = length-cycles d (word_steps march d);
     }

@@ -22,20 +22,20 @@ use Rattle.dynamic_prover.proofs.Ordered.{PlacesBelow, length-content, cell-cont
 use Rattle.dynamic_prover.proofs.Listed.{IsIn, in_at, all_in}
 
 -- 1 where any cell is there
-abbrev num : Bool → ℕ
-num some = cond some 1 0
+abbrev number : Bool → ℕ
+number some = cond some 1 0
 
-num_is : (k : ℕ) → num (is_some_cell k) ≡ min k 1
-num_is zero = omega arith
-num_is (suc k) = omega arith
+number_is : (k : ℕ) → number (is_some_cell k) ≡ min k 1
+number_is zero = omega arith
+number_is (suc k) = omega arith
 
-at_most_one : (b : Bool) → num b ≤ 1
+at_most_one : (b : Bool) → number b ≤ 1
 at_most_one true = omega arith
 at_most_one false = omega arith
 
-cell_num : (b : Bool) → is_some_cell (num b) ≡ b
-cell_num true = refl
-cell_num false = refl
+cell_number : (b : Bool) → is_some_cell (number b) ≡ b
+cell_number true = refl
+cell_number false = refl
 
 not_less : (a v : ℕ) → v ≤ a → nat_lt a v ≡ false
 not_less a v h = grind (arith, nat_tests)
@@ -59,7 +59,7 @@ shape_two false x y n lt =
 
 -- the small arrays, each with its place in the list
 abbrev two_spot : Bool → Bool → Bool → Spot
-two_spot below l h = spot_as (2 + num l + num h) (agg_of below (num l) (1 + num l)) (vic_of below (num l) (1 + num l))
+two_spot below l h = spot_as (2 + number l + number h) (agg_of below (number l) (1 + number l)) (vic_of below (number l) (1 + number l))
 
 two_is : (below l h : Bool) → IsIn (two_spot below l h) two_cell_spots × (two_shape below l h ≡ shape_at (two_spot below l h))
 two_is true false false = (in_at two_cell_spots 0 (two_spot true false false) refl, refl)
@@ -76,15 +76,15 @@ all_two P f =
     (f true false false, (f false false false, (f true false true, (f false false true, (f true true false, (f false true false, (f true true true, (f false true true, tt))))))))
 
 abbrev one_spot : Bool → Bool → Spot
-one_spot l h = spot_as (1 + num l + num h) None (num l)
+one_spot l h = spot_as (1 + number l + number h) None (number l)
 
-one_is : (l h : Bool) → 1 ≤ num l + num h → IsIn (one_spot l h) one_cell_spots × (shape_as l V None h ≡ shape_at (one_spot l h))
+one_is : (l h : Bool) → 1 ≤ number l + number h → IsIn (one_spot l h) one_cell_spots × (shape_as l V None h ≡ shape_at (one_spot l h))
 one_is false false m = absurd (omega arith)
 one_is false true m = (in_at one_cell_spots 0 (one_spot false true) refl, refl)
 one_is true false m = (in_at one_cell_spots 1 (one_spot true false) refl, refl)
 one_is true true m = (in_at one_cell_spots 2 (one_spot true true) refl, refl)
 
-all_one : (P : Spot → Type 0) → ((l h : Bool) → 1 ≤ num l + num h → P (one_spot l h)) → AllByRecursion P one_cell_spots
+all_one : (P : Spot → Type 0) → ((l h : Bool) → 1 ≤ number l + number h → P (one_spot l h)) → AllByRecursion P one_cell_spots
 all_one P f = (f false true (omega arith), (f true false (omega arith), (f true true (omega arith), tt)))
 
 -- a small array of the same shape, which is less or has the same places
@@ -100,18 +100,18 @@ spot_two : (below : Bool) (x y n : ℕ) → x < y → y < n → (s : Spot) × Is
 spot_two below x y n lt within =
     let l : Bool = is_some_cell x in
     let h : Bool = is_some_cell (n - 1 - y) in
-    let p = num_is x in
-    let q = num_is (n - 1 - y) in
+    let p = number_is x in
+    let q = number_is (n - 1 - y) in
     let is = two_is below l h in (
       two_spot below l h,
       record {
         listed = is.0;
         shape = shape_two below x y n lt ∙ is.1;
-        order = ⊎_elim (λ (less : 2 + num l + num h < n). inl less)
-            (λ (m : n ≤ 2 + num l + num h).
-            let t = ends_are (num l) (num h) x y n (omega arith) (omega arith) lt within m in
-            inr (t.0, ap (λ i. agg_of below i (1 + num l)) t.1 ∙ ap (agg_of below x) t.2, ap (λ i. vic_of below i (1 + num l)) t.1 ∙ ap (vic_of below x) t.2))
-            (cases_lt (2 + num l + num h) n);
+        order = ⊎_elim (λ (less : 2 + number l + number h < n). inl less)
+            (λ (m : n ≤ 2 + number l + number h).
+            let t = ends_are (number l) (number h) x y n (omega arith) (omega arith) lt within m in
+            inr (t.0, ap (λ i. agg_of below i (1 + number l)) t.1 ∙ ap (agg_of below x) t.2, ap (λ i. vic_of below i (1 + number l)) t.1 ∙ ap (vic_of below x) t.2))
+            (cases_lt (2 + number l + number h) n);
       },
     )
 
@@ -119,14 +119,14 @@ spot_alone : (v n : ℕ) → v < n → 2 ≤ n → (s : Spot) × IsSpotFor false
 spot_alone v n within some =
     let l : Bool = is_some_cell v in
     let h : Bool = is_some_cell (n - 1 - v) in
-    let p = num_is v in
-    let q = num_is (n - 1 - v) in
+    let p = number_is v in
+    let q = number_is (n - 1 - v) in
     let is = one_is l h (omega arith) in (
       one_spot l h,
       record {
         listed = is.0;
         shape = is.1;
-        order = ⊎_elim (λ (less : 1 + num l + num h < n). inl less) (λ (m : n ≤ 1 + num l + num h). inr (omega arith, refl, omega arith)) (cases_lt (1 + num l + num h) n);
+        order = ⊎_elim (λ (less : 1 + number l + number h < n). inl less) (λ (m : n ≤ 1 + number l + number h). inr (omega arith, refl, omega arith)) (cases_lt (1 + number l + number h) n);
       },
     )
 
@@ -178,9 +178,9 @@ small_two : (below l h : Bool) → IsSmall true (two_spot below l h)
 small_two below l h =
     let p = at_most_one l in
     let q = at_most_one h in
-    record { some = omega arith; few = omega arith; fits = fits_two below (num l) (1 + num l) (2 + num l + num h) (omega arith) (omega arith) }
+    record { some = omega arith; few = omega arith; fits = fits_two below (number l) (1 + number l) (2 + number l + number h) (omega arith) (omega arith) }
 
-small_one : (l h : Bool) → 1 ≤ num l + num h → IsSmall false (one_spot l h)
+small_one : (l h : Bool) → 1 ≤ number l + number h → IsSmall false (one_spot l h)
 small_one l h m = let p = at_most_one l in let q = at_most_one h in record { some = omega arith; few = omega arith; fits = omega arith }
 
 pub is_small : (two : Bool) (s : Spot) → IsIn s (spots_of two) → IsSmall two s
@@ -199,14 +199,14 @@ large_two : (below l h : Bool) (k : ℕ) → 4 ≤ k → IsLarge true (two_spot 
 large_two below l h k more =
     let p = at_most_one l in
     let q = at_most_one h in
-    let y : ℕ = k - 1 - num h in
-    let rest : k - 1 - (k - 1 - num h) ≡ num h = omega arith in
+    let y : ℕ = k - 1 - number h in
+    let rest : k - 1 - (k - 1 - number h) ≡ number h = omega arith in
     record {
-      agg = agg_of below (num l) y;
-      vic = vic_of below (num l) y;
-      fits = fits_two below (num l) y k (omega arith) (omega arith);
-      shape = shape_two below (num l) y k (omega arith) ∙ ap (λ b. two_shape below b (is_some_cell (k - 1 - y))) (cell_num l)
-          ∙ ap (λ i. two_shape below l (is_some_cell i)) rest ∙ ap (two_shape below l) (cell_num h) ∙ (two_is below l h).1;
+      agg = agg_of below (number l) y;
+      vic = vic_of below (number l) y;
+      fits = fits_two below (number l) y k (omega arith) (omega arith);
+      shape = shape_two below (number l) y k (omega arith) ∙ ap (λ b. two_shape below b (is_some_cell (k - 1 - y))) (cell_number l)
+          ∙ ap (λ i. two_shape below l (is_some_cell i)) rest ∙ ap (two_shape below l) (cell_number h) ∙ (two_is below l h).1;
     }
 
 some_there : (k : ℕ) → 0 < k → is_some_cell k ≡ true
@@ -214,7 +214,7 @@ some_there zero h = absurd (omega arith)
 some_there (suc k) h = refl
 
 -- the victim is the second of an array, or the first or the last
-large_one : (k : ℕ) → 4 ≤ k → (l h : Bool) → 1 ≤ num l + num h → IsLarge false (one_spot l h) k
+large_one : (k : ℕ) → 4 ≤ k → (l h : Bool) → 1 ≤ number l + number h → IsLarge false (one_spot l h) k
 large_one k more false false m = absurd (omega arith)
 large_one k more false true m = record { agg = None; vic = 0; fits = omega arith; shape = ap (shape_as false V None) (some_there (k - 1 - 0) (omega arith)) }
 large_one k more true true m = record { agg = None; vic = 1; fits = omega arith; shape = ap (shape_as true V None) (some_there (k - 1 - 1) (omega arith)) }

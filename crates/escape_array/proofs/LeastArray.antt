@@ -1,5 +1,5 @@
 -- The search in the order of the contents and of the placements finds the least escape.
-use Rattle.std.proofs.Common.{◌≡◌, ◌+◌, ◌<◌, ◌≤◌, ℕ, Bool, true, false, cond, Option, Some, None, is_some, List, [], ◌∷◌, length, refl, ap, sym, subst, ◌∙◌, ◌⊎◌, inl, inr, ⊎_elim, arith}
+use Rattle.std.proofs.Common.{◌≡◌, ◌+◌, ◌<◌, ◌≤◌, ℕ, Bool, true, false, Option, Some, None, is_some, List, [], ◌∷◌, length, refl, ap, sym, subst, ◌∙◌, ◌⊎◌, inl, inr, ⊎_elim, arith}
 use Rattle.std.proofs.Math.Nat.{eq-or-lt_of_le}
 use Rattle.fault_core.specs.declared.cells.Places.{Places}
 use Rattle.fault_core.specs.declared.primitive.Sense.{Sense}
@@ -9,10 +9,13 @@ use Rattle.fault_core.specs.Primitive.{Primitive}
 use Rattle.march_core.specs.March.{MarchElement}
 use Rattle.march_core.specs.Visits.{directions_of}
 use Rattle.array_sim.specs.Run.{outcome_of}
+use Rattle.cell_machine.specs.declared.pair.Pair.{Pair}
+use Rattle.cell_machine.specs.Pairs.{pair_of}
 use Rattle.pair_tracker.specs.declared.placement.Placement.{Placement}
 use Rattle.pair_tracker.specs.declared.placement.Placement.TheVariants.{Alone, Below, Above}
 use Rattle.pair_tracker.specs.Placements.{places_in, FitsPlacement, pair_in}
-use Rattle.pair_tracker.specs.Survivors.{two_cell_run}
+use Rattle.pair_tracker.specs.Survivors.{two_cell_run, pair_number}
+use Rattle.pair_tracker.proofs.Joining.{same_number}
 use Rattle.escape_array.specs.declared.escape.EscapeArray.{EscapeArray}
 use Rattle.escape_array.specs.Escapes.{IsEscape, IsLeastEscape, IsNoGreater, places_of_escape, placement_number, content_number}
 use Rattle.escape_array.specs.Searching.{LetsThrough, IsLeastWord, NoneBefore, IsLeastIn}
@@ -27,26 +30,14 @@ content_below (false ∷ true ∷ []) e = omega arith
 content_below (false ∷ false ∷ []) e = omega arith
 content_below (x ∷ y ∷ z ∷ rest) e = absurd (omega arith)
 
-bits_of : Bool → ℕ
-bits_of b = cond b 1 0
+as_pair : (a b : Bool) → content_number (a ∷ b ∷ []) ≡ pair_number (pair_of a b)
+as_pair true true = refl
+as_pair true false = refl
+as_pair false true = refl
+as_pair false false = refl
 
 same_bits : (a b c d : Bool) → content_number (a ∷ b ∷ []) ≡ content_number (c ∷ d ∷ []) → a ∷ b ∷ [] ≡ c ∷ d ∷ []
-same_bits true true true true e = refl
-same_bits true true true false e = absurd (omega arith)
-same_bits true true false true e = absurd (omega arith)
-same_bits true true false false e = absurd (omega arith)
-same_bits true false true true e = absurd (omega arith)
-same_bits true false true false e = refl
-same_bits true false false true e = absurd (omega arith)
-same_bits true false false false e = absurd (omega arith)
-same_bits false true true true e = absurd (omega arith)
-same_bits false true true false e = absurd (omega arith)
-same_bits false true false true e = refl
-same_bits false true false false e = absurd (omega arith)
-same_bits false false true true e = absurd (omega arith)
-same_bits false false true false e = absurd (omega arith)
-same_bits false false false true e = absurd (omega arith)
-same_bits false false false false e = refl
+same_bits a b c d e = ap (λ (p : Pair). p.a ∷ p.v ∷ []) (same_number (pair_of a b) (pair_of c d) (sym (as_pair a b) ∙ e ∙ as_pair c d))
 
 -- the number tells the content
 pub same_content : (c d : List Bool) → length c ≡ 2 → length d ≡ 2 → content_number c ≡ content_number d → c ≡ d

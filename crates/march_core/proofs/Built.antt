@@ -129,10 +129,6 @@ march_filled xs march = (march.some, each xs march.each)
     each (x ∷ xs) all =
         (⊎_elim (λ (p : is_pause x ≡ true). inl p) (λ (h : (0 < length (ops_of x)) × (length (ops_of x) ≤ 16)). inr (h.0)) all.0, each xs all.1)
 
--- a march has an operation
-pub march_ops : (xs : List MarchElement) → IsMarch xs → 0 < length (all_ops xs)
-march_ops xs march = let filled = march_filled xs march in sweep_ops xs filled.0 filled.1
-
 -- a march has an element
 pub march_some : (xs : List MarchElement) → IsMarch xs → 0 < length xs
 march_some [] march = let some = march.some in cc

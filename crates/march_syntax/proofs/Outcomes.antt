@@ -1,44 +1,22 @@
 -- From where a reader stands to what it answers.
-use Rattle.std.proofs.Common.{◌≡◌, ◌↔◌, ℕ, ◌<◌, Bool, true, false, List, [], ◌∙◌, length, drop, get_or, Option, Some, None, Result, Ok, Err, IsOk, IfOk, refl, sym, subst, inl, inr}
+use Rattle.std.proofs.Common.{◌≡◌, ◌↔◌, ℕ, Bool, true, List, [], ◌∙◌, drop, Option, Some, Result, Ok, Err, refl, sym, subst, inl, inr}
 use Rattle.bist_text.specs.Grammar.{are_bytes}
 use Rattle.bist_text.specs.Machine.{Outcome, read, unexpected, truncated, scan, IsExact}
 use Rattle.bist_text.proofs.Exclusive.{scan_exact}
 use Rattle.march_core.specs.declared.fault.MarchFault.{MarchFault}
 use Rattle.march_core.specs.declared.fault.MarchFault.TheVariants.{Unexpected, Truncated, Empty, TooManyElements, TooManyOps, TooManyInAll, ReadBeforeWrite, WrongExpect}
-use Rattle.march_core.specs.Building.{IsRefused}
 use Rattle.march_core.specs.March.{MarchElement, IsMarch}
 use Rattle.march_syntax.specs.declared.place.Place.{Place}
-use Rattle.march_syntax.specs.declared.place.Place.TheVariants.{Start, Open, Spelling, Ordered, Wanted, Digit, Operation, Ended, Next, Closed}
-use Rattle.march_syntax.specs.Answers.{Refuses, Decides, Gives, Reads}
+use Rattle.march_syntax.specs.Answers.{Refuses, Gives, Reads}
 use Rattle.march_syntax.proofs.OneOutcome.{reads_one}
 use Rattle.march_syntax.specs.MarchText.{MarchText}
-use Rattle.march_syntax.specs.Places.{move_at, may_end, start, step, value, rest, is_inside}
+use Rattle.march_syntax.specs.Places.{may_end, start, step, value, rest}
 use Rattle.march_syntax.proofs.PlaceLaws.{follows, start_is}
-use Rattle.march_syntax.proofs.Standing.{Stands, Keeps, stands_stop, stands_end}
+use Rattle.march_syntax.proofs.Standing.{Stands, Keeps, stands_end}
 
 -- ---- what the reader answers
 
-end_outside : (p : Place) (t : Bool) → may_end p t ≡ true → is_inside p ≡ false
-end_outside Start t e = refl
-end_outside Open t e = refl
-end_outside (Spelling q) t e = refl
-end_outside Ordered t e = cc
-end_outside Wanted t e = cc
-end_outside (Digit a) t e = cc
-end_outside Operation t e = cc
-end_outside Ended t e = refl
-end_outside Next t e = refl
-end_outside Closed t e = refl
-
 module _ (b : List ℕ) (place : Place) (braced : Bool) (built : List MarchElement) (exceeded : Option MarchFault) (i : ℕ) (x : Stands b place braced built exceeded i) where
-  pub gives_unexpected : i < length b → move_at place braced (get_or b i 0) ≡ None → Gives (scan step value b start 0) (Err (Unexpected i))
-  gives_unexpected l e = subst (λ o. Gives o (Err (Unexpected i))) (sym (stands_stop b place braced built exceeded i x l e)) refl
-
-  pub gives_truncated : drop i b ≡ [] → may_end place braced ≡ false → Gives (scan step value b start 0) (Err Truncated)
-  gives_truncated d e =
-      let k : scan step value b start 0 ≡ truncated = stands_end b place braced built exceeded i x d ∙ rw e refl in
-      subst (λ o. Gives o (Err Truncated)) (sym k) refl
-
   whole : drop i b ≡ [] → may_end place braced ≡ true → scan step value b start 0 ≡ read x.state.done
   whole d e = stands_end b place braced built exceeded i x d ∙ rw e refl
 
@@ -47,23 +25,6 @@ module _ (b : List ℕ) (place : Place) (braced : Bool) (built : List MarchEleme
   gives_exceeded fault f d e =
       let k : Keeps b x.state built (Some fault) = subst (Keeps b x.state built) f x.kept in
       subst (λ o. Gives o (Err fault)) (sym (whole d e)) (inl (k x.state.done (whole d e)))
-
-  pub gives_built : (r : Result (List MarchElement) MarchFault) → exceeded ≡ None → drop i b ≡ [] → may_end place braced ≡ true
-      → (IsOk r ↔ IsMarch built) → IfOk r (λ march. march ≡ built) → ((fault : MarchFault) → (r ≡ Err fault) ↔ IsRefused built fault)
-      → Gives (scan step value b start 0) r
-  gives_built r f d e ok same bad =
-      subst (λ o. Gives o r) (sym (whole d e)) (subst (λ es. Decides es r) is (decided r ok same bad))
-    where
-      kept : Keeps b x.state built None
-      kept = subst (Keeps b x.state built) f x.kept
-
-      is : built ≡ x.state.done
-      is = let o : is_inside x.state.place ≡ false = rw x.at_place (end_outside place braced e) in kept.0 ∙ rw o refl
-
-      decided : (r : Result (List MarchElement) MarchFault) → (IsOk r ↔ IsMarch built) → IfOk r (λ march. march ≡ built)
-          → ((fault : MarchFault) → (r ≡ Err fault) ↔ IsRefused built fault) → Decides built r
-      decided (Ok m) ok same bad = (same, ok.0 refl)
-      decided (Err f) ok same bad = inr (kept.1, (bad f).0 refl)
 
 -- ---- what that says of the grammar
 

@@ -45,19 +45,6 @@ pushed_more x n i old now after p so_far is =
     p ∙ ap (λ l. l ++ i ∷ []) so_far ∙ append_assoc old (instrs_from x 0 n) (i ∷ [])
     ∙ ap (λ l. old ++ l) (ap (λ y. instrs_from x 0 n ++ y ∷ []) (sym is ∙ ap (instr_of x) here) ∙ sym (instrs_more x 0 n))
 
-pub opers_are : (x : MarchElement) → is_pause x ≡ false → opers_of x ≡ length (ops_of x)
-opers_are pause h = cc
-opers_are (sweep order ops) h = refl
-
-pub pause_instrs : (x : MarchElement) → is_pause x ≡ true
-    → instrs_from x 0 (opers_of x) ≡ (record { write = false; bit = false; down = false; last = true; pause = true }) ∷ []
-pause_instrs pause h = refl
-pause_instrs (sweep order ops) h = cc
-
-pub pause_opers : (x : MarchElement) → is_pause x ≡ true → opers_of x ≡ 1
-pause_opers pause h = refl
-pause_opers (sweep order ops) h = cc
-
 -- ---- how long it is
 
 opers_within : (x : MarchElement) → opers_of x ≤ 1 + length (ops_of x)

@@ -1,31 +1,10 @@
 ghost use Rattle.std.specs.Prelude.{◌≡◌, ◌+◌, ◌<◌, ◌≤◌, ◌++◌, length};
 ghost use Rattle.march_core.specs.March.{sweep, element_at};
-ghost use Rattle.march_core.specs.Runs.{is_write, data_value};
 ghost use Rattle.microcode.specs.Code.{goes_down, opers_at, instrs_from, assemble};
 
 use crate::code::{Code, Instr};
 use arrayvec::ArrayVec;
 use march_core::{March, Op, Order};
-
-/// Whether an operation writes.
-fn writes(op: Op) -> bool
-    ensures { result ≡ is_write op }
-{
-    match op {
-        Op::W0 | Op::W1 => true,
-        Op::R0 | Op::R1 => false,
-    }
-}
-
-/// The data value that an operation writes or expects.
-fn data_of(op: Op) -> bool
-    ensures { result ≡ data_value op }
-{
-    match op {
-        Op::W0 | Op::R0 => false,
-        Op::W1 | Op::R1 => true,
-    }
-}
 
 /// Whether the hardware goes downward in an element of this order.
 fn down_of(order: Order) -> bool
@@ -73,8 +52,8 @@ fn push_ops(code: &mut Code, order: Order, ops: &[Op])
     let down = down_of(order);
     for (number, op) in ops.iter().enumerate() {
         code.push(Instr {
-            write: writes(*op),
-            bit: data_of(*op),
+            write: op.writes(),
+            bit: op.data_value(),
             down,
             last: number == ops.len() - 1,
             pause: false,

@@ -24,27 +24,17 @@ number_below q = go q.a q.v
     go false true = omega arith
     go false false = omega arith
 
-pub same_number : (q r : Pair) → pair_number q ≡ pair_number r → q ≡ r
-same_number q r e = go q.a q.v r.a r.v e
+pub at_number : (q d : Pair) → get_or all_pairs (pair_number q) d ≡ q
+at_number q d = go q.a q.v
   where
-    go : (a v b w : Bool) → pair_number (record { a = a; v = v }) ≡ pair_number (record { a = b; v = w })
-        → (let one : Pair = record { a = a; v = v } in let other : Pair = record { a = b; v = w } in one ≡ other)
-    go true true true true e = refl
-    go true true true false e = absurd (omega arith)
-    go true true false true e = absurd (omega arith)
-    go true true false false e = absurd (omega arith)
-    go true false true true e = absurd (omega arith)
-    go true false true false e = refl
-    go true false false true e = absurd (omega arith)
-    go true false false false e = absurd (omega arith)
-    go false true true true e = absurd (omega arith)
-    go false true true false e = absurd (omega arith)
-    go false true false true e = refl
-    go false true false false e = absurd (omega arith)
-    go false false true true e = absurd (omega arith)
-    go false false true false e = absurd (omega arith)
-    go false false false true e = absurd (omega arith)
-    go false false false false e = refl
+    go : (a v : Bool) → (let p : Pair = record { a = a; v = v } in get_or all_pairs (pair_number p) d ≡ p)
+    go true true = refl
+    go true false = refl
+    go false true = refl
+    go false false = refl
+
+pub same_number : (q r : Pair) → pair_number q ≡ pair_number r → q ≡ r
+same_number q r e = sym (at_number q q) ∙ ap (λ k. get_or all_pairs k q) e ∙ at_number r q
 
 pub number_at : (k : ℕ) (d : Pair) → k < 4 → pair_number (get_or all_pairs k d) ≡ k
 number_at zero d h = refl

@@ -3,9 +3,6 @@ use Rattle.std.proofs.Common.{◌≡◌, ℕ, suc, ◌+◌, ◌-◌, ◌<◌, Bo
 use Rattle.verilog_tree.specs.Plain.{Expression, Statement, SetTo, ModuleItem}
 use Rattle.rtl_layout.specs.Layout.{aged, reads_at, over_at, age_regs, stage_regs, gated, feed_reads, feed_over, end_age_sets, age_sets, stage_sets}
 
-next_age : (many : Bool) (w i n : ℕ) → stage_regs many w i (suc n) ≡ age_regs many w (suc i) ++ stage_regs many w (suc i) n
-next_age many w i n = refl
-
 pub ages_turn : (many : Bool) (w i d : ℕ) (xs ys q : List ModuleItem) → i < d → ys ≡ xs ++ age_regs many w (i + 1) → xs ++ stage_regs many w i (d - i) ≡ q → ys ++ stage_regs many w (i + 1) (d - (i + 1)) ≡ q
 ages_turn many w i d xs ys q lt is h =
     let left : suc (d - (i + 1)) ≡ d - i = omega arith in

@@ -1,7 +1,6 @@
 -- Tables as loops make them.
-use Rattle.std.proofs.Common.{◌≡◌, ℕ, suc, ◌+◌, ◌-◌, ◌<◌, false, cond, IfOk, List, [], ◌∷◌, ◌++◌, length, map, take, drop, reverse, get_or, refl, append-nil, append_assoc, sym, ap, ◌∙◌, subst, arith}
+use Rattle.std.proofs.Common.{◌≡◌, ℕ, ◌+◌, ◌<◌, false, cond, IfOk, List, [], ◌∷◌, ◌++◌, length, map, take, reverse, get_or, refl, append-nil, append_assoc, sym, ap, ◌∙◌, subst}
 use Rattle.std.proofs.lemmas.List.{take_more, map-append, reverse-append}
-use Rattle.std.proofs.Math.Seq.{drop-cons}
 use Rattle.std.specs.Prelude.{Result}
 use Rattle.verilog_tree.specs.declared.tree.Expr.{Expr}
 use Rattle.verilog_tree.specs.Plain.{Expression, Net, Concatenation, NoMore, expressions, plain}
@@ -24,22 +23,6 @@ one_more f xs i x ls ms y h is grown tells inv =
     ∙ ap (λ z. map f (take i xs) ++ z ∷ []) tells
     ∙ ap (λ z. map f (take i xs) ++ f z ∷ []) is
     ∙ sym (ap (map f) (take_more xs i x h) ∙ map-append f (take i xs) (get_or xs i x ∷ []))
-
--- one bit of the address more, the highest first
-pub one_higher : {A : Type 0} (f : A → Expression) (xs : List A) (i : ℕ) (x : A) (ls ms : List Expr) (y : Expr) → i < length xs → x ≡ get_or xs (length xs - 1 - i) x → ms ≡ ls ++ y ∷ [] → plain y ≡ f x
-    → map plain ls ≡ reverse (map f (drop (length xs - i) xs)) → map plain ms ≡ reverse (map f (drop (length xs - (i + 1)) xs))
-one_higher f xs i x ls ms y h is grown tells inv =
-    let j = length xs - 1 - i in
-    let here : j < length xs = omega arith in
-    let low : length xs - (i + 1) ≡ j = omega arith in
-    let up : length xs - i ≡ suc j = omega arith in
-    let rest = map f (drop (suc j) xs) in
-    ap (map plain) grown
-    ∙ map-append plain ls (y ∷ [])
-    ∙ ap (λ l. l ++ plain y ∷ []) (inv ∙ ap (λ k. reverse (map f (drop k xs))) up)
-    ∙ ap (λ z. reverse rest ++ z ∷ []) tells
-    ∙ ap (λ z. reverse rest ++ f z ∷ []) is
-    ∙ sym (ap (λ k. reverse (map f (drop k xs))) low ∙ ap (λ l. reverse (map f l)) (drop-cons xs j x here) ∙ reverse-append (f (get_or xs j x) ∷ []) rest)
 
 -- the address as a list of its bits
 pub address_listed : (p : Plan) (rs : List Row) (xs : List Expression) → address_bits p rs (expressions xs) ≡ expressions (reverse (map (row_bit p.addr_width) rs) ++ xs)

@@ -1,7 +1,6 @@
 //! Expressions of a module, made into code over the places of values.
 ghost use Rattle.std.specs.Prelude.{◌≡◌, ℕ, ◌+◌, ◌-◌, ◌%◌, ◌^◌, ◌≤◌, List, bit_and, cond, map, nat_eq, IfOk, IfSome};
 ghost use Rattle.verilog_tree.specs.Plain.{plain, expressions, Expression, Net, BitSelect, PartSelect, Literal, Prefixed, Infixed, Conditional, Expressions, NoMore, Followed};
-ghost use Rattle.verilog_tree.specs.Meaning.{prefixed_width, infixed_width};
 ghost use Rattle.verilog_cycle.specs.Code.{at, lowered, raised, odd, meaning};
 ghost use Rattle.verilog_cycle.specs.Compile.{prefixed_code, infixed_code, Tested, Compiles, JoinsParts};
 ghost use Rattle.verilog_cycle.specs.Scope.{scope_widths, scope_places};
@@ -10,7 +9,7 @@ use crate::code::Code;
 use crate::scope::Scope;
 use bist_bits::{Bits, NoMemory};
 use std::alloc::Global;
-use verilog_tree::{BinOp, Expr, Name, UnOp};
+use verilog_tree::{BinOp, Expr, Name, UnOp, binary_width, unary_width};
 
 /// The code of an expression, and its width.
 #[derive(Drop)]
@@ -173,32 +172,6 @@ fn literal(alloc: Global, scope: &Scope, literal: &Bits) -> Result<Compiled, NoM
 {
     let _scope = scope;
     boxed(alloc, literal.width() as u64, literal_code(literal.value()))
-}
-
-fn unary_width(op: UnOp, operand: u64) -> u64
-    ensures { result ≡ prefixed_width op operand }
-{
-    match op {
-        UnOp::Invert => operand,
-        UnOp::Not | UnOp::AllOnes | UnOp::AnyOne | UnOp::Parity => 1,
-    }
-}
-
-fn binary_width(op: BinOp, left: u64) -> u64
-    ensures { result ≡ infixed_width op left }
-{
-    match op {
-        BinOp::Add | BinOp::Sub | BinOp::And | BinOp::Or | BinOp::Xor | BinOp::Shl | BinOp::Shr =>
-            left,
-        BinOp::Eq
-        | BinOp::Ne
-        | BinOp::Lt
-        | BinOp::Le
-        | BinOp::Gt
-        | BinOp::Ge
-        | BinOp::LogAnd
-        | BinOp::LogOr => 1,
-    }
 }
 
 #[tactic(auto, using(crate::proofs::Compiling::prefixed_compiles))]

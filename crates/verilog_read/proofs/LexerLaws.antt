@@ -3,7 +3,7 @@ use Rattle.std.proofs.Common.{◌≡◌, ℕ, ◌+◌, ◌*◌, ◌==◌, Bool, 
 use Rattle.bist_text.proofs.Pieces.{at_byte, also, skip, stay, neither, same, never}
 use Rattle.bist_text.specs.Lexed.{emitted, Lexes}
 use Rattle.bist_text.specs.Machine.{Holds}
-use Rattle.verilog_tree.specs.Tokens.{gap, Token, Identifier, Number, Based, Queried, Sign, sized, Start, AWord, ANumber, AMark, NoToken, start_of, is_query, lengthened, marked, begun, first, Lexed}
+use Rattle.verilog_tree.specs.Tokens.{gap, Token, Identifier, Number, Based, Queried, Sign, Start, AWord, ANumber, AMark, NoToken, start_of, is_query, lengthened, marked, begun, first, Lexed}
 use Rattle.verilog_tree.specs.Words.{in_identifier, is_digit, digit_value, radix, is_digit_of, base_of}
 use Rattle.verilog_tree.specs.declared.tokens.Base.{Base}
 use Rattle.verilog_tree.specs.declared.tokens.Mark.{Mark}
@@ -98,13 +98,6 @@ word_goes w ts c b = by_test (λ t. Goes (InWord w) (if t then Some (InWord (w +
     done l [] = never (λ z. z) (no_tokens (Identifier w) (λ us. Lexed us (c ∷ b)))
     done l (Identifier v ∷ us) = also (rw l (λ h. (ap Identifier h.0, h.1), λ h. (let e : Identifier w ≡ Identifier v = h.0 in let k : w ≡ v = cc in k, h.1))) (one_ends (Identifier w) (Identifier v) us (λ us. Lexed us (c ∷ b)))
     done l (x ∷ us) = never (λ z. z) (other_ends (Identifier w) x us (λ us. Lexed us (c ∷ b)) (λ e. cc))
-
-sized_iff : (t : Token) (P Q : Type 0) → P ↔ Q → sized t P ↔ sized t Q
-sized_iff (Based x) P Q f = f
-sized_iff Queried P Q f = f
-sized_iff (Identifier w) P Q f = same
-sized_iff (Number l n) P Q f = same
-sized_iff (Sign m) P Q f = same
 
 number_goes : (long : Bool) (n : ℕ) (ts : List Token) (c : ℕ) (b : List ℕ) → Goes (InNumber long n) (lex (InNumber long n) c) c b ts
 number_goes long n ts c b = at_byte (λ x. Goes (InNumber long n) (lex (InNumber long n) x) x b ts) c 39 (also (quote ts) (quiet ts b (Quoted n))) (λ q. by_test (λ t. Goes (InNumber long n) (if t then Some (InNumber true (n * 10 + digit_value c), None) else if c == 39 then Some (Quoted n, None) else with_token (Number long n) (begin c)) c b ts) (is_digit c) (λ l. also (more l ts) (quiet ts b (InNumber true (n * 10 + digit_value c)))) (λ l. rw q (also (done q l ts) (token_ends (Number long n) ts c b))))

@@ -10,7 +10,6 @@ pub mod Expectations
 pub mod Limits
 pub mod Prefixes
 pub mod Complete
-pub mod Pruned
 pub mod ReadingLaws
 pub mod Scanning
 pub mod Moving

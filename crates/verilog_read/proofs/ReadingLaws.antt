@@ -5,6 +5,7 @@ use Rattle.bist_text.specs.Machine.{read, Follows}
 use Rattle.bist_text.proofs.Machine.{scan_reads, scan_read, one_value}
 use Rattle.bist_text.proofs.Pieces.{also, holds_iff}
 use Rattle.bist_text.proofs.Unique.{all_within, rest_within, within_parses}
+use Rattle.bist_text.proofs.Lexed.{pruned}
 use Rattle.verilog_tree.specs.Plain.{ModuleTree}
 use Rattle.verilog_tree.specs.Spells.{Limits, keeps, all_keep, Text}
 use Rattle.verilog_tree.specs.Tokens.{Token}
@@ -18,7 +19,6 @@ use Rattle.verilog_read.proofs.Complete.{complete}
 use Rattle.verilog_read.proofs.GrammarPieces.{begins_file}
 use Rattle.verilog_read.proofs.ItemLaws.{parses}
 use Rattle.verilog_read.proofs.LexerLaws.{lexes}
-use Rattle.verilog_read.proofs.Pruned.{pruned}
 
 module _ (limits : Limits) where
   abbrev Kept : List Token → Type 0

@@ -1,5 +1,5 @@
 -- Lists and the trees that they make.
-use Rattle.std.proofs.Common.{true, ◌≤◌, arith, ◌≡◌, ℕ, suc, ◌==◌, not, false, List, [], ◌∷◌, length, map, refl, arith, ap, sym}
+use Rattle.std.proofs.Common.{arith, ◌≡◌, ℕ, suc, ◌==◌, not, false, List, [], ◌∷◌, length, map, refl, arith, ap, sym}
 use Rattle.std.proofs.lemmas.Bool.Decides.{nat_tests}
 use Rattle.bist_bits.specs.Vector.{Vector}
 use Rattle.verilog_tree.specs.Plain.{plain, plain_arm, plain_port, expressions, arms}
@@ -26,7 +26,3 @@ some_arm (a ∷ as') = sym (ap not (suc_is_some (length as')))
 pub some_port : (ps : List Port) → has_port (map plain_port ps) ≡ not (length ps == 0)
 some_port [] = refl
 some_port (p ∷ ps) = sym (ap not (suc_is_some (length ps)))
-
-pub part_counts : (xs : List Expr) → has_expression (expressions (map plain xs)) ≡ true → 1 ≤ length xs
-part_counts [] h = cc
-part_counts (x ∷ xs) h = omega arith

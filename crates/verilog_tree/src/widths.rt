@@ -20,7 +20,8 @@ fn equal(left: u64, right: u64) -> Result<(), TreeFault>
     }
 }
 
-pub(crate) fn unary_width(op: UnOp, operand: u64) -> u64
+/// The width of an operator before an operand of this width.
+pub fn unary_width(op: UnOp, operand: u64) -> u64
     ensures { result ≡ prefixed_width op operand }
 {
     match op {
@@ -29,7 +30,8 @@ pub(crate) fn unary_width(op: UnOp, operand: u64) -> u64
     }
 }
 
-pub(crate) fn binary_width(op: BinOp, left: u64) -> u64
+/// The width of an operator between operands, of which the left has this width.
+pub fn binary_width(op: BinOp, left: u64) -> u64
     ensures { result ≡ infixed_width op left }
 {
     match op {

@@ -1,27 +1,17 @@
 -- Closing words twice is closing them once, and keeps their number.
-use Rattle.std.proofs.Common.{◌≡◌, ◌≢◌, ◌<◌, ℕ, Bool, true, false, not, ◌&&◌, ◌||◌, Option, Some, None, is_some, List, length, refl, ap, ◌∙◌}
+use Rattle.std.proofs.Common.{◌≡◌, ◌<◌, ℕ, Bool, true, false, not, ◌&&◌, ◌||◌, Option, Some, None, is_some, List, length, refl, ap, ◌∙◌}
 use Rattle.std.specs.Prelude.{if◌then◌else◌, slice_index}
 use Rattle.std.proofs.lemmas.List.{get_or-set_same, length-set}
 use Rattle.fault_core.specs.declared.primitive.Act.{Act}
 use Rattle.fault_core.specs.declared.primitive.Act.TheVariants.{Write, Read, Pause}
 use Rattle.fault_core.specs.Primitive.{IsPrimitive, same_bit, agg_has_act, is_pause, pauses}
 use Rattle.fault_core.specs.Cells.{has_act}
-use Rattle.cell_machine.proofs.Closing.{left_state}
+use Rattle.cell_machine.proofs.Closing.{spent, differs, left_state}
 use Rattle.word_device.specs.declared.device.Place.{Place}
 use Rattle.word_device.specs.declared.device.Planted.{Planted}
 use Rattle.word_device.specs.Chips.{has_bit, with_bit, bit_in, with_bit_in, agg_bit_holds, bits_hold, closed_words, paused_words}
 use Rattle.word_device.specs.Runs.{Closes}
 use Rattle.word_device.proofs.Lanes.{with_bit_same}
-
--- a write that ends its own condition is not done a second time
-spent : {X : Type 0} (t : Bool) (holds : X → Bool) (before after : X) → (t ≡ true → holds after ≡ false)
-    → (t && holds (if t && holds before then after else before)) ≡ false
-spent false holds before after h = refl
-spent true holds before after h = at (holds before) refl
-  where
-    at : (b : Bool) → holds before ≡ b → holds (if b then after else before) ≡ false
-    at true e = h refl
-    at false e = e
 
 bit_in_set : (ws : List ℕ) (at : Place) (b : Bool) → at.word < length ws → bit_in (with_bit_in ws at b) at ≡ b
 bit_in_set ws at b inside =
@@ -60,12 +50,6 @@ is_the_pause (Some Read) e = cc
 is_the_pause (Some (Write b)) e = cc
 is_the_pause (Some Pause) e = (refl, refl)
 
-not_same : (a b : Bool) → a ≢ b → same_bit a b ≡ false
-not_same true true h = absurd (h refl)
-not_same true false h = refl
-not_same false true h = refl
-not_same false false h = absurd (h refl)
-
 -- the words with the victim's bit set, where it is
 abbrev set_where : Bool → Planted → List ℕ → List ℕ
 set_where b i ws = if b then with_bit_in ws i.vic i.prim.after else ws
@@ -85,7 +69,7 @@ rest_twice i ws is inside true e =
     spent true (bits_hold i) ws set
     (λ _.
     ap (λ b. same_bit b i.prim.vic.state && agg_bit_holds i.prim.agg i.agg set) (bit_in_set ws i.vic i.prim.after inside)
-    ∙ ap (λ b. b && agg_bit_holds i.prim.agg i.agg set) (not_same i.prim.after i.prim.vic.state (is.wrong_pause pause.0))) in
+    ∙ ap (λ b. b && agg_bit_holds i.prim.agg i.agg set) (differs i.prim.after i.prim.vic.state (is.wrong_pause pause.0))) in
     ap (rest_of true i) (closed_acting i once acts) ∙ ap (λ b. closed_words i (set_where b i once)) over
 
 pub paused_twice : (i : Planted) (ws : List ℕ) → IsPrimitive i.prim → i.vic.word < length ws → paused_words i (paused_words i ws) ≡ paused_words i ws

@@ -7,6 +7,7 @@ use Rattle.fault_core.specs.Primitive.{IsPrimitive}
 use Rattle.memory_desc.specs.Descriptions.{Description, IsMemory}
 use Rattle.word_march.specs.declared.operations.WordOp.{WordOp}
 use Rattle.word_march.specs.declared.operations.PortOp.{PortOp}
+use Rattle.word_march.proofs.Spread.{cycles, place, behind_pause, first_place, next_place}
 use Rattle.word_device.specs.declared.device.Planted.{Planted}
 use Rattle.word_device.specs.declared.shape.Shape.{Shape}
 use Rattle.word_device.specs.Chips.{words_paused, words_after, reply_to}
@@ -14,7 +15,6 @@ use Rattle.word_device.specs.Ports.{Chip, shape_of, shown, queued, idle_more, re
 use Rattle.word_device.specs.Runs.{command_in}
 use Rattle.word_device.proofs.Closed.{paused_twice}
 use Rattle.word_device.proofs.Core.{replies, operations, length-paused, length_stepped}
-use Rattle.word_device.proofs.Cycles.{cycles, place, behind_pause, first_place, next_place}
 use Rattle.word_device.proofs.Porting.{InMemory, command_of, operation_acts, operation_answers}
 
 -- a pause that is taken again changes nothing

@@ -124,9 +124,3 @@ run_small operations words h w = mul-le operations words 256 65536 h w
 
 pub runs_small : (backgrounds run : ℕ) → backgrounds ≤ 8 → run ≤ 16777216 → backgrounds * run ≤ 134217728
 runs_small backgrounds run h r = mul-le backgrounds run 8 16777216 h r
-
-pub pauses_small : (backgrounds elements : ℕ) → backgrounds ≤ 8 → elements ≤ 64 → backgrounds * elements ≤ 512
-pauses_small backgrounds elements b e = mul-le backgrounds elements 8 64 b e
-
-pub idle_small : (idle count : ℕ) → idle ≤ 65535 → count ≤ 512 → idle * count ≤ 33553920
-idle_small idle count p q = mul-le idle count 65535 512 p q

@@ -6,3 +6,4 @@ pub mod Words
 pub mod Unpaused
 pub mod Ports
 pub mod Runs
+pub mod Spread

@@ -2,7 +2,7 @@ ghost use Rattle.std.specs.Prelude.{◌≡◌, ◌<◌, length, slice_get, slice
 ghost use Rattle.march_core.specs.declared.operation.Op.{Op};
 ghost use Rattle.march_core.specs.March.{ops_at};
 ghost use Rattle.march_core.specs.Visits.{addresses};
-ghost use Rattle.march_core.specs.Runs.{upward, is_write, data_value};
+ghost use Rattle.march_core.specs.Runs.{upward};
 ghost use Rattle.word_march.specs.Commands.{word_op};
 ghost use Rattle.word_march.specs.Standing.{IsPlace, IsFirst, IsNextSweep, ArePauses, Follows, visit_at};
 
@@ -18,26 +18,6 @@ pub struct Place {
     pub element: usize,
     pub step: u32,
     pub op: usize,
-}
-
-/// Whether an operation writes.
-fn writes(op: Op) -> bool
-    ensures { result ≡ is_write op }
-{
-    match op {
-        Op::W0 | Op::W1 => true,
-        Op::R0 | Op::R1 => false,
-    }
-}
-
-/// The data value that an operation writes or expects.
-fn data_of(op: Op) -> bool
-    ensures { result ≡ data_value op }
-{
-    match op {
-        Op::W0 | Op::R0 => false,
-        Op::W1 | Op::R1 => true,
-    }
 }
 
 /// The address of a step, in the order in which the hardware visits the addresses.
@@ -64,9 +44,9 @@ pub fn operation_at(march: &March, memory: &Memory, place: Place) -> WordOp
     let background = memory.backgrounds()[place.background];
     let op = march.ops(place.element)[place.op];
     WordOp {
-        write: writes(op),
+        write: op.writes(),
         index: address_of(march.order(place.element), place.step, memory.words()),
-        word: word_of(background, data_of(op), memory.bits()),
+        word: word_of(background, op.data_value(), memory.bits()),
     }
 }
 

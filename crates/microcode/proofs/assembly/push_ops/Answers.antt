@@ -22,4 +22,4 @@ loop-number-preserved c =
     let x = sweep c.args.order c.args.ops.now in
     let n = c.loop-number.number in
     pushed_more x n _ c.args.code.now.items c.loop-number.code.items c.push.new.self.items c.push.ensures.items c.loop-number.invariant
-    (instr_is x c.args.ops.now n c.writes.result c.data_of.result c.down_of-down.result refl refl c.loop-number-test.true c.writes.ensures c.data_of.ensures c.down_of-down.ensures)
+    (instr_is x c.args.ops.now n c.writes.result c.data_value.result c.down_of-down.result refl refl c.loop-number-test.true c.writes.ensures c.data_value.ensures c.down_of-down.ensures)

@@ -1,4 +1,3 @@
-use Rattle.std.proofs.Common.{◌-◌}
 use Rattle.cell_machine.specs.Pairs.{pair_of}
 use Rattle.pair_tracker.specs.Pairs.{machine_of}
 use Rattle.pair_tracker.specs.Slots.{word_of}

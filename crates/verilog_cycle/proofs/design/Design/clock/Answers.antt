@@ -1,11 +1,22 @@
-use Rattle.std.proofs.Common.{◌≡◌, ℕ, ◌+◌, List, take, length, map, refl, sym, ap, ◌∙◌, subst, arith}
-use Rattle.verilog_cycle.specs.Actions.{action_run, run_blocks}
+use Rattle.std.proofs.Common.{ℕ, List, take, length, map, refl, sym, ap, ◌∙◌, subst, arith}
+use Rattle.verilog_cycle.specs.Actions.{action_run}
 use Rattle.verilog_cycle.specs.Code.{at}
-use Rattle.verilog_cycle.specs.Settled.{settled}
-use Rattle.verilog_cycle.specs.Built.{put_all}
 use Rattle.verilog_cycle.specs.Design.{Cycle}
-use Rattle.verilog_cycle.proofs.Designs.{room_of, shown_of, stepped_of, view_with}
+use Rattle.verilog_cycle.proofs.Designs.{room_of, Shown, shown_of, Stepped, stepped_of, view_with}
 use Rattle.verilog_cycle.proofs.design.Design.clock.Goals as goal
+use Rattle.verilog_cycle.proofs.design.Design.clock.Goals.{After-compute, After-step_registers}
+
+computed : (c : After-compute) → Shown c.self.inside c.args.self.now c.args.inputs.now c.compute.new.values.items
+computed c =
+    let l = c.len.ensures in
+    shown_of c.self.inside c.args.self.now c.args.inputs.now c.compute.new.values.items c.self.invariant c.self.view_is c.requires
+    c.len.result (omega (arith, l)) _ (ap (λ l. map (λ b. b.value) l) c.deref.ensures.value) c.compute.ensures
+
+stepped : (c : After-step_registers) → Shown c.self.inside c.args.self.now c.args.inputs.now c.compute.new.values.items
+    → Stepped c.self.inside c.args.self.now c.compute.new.values.items c.step_registers.new.values.items c.step_registers.new.next.items
+stepped c s =
+    stepped_of c.self.inside c.args.self.now c.args.inputs.now c.compute.new.values.items c.step_registers.new.values.items c.step_registers.new.next.items c.self.invariant c.self.view_is s
+    _ (ap (λ l. map (λ b. map action_run b.items) l) c.deref-4.ensures.value) c.step_registers.ensures.items c.step_registers.ensures.len
 
 pub compute-requires : goal.compute-requires
 compute-requires c =
@@ -17,12 +28,7 @@ compute-requires c =
 pub step_registers-requires : goal.step_registers-requires
 step_registers-requires c =
     let p = (room_of c.self.inside c.args.self.now c.args.inputs.now c.self.invariant c.self.view_is c.requires).for_next in
-    let l = c.len.ensures in
-    let n : c.len.result ≡ length c.self.inside.registers.items = omega (arith, l) in
-    let s = shown_of c.self.inside c.args.self.now c.args.inputs.now c.compute.new.values.items c.self.invariant c.self.view_is c.requires
-    (c.compute.ensures
-    ∙ ap (λ l. settled (c.len.result + length c.args.inputs.now) (map (λ b. b.value) l) (put_all c.len.result c.args.inputs.now c.self.inside.values.items)) c.deref.ensures.value
-    ∙ ap (λ (k : ℕ). settled (k + length c.args.inputs.now) (map (λ b. b.value) c.self.inside.steps.items) (put_all k c.args.inputs.now c.self.inside.values.items)) n) in
+    let s = computed (goal.at.step_registers-requires c).After-compute in
     let q = s.long in
     omega (arith, p, q)
 
@@ -33,28 +39,16 @@ show-requires c =
 
 pub invariant_of-self : goal.invariant_of-self
 invariant_of-self c =
-    let l = c.len.ensures in
-    let n : c.len.result ≡ length c.self.inside.registers.items = omega (arith, l) in
-    let s = shown_of c.self.inside c.args.self.now c.args.inputs.now c.compute.new.values.items c.self.invariant c.self.view_is c.requires
-    (c.compute.ensures
-    ∙ ap (λ l. settled (c.len.result + length c.args.inputs.now) (map (λ b. b.value) l) (put_all c.len.result c.args.inputs.now c.self.inside.values.items)) c.deref.ensures.value
-    ∙ ap (λ (k : ℕ). settled (k + length c.args.inputs.now) (map (λ b. b.value) c.self.inside.steps.items) (put_all k c.args.inputs.now c.self.inside.values.items)) n) in
-    let st = stepped_of c.self.inside c.args.self.now c.args.inputs.now c.compute.new.values.items c.step_registers.new.values.items c.step_registers.new.next.items c.self.invariant c.self.view_is s
-    (c.step_registers.ensures.items ∙ ap (λ l. put_all 0 (run_blocks (map (λ b. map action_run b.items) l) c.compute.new.values.items (put_all 0 (take (length c.self.inside.next.items) c.compute.new.values.items) c.self.inside.next.items)) c.compute.new.values.items) c.deref-4.ensures.value) c.step_registers.ensures.len in
+    let s = computed (goal.at.invariant_of-self c).After-compute in
+    let st = stepped (goal.at.invariant_of-self c).After-step_registers s in
     let h = st.holds in
     let l = c.show.ensures.len in
     (c.self.invariant.0, record { fits = h.fits; room = h.room; next_room = h.next_room; shown_room = l ∙ h.shown_room })
 
 pub returns : goal.returns
 returns c =
-    let l = c.len.ensures in
-    let n : c.len.result ≡ length c.self.inside.registers.items = omega (arith, l) in
-    let s = shown_of c.self.inside c.args.self.now c.args.inputs.now c.compute.new.values.items c.self.invariant c.self.view_is c.requires
-    (c.compute.ensures
-    ∙ ap (λ l. settled (c.len.result + length c.args.inputs.now) (map (λ b. b.value) l) (put_all c.len.result c.args.inputs.now c.self.inside.values.items)) c.deref.ensures.value
-    ∙ ap (λ (k : ℕ). settled (k + length c.args.inputs.now) (map (λ b. b.value) c.self.inside.steps.items) (put_all k c.args.inputs.now c.self.inside.values.items)) n) in
-    let st = stepped_of c.self.inside c.args.self.now c.args.inputs.now c.compute.new.values.items c.step_registers.new.values.items c.step_registers.new.next.items c.self.invariant c.self.view_is s
-    (c.step_registers.ensures.items ∙ ap (λ l. put_all 0 (run_blocks (map (λ b. map action_run b.items) l) c.compute.new.values.items (put_all 0 (take (length c.self.inside.next.items) c.compute.new.values.items) c.self.inside.next.items)) c.compute.new.values.items) c.deref-4.ensures.value) c.step_registers.ensures.len in
+    let s = computed (goal.at.returns c).After-compute in
+    let st = stepped (goal.at.returns c).After-step_registers s in
     let shown = c.deref-5.ensures.value ∙ c.show.ensures.items
     ∙ ap (λ l. map (λ k. at c.deref-3.result.now k) l) c.deref-2.ensures.value
     ∙ ap (λ (vs : List ℕ). map (λ k. at vs k) c.self.inside.outputs.items) c.deref-3.ensures.value in

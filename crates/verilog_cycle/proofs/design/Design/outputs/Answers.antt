@@ -1,11 +1,16 @@
-use Rattle.std.proofs.Common.{◌≡◌, ℕ, ◌+◌, List, length, map, refl, sym, ap, ◌∙◌, subst, arith}
+use Rattle.std.proofs.Common.{ℕ, List, length, map, refl, sym, ap, ◌∙◌, subst, arith}
 use Rattle.verilog_cycle.specs.Actions.{action_run, run_blocks}
 use Rattle.verilog_cycle.specs.Code.{at}
-use Rattle.verilog_cycle.specs.Settled.{settled}
-use Rattle.verilog_cycle.specs.Built.{put_all}
 use Rattle.verilog_cycle.specs.Design.{Cycle}
-use Rattle.verilog_cycle.proofs.Designs.{room_of, shown_of, holds_with, same_view}
+use Rattle.verilog_cycle.proofs.Designs.{room_of, Shown, shown_of, holds_with, same_view}
 use Rattle.verilog_cycle.proofs.design.Design.outputs.Goals as goal
+use Rattle.verilog_cycle.proofs.design.Design.outputs.Goals.{After-compute}
+
+computed : (c : After-compute) → Shown c.self.inside c.args.self.now c.args.inputs.now c.compute.new.values.items
+computed c =
+    let l = c.len.ensures in
+    shown_of c.self.inside c.args.self.now c.args.inputs.now c.compute.new.values.items c.self.invariant c.self.view_is c.requires
+    c.len.result (omega (arith, l)) _ (ap (λ l. map (λ b. b.value) l) c.deref.ensures.value) c.compute.ensures
 
 pub compute-requires : goal.compute-requires
 compute-requires c =
@@ -21,22 +26,12 @@ show-requires c =
 
 pub invariant_of-self : goal.invariant_of-self
 invariant_of-self c =
-    let l = c.len.ensures in
-    let n : c.len.result ≡ length c.self.inside.registers.items = omega (arith, l) in
-    let s = shown_of c.self.inside c.args.self.now c.args.inputs.now c.compute.new.values.items c.self.invariant c.self.view_is c.requires
-    (c.compute.ensures
-    ∙ ap (λ l. settled (c.len.result + length c.args.inputs.now) (map (λ b. b.value) l) (put_all c.len.result c.args.inputs.now c.self.inside.values.items)) c.deref.ensures.value
-    ∙ ap (λ (k : ℕ). settled (k + length c.args.inputs.now) (map (λ b. b.value) c.self.inside.steps.items) (put_all k c.args.inputs.now c.self.inside.values.items)) n) in
+    let s = computed (goal.at.invariant_of-self c).After-compute in
     (c.self.invariant.0, holds_with c.self.inside c.args.self.now c.args.inputs.now c.compute.new.values.items c.show.new.shown.items c.self.invariant c.self.view_is s c.show.ensures.len)
 
 pub returns : goal.returns
 returns c =
-    let l = c.len.ensures in
-    let n : c.len.result ≡ length c.self.inside.registers.items = omega (arith, l) in
-    let s = shown_of c.self.inside c.args.self.now c.args.inputs.now c.compute.new.values.items c.self.invariant c.self.view_is c.requires
-    (c.compute.ensures
-    ∙ ap (λ l. settled (c.len.result + length c.args.inputs.now) (map (λ b. b.value) l) (put_all c.len.result c.args.inputs.now c.self.inside.values.items)) c.deref.ensures.value
-    ∙ ap (λ (k : ℕ). settled (k + length c.args.inputs.now) (map (λ b. b.value) c.self.inside.steps.items) (put_all k c.args.inputs.now c.self.inside.values.items)) n) in
+    let s = computed (goal.at.returns c).After-compute in
     let after : List ℕ = run_blocks (map (λ b. map action_run b.items) c.self.inside.blocks.items) c.compute.new.values.items c.args.self.now.registers in
     let shown = c.deref-4.ensures.value ∙ c.show.ensures.items
     ∙ ap (λ l. map (λ k. at c.deref-3.result.now k) l) c.deref-2.ensures.value
