@@ -1,5 +1,5 @@
 -- No command's checks refuse the words.
-use Rattle.std.proofs.Common.{List, [], ◌∷◌, ℕ, Bool, Option, None, Result, Ok, Err, is_some, refl}
+use Rattle.std.proofs.Common.{List, [], ◌∷◌, ℕ, Bool, Option, Result, Ok, Err, is_some, refl}
 use Rattle.bist_host.specs.Files.{Files}
 use Rattle.march_core.specs.March.{MarchElement}
 use Rattle.array_sim.specs.declared.element_run.Miss.{Miss}

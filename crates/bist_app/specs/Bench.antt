@@ -1,15 +1,12 @@
 -- The command `bench MARCH MEMORY`: the self-test module against the first box. Its shape, its checks in their order, and what it leaves.
-use Rattle.std.specs.Prelude.{◌≡◌, ◌≢◌, ◌+◌, ◌-◌, ◌*◌, ◌/◌, ◌%◌, ◌^◌, ◌<◌, ◌≤◌, ◌⊎◌, ◌++◌, ℕ, Bool, true, false, List, [], ◌∷◌, Option, Some, None, Result, Ok, Err, MatchResult, length, drop, codes, decimal, is_some, slice_get}
+use Rattle.std.specs.Prelude.{◌≡◌, ◌≢◌, ◌+◌, ◌/◌, ◌^◌, ◌<◌, ◌≤◌, ◌⊎◌, ◌++◌, ℕ, Bool, true, false, List, [], ◌∷◌, Option, Some, None, Result, Ok, Err, MatchResult, length, drop, codes, decimal, is_some}
 use Rattle.bist_host.specs.Files.{Files}
 use Rattle.bist_text.specs.Numbers.{hex_digits}
 use Rattle.march_core.specs.March.{MarchElement}
 use Rattle.memory_desc.specs.Descriptions.{Description}
-use Rattle.word_march.specs.declared.operations.PortOp.{PortOp}
-use Rattle.word_march.specs.Commands.{port_ops}
-use Rattle.word_march.specs.PortRule.{cycle_of}
 use Rattle.word_device.specs.declared.device.Planted.{Planted}
 use Rattle.word_device.specs.Ports.{Chip, shape_of, planted_chip}
-use Rattle.word_device.specs.Boxes.{Script, Tells, TellsChip, TellsScript, TellsNothing, Told, blank, after_fit, after_fill}
+use Rattle.word_device.specs.Boxes.{Tells, TellsChip, TellsScript, TellsNothing, Told, blank, after_fit, after_fill}
 use Rattle.word_device.specs.Runs.{run_word}
 use Rattle.bench.specs.declared.ending.Seen.{Seen}
 use Rattle.bench.specs.Endings.{IsFirstRead}
