@@ -4,3 +4,4 @@ pub mod Turning
 pub mod Stages
 pub mod Histories
 pub mod OneRun
+pub mod Refusing

@@ -1,4 +1,4 @@
-ghost use Rattle.std.specs.Prelude.{◌≡◌, ◌<◌, ◌≤◌, ◌+◌, ◌^◌, Some, None, Ok, Err, Option, List, map, IfOk, IfErr, IfNone};
+ghost use Rattle.std.specs.Prelude.{◌≡◌, ◌<◌, ◌≤◌, ◌+◌, ◌^◌, Some, None, Ok, Err, Option, List, map, IsOk, IfOk, IfErr, IfNone};
 ghost use Rattle.march_core.specs.March.{IsMarch};
 ghost use Rattle.memory_desc.specs.Descriptions.{IsMemory};
 ghost use Rattle.controller.specs.States.{State};
@@ -174,6 +174,7 @@ fn is_fitted(device: &Box<dyn Device>) -> bool
 ///
 /// Refused with B1 where the run takes more than 2,000,000 cycles, and then with B2 where the ports aren't those of a self-test; then the
 /// box wasn't called, and the design is as before.
+#[tactic(auto, using(crate::proofs::Refusing::not_both))]
 pub fn bench(
     design: &mut Design,
     march: &March,
@@ -182,6 +183,7 @@ pub fn bench(
 ) -> Result<BenchEnd, BenchRefused>
     requires fitted { shape_of device ≡ Some (memory_shape memory.now) }
     ensures accepted { IfOk result (λ _. Refuses march.now memory.now design.old.tree.ports None) }
+    ensures ran { Refuses march.now memory.now design.old.tree.ports None → IsOk result }
     ensures runs { IfOk result (λ end. Runs design.old.tree march.now memory.now design.old.registers design.new.registers (tells device) (tells end.device) end.fail end.done_cycle end.first) }
     ensures self_test { IfOk result (λ end. SelfTest design.old.tree march.now memory.now → EndsSelfTest march.now memory.now (tells device) end.fail end.done_cycle end.first) }
     ensures kept { IfOk result (λ _. design.new ≡ with_registers design.old design.new.registers) }

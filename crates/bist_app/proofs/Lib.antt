@@ -17,8 +17,10 @@ pub mod OneAnswer
 pub mod ReadBack
 pub mod Benched
 pub mod BenchedFile
+pub mod Apart
 pub mod OneBenchFile
 pub mod Making
 pub mod Caught
 pub mod Faulted
 pub mod AllBenched
+pub mod Fitting

@@ -6,6 +6,7 @@ ghost use Rattle.word_device.specs.Boxes.{told};
 ghost use Rattle.bist_endings.specs.Ending.{plain, done_of};
 ghost use Rattle.bist_endings.specs.Conclude.{NamesWords};
 ghost use Rattle.bist_inputs.specs.Inputs.{HasReadCause, IsOwnRefusal};
+ghost use Rattle.bist_app.specs.Vectors.{IsShort};
 ghost use Rattle.bist_app.specs.BenchAll.{IsBenchAllShape, HaveRoom, FirstSmall, FitsRooms, LeavesAll, DecidesBenchAll, LeavesNone};
 
 use crate::benching_all::bench_all;
@@ -52,6 +53,7 @@ fn small_room(devices: &[Box<dyn Device>], words: u32) -> Option<u32>
 fn fit_rooms(devices: &[Box<dyn Device>], memory: &Memory) -> Result<(), Refusal>
     ensures answer { FitsRooms memory.now (map (λ b. told (room_of b) (shape_of b) (tells b)) devices.now) result }
     ensures own { IfErr result IsOwnRefusal }
+    ensures rooms { IfOk result (λ _. HaveRoom memory.now.words (map (λ b. told (room_of b) (shape_of b) (tells b)) devices.now)) }
 {
     let words = memory.words();
     match small_room(devices, words) {
@@ -61,13 +63,15 @@ fn fit_rooms(devices: &[Box<dyn Device>], memory: &Memory) -> Result<(), Refusal
 }
 
 /// The plan of the runs, or want of memory.
-#[tactic(auto, using(crate::proofs::AllBenched::none_unchanged), unfolding(crate::specs::BenchAll::LeavesAll))]
+#[tactic(auto, unfolding(crate::specs::BenchAll::LeavesAll))]
 fn plan_all(
     alloc: Global,
     march: &March,
     memory: &Memory,
     devices: &mut Vec<Box<dyn Device>>,
 ) -> Result<Plan, Refusal>
+    requires short { IsShort march.now memory.now }
+    requires rooms { HaveRoom memory.now.words (map (λ b. told (room_of b) (shape_of b) (tells b)) devices.old.items) }
     ensures own { IfErr result IsOwnRefusal }
     ensures answer { LeavesAll march.now memory.now (map (λ b. told (room_of b) (shape_of b) (tells b)) devices.old.items) (plain result) }
     ensures left { LeavesNone (map (λ b. told (room_of b) (shape_of b) (tells b)) devices.old.items) (map (λ b. told (room_of b) (shape_of b) (tells b)) devices.new.items) (plain result) }
@@ -80,7 +84,7 @@ fn plan_all(
 }
 
 /// Runs the self-test of a memory by a march against each box.
-#[tactic(auto, using(crate::proofs::Causes::own_cause, crate::proofs::AllBenched::none_unchanged))]
+#[tactic(auto, using(crate::proofs::Causes::own_cause))]
 pub fn decide_bench_all<H: Host>(
     alloc: Global,
     words: &[&str],
@@ -93,8 +97,7 @@ pub fn decide_bench_all<H: Host>(
     ensures writes { H.write_faults host.new ≡ H.write_faults host.old }
     ensures reads { H.read_faults host.old ≤ H.read_faults host.new }
     ensures outputs { IfOk result (λ plan. NamesWords words.now (done_of plan).outputs) }
-    ensures answer { DecidesBenchAll (H.files host.old) (map (λ b. told (room_of b) (shape_of b) (tells b)) devices.old.items) words.now (plain result) }
-    ensures left { LeavesNone (map (λ b. told (room_of b) (shape_of b) (tells b)) devices.old.items) (map (λ b. told (room_of b) (shape_of b) (tells b)) devices.new.items) (plain result) }
+    ensures answer { DecidesBenchAll (H.files host.old) (map (λ b. told (room_of b) (shape_of b) (tells b)) devices.old.items) (map (λ b. told (room_of b) (shape_of b) (tells b)) devices.new.items) words.now (plain result) }
     ensures cause { HasReadCause (H.files host.old) (Rose (H.read_faults host.old) (H.read_faults host.new)) result }
 {
     let march = read_march_input(host, words, 1)?;

@@ -1,10 +1,13 @@
 -- No port is wrong exactly where the ports are those of a self-test module, in some order.
-use Rattle.std.proofs.Common.{◌≡◌, ℕ, Bool, true, false, cond, not, ◌&&◌, ◌↔◌, List, [], ◌∷◌, ◌++◌, Option, Some, None, refl, sym, ap, ap₂, ◌∙◌, append_assoc, append-nil}
+use Rattle.std.proofs.Common.{◌≡◌, ℕ, Bool, true, false, cond, not, ◌&&◌, ◌||◌, ◌↔◌, nat_eq, List, [], ◌∷◌, ◌++◌, Option, Some, None, refl, sym, ap, ap₂, ◌∙◌, append_assoc, append-nil}
+use Rattle.std.proofs.lemmas.Bool.Decides.{Decides-eqb}
 use Rattle.std.specs.List.{AllByRecursion}
 use Rattle.std.specs.Option.{option_map}
-use Rattle.verilog_tree.specs.Plain.{ModulePort}
+use Rattle.march_core.specs.March.{MarchElement}
+use Rattle.verilog_tree.specs.Plain.{ModulePort, ModuleTree}
 use Rattle.memory_desc.specs.Descriptions.{Description}
 use Rattle.self_test.specs.Ports.{ports}
+use Rattle.self_test.specs.SelfTest.{SelfTest}
 use Rattle.self_test.specs.WrongPort.{has_port, has_name, missing, further, or_else, wrong_port, ArePorts}
 
 abbrev Once : List ModulePort → List ModulePort → Type 0
@@ -91,3 +94,38 @@ unmapped f (Some x) h = cc
 
 pub none_exactly : {A : Type 0} (f : A → List ℕ) (d : Description) (qs : List ModulePort) (r : Option A) → option_map f r ≡ wrong_port d qs → (r ≡ None) ↔ ArePorts d qs
 none_exactly f d qs r h = (λ e. are_ports d qs (sym h ∙ ap (option_map f) e), λ a. unmapped f r (h ∙ none_wrong d qs a))
+
+-- ---- a self-test's own ports
+
+and_first : (x y : Bool) → (x && y) ≡ true → x ≡ true
+and_first true y h = refl
+and_first false y h = cc
+
+and_second : (x y : Bool) → (x && y) ≡ true → y ≡ true
+and_second true y h = h
+and_second false y h = cc
+
+-- no name stands twice, nor among those before
+abbrev fresh : List ModulePort → List ModulePort → Bool
+fresh before [] = true
+fresh before (q ∷ qs) = not (has_name q.name before) && fresh (before ++ q ∷ []) qs
+
+further_fresh : (list before qs : List ModulePort) → AllByRecursion (λ q. has_port q list ≡ true) qs → fresh before qs ≡ true → further list before qs ≡ None
+further_fresh list before [] a f = refl
+further_fresh list before (q ∷ qs) a f =
+    ap₂ (λ t u. cond (t && u) (further list (before ++ q ∷ []) qs) (Some q.name)) a.0 (and_first (not (has_name q.name before)) (fresh (before ++ q ∷ []) qs) f)
+    ∙ further_fresh list (before ++ q ∷ []) qs a.1 (and_second (not (has_name q.name before)) (fresh (before ++ q ∷ []) qs) f)
+
+-- a port that is as wide as itself, where no later one is it
+own_width : (n : ℕ) → (nat_eq n n || false) ≡ true
+own_width n = ap (λ t. t || false) ((Decides-eqb n n).1 refl)
+
+own_each : (d : Description) → AllByRecursion (λ p. has_port p (ports d) ≡ true) (ports d)
+own_each d = (refl, (refl, (own_width d.bits, (refl, (refl, (own_width d.scramble.width, (own_width d.bits, (refl, (refl, tt)))))))))
+
+own_ports : (d : Description) → wrong_port d (ports d) ≡ None
+own_ports d = ap₂ or_else (missing_none (ports d) (ports d) (own_each d)) (further_fresh (ports d) [] (ports d) (own_each d) refl)
+
+-- no port of a self-test is wrong
+pub test_ports : (mo : ModuleTree) (march : List MarchElement) (d : Description) → SelfTest mo march d → wrong_port d mo.ports ≡ None
+test_ports mo march d test = ap (wrong_port d) test.ports ∙ own_ports d

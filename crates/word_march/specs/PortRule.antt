@@ -1,14 +1,9 @@
 -- What a self-test does at its ports, cycle by cycle, whatever words return.
-use Rattle.std.specs.Prelude.{◌≡◌, ◌≢◌, ◌↔◌, ℕ, ◌+◌, ◌^◌, ◌<◌, ◌≤◌, Bool, true, false, List, Some, IsTrue, slice_get}
+use Rattle.std.specs.Prelude.{◌≡◌, ◌≢◌, ◌↔◌, ℕ, ◌+◌, ◌<◌, ◌≤◌, Bool, true, false, List, Some, IsTrue, slice_get}
 use Rattle.march_core.specs.March.{MarchElement}
 use Rattle.memory_desc.specs.Descriptions.{Description}
 use Rattle.word_march.specs.declared.operations.PortOp.{PortOp}
 use Rattle.word_march.specs.Commands.{port_ops, command_count, command_at, span}
-
--- the words on `rdata`, by cycle: words of the memory's bits. The rule of the ports holds whatever numbers stand there, so it
--- doesn't ask for this; a module's port has no others.
-abbrev pub AreReturned : Description → (ℕ → ℕ) → Type 0
-AreReturned d returned = (t : ℕ) → returned t < 2 ^ d.bits
 
 -- the values of the module's outputs in a cycle
 pub record PortValues : Type 0 where
