@@ -1,6 +1,7 @@
 mod Causes
 pub mod Usage
 pub mod Statuses
+pub mod Headline
 pub mod Complete
 pub mod Shapes
 pub mod DirectionWord

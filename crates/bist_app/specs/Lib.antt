@@ -8,6 +8,7 @@ pub mod BenchFault
 pub mod BenchAll
 pub mod BenchedBoxes
 pub mod Compile
+pub mod Headline
 pub mod Make
 pub mod LetterBits
 pub mod Run

@@ -5,6 +5,7 @@ ghost use Rattle.bist_endings.specs.Ending.{plain, done_of};
 ghost use Rattle.bist_inputs.specs.Inputs.{HasReadCause};
 ghost use Rattle.bist_endings.specs.Conclude.{NamesWords};
 ghost use Rattle.bist_app.specs.Answer.{IsComplete, RunHasOneAnswer};
+ghost use Rattle.bist_app.specs.Headline.{Compiles};
 ghost use Rattle.bist_app.specs.Run.{Decides, Runs, HasNoShape};
 
 use crate::bench_command::decide_bench;
@@ -69,7 +70,7 @@ fn decide_and_end<H: Host>(
 }
 
 /// Runs the command that the words give: reads its files, writes its outputs, says its line, and ends with a status.
-#[tactic(auto, using(crate::proofs::Complete::complete_told, crate::proofs::Statuses::read_fault_rose, crate::proofs::Statuses::write_fault_rose, crate::proofs::Statuses::silent_rose, crate::proofs::Statuses::no_shape_ends, crate::proofs::Statuses::usage_has_no_shape, crate::proofs::OneAnswer::one_answer))]
+#[tactic(auto, using(crate::proofs::Complete::complete_told, crate::proofs::Statuses::read_fault_rose, crate::proofs::Statuses::write_fault_rose, crate::proofs::Statuses::silent_rose, crate::proofs::Statuses::no_shape_ends, crate::proofs::Statuses::usage_has_no_shape, crate::proofs::OneAnswer::one_answer, crate::proofs::Headline::compiles))]
 pub fn run<H: Host>(
     alloc: Global,
     words: &[&str],
@@ -82,6 +83,10 @@ pub fn run<H: Host>(
         (Rose (H.read_faults host.old) (H.read_faults host.new)) (Rose (H.write_faults host.old) (H.write_faults host.new)) result.status }
     ensures complete { IsComplete words.now (map (λ b. told (room_of b) (shape_of b) (tells b)) devices.old.items) (map (λ b. told (room_of b) (shape_of b) (tells b)) devices.new.items) (H.files host.old) (H.files host.new) (H.said host.old) (H.said host.new)
         (Rose (H.read_faults host.old) (H.read_faults host.new)) (Rose (H.write_faults host.old) (H.write_faults host.new)) result.status }
+
+    // What `compile` leaves where it ends with 0 or 1.
+    ensures compiles { Compiles words.now (H.files host.old) (H.files host.new) (H.said host.old) (H.said host.new) result.status }
+
     ensures one_answer { RunHasOneAnswer (H.files host.old) (map (λ b. told (room_of b) (shape_of b) (tells b)) devices.old.items) words.now }
 
     // When the statuses of words and of faults come.

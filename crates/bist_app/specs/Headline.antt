@@ -1,0 +1,41 @@
+-- What `compile` comes to where it ends with status 0 or 1 over told files: the answer of the top call, without the order of its checks.
+use Rattle.std.specs.Prelude.{◌≡◌, ◌≢◌, ◌≤◌, ℕ, Bool, List, Option, Some, None, Ok}
+use Rattle.bist_host.specs.Files.{Files, Says}
+use Rattle.march_core.specs.March.{MarchElement}
+use Rattle.march_syntax.specs.Answers.{Reads as ReadsMarch}
+use Rattle.memory_desc.specs.Descriptions.{Description}
+use Rattle.memory_desc.specs.Table.{Reads as ReadsMemory}
+use Rattle.dynamic_core.specs.declared.item.Item.{Item}
+use Rattle.dynamic_core.specs.Items.{ReadsItems}
+use Rattle.bist_endings.specs.Words.{Words, word}
+use Rattle.bist_endings.specs.Ending.{found_status}
+use Rattle.bist_app.specs.Compile.{IsCompileShape, IsSelfTestText}
+use Rattle.bist_app.specs.Reported.{Reports}
+
+-- the file of this name is there, and this holds of its bytes
+abbrev pub FileHas : Files → List ℕ → (List ℕ → Type 0) → Type 0
+FileHas files name P = (bytes : List ℕ) × (files name ≡ Some bytes) × P bytes
+
+-- The files MARCH, MEMORY and FAULTS were read as a march, a memory and a list. Now VERILOG has the text of one module, a self-test of
+-- that memory by that march, and REPORT the report of the list, of which some item isn't detected exactly where the status is 1; its
+-- last line was said. All other files are as before.
+pub record IsCompilation (words : Words) (files files' : Files) (said said' : Option (List ℕ)) (status : ℕ) : Type 0 where
+  pub march : List MarchElement
+  pub memory : Description
+  pub items : List Item
+  pub escapes : Bool
+  pub line : List ℕ
+  pub march_text : FileHas files (word words 1) (λ bytes. ReadsMarch bytes (Ok march))
+  pub memory_text : FileHas files (word words 2) (λ bytes. ReadsMemory bytes (Ok memory))
+  pub list_text : FileHas files (word words 3) (λ bytes. ReadsItems bytes (Ok items))
+  pub module_text : FileHas files' (word words 4) (IsSelfTestText march memory)
+  pub report_text : FileHas files' (word words 5) (λ bytes. Reports march (Some memory) items escapes bytes line)
+  pub status_is : status ≡ found_status escapes
+  pub says : Says said said' line
+  pub others : (name : List ℕ) → name ≢ word words 4 → name ≢ word words 5 → files' name ≡ files name
+
+-- words of `compile` over told files that end with status 0 or 1 leave that; of files that aren't told nothing is said here
+abbrev pub Compiles : Words → Option Files → Option Files → Option (List ℕ) → Option (List ℕ) → ℕ → Type 0
+Compiles words None told said said' status = Unit {0}
+Compiles words (Some files) told said said' status =
+    IsCompileShape words → status ≤ 1 → (files' : Files) × (told ≡ Some files') × IsCompilation words files files' said said' status
