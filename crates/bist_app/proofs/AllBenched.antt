@@ -1,5 +1,5 @@
 -- What the runs against a list of boxes leave.
-use Rattle.std.proofs.Common.{◌≡◌, ◌+◌, ◌<◌, ◌∙◌, ℕ, zero, suc, Bool, true, false, List, [], ◌∷◌, length, map, drop, replicate, Option, Some, None, is_some, Result, Ok, Err, OnErr, IfOk, refl, sym, ap, subst, arith}
+use Rattle.std.proofs.Common.{◌≡◌, ◌+◌, ◌<◌, ◌∙◌, ℕ, zero, suc, Bool, true, false, List, [], ◌∷◌, length, map, drop, replicate, Option, Some, None, is_some, Result, Ok, Err, IfOk, refl, sym, ap, subst, arith}
 use Rattle.std.proofs.lemmas.List.{length-replicate, length-map}
 use Rattle.std.proofs.Math.Nat.{one-le-pow}
 use Rattle.march_core.specs.March.{MarchElement}
@@ -16,8 +16,8 @@ use Rattle.bist_endings.specs.declared.ending.Refusal.{Refusal}
 use Rattle.bist_bits.specs.declared.NoMemory.{NoMemory}
 use Rattle.bist_endings.specs.declared.ending.Plan.{Plan}
 use Rattle.bist_endings.specs.Ending.{Done, done_of}
-use Rattle.bist_app.specs.Bench.{Boxes, ready, benched_chip, IsSeen}
-use Rattle.bist_app.specs.BenchAll.{IsBoxSeen, failing_of, all_done, IsAllBenched, AreGone, LeavesNone}
+use Rattle.bist_app.specs.Bench.{Boxes, FirstHasRoom, ready, benched_chip, IsSeen}
+use Rattle.bist_app.specs.BenchAll.{HaveRoom, IsBoxSeen, failing_of, all_done, IsAllBenched, AreGone, LeavesNone}
 use Rattle.bist_app.specs.BenchedBoxes.{IsEnd, GoesOn}
 use Rattle.bist_app.proofs.Benched.{blank_filled}
 
@@ -109,6 +109,19 @@ boxes_benched f march d items [] failing count (Ok plan) on counted none is =
 boxes_benched f march d items (b ∷ now) failing count (Ok plan) on counted none is = absurd (omega (arith, none))
 boxes_benched f march d items now failing count (Err e) on counted none is = tt
 
+-- ---- rooms
+
+pub first_has_room : (words : ℕ) (boxes : Boxes) → HaveRoom words boxes → FirstHasRoom words boxes
+first_has_room words [] h = tt
+first_has_room words (box ∷ boxes) h = h.0
+
+pub rest_have_room : {B : Type 0} (f : B → Told) (words : ℕ) (now next : List B) → next ≡ drop 1 now → HaveRoom words (map f now) → HaveRoom words (map f next)
+rest_have_room {B} f words now next gone h = subst (λ (xs : List B). HaveRoom words (map f xs)) (sym gone) (by now h)
+  where
+    by : (xs : List B) → HaveRoom words (map f xs) → HaveRoom words (map f (drop 1 xs))
+    by [] r = tt
+    by (x ∷ xs) r = r.1
+
 -- ---- the boxes that are left
 
 drop_more : {A : Type 0} (k : ℕ) (xs : List A) → drop 1 (drop k xs) ≡ drop (suc k) xs
@@ -132,10 +145,6 @@ still_gone boxes now next gone same = subst (AreGone boxes) (sym same) gone
 pub one_less : {A : Type 0} (now next : List A) → 0 < length now → next ≡ drop 1 now → length next + 1 ≡ length now
 one_less [] next some gone = absurd (omega (arith, some))
 one_less (x ∷ rest) next some gone = let same = ap length gone in omega (arith, same)
-
-pub where_err : {A E : Type 0} (r : Result A E) (P : Type 0) → P → OnErr r P
-where_err (Ok a) P h = tt
-where_err (Err e) P h = h
 
 -- a refusal before any box is called leaves the boxes
 pub none_unchanged : (boxes : Boxes) (e : Refusal) → LeavesNone boxes boxes (Err e)

@@ -22,3 +22,4 @@ pub mod Making
 pub mod Caught
 pub mod Faulted
 pub mod AllBenched
+pub mod Fitting

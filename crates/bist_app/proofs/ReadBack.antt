@@ -1,5 +1,5 @@
 -- A self-test that is written, read back and elaborated is the same self-test.
-use Rattle.std.proofs.Common.{map, ◌≡◌, ◌∙◌, Bool, true, false, ◌&&◌, IsTrue, List, ℕ, Option, Some, None, Result, Ok, Err, sym, ap, subst, refl}
+use Rattle.std.proofs.Common.{map, ◌≡◌, ◌∙◌, Bool, true, false, ◌&&◌, IsTrue, List, Option, Some, None, Result, Ok, Err, sym, ap, subst, refl}
 use Rattle.std.specs.Prelude.{IfOk, MatchResult}
 use Rattle.verilog_cycle.specs.Design.{DesignView, IsNew, registers_of}
 use Rattle.verilog_tree.specs.Words.{is_name}

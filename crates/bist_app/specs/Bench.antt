@@ -41,6 +41,11 @@ HasBox [] other = ⊥
 HasBox (box ∷ boxes) (Ok _) = Unit {0}
 HasBox (box ∷ boxes) (Err other) = ⊥
 
+-- the first, where there is one, has room for so many words
+abbrev pub FirstHasRoom : ℕ → Boxes → Type 0
+FirstHasRoom words [] = Unit {0}
+FirstHasRoom words (box ∷ boxes) = words ≤ box.room
+
 -- the first has room for the memory's words
 unfoldable pub FitsRoom : Description → Boxes → Result (Unit {0}) Refusal → Type 0
 FitsRoom d [] result = ⊥

@@ -57,17 +57,22 @@ LeavesBenchFile mo march d (box ∷ boxes) (Ok done) = IsFileRun mo march d (rea
 LeavesBenchFile mo march d (box ∷ boxes) (Err Refusal.NoMemory) = Unit {0}
 LeavesBenchFile mo march d (box ∷ boxes) (Err other) = ⊥
 
--- the checks behind the module in their order
-abbrev pub DecidesFileRun : Option Files → Boxes → Words → ModuleTree → Result Done Refusal → Type 0
-DecidesFileRun files boxes words mo =
-    Then (InputMarch files words 2) (λ march.
-    Then (InputMemory files words 3) (λ d.
+-- the checks behind the inputs, in their order
+abbrev pub TestsFile : ModuleTree → List MarchElement → Description → Boxes → Result Done Refusal → Type 0
+TestsFile mo march d boxes =
     Then (FitsLength march d) (λ _.
     Then (HasPorts d mo) (λ _.
     Then (HasBox boxes) (λ _.
     Then (FitsRoom d boxes) (λ _.
-    LeavesBenchFile mo march d boxes))))))
+    LeavesBenchFile mo march d boxes))))
 
--- the module, and then these checks
+-- the other inputs behind the module, and these checks
+abbrev pub DecidesFileRun : Option Files → Boxes → Words → ModuleTree → Result Done Refusal → Type 0
+DecidesFileRun files boxes words mo =
+    Then (InputMarch files words 2) (λ march.
+    Then (InputMemory files words 3) (λ d.
+    TestsFile mo march d boxes))
+
+-- the checks of `benchfile` in their order
 abbrev pub DecidesBenchFile : Option Files → Boxes → Words → Result Done Refusal → Type 0
 DecidesBenchFile files boxes words = Then (InputModule files words 1) (λ mo. DecidesFileRun files boxes words mo)

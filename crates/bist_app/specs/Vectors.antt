@@ -33,8 +33,11 @@ abbrev pub cycle_limit : ℕ
 cycle_limit = 2000000
 
 -- the test isn't too long
+abbrev pub IsShort : List MarchElement → Description → Type 0
+IsShort march d = cycles march d ≤ cycle_limit
+
 unfoldable pub FitsLength : List MarchElement → Description → Result (Unit {0}) Refusal → Type 0
-FitsLength march d (Ok _) = cycles march d ≤ cycle_limit
+FitsLength march d (Ok _) = IsShort march d
 FitsLength march d (Err (Refusal.TooLong number)) = (number ≡ cycles march d) × (cycle_limit < cycles march d)
 FitsLength march d (Err other) = ⊥
 

@@ -6,7 +6,8 @@ ghost use Rattle.word_device.specs.Boxes.{told};
 ghost use Rattle.bist_endings.specs.Ending.{plain, done_of};
 ghost use Rattle.bist_endings.specs.Conclude.{NamesWords};
 ghost use Rattle.bist_inputs.specs.Inputs.{HasReadCause, IsOwnRefusal};
-ghost use Rattle.bist_app.specs.Bench.{IsBenchShape, LeavesBench, LeavesFirst, DecidesBench};
+ghost use Rattle.bist_app.specs.Vectors.{IsShort};
+ghost use Rattle.bist_app.specs.Bench.{FirstHasRoom, IsBenchShape, LeavesBench, LeavesFirst, DecidesBench};
 
 use crate::benching::bench_first;
 use crate::boxes::{fits_room, has_box};
@@ -38,7 +39,9 @@ fn plan_bench(
     memory: &Memory,
     devices: &mut Vec<Box<dyn Device>>,
 ) -> Result<Plan, Refusal>
+    requires short { IsShort march.now memory.now }
     requires some { 0 < vec_len devices.old }
+    requires room { FirstHasRoom memory.now.words (map (λ b. told (room_of b) (shape_of b) (tells b)) devices.old.items) }
     ensures own { IfErr result IsOwnRefusal }
     ensures answer { LeavesBench march.now memory.now (map (λ b. told (room_of b) (shape_of b) (tells b)) devices.old.items) (plain result) }
     ensures left { LeavesFirst (map (λ b. told (room_of b) (shape_of b) (tells b)) devices.old.items) (map (λ b. told (room_of b) (shape_of b) (tells b)) devices.new.items) (plain result) }

@@ -6,6 +6,7 @@ ghost use Rattle.word_device.specs.Boxes.{told};
 ghost use Rattle.bist_endings.specs.Ending.{plain, done_of};
 ghost use Rattle.bist_endings.specs.Conclude.{NamesWords};
 ghost use Rattle.bist_inputs.specs.Inputs.{HasReadCause, IsOwnRefusal};
+ghost use Rattle.bist_app.specs.Vectors.{IsShort};
 ghost use Rattle.bist_app.specs.BenchAll.{IsBenchAllShape, HaveRoom, FirstSmall, FitsRooms, LeavesAll, DecidesBenchAll, LeavesNone};
 
 use crate::benching_all::bench_all;
@@ -52,6 +53,7 @@ fn small_room(devices: &[Box<dyn Device>], words: u32) -> Option<u32>
 fn fit_rooms(devices: &[Box<dyn Device>], memory: &Memory) -> Result<(), Refusal>
     ensures answer { FitsRooms memory.now (map (λ b. told (room_of b) (shape_of b) (tells b)) devices.now) result }
     ensures own { IfErr result IsOwnRefusal }
+    ensures rooms { IfOk result (λ _. HaveRoom memory.now.words (map (λ b. told (room_of b) (shape_of b) (tells b)) devices.now)) }
 {
     let words = memory.words();
     match small_room(devices, words) {
@@ -68,6 +70,8 @@ fn plan_all(
     memory: &Memory,
     devices: &mut Vec<Box<dyn Device>>,
 ) -> Result<Plan, Refusal>
+    requires short { IsShort march.now memory.now }
+    requires rooms { HaveRoom memory.now.words (map (λ b. told (room_of b) (shape_of b) (tells b)) devices.old.items) }
     ensures own { IfErr result IsOwnRefusal }
     ensures answer { LeavesAll march.now memory.now (map (λ b. told (room_of b) (shape_of b) (tells b)) devices.old.items) (plain result) }
     ensures left { LeavesNone (map (λ b. told (room_of b) (shape_of b) (tells b)) devices.old.items) (map (λ b. told (room_of b) (shape_of b) (tells b)) devices.new.items) (plain result) }

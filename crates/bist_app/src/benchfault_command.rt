@@ -10,7 +10,8 @@ ghost use Rattle.bist_endings.specs.Conclude.{NamesWords};
 ghost use Rattle.bist_inputs.specs.Inputs.{HasReadCause, IsOwnRefusal};
 ghost use Rattle.bist_app.specs.declared.benchfault_command.NamedPlace.{NamedPlace};
 ghost use Rattle.bist_app.specs.declared.benchfault_command.FaultShape.{FaultShape};
-ghost use Rattle.bist_app.specs.Bench.{LeavesFirst};
+ghost use Rattle.bist_app.specs.Vectors.{IsShort};
+ghost use Rattle.bist_app.specs.Bench.{FirstHasRoom, LeavesFirst};
 ghost use Rattle.bist_app.specs.BenchFault.{IsPlaceWord, IsAggressorPlace, IsFaultShape, IsWithin, IsApart, ArePlaces, FitsPlaces, place_in, aggressor_in, planted_of, LeavesFault, TestsFault, DecidesFault};
 
 use crate::boxes::{fits_room, has_box};
@@ -151,7 +152,9 @@ fn plan_fault(
     planted: &Planted,
     devices: &mut Vec<Box<dyn Device>>,
 ) -> Result<Plan, Refusal>
+    requires short { IsShort march.now memory.now }
     requires some { 0 < vec_len devices.old }
+    requires room { FirstHasRoom memory.now.words (map (λ b. told (room_of b) (shape_of b) (tells b)) devices.old.items) }
     requires fits { FitsMemory planted.now memory.now.words memory.now.bits }
     requires aggressor { is_some planted.now.agg ≡ has_aggressor planted.now.prim }
     ensures own { IfErr result IsOwnRefusal }

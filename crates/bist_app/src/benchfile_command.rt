@@ -1,6 +1,6 @@
 //! The command `benchfile`: the module of a file against the first box.
 
-ghost use Rattle.std.specs.Prelude.{◌≡◌, ◌≤◌, ◌<◌, ◌↔◌, ◌⊎◌, ◌∷◌, [], Some, IfOk, IfErr, OnOk, OnErr, IsTrue, length, map, drop, vec_len};
+ghost use Rattle.std.specs.Prelude.{◌≡◌, ◌≤◌, ◌<◌, ◌↔◌, ◌⊎◌, ◌∷◌, [], Some, None, IfOk, IfErr, OnOk, OnErr, IsTrue, length, map, drop, vec_len};
 ghost use Rattle.bist_host.specs.Files.{Rose};
 ghost use Rattle.word_device.specs.Boxes.{told};
 ghost use Rattle.word_device.specs.Ports.{shape_of as memory_shape};
@@ -8,13 +8,15 @@ ghost use Rattle.verilog_cycle.specs.Design.{IsNew};
 ghost use Rattle.bist_endings.specs.Ending.{plain, done_of};
 ghost use Rattle.bist_endings.specs.Conclude.{NamesWords};
 ghost use Rattle.bist_inputs.specs.Inputs.{HasReadCause, IsOwnRefusal};
-ghost use Rattle.bist_app.specs.Bench.{LeavesFirst, ready};
-ghost use Rattle.bist_app.specs.BenchFile.{IsBenchFileShape, HasPorts, IsFileRun, LeavesBenchFile, DecidesFileRun, DecidesBenchFile, zero_registers};
+ghost use Rattle.self_test.specs.WrongPort.{wrong_port};
+ghost use Rattle.bist_app.specs.Vectors.{IsShort};
+ghost use Rattle.bist_app.specs.Bench.{FirstHasRoom, LeavesFirst, ready};
+ghost use Rattle.bist_app.specs.BenchFile.{IsBenchFileShape, HasPorts, IsFileRun, LeavesBenchFile, TestsFile, DecidesFileRun, DecidesBenchFile, zero_registers};
 
 use crate::benching::end_plan;
 use crate::boxes::{fits_room, has_box, take_first};
 use crate::vectors::fit_length;
-use bench::{BenchEnd, BenchRefused, bench};
+use bench::{BenchEnd, bench};
 use bist_bits::NoMemory;
 use bist_endings::{Plan, Refusal, VerilogRefusal, are_plain};
 use bist_host::Host;
@@ -41,6 +43,7 @@ pub fn is_benchfile(words: &[&str]) -> bool
 fn fit_ports(design: &Design, memory: &Memory) -> Result<(), Refusal>
     ensures answer { HasPorts memory.now design.now.tree result }
     ensures own { IfErr result IsOwnRefusal }
+    ensures ports { IfOk result (λ _. wrong_port memory.now design.now.tree.ports ≡ None) }
 {
     match wrong_port(design.ports(), memory) {
         Some(name) => Err(Refusal::Verilog(VerilogRefusal::WrongPort { name })),
@@ -57,6 +60,8 @@ fn run_design(
     device: Box<dyn Device>,
 ) -> Result<Plan, NoMemory>
     requires zero { design.old.registers ≡ zero_registers design.old.tree }
+    requires short { IsShort march.now memory.now }
+    requires ports { wrong_port memory.now design.old.tree.ports ≡ None }
     requires fitted { shape_of device ≡ Some (memory_shape memory.now) }
     ensures run { IfOk result (λ plan. IsFileRun design.old.tree march.now memory.now (tells device) (done_of plan)) }
     ensures outputs { IfOk result (λ plan. (done_of plan).outputs ≡ []) }
@@ -74,10 +79,7 @@ fn run_design(
             drop(device);
             end_plan(alloc, bits, fail, done_cycle, first)
         }
-        Err(BenchRefused { fault: _, device }) => {
-            drop(device);
-            Err(NoMemory)
-        }
+        Err(_) => unreachable!(),
     }
 }
 
@@ -90,7 +92,10 @@ fn run_first(
     devices: &mut Vec<Box<dyn Device>>,
 ) -> Result<Plan, NoMemory>
     requires zero { design.old.registers ≡ zero_registers design.old.tree }
+    requires short { IsShort march.now memory.now }
+    requires ports { wrong_port memory.now design.old.tree.ports ≡ None }
     requires some { 0 < vec_len devices.old }
+    requires room { FirstHasRoom memory.now.words (map (λ b. told (room_of b) (shape_of b) (tells b)) devices.old.items) }
     ensures taken { OnOk result (devices.new.items ≡ drop 1 devices.old.items) }
     ensures kept { OnErr result ((map (λ b. told (room_of b) (shape_of b) (tells b)) devices.new.items ≡ map (λ b. told (room_of b) (shape_of b) (tells b)) devices.old.items) ⊎ (devices.new.items ≡ drop 1 devices.old.items)) }
     ensures run { IfOk result (λ plan. (b : _) (rest : _) → devices.old.items ≡ b ∷ rest → IsFileRun design.old.tree march.now memory.now (ready memory.now (tells b)) (done_of plan)) }
@@ -110,7 +115,10 @@ fn plan_benchfile(
     devices: &mut Vec<Box<dyn Device>>,
 ) -> Result<Plan, Refusal>
     requires zero { design.old.registers ≡ zero_registers design.old.tree }
+    requires short { IsShort march.now memory.now }
+    requires ports { wrong_port memory.now design.old.tree.ports ≡ None }
     requires some { 0 < vec_len devices.old }
+    requires room { FirstHasRoom memory.now.words (map (λ b. told (room_of b) (shape_of b) (tells b)) devices.old.items) }
     ensures own { IfErr result IsOwnRefusal }
     ensures answer { LeavesBenchFile design.old.tree march.now memory.now (map (λ b. told (room_of b) (shape_of b) (tells b)) devices.old.items) (plain result) }
     ensures left { LeavesFirst (map (λ b. told (room_of b) (shape_of b) (tells b)) devices.old.items) (map (λ b. told (room_of b) (shape_of b) (tells b)) devices.new.items) (plain result) }
@@ -122,7 +130,30 @@ fn plan_benchfile(
     }
 }
 
+/// The checks behind the inputs, and the run.
+#[tactic(auto, using(crate::proofs::Benched::unchanged))]
+fn test_design(
+    alloc: Global,
+    design: &mut Design,
+    march: &March,
+    memory: &Memory,
+    devices: &mut Vec<Box<dyn Device>>,
+) -> Result<Plan, Refusal>
+    requires zero { design.old.registers ≡ zero_registers design.old.tree }
+    ensures own { IfErr result IsOwnRefusal }
+    ensures answer { TestsFile design.old.tree march.now memory.now (map (λ b. told (room_of b) (shape_of b) (tells b)) devices.old.items) (plain result) }
+    ensures left { LeavesFirst (map (λ b. told (room_of b) (shape_of b) (tells b)) devices.old.items) (map (λ b. told (room_of b) (shape_of b) (tells b)) devices.new.items) (plain result) }
+    ensures outputs { IfOk result (λ plan. (done_of plan).outputs ≡ []) }
+{
+    fit_length(march, memory)?;
+    fit_ports(design, memory)?;
+    has_box(devices)?;
+    fits_room(devices, memory)?;
+    plan_benchfile(alloc, design, march, memory, devices)
+}
+
 /// Decides the rest behind the module.
+#[tactic(auto, using(crate::proofs::Causes::own_cause, crate::proofs::Benched::unchanged))]
 fn decide_design<H: Host>(
     alloc: Global,
     words: &[&str],
@@ -143,11 +174,7 @@ fn decide_design<H: Host>(
 {
     let march = read_march_input(host, words, 2)?;
     let memory = read_memory_input(host, words, 3)?;
-    fit_length(&march, &memory)?;
-    fit_ports(design, &memory)?;
-    has_box(devices)?;
-    fits_room(devices, &memory)?;
-    plan_benchfile(alloc, design, &march, &memory, devices)
+    test_design(alloc, design, &march, &memory, devices)
 }
 
 /// Runs the module of a file, which may be any with the ports of a self-test, against the first box.

@@ -12,10 +12,11 @@ ghost use Rattle.self_test.specs.SelfTest.{SelfTest};
 ghost use Rattle.word_device.specs.Ports.{shape_of as memory_shape};
 ghost use Rattle.word_device.specs.Boxes.{told};
 ghost use Rattle.bist_endings.specs.Ending.{done_of};
-ghost use Rattle.bist_app.specs.Bench.{done_text, word_text, seen_text, bench_line, benched_done, AreWords, IsRun, ready};
+ghost use Rattle.bist_app.specs.Vectors.{IsShort};
+ghost use Rattle.bist_app.specs.Bench.{FirstHasRoom, done_text, word_text, seen_text, bench_line, benched_done, AreWords, IsRun, ready};
 
 use crate::boxes::take_first;
-use bench::{BenchEnd, BenchRefused, Seen, bench};
+use bench::{BenchEnd, Seen, bench};
 use bist_bits::NoMemory;
 use bist_endings::Plan;
 use bist_text::{put, put_decimal, put_hex};
@@ -176,6 +177,7 @@ pub fn run_plan(
     device: Box<dyn Device>,
 ) -> Result<Plan, NoMemory>
     requires test { SelfTest design.old.tree march.now memory.now }
+    requires short { IsShort march.now memory.now }
     requires fitted { shape_of device ≡ Some (memory_shape memory.now) }
     ensures run { IfOk result (λ plan. IsRun march.now memory.now (tells device) (done_of plan)) }
     ensures outputs { IfOk result (λ plan. (done_of plan).outputs ≡ []) }
@@ -192,10 +194,7 @@ pub fn run_plan(
             drop(device);
             end_plan(alloc, memory.bits(), fail, done_cycle, first)
         }
-        Err(BenchRefused { fault: _, device }) => {
-            drop(device);
-            Err(NoMemory)
-        }
+        Err(_) => unreachable!(),
     }
 }
 
@@ -206,7 +205,9 @@ pub fn bench_first(
     memory: &Memory,
     devices: &mut Vec<Box<dyn Device>>,
 ) -> Result<Plan, NoMemory>
+    requires short { IsShort march.now memory.now }
     requires some { 0 < vec_len devices.old }
+    requires room { FirstHasRoom memory.now.words (map (λ b. told (room_of b) (shape_of b) (tells b)) devices.old.items) }
     ensures taken { OnOk result (devices.new.items ≡ drop 1 devices.old.items) }
     ensures kept { OnErr result ((map (λ b. told (room_of b) (shape_of b) (tells b)) devices.new.items ≡ map (λ b. told (room_of b) (shape_of b) (tells b)) devices.old.items) ⊎ (devices.new.items ≡ drop 1 devices.old.items)) }
     ensures run { IfOk result (λ plan. (b : _) (rest : _) → devices.old.items ≡ b ∷ rest → IsRun march.now memory.now (ready memory.now (tells b)) (done_of plan)) }

@@ -7,19 +7,20 @@ ghost use Rattle.word_device.specs.Ports.{shape_of as memory_shape};
 ghost use Rattle.word_device.specs.Boxes.{told};
 ghost use Rattle.word_device.specs.Runs.{AllRight, run_word};
 ghost use Rattle.bist_endings.specs.Ending.{done_of};
+ghost use Rattle.bist_app.specs.Vectors.{IsShort};
 ghost use Rattle.bist_app.specs.Bench.{benched_chip};
-ghost use Rattle.bist_app.specs.BenchAll.{all_line, all_done, IsAllBenched, AreGone};
+ghost use Rattle.bist_app.specs.BenchAll.{HaveRoom, all_line, all_done, IsAllBenched, AreGone};
 ghost use Rattle.bist_app.specs.BenchedBoxes.{IsEnd};
 
 use crate::benching::self_test_design;
 use crate::boxes::take_first;
-use bench::{BenchEnd, BenchRefused, bench};
+use bench::{BenchEnd, bench};
 use bist_bits::NoMemory;
 use bist_endings::Plan;
 use bist_text::{put, put_decimal};
 use march_core::March;
 use memory_desc::Memory;
-use std::alloc::Global;
+use std::alloc::{AllocError, Global};
 use verilog_cycle::Design;
 use word_device::{Device, unplanted_passes};
 
@@ -62,12 +63,13 @@ fn does_fail(
     march: &March,
     memory: &Memory,
     device: Box<dyn Device>,
-) -> Result<bool, NoMemory>
+) -> bool
     requires test { SelfTest design.old.tree march.now memory.now }
+    requires short { IsShort march.now memory.now }
     requires zeros { Fit (registers_of design.old.tree) zeros.now }
     requires fitted { shape_of device ≡ Some (memory_shape memory.now) }
     ensures kept { design.new.tree ≡ design.old.tree }
-    ensures end { IfOk result (λ failed. IsEnd march.now memory.now (tells device) failed) }
+    ensures end { IsEnd march.now memory.now (tells device) result }
 {
     design.set_registers(zeros);
     match bench(design, march, memory, device) {
@@ -80,12 +82,9 @@ fn does_fail(
             },
         ) => {
             drop(device);
-            Ok(fail)
+            fail
         }
-        Err(BenchRefused { fault: _, device }) => {
-            drop(device);
-            Err(NoMemory)
-        }
+        Err(_) => unreachable!(),
     }
 }
 
@@ -99,7 +98,9 @@ fn bench_boxes(
     devices: &mut Vec<Box<dyn Device>>,
 ) -> Result<Plan, NoMemory>
     requires test { SelfTest design.old.tree march.now memory.now }
+    requires short { IsShort march.now memory.now }
     requires zeros { Fit (registers_of design.old.tree) zeros.now }
+    requires rooms { HaveRoom memory.now.words (map (λ b. told (room_of b) (shape_of b) (tells b)) devices.old.items) }
     ensures none_left { OnOk result (devices.new.items ≡ []) }
     ensures gone { OnErr result (AreGone (map (λ b. told (room_of b) (shape_of b) (tells b)) devices.old.items) (map (λ b. told (room_of b) (shape_of b) (tells b)) devices.new.items)) }
     ensures benched { IfOk result (λ plan. IsAllBenched march.now memory.now (map (λ b. told (room_of b) (shape_of b) (tells b)) devices.old.items) (done_of plan)) }
@@ -109,7 +110,7 @@ fn bench_boxes(
     let mut failing = 0;
     while !devices.is_empty() {
         let device = take_first(devices, memory)?;
-        if does_fail(design, zeros, march, memory, device)? {
+        if does_fail(design, zeros, march, memory, device) {
             failing += 1;
         }
     }
@@ -122,7 +123,7 @@ fn zeros_for(alloc: Global, design: &Design) -> Result<Vec<u64>, NoMemory>
 {
     match Vec::from_elem(alloc, 0, design.register_count()) {
         Ok(zeros) => Ok(zeros),
-        Err(_) => Err(NoMemory),
+        Err(AllocError) => Err(NoMemory),
     }
 }
 
@@ -133,6 +134,8 @@ pub fn bench_all(
     memory: &Memory,
     devices: &mut Vec<Box<dyn Device>>,
 ) -> Result<Plan, NoMemory>
+    requires short { IsShort march.now memory.now }
+    requires rooms { HaveRoom memory.now.words (map (λ b. told (room_of b) (shape_of b) (tells b)) devices.old.items) }
     ensures none_left { OnOk result (devices.new.items ≡ []) }
     ensures gone { OnErr result (AreGone (map (λ b. told (room_of b) (shape_of b) (tells b)) devices.old.items) (map (λ b. told (room_of b) (shape_of b) (tells b)) devices.new.items)) }
     ensures benched { IfOk result (λ plan. IsAllBenched march.now memory.now (map (λ b. told (room_of b) (shape_of b) (tells b)) devices.old.items) (done_of plan)) }

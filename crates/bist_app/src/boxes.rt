@@ -1,15 +1,16 @@
 //! The boxes that the program is given: whether there is one with room for a memory, and the first one fitted and taken.
 
 ghost use Rattle.std.specs.Prelude.{◌≡◌, ◌≤◌, ◌<◌, ◌∷◌, Some, Ok, length, map, drop, vec_len, IsSome, IfOk, IfErr, OnOk, OnErr};
+ghost use Rattle.word_device.specs.declared.device.DeviceFault.{DeviceFault};
 ghost use Rattle.word_device.specs.Ports.{shape_of as memory_shape};
 ghost use Rattle.word_device.specs.Boxes.{told, after_fit, after_fill, IsShape};
 ghost use Rattle.bist_inputs.specs.Inputs.{IsOwnRefusal};
-ghost use Rattle.bist_app.specs.Bench.{HasBox, FitsRoom, ready};
+ghost use Rattle.bist_app.specs.Bench.{HasBox, FirstHasRoom, FitsRoom, ready};
 
 use bist_bits::NoMemory;
 use bist_endings::{DeviceRefusal, Refusal};
 use memory_desc::Memory;
-use word_device::{Device, Shape, shape_of};
+use word_device::{Device, DeviceFault, Shape, shape_of};
 
 /// Refuses an empty list.
 #[tactic(auto, unfolding(crate::specs::Bench::HasBox))]
@@ -37,6 +38,7 @@ pub fn fits_room(devices: &[Box<dyn Device>], memory: &Memory) -> Result<(), Ref
     requires some { 0 < length devices.now }
     ensures answer { FitsRoom memory.now (map (λ b. told (room_of b) (shape_of b) (tells b)) devices.now) result }
     ensures own { IfErr result IsOwnRefusal }
+    ensures room { IfOk result (λ _. FirstHasRoom memory.now.words (map (λ b. told (room_of b) (shape_of b) (tells b)) devices.now)) }
 {
     let room = room_of_box(&devices[0]);
     let words = memory.words();
@@ -46,13 +48,28 @@ pub fn fits_room(devices: &[Box<dyn Device>], memory: &Memory) -> Result<(), Ref
     Ok(())
 }
 
-/// Fits a box; want of memory leaves it as it was.
+/// What is wanting where a box with room isn't fitted: nothing but memory.
+fn want_of_box(fault: DeviceFault) -> NoMemory
+    requires { fault ≡ DeviceFault.NoMemory }
+{
+    match fault {
+        DeviceFault::NoMemory => NoMemory,
+        _ => unreachable!(),
+    }
+}
+
+/// Fits a box that has room; want of memory leaves it as it was.
+#[tactic(auto, using(crate::proofs::Fitting::want_of_fitted))]
 fn fit_box(device: &mut Box<dyn Device>, shape: &Shape) -> Result<(), NoMemory>
-    requires { IsShape shape.now }
+    requires shape { IsShape shape.now }
+    requires room { shape.now.words ≤ room_of device.old }
     ensures ok { OnOk result (told (room_of device.new) (shape_of device.new) (tells device.new) ≡ told (room_of device.old) (Some shape.now) (after_fit shape.now (tells device.old))) }
     ensures err { OnErr result (told (room_of device.new) (shape_of device.new) (tells device.new) ≡ told (room_of device.old) (shape_of device.old) (tells device.old)) }
 {
-    device.fit(shape).map_err(|_| NoMemory)
+    match device.fit(shape) {
+        Ok(()) => Ok(()),
+        Err(fault) => Err(want_of_box(fault)),
+    }
 }
 
 /// Fills a box with zeros.
@@ -69,6 +86,7 @@ pub fn fit_first(
     memory: &Memory,
 ) -> Result<Box<dyn Device>, NoMemory>
     requires some { 0 < vec_len devices.old }
+    requires room { FirstHasRoom memory.now.words (map (λ b. told (room_of b) (shape_of b) (tells b)) devices.old.items) }
     ensures taken { OnOk result (devices.new.items ≡ drop 1 devices.old.items) }
     ensures kept { OnErr result (map (λ b. told (room_of b) (shape_of b) (tells b)) devices.new.items ≡ map (λ b. told (room_of b) (shape_of b) (tells b)) devices.old.items) }
     ensures fitted { IfOk result (λ d. shape_of d ≡ Some (memory_shape memory.now)) }
@@ -85,6 +103,7 @@ pub fn take_first(
     memory: &Memory,
 ) -> Result<Box<dyn Device>, NoMemory>
     requires some { 0 < vec_len devices.old }
+    requires room { FirstHasRoom memory.now.words (map (λ b. told (room_of b) (shape_of b) (tells b)) devices.old.items) }
     ensures taken { OnOk result (devices.new.items ≡ drop 1 devices.old.items) }
     ensures kept { OnErr result (map (λ b. told (room_of b) (shape_of b) (tells b)) devices.new.items ≡ map (λ b. told (room_of b) (shape_of b) (tells b)) devices.old.items) }
     ensures fitted { IfOk result (λ d. shape_of d ≡ Some (memory_shape memory.now)) }

@@ -8,7 +8,8 @@ ghost use Rattle.word_device.specs.Ports.{shape_of as memory_shape};
 ghost use Rattle.word_device.specs.Boxes.{told, after_plant, FitsBox};
 ghost use Rattle.word_device.specs.Runs.{SomeWrong, run_word};
 ghost use Rattle.bist_endings.specs.Ending.{done_of};
-ghost use Rattle.bist_app.specs.Bench.{IsRun, benched_chip};
+ghost use Rattle.bist_app.specs.Vectors.{IsShort};
+ghost use Rattle.bist_app.specs.Bench.{FirstHasRoom, IsRun, benched_chip};
 ghost use Rattle.bist_app.specs.BenchFault.{ready_planted};
 
 use crate::benching::{run_plan, self_test_design};
@@ -48,6 +49,7 @@ fn take_planted(
     planted: &Planted,
 ) -> Result<Box<dyn Device>, NoMemory>
     requires some { 0 < vec_len devices.old }
+    requires room { FirstHasRoom memory.now.words (map (λ b. told (room_of b) (shape_of b) (tells b)) devices.old.items) }
     requires fits { FitsMemory planted.now memory.now.words memory.now.bits }
     requires places { is_some planted.now.agg ≡ has_aggressor planted.now.prim }
     ensures taken { OnOk result (devices.new.items ≡ drop 1 devices.old.items) }
@@ -69,7 +71,9 @@ pub fn bench_planted(
     planted: &Planted,
     devices: &mut Vec<Box<dyn Device>>,
 ) -> Result<Plan, NoMemory>
+    requires short { IsShort march.now memory.now }
     requires some { 0 < vec_len devices.old }
+    requires room { FirstHasRoom memory.now.words (map (λ b. told (room_of b) (shape_of b) (tells b)) devices.old.items) }
     requires fits { FitsMemory planted.now memory.now.words memory.now.bits }
     requires places { is_some planted.now.agg ≡ has_aggressor planted.now.prim }
     ensures taken { OnOk result (devices.new.items ≡ drop 1 devices.old.items) }

@@ -6,7 +6,7 @@ ghost use Rattle.word_march.specs.Commands.{port_ops, command_count};
 ghost use Rattle.bist_endings.specs.Ending.{plain, done_of, written_of};
 ghost use Rattle.bist_inputs.specs.Inputs.{HasReadCause, IsOwnRefusal};
 ghost use Rattle.bist_endings.specs.Conclude.{NamesWords};
-ghost use Rattle.bist_app.specs.Vectors.{IsVectorsShape, FitsLength, kind_text, command_line, command_lines, vectors_line, vectors_done, LeavesVectors, DecidesVectors};
+ghost use Rattle.bist_app.specs.Vectors.{IsVectorsShape, IsShort, FitsLength, kind_text, command_line, command_lines, vectors_line, vectors_done, LeavesVectors, DecidesVectors};
 
 use bist_bits::NoMemory;
 use bist_endings::{Output, Plan, Refusal, are_plain, numbered};
@@ -39,6 +39,7 @@ pub fn is_vectors(words: &[&str]) -> bool
 pub fn fit_length(march: &March, memory: &Memory) -> Result<(), Refusal>
     ensures answer { FitsLength march.now memory.now result }
     ensures own { IfErr result IsOwnRefusal }
+    ensures short { IfOk result (λ _. IsShort march.now memory.now) }
 {
     let cycles = word_march::span(march, memory) + u64::from(memory.latency()) + 2;
     if cycles > CYCLE_LIMIT {

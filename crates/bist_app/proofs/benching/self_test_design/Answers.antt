@@ -1,4 +1,4 @@
-use Rattle.std.proofs.Common.{◌≡◌, subst, sym, List, ℕ}
+use Rattle.std.proofs.Common.{subst, sym, List, ℕ}
 use Rattle.verilog_tree.specs.Plain.{plain_module}
 use Rattle.verilog_tree.specs.Spells.{Spells}
 use Rattle.bist_app.proofs.ReadBack.{read_formed, same_legal, same_loopless, new_tests, new_zero}

@@ -1,24 +1,23 @@
 use Rattle.std.proofs.Common.{rules, ◌≡◌, ◌∙◌, ◌<◌, length, arith}
-use Rattle.bist_app.proofs.AllBenched.{goes_failed, goes_passed, boxes_benched, one_gone, one_less, where_err}
+use Rattle.bist_app.proofs.AllBenched.{goes_failed, goes_passed, boxes_benched, one_gone, one_less, first_has_room, rest_have_room}
 use Rattle.bist_app.proofs.benching_all.bench_boxes.Goals as goal
 
-pub returns-in_err-does_fail-clause-gone : goal.returns-in_err-does_fail-clause-gone
-returns-in_err-does_fail-clause-gone g c =
-    where_err c.from_residual-in_err-does_fail.result _
-    (one_gone _ _ c.loop-devices.devices.items c.take_first.new.devices.items c.loop-devices.invariant.gone c.in_ok-device.ensures.taken)
+pub take_first-requires-clause-room : goal.take_first-requires-clause-room
+take_first-requires-clause-room g c = first_has_room _ _ c.loop-devices.invariant.rooms
 
-pub loop-devices-preserved-then-branch : goal.loop-devices-preserved-then-branch
-loop-devices-preserved-then-branch g c =
+pub loop-devices-preserved-then-does_fail : goal.loop-devices-preserved-then-does_fail
+loop-devices-preserved-then-does_fail g c =
     let some : 0 < length c.loop-devices.devices.items = search rules in
     let less = one_less c.loop-devices.devices.items c.take_first.new.devices.items some c.in_ok-device.ensures.taken in
     record {
-      tree = c.in_ok-does_fail.ensures.kept ∙ c.loop-devices.invariant.tree;
+      tree = c.does_fail.ensures.kept ∙ c.loop-devices.invariant.tree;
       counted = c.loop-devices.invariant.counted;
       bound = omega (arith, less, c.loop-devices.invariant.bound);
       gone = one_gone _ _ c.loop-devices.devices.items c.take_first.new.devices.items c.loop-devices.invariant.gone c.in_ok-device.ensures.taken;
+      rooms = rest_have_room _ _ c.loop-devices.devices.items c.take_first.new.devices.items c.in_ok-device.ensures.taken c.loop-devices.invariant.rooms;
       goes_on = goes_failed _ c.args.march.now c.args.memory.now _ c.loop-devices.devices.items c.take_first.new.devices.items _ c.loop-devices.failing
-          c.in_ok-does_fail.field-0 c.if-branch.true c.answers_right.ensures some c.in_ok-device.ensures.taken c.in_ok-device.ensures.tells
-          c.in_ok-does_fail.ensures.end c.loop-devices.invariant.goes_on;
+          c.does_fail.result c.if-does_fail.true c.answers_right.ensures some c.in_ok-device.ensures.taken c.in_ok-device.ensures.tells
+          c.does_fail.ensures.end c.loop-devices.invariant.goes_on;
     }
 
 pub loop-devices-preserved : goal.loop-devices-preserved
@@ -26,13 +25,14 @@ loop-devices-preserved g c =
     let some : 0 < length c.loop-devices.devices.items = search rules in
     let less = one_less c.loop-devices.devices.items c.take_first.new.devices.items some c.in_ok-device.ensures.taken in
     record {
-      tree = c.in_ok-does_fail.ensures.kept ∙ c.loop-devices.invariant.tree;
+      tree = c.does_fail.ensures.kept ∙ c.loop-devices.invariant.tree;
       counted = c.loop-devices.invariant.counted;
       bound = omega (arith, less, c.loop-devices.invariant.bound);
       gone = one_gone _ _ c.loop-devices.devices.items c.take_first.new.devices.items c.loop-devices.invariant.gone c.in_ok-device.ensures.taken;
+      rooms = rest_have_room _ _ c.loop-devices.devices.items c.take_first.new.devices.items c.in_ok-device.ensures.taken c.loop-devices.invariant.rooms;
       goes_on = goes_passed _ c.args.march.now c.args.memory.now _ c.loop-devices.devices.items c.take_first.new.devices.items _ c.loop-devices.failing
-          c.in_ok-does_fail.field-0 c.if-branch.false c.answers_right.ensures some c.in_ok-device.ensures.taken c.in_ok-device.ensures.tells
-          c.in_ok-does_fail.ensures.end c.loop-devices.invariant.goes_on;
+          c.does_fail.result c.if-does_fail.false c.answers_right.ensures some c.in_ok-device.ensures.taken c.in_ok-device.ensures.tells
+          c.does_fail.ensures.end c.loop-devices.invariant.goes_on;
     }
 
 pub returns-clause-benched : goal.returns-clause-benched

@@ -1,6 +1,6 @@
 use Rattle.std.proofs.Common.{◌≡◌, ◌+◌, ◌≤◌, length, map}
 use Rattle.word_device.specs.Boxes.{told}
-use Rattle.bist_app.specs.BenchAll.{AreGone}
+use Rattle.bist_app.specs.BenchAll.{AreGone, HaveRoom}
 use Rattle.bist_app.specs.BenchedBoxes.{GoesOn}
 use Rattle.bist_app.proofs.benching_all.bench_boxes.Given as goal
 
@@ -14,6 +14,7 @@ invariant-loop-devices g l =
       counted : l.count ≡ length l.fn.devices.items;
       bound : l.failing + length l.devices.items ≤ l.count;
       gone : AreGone first left;
+      rooms : HaveRoom l.memory.words left;
       goes_on : GoesOn l.march l.memory first left l.failing;
     }
 
