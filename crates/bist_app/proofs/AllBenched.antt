@@ -12,12 +12,11 @@ use Rattle.word_device.specs.Runs.{AllRight, IsPlain, PassesAlone, run_word}
 use Rattle.bench.specs.declared.ending.Seen.{Seen}
 use Rattle.bench.specs.Endings.{IsFirstRead}
 use Rattle.bench.specs.Laws.{IsSeenOf}
-use Rattle.bist_endings.specs.declared.ending.Refusal.{Refusal}
 use Rattle.bist_bits.specs.declared.NoMemory.{NoMemory}
 use Rattle.bist_endings.specs.declared.ending.Plan.{Plan}
 use Rattle.bist_endings.specs.Ending.{Done, done_of}
 use Rattle.bist_app.specs.Bench.{Boxes, FirstHasRoom, ready, benched_chip, IsSeen}
-use Rattle.bist_app.specs.BenchAll.{HaveRoom, IsBoxSeen, failing_of, all_done, IsAllBenched, AreGone, LeavesNone}
+use Rattle.bist_app.specs.BenchAll.{HaveRoom, IsBoxSeen, failing_of, all_done, IsAllBenched, AreGone}
 use Rattle.bist_app.specs.BenchedBoxes.{IsEnd, GoesOn}
 use Rattle.bist_app.proofs.Benched.{blank_filled}
 
@@ -145,21 +144,6 @@ still_gone boxes now next gone same = subst (AreGone boxes) (sym same) gone
 pub one_less : {A : Type 0} (now next : List A) → 0 < length now → next ≡ drop 1 now → length next + 1 ≡ length now
 one_less [] next some gone = absurd (omega (arith, some))
 one_less (x ∷ rest) next some gone = let same = ap length gone in omega (arith, same)
-
--- a refusal before any box is called leaves the boxes
-pub none_unchanged : (boxes : Boxes) (e : Refusal) → LeavesNone boxes boxes (Err e)
-none_unchanged boxes Refusal.Usage = refl
-none_unchanged boxes (Refusal.March f) = refl
-none_unchanged boxes (Refusal.Memory f) = refl
-none_unchanged boxes (Refusal.Fault f) = refl
-none_unchanged boxes (Refusal.TooLarge p) = refl
-none_unchanged boxes (Refusal.ReadFailed p) = refl
-none_unchanged boxes (Refusal.Absent p) = refl
-none_unchanged boxes (Refusal.Misfit m) = refl
-none_unchanged boxes (Refusal.Device r) = refl
-none_unchanged boxes (Refusal.TooLong n) = refl
-none_unchanged boxes (Refusal.Verilog r) = refl
-none_unchanged boxes Refusal.NoMemory = none_gone boxes
 
 -- ---- registers of 0
 

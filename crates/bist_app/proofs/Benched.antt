@@ -1,5 +1,5 @@
 -- What a run against the first box leaves.
-use Rattle.std.proofs.Common.{◌≡◌, ◌<◌, ◌*◌, ◌+◌, ◌%◌, ◌/◌, ◌^◌, ◌∙◌, ℕ, zero, suc, false, List, [], ◌∷◌, length, map, replicate, Option, None, is_some, Ok, Err, bit_xor, refl, ap, ap₂, subst, arith, inl}
+use Rattle.std.proofs.Common.{◌≡◌, ◌<◌, ◌*◌, ◌+◌, ◌%◌, ◌/◌, ◌^◌, ◌∙◌, ℕ, zero, suc, false, List, [], ◌∷◌, length, map, replicate, Option, None, is_some, Ok, bit_xor, refl, ap, ap₂, subst, arith}
 use Rattle.std.specs.List.{range_with_len}
 use Rattle.std.proofs.lemmas.List.{length-replicate}
 use Rattle.std.proofs.Math.Nat.{one-le-pow, mod-eq_of_lt}
@@ -12,9 +12,8 @@ use Rattle.word_device.specs.Runs.{AllRight, IsPlain, PassesAlone, run_word}
 use Rattle.bench.specs.declared.ending.Seen.{Seen}
 use Rattle.bench.specs.Endings.{IsFirstRead}
 use Rattle.bench.specs.Laws.{IsSeenOf}
-use Rattle.bist_endings.specs.declared.ending.Refusal.{Refusal}
 use Rattle.bist_endings.specs.Ending.{Done}
-use Rattle.bist_app.specs.Bench.{Boxes, ready, benched_chip, IsSeen, IsRun, IsBenched, IsSoundBenched, LeavesBench, LeavesFirst}
+use Rattle.bist_app.specs.Bench.{ready, benched_chip, IsSeen, IsRun, IsBenched, IsSoundBenched, LeavesBench}
 use Rattle.bist_app.proofs.OneBench.{first_one}
 
 -- the number 0 stands for words of 0
@@ -67,18 +66,3 @@ pub benched : {B : Type 0} (f : B → Told) (items : List B) (march : List March
 unfolding LeavesBench
 benched f [] march d done some passes h = absurd (omega (arith, some))
 benched f (b ∷ items) march d done some passes h = sound_of march d (f b).tells done passes (h b items refl)
-
--- a refusal before any box is called leaves the boxes
-pub unchanged : (boxes : Boxes) (e : Refusal) → LeavesFirst boxes boxes (Err e)
-unchanged boxes Refusal.Usage = refl
-unchanged boxes (Refusal.March f) = refl
-unchanged boxes (Refusal.Memory f) = refl
-unchanged boxes (Refusal.Fault f) = refl
-unchanged boxes (Refusal.TooLarge p) = refl
-unchanged boxes (Refusal.ReadFailed p) = refl
-unchanged boxes (Refusal.Absent p) = refl
-unchanged boxes (Refusal.Misfit m) = refl
-unchanged boxes (Refusal.Device r) = refl
-unchanged boxes (Refusal.Verilog v) = refl
-unchanged boxes (Refusal.TooLong n) = refl
-unchanged boxes Refusal.NoMemory = inl refl

@@ -17,6 +17,7 @@ pub mod OneAnswer
 pub mod ReadBack
 pub mod Benched
 pub mod BenchedFile
+pub mod Apart
 pub mod OneBenchFile
 pub mod Making
 pub mod Caught

@@ -14,12 +14,13 @@ use Rattle.bist_app.specs.Judge.{DecidesJudge}
 use Rattle.bist_app.specs.Vectors.{FitsLength, DecidesVectors}
 use Rattle.bist_app.specs.Compile.{DecidesCompile}
 use Rattle.bist_app.specs.Run.{HasShape, DecidesCommand, Decides}
-use Rattle.bist_app.specs.Bench.{Boxes, HasBox, FitsRoom, DecidesBench}
+use Rattle.bist_app.specs.Bench.{Boxes, HasBox, FitsRoom, LeavesBench, LeavesFirst, DecidesBench}
 use Rattle.bist_app.proofs.OneBenchFile.{bench_file_answer}
 use Rattle.bist_app.specs.declared.benchfault_command.FaultShape.{FaultShape}
-use Rattle.bist_app.specs.BenchFault.{FitsPlaces, planted_of, DecidesFault}
-use Rattle.bist_app.specs.BenchAll.{FitsRooms, DecidesBenchAll}
+use Rattle.bist_app.specs.BenchFault.{FitsPlaces, planted_of, LeavesFault, DecidesFault}
+use Rattle.bist_app.specs.BenchAll.{FitsRooms, LeavesAll, LeavesNone, DecidesBenchAll}
 use Rattle.bist_app.specs.Answer.{FirstTells, AllTell, CalledTell, RunHasOneAnswer}
+use Rattle.bist_app.proofs.Apart.{SomeLeft, before_answer, with_left}
 use Rattle.bist_app.proofs.OneBench.{box_one, room_one, bench_one, places_one, fault_one}
 use Rattle.bist_app.proofs.OneAll.{rooms_one, all_one}
 use Rattle.bist_app.proofs.OneCommand.{command_one}
@@ -55,46 +56,46 @@ compile_answer files words =
     then_answer (InputList (Some files) words 3) _ (input_list_one files words 3) (λ items.
     compile_one march d items)))
 
-bench_answer : (files : Files) (boxes : Boxes) (words : Words) → FirstTells boxes → HasOneAnswer (DecidesBench (Some files) boxes words)
+bench_answer : (files : Files) (boxes : Boxes) (words : Words) → FirstTells boxes → HasOneAnswer (SomeLeft (λ left. DecidesBench (Some files) boxes left words))
 bench_answer files boxes words tells =
-    then_answer (InputMarch (Some files) words 1) _ (input_march_one files words 1) (λ march.
-    then_answer (InputMemory (Some files) words 2) _ (input_memory_one files words 2) (λ d.
-    then_answer (FitsLength march d) _ (length_one march d) (λ _.
-    then_answer (HasBox boxes) _ (box_one boxes) (λ _.
-    then_answer (FitsRoom d boxes) _ (room_one d boxes) (λ _.
-    bench_one march d boxes tells)))))
+    before_answer boxes (InputMarch (Some files) words 1) _ (input_march_one files words 1) (λ march.
+    before_answer boxes (InputMemory (Some files) words 2) _ (input_memory_one files words 2) (λ d.
+    before_answer boxes (FitsLength march d) _ (length_one march d) (λ _.
+    before_answer boxes (HasBox boxes) _ (box_one boxes) (λ _.
+    before_answer boxes (FitsRoom d boxes) _ (room_one d boxes) (λ _.
+    with_left (LeavesBench march d boxes) (LeavesFirst boxes) (bench_one march d boxes tells))))))
 
-fault_answer : (files : Files) (boxes : Boxes) (words : Words) (shape : FaultShape) → FirstTells boxes → HasOneAnswer (DecidesFault (Some files) boxes words shape)
+fault_answer : (files : Files) (boxes : Boxes) (words : Words) (shape : FaultShape) → FirstTells boxes → HasOneAnswer (SomeLeft (λ left. DecidesFault (Some files) boxes left words shape))
 fault_answer files boxes words shape tells =
-    then_answer (InputMarch (Some files) words 1) _ (input_march_one files words 1) (λ march.
-    then_answer (InputMemory (Some files) words 2) _ (input_memory_one files words 2) (λ d.
-    then_answer (GivesPrim (word words 3)) _ (prim_one (word words 3)) (λ prim.
-    then_answer (FitsAggressor (is_some shape.aggressor) prim) _ (aggressor_one (is_some shape.aggressor) prim) (λ _.
-    then_answer (FitsLength march d) _ (length_one march d) (λ _.
-    then_answer (HasBox boxes) _ (box_one boxes) (λ _.
-    then_answer (FitsPlaces d shape) _ (places_one d shape) (λ _.
-    then_answer (FitsRoom d boxes) _ (room_one d boxes) (λ _.
-    fault_one march d (planted_of prim shape) boxes tells))))))))
+    before_answer boxes (InputMarch (Some files) words 1) _ (input_march_one files words 1) (λ march.
+    before_answer boxes (InputMemory (Some files) words 2) _ (input_memory_one files words 2) (λ d.
+    before_answer boxes (GivesPrim (word words 3)) _ (prim_one (word words 3)) (λ prim.
+    before_answer boxes (FitsAggressor (is_some shape.aggressor) prim) _ (aggressor_one (is_some shape.aggressor) prim) (λ _.
+    before_answer boxes (FitsLength march d) _ (length_one march d) (λ _.
+    before_answer boxes (HasBox boxes) _ (box_one boxes) (λ _.
+    before_answer boxes (FitsPlaces d shape) _ (places_one d shape) (λ _.
+    before_answer boxes (FitsRoom d boxes) _ (room_one d boxes) (λ _.
+    with_left (LeavesFault march d (planted_of prim shape) boxes) (LeavesFirst boxes) (fault_one march d (planted_of prim shape) boxes tells)))))))))
 
-all_answer : (files : Files) (boxes : Boxes) (words : Words) → AllTell boxes → HasOneAnswer (DecidesBenchAll (Some files) boxes words)
+all_answer : (files : Files) (boxes : Boxes) (words : Words) → AllTell boxes → HasOneAnswer (SomeLeft (λ left. DecidesBenchAll (Some files) boxes left words))
 all_answer files boxes words tells =
-    then_answer (InputMarch (Some files) words 1) _ (input_march_one files words 1) (λ march.
-    then_answer (InputMemory (Some files) words 2) _ (input_memory_one files words 2) (λ d.
-    then_answer (FitsLength march d) _ (length_one march d) (λ _.
-    then_answer (HasBox boxes) _ (box_one boxes) (λ _.
-    then_answer (FitsRooms d boxes) _ (rooms_one d boxes) (λ _.
-    all_one march d boxes tells)))))
+    before_answer boxes (InputMarch (Some files) words 1) _ (input_march_one files words 1) (λ march.
+    before_answer boxes (InputMemory (Some files) words 2) _ (input_memory_one files words 2) (λ d.
+    before_answer boxes (FitsLength march d) _ (length_one march d) (λ _.
+    before_answer boxes (HasBox boxes) _ (box_one boxes) (λ _.
+    before_answer boxes (FitsRooms d boxes) _ (rooms_one d boxes) (λ _.
+    with_left (LeavesAll march d boxes) (LeavesNone boxes) (all_one march d boxes tells))))))
 
-command_answer : (files : Files) (boxes : Boxes) (words : Words) (command : Command) → CalledTell command boxes → HasOneAnswerButNames (DecidesCommand (Some files) boxes words command)
-command_answer files boxes words (Command.Sim shape) tells = but_names _ (sim_answer files words shape)
-command_answer files boxes words Command.Judge tells = but_names _ (judge_answer files words)
-command_answer files boxes words Command.Vectors tells = but_names _ (vectors_answer files words)
-command_answer files boxes words Command.Compile tells = but_names _ (compile_answer files words)
+command_answer : (files : Files) (boxes : Boxes) (words : Words) (command : Command) → CalledTell command boxes → HasOneAnswerButNames (SomeLeft (λ left. DecidesCommand (Some files) boxes left words command))
+command_answer files boxes words (Command.Sim shape) tells = but_names _ (with_left _ (λ left _. left ≡ boxes) (sim_answer files words shape))
+command_answer files boxes words Command.Judge tells = but_names _ (with_left _ (λ left _. left ≡ boxes) (judge_answer files words))
+command_answer files boxes words Command.Vectors tells = but_names _ (with_left _ (λ left _. left ≡ boxes) (vectors_answer files words))
+command_answer files boxes words Command.Compile tells = but_names _ (with_left _ (λ left _. left ≡ boxes) (compile_answer files words))
 command_answer files boxes words Command.Bench tells = but_names _ (bench_answer files boxes words tells)
 command_answer files boxes words (Command.BenchFault shape) tells = but_names _ (fault_answer files boxes words shape tells)
 command_answer files boxes words Command.BenchFile tells = bench_file_answer files boxes words tells
 command_answer files boxes words Command.BenchAll tells = but_names _ (all_answer files boxes words tells)
-command_answer files boxes words (Command.Make number) tells = but_names _ (make_one number)
+command_answer files boxes words (Command.Make number) tells = but_names _ (with_left _ (λ left _. left ≡ boxes) (make_one number))
 
 decides_answer : (files : Files) (boxes : Boxes) (words : Words) → ((command : Command) → HasShape words command → CalledTell command boxes)
     → HasOneAnswerButNames (λ outcome. (left : Boxes) × Decides (Some files) boxes left words outcome)
@@ -103,7 +104,8 @@ decides_answer files boxes words tells r s (x, (None, f)) (y, (Some d, g)) rs ss
 decides_answer files boxes words tells r s (x, (Some c, f)) (y, (None, g)) rs ss = absurd (g.0 c f.0)
 decides_answer files boxes words tells r s (x, (Some c, f)) (y, (Some d, g)) rs ss =
     let same : c ≡ d = command_one words c d f.0 g.0 in
-    command_answer files boxes words d (tells d g.0) r s (subst (λ (command : Command). DecidesCommand (Some files) boxes words command r) same f.1) g.1 rs ss
+    command_answer files boxes words d (tells d g.0) r s (subst (λ (command : Command). SomeLeft (λ left. DecidesCommand (Some files) boxes left words command) r) same (x, f.1))
+    (y, g.1) rs ss
 
 pub one_answer : (told : Option Files) (boxes : Boxes) (words : Words) → RunHasOneAnswer told boxes words
 one_answer None boxes words = tt

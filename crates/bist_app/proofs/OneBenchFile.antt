@@ -18,17 +18,18 @@ use Rattle.bist_endings.specs.declared.ending.VerilogRefusal.{VerilogRefusal}
 use Rattle.bist_endings.specs.Ending.{Done}
 use Rattle.bist_endings.specs.Words.{Words}
 use Rattle.bist_endings.specs.OneOutcome.{HasOneAnswer, HasOneAnswerButNames, HasOneValue, Answer, answer_of}
-use Rattle.bist_endings.proofs.OneOutcome.{but_names, outcome_value, then_but_names}
+use Rattle.bist_endings.proofs.OneOutcome.{but_names, outcome_value}
 use Rattle.bist_inputs.specs.Inputs.{InputMarch}
 use Rattle.bist_inputs.specs.Memories.{InputMemory}
 use Rattle.bist_inputs.specs.Designs.{CanRun, InputModule}
 use Rattle.bist_inputs.proofs.OneInput.{input_march_one, input_memory_one}
 use Rattle.bist_inputs.proofs.OneDesign.{input_module_one, input_can_run}
 use Rattle.bist_app.specs.Vectors.{FitsLength}
-use Rattle.bist_app.specs.Bench.{Boxes, HasBox, FitsRoom, ready, benched_done}
+use Rattle.bist_app.specs.Bench.{Boxes, HasBox, FitsRoom, ready, benched_done, LeavesFirst}
 use Rattle.bist_app.specs.BenchFile.{HasPorts, IsFileRun, LeavesBenchFile, DecidesBenchFile, zero_registers}
 use Rattle.bist_app.specs.Answer.{FirstTells}
 use Rattle.bist_app.proofs.BenchedFile.{are_ports}
+use Rattle.bist_app.proofs.Apart.{SomeLeft, before_but_names, with_left}
 use Rattle.bist_app.proofs.OneBench.{box_one, room_one, first_one}
 use Rattle.bist_app.proofs.OnePlan.{length_one}
 
@@ -91,13 +92,14 @@ file_one mo march d (box ∷ boxes) can ports n (Ok x) (Err other) f g rs ss = a
 
 -- ---- the command
 
-pub bench_file_answer : (files : Files) (boxes : Boxes) (words : Words) → FirstTells boxes → HasOneAnswerButNames (DecidesBenchFile (Some files) boxes words)
+pub bench_file_answer : (files : Files) (boxes : Boxes) (words : Words) → FirstTells boxes → HasOneAnswerButNames (SomeLeft (λ left. DecidesBenchFile (Some files) boxes left words))
 bench_file_answer files boxes words tells =
-    then_but_names (InputModule (Some files) words 1) _ (input_module_one files words 1) (λ mo given.
-    then_but_names (InputMarch (Some files) words 2) _ (outcome_value (InputMarch (Some files) words 2) (input_march_one files words 2)) (λ march _.
-    then_but_names (InputMemory (Some files) words 3) _ (outcome_value (InputMemory (Some files) words 3) (input_memory_one files words 3)) (λ d _.
-    then_but_names (FitsLength march d) _ (outcome_value (FitsLength march d) (length_one march d)) (λ _ _.
-    then_but_names (HasPorts d mo) _ (ports_one d mo) (λ u ports.
-    then_but_names (HasBox boxes) _ (outcome_value (HasBox boxes) (box_one boxes)) (λ _ _.
-    then_but_names (FitsRoom d boxes) _ (outcome_value (FitsRoom d boxes) (room_one d boxes)) (λ _ _.
-    but_names _ (file_one mo march d boxes (input_can_run (Some files) words 1 mo given) (none_wrong d mo u ports) tells))))))))
+    before_but_names boxes (InputModule (Some files) words 1) _ (input_module_one files words 1) (λ mo given.
+    before_but_names boxes (InputMarch (Some files) words 2) _ (outcome_value (InputMarch (Some files) words 2) (input_march_one files words 2)) (λ march _.
+    before_but_names boxes (InputMemory (Some files) words 3) _ (outcome_value (InputMemory (Some files) words 3) (input_memory_one files words 3)) (λ d _.
+    before_but_names boxes (FitsLength march d) _ (outcome_value (FitsLength march d) (length_one march d)) (λ _ _.
+    before_but_names boxes (HasPorts d mo) _ (ports_one d mo) (λ u ports.
+    before_but_names boxes (HasBox boxes) _ (outcome_value (HasBox boxes) (box_one boxes)) (λ _ _.
+    before_but_names boxes (FitsRoom d boxes) _ (outcome_value (FitsRoom d boxes) (room_one d boxes)) (λ _ _.
+    but_names _ (with_left (LeavesBenchFile mo march d boxes) (LeavesFirst boxes)
+    (file_one mo march d boxes (input_can_run (Some files) words 1 mo given) (none_wrong d mo u ports) tells)))))))))

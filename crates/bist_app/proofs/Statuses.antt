@@ -131,7 +131,7 @@ silent_rose words boxes left None f' s s' rr wr n (Err e, decides, cause, (same,
 -- words without a shape end with 2, or 9
 pub no_shape_ends : (words : Words) (boxes left : Boxes) (f f' : Option Files) (s s' : Option (List ℕ)) (rr wr : Type 0) (n : ℕ)
     → Runs words boxes left f f' s s' rr wr n → HasNoShape words → (n ≡ 2) ⊎ (n ≡ 9)
-no_shape_ends words boxes left f f' s s' rr wr n (outcome, (Some command, (shape, rest, _)), cause, ends) none = absurd (none command shape)
+no_shape_ends words boxes left f f' s s' rr wr n (outcome, (Some command, (shape, rest)), cause, ends) none = absurd (none command shape)
 no_shape_ends words boxes left f f' s s' rr wr n (Ok done, (None, (shape, is, _)), cause, ends) none = cc
 no_shape_ends words boxes left f f' s s' rr wr n (Err e, (None, (shape, is, _)), cause, (same, ends)) none =
     let usage : e ≡ Refusal.Usage = cc in
@@ -141,6 +141,6 @@ no_shape_ends words boxes left f f' s s' rr wr n (Err e, (None, (shape, is, _)),
 pub usage_has_no_shape : (words : Words) (boxes left : Boxes) (f f' : Option Files) (s s' : Option (List ℕ)) (rr wr : Type 0) (n : ℕ)
     → Runs words boxes left f f' s s' rr wr n → n ≡ 2 → HasNoShape words
 usage_has_no_shape words boxes left f f' s s' rr wr n (outcome, (None, (shape, is, _)), cause, ends) k = shape
-usage_has_no_shape words boxes left f f' s s' rr wr n (Ok done, (Some command, (shape, rest, _)), cause, (stop, writes, says)) k = absurd (after_writes done s s' wr stop n says (omega arith) (omega arith))
-usage_has_no_shape words boxes left f f' s s' rr wr n (Err e, (Some command, (shape, rest, _)), cause, (same, ends)) k =
-    elim (refusal_status e s s' wr n ends) [ inl h ↦ absurd (never_usage f boxes words command (subst (λ r. DecidesCommand f boxes words command (Err r)) (two_is_usage e n h k) rest)) | inr h ↦ absurd (omega arith) ]
+usage_has_no_shape words boxes left f f' s s' rr wr n (Ok done, (Some command, (shape, rest)), cause, (stop, writes, says)) k = absurd (after_writes done s s' wr stop n says (omega arith) (omega arith))
+usage_has_no_shape words boxes left f f' s s' rr wr n (Err e, (Some command, (shape, rest)), cause, (same, ends)) k =
+    elim (refusal_status e s s' wr n ends) [ inl h ↦ absurd (never_usage f boxes left words command (subst (λ r. DecidesCommand f boxes left words command (Err r)) (two_is_usage e n h k) rest)) | inr h ↦ absurd (omega arith) ]

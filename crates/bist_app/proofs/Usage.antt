@@ -1,5 +1,5 @@
 -- No command's checks refuse the words.
-use Rattle.std.proofs.Common.{List, [], ◌∷◌, ℕ, Bool, Option, None, Result, Ok, Err, is_some, refl}
+use Rattle.std.proofs.Common.{List, [], ◌∷◌, ℕ, Bool, Option, Result, Ok, Err, is_some, refl}
 use Rattle.bist_host.specs.Files.{Files}
 use Rattle.march_core.specs.March.{MarchElement}
 use Rattle.array_sim.specs.declared.element_run.Miss.{Miss}
@@ -109,18 +109,18 @@ unfolding LeavesBench
 bench_leaves_never march d [] h = h
 bench_leaves_never march d (box ∷ boxes) h = h
 
-bench_never : (files : Option Files) (boxes : Boxes) (words : Words) → NeverUsage (DecidesBench files boxes words)
-bench_never files boxes words (Err e, read, is) =
-    input_march_never files words 1 (turned (InputMarch files words 1) (let x : Result Done Refusal = Err Refusal.Usage in x) e refl is read)
-bench_never files boxes words (Ok march, read, (Err e, given, is)) =
-    input_memory_never files words 2 (turned (InputMemory files words 2) (let x : Result Done Refusal = Err Refusal.Usage in x) e refl is given)
-bench_never files boxes words (Ok march, read, (Ok d, given, (Err e, fits, is))) =
-    length_never march d (turned (FitsLength march d) (let x : Result Done Refusal = Err Refusal.Usage in x) e refl is fits)
-bench_never files boxes words (Ok march, read, (Ok d, given, (Ok _, fits, (Err e, has, is)))) =
-    box_never boxes (turned (HasBox boxes) (let x : Result Done Refusal = Err Refusal.Usage in x) e refl is has)
-bench_never files boxes words (Ok march, read, (Ok d, given, (Ok _, fits, (Ok _, has, (Err e, room, is))))) =
-    room_never d boxes (turned (FitsRoom d boxes) (let x : Result Done Refusal = Err Refusal.Usage in x) e refl is room)
-bench_never files boxes words (Ok march, read, (Ok d, given, (Ok _, fits, (Ok _, has, (Ok _, room, leaves))))) = bench_leaves_never march d boxes leaves
+bench_never : (files : Option Files) (boxes left : Boxes) (words : Words) → NeverUsage (DecidesBench files boxes left words)
+bench_never files boxes left words (Err e, read, is) =
+    input_march_never files words 1 (turned (InputMarch files words 1) (let x : Result Done Refusal = Err Refusal.Usage in x) e refl is.0 read)
+bench_never files boxes left words (Ok march, read, (Err e, given, is)) =
+    input_memory_never files words 2 (turned (InputMemory files words 2) (let x : Result Done Refusal = Err Refusal.Usage in x) e refl is.0 given)
+bench_never files boxes left words (Ok march, read, (Ok d, given, (Err e, fits, is))) =
+    length_never march d (turned (FitsLength march d) (let x : Result Done Refusal = Err Refusal.Usage in x) e refl is.0 fits)
+bench_never files boxes left words (Ok march, read, (Ok d, given, (Ok _, fits, (Err e, has, is)))) =
+    box_never boxes (turned (HasBox boxes) (let x : Result Done Refusal = Err Refusal.Usage in x) e refl is.0 has)
+bench_never files boxes left words (Ok march, read, (Ok d, given, (Ok _, fits, (Ok _, has, (Err e, room, is))))) =
+    room_never d boxes (turned (FitsRoom d boxes) (let x : Result Done Refusal = Err Refusal.Usage in x) e refl is.0 room)
+bench_never files boxes left words (Ok march, read, (Ok d, given, (Ok _, fits, (Ok _, has, (Ok _, room, leaves))))) = bench_leaves_never march d boxes leaves.0
 
 ports_never : (d : Description) (mo : ModuleTree) → NeverUsage (HasPorts d mo)
 unfolding HasPorts
@@ -131,23 +131,23 @@ unfolding LeavesBenchFile
 file_leaves_never mo march d [] h = h
 file_leaves_never mo march d (box ∷ boxes) h = h
 
-file_never : (files : Option Files) (boxes : Boxes) (words : Words) → NeverUsage (DecidesBenchFile files boxes words)
-file_never files boxes words (Err e, read, is) =
-    input_module_never files words 1 (turned (InputModule files words 1) (let x : Result Done Refusal = Err Refusal.Usage in x) e refl is read)
-file_never files boxes words (Ok mo, read, (Err e, given, is)) =
-    input_march_never files words 2 (turned (InputMarch files words 2) (let x : Result Done Refusal = Err Refusal.Usage in x) e refl is given)
-file_never files boxes words (Ok mo, read, (Ok march, given, (Err e, described, is))) =
-    input_memory_never files words 3 (turned (InputMemory files words 3) (let x : Result Done Refusal = Err Refusal.Usage in x) e refl is described)
-file_never files boxes words (Ok mo, read, (Ok march, given, (Ok d, described, (Err e, fits, is)))) =
-    length_never march d (turned (FitsLength march d) (let x : Result Done Refusal = Err Refusal.Usage in x) e refl is fits)
-file_never files boxes words (Ok mo, read, (Ok march, given, (Ok d, described, (Ok _, fits, (Err e, ports, is))))) =
-    ports_never d mo (turned (HasPorts d mo) (let x : Result Done Refusal = Err Refusal.Usage in x) e refl is ports)
-file_never files boxes words (Ok mo, read, (Ok march, given, (Ok d, described, (Ok _, fits, (Ok _, ports, (Err e, has, is)))))) =
-    box_never boxes (turned (HasBox boxes) (let x : Result Done Refusal = Err Refusal.Usage in x) e refl is has)
-file_never files boxes words (Ok mo, read, (Ok march, given, (Ok d, described, (Ok _, fits, (Ok _, ports, (Ok _, has, (Err e, room, is))))))) =
-    room_never d boxes (turned (FitsRoom d boxes) (let x : Result Done Refusal = Err Refusal.Usage in x) e refl is room)
-file_never files boxes words (Ok mo, read, (Ok march, given, (Ok d, described, (Ok _, fits, (Ok _, ports, (Ok _, has, (Ok _, room, leaves))))))) =
-    file_leaves_never mo march d boxes leaves
+file_never : (files : Option Files) (boxes left : Boxes) (words : Words) → NeverUsage (DecidesBenchFile files boxes left words)
+file_never files boxes left words (Err e, read, is) =
+    input_module_never files words 1 (turned (InputModule files words 1) (let x : Result Done Refusal = Err Refusal.Usage in x) e refl is.0 read)
+file_never files boxes left words (Ok mo, read, (Err e, given, is)) =
+    input_march_never files words 2 (turned (InputMarch files words 2) (let x : Result Done Refusal = Err Refusal.Usage in x) e refl is.0 given)
+file_never files boxes left words (Ok mo, read, (Ok march, given, (Err e, described, is))) =
+    input_memory_never files words 3 (turned (InputMemory files words 3) (let x : Result Done Refusal = Err Refusal.Usage in x) e refl is.0 described)
+file_never files boxes left words (Ok mo, read, (Ok march, given, (Ok d, described, (Err e, fits, is)))) =
+    length_never march d (turned (FitsLength march d) (let x : Result Done Refusal = Err Refusal.Usage in x) e refl is.0 fits)
+file_never files boxes left words (Ok mo, read, (Ok march, given, (Ok d, described, (Ok _, fits, (Err e, ports, is))))) =
+    ports_never d mo (turned (HasPorts d mo) (let x : Result Done Refusal = Err Refusal.Usage in x) e refl is.0 ports)
+file_never files boxes left words (Ok mo, read, (Ok march, given, (Ok d, described, (Ok _, fits, (Ok _, ports, (Err e, has, is)))))) =
+    box_never boxes (turned (HasBox boxes) (let x : Result Done Refusal = Err Refusal.Usage in x) e refl is.0 has)
+file_never files boxes left words (Ok mo, read, (Ok march, given, (Ok d, described, (Ok _, fits, (Ok _, ports, (Ok _, has, (Err e, room, is))))))) =
+    room_never d boxes (turned (FitsRoom d boxes) (let x : Result Done Refusal = Err Refusal.Usage in x) e refl is.0 room)
+file_never files boxes left words (Ok mo, read, (Ok march, given, (Ok d, described, (Ok _, fits, (Ok _, ports, (Ok _, has, (Ok _, room, leaves))))))) =
+    file_leaves_never mo march d boxes leaves.0
 
 make_never : (number : ℕ) → NeverUsage (LeavesMake number)
 unfolding LeavesMake
@@ -162,25 +162,25 @@ unfolding LeavesFault
 fault_leaves_never march d planted [] h = h
 fault_leaves_never march d planted (box ∷ boxes) h = h
 
-fault_never : (files : Option Files) (boxes : Boxes) (words : Words) (shape : FaultShape) → NeverUsage (DecidesFault files boxes words shape)
-fault_never files boxes words shape (Err e, read, is) =
-    input_march_never files words 1 (turned (InputMarch files words 1) (let x : Result Done Refusal = Err Refusal.Usage in x) e refl is read)
-fault_never files boxes words shape (Ok march, read, (Err e, given, is)) =
-    input_memory_never files words 2 (turned (InputMemory files words 2) (let x : Result Done Refusal = Err Refusal.Usage in x) e refl is given)
-fault_never files boxes words shape (Ok march, read, (Ok d, given, (Err e, asked, is))) =
-    prim_never (word words 3) (turned (GivesPrim (word words 3)) (let x : Result Done Refusal = Err Refusal.Usage in x) e refl is asked)
-fault_never files boxes words shape (Ok march, read, (Ok d, given, (Ok prim, asked, (Err e, agrees, is)))) =
-    aggressor_never (is_some shape.aggressor) prim (turned (FitsAggressor (is_some shape.aggressor) prim) (let x : Result Done Refusal = Err Refusal.Usage in x) e refl is agrees)
-fault_never files boxes words shape (Ok march, read, (Ok d, given, (Ok prim, asked, (Ok _, agrees, (Err e, fits, is))))) =
-    length_never march d (turned (FitsLength march d) (let x : Result Done Refusal = Err Refusal.Usage in x) e refl is fits)
-fault_never files boxes words shape (Ok march, read, (Ok d, given, (Ok prim, asked, (Ok _, agrees, (Ok _, fits, (Err e, has, is)))))) =
-    box_never boxes (turned (HasBox boxes) (let x : Result Done Refusal = Err Refusal.Usage in x) e refl is has)
-fault_never files boxes words shape (Ok march, read, (Ok d, given, (Ok prim, asked, (Ok _, agrees, (Ok _, fits, (Ok _, has, (Err e, stands, is))))))) =
-    places_never d shape (turned (FitsPlaces d shape) (let x : Result Done Refusal = Err Refusal.Usage in x) e refl is stands)
-fault_never files boxes words shape (Ok march, read, (Ok d, given, (Ok prim, asked, (Ok _, agrees, (Ok _, fits, (Ok _, has, (Ok _, stands, (Err e, room, is)))))))) =
-    room_never d boxes (turned (FitsRoom d boxes) (let x : Result Done Refusal = Err Refusal.Usage in x) e refl is room)
-fault_never files boxes words shape (Ok march, read, (Ok d, given, (Ok prim, asked, (Ok _, agrees, (Ok _, fits, (Ok _, has, (Ok _, stands, (Ok _, room, leaves)))))))) =
-    fault_leaves_never march d (planted_of prim shape) boxes leaves
+fault_never : (files : Option Files) (boxes left : Boxes) (words : Words) (shape : FaultShape) → NeverUsage (DecidesFault files boxes left words shape)
+fault_never files boxes left words shape (Err e, read, is) =
+    input_march_never files words 1 (turned (InputMarch files words 1) (let x : Result Done Refusal = Err Refusal.Usage in x) e refl is.0 read)
+fault_never files boxes left words shape (Ok march, read, (Err e, given, is)) =
+    input_memory_never files words 2 (turned (InputMemory files words 2) (let x : Result Done Refusal = Err Refusal.Usage in x) e refl is.0 given)
+fault_never files boxes left words shape (Ok march, read, (Ok d, given, (Err e, asked, is))) =
+    prim_never (word words 3) (turned (GivesPrim (word words 3)) (let x : Result Done Refusal = Err Refusal.Usage in x) e refl is.0 asked)
+fault_never files boxes left words shape (Ok march, read, (Ok d, given, (Ok prim, asked, (Err e, agrees, is)))) =
+    aggressor_never (is_some shape.aggressor) prim (turned (FitsAggressor (is_some shape.aggressor) prim) (let x : Result Done Refusal = Err Refusal.Usage in x) e refl is.0 agrees)
+fault_never files boxes left words shape (Ok march, read, (Ok d, given, (Ok prim, asked, (Ok _, agrees, (Err e, fits, is))))) =
+    length_never march d (turned (FitsLength march d) (let x : Result Done Refusal = Err Refusal.Usage in x) e refl is.0 fits)
+fault_never files boxes left words shape (Ok march, read, (Ok d, given, (Ok prim, asked, (Ok _, agrees, (Ok _, fits, (Err e, has, is)))))) =
+    box_never boxes (turned (HasBox boxes) (let x : Result Done Refusal = Err Refusal.Usage in x) e refl is.0 has)
+fault_never files boxes left words shape (Ok march, read, (Ok d, given, (Ok prim, asked, (Ok _, agrees, (Ok _, fits, (Ok _, has, (Err e, stands, is))))))) =
+    places_never d shape (turned (FitsPlaces d shape) (let x : Result Done Refusal = Err Refusal.Usage in x) e refl is.0 stands)
+fault_never files boxes left words shape (Ok march, read, (Ok d, given, (Ok prim, asked, (Ok _, agrees, (Ok _, fits, (Ok _, has, (Ok _, stands, (Err e, room, is)))))))) =
+    room_never d boxes (turned (FitsRoom d boxes) (let x : Result Done Refusal = Err Refusal.Usage in x) e refl is.0 room)
+fault_never files boxes left words shape (Ok march, read, (Ok d, given, (Ok prim, asked, (Ok _, agrees, (Ok _, fits, (Ok _, has, (Ok _, stands, (Ok _, room, leaves)))))))) =
+    fault_leaves_never march d (planted_of prim shape) boxes leaves.0
 
 rooms_never : (d : Description) (boxes : Boxes) → NeverUsage (FitsRooms d boxes)
 unfolding FitsRooms
@@ -190,27 +190,27 @@ all_leaves_never : (march : List MarchElement) (d : Description) (boxes : Boxes)
 unfolding LeavesAll
 all_leaves_never march d boxes h = h
 
-bench_all_never : (files : Option Files) (boxes : Boxes) (words : Words) → NeverUsage (DecidesBenchAll files boxes words)
-bench_all_never files boxes words (Err e, read, is) =
-    input_march_never files words 1 (turned (InputMarch files words 1) (let x : Result Done Refusal = Err Refusal.Usage in x) e refl is read)
-bench_all_never files boxes words (Ok march, read, (Err e, given, is)) =
-    input_memory_never files words 2 (turned (InputMemory files words 2) (let x : Result Done Refusal = Err Refusal.Usage in x) e refl is given)
-bench_all_never files boxes words (Ok march, read, (Ok d, given, (Err e, fits, is))) =
-    length_never march d (turned (FitsLength march d) (let x : Result Done Refusal = Err Refusal.Usage in x) e refl is fits)
-bench_all_never files boxes words (Ok march, read, (Ok d, given, (Ok _, fits, (Err e, has, is)))) =
-    box_never boxes (turned (HasBox boxes) (let x : Result Done Refusal = Err Refusal.Usage in x) e refl is has)
-bench_all_never files boxes words (Ok march, read, (Ok d, given, (Ok _, fits, (Ok _, has, (Err e, room, is))))) =
-    rooms_never d boxes (turned (FitsRooms d boxes) (let x : Result Done Refusal = Err Refusal.Usage in x) e refl is room)
-bench_all_never files boxes words (Ok march, read, (Ok d, given, (Ok _, fits, (Ok _, has, (Ok _, room, leaves))))) =
-    all_leaves_never march d boxes leaves
+bench_all_never : (files : Option Files) (boxes left : Boxes) (words : Words) → NeverUsage (DecidesBenchAll files boxes left words)
+bench_all_never files boxes left words (Err e, read, is) =
+    input_march_never files words 1 (turned (InputMarch files words 1) (let x : Result Done Refusal = Err Refusal.Usage in x) e refl is.0 read)
+bench_all_never files boxes left words (Ok march, read, (Err e, given, is)) =
+    input_memory_never files words 2 (turned (InputMemory files words 2) (let x : Result Done Refusal = Err Refusal.Usage in x) e refl is.0 given)
+bench_all_never files boxes left words (Ok march, read, (Ok d, given, (Err e, fits, is))) =
+    length_never march d (turned (FitsLength march d) (let x : Result Done Refusal = Err Refusal.Usage in x) e refl is.0 fits)
+bench_all_never files boxes left words (Ok march, read, (Ok d, given, (Ok _, fits, (Err e, has, is)))) =
+    box_never boxes (turned (HasBox boxes) (let x : Result Done Refusal = Err Refusal.Usage in x) e refl is.0 has)
+bench_all_never files boxes left words (Ok march, read, (Ok d, given, (Ok _, fits, (Ok _, has, (Err e, room, is))))) =
+    rooms_never d boxes (turned (FitsRooms d boxes) (let x : Result Done Refusal = Err Refusal.Usage in x) e refl is.0 room)
+bench_all_never files boxes left words (Ok march, read, (Ok d, given, (Ok _, fits, (Ok _, has, (Ok _, room, leaves))))) =
+    all_leaves_never march d boxes leaves.0
 
-pub never_usage : (files : Option Files) (boxes : Boxes) (words : Words) (command : Command) → NeverUsage (DecidesCommand files boxes words command)
-never_usage files boxes words (Command.Sim shape) = sim_never files words shape
-never_usage files boxes words Command.Judge = judge_never files words
-never_usage files boxes words Command.Vectors = vectors_never files words
-never_usage files boxes words Command.Compile = compile_never files words
-never_usage files boxes words Command.Bench = bench_never files boxes words
-never_usage files boxes words Command.BenchFile = file_never files boxes words
-never_usage files boxes words (Command.Make number) = make_never number
-never_usage files boxes words (Command.BenchFault shape) = fault_never files boxes words shape
-never_usage files boxes words Command.BenchAll = bench_all_never files boxes words
+pub never_usage : (files : Option Files) (boxes left : Boxes) (words : Words) (command : Command) → NeverUsage (DecidesCommand files boxes left words command)
+never_usage files boxes left words (Command.Sim shape) = λ h. sim_never files words shape h.0
+never_usage files boxes left words Command.Judge = λ h. judge_never files words h.0
+never_usage files boxes left words Command.Vectors = λ h. vectors_never files words h.0
+never_usage files boxes left words Command.Compile = λ h. compile_never files words h.0
+never_usage files boxes left words Command.Bench = bench_never files boxes left words
+never_usage files boxes left words Command.BenchFile = file_never files boxes left words
+never_usage files boxes left words (Command.Make number) = λ h. make_never number h.0
+never_usage files boxes left words (Command.BenchFault shape) = fault_never files boxes left words shape
+never_usage files boxes left words Command.BenchAll = bench_all_never files boxes left words

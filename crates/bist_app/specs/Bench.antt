@@ -1,15 +1,12 @@
 -- The command `bench MARCH MEMORY`: the self-test module against the first box. Its shape, its checks in their order, and what it leaves.
-use Rattle.std.specs.Prelude.{◌≡◌, ◌≢◌, ◌+◌, ◌-◌, ◌*◌, ◌/◌, ◌%◌, ◌^◌, ◌<◌, ◌≤◌, ◌⊎◌, ◌++◌, ℕ, Bool, true, false, List, [], ◌∷◌, Option, Some, None, Result, Ok, Err, length, drop, codes, decimal, is_some, slice_get}
+use Rattle.std.specs.Prelude.{◌≡◌, ◌≢◌, ◌+◌, ◌/◌, ◌^◌, ◌<◌, ◌≤◌, ◌⊎◌, ◌++◌, ℕ, Bool, true, false, List, [], ◌∷◌, Option, Some, None, Result, Ok, Err, MatchResult, length, drop, codes, decimal, is_some}
 use Rattle.bist_host.specs.Files.{Files}
 use Rattle.bist_text.specs.Numbers.{hex_digits}
 use Rattle.march_core.specs.March.{MarchElement}
 use Rattle.memory_desc.specs.Descriptions.{Description}
-use Rattle.word_march.specs.declared.operations.PortOp.{PortOp}
-use Rattle.word_march.specs.Commands.{port_ops}
-use Rattle.word_march.specs.PortRule.{cycle_of}
 use Rattle.word_device.specs.declared.device.Planted.{Planted}
 use Rattle.word_device.specs.Ports.{Chip, shape_of, planted_chip}
-use Rattle.word_device.specs.Boxes.{Script, Tells, TellsChip, TellsScript, TellsNothing, Told, blank, after_fit, after_fill}
+use Rattle.word_device.specs.Boxes.{Tells, TellsChip, TellsScript, TellsNothing, Told, blank, after_fit, after_fill}
 use Rattle.word_device.specs.Runs.{run_word}
 use Rattle.bench.specs.declared.ending.Seen.{Seen}
 use Rattle.bench.specs.Endings.{IsFirstRead}
@@ -17,7 +14,6 @@ use Rattle.bench.specs.Laws.{done_at, script_word, IsWrongRead, IsSeenOf}
 use Rattle.bist_endings.specs.declared.ending.Refusal.{Refusal}
 use Rattle.bist_endings.specs.declared.ending.DeviceRefusal.{DeviceRefusal}
 use Rattle.bist_endings.specs.Ending.{Done}
-use Rattle.bist_endings.specs.Then.{Then}
 use Rattle.bist_endings.specs.Words.{Words, word, ArePlain}
 use Rattle.bist_inputs.specs.Inputs.{InputMarch}
 use Rattle.bist_inputs.specs.Memories.{InputMemory}
@@ -133,19 +129,23 @@ LeavesBench march d (box ∷ boxes) (Ok done) = IsSoundBenched march d box.tells
 LeavesBench march d (box ∷ boxes) (Err Refusal.NoMemory) = Unit {0}
 LeavesBench march d (box ∷ boxes) (Err other) = ⊥
 
--- the checks of `bench` in their order
-abbrev pub DecidesBench : Option Files → Boxes → Words → Result Done Refusal → Type 0
-DecidesBench files boxes words =
-    Then (InputMarch files words 1) (λ march.
-    Then (InputMemory files words 2) (λ d.
-    Then (FitsLength march d) (λ _.
-    Then (HasBox boxes) (λ _.
-    Then (FitsRoom d boxes) (λ _.
-    LeavesBench march d boxes)))))
-
 -- a box that was benched is gone, and the others stay in their order; where memory ran out it may be gone or not, and after any other
 -- refusal all are as before
 abbrev pub LeavesFirst : Boxes → Boxes → Result Done Refusal → Type 0
 LeavesFirst boxes left (Ok done) = left ≡ drop 1 boxes
 LeavesFirst boxes left (Err Refusal.NoMemory) = (left ≡ boxes) ⊎ (left ≡ drop 1 boxes)
 LeavesFirst boxes left (Err other) = left ≡ boxes
+
+-- a check before any box is called, and the rest where it gives a value: where it refuses, all boxes are as before
+abbrev pub Before : {A : Type 0} → Boxes → Boxes → (Result A Refusal → Type 0) → (A → Result Done Refusal → Type 0) → Result Done Refusal → Type 0
+Before {A} boxes left first rest result = (r : Result A Refusal) × first r × MatchResult r (λ a. rest a result) (λ e. (result ≡ Err e) × (left ≡ boxes))
+
+-- the checks of `bench` in their order, and the run
+abbrev pub DecidesBench : Option Files → Boxes → Boxes → Words → Result Done Refusal → Type 0
+DecidesBench files boxes left words =
+    Before boxes left (InputMarch files words 1) (λ march.
+    Before boxes left (InputMemory files words 2) (λ d.
+    Before boxes left (FitsLength march d) (λ _.
+    Before boxes left (HasBox boxes) (λ _.
+    Before boxes left (FitsRoom d boxes) (λ _ outcome.
+    LeavesBench march d boxes outcome × LeavesFirst boxes left outcome)))))

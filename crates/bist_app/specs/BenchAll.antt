@@ -10,12 +10,11 @@ use Rattle.bench.specs.declared.ending.Seen.{Seen}
 use Rattle.bist_endings.specs.declared.ending.Refusal.{Refusal}
 use Rattle.bist_endings.specs.declared.ending.DeviceRefusal.{DeviceRefusal}
 use Rattle.bist_endings.specs.Ending.{Done}
-use Rattle.bist_endings.specs.Then.{Then}
 use Rattle.bist_endings.specs.Words.{Words, word, ArePlain}
 use Rattle.bist_inputs.specs.Inputs.{InputMarch}
 use Rattle.bist_inputs.specs.Memories.{InputMemory}
 use Rattle.bist_app.specs.Vectors.{FitsLength}
-use Rattle.bist_app.specs.Bench.{Boxes, HasBox, IsSeen}
+use Rattle.bist_app.specs.Bench.{Boxes, HasBox, IsSeen, Before}
 
 -- the words have the shape; the files have two names
 pub record IsBenchAllShape (words : Words) : Type 0 where
@@ -82,16 +81,6 @@ LeavesAll march d boxes (Ok done) = IsAllBenched march d boxes done
 LeavesAll march d boxes (Err Refusal.NoMemory) = Unit {0}
 LeavesAll march d boxes (Err other) = ⊥
 
--- the checks of `benchall` in their order
-abbrev pub DecidesBenchAll : Option Files → Boxes → Words → Result Done Refusal → Type 0
-DecidesBenchAll files boxes words =
-    Then (InputMarch files words 1) (λ march.
-    Then (InputMemory files words 2) (λ d.
-    Then (FitsLength march d) (λ _.
-    Then (HasBox boxes) (λ _.
-    Then (FitsRooms d boxes) (λ _.
-    LeavesAll march d boxes)))))
-
 -- some of the boxes from the first on are gone, possibly none, and the others stay in their order
 abbrev pub AreGone : Boxes → Boxes → Type 0
 AreGone boxes left = (gone : ℕ) × (left ≡ drop gone boxes)
@@ -101,3 +90,13 @@ abbrev pub LeavesNone : Boxes → Boxes → Result Done Refusal → Type 0
 LeavesNone boxes left (Ok done) = left ≡ []
 LeavesNone boxes left (Err Refusal.NoMemory) = AreGone boxes left
 LeavesNone boxes left (Err other) = left ≡ boxes
+
+-- the checks of `benchall` in their order, and the runs
+abbrev pub DecidesBenchAll : Option Files → Boxes → Boxes → Words → Result Done Refusal → Type 0
+DecidesBenchAll files boxes left words =
+    Before boxes left (InputMarch files words 1) (λ march.
+    Before boxes left (InputMemory files words 2) (λ d.
+    Before boxes left (FitsLength march d) (λ _.
+    Before boxes left (HasBox boxes) (λ _.
+    Before boxes left (FitsRooms d boxes) (λ _ outcome.
+    LeavesAll march d boxes outcome × LeavesNone boxes left outcome)))))

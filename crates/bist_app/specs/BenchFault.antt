@@ -13,7 +13,6 @@ use Rattle.word_device.specs.Boxes.{Tells, TellsChip, after_fit, after_plant, af
 use Rattle.bist_endings.specs.declared.ending.Refusal.{Refusal}
 use Rattle.bist_endings.specs.declared.ending.DeviceRefusal.{DeviceRefusal}
 use Rattle.bist_endings.specs.Ending.{Done}
-use Rattle.bist_endings.specs.Then.{Then}
 use Rattle.bist_endings.specs.Words.{Words, word, ArePlain}
 use Rattle.bist_inputs.specs.Inputs.{InputMarch, GivesPrim}
 use Rattle.bist_inputs.specs.Memories.{InputMemory}
@@ -21,7 +20,7 @@ use Rattle.bist_app.specs.declared.benchfault_command.NamedPlace.{NamedPlace}
 use Rattle.bist_app.specs.declared.benchfault_command.FaultShape.{FaultShape}
 use Rattle.bist_app.specs.Sim.{FitsAggressor}
 use Rattle.bist_app.specs.Vectors.{FitsLength}
-use Rattle.bist_app.specs.Bench.{Boxes, HasBox, FitsRoom, IsBenched}
+use Rattle.bist_app.specs.Bench.{Boxes, HasBox, FitsRoom, IsBenched, LeavesFirst, Before}
 
 -- ---- the words
 
@@ -91,20 +90,20 @@ LeavesFault march d planted (box ∷ boxes) (Ok done) = IsFaultBenched march d p
 LeavesFault march d planted (box ∷ boxes) (Err Refusal.NoMemory) = Unit {0}
 LeavesFault march d planted (box ∷ boxes) (Err other) = ⊥
 
--- the checks behind the inputs, in their order
-abbrev pub TestsFault : List MarchElement → Description → Primitive → FaultShape → Boxes → Result Done Refusal → Type 0
-TestsFault march d prim shape boxes =
-    Then (FitsAggressor (is_some shape.aggressor) prim) (λ _.
-    Then (FitsLength march d) (λ _.
-    Then (HasBox boxes) (λ _.
-    Then (FitsPlaces d shape) (λ _.
-    Then (FitsRoom d boxes) (λ _.
-    LeavesFault march d (planted_of prim shape) boxes)))))
+-- the checks behind the inputs, in their order, and the run
+abbrev pub TestsFault : List MarchElement → Description → Primitive → FaultShape → Boxes → Boxes → Result Done Refusal → Type 0
+TestsFault march d prim shape boxes left =
+    Before boxes left (FitsAggressor (is_some shape.aggressor) prim) (λ _.
+    Before boxes left (FitsLength march d) (λ _.
+    Before boxes left (HasBox boxes) (λ _.
+    Before boxes left (FitsPlaces d shape) (λ _.
+    Before boxes left (FitsRoom d boxes) (λ _ outcome.
+    LeavesFault march d (planted_of prim shape) boxes outcome × LeavesFirst boxes left outcome)))))
 
 -- the checks of `benchfault` in their order
-abbrev pub DecidesFault : Option Files → Boxes → Words → FaultShape → Result Done Refusal → Type 0
-DecidesFault files boxes words shape =
-    Then (InputMarch files words 1) (λ march.
-    Then (InputMemory files words 2) (λ d.
-    Then (GivesPrim (word words 3)) (λ prim.
-    TestsFault march d prim shape boxes)))
+abbrev pub DecidesFault : Option Files → Boxes → Boxes → Words → FaultShape → Result Done Refusal → Type 0
+DecidesFault files boxes left words shape =
+    Before boxes left (InputMarch files words 1) (λ march.
+    Before boxes left (InputMemory files words 2) (λ d.
+    Before boxes left (GivesPrim (word words 3)) (λ prim.
+    TestsFault march d prim shape boxes left)))

@@ -13,13 +13,12 @@ use Rattle.bench.specs.Endings.{Runs}
 use Rattle.bist_endings.specs.declared.ending.Refusal.{Refusal}
 use Rattle.bist_endings.specs.declared.ending.VerilogRefusal.{VerilogRefusal}
 use Rattle.bist_endings.specs.Ending.{Done}
-use Rattle.bist_endings.specs.Then.{Then}
 use Rattle.bist_endings.specs.Words.{Words, word, ArePlain}
 use Rattle.bist_inputs.specs.Inputs.{InputMarch}
 use Rattle.bist_inputs.specs.Memories.{InputMemory}
 use Rattle.bist_inputs.specs.Designs.{InputModule}
 use Rattle.bist_app.specs.Vectors.{FitsLength}
-use Rattle.bist_app.specs.Bench.{Boxes, HasBox, FitsRoom, ready, benched_done}
+use Rattle.bist_app.specs.Bench.{Boxes, HasBox, FitsRoom, ready, benched_done, LeavesFirst, Before}
 
 -- the words have the shape; no two files have one name
 pub record IsBenchFileShape (words : Words) : Type 0 where
@@ -57,22 +56,22 @@ LeavesBenchFile mo march d (box ∷ boxes) (Ok done) = IsFileRun mo march d (rea
 LeavesBenchFile mo march d (box ∷ boxes) (Err Refusal.NoMemory) = Unit {0}
 LeavesBenchFile mo march d (box ∷ boxes) (Err other) = ⊥
 
--- the checks behind the inputs, in their order
-abbrev pub TestsFile : ModuleTree → List MarchElement → Description → Boxes → Result Done Refusal → Type 0
-TestsFile mo march d boxes =
-    Then (FitsLength march d) (λ _.
-    Then (HasPorts d mo) (λ _.
-    Then (HasBox boxes) (λ _.
-    Then (FitsRoom d boxes) (λ _.
-    LeavesBenchFile mo march d boxes))))
+-- the checks behind the inputs, in their order, and the run
+abbrev pub TestsFile : ModuleTree → List MarchElement → Description → Boxes → Boxes → Result Done Refusal → Type 0
+TestsFile mo march d boxes left =
+    Before boxes left (FitsLength march d) (λ _.
+    Before boxes left (HasPorts d mo) (λ _.
+    Before boxes left (HasBox boxes) (λ _.
+    Before boxes left (FitsRoom d boxes) (λ _ outcome.
+    LeavesBenchFile mo march d boxes outcome × LeavesFirst boxes left outcome))))
 
 -- the other inputs behind the module, and these checks
-abbrev pub DecidesFileRun : Option Files → Boxes → Words → ModuleTree → Result Done Refusal → Type 0
-DecidesFileRun files boxes words mo =
-    Then (InputMarch files words 2) (λ march.
-    Then (InputMemory files words 3) (λ d.
-    TestsFile mo march d boxes))
+abbrev pub DecidesFileRun : Option Files → Boxes → Boxes → Words → ModuleTree → Result Done Refusal → Type 0
+DecidesFileRun files boxes left words mo =
+    Before boxes left (InputMarch files words 2) (λ march.
+    Before boxes left (InputMemory files words 3) (λ d.
+    TestsFile mo march d boxes left))
 
 -- the checks of `benchfile` in their order
-abbrev pub DecidesBenchFile : Option Files → Boxes → Words → Result Done Refusal → Type 0
-DecidesBenchFile files boxes words = Then (InputModule files words 1) (λ mo. DecidesFileRun files boxes words mo)
+abbrev pub DecidesBenchFile : Option Files → Boxes → Boxes → Words → Result Done Refusal → Type 0
+DecidesBenchFile files boxes left words = Before boxes left (InputModule files words 1) (λ mo. DecidesFileRun files boxes left words mo)

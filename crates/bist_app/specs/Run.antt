@@ -12,10 +12,10 @@ use Rattle.bist_app.specs.Judge.{IsJudgeShape, DecidesJudge}
 use Rattle.bist_app.specs.Vectors.{IsVectorsShape, DecidesVectors}
 use Rattle.bist_app.specs.Compile.{IsCompileShape, DecidesCompile}
 use Rattle.bist_app.specs.Make.{IsMakeShape, LeavesMake}
-use Rattle.bist_app.specs.Bench.{Boxes, IsBenchShape, DecidesBench, LeavesFirst}
+use Rattle.bist_app.specs.Bench.{Boxes, IsBenchShape, DecidesBench}
 use Rattle.bist_app.specs.BenchFile.{IsBenchFileShape, DecidesBenchFile}
 use Rattle.bist_app.specs.BenchFault.{IsFaultShape, DecidesFault}
-use Rattle.bist_app.specs.BenchAll.{IsBenchAllShape, DecidesBenchAll, LeavesNone}
+use Rattle.bist_app.specs.BenchAll.{IsBenchAllShape, DecidesBenchAll}
 
 -- the words have the shape of this command
 abbrev pub HasShape : Words → Command → Type 0
@@ -33,36 +33,24 @@ HasShape words Command.BenchAll = IsBenchAllShape words
 abbrev pub HasNoShape : Words → Type 0
 HasNoShape words = (command : Command) → HasShape words command → ⊥
 
--- the checks of this command, and what it leaves of files and lines
-abbrev pub DecidesCommand : Option Files → Boxes → Words → Command → Result Done Refusal → Type 0
-DecidesCommand files boxes words (Command.Sim shape) outcome = DecidesSim files words shape outcome
-DecidesCommand files boxes words Command.Judge outcome = DecidesJudge files words outcome
-DecidesCommand files boxes words Command.Vectors outcome = DecidesVectors files words outcome
-DecidesCommand files boxes words Command.Compile outcome = DecidesCompile files words outcome
-DecidesCommand files boxes words Command.Bench outcome = DecidesBench files boxes words outcome
-DecidesCommand files boxes words Command.BenchFile outcome = DecidesBenchFile files boxes words outcome
-DecidesCommand files boxes words (Command.Make number) outcome = LeavesMake number outcome
-DecidesCommand files boxes words (Command.BenchFault shape) outcome = DecidesFault files boxes words shape outcome
-DecidesCommand files boxes words Command.BenchAll outcome = DecidesBenchAll files boxes words outcome
-
--- what it leaves of the boxes
-abbrev pub LeavesBoxes : Command → Boxes → Boxes → Result Done Refusal → Type 0
-LeavesBoxes (Command.Sim shape) boxes left outcome = left ≡ boxes
-LeavesBoxes Command.Judge boxes left outcome = left ≡ boxes
-LeavesBoxes Command.Vectors boxes left outcome = left ≡ boxes
-LeavesBoxes Command.Compile boxes left outcome = left ≡ boxes
-LeavesBoxes Command.Bench boxes left outcome = LeavesFirst boxes left outcome
-LeavesBoxes Command.BenchFile boxes left outcome = LeavesFirst boxes left outcome
-LeavesBoxes (Command.Make number) boxes left outcome = left ≡ boxes
-LeavesBoxes (Command.BenchFault shape) boxes left outcome = LeavesFirst boxes left outcome
-LeavesBoxes Command.BenchAll boxes left outcome = LeavesNone boxes left outcome
+-- the checks of this command, and what it leaves of files, lines and boxes
+abbrev pub DecidesCommand : Option Files → Boxes → Boxes → Words → Command → Result Done Refusal → Type 0
+DecidesCommand files boxes left words (Command.Sim shape) outcome = DecidesSim files words shape outcome × (left ≡ boxes)
+DecidesCommand files boxes left words Command.Judge outcome = DecidesJudge files words outcome × (left ≡ boxes)
+DecidesCommand files boxes left words Command.Vectors outcome = DecidesVectors files words outcome × (left ≡ boxes)
+DecidesCommand files boxes left words Command.Compile outcome = DecidesCompile files words outcome × (left ≡ boxes)
+DecidesCommand files boxes left words Command.Bench outcome = DecidesBench files boxes left words outcome
+DecidesCommand files boxes left words Command.BenchFile outcome = DecidesBenchFile files boxes left words outcome
+DecidesCommand files boxes left words (Command.Make number) outcome = LeavesMake number outcome × (left ≡ boxes)
+DecidesCommand files boxes left words (Command.BenchFault shape) outcome = DecidesFault files boxes left words shape outcome
+DecidesCommand files boxes left words Command.BenchAll outcome = DecidesBenchAll files boxes left words outcome
 
 -- the check of the words, and then the command's
 abbrev pub Decides : Option Files → Boxes → Boxes → Words → Result Done Refusal → Type 0
 Decides files boxes left words outcome =
     (command : Option Command) × MatchOption command
     (HasNoShape words × (outcome ≡ Err Refusal.Usage) × (left ≡ boxes))
-    (λ command. HasShape words command × DecidesCommand files boxes words command outcome × LeavesBoxes command boxes left outcome)
+    (λ command. HasShape words command × DecidesCommand files boxes left words command outcome)
 
 -- what a run answers and leaves
 abbrev pub Runs : Words → Boxes → Boxes → Option Files → Option Files → Option (List ℕ) → Option (List ℕ) → Type 0 → Type 0 → ℕ → Type 0

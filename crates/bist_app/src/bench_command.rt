@@ -32,7 +32,7 @@ pub fn is_bench(words: &[&str]) -> bool
 }
 
 /// The plan of the run, or want of memory.
-#[tactic(auto, using(crate::proofs::Benched::benched, crate::proofs::Benched::unchanged), unfolding(crate::specs::Bench::LeavesBench))]
+#[tactic(auto, using(crate::proofs::Benched::benched), unfolding(crate::specs::Bench::LeavesBench))]
 fn plan_bench(
     alloc: Global,
     march: &March,
@@ -67,8 +67,7 @@ pub fn decide_bench<H: Host>(
     ensures writes { H.write_faults host.new ≡ H.write_faults host.old }
     ensures reads { H.read_faults host.old ≤ H.read_faults host.new }
     ensures outputs { IfOk result (λ plan. NamesWords words.now (done_of plan).outputs) }
-    ensures answer { DecidesBench (H.files host.old) (map (λ b. told (room_of b) (shape_of b) (tells b)) devices.old.items) words.now (plain result) }
-    ensures left { LeavesFirst (map (λ b. told (room_of b) (shape_of b) (tells b)) devices.old.items) (map (λ b. told (room_of b) (shape_of b) (tells b)) devices.new.items) (plain result) }
+    ensures answer { DecidesBench (H.files host.old) (map (λ b. told (room_of b) (shape_of b) (tells b)) devices.old.items) (map (λ b. told (room_of b) (shape_of b) (tells b)) devices.new.items) words.now (plain result) }
     ensures cause { HasReadCause (H.files host.old) (Rose (H.read_faults host.old) (H.read_faults host.new)) result }
 {
     let march = read_march_input(host, words, 1)?;

@@ -63,7 +63,7 @@ fn fit_rooms(devices: &[Box<dyn Device>], memory: &Memory) -> Result<(), Refusal
 }
 
 /// The plan of the runs, or want of memory.
-#[tactic(auto, using(crate::proofs::AllBenched::none_unchanged), unfolding(crate::specs::BenchAll::LeavesAll))]
+#[tactic(auto, unfolding(crate::specs::BenchAll::LeavesAll))]
 fn plan_all(
     alloc: Global,
     march: &March,
@@ -84,7 +84,7 @@ fn plan_all(
 }
 
 /// Runs the self-test of a memory by a march against each box.
-#[tactic(auto, using(crate::proofs::Causes::own_cause, crate::proofs::AllBenched::none_unchanged))]
+#[tactic(auto, using(crate::proofs::Causes::own_cause))]
 pub fn decide_bench_all<H: Host>(
     alloc: Global,
     words: &[&str],
@@ -97,8 +97,7 @@ pub fn decide_bench_all<H: Host>(
     ensures writes { H.write_faults host.new ≡ H.write_faults host.old }
     ensures reads { H.read_faults host.old ≤ H.read_faults host.new }
     ensures outputs { IfOk result (λ plan. NamesWords words.now (done_of plan).outputs) }
-    ensures answer { DecidesBenchAll (H.files host.old) (map (λ b. told (room_of b) (shape_of b) (tells b)) devices.old.items) words.now (plain result) }
-    ensures left { LeavesNone (map (λ b. told (room_of b) (shape_of b) (tells b)) devices.old.items) (map (λ b. told (room_of b) (shape_of b) (tells b)) devices.new.items) (plain result) }
+    ensures answer { DecidesBenchAll (H.files host.old) (map (λ b. told (room_of b) (shape_of b) (tells b)) devices.old.items) (map (λ b. told (room_of b) (shape_of b) (tells b)) devices.new.items) words.now (plain result) }
     ensures cause { HasReadCause (H.files host.old) (Rose (H.read_faults host.old) (H.read_faults host.new)) result }
 {
     let march = read_march_input(host, words, 1)?;

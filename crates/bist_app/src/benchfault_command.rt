@@ -144,7 +144,7 @@ fn planted_for(prim: &Prim, shape: FaultShape, memory: &Memory) -> Planted
 }
 
 /// The plan of the run, or want of memory.
-#[tactic(auto, using(crate::proofs::Faulted::fault_benched, crate::proofs::Benched::unchanged), unfolding(crate::specs::BenchFault::LeavesFault))]
+#[tactic(auto, using(crate::proofs::Faulted::fault_benched), unfolding(crate::specs::BenchFault::LeavesFault))]
 fn plan_fault(
     alloc: Global,
     march: &March,
@@ -170,7 +170,6 @@ fn plan_fault(
 }
 
 /// The checks behind the inputs, and the run.
-#[tactic(auto, using(crate::proofs::Benched::unchanged))]
 fn test_fault(
     alloc: Global,
     march: &March,
@@ -180,8 +179,7 @@ fn test_fault(
     devices: &mut Vec<Box<dyn Device>>,
 ) -> Result<Plan, Refusal>
     ensures own { IfErr result IsOwnRefusal }
-    ensures answer { TestsFault march.now memory.now prim.now shape (map (λ b. told (room_of b) (shape_of b) (tells b)) devices.old.items) (plain result) }
-    ensures left { LeavesFirst (map (λ b. told (room_of b) (shape_of b) (tells b)) devices.old.items) (map (λ b. told (room_of b) (shape_of b) (tells b)) devices.new.items) (plain result) }
+    ensures answer { TestsFault march.now memory.now prim.now shape (map (λ b. told (room_of b) (shape_of b) (tells b)) devices.old.items) (map (λ b. told (room_of b) (shape_of b) (tells b)) devices.new.items) (plain result) }
     ensures outputs { IfOk result (λ plan. (done_of plan).outputs ≡ []) }
 {
     fit_aggressor(shape.aggressor.is_some(), prim)?;
@@ -194,7 +192,7 @@ fn test_fault(
 }
 
 /// Runs the self-test of a memory by a march against the first box, in which an instance of a primitive is planted.
-#[tactic(auto, using(crate::proofs::Causes::own_cause, crate::proofs::Benched::unchanged))]
+#[tactic(auto, using(crate::proofs::Causes::own_cause))]
 pub fn decide_fault<H: Host>(
     alloc: Global,
     words: &[&str],
@@ -208,8 +206,7 @@ pub fn decide_fault<H: Host>(
     ensures writes { H.write_faults host.new ≡ H.write_faults host.old }
     ensures reads { H.read_faults host.old ≤ H.read_faults host.new }
     ensures outputs { IfOk result (λ plan. NamesWords words.now (done_of plan).outputs) }
-    ensures answer { DecidesFault (H.files host.old) (map (λ b. told (room_of b) (shape_of b) (tells b)) devices.old.items) words.now shape (plain result) }
-    ensures left { LeavesFirst (map (λ b. told (room_of b) (shape_of b) (tells b)) devices.old.items) (map (λ b. told (room_of b) (shape_of b) (tells b)) devices.new.items) (plain result) }
+    ensures answer { DecidesFault (H.files host.old) (map (λ b. told (room_of b) (shape_of b) (tells b)) devices.old.items) (map (λ b. told (room_of b) (shape_of b) (tells b)) devices.new.items) words.now shape (plain result) }
     ensures cause { HasReadCause (H.files host.old) (Rose (H.read_faults host.old) (H.read_faults host.new)) result }
 {
     let march = read_march_input(host, words, 1)?;

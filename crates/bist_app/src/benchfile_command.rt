@@ -106,7 +106,7 @@ fn run_first(
 }
 
 /// The plan of the run, or want of memory.
-#[tactic(auto, using(crate::proofs::BenchedFile::benched_file, crate::proofs::Benched::unchanged), unfolding(crate::specs::BenchFile::LeavesBenchFile))]
+#[tactic(auto, using(crate::proofs::BenchedFile::benched_file), unfolding(crate::specs::BenchFile::LeavesBenchFile))]
 fn plan_benchfile(
     alloc: Global,
     design: &mut Design,
@@ -131,7 +131,6 @@ fn plan_benchfile(
 }
 
 /// The checks behind the inputs, and the run.
-#[tactic(auto, using(crate::proofs::Benched::unchanged))]
 fn test_design(
     alloc: Global,
     design: &mut Design,
@@ -141,8 +140,7 @@ fn test_design(
 ) -> Result<Plan, Refusal>
     requires zero { design.old.registers ≡ zero_registers design.old.tree }
     ensures own { IfErr result IsOwnRefusal }
-    ensures answer { TestsFile design.old.tree march.now memory.now (map (λ b. told (room_of b) (shape_of b) (tells b)) devices.old.items) (plain result) }
-    ensures left { LeavesFirst (map (λ b. told (room_of b) (shape_of b) (tells b)) devices.old.items) (map (λ b. told (room_of b) (shape_of b) (tells b)) devices.new.items) (plain result) }
+    ensures answer { TestsFile design.old.tree march.now memory.now (map (λ b. told (room_of b) (shape_of b) (tells b)) devices.old.items) (map (λ b. told (room_of b) (shape_of b) (tells b)) devices.new.items) (plain result) }
     ensures outputs { IfOk result (λ plan. (done_of plan).outputs ≡ []) }
 {
     fit_length(march, memory)?;
@@ -153,7 +151,7 @@ fn test_design(
 }
 
 /// Decides the rest behind the module.
-#[tactic(auto, using(crate::proofs::Causes::own_cause, crate::proofs::Benched::unchanged))]
+#[tactic(auto, using(crate::proofs::Causes::own_cause))]
 fn decide_design<H: Host>(
     alloc: Global,
     words: &[&str],
@@ -168,8 +166,7 @@ fn decide_design<H: Host>(
     ensures writes { H.write_faults host.new ≡ H.write_faults host.old }
     ensures reads { H.read_faults host.old ≤ H.read_faults host.new }
     ensures outputs { IfOk result (λ plan. NamesWords words.now (done_of plan).outputs) }
-    ensures answer { DecidesFileRun (H.files host.old) (map (λ b. told (room_of b) (shape_of b) (tells b)) devices.old.items) words.now design.old.tree (plain result) }
-    ensures left { LeavesFirst (map (λ b. told (room_of b) (shape_of b) (tells b)) devices.old.items) (map (λ b. told (room_of b) (shape_of b) (tells b)) devices.new.items) (plain result) }
+    ensures answer { DecidesFileRun (H.files host.old) (map (λ b. told (room_of b) (shape_of b) (tells b)) devices.old.items) (map (λ b. told (room_of b) (shape_of b) (tells b)) devices.new.items) words.now design.old.tree (plain result) }
     ensures cause { HasReadCause (H.files host.old) (Rose (H.read_faults host.old) (H.read_faults host.new)) result }
 {
     let march = read_march_input(host, words, 2)?;
@@ -190,8 +187,7 @@ pub fn decide_benchfile<H: Host>(
     ensures writes { H.write_faults host.new ≡ H.write_faults host.old }
     ensures reads { H.read_faults host.old ≤ H.read_faults host.new }
     ensures outputs { IfOk result (λ plan. NamesWords words.now (done_of plan).outputs) }
-    ensures answer { DecidesBenchFile (H.files host.old) (map (λ b. told (room_of b) (shape_of b) (tells b)) devices.old.items) words.now (plain result) }
-    ensures left { LeavesFirst (map (λ b. told (room_of b) (shape_of b) (tells b)) devices.old.items) (map (λ b. told (room_of b) (shape_of b) (tells b)) devices.new.items) (plain result) }
+    ensures answer { DecidesBenchFile (H.files host.old) (map (λ b. told (room_of b) (shape_of b) (tells b)) devices.old.items) (map (λ b. told (room_of b) (shape_of b) (tells b)) devices.new.items) words.now (plain result) }
     ensures cause { HasReadCause (H.files host.old) (Rose (H.read_faults host.old) (H.read_faults host.new)) result }
 {
     let mut design = read_design_input(alloc, host, words, 1)?;
