@@ -1,13 +1,14 @@
 //! Worked examples of the commands that clock a module against boxes.
 
-use crate::compile_rows::{COMPILE, SIXTEEN, with_inputs};
+use crate::compile_rows::{COMPILE, FIVE, SIXTEEN, with_inputs};
 use crate::rows::{MARCH_C, MARCH_SS, RETENTION, run_alone};
 use bist_app::run;
 use bist_bits::NoMemory;
 use bist_host::MemHost;
+use memory_desc::read_memory;
 use std::alloc::{AllocError, Global};
 use std::test::Fail;
-use word_device::{ArrayDevice, ConstDevice, CountDevice, Device, NoFitDevice};
+use word_device::{ArrayDevice, ConstDevice, CountDevice, Device, NoFitDevice, PortCmd, shape_of};
 
 /// What answers behind the port.
 #[derive(Clone, Copy)]
@@ -39,11 +40,15 @@ const EIGHT: &[u8] = b"memory 1\nname buf8\nwords 8\nbits 8\n";
 
 const INVERTED: &[u8] = b"memory 2\nname buf8\nwords 8\nbits 8\nlatency 3\npolarity ff\n";
 
+const SLOW_EIGHT: &[u8] = b"memory 2\nname buf8\nwords 8\nbits 8\nlatency 3\n";
+
 const SLOW: &[u8] = b"memory 2\nname buf0\nwords 16\nbits 1\nlatency 3\n";
 
 const LARGE: &[u8] = b"memory 1\nname large_one\nwords 65536\nbits 64\n";
 
 const RETAINING: &[u8] = b"memory 2\nname buf0\nwords 16\nbits 1\npause 4\n";
+
+const TWO_RETAINING: &[u8] = b"memory 2\nname two\nwords 2\nbits 1\npause 5\n";
 
 const TWO: &[u8] = b"memory 1\nname buf0\nwords 2\nbits 1\n";
 
@@ -57,7 +62,7 @@ endmodule
 
 const BENCH: &[&str] = &["bench", "m", "d"];
 
-const BENCH_ROWS: [Row; 12] = [
+const BENCH_ROWS: [Row; 13] = [
     Row {
         words: BENCH,
         march: MARCH_C,
@@ -166,9 +171,18 @@ const BENCH_ROWS: [Row; 12] = [
         status: 12,
         left: 1,
     },
+    Row {
+        words: BENCH,
+        march: MARCH_C,
+        memory: FIVE,
+        boxes: &[(Sort::Sound, 65_536)],
+        said: b"fail 0 done 52\n",
+        status: 0,
+        left: 0,
+    },
 ];
 
-const FAULT_ROWS: [Row; 14] = [
+const FAULT_ROWS: [Row; 16] = [
     Row {
         words: &["benchfault", "m", "d", "<0w0/1/->", "none", "3.0"],
         march: MARCH_C,
@@ -294,6 +308,24 @@ const FAULT_ROWS: [Row; 14] = [
         said: b"usage\n",
         status: 2,
         left: 1,
+    },
+    Row {
+        words: &["benchfault", "m", "d", "<0w1;0/1/->", "6.3", "1.5"],
+        march: MARCH_C,
+        memory: SLOW_EIGHT,
+        boxes: &[(Sort::Sound, 65_536)],
+        said: b"fail 1 done 324 cycle 56 expected 00 returned 20\n",
+        status: 1,
+        left: 0,
+    },
+    Row {
+        words: &["benchfault", "m", "d", "<0t/1/->", "none", "1.0"],
+        march: RETENTION,
+        memory: TWO_RETAINING,
+        boxes: &[(Sort::Sound, 65_536)],
+        said: b"fail 1 done 11 cycle 10 expected 0 returned 1\n",
+        status: 1,
+        left: 0,
     },
 ];
 
@@ -546,5 +578,23 @@ fn a_written_module(rt: HostRuntime) -> Result<(), Fail> {
         );
         assert_eq!(rt; second.said(), said);
     }
+    Ok(())
+}
+
+#[test]
+fn the_words_of_a_number(rt: HostRuntime) -> Result<(), Fail> {
+    let memory = read_memory(b"memory 1\nname wide\nwords 2\nbits 64\n")?;
+    let mut device = ArrayDevice::new(rt.alloc(), 2);
+    device.fit(&shape_of(&memory))?;
+    device.fill(0x1_0000_0001);
+    let first = PortCmd {
+        en: true,
+        we: false,
+        addr: 0,
+        wdata: 0,
+    };
+    assert_eq!(rt; device.cycle(&first), 0x1_0000_0000);
+    let second = PortCmd { addr: 1, ..first };
+    assert_eq!(rt; device.cycle(&second), 0x3_0000_0000);
     Ok(())
 }

@@ -43,7 +43,7 @@ fn a_compilation(rt: HostRuntime) -> Result<(), Fail> {
 }
 
 /// A memory whose number of words is no power of two, and the report's line on it.
-const FIVE: &[u8] = b"memory 1\nname buf0\nwords 5\nbits 1\n";
+pub const FIVE: &[u8] = b"memory 1\nname buf0\nwords 5\nbits 1\n";
 
 const FIVE_REPORT: &[u8] = b"march {any(w0);up(r0,w1);up(r1,w0);down(r0,w1);down(r1,w0);any(r0)}
 memory buf0 words 5 bits 1 backgrounds 1 commands 50

@@ -177,7 +177,7 @@ const SIM_ROWS: [Row; 20] = [
     },
 ];
 
-const OTHER_ROWS: [Row; 24] = [
+const OTHER_ROWS: [Row; 13] = [
     Row {
         words: &["judge", "m", "l", "r"],
         march: Some(b"{any(w0);del;any(r0,w1);del;any(r1)}"),
@@ -191,20 +191,6 @@ const OTHER_ROWS: [Row; 24] = [
         list: Some(b"DRF"),
         said: b"total 2 covered 1 escapes 1\n",
         status: 1,
-    },
-    Row {
-        words: &["judge", "m", "l", "r"],
-        march: Some(b"{del}"),
-        list: Some(b"DRF"),
-        said: b"march M3\n",
-        status: 3,
-    },
-    Row {
-        words: &["compile", "m", "d", "l", "v", "l"],
-        march: Some(MATS),
-        list: None,
-        said: b"usage\n",
-        status: 2,
     },
     Row {
         words: &["judge", "m", "l", "r"],
@@ -257,27 +243,6 @@ const OTHER_ROWS: [Row; 24] = [
     },
     Row {
         words: &["judge", "m", "l", "r"],
-        march: Some(MATS),
-        list: Some(b"<0w1r1w0/1/->"),
-        said: b"fault F4 line 1\n",
-        status: 5,
-    },
-    Row {
-        words: &["judge", "m", "l", "r"],
-        march: Some(MATS),
-        list: Some(b"dyn1\n<0w1;0r0/1/0>\n"),
-        said: b"fault F4 line 2\n",
-        status: 5,
-    },
-    Row {
-        words: &["judge", "m", "l", "r"],
-        march: Some(MATS),
-        list: Some(b"<0w1r0/0/1>"),
-        said: b"fault F3 line 1\n",
-        status: 5,
-    },
-    Row {
-        words: &["judge", "m", "l", "r"],
         march: Some(b"{any(w0);any(w1,r1)}"),
         list: Some(b"<0w1r1/0/0>"),
         said: b"total 1 covered 1 escapes 0\n",
@@ -303,6 +268,44 @@ const OTHER_ROWS: [Row; 24] = [
         list: Some(b"all\nDRF\ndyn1\ndyn2\n"),
         said: b"total 176 covered 42 escapes 134\n",
         status: 1,
+    },
+];
+
+const REFUSED_ROWS: [Row; 12] = [
+    Row {
+        words: &["judge", "m", "l", "r"],
+        march: Some(b"{del}"),
+        list: Some(b"DRF"),
+        said: b"march M3\n",
+        status: 3,
+    },
+    Row {
+        words: &["compile", "m", "d", "l", "v", "l"],
+        march: Some(MATS),
+        list: None,
+        said: b"usage\n",
+        status: 2,
+    },
+    Row {
+        words: &["judge", "m", "l", "r"],
+        march: Some(MATS),
+        list: Some(b"<0w1r1w0/1/->"),
+        said: b"fault F4 line 1\n",
+        status: 5,
+    },
+    Row {
+        words: &["judge", "m", "l", "r"],
+        march: Some(MATS),
+        list: Some(b"dyn1\n<0w1;0r0/1/0>\n"),
+        said: b"fault F4 line 2\n",
+        status: 5,
+    },
+    Row {
+        words: &["judge", "m", "l", "r"],
+        march: Some(MATS),
+        list: Some(b"<0w1r0/0/1>"),
+        said: b"fault F3 line 1\n",
+        status: 5,
     },
     Row {
         words: &["judge", "m", "l", "r"],
@@ -346,6 +349,15 @@ const OTHER_ROWS: [Row; 24] = [
         said: b"usage\n",
         status: 2,
     },
+    Row {
+        words: &["judge", "m", "l", "r"],
+        march: Some(MATS),
+        list: Some(
+            b"all\nall\nall\nall\nall\nall\nall\nall\nall\nall\nall\nall\nall\nall\nall\nall\nall\nall\nall\nall\nall\nall\n",
+        ),
+        said: b"fault F5 line 22\n",
+        status: 5,
+    },
 ];
 
 #[test]
@@ -370,6 +382,25 @@ fn arrays(rt: HostRuntime) -> Result<(), Fail> {
 #[test]
 fn other_commands(rt: HostRuntime) -> Result<(), Fail> {
     for row in &OTHER_ROWS {
+        let mut host = MemHost::new(rt.alloc());
+        if let Some(march) = row.march {
+            host.put("m", march)?;
+        }
+        if let Some(list) = row.list {
+            host.put("l", list)?;
+        }
+        assert_eq!(rt;
+            run_alone(rt.alloc(), row.words, &mut host).status,
+            row.status
+        );
+        assert_eq!(rt; host.said(), row.said);
+    }
+    Ok(())
+}
+
+#[test]
+fn refused_commands(rt: HostRuntime) -> Result<(), Fail> {
+    for row in &REFUSED_ROWS {
         let mut host = MemHost::new(rt.alloc());
         if let Some(march) = row.march {
             host.put("m", march)?;
@@ -511,8 +542,12 @@ fn reports(rt: HostRuntime) -> Result<(), Fail> {
 const GRAY: &[u8] =
     b"memory 1\nname s4\nwords 4\nbits 1\nscramble a0 = p0 ^ p1\nscramble a1 = p1\n";
 
+/// Each cell is written, left alone 31 times, and read.
+const LONG_RETENTION: &[u8] =
+    b"{any(w0);del;del;del;del;del;del;del;del;del;del;del;del;del;del;del;del;del;del;del;del;del;del;del;del;del;del;del;del;del;del;del;any(r0)}";
+
 /// A march, a memory, the file of its commands, and what is said.
-const VECTORS: [(&[u8], &[u8], &[u8], &[u8]); 4] = [
+const VECTORS: [(&[u8], &[u8], &[u8], &[u8]); 5] = [
     (
         b"{up(w1);down(r1)}",
         GRAY,
@@ -537,6 +572,12 @@ const VECTORS: [(&[u8], &[u8], &[u8], &[u8]); 4] = [
         b"w 0 0\nw 1 0\nr 0 0\nr 1 0\n",
         b"vectors 4\n",
     ),
+    (
+        LONG_RETENTION,
+        b"memory 2\nname buf0\nwords 16\nbits 1\npause 64515\n",
+        b"w 0 0\nw 1 0\nw 2 0\nw 3 0\nw 4 0\nw 5 0\nw 6 0\nw 7 0\nw 8 0\nw 9 0\nw 10 0\nw 11 0\nw 12 0\nw 13 0\nw 14 0\nw 15 0\nr 0 0\nr 1 0\nr 2 0\nr 3 0\nr 4 0\nr 5 0\nr 6 0\nr 7 0\nr 8 0\nr 9 0\nr 10 0\nr 11 0\nr 12 0\nr 13 0\nr 14 0\nr 15 0\n",
+        b"vectors 32\n",
+    ),
 ];
 
 #[test]
@@ -553,9 +594,46 @@ fn vectors(rt: HostRuntime) -> Result<(), Fail> {
     Ok(())
 }
 
+/// 65 pauses.
+const TOO_MANY_ELEMENTS: &[u8] =
+    b"del;del;del;del;del;del;del;del;del;del;del;del;del;del;del;del;del;del;del;del;del;del;del;del;del;del;del;del;del;del;del;del;del;del;del;del;del;del;del;del;del;del;del;del;del;del;del;del;del;del;del;del;del;del;del;del;del;del;del;del;del;del;del;del;del";
+
+/// 257 operations, 16 at most in an element.
+const TOO_MANY_IN_ALL: &[u8] = b"^(w0,w0,w0,w0,w0,w0,w0,w0,w0,w0,w0,w0,w0,w0,w0,w0);
+^(w0,w0,w0,w0,w0,w0,w0,w0,w0,w0,w0,w0,w0,w0,w0,w0);
+^(w0,w0,w0,w0,w0,w0,w0,w0,w0,w0,w0,w0,w0,w0,w0,w0);
+^(w0,w0,w0,w0,w0,w0,w0,w0,w0,w0,w0,w0,w0,w0,w0,w0);
+^(w0,w0,w0,w0,w0,w0,w0,w0,w0,w0,w0,w0,w0,w0,w0,w0);
+^(w0,w0,w0,w0,w0,w0,w0,w0,w0,w0,w0,w0,w0,w0,w0,w0);
+^(w0,w0,w0,w0,w0,w0,w0,w0,w0,w0,w0,w0,w0,w0,w0,w0);
+^(w0,w0,w0,w0,w0,w0,w0,w0,w0,w0,w0,w0,w0,w0,w0,w0);
+^(w0,w0,w0,w0,w0,w0,w0,w0,w0,w0,w0,w0,w0,w0,w0,w0);
+^(w0,w0,w0,w0,w0,w0,w0,w0,w0,w0,w0,w0,w0,w0,w0,w0);
+^(w0,w0,w0,w0,w0,w0,w0,w0,w0,w0,w0,w0,w0,w0,w0,w0);
+^(w0,w0,w0,w0,w0,w0,w0,w0,w0,w0,w0,w0,w0,w0,w0,w0);
+^(w0,w0,w0,w0,w0,w0,w0,w0,w0,w0,w0,w0,w0,w0,w0,w0);
+^(w0,w0,w0,w0,w0,w0,w0,w0,w0,w0,w0,w0,w0,w0,w0,w0);
+^(w0,w0,w0,w0,w0,w0,w0,w0,w0,w0,w0,w0,w0,w0,w0,w0);
+^(w0,w0,w0,w0,w0,w0,w0,w0,w0,w0,w0,w0,w0,w0,w0,w0);
+^(w0)";
+
 /// A march, a memory, what `vectors` says, and its status.
-const REFUSED_VECTORS: [(&[u8], &[u8], &[u8], u8); 18] = [
+const REFUSED_VECTORS: [(&[u8], &[u8], &[u8], u8); 23] = [
     (b"{}", b"", b"march M3\n", 3),
+    (TOO_MANY_ELEMENTS, b"", b"march M4\n", 3),
+    (
+        b"{any(w0,w0,w0,w0,w0,w0,w0,w0,w0,w0,w0,w0,w0,w0,w0,w0,w0)}",
+        b"",
+        b"march M5 element 0\n",
+        3,
+    ),
+    (TOO_MANY_IN_ALL, b"", b"march M6\n", 3),
+    (
+        b"{any(w0);up(r1)}",
+        b"",
+        b"march M8 element 1 operation 0\n",
+        3,
+    ),
     (MATS, b"", b"memory D2\n", 4),
     (MATS, b"memory 1\nname\n", b"memory D1 line 2 byte 4\n", 4),
     (MATS, b"memory 7\nname s4\n", b"memory D11\n", 4),
@@ -626,6 +704,12 @@ const REFUSED_VECTORS: [(&[u8], &[u8], &[u8], u8); 18] = [
         MARCH_SS,
         b"memory 1\nname big\nwords 65536\nbits 64\n",
         b"too long 10092547\n",
+        12,
+    ),
+    (
+        LONG_RETENTION,
+        b"memory 2\nname buf0\nwords 16\nbits 1\nlatency 2\npause 64515\n",
+        b"too long 2000001\n",
         12,
     ),
 ];

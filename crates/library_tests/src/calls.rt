@@ -2,7 +2,7 @@
 
 ghost use Rattle.std.specs.Prelude.{◌≡◌, None, IfOk};
 
-use array_sim::{Instance, act_of, is_wrong, simulate};
+use array_sim::{Instance, act_of, address_of, is_wrong, simulate};
 use arrayvec::ArrayString;
 use backgrounds::{log_set, separates, word_of};
 use bist_bits::{Bits, all_ones, concat, parity, select, width_of};
@@ -12,8 +12,8 @@ use coverage::{Verdict, judge, judge_all};
 use dynamic_core::Item;
 use escape_array::{EscapeArray, least, replays};
 use fault_core::{
-    Act, Class, Places, Prim, PrimFault, Sense, class_of, close_cells, members, one_cell, step,
-    two_cell,
+    Act, Class, Places, Prim, PrimFault, Sense, class_of, close_cells, do_plainly, is_same_act,
+    members, one_cell, step, two_cell,
 };
 use march_core::{MarchBuilder, MarchFault, Op, Order, is_down};
 use march_syntax::read_march;
@@ -22,7 +22,7 @@ use pair_tracker::{Placement, Survivor, survivors};
 use report::{count_covered, judge_items, write_judged, write_mixed, write_report, write_total};
 use scrambler::{Dependence, Matrix, Scramble, invert};
 use std::test::Fail;
-use verilog_tree::{Name, is_name};
+use verilog_tree::{BinOp, Name, UnOp, binary_width, is_name, unary_width};
 use word_march::{PortOp, WordOp, length, port_ops, word_ops};
 
 const MATS_PLUS: &[u8] = b"{any(w0);up(r0,w1);down(r1,w0)}";
@@ -112,9 +112,13 @@ fn a_march_in_parts(rt: HostRuntime) -> Result<(), Fail> {
 fn operations(rt: HostRuntime) {
     assert_eq!(rt; Op::W1.written(), Some(true));
     assert_eq!(rt; Op::R0.expected(), Some(false));
+    assert!(rt; Op::W0.writes());
+    assert!(rt; Op::R1.data_value());
     assert!(rt; is_down(UP_UP_DOWN, 2));
     assert_eq!(rt; act_of(Op::R1), Act::Read);
     assert!(rt; is_wrong(Op::R1, Some(false)));
+    assert_eq!(rt; address_of(true, 1, 4), 2);
+    assert!(rt; !is_same_act(Act::Write(true), Act::Write(false)));
 }
 
 /// The primitive of one cell that keeps this state where the other bit is written.
@@ -158,6 +162,8 @@ fn acts_on_cells(rt: HostRuntime) -> Result<(), Fail> {
     assert_eq!(rt; step(&keeps_zero, places, &mut cells, 1, write), None);
     assert_eq!(rt; cells, [false, false]);
     close_cells(&loses_zero, places, &mut cells);
+    assert_eq!(rt; cells, [false, true]);
+    assert_eq!(rt; do_plainly(&mut cells, 1, Act::Read), Some(true));
     assert_eq!(rt; cells, [false, true]);
     Ok(())
 }
@@ -318,4 +324,12 @@ fn names(rt: HostRuntime) -> Result<(), Fail> {
     assert!(rt; !is_name(&name("buf")));
     assert!(rt; !is_name(&name("1st")));
     Ok(())
+}
+
+#[test]
+fn widths_of_operators(rt: HostRuntime) {
+    assert_eq!(rt; unary_width(UnOp::Invert, 4), 4);
+    assert_eq!(rt; unary_width(UnOp::Parity, 4), 1);
+    assert_eq!(rt; binary_width(BinOp::Shl, 4), 4);
+    assert_eq!(rt; binary_width(BinOp::Lt, 4), 1);
 }

@@ -75,7 +75,7 @@ fn refusals_of_version_2(rt: HostRuntime) {
 }
 
 /// A description, the printed form of its memory, its latency, its polarity and its pause.
-const PRINTED: [(&str, &str, u8, u64, u32); 3] = [
+const PRINTED: [(&str, &str, u8, u64, u32); 4] = [
     (
         "memory 2\nname two\nwords 2\nbits 1\nlatency 1\npolarity 0\npause 1\n",
         "memory 1\nname two\nwords 2\nbits 1\nbackgrounds 0\n",
@@ -96,6 +96,13 @@ const PRINTED: [(&str, &str, u8, u64, u32); 3] = [
         1,
         0,
         500,
+    ),
+    (
+        "memory 2\nname b23456789_123456789_123456789_123456789_12345678\nwords 65536\nbits 64\nlatency 4\npolarity FFFFFFFFFFFFFFFF\npause 65535\nbackgrounds FFFFFFFFFFFFFFFF 8000000000000000 ffffffff 0 aaaaaaaaaaaaaaaa CCCCCCCCCCCCCCCC 1 f0f0f0f0f0f0f0f0\n",
+        "memory 2\nname b23456789_123456789_123456789_123456789_12345678\nwords 65536\nbits 64\nlatency 4\npolarity ffffffffffffffff\npause 65535\nbackgrounds ffffffffffffffff 8000000000000000 00000000ffffffff 0000000000000000 aaaaaaaaaaaaaaaa cccccccccccccccc 0000000000000001 f0f0f0f0f0f0f0f0\n",
+        4,
+        u64::MAX,
+        65_535,
     ),
 ];
 

@@ -166,3 +166,14 @@ fn ports_of_another_memory(rt: HostRuntime) -> Result<(), Fail> {
     assert!(rt; is_found(wrong_port(module.ports.as_slice(), &wider), "rdata"));
     Ok(())
 }
+
+#[test]
+fn the_first_of_two_missing_ports(rt: HostRuntime) -> Result<(), Fail> {
+    let march = read_march(MARCH_C)?;
+    let memory = sixteen()?;
+    let module = generate(rt.alloc(), &march, &memory)?;
+    let without_addr = exchanged(rt.alloc(), module.ports.as_slice(), "addr", None)?;
+    let without_both = exchanged(rt.alloc(), without_addr.as_slice(), "reset", None)?;
+    assert!(rt; is_found(wrong_port(without_both.as_slice(), &memory), "reset"));
+    Ok(())
+}
