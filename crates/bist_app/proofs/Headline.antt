@@ -25,17 +25,17 @@ use Rattle.bist_app.proofs.OneCommand.{command_one}
 -- ---- the inputs
 
 march_read : (files : Files) (words : Words) (march : List MarchElement) → InputMarch (Some files) words 1 (Ok march) → FileHas files (word words 1) (λ bytes. ReadsMarch bytes (Ok march))
-unfolding InputMarch, GivesMarch
+unfolding InputMarch GivesMarch
 march_read files words march (Ok bytes, gives, reads) = (bytes, gives.0, reads)
 march_read files words march (Err e, gives, same) = cc
 
 memory_read : (files : Files) (words : Words) (d : Description) → InputMemory (Some files) words 2 (Ok d) → FileHas files (word words 2) (λ bytes. ReadsMemory bytes (Ok d))
-unfolding InputMemory, GivesMemory
+unfolding InputMemory GivesMemory
 memory_read files words d (Ok bytes, gives, reads) = (bytes, gives.0, reads.0)
 memory_read files words d (Err e, gives, same) = cc
 
 list_read : (files : Files) (words : Words) (items : List Item) → InputList (Some files) words 3 (Ok items) → FileHas files (word words 3) (λ bytes. ReadsItems bytes (Ok items))
-unfolding InputList, GivesList
+unfolding InputList GivesList
 list_read files words items (Ok bytes, gives, reads) = (bytes, gives.0, reads)
 list_read files words items (Err e, gives, same) = cc
 
@@ -117,22 +117,25 @@ compilation : (words : Words) (files : Files) (told : Option Files) (s s' : Opti
     → (files' : Files) × (told ≡ Some files') × IsCompilation words files files' s s' n
 compilation words files told s s' wr n done shape low i (Ok u, writes, inl h) =
     let c = i.compiled in
-    let w = written words files told c.text c.bytes shape.module_not_report (subst (λ outs. WritesInOrder words outs (Some files) told (Ok tt)) c.outputs writes) in
-    (w.after, w.is_told, record {
-      march = i.march;
-      memory = i.memory;
-      items = i.items;
-      escapes = done.found;
-      line = done.line;
-      march_text = i.march_text;
-      memory_text = i.memory_text;
-      list_text = i.list_text;
-      module_text = (c.text, w.first, c.tests);
-      report_text = (c.bytes, w.second, c.reports);
-      status_is = h.0;
-      says = h.1;
-      others = w.others;
-    })
+    let w = written words files told c.text c.bytes shape.module_not_report (subst (λ outs. WritesInOrder words outs (Some files) told (Ok tt)) c.outputs writes) in (
+      w.after,
+      w.is_told,
+      record {
+        march = i.march;
+        memory = i.memory;
+        items = i.items;
+        escapes = done.found;
+        line = done.line;
+        march_text = i.march_text;
+        memory_text = i.memory_text;
+        list_text = i.list_text;
+        module_text = (c.text, w.first, c.tests);
+        report_text = (c.bytes, w.second, c.reports);
+        status_is = h.0;
+        says = h.1;
+        others = w.others;
+      },
+    )
 compilation words files told s s' wr n done shape low i (Ok u, writes, inr (inl h)) = absurd (omega (arith, h.0))
 compilation words files told s s' wr n done shape low i (Ok u, writes, inr (inr h)) = absurd (omega (arith, h.0))
 compilation words files told s s' wr n done shape low i (Err (WriteStop.Failed p), writes, h) = absurd (omega (arith, h.0))
@@ -140,7 +143,7 @@ compilation words files told s s' wr n done shape low i (Err WriteStop.NoMemory,
 
 decided : (files : Files) (boxes left : Boxes) (words : Words) (outcome : Result Done Refusal) → IsCompileShape words → Decides (Some files) boxes left words outcome
     → DecidesCompile (Some files) words outcome
-decided files boxes left words outcome shape (None, (none, _)) = absurd (none Command.Compile shape)
+decided files boxes left words outcome shape (None, (none, is, same)) = absurd (none Command.Compile shape)
 decided files boxes left words outcome shape (Some command, (own, decides)) =
     (subst (λ c. DecidesCommand (Some files) boxes left words c outcome) (command_one words command Command.Compile own shape) decides).0
 
