@@ -1,5 +1,5 @@
 -- What the answer of the top call comes to for `compile`.
-use Rattle.std.proofs.Common.{◌≡◌, ◌≢◌, ◌≤◌, inl, inr, refl, ◌∙◌, subst, arith, ℕ, Bool, true, false, List, [], ◌∷◌, Option, Some, None, Result, Ok, Err}
+use Rattle.std.proofs.Common.{◌≡◌, ◌≢◌, ◌≤◌, inl, inr, ◌∙◌, subst, arith, ℕ, List, [], ◌∷◌, Option, Some, None, Result, Ok, Err}
 use Rattle.bist_host.specs.Files.{Files, WritesFile, Says}
 use Rattle.march_core.specs.March.{MarchElement}
 use Rattle.march_syntax.specs.Answers.{Reads as ReadsMarch}
@@ -10,16 +10,15 @@ use Rattle.dynamic_core.specs.Items.{ReadsItems}
 use Rattle.bist_endings.specs.declared.ending.Refusal.{Refusal}
 use Rattle.bist_endings.specs.declared.concluding.WriteStop.{WriteStop}
 use Rattle.bist_endings.specs.Words.{Words, word}
-use Rattle.bist_endings.specs.Ending.{Done, Written, status_of, found_status}
+use Rattle.bist_endings.specs.Ending.{Done, status_of}
 use Rattle.bist_endings.specs.Conclude.{WritesInOrder, RefusalEnds, DoneEnds}
 use Rattle.bist_inputs.specs.Inputs.{InputMarch, InputList, GivesMarch, GivesList}
 use Rattle.bist_inputs.specs.Memories.{InputMemory, GivesMemory}
 use Rattle.bist_app.specs.declared.commands.Command.{Command}
 use Rattle.bist_app.specs.Bench.{Boxes}
-use Rattle.bist_app.specs.Compile.{IsCompileShape, IsSelfTestText, IsCompiled, LeavesCompile, DecidesCompile}
-use Rattle.bist_app.specs.Reported.{Reports}
+use Rattle.bist_app.specs.Compile.{IsCompileShape, IsCompiled, LeavesCompile, DecidesCompile}
 use Rattle.bist_app.specs.Headline.{FileHas, IsCompilation, Compiles}
-use Rattle.bist_app.specs.Run.{HasShape, Decides, DecidesCommand, Runs}
+use Rattle.bist_app.specs.Run.{Decides, DecidesCommand, Runs}
 use Rattle.bist_app.proofs.OneCommand.{command_one}
 
 -- ---- the inputs
@@ -124,15 +123,19 @@ compilation words files told s s' wr n done shape low i (Ok u, writes, inl h) =
         march = i.march;
         memory = i.memory;
         items = i.items;
-        escapes = done.found;
-        line = done.line;
         march_text = i.march_text;
         memory_text = i.memory_text;
         list_text = i.list_text;
-        module_text = (c.text, w.first, c.tests);
-        report_text = (c.bytes, w.second, c.reports);
+        tree = c.tests.tree;
+        self_test = c.tests.self_test;
+        module_text = (c.text, w.first, (c.tests.spells, c.tests.no_other));
+        report_text = (c.bytes, w.second, c.reports.report);
+        escapes = done.found;
+        found = c.reports.found;
         status_is = h.0;
-        says = h.1;
+        covered = c.reports.covered;
+        detects = c.reports.detects;
+        says = subst (λ line. Says s s' line) c.reports.last h.1;
         others = w.others;
       },
     )

@@ -1,5 +1,5 @@
 -- What `compile` comes to where it ends with status 0 or 1 over told files: the answer of the top call, without the order of its checks.
-use Rattle.std.specs.Prelude.{◌≡◌, ◌≢◌, ◌≤◌, ℕ, Bool, List, Option, Some, None, Ok}
+use Rattle.std.specs.Prelude.{◌≡◌, ◌≢◌, ◌≤◌, ℕ, Bool, List, length, Option, Some, None, Ok}
 use Rattle.bist_host.specs.Files.{Files, Says}
 use Rattle.march_core.specs.March.{MarchElement}
 use Rattle.march_syntax.specs.Answers.{Reads as ReadsMarch}
@@ -7,31 +7,39 @@ use Rattle.memory_desc.specs.Descriptions.{Description}
 use Rattle.memory_desc.specs.Table.{Reads as ReadsMemory}
 use Rattle.dynamic_core.specs.declared.item.Item.{Item}
 use Rattle.dynamic_core.specs.Items.{ReadsItems}
+use Rattle.verilog_tree.specs.Plain.{ModuleTree}
+use Rattle.verilog_tree.specs.Spells.{Spells}
+use Rattle.self_test.specs.SelfTest.{SelfTest}
+use Rattle.report.specs.Report.{IsMixedReport, DetectsOf, total_line}
 use Rattle.bist_endings.specs.Words.{Words, word}
 use Rattle.bist_endings.specs.Ending.{found_status}
-use Rattle.bist_app.specs.Compile.{IsCompileShape, IsSelfTestText}
-use Rattle.bist_app.specs.Reported.{Reports}
+use Rattle.bist_app.specs.Compile.{IsCompileShape}
+use Rattle.bist_app.specs.Reported.{SomeEscapes}
 
 -- the file of this name is there, and this holds of its bytes
 abbrev pub FileHas : Files → List ℕ → (List ℕ → Type 0) → Type 0
 FileHas files name P = (bytes : List ℕ) × (files name ≡ Some bytes) × P bytes
 
--- The files MARCH, MEMORY and FAULTS were read as a march, a memory and a list. Now VERILOG has the text of one module, a self-test of
--- that memory by that march, and REPORT the report of the list, of which some item isn't detected exactly where the status is 1; its
--- last line was said. All other files are as before.
+-- The files MARCH, MEMORY and FAULTS were read as a march, a memory and a list. Now the bytes of VERILOG spell a module and no other, which
+-- is a self-test of that memory by that march, and those of REPORT are the report of the list. Some item isn't detected exactly where the
+-- status is 1. How many there are and how many are detected was said, and all other files are as before.
 pub record IsCompilation (words : Words) (files files' : Files) (said said' : Option (List ℕ)) (status : ℕ) : Type 0 where
   pub march : List MarchElement
   pub memory : Description
   pub items : List Item
-  pub escapes : Bool
-  pub line : List ℕ
   pub march_text : FileHas files (word words 1) (λ bytes. ReadsMarch bytes (Ok march))
   pub memory_text : FileHas files (word words 2) (λ bytes. ReadsMemory bytes (Ok memory))
   pub list_text : FileHas files (word words 3) (λ bytes. ReadsItems bytes (Ok items))
-  pub module_text : FileHas files' (word words 4) (IsSelfTestText march memory)
-  pub report_text : FileHas files' (word words 5) (λ bytes. Reports march (Some memory) items escapes bytes line)
+  pub tree : ModuleTree
+  pub self_test : SelfTest tree march memory
+  pub module_text : FileHas files' (word words 4) (λ bytes. Spells bytes tree × ((other : ModuleTree) → Spells bytes other → other ≡ tree))
+  pub report_text : FileHas files' (word words 5) (λ bytes. IsMixedReport bytes march (Some memory) items)
+  pub escapes : Bool
+  pub found : SomeEscapes march items escapes
   pub status_is : status ≡ found_status escapes
-  pub says : Says said said' line
+  pub covered : ℕ
+  pub detects : DetectsOf march items covered
+  pub says : Says said said' (total_line (length items) covered)
   pub others : (name : List ℕ) → name ≢ word words 4 → name ≢ word words 5 → files' name ≡ files name
 
 -- words of `compile` over told files that end with status 0 or 1 leave that; of files that aren't told nothing is said here
