@@ -1,9 +1,9 @@
 -- What the answer of the top call comes to for `compile`.
-use Rattle.std.proofs.Common.{◌≡◌, ◌≢◌, ◌≤◌, inl, inr, ◌∙◌, subst, arith, ℕ, List, [], ◌∷◌, Option, Some, None, Result, Ok, Err}
+use Rattle.std.proofs.Common.{◌≡◌, ◌≢◌, ◌≤◌, inl, inr, refl, sym, ap, ◌∙◌, subst, arith, length, codes, slice_index_or, ℕ, List, [], ◌∷◌, Option, Some, None, Ok, Err}
 use Rattle.bist_host.specs.Files.{Files, WritesFile, Says}
 use Rattle.march_core.specs.March.{MarchElement}
 use Rattle.march_syntax.specs.Answers.{Reads as ReadsMarch}
-use Rattle.memory_desc.specs.Descriptions.{Description}
+use Rattle.memory_desc.specs.Descriptions.{Description, IsMemory}
 use Rattle.memory_desc.specs.Table.{Reads as ReadsMemory}
 use Rattle.dynamic_core.specs.declared.item.Item.{Item}
 use Rattle.dynamic_core.specs.Items.{ReadsItems}
@@ -17,35 +17,35 @@ use Rattle.bist_inputs.specs.Memories.{InputMemory, GivesMemory}
 use Rattle.bist_app.specs.declared.commands.Command.{Command}
 use Rattle.bist_app.specs.Bench.{Boxes}
 use Rattle.bist_app.specs.Compile.{IsCompileShape, IsCompiled, LeavesCompile, DecidesCompile}
-use Rattle.bist_app.specs.Headline.{FileHas, IsCompilation, Compiles}
-use Rattle.bist_app.specs.Run.{Decides, DecidesCommand, Runs}
-use Rattle.bist_app.proofs.OneCommand.{command_one}
+use Rattle.bist_app.specs.Headline.{InputHas, IsCompilation, LeavesCompilation}
+use Rattle.bist_app.specs.Run.{HasShape, Decides, DecidesCommand, Runs}
 
 -- ---- the inputs
 
-march_read : (files : Files) (words : Words) (march : List MarchElement) → InputMarch (Some files) words 1 (Ok march) → FileHas files (word words 1) (λ bytes. ReadsMarch bytes (Ok march))
+march_read : (files : Files) (words : Words) (march : List MarchElement) → InputMarch (Some files) words 1 (Ok march) → InputHas files (word words 1) (λ bytes. ReadsMarch bytes (Ok march))
 unfolding InputMarch GivesMarch
-march_read files words march (Ok bytes, gives, reads) = (bytes, gives.0, reads)
+march_read files words march (Ok bytes, gives, reads) = (bytes, gives.0, (gives.1, reads))
 march_read files words march (Err e, gives, same) = cc
 
-memory_read : (files : Files) (words : Words) (d : Description) → InputMemory (Some files) words 2 (Ok d) → FileHas files (word words 2) (λ bytes. ReadsMemory bytes (Ok d))
+memory_read : (files : Files) (words : Words) (d : Description) → InputMemory (Some files) words 2 (Ok d) → IsMemory d × InputHas files (word words 2) (λ bytes. ReadsMemory bytes (Ok d))
 unfolding InputMemory GivesMemory
-memory_read files words d (Ok bytes, gives, reads) = (bytes, gives.0, reads.0)
+memory_read files words d (Ok bytes, gives, reads) = (reads.1, (bytes, gives.0, (gives.1, reads.0)))
 memory_read files words d (Err e, gives, same) = cc
 
-list_read : (files : Files) (words : Words) (items : List Item) → InputList (Some files) words 3 (Ok items) → FileHas files (word words 3) (λ bytes. ReadsItems bytes (Ok items))
+list_read : (files : Files) (words : Words) (items : List Item) → InputList (Some files) words 3 (Ok items) → InputHas files (word words 3) (λ bytes. ReadsItems bytes (Ok items))
 unfolding InputList GivesList
-list_read files words items (Ok bytes, gives, reads) = (bytes, gives.0, reads)
+list_read files words items (Ok bytes, gives, reads) = (bytes, gives.0, (gives.1, reads))
 list_read files words items (Err e, gives, same) = cc
 
 -- the march, the memory and the list that were read, and what is left of them
 record Inputs (files : Files) (words : Words) (done : Done) : Type 0 where
   march : List MarchElement
   memory : Description
+  is_memory : IsMemory memory
   items : List Item
-  march_text : FileHas files (word words 1) (λ bytes. ReadsMarch bytes (Ok march))
-  memory_text : FileHas files (word words 2) (λ bytes. ReadsMemory bytes (Ok memory))
-  list_text : FileHas files (word words 3) (λ bytes. ReadsItems bytes (Ok items))
+  march_text : InputHas files (word words 1) (λ bytes. ReadsMarch bytes (Ok march))
+  memory_text : InputHas files (word words 2) (λ bytes. ReadsMemory bytes (Ok memory))
+  list_text : InputHas files (word words 3) (λ bytes. ReadsItems bytes (Ok items))
   compiled : IsCompiled march memory items done
 
 inputs : (files : Files) (words : Words) (done : Done) → DecidesCompile (Some files) words (Ok done) → Inputs files words done
@@ -56,9 +56,10 @@ inputs files words done (Ok march, first, (Ok memory, second, (Err e, third, sam
 inputs files words done (Ok march, first, (Ok memory, second, (Ok items, third, compiled))) = record {
   march = march;
   memory = memory;
+  is_memory = (memory_read files words memory second).0;
   items = items;
   march_text = march_read files words march first;
-  memory_text = memory_read files words memory second;
+  memory_text = (memory_read files words memory second).1;
   list_text = list_read files words items third;
   compiled = compiled;
 }
@@ -120,8 +121,10 @@ compilation words files told s s' wr n done shape low i (Ok u, writes, inl h) =
       w.after,
       w.is_told,
       record {
+        shape = shape;
         march = i.march;
         memory = i.memory;
+        is_memory = i.is_memory;
         items = i.items;
         march_text = i.march_text;
         memory_text = i.memory_text;
@@ -144,15 +147,29 @@ compilation words files told s s' wr n done shape low i (Ok u, writes, inr (inr 
 compilation words files told s s' wr n done shape low i (Err (WriteStop.Failed p), writes, h) = absurd (omega (arith, h.0))
 compilation words files told s s' wr n done shape low i (Err WriteStop.NoMemory, writes, h) = absurd (omega (arith, h.0))
 
-decided : (files : Files) (boxes left : Boxes) (words : Words) (outcome : Result Done Refusal) → IsCompileShape words → Decides (Some files) boxes left words outcome
-    → DecidesCompile (Some files) words outcome
-decided files boxes left words outcome shape (None, (none, is, same)) = absurd (none Command.Compile shape)
-decided files boxes left words outcome shape (Some command, (own, decides)) =
-    (subst (λ c. DecidesCommand (Some files) boxes left words c outcome) (command_one words command Command.Compile own shape) decides).0
+-- no other command has that name
+only_compile : (words : Words) (command : Command) → word words 0 ≡ codes "compile" → HasShape words command → command ≡ Command.Compile
+only_compile words (Command.Sim s) e h = let differ : 7 ≡ 3 = ap length (sym e ∙ h.name) in absurd (omega (arith, differ))
+only_compile words Command.Judge e h = let differ : 7 ≡ 5 = ap length (sym e ∙ h.name) in absurd (omega (arith, differ))
+only_compile words Command.Vectors e h = let differ : 99 ≡ 118 = ap (λ (l : List ℕ). slice_index_or l 0 0) (sym e ∙ h.name) in absurd (omega (arith, differ))
+only_compile words Command.Compile e h = refl
+only_compile words Command.Bench e h = let differ : 7 ≡ 5 = ap length (sym e ∙ h.name) in absurd (omega (arith, differ))
+only_compile words Command.BenchFile e h = let differ : 7 ≡ 9 = ap length (sym e ∙ h.name) in absurd (omega (arith, differ))
+only_compile words (Command.Make n) e h = let differ : 7 ≡ 4 = ap length (sym e ∙ h.has_words.name) in absurd (omega (arith, differ))
+only_compile words (Command.BenchFault s) e h = let differ : 7 ≡ 10 = ap length (sym e ∙ h.name) in absurd (omega (arith, differ))
+only_compile words Command.BenchAll e h = let differ : 7 ≡ 8 = ap length (sym e ∙ h.name) in absurd (omega (arith, differ))
 
-pub compiles : (words : Words) (boxes left : Boxes) (told told' : Option Files) (s s' : Option (List ℕ)) (rr wr : Type 0) (n : ℕ)
-    → Runs words boxes left told told' s s' rr wr n → Compiles words told told' s s' n
-compiles words boxes left None told' s s' rr wr n runs = tt
-compiles words boxes left (Some files) told' s s' rr wr n (Ok done, decides, cause, ends) =
-    λ shape low. compilation words files told' s s' wr n done shape low (inputs files words done (decided files boxes left words (Ok done) shape decides)) ends
-compiles words boxes left (Some files) told' s s' rr wr n (Err e, decides, cause, (same, ends)) = λ shape low. absurd (refused_high e s s' wr n ends low)
+decided : (files : Files) (boxes left : Boxes) (words : Words) (done : Done) → word words 0 ≡ codes "compile" → Decides (Some files) boxes left words (Ok done)
+    → IsCompileShape words × DecidesCompile (Some files) words (Ok done)
+decided files boxes left words done e (None, (none, is, same)) = cc
+decided files boxes left words done e (Some command, (own, decides)) =
+    let compile = only_compile words command e own in
+    (subst (HasShape words) compile own, (subst (λ c. DecidesCommand (Some files) boxes left words c (Ok done)) compile decides).0)
+
+pub leaves_compilation : (words : Words) (boxes left : Boxes) (told told' : Option Files) (s s' : Option (List ℕ)) (rr wr : Type 0) (n : ℕ)
+    → Runs words boxes left told told' s s' rr wr n → LeavesCompilation words told told' s s' n
+leaves_compilation words boxes left None told' s s' rr wr n runs = tt
+leaves_compilation words boxes left (Some files) told' s s' rr wr n (Ok done, decides, cause, ends) = λ name low.
+    let d = decided files boxes left words done name decides in
+    compilation words files told' s s' wr n done d.0 low (inputs files words done d.1) ends
+leaves_compilation words boxes left (Some files) told' s s' rr wr n (Err e, decides, cause, (same, ends)) = λ name low. absurd (refused_high e s s' wr n ends low)

@@ -37,7 +37,7 @@ HasBox [] other = ⊥
 HasBox (box ∷ boxes) (Ok _) = Unit {0}
 HasBox (box ∷ boxes) (Err other) = ⊥
 
--- the first, where there is one, has room for so many words
+-- for private contracts alone: the first, where there is one, has room for so many words
 abbrev pub FirstHasRoom : ℕ → Boxes → Type 0
 FirstHasRoom words [] = Unit {0}
 FirstHasRoom words (box ∷ boxes) = words ≤ box.room
@@ -129,8 +129,8 @@ LeavesBench march d (box ∷ boxes) (Ok done) = IsSoundBenched march d box.tells
 LeavesBench march d (box ∷ boxes) (Err Refusal.NoMemory) = Unit {0}
 LeavesBench march d (box ∷ boxes) (Err other) = ⊥
 
--- a box that was benched is gone, and the others stay in their order; where memory ran out it may be gone or not, and after any other
--- refusal all are as before
+-- What the run leaves of the boxes: the one that was benched is gone, and the others stay in their order; where memory ran out it may be gone
+-- or not. It ends with no other refusal.
 abbrev pub LeavesFirst : Boxes → Boxes → Result Done Refusal → Type 0
 LeavesFirst boxes left (Ok done) = left ≡ drop 1 boxes
 LeavesFirst boxes left (Err Refusal.NoMemory) = (left ≡ boxes) ⊎ (left ≡ drop 1 boxes)

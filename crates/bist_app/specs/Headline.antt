@@ -1,9 +1,9 @@
 -- What `compile` comes to where it ends with status 0 or 1 over told files: the answer of the top call, without the order of its checks.
-use Rattle.std.specs.Prelude.{◌≡◌, ◌≢◌, ◌≤◌, ℕ, Bool, List, length, Option, Some, None, Ok}
+use Rattle.std.specs.Prelude.{◌≡◌, ◌≢◌, ◌≤◌, ℕ, Bool, List, length, Option, Some, None, Ok, codes}
 use Rattle.bist_host.specs.Files.{Files, Says}
 use Rattle.march_core.specs.March.{MarchElement}
 use Rattle.march_syntax.specs.Answers.{Reads as ReadsMarch}
-use Rattle.memory_desc.specs.Descriptions.{Description}
+use Rattle.memory_desc.specs.Descriptions.{Description, IsMemory}
 use Rattle.memory_desc.specs.Table.{Reads as ReadsMemory}
 use Rattle.dynamic_core.specs.declared.item.Item.{Item}
 use Rattle.dynamic_core.specs.Items.{ReadsItems}
@@ -13,6 +13,7 @@ use Rattle.self_test.specs.SelfTest.{SelfTest}
 use Rattle.report.specs.Report.{IsMixedReport, DetectsOf, total_line}
 use Rattle.bist_endings.specs.Words.{Words, word}
 use Rattle.bist_endings.specs.Ending.{found_status}
+use Rattle.bist_inputs.specs.Inputs.{input_limit}
 use Rattle.bist_app.specs.Compile.{IsCompileShape}
 use Rattle.bist_app.specs.Reported.{SomeEscapes}
 
@@ -20,16 +21,22 @@ use Rattle.bist_app.specs.Reported.{SomeEscapes}
 abbrev pub FileHas : Files → List ℕ → (List ℕ → Type 0) → Type 0
 FileHas files name P = (bytes : List ℕ) × (files name ≡ Some bytes) × P bytes
 
+-- the same of a file that can be an input
+abbrev pub InputHas : Files → List ℕ → (List ℕ → Type 0) → Type 0
+InputHas files name P = FileHas files name (λ bytes. (length bytes ≤ input_limit) × P bytes)
+
 -- The files MARCH, MEMORY and FAULTS were read as a march, a memory and a list. Now the bytes of VERILOG spell a module and no other, which
 -- is a self-test of that memory by that march, and those of REPORT are the report of the list. Some item isn't detected exactly where the
 -- status is 1. How many there are and how many are detected was said, and all other files are as before.
 pub record IsCompilation (words : Words) (files files' : Files) (said said' : Option (List ℕ)) (status : ℕ) : Type 0 where
+  pub shape : IsCompileShape words
   pub march : List MarchElement
   pub memory : Description
+  pub is_memory : IsMemory memory
   pub items : List Item
-  pub march_text : FileHas files (word words 1) (λ bytes. ReadsMarch bytes (Ok march))
-  pub memory_text : FileHas files (word words 2) (λ bytes. ReadsMemory bytes (Ok memory))
-  pub list_text : FileHas files (word words 3) (λ bytes. ReadsItems bytes (Ok items))
+  pub march_text : InputHas files (word words 1) (λ bytes. ReadsMarch bytes (Ok march))
+  pub memory_text : InputHas files (word words 2) (λ bytes. ReadsMemory bytes (Ok memory))
+  pub list_text : InputHas files (word words 3) (λ bytes. ReadsItems bytes (Ok items))
   pub tree : ModuleTree
   pub self_test : SelfTest tree march memory
   pub module_text : FileHas files' (word words 4) (λ bytes. Spells bytes tree × ((other : ModuleTree) → Spells bytes other → other ≡ tree))
@@ -42,8 +49,8 @@ pub record IsCompilation (words : Words) (files files' : Files) (said said' : Op
   pub says : Says said said' (total_line (length items) covered)
   pub others : (name : List ℕ) → name ≢ word words 4 → name ≢ word words 5 → files' name ≡ files name
 
--- words of `compile` over told files that end with status 0 or 1 leave that; of files that aren't told nothing is said here
-abbrev pub Compiles : Words → Option Files → Option Files → Option (List ℕ) → Option (List ℕ) → ℕ → Type 0
-Compiles words None told said said' status = Unit {0}
-Compiles words (Some files) told said said' status =
-    IsCompileShape words → status ≤ 1 → (files' : Files) × (told ≡ Some files') × IsCompilation words files files' said said' status
+-- The first word is `compile`, the files are told, and the status is 0 or 1: then this stands. Of files that aren't told nothing is said here.
+abbrev pub LeavesCompilation : Words → Option Files → Option Files → Option (List ℕ) → Option (List ℕ) → ℕ → Type 0
+LeavesCompilation words None told said said' status = Unit {0}
+LeavesCompilation words (Some files) told said said' status =
+    word words 0 ≡ codes "compile" → status ≤ 1 → (files' : Files) × (told ≡ Some files') × IsCompilation words files files' said said' status

@@ -5,7 +5,7 @@ ghost use Rattle.bist_endings.specs.Ending.{plain, done_of};
 ghost use Rattle.bist_inputs.specs.Inputs.{HasReadCause};
 ghost use Rattle.bist_endings.specs.Conclude.{NamesWords};
 ghost use Rattle.bist_app.specs.Answer.{IsComplete, RunHasOneAnswer};
-ghost use Rattle.bist_app.specs.Headline.{Compiles};
+ghost use Rattle.bist_app.specs.Headline.{LeavesCompilation};
 ghost use Rattle.bist_app.specs.Run.{Decides, Runs, HasNoShape};
 
 use crate::bench_command::decide_bench;
@@ -85,7 +85,7 @@ pub fn run<H: Host>(
         (Rose (H.read_faults host.old) (H.read_faults host.new)) (Rose (H.write_faults host.old) (H.write_faults host.new)) result.status }
 
     // What `compile` leaves where it ends with 0 or 1.
-    ensures compiles { Compiles words.now (H.files host.old) (H.files host.new) (H.said host.old) (H.said host.new) result.status }
+    ensures compilation { LeavesCompilation words.now (H.files host.old) (H.files host.new) (H.said host.old) (H.said host.new) result.status }
 
     ensures one_answer { RunHasOneAnswer (H.files host.old) (map (λ b. told (room_of b) (shape_of b) (tells b)) devices.old.items) words.now }
 

@@ -1,13 +1,13 @@
 use Rattle.bist_app.proofs.Statuses.{usage_has_no_shape}
 use Rattle.bist_host.specs.Files.{Rose}
-use Rattle.bist_app.proofs.Headline.{compiles}
+use Rattle.bist_app.proofs.Headline.{leaves_compilation}
 use Rattle.bist_app.proofs.top.run.Goals as goal
 
 pub returns-clause-usage : goal.returns-clause-usage
 returns-clause-usage g c = usage_has_no_shape _ _ _ _ _ _ _ _ _ _ c.decide_and_end.ensures.answer
 
-pub returns-clause-compiles : goal.returns-clause-compiles
-returns-clause-compiles g c =
-    compiles c.args.words.now _ _ (g.H.Host.files c.args.host.now) (g.H.Host.files c.decide_and_end.new.host) (g.H.Host.said c.args.host.now) (g.H.Host.said c.decide_and_end.new.host)
+pub returns-clause-compilation : goal.returns-clause-compilation
+returns-clause-compilation g c =
+    leaves_compilation c.args.words.now _ _ (g.H.Host.files c.args.host.now) (g.H.Host.files c.decide_and_end.new.host) (g.H.Host.said c.args.host.now) (g.H.Host.said c.decide_and_end.new.host)
     (Rose (g.H.Host.read_faults c.args.host.now) (g.H.Host.read_faults c.decide_and_end.new.host)) (Rose (g.H.Host.write_faults c.args.host.now) (g.H.Host.write_faults c.decide_and_end.new.host))
     c.decide_and_end.result.status c.decide_and_end.ensures.answer
