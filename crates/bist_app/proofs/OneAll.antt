@@ -52,13 +52,13 @@ all_seen_one march d (box ∷ boxes) (x ∷ s) [] tells f g = absurd g
 all_seen_one march d (box ∷ boxes) (x ∷ s) (y ∷ t) tells f g =
     ap₂ (λ z (zs : List (Option Seen)). z ∷ zs) (one_seen march d None box.tells x y tells.0 f.0.is_seen g.0.is_seen) (all_seen_one march d boxes s t tells.1 f.1 g.1)
 
-pub all_one : (march : List MarchElement) (d : Description) (boxes : Boxes) → AllTell boxes → HasOneAnswer (LeavesAll march d boxes)
+pub all_one : (march : List MarchElement) (d : Description) (boxes : Boxes) → HasOneAnswer (AllTell boxes) (LeavesAll march d boxes)
 unfolding LeavesAll
-all_one march d boxes tells (Ok x) (Ok y) f g rs ss =
-    let same = all_seen_one march d boxes f.seen g.seen tells f.are_seen g.are_seen in
+all_one march d boxes (Ok x) (Ok y) tells f g rs ss =
+    let same = all_seen_one march d boxes f.seen g.seen (tells tt) f.are_seen g.are_seen in
     ap (λ (done : Done). answer_of (Ok done))
     (f.done_is ∙ ap (λ (seen : List (Option Seen)). all_done (length boxes) (failing_of seen)) same ∙ sym g.done_is)
-all_one march d boxes tells (Ok x) (Err Refusal.NoMemory) f g rs ss = absurd ss
-all_one march d boxes tells (Ok x) (Err other) f g rs ss = absurd g
-all_one march d boxes tells (Err Refusal.NoMemory) s f g rs ss = absurd rs
-all_one march d boxes tells (Err other) s f g rs ss = absurd f
+all_one march d boxes (Ok x) (Err Refusal.NoMemory) tells f g rs ss = absurd ss
+all_one march d boxes (Ok x) (Err other) tells f g rs ss = absurd g
+all_one march d boxes (Err Refusal.NoMemory) s tells f g rs ss = absurd rs
+all_one march d boxes (Err other) s tells f g rs ss = absurd f

@@ -92,14 +92,14 @@ benched_one march d planted tells x y n f g =
     let answer : Option Seen → Answer = λ o. record { status = found_status (is_some o); line = bench_line d.bits (is_some o) (Some (done_at march d)) o } in
     answer_is march d x f.seen f.found f.line ∙ ap answer same ∙ sym (answer_is march d y g.seen g.found g.line)
 
-pub bench_one : (march : List MarchElement) (d : Description) (boxes : Boxes) → FirstTells boxes → HasOneAnswer (LeavesBench march d boxes)
+pub bench_one : (march : List MarchElement) (d : Description) (boxes : Boxes) → HasOneAnswer (FirstTells boxes) (LeavesBench march d boxes)
 unfolding LeavesBench
-bench_one march d [] n r s f g rs ss = absurd f
-bench_one march d (box ∷ boxes) n (Ok x) (Ok y) f g rs ss = benched_one march d None box.tells x y n f.benched g.benched
-bench_one march d (box ∷ boxes) n (Err Refusal.NoMemory) s f g rs ss = absurd rs
-bench_one march d (box ∷ boxes) n (Err other) s f g rs ss = absurd f
-bench_one march d (box ∷ boxes) n (Ok x) (Err Refusal.NoMemory) f g rs ss = absurd ss
-bench_one march d (box ∷ boxes) n (Ok x) (Err other) f g rs ss = absurd g
+bench_one march d [] r s n f g rs ss = absurd f
+bench_one march d (box ∷ boxes) (Ok x) (Ok y) n f g rs ss = benched_one march d None box.tells x y (n tt) f.benched g.benched
+bench_one march d (box ∷ boxes) (Err Refusal.NoMemory) s n f g rs ss = absurd rs
+bench_one march d (box ∷ boxes) (Err other) s n f g rs ss = absurd f
+bench_one march d (box ∷ boxes) (Ok x) (Err Refusal.NoMemory) n f g rs ss = absurd ss
+bench_one march d (box ∷ boxes) (Ok x) (Err other) n f g rs ss = absurd g
 
 -- ---- with a planted instance
 
@@ -113,11 +113,11 @@ places_one d shape (Err (Refusal.Device DeviceRefusal.BadPlace)) (Err (Refusal.D
 places_one d shape (Err (Refusal.Device DeviceRefusal.BadPlace)) (Err other) f g rs ss = absurd g
 places_one d shape (Err other) s f g rs ss = absurd f
 
-pub fault_one : (march : List MarchElement) (d : Description) (planted : Planted) (boxes : Boxes) → FirstTells boxes → HasOneAnswer (LeavesFault march d planted boxes)
+pub fault_one : (march : List MarchElement) (d : Description) (planted : Planted) (boxes : Boxes) → HasOneAnswer (FirstTells boxes) (LeavesFault march d planted boxes)
 unfolding LeavesFault
-fault_one march d planted [] n r s f g rs ss = absurd f
-fault_one march d planted (box ∷ boxes) n (Ok x) (Ok y) f g rs ss = benched_one march d (Some planted) box.tells x y n f.benched g.benched
-fault_one march d planted (box ∷ boxes) n (Err Refusal.NoMemory) s f g rs ss = absurd rs
-fault_one march d planted (box ∷ boxes) n (Err other) s f g rs ss = absurd f
-fault_one march d planted (box ∷ boxes) n (Ok x) (Err Refusal.NoMemory) f g rs ss = absurd ss
-fault_one march d planted (box ∷ boxes) n (Ok x) (Err other) f g rs ss = absurd g
+fault_one march d planted [] r s n f g rs ss = absurd f
+fault_one march d planted (box ∷ boxes) (Ok x) (Ok y) n f g rs ss = benched_one march d (Some planted) box.tells x y (n tt) f.benched g.benched
+fault_one march d planted (box ∷ boxes) (Err Refusal.NoMemory) s n f g rs ss = absurd rs
+fault_one march d planted (box ∷ boxes) (Err other) s n f g rs ss = absurd f
+fault_one march d planted (box ∷ boxes) (Ok x) (Err Refusal.NoMemory) n f g rs ss = absurd ss
+fault_one march d planted (box ∷ boxes) (Ok x) (Err other) n f g rs ss = absurd g

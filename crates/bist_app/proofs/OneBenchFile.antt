@@ -80,20 +80,20 @@ run_one mo march d tells x y can ports n f g =
     ap (λ (z : Done). answer_of (Ok z)) f.done_is ∙ ap (λ (b : Bool). answer b f.done_in f.seen) failed
     ∙ ap₂ (λ (o : Option ℕ) (s : Option Seen). answer g.failed o s) done_in seen ∙ sym (ap (λ (z : Done). answer_of (Ok z)) g.done_is)
 
-file_one : (mo : ModuleTree) (march : List MarchElement) (d : Description) (boxes : Boxes) → CanRun mo → wrong_port d mo.ports ≡ None → FirstTells boxes
-    → HasOneAnswer (LeavesBenchFile mo march d boxes)
+file_one : (mo : ModuleTree) (march : List MarchElement) (d : Description) (boxes : Boxes) → CanRun mo → wrong_port d mo.ports ≡ None
+    → HasOneAnswer (FirstTells boxes) (LeavesBenchFile mo march d boxes)
 unfolding LeavesBenchFile
-file_one mo march d [] can ports n r s f g rs ss = absurd f
-file_one mo march d (box ∷ boxes) can ports n (Ok x) (Ok y) f g rs ss = run_one mo march d (ready d box.tells) x y can ports (ready_tells d box.tells n) f g
-file_one mo march d (box ∷ boxes) can ports n (Err Refusal.NoMemory) s f g rs ss = absurd rs
-file_one mo march d (box ∷ boxes) can ports n (Err other) s f g rs ss = absurd f
-file_one mo march d (box ∷ boxes) can ports n (Ok x) (Err Refusal.NoMemory) f g rs ss = absurd ss
-file_one mo march d (box ∷ boxes) can ports n (Ok x) (Err other) f g rs ss = absurd g
+file_one mo march d [] can ports r s n f g rs ss = absurd f
+file_one mo march d (box ∷ boxes) can ports (Ok x) (Ok y) n f g rs ss = run_one mo march d (ready d box.tells) x y can ports (ready_tells d box.tells (n tt)) f g
+file_one mo march d (box ∷ boxes) can ports (Err Refusal.NoMemory) s n f g rs ss = absurd rs
+file_one mo march d (box ∷ boxes) can ports (Err other) s n f g rs ss = absurd f
+file_one mo march d (box ∷ boxes) can ports (Ok x) (Err Refusal.NoMemory) n f g rs ss = absurd ss
+file_one mo march d (box ∷ boxes) can ports (Ok x) (Err other) n f g rs ss = absurd g
 
 -- ---- the command
 
-pub bench_file_answer : (files : Files) (boxes : Boxes) (words : Words) → FirstTells boxes → HasOneAnswerButNames (SomeLeft (λ left. DecidesBenchFile (Some files) boxes left words))
-bench_file_answer files boxes words tells =
+pub bench_file_answer : (files : Files) (boxes : Boxes) (words : Words) → HasOneAnswerButNames (FirstTells boxes) (SomeLeft (λ left. DecidesBenchFile (Some files) boxes left words))
+bench_file_answer files boxes words =
     before_but_names boxes (InputModule (Some files) words 1) _ (input_module_one files words 1) (λ mo given.
     before_but_names boxes (InputMarch (Some files) words 2) _ (outcome_value (InputMarch (Some files) words 2) (input_march_one files words 2)) (λ march _.
     before_but_names boxes (InputMemory (Some files) words 3) _ (outcome_value (InputMemory (Some files) words 3) (input_memory_one files words 3)) (λ d _.
@@ -102,4 +102,4 @@ bench_file_answer files boxes words tells =
     before_but_names boxes (HasBox boxes) _ (outcome_value (HasBox boxes) (box_one boxes)) (λ _ _.
     before_but_names boxes (FitsRoom d boxes) _ (outcome_value (FitsRoom d boxes) (room_one d boxes)) (λ _ _.
     but_names _ (with_left (LeavesBenchFile mo march d boxes) (LeavesFirst boxes)
-    (file_one mo march d boxes (input_can_run (Some files) words 1 mo given) (none_wrong d mo u ports) tells)))))))))
+    (file_one mo march d boxes (input_can_run (Some files) words 1 mo given) (none_wrong d mo u ports))))))))))

@@ -39,18 +39,18 @@ reports_one march memory items b c bytes other line said h i =
     let lines : line ≡ said = h.last ∙ ap (total_line (length items)) (detects_one march items h.covered i.covered h.detects i.detects) ∙ sym i.last in
     λ j. record { status = status j; line = lines j }
 
-pub judge_one : (march : List MarchElement) (items : List Item) → HasOneAnswer (LeavesJudge march items)
+pub judge_one : (march : List MarchElement) (items : List Item) → HasOneAnswer (Unit {0}) (LeavesJudge march items)
 unfolding LeavesJudge
-judge_one march items (Ok d) (Ok e) f g r s = reports_one march _ items d.found e.found f.bytes g.bytes d.line e.line f.reports g.reports
-judge_one march items (Ok d) (Err Refusal.NoMemory) f g r s = absurd s
-judge_one march items (Ok d) (Err other) f g r s = absurd g
-judge_one march items (Err Refusal.NoMemory) outcome f g r s = absurd r
-judge_one march items (Err other) outcome f g r s = absurd f
+judge_one march items (Ok d) (Ok e) t f g r s = reports_one march _ items d.found e.found f.bytes g.bytes d.line e.line f.reports g.reports
+judge_one march items (Ok d) (Err Refusal.NoMemory) t f g r s = absurd s
+judge_one march items (Ok d) (Err other) t f g r s = absurd g
+judge_one march items (Err Refusal.NoMemory) outcome t f g r s = absurd r
+judge_one march items (Err other) outcome t f g r s = absurd f
 
-pub compile_one : (march : List MarchElement) (m : Description) (items : List Item) → HasOneAnswer (LeavesCompile march m items)
+pub compile_one : (march : List MarchElement) (m : Description) (items : List Item) → HasOneAnswer (Unit {0}) (LeavesCompile march m items)
 unfolding LeavesCompile
-compile_one march m items (Ok d) (Ok e) f g r s = reports_one march _ items d.found e.found f.bytes g.bytes d.line e.line f.reports g.reports
-compile_one march m items (Ok d) (Err Refusal.NoMemory) f g r s = absurd s
-compile_one march m items (Ok d) (Err other) f g r s = absurd g
-compile_one march m items (Err Refusal.NoMemory) outcome f g r s = absurd r
-compile_one march m items (Err other) outcome f g r s = absurd f
+compile_one march m items (Ok d) (Ok e) t f g r s = reports_one march _ items d.found e.found f.bytes g.bytes d.line e.line f.reports g.reports
+compile_one march m items (Ok d) (Err Refusal.NoMemory) t f g r s = absurd s
+compile_one march m items (Ok d) (Err other) t f g r s = absurd g
+compile_one march m items (Err Refusal.NoMemory) outcome t f g r s = absurd r
+compile_one march m items (Err other) outcome t f g r s = absurd f

@@ -43,10 +43,10 @@ summary_one march a b items listed d e count p q =
     p.line ∙ ap₂ (λ (n k : ℕ). made_line (length march) (length (all_ops march)) n k (length items)) count covered ∙ sym q.line in
     λ j. record { status = status j; line = lines j }
 
-pub make_one : (number : ℕ) → HasOneAnswer (LeavesMake number)
+pub make_one : (number : ℕ) → HasOneAnswer (Unit {0}) (LeavesMake number)
 unfolding LeavesMake
-make_one number (Ok d) (Ok e) (a, p, f) (b, q, g) r s = summary_one (made_march number) a b made_items made_text d e (same_count (made_march number) number a b p q) f g
-make_one number (Ok d) (Err Refusal.NoMemory) f g r s = absurd s
-make_one number (Ok d) (Err other) f g r s = absurd g
-make_one number (Err Refusal.NoMemory) outcome f g r s = absurd r
-make_one number (Err other) outcome f g r s = absurd f
+make_one number (Ok d) (Ok e) t (a, p, f) (b, q, g) r s = summary_one (made_march number) a b made_items made_text d e (same_count (made_march number) number a b p q) f g
+make_one number (Ok d) (Err Refusal.NoMemory) t f g r s = absurd s
+make_one number (Ok d) (Err other) t f g r s = absurd g
+make_one number (Err Refusal.NoMemory) outcome t f g r s = absurd r
+make_one number (Err other) outcome t f g r s = absurd f

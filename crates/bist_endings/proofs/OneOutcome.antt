@@ -34,27 +34,27 @@ then_one {A} {B} first rest one each r s (Err e, f, x) (Err d, g, y) rs ss =
     (same_refusal {A = A} e d (Err e) (Err d) refl refl (one (Err e) (Err d) f g (settled_of r e x rs) (settled_of s d y ss)))
 
 -- checks with one outcome have one answer
-pub outcome_answer : (checks : Result Done Refusal → Type 0) → HasOneOutcome checks → HasOneAnswer checks
-outcome_answer checks one r s f g rs ss = ap answer_of (one r s f g rs ss)
+pub outcome_answer : {Tells : Type 0} (checks : Result Done Refusal → Type 0) → HasOneOutcome checks → HasOneAnswer Tells checks
+outcome_answer checks one r s tells f g rs ss = ap answer_of (one r s f g rs ss)
 
-pub then_answer : {A : Type 0} (first : Result A Refusal → Type 0) (rest : A → Result Done Refusal → Type 0)
-    → HasOneOutcome first → ((a : A) → HasOneAnswer (rest a)) → HasOneAnswer (Then first rest)
-then_answer {A} first rest one each r s (Ok a, f, x) (Ok b, g, y) rs ss =
+pub then_answer : {A Tells : Type 0} (first : Result A Refusal → Type 0) (rest : A → Result Done Refusal → Type 0)
+    → HasOneOutcome first → ((a : A) → HasOneAnswer Tells (rest a)) → HasOneAnswer Tells (Then first rest)
+then_answer {A} first rest one each r s tells (Ok a, f, x) (Ok b, g, y) rs ss =
     let same : a ≡ b = same_value a b (Ok a) (Ok b) refl refl (one (Ok a) (Ok b) f g tt tt) in
-    each b r s (subst (λ (c : A). rest c r) same x) y rs ss
-then_answer {A} first rest one each r s (Ok a, f, x) (Err e, g, y) rs ss =
+    each b r s tells (subst (λ (c : A). rest c r) same x) y rs ss
+then_answer {A} first rest one each r s tells (Ok a, f, x) (Err e, g, y) rs ss =
     absurd (never_both a e (Ok a) (Err e) refl refl (one (Ok a) (Err e) f g tt (settled_of s e y ss)))
-then_answer {A} first rest one each r s (Err e, f, x) (Ok b, g, y) rs ss =
+then_answer {A} first rest one each r s tells (Err e, f, x) (Ok b, g, y) rs ss =
     absurd (never_both b e (Ok b) (Err e) refl refl (sym (one (Err e) (Ok b) f g (settled_of r e x rs) tt)))
-then_answer {A} first rest one each r s (Err e, f, x) (Err d, g, y) rs ss =
+then_answer {A} first rest one each r s tells (Err e, f, x) (Err d, g, y) rs ss =
     ap answer_of (refused_alike r s e d x y
     (same_refusal {A = A} e d (Err e) (Err d) refl refl (one (Err e) (Err d) f g (settled_of r e x rs) (settled_of s d y ss))))
 
 -- ---- the same where the names of a loop of wires may differ
 
 -- checks with one answer have it whatever the names of loops
-pub but_names : (checks : Result Done Refusal → Type 0) → HasOneAnswer checks → HasOneAnswerButNames checks
-but_names checks one r s f g rs ss = inl (one r s f g rs ss)
+pub but_names : {Tells : Type 0} (checks : Result Done Refusal → Type 0) → HasOneAnswer Tells checks → HasOneAnswerButNames Tells checks
+but_names checks one r s tells f g rs ss = inl (one r s tells f g rs ss)
 
 -- a check with one outcome has one value
 pub outcome_value : {A : Type 0} (check : Result A Refusal → Type 0) → HasOneOutcome check → HasOneValue check
@@ -75,14 +75,14 @@ then_value {A} {B} first rest one each r s (Err e, f, x) (Err d, g, y) rs ss =
     subst (λ (z : Result B Refusal). AreAlike z s) (sym x)
     (subst (λ (z : Result B Refusal). AreAlike {A = B} (Err e) z) (sym y) (one (Err e) (Err d) f g (settled_of r e x rs) (settled_of s d y ss)))
 
-pub then_but_names : {A : Type 0} (first : Result A Refusal → Type 0) (rest : A → Result Done Refusal → Type 0)
-    → HasOneValue first → ((a : A) → first (Ok a) → HasOneAnswerButNames (rest a)) → HasOneAnswerButNames (Then first rest)
-then_but_names {A} first rest one each r s (Ok a, f, x) (Ok b, g, y) rs ss =
+pub then_but_names : {A Tells : Type 0} (first : Result A Refusal → Type 0) (rest : A → Result Done Refusal → Type 0)
+    → HasOneValue first → ((a : A) → first (Ok a) → HasOneAnswerButNames Tells (rest a)) → HasOneAnswerButNames Tells (Then first rest)
+then_but_names {A} first rest one each r s tells (Ok a, f, x) (Ok b, g, y) rs ss =
     let same : a ≡ b = one (Ok a) (Ok b) f g tt tt in
-    each b g r s (subst (λ (c : A). rest c r) same x) y rs ss
-then_but_names {A} first rest one each r s (Ok a, f, x) (Err e, g, y) rs ss = absurd (one (Ok a) (Err e) f g tt (settled_of s e y ss))
-then_but_names {A} first rest one each r s (Err e, f, x) (Ok b, g, y) rs ss = absurd (one (Err e) (Ok b) f g (settled_of r e x rs) tt)
-then_but_names {A} first rest one each r s (Err e, f, x) (Err d, g, y) rs ss =
+    each b g r s tells (subst (λ (c : A). rest c r) same x) y rs ss
+then_but_names {A} first rest one each r s tells (Ok a, f, x) (Err e, g, y) rs ss = absurd (one (Ok a) (Err e) f g tt (settled_of s e y ss))
+then_but_names {A} first rest one each r s tells (Err e, f, x) (Ok b, g, y) rs ss = absurd (one (Err e) (Ok b) f g (settled_of r e x rs) tt)
+then_but_names {A} first rest one each r s tells (Err e, f, x) (Err d, g, y) rs ss =
     elim (one (Err e) (Err d) f g (settled_of r e x rs) (settled_of s d y ss)) [
       | inl h ↦ inl (ap answer_of x ∙ h ∙ sym (ap answer_of y))
       | inr h ↦ inr (subst (λ (z : Result Done Refusal). RefusesLoop z) (sym x) h.0, subst (λ (z : Result Done Refusal). RefusesLoop z) (sym y) h.1)

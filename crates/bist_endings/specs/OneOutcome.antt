@@ -29,9 +29,16 @@ abbrev pub answer_of : Result Done Refusal → Answer
 answer_of (Ok done) = record { status = found_status done.found; line = done.line }
 answer_of (Err refusal) = record { status = status_of refusal; line = refusal_line refusal }
 
--- two settled outcomes that a command's checks allow have the same status and the same line
-abbrev pub HasOneAnswer : (Result Done Refusal → Type 0) → Type 0
-HasOneAnswer checks = (r s : Result Done Refusal) → checks r → checks s → IsSettled r → IsSettled s → answer_of r ≡ answer_of s
+-- neither is a refusal
+abbrev pub AreDone : Result Done Refusal → Result Done Refusal → Type 0
+AreDone (Ok done) (Ok other) = Unit {0}
+AreDone (Ok done) (Err refusal) = ⊥
+AreDone (Err refusal) s = ⊥
+
+-- two settled outcomes that a command's checks allow have the same status and the same line, where the boxes tell enough if neither is a refusal
+abbrev pub HasOneAnswer : Type 0 → (Result Done Refusal → Type 0) → Type 0
+HasOneAnswer Tells checks =
+    (r s : Result Done Refusal) → (AreDone r s → Tells) → checks r → checks s → IsSettled r → IsSettled s → answer_of r ≡ answer_of s
 
 -- a loop of wires, which may be told by the names of another one too
 abbrev pub TellsLoop : Refusal → Type 0
@@ -43,9 +50,9 @@ RefusesLoop (Ok value) = ⊥
 RefusesLoop (Err refusal) = TellsLoop refusal
 
 -- the same, but for the names of a loop of wires: two settled outcomes have the same status and the same line, or both tell a loop
-abbrev pub HasOneAnswerButNames : (Result Done Refusal → Type 0) → Type 0
-HasOneAnswerButNames checks =
-    (r s : Result Done Refusal) → checks r → checks s → IsSettled r → IsSettled s → (answer_of r ≡ answer_of s) ⊎ (RefusesLoop r × RefusesLoop s)
+abbrev pub HasOneAnswerButNames : Type 0 → (Result Done Refusal → Type 0) → Type 0
+HasOneAnswerButNames Tells checks =
+    (r s : Result Done Refusal) → (AreDone r s → Tells) → checks r → checks s → IsSettled r → IsSettled s → (answer_of r ≡ answer_of s) ⊎ (RefusesLoop r × RefusesLoop s)
 
 -- what two refusals say: the same status and the same line, or a loop both
 abbrev pub SayAlike : Refusal → Refusal → Type 0
