@@ -130,3 +130,45 @@ miss_is p at cells (visiting v ∷ steps) =
 pub found : (p : Primitive) (at : Places) (cells : List Bool) (steps : List MarchStep) (miss : Option Miss) → miss ≡ (run_of p at cells steps).miss
     → (IsSome miss ↔ SomeDiffers p at cells steps) × IfSome miss (λ m. IsFirstMiss p at cells steps m)
 found p at cells steps miss is = first_found (after_step p at) (is_wrong_at p at) cells steps miss (is ∙ miss_is p at cells steps)
+
+-- a run names a read where one differs, and nowhere else
+pub missed : (p : Primitive) (at : Places) (cells : List Bool) (steps : List MarchStep) → IsSome (run_of p at cells steps).miss ↔ SomeDiffers p at cells steps
+missed p at cells steps = (found p at cells steps (run_of p at cells steps).miss refl).0
+
+pub differs_unless : (p : Primitive) (at : Places) (cells : List Bool) (steps : List MarchStep) → ((run_of p at cells steps).miss ≡ None → ⊥)
+    → SomeDiffers p at cells steps
+differs_unless p at cells steps passes = (missed p at cells steps).0 (some (run_of p at cells steps).miss passes)
+  where
+    some : (miss : Option Miss) → (miss ≡ None → ⊥) → IsSome miss
+    some None h = absurd (h refl)
+    some (Some miss) h = refl
+
+pub passes_unless : (p : Primitive) (at : Places) (cells : List Bool) (steps : List MarchStep) → (SomeDiffers p at cells steps → ⊥)
+    → (run_of p at cells steps).miss ≡ None
+passes_unless p at cells steps right = none (run_of p at cells steps).miss (λ some. right ((missed p at cells steps).0 some))
+  where
+    none : (miss : Option Miss) → (IsSome miss → ⊥) → miss ≡ None
+    none None h = refl
+    none (Some miss) h = absurd (h refl)
+
+pub all_right : (p : Primitive) (at : Places) (cells : List Bool) (steps : List MarchStep) → (run_of p at cells steps).miss ≡ None
+    → SomeDiffers p at cells steps → ⊥
+all_right p at cells steps passes differs = no_miss (run_of p at cells steps).miss passes ((missed p at cells steps).1 differs)
+  where
+    no_miss : (miss : Option Miss) → miss ≡ None → IsSome miss → ⊥
+    no_miss None none some = cc
+    no_miss (Some miss) none some = cc
+
+-- where no read differs, a run leaves what its steps leave
+pub all_left : (p : Primitive) (at : Places) (cells : List Bool) (steps : List MarchStep) → (run_of p at cells steps).miss ≡ None
+    → (run_of p at cells steps).cells ≡ left_behind (after_step p at) cells steps
+all_left p at cells [] passes = refl
+all_left p at cells (pausing e ∷ steps) passes = all_left p at (pause_cells p at cells) steps passes
+all_left p at cells (visiting v ∷ steps) passes =
+    either (step_cells p at cells v.address (act_of v.op)) (run_of p at (step_cells p at cells v.address (act_of v.op)) steps) _
+    (all_left p at (step_cells p at cells v.address (act_of v.op)) steps) (is_wrong_at p at cells v) passes
+  where
+    either : (next : List Bool) (rest : Outcome) (behind : List Bool) → (rest.miss ≡ None → rest.cells ≡ behind) → (b : Bool)
+        → (let o : Outcome = cond b (record { cells = next; miss = Some (miss_at v) }) rest in o.miss ≡ None → o.cells ≡ behind)
+    either next rest behind e true none = cc
+    either next rest behind e false none = e none

@@ -2,7 +2,8 @@ ghost use Rattle.std.specs.Prelude.{◌≡◌, ◌<◌, ◌↔◌, IsSome, IfSom
 ghost use Rattle.fault_core.specs.Cells.{FitsPlace, close_of};
 ghost use Rattle.march_core.specs.Visits.{FitsWord, visits, directions_of};
 ghost use Rattle.array_sim.specs.Run.{places_of, outcome_of};
-ghost use Rattle.array_sim.specs.Differing.{SomeDiffers, IsFirstMiss};
+ghost use Rattle.array_sim.specs.Differing.{IsFirstMiss};
+ghost use Rattle.array_sim.specs.Detection.{IsCaught};
 
 use crate::element_run::{Miss, run_element};
 use fault_core::{Places, Prim, close_cells};
@@ -28,7 +29,7 @@ pub fn simulate(
     requires places { FitsPlace instance.now.prim (places_of instance.now) (length cells.old) }
     requires fits { FitsWord march.now directions }
     ensures cells { cells.new ≡ (outcome_of march.now (directions_of directions (length march.now)) instance.now.prim (places_of instance.now) cells.old).cells }
-    ensures caught { IsSome result ↔ SomeDiffers instance.now.prim (places_of instance.now) (close_of instance.now.prim (places_of instance.now) cells.old) (visits march.now (directions_of directions (length march.now)) (length cells.old)) }
+    ensures caught { IsSome result ↔ IsCaught march.now (directions_of directions (length march.now)) instance.now.prim (places_of instance.now) cells.old }
     ensures first { IfSome result (λ miss. IsFirstMiss instance.now.prim (places_of instance.now) (close_of instance.now.prim (places_of instance.now) cells.old) (visits march.now (directions_of directions (length march.now)) (length cells.old)) miss) }
     ensures miss { result ≡ (outcome_of march.now (directions_of directions (length march.now)) instance.now.prim (places_of instance.now) cells.old).miss }
 {

@@ -13,6 +13,7 @@ use Rattle.march_core.proofs.Consistent.{consistent_scan, last_after}
 use Rattle.array_sim.specs.declared.element_run.Miss.{Miss}
 use Rattle.array_sim.specs.Run.{Outcome, run_of, outcome_of}
 use Rattle.array_sim.specs.Detection.{DetectsAt}
+use Rattle.array_sim.proofs.Differing.{differs_unless, all_right}
 use Rattle.cell_machine.specs.declared.pair.Pair.{Pair}
 use Rattle.cell_machine.specs.declared.pair.Side.{Side}
 use Rattle.cell_machine.specs.declared.pair.Side.TheVariants.{V}
@@ -218,30 +219,24 @@ from_two p at n content more fits size = go at.agg p.agg refl refl fits.aggresso
 abbrev pub SeesAll : Primitive → Machine → (Pair → Pair) → Type 1
 SeesAll p m start = (at : Places) (n : ℕ) → FitsPlace p at n → Sees p m start at n
 
-pub caught_unless : (o : Option Miss) → (o ≡ None → ⊥) → IsSome o
-caught_unless None h = absurd (h refl)
-caught_unless (Some m) h = refl
-
-pub not_caught : (o : Option Miss) → IsSome o → o ≡ None → ⊥
-not_caught None s n = cc
-not_caught (Some m) s n = cc
-
 -- detection at two cells is detection at each size
 pub at_each_size : (p : Primitive) (m : Machine) (start : Pair → Pair) → SeesAll p m start → (march : List MarchElement) → IsMarch march → (n : ℕ) → 2 ≤ n
     → DetectsAt 2 march p → DetectsAt n march p
 at_each_size p m start sees march is_march n more two ds at content allowed fits size =
     let t = to_two p at n content fits size in
-    caught_unless (outcome_of march ds p at content).miss
+    differs_unless p at _ _
     (λ none.
-    not_caught (outcome_of march ds p (places_in t.placement) t.moved).miss (two ds (places_in t.placement) t.moved allowed t.fits_place t.size)
+    all_right p (places_in t.placement) _ _
     (passes_over p m start march ds is_march at n content fits (sees at n fits) size (places_in t.placement) 2 t.moved t.fits_place
-    (sees (places_in t.placement) 2 t.fits_place) t.size t.view none))
+    (sees (places_in t.placement) 2 t.fits_place) t.size t.view none)
+    (two ds (places_in t.placement) t.moved allowed t.fits_place t.size))
 
 pub at_two_cells : (p : Primitive) (m : Machine) (start : Pair → Pair) → SeesAll p m start → (march : List MarchElement) → IsMarch march → (n : ℕ) → 2 ≤ n
     → DetectsAt n march p → DetectsAt 2 march p
 at_two_cells p m start sees march is_march n more all ds at content allowed fits size =
     let l = from_two p at n content more fits size in
-    caught_unless (outcome_of march ds p at content).miss
+    differs_unless p at _ _
     (λ none.
-    not_caught (outcome_of march ds p at (longer n content)).miss (all ds at (longer n content) allowed l.0 l.1)
-    (passes_over p m start march ds is_march at 2 content fits (sees at 2 fits) size at n (longer n content) l.0 (sees at n l.0) l.1 l.2 none))
+    all_right p at _ _
+    (passes_over p m start march ds is_march at 2 content fits (sees at 2 fits) size at n (longer n content) l.0 (sees at n l.0) l.1 l.2 none)
+    (all ds at (longer n content) allowed l.0 l.1))

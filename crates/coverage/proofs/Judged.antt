@@ -10,6 +10,7 @@ use Rattle.march_core.specs.March.{MarchElement, IsMarch, order_of}
 use Rattle.march_core.specs.Visits.{Direction, FitsWord, is_direction, allows, directions_of}
 use Rattle.array_sim.specs.Run.{outcome_of}
 use Rattle.array_sim.specs.Detection.{DetectsAt, Detects}
+use Rattle.array_sim.proofs.Differing.{differs_unless, all_right}
 use Rattle.cell_machine.specs.Pairs.{pair_close}
 use Rattle.pair_tracker.specs.declared.placement.Placement.{Placement}
 use Rattle.pair_tracker.specs.declared.placement.Placement.TheVariants.{Alone, Below, Above}
@@ -22,7 +23,7 @@ use Rattle.escape_array.specs.Escapes.{IsEscape, IsLeastEscape, places_of_escape
 use Rattle.coverage.specs.declared.verdict.Verdict.{Verdict}
 use Rattle.coverage.specs.declared.verdict.Verdict.TheVariants.{Escape}
 use Rattle.coverage.specs.Verdicts.{IsVerdict, AreVerdicts}
-use Rattle.coverage.proofs.EverySize.{to_two, passes_over, caught_unless, not_caught}
+use Rattle.coverage.proofs.EverySize.{to_two, passes_over}
 use Rattle.coverage.proofs.Seen.{seen_all, two_cells_detect, one_size_detects}
 
 -- a word for a choice of directions
@@ -74,14 +75,14 @@ no_escape_detects p march is is_march none ds at content allowed fits size =
     let sees = seen_all p is in
     let w = fitting_word march ds is_march allowed in
     let e : EscapeArray = record { prim = p; agg = (places_in t.placement).agg; vic = (places_in t.placement).vic; content = t.moved; directions = w.0 } in
-    caught_unless (outcome_of march ds p at content).miss
+    differs_unless p at _ _
     (λ passes.
     let moved : (outcome_of march ds p (places_in t.placement) t.moved).miss ≡ None =
     passes_over p (machine_of p) (pair_close p) march ds is_march at 2 content fits (sees at 2 fits) size (places_in t.placement) 2 t.moved t.fits_place
     (sees (places_in t.placement) 2 t.fits_place) t.size t.view passes in
     none e refl (record {
       array = record { placement = t.placement; fits = t.fits; places = refl; two_cells = t.size; is_word = w.1; directions = w.2 };
-      passes = ap (λ l. (outcome_of march l p (places_in t.placement) t.moved).miss) w.3 ∙ moved;
+      passes = all_right p (places_in t.placement) _ _ (ap (λ l. (outcome_of march l p (places_in t.placement) t.moved).miss) w.3 ∙ moved);
     }))
 
 placement_fits : (p : Primitive) (placement : Placement) → FitsPlacement p placement → FitsPlace p (places_in placement) 2
@@ -102,8 +103,7 @@ pub escape_undetected : (march : List MarchElement) (e : EscapeArray) → IsEsca
 escape_undetected march e escape detects =
     let a = escape.array in
     let fits : FitsPlace e.prim (places_of_escape e) 2 = subst (λ at. FitsPlace e.prim at 2) (sym a.places) (placement_fits e.prim a.placement a.fits) in
-    not_caught (outcome_of march (directions_of e.directions (length march)) e.prim (places_of_escape e) e.content).miss
-    (detects (directions_of e.directions (length march)) (places_of_escape e) e.content a.directions.allowed fits a.two_cells) escape.passes
+    escape.passes (detects (directions_of e.directions (length march)) (places_of_escape e) e.content a.directions.allowed fits a.two_cells)
 
 -- the verdict from the search
 pub none_covered : (p : Primitive) (march : List MarchElement) → IsPrimitive p → IsMarch march

@@ -1,14 +1,16 @@
 -- The run stops at the first read that differs, and nowhere else.
-use Rattle.std.proofs.Common.{◌≡◌, Bool, true, false, cond, Option, Some, List, [], ◌∷◌, refl, ◌∙◌, ◌↔◌}
+use Rattle.std.proofs.Common.{◌≡◌, Bool, true, false, cond, Option, Some, List, [], ◌∷◌, length, refl, ◌∙◌, ◌↔◌}
 use Rattle.std.specs.Option.{IsSome, IfSome}
 use Rattle.fault_core.specs.declared.cells.Places.{Places}
-use Rattle.march_core.specs.Visits.{MarchStep, pausing, visiting}
+use Rattle.march_core.specs.March.{MarchElement}
+use Rattle.march_core.specs.Visits.{MarchStep, pausing, visiting, Direction, visits}
 use Rattle.array_sim.specs.declared.element_run.Miss.{Miss}
 use Rattle.array_sim.specs.Run.{act_of, miss_at}
 use Rattle.array_sim.proofs.Differing.{first_of, first_found}
 use Rattle.dynamic_core.specs.Primitive.{DynamicPrimitive}
-use Rattle.dynamic_core.specs.Dynamic.{Held, dyn_step, after_pause, Ending, Differs, dyn_run, miss_of}
+use Rattle.dynamic_core.specs.Dynamic.{Held, held_as, dyn_step, after_pause, Ending, Differs, dyn_run, miss_of}
 use Rattle.dynamic_core.specs.Differing.{held_after, is_wrong_visit, SomeDynDiffers, IsFirstDynMiss}
+use Rattle.dynamic_core.specs.Detecting.{ending_of, IsCaughtDyn}
 
 miss_is : (p : DynamicPrimitive) (at : Places) (h : Held) (steps : List MarchStep) → miss_of (dyn_run p at h steps) ≡ first_of (held_after p at) (is_wrong_visit p at) h steps
 miss_is p at h [] = refl
@@ -26,3 +28,8 @@ miss_is p at h (visiting v ∷ steps) =
 pub found : (p : DynamicPrimitive) (at : Places) (h : Held) (steps : List MarchStep) (miss : Option Miss) → miss ≡ miss_of (dyn_run p at h steps)
     → (IsSome miss ↔ SomeDynDiffers p at h steps) × IfSome miss (λ m. IsFirstDynMiss p at h steps m)
 found p at h steps miss is = first_found (held_after p at) (is_wrong_visit p at) h steps miss (is ∙ miss_is p at h steps)
+
+-- a march is caught where its run names a read, and nowhere else
+pub missed : (march : List MarchElement) (ds : List Direction) (p : DynamicPrimitive) (at : Places) (content : List Bool)
+    → IsSome (miss_of (ending_of march ds p at content)) ↔ IsCaughtDyn march ds p at content
+missed march ds p at content = (found p at (held_as content false) (visits march ds (length content)) (miss_of (ending_of march ds p at content)) refl).0

@@ -1,10 +1,11 @@
 -- When a march detects a dynamic primitive: at one size, and at every size.
-use Rattle.std.specs.Prelude.{◌≡◌, ◌≢◌, ◌<◌, ◌≤◌, ℕ, Bool, false, IsTrue, IsSome, Option, Some, None, List, length}
+use Rattle.std.specs.Prelude.{◌≡◌, ◌≢◌, ◌<◌, ◌≤◌, ℕ, Bool, false, IsTrue, Option, Some, None, List, length}
 use Rattle.fault_core.specs.declared.cells.Places.{Places}
 use Rattle.march_core.specs.March.{MarchElement}
 use Rattle.march_core.specs.Visits.{Direction, is_direction, visits}
 use Rattle.dynamic_core.specs.Primitive.{DynamicSense, DynamicPrimitive}
-use Rattle.dynamic_core.specs.Dynamic.{Ending, held_as, dyn_run, miss_of}
+use Rattle.dynamic_core.specs.Dynamic.{Ending, held_as, dyn_run}
+use Rattle.dynamic_core.specs.Differing.{SomeDynDiffers}
 
 -- the aggressor's place: there exactly for a primitive with an aggressor, within the array, and not the victim's
 abbrev pub FitsDynAgg : Option DynamicSense → Option ℕ → ℕ → ℕ → Type 0
@@ -22,9 +23,9 @@ pub record FitsDyn (p : DynamicPrimitive) (at : Places) (size : ℕ) : Type 0 wh
 abbrev pub ending_of : List MarchElement → List Direction → DynamicPrimitive → Places → List Bool → Ending
 ending_of march directions p at content = dyn_run p at (held_as content false) (visits march directions (length content))
 
--- some read of the run answers another bit than the march expects
+-- in these directions on this content some read answers another bit than the march expects
 abbrev pub IsCaughtDyn : List MarchElement → List Direction → DynamicPrimitive → Places → List Bool → Type 0
-IsCaughtDyn march directions p at content = IsSome (miss_of (ending_of march directions p at content))
+IsCaughtDyn march directions p at content = SomeDynDiffers p at (held_as content false) (visits march directions (length content))
 
 -- in arrays of this size the primitive is caught in every place, from every content, in every choice of directions
 abbrev pub DetectsDynAt : ℕ → List MarchElement → DynamicPrimitive → Type 0

@@ -3,8 +3,8 @@ ghost use Rattle.march_core.specs.March.{element_at};
 ghost use Rattle.march_core.specs.Visits.{cell_visits, address_visits, addresses, element_visits, direction_at, FitsWord, visits, directions_of};
 ghost use Rattle.array_sim.specs.Addresses.{direction_of, steps_of};
 ghost use Rattle.dynamic_core.specs.Dynamic.{held_as, dyn_run, ending_as, miss_of, held_of};
-ghost use Rattle.dynamic_core.specs.Differing.{SomeDynDiffers, IsFirstDynMiss};
-ghost use Rattle.dynamic_core.specs.Detecting.{FitsDyn, ending_of};
+ghost use Rattle.dynamic_core.specs.Differing.{IsFirstDynMiss};
+ghost use Rattle.dynamic_core.specs.Detecting.{FitsDyn, ending_of, IsCaughtDyn};
 ghost use Rattle.dynamic_core.specs.Instances.{dyn_places};
 
 use crate::primitive::DynPrim;
@@ -135,7 +135,7 @@ pub fn simulate_dyn(
     requires places { FitsDyn instance.now.prim (dyn_places instance.now) (length cells.old) }
     requires fits { FitsWord march.now directions }
     ensures cells { cells.new ≡ (held_of (ending_of march.now (directions_of directions (length march.now)) instance.now.prim (dyn_places instance.now) cells.old)).cells }
-    ensures caught { IsSome result ↔ SomeDynDiffers instance.now.prim (dyn_places instance.now) (held_as cells.old false) (visits march.now (directions_of directions (length march.now)) (length cells.old)) }
+    ensures caught { IsSome result ↔ IsCaughtDyn march.now (directions_of directions (length march.now)) instance.now.prim (dyn_places instance.now) cells.old }
     ensures first { IfSome result (λ miss. IsFirstDynMiss instance.now.prim (dyn_places instance.now) (held_as cells.old false) (visits march.now (directions_of directions (length march.now)) (length cells.old)) miss) }
     ensures miss { result ≡ miss_of (ending_of march.now (directions_of directions (length march.now)) instance.now.prim (dyn_places instance.now) cells.old) }
 {

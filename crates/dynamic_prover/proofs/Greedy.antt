@@ -7,6 +7,7 @@ use Rattle.march_core.specs.Visits.{Direction, Upward, Downward, allows, is_dire
 use Rattle.dynamic_core.specs.Primitive.{DynamicPrimitive}
 use Rattle.dynamic_core.specs.Dynamic.{Held, Ending, Differs, Ends, miss_of}
 use Rattle.dynamic_core.specs.Detecting.{FitsDyn, ending_of, IsCaughtDyn}
+use Rattle.dynamic_core.proofs.Differing.{missed}
 use Rattle.dynamic_prover.specs.declared.own_cells.OwnCells.{OwnCells}
 use Rattle.dynamic_prover.specs.declared.shape.Shape.{Shape}
 use Rattle.dynamic_prover.specs.Shapes.{shape_of, element_run, end_in, shape_run}
@@ -146,10 +147,10 @@ foretold march p at n content is_march fits size =
           let t = holds_if (is_direction march ways) (shape_run p shape q march ways) w.0 (sym (fitting_is p shape march q ways) ∙ w.1) in (
             t.0,
             λ caught. ends_pass a at.vic (shape_run p shape q march ways) w.0 (ending_of march ways p at content) (λ g. length g.cells ≡ n)
-                (shown p at n fits march ways content is_march size) t.1 caught,
+                (shown p at n fits march ways content is_march size) t.1 ((missed march ways p at content).1 caught),
           );
       only = λ ds d not.
           let z = pass_ends a at.vic (shape_run p shape q march ds) (ending_of march ds p at content) (λ g. length g.cells ≡ n)
-          (shown p at n fits march ds content is_march size) not in
+          (shown p at n fits march ds content is_march size) (λ some. not ((missed march ds p at content).0 some)) in
           ways_least (end_in p shape) march q ds z.0 (fitting_is p shape march q ds ∙ ap (λ b. cond b (shape_run p shape q march ds) None) d ∙ z.1);
     }

@@ -13,6 +13,7 @@ use Rattle.cell_machine.specs.Seen.{pair_at}
 use Rattle.dynamic_core.specs.Primitive.{DynamicSense, DynamicPrimitive, has_aggressor}
 use Rattle.dynamic_core.specs.Dynamic.{miss_of}
 use Rattle.dynamic_core.specs.Detecting.{FitsDynAgg, FitsDyn, ending_of, IsCaughtDyn, DetectsDynAt, DetectsDyn}
+use Rattle.dynamic_core.proofs.Differing.{missed}
 use Rattle.dynamic_prover.specs.declared.own_cells.OwnCells.{OwnCells}
 use Rattle.dynamic_prover.specs.declared.shape.Shape.{Shape}
 use Rattle.dynamic_prover.specs.declared.spot.Spot.{Spot}
@@ -108,7 +109,9 @@ none_covered march p is_march none n some ds at content allowed fits size =
     let c : Candidate = found.0 in
     let is : Shown p at.agg at.vic n content c = found.1 in
     let told = told_by march p at n content c is_march fits size is.same_shape is.same_start in
-    caught_unless (miss_of (ending_of march ds p at content)) (λ not. none_in march p (candidates_of (spots_of (has_aggressor p))) c none is.listed (told.only ds allowed not).0)
+    let told_miss = missed march ds p at content in
+    told_miss.0 (caught_unless (miss_of (ending_of march ds p at content))
+    (λ not. none_in march p (candidates_of (spots_of (has_aggressor p))) c none is.listed (told.only ds allowed (λ caught. not (told_miss.1 caught))).0))
 
 -- the array of a candidate, with a direction word
 abbrev made_array : Candidate → ℕ → DynArray

@@ -8,13 +8,13 @@ use Rattle.std.proofs.lemmas.Bool.{cases_lt}
 use Rattle.fault_core.specs.Primitive.{Primitive}
 use Rattle.march_core.specs.March.{MarchElement}
 use Rattle.march_core.specs.Visits.{directions_of}
-use Rattle.array_sim.specs.Run.{outcome_of}
+use Rattle.array_sim.specs.Detection.{IsCaught, cells_after}
 use Rattle.cell_machine.specs.declared.pair.Pair.{Pair}
 use Rattle.cell_machine.specs.Pairs.{pair_of}
 use Rattle.pair_tracker.specs.declared.placement.Placement.{Placement}
 use Rattle.pair_tracker.specs.declared.placement.Placement.TheVariants.{Alone, Below, Above}
 use Rattle.pair_tracker.specs.Placements.{places_in, FitsPlacement, pair_in}
-use Rattle.pair_tracker.specs.Survivors.{two_cell_run, pair_number}
+use Rattle.pair_tracker.specs.Survivors.{pair_number}
 use Rattle.pair_tracker.proofs.Joining.{same_number}
 use Rattle.escape_array.specs.declared.escape.EscapeArray.{EscapeArray}
 use Rattle.escape_array.specs.Escapes.{IsEscape, IsLeastEscape, IsNoGreater, places_of_escape, placement_number, content_number}
@@ -67,11 +67,11 @@ none_so_far march p placement number content two is before none c size low word 
 lets_through : (march : List MarchElement) (e : EscapeArray) (escape : IsEscape march e) (placement : Placement) → places_of_escape e ≡ places_in placement
     → LetsThrough march e.prim placement e.content e.directions
 lets_through march e escape placement places = (
-  pair_in placement (two_cell_run march e.prim placement e.content e.directions).cells,
+  pair_in placement (cells_after march (directions_of e.directions (length march)) e.prim (places_in placement) e.content),
   record {
     is_word = escape.array.is_word;
     fits = escape.array.directions;
-    passes = ap (λ at. (outcome_of march (directions_of e.directions (length march)) e.prim at e.content).miss) (sym places) ∙ escape.passes;
+    passes = subst (λ at. IsCaught march (directions_of e.directions (length march)) e.prim at e.content → ⊥) places escape.passes;
     ends = refl;
   },
 )
@@ -91,8 +91,8 @@ found_escape march p placement e fits least =
         directions = through.fits;
       };
       passes =
-          ap (λ at. (outcome_of march (directions_of e.directions (length march)) e.prim at e.content).miss) least.places
-          ∙ ap (λ q. (outcome_of march (directions_of e.directions (length march)) q (places_in placement) e.content).miss) (sym same) ∙ through.passes;
+          subst (λ at. IsCaught march (directions_of e.directions (length march)) e.prim at e.content → ⊥) (sym least.places)
+          (subst (λ q. IsCaught march (directions_of e.directions (length march)) q (places_in placement) e.content → ⊥) same through.passes);
     }
 
 -- it is no greater than another in the placement

@@ -3,7 +3,7 @@ use Rattle.std.specs.Prelude.{◌≡◌, ◌<◌, ◌≤◌, ◌+◌, ◌^◌, �
 use Rattle.fault_core.specs.declared.cells.Places.{Places}
 use Rattle.march_core.specs.March.{MarchElement}
 use Rattle.march_core.specs.Visits.{FitsWord, directions_of}
-use Rattle.array_sim.specs.Run.{outcome_of}
+use Rattle.array_sim.specs.Detection.{IsCaught}
 use Rattle.pair_tracker.specs.declared.placement.Placement.{Placement}
 use Rattle.pair_tracker.specs.Placements.{places_in, FitsPlacement}
 use Rattle.escape_array.specs.declared.escape.EscapeArray.{EscapeArray}
@@ -23,7 +23,7 @@ pub record IsArray (march : List MarchElement) (e : EscapeArray) : Type 0 where
 -- no read differs in it
 pub record IsEscape (march : List MarchElement) (e : EscapeArray) : Type 0 where
   pub array : IsArray march e
-  pub passes : (outcome_of march (directions_of e.directions (length march)) e.prim (places_of_escape e) e.content).miss ≡ None
+  pub passes : IsCaught march (directions_of e.directions (length march)) e.prim (places_of_escape e) e.content → ⊥
 
 -- placements in their order: aggressor 0 before aggressor 1
 abbrev pub placement_number : Option ℕ → ℕ

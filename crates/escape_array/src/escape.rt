@@ -1,6 +1,6 @@
-ghost use Rattle.std.specs.Prelude.{◌≡◌, ◌↔◌, IsTrue, None, length};
+ghost use Rattle.std.specs.Prelude.{◌↔◌, IsTrue, length};
 ghost use Rattle.march_core.specs.Visits.{directions_of};
-ghost use Rattle.array_sim.specs.Run.{outcome_of};
+ghost use Rattle.array_sim.specs.Detection.{IsCaught};
 ghost use Rattle.escape_array.specs.Escapes.{IsArray, places_of_escape};
 
 use array_sim::{Instance, simulate};
@@ -24,7 +24,7 @@ pub struct EscapeArray {
 /// Runs the march on the array, and answers whether no read differs.
 pub fn replays(march: &March, escape: &EscapeArray) -> bool
     requires { IsArray march.now escape.now }
-    ensures { IsTrue result ↔ ((outcome_of march.now (directions_of escape.now.directions (length march.now)) escape.now.prim (places_of_escape escape.now) escape.now.content).miss ≡ None) }
+    ensures { IsTrue result ↔ (IsCaught march.now (directions_of escape.now.directions (length march.now)) escape.now.prim (places_of_escape escape.now) escape.now.content → ⊥) }
 {
     let mut cells = escape.content;
     let instance = Instance {

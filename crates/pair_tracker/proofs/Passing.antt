@@ -9,16 +9,18 @@ use Rattle.fault_core.specs.Primitive.{Primitive}
 use Rattle.fault_core.specs.Cells.{close_of}
 use Rattle.march_core.specs.March.{MarchElement, IsMarch, all_ops, ops_of}
 use Rattle.march_core.specs.Scan.{scan_of}
-use Rattle.march_core.specs.Visits.{Direction, is_direction, directions_of, visits_from}
+use Rattle.march_core.specs.Visits.{Direction, is_direction, directions_of, visits, visits_from}
 use Rattle.march_core.proofs.Consistent.{consistent_scan, last_after}
 use Rattle.array_sim.specs.Run.{Outcome, run_of, outcome_of}
+use Rattle.array_sim.specs.Differing.{SomeDiffers, left_behind, after_step}
+use Rattle.array_sim.proofs.Differing.{passes_unless, all_right, all_left}
 use Rattle.cell_machine.specs.declared.pair.Pair.{Pair}
 use Rattle.cell_machine.specs.Pairs.{pair_close}
 use Rattle.cell_machine.specs.Seen.{pair_at, SeesPair}
 use Rattle.cell_machine.proofs.Projection.{length-close_of, pair_at-close_of}
 use Rattle.pair_tracker.specs.declared.placement.Placement.{Placement}
 use Rattle.pair_tracker.specs.declared.placement.Placement.TheVariants.{Alone, Below, Above}
-use Rattle.pair_tracker.specs.Legs.{elements_between, directions_between, cells_in, leg_run, IsLeg}
+use Rattle.pair_tracker.specs.Legs.{elements_between, directions_between, cells_in, leg_steps, IsLeg}
 use Rattle.pair_tracker.specs.Pairs.{Machine, machine_of, element_run, sides_in, pair_run}
 use Rattle.pair_tracker.specs.Placements.{places_in, FitsPlacement, beside_place, victim_place, pair_in}
 use Rattle.pair_tracker.specs.Survivors.{Survives}
@@ -134,6 +136,10 @@ passed : (a v : ℕ) (r : Option Pair) (o : Outcome) (L : List Bool → Type 0) 
 passed a v None o L q shows e = cc
 passed a v (Some r) o L q shows e = let same : r ≡ q = cc in (shows.0, shows.1 ∙ same)
 
+-- the run of some elements on the two cells
+abbrev leg_run : List MarchElement → Primitive → Placement → ℕ → ℕ → Pair → ℕ → Outcome
+leg_run march p placement i j start word = run_of p (places_in placement) (cells_in placement start) (leg_steps march i j word)
+
 -- some elements lead from a pair to another on two cells exactly where they do so on the pair
 leg_shown : (p : Primitive) (placement : Placement) (march : List MarchElement) (i j : ℕ) (start : Pair) (word : ℕ) → FitsPlacement p placement → IsMarch march
     → Shows (beside_place placement) (victim_place placement)
@@ -152,11 +158,12 @@ pub leg_leads : (p : Primitive) (placement : Placement) (march : List MarchEleme
     → Leads (machine_of p) (is_below placement) march i j start end word
 leg_leads p placement march i j start end word fits is_march ij within leg =
     let most : length march ≤ 64 = is_march.elements_within in
+    let passes = passes_unless p (places_in placement) (cells_in placement start) (leg_steps march i j word) leg.passes in
     record {
       span = span_from_rest i j word ij (omega arith) leg.before leg.behind;
       allowed = leg.allowed;
       ends = passing (beside_place placement) (victim_place placement) _ (leg_run march p placement i j start word) (λ c. length c ≡ 2) end
-          (leg_shown p placement march i j start word fits is_march) leg.passes leg.ends;
+          (leg_shown p placement march i j start word fits is_march) passes (ap (pair_in placement) (all_left p (places_in placement) _ _ passes) ∙ leg.ends);
     }
 
 pub leads_leg : (p : Primitive) (placement : Placement) (march : List MarchElement) (i j : ℕ) (start end : Pair) (word : ℕ)
@@ -170,8 +177,8 @@ leads_leg p placement march i j start end word fits is_march ij within leads =
       allowed = leads.allowed;
       before = span_below i j word ij (omega arith) leads.span;
       behind = rest_from_span i j word leads.span;
-      passes = both.0;
-      ends = both.1;
+      passes = all_right p (places_in placement) _ _ both.0;
+      ends = ap (pair_in placement) (sym (all_left p (places_in placement) _ _ both.0)) ∙ both.1;
     }
 
 -- the whole march on a content is the leg of all its elements from the closed pair
@@ -212,13 +219,17 @@ pub survives_leg : (p : Primitive) (placement : Placement) (march : List MarchEl
     → IsLeg march p placement 0 (length march) (start_in p placement content) q word
 survives_leg p placement march content word q fits size survives =
     let n : ℕ = length march in
+    let ds : List Direction = directions_of word n in
     let ran = whole_run p placement march content word fits size in
+    let none = passes_unless p (places_in placement) (close_of p (places_in placement) content) (visits march ds (length content)) survives.passes in
     record {
       allowed = ap (λ es. is_direction es (directions_between word 0 n)) (all_between march) ∙ ap (is_direction march) (directions_from_first word n) ∙ survives.fits.allowed;
       before = survives.is_word;
       behind = survives.fits.rest;
-      passes = ap (λ (o : Outcome). o.miss) ran ∙ survives.passes;
-      ends = ap (λ (o : Outcome). pair_in placement o.cells) ran ∙ survives.ends;
+      passes = all_right p (places_in placement) _ _ (ap (λ (o : Outcome). o.miss) ran ∙ none);
+      ends =
+          ap (pair_in placement) (sym (all_left p (places_in placement) _ _ (ap (λ (o : Outcome). o.miss) ran ∙ none)))
+          ∙ ap (λ (o : Outcome). pair_in placement o.cells) ran ∙ ap (pair_in placement) (all_left p (places_in placement) _ _ none) ∙ survives.ends;
     }
 
 pub leg_survives : (p : Primitive) (placement : Placement) (march : List MarchElement) (content : List Bool) (word : ℕ) (q : Pair)
@@ -226,13 +237,18 @@ pub leg_survives : (p : Primitive) (placement : Placement) (march : List MarchEl
     → Survives march p placement content word q
 leg_survives p placement march content word q fits size leg =
     let n : ℕ = length march in
+    let ds : List Direction = directions_of word n in
     let ran = whole_run p placement march content word fits size in
+    let leg_passes = passes_unless p (places_in placement) (cells_in placement (start_in p placement content)) (leg_steps march 0 n word) leg.passes in
+    let none = ap (λ (o : Outcome). o.miss) (sym ran) ∙ leg_passes in
     record {
       is_word = leg.before;
       fits = record {
         allowed = sym (ap (λ es. is_direction es (directions_between word 0 n)) (all_between march) ∙ ap (is_direction march) (directions_from_first word n)) ∙ leg.allowed;
         rest = leg.behind;
       };
-      passes = ap (λ (o : Outcome). o.miss) (sym ran) ∙ leg.passes;
-      ends = ap (λ (o : Outcome). pair_in placement o.cells) (sym ran) ∙ leg.ends;
+      passes = all_right p (places_in placement) _ _ none;
+      ends =
+          ap (pair_in placement) (sym (all_left p (places_in placement) _ _ none))
+          ∙ ap (λ (o : Outcome). pair_in placement o.cells) (sym ran) ∙ ap (pair_in placement) (all_left p (places_in placement) _ _ leg_passes) ∙ leg.ends;
     }

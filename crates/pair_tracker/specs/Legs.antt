@@ -1,10 +1,10 @@
 -- What some neighbouring elements of a march do to two cells, over all choices of direction.
-use Rattle.std.specs.Prelude.{◌≡◌, ◌<◌, ◌-◌, ◌%◌, ◌^◌, ℕ, Bool, None, List, [], ◌∷◌, map, take, drop, IsTrue, slice_index_or}
+use Rattle.std.specs.Prelude.{◌≡◌, ◌<◌, ◌-◌, ◌%◌, ◌^◌, ℕ, Bool, List, [], ◌∷◌, map, take, drop, IsTrue, slice_index_or}
 use Rattle.std.specs.List.{range_with_len}
 use Rattle.fault_core.specs.Primitive.{Primitive}
 use Rattle.march_core.specs.March.{MarchElement}
-use Rattle.march_core.specs.Visits.{Direction, is_direction, direction_at, visits_from}
-use Rattle.array_sim.specs.Run.{Outcome, run_of}
+use Rattle.march_core.specs.Visits.{Direction, MarchStep, is_direction, direction_at, visits_from}
+use Rattle.array_sim.specs.Differing.{left_behind, after_step, SomeDiffers}
 use Rattle.cell_machine.specs.declared.pair.Pair.{Pair}
 use Rattle.pair_tracker.specs.declared.placement.Placement.{Placement}
 use Rattle.pair_tracker.specs.declared.placement.Placement.TheVariants.{Alone, Below, Above}
@@ -26,19 +26,18 @@ cells_in Alone pair = pair.v ∷ pair.a ∷ []
 cells_in Below pair = pair.a ∷ pair.v ∷ []
 cells_in Above pair = pair.v ∷ pair.a ∷ []
 
--- the run of these elements in the directions of a word; the cells are not closed first
-abbrev pub leg_run : List MarchElement → Primitive → Placement → ℕ → ℕ → Pair → ℕ → Outcome
-leg_run march p placement i j start word =
-    run_of p (places_in placement) (cells_in placement start) (visits_from i (elements_between march i j) (directions_between word i j) 2)
+-- the steps of these elements on two cells, in the directions of a word
+abbrev pub leg_steps : List MarchElement → ℕ → ℕ → ℕ → List MarchStep
+leg_steps march i j word = visits_from i (elements_between march i j) (directions_between word i j) 2
 
--- these elements lead from a pair to another in the directions of a word, and no read differs
+-- these elements lead from a pair to another in the directions of a word, and no read differs; the cells are not closed first
 pub record IsLeg (march : List MarchElement) (p : Primitive) (placement : Placement) (i j : ℕ) (start end : Pair) (word : ℕ) : Type 0 where
   pub allowed : IsTrue (is_direction (elements_between march i j) (directions_between word i j))
   -- the bits of the elements before i, and of those from j on, are 0
   pub before : word < 2 ^ (64 - i)
   pub behind : word % 2 ^ (64 - j) ≡ 0
-  pub passes : (leg_run march p placement i j start word).miss ≡ None
-  pub ends : pair_in placement (leg_run march p placement i j start word).cells ≡ end
+  pub passes : SomeDiffers p (places_in placement) (cells_in placement start) (leg_steps march i j word) → ⊥
+  pub ends : pair_in placement (left_behind (after_step p (places_in placement)) (cells_in placement start) (leg_steps march i j word)) ≡ end
 
 -- each final pair that these elements lead to from a pair stands once, with its least word
 abbrev pub AreLegEnds : List MarchElement → Primitive → Placement → ℕ → ℕ → Pair → List Survivor → Type 0

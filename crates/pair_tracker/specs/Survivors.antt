@@ -1,26 +1,22 @@
 -- What a march lets through on an array of two cells, over all choices of direction.
-use Rattle.std.specs.Prelude.{◌≡◌, ◌<◌, ◌≤◌, ◌+◌, ◌*◌, ◌^◌, ℕ, Bool, None, List, length, map, if◌then◌else◌, Contains}
+use Rattle.std.specs.Prelude.{◌≡◌, ◌<◌, ◌≤◌, ◌+◌, ◌*◌, ◌^◌, ℕ, Bool, List, length, map, if◌then◌else◌, Contains}
 use Rattle.std.specs.List.{AllByRecursion}
 use Rattle.std.specs.List.Sorted.{IsStrictlyIncreasing}
 use Rattle.fault_core.specs.Primitive.{Primitive}
 use Rattle.march_core.specs.March.{MarchElement}
 use Rattle.march_core.specs.Visits.{FitsWord, directions_of}
-use Rattle.array_sim.specs.Run.{Outcome, outcome_of}
+use Rattle.array_sim.specs.Detection.{IsCaught, cells_after}
 use Rattle.cell_machine.specs.declared.pair.Pair.{Pair}
 use Rattle.pair_tracker.specs.declared.placement.Placement.{Placement}
 use Rattle.pair_tracker.specs.declared.placement.Survivor.{Survivor}
 use Rattle.pair_tracker.specs.Placements.{places_in, pair_in}
 
--- the run on the two cells in the directions of a word
-abbrev pub two_cell_run : List MarchElement → Primitive → Placement → List Bool → ℕ → Outcome
-two_cell_run march p placement content word = outcome_of march (directions_of word (length march)) p (places_in placement) content
-
 -- no read differs in the directions of a fitting word, and the two cells end so
 pub record Survives (march : List MarchElement) (p : Primitive) (placement : Placement) (content : List Bool) (word : ℕ) (final : Pair) : Type 0 where
   pub is_word : word < 2 ^ 64
   pub fits : FitsWord march word
-  pub passes : (two_cell_run march p placement content word).miss ≡ None
-  pub ends : pair_in placement (two_cell_run march p placement content word).cells ≡ final
+  pub passes : IsCaught march (directions_of word (length march)) p (places_in placement) content → ⊥
+  pub ends : pair_in placement (cells_after march (directions_of word (length march)) p (places_in placement) content) ≡ final
 
 -- pairs in their order: the aggressor's bit first, 0 before 1
 abbrev pub pair_number : Pair → ℕ

@@ -20,6 +20,7 @@ use Rattle.march_core.specs.Runs.{upward, up, is_write, data_value}
 use Rattle.march_core.specs.Visits.{Visit, MarchStep, pausing, visiting, visits, allows, is_direction}
 use Rattle.array_sim.specs.Run.{run_of, act_of, is_wrong_of, miss_at}
 use Rattle.array_sim.specs.Detection.{DetectsAt}
+use Rattle.array_sim.proofs.Differing.{missed}
 use Rattle.backgrounds.specs.Backgrounds.{word_of}
 use Rattle.memory_desc.specs.Descriptions.{Description, IsMemory}
 use Rattle.word_march.specs.declared.operations.WordOp.{WordOp}
@@ -205,7 +206,7 @@ caught_in march d i at t below is fits detects (b ∷ bs) zero inside solid ws r
     let size : length cells ≡ d.words = length-lane at ws ∙ ready.size in
     let closed : close_of i.prim (spots i) cells ≡ cells = sym (lane_closed i at ws t) ∙ ap (lane at) ready.closed in
     let miss : IsSome (run_of i.prim (spots i) (close_of i.prim (spots i) cells) (visits march (up march) (length cells))).miss =
-    detects (up march) (spots i) cells (up_fits march) fits size in
+    (missed i.prim (spots i) (close_of i.prim (spots i) cells) (visits march (up march) (length cells))).1 (detects (up march) (spots i) cells (up_fits march) fits size) in
     let run : IsSome (run_of i.prim (spots i) cells (visits march (up march) d.words)).miss =
     subst (λ (n : ℕ). IsSome (run_of i.prim (spots i) cells (visits march (up march) n)).miss) size
     (subst (λ (l : List Bool). IsSome (run_of i.prim (spots i) l (visits march (up march) (length cells))).miss) closed miss) in
