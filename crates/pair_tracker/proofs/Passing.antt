@@ -12,7 +12,8 @@ use Rattle.march_core.specs.Scan.{scan_of}
 use Rattle.march_core.specs.Visits.{Direction, is_direction, directions_of, visits, visits_from}
 use Rattle.march_core.proofs.Consistent.{consistent_scan, last_after}
 use Rattle.array_sim.specs.Run.{Outcome, run_of, outcome_of}
-use Rattle.array_sim.specs.Differing.{SomeDiffers, left_behind, after_step}
+use Rattle.array_sim.specs.Differing.{left_behind, after_step}
+use Rattle.array_sim.specs.Detection.{cells_after}
 use Rattle.array_sim.proofs.Differing.{passes_unless, all_right, all_left}
 use Rattle.cell_machine.specs.declared.pair.Pair.{Pair}
 use Rattle.cell_machine.specs.Pairs.{pair_close}
@@ -140,6 +141,14 @@ passed a v (Some r) o L q shows e = let same : r ≡ q = cc in (shows.0, shows.1
 abbrev leg_run : List MarchElement → Primitive → Placement → ℕ → ℕ → Pair → ℕ → Outcome
 leg_run march p placement i j start word = run_of p (places_in placement) (cells_in placement start) (leg_steps march i j word)
 
+leg_left : (p : Primitive) (placement : Placement) (march : List MarchElement) (i j : ℕ) (start : Pair) (word : ℕ) → (leg_run march p placement i j start word).miss ≡ None
+    → (leg_run march p placement i j start word).cells ≡ left_behind (after_step p (places_in placement)) (cells_in placement start) (leg_steps march i j word)
+leg_left p placement march i j start word none = all_left p (places_in placement) (cells_in placement start) (leg_steps march i j word) none
+
+whole_left : (p : Primitive) (placement : Placement) (march : List MarchElement) (content : List Bool) (ds : List Direction) → (outcome_of march ds p (places_in placement) content).miss ≡ None
+    → (outcome_of march ds p (places_in placement) content).cells ≡ cells_after march ds p (places_in placement) content
+whole_left p placement march content ds none = all_left p (places_in placement) (close_of p (places_in placement) content) (visits march ds (length content)) none
+
 -- some elements lead from a pair to another on two cells exactly where they do so on the pair
 leg_shown : (p : Primitive) (placement : Placement) (march : List MarchElement) (i j : ℕ) (start : Pair) (word : ℕ) → FitsPlacement p placement → IsMarch march
     → Shows (beside_place placement) (victim_place placement)
@@ -163,7 +172,7 @@ leg_leads p placement march i j start end word fits is_march ij within leg =
       span = span_from_rest i j word ij (omega arith) leg.before leg.behind;
       allowed = leg.allowed;
       ends = passing (beside_place placement) (victim_place placement) _ (leg_run march p placement i j start word) (λ c. length c ≡ 2) end
-          (leg_shown p placement march i j start word fits is_march) passes (ap (pair_in placement) (all_left p (places_in placement) _ _ passes) ∙ leg.ends);
+          (leg_shown p placement march i j start word fits is_march) passes (ap (pair_in placement) (leg_left p placement march i j start word passes) ∙ leg.ends);
     }
 
 pub leads_leg : (p : Primitive) (placement : Placement) (march : List MarchElement) (i j : ℕ) (start end : Pair) (word : ℕ)
@@ -177,8 +186,8 @@ leads_leg p placement march i j start end word fits is_march ij within leads =
       allowed = leads.allowed;
       before = span_below i j word ij (omega arith) leads.span;
       behind = rest_from_span i j word leads.span;
-      passes = all_right p (places_in placement) _ _ both.0;
-      ends = ap (pair_in placement) (sym (all_left p (places_in placement) _ _ both.0)) ∙ both.1;
+      passes = all_right p (places_in placement) (cells_in placement start) (leg_steps march i j word) both.0;
+      ends = ap (pair_in placement) (sym (leg_left p placement march i j start word both.0)) ∙ both.1;
     }
 
 -- the whole march on a content is the leg of all its elements from the closed pair
@@ -222,14 +231,15 @@ survives_leg p placement march content word q fits size survives =
     let ds : List Direction = directions_of word n in
     let ran = whole_run p placement march content word fits size in
     let none = passes_unless p (places_in placement) (close_of p (places_in placement) content) (visits march ds (length content)) survives.passes in
+    let leg_passes = ap (λ (o : Outcome). o.miss) ran ∙ none in
     record {
       allowed = ap (λ es. is_direction es (directions_between word 0 n)) (all_between march) ∙ ap (is_direction march) (directions_from_first word n) ∙ survives.fits.allowed;
       before = survives.is_word;
       behind = survives.fits.rest;
-      passes = all_right p (places_in placement) _ _ (ap (λ (o : Outcome). o.miss) ran ∙ none);
+      passes = all_right p (places_in placement) (cells_in placement (start_in p placement content)) (leg_steps march 0 n word) leg_passes;
       ends =
-          ap (pair_in placement) (sym (all_left p (places_in placement) _ _ (ap (λ (o : Outcome). o.miss) ran ∙ none)))
-          ∙ ap (λ (o : Outcome). pair_in placement o.cells) ran ∙ ap (pair_in placement) (all_left p (places_in placement) _ _ none) ∙ survives.ends;
+          ap (pair_in placement) (sym (leg_left p placement march 0 n (start_in p placement content) word leg_passes))
+          ∙ ap (λ (o : Outcome). pair_in placement o.cells) ran ∙ ap (pair_in placement) (whole_left p placement march content ds none) ∙ survives.ends;
     }
 
 pub leg_survives : (p : Primitive) (placement : Placement) (march : List MarchElement) (content : List Bool) (word : ℕ) (q : Pair)
@@ -247,8 +257,8 @@ leg_survives p placement march content word q fits size leg =
         allowed = sym (ap (λ es. is_direction es (directions_between word 0 n)) (all_between march) ∙ ap (is_direction march) (directions_from_first word n)) ∙ leg.allowed;
         rest = leg.behind;
       };
-      passes = all_right p (places_in placement) _ _ none;
+      passes = all_right p (places_in placement) (close_of p (places_in placement) content) (visits march ds (length content)) none;
       ends =
-          ap (pair_in placement) (sym (all_left p (places_in placement) _ _ none))
-          ∙ ap (λ (o : Outcome). pair_in placement o.cells) (sym ran) ∙ ap (pair_in placement) (all_left p (places_in placement) _ _ leg_passes) ∙ leg.ends;
+          ap (pair_in placement) (sym (whole_left p placement march content ds none))
+          ∙ ap (λ (o : Outcome). pair_in placement o.cells) (sym ran) ∙ ap (pair_in placement) (leg_left p placement march 0 n (start_in p placement content) word leg_passes) ∙ leg.ends;
     }
