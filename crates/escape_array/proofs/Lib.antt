@@ -1,2 +1,3 @@
 pub mod LeastWords
 pub mod LeastArray
+pub mod Replaying

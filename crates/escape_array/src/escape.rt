@@ -1,7 +1,9 @@
-ghost use Rattle.std.specs.Prelude.{◌↔◌, IsTrue, length};
-ghost use Rattle.march_core.specs.Visits.{directions_of};
+ghost use Rattle.std.specs.Prelude.{◌≡◌, ◌↔◌, IsTrue, length};
+ghost use Rattle.fault_core.specs.Cells.{FitsPlace};
+ghost use Rattle.march_core.specs.Visits.{FitsWord, directions_of};
+ghost use Rattle.array_sim.specs.Run.{places_of};
 ghost use Rattle.array_sim.specs.Detection.{IsCaught};
-ghost use Rattle.escape_array.specs.Escapes.{IsArray, places_of_escape};
+ghost use Rattle.escape_array.specs.Escapes.{places_of_escape};
 
 use array_sim::{Instance, simulate};
 use fault_core::Prim;
@@ -21,16 +23,25 @@ pub struct EscapeArray {
     pub directions: u64,
 }
 
-/// Runs the march on the array, and answers whether no read differs.
-pub fn replays(march: &March, escape: &EscapeArray) -> bool
-    requires { IsArray march.now escape.now }
-    ensures { IsTrue result ↔ (IsCaught march.now (directions_of escape.now.directions (length march.now)) escape.now.prim (places_of_escape escape.now) escape.now.content → ⊥) }
+/// The instance in the array.
+fn instance_in(escape: &EscapeArray) -> Instance
+    ensures prim { result.prim ≡ escape.now.prim }
+    ensures places { places_of result ≡ places_of_escape escape.now }
 {
-    let mut cells = escape.content;
-    let instance = Instance {
+    Instance {
         prim: escape.prim,
         agg: escape.agg.map(usize::from),
         vic: usize::from(escape.vic),
-    };
+    }
+}
+
+/// Runs the march on the array, and answers whether no read differs.
+pub fn replays(march: &March, escape: &EscapeArray) -> bool
+    requires places { FitsPlace escape.now.prim (places_of_escape escape.now) 2 }
+    requires directions { FitsWord march.now escape.now.directions }
+    ensures { IsTrue result ↔ (IsCaught march.now (directions_of escape.now.directions (length march.now)) escape.now.prim (places_of_escape escape.now) escape.now.content → ⊥) }
+{
+    let mut cells = escape.content;
+    let instance = instance_in(escape);
     simulate(march, &instance, &mut cells, escape.directions).is_none()
 }
