@@ -10,7 +10,6 @@ use Rattle.fault_core.specs.Cells.{cell, close_of, FitsPlace, FitsAgg}
 use Rattle.march_core.specs.March.{MarchElement, IsMarch, all_ops}
 use Rattle.march_core.specs.Visits.{Direction, addresses, visits}
 use Rattle.march_core.proofs.Consistent.{consistent_scan, last_after}
-use Rattle.array_sim.specs.declared.element_run.Miss.{Miss}
 use Rattle.array_sim.specs.Run.{Outcome, run_of, outcome_of}
 use Rattle.array_sim.specs.Detection.{DetectsAt}
 use Rattle.array_sim.proofs.Differing.{differs_unless, all_right}
@@ -224,9 +223,9 @@ pub at_each_size : (p : Primitive) (m : Machine) (start : Pair → Pair) → See
     → DetectsAt 2 march p → DetectsAt n march p
 at_each_size p m start sees march is_march n more two ds at content allowed fits size =
     let t = to_two p at n content fits size in
-    differs_unless p at _ _
+    differs_unless p at (close_of p at content) (visits march ds (length content))
     (λ none.
-    all_right p (places_in t.placement) _ _
+    all_right p (places_in t.placement) (close_of p (places_in t.placement) t.moved) (visits march ds (length t.moved))
     (passes_over p m start march ds is_march at n content fits (sees at n fits) size (places_in t.placement) 2 t.moved t.fits_place
     (sees (places_in t.placement) 2 t.fits_place) t.size t.view none)
     (two ds (places_in t.placement) t.moved allowed t.fits_place t.size))
@@ -235,8 +234,8 @@ pub at_two_cells : (p : Primitive) (m : Machine) (start : Pair → Pair) → See
     → DetectsAt n march p → DetectsAt 2 march p
 at_two_cells p m start sees march is_march n more all ds at content allowed fits size =
     let l = from_two p at n content more fits size in
-    differs_unless p at _ _
+    differs_unless p at (close_of p at content) (visits march ds (length content))
     (λ none.
-    all_right p at _ _
+    all_right p at (close_of p at (longer n content)) (visits march ds (length (longer n content)))
     (passes_over p m start march ds is_march at 2 content fits (sees at 2 fits) size at n (longer n content) l.0 (sees at n l.0) l.1 l.2 none)
     (all ds at (longer n content) allowed l.0 l.1))

@@ -1,25 +1,22 @@
 -- Escapes of two cells decide detection.
-use Rattle.std.proofs.Common.{◌≡◌, ◌+◌, ◌-◌, ◌<◌, ◌≤◌, ◌^◌, ℕ, suc, true, Option, Some, None, List, [], ◌∷◌, ◌++◌, length, refl, ap, sym, subst, ◌∙◌, append_assoc, append-nil, arith}
-use Rattle.std.specs.Option.{IsSome}
+use Rattle.std.proofs.Common.{◌≡◌, ◌+◌, ◌-◌, ◌<◌, ◌≤◌, ◌^◌, ℕ, suc, true, None, List, [], ◌∷◌, ◌++◌, length, refl, ap, sym, subst, ◌∙◌, append_assoc, append-nil, arith}
 use Rattle.std.specs.Bool.{IsTrue}
 use Rattle.std.proofs.lemmas.Bool.{and_parts}
-use Rattle.fault_core.specs.declared.primitive.Sense.{Sense}
 use Rattle.fault_core.specs.Primitive.{Primitive, IsPrimitive}
-use Rattle.fault_core.specs.Cells.{FitsPlace, FitsAgg}
+use Rattle.fault_core.specs.Cells.{close_of}
 use Rattle.march_core.specs.March.{MarchElement, IsMarch, order_of}
-use Rattle.march_core.specs.Visits.{Direction, FitsWord, is_direction, allows, directions_of}
+use Rattle.march_core.specs.Visits.{Direction, FitsWord, is_direction, allows, directions_of, visits}
 use Rattle.array_sim.specs.Run.{outcome_of}
 use Rattle.array_sim.specs.Detection.{DetectsAt, Detects}
 use Rattle.array_sim.proofs.Differing.{differs_unless, all_right}
 use Rattle.cell_machine.specs.Pairs.{pair_close}
-use Rattle.pair_tracker.specs.declared.placement.Placement.{Placement}
-use Rattle.pair_tracker.specs.declared.placement.Placement.TheVariants.{Alone, Below, Above}
-use Rattle.pair_tracker.specs.Placements.{places_in, FitsPlacement}
+use Rattle.pair_tracker.specs.Placements.{places_in}
 use Rattle.pair_tracker.specs.Pairs.{machine_of}
 use Rattle.pair_tracker.specs.Tracking.{weight_in, IsSpanWord}
 use Rattle.pair_tracker.proofs.Words.{span_none, span_more, span_fits, directions_more, rest_from_span}
 use Rattle.escape_array.specs.declared.escape.EscapeArray.{EscapeArray}
 use Rattle.escape_array.specs.Escapes.{IsEscape, IsLeastEscape, places_of_escape}
+use Rattle.escape_array.proofs.Replaying.{array_fits}
 use Rattle.coverage.specs.declared.verdict.Verdict.{Verdict}
 use Rattle.coverage.specs.declared.verdict.Verdict.TheVariants.{Escape}
 use Rattle.coverage.specs.Verdicts.{IsVerdict, AreVerdicts}
@@ -75,35 +72,23 @@ no_escape_detects p march is is_march none ds at content allowed fits size =
     let sees = seen_all p is in
     let w = fitting_word march ds is_march allowed in
     let e : EscapeArray = record { prim = p; agg = (places_in t.placement).agg; vic = (places_in t.placement).vic; content = t.moved; directions = w.0 } in
-    differs_unless p at _ _
+    differs_unless p at (close_of p at content) (visits march ds (length content))
     (λ passes.
     let moved : (outcome_of march ds p (places_in t.placement) t.moved).miss ≡ None =
     passes_over p (machine_of p) (pair_close p) march ds is_march at 2 content fits (sees at 2 fits) size (places_in t.placement) 2 t.moved t.fits_place
     (sees (places_in t.placement) 2 t.fits_place) t.size t.view passes in
     none e refl (record {
       array = record { placement = t.placement; fits = t.fits; places = refl; two_cells = t.size; is_word = w.1; directions = w.2 };
-      passes = all_right p (places_in t.placement) _ _ (ap (λ l. (outcome_of march l p (places_in t.placement) t.moved).miss) w.3 ∙ moved);
+      passes = all_right p (places_in t.placement) (close_of p (places_in t.placement) t.moved) (visits march (directions_of w.0 (length march)) (length t.moved))
+          (ap (λ l. (outcome_of march l p (places_in t.placement) t.moved).miss) w.3 ∙ moved);
     }))
-
-placement_fits : (p : Primitive) (placement : Placement) → FitsPlacement p placement → FitsPlace p (places_in placement) 2
-placement_fits p Alone h = record { victim = omega arith; aggressor = subst (λ s. FitsAgg s None 0 2) (sym h) tt }
-placement_fits p Below h = record { victim = omega arith; aggressor = given p.agg h }
-  where
-    given : (agg : Option Sense) → IsSome agg → FitsAgg agg (Some 0) 1 2
-    given None h = cc
-    given (Some s) h = (omega arith, omega arith)
-placement_fits p Above h = record { victim = omega arith; aggressor = given p.agg h }
-  where
-    given : (agg : Option Sense) → IsSome agg → FitsAgg agg (Some 1) 0 2
-    given None h = cc
-    given (Some s) h = (omega arith, omega arith)
 
 -- an array that passes is not detected
 pub escape_undetected : (march : List MarchElement) (e : EscapeArray) → IsEscape march e → DetectsAt 2 march e.prim → ⊥
 escape_undetected march e escape detects =
     let a = escape.array in
-    let fits : FitsPlace e.prim (places_of_escape e) 2 = subst (λ at. FitsPlace e.prim at 2) (sym a.places) (placement_fits e.prim a.placement a.fits) in
-    escape.passes (detects (directions_of e.directions (length march)) (places_of_escape e) e.content a.directions.allowed fits a.two_cells)
+    escape.passes
+    (detects (directions_of e.directions (length march)) (places_of_escape e) e.content a.directions.allowed (array_fits march e a) a.two_cells)
 
 -- the verdict from the search
 pub none_covered : (p : Primitive) (march : List MarchElement) → IsPrimitive p → IsMarch march
