@@ -10,7 +10,7 @@ use bist_bits::NoMemory;
 use dynamic_core::Item;
 use march_core::March;
 use memory_desc::Memory;
-use report::{JudgedItem, count_covered, judge_items, write_judged, write_total};
+use report::{JudgedItem, count_covered, judge_items, total_text, write_judged};
 use std::alloc::Global;
 
 /// A report, its last line, how many items are covered, and whether some escapes.
@@ -26,9 +26,7 @@ pub struct Reported {
 fn total(alloc: Global, judged: &[JudgedItem]) -> Result<Vec<u8>, NoMemory>
     ensures { IfOk result (λ line. line.items ≡ total_line (length judged.now) (covered_count judged.now)) }
 {
-    let mut line = Vec::new(alloc);
-    write_total(&mut line, judged.len(), count_covered(judged))?;
-    Ok(line)
+    total_text(alloc, judged.len(), count_covered(judged))
 }
 
 /// The report of these judged items.

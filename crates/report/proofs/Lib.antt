@@ -1,3 +1,4 @@
 pub mod ReportLines
 pub mod Counts
 pub mod PlainItems
+pub mod ClassOrder

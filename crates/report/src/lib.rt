@@ -4,12 +4,14 @@
 mod class_lines;
 mod judged;
 mod judged_lines;
+mod laws;
 mod memory_line;
 mod total;
 mod verdicts;
 mod write;
 
 pub use judged::{JudgedItem, judge_items};
-pub use total::{count_covered, write_total};
+pub use laws::classes_in_order;
+pub use total::{count_covered, total_text};
 pub use verdicts::write_report;
 pub use write::{write_judged, write_mixed};

@@ -1,4 +1,4 @@
-ghost use Rattle.std.specs.Prelude.{◌≡◌, ◌≤◌, ◌++◌, OnOk, length};
+ghost use Rattle.std.specs.Prelude.{◌≡◌, ◌≤◌, ◌++◌, IfOk, OnOk, length};
 ghost use Rattle.report.specs.Items.{covered_count, is_covered};
 ghost use Rattle.report.specs.Report.{total_line};
 
@@ -7,6 +7,7 @@ use bist_bits::NoMemory;
 use bist_text::{put, put_decimal};
 use coverage::Verdict;
 use dynamic_prover::DynVerdict;
+use std::alloc::Global;
 
 /// Whether a judged item is covered.
 #[tactic(auto, unfolding(crate::specs::Items::is_covered))]
@@ -29,7 +30,7 @@ pub fn count_covered(judged: &[JudgedItem]) -> usize
 }
 
 /// Appends the line of the total. After want of memory `out` ends in a part of the line, or in none of it.
-pub fn write_total(out: &mut Vec<u8>, count: usize, covered: usize) -> Result<(), NoMemory>
+pub(crate) fn write_total(out: &mut Vec<u8>, count: usize, covered: usize) -> Result<(), NoMemory>
     requires { covered ≤ count }
     ensures { OnOk result (out.new.items ≡ out.old.items ++ total_line count covered) }
 {
@@ -40,4 +41,14 @@ pub fn write_total(out: &mut Vec<u8>, count: usize, covered: usize) -> Result<()
     put(out, b" escapes ")?;
     put_decimal(out, (count - covered) as u64)?;
     put(out, b"\n")
+}
+
+/// The line of the total.
+pub fn total_text(alloc: Global, count: usize, covered: usize) -> Result<Vec<u8>, NoMemory>
+    requires { covered ≤ count }
+    ensures { IfOk result (λ text. text.items ≡ total_line count covered) }
+{
+    let mut out = Vec::new(alloc);
+    write_total(&mut out, count, covered)?;
+    Ok(out)
 }
