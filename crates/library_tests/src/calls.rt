@@ -19,7 +19,7 @@ use march_core::{MarchBuilder, MarchFault, Op, Order, is_down};
 use march_syntax::read_march;
 use memory_desc::read_memory;
 use pair_tracker::{Placement, Survivor, survivors};
-use report::{count_covered, judge_items, write_judged, write_mixed, write_report, write_total};
+use report::{count_covered, judge_items, total_text, write_judged, write_mixed, write_report};
 use scrambler::{Dependence, Matrix, Scramble, invert};
 use std::test::Fail;
 use verilog_tree::{BinOp, Name, UnOp, binary_width, is_name, unary_width};
@@ -199,6 +199,7 @@ fn is_worked_escape(escape: &EscapeArray) -> bool {
 }
 
 #[test]
+#[tactic(auto, using(escape_array::proofs::Replaying::array_fits))]
 fn escapes(rt: HostRuntime) -> Result<(), Fail> {
     let march = read_march(MATS_PLUS)?;
     let keeps_one = failed_transition(true)?;
@@ -250,8 +251,7 @@ fn verdicts_and_reports(rt: HostRuntime) -> Result<(), Fail> {
     assert_eq!(rt; text.as_slice(), REPORT);
     let text = write_mixed(rt.alloc(), &march, None, &items)?;
     assert_eq!(rt; text.as_slice(), REPORT);
-    let mut total = Vec::new(rt.alloc());
-    write_total(&mut total, 5, 3)?;
+    let total = total_text(rt.alloc(), 5, 3)?;
     assert_eq!(rt;
         total.as_slice(),
         b"total 5 covered 3 escapes 2\n".as_slice()
