@@ -29,6 +29,7 @@ use Rattle.rtl_layout.specs.Shows as W
 use Rattle.rtl_layout.proofs.History.{always}
 use Rattle.rtl_layout.proofs.Ranked.{rank, rank_falls}
 use Rattle.rtl_layout.proofs.Whole.{legal}
+use Rattle.rtl_layout.proofs.Forms.{settles_once}
 use Rattle.rtl_gen.specs.Planned.{Plans}
 use Rattle.rtl_gen.proofs.Mirror.{place, seen, starts_seen, word_seen, operation_seen, live_seen, index_seen, step_seen}
 
@@ -165,5 +166,6 @@ module _ (march : List MarchElement) (d : Description) (p : Plan) (pl : Plans ma
     ports = ports_seen;
     legal = legal p is_plan.ready is_plan.sized;
     no_loop = no_loop (L.self_test p) rank (rank_falls p is_plan.ready);
+    settles = settles_once p is_plan.ready is_plan.sized;
     meets = meets;
   }

@@ -3,7 +3,7 @@ use Rattle.std.specs.Prelude.{◌≡◌, ℕ, zero, suc, List, [], ◌∷◌, �
 use Rattle.verilog_tree.specs.Plain.{ModuleTree}
 use Rattle.verilog_tree.specs.Meaning.{Env, History}
 use Rattle.verilog_tree.specs.Rules.{first_break}
-use Rattle.verilog_tree.specs.Wires.{IsLoop}
+use Rattle.verilog_tree.specs.Wires.{IsLoop, Starts, OneSettles}
 use Rattle.march_core.specs.March.{MarchElement}
 use Rattle.memory_desc.specs.Descriptions.{Description}
 use Rattle.word_march.specs.PortRule.{PortRule}
@@ -34,5 +34,7 @@ pub record SelfTest (mo : ModuleTree) (march : List MarchElement) (d : Descripti
   pub ports : mo.ports ≡ ports d
   pub legal : first_break mo ≡ None
   pub no_loop : (names : List (List ℕ)) → IsLoop mo names → ⊥
+  -- in each cycle, whatever the registers and the inputs hold within their widths, exactly one environment settles
+  pub settles : (regs ins : Env) → Starts mo regs ins → OneSettles mo regs ins
   -- with any registers at first and any words that return, every history meets the rule of the ports in each of its cycles
   pub meets : (regs : Env) (words : List ℕ) (is es : List Env) → AreInputs 0 words is → History mo regs is es → EachMeets march d (slice_index words) es
