@@ -15,7 +15,8 @@ use Rattle.word_device.specs.Runs.{AllRight, IsFirstWrong}
 use Rattle.bench.specs.declared.ending.Seen.{Seen}
 use Rattle.bench.specs.Joint.{Between, Joint, at_first, word_in, ports_in, first_done}
 
--- the cycles of a run: the reset, the march, and until the last answer is compared
+-- the cycles of a run: the reset, the march, the latency of the last answer, and one in which its comparison shows; a self-test is
+-- done in the last of them
 abbrev pub cycle_count : List MarchElement → Description → ℕ
 cycle_count march d = span march d + d.latency + 2
 

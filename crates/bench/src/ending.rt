@@ -16,9 +16,9 @@ pub struct Seen {
 pub struct BenchEnd {
     /// The port `fail` in the last cycle.
     pub fail: bool,
-    /// The first cycle with the port `done` at 1.
+    /// The first cycle with the port `done` at 1; `None` where it was 1 in no cycle of the run.
     pub done_cycle: Option<u32>,
-    /// The first read that was not answered by its expected word.
+    /// The first read that was not answered by its expected word; `None` where each read was.
     pub first: Option<Seen>,
     /// The box, after the last cycle.
     pub device: Box<dyn Device>,

@@ -35,9 +35,9 @@ pub struct Watch {
     pub rdata: u64,
     /// The port `fail` in the last cycle.
     pub fail: bool,
-    /// The first cycle with `done`.
+    /// The first cycle with `done`; `None` where there was none so far.
     pub done_cycle: Option<u32>,
-    /// The first read that was answered wrong.
+    /// The first read that was answered wrong; `None` where there was none so far.
     pub first: Option<Seen>,
 }
 
@@ -168,9 +168,10 @@ fn is_fitted(device: &Box<dyn Device>) -> bool
     device.fitted()
 }
 
-/// Runs a design against a box that is fitted with the memory's shape: the cycles from 0 to the one in which the last answer is compared,
-/// with `reset` at 1 in cycle 0 alone and the word 0 on `rdata` there. In each cycle the design's command goes to the box once, and the low
-/// bits of its answer are the next `rdata`. Takes no memory.
+/// Runs a design against a box that is fitted with the memory's shape: the cycles from 0 to span + 1 + latency, in which a self-test is
+/// done (the last answer stands on `rdata`, and is compared, a cycle earlier at the latest), with `reset` at 1 in cycle 0 alone and the
+/// word 0 on `rdata` there. In each cycle the design's command goes to the box once, and the low bits of its answer are the next `rdata`.
+/// Takes no memory.
 ///
 /// Refused with B1 where the run takes more than 2,000,000 cycles, and then with B2 where the ports aren't those of a self-test; then the
 /// box wasn't called, and the design is as before.
