@@ -66,8 +66,9 @@ pub trait Device: Drop {
         ensures fitted { IsTrue result ↔ IsSome (shape_of self.now) }
         ensures told { IsTold (shape_of self.now) (tells self.now) };
 
-    /// Takes a shape: all words are 0, nothing is planted, and the answers under way are 0. Refused with V1 exactly where it has room for
-    /// fewer words, and else with V3 where no memory is found. After a refusal the box is as before.
+    /// Takes a shape: all words are 0, nothing is planted, the answers under way are 0, and no idle cycle is counted. A script goes on where
+    /// it stands. Refused with V1 exactly where it has room for fewer words, and else with V3 where no memory is found. After a refusal the
+    /// box is as before.
     fn fit(&mut self, shape: &Shape) -> Result<(), DeviceFault>
         requires { IsShape shape.now }
         ensures ok { OnOk result (told (room_of self.new) (shape_of self.new) (tells self.new)
@@ -88,7 +89,9 @@ pub trait Device: Drop {
         ensures fits { IsOk result ↔ FitsBox (shape_of self.old) planted.now }
         ensures bad_place { IfErr result (λ fault. fault ≡ DeviceFault.BadPlace) };
 
-    /// Stores the words that a number stands for, and closes them. The number 0 stands for zeros.
+    /// Stores the words that a number stands for, and closes them: word k is the low bits of `x ^ (x >> 32)`, where x is the number times
+    /// 2k + 1, modulo 2^64; so the number 0 stands for zeros. They are stored as they are, the polarity isn't applied. The answers under way
+    /// and the count of idle cycles stay. A script starts over.
     fn fill(&mut self, number: u64)
         requires fitted { IsSome (shape_of self.old) }
         ensures { told (room_of self.new) (shape_of self.new) (tells self.new)

@@ -8,7 +8,8 @@ use crate::shape::Shape;
 #[derive(Drop)]
 pub struct NoFitDevice {
     room: u32,
-    /// It has none at first, and `fit` never takes one.
+    /// It has none at first, and `fit` never takes one; but a type that can't have one would leave `plant`, `fill` and `cycle` with
+    /// contracts that no call meets.
     shape: Option<Shape>,
 }
 
