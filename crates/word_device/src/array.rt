@@ -6,7 +6,7 @@ ghost use Rattle.word_device.specs.Boxes.{IsShape, FitsPlanted, pattern};
 ghost use Rattle.word_device.specs.WayBack.{IsWayBack};
 
 use crate::device::{Device, DeviceFault, Planted, PortCmd};
-use crate::instance::{close, does_fit, operate_plain, operate_planted, pause};
+use crate::instance::{check_place, close, operate_plain, operate_planted, pause};
 use crate::pending::{no_answers, pass_on};
 use crate::port::{addressed, low_bits, shown, stored_op};
 use crate::shape::Shape;
@@ -188,12 +188,7 @@ impl Device for ArrayDevice {
     }
 
     fn plant(&mut self, planted: &Planted) -> Result<(), DeviceFault> {
-        let Some(shape) = &self.shape else {
-            return Err(DeviceFault::BadPlace);
-        };
-        if !does_fit(planted, shape) {
-            return Err(DeviceFault::BadPlace);
-        }
+        check_place(&self.shape, planted)?;
         close(planted, &mut self.words);
         self.planted = Some(*planted);
         Ok(())
