@@ -6,6 +6,7 @@ ghost use Rattle.verilog_cycle.specs.Compile.{prefixed_code, infixed_code, Teste
 ghost use Rattle.verilog_cycle.specs.Scope.{scope_widths, scope_places};
 
 use crate::code::Code;
+use crate::memory;
 use crate::scope::Scope;
 use bist_bits::{Bits, NoMemory};
 use std::alloc::Global;
@@ -21,7 +22,7 @@ pub(crate) struct Compiled {
 fn boxed(alloc: Global, width: u64, code: Code) -> Result<Compiled, NoMemory>
     ensures { IfOk result (λ c. (c.width ≡ width) × (c.code.value ≡ code)) }
 {
-    let code = Box::new(alloc, code).map_err(|_| NoMemory)?;
+    let code = memory::boxed(alloc, code)?;
     Ok(Compiled { width, code })
 }
 
@@ -244,18 +245,18 @@ pub(crate) fn expression(alloc: Global, scope: &Scope, x: &Expr) -> Result<Compi
         Expr::Concat(parts) => joined(alloc, scope, parts),
         Expr::Unary(op, a) => {
             let a = expression(alloc, scope, a)?;
-            Ok(unary(alloc, *op, a)?)
+            unary(alloc, *op, a)
         }
         Expr::Binary(op, a, b) => {
             let a = expression(alloc, scope, a)?;
             let b = expression(alloc, scope, b)?;
-            Ok(binary(alloc, *op, a, b)?)
+            binary(alloc, *op, a, b)
         }
         Expr::Choose(c, a, b) => {
             let c = expression(alloc, scope, c)?;
             let a = expression(alloc, scope, a)?;
             let b = expression(alloc, scope, b)?;
-            Ok(chosen(alloc, c, a, b)?)
+            chosen(alloc, c, a, b)
         }
     }
 }

@@ -2,38 +2,33 @@
 ghost use Rattle.std.specs.Prelude.{◌≡◌, ◌++◌, ◌∷◌, [], map, IfOk, OnOk};
 ghost use Rattle.verilog_tree.specs.Plain.{plain, plain_stmt, plain_stmts, plain_arm, plain_item, plain_module};
 
+use crate::memory::{boxed, push};
 use bist_bits::NoMemory;
 use std::alloc::Global;
 use verilog_tree::{Arm, Decl, Expr, Item, Module, Stmt};
 
-fn boxed(alloc: Global, x: Expr) -> Result<Box<Expr>, NoMemory>
-    ensures { IfOk result (λ b. b.value ≡ x) }
-{
-    Box::new(alloc, x).map_err(|_| NoMemory)
-}
-
 fn push_expr(all: &mut Vec<Expr>, next: Expr) -> Result<(), NoMemory>
     ensures { OnOk result (map plain all.new.items ≡ map plain all.old.items ++ plain next ∷ []) }
 {
-    all.push(next).map_err(|_| NoMemory)
+    push(all, next)
 }
 
 fn push_stmt(all: &mut Vec<Stmt>, next: Stmt) -> Result<(), NoMemory>
     ensures { OnOk result (map plain_stmt all.new.items ≡ map plain_stmt all.old.items ++ plain_stmt next ∷ []) }
 {
-    all.push(next).map_err(|_| NoMemory)
+    push(all, next)
 }
 
 fn push_arm(all: &mut Vec<Arm>, next: Arm) -> Result<(), NoMemory>
     ensures { OnOk result (map plain_arm all.new.items ≡ map plain_arm all.old.items ++ plain_arm next ∷ []) }
 {
-    all.push(next).map_err(|_| NoMemory)
+    push(all, next)
 }
 
 fn push_item(all: &mut Vec<Item>, next: Item) -> Result<(), NoMemory>
     ensures { OnOk result (map plain_item all.new.items ≡ map plain_item all.old.items ++ plain_item next ∷ []) }
 {
-    all.push(next).map_err(|_| NoMemory)
+    push(all, next)
 }
 
 #[cycle(copy_expr)]

@@ -19,6 +19,7 @@ mod design;
 mod elaboration;
 mod fit;
 pub mod laws;
+mod memory;
 mod nets;
 mod numbering;
 mod ordering;

@@ -12,28 +12,24 @@ ghost use Rattle.verilog_cycle.specs.Seen.{plain_graph, plain_names};
 ghost use Rattle.verilog_cycle.specs.Tabled.{AreDrivers};
 ghost use Rattle.verilog_tree.proofs.Clean.{Once};
 
+use crate::memory::push;
 use crate::numbering::{Drivers, Numbering};
 use bist_bits::NoMemory;
 use indexmap::IndexSet;
 use std::alloc::Global;
 use verilog_tree::{Declared, Expr, Item, Kind, Name, names_read};
 
-fn push(list: &mut Vec<usize>, n: usize) -> Result<(), NoMemory>
-    ensures { OnOk result (list.new.items ≡ list.old.items ++ n ∷ []) }
-{
-    list.push(n).map_err(|_| NoMemory)
-}
-
-fn push_name(list: &mut Vec<Name>, name: Name) -> Result<(), NoMemory>
+/// One name more.
+pub(crate) fn push_name(list: &mut Vec<Name>, name: Name) -> Result<(), NoMemory>
     ensures { OnOk result (plain_names list.new.items ≡ plain_names list.old.items ++ name.bytes ∷ []) }
 {
-    list.push(name).map_err(|_| NoMemory)
+    push(list, name)
 }
 
 fn push_row(graph: &mut Vec<Vec<usize>>, row: Vec<usize>) -> Result<(), NoMemory>
     ensures { OnOk result (plain_graph graph.new.items ≡ plain_graph graph.old.items ++ row.items ∷ []) }
 {
-    graph.push(row).map_err(|_| NoMemory)
+    push(graph, row)
 }
 
 /// The declared names, in the order of the declarations.
@@ -149,7 +145,7 @@ pub(crate) fn names_at(
 fn push_declared(list: &mut Vec<Declared>, next: Declared) -> Result<(), NoMemory>
     ensures { OnOk result (map declaration list.new.items ≡ map declaration list.old.items ++ declaration next ∷ []) }
 {
-    list.push(next).map_err(|_| NoMemory)
+    push(list, next)
 }
 
 /// The registers, in order.

@@ -17,6 +17,8 @@ ghost use Rattle.verilog_cycle.specs.Tabled.{AreDrivers};
 use crate::action::Action;
 use crate::code::Code;
 use crate::compile::expression;
+use crate::memory::{boxed, push};
+use crate::nets::push_name;
 use crate::numbering::{Drivers, Numbering};
 use crate::scope::Scope;
 use crate::statement::statements;
@@ -41,14 +43,14 @@ fn step(
             let compiled = expression(alloc, scope, x)?;
             Ok(compiled.code)
         }
-        None => Box::new(alloc, Code::Lit(0)).map_err(|_| NoMemory),
+        None => boxed(alloc, Code::Lit(0)),
     }
 }
 
 fn push_step(all: &mut Vec<Box<Code>>, next: Box<Code>) -> Result<(), NoMemory>
     ensures { OnOk result (map (λ b. b.value) all.new.items ≡ map (λ b. b.value) all.old.items ++ next.value ∷ []) }
 {
-    all.push(next).map_err(|_| NoMemory)
+    push(all, next)
 }
 
 /// The code of each net.
@@ -72,7 +74,7 @@ pub(crate) fn steps(
 fn push_block(all: &mut Vec<Vec<Action>>, next: Vec<Action>) -> Result<(), NoMemory>
     ensures { OnOk result (map (λ b. map action_run b.items) all.new.items ≡ map (λ b. map action_run b.items) all.old.items ++ map action_run next.items ∷ []) }
 {
-    all.push(next).map_err(|_| NoMemory)
+    push(all, next)
 }
 
 // The statements of a block.
@@ -104,12 +106,6 @@ pub(crate) fn blocks(
     Ok(all)
 }
 
-fn push(list: &mut Vec<usize>, n: usize) -> Result<(), NoMemory>
-    ensures { OnOk result (list.new.items ≡ list.old.items ++ n ∷ []) }
-{
-    list.push(n).map_err(|_| NoMemory)
-}
-
 /// The places of the output ports.
 pub(crate) fn outputs(
     alloc: Global,
@@ -126,12 +122,6 @@ pub(crate) fn outputs(
         }
     }
     Ok(all)
-}
-
-fn push_name(list: &mut Vec<Name>, name: Name) -> Result<(), NoMemory>
-    ensures { OnOk result (plain_names list.new.items ≡ plain_names list.old.items ++ name.bytes ∷ []) }
-{
-    list.push(name).map_err(|_| NoMemory)
 }
 
 fn push_declared(list: &mut Vec<Name>, declared: &[Declared]) -> Result<(), NoMemory>

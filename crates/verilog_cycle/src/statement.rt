@@ -11,6 +11,7 @@ ghost use Rattle.verilog_cycle.specs.Scope.{scope_widths, scope_places};
 use crate::action::{Action, Branch};
 use crate::code::Code;
 use crate::compile::{Compiled, expression};
+use crate::memory;
 use crate::scope::Scope;
 use bist_bits::{Bits, NoMemory};
 use std::alloc::Global;
@@ -19,13 +20,13 @@ use verilog_tree::{Arm, Stmt};
 fn push(all: &mut Vec<Action>, next: Action) -> Result<(), NoMemory>
     ensures { OnOk result (map action_run all.new.items ≡ map action_run all.old.items ++ action_run next ∷ []) }
 {
-    all.push(next).map_err(|_| NoMemory)
+    memory::push(all, next)
 }
 
 fn push_branch(all: &mut Vec<Branch>, labels: Vec<u64>, body: Vec<Action>) -> Result<(), NoMemory>
     ensures { OnOk result (map branch_run all.new.items ≡ map branch_run all.old.items ++ record { labels = labels.items; run = run_all (map action_run body.items) } ∷ []) }
 {
-    all.push(Branch { labels, body }).map_err(|_| NoMemory)
+    memory::push(all, Branch { labels, body })
 }
 
 fn label_values(alloc: Global, labels: &[Bits]) -> Result<Vec<u64>, NoMemory>
@@ -33,7 +34,7 @@ fn label_values(alloc: Global, labels: &[Bits]) -> Result<Vec<u64>, NoMemory>
 {
     let mut all = Vec::new(alloc);
     for label in labels {
-        all.push(label.value()).map_err(|_| NoMemory)?;
+        memory::push(&mut all, label.value())?;
     }
     Ok(all)
 }
