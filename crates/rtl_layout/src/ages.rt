@@ -148,8 +148,8 @@ fn set_ends(block: &mut Vec<Stmt>, alloc: Global, age: u8) -> Result<(), AllocEr
     ensures { OnOk result (map plain_stmt block.new.items ≡ map plain_stmt block.old.items ++ L.end_age_sets age) }
 {
     let reads = gated_reads(alloc, age)?;
-    let over = gated_over(alloc, age)?;
     set(block, aged("reads", age + 1), reads)?;
+    let over = gated_over(alloc, age)?;
     set(block, aged("over", age + 1), over)?;
     Ok(())
 }
@@ -179,8 +179,8 @@ fn set_age(
     requires narrow { width ≤ 64 }
     ensures { OnOk result (map plain_stmt block.new.items ≡ map plain_stmt block.old.items ++ L.age_sets many width age) }
 {
-    let value = gate(alloc, net(value_at(age)))?;
     set_ends(block, alloc, age)?;
+    let value = gate(alloc, net(value_at(age)))?;
     set(block, aged("value", age + 1), value)?;
     if many {
         set_back(block, alloc, width, age)?;

@@ -77,12 +77,12 @@ fn assign_flags(items: &mut Vec<Item>, alloc: Global, plan: &Plan) -> Result<(),
     ensures { OnOk result (map plain_item items.new.items ≡ map plain_item items.old.items ++ L.flag_assigns (seen plan.now)) }
 {
     let write = by_operation(alloc, plan, OperationFlag::Write)?;
-    let value = by_operation(alloc, plan, OperationFlag::Value)?;
-    let down = by_element(alloc, plan, ElementFlag::Down)?;
-    let pause = by_element(alloc, plan, ElementFlag::Pause)?;
     assign(items, name("write"), write)?;
+    let value = by_operation(alloc, plan, OperationFlag::Value)?;
     assign(items, name("value"), value)?;
+    let down = by_element(alloc, plan, ElementFlag::Down)?;
     assign(items, name("down"), down)?;
+    let pause = by_element(alloc, plan, ElementFlag::Pause)?;
     assign(items, name("pause"), pause)?;
     Ok(())
 }
@@ -92,12 +92,12 @@ fn assign_lasts(items: &mut Vec<Item>, alloc: Global, plan: &Plan) -> Result<(),
     ensures { OnOk result (map plain_item items.new.items ≡ map plain_item items.old.items ++ L.last_assigns (seen plan.now)) }
 {
     let oper = last_oper(alloc, plan)?;
-    let visit = last_visit(alloc, plan)?;
-    let element = last_element(alloc, plan)?;
-    let back = last_back(alloc, plan)?;
     assign(items, name("last_oper"), oper)?;
+    let visit = last_visit(alloc, plan)?;
     assign(items, name("last_visit"), visit)?;
+    let element = last_element(alloc, plan)?;
     assign(items, name("last_element"), element)?;
+    let back = last_back(alloc, plan)?;
     assign(items, name("last_back"), back)?;
     Ok(())
 }
@@ -107,8 +107,8 @@ fn assign_command(items: &mut Vec<Item>, alloc: Global, plan: &Plan) -> Result<(
     ensures { OnOk result (map plain_item items.new.items ≡ map plain_item items.old.items ++ L.command_assigns (seen plan.now)) }
 {
     let live = live(alloc)?;
-    let index = index(alloc, plan)?;
     assign(items, name("live"), live)?;
+    let index = index(alloc, plan)?;
     assign(items, name("index"), index)?;
     Ok(())
 }

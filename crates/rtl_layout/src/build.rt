@@ -106,8 +106,8 @@ fn set_ends(block: &mut Vec<Stmt>, alloc: Global, plan: &Plan) -> Result<(), All
     ensures { OnOk result (map plain_stmt block.new.items ≡ map plain_stmt block.old.items ++ L.end_sets (seen plan.now)) }
 {
     let want = want_next(alloc, plan)?;
-    let bad = bad_next(alloc, plan.delay)?;
     set(block, name("want"), want)?;
+    let bad = bad_next(alloc, plan.delay)?;
     set(block, name("bad"), bad)?;
     Ok(())
 }

@@ -55,8 +55,8 @@ fn set_inner(block: &mut Vec<Stmt>, alloc: Global, oper: u8, visit: u8) -> Resul
     ensures { OnOk result (map plain_stmt block.new.items ≡ map plain_stmt block.old.items ++ SetTo L.oper (counter L.oper oper (Net L.run ∷ []) L.last_oper) ∷ SetTo L.visit (counter L.visit visit (Net L.run ∷ Net L.last_oper ∷ []) L.last_visit) ∷ []) }
 {
     let first = oper_next(alloc, oper)?;
-    let second = visit_next(alloc, visit)?;
     set(block, name("oper"), first)?;
+    let second = visit_next(alloc, visit)?;
     set(block, name("visit"), second)?;
     Ok(())
 }
@@ -103,8 +103,8 @@ fn set_outer(block: &mut Vec<Stmt>, alloc: Global, element: u8, back: u8) -> Res
     ensures { OnOk result (map plain_stmt block.new.items ≡ map plain_stmt block.old.items ++ SetTo L.element (counter L.element element (Net L.run ∷ Net L.last_oper ∷ Net L.last_visit ∷ []) L.last_element) ∷ SetTo L.back (counter L.back back (Net L.run ∷ Net L.last_oper ∷ Net L.last_visit ∷ Net L.last_element ∷ []) L.last_back) ∷ []) }
 {
     let first = element_next(alloc, element)?;
-    let second = back_next(alloc, back)?;
     set(block, name("element"), first)?;
+    let second = back_next(alloc, back)?;
     set(block, name("back"), second)?;
     Ok(())
 }
@@ -132,9 +132,9 @@ fn run_next(alloc: Global) -> Result<Expr, AllocError>
 pub fn set_digits(block: &mut Vec<Stmt>, alloc: Global, plan: &Plan) -> Result<(), AllocError>
     ensures { OnOk result (map plain_stmt block.new.items ≡ map plain_stmt block.old.items ++ L.digit_sets (seen plan.now)) }
 {
-    let run = run_next(alloc)?;
     set_inner(block, alloc, plan.oper_width, plan.visit_width)?;
     set_outer(block, alloc, plan.element_width, plan.back_width)?;
+    let run = run_next(alloc)?;
     set(block, name("run"), run)?;
     Ok(())
 }

@@ -99,11 +99,11 @@ fn assign_command(items: &mut Vec<Item>, alloc: Global, plan: &Plan) -> Result<(
     ensures { OnOk result (map plain_item items.new.items ≡ map plain_item items.old.items ++ L.command_outputs (seen plan.now)) }
 {
     let en = gate(alloc, net(name("live")))?;
-    let addr = address(alloc, plan)?;
-    let wdata = word(alloc, plan, name("back"), name("value"))?;
     assign(items, name("en"), en)?;
     assign(items, name("we"), net(name("write")))?;
+    let addr = address(alloc, plan)?;
     assign(items, name("addr"), addr)?;
+    let wdata = word(alloc, plan, name("back"), name("value"))?;
     assign(items, name("wdata"), wdata)?;
     Ok(())
 }
@@ -113,8 +113,8 @@ fn assign_ends(items: &mut Vec<Item>, alloc: Global, delay: u8) -> Result<(), Al
     ensures { OnOk result (map plain_item items.new.items ≡ map plain_item items.old.items ++ L.end_outputs delay) }
 {
     let done = gate(alloc, net(aged("over", delay + 1)))?;
-    let fail = gate(alloc, net(name("bad")))?;
     assign(items, name("done"), done)?;
+    let fail = gate(alloc, net(name("bad")))?;
     assign(items, name("fail"), fail)?;
     Ok(())
 }

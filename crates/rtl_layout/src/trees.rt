@@ -237,11 +237,9 @@ fn in_halves(alloc: Global, register: Name, width: u8, low: u8) -> Result<Expr, 
     requires narrow { width ≤ 64 }
     ensures { IfOk result (λ x. plain x ≡ in_halves register.bytes width low) }
 {
-    let high_part = high_more(alloc, register, width, low)?;
-    let low_part = low_more(alloc, register, low)?;
     let mut parts = Vec::new(alloc);
-    parts.push(high_part)?;
-    parts.push(low_part)?;
+    parts.push(high_more(alloc, register, width, low)?)?;
+    parts.push(low_more(alloc, register, low)?)?;
     Ok(concat(parts))
 }
 
