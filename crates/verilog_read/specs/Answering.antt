@@ -166,6 +166,12 @@ Scanned q m (Err L.LongName) = m ≡ while_live (takes_names q.parser) (Stops Lo
 Scanned q m (Err L.LargeNumber) = m ≡ while_live (taken q.parser (Number true 0) || takes_literals q.parser) (Stops OutOfRange)
 Scanned q m (Err L.WrongLiteral) = m ≡ while_live (takes_literals q.parser) (Stops OutOfRange)
 
+-- the text ends, where a token began at this byte; or the fault of a byte; or there was no memory
+abbrev pub Reads : Answer → Result ℕ ReadFault → Both State Lexer → Type 0
+Reads a (Ok k) q = a ≡ end_answer q.parser (last q.lexer) k
+Reads a (Err R.NoMemory) q = ⊤
+Reads a (Err fault) q = a ≡ Faulty fault
+
 -- the module that is read, or the fault; or there was no memory
 abbrev pub Gives : Answer → Result Module ReadFault → Type 0
 Gives a (Ok m) = a ≡ Finished (plain_module m)

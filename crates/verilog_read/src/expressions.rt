@@ -1,11 +1,12 @@
 //! What a token does in an expression.
 ghost use Rattle.std.specs.Prelude.{◌≡◌, Some};
-ghost use Rattle.verilog_tree.specs.Plain.{plain, NoMore, Literal};
+ghost use Rattle.verilog_tree.specs.Plain.{plain, NoMore, Literal, Prefixed, Infixed, Conditional, AssignItem, SetTo};
+ghost use Rattle.verilog_tree.specs.Grammar.{alone};
 ghost use Rattle.verilog_tree.specs.Tokens.{Identifier};
-ghost use Rattle.verilog_read.specs.Places.{Outside, AtExpr, Want, Have, InBraces};
-ghost use Rattle.verilog_read.specs.Steps.{want_step, inside_step, have_step, step_expr, unary_of, infix_of};
+ghost use Rattle.verilog_read.specs.Places.{Outside, AtExpr, AtStmt, AtItem, Want, Have, InBraces, Otherwise, WantItem, WantStmt, HaveStmt, InThen, with_item};
+ghost use Rattle.verilog_read.specs.Steps.{want_step, inside_step, have_step, step_expr, unary_of, infix_of, expects};
 ghost use Rattle.verilog_read.specs.Lexemes.{token_of};
-ghost use Rattle.verilog_read.specs.Frames.{frame, base_of, outside_of};
+ghost use Rattle.verilog_read.specs.Frames.{frame, base_of, outside_of, around_of, head_of};
 ghost use Rattle.verilog_read.specs.Spots.{spot};
 ghost use Rattle.verilog_read.specs.Answers.{Steps, Goes};
 
@@ -165,8 +166,81 @@ fn in_parens(
     }
 }
 
-/// What a token does behind a whole expression that stands in a frame.
+/// The operand of a prefix ends.
 #[tactic(auto, using(crate::proofs::FrameLemmas::expects_is))]
+fn in_prefix(
+    alloc: Global,
+    outer: &Outer,
+    depth: u8,
+    op: UnOp,
+    x: Expr,
+    token: &Lexeme,
+) -> Result<Spot, ParseFault>
+    ensures { Steps (expects Mark.Close (AtExpr (Have depth (Prefixed op (plain x)) (outside_of outer.now))) (token_of token.now)) result (outside_of outer.now) }
+{
+    if !is_mark(Mark::Close, token) {
+        return Err(ParseFault::Unexpected);
+    }
+    Ok(Spot::Have(depth, prefixed(alloc, op, x)?))
+}
+
+/// The second operand of an operator ends.
+#[tactic(auto, using(crate::proofs::FrameLemmas::expects_is))]
+fn in_infix(
+    alloc: Global,
+    outer: &Outer,
+    depth: u8,
+    op: BinOp,
+    x: Expr,
+    y: Expr,
+    token: &Lexeme,
+) -> Result<Spot, ParseFault>
+    ensures { Steps (expects Mark.Close (AtExpr (Have depth (Infixed op (plain x) (plain y)) (outside_of outer.now))) (token_of token.now)) result (outside_of outer.now) }
+{
+    if !is_mark(Mark::Close, token) {
+        return Err(ParseFault::Unexpected);
+    }
+    Ok(Spot::Have(depth, infixed(alloc, op, x, y)?))
+}
+
+/// The first choice of a conditional ends.
+#[tactic(auto, using(crate::proofs::FrameLemmas::expects_is))]
+fn in_choice(
+    outer: &mut Outer,
+    inner: u8,
+    depth: u8,
+    c: Expr,
+    x: Expr,
+    token: &Lexeme,
+) -> Result<Spot, ParseFault>
+    ensures { Steps (expects Mark.Colon (AtExpr (Want inner (Otherwise depth (plain c) (plain x) (outside_of outer.old)))) (token_of token.now)) result (outside_of outer.new) }
+{
+    if !is_mark(Mark::Colon, token) {
+        return Err(ParseFault::Unexpected);
+    }
+    pushed(outer, Frame::No(depth, c, x), inner)
+}
+
+/// The second choice of a conditional ends.
+#[tactic(auto, using(crate::proofs::FrameLemmas::expects_is))]
+fn in_conditional(
+    alloc: Global,
+    outer: &Outer,
+    depth: u8,
+    c: Expr,
+    x: Expr,
+    y: Expr,
+    token: &Lexeme,
+) -> Result<Spot, ParseFault>
+    ensures { Steps (expects Mark.Close (AtExpr (Have depth (Conditional (plain c) (plain x) (plain y)) (outside_of outer.now))) (token_of token.now)) result (outside_of outer.now) }
+{
+    if !is_mark(Mark::Close, token) {
+        return Err(ParseFault::Unexpected);
+    }
+    Ok(Spot::Have(depth, conditional(alloc, c, x, y)?))
+}
+
+/// What a token does behind a whole expression that stands in a frame.
 fn have_in(
     alloc: Global,
     outer: &mut Outer,
@@ -180,20 +254,60 @@ fn have_in(
     match f {
         Frame::Braces(depth, parts) => in_braces(outer, inner, depth, parts, x, token),
         Frame::Paren(depth) => in_parens(outer, inner, depth, x, token),
-        Frame::Prefix(depth, op) if is_mark(Mark::Close, token) => {
-            Ok(Spot::Have(depth, prefixed(alloc, op, x)?))
-        }
-        Frame::Right(depth, op, y) if is_mark(Mark::Close, token) => {
-            Ok(Spot::Have(depth, infixed(alloc, op, y, x)?))
-        }
-        Frame::Yes(depth, c) if is_mark(Mark::Colon, token) => {
-            pushed(outer, Frame::No(depth, c, x), inner)
-        }
-        Frame::No(depth, c, y) if is_mark(Mark::Close, token) => {
-            Ok(Spot::Have(depth, conditional(alloc, c, y, x)?))
-        }
-        _ => Err(ParseFault::Unexpected),
+        Frame::Prefix(depth, op) => in_prefix(alloc, outer, depth, op, x, token),
+        Frame::Right(depth, op, y) => in_infix(alloc, outer, depth, op, y, x, token),
+        Frame::Yes(depth, c) => in_choice(outer, inner, depth, c, x, token),
+        Frame::No(depth, c, y) => in_conditional(alloc, outer, depth, c, y, x, token),
     }
+}
+
+/// The expression of an `assign` ends.
+#[tactic(auto, using(crate::proofs::FrameLemmas::expects_is))]
+fn driven(outer: &mut Outer, name: Name, x: Expr, token: &Lexeme) -> Result<Place, ParseFault>
+    ensures { Goes (expects Mark.Semicolon (AtItem (WantItem (with_item (head_of outer.old.tree) (AssignItem name.bytes (plain x))))) (token_of token.now)) result outer.new }
+{
+    if !is_mark(Mark::Semicolon, token) {
+        return Err(ParseFault::Unexpected);
+    }
+    add_item(outer, Item::Assign(name, x))?;
+    Ok(Place::InItem(ItemSpot::Want))
+}
+
+/// The condition of an `if` ends.
+#[tactic(auto, using(crate::proofs::FrameLemmas::expects_is))]
+fn tested(
+    outer: &mut Outer,
+    depth: u8,
+    inner: u8,
+    x: Expr,
+    token: &Lexeme,
+) -> Result<Place, ParseFault>
+    ensures { Goes (expects Mark.Close (AtStmt (WantStmt inner (InThen depth (plain x) (around_of outer.old)))) (token_of token.now)) result outer.new }
+{
+    if !is_mark(Mark::Close, token) {
+        return Err(ParseFault::Unexpected);
+    }
+    hold(outer, Holder::Then(depth, x))?;
+    Ok(Place::InStmt(StmtSpot::WantStmt(inner)))
+}
+
+/// The value that a statement sets ends.
+#[tactic(auto, using(crate::proofs::FrameLemmas::expects_is))]
+fn set(
+    alloc: Global,
+    outer: &Outer,
+    depth: u8,
+    name: Name,
+    x: Expr,
+    token: &Lexeme,
+) -> Result<Place, ParseFault>
+    ensures { Goes (expects Mark.Semicolon (AtStmt (HaveStmt depth (alone (SetTo name.bytes (plain x))) (around_of outer.now))) (token_of token.now)) result outer.now }
+{
+    if !is_mark(Mark::Semicolon, token) {
+        return Err(ParseFault::Unexpected);
+    }
+    let body = only(alloc, Stmt::Set(name, x))?;
+    Ok(Place::InStmt(StmtSpot::HaveStmt(depth, body)))
 }
 
 /// What a token does behind a whole expression that stands in no frame.
@@ -209,22 +323,13 @@ fn have_whole(
 {
     let base = outer.base;
     match &base {
-        Base::Drive(name) if is_mark(Mark::Semicolon, token) => {
-            add_item(outer, Item::Assign(*name, x))?;
-            Ok(Place::InItem(ItemSpot::Want))
-        }
-        Base::Test(depth, inner) if is_mark(Mark::Close, token) => {
-            hold(outer, Holder::Then(*depth, x))?;
-            Ok(Place::InStmt(StmtSpot::WantStmt(*inner)))
-        }
+        Base::Drive(name) => driven(outer, *name, x, token),
+        Base::Test(depth, inner) => tested(outer, *depth, *inner, x, token),
         Base::Pick(depth, inner) if is_mark(Mark::Close, token) => {
             Ok(Place::InStmt(StmtSpot::FirstLabel(*depth, *inner, x)))
         }
-        Base::Set(name) if is_mark(Mark::Semicolon, token) => {
-            let body = only(alloc, Stmt::Set(*name, x))?;
-            Ok(Place::InStmt(StmtSpot::HaveStmt(depth, body)))
-        }
-        _ => Err(ParseFault::Unexpected),
+        Base::Pick(_, _) => Err(ParseFault::Unexpected),
+        Base::Set(name) => set(alloc, outer, depth, *name, x, token),
     }
 }
 

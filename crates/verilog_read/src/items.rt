@@ -46,11 +46,8 @@ fn add_port(outer: &mut Outer, port: Port) -> Result<(), ParseFault>
     ensures added { OnOk result (head_of outer.new.tree ≡ with_ports (head_of outer.old.tree) (plain_port port ∷ [])) }
     ensures fault { IfErr result (λ e. e ≡ ParseFault.NoMemory) }
 {
-    outer
-        .tree
-        .ports
-        .push(port)
-        .map_err(|_| ParseFault::NoMemory)
+    outer.tree.ports.push(port)?;
+    Ok(())
 }
 
 /// A name is declared.

@@ -1,8 +1,10 @@
 //! Where the parser stands, and what it holds of the text before.
 
+ghost use Rattle.std.specs.Prelude.{◌≡◌};
+
 use crate::lexemes::SmallNumber;
 use bist_bits::Bits;
-use std::alloc::Global;
+use std::alloc::{AllocFailed, Global};
 use verilog_tree::{Arm, BinOp, Dir, Expr, Module, Name, Stmt, UnOp};
 
 /// What a part of an expression stands in. The number says how many are open outside of it.
@@ -139,4 +141,14 @@ pub enum Place {
 pub enum ParseFault {
     Unexpected,
     NoMemory,
+}
+
+impl<T: Drop> From<AllocFailed<T>> for ParseFault {
+    ghost use Rattle.verilog_read.specs.declared.places.ParseFault.TheVariants as P;
+
+    ghost from_gives = { λ _ e. e ≡ P.NoMemory };
+
+    fn from(_: AllocFailed<T>) -> ParseFault {
+        ParseFault::NoMemory
+    }
 }

@@ -1,10 +1,11 @@
 //! The reader of a module's text.
-ghost use Rattle.std.specs.Prelude.{true, ◌≡◌, ◌↔◌, ◌≤◌, Some, None, Err, IfOk, IfErr, MatchResult};
+ghost use Rattle.std.specs.Prelude.{true, ◌≡◌, ◌||◌, ◌↔◌, ◌≤◌, Some, None, Err, IfOk, IfErr, MatchResult};
 ghost use Rattle.verilog_tree.specs.Formed.{formed};
 ghost use Rattle.verilog_tree.specs.Plain.{ModuleTree, plain_module};
 ghost use Rattle.verilog_tree.specs.Spells.{Spells};
-ghost use Rattle.verilog_read.specs.Answering.{Takes, Moves, Scanned, Gives, take_token, stuck, arrive, is_between, read_within, byte_move, fault_at, value_answer, end_answer, last_answer, answer, both_of};
-ghost use Rattle.verilog_read.specs.Expected.{most_of};
+ghost use Rattle.verilog_tree.specs.Tokens.{Number};
+ghost use Rattle.verilog_read.specs.Answering.{Stops, Takes, Moves, Scanned, Reads, Gives, take_token, stuck, arrive, while_live, is_between, read_within, byte_move, fault_at, value_answer, end_answer, last_answer, answer, run, both_of};
+ghost use Rattle.verilog_read.specs.Expected.{most_of, taken, takes_literals};
 ghost use Rattle.verilog_read.specs.Refusals.{Says, IsFirst};
 ghost use Rattle.verilog_read.specs.Lexemes.{token_of, tokens_of, lexer_of, ends_of};
 ghost use Rattle.verilog_read.specs.Lexing.{last};
@@ -135,6 +136,24 @@ fn stuck(
     Err(ByteFault::Unexpected)
 }
 
+/// A limit counts only where what exceeds it may come.
+fn beyond(expected: bool, fault: ByteFault) -> ByteFault
+    ensures { while_live expected (Stops fault) ≡ Stops result }
+{
+    if expected {
+        fault
+    } else {
+        ByteFault::Unexpected
+    }
+}
+
+/// Whether a number of more than one digit or a literal may come.
+fn takes_digits(place: &Place, outer: &Outer) -> bool
+    ensures { result ≡ (taken (state_of place.now outer.now) (Number true 0) || takes_literals (state_of place.now outer.now)) }
+{
+    takes_number(place, outer, true, 0) || expected_at(place, outer).literals
+}
+
 /// What a byte does.
 fn step_byte(
     alloc: Global,
@@ -148,27 +167,17 @@ fn step_byte(
     match scan(place, outer, lexer, c) {
         Ok(read) => read_on(alloc, outer, place, &lexer, read),
         Err(LexFault::Unexpected) => stuck(alloc, outer, place, lexer),
-        Err(LexFault::LongName) => {
-            if expected_at(place, outer).names {
-                Err(ByteFault::LongName)
-            } else {
-                Err(ByteFault::Unexpected)
-            }
-        }
+        Err(LexFault::LongName) => Err(beyond(
+            expected_at(place, outer).names,
+            ByteFault::LongName,
+        )),
         Err(LexFault::LargeNumber) => {
-            if takes_number(place, outer, true, 0) || expected_at(place, outer).literals {
-                Err(ByteFault::OutOfRange)
-            } else {
-                Err(ByteFault::Unexpected)
-            }
+            Err(beyond(takes_digits(place, outer), ByteFault::OutOfRange))
         }
-        Err(LexFault::WrongLiteral) => {
-            if expected_at(place, outer).literals {
-                Err(ByteFault::OutOfRange)
-            } else {
-                Err(ByteFault::Unexpected)
-            }
-        }
+        Err(LexFault::WrongLiteral) => Err(beyond(
+            expected_at(place, outer).literals,
+            ByteFault::OutOfRange,
+        )),
     }
 }
 
@@ -232,24 +241,38 @@ fn fault_at(fault: ByteFault, start: usize, byte: usize) -> ReadFault
     }
 }
 
-/// Reads the bytes one after another, until one is refused.
+/// Reads the bytes one after another, until one is refused, and gives where the token that is read last began.
+fn scan_bytes(
+    alloc: Global,
+    outer: &mut Outer,
+    place: &mut Place,
+    lexer: &mut Scanner,
+    bytes: &[u8],
+) -> Result<usize, ReadFault>
+    ensures { Reads (run bytes.now (both_of place.old outer.old lexer.old) 0 0) result (both_of place.new outer.new lexer.new) }
+{
+    let mut start = 0;
+    for (i, c) in bytes.iter().enumerate() {
+        let next = match step_byte(alloc, outer, place, *lexer, *c) {
+            Ok(next) => next,
+            Err(fault) => return Err(fault_at(fault, start, i)),
+        };
+        *lexer = next.lexer;
+        if next.fresh {
+            start = i;
+        }
+    }
+    Ok(start)
+}
+
+/// Reads a text from its first byte to its end.
 fn scan_text(alloc: Global, bytes: &[u8]) -> Result<Module, ReadFault>
     ensures { Gives (answer bytes.now) result }
 {
     let mut outer = Outer::new(alloc);
     let mut place = Place::InItem(ItemSpot::Begin);
     let mut lexer = Scanner::InGap(Within::Between);
-    let mut start = 0;
-    for (i, c) in bytes.iter().enumerate() {
-        let next = match step_byte(alloc, &mut outer, &mut place, lexer, *c) {
-            Ok(next) => next,
-            Err(fault) => return Err(fault_at(fault, start, i)),
-        };
-        lexer = next.lexer;
-        if next.fresh {
-            start = i;
-        }
-    }
+    let start = scan_bytes(alloc, &mut outer, &mut place, &mut lexer, bytes)?;
     finish(alloc, outer, place, lexer, start)
 }
 

@@ -17,7 +17,8 @@ pub(crate) fn push(outer: &mut Outer, f: Frame) -> Result<(), ParseFault>
     ensures pushed { OnOk result (outside_of outer.new ≡ frame f (outside_of outer.old)) }
     ensures fault { IfErr result (λ e. e ≡ ParseFault.NoMemory) }
 {
-    outer.frames.push(f).map_err(|_| ParseFault::NoMemory)
+    outer.frames.push(f)?;
+    Ok(())
 }
 
 #[tactic(auto, using(crate::proofs::FrameLemmas::stack_push))]
@@ -32,7 +33,8 @@ pub(crate) fn hold(outer: &mut Outer, h: Holder) -> Result<(), ParseFault>
     ensures held { OnOk result (around_of outer.new ≡ holder h (around_of outer.old)) }
     ensures fault { IfErr result (λ e. e ≡ ParseFault.NoMemory) }
 {
-    outer.holders.push(h).map_err(|_| ParseFault::NoMemory)
+    outer.holders.push(h)?;
+    Ok(())
 }
 
 #[tactic(auto, using(crate::proofs::FrameLemmas::holders_push))]
@@ -55,11 +57,8 @@ pub(crate) fn add_item(outer: &mut Outer, item: Item) -> Result<(), ParseFault>
     ensures added { OnOk result (head_of outer.new.tree ≡ with_item (head_of outer.old.tree) (plain_item item)) }
     ensures fault { IfErr result (λ e. e ≡ ParseFault.NoMemory) }
 {
-    outer
-        .tree
-        .items
-        .push(item)
-        .map_err(|_| ParseFault::NoMemory)
+    outer.tree.items.push(item)?;
+    Ok(())
 }
 
 pub(crate) fn deeper(depth: u8) -> Option<u8>

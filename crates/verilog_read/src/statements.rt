@@ -1,8 +1,10 @@
 //! What a token does in a statement.
-ghost use Rattle.std.specs.Prelude.{◌≡◌, Some, map};
+ghost use Rattle.std.specs.Prelude.{◌≡◌, Some, map, codes};
 ghost use Rattle.verilog_tree.specs.Plain.{plain, plain_stmts, plain_arm, arms, AlwaysItem};
-ghost use Rattle.verilog_read.specs.Places.{with_item};
-ghost use Rattle.verilog_read.specs.Steps.{word_step, want_stmt_step, block_step, arm_step, want_item_step, have_stmt_step, step_stmt};
+ghost use Rattle.verilog_tree.specs.Grammar.{then_all};
+ghost use Rattle.verilog_read.specs.Following.{case_of};
+ghost use Rattle.verilog_read.specs.Places.{with_item, AtStmt, WantStmt, HaveStmt, InElse};
+ghost use Rattle.verilog_read.specs.Steps.{word_step, want_stmt_step, block_step, arm_step, want_item_step, have_stmt_step, step_stmt, expects_word};
 ghost use Rattle.verilog_read.specs.Lexemes.{token_of};
 ghost use Rattle.verilog_read.specs.Frames.{base, holder, around_of, head_of};
 ghost use Rattle.verilog_read.specs.Spots.{stmt_spot};
@@ -127,21 +129,71 @@ fn in_case(
     x: Expr,
     choices: Vec<Arm>,
     token: &Lexeme,
-) -> Result<StmtSpot, ParseFault>
-    ensures { StmtSteps (arm_step depth inner (plain x) (arms (map plain_arm choices.items)) (around_of outer.now) (token_of token.now)) result (around_of outer.now) }
+) -> Result<Place, ParseFault>
+    ensures { Goes (arm_step depth inner (plain x) (arms (map plain_arm choices.items)) (around_of outer.now) (token_of token.now)) result outer.now }
 {
     if let Lexeme::Constant(label) = token {
         let labels = with_label(Vec::new(alloc), *label)?;
-        return Ok(StmtSpot::Labels(depth, inner, x, choices, labels));
+        return Ok(Place::InStmt(StmtSpot::Labels(depth, inner, x, choices, labels)));
     }
     if is_word("default", token) {
-        Ok(StmtSpot::DefaultRead(depth, inner, x, choices))
-    } else if is_word("endcase", token) {
-        let body = case_of(alloc, x, choices, Vec::new(alloc))?;
-        Ok(StmtSpot::HaveStmt(depth, body))
-    } else {
-        Err(ParseFault::Unexpected)
+        return Ok(Place::InStmt(StmtSpot::DefaultRead(depth, inner, x, choices)));
     }
+    if !is_word("endcase", token) {
+        return Err(ParseFault::Unexpected);
+    }
+    let body = case_of(alloc, x, choices, Vec::new(alloc))?;
+    Ok(Place::InStmt(StmtSpot::HaveStmt(depth, body)))
+}
+
+/// A statement of a block ends.
+fn have_block(
+    alloc: Global,
+    outer: &mut Outer,
+    inner: u8,
+    depth: u8,
+    old: Vec<Stmt>,
+    body: Vec<Stmt>,
+    token: &Lexeme,
+) -> Result<Place, ParseFault>
+    ensures { Goes (block_step (Some 64) inner depth (then_all (plain_stmts old.items) (plain_stmts body.items)) (around_of outer.old) (token_of token.now)) result outer.new }
+{
+    let old = join(old, body)?;
+    let next = in_block(alloc, outer, inner, depth, old, token)?;
+    Ok(Place::InStmt(next))
+}
+
+/// The else of an `if` begins.
+fn begin_else(
+    outer: &mut Outer,
+    inner: u8,
+    depth: u8,
+    c: Expr,
+    yes: Vec<Stmt>,
+) -> Result<Place, ParseFault>
+    ensures { Goes (Some (AtStmt (WantStmt inner (InElse depth (plain c) (plain_stmts yes.items) (around_of outer.old))))) result outer.new }
+{
+    hold(outer, Holder::Else(depth, c, yes))?;
+    Ok(Place::InStmt(StmtSpot::WantStmt(inner)))
+}
+
+/// The statement of a default ends.
+fn have_default(
+    alloc: Global,
+    outer: &Outer,
+    depth: u8,
+    x: Expr,
+    choices: Vec<Arm>,
+    other: Vec<Stmt>,
+    token: &Lexeme,
+) -> Result<Place, ParseFault>
+    ensures { Goes (expects_word (codes "endcase") (AtStmt (HaveStmt depth (case_of (plain x) (arms (map plain_arm choices.items)) (plain_stmts other.items)) (around_of outer.now))) (token_of token.now)) result outer.now }
+{
+    if !is_word("endcase", token) {
+        return Err(ParseFault::Unexpected);
+    }
+    let body = case_of(alloc, x, choices, other)?;
+    Ok(Place::InStmt(StmtSpot::HaveStmt(depth, body)))
 }
 
 /// What a token does behind a whole statement: an if without else ends where no else comes.
@@ -157,13 +209,11 @@ fn have_stmt(
     match release(outer) {
         None => have_always(outer, body, token),
         Some(Holder::Block(above, old)) => {
-            let old = join(old, body)?;
-            Ok(Place::InStmt(in_block(alloc, outer, depth, above, old, token)?))
+            have_block(alloc, outer, depth, above, old, body, token)
         }
         Some(Holder::Then(above, c)) => {
             if is_word("else", token) {
-                hold(outer, Holder::Else(above, c, body))?;
-                return Ok(Place::InStmt(StmtSpot::WantStmt(depth)));
+                return begin_else(outer, depth, above, c, body);
             }
             let body = condition(alloc, c, body, Vec::new(alloc))?;
             have_stmt(alloc, outer, above, body, token)
@@ -174,14 +224,10 @@ fn have_stmt(
         }
         Some(Holder::Labelled(above, x, arms, labels)) => {
             let arms = with_arm(arms, labels, body)?;
-            Ok(Place::InStmt(in_case(alloc, outer, above, depth, x, arms, token)?))
+            in_case(alloc, outer, above, depth, x, arms, token)
         }
         Some(Holder::Other(above, x, arms)) => {
-            if !is_word("endcase", token) {
-                return Err(ParseFault::Unexpected);
-            }
-            let body = case_of(alloc, x, arms, body)?;
-            Ok(Place::InStmt(StmtSpot::HaveStmt(above, body)))
+            have_default(alloc, outer, above, x, arms, body, token)
         }
     }
 }

@@ -21,7 +21,7 @@ pub(crate) fn boxed(alloc: Global, x: Expr) -> Result<Box<Expr>, ParseFault>
     ensures value { IfOk result (λ y. plain y.value ≡ plain x) }
     ensures fault { IfErr result (λ f. f ≡ ParseFault.NoMemory) }
 {
-    Box::new(alloc, x).map_err(|_| ParseFault::NoMemory)
+    Ok(Box::new(alloc, x)?)
 }
 
 pub(crate) fn infixed(alloc: Global, op: BinOp, x: Expr, y: Expr) -> Result<Expr, ParseFault>
@@ -47,10 +47,8 @@ pub(crate) fn with_part(parts: Vec<Expr>, x: Expr) -> Result<Vec<Expr>, ParseFau
     ensures fault { IfErr result (λ f. f ≡ ParseFault.NoMemory) }
 {
     let mut parts = parts;
-    match parts.push(x) {
-        Ok(()) => Ok(parts),
-        Err(_) => Err(ParseFault::NoMemory),
-    }
+    parts.push(x)?;
+    Ok(parts)
 }
 
 pub(crate) fn only(alloc: Global, stmt: Stmt) -> Result<Vec<Stmt>, ParseFault>
@@ -58,10 +56,8 @@ pub(crate) fn only(alloc: Global, stmt: Stmt) -> Result<Vec<Stmt>, ParseFault>
     ensures fault { IfErr result (λ e. e ≡ ParseFault.NoMemory) }
 {
     let mut body = Vec::new(alloc);
-    match body.push(stmt) {
-        Ok(()) => Ok(body),
-        Err(_) => Err(ParseFault::NoMemory),
-    }
+    body.push(stmt)?;
+    Ok(body)
 }
 
 #[tactic(auto, using(crate::proofs::FrameLemmas::stmts_join))]
@@ -105,10 +101,8 @@ pub(crate) fn with_arm(
     ensures fault { IfErr result (λ e. e ≡ ParseFault.NoMemory) }
 {
     let mut choices = choices;
-    match choices.push(arm_of(labels, body)) {
-        Ok(()) => Ok(choices),
-        Err(_) => Err(ParseFault::NoMemory),
-    }
+    choices.push(arm_of(labels, body))?;
+    Ok(choices)
 }
 
 pub(crate) fn with_label(labels: Vec<Bits>, label: Bits) -> Result<Vec<Bits>, ParseFault>
@@ -116,10 +110,8 @@ pub(crate) fn with_label(labels: Vec<Bits>, label: Bits) -> Result<Vec<Bits>, Pa
     ensures fault { IfErr result (λ e. e ≡ ParseFault.NoMemory) }
 {
     let mut labels = labels;
-    match labels.push(label) {
-        Ok(()) => Ok(labels),
-        Err(_) => Err(ParseFault::NoMemory),
-    }
+    labels.push(label)?;
+    Ok(labels)
 }
 
 pub(crate) fn case_of(
