@@ -1,14 +1,14 @@
-//! Rows of dynamic primitives: what one array shows, the verdicts, and their report.
+//! Rows of dynamic primitives: what one array shows, and the verdicts.
 
-ghost use Rattle.std.specs.Prelude.{◌≡◌, None, IfOk};
+ghost use Rattle.std.specs.Prelude.{◌≡◌, ◌<◌, None, IfOk};
+ghost use Rattle.march_core.specs.Visits.{FitsWord};
 
-use dynamic_core::{
-    DynInstance, DynPrim, DynSense, Item, dyn_one, dyn_two, print_dyn, read_items, simulate_dyn,
-};
-use dynamic_prover::{DynEscape, DynVerdict, judge_dyn};
+use array_sim::Miss;
+use dynamic_core::{DynInstance, DynPrim, DynSense, dyn_one, dyn_two, print_dyn, simulate_dyn};
+use dynamic_prover::{DynVerdict, judge_dyn};
 use fault_core::{Act, PrimFault};
+use march_core::{March, MarchFault};
 use march_syntax::read_march;
-use report::{count_covered, judge_items, write_mixed};
 use std::test::Fail;
 
 /// A write of 1 and its read stand side by side at the end cells alone.
@@ -33,47 +33,62 @@ fn loses_a_written_one() -> Result<DynPrim, PrimFault>
     DynPrim::new(None, DynSense { state, acts }, false, Some(false))
 }
 
+fn loses_it_at_once(prim: &DynPrim) -> bool {
+    print_dyn(prim).as_str() == "<0w1r1/0/0>"
+        && prim.agg().is_none()
+        && !prim.vic().state
+        && !prim.after()
+        && prim.answer() == Some(false)
+        && !prim.is_two_cell()
+}
+
+/// Whether two acts on both cells are refused, and what a good cell does.
+fn are_others_refused(vic: DynSense) -> bool {
+    let two = DynPrim::new(Some(vic), vic, false, Some(false));
+    let as_good = DynPrim::new(None, vic, true, Some(true));
+    matches!(two, Err(PrimFault::TooManyOperations)) && matches!(as_good, Err(PrimFault::NotAFault))
+}
+
 #[test]
 fn parts_of_dynamic_primitives(rt: HostRuntime) -> Result<(), Fail> {
     let prim = loses_a_written_one()?;
-    assert_eq!(rt; print_dyn(&prim).as_str(), "<0w1r1/0/0>");
-    assert!(rt; prim.agg().is_none());
-    assert!(rt; !prim.vic().state);
-    assert!(rt; !prim.after());
-    assert_eq!(rt; prim.answer(), Some(false));
-    assert!(rt; !prim.is_two_cell());
-    let vic = prim.vic();
-    let agg = Some(vic);
-    let two = DynPrim::new(agg, vic, false, Some(false));
-    assert!(rt; matches!(two, Err(PrimFault::TooManyOperations)));
-    let as_good = DynPrim::new(None, vic, true, Some(true));
-    assert!(rt; matches!(as_good, Err(PrimFault::NotAFault)));
-    assert_eq!(rt; dyn_one().len(), 30);
-    assert_eq!(rt; dyn_two().len(), 96);
+    assert!(rt; loses_it_at_once(&prim));
+    assert!(rt; are_others_refused(prim.vic()));
+    assert!(rt; dyn_one().len() == 30 && dyn_two().len() == 96);
     Ok(())
+}
+
+/// Where a march first misses, of three cells, that this one loses a written one.
+fn first_miss(march: &March, directions: u64, vic: usize) -> Result<Option<Miss>, PrimFault>
+    requires fits { FitsWord march.now directions }
+    requires victim { vic < 3 }
+{
+    let instance = DynInstance {
+        prim: loses_a_written_one()?,
+        agg: None,
+        vic,
+    };
+    let mut cells = [false, false, false];
+    Ok(simulate_dyn(march, &instance, &mut cells, directions))
 }
 
 #[test]
 fn a_middle_cell_passes(rt: HostRuntime) -> Result<(), Fail> {
     let march = read_march(ENDS)?;
-    let prim = loses_a_written_one()?;
     assert!(rt; march.fits_directions(DOWN_AT_2_AND_4));
-    let mut cells = [false, false, false];
-    let instance = DynInstance {
-        prim,
-        agg: None,
-        vic: 1,
+    assert!(rt; first_miss(&march, DOWN_AT_2_AND_4, 1)?.is_none());
+    let miss = Miss {
+        element: 2,
+        address: 2,
+        op: 0,
     };
-    assert!(rt; simulate_dyn(&march, &instance, &mut cells, DOWN_AT_2_AND_4).is_none());
-    let instance = DynInstance {
-        prim,
-        agg: None,
-        vic: 2,
-    };
-    let mut cells = [false, false, false];
-    let miss = simulate_dyn(&march, &instance, &mut cells, DOWN_AT_2_AND_4).ok_or("a miss")?;
-    assert_eq!(rt; (miss.element, miss.address, miss.op), (2, 2, 0));
+    assert!(rt; first_miss(&march, DOWN_AT_2_AND_4, 2)? == Some(miss));
     Ok(())
+}
+
+fn verdict_on(text: &[u8], prim: &DynPrim) -> Result<DynVerdict, MarchFault> {
+    let march = read_march(text)?;
+    Ok(judge_dyn(&march, prim))
 }
 
 /// The size, the victim and the directions of an escape.
@@ -84,50 +99,35 @@ fn escape_of(verdict: &DynVerdict) -> Option<(u8, u8, u64)> {
     }
 }
 
-fn is_blank(escape: &DynEscape) -> bool {
-    escape.agg.is_none() && escape.content == [false, false, false, false, false]
+/// Whether it is an escape of one cell among zeros.
+fn is_blank(verdict: &DynVerdict) -> bool {
+    match verdict {
+        DynVerdict::Covered => false,
+        DynVerdict::Escape(escape) => {
+            escape.agg.is_none() && escape.content == [false, false, false, false, false]
+        }
+    }
+}
+
+/// Whether it is the escape of the middle one of three zeros.
+fn is_middle_escape(verdict: &DynVerdict) -> bool {
+    is_blank(verdict) && escape_of(verdict) == Some((3, 1, DOWN_AT_2_AND_4))
 }
 
 #[test]
-fn verdicts_on_dynamic_primitives(rt: HostRuntime) -> Result<(), Fail> {
+fn verdicts_on_a_lost_one(rt: HostRuntime) -> Result<(), Fail> {
     let prim = loses_a_written_one()?;
-    let verdict = judge_dyn(&read_march(ENDS)?, &prim);
-    assert_eq!(rt; escape_of(&verdict), Some((3, 1, DOWN_AT_2_AND_4)));
-    match verdict {
-        DynVerdict::Covered => panic!(rt; "no escape"),
-        DynVerdict::Escape(escape) => assert!(rt; is_blank(&escape)),
-    }
-    let verdict = judge_dyn(&read_march(BOTH)?, &prim);
-    assert_eq!(rt; escape_of(&verdict), None);
-
-    let acts = Some([Act::Write(false), Act::Read]);
-    let state = true;
-    let flips = DynPrim::new(None, DynSense { state, acts }, true, Some(true))?;
-    let verdict = judge_dyn(&read_march(MARCH_C)?, &flips);
-    assert_eq!(rt; escape_of(&verdict), Some((2, 0, DOWN_FROM_3)));
+    assert!(rt; is_middle_escape(&verdict_on(ENDS, &prim)?));
+    assert!(rt; escape_of(&verdict_on(BOTH, &prim)?).is_none());
     Ok(())
 }
 
-const MIXED: &[u8] = b"march {any(w0);any(w1,r1)}
-covered <0w1r1/0/0> DYN1
-covered <0w1/0/-> TF
-escape <0w1r1;0/1/-> DYN2 cells 2 aggressor 0 victim 1 content 00 directions uu
-covered <0w1r1/0/0> DYN1
-class TF 1 covered 1
-class DYN1 2 covered 2
-class DYN2 1 covered 0
-total 4 covered 3 escapes 1
-";
-
 #[test]
-fn a_mixed_report(rt: HostRuntime) -> Result<(), Fail> {
-    let march = read_march(BOTH)?;
-    let list = b"<0w1r1/0/0>\n<0w1/0/->\n<0w1r1;0/1/->\n<0w1r1/0/0>\n";
-    let items = read_items(rt.alloc(), list).ok().ok_or("a list")?;
-    assert!(rt; matches!(items.first(), Some(Item::Dyn(_))));
-    let judged = judge_items(rt.alloc(), &march, &items)?;
-    assert_eq!(rt; count_covered(&judged), 3);
-    let text = write_mixed(rt.alloc(), &march, None, &items)?;
-    assert_eq!(rt; text.as_slice(), MIXED);
+fn a_verdict_on_a_flipped_zero(rt: HostRuntime) -> Result<(), Fail> {
+    let acts = Some([Act::Write(false), Act::Read]);
+    let state = true;
+    let flips = DynPrim::new(None, DynSense { state, acts }, true, Some(true))?;
+    let verdict = verdict_on(MARCH_C, &flips)?;
+    assert!(rt; escape_of(&verdict) == Some((2, 0, DOWN_FROM_3)));
     Ok(())
 }

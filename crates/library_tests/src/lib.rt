@@ -10,6 +10,8 @@ mod dynamic_rows;
 #[cfg(test)]
 mod hosts;
 #[cfg(test)]
+mod reports;
+#[cfg(test)]
 mod retention_rows;
 #[cfg(test)]
 mod small_arrays;

@@ -126,16 +126,21 @@ fn is_confirmed(march: &March, prim: &Prim) -> bool {
         && is_detected(march, prim, 4) == covered
 }
 
+fn are_confirmed(march: &March, prims: &[Prim]) -> bool {
+    for prim in prims {
+        if !is_confirmed(march, prim) {
+            return false;
+        }
+    }
+    true
+}
+
 #[test]
 fn verdicts_are_those_of_every_small_array(rt: HostRuntime) -> Result<(), Fail> {
     for text in MARCHES {
-        let march = read_march(text.as_bytes()).ok().ok_or("a march")?;
-        for prim in &one_cell() {
-            assert!(rt; is_confirmed(&march, prim), "{text}");
-        }
-        for prim in &two_cell() {
-            assert!(rt; is_confirmed(&march, prim), "{text}");
-        }
+        let march = read_march(text.as_bytes())?;
+        assert!(rt; are_confirmed(&march, &one_cell()), "{text}");
+        assert!(rt; are_confirmed(&march, &two_cell()), "{text}");
     }
     Ok(())
 }
