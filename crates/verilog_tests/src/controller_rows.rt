@@ -1,58 +1,82 @@
 //! The microcode of marches, its steps, and what the controller shows at the ports.
 
+ghost use Rattle.std.specs.Prelude.{◌<◌};
+ghost use Rattle.march_core.specs.March.{IsMarch};
+
 use controller::Control;
+use march_core::March;
 use march_syntax::read_march;
-use memory_desc::read_memory;
+use memory_desc::{Memory, read_memory};
 use microcode::{Instr, Stepper, assemble, decode, encode};
 use std::test::Fail;
 
-#[test]
-fn bytes_of_a_march(rt: HostRuntime) -> Result<(), Fail> {
-    let march = read_march(b"{any(w0);up(r0,w1);down(r1,w0)}")
-        .ok()
-        .ok_or("a march")?;
-    let code = assemble(&march);
-    let bytes = [9, 0, 13, 6, 11];
-    assert_eq!(rt; code.len(), bytes.len());
-    for (instr, byte) in code.as_slice().iter().zip(bytes) {
-        assert_eq!(rt; decode(byte), Some(*instr));
+const MATS_PLUS: &[u8] = b"{any(w0);up(r0,w1);down(r1,w0)}";
+
+/// Whether the code of a march is that of these bytes.
+fn is_coded(march: &March, bytes: &[u8]) -> bool {
+    let code = assemble(march);
+    if code.len() != bytes.len() {
+        return false;
     }
-    assert_eq!(rt; decode(16), None);
+    for (instr, byte) in code.as_slice().iter().zip(bytes) {
+        if decode(*byte) != Some(*instr) {
+            return false;
+        }
+    }
+    true
+}
+
+fn a_pause_is_coded() -> bool {
     let pause = Instr {
         last: true,
         pause: true,
         ..Instr::default()
     };
-    assert_eq!(rt; encode(pause), 17);
-    assert_eq!(rt; decode(17), Some(pause));
+    encode(pause) == 17 && decode(17) == Some(pause)
+}
+
+#[test]
+fn bytes_of_a_march(rt: HostRuntime) -> Result<(), Fail> {
+    let march = read_march(MATS_PLUS)?;
+    assert!(rt; is_coded(&march, &[9, 0, 13, 6, 11]));
+    assert!(rt; decode(16).is_none() && a_pause_is_coded());
     Ok(())
+}
+
+/// The addresses and the codes of the steps of MATS+ on two words.
+const STEPS: [(u32, u8); 10] = [
+    (0, 9),
+    (1, 9),
+    (0, 0),
+    (0, 13),
+    (1, 0),
+    (1, 13),
+    (1, 6),
+    (1, 11),
+    (0, 6),
+    (0, 11),
+];
+
+fn takes_its_steps(march: &March) -> bool
+    requires { IsMarch march.now }
+{
+    let code = assemble(march);
+    let mut stepper = Stepper::new(&code, 2);
+    for (index, byte) in STEPS {
+        let Some((visited, instr)) = stepper.next() else {
+            return false;
+        };
+        if visited != index || decode(byte) != Some(instr) {
+            return false;
+        }
+    }
+    stepper.next().is_none()
 }
 
 #[test]
 fn steps_of_a_march(rt: HostRuntime) -> Result<(), Fail> {
-    let march = read_march(b"{any(w0);up(r0,w1);down(r1,w0)}")
-        .ok()
-        .ok_or("a march")?;
-    let code = assemble(&march);
-    let mut stepper = Stepper::new(&code, 2);
-    let wanted = [
-        (0, 9),
-        (1, 9),
-        (0, 0),
-        (0, 13),
-        (1, 0),
-        (1, 13),
-        (1, 6),
-        (1, 11),
-        (0, 6),
-        (0, 11),
-    ];
-    for (index, byte) in wanted {
-        let (visited, instr) = stepper.next().ok_or("a step")?;
-        assert_eq!(rt; visited, index);
-        assert_eq!(rt; Some(instr), decode(byte));
-    }
-    assert_eq!(rt; stepper.next(), None);
+    let march = read_march(MATS_PLUS)?;
+    assert!(rt; takes_its_steps(&march));
     Ok(())
 }
 
@@ -78,35 +102,53 @@ const RUNS: [(&[u8], &[u8], &[u64], u64); 3] = [
     ),
 ];
 
+/// Whether the ports show the commands in these cycles, and that the march is done from this one on.
+fn shows_its_cycles(march: &March, memory: &Memory, commands: &[u64], done: u64) -> bool
+    requires march { IsMarch march.now }
+    requires soon { done < 16 }
+{
+    let code = assemble(march);
+    let mut control = Control::reset(&code, memory);
+    for cycle in 1..done + 2 {
+        let ports = control.outputs();
+        if ports.en != commands.contains(&cycle) || ports.done != (cycle >= done) || ports.fail {
+            return false;
+        }
+        control.step(0);
+    }
+    true
+}
+
 #[test]
 fn cycles_of_the_controller(rt: HostRuntime) -> Result<(), Fail> {
     for (march, memory, commands, done) in RUNS {
-        let march = read_march(march).ok().ok_or("a march")?;
-        let memory = read_memory(memory).ok().ok_or("a memory")?;
-        let code = assemble(&march);
-        let mut control = Control::reset(&code, &memory);
-        for cycle in 1..done + 2 {
-            let ports = control.outputs();
-            assert_eq!(rt; ports.en, commands.contains(&cycle));
-            assert_eq!(rt; ports.done, cycle >= done);
-            assert!(rt; !ports.fail);
-            control.step(0);
-        }
+        let march = read_march(march)?;
+        let memory = read_memory(memory)?;
+        assert!(rt; shows_its_cycles(&march, &memory, commands, done));
     }
     Ok(())
+}
+
+/// Whether the march fails from the cycle after the fifth on, in which alone the word is wrong.
+fn fails_from_the_sixth(march: &March, memory: &Memory) -> bool
+    requires { IsMarch march.now }
+{
+    let code = assemble(march);
+    let mut control = Control::reset(&code, memory);
+    for cycle in 1..8 {
+        if control.outputs().fail != (cycle > 5) {
+            return false;
+        }
+        control.step(u64::from(cycle == 5));
+    }
+    true
 }
 
 /// The word of the first read stands on the port in cycle 3 + 2.
 #[test]
 fn a_wrong_answer_fails(rt: HostRuntime) -> Result<(), Fail> {
-    let march = read_march(b"{any(w0);any(r0)}").ok().ok_or("a march")?;
-    let text = b"memory 2\nname two\nwords 2\nbits 1\nlatency 2\n";
-    let memory = read_memory(text).ok().ok_or("a memory")?;
-    let code = assemble(&march);
-    let mut control = Control::reset(&code, &memory);
-    for cycle in 1..8 {
-        assert_eq!(rt; control.outputs().fail, cycle > 5);
-        control.step(u64::from(cycle == 5));
-    }
+    let march = read_march(b"{any(w0);any(r0)}")?;
+    let memory = read_memory(b"memory 2\nname two\nwords 2\nbits 1\nlatency 2\n")?;
+    assert!(rt; fails_from_the_sixth(&march, &memory));
     Ok(())
 }

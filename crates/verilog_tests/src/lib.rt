@@ -6,6 +6,8 @@ mod controller_rows;
 #[cfg(test)]
 mod self_test_rows;
 #[cfg(test)]
+mod trees;
+#[cfg(test)]
 mod verilog_cycle_rows;
 #[cfg(test)]
 mod verilog_emit_rows;

@@ -1,6 +1,6 @@
 //! Self-test modules: one printed whole, and ports that are wrong.
 
-use arrayvec::ArrayString;
+use crate::trees::port;
 use bist_bits::NoMemory;
 use march_syntax::read_march;
 use memory_desc::{Memory, MemoryFault, read_memory};
@@ -9,7 +9,7 @@ use self_test::wrong_port;
 use std::alloc::{AllocError, Global};
 use std::test::Fail;
 use verilog_emit::emit;
-use verilog_tree::{Dir, Module, Name, Port, fits};
+use verilog_tree::{Dir, Module, Port, fits};
 
 const MARCH_C: &[u8] = b"{any(w0);up(r0,w1);up(r1,w0);down(r0,w1);down(r1,w0);any(r0)}";
 
@@ -78,6 +78,13 @@ fn sixteen() -> Result<Memory, MemoryFault> {
     read_memory(b"memory 1\nname buf0\nwords 16\nbits 1\n")
 }
 
+/// The self-test module of March C- on that memory.
+fn self_test(alloc: Global) -> Result<Module, Fail> {
+    let march = read_march(MARCH_C)?;
+    let memory = sixteen()?;
+    Ok(generate(alloc, &march, &memory)?)
+}
+
 fn written(alloc: Global, module: &Module) -> Result<Vec<u8>, NoMemory> {
     if !fits(module) {
         return Ok(Vec::new(alloc));
@@ -87,20 +94,10 @@ fn written(alloc: Global, module: &Module) -> Result<Vec<u8>, NoMemory> {
 
 #[test]
 fn module_of_a_march_and_a_memory(rt: HostRuntime) -> Result<(), Fail> {
-    let march = read_march(MARCH_C)?;
-    let memory = sixteen()?;
-    let module = generate(rt.alloc(), &march, &memory)?;
+    let module = self_test(rt.alloc())?;
     let text = written(rt.alloc(), &module)?;
     assert_eq!(rt; text.as_slice(), MODULE.as_bytes());
     Ok(())
-}
-
-fn port(dir: Dir, text: &str, width: u8) -> Port {
-    Port {
-        dir,
-        name: ArrayString::from(text).unwrap_or(ArrayString::new()),
-        width,
-    }
 }
 
 /// The ports but those of this name, and one more behind them.
@@ -108,72 +105,93 @@ fn exchanged(
     alloc: Global,
     ports: &[Port],
     without: &str,
-    more: Option<Port>,
+    more: Option<(Dir, &str, u8)>,
 ) -> Result<Vec<Port>, AllocError> {
     let mut changed = Vec::new(alloc);
-    for port in ports {
-        if port.name.as_str() != without {
-            changed.push(*port)?;
+    for kept in ports {
+        if kept.name.as_str() != without {
+            changed.push(*kept)?;
         }
     }
-    if let Some(port) = more {
-        changed.push(port)?;
+    if let Some((dir, name, width)) = more {
+        changed.push(port(dir, name, width))?;
     }
     Ok(changed)
 }
 
+/// The name of the ports to leave out, the port behind them, and the name that is found, or none where it is empty.
+type Row = (&'static str, Option<(Dir, &'static str, u8)>, &'static str);
+
+const WRONG_PORTS: [Row; 9] = [
+    ("", None, ""),
+    ("reset", None, "reset"),
+    ("reset", Some((Dir::Input, "reset", 1)), ""),
+    ("en", Some((Dir::OutputReg, "en", 1)), ""),
+    ("done", Some((Dir::Input, "done", 1)), "done"),
+    ("addr", Some((Dir::Output, "addr", 5)), "addr"),
+    ("", Some((Dir::Input, "enable", 1)), "enable"),
+    ("", Some((Dir::Output, "en", 1)), "en"),
+    ("fail", Some((Dir::Output, "failed", 1)), "fail"),
+];
+
 /// Whether this name is found, or none where it is empty.
-fn is_found(found: Option<Name>, name: &str) -> bool {
-    match found {
+fn finds(ports: &[Port], memory: &Memory, name: &str) -> bool {
+    match wrong_port(ports, memory) {
         Some(found) => found.as_str() == name,
         None => name.is_empty(),
     }
 }
 
+fn finds_in_row(
+    alloc: Global,
+    ports: &[Port],
+    memory: &Memory,
+    (without, more, name): Row,
+) -> Result<bool, AllocError> {
+    let changed = exchanged(alloc, ports, without, more)?;
+    Ok(finds(&changed, memory, name))
+}
+
+/// The name of the first row that is not found so.
+fn first_other(
+    alloc: Global,
+    ports: &[Port],
+    memory: &Memory,
+) -> Result<Option<&'static str>, AllocError> {
+    for row in WRONG_PORTS {
+        if !finds_in_row(alloc, ports, memory, row)? {
+            return Ok(Some(row.2));
+        }
+    }
+    Ok(None)
+}
+
 #[test]
 fn ports_that_are_wrong(rt: HostRuntime) -> Result<(), Fail> {
-    let march = read_march(MARCH_C)?;
     let memory = sixteen()?;
-    let module = generate(rt.alloc(), &march, &memory)?;
-    let ports = module.ports.as_slice();
-    let rows = [
-        ("", None, ""),
-        ("reset", None, "reset"),
-        ("reset", Some(port(Dir::Input, "reset", 1)), ""),
-        ("en", Some(port(Dir::OutputReg, "en", 1)), ""),
-        ("done", Some(port(Dir::Input, "done", 1)), "done"),
-        ("addr", Some(port(Dir::Output, "addr", 5)), "addr"),
-        ("", Some(port(Dir::Input, "enable", 1)), "enable"),
-        ("", Some(port(Dir::Output, "en", 1)), "en"),
-        ("fail", Some(port(Dir::Output, "failed", 1)), "fail"),
-    ];
-    for (without, more, name) in rows {
-        let changed = exchanged(rt.alloc(), ports, without, more)?;
-        assert!(rt;
-            is_found(wrong_port(changed.as_slice(), &memory), name),
-            "{name}"
-        );
-    }
+    let module = self_test(rt.alloc())?;
+    assert_eq!(rt; first_other(rt.alloc(), &module.ports, &memory)?, None);
     Ok(())
 }
 
 #[test]
 fn ports_of_another_memory(rt: HostRuntime) -> Result<(), Fail> {
-    let march = read_march(MARCH_C)?;
-    let memory = sixteen()?;
-    let module = generate(rt.alloc(), &march, &memory)?;
     let wider = read_memory(b"memory 1\nname buf8\nwords 8\nbits 8\n")?;
-    assert!(rt; is_found(wrong_port(module.ports.as_slice(), &wider), "rdata"));
+    let module = self_test(rt.alloc())?;
+    assert!(rt; finds(&module.ports, &wider, "rdata"));
     Ok(())
+}
+
+fn without_reset_and_addr(alloc: Global, ports: &[Port]) -> Result<Vec<Port>, AllocError> {
+    let without_addr = exchanged(alloc, ports, "addr", None)?;
+    exchanged(alloc, &without_addr, "reset", None)
 }
 
 #[test]
 fn the_first_of_two_missing_ports(rt: HostRuntime) -> Result<(), Fail> {
-    let march = read_march(MARCH_C)?;
     let memory = sixteen()?;
-    let module = generate(rt.alloc(), &march, &memory)?;
-    let without_addr = exchanged(rt.alloc(), module.ports.as_slice(), "addr", None)?;
-    let without_both = exchanged(rt.alloc(), without_addr.as_slice(), "reset", None)?;
-    assert!(rt; is_found(wrong_port(without_both.as_slice(), &memory), "reset"));
+    let module = self_test(rt.alloc())?;
+    let ports = without_reset_and_addr(rt.alloc(), &module.ports)?;
+    assert!(rt; finds(&ports, &memory, "reset"));
     Ok(())
 }

@@ -1,53 +1,11 @@
 //! Modules and the text that is written of them.
 
-use arrayvec::ArrayString;
+use crate::trees::{all, boxed, declared, name, net, port};
 use bist_bits::{Bits, NoMemory};
-use bist_text::put;
 use std::alloc::Global;
 use std::test::Fail;
 use verilog_emit::emit;
-use verilog_tree::{Arm, BinOp, Decl, Dir, Expr, Item, Module, Name, Port, Stmt, UnOp, fits};
-
-fn name(text: &str) -> Name {
-    ArrayString::from(text).unwrap_or(ArrayString::new())
-}
-
-fn net(text: &str) -> Expr {
-    Expr::Name(name(text))
-}
-
-fn port(dir: Dir, text: &str, width: u8) -> Port {
-    Port {
-        dir,
-        name: name(text),
-        width,
-    }
-}
-
-fn declared(text: &str, width: u8) -> Decl {
-    Decl {
-        name: name(text),
-        width,
-    }
-}
-
-fn all<T: Drop, const N: usize>(alloc: Global, values: [T; N]) -> Result<Vec<T>, NoMemory> {
-    Vec::from_array(alloc, values).map_err(|_| NoMemory)
-}
-
-fn boxed(alloc: Global, x: Expr) -> Result<Box<Expr>, NoMemory> {
-    Box::new(alloc, x).map_err(|_| NoMemory)
-}
-
-/// The lines of a text, each with its end.
-fn lines(alloc: Global, rows: &[&str]) -> Result<Vec<u8>, NoMemory> {
-    let mut text = Vec::new(alloc);
-    for row in rows {
-        put(&mut text, row.as_bytes())?;
-        put(&mut text, b"\n")?;
-    }
-    Ok(text)
-}
+use verilog_tree::{Arm, BinOp, Dir, Expr, Item, Module, Port, Stmt, UnOp, fits};
 
 /// What is written of a module, where it fits.
 fn written(module: &Module, alloc: Global) -> Result<Vec<u8>, NoMemory> {
@@ -69,19 +27,18 @@ fn reduced(alloc: Global) -> Result<Module, NoMemory> {
     })
 }
 
+const REDUCTION: &str = "module t(
+  input [3:0] a,
+  output y
+);
+  assign y = (&a[2:1]);
+endmodule
+";
+
 #[test]
 fn a_reduction(rt: HostRuntime) -> Result<(), Fail> {
-    let alloc = rt.alloc();
-    let expected = [
-        "module t(",
-        "  input [3:0] a,",
-        "  output y",
-        ");",
-        "  assign y = (&a[2:1]);",
-        "endmodule",
-    ];
-    let text = written(&reduced(alloc)?, alloc)?;
-    assert_eq!(rt; text.as_slice(), lines(alloc, &expected)?.as_slice());
+    let text = written(&reduced(rt.alloc())?, rt.alloc())?;
+    assert_eq!(rt; text.as_slice(), REDUCTION.as_bytes());
     Ok(())
 }
 
@@ -99,21 +56,27 @@ fn joined(alloc: Global) -> Result<Expr, NoMemory> {
     Ok(Expr::Concat(parts))
 }
 
-// An if with an else, and an if without.
+// (q + 8'h0f)
+fn sum(alloc: Global) -> Result<Expr, NoMemory> {
+    let q = boxed(alloc, net("q"))?;
+    let fifteen = boxed(alloc, Expr::Lit(Bits::new(8, 15)))?;
+    Ok(Expr::Binary(BinOp::Add, q, fifteen))
+}
+
+// An if without an else.
+fn condition(alloc: Global) -> Result<Stmt, NoMemory> {
+    let sum = sum(alloc)?;
+    let then = all(alloc, [Stmt::Set(name("q"), sum)])?;
+    Ok(Stmt::If(net("r"), then, Vec::new(alloc)))
+}
+
+// An if with an else, around one without.
 fn conditions(alloc: Global) -> Result<Stmt, NoMemory> {
-    let sum = Expr::Binary(
-        BinOp::Add,
-        boxed(alloc, net("q"))?,
-        boxed(alloc, Expr::Lit(Bits::new(8, 15)))?,
-    );
-    let inner = Stmt::If(
-        net("r"),
-        all(alloc, [Stmt::Set(name("q"), sum)])?,
-        Vec::new(alloc),
-    );
-    let not = Expr::Unary(UnOp::Not, boxed(alloc, net("d"))?);
+    let inner = condition(alloc)?;
+    let then = all(alloc, [inner])?;
     let other = all(alloc, [Stmt::Set(name("r"), Expr::Lit(Bits::new(1, 0)))])?;
-    Ok(Stmt::If(not, all(alloc, [inner])?, other))
+    let not = Expr::Unary(UnOp::Not, boxed(alloc, net("d"))?);
+    Ok(Stmt::If(not, then, other))
 }
 
 // A case of an arm with two labels, with this default.
@@ -125,74 +88,91 @@ fn choices(alloc: Global, default: Vec<Stmt>) -> Result<Stmt, NoMemory> {
     Ok(Stmt::Case(net("w"), all(alloc, [arm])?, default))
 }
 
-fn statements(alloc: Global) -> Result<Vec<Stmt>, NoMemory> {
+// A case with a default, and a case without.
+fn cases(alloc: Global) -> Result<[Stmt; 2], NoMemory> {
     let default = all(alloc, [Stmt::Set(name("r"), net("r"))])?;
+    let with_default = choices(alloc, default)?;
+    let without = choices(alloc, Vec::new(alloc))?;
+    Ok([with_default, without])
+}
+
+fn statements(alloc: Global) -> Result<Vec<Stmt>, NoMemory> {
     let first = conditions(alloc)?;
-    let second = choices(alloc, default)?;
-    let third = choices(alloc, Vec::new(alloc))?;
+    let [second, third] = cases(alloc)?;
     all(alloc, [first, second, third])
 }
 
-fn every_form(alloc: Global) -> Result<Module, NoMemory> {
+fn ports(alloc: Global) -> Result<Vec<Port>, NoMemory> {
     let ports = [
         port(Dir::Input, "clk", 1),
         port(Dir::Input, "d", 8),
         port(Dir::OutputReg, "q", 8),
         port(Dir::Output, "p", 1),
     ];
+    all(alloc, ports)
+}
+
+fn items(alloc: Global) -> Result<Vec<Item>, NoMemory> {
+    let chosen = chosen(alloc)?;
+    let joined = joined(alloc)?;
+    let statements = statements(alloc)?;
     let items = [
         Item::Wire(declared("w", 3)),
         Item::Reg(declared("r", 1)),
-        Item::Assign(name("p"), chosen(alloc)?),
-        Item::Assign(name("w"), joined(alloc)?),
-        Item::Always(name("clk"), statements(alloc)?),
+        Item::Assign(name("p"), chosen),
+        Item::Assign(name("w"), joined),
+        Item::Always(name("clk"), statements),
     ];
+    all(alloc, items)
+}
+
+fn every_form(alloc: Global) -> Result<Module, NoMemory> {
+    let items = items(alloc)?;
     Ok(Module {
         name: name("m2"),
-        ports: all(alloc, ports)?,
-        items: all(alloc, items)?,
+        ports: ports(alloc)?,
+        items,
     })
 }
 
+const EVERY_FORM: &str = "module m2(
+  input clk,
+  input [7:0] d,
+  output reg [7:0] q,
+  output p
+);
+  wire [2:0] w;
+  reg r;
+  assign p = (d[3] ? 1'h1 : w[0]);
+  assign w = {d[7:6], r};
+  always @(posedge clk) begin
+    if ((!d)) begin
+      if (r) begin
+        q <= (q + 8'h0f);
+      end
+    end else begin
+      r <= 1'h0;
+    end
+    case (w)
+      3'h0, 3'h5: begin
+        q <= d;
+      end
+      default: begin
+        r <= r;
+      end
+    endcase
+    case (w)
+      3'h0, 3'h5: begin
+        q <= d;
+      end
+    endcase
+  end
+endmodule
+";
+
 #[test]
 fn each_form(rt: HostRuntime) -> Result<(), Fail> {
-    let alloc = rt.alloc();
-    let expected = [
-        "module m2(",
-        "  input clk,",
-        "  input [7:0] d,",
-        "  output reg [7:0] q,",
-        "  output p",
-        ");",
-        "  wire [2:0] w;",
-        "  reg r;",
-        "  assign p = (d[3] ? 1'h1 : w[0]);",
-        "  assign w = {d[7:6], r};",
-        "  always @(posedge clk) begin",
-        "    if ((!d)) begin",
-        "      if (r) begin",
-        "        q <= (q + 8'h0f);",
-        "      end",
-        "    end else begin",
-        "      r <= 1'h0;",
-        "    end",
-        "    case (w)",
-        "      3'h0, 3'h5: begin",
-        "        q <= d;",
-        "      end",
-        "      default: begin",
-        "        r <= r;",
-        "      end",
-        "    endcase",
-        "    case (w)",
-        "      3'h0, 3'h5: begin",
-        "        q <= d;",
-        "      end",
-        "    endcase",
-        "  end",
-        "endmodule",
-    ];
-    let text = written(&every_form(alloc)?, alloc)?;
-    assert_eq!(rt; text.as_slice(), lines(alloc, &expected)?.as_slice());
+    let text = written(&every_form(rt.alloc())?, rt.alloc())?;
+    assert_eq!(rt; text.as_slice(), EVERY_FORM.as_bytes());
     Ok(())
 }
