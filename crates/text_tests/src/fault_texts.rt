@@ -1,90 +1,78 @@
 //! Texts of primitives and of lists, and what the readers say of them.
 
-use fault_syntax::{FaultFault, print_prim, read_list, read_prim};
-use std::test::Fail;
+use crate::texts::{are_no_lists, are_no_prims, list_len, print_prims, repeated};
+use fault_syntax::FaultFault;
+use std::alloc::{AllocError, Global};
 
-fn unexpected(byte: usize) -> FaultFault {
-    FaultFault::Unexpected { line: 1, byte }
+const NO_FAULT: FaultFault = FaultFault::NotAFault { line: 1 };
+
+const TOO_MANY: FaultFault = FaultFault::TooManyOperations { line: 1 };
+
+static REFUSED_PRIMS: [(&str, FaultFault); 15] = [
+    ("<0r0/0/0>", NO_FAULT),
+    ("<1r0/0/0>", NO_FAULT),
+    ("<0w1/0/0>", NO_FAULT),
+    ("<0r0/1/->", NO_FAULT),
+    ("<0w1r1/0/0>", TOO_MANY),
+    ("<0w1;0w0/1/->", TOO_MANY),
+    ("<r0w1/0/->", TOO_MANY),
+    ("<0w1/0>", FaultFault::Unexpected { line: 1, byte: 6 }),
+    ("<0w 1/0/->", FaultFault::Unexpected { line: 1, byte: 3 }),
+    ("<w1/0/->", FaultFault::Unexpected { line: 1, byte: 1 }),
+    ("<0;0;0/1/->", FaultFault::Unexpected { line: 1, byte: 4 }),
+    ("<0/1/->\n", FaultFault::Unexpected { line: 1, byte: 7 }),
+    ("SF", FaultFault::Unexpected { line: 1, byte: 0 }),
+    ("<0w1/0", FaultFault::Truncated { line: 1 }),
+    ("", FaultFault::Truncated { line: 1 }),
+];
+
+#[test]
+fn primitives_are_refused(rt: HostRuntime) {
+    assert!(rt; are_no_prims(&REFUSED_PRIMS));
+}
+
+static REFUSED_LISTS: [(&str, FaultFault); 9] = [
+    ("<0w1/0", FaultFault::Truncated { line: 1 }),
+    ("<0w1/0\n", FaultFault::Unexpected { line: 1, byte: 6 }),
+    ("<0w1/0 #x", FaultFault::Unexpected { line: 1, byte: 7 }),
+    ("CF", FaultFault::Truncated { line: 1 }),
+    ("CF\n", FaultFault::Unexpected { line: 1, byte: 2 }),
+    ("SFx", FaultFault::Unexpected { line: 1, byte: 2 }),
+    ("one two", FaultFault::Unexpected { line: 1, byte: 4 }),
+    ("one\n# \n\n <0r0/0/0>", FaultFault::NotAFault { line: 4 }),
+    (
+        "one\n<0w1;0w0/1/->\nx",
+        FaultFault::TooManyOperations { line: 2 },
+    ),
+];
+
+#[test]
+fn lists_are_refused(rt: HostRuntime) {
+    assert!(rt; are_no_lists(rt.alloc(), &REFUSED_LISTS));
+}
+
+/// What is read of 21 lines `all`, which bring 1008 primitives, and of what stands behind them.
+fn long_len(alloc: Global, last: &str) -> Result<usize, FaultFault> {
+    match repeated(alloc, "", "all\n", 21, last) {
+        Ok(text) => list_len(alloc, &text),
+        Err(AllocError) => Err(FaultFault::NoMemory),
+    }
 }
 
 #[test]
-fn primitives_are_refused(rt: HostRuntime) -> Result<(), Fail> {
-    let none = FaultFault::NotAFault { line: 1 };
-    let too_many = FaultFault::TooManyOperations { line: 1 };
-    let rows = [
-        ("<0r0/0/0>", none),
-        ("<1r0/0/0>", none),
-        ("<0w1/0/0>", none),
-        ("<0r0/1/->", none),
-        ("<0w1r1/0/0>", too_many),
-        ("<0w1;0w0/1/->", too_many),
-        ("<r0w1/0/->", too_many),
-        ("<0w1/0>", unexpected(6)),
-        ("<0w 1/0/->", unexpected(3)),
-        ("<w1/0/->", unexpected(1)),
-        ("<0;0;0/1/->", unexpected(4)),
-        ("<0/1/->\n", unexpected(7)),
-        ("SF", unexpected(0)),
-        ("<0w1/0", FaultFault::Truncated { line: 1 }),
-        ("", FaultFault::Truncated { line: 1 }),
-    ];
-    for (text, fault) in rows {
-        assert_eq!(rt; read_prim(text.as_bytes()).err(), Some(fault), "{text}");
-    }
-    Ok(())
-}
-
-#[test]
-fn lists_are_refused(rt: HostRuntime) -> Result<(), Fail> {
-    let rows = [
-        ("<0w1/0", FaultFault::Truncated { line: 1 }),
-        ("<0w1/0\n", unexpected(6)),
-        ("<0w1/0 #x", unexpected(7)),
-        ("CF", FaultFault::Truncated { line: 1 }),
-        ("CF\n", unexpected(2)),
-        ("SFx", unexpected(2)),
-        ("one two", unexpected(4)),
-        ("one\n# \n\n <0r0/0/0>", FaultFault::NotAFault { line: 4 }),
-        (
-            "one\n<0w1;0w0/1/->\nx",
-            FaultFault::TooManyOperations { line: 2 },
-        ),
-    ];
-    for (text, fault) in rows {
-        assert_eq!(rt;
-            read_list(rt.alloc(), text.as_bytes()).err(),
-            Some(fault),
-            "{text}"
-        );
-    }
-    Ok(())
-}
-
-#[test]
-fn a_list_holds_1024_primitives(rt: HostRuntime) -> Result<(), Fail> {
-    let mut text = Vec::new(rt.alloc());
-    for _ in 0..21 {
-        text.extend_from_slice(b"all\n")?;
-    }
-    text.extend_from_slice(b"one#two\n CFst\n")?;
-    let prims = read_list(rt.alloc(), text.as_slice()).ok().ok_or("a list")?;
-    assert_eq!(rt; prims.len(), 1024);
-    text.extend_from_slice(b"<0/1/->")?;
+fn a_list_holds_1024_primitives(rt: HostRuntime) {
+    assert!(rt; long_len(rt.alloc(), "one#two\n CFst\n") == Ok(1024));
     let full = FaultFault::TooManyPrimitives { line: 24 };
-    assert_eq!(rt; read_list(rt.alloc(), text.as_slice()).err(), Some(full));
-    Ok(())
+    assert!(rt; long_len(rt.alloc(), "one#two\n CFst\n<0/1/->") == Err(full));
 }
 
+static PRINTED: [(&str, &str); 3] = [
+    ("<r0/1/1>", "<0r0/1/1>"),
+    ("\t<0 w1 / 0/ - > ", "<0w1/0/->"),
+    ("<0w1 ;0/1/->", "<0w1;0/1/->"),
+];
+
 #[test]
-fn primitives_are_printed(rt: HostRuntime) -> Result<(), Fail> {
-    let rows = [
-        ("<r0/1/1>", "<0r0/1/1>"),
-        ("\t<0 w1 / 0/ - > ", "<0w1/0/->"),
-        ("<0w1 ;0/1/->", "<0w1;0/1/->"),
-    ];
-    for (text, printed) in rows {
-        let prim = read_prim(text.as_bytes()).ok().ok_or("a primitive")?;
-        assert_eq!(rt; print_prim(&prim).as_str(), printed);
-    }
-    Ok(())
+fn primitives_are_printed(rt: HostRuntime) {
+    assert!(rt; print_prims(&PRINTED));
 }

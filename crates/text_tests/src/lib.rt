@@ -1,4 +1,5 @@
-//! Tests of the texts of marches, primitives, lists and memories, through public calls.
+//! Tests of the texts of marches, primitives, lists and memories, through public calls. The rows stand in statics, and
+//! small functions walk them, since the proof of a long test costs more than theirs.
 #![tactic(auto)]
 
 #[cfg(test)]
@@ -13,3 +14,5 @@ mod memory_rows;
 mod memory_texts;
 #[cfg(test)]
 mod pause_texts;
+#[cfg(test)]
+mod texts;

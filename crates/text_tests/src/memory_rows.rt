@@ -1,81 +1,79 @@
 //! Memory descriptions of version 2, and the commands of memories with a polarity, pauses or a latency.
 
+use crate::texts::{are_no_memories, is_memory_form};
+use march_core::March;
 use march_syntax::read_march;
-use memory_desc::{MemoryFault, print_memory, read_memory};
+use memory_desc::{Memory, MemoryFault, read_memory};
+use std::alloc::Global;
 use std::test::Fail;
-use word_march::{length, port_ops, span, word_ops};
+use word_march::{PortOp, length, port_ops, span, word_ops};
 
-const TWO_BITS: &str = "memory 2\nname two\nwords 2\nbits 1\n";
-
-fn refusal(text: &str) -> Option<MemoryFault> {
-    read_memory(text.as_bytes()).err()
-}
+static REFUSED: [(&str, MemoryFault); 15] = [
+    ("memory 3\n", MemoryFault::OtherVersion),
+    ("memory 2\nlat", MemoryFault::Truncated),
+    (
+        "memory 2\np\n",
+        MemoryFault::Unexpected { line: 2, byte: 1 },
+    ),
+    (
+        "memory 2\nlx 1\n",
+        MemoryFault::Unexpected { line: 2, byte: 1 },
+    ),
+    (
+        "memory 2\npx 1\n",
+        MemoryFault::Unexpected { line: 2, byte: 1 },
+    ),
+    (
+        "memory 2\npolarity 00000000000000000\n",
+        MemoryFault::Unexpected { line: 2, byte: 25 },
+    ),
+    (
+        "memory 2\nlatency 2\nlatency 2\n",
+        MemoryFault::Repeated { line: 3 },
+    ),
+    (
+        "memory 2\npause 1\npolarity 0\npause 1\n",
+        MemoryFault::Repeated { line: 4 },
+    ),
+    (
+        "memory 2\nname two\nwords 2\nbits 1\nlatency 5\n",
+        MemoryFault::OutOfRange { line: 5 },
+    ),
+    (
+        "memory 2\nname two\nwords 2\nbits 1\nlatency 0\n",
+        MemoryFault::OutOfRange { line: 5 },
+    ),
+    (
+        "memory 2\nname two\nwords 2\nbits 1\npause 0\n",
+        MemoryFault::OutOfRange { line: 5 },
+    ),
+    (
+        "memory 2\nname two\npause 65536\nwords 2\nbits 1\n",
+        MemoryFault::OutOfRange { line: 3 },
+    ),
+    (
+        "memory 2\nname two\nwords 2\nbits 1\npolarity 2\n",
+        MemoryFault::OutOfRange { line: 5 },
+    ),
+    (
+        "memory 1\nname two\nwords 2\nbits 1\nlatency 1\n",
+        MemoryFault::Unexpected { line: 5, byte: 0 },
+    ),
+    (
+        "memory 1\nname two\nwords 2\nbits 1\npause 1\n",
+        MemoryFault::Unexpected { line: 5, byte: 0 },
+    ),
+];
 
 #[test]
 fn refusals_of_version_2(rt: HostRuntime) {
-    let cases = [
-        ("memory 3\n", MemoryFault::OtherVersion),
-        ("memory 2\nlat", MemoryFault::Truncated),
-        (
-            "memory 2\np\n",
-            MemoryFault::Unexpected { line: 2, byte: 1 },
-        ),
-        (
-            "memory 2\nlx 1\n",
-            MemoryFault::Unexpected { line: 2, byte: 1 },
-        ),
-        (
-            "memory 2\npx 1\n",
-            MemoryFault::Unexpected { line: 2, byte: 1 },
-        ),
-        (
-            "memory 2\npolarity 00000000000000000\n",
-            MemoryFault::Unexpected { line: 2, byte: 25 },
-        ),
-        (
-            "memory 2\nlatency 2\nlatency 2\n",
-            MemoryFault::Repeated { line: 3 },
-        ),
-        (
-            "memory 2\npause 1\npolarity 0\npause 1\n",
-            MemoryFault::Repeated { line: 4 },
-        ),
-        (
-            "memory 2\nname two\nwords 2\nbits 1\nlatency 5\n",
-            MemoryFault::OutOfRange { line: 5 },
-        ),
-        (
-            "memory 2\nname two\nwords 2\nbits 1\nlatency 0\n",
-            MemoryFault::OutOfRange { line: 5 },
-        ),
-        (
-            "memory 2\nname two\nwords 2\nbits 1\npause 0\n",
-            MemoryFault::OutOfRange { line: 5 },
-        ),
-        (
-            "memory 2\nname two\npause 65536\nwords 2\nbits 1\n",
-            MemoryFault::OutOfRange { line: 3 },
-        ),
-        (
-            "memory 2\nname two\nwords 2\nbits 1\npolarity 2\n",
-            MemoryFault::OutOfRange { line: 5 },
-        ),
-        (
-            "memory 1\nname two\nwords 2\nbits 1\nlatency 1\n",
-            MemoryFault::Unexpected { line: 5, byte: 0 },
-        ),
-        (
-            "memory 1\nname two\nwords 2\nbits 1\npause 1\n",
-            MemoryFault::Unexpected { line: 5, byte: 0 },
-        ),
-    ];
-    for (text, fault) in cases {
-        assert_eq!(rt; refusal(text), Some(fault), "{text}");
-    }
+    assert!(rt; are_no_memories(&REFUSED));
 }
 
 /// A description, the printed form of its memory, its latency, its polarity and its pause.
-const PRINTED: [(&str, &str, u8, u64, u32); 4] = [
+type Printed = (&'static str, &'static str, u8, u64, u32);
+
+static PRINTED: [Printed; 4] = [
     (
         "memory 2\nname two\nwords 2\nbits 1\nlatency 1\npolarity 0\npause 1\n",
         "memory 1\nname two\nwords 2\nbits 1\nbackgrounds 0\n",
@@ -106,50 +104,114 @@ const PRINTED: [(&str, &str, u8, u64, u32); 4] = [
     ),
 ];
 
-#[test]
-fn printed_forms_of_version_2(rt: HostRuntime) -> Result<(), Fail> {
-    for (text, wanted, latency, polarity, pause) in PRINTED {
-        let memory = read_memory(text.as_bytes()).ok().ok_or("a memory")?;
-        assert_eq!(rt; memory.latency(), latency);
-        assert_eq!(rt; memory.polarity(), polarity);
-        assert_eq!(rt; memory.pause(), pause);
-        let printed = print_memory(rt.alloc(), &memory)?;
-        assert_eq!(rt; printed.as_slice(), wanted.as_bytes());
-        let again = read_memory(&printed).ok().ok_or("a memory")?;
-        assert_eq!(rt; again.latency(), latency);
-        assert_eq!(rt; again.polarity(), polarity);
-        assert_eq!(rt; again.pause(), pause);
+/// Whether the text describes a memory of this latency, polarity and pause.
+fn is_timed(text: &str, latency: u8, polarity: u64, pause: u32) -> bool {
+    match read_memory(text.as_bytes()) {
+        Ok(memory) => {
+            memory.latency() == latency && memory.polarity() == polarity && memory.pause() == pause
+        }
+        Err(_) => false,
     }
-    Ok(())
+}
+
+/// Whether the text describes a memory of this printed form.
+fn prints_memory(alloc: Global, text: &str, form: &str) -> bool {
+    match read_memory(text.as_bytes()) {
+        Ok(memory) => is_memory_form(alloc, &memory, form),
+        Err(_) => false,
+    }
+}
+
+fn is_right(alloc: Global, row: &Printed) -> bool {
+    let (text, form, latency, polarity, pause) = *row;
+    is_timed(text, latency, polarity, pause)
+        && prints_memory(alloc, text, form)
+        && is_timed(form, latency, polarity, pause)
+}
+
+fn are_right(alloc: Global, rows: &[Printed]) -> bool {
+    for row in rows {
+        if !is_right(alloc, row) {
+            return false;
+        }
+    }
+    true
+}
+
+#[test]
+fn printed_forms_of_version_2(rt: HostRuntime) {
+    assert!(rt; are_right(rt.alloc(), &PRINTED));
+}
+
+/// The commands of `{up(w1);down(r1)}` on two words of one bit, inverted at the port.
+static INVERTED: [PortOp; 4] = [
+    PortOp {
+        write: true,
+        addr: 0,
+        word: 0,
+    },
+    PortOp {
+        write: true,
+        addr: 1,
+        word: 0,
+    },
+    PortOp {
+        write: false,
+        addr: 1,
+        word: 0,
+    },
+    PortOp {
+        write: false,
+        addr: 0,
+        word: 0,
+    },
+];
+
+/// Whether the first commands of the march on the memory are these.
+fn begins_so(march: &March, memory: &Memory, commands: &[PortOp]) -> bool {
+    for (wanted, command) in commands.iter().zip(port_ops(march, memory)) {
+        if command != *wanted {
+            return false;
+        }
+    }
+    true
+}
+
+/// The greatest word of the march's operations on the memory.
+fn greatest_word(march: &March, memory: &Memory) -> Option<u64> {
+    word_ops(march, memory).map(|o| o.word).max()
 }
 
 #[test]
 fn a_polarity_inverts_the_words_at_the_port(rt: HostRuntime) -> Result<(), Fail> {
-    let march = read_march(b"{up(w1);down(r1)}").ok().ok_or("a march")?;
-    let text = "memory 2\nname two\nwords 2\nbits 1\npolarity 1\n";
-    let memory = read_memory(text.as_bytes()).ok().ok_or("a memory")?;
-    let wanted = [(true, 0, 0), (true, 1, 0), (false, 1, 0), (false, 0, 0)];
-    assert_eq!(rt; length(&march, &memory), 4);
-    for ((write, addr, word), command) in wanted.iter().zip(port_ops(&march, &memory)) {
-        assert_eq!(rt;
-            (command.write, command.addr, command.word),
-            (*write, *addr, *word)
-        );
-    }
-    assert_eq!(rt; word_ops(&march, &memory).map(|o| o.word).max(), Some(1));
+    let march = read_march(b"{up(w1);down(r1)}")?;
+    let memory = read_memory(b"memory 2\nname two\nwords 2\nbits 1\npolarity 1\n")?;
+    assert!(rt; length(&march, &memory) == 4);
+    assert!(rt; begins_so(&march, &memory, &INVERTED));
+    assert!(rt; greatest_word(&march, &memory) == Some(1));
     Ok(())
+}
+
+/// Whether a march of two elements with a pause between them has so many commands on the memory of the text, and takes
+/// so many cycles.
+fn takes(text: &str, commands: u64, cycles: u64) -> Result<bool, Fail> {
+    let march = read_march(b"{any(w0);del;any(r0)}")?;
+    let memory = read_memory(text.as_bytes())?;
+    Ok(length(&march, &memory) == commands && span(&march, &memory) == cycles)
 }
 
 #[test]
 fn pauses_are_no_commands_but_take_cycles(rt: HostRuntime) -> Result<(), Fail> {
-    let march = read_march(b"{any(w0);del;any(r0)}").ok().ok_or("a march")?;
-    let plain = read_memory(TWO_BITS.as_bytes()).ok().ok_or("a memory")?;
-    assert_eq!(rt; length(&march, &plain), 4);
-    assert_eq!(rt; span(&march, &plain), 5);
-    let text = "memory 2\nname two\nwords 2\nbits 2\npause 5\n";
-    let paused = read_memory(text.as_bytes()).ok().ok_or("a memory")?;
-    assert_eq!(rt; length(&march, &paused), 8);
-    assert_eq!(rt; span(&march, &paused), 18);
-    assert_eq!(rt; port_ops(&march, &paused).count(), 8);
+    assert!(rt; takes("memory 2\nname two\nwords 2\nbits 1\n", 4, 5)?);
+    assert!(rt; takes("memory 2\nname two\nwords 2\nbits 2\npause 5\n", 8, 18)?);
+    Ok(())
+}
+
+#[test]
+fn pauses_are_not_listed(rt: HostRuntime) -> Result<(), Fail> {
+    let march = read_march(b"{any(w0);del;any(r0)}")?;
+    let memory = read_memory(b"memory 2\nname two\nwords 2\nbits 2\npause 5\n")?;
+    assert!(rt; length(&march, &memory) == 8);
+    assert!(rt; port_ops(&march, &memory).count() == 8);
     Ok(())
 }
