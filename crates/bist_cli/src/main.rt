@@ -105,12 +105,3 @@ fn run_words<H: Host>(alloc: Global, args: Args, host: &mut H) -> Result<u8, All
     let texts = texts_of(alloc, &words)?;
     run_texts(alloc, &texts, host)
 }
-
-#[cfg(test)]
-mod bench_rows;
-#[cfg(test)]
-mod compile_rows;
-#[cfg(test)]
-mod make_rows;
-#[cfg(test)]
-mod rows;

@@ -1,6 +1,6 @@
 //! Tests of the libraries through their public calls. They stand in crates of their own above all of them, since a
-//! crate that has tests is proved once more with them; those on texts stand in `text_tests`, and those on Verilog in
-//! `verilog_tests`.
+//! crate that has tests is proved once more with them; those on texts stand in `text_tests`, those on Verilog in
+//! `verilog_tests`, and those of the commands in `command_tests`.
 #![tactic(auto)]
 
 #[cfg(test)]
