@@ -9,6 +9,7 @@ pub mod Graph
 pub mod Inside
 pub mod Nets
 pub mod Numbering
+pub mod Program
 pub mod Scope
 pub mod Seen
 pub mod Settled

@@ -17,13 +17,12 @@ use crate::code::Code;
 use crate::copy::copy_module;
 use crate::fit::fit;
 use crate::nets::{inputs, registers};
-use crate::program::{blocks, outputs, places, steps, zeros};
+use crate::program::{Cells, Program};
 use crate::run::{compute, put_all, show, step_registers};
-use crate::scope::Scope;
 use bist_bits::NoMemory;
 use std::alloc::Global;
 use std::marker::Model;
-use verilog_tree::{Declared, Module, Name, Port, all_declarations};
+use verilog_tree::{Declared, Module, Name, Port};
 
 /// A module made to run: its module, its registers' values, and its nets in the order in which they are computed.
 #[derive(Drop)]
@@ -63,38 +62,54 @@ impl Design {
     pub(crate) fn build(
         alloc: Global,
         module: &Module,
-        declared: Vec<Declared>,
+        declared: &[Declared],
         nets: Vec<Name>,
     ) -> Result<Design, NoMemory>
         requires well_formed { formed (plain_module «module».now) ≡ true }
         requires legal { first_break (plain_module «module».now) ≡ None }
-        requires all { map declaration declared.items ≡ declarations (plain_module «module».now).ports (plain_module «module».now).items }
+        requires all { map declaration declared.now ≡ declarations (plain_module «module».now).ports (plain_module «module».now).items }
         requires nets { AreNets (plain_module «module».now) (plain_names nets.items) }
         ensures { IfOk result (IsNew (plain_module «module».now)) }
     {
-        let registers = registers(alloc, &declared)?;
-        let inputs = inputs(alloc, &declared)?;
-        let places = places(alloc, &registers, &inputs, &nets)?;
-        let declared = all_declarations(alloc, module)?;
-        let scope = Scope { declared, places };
-        let steps = steps(alloc, &scope, &module.items, &nets)?;
-        let blocks = blocks(alloc, &scope, &module.items)?;
-        let outputs = outputs(alloc, &scope.places, &module.ports)?;
+        let registers = registers(alloc, declared)?;
+        let inputs = inputs(alloc, declared)?;
+        Design::with(alloc, module, registers, inputs, nets)
+    }
+
+    // The same, with the module's registers and its inputs without the clock.
+    fn with(
+        alloc: Global,
+        module: &Module,
+        registers: Vec<Declared>,
+        inputs: Vec<Declared>,
+        nets: Vec<Name>,
+    ) -> Result<Design, NoMemory>
+        requires well_formed { formed (plain_module «module».now) ≡ true }
+        requires legal { first_break (plain_module «module».now) ≡ None }
+        requires registers { map declaration registers.items ≡ registers_of (plain_module «module».now) }
+        requires inputs { map declaration inputs.items ≡ inputs_of (plain_module «module».now) }
+        requires nets { AreNets (plain_module «module».now) (plain_names nets.items) }
+        ensures { IfOk result (IsNew (plain_module «module».now)) }
+    {
+        let program = Program::new(alloc, module, &registers, &inputs, &nets)?;
+        let cells = Cells::new(
+            alloc,
+            program.places,
+            registers.len(),
+            program.outputs.len(),
+        )?;
         let module = copy_module(alloc, module)?;
-        let values = zeros(alloc, scope.places.len())?;
-        let next = zeros(alloc, registers.len())?;
-        let shown = zeros(alloc, outputs.len())?;
         Ok(Design {
             module,
             nets,
             registers,
             inputs,
-            steps,
-            blocks,
-            outputs,
-            values,
-            next,
-            shown,
+            steps: program.steps,
+            blocks: program.blocks,
+            outputs: program.outputs,
+            values: cells.values,
+            next: cells.next,
+            shown: cells.shown,
         })
     }
 
