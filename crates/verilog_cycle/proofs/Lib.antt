@@ -8,6 +8,7 @@ pub mod Designs
 pub mod Edge
 pub mod Fits
 pub mod Kept
+pub mod Loops
 pub mod Named
 pub mod Picking
 pub mod Places
