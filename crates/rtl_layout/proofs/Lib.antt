@@ -1,3 +1,4 @@
+pub mod Built
 pub mod Choice
 pub mod Counter
 pub mod Declared

@@ -1,6 +1,6 @@
 -- Tables as loops make them.
-use Rattle.std.proofs.Common.{◌≡◌, ℕ, ◌+◌, ◌<◌, false, cond, IfOk, List, [], ◌∷◌, ◌++◌, length, map, take, reverse, get_or, refl, append-nil, append_assoc, sym, ap, ◌∙◌, subst}
-use Rattle.std.proofs.lemmas.List.{take_more, map-append, reverse-append}
+use Rattle.std.proofs.Common.{◌≡◌, ℕ, ◌+◌, ◌<◌, ◌≤◌, false, cond, IfOk, List, [], ◌∷◌, ◌++◌, length, map, take, reverse, get_or, refl, append-nil, append_assoc, sym, ap, ◌∙◌, subst}
+use Rattle.std.proofs.lemmas.List.{take_more, take_all, length-map, map-append, reverse-append}
 use Rattle.std.specs.Prelude.{Result}
 use Rattle.verilog_tree.specs.declared.tree.Expr.{Expr}
 use Rattle.verilog_tree.specs.Plain.{Expression, Net, Concatenation, NoMore, expressions, plain}
@@ -14,15 +14,28 @@ pub picked : {E : Type 0} (r : Result Expr E) (n m : List ℕ) (w : ℕ) (xs ys 
 picked r n m w xs ys p q h = subst (λ k. IfOk r (λ x. plain x ≡ pick k w ys)) p (subst (λ l. IfOk r (λ x. plain x ≡ pick n w l)) q h)
 
 -- one leaf more
-pub one_more : {A : Type 0} (f : A → Expression) (xs : List A) (i : ℕ) (x : A) (ls ms : List Expr) (y : Expr) → i < length xs → x ≡ get_or xs i x → ms ≡ ls ++ y ∷ [] → plain y ≡ f x
+pub one_more : {A : Type 0} (f : A → Expression) (xs : List A) (i : ℕ) (d : A) (ls ms : List Expr) (y : Expr) → i < length xs → ms ≡ ls ++ y ∷ [] → plain y ≡ f (get_or xs i d)
     → map plain ls ≡ map f (take i xs) → map plain ms ≡ map f (take (i + 1) xs)
-one_more f xs i x ls ms y h is grown tells inv =
+one_more f xs i d ls ms y h grown tells inv =
     ap (map plain) grown
     ∙ map-append plain ls (y ∷ [])
     ∙ ap (λ l. l ++ plain y ∷ []) inv
     ∙ ap (λ z. map f (take i xs) ++ z ∷ []) tells
-    ∙ ap (λ z. map f (take i xs) ++ f z ∷ []) is
-    ∙ sym (ap (map f) (take_more xs i x h) ∙ map-append f (take i xs) (get_or xs i x ∷ []))
+    ∙ sym (ap (map f) (take_more xs i d h) ∙ map-append f (take i xs) (get_or xs i d ∷ []))
+
+-- all leaves, once the loop has ended
+pub all_of : {A : Type 0} (f : A → Expression) (xs : List A) (i : ℕ) (ls : List Expr) → length xs ≤ i → map plain ls ≡ map f (take i xs) → map plain ls ≡ map f xs
+all_of f xs i ls h inv = inv ∙ ap (map f) (take_all i xs h)
+
+-- as many leaves as there are values
+pub as_many : {A : Type 0} (f : A → Expression) (xs ys : List A) (ls : List Expr) → map plain ls ≡ map f xs → xs ≡ ys → length ys ≡ length ls
+as_many f xs ys ls told is = sym (ap length is) ∙ sym (length-map xs f) ∙ sym (ap length told) ∙ length-map ls plain
+
+pub some_leaves : {A : Type 0} (f : A → Expression) (xs ys : List A) (ls : List Expr) → map plain ls ≡ map f xs → xs ≡ ys → 0 < length ys → 0 < length ls
+some_leaves f xs ys ls told is h = subst (λ (n : ℕ). 0 < n) (as_many f xs ys ls told is) h
+
+pub few_leaves : {A : Type 0} (f : A → Expression) (xs ys : List A) (ls : List Expr) (most : ℕ) → map plain ls ≡ map f xs → xs ≡ ys → length ys ≤ most → length ls ≤ most
+few_leaves f xs ys ls most told is h = subst (λ (n : ℕ). n ≤ most) (as_many f xs ys ls told is) h
 
 -- the address as a list of its bits
 pub address_listed : (p : Plan) (rs : List Row) (xs : List Expression) → address_bits p rs (expressions xs) ≡ expressions (reverse (map (row_bit p.addr_width) rs) ++ xs)
