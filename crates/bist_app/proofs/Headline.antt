@@ -1,5 +1,5 @@
 -- What the answer of the top call comes to for `compile`.
-use Rattle.std.proofs.Common.{◌≡◌, ◌≢◌, ◌≤◌, inl, inr, refl, sym, ap, ◌∙◌, subst, arith, length, codes, slice_index_or, ℕ, List, [], ◌∷◌, Option, Some, None, Ok, Err}
+use Rattle.std.proofs.Common.{◌≡◌, ◌≢◌, ◌≤◌, inl, inr, refl, sym, ap, ◌∙◌, subst, arith, true, false, nat_eq, length, codes, slice_index_or, ℕ, List, [], ◌∷◌, Option, Some, None, Ok, Err}
 use Rattle.bist_host.specs.Files.{Files, WritesFile, Says}
 use Rattle.march_core.specs.March.{MarchElement}
 use Rattle.march_syntax.specs.Answers.{Reads as ReadsMarch}
@@ -20,22 +20,39 @@ use Rattle.bist_app.specs.Compile.{IsCompileShape, IsCompiled, LeavesCompile, De
 use Rattle.bist_app.specs.Headline.{InputHas, IsCompilation, LeavesCompilation}
 use Rattle.bist_app.specs.Run.{HasShape, Decides, DecidesCommand, Runs}
 
+-- ---- what can't be
+
+not_refused : {A E : Type 0} {value : A} {error : E} → Ok value ≡ Err error → ⊥
+not_refused same = cc
+
+not_true : true ≡ false → ⊥
+not_true same = cc
+
+too_high : (n k : ℕ) → n ≡ k → 2 ≤ k → n ≤ 1 → ⊥
+too_high n k is high low = omega (arith, is, high, low)
+
+eight_high : 2 ≤ 8
+eight_high = omega arith
+
+nine_high : 2 ≤ 9
+nine_high = omega arith
+
 -- ---- the inputs
 
 march_read : (files : Files) (words : Words) (march : List MarchElement) → InputMarch (Some files) words 1 (Ok march) → InputHas files (word words 1) (λ bytes. ReadsMarch bytes (Ok march))
 unfolding InputMarch GivesMarch
 march_read files words march (Ok bytes, gives, reads) = (bytes, gives.0, (gives.1, reads))
-march_read files words march (Err e, gives, same) = cc
+march_read files words march (Err e, gives, same) = absurd (not_refused same)
 
 memory_read : (files : Files) (words : Words) (d : Description) → InputMemory (Some files) words 2 (Ok d) → IsMemory d × InputHas files (word words 2) (λ bytes. ReadsMemory bytes (Ok d))
 unfolding InputMemory GivesMemory
 memory_read files words d (Ok bytes, gives, reads) = (reads.1, (bytes, gives.0, (gives.1, reads.0)))
-memory_read files words d (Err e, gives, same) = cc
+memory_read files words d (Err e, gives, same) = absurd (not_refused same)
 
 list_read : (files : Files) (words : Words) (items : List Item) → InputList (Some files) words 3 (Ok items) → InputHas files (word words 3) (λ bytes. ReadsItems bytes (Ok items))
 unfolding InputList GivesList
 list_read files words items (Ok bytes, gives, reads) = (bytes, gives.0, (gives.1, reads))
-list_read files words items (Err e, gives, same) = cc
+list_read files words items (Err e, gives, same) = absurd (not_refused same)
 
 -- the march, the memory and the list that were read, and what is left of them
 record Inputs (files : Files) (words : Words) (done : Done) : Type 0 where
@@ -50,9 +67,9 @@ record Inputs (files : Files) (words : Words) (done : Done) : Type 0 where
 
 inputs : (files : Files) (words : Words) (done : Done) → DecidesCompile (Some files) words (Ok done) → Inputs files words done
 unfolding LeavesCompile
-inputs files words done (Err e, first, same) = cc
-inputs files words done (Ok march, first, (Err e, second, same)) = cc
-inputs files words done (Ok march, first, (Ok memory, second, (Err e, third, same))) = cc
+inputs files words done (Err e, first, same) = absurd (not_refused same)
+inputs files words done (Ok march, first, (Err e, second, same)) = absurd (not_refused same)
+inputs files words done (Ok march, first, (Ok memory, second, (Err e, third, same))) = absurd (not_refused same)
 inputs files words done (Ok march, first, (Ok memory, second, (Ok items, third, compiled))) = record {
   march = march;
   memory = memory;
@@ -108,9 +125,9 @@ status_high (Refusal.Misfit m) = omega arith
 status_high (Refusal.Verilog v) = omega arith
 
 refused_high : (e : Refusal) (s s' : Option (List ℕ)) (wr : Type 0) (n : ℕ) → RefusalEnds e s s' wr n → n ≤ 1 → ⊥
-refused_high e s s' wr n (inl h) low = let high = status_high e in let is : n ≡ status_of e = h.0 in omega (arith, high, is)
-refused_high e s s' wr n (inr (inl h)) low = let high = status_high e in let is : n ≡ status_of e = h.0 in omega (arith, high, is)
-refused_high e s s' wr n (inr (inr h)) low = omega (arith, h.0)
+refused_high e s s' wr n (inl h) low = too_high n (status_of e) h.0 (status_high e) low
+refused_high e s s' wr n (inr (inl h)) low = too_high n (status_of e) h.0 (status_high e) low
+refused_high e s s' wr n (inr (inr h)) low = too_high n 9 h.0 nine_high low
 
 compilation : (words : Words) (files : Files) (told : Option Files) (s s' : Option (List ℕ)) (wr : Type 0) (n : ℕ) (done : Done) → IsCompileShape words → n ≤ 1
     → Inputs files words done → DoneEnds words done (Some files) told s s' wr n
@@ -142,26 +159,26 @@ compilation words files told s s' wr n done shape low i (Ok u, writes, inl h) =
         others = w.others;
       },
     )
-compilation words files told s s' wr n done shape low i (Ok u, writes, inr (inl h)) = absurd (omega (arith, h.0))
-compilation words files told s s' wr n done shape low i (Ok u, writes, inr (inr h)) = absurd (omega (arith, h.0))
-compilation words files told s s' wr n done shape low i (Err (WriteStop.Failed p), writes, h) = absurd (omega (arith, h.0))
-compilation words files told s s' wr n done shape low i (Err WriteStop.NoMemory, writes, h) = absurd (omega (arith, h.0))
+compilation words files told s s' wr n done shape low i (Ok u, writes, inr (inl h)) = absurd (too_high n 8 h.0 eight_high low)
+compilation words files told s s' wr n done shape low i (Ok u, writes, inr (inr h)) = absurd (too_high n 9 h.0 nine_high low)
+compilation words files told s s' wr n done shape low i (Err (WriteStop.Failed p), writes, h) = absurd (too_high n 8 h.0 eight_high low)
+compilation words files told s s' wr n done shape low i (Err WriteStop.NoMemory, writes, h) = absurd (too_high n 9 h.0 nine_high low)
 
 -- no other command has that name
 only_compile : (words : Words) (command : Command) → word words 0 ≡ codes "compile" → HasShape words command → command ≡ Command.Compile
-only_compile words (Command.Sim s) e h = let differ : 7 ≡ 3 = ap length (sym e ∙ h.name) in absurd (omega (arith, differ))
-only_compile words Command.Judge e h = let differ : 7 ≡ 5 = ap length (sym e ∙ h.name) in absurd (omega (arith, differ))
-only_compile words Command.Vectors e h = let differ : 99 ≡ 118 = ap (λ (l : List ℕ). slice_index_or l 0 0) (sym e ∙ h.name) in absurd (omega (arith, differ))
+only_compile words (Command.Sim s) e h = let differ : 7 ≡ 3 = ap length (sym e ∙ h.name) in absurd (not_true (ap (nat_eq 7) differ))
+only_compile words Command.Judge e h = let differ : 7 ≡ 5 = ap length (sym e ∙ h.name) in absurd (not_true (ap (nat_eq 7) differ))
+only_compile words Command.Vectors e h = let differ : 99 ≡ 118 = ap (λ (l : List ℕ). slice_index_or l 0 0) (sym e ∙ h.name) in absurd (not_true (ap (nat_eq 99) differ))
 only_compile words Command.Compile e h = refl
-only_compile words Command.Bench e h = let differ : 7 ≡ 5 = ap length (sym e ∙ h.name) in absurd (omega (arith, differ))
-only_compile words Command.BenchFile e h = let differ : 7 ≡ 9 = ap length (sym e ∙ h.name) in absurd (omega (arith, differ))
-only_compile words (Command.Make n) e h = let differ : 7 ≡ 4 = ap length (sym e ∙ h.has_words.name) in absurd (omega (arith, differ))
-only_compile words (Command.BenchFault s) e h = let differ : 7 ≡ 10 = ap length (sym e ∙ h.name) in absurd (omega (arith, differ))
-only_compile words Command.BenchAll e h = let differ : 7 ≡ 8 = ap length (sym e ∙ h.name) in absurd (omega (arith, differ))
+only_compile words Command.Bench e h = let differ : 7 ≡ 5 = ap length (sym e ∙ h.name) in absurd (not_true (ap (nat_eq 7) differ))
+only_compile words Command.BenchFile e h = let differ : 7 ≡ 9 = ap length (sym e ∙ h.name) in absurd (not_true (ap (nat_eq 7) differ))
+only_compile words (Command.Make n) e h = let differ : 7 ≡ 4 = ap length (sym e ∙ h.has_words.name) in absurd (not_true (ap (nat_eq 7) differ))
+only_compile words (Command.BenchFault s) e h = let differ : 7 ≡ 10 = ap length (sym e ∙ h.name) in absurd (not_true (ap (nat_eq 7) differ))
+only_compile words Command.BenchAll e h = let differ : 7 ≡ 8 = ap length (sym e ∙ h.name) in absurd (not_true (ap (nat_eq 7) differ))
 
 decided : (files : Files) (boxes left : Boxes) (words : Words) (done : Done) → word words 0 ≡ codes "compile" → Decides (Some files) boxes left words (Ok done)
     → IsCompileShape words × DecidesCompile (Some files) words (Ok done)
-decided files boxes left words done e (None, (none, is, same)) = cc
+decided files boxes left words done e (None, (none, is, same)) = absurd (not_refused is)
 decided files boxes left words done e (Some command, (own, decides)) =
     let compile = only_compile words command e own in
     (subst (HasShape words) compile own, (subst (λ c. DecidesCommand (Some files) boxes left words c (Ok done)) compile decides).0)

@@ -1,4 +1,7 @@
 mod Causes
+pub mod Refusing
+pub mod Listed
+pub mod SameBoxes
 pub mod Usage
 pub mod Statuses
 pub mod Headline

@@ -1,0 +1,10 @@
+-- A refusal that is passed on.
+use Rattle.std.proofs.Common.{◌≡◌, Result, Ok, Err, ap}
+use Rattle.std.specs.Result.{IsErr, IsErrAnd}
+use Rattle.bist_endings.specs.declared.ending.Refusal.{Refusal}
+use Rattle.bist_endings.specs.declared.ending.Plan.{Plan}
+use Rattle.bist_endings.specs.Ending.{plain}
+
+pub passed_on : (r : Result Plan Refusal) (e : Refusal) → IsErr r × IsErrAnd r (λ x. x ≡ e) → plain r ≡ Err e
+passed_on (Err x) e h = ap Err h.1
+passed_on (Ok plan) e h = absurd h.1

@@ -1,0 +1,53 @@
+use Rattle.std.proofs.Common.{Ok, Err, subst, refl}
+use Rattle.bist_inputs.specs.Inputs.{GivesPrim}
+use Rattle.bist_inputs.specs.Memories.{InputMemory}
+use Rattle.bist_app.proofs.Refusing.{passed_on}
+use Rattle.bist_app.proofs.benchfault_command.decide_fault.Goals as goal
+
+pub returns-in_err-march-clause-answer : goal.returns-in_err-march-clause-answer
+returns-in_err-march-clause-answer g c = (
+  Err c.in_err-march.field-0.0,
+  c.in_err-march.ensures.answer,
+  (passed_on c.from_residual.result c.in_err-march.field-0.0 c.from_residual.ensures, refl),
+)
+
+pub returns-in_err-memory-clause-answer : goal.returns-in_err-memory-clause-answer
+returns-in_err-memory-clause-answer g c = (
+  Ok c.in_ok-march.march,
+  c.in_ok-march.ensures.answer,
+  (
+    Err c.in_err-memory.field-0.0,
+    subst (λ f. InputMemory f c.args.words.now 2 (Err c.in_err-memory.field-0.0)) c.in_ok-march.ensures.files c.in_err-memory.ensures.answer,
+    (passed_on c.from_residual-in_err-memory.result c.in_err-memory.field-0.0 c.from_residual-in_err-memory.ensures, refl),
+  ),
+)
+
+pub returns-in_err-prim-clause-answer : goal.returns-in_err-prim-clause-answer
+returns-in_err-prim-clause-answer g c = (
+  Ok c.in_ok-march.march,
+  c.in_ok-march.ensures.answer,
+  (
+    Ok c.in_ok-memory.memory,
+    subst (λ f. InputMemory f c.args.words.now 2 (Ok c.in_ok-memory.memory)) c.in_ok-march.ensures.files c.in_ok-memory.ensures.answer,
+    (
+      Err c.in_err-prim.field-0.0,
+      subst (λ b. GivesPrim b (Err c.in_err-prim.field-0.0)) c.as_bytes.ensures.value c.in_err-prim.ensures.answer,
+      (passed_on c.from_residual-in_err-prim.result c.in_err-prim.field-0.0 c.from_residual-in_err-prim.ensures, refl),
+    ),
+  ),
+)
+
+pub returns-clause-answer : goal.returns-clause-answer
+returns-clause-answer g c = (
+  Ok c.in_ok-march.march,
+  c.in_ok-march.ensures.answer,
+  (
+    Ok c.in_ok-memory.memory,
+    subst (λ f. InputMemory f c.args.words.now 2 (Ok c.in_ok-memory.memory)) c.in_ok-march.ensures.files c.in_ok-memory.ensures.answer,
+    (
+      Ok c.in_ok-prim.prim,
+      subst (λ b. GivesPrim b (Ok c.in_ok-prim.prim)) c.as_bytes.ensures.value c.in_ok-prim.ensures.answer,
+      c.test_fault.ensures.answer,
+    ),
+  ),
+)

@@ -1,0 +1,10 @@
+use Rattle.verilog_tree.specs.Plain.{plain_module}
+use Rattle.bist_app.proofs.compile.module_text.Goals as goal
+
+pub returns : goal.returns
+returns c = record {
+  tree = plain_module c.in_ok-tree.tree;
+  spells = c.in_ok-text.ensures.spells;
+  no_other = c.in_ok-text.ensures.no_other;
+  self_test = c.in_ok-tree.ensures.self_test;
+}
