@@ -1,6 +1,7 @@
 -- Numbers of which the first ascend: a search in both parts finds a number just where it is one of them.
-use Rattle.std.proofs.Common.{◌≡◌, ◌↔◌, ℕ, ◌+◌, ◌<◌, ◌≤◌, ◌||◌, IsTrue, Bool, true, false, List, ◌∷◌, [], ◌++◌, Result, Ok, Err, MatchResult, Contains, length, take, refl, sym, ◌∙◌, ap, subst, arith, inl, inr, nat_eq}
+use Rattle.std.proofs.Common.{◌≡◌, ◌↔◌, ℕ, ◌+◌, ◌<◌, ◌≤◌, ◌||◌, ◌==◌, IsTrue, Bool, true, false, List, ◌∷◌, [], ◌++◌, Result, Ok, Err, MatchResult, Contains, length, take, refl, sym, ◌∙◌, ap, subst, arith, inl, inr, nat_eq}
 use Rattle.std.proofs.Math.ListN.{get_or, drop}
+use Rattle.std.proofs.Math.Nat.{le_antisymm}
 use Rattle.std.proofs.Math.Path.{ap₂}
 use Rattle.std.proofs.Math.Seq.{take-append_seam, take-length}
 use Rattle.std.proofs.lemmas.List.{length-append}
@@ -62,6 +63,16 @@ stays_kept old more new number e p n (inl h) =
     let same = length_permutation more new p in
     let longer : length more ≡ length old + 1 = ap length e ∙ length-append old (number ∷ []) in
     inl (omega (arith, h, same, longer))
+
+pub never_met : (items : List ℕ) (number : ℕ) → length items ≤ 65536 → false ≡ (length items == 65536) → (Contains items number → IsTrue false) → MayHave items number → ⊥
+never_met items number fits room out (inl h) =
+    let full : (length items == 65536) ≡ true = ap (λ n. n == 65536) (le_antisymm fits h) in
+    let z : ⊥ = cc in z
+never_met items number fits room out (inr h) = let said : false ≡ true = out h in let z : ⊥ = cc in z
+
+pub is_kept : (old more new : List ℕ) (number : ℕ) → more ≡ old ++ number ∷ [] → IsPermutation more new → MayHave new number
+is_kept old more new number e p =
+    inr (Contains-permutation more new number p (subst (λ xs. Contains xs number) (sym e) (Contains-append_right old (number ∷ []) number (Contains-get_or (number ∷ []) 0 0 (omega arith)))))
 
 pub rising_by : (items slice front : List ℕ) (sorted : ℕ) → slice ≡ items → front ≡ take sorted slice → IsNonDecreasing (take sorted items) → IsNonDecreasing front
 rising_by items slice front sorted e f h = subst IsNonDecreasing (sym (f ∙ ap (take sorted) e)) h
