@@ -1,13 +1,21 @@
--- What is said of a primitive for which there is no room.
-use Rattle.std.proofs.Common.{◌≡◌, ℕ, List, [], ◌∷◌, Option, Some, None, Result, Ok, Err, IfErr, refl, sym, subst, inl, inr}
+-- What is said of a primitive for which there is no room, and the static primitives of a word as items.
+use Rattle.std.proofs.Common.{◌≡◌, ℕ, List, [], ◌∷◌, ◌++◌, map, ap, ◌∙◌, Option, Some, None, Result, Ok, Err, IfErr, refl, sym, subst, inl, inr}
+use Rattle.std.proofs.lemmas.List.{map-append}
+use Rattle.fault_core.specs.Primitive.{Primitive}
+use Rattle.fault_core.specs.Table.{one_cell_table, two_cell_table}
 use Rattle.fault_syntax.specs.declared.fault.FaultFault.{FaultFault}
 use Rattle.fault_syntax.specs.declared.reader.ReadItem.TheVariants.{Primitive as ReadPrimitive}
 use Rattle.fault_syntax.specs.declared.reader.ReadParts.{ReadParts}
+use Rattle.fault_syntax.specs.declared.words.Name.{Name}
+use Rattle.fault_syntax.specs.declared.words.Name.TheVariants.{All}
 use Rattle.fault_syntax.specs.Brief.{read_parts_of}
 use Rattle.fault_syntax.specs.LineByLine.{HasNoRoom}
 use Rattle.fault_syntax.specs.ListText.{Primitive as OnePrimitive, Named}
+use Rattle.fault_syntax.specs.Parts.{primitives_of}
 use Rattle.fault_syntax.specs.PrimText.{PrimParts}
+use Rattle.fault_syntax.proofs.Appending.{all_rows}
 use Rattle.dynamic_core.specs.declared.item.Item.{Item}
+use Rattle.dynamic_core.specs.declared.item.Item.TheVariants.{Plain}
 use Rattle.dynamic_core.specs.declared.line.ReadLine.TheVariants.{OfList}
 use Rattle.dynamic_core.specs.ItemParts.{IsItem}
 use Rattle.dynamic_core.specs.ItemText.{LineItem, Listed, Worded}
@@ -31,3 +39,7 @@ one_not_added (Some (Listed (OnePrimitive text))) parts item line old (Err fault
 
     parts_is : parts ≡ read_parts_of text
     parts_is = cc
+
+-- the table of one cell and that of two are all, as items
+pub all_plain : (one two : List Primitive) (name : Name) → one ≡ one_cell_table → two ≡ two_cell_table → name ≡ All → map Plain one ++ map Plain two ≡ map Plain (primitives_of name)
+all_plain one two name h k is = sym (map-append Plain one two) ∙ ap (map Plain) (all_rows one two name h k is)

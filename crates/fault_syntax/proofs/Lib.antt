@@ -5,6 +5,8 @@ pub mod Judging
 mod PrimReads
 mod PrintLaws
 pub mod LineByLine
+pub mod Appending
+pub mod PassedOn
 mod ListReads
 pub mod ListExact
 pub mod OneOutcome

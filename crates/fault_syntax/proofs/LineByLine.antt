@@ -4,7 +4,7 @@ use Rattle.bist_text.specs.Lines.{TextLine, text_lines}
 use Rattle.bist_text.specs.Machine.{Outcome, read, unexpected, truncated, Answers}
 use Rattle.fault_syntax.specs.declared.fault.FaultFault.{FaultFault}
 use Rattle.fault_syntax.specs.declared.fault.FaultFault.TheVariants.{Unexpected, Truncated, NotAFault, TooManyOperations, TooManyPrimitives, NoMemory}
-use Rattle.fault_syntax.specs.LineByLine.{BringBy, IsRefusedBehind, FirstRefusal, ReadsLines, AddsBy}
+use Rattle.fault_syntax.specs.LineByLine.{BringBy, IsRefusedBehind, FirstRefusal, ReadsLines, AddsBy, IsFaultOn, NotAddedBy}
 use Rattle.fault_syntax.specs.PrimText.{PrimParts}
 
 -- where two lines stand in a list
@@ -92,6 +92,40 @@ module _ {V P : Type 0} (Line : List ℕ → Option V → Type 0) (Brings : Opti
         brings = r.brings;
         joined = h.6 ∙ ap (λ y. h.1 ++ y) r.joined ∙ sym (append_assoc h.1 r.first (r.more ++ r.others));
       }
+
+-- ---- what is read, and what is refused, of lines that are read one after another
+
+module _ {V P : Type 0} (Line : List ℕ → Option V → Type 0) (Brings : Option V → List P → Type 0) where
+  pub all_read : (lines : List TextLine) (ps : List P) → Reading Line Brings lines [] ps → BringBy Line Brings lines ps × (length ps ≤ 1024)
+  all_read lines ps r = (subst (λ ls. BringBy Line Brings ls ps) (sym (r.split ∙ append-nil r.done)) r.brought, r.within)
+
+module _ {V P : Type 0} (Line : List ℕ → Option V → Type 0) (Brings : Option V → List P → Type 0) (written : PrimParts → V) (Refuses : ℕ → PrimParts → FaultFault → Type 0) where
+  refused_next : (lines left : List TextLine) (l : TextLine) (ps : List P) (fault : FaultFault) → Reading Line Brings lines (l ∷ left) ps
+      → IsRefusedBehind Line Brings written Refuses ps l fault → FirstRefusal Line Brings written Refuses lines fault
+  refused_next lines left l ps fault r h =
+      record { before = r.done; line = l; after = left; held = ps; split = r.split; brought = r.brought; within = r.within; refused = h }
+
+  -- a line that isn't read
+  pub line_refused : (lines left : List TextLine) (l : TextLine) (ps : List P) (fault : FaultFault) → Reading Line Brings lines (l ∷ left) ps
+      → IsFaultOn Line written Refuses l fault → FirstRefusal Line Brings written Refuses lines fault
+  line_refused lines left l ps (Unexpected n k) r h = refused_next lines left l ps (Unexpected n k) r h
+  line_refused lines left l ps (Truncated n) r h = refused_next lines left l ps (Truncated n) r h
+  line_refused lines left l ps (NotAFault n) r h = refused_next lines left l ps (NotAFault n) r h
+  line_refused lines left l ps (TooManyOperations n) r h = refused_next lines left l ps (TooManyOperations n) r h
+  line_refused lines left l ps (TooManyPrimitives n) r h = absurd h
+  line_refused lines left l ps NoMemory r h = absurd h
+
+  -- a line that is read, and what it brings isn't added
+  pub item_refused : (lines left : List TextLine) (l : TextLine) (ps : List P) (v : Option V) (fault : FaultFault) → Reading Line Brings lines (l ∷ left) ps
+      → Line l.text v → NotAddedBy Brings written Refuses v l.number ps fault → (fault ≡ NoMemory) ⊎ FirstRefusal Line Brings written Refuses lines fault
+  item_refused lines left l ps v (TooManyPrimitives n) r t h = inr (refused_next lines left l ps (TooManyPrimitives n) r (h.0, v, h.1, t, h.2, h.3))
+  item_refused lines left l ps v (NotAFault n) r t h =
+      inr (refused_next lines left l ps (NotAFault n) r (h.0, subst (λ w. Line l.text w) h.1 t, h.2))
+  item_refused lines left l ps v (TooManyOperations n) r t h =
+      inr (refused_next lines left l ps (TooManyOperations n) r (h.0, subst (λ w. Line l.text w) h.1 t, h.2))
+  item_refused lines left l ps v NoMemory r t h = inl refl
+  item_refused lines left l ps v (Unexpected n k) r t h = absurd h
+  item_refused lines left l ps v (Truncated n) r t h = absurd h
 
 -- ---- why a line is refused, by the outcome of its text
 

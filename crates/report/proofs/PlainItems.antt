@@ -1,8 +1,8 @@
 -- Static primitives with their verdicts are judged items.
-use Rattle.std.proofs.Common.{◌≡◌, ◌+◌, ◌<◌, ℕ, Option, List, [], ◌∷◌, ◌++◌, length, map, take, get_or, refl, ap, sym, subst, ◌∙◌, arith, Result, Ok, Err, Vec, Global}
+use Rattle.std.proofs.Common.{◌≡◌, ◌+◌, ◌<◌, ◌≤◌, ℕ, Option, List, [], ◌∷◌, ◌++◌, length, map, take, get_or, refl, ap, sym, subst, ◌∙◌, arith, Result, Ok, Err, Vec, Global}
 use Rattle.std.specs.List.{AllByRecursion}
 use Rattle.std.specs.Prelude.{IfOk}
-use Rattle.std.proofs.lemmas.List.{take_more, length-take}
+use Rattle.std.proofs.lemmas.List.{take_more, take_all, length-take}
 use Rattle.fault_core.specs.Primitive.{Primitive}
 use Rattle.march_core.specs.March.{MarchElement}
 use Rattle.memory_desc.specs.Descriptions.{Description}
@@ -28,6 +28,10 @@ one_more ps vs i p v same within is_p is_v =
     ap (λ l. plain_items l (take (i + 1) vs)) (take_more ps i p within ∙ ap (λ q. take i ps ++ q ∷ []) (sym is_p))
     ∙ ap (plain_items (take i ps ++ p ∷ [])) (take_more vs i v (omega (arith, same, within)) ∙ ap (λ w. take i vs ++ w ∷ []) (sym is_v))
     ∙ behind (take i ps) (take i vs) p v (omega (arith, length-take i ps, length-take i vs, same))
+
+pub all_of : (ps : List Primitive) (vs : List Verdict) (i : ℕ) → length ps ≡ length vs → length ps ≤ i → plain_items (take i ps) (take i vs) ≡ plain_items ps vs
+all_of ps vs i same h =
+    ap (λ l. plain_items l (take i vs)) (take_all i ps h) ∙ ap (plain_items ps) (take_all i vs (subst (λ (n : ℕ). n ≤ i) same h))
 
 right : (march : List MarchElement) (ps : List Primitive) (vs : List Verdict) → AreVerdicts march ps vs → AllByRecursion (IsJudged march) (plain_items ps vs)
 right march [] [] h = tt

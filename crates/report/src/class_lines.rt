@@ -4,9 +4,9 @@ ghost use Rattle.report.specs.Items.{item_of};
 ghost use Rattle.report.specs.Report.{class_text, class_number, item_class, is_in_class, is_covered_in, class_size, class_covered, class_line, class_lines, class_order};
 
 use crate::judged::JudgedItem;
-use crate::total::is_item_covered;
+use crate::total::{is_item_covered, put_counts};
 use bist_bits::NoMemory;
-use bist_text::{put, put_decimal};
+use bist_text::put;
 use dynamic_core::DynPrim;
 use fault_core::{Class, class_of};
 
@@ -182,9 +182,7 @@ fn put_class(
     put(out, b"class ")?;
     put(out, class_name(class))?;
     put(out, b" ")?;
-    put_decimal(out, count as u64)?;
-    put(out, b" covered ")?;
-    put_decimal(out, covered as u64)?;
+    put_counts(out, count, covered)?;
     put(out, b"\n")
 }
 

@@ -1,5 +1,5 @@
-use Rattle.std.proofs.Common.{◌≡◌, ◌+◌, ◌∙◌, sym, ap, subst, List, ◌++◌, ◌∷◌, [], take}
-use Rattle.std.proofs.lemmas.List.{take_more}
+use Rattle.std.proofs.Common.{◌≡◌, ◌+◌, ◌∙◌, refl, sym, ap, subst, List, ◌++◌, ◌∷◌, [], take}
+use Rattle.std.proofs.lemmas.List.{take_more, take_all}
 use Rattle.dynamic_core.specs.declared.item.Item.{Item}
 use Rattle.report.specs.declared.judged.JudgedItem.{JudgedItem}
 use Rattle.report.specs.Items.{AreJudged, item_of}
@@ -17,3 +17,10 @@ loop-item-preserved c =
     take_more c.args.items.now c.loop-item.item-index c.item-item.result c.loop-item-test.true ∙ ap (λ i. taken ++ i ∷ []) (sym c.item-item.is ∙ sym judged.2) in
     subst (λ items. AreJudged march items c.judge_next.new.judged.items) (sym more)
     (subst (AreJudged march (taken ++ item_of j ∷ [])) (sym judged.1) (one_judged march taken held j c.loop-item.invariant judged.3))
+
+pub loop-item-init : goal.loop-item-init
+loop-item-init c = subst (AreJudged c.args.march.now []) (sym c.new-judged.ensures.items) (record { each = tt; in_order = refl })
+
+pub returns : goal.returns
+returns c =
+    subst (λ (items : List Item). AreJudged c.args.march.now items c.loop-item.judged.items) (take_all c.loop-item.item-index c.args.items.now c.loop-item-test.false) c.loop-item.invariant

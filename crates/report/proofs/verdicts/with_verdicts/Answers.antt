@@ -1,6 +1,6 @@
-use Rattle.std.proofs.Common.{◌≡◌, ◌∙◌, ap, sym, cond, is_ok, true, not, List, ◌++◌, ◌∷◌, []}
+use Rattle.std.proofs.Common.{◌≡◌, ℕ, ◌<◌, ◌∙◌, ap, sym, subst, cond, is_ok, true, not, List, ◌++◌, ◌∷◌, []}
 use Rattle.report.specs.declared.judged.JudgedItem.{JudgedItem}
-use Rattle.report.proofs.PlainItems.{one_more}
+use Rattle.report.proofs.PlainItems.{one_more, all_of}
 use Rattle.report.proofs.verdicts.with_verdicts.Goals as goal
 
 pub loop-i-preserved : goal.loop-i-preserved
@@ -12,3 +12,12 @@ loop-i-preserved c =
     items ∙ ap (λ l. l ++ last) c.loop-i.invariant
     ∙ sym (one_more c.args.prims.now c.args.verdicts.now c.loop-i.i c.index-prims-i.result c.index-verdicts-i.result c.requires c.loop-i-test.true
     c.index-prims-i.is c.index-verdicts-i.is)
+
+pub loop-i-init : goal.loop-i-init
+loop-i-init c = c.new-judged.ensures.items
+
+pub bounds-verdicts-i : goal.bounds-verdicts-i
+bounds-verdicts-i c = subst (λ (n : ℕ). c.loop-i.i < n) c.requires c.loop-i-test.true
+
+pub returns : goal.returns
+returns c = c.loop-i.invariant ∙ all_of c.args.prims.now c.args.verdicts.now c.loop-i.i c.requires c.loop-i-test.false

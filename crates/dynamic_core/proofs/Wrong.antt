@@ -1,0 +1,70 @@
+-- The parts in which the acts of a victim go wrong are a dynamic primitive.
+use Rattle.std.proofs.Common.{◌≡◌, ◌≢◌, Bool, true, false, not, ◌&&◌, Option, Some, None, is_some, List, [], ◌∷◌, length, get_or, refl, sym, ap, subst, ◌∙◌}
+use Rattle.fault_core.specs.declared.primitive.Act.{Act}
+use Rattle.fault_core.specs.declared.primitive.Act.TheVariants.{Write, Read, Pause}
+use Rattle.fault_core.specs.Primitive.{same_bit}
+use Rattle.dynamic_core.specs.Primitive.{TwoActs, DynamicSense, AreAccesses, IsDynamic, agg_acts, left_by}
+use Rattle.dynamic_core.specs.Testing.{HasTwo, two_acts, acts_in, is_access, fault_by_second, fault_by_acts}
+use Rattle.dynamic_core.proofs.Parts.{passes_dynamic}
+
+-- the acts of an array
+first_of : (acts : List Act) (d : Act) → length acts ≡ 2 → get_or acts 0 d ≡ (two_acts acts).first
+first_of [] d h = cc
+first_of (a ∷ []) d h = cc
+first_of (a ∷ b ∷ more) d h = refl
+
+second_of : (acts : List Act) (d : Act) → length acts ≡ 2 → get_or acts 1 d ≡ (two_acts acts).second
+second_of [] d h = cc
+second_of (a ∷ []) d h = cc
+second_of (a ∷ b ∷ more) d h = refl
+
+accessed : (act : Act) → act ≢ Pause → is_access act ≡ true
+accessed (Write bit) h = refl
+accessed Read h = refl
+accessed Pause h = absurd (h refl)
+
+both_hold : (a b : Bool) → a ≡ true → b ≡ true → (a && b) ≡ true
+both_hold a b h k = ap (λ x. x && b) h ∙ k
+
+-- whether the parts are a dynamic primitive, by the acts of the two senses
+abbrev test : Bool → Bool → Option Bool → Option TwoActs → Option TwoActs → Bool
+test state after answer agg vic = same_bit (is_some agg) (not (is_some vic)) && fault_by_acts agg vic state after answer
+
+-- beside an aggressor that doesn't act, and where the second act is a fault
+pub is_wrong : (agg : Option DynamicSense) (vic : DynamicSense) (state : Bool) (held : Option (List Act)) (acts : List Act) (d e : Act) (left after : Bool) (answer : Option Bool)
+    → agg_acts agg ≡ None → ((two : TwoActs) → vic.acts ≡ Some two → AreAccesses two) → acts_in held ≡ vic.acts → HasTwo held → held ≡ Some acts
+    → left ≡ left_by state (get_or acts 0 d) → fault_by_second (get_or acts 1 e) left after answer ≡ true
+    → IsDynamic (record { agg = agg; vic = record { state = state; acts = acts_in held }; after = after; answer = answer })
+is_wrong agg vic state held acts d e left after answer none are view has is leaves wrong =
+    let two : length acts ≡ 2 = subst HasTwo is has in
+    let told : acts_in held ≡ Some (two_acts acts) = ap acts_in is in
+    let access : is_access (two_acts acts).first ≡ true = accessed (two_acts acts).first (are (two_acts acts) (sym view ∙ told)).first in
+    let fault : fault_by_second (two_acts acts).second (left_by state (two_acts acts).first) after answer ≡ true =
+    ap (λ a. fault_by_second a (left_by state (two_acts acts).first) after answer) (sym (second_of acts e two))
+    ∙ ap (λ l. fault_by_second (get_or acts 1 e) l after answer) (ap (left_by state) (sym (first_of acts d two)) ∙ sym leaves)
+    ∙ wrong in
+    passes_dynamic _
+    (ap (λ a. test state after answer a (acts_in held)) none
+    ∙ ap (test state after answer None) told
+    ∙ both_hold (is_access (two_acts acts).first) _ access fault)
+
+-- what a second act does wrong: a write leaves the other bit; a read flips the bit and answers the flipped one, flips it and answers it as it was, or leaves it and
+-- answers the other
+pub leaves_other : (act : Act) (left bit : Bool) → act ≡ Write bit → fault_by_second act left (not bit) None ≡ true
+leaves_other act left bit is = ap (λ a. fault_by_second a left (not bit) None) is ∙ flipped bit
+  where
+    flipped : (bit : Bool) → fault_by_second (Write bit) left (not bit) None ≡ true
+    flipped true = refl
+    flipped false = refl
+
+pub flips_and_tells : (act : Act) (left : Bool) → act ≡ Read → fault_by_second act left (not left) (Some (not left)) ≡ true
+flips_and_tells act true is = ap (λ a. fault_by_second a true false (Some false)) is
+flips_and_tells act false is = ap (λ a. fault_by_second a false true (Some true)) is
+
+pub flips_and_hides : (act : Act) (left : Bool) → act ≡ Read → fault_by_second act left (not left) (Some left) ≡ true
+flips_and_hides act true is = ap (λ a. fault_by_second a true false (Some true)) is
+flips_and_hides act false is = ap (λ a. fault_by_second a false true (Some false)) is
+
+pub answers_other : (act : Act) (left : Bool) → act ≡ Read → fault_by_second act left left (Some (not left)) ≡ true
+answers_other act true is = ap (λ a. fault_by_second a true true (Some false)) is
+answers_other act false is = ap (λ a. fault_by_second a false false (Some true)) is
