@@ -153,21 +153,28 @@ unassigned_by ns is h ds = ap (λ f. unassigned f ds) (fun_ext h) ∙ same ds
     same [] = refl
     same (d ∷ ds) = ap (λ r. cond (is_wire d.kind && not (is_assigned is d.name)) (Some (Undriven d.name)) r) (same ds)
 
-pub all_rules : (a b o : Option Break) (ns : List (List ℕ)) (is : List ModuleItem) (ds es : List Declaration) (r : Result (Unit {0}) TreeFault) → a ≡ None → b ≡ None → o ≡ None → Assigned ns is →
-    Refuses (first_of (unassigned (among ns) ds ∷ unassigned (among ns) es ∷ [])) r → Refuses (first_of (a ∷ b ∷ o ∷ undriven is ds ∷ undriven is es ∷ [])) r
-all_rules a b o ns is ds es r ea eb eo h =
-    subst (λ o. Refuses o r) (
+-- N9 behind all items, of which these names are assigned
+pub driven_behind : (o : Option Break) (ns : List (List ℕ)) (is : List ModuleItem) (ds es : List Declaration) (r : Result (Unit {0}) TreeFault) → o ≡ None → Assigned ns is →
+    Refuses (first_of (unassigned (among ns) ds ∷ unassigned (among ns) es ∷ [])) r → Refuses (first_of (o ∷ undriven is ds ∷ undriven is es ∷ [])) r
+driven_behind o ns is ds es r e h g =
+    subst (λ x. Refuses x r) (
     ap (λ x. first_of (x ∷ unassigned (among ns) es ∷ [])) (unassigned_by ns is h ds)
     ∙ ap (λ x. first_of (undriven is ds ∷ x ∷ [])) (unassigned_by ns is h es)
-    ∙ sym (ap (λ x. first_of (x ∷ b ∷ o ∷ undriven is ds ∷ undriven is es ∷ [])) ea ∙ ap (λ x. first_of (x ∷ o ∷ undriven is ds ∷ undriven is es ∷ [])) eb ∙ ap (λ x. first_of (x ∷ undriven is ds ∷ undriven is es ∷ [])) eo)
-    )
+    ∙ sym (ap (λ x. first_of (x ∷ undriven is ds ∷ undriven is es ∷ [])) e)
+    ) g
 
-pub module_breaks : (mo : ModuleTree) (ws ds : List Declaration) (as' ss : List (List ℕ)) (given : List ModuleItem) → ((n : List ℕ) → lookup ws n ≡ lookup (declarations mo.ports mo.items) n) → ds ≡ port_declarations mo.ports → as' ≡ [] → ss ≡ [] → given ≡ mo.items →
-    breaks_behind (width_of ws) ds as' ss given ≡ items_break (names_widths mo) mo.ports [] mo.items
-module_breaks mo ws ds as' ss given found ports none nothing same =
-    ap (λ l. breaks_behind (width_of ws) ds as' ss l) same
-    ∙ ap (λ (w : List ℕ → ℕ). breaks_behind w ds as' ss mo.items) (fun_ext (λ n. ap declared_width (found n)))
-    ∙ breaks_by (names_widths mo) mo.ports [] ds as' ss mo.items (ports ∙ sym (append-nil (port_declarations mo.ports))) (λ n. ap (is_among n) none) (λ n. ap (is_among n) nothing)
+-- where the first breaks nothing, the rest decides
+pub behind_one : (a : Option Break) (os : List (Option Break)) (r : Result (Unit {0}) TreeFault) → a ≡ None → Refuses (first_of os) r → Refuses (first_of (a ∷ os)) r
+behind_one a os r e h = subst (λ x. Refuses x r) (sym (ap (λ x. first_of (x ∷ os)) e)) h
+
+pub none_assigned : (w : List ℕ → ℕ) (ds : List Declaration) (as' ss : List (List ℕ)) (given is : List ModuleItem) → as' ≡ [] → given ≡ is → breaks_behind w ds as' ss given ≡ breaks_behind w ds [] ss is
+none_assigned w ds as' ss given is a i = ap (λ l. breaks_behind w ds l ss given) a ∙ ap (breaks_behind w ds [] ss) i
+
+pub module_breaks : (mo : ModuleTree) (ws ds : List Declaration) (ss : List (List ℕ)) → ((n : List ℕ) → lookup ws n ≡ lookup (declarations mo.ports mo.items) n) → ds ≡ port_declarations mo.ports → ss ≡ [] →
+    breaks_behind (width_of ws) ds [] ss mo.items ≡ items_break (names_widths mo) mo.ports [] mo.items
+module_breaks mo ws ds ss found ports nothing =
+    ap (λ (w : List ℕ → ℕ). breaks_behind w ds [] ss mo.items) (fun_ext (λ n. ap declared_width (found n)))
+    ∙ breaks_by (names_widths mo) mo.ports [] ds [] ss mo.items (ports ∙ sym (append-nil (port_declarations mo.ports))) (λ n. refl) (λ n. ap (is_among n) nothing)
 
 pub module_assigned : (items given : List ModuleItem) (as' ns : List (List ℕ)) → as' ≡ [] → given ≡ items → ns ≡ all_assigned as' given → Assigned ns items
 module_assigned items given as' ns none same is n =

@@ -1,8 +1,10 @@
+pub mod Appended
 pub mod Behind
 pub mod Bounds
 pub mod Breaks
 pub mod Clean
 pub mod Hashed
+pub mod Layers
 pub mod Lists
 pub mod Lookups
 pub mod Loops

@@ -34,7 +34,19 @@ impl Mention {
 fn put(out: &mut Vec<Mention>, next: Mention) -> Result<(), NoMemory>
     ensures { OnOk result (map mention out.new.items ≡ map mention out.old.items ++ mention next ∷ []) }
 {
-    out.push(next).map_err(|_| NoMemory)
+    match out.push(next) {
+        Ok(()) => Ok(()),
+        Err(_) => Err(NoMemory),
+    }
+}
+
+fn put_name(names: &mut Vec<Name>, name: Name) -> Result<(), NoMemory>
+    ensures { OnOk result (map (λ n. n.bytes) names.new.items ≡ map (λ n. n.bytes) names.old.items ++ name.bytes ∷ []) }
+{
+    match names.push(name) {
+        Ok(()) => Ok(()),
+        Err(_) => Err(NoMemory),
+    }
 }
 
 #[cycle(put_expr)]
@@ -112,6 +124,15 @@ fn put_arms(out: &mut Vec<Mention>, choices: &[Arm]) -> Result<(), NoMemory>
     Ok(())
 }
 
+fn put_names(names: &mut Vec<Name>, all: &[Mention]) -> Result<(), NoMemory>
+    ensures { OnOk result (map (λ n. n.bytes) names.new.items ≡ map (λ n. n.bytes) names.old.items ++ map mentioned (map mention all.now)) }
+{
+    for next in all {
+        put_name(names, next.name())?;
+    }
+    Ok(())
+}
+
 /// The names that an expression reads, in the order of the text.
 pub fn names_read(alloc: Global, x: &Expr) -> Result<Vec<Name>, NoMemory>
     ensures { IfOk result (λ all. map (λ n. n.bytes) all.items ≡ map mentioned (reads (plain x.now))) }
@@ -119,9 +140,7 @@ pub fn names_read(alloc: Global, x: &Expr) -> Result<Vec<Name>, NoMemory>
     let mut all = Vec::new(alloc);
     put_expr(&mut all, x)?;
     let mut names = Vec::new(alloc);
-    for next in &all {
-        names.push(next.name()).map_err(|_| NoMemory)?;
-    }
+    put_names(&mut names, &all)?;
     Ok(names)
 }
 

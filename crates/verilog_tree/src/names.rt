@@ -75,7 +75,10 @@ pub(crate) fn declared_item(item: &Item) -> Option<Declared>
 fn push(all: &mut Vec<Declared>, next: Declared) -> Result<(), NoMemory>
     ensures { OnOk result (map declaration all.new.items ≡ map declaration all.old.items ++ declaration next ∷ []) }
 {
-    all.push(next).map_err(|_| NoMemory)
+    match all.push(next) {
+        Ok(()) => Ok(()),
+        Err(_) => Err(NoMemory),
+    }
 }
 
 fn push_ports(all: &mut Vec<Declared>, ports: &[Port]) -> Result<(), NoMemory>

@@ -1,12 +1,12 @@
 //! The rules that a module must keep.
-ghost use Rattle.std.specs.Prelude.{◌≡◌, ℕ, IsTrue, [], ◌∷◌, map, OnOk};
+ghost use Rattle.std.specs.Prelude.{◌≡◌, ℕ, IsTrue, [], ◌∷◌, ◌++◌, map, OnOk};
 ghost use Rattle.verilog_tree.specs.Plain.{plain_item, plain_port, plain_module};
 ghost use Rattle.verilog_tree.specs.Names.{is_wire, port_declarations, item_declarations, width_of};
 ghost use Rattle.verilog_tree.specs.Formed.{formed};
-ghost use Rattle.verilog_tree.specs.Rules.{has_kind, Refuses, Unknown, SelectRange, NotAssignable, TwoBlocks, Clock, mentions, first_bad, is_unknown, is_out_of_range, assignable, is_wrong_target, is_wrong_clock, declares_clk, port_twice, port_clock, first_of, items_break, first_break};
+ghost use Rattle.verilog_tree.specs.Rules.{has_kind, Refuses, Unknown, SelectRange, NotAssignable, TwoBlocks, Clock, mentions, first_bad, is_unknown, is_out_of_range, assignable, is_wrong_target, is_wrong_clock, declares_clk, port_twice, port_clock, undriven, first_of, items_break, first_break};
 ghost use Rattle.verilog_tree.specs.Meaning.{names_widths};
 ghost use Rattle.verilog_tree.specs.Seen.{mention};
-ghost use Rattle.verilog_tree.specs.Tables.{RefusesElse, AssignedElse, among, again, is_target_among, with_targets, break_behind, declared_behind, assigned_behind, set_behind, breaks_behind, all_assigned, unassigned};
+ghost use Rattle.verilog_tree.specs.Tables.{RefusesElse, among, again, is_target_among, with_targets, break_behind, declared_behind, assigned_behind, set_behind, breaks_behind, all_assigned, unassigned};
 
 use crate::fault::TreeFault;
 use crate::mentions::{Mention, mentions};
@@ -193,6 +193,21 @@ struct Before {
     set: NameSet,
 }
 
+impl Before {
+    // Only these ports.
+    fn behind(alloc: Global, ports: Declarations) -> Before
+        ensures declared { result.declared ≡ ports }
+        ensures assigned { result.assigned ≡ [] }
+        ensures set { result.set ≡ [] }
+    {
+        Before {
+            declared: ports,
+            assigned: NameSet::new(alloc),
+            set: NameSet::new(alloc),
+        }
+    }
+}
+
 #[tactic(auto, using(crate::proofs::Refusals::tells_now, crate::proofs::Refusals::tells_later, crate::proofs::Refusals::none_more), unfolding(crate::specs::Tables::break_behind))]
 fn check_item(
     widths: &Declarations,
@@ -257,17 +272,26 @@ fn check_items(
     Ok(())
 }
 
-// N2 in the ports, which it gives.
-fn ports_once(alloc: Global, ports: &[Port]) -> Result<Declarations, TreeFault>
-    ensures { RefusesElse (port_twice [] (port_declarations (map plain_port ports.now))) (port_declarations (map plain_port ports.now)) result }
+// N2 in the ports, which it adds.
+fn add_ports_once(all: &mut Declarations, ports: &[Port]) -> Result<(), TreeFault>
+    ensures refuses { Refuses (port_twice all.old (port_declarations (map plain_port ports.now))) result }
+    ensures added { OnOk result (all.new ≡ all.old ++ port_declarations (map plain_port ports.now)) }
 {
-    let mut all = Declarations::new(alloc);
     for port in ports {
         if all.get(&port.name).is_some() {
             return Err(TreeFault::Twice { name: port.name });
         }
         all.add(declared_port(port))?;
     }
+    Ok(())
+}
+
+// N2 in the ports, which it gives.
+fn ports_once(alloc: Global, ports: &[Port]) -> Result<Declarations, TreeFault>
+    ensures { RefusesElse (port_twice [] (port_declarations (map plain_port ports.now))) (port_declarations (map plain_port ports.now)) result }
+{
+    let mut all = Declarations::new(alloc);
+    add_ports_once(&mut all, ports)?;
     Ok(all)
 }
 
@@ -317,25 +341,6 @@ fn wires_driven(assigned: &NameSet, items: &[Item]) -> Result<(), TreeFault>
     Ok(())
 }
 
-// The answer is what `assign` items name.
-fn check_all_items(
-    alloc: Global,
-    module: &Module,
-    ports: Declarations,
-) -> Result<NameSet, TreeFault>
-    requires { ports ≡ port_declarations (plain_module «module».now).ports }
-    ensures { let mo = plain_module «module».now in AssignedElse (items_break (names_widths mo) mo.ports [] mo.items) mo.items result }
-{
-    let widths = all_declarations(alloc, module)?;
-    let mut before = Before {
-        declared: ports,
-        assigned: NameSet::new(alloc),
-        set: NameSet::new(alloc),
-    };
-    check_items(alloc, &widths, &mut before, &module.items)?;
-    Ok(before.assigned)
-}
-
 // N9.
 #[tactic(auto, using(crate::proofs::Refusals::tells_now, crate::proofs::Refusals::tells_later, crate::proofs::Refusals::none_more))]
 fn driven(assigned: &NameSet, module: &Module) -> Result<(), TreeFault>
@@ -343,6 +348,34 @@ fn driven(assigned: &NameSet, module: &Module) -> Result<(), TreeFault>
 {
     outputs_driven(assigned, &module.ports)?;
     wires_driven(assigned, &module.items)
+}
+
+// The items, and then N9.
+#[tactic(auto, using(crate::proofs::Refusals::tells_now))]
+fn check_to_end(
+    alloc: Global,
+    widths: &Declarations,
+    before: &mut Before,
+    module: &Module,
+) -> Result<(), TreeFault>
+    requires { before.old.assigned ≡ [] }
+    ensures { let mo = plain_module «module».now in Refuses (first_of (breaks_behind (width_of widths.now) before.old.declared [] before.old.set mo.items ∷ undriven mo.items (port_declarations mo.ports) ∷ undriven mo.items (item_declarations mo.items) ∷ [])) result }
+{
+    check_items(alloc, widths, before, &module.items)?;
+    driven(&before.assigned, module)
+}
+
+// What is left behind the declarations of the ports.
+#[tactic(auto, using(crate::proofs::Refusals::tells_now))]
+fn check_behind_ports(alloc: Global, before: &mut Before, module: &Module) -> Result<(), TreeFault>
+    requires declared { before.old.declared ≡ port_declarations (plain_module «module».now).ports }
+    requires assigned { before.old.assigned ≡ [] }
+    requires set { before.old.set ≡ [] }
+    ensures { let mo = plain_module «module».now in Refuses (first_of (port_clock (port_declarations mo.ports) ∷ items_break (names_widths mo) mo.ports [] mo.items ∷ undriven mo.items (port_declarations mo.ports) ∷ undriven mo.items (item_declarations mo.items) ∷ [])) result }
+{
+    clk_is_input(&module.ports)?;
+    let widths = all_declarations(alloc, module)?;
+    check_to_end(alloc, &widths, before, module)
 }
 
 /// Refuses a module for the first rule that it breaks: N1 to N6, N10 and N9. The ports are item 0, and
@@ -355,7 +388,6 @@ pub fn check(alloc: Global, module: &Module) -> Result<(), TreeFault>
     ensures { Refuses (first_break (plain_module «module».now)) result }
 {
     let ports = ports_once(alloc, &module.ports)?;
-    clk_is_input(&module.ports)?;
-    let assigned = check_all_items(alloc, module, ports)?;
-    driven(&assigned, module)
+    let mut before = Before::behind(alloc, ports);
+    check_behind_ports(alloc, &mut before, module)
 }

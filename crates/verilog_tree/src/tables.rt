@@ -126,13 +126,19 @@ fn add_ports(all: &mut Declarations, ports: &[Port]) -> Result<(), NoMemory>
     Ok(())
 }
 
+fn declare_all(all: &mut Declarations, module: &Module) -> Result<(), NoMemory>
+    ensures { OnOk result (all.new ≡ with_all (with_all all.old (port_declarations (plain_module «module».now).ports)) (item_declarations (plain_module «module».now).items)) }
+{
+    add_ports(all, &module.ports)?;
+    add_items(all, &module.items)
+}
+
 /// What a module declares, by name.
 pub fn all_declarations(alloc: Global, module: &Module) -> Result<Declarations, NoMemory>
     ensures { IfOk result (λ all. (n : List ℕ) → lookup all n ≡ lookup (declarations (plain_module «module».now).ports (plain_module «module».now).items) n) }
 {
     let mut all = Declarations::new(alloc);
-    add_ports(&mut all, &module.ports)?;
-    add_items(&mut all, &module.items)?;
+    declare_all(&mut all, module)?;
     Ok(all)
 }
 

@@ -1,16 +1,15 @@
-use Rattle.std.proofs.Common.{[], map, sym, ap, ◌∙◌}
+use Rattle.std.proofs.Common.{[], ◌∷◌, map, sym, ap, ◌∙◌}
 use Rattle.verilog_tree.specs.Plain.{plain_port, plain_module}
 use Rattle.verilog_tree.specs.Names.{port_declarations, item_declarations}
 use Rattle.verilog_tree.specs.Meaning.{names_widths}
-use Rattle.verilog_tree.specs.Rules.{port_twice, port_clock, items_break}
-use Rattle.verilog_tree.proofs.Behind.{all_rules}
+use Rattle.verilog_tree.specs.Rules.{port_twice, port_clock, items_break, undriven}
+use Rattle.verilog_tree.proofs.Behind.{behind_one}
 use Rattle.verilog_tree.proofs.rules.check.Goals as goal
 
 pub returns : goal.returns
 returns c =
     let mo = plain_module c.args.module.now in
     let ds = port_declarations mo.ports in
-    all_rules (port_twice [] ds) (port_clock ds) (items_break (names_widths mo) mo.ports [] mo.items) c.in_ok-assigned.assigned mo.items ds (item_declarations mo.items) c.driven.result
+    behind_one (port_twice [] ds) (port_clock ds ∷ items_break (names_widths mo) mo.ports [] mo.items ∷ undriven mo.items ds ∷ undriven mo.items (item_declarations mo.items) ∷ []) c.check_behind_ports.result
     (ap (λ l. port_twice [] (port_declarations (map plain_port l))) (sym c.deref.ensures.value) ∙ c.in_ok-ports.ensures.0)
-    (ap (λ l. port_clock (port_declarations (map plain_port l))) (sym c.deref-2.ensures.value) ∙ c.in_ok-clk_is_input.ensures)
-    c.in_ok-assigned.ensures.0 c.in_ok-assigned.ensures.1 c.driven.ensures
+    c.check_behind_ports.ensures
