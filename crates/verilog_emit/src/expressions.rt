@@ -90,27 +90,31 @@ pub fn put_expr(out: &mut Vec<u8>, x: &Expr) -> Result<(), NoMemory>
         }
         Expr::Unary(op, a) => {
             put(out, b"(")?;
-            put(out, unary_text(*op))?;
-            put_expr(out, a)?;
+            put_behind(out, unary_text(*op), a)?;
             put(out, b")")
         }
         Expr::Binary(op, a, b) => {
-            put(out, b"(")?;
-            put_expr(out, a)?;
+            put_behind(out, b"(", a)?;
             put_operator(out, *op)?;
             put_expr(out, b)?;
             put(out, b")")
         }
         Expr::Choose(c, a, b) => {
-            put(out, b"(")?;
-            put_expr(out, c)?;
-            put(out, b" ? ")?;
-            put_expr(out, a)?;
-            put(out, b" : ")?;
-            put_expr(out, b)?;
+            put_behind(out, b"(", c)?;
+            put_behind(out, b" ? ", a)?;
+            put_behind(out, b" : ", b)?;
             put(out, b")")
         }
     }
+}
+
+/// Appends an expression behind a text.
+#[cycle(put_expr)]
+fn put_behind(out: &mut Vec<u8>, before: &[u8], x: &Expr) -> Result<(), NoMemory>
+    ensures { OnOk result (out.new.items ≡ out.old.items ++ (before.now ++ expression_text (plain x.now))) }
+{
+    put(out, before)?;
+    put_expr(out, x)
 }
 
 /// Appends the parts of a concatenation.

@@ -1,5 +1,5 @@
 use Rattle.std.proofs.Common.{List, ℕ, ◌++◌, ◌∙◌, ap, sym, subst}
-use Rattle.verilog_tree.specs.Plain.{ModuleTree, plain_module}
+use Rattle.verilog_tree.specs.Plain.{plain_module}
 use Rattle.verilog_tree.specs.Spells.{Spells, all_limits}
 use Rattle.verilog_read.proofs.ReadingLaws.{one_text}
 use Rattle.verilog_emit.specs.Printed.{printed}
