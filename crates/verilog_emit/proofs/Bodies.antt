@@ -18,7 +18,7 @@ use Rattle.std.proofs.Math.Seq.{drop-cons}
 use Rattle.std.proofs.lemmas.List.{drop_all}
 use Rattle.verilog_emit.specs.Printed.{expression_text, unless_empty}
 use Rattle.verilog_emit.specs.Shallow.{statement_shallow, statements_shallow, arms_shallow}
-use Rattle.verilog_emit.proofs.Layers.{plain_if, plain_case, arm_is}
+use Rattle.verilog_tree.proofs.Layers.{plain_if, plain_case, arm_is}
 use Rattle.verilog_emit.proofs.Pieces.{both}
 
 not_left_out : (body : List Stmt) (text : List ℕ) → (length body == 0) ≡ false → unless_empty (plain_stmts body) text ≡ text

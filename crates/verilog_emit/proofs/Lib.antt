@@ -1,7 +1,6 @@
 pub mod Bodies
 pub mod Derivations
 pub mod Digits
-pub mod Layers
 pub mod Numerals
 pub mod Pieces
 pub mod WrittenExpressions

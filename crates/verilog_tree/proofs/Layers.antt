@@ -2,12 +2,19 @@
 use Rattle.std.proofs.Common.{◌≡◌, map, Vec, Box, Global}
 use Rattle.arrayvec.specs.ArrayString.{ArrayString}
 use Rattle.verilog_tree.specs.declared.tree.BinOp.{BinOp}
+use Rattle.verilog_tree.specs.declared.tree.UnOp.{UnOp}
 use Rattle.verilog_tree.specs.declared.tree.Expr.{Expr}
 use Rattle.verilog_tree.specs.declared.tree.Expr as E
 use Rattle.verilog_tree.specs.declared.tree.Stmt.{Stmt}
 use Rattle.verilog_tree.specs.declared.tree.Stmt as S
 use Rattle.verilog_tree.specs.declared.tree.Arm.{Arm}
-use Rattle.verilog_tree.specs.Plain.{plain, plain_stmt, plain_stmts, plain_arm, arms, Infixed, Conditional, SetTo, IfElse, CaseOf}
+use Rattle.verilog_tree.specs.Plain.{plain, expressions, plain_stmt, plain_stmts, plain_arm, arms, Concatenation, Prefixed, Infixed, Conditional, SetTo, IfElse, CaseOf}
+
+pub plain_concat : (xs : Vec Expr Global) → plain (E.Concat xs) ≡ Concatenation (expressions (map plain xs.items))
+plain_concat xs = search E.the_lemmas
+
+pub plain_unary : (o : UnOp) (x : Box Expr Global) → plain (E.Unary o x) ≡ Prefixed o (plain x.value)
+plain_unary o x = search E.the_lemmas
 
 pub plain_binary : (o : BinOp) (x y : Box Expr Global) → plain (E.Binary o x y) ≡ Infixed o (plain x.value) (plain y.value)
 plain_binary o x y = search E.the_lemmas
@@ -23,6 +30,9 @@ plain_if c a b = search S.the_lemmas
 
 pub plain_case : (x : Expr) (as' : Vec Arm Global) (d : Vec Stmt Global) → plain_stmt (S.Case x as' d) ≡ CaseOf (plain x) (arms (map plain_arm as'.items)) (plain_stmts d.items)
 plain_case x as' d = search S.the_lemmas
+
+pub arm_is : (a : Arm) → plain_arm a ≡ record { labels = a.labels.items; body = plain_stmts a.body.items }
+arm_is a = search S.the_lemmas
 
 pub arm_body : (a : Arm) → (plain_arm a).body ≡ plain_stmts a.body.items
 arm_body a = search S.the_lemmas

@@ -6,7 +6,7 @@ use Rattle.verilog_tree.specs.Plain.{plain, expressions}
 use Rattle.verilog_tree.specs.Tokens.{mark_text}
 use Rattle.verilog_emit.specs.Printed.{expression_text, parts_text, separator}
 use Rattle.verilog_emit.proofs.Bodies.{two_parts, three_parts, told, infix_written, choice_written, one_written, all_written}
-use Rattle.verilog_emit.proofs.Layers.{plain_concat, plain_unary, plain_binary, plain_choose}
+use Rattle.verilog_tree.proofs.Layers.{plain_concat, plain_unary, plain_binary, plain_choose}
 use Rattle.verilog_emit.proofs.expressions.+put_expr.Goals as goal
 
 pub put_expr-returns-in_ok-put_parts-in-Concat : goal.put_expr-returns-in_ok-put_parts-in-Concat

@@ -8,7 +8,7 @@ use Rattle.verilog_emit.specs.Printed.{line, expression_text, labels_text, state
 use Rattle.verilog_emit.specs.Shallow.{statement_shallow, statements_shallow}
 use Rattle.verilog_emit.proofs.Bodies.{begun_body, ended_body, three_parts, four_parts, told, one_written, one_left, arm_left, if_shallow, case_shallow, all_written}
 use Rattle.verilog_emit.proofs.Pieces.{both}
-use Rattle.verilog_emit.proofs.Layers.{plain_if, plain_case, arm_is}
+use Rattle.verilog_tree.proofs.Layers.{plain_if, plain_case, arm_is}
 use Rattle.verilog_emit.proofs.statements.+put_stmt.Goals as goal
 
 pub put_default-returns : goal.put_default-returns
