@@ -2,6 +2,7 @@ pub mod LinePieces
 pub mod LineRefusals
 pub mod LineLaws
 pub mod LineStarts
+pub mod LineSteps
 pub mod LineStops
 pub mod LineBegins
 pub mod LineFollows
@@ -18,6 +19,7 @@ pub mod Determined
 pub mod Reading
 pub mod Parts
 pub mod Printing
+pub mod PrintSteps
 pub mod Terms
 pub mod OneReading
 pub mod BackLines
