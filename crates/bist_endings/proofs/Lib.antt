@@ -1,2 +1,5 @@
 mod Rows
+mod Names
+mod Said
+mod Writes
 pub mod OneOutcome

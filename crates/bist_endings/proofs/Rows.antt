@@ -1,5 +1,5 @@
 -- The rows that a refusal names, one after another.
-use Rattle.std.proofs.Common.{◌≡◌, ◌≢◌, ℕ, ◌+◌, ◌/◌, ◌^◌, ◌++◌, if◌then◌else◌, Bool, List, [], sym, ◌∙◌, ap, bit_and, decimal, codes, add-one, append_assoc}
+use Rattle.std.proofs.Common.{◌≡◌, ◌≢◌, ◌≤◌, ℕ, ◌+◌, arith, ◌/◌, ◌^◌, ◌++◌, if◌then◌else◌, Bool, List, [], sym, ◌∙◌, ap, bit_and, decimal, codes, add-one, append_assoc}
 use Rattle.std.proofs.lemmas.Bool.{eq-eqb, ne_eqb}
 use Rattle.std.proofs.lemmas.Nat.Bits.{shr_and_one}
 use Rattle.std.specs.Int.{bit_at}
@@ -16,3 +16,9 @@ pub rows_more : (before out new : List ℕ) (rows i : ℕ) → out ≡ before ++
 rows_more before out new rows i o e =
     e ∙ ap (λ (x : List ℕ). x ++ row_text rows i) o ∙ append_assoc before (rows_text rows i) (row_text rows i)
     ∙ ap (λ (n : ℕ). before ++ rows_text rows n) (sym (add-one i))
+
+sixteen : (i : ℕ) → i ≤ 16 → 16 ≤ i → i ≡ 16
+sixteen i below above = omega (arith, below, above)
+
+pub rows_all : (before out : List ℕ) (rows i : ℕ) → i ≤ 16 → 16 ≤ i → out ≡ before ++ rows_text rows i → out ≡ before ++ rows_text rows 16
+rows_all before out rows i below above o = o ∙ ap (λ (n : ℕ). before ++ rows_text rows n) (sixteen i below above)
