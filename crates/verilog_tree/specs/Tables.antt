@@ -113,8 +113,3 @@ RefusesElse o x (Err f) = Tells f o
 -- these names are what items assign
 abbrev pub Assigned : List (List ℕ) → List ModuleItem → Type 0
 Assigned ns is = (n : List ℕ) → is_among n ns ≡ is_assigned is n
-
--- the same, and else the answer is what items assign
-abbrev pub AssignedElse : Option Break → List ModuleItem → Result (List (List ℕ)) TreeFault → Type 0
-AssignedElse o is (Ok ns) = (o ≡ None) × Assigned ns is
-AssignedElse o is (Err f) = Tells f o
