@@ -129,6 +129,46 @@ def number(text: str, what: str, least: int = 0) -> int:
 
 # ---- the program
 
+FORMATS = ROOT / "docs" / "FORMATS.md"
+
+
+@dataclasses.dataclass
+class Command:
+    """A command of the program as FORMATS tells it: its words, an example, and what it does."""
+
+    form: list[str]
+    example: str
+    does: str
+
+    @property
+    def name(self) -> str:
+        return self.form[0]
+
+
+def commands() -> list[Command]:
+    """The commands, from docs/FORMATS.md."""
+    sections = re.findall(r"^## The command `\w+`\n\n```\n([^\n]*)\n([^\n]*)\n```\n\n(.*?)(?=^## )", read_text(FORMATS), re.MULTILINE | re.DOTALL)
+    return [Command(form.split(), example, does.strip()) for form, example, does in sections]
+
+
+def form_of(name: str) -> list[str]:
+    """The words of a command; none where there is no such command."""
+    return next((command.form for command in commands() if command.name == name), [])
+
+
+def written(name: str) -> list[int]:
+    """The places of the words that a command writes."""
+    return {"judge": [3], "vectors": [3], "compile": [4, 5], "make": [2, 3, 4, 5, 6]}.get(name, [])
+
+
+def quick_program() -> str | None:
+    """A program that answers in milliseconds: the one that is named, or the proved one that the launcher takes."""
+    named = os.environ.get("VIDLAKOST_PROGRAM") or os.environ.get("VIDLAKOST")
+    if named:
+        return named
+    done = subprocess.run([PROGRAM, "--program"], stdout=subprocess.PIPE, stderr=subprocess.DEVNULL, text=True, check=False)
+    return done.stdout.strip() or None
+
 
 def run(*words) -> tuple[int, str]:
     """The program's status and its line for these words."""
