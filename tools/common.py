@@ -161,6 +161,20 @@ def written(name: str) -> list[int]:
     return {"judge": [3], "vectors": [3], "compile": [4, 5], "make": [2, 3, 4, 5, 6]}.get(name, [])
 
 
+def version() -> tuple[str, str, str]:
+    """The version, the date and the commit of this checkout, or of the release that this is."""
+    release = ROOT / "RELEASE"
+    if release.exists():
+        first, second, *_ = release.read_text().splitlines()
+        commit, date = second.split(" ", 1)[1].split(", ")
+        return first.split(" ")[1], date, commit
+    form = ["git", "-C", str(ROOT), "log", "-1", "--format=%cs %h"]
+    said = subprocess.run(form, stdout=subprocess.PIPE, stderr=subprocess.DEVNULL, text=True, check=False).stdout.split()
+    date, commit = said if len(said) == 2 else ("0000-00-00", "none")
+    changed = subprocess.run([*form[:3], "status", "--porcelain"], stdout=subprocess.PIPE, stderr=subprocess.DEVNULL, text=True, check=False).stdout
+    return f"{date.replace('-', '.')}-{commit}{'-changed' if changed.strip() else ''}", date, commit
+
+
 def quick_program() -> str | None:
     """A program that answers in milliseconds: the one that is named, or the proved one that the launcher takes."""
     named = os.environ.get("VIDLAKOST_PROGRAM") or os.environ.get("VIDLAKOST")
