@@ -554,6 +554,13 @@ class Verdict:
         """The array of an escape."""
         return Array(read_primitive(self.primitive), self.aggressor, self.victim, self.content)
 
+    def as_object(self) -> dict:
+        made = {"primitive": self.primitive, "class": self.kind, "covered": self.covered}
+        if not self.covered:
+            made["escape"] = {"cells": len(self.content), "aggressor": self.aggressor, "victim": self.victim,
+                              "content": self.content, "directions": self.directions}
+        return made
+
     def words(self, march) -> list[str]:
         """The call of `sim` that replays an escape of a static primitive."""
         aggressor = "none" if self.aggressor is None else str(self.aggressor)
@@ -574,6 +581,16 @@ class Report:
     @property
     def escapes(self) -> list[Verdict]:
         return [verdict for verdict in self.verdicts if not verdict.covered]
+
+    def as_object(self) -> dict:
+        """The report in the schema of `tools/report --json`."""
+        made: dict = {"schema": "vidlakost-report-1", "march": self.march, "length": length_of(self.elements)}
+        if self.memory:
+            made["memory"] = self.memory
+        made["verdicts"] = [verdict.as_object() for verdict in self.verdicts]
+        made["classes"] = {kind: {"primitives": count, "covered": covered} for kind, (count, covered) in self.classes.items()}
+        made["total"] = dict(zip(("primitives", "covered", "escapes"), self.total))
+        return made
 
 
 def verdict_of(line: str) -> Verdict | None:
@@ -626,6 +643,14 @@ def read_report(path) -> Report:
         refuse(len(lines), f"the total says {report.total[0]} primitives, {report.total[1]} covered and {report.total[2]} "
                            f"escapes, and the lines are {counts[0]}, {counts[1]} and {counts[2]}")
     return report
+
+
+def judged(march, faults) -> Report:
+    """What `judge` reports of a march and a list."""
+    with tempfile.TemporaryDirectory() as folder:
+        path = pathlib.Path(folder) / "report"
+        ask("judge", march, faults, path)
+        return read_report(path)
 
 
 def take_line(report: Report, line: str, is_second: bool) -> str | None:
