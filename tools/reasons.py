@@ -26,8 +26,9 @@ def why_never(verdict: common.Verdict, elements: list[common.Element], steps: li
         pauses = any(element.is_pause for element in elements)
         return f"in no pause the cell holds {array.primitive.victim.state}" if pauses else "the march has no pause"
     state = array.senses[array.actor].state
+    actor = "the aggressor" if array.actor != array.victim else "the victim" if array.primitive.aggressor else "the cell"
     if not meets_alone(verdict, steps):
-        return f"no {operations[0]} comes at {'the aggressor' if array.actor != array.victim else 'the cell'} while it holds {state}"
+        return f"no {operations[0]} comes at {actor} while it holds {state}"
     if len(operations) == 2:
         return f"{operations[1]} never comes right behind {operations[0]} with its states held before"
     other = "the victim" if array.actor != array.victim else "the aggressor"
