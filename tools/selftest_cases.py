@@ -35,6 +35,7 @@ FILES = {
               "    if (reset) q <= 0; else q <= q + d;\nendmodule\n",
     "latch.v": "module t(input clk, input a, output reg q);\n  always @* if (a) q = clk;\nendmodule\n", "no.v": "module t(input clk,, output q);\nendmodule\n",
 }
+FILES.update({"sheet.txt": "p0 = a0 ^ a1\np1 = a1 ^ a2 ^ 1 # inverted\np2 = a2\n", "same.txt": "p0 = a0\np1 = a0 ^ 1\n", "mixed.txt": "p0 = p1\np1 = a1\n", "gap.txt": "p0 = a0\np2 = a1\n"})
 # what is said of the first refusal, whole
 WHOLE = "stray.m:1:11: error: 'upp' can't stand here; did you mean 'up'?\n  {any(w0); upp(r0)}\n            ^\n  here could stand up, down, any or del\n"
 
@@ -125,6 +126,11 @@ CALLS = [
     ("", ["tools/locate", "c.m", "scrambled.mem", "11", "zz", "1"], 2, "", "locate: 'zz' is no hexadecimal word"), ("", ["tools/locate", "c.m", "rows.mem", "11"], 4, "", "locate: memory D6"),
     ("", ["tools/locate", "c.m", "scrambled.mem"], 2, "", "locate: a cycle, or a cycle and two words"),
     ("", ["tools/summary", "c.m", "s.mem", "scrambled.mem", "--mhz", "50"], 0, "one after another", ""), ("", ["tools/summary", "c.m", "s.mem", "--csv"], 0, "memory,words,bits", ""),
+    ("", ["tools/locate", "c.m", "scrambled.mem", "--elements"], 0, "background 1 a element 5 any(r0) cycles 153 to 160\ndone from cycle 163", ""),
+    ("", ["tools/locate", "c.m", "scrambled.mem", "5", "--elements"], 2, "", "locate: --elements stands alone"),
+    ("", ["tools/turn", "sheet.txt"], 0, "scramble a0 = p0 ^ p1 ^ p2 ^ 1\nscramble a1 = p1 ^ p2 ^ 1\nscramble a2 = p2\n", ""), ("", ["tools/turn", "same.txt"], 2, "", "turn: same.txt: row 1 depends"),
+    ("", ["tools/turn", "mixed.txt"], 2, "", "turn: mixed.txt:1: the bits on the right"), ("", ["tools/turn", "gap.txt"], 2, "", "turn: gap.txt: there has to be a row"),
+    ("", ["tools/turn", "c.m"], 2, "", "turn: c.m:1: a line is p0 = a0 ^ a1"), ("", ["tools/turn"], 2, "", "turn: too few words"), ("", ["tools/pictures", "x"], 2, "", "pictures: too many words"),
     ("", ["tools/summary", "c.m"], 2, "", "summary: too few words"), ("", ["tools/summary", "c.m", "s.mem", "--mhz", "0"], 2, "", "summary: --mhz is a positive number"),
     ("", ["tools/summary", "c.m", "range.mem"], 4, "", "summary: memory D5 line 3\nrange.mem:3:7: error:"), ("yosys", ["tools/summary", "c.m", "s.mem", "--cells"], 0, "flip-flops", ""),
     ("", TEST, 0, "tb/s_tb.v", ""), ("", [*TEST, "--sv"], 0, "tb/s_tb.sv", ""), ("", [*TEST, "--assert"], 0, "tb/s_rule.sv", ""), ("", [*TEST, "--fault", "<0w1/0/->", "--victim", "1.0"], 0, "tb/s_tb.v", ""),
