@@ -9,7 +9,7 @@ import re
 import common
 import diagnose_texts
 import diagnose_verilog
-from finding import Finding, caret, close_to, listed, thousands
+from finding import Trier, close_to, listed, thousands
 
 # the word of a call whose text a refusal speaks of
 SUBJECTS = {"march": ["MARCH"], "memory": ["MEMORY"], "fault": ["FAULTS", "PRIM"], "verilog": ["VERILOG"]}
@@ -54,6 +54,7 @@ def refused_text(words: list[str], said: str) -> list[str]:
         return diagnose_texts.memory(named[subject], text, code, values).lines()
     if kind == "fault":
         return diagnose_texts.fault(named[subject], text, code, values, False).lines()
+    Trier.reader = words[0]
     return diagnose_verilog.verilog(named[subject], text, code, values, named.get("MEMORY")).lines()
 
 

@@ -102,6 +102,9 @@ SHOWN = {
 class Trier:
     """Asks a program of texts; without a program that answers at once nothing is found."""
 
+    # the command that reads a module as the call does
+    reader = "benchfile"
+
     def __init__(self, kind: str, is_word: bool = False):
         self.kind, self.is_word = kind, is_word
         self.program = common.quick_program()
@@ -117,7 +120,7 @@ class Trier:
         else:
             words = {"march": ["judge", file, missing, folder / "out"], "list": ["judge", march, file, "/dev/null"],
                      "memory": ["benchfault", march, file, "<0/1/->", "none", "999999999.0"],
-                     "verilog": ["benchfile", file, missing, march]}[self.kind]
+                     "verilog": [self.reader, file, missing, march]}[self.kind]
         done = subprocess.run([self.program, *map(str, words)], stdin=subprocess.DEVNULL, stdout=subprocess.PIPE,
                               env={"VIDLAKOST_EXPLAIN": "0", "PATH": "/usr/bin:/bin"}, check=False)
         return done.stdout.decode("utf-8", "replace").strip()
