@@ -5,6 +5,7 @@ pub mod Grammar
 pub mod Meaning
 pub mod Names
 pub mod Order
+pub mod Partial
 pub mod Plain
 pub mod Rules
 pub mod Seen
