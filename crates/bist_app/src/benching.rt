@@ -62,11 +62,11 @@ fn want_of_module(fault: TreeFault) -> NoMemory
 }
 
 /// The design of a module that breaks no rule and whose wires form no loop.
-fn designed(alloc: Global, module: &Module) -> Result<Design, NoMemory>
-    requires sizes { IsTrue (formed (plain_module «module».now)) }
-    requires legal { first_break (plain_module «module».now) ≡ None }
-    requires loopless { NoLoop (plain_module «module».now) }
-    ensures { IfOk result (IsNew (plain_module «module».now)) }
+fn designed(alloc: Global, module: Module) -> Result<Design, NoMemory>
+    requires sizes { IsTrue (formed (plain_module «module»)) }
+    requires legal { first_break (plain_module «module») ≡ None }
+    requires loopless { NoLoop (plain_module «module») }
+    ensures { IfOk result (IsNew (plain_module «module»)) }
 {
     match elaborate(alloc, module) {
         Ok(design) => Ok(design),
@@ -82,7 +82,7 @@ pub fn self_test_design(alloc: Global, march: &March, memory: &Memory) -> Result
     let written = generate(alloc, march, memory)?;
     let text = emit(alloc, &written)?;
     let read = read_back(alloc, &text)?;
-    designed(alloc, &read)
+    designed(alloc, read)
 }
 
 /// Appends the first cycle with `done`.

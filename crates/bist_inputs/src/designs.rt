@@ -44,9 +44,9 @@ fn give_tree(alloc: Global, bytes: &[u8]) -> Result<Module, Refusal>
 
 /// The design of a module, whose registers hold 0.
 #[tactic(auto, using(crate::proofs::Designing::can_run, crate::proofs::Designing::own_new, crate::proofs::Designing::broken), unfolding(crate::specs::Designs::GivesRunnable))]
-fn give_design(alloc: Global, module: &Module) -> Result<Design, Refusal>
-    requires { IsTrue (formed (plain_module «module».now)) }
-    ensures answer { GivesRunnable (plain_module «module».now) (tree_of result) }
+fn give_design(alloc: Global, module: Module) -> Result<Design, Refusal>
+    requires { IsTrue (formed (plain_module «module»)) }
+    ensures answer { GivesRunnable (plain_module «module») (tree_of result) }
     ensures own { IfErr result IsOwnRefusal }
     ensures new { IfOk result (λ design. IsNew design.tree design) }
 {
@@ -64,7 +64,7 @@ fn give_module(alloc: Global, bytes: &[u8]) -> Result<Design, Refusal>
     ensures new { IfOk result (λ design. IsNew design.tree design) }
 {
     let module = give_tree(alloc, bytes)?;
-    give_design(alloc, &module)
+    give_design(alloc, module)
 }
 
 /// The design of the file that a word names, whose registers hold 0.

@@ -145,7 +145,7 @@ fn timed<H: Host>(alloc: Global, words: &[&str], host: &mut H) -> Result<(u64, S
     if !formed(&module) {
         return Err(Refusal::Usage);
     }
-    let mut design = match elaborate(alloc, &module) {
+    let mut design = match elaborate(alloc, module) {
         Ok(design) => design,
         Err(fault) => return Err(Refusal::Rules(fault)),
     };
