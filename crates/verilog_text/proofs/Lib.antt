@@ -3,6 +3,7 @@ pub mod Grouping
 pub mod TokenPieces
 pub mod Uncounted
 pub mod Alike
+pub mod AsPrims
 pub mod Nesting
 pub mod Counting
 pub mod SameTexts
@@ -20,6 +21,7 @@ pub mod Expectations
 pub mod Prefixes
 pub mod Complete
 pub mod ReadingLaws
+pub mod Freely
 pub mod LexingOn
 pub mod Alive
 pub mod Extends

@@ -1,9 +1,10 @@
 -- Laws, as statements that a contract can name.
-use Rattle.std.specs.Prelude.{◌≡◌, ℕ, ◌<◌, ◌⊎◌, true, List, ◌↔◌}
+use Rattle.std.specs.Prelude.{◌≡◌, ℕ, ◌<◌, ◌⊎◌, true, List, Some, ◌↔◌}
 use Rattle.verilog_tree.specs.Formed.{formed}
 use Rattle.bist_text.specs.Machine.{read}
 use Rattle.verilog_tree.specs.Grammar.{Style}
-use Rattle.verilog_tree.specs.Spells.{Limits, all_limits, Text}
+use Rattle.verilog_tree.specs.Spells.{Limits, all_limits, Text, Spells, FreelySpells}
+use Rattle.verilog_text.specs.Operators.{few_operators}
 use Rattle.verilog_text.specs.Reading.{reads}
 use Rattle.verilog_text.specs.Answering.{Finished, Faulty, answer}
 use Rattle.verilog_text.specs.Refusals.{SaysIn, StandsIn, byte_of}
@@ -46,3 +47,11 @@ NoneStandsInATextThatIsRead = (y : Style) (b : List ℕ) (v : ModuleTree) (g : R
 -- What a text spells has the sizes of a formed module.
 abbrev pub SpelledIsFormed : Type 0
 SpelledIsFormed = (y : Style) (b : List ℕ) (v : ModuleTree) → Text y all_limits b v → formed v ≡ true
+
+-- A text in full parentheses spells nothing else where operators bind by precedence.
+abbrev pub SpellsNothingElse : Type 0
+SpellsNothingElse = (b : List ℕ) (v w : ModuleTree) → Spells b v → FreelySpells b w → w ≡ v
+
+-- It spells its module there too, where each expression has at most 256 operators.
+abbrev pub SpellsItFreely : Type 0
+SpellsItFreely = (b : List ℕ) (v : ModuleTree) → Spells b v → few_operators (Some 256) v ≡ true → FreelySpells b v

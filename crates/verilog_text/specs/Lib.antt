@@ -7,5 +7,6 @@ pub mod Expected
 pub mod Reading
 pub mod Laws
 pub mod Openings
+pub mod Operators
 pub mod Answering
 pub mod Refusals

@@ -1,5 +1,5 @@
 //! Laws of the machine, each the contract of a function that does nothing.
-ghost use Rattle.verilog_text.specs.Laws.{SameTexts, ReadsTexts, OneModule, FinishesExactly, ToldFaultsStand, ToldFaultsAreFirst, NoneStandsInATextThatIsRead, SpelledIsFormed};
+ghost use Rattle.verilog_text.specs.Laws.{SameTexts, ReadsTexts, OneModule, FinishesExactly, ToldFaultsStand, ToldFaultsAreFirst, NoneStandsInATextThatIsRead, SpelledIsFormed, SpellsNothingElse, SpellsItFreely};
 
 /// The ten rules of operators that bind by precedence and the flat form derive the same tokens, with the same trees.
 pub fn same_texts()
@@ -31,4 +31,11 @@ pub fn first()
 /// What a text spells has the sizes of a formed module.
 pub fn sized()
     ensures { SpelledIsFormed }
+{}
+
+/// A text in full parentheses has no other meaning where operators bind by precedence: it spells no other module there,
+/// and its own where each of its expressions has at most 256 operators.
+pub fn parentheses_mean_the_same()
+    ensures no_other { SpellsNothingElse }
+    ensures its_own { SpellsItFreely }
 {}
