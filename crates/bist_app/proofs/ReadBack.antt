@@ -9,7 +9,7 @@ use Rattle.verilog_tree.specs.Fits.{fits, ports_fit, items_fit}
 use Rattle.march_core.specs.March.{MarchElement}
 use Rattle.memory_desc.specs.Descriptions.{Description}
 use Rattle.self_test.specs.SelfTest.{SelfTest}
-use Rattle.verilog_read.specs.declared.fault.ReadFault.{ReadFault}
+use Rattle.verilog_tree.specs.declared.fault.ReadFault.{ReadFault}
 use Rattle.verilog_tree.specs.declared.fault.TreeFault.{TreeFault}
 use Rattle.verilog_tree.specs.declared.fault.TreeFault.TheVariants as T
 use Rattle.verilog_tree.specs.Rules.{Break, first_break}

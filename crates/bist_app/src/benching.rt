@@ -6,7 +6,7 @@ ghost use Rattle.verilog_tree.specs.Plain.{ModuleTree, plain_module};
 ghost use Rattle.verilog_tree.specs.Rules.{first_break};
 ghost use Rattle.verilog_tree.specs.Formed.{formed};
 ghost use Rattle.verilog_tree.specs.Spells.{Spells};
-ghost use Rattle.verilog_read.specs.declared.fault.ReadFault.{ReadFault};
+ghost use Rattle.verilog_tree.specs.declared.fault.ReadFault.{ReadFault};
 ghost use Rattle.verilog_cycle.specs.Design.{IsNew, NoLoop, registers_of};
 ghost use Rattle.self_test.specs.SelfTest.{SelfTest};
 ghost use Rattle.word_device.specs.Ports.{shape_of as memory_shape};
@@ -26,8 +26,8 @@ use rtl_gen::generate;
 use std::alloc::Global;
 use verilog_cycle::{Design, elaborate};
 use verilog_emit::emit;
-use verilog_read::{ReadFault, read_module};
-use verilog_tree::{Module, TreeFault};
+use verilog_read::read_module;
+use verilog_tree::{Module, ReadFault, TreeFault};
 use word_device::Device;
 
 /// What is wanting where a text that spells a module isn't read: nothing but memory.

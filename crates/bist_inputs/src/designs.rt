@@ -2,7 +2,7 @@ ghost use Rattle.std.specs.Prelude.{◌≡◌, ◌<◌, ◌≤◌, ◌⊎◌, tr
 ghost use Rattle.bist_host.specs.Files.{Rose};
 ghost use Rattle.verilog_tree.specs.Plain.{plain_module};
 ghost use Rattle.verilog_tree.specs.Formed.{formed};
-ghost use Rattle.verilog_read.specs.Refusals.{IsFirst};
+ghost use Rattle.verilog_text.specs.Refusals.{IsFirst};
 ghost use Rattle.verilog_cycle.specs.Design.{IsNew};
 ghost use Rattle.bist_endings.specs.Words.{word};
 ghost use Rattle.bist_inputs.specs.Inputs.{HasReadCause, IsOwnRefusal};
@@ -13,8 +13,8 @@ use bist_endings::{Refusal, VerilogRefusal};
 use bist_host::Host;
 use std::alloc::Global;
 use verilog_cycle::{Design, elaborate};
-use verilog_read::{ReadFault, read_module};
-use verilog_tree::{Module, TreeFault};
+use verilog_read::read_module;
+use verilog_tree::{Module, ReadFault, TreeFault};
 
 /// Why a text is refused; want of memory is no refusal of a text.
 #[tactic(auto, unfolding(crate::specs::Designs::GivesTree))]

@@ -11,8 +11,8 @@ use std::alloc::{AllocError, Global};
 use std::process::ExitCode;
 use std::{env, io};
 use verilog_cycle::{Design, elaborate};
-use verilog_read::{ReadFault, read_module};
-use verilog_tree::{TreeFault, formed};
+use verilog_read::read_module;
+use verilog_tree::{ReadFault, TreeFault, formed};
 
 /// The most bytes of a module's text.
 const LIMIT: usize = 1 << 20;

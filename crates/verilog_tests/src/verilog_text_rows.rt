@@ -5,8 +5,8 @@ use bist_text::put;
 use std::alloc::Global;
 use std::test::Fail;
 use verilog_emit::emit;
-use verilog_read::{ReadFault, read_module};
-use verilog_tree::fits;
+use verilog_read::read_module;
+use verilog_tree::{ReadFault, fits};
 
 /// A text, and behind it a piece so many times, and then an end.
 fn repeated(
