@@ -1,6 +1,7 @@
-ghost use Rattle.std.specs.Prelude.{◌≢◌, None, IfErr};
+ghost use Rattle.std.specs.Prelude.{◌≡◌, ◌≢◌, ◌<◌, ◌≤◌, None, Err, IfOk, IfErr, IfSome, IsOk, IsTrue, MatchResult, length};
+ghost use Rattle.std.specs.Io.KnownBytes.{Appends, Consumes, IsAtEnd};
 ghost use Rattle.bist_host.specs.declared.host.HostFault.{HostFault};
-ghost use Rattle.bist_host.specs.Files.{IsReadFault, IsWriteFault};
+ghost use Rattle.bist_host.specs.Files.{IsReadFault, IsWriteFault, ReadGives, ReadRefused, WritesFile, WriteRefused, Says, SayRefused};
 
 use crate::host::{Host, HostFault};
 use std::alloc::Global;
@@ -37,7 +38,14 @@ impl<R: Files + Print + AllocGlobal + Drop> Host for RealHost<R> {
 
     ghost write_faults = { λ h. h.write_faults };
 
-    fn read_file(&mut self, name: &str, limit: usize) -> Result<Vec<u8>, HostFault> {
+    fn read_file(&mut self, name: &str, limit: usize) -> Result<Vec<u8>, HostFault>
+        ensures reads { self.old.read_faults ≤ self.new.read_faults }
+        ensures writes { self.new.write_faults ≡ self.old.write_faults }
+        ensures answer { MatchResult result
+            (λ bytes. ReadGives None name.now limit bytes.items)
+            (λ fault. ReadRefused None name.now limit fault self.old.read_faults self.new.read_faults) }
+        ensures kept { IsOk result → self.new.read_faults ≡ self.old.read_faults }
+    {
         match read_bytes(&self.rt, name, limit) {
             Ok(bytes) => Ok(bytes),
             Err(HostFault::NoMemory) => Err(HostFault::NoMemory),
@@ -48,7 +56,14 @@ impl<R: Files + Print + AllocGlobal + Drop> Host for RealHost<R> {
         }
     }
 
-    fn write_file(&mut self, name: &str, bytes: &[u8]) -> Result<(), HostFault> {
+    fn write_file(&mut self, name: &str, bytes: &[u8]) -> Result<(), HostFault>
+        ensures reads { self.new.read_faults ≡ self.old.read_faults }
+        ensures writes { self.old.write_faults ≤ self.new.write_faults }
+        ensures answer { MatchResult result
+            (λ _. WritesFile None None name.now bytes.now)
+            (λ fault. WriteRefused None None name.now fault self.old.write_faults self.new.write_faults) }
+        ensures kept { IsOk result → self.new.write_faults ≡ self.old.write_faults }
+    {
         match write_bytes(&self.rt, name, bytes) {
             Ok(()) => Ok(()),
             Err(HostFault::NoMemory) => Err(HostFault::NoMemory),
@@ -59,7 +74,14 @@ impl<R: Files + Print + AllocGlobal + Drop> Host for RealHost<R> {
         }
     }
 
-    fn say(&mut self, bytes: &[u8]) -> Result<(), HostFault> {
+    fn say(&mut self, bytes: &[u8]) -> Result<(), HostFault>
+        ensures reads { self.new.read_faults ≡ self.old.read_faults }
+        ensures writes { self.old.write_faults ≤ self.new.write_faults }
+        ensures answer { MatchResult result
+            (λ _. Says None None bytes.now)
+            (λ fault. SayRefused None None bytes.now fault self.old.write_faults self.new.write_faults) }
+        ensures kept { IsOk result → self.new.write_faults ≡ self.old.write_faults }
+    {
         if write_whole(&mut io::writer(&self.rt), bytes) {
             return Ok(());
         }
@@ -69,7 +91,9 @@ impl<R: Files + Print + AllocGlobal + Drop> Host for RealHost<R> {
 }
 
 /// Writes all bytes, piece by piece, or answers false. A write that takes nothing of a piece has failed.
-fn write_whole<W: Write>(writer: &mut W, bytes: &[u8]) -> bool {
+fn write_whole<W: Write>(writer: &mut W, bytes: &[u8]) -> bool
+    ensures { IsTrue result → Appends (W.contents writer.old) (W.contents writer.new) bytes.now }
+{
     let mut rest = bytes;
     for _ in 0..u64::MAX {
         if rest.is_empty() {
@@ -115,7 +139,8 @@ fn write_fault(error: &Error) -> HostFault
 
 /// Why a file couldn't be opened or read.
 fn read_fault(error: &Error) -> HostFault
-    ensures { IsReadFault result }
+    ensures fault { IsReadFault result }
+    ensures other { result ≢ HostFault.TooLarge }
 {
     match error.kind() {
         ErrorKind::NotFound => HostFault::Absent,
@@ -140,7 +165,11 @@ fn read_bytes<R: Files + AllocGlobal>(
 
 /// All bytes to the end, piece by piece, where there are at most `limit`.
 fn read_whole<F: Read>(alloc: Global, file: &mut F, limit: usize) -> Result<Vec<u8>, HostFault>
-    ensures { IfErr result IsReadFault }
+    ensures fault { IfErr result IsReadFault }
+    ensures bytes { IfOk result (λ bytes. Consumes (F.remaining file.old) (F.remaining file.new) bytes.items) }
+    ensures end { IfOk result (λ bytes. IsAtEnd (F.remaining file.new)) }
+    ensures within { IfOk result (λ bytes. length bytes.items ≤ limit) }
+    ensures too_large { result ≡ Err HostFault.TooLarge → IfSome (F.remaining file.old) (λ all. limit < length all) }
 {
     let mut bytes = Vec::new(alloc);
     let mut piece = [0u8; 4096];
