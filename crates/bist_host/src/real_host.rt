@@ -4,21 +4,26 @@ ghost use Rattle.bist_host.specs.declared.host.HostFault.{HostFault};
 ghost use Rattle.bist_host.specs.Files.{IsReadFault, IsWriteFault, ReadGives, ReadRefused, WritesFile, WriteRefused, Says, SayRefused};
 
 use crate::host::{Host, HostFault};
-use std::alloc::Global;
-use std::fs;
+use std::alloc::{AllocError, Global};
+use std::fs::{self, File, Metadata, OpenFile, OpenOptions, Permissions};
 use std::io::{self, Error, ErrorKind, Read, Write};
-use std::rt::Files;
+use std::os::unix::fs::MetadataExt;
+use std::rt::{Clock, Files};
 
 /// Real files and standard output, the trusted edge. It tells the contracts nothing of them, and counts each answer
 /// other than `Ok` and `NoMemory`. It takes different names for different files.
+///
+/// A regular file is written beside its place and renamed to it where it is whole, so that a run that is killed, or
+/// finds the disk full, leaves the old file. It keeps its permissions. What is no regular file, as a device, a pipe or a
+/// link, and a file that has other names too, is written where it is.
 #[derive(Drop)]
-pub struct RealHost<R: Files + Print + AllocGlobal + Drop> {
+pub struct RealHost<R: Files + Print + AllocGlobal + Clock + Drop> {
     rt: R,
     read_faults: u64,
     write_faults: u64,
 }
 
-impl<R: Files + Print + AllocGlobal + Drop> RealHost<R> {
+impl<R: Files + Print + AllocGlobal + Clock + Drop> RealHost<R> {
     /// The files that the runtime reaches, and its standard output.
     pub fn new(rt: R) -> Self {
         RealHost {
@@ -29,7 +34,7 @@ impl<R: Files + Print + AllocGlobal + Drop> RealHost<R> {
     }
 }
 
-impl<R: Files + Print + AllocGlobal + Drop> Host for RealHost<R> {
+impl<R: Files + Print + AllocGlobal + Clock + Drop> Host for RealHost<R> {
     ghost files = { λ h. None };
 
     ghost said = { λ h. None };
@@ -112,8 +117,33 @@ fn write_whole<W: Write>(writer: &mut W, bytes: &[u8]) -> bool
     false
 }
 
-/// Creates the file, or empties the one that is there, and writes it.
-fn write_bytes<R: Files>(rt: &R, name: &str, bytes: &[u8]) -> Result<(), HostFault>
+/// Writes a file: a regular one, or one that isn't there yet, whole or not at all.
+fn write_bytes<R: Files + AllocGlobal + Clock>(
+    rt: &R,
+    name: &str,
+    bytes: &[u8],
+) -> Result<(), HostFault>
+    ensures { IfErr result IsWriteFault }
+{
+    match fs::symlink_metadata(rt, name) {
+        Ok(there) => {
+            if is_replaceable(&there) {
+                return replace_file(rt, name, there.permissions(), bytes);
+            }
+            write_in_place(rt, name, bytes)
+        }
+        Err(error) if error.kind() == ErrorKind::NotFound => write_beside(rt, name, None, bytes),
+        Err(error) => Err(write_fault(&error)),
+    }
+}
+
+/// Whether a file may be renamed over: a link would be lost, and another name would keep the old bytes.
+fn is_replaceable(there: &Metadata) -> bool {
+    there.is_file() && there.nlink() == 1
+}
+
+/// Creates what the name leads to, or empties it, and writes it.
+fn write_in_place<R: Files>(rt: &R, name: &str, bytes: &[u8]) -> Result<(), HostFault>
     ensures { IfErr result IsWriteFault }
 {
     match fs::create(rt, name) {
@@ -124,6 +154,74 @@ fn write_bytes<R: Files>(rt: &R, name: &str, bytes: &[u8]) -> Result<(), HostFau
             Err(HostFault::WriteFailed)
         }
         Err(error) => Err(write_fault(&error)),
+    }
+}
+
+/// Replaces a regular file that may be written; to rename over it would not ask for that.
+fn replace_file<R: Files + AllocGlobal + Clock>(
+    rt: &R,
+    name: &str,
+    kept: Permissions,
+    bytes: &[u8],
+) -> Result<(), HostFault>
+    ensures { IfErr result IsWriteFault }
+{
+    match OpenOptions::new().write(true).open(rt, name) {
+        Ok(_) => write_beside(rt, name, Some(kept), bytes),
+        Err(error) => Err(write_fault(&error)),
+    }
+}
+
+/// Writes the bytes to a new file beside the name, and renames it to the name. Where that fails the new file is removed.
+fn write_beside<R: Files + AllocGlobal + Clock>(
+    rt: &R,
+    name: &str,
+    kept: Option<Permissions>,
+    bytes: &[u8],
+) -> Result<(), HostFault>
+    ensures { IfErr result IsWriteFault }
+{
+    let beside = name_beside(rt, name)?;
+    match File::create_new(rt, beside.as_str()) {
+        Ok(mut file) => {
+            if fill_new(&mut file, kept, bytes) && fs::rename(rt, beside.as_str(), name).is_ok() {
+                return Ok(());
+            }
+            let _ = fs::remove_file(rt, beside.as_str());
+            Err(HostFault::WriteFailed)
+        }
+        Err(error) => Err(write_fault(&error)),
+    }
+}
+
+/// Gives a new file its permissions, where some are kept, and then its bytes.
+fn fill_new<F: Write + OpenFile>(file: &mut F, kept: Option<Permissions>, bytes: &[u8]) -> bool {
+    if let Some(permissions) = kept {
+        if file.set_permissions(permissions).is_err() {
+            return false;
+        }
+    }
+    write_whole(file, bytes)
+}
+
+/// A name in the folder of this one that no word of the call is, since it is made from the time.
+fn name_beside<R: AllocGlobal + Clock>(rt: &R, name: &str) -> Result<String, HostFault>
+    ensures { IfErr result IsWriteFault }
+{
+    match rt.since_1970() {
+        Ok(time) => match dotted(rt.alloc(), name, time.as_nanos()) {
+            Ok(beside) => Ok(beside),
+            Err(AllocError) => Err(HostFault::NoMemory),
+        },
+        Err(error) => Err(write_fault(&error)),
+    }
+}
+
+/// The name of a hidden file with this number, in the folder of the name.
+fn dotted(alloc: Global, name: &str, number: u128) -> Result<String, AllocError> {
+    match name.rsplit_once('/') {
+        Some((folder, _)) => format!(in alloc; "{folder}/.vidlakost-{number}"),
+        None => format!(in alloc; ".vidlakost-{number}"),
     }
 }
 
