@@ -1,13 +1,9 @@
 -- Runs of steps, one part after another.
-use Rattle.std.proofs.Common.{◌≡◌, ℕ, ◌+◌, ◌<◌, ◌≤◌, Bool, true, false, cond, Option, Some, None, List, [], ◌∷◌, ◌++◌, length, drop, reverse, refl, ap, sym, ◌∙◌}
-use Rattle.std.proofs.lemmas.List.{drop_more, drop_all, length-reverse, map-append}
-use Rattle.std.proofs.lemmas.List.FromFn.{length-range_with_len}
-use Rattle.std.specs.List.{range_with_len}
+use Rattle.std.proofs.Common.{◌≡◌, ℕ, ◌+◌, ◌<◌, ◌≤◌, Bool, true, false, cond, Option, Some, None, List, [], ◌∷◌, ◌++◌, length, refl, ap, sym, ◌∙◌}
 use Rattle.fault_core.specs.declared.cells.Places.{Places}
 use Rattle.march_core.specs.declared.operation.Op.{Op}
-use Rattle.march_core.specs.March.{MarchElement, pause, element_at}
-use Rattle.march_core.specs.Visits.{MarchStep, pausing, visiting, Direction, Upward, Downward, cell_visits, address_visits, addresses, element_visits, direction_at, miss_at}
-use Rattle.march_core.proofs.Directions.{range_more}
+use Rattle.march_core.specs.March.{MarchElement, element_at}
+use Rattle.march_core.specs.Visits.{MarchStep, pausing, visiting, Direction, cell_visits, address_visits, element_visits, direction_at, miss_at}
 use Rattle.march_core.specs.declared.visit.Miss.{Miss}
 use Rattle.march_core.specs.Operation.{is_wrong_of}
 use Rattle.array_sim.specs.Run.{act_of}
