@@ -297,7 +297,8 @@ pub fn read_module(alloc: Global, bytes: &[u8]) -> Result<Module, ReadFault>
 /// Reads the text of a module whose operators bind by precedence. The first byte at which one of L1, L3, L4 and L5
 /// stands decides; L3 is also the first byte of the 257th operator of an expression that stands in no other.
 ///
-/// The time is linear in the text, and nothing recurses deeper than openings may be open at once, 64.
+/// The time is linear in the text, and the reader recurses no deeper than openings may be open at once, 64. Its tree
+/// may be deeper, 64 braces and 256 operators, and what walks it or drops it goes as deep.
 pub fn read_free(alloc: Global, bytes: &[u8]) -> Result<Module, ReadFault>
     // A text is read as the module that it spells, within all limits, unless memory runs out.
     ensures ok { IfOk result (λ m. FreelySpells bytes.now (plain_module m)) }

@@ -12,6 +12,8 @@ mod verilog_cycle_rows;
 #[cfg(test)]
 mod verilog_emit_rows;
 #[cfg(test)]
+mod verilog_free_rows;
+#[cfg(test)]
 mod verilog_rules;
 #[cfg(test)]
 mod verilog_text_rows;
