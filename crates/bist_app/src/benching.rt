@@ -1,6 +1,6 @@
 //! The self-test module against a box: the module is made, written, read back and run, and the line tells how it ended.
 
-ghost use Rattle.std.specs.Prelude.{◌≡◌, ◌⊎◌, ◌≤◌, ◌<◌, ◌++◌, ◌∷◌, [], Some, None, IsTrue, IfOk, OnOk, OnErr, codes, decimal, map, drop, vec_len};
+ghost use Rattle.std.specs.Prelude.{◌≡◌, ◌≤◌, ◌<◌, ◌++◌, ◌∷◌, [], Some, None, IsTrue, IfOk, IfSome, OnOk, OnErr, codes, decimal, map, drop, vec_len};
 ghost use Rattle.verilog_tree.specs.declared.fault.TreeFault.{TreeFault};
 ghost use Rattle.verilog_tree.specs.Plain.{ModuleTree, plain_module};
 ghost use Rattle.verilog_tree.specs.Rules.{first_break};
@@ -198,22 +198,26 @@ pub fn run_plan(
     }
 }
 
-/// Runs the self-test of the memory by the march against the first box, which is fitted and taken.
+/// Runs the self-test of the memory by the march against the first box, which is fitted and taken. Want of memory up to there leaves
+/// the list as it was; `None` is want of memory behind it.
 pub fn bench_first(
     alloc: Global,
     march: &March,
     memory: &Memory,
     devices: &mut Vec<Box<dyn Device>>,
-) -> Result<Plan, NoMemory>
+) -> Result<Option<Plan>, NoMemory>
     requires short { IsShort march.now memory.now }
     requires some { 0 < vec_len devices.old }
     requires room { FirstHasRoom memory.now.words (map (λ b. told (room_of b) (shape_of b) (tells b)) devices.old.items) }
     ensures taken { OnOk result (devices.new.items ≡ drop 1 devices.old.items) }
-    ensures kept { OnErr result ((map (λ b. told (room_of b) (shape_of b) (tells b)) devices.new.items ≡ map (λ b. told (room_of b) (shape_of b) (tells b)) devices.old.items) ⊎ (devices.new.items ≡ drop 1 devices.old.items)) }
-    ensures run { IfOk result (λ plan. (b : _) (rest : _) → devices.old.items ≡ b ∷ rest → IsRun march.now memory.now (ready memory.now (tells b)) (done_of plan)) }
-    ensures outputs { IfOk result (λ plan. (done_of plan).outputs ≡ []) }
+    ensures kept { OnErr result (map (λ b. told (room_of b) (shape_of b) (tells b)) devices.new.items ≡ map (λ b. told (room_of b) (shape_of b) (tells b)) devices.old.items) }
+    ensures run { IfOk result (λ ended. IfSome ended (λ plan. (b : _) (rest : _) → devices.old.items ≡ b ∷ rest → IsRun march.now memory.now (ready memory.now (tells b)) (done_of plan))) }
+    ensures outputs { IfOk result (λ ended. IfSome ended (λ plan. (done_of plan).outputs ≡ [])) }
 {
     let mut design = self_test_design(alloc, march, memory)?;
     let device = take_first(devices, memory)?;
-    run_plan(alloc, &mut design, march, memory, device)
+    match run_plan(alloc, &mut design, march, memory, device) {
+        Ok(plan) => Ok(Some(plan)),
+        Err(NoMemory) => Ok(None),
+    }
 }
