@@ -10,3 +10,4 @@ pub mod Piece
 pub mod Lexed
 pub mod Unique
 pub mod Settled
+pub mod KeywordLaws

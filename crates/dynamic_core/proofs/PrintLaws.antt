@@ -13,14 +13,13 @@ use Rattle.fault_core.specs.declared.primitive.Act.{Act}
 use Rattle.fault_core.specs.declared.primitive.Act.TheVariants.{Write as Writes, Read as Reads, Pause as Pauses}
 use Rattle.fault_syntax.specs.declared.words.Operation.{Operation}
 use Rattle.fault_syntax.specs.declared.words.Operation.TheVariants.{Write, Read, Pause}
-use Rattle.fault_syntax.specs.ListText.{Primitive, line_end}
+use Rattle.fault_syntax.specs.ListText.{Primitive, line_end, ItemLine}
 use Rattle.fault_syntax.specs.Parts.{IsAct}
 use Rattle.fault_syntax.specs.Printed.{act_text}
 use Rattle.fault_syntax.specs.PrimText.{SenseText, PrimParts, ws, bit_text, answer_text, op, more_ops, sense, senses, effect}
 use Rattle.dynamic_core.specs.declared.item.Item.TheVariants.{Dyn}
 use Rattle.dynamic_core.specs.ItemParts.{AreActs, IsDynamicAggressor, StandsForDynamic}
 use Rattle.dynamic_core.specs.Items.{BringAll, ReadsItems}
-use Rattle.dynamic_core.specs.ItemText.{Listed, ItemLine}
 use Rattle.dynamic_core.specs.Primitive.{TwoActs, DynamicSense, DynamicPrimitive, IsDynamic, left_by}
 use Rattle.dynamic_core.specs.Printed.{acts_text, dynamic_sense_text, dynamic_aggressor_text, printed_dynamic}
 use Rattle.dynamic_core.proofs.Parts.{parts_pass, dynamic_passes}
@@ -105,9 +104,9 @@ effect_on p K h =
 printed_is : (p : DynamicPrimitive) → printed_dynamic p ≡ 60 ∷ (dynamic_aggressor_text p.agg ++ (dynamic_sense_text p.vic ++ ending p))
 printed_is p = simp append_assoc
 
-pub printed_line : (p : DynamicPrimitive) → ItemLine (printed_dynamic p) (Some (Listed (Primitive (parts p))))
+pub printed_line : (p : DynamicPrimitive) → ItemLine (printed_dynamic p) (Some (Primitive (parts p)))
 printed_line p =
-    subst (λ b. ItemLine b (Some (Listed (Primitive (parts p))))) (sym (printed_is p))
+    subst (λ b. ItemLine b (Some (Primitive (parts p)))) (sym (printed_is p))
     (inl (many_none is_blank (senses (written_agg p.agg) (written p.vic) (effect (parts p) (ws line_end)))
     (dynamic_aggressor_text p.agg ++ (dynamic_sense_text p.vic ++ ending p))
     (senses_on p.agg p.vic (effect (parts p) (ws line_end)) (ending p) (effect_on p (ws line_end) (inl tt)))))
@@ -138,5 +137,5 @@ one_line p is =
 pub printed_list : (p : DynamicPrimitive) → IsDynamic p → ReadsItems (printed_dynamic p) (Ok (Dyn p ∷ []))
 printed_list p is =
     let here : BringAll (line_of (printed_dynamic p) ∷ []) (Dyn p ∷ []) =
-    (Some (Listed (Primitive (parts p))), Dyn p ∷ [], [], printed_line p, (Dyn p, (parts_stand p, is), refl), refl, refl) in
+    (Some (Primitive (parts p)), Dyn p ∷ [], [], printed_line p, (Dyn p, (parts_stand p, is), refl), refl, refl) in
     (subst (λ (ls : List TextLine). BringAll ls (Dyn p ∷ [])) (sym (one_line p is)) here, omega arith)

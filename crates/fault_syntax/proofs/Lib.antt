@@ -7,6 +7,6 @@ mod PrintLaws
 pub mod LineByLine
 pub mod Appending
 pub mod PassedOn
-mod ListReads
+pub mod LineExact
 pub mod ListExact
 pub mod OneOutcome

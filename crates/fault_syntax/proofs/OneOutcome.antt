@@ -9,6 +9,7 @@ use Rattle.fault_syntax.specs.declared.fault.FaultFault.TheVariants.{Unexpected,
 use Rattle.fault_syntax.specs.Answers.{RefusesAt, JudgesAt, GivesPrim, ReadsPrim}
 use Rattle.fault_syntax.specs.ListText.{Item, Primitive as OnePrimitive, Named}
 use Rattle.fault_syntax.specs.Parts.{StandsFor}
+use Rattle.fault_syntax.specs.declared.words.Form.TheVariants.{Single}
 use Rattle.fault_syntax.specs.Places.{start, step, value, rest}
 use Rattle.fault_syntax.specs.PrimText.{PrimParts, PrimText}
 use Rattle.fault_syntax.proofs.Judging.{stands_one, one_operation}
@@ -83,7 +84,7 @@ gives_one (read (Some (OnePrimitive text))) q r h i = judges_one 1 text q r h i
 gives_one (read (Some (Named n))) q r h i = absurd h
 
 alone_one : (b : List ℕ) (o p : Outcome (Option Item)) → Answers Alone b o → Answers Alone b p → o ≡ p
-alone_one b o p h k = answers_one (step false) (value false) (rest false) (λ s. Unit {0}) (follows false) Alone start tt alone_is b o p h k
+alone_one b o p h k = answers_one (step Single) (value Single) (rest Single) (λ s. Unit {0}) (follows Single) Alone start tt alone_is b o p h k
 
 -- what the bytes are read as is what their outcome gives
 outcome_of : (b : List ℕ) (r : Result Primitive FaultFault) → ReadsPrim b r → (o : Outcome (Option Item)) × Answers Alone b o × GivesPrim o r

@@ -1,35 +1,35 @@
 use Rattle.std.proofs.Common.{map, refl, sym, ap, ◌∙◌}
 use Rattle.fault_core.specs.Table.{two_cell_table}
-use Rattle.fault_syntax.specs.Parts.{primitives_of}
 use Rattle.fault_syntax.proofs.Appending.{same_added, same_refused, both_added, first_refused, second_refused}
 use Rattle.fault_syntax.proofs.PassedOn.{passed_on}
 use Rattle.dynamic_core.specs.declared.item.Item.TheVariants.{Plain}
+use Rattle.dynamic_core.specs.ItemParts.{items_of}
 use Rattle.dynamic_core.proofs.ListReads.{all_plain}
 use Rattle.dynamic_core.proofs.list.append_named.Goals as goal
 
 pub returns-in-OfClass-clause-ok : goal.returns-in-OfClass-clause-ok
 returns-in-OfClass-clause-ok c =
-    same_added c.append_plain.result c.args.items.now.items c.append_plain.new.items.items _ _ (ap (map Plain) (c.as_slice.ensures.value ∙ c.members.ensures ∙ ap primitives_of (sym c.in-OfClass.is))) c.append_plain.ensures.ok
+    same_added c.append_plain.result c.args.items.now.items c.append_plain.new.items.items _ _ (ap (map Plain) (c.as_slice.ensures.value ∙ c.members.ensures) ∙ ap items_of (sym c.in-OfClass.is)) c.append_plain.ensures.ok
 
 pub returns-in-OfClass-clause-err : goal.returns-in-OfClass-clause-err
 returns-in-OfClass-clause-err c =
-    same_refused c.append_plain.result c.args.items.now.items _ _ c.args.line (ap (map Plain) (c.as_slice.ensures.value ∙ c.members.ensures ∙ ap primitives_of (sym c.in-OfClass.is))) c.append_plain.ensures.err
+    same_refused c.append_plain.result c.args.items.now.items _ _ c.args.line (ap (map Plain) (c.as_slice.ensures.value ∙ c.members.ensures) ∙ ap items_of (sym c.in-OfClass.is)) c.append_plain.ensures.err
 
 pub returns-in-One-clause-ok : goal.returns-in-One-clause-ok
 returns-in-One-clause-ok c =
-    same_added c.append_plain-in-One.result c.args.items.now.items c.append_plain-in-One.new.items.items _ _ (ap (map Plain) (c.one_cell.ensures.rows ∙ ap primitives_of (sym c.in-One.is))) c.append_plain-in-One.ensures.ok
+    same_added c.append_plain-in-One.result c.args.items.now.items c.append_plain-in-One.new.items.items _ _ (ap (map Plain) c.one_cell.ensures.rows ∙ ap items_of (sym c.in-One.is)) c.append_plain-in-One.ensures.ok
 
 pub returns-in-One-clause-err : goal.returns-in-One-clause-err
 returns-in-One-clause-err c =
-    same_refused c.append_plain-in-One.result c.args.items.now.items _ _ c.args.line (ap (map Plain) (c.one_cell.ensures.rows ∙ ap primitives_of (sym c.in-One.is))) c.append_plain-in-One.ensures.err
+    same_refused c.append_plain-in-One.result c.args.items.now.items _ _ c.args.line (ap (map Plain) c.one_cell.ensures.rows ∙ ap items_of (sym c.in-One.is)) c.append_plain-in-One.ensures.err
 
 pub returns-in-Two-clause-ok : goal.returns-in-Two-clause-ok
 returns-in-Two-clause-ok c =
-    same_added c.append_plain-in-Two.result c.args.items.now.items c.append_plain-in-Two.new.items.items _ _ (ap (map Plain) (c.two_cell.ensures.rows ∙ ap primitives_of (sym c.in-Two.is))) c.append_plain-in-Two.ensures.ok
+    same_added c.append_plain-in-Two.result c.args.items.now.items c.append_plain-in-Two.new.items.items _ _ (ap (map Plain) c.two_cell.ensures.rows ∙ ap items_of (sym c.in-Two.is)) c.append_plain-in-Two.ensures.ok
 
 pub returns-in-Two-clause-err : goal.returns-in-Two-clause-err
 returns-in-Two-clause-err c =
-    same_refused c.append_plain-in-Two.result c.args.items.now.items _ _ c.args.line (ap (map Plain) (c.two_cell.ensures.rows ∙ ap primitives_of (sym c.in-Two.is))) c.append_plain-in-Two.ensures.err
+    same_refused c.append_plain-in-Two.result c.args.items.now.items _ _ c.args.line (ap (map Plain) c.two_cell.ensures.rows ∙ ap items_of (sym c.in-Two.is)) c.append_plain-in-Two.ensures.err
 
 pub returns-in_err-append_plain-in-All-clause-err : goal.returns-in_err-append_plain-in-All-clause-err
 returns-in_err-append_plain-in-All-clause-err c =
