@@ -14,7 +14,7 @@ use Rattle.bist_text.specs.Grammar.{word, when, one_of, are_bytes}
 use Rattle.bist_text.specs.Keywords.{Word, stands, front_of, letters_of, goes_on, spelled_as, seek, spell, left, begins, is_written, is_apart, are_apart, words_for, named_words}
 use Rattle.bist_text.specs.Machine.{Holds}
 use Rattle.bist_text.proofs.Bytes.{are_bytes-drop}
-use Rattle.bist_text.proofs.Exclusive.{split_at}
+use Rattle.bist_text.proofs.Settled.{split_at}
 use Rattle.bist_text.proofs.Pieces.{word_on, never}
 
 -- ---- one of the words, word by word

@@ -3,7 +3,6 @@ pub mod Powers
 pub mod Runs
 pub mod LineLemmas
 pub mod Machine
-pub mod Exclusive
 pub mod Pieces
 pub mod Loops
 pub mod Piece

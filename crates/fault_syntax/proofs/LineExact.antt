@@ -1,9 +1,7 @@
 -- What is said of a line's bytes.
 use Rattle.std.proofs.Common.{◌≡◌, ℕ, true, List, Option, Result, refl, sym, subst}
-use Rattle.bist_text.specs.Grammar.{are_bytes}
 use Rattle.bist_text.specs.Machine.{Outcome, read, unexpected, truncated, scan, IsExact, Answers}
-use Rattle.bist_text.proofs.Exclusive.{scan_exact}
-use Rattle.bist_text.proofs.Settled.{answers_one}
+use Rattle.bist_text.proofs.Settled.{answers_one, scan_exact}
 use Rattle.fault_syntax.specs.declared.reader.ReadItem.{ReadItem}
 use Rattle.fault_syntax.specs.declared.reader.Refusal.{Refusal}
 use Rattle.fault_syntax.specs.declared.words.Form.TheVariants.{Listed}
@@ -15,12 +13,12 @@ use Rattle.fault_syntax.specs.Places.{start, step, value, rest}
 use Rattle.fault_syntax.proofs.PlaceLaws.{follows, line_is}
 
 module _ (set : NameSet) where
-  line_exact : (b : List ℕ) → are_bytes b ≡ true → IsExact (LineOf set) b (scan (step (Listed set)) (value (Listed set)) b start 0)
-  line_exact b w =
-      scan_exact (step (Listed set)) (value (Listed set)) (rest (Listed set)) (λ s. Unit {0}) (follows (Listed set)) (LineOf set) start tt (line_is set) b w
+  line_exact : (b : List ℕ) → IsExact (LineOf set) b (scan (step (Listed set)) (value (Listed set)) b start 0)
+  line_exact b =
+      scan_exact (step (Listed set)) (value (Listed set)) (rest (Listed set)) (λ s. Unit {0}) (follows (Listed set)) (LineOf set) start tt (line_is set) b
 
-  pub says : (b : List ℕ) (r : Result ReadItem Refusal) → are_bytes b ≡ true → r ≡ answer_of (scan (step (Listed set)) (value (Listed set)) b start 0) → Says set b r
-  says b r w e = subst (Says set b) (sym e) (go (scan (step (Listed set)) (value (Listed set)) b start 0) (line_exact b w))
+  pub says : (b : List ℕ) (r : Result ReadItem Refusal) → r ≡ answer_of (scan (step (Listed set)) (value (Listed set)) b start 0) → Says set b r
+  says b r e = subst (Says set b) (sym e) (go (scan (step (Listed set)) (value (Listed set)) b start 0) (line_exact b))
     where
       go : (o : Outcome (Option Item)) → IsExact (LineOf set) b o → Says set b (answer_of o)
       go (read v) x = (v, (x.reads v).0 refl, refl)

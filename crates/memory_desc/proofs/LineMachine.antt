@@ -9,7 +9,7 @@ use Rattle.bist_text.specs.Machine.{Follows, scan, IsExact}
 use Rattle.bist_text.proofs.Pieces.{same, never, neither, word_on}
 use Rattle.bist_text.proofs.Bytes.{are_bytes-append}
 use Rattle.bist_text.proofs.KeywordLaws.{spell_ends, spell_alive}
-use Rattle.bist_text.proofs.Exclusive.{scan_exact}
+use Rattle.bist_text.proofs.Settled.{scan_exact}
 use Rattle.memory_desc.specs.Names.{is_digit}
 use Rattle.memory_desc.specs.declared.line_place.Key.{Key}
 use Rattle.memory_desc.specs.declared.line_place.Key.TheVariants.{Memory, Name, Words, Bits, Latency, Polarity, Pause, Scramble, Backgrounds}
@@ -201,5 +201,5 @@ follows = record {
 }
 
 -- From each place on a line is read exactly as what may follow there says.
-pub line_exact : (p : Place) (b : List ℕ) → are_bytes b ≡ true → IsExact (rest p) b (scan step value b p 0)
-line_exact p b w = scan_exact step value rest (λ p. Unit {0}) follows (rest p) p tt (λ x v. same) b w
+pub line_exact : (p : Place) (b : List ℕ) → IsExact (rest p) b (scan step value b p 0)
+line_exact p b = scan_exact step value rest (λ p. Unit {0}) follows (rest p) p tt (λ x v. same) b
