@@ -11,19 +11,19 @@ use Rattle.bist_text.specs.declared.keywords.Letters.{Letters}
 use Rattle.bist_text.specs.declared.keywords.Spelled.{Spelled}
 use Rattle.bist_text.specs.declared.keywords.Spelled.TheVariants.{More, Whole}
 use Rattle.bist_text.specs.Grammar.{word, when, one_of, are_bytes}
-use Rattle.bist_text.specs.Keywords.{Word, stands, front_of, letters_of, goes_on, spelled_as, seek, spell, left, begins, is_written, is_apart, are_apart, words_for, named_words}
+use Rattle.bist_text.specs.Keywords.{Word, stands, front_of, letters_of, goes_on, spelled_as, seek, spell, left, begins, is_written, is_apart, are_apart, words_for, all_words}
 use Rattle.bist_text.specs.Machine.{Holds}
 use Rattle.bist_text.proofs.Bytes.{are_bytes-drop}
 use Rattle.bist_text.proofs.Settled.{split_at}
-use Rattle.bist_text.proofs.Pieces.{word_on, never}
+use Rattle.bist_text.proofs.Pieces.{also, word_on, never}
 
 -- ---- one of the words, word by word
 
-abbrev pub among : {N : Type 0} → List (Word N) → N → (List ℕ → Type 0) → List ℕ → Type 0
+abbrev among : {N : Type 0} → List (Word N) → N → (List ℕ → Type 0) → List ℕ → Type 0
 among [] v K b = ⊥
 among (w ∷ ws) v K b = ((v ≡ w.value) × word w.text K b) ⊎ among ws v K b
 
-pub stands_among : {N : Type 0} (ws : List (Word N)) (v : N) (K : List ℕ → Type 0) (b : List ℕ) → stands ws v K b ↔ among ws v K b
+stands_among : {N : Type 0} (ws : List (Word N)) (v : N) (K : List ℕ → Type 0) (b : List ℕ) → stands ws v K b ↔ among ws v K b
 stands_among {N} ws v K b = (λ h. to ws h.0 h.1 h.2 (h.3, h.4), from ws)
   where
     is_head : (x w : Word N) → Some x ≡ Some w → w ≡ x
@@ -39,7 +39,7 @@ stands_among {N} ws v K b = (λ h. to ws h.0 h.1 h.2 (h.3, h.4), from ws)
     from (x ∷ ws) h = elim h [ inl z ↦ (0, x, refl, z.0, z.1) | inr z ↦ (let s = from ws z in (suc s.0, s.1, s.2, s.3, s.4)) ]
 
 -- of two tables, and of several texts that stand for one thing
-pub among_append : {N : Type 0} (xs ys : List (Word N)) (v : N) (K : List ℕ → Type 0) (b : List ℕ) → among (xs ++ ys) v K b ↔ (among xs v K b ⊎ among ys v K b)
+among_append : {N : Type 0} (xs ys : List (Word N)) (v : N) (K : List ℕ → Type 0) (b : List ℕ) → among (xs ++ ys) v K b ↔ (among xs v K b ⊎ among ys v K b)
 among_append [] ys v K b = (inr, elim [ inl z ↦ absurd z | inr z ↦ z ])
 among_append (x ∷ xs) ys v K b =
     let more = among_append xs ys v K b in (
@@ -47,7 +47,7 @@ among_append (x ∷ xs) ys v K b =
       elim [ inl z ↦ elim z [ inl y ↦ inl y | inr y ↦ inr (more.1 (inl y)) ] | inr z ↦ inr (more.1 (inr z)) ],
     )
 
-pub among_texts : {N : Type 0} (n : N) (ts : List (List ℕ)) (v : N) (K : List ℕ → Type 0) (b : List ℕ) → among (words_for n ts) v K b ↔ ((v ≡ n) × one_of ts K b)
+among_texts : {N : Type 0} (n : N) (ts : List (List ℕ)) (v : N) (K : List ℕ → Type 0) (b : List ℕ) → among (words_for n ts) v K b ↔ ((v ≡ n) × one_of ts K b)
 among_texts n [] v K b = never (λ h. h) (λ h. h.1)
 among_texts n (t ∷ ts) v K b =
     let more = among_texts n ts v K b in (
@@ -55,31 +55,35 @@ among_texts n (t ∷ ts) v K b =
       λ h. elim h.1 [ inl z ↦ inl (h.0, z) | inr z ↦ inr (more.1 (h.0, z)) ],
     )
 
--- of a table with one word for each thing
-module _ {N : Type 0} (text : N → List ℕ) where
-  word_at : (ns : List N) (i : ℕ) (n : N) → slice_get ns i ≡ Some n → slice_get (named_words text ns) i ≡ Some (record { text = text n; value = n })
-  word_at [] i n e = cc
-  word_at (m ∷ ns) zero n e = let same : m ≡ n = cc in ap (λ k. Some (record { text = text k; value = k })) same
-  word_at (m ∷ ns) (suc i) n e = word_at ns i n e
+-- a thing is one of these
+abbrev pub IsOf : {N : Type 0} → List N → N → Type 0
+IsOf [] v = ⊥
+IsOf (n ∷ ns) v = (v ≡ n) ⊎ IsOf ns v
 
-  -- the word at a place is that of a thing that passes a test which all pass
-  named_at : (p : N → Bool) (ns : List N) → list_all p ns ≡ true → (i : ℕ) (w : Word N) → slice_get (named_words text ns) i ≡ Some w → (w.text ≡ text w.value) × (p w.value ≡ true)
-  named_at p [] h i w e = cc
-  named_at p (m ∷ ns) h zero w e =
-      let same = is_head e in
-      (subst (λ (x : Word N). x.text ≡ text x.value) same refl, subst (λ (x : Word N). p x.value ≡ true) same (and_parts (p m) (list_all p ns) h).0)
-    where
-      is_head : (let x : Word N = record { text = text m; value = m } in Some x ≡ Some w) → (let x : Word N = record { text = text m; value = m } in x ≡ w)
-      is_head e = cc
-  named_at p (m ∷ ns) h (suc i) w e = named_at p ns (and_parts (p m) (list_all p ns) h).1 i w e
+pub is_at : {N : Type 0} (ns : List N) (i : ℕ) (n : N) → slice_get ns i ≡ Some n → IsOf ns n
+is_at [] i n e = cc
+is_at (m ∷ ns) zero n e = inl (let same : m ≡ n = cc in sym same)
+is_at (m ∷ ns) (suc i) n e = inr (is_at ns i n e)
 
-  pub stands_named : (p : N → Bool) (ns : List N) → list_all p ns ≡ true → ((n : N) → p n ≡ true → (i : ℕ) × (slice_get ns i ≡ Some n))
-      → (n : N) (K : List ℕ → Type 0) (b : List ℕ) → stands (named_words text ns) n K b ↔ ((p n ≡ true) × word (text n) K b)
-  stands_named p ns all at n K b = (
-    (λ h. let w = named_at p ns all h.0 h.1 h.2 in
-        (subst (λ m. p m ≡ true) (sym h.3) w.1, subst (λ m. word (text m) K b) (sym h.3) (subst (λ t. word t K b) w.0 h.4))),
-    λ h. let i = at n h.0 in (i.0, record { text = text n; value = n }, word_at ns i.0 n i.1, refl, h.1),
-  )
+pub is_passed : {N : Type 0} (p : N → Bool) (ns : List N) (n : N) → list_all p ns ≡ true → IsOf ns n → p n ≡ true
+is_passed p [] n h i = absurd i
+is_passed p (m ∷ ns) n h i = let parts = and_parts (p m) (list_all p ns) h in elim i [ inl e ↦ ap p e ∙ parts.0 | inr k ↦ is_passed p ns n parts.1 k ]
+
+pub stands_all : {N : Type 0} (texts : N → List (List ℕ)) (ns : List N) (v : N) (K : List ℕ → Type 0) (b : List ℕ) → stands (all_words texts ns) v K b ↔ (IsOf ns v × one_of (texts v) K b)
+stands_all {N} texts ns v K b = also (stands_among (all_words texts ns) v K b) (go ns)
+  where
+    go : (ns : List N) → among (all_words texts ns) v K b ↔ (IsOf ns v × one_of (texts v) K b)
+    go [] = never (λ h. h) (λ h. h.0)
+    go (n ∷ ns) =
+        let parts = among_append (words_for n (texts n)) (all_words texts ns) v K b in
+        let first = among_texts n (texts n) v K b in
+        let others = go ns in (
+          λ h. elim (parts.0 h) [
+            | inl z ↦ (let f = first.0 z in (inl f.0, subst (λ m. one_of (texts m) K b) (sym f.0) f.1))
+            | inr z ↦ (let o = others.0 z in (inr o.0, o.1))
+          ],
+          λ h. parts.1 (elim h.0 [ inl e ↦ inl (first.1 (e, subst (λ m. one_of (texts m) K b) e h.1)) | inr k ↦ inr (others.1 (k, h.1)) ]),
+        )
 
 -- ---- texts that begin others
 

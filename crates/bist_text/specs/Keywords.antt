@@ -21,10 +21,10 @@ abbrev pub words_for : {N : Type 0} → N → List (List ℕ) → List (Word N)
 words_for n [] = []
 words_for n (t ∷ ts) = record { text = t; value = n } ∷ words_for n ts
 
--- a word for each thing
-abbrev pub named_words : {N : Type 0} → (N → List ℕ) → List N → List (Word N)
-named_words text [] = []
-named_words text (n ∷ ns) = record { text = text n; value = n } ∷ named_words text ns
+-- the words of several things
+abbrev pub all_words : {N : Type 0} → (N → List (List ℕ)) → List N → List (Word N)
+all_words texts [] = []
+all_words texts (n ∷ ns) = words_for n (texts n) ++ all_words texts ns
 
 -- one of the words that stand for v
 abbrev pub stands : {N : Type 0} → List (Word N) → N → (List ℕ → Type 0) → List ℕ → Type 0

@@ -1,6 +1,6 @@
 -- The names of a list: of a class, and the words for several.
 use Rattle.std.specs.Prelude.{◌≡◌, ℕ, Bool, true, false, List, [], ◌∷◌, ◌++◌, codes}
-use Rattle.bist_text.specs.Keywords.{Word, named_words}
+use Rattle.bist_text.specs.Keywords.{Word, all_words}
 use Rattle.fault_core.specs.declared.table.Class.{Class}
 use Rattle.fault_core.specs.declared.table.Class.TheVariants.{SF, TF, WDF, RDF, DRDF, IRF, CFst, CFds, CFtr, CFwd, CFrd, CFdr, CFir, DRF}
 use Rattle.fault_syntax.specs.declared.words.Form.{Form}
@@ -54,4 +54,4 @@ names_of (Listed Every) = static_names ++ DynOne ∷ DynTwo ∷ []
 names_of form = static_names
 
 abbrev pub words_of : Form → List (Word Name)
-words_of form = named_words name_text (names_of form)
+words_of form = all_words (λ n. name_text n ∷ []) (names_of form)

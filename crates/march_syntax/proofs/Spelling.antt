@@ -4,52 +4,26 @@ use Rattle.bist_text.specs.declared.keywords.Letters.{Letters}
 use Rattle.bist_text.specs.Grammar.{one_of, are_bytes}
 use Rattle.bist_text.specs.Keywords.{stands, letters_of, are_apart}
 use Rattle.bist_text.proofs.Bytes.{are_bytes-append}
-use Rattle.bist_text.proofs.KeywordLaws.{among, stands_among, among_append, among_texts, spell_alive}
-use Rattle.bist_text.proofs.Pieces.{also, back, either_iff}
+use Rattle.bist_text.proofs.KeywordLaws.{IsOf, stands_all, spell_alive}
 use Rattle.march_core.specs.declared.operation.Order.TheVariants.{Up, Down, Any}
 use Rattle.march_core.specs.declared.operation.Op.TheVariants.{W0}
 use Rattle.march_core.specs.March.{MarchElement, pause, sweep}
 use Rattle.march_syntax.specs.declared.place.Mark.{Mark}
 use Rattle.march_syntax.specs.declared.place.Mark.TheVariants.{OfOrder, OfPause}
 use Rattle.march_syntax.specs.MarchText.{element, body}
-use Rattle.march_syntax.specs.Places.{texts, marked, marks, mark_of, behind}
+use Rattle.march_syntax.specs.Places.{texts, all_marks, marks, mark_of, behind}
 
 pub fine : are_apart marks ≡ true
 fine = refl
 
--- a mark is one of all
-abbrev Is : Mark → Mark → (List ℕ → Type 0) → List ℕ → Type 0
-Is n v K b = (v ≡ n) × one_of (texts n) K b
+is_mark : (m : Mark) → IsOf all_marks m
+is_mark (OfOrder Up) = inl refl
+is_mark (OfOrder Down) = inr (inl refl)
+is_mark (OfOrder Any) = inr (inr (inl refl))
+is_mark OfPause = inr (inr (inr (inl refl)))
 
-abbrev IsOne : Mark → (List ℕ → Type 0) → List ℕ → Type 0
-IsOne v K b = Is (OfOrder Up) v K b ⊎ (Is (OfOrder Down) v K b ⊎ (Is (OfOrder Any) v K b ⊎ Is OfPause v K b))
-
-spelled_one : (v : Mark) (K : List ℕ → Type 0) (b : List ℕ) → one_of (texts v) K b ↔ IsOne v K b
-spelled_one v K b = (
-  to v,
-  elim [ inl z ↦ from (OfOrder Up) z | inr z ↦ elim z [ inl z ↦ from (OfOrder Down) z | inr z ↦ elim z [ inl z ↦ from (OfOrder Any) z | inr z ↦ from OfPause z ] ] ],
-)
-  where
-    to : (v : Mark) → one_of (texts v) K b → IsOne v K b
-    to (OfOrder Up) h = inl (refl, h)
-    to (OfOrder Down) h = inr (inl (refl, h))
-    to (OfOrder Any) h = inr (inr (inl (refl, h)))
-    to OfPause h = inr (inr (inr (refl, h)))
-
-    from : (n : Mark) → Is n v K b → one_of (texts v) K b
-    from n h = subst (λ m. one_of (texts m) K b) (sym h.0) h.1
-
-among_one : (v : Mark) (K : List ℕ → Type 0) (b : List ℕ) → among marks v K b ↔ IsOne v K b
-among_one v K b =
-    also (among_append (marked (OfOrder Up)) (marked (OfOrder Down) ++ (marked (OfOrder Any) ++ marked OfPause)) v K b)
-    (either_iff (among_texts (OfOrder Up) (texts (OfOrder Up)) v K b)
-    (also (among_append (marked (OfOrder Down)) (marked (OfOrder Any) ++ marked OfPause) v K b)
-    (either_iff (among_texts (OfOrder Down) (texts (OfOrder Down)) v K b)
-    (also (among_append (marked (OfOrder Any)) (marked OfPause) v K b)
-    (either_iff (among_texts (OfOrder Any) (texts (OfOrder Any)) v K b) (among_texts OfPause (texts OfPause) v K b))))))
-
-spelled : (v : Mark) (K : List ℕ → Type 0) (b : List ℕ) → one_of (texts v) K b ↔ stands marks v K b
-spelled v K b = also (spelled_one v K b) (also (back (among_one v K b)) (back (stands_among marks v K b)))
+spelled : (m : Mark) (K : List ℕ → Type 0) (b : List ℕ) → one_of (texts m) K b ↔ stands marks m K b
+spelled m K b = let all = stands_all texts all_marks m K b in (λ h. all.1 (is_mark m, h), λ h. (all.0 h).1)
 
 -- an element begins with its mark
 pub element_is : (e : MarchElement) (K : List ℕ → Type 0) (b : List ℕ) → element e K b ↔ stands marks (mark_of e) (behind e K) b

@@ -4,7 +4,7 @@ use Rattle.std.specs.Prelude.{◌≡◌, ℕ, ◌&&◌, ◌==◌, Bool, true, fa
 use Rattle.bist_text.specs.declared.keywords.Spelled.{Spelled}
 use Rattle.bist_text.specs.declared.keywords.Spelled.TheVariants.{More, Whole}
 use Rattle.bist_text.specs.Grammar.{finish, word}
-use Rattle.bist_text.specs.Keywords.{Word, words_for, stands, letters_of, seek, spell}
+use Rattle.bist_text.specs.Keywords.{Word, all_words, stands, letters_of, seek, spell}
 use Rattle.bist_text.specs.Machine.{Grows}
 use Rattle.march_core.specs.declared.operation.Order.{Order}
 use Rattle.march_core.specs.declared.operation.Order.TheVariants.{Up, Down, Any}
@@ -29,11 +29,11 @@ abbrev pub texts : Mark → List (List ℕ)
 texts (OfOrder o) = spellings o
 texts OfPause = pause_spellings
 
-abbrev pub marked : Mark → List (Word Mark)
-marked m = words_for m (texts m)
+abbrev pub all_marks : List Mark
+all_marks = OfOrder Up ∷ OfOrder Down ∷ OfOrder Any ∷ OfPause ∷ []
 
 abbrev pub marks : List (Word Mark)
-marks = marked (OfOrder Up) ++ (marked (OfOrder Down) ++ (marked (OfOrder Any) ++ marked OfPause))
+marks = all_words texts all_marks
 
 -- a place, and what a byte adds
 abbrev pub move : Place → Bool → Event → Option Move

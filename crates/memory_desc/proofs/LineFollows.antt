@@ -8,8 +8,8 @@ use Rattle.bist_text.specs.declared.keywords.Spelled.TheVariants.{More, Whole}
 use Rattle.bist_text.specs.Grammar.{word, is_blank}
 use Rattle.bist_text.specs.Keywords.{Word, stands, letters_of, seek, spell, left, are_apart}
 use Rattle.bist_text.specs.Machine.{Holds}
-use Rattle.bist_text.proofs.KeywordLaws.{stands_named, first_law, spell_law}
-use Rattle.bist_text.proofs.Pieces.{also, same, never}
+use Rattle.bist_text.proofs.KeywordLaws.{IsOf, is_at, is_passed, stands_all, first_law, spell_law}
+use Rattle.bist_text.proofs.Pieces.{also, stay, same, never}
 use Rattle.memory_desc.specs.declared.line_place.Key.{Key}
 use Rattle.memory_desc.specs.declared.line_place.Key.TheVariants.{Memory, Name, Words, Bits, Latency, Polarity, Pause, Scramble, Backgrounds}
 use Rattle.memory_desc.specs.declared.line_place.Version.{Version}
@@ -50,33 +50,34 @@ all_allowed None = refl
 all_allowed (Some One) = refl
 all_allowed (Some Two) = refl
 
-abbrev Stands : Option Version → Key → Type 0
-Stands given key = (i : ℕ) × (slice_get (keys_in given) i ≡ Some key)
-
-key_at : (given : Option Version) (key : Key) → allowed given key ≡ true → Stands given key
-key_at None Memory e = (0, refl)
-key_at None key e = cc
-key_at (Some One) Latency e = cc
-key_at (Some One) Polarity e = cc
-key_at (Some One) Pause e = cc
-key_at (Some One) Memory e = (0, refl)
-key_at (Some One) Name e = (1, refl)
-key_at (Some One) Words e = (2, refl)
-key_at (Some One) Bits e = (3, refl)
-key_at (Some One) Scramble e = (4, refl)
-key_at (Some One) Backgrounds e = (5, refl)
-key_at (Some Two) Memory e = (0, refl)
-key_at (Some Two) Name e = (1, refl)
-key_at (Some Two) Words e = (2, refl)
-key_at (Some Two) Bits e = (3, refl)
-key_at (Some Two) Scramble e = (4, refl)
-key_at (Some Two) Backgrounds e = (5, refl)
-key_at (Some Two) Latency e = (6, refl)
-key_at (Some Two) Polarity e = (7, refl)
-key_at (Some Two) Pause e = (8, refl)
+key_in : (given : Option Version) (key : Key) → allowed given key ≡ true → IsOf (keys_in given) key
+key_in None Memory e = inl refl
+key_in None key e = cc
+key_in (Some One) Latency e = cc
+key_in (Some One) Polarity e = cc
+key_in (Some One) Pause e = cc
+key_in (Some One) Memory e = is_at (keys_in (Some One)) 0 Memory refl
+key_in (Some One) Name e = is_at (keys_in (Some One)) 1 Name refl
+key_in (Some One) Words e = is_at (keys_in (Some One)) 2 Words refl
+key_in (Some One) Bits e = is_at (keys_in (Some One)) 3 Bits refl
+key_in (Some One) Scramble e = is_at (keys_in (Some One)) 4 Scramble refl
+key_in (Some One) Backgrounds e = is_at (keys_in (Some One)) 5 Backgrounds refl
+key_in (Some Two) Memory e = is_at (keys_in (Some Two)) 0 Memory refl
+key_in (Some Two) Name e = is_at (keys_in (Some Two)) 1 Name refl
+key_in (Some Two) Words e = is_at (keys_in (Some Two)) 2 Words refl
+key_in (Some Two) Bits e = is_at (keys_in (Some Two)) 3 Bits refl
+key_in (Some Two) Scramble e = is_at (keys_in (Some Two)) 4 Scramble refl
+key_in (Some Two) Backgrounds e = is_at (keys_in (Some Two)) 5 Backgrounds refl
+key_in (Some Two) Latency e = is_at (keys_in (Some Two)) 6 Latency refl
+key_in (Some Two) Polarity e = is_at (keys_in (Some Two)) 7 Polarity refl
+key_in (Some Two) Pause e = is_at (keys_in (Some Two)) 8 Pause refl
 
 keyed : (given : Option Version) (key : Key) (K : List ℕ → Type 0) (b : List ℕ) → stands (keys_of given) key K b ↔ ((allowed given key ≡ true) × word (key_text key) K b)
-keyed given key K b = stands_named key_text (allowed given) (keys_in given) (all_allowed given) (key_at given) key K b
+keyed given key K b =
+    let all = stands_all (λ k. key_text k ∷ []) (keys_in given) key K b in (
+      λ h. let k = all.0 h in (is_passed (allowed given) (keys_in given) key (all_allowed given) k.0, (stay (λ z. z)).0 k.1),
+      λ h. all.1 (key_in given key h.0, inl h.1),
+    )
 
 -- ---- a line's beginning
 

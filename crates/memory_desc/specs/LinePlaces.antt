@@ -3,7 +3,7 @@ use Rattle.std.specs.Prelude.{ℕ, ◌+◌, ◌==◌, ◌||◌, ◌&&◌, Bool, 
 use Rattle.bist_text.specs.declared.keywords.Spelled.{Spelled}
 use Rattle.bist_text.specs.declared.keywords.Spelled.TheVariants.{More, Whole}
 use Rattle.bist_text.specs.Grammar.{is_blank}
-use Rattle.bist_text.specs.Keywords.{Word, named_words, seek, spell}
+use Rattle.bist_text.specs.Keywords.{Word, all_words, seek, spell}
 use Rattle.memory_desc.specs.Names.{is_letter, is_digit, is_name_byte}
 use Rattle.memory_desc.specs.declared.line_place.Key.{Key}
 use Rattle.memory_desc.specs.declared.line_place.Key.TheVariants.{Memory, Name, Words, Bits, Latency, Polarity, Pause, Scramble, Backgrounds}
@@ -44,7 +44,7 @@ keys_in (Some One) = Memory ∷ Name ∷ Words ∷ Bits ∷ Scramble ∷ Backgro
 keys_in (Some Two) = Memory ∷ Name ∷ Words ∷ Bits ∷ Scramble ∷ Backgrounds ∷ Latency ∷ Polarity ∷ Pause ∷ []
 
 abbrev pub keys_of : Option Version → List (Word Key)
-keys_of given = named_words key_text (keys_in given)
+keys_of given = all_words (λ k. key_text k ∷ []) (keys_in given)
 
 abbrev pub spelling : Option Version → Option (Spelled Key) → Option Place
 spelling given None = None
