@@ -6,14 +6,12 @@ ghost use Rattle.fault_syntax.specs.Lists.{ReadsList};
 ghost use Rattle.fault_syntax.specs.ListText.{Item as ListedItem};
 ghost use Rattle.fault_syntax.specs.PrimText.{PrimParts};
 ghost use Rattle.dynamic_core.specs.declared.item.Item.{Item};
-ghost use Rattle.dynamic_core.specs.declared.item.Item.TheVariants.{Plain, Dyn};
 ghost use Rattle.dynamic_core.specs.ItemParts.{items_of};
 ghost use Rattle.dynamic_core.specs.Items.{ReadsIn, ReadsItems};
 ghost use Rattle.dynamic_core.specs.Reading.{JudgesItemIn, JudgesItemOn, AddsItems, NotAdded, static_of, statics_of};
 
-use crate::item::Item;
+use crate::item::{Item, Listed};
 use crate::judge::judge_item;
-use crate::primitive::DynPrim;
 use crate::table::{dyn_one, dyn_two};
 use bist_text::Lines;
 use fault_core::{Prim, PrimFault, members, one_cell, two_cell};
@@ -47,32 +45,16 @@ fn judge_at(parts: ReadParts, line: usize, set: NameSet) -> Result<Item, FaultFa
     }
 }
 
-fn append_plain(items: &mut Vec<Item>, prims: &[Prim], line: usize) -> Result<(), FaultFault>
-    ensures ok { OnOk result (items.new.items ≡ items.old.items ++ map Plain prims.now) }
+fn append<T: Listed>(items: &mut Vec<Item>, prims: &[T], line: usize) -> Result<(), FaultFault>
+    ensures ok { OnOk result (items.new.items ≡ items.old.items ++ map T.listed prims.now) }
     ensures within { OnOk result (length items.new.items ≤ 1024) }
-    ensures err { IfErr result (HasNoRoom items.old.items (map Plain prims.now) line) }
+    ensures err { IfErr result (HasNoRoom items.old.items (map T.listed prims.now) line) }
 {
     if items.len() > MOST || prims.len() > MOST - items.len() {
         return Err(FaultFault::TooManyPrimitives { line });
     }
     for prim in prims {
-        if items.push(Item::Plain(*prim)).is_err() {
-            return Err(FaultFault::NoMemory);
-        }
-    }
-    Ok(())
-}
-
-fn append_dyn(items: &mut Vec<Item>, prims: &[DynPrim], line: usize) -> Result<(), FaultFault>
-    ensures ok { OnOk result (items.new.items ≡ items.old.items ++ map Dyn prims.now) }
-    ensures within { OnOk result (length items.new.items ≤ 1024) }
-    ensures err { IfErr result (HasNoRoom items.old.items (map Dyn prims.now) line) }
-{
-    if items.len() > MOST || prims.len() > MOST - items.len() {
-        return Err(FaultFault::TooManyPrimitives { line });
-    }
-    for prim in prims {
-        if items.push(Item::Dyn(*prim)).is_err() {
+        if items.push(prim.item()).is_err() {
             return Err(FaultFault::NoMemory);
         }
     }
@@ -99,15 +81,15 @@ fn append_named(items: &mut Vec<Item>, name: Name, line: usize) -> Result<(), Fa
     ensures err { IfErr result (HasNoRoom items.old.items (items_of name) line) }
 {
     match name {
-        Name::OfClass(class) => append_plain(items, members(class).as_slice(), line),
-        Name::One => append_plain(items, &one_cell(), line),
-        Name::Two => append_plain(items, &two_cell(), line),
+        Name::OfClass(class) => append(items, members(class).as_slice(), line),
+        Name::One => append(items, &one_cell(), line),
+        Name::Two => append(items, &two_cell(), line),
         Name::All => {
-            append_plain(items, &one_cell(), line)?;
-            append_plain(items, &two_cell(), line)
+            append(items, &one_cell(), line)?;
+            append(items, &two_cell(), line)
         }
-        Name::DynOne => append_dyn(items, dyn_one().as_slice(), line),
-        Name::DynTwo => append_dyn(items, dyn_two().as_slice(), line),
+        Name::DynOne => append(items, dyn_one().as_slice(), line),
+        Name::DynTwo => append(items, dyn_two().as_slice(), line),
     }
 }
 
