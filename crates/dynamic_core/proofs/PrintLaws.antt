@@ -17,6 +17,7 @@ use Rattle.fault_syntax.specs.ListText.{Primitive, line_end, ItemLine}
 use Rattle.fault_syntax.specs.Parts.{IsAct}
 use Rattle.fault_syntax.specs.Printed.{act_text}
 use Rattle.fault_syntax.specs.PrimText.{SenseText, PrimParts, ws, bit_text, answer_text, op, more_ops, sense, senses, effect}
+use Rattle.fault_syntax.proofs.PrintLaws.{effect_on}
 use Rattle.dynamic_core.specs.declared.item.Item.TheVariants.{Dyn}
 use Rattle.dynamic_core.specs.ItemParts.{AreActs, IsDynamicAggressor, StandsForDynamic}
 use Rattle.dynamic_core.specs.Items.{BringAll, ReadsItems}
@@ -92,15 +93,6 @@ senses_on (Some a) s K r h =
 abbrev ending : DynamicPrimitive → List ℕ
 ending p = 47 ∷ (bit_text p.after ++ (47 ∷ (answer_text p.answer ++ (62 ∷ []))))
 
-effect_on : (p : DynamicPrimitive) (K : List ℕ → Type 0) → K [] → effect (parts p) K (ending p)
-effect_on p K h =
-    let closed : List ℕ → Type 0 = ws (word (62 ∷ []) K) in
-    let answered : List ℕ → Type 0 = word (answer_text p.answer) closed in
-    let left : List ℕ → Type 0 = ws (word (47 ∷ []) (ws answered)) in
-    inl (many_none is_blank (word (bit_text p.after) left) (bit_text p.after ++ (47 ∷ (answer_text p.answer ++ (62 ∷ []))))
-    (word_on (bit_text p.after) left (47 ∷ (answer_text p.answer ++ (62 ∷ [])))
-    (inl (many_none is_blank answered (answer_text p.answer ++ (62 ∷ [])) (word_on (answer_text p.answer) closed (62 ∷ []) (inl h))))))
-
 printed_is : (p : DynamicPrimitive) → printed_dynamic p ≡ 60 ∷ (dynamic_aggressor_text p.agg ++ (dynamic_sense_text p.vic ++ ending p))
 printed_is p = simp append_assoc
 
@@ -109,7 +101,7 @@ printed_line p =
     subst (λ b. ItemLine b (Some (Primitive (parts p)))) (sym (printed_is p))
     (inl (many_none is_blank (senses (written_agg p.agg) (written p.vic) (effect (parts p) (ws line_end)))
     (dynamic_aggressor_text p.agg ++ (dynamic_sense_text p.vic ++ ending p))
-    (senses_on p.agg p.vic (effect (parts p) (ws line_end)) (ending p) (effect_on p (ws line_end) (inl tt)))))
+    (senses_on p.agg p.vic (effect (parts p) (ws line_end)) (ending p) (effect_on (parts p) (ws line_end) (inl tt)))))
 
 -- ---- it is a list of one line
 

@@ -1,10 +1,9 @@
 -- A list of static primitives is read as a list of items that are all static.
-use Rattle.std.proofs.Common.{◌≡◌, ◌↔◌, ℕ, ◌<◌, ◌≤◌, ◌+◌, Bool, true, false, List, [], ◌∷◌, ◌++◌, ◌∙◌, Option, Some, None, Result, Ok, Err, IfOk, map, length, take, get_or, append-nil, refl, sym, ap, subst, inl, inr}
+use Rattle.std.proofs.Common.{◌≡◌, ℕ, ◌<◌, ◌≤◌, ◌+◌, Bool, true, false, List, [], ◌∷◌, ◌++◌, ◌∙◌, Option, Some, None, Result, Ok, Err, IfOk, map, length, take, get_or, append-nil, refl, sym, ap, subst, inl, inr}
 use Rattle.std.proofs.lemmas.List.{map-append, length-map, take_more, take_all}
 use Rattle.std.proofs.lemmas.List.Concat.{flat_map-append}
 use Rattle.bist_text.specs.Grammar.{many, when}
 use Rattle.bist_text.specs.Lines.{TextLine, text_lines}
-use Rattle.fault_core.specs.declared.table.Class.{Class}
 use Rattle.fault_core.specs.Primitive.{Primitive}
 use Rattle.fault_syntax.specs.declared.fault.FaultFault.{FaultFault}
 use Rattle.fault_syntax.specs.declared.fault.FaultFault.TheVariants.{Unexpected, Truncated, NotAFault, TooManyOperations, TooManyPrimitives, NoMemory}
@@ -13,7 +12,7 @@ use Rattle.fault_syntax.specs.declared.words.Name.TheVariants.{OfClass, One, Two
 use Rattle.fault_syntax.specs.declared.words.NameSet.TheVariants.{Static}
 use Rattle.bist_text.specs.Grammar.{is_blank}
 use Rattle.fault_syntax.specs.Answers.{RefusesAt}
-use Rattle.fault_syntax.specs.LineByLine.{BringBy, FirstRefusal, IsRefusedBehind}
+use Rattle.fault_syntax.specs.LineByLine.{BringBy, IsRefusedBehind}
 use Rattle.fault_syntax.specs.Lists.{ReadsList}
 use Rattle.fault_syntax.specs.ListText.{Item as ListedItem, Primitive as OnePrimitive, Named, item, line_end, LineText}
 use Rattle.fault_syntax.specs.PrimText.{ws}

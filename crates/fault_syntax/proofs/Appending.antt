@@ -1,6 +1,6 @@
 -- Primitives that are appended one by one, where there is room for them.
 use Rattle.std.proofs.Common.{◌≡◌, ℕ, ◌+◌, ◌-◌, ◌<◌, ◌≤◌, Bool, true, if◌then◌else◌, Result, Ok, Err, OnOk, IfErr, subst, List, [], ◌∷◌, ◌++◌, length, map, take, get_or, refl, sym, ap, ◌∙◌, append_assoc, length-append, arith, inl, inr}
-use Rattle.std.proofs.lemmas.List.{take_more, take_all, map_more}
+use Rattle.std.proofs.lemmas.List.{take_all, map_more}
 use Rattle.fault_syntax.specs.declared.fault.FaultFault.{FaultFault}
 use Rattle.fault_syntax.specs.declared.fault.FaultFault.TheVariants.{TooManyPrimitives}
 use Rattle.fault_syntax.specs.LineByLine.{HasNoRoom}

@@ -1,5 +1,5 @@
 -- What a reader keeps, along a text.
-use Rattle.std.proofs.Common.{◌≡◌, ℕ, ◌+◌, ◌<◌, Bool, List, [], ◌∙◌, length, drop, get_or, Option, Some, None, option_map, refl, if◌then◌else◌}
+use Rattle.std.proofs.Common.{◌≡◌, ℕ, ◌+◌, ◌<◌, List, [], ◌∙◌, length, drop, get_or, Option, Some, None, option_map, refl, if◌then◌else◌}
 use Rattle.bist_text.specs.Machine.{unexpected, scan, ended}
 use Rattle.bist_text.proofs.Loops.{scan_on, scan_stop, scan_end}
 use Rattle.fault_syntax.specs.declared.reader.Reader.{Reader}

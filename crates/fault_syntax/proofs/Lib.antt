@@ -3,7 +3,7 @@ pub mod PlaceLaws
 mod Kept
 pub mod Judging
 mod PrimReads
-mod PrintLaws
+pub mod PrintLaws
 pub mod LineByLine
 pub mod Appending
 pub mod PassedOn

@@ -1,5 +1,5 @@
 -- What is said of a line's bytes.
-use Rattle.std.proofs.Common.{◌≡◌, ℕ, true, List, Option, Result, refl, sym, subst}
+use Rattle.std.proofs.Common.{◌≡◌, ℕ, List, Option, Result, refl, sym, subst}
 use Rattle.bist_text.specs.Machine.{Outcome, read, unexpected, truncated, scan, IsExact, Answers}
 use Rattle.bist_text.proofs.Settled.{answers_one, scan_exact}
 use Rattle.fault_syntax.specs.declared.reader.ReadItem.{ReadItem}

@@ -1,5 +1,5 @@
 -- A list is read as one list of primitives, or refused in one way.
-use Rattle.std.proofs.Common.{◌≡◌, ℕ, true, List, [], ◌∷◌, ◌∙◌, Option, Some, None, sym, ap}
+use Rattle.std.proofs.Common.{◌≡◌, List, [], ◌∷◌, ◌∙◌, Option, Some, None, sym, ap}
 use Rattle.fault_core.specs.Primitive.{Primitive}
 use Rattle.fault_syntax.specs.declared.words.NameSet.TheVariants.{Static}
 use Rattle.fault_syntax.specs.Answers.{RefusesAt}

@@ -1,8 +1,7 @@
 -- The names of a list as the words that a reader looks for.
-use Rattle.std.proofs.Common.{◌≡◌, ◌↔◌, ℕ, zero, suc, ◌&&◌, true, List, [], ◌∷◌, Option, Some, None, refl, inl}
+use Rattle.std.proofs.Common.{◌≡◌, ◌↔◌, ℕ, true, List, [], ◌∷◌, Some, None, refl, inl}
 use Rattle.std.specs.List.{list_all}
-use Rattle.std.specs.Prelude.{Bool, slice_get}
-use Rattle.std.proofs.lemmas.Bool.{and_parts}
+use Rattle.std.specs.Prelude.{slice_get}
 use Rattle.bist_text.specs.Grammar.{word}
 use Rattle.bist_text.specs.Keywords.{Word, stands, seek, are_apart}
 use Rattle.bist_text.proofs.KeywordLaws.{IsOf, is_at, is_passed, stands_all}

@@ -1,6 +1,6 @@
 -- The four laws of the places of a primitive or a list line: what may follow each, by the next byte.
 use Rattle.std.proofs.Common.{◌≡◌, ℕ, ◌==◌, Bool, true, false, not, List, [], ◌∷◌, ◌++◌, ◌∙◌, Option, Some, None, is_some, option_map, refl, ◌↔◌, ◌⊎◌, ◌&&◌, inl, inr, subst, sym, ap, append-nil, if◌then◌else◌}
-use Rattle.bist_text.specs.Grammar.{finish, word, when, many, is_blank, are_bytes, Continues}
+use Rattle.bist_text.specs.Grammar.{finish, word, when, many, is_blank, Continues}
 use Rattle.bist_text.specs.declared.keywords.Letters.{Letters}
 use Rattle.bist_text.specs.declared.keywords.Spelled.{Spelled}
 use Rattle.bist_text.specs.declared.keywords.Spelled.TheVariants.{More, Whole}

@@ -1,10 +1,10 @@
 -- The names of a list: of a class, and the words for several.
-use Rattle.std.specs.Prelude.{◌≡◌, ℕ, Bool, true, false, List, [], ◌∷◌, ◌++◌, codes}
+use Rattle.std.specs.Prelude.{ℕ, Bool, true, false, List, [], ◌∷◌, ◌++◌, codes}
 use Rattle.bist_text.specs.Keywords.{Word, all_words}
 use Rattle.fault_core.specs.declared.table.Class.{Class}
 use Rattle.fault_core.specs.declared.table.Class.TheVariants.{SF, TF, WDF, RDF, DRDF, IRF, CFst, CFds, CFtr, CFwd, CFrd, CFdr, CFir, DRF}
 use Rattle.fault_syntax.specs.declared.words.Form.{Form}
-use Rattle.fault_syntax.specs.declared.words.Form.TheVariants.{Single, Listed}
+use Rattle.fault_syntax.specs.declared.words.Form.TheVariants.{Listed}
 use Rattle.fault_syntax.specs.declared.words.Name.{Name}
 use Rattle.fault_syntax.specs.declared.words.Name.TheVariants.{OfClass, One, Two, All, DynOne, DynTwo}
 use Rattle.fault_syntax.specs.declared.words.NameSet.{NameSet}

@@ -1,5 +1,5 @@
 -- The spellings of orders and pauses as words that a reader looks for.
-use Rattle.std.proofs.Common.{◌≡◌, ◌↔◌, ◌⊎◌, ℕ, true, List, ◌∷◌, [], ◌++◌, None, Some, refl, inl, inr, subst, sym}
+use Rattle.std.proofs.Common.{◌≡◌, ◌↔◌, ℕ, true, List, ◌∷◌, [], ◌++◌, refl, inl, inr, subst}
 use Rattle.bist_text.specs.declared.keywords.Letters.{Letters}
 use Rattle.bist_text.specs.Grammar.{one_of, are_bytes}
 use Rattle.bist_text.specs.Keywords.{stands, letters_of, are_apart}

@@ -1,5 +1,5 @@
 -- The reader of a line follows the grammar of a line.
-use Rattle.std.proofs.Common.{◌≡◌, ℕ, ◌==◌, Bool, true, false, if◌then◌else◌, List, [], ◌∷◌, ◌++◌, Option, Some, None, refl, ◌↔◌, ◌⊎◌, inl, inr, subst, sym, ap, ◌∙◌}
+use Rattle.std.proofs.Common.{◌≡◌, ℕ, ◌==◌, Bool, true, false, if◌then◌else◌, List, [], ◌∷◌, ◌++◌, Option, Some, None, refl, ◌↔◌, inl, inr, subst, sym, ap, ◌∙◌}
 use Rattle.std.proofs.lemmas.Bool.{eqb-true}
 use Rattle.std.specs.List.{list_all}
 use Rattle.std.specs.Prelude.{slice_get}
@@ -16,7 +16,7 @@ use Rattle.memory_desc.specs.declared.line_place.Version.{Version}
 use Rattle.memory_desc.specs.declared.line_place.Version.TheVariants.{One, Two}
 use Rattle.memory_desc.specs.declared.line_place.Place.{Place}
 use Rattle.memory_desc.specs.declared.line_place.Place.TheVariants.{Opening, Begin, Remark, Letters, Named, Wanted, Number, Name as InName, RowNumber, RowEnd, Term as AtTerm, TermNumber, TermEnd, LetterL, LetterO, Hex, HexEnd, End}
-use Rattle.memory_desc.specs.LineText.{Content, kind_of, in_table, space, gap, tail, argument, key_text, ContentText}
+use Rattle.memory_desc.specs.LineText.{Content, kind_of, in_table, space, gap, tail, argument, key_text}
 use Rattle.memory_desc.specs.LinePlaces.{keys_in, keys_of, spelling, at_start, begun}
 use Rattle.memory_desc.specs.LineRest.{LineOf, Keyed, rest}
 use Rattle.memory_desc.proofs.LinePieces.{at_bool, when_true, space_on, space_off, tail_blank, tail_other, tail_never}

@@ -1,12 +1,12 @@
 -- Where a line ends, how each place goes on to an end, and with that: the reader of a line answers as its grammar says.
-use Rattle.std.proofs.Common.{◌≡◌, ℕ, zero, suc, ◌+◌, ◌≤◌, ◌==◌, Bool, true, false, if◌then◌else◌, List, [], ◌∷◌, ◌++◌, drop, length, codes, Option, Some, None, refl, ◌↔◌, inl, inr, subst, sym, ap, arith, zero-le}
+use Rattle.std.proofs.Common.{◌≡◌, ℕ, zero, suc, ◌+◌, ◌≤◌, ◌==◌, Bool, true, false, if◌then◌else◌, List, [], ◌∷◌, ◌++◌, length, codes, Option, Some, None, refl, ◌↔◌, inl, inr, subst, sym, ap, arith, zero-le}
 use Rattle.std.proofs.lemmas.Bool.{and_from, and_parts, eq-eqb}
 use Rattle.std.proofs.Math.Dec.{eqb-suc-zero}
 use Rattle.std.specs.List.{list_all}
 use Rattle.bist_text.specs.Grammar.{word, Continues, are_bytes}
 use Rattle.bist_text.specs.Keywords.{stands, letters_of}
 use Rattle.bist_text.specs.Machine.{Follows, scan, IsExact}
-use Rattle.bist_text.proofs.Pieces.{same, never, neither, word_on}
+use Rattle.bist_text.proofs.Pieces.{same, never}
 use Rattle.bist_text.proofs.Bytes.{are_bytes-append}
 use Rattle.bist_text.proofs.KeywordLaws.{spell_ends, spell_alive}
 use Rattle.bist_text.proofs.Settled.{scan_exact}
@@ -170,8 +170,12 @@ alive_at (Letters given q) =
       a.1 ++ (32 ∷ example_text a.0),
       Some a.0,
       are_bytes-append a.1 (32 ∷ example_text a.0) a.2 (example_bytes a.0),
-      (example a.0, example_formed a.0, ap Some (sym (example_kind a.0)),
-      subst (λ k. stands (keys_of given) k (gap (argument (example a.0) tail)) (letters_of (keys_of given) q ++ (a.1 ++ (32 ∷ example_text a.0)))) (sym (example_kind a.0)) a.3),
+      (
+        example a.0,
+        example_formed a.0,
+        ap Some (sym (example_kind a.0)),
+        subst (λ k. stands (keys_of given) k (gap (argument (example a.0) tail)) (letters_of (keys_of given) q ++ (a.1 ++ (32 ∷ example_text a.0)))) (sym (example_kind a.0)) a.3,
+      ),
     )
 alive_at (Named key) = (32 ∷ example_text key, Some key, example_bytes key, (refl, (example key, example_kind key, example_formed key, example_is key)))
 alive_at (Wanted key) = (example_text key, Some key, example_bytes key, (refl, (example key, example_kind key, example_formed key, example_is key)))

@@ -1,5 +1,5 @@
 -- The loop over a line, and what its answer says by the grammar.
-use Rattle.std.proofs.Common.{true, ◌≡◌, ℕ, List, Option, Result, Ok, Err, refl, ◌↔◌, ap}
+use Rattle.std.proofs.Common.{◌≡◌, ℕ, List, Option, Result, Ok, Err, refl, ◌↔◌, ap}
 use Rattle.bist_text.specs.Grammar.{IsUnexpected, IsTruncated}
 use Rattle.bist_text.specs.Machine.{Outcome, read, unexpected, truncated, IsExact}
 use Rattle.memory_desc.specs.declared.line_place.Key.{Key}
