@@ -1,0 +1,245 @@
+"""What a refusal of the program means in this very call, as a compiler says it: FILE:LINE:COLUMN, the line with a caret,
+what is wrong there, and what could stand there instead."""
+from __future__ import annotations
+
+import os
+import pathlib
+import re
+
+import common
+import diagnose_texts
+import diagnose_verilog
+from finding import Finding, caret, close_to, listed, thousands
+
+# the word of a call whose text a refusal speaks of
+SUBJECTS = {"march": ["MARCH"], "memory": ["MEMORY"], "fault": ["FAULTS", "PRIM"], "verilog": ["VERILOG"]}
+FIELDS = [(r"line (\d+) byte (\d+)", ("line", "byte")), (r"line (\d+)", ("line",)), (r"byte (\d+)", ("byte",)),
+          (r"element (\d+) operation (\d+)", ("element", "operation")), (r"element (\d+)", ("element",)), (r"rows (.+)", ("rows",))]
+CONSOLE = "vidlakost"
+
+
+def values_of(code: str, rest: str) -> dict:
+    """What a refusal carries, by name."""
+    if code == "N3":
+        return dict(zip(("x", "y"), rest.split()))
+    if code in ("N7", "D4"):
+        return {"names" if code == "N7" else "field": rest}
+    for form, names in FIELDS:
+        match = re.fullmatch(form, rest)
+        if match:
+            return dict(zip(names, match.groups()))
+    return {"name": rest} if rest else {}
+
+
+def words_by_name(words: list[str]) -> dict:
+    """The words of a call by their names in the command's form."""
+    return dict(zip(common.form_of(words[0])[1:], words[1:])) if words else {}
+
+
+def refused_text(words: list[str], said: str) -> list[str]:
+    """A refusal of a march, a memory, a list, a primitive or a module."""
+    kind, code, *rest = said.split(" ", 2)
+    named = words_by_name(words)
+    subjects = [word for word in SUBJECTS[kind] if word in named]
+    if not subjects:
+        return []
+    subject = "PRIM" if "PRIM" in subjects else subjects[0]
+    values = values_of(code, rest[0] if rest else "")
+    if subject == "PRIM":
+        return diagnose_texts.fault("PRIM", named["PRIM"].encode("utf-8", "replace"), code, values, True).lines()
+    text = pathlib.Path(named[subject]).read_bytes()
+    if kind == "march":
+        return diagnose_texts.march(named[subject], text, code, values).lines()
+    if kind == "memory":
+        return diagnose_texts.memory(named[subject], text, code, values).lines()
+    if kind == "fault":
+        return diagnose_texts.fault(named[subject], text, code, values, False).lines()
+    return diagnose_verilog.verilog(named[subject], text, code, values, named.get("MEMORY")).lines()
+
+
+# ---- the words of a call
+
+
+def wrong_word(name: str, word: str, named: dict) -> str | None:
+    """What is wrong with one word of a command, by itself."""
+    if not word:
+        return f"{name} is empty"
+    if word.startswith("-"):
+        return f"{name} is '{word}', and no word begins with '-'"
+    size = int(named["SIZE"]) if re.fullmatch(r"\d{1,9}", named.get("SIZE", "")) else None
+    if name in ("SIZE", "NUMBER"):
+        least, most = (2, 4096) if name == "SIZE" else (0, 65534)
+        if not re.fullmatch(r"0|[1-9]\d{0,8}", word):
+            return f"{name} is a decimal number without a leading zero, and not '{word}'"
+        if not least <= int(word) <= most:
+            return f"{name} is {thousands(least)} to {thousands(most)}, and not {word}"
+    if name == "CONTENT" and not re.fullmatch("[01]+", word):
+        return f"CONTENT has the digits 0 and 1, one for each cell, and not '{word}'"
+    if name == "CONTENT" and size is not None and len(word) != size:
+        return f"CONTENT has {len(word)} digits, and SIZE is {size}"
+    if name == "DIRS" and not re.fullmatch("[ud]{1,64}", word):
+        return f"DIRS is a letter u or d for each element, 1 to 64 of them, and not '{word}'"
+    if name in ("AGG", "VIC"):
+        return wrong_cell(name, word, named, size)
+    return None
+
+
+def wrong_cell(name: str, word: str, named: dict, size: int | None) -> str | None:
+    if word == "none" and name == "AGG":
+        return None
+    number = r"(?:0|[1-9]\d{0,8})"
+    if size is None and "SIZE" not in named:
+        return None if re.fullmatch(rf"{number}\.{number}", word) else \
+            f"{name} is a cell as two numbers with a full stop between, its word's index and its bit, as 6.3, and not '{word}'"
+    if not re.fullmatch(number, word):
+        return f"{name} is the number of a cell{' or none' if name == 'AGG' else ''}, and not '{word}'"
+    if size is not None and int(word) >= size:
+        return f"{name} is cell {word}, and there are the cells 0 to {size - 1}"
+    return f"AGG and VIC are both cell {word}" if name == "VIC" and word == named.get("AGG") else None
+
+
+def usage(words: list[str]) -> list[str]:
+    """What is wrong with the words of a call."""
+    names = [command.name for command in common.commands()]
+    if not words or words[0] not in names:
+        meant = close_to(words[0], names) if words else None
+        what = f"'{words[0]}' is no command" if words else "there is no command"
+        return [f"{CONSOLE}: error: {what}" + (f"; did you mean '{meant}'?" if meant else ""), f"  the commands are {listed(names, 'and')}"]
+    form = common.form_of(words[0])
+    line = [f"  usage: {CONSOLE} {' '.join(form)}"]
+    if len(words) != len(form):
+        few = len(words) < len(form)
+        what = f"{listed(form[len(words):], 'and')} {'is' if len(form) - len(words) == 1 else 'are'} missing" if few else f"'{words[len(form)]}' is one word too many"
+        return [f"{CONSOLE}: error: {words[0]} takes {len(form) - 1} words, and there are {len(words) - 1}: {what}", *line]
+    named = words_by_name(words)
+    for name, word in named.items():
+        wrong = wrong_word(name, word, named)
+        if wrong:
+            return [f"{CONSOLE}: error: {wrong}", *line]
+    files = [name for name in named if name not in ("PRIM", "SIZE", "CONTENT", "AGG", "VIC", "DIRS", "NUMBER")]
+    for place, name in enumerate(files):
+        same = next((other for other in files[:place] if named[other] == named[name]), None)
+        if same:
+            return [f"{CONSOLE}: error: {same} and {name} are both '{named[name]}', and no two files of a call have one name", *line]
+    return [f"{CONSOLE}: error: the words are not those of {words[0]}", *line]
+
+
+# ---- files
+
+
+def absent(word: str) -> list[str]:
+    folder = os.path.dirname(word) or "."
+    if not os.path.isdir(folder):
+        return [f"{word}: error: there is no folder '{folder}'"]
+    meant = close_to(os.path.basename(word), [name for name in os.listdir(folder) if os.path.isfile(os.path.join(folder, name))])
+    return [f"{word}: error: there is no such file" + (f"; did you mean '{os.path.join(os.path.dirname(word), meant)}'?" if meant else "")]
+
+
+def why_not(word: str, mode: str) -> str:
+    """Why a file can't be opened, as the system says it."""
+    if os.path.isdir(word):
+        return "it is a folder"
+    folder = os.path.dirname(word) or "."
+    if mode == "w" and not os.path.isdir(folder):
+        return f"there is no folder '{folder}'"
+    if mode == "w" and not os.path.exists(word):
+        return "no file may be made in this folder" if not os.access(folder, os.W_OK) else "the system gave no more room, or failed"
+    return "it may not be opened" if not os.access(word, os.R_OK if mode == "r" else os.W_OK) else "the system failed"
+
+
+def file_of(words: list[str], said: str) -> list[str]:
+    """A file that is missing, too large, or can't be read or written."""
+    what, place = said.rsplit(" ", 1)
+    word = words[int(place)]
+    if what == "absent":
+        return absent(word)
+    if what == "too large":
+        size = os.path.getsize(word) if os.path.isfile(word) else 0
+        return [f"{word}: error: the file has {thousands(size) if size else 'more'} bytes{'' if size else ' than may be'}, and an input at most 1,048,576"]
+    mode, verb = ("r", "read") if what == "read failed" else ("w", "written")
+    return [f"{word}: error: the file could not be {verb}: {why_not(word, mode)}"]
+
+
+# ---- cells, directions and cycles
+
+
+def memory_file(named: dict) -> common.Memory:
+    return common.parse_memory(common.read_text(named["MEMORY"]))
+
+
+def device(words: list[str], said: str) -> list[str]:
+    named = words_by_name(words)
+    if said != "device V2" or "VIC" not in named:
+        return [f"{CONSOLE}: error: " + ("there is no model of a memory to run beside" if said == "device V4" else "the model has too little room for this memory")]
+    memory = memory_file(named)
+    for name in ("AGG", "VIC"):
+        if named[name] == "none":
+            continue
+        word, bit = common.place_of(named[name])
+        if word >= memory.words:
+            return [f"{name}: error: {named[name]} is outside {memory.name}: its words are 0 to {thousands(memory.words - 1)}, by physical index"]
+        if bit >= memory.bits:
+            return [f"{name}: error: {named[name]} is outside {memory.name}: the bits of its words are 0 to {memory.bits - 1}"]
+    return [f"VIC: error: aggressor {named['AGG']} and victim {named['VIC']} are in one word; the cells have to stand in two"]
+
+
+def misfit(words: list[str], said: str) -> list[str]:
+    named = words_by_name(words)
+    if said == "misfit aggressor":
+        two = common.read_primitive(named["PRIM"]).aggressor is not None
+        return [f"AGG: error: {named['PRIM']} has {'two cells' if two else 'one cell'}, so AGG is {'the cell of its aggressor' if two else 'none'}, and not '{named['AGG']}'"]
+    elements = common.elements_of(common.read_text(named["MARCH"]))
+    directions = named["DIRS"]
+    lines = [f"DIRS: error: '{directions}' has {len(directions)} letters, and {named['MARCH']} has {len(elements)} elements"]
+    shown = [f"  {element.text:24} {directions[place] if place < len(directions) else '(no letter)'}" for place, element in enumerate(elements)]
+    for place, (element, letter) in enumerate(zip(elements, directions)):
+        wants = {"up": "u", "down": "d", "del": "u"}.get(element.order, letter)
+        if letter != wants:
+            shown[place] += f"   a pause has u" if element.is_pause else f"   this element goes {element.order}: {wants}"
+            lines[0] = f"DIRS: error: letter {place} is '{letter}', and does not agree with element {place}" if len(directions) == len(elements) else lines[0]
+    return lines + shown
+
+
+def too_long(words: list[str], said: str) -> list[str]:
+    named = words_by_name(words)
+    memory, elements = memory_file(named), common.elements_of(common.read_text(named["MARCH"]))
+    one = sum(map(memory.cycles_of, elements))
+    most = (2000000 - memory.latency - 2) // one if one <= 2000000 else 0
+    cure = f"with {most} background{'s' if most > 1 else ''} it would not be too long" if most else "a shorter march, or fewer words, would do"
+    return [f"{named['MEMORY']}: error: the test takes {thousands(said.split(' ')[2])} cycles, and at most 2,000,000 are run",
+            f"  the march takes {thousands(one)} cycles in each of {len(memory.backgrounds)} backgrounds; {cure}",
+            "  (compile has no such limit)"]
+
+
+def not_text(words: list[str]) -> list[str]:
+    for place, word in enumerate(words):
+        try:
+            word.encode("utf-8")
+        except UnicodeEncodeError:
+            return [f"{CONSOLE}: error: word {place} is not UTF-8"]
+    return [f"{CONSOLE}: error: the words could not be read"]
+
+
+def no_primitives(words: list[str]) -> list[str]:
+    return [f"{words_by_name(words).get('FAULTS', 'the list')}: warning: the list holds no primitive, so nothing was judged"]
+
+
+def lines(words: list[str], said: str, status: int) -> list[str]:
+    """What is said of a refusal; nothing where the call is not one that can be explained."""
+    try:
+        if status <= 1:
+            return no_primitives(words) if said.startswith("total 0 ") else []
+        if status == 2:
+            return usage(words)
+        if status in (3, 4, 5, 14):
+            return refused_text(words, said)
+        if status in (6, 7, 8, 10) and said:
+            return file_of(words, said)
+        by_status = {11: device, 12: too_long, 13: misfit}
+        if status in by_status:
+            return by_status[status](words, said)
+        return {8: [f"{CONSOLE}: error: the line of the answer could not be written"], 9: [f"{CONSOLE}: error: there was no memory"],
+                16: not_text(words)}.get(status, [])
+    except (OSError, IndexError, ValueError, KeyError, StopIteration, TypeError, common.ToolError):
+        # a file that changed meanwhile, or words that are no command's
+        return []

@@ -1,0 +1,340 @@
+"""Where a module breaks the rule, or has the wrong port, that the program names."""
+from __future__ import annotations
+
+import dataclasses
+import re
+
+import common
+from diagnose_texts import early, unexpected
+from finding import Finding, listed
+
+WORDS = ("module input output wire reg assign always begin end if else case default endcase endmodule posedge").split()
+LEXEME = re.compile(r"(?:\s|//[^\n]*|/\*.*?\*/)+|(?P<literal>\d+'[bodhBODH][0-9a-fA-F_]+)|(?P<number>\d+)|(?P<name>[A-Za-z_][\w$]*)|"
+                    r"(?P<mark><=|>=|==|!=|&&|\|\||<<|>>|~&|~\||~\^|\^~|.)", re.DOTALL)
+# operators of two operands, from the loosest to the tightest, for modules without all their parentheses
+LEVELS = ["||", "&&", "|", "^", "&", "== !=", "< <= > >=", "<< >>", "+ -"]
+RANK = {mark: rank for rank, level in enumerate(LEVELS) for mark in level.split()}
+ONE_BIT = {"==", "!=", "<", "<=", ">", ">=", "&&", "||"}
+FREE = {"&&", "||", "<<", ">>"}
+
+
+@dataclasses.dataclass
+class Token:
+    kind: str
+    text: str
+    at: int
+
+
+@dataclasses.dataclass
+class Name:
+    """A port or a declared name."""
+
+    kind: str
+    width: int
+    at: int
+
+
+@dataclasses.dataclass
+class Event:
+    """Something of a module that a rule speaks of: what happens, to which name, where, and two widths or the block."""
+
+    kind: str
+    name: str
+    at: int
+    detail: tuple = ()
+
+
+class Module:
+    """A module of the grammar, as the list of its events in the order of its text."""
+
+    def __init__(self, text: bytes):
+        source = text.decode("latin-1")
+        self.tokens = [Token(match.lastgroup, match[0], match.start()) for match in LEXEME.finditer(source) if match.lastgroup]
+        self.here, self.block = 0, 0
+        self.names: dict[str, Name] = {}
+        self.ports: dict[str, Name] = {}
+        self.events: list[Event] = []
+        self.module()
+
+    # the tokens
+
+    def peek(self) -> str:
+        return self.tokens[self.here].text if self.here < len(self.tokens) else ""
+
+    def take(self) -> Token:
+        self.here += 1
+        return self.tokens[self.here - 1]
+
+    def skip(self, *texts: str) -> bool:
+        """Takes the next token where it is one of these."""
+        if self.peek() in texts:
+            self.here += 1
+            return True
+        return False
+
+    def note(self, kind: str, token: Token, *detail) -> None:
+        self.events.append(Event(kind, token.text, token.at, detail))
+
+    # the parts of a module
+
+    def range(self) -> int:
+        if not self.skip("["):
+            return 1
+        high = int(self.take().text)
+        self.here += 3
+        return high + 1
+
+    def declare(self, kind: str, width: int) -> None:
+        token = self.take()
+        self.note("twice" if token.text in self.names else "declared", token, kind)
+        self.names.setdefault(token.text, Name(kind, width, token.at))
+
+    def module(self) -> None:
+        self.here = 3
+        while self.peek() not in (")", ""):
+            kind = self.take().text
+            if self.peek() in ("wire", "reg"):
+                kind = "reg" if self.take().text == "reg" else kind
+            self.declare(kind, self.range())
+            self.skip(",")
+        self.ports = dict(self.names)
+        self.here += 2
+        while self.peek() not in ("endmodule", ""):
+            self.item()
+
+    def item(self) -> None:
+        kind = self.take().text
+        if kind in ("wire", "reg"):
+            width = self.range()
+            self.declare(kind, width)
+            while self.skip(","):
+                self.declare(kind, width)
+            self.skip(";")
+        elif kind == "assign":
+            target = self.take()
+            self.skip("=")
+            self.note("assign", target)
+            self.equal(target.at, self.width_of(target), self.expression())
+            self.skip(";")
+        elif kind == "always":
+            self.block += 1
+            self.here += 3
+            self.note("clock", self.take())
+            self.skip(")")
+            self.statement()
+
+    def statement(self) -> None:
+        if self.skip("begin"):
+            while not self.skip("end") and self.peek():
+                self.statement()
+        elif self.skip("if"):
+            self.skip("(")
+            self.expression()
+            self.skip(")")
+            self.statement()
+            if self.skip("else"):
+                self.statement()
+        elif self.skip("case"):
+            self.cases()
+        else:
+            target = self.take()
+            self.skip("<=")
+            self.note("set", target, self.block)
+            self.equal(target.at, self.width_of(target), self.expression())
+            self.skip(";")
+
+    def cases(self) -> None:
+        self.skip("(")
+        subject = self.expression()
+        self.skip(")")
+        while not self.skip("endcase") and self.peek():
+            if self.skip("default"):
+                self.skip(":")
+            else:
+                while not self.skip(":"):
+                    at = self.tokens[self.here].at
+                    self.equal(at, subject, self.expression())
+                    self.skip(",")
+            self.statement()
+
+    # expressions, each with its width (None: unknown)
+
+    def width_of(self, token: Token) -> int | None:
+        """The width of a name that is used, which is noted."""
+        self.note("use", token, token.text in self.names)
+        return self.names[token.text].width if token.text in self.names else None
+
+    def equal(self, at: int, left: int | None, right: int | None) -> None:
+        if left and right and left != right:
+            self.events.append(Event("width", "", at, (left, right)))
+
+    def expression(self, rank: int = -1) -> int | None:
+        if rank == -1:
+            condition = self.expression(0)
+            if not self.skip("?"):
+                return condition
+            at = self.tokens[self.here].at
+            first = self.expression()
+            self.skip(":")
+            self.equal(at, first, self.expression())
+            return first
+        if rank == len(LEVELS):
+            return self.unary()
+        left = self.expression(rank + 1)
+        while RANK.get(self.peek()) == rank:
+            mark = self.take()
+            right = self.expression(rank + 1)
+            if mark.text not in FREE:
+                self.equal(mark.at, left, right)
+            left = 1 if mark.text in ONE_BIT else left or right if mark.text not in FREE else left
+        return left
+
+    def unary(self) -> int | None:
+        if self.peek() in ("~", "!", "&", "|", "^", "~&", "~|", "~^", "^~"):
+            mark = self.take().text
+            width = self.unary()
+            return width if mark == "~" else 1
+        if self.skip("("):
+            width = self.expression()
+            self.skip(")")
+            return width
+        if self.peek() == "{":
+            return self.joined()
+        token = self.take()
+        if token.kind == "literal":
+            return int(token.text.split("'")[0])
+        return self.selected(token) if token.kind == "name" else None
+
+    def joined(self) -> int | None:
+        at, parts = self.take().at, []
+        while not self.skip("}") and self.peek():
+            parts.append(self.expression())
+            self.skip(",")
+        total = sum(parts) if all(parts) else None
+        if total and total > 64:
+            self.events.append(Event("width", "", at, (64, total)))
+        return total
+
+    def selected(self, name: Token) -> int | None:
+        width = self.width_of(name)
+        if not self.skip("["):
+            return width
+        high = low = int(self.take().text)
+        if self.skip(":"):
+            low = int(self.take().text)
+        self.skip("]")
+        if width and (high >= width or low > high or width == 1):
+            self.note("select", name, width, high, low)
+        return high - low + 1
+
+
+def rule(name: str, text: bytes, code: str, values: dict) -> Finding:
+    """The place of a broken rule, and what is wrong there."""
+    module = Module(text)
+    what = values.get("name", "")
+    if code == "N7":
+        return loop(name, text, module, values["names"].split())
+    for event in module.events:
+        message = broken(module, event, code, what, values)
+        if message:
+            return Finding(name, text, event.at, message)
+    return Finding(name, text, None, f"the module breaks rule {code} {what}".rstrip())
+
+
+def broken(module: Module, event: Event, code: str, what: str, values: dict) -> str | None:
+    """What is wrong with an event, where it is the one that breaks the rule."""
+    if code == "N3":
+        widths = (int(values["x"]), int(values["y"]))
+        if event.kind != "width" or event.detail != widths:
+            return None
+        if event.detail[0] == 64 and event.detail[1] > 64:
+            return f"this concatenation has {event.detail[1]} bits, and at most 64 are taken"
+        return f"one side has {widths[0]} bits and the other {widths[1]}, and they have to be as wide as one another"
+    if event.name != what:
+        return None
+    declared = module.names.get(what)
+    if code == "N1" and event.kind in ("use", "clock") and event.detail[:1] != (True,):
+        return f"'{what}' is no port and is not declared above"
+    if code == "N2" and (event.kind == "twice" or event.kind == "assign" and first_of(module, event) is not event):
+        return f"'{what}' is declared twice" if event.kind == "twice" else f"'{what}' has an assign already"
+    if code == "N4" and event.kind == "set" and first_of(module, event).detail != event.detail:
+        return f"'{what}' is set in an earlier always block"
+    if code == "N5" and event.kind == "assign" and declared and declared.kind in ("input", "reg"):
+        return f"'{what}' is {'an input' if declared.kind == 'input' else 'a register'}, which no assign can drive"
+    if code == "N5" and event.kind == "set" and declared and declared.kind != "reg":
+        return f"'{what}' is no register, and only a register is set with <="
+    if code == "N6" and event.kind == "select":
+        width, high, low = event.detail
+        if width == 1:
+            return f"'{what}' has one bit, of which nothing can be selected"
+        return f"'{what}' has the bits 0 to {width - 1}" + (f", and not {high}" if high >= width else f", and {low} is above {high}")
+    if code == "N9" and event.kind == "declared":
+        return f"no assign drives '{what}'"
+    if code == "N10":
+        return clock(module, event, what)
+    return None
+
+
+def first_of(module: Module, event: Event) -> Event:
+    """The first event of this kind with this name."""
+    return next(it for it in module.events if it.kind == event.kind and it.name == event.name)
+
+
+def clock(module: Module, event: Event, what: str) -> str | None:
+    declared = module.names.get("clk")
+    is_input = declared is not None and declared.kind == "input" and declared.width == 1
+    if event.kind == "clock" and (what != "clk" or not is_input):
+        return "the clock has to be an input of one bit named 'clk'"
+    if event.kind == "use" and what == "clk":
+        return "'clk' is the clock, and stands in no expression"
+    if event.kind == "declared" and what == "clk" and not is_input:
+        return "'clk' can only be an input of one bit"
+    return None
+
+
+def loop(name: str, text: bytes, module: Module, names: list[str]) -> Finding:
+    places = [next((event.at for event in module.events if event.kind == "assign" and event.name == it), None) for it in names]
+    circle = " -> ".join([*names, names[0]])
+    return Finding(name, text, places[0], "these wires form a loop, each uses the next" if len(names) > 1 else "this wire uses itself", [circle])
+
+
+def wanted_ports(memory: common.Memory) -> dict[str, tuple[str, int]]:
+    """The ports of the self-test of a memory."""
+    return {"clk": ("input", 1), "reset": ("input", 1), "rdata": ("input", memory.bits), "en": ("output", 1), "we": ("output", 1),
+            "addr": ("output", memory.width), "wdata": ("output", memory.bits), "done": ("output", 1), "fail": ("output", 1)}
+
+
+def bits(width: int) -> str:
+    return "1 bit" if width == 1 else f"{width} bits"
+
+
+def port(name: str, text: bytes, what: str, memory: common.Memory) -> Finding:
+    """The port that is not as the self-test of a memory has it."""
+    module, wanted = Module(text), wanted_ports(memory)
+    if what not in wanted:
+        return Finding(name, text, module.ports[what].at, f"the self-test of {memory.name} has no port '{what}'",
+                       [f"its ports are {listed(list(wanted), 'and')}"])
+    kind, width = wanted[what]
+    if what not in module.ports:
+        return Finding(name, text, None, f"the port '{what}' is missing: {'an' if kind[0] in 'aeio' else 'a'} {kind} of {bits(width)}")
+    has = module.ports[what]
+    way = "input" if has.kind == "input" else "output"
+    if way != kind:
+        return Finding(name, text, has.at, f"'{what}' is an {way} here, and an {kind} of the self-test of {memory.name}")
+    return Finding(name, text, has.at, f"'{what}' has {bits(has.width)} here, and {bits(width)} in the self-test of {memory.name}")
+
+
+def verilog(name: str, text: bytes, code: str, values: dict, memory_file: str | None) -> Finding:
+    """What is wrong with a module."""
+    if code == "L1":
+        return unexpected("verilog", name, text, int(values["byte"]), WORDS)
+    if code == "L2":
+        return early("verilog", name, text, "the module")
+    if code == "B2":
+        return port(name, text, values["name"], common.parse_memory(common.read_text(memory_file)))
+    if code[0] == "N":
+        return rule(name, text, code, values)
+    message = {"L3": "this opens the 65th of (, {, begin, case and if that are open at once; at most 64 may be",
+               "L4": "this name goes on for more than 64 bytes",
+               "L5": "this number is too large: a literal has 1 to 64 bits and a value that they hold, and an index is at most 63"}[code]
+    return Finding(name, text, int(values["byte"]), message)

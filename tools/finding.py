@@ -1,0 +1,181 @@
+"""What is said of a refusal: a place in a text, shown as a compiler shows it, and what could stand there, found by asking
+the program of the text cut at that place with each word of the grammar behind it."""
+from __future__ import annotations
+
+import dataclasses
+import difflib
+import pathlib
+import re
+import subprocess
+import tempfile
+
+import common
+
+
+@dataclasses.dataclass
+class Finding:
+    """A refusal of one text: the name of the text, its bytes, the byte that is meant (None: the text as a whole), what
+    is wrong there, and further lines."""
+
+    name: str
+    text: bytes
+    at: int | None
+    message: str
+    notes: list[str] = dataclasses.field(default_factory=list)
+
+    def lines(self) -> list[str]:
+        if self.at is None:
+            return [f"{self.name}: error: {self.message}", *(f"  {note}" for note in self.notes)]
+        row, column = place(self.text, self.at)
+        return [f"{self.name}:{row}:{column}: error: {self.message}", *caret(self.text, self.at), *(f"  {note}" for note in self.notes)]
+
+
+def place(text: bytes, at: int) -> tuple[int, int]:
+    """The line and the column of a byte, both from 1; columns count characters."""
+    before = text[:at]
+    return before.count(b"\n") + 1, len(before[before.rfind(b"\n") + 1:].decode("utf-8", "replace")) + 1
+
+
+def caret(text: bytes, at: int) -> list[str]:
+    """The line of a byte, and under it a caret."""
+    begin = text.rfind(b"\n", 0, at) + 1
+    end = text.find(b"\n", at)
+    line = text[begin:end if end >= 0 else len(text)].decode("utf-8", "replace").replace("\t", " ").rstrip("\r")
+    column = place(text, at)[1] - 1
+    start = max(0, column - 60)
+    shown = "".join(letter if letter.isprintable() else "?" for letter in line[start:start + 100])
+    return [f"  {shown}", f"  {' ' * (column - start)}^"]
+
+
+def line_start(text: bytes, line: int) -> int:
+    """The byte with which a line begins, lines counted from 1."""
+    return sum(len(part) + 1 for part in text.split(b"\n")[:line - 1])
+
+
+def at_of(values: dict, text: bytes) -> int | None:
+    """The byte that the values of a refusal name."""
+    if "line" in values:
+        return line_start(text, int(values["line"])) + int(values.get("byte", 0))
+    return int(values["byte"]) if "byte" in values else None
+
+
+def thousands(number) -> str:
+    return f"{int(number):,}"
+
+
+def listed(words: list[str], last: str = "or") -> str:
+    """Words as a sentence lists them."""
+    return words[0] if len(words) == 1 else f"{', '.join(words[:-1])} {last} {words[-1]}"
+
+
+def close_to(word: str, names: list[str]) -> str | None:
+    """The name that was probably meant."""
+    folded = {}
+    for name in names:
+        folded.setdefault(name.lower(), name)
+    if word.lower() in folded:
+        return folded[word.lower()]
+    found = difflib.get_close_matches(word.lower(), list(folded), 1, 0.6)
+    return folded[found[0]] if found else None
+
+
+# ---- what could stand there
+
+CLASSES = "SF TF WDF RDF DRDF IRF CFst CFds CFtr CFwd CFrd CFdr CFir DRF".split()
+GROUPS = "one two all dyn1 dyn2".split()
+TOKENS = {
+    "march": "{ } ( ) , ; up down any del w0 w1 r0 r1".split(),
+    "memory": ["memory 1", "name", "words", "bits", "latency", "polarity", "pause", "scramble", "backgrounds", "log", "a0", "p0", "x", "1", "^", "=", "\n"],
+    "list": [*CLASSES, *GROUPS, "<", "#", "\n"],
+    "primitive": "0 1 w0 w1 r0 r1 t ; / - >".split(),
+    "verilog": ["module", "input", "output", "wire", "reg", "assign", "always", "begin", "end", "if", "else", "case", "default", "endcase",
+                "endmodule", "posedge", *"( ) { } [ ] , ; : ? = <= @ ~ ! & | ^ + - == != < > >= && || << >>".split(), "x", "1'h0", "0"],
+}
+# how a token of many is told
+SHOWN = {
+    "memory": {"\n": "the end of the line", "1": "a number", "a0": "a row as a0", "p0": "an index bit as p0", "x": "a name"},
+    "list": {"\n": "the end of the line", "#": "a comment (#)", "<": "a primitive (<)"},
+    "verilog": {"x": "a name", "1'h0": "a literal with its size as 1'h0", "0": "a number"},
+}
+
+
+class Trier:
+    """Asks a program of texts; without a program that answers at once nothing is found."""
+
+    def __init__(self, kind: str, is_word: bool = False):
+        self.kind, self.is_word = kind, is_word
+        self.program = common.quick_program()
+
+    def refusal(self, folder: pathlib.Path, text: bytes) -> str:
+        """The program's line for a text; `absent` where the text is accepted, since the next one is missing."""
+        file, march, missing = folder / "text", folder / "march", folder / "missing"
+        file.write_bytes(text)
+        march.write_text("any(w0)")
+        if self.is_word:
+            # as the file of a list the primitive would be followed by the end of its line
+            words = ["sim", march, text.decode("utf-8", "replace"), "2", "00", "none", "0", "u"]
+        else:
+            words = {"march": ["judge", file, missing, folder / "out"], "list": ["judge", march, file, "/dev/null"],
+                     "memory": ["benchfault", march, file, "<0/1/->", "none", "999999999.0"],
+                     "verilog": ["benchfile", file, missing, march]}[self.kind]
+        done = subprocess.run([self.program, *map(str, words)], stdin=subprocess.DEVNULL, stdout=subprocess.PIPE,
+                              env={"VIDLAKOST_EXPLAIN": "0", "PATH": "/usr/bin:/bin"}, check=False)
+        return done.stdout.decode("utf-8", "replace").strip()
+
+    def fits(self, folder: pathlib.Path, text: bytes) -> bool:
+        """Whether a text is not refused before its end."""
+        if self.is_word and b"\0" in text:
+            return False
+        match = re.fullmatch(r"\w+ [MFDL]1(?: line (?P<line>\d+))? byte (?P<byte>\d+)", self.refusal(folder, text))
+        if match is None:
+            return True
+        return at_of({key: value for key, value in match.groupdict().items() if value}, text) >= len(text)
+
+    def whole_before(self, folder: pathlib.Path, text: bytes, at: int) -> bool:
+        """Whether a word that ends at a byte is whole, so that what follows it is to blame and not the word."""
+        ends = at > 0 and is_letter(text[at - 1:at]) and not is_letter(text[at:at + 1])
+        return ends and self.fits(folder, text[:at] + b" ")
+
+    def fitting(self, text: bytes, at: int) -> tuple[list[str], bool]:
+        """The tokens with which the text goes on at a byte, or at the beginning of the word in which it stands, and
+        whether the word in front of the byte is whole."""
+        if self.program is None:
+            return [], False
+        begin = max(text.rfind(b"\n", 0, at), text.rfind(b">", 0, at))
+        in_primitive = self.is_word or self.kind == "list" and text.rfind(b"<", 0, at) > begin
+        kind = "primitive" if in_primitive else self.kind
+        with tempfile.TemporaryDirectory() as name:
+            folder = pathlib.Path(name)
+            whole = not in_primitive and self.whole_before(folder, text, at)
+            if in_primitive:
+                before = text[:at - 1 if text[at - 1:at] in (b"w", b"r") else at]
+            else:
+                before = text[:at] + b" " if whole else text[:word_start(text, at)]
+            found = [token for token in TOKENS[kind] if self.fits(folder, before + token.encode() + (b" " if is_letter(token[-1:].encode()) else b""))]
+        # where any name may stand, the words that may name something are not told
+        return ["x"] if kind == "memory" and "x" in found else found, whole
+
+
+def is_letter(byte: bytes) -> bool:
+    return re.fullmatch(rb"[\w$]", byte) is not None
+
+
+def word_start(text: bytes, at: int) -> int:
+    """Where the word begins in which, or right behind which, a byte stands."""
+    while at and is_letter(text[at - 1:at]):
+        at -= 1
+    return at
+
+
+def word_at(text: bytes, at: int, behind: bool = False) -> str:
+    """The word or the mark at a byte; with `behind` what begins there, and not the word that ends there."""
+    start = at if behind else word_start(text, at)
+    match = re.compile(rb"[\w$]+|[\xc0-\xff][\x80-\xbf]*|[^\n]").match(text, start)
+    return match[0].decode("utf-8", "replace") if match else ""
+
+
+def could_stand(kind: str, text: bytes, at: int, is_word: bool = False) -> tuple[list[str], list[str], bool]:
+    """The tokens that could stand at a byte, the note that lists them, and whether the word in front is whole."""
+    found, whole = Trier(kind, is_word).fitting(text, at)
+    shown = list(dict.fromkeys(SHOWN.get(kind, {}).get(token, token) for token in found))
+    return found, [f"here could stand {listed(shown)}"] if shown else [], whole
