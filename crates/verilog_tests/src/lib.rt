@@ -4,6 +4,8 @@
 #[cfg(test)]
 mod controller_rows;
 #[cfg(test)]
+mod port_check_rows;
+#[cfg(test)]
 mod self_test_rows;
 #[cfg(test)]
 mod trees;

@@ -232,8 +232,8 @@ fn deepest(alloc: Global) -> Result<Vec<u8>, NoMemory> {
 }
 
 /// What its output is worth where its inputs are 1: nothing where it can't be run.
-fn worth(alloc: Global, module: &Module) -> Option<u64> {
-    if !formed(module) || check(alloc, module).is_err() {
+fn worth(alloc: Global, module: Module) -> Option<u64> {
+    if !formed(&module) || check(alloc, &module).is_err() {
         return None;
     }
     let mut design = elaborate(alloc, module).ok()?;
@@ -250,7 +250,7 @@ fn worth(alloc: Global, module: &Module) -> Option<u64> {
 fn is_run(alloc: Global) -> Result<bool, NoMemory> {
     let text = deepest(alloc)?;
     match read_free(alloc, &text) {
-        Ok(module) => Ok(worth(alloc, &module) == Some(1)),
+        Ok(module) => Ok(worth(alloc, module) == Some(1)),
         Err(_) => Ok(false),
     }
 }
