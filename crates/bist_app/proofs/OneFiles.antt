@@ -7,7 +7,7 @@ use Rattle.word_device.specs.declared.device.Planted.{Planted}
 use Rattle.memory_desc.specs.Descriptions.{Description}
 use Rattle.memory_desc.specs.Printed.{printed}
 use Rattle.memory_desc.proofs.Determined.{width_one, log_set_one}
-use Rattle.scrambler.specs.Scrambling.{Scrambling, identity}
+use Rattle.scrambler.specs.Scrambling.{identity}
 use Rattle.verilog_tree.specs.Plain.{ModuleTree}
 use Rattle.dynamic_core.specs.declared.item.Item.{Item}
 use Rattle.report.specs.Report.{IsMixedReport}
@@ -29,10 +29,10 @@ use Rattle.bist_app.specs.declared.commands.Command.{Command}
 use Rattle.bist_app.specs.declared.sim.SimShape.{SimShape}
 use Rattle.bist_app.specs.declared.benchfault_command.FaultShape.{FaultShape}
 use Rattle.bist_app.specs.Sim.{FitsAggressor, FitsDirections, places_of, LeavesSim, DecidesSim}
-use Rattle.bist_app.specs.Judge.{LeavesJudge, DecidesJudge}
-use Rattle.bist_app.specs.Vectors.{FitsLength, LeavesVectors, DecidesVectors}
-use Rattle.bist_app.specs.Compile.{LeavesCompile, DecidesCompile}
-use Rattle.bist_app.specs.Make.{made_outputs, LeavesMake}
+use Rattle.bist_app.specs.Judge.{LeavesJudge}
+use Rattle.bist_app.specs.Vectors.{FitsLength, LeavesVectors}
+use Rattle.bist_app.specs.Compile.{LeavesCompile}
+use Rattle.bist_app.specs.Make.{LeavesMake}
 use Rattle.bist_app.specs.Bench.{Boxes, HasBox, FitsRoom, Before, LeavesBench, LeavesFirst, DecidesBench}
 use Rattle.bist_app.specs.BenchFault.{FitsPlaces, planted_of, LeavesFault, DecidesFault}
 use Rattle.bist_app.specs.BenchFile.{HasPorts, LeavesBenchFile, DecidesBenchFile}

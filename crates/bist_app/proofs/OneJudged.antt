@@ -1,5 +1,5 @@
 -- What is said of a judged list is one line and one status alone.
-use Rattle.std.proofs.Common.{◌≡◌, ◌<◌, ◌+◌, ℕ, zero, suc, Bool, true, false, List, [], ◌∷◌, Option, Ok, Err, inl, inr, refl, sym, ◌∙◌, ap, arith, subst, length, slice_index_or}
+use Rattle.std.proofs.Common.{◌≡◌, ◌<◌, ℕ, zero, suc, Bool, true, false, List, [], ◌∷◌, Option, Ok, Err, refl, sym, ◌∙◌, ap, arith, subst, length, slice_index_or}
 use Rattle.std.specs.List.{AllByRecursion}
 use Rattle.march_core.specs.March.{MarchElement}
 use Rattle.dynamic_core.specs.declared.item.Item.{Item}

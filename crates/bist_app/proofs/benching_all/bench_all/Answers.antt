@@ -1,6 +1,6 @@
 use Rattle.std.proofs.Common.{◌∙◌}
 use Rattle.verilog_cycle.specs.Design.{registers_of}
-use Rattle.bist_app.proofs.AllBenched.{zeros_for_registers, boxes_benched, all_gone}
+use Rattle.bist_app.proofs.AllBenched.{zeros_for_registers, boxes_benched}
 use Rattle.bist_app.proofs.benching_all.bench_all.Goals as goal
 
 pub bench_boxes-requires-clause-zeros : goal.bench_boxes-requires-clause-zeros
