@@ -220,14 +220,11 @@ fn long_expressions_are_read(rt: HostRuntime) -> Result<(), Fail> {
 
 /// A tree of 321 levels: 256 operators that lean left, within 64 braces.
 fn deepest(alloc: Global) -> Result<Vec<u8>, NoMemory> {
-    let mut text = Vec::new(alloc);
-    put(&mut text, DRIVE.as_bytes())?;
-    let braces = repeated(alloc, "", "{", 64, "a")?;
-    put(&mut text, &braces)?;
-    let operators = repeated(alloc, "", "&b", 256, "")?;
-    put(&mut text, &operators)?;
-    let end = repeated(alloc, "", "}", 64, ";endmodule")?;
-    put(&mut text, &end)?;
+    let mut text = repeated(alloc, DRIVE, "{", 64, "a")?;
+    for (piece, times, end) in [("&b", 256, ""), ("}", 64, ";endmodule")] {
+        let more = repeated(alloc, "", piece, times, end)?;
+        put(&mut text, &more)?;
+    }
     Ok(text)
 }
 
