@@ -111,6 +111,7 @@ def explain(words: list[str], said: str, status: int) -> None:
     """The explanation of a refusal on standard error, unless VIDLAKOST_EXPLAIN=0 asks for silence."""
     if os.environ.get("VIDLAKOST_EXPLAIN") != "0":
         import diagnose
+
         for line in diagnose.lines(words, said, status):
             tell(line)
 
@@ -147,7 +148,9 @@ class Command:
 
 def commands() -> list[Command]:
     """The commands, from docs/FORMATS.md."""
-    sections = re.findall(r"^## The command `\w+`\n\n```\n([^\n]*)\n([^\n]*)\n```\n\n(.*?)(?=^## )", read_text(FORMATS), re.MULTILINE | re.DOTALL)
+    sections = re.findall(
+        r"^## The command `\w+`\n\n```\n([^\n]*)\n([^\n]*)\n```\n\n(.*?)(?=^## )", read_text(FORMATS), re.MULTILINE | re.DOTALL
+    )
     return [Command(form.split(), example, does.strip()) for form, example, does in sections]
 
 
@@ -171,7 +174,9 @@ def version() -> tuple[str, str, str]:
     form = ["git", "-C", str(ROOT), "log", "-1", "--format=%cs %h"]
     said = subprocess.run(form, stdout=subprocess.PIPE, stderr=subprocess.DEVNULL, text=True, check=False).stdout.split()
     date, commit = said if len(said) == 2 else ("0000-00-00", "none")
-    changed = subprocess.run([*form[:3], "status", "--porcelain"], stdout=subprocess.PIPE, stderr=subprocess.DEVNULL, text=True, check=False).stdout
+    changed = subprocess.run(
+        [*form[:3], "status", "--porcelain"], stdout=subprocess.PIPE, stderr=subprocess.DEVNULL, text=True, check=False
+    ).stdout
     return f"{date.replace('-', '.')}-{commit}{'-changed' if changed.strip() else ''}", date, commit
 
 
@@ -188,7 +193,9 @@ def run(*words) -> tuple[int, str]:
     """The program's status and its line for these words."""
     quiet = {**os.environ, "VIDLAKOST_EXPLAIN": "0"}
     try:
-        done = subprocess.run([PROGRAM, *map(str, words)], stdout=subprocess.PIPE, stdin=subprocess.DEVNULL, env=quiet, check=False)
+        done = subprocess.run(
+            [PROGRAM, *map(str, words)], stdout=subprocess.PIPE, stdin=subprocess.DEVNULL, env=quiet, check=False
+        )
     except OSError as error:
         raise ToolError(f"the program {PROGRAM} can't be run: {error.strerror}", 125) from error
     said = done.stdout.decode("utf-8", "replace")
@@ -235,8 +242,21 @@ class Element:
         return self.order == "del"
 
 
-ORDERS = {"up": "up", "^": "up", "⇑": "up", "↑": "up", "down": "down", "v": "down", "⇓": "down", "↓": "down",
-          "any": "any", "*": "any", "⇕": "any", "↕": "any", "del": "del"}
+ORDERS = {
+    "up": "up",
+    "^": "up",
+    "⇑": "up",
+    "↑": "up",
+    "down": "down",
+    "v": "down",
+    "⇓": "down",
+    "↓": "down",
+    "any": "any",
+    "*": "any",
+    "⇕": "any",
+    "↕": "any",
+    "del": "del",
+}
 
 
 def elements_of(march: str) -> list[Element]:
@@ -258,11 +278,13 @@ def length_of(elements: list[Element]) -> str:
 
 def march_of(path) -> tuple[str, list[Element]]:
     """The printed form and the elements of the march in a file, which the program has to accept."""
+
     def first_line(empty):
         with tempfile.TemporaryDirectory() as folder:
             report = pathlib.Path(folder) / "report"
             ask("judge", path, empty, report)
-            return report.read_text().splitlines()[0][len("march "):]
+            return report.read_text().splitlines()[0][len("march ") :]
+
     printed = with_text("", first_line)
     return printed, elements_of(printed)
 
@@ -363,17 +385,27 @@ def parse_memory(text: str) -> Memory:
     bits = int(said["bits"])
     log = said["backgrounds"] == "log"
     backgrounds = logarithmic(bits) if log else [int(word, 16) for word in said["backgrounds"].split()]
-    return Memory(said["name"], int(said["words"]), bits, int(said["latency"]), int(said["polarity"], 16),
-                  int(said["pause"]), [rows[i] for i in sorted(rows)] or None, backgrounds)
+    return Memory(
+        said["name"],
+        int(said["words"]),
+        bits,
+        int(said["latency"]),
+        int(said["polarity"], 16),
+        int(said["pause"]),
+        [rows[i] for i in sorted(rows)] or None,
+        backgrounds,
+    )
 
 
 def read_memory(path) -> Memory:
     """The memory of a file, which the program has to accept: `benchfault` is asked to plant a fault outside of it, which
     it refuses last, before it runs anything."""
+
     def is_refused(march):
         status, said = run("benchfault", march, path, "<0/1/->", "none", "999999999.0")
         if status not in (11, 12):
             raise Refused(["bench", "MARCH", str(path)], said, status)
+
     with_text("any(w0)", is_refused)
     return parse_memory(read_text(path))
 
@@ -403,7 +435,9 @@ class Primitive:
         return [*(self.aggressor.operations if self.aggressor else []), *self.victim.operations]
 
 
-PRIMITIVE = re.compile(r"<(?:(?P<aggressor>[01]?(?:[wr][01]|t)*);)?(?P<victim>[01]?(?:[wr][01]|t)*)/(?P<after>[01])/(?P<answer>[-01])>")
+PRIMITIVE = re.compile(
+    r"<(?:(?P<aggressor>[01]?(?:[wr][01]|t)*);)?(?P<victim>[01]?(?:[wr][01]|t)*)/(?P<after>[01])/(?P<answer>[-01])>"
+)
 
 
 def sense(text: str) -> Sense:
@@ -417,8 +451,12 @@ def read_primitive(text: str) -> Primitive:
     match = PRIMITIVE.fullmatch("".join(text.split()))
     if match is None or any(part is not None and not re.match("[01r]", part) for part in (match["aggressor"], match["victim"])):
         raise ToolError(f"'{text}' is no primitive")
-    return Primitive(sense(match["aggressor"]) if match["aggressor"] is not None else None, sense(match["victim"]),
-                     int(match["after"]), None if match["answer"] == "-" else int(match["answer"]))
+    return Primitive(
+        sense(match["aggressor"]) if match["aggressor"] is not None else None,
+        sense(match["victim"]),
+        int(match["after"]),
+        None if match["answer"] == "-" else int(match["answer"]),
+    )
 
 
 def place_of(text: str) -> tuple[int, int]:
@@ -523,12 +561,16 @@ class Array:
 # ---- reports
 
 
-ESCAPE = re.compile(r"escape (?P<primitive>\S+) (?P<kind>\S+) (?:cells (?P<cells>\d) )?aggressor (?P<aggressor>none|\d) "
-                    r"victim (?P<victim>\d) content (?P<content>[01]+) directions (?P<directions>[ud]+)")
+ESCAPE = re.compile(
+    r"escape (?P<primitive>\S+) (?P<kind>\S+) (?:cells (?P<cells>\d) )?aggressor (?P<aggressor>none|\d) "
+    r"victim (?P<victim>\d) content (?P<content>[01]+) directions (?P<directions>[ud]+)"
+)
 COVERED = re.compile(r"covered (?P<primitive>\S+) (?P<kind>\S+)")
 CLASS = re.compile(r"class (?P<kind>\S+) (?P<count>\d+) covered (?P<covered>\d+)")
 TOTAL = re.compile(r"total (?P<count>\d+) covered (?P<covered>\d+) escapes (?P<escapes>\d+)")
-SHAPE = re.compile(r"memory (?P<name>\S+) words (?P<words>\d+) bits (?P<bits>\d+) backgrounds (?P<backgrounds>\d+) commands (?P<commands>\d+)")
+SHAPE = re.compile(
+    r"memory (?P<name>\S+) words (?P<words>\d+) bits (?P<bits>\d+) backgrounds (?P<backgrounds>\d+) commands (?P<commands>\d+)"
+)
 
 
 @dataclasses.dataclass
@@ -557,14 +599,28 @@ class Verdict:
     def as_object(self) -> dict:
         made = {"primitive": self.primitive, "class": self.kind, "covered": self.covered}
         if not self.covered:
-            made["escape"] = {"cells": len(self.content), "aggressor": self.aggressor, "victim": self.victim,
-                              "content": self.content, "directions": self.directions}
+            made["escape"] = {
+                "cells": len(self.content),
+                "aggressor": self.aggressor,
+                "victim": self.victim,
+                "content": self.content,
+                "directions": self.directions,
+            }
         return made
 
     def words(self, march) -> list[str]:
         """The call of `sim` that replays an escape of a static primitive."""
         aggressor = "none" if self.aggressor is None else str(self.aggressor)
-        return ["sim", str(march), self.primitive, str(len(self.content)), self.content, aggressor, str(self.victim), self.directions]
+        return [
+            "sim",
+            str(march),
+            self.primitive,
+            str(len(self.content)),
+            self.content,
+            aggressor,
+            str(self.victim),
+            self.directions,
+        ]
 
 
 @dataclasses.dataclass
@@ -622,26 +678,31 @@ def read_report(path) -> Report:
     lines = read_text(path).split("\n")
     if lines[-1:] == [""]:
         lines.pop()
+
     def refuse(count, why):
         raise ToolError(f"{path}:{count}: {why}; this is no report of `judge` or `compile`")
+
     if not lines or not lines[0].startswith("march "):
         refuse(1, "the first line is no march")
     try:
-        elements = elements_of(lines[0][len("march "):])
+        elements = elements_of(lines[0][len("march ") :])
     except ToolError as error:
         refuse(1, error)
     total = TOTAL.fullmatch(lines[-1])
     if total is None:
         refuse(len(lines), "the last line is no total")
-    report = Report(lines[0][len("march "):], elements, None, [], {}, tuple(map(int, total.groups())))
+    report = Report(lines[0][len("march ") :], elements, None, [], {}, tuple(map(int, total.groups())))
     for count, line in enumerate(lines[1:-1], 2):
         why = take_line(report, line, count == 2)
         if why:
             refuse(count, why)
     counts = len(report.verdicts), len(report.verdicts) - len(report.escapes), len(report.escapes)
     if counts != report.total:
-        refuse(len(lines), f"the total says {report.total[0]} primitives, {report.total[1]} covered and {report.total[2]} "
-                           f"escapes, and the lines are {counts[0]}, {counts[1]} and {counts[2]}")
+        refuse(
+            len(lines),
+            f"the total says {report.total[0]} primitives, {report.total[1]} covered and {report.total[2]} "
+            f"escapes, and the lines are {counts[0]}, {counts[1]} and {counts[2]}",
+        )
     return report
 
 

@@ -9,12 +9,18 @@ import re
 import common
 import diagnose_texts
 import diagnose_verilog
-from finding import Finding, caret, close_to, listed, thousands
+from finding import Trier, close_to, listed, thousands
 
 # the word of a call whose text a refusal speaks of
 SUBJECTS = {"march": ["MARCH"], "memory": ["MEMORY"], "fault": ["FAULTS", "PRIM"], "verilog": ["VERILOG"]}
-FIELDS = [(r"line (\d+) byte (\d+)", ("line", "byte")), (r"line (\d+)", ("line",)), (r"byte (\d+)", ("byte",)),
-          (r"element (\d+) operation (\d+)", ("element", "operation")), (r"element (\d+)", ("element",)), (r"rows (.+)", ("rows",))]
+FIELDS = [
+    (r"line (\d+) byte (\d+)", ("line", "byte")),
+    (r"line (\d+)", ("line",)),
+    (r"byte (\d+)", ("byte",)),
+    (r"element (\d+) operation (\d+)", ("element", "operation")),
+    (r"element (\d+)", ("element",)),
+    (r"rows (.+)", ("rows",)),
+]
 CONSOLE = "vidlakost"
 
 
@@ -54,6 +60,7 @@ def refused_text(words: list[str], said: str) -> list[str]:
         return diagnose_texts.memory(named[subject], text, code, values).lines()
     if kind == "fault":
         return diagnose_texts.fault(named[subject], text, code, values, False).lines()
+    Trier.reader = words[0]
     return diagnose_verilog.verilog(named[subject], text, code, values, named.get("MEMORY")).lines()
 
 
@@ -89,8 +96,11 @@ def wrong_cell(name: str, word: str, named: dict, size: int | None) -> str | Non
         return None
     number = r"(?:0|[1-9]\d{0,8})"
     if size is None and "SIZE" not in named:
-        return None if re.fullmatch(rf"{number}\.{number}", word) else \
-            f"{name} is a cell as two numbers with a full stop between, its word's index and its bit, as 6.3, and not '{word}'"
+        return (
+            None
+            if re.fullmatch(rf"{number}\.{number}", word)
+            else f"{name} is a cell as two numbers with a full stop between, its word's index and its bit, as 6.3, and not '{word}'"
+        )
     if not re.fullmatch(number, word):
         return f"{name} is the number of a cell{' or none' if name == 'AGG' else ''}, and not '{word}'"
     if size is not None and int(word) >= size:
@@ -104,12 +114,19 @@ def usage(words: list[str]) -> list[str]:
     if not words or words[0] not in names:
         meant = close_to(words[0], names) if words else None
         what = f"'{words[0]}' is no command" if words else "there is no command"
-        return [f"{CONSOLE}: error: {what}" + (f"; did you mean '{meant}'?" if meant else ""), f"  the commands are {listed(names, 'and')}"]
+        return [
+            f"{CONSOLE}: error: {what}" + (f"; did you mean '{meant}'?" if meant else ""),
+            f"  the commands are {listed(names, 'and')}",
+        ]
     form = common.form_of(words[0])
     line = [f"  usage: {CONSOLE} {' '.join(form)}"]
     if len(words) != len(form):
         few = len(words) < len(form)
-        what = f"{listed(form[len(words):], 'and')} {'is' if len(form) - len(words) == 1 else 'are'} missing" if few else f"'{words[len(form)]}' is one word too many"
+        what = (
+            f"{listed(form[len(words):], 'and')} {'is' if len(form) - len(words) == 1 else 'are'} missing"
+            if few
+            else f"'{words[len(form)]}' is one word too many"
+        )
         return [f"{CONSOLE}: error: {words[0]} takes {len(form) - 1} words, and there are {len(words) - 1}: {what}", *line]
     named = words_by_name(words)
     for name, word in named.items():
@@ -120,7 +137,10 @@ def usage(words: list[str]) -> list[str]:
     for place, name in enumerate(files):
         same = next((other for other in files[:place] if named[other] == named[name]), None)
         if same:
-            return [f"{CONSOLE}: error: {same} and {name} are both '{named[name]}', and no two files of a call have one name", *line]
+            return [
+                f"{CONSOLE}: error: {same} and {name} are both '{named[name]}', and no two files of a call have one name",
+                *line,
+            ]
     return [f"{CONSOLE}: error: the words are not those of {words[0]}", *line]
 
 
@@ -131,8 +151,13 @@ def absent(word: str) -> list[str]:
     folder = os.path.dirname(word) or "."
     if not os.path.isdir(folder):
         return [f"{word}: error: there is no folder '{folder}'"]
-    meant = close_to(os.path.basename(word), [name for name in os.listdir(folder) if os.path.isfile(os.path.join(folder, name))])
-    return [f"{word}: error: there is no such file" + (f"; did you mean '{os.path.join(os.path.dirname(word), meant)}'?" if meant else "")]
+    meant = close_to(
+        os.path.basename(word), [name for name in os.listdir(folder) if os.path.isfile(os.path.join(folder, name))]
+    )
+    return [
+        f"{word}: error: there is no such file"
+        + (f"; did you mean '{os.path.join(os.path.dirname(word), meant)}'?" if meant else "")
+    ]
 
 
 def why_not(word: str, mode: str) -> str:
@@ -143,7 +168,11 @@ def why_not(word: str, mode: str) -> str:
     if mode == "w" and not os.path.isdir(folder):
         return f"there is no folder '{folder}'"
     if mode == "w" and not os.path.exists(word):
-        return "no file may be made in this folder" if not os.access(folder, os.W_OK) else "the system gave no more room, or failed"
+        return (
+            "no file may be made in this folder"
+            if not os.access(folder, os.W_OK)
+            else "the system gave no more room, or failed"
+        )
     return "it may not be opened" if not os.access(word, os.R_OK if mode == "r" else os.W_OK) else "the system failed"
 
 
@@ -155,7 +184,9 @@ def file_of(words: list[str], said: str) -> list[str]:
         return absent(word)
     if what == "too large":
         size = os.path.getsize(word) if os.path.isfile(word) else 0
-        return [f"{word}: error: the file has {thousands(size) if size else 'more'} bytes{'' if size else ' than may be'}, and an input at most 1,048,576"]
+        return [
+            f"{word}: error: the file has {thousands(size) if size else 'more'} bytes{'' if size else ' than may be'}, and an input at most 1,048,576"
+        ]
     mode, verb = ("r", "read") if what == "read failed" else ("w", "written")
     return [f"{word}: error: the file could not be {verb}: {why_not(word, mode)}"]
 
@@ -170,14 +201,23 @@ def memory_file(named: dict) -> common.Memory:
 def device(words: list[str], said: str) -> list[str]:
     named = words_by_name(words)
     if said != "device V2" or "VIC" not in named:
-        return [f"{CONSOLE}: error: " + ("there is no model of a memory to run beside" if said == "device V4" else "the model has too little room for this memory")]
+        return [
+            f"{CONSOLE}: error: "
+            + (
+                "there is no model of a memory to run beside"
+                if said == "device V4"
+                else "the model has too little room for this memory"
+            )
+        ]
     memory = memory_file(named)
     for name in ("AGG", "VIC"):
         if named[name] == "none":
             continue
         word, bit = common.place_of(named[name])
         if word >= memory.words:
-            return [f"{name}: error: {named[name]} is outside {memory.name}: its words are 0 to {thousands(memory.words - 1)}, by physical index"]
+            return [
+                f"{name}: error: {named[name]} is outside {memory.name}: its words are 0 to {thousands(memory.words - 1)}, by physical index"
+            ]
         if bit >= memory.bits:
             return [f"{name}: error: {named[name]} is outside {memory.name}: the bits of its words are 0 to {memory.bits - 1}"]
     return [f"VIC: error: aggressor {named['AGG']} and victim {named['VIC']} are in one word; the cells have to stand in two"]
@@ -187,16 +227,25 @@ def misfit(words: list[str], said: str) -> list[str]:
     named = words_by_name(words)
     if said == "misfit aggressor":
         two = common.read_primitive(named["PRIM"]).aggressor is not None
-        return [f"AGG: error: {named['PRIM']} has {'two cells' if two else 'one cell'}, so AGG is {'the cell of its aggressor' if two else 'none'}, and not '{named['AGG']}'"]
+        return [
+            f"AGG: error: {named['PRIM']} has {'two cells' if two else 'one cell'}, so AGG is {'the cell of its aggressor' if two else 'none'}, and not '{named['AGG']}'"
+        ]
     elements = common.elements_of(common.read_text(named["MARCH"]))
     directions = named["DIRS"]
     lines = [f"DIRS: error: '{directions}' has {len(directions)} letters, and {named['MARCH']} has {len(elements)} elements"]
-    shown = [f"  {element.text:24} {directions[place] if place < len(directions) else '(no letter)'}" for place, element in enumerate(elements)]
+    shown = [
+        f"  {element.text:24} {directions[place] if place < len(directions) else '(no letter)'}"
+        for place, element in enumerate(elements)
+    ]
     for place, (element, letter) in enumerate(zip(elements, directions)):
         wants = {"up": "u", "down": "d", "del": "u"}.get(element.order, letter)
         if letter != wants:
             shown[place] += f"   a pause has u" if element.is_pause else f"   this element goes {element.order}: {wants}"
-            lines[0] = f"DIRS: error: letter {place} is '{letter}', and does not agree with element {place}" if len(directions) == len(elements) else lines[0]
+            lines[0] = (
+                f"DIRS: error: letter {place} is '{letter}', and does not agree with element {place}"
+                if len(directions) == len(elements)
+                else lines[0]
+            )
     return lines + shown
 
 
@@ -205,10 +254,16 @@ def too_long(words: list[str], said: str) -> list[str]:
     memory, elements = memory_file(named), common.elements_of(common.read_text(named["MARCH"]))
     one = sum(map(memory.cycles_of, elements))
     most = (2000000 - memory.latency - 2) // one if one <= 2000000 else 0
-    cure = f"with {most} background{'s' if most > 1 else ''} it would not be too long" if most else "a shorter march, or fewer words, would do"
-    return [f"{named['MEMORY']}: error: the test takes {thousands(said.split(' ')[2])} cycles, and at most 2,000,000 are run",
-            f"  the march takes {thousands(one)} cycles in each of {len(memory.backgrounds)} backgrounds; {cure}",
-            "  (compile has no such limit)"]
+    cure = (
+        f"with {most} background{'s' if most > 1 else ''} it would not be too long"
+        if most
+        else "a shorter march, or fewer words, would do"
+    )
+    return [
+        f"{named['MEMORY']}: error: the test takes {thousands(said.split(' ')[2])} cycles, and at most 2,000,000 are run",
+        f"  the march takes {thousands(one)} cycles in each of {len(memory.backgrounds)} backgrounds; {cure}",
+        "  (compile has no such limit)",
+    ]
 
 
 def not_text(words: list[str]) -> list[str]:
@@ -238,8 +293,11 @@ def lines(words: list[str], said: str, status: int) -> list[str]:
         by_status = {11: device, 12: too_long, 13: misfit}
         if status in by_status:
             return by_status[status](words, said)
-        return {8: [f"{CONSOLE}: error: the line of the answer could not be written"], 9: [f"{CONSOLE}: error: there was no memory"],
-                16: not_text(words)}.get(status, [])
+        return {
+            8: [f"{CONSOLE}: error: the line of the answer could not be written"],
+            9: [f"{CONSOLE}: error: there was no memory"],
+            16: not_text(words),
+        }.get(status, [])
     except (OSError, IndexError, ValueError, KeyError, StopIteration, TypeError, common.ToolError):
         # a file that changed meanwhile, or words that are no command's
         return []

@@ -4,7 +4,20 @@ from __future__ import annotations
 import re
 
 import common
-from finding import CLASSES, GROUPS, Finding, at_of, close_to, could_stand, line_start, listed, place, thousands, word_at, word_start
+from finding import (
+    CLASSES,
+    GROUPS,
+    Finding,
+    at_of,
+    close_to,
+    could_stand,
+    line_start,
+    listed,
+    place,
+    thousands,
+    word_at,
+    word_start,
+)
 
 # ---- marches
 
@@ -33,21 +46,37 @@ def march(name: str, text: bytes, code: str, values: dict) -> Finding:
     elements = visits(text)
     operations = [(number, at, word) for number, (_, inside) in enumerate(elements) for at, word in inside]
     if code == "M3":
-        return Finding(name, text, None, "the march has pauses alone, and visits no cell" if elements else "the march has no element")
+        return Finding(
+            name, text, None, "the march has pauses alone, and visits no cell" if elements else "the march has no element"
+        )
     if code == "M4":
         return Finding(name, text, elements[64][0], f"this is the 65th of {len(elements)} elements; a march has at most 64")
     if code == "M6":
-        return Finding(name, text, operations[256][1], f"this is the 257th of {len(operations)} operations; a march has at most 256")
+        return Finding(
+            name, text, operations[256][1], f"this is the 257th of {len(operations)} operations; a march has at most 256"
+        )
     number = int(values["element"])
     if code == "M5":
         inside = elements[number][1]
-        return Finding(name, text, inside[16][0], f"this is the 17th of {len(inside)} operations of element {number}; an element has at most 16")
+        return Finding(
+            name,
+            text,
+            inside[16][0],
+            f"this is the 17th of {len(inside)} operations of element {number}; an element has at most 16",
+        )
     at, word = elements[number][1][int(values["operation"])]
     if code == "M7":
-        return Finding(name, text, at, f"{word} reads a cell that nothing has written yet", ["a march begins with a write, as any(w0)"])
+        return Finding(
+            name, text, at, f"{word} reads a cell that nothing has written yet", ["a march begins with a write, as any(w0)"]
+        )
     before = next(entry for entry in reversed(operations) if entry[1] < at and entry[2][0] == "w")
     row, column = place(text, before[1])
-    return Finding(name, text, at, f"{word} expects {word[1]}, and {before[2]} of element {before[0]} (line {row}, column {column}) wrote {before[2][1]} last")
+    return Finding(
+        name,
+        text,
+        at,
+        f"{word} expects {word[1]}, and {before[2]} of element {before[0]} (line {row}, column {column}) wrote {before[2][1]} last",
+    )
 
 
 # ---- where a text can't go on, or stops early
@@ -55,11 +84,13 @@ def march(name: str, text: bytes, code: str, values: dict) -> Finding:
 
 def unexpected(kind: str, name: str, text: bytes, at: int, names: list[str], is_word: bool = False) -> Finding:
     """A byte with which a text can't go on: the word in which it stands, or behind which, where that is not whole."""
-    inside = is_word or kind == "list" and b"<" in text[text.rfind(b"\n", 0, at) + 1:at]
+    inside = is_word or kind == "list" and b"<" in text[text.rfind(b"\n", 0, at) + 1 : at]
     tokens, notes, whole = could_stand(kind, text, at, is_word)
     start = at if inside or whole else word_start(text, at)
-    word = text[at:at + 1].decode("utf-8", "replace").strip("\n") if inside else word_at(text, at, whole)
-    meant = close_to(word, [token for token in tokens or names if re.match(r"[A-Za-z]", token)]) if word and not inside else None
+    word = text[at : at + 1].decode("utf-8", "replace").strip("\n") if inside else word_at(text, at, whole)
+    meant = (
+        close_to(word, [token for token in tokens or names if re.match(r"[A-Za-z]", token)]) if word and not inside else None
+    )
     if not word:
         message = "the primitive can't end here" if is_word else "the line can't end here"
     else:
@@ -82,13 +113,15 @@ def early(kind: str, name: str, text: bytes, what: str, is_word: bool = False) -
 # what other names of the literature are here
 OLD_NAMES = {
     "saf": "a cell that is stuck at 1 is <0/1/->, at 0 <1/0/->: both are SF",
-    "sa0": "a cell that is stuck at 0 is <1/0/->, of the class SF", "sa1": "a cell that is stuck at 1 is <0/1/->, of the class SF",
+    "sa0": "a cell that is stuck at 0 is <1/0/->, of the class SF",
+    "sa1": "a cell that is stuck at 1 is <0/1/->, of the class SF",
     "cfid": "an idempotent coupling fault is a primitive of CFds, as <0w1;0/1/->",
     "cfin": "an inversion coupling fault is two primitives of CFds, as <0w1;0/1/-> and <0w1;1/0/->",
     "af": "faults of the address decoder are no primitives, and no verdict speaks of them",
     "sof": "a stuck-open cell is no primitive, and no verdict speaks of it",
     "npsf": "neighbourhoods of cells are no primitives, and no verdict speaks of them",
-    "static": "the 48 static primitives without a pause are 'all'", "dynamic": "the dynamic primitives are 'dyn1' and 'dyn2'",
+    "static": "the 48 static primitives without a pause are 'all'",
+    "dynamic": "the dynamic primitives are 'dyn1' and 'dyn2'",
 }
 
 
@@ -154,7 +187,11 @@ def why_no_fault(primitive: common.Primitive) -> str:
 
 # ---- memory descriptions
 
-FIELDS = {"name": ("name IDENT", "the memory's name"), "words": ("words N", "the number of words"), "bits": ("bits N", "the bits of a word")}
+FIELDS = {
+    "name": ("name IDENT", "the memory's name"),
+    "words": ("words N", "the number of words"),
+    "bits": ("bits N", "the bits of a word"),
+}
 KEYWORDS = "memory name words bits latency polarity pause scramble backgrounds".split()
 
 
@@ -201,7 +238,11 @@ def memory(name: str, text: bytes, code: str, values: dict) -> Finding:
     """What is wrong with a memory description."""
     description = Description(name, text)
     if code == "D2":
-        return early("memory", name, text, "the last line") if description.statements else Finding(name, text, None, "no line of the description says anything")
+        return (
+            early("memory", name, text, "the last line")
+            if description.statements
+            else Finding(name, text, None, "no line of the description says anything")
+        )
     if code == "D1":
         return unexpected_statement(description, values)
     if code == "D4":
@@ -217,7 +258,9 @@ def unexpected_statement(description: Description, values: dict) -> Finding:
     line, at = int(values["line"]), at_of(values, description.text)
     word = description.statement(line)[0]
     if word in ("latency", "polarity", "pause") and description.number("memory") == 1:
-        return description.found(description.at(line), f"'{word}' is a line of version 2", "write 'memory 2' in place of 'memory 1'")
+        return description.found(
+            description.at(line), f"'{word}' is a line of version 2", "write 'memory 2' in place of 'memory 1'"
+        )
     if description.statements[0][0] == line and word != "memory":
         return description.found(description.at(line), "the first line that says anything has to be 'memory 1' or 'memory 2'")
     return unexpected("memory", description.name, description.text, at, KEYWORDS)
@@ -227,27 +270,40 @@ def missing(description: Description, field: str) -> Finding:
     if field in FIELDS:
         return description.found(None, f"the line '{FIELDS[field][0]}' is missing, {FIELDS[field][1]}")
     rows, width = description.rows(), description.width()
-    return description.found(description.at(rows[min(rows)][0]), f"there is no row {field}, and a scrambling has a row for each bit of an address, a0 to a{width - 1}",
-                             f"the rows that stand are {listed([f'a{row}' for row in sorted(rows)], 'and')}")
+    return description.found(
+        description.at(rows[min(rows)][0]),
+        f"there is no row {field}, and a scrambling has a row for each bit of an address, a0 to a{width - 1}",
+        f"the rows that stand are {listed([f'a{row}' for row in sorted(rows)], 'and')}",
+    )
 
 
 def repeated(description: Description, line: int) -> Finding:
     word, rest = description.statement(line)
     row = int(rest.split("=")[0].strip()[1:]) if word == "scramble" else None
-    first = next(number for number, kind, said in description.statements
-                 if kind == word and (row is None or int(said.split("=")[0].strip()[1:]) == row))
+    first = next(
+        number
+        for number, kind, said in description.statements
+        if kind == word and (row is None or int(said.split("=")[0].strip()[1:]) == row)
+    )
     what = f"row a{row}" if row is not None else f"'{word}'"
     return description.found(description.at(line), f"{what} stands in line {first} already")
 
 
-RANGES = {"words": (2, 65536, "words"), "bits": (1, 64, "bits of a word"), "latency": (1, 4, "cycles"), "pause": (1, 65535, "cycles")}
+RANGES = {
+    "words": (2, 65536, "words"),
+    "bits": (1, 64, "bits of a word"),
+    "latency": (1, 4, "cycles"),
+    "pause": (1, 65535, "cycles"),
+}
 
 
 def out_of_range(description: Description, line: int) -> Finding:
     word, rest = description.statement(line)
     if word in RANGES:
         least, most, unit = RANGES[word]
-        return description.found(description.at(line, rest), f"'{word} {rest}' is outside its range, {least} to {thousands(most)} {unit}")
+        return description.found(
+            description.at(line, rest), f"'{word} {rest}' is outside its range, {least} to {thousands(most)} {unit}"
+        )
     if word == "name":
         why = f"it has {len(rest)} bytes, and a name at most 48" if len(rest) > 48 else "it is a reserved word of Verilog"
         return description.found(description.at(line, rest), f"'{rest}' can't name a memory: {why}")
@@ -256,7 +312,10 @@ def out_of_range(description: Description, line: int) -> Finding:
     bits = description.number("bits") or 64
     wide = next((part for part in rest.split() if part != "log" and int(part, 16) >> bits), rest)
     what = "the polarity" if word == "polarity" else "the background"
-    return description.found(description.at(line, wide), f"{what} {wide} needs {int(wide, 16).bit_length()} bits, and a word of this memory has {bits}")
+    return description.found(
+        description.at(line, wide),
+        f"{what} {wide} needs {int(wide, 16).bit_length()} bits, and a word of this memory has {bits}",
+    )
 
 
 def outside_row(description: Description, line: int, rest: str) -> Finding:
@@ -264,8 +323,14 @@ def outside_row(description: Description, line: int, rest: str) -> Finding:
     row, terms = rest.split("=")
     part, what = row.strip(), "address"
     if int(part[1:]) < width:
-        part, what = next(term.strip() for term in terms.split("^") if term.strip()[0] == "p" and int(term.strip()[1:]) >= width), "index"
-    return description.found(description.at(line, part), f"there is no {part}: an {what} of {thousands(words)} words has {width} bits, {part[0]}0 to {part[0]}{width - 1}")
+        part, what = (
+            next(term.strip() for term in terms.split("^") if term.strip()[0] == "p" and int(term.strip()[1:]) >= width),
+            "index",
+        )
+    return description.found(
+        description.at(line, part),
+        f"there is no {part}: an {what} of {thousands(words)} words has {width} bits, {part[0]}0 to {part[0]}{width - 1}",
+    )
 
 
 def dependent(description: Description, names: list[str]) -> Finding:
@@ -287,8 +352,11 @@ def dependent(description: Description, names: list[str]) -> Finding:
 def no_power(description: Description) -> Finding:
     words = description.number("words") or 0
     below = 1 << (words.bit_length() - 1)
-    return description.found(description.at(description.line_of("words")), f"the memory has a scrambling, and words {words} is no power of two",
-                             f"a scrambling wants words {below} or {below * 2}; without scramble lines any number will do")
+    return description.found(
+        description.at(description.line_of("words")),
+        f"the memory has a scrambling, and words {words} is no power of two",
+        f"a scrambling wants words {below} or {below * 2}; without scramble lines any number will do",
+    )
 
 
 def no_solid(description: Description) -> Finding:

@@ -9,8 +9,11 @@ from diagnose_texts import early, unexpected
 from finding import Finding, listed
 
 WORDS = ("module input output wire reg assign always begin end if else case default endcase endmodule posedge").split()
-LEXEME = re.compile(r"(?:\s|//[^\n]*|/\*.*?\*/)+|(?P<literal>\d+'[bodhBODH][0-9a-fA-F_]+)|(?P<number>\d+)|(?P<name>[A-Za-z_][\w$]*)|"
-                    r"(?P<mark><=|>=|==|!=|&&|\|\||<<|>>|~&|~\||~\^|\^~|.)", re.DOTALL)
+LEXEME = re.compile(
+    r"(?:\s|//[^\n]*|/\*.*?\*/)+|(?P<literal>\d+'[bodhBODH][0-9a-fA-F_]+)|(?P<number>\d+)|(?P<name>[A-Za-z_][\w$]*)|"
+    r"(?P<mark><=|>=|==|!=|&&|\|\||<<|>>|~&|~\||~\^|\^~|.)",
+    re.DOTALL,
+)
 # operators of two operands, from the loosest to the tightest, for modules without all their parentheses
 LEVELS = ["||", "&&", "|", "^", "&", "== !=", "< <= > >=", "<< >>", "+ -"]
 RANK = {mark: rank for rank, level in enumerate(LEVELS) for mark in level.split()}
@@ -267,7 +270,9 @@ def broken(module: Module, event: Event, code: str, what: str, values: dict) -> 
         width, high, low = event.detail
         if width == 1:
             return f"'{what}' has one bit, of which nothing can be selected"
-        return f"'{what}' has the bits 0 to {width - 1}" + (f", and not {high}" if high >= width else f", and {low} is above {high}")
+        return f"'{what}' has the bits 0 to {width - 1}" + (
+            f", and not {high}" if high >= width else f", and {low} is above {high}"
+        )
     if code == "N9" and event.kind == "declared":
         return f"no assign drives '{what}'"
     if code == "N10":
@@ -295,13 +300,28 @@ def clock(module: Module, event: Event, what: str) -> str | None:
 def loop(name: str, text: bytes, module: Module, names: list[str]) -> Finding:
     places = [next((event.at for event in module.events if event.kind == "assign" and event.name == it), None) for it in names]
     circle = " -> ".join([*names, names[0]])
-    return Finding(name, text, places[0], "these wires form a loop, each uses the next" if len(names) > 1 else "this wire uses itself", [circle])
+    return Finding(
+        name,
+        text,
+        places[0],
+        "these wires form a loop, each uses the next" if len(names) > 1 else "this wire uses itself",
+        [circle],
+    )
 
 
 def wanted_ports(memory: common.Memory) -> dict[str, tuple[str, int]]:
     """The ports of the self-test of a memory."""
-    return {"clk": ("input", 1), "reset": ("input", 1), "rdata": ("input", memory.bits), "en": ("output", 1), "we": ("output", 1),
-            "addr": ("output", memory.width), "wdata": ("output", memory.bits), "done": ("output", 1), "fail": ("output", 1)}
+    return {
+        "clk": ("input", 1),
+        "reset": ("input", 1),
+        "rdata": ("input", memory.bits),
+        "en": ("output", 1),
+        "we": ("output", 1),
+        "addr": ("output", memory.width),
+        "wdata": ("output", memory.bits),
+        "done": ("output", 1),
+        "fail": ("output", 1),
+    }
 
 
 def bits(width: int) -> str:
@@ -312,16 +332,25 @@ def port(name: str, text: bytes, what: str, memory: common.Memory) -> Finding:
     """The port that is not as the self-test of a memory has it."""
     module, wanted = Module(text), wanted_ports(memory)
     if what not in wanted:
-        return Finding(name, text, module.ports[what].at, f"the self-test of {memory.name} has no port '{what}'",
-                       [f"its ports are {listed(list(wanted), 'and')}"])
+        return Finding(
+            name,
+            text,
+            module.ports[what].at,
+            f"the self-test of {memory.name} has no port '{what}'",
+            [f"its ports are {listed(list(wanted), 'and')}"],
+        )
     kind, width = wanted[what]
     if what not in module.ports:
-        return Finding(name, text, None, f"the port '{what}' is missing: {'an' if kind[0] in 'aeio' else 'a'} {kind} of {bits(width)}")
+        return Finding(
+            name, text, None, f"the port '{what}' is missing: {'an' if kind[0] in 'aeio' else 'a'} {kind} of {bits(width)}"
+        )
     has = module.ports[what]
     way = "input" if has.kind == "input" else "output"
     if way != kind:
         return Finding(name, text, has.at, f"'{what}' is an {way} here, and an {kind} of the self-test of {memory.name}")
-    return Finding(name, text, has.at, f"'{what}' has {bits(has.width)} here, and {bits(width)} in the self-test of {memory.name}")
+    return Finding(
+        name, text, has.at, f"'{what}' has {bits(has.width)} here, and {bits(width)} in the self-test of {memory.name}"
+    )
 
 
 def verilog(name: str, text: bytes, code: str, values: dict, memory_file: str | None) -> Finding:
@@ -334,7 +363,9 @@ def verilog(name: str, text: bytes, code: str, values: dict, memory_file: str | 
         return port(name, text, values["name"], common.parse_memory(common.read_text(memory_file)))
     if code[0] == "N":
         return rule(name, text, code, values)
-    message = {"L3": "this opens the 65th of (, {, begin, case and if that are open at once; at most 64 may be",
-               "L4": "this name goes on for more than 64 bytes",
-               "L5": "this number is too large: a literal has 1 to 64 bits and a value that they hold, and an index is at most 63"}[code]
+    message = {
+        "L3": "this opens the 65th of (, {, begin, case and if that are open at once; at most 64 may be",
+        "L4": "this name goes on for more than 64 bytes",
+        "L5": "this number is too large: a literal has 1 to 64 bits and a value that they hold, and an index is at most 63",
+    }[code]
     return Finding(name, text, int(values["byte"]), message)

@@ -27,29 +27,33 @@ class Finding:
         if self.at is None:
             return [f"{self.name}: error: {self.message}", *(f"  {note}" for note in self.notes)]
         row, column = place(self.text, self.at)
-        return [f"{self.name}:{row}:{column}: error: {self.message}", *caret(self.text, self.at), *(f"  {note}" for note in self.notes)]
+        return [
+            f"{self.name}:{row}:{column}: error: {self.message}",
+            *caret(self.text, self.at),
+            *(f"  {note}" for note in self.notes),
+        ]
 
 
 def place(text: bytes, at: int) -> tuple[int, int]:
     """The line and the column of a byte, both from 1; columns count characters."""
     before = text[:at]
-    return before.count(b"\n") + 1, len(before[before.rfind(b"\n") + 1:].decode("utf-8", "replace")) + 1
+    return before.count(b"\n") + 1, len(before[before.rfind(b"\n") + 1 :].decode("utf-8", "replace")) + 1
 
 
 def caret(text: bytes, at: int) -> list[str]:
     """The line of a byte, and under it a caret."""
     begin = text.rfind(b"\n", 0, at) + 1
     end = text.find(b"\n", at)
-    line = text[begin:end if end >= 0 else len(text)].decode("utf-8", "replace").replace("\t", " ").rstrip("\r")
+    line = text[begin : end if end >= 0 else len(text)].decode("utf-8", "replace").replace("\t", " ").rstrip("\r")
     column = place(text, at)[1] - 1
     start = max(0, column - 60)
-    shown = "".join(letter if letter.isprintable() else "?" for letter in line[start:start + 100])
+    shown = "".join(letter if letter.isprintable() else "?" for letter in line[start : start + 100])
     return [f"  {shown}", f"  {' ' * (column - start)}^"]
 
 
 def line_start(text: bytes, line: int) -> int:
     """The byte with which a line begins, lines counted from 1."""
-    return sum(len(part) + 1 for part in text.split(b"\n")[:line - 1])
+    return sum(len(part) + 1 for part in text.split(b"\n")[: line - 1])
 
 
 def at_of(values: dict, text: bytes) -> int | None:
@@ -85,11 +89,49 @@ CLASSES = "SF TF WDF RDF DRDF IRF CFst CFds CFtr CFwd CFrd CFdr CFir DRF".split(
 GROUPS = "one two all dyn1 dyn2".split()
 TOKENS = {
     "march": "{ } ( ) , ; up down any del w0 w1 r0 r1".split(),
-    "memory": ["memory 1", "name", "words", "bits", "latency", "polarity", "pause", "scramble", "backgrounds", "log", "a0", "p0", "x", "1", "^", "=", "\n"],
+    "memory": [
+        "memory 1",
+        "name",
+        "words",
+        "bits",
+        "latency",
+        "polarity",
+        "pause",
+        "scramble",
+        "backgrounds",
+        "log",
+        "a0",
+        "p0",
+        "x",
+        "1",
+        "^",
+        "=",
+        "\n",
+    ],
     "list": [*CLASSES, *GROUPS, "<", "#", "\n"],
     "primitive": "0 1 w0 w1 r0 r1 t ; / - >".split(),
-    "verilog": ["module", "input", "output", "wire", "reg", "assign", "always", "begin", "end", "if", "else", "case", "default", "endcase",
-                "endmodule", "posedge", *"( ) { } [ ] , ; : ? = <= @ ~ ! & | ^ + - == != < > >= && || << >>".split(), "x", "1'h0", "0"],
+    "verilog": [
+        "module",
+        "input",
+        "output",
+        "wire",
+        "reg",
+        "assign",
+        "always",
+        "begin",
+        "end",
+        "if",
+        "else",
+        "case",
+        "default",
+        "endcase",
+        "endmodule",
+        "posedge",
+        *"( ) { } [ ] , ; : ? = <= @ ~ ! & | ^ + - == != < > >= && || << >>".split(),
+        "x",
+        "1'h0",
+        "0",
+    ],
 }
 # how a token of many is told
 SHOWN = {
@@ -101,6 +143,9 @@ SHOWN = {
 
 class Trier:
     """Asks a program of texts; without a program that answers at once nothing is found."""
+
+    # the command that reads a module as the call does
+    reader = "benchfile"
 
     def __init__(self, kind: str, is_word: bool = False):
         self.kind, self.is_word = kind, is_word
@@ -115,11 +160,19 @@ class Trier:
             # as the file of a list the primitive would be followed by the end of its line
             words = ["sim", march, text.decode("utf-8", "replace"), "2", "00", "none", "0", "u"]
         else:
-            words = {"march": ["judge", file, missing, folder / "out"], "list": ["judge", march, file, "/dev/null"],
-                     "memory": ["benchfault", march, file, "<0/1/->", "none", "999999999.0"],
-                     "verilog": ["benchfile", file, missing, march]}[self.kind]
-        done = subprocess.run([self.program, *map(str, words)], stdin=subprocess.DEVNULL, stdout=subprocess.PIPE,
-                              env={"VIDLAKOST_EXPLAIN": "0", "PATH": "/usr/bin:/bin"}, check=False)
+            words = {
+                "march": ["judge", file, missing, folder / "out"],
+                "list": ["judge", march, file, "/dev/null"],
+                "memory": ["benchfault", march, file, "<0/1/->", "none", "999999999.0"],
+                "verilog": [self.reader, file, missing, march],
+            }[self.kind]
+        done = subprocess.run(
+            [self.program, *map(str, words)],
+            stdin=subprocess.DEVNULL,
+            stdout=subprocess.PIPE,
+            env={"VIDLAKOST_EXPLAIN": "0", "PATH": "/usr/bin:/bin"},
+            check=False,
+        )
         return done.stdout.decode("utf-8", "replace").strip()
 
     def fits(self, folder: pathlib.Path, text: bytes) -> bool:
@@ -133,7 +186,7 @@ class Trier:
 
     def whole_before(self, folder: pathlib.Path, text: bytes, at: int) -> bool:
         """Whether a word that ends at a byte is whole, so that what follows it is to blame and not the word."""
-        ends = at > 0 and is_letter(text[at - 1:at]) and not is_letter(text[at:at + 1])
+        ends = at > 0 and is_letter(text[at - 1 : at]) and not is_letter(text[at : at + 1])
         return ends and self.fits(folder, text[:at] + b" ")
 
     def fitting(self, text: bytes, at: int) -> tuple[list[str], bool]:
@@ -148,10 +201,14 @@ class Trier:
             folder = pathlib.Path(name)
             whole = not in_primitive and self.whole_before(folder, text, at)
             if in_primitive:
-                before = text[:at - 1 if text[at - 1:at] in (b"w", b"r") else at]
+                before = text[: at - 1 if text[at - 1 : at] in (b"w", b"r") else at]
             else:
-                before = text[:at] + b" " if whole else text[:word_start(text, at)]
-            found = [token for token in TOKENS[kind] if self.fits(folder, before + token.encode() + (b" " if is_letter(token[-1:].encode()) else b""))]
+                before = text[:at] + b" " if whole else text[: word_start(text, at)]
+            found = [
+                token
+                for token in TOKENS[kind]
+                if self.fits(folder, before + token.encode() + (b" " if is_letter(token[-1:].encode()) else b""))
+            ]
         # where any name may stand, the words that may name something are not told
         return ["x"] if kind == "memory" and "x" in found else found, whole
 
@@ -162,7 +219,7 @@ def is_letter(byte: bytes) -> bool:
 
 def word_start(text: bytes, at: int) -> int:
     """Where the word begins in which, or right behind which, a byte stands."""
-    while at and is_letter(text[at - 1:at]):
+    while at and is_letter(text[at - 1 : at]):
         at -= 1
     return at
 

@@ -42,7 +42,7 @@ def where(element: int | None) -> str:
 
 def later(steps: list[common.Step], place: int, victim: int) -> common.Step | None:
     """The next operation on the victim."""
-    return next((step for step in steps[place + 1:] if step.cell == victim), None)
+    return next((step for step in steps[place + 1 :] if step.cell == victim), None)
 
 
 def hidden(verdict: common.Verdict, steps: list[common.Step]) -> list[str]:

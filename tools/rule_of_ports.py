@@ -128,18 +128,38 @@ def arms(pairs) -> str:
 def rule(elements: list[common.Element], memory: common.Memory) -> str:
     """The text of the assertions."""
     numbered = list(enumerate(elements))
-    operations = [(f"{{6'd{count}, 4'd{place}}}", f"does = 2'b{int(operation[0] == 'w')}{operation[1]}")
-                  for count, element in numbered for place, operation in enumerate(element.operations)]
+    operations = [
+        (f"{{6'd{count}, 4'd{place}}}", f"does = 2'b{int(operation[0] == 'w')}{operation[1]}")
+        for count, element in numbered
+        for place, operation in enumerate(element.operations)
+    ]
     rows = []
     for i in range(memory.width):
         bits, constant = memory.row(i)
-        rows.append(f"  assign address{f'[{i}]' if memory.width > 1 else ''} = {' ^ '.join([f'place[{bit}]' for bit in bits] + [f'1' + chr(39) + f'b{constant}'])};")
+        terms = " ^ ".join([*(f"place[{bit}]" for bit in bits), f"1'b{constant}"])
+        rows.append(f"  assign address{f'[{i}]' if memory.width > 1 else ''} = {terms};")
     return RULE.format(
-        name=memory.name, march=";".join(element.text for element in elements), word=f"[{memory.bits - 1}:0] " if memory.bits > 1 else "",
-        index=f"[{memory.width - 1}:0] " if memory.width > 1 else "", latency=memory.latency, bits=memory.bits, polarity=memory.polarity,
+        name=memory.name,
+        march=";".join(element.text for element in elements),
+        word=f"[{memory.bits - 1}:0] " if memory.bits > 1 else "",
+        index=f"[{memory.width - 1}:0] " if memory.width > 1 else "",
+        latency=memory.latency,
+        bits=memory.bits,
+        polarity=memory.polarity,
         pauses=arms((f"6'd{count}", "is_pause = 1'b1") for count, element in numbered if element.is_pause),
-        lasts=arms((f"6'd{count}", f"last_operation = 4'd{len(element.operations) - 1}") for count, element in numbered if not element.is_pause),
-        downs=arms((f"6'd{count}", "goes_down = 1'b1") for count, element in numbered if element.order == "down"), operations=arms(operations),
-        backgrounds=arms((f"3'd{count}", f"background_word = {memory.bits}'h{word:x}") for count, word in enumerate(memory.backgrounds)),
-        last_rest=memory.pause - 1, last_word=memory.words - 1, last_element=len(elements) - 1, rows="\n".join(rows),
-        last_background=len(memory.backgrounds) - 1)
+        lasts=arms(
+            (f"6'd{count}", f"last_operation = 4'd{len(element.operations) - 1}")
+            for count, element in numbered
+            if not element.is_pause
+        ),
+        downs=arms((f"6'd{count}", "goes_down = 1'b1") for count, element in numbered if element.order == "down"),
+        operations=arms(operations),
+        backgrounds=arms(
+            (f"3'd{count}", f"background_word = {memory.bits}'h{word:x}") for count, word in enumerate(memory.backgrounds)
+        ),
+        last_rest=memory.pause - 1,
+        last_word=memory.words - 1,
+        last_element=len(elements) - 1,
+        rows="\n".join(rows),
+        last_background=len(memory.backgrounds) - 1,
+    )
