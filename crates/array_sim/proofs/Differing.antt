@@ -4,10 +4,10 @@ use Rattle.std.specs.Option.{IsSome, IfSome}
 use Rattle.fault_core.specs.declared.cells.Places.{Places}
 use Rattle.fault_core.specs.Primitive.{Primitive}
 use Rattle.fault_core.specs.Cells.{step_cells, pause_cells}
-use Rattle.march_core.specs.Visits.{Visit, MarchStep, pausing, visiting}
-use Rattle.array_sim.specs.declared.element_run.Miss.{Miss}
-use Rattle.array_sim.specs.Run.{Outcome, run_of, act_of, miss_at}
-use Rattle.array_sim.specs.Differing.{left_behind, DiffersBy, SomeDiffersBy, IsFirstBy, after_step, is_wrong_at, SomeDiffers, IsFirstMiss}
+use Rattle.march_core.specs.Visits.{Visit, MarchStep, pausing, visiting, miss_at}
+use Rattle.march_core.specs.declared.visit.Miss.{Miss}
+use Rattle.array_sim.specs.Run.{Outcome, run_of, act_of}
+use Rattle.array_sim.specs.Differing.{left_behind, DiffersBy, SomeDiffersBy, IsFirstBy, behind_first, after_step, is_wrong_at, SomeDiffers, IsFirstMiss, StopsAt}
 
 no_visit : (e : ℕ) (v : Visit) → pausing e ≡ visiting v → ⊥
 no_visit e v is = cc
@@ -112,6 +112,55 @@ module _ {S : Type 0} (after : S → MarchStep → S) (is_wrong : S → Visit �
       let first : IsFirstBy after is_wrong s steps miss = first_miss s steps miss (sym is) in
       ((λ some. (first.visit, first.differs), λ d. refl), first)
 
+  -- what is left behind the first read that differs, or behind all steps
+  abbrev pub left_at : S → List MarchStep → S
+  left_at s [] = s
+  left_at s (pausing e ∷ steps) = left_at (after s (pausing e)) steps
+  left_at s (visiting v ∷ steps) = cond (is_wrong s v) (after s (visiting v)) (left_at (after s (visiting v)) steps)
+
+  -- a visit that differs, with none before it, is the one that is named, and the end
+  stops_there : (s : S) (before behind : List MarchStep) (v : Visit) → is_wrong (left_behind after s before) v ≡ true
+      → (SomeDiffersBy after is_wrong s before → ⊥)
+      → (first_of s (before ++ visiting v ∷ behind) ≡ Some (miss_at v)) × (left_at s (before ++ visiting v ∷ behind) ≡ after (left_behind after s before) (visiting v))
+  stops_there s [] behind v wrong none =
+      (ap (λ b. cond b (Some (miss_at v)) (first_of (after s (visiting v)) behind)) wrong, ap (λ b. cond b (after s (visiting v)) (left_at (after s (visiting v)) behind)) wrong)
+  stops_there s (pausing e ∷ xs) behind v wrong none =
+      stops_there (after s (pausing e)) xs behind v wrong (λ (w, d). none (w, differs_behind s (pausing e) xs w d))
+  stops_there s (visiting x ∷ xs) behind v wrong none =
+      go (first_of (after s (visiting x)) (xs ++ visiting v ∷ behind)) (left_at (after s (visiting x)) (xs ++ visiting v ∷ behind))
+      (stops_there (after s (visiting x)) xs behind v wrong (λ (w, d). none (w, differs_behind s (visiting x) xs w d))) (is_wrong s x) refl
+    where
+      go : (named : Option Miss) (left : S) → (named ≡ Some (miss_at v)) × (left ≡ after (left_behind after (after s (visiting x)) xs) (visiting v))
+          → (b : Bool) → is_wrong s x ≡ b
+          → (cond b (Some (miss_at x)) named ≡ Some (miss_at v)) × (cond b (after s (visiting x)) left ≡ after (left_behind after (after s (visiting x)) xs) (visiting v))
+      go named left rest true is = absurd (none (x, record { before = []; behind = xs; split = refl; wrong = is }))
+      go named left rest false is = rest
+
+  first_named : (s : S) (steps : List MarchStep) (miss : Miss) → IsFirstBy after is_wrong s steps miss → first_of s steps ≡ Some miss
+  first_named s steps miss first =
+      ap (first_of s) first.differs.split ∙ (stops_there s first.differs.before first.differs.behind first.visit first.differs.wrong first.none_before).0 ∙ ap Some (sym first.named)
+
+  -- of two that are the first, one is the other
+  pub one_first : (s : S) (steps : List MarchStep) (one other : Miss) → IsFirstBy after is_wrong s steps one → IsFirstBy after is_wrong s steps other → one ≡ other
+  one_first s steps one other a b = let same : Some one ≡ Some other = sym (first_named s steps one a) ∙ first_named s steps other b in cc
+
+  pub left_first : (s : S) (steps : List MarchStep) (miss : Miss) (first : IsFirstBy after is_wrong s steps miss)
+      → left_at s steps ≡ behind_first after is_wrong s steps miss first
+  left_first s steps miss first =
+      ap (left_at s) first.differs.split ∙ (stops_there s first.differs.before first.differs.behind first.visit first.differs.wrong first.none_before).1
+
+  -- where no read differs, all steps are done
+  pub all_behind : (s : S) (steps : List MarchStep) → first_of s steps ≡ None → left_at s steps ≡ left_behind after s steps
+  all_behind s [] none = refl
+  all_behind s (pausing e ∷ steps) none = all_behind (after s (pausing e)) steps none
+  all_behind s (visiting v ∷ steps) none =
+      either (first_of (after s (visiting v)) steps) (left_at (after s (visiting v)) steps) (all_behind (after s (visiting v)) steps) (is_wrong s v) none
+    where
+      either : (named : Option Miss) (left : S) → (named ≡ None → left ≡ left_behind after (after s (visiting v)) steps) → (b : Bool)
+          → cond b (Some (miss_at v)) named ≡ None → cond b (after s (visiting v)) left ≡ left_behind after (after s (visiting v)) steps
+      either named left rest true is = cc
+      either named left rest false is = rest is
+
 -- ---- the run of an array
 
 miss_is : (p : Primitive) (at : Places) (cells : List Bool) (steps : List MarchStep)
@@ -159,16 +208,29 @@ all_right p at cells steps passes differs = no_miss (run_of p at cells steps).mi
     no_miss None none some = cc
     no_miss (Some miss) none some = cc
 
+cells_are : (p : Primitive) (at : Places) (cells : List Bool) (steps : List MarchStep)
+    → (run_of p at cells steps).cells ≡ left_at (after_step p at) (is_wrong_at p at) cells steps
+cells_are p at cells [] = refl
+cells_are p at cells (pausing e ∷ steps) = cells_are p at (pause_cells p at cells) steps
+cells_are p at cells (visiting v ∷ steps) =
+    either (step_cells p at cells v.address (act_of v.op)) (run_of p at (step_cells p at cells v.address (act_of v.op)) steps) _
+    (cells_are p at (step_cells p at cells v.address (act_of v.op)) steps) (is_wrong_at p at cells v)
+  where
+    either : (next : List Bool) (rest : Outcome) (left : List Bool) → rest.cells ≡ left → (b : Bool)
+        → (let o : Outcome = cond b (record { cells = next; miss = Some (miss_at v) }) rest in o.cells ≡ cond b next left)
+    either next rest left e true = refl
+    either next rest left e false = e
+
 -- where no read differs, a run leaves what its steps leave
 pub all_left : (p : Primitive) (at : Places) (cells : List Bool) (steps : List MarchStep) → (run_of p at cells steps).miss ≡ None
     → (run_of p at cells steps).cells ≡ left_behind (after_step p at) cells steps
-all_left p at cells [] passes = refl
-all_left p at cells (pausing e ∷ steps) passes = all_left p at (pause_cells p at cells) steps passes
-all_left p at cells (visiting v ∷ steps) passes =
-    either (step_cells p at cells v.address (act_of v.op)) (run_of p at (step_cells p at cells v.address (act_of v.op)) steps) _
-    (all_left p at (step_cells p at cells v.address (act_of v.op)) steps) (is_wrong_at p at cells v) passes
-  where
-    either : (next : List Bool) (rest : Outcome) (behind : List Bool) → (rest.miss ≡ None → rest.cells ≡ behind) → (b : Bool)
-        → (let o : Outcome = cond b (record { cells = next; miss = Some (miss_at v) }) rest in o.miss ≡ None → o.cells ≡ behind)
-    either next rest behind e true none = cc
-    either next rest behind e false none = e none
+all_left p at cells steps passes =
+    cells_are p at cells steps ∙ all_behind (after_step p at) (is_wrong_at p at) cells steps (sym (miss_is p at cells steps) ∙ passes)
+
+-- else it leaves what stands behind the first read that differs
+pub stopped : (p : Primitive) (at : Places) (cells : List Bool) (steps : List MarchStep) (miss : Option Miss) (left : List Bool)
+    → miss ≡ (run_of p at cells steps).miss → left ≡ (run_of p at cells steps).cells → IfSome miss (λ m. StopsAt p at cells steps m left)
+stopped p at cells steps None left is left_is = tt
+stopped p at cells steps (Some miss) left is left_is =
+    let first : IsFirstMiss p at cells steps miss = (found p at cells steps (Some miss) is).1 in
+    (first, left_is ∙ cells_are p at cells steps ∙ left_first (after_step p at) (is_wrong_at p at) cells steps miss first)

@@ -3,9 +3,10 @@ use Rattle.std.specs.Prelude.{◌≡◌, Bool, true, List, [], ◌∷◌, ◌++�
 use Rattle.fault_core.specs.declared.cells.Places.{Places}
 use Rattle.fault_core.specs.Primitive.{Primitive}
 use Rattle.fault_core.specs.Cells.{step_cells, step_answer, pause_cells}
-use Rattle.march_core.specs.Visits.{Visit, MarchStep, pausing, visiting}
-use Rattle.array_sim.specs.declared.element_run.Miss.{Miss}
-use Rattle.array_sim.specs.Run.{act_of, is_wrong_of, miss_at}
+use Rattle.march_core.specs.Operation.{is_wrong_of}
+use Rattle.march_core.specs.Visits.{Visit, MarchStep, pausing, visiting, miss_at}
+use Rattle.march_core.specs.declared.visit.Miss.{Miss}
+use Rattle.array_sim.specs.Run.{act_of}
 
 -- what these steps leave, whatever the reads answer, by what one step leaves
 abbrev pub left_behind : {S : Type 0} → (S → MarchStep → S) → S → List MarchStep → S
@@ -32,6 +33,10 @@ module _ {S : Type 0} (after : S → MarchStep → S) (is_wrong : S → Visit �
     pub none_before : SomeDiffersBy s differs.before → ⊥
     pub named : miss ≡ miss_at visit
 
+  -- what stands behind the first visit whose read differs
+  abbrev pub behind_first : (s : S) (steps : List MarchStep) (miss : Miss) → IsFirstBy s steps miss → S
+  behind_first s steps miss first = after (left_behind after s first.differs.before) (visiting first.visit)
+
 -- the cells after one step
 abbrev pub after_step : Primitive → Places → List Bool → MarchStep → List Bool
 after_step p at cells (pausing element) = pause_cells p at cells
@@ -48,3 +53,8 @@ SomeDiffers p at cells steps = SomeDiffersBy (after_step p at) (is_wrong_at p at
 -- the first visit whose read differs
 abbrev pub IsFirstMiss : Primitive → Places → List Bool → List MarchStep → Miss → Type 0
 IsFirstMiss p at cells steps miss = IsFirstBy (after_step p at) (is_wrong_at p at) cells steps miss
+
+-- the run stops behind the first visit whose read differs, and leaves these cells
+abbrev pub StopsAt : Primitive → Places → List Bool → List MarchStep → Miss → List Bool → Type 0
+StopsAt p at cells steps miss left =
+    (first : IsFirstMiss p at cells steps miss) × (left ≡ behind_first (after_step p at) (is_wrong_at p at) cells steps miss first)

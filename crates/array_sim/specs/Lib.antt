@@ -1,4 +1,3 @@
 pub mod Run
 pub mod Differing
-pub mod Addresses
 pub mod Detection

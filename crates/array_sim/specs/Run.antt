@@ -8,8 +8,9 @@ use Rattle.fault_core.specs.Cells.{close_of, step_cells, step_answer, pause_cell
 use Rattle.march_core.specs.declared.operation.Op.{Op}
 use Rattle.march_core.specs.declared.operation.Op.TheVariants.{W0, W1, R0, R1}
 use Rattle.march_core.specs.March.{MarchElement}
-use Rattle.march_core.specs.Visits.{Visit, MarchStep, pausing, visiting, Direction, visits}
-use Rattle.array_sim.specs.declared.element_run.Miss.{Miss}
+use Rattle.march_core.specs.Operation.{is_wrong_of}
+use Rattle.march_core.specs.Visits.{MarchStep, pausing, visiting, miss_at, Direction, visits}
+use Rattle.march_core.specs.declared.visit.Miss.{Miss}
 use Rattle.array_sim.specs.declared.simulation.Instance.{Instance}
 
 -- an operation as an act: the bit that a read expects plays no part
@@ -19,24 +20,10 @@ act_of W1 = Write true
 act_of R0 = Read
 act_of R1 = Read
 
--- whether this is a read that got another answer than it expects
-abbrev pub is_wrong_of : Op → Option Bool → Bool
-is_wrong_of W0 answer = false
-is_wrong_of W1 answer = false
-is_wrong_of R0 (Some false) = false
-is_wrong_of R0 (Some true) = true
-is_wrong_of R0 None = true
-is_wrong_of R1 (Some true) = false
-is_wrong_of R1 (Some false) = true
-is_wrong_of R1 None = true
-
 -- the cells after a run, and the read that differed, if one did
 pub record Outcome : Type 0 where
   pub cells : List Bool
   pub miss : Option Miss
-
-abbrev pub miss_at : Visit → Miss
-miss_at v = record { element = v.element; address = v.address; op = v.number }
 
 -- the steps one after another, up to the first read that differs
 abbrev pub run_of : Primitive → Places → List Bool → List MarchStep → Outcome

@@ -1,44 +1,13 @@
-ghost use Rattle.std.specs.Prelude.{◌≡◌, ◌≢◌, ◌<◌, Some, None, length};
+ghost use Rattle.std.specs.Prelude.{◌≡◌, ◌<◌, length};
 ghost use Rattle.fault_core.specs.Cells.{FitsPlace};
 ghost use Rattle.march_core.specs.March.{element_at};
 ghost use Rattle.march_core.specs.Visits.{cell_visits, address_visits, addresses, direction_at, element_visits};
-ghost use Rattle.array_sim.specs.Run.{act_of, is_wrong_of, run_of};
-ghost use Rattle.array_sim.specs.Addresses.{direction_of, address_at, steps_of};
+ghost use Rattle.march_core.specs.Addresses.{direction_of, steps_of};
+ghost use Rattle.array_sim.specs.Run.{run_of};
 
-use fault_core::{Act, Places, Prim, pause_cells, step};
-use march_core::{March, Op, is_down};
-
-/// A read that didn't answer what the march expects: its element, its cell and its number in the element,
-/// all counted from 0.
-#[derive(Clone, Copy, Debug, PartialEq, Eq)]
-pub struct Miss {
-    pub element: usize,
-    pub address: usize,
-    pub op: usize,
-}
-
-/// An operation as an act: the bit that a read expects plays no part.
-pub fn act_of(op: Op) -> Act
-    ensures value { result ≡ act_of op }
-    ensures operates { result ≢ Act.Pause }
-{
-    match op {
-        Op::W0 => Act::Write(false),
-        Op::W1 => Act::Write(true),
-        Op::R0 | Op::R1 => Act::Read,
-    }
-}
-
-/// Whether an operation is a read that got another answer than it expects.
-pub fn is_wrong(op: Op, answer: Option<bool>) -> bool
-    ensures { result ≡ is_wrong_of op answer }
-{
-    match op {
-        Op::W0 | Op::W1 => false,
-        Op::R0 => answer != Some(false),
-        Op::R1 => answer != Some(true),
-    }
-}
+use crate::act::act_of;
+use fault_core::{Places, Prim, pause_cells, step};
+use march_core::{March, Miss, Op, address_of, is_down, is_wrong};
 
 /// Does the operations of an element on one cell, up to the first miss.
 fn run_cell(
@@ -65,16 +34,6 @@ fn run_cell(
         }
     }
     None
-}
-
-/// The address at a place in the order of a direction.
-#[tactic(auto, unfolding(crate::specs::Addresses::address_at))]
-pub fn address_of(is_down: bool, place: usize, size: usize) -> usize
-    requires { place < size }
-    ensures value { result ≡ address_at (direction_of is_down) place size }
-    ensures within { result < size }
-{
-    if is_down { size - 1 - place } else { place }
 }
 
 /// Does the operations of an element on each cell in turn, up to the first miss.

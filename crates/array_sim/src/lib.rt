@@ -2,8 +2,9 @@
 //! march detects a primitive.
 #![tactic(auto)]
 
+mod act;
 mod element_run;
 mod simulation;
 
-pub use element_run::{Miss, act_of, address_of, is_wrong};
+pub use act::act_of;
 pub use simulation::{Instance, simulate};

@@ -1,6 +1,6 @@
 -- What the runs against a list of boxes leave.
 use Rattle.std.proofs.Common.{◌≡◌, ◌+◌, ◌<◌, ◌∙◌, ℕ, zero, suc, Bool, true, false, List, [], ◌∷◌, length, map, drop, replicate, Option, Some, None, is_some, Result, Ok, Err, IfOk, refl, sym, ap, subst, arith}
-use Rattle.std.proofs.lemmas.List.{length-replicate, length-map}
+use Rattle.std.proofs.lemmas.List.{length-replicate, length-map, drop_all}
 use Rattle.std.proofs.Math.Nat.{one-le-pow}
 use Rattle.march_core.specs.March.{MarchElement}
 use Rattle.memory_desc.specs.Descriptions.{Description}
@@ -14,10 +14,10 @@ use Rattle.bench.specs.Endings.{IsFirstRead}
 use Rattle.bench.specs.Laws.{IsSeenOf}
 use Rattle.bist_bits.specs.declared.NoMemory.{NoMemory}
 use Rattle.bist_endings.specs.declared.ending.Plan.{Plan}
-use Rattle.bist_endings.specs.Ending.{Done, done_of}
+use Rattle.bist_endings.specs.Ending.{done_of}
 use Rattle.bist_app.specs.Bench.{Boxes, FirstHasRoom, ready, benched_chip, IsSeen}
 use Rattle.bist_app.specs.BenchAll.{HaveRoom, IsBoxSeen, failing_of, all_done, IsAllBenched, AreGone}
-use Rattle.bist_app.specs.BenchedBoxes.{IsEnd, GoesOn}
+use Rattle.bist_app.specs.BenchedBoxes.{IsEnd, GoesOn, CountsFailing}
 use Rattle.bist_app.proofs.Benched.{blank_filled}
 
 -- ---- what is seen of one box
@@ -93,20 +93,36 @@ goes_passed f march d boxes now next tells failing failed is right some gone tol
     subst (λ (x : Bool). GoesOn march d boxes (map f next) (more_failing failing x)) is
     (goes_more f march d boxes now next tells failing failed right some gone told end on)
 
-all_benched : (march : List MarchElement) (d : Description) (boxes : Boxes) (failing count : ℕ) (done : Done) → GoesOn march d boxes [] failing → count ≡ length boxes
-    → done ≡ all_done count failing → IsAllBenched march d boxes done
-all_benched march d boxes failing count done on counted is =
+all_counted : (march : List MarchElement) (d : Description) (boxes : Boxes) (failing : ℕ) → GoesOn march d boxes [] failing → CountsFailing march d boxes failing
+all_counted march d boxes failing on =
     let all = on [] tt in
     let fails : failing ≡ failing_of all.0 = omega (arith, all.2) in
-    record { seen = all.0; are_seen = all.1; done_is = is ∙ ap (λ n. all_done n failing) counted ∙ ap (all_done (length boxes)) fails }
+    (all.0, all.1, fails)
 
-pub boxes_benched : {B : Type 0} (f : B → Told) (march : List MarchElement) (d : Description) (items now : List B) (failing count : ℕ) (r : Result Plan NoMemory)
-    → GoesOn march d (map f items) (map f now) failing → count ≡ length items → length now ≡ 0
+pub boxes_counted : {B : Type 0} (f : B → Told) (march : List MarchElement) (d : Description) (items now : List B) (failing : ℕ)
+    → GoesOn march d (map f items) (map f now) failing → length now ≡ 0 → CountsFailing march d (map f items) failing
+boxes_counted f march d items [] failing on none = all_counted march d (map f items) failing on
+boxes_counted f march d items (b ∷ now) failing on none = absurd (omega (arith, none))
+
+-- the plan of so many runs of which so many failed
+pub boxes_benched : {B : Type 0} (f : B → Told) (march : List MarchElement) (d : Description) (items : List B) (failing count : ℕ) (r : Result Plan NoMemory)
+    → CountsFailing march d (map f items) failing → count ≡ length items
     → IfOk r (λ plan. done_of plan ≡ all_done count failing) → IfOk r (λ plan. IsAllBenched march d (map f items) (done_of plan))
-boxes_benched f march d items [] failing count (Ok plan) on counted none is =
-    all_benched march d (map f items) failing count (done_of plan) on (counted ∙ sym (length-map items f)) is
-boxes_benched f march d items (b ∷ now) failing count (Ok plan) on counted none is = absurd (omega (arith, none))
-boxes_benched f march d items now failing count (Err e) on counted none is = tt
+boxes_benched f march d items failing count (Ok plan) (seen, are, fails) counted is = record {
+  seen = seen;
+  are_seen = are;
+  done_is = is ∙ ap (λ n. all_done n failing) (counted ∙ sym (length-map items f)) ∙ ap (all_done (length (map f items))) fails;
+}
+boxes_benched f march d items failing count (Err e) on counted is = tt
+
+-- as many boxes as there are told ones
+pub some_stay : {B : Type 0} (f : B → Told) (now next : List B) → 0 < length now → map f next ≡ map f now → 0 < length next
+some_stay f now next some same =
+    let count : length next ≡ length now = sym (length-map next f) ∙ ap length same ∙ length-map now f in
+    omega (arith, some, count)
+
+pub all_gone : {B : Type 0} (f : B → Told) (boxes : Boxes) (next : List B) → next ≡ [] → AreGone boxes (map f next)
+all_gone f boxes next none = (length boxes, ap (map f) none ∙ sym (drop_all (length boxes) boxes (omega arith)))
 
 -- ---- rooms
 

@@ -28,3 +28,4 @@ pub mod Caught
 pub mod Faulted
 pub mod AllBenched
 pub mod Fitting
+pub mod OneFiles

@@ -9,7 +9,7 @@ use Rattle.bist_inputs.specs.Memories.{InputMemory}
 use Rattle.bist_inputs.proofs.OneInput.{input_march_one, prim_one, input_list_one, input_memory_one}
 use Rattle.bist_app.specs.declared.commands.Command.{Command}
 use Rattle.bist_app.specs.declared.sim.SimShape.{SimShape}
-use Rattle.bist_app.specs.Sim.{FitsAggressor, FitsDirections, DecidesSim, miss_of, places_of}
+use Rattle.bist_app.specs.Sim.{FitsAggressor, FitsDirections, DecidesSim, places_of}
 use Rattle.bist_app.specs.Judge.{DecidesJudge}
 use Rattle.bist_app.specs.Vectors.{FitsLength, DecidesVectors}
 use Rattle.bist_app.specs.Compile.{DecidesCompile}
@@ -34,7 +34,7 @@ sim_answer files words shape =
     then_answer (GivesPrim (word words 2)) _ (prim_one (word words 2)) (λ prim.
     then_answer (FitsAggressor (is_some shape.aggressor) prim) _ (aggressor_one (is_some shape.aggressor) prim) (λ _.
     then_answer (FitsDirections (word words 7) march) _ (directions_one (word words 7) march) (λ _.
-    outcome_answer _ (sim_one (miss_of march prim (places_of shape) (word words 4) (word words 7)))))))
+    outcome_answer _ (sim_one march prim (places_of shape) (word words 4) (word words 7))))))
 
 judge_answer : (files : Files) (words : Words) → HasOneAnswer (Unit {0}) (DecidesJudge (Some files) words)
 judge_answer files words =

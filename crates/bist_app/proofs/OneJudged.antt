@@ -1,11 +1,12 @@
 -- What is said of a judged list is one line and one status alone.
-use Rattle.std.proofs.Common.{◌≡◌, ◌<◌, ◌+◌, ℕ, zero, suc, Bool, true, false, List, [], ◌∷◌, Option, Ok, Err, inl, inr, refl, sym, ◌∙◌, ap, arith, subst, length, slice_index_or}
+use Rattle.std.proofs.Common.{◌≡◌, ◌<◌, ℕ, zero, suc, Bool, true, false, List, [], ◌∷◌, Option, Ok, Err, refl, sym, ◌∙◌, ap, arith, subst, length, slice_index_or}
 use Rattle.std.specs.List.{AllByRecursion}
 use Rattle.march_core.specs.March.{MarchElement}
 use Rattle.dynamic_core.specs.declared.item.Item.{Item}
 use Rattle.memory_desc.specs.Descriptions.{Description}
 use Rattle.report.specs.Items.{DetectsItem}
-use Rattle.report.specs.Report.{total_line, DetectsOf}
+use Rattle.report.specs.Report.{total_line}
+use Rattle.report.proofs.OneReport.{detects_one}
 use Rattle.bist_endings.specs.declared.ending.Refusal.{Refusal}
 use Rattle.bist_endings.specs.Ending.{found_status}
 use Rattle.bist_endings.specs.OneOutcome.{Answer, HasOneAnswer}
@@ -23,13 +24,6 @@ found_one march items true true h i = refl
 found_one march items false false h i = refl
 found_one march items true false h i = absurd (h.2 (all_hold (DetectsItem march) items h.0 h.1.0 i h.1.1 h.1.2))
 found_one march items false true h i = absurd (i.2 (all_hold (DetectsItem march) items i.0 i.1.0 h i.1.1 i.1.2))
-
-pub detects_one : (march : List MarchElement) (items : List Item) (m n : ℕ) → DetectsOf march items m → DetectsOf march items n → m ≡ n
-detects_one march [] m n h i = h ∙ sym i
-detects_one march (p ∷ ps) m n (inl (d, k, a, x)) (inl (e, l, b, y)) = x ∙ ap (λ (z : ℕ). 1 + z) (detects_one march ps k l a b) ∙ sym y
-detects_one march (p ∷ ps) m n (inl h) (inr i) = absurd (i.0 h.0)
-detects_one march (p ∷ ps) m n (inr h) (inl i) = absurd (h.0 i.0)
-detects_one march (p ∷ ps) m n (inr h) (inr i) = detects_one march ps m n h.1 i.1
 
 pub reports_one : (march : List MarchElement) (memory : Option Description) (items : List Item) (b c : Bool) (bytes other line said : List ℕ)
     → Reports march memory items b bytes line → Reports march memory items c other said

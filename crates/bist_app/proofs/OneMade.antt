@@ -14,7 +14,8 @@ use Rattle.bist_endings.specs.declared.ending.Refusal.{Refusal}
 use Rattle.bist_endings.specs.Ending.{Done, found_status}
 use Rattle.bist_endings.specs.OneOutcome.{Answer, HasOneAnswer}
 use Rattle.bist_app.specs.Make.{made_line, IsMadeOf, LeavesMake}
-use Rattle.bist_app.proofs.OneJudged.{found_one, detects_one}
+use Rattle.report.proofs.OneReport.{detects_one}
+use Rattle.bist_app.proofs.OneJudged.{found_one}
 
 log_one : (bits m n : ℕ) → IsLogarithm bits m → IsLogarithm bits n → m ≡ n
 log_one bits m n p q = let low = p.least n q.enough in let high = q.least m p.enough in omega (arith, low, high)

@@ -1,14 +1,19 @@
 -- What a command's own checks allow is one outcome alone.
-use Rattle.std.proofs.Common.{◌≡◌, ℕ, Bool, List, Result, Ok, Err, Option, refl, arith}
+use Rattle.std.proofs.Common.{◌≡◌, ℕ, Bool, List, Result, Ok, Err, Option, Some, None, refl, ap, ◌∙◌, length, arith}
 use Rattle.march_core.specs.March.{MarchElement}
+use Rattle.march_core.specs.Visits.{Direction, visits}
+use Rattle.fault_core.specs.declared.cells.Places.{Places}
 use Rattle.fault_core.specs.Primitive.{Primitive}
+use Rattle.fault_core.specs.Cells.{close_of}
+use Rattle.array_sim.specs.Differing.{after_step, is_wrong_at}
+use Rattle.array_sim.proofs.Differing.{one_first}
 use Rattle.memory_desc.specs.Descriptions.{Description}
-use Rattle.array_sim.specs.declared.element_run.Miss.{Miss}
+use Rattle.march_core.specs.declared.visit.Miss.{Miss}
 use Rattle.bist_endings.specs.declared.ending.Misfit.{Misfit}
 use Rattle.bist_endings.specs.declared.ending.Refusal.{Refusal}
 use Rattle.bist_endings.specs.Ending.{Done}
 use Rattle.bist_endings.specs.OneOutcome.{HasOneOutcome}
-use Rattle.bist_app.specs.Sim.{FitsAggressor, FitsDirections, LeavesSim}
+use Rattle.bist_app.specs.Sim.{FitsAggressor, FitsDirections, FirstDiffers, directions_of_letters, content_of, sim_done, LeavesSim}
 use Rattle.bist_app.specs.Vectors.{FitsLength, LeavesVectors}
 
 pub aggressor_one : (given : Bool) (prim : Primitive) → HasOneOutcome (FitsAggressor given prim)
@@ -34,13 +39,23 @@ directions_one letters march (Err other) outcome f g r s = absurd f
 pub same_done : (d e f : Done) → d ≡ f → e ≡ f → (let r : Result Done Refusal = Ok d in r) ≡ Ok e
 same_done d e f x y = cc
 
-pub sim_one : (miss : Option Miss) → HasOneOutcome (LeavesSim miss)
+one_read : (march : List MarchElement) (ds : List Direction) (prim : Primitive) (at : Places) (content : List Bool) (m k : Option Miss)
+    → FirstDiffers march ds prim at content m → FirstDiffers march ds prim at content k → m ≡ k
+one_read march ds prim at content None None f g = refl
+one_read march ds prim at content None (Some k) f g = absurd (f (g.visit, g.differs))
+one_read march ds prim at content (Some m) None f g = absurd (g (f.visit, f.differs))
+one_read march ds prim at content (Some m) (Some k) f g =
+    ap Some (one_first (after_step prim at) (is_wrong_at prim at) (close_of prim at content) (visits march ds (length content)) m k f g)
+
+pub sim_one : (march : List MarchElement) (prim : Primitive) (at : Places) (digits letters : List ℕ) → HasOneOutcome (LeavesSim march prim at digits letters)
 unfolding LeavesSim
-sim_one miss (Ok d) (Ok e) f g r s = same_done d e _ f g
-sim_one miss (Ok d) (Err Refusal.NoMemory) f g r s = absurd s
-sim_one miss (Ok d) (Err other) f g r s = absurd g
-sim_one miss (Err Refusal.NoMemory) outcome f g r s = absurd r
-sim_one miss (Err other) outcome f g r s = absurd f
+sim_one march prim at digits letters (Ok d) (Ok e) (m, f, is) (k, g, js) r s =
+    let same : m ≡ k = one_read march (directions_of_letters letters) prim at (content_of digits) m k f g in
+    same_done d e (sim_done k) (is ∙ ap sim_done same) js
+sim_one march prim at digits letters (Ok d) (Err Refusal.NoMemory) f g r s = absurd s
+sim_one march prim at digits letters (Ok d) (Err other) f g r s = absurd g
+sim_one march prim at digits letters (Err Refusal.NoMemory) outcome f g r s = absurd r
+sim_one march prim at digits letters (Err other) outcome f g r s = absurd f
 
 pub vectors_one : (march : List MarchElement) (d : Description) → HasOneOutcome (LeavesVectors march d)
 unfolding LeavesVectors

@@ -1,6 +1,6 @@
 -- A self-test that is written, read back and elaborated is the same self-test.
 use Rattle.std.proofs.Common.{map, ◌≡◌, ◌∙◌, Bool, true, false, ◌&&◌, IsTrue, List, Option, Some, None, Result, Ok, Err, sym, ap, subst, refl}
-use Rattle.std.specs.Prelude.{IfOk, MatchResult}
+use Rattle.std.specs.Prelude.{IfOk, IfSome, MatchResult}
 use Rattle.verilog_cycle.specs.Design.{DesignView, IsNew, registers_of}
 use Rattle.verilog_tree.specs.Words.{is_name}
 use Rattle.verilog_tree.specs.Plain.{ModuleTree}
@@ -9,7 +9,7 @@ use Rattle.verilog_tree.specs.Fits.{fits, ports_fit, items_fit}
 use Rattle.march_core.specs.March.{MarchElement}
 use Rattle.memory_desc.specs.Descriptions.{Description}
 use Rattle.self_test.specs.SelfTest.{SelfTest}
-use Rattle.verilog_read.specs.declared.fault.ReadFault.{ReadFault}
+use Rattle.verilog_tree.specs.declared.fault.ReadFault.{ReadFault}
 use Rattle.verilog_tree.specs.declared.fault.TreeFault.{TreeFault}
 use Rattle.verilog_tree.specs.declared.fault.TreeFault.TheVariants as T
 use Rattle.verilog_tree.specs.Rules.{Break, first_break}
@@ -74,3 +74,11 @@ new_zero (Err e) mo new = tt
 pub where_ok : {A E : Type 0} (r : Result A E) (P Q : A → Type 0) → ((a : A) → P a → Q a) → IfOk r P → IfOk r Q
 where_ok (Ok a) P Q f h = f a h
 where_ok (Err e) P Q f h = tt
+
+pub of_ok : {A E : Type 0} (r : Result A E) (P : A → Type 0) (a : A) → r ≡ Ok a → IfOk r P → P a
+of_ok (Ok b) P a is h = let same : b ≡ a = cc in subst P same h
+of_ok (Err e) P a is h = cc
+
+pub of_some : {A : Type 0} (o : Option A) (P : A → Type 0) (a : A) → o ≡ Some a → IfSome o P → P a
+of_some (Some b) P a is h = let same : b ≡ a = cc in subst P same h
+of_some None P a is h = cc

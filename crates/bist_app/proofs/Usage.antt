@@ -2,7 +2,7 @@
 use Rattle.std.proofs.Common.{List, [], ◌∷◌, ℕ, Bool, Option, Result, Ok, Err, is_some, refl}
 use Rattle.bist_host.specs.Files.{Files}
 use Rattle.march_core.specs.March.{MarchElement}
-use Rattle.array_sim.specs.declared.element_run.Miss.{Miss}
+use Rattle.fault_core.specs.declared.cells.Places.{Places}
 use Rattle.fault_core.specs.Primitive.{Primitive}
 use Rattle.dynamic_core.specs.declared.item.Item.{Item}
 use Rattle.memory_desc.specs.Descriptions.{Description}
@@ -38,9 +38,9 @@ directions_never : (letters : List ℕ) (march : List MarchElement) → NeverUsa
 unfolding FitsDirections
 directions_never letters march h = h
 
-leaves_never : (miss : Option Miss) → NeverUsage (LeavesSim miss)
+leaves_never : (march : List MarchElement) (prim : Primitive) (at : Places) (digits letters : List ℕ) → NeverUsage (LeavesSim march prim at digits letters)
 unfolding LeavesSim
-leaves_never miss h = h
+leaves_never march prim at digits letters h = h
 
 sim_never : (files : Option Files) (words : Words) (shape : SimShape) → NeverUsage (DecidesSim files words shape)
 sim_never files words shape (Err e, read, is) =
@@ -51,7 +51,7 @@ sim_never files words shape (Ok march, read, (Ok prim, given, (Err e, fits, is))
     aggressor_never (is_some shape.aggressor) prim (turned (FitsAggressor (is_some shape.aggressor) prim) (let x : Result Done Refusal = Err Refusal.Usage in x) e refl is fits)
 sim_never files words shape (Ok march, read, (Ok prim, given, (Ok _, stands, (Err e, fits, is)))) =
     directions_never (word words 7) march (turned (FitsDirections (word words 7) march) (let x : Result Done Refusal = Err Refusal.Usage in x) e refl is fits)
-sim_never files words shape (Ok march, read, (Ok prim, given, (Ok _, stands, (Ok _, fits, leaves)))) = leaves_never _ leaves
+sim_never files words shape (Ok march, read, (Ok prim, given, (Ok _, stands, (Ok _, fits, leaves)))) = leaves_never march prim _ _ _ leaves
 
 judge_leaves_never : (march : List MarchElement) (items : List Item) → NeverUsage (LeavesJudge march items)
 unfolding LeavesJudge

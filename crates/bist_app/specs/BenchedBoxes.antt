@@ -20,3 +20,7 @@ abbrev pub GoesOn : List MarchElement → Description → Boxes → Boxes → �
 GoesOn march d boxes left failing =
     (later : List (Option Seen)) → AreSeen march d left later
     → (all : List (Option Seen)) × AreSeen march d boxes all × (failing_of all ≡ failing + failing_of later)
+
+-- beside so many of these boxes a read differs
+abbrev pub CountsFailing : List MarchElement → Description → Boxes → ℕ → Type 0
+CountsFailing march d boxes failing = (seen : List (Option Seen)) × AreSeen march d boxes seen × (failing ≡ failing_of seen)

@@ -2,11 +2,13 @@
 use Rattle.std.specs.Prelude.{◌≡◌, ◌≢◌, ◌<◌, ◌≤◌, ◌⊎◌, ◌++◌, ◌==◌, ℕ, Bool, List, [], map, All, Option, Some, None, Result, Ok, Err, length, codes, decimal, is_some, IsTrue, if◌then◌else◌}
 use Rattle.bist_host.specs.Files.{Files}
 use Rattle.march_core.specs.March.{MarchElement}
-use Rattle.march_core.specs.Visits.{Direction, Upward, Downward, is_direction}
+use Rattle.march_core.specs.Visits.{Direction, Upward, Downward, is_direction, visits}
 use Rattle.fault_core.specs.declared.cells.Places.{Places}
 use Rattle.fault_core.specs.Primitive.{Primitive, has_aggressor}
-use Rattle.array_sim.specs.declared.element_run.Miss.{Miss}
-use Rattle.array_sim.specs.Run.{outcome_of}
+use Rattle.fault_core.specs.Cells.{close_of}
+use Rattle.march_core.specs.declared.visit.Miss.{Miss}
+use Rattle.array_sim.specs.Detection.{IsCaught}
+use Rattle.array_sim.specs.Differing.{IsFirstMiss}
 use Rattle.bist_endings.specs.declared.ending.Refusal.{Refusal}
 use Rattle.bist_endings.specs.declared.ending.Misfit.{Misfit}
 use Rattle.bist_app.specs.declared.sim.SimShape.{SimShape}
@@ -72,9 +74,11 @@ FitsAggressor given prim (Ok _) = given ≡ has_aggressor prim
 FitsAggressor given prim (Err (Refusal.Misfit Misfit.Aggressor)) = given ≢ has_aggressor prim
 FitsAggressor given prim (Err other) = ⊥
 
--- the read that caught the primitive in these places
-abbrev pub miss_of : List MarchElement → Primitive → Places → List ℕ → List ℕ → Option Miss
-miss_of march prim places digits letters = (outcome_of march (directions_of_letters letters) prim places (content_of digits)).miss
+-- the first read that differs in a run on this content, or none where none does
+abbrev pub FirstDiffers : List MarchElement → List Direction → Primitive → Places → List Bool → Option Miss → Type 0
+FirstDiffers march directions prim at content None = IsCaught march directions prim at content → ⊥
+FirstDiffers march directions prim at content (Some miss) =
+    IsFirstMiss prim at (close_of prim at content) (visits march directions (length content)) miss
 
 abbrev pub caught_line : Miss → List ℕ
 caught_line miss =
@@ -88,10 +92,12 @@ sim_line (Some miss) = caught_line miss
 abbrev pub sim_done : Option Miss → Done
 sim_done miss = record { found = is_some miss; outputs = []; line = sim_line miss }
 
-unfoldable pub LeavesSim : Option Miss → Result Done Refusal → Type 0
-LeavesSim miss (Ok done) = done ≡ sim_done miss
-LeavesSim miss (Err Refusal.NoMemory) = Unit {0}
-LeavesSim miss (Err other) = ⊥
+-- the run in these places, from the content of the digits, in the directions of the letters
+unfoldable pub LeavesSim : List MarchElement → Primitive → Places → List ℕ → List ℕ → Result Done Refusal → Type 0
+LeavesSim march prim at digits letters (Ok done) =
+    (miss : Option Miss) × FirstDiffers march (directions_of_letters letters) prim at (content_of digits) miss × (done ≡ sim_done miss)
+LeavesSim march prim at digits letters (Err Refusal.NoMemory) = Unit {0}
+LeavesSim march prim at digits letters (Err other) = ⊥
 
 -- the checks of `sim` in their order
 abbrev pub DecidesSim : Option Files → Words → SimShape → Result Done Refusal → Type 0
@@ -100,4 +106,4 @@ DecidesSim files words shape =
     Then (GivesPrim (word words 2)) (λ prim.
     Then (FitsAggressor (is_some shape.aggressor) prim) (λ _.
     Then (FitsDirections (word words 7) march) (λ _.
-    LeavesSim (miss_of march prim (places_of shape) (word words 4) (word words 7))))))
+    LeavesSim march prim (places_of shape) (word words 4) (word words 7)))))

@@ -49,7 +49,8 @@ fn plan_bench(
 {
     unplanted_passes(march, memory);
     match bench_first(alloc, march, memory, devices) {
-        Ok(plan) => Ok(plan),
+        Ok(Some(plan)) => Ok(plan),
+        Ok(None) => Err(Refusal::NoMemory),
         Err(NoMemory) => Err(Refusal::NoMemory),
     }
 }

@@ -164,7 +164,8 @@ fn plan_fault(
 {
     answers_wrong(march, memory, planted);
     match bench_planted(alloc, march, memory, planted, devices) {
-        Ok(plan) => Ok(plan),
+        Ok(Some(plan)) => Ok(plan),
+        Ok(None) => Err(Refusal::NoMemory),
         Err(NoMemory) => Err(Refusal::NoMemory),
     }
 }

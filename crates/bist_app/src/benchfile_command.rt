@@ -1,6 +1,6 @@
 //! The command `benchfile`: the module of a file against the first box.
 
-ghost use Rattle.std.specs.Prelude.{◌≡◌, ◌≤◌, ◌<◌, ◌↔◌, ◌⊎◌, ◌∷◌, [], Some, None, IfOk, IfErr, OnOk, OnErr, IsTrue, length, map, drop, vec_len};
+ghost use Rattle.std.specs.Prelude.{◌≡◌, ◌≤◌, ◌<◌, ◌↔◌, ◌∷◌, [], Some, None, IfOk, IfSome, IfErr, OnOk, OnErr, IsTrue, length, map, drop, vec_len};
 ghost use Rattle.bist_host.specs.Files.{Rose};
 ghost use Rattle.word_device.specs.Boxes.{told};
 ghost use Rattle.word_device.specs.Ports.{shape_of as memory_shape};
@@ -83,26 +83,30 @@ fn run_design(
     }
 }
 
-/// Runs a design against the first box, which is fitted and taken.
+/// Runs a design against the first box, which is fitted and taken. Want of memory up to there leaves the list as it was; `None` is want
+/// of memory behind it.
 fn run_first(
     alloc: Global,
     design: &mut Design,
     march: &March,
     memory: &Memory,
     devices: &mut Vec<Box<dyn Device>>,
-) -> Result<Plan, NoMemory>
+) -> Result<Option<Plan>, NoMemory>
     requires zero { design.old.registers ≡ zero_registers design.old.tree }
     requires short { IsShort march.now memory.now }
     requires ports { wrong_port memory.now design.old.tree.ports ≡ None }
     requires some { 0 < vec_len devices.old }
     requires room { FirstHasRoom memory.now.words (map (λ b. told (room_of b) (shape_of b) (tells b)) devices.old.items) }
     ensures taken { OnOk result (devices.new.items ≡ drop 1 devices.old.items) }
-    ensures kept { OnErr result ((map (λ b. told (room_of b) (shape_of b) (tells b)) devices.new.items ≡ map (λ b. told (room_of b) (shape_of b) (tells b)) devices.old.items) ⊎ (devices.new.items ≡ drop 1 devices.old.items)) }
-    ensures run { IfOk result (λ plan. (b : _) (rest : _) → devices.old.items ≡ b ∷ rest → IsFileRun design.old.tree march.now memory.now (ready memory.now (tells b)) (done_of plan)) }
-    ensures outputs { IfOk result (λ plan. (done_of plan).outputs ≡ []) }
+    ensures kept { OnErr result (map (λ b. told (room_of b) (shape_of b) (tells b)) devices.new.items ≡ map (λ b. told (room_of b) (shape_of b) (tells b)) devices.old.items) }
+    ensures run { IfOk result (λ ended. IfSome ended (λ plan. (b : _) (rest : _) → devices.old.items ≡ b ∷ rest → IsFileRun design.old.tree march.now memory.now (ready memory.now (tells b)) (done_of plan))) }
+    ensures outputs { IfOk result (λ ended. IfSome ended (λ plan. (done_of plan).outputs ≡ [])) }
 {
     let device = take_first(devices, memory)?;
-    run_design(alloc, design, march, memory, device)
+    match run_design(alloc, design, march, memory, device) {
+        Ok(plan) => Ok(Some(plan)),
+        Err(NoMemory) => Ok(None),
+    }
 }
 
 /// The plan of the run, or want of memory.
@@ -125,7 +129,8 @@ fn plan_benchfile(
     ensures outputs { IfOk result (λ plan. (done_of plan).outputs ≡ []) }
 {
     match run_first(alloc, design, march, memory, devices) {
-        Ok(plan) => Ok(plan),
+        Ok(Some(plan)) => Ok(plan),
+        Ok(None) => Err(Refusal::NoMemory),
         Err(NoMemory) => Err(Refusal::NoMemory),
     }
 }

@@ -1,12 +1,12 @@
 //! The self-test module against a box: the module is made, written, read back and run, and the line tells how it ended.
 
-ghost use Rattle.std.specs.Prelude.{◌≡◌, ◌⊎◌, ◌≤◌, ◌<◌, ◌++◌, ◌∷◌, [], Some, None, IsTrue, IfOk, OnOk, OnErr, codes, decimal, map, drop, vec_len};
+ghost use Rattle.std.specs.Prelude.{◌≡◌, ◌≤◌, ◌<◌, ◌++◌, ◌∷◌, [], Some, None, IsTrue, IfOk, IfSome, OnOk, OnErr, codes, decimal, map, drop, vec_len};
 ghost use Rattle.verilog_tree.specs.declared.fault.TreeFault.{TreeFault};
 ghost use Rattle.verilog_tree.specs.Plain.{ModuleTree, plain_module};
 ghost use Rattle.verilog_tree.specs.Rules.{first_break};
 ghost use Rattle.verilog_tree.specs.Formed.{formed};
 ghost use Rattle.verilog_tree.specs.Spells.{Spells};
-ghost use Rattle.verilog_read.specs.declared.fault.ReadFault.{ReadFault};
+ghost use Rattle.verilog_tree.specs.declared.fault.ReadFault.{ReadFault};
 ghost use Rattle.verilog_cycle.specs.Design.{IsNew, NoLoop, registers_of};
 ghost use Rattle.self_test.specs.SelfTest.{SelfTest};
 ghost use Rattle.word_device.specs.Ports.{shape_of as memory_shape};
@@ -26,8 +26,8 @@ use rtl_gen::generate;
 use std::alloc::Global;
 use verilog_cycle::{Design, elaborate};
 use verilog_emit::emit;
-use verilog_read::{ReadFault, read_module};
-use verilog_tree::{Module, TreeFault};
+use verilog_read::read_module;
+use verilog_tree::{Module, ReadFault, TreeFault};
 use word_device::Device;
 
 /// What is wanting where a text that spells a module isn't read: nothing but memory.
@@ -62,11 +62,11 @@ fn want_of_module(fault: TreeFault) -> NoMemory
 }
 
 /// The design of a module that breaks no rule and whose wires form no loop.
-fn designed(alloc: Global, module: &Module) -> Result<Design, NoMemory>
-    requires sizes { IsTrue (formed (plain_module «module».now)) }
-    requires legal { first_break (plain_module «module».now) ≡ None }
-    requires loopless { NoLoop (plain_module «module».now) }
-    ensures { IfOk result (IsNew (plain_module «module».now)) }
+fn designed(alloc: Global, module: Module) -> Result<Design, NoMemory>
+    requires sizes { IsTrue (formed (plain_module «module»)) }
+    requires legal { first_break (plain_module «module») ≡ None }
+    requires loopless { NoLoop (plain_module «module») }
+    ensures { IfOk result (IsNew (plain_module «module»)) }
 {
     match elaborate(alloc, module) {
         Ok(design) => Ok(design),
@@ -82,7 +82,7 @@ pub fn self_test_design(alloc: Global, march: &March, memory: &Memory) -> Result
     let written = generate(alloc, march, memory)?;
     let text = emit(alloc, &written)?;
     let read = read_back(alloc, &text)?;
-    designed(alloc, &read)
+    designed(alloc, read)
 }
 
 /// Appends the first cycle with `done`.
@@ -198,22 +198,26 @@ pub fn run_plan(
     }
 }
 
-/// Runs the self-test of the memory by the march against the first box, which is fitted and taken.
+/// Runs the self-test of the memory by the march against the first box, which is fitted and taken. Want of memory up to there leaves
+/// the list as it was; `None` is want of memory behind it.
 pub fn bench_first(
     alloc: Global,
     march: &March,
     memory: &Memory,
     devices: &mut Vec<Box<dyn Device>>,
-) -> Result<Plan, NoMemory>
+) -> Result<Option<Plan>, NoMemory>
     requires short { IsShort march.now memory.now }
     requires some { 0 < vec_len devices.old }
     requires room { FirstHasRoom memory.now.words (map (λ b. told (room_of b) (shape_of b) (tells b)) devices.old.items) }
     ensures taken { OnOk result (devices.new.items ≡ drop 1 devices.old.items) }
-    ensures kept { OnErr result ((map (λ b. told (room_of b) (shape_of b) (tells b)) devices.new.items ≡ map (λ b. told (room_of b) (shape_of b) (tells b)) devices.old.items) ⊎ (devices.new.items ≡ drop 1 devices.old.items)) }
-    ensures run { IfOk result (λ plan. (b : _) (rest : _) → devices.old.items ≡ b ∷ rest → IsRun march.now memory.now (ready memory.now (tells b)) (done_of plan)) }
-    ensures outputs { IfOk result (λ plan. (done_of plan).outputs ≡ []) }
+    ensures kept { OnErr result (map (λ b. told (room_of b) (shape_of b) (tells b)) devices.new.items ≡ map (λ b. told (room_of b) (shape_of b) (tells b)) devices.old.items) }
+    ensures run { IfOk result (λ ended. IfSome ended (λ plan. (b : _) (rest : _) → devices.old.items ≡ b ∷ rest → IsRun march.now memory.now (ready memory.now (tells b)) (done_of plan))) }
+    ensures outputs { IfOk result (λ ended. IfSome ended (λ plan. (done_of plan).outputs ≡ [])) }
 {
     let mut design = self_test_design(alloc, march, memory)?;
     let device = take_first(devices, memory)?;
-    run_plan(alloc, &mut design, march, memory, device)
+    match run_plan(alloc, &mut design, march, memory, device) {
+        Ok(plan) => Ok(Some(plan)),
+        Err(NoMemory) => Ok(None),
+    }
 }

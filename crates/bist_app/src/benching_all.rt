@@ -10,7 +10,7 @@ ghost use Rattle.bist_endings.specs.Ending.{done_of};
 ghost use Rattle.bist_app.specs.Vectors.{IsShort};
 ghost use Rattle.bist_app.specs.Bench.{benched_chip};
 ghost use Rattle.bist_app.specs.BenchAll.{HaveRoom, all_line, all_done, IsAllBenched, AreGone};
-ghost use Rattle.bist_app.specs.BenchedBoxes.{IsEnd};
+ghost use Rattle.bist_app.specs.BenchedBoxes.{IsEnd, CountsFailing};
 
 use crate::benching::self_test_design;
 use crate::boxes::take_first;
@@ -88,25 +88,27 @@ fn does_fail(
     }
 }
 
-/// Runs the self-test against each box, which is fitted and taken.
+/// Runs the self-test against each box, which is fitted and taken. The answer is beside how many it ended with `fail`. Where a box finds
+/// no memory to be fitted, it and those behind it stay.
 fn bench_boxes(
-    alloc: Global,
+    count: usize,
     design: &mut Design,
     zeros: &[u64],
     march: &March,
     memory: &Memory,
     devices: &mut Vec<Box<dyn Device>>,
-) -> Result<Plan, NoMemory>
+) -> Result<usize, NoMemory>
     requires test { SelfTest design.old.tree march.now memory.now }
     requires short { IsShort march.now memory.now }
     requires zeros { Fit (registers_of design.old.tree) zeros.now }
+    requires count { count ≡ length devices.old.items }
     requires rooms { HaveRoom memory.now.words (map (λ b. told (room_of b) (shape_of b) (tells b)) devices.old.items) }
     ensures none_left { OnOk result (devices.new.items ≡ []) }
     ensures gone { OnErr result (AreGone (map (λ b. told (room_of b) (shape_of b) (tells b)) devices.old.items) (map (λ b. told (room_of b) (shape_of b) (tells b)) devices.new.items)) }
-    ensures benched { IfOk result (λ plan. IsAllBenched march.now memory.now (map (λ b. told (room_of b) (shape_of b) (tells b)) devices.old.items) (done_of plan)) }
+    ensures stays { OnErr result (0 < length devices.new.items) }
+    ensures counts { IfOk result (λ failing. CountsFailing march.now memory.now (map (λ b. told (room_of b) (shape_of b) (tells b)) devices.old.items) failing) }
 {
     answers_right(march, memory);
-    let count = devices.len();
     let mut failing = 0;
     while !devices.is_empty() {
         let device = take_first(devices, memory)?;
@@ -114,7 +116,7 @@ fn bench_boxes(
             failing += 1;
         }
     }
-    all_plan(alloc, count, failing)
+    Ok(failing)
 }
 
 /// As many zeros as the design has registers, which hold 0.
@@ -142,5 +144,7 @@ pub fn bench_all(
 {
     let mut design = self_test_design(alloc, march, memory)?;
     let zeros = zeros_for(alloc, &design)?;
-    bench_boxes(alloc, &mut design, &zeros, march, memory, devices)
+    let count = devices.len();
+    let failing = bench_boxes(count, &mut design, &zeros, march, memory, devices)?;
+    all_plan(alloc, count, failing)
 }

@@ -1,6 +1,6 @@
 //! The self-test module against the first box with a planted instance of a primitive.
 
-ghost use Rattle.std.specs.Prelude.{◌≡◌, ◌⊎◌, ◌<◌, ◌∷◌, [], Some, IfOk, IsTrue, OnOk, OnErr, is_some, map, drop, vec_len};
+ghost use Rattle.std.specs.Prelude.{◌≡◌, ◌<◌, ◌∷◌, [], Some, IfOk, IfSome, IsTrue, OnOk, OnErr, is_some, map, drop, vec_len};
 ghost use Rattle.fault_core.specs.Primitive.{has_aggressor};
 ghost use Rattle.array_sim.specs.Detection.{Detects};
 ghost use Rattle.word_device.specs.Chips.{FitsMemory};
@@ -63,25 +63,29 @@ fn take_planted(
     Ok(device)
 }
 
-/// Runs the self-test of the memory by the march against the first box, which is fitted, taken, and planted with the instance.
+/// Runs the self-test of the memory by the march against the first box, which is fitted, taken, and planted with the instance. Want of
+/// memory up to there leaves the list as it was; `None` is want of memory behind it.
 pub fn bench_planted(
     alloc: Global,
     march: &March,
     memory: &Memory,
     planted: &Planted,
     devices: &mut Vec<Box<dyn Device>>,
-) -> Result<Plan, NoMemory>
+) -> Result<Option<Plan>, NoMemory>
     requires short { IsShort march.now memory.now }
     requires some { 0 < vec_len devices.old }
     requires room { FirstHasRoom memory.now.words (map (λ b. told (room_of b) (shape_of b) (tells b)) devices.old.items) }
     requires fits { FitsMemory planted.now memory.now.words memory.now.bits }
     requires places { is_some planted.now.agg ≡ has_aggressor planted.now.prim }
     ensures taken { OnOk result (devices.new.items ≡ drop 1 devices.old.items) }
-    ensures kept { OnErr result ((map (λ b. told (room_of b) (shape_of b) (tells b)) devices.new.items ≡ map (λ b. told (room_of b) (shape_of b) (tells b)) devices.old.items) ⊎ (devices.new.items ≡ drop 1 devices.old.items)) }
-    ensures run { IfOk result (λ plan. (b : _) (rest : _) → devices.old.items ≡ b ∷ rest → IsRun march.now memory.now (ready_planted memory.now planted.now (tells b)) (done_of plan)) }
-    ensures outputs { IfOk result (λ plan. (done_of plan).outputs ≡ []) }
+    ensures kept { OnErr result (map (λ b. told (room_of b) (shape_of b) (tells b)) devices.new.items ≡ map (λ b. told (room_of b) (shape_of b) (tells b)) devices.old.items) }
+    ensures run { IfOk result (λ ended. IfSome ended (λ plan. (b : _) (rest : _) → devices.old.items ≡ b ∷ rest → IsRun march.now memory.now (ready_planted memory.now planted.now (tells b)) (done_of plan))) }
+    ensures outputs { IfOk result (λ ended. IfSome ended (λ plan. (done_of plan).outputs ≡ [])) }
 {
     let mut design = self_test_design(alloc, march, memory)?;
     let device = take_planted(devices, memory, planted)?;
-    run_plan(alloc, &mut design, march, memory, device)
+    match run_plan(alloc, &mut design, march, memory, device) {
+        Ok(plan) => Ok(Some(plan)),
+        Err(NoMemory) => Ok(None),
+    }
 }

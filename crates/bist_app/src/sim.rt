@@ -3,21 +3,20 @@ ghost use Rattle.bist_host.specs.Files.{Rose};
 ghost use Rattle.march_core.specs.Visits.{is_direction};
 ghost use Rattle.fault_core.specs.Primitive.{has_aggressor};
 ghost use Rattle.fault_core.specs.Cells.{FitsPlace};
-ghost use Rattle.array_sim.specs.Run.{outcome_of};
 ghost use Rattle.bist_app.specs.declared.sim.SimShape.{SimShape};
 ghost use Rattle.bist_endings.specs.Ending.{plain, done_of};
 ghost use Rattle.bist_inputs.specs.Inputs.{HasReadCause, IsOwnRefusal};
 ghost use Rattle.bist_endings.specs.Conclude.{NamesWords};
 ghost use Rattle.bist_endings.specs.Words.{word};
-ghost use Rattle.bist_app.specs.Sim.{IsBit, IsLetter, IsAggressorWord, IsSimShape, FitsAggressor, places_of, content_of, directions_of_letters, miss_of, caught_line, sim_line, LeavesSim, DecidesSim};
+ghost use Rattle.bist_app.specs.Sim.{IsBit, IsLetter, IsAggressorWord, IsSimShape, FitsAggressor, places_of, content_of, directions_of_letters, FirstDiffers, caught_line, sim_line, LeavesSim, DecidesSim};
 
 use crate::directions::{direction_word, fit_directions};
-use array_sim::{Instance, Miss, simulate};
+use array_sim::{Instance, simulate};
 use bist_endings::{Misfit, Plan, Refusal, are_plain, number_of, push_number};
 use bist_host::Host;
 use bist_inputs::{give_prim, read_march_input};
 use fault_core::{Places, Prim};
-use march_core::March;
+use march_core::{March, Miss};
 use std::alloc::{AllocError, Global};
 
 /// What the words of `sim` say beside their texts.
@@ -132,7 +131,7 @@ fn run_array(
     requires least { 1 ≤ length letters.now }
     requires most { length letters.now ≤ 64 }
     requires fits { IsTrue (is_direction march.now (directions_of_letters letters.now)) }
-    ensures { result ≡ (outcome_of march.now (directions_of_letters letters.now) prim.now places cells.old).miss }
+    ensures { FirstDiffers march.now (directions_of_letters letters.now) prim.now places cells.old result }
 {
     let instance = Instance {
         prim: *prim,
@@ -157,7 +156,7 @@ fn plan_sim(
     requires most { length letters.now ≤ 64 }
     requires fits { IsTrue (is_direction march.now (directions_of_letters letters.now)) }
     ensures own { IfErr result IsOwnRefusal }
-    ensures answer { LeavesSim (miss_of march.now prim.now places digits.now letters.now) (plain result) }
+    ensures answer { LeavesSim march.now prim.now places digits.now letters.now (plain result) }
     ensures outputs { IfOk result (λ plan. plan.outputs.items ≡ []) }
 {
     let Ok(mut cells) = cells_of(alloc, digits) else {

@@ -7,7 +7,7 @@ use Rattle.memory_desc.specs.declared.fault.Field.{Field}
 use Rattle.memory_desc.specs.declared.fault.MemoryFault.{MemoryFault}
 use Rattle.arrayvec.specs.ArrayString.{ArrayString}
 use Rattle.verilog_tree.specs.declared.fault.TreeFault.{TreeFault}
-use Rattle.verilog_read.specs.declared.fault.ReadFault.{ReadFault}
+use Rattle.verilog_tree.specs.declared.fault.ReadFault.{ReadFault}
 use Rattle.bist_endings.specs.declared.ending.Refusal.{Refusal}
 use Rattle.bist_endings.specs.declared.ending.DeviceRefusal.{DeviceRefusal}
 use Rattle.bist_endings.specs.declared.ending.VerilogRefusal.{VerilogRefusal}

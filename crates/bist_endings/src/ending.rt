@@ -1,8 +1,7 @@
 use fault_syntax::FaultFault;
 use march_core::MarchFault;
 use memory_desc::MemoryFault;
-use verilog_read::ReadFault;
-use verilog_tree::{Name, TreeFault};
+use verilog_tree::{Name, ReadFault, TreeFault};
 
 /// What the program ends with.
 #[derive(Clone, Copy, Debug, PartialEq, Eq)]

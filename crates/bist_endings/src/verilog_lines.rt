@@ -4,8 +4,7 @@ ghost use Rattle.bist_endings.specs.Ending.{read_fault_text, names_text, tree_fa
 use crate::ending::VerilogRefusal;
 use crate::lines::push_number;
 use std::alloc::{AllocError, Global};
-use verilog_read::ReadFault;
-use verilog_tree::{Name, TreeFault};
+use verilog_tree::{Name, ReadFault, TreeFault};
 
 /// Appends a text and a name.
 fn push_name(line: &mut Vec<u8>, text: &[u8], name: &Name) -> Result<(), AllocError>

@@ -3,8 +3,8 @@ use Rattle.std.proofs.Common.{◌≡◌, ◌↔◌, ◌⊎◌, ◌∙◌, true, 
 use Rattle.verilog_tree.specs.declared.fault.TreeFault.{TreeFault}
 use Rattle.verilog_tree.specs.Plain.{ModuleTree}
 use Rattle.verilog_tree.specs.Formed.{formed}
-use Rattle.verilog_read.specs.declared.fault.ReadFault.{ReadFault}
-use Rattle.verilog_read.specs.Refusals.{IsFirst}
+use Rattle.verilog_tree.specs.declared.fault.ReadFault.{ReadFault}
+use Rattle.verilog_text.specs.Refusals.{IsFirst}
 use Rattle.verilog_cycle.specs.Design.{DesignView, IsNew, Refused}
 use Rattle.bist_inputs.specs.Designs.{CanRun, Breaks}
 

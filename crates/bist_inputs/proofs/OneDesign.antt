@@ -4,14 +4,15 @@ use Rattle.bist_host.specs.Files.{Files}
 use Rattle.verilog_tree.specs.declared.fault.TreeFault.{TreeFault}
 use Rattle.verilog_tree.specs.Plain.{ModuleTree}
 use Rattle.verilog_tree.specs.Rules.{Break, Unknown, Twice, Width, TwoBlocks, NotAssignable, SelectRange, Undriven, Clock, first_break}
+use Rattle.verilog_tree.specs.Grammar.{Parenthesised}
 use Rattle.verilog_tree.specs.Spells.{Spells, all_limits}
 use Rattle.verilog_tree.specs.Wires.{IsLoop}
-use Rattle.verilog_read.specs.declared.fault.ReadFault.{ReadFault}
-use Rattle.verilog_read.specs.Refusals.{IsFirst}
-use Rattle.verilog_read.specs.Answering.{Finished}
-use Rattle.verilog_read.proofs.Finishing.{finishes}
-use Rattle.verilog_read.proofs.Firsts.{first}
-use Rattle.verilog_read.proofs.ReadingLaws.{one_text}
+use Rattle.verilog_tree.specs.declared.fault.ReadFault.{ReadFault}
+use Rattle.verilog_text.specs.Refusals.{IsFirst}
+use Rattle.verilog_text.specs.Answering.{Finished}
+use Rattle.verilog_text.proofs.Finishing.{finishes}
+use Rattle.verilog_text.proofs.Firsts.{first}
+use Rattle.verilog_text.proofs.ReadingLaws.{one_text}
 use Rattle.verilog_cycle.specs.Seen.{plain_names}
 use Rattle.bist_endings.specs.declared.ending.Refusal.{Refusal}
 use Rattle.bist_endings.specs.declared.ending.VerilogRefusal.{VerilogRefusal}
@@ -34,11 +35,11 @@ one_first bytes f g h i = elim (h.1 g i.0) [
 
 -- what is spelled isn't refused
 never_refused : (bytes : List ℕ) (mo : ModuleTree) (fault : ReadFault) → Spells bytes mo → IsFirst bytes fault → ⊥
-never_refused bytes mo fault s f = first bytes (Finished mo) fault ((finishes bytes mo).1 s) f.0
+never_refused bytes mo fault s f = first Parenthesised bytes (Finished mo) fault ((finishes Parenthesised bytes mo).1 s) f.0
 
 tree_one : (bytes : List ℕ) → HasOneOutcome (GivesTree bytes)
 unfolding GivesTree
-tree_one bytes (Ok m) (Ok n) f g r s = ap Ok (one_text all_limits bytes m n f g)
+tree_one bytes (Ok m) (Ok n) f g r s = ap Ok (one_text all_limits Parenthesised bytes m n f g)
 tree_one bytes (Ok m) (Err (Refusal.Verilog (VerilogRefusal.Read e))) f g r s = absurd (never_refused bytes m e f g)
 tree_one bytes (Ok m) (Err Refusal.NoMemory) f g r s = absurd s
 tree_one bytes (Ok m) (Err other) f g r s = absurd g

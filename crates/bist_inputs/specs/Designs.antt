@@ -7,7 +7,7 @@ use Rattle.verilog_tree.specs.Plain.{ModuleTree, plain_module}
 use Rattle.verilog_tree.specs.Formed.{formed}
 use Rattle.verilog_tree.specs.Rules.{first_break}
 use Rattle.verilog_tree.specs.Spells.{Spells}
-use Rattle.verilog_read.specs.Refusals.{IsFirst}
+use Rattle.verilog_text.specs.Refusals.{IsFirst}
 use Rattle.verilog_cycle.specs.Design.{DesignView, NoLoop, AreNets, Refused}
 use Rattle.bist_endings.specs.declared.ending.Refusal.{Refusal}
 use Rattle.bist_endings.specs.declared.ending.VerilogRefusal.{VerilogRefusal}

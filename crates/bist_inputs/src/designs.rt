@@ -2,7 +2,7 @@ ghost use Rattle.std.specs.Prelude.{◌≡◌, ◌<◌, ◌≤◌, ◌⊎◌, tr
 ghost use Rattle.bist_host.specs.Files.{Rose};
 ghost use Rattle.verilog_tree.specs.Plain.{plain_module};
 ghost use Rattle.verilog_tree.specs.Formed.{formed};
-ghost use Rattle.verilog_read.specs.Refusals.{IsFirst};
+ghost use Rattle.verilog_text.specs.Refusals.{IsFirst};
 ghost use Rattle.verilog_cycle.specs.Design.{IsNew};
 ghost use Rattle.bist_endings.specs.Words.{word};
 ghost use Rattle.bist_inputs.specs.Inputs.{HasReadCause, IsOwnRefusal};
@@ -13,8 +13,8 @@ use bist_endings::{Refusal, VerilogRefusal};
 use bist_host::Host;
 use std::alloc::Global;
 use verilog_cycle::{Design, elaborate};
-use verilog_read::{ReadFault, read_module};
-use verilog_tree::{Module, TreeFault};
+use verilog_read::read_module;
+use verilog_tree::{Module, ReadFault, TreeFault};
 
 /// Why a text is refused; want of memory is no refusal of a text.
 #[tactic(auto, unfolding(crate::specs::Designs::GivesTree))]
@@ -44,9 +44,9 @@ fn give_tree(alloc: Global, bytes: &[u8]) -> Result<Module, Refusal>
 
 /// The design of a module, whose registers hold 0.
 #[tactic(auto, using(crate::proofs::Designing::can_run, crate::proofs::Designing::own_new, crate::proofs::Designing::broken), unfolding(crate::specs::Designs::GivesRunnable))]
-fn give_design(alloc: Global, module: &Module) -> Result<Design, Refusal>
-    requires { IsTrue (formed (plain_module «module».now)) }
-    ensures answer { GivesRunnable (plain_module «module».now) (tree_of result) }
+fn give_design(alloc: Global, module: Module) -> Result<Design, Refusal>
+    requires { IsTrue (formed (plain_module «module»)) }
+    ensures answer { GivesRunnable (plain_module «module») (tree_of result) }
     ensures own { IfErr result IsOwnRefusal }
     ensures new { IfOk result (λ design. IsNew design.tree design) }
 {
@@ -64,7 +64,7 @@ fn give_module(alloc: Global, bytes: &[u8]) -> Result<Design, Refusal>
     ensures new { IfOk result (λ design. IsNew design.tree design) }
 {
     let module = give_tree(alloc, bytes)?;
-    give_design(alloc, &module)
+    give_design(alloc, module)
 }
 
 /// The design of the file that a word names, whose registers hold 0.

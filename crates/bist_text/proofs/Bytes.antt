@@ -1,6 +1,6 @@
 -- Lists of numbers that are bytes.
-use Rattle.std.proofs.Common.{◌≡◌, ℕ, ◌<◌, true, List, [], ◌∷◌, ◌++◌, length, take, drop, get_or, refl, arith, suc, zero}
-use Rattle.std.proofs.lemmas.Bool.{and_parts, and_from, lt-ltb}
+use Rattle.std.proofs.Common.{◌≡◌, ℕ, true, List, [], ◌∷◌, ◌++◌, drop, refl, suc, zero}
+use Rattle.std.proofs.lemmas.Bool.{and_parts, and_from}
 use Rattle.std.specs.Prelude.{nat_lt}
 use Rattle.bist_text.specs.Grammar.{are_bytes}
 
@@ -12,13 +12,3 @@ pub are_bytes-drop : (n : ℕ) (b : List ℕ) → are_bytes b ≡ true → are_b
 are_bytes-drop zero b h = h
 are_bytes-drop (suc n) [] h = refl
 are_bytes-drop (suc n) (c ∷ b) h = let p : (nat_lt c 256 ≡ true) × (are_bytes b ≡ true) = and_parts (nat_lt c 256) (are_bytes b) h in are_bytes-drop n b p.1
-
--- a slice of bytes
-pub slice_are_bytes : (b : List ℕ) → ((k : ℕ) → k < length b → get_or b k 0 < 256) → are_bytes b ≡ true
-slice_are_bytes [] h = refl
-slice_are_bytes (c ∷ b) h = and_from (nat_lt c 256) (are_bytes b) (lt-ltb c 256 (h 0 (omega arith))) (slice_are_bytes b (λ k l. h (suc k) (omega arith)))
-
-pub are_bytes-take : (n : ℕ) (b : List ℕ) → are_bytes b ≡ true → are_bytes (take n b) ≡ true
-are_bytes-take zero b h = refl
-are_bytes-take (suc n) [] h = refl
-are_bytes-take (suc n) (c ∷ b) h = let p : (nat_lt c 256 ≡ true) × (are_bytes b ≡ true) = and_parts (nat_lt c 256) (are_bytes b) h in and_from (nat_lt c 256) (are_bytes (take n b)) p.0 (are_bytes-take n b p.1)

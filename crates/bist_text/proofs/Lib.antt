@@ -3,10 +3,10 @@ pub mod Powers
 pub mod Runs
 pub mod LineLemmas
 pub mod Machine
-pub mod Exclusive
 pub mod Pieces
 pub mod Loops
 pub mod Piece
 pub mod Lexed
 pub mod Unique
 pub mod Settled
+pub mod KeywordLaws

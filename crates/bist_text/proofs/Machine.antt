@@ -92,11 +92,22 @@ module _ {S V : Type 0} (step : S → ℕ → Option S) (value : S → Option V)
   pub one_value : (b : List ℕ) (s : S) (v w : V) → rest s b v → rest s b w → v ≡ w
   one_value b s v w p q = let a : scan step value b s 0 ≡ read v = scan_reads b s 0 v p in let c : scan step value b s 0 ≡ read w = scan_reads b s 0 w q in cc
 
-continues_iff : {V : Type 0} (G H : List ℕ → V → Type 0) → ((b : List ℕ) (v : V) → G b v ↔ H b v) → (b : List ℕ) → Continues G b → Continues H b
-continues_iff G H f b h = (h.0, h.1, h.2, (f (b ++ h.0) h.1).0 h.3)
+-- the texts of one grammar are texts of another
+abbrev pub HasTexts : {V W : Type 0} → (List ℕ → V → Type 0) → (List ℕ → W → Type 0) → Type 0
+HasTexts {V} {W} G H = (b : List ℕ) (v : V) → G b v → (w : W) × H b w
+
+continues_so : {V W : Type 0} (G : List ℕ → V → Type 0) (H : List ℕ → W → Type 0) → HasTexts G H → (b : List ℕ) → Continues G b → Continues H b
+continues_so G H f b h = let t = f (b ++ h.0) h.1 h.3 in (h.0, t.0, h.2, t.1)
+
+-- grammars of the same texts refuse the same
+pub unexpected_so : {V W : Type 0} (G : List ℕ → V → Type 0) (H : List ℕ → W → Type 0) → HasTexts G H → HasTexts H G → (b : List ℕ) (k : ℕ) → IsUnexpected G b k → IsUnexpected H b k
+unexpected_so G H f g b k u = record { within = u.within; before = continues_so G H f (take k b) u.before; after = λ z. u.after (continues_so H G g (take (k + 1) b) z) }
+
+pub truncated_so : {V W : Type 0} (G : List ℕ → V → Type 0) (H : List ℕ → W → Type 0) → HasTexts G H → HasTexts H G → (b : List ℕ) → IsTruncated G b → IsTruncated H b
+truncated_so G H f g b u = record { none = λ w z. (let t = g b w z in u.none t.0 t.1); before = continues_so G H f b u.before }
 
 -- of two grammars that are the same
 pub answers_iff : {V : Type 0} (G H : List ℕ → V → Type 0) → ((b : List ℕ) (v : V) → G b v ↔ H b v) → (b : List ℕ) (o : Outcome V) → Answers G b o → Answers H b o
 answers_iff G H f b (read v) h = (f b v).0 h
-answers_iff G H f b (unexpected k) h = record { within = h.within; before = continues_iff G H f (take k b) h.before; after = λ z. h.after (continues_iff H G (λ x v. ((f x v).1, (f x v).0)) (take (k + 1) b) z) }
-answers_iff G H f b truncated h = record { none = λ v z. h.none v ((f b v).1 z); before = continues_iff G H f b h.before }
+answers_iff G H f b (unexpected k) h = unexpected_so G H (λ c v z. (v, (f c v).0 z)) (λ c v z. (v, (f c v).1 z)) b k h
+answers_iff G H f b truncated h = truncated_so G H (λ c v z. (v, (f c v).0 z)) (λ c v z. (v, (f c v).1 z)) b h

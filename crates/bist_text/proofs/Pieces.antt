@@ -79,6 +79,14 @@ pub many_never : (p : ℕ → Bool) (K : List ℕ → Type 0) → ((x : List ℕ
 many_never p K f [] h = f [] h
 many_never p K f (c ∷ b) h = neither (f (c ∷ b)) (when_never (p c) (many p K b) (many_never p K f b)) h
 
+pub many_iff : (p : ℕ → Bool) (K L : List ℕ → Type 0) → ((x : List ℕ) → K x ↔ L x) → (b : List ℕ) → many p K b ↔ many p L b
+many_iff p K L f [] = f []
+many_iff p K L f (c ∷ b) = either_iff (f (c ∷ b)) (go (p c) (many_iff p K L f b))
+  where
+    go : (t : Bool) → many p K b ↔ many p L b → when t (many p K b) ↔ when t (many p L b)
+    go true g = g
+    go false g = same
+
 -- at a text's end
 pub ends_none : {A : Type 0} (old v : List A) (P : List A → Type 0) → ((m : List A) → P m → ⊥) → Grows old v P ↔ (None ≡ Some v)
 ends_none old v P f = never (grows_never old v P f) (λ e. cc)

@@ -1,9 +1,19 @@
 -- Of any text, bytes or not, a grammar that a machine follows has one answer: what is read of one of its texts goes on.
-use Rattle.std.proofs.Common.{◌≡◌, ◌↔◌, ℕ, ◌+◌, ◌<◌, List, [], ◌∷◌, ◌++◌, ◌∙◌, take, drop, Option, Some, None, refl, arith, sym, ap, subst, append_assoc, append-nil}
+use Rattle.std.proofs.Common.{◌≡◌, ◌↔◌, ℕ, zero, suc, ◌+◌, ◌<◌, ◌≤◌, List, [], ◌∷◌, ◌++◌, ◌∙◌, take, drop, Option, Some, None, refl, arith, sym, ap, subst, append_assoc, append-nil}
 use Rattle.bist_text.specs.Grammar.{Continues, IsUnexpected}
-use Rattle.bist_text.specs.Machine.{Holds, Outcome, read, unexpected, truncated, Follows, Answers}
-use Rattle.bist_text.proofs.Exclusive.{split_at, shorter}
-use Rattle.bist_text.proofs.Machine.{backward, one_value}
+use Rattle.bist_text.specs.Machine.{Holds, Outcome, read, unexpected, truncated, scan, Follows, Answers, IsExact}
+use Rattle.bist_text.proofs.Machine.{scan_answers, backward, one_value, answers_iff}
+
+pub split_at : (n : ℕ) (b : List ℕ) → take n b ++ drop n b ≡ b
+split_at zero b = refl
+split_at (suc n) [] = refl
+split_at (suc n) (c ∷ b) = ap (λ x. c ∷ x) (split_at n b)
+
+shorter : (n k : ℕ) (b : List ℕ) → n ≤ k → take n (take k b) ≡ take n b
+shorter zero k b h = refl
+shorter (suc n) zero b h = absurd (omega arith)
+shorter (suc n) (suc k) [] h = refl
+shorter (suc n) (suc k) (c ∷ b) h = ap (λ x. c ∷ x) (shorter n k b (omega arith))
 
 module _ {S V : Type 0} (step : S → ℕ → Option S) (value : S → Option V) (rest : S → List ℕ → V → Type 0) (good : S → Type 0) (f : Follows step value rest good) where
   steps_on : (a b : List ℕ) (s : S) (v : V) (c : ℕ) (o : Option S) → step s c ≡ o → Holds o (λ t. rest t (a ++ b) v)
@@ -44,27 +54,25 @@ module _ {S V : Type 0} (step : S → ℕ → Option S) (value : S → Option V)
   one_answer b s g truncated (unexpected k) t u = absurd (not_refused b t.before.0 k s t.before.1 g u t.before.3)
   one_answer b s g truncated truncated t u = refl
 
--- ---- of a grammar that is spelled otherwise
-
-continues_so : {V : Type 0} (G H : List ℕ → V → Type 0) → ((b : List ℕ) (v : V) → G b v → H b v) → (b : List ℕ) → Continues G b → Continues H b
-continues_so G H f b h = (h.0, h.1, h.2, f (b ++ h.0) h.1 h.3)
-
-answers_so : {V : Type 0} (G H : List ℕ → V → Type 0) → ((b : List ℕ) (v : V) → G b v ↔ H b v) → (b : List ℕ) (o : Outcome V) → Answers G b o → Answers H b o
-answers_so G H f b (read v) h = (f b v).0 h
-answers_so G H f b (unexpected k) u = record {
-  within = u.within;
-  before = continues_so G H (λ c v. (f c v).0) (take k b) u.before;
-  after = λ h. u.after (continues_so H G (λ c v. (f c v).1) (take (k + 1) b) h);
-}
-answers_so G H f b truncated t = record {
-  none = λ v h. t.none v ((f b v).1 h);
-  before = continues_so G H (λ c v. (f c v).0) b t.before;
-}
-
 -- a text has one answer of a grammar that says what may follow a machine's start
 pub answers_one : {S V : Type 0} (step : S → ℕ → Option S) (value : S → Option V) (rest : S → List ℕ → V → Type 0) (good : S → Type 0) → Follows step value rest good
     → (G : List ℕ → V → Type 0) (start : S) → good start → ((b : List ℕ) (v : V) → rest start b v ↔ G b v)
     → (b : List ℕ) (o p : Outcome V) → Answers G b o → Answers G b p → o ≡ p
 answers_one step value rest good f G start g is b o p h k =
-    let r : (o : Outcome _) → Answers G b o → Answers (rest start) b o = λ o h. answers_so G (rest start) (λ c v. ((is c v).1, (is c v).0)) b o h in
+    let r : (o : Outcome _) → Answers G b o → Answers (rest start) b o = λ o h. answers_iff G (rest start) (λ c v. ((is c v).1, (is c v).0)) b o h in
     one_answer step value rest good f b start g o p (r o h) (r p k)
+
+-- A machine answers each text exactly as its grammar says, where its start has the grammar's texts.
+pub scan_exact : {S V : Type 0} (step : S → ℕ → Option S) (value : S → Option V) (rest : S → List ℕ → V → Type 0) (good : S → Type 0) → Follows step value rest good
+    → (G : List ℕ → V → Type 0) (start : S) → good start → ((b : List ℕ) (v : V) → rest start b v ↔ G b v) → (b : List ℕ) → IsExact G b (scan step value b start 0)
+scan_exact {S} {V} step value rest good f G start g is b = record {
+  reads = λ v. (λ e. subst (Answers G b) e right, λ h. one (read v) h);
+  refuses = λ k. (λ e. subst (Answers G b) e right, λ u. one (unexpected k) u);
+  ends_early = (λ e. subst (Answers G b) e right, λ t. one truncated t);
+}
+  where
+    right : Answers G b (scan step value b start 0)
+    right = answers_iff (rest start) G is b (scan step value b start 0) (scan_answers step value rest good f b start g)
+
+    one : (p : Outcome V) → Answers G b p → scan step value b start 0 ≡ p
+    one p h = answers_one step value rest good f G start g is b (scan step value b start 0) p right h

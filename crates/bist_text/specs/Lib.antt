@@ -6,3 +6,4 @@ pub mod ByteSets
 pub mod Cursors
 pub mod Lines
 pub mod ReservedWords
+pub mod Keywords

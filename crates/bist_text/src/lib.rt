@@ -4,6 +4,7 @@
 
 mod byte_set;
 mod cursors;
+mod keywords;
 mod numbers;
 mod reserved_words;
 mod text_lines;
@@ -11,6 +12,7 @@ mod writing;
 
 pub use byte_set::ByteSet;
 pub use cursors::Cursor;
+pub use keywords::{Keyword, Letters, Spelled, first_letter, next_letter};
 pub use numbers::{decimal, hex, put_decimal, put_hex};
 pub use reserved_words::is_reserved;
 pub use text_lines::{Line, Lines};

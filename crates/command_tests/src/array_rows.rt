@@ -2,7 +2,25 @@
 
 use crate::rows::{MATS, PLAIN, RETENTION, Row, right_rows};
 
-static SIM: [Row; 20] = [
+/// A march of 64 elements, the most that there are.
+const LONGEST: &[u8] =
+    b"{any(w0);any(r0);any(r0);any(r0);any(r0);any(r0);any(r0);any(r0);any(r0);any(r0);any(r0);any(r0);any(r0);any(r0);any(r0);any(r0);any(r0);any(r0);any(r0);any(r0);any(r0);any(r0);any(r0);any(r0);any(r0);any(r0);any(r0);any(r0);any(r0);any(r0);any(r0);any(r0);any(r0);any(r0);any(r0);any(r0);any(r0);any(r0);any(r0);any(r0);any(r0);any(r0);any(r0);any(r0);any(r0);any(r0);any(r0);any(r0);any(r0);any(r0);any(r0);any(r0);any(r0);any(r0);any(r0);any(r0);any(r0);any(r0);any(r0);any(r0);any(r0);any(r0);any(r0);any(r0)}";
+
+static SIM: [Row; 22] = [
+    Row {
+        command: "sim m <0/1/-> 2 00 none 0 uuuuuuuuuuuuuuuuuuuuuuuuuuuuuuuuuuuuuuuuuuuuuuuuuuuuuuuuuuuuuuuu",
+        files: &[("m", LONGEST)],
+        said: b"caught element 1 address 0 operation 0\n",
+        status: 1,
+        ..PLAIN
+    },
+    Row {
+        command: "sim m <0/1/-> 2 00 none 0 uuuuuuuuuuuuuuuuuuuuuuuuuuuuuuuuuuuuuuuuuuuuuuuuuuuuuuuuuuuuuuuuu",
+        files: &[("m", LONGEST)],
+        said: b"usage\n",
+        status: 2,
+        ..PLAIN
+    },
     Row {
         command: "sim m <0w1/0/-> 2 00 none 0 uud",
         files: &[("m", MATS)],

@@ -139,7 +139,25 @@ fn benched_boxes(rt: HostRuntime) {
     assert_eq!(rt; right_rows(rt.alloc(), &BOXES), BOXES.len());
 }
 
-static FAULTS: [Row; 16] = [
+static FAULTS: [Row; 18] = [
+    Row {
+        command: "benchfault m d <0w0/1/-> none 999999999.0",
+        files: &[("m", MARCH_C), ("d", EIGHT)],
+        boxes: &[(Sort::Sound, 65_536)],
+        said: b"device V2\n",
+        status: 11,
+        left: 1,
+        ..PLAIN
+    },
+    Row {
+        command: "benchfault m d <0w0/1/-> none 1000000000.0",
+        files: &[("m", MARCH_C), ("d", EIGHT)],
+        boxes: &[(Sort::Sound, 65_536)],
+        said: b"usage\n",
+        status: 2,
+        left: 1,
+        ..PLAIN
+    },
     Row {
         command: "benchfault m d <0w0/1/-> none 3.0",
         files: &[("m", MARCH_C), ("d", SIXTEEN)],

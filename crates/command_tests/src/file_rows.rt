@@ -63,7 +63,7 @@ fn modules_of_files(rt: HostRuntime) {
 }
 
 /// Texts in place of the module, and how their refusals read.
-static MODULES: [Row; 10] = [
+static MODULES: [Row; 13] = [
     Row {
         command: BENCH_FILE,
         files: &[("m", MARCH_C), ("d", SIXTEEN), ("z", b"")],
@@ -75,6 +75,45 @@ static MODULES: [Row; 10] = [
         command: BENCH_FILE,
         files: &[("m", MARCH_C), ("d", SIXTEEN), ("z", b"modul m")],
         said: b"verilog L1 byte 5\n",
+        status: 14,
+        ..PLAIN
+    },
+    Row {
+        command: BENCH_FILE,
+        files: &[
+            ("m", MARCH_C),
+            ("d", SIXTEEN),
+            (
+                "z",
+                b"module m(output a);assign a=(((((((((((((((((((((((((((((((((((((((((((((((((((((((((((((((((1'd0",
+            ),
+        ],
+        said: b"verilog L3 byte 92\n",
+        status: 14,
+        ..PLAIN
+    },
+    Row {
+        command: BENCH_FILE,
+        files: &[
+            ("m", MARCH_C),
+            ("d", SIXTEEN),
+            (
+                "z",
+                b"module aaaaaaaaaaaaaaaaaaaaaaaaaaaaaaaaaaaaaaaaaaaaaaaaaaaaaaaaaaaaaaaaa",
+            ),
+        ],
+        said: b"verilog L4 byte 71\n",
+        status: 14,
+        ..PLAIN
+    },
+    Row {
+        command: BENCH_FILE,
+        files: &[
+            ("m", MARCH_C),
+            ("d", SIXTEEN),
+            ("z", b"module m(output a);assign a=65'h0;endmodule"),
+        ],
+        said: b"verilog L5 byte 29\n",
         status: 14,
         ..PLAIN
     },

@@ -68,17 +68,55 @@ fn failing_calls(rt: HostRuntime) {
     }
 }
 
-/// Whether `sim` of a march with a byte too many ends as it has to. `None` is want of memory.
-fn is_too_large(alloc: Global) -> Option<bool> {
+/// So many blanks in place of a march, what `sim` says of them, and its status.
+type Blanks = (usize, &'static [u8], u8);
+
+static BLANKS: [Blanks; 2] = [
+    (1_048_576, b"march M3\n", 3),
+    (1_048_577, b"too large 1\n", 6),
+];
+
+/// Whether `sim` of so many blanks ends as the row says. `None` is want of memory.
+fn are_blanks(alloc: Global, row: &Blanks) -> Option<bool> {
     let mut host = host_of(alloc, &[])?;
-    host.put("m", &vec![in alloc; b' '; 1_048_577].ok()?).ok()?;
+    host.put("m", &vec![in alloc; b' '; row.0].ok()?).ok()?;
     let status = run_alone(alloc, SIM, &mut host).ok()?;
-    Some(status == 6 && host.said() == b"too large 1\n".as_slice())
+    Some(status == row.2 && host.said() == row.1)
 }
 
 #[test]
-fn too_large_a_march(rt: HostRuntime) {
-    assert!(rt; is_too_large(rt.alloc()) == Some(true));
+fn large_marches(rt: HostRuntime) {
+    for row in &BLANKS {
+        assert!(rt; are_blanks(rt.alloc(), row) == Some(true));
+    }
+}
+
+/// An array of so many cells that hold 0, what `sim` says of it, and its status.
+type Cells = (usize, &'static [u8], u8);
+
+static CELLS: [Cells; 2] = [
+    (4096, b"caught element 2 address 0 operation 0\n", 1),
+    (4097, b"usage\n", 2),
+];
+
+/// Whether `sim` of so many cells ends as the row says. `None` is want of memory.
+fn are_cells(alloc: Global, row: &Cells) -> Option<bool> {
+    let mut host = host_of(alloc, &[("m", MATS)])?;
+    let count = row.0;
+    let mut command = format!(in alloc; "sim m <0w1/0/-> {count} ").ok()?;
+    for _ in 0..count {
+        command.push('0').ok()?;
+    }
+    command.push_str(" none 0 uud").ok()?;
+    let status = run_alone(alloc, &command, &mut host).ok()?;
+    Some(status == row.2 && host.said() == row.1)
+}
+
+#[test]
+fn large_arrays(rt: HostRuntime) {
+    for row in &CELLS {
+        assert!(rt; are_cells(rt.alloc(), row) == Some(true));
+    }
 }
 
 /// The status of `sim` of a march whose file's name may hold spaces.

@@ -4,7 +4,45 @@ use crate::rows::{Held, MARCH_C, MARCH_SS, MATS, PLAIN, RETENTION, Row, right_ro
 
 const MARCH_X: &[u8] = b"{any(w0);up(r0,w1);down(r1,w0);any(r0)}\n";
 
-static JUDGE: [Row; 13] = [
+/// What is left of a march that reads nothing: each primitive escapes, with the least of all arrays.
+const NO_READS: &[u8] = b"march {any(w0)}
+escape <0;0r0/0/1> CFir aggressor 0 victim 1 content 00 directions u
+escape <0;1r1/1/0> CFir aggressor 0 victim 1 content 00 directions u
+escape <1;0r0/0/1> CFir aggressor 0 victim 1 content 00 directions u
+escape <1;1r1/1/0> CFir aggressor 0 victim 1 content 00 directions u
+escape <0;0r0/1/0> CFdr aggressor 0 victim 1 content 00 directions u
+escape <0;1r1/0/1> CFdr aggressor 0 victim 1 content 00 directions u
+escape <1;0r0/1/0> CFdr aggressor 0 victim 1 content 00 directions u
+escape <1;1r1/0/1> CFdr aggressor 0 victim 1 content 00 directions u
+escape <0;0r0/1/1> CFrd aggressor 0 victim 1 content 00 directions u
+escape <0;1r1/0/0> CFrd aggressor 0 victim 1 content 00 directions u
+escape <1;0r0/1/1> CFrd aggressor 0 victim 1 content 00 directions u
+escape <1;1r1/0/0> CFrd aggressor 0 victim 1 content 00 directions u
+escape <0;0w1/0/-> CFtr aggressor 0 victim 1 content 00 directions u
+escape <0;1w0/1/-> CFtr aggressor 0 victim 1 content 00 directions u
+escape <1;0w1/0/-> CFtr aggressor 0 victim 1 content 00 directions u
+escape <1;1w0/1/-> CFtr aggressor 0 victim 1 content 00 directions u
+escape <0;0/1/-> CFst aggressor 0 victim 1 content 00 directions u
+escape <0;1/0/-> CFst aggressor 0 victim 1 content 00 directions u
+escape <1;0/1/-> CFst aggressor 0 victim 1 content 00 directions u
+escape <1;1/0/-> CFst aggressor 0 victim 1 content 00 directions u
+class CFst 4 covered 0
+class CFtr 4 covered 0
+class CFrd 4 covered 0
+class CFdr 4 covered 0
+class CFir 4 covered 0
+total 20 covered 0 escapes 20
+";
+
+static JUDGE: [Row; 14] = [
+    Row {
+        command: "judge m l r",
+        files: &[("m", b"{any(w0)}"), ("l", b"CFir\nCFdr\nCFrd\nCFtr\nCFst")],
+        said: b"total 20 covered 0 escapes 20\n",
+        status: 1,
+        made: &[("r", Held::Bytes(NO_READS))],
+        ..PLAIN
+    },
     Row {
         command: "judge m l r",
         files: &[

@@ -11,7 +11,27 @@ const LONG_RETENTION: &[u8] =
     b"{any(w0);del;del;del;del;del;del;del;del;del;del;del;del;del;del;del;del;del;del;del;del;del;del;del;del;del;del;del;del;del;del;del;any(r0)}";
 
 /// The files of the commands.
-static VECTORS: [Row; 5] = [
+static VECTORS: [Row; 6] = [
+    Row {
+        command: "vectors m d o",
+        files: &[
+            ("m", LONG_RETENTION),
+            (
+                "d",
+                b"memory 2\nname buf0\nwords 16\nbits 1\nlatency 1\npause 64515\n",
+            ),
+        ],
+        said: b"vectors 32\n",
+        status: 0,
+        made: &[(
+            "o",
+            Held::Between(
+                b"w 0 0\nw 1 0\nw 2 0\n",
+                b"w 15 0\nr 0 0\nr 1 0\nr 2 0\nr 3 0\nr 4 0\nr 5 0\nr 6 0\nr 7 0\nr 8 0\nr 9 0\nr 10 0\nr 11 0\nr 12 0\nr 13 0\nr 14 0\nr 15 0\n",
+            ),
+        )],
+        ..PLAIN
+    },
     Row {
         command: "vectors m d o",
         files: &[("m", b"{up(w1);down(r1)}"), ("d", GRAY)],
@@ -107,7 +127,29 @@ const TOO_MANY_IN_ALL: &[u8] = b"^(w0,w0,w0,w0,w0,w0,w0,w0,w0,w0,w0,w0,w0,w0,w0,
 ^(w0,w0,w0,w0,w0,w0,w0,w0,w0,w0,w0,w0,w0,w0,w0,w0);
 ^(w0)";
 
-static REFUSED: [Row; 23] = [
+static REFUSED: [Row; 25] = [
+    Row {
+        command: "vectors m d o",
+        files: &[
+            ("m", MATS),
+            ("d", b"memory 1\nname n\nwords 999999999\nbits 1\n"),
+        ],
+        said: b"memory D5 line 3\n",
+        status: 4,
+        made: &[("o", Held::Nothing)],
+        ..PLAIN
+    },
+    Row {
+        command: "vectors m d o",
+        files: &[
+            ("m", MATS),
+            ("d", b"memory 1\nname n\nwords 1000000000\nbits 1\n"),
+        ],
+        said: b"memory D1 line 3 byte 15\n",
+        status: 4,
+        made: &[("o", Held::Nothing)],
+        ..PLAIN
+    },
     Row {
         command: "vectors m d o",
         files: &[("m", b"{}"), ("d", b"")],

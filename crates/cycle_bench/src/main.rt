@@ -1,9 +1,10 @@
 //! Runs the self-test module in a file so many cycles on a memory that answers what was written, for `bench/clock`:
 //!
-//!     cycle_bench MODULE CYCLES LATENCY
+//!     cycle_bench MODULE CYCLES LATENCY [free]
 //!
 //! It says in which cycle, counted from 0, the module was done first, and whether it told a failure. Where CYCLES is 0
-//! the module is only read and made to run.
+//! the module is only read and made to run. Behind these words `free` asks for the reader of operators that bind by
+//! precedence.
 #![tactic(auto)]
 
 use bist_host::{Host, HostFault, RealHost};
@@ -11,8 +12,8 @@ use std::alloc::{AllocError, Global};
 use std::process::ExitCode;
 use std::{env, io};
 use verilog_cycle::{Design, elaborate};
-use verilog_read::{ReadFault, read_module};
-use verilog_tree::{TreeFault, formed};
+use verilog_read::{read_free, read_module};
+use verilog_tree::{Module, ReadFault, TreeFault, formed};
 
 /// The most bytes of a module's text.
 const LIMIT: usize = 1 << 20;
@@ -127,9 +128,19 @@ fn run(design: &mut Design, memory: &mut Memory, cycles: u64) -> Result<Shown, R
     Ok(shown)
 }
 
+fn read(alloc: Global, text: &[u8], free: bool) -> Result<Module, ReadFault> {
+    if free {
+        read_free(alloc, text)
+    } else {
+        read_module(alloc, text)
+    }
+}
+
 fn timed<H: Host>(alloc: Global, words: &[&str], host: &mut H) -> Result<(u64, Shown), Refusal> {
-    let [file, cycles, latency] = *words else {
-        return Err(Refusal::Usage);
+    let (file, cycles, latency, free) = match *words {
+        [file, cycles, latency] => (file, cycles, latency, false),
+        [file, cycles, latency, reader] if reader == "free" => (file, cycles, latency, true),
+        _ => return Err(Refusal::Usage),
     };
     let (Ok(cycles), Ok(latency)) = (cycles.parse::<u64>(), latency.parse::<usize>()) else {
         return Err(Refusal::Usage);
@@ -138,14 +149,14 @@ fn timed<H: Host>(alloc: Global, words: &[&str], host: &mut H) -> Result<(u64, S
         Ok(text) => text,
         Err(fault) => return Err(Refusal::File(fault)),
     };
-    let module = match read_module(alloc, &text) {
+    let module = match read(alloc, &text, free) {
         Ok(module) => module,
         Err(fault) => return Err(Refusal::Text(fault)),
     };
     if !formed(&module) {
         return Err(Refusal::Usage);
     }
-    let mut design = match elaborate(alloc, &module) {
+    let mut design = match elaborate(alloc, module) {
         Ok(design) => design,
         Err(fault) => return Err(Refusal::Rules(fault)),
     };

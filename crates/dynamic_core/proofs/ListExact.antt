@@ -5,25 +5,24 @@ use Rattle.fault_core.specs.declared.primitive.PrimFault.TheVariants.{NotAFault 
 use Rattle.fault_syntax.specs.declared.fault.FaultFault.{FaultFault}
 use Rattle.fault_syntax.specs.declared.fault.FaultFault.TheVariants.{Unexpected, Truncated, NotAFault, TooManyOperations, TooManyPrimitives, NoMemory}
 use Rattle.fault_syntax.specs.Answers.{fault_at}
-use Rattle.fault_syntax.specs.ListText.{Primitive as OnePrimitive, Named}
+use Rattle.fault_syntax.specs.declared.words.NameSet.TheVariants.{Every}
+use Rattle.fault_syntax.specs.ListText.{Item as ListedItem, Primitive as OnePrimitive, Named, ItemLine}
 use Rattle.fault_syntax.specs.PrimText.{PrimParts}
 use Rattle.fault_syntax.proofs.LineByLine.{IsSettled, lines_one}
 use Rattle.dynamic_core.specs.declared.item.Item.{Item}
-use Rattle.dynamic_core.specs.ItemParts.{IsItem, RefusesItem, RefusesItemAt, BringsItems}
-use Rattle.dynamic_core.specs.Items.{written_item, ReadsItems}
-use Rattle.dynamic_core.specs.ItemText.{LineItem, Listed, Worded, ItemLine}
-use Rattle.dynamic_core.proofs.LineReads.{outcome_one}
+use Rattle.dynamic_core.specs.ItemParts.{IsItem, RefusesItem, RefusesOn, BringsIn}
+use Rattle.dynamic_core.specs.Items.{ReadsItems}
+use Rattle.fault_syntax.proofs.LineExact.{outcome_one}
 use Rattle.dynamic_core.proofs.Standing.{within_two, item_one}
 
-brings_one : (v : Option LineItem) (xs ys : List Item) → BringsItems v xs → BringsItems v ys → xs ≡ ys
+brings_one : (v : Option ListedItem) (xs ys : List Item) → BringsIn Every v xs → BringsIn Every v ys → xs ≡ ys
 brings_one None xs ys h k = h ∙ sym k
-brings_one (Some (Listed (OnePrimitive text))) xs ys h k = h.2 ∙ ap (λ x. x ∷ []) (item_one text h.0 k.0 h.1 k.1) ∙ sym k.2
-brings_one (Some (Listed (Named n))) xs ys h k = h ∙ sym k
-brings_one (Some (Worded w)) xs ys h k = h ∙ sym k
+brings_one (Some (OnePrimitive text)) xs ys h k = h.2 ∙ ap (λ x. x ∷ []) (item_one text h.0 k.0 h.1 k.1) ∙ sym k.2
+brings_one (Some (Named n)) xs ys h k = h ∙ sym k
 
 -- ---- written parts are refused in one way
 
-refusal_why : (line : ℕ) (text : PrimParts) (fault : FaultFault) → RefusesItemAt line text fault
+refusal_why : (line : ℕ) (text : PrimParts) (fault : FaultFault) → RefusesOn Every line text fault
     → (why : PrimFault) × (fault ≡ fault_at line why) × RefusesItem text why
 refusal_why line text (TooManyOperations l) h = (HasTooManyOperations, ap TooManyOperations h.0, h.1)
 refusal_why line text (NotAFault l) h = (IsNotAFault, ap NotAFault h.0, h.1)
@@ -38,7 +37,7 @@ why_one text HasTooManyOperations IsNotAFault h k = absurd (k.0 h)
 why_one text IsNotAFault HasTooManyOperations h k = absurd (h.0 k)
 why_one text IsNotAFault IsNotAFault h k = refl
 
-refuses_one : (line : ℕ) (text : PrimParts) (f g : FaultFault) → RefusesItemAt line text f → RefusesItemAt line text g → f ≡ g
+refuses_one : (line : ℕ) (text : PrimParts) (f g : FaultFault) → RefusesOn Every line text f → RefusesOn Every line text g → f ≡ g
 refuses_one line text f g h k =
     let x = refusal_why line text f h in
     let y = refusal_why line text g k in
@@ -49,15 +48,15 @@ no_why : (text : PrimParts) (item : Item) (why : PrimFault) → IsItem text item
 no_why text item HasTooManyOperations h r = within_two text item h r
 no_why text item IsNotAFault h r = r.1 item h
 
-not_refused : (line : ℕ) (text : PrimParts) (item : Item) (fault : FaultFault) → IsItem text item → RefusesItemAt line text fault → ⊥
+not_refused : (line : ℕ) (text : PrimParts) (item : Item) (fault : FaultFault) → IsItem text item → RefusesOn Every line text fault → ⊥
 not_refused line text item fault h r = let x = refusal_why line text fault r in no_why text item x.0 h x.2
 
-written_one : (text other : PrimParts) → Some (written_item text) ≡ Some (written_item other) → other ≡ text
+written_one : (text other : PrimParts) → Some (OnePrimitive text) ≡ Some (OnePrimitive other) → other ≡ text
 written_one text other e = cc
 
-pub settled : IsSettled ItemLine BringsItems written_item RefusesItemAt
+pub settled : IsSettled ItemLine (BringsIn Every) OnePrimitive (RefusesOn Every)
 settled = record {
-  outcome_one = outcome_one;
+  outcome_one = outcome_one Every;
   brings_one = brings_one;
   not_refused = λ text items line fault b r. not_refused line text b.0 fault b.1 r;
   refuses_one = refuses_one;
@@ -66,4 +65,4 @@ settled = record {
 
 -- the bytes of a list are read as one thing
 pub list_one : (b : List ℕ) (q r : Result (List Item) FaultFault) → ReadsItems b q → ReadsItems b r → q ≡ r
-list_one = lines_one ItemLine BringsItems written_item RefusesItemAt settled
+list_one = lines_one ItemLine (BringsIn Every) OnePrimitive (RefusesOn Every) settled

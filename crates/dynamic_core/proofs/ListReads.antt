@@ -1,4 +1,5 @@
--- What is said of a primitive for which there is no room, and the static primitives of a word as items.
+-- What is said of a primitive for which there is no room, and of a line that isn't read; and the static primitives of a
+-- name as items.
 use Rattle.std.proofs.Common.{◌≡◌, ℕ, List, [], ◌∷◌, ◌++◌, map, ap, ◌∙◌, Option, Some, None, Result, Ok, Err, IfErr, refl, sym, subst, inl, inr}
 use Rattle.std.proofs.lemmas.List.{map-append}
 use Rattle.fault_core.specs.Primitive.{Primitive}
@@ -8,38 +9,46 @@ use Rattle.fault_syntax.specs.declared.reader.ReadItem.TheVariants.{Primitive as
 use Rattle.fault_syntax.specs.declared.reader.ReadParts.{ReadParts}
 use Rattle.fault_syntax.specs.declared.words.Name.{Name}
 use Rattle.fault_syntax.specs.declared.words.Name.TheVariants.{All}
-use Rattle.fault_syntax.specs.Brief.{read_parts_of}
-use Rattle.fault_syntax.specs.LineByLine.{HasNoRoom}
-use Rattle.fault_syntax.specs.ListText.{Primitive as OnePrimitive, Named}
-use Rattle.fault_syntax.specs.Parts.{primitives_of}
+use Rattle.fault_syntax.specs.declared.fault.FaultFault.TheVariants.{Unexpected, Truncated, NotAFault, TooManyOperations, TooManyPrimitives, NoMemory}
+use Rattle.fault_syntax.specs.declared.words.NameSet.{NameSet}
+use Rattle.fault_syntax.specs.Brief.{read_parts_of, read_item_of}
+use Rattle.bist_text.specs.Lines.{TextLine}
+use Rattle.fault_syntax.specs.LineByLine.{HasNoRoom, IsFaultOn}
+use Rattle.fault_syntax.specs.LineReading.{IsTextFault}
+use Rattle.fault_syntax.specs.ListText.{Item as ListedItem, Primitive as OnePrimitive, Named, LineOf}
 use Rattle.fault_syntax.specs.PrimText.{PrimParts}
-use Rattle.fault_syntax.proofs.Appending.{all_rows}
 use Rattle.dynamic_core.specs.declared.item.Item.{Item}
 use Rattle.dynamic_core.specs.declared.item.Item.TheVariants.{Plain}
-use Rattle.dynamic_core.specs.declared.line.ReadLine.TheVariants.{OfList}
-use Rattle.dynamic_core.specs.ItemParts.{IsItem}
-use Rattle.dynamic_core.specs.ItemText.{LineItem, Listed, Worded}
-use Rattle.dynamic_core.specs.Reading.{NotAdded, read_line_of}
+use Rattle.dynamic_core.specs.ItemParts.{IsItemIn, RefusesOn, items_of}
+use Rattle.dynamic_core.specs.Reading.{NotAdded}
 
 -- a primitive for which there is no room
-pub one_not_added : (v : Option LineItem) (parts : ReadParts) (item : Item) (line : ℕ) (old : List Item) (r : Result (Unit {0}) FaultFault)
-    → OfList (ReadPrimitive parts) ≡ read_line_of v → ((text : PrimParts) → parts ≡ read_parts_of text → IsItem text item)
-    → IfErr r (HasNoRoom old (item ∷ []) line) → IfErr r (NotAdded v line old)
-one_not_added v parts item line old (Ok u) e f h = tt
-one_not_added None parts item line old (Err fault) e f h = cc
-one_not_added (Some (Worded w)) parts item line old (Err fault) e f h = cc
-one_not_added (Some (Listed (Named n))) parts item line old (Err fault) e f h = cc
-one_not_added (Some (Listed (OnePrimitive text))) parts item line old (Err fault) e f h = elim h [
-  | inl m ↦ subst (NotAdded v line old) (sym m) tt
-  | inr m ↦ subst (NotAdded v line old) (sym m.0) (refl, item ∷ [], (item, f text parts_is, refl), m.1)
+pub one_not_added : (set : NameSet) (v : Option ListedItem) (parts : ReadParts) (item : Item) (line : ℕ) (old : List Item) (r : Result (Unit {0}) FaultFault)
+    → ReadPrimitive parts ≡ read_item_of v → ((text : PrimParts) → parts ≡ read_parts_of text → IsItemIn set text item)
+    → IfErr r (HasNoRoom old (item ∷ []) line) → IfErr r (NotAdded set v line old)
+one_not_added set v parts item line old (Ok u) e f h = tt
+one_not_added set None parts item line old (Err fault) e f h = cc
+one_not_added set (Some (Named n)) parts item line old (Err fault) e f h = cc
+one_not_added set (Some (OnePrimitive text)) parts item line old (Err fault) e f h = elim h [
+  | inl m ↦ subst (NotAdded set v line old) (sym m) tt
+  | inr m ↦ subst (NotAdded set v line old) (sym m.0) (refl, item ∷ [], (item, f text parts_is, refl), m.1)
 ]
   where
-    v : Option LineItem
-    v = Some (Listed (OnePrimitive text))
+    v : Option ListedItem
+    v = Some (OnePrimitive text)
 
     parts_is : parts ≡ read_parts_of text
     parts_is = cc
 
+-- why a line's bytes aren't read is why the line isn't
+pub text_fault : (set : NameSet) (l : TextLine) (fault : FaultFault) → IsTextFault set l fault → IsFaultOn (LineOf set) OnePrimitive (RefusesOn set) l fault
+text_fault set l (Unexpected n k) h = h
+text_fault set l (Truncated n) h = h
+text_fault set l (NotAFault n) h = absurd h
+text_fault set l (TooManyOperations n) h = absurd h
+text_fault set l (TooManyPrimitives n) h = absurd h
+text_fault set l NoMemory h = absurd h
+
 -- the table of one cell and that of two are all, as items
-pub all_plain : (one two : List Primitive) (name : Name) → one ≡ one_cell_table → two ≡ two_cell_table → name ≡ All → map Plain one ++ map Plain two ≡ map Plain (primitives_of name)
-all_plain one two name h k is = sym (map-append Plain one two) ∙ ap (map Plain) (all_rows one two name h k is)
+pub all_plain : (one two : List Primitive) (name : Name) → one ≡ one_cell_table → two ≡ two_cell_table → name ≡ All → map Plain one ++ map Plain two ≡ items_of name
+all_plain one two name h k is = sym (map-append Plain one two) ∙ ap (map Plain) (ap (λ ps. ps ++ two) h ∙ ap (λ ps. one_cell_table ++ ps) k) ∙ ap items_of (sym is)

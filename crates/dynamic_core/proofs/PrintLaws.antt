@@ -13,14 +13,14 @@ use Rattle.fault_core.specs.declared.primitive.Act.{Act}
 use Rattle.fault_core.specs.declared.primitive.Act.TheVariants.{Write as Writes, Read as Reads, Pause as Pauses}
 use Rattle.fault_syntax.specs.declared.words.Operation.{Operation}
 use Rattle.fault_syntax.specs.declared.words.Operation.TheVariants.{Write, Read, Pause}
-use Rattle.fault_syntax.specs.ListText.{Primitive, line_end}
+use Rattle.fault_syntax.specs.ListText.{Primitive, line_end, ItemLine}
 use Rattle.fault_syntax.specs.Parts.{IsAct}
 use Rattle.fault_syntax.specs.Printed.{act_text}
 use Rattle.fault_syntax.specs.PrimText.{SenseText, PrimParts, ws, bit_text, answer_text, op, more_ops, sense, senses, effect}
+use Rattle.fault_syntax.proofs.PrintLaws.{effect_on}
 use Rattle.dynamic_core.specs.declared.item.Item.TheVariants.{Dyn}
 use Rattle.dynamic_core.specs.ItemParts.{AreActs, IsDynamicAggressor, StandsForDynamic}
 use Rattle.dynamic_core.specs.Items.{BringAll, ReadsItems}
-use Rattle.dynamic_core.specs.ItemText.{Listed, ItemLine}
 use Rattle.dynamic_core.specs.Primitive.{TwoActs, DynamicSense, DynamicPrimitive, IsDynamic, left_by}
 use Rattle.dynamic_core.specs.Printed.{acts_text, dynamic_sense_text, dynamic_aggressor_text, printed_dynamic}
 use Rattle.dynamic_core.proofs.Parts.{parts_pass, dynamic_passes}
@@ -93,24 +93,15 @@ senses_on (Some a) s K r h =
 abbrev ending : DynamicPrimitive → List ℕ
 ending p = 47 ∷ (bit_text p.after ++ (47 ∷ (answer_text p.answer ++ (62 ∷ []))))
 
-effect_on : (p : DynamicPrimitive) (K : List ℕ → Type 0) → K [] → effect (parts p) K (ending p)
-effect_on p K h =
-    let closed : List ℕ → Type 0 = ws (word (62 ∷ []) K) in
-    let answered : List ℕ → Type 0 = word (answer_text p.answer) closed in
-    let left : List ℕ → Type 0 = ws (word (47 ∷ []) (ws answered)) in
-    inl (many_none is_blank (word (bit_text p.after) left) (bit_text p.after ++ (47 ∷ (answer_text p.answer ++ (62 ∷ []))))
-    (word_on (bit_text p.after) left (47 ∷ (answer_text p.answer ++ (62 ∷ [])))
-    (inl (many_none is_blank answered (answer_text p.answer ++ (62 ∷ [])) (word_on (answer_text p.answer) closed (62 ∷ []) (inl h))))))
-
 printed_is : (p : DynamicPrimitive) → printed_dynamic p ≡ 60 ∷ (dynamic_aggressor_text p.agg ++ (dynamic_sense_text p.vic ++ ending p))
 printed_is p = simp append_assoc
 
-pub printed_line : (p : DynamicPrimitive) → ItemLine (printed_dynamic p) (Some (Listed (Primitive (parts p))))
+pub printed_line : (p : DynamicPrimitive) → ItemLine (printed_dynamic p) (Some (Primitive (parts p)))
 printed_line p =
-    subst (λ b. ItemLine b (Some (Listed (Primitive (parts p))))) (sym (printed_is p))
+    subst (λ b. ItemLine b (Some (Primitive (parts p)))) (sym (printed_is p))
     (inl (many_none is_blank (senses (written_agg p.agg) (written p.vic) (effect (parts p) (ws line_end)))
     (dynamic_aggressor_text p.agg ++ (dynamic_sense_text p.vic ++ ending p))
-    (senses_on p.agg p.vic (effect (parts p) (ws line_end)) (ending p) (effect_on p (ws line_end) (inl tt)))))
+    (senses_on p.agg p.vic (effect (parts p) (ws line_end)) (ending p) (effect_on (parts p) (ws line_end) (inl tt)))))
 
 -- ---- it is a list of one line
 
@@ -138,5 +129,5 @@ one_line p is =
 pub printed_list : (p : DynamicPrimitive) → IsDynamic p → ReadsItems (printed_dynamic p) (Ok (Dyn p ∷ []))
 printed_list p is =
     let here : BringAll (line_of (printed_dynamic p) ∷ []) (Dyn p ∷ []) =
-    (Some (Listed (Primitive (parts p))), Dyn p ∷ [], [], printed_line p, (Dyn p, (parts_stand p, is), refl), refl, refl) in
+    (Some (Primitive (parts p)), Dyn p ∷ [], [], printed_line p, (Dyn p, (parts_stand p, is), refl), refl, refl) in
     (subst (λ (ls : List TextLine). BringAll ls (Dyn p ∷ [])) (sym (one_line p is)) here, omega arith)

@@ -1,19 +1,16 @@
 -- Runs of steps, one part after another.
-use Rattle.std.proofs.Common.{◌≡◌, ℕ, ◌+◌, ◌<◌, ◌≤◌, Bool, true, false, cond, Option, Some, None, List, [], ◌∷◌, ◌++◌, length, drop, reverse, refl, ap, sym, ◌∙◌}
-use Rattle.std.proofs.lemmas.List.{drop_more, drop_all, length-reverse, map-append}
-use Rattle.std.proofs.lemmas.List.FromFn.{length-range_with_len}
-use Rattle.std.specs.List.{range_with_len}
+use Rattle.std.proofs.Common.{◌≡◌, ℕ, ◌+◌, ◌<◌, ◌≤◌, Bool, true, false, cond, Option, Some, None, List, [], ◌∷◌, ◌++◌, length, refl, ap, sym, ◌∙◌}
 use Rattle.fault_core.specs.declared.cells.Places.{Places}
 use Rattle.march_core.specs.declared.operation.Op.{Op}
-use Rattle.march_core.specs.March.{MarchElement, pause, element_at}
-use Rattle.march_core.specs.Visits.{MarchStep, pausing, visiting, Direction, Upward, Downward, cell_visits, address_visits, addresses, element_visits, direction_at}
-use Rattle.march_core.proofs.Directions.{range_more}
-use Rattle.array_sim.specs.declared.element_run.Miss.{Miss}
-use Rattle.array_sim.specs.Run.{act_of, is_wrong_of, miss_at}
-use Rattle.array_sim.specs.Addresses.{address_at, steps_of}
+use Rattle.march_core.specs.March.{MarchElement, element_at}
+use Rattle.march_core.specs.Visits.{MarchStep, pausing, visiting, Direction, cell_visits, address_visits, element_visits, direction_at, miss_at}
+use Rattle.march_core.specs.declared.visit.Miss.{Miss}
+use Rattle.march_core.specs.Operation.{is_wrong_of}
+use Rattle.array_sim.specs.Run.{act_of}
+use Rattle.march_core.specs.Addresses.{address_at, steps_of}
 use Rattle.array_sim.proofs.Runs.{visits_rest, visits_rest_more, addresses_past, march_rest, march_rest_more}
 use Rattle.dynamic_core.specs.Primitive.{DynamicPrimitive}
-use Rattle.dynamic_core.specs.Dynamic.{Held, dyn_step, dyn_answer, after_pause, Ending, Differs, Ends, dyn_run, miss_of, ending_as}
+use Rattle.dynamic_core.specs.Dynamic.{Held, dyn_step, dyn_answer, after_pause, Ending, Differs, Ends, dyn_run, miss_of, held_of, ending_as}
 
 -- one part of a run behind another
 abbrev pub then_run : Ending → (Held → Ending) → Ending
@@ -60,6 +57,10 @@ sweep_ends p at h element ops d n place whole past before =
 pub ending_miss : (miss : Option Miss) (h : Held) → miss ≡ miss_of (ending_as miss h)
 ending_miss None h = refl
 ending_miss (Some miss) h = refl
+
+pub ending_held : (miss : Option Miss) (h : Held) → h ≡ held_of (ending_as miss h)
+ending_held None h = refl
+ending_held (Some miss) h = refl
 
 -- a cell's part, and an element's part
 pub sweep_goes_on : (p : DynamicPrimitive) (at : Places) (h next : Held) (miss : Option Miss) (element address : ℕ) (ops : List Op) (d : Direction) (n place : ℕ) (whole : Ending)

@@ -4,8 +4,9 @@ use Rattle.fault_core.specs.declared.cells.Places.{Places}
 use Rattle.march_core.specs.March.{MarchElement}
 use Rattle.march_core.specs.Visits.{Direction, is_direction, visits}
 use Rattle.dynamic_core.specs.Primitive.{DynamicSense, DynamicPrimitive}
-use Rattle.dynamic_core.specs.Dynamic.{Ending, held_as, dyn_run}
-use Rattle.dynamic_core.specs.Differing.{SomeDynDiffers}
+use Rattle.array_sim.specs.Differing.{left_behind}
+use Rattle.dynamic_core.specs.Dynamic.{Held, Ending, held_as, dyn_run}
+use Rattle.dynamic_core.specs.Differing.{held_after, SomeDynDiffers}
 
 -- the aggressor's place: there exactly for a primitive with an aggressor, within the array, and not the victim's
 abbrev pub FitsDynAgg : Option DynamicSense → Option ℕ → ℕ → ℕ → Type 0
@@ -26,6 +27,11 @@ ending_of march directions p at content = dyn_run p at (held_as content false) (
 -- in these directions on this content some read answers another bit than the march expects
 abbrev pub IsCaughtDyn : List MarchElement → List Direction → DynamicPrimitive → Places → List Bool → Type 0
 IsCaughtDyn march directions p at content = SomeDynDiffers p at (held_as content false) (visits march directions (length content))
+
+-- what they leave, whatever the reads answer
+abbrev pub cells_after_dyn : List MarchElement → List Direction → DynamicPrimitive → Places → List Bool → List Bool
+cells_after_dyn march directions p at content =
+    let left : Held = left_behind (held_after p at) (held_as content false) (visits march directions (length content)) in left.cells
 
 -- in arrays of this size the primitive is caught in every place, from every content, in every choice of directions
 abbrev pub DetectsDynAt : ℕ → List MarchElement → DynamicPrimitive → Type 0

@@ -1,10 +1,11 @@
 -- Which visit of a run differs first.
-use Rattle.std.specs.Prelude.{Bool, List}
+use Rattle.std.specs.Prelude.{◌≡◌, Bool, List}
 use Rattle.fault_core.specs.declared.cells.Places.{Places}
 use Rattle.march_core.specs.Visits.{Visit, MarchStep, pausing, visiting}
-use Rattle.array_sim.specs.declared.element_run.Miss.{Miss}
-use Rattle.array_sim.specs.Differing.{SomeDiffersBy, IsFirstBy}
-use Rattle.array_sim.specs.Run.{act_of, is_wrong_of}
+use Rattle.march_core.specs.declared.visit.Miss.{Miss}
+use Rattle.array_sim.specs.Differing.{SomeDiffersBy, IsFirstBy, behind_first}
+use Rattle.march_core.specs.Operation.{is_wrong_of}
+use Rattle.array_sim.specs.Run.{act_of}
 use Rattle.dynamic_core.specs.Primitive.{DynamicPrimitive}
 use Rattle.dynamic_core.specs.Dynamic.{Held, dyn_step, dyn_answer, after_pause}
 
@@ -24,3 +25,9 @@ SomeDynDiffers p at h steps = SomeDiffersBy (held_after p at) (is_wrong_visit p 
 -- the first visit whose read differs
 abbrev pub IsFirstDynMiss : DynamicPrimitive → Places → Held → List MarchStep → Miss → Type 0
 IsFirstDynMiss p at h steps miss = IsFirstBy (held_after p at) (is_wrong_visit p at) h steps miss
+
+-- the run stops behind the first visit whose read differs, and leaves these cells
+abbrev pub StopsAtDyn : DynamicPrimitive → Places → Held → List MarchStep → Miss → List Bool → Type 0
+StopsAtDyn p at h steps miss left =
+    (first : IsFirstDynMiss p at h steps miss)
+    × (let behind : Held = behind_first (held_after p at) (is_wrong_visit p at) h steps miss first in left ≡ behind.cells)

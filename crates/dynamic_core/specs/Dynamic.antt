@@ -4,9 +4,10 @@ use Rattle.fault_core.specs.declared.primitive.Act.{Act}
 use Rattle.fault_core.specs.declared.cells.Places.{Places}
 use Rattle.fault_core.specs.Primitive.{same_bit}
 use Rattle.fault_core.specs.Cells.{cell, same_act, plain_cells, plain_answer, answer_or}
-use Rattle.march_core.specs.Visits.{MarchStep, pausing, visiting}
-use Rattle.array_sim.specs.declared.element_run.Miss.{Miss}
-use Rattle.array_sim.specs.Run.{act_of, is_wrong_of, miss_at}
+use Rattle.march_core.specs.Visits.{MarchStep, pausing, visiting, miss_at}
+use Rattle.march_core.specs.declared.visit.Miss.{Miss}
+use Rattle.march_core.specs.Operation.{is_wrong_of}
+use Rattle.array_sim.specs.Run.{act_of}
 use Rattle.dynamic_core.specs.declared.stepping.Actor.{Actor}
 use Rattle.dynamic_core.specs.Primitive.{TwoActs, DynamicSense, DynamicPrimitive, left_by}
 

@@ -6,14 +6,15 @@ use Rattle.fault_core.specs.Primitive.{IsPrimitive}
 use Rattle.fault_syntax.specs.declared.fault.FaultFault.{FaultFault}
 use Rattle.fault_syntax.specs.declared.fault.FaultFault.TheVariants.{Unexpected, Truncated, NotAFault, TooManyOperations, TooManyPrimitives, NoMemory}
 use Rattle.fault_syntax.specs.declared.words.Operation.{Operation}
-use Rattle.fault_syntax.specs.ListText.{Primitive as OnePrimitive, Named}
-use Rattle.fault_syntax.specs.Parts.{IsAct, StandsFor, agg_ops, op_count, primitives_of}
+use Rattle.fault_syntax.specs.declared.words.Name.{Name}
+use Rattle.fault_syntax.specs.declared.words.Name.TheVariants.{DynOne, DynTwo}
+use Rattle.fault_syntax.specs.declared.words.NameSet.{NameSet}
+use Rattle.fault_syntax.specs.declared.words.NameSet.TheVariants.{Static, Every}
+use Rattle.fault_syntax.specs.ListText.{Item as ListedItem, Primitive as OnePrimitive, Named}
+use Rattle.fault_syntax.specs.Parts.{IsAct, StandsFor, Refuses, agg_ops, op_count, primitives_of}
 use Rattle.fault_syntax.specs.PrimText.{SenseText, PrimParts}
 use Rattle.dynamic_core.specs.declared.item.Item.{Item}
 use Rattle.dynamic_core.specs.declared.item.Item.TheVariants.{Plain, Dyn}
-use Rattle.dynamic_core.specs.declared.words.DynWord.{DynWord}
-use Rattle.dynamic_core.specs.declared.words.DynWord.TheVariants.{One, Two}
-use Rattle.dynamic_core.specs.ItemText.{LineItem, Listed, Worded}
 use Rattle.dynamic_core.specs.Primitive.{TwoActs, DynamicSense, DynamicPrimitive, IsDynamic, left_by}
 use Rattle.dynamic_core.specs.Table.{dyn_one_table, dyn_two_table}
 
@@ -59,23 +60,33 @@ abbrev pub RefusesItem : PrimParts → PrimFault → Type 0
 RefusesItem text HasTooManyOperations = HasTooMany text
 RefusesItem text IsNotAFault = (HasTooMany text → ⊥) × ((item : Item) → IsItem text item → ⊥)
 
--- and on a line
-abbrev pub RefusesItemAt : ℕ → PrimParts → FaultFault → Type 0
-RefusesItemAt line text (TooManyOperations l) = (l ≡ line) × RefusesItem text HasTooManyOperations
-RefusesItemAt line text (NotAFault l) = (l ≡ line) × RefusesItem text IsNotAFault
-RefusesItemAt line text (Unexpected l byte) = ⊥
-RefusesItemAt line text (Truncated l) = ⊥
-RefusesItemAt line text (TooManyPrimitives l) = ⊥
-RefusesItemAt line text NoMemory = ⊥
+-- ---- on a line of a list with these names; one of static names has static primitives alone
 
--- the dynamic primitives of a word, in their order
-abbrev pub dynamic_of : DynWord → List DynamicPrimitive
-dynamic_of One = dyn_one_table
-dynamic_of Two = dyn_two_table
+abbrev pub IsItemIn : NameSet → PrimParts → Item → Type 0
+IsItemIn Every text item = IsItem text item
+IsItemIn Static text (Plain p) = StandsFor text p × IsPrimitive p
+IsItemIn Static text (Dyn p) = ⊥
+
+abbrev pub RefusesIn : NameSet → PrimParts → PrimFault → Type 0
+RefusesIn Every text fault = RefusesItem text fault
+RefusesIn Static text fault = Refuses text fault
+
+abbrev pub RefusesOn : NameSet → ℕ → PrimParts → FaultFault → Type 0
+RefusesOn set line text (TooManyOperations l) = (l ≡ line) × RefusesIn set text HasTooManyOperations
+RefusesOn set line text (NotAFault l) = (l ≡ line) × RefusesIn set text IsNotAFault
+RefusesOn set line text (Unexpected l byte) = ⊥
+RefusesOn set line text (Truncated l) = ⊥
+RefusesOn set line text (TooManyPrimitives l) = ⊥
+RefusesOn set line text NoMemory = ⊥
+
+-- the primitives of a name, in their order
+abbrev pub items_of : Name → List Item
+items_of DynOne = map Dyn dyn_one_table
+items_of DynTwo = map Dyn dyn_two_table
+items_of name = map Plain (primitives_of name)
 
 -- the primitives that a line brings
-abbrev pub BringsItems : Option LineItem → List Item → Type 0
-BringsItems None items = items ≡ []
-BringsItems (Some (Listed (OnePrimitive text))) items = (item : Item) × IsItem text item × (items ≡ item ∷ [])
-BringsItems (Some (Listed (Named n))) items = items ≡ map Plain (primitives_of n)
-BringsItems (Some (Worded w)) items = items ≡ map Dyn (dynamic_of w)
+abbrev pub BringsIn : NameSet → Option ListedItem → List Item → Type 0
+BringsIn set None items = items ≡ []
+BringsIn set (Some (OnePrimitive text)) items = (item : Item) × IsItemIn set text item × (items ≡ item ∷ [])
+BringsIn set (Some (Named n)) items = items ≡ items_of n

@@ -2,25 +2,21 @@
 use Rattle.std.specs.Prelude.{Result, ℕ, List}
 use Rattle.bist_text.specs.Lines.{TextLine}
 use Rattle.fault_syntax.specs.declared.fault.FaultFault.{FaultFault}
-use Rattle.fault_syntax.specs.LineByLine.{IsFaultOn, BringBy, ReadsLines}
-use Rattle.fault_syntax.specs.ListText.{Primitive as OnePrimitive}
-use Rattle.fault_syntax.specs.PrimText.{PrimParts}
+use Rattle.fault_syntax.specs.declared.words.NameSet.{NameSet}
+use Rattle.fault_syntax.specs.declared.words.NameSet.TheVariants.{Every}
+use Rattle.fault_syntax.specs.LineByLine.{BringBy, ReadsLines}
+use Rattle.fault_syntax.specs.ListText.{Primitive as OnePrimitive, LineOf, ItemLine}
 use Rattle.dynamic_core.specs.declared.item.Item.{Item}
-use Rattle.dynamic_core.specs.ItemParts.{RefusesItemAt, BringsItems}
-use Rattle.dynamic_core.specs.ItemText.{LineItem, Listed, ItemLine}
+use Rattle.dynamic_core.specs.ItemParts.{RefusesOn, BringsIn}
 
 -- lines that are read, and the primitives that they bring, in their order
 abbrev pub BringAll : List TextLine → List Item → Type 0
-BringAll lines items = BringBy ItemLine BringsItems lines items
+BringAll lines items = BringBy ItemLine (BringsIn Every) lines items
 
--- a primitive that is written on a line
-abbrev pub written_item : PrimParts → LineItem
-written_item text = Listed (OnePrimitive text)
+-- what the bytes of a list with these names are read as
+abbrev pub ReadsIn : NameSet → List ℕ → Result (List Item) FaultFault → Type 0
+ReadsIn set bytes r = ReadsLines (LineOf set) (BringsIn set) OnePrimitive (RefusesOn set) bytes r
 
--- why a line isn't read
-abbrev pub IsItemFault : TextLine → FaultFault → Type 0
-IsItemFault l fault = IsFaultOn ItemLine written_item RefusesItemAt l fault
-
--- what the bytes of a list are read as
+-- and of a list with every name
 abbrev pub ReadsItems : List ℕ → Result (List Item) FaultFault → Type 0
-ReadsItems bytes r = ReadsLines ItemLine BringsItems written_item RefusesItemAt bytes r
+ReadsItems bytes r = ReadsIn Every bytes r

@@ -5,9 +5,7 @@ pub mod Differing
 pub mod Detecting
 pub mod Instances
 pub mod Table
-pub mod ItemText
 pub mod ItemParts
 pub mod Items
 pub mod Printed
-pub mod Words
 pub mod Reading

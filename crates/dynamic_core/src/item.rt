@@ -1,3 +1,7 @@
+ghost use Rattle.std.specs.Prelude.{◌≡◌};
+ghost use Rattle.dynamic_core.specs.declared.item.Item.{Item};
+ghost use Rattle.dynamic_core.specs.declared.item.Item.TheVariants.{Plain, Dyn};
+
 use crate::primitive::DynPrim;
 use fault_core::Prim;
 
@@ -6,4 +10,28 @@ use fault_core::Prim;
 pub enum Item {
     Plain(Prim),
     Dyn(DynPrim),
+}
+
+/// A primitive of either kind.
+pub(crate) trait Listed: Copy {
+    ghost listed: { Self → Item };
+
+    fn item(self) -> Item
+        ensures { result ≡ listed self };
+}
+
+impl Listed for Prim {
+    ghost listed = { Plain };
+
+    fn item(self) -> Item {
+        Item::Plain(self)
+    }
+}
+
+impl Listed for DynPrim {
+    ghost listed = { Dyn };
+
+    fn item(self) -> Item {
+        Item::Dyn(self)
+    }
 }

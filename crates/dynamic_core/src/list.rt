@@ -1,67 +1,60 @@
 ghost use Rattle.std.specs.Prelude.{◌≡◌, ◌++◌, ◌≤◌, ◌∷◌, [], ◌⊎◌, Result, length, List, Ok, Err, OnOk, IfOk, IfErr, MatchResult, Option, map};
-ghost use Rattle.fault_syntax.specs.Brief.{read_parts_of};
+ghost use Rattle.fault_core.specs.Primitive.{Primitive};
+ghost use Rattle.fault_syntax.specs.Brief.{read_parts_of, read_item_of};
 ghost use Rattle.fault_syntax.specs.LineByLine.{HasNoRoom};
-ghost use Rattle.fault_syntax.specs.Parts.{primitives_of};
+ghost use Rattle.fault_syntax.specs.Lists.{ReadsList};
+ghost use Rattle.fault_syntax.specs.ListText.{Item as ListedItem};
 ghost use Rattle.fault_syntax.specs.PrimText.{PrimParts};
 ghost use Rattle.dynamic_core.specs.declared.item.Item.{Item};
-ghost use Rattle.dynamic_core.specs.declared.item.Item.TheVariants.{Plain, Dyn};
-ghost use Rattle.dynamic_core.specs.declared.line.ReadLine.TheVariants.{OfList};
-ghost use Rattle.dynamic_core.specs.ItemParts.{dynamic_of};
-ghost use Rattle.dynamic_core.specs.ItemText.{LineItem};
-ghost use Rattle.dynamic_core.specs.Items.{ReadsItems};
-ghost use Rattle.dynamic_core.specs.Reading.{JudgesItemAt, AddsItems, NotAdded, read_line_of};
+ghost use Rattle.dynamic_core.specs.ItemParts.{items_of};
+ghost use Rattle.dynamic_core.specs.Items.{ReadsIn, ReadsItems};
+ghost use Rattle.dynamic_core.specs.Reading.{JudgesItemIn, JudgesItemOn, AddsItems, NotAdded, static_of, statics_of};
 
-use crate::item::Item;
+use crate::item::{Item, Listed};
 use crate::judge::judge_item;
-use crate::line::{ReadLine, read_line};
-use crate::primitive::DynPrim;
 use crate::table::{dyn_one, dyn_two};
-use crate::words::DynWord;
 use bist_text::Lines;
 use fault_core::{Prim, PrimFault, members, one_cell, two_cell};
-use fault_syntax::{FaultFault, Name, ReadItem, ReadParts};
+use fault_syntax::{FaultFault, Name, NameSet, ReadItem, ReadParts, judge_parts, read_line};
 use std::alloc::Global;
 
 /// The most primitives that a list may have.
 const MOST: usize = 1024;
 
-/// The primitive of parts that were read on a line.
-fn judge_at(parts: ReadParts, line: usize) -> Result<Item, FaultFault>
-    ensures { (text : PrimParts) → parts ≡ read_parts_of text → JudgesItemAt line text result }
+/// The primitive of parts that were read in a list with these names.
+fn judge_in(parts: ReadParts, set: NameSet) -> Result<Item, PrimFault>
+    ensures { (text : PrimParts) → parts ≡ read_parts_of text → JudgesItemIn set text result }
 {
-    match judge_item(parts) {
+    if let NameSet::Every = set {
+        return judge_item(parts);
+    }
+    match judge_parts(parts) {
+        Ok(prim) => Ok(Item::Plain(prim)),
+        Err(fault) => Err(fault),
+    }
+}
+
+/// The primitive of parts that were read on a line of a list with these names.
+fn judge_at(parts: ReadParts, line: usize, set: NameSet) -> Result<Item, FaultFault>
+    ensures { (text : PrimParts) → parts ≡ read_parts_of text → JudgesItemOn set line text result }
+{
+    match judge_in(parts, set) {
         Ok(item) => Ok(item),
         Err(PrimFault::NotAFault) => Err(FaultFault::NotAFault { line }),
         Err(PrimFault::TooManyOperations) => Err(FaultFault::TooManyOperations { line }),
     }
 }
 
-fn append_plain(items: &mut Vec<Item>, prims: &[Prim], line: usize) -> Result<(), FaultFault>
-    ensures ok { OnOk result (items.new.items ≡ items.old.items ++ map Plain prims.now) }
+fn append<T: Listed>(items: &mut Vec<Item>, prims: &[T], line: usize) -> Result<(), FaultFault>
+    ensures ok { OnOk result (items.new.items ≡ items.old.items ++ map T.listed prims.now) }
     ensures within { OnOk result (length items.new.items ≤ 1024) }
-    ensures err { IfErr result (HasNoRoom items.old.items (map Plain prims.now) line) }
+    ensures err { IfErr result (HasNoRoom items.old.items (map T.listed prims.now) line) }
 {
     if items.len() > MOST || prims.len() > MOST - items.len() {
         return Err(FaultFault::TooManyPrimitives { line });
     }
     for prim in prims {
-        if items.push(Item::Plain(*prim)).is_err() {
-            return Err(FaultFault::NoMemory);
-        }
-    }
-    Ok(())
-}
-
-fn append_dyn(items: &mut Vec<Item>, prims: &[DynPrim], line: usize) -> Result<(), FaultFault>
-    ensures ok { OnOk result (items.new.items ≡ items.old.items ++ map Dyn prims.now) }
-    ensures within { OnOk result (length items.new.items ≤ 1024) }
-    ensures err { IfErr result (HasNoRoom items.old.items (map Dyn prims.now) line) }
-{
-    if items.len() > MOST || prims.len() > MOST - items.len() {
-        return Err(FaultFault::TooManyPrimitives { line });
-    }
-    for prim in prims {
-        if items.push(Item::Dyn(*prim)).is_err() {
+        if items.push(prim.item()).is_err() {
             return Err(FaultFault::NoMemory);
         }
     }
@@ -83,75 +76,107 @@ fn append_one(items: &mut Vec<Item>, item: Item, line: usize) -> Result<(), Faul
 }
 
 fn append_named(items: &mut Vec<Item>, name: Name, line: usize) -> Result<(), FaultFault>
-    ensures ok { OnOk result (items.new.items ≡ items.old.items ++ map Plain (primitives_of name)) }
+    ensures ok { OnOk result (items.new.items ≡ items.old.items ++ items_of name) }
     ensures within { OnOk result (length items.new.items ≤ 1024) }
-    ensures err { IfErr result (HasNoRoom items.old.items (map Plain (primitives_of name)) line) }
+    ensures err { IfErr result (HasNoRoom items.old.items (items_of name) line) }
 {
     match name {
-        Name::OfClass(class) => append_plain(items, members(class).as_slice(), line),
-        Name::One => append_plain(items, &one_cell(), line),
-        Name::Two => append_plain(items, &two_cell(), line),
+        Name::OfClass(class) => append(items, members(class).as_slice(), line),
+        Name::One => append(items, &one_cell(), line),
+        Name::Two => append(items, &two_cell(), line),
         Name::All => {
-            append_plain(items, &one_cell(), line)?;
-            append_plain(items, &two_cell(), line)
+            append(items, &one_cell(), line)?;
+            append(items, &two_cell(), line)
         }
+        Name::DynOne => append(items, dyn_one().as_slice(), line),
+        Name::DynTwo => append(items, dyn_two().as_slice(), line),
     }
 }
 
-fn append_worded(items: &mut Vec<Item>, word: DynWord, line: usize) -> Result<(), FaultFault>
-    ensures ok { OnOk result (items.new.items ≡ items.old.items ++ map Dyn (dynamic_of word)) }
-    ensures within { OnOk result (length items.new.items ≤ 1024) }
-    ensures err { IfErr result (HasNoRoom items.old.items (map Dyn (dynamic_of word)) line) }
-{
-    match word {
-        DynWord::One => append_dyn(items, dyn_one().as_slice(), line),
-        DynWord::Two => append_dyn(items, dyn_two().as_slice(), line),
-    }
-}
-
-fn add_listed(items: &mut Vec<Item>, read: ReadItem, line: usize) -> Result<(), FaultFault>
+/// Appends what a line of a list with these names brings.
+fn add_item(
+    items: &mut Vec<Item>,
+    read: ReadItem,
+    line: usize,
+    set: NameSet,
+) -> Result<(), FaultFault>
     requires { length items.old.items ≤ 1024 }
-    ensures ok { (v : Option LineItem) → OfList read ≡ read_line_of v → OnOk result (AddsItems v items.old.items items.new.items) }
-    ensures err { (v : Option LineItem) → OfList read ≡ read_line_of v → IfErr result (NotAdded v line items.old.items) }
+    ensures ok { (v : Option ListedItem) → read ≡ read_item_of v → OnOk result (AddsItems set v items.old.items items.new.items) }
+    ensures err { (v : Option ListedItem) → read ≡ read_item_of v → IfErr result (NotAdded set v line items.old.items) }
 {
     match read {
         ReadItem::Nothing => Ok(()),
         ReadItem::Named(name) => append_named(items, name, line),
         ReadItem::Primitive(parts) => {
-            let item = judge_at(parts, line)?;
+            let item = judge_at(parts, line, set)?;
             append_one(items, item, line)
         }
     }
 }
 
-/// Appends what a line brings.
-fn add_line(items: &mut Vec<Item>, read: ReadLine, line: usize) -> Result<(), FaultFault>
-    requires { length items.old.items ≤ 1024 }
-    ensures ok { (v : Option LineItem) → read ≡ read_line_of v → OnOk result (AddsItems v items.old.items items.new.items) }
-    ensures err { (v : Option LineItem) → read ≡ read_line_of v → IfErr result (NotAdded v line items.old.items) }
-{
-    match read {
-        ReadLine::OfList(item) => add_listed(items, item, line),
-        ReadLine::OfWord(word) => append_worded(items, word, line),
-    }
-}
-
 /// Reads the lines, one after another.
-fn read_lines(alloc: Global, bytes: &[u8]) -> Result<Vec<Item>, FaultFault>
-    ensures ok { IfOk result (λ items. ReadsItems bytes.now (Ok items.items)) }
-    ensures refused { IfErr result (λ fault. (fault ≡ FaultFault.NoMemory) ⊎ ReadsItems bytes.now (Err fault)) }
+fn read_lines(alloc: Global, bytes: &[u8], set: NameSet) -> Result<Vec<Item>, FaultFault>
+    ensures ok { IfOk result (λ items. ReadsIn set bytes.now (Ok items.items)) }
+    ensures refused { IfErr result (λ fault. (fault ≡ FaultFault.NoMemory) ⊎ ReadsIn set bytes.now (Err fault)) }
 {
     let mut items = Vec::new(alloc);
     for line in Lines::new(bytes) {
-        let read = read_line(&line)?;
-        add_line(&mut items, read, line.number)?;
+        let read = read_line(&line, set)?;
+        add_item(&mut items, read, line.number, set)?;
     }
     Ok(items)
 }
 
-/// Reads a list of primitives of at most one operation and of dynamic ones, line by line: as `read_list` of
-/// `fault_syntax` reads it, with the words `dyn1` and `dyn2`. A primitive has at most one operation, or two in one
-/// sense. The first refusal decides. Repeats are kept.
+fn push_static(prims: &mut Vec<Prim>, item: Item) -> Result<(), FaultFault>
+    ensures ok { OnOk result (prims.new.items ≡ prims.old.items ++ static_of item) }
+    ensures err { IfErr result (λ fault. fault ≡ FaultFault.NoMemory) }
+{
+    match item {
+        Item::Plain(prim) => prims.push(prim).map_err(|_| FaultFault::NoMemory),
+        Item::Dyn(_) => Ok(()),
+    }
+}
+
+/// The static primitives of a list.
+fn statics(alloc: Global, items: &[Item]) -> Result<Vec<Prim>, FaultFault>
+    ensures ok { IfOk result (λ prims. prims.items ≡ statics_of items.now) }
+    ensures err { IfErr result (λ fault. fault ≡ FaultFault.NoMemory) }
+{
+    let mut prims = Vec::new(alloc);
+    for item in items {
+        push_static(&mut prims, *item)?;
+    }
+    Ok(prims)
+}
+
+/// Reads a list of static primitives.
+fn read_statics(alloc: Global, bytes: &[u8]) -> Result<Vec<Prim>, FaultFault>
+    ensures ok { IfOk result (λ prims. ReadsList bytes.now (Ok prims.items)) }
+    ensures refused { IfErr result (λ fault. (fault ≡ FaultFault.NoMemory) ⊎ ReadsList bytes.now (Err fault)) }
+{
+    let items = read_lines(alloc, bytes, NameSet::Static)?;
+    statics(alloc, items.as_slice())
+}
+
+/// Reads a list of static primitives, line by line. The first refusal decides. Repeats are kept.
+pub fn read_list(alloc: Global, bytes: &[u8]) -> Result<Vec<Prim>, FaultFault>
+    // What is read is what the lines bring, in their order, and at most 1,024; and that is read, unless memory runs out.
+    ensures ok { IfOk result (λ prims. ReadsList bytes.now (Ok prims.items)) }
+    ensures accepted { (ps : List Primitive) → ReadsList bytes.now (Ok ps) → MatchResult result (λ prims. prims.items ≡ ps) (λ fault. fault ≡ FaultFault.NoMemory) }
+
+    // F1 to F5, at the first line that is refused and nowhere else; and they come, unless memory runs out before.
+    ensures refused { IfErr result (λ fault. (fault ≡ FaultFault.NoMemory) ⊎ ReadsList bytes.now (Err fault)) }
+    ensures refuses { (fault : FaultFault) → ReadsList bytes.now (Err fault) → MatchResult result (λ prims. ⊥) (λ other. (other ≡ fault) ⊎ (other ≡ FaultFault.NoMemory)) }
+
+    // The bytes are read as one thing.
+    ensures one_reading { (q : Result (List Primitive) FaultFault) (r : Result (List Primitive) FaultFault) → ReadsList bytes.now q → ReadsList bytes.now r → q ≡ r }
+{
+    read_statics(alloc, bytes)
+}
+
+/// Reads a list of primitives of at most one operation and of dynamic ones, line by line: as `read_list` reads it,
+/// with the words `dyn1` and `dyn2`. A primitive has at most one operation, or two in one sense. The first refusal
+/// decides. Repeats are kept.
 pub fn read_items(alloc: Global, bytes: &[u8]) -> Result<Vec<Item>, FaultFault>
     // What is read is what the lines bring, in their order, and at most 1,024; and that is read, unless memory runs out.
     ensures ok { IfOk result (λ items. ReadsItems bytes.now (Ok items.items)) }
@@ -164,5 +189,5 @@ pub fn read_items(alloc: Global, bytes: &[u8]) -> Result<Vec<Item>, FaultFault>
     // The bytes are read as one thing.
     ensures one_reading { (q : Result (List Item) FaultFault) (r : Result (List Item) FaultFault) → ReadsItems bytes.now q → ReadsItems bytes.now r → q ≡ r }
 {
-    read_lines(alloc, bytes)
+    read_lines(alloc, bytes, NameSet::Every)
 }

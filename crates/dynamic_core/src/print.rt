@@ -1,10 +1,9 @@
 ghost use Rattle.std.specs.Prelude.{◌≡◌, ◌≤◌, ◌+◌, ◌++◌, ◌∷◌, [], Some, Ok, length};
-ghost use Rattle.fault_syntax.specs.ListText.{Primitive};
+ghost use Rattle.fault_syntax.specs.ListText.{Primitive, ItemLine};
 ghost use Rattle.fault_syntax.specs.PrimText.{PrimParts};
 ghost use Rattle.dynamic_core.specs.declared.item.Item.TheVariants.{Dyn};
 ghost use Rattle.dynamic_core.specs.ItemParts.{StandsForDynamic};
 ghost use Rattle.dynamic_core.specs.Items.{ReadsItems};
-ghost use Rattle.dynamic_core.specs.ItemText.{Listed, ItemLine};
 ghost use Rattle.dynamic_core.specs.Primitive.{IsDynamic};
 ghost use Rattle.dynamic_core.specs.Printed.{acts_text, dynamic_sense_text, dynamic_aggressor_text, printed_dynamic};
 ghost use Rattle.dynamic_core.specs.Testing.{acts_in};
@@ -66,7 +65,7 @@ pub fn print_dyn(prim: &DynPrim) -> ArrayString<32>
     ensures form { result.bytes ≡ printed_dynamic prim.now }
 
     // It is the line of a list whose item is this very primitive, and a list of it alone, as `read_items` reads it.
-    ensures read_back { (text : PrimParts) × ItemLine result.bytes (Some (Listed (Primitive text))) × StandsForDynamic text prim.now × IsDynamic prim.now }
+    ensures read_back { (text : PrimParts) × ItemLine result.bytes (Some (Primitive text)) × StandsForDynamic text prim.now × IsDynamic prim.now }
     ensures list { ReadsItems result.bytes (Ok (Dyn prim.now ∷ [])) }
 {
     prim_text(prim)

@@ -1,17 +1,17 @@
-ghost use Rattle.std.specs.Prelude.{◌≡◌, ◌<◌, ◌↔◌, false, IsSome, IfSome, length};
+ghost use Rattle.std.specs.Prelude.{◌≡◌, ◌<◌, ◌↔◌, false, None, IsSome, IfSome, length};
 ghost use Rattle.march_core.specs.March.{element_at};
 ghost use Rattle.march_core.specs.Visits.{cell_visits, address_visits, addresses, element_visits, direction_at, FitsWord, visits, directions_of};
-ghost use Rattle.array_sim.specs.Addresses.{direction_of, steps_of};
-ghost use Rattle.dynamic_core.specs.Dynamic.{held_as, dyn_run, ending_as, miss_of, held_of};
-ghost use Rattle.dynamic_core.specs.Differing.{IsFirstDynMiss};
-ghost use Rattle.dynamic_core.specs.Detecting.{FitsDyn, ending_of, IsCaughtDyn};
+ghost use Rattle.march_core.specs.Addresses.{direction_of, steps_of};
+ghost use Rattle.dynamic_core.specs.Dynamic.{held_as, dyn_run, ending_as};
+ghost use Rattle.dynamic_core.specs.Differing.{IsFirstDynMiss, StopsAtDyn};
+ghost use Rattle.dynamic_core.specs.Detecting.{FitsDyn, ending_of, IsCaughtDyn, cells_after_dyn};
 ghost use Rattle.dynamic_core.specs.Instances.{dyn_places};
 
 use crate::primitive::DynPrim;
 use crate::stepping::step;
-use array_sim::{Miss, act_of, address_of, is_wrong};
+use array_sim::act_of;
 use fault_core::Places;
-use march_core::{March, Op, is_down};
+use march_core::{March, Miss, Op, address_of, is_down, is_wrong};
 
 /// One instance of a primitive: its aggressor's cell, if it has one, and its victim's.
 #[derive(Clone, Copy)]
@@ -134,10 +134,10 @@ pub fn simulate_dyn(
 ) -> Option<Miss>
     requires places { FitsDyn instance.now.prim (dyn_places instance.now) (length cells.old) }
     requires fits { FitsWord march.now directions }
-    ensures cells { cells.new ≡ (held_of (ending_of march.now (directions_of directions (length march.now)) instance.now.prim (dyn_places instance.now) cells.old)).cells }
     ensures caught { IsSome result ↔ IsCaughtDyn march.now (directions_of directions (length march.now)) instance.now.prim (dyn_places instance.now) cells.old }
     ensures first { IfSome result (λ miss. IsFirstDynMiss instance.now.prim (dyn_places instance.now) (held_as cells.old false) (visits march.now (directions_of directions (length march.now)) (length cells.old)) miss) }
-    ensures miss { result ≡ miss_of (ending_of march.now (directions_of directions (length march.now)) instance.now.prim (dyn_places instance.now) cells.old) }
+    ensures passed { result ≡ None → cells.new ≡ cells_after_dyn march.now (directions_of directions (length march.now)) instance.now.prim (dyn_places instance.now) cells.old }
+    ensures stopped { IfSome result (λ miss. StopsAtDyn instance.now.prim (dyn_places instance.now) (held_as cells.old false) (visits march.now (directions_of directions (length march.now)) (length cells.old)) miss cells.new) }
 {
     let places = Places {
         agg: instance.agg,

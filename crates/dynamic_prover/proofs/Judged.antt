@@ -7,7 +7,7 @@ use Rattle.fault_core.specs.declared.cells.Places.{Places}
 use Rattle.fault_core.specs.Cells.{cell}
 use Rattle.march_core.specs.March.{MarchElement, IsMarch}
 use Rattle.march_core.specs.Visits.{Direction, is_direction, directions_of}
-use Rattle.array_sim.specs.declared.element_run.Miss.{Miss}
+use Rattle.march_core.specs.declared.visit.Miss.{Miss}
 use Rattle.cell_machine.specs.declared.pair.Pair.{Pair}
 use Rattle.cell_machine.specs.Seen.{pair_at}
 use Rattle.dynamic_core.specs.Primitive.{DynamicSense, DynamicPrimitive, has_aggressor}

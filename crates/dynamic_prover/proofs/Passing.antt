@@ -12,9 +12,10 @@ use Rattle.march_core.specs.declared.operation.Op.{Op}
 use Rattle.march_core.specs.declared.operation.Op.TheVariants.{W0, W1, R0, R1}
 use Rattle.march_core.specs.March.{MarchElement, pause, sweep, all_ops}
 use Rattle.march_core.specs.Scan.{after_op, is_right, scan_of}
-use Rattle.march_core.specs.Visits.{Visit, MarchStep, visiting, Direction, cell_visits, address_visits, addresses, visits_from}
-use Rattle.array_sim.specs.Run.{act_of, is_wrong_of, miss_at}
-use Rattle.array_sim.specs.Addresses.{steps_of}
+use Rattle.march_core.specs.Visits.{Visit, MarchStep, visiting, Direction, cell_visits, address_visits, addresses, visits_from, miss_at}
+use Rattle.march_core.specs.Operation.{is_wrong_of}
+use Rattle.array_sim.specs.Run.{act_of}
+use Rattle.march_core.specs.Addresses.{steps_of}
 use Rattle.cell_machine.specs.declared.pair.Side.{Side}
 use Rattle.cell_machine.specs.declared.pair.Side.TheVariants.{A, V}
 use Rattle.cell_machine.specs.Seen.{place_of}

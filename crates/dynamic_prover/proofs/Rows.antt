@@ -8,7 +8,7 @@ use Rattle.dynamic_prover.specs.declared.shape.Shape.{Shape}
 use Rattle.dynamic_prover.specs.declared.leg.Leg.{Leg}
 use Rattle.dynamic_prover.specs.declared.leg.Leg.TheVariants.{Pause}
 use Rattle.dynamic_prover.specs.declared.row.Row.{Row}
-use Rattle.array_sim.specs.Addresses.{direction_of}
+use Rattle.march_core.specs.Addresses.{direction_of}
 use Rattle.pair_tracker.specs.Tracking.{weight_in}
 use Rattle.dynamic_prover.specs.Ways.{holds_at, ways_at, can_pass, least_ways, ways_word}
 use Rattle.dynamic_prover.specs.Legs.{leg_end}

@@ -5,7 +5,8 @@ use Rattle.fault_core.specs.declared.cells.Places.{Places}
 use Rattle.fault_core.specs.Primitive.{same_bit}
 use Rattle.fault_core.specs.Cells.{same_act, answer_or}
 use Rattle.march_core.specs.declared.operation.Op.{Op}
-use Rattle.array_sim.specs.Run.{act_of, is_wrong_of}
+use Rattle.march_core.specs.Operation.{is_wrong_of}
+use Rattle.array_sim.specs.Run.{act_of}
 use Rattle.cell_machine.specs.declared.pair.Pair.{Pair}
 use Rattle.cell_machine.specs.declared.pair.Side.{Side}
 use Rattle.cell_machine.specs.declared.pair.Side.TheVariants.{A, V}

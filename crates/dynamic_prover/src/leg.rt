@@ -1,7 +1,7 @@
 ghost use Rattle.std.specs.Prelude.{◌≡◌, ◌<◌, ◌≤◌, length};
 ghost use Rattle.march_core.specs.March.{element_at};
 ghost use Rattle.march_core.specs.Visits.{allows};
-ghost use Rattle.array_sim.specs.Addresses.{direction_of};
+ghost use Rattle.march_core.specs.Addresses.{direction_of};
 ghost use Rattle.dynamic_prover.specs.declared.own_cells.OwnCells.{OwnCells};
 ghost use Rattle.dynamic_prover.specs.Own.{own_run};
 ghost use Rattle.dynamic_prover.specs.Legs.{end_from, ends_on, second_end, sweep_end, leg_end, IsLeg, AreLegs};

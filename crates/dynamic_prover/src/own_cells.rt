@@ -4,11 +4,11 @@ ghost use Rattle.cell_machine.specs.Seen.{place_of};
 ghost use Rattle.dynamic_prover.specs.Own.{own_as, own_step, own_answer, own_run, disarmed, two_places};
 ghost use Rattle.dynamic_prover.specs.Legs.{own_number, passed_where};
 
-use array_sim::{act_of, is_wrong};
+use array_sim::act_of;
 use cell_machine::{Pair, Side};
 use dynamic_core::{DynPrim, step};
 use fault_core::{Act, Places};
-use march_core::Op;
+use march_core::{Op, is_wrong};
 
 /// The contents of the two cells of an instance, and whether its first act was done just now.
 #[derive(Clone, Copy)]

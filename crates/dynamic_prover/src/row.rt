@@ -1,6 +1,6 @@
 ghost use Rattle.std.specs.Prelude.{◌≡◌, ◌-◌, ◌^◌, ◌<◌, ◌≤◌, ◌||◌, length, not, true};
 ghost use Rattle.march_core.specs.Visits.{Upward, Downward};
-ghost use Rattle.array_sim.specs.Addresses.{direction_of};
+ghost use Rattle.march_core.specs.Addresses.{direction_of};
 ghost use Rattle.pair_tracker.specs.Tracking.{weight_in};
 ghost use Rattle.dynamic_prover.specs.declared.own_cells.OwnCells.{OwnCells};
 ghost use Rattle.dynamic_prover.specs.Ways.{holds_at, least_ways, ways_word};

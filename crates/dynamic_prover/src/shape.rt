@@ -1,5 +1,5 @@
 ghost use Rattle.std.specs.Prelude.{◌≡◌};
-ghost use Rattle.array_sim.specs.Addresses.{direction_of};
+ghost use Rattle.march_core.specs.Addresses.{direction_of};
 ghost use Rattle.dynamic_prover.specs.Shapes.{turned, in_direction};
 
 use cell_machine::Side;

@@ -8,7 +8,7 @@ use Rattle.fault_core.specs.Cells.{FitsPlace, FitsAgg}
 use Rattle.fault_core.specs.declared.cells.Places.{Places}
 use Rattle.march_core.specs.March.{MarchElement}
 use Rattle.march_core.specs.Visits.{Direction}
-use Rattle.array_sim.specs.declared.element_run.Miss.{Miss}
+use Rattle.march_core.specs.declared.visit.Miss.{Miss}
 use Rattle.array_sim.specs.Detection.{IsCaught}
 use Rattle.pair_tracker.specs.declared.placement.Placement.{Placement}
 use Rattle.pair_tracker.specs.declared.placement.Placement.TheVariants.{Alone, Below, Above}

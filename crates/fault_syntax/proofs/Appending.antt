@@ -1,29 +1,15 @@
 -- Primitives that are appended one by one, where there is room for them.
 use Rattle.std.proofs.Common.{◌≡◌, ℕ, ◌+◌, ◌-◌, ◌<◌, ◌≤◌, Bool, true, if◌then◌else◌, Result, Ok, Err, OnOk, IfErr, subst, List, [], ◌∷◌, ◌++◌, length, map, take, get_or, refl, sym, ap, ◌∙◌, append_assoc, length-append, arith, inl, inr}
-use Rattle.std.proofs.lemmas.List.{take_more, take_all, map_more}
-use Rattle.fault_core.specs.Primitive.{Primitive}
-use Rattle.fault_core.specs.Table.{one_cell_table, two_cell_table}
+use Rattle.std.proofs.lemmas.List.{take_all, map_more}
 use Rattle.fault_syntax.specs.declared.fault.FaultFault.{FaultFault}
 use Rattle.fault_syntax.specs.declared.fault.FaultFault.TheVariants.{TooManyPrimitives}
-use Rattle.fault_syntax.specs.declared.words.Name.{Name}
-use Rattle.fault_syntax.specs.declared.words.Name.TheVariants.{All}
 use Rattle.fault_syntax.specs.LineByLine.{HasNoRoom}
-use Rattle.fault_syntax.specs.Parts.{primitives_of}
 
 -- what a push that succeeds leaves
 pub pushed : {P : Type 0} (ok : Bool) (old now : List P) (y : P) → ok ≡ true → now ≡ (if ok then old ++ y ∷ [] else old) → now ≡ old ++ y ∷ []
 pushed ok old now y h is = is ∙ ap (λ t. if t then old ++ y ∷ [] else old) h
 
 -- one element more
-pub one_more : {P : Type 0} (xs : List P) (i : ℕ) (d : P) (old so_far now : List P) (y : P) → i < length xs → y ≡ get_or xs i d
-    → so_far ≡ old ++ take i xs → now ≡ so_far ++ y ∷ [] → now ≡ old ++ take (i + 1) xs
-one_more xs i d old so_far now y h is inv grown =
-    grown
-    ∙ ap (λ l. l ++ y ∷ []) inv
-    ∙ ap (λ z. (old ++ take i xs) ++ z ∷ []) is
-    ∙ append_assoc old (take i xs) (get_or xs i d ∷ [])
-    ∙ ap (λ l. old ++ l) (sym (take_more xs i d h))
-
 pub one_mapped : {A P : Type 0} (f : A → P) (xs : List A) (i : ℕ) (d : A) (old so_far now : List P) (y : P) → i < length xs → y ≡ f (get_or xs i d)
     → so_far ≡ old ++ map f (take i xs) → now ≡ so_far ++ y ∷ [] → now ≡ old ++ map f (take (i + 1) xs)
 one_mapped f xs i d old so_far now y h is inv grown =
@@ -76,7 +62,3 @@ second_refused (Err fault) old mid first second both line same h k = elim k [
   | inl m ↦ inl m
   | inr m ↦ inr (m.0, (let whole = sym (ap length same) ∙ length-append first second in let held = ap length h ∙ length-append old first in let few = m.1 in omega (arith, whole, held, few)))
 ]
-
--- the table of one cell and that of two are all
-pub all_rows : (one two : List Primitive) (name : Name) → one ≡ one_cell_table → two ≡ two_cell_table → name ≡ All → one ++ two ≡ primitives_of name
-all_rows one two name h k is = ap (λ ps. ps ++ two) h ∙ ap (λ ps. one_cell_table ++ ps) k ∙ ap primitives_of (sym is)

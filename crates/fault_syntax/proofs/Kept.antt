@@ -1,18 +1,19 @@
 -- What a reader keeps, along a text.
-use Rattle.std.proofs.Common.{◌≡◌, ℕ, ◌+◌, ◌<◌, Bool, List, [], ◌∙◌, length, drop, get_or, Option, Some, None, option_map, refl, if◌then◌else◌}
+use Rattle.std.proofs.Common.{◌≡◌, ℕ, ◌+◌, ◌<◌, List, [], ◌∙◌, length, drop, get_or, Option, Some, None, option_map, refl, if◌then◌else◌}
 use Rattle.bist_text.specs.Machine.{unexpected, scan, ended}
 use Rattle.bist_text.proofs.Loops.{scan_on, scan_stop, scan_end}
 use Rattle.fault_syntax.specs.declared.reader.Reader.{Reader}
+use Rattle.fault_syntax.specs.declared.words.Form.{Form}
 use Rattle.fault_syntax.specs.Places.{State, start, step, value, may_end, item_at}
 use Rattle.fault_syntax.specs.Brief.{reader_of}
 
 -- where a reader stands in a text
-pub record Stands (b : List ℕ) (l : Bool) (reader : Reader) (i : ℕ) : Type 0 where
+pub record Stands (b : List ℕ) (l : Form) (reader : Reader) (i : ℕ) : Type 0 where
   pub state : State
   pub reached : scan (step l) (value l) b start 0 ≡ scan (step l) (value l) (drop i b) state i
   pub kept : reader ≡ reader_of state
 
-pub stands_start : (b : List ℕ) (l : Bool) (r : Reader) → r ≡ reader_of start → Stands b l r 0
+pub stands_start : (b : List ℕ) (l : Form) (r : Reader) → r ≡ reader_of start → Stands b l r 0
 stands_start b l r e = record { state = start; reached = refl; kept = e }
 
 -- the state behind a kept one
@@ -27,7 +28,7 @@ nothing_behind : (o : Option State) → (let r : Option Reader = None in r) ≡ 
 nothing_behind None e = refl
 nothing_behind (Some t) e = cc
 
-module _ (b : List ℕ) (l : Bool) (reader : Reader) (i : ℕ) (x : Stands b l reader i) where
+module _ (b : List ℕ) (l : Form) (reader : Reader) (i : ℕ) (x : Stands b l reader i) where
   pub stands_on : (next : Reader) → i < length b → ((s : State) → reader ≡ reader_of s → Some next ≡ option_map reader_of (step l s (get_or b i 0))) → Stands b l next (i + 1)
   stands_on next h f =
       let k : (t : State) × (step l x.state (get_or b i 0) ≡ Some t) × (next ≡ reader_of t) = behind (step l x.state (get_or b i 0)) next (f x.state x.kept) in

@@ -3,10 +3,10 @@ pub mod PlaceLaws
 mod Kept
 pub mod Judging
 mod PrimReads
-mod PrintLaws
+pub mod PrintLaws
 pub mod LineByLine
 pub mod Appending
 pub mod PassedOn
-mod ListReads
+pub mod LineExact
 pub mod ListExact
 pub mod OneOutcome

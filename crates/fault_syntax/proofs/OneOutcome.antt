@@ -1,7 +1,8 @@
 -- A text is read as one primitive, or refused in one way.
-use Rattle.std.proofs.Common.{◌≡◌, ◌↔◌, ℕ, ◌+◌, true, false, List, ◌++◌, ◌∙◌, Option, Some, None, Result, Ok, Err, sym, ap, subst, arith, take}
-use Rattle.bist_text.specs.Grammar.{Continues, IsUnexpected, IsTruncated, are_bytes}
+use Rattle.std.proofs.Common.{◌≡◌, ◌↔◌, ℕ, List, ◌∙◌, Option, Some, None, Result, Ok, Err, sym, ap, subst, arith}
+use Rattle.bist_text.specs.Grammar.{IsUnexpected, IsTruncated}
 use Rattle.bist_text.specs.Machine.{Outcome, read, unexpected, truncated, Answers}
+use Rattle.bist_text.proofs.Machine.{HasTexts, unexpected_so, truncated_so}
 use Rattle.bist_text.proofs.Settled.{answers_one}
 use Rattle.fault_core.specs.Primitive.{Primitive, IsPrimitive}
 use Rattle.fault_syntax.specs.declared.fault.FaultFault.{FaultFault}
@@ -9,6 +10,7 @@ use Rattle.fault_syntax.specs.declared.fault.FaultFault.TheVariants.{Unexpected,
 use Rattle.fault_syntax.specs.Answers.{RefusesAt, JudgesAt, GivesPrim, ReadsPrim}
 use Rattle.fault_syntax.specs.ListText.{Item, Primitive as OnePrimitive, Named}
 use Rattle.fault_syntax.specs.Parts.{StandsFor}
+use Rattle.fault_syntax.specs.declared.words.Form.TheVariants.{Single}
 use Rattle.fault_syntax.specs.Places.{start, step, value, rest}
 use Rattle.fault_syntax.specs.PrimText.{PrimParts, PrimText}
 use Rattle.fault_syntax.proofs.Judging.{stands_one, one_operation}
@@ -16,30 +18,19 @@ use Rattle.fault_syntax.proofs.PlaceLaws.{follows, Alone, alone_is}
 
 -- ---- the parts alone, and as an item
 
-parts_continue : (b : List ℕ) → Continues Alone b ↔ Continues PrimText b
-parts_continue b = (λ h. to h.1 h.0 h.2 h.3, λ h. (h.0, Some (OnePrimitive h.1), h.2, h.3))
-  where
-    to : (v : Option Item) (more : List ℕ) → are_bytes more ≡ true → Alone (b ++ more) v → Continues PrimText b
-    to None more w h = absurd h
-    to (Some (OnePrimitive p)) more w h = (more, p, w, h)
-    to (Some (Named n)) more w h = absurd h
+has_parts : HasTexts Alone PrimText
+has_parts b None h = absurd h
+has_parts b (Some (OnePrimitive p)) h = (p, h)
+has_parts b (Some (Named n)) h = absurd h
+
+is_item : HasTexts PrimText Alone
+is_item b p h = (Some (OnePrimitive p), h)
 
 pub unexpected_parts : (b : List ℕ) (k : ℕ) → IsUnexpected Alone b k ↔ IsUnexpected PrimText b k
-unexpected_parts b k = (
-  (λ u. record { within = u.within; before = (parts_continue (take k b)).0 u.before; after = λ h. u.after ((parts_continue (take (k + 1) b)).1 h) }),
-  λ u. record { within = u.within; before = (parts_continue (take k b)).1 u.before; after = λ h. u.after ((parts_continue (take (k + 1) b)).0 h) },
-)
+unexpected_parts b k = (unexpected_so Alone PrimText has_parts is_item b k, unexpected_so PrimText Alone is_item has_parts b k)
 
 pub truncated_parts : (b : List ℕ) → IsTruncated Alone b ↔ IsTruncated PrimText b
-truncated_parts b = (
-  (λ t. record { none = λ p h. t.none (Some (OnePrimitive p)) h; before = (parts_continue b).0 t.before }),
-  λ t. record { none = λ v h. none v t h; before = (parts_continue b).1 t.before },
-)
-  where
-    none : (v : Option Item) → IsTruncated PrimText b → Alone b v → ⊥
-    none None t h = h
-    none (Some (OnePrimitive p)) t h = t.none p h
-    none (Some (Named n)) t h = h
+truncated_parts b = (truncated_so Alone PrimText has_parts is_item b, truncated_so PrimText Alone is_item has_parts b)
 
 -- ---- written parts
 
@@ -83,7 +74,7 @@ gives_one (read (Some (OnePrimitive text))) q r h i = judges_one 1 text q r h i
 gives_one (read (Some (Named n))) q r h i = absurd h
 
 alone_one : (b : List ℕ) (o p : Outcome (Option Item)) → Answers Alone b o → Answers Alone b p → o ≡ p
-alone_one b o p h k = answers_one (step false) (value false) (rest false) (λ s. Unit {0}) (follows false) Alone start tt alone_is b o p h k
+alone_one b o p h k = answers_one (step Single) (value Single) (rest Single) (λ s. Unit {0}) (follows Single) Alone start tt alone_is b o p h k
 
 -- what the bytes are read as is what their outcome gives
 outcome_of : (b : List ℕ) (r : Result Primitive FaultFault) → ReadsPrim b r → (o : Outcome (Option Item)) × Answers Alone b o × GivesPrim o r

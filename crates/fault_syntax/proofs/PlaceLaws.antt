@@ -1,26 +1,32 @@
 -- The four laws of the places of a primitive or a list line: what may follow each, by the next byte.
 use Rattle.std.proofs.Common.{◌≡◌, ℕ, ◌==◌, Bool, true, false, not, List, [], ◌∷◌, ◌++◌, ◌∙◌, Option, Some, None, is_some, option_map, refl, ◌↔◌, ◌⊎◌, ◌&&◌, inl, inr, subst, sym, ap, append-nil, if◌then◌else◌}
-use Rattle.bist_text.specs.Grammar.{finish, word, when, many, is_blank, are_bytes, Continues}
+use Rattle.bist_text.specs.Grammar.{finish, word, when, many, is_blank, Continues}
+use Rattle.bist_text.specs.declared.keywords.Letters.{Letters}
+use Rattle.bist_text.specs.declared.keywords.Spelled.{Spelled}
+use Rattle.bist_text.specs.declared.keywords.Spelled.TheVariants.{More, Whole}
+use Rattle.bist_text.specs.Keywords.{stands, letters_of, seek, spell, left}
 use Rattle.bist_text.specs.Machine.{Holds, Grows, Follows}
-use Rattle.bist_text.proofs.Pieces.{at_byte, also, skip, stay, neither, same, never, grows_iff, grows_never, grows_from_none, Headed, grows_one, many_never}
+use Rattle.bist_text.proofs.Bytes.{are_bytes-append}
+use Rattle.bist_text.proofs.KeywordLaws.{first_law, spell_law, spell_ends, first_ends, spell_alive}
+use Rattle.bist_text.proofs.Pieces.{at_byte, also, skip, stay, neither, same, never, grows_iff, grows_never, grows_from_none, Headed, grows_one, many_never, many_iff}
 use Rattle.fault_syntax.specs.declared.place.Access.{Access}
 use Rattle.fault_syntax.specs.declared.place.Access.TheVariants.{Writes, Reads}
 use Rattle.fault_syntax.specs.declared.words.Operation.{Operation}
 use Rattle.fault_syntax.specs.declared.words.Operation.TheVariants.{Write, Read, Pause}
+use Rattle.fault_syntax.specs.declared.words.Form.{Form}
+use Rattle.fault_syntax.specs.declared.words.Form.TheVariants.{Single, Listed}
 use Rattle.fault_syntax.specs.declared.words.Name.{Name}
-use Rattle.fault_syntax.specs.declared.place.Part.{Part}
-use Rattle.fault_syntax.specs.declared.place.Part.TheVariants.{Begin}
-use Rattle.fault_syntax.specs.declared.place.Spelled.{Spelled}
-use Rattle.fault_syntax.specs.declared.place.Spelled.TheVariants.{More, Whole}
+use Rattle.fault_syntax.specs.declared.words.NameSet.{NameSet}
+use Rattle.fault_syntax.specs.Names.{words_of}
 use Rattle.fault_syntax.specs.declared.place.Place.{Place}
 use Rattle.fault_syntax.specs.declared.place.Place.TheVariants.{Start, Spelling, Opened, Lead, Sensed, Digit, Effect, Left, Reply, Replied, Closed, Comment}
 use Rattle.fault_syntax.specs.declared.place.Event.TheVariants.{Parts}
-use Rattle.fault_syntax.specs.ListText.{Item, Primitive, Named, name_text, anything, line_end, LineText}
+use Rattle.fault_syntax.specs.ListText.{Item, Primitive, Named, anything, line_end, item, LineOf}
 use Rattle.fault_syntax.specs.PrimText.{SenseText, PrimParts, ws, bit_text, answer_text, op, more_ops, led, sense, effect, senses, PrimText}
-use Rattle.fault_syntax.specs.Places.{spell, to, spelling, operation, after_letter, may_end, State, start, moved, step_at, step, parts_of, item_of, item_at, value, left, among, ending, begins, in_prim, in_name, victim_left, first_sense, the_sense, lead_left, digit_left, begun, answer_left, effect_left, left_at, rest}
-use Rattle.fault_syntax.proofs.NameLaws.{spelled, spell_law, no_part, name_begins, part_alive}
+use Rattle.fault_syntax.specs.Places.{to, spelling, operation, after_letter, may_end, State, start, moved, step_at, step, parts_of, item_of, item_at, value, ending, begins, in_prim, in_name, victim_left, first_sense, the_sense, lead_left, digit_left, begun, answer_left, effect_left, left_at, rest}
+use Rattle.fault_syntax.proofs.NameLaws.{fine, sf, first_word, NoName, no_names, named}
 
-abbrev Law : Bool → Place → State → List ℕ → Option Item → ℕ → Type 0
+abbrev Law : Form → Place → State → List ℕ → Option Item → ℕ → Type 0
 Law l p s b v c = left_at l p s v (c ∷ b) ↔ Holds (step_at l p s c) (λ t. rest l t b v)
 
 -- ---- of the item, and of the sense that is read
@@ -57,10 +63,10 @@ no_sense_left None p K P f h = no_first p.agg p K P f h
 no_sense_left (Some a) p K P f h = f p.vic (effect p K) h.1
 
 -- within a sense, from what holds of each
-within : (l : Bool) (g : Option SenseText) (P Q : SenseText → (List ℕ → Type 0) → Type 0) → ((t : SenseText) (L : List ℕ → Type 0) → P t L ↔ Q t L) → (v : Option Item) → in_prim (λ p. the_sense g p (ws (ending l)) P) v ↔ in_prim (λ p. the_sense g p (ws (ending l)) Q) v
+within : (l : Form) (g : Option SenseText) (P Q : SenseText → (List ℕ → Type 0) → Type 0) → ((t : SenseText) (L : List ℕ → Type 0) → P t L ↔ Q t L) → (v : Option Item) → in_prim (λ p. the_sense g p (ws (ending l)) P) v ↔ in_prim (λ p. the_sense g p (ws (ending l)) Q) v
 within l g P Q f v = prim_iff (λ p. the_sense g p (ws (ending l)) P) (λ p. the_sense g p (ws (ending l)) Q) (λ p. sense_iff g p (ws (ending l)) P Q f) v
 
-outside : (l : Bool) (g : Option SenseText) (P : SenseText → (List ℕ → Type 0) → Type 0) → ((t : SenseText) (L : List ℕ → Type 0) → P t L → ⊥) → (v : Option Item) → in_prim (λ p. the_sense g p (ws (ending l)) P) v → ⊥
+outside : (l : Form) (g : Option SenseText) (P : SenseText → (List ℕ → Type 0) → Type 0) → ((t : SenseText) (L : List ℕ → Type 0) → P t L → ⊥) → (v : Option Item) → in_prim (λ p. the_sense g p (ws (ending l)) P) v → ⊥
 outside l g P f v h = no_prim (λ p. the_sense g p (ws (ending l)) P) (λ p. no_sense_left g p (ws (ending l)) P f) v h
 
 -- ---- bytes
@@ -277,7 +283,7 @@ mark_blank m X c b w e = go (c == m) (is_blank c) e w
 -- ---- behind a sense
 
 -- of the two that may follow a sense
-within_known : (l : Bool) (g : Option SenseText) (P Q : SenseText → (List ℕ → Type 0) → Type 0) → ((t : SenseText) (p : PrimParts) → P t (effect p (ws (ending l))) ↔ Q t (effect p (ws (ending l)))) → ((t : SenseText) (p : PrimParts) → P t (victim_left p (ws (ending l))) ↔ Q t (victim_left p (ws (ending l)))) → (v : Option Item) → in_prim (λ p. the_sense g p (ws (ending l)) P) v ↔ in_prim (λ p. the_sense g p (ws (ending l)) Q) v
+within_known : (l : Form) (g : Option SenseText) (P Q : SenseText → (List ℕ → Type 0) → Type 0) → ((t : SenseText) (p : PrimParts) → P t (effect p (ws (ending l))) ↔ Q t (effect p (ws (ending l)))) → ((t : SenseText) (p : PrimParts) → P t (victim_left p (ws (ending l))) ↔ Q t (victim_left p (ws (ending l)))) → (v : Option Item) → in_prim (λ p. the_sense g p (ws (ending l)) P) v ↔ in_prim (λ p. the_sense g p (ws (ending l)) Q) v
 within_known l g P Q f h v = prim_iff (λ p. the_sense g p (ws (ending l)) P) (λ p. the_sense g p (ws (ending l)) Q) (λ p. each g p) v
   where
     first : (a : Option SenseText) (p : PrimParts) → first_sense a p (ws (ending l)) P ↔ first_sense a p (ws (ending l)) Q
@@ -288,7 +294,7 @@ within_known l g P Q f h v = prim_iff (λ p. the_sense g p (ws (ending l)) P) (�
     each None p = first p.agg p
     each (Some a) p = (λ z. (z.0, (f p.vic p).0 z.1), λ z. (z.0, (f p.vic p).1 z.1))
 
-outside_known : (l : Bool) (g : Option SenseText) (P : SenseText → (List ℕ → Type 0) → Type 0) → ((t : SenseText) (p : PrimParts) → P t (effect p (ws (ending l))) → ⊥) → ((t : SenseText) (p : PrimParts) → P t (victim_left p (ws (ending l))) → ⊥) → (v : Option Item) → in_prim (λ p. the_sense g p (ws (ending l)) P) v → ⊥
+outside_known : (l : Form) (g : Option SenseText) (P : SenseText → (List ℕ → Type 0) → Type 0) → ((t : SenseText) (p : PrimParts) → P t (effect p (ws (ending l))) → ⊥) → ((t : SenseText) (p : PrimParts) → P t (victim_left p (ws (ending l))) → ⊥) → (v : Option Item) → in_prim (λ p. the_sense g p (ws (ending l)) P) v → ⊥
 outside_known l g P f h v z = no_prim (λ p. the_sense g p (ws (ending l)) P) (λ p. each g p) v z
   where
     first : (a : Option SenseText) (p : PrimParts) → first_sense a p (ws (ending l)) P → ⊥
@@ -316,7 +322,7 @@ sense_ends s t L c b Y w e f g k = (λ h. forth h.0 h.1.0 h.1.1 h.1.2, λ h. (ap
     forth x (o ∷ os) y z = absurd (neither (no_op o (more_ops os L) c b e f g) (no_blanks (op o (more_ops os L)) c b w) z)
 
 -- the slash behind the senses
-slash : (l : Bool) (g : Option SenseText) (s : SenseText) (b : List ℕ) (v : Option Item) → in_prim (λ p. the_sense g p (ws (ending l)) (λ t L. begun s t (λ os. more_ops os L (47 ∷ b)))) v ↔ in_prim (λ p. (p.agg ≡ g) × (p.vic ≡ s) × effect_left p (ws (ending l)) b) v
+slash : (l : Form) (g : Option SenseText) (s : SenseText) (b : List ℕ) (v : Option Item) → in_prim (λ p. the_sense g p (ws (ending l)) (λ t L. begun s t (λ os. more_ops os L (47 ∷ b)))) v ↔ in_prim (λ p. (p.agg ≡ g) × (p.vic ≡ s) × effect_left p (ws (ending l)) b) v
 slash l g s b v = prim_iff (λ p. the_sense g p (ws (ending l)) (λ t L. begun s t (λ os. more_ops os L (47 ∷ b)))) (λ p. (p.agg ≡ g) × (p.vic ≡ s) × effect_left p (ws (ending l)) b) (λ p. each g p) v
   where
     victim : (p : PrimParts) → begun s p.vic (λ os. more_ops os (effect p (ws (ending l))) (47 ∷ b)) ↔ ((p.vic ≡ s) × effect_left p (ws (ending l)) b)
@@ -334,7 +340,7 @@ some_is : (a c : SenseText) → Some a ≡ Some c → a ≡ c
 some_is a c e = cc
 
 -- the semicolon behind the aggressor's sense
-semicolon : (l : Bool) (g : Option SenseText) (s : State) (b : List ℕ) (v : Option Item) → in_prim (λ p. the_sense g p (ws (ending l)) (λ t L. begun s.sense t (λ os. more_ops os L (59 ∷ b)))) v ↔ Holds (option_map (moved s) (if not (is_some g) && true then to Opened Parts else None)) (λ t. rest l t b v)
+semicolon : (l : Form) (g : Option SenseText) (s : State) (b : List ℕ) (v : Option Item) → in_prim (λ p. the_sense g p (ws (ending l)) (λ t L. begun s.sense t (λ os. more_ops os L (59 ∷ b)))) v ↔ Holds (option_map (moved s) (if not (is_some g) && true then to Opened Parts else None)) (λ t. rest l t b v)
 semicolon l (Some a) s b v = never (no_prim (λ p. the_sense (Some a) p (ws (ending l)) (λ t L. begun s.sense t (λ os. more_ops os L (59 ∷ b)))) (λ p h. no_begun s.sense p.vic (λ os. more_ops os (effect p (ws (ending l))) (59 ∷ b)) (λ os. no_more os (effect p (ws (ending l))) 59 b refl refl refl refl (neither (λ z. z) (λ z. z))) h.1) v) (λ h. h)
 semicolon l None s b v = prim_iff (λ p. the_sense None p (ws (ending l)) (λ t L. begun s.sense t (λ os. more_ops os L (59 ∷ b)))) (λ p. (p.agg ≡ Some s.sense) × ws (sense p.vic (effect p (ws (ending l)))) b) (λ p. first p.agg p) v
   where
@@ -343,12 +349,12 @@ semicolon l None s b v = prim_iff (λ p. the_sense None p (ws (ending l)) (λ t 
     first (Some a) p = also (sense_ends s.sense a (victim_left p (ws (ending l))) 59 b (ws (sense p.vic (effect p (ws (ending l)))) b) refl refl refl refl (stay (λ z. z))) (λ h. (ap (λ x. Some x) h.0, h.1), λ h. (some_is a s.sense h.0, h.1))
 
 -- what may follow the sense, where it goes on so behind a byte
-abbrev Goes : Bool → State → List ℕ → Option Item → ℕ → (SenseText → (List ℕ → Type 0) → Type 0) → Type 0
+abbrev Goes : Form → State → List ℕ → Option Item → ℕ → (SenseText → (List ℕ → Type 0) → Type 0) → Type 0
 Goes l s b v d Q =
     in_prim (λ p. the_sense s.agg p (ws (ending l)) (λ t L. begun s.sense t (λ os. more_ops os L (d ∷ b)))) v
     ↔ in_prim (λ p. the_sense s.agg p (ws (ending l)) Q) v
 
-goes_sensed : (l : Bool) (s : State) (c : ℕ) (b : List ℕ) (v : Option Item) → Law l Sensed s b v c
+goes_sensed : (l : Form) (s : State) (c : ℕ) (b : List ℕ) (v : Option Item) → Law l Sensed s b v c
 goes_sensed l s c b v =
     at_byte P c 32 (blank 32 (λ os L. more_blank os L 32 b refl refl refl refl) (λ p. skip (λ z. z)) (λ p. skip (λ z. z))) (λ n32.
     at_byte P c 9 (blank 9 (λ os L. more_blank os L 9 b refl refl refl refl) (λ p. skip (λ z. z)) (λ p. skip (λ z. z))) (λ n9.
@@ -402,7 +408,7 @@ goes_sensed l s c b v =
     no_mark true h = h
     no_mark false h = h
 
-goes_digit : (l : Bool) (a : Access) (s : State) (c : ℕ) (b : List ℕ) (v : Option Item) → Law l (Digit a) s b v c
+goes_digit : (l : Form) (a : Access) (s : State) (c : ℕ) (b : List ℕ) (v : Option Item) → Law l (Digit a) s b v c
 goes_digit l a s c b v =
     at_byte P c 48 (within l s.agg (λ t L. begun s.sense t (λ os. digit_left a os L (48 ∷ b))) (λ t L. begun (a_sense s.sense.state (s.sense.ops ++ operation a false ∷ [])) t (λ os. more_ops os L b)) (λ t L. digit_ends a false s.sense t L 48 b (λ x M. bit_48 x M b)) v) (λ n48.
     at_byte P c 49 (within l s.agg (λ t L. begun s.sense t (λ os. digit_left a os L (49 ∷ b))) (λ t L. begun (a_sense s.sense.state (s.sense.ops ++ operation a true ∷ [])) t (λ os. more_ops os L b)) (λ t L. digit_ends a true s.sense t L 49 b (λ x M. bit_49 x M b)) v) (λ n49.
@@ -411,7 +417,7 @@ goes_digit l a s c b v =
     P : ℕ → Type 0
     P x = Law l (Digit a) s b v x
 
-goes_lead : (l : Bool) (s : State) (c : ℕ) (b : List ℕ) (v : Option Item) → Law l Lead s b v c
+goes_lead : (l : Form) (s : State) (c : ℕ) (b : List ℕ) (v : Option Item) → Law l Lead s b v c
 goes_lead l s c b v =
     at_byte P c 48 (within l s.agg (λ t L. lead_left t.state t.ops L (48 ∷ b)) (λ t L. begun (a_sense false (Read false ∷ [])) t (λ os. more_ops os L b)) (λ t L. lead_digit false t L 48 b (λ x M. bit_48 x M b)) v) (λ n48.
     at_byte P c 49 (within l s.agg (λ t L. lead_left t.state t.ops L (49 ∷ b)) (λ t L. begun (a_sense true (Read true ∷ [])) t (λ os. more_ops os L b)) (λ t L. lead_digit true t L 49 b (λ x M. bit_49 x M b)) v) (λ n49.
@@ -420,7 +426,7 @@ goes_lead l s c b v =
     P : ℕ → Type 0
     P x = Law l Lead s b v x
 
-goes_opened : (l : Bool) (s : State) (c : ℕ) (b : List ℕ) (v : Option Item) → Law l Opened s b v c
+goes_opened : (l : Form) (s : State) (c : ℕ) (b : List ℕ) (v : Option Item) → Law l Opened s b v c
 goes_opened l s c b v =
     at_byte P c 32 (within l s.agg (λ t L. ws (sense t L) (32 ∷ b)) (λ t L. ws (sense t L) b) (λ t L. skip (no_sense t L 32 b refl refl refl)) v) (λ n32.
     at_byte P c 9 (within l s.agg (λ t L. ws (sense t L) (9 ∷ b)) (λ t L. ws (sense t L) b) (λ t L. skip (no_sense t L 9 b refl refl refl)) v) (λ n9.
@@ -450,7 +456,7 @@ fourth f = (λ h. (h.0, h.1, h.2, (f.0 h.3).0, (f.0 h.3).1), λ h. (h.0, h.1, h.
 keep_fifth : {A B C D E F : Type 0} → E ↔ F → (A × B × C × D × E) ↔ (A × B × C × D × F)
 keep_fifth f = (λ h. (h.0, h.1, h.2, h.3, f.0 h.4), λ h. (h.0, h.1, h.2, h.3, f.1 h.4))
 
-goes_effect : (l : Bool) (s : State) (c : ℕ) (b : List ℕ) (v : Option Item) → Law l Effect s b v c
+goes_effect : (l : Form) (s : State) (c : ℕ) (b : List ℕ) (v : Option Item) → Law l Effect s b v c
 goes_effect l s c b v =
     at_byte P c 32 (prim_iff (λ p. (p.agg ≡ s.agg) × (p.vic ≡ s.sense) × effect_left p (ws (ending l)) (32 ∷ b)) (λ p. (p.agg ≡ s.agg) × (p.vic ≡ s.sense) × effect_left p (ws (ending l)) b) (λ p. keep_third (skip (no_bit p.after (ws (word (47 ∷ []) (answer_left p (ws (ending l))))) 32 b refl refl))) v) (λ n32.
     at_byte P c 9 (prim_iff (λ p. (p.agg ≡ s.agg) × (p.vic ≡ s.sense) × effect_left p (ws (ending l)) (9 ∷ b)) (λ p. (p.agg ≡ s.agg) × (p.vic ≡ s.sense) × effect_left p (ws (ending l)) b) (λ p. keep_third (skip (no_bit p.after (ws (word (47 ∷ []) (answer_left p (ws (ending l))))) 9 b refl refl))) v) (λ n9.
@@ -462,7 +468,7 @@ goes_effect l s c b v =
     P : ℕ → Type 0
     P x = Law l Effect s b v x
 
-goes_left : (l : Bool) (s : State) (c : ℕ) (b : List ℕ) (v : Option Item) → Law l Left s b v c
+goes_left : (l : Form) (s : State) (c : ℕ) (b : List ℕ) (v : Option Item) → Law l Left s b v c
 goes_left l s c b v =
     at_byte P c 32 (prim_iff (λ p. (p.agg ≡ s.agg) × (p.vic ≡ s.sense) × (p.after ≡ s.after) × ws (word (47 ∷ []) (answer_left p (ws (ending l)))) (32 ∷ b)) (λ p. (p.agg ≡ s.agg) × (p.vic ≡ s.sense) × (p.after ≡ s.after) × ws (word (47 ∷ []) (answer_left p (ws (ending l)))) b) (λ p. keep_fourth (skip (λ z. z))) v) (λ n32.
     at_byte P c 9 (prim_iff (λ p. (p.agg ≡ s.agg) × (p.vic ≡ s.sense) × (p.after ≡ s.after) × ws (word (47 ∷ []) (answer_left p (ws (ending l)))) (9 ∷ b)) (λ p. (p.agg ≡ s.agg) × (p.vic ≡ s.sense) × (p.after ≡ s.after) × ws (word (47 ∷ []) (answer_left p (ws (ending l)))) b) (λ p. keep_fourth (skip (λ z. z))) v) (λ n9.
@@ -473,7 +479,7 @@ goes_left l s c b v =
     P : ℕ → Type 0
     P x = Law l Left s b v x
 
-goes_reply : (l : Bool) (s : State) (c : ℕ) (b : List ℕ) (v : Option Item) → Law l Reply s b v c
+goes_reply : (l : Form) (s : State) (c : ℕ) (b : List ℕ) (v : Option Item) → Law l Reply s b v c
 goes_reply l s c b v =
     at_byte P c 32 (prim_iff (λ p. (p.agg ≡ s.agg) × (p.vic ≡ s.sense) × (p.after ≡ s.after) × answer_left p (ws (ending l)) (32 ∷ b)) (λ p. (p.agg ≡ s.agg) × (p.vic ≡ s.sense) × (p.after ≡ s.after) × answer_left p (ws (ending l)) b) (λ p. keep_fourth (skip (no_answer p.answer (ws (word (62 ∷ []) (ws (ending l)))) 32 b refl refl refl))) v) (λ n32.
     at_byte P c 9 (prim_iff (λ p. (p.agg ≡ s.agg) × (p.vic ≡ s.sense) × (p.after ≡ s.after) × answer_left p (ws (ending l)) (9 ∷ b)) (λ p. (p.agg ≡ s.agg) × (p.vic ≡ s.sense) × (p.after ≡ s.after) × answer_left p (ws (ending l)) b) (λ p. keep_fourth (skip (no_answer p.answer (ws (word (62 ∷ []) (ws (ending l)))) 9 b refl refl refl))) v) (λ n9.
@@ -501,7 +507,7 @@ closes s X None = never (λ h. h) (λ h. let e : None ≡ Some (Primitive (parts
 closes s X (Some (Named n)) = never (λ h. h) (λ h. let e : Some (Named n) ≡ Some (Primitive (parts_of s)) = h.0 in cc)
 closes s X (Some (Primitive p)) = (λ h. (ap (λ x. Some (Primitive x)) (parts_same p.agg s.agg p.vic s.sense p.after s.after p.answer s.answer h.0 h.1 h.2 h.3), h.4), λ h. let e : p ≡ parts_of s = prim_is p (parts_of s) h.0 in (ap (λ (x : PrimParts). x.agg) e, ap (λ (x : PrimParts). x.vic) e, ap (λ (x : PrimParts). x.after) e, ap (λ (x : PrimParts). x.answer) e, h.1))
 
-goes_replied : (l : Bool) (s : State) (c : ℕ) (b : List ℕ) (v : Option Item) → Law l Replied s b v c
+goes_replied : (l : Form) (s : State) (c : ℕ) (b : List ℕ) (v : Option Item) → Law l Replied s b v c
 goes_replied l s c b v =
     at_byte P c 32 (prim_iff (λ p. (p.agg ≡ s.agg) × (p.vic ≡ s.sense) × (p.after ≡ s.after) × (p.answer ≡ s.answer) × ws (word (62 ∷ []) (ws (ending l))) (32 ∷ b)) (λ p. (p.agg ≡ s.agg) × (p.vic ≡ s.sense) × (p.after ≡ s.after) × (p.answer ≡ s.answer) × ws (word (62 ∷ []) (ws (ending l))) b) (λ p. keep_fifth (skip (λ z. z))) v) (λ n32.
     at_byte P c 9 (prim_iff (λ p. (p.agg ≡ s.agg) × (p.vic ≡ s.sense) × (p.after ≡ s.after) × (p.answer ≡ s.answer) × ws (word (62 ∷ []) (ws (ending l))) (9 ∷ b)) (λ p. (p.agg ≡ s.agg) × (p.vic ≡ s.sense) × (p.after ≡ s.after) × (p.answer ≡ s.answer) × ws (word (62 ∷ []) (ws (ending l))) b) (λ p. keep_fifth (skip (λ z. z))) v) (λ n9.
@@ -517,8 +523,8 @@ goes_replied l s c b v =
 keep_second : {A B C : Type 0} → B ↔ C → (A × B) ↔ (A × C)
 keep_second f = (λ h. (h.0, f.0 h.1), λ h. (h.0, f.1 h.1))
 
-goes_closed_true : (s : State) (c : ℕ) (b : List ℕ) (v : Option Item) → Law true Closed s b v c
-goes_closed_true s c b v =
+goes_closed_listed : (set : NameSet) (s : State) (c : ℕ) (b : List ℕ) (v : Option Item) → Law (Listed set) Closed s b v c
+goes_closed_listed set s c b v =
     at_byte P c 32 (keep_second (skip (neither (λ z. z) (λ z. z)))) (λ n32.
     at_byte P c 9 (keep_second (skip (neither (λ z. z) (λ z. z)))) (λ n9.
     at_byte P c 13 (keep_second (skip (neither (λ z. z) (λ z. z)))) (λ n13.
@@ -526,102 +532,107 @@ goes_closed_true s c b v =
     simp (n32, n9, n13, n35) (never (λ h. neither (neither (λ z. z) (λ z. z)) (λ z. z) h.1) (λ z. z))))))
   where
     P : ℕ → Type 0
-    P x = Law true Closed s b v x
+    P x = Law (Listed set) Closed s b v x
 
-goes_closed_false : (s : State) (c : ℕ) (b : List ℕ) (v : Option Item) → Law false Closed s b v c
-goes_closed_false s c b v =
+goes_closed_single : (s : State) (c : ℕ) (b : List ℕ) (v : Option Item) → Law Single Closed s b v c
+goes_closed_single s c b v =
     at_byte P c 32 (keep_second (skip (λ z. z))) (λ n32.
     at_byte P c 9 (keep_second (skip (λ z. z))) (λ n9.
     at_byte P c 13 (keep_second (skip (λ z. z))) (λ n13.
     simp (n32, n9, n13) (never (λ h. neither (λ z. z) (λ z. z) h.1) (λ z. z)))))
   where
     P : ℕ → Type 0
-    P x = Law false Closed s b v x
+    P x = Law Single Closed s b v x
 
-goes_spelling : (l : Bool) (q : Part) (s : State) (c : ℕ) (b : List ℕ) (v : Option Item) → in_name (λ n. among (left q) n (ws (ending l)) (c ∷ b)) v ↔ Holds (option_map (moved s) (spelling (spell q c))) (λ t. rest l t b v)
-goes_spelling l q s c b v = also (name_iff (λ n. among (left q) n (ws (ending l)) (c ∷ b)) (λ n. Holds (spell q c) (λ x. spelled x n (ws (ending l)) b)) (λ n. spell_law q n (ws (ending l)) c b) v) (go (spell q c) v)
+-- a letter of a name
+named_on : (l : Form) (s : State) (o : Option (Spelled Name)) (b : List ℕ) (v : Option Item)
+    → in_name (λ n. Holds o (λ q. left (words_of l) q n (ws (ending l)) b)) v ↔ Holds (option_map (moved s) (spelling o)) (λ t. rest l t b v)
+named_on l s None b None = same
+named_on l s None b (Some (Primitive p)) = same
+named_on l s None b (Some (Named n)) = same
+named_on l s (Some (More r)) b v = same
+named_on l s (Some (Whole k)) b None = never (λ h. h) (λ h. let e : None ≡ Some (Named k) = h.0 in cc)
+named_on l s (Some (Whole k)) b (Some (Primitive p)) = never (λ h. h) (λ h. let e : Some (Primitive p) ≡ Some (Named k) = h.0 in cc)
+named_on l s (Some (Whole k)) b (Some (Named n)) = (λ h. (ap (λ x. Some (Named x)) h.0, h.1), λ h. (named_is n k h.0, h.1))
   where
-    go : (o : Option Spelled) (v : Option Item) → in_name (λ n. Holds o (λ x. spelled x n (ws (ending l)) b)) v ↔ Holds (option_map (moved s) (spelling o)) (λ t. rest l t b v)
-    go None None = same
-    go None (Some (Primitive p)) = same
-    go None (Some (Named n)) = same
-    go (Some (More r)) v = same
-    go (Some (Whole k)) None = never (λ h. h) (λ h. let e : None ≡ Some (Named k) = h.0 in cc)
-    go (Some (Whole k)) (Some (Primitive p)) = never (λ h. h) (λ h. let e : Some (Primitive p) ≡ Some (Named k) = h.0 in cc)
-    go (Some (Whole k)) (Some (Named n)) = (λ h. (ap (λ x. Some (Named x)) h.0, h.1), λ h. (named_is n k h.0, h.1))
-      where
-        named_is : (n k : Name) → (let x : Option Item = Some (Named n) in x ≡ Some (Named k)) → n ≡ k
-        named_is n k e = cc
+    named_is : (n k : Name) → (let x : Option Item = Some (Named n) in x ≡ Some (Named k)) → n ≡ k
+    named_is n k e = cc
 
-no_name : (n : Name) (K : List ℕ → Type 0) (c : ℕ) (b : List ℕ) → spell Begin c ≡ None → word (name_text n) K (c ∷ b) → ⊥
-no_name n K c b e h = subst (λ (o : Option Spelled). Holds o (λ q. spelled q n K b)) e ((spell_law Begin n K c b).0 ((name_begins n K (c ∷ b)).0 h))
+goes_spelling : (l : Form) (q : Letters) (s : State) (c : ℕ) (b : List ℕ) (v : Option Item) → Law l (Spelling q) s b v c
+goes_spelling l q s c b v =
+    also
+    (name_iff (λ n. stands (words_of l) n (ws (ending l)) (letters_of (words_of l) q ++ c ∷ b)) (λ n. Holds (spell (words_of l) q c) (λ x. left (words_of l) x n (ws (ending l)) b))
+    (λ n. spell_law (words_of l) (fine l) q n (ws (ending l)) c b) v)
+    (named_on l s (spell (words_of l) q c) b v)
 
-no_begin : (l : Bool) (v : Option Item) (c : ℕ) (b : List ℕ) → (c == 60) ≡ false → (c == 35) ≡ false → spell Begin c ≡ None → begins l v (c ∷ b) → ⊥
-no_begin true None c b e f n h = neither (λ z. z) (λ z. let k : when false (anything b) = subst (λ q. when q (anything b)) f z in k) h
-no_begin true (Some (Primitive p)) c b e f n h = rw e at h
-no_begin true (Some (Named k)) c b e f n h = no_name k (ws line_end) c b n h
-no_begin false None c b e f n h = h
-no_begin false (Some (Primitive p)) c b e f n h = rw e at h
-no_begin false (Some (Named k)) c b e f n h = h
+no_name : (set : NameSet) (n : Name) (K : List ℕ → Type 0) (c : ℕ) (b : List ℕ) → NoName set c → stands (words_of (Listed set)) n K (c ∷ b) → ⊥
+no_name set n K c b e h =
+    subst (λ (o : Option (Spelled Name)). Holds o (λ q. left (words_of (Listed set)) q n K b)) e ((first_law (words_of (Listed set)) (fine (Listed set)) n K c b).0 h)
+
+no_line : (set : NameSet) (v : Option Item) (c : ℕ) (b : List ℕ) → (c == 60) ≡ false → (c == 35) ≡ false → NoName set c → begins (Listed set) v (c ∷ b) → ⊥
+no_line set None c b e f n h = neither (λ z. z) (λ z. let k : when false (anything b) = subst (λ q. when q (anything b)) f z in k) h
+no_line set (Some (Primitive p)) c b e f n h = rw e at h
+no_line set (Some (Named k)) c b e f n h = no_name set k (ws line_end) c b n h
 
 -- a primitive begins
-opens : (l : Bool) (v : Option Item) (b : List ℕ) → begins l v (60 ∷ b) ↔ in_prim (λ p. first_sense p.agg p (ws (ending l)) (λ t L. ws (sense t L) b)) v
+opens : (l : Form) (v : Option Item) (b : List ℕ) → begins l v (60 ∷ b) ↔ in_prim (λ p. first_sense p.agg p (ws (ending l)) (λ t L. ws (sense t L) b)) v
 opens l v b = go l v
   where
     first : (a : Option SenseText) (p : PrimParts) (K : List ℕ → Type 0) → ws (senses a p.vic (effect p K)) b ↔ first_sense a p K (λ t L. ws (sense t L) b)
     first None p K = same
     first (Some a) p K = same
 
-    go : (l : Bool) (v : Option Item) → begins l v (60 ∷ b) ↔ in_prim (λ p. first_sense p.agg p (ws (ending l)) (λ t L. ws (sense t L) b)) v
-    go true None = never (neither (λ z. z) (λ z. z)) (λ h. h)
-    go true (Some (Primitive p)) = first p.agg p (ws line_end)
-    go true (Some (Named k)) = never (no_name k (ws line_end) 60 b refl) (λ h. h)
-    go false None = same
-    go false (Some (Primitive p)) = first p.agg p (ws finish)
-    go false (Some (Named k)) = same
+    go : (l : Form) (v : Option Item) → begins l v (60 ∷ b) ↔ in_prim (λ p. first_sense p.agg p (ws (ending l)) (λ t L. ws (sense t L) b)) v
+    go (Listed set) None = never (neither (λ z. z) (λ z. z)) (λ h. h)
+    go (Listed set) (Some (Primitive p)) = first p.agg p (ws line_end)
+    go (Listed set) (Some (Named k)) = never (no_name set k (ws line_end) 60 b (no_names set).3) (λ h. h)
+    go Single None = same
+    go Single (Some (Primitive p)) = first p.agg p (ws finish)
+    go Single (Some (Named k)) = same
 
 -- a comment, or a name
-comment : (v : Option Item) (b : List ℕ) → begins true v (35 ∷ b) ↔ ((v ≡ None) × anything b)
-comment None b = (λ h. (refl, tt), λ h. inr tt)
-comment (Some (Primitive p)) b = never (λ h. h) (λ h. let e : Some (Primitive p) ≡ None = h.0 in cc)
-comment (Some (Named n)) b = never (no_name n (ws line_end) 35 b refl) (λ h. let e : Some (Named n) ≡ None = h.0 in cc)
+comment : (set : NameSet) (v : Option Item) (b : List ℕ) → begins (Listed set) v (35 ∷ b) ↔ ((v ≡ None) × anything b)
+comment set None b = (λ h. (refl, tt), λ h. inr tt)
+comment set (Some (Primitive p)) b = never (λ h. h) (λ h. let e : Some (Primitive p) ≡ None = h.0 in cc)
+comment set (Some (Named n)) b = never (no_name set n (ws line_end) 35 b (no_names set).4) (λ h. let e : Some (Named n) ≡ None = h.0 in cc)
 
-name_wants : (v : Option Item) (c : ℕ) (b : List ℕ) → (c == 60) ≡ false → (c == 35) ≡ false → begins true v (c ∷ b) ↔ in_name (λ n. among (left Begin) n (ws line_end) (c ∷ b)) v
-name_wants None c b e f = never (neither (λ z. z) (λ z. let k : when false (anything b) = subst (λ q. when q (anything b)) f z in k)) (λ h. h)
-name_wants (Some (Primitive p)) c b e f = never (λ h. rw e at h) (λ h. h)
-name_wants (Some (Named n)) c b e f = name_begins n (ws line_end) (c ∷ b)
+name_wants : (set : NameSet) (v : Option Item) (c : ℕ) (b : List ℕ) → (c == 60) ≡ false → (c == 35) ≡ false
+    → begins (Listed set) v (c ∷ b) ↔ in_name (λ n. Holds (seek [] c 0 (words_of (Listed set))) (λ q. left (words_of (Listed set)) q n (ws line_end) b)) v
+name_wants set None c b e f = never (neither (λ z. z) (λ z. let k : when false (anything b) = subst (λ q. when q (anything b)) f z in k)) (λ h. h)
+name_wants set (Some (Primitive p)) c b e f = never (λ h. rw e at h) (λ h. h)
+name_wants set (Some (Named n)) c b e f = first_law (words_of (Listed set)) (fine (Listed set)) n (ws line_end) c b
 
-goes_start_true : (s : State) (c : ℕ) (b : List ℕ) (v : Option Item) → Law true Start s b v c
-goes_start_true s c b v =
-    at_byte P c 32 (skip (no_begin true v 32 b refl refl refl)) (λ n32.
-    at_byte P c 9 (skip (no_begin true v 9 b refl refl refl)) (λ n9.
-    at_byte P c 13 (skip (no_begin true v 13 b refl refl refl)) (λ n13.
-    at_byte P c 60 (also (stay (λ z. z)) (opens true v b)) (λ n60.
-    at_byte P c 35 (also (stay (λ z. z)) (comment v b)) (λ n35.
-    simp (n32, n9, n13, n60, n35) (also (stay (λ z. z)) (also (name_wants v c b n60 n35) (goes_spelling true Begin s c b v))))))))
+goes_start_listed : (set : NameSet) (s : State) (c : ℕ) (b : List ℕ) (v : Option Item) → Law (Listed set) Start s b v c
+goes_start_listed set s c b v =
+    at_byte P c 32 (skip (no_line set v 32 b refl refl (no_names set).0)) (λ n32.
+    at_byte P c 9 (skip (no_line set v 9 b refl refl (no_names set).1)) (λ n9.
+    at_byte P c 13 (skip (no_line set v 13 b refl refl (no_names set).2)) (λ n13.
+    at_byte P c 60 (also (stay (λ z. z)) (opens (Listed set) v b)) (λ n60.
+    at_byte P c 35 (also (stay (λ z. z)) (comment set v b)) (λ n35.
+    simp (n32, n9, n13, n60, n35) (also (stay (λ z. z)) (also (name_wants set v c b n60 n35) (named_on (Listed set) s (seek [] c 0 (words_of (Listed set))) b v))))))))
   where
     P : ℕ → Type 0
-    P x = Law true Start s b v x
+    P x = Law (Listed set) Start s b v x
 
-alone : (v : Option Item) (c : ℕ) (b : List ℕ) → (c == 60) ≡ false → begins false v (c ∷ b) → ⊥
+alone : (v : Option Item) (c : ℕ) (b : List ℕ) → (c == 60) ≡ false → begins Single v (c ∷ b) → ⊥
 alone None c b e h = h
 alone (Some (Primitive p)) c b e h = rw e at h
 alone (Some (Named n)) c b e h = h
 
-goes_start_false : (s : State) (c : ℕ) (b : List ℕ) (v : Option Item) → Law false Start s b v c
-goes_start_false s c b v =
-    at_byte P c 32 (skip (no_begin false v 32 b refl refl refl)) (λ n32.
-    at_byte P c 9 (skip (no_begin false v 9 b refl refl refl)) (λ n9.
-    at_byte P c 13 (skip (no_begin false v 13 b refl refl refl)) (λ n13.
-    at_byte P c 60 (also (stay (λ z. z)) (opens false v b)) (λ n60.
+goes_start_single : (s : State) (c : ℕ) (b : List ℕ) (v : Option Item) → Law Single Start s b v c
+goes_start_single s c b v =
+    at_byte P c 32 (skip (alone v 32 b refl)) (λ n32.
+    at_byte P c 9 (skip (alone v 9 b refl)) (λ n9.
+    at_byte P c 13 (skip (alone v 13 b refl)) (λ n13.
+    at_byte P c 60 (also (stay (λ z. z)) (opens Single v b)) (λ n60.
     simp (n32, n9, n13, n60) (never (neither (alone v c b n60) (λ z. z)) (λ z. z))))))
   where
     P : ℕ → Type 0
-    P x = Law false Start s b v x
+    P x = Law Single Start s b v x
 
-goes_at : (l : Bool) (p : Place) (s : State) (c : ℕ) (b : List ℕ) (v : Option Item) → Law l p s b v c
-goes_at true Start s c b v = goes_start_true s c b v
-goes_at false Start s c b v = goes_start_false s c b v
+goes_at : (l : Form) (p : Place) (s : State) (c : ℕ) (b : List ℕ) (v : Option Item) → Law l p s b v c
+goes_at (Listed set) Start s c b v = goes_start_listed set s c b v
+goes_at Single Start s c b v = goes_start_single s c b v
 goes_at l (Spelling q) s c b v = goes_spelling l q s c b v
 goes_at l Opened s c b v = goes_opened l s c b v
 goes_at l Lead s c b v = goes_lead l s c b v
@@ -631,15 +642,15 @@ goes_at l Effect s c b v = goes_effect l s c b v
 goes_at l Left s c b v = goes_left l s c b v
 goes_at l Reply s c b v = goes_reply l s c b v
 goes_at l Replied s c b v = goes_replied l s c b v
-goes_at true Closed s c b v = goes_closed_true s c b v
-goes_at false Closed s c b v = goes_closed_false s c b v
+goes_at (Listed set) Closed s c b v = goes_closed_listed set s c b v
+goes_at Single Closed s c b v = goes_closed_single s c b v
 goes_at l Comment s c b v = same
 
 -- ---- the end of a text
 
-end_here : (l : Bool) → ending l []
-end_here true = inl tt
-end_here false = tt
+end_here : (l : Form) → ending l []
+end_here (Listed set) = inl tt
+end_here Single = tt
 
 op_end : (o : Operation) (M : List ℕ → Type 0) → op o M [] → ⊥
 op_end (Write d) M z = z
@@ -688,23 +699,23 @@ no_more_end (o ∷ os) L f z = op_end o (more_ops os L) z
 none_ends : {X : Type 0} (v : Option Item) → (X → ⊥) → X ↔ ((let o : Option (Option Item) = None in o) ≡ Some v)
 none_ends v f = never f (λ e. cc)
 
-ends_start : (l : Bool) (s : State) (v : Option Item) → begins l v [] ↔ ((if may_end Start l then Some (item_at Start s) else None) ≡ Some v)
-ends_start true s None = (λ h. refl, λ h. inl tt)
-ends_start true s (Some (Primitive p)) = never (λ h. h) (λ e. cc)
-ends_start true s (Some (Named n)) = never (λ h. no_part Begin n (ws line_end) ((name_begins n (ws line_end) []).0 h)) (λ e. cc)
-ends_start false s None = none_ends None (λ h. h)
-ends_start false s (Some (Primitive p)) = none_ends (Some (Primitive p)) (λ h. h)
-ends_start false s (Some (Named n)) = none_ends (Some (Named n)) (λ h. h)
+ends_start : (l : Form) (s : State) (v : Option Item) → begins l v [] ↔ ((if may_end Start l then Some (item_at Start s) else None) ≡ Some v)
+ends_start (Listed set) s None = (λ h. refl, λ h. inl tt)
+ends_start (Listed set) s (Some (Primitive p)) = never (λ h. h) (λ e. cc)
+ends_start (Listed set) s (Some (Named n)) = never (first_ends (words_of (Listed set)) (fine (Listed set)) n (ws line_end)) (λ e. cc)
+ends_start Single s None = none_ends None (λ h. h)
+ends_start Single s (Some (Primitive p)) = none_ends (Some (Primitive p)) (λ h. h)
+ends_start Single s (Some (Named n)) = none_ends (Some (Named n)) (λ h. h)
 
-no_name_end : (l : Bool) (q : Part) (v : Option Item) → in_name (λ n. among (left q) n (ws (ending l)) []) v → ⊥
+no_name_end : (l : Form) (q : Letters) (v : Option Item) → in_name (λ n. stands (words_of l) n (ws (ending l)) (letters_of (words_of l) q ++ [])) v → ⊥
 no_name_end l q None h = h
 no_name_end l q (Some (Primitive p)) h = h
-no_name_end l q (Some (Named n)) h = no_part q n (ws (ending l)) h
+no_name_end l q (Some (Named n)) h = spell_ends (words_of l) (fine l) q n (ws (ending l)) h
 
 some_of : (x v : Option Item) → (let o : Option (Option Item) = Some x in o ≡ Some v) → v ≡ x
 some_of x v e = cc
 
-ends_at : (l : Bool) (p : Place) (s : State) (v : Option Item) → left_at l p s v [] ↔ ((if may_end p l then Some (item_at p s) else None) ≡ Some v)
+ends_at : (l : Form) (p : Place) (s : State) (v : Option Item) → left_at l p s v [] ↔ ((if may_end p l then Some (item_at p s) else None) ≡ Some v)
 ends_at l Start s v = ends_start l s v
 ends_at l (Spelling q) s v = none_ends v (no_name_end l q v)
 ends_at l Opened s v = none_ends v (outside l s.agg (λ t L. ws (sense t L) []) (λ t L. no_sense_end t L) v)
@@ -721,20 +732,22 @@ ends_at l Comment s v = (λ h. ap (λ x. Some x) (sym h.0), λ e. (some_of (item
 -- ---- each place goes on to an end
 
 -- `0/->` behind the slash
-effect_on : (l : Bool) (p : PrimParts) → p.after ≡ false → p.answer ≡ None → effect p (ws (ending l)) (47 ∷ 48 ∷ 47 ∷ 45 ∷ 62 ∷ [])
+effect_on : (l : Form) (p : PrimParts) → p.after ≡ false → p.answer ≡ None → effect p (ws (ending l)) (47 ∷ 48 ∷ 47 ∷ 45 ∷ 62 ∷ [])
 effect_on l p e f = inl (inl (subst (λ d. word (bit_text d) (ws (word (47 ∷ []) (answer_left p (ws (ending l))))) (48 ∷ 47 ∷ 45 ∷ 62 ∷ [])) (sym e) (inl (inl (subst (λ a. word (answer_text a) (ws (word (62 ∷ []) (ws (ending l)))) (45 ∷ 62 ∷ [])) (sym f) (inl (end_here l)))))))
 
 abbrev with_sense : Option SenseText → SenseText → PrimParts
 with_sense g t = some_parts g t false None
 
-sense_on : (l : Bool) (g : Option SenseText) (t : SenseText) (P : SenseText → (List ℕ → Type 0) → Type 0) → P t (effect (with_sense g t) (ws (ending l))) → the_sense g (with_sense g t) (ws (ending l)) P
+sense_on : (l : Form) (g : Option SenseText) (t : SenseText) (P : SenseText → (List ℕ → Type 0) → Type 0) → P t (effect (with_sense g t) (ws (ending l))) → the_sense g (with_sense g t) (ws (ending l)) P
 sense_on l None t P h = h
 sense_on l (Some a) t P h = (refl, h)
 
-alive_at : (l : Bool) (p : Place) (s : State) → Continues (λ b v. left_at l p s v b) []
-alive_at true Start s = ([], None, refl, inl tt)
-alive_at false Start s = (60 ∷ 48 ∷ 47 ∷ 48 ∷ 47 ∷ 45 ∷ 62 ∷ [], Some (Primitive (with_sense None (a_sense false []))), refl, inl (inl (inl (effect_on false (with_sense None (a_sense false [])) refl refl))))
-alive_at l (Spelling q) s = let a : (x : List ℕ) × (n : Name) × (are_bytes x ≡ true) × among (left q) n (ws (ending l)) x = part_alive q (ws (ending l)) [] refl (end_here l) in (a.0, Some (Named a.1), a.2, a.3)
+alive_at : (l : Form) (p : Place) (s : State) → Continues (λ b v. left_at l p s v b) []
+alive_at (Listed set) Start s = ([], None, refl, inl tt)
+alive_at Single Start s = (60 ∷ 48 ∷ 47 ∷ 48 ∷ 47 ∷ 45 ∷ 62 ∷ [], Some (Primitive (with_sense None (a_sense false []))), refl, inl (inl (inl (effect_on Single (with_sense None (a_sense false [])) refl refl))))
+alive_at l (Spelling q) s =
+    let a = spell_alive (words_of l) (fine l) sf (first_word l) (λ n. ws (ending l)) (λ n. []) (λ n. end_here l) q in
+    (a.1 ++ [], Some (Named a.0), are_bytes-append a.1 [] a.2 refl, a.3)
 alive_at l Opened s = (48 ∷ 47 ∷ 48 ∷ 47 ∷ 45 ∷ 62 ∷ [], Some (Primitive (with_sense s.agg (a_sense false []))), refl, sense_on l s.agg (a_sense false []) (λ t L. ws (sense t L) (48 ∷ 47 ∷ 48 ∷ 47 ∷ 45 ∷ 62 ∷ [])) (inl (inl (effect_on l (with_sense s.agg (a_sense false [])) refl refl))))
 alive_at l Lead s = let t : SenseText = a_sense false (Read false ∷ []) in (48 ∷ 47 ∷ 48 ∷ 47 ∷ 45 ∷ 62 ∷ [], Some (Primitive (with_sense s.agg t)), refl, sense_on l s.agg t (λ t L. lead_left t.state t.ops L (48 ∷ 47 ∷ 48 ∷ 47 ∷ 45 ∷ 62 ∷ [])) (refl, effect_on l (with_sense s.agg t) refl refl))
 alive_at l Sensed s = (47 ∷ 48 ∷ 47 ∷ 45 ∷ 62 ∷ [], Some (Primitive (with_sense s.agg s.sense)), refl, sense_on l s.agg s.sense (λ t L. begun s.sense t (λ os. more_ops os L (47 ∷ 48 ∷ 47 ∷ 45 ∷ 62 ∷ []))) (refl, ([], sym (append-nil s.sense.ops), effect_on l (with_sense s.agg s.sense) refl refl)))
@@ -758,7 +771,7 @@ alive_at l Closed s = ([], item_of s.kind (parts_of s), refl, (refl, end_here l)
 alive_at l Comment s = ([], item_of s.kind (parts_of s), refl, (refl, tt))
 
 -- the reader's states, and what may follow them
-pub follows : (l : Bool) → Follows (step l) (value l) (rest l) (λ s. Unit {0})
+pub follows : (l : Form) → Follows (step l) (value l) (rest l) (λ s. Unit {0})
 follows l = record {
   ends = λ s v. ends_at l s.place s v;
   goes = λ s c b v. goes_at l s.place s c b v;
@@ -766,15 +779,16 @@ follows l = record {
   keeps = λ s c t w e. tt;
 }
 
-pub line_is : (b : List ℕ) (v : Option Item) → rest true start b v ↔ LineText b v
-line_is b None = same
-line_is b (Some i) = same
+pub line_is : (set : NameSet) (b : List ℕ) (v : Option Item) → rest (Listed set) start b v ↔ LineOf set b v
+line_is set b None = same
+line_is set b (Some (Primitive p)) = same
+line_is set b (Some (Named n)) = many_iff is_blank (stands (words_of (Listed set)) n (ws line_end)) (item set (Named n) (ws line_end)) (named set n (ws line_end)) b
 
 -- the text of a primitive alone
 abbrev pub Alone : List ℕ → Option Item → Type 0
 Alone b v = in_prim (PrimText b) v
 
-pub alone_is : (b : List ℕ) (v : Option Item) → rest false start b v ↔ Alone b v
+pub alone_is : (b : List ℕ) (v : Option Item) → rest Single start b v ↔ Alone b v
 alone_is b None = never (many_never is_blank (λ x. ⊥) (λ x z. z) b) (λ h. h)
 alone_is b (Some (Primitive p)) = same
 alone_is b (Some (Named n)) = never (many_never is_blank (λ x. ⊥) (λ x z. z) b) (λ h. h)

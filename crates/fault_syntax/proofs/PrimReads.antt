@@ -1,8 +1,7 @@
 -- From the outcome of the machine to what the reader of a primitive promises.
-use Rattle.std.proofs.Common.{◌≡◌, ◌↔◌, ℕ, true, false, List, Option, Some, None, Result, Ok, Err, refl, sym, subst}
-use Rattle.bist_text.specs.Grammar.{are_bytes}
+use Rattle.std.proofs.Common.{◌≡◌, ◌↔◌, ℕ, List, Option, Some, None, Result, Ok, Err, refl, sym, subst}
 use Rattle.bist_text.specs.Machine.{Outcome, read, unexpected, truncated, scan, IsExact}
-use Rattle.bist_text.proofs.Exclusive.{scan_exact}
+use Rattle.bist_text.proofs.Settled.{scan_exact}
 use Rattle.fault_core.specs.Primitive.{Primitive}
 use Rattle.fault_syntax.specs.declared.fault.FaultFault.{FaultFault}
 use Rattle.fault_syntax.specs.declared.fault.FaultFault.TheVariants.{Unexpected, Truncated, NotAFault, TooManyOperations, TooManyPrimitives, NoMemory}
@@ -13,13 +12,14 @@ use Rattle.fault_syntax.specs.declared.reader.ReadItem.{ReadItem}
 use Rattle.fault_syntax.specs.declared.reader.ReadItem.TheVariants.{Primitive as ReadPrimitive}
 use Rattle.fault_syntax.specs.declared.reader.ReadParts.{ReadParts}
 use Rattle.fault_syntax.specs.declared.reader.Refusal.{Refusal}
+use Rattle.fault_syntax.specs.declared.words.Form.TheVariants.{Single}
 use Rattle.fault_syntax.specs.Places.{start, step, value, rest, in_prim}
 use Rattle.fault_syntax.specs.PrimText.{PrimParts, PrimText}
 use Rattle.fault_syntax.proofs.OneOutcome.{unexpected_parts, truncated_parts, prim_one}
 use Rattle.fault_syntax.proofs.PlaceLaws.{follows, Alone, alone_is}
 
-pub alone_exact : (b : List ℕ) → are_bytes b ≡ true → IsExact Alone b (scan (step false) (value false) b start 0)
-alone_exact b w = scan_exact (step false) (value false) (rest false) (λ s. Unit {0}) (follows false) Alone start tt alone_is b w
+pub alone_exact : (b : List ℕ) → IsExact Alone b (scan (step Single) (value Single) b start 0)
+alone_exact b = scan_exact (step Single) (value Single) (rest Single) (λ s. Unit {0}) (follows Single) Alone start tt alone_is b
 
 -- what the outcome gives is what the bytes are read as
 refusal_reads : (b : List ℕ) (text : PrimParts) (f : FaultFault) → PrimText b text → RefusesAt 1 text f → ReadsPrim b (Err f)
@@ -39,30 +39,30 @@ given_reads b (read (Some (OnePrimitive text))) (Ok p) x g = (text, (x.reads (So
 given_reads b (read (Some (OnePrimitive text))) (Err f) x g = refusal_reads b text f ((x.reads (Some (OnePrimitive text))).0 refl) g
 
 -- what a reader's answer says of its bytes, both ways
-pub reads : (b : List ℕ) (r : Result Primitive FaultFault) → are_bytes b ≡ true → GivesPrim (scan (step false) (value false) b start 0) r
+pub reads : (b : List ℕ) (r : Result Primitive FaultFault) → GivesPrim (scan (step Single) (value Single) b start 0) r
     → (q : Result Primitive FaultFault) → (r ≡ q) ↔ ReadsPrim b q
-reads b r w g q =
-    let x = given_reads b (scan (step false) (value false) b start 0) r (alone_exact b w) g in
+reads b r g q =
+    let x = given_reads b (scan (step Single) (value Single) b start 0) r (alone_exact b) g in
     (λ e. subst (ReadsPrim b) e x, λ h. prim_one b r q x h)
 
 -- what is read is a primitive
-no_other : (b : List ℕ) (v : Option Item) → are_bytes b ≡ true → scan (step false) (value false) b start 0 ≡ read v → in_prim (λ p. Unit {0}) v
-no_other b v w e = go v (((alone_exact b w).reads v).0 e)
+no_other : (b : List ℕ) (v : Option Item) → scan (step Single) (value Single) b start 0 ≡ read v → in_prim (λ p. Unit {0}) v
+no_other b v e = go v (((alone_exact b).reads v).0 e)
   where
     go : (v : Option Item) → Alone b v → in_prim (λ p. Unit {0}) v
     go None h = h
     go (Some (OnePrimitive p)) h = tt
     go (Some (Named n)) h = h
 
-pub is_primitive : (b : List ℕ) (item : ReadItem) → are_bytes b ≡ true → Ok item ≡ answer_of (scan (step false) (value false) b start 0) → (parts : ReadParts) × (item ≡ ReadPrimitive parts)
-is_primitive b item w e = go (scan (step false) (value false) b start 0) refl e
+pub is_primitive : (b : List ℕ) (item : ReadItem) → Ok item ≡ answer_of (scan (step Single) (value Single) b start 0) → (parts : ReadParts) × (item ≡ ReadPrimitive parts)
+is_primitive b item e = go (scan (step Single) (value Single) b start 0) refl e
   where
     item_is : (x y : ReadItem) → (let r : Result ReadItem Refusal = Ok x in r ≡ Ok y) → x ≡ y
     item_is x y e = cc
 
-    go : (o : Outcome (Option Item)) → scan (step false) (value false) b start 0 ≡ o → Ok item ≡ answer_of o → (parts : ReadParts) × (item ≡ ReadPrimitive parts)
+    go : (o : Outcome (Option Item)) → scan (step Single) (value Single) b start 0 ≡ o → Ok item ≡ answer_of o → (parts : ReadParts) × (item ≡ ReadPrimitive parts)
     go (unexpected k) f e = cc
     go truncated f e = cc
-    go (read None) f e = absurd (no_other b None w f)
-    go (read (Some (Named n))) f e = absurd (no_other b (Some (Named n)) w f)
+    go (read None) f e = absurd (no_other b None f)
+    go (read (Some (Named n))) f e = absurd (no_other b (Some (Named n)) f)
     go (read (Some (OnePrimitive p))) f e = (read_parts_of p, item_is item (ReadPrimitive (read_parts_of p)) e)

@@ -57,11 +57,11 @@ senses_on : (a : Option Sense) (s : Sense) (K : List ℕ → Type 0) (r : List �
 senses_on None s K r h = sense_on s K r h
 senses_on (Some a) s K r h = subst (senses (Some (written a)) (written s) K) (sym (append_assoc (sense_text a) (59 ∷ []) (sense_text s ++ r))) (sense_on a (ws (word (59 ∷ []) (ws (sense (written s) K)))) (59 ∷ (sense_text s ++ r)) (inl (many_none is_blank (sense (written s) K) (sense_text s ++ r) (sense_on s K r h))))
 
-effect_on : (p : Primitive) (K : List ℕ → Type 0) → K [] → effect (parts p) K (47 ∷ (bit_text p.after ++ (47 ∷ (answer_text p.answer ++ (62 ∷ [])))))
+pub effect_on : (p : PrimParts) (K : List ℕ → Type 0) → K [] → effect p K (47 ∷ (bit_text p.after ++ (47 ∷ (answer_text p.answer ++ (62 ∷ [])))))
 effect_on p K h = inl (many_none is_blank (word (bit_text p.after) (ws (word (47 ∷ []) (ws (word (answer_text p.answer) (ws (word (62 ∷ []) K))))))) (bit_text p.after ++ (47 ∷ (answer_text p.answer ++ (62 ∷ [])))) (word_on (bit_text p.after) (ws (word (47 ∷ []) (ws (word (answer_text p.answer) (ws (word (62 ∷ []) K)))))) (47 ∷ (answer_text p.answer ++ (62 ∷ []))) (inl (many_none is_blank (word (answer_text p.answer) (ws (word (62 ∷ []) K))) (answer_text p.answer ++ (62 ∷ [])) (word_on (answer_text p.answer) (ws (word (62 ∷ []) K)) (62 ∷ []) (inl h))))))
 
 printed_is : (p : Primitive) → printed p ≡ 60 ∷ (aggressor_text p.agg ++ (sense_text p.vic ++ (47 ∷ (bit_text p.after ++ (47 ∷ (answer_text p.answer ++ (62 ∷ [])))))))
 printed_is p = simp append_assoc
 
 pub printed_text : (p : Primitive) → PrimText (printed p) (parts p)
-printed_text p = subst (λ b. PrimText b (parts p)) (sym (printed_is p)) (inl (many_none is_blank (senses (written_agg p.agg) (written p.vic) (effect (parts p) (ws finish))) (aggressor_text p.agg ++ (sense_text p.vic ++ (47 ∷ (bit_text p.after ++ (47 ∷ (answer_text p.answer ++ (62 ∷ []))))))) (senses_on p.agg p.vic (effect (parts p) (ws finish)) (47 ∷ (bit_text p.after ++ (47 ∷ (answer_text p.answer ++ (62 ∷ []))))) (effect_on p (ws finish) tt))))
+printed_text p = subst (λ b. PrimText b (parts p)) (sym (printed_is p)) (inl (many_none is_blank (senses (written_agg p.agg) (written p.vic) (effect (parts p) (ws finish))) (aggressor_text p.agg ++ (sense_text p.vic ++ (47 ∷ (bit_text p.after ++ (47 ∷ (answer_text p.answer ++ (62 ∷ []))))))) (senses_on p.agg p.vic (effect (parts p) (ws finish)) (47 ∷ (bit_text p.after ++ (47 ∷ (answer_text p.answer ++ (62 ∷ []))))) (effect_on (parts p) (ws finish) tt))))

@@ -1,4 +1,5 @@
 pub mod PrimText
+pub mod Names
 pub mod ListText
 pub mod Places
 pub mod Parts
@@ -7,4 +8,4 @@ pub mod Answers
 pub mod Printed
 pub mod LineByLine
 pub mod Lists
-pub mod Adding
+pub mod LineReading

@@ -1,16 +1,11 @@
 -- What the lines of a fault list bring, and the first line that is refused.
 use Rattle.std.specs.Prelude.{Result, ℕ, List}
-use Rattle.bist_text.specs.Lines.{TextLine}
 use Rattle.fault_core.specs.Primitive.{Primitive}
 use Rattle.fault_syntax.specs.declared.fault.FaultFault.{FaultFault}
 use Rattle.fault_syntax.specs.Answers.{RefusesAt}
-use Rattle.fault_syntax.specs.LineByLine.{IsFaultOn, ReadsLines}
+use Rattle.fault_syntax.specs.LineByLine.{ReadsLines}
 use Rattle.fault_syntax.specs.ListText.{Primitive as OnePrimitive, LineText}
 use Rattle.fault_syntax.specs.Parts.{Brings}
-
--- why a line isn't read
-abbrev pub IsLineFault : TextLine → FaultFault → Type 0
-IsLineFault l fault = IsFaultOn LineText OnePrimitive RefusesAt l fault
 
 -- what the bytes of a list are read as
 abbrev pub ReadsList : List ℕ → Result (List Primitive) FaultFault → Type 0

@@ -10,7 +10,7 @@ use Rattle.fault_core.specs.Table.{members_of, one_cell_table, two_cell_table}
 use Rattle.fault_syntax.specs.declared.words.Operation.{Operation}
 use Rattle.fault_syntax.specs.declared.words.Operation.TheVariants.{Write, Read, Pause}
 use Rattle.fault_syntax.specs.declared.words.Name.{Name}
-use Rattle.fault_syntax.specs.declared.words.Name.TheVariants.{OfClass, One, Two, All}
+use Rattle.fault_syntax.specs.declared.words.Name.TheVariants.{OfClass, One, Two, All, DynOne, DynTwo}
 use Rattle.fault_syntax.specs.ListText.{Item, Primitive as OnePrimitive, Named}
 use Rattle.fault_syntax.specs.PrimText.{SenseText, PrimParts}
 
@@ -59,12 +59,14 @@ abbrev pub Judges : PrimParts → Result Primitive PrimFault → Type 0
 Judges text (Ok p) = StandsFor text p × IsPrimitive p
 Judges text (Err fault) = Refuses text fault
 
--- the primitives of a name, in their order
+-- the static primitives of a name, in their order
 abbrev pub primitives_of : Name → List Primitive
 primitives_of (OfClass class) = members_of class
 primitives_of One = one_cell_table
 primitives_of Two = two_cell_table
 primitives_of All = one_cell_table ++ two_cell_table
+primitives_of DynOne = []
+primitives_of DynTwo = []
 
 -- the primitives that an item brings
 abbrev pub Brings : Option Item → List Primitive → Type 0

@@ -1,18 +1,18 @@
 -- For proofs and private contracts alone: what a reader of primitives and list lines does at each byte, and what may still follow where it stands.
-use Rattle.std.specs.Prelude.{◌≡◌, ℕ, ◌&&◌, ◌==◌, Bool, true, false, not, List, [], ◌∷◌, ◌++◌, ◌⊎◌, Option, Some, None, is_some, option_map, if◌then◌else◌, map, codes}
+use Rattle.std.specs.Prelude.{◌≡◌, ℕ, ◌&&◌, ◌==◌, Bool, true, false, not, List, [], ◌∷◌, ◌++◌, Option, Some, None, is_some, option_map, if◌then◌else◌, codes}
 use Rattle.bist_text.specs.Grammar.{finish, word, is_blank}
 use Rattle.bist_text.specs.Machine.{Grows}
-use Rattle.fault_core.specs.declared.table.Class.TheVariants.{SF, TF, WDF, RDF, DRDF, IRF, CFst, CFds, CFtr, CFwd, CFrd, CFdr, CFir, DRF}
+use Rattle.bist_text.specs.declared.keywords.Spelled.{Spelled}
+use Rattle.bist_text.specs.declared.keywords.Spelled.TheVariants.{More, Whole}
+use Rattle.bist_text.specs.Keywords.{stands, letters_of, seek, spell}
 use Rattle.fault_syntax.specs.declared.place.Access.{Access}
 use Rattle.fault_syntax.specs.declared.place.Access.TheVariants.{Writes, Reads}
 use Rattle.fault_syntax.specs.declared.words.Operation.{Operation}
 use Rattle.fault_syntax.specs.declared.words.Operation.TheVariants.{Write, Read, Pause}
+use Rattle.fault_syntax.specs.declared.words.Form.{Form}
+use Rattle.fault_syntax.specs.declared.words.Form.TheVariants.{Single, Listed}
 use Rattle.fault_syntax.specs.declared.words.Name.{Name}
-use Rattle.fault_syntax.specs.declared.words.Name.TheVariants.{OfClass, One, Two, All}
-use Rattle.fault_syntax.specs.declared.place.Part.{Part}
-use Rattle.fault_syntax.specs.declared.place.Part.TheVariants.{Begin, S, T, W, WD, R, RD, D, DR, DRD, I, IR, C, CF, CFs, CFd, CFt, CFw, CFr, CFi, LetterO, LettersOn, LetterT, LettersTw, LetterA, LettersAl}
-use Rattle.fault_syntax.specs.declared.place.Spelled.{Spelled}
-use Rattle.fault_syntax.specs.declared.place.Spelled.TheVariants.{More, Whole}
+use Rattle.fault_syntax.specs.Names.{words_of}
 use Rattle.fault_syntax.specs.declared.place.Place.{Place}
 use Rattle.fault_syntax.specs.declared.place.Place.TheVariants.{Start, Spelling, Opened, Lead, Sensed, Digit, Effect, Left, Reply, Replied, Closed, Comment}
 use Rattle.fault_syntax.specs.declared.place.Event.{Event}
@@ -20,53 +20,27 @@ use Rattle.fault_syntax.specs.declared.place.Event.TheVariants.{Quiet, Opens, Ho
 use Rattle.fault_syntax.specs.declared.place.Kind.{Kind}
 use Rattle.fault_syntax.specs.declared.place.Kind.TheVariants.{NoItem, IsPrimitive, IsNamed}
 use Rattle.fault_syntax.specs.declared.place.Move.{Move}
-use Rattle.fault_syntax.specs.ListText.{Item, Primitive, Named, name_text, anything, line_end, item}
+use Rattle.fault_syntax.specs.ListText.{Item, Primitive, Named, anything, line_end}
 use Rattle.fault_syntax.specs.PrimText.{SenseText, PrimParts, ws, bit_text, answer_text, more_ops, sense, effect, prim}
 
 -- ---- what a reader does
 
-abbrev pub spell : Part → ℕ → Option Spelled
-spell Begin c =
-    if c == 83 then Some (More S) else if c == 84 then Some (More T) else if c == 87 then Some (More W)
-    else if c == 82 then Some (More R) else if c == 68 then Some (More D) else if c == 73 then Some (More I)
-    else if c == 67 then Some (More C) else if c == 111 then Some (More LetterO)
-    else if c == 116 then Some (More LetterT) else if c == 97 then Some (More LetterA) else None
-spell S c = if c == 70 then Some (Whole (OfClass SF)) else None
-spell T c = if c == 70 then Some (Whole (OfClass TF)) else None
-spell W c = if c == 68 then Some (More WD) else None
-spell WD c = if c == 70 then Some (Whole (OfClass WDF)) else None
-spell R c = if c == 68 then Some (More RD) else None
-spell RD c = if c == 70 then Some (Whole (OfClass RDF)) else None
-spell D c = if c == 82 then Some (More DR) else None
-spell DR c = if c == 68 then Some (More DRD) else if c == 70 then Some (Whole (OfClass DRF)) else None
-spell DRD c = if c == 70 then Some (Whole (OfClass DRDF)) else None
-spell I c = if c == 82 then Some (More IR) else None
-spell IR c = if c == 70 then Some (Whole (OfClass IRF)) else None
-spell C c = if c == 70 then Some (More CF) else None
-spell CF c =
-    if c == 115 then Some (More CFs) else if c == 100 then Some (More CFd) else if c == 116 then Some (More CFt)
-    else if c == 119 then Some (More CFw) else if c == 114 then Some (More CFr)
-    else if c == 105 then Some (More CFi) else None
-spell CFs c = if c == 116 then Some (Whole (OfClass CFst)) else None
-spell CFd c = if c == 115 then Some (Whole (OfClass CFds)) else if c == 114 then Some (Whole (OfClass CFdr)) else None
-spell CFt c = if c == 114 then Some (Whole (OfClass CFtr)) else None
-spell CFw c = if c == 100 then Some (Whole (OfClass CFwd)) else None
-spell CFr c = if c == 100 then Some (Whole (OfClass CFrd)) else None
-spell CFi c = if c == 114 then Some (Whole (OfClass CFir)) else None
-spell LetterO c = if c == 110 then Some (More LettersOn) else None
-spell LettersOn c = if c == 101 then Some (Whole One) else None
-spell LetterT c = if c == 119 then Some (More LettersTw) else None
-spell LettersTw c = if c == 111 then Some (Whole Two) else None
-spell LetterA c = if c == 108 then Some (More LettersAl) else None
-spell LettersAl c = if c == 108 then Some (Whole All) else None
-
 abbrev pub to : Place → Event → Option Move
 to p e = Some (record { place = p; event = e })
 
-abbrev pub spelling : Option Spelled → Option Move
+abbrev pub spelling : Option (Spelled Name) → Option Move
 spelling None = None
 spelling (Some (More q)) = to (Spelling q) Quiet
 spelling (Some (Whole n)) = to Closed (Names n)
+
+-- a comment or a name begins, where there may be one
+abbrev pub named_at : Form → ℕ → Option Move
+named_at Single c = None
+named_at (Listed set) c = if c == 35 then to Comment Nothing else spelling (seek [] c 0 (words_of (Listed set)))
+
+abbrev pub comment_at : Form → ℕ → Option Move
+comment_at Single c = None
+comment_at (Listed set) c = if c == 35 then to Comment Quiet else None
 
 -- the bit that a digit writes
 abbrev pub bit_of : ℕ → Option Bool
@@ -77,11 +51,10 @@ operation Writes d = Write d
 operation Reads d = Read d
 
 -- what a byte does at a place: in a list's line or in a primitive's text, and with an aggressor or not yet
-abbrev pub move_at : Place → Bool → Bool → ℕ → Option Move
+abbrev pub move_at : Place → Form → Bool → ℕ → Option Move
 move_at Start l g c =
-    if is_blank c then to Start Quiet else if c == 60 then to Opened Opens
-    else if l then (if c == 35 then to Comment Nothing else spelling (spell Begin c)) else None
-move_at (Spelling q) l g c = spelling (spell q c)
+    if is_blank c then to Start Quiet else if c == 60 then to Opened Opens else named_at l c
+move_at (Spelling q) l g c = spelling (spell (words_of l) q c)
 move_at Opened l g c =
     if is_blank c then to Opened Quiet else if c == 48 then to Sensed (Holds false)
     else if c == 49 then to Sensed (Holds true) else if c == 114 then to Lead Quiet else None
@@ -102,12 +75,13 @@ move_at Reply l g c =
     else if c == 48 then to Replied (Answers (Some false))
     else if c == 49 then to Replied (Answers (Some true)) else None
 move_at Replied l g c = if is_blank c then to Replied Quiet else if c == 62 then to Closed Closes else None
-move_at Closed l g c = if is_blank c then to Closed Quiet else if l then (if c == 35 then to Comment Quiet else None) else None
+move_at Closed l g c = if is_blank c then to Closed Quiet else comment_at l c
 move_at Comment l g c = to Comment Quiet
 
 -- whether a text may end at a place
-abbrev pub may_end : Place → Bool → Bool
-may_end Start l = l
+abbrev pub may_end : Place → Form → Bool
+may_end Start Single = false
+may_end Start (Listed set) = true
 may_end Closed l = true
 may_end Comment l = true
 may_end _ l = false
@@ -141,10 +115,10 @@ after_event Nothing s = record s { kind = NoItem }
 abbrev pub moved : State → Move → State
 moved s m = after_event m.event (record s { place = m.place })
 
-abbrev pub step_at : Bool → Place → State → ℕ → Option State
+abbrev pub step_at : Form → Place → State → ℕ → Option State
 step_at l p s c = option_map (moved s) (move_at p l (is_some s.agg) c)
 
-abbrev pub step : Bool → State → ℕ → Option State
+abbrev pub step : Form → State → ℕ → Option State
 step l s c = step_at l s.place s c
 
 -- the parts of the primitive that was read
@@ -163,67 +137,24 @@ kind_at _ k = k
 abbrev pub item_at : Place → State → Option Item
 item_at p s = item_of (kind_at p s.kind) (parts_of s)
 
-abbrev pub value : Bool → State → Option (Option Item)
+abbrev pub value : Form → State → Option (Option Item)
 value l s = if may_end s.place l then Some (item_at s.place s) else None
 
 -- ---- what may follow
 
-abbrev pub names : List Name
-names =
-    OfClass SF ∷ OfClass TF ∷ OfClass WDF ∷ OfClass RDF ∷ OfClass DRDF ∷ OfClass IRF ∷ OfClass CFst ∷ OfClass CFds
-    ∷ OfClass CFtr ∷ OfClass CFwd ∷ OfClass CFrd ∷ OfClass CFdr ∷ OfClass CFir ∷ OfClass DRF ∷ One ∷ Two ∷ All ∷ []
-
--- the names that may come of a part, each with its other letters
-abbrev pub left : Part → List (Name × List ℕ)
-left Begin = map (λ n. (n, name_text n)) names
-left S = (OfClass SF, codes "F") ∷ []
-left T = (OfClass TF, codes "F") ∷ []
-left W = (OfClass WDF, codes "DF") ∷ []
-left WD = (OfClass WDF, codes "F") ∷ []
-left R = (OfClass RDF, codes "DF") ∷ []
-left RD = (OfClass RDF, codes "F") ∷ []
-left D = (OfClass DRDF, codes "RDF") ∷ (OfClass DRF, codes "RF") ∷ []
-left DR = (OfClass DRDF, codes "DF") ∷ (OfClass DRF, codes "F") ∷ []
-left DRD = (OfClass DRDF, codes "F") ∷ []
-left I = (OfClass IRF, codes "RF") ∷ []
-left IR = (OfClass IRF, codes "F") ∷ []
-left C =
-    (OfClass CFst, codes "Fst") ∷ (OfClass CFds, codes "Fds") ∷ (OfClass CFtr, codes "Ftr")
-    ∷ (OfClass CFwd, codes "Fwd") ∷ (OfClass CFrd, codes "Frd") ∷ (OfClass CFdr, codes "Fdr")
-    ∷ (OfClass CFir, codes "Fir") ∷ []
-left CF =
-    (OfClass CFst, codes "st") ∷ (OfClass CFds, codes "ds") ∷ (OfClass CFtr, codes "tr") ∷ (OfClass CFwd, codes "wd")
-    ∷ (OfClass CFrd, codes "rd") ∷ (OfClass CFdr, codes "dr") ∷ (OfClass CFir, codes "ir") ∷ []
-left CFs = (OfClass CFst, codes "t") ∷ []
-left CFd = (OfClass CFds, codes "s") ∷ (OfClass CFdr, codes "r") ∷ []
-left CFt = (OfClass CFtr, codes "r") ∷ []
-left CFw = (OfClass CFwd, codes "d") ∷ []
-left CFr = (OfClass CFrd, codes "d") ∷ []
-left CFi = (OfClass CFir, codes "r") ∷ []
-left LetterO = (One, codes "ne") ∷ []
-left LettersOn = (One, codes "e") ∷ []
-left LetterT = (Two, codes "wo") ∷ []
-left LettersTw = (Two, codes "o") ∷ []
-left LetterA = (All, codes "ll") ∷ []
-left LettersAl = (All, codes "l") ∷ []
-
--- one of these names, by its other letters
-abbrev pub among : List (Name × List ℕ) → Name → (List ℕ → Type 0) → List ℕ → Type 0
-among [] n K b = ⊥
-among (x ∷ xs) n K b = ((n ≡ x.0) × word x.1 K b) ⊎ among xs n K b
-
 -- the end of a line or of a primitive's text
-abbrev pub ending : Bool → List ℕ → Type 0
-ending true = line_end
-ending false = finish
+abbrev pub ending : Form → List ℕ → Type 0
+ending Single = finish
+ending (Listed set) = line_end
 
 -- a line's item, or the primitive alone
-abbrev pub begins : Bool → Option Item → List ℕ → Type 0
-begins true None = line_end
-begins true (Some i) = item i (ws line_end)
-begins false None = λ b. ⊥
-begins false (Some (Primitive p)) = prim p (ws finish)
-begins false (Some (Named n)) = λ b. ⊥
+abbrev pub begins : Form → Option Item → List ℕ → Type 0
+begins (Listed set) None = line_end
+begins (Listed set) (Some (Primitive p)) = prim p (ws line_end)
+begins (Listed set) (Some (Named n)) = stands (words_of (Listed set)) n (ws line_end)
+begins Single None = λ b. ⊥
+begins Single (Some (Primitive p)) = prim p (ws finish)
+begins Single (Some (Named n)) = λ b. ⊥
 
 abbrev pub in_prim : (PrimParts → Type 0) → Option Item → Type 0
 in_prim P None = ⊥
@@ -275,9 +206,9 @@ answer_left p K = ws (word (answer_text p.answer) (ws (word (codes ">") K)))
 abbrev pub effect_left : PrimParts → (List ℕ → Type 0) → List ℕ → Type 0
 effect_left p K = ws (word (bit_text p.after) (ws (word (codes "/") (answer_left p K))))
 
-abbrev pub left_at : Bool → Place → State → Option Item → List ℕ → Type 0
+abbrev pub left_at : Form → Place → State → Option Item → List ℕ → Type 0
 left_at l Start s v b = ws (begins l v) b
-left_at l (Spelling q) s v b = in_name (λ n. among (left q) n (ws (ending l)) b) v
+left_at l (Spelling q) s v b = in_name (λ n. stands (words_of l) n (ws (ending l)) (letters_of (words_of l) q ++ b)) v
 left_at l Opened s v b = in_prim (λ p. the_sense s.agg p (ws (ending l)) (λ t L. ws (sense t L) b)) v
 left_at l Lead s v b = in_prim (λ p. the_sense s.agg p (ws (ending l)) (λ t L. lead_left t.state t.ops L b)) v
 left_at l Sensed s v b = in_prim (λ p. the_sense s.agg p (ws (ending l)) (λ t L. begun s.sense t (λ os. more_ops os L b))) v
@@ -289,44 +220,10 @@ left_at l Replied s v b = in_prim (λ p. (p.agg ≡ s.agg) × (p.vic ≡ s.sense
 left_at l Closed s v b = (v ≡ item_of s.kind (parts_of s)) × ws (ending l) b
 left_at l Comment s v b = (v ≡ item_of s.kind (parts_of s)) × anything b
 
-abbrev pub rest : Bool → State → List ℕ → Option Item → Type 0
+abbrev pub rest : Form → State → List ℕ → Option Item → Type 0
 rest l s b v = left_at l s.place s v b
 
 -- ---- groups of places
-
-abbrev pub IsOfOneCell : Part → Type 0
-IsOfOneCell S = Unit {0}
-IsOfOneCell T = Unit {0}
-IsOfOneCell W = Unit {0}
-IsOfOneCell WD = Unit {0}
-IsOfOneCell R = Unit {0}
-IsOfOneCell RD = Unit {0}
-IsOfOneCell D = Unit {0}
-IsOfOneCell DR = Unit {0}
-IsOfOneCell DRD = Unit {0}
-IsOfOneCell I = Unit {0}
-IsOfOneCell IR = Unit {0}
-IsOfOneCell C = Unit {0}
-IsOfOneCell _ = ⊥
-
-abbrev pub IsCoupling : Part → Type 0
-IsCoupling CF = Unit {0}
-IsCoupling CFs = Unit {0}
-IsCoupling CFd = Unit {0}
-IsCoupling CFt = Unit {0}
-IsCoupling CFw = Unit {0}
-IsCoupling CFr = Unit {0}
-IsCoupling CFi = Unit {0}
-IsCoupling _ = ⊥
-
-abbrev pub IsWord : Part → Type 0
-IsWord LetterO = Unit {0}
-IsWord LettersOn = Unit {0}
-IsWord LetterT = Unit {0}
-IsWord LettersTw = Unit {0}
-IsWord LetterA = Unit {0}
-IsWord LettersAl = Unit {0}
-IsWord _ = ⊥
 
 abbrev pub IsOutside : Place → Type 0
 IsOutside Start = Unit {0}

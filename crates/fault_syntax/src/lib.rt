@@ -1,9 +1,9 @@
-//! The texts of fault primitives and of fault lists: how they are read, and how a primitive is printed.
+//! The texts of fault primitives and of the lines of fault lists: how they are read, and how a primitive is printed.
 #![tactic(auto)]
 
 mod fault;
 mod judge;
-mod list;
+mod line;
 mod place;
 mod prim;
 mod print;
@@ -12,8 +12,8 @@ mod words;
 
 pub use fault::FaultFault;
 pub use judge::{act_of, judge as judge_parts};
-pub use list::{line_item, read_list};
+pub use line::read_line;
 pub use prim::read_prim;
 pub use print::{answer, bit, print_prim, push_act};
-pub use reader::{Brief, ReadItem, ReadParts, Refusal};
-pub use words::{Name, Operation};
+pub use reader::{Brief, ReadItem, ReadParts};
+pub use words::{Name, NameSet, Operation, class_name};

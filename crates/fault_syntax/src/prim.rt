@@ -9,6 +9,7 @@ ghost use Rattle.fault_syntax.specs.PrimText.{PrimParts, PrimText};
 use crate::fault::FaultFault;
 use crate::judge::judge;
 use crate::reader::{ReadItem, ReadParts, Refusal, read_item};
+use crate::words::Form;
 use fault_core::{Prim, PrimFault};
 
 fn at_line(fault: PrimFault, line: usize) -> FaultFault
@@ -31,9 +32,9 @@ pub(crate) fn judge_at(parts: ReadParts, line: usize) -> Result<Prim, FaultFault
 }
 
 fn scanned(bytes: &[u8]) -> Result<Prim, FaultFault>
-    ensures { GivesPrim (scan (step false) (value false) bytes.now start 0) result }
+    ensures { GivesPrim (scan (step Form.Single) (value Form.Single) bytes.now start 0) result }
 {
-    match read_item(bytes, false) {
+    match read_item(bytes, Form::Single) {
         Ok(item) => match item {
             ReadItem::Primitive(parts) => judge_at(parts, 1),
             ReadItem::Nothing => unreachable!(),

@@ -5,7 +5,7 @@ ghost use Rattle.fault_syntax.specs.PrimText.{SenseText};
 ghost use Rattle.fault_syntax.specs.Places.{State, start, step, value, after_event, item_at};
 
 use crate::place::{Event, Kind, Place, is_end, next_move};
-use crate::words::{Name, Operation};
+use crate::words::{Form, Name, Operation};
 
 /// What is kept of a written sense: of its operations the first two, and whether there are more.
 #[derive(Clone, Copy)]
@@ -46,7 +46,7 @@ pub enum ReadItem {
 
 /// Why a text is refused, with the byte.
 #[derive(Clone, Copy)]
-pub enum Refusal {
+pub(crate) enum Refusal {
     Unexpected(usize),
     Truncated,
 }
@@ -148,10 +148,10 @@ impl Reader {
     }
 
     /// Goes on by a byte; None where nothing can go on by it.
-    fn next(self, listed: bool, byte: u8) -> Option<Reader>
-        ensures { (s : State) → self ≡ reader_of s → result ≡ option_map reader_of (step listed s byte) }
+    fn next(self, form: Form, byte: u8) -> Option<Reader>
+        ensures { (s : State) → self ≡ reader_of s → result ≡ option_map reader_of (step form s byte) }
     {
-        let next = next_move(self.place, listed, self.agg.is_some(), byte)?;
+        let next = next_move(self.place, form, self.agg.is_some(), byte)?;
         let moved = Reader {
             place: next.place,
             ..self
@@ -177,17 +177,17 @@ impl Reader {
 }
 
 /// Reads a line of a list, or the text of a primitive alone.
-pub(crate) fn read_item(text: &[u8], listed: bool) -> Result<ReadItem, Refusal>
-    ensures { result ≡ answer_of (scan (step listed) (value listed) text.now start 0) }
+pub(crate) fn read_item(text: &[u8], form: Form) -> Result<ReadItem, Refusal>
+    ensures { result ≡ answer_of (scan (step form) (value form) text.now start 0) }
 {
     let mut reader = Reader::new();
     for (i, byte) in text.iter().enumerate() {
-        match reader.next(listed, *byte) {
+        match reader.next(form, *byte) {
             Some(next) => reader = next,
             None => return Err(Refusal::Unexpected(i)),
         }
     }
-    if !is_end(reader.place, listed) {
+    if !is_end(reader.place, form) {
         return Err(Refusal::Truncated);
     }
     Ok(reader.item())

@@ -1,3 +1,8 @@
+ghost use Rattle.std.specs.Prelude.{◌≡◌, map};
+ghost use Rattle.bist_text.specs.Keywords.{word_of};
+ghost use Rattle.fault_syntax.specs.Names.{class_text, words_of};
+
+use bist_text::Keyword;
 use fault_core::Class;
 
 /// An operation of a sense as it is written: `w`, `r` with a digit, or `t`, a pause.
@@ -15,4 +20,78 @@ pub enum Name {
     One,
     Two,
     All,
+    /// `dyn1`: the dynamic primitives of one cell.
+    DynOne,
+    /// `dyn2`: the dynamic primitives of two.
+    DynTwo,
+}
+
+/// Which names a list may have.
+#[derive(Clone, Copy)]
+pub enum NameSet {
+    /// Those of static primitives.
+    Static,
+    Every,
+}
+
+/// What is read: a primitive alone, or a line of a list with these names.
+#[derive(Clone, Copy)]
+pub(crate) enum Form {
+    Single,
+    Listed(NameSet),
+}
+
+/// The words of a list, those of static primitives first.
+static WORDS: [Keyword<Name>; 19] = [
+    Keyword("SF", Name::OfClass(Class::SF)),
+    Keyword("TF", Name::OfClass(Class::TF)),
+    Keyword("WDF", Name::OfClass(Class::WDF)),
+    Keyword("RDF", Name::OfClass(Class::RDF)),
+    Keyword("DRDF", Name::OfClass(Class::DRDF)),
+    Keyword("IRF", Name::OfClass(Class::IRF)),
+    Keyword("CFst", Name::OfClass(Class::CFst)),
+    Keyword("CFds", Name::OfClass(Class::CFds)),
+    Keyword("CFtr", Name::OfClass(Class::CFtr)),
+    Keyword("CFwd", Name::OfClass(Class::CFwd)),
+    Keyword("CFrd", Name::OfClass(Class::CFrd)),
+    Keyword("CFdr", Name::OfClass(Class::CFdr)),
+    Keyword("CFir", Name::OfClass(Class::CFir)),
+    Keyword("DRF", Name::OfClass(Class::DRF)),
+    Keyword("one", Name::One),
+    Keyword("two", Name::Two),
+    Keyword("all", Name::All),
+    Keyword("dyn1", Name::DynOne),
+    Keyword("dyn2", Name::DynTwo),
+];
+
+/// The words that may stand in a form.
+pub(crate) fn words_of(form: Form) -> &'static [Keyword<Name>]
+    ensures { map word_of result.now ≡ words_of form }
+{
+    match form {
+        Form::Listed(NameSet::Every) => &WORDS,
+        _ => &WORDS[..17],
+    }
+}
+
+/// The name of a class, in lists and reports.
+pub fn class_name(class: Class) -> &'static str
+    ensures { result.now ≡ class_text class }
+{
+    match class {
+        Class::SF => "SF",
+        Class::TF => "TF",
+        Class::WDF => "WDF",
+        Class::RDF => "RDF",
+        Class::DRDF => "DRDF",
+        Class::IRF => "IRF",
+        Class::CFst => "CFst",
+        Class::CFds => "CFds",
+        Class::CFtr => "CFtr",
+        Class::CFwd => "CFwd",
+        Class::CFrd => "CFrd",
+        Class::CFdr => "CFdr",
+        Class::CFir => "CFir",
+        Class::DRF => "DRF",
+    }
 }

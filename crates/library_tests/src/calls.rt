@@ -4,7 +4,7 @@
 ghost use Rattle.std.specs.Prelude.{◌≡◌, None, IfOk};
 ghost use Rattle.march_core.specs.Visits.{FitsWord};
 
-use array_sim::{Instance, Miss, act_of, address_of, is_wrong, simulate};
+use array_sim::{Instance, act_of, simulate};
 use arrayvec::ArrayString;
 use backgrounds::{log_set, separates, word_of};
 use bist_bits::{Bits, NoMemory, all_ones, concat, parity, select, width_of};
@@ -15,7 +15,7 @@ use fault_core::{
     Act, Class, Places, Prim, PrimFault, Sense, class_of, close_cells, do_plainly, is_same_act,
     members, one_cell, step, two_cell,
 };
-use march_core::{March, MarchBuilder, MarchFault, Op, Order, is_down};
+use march_core::{March, MarchBuilder, MarchFault, Miss, Op, Order, address_of, is_down, is_wrong};
 use march_syntax::read_march;
 use memory_desc::{Memory, read_memory};
 use pair_tracker::{Placement, Survivor, survivors};

@@ -3,11 +3,10 @@
 ghost use Rattle.std.specs.Prelude.{◌≡◌, ◌<◌, None, IfOk};
 ghost use Rattle.march_core.specs.Visits.{FitsWord};
 
-use array_sim::Miss;
 use dynamic_core::{DynInstance, DynPrim, DynSense, dyn_one, dyn_two, print_dyn, simulate_dyn};
 use dynamic_prover::{DynVerdict, judge_dyn};
 use fault_core::{Act, PrimFault};
-use march_core::{March, MarchFault};
+use march_core::{March, MarchFault, Miss};
 use march_syntax::read_march;
 use std::test::Fail;
 

@@ -3,11 +3,11 @@
 ghost use Rattle.std.specs.Prelude.{◌≡◌, None, IsSome, IfOk};
 ghost use Rattle.march_core.specs.Visits.{FitsWord};
 
-use array_sim::{Instance, Miss, simulate};
+use array_sim::{Instance, simulate};
 use cell_machine::{Pair, pause};
 use coverage::{Verdict, judge_all};
 use fault_core::{Act, Prim, PrimFault, Sense, retention};
-use march_core::March;
+use march_core::{March, Miss};
 use march_syntax::read_march;
 use pair_tracker::{Placement, Summary, Survivor};
 use std::test::Fail;

@@ -4,3 +4,4 @@ pub mod Building
 pub mod Scan
 pub mod Visits
 pub mod Runs
+pub mod Addresses

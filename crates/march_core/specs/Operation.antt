@@ -18,6 +18,17 @@ expected_by W1 = None
 expected_by R0 = Some false
 expected_by R1 = Some true
 
+-- whether this is a read that got another answer than it expects
+abbrev pub is_wrong_of : Op → Option Bool → Bool
+is_wrong_of W0 answer = false
+is_wrong_of W1 answer = false
+is_wrong_of R0 (Some false) = false
+is_wrong_of R0 (Some true) = true
+is_wrong_of R0 None = true
+is_wrong_of R1 (Some true) = false
+is_wrong_of R1 (Some false) = true
+is_wrong_of R1 None = true
+
 -- none of these operations writes
 abbrev pub HasNoWrite : List Op → Type 0
 HasNoWrite ops = AllByRecursion (λ o. written_by o ≡ None) ops

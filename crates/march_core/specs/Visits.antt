@@ -4,6 +4,7 @@ use Rattle.std.specs.List.{flat_map, range_with_len}
 use Rattle.march_core.specs.declared.operation.Order.{Order}
 use Rattle.march_core.specs.declared.operation.Order.TheVariants.{Up, Down, Any}
 use Rattle.march_core.specs.declared.operation.Op.{Op}
+use Rattle.march_core.specs.declared.visit.Miss.{Miss}
 use Rattle.march_core.specs.March.{MarchElement, pause, sweep, order_of}
 
 -- the way in which an element goes over the addresses
@@ -48,6 +49,10 @@ pub record Visit : Type 0 where
   pub address : ℕ
   pub number : ℕ
   pub op : Op
+
+-- a visit as it is told, where its read differs
+abbrev pub miss_at : Visit → Miss
+miss_at v = record { element = v.element; address = v.address; op = v.number }
 
 -- the visits of an element to one cell, from this operation on
 abbrev pub cell_visits : ℕ → ℕ → ℕ → List Op → List Visit

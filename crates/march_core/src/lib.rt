@@ -7,8 +7,10 @@ mod fault;
 mod march;
 mod operation;
 mod reads;
+mod visit;
 
 pub use builder::MarchBuilder;
 pub use fault::MarchFault;
 pub use march::{March, is_down};
-pub use operation::{Op, Order};
+pub use operation::{Op, Order, is_wrong};
+pub use visit::{Miss, address_of};

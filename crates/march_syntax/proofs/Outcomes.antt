@@ -1,8 +1,7 @@
 -- From where a reader stands to what it answers.
 use Rattle.std.proofs.Common.{◌≡◌, ◌↔◌, ℕ, Bool, true, List, [], ◌∙◌, drop, Option, Some, Result, Ok, Err, refl, sym, subst, inl, inr}
-use Rattle.bist_text.specs.Grammar.{are_bytes}
 use Rattle.bist_text.specs.Machine.{Outcome, read, unexpected, truncated, scan, IsExact}
-use Rattle.bist_text.proofs.Exclusive.{scan_exact}
+use Rattle.bist_text.proofs.Settled.{scan_exact}
 use Rattle.march_core.specs.declared.fault.MarchFault.{MarchFault}
 use Rattle.march_core.specs.declared.fault.MarchFault.TheVariants.{Unexpected, Truncated, Empty, TooManyElements, TooManyOps, TooManyInAll, ReadBeforeWrite, WrongExpect}
 use Rattle.march_core.specs.March.{MarchElement, IsMarch}
@@ -28,8 +27,8 @@ module _ (b : List ℕ) (place : Place) (braced : Bool) (built : List MarchEleme
 
 -- ---- what that says of the grammar
 
-text_exact : (b : List ℕ) → are_bytes b ≡ true → IsExact MarchText b (scan step value b start 0)
-text_exact b w = scan_exact step value rest (λ s. Unit {0}) follows MarchText start tt start_is b w
+text_exact : (b : List ℕ) → IsExact MarchText b (scan step value b start 0)
+text_exact b = scan_exact step value rest (λ s. Unit {0}) follows MarchText start tt start_is b
 
 -- what the outcome gives is what the bytes are read as
 refusal_reads : (b : List ℕ) (es : List MarchElement) (f : MarchFault) → MarchText b es → Refuses es f → Reads b (Err f)
@@ -49,8 +48,8 @@ given_reads b (read es) (Ok m) x g = (subst (MarchText b) (sym g.0) ((x.reads es
 given_reads b (read es) (Err f) x g = refusal_reads b es f ((x.reads es).0 refl) g
 
 -- what a reader's answer says of its bytes, both ways
-pub reads : (b : List ℕ) (r : Result (List MarchElement) MarchFault) → are_bytes b ≡ true → Gives (scan step value b start 0) r
+pub reads : (b : List ℕ) (r : Result (List MarchElement) MarchFault) → Gives (scan step value b start 0) r
     → (q : Result (List MarchElement) MarchFault) → (r ≡ q) ↔ Reads b q
-reads b r w g q =
-    let x = given_reads b (scan step value b start 0) r (text_exact b w) g in
+reads b r g q =
+    let x = given_reads b (scan step value b start 0) r (text_exact b) g in
     (λ e. subst (Reads b) e x, λ h. reads_one b r q x h)

@@ -1,17 +1,20 @@
 -- The four laws of the reader's places: what may follow each, by the next byte.
 use Rattle.std.proofs.Common.{◌≡◌, ℕ, ◌==◌, Bool, true, false, List, [], ◌∷◌, ◌++◌, Option, Some, None, refl, ◌↔◌, ◌⊎◌, inl, inr, subst, sym, ap, ◌∙◌, ◌&&◌, append-nil, if◌then◌else◌, arith, option_map}
 use Rattle.bist_text.specs.Grammar.{finish, byte, are_bytes, Continues}
+use Rattle.bist_text.specs.declared.keywords.Letters.{Letters}
+use Rattle.bist_text.specs.declared.keywords.Spelled.{Spelled}
+use Rattle.bist_text.specs.declared.keywords.Spelled.TheVariants.{More, Whole}
+use Rattle.bist_text.specs.Keywords.{stands, letters_of, seek, spell, left}
 use Rattle.bist_text.specs.Machine.{Holds, Grows, Follows}
+use Rattle.bist_text.proofs.KeywordLaws.{first_law, spell_law, first_ends, spell_ends}
 use Rattle.bist_text.proofs.Pieces.{at_byte, also, skip, stay, neither, same, never, holds_iff, holds_never, grows_iff, grows_never, grows_from_none, Headed, grows_one, many_never, ends_none, ends_here}
 use Rattle.march_core.specs.declared.operation.Order.{Order}
 use Rattle.march_core.specs.declared.operation.Order.TheVariants.{Up}
 use Rattle.march_core.specs.declared.operation.Op.{Op}
 use Rattle.march_core.specs.declared.operation.Op.TheVariants.{W0, W1, R0, R1}
 use Rattle.march_core.specs.March.{MarchElement, pause, sweep}
-use Rattle.march_syntax.specs.declared.place.Part.{Part}
-use Rattle.march_syntax.specs.declared.place.Part.TheVariants.{Begin}
-use Rattle.march_syntax.specs.declared.place.Spelled.{Spelled}
-use Rattle.march_syntax.specs.declared.place.Spelled.TheVariants.{More, Whole, Pause}
+use Rattle.march_syntax.specs.declared.place.Mark.{Mark}
+use Rattle.march_syntax.specs.declared.place.Mark.TheVariants.{OfOrder, OfPause}
 use Rattle.march_syntax.specs.declared.place.Access.{Access}
 use Rattle.march_syntax.specs.declared.place.Access.TheVariants.{Write, Read}
 use Rattle.march_syntax.specs.declared.place.Place.{Place}
@@ -19,42 +22,45 @@ use Rattle.march_syntax.specs.declared.place.Place.TheVariants.{Start, Open, Spe
 use Rattle.march_syntax.specs.declared.place.Event.TheVariants.{Quiet, Adds}
 use Rattle.march_syntax.specs.declared.place.Move.{Move}
 use Rattle.march_syntax.specs.MarchText.{is_white, ws, more_ops, ops, body, element, more_elements, elements, close, listed, MarchText}
-use Rattle.march_syntax.specs.Places.{spell, spelled, pause_spelled, paused, State, begun, spelling, op_of, start, moved, move, step_at, step, value, may_end, digit, ops_left, in_element, in_spelling, left_at, Nothing, rest, spelled_at}
-use Rattle.march_syntax.proofs.Spelling.{spell_law, pause_law, no_part, no_pause_part, part_alive}
+use Rattle.march_syntax.specs.Places.{marks, mark_of, behind, paused, State, begun, spelling, op_of, start, moved, move, step_at, step, value, may_end, digit, ops_left, in_element, in_spelling, left_at, Nothing, rest, spelled_at}
+use Rattle.march_syntax.proofs.Spelling.{fine, element_is, part_alive}
 
--- what the next byte of a spelling leaves
-pub wants : (p : Part) (s : State) (es : List MarchElement) (c : ℕ) (b : List ℕ) → in_spelling p s es (c ∷ b) ↔ Holds (spell p c) (λ q. spelled_at q s es b)
-wants p s [] c b =
-    never (λ h. h)
-    (λ h. holds_never (spell p c) (λ q. spelled_at q s [] b) (elim [ More q ↦ λ z. z | Whole o ↦ λ z. z | Pause ↦ λ z. z ]) h)
-wants p s (pause ∷ es) c b =
-    also (pause_law p (more_elements es (ws (close s.braced))) b c)
-    (holds_iff (spell p c) (λ q. pause_spelled q (more_elements es (ws (close s.braced))) b) (λ q. spelled_at q s (pause ∷ es) b) each)
+-- what one more letter of a spelling leaves
+abbrev Spells : List ℕ → Option (Spelled Mark) → ℕ → List ℕ → Type 1
+Spells ls o c b = (m : Mark) (K : List ℕ → Type 0) → stands marks m K (ls ++ c ∷ b) ↔ Holds o (λ q. left marks q m K b)
+
+wants : (ls : List ℕ) (o : Option (Spelled Mark)) (c : ℕ) (b : List ℕ) → Spells ls o c b → (s : State) (es : List MarchElement) → in_spelling ls s es (c ∷ b) ↔ Holds o (λ q. spelled_at q s es b)
+wants ls o c b law s [] = never (λ h. h) (holds_never o (λ q. spelled_at q s [] b) none)
   where
-    each : (q : Spelled) → pause_spelled q (more_elements es (ws (close s.braced))) b ↔ spelled_at q s (pause ∷ es) b
-    each (More q) = same
-    each (Whole o) = same
-    each Pause = same
-wants p s (sweep r os ∷ es) c b =
-    also (spell_law p r (body os (more_elements es (ws (close s.braced)))) b c)
-    (holds_iff (spell p c) (λ q. spelled q r (body os (more_elements es (ws (close s.braced)))) b) (λ q. spelled_at q s (sweep r os ∷ es) b) each)
+    none : (q : Spelled Mark) → spelled_at q s [] b → ⊥
+    none (More q) h = h
+    none (Whole (OfOrder o)) h = h
+    none (Whole OfPause) h = h
+wants ls o c b law s (e ∷ es) =
+    also (law (mark_of e) (behind e (more_elements es (ws (close s.braced)))))
+    (holds_iff o (λ q. left marks q (mark_of e) (behind e (more_elements es (ws (close s.braced)))) b) (λ q. spelled_at q s (e ∷ es) b) (each e))
   where
-    each : (q : Spelled) → spelled q r (body os (more_elements es (ws (close s.braced)))) b ↔ spelled_at q s (sweep r os ∷ es) b
-    each (More q) = same
-    each (Whole o) =
-        (λ h. (h.0, (os, refl, h.1)), λ h. (h.0, (grows_from_none os (λ m. body m (more_elements es (ws (close s.braced))) b)).0 h.1))
-    each Pause = same
+    order_is : (r o : Order) → OfOrder r ≡ OfOrder o → r ≡ o
+    order_is r o e = cc
+
+    each : (e : MarchElement) (q : Spelled Mark) → left marks q (mark_of e) (behind e (more_elements es (ws (close s.braced)))) b ↔ spelled_at q s (e ∷ es) b
+    each e (More q) = same
+    each pause (Whole OfPause) = (λ h. h.1, λ h. (refl, h))
+    each pause (Whole (OfOrder o)) = never (λ h. let x : OfPause ≡ OfOrder o = h.0 in cc) (λ h. h)
+    each (sweep r os) (Whole OfPause) = never (λ h. let x : OfOrder r ≡ OfPause = h.0 in cc) (λ h. h)
+    each (sweep r os) (Whole (OfOrder o)) =
+        (λ h. (order_is r o h.0, (os, refl, h.1)), λ h. (ap OfOrder h.0, (grows_from_none os (λ m. body m (more_elements es (ws (close s.braced))) b)).0 h.1))
 
 abbrev with_braces : Bool → State → State
 with_braces t s = record s { braced = t }
 
 -- the state after a byte of a spelling
-spelling_law : (t : Bool) (s : State) (o : Option Spelled) (b : List ℕ) (v : List MarchElement)
+spelling_law : (t : Bool) (s : State) (o : Option (Spelled Mark)) (b : List ℕ) (v : List MarchElement)
     → Grows s.done v (λ es. Holds o (λ q. spelled_at q (with_braces t s) es b)) ↔ Holds (option_map (moved s) (spelling t o)) (λ z. rest z b v)
 spelling_law t s None b v = never (λ h. h.2) (λ h. h)
-spelling_law t s (Some (More p)) b v = same
-spelling_law t s (Some (Whole o)) b v = same
-spelling_law t s (Some Pause) b v =
+spelling_law t s (Some (More q)) b v = same
+spelling_law t s (Some (Whole (OfOrder o))) b v = same
+spelling_law t s (Some (Whole OfPause)) b v =
     grows_one s.done v pause (λ es. paused (with_braces t s) es b) (λ es. more_elements es (ws (close t)) b) each
   where
     each : (m : List MarchElement) → paused (with_braces t s) m b ↔ Headed pause (λ es. more_elements es (ws (close t)) b) m
@@ -62,27 +68,34 @@ spelling_law t s (Some Pause) b v =
     each (pause ∷ m) = (λ h. (refl, h), λ h. h.1)
     each (sweep o os ∷ m) = never (λ h. h) (λ h. let e : sweep o os ≡ pause = h.0 in cc)
 
-spelling_goes : (p : Part) (t : Bool) (s : State) (c : ℕ) (b : List ℕ) (v : List MarchElement) → Grows s.done v (λ es. in_spelling p (with_braces t s) es (c ∷ b)) ↔ Holds (option_map (moved s) (spelling t (spell p c))) (λ z. rest z b v)
-spelling_goes p t s c b v = also (grows_iff s.done v (λ es. in_spelling p (with_braces t s) es (c ∷ b)) (λ es. Holds (spell p c) (λ q. spelled_at q (with_braces t s) es b)) (λ es. wants p (with_braces t s) es c b)) (spelling_law t s (spell p c) b v)
+spelling_goes : (ls : List ℕ) (o : Option (Spelled Mark)) (t : Bool) (s : State) (c : ℕ) (b : List ℕ) (v : List MarchElement) → Spells ls o c b
+    → Grows s.done v (λ es. in_spelling ls (with_braces t s) es (c ∷ b)) ↔ Holds (option_map (moved s) (spelling t o)) (λ z. rest z b v)
+spelling_goes ls o t s c b v law =
+    also (grows_iff s.done v (λ es. in_spelling ls (with_braces t s) es (c ∷ b)) (λ es. Holds o (λ q. spelled_at q (with_braces t s) es b)) (wants ls o c b law (with_braces t s)))
+    (spelling_law t s o b v)
+
+first_spells : (c : ℕ) (b : List ℕ) → Spells [] (seek [] c 0 marks) c b
+first_spells c b m K = first_law marks fine m K c b
+
+first_goes : (t : Bool) (s : State) (c : ℕ) (b : List ℕ) (v : List MarchElement) → Grows s.done v (λ es. in_spelling [] (with_braces t s) es (c ∷ b)) ↔ Holds (option_map (moved s) (spelling t (seek [] c 0 marks))) (λ z. rest z b v)
+first_goes t s c b v = spelling_goes [] (seek [] c 0 marks) t s c b v (first_spells c b)
 
 -- elements begin with a spelling
-elements_begin : (s : State) (es : List MarchElement) (b : List ℕ) → elements es (ws (close s.braced)) b ↔ in_spelling Begin s es b
+elements_begin : (s : State) (es : List MarchElement) (b : List ℕ) → elements es (ws (close s.braced)) b ↔ in_spelling [] s es b
 elements_begin s [] b = same
-elements_begin s (pause ∷ es) b = same
-elements_begin s (sweep o os ∷ es) b = same
+elements_begin s (e ∷ es) b = element_is e (more_elements es (ws (close s.braced))) b
 
 -- elements don't begin with a byte that begins no order
-pub no_elements : (s : State) (es : List MarchElement) (c : ℕ) (b : List ℕ) → spell Begin c ≡ None → elements es (ws (close s.braced)) (c ∷ b) → ⊥
-no_elements s [] c b e h = h
-no_elements s (x ∷ es) c b e h =
-    subst (λ (o : Option Spelled). Holds o (λ q. spelled_at q s (x ∷ es) b)) e ((wants Begin s (x ∷ es) c b).0 ((elements_begin s (x ∷ es) (c ∷ b)).0 h))
+pub no_elements : (s : State) (es : List MarchElement) (c : ℕ) (b : List ℕ) → seek [] c 0 marks ≡ None → elements es (ws (close s.braced)) (c ∷ b) → ⊥
+no_elements s es c b e h =
+    subst (λ (o : Option (Spelled Mark)). Holds o (λ q. spelled_at q s es b)) e ((wants [] (seek [] c 0 marks) c b (first_spells c b) s es).0 ((elements_begin s es (c ∷ b)).0 h))
 
-no_listed : (s : State) (es : List MarchElement) (c : ℕ) (b : List ℕ) → spell Begin c ≡ None → (close s.braced (c ∷ b) → ⊥) → listed s.braced es (c ∷ b) → ⊥
+no_listed : (s : State) (es : List MarchElement) (c : ℕ) (b : List ℕ) → seek [] c 0 marks ≡ None → (close s.braced (c ∷ b) → ⊥) → listed s.braced es (c ∷ b) → ⊥
 no_listed s [] c b e f h = f h
 no_listed s (x ∷ es) c b e f h = no_elements s (x ∷ es) c b e h
 
 -- behind a byte that isn't the end
-listed_wants : (s : State) (es : List MarchElement) (c : ℕ) (b : List ℕ) → (close s.braced (c ∷ b) → ⊥) → listed s.braced es (c ∷ b) ↔ in_spelling Begin s es (c ∷ b)
+listed_wants : (s : State) (es : List MarchElement) (c : ℕ) (b : List ℕ) → (close s.braced (c ∷ b) → ⊥) → listed s.braced es (c ∷ b) ↔ in_spelling [] s es (c ∷ b)
 listed_wants s [] c b f = never f (λ h. h)
 listed_wants s (x ∷ es) c b f = elements_begin s (x ∷ es) (c ∷ b)
 
@@ -96,7 +109,7 @@ goes_start s c b v =
     at_byte P c 13 (grows_iff s.done v (λ es. left_at Start s es (13 ∷ b)) (λ es. left_at Start s es b) (λ es. skip (neither (λ z. z) (no_listed (with_braces false s) es 13 b refl (λ z. z))))) (λ n13.
     at_byte P c 10 (grows_iff s.done v (λ es. left_at Start s es (10 ∷ b)) (λ es. left_at Start s es b) (λ es. skip (neither (λ z. z) (no_listed (with_braces false s) es 10 b refl (λ z. z))))) (λ n10.
     at_byte P c 123 (grows_iff s.done v (λ es. left_at Start s es (123 ∷ b)) (λ es. ws (listed true es) b) (λ es. also (stay (λ z. z)) (stay (no_listed (with_braces false s) es 123 b refl (λ z. z))))) (λ n123.
-    simp (n32, n9, n13, n10, n123) (also (grows_iff s.done v (λ es. (⊥ ⊎ listed false es (c ∷ b)) ⊎ ⊥) (λ es. in_spelling Begin (with_braces false s) es (c ∷ b)) (λ es. also (stay (λ z. z)) (also (skip (λ z. z)) (listed_wants (with_braces false s) es c b (λ z. z))))) (spelling_goes Begin false s c b v)))))))
+    simp (n32, n9, n13, n10, n123) (also (grows_iff s.done v (λ es. (⊥ ⊎ listed false es (c ∷ b)) ⊎ ⊥) (λ es. in_spelling [] (with_braces false s) es (c ∷ b)) (λ es. also (stay (λ z. z)) (also (skip (λ z. z)) (listed_wants (with_braces false s) es c b (λ z. z))))) (first_goes false s c b v)))))))
   where
     P : ℕ → Type 0
     P x = Law Start s b v x
@@ -108,7 +121,7 @@ goes_open s c b v =
     at_byte P c 13 (grows_iff s.done v (λ es. left_at Open s es (13 ∷ b)) (λ es. left_at Open s es b) (λ es. skip (no_listed (with_braces true s) es 13 b refl (λ z. z)))) (λ n13.
     at_byte P c 10 (grows_iff s.done v (λ es. left_at Open s es (10 ∷ b)) (λ es. left_at Open s es b) (λ es. skip (no_listed (with_braces true s) es 10 b refl (λ z. z)))) (λ n10.
     at_byte P c 125 (grows_iff s.done v (λ es. left_at Open s es (125 ∷ b)) (λ es. Nothing es × ws finish b) (λ es. also (stay (λ z. z)) (closes es))) (λ n125.
-    simp (n32, n9, n13, n10, n125) (also (grows_iff s.done v (λ es. listed true es (c ∷ b) ⊎ ⊥) (λ es. in_spelling Begin (with_braces true s) es (c ∷ b)) (λ es. also (stay (λ z. z)) (listed_wants (with_braces true s) es c b (simp n125 (λ z. z))))) (spelling_goes Begin true s c b v)))))))
+    simp (n32, n9, n13, n10, n125) (also (grows_iff s.done v (λ es. listed true es (c ∷ b) ⊎ ⊥) (λ es. in_spelling [] (with_braces true s) es (c ∷ b)) (λ es. also (stay (λ z. z)) (listed_wants (with_braces true s) es c b (simp n125 (λ z. z))))) (first_goes true s c b v)))))))
   where
     P : ℕ → Type 0
     P x = Law Open s b v x
@@ -139,8 +152,8 @@ outside p s c b v f h = go h.0 h.2
     go (pause ∷ es) z = z
     go (sweep o os ∷ es) z = f z.1.0 (more_elements es (ws (close s.braced))) z.1.2
 
-pub goes_spelling : (p : Part) (s : State) (c : ℕ) (b : List ℕ) (v : List MarchElement) → Law (Spelling p) s b v c
-goes_spelling p s c b v = spelling_goes p s.braced s c b v
+pub goes_spelling : (q : Letters) (s : State) (c : ℕ) (b : List ℕ) (v : List MarchElement) → Law (Spelling q) s b v c
+goes_spelling q s c b v = spelling_goes (letters_of marks q) (spell marks q c) s.braced s c b v (λ m K. spell_law marks fine q m K c b)
 
 pub goes_ordered : (s : State) (c : ℕ) (b : List ℕ) (v : List MarchElement) → Law Ordered s b v c
 goes_ordered s c b v =
@@ -341,7 +354,7 @@ goes_next s c b v =
     at_byte P c 9 (grows_iff s.done v (λ es. left_at Next s es (9 ∷ b)) (λ es. left_at Next s es b) (λ es. skip (no_elements s es 9 b refl))) (λ n9.
     at_byte P c 13 (grows_iff s.done v (λ es. left_at Next s es (13 ∷ b)) (λ es. left_at Next s es b) (λ es. skip (no_elements s es 13 b refl))) (λ n13.
     at_byte P c 10 (grows_iff s.done v (λ es. left_at Next s es (10 ∷ b)) (λ es. left_at Next s es b) (λ es. skip (no_elements s es 10 b refl))) (λ n10.
-    simp (n32, n9, n13, n10) (also (grows_iff s.done v (λ es. elements es (ws (close s.braced)) (c ∷ b) ⊎ ⊥) (λ es. in_spelling Begin s es (c ∷ b)) (λ es. also (stay (λ z. z)) (elements_begin s es (c ∷ b)))) (spelling_goes Begin s.braced s c b v))))))
+    simp (n32, n9, n13, n10) (also (grows_iff s.done v (λ es. elements es (ws (close s.braced)) (c ∷ b) ⊎ ⊥) (λ es. in_spelling [] s es (c ∷ b)) (λ es. also (stay (λ z. z)) (elements_begin s es (c ∷ b)))) (first_goes s.braced s c b v))))))
   where
     P : ℕ → Type 0
     P x = Law Next s b v x
@@ -374,8 +387,7 @@ goes_at Next s c b v = goes_next s c b v
 goes_at Closed s c b v = goes_closed s c b v
 
 no_element : (e : MarchElement) (K : List ℕ → Type 0) → element e K [] → ⊥
-no_element pause K = no_pause_part Begin K
-no_element (sweep o os) K = no_part Begin o (body os K)
+no_element e K h = first_ends marks fine (mark_of e) (behind e K) ((element_is e K []).0 h)
 
 no_end : (p : Place) (s : State) → ((os : List Op) (K : List ℕ → Type 0) → ops_left p os K [] → ⊥) → (es : List MarchElement) → in_element p s es [] → ⊥
 no_end p s f [] h = h
@@ -407,10 +419,9 @@ ends_at Open s v = ends_none s.done v (λ es. left_at Open s es []) unclosed
     unclosed (e ∷ es) h = no_element e (more_elements es (ws (close true))) h
 ends_at (Spelling p) s v = ends_none s.done v (λ es. left_at (Spelling p) s es []) each
   where
-    each : (es : List MarchElement) → in_spelling p s es [] → ⊥
+    each : (es : List MarchElement) → in_spelling (letters_of marks p) s es [] → ⊥
     each [] h = h
-    each (pause ∷ es) h = no_pause_part p (more_elements es (ws (close s.braced))) h
-    each (sweep o os ∷ es) h = no_part p o (body os (more_elements es (ws (close s.braced)))) h
+    each (e ∷ es) h = spell_ends marks fine p (mark_of e) (behind e (more_elements es (ws (close s.braced)))) h
 ends_at Ordered s v = ends_none s.done v (λ es. left_at Ordered s es []) (no_end Ordered s (λ os K z. z))
 ends_at Wanted s v = ends_none s.done v (λ es. left_at Wanted s es []) (no_end Wanted s wanted_on)
   where

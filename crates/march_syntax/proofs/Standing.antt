@@ -9,18 +9,20 @@ use Rattle.march_core.specs.declared.fault.MarchFault.{MarchFault}
 use Rattle.march_core.specs.declared.fault.MarchFault.TheVariants.{TooManyElements}
 use Rattle.march_core.specs.Building.{with_op, last_ops, ends_in_sweep}
 use Rattle.march_core.specs.March.{MarchElement, pause, sweep, ops_of, all_ops}
-use Rattle.march_syntax.specs.declared.place.Spelled.{Spelled}
-use Rattle.march_syntax.specs.declared.place.Spelled.TheVariants.{More, Whole, Pause}
 use Rattle.march_syntax.specs.declared.place.Place.{Place}
 use Rattle.march_syntax.specs.declared.place.Place.TheVariants.{Start, Open, Spelling, Ordered, Wanted, Digit, Operation, Ended, Next, Closed}
-use Rattle.march_syntax.specs.declared.place.Part.TheVariants.{Begin}
+use Rattle.bist_text.specs.declared.keywords.Spelled.{Spelled}
+use Rattle.bist_text.specs.declared.keywords.Spelled.TheVariants.{More, Whole}
+use Rattle.bist_text.specs.Keywords.{seek, spell}
+use Rattle.march_syntax.specs.declared.place.Mark.{Mark}
+use Rattle.march_syntax.specs.declared.place.Mark.TheVariants.{OfOrder, OfPause}
 use Rattle.march_syntax.specs.declared.place.Event.{Event}
 use Rattle.march_syntax.specs.declared.place.Event.TheVariants.{Quiet, Begins, Adds, Ends, Waits}
 use Rattle.march_syntax.specs.declared.place.Move.{Move}
 use Rattle.march_syntax.specs.Building.{with_event, HasBegun, IsFull, CanAdd, Builds}
 use Rattle.march_syntax.specs.Limits.{IsWithin, BeforeOp, so_far, Exceeds}
 use Rattle.march_syntax.specs.MarchText.{is_white}
-use Rattle.march_syntax.specs.Places.{spell, spelling, move_at, may_end, State, begun, start, after_event, moved, step, value, rest, in_element, is_inside, held}
+use Rattle.march_syntax.specs.Places.{marks, spelling, move_at, may_end, State, begun, start, after_event, moved, step, value, rest, in_element, is_inside, held}
 use Rattle.march_syntax.proofs.PlaceLaws.{follows}
 
 -- ---- which events come at which places
@@ -45,22 +47,22 @@ Fits p Waits q = (is_inside p ≡ false) × (q ≡ Ended)
 abbrev FitsMove : Place → Move → Type 0
 FitsMove p m = Fits p m.event m.place
 
-spelling_fits : (p : Place) (t : Bool) (o : Option Spelled) → is_inside p ≡ false → Each (spelling t o) (FitsMove p)
+spelling_fits : (p : Place) (t : Bool) (o : Option (Spelled Mark)) → is_inside p ≡ false → Each (spelling t o) (FitsMove p)
 spelling_fits p t None h = tt
 spelling_fits p t (Some (More q)) h = h
-spelling_fits p t (Some (Whole o)) h = (h, refl)
-spelling_fits p t (Some Pause) h = (h, refl)
+spelling_fits p t (Some (Whole (OfOrder o))) h = (h, refl)
+spelling_fits p t (Some (Whole OfPause)) h = (h, refl)
 
 move_fits : (p : Place) (t : Bool) (c : ℕ) → Each (move_at p t c) (FitsMove p)
-move_fits Start t c = either (is_white c) _ _ (FitsMove Start) refl (either (c == 123) _ _ (FitsMove Start) refl (spelling_fits Start false (spell Begin c) refl))
-move_fits Open t c = either (is_white c) _ _ (FitsMove Open) refl (either (c == 125) _ _ (FitsMove Open) refl (spelling_fits Open true (spell Begin c) refl))
-move_fits (Spelling q) t c = spelling_fits (Spelling q) t (spell q c) refl
+move_fits Start t c = either (is_white c) _ _ (FitsMove Start) refl (either (c == 123) _ _ (FitsMove Start) refl (spelling_fits Start false (seek [] c 0 marks) refl))
+move_fits Open t c = either (is_white c) _ _ (FitsMove Open) refl (either (c == 125) _ _ (FitsMove Open) refl (spelling_fits Open true (seek [] c 0 marks) refl))
+move_fits (Spelling q) t c = spelling_fits (Spelling q) t (spell marks q c) refl
 move_fits Ordered t c = either (is_white c) _ _ (FitsMove Ordered) refl (either (c == 40) _ _ (FitsMove Ordered) refl tt)
 move_fits Wanted t c = either (is_white c) _ _ (FitsMove Wanted) refl (either (c == 119) _ _ (FitsMove Wanted) refl (either (c == 114) _ _ (FitsMove Wanted) refl tt))
 move_fits (Digit a) t c = either (c == 48) _ _ (FitsMove (Digit a)) (refl, refl) (either (c == 49) _ _ (FitsMove (Digit a)) (refl, refl) tt)
 move_fits Operation t c = either (is_white c) _ _ (FitsMove Operation) refl (either (c == 44) _ _ (FitsMove Operation) refl (either (c == 41) _ _ (FitsMove Operation) (refl, refl) tt))
 move_fits Ended t c = either (is_white c) _ _ (FitsMove Ended) refl (either (c == 59) _ _ (FitsMove Ended) refl (either (t && (c == 125)) _ _ (FitsMove Ended) refl tt))
-move_fits Next t c = either (is_white c) _ _ (FitsMove Next) refl (spelling_fits Next t (spell Begin c) refl)
+move_fits Next t c = either (is_white c) _ _ (FitsMove Next) refl (spelling_fits Next t (seek [] c 0 marks) refl)
 move_fits Closed t c = either (is_white c) _ _ (FitsMove Closed) refl tt
 
 pub fits : (p : Place) (t : Bool) (c : ℕ) (m : Move) → move_at p t c ≡ Some m → Fits p m.event m.place

@@ -1,17 +1,18 @@
 -- For proofs and private contracts alone: what a reader of a march does at each byte, and what may still follow where it
 -- stands.
 use Rattle.std.specs.Prelude.{◌≡◌, ℕ, ◌&&◌, ◌==◌, Bool, true, false, List, [], ◌∷◌, ◌++◌, ◌⊎◌, Option, Some, None, option_map, if◌then◌else◌, codes}
-use Rattle.bist_text.specs.Grammar.{finish, word, one_of}
+use Rattle.bist_text.specs.declared.keywords.Spelled.{Spelled}
+use Rattle.bist_text.specs.declared.keywords.Spelled.TheVariants.{More, Whole}
+use Rattle.bist_text.specs.Grammar.{finish, word}
+use Rattle.bist_text.specs.Keywords.{Word, all_words, stands, letters_of, seek, spell}
 use Rattle.bist_text.specs.Machine.{Grows}
 use Rattle.march_core.specs.declared.operation.Order.{Order}
 use Rattle.march_core.specs.declared.operation.Order.TheVariants.{Up, Down, Any}
 use Rattle.march_core.specs.declared.operation.Op.{Op}
 use Rattle.march_core.specs.declared.operation.Op.TheVariants.{W0, W1, R0, R1}
 use Rattle.march_core.specs.March.{MarchElement, pause, sweep}
-use Rattle.march_syntax.specs.declared.place.Part.{Part}
-use Rattle.march_syntax.specs.declared.place.Part.TheVariants.{Begin, U, D, Do, Dow, De, A, An, Arrow, ArrowTail}
-use Rattle.march_syntax.specs.declared.place.Spelled.{Spelled}
-use Rattle.march_syntax.specs.declared.place.Spelled.TheVariants.{More, Whole, Pause}
+use Rattle.march_syntax.specs.declared.place.Mark.{Mark}
+use Rattle.march_syntax.specs.declared.place.Mark.TheVariants.{OfOrder, OfPause}
 use Rattle.march_syntax.specs.declared.place.Access.{Access}
 use Rattle.march_syntax.specs.declared.place.Access.TheVariants.{Write, Read}
 use Rattle.march_syntax.specs.declared.place.Place.{Place}
@@ -23,32 +24,27 @@ use Rattle.march_syntax.specs.MarchText.{is_white, ws, spellings, pause_spelling
 
 -- ---- what a reader does
 
-abbrev pub spell : Part → ℕ → Option Spelled
-spell Begin c =
-    if c == 117 then Some (More U) else if c == 100 then Some (More D) else if c == 97 then Some (More A)
-    else if c == 226 then Some (More Arrow) else if c == 94 then Some (Whole Up) else if c == 118 then Some (Whole Down)
-    else if c == 42 then Some (Whole Any) else None
-spell U c = if c == 112 then Some (Whole Up) else None
-spell D c = if c == 111 then Some (More Do) else if c == 101 then Some (More De) else None
-spell Do c = if c == 119 then Some (More Dow) else None
-spell De c = if c == 108 then Some Pause else None
-spell Dow c = if c == 110 then Some (Whole Down) else None
-spell A c = if c == 110 then Some (More An) else None
-spell An c = if c == 121 then Some (Whole Any) else None
-spell Arrow c = if c == 135 then Some (More ArrowTail) else if c == 134 then Some (More ArrowTail) else None
-spell ArrowTail c =
-    if c == 145 then Some (Whole Up) else if c == 147 then Some (Whole Down) else if c == 149 then Some (Whole Any) else None
+-- how an element may begin
+abbrev pub texts : Mark → List (List ℕ)
+texts (OfOrder o) = spellings o
+texts OfPause = pause_spellings
+
+abbrev pub all_marks : List Mark
+all_marks = OfOrder Up ∷ OfOrder Down ∷ OfOrder Any ∷ OfPause ∷ []
+
+abbrev pub marks : List (Word Mark)
+marks = all_words texts all_marks
 
 -- a place, and what a byte adds
 abbrev pub move : Place → Bool → Event → Option Move
 move p t e = Some (record { place = p; braced = t; event = e })
 
 -- the first bytes of an order or a pause, or the last one
-abbrev pub spelling : Bool → Option Spelled → Option Move
+abbrev pub spelling : Bool → Option (Spelled Mark) → Option Move
 spelling t None = None
-spelling t (Some (More p)) = move (Spelling p) t Quiet
-spelling t (Some (Whole o)) = move Ordered t (Begins o)
-spelling t (Some Pause) = move Ended t Waits
+spelling t (Some (More q)) = move (Spelling q) t Quiet
+spelling t (Some (Whole (OfOrder o))) = move Ordered t (Begins o)
+spelling t (Some (Whole OfPause)) = move Ended t Waits
 
 abbrev pub op_of : Access → Bool → Op
 op_of Write false = W0
@@ -57,15 +53,15 @@ op_of Read false = R0
 op_of Read true = R1
 
 abbrev pub move_at : Place → Bool → ℕ → Option Move
-move_at Start t c = if is_white c then move Start t Quiet else if c == 123 then move Open t Quiet else spelling false (spell Begin c)
-move_at Open t c = if is_white c then move Open t Quiet else if c == 125 then move Closed t Quiet else spelling true (spell Begin c)
-move_at (Spelling p) t c = spelling t (spell p c)
+move_at Start t c = if is_white c then move Start t Quiet else if c == 123 then move Open t Quiet else spelling false (seek [] c 0 marks)
+move_at Open t c = if is_white c then move Open t Quiet else if c == 125 then move Closed t Quiet else spelling true (seek [] c 0 marks)
+move_at (Spelling q) t c = spelling t (spell marks q c)
 move_at Ordered t c = if is_white c then move Ordered t Quiet else if c == 40 then move Wanted t Quiet else None
 move_at Wanted t c = if is_white c then move Wanted t Quiet else if c == 119 then move (Digit Write) t Quiet else if c == 114 then move (Digit Read) t Quiet else None
 move_at (Digit a) t c = if c == 48 then move Operation t (Adds (op_of a false)) else if c == 49 then move Operation t (Adds (op_of a true)) else None
 move_at Operation t c = if is_white c then move Operation t Quiet else if c == 44 then move Wanted t Quiet else if c == 41 then move Ended t Ends else None
 move_at Ended t c = if is_white c then move Ended t Quiet else if c == 59 then move Next t Quiet else if t && (c == 125) then move Closed t Quiet else None
-move_at Next t c = if is_white c then move Next t Quiet else spelling t (spell Begin c)
+move_at Next t c = if is_white c then move Next t Quiet else spelling t (seek [] c 0 marks)
 move_at Closed t c = if is_white c then move Closed t Quiet else None
 
 -- whether a text may end at a place
@@ -113,44 +109,14 @@ value s = if may_end s.place s.braced then Some s.done else None
 
 -- ---- what may follow
 
--- what may follow a part of a spelling
-abbrev pub left : Part → Order → List (List ℕ)
-left Begin o = spellings o
-left U Up = codes "p" ∷ []
-left D Down = codes "own" ∷ []
-left Do Down = codes "wn" ∷ []
-left Dow Down = codes "n" ∷ []
-left A Any = codes "ny" ∷ []
-left An Any = codes "y" ∷ []
-left Arrow Up = (0x87 ∷ 0x91 ∷ []) ∷ (0x86 ∷ 0x91 ∷ []) ∷ []
-left Arrow Down = (0x87 ∷ 0x93 ∷ []) ∷ (0x86 ∷ 0x93 ∷ []) ∷ []
-left Arrow Any = (0x87 ∷ 0x95 ∷ []) ∷ (0x86 ∷ 0x95 ∷ []) ∷ []
-left ArrowTail Up = (0x91 ∷ []) ∷ []
-left ArrowTail Down = (0x93 ∷ []) ∷ []
-left ArrowTail Any = (0x95 ∷ []) ∷ []
-left _ _ = []
+-- what an element begins with, and what follows that
+abbrev pub mark_of : MarchElement → Mark
+mark_of pause = OfPause
+mark_of (sweep o os) = OfOrder o
 
-abbrev pub spelled : Spelled → Order → (List ℕ → Type 0) → List ℕ → Type 0
-spelled (More p) o K b = one_of (left p o) K b
-spelled (Whole q) o K b = (o ≡ q) × K b
-spelled Pause o K b = ⊥
-
--- what may follow a part of the spelling of a pause
-abbrev pub pause_left : Part → List (List ℕ)
-pause_left Begin = pause_spellings
-pause_left D = codes "el" ∷ []
-pause_left De = codes "l" ∷ []
-pause_left _ = []
-
-abbrev pub pause_spelled : Spelled → (List ℕ → Type 0) → List ℕ → Type 0
-pause_spelled (More p) K b = one_of (pause_left p) K b
-pause_spelled (Whole q) K b = ⊥
-pause_spelled Pause K b = K b
-
--- what may follow a part of the spelling of an element
-abbrev pub element_left : Part → MarchElement → (List ℕ → Type 0) → List ℕ → Type 0
-element_left p pause K b = one_of (pause_left p) K b
-element_left p (sweep o os) K b = one_of (left p o) (body os K) b
+abbrev pub behind : MarchElement → (List ℕ → Type 0) → List ℕ → Type 0
+behind pause K = K
+behind (sweep o os) K = body os K
 
 -- the digit of an operation
 abbrev pub digit : Access → Op → (List ℕ → Type 0) → List ℕ → Type 0
@@ -175,9 +141,10 @@ in_element p s [] b = ⊥
 in_element p s (pause ∷ es) b = ⊥
 in_element p s (sweep o os ∷ es) b = (o ≡ s.order) × Grows s.ops os (λ more. ops_left p more (more_elements es (ws (close s.braced))) b)
 
-abbrev pub in_spelling : Part → State → List MarchElement → List ℕ → Type 0
-in_spelling p s [] b = ⊥
-in_spelling p s (e ∷ es) b = element_left p e (more_elements es (ws (close s.braced))) b
+-- what may follow the first letters of an element
+abbrev pub in_spelling : List ℕ → State → List MarchElement → List ℕ → Type 0
+in_spelling ls s [] b = ⊥
+in_spelling ls s (e ∷ es) b = stands marks (mark_of e) (behind e (more_elements es (ws (close s.braced)))) (ls ++ b)
 
 abbrev pub Nothing : List MarchElement → Type 0
 Nothing [] = Unit {0}
@@ -187,7 +154,7 @@ Nothing (_ ∷ _) = ⊥
 abbrev pub left_at : Place → State → List MarchElement → List ℕ → Type 0
 left_at Start s es b = ws (λ x. word (codes "{") (ws (listed true es)) x ⊎ listed false es x) b
 left_at Open s es b = ws (listed true es) b
-left_at (Spelling p) s es b = in_spelling p s es b
+left_at (Spelling q) s es b = in_spelling (letters_of marks q) s es b
 left_at Ordered s es b = in_element Ordered s es b
 left_at Wanted s es b = in_element Wanted s es b
 left_at (Digit a) s es b = in_element (Digit a) s es b
@@ -205,11 +172,11 @@ paused s [] b = ⊥
 paused s (pause ∷ es) b = more_elements es (ws (close s.braced)) b
 paused s (sweep o os ∷ es) b = ⊥
 
--- the same behind the next part of a spelling
-abbrev pub spelled_at : Spelled → State → List MarchElement → List ℕ → Type 0
-spelled_at (More p) s es b = in_spelling p s es b
-spelled_at (Whole o) s es b = in_element Ordered (record s { order = o; ops = [] }) es b
-spelled_at Pause s es b = paused s es b
+-- the same behind one more letter of a spelling
+abbrev pub spelled_at : Spelled Mark → State → List MarchElement → List ℕ → Type 0
+spelled_at (More q) s es b = in_spelling (letters_of marks q) s es b
+spelled_at (Whole (OfOrder o)) s es b = in_element Ordered (record s { order = o; ops = [] }) es b
+spelled_at (Whole OfPause) s es b = paused s es b
 
 -- ---- what a builder of marches holds then
 
@@ -225,6 +192,6 @@ held s = if is_inside s.place then s.done ++ begun s ∷ [] else s.done
 
 -- a place outside of orders and operations
 abbrev pub IsBetween : Place → Type 0
-IsBetween (Spelling p) = ⊥
+IsBetween (Spelling q) = ⊥
 IsBetween (Digit a) = ⊥
 IsBetween _ = Unit {0}

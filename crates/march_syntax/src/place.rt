@@ -1,30 +1,34 @@
-ghost use Rattle.std.specs.Prelude.{◌≡◌, false};
+ghost use Rattle.std.specs.Prelude.{◌≡◌, [], false};
+ghost use Rattle.bist_text.specs.Keywords.{seek, spell};
 ghost use Rattle.march_syntax.specs.MarchText.{is_white};
-ghost use Rattle.march_syntax.specs.Places.{spell, spelling, move_at, may_end, IsBetween};
+ghost use Rattle.march_syntax.specs.Places.{marks, spelling, move_at, may_end, IsBetween};
 
+use bist_text::{Keyword, Letters, Spelled, first_letter, next_letter};
 use march_core::{Op, Order};
 
-/// What has come of the spelling of an order or a pause; an arrow is three bytes of UTF-8.
+/// What an element begins with.
 #[derive(Clone, Copy)]
-pub(crate) enum Part {
-    Begin,
-    U,
-    D,
-    Do,
-    Dow,
-    De,
-    A,
-    An,
-    Arrow,
-    ArrowTail,
+pub(crate) enum Mark {
+    OfOrder(Order),
+    OfPause,
 }
 
-#[derive(Clone, Copy)]
-pub(crate) enum Spelled {
-    More(Part),
-    Whole(Order),
-    Pause,
-}
+/// How orders and pauses are spelled.
+static MARKS: [Keyword<Mark>; 13] = [
+    Keyword("up", Mark::OfOrder(Order::Up)),
+    Keyword("^", Mark::OfOrder(Order::Up)),
+    Keyword("⇑", Mark::OfOrder(Order::Up)),
+    Keyword("↑", Mark::OfOrder(Order::Up)),
+    Keyword("down", Mark::OfOrder(Order::Down)),
+    Keyword("v", Mark::OfOrder(Order::Down)),
+    Keyword("⇓", Mark::OfOrder(Order::Down)),
+    Keyword("↓", Mark::OfOrder(Order::Down)),
+    Keyword("any", Mark::OfOrder(Order::Any)),
+    Keyword("*", Mark::OfOrder(Order::Any)),
+    Keyword("⇕", Mark::OfOrder(Order::Any)),
+    Keyword("↕", Mark::OfOrder(Order::Any)),
+    Keyword("del", Mark::OfPause),
+];
 
 /// The letter of an operation.
 #[derive(Clone, Copy)]
@@ -41,7 +45,7 @@ pub(crate) enum Place {
     /// Behind the opening brace.
     Open,
     /// In an order or a pause.
-    Spelling(Part),
+    Spelling(Letters),
     /// Behind an order.
     Ordered,
     /// Before an operation.
@@ -89,46 +93,32 @@ impl Move {
     }
 }
 
-/// The next byte of a spelling.
-fn next_part(part: Part, byte: u8) -> Option<Spelled>
-    ensures { result ≡ spell part byte }
+/// Begins a spelling.
+fn first_mark(byte: u8) -> Option<Spelled<Mark>>
+    ensures { result ≡ seek [] byte 0 marks }
 {
-    match (part, byte) {
-        (Part::Begin, b'u') => Some(Spelled::More(Part::U)),
-        (Part::Begin, b'd') => Some(Spelled::More(Part::D)),
-        (Part::Begin, b'a') => Some(Spelled::More(Part::A)),
-        (Part::Begin, 0xe2) => Some(Spelled::More(Part::Arrow)),
-        (Part::Begin, b'^') => Some(Spelled::Whole(Order::Up)),
-        (Part::Begin, b'v') => Some(Spelled::Whole(Order::Down)),
-        (Part::Begin, b'*') => Some(Spelled::Whole(Order::Any)),
-        (Part::U, b'p') => Some(Spelled::Whole(Order::Up)),
-        (Part::D, b'o') => Some(Spelled::More(Part::Do)),
-        (Part::D, b'e') => Some(Spelled::More(Part::De)),
-        (Part::De, b'l') => Some(Spelled::Pause),
-        (Part::Do, b'w') => Some(Spelled::More(Part::Dow)),
-        (Part::Dow, b'n') => Some(Spelled::Whole(Order::Down)),
-        (Part::A, b'n') => Some(Spelled::More(Part::An)),
-        (Part::An, b'y') => Some(Spelled::Whole(Order::Any)),
-        (Part::Arrow, 0x86 | 0x87) => Some(Spelled::More(Part::ArrowTail)),
-        (Part::ArrowTail, 0x91) => Some(Spelled::Whole(Order::Up)),
-        (Part::ArrowTail, 0x93) => Some(Spelled::Whole(Order::Down)),
-        (Part::ArrowTail, 0x95) => Some(Spelled::Whole(Order::Any)),
-        _ => None,
-    }
+    first_letter(&MARKS, byte)
 }
 
 /// Goes on in a spelling.
-fn next_spelling(part: Part, braced: bool, byte: u8) -> Option<Move>
-    ensures { result ≡ spelling braced (spell part byte) }
+fn next_mark(letters: Letters, byte: u8) -> Option<Spelled<Mark>>
+    ensures { result ≡ spell marks letters byte }
 {
-    match next_part(part, byte)? {
-        Spelled::More(next) => Move::quiet(Place::Spelling(next), braced),
-        Spelled::Whole(order) => Some(Move {
+    next_letter(&MARKS, letters, byte)
+}
+
+/// Where a reader goes by what was spelled.
+fn spelled(spelled: Option<Spelled<Mark>>, braced: bool) -> Option<Move>
+    ensures { result ≡ spelling braced spelled }
+{
+    match spelled? {
+        Spelled::More(letters) => Move::quiet(Place::Spelling(letters), braced),
+        Spelled::Whole(Mark::OfOrder(order)) => Some(Move {
             place: Place::Ordered,
             braced,
             event: Event::Begins(order),
         }),
-        Spelled::Pause => Some(Move {
+        Spelled::Whole(Mark::OfPause) => Some(Move {
             place: Place::Ended,
             braced,
             event: Event::Waits,
@@ -160,17 +150,17 @@ fn is_white_space(byte: u8) -> bool
     byte == b' ' || byte == b'\t' || byte == b'\r' || byte == b'\n'
 }
 
-/// Goes on by a mark, outside of orders and operations.
-fn next_mark(place: Place, braced: bool, byte: u8) -> Option<Move>
+/// Goes on outside of orders and operations.
+fn next_between(place: Place, braced: bool, byte: u8) -> Option<Move>
     requires { is_white byte ≡ false }
     ensures { IsBetween place → result ≡ move_at place braced byte }
 {
     match (place, byte) {
         (Place::Start, b'{') => Move::quiet(Place::Open, braced),
-        (Place::Start, _) => next_spelling(Part::Begin, false, byte),
+        (Place::Start, _) => spelled(first_mark(byte), false),
         (Place::Open, b'}') => Move::quiet(Place::Closed, braced),
-        (Place::Open, _) => next_spelling(Part::Begin, true, byte),
-        (Place::Next, _) => next_spelling(Part::Begin, braced, byte),
+        (Place::Open, _) => spelled(first_mark(byte), true),
+        (Place::Next, _) => spelled(first_mark(byte), braced),
         (Place::Ordered, b'(') => Move::quiet(Place::Wanted, braced),
         (Place::Wanted, b'w') => Move::quiet(Place::Digit(Access::Write), braced),
         (Place::Wanted, b'r') => Move::quiet(Place::Digit(Access::Read), braced),
@@ -191,10 +181,10 @@ pub(crate) fn next_move(place: Place, braced: bool, byte: u8) -> Option<Move>
     ensures { result ≡ move_at place braced byte }
 {
     match place {
-        Place::Spelling(part) => next_spelling(part, braced, byte),
+        Place::Spelling(letters) => spelled(next_mark(letters, byte), braced),
         Place::Digit(access) => next_digit(access, braced, byte),
         _ if is_white_space(byte) => Move::quiet(place, braced),
-        _ => next_mark(place, braced, byte),
+        _ => next_between(place, braced, byte),
     }
 }
 

@@ -1,5 +1,5 @@
 -- What may follow each place of a line, by the next byte.
-use Rattle.std.proofs.Common.{◌≡◌, ℕ, ◌+◌, ◌==◌, ◌&&◌, true, false, if◌then◌else◌, List, [], ◌∷◌, drop, Option, Some, None, slice_get, refl, ◌↔◌, subst, sym, ap, ◌∙◌}
+use Rattle.std.proofs.Common.{◌≡◌, ℕ, ◌+◌, ◌==◌, ◌&&◌, true, false, if◌then◌else◌, List, [], ◌∷◌, Option, Some, None, refl, ◌↔◌, subst, sym, ap, ◌∙◌}
 use Rattle.std.proofs.lemmas.Bool.{eqb-true, eq-eqb, and_parts, and_from}
 use Rattle.std.specs.Prelude.{nat_lt}
 use Rattle.std.specs.List.{list_all}
@@ -10,11 +10,11 @@ use Rattle.memory_desc.specs.Names.{is_digit, is_name_byte}
 use Rattle.memory_desc.specs.declared.line_place.Key.{Key}
 use Rattle.memory_desc.specs.declared.line_place.Key.TheVariants.{Name, Scramble, Backgrounds}
 use Rattle.memory_desc.specs.declared.line_place.Place.{Place}
-use Rattle.memory_desc.specs.declared.line_place.Place.TheVariants.{Remark, Letters, Wanted, Number, Name as InName, RowNumber, RowEnd, Term as AtTerm, TermNumber, TermEnd, LetterL, LetterO, Hex, HexEnd, End}
-use Rattle.memory_desc.specs.LineText.{Term, Content, is_hex, is_word, is_term, is_formed, space, gap, tail, term_text, more_terms, equation, more_words, argument, key_text}
-use Rattle.memory_desc.specs.LinePlaces.{step, is_digit_of, most_digits, ended, term_ended, row_ended, word_ended, letter_of}
+use Rattle.memory_desc.specs.declared.line_place.Place.TheVariants.{Remark, Named, Wanted, Number, Name as InName, RowNumber, RowEnd, Term as AtTerm, TermNumber, TermEnd, LetterL, LetterO, Hex, HexEnd, End}
+use Rattle.memory_desc.specs.LineText.{Term, Content, is_hex, is_word, is_term, is_formed, space, gap, tail, term_text, more_terms, equation, more_words, argument}
+use Rattle.memory_desc.specs.LinePlaces.{step, is_digit_of, most_digits, ended, term_ended, row_ended, word_ended}
 use Rattle.memory_desc.specs.LineRest.{Run, Names, words_left, Of, Terms, HexWords, rest}
-use Rattle.memory_desc.proofs.LinePieces.{at_bool, when_true, when_false, when_holds, apart, space_on, space_off, gap_on, gap_off, tail_blank, tail_other, tail_never, letters, run_on, run_off, run_none}
+use Rattle.memory_desc.proofs.LinePieces.{at_bool, when_true, when_false, when_holds, apart, space_on, space_off, gap_on, gap_off, tail_blank, tail_other, tail_never, run_on, run_off, run_none}
 use Rattle.memory_desc.proofs.LineRefusals.{names_plain, number_plain, no_tail, no_more_terms, no_equation, no_more_words}
 
 abbrev pub Law : Place → ℕ → List ℕ → Option Key → Type 0
@@ -211,19 +211,8 @@ goes_letter_o c b v =
 pub of_iff : (key : Key) (P Q : Content → List ℕ → Type 0) (b d : List ℕ) → ((x : Content) → is_formed x ≡ true → P x b ↔ Q x d) → Of key P b ↔ Of key Q d
 of_iff key P Q b d f = (λ h. (h.0, h.1, h.2, (f h.0 h.2).0 h.3), λ h. (h.0, h.1, h.2, (f h.0 h.2).1 h.3))
 
-pub goes_letters : (key : Key) (n c : ℕ) (b : List ℕ) (v : Option Key) → Law (Letters key n) c b v
-goes_letters key n c b v = go (slice_get (key_text key) n) refl
-  where
-    go : (o : Option ℕ) → slice_get (key_text key) n ≡ o → rest (Letters key n) (c ∷ b) v ↔ Holds (letter_of o key n c) (λ t. rest t b v)
-    go None e =
-        at_bool (λ t. rest (Letters key n) (c ∷ b) v ↔ Holds (if t then Some (Wanted key) else None) (λ t. rest t b v)) (is_blank c)
-        (λ f. second (of_iff key (λ x. word (drop n (key_text key)) (gap (argument x tail))) (λ x. space (argument x tail)) (c ∷ b) b
-        (λ x _. also ((letters (key_text key) n (gap (argument x tail)) c b).0 e) (gap_on (argument x tail) c b f))))
-        (λ f. never (λ h. gap_off (argument h.1.0 tail) c b f (((letters (key_text key) n (gap (argument h.1.0 tail)) c b).0 e).0 h.1.3)) (λ z. z))
-    go (Some l) e =
-        at_bool (λ t. rest (Letters key n) (c ∷ b) v ↔ Holds (if t then Some (Letters key (n + 1)) else None) (λ t. rest t b v)) (c == l)
-        (λ f. second (of_iff key (λ x. word (drop n (key_text key)) (gap (argument x tail))) (λ x. word (drop (n + 1) (key_text key)) (gap (argument x tail))) (c ∷ b) b
-        (λ x _. also ((letters (key_text key) n (gap (argument x tail)) c b).1 l e)
-        (when_true (c == l) (word (drop (n + 1) (key_text key)) (gap (argument x tail)) b) f))))
-        (λ f. never (λ h. when_false (c == l) (word (drop (n + 1) (key_text key)) (gap (argument h.1.0 tail)) b) f
-        (((letters (key_text key) n (gap (argument h.1.0 tail)) c b).1 l e).0 h.1.3)) (λ z. z))
+pub goes_named : (key : Key) (c : ℕ) (b : List ℕ) (v : Option Key) → Law (Named key) c b v
+goes_named key c b v =
+    at_bool (λ t. rest (Named key) (c ∷ b) v ↔ Holds (if t then Some (Wanted key) else None) (λ t. rest t b v)) (is_blank c)
+    (λ e. second (of_iff key (λ x. gap (argument x tail)) (λ x. space (argument x tail)) (c ∷ b) b (λ x _. gap_on (argument x tail) c b e)))
+    (λ e. never (λ h. gap_off (argument h.1.0 tail) c b e h.1.3) (λ z. z))

@@ -1,25 +1,27 @@
 -- Where a line ends, how each place goes on to an end, and with that: the reader of a line answers as its grammar says.
-use Rattle.std.proofs.Common.{◌≡◌, ℕ, zero, suc, ◌+◌, ◌≤◌, ◌==◌, Bool, true, false, if◌then◌else◌, List, [], ◌∷◌, ◌++◌, drop, length, codes, Option, Some, None, refl, ◌↔◌, inl, inr, sym, ap, arith, zero-le}
+use Rattle.std.proofs.Common.{◌≡◌, ℕ, zero, suc, ◌+◌, ◌≤◌, ◌==◌, Bool, true, false, if◌then◌else◌, List, [], ◌∷◌, ◌++◌, length, codes, Option, Some, None, refl, ◌↔◌, inl, inr, subst, sym, ap, arith, zero-le}
 use Rattle.std.proofs.lemmas.Bool.{and_from, and_parts, eq-eqb}
 use Rattle.std.proofs.Math.Dec.{eqb-suc-zero}
 use Rattle.std.specs.List.{list_all}
 use Rattle.bist_text.specs.Grammar.{word, Continues, are_bytes}
+use Rattle.bist_text.specs.Keywords.{stands, letters_of}
 use Rattle.bist_text.specs.Machine.{Follows, scan, IsExact}
-use Rattle.bist_text.proofs.Pieces.{same, never, neither, word_on}
-use Rattle.bist_text.proofs.Bytes.{are_bytes-append, are_bytes-drop}
-use Rattle.bist_text.proofs.Exclusive.{scan_exact}
+use Rattle.bist_text.proofs.Pieces.{same, never}
+use Rattle.bist_text.proofs.Bytes.{are_bytes-append}
+use Rattle.bist_text.proofs.KeywordLaws.{spell_ends, spell_alive}
+use Rattle.bist_text.proofs.Settled.{scan_exact}
 use Rattle.memory_desc.specs.Names.{is_digit}
 use Rattle.memory_desc.specs.declared.line_place.Key.{Key}
 use Rattle.memory_desc.specs.declared.line_place.Key.TheVariants.{Memory, Name, Words, Bits, Latency, Polarity, Pause, Scramble, Backgrounds}
 use Rattle.memory_desc.specs.declared.line_place.Place.{Place}
-use Rattle.memory_desc.specs.declared.line_place.Place.TheVariants.{Opening, Begin, Remark, LetterB, LetterP, Letters, Wanted, Number, Name as InName, RowNumber, RowEnd, Term as AtTerm, TermNumber, TermEnd, LetterL, LetterO, Hex, HexEnd, End}
+use Rattle.memory_desc.specs.declared.line_place.Place.TheVariants.{Opening, Begin, Remark, Letters, Named, Wanted, Number, Name as InName, RowNumber, RowEnd, Term as AtTerm, TermNumber, TermEnd, LetterL, LetterO, Hex, HexEnd, End}
 use Rattle.memory_desc.specs.LineText.{Term, index_bit, constant, Content, version, name, words, bits, latency, polarity, pause, scramble, log, backgrounds, kind_of, in_table, is_hex, is_word, is_formed, space, gap, tail, term_text, more_terms, equation, more_words, argument, key_text}
-use Rattle.memory_desc.specs.LinePlaces.{step, value, is_digit_of, most_digits}
+use Rattle.memory_desc.specs.LinePlaces.{step, value, is_digit_of, most_digits, keys_of}
 use Rattle.memory_desc.specs.LineRest.{LineOf, Run, Terms, HexWords, rest}
 use Rattle.memory_desc.proofs.LinePieces.{at_bool, positive, when_true}
 use Rattle.memory_desc.proofs.LineStarts.{is_run, run_parts}
 use Rattle.memory_desc.proofs.LineBegins.{some_digits}
-use Rattle.memory_desc.proofs.LineFollows.{goes_at}
+use Rattle.memory_desc.proofs.LineFollows.{fine, memory_word, first_key, goes_at}
 
 -- ---- where a line ends
 
@@ -31,10 +33,6 @@ none_is v f = never f (λ h. (let z : ⊥ = cc in z))
 
 with_more : {P : Type 0} (x v : Option Key) → P → ((v ≡ x) × P) ↔ (Some x ≡ Some v)
 with_more x v p = (λ h. ap Some (sym h.0), λ h. ((some_is x v).1 h, p))
-
-no_gap : (w : List ℕ) (K : List ℕ → Type 0) → word w (gap K) [] → ⊥
-no_gap [] K h = h
-no_gap (c ∷ w) K h = h
 
 no_key : (k : Key) (K : List ℕ → Type 0) → word (key_text k) K [] → ⊥
 no_key Memory K h = h
@@ -92,9 +90,8 @@ pub ends_at : (p : Place) (v : Option Key) → rest p [] v ↔ (value p ≡ Some
 ends_at Opening v = line_ends (λ k. k ≡ Memory) v
 ends_at (Begin n) v = line_ends (λ k. in_table n k ≡ true) v
 ends_at (Remark key) v = some_is key v
-ends_at LetterB v = none_is v (neither (λ h. h.1.3) (λ h. h.1.3))
-ends_at LetterP v = none_is v (neither (λ h. h.1.3) (λ h. h.1.3))
-ends_at (Letters key n) v = none_is v (λ h. no_gap (drop n (key_text key)) (argument h.1.0 tail) h.1.3)
+ends_at (Letters given q) v = none_is v (λ h. spell_ends (keys_of given) (fine given) q (kind_of h.0) (gap (argument h.0 tail)) h.3)
+ends_at (Named key) v = none_is v (λ h. h.1.3)
 ends_at (Wanted key) v = none_is v (λ h. no_argument h.1.0 h.1.2 h.1.3)
 ends_at (Number key n) v = counted key v n (Run (is_digit_of key) (most_digits key) n tail []) (λ r. (run_ends (is_digit_of key) (most_digits key) n tail r).0)
     (λ e. run_at_end (is_digit_of key) (most_digits key) n tail e tt)
@@ -149,10 +146,6 @@ example_bytes : (k : Key) → are_bytes (example_text k) ≡ true
 example_bytes Memory = refl
 example_bytes k = refl
 
-key_bytes : (k : Key) → are_bytes (key_text k) ≡ true
-key_bytes Memory = refl
-key_bytes k = refl
-
 example_is : (k : Key) → space (argument (example k) tail) (example_text k)
 example_is Scramble = inl (inl (inl tt))
 example_is k = inl tt
@@ -172,14 +165,19 @@ pub alive_at : (p : Place) → Continues (rest p) []
 alive_at Opening = ([], None, refl, inl (refl, tt))
 alive_at (Begin n) = ([], None, refl, inl (refl, tt))
 alive_at (Remark key) = ([], key, refl, refl)
-alive_at LetterB = (codes "its 1", Some Bits, refl, inl (refl, (example Bits, refl, refl, inl tt)))
-alive_at LetterP = (codes "ause 1", Some Pause, refl, inr (refl, (example Pause, refl, refl, inl tt)))
-alive_at (Letters key n) = (
-  drop n (key_text key) ++ (32 ∷ example_text key),
-  Some key,
-  are_bytes-append (drop n (key_text key)) (32 ∷ example_text key) (are_bytes-drop n (key_text key) (key_bytes key)) (example_bytes key),
-  (refl, (example key, example_kind key, example_formed key, word_on (drop n (key_text key)) (gap (argument (example key) tail)) (32 ∷ example_text key) (example_is key))),
-)
+alive_at (Letters given q) =
+    let a = spell_alive (keys_of given) (fine given) memory_word (first_key given) (λ k. gap (argument (example k) tail)) (λ k. 32 ∷ example_text k) example_is q in (
+      a.1 ++ (32 ∷ example_text a.0),
+      Some a.0,
+      are_bytes-append a.1 (32 ∷ example_text a.0) a.2 (example_bytes a.0),
+      (
+        example a.0,
+        example_formed a.0,
+        ap Some (sym (example_kind a.0)),
+        subst (λ k. stands (keys_of given) k (gap (argument (example a.0) tail)) (letters_of (keys_of given) q ++ (a.1 ++ (32 ∷ example_text a.0)))) (sym (example_kind a.0)) a.3,
+      ),
+    )
+alive_at (Named key) = (32 ∷ example_text key, Some key, example_bytes key, (refl, (example key, example_kind key, example_formed key, example_is key)))
 alive_at (Wanted key) = (example_text key, Some key, example_bytes key, (refl, (example key, example_kind key, example_formed key, example_is key)))
 alive_at (Number key n) =
     let r = run_goes_on (is_digit_of key) (most_digits key) n 49 tail [] (one_digit key) (some_digits key) refl refl tt in
@@ -207,5 +205,5 @@ follows = record {
 }
 
 -- From each place on a line is read exactly as what may follow there says.
-pub line_exact : (p : Place) (b : List ℕ) → are_bytes b ≡ true → IsExact (rest p) b (scan step value b p 0)
-line_exact p b w = scan_exact step value rest (λ p. Unit {0}) follows (rest p) p tt (λ x v. same) b w
+pub line_exact : (p : Place) (b : List ℕ) → IsExact (rest p) b (scan step value b p 0)
+line_exact p b = scan_exact step value rest (λ p. Unit {0}) follows (rest p) p tt (λ x v. same) b

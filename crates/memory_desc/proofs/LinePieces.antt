@@ -1,5 +1,5 @@
 -- The pieces of a line, by the next byte.
-use Rattle.std.proofs.Common.{◌≡◌, ℕ, zero, suc, ◌+◌, ◌-◌, ◌<◌, ◌≤◌, ◌==◌, ◌&&◌, Bool, true, false, List, [], ◌∷◌, ◌∙◌, drop, length, Some, None, slice_get, refl, ◌↔◌, subst, sym, ap, arith, zero-le}
+use Rattle.std.proofs.Common.{◌≡◌, ℕ, zero, suc, ◌+◌, ◌-◌, ◌<◌, ◌≤◌, ◌==◌, ◌&&◌, Bool, true, false, List, [], ◌∷◌, ◌∙◌, length, refl, ◌↔◌, ap, arith, zero-le}
 use Rattle.std.proofs.lemmas.Bool.{eqb-true, eq-eqb, and_parts, and_from, lt-ltb, ltb-true}
 use Rattle.std.specs.Prelude.{nat_lt}
 use Rattle.std.specs.List.{list_all}
@@ -59,22 +59,6 @@ tail_other c b e = space_off comment c b e
 
 pub tail_never : (c : ℕ) (b : List ℕ) → is_blank c ≡ false → (c == 35) ≡ false → tail (c ∷ b) → ⊥
 tail_never c b e f h = when_false (c == 35) (Unit {0}) f ((tail_other c b e).0 h)
-
--- ---- letters
-
-pub letters : (w : List ℕ) (n : ℕ) (K : List ℕ → Type 0) (c : ℕ) (b : List ℕ)
-    → (slice_get w n ≡ None → word (drop n w) K (c ∷ b) ↔ K (c ∷ b))
-    × ((l : ℕ) → slice_get w n ≡ Some l → word (drop n w) K (c ∷ b) ↔ when (c == l) (word (drop (n + 1) w) K b))
-letters [] zero K c b = (λ _. same, λ l e. (let z : ⊥ = cc in absurd z))
-letters [] (suc n) K c b = (λ _. same, λ l e. (let z : ⊥ = cc in absurd z))
-letters (x ∷ w) zero K c b = (
-  λ e. (let z : ⊥ = cc in absurd z),
-  λ l e. (let k : x ≡ l = cc in subst (λ (m : ℕ). when (c == x) (word w K b) ↔ when (c == m) (word w K b)) k same),
-)
-letters (x ∷ w) (suc n) K c b =
-    let r = letters w n K c b in
-    let k : suc n + 1 ≡ suc (n + 1) = omega arith in
-    (r.0, λ l e. subst (λ (m : ℕ). word (drop n w) K (c ∷ b) ↔ when (c == l) (word (drop m (x ∷ w)) K b)) (sym k) (r.1 l e))
 
 -- ---- runs of a class
 

@@ -1,11 +1,10 @@
 -- The loop over a line, and what its answer says by the grammar.
-use Rattle.std.proofs.Common.{true, ◌≡◌, ℕ, List, Option, Result, Ok, Err, refl, ◌↔◌, ap}
+use Rattle.std.proofs.Common.{◌≡◌, ℕ, List, Option, Result, Ok, Err, refl, ◌↔◌, ap}
 use Rattle.bist_text.specs.Grammar.{IsUnexpected, IsTruncated}
 use Rattle.bist_text.specs.Machine.{Outcome, read, unexpected, truncated, IsExact}
 use Rattle.memory_desc.specs.declared.line_place.Key.{Key}
 use Rattle.memory_desc.specs.declared.line_reader.LineFault.{LineFault}
 use Rattle.memory_desc.specs.declared.line_reader.LineFault.TheVariants.{Unexpected, Truncated}
-use Rattle.bist_text.specs.Grammar.{are_bytes}
 use Rattle.bist_text.specs.Machine.{scan}
 use Rattle.memory_desc.specs.declared.line_place.Place.{Place}
 use Rattle.memory_desc.specs.LinePlaces.{step, value}
@@ -32,8 +31,8 @@ ends G b (Ok x) o g e = (λ h. (let z : ⊥ = cc in absurd z), λ h. (let q : o 
 ends G b (Err (Unexpected j)) o g e = (λ h. (let z : ⊥ = cc in absurd z), λ h. (let q : o ≡ truncated = e.ends_early.1 h in let z : ⊥ = cc in absurd z))
 ends G b (Err Truncated) o g e = (λ h. e.ends_early.0 g, λ h. refl)
 
-pub read_by : (p : Place) (b : List ℕ) (r : Result (Option Key) LineFault) → are_bytes b ≡ true → Gives r (scan step value b p 0) → IsReadBy (rest p) b r
-read_by p b r w g =
-    let e = line_exact p b w in
+pub read_by : (p : Place) (b : List ℕ) (r : Result (Option Key) LineFault) → Gives r (scan step value b p 0) → IsReadBy (rest p) b r
+read_by p b r g =
+    let e = line_exact p b in
     let o = scan step value b p 0 in
     record { kind = kinds (rest p) b r o g e; unexpected = refusals (rest p) b r o g e; truncated = ends (rest p) b r o g e }

@@ -1,11 +1,14 @@
 -- What a reader of a line does at each byte, and what may still follow where it stands.
-use Rattle.std.specs.Prelude.{ℕ, ◌+◌, ◌==◌, ◌||◌, ◌&&◌, Bool, nat_lt, Option, Some, None, if◌then◌else◌, slice_get}
+use Rattle.std.specs.Prelude.{ℕ, ◌+◌, ◌==◌, ◌||◌, ◌&&◌, Bool, nat_lt, Option, Some, None, List, [], ◌∷◌, if◌then◌else◌}
+use Rattle.bist_text.specs.declared.keywords.Spelled.{Spelled}
+use Rattle.bist_text.specs.declared.keywords.Spelled.TheVariants.{More, Whole}
 use Rattle.bist_text.specs.Grammar.{is_blank}
+use Rattle.bist_text.specs.Keywords.{Word, all_words, seek, spell}
 use Rattle.memory_desc.specs.Names.{is_letter, is_digit, is_name_byte}
 use Rattle.memory_desc.specs.declared.line_place.Key.{Key}
 use Rattle.memory_desc.specs.declared.line_place.Key.TheVariants.{Memory, Name, Words, Bits, Latency, Polarity, Pause, Scramble, Backgrounds}
 use Rattle.memory_desc.specs.declared.line_place.Place.{Place}
-use Rattle.memory_desc.specs.declared.line_place.Place.TheVariants.{Opening, Begin, Remark, LetterB, LetterP, Letters, Wanted, Number, Name as InName, RowNumber, RowEnd, Term, TermNumber, TermEnd, LetterL, LetterO, Hex, HexEnd, End}
+use Rattle.memory_desc.specs.declared.line_place.Place.TheVariants.{Opening, Begin, Remark, Letters, Named, Wanted, Number, Name as InName, RowNumber, RowEnd, Term, TermNumber, TermEnd, LetterL, LetterO, Hex, HexEnd, End}
 use Rattle.memory_desc.specs.declared.line_place.Version.{Version}
 use Rattle.memory_desc.specs.declared.line_place.Version.TheVariants.{One, Two}
 use Rattle.memory_desc.specs.LineText.{is_hex, key_text}
@@ -13,11 +16,6 @@ use Rattle.memory_desc.specs.LineText.{is_hex, key_text}
 -- behind a content line
 abbrev pub ended : Key → ℕ → Option Place
 ended key c = if is_blank c then Some (End key) else if c == 35 then Some (Remark (Some key)) else None
-
--- the next letter of a first word, or the blank behind it
-abbrev pub letter_of : Option ℕ → Key → ℕ → ℕ → Option Place
-letter_of None key count c = if is_blank c then Some (Wanted key) else None
-letter_of (Some l) key count c = if c == l then Some (Letters key (count + 1)) else None
 
 -- the digits of the number that a line of a kind has, and how many there may be: a polarity is a word
 abbrev pub is_digit_of : Key → ℕ → Bool
@@ -39,25 +37,27 @@ argument_begun Name c = if is_letter c then Some InName else None
 argument_begun Scramble c = if c == 97 then Some (RowNumber 0) else None
 argument_begun Backgrounds c = if c == 108 then Some LetterL else if is_hex c then Some (Hex 1) else None
 
-abbrev pub opened : ℕ → Option Place
-opened c = if is_blank c then Some Opening else if c == 35 then Some (Remark None) else if c == 109 then Some (Letters Memory 1) else None
+-- the first words of a version's lines, and before a version is known
+abbrev pub keys_in : Option Version → List Key
+keys_in None = Memory ∷ []
+keys_in (Some One) = Memory ∷ Name ∷ Words ∷ Bits ∷ Scramble ∷ Backgrounds ∷ []
+keys_in (Some Two) = Memory ∷ Name ∷ Words ∷ Bits ∷ Scramble ∷ Backgrounds ∷ Latency ∷ Polarity ∷ Pause ∷ []
 
--- the first letter of a line of version 1
-abbrev pub letter_begun : ℕ → Option Place
-letter_begun c =
-    if c == 109 then Some (Letters Memory 1) else if c == 110 then Some (Letters Name 1) else if c == 119 then Some (Letters Words 1)
-    else if c == 115 then Some (Letters Scramble 1) else if c == 98 then Some LetterB else None
+abbrev pub keys_of : Option Version → List (Word Key)
+keys_of given = all_words (λ k. key_text k ∷ []) (keys_in given)
 
--- and of one that version 2 has besides
-abbrev pub later_begun : ℕ → Option Place
-later_begun c = if c == 108 then Some (Letters Latency 1) else if c == 112 then Some LetterP else letter_begun c
+abbrev pub spelling : Option Version → Option (Spelled Key) → Option Place
+spelling given None = None
+spelling given (Some (More q)) = Some (Letters given q)
+spelling given (Some (Whole key)) = Some (Named key)
 
-abbrev pub content_begun : Version → ℕ → Option Place
-content_begun One c = letter_begun c
-content_begun Two c = later_begun c
+abbrev pub at_start : Option Version → Place
+at_start None = Opening
+at_start (Some version) = Begin version
 
-abbrev pub begun : Version → ℕ → Option Place
-begun version c = if is_blank c then Some (Begin version) else if c == 35 then Some (Remark None) else content_begun version c
+abbrev pub begun : Option Version → ℕ → Option Place
+begun given c =
+    if is_blank c then Some (at_start given) else if c == 35 then Some (Remark None) else spelling given (seek [] c 0 (keys_of given))
 
 abbrev pub term_ended : ℕ → Option Place
 term_ended c = if is_blank c then Some TermEnd else if c == 94 then Some Term else if c == 35 then Some (Remark (Some Scramble)) else None
@@ -69,12 +69,11 @@ abbrev pub word_ended : ℕ → Option Place
 word_ended c = if is_blank c then Some HexEnd else if c == 35 then Some (Remark (Some Backgrounds)) else None
 
 abbrev pub step : Place → ℕ → Option Place
-step Opening c = opened c
-step (Begin version) c = begun version c
+step Opening c = begun None c
+step (Begin version) c = begun (Some version) c
 step (Remark key) c = Some (Remark key)
-step LetterB c = if c == 105 then Some (Letters Bits 2) else if c == 97 then Some (Letters Backgrounds 2) else None
-step LetterP c = if c == 111 then Some (Letters Polarity 2) else if c == 97 then Some (Letters Pause 2) else None
-step (Letters key count) c = letter_of (slice_get (key_text key) count) key count c
+step (Letters given q) c = spelling given (spell (keys_of given) q c)
+step (Named key) c = if is_blank c then Some (Wanted key) else None
 step (Wanted key) c = if is_blank c then Some (Wanted key) else argument_begun key c
 step (Number key count) c = if is_digit_of key c && nat_lt count (most_digits key) then Some (Number key (count + 1)) else if count == 0 then None else ended key c
 step InName c = if is_name_byte c then Some InName else ended Name c
@@ -93,9 +92,8 @@ abbrev pub value : Place → Option (Option Key)
 value Opening = Some None
 value (Begin version) = Some None
 value (Remark key) = Some key
-value LetterB = None
-value LetterP = None
-value (Letters key count) = None
+value (Letters given q) = None
+value (Named key) = None
 value (Wanted key) = None
 value (Number key count) = if count == 0 then None else Some (Some key)
 value InName = Some (Some Name)

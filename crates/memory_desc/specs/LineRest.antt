@@ -1,15 +1,16 @@
 -- What may still follow where a reader of a line stands, in the pieces of the grammar.
-use Rattle.std.specs.Prelude.{◌≡◌, ℕ, ◌+◌, ◌-◌, ◌≤◌, Bool, true, Option, Some, None, List, [], ◌∷◌, ◌⊎◌, drop, length, codes}
+use Rattle.std.specs.Prelude.{◌≡◌, ℕ, ◌+◌, ◌-◌, ◌≤◌, Bool, true, Option, Some, None, List, [], ◌∷◌, ◌++◌, ◌⊎◌, length, codes}
 use Rattle.std.specs.List.{list_all}
 use Rattle.bist_text.specs.Grammar.{word}
+use Rattle.bist_text.specs.Keywords.{stands, letters_of}
 use Rattle.memory_desc.specs.Names.{is_digit, is_name_byte}
 use Rattle.memory_desc.specs.declared.line_place.Key.{Key}
-use Rattle.memory_desc.specs.declared.line_place.Key.TheVariants.{Memory, Name, Bits, Polarity, Pause, Scramble, Backgrounds}
+use Rattle.memory_desc.specs.declared.line_place.Key.TheVariants.{Memory, Name, Scramble, Backgrounds}
 use Rattle.memory_desc.specs.declared.line_place.Version.{Version}
 use Rattle.memory_desc.specs.declared.line_place.Place.{Place}
-use Rattle.memory_desc.specs.declared.line_place.Place.TheVariants.{Opening, Begin, Remark, LetterB, LetterP, Letters, Wanted, Number, Name as InName, RowNumber, RowEnd, Term as AtTerm, TermNumber, TermEnd, LetterL, LetterO, Hex, HexEnd, End}
-use Rattle.memory_desc.specs.LinePlaces.{is_digit_of, most_digits}
-use Rattle.memory_desc.specs.LineText.{Term, Content, kind_of, in_table, is_hex, is_word, is_term, is_formed, space, gap, tail, term_text, more_terms, equation, more_words, argument, key_text, ContentText}
+use Rattle.memory_desc.specs.declared.line_place.Place.TheVariants.{Opening, Begin, Remark, Letters, Named, Wanted, Number, Name as InName, RowNumber, RowEnd, Term as AtTerm, TermNumber, TermEnd, LetterL, LetterO, Hex, HexEnd, End}
+use Rattle.memory_desc.specs.LinePlaces.{is_digit_of, most_digits, keys_of}
+use Rattle.memory_desc.specs.LineText.{Term, Content, kind_of, in_table, is_hex, is_word, is_term, is_formed, space, gap, tail, term_text, more_terms, equation, more_words, argument, ContentText}
 
 -- a line without content, or a content line of a kind that is allowed
 abbrev pub LineOf : (Key → Type 0) → List ℕ → Option Key → Type 0
@@ -51,17 +52,17 @@ OneTerm b = (t : Term) × (is_term t ≡ true) × Terms (λ ts. space (word (ter
 abbrev pub HexWords : (List (List ℕ) → List ℕ → Type 0) → List ℕ → Type 0
 HexWords follows b = (ws : List (List ℕ)) × (list_all is_word ws ≡ true) × follows ws b
 
+-- a content line whose first word these letters begin
+abbrev pub Keyed : Option Version → List ℕ → List ℕ → Option Key → Type 0
+Keyed given ls b v =
+    (c : Content) × (is_formed c ≡ true) × (v ≡ Some (kind_of c)) × stands (keys_of given) (kind_of c) (gap (argument c tail)) (ls ++ b)
+
 abbrev pub rest : Place → List ℕ → Option Key → Type 0
 rest Opening b v = OpeningText b v
 rest (Begin version) b v = KindText version b v
 rest (Remark key) b v = v ≡ key
-rest LetterB b v =
-    ((v ≡ Some Bits) × Of Bits (λ c. word (codes "its") (gap (argument c tail))) b)
-    ⊎ ((v ≡ Some Backgrounds) × Of Backgrounds (λ c. word (codes "ackgrounds") (gap (argument c tail))) b)
-rest LetterP b v =
-    ((v ≡ Some Polarity) × Of Polarity (λ c. word (codes "olarity") (gap (argument c tail))) b)
-    ⊎ ((v ≡ Some Pause) × Of Pause (λ c. word (codes "ause") (gap (argument c tail))) b)
-rest (Letters key n) b v = (v ≡ Some key) × Of key (λ c. word (drop n (key_text key)) (gap (argument c tail))) b
+rest (Letters given q) b v = Keyed given (letters_of (keys_of given) q) b v
+rest (Named key) b v = (v ≡ Some key) × Of key (λ c. gap (argument c tail)) b
 rest (Wanted key) b v = (v ≡ Some key) × Of key (λ c. space (argument c tail)) b
 rest (Number key n) b v = (v ≡ Some key) × Run (is_digit_of key) (most_digits key) n tail b
 rest InName b v = (v ≡ Some Name) × Names tail b

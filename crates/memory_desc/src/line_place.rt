@@ -1,8 +1,9 @@
-ghost use Rattle.std.specs.Prelude.{◌≡◌, ◌≤◌, ◌<◌, ◌&&◌, nat_lt, length, slice_get, IsTrue};
-ghost use Rattle.memory_desc.specs.LineText.{key_text};
-ghost use Rattle.memory_desc.specs.LinePlaces.{step, value, argument_begun, begun, content_begun, ended, is_digit_of, letter_begun, letter_of, most_digits, opened, row_ended, term_ended, word_ended};
+ghost use Rattle.std.specs.Prelude.{◌≡◌, ◌≤◌, ◌<◌, ◌&&◌, nat_lt, map, IsTrue};
+ghost use Rattle.bist_text.specs.Keywords.{word_of};
+ghost use Rattle.memory_desc.specs.LinePlaces.{step, value, argument_begun, begun, ended, is_digit_of, most_digits, keys_of, spelling, at_start, row_ended, term_ended, word_ended};
 
 use crate::byte_sets::{BLANKS, NAME_BYTES, NAME_STARTS};
+use bist_text::{Keyword, Letters, Spelled, first_letter, next_letter};
 
 /// The kinds of content lines, by their first word.
 #[derive(Clone, Copy)]
@@ -34,11 +35,10 @@ pub enum Place {
     Begin(Version),
     /// In a comment, behind a content line of a kind or none.
     Remark(Option<Key>),
-    /// Behind the `b` of `bits` or `backgrounds`.
-    LetterB,
-    /// Behind the `p` of `polarity` or `pause`.
-    LetterP,
-    Letters(Key, u8),
+    /// In the first word of a line of a version, or of one that may only be a `memory` line.
+    Letters(Option<Version>, Letters),
+    /// Behind a first word, before a blank.
+    Named(Key),
     /// Behind a first word and a blank.
     Wanted(Key),
     Number(Key, u8),
@@ -76,20 +76,19 @@ pub fn place_after(place: Place, byte: u8) -> Option<Place>
     ensures { result ≡ step place byte }
 {
     match place {
-        Place::Opening => opening(byte),
-        Place::Begin(version) => begin(version, byte),
+        Place::Opening => begun(None, byte),
+        Place::Begin(version) => begun(Some(version), byte),
         Place::Remark(key) => Some(Place::Remark(key)),
-        Place::LetterB => match byte {
-            b'i' => Some(Place::Letters(Key::Bits, 2)),
-            b'a' => Some(Place::Letters(Key::Backgrounds, 2)),
-            _ => None,
-        },
-        Place::LetterP => match byte {
-            b'o' => Some(Place::Letters(Key::Polarity, 2)),
-            b'a' => Some(Place::Letters(Key::Pause, 2)),
-            _ => None,
-        },
-        Place::Letters(key, count) => letter(key, count, byte),
+        Place::Letters(version, letters) => {
+            spelled(version, next_letter(keys_of(version), letters, byte))
+        }
+        Place::Named(key) => {
+            if BLANKS.contains(byte) {
+                Some(Place::Wanted(key))
+            } else {
+                None
+            }
+        }
         Place::Wanted(key) => {
             if BLANKS.contains(byte) {
                 Some(Place::Wanted(key))
@@ -156,83 +155,61 @@ pub fn place_after(place: Place, byte: u8) -> Option<Place>
     }
 }
 
-/// A byte before a line that may only be a `memory` line.
-fn opening(byte: u8) -> Option<Place>
-    ensures { result ≡ opened byte }
-{
-    match byte {
-        b' ' | b'\t' | b'\r' => Some(Place::Opening),
-        b'#' => Some(Place::Remark(None)),
-        b'm' => Some(Place::Letters(Key::Memory, 1)),
-        _ => None,
-    }
-}
+/// The first words, those of version 1 first.
+static KEYS: [Keyword<Key>; 9] = [
+    Keyword("memory", Key::Memory),
+    Keyword("name", Key::Name),
+    Keyword("words", Key::Words),
+    Keyword("bits", Key::Bits),
+    Keyword("scramble", Key::Scramble),
+    Keyword("backgrounds", Key::Backgrounds),
+    Keyword("latency", Key::Latency),
+    Keyword("polarity", Key::Polarity),
+    Keyword("pause", Key::Pause),
+];
 
-/// A byte before any line of a version.
-fn begin(version: Version, byte: u8) -> Option<Place>
-    ensures { result ≡ begun version byte }
-{
-    match byte {
-        b' ' | b'\t' | b'\r' => Some(Place::Begin(version)),
-        b'#' => Some(Place::Remark(None)),
-        _ => first_letter(version, byte),
-    }
-}
-
-/// The first letter of a line of a version.
-fn first_letter(version: Version, byte: u8) -> Option<Place>
-    ensures { result ≡ content_begun version byte }
+/// The first words of a version's lines; `memory` alone before a version is known.
+fn keys_of(version: Option<Version>) -> &'static [Keyword<Key>]
+    ensures { map word_of result.now ≡ keys_of version }
 {
     match version {
-        Version::One => letter_of_both(byte),
-        Version::Two => match byte {
-            b'l' => Some(Place::Letters(Key::Latency, 1)),
-            b'p' => Some(Place::LetterP),
-            _ => letter_of_both(byte),
-        },
+        None => &KEYS[..1],
+        Some(Version::One) => &KEYS[..6],
+        Some(Version::Two) => &KEYS,
     }
 }
 
-/// The first letter of a line that both versions have.
-fn letter_of_both(byte: u8) -> Option<Place>
-    ensures { result ≡ letter_begun byte }
+/// Where a reader stands by what is spelled.
+fn spelled(version: Option<Version>, spelled: Option<Spelled<Key>>) -> Option<Place>
+    ensures { result ≡ spelling version spelled }
 {
-    match byte {
-        b'm' => Some(Place::Letters(Key::Memory, 1)),
-        b'n' => Some(Place::Letters(Key::Name, 1)),
-        b'w' => Some(Place::Letters(Key::Words, 1)),
-        b's' => Some(Place::Letters(Key::Scramble, 1)),
-        b'b' => Some(Place::LetterB),
-        _ => None,
+    match spelled? {
+        Spelled::More(letters) => Some(Place::Letters(version, letters)),
+        Spelled::Whole(key) => Some(Place::Named(key)),
     }
 }
 
-/// The bytes of a first word.
-fn key_bytes(key: Key) -> &'static [u8]
-    ensures text { result.now ≡ key_text key }
-    ensures short { length result.now ≤ 11 }
+/// The place before a line.
+fn at_start(version: Option<Version>) -> Place
+    ensures { result ≡ at_start version }
 {
-    match key {
-        Key::Memory => b"memory",
-        Key::Name => b"name",
-        Key::Words => b"words",
-        Key::Bits => b"bits",
-        Key::Latency => b"latency",
-        Key::Polarity => b"polarity",
-        Key::Pause => b"pause",
-        Key::Scramble => b"scramble",
-        Key::Backgrounds => b"backgrounds",
+    match version {
+        None => Place::Opening,
+        Some(version) => Place::Begin(version),
     }
 }
 
-/// The next letter of a first word, or the blank behind it.
+/// A byte before a line.
 #[tactic(auto, using(crate::proofs::Behind::blanks_have))]
-fn letter(key: Key, count: u8, byte: u8) -> Option<Place>
-    ensures { result ≡ letter_of (slice_get (key_text key) count) key count byte }
+fn begun(version: Option<Version>, byte: u8) -> Option<Place>
+    ensures { result ≡ begun version byte }
 {
-    match key_bytes(key).get(count as usize) {
-        Some(letter) => (byte == *letter).then_some(Place::Letters(key, count + 1)),
-        None => BLANKS.contains(byte).then_some(Place::Wanted(key)),
+    if BLANKS.contains(byte) {
+        Some(at_start(version))
+    } else if byte == b'#' {
+        Some(Place::Remark(None))
+    } else {
+        spelled(version, first_letter(keys_of(version), byte))
     }
 }
 
@@ -326,9 +303,8 @@ pub fn kind_at(place: Place) -> Option<Option<Key>>
         Place::TermEnd => Some(Some(Key::Scramble)),
         Place::Hex(count) => (count != 0).then_some(Some(Key::Backgrounds)),
         Place::HexEnd => Some(Some(Key::Backgrounds)),
-        Place::LetterB
-        | Place::LetterP
-        | Place::Letters(_, _)
+        Place::Letters(_, _)
+        | Place::Named(_)
         | Place::Wanted(_)
         | Place::RowNumber(_)
         | Place::RowEnd

@@ -5,7 +5,8 @@ use Rattle.fault_core.specs.declared.primitive.Act.{Act}
 use Rattle.march_core.specs.declared.operation.Op.{Op}
 use Rattle.march_core.specs.March.{MarchElement, pause, sweep}
 use Rattle.march_core.specs.Visits.{Direction, Upward, Downward}
-use Rattle.array_sim.specs.Run.{act_of, is_wrong_of}
+use Rattle.march_core.specs.Operation.{is_wrong_of}
+use Rattle.array_sim.specs.Run.{act_of}
 use Rattle.fault_core.specs.Primitive.{Primitive}
 use Rattle.cell_machine.specs.Pairs.{pair_step, pair_answer, pair_pause}
 use Rattle.cell_machine.specs.declared.pair.Pair.{Pair}

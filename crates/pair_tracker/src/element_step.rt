@@ -4,10 +4,10 @@ ghost use Rattle.march_core.specs.March.{element_at, sweep};
 ghost use Rattle.pair_tracker.specs.Pairs.{machine_of, ops_run, sides_run};
 ghost use Rattle.pair_tracker.specs.Tracking.{end_of};
 
-use array_sim::{act_of, is_wrong};
+use array_sim::act_of;
 use cell_machine::{Pair, Side, act, pause};
 use fault_core::Prim;
-use march_core::{March, Op, Order};
+use march_core::{March, Op, Order, is_wrong};
 
 /// Where an element leads from a pair in each direction. None where its order doesn't leave the direction
 /// open, or where a read differs.

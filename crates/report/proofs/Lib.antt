@@ -2,3 +2,4 @@ pub mod ReportLines
 pub mod Counts
 pub mod PlainItems
 pub mod ClassOrder
+pub mod OneReport

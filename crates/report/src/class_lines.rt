@@ -44,30 +44,9 @@ pub(crate) fn class_name(class: ItemClass) -> &'static [u8]
     ensures { result.now ≡ class_text class }
 {
     match class {
-        ItemClass::Static(class) => static_name(class),
+        ItemClass::Static(class) => fault_syntax::class_name(class).as_bytes(),
         ItemClass::DynOne => b"DYN1",
         ItemClass::DynTwo => b"DYN2",
-    }
-}
-
-fn static_name(class: Class) -> &'static [u8]
-    ensures { result.now ≡ class_text (ItemClass.Static class) }
-{
-    match class {
-        Class::SF => b"SF",
-        Class::TF => b"TF",
-        Class::WDF => b"WDF",
-        Class::RDF => b"RDF",
-        Class::DRDF => b"DRDF",
-        Class::IRF => b"IRF",
-        Class::CFst => b"CFst",
-        Class::CFds => b"CFds",
-        Class::CFtr => b"CFtr",
-        Class::CFwd => b"CFwd",
-        Class::CFrd => b"CFrd",
-        Class::CFdr => b"CFdr",
-        Class::CFir => b"CFir",
-        Class::DRF => b"DRF",
     }
 }
 

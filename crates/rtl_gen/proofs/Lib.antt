@@ -2,6 +2,5 @@ pub mod Mirror
 pub mod Runs
 pub mod Listed
 pub mod Addressed
-pub mod Named
 pub mod Sizes
 pub mod Made

@@ -15,7 +15,7 @@ use Rattle.rtl_layout.specs.Control.{nothing, element_at, background_at}
 use Rattle.rtl_layout.specs.Shows.{Ready, Sized, IsPlan, no_row, mask_at}
 use Rattle.rtl_gen.specs.Planned.{operation_of, element_of, rows_from, Plans}
 use Rattle.rtl_gen.proofs.Listed.{length-rows}
-use Rattle.rtl_gen.proofs.Named.{module_name_legal}
+use Rattle.self_test.proofs.Named.{module_name_legal}
 
 -- what the numbers of a plan are made from
 pub record Widths (march : List MarchElement) (d : Description) (p : Plan) (most : ℕ) : Type 0 where

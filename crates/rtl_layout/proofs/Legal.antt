@@ -22,7 +22,7 @@ use Rattle.rtl_layout.specs.Shows.{Ready, Sized}
 use Rattle.rtl_layout.proofs.Choice.{leaf_map, length_map, leaf_drop, leaf_take, length_take, AllWide, below_wide}
 use Rattle.rtl_layout.proofs.Stages.{Ageless, lookup_behind, found_reads, found_over, found_value, found_back, reg}
 use Rattle.rtl_layout.proofs.Counter.{either, half_in}
-use Rattle.rtl_layout.proofs.Sound.{Known, Sound, SoundParts, GoodAssign, GoodAssigns, GoodSet, GoodSets, sets_append}
+use Rattle.verilog_tree.proofs.Sound.{Known, Sound, SoundParts, GoodAssign, GoodAssigns, GoodSet, GoodSets, sets_append}
 
 -- ---- choices
 

@@ -9,7 +9,6 @@ pub mod Legal
 pub mod Outputs
 pub mod Ranked
 pub mod Resets
-pub mod Sound
 pub mod Stages
 pub mod Step
 pub mod Tabled

@@ -11,7 +11,7 @@ use Rattle.rtl_layout.specs.Layout as L
 use Rattle.rtl_layout.specs.Layout.{stage_regs, aged, reads_at, over_at, value_at, end_regs, wires, digit_regs, items_after, self_test}
 use Rattle.rtl_layout.specs.Shows.{Ready, Sized}
 use Rattle.rtl_layout.proofs.Stages.{Ageless, lookup_behind, reads_ageless, over_ageless, value_ageless, back_ageless}
-use Rattle.rtl_layout.proofs.Sound.{GoodSets, good_block, Declares, declares_pass, declares_only, assigns_pass, Apart, fresh_of, two_none}
+use Rattle.verilog_tree.proofs.Sound.{GoodSets, good_block, Declares, declares_pass, declares_only, assigns_pass, Apart, fresh_of, two_none}
 use Rattle.rtl_layout.proofs.Legal.{declared, names, wide, ageless, block_good, assigns_good}
 
 -- ---- the ages among declarations

@@ -1,5 +1,5 @@
 -- The port of a module that is not as a self-test module has it.
-use Rattle.std.specs.Prelude.{◌≡◌, ℕ, Bool, true, false, not, ◌&&◌, ◌||◌, nat_eq, if◌then◌else◌, List, [], ◌∷◌, ◌++◌, Option, Some, None}
+use Rattle.std.specs.Prelude.{◌≡◌, ◌⊎◌, ℕ, Bool, true, false, not, ◌&&◌, ◌||◌, nat_eq, if◌then◌else◌, List, [], ◌∷◌, ◌++◌, Option, Some, None}
 use Rattle.std.specs.List.{AllByRecursion}
 use Rattle.std.specs.Str.{bytes_eq}
 use Rattle.verilog_tree.specs.declared.tree.Dir.{Dir}
@@ -51,3 +51,30 @@ pub record ArePorts (d : Description) (qs : List ModulePort) : Type 0 where
   pub each : AllByRecursion (λ p. has_port p qs ≡ true) (ports d)
   pub only : AllByRecursion (λ q. has_port q (ports d) ≡ true) qs
   pub once : (before : List ModulePort) (q : ModulePort) (behind : List ModulePort) → qs ≡ before ++ q ∷ behind → has_name q.name before ≡ false
+
+-- this names the first port of the list that isn't among these: those before it are
+pub record IsFirstMissing (list qs : List ModulePort) (name : List ℕ) : Type 0 where
+  pub before : List ModulePort
+  pub port : ModulePort
+  pub behind : List ModulePort
+  pub split : list ≡ before ++ port ∷ behind
+  pub named : name ≡ port.name
+  pub absent : has_port port qs ≡ false
+  pub there : AllByRecursion (λ p. has_port p qs ≡ true) before
+
+-- this names the first of these that is no port of the list, or has the name of one before it: those before it are ports of the
+-- list with names of their own
+pub record IsFirstFurther (list qs : List ModulePort) (name : List ℕ) : Type 0 where
+  pub before : List ModulePort
+  pub port : ModulePort
+  pub behind : List ModulePort
+  pub split : qs ≡ before ++ port ∷ behind
+  pub named : name ≡ port.name
+  pub wrong : (has_port port list ≡ false) ⊎ (has_name port.name before ≡ true)
+  pub only : AllByRecursion (λ q. has_port q list ≡ true) before
+  pub once : (b : List ModulePort) (q : ModulePort) (rest : List ModulePort) → before ≡ b ++ q ∷ rest → has_name q.name b ≡ false
+
+-- the port that is told: the first that is missing, or, where none is, the first further one
+abbrev pub IsWrongPort : Description → List ModulePort → List ℕ → Type 0
+IsWrongPort d qs name =
+    IsFirstMissing (ports d) qs name ⊎ (AllByRecursion (λ p. has_port p qs ≡ true) (ports d) × IsFirstFurther (ports d) qs name)

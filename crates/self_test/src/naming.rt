@@ -1,9 +1,9 @@
-ghost use Rattle.std.specs.Prelude.{◌≡◌, ◌≤◌, ◌↔◌, [], map, length, None};
+ghost use Rattle.std.specs.Prelude.{◌≡◌, ◌≤◌, ◌↔◌, ℕ, List, [], map, length, Some, None};
 ghost use Rattle.std.specs.Option.{option_map};
 ghost use Rattle.std.specs.Str.{bytes_eq};
 ghost use Rattle.verilog_tree.specs.Plain.{plain_port};
 ghost use Rattle.self_test.specs.Ports.{ports};
-ghost use Rattle.self_test.specs.WrongPort.{is_input, same_direction, same_port, has_port, has_name, missing, further, wrong_port, ArePorts};
+ghost use Rattle.self_test.specs.WrongPort.{is_input, same_direction, same_port, has_port, has_name, missing, further, wrong_port, ArePorts, IsWrongPort};
 
 use arrayvec::ArrayString;
 use memory_desc::Memory;
@@ -132,6 +132,7 @@ fn named(ports: &[Port], memory: &Memory) -> Option<Name>
 /// is further. An output may be a register.
 pub fn wrong_port(ports: &[Port], memory: &Memory) -> Option<Name>
     ensures name { option_map (λ n. n.bytes) result ≡ wrong_port memory.now (map plain_port ports.now) }
+    ensures told { (name : List ℕ) → (option_map (λ n. n.bytes) result ≡ Some name) ↔ IsWrongPort memory.now (map plain_port ports.now) name }
     ensures none { (result ≡ None) ↔ ArePorts memory.now (map plain_port ports.now) }
 {
     named(ports, memory)

@@ -1,6 +1,7 @@
 //! Texts that are made of pieces, and tables of texts: those that a reader refuses, and those of printed forms.
 
-use fault_syntax::{FaultFault, print_prim, read_list, read_prim};
+use dynamic_core::read_list;
+use fault_syntax::{FaultFault, print_prim, read_prim};
 use march_core::{March, MarchFault};
 use march_syntax::{print_march, read_march};
 use memory_desc::{Memory, MemoryFault, print_memory, read_memory};

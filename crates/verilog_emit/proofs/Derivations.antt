@@ -3,7 +3,8 @@ use Rattle.std.proofs.Common.{◌≡◌, ℕ, nat_le, ◌-◌, ◌&&◌, nat_lt,
 use Rattle.std.proofs.lemmas.Bool.{ltb-true, leb-true, ltb-false}
 use Rattle.bist_bits.specs.Vector.{Vector}
 use Rattle.verilog_tree.specs.Formed.{is_width, has_expression, expression_formed, expressions_formed, has_label, labels_formed, statement_formed, statements_formed, arms_formed, item_formed, items_formed, ports_formed}
-use Rattle.verilog_tree.specs.Grammar.{Expr, Name, Select, Range, Constant, Braces, Unary, Binary, Choice, Exprs, NoExpr, AndExpr, Stmt, BeginEnd, If, IfElse, Case, Assign, Stmts, NoStmt, AndStmt, Arm, ArmOf, Arms, NoArm, AndArm, NoDefault, ItsDefault, Item, Wires, Regs, Drives, Always, Port, File, expr_tree, exprs_tree, stmt_tree, stmts_tree, arm_tree, arms_tree, range_width, item_tree, items_tree, port_tree, ports_tree, file_tree, alone, then_all}
+use Rattle.verilog_tree.specs.Parenthesised.{Expr, Name, Select, Range, Constant, Braces, Unary, Binary, Choice, Exprs, NoExpr, AndExpr, expr_tree, exprs_tree}
+use Rattle.verilog_tree.specs.Grammar.{Full, Stmt, BeginEnd, If, IfElse, Case, Assign, Stmts, NoStmt, AndStmt, Arm, ArmOf, Arms, NoArm, AndArm, NoDefault, ItsDefault, Item, Wires, Regs, Drives, Always, Port, File, stmt_tree, stmts_tree, arm_tree, arms_tree, range_width, item_tree, items_tree, port_tree, ports_tree, file_tree, alone, then_all}
 use Rattle.verilog_tree.specs.Plain as P
 use Rattle.verilog_emit.proofs.Pieces.{both}
 
@@ -33,12 +34,12 @@ derive_arm (x ∷ xs) s = ArmOf x xs s
 
 abbrev mutual
   pub derive_stmt : P.Statement → Stmt
-  derive_stmt (P.SetTo n x) = Assign n (derive x)
-  derive_stmt (P.IfElse c a P.Done) = If (derive c) (BeginEnd (derive_stmts a))
-  derive_stmt (P.IfElse c a (P.Then s ss)) = IfElse (derive c) (BeginEnd (derive_stmts a)) (BeginEnd (AndStmt (derive_stmt s) (derive_stmts ss)))
-  derive_stmt (P.CaseOf x P.NoArm d) = Assign [] (derive x)
-  derive_stmt (P.CaseOf x (P.ArmOf ls b as') P.Done) = Case (derive x) (derive_arm ls (BeginEnd (derive_stmts b))) (derive_arms as') NoDefault
-  derive_stmt (P.CaseOf x (P.ArmOf ls b as') (P.Then s ss)) = Case (derive x) (derive_arm ls (BeginEnd (derive_stmts b))) (derive_arms as') (ItsDefault true (BeginEnd (AndStmt (derive_stmt s) (derive_stmts ss))))
+  derive_stmt (P.SetTo n x) = Assign n (Full (derive x))
+  derive_stmt (P.IfElse c a P.Done) = If (Full (derive c)) (BeginEnd (derive_stmts a))
+  derive_stmt (P.IfElse c a (P.Then s ss)) = IfElse (Full (derive c)) (BeginEnd (derive_stmts a)) (BeginEnd (AndStmt (derive_stmt s) (derive_stmts ss)))
+  derive_stmt (P.CaseOf x P.NoArm d) = Assign [] (Full (derive x))
+  derive_stmt (P.CaseOf x (P.ArmOf ls b as') P.Done) = Case (Full (derive x)) (derive_arm ls (BeginEnd (derive_stmts b))) (derive_arms as') NoDefault
+  derive_stmt (P.CaseOf x (P.ArmOf ls b as') (P.Then s ss)) = Case (Full (derive x)) (derive_arm ls (BeginEnd (derive_stmts b))) (derive_arms as') (ItsDefault true (BeginEnd (AndStmt (derive_stmt s) (derive_stmts ss))))
 
   pub derive_stmts : P.Statements → Stmts
   derive_stmts P.Done = NoStmt
@@ -55,7 +56,7 @@ derive_range w = if nat_lt 1 w then Some (w - 1) else None
 abbrev pub derive_item : P.ModuleItem → Item
 derive_item (P.WireItem n w) = Wires (derive_range w) n []
 derive_item (P.RegItem n w) = Regs (derive_range w) n []
-derive_item (P.AssignItem n x) = Drives n (derive x)
+derive_item (P.AssignItem n x) = Drives n (Full (derive x))
 derive_item (P.AlwaysItem c ss) = Always c (BeginEnd (derive_stmts ss))
 
 abbrev pub derive_items : List P.ModuleItem → List Item
@@ -177,29 +178,29 @@ mutual
 
 -- ---- ports and items
 
-same_range : (w : ℕ) → is_width w ≡ true → range_width (derive_range w) ≡ w
+pub same_range : (w : ℕ) → is_width w ≡ true → range_width (derive_range w) ≡ w
 same_range w h = go (nat_lt 1 w) refl
   where
     go : (t : Bool) → nat_lt 1 w ≡ t → range_width (if t then Some (w - 1) else None) ≡ w
     go true e = let above : 1 < w = ltb-true 1 w e in omega arith
     go false e = let some : 1 ≤ w = leb-true 1 w (both (nat_le 1 w) (nat_le w 64) h).0 in let below : w ≤ 1 = ltb-false 1 w e in omega arith
 
-same_item : (i : P.ModuleItem) → item_formed i ≡ true → item_tree (derive_item i) ≡ i ∷ []
+pub same_item : (i : P.ModuleItem) → item_formed i ≡ true → item_tree (derive_item i) ≡ i ∷ []
 same_item (P.WireItem n w) d = ap (λ (v : ℕ). P.WireItem n v ∷ []) (same_range w d)
 same_item (P.RegItem n w) d = ap (λ (v : ℕ). P.RegItem n v ∷ []) (same_range w d)
 same_item (P.AssignItem n x) d = ap (λ (e : P.Expression). P.AssignItem n e ∷ []) (same_tree x d)
 same_item (P.AlwaysItem c ss) d = ap (λ (t : P.Statements). P.AlwaysItem c t ∷ []) (same_stmts ss d)
 
-same_items : (is : List P.ModuleItem) → items_formed is ≡ true → items_tree (derive_items is) ≡ is
+pub same_items : (is : List P.ModuleItem) → items_formed is ≡ true → items_tree (derive_items is) ≡ is
 same_items [] d = refl
 same_items (i ∷ is) d =
     let e : (item_formed i ≡ true) × (items_formed is ≡ true) = both (item_formed i) (items_formed is) d in
     ap (λ (t : List P.ModuleItem). t ++ items_tree (derive_items is)) (same_item i e.0) ∙ ap (λ (t : List P.ModuleItem). i ∷ t) (same_items is e.1)
 
-same_port : (p : P.ModulePort) → is_width p.width ≡ true → port_tree (derive_port p) ≡ p
+pub same_port : (p : P.ModulePort) → is_width p.width ≡ true → port_tree (derive_port p) ≡ p
 same_port p d = ap (λ (w : ℕ). let q : P.ModulePort = record { dir = p.dir; name = p.name; width = w } in q) (same_range p.width d)
 
-same_ports : (ps : List P.ModulePort) → ports_formed ps ≡ true → ports_tree (derive_ports ps) ≡ ps
+pub same_ports : (ps : List P.ModulePort) → ports_formed ps ≡ true → ports_tree (derive_ports ps) ≡ ps
 same_ports [] d = refl
 same_ports (p ∷ ps) d =
     let e : (is_width p.width ≡ true) × (ports_formed ps ≡ true) = both (is_width p.width) (ports_formed ps) d in

@@ -1,5 +1,5 @@
 -- The pieces of a text: bytes that are tokens within the limits, of which a set of lists of tokens holds.
-use Rattle.std.proofs.Common.{◌≡◌, ℕ, zero, suc, ◌+◌, ◌-◌, ◌==◌, ◌&&◌, not, nat_lt, nat_le, length, Bool, true, false, List, [], ◌∷◌, ◌++◌, Option, Some, None, refl, inl, inr, subst, sym, append_assoc, append-nil, if◌then◌else◌, arith}
+use Rattle.std.proofs.Common.{◌≡◌, ℕ, zero, suc, ◌+◌, ◌-◌, ◌==◌, ◌&&◌, not, nat_lt, nat_le, length, Bool, true, false, List, [], ◌∷◌, ◌++◌, Some, None, refl, inl, inr, subst, sym, append_assoc, append-nil, if◌then◌else◌, arith}
 use Rattle.std.specs.Str.{bytes_eq}
 use Rattle.std.proofs.lemmas.Bool.{lt-ltb}
 use Rattle.std.proofs.lemmas.Slice.Eq.{bytes_eq-Decides}
@@ -9,8 +9,8 @@ use Rattle.bist_text.specs.ReservedWords.{is_among, reserved_words}
 use Rattle.verilog_tree.specs.declared.tokens.Mark.{Mark}
 use Rattle.verilog_tree.specs.declared.tokens.Mark.TheVariants.{LessEquals, TwoEquals, BangEquals, GreaterEquals, TwoAmpersands, TwoBars, TwoLess, TwoGreater}
 use Rattle.verilog_tree.specs.Grammar.{sign, keyword, name, inside}
-use Rattle.verilog_tree.specs.Spells.{all_limits, all_keep}
-use Rattle.verilog_tree.specs.Tokens.{Token, Identifier, Sign, run, whether, Start, AWord, start_of, begun, mark_text, lengthened, behind_mark, marked, Lexed}
+use Rattle.verilog_tree.specs.Spells.{all_limits, all_keep, bounded}
+use Rattle.verilog_tree.specs.Tokens.{Token, Identifier, Sign, run, whether, Start, AWord, start_of, begun, mark_text, Growth, Longer, Spoiled, Complete, growth, grown, behind_mark, Lexed}
 use Rattle.verilog_tree.specs.Words.{begins_identifier, in_identifier, all_in_identifier, is_identifier, is_name}
 use Rattle.verilog_emit.specs.Printed.{margin}
 
@@ -43,37 +43,39 @@ margined (suc depth) K r h = grouped K (margin (suc depth) ++ r) (margin depth +
 
 -- ---- marks
 
-abbrev no_mark : Option Mark → Bool
-no_mark None = true
-no_mark (Some k) = false
+abbrev is_complete : Growth → Bool
+is_complete Complete = true
+is_complete (Longer k) = false
+is_complete Spoiled = false
 
--- no byte follows that lengthens the mark
+-- no byte follows that makes another token of the mark
 abbrev pub is_alone : Mark → List ℕ → Bool
 is_alone m [] = true
-is_alone m (c ∷ r) = no_mark (lengthened m c)
+is_alone m (c ∷ r) = is_complete (growth m c)
 
--- and no byte lengthens most marks
-pub plain_alone : (m : Mark) (r : List ℕ) → ((c : ℕ) → lengthened m c ≡ None) → is_alone m r ≡ true
+-- and no byte does so of most marks
+pub plain_alone : (m : Mark) (r : List ℕ) → ((c : ℕ) → growth m c ≡ Complete) → is_alone m r ≡ true
 plain_alone m [] e = refl
-plain_alone m (c ∷ r) e = subst (λ o. no_mark o ≡ true) (sym (e c)) refl
+plain_alone m (c ∷ r) e = subst (λ g. is_complete g ≡ true) (sym (e c)) refl
 
-mark_on : (m : Mark) (K : List ℕ → Type 0) (r : List ℕ) → is_alone m r ≡ true → K r → behind_mark m m K r
+mark_on : (m : Mark) (K : List ℕ → Type 0) (r : List ℕ) → is_alone m r ≡ true → K r → behind_mark m (Sign m) K r
 mark_on m K [] a h = (refl, h)
-mark_on m K (c ∷ r) a h = go (lengthened m c) refl
+mark_on m K (c ∷ r) a h = go (growth m c) refl
   where
-    go : (o : Option Mark) → lengthened m c ≡ o → marked m m K r o c
-    go None e = (refl, h)
-    go (Some k) e = let f : false ≡ true = subst (λ o. no_mark o ≡ true) e a in cc
+    go : (g : Growth) → growth m c ≡ g → grown g (λ k. behind_mark k (Sign m) K r) m (Sign m) K c r
+    go Complete e = (refl, h)
+    go (Longer k) e = let f : false ≡ true = subst (λ g. is_complete g ≡ true) e a in cc
+    go Spoiled e = let f : false ≡ true = subst (λ g. is_complete g ≡ true) e a in cc
 
 lexed_mark : (m : Mark) (us : List Token) (r : List ℕ) → is_alone m r ≡ true → Lexed us r → Lexed (Sign m ∷ us) (mark_text m ++ r)
-lexed_mark LessEquals us r a h = inl (refl, h)
-lexed_mark TwoEquals us r a h = inl (refl, h)
-lexed_mark BangEquals us r a h = inl (refl, h)
-lexed_mark GreaterEquals us r a h = inl (refl, h)
-lexed_mark TwoAmpersands us r a h = inl (refl, h)
-lexed_mark TwoBars us r a h = inl (refl, h)
-lexed_mark TwoLess us r a h = inl (refl, h)
-lexed_mark TwoGreater us r a h = inl (refl, h)
+lexed_mark LessEquals us r a h = inl (mark_on LessEquals (Lexed us) r a h)
+lexed_mark TwoEquals us r a h = inl (mark_on TwoEquals (Lexed us) r a h)
+lexed_mark BangEquals us r a h = inl (mark_on BangEquals (Lexed us) r a h)
+lexed_mark GreaterEquals us r a h = inl (mark_on GreaterEquals (Lexed us) r a h)
+lexed_mark TwoAmpersands us r a h = inl (mark_on TwoAmpersands (Lexed us) r a h)
+lexed_mark TwoBars us r a h = inl (mark_on TwoBars (Lexed us) r a h)
+lexed_mark TwoLess us r a h = inl (mark_on TwoLess (Lexed us) r a h)
+lexed_mark TwoGreater us r a h = inl (mark_on TwoGreater (Lexed us) r a h)
 lexed_mark m us r a h = inl (mark_on m (Lexed us) r a h)
 
 same_bytes : (w : List ℕ) → bytes_eq w w ≡ true
@@ -138,7 +140,7 @@ sum_inside d zero e h = cc
 sum_inside d (suc k) e h = omega arith
 
 -- inside of an opening that has d open round it, where j more may be open
-pub opened : (d j : ℕ) (K : ℕ → List Token → Type 0) (r : List ℕ) → d + 1 + j ≡ 64 → Spelt (K (d + 1)) r → Spelt (inside (Some 64) d K) r
+pub opened : (d j : ℕ) (K : ℕ → List Token → Type 0) (r : List ℕ) → d + 1 + j ≡ 64 → Spelt (K (d + 1)) r → Spelt (inside bounded d K) r
 opened d j K r e h = record {
   tokens = h.tokens;
   lexed = h.lexed;

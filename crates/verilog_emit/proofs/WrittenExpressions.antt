@@ -1,19 +1,21 @@
 -- What is printed of an expression is derived, within the room that it fits in.
-use Rattle.std.proofs.Common.{◌≡◌, ℕ, ◌+◌, ◌-◌, ◌/◌, ◌==◌, ◌<◌, ◌&&◌, ◌||◌, nat_lt, Bool, true, false, List, [], ◌∷◌, ◌++◌, Some, None, refl, subst, sym, append_assoc, codes}
+use Rattle.std.proofs.Common.{◌≡◌, ℕ, ◌+◌, ◌-◌, ◌/◌, ◌==◌, ◌<◌, ◌&&◌, ◌||◌, nat_lt, Bool, true, false, List, [], ◌∷◌, ◌++◌, refl, subst, sym, append_assoc, codes}
 use Rattle.std.specs.Prelude.{decimal}
 use Rattle.bist_text.specs.Numbers.{hex_digits}
 use Rattle.bist_text.proofs.Pieces.{at_byte}
 use Rattle.verilog_tree.specs.declared.tokens.Mark.{Mark}
-use Rattle.verilog_tree.specs.declared.tokens.Mark.TheVariants.{Open, Close, OpenBracket, CloseBracket, OpenBrace, CloseBrace, Comma, Question, Colon, Bang, Ampersand, Bar}
+use Rattle.verilog_tree.specs.declared.tokens.Mark.TheVariants.{Open, Close, OpenBracket, CloseBracket, OpenBrace, CloseBrace, Comma, Question, Colon, Bang, Ampersand, Bar, Caret, Tilde}
 use Rattle.verilog_tree.specs.declared.tree.BinOp.TheVariants as B
 use Rattle.verilog_tree.specs.declared.tree.BinOp.{BinOp}
 use Rattle.verilog_tree.specs.declared.tree.UnOp.TheVariants as U
 use Rattle.verilog_tree.specs.declared.tree.UnOp.{UnOp}
 use Rattle.verilog_tree.specs.Fits.{expression_fits, expressions_fit}
 use Rattle.verilog_tree.specs.Formed.{is_place, has_expression, expression_formed, expressions_formed}
-use Rattle.verilog_tree.specs.Grammar.{Limit, sign, number, inside, unary_mark, binary_mark, expr, exprs}
+use Rattle.verilog_tree.specs.Grammar.{Limit, sign, number, inside, unary_mark, binary_mark}
+use Rattle.verilog_tree.specs.Parenthesised.{expr, exprs}
+use Rattle.verilog_tree.specs.Spells.{bounded}
 use Rattle.verilog_tree.specs.Plain as P
-use Rattle.verilog_tree.specs.Tokens.{Token, mark_text, lengthened}
+use Rattle.verilog_tree.specs.Tokens.{Token, mark_text, Complete, growth}
 use Rattle.verilog_tree.specs.Words.{is_digit, begins_identifier, all_in_identifier, is_identifier}
 use Rattle.verilog_emit.specs.Printed.{expression_text, parts_text}
 use Rattle.verilog_emit.proofs.Derivations.{derive, braces, derive_more}
@@ -21,10 +23,10 @@ use Rattle.verilog_emit.proofs.Numerals.{numbered, constant, first_digit, narrow
 use Rattle.verilog_emit.proofs.Pieces.{Spelt, both, grouped, blank, is_alone, is_apart, mark, named, opened, sum_inside, plain_alone, name_is}
 
 abbrev pub L : Limit
-L = Some 64
+L = bounded
 
--- a mark that no byte lengthens
-pub plain : (m : Mark) (K : List Token → Type 0) (r : List ℕ) → ((c : ℕ) → lengthened m c ≡ None) → Spelt K r → Spelt (sign m K) (mark_text m ++ r)
+-- a mark of which no byte makes another token
+pub plain : (m : Mark) (K : List Token → Type 0) (r : List ℕ) → ((c : ℕ) → growth m c ≡ Complete) → Spelt K r → Spelt (sign m K) (mark_text m ++ r)
 plain m K r e h = mark m K r (plain_alone m r e) h
 
 -- ---- an operator of one operand, and what stands behind it
@@ -37,14 +39,14 @@ abbrev is_operand : List ℕ → Bool
 is_operand [] = false
 is_operand (c ∷ r) = begins_operand c
 
--- lengthens no unary operator
+-- makes no other token of a unary operator
 operand_alone : (o : UnOp) (b : List ℕ) → is_operand b ≡ true → is_alone (unary_mark o) b ≡ true
 operand_alone o [] e = cc
 operand_alone U.Not (c ∷ b) e = at_byte (λ x. begins_operand x ≡ true → is_alone Bang (x ∷ b) ≡ true) c 61 (λ h. cc) (λ n h. rw n refl) e
 operand_alone U.AllOnes (c ∷ b) e = at_byte (λ x. begins_operand x ≡ true → is_alone Ampersand (x ∷ b) ≡ true) c 38 (λ h. cc) (λ n h. rw n refl) e
 operand_alone U.AnyOne (c ∷ b) e = at_byte (λ x. begins_operand x ≡ true → is_alone Bar (x ∷ b) ≡ true) c 124 (λ h. cc) (λ n h. rw n refl) e
-operand_alone U.Invert (c ∷ b) e = refl
-operand_alone U.Parity (c ∷ b) e = refl
+operand_alone U.Invert (c ∷ b) e = at_byte (λ x. begins_operand x ≡ true → is_alone Tilde (x ∷ b) ≡ true) c 38 (λ h. cc) (λ l h. at_byte (λ x. (x == 38) ≡ false → begins_operand x ≡ true → is_alone Tilde (x ∷ b) ≡ true) c 124 (λ m i. cc) (λ m i j. at_byte (λ x. (x == 38) ≡ false → (x == 124) ≡ false → begins_operand x ≡ true → is_alone Tilde (x ∷ b) ≡ true) c 94 (λ n k u. cc) (λ n k u v. rw k (rw u (rw n refl))) i m j) l h) e
+operand_alone U.Parity (c ∷ b) e = at_byte (λ x. begins_operand x ≡ true → is_alone Caret (x ∷ b) ≡ true) c 126 (λ h. cc) (λ n h. rw n refl) e
 
 name_operand : (n r : List ℕ) → is_identifier n ≡ true → is_operand (n ++ r) ≡ true
 name_operand [] r e = cc

@@ -5,7 +5,8 @@ use Rattle.bist_bits.specs.Vector.{Vector}
 use Rattle.verilog_tree.specs.declared.tokens.Mark.TheVariants.{Open, Close, Comma, Semicolon, Colon, LessEquals}
 use Rattle.verilog_tree.specs.Fits.{expression_fits, statement_fits, statements_fit, arms_fit}
 use Rattle.verilog_tree.specs.Formed.{is_literal, has_label, labels_formed, expression_formed, statement_formed, statements_formed, arms_formed}
-use Rattle.verilog_tree.specs.Grammar.{sign, keyword, name, literal, literals, inside, expr, BeginEnd, Stmts, AndStmt, stmt, stmts, arm, arms}
+use Rattle.verilog_tree.specs.Parenthesised.{expr}
+use Rattle.verilog_tree.specs.Grammar.{Parenthesised, sign, keyword, name, literal, literals, inside, BeginEnd, Stmts, AndStmt, stmt, stmts, arm, arms}
 use Rattle.verilog_tree.specs.Plain as P
 use Rattle.verilog_tree.specs.Tokens.{Token}
 use Rattle.verilog_tree.specs.Words.{is_name}
@@ -29,10 +30,10 @@ label_bytes x xs r = simp append_assoc
 -- ---- begin and end
 
 -- a block that has e open round it, and what stands behind its begin
-pub block : (e j : ℕ) (ss : Stmts) (K : List Token → Type 0) (b : List ℕ) → e + 1 + j ≡ 64 → Spelt (stmts L (e + 1) ss (keyword (codes "end") K)) b → Spelt (stmt L e (BeginEnd ss) K) (codes "begin" ++ (10 ∷ b))
+pub block : (e j : ℕ) (ss : Stmts) (K : List Token → Type 0) (b : List ℕ) → e + 1 + j ≡ 64 → Spelt (stmts Parenthesised L (e + 1) ss (keyword (codes "end") K)) b → Spelt (stmt Parenthesised L e (BeginEnd ss) K) (codes "begin" ++ (10 ∷ b))
 block e j ss K b s h =
-    reserved (codes "begin") (inside L e (λ f. stmts L f ss (keyword (codes "end") K))) (10 ∷ b) refl refl
-    (opened e j (λ f. stmts L f ss (keyword (codes "end") K)) (10 ∷ b) s (line_feed (stmts L (e + 1) ss (keyword (codes "end") K)) b h))
+    reserved (codes "begin") (inside L e (λ f. stmts Parenthesised L f ss (keyword (codes "end") K))) (10 ∷ b) refl refl
+    (opened e j (λ f. stmts Parenthesised L f ss (keyword (codes "end") K)) (10 ∷ b) s (line_feed (stmts Parenthesised L (e + 1) ss (keyword (codes "end") K)) b h))
 
 -- the end of a block, on a line of its own
 pub ended : (depth : ℕ) (K : List Token → Type 0) (r : List ℕ) → Spelt K r → Spelt (keyword (codes "end") K) (margin depth ++ (codes "end" ++ (10 ∷ r)))
@@ -56,14 +57,14 @@ labels_spelt (x ∷ xs) K r m p h =
 
 -- an arm, whose body's text is b
 arm_spelt : (depth e j : ℕ) (ls : List Vector) (ss : Stmts) (b : List ℕ) (K : List Token → Type 0) (r : List ℕ) → e + 1 + j ≡ 64 → has_label ls ≡ true → labels_formed ls ≡ true
-    → Spelt (stmts L (e + 1) ss (keyword (codes "end") K)) (b ++ (margin depth ++ (codes "end" ++ (10 ∷ r))))
-    → Spelt (arm L e (derive_arm ls (BeginEnd ss)) K) ((line depth (labels_text true ls ++ codes ": begin") ++ b ++ line depth (codes "end")) ++ r)
+    → Spelt (stmts Parenthesised L (e + 1) ss (keyword (codes "end") K)) (b ++ (margin depth ++ (codes "end" ++ (10 ∷ r))))
+    → Spelt (arm Parenthesised L e (derive_arm ls (BeginEnd ss)) K) ((line depth (labels_text true ls ++ codes ": begin") ++ b ++ line depth (codes "end")) ++ r)
 arm_spelt depth e j [] ss b K r s l m h = cc
 arm_spelt depth e j (x ∷ xs) ss b K r s l m h =
     let n : (is_literal x ≡ true) × (labels_formed xs ≡ true) = both (is_literal x) (labels_formed xs) m in
     let b1 : List ℕ = codes "begin" ++ (10 ∷ (b ++ (margin depth ++ (codes "end" ++ (10 ∷ r))))) in
-    let K1 : List Token → Type 0 = stmt L e (BeginEnd ss) K in
-    grouped (arm L e (derive_arm (x ∷ xs) (BeginEnd ss)) K) ((line depth (labels_text true (x ∷ xs) ++ codes ": begin") ++ b ++ line depth (codes "end")) ++ r) (margin depth ++ (literal_text x ++ (labels_text false xs ++ (codes ": " ++ b1)))) (arm_bytes (margin depth) (literal_text x) (labels_text false xs) b r)
+    let K1 : List Token → Type 0 = stmt Parenthesised L e (BeginEnd ss) K in
+    grouped (arm Parenthesised L e (derive_arm (x ∷ xs) (BeginEnd ss)) K) ((line depth (labels_text true (x ∷ xs) ++ codes ": begin") ++ b ++ line depth (codes "end")) ++ r) (margin depth ++ (literal_text x ++ (labels_text false xs ++ (codes ": " ++ b1)))) (arm_bytes (margin depth) (literal_text x) (labels_text false xs) b r)
     (margined depth (literal x (literals xs (sign Colon K1))) (literal_text x ++ (labels_text false xs ++ (codes ": " ++ b1)))
     (constant x (literals xs (sign Colon K1)) (labels_text false xs ++ (codes ": " ++ b1)) n.0 (labels_apart xs (codes ": " ++ b1) refl)
     (labels_spelt xs (sign Colon K1) (codes ": " ++ b1) n.1 refl
@@ -166,12 +167,12 @@ case_default_bytes : (m n x a as' s ss r : List ℕ) → ((m ++ (codes "case (" 
 case_default_bytes m n x a as' s ss r = simp append_assoc
 
 mutual
-  pub statement_spelt : (depth d k : ℕ) (s : P.Statement) (K : List Token → Type 0) (r : List ℕ) → d + k ≡ 64 → statement_fits k s ≡ true → statement_formed s ≡ true → Spelt K r → Spelt (stmt L d (derive_stmt s) K) (statement_text depth s ++ r)
+  pub statement_spelt : (depth d k : ℕ) (s : P.Statement) (K : List Token → Type 0) (r : List ℕ) → d + k ≡ 64 → statement_fits k s ≡ true → statement_formed s ≡ true → Spelt K r → Spelt (stmt Parenthesised L d (derive_stmt s) K) (statement_text depth s ++ r)
   statement_spelt depth d k (P.SetTo n x) K r e f m h =
       let g : (is_name n ≡ true) × (expression_fits k x ≡ true) = both (is_name n) (expression_fits k x) f in
       let b : List ℕ = expression_text x ++ (codes ";" ++ (10 ∷ r)) in
       let K1 : List Token → Type 0 = expr L d (derive x) (sign Semicolon K) in
-      grouped (stmt L d (derive_stmt (P.SetTo n x)) K) (statement_text depth (P.SetTo n x) ++ r) (margin depth ++ (n ++ (codes " <= " ++ b))) (set_bytes (margin depth) n (expression_text x) r)
+      grouped (stmt Parenthesised L d (derive_stmt (P.SetTo n x)) K) (statement_text depth (P.SetTo n x) ++ r) (margin depth ++ (n ++ (codes " <= " ++ b))) (set_bytes (margin depth) n (expression_text x) r)
       (margined depth (name n (sign LessEquals K1)) (n ++ (codes " <= " ++ b))
       (named n (sign LessEquals K1) (codes " <= " ++ b) g.0 refl
       (blank (sign LessEquals K1) (codes "<= " ++ b)
@@ -185,9 +186,9 @@ mutual
       let n = if_formed c a P.Done m in
       let s = room d k e g.deep in
       let b : List ℕ = statements_text (depth + 1) a ++ (margin depth ++ (codes "end" ++ (10 ∷ r))) in
-      grouped (stmt L d (derive_stmt (P.IfElse c a P.Done)) K) (statement_text depth (P.IfElse c a P.Done) ++ r) (margin depth ++ (codes "if (" ++ (expression_text c ++ (codes ") " ++ (codes "begin" ++ (10 ∷ b)))))) (if_done_bytes (margin depth) (expression_text c) (statements_text (depth + 1) a) r)
-      (margined depth (stmt L d (derive_stmt (P.IfElse c a P.Done)) K) (codes "if (" ++ (expression_text c ++ (codes ") " ++ (codes "begin" ++ (10 ∷ b)))))
-      (if_head d k c (λ i. stmt L i (BeginEnd (derive_stmts a)) K) (codes "begin" ++ (10 ∷ b)) s g.condition n.0
+      grouped (stmt Parenthesised L d (derive_stmt (P.IfElse c a P.Done)) K) (statement_text depth (P.IfElse c a P.Done) ++ r) (margin depth ++ (codes "if (" ++ (expression_text c ++ (codes ") " ++ (codes "begin" ++ (10 ∷ b)))))) (if_done_bytes (margin depth) (expression_text c) (statements_text (depth + 1) a) r)
+      (margined depth (stmt Parenthesised L d (derive_stmt (P.IfElse c a P.Done)) K) (codes "if (" ++ (expression_text c ++ (codes ") " ++ (codes "begin" ++ (10 ∷ b)))))
+      (if_head d k c (λ i. stmt Parenthesised L i (BeginEnd (derive_stmts a)) K) (codes "begin" ++ (10 ∷ b)) s g.condition n.0
       (block (d + 1) (k - 2) (derive_stmts a) K b s.second
       (statements_spelt (depth + 1) (d + 1 + 1) (k - 2) a (keyword (codes "end") K) (margin depth ++ (codes "end" ++ (10 ∷ r))) s.second g.body n.1 (ended depth K r h)))))
   statement_spelt depth d k (P.IfElse c a (P.Then t ts)) K r e f m h =
@@ -200,11 +201,11 @@ mutual
       let b2 : List ℕ = statement_text (depth + 1) t ++ (statements_text (depth + 1) ts ++ b3) in
       let b1 : List ℕ = statements_text (depth + 1) a ++ (margin depth ++ (codes "end" ++ (codes " else " ++ (codes "begin" ++ (10 ∷ b2))))) in
       let other : Stmts = AndStmt (derive_stmt t) (derive_stmts ts) in
-      let K2 : List Token → Type 0 = stmt L (d + 1) (BeginEnd other) K in
+      let K2 : List Token → Type 0 = stmt Parenthesised L (d + 1) (BeginEnd other) K in
       let K1 : List Token → Type 0 = λ us. (false ≡ false) × keyword (codes "else") K2 us in
-      grouped (stmt L d (derive_stmt (P.IfElse c a (P.Then t ts))) K) (statement_text depth (P.IfElse c a (P.Then t ts)) ++ r) (margin depth ++ (codes "if (" ++ (expression_text c ++ (codes ") " ++ (codes "begin" ++ (10 ∷ b1)))))) (if_else_bytes (margin depth) (expression_text c) (statements_text (depth + 1) a) (statement_text (depth + 1) t) (statements_text (depth + 1) ts) r)
-      (margined depth (stmt L d (derive_stmt (P.IfElse c a (P.Then t ts))) K) (codes "if (" ++ (expression_text c ++ (codes ") " ++ (codes "begin" ++ (10 ∷ b1)))))
-      (if_head d k c (λ i. stmt L i (BeginEnd (derive_stmts a)) (λ us. (false ≡ false) × keyword (codes "else") (stmt L i (BeginEnd other) K) us)) (codes "begin" ++ (10 ∷ b1)) s g.condition n.0
+      grouped (stmt Parenthesised L d (derive_stmt (P.IfElse c a (P.Then t ts))) K) (statement_text depth (P.IfElse c a (P.Then t ts)) ++ r) (margin depth ++ (codes "if (" ++ (expression_text c ++ (codes ") " ++ (codes "begin" ++ (10 ∷ b1)))))) (if_else_bytes (margin depth) (expression_text c) (statements_text (depth + 1) a) (statement_text (depth + 1) t) (statements_text (depth + 1) ts) r)
+      (margined depth (stmt Parenthesised L d (derive_stmt (P.IfElse c a (P.Then t ts))) K) (codes "if (" ++ (expression_text c ++ (codes ") " ++ (codes "begin" ++ (10 ∷ b1)))))
+      (if_head d k c (λ i. stmt Parenthesised L i (BeginEnd (derive_stmts a)) (λ us. (false ≡ false) × keyword (codes "else") (stmt Parenthesised L i (BeginEnd other) K) us)) (codes "begin" ++ (10 ∷ b1)) s g.condition n.0
       (block (d + 1) (k - 2) (derive_stmts a) K1 b1 s.second
       (statements_spelt (depth + 1) (d + 1 + 1) (k - 2) a (keyword (codes "end") K1) (margin depth ++ (codes "end" ++ (codes " else " ++ (codes "begin" ++ (10 ∷ b2))))) s.second g.body n.1
       (margined depth (keyword (codes "end") K1) (codes "end" ++ (codes " else " ++ (codes "begin" ++ (10 ∷ b2))))
@@ -214,7 +215,7 @@ mutual
       (reserved (codes "else") K2 (codes " " ++ (codes "begin" ++ (10 ∷ b2))) refl refl
       (blank K2 (codes "begin" ++ (10 ∷ b2))
       (block (d + 1) (k - 2) other K b2 s.second
-      (statement_spelt (depth + 1) (d + 1 + 1) (k - 2) t (stmts L (d + 1 + 1) (derive_stmts ts) (keyword (codes "end") K)) (statements_text (depth + 1) ts ++ b3) s.second o.0 p.0
+      (statement_spelt (depth + 1) (d + 1 + 1) (k - 2) t (stmts Parenthesised L (d + 1 + 1) (derive_stmts ts) (keyword (codes "end") K)) (statements_text (depth + 1) ts ++ b3) s.second o.0 p.0
       (statements_spelt (depth + 1) (d + 1 + 1) (k - 2) ts (keyword (codes "end") K) b3 s.second o.1 p.1 (ended depth K r h))))))))))))))
   statement_spelt depth d k (P.CaseOf x P.NoArm o) K r e f m h = absurd (no_arm (expression_formed x) (statements_formed o) m)
   statement_spelt depth d k (P.CaseOf x (P.ArmOf ls a as') P.Done) K r e f m h =
@@ -227,10 +228,10 @@ mutual
       let b2 : List ℕ = arms_text (depth + 1) as' ++ b3 in
       let first : List ℕ = line (depth + 1) (labels_text true ls ++ codes ": begin") ++ statements_text (depth + 1 + 1) a ++ line (depth + 1) (codes "end") in
       let K3 : List Token → Type 0 = keyword (codes "endcase") K in
-      let K2 : List Token → Type 0 = arms L (d + 1) (derive_arms as') K3 in
-      grouped (stmt L d (derive_stmt (P.CaseOf x (P.ArmOf ls a as') P.Done)) K) (statement_text depth (P.CaseOf x (P.ArmOf ls a as') P.Done) ++ r) (margin depth ++ (codes "case (" ++ (expression_text x ++ (codes ")" ++ (10 ∷ (first ++ b2)))))) (case_done_bytes (margin depth) (expression_text x) first (arms_text (depth + 1) as') r)
-      (margined depth (stmt L d (derive_stmt (P.CaseOf x (P.ArmOf ls a as') P.Done)) K) (codes "case (" ++ (expression_text x ++ (codes ")" ++ (10 ∷ (first ++ b2)))))
-      (case_head d k x (λ i. arm L i (derive_arm ls (BeginEnd (derive_stmts a))) (arms L i (derive_arms as') K3)) (first ++ b2) s g.subject n.0
+      let K2 : List Token → Type 0 = arms Parenthesised L (d + 1) (derive_arms as') K3 in
+      grouped (stmt Parenthesised L d (derive_stmt (P.CaseOf x (P.ArmOf ls a as') P.Done)) K) (statement_text depth (P.CaseOf x (P.ArmOf ls a as') P.Done) ++ r) (margin depth ++ (codes "case (" ++ (expression_text x ++ (codes ")" ++ (10 ∷ (first ++ b2)))))) (case_done_bytes (margin depth) (expression_text x) first (arms_text (depth + 1) as') r)
+      (margined depth (stmt Parenthesised L d (derive_stmt (P.CaseOf x (P.ArmOf ls a as') P.Done)) K) (codes "case (" ++ (expression_text x ++ (codes ")" ++ (10 ∷ (first ++ b2)))))
+      (case_head d k x (λ i. arm Parenthesised L i (derive_arm ls (BeginEnd (derive_stmts a))) (arms Parenthesised L i (derive_arms as') K3)) (first ++ b2) s g.subject n.0
       (arm_spelt (depth + 1) (d + 1) (k - 2) ls (derive_stmts a) (statements_text (depth + 1 + 1) a) K2 b2 s.second q.label q.labels
       (statements_spelt (depth + 1 + 1) (d + 1 + 1) (k - 2) a (keyword (codes "end") K2) (margin (depth + 1) ++ (codes "end" ++ (10 ∷ b2))) s.second l.0 q.body
       (ended (depth + 1) K2 b2
@@ -251,12 +252,12 @@ mutual
       let first : List ℕ = line (depth + 1) (labels_text true ls ++ codes ": begin") ++ statements_text (depth + 1 + 1) a ++ line (depth + 1) (codes "end") in
       let other : Stmts = AndStmt (derive_stmt t) (derive_stmts ts) in
       let K5 : List Token → Type 0 = keyword (codes "endcase") K in
-      let K4 : List Token → Type 0 = stmt L (d + 1) (BeginEnd other) K5 in
+      let K4 : List Token → Type 0 = stmt Parenthesised L (d + 1) (BeginEnd other) K5 in
       let K3 : List Token → Type 0 = keyword (codes "default") (sign Colon K4) in
-      let K2 : List Token → Type 0 = arms L (d + 1) (derive_arms as') K3 in
-      grouped (stmt L d (derive_stmt (P.CaseOf x (P.ArmOf ls a as') (P.Then t ts))) K) (statement_text depth (P.CaseOf x (P.ArmOf ls a as') (P.Then t ts)) ++ r) (margin depth ++ (codes "case (" ++ (expression_text x ++ (codes ")" ++ (10 ∷ (first ++ b2)))))) (case_default_bytes (margin depth) (margin (depth + 1)) (expression_text x) first (arms_text (depth + 1) as') (statement_text (depth + 2) t) (statements_text (depth + 2) ts) r)
-      (margined depth (stmt L d (derive_stmt (P.CaseOf x (P.ArmOf ls a as') (P.Then t ts))) K) (codes "case (" ++ (expression_text x ++ (codes ")" ++ (10 ∷ (first ++ b2)))))
-      (case_head d k x (λ i. arm L i (derive_arm ls (BeginEnd (derive_stmts a))) (arms L i (derive_arms as') (keyword (codes "default") (sign Colon (stmt L i (BeginEnd other) K5))))) (first ++ b2) s g.subject n.0
+      let K2 : List Token → Type 0 = arms Parenthesised L (d + 1) (derive_arms as') K3 in
+      grouped (stmt Parenthesised L d (derive_stmt (P.CaseOf x (P.ArmOf ls a as') (P.Then t ts))) K) (statement_text depth (P.CaseOf x (P.ArmOf ls a as') (P.Then t ts)) ++ r) (margin depth ++ (codes "case (" ++ (expression_text x ++ (codes ")" ++ (10 ∷ (first ++ b2)))))) (case_default_bytes (margin depth) (margin (depth + 1)) (expression_text x) first (arms_text (depth + 1) as') (statement_text (depth + 2) t) (statements_text (depth + 2) ts) r)
+      (margined depth (stmt Parenthesised L d (derive_stmt (P.CaseOf x (P.ArmOf ls a as') (P.Then t ts))) K) (codes "case (" ++ (expression_text x ++ (codes ")" ++ (10 ∷ (first ++ b2)))))
+      (case_head d k x (λ i. arm Parenthesised L i (derive_arm ls (BeginEnd (derive_stmts a))) (arms Parenthesised L i (derive_arms as') (keyword (codes "default") (sign Colon (stmt Parenthesised L i (BeginEnd other) K5))))) (first ++ b2) s g.subject n.0
       (arm_spelt (depth + 1) (d + 1) (k - 2) ls (derive_stmts a) (statements_text (depth + 1 + 1) a) K2 b2 s.second q.label q.labels
       (statements_spelt (depth + 1 + 1) (d + 1 + 1) (k - 2) a (keyword (codes "end") K2) (margin (depth + 1) ++ (codes "end" ++ (10 ∷ b2))) s.second l.0 q.body
       (ended (depth + 1) K2 b2
@@ -266,28 +267,28 @@ mutual
       (plain Colon K4 (codes " " ++ (codes "begin" ++ (10 ∷ b4))) (λ c. refl)
       (blank K4 (codes "begin" ++ (10 ∷ b4))
       (block (d + 1) (k - 2) other K5 b4 s.second
-      (statement_spelt (depth + 2) (d + 1 + 1) (k - 2) t (stmts L (d + 1 + 1) (derive_stmts ts) (keyword (codes "end") K5)) (statements_text (depth + 2) ts ++ (margin (depth + 1) ++ (codes "end" ++ (10 ∷ b5)))) s.second o.0 p.0
+      (statement_spelt (depth + 2) (d + 1 + 1) (k - 2) t (stmts Parenthesised L (d + 1 + 1) (derive_stmts ts) (keyword (codes "end") K5)) (statements_text (depth + 2) ts ++ (margin (depth + 1) ++ (codes "end" ++ (10 ∷ b5)))) s.second o.0 p.0
       (statements_spelt (depth + 2) (d + 1 + 1) (k - 2) ts (keyword (codes "end") K5) (margin (depth + 1) ++ (codes "end" ++ (10 ∷ b5))) s.second o.1 p.1
       (ended (depth + 1) K5 b5
       (margined depth K5 (codes "endcase" ++ (10 ∷ r)) (reserved (codes "endcase") K (10 ∷ r) refl refl (line_feed K r h)))))))))))))))))
 
-  pub statements_spelt : (depth d k : ℕ) (ss : P.Statements) (K : List Token → Type 0) (r : List ℕ) → d + k ≡ 64 → statements_fit k ss ≡ true → statements_formed ss ≡ true → Spelt K r → Spelt (stmts L d (derive_stmts ss) K) (statements_text depth ss ++ r)
+  pub statements_spelt : (depth d k : ℕ) (ss : P.Statements) (K : List Token → Type 0) (r : List ℕ) → d + k ≡ 64 → statements_fit k ss ≡ true → statements_formed ss ≡ true → Spelt K r → Spelt (stmts Parenthesised L d (derive_stmts ss) K) (statements_text depth ss ++ r)
   statements_spelt depth d k P.Done K r e f m h = h
   statements_spelt depth d k (P.Then s ss) K r e f m h =
       let g : (statement_fits k s ≡ true) × (statements_fit k ss ≡ true) = both (statement_fits k s) (statements_fit k ss) f in
       let n : (statement_formed s ≡ true) × (statements_formed ss ≡ true) = both (statement_formed s) (statements_formed ss) m in
-      grouped (stmts L d (derive_stmts (P.Then s ss)) K) (statements_text depth (P.Then s ss) ++ r) (statement_text depth s ++ (statements_text depth ss ++ r)) (append_assoc (statement_text depth s) (statements_text depth ss) r)
-      (statement_spelt depth d k s (stmts L d (derive_stmts ss) K) (statements_text depth ss ++ r) e g.0 n.0 (statements_spelt depth d k ss K r e g.1 n.1 h))
+      grouped (stmts Parenthesised L d (derive_stmts (P.Then s ss)) K) (statements_text depth (P.Then s ss) ++ r) (statement_text depth s ++ (statements_text depth ss ++ r)) (append_assoc (statement_text depth s) (statements_text depth ss) r)
+      (statement_spelt depth d k s (stmts Parenthesised L d (derive_stmts ss) K) (statements_text depth ss ++ r) e g.0 n.0 (statements_spelt depth d k ss K r e g.1 n.1 h))
 
-  arms_spelt : (depth e j : ℕ) (as' : P.Arms) (K : List Token → Type 0) (r : List ℕ) → e + 1 + j ≡ 64 → arms_fit j as' ≡ true → arms_formed as' ≡ true → Spelt K r → Spelt (arms L e (derive_arms as') K) (arms_text depth as' ++ r)
+  arms_spelt : (depth e j : ℕ) (as' : P.Arms) (K : List Token → Type 0) (r : List ℕ) → e + 1 + j ≡ 64 → arms_fit j as' ≡ true → arms_formed as' ≡ true → Spelt K r → Spelt (arms Parenthesised L e (derive_arms as') K) (arms_text depth as' ++ r)
   arms_spelt depth e j P.NoArm K r s f m h = h
   arms_spelt depth e j (P.ArmOf ls a as') K r s f m h =
       let l : (statements_fit j a ≡ true) × (arms_fit j as' ≡ true) = both (statements_fit j a) (arms_fit j as') f in
       let q = arm_formed ls a as' m in
       let first : List ℕ = line depth (labels_text true ls ++ codes ": begin") ++ statements_text (depth + 1) a ++ line depth (codes "end") in
       let b : List ℕ = arms_text depth as' ++ r in
-      let K1 : List Token → Type 0 = arms L e (derive_arms as') K in
-      grouped (arms L e (derive_arms (P.ArmOf ls a as')) K) (arms_text depth (P.ArmOf ls a as') ++ r) (first ++ b) (append_assoc first (arms_text depth as') r)
+      let K1 : List Token → Type 0 = arms Parenthesised L e (derive_arms as') K in
+      grouped (arms Parenthesised L e (derive_arms (P.ArmOf ls a as')) K) (arms_text depth (P.ArmOf ls a as') ++ r) (first ++ b) (append_assoc first (arms_text depth as') r)
       (arm_spelt depth e j ls (derive_stmts a) (statements_text (depth + 1) a) K1 b s q.label q.labels
       (statements_spelt (depth + 1) (e + 1) j a (keyword (codes "end") K1) (margin depth ++ (codes "end" ++ (10 ∷ b))) s l.0 q.body
       (ended depth K1 b (arms_spelt depth e j as' K r s l.1 q.others h))))

@@ -7,8 +7,6 @@ ghost use Rattle.verilog_tree.specs.Plain.{ModuleTree, plain_module, plain_item,
 ghost use Rattle.verilog_tree.specs.Spells.{Spells};
 ghost use Rattle.verilog_emit.specs.Printed.{line, items_text, ports_text, printed};
 
-use crate::items::{put_items, put_ports};
-use crate::writing::{put_line, put_name_line};
 use bist_bits::NoMemory;
 use std::alloc::Global;
 use verilog_tree::Module;
@@ -17,6 +15,9 @@ mod expressions;
 mod items;
 mod statements;
 mod writing;
+
+pub use items::{put_items, put_ports};
+pub use writing::{put_line, put_margin, put_name, put_name_line, put_separator};
 
 /// Appends a module.
 fn put_module(out: &mut Vec<u8>, module: &Module) -> Result<(), NoMemory>

@@ -1,38 +1,28 @@
 -- Frames and holders that are pushed, and tests of tokens.
-use Rattle.std.proofs.Common.{◌≡◌, ℕ, suc, ◌-◌, ◌<◌, ◌≤◌, ◌∙◌, arith, sym, subst, length, take, drop, get_or, drop-cons, Bool, true, false, List, [], ◌∷◌, ◌++◌, Some, refl, ap, map}
+use Rattle.std.proofs.Common.{◌≡◌, ℕ, suc, ◌-◌, ◌<◌, ◌≤◌, ◌∙◌, arith, sym, subst, length, take, drop, get_or, drop-cons, Bool, true, false, List, [], ◌∷◌, ◌++◌, refl, ap, map}
 use Rattle.std.proofs.lemmas.List.{take-append-drop}
 use Rattle.std.proofs.Math.ListN.{drop_of_length-le}
 use Rattle.bist_text.specs.ReservedWords.{is_among, reserved_words}
 use Rattle.verilog_tree.specs.declared.tokens.Mark.{Mark}
 use Rattle.verilog_tree.specs.declared.tree.Arm.{Arm}
-use Rattle.verilog_tree.specs.declared.tree.Expr.{Expr}
 use Rattle.verilog_tree.specs.declared.tree.Stmt.{Stmt}
-use Rattle.verilog_tree.specs.Grammar.{then_all}
-use Rattle.verilog_tree.specs.Plain.{plain, plain_arm, arms, ArmOf, NoArm, plain_stmt, plain_stmts, Then, expressions, NoMore, Followed}
-use Rattle.verilog_tree.specs.Tokens.{Token, Identifier, Number, Based, Queried, Sign}
+use Rattle.verilog_tree.specs.Grammar.{Limit, unlimited, then_all}
+use Rattle.verilog_tree.specs.Plain.{Expression, plain_arm, arms, ArmOf, NoArm, plain_stmt, plain_stmts, Then}
+use Rattle.verilog_tree.specs.Tokens.{Token, Identifier, Number, Based, Unused, Sign}
 use Rattle.verilog_read.specs.declared.places.Frame.{Frame}
 use Rattle.verilog_read.specs.declared.places.Holder.{Holder}
 use Rattle.verilog_read.specs.declared.words.Expected.{Expected}
 use Rattle.verilog_read.specs.WordSets.{ExpectsBehind}
-use Rattle.verilog_read.specs.Answers.{is_expected, name_unless, a_name, found}
+use Rattle.verilog_read.specs.Answers.{name_unless, a_name, found}
 use Rattle.verilog_read.specs.Frames.{frame, stack, holder, holders}
-use Rattle.verilog_read.specs.Places.{Around, Outside, State, more_parts, more_arms}
-use Rattle.verilog_read.specs.Steps.{expects, only_where, unless, takes_name}
+use Rattle.verilog_text.specs.Places.{Around, style_of, Alone, AsDriver, AsCondition, AsSubject, AsValue, based, Outside, State, more_arms}
+use Rattle.verilog_text.specs.Steps.{have_step, alone_step, unless, takes_name}
+use Rattle.verilog_text.specs.Expected.{is_step}
+use Rattle.verilog_read.specs.declared.places.Holder.TheVariants as H
 
 pub stack_push : (fs : List Frame) (f : Frame) (o : Outside) → stack (fs ++ f ∷ []) o ≡ frame f (stack fs o)
 stack_push [] f o = refl
 stack_push (g ∷ fs) f o = stack_push fs f (frame g o)
-
-pub parts_push : (xs : List Expr) (x : Expr) → expressions (map plain (xs ++ x ∷ [])) ≡ more_parts (expressions (map plain xs)) (Followed (plain x) NoMore)
-parts_push [] x = refl
-parts_push (y ∷ xs) x = ap (λ es. Followed (plain y) es) (parts_push xs x)
-
-pub expects_is : (m : Mark) (s : State) (t : Token) → expects m s t ≡ only_where (is_expected m t) (Some s)
-expects_is m s (Sign n) = refl
-expects_is m s (Identifier w) = refl
-expects_is m s (Number l n) = refl
-expects_is m s (Based x) = refl
-expects_is m s Queried = refl
 
 pub holders_push : (hs : List Holder) (h : Holder) (a : Around) → holders (hs ++ h ∷ []) a ≡ holder h (holders hs a)
 holders_push [] h a = refl
@@ -46,6 +36,25 @@ pub arms_push : (xs : List Arm) (x : Arm) → arms (map plain_arm (xs ++ x ∷ [
 arms_push [] x = refl
 arms_push (y ∷ xs) x = ap (λ as'. ArmOf (plain_arm y).labels (plain_arm y).body as') (arms_push xs x)
 
+-- the style is that of the innermost always
+pub style_held : (hs : List Holder) (a : Around) → style_of (holders hs a) ≡ style_of a
+style_held [] a = refl
+style_held (H.Block r old ∷ hs) a = style_held hs (holder (H.Block r old) a)
+style_held (H.Then r c ∷ hs) a = style_held hs (holder (H.Then r c) a)
+style_held (H.Else r c s ∷ hs) a = style_held hs (holder (H.Else r c s) a)
+style_held (H.Labelled r x bs ls ∷ hs) a = style_held hs (holder (H.Labelled r x bs ls) a)
+style_held (H.Other r x bs ∷ hs) a = style_held hs (holder (H.Other r x bs) a)
+
+-- behind an expression that stands in no other
+pub have_based : (l : Limit) (p : ℕ) (x : Expression) (b : Alone) (t : Token) → have_step l p x (based b) t ≡ alone_step p x b t
+have_based l p x (AsDriver h n) t = refl
+have_based l p x (AsCondition r q a) t = refl
+have_based l p x (AsSubject r q a) t = refl
+have_based l p x (AsValue n a) t = refl
+
+pub based_takes : (b : Alone) (m : Mark) (r : Bool) → ((p : ℕ) (x : Expression) → r ≡ is_step (alone_step p x b (Sign m))) → (p : ℕ) (x : Expression) → r ≡ is_step (have_step unlimited p x (based b) (Sign m))
+based_takes b m r h = λ p x. h p x ∙ ap is_step (sym (have_based unlimited p x b (Sign m)))
+
 found_is : (b : Bool) (n : List ℕ) (f : List ℕ → State) → unless b (f n) ≡ found (name_unless b n) f
 found_is true n f = refl
 found_is false n f = refl
@@ -54,13 +63,13 @@ pub takes_name_is : (f : List ℕ → State) (t : Token) → takes_name f t ≡ 
 takes_name_is f (Identifier n) = found_is (is_among n reserved_words) n f
 takes_name_is f (Number l n) = refl
 takes_name_is f (Based x) = refl
-takes_name_is f Queried = refl
+takes_name_is f Unused = refl
 takes_name_is f (Sign m) = refl
 
 -- ---- the innermost
 
 -- a list, by its last element
-last_split : {X : Type 0} (xs : List X) (x : X) → 1 ≤ length xs → x ≡ get_or xs (length xs - 1) x → xs ≡ take (length xs - 1) xs ++ x ∷ []
+pub last_split : {X : Type 0} (xs : List X) (x : X) → 1 ≤ length xs → x ≡ get_or xs (length xs - 1) x → xs ≡ take (length xs - 1) xs ++ x ∷ []
 last_split xs x h e =
     let within : length xs - 1 < length xs = omega arith in
     let ends : drop (suc (length xs - 1)) xs ≡ [] = drop_of_length-le xs {i = suc (length xs - 1)} (omega arith) in
@@ -74,3 +83,7 @@ holders_last hs x a h e = ap (λ y. holders y a) (last_split hs x h e) ∙ holde
 
 pub expects_last : (e f : Expected) (a b : Around) → e ≡ f → a ≡ b → ExpectsBehind f b → ExpectsBehind e a
 expects_last e f a b p q x = subst (λ (y : Expected). ExpectsBehind y a) (sym p) (subst (λ (z : Around). ExpectsBehind f z) (sym q) x)
+
+pub empty_takes : (fs : List Frame) (b : Alone) (m : Mark) (r : Bool) → length fs < 1 → ((p : ℕ) (x : Expression) → r ≡ is_step (alone_step p x b (Sign m))) → (p : ℕ) (x : Expression) → r ≡ is_step (have_step unlimited p x (stack fs (based b)) (Sign m))
+empty_takes [] b m r h f = based_takes b m r f
+empty_takes (g ∷ fs) b m r h f = absurd (omega (arith, h))

@@ -8,17 +8,18 @@ use Rattle.std.specs.List.{starts_with}
 use Rattle.bist_text.specs.Lexed.{Both}
 use Rattle.bist_text.specs.Machine.{Holds}
 use Rattle.verilog_tree.specs.Formed.{is_width, is_literal}
-use Rattle.verilog_tree.specs.Tokens.{Token, Identifier, Number, Based, Queried, Sign}
+use Rattle.verilog_tree.specs.Tokens.{Token, Identifier, Number, Based, Unused, Sign}
 use Rattle.verilog_read.specs.declared.lexer.LexFault.{LexFault}
 use Rattle.verilog_read.specs.declared.lexer.LexFault.TheVariants as L
 use Rattle.verilog_read.specs.declared.lexer.Read.{Read}
-use Rattle.verilog_read.specs.declared.read.ByteFault.TheVariants.{LongName, OutOfRange}
-use Rattle.verilog_read.specs.Answering.{Move, Stops, while_live, within, read_on, read_within, lexed, byte_move, Scanned}
-use Rattle.verilog_read.specs.Expected.{Numbers, AllNumbers, ZeroAlone, NoNumber, numbers, taken_as, else_behind, words_behind, with_else, place_words, words, takes_names, taken, takes_literals, some_begins, live, most_of, name_fits, number_fits}
+use Rattle.verilog_text.specs.declared.fault.ByteFault.TheVariants.{LongName, OutOfRange}
+use Rattle.verilog_text.specs.Answering.{Move, Stops, while_live, within, read_on, read_within, lexed, byte_move}
+use Rattle.verilog_read.specs.Told.{Scanned}
+use Rattle.verilog_text.specs.Expected.{Numbers, AllNumbers, ZeroAlone, NoNumber, numbers, taken_as, else_behind, words_behind, with_else, place_words, words, takes_names, taken, takes_literals, some_begins, live, most_of, name_fits, number_fits}
 use Rattle.verilog_read.specs.Lexemes.{lexer_of, tokens_of, Fits, IsLong, IsLarge, IsWrong, IsSize, Scans}
-use Rattle.verilog_read.specs.Lexing.{Lexer, InWord, InNumber, Quoted, Lettered, InDigits, Whole, lex}
-use Rattle.verilog_read.specs.Places.{Around, InAlways, InBlock, InThen, InElse, InArm, InDefault, WantStmt, DefaultRead, Block, HaveStmt, ItemPlace, Begin, WantPort, InputRead, OutputRead, WantItem, ClockOpen, State, AtExpr, AtStmt, AtItem}
-use Rattle.verilog_read.proofs.Expectations.{number_taken}
+use Rattle.verilog_text.specs.Lexing.{Lexer, InWord, InNumber, Quoted, Lettered, InDigits, Whole, lex}
+use Rattle.verilog_text.specs.Places.{Around, InAlways, InBlock, InThen, InElse, InArm, InDefault, WantStmt, DefaultRead, Block, HaveStmt, ItemPlace, Begin, WantPort, InputRead, OutputRead, WantItem, ClockOpen, State, AtExpr, AtStmt, AtItem}
+use Rattle.verilog_text.proofs.Expectations.{number_taken}
 
 size_is : (n : ℕ) → IsSize n → is_width n ≡ true
 size_is n h = and_from (nat_le 1 n) (nat_le n 64) (le-leb 1 n h.0) (le-leb n 64 h.1)
@@ -27,7 +28,7 @@ size_is n h = and_from (nat_le 1 n) (nat_le n 64) (le-leb 1 n h.0) (le-leb n 64 
 pub names_fit : (most : ℕ) (l : Lexer) → Fits most l → name_fits l ≡ true
 names_fit most (InWord w) h = le-leb (length w) 64 h
 names_fit most (Whole (Sign m)) h = refl
-names_fit most (Whole Queried) h = refl
+names_fit most (Whole Unused) h = refl
 names_fit most (Whole (Identifier w)) h = absurd h
 names_fit most (Whole (Number l n)) h = absurd h
 names_fit most (Whole (Based x)) h = absurd h
@@ -39,7 +40,7 @@ numbers_fit most (Quoted n) h = size_is n h
 numbers_fit most (Lettered n base) h = size_is n h
 numbers_fit most (InDigits n base v) h = and_from (is_width n) (nat_lt v (2 ^ n)) (size_is n (h.positive, h.narrow)) (lt-ltb v (2 ^ n) h.fits)
 numbers_fit most (Whole (Sign m)) h = refl
-numbers_fit most (Whole Queried) h = refl
+numbers_fit most (Whole Unused) h = refl
 numbers_fit most (Whole (Identifier w)) h = absurd h
 numbers_fit most (Whole (Number l n)) h = absurd h
 numbers_fit most (Whole (Based x)) h = absurd h
@@ -114,7 +115,7 @@ words_short (AtStmt p) = refl
 words_short (AtItem p) = item_short p
   where
     item_short : (p : ItemPlace) → all_short (place_words p) ≡ true
-    item_short Begin = refl
+    item_short (Begin y) = refl
     item_short (WantPort h) = refl
     item_short (InputRead h) = refl
     item_short (OutputRead h) = refl

@@ -1,28 +1,23 @@
 -- What the code answers to a token, by what the step is.
 use Rattle.std.specs.Prelude.{true, if◌then◌else◌, ◌≡◌, Bool, false, ℕ, ⊤, List, Option, Some, None, Result, Ok, Err}
 use Rattle.bist_text.specs.ReservedWords.{is_among, reserved_words}
-use Rattle.verilog_tree.specs.Grammar.{Limit, deeper, is_sign, is_zero}
-use Rattle.verilog_tree.specs.Tokens.{Token, Sign, Identifier, Number}
+use Rattle.verilog_tree.specs.Grammar.{Limit, Style, deeper, is_zero}
+use Rattle.verilog_read.specs.Holding.{is_expected}
+use Rattle.verilog_tree.specs.Tokens.{Token, Identifier, Number}
 use Rattle.verilog_tree.specs.declared.tokens.Mark.TheVariants.{Open}
-use Rattle.verilog_tree.specs.declared.tokens.Mark.{Mark}
 use Rattle.arrayvec.specs.ArrayString.{ArrayString}
 use Rattle.verilog_read.specs.Frames.{frame, holder}
-use Rattle.verilog_read.specs.Places.{Head, Around, InAlways, Outside, Want, State, AtExpr, AtStmt}
+use Rattle.verilog_text.specs.Places.{Head, Around, InAlways, Outside, Alone, begin_expr, State, AtExpr, AtStmt}
 use Rattle.verilog_read.specs.Spots.{spot, stmt_spot, state_of}
-use Rattle.verilog_read.specs.Steps.{in_room}
+use Rattle.verilog_text.specs.Steps.{in_room}
 use Rattle.verilog_read.specs.declared.places.Frame.{Frame}
 use Rattle.verilog_read.specs.declared.places.Holder.{Holder}
 use Rattle.verilog_read.specs.declared.places.Outer.{Outer}
-use Rattle.verilog_read.specs.declared.places.ParseFault.TheVariants.{Unexpected, NoMemory}
-use Rattle.verilog_read.specs.declared.places.ParseFault.{ParseFault}
+use Rattle.verilog_read.specs.declared.fault.ParseFault.TheVariants.{Unexpected, NoMemory}
+use Rattle.verilog_read.specs.declared.fault.ParseFault.{ParseFault}
 use Rattle.verilog_read.specs.declared.places.Place.{Place}
 use Rattle.verilog_read.specs.declared.places.Spot.{Spot}
 use Rattle.verilog_read.specs.declared.places.StmtSpot.{StmtSpot}
-
--- a token is this mark
-abbrev pub is_expected : Mark → Token → Bool
-is_expected m (Sign n) = is_sign m n
-is_expected m _ = false
 
 -- what the code answers in an expression, by what the step is: the same place, in what now waits; or a refusal where
 -- there is none; or there was no memory
@@ -53,8 +48,8 @@ StmtSteps st (Err Unexpected) a = st ≡ None
 StmtSteps st (Err NoMemory) a = ⊤
 
 -- an expression in parentheses begins, where there is room
-abbrev pub opens_expr : Limit → ℕ → Outside → Token → Option State
-opens_expr limit q o t = if is_expected Open t then in_room (deeper limit q) (λ p. AtExpr (Want p o)) else None
+abbrev pub opens_expr : Limit → ℕ → Style → Alone → Token → Option State
+opens_expr limit q y b t = if is_expected Open t then in_room (deeper limit q) (λ p. AtExpr (begin_expr y p b)) else None
 
 -- the name that a token is, if it is one
 abbrev pub name_unless : Bool → List ℕ → Option (List ℕ)

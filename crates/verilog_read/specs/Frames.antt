@@ -1,8 +1,8 @@
 -- What the code's frames and holders are.
 use Rattle.std.specs.Prelude.{List, [], ◌∷◌, map}
+use Rattle.verilog_tree.specs.Grammar as G
 use Rattle.verilog_tree.specs.Plain as P
-use Rattle.verilog_tree.specs.declared.tree.Module.{Module}
-use Rattle.verilog_read.specs.Places.{Head, Around, InAlways, InBlock, InThen, InElse, InArm, InDefault, Subject, Outside, Driving, Condition, Setting, InBraces, InParens, Operand, Second, Chosen, Otherwise}
+use Rattle.verilog_text.specs.Places.{Head, Around, InAlways, InBlock, InThen, InElse, InArm, InDefault, Alone, AsDriver, AsCondition, AsSubject, AsValue, based, Outside, InBraces, InParens, Operand, Second, Chosen, Otherwise}
 use Rattle.verilog_read.specs.declared.places.Base.TheVariants as B
 use Rattle.verilog_read.specs.declared.places.Base.{Base}
 use Rattle.verilog_read.specs.declared.places.Frame.TheVariants as F
@@ -10,6 +10,8 @@ use Rattle.verilog_read.specs.declared.places.Frame.{Frame}
 use Rattle.verilog_read.specs.declared.places.Holder.TheVariants as H
 use Rattle.verilog_read.specs.declared.places.Holder.{Holder}
 use Rattle.verilog_read.specs.declared.places.Outer.{Outer}
+use Rattle.verilog_read.specs.declared.places.Style.TheVariants as S
+use Rattle.verilog_read.specs.declared.places.Style.{Style}
 
 -- what stands in a frame, further in
 abbrev pub frame : Frame → Outside → Outside
@@ -35,22 +37,29 @@ abbrev pub holders : List Holder → Around → Around
 holders [] a = a
 holders (h ∷ hs) a = holders hs (holder h a)
 
-abbrev pub head_of : Module → Head
-head_of m = record { name = m.name.bytes; ports = map P.plain_port m.ports.items; items = map P.plain_item m.items.items }
+abbrev pub styled : Style → G.Style
+styled S.Parenthesised = G.Parenthesised
+styled S.ByPrecedence = G.ByPrecedence
+
+abbrev pub head_of : Outer → Head
+head_of w = record { style = styled w.style; name = w.tree.name.bytes; ports = map P.plain_port w.tree.ports.items; items = map P.plain_item w.tree.items.items }
 
 -- what a statement stands in
 abbrev pub around_of : Outer → Around
-around_of w = holders w.holders.items (InAlways (head_of w.tree) w.clock.bytes)
+around_of w = holders w.holders.items (InAlways (head_of w) w.clock.bytes)
 
-abbrev pub base : Base → Outer → Outside
-base (B.Drive n) w = Driving (head_of w.tree) n.bytes
-base (B.Test r q) w = Condition r q (around_of w)
-base (B.Pick r q) w = Subject r q (around_of w)
-base (B.Set n) w = Setting n.bytes (around_of w)
+abbrev pub alone : Base → Head → Around → Alone
+alone (B.Drive n) h a = AsDriver h n.bytes
+alone (B.Test r q) h a = AsCondition r q a
+alone (B.Pick r q) h a = AsSubject r q a
+alone (B.Set n) h a = AsValue n.bytes a
 
 -- what the whole expression stands in, and a part of it
+abbrev pub alone_of : Outer → Alone
+alone_of w = alone w.base (head_of w) (around_of w)
+
 abbrev pub base_of : Outer → Outside
-base_of w = base w.base w
+base_of w = based (alone_of w)
 
 abbrev pub outside_of : Outer → Outside
 outside_of w = stack w.frames.items (base_of w)

@@ -2,22 +2,15 @@
 use Rattle.std.specs.Prelude.{true, ◌≡◌, ℕ, ◌<◌, ◌≤◌, length, Option, Some, None, Result, Ok, Err}
 use Rattle.bist_bits.specs.Vector.{IsVector}
 use Rattle.bist_text.specs.Machine.{Holds}
-use Rattle.verilog_tree.specs.Tokens.{Token, Identifier, Number, Based, Queried, Sign}
+use Rattle.verilog_tree.specs.Tokens.{Token, Unused, Sign}
 use Rattle.verilog_read.specs.declared.lexemes.Lexeme.{Lexeme}
-use Rattle.verilog_read.specs.declared.lexemes.Lexeme.TheVariants as X
+use Rattle.verilog_read.specs.Holding.{token_of}
 use Rattle.verilog_read.specs.declared.lexer.LexFault.{LexFault}
 use Rattle.verilog_read.specs.declared.lexer.LexFault.TheVariants.{Unexpected, LongName, LargeNumber, WrongLiteral}
 use Rattle.verilog_read.specs.declared.lexer.Read.{Read}
 use Rattle.verilog_read.specs.declared.lexer.Scanner.{Scanner}
 use Rattle.verilog_read.specs.declared.lexer.Scanner.TheVariants as S
-use Rattle.verilog_read.specs.Lexing.{Lexer, InGap, InWord, InNumber, Quoted, Lettered, InDigits, Marked, Whole}
-
-abbrev pub token_of : Lexeme → Token
-token_of (X.Word n) = Identifier n.bytes
-token_of (X.Number l n) = Number l n.value
-token_of (X.Constant b) = Based b
-token_of X.Queried = Queried
-token_of (X.Sign m) = Sign m
+use Rattle.verilog_text.specs.Lexing.{Lexer, InGap, InWord, InNumber, Quoted, Lettered, InDigits, Marked, Whole}
 
 abbrev pub tokens_of : Option Lexeme → Option Token
 tokens_of None = None
@@ -44,7 +37,7 @@ IsSize n = (1 ≤ n) × (n ≤ 64)
 -- a token that limits say nothing of
 abbrev pub IsPlain : Token → Type 0
 IsPlain (Sign m) = Unit {0}
-IsPlain Queried = Unit {0}
+IsPlain Unused = Unit {0}
 IsPlain _ = ⊥
 
 -- what is begun keeps the limits, where a number may be at most `most`: it is no word of more than 64 bytes, no

@@ -3,8 +3,8 @@ use Rattle.std.specs.Prelude.{◌≡◌, List, [], ◌∷◌, ℕ, codes}
 use Rattle.verilog_read.specs.declared.words.WordSet.{WordSet}
 use Rattle.verilog_read.specs.declared.words.WordSet.TheVariants as W
 use Rattle.verilog_read.specs.declared.words.Expected.{Expected}
-use Rattle.verilog_read.specs.Expected.{item_words, statement_words, with_else, else_behind, words_behind, names_behind, literals_behind, words, takes_names, takes_literals}
-use Rattle.verilog_read.specs.Places.{Around, State}
+use Rattle.verilog_text.specs.Expected.{item_words, statement_words, with_else, else_behind, words_behind, names_behind, literals_behind, words, takes_names, takes_literals}
+use Rattle.verilog_text.specs.Places.{Around, State}
 
 abbrev pub words_of : WordSet → List (List ℕ)
 words_of W.Nothing = []

@@ -1,62 +1,29 @@
 //! What a token does in an expression.
 ghost use Rattle.std.specs.Prelude.{◌≡◌, Some};
+ghost use Rattle.verilog_tree.specs.Spells.{bounded};
 ghost use Rattle.verilog_tree.specs.Plain.{plain, NoMore, Literal, Prefixed, Infixed, Conditional, AssignItem, SetTo};
 ghost use Rattle.verilog_tree.specs.Grammar.{alone};
 ghost use Rattle.verilog_tree.specs.Tokens.{Identifier};
-ghost use Rattle.verilog_read.specs.Places.{Outside, AtExpr, AtStmt, AtItem, Want, Have, InBraces, Otherwise, WantItem, WantStmt, HaveStmt, InThen, with_item};
-ghost use Rattle.verilog_read.specs.Steps.{want_step, inside_step, have_step, step_expr, unary_of, infix_of, expects};
-ghost use Rattle.verilog_read.specs.Lexemes.{token_of};
-ghost use Rattle.verilog_read.specs.Frames.{frame, base_of, outside_of, around_of, head_of};
+ghost use Rattle.verilog_text.specs.Places.{Outside, AtExpr, AtStmt, AtItem, Want, Have, InBraces, Otherwise, WantItem, WantStmt, HaveStmt, InThen, with_item};
+ghost use Rattle.verilog_text.specs.Steps.{want_step, inside_step, have_step, alone_step, step_expr, expects};
+ghost use Rattle.verilog_read.specs.Holding.{token_of};
+ghost use Rattle.verilog_read.specs.Frames.{frame, alone_of, outside_of, around_of, head_of};
 ghost use Rattle.verilog_read.specs.Spots.{spot};
 ghost use Rattle.verilog_read.specs.Answers.{Steps, Goes};
 
+use crate::fault::ParseFault;
 use crate::lexemes::Lexeme;
-use crate::places::{Base, Frame, Holder, ItemSpot, Outer, ParseFault, Place, Spot, StmtSpot};
-use crate::stacks::{add_item, deeper, hold, is_mark, pop, push};
-use crate::trees::{conditional, infixed, only, prefixed, with_part};
+use crate::places::{Base, Frame, Holder, ItemSpot, Outer, Place, Spot, StmtSpot};
+use crate::precedence::{deeper, infix_of, is_mark, unary_of, with_part};
+use crate::stacks::{add_item, hold, pop, push};
+use crate::trees::{conditional, infixed, only, prefixed};
 use bist_bits::Bits;
 use bist_text::is_reserved;
 use std::alloc::Global;
 use verilog_tree::{BinOp, Expr, Item, Mark, Name, Stmt, UnOp};
 
-fn unary_of(mark: Mark) -> Option<UnOp>
-    ensures { result ≡ unary_of mark }
-{
-    match mark {
-        Mark::Bang => Some(UnOp::Not),
-        Mark::Tilde => Some(UnOp::Invert),
-        Mark::Ampersand => Some(UnOp::AllOnes),
-        Mark::Bar => Some(UnOp::AnyOne),
-        Mark::Caret => Some(UnOp::Parity),
-        _ => None,
-    }
-}
-
-fn infix_of(mark: Mark) -> Option<BinOp>
-    ensures { result ≡ infix_of mark }
-{
-    match mark {
-        Mark::Plus => Some(BinOp::Add),
-        Mark::Minus => Some(BinOp::Sub),
-        Mark::Ampersand => Some(BinOp::And),
-        Mark::Bar => Some(BinOp::Or),
-        Mark::Caret => Some(BinOp::Xor),
-        Mark::TwoEquals => Some(BinOp::Eq),
-        Mark::BangEquals => Some(BinOp::Ne),
-        Mark::Less => Some(BinOp::Lt),
-        Mark::LessEquals => Some(BinOp::Le),
-        Mark::Greater => Some(BinOp::Gt),
-        Mark::GreaterEquals => Some(BinOp::Ge),
-        Mark::TwoAmpersands => Some(BinOp::LogAnd),
-        Mark::TwoBars => Some(BinOp::LogOr),
-        Mark::TwoLess => Some(BinOp::Shl),
-        Mark::TwoGreater => Some(BinOp::Shr),
-        _ => None,
-    }
-}
-
 fn named(outer: &Outer, depth: u8, name: Name) -> Result<Spot, ParseFault>
-    ensures { Steps (want_step (Some 64) depth (outside_of outer.now) (Identifier name.bytes)) result (outside_of outer.now) }
+    ensures { Steps (want_step bounded depth (outside_of outer.now) (Identifier name.bytes)) result (outside_of outer.now) }
 {
     if is_reserved(name.as_str().as_bytes()) {
         Err(ParseFault::Unexpected)
@@ -86,7 +53,7 @@ fn braces(alloc: Global, depth: u8) -> Frame
 }
 
 fn want(alloc: Global, outer: &mut Outer, depth: u8, token: &Lexeme) -> Result<Spot, ParseFault>
-    ensures { Steps (want_step (Some 64) depth (outside_of outer.old) (token_of token.now)) result (outside_of outer.new) }
+    ensures { Steps (want_step bounded depth (outside_of outer.old) (token_of token.now)) result (outside_of outer.new) }
 {
     match token {
         Lexeme::Word(name) => named(outer, depth, *name),
@@ -110,7 +77,7 @@ fn inside(
     depth: u8,
     token: &Lexeme,
 ) -> Result<Spot, ParseFault>
-    ensures { Steps (inside_step (Some 64) inner depth (outside_of outer.old) (token_of token.now)) result (outside_of outer.new) }
+    ensures { Steps (inside_step bounded inner depth (outside_of outer.old) (token_of token.now)) result (outside_of outer.new) }
 {
     if let Lexeme::Sign(mark) = token {
         if let Some(op) = unary_of(*mark) {
@@ -129,7 +96,7 @@ fn in_braces(
     x: Expr,
     token: &Lexeme,
 ) -> Result<Spot, ParseFault>
-    ensures { Steps (have_step inner (plain x) (frame (Frame.Braces depth parts) (outside_of outer.old)) (token_of token.now)) result (outside_of outer.new) }
+    ensures { Steps (have_step bounded inner (plain x) (frame (Frame.Braces depth parts) (outside_of outer.old)) (token_of token.now)) result (outside_of outer.new) }
 {
     match token {
         Lexeme::Sign(Mark::Comma) => {
@@ -151,7 +118,7 @@ fn in_parens(
     x: Expr,
     token: &Lexeme,
 ) -> Result<Spot, ParseFault>
-    ensures { Steps (have_step inner (plain x) (frame (Frame.Paren depth) (outside_of outer.old)) (token_of token.now)) result (outside_of outer.new) }
+    ensures { Steps (have_step bounded inner (plain x) (frame (Frame.Paren depth) (outside_of outer.old)) (token_of token.now)) result (outside_of outer.new) }
 {
     let Lexeme::Sign(mark) = token else {
         return Err(ParseFault::Unexpected);
@@ -167,7 +134,7 @@ fn in_parens(
 }
 
 /// The operand of a prefix ends.
-#[tactic(auto, using(crate::proofs::FrameLemmas::expects_is))]
+#[tactic(auto, using(crate::proofs::HoldingLemmas::expects_is))]
 fn in_prefix(
     alloc: Global,
     outer: &Outer,
@@ -185,7 +152,7 @@ fn in_prefix(
 }
 
 /// The second operand of an operator ends.
-#[tactic(auto, using(crate::proofs::FrameLemmas::expects_is))]
+#[tactic(auto, using(crate::proofs::HoldingLemmas::expects_is))]
 fn in_infix(
     alloc: Global,
     outer: &Outer,
@@ -204,7 +171,7 @@ fn in_infix(
 }
 
 /// The first choice of a conditional ends.
-#[tactic(auto, using(crate::proofs::FrameLemmas::expects_is))]
+#[tactic(auto, using(crate::proofs::HoldingLemmas::expects_is))]
 fn in_choice(
     outer: &mut Outer,
     inner: u8,
@@ -222,7 +189,7 @@ fn in_choice(
 }
 
 /// The second choice of a conditional ends.
-#[tactic(auto, using(crate::proofs::FrameLemmas::expects_is))]
+#[tactic(auto, using(crate::proofs::HoldingLemmas::expects_is))]
 fn in_conditional(
     alloc: Global,
     outer: &Outer,
@@ -249,7 +216,7 @@ fn have_in(
     x: Expr,
     token: &Lexeme,
 ) -> Result<Spot, ParseFault>
-    ensures { Steps (have_step inner (plain x) (frame f (outside_of outer.old)) (token_of token.now)) result (outside_of outer.new) }
+    ensures { Steps (have_step bounded inner (plain x) (frame f (outside_of outer.old)) (token_of token.now)) result (outside_of outer.new) }
 {
     match f {
         Frame::Braces(depth, parts) => in_braces(outer, inner, depth, parts, x, token),
@@ -262,9 +229,9 @@ fn have_in(
 }
 
 /// The expression of an `assign` ends.
-#[tactic(auto, using(crate::proofs::FrameLemmas::expects_is))]
+#[tactic(auto, using(crate::proofs::HoldingLemmas::expects_is))]
 fn driven(outer: &mut Outer, name: Name, x: Expr, token: &Lexeme) -> Result<Place, ParseFault>
-    ensures { Goes (expects Mark.Semicolon (AtItem (WantItem (with_item (head_of outer.old.tree) (AssignItem name.bytes (plain x))))) (token_of token.now)) result outer.new }
+    ensures { Goes (expects Mark.Semicolon (AtItem (WantItem (with_item (head_of outer.old) (AssignItem name.bytes (plain x))))) (token_of token.now)) result outer.new }
 {
     if !is_mark(Mark::Semicolon, token) {
         return Err(ParseFault::Unexpected);
@@ -274,7 +241,7 @@ fn driven(outer: &mut Outer, name: Name, x: Expr, token: &Lexeme) -> Result<Plac
 }
 
 /// The condition of an `if` ends.
-#[tactic(auto, using(crate::proofs::FrameLemmas::expects_is))]
+#[tactic(auto, using(crate::proofs::HoldingLemmas::expects_is))]
 fn tested(
     outer: &mut Outer,
     depth: u8,
@@ -292,7 +259,7 @@ fn tested(
 }
 
 /// The value that a statement sets ends.
-#[tactic(auto, using(crate::proofs::FrameLemmas::expects_is))]
+#[tactic(auto, using(crate::proofs::HoldingLemmas::expects_is))]
 fn set(
     alloc: Global,
     outer: &Outer,
@@ -311,15 +278,15 @@ fn set(
 }
 
 /// What a token does behind a whole expression that stands in no frame.
-#[tactic(auto, using(crate::proofs::FrameLemmas::expects_is))]
-fn have_whole(
+#[tactic(auto, using(crate::proofs::HoldingLemmas::expects_is))]
+pub(crate) fn have_whole(
     alloc: Global,
     outer: &mut Outer,
     depth: u8,
     x: Expr,
     token: &Lexeme,
 ) -> Result<Place, ParseFault>
-    ensures { Goes (have_step depth (plain x) (base_of outer.old) (token_of token.now)) result outer.new }
+    ensures { Goes (alone_step depth (plain x) (alone_of outer.old) (token_of token.now)) result outer.new }
 {
     let base = outer.base;
     match &base {
@@ -334,6 +301,7 @@ fn have_whole(
 }
 
 /// What a token does behind a whole expression.
+#[tactic(auto, using(crate::proofs::FrameLemmas::have_based))]
 fn have(
     alloc: Global,
     outer: &mut Outer,
@@ -341,7 +309,7 @@ fn have(
     x: Expr,
     token: &Lexeme,
 ) -> Result<Place, ParseFault>
-    ensures { Goes (have_step depth (plain x) (outside_of outer.old) (token_of token.now)) result outer.new }
+    ensures { Goes (have_step bounded depth (plain x) (outside_of outer.old) (token_of token.now)) result outer.new }
 {
     match pop(outer) {
         Some(f) => Ok(Place::InExpr(have_in(alloc, outer, f, depth, x, token)?)),
@@ -350,14 +318,14 @@ fn have(
 }
 
 /// What a token does in an expression.
-#[tactic(auto, using(crate::proofs::FrameLemmas::expects_is))]
+#[tactic(auto, using(crate::proofs::HoldingLemmas::expects_is))]
 pub(crate) fn step_expr(
     alloc: Global,
     outer: &mut Outer,
     place: Spot,
     token: &Lexeme,
 ) -> Result<Place, ParseFault>
-    ensures { Goes (step_expr (Some 64) (spot place (outside_of outer.old)) (token_of token.now)) result outer.new }
+    ensures { Goes (step_expr bounded (spot place (outside_of outer.old)) (token_of token.now)) result outer.new }
 {
     let next = match place {
         Spot::Want(depth) => want(alloc, outer, depth, token)?,

@@ -1,18 +1,22 @@
 //! What a token does between statements.
 ghost use Rattle.std.specs.Prelude.{◌≡◌, Some, OnOk, IfErr, ◌∷◌, []};
+ghost use Rattle.verilog_tree.specs.Spells.{bounded};
 ghost use Rattle.verilog_tree.specs.Plain.{plain_port};
-ghost use Rattle.verilog_read.specs.Places.{HeadOpen, ClockRead, AtItem};
-ghost use Rattle.verilog_read.specs.Following.{with_ports};
-ghost use Rattle.verilog_read.specs.Steps.{declared, takes_name, range_step, name_step, port_step, input_step, output_step, step_item, step};
-ghost use Rattle.verilog_read.specs.Lexemes.{token_of};
-ghost use Rattle.verilog_read.specs.Frames.{head_of};
+ghost use Rattle.verilog_text.specs.Places.{HeadOpen, ClockRead, AtItem};
+ghost use Rattle.verilog_text.specs.Following.{with_ports};
+ghost use Rattle.verilog_text.specs.Steps.{declared, takes_name, range_step, name_step, port_step, input_step, output_step, step_item, step};
+ghost use Rattle.verilog_read.specs.Holding.{token_of};
+ghost use Rattle.verilog_read.specs.Frames.{styled, head_of};
 ghost use Rattle.verilog_read.specs.Spots.{use_of, item_spot, state_of};
 ghost use Rattle.verilog_read.specs.Answers.{Goes, a_name, bytes_of, is_zero_number};
 
 use crate::expressions::step_expr;
+use crate::fault::ParseFault;
+use crate::free::step_free;
 use crate::lexemes::Lexeme;
-use crate::places::{Base, ItemSpot, Outer, ParseFault, Place, Spot, StmtSpot, Use};
-use crate::stacks::{add_item, is_mark, is_word, start};
+use crate::places::{Base, ItemSpot, Outer, Place, StmtSpot, Use};
+use crate::precedence::is_mark;
+use crate::stacks::{add_item, begin, is_word};
 use crate::statements::{step_stmt, want_item};
 use bist_text::is_reserved;
 use std::alloc::Global;
@@ -43,7 +47,7 @@ fn is_zero(token: &Lexeme) -> bool
 }
 
 fn add_port(outer: &mut Outer, port: Port) -> Result<(), ParseFault>
-    ensures added { OnOk result (head_of outer.new.tree ≡ with_ports (head_of outer.old.tree) (plain_port port ∷ [])) }
+    ensures added { OnOk result (head_of outer.new ≡ with_ports (head_of outer.old) (plain_port port ∷ [])) }
     ensures fault { IfErr result (λ e. e ≡ ParseFault.NoMemory) }
 {
     outer.tree.ports.push(port)?;
@@ -52,7 +56,7 @@ fn add_port(outer: &mut Outer, port: Port) -> Result<(), ParseFault>
 
 /// A name is declared.
 fn declare(outer: &mut Outer, what: &Use, width: u8, name: Name) -> Result<Place, ParseFault>
-    ensures { Goes (Some (declared (use_of what.now (head_of outer.old.tree)) width name.bytes)) result outer.new }
+    ensures { Goes (Some (declared (use_of what.now (head_of outer.old)) width name.bytes)) result outer.new }
 {
     match what {
         Use::Wire => add_item(outer, Item::Wire(Decl { name, width }))?,
@@ -72,7 +76,7 @@ fn declare(outer: &mut Outer, what: &Use, width: u8, name: Name) -> Result<Place
 /// A name that is declared with this width comes.
 #[tactic(auto, using(crate::proofs::FrameLemmas::takes_name_is))]
 fn want_name(outer: &mut Outer, what: &Use, width: u8, token: &Lexeme) -> Result<Place, ParseFault>
-    ensures { Goes (takes_name (declared (use_of what.now (head_of outer.old.tree)) width) (token_of token.now)) result outer.new }
+    ensures { Goes (takes_name (declared (use_of what.now (head_of outer.old)) width) (token_of token.now)) result outer.new }
 {
     match name_in(token) {
         Some(name) => declare(outer, what, width, name),
@@ -81,7 +85,7 @@ fn want_name(outer: &mut Outer, what: &Use, width: u8, token: &Lexeme) -> Result
 }
 
 fn want_range(outer: &mut Outer, what: Use, token: &Lexeme) -> Result<Place, ParseFault>
-    ensures { Goes (range_step (use_of what (head_of outer.old.tree)) (token_of token.now)) result outer.new }
+    ensures { Goes (range_step (use_of what (head_of outer.old)) (token_of token.now)) result outer.new }
 {
     match token {
         Lexeme::Sign(Mark::OpenBracket) => Ok(Place::InItem(ItemSpot::WantHigh(what))),
@@ -90,7 +94,7 @@ fn want_range(outer: &mut Outer, what: Use, token: &Lexeme) -> Result<Place, Par
 }
 
 fn in_port(outer: &Outer, token: &Lexeme) -> Result<Place, ParseFault>
-    ensures { Goes (port_step (head_of outer.now.tree) (token_of token.now)) result outer.now }
+    ensures { Goes (port_step (head_of outer.now) (token_of token.now)) result outer.now }
 {
     if is_word("input", token) {
         Ok(Place::InItem(ItemSpot::InputRead))
@@ -102,7 +106,7 @@ fn in_port(outer: &Outer, token: &Lexeme) -> Result<Place, ParseFault>
 }
 
 fn in_input(outer: &mut Outer, token: &Lexeme) -> Result<Place, ParseFault>
-    ensures { Goes (input_step (head_of outer.old.tree) (token_of token.now)) result outer.new }
+    ensures { Goes (input_step (head_of outer.old) (token_of token.now)) result outer.new }
 {
     if is_word("wire", token) {
         Ok(Place::InItem(ItemSpot::WantRange(Use::Port(Dir::Input))))
@@ -112,7 +116,7 @@ fn in_input(outer: &mut Outer, token: &Lexeme) -> Result<Place, ParseFault>
 }
 
 fn in_output(outer: &mut Outer, token: &Lexeme) -> Result<Place, ParseFault>
-    ensures { Goes (output_step (head_of outer.old.tree) (token_of token.now)) result outer.new }
+    ensures { Goes (output_step (head_of outer.old) (token_of token.now)) result outer.new }
 {
     if is_word("wire", token) {
         Ok(Place::InItem(ItemSpot::WantRange(Use::Port(Dir::Output))))
@@ -124,9 +128,9 @@ fn in_output(outer: &mut Outer, token: &Lexeme) -> Result<Place, ParseFault>
 }
 
 /// What a token does behind a name that is declared.
-#[tactic(auto, using(crate::proofs::FrameLemmas::expects_is))]
+#[tactic(auto, using(crate::proofs::HoldingLemmas::expects_is))]
 fn name_read(outer: &Outer, what: &Use, width: u8, token: &Lexeme) -> Result<Place, ParseFault>
-    ensures { Goes (name_step (use_of what.now (head_of outer.now.tree)) width (token_of token.now)) result outer.now }
+    ensures { Goes (name_step (use_of what.now (head_of outer.now)) width (token_of token.now)) result outer.now }
 {
     if let Lexeme::Sign(Mark::Comma) = token {
         return match what {
@@ -143,13 +147,14 @@ fn name_read(outer: &Outer, what: &Use, width: u8, token: &Lexeme) -> Result<Pla
 }
 
 /// What a token does between statements.
-#[tactic(auto, using(crate::proofs::FrameLemmas::expects_is, crate::proofs::FrameLemmas::takes_name_is))]
+#[tactic(auto, using(crate::proofs::HoldingLemmas::expects_is, crate::proofs::FrameLemmas::takes_name_is))]
 pub(crate) fn step_item(
+    alloc: Global,
     outer: &mut Outer,
     place: &ItemSpot,
     token: &Lexeme,
 ) -> Result<Place, ParseFault>
-    ensures { Goes (step_item (Some 64) (item_spot place.now outer.old) (token_of token.now)) result outer.new }
+    ensures { Goes (step_item bounded (item_spot place.now outer.old) (token_of token.now)) result outer.new }
 {
     let next = match place {
         ItemSpot::Begin if is_word("module", token) => ItemSpot::HeadName,
@@ -183,8 +188,7 @@ pub(crate) fn step_item(
             None => return Err(ParseFault::Unexpected),
         },
         ItemSpot::DriveRead(name) if is_mark(Mark::Equals, token) => {
-            start(outer, Base::Drive(*name));
-            return Ok(Place::InExpr(Spot::Want(0)));
+            return Ok(begin(alloc, outer, Base::Drive(*name), 0));
         }
         ItemSpot::AlwaysRead if is_mark(Mark::At, token) => ItemSpot::AtRead,
         ItemSpot::AtRead if is_mark(Mark::Open, token) => ItemSpot::ClockOpen,
@@ -202,7 +206,7 @@ pub(crate) fn step_item(
 /// The name of the module.
 #[tactic(auto, using(crate::proofs::FrameLemmas::takes_name_is))]
 fn head_name(outer: &mut Outer, token: &Lexeme) -> Result<Place, ParseFault>
-    ensures { Goes (takes_name (λ n. AtItem (HeadOpen n)) (token_of token.now)) result outer.new }
+    ensures { Goes (takes_name (λ n. AtItem (HeadOpen (styled outer.old.style) n)) (token_of token.now)) result outer.new }
 {
     match name_in(token) {
         Some(name) => {
@@ -216,7 +220,7 @@ fn head_name(outer: &mut Outer, token: &Lexeme) -> Result<Place, ParseFault>
 /// The name of a clock.
 #[tactic(auto, using(crate::proofs::FrameLemmas::takes_name_is))]
 fn clock_name(outer: &mut Outer, token: &Lexeme) -> Result<Place, ParseFault>
-    ensures { Goes (takes_name (λ c. AtItem (ClockRead (head_of outer.old.tree) c)) (token_of token.now)) result outer.new }
+    ensures { Goes (takes_name (λ c. AtItem (ClockRead (head_of outer.old) c)) (token_of token.now)) result outer.new }
 {
     match name_in(token) {
         Some(name) => {
@@ -234,11 +238,12 @@ pub(crate) fn step(
     place: Place,
     token: &Lexeme,
 ) -> Result<Place, ParseFault>
-    ensures { Goes (step (Some 64) (state_of place outer.old) (token_of token.now)) result outer.new }
+    ensures { Goes (step bounded (state_of place outer.old) (token_of token.now)) result outer.new }
 {
     match place {
         Place::InExpr(spot) => step_expr(alloc, outer, spot, token),
+        Place::InFree(place) => step_free(alloc, outer, place.spot, place.chain, token),
         Place::InStmt(spot) => step_stmt(alloc, outer, spot, token),
-        Place::InItem(spot) => step_item(outer, &spot, token),
+        Place::InItem(spot) => step_item(alloc, outer, &spot, token),
     }
 }

@@ -1,9 +1,10 @@
 //! The lexer: what a byte does where it stands.
 ghost use Rattle.std.specs.Prelude.{◌≡◌, ◌+◌, ◌*◌, ◌∷◌, [], ◌++◌, true, Some, None, ◌≤◌, ◌<◌, ◌↔◌, length, IsOk, IfOk, IfErr};
-ghost use Rattle.verilog_tree.specs.Tokens.{is_space, is_query, mark_of, lengthened};
+ghost use Rattle.verilog_tree.specs.Tokens.{is_space, is_query, mark_of, lengthened, spoils};
 ghost use Rattle.verilog_tree.specs.Words.{is_digit, digit_value, radix, is_digit_of, base_of};
-ghost use Rattle.verilog_read.specs.Lexing.{begin, lex, last, with_token, InGap, InWord, InNumber, Quoted, Lettered, InDigits, Marked};
-ghost use Rattle.verilog_read.specs.Lexemes.{token_of, lexer_of, ends_of, Scans, Begins, BeginsAs, Stays};
+ghost use Rattle.verilog_text.specs.Lexing.{begin, lex, last, with_token, InGap, InWord, InNumber, Quoted, Lettered, InDigits, Marked};
+ghost use Rattle.verilog_read.specs.Holding.{token_of};
+ghost use Rattle.verilog_read.specs.Lexemes.{lexer_of, ends_of, Scans, Begins, BeginsAs, Stays};
 
 use crate::lexemes::{Lexeme, SmallNumber};
 use bist_bits::Bits;
@@ -133,6 +134,7 @@ fn mark_of(c: u8) -> Option<Mark>
         b'!' => Mark::Bang,
         b'<' => Mark::Less,
         b'>' => Mark::Greater,
+        b'.' => Mark::FullStop,
         _ => return None,
     })
 }
@@ -150,6 +152,18 @@ fn lengthened(mark: Mark, c: u8) -> Option<Mark>
         (Mark::Ampersand, b'&') => Some(Mark::TwoAmpersands),
         (Mark::Bar, b'|') => Some(Mark::TwoBars),
         _ => None,
+    }
+}
+
+/// Whether a byte makes of a mark a token that no rule uses: ~& ~| ~^ ^~ &&&
+fn spoils(mark: Mark, c: u8) -> bool
+    ensures { result ≡ spoils mark c }
+{
+    match mark {
+        Mark::Tilde => c == b'&' || c == b'|' || c == b'^',
+        Mark::Caret => c == b'~',
+        Mark::TwoAmpersands => c == b'&',
+        _ => false,
     }
 }
 
@@ -296,7 +310,7 @@ fn lex_digits(base: Base, bits: Bits, c: u8) -> Result<Read, LexFault>
     } else if c == b'_' {
         Ok(silent(Scanner::InDigits(base, bits)))
     } else if is_query(base, c) {
-        Ok(silent(Scanner::Whole(Lexeme::Queried)))
+        Ok(silent(Scanner::Whole(Lexeme::Unused)))
     } else {
         with_token(Lexeme::Constant(bits), c)
     }
@@ -327,7 +341,8 @@ fn lex_mark(mark: Mark, c: u8) -> Result<Read, LexFault>
     ensures { Scans 63 64 (lex (Marked mark) c) result }
 {
     match lengthened(mark, c) {
-        Some(mark) => Ok(silent(Scanner::Whole(Lexeme::Sign(mark)))),
+        Some(longer) => Ok(silent(Scanner::Marked(longer))),
+        None if spoils(mark, c) => Ok(silent(Scanner::Whole(Lexeme::Unused))),
         None => with_token(Lexeme::Sign(mark), c),
     }
 }

@@ -1,18 +1,21 @@
 //! The reader of a module's text: a lexer and a parser that take one byte after another, with stacks of their own
 //! in place of recursion.
 //!
-//! A text's grammar is in `verilog_tree` (`specs/Spells.antt`). Here `specs/Places.antt` says where a reader of a
-//! module can stand, `Following.antt` what may still follow there, in pieces of the grammar, and `Steps.antt` what
-//! a token does; `Lexing.antt` the same of bytes and tokens. A second grammar of expressions would be a second
-//! `ExprPlace` with its steps; all else meets expressions only where one begins and behind a whole one.
+//! What they do is the machine of `verilog_text`, whose definitions and laws say which texts are read and which
+//! refusal is told. Here `specs/Spots.antt` and `Frames.antt` say which state of it the places and stacks of the code
+//! stand for. Expressions are read in two ways, with all their parentheses (`expressions`) and with operators that
+//! bind by precedence (`free`, `precedence`, `operators`); all else meets them where one begins and behind a whole one.
 #![tactic(auto)]
 
 mod expressions;
 mod fault;
+mod free;
 mod items;
 mod lexemes;
 mod lexer;
+mod operators;
 mod places;
+mod precedence;
 mod read;
 mod stacks;
 mod statements;
@@ -20,5 +23,4 @@ mod takes;
 mod trees;
 mod words;
 
-pub use fault::ReadFault;
-pub use read::read_module;
+pub use read::{read_free, read_module};

@@ -2,42 +2,37 @@
 ghost use Rattle.std.specs.Prelude.{true, ◌≡◌, ◌||◌, ◌↔◌, ◌≤◌, Some, None, Err, IfOk, IfErr, MatchResult};
 ghost use Rattle.verilog_tree.specs.Formed.{formed};
 ghost use Rattle.verilog_tree.specs.Plain.{ModuleTree, plain_module};
-ghost use Rattle.verilog_tree.specs.Spells.{Spells};
+ghost use Rattle.verilog_tree.specs.Spells.{Spells, FreelySpells};
+ghost use Rattle.verilog_tree.specs.Grammar.{ByPrecedence};
 ghost use Rattle.verilog_tree.specs.Tokens.{Number};
-ghost use Rattle.verilog_read.specs.Answering.{Stops, Takes, Moves, Scanned, Reads, Gives, take_token, stuck, arrive, while_live, is_between, read_within, byte_move, fault_at, value_answer, end_answer, last_answer, answer, run, both_of};
-ghost use Rattle.verilog_read.specs.Expected.{most_of, taken, takes_literals};
-ghost use Rattle.verilog_read.specs.Refusals.{Says, IsFirst};
-ghost use Rattle.verilog_read.specs.Lexemes.{token_of, tokens_of, lexer_of, ends_of};
-ghost use Rattle.verilog_read.specs.Lexing.{last};
+ghost use Rattle.verilog_text.specs.Answering.{Stops, take_token, stuck, arrive, while_live, is_between, read_within, byte_move, fault_at, value_answer, end_answer, last_answer, answer, run};
+ghost use Rattle.verilog_read.specs.Told.{Takes, Moves, Scanned, Reads, Gives, both_of};
+ghost use Rattle.verilog_text.specs.Expected.{most_of, taken, takes_literals};
+ghost use Rattle.verilog_text.specs.Refusals.{Says, SaysIn, IsFirst, IsFirstIn};
+ghost use Rattle.verilog_read.specs.Holding.{token_of};
+ghost use Rattle.verilog_read.specs.Frames.{styled};
+ghost use Rattle.verilog_read.specs.Lexemes.{tokens_of, lexer_of, ends_of};
+ghost use Rattle.verilog_text.specs.Lexing.{last};
 ghost use Rattle.verilog_read.specs.Spots.{state_of};
-ghost use Rattle.verilog_read.specs.Steps.{value};
+ghost use Rattle.verilog_text.specs.Steps.{value};
 
-use crate::fault::ReadFault;
+use crate::fault::ParseFault;
 use crate::items::step;
 use crate::lexemes::Lexeme;
 use crate::lexer::{LexFault, Read, Scanner, last, lex};
-use crate::places::{ItemSpot, Outer, ParseFault, Place};
+use crate::places::{ItemSpot, Outer, Place, Style};
 use crate::takes::{is_live, takes, takes_number};
 use crate::words::expected_at;
 use std::alloc::Global;
 use std::mem;
-use verilog_tree::{Module, Within};
+use verilog_text::ByteFault;
+use verilog_tree::{Module, ReadFault, Within};
 
 /// Where a byte leads the lexer, and whether a token may begin with it.
 #[derive(Clone, Copy)]
 pub(crate) struct Next {
     pub lexer: Scanner,
     pub fresh: bool,
-}
-
-/// Why a byte is refused.
-#[derive(Clone, Copy)]
-pub(crate) enum ByteFault {
-    Unexpected,
-    TooDeep,
-    LongName,
-    OutOfRange,
-    NoMemory,
 }
 
 /// How large a number may be that goes on: 63 in brackets, and else 64, as the size of a literal.
@@ -266,10 +261,10 @@ fn scan_bytes(
 }
 
 /// Reads a text from its first byte to its end.
-fn scan_text(alloc: Global, bytes: &[u8]) -> Result<Module, ReadFault>
-    ensures { Gives (answer bytes.now) result }
+fn scan_text(alloc: Global, style: Style, bytes: &[u8]) -> Result<Module, ReadFault>
+    ensures { Gives (answer (styled style) bytes.now) result }
 {
-    let mut outer = Outer::new(alloc);
+    let mut outer = Outer::new(alloc, style);
     let mut place = Place::InItem(ItemSpot::Begin);
     let mut lexer = Scanner::InGap(Within::Between);
     let start = scan_bytes(alloc, &mut outer, &mut place, &mut lexer, bytes)?;
@@ -296,5 +291,30 @@ pub fn read_module(alloc: Global, bytes: &[u8]) -> Result<Module, ReadFault>
     // No bytes spell two modules.
     ensures one_module { (mo : ModuleTree) (other : ModuleTree) → Spells bytes.now mo → Spells bytes.now other → mo ≡ other }
 {
-    scan_text(alloc, bytes)
+    scan_text(alloc, Style::Parenthesised, bytes)
+}
+
+/// Reads the text of a module whose operators bind by precedence. The first byte at which one of L1, L3, L4 and L5
+/// stands decides; L3 is also the first byte of the 257th operator of an expression that stands in no other.
+///
+/// The time is linear in the text, and the reader recurses no deeper than openings may be open at once, 64. Its tree
+/// may be deeper, 64 braces and 256 operators, and what walks it or drops it goes as deep.
+pub fn read_free(alloc: Global, bytes: &[u8]) -> Result<Module, ReadFault>
+    // A text is read as the module that it spells, within all limits, unless memory runs out.
+    ensures ok { IfOk result (λ m. FreelySpells bytes.now (plain_module m)) }
+    ensures accepted { (mo : ModuleTree) → FreelySpells bytes.now mo → MatchResult result (λ m. plain_module m ≡ mo) (λ fault. fault ≡ ReadFault.NoMemory) }
+
+    // Every module that is read has the sizes of one.
+    ensures formed { IfOk result (λ m. formed (plain_module m) ≡ true) }
+
+    // What each fault says of the text, at the byte that it names.
+    ensures says { IfErr result (SaysIn ByPrecedence bytes.now) }
+
+    // Unless memory runs out, a fault is answered exactly where it is the first that stands in the text.
+    ensures fault { (result ≡ Err ReadFault.NoMemory → ⊥) → (f : ReadFault) → (result ≡ Err f) ↔ IsFirstIn ByPrecedence bytes.now f }
+
+    // No bytes spell two modules.
+    ensures one_module { (mo : ModuleTree) (other : ModuleTree) → FreelySpells bytes.now mo → FreelySpells bytes.now other → mo ≡ other }
+{
+    scan_text(alloc, Style::ByPrecedence, bytes)
 }

@@ -1,16 +1,19 @@
 //! What waits while a part of the text is read, and tests of tokens.
 ghost use Rattle.std.specs.Prelude.{◌≡◌, ◌<◌, length, IfSome, Some, OnOk, IfErr};
 ghost use Rattle.verilog_tree.specs.Plain.{plain_item};
-ghost use Rattle.verilog_tree.specs.Grammar.{deeper};
-ghost use Rattle.verilog_read.specs.Places.{with_item};
-ghost use Rattle.verilog_read.specs.Steps.{is_word};
-ghost use Rattle.verilog_read.specs.Lexemes.{token_of};
-ghost use Rattle.verilog_read.specs.Frames.{frame, holder, base, base_of, outside_of, around_of, head_of};
-ghost use Rattle.verilog_read.specs.Answers.{Popped, Released, is_expected};
+ghost use Rattle.verilog_text.specs.Places.{AtExpr, with_item, style_of, begin_expr};
+ghost use Rattle.verilog_text.specs.Steps.{is_word};
+ghost use Rattle.verilog_read.specs.Holding.{token_of};
+ghost use Rattle.verilog_read.specs.Frames.{styled, frame, holder, alone, base_of, outside_of, around_of, head_of};
+ghost use Rattle.verilog_read.specs.Spots.{state_of};
+ghost use Rattle.verilog_read.specs.Answers.{Popped, Released};
 
+use crate::fault::ParseFault;
 use crate::lexemes::Lexeme;
-use crate::places::{Base, Frame, Holder, Outer, ParseFault};
-use verilog_tree::{Item, Mark};
+use crate::places::{Base, Frame, Holder, Outer, Place, Spot, Style};
+use crate::precedence::{Chain, FreePlace, FreeSpot};
+use std::alloc::Global;
+use verilog_tree::Item;
 
 #[tactic(auto, using(crate::proofs::FrameLemmas::stack_push))]
 pub(crate) fn push(outer: &mut Outer, f: Frame) -> Result<(), ParseFault>
@@ -39,43 +42,44 @@ pub(crate) fn hold(outer: &mut Outer, h: Holder) -> Result<(), ParseFault>
 
 #[tactic(auto, using(crate::proofs::FrameLemmas::holders_push))]
 pub(crate) fn release(outer: &mut Outer) -> Option<Holder>
-    ensures released { Released (around_of outer.old) result (around_of outer.new) (head_of outer.new.tree) outer.new.clock.bytes }
+    ensures released { Released (around_of outer.old) result (around_of outer.new) (head_of outer.new) outer.new.clock.bytes }
     ensures fewer { IfSome result (λ h. length outer.new.holders.items < length outer.old.holders.items) }
 {
     outer.holders.pop()
 }
 
-/// An expression begins, which stands in no frame.
-pub(crate) fn start(outer: &mut Outer, whole: Base)
-    ensures { outside_of outer.new ≡ base whole outer.old }
+/// An expression begins, which stands in no other.
+#[tactic(auto, using(crate::proofs::FrameLemmas::style_held))]
+pub(crate) fn begin(alloc: Global, outer: &mut Outer, whole: Base, depth: u8) -> Place
+    ensures begun { state_of result outer.new ≡ AtExpr (begin_expr (styled outer.old.style) depth (alone whole (head_of outer.old) (around_of outer.old))) }
+    ensures same { style_of (around_of outer.old) ≡ styled outer.old.style }
 {
     outer.base = whole;
-    outer.frames.clear();
+    match outer.style {
+        Style::Parenthesised => {
+            outer.frames.clear();
+            Place::InExpr(Spot::Want(depth))
+        }
+        Style::ByPrecedence => {
+            outer.nests.clear();
+            Place::InFree(FreePlace {
+                spot: FreeSpot::Operand(depth),
+                chain: Chain {
+                    operators: 0,
+                    lefts: Vec::new(alloc),
+                    mark: None,
+                },
+            })
+        }
+    }
 }
 
 pub(crate) fn add_item(outer: &mut Outer, item: Item) -> Result<(), ParseFault>
-    ensures added { OnOk result (head_of outer.new.tree ≡ with_item (head_of outer.old.tree) (plain_item item)) }
+    ensures added { OnOk result (head_of outer.new ≡ with_item (head_of outer.old) (plain_item item)) }
     ensures fault { IfErr result (λ e. e ≡ ParseFault.NoMemory) }
 {
     outer.tree.items.push(item)?;
     Ok(())
-}
-
-pub(crate) fn deeper(depth: u8) -> Option<u8>
-    ensures { result ≡ deeper (Some 64) depth }
-{
-    if depth < 64 { Some(depth + 1) } else { None }
-}
-
-/// Whether a token is this mark.
-#[tactic(auto, using(crate::proofs::Marks::is_mark))]
-pub(crate) fn is_mark(mark: Mark, token: &Lexeme) -> bool
-    ensures { result ≡ is_expected mark (token_of token.now) }
-{
-    match token {
-        Lexeme::Sign(other) => mark == *other,
-        _ => false,
-    }
 }
 
 /// Whether a token is this word.

@@ -1,25 +1,28 @@
 //! What a token does in a statement.
 ghost use Rattle.std.specs.Prelude.{◌≡◌, Some, map, codes};
+ghost use Rattle.verilog_tree.specs.Spells.{bounded};
 ghost use Rattle.verilog_tree.specs.Plain.{plain, plain_stmts, plain_arm, arms, AlwaysItem};
 ghost use Rattle.verilog_tree.specs.Grammar.{then_all};
-ghost use Rattle.verilog_read.specs.Following.{case_of};
-ghost use Rattle.verilog_read.specs.Places.{with_item, AtStmt, WantStmt, HaveStmt, InElse};
-ghost use Rattle.verilog_read.specs.Steps.{word_step, want_stmt_step, block_step, arm_step, want_item_step, have_stmt_step, step_stmt, expects_word};
-ghost use Rattle.verilog_read.specs.Lexemes.{token_of};
-ghost use Rattle.verilog_read.specs.Frames.{base, holder, around_of, head_of};
+ghost use Rattle.verilog_text.specs.Following.{case_of};
+ghost use Rattle.verilog_text.specs.Places.{with_item, AtStmt, WantStmt, HaveStmt, InElse, style_of};
+ghost use Rattle.verilog_text.specs.Steps.{word_step, want_stmt_step, block_step, arm_step, want_item_step, have_stmt_step, step_stmt, expects_word};
+ghost use Rattle.verilog_read.specs.Holding.{token_of};
+ghost use Rattle.verilog_read.specs.Frames.{alone, holder, around_of, head_of};
 ghost use Rattle.verilog_read.specs.Spots.{stmt_spot};
 ghost use Rattle.verilog_read.specs.Answers.{StmtSteps, Goes, opens_expr};
 
+use crate::fault::ParseFault;
 use crate::lexemes::Lexeme;
-use crate::places::{Base, Holder, ItemSpot, Outer, ParseFault, Place, Spot, StmtSpot, Use};
-use crate::stacks::{add_item, deeper, hold, is_mark, is_word, release, start};
+use crate::places::{Base, Holder, ItemSpot, Outer, Place, StmtSpot, Use};
+use crate::precedence::{deeper, is_mark};
+use crate::stacks::{add_item, begin, hold, is_word, release};
 use crate::trees::{case_of, condition, join, with_arm, with_label};
 use bist_text::is_reserved;
 use std::alloc::Global;
 use verilog_tree::{Arm, Expr, Item, Mark, Name, Stmt};
 
 fn begin_stmt(alloc: Global, outer: &Outer, depth: u8, name: &Name) -> Result<StmtSpot, ParseFault>
-    ensures { StmtSteps (word_step (Some 64) depth (around_of outer.now) name.now.bytes) result (around_of outer.now) }
+    ensures { StmtSteps (word_step bounded depth (around_of outer.now) name.now.bytes) result (around_of outer.now) }
 {
     let word = name.as_str();
     if word == "begin" {
@@ -50,7 +53,7 @@ fn want_stmt(
     depth: u8,
     token: &Lexeme,
 ) -> Result<StmtSpot, ParseFault>
-    ensures { StmtSteps (want_stmt_step (Some 64) depth (around_of outer.now) (token_of token.now)) result (around_of outer.now) }
+    ensures { StmtSteps (want_stmt_step bounded depth (around_of outer.now) (token_of token.now)) result (around_of outer.now) }
 {
     match token {
         Lexeme::Word(name) => begin_stmt(alloc, outer, depth, name),
@@ -66,7 +69,7 @@ fn want_held(
     depth: u8,
     token: &Lexeme,
 ) -> Result<StmtSpot, ParseFault>
-    ensures { StmtSteps (want_stmt_step (Some 64) depth (holder h (around_of outer.old)) (token_of token.now)) result (around_of outer.new) }
+    ensures { StmtSteps (want_stmt_step bounded depth (holder h (around_of outer.old)) (token_of token.now)) result (around_of outer.new) }
 {
     hold(outer, h)?;
     want_stmt(alloc, outer, depth, token)
@@ -80,7 +83,7 @@ fn in_block(
     old: Vec<Stmt>,
     token: &Lexeme,
 ) -> Result<StmtSpot, ParseFault>
-    ensures { StmtSteps (block_step (Some 64) inner depth (plain_stmts old.items) (around_of outer.old) (token_of token.now)) result (around_of outer.new) }
+    ensures { StmtSteps (block_step bounded inner depth (plain_stmts old.items) (around_of outer.old) (token_of token.now)) result (around_of outer.new) }
 {
     if is_word("end", token) {
         Ok(StmtSpot::HaveStmt(depth, old))
@@ -90,7 +93,7 @@ fn in_block(
 }
 
 pub(crate) fn want_item(outer: &Outer, token: &Lexeme) -> Result<Place, ParseFault>
-    ensures { Goes (want_item_step (head_of outer.now.tree) (token_of token.now)) result outer.now }
+    ensures { Goes (want_item_step (head_of outer.now) (token_of token.now)) result outer.now }
 {
     let Lexeme::Word(name) = token else {
         return Err(ParseFault::Unexpected);
@@ -113,7 +116,7 @@ pub(crate) fn want_item(outer: &Outer, token: &Lexeme) -> Result<Place, ParseFau
 }
 
 fn have_always(outer: &mut Outer, body: Vec<Stmt>, token: &Lexeme) -> Result<Place, ParseFault>
-    ensures { Goes (want_item_step (with_item (head_of outer.old.tree) (AlwaysItem outer.old.clock.bytes (plain_stmts body.items))) (token_of token.now)) result outer.new }
+    ensures { Goes (want_item_step (with_item (head_of outer.old) (AlwaysItem outer.old.clock.bytes (plain_stmts body.items))) (token_of token.now)) result outer.new }
 {
     let clock = outer.clock;
     add_item(outer, Item::Always(clock, body))?;
@@ -156,7 +159,7 @@ fn have_block(
     body: Vec<Stmt>,
     token: &Lexeme,
 ) -> Result<Place, ParseFault>
-    ensures { Goes (block_step (Some 64) inner depth (then_all (plain_stmts old.items) (plain_stmts body.items)) (around_of outer.old) (token_of token.now)) result outer.new }
+    ensures { Goes (block_step bounded inner depth (then_all (plain_stmts old.items) (plain_stmts body.items)) (around_of outer.old) (token_of token.now)) result outer.new }
 {
     let old = join(old, body)?;
     let next = in_block(alloc, outer, inner, depth, old, token)?;
@@ -204,7 +207,7 @@ fn have_stmt(
     body: Vec<Stmt>,
     token: &Lexeme,
 ) -> Result<Place, ParseFault>
-    ensures { Goes (have_stmt_step (Some 64) (around_of outer.old) depth (plain_stmts body.items) (token_of token.now)) result outer.new }
+    ensures { Goes (have_stmt_step bounded (around_of outer.old) depth (plain_stmts body.items) (token_of token.now)) result outer.new }
 {
     match release(outer) {
         None => have_always(outer, body, token),
@@ -233,30 +236,33 @@ fn have_stmt(
 }
 
 /// An expression begins behind an opening parenthesis.
-fn opened(outer: &mut Outer, depth: u8, whole: Base, token: &Lexeme) -> Result<Place, ParseFault>
-    ensures { Goes (opens_expr (Some 64) depth (base whole outer.old) (token_of token.now)) result outer.new }
+fn opened(
+    alloc: Global,
+    outer: &mut Outer,
+    depth: u8,
+    whole: Base,
+    token: &Lexeme,
+) -> Result<Place, ParseFault>
+    ensures { Goes (opens_expr bounded depth (style_of (around_of outer.old)) (alone whole (head_of outer.old) (around_of outer.old)) (token_of token.now)) result outer.new }
 {
     if !is_mark(Mark::Open, token) {
         return Err(ParseFault::Unexpected);
     }
     match deeper(depth) {
-        Some(inner) => {
-            start(outer, whole);
-            Ok(Place::InExpr(Spot::Want(inner)))
-        }
+        Some(inner) => Ok(begin(alloc, outer, whole, inner)),
         None => Err(ParseFault::Unexpected),
     }
 }
 
 /// What a token does in a statement.
-#[tactic(auto, using(crate::proofs::FrameLemmas::expects_is))]
+#[tactic(auto, using(crate::proofs::HoldingLemmas::expects_is))]
 pub(crate) fn step_stmt(
     alloc: Global,
     outer: &mut Outer,
     place: StmtSpot,
     token: &Lexeme,
 ) -> Result<Place, ParseFault>
-    ensures { Goes (step_stmt (Some 64) (stmt_spot place (around_of outer.old)) (token_of token.now)) result outer.new }
+    ensures { Goes (step_stmt bounded (stmt_spot place (around_of outer.old)) (token_of token.now)) result outer.new }
 {
     let next = match place {
         StmtSpot::WantStmt(depth) => want_stmt(alloc, outer, depth, token)?,
@@ -264,14 +270,13 @@ pub(crate) fn step_stmt(
             if !is_mark(Mark::LessEquals, token) {
                 return Err(ParseFault::Unexpected);
             }
-            start(outer, Base::Set(name));
-            return Ok(Place::InExpr(Spot::Want(depth)));
+            return Ok(begin(alloc, outer, Base::Set(name), depth));
         }
         StmtSpot::IfRead(depth, inner) => {
-            return opened(outer, inner, Base::Test(depth, inner), token);
+            return opened(alloc, outer, inner, Base::Test(depth, inner), token);
         }
         StmtSpot::CaseRead(depth, inner) => {
-            return opened(outer, inner, Base::Pick(depth, inner), token);
+            return opened(alloc, outer, inner, Base::Pick(depth, inner), token);
         }
         StmtSpot::FirstLabel(depth, inner, x) => match token {
             Lexeme::Constant(label) => {

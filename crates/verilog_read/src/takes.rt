@@ -1,24 +1,30 @@
 //! Whether a text may go on with a token, and with what is begun of one.
-ghost use Rattle.std.specs.Prelude.{◌≡◌, ℕ, None};
+ghost use Rattle.std.specs.Prelude.{◌≡◌, ℕ, false};
 ghost use Rattle.verilog_tree.specs.Plain.{Expression};
 ghost use Rattle.verilog_tree.specs.Tokens.{Number, Sign};
-ghost use Rattle.verilog_read.specs.Expected.{is_step, taken, live, longer_marks, some_taken};
-ghost use Rattle.verilog_read.specs.Lexemes.{token_of, lexer_of};
-ghost use Rattle.verilog_read.specs.Frames.{frame, base, base_of, outside_of, around_of};
-ghost use Rattle.verilog_read.specs.Places.{Outside, AtExpr, AtStmt, AtItem};
+ghost use Rattle.verilog_tree.specs.Grammar.{unlimited, is_sign};
+ghost use Rattle.verilog_text.specs.Places as Q;
+ghost use Rattle.verilog_read.specs.Ends.{ends_choice, closes, links, goes_on};
+ghost use Rattle.verilog_read.specs.Holding.{token_of, nest, standing, nests_of};
+ghost use Rattle.verilog_read.specs.declared.precedence.Chain.{Chain};
+ghost use Rattle.verilog_text.specs.Expected.{is_step, taken, live, longer_marks, some_taken};
+ghost use Rattle.verilog_read.specs.Lexemes.{lexer_of};
+ghost use Rattle.verilog_read.specs.Frames.{frame, alone_of, outside_of, around_of};
+ghost use Rattle.verilog_text.specs.Places.{Outside, AtExpr, AtStmt, AtItem};
 ghost use Rattle.verilog_read.specs.Spots.{spot, stmt_spot, item_spot, state_of};
-ghost use Rattle.verilog_read.specs.Steps.{have_step};
+ghost use Rattle.verilog_text.specs.Steps.{alone_step, have_step};
 
 use crate::lexemes::Lexeme;
 use crate::lexer::Scanner;
 use crate::places::{Base, Frame, ItemSpot, Outer, Place, Spot, StmtSpot, Use};
+use crate::precedence::{FreePlace, FreeSpot, Nest};
 use crate::words::expected_at;
 use bist_text::is_reserved;
 use verilog_tree::Mark;
 
 /// Whether a mark may come behind a whole expression that stands in this.
 fn frame_takes(inner: &Frame, mark: Mark) -> bool
-    ensures { (p : ℕ) (x : Expression) (o : Outside) → result ≡ is_step (have_step p x (frame inner.now o) (Sign mark)) }
+    ensures { (p : ℕ) (x : Expression) (o : Outside) → result ≡ is_step (have_step unlimited p x (frame inner.now o) (Sign mark)) }
 {
     match inner {
         Frame::Braces(_, _) => matches!(mark, Mark::Comma | Mark::CloseBrace),
@@ -51,7 +57,7 @@ fn frame_takes(inner: &Frame, mark: Mark) -> bool
 
 /// The same where it stands in no frame.
 fn base_takes(outer: &Outer, mark: Mark) -> bool
-    ensures { (p : ℕ) (x : Expression) → result ≡ is_step (have_step p x (base_of outer.now) (Sign mark)) }
+    ensures { (p : ℕ) (x : Expression) → result ≡ is_step (alone_step p x (alone_of outer.now) (Sign mark)) }
 {
     match &outer.base {
         Base::Drive(_) | Base::Set(_) => matches!(mark, Mark::Semicolon),
@@ -60,13 +66,109 @@ fn base_takes(outer: &Outer, mark: Mark) -> bool
 }
 
 /// Whether a mark may come behind a whole expression.
-#[tactic(auto, using(crate::proofs::FrameLemmas::stack_push))]
+#[tactic(auto, using(crate::proofs::FrameLemmas::based_takes))]
 fn have_takes(outer: &Outer, mark: Mark) -> bool
-    ensures { (p : ℕ) (x : Expression) → result ≡ is_step (have_step p x (outside_of outer.now) (Sign mark)) }
+    ensures { (p : ℕ) (x : Expression) → result ≡ is_step (have_step unlimited p x (outside_of outer.now) (Sign mark)) }
 {
     match outer.frames.as_slice() {
         [] => base_takes(outer, mark),
         [.., innermost] => frame_takes(innermost, mark),
+    }
+}
+
+/// Whether this is a choice of which the last part is read.
+fn ends_choice(inner: &Nest) -> bool
+    ensures { result ≡ ends_choice inner.now }
+{
+    matches!(inner, Nest::IfFalse(_, _))
+}
+
+/// Whether a mark may come behind a whole expression by precedence that stands in this, which is no such choice.
+fn nest_takes(inner: &Nest, mark: Mark) -> bool
+    ensures { (o : Q.Nest) → ends_choice inner.now ≡ false → result ≡ closes (nest inner.now o) mark }
+{
+    match inner {
+        Nest::Round(_, _, _) => matches!(mark, Mark::Close),
+        Nest::List(_, _, _, _) => matches!(mark, Mark::Comma | Mark::CloseBrace),
+        Nest::IfTrue(_) => matches!(mark, Mark::Colon),
+        Nest::IfFalse(_, _) => false,
+    }
+}
+
+/// The same where it stands in these, the last first: the choices whose last part it is end with it.
+#[tactic(auto, using(crate::proofs::Ends::ends_is))]
+fn nests_take(nests: &[Nest], outer: &Outer, mark: Mark) -> bool
+    ensures { result ≡ closes (nests_of nests.now (alone_of outer.now)) mark }
+{
+    let mut rest = nests;
+    while let [others @ .., innermost] = rest {
+        if !ends_choice(innermost) {
+            return nest_takes(innermost, mark);
+        }
+        rest = others;
+    }
+    base_takes(outer, mark)
+}
+
+/// Whether a mark is an operator, or the ? of a choice.
+fn links(mark: Mark) -> bool
+    ensures { result ≡ links mark }
+{
+    matches!(
+        mark,
+        Mark::Question
+            | Mark::Plus
+            | Mark::Minus
+            | Mark::Ampersand
+            | Mark::Bar
+            | Mark::Caret
+            | Mark::TwoEquals
+            | Mark::BangEquals
+            | Mark::Less
+            | Mark::LessEquals
+            | Mark::Greater
+            | Mark::GreaterEquals
+            | Mark::TwoAmpersands
+            | Mark::TwoBars
+            | Mark::TwoLess
+            | Mark::TwoGreater
+    )
+}
+
+/// Whether a mark may come behind an operand.
+fn operand_takes(outer: &Outer, mark: Mark) -> bool
+    ensures { result ≡ goes_on (nests_of outer.now.nests.items (alone_of outer.now)) mark }
+{
+    links(mark) || nests_take(outer.nests.as_slice(), outer, mark)
+}
+
+fn opens_select(mark: Mark) -> bool
+    ensures { result ≡ is_sign Mark.OpenBracket mark }
+{
+    matches!(mark, Mark::OpenBracket)
+}
+
+#[tactic(auto, using(crate::proofs::Ends::named_takes, crate::proofs::Ends::linked_takes))]
+fn free_takes(place: &FreeSpot, outer: &Outer, mark: Mark) -> bool
+    ensures { (c : Chain) → result ≡ taken (AtExpr (standing place.now c (nests_of outer.now.nests.items (alone_of outer.now)))) (Sign mark) }
+{
+    match place {
+        FreeSpot::Operand(_) => matches!(
+            mark,
+            Mark::Open
+                | Mark::OpenBrace
+                | Mark::Bang
+                | Mark::Tilde
+                | Mark::Ampersand
+                | Mark::Bar
+                | Mark::Caret
+        ),
+        FreeSpot::Prim(_) => matches!(mark, Mark::Open | Mark::OpenBrace),
+        FreeSpot::Named(_, _) => opens_select(mark) || operand_takes(outer, mark),
+        FreeSpot::Bracket(_, _) | FreeSpot::ColonRead(_, _, _) => false,
+        FreeSpot::HighRead(_, _, _) => matches!(mark, Mark::CloseBracket | Mark::Colon),
+        FreeSpot::LowRead(_, _, _, _) => matches!(mark, Mark::CloseBracket),
+        FreeSpot::Have(_, _) => operand_takes(outer, mark),
     }
 }
 
@@ -93,7 +195,7 @@ fn expr_takes(place: &Spot, outer: &Outer, mark: Mark) -> bool
     }
 }
 
-#[tactic(auto, using(crate::proofs::Expectations::no_mark_behind))]
+#[tactic(auto, using(verilog_text::proofs::Expectations::no_mark_behind))]
 fn stmt_takes(place: &StmtSpot, outer: &Outer, mark: Mark) -> bool
     ensures { result ≡ taken (AtStmt (stmt_spot place.now (around_of outer.now))) (Sign mark) }
 {
@@ -131,18 +233,25 @@ fn takes_mark(place: &Place, outer: &Outer, mark: Mark) -> bool
 {
     match place {
         Place::InExpr(spot) => expr_takes(spot, outer, mark),
+        Place::InFree(free) => free_takes(&free.spot, outer, mark),
         Place::InStmt(spot) => stmt_takes(spot, outer, mark),
         Place::InItem(spot) => item_takes(spot, outer, mark),
     }
 }
 
 /// Whether a number may come, told by whether it has more than one digit, and its value.
-#[tactic(auto, using(crate::proofs::Expectations::number_taken))]
+#[tactic(auto, using(verilog_text::proofs::Expectations::number_taken))]
 pub(crate) fn takes_number(place: &Place, outer: &Outer, long: bool, value: u8) -> bool
     ensures { result ≡ taken (state_of place.now outer.now) (Number long value) }
 {
     match place {
         Place::InExpr(Spot::Bracket(_, _) | Spot::ColonRead(_, _, _)) => true,
+        Place::InFree(
+            FreePlace {
+                spot: FreeSpot::Bracket(_, _) | FreeSpot::ColonRead(_, _, _),
+                ..
+            },
+        ) => true,
         Place::InItem(ItemSpot::WantHigh(_)) => true,
         Place::InItem(ItemSpot::WantZero(_, _)) => !long && value == 0,
         _ => false,
@@ -150,7 +259,7 @@ pub(crate) fn takes_number(place: &Place, outer: &Outer, long: bool, value: u8) 
 }
 
 /// Whether a text may go on with a token.
-#[tactic(auto, using(crate::proofs::Expectations::word_taken, crate::proofs::Expectations::literals_alike, crate::proofs::Expectations::no_query))]
+#[tactic(auto, using(verilog_text::proofs::Expectations::word_taken, verilog_text::proofs::Expectations::literals_alike, verilog_text::proofs::Expectations::no_query))]
 pub(crate) fn takes(place: &Place, outer: &Outer, token: &Lexeme) -> bool
     ensures { result ≡ taken (state_of place.now outer.now) (token_of token.now) }
 {
@@ -162,7 +271,7 @@ pub(crate) fn takes(place: &Place, outer: &Outer, token: &Lexeme) -> bool
         }
         Lexeme::Number(long, n) => takes_number(place, outer, *long, n.value),
         Lexeme::Constant(_) => expected_at(place, outer).literals,
-        Lexeme::Queried => false,
+        Lexeme::Unused => false,
         Lexeme::Sign(mark) => takes_mark(place, outer, *mark),
     }
 }

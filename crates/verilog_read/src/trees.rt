@@ -1,27 +1,27 @@
 //! Parts of trees, each built of its parts.
 ghost use Rattle.std.specs.Prelude.{◌≡◌, ◌++◌, ◌∷◌, [], map, IfOk, IfErr};
-ghost use Rattle.verilog_tree.specs.Plain.{plain, plain_stmt, plain_stmts, plain_arm, arms, ArmOf, NoArm, IfElse, expressions, Prefixed, Infixed, Conditional, NoMore, Followed};
+ghost use Rattle.verilog_tree.specs.Plain.{plain, plain_stmt, plain_stmts, plain_arm, arms, ArmOf, NoArm, IfElse, Prefixed, Infixed, Conditional};
 ghost use Rattle.verilog_tree.specs.Grammar.{then_all, alone};
-ghost use Rattle.verilog_read.specs.Places.{more_parts, more_arms};
-ghost use Rattle.verilog_read.specs.Following.{case_of};
+ghost use Rattle.verilog_text.specs.Places.{more_arms};
+ghost use Rattle.verilog_text.specs.Following.{case_of};
 
-use crate::places::ParseFault;
+use crate::fault::ParseFault;
 use bist_bits::Bits;
 use std::alloc::Global;
 use verilog_tree::{Arm, BinOp, Expr, Stmt, UnOp};
+
+fn boxed(alloc: Global, x: Expr) -> Result<Box<Expr>, ParseFault>
+    ensures value { IfOk result (λ y. plain y.value ≡ plain x) }
+    ensures fault { IfErr result (λ f. f ≡ ParseFault.NoMemory) }
+{
+    Ok(Box::new(alloc, x)?)
+}
 
 pub(crate) fn prefixed(alloc: Global, op: UnOp, x: Expr) -> Result<Expr, ParseFault>
     ensures value { IfOk result (λ y. plain y ≡ Prefixed op (plain x)) }
     ensures fault { IfErr result (λ f. f ≡ ParseFault.NoMemory) }
 {
     Ok(Expr::Unary(op, boxed(alloc, x)?))
-}
-
-pub(crate) fn boxed(alloc: Global, x: Expr) -> Result<Box<Expr>, ParseFault>
-    ensures value { IfOk result (λ y. plain y.value ≡ plain x) }
-    ensures fault { IfErr result (λ f. f ≡ ParseFault.NoMemory) }
-{
-    Ok(Box::new(alloc, x)?)
 }
 
 pub(crate) fn infixed(alloc: Global, op: BinOp, x: Expr, y: Expr) -> Result<Expr, ParseFault>
@@ -39,16 +39,6 @@ pub(crate) fn conditional(alloc: Global, c: Expr, x: Expr, y: Expr) -> Result<Ex
     let c = boxed(alloc, c)?;
     let x = boxed(alloc, x)?;
     Ok(Expr::Choose(c, x, boxed(alloc, y)?))
-}
-
-#[tactic(auto, using(crate::proofs::FrameLemmas::parts_push))]
-pub(crate) fn with_part(parts: Vec<Expr>, x: Expr) -> Result<Vec<Expr>, ParseFault>
-    ensures value { IfOk result (λ ys. expressions (map plain ys.items) ≡ more_parts (expressions (map plain parts.items)) (Followed (plain x) NoMore)) }
-    ensures fault { IfErr result (λ f. f ≡ ParseFault.NoMemory) }
-{
-    let mut parts = parts;
-    parts.push(x)?;
-    Ok(parts)
 }
 
 pub(crate) fn only(alloc: Global, stmt: Stmt) -> Result<Vec<Stmt>, ParseFault>

@@ -1,13 +1,17 @@
 //! The words, names and literals that may come where the parser stands.
 ghost use Rattle.std.specs.Prelude.{◌≡◌, ℕ, List, false, map};
 ghost use Rattle.bist_text.specs.ReservedWords.{is_among};
-ghost use Rattle.verilog_read.specs.Expected.{some_begins};
-ghost use Rattle.verilog_read.specs.Places.{Head, InAlways, AtExpr, AtStmt, AtItem};
+ghost use Rattle.verilog_text.specs.Expected.{some_begins};
+ghost use Rattle.verilog_text.specs.Places.{Nest, Head, InAlways, AtExpr, AtStmt, AtItem};
 ghost use Rattle.verilog_read.specs.Frames.{holders, outside_of, around_of};
 ghost use Rattle.verilog_read.specs.Spots.{spot, stmt_spot, item_spot, state_of};
+ghost use Rattle.verilog_read.specs.Holding.{standing};
+ghost use Rattle.verilog_read.specs.declared.precedence.Chain.{Chain};
 ghost use Rattle.verilog_read.specs.WordSets.{words_of, Expects, ExpectsBehind};
+ghost use Rattle.verilog_read.specs.Ends.{begins};
 
 use crate::places::{Holder, ItemSpot, Outer, Place, Spot, StmtSpot};
+use crate::precedence::FreeSpot;
 
 /// Reserved words that may come at one place.
 #[derive(Clone, Copy)]
@@ -75,7 +79,9 @@ fn words_of(set: WordSet) -> &'static [&'static str]
 }
 
 impl Expected {
-    ghost use Rattle.verilog_read.specs.Expected.{with_else, some_begins};
+    ghost use Rattle.verilog_text.specs.Expected.{with_else, some_begins};
+    ghost use Rattle.verilog_read.specs.Holding.{standing};
+    ghost use Rattle.verilog_read.specs.declared.precedence.Chain.{Chain};
     ghost use Rattle.verilog_read.specs.WordSets.{words_of};
 
     /// Whether a word is one of those that may come.
@@ -131,6 +137,7 @@ fn expected_behind(waiting: &[Holder]) -> Expected
     }
 }
 
+#[tactic(auto, using(verilog_text::proofs::Expectations::have_literal))]
 fn expected_in_expr(place: &Spot, outer: &Outer) -> Expected
     ensures { Expects result (AtExpr (spot place.now (outside_of outer.now))) }
 {
@@ -140,7 +147,21 @@ fn expected_in_expr(place: &Spot, outer: &Outer) -> Expected
     }
 }
 
-#[tactic(auto, using(crate::proofs::Expectations::literal_behind))]
+/// Whether an operand may begin.
+fn begins(place: &FreeSpot) -> bool
+    ensures { result ≡ begins place.now }
+{
+    matches!(place, FreeSpot::Operand(_) | FreeSpot::Prim(_))
+}
+
+fn expected_in_free(place: &FreeSpot) -> Expected
+    ensures { (c : Chain) (o : Nest) → Expects result (AtExpr (standing place.now c o)) }
+{
+    let begins = begins(place);
+    plain(WordSet::Nothing, begins, begins)
+}
+
+#[tactic(auto, using(verilog_text::proofs::Expectations::literal_behind))]
 fn expected_in_stmt(place: &StmtSpot, outer: &Outer) -> Expected
     ensures { Expects result (AtStmt (stmt_spot place.now (around_of outer.now))) }
 {
@@ -182,6 +203,7 @@ pub(crate) fn expected_at(place: &Place, outer: &Outer) -> Expected
 {
     match place {
         Place::InExpr(spot) => expected_in_expr(spot, outer),
+        Place::InFree(free) => expected_in_free(&free.spot),
         Place::InStmt(spot) => expected_in_stmt(spot, outer),
         Place::InItem(spot) => expected_in_item(spot, outer),
     }

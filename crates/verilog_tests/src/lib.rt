@@ -4,6 +4,8 @@
 #[cfg(test)]
 mod controller_rows;
 #[cfg(test)]
+mod port_check_rows;
+#[cfg(test)]
 mod self_test_rows;
 #[cfg(test)]
 mod trees;
@@ -11,6 +13,8 @@ mod trees;
 mod verilog_cycle_rows;
 #[cfg(test)]
 mod verilog_emit_rows;
+#[cfg(test)]
+mod verilog_free_rows;
 #[cfg(test)]
 mod verilog_rules;
 #[cfg(test)]

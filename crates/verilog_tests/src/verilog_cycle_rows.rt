@@ -39,7 +39,7 @@ fn designed(alloc: Global, text: &str) -> Result<Design, &'static str> {
     if !formed(&module) {
         return Err("not formed");
     }
-    match elaborate(alloc, &module) {
+    match elaborate(alloc, module) {
         Ok(design) => Ok(design),
         Err(fault) => Err(refusal(&fault)),
     }

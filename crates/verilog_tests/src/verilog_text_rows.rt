@@ -5,15 +5,15 @@ use bist_text::put;
 use std::alloc::Global;
 use std::test::Fail;
 use verilog_emit::emit;
-use verilog_read::{ReadFault, read_module};
-use verilog_tree::fits;
+use verilog_read::read_module;
+use verilog_tree::{Module, ReadFault, fits};
 
 /// A text, and behind it a piece so many times, and then an end.
-fn repeated(
+pub(crate) fn repeated(
     alloc: Global,
     front: &str,
     piece: &str,
-    times: u8,
+    times: u16,
     end: &str,
 ) -> Result<Vec<u8>, NoMemory> {
     let mut text = Vec::new(alloc);
@@ -109,7 +109,7 @@ const DRIVE: &str = "module m(output a);assign a = ";
 const CLOCKED: &str = "module m(input clk,output reg q);always@(posedge clk)";
 
 /// What makes a text as `repeated` does, and why it is refused.
-type Row = (&'static str, &'static str, u8, &'static str, ReadFault);
+type Row = (&'static str, &'static str, u16, &'static str, ReadFault);
 
 const REPEATED: [Row; 17] = [
     (DRIVE, "(", 64, "", ReadFault::Truncated),
@@ -230,8 +230,8 @@ const READ: [(&str, &str); 5] = [
 ];
 
 /// What is printed of the module that is read; nothing where none is.
-fn printed(alloc: Global, text: &[u8]) -> Result<Vec<u8>, NoMemory> {
-    let Ok(read) = read_module(alloc, text) else {
+pub(crate) fn printed(alloc: Global, read: Result<Module, ReadFault>) -> Result<Vec<u8>, NoMemory> {
+    let Ok(read) = read else {
         return Ok(Vec::new(alloc));
     };
     if !fits(&read) {
@@ -241,7 +241,7 @@ fn printed(alloc: Global, text: &[u8]) -> Result<Vec<u8>, NoMemory> {
 }
 
 fn is_printed_so(alloc: Global, text: &str, expected: &str) -> Result<bool, NoMemory> {
-    let text = printed(alloc, text.as_bytes())?;
+    let text = printed(alloc, read_module(alloc, text.as_bytes()))?;
     Ok(text.as_slice() == expected.as_bytes())
 }
 

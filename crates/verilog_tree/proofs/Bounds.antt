@@ -39,7 +39,7 @@ chosen_below false a b c p q = q
 modulo_fits : (a k : ℕ) → a % 2 ^ k < 2 ^ k
 modulo_fits a k = mod_below a (2 ^ k) (pow_pos k)
 
-moved : (j k b : ℕ) → k ≡ j → b < 2 ^ j → b < 2 ^ k
+pub moved : (j k b : ℕ) → k ≡ j → b < 2 ^ j → b < 2 ^ k
 moved j k b e h = rw e h
 
 pub infixed_fits : (o : BinOp) (k j a b : ℕ) → a < 2 ^ k → b < 2 ^ j → infixed_widths o k j ≡ None → infixed o k a b < 2 ^ infixed_width o k

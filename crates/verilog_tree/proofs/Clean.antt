@@ -5,6 +5,7 @@ use Rattle.std.proofs.lemmas.Slice.Eq.{bytes_eq-Decides}
 use Rattle.std.specs.Str.{bytes_eq}
 use Rattle.verilog_tree.specs.Plain.{Expression, ModuleItem, WireItem, RegItem, AssignItem, AlwaysItem, ModulePort}
 use Rattle.verilog_tree.specs.Names.{Declaration, declared_by, port_declarations, item_declarations, declarations, lookup, is_input, is_wire, is_clk, may_be_clock, is_declared_as}
+pub use Rattle.verilog_tree.specs.Wires.{driver}
 use Rattle.verilog_tree.specs.Formed.{expression_formed, item_formed, items_formed}
 use Rattle.verilog_tree.specs.Meaning.{width}
 use Rattle.verilog_tree.specs.Rules.{Unknown, Twice, SelectRange, NotAssignable, TwoBlocks, Clock, Undriven, Mention, AsTarget, reads, mentions, first_bad, is_unknown, is_assigned, has_kind, twice, is_out_of_range, unequal, expression_widths, assignment_widths, item_widths, is_wrong_target, assignable, is_set_before, declares_clk, is_wrong_clock, item_break, items_break, port_twice, port_clock, undriven}
@@ -155,14 +156,6 @@ all_driven is [] h = tt
 all_driven is (d ∷ ds) h =
     let p = not_here (is_wire d.kind && not (is_assigned is d.name)) (Undriven d.name) (undriven is ds) h in
     (driven_at (is_wire d.kind) (is_assigned is d.name) p.0, all_driven is ds p.1)
-
--- the first expression that a name is assigned
-abbrev pub driver : List ModuleItem → List ℕ → Option Expression
-driver [] n = None
-driver (WireItem m k ∷ is) n = driver is n
-driver (RegItem m k ∷ is) n = driver is n
-driver (AssignItem m x ∷ is) n = cond (bytes_eq n m) (Some x) (driver is n)
-driver (AlwaysItem c ss ∷ is) n = driver is n
 
 driver_at : (t s : Bool) (x : Expression) (o : Option Expression) → (t || s) ≡ true → (s ≡ true → (y : Expression) × (o ≡ Some y)) → (y : Expression) × (cond t (Some x) o ≡ Some y)
 driver_at true s x o h later = (x, refl)

@@ -12,4 +12,5 @@ pub mod ReadNames
 pub mod Refusals
 pub mod Reordering
 pub mod Settling
+pub mod Sound
 pub mod Spelled

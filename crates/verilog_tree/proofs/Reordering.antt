@@ -87,7 +87,7 @@ target_append n (AsTarget m ∷ xs) ys = or_more (bytes_eq n m) (is_target n (xs
 target_append n (Whole m ∷ xs) ys = target_append n xs ys
 target_append n (Selected m h l ∷ xs) ys = target_append n xs ys
 
-or_false : (s t : Bool) → (s || t) ≡ false → (s ≡ false) × (t ≡ false)
+pub or_false : (s t : Bool) → (s || t) ≡ false → (s ≡ false) × (t ≡ false)
 or_false true t h = cc
 or_false false t h = (refl, h)
 

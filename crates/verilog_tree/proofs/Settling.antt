@@ -40,7 +40,7 @@ mutual
       ∙ ap (λ v. value w f x * 2 ^ widths w xs + v) (same_joined w e f xs (λ m u. h m (inr u)))
 
 -- what holds of the expression that a name is assigned first
-driven_by : (P : List ℕ → Expression → Type 0) (t : Bool) (n k : List ℕ) (x y : Expression) (o : Option Expression) → (t ≡ true → n ≡ k) → P k y → (o ≡ Some x → P n x) → cond t (Some y) o ≡ Some x → P n x
+pub driven_by : (P : List ℕ → Expression → Type 0) (t : Bool) (n k : List ℕ) (x y : Expression) (o : Option Expression) → (t ≡ true → n ≡ k) → P k y → (o ≡ Some x → P n x) → cond t (Some y) o ≡ Some x → P n x
 driven_by P true n k x y o same p later h =
     let a : n ≡ k = same refl in
     let b : y ≡ x = cc in
@@ -74,7 +74,7 @@ not_driven : (t s : Bool) (x : Expression) (o p : Option Expression) → (t || s
 not_driven true s x o p h later = cc
 not_driven false s x o p h later = later h
 
-driver_behind : (b is : List ModuleItem) (n : List ℕ) → is_assigned b n ≡ false → driver (b ++ is) n ≡ driver is n
+pub driver_behind : (b is : List ModuleItem) (n : List ℕ) → is_assigned b n ≡ false → driver (b ++ is) n ≡ driver is n
 driver_behind [] is n h = refl
 driver_behind (WireItem k v ∷ b) is n h = driver_behind b is n h
 driver_behind (RegItem k v ∷ b) is n h = driver_behind b is n h

@@ -3,7 +3,8 @@ use Rattle.std.proofs.Common.{List, [], ◌∷◌, None, refl, inl, inr, codes, 
 use Rattle.verilog_tree.specs.declared.tokens.Mark.TheVariants.{Open, Close, Comma, Semicolon, Equals}
 use Rattle.verilog_tree.specs.declared.tree.Dir.TheVariants.{Input, Output}
 use Rattle.verilog_tree.specs.Tokens.{Token, Identifier, Sign, Lexed}
-use Rattle.verilog_tree.specs.Grammar.{File, Drives, Parens, Name}
+use Rattle.verilog_tree.specs.Grammar.{File, Drives, Full}
+use Rattle.verilog_tree.specs.Parenthesised.{Parens, Name}
 use Rattle.verilog_tree.specs.Spells.{Spells}
 use Rattle.verilog_tree.specs.Examples.{text, spelled}
 
@@ -17,7 +18,7 @@ derivation = record {
   name = codes "m";
   port = record { dir = Input; wire = false; range = None; name = codes "a" };
   ports = record { dir = Output; wire = false; range = None; name = codes "y" } ∷ [];
-  items = Drives (codes "y") (Parens (Name (codes "a"))) ∷ [];
+  items = Drives (codes "y") (Full (Parens (Name (codes "a")))) ∷ [];
 }
 
 lexed : Lexed tokens text

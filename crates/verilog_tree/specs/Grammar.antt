@@ -1,38 +1,24 @@
 -- The grammar of a module: derivations, the tokens that each derives, and its tree.
-use Rattle.std.specs.Prelude.{◌≡◌, ℕ, ◌+◌, ◌==◌, Bool, true, false, not, ◌&&◌, nat_lt, List, [], ◌∷◌, ◌++◌, Option, Some, None, codes, if◌then◌else◌}
-use Rattle.std.specs.Str.{bytes_eq}
+use Rattle.std.specs.Prelude.{◌≡◌, ℕ, ◌+◌, Bool, true, false, List, [], ◌∷◌, ◌++◌, Option, Some, None, codes}
 use Rattle.bist_bits.specs.Vector.{Vector}
-use Rattle.bist_text.specs.Grammar.{when}
-use Rattle.bist_text.specs.Machine.{Holds}
-use Rattle.bist_text.specs.ReservedWords.{is_among, reserved_words}
-use Rattle.verilog_tree.specs.declared.tokens.Mark.{Mark}
-use Rattle.verilog_tree.specs.declared.tokens.Mark.TheVariants.{Open, Close, OpenBracket, CloseBracket, OpenBrace, CloseBrace, Comma, Semicolon, Colon, At, Question, Equals, LessEquals, Plus, Minus, Ampersand, Bar, Caret, Tilde, Bang, TwoEquals, BangEquals, Less, Greater, GreaterEquals, TwoAmpersands, TwoBars, TwoLess, TwoGreater}
+use Rattle.verilog_tree.specs.declared.tokens.Mark.TheVariants.{Open, Close, OpenBracket, CloseBracket, Comma, Semicolon, Colon, At, Equals, LessEquals}
 use Rattle.verilog_tree.specs.declared.tree.Dir.{Dir}
 use Rattle.verilog_tree.specs.declared.tree.Dir.TheVariants.{Input, Output, OutputReg}
-use Rattle.verilog_tree.specs.declared.tree.UnOp.{UnOp}
-use Rattle.verilog_tree.specs.declared.tree.UnOp.TheVariants as U
-use Rattle.verilog_tree.specs.declared.tree.BinOp.{BinOp}
-use Rattle.verilog_tree.specs.declared.tree.BinOp.TheVariants as B
 use Rattle.verilog_tree.specs.Plain as P
-use Rattle.verilog_tree.specs.Tokens.{mark_text, Token, Identifier, Number, Based, Sign}
+use Rattle.verilog_tree.specs.Tokens.{Token}
+pub use Rattle.verilog_tree.specs.Pieces.{is_sign, sign, keyword, name, number, is_zero, zero_number, literal, Limit, unlimited, deeper_in, deeper, few_in, few, inside, unary_mark, binary_mark}
+use Rattle.verilog_tree.specs.Parenthesised as Y
+use Rattle.verilog_tree.specs.Free as T
 
-mutual
-  -- a derivation of expr
-  pub data Expr : Type 0 where
-    Name : List ℕ → Expr
-    Select : List ℕ → ℕ → Expr
-    Range : List ℕ → ℕ → ℕ → Expr
-    Constant : Vector → Expr
-    Braces : Expr → Exprs → Expr
-    Parens : Expr → Expr
-    Unary : UnOp → Expr → Expr
-    Binary : BinOp → Expr → Expr → Expr
-    Choice : Expr → Expr → Expr → Expr
+-- how expressions are written: with all their parentheses, or with operators that bind by precedence
+pub data Style : Type 0 where
+  Parenthesised : Style
+  ByPrecedence : Style
 
-  -- { "," expr }
-  pub data Exprs : Type 0 where
-    NoExpr : Exprs
-    AndExpr : Expr → Exprs → Exprs
+-- a derivation of expr, in either style
+pub data Expr : Type 0 where
+  Full : Y.Expr → Expr
+  Free : T.Expr → Expr
 
 mutual
   -- a derivation of stmt
@@ -82,106 +68,16 @@ pub record File : Type 0 where
   pub ports : List Port
   pub items : List Item
 
--- What tokens may follow is a set of lists of tokens, as it is of bytes in bist_text.
+-- expr, where d openings are open round it
+abbrev pub expr : Style → Limit → ℕ → Expr → (List Token → Type 0) → List Token → Type 0
+expr Parenthesised l d (Full x) K = Y.expr l d x K
+expr ByPrecedence l d (Free x) K = λ ts. (few l (T.operators (T.expr_tree x)) ≡ true) × T.expr l d x K ts
+expr Parenthesised l d (Free x) K = λ ts. ⊥
+expr ByPrecedence l d (Full x) K = λ ts. ⊥
 
-abbrev pub is_sign : Mark → Mark → Bool
-is_sign m n = bytes_eq (mark_text n) (mark_text m)
-
--- this mark
-abbrev pub sign : Mark → (List Token → Type 0) → List Token → Type 0
-sign m K [] = ⊥
-sign m K (Sign n ∷ ts) = when (is_sign m n) (K ts)
-sign m K (_ ∷ ts) = ⊥
-
--- this reserved word
-abbrev pub keyword : List ℕ → (List Token → Type 0) → List Token → Type 0
-keyword w K [] = ⊥
-keyword w K (Identifier v ∷ ts) = when (bytes_eq v w) (K ts)
-keyword w K (_ ∷ ts) = ⊥
-
--- this name, which isn't reserved
-abbrev pub name : List ℕ → (List Token → Type 0) → List Token → Type 0
-name w K [] = ⊥
-name w K (Identifier v ∷ ts) = (v ≡ w) × (is_among v reserved_words ≡ false) × K ts
-name w K (_ ∷ ts) = ⊥
-
--- this decimal number
-abbrev pub number : ℕ → (List Token → Type 0) → List Token → Type 0
-number n K [] = ⊥
-number n K (Number l m ∷ ts) = (m ≡ n) × K ts
-number n K (_ ∷ ts) = ⊥
-
--- the number "0"
-abbrev pub is_zero : Bool → ℕ → Bool
-is_zero long n = not long && (n == 0)
-
-abbrev pub zero_number : (List Token → Type 0) → List Token → Type 0
-zero_number K [] = ⊥
-zero_number K (Number l m ∷ ts) = when (is_zero l m) (K ts)
-zero_number K (_ ∷ ts) = ⊥
-
--- this literal
-abbrev pub literal : Vector → (List Token → Type 0) → List Token → Type 0
-literal x K [] = ⊥
-literal x K (Based y ∷ ts) = (y ≡ x) × K ts
-literal x K (_ ∷ ts) = ⊥
-
--- How many openings may be open at once; None is no limit. Openings are (, {, begin, case, and if, which is
--- open to the end of its statement.
-abbrev pub Limit : Type 0
-Limit = Option ℕ
-
--- how many are open inside of an opening that has d open round it, if so many may be
-abbrev pub deeper : Limit → ℕ → Option ℕ
-deeper None d = Some (d + 1)
-deeper (Some most) d = if nat_lt d most then Some (d + 1) else None
-
--- inside of an opening; K takes how many are open there
-abbrev pub inside : Limit → ℕ → (ℕ → List Token → Type 0) → List Token → Type 0
-inside l d K ts = Holds (deeper l d) (λ e. K e ts)
-
-abbrev pub unary_mark : UnOp → Mark
-unary_mark U.Not = Bang
-unary_mark U.Invert = Tilde
-unary_mark U.AllOnes = Ampersand
-unary_mark U.AnyOne = Bar
-unary_mark U.Parity = Caret
-
-abbrev pub binary_mark : BinOp → Mark
-binary_mark B.Add = Plus
-binary_mark B.Sub = Minus
-binary_mark B.And = Ampersand
-binary_mark B.Or = Bar
-binary_mark B.Xor = Caret
-binary_mark B.Eq = TwoEquals
-binary_mark B.Ne = BangEquals
-binary_mark B.Lt = Less
-binary_mark B.Le = LessEquals
-binary_mark B.Gt = Greater
-binary_mark B.Ge = GreaterEquals
-binary_mark B.LogAnd = TwoAmpersands
-binary_mark B.LogOr = TwoBars
-binary_mark B.Shl = TwoLess
-binary_mark B.Shr = TwoGreater
-
--- expr = name | name "[" number "]" | name "[" number ":" number "]" | literal | "{" expr { "," expr } "}"
---      | "(" expr ")" | "(" unary expr ")" | "(" expr binary expr ")" | "(" expr "?" expr ":" expr ")"
--- where d openings are open round it
-abbrev mutual
-  pub expr : Limit → ℕ → Expr → (List Token → Type 0) → List Token → Type 0
-  expr l d (Name n) K = name n K
-  expr l d (Select n i) K = name n (sign OpenBracket (number i (sign CloseBracket K)))
-  expr l d (Range n h i) K = name n (sign OpenBracket (number h (sign Colon (number i (sign CloseBracket K)))))
-  expr l d (Constant x) K = literal x K
-  expr l d (Braces x xs) K = sign OpenBrace (inside l d (λ e. expr l e x (exprs l e xs (sign CloseBrace K))))
-  expr l d (Parens x) K = sign Open (inside l d (λ e. expr l e x (sign Close K)))
-  expr l d (Unary o x) K = sign Open (inside l d (λ e. sign (unary_mark o) (expr l e x (sign Close K))))
-  expr l d (Binary o x y) K = sign Open (inside l d (λ e. expr l e x (sign (binary_mark o) (expr l e y (sign Close K)))))
-  expr l d (Choice c x y) K = sign Open (inside l d (λ e. expr l e c (sign Question (expr l e x (sign Colon (expr l e y (sign Close K)))))))
-
-  pub exprs : Limit → ℕ → Exprs → (List Token → Type 0) → List Token → Type 0
-  exprs l d NoExpr K = K
-  exprs l d (AndExpr x xs) K = sign Comma (expr l d x (exprs l d xs K))
+abbrev pub expr_tree : Expr → P.Expression
+expr_tree (Full x) = Y.expr_tree x
+expr_tree (Free x) = T.expr_tree x
 
 -- { "," literal }
 abbrev pub literals : List Vector → (List Token → Type 0) → List Token → Type 0
@@ -206,29 +102,29 @@ colon_if false K = K
 -- An else belongs to the nearest if before it that has none: the statement before it doesn't end in an if
 -- without else.
 abbrev mutual
-  pub stmt : Limit → ℕ → Stmt → (List Token → Type 0) → List Token → Type 0
-  stmt l d (BeginEnd ss) K = keyword (codes "begin") (inside l d (λ e. stmts l e ss (keyword (codes "end") K)))
-  stmt l d (If c s) K = keyword (codes "if") (inside l d (λ e. sign Open (inside l e (λ f. expr l f c (sign Close (stmt l e s K))))))
-  stmt l d (IfElse c a b) K = keyword (codes "if") (inside l d (λ e. sign Open (inside l e (λ f. expr l f c (sign Close (stmt l e a (λ ts. (ends_in_if a ≡ false) × keyword (codes "else") (stmt l e b K) ts)))))))
-  stmt l d (Case x a as' o) K = keyword (codes "case") (inside l d (λ e. sign Open (inside l e (λ f. expr l f x (sign Close (arm l e a (arms l e as' (default l e o (keyword (codes "endcase") K)))))))))
-  stmt l d (Assign n x) K = name n (sign LessEquals (expr l d x (sign Semicolon K)))
+  pub stmt : Style → Limit → ℕ → Stmt → (List Token → Type 0) → List Token → Type 0
+  stmt y l d (BeginEnd ss) K = keyword (codes "begin") (inside l d (λ e. stmts y l e ss (keyword (codes "end") K)))
+  stmt y l d (If c s) K = keyword (codes "if") (inside l d (λ e. sign Open (inside l e (λ f. expr y l f c (sign Close (stmt y l e s K))))))
+  stmt y l d (IfElse c a b) K = keyword (codes "if") (inside l d (λ e. sign Open (inside l e (λ f. expr y l f c (sign Close (stmt y l e a (λ ts. (ends_in_if a ≡ false) × keyword (codes "else") (stmt y l e b K) ts)))))))
+  stmt y l d (Case x a as' o) K = keyword (codes "case") (inside l d (λ e. sign Open (inside l e (λ f. expr y l f x (sign Close (arm y l e a (arms y l e as' (default y l e o (keyword (codes "endcase") K)))))))))
+  stmt y l d (Assign n x) K = name n (sign LessEquals (expr y l d x (sign Semicolon K)))
 
-  pub stmts : Limit → ℕ → Stmts → (List Token → Type 0) → List Token → Type 0
-  stmts l d NoStmt K = K
-  stmts l d (AndStmt s ss) K = stmt l d s (stmts l d ss K)
+  pub stmts : Style → Limit → ℕ → Stmts → (List Token → Type 0) → List Token → Type 0
+  stmts y l d NoStmt K = K
+  stmts y l d (AndStmt s ss) K = stmt y l d s (stmts y l d ss K)
 
   -- arm = literal { "," literal } ":" stmt
-  pub arm : Limit → ℕ → Arm → (List Token → Type 0) → List Token → Type 0
-  arm l d (ArmOf x xs s) K = literal x (literals xs (sign Colon (stmt l d s K)))
+  pub arm : Style → Limit → ℕ → Arm → (List Token → Type 0) → List Token → Type 0
+  arm y l d (ArmOf x xs s) K = literal x (literals xs (sign Colon (stmt y l d s K)))
 
-  pub arms : Limit → ℕ → Arms → (List Token → Type 0) → List Token → Type 0
-  arms l d NoArm K = K
-  arms l d (AndArm a as') K = arm l d a (arms l d as' K)
+  pub arms : Style → Limit → ℕ → Arms → (List Token → Type 0) → List Token → Type 0
+  arms y l d NoArm K = K
+  arms y l d (AndArm a as') K = arm y l d a (arms y l d as' K)
 
   -- [ "default" [ ":" ] stmt ]
-  pub default : Limit → ℕ → Default → (List Token → Type 0) → List Token → Type 0
-  default l d NoDefault K = K
-  default l d (ItsDefault colon s) K = keyword (codes "default") (colon_if colon (stmt l d s K))
+  pub default : Style → Limit → ℕ → Default → (List Token → Type 0) → List Token → Type 0
+  default y l d NoDefault K = K
+  default y l d (ItsDefault colon s) K = keyword (codes "default") (colon_if colon (stmt y l d s K))
 
 -- range = "[" number ":" "0" "]", which may be left out
 abbrev pub range : Option ℕ → (List Token → Type 0) → List Token → Type 0
@@ -243,15 +139,15 @@ names (n ∷ ns) K = sign Comma (name n (names ns K))
 -- item = "wire" [ range ] name { "," name } ";" | "reg" [ range ] name { "," name } ";"
 --      | "assign" name "=" expr ";" | "always" "@" "(" "posedge" name ")" stmt
 -- Nothing is open round an item.
-abbrev pub item : Limit → Item → (List Token → Type 0) → List Token → Type 0
-item l (Wires r n ns) K = keyword (codes "wire") (range r (name n (names ns (sign Semicolon K))))
-item l (Regs r n ns) K = keyword (codes "reg") (range r (name n (names ns (sign Semicolon K))))
-item l (Drives n x) K = keyword (codes "assign") (name n (sign Equals (expr l 0 x (sign Semicolon K))))
-item l (Always c s) K = keyword (codes "always") (sign At (sign Open (inside l 0 (λ e. keyword (codes "posedge") (name c (sign Close (stmt l 0 s K)))))))
+abbrev pub item : Style → Limit → Item → (List Token → Type 0) → List Token → Type 0
+item y l (Wires r n ns) K = keyword (codes "wire") (range r (name n (names ns (sign Semicolon K))))
+item y l (Regs r n ns) K = keyword (codes "reg") (range r (name n (names ns (sign Semicolon K))))
+item y l (Drives n x) K = keyword (codes "assign") (name n (sign Equals (expr y l 0 x (sign Semicolon K))))
+item y l (Always c s) K = keyword (codes "always") (sign At (sign Open (inside l 0 (λ e. keyword (codes "posedge") (name c (sign Close (stmt y l 0 s K)))))))
 
-abbrev pub items : Limit → List Item → (List Token → Type 0) → List Token → Type 0
-items l [] K = K
-items l (i ∷ is) K = item l i (items l is K)
+abbrev pub items : Style → Limit → List Item → (List Token → Type 0) → List Token → Type 0
+items y l [] K = K
+items y l (i ∷ is) K = item y l i (items y l is K)
 
 abbrev pub wire_if : Bool → (List Token → Type 0) → List Token → Type 0
 wire_if true K = keyword (codes "wire") K
@@ -284,26 +180,13 @@ abbrev pub no_token : List Token → Type 0
 no_token [] = Unit {0}
 no_token (t ∷ ts) = ⊥
 
--- file = "module" name "(" port { "," port } ")" ";" { item } "endmodule"
-abbrev pub file : Limit → File → List Token → Type 0
-file l f = keyword (codes "module") (name f.name (sign Open (inside l 0 (λ e. port f.port (ports f.ports (sign Close (sign Semicolon (items l f.items (keyword (codes "endmodule") no_token)))))))))
+-- "module" name "(" port { "," port } ")" ";" { item } "endmodule"
+abbrev pub module_of : Style → Limit → File → (List Token → Type 0) → List Token → Type 0
+module_of y l f K = keyword (codes "module") (name f.name (sign Open (inside l 0 (λ e. port f.port (ports f.ports (sign Close (sign Semicolon (items y l f.items (keyword (codes "endmodule") K)))))))))
 
--- The tree of a derivation. Parentheses round an expression leave no trace.
-abbrev mutual
-  pub expr_tree : Expr → P.Expression
-  expr_tree (Name n) = P.Net n
-  expr_tree (Select n i) = P.BitSelect n i
-  expr_tree (Range n h l) = P.PartSelect n h l
-  expr_tree (Constant x) = P.Literal x
-  expr_tree (Braces x xs) = P.Concatenation (P.Followed (expr_tree x) (exprs_tree xs))
-  expr_tree (Parens x) = expr_tree x
-  expr_tree (Unary o x) = P.Prefixed o (expr_tree x)
-  expr_tree (Binary o x y) = P.Infixed o (expr_tree x) (expr_tree y)
-  expr_tree (Choice c x y) = P.Conditional (expr_tree c) (expr_tree x) (expr_tree y)
-
-  pub exprs_tree : Exprs → P.Expressions
-  exprs_tree NoExpr = P.NoMore
-  exprs_tree (AndExpr x xs) = P.Followed (expr_tree x) (exprs_tree xs)
+-- file = module
+abbrev pub file : Style → Limit → File → List Token → Type 0
+file y l f = module_of y l f no_token
 
 -- statements, and behind them others
 abbrev pub then_all : P.Statements → P.Statements → P.Statements

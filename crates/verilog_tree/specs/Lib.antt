@@ -1,10 +1,14 @@
 pub mod Examples
 pub mod Fits
 pub mod Formed
+pub mod Free
 pub mod Grammar
 pub mod Meaning
 pub mod Names
 pub mod Order
+pub mod Parenthesised
+pub mod Partial
+pub mod Pieces
 pub mod Plain
 pub mod Rules
 pub mod Seen

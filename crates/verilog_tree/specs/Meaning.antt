@@ -118,13 +118,13 @@ names_widths mo = width_of (declarations mo.ports mo.items)
 abbrev pub settled_width : ModuleTree → List ℕ → ℕ
 settled_width mo n = cond (is_clk n) 0 (names_widths mo n)
 
--- what a declared name that no expression drives is given
-abbrev pub Given : Env → Env → Env → Kind → List ℕ → Type 0
+-- what a declared name that no expression drives is given, whatever names have
+abbrev pub Given : {A : Type 0} → (List ℕ → A) → (List ℕ → A) → (List ℕ → A) → Kind → List ℕ → Type 0
 Given regs ins e K.Input n = is_clk n ≡ false → e n ≡ ins n
 Given regs ins e K.Wire n = Unit {0}
 Given regs ins e K.Register n = e n ≡ regs n
 
-abbrev pub AllGiven : Env → Env → Env → List Declaration → Type 0
+abbrev pub AllGiven : {A : Type 0} → (List ℕ → A) → (List ℕ → A) → (List ℕ → A) → List Declaration → Type 0
 AllGiven regs ins e [] = Unit {0}
 AllGiven regs ins e (d ∷ ds) = Given regs ins e d.kind d.name × AllGiven regs ins e ds
 
@@ -172,8 +172,8 @@ block_sets w e (RegItem n k ∷ is) = block_sets w e is
 block_sets w e (AssignItem n x ∷ is) = block_sets w e is
 block_sets w e (AlwaysItem c ss ∷ is) = sets w e ss ++ block_sets w e is
 
--- the value that the last pair of a name sets, or else the old one
-abbrev pub last_set : List ℕ → List (List ℕ × ℕ) → ℕ → ℕ
+-- what the last pair of a name sets, or else the old
+abbrev pub last_set : {A : Type 0} → List ℕ → List (List ℕ × A) → A → A
 last_set n [] old = old
 last_set n (p ∷ ps) old = last_set n ps (cond (bytes_eq n p.0) p.1 old)
 

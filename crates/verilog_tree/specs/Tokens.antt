@@ -6,19 +6,19 @@ use Rattle.bist_text.specs.Machine.{Holds}
 use Rattle.verilog_tree.specs.declared.tokens.Base.{Base}
 use Rattle.verilog_tree.specs.declared.tokens.Base.TheVariants.{Binary, Octal, Decimal, Hexadecimal}
 use Rattle.verilog_tree.specs.declared.tokens.Mark.{Mark}
-use Rattle.verilog_tree.specs.declared.tokens.Mark.TheVariants.{Open, Close, OpenBracket, CloseBracket, OpenBrace, CloseBrace, Comma, Semicolon, Colon, At, Question, Equals, LessEquals, Plus, Minus, Ampersand, Bar, Caret, Tilde, Bang, TwoEquals, BangEquals, Less, Greater, GreaterEquals, TwoAmpersands, TwoBars, TwoLess, TwoGreater}
+use Rattle.verilog_tree.specs.declared.tokens.Mark.TheVariants.{Open, Close, OpenBracket, CloseBracket, OpenBrace, CloseBrace, Comma, Semicolon, Colon, At, Question, Equals, LessEquals, Plus, Minus, Ampersand, Bar, Caret, Tilde, Bang, TwoEquals, BangEquals, Less, Greater, GreaterEquals, TwoAmpersands, TwoBars, TwoLess, TwoGreater, FullStop}
 use Rattle.verilog_tree.specs.declared.tokens.Within.{Within}
 use Rattle.verilog_tree.specs.declared.tokens.Within.TheVariants.{Between, Slash, Line, Block, Star}
 use Rattle.verilog_tree.specs.Words.{is_digit, begins_identifier, in_identifier, radix, base_of, is_digit_of, digit_value}
 
 -- A token. A number is told by whether it has more than one digit, and its value. A literal is the constant
 -- that its size and digits write. A queried one is a literal of base b, o or h with a ? directly behind it,
--- which the standard reads as a z digit, and which no rule uses.
+-- which the standard reads as a z digit; so is each of the marks ~& ~| ~^ ^~ and &&&: no rule uses them.
 pub data Token : Type 0 where
   Identifier : List ℕ → Token
   Number : Bool → ℕ → Token
   Based : Vector → Token
-  Queried : Token
+  Unused : Token
   Sign : Mark → Token
 
 -- ---- what stands behind the first byte of a token; K says what follows the token, and each piece takes as
@@ -65,8 +65,8 @@ is_query base c = takes_question base && (c == 63)
 -- behind the digits: of a literal no ? that is a digit, and of a queried one such a ?
 abbrev pub behind_digits : Token → (List ℕ → Type 0) → ℕ → Base → ℕ → List ℕ → Type 0
 behind_digits (Based x) K size base v b = ((record { width = size; value = v }) ≡ x) × stops (is_query base) K b
-behind_digits Queried K size base v [] = ⊥
-behind_digits Queried K size base v (c ∷ b) = when (is_query base c) (K b)
+behind_digits Unused K size base v [] = ⊥
+behind_digits Unused K size base v (c ∷ b) = when (is_query base c) (K b)
 behind_digits _ K size base v b = ⊥
 
 -- behind the base's letter: the first digit, and the others
@@ -82,7 +82,7 @@ behind_quote t K size (c ∷ b) = Holds (base_of c) (λ base. behind_letter t K 
 -- P, of a token that begins with a size
 abbrev pub sized : Token → Type 0 → Type 0
 sized (Based x) P = P
-sized Queried P = P
+sized Unused P = P
 sized _ P = ⊥
 
 -- behind decimal digits that are worth m: nothing more of a number, and of a literal, whose size they are, a '
@@ -122,10 +122,11 @@ mark_text TwoAmpersands = codes "&&"
 mark_text TwoBars = codes "||"
 mark_text TwoLess = codes "<<"
 mark_text TwoGreater = codes ">>"
+mark_text FullStop = codes "."
 
 -- the mark of one byte
 abbrev pub mark_of : ℕ → Option Mark
-mark_of c = if c == 40 then Some Open else if c == 41 then Some Close else if c == 91 then Some OpenBracket else if c == 93 then Some CloseBracket else if c == 123 then Some OpenBrace else if c == 125 then Some CloseBrace else if c == 44 then Some Comma else if c == 59 then Some Semicolon else if c == 58 then Some Colon else if c == 64 then Some At else if c == 63 then Some Question else if c == 61 then Some Equals else if c == 43 then Some Plus else if c == 45 then Some Minus else if c == 38 then Some Ampersand else if c == 124 then Some Bar else if c == 94 then Some Caret else if c == 126 then Some Tilde else if c == 33 then Some Bang else if c == 60 then Some Less else if c == 62 then Some Greater else None
+mark_of c = if c == 40 then Some Open else if c == 41 then Some Close else if c == 91 then Some OpenBracket else if c == 93 then Some CloseBracket else if c == 123 then Some OpenBrace else if c == 125 then Some CloseBrace else if c == 44 then Some Comma else if c == 59 then Some Semicolon else if c == 58 then Some Colon else if c == 64 then Some At else if c == 63 then Some Question else if c == 61 then Some Equals else if c == 43 then Some Plus else if c == 45 then Some Minus else if c == 38 then Some Ampersand else if c == 124 then Some Bar else if c == 94 then Some Caret else if c == 126 then Some Tilde else if c == 33 then Some Bang else if c == 60 then Some Less else if c == 62 then Some Greater else if c == 46 then Some FullStop else None
 
 -- the mark that a second byte makes of one, if it makes one
 abbrev pub lengthened : Mark → ℕ → Option Mark
@@ -137,14 +138,36 @@ lengthened Ampersand c = if c == 38 then Some TwoAmpersands else None
 lengthened Bar c = if c == 124 then Some TwoBars else None
 lengthened _ c = None
 
--- behind the first byte of the mark n, which alone is m: a second byte where it lengthens m, and else nothing more
-abbrev pub marked : Mark → Mark → (List ℕ → Type 0) → List ℕ → Option Mark → ℕ → Type 0
-marked m n K b None c = (m ≡ n) × K (c ∷ b)
-marked m n K b (Some k) c = (k ≡ n) × K b
+-- whether a byte makes of a mark a token that no rule uses: ~& ~| ~^ ^~ &&&
+abbrev pub spoils : Mark → ℕ → Bool
+spoils Tilde c = (c == 38) || (c == 124) || (c == 94)
+spoils Caret c = c == 126
+spoils TwoAmpersands c = c == 38
+spoils _ c = false
 
-abbrev pub behind_mark : Mark → Mark → (List ℕ → Type 0) → List ℕ → Type 0
-behind_mark m n K [] = (m ≡ n) × K []
-behind_mark m n K (c ∷ b) = marked m n K b (lengthened m c) c
+-- what a byte makes of the mark before it: a longer one, a token that no rule uses, or nothing
+pub data Growth : Type 0 where
+  Longer : Mark → Growth
+  Spoiled : Growth
+  Complete : Growth
+
+abbrev pub growth_of : Option Mark → Bool → Growth
+growth_of (Some k) spoilt = Longer k
+growth_of None true = Spoiled
+growth_of None false = Complete
+
+abbrev pub growth : Mark → ℕ → Growth
+growth m c = growth_of (lengthened m c) (spoils m c)
+
+abbrev pub grown : Growth → (Mark → Type 0) → Mark → Token → (List ℕ → Type 0) → ℕ → List ℕ → Type 0
+grown (Longer k) longer m t K c b = longer k
+grown Spoiled longer m t K c b = (Unused ≡ t) × K b
+grown Complete longer m t K c b = (Sign m ≡ t) × K (c ∷ b)
+
+-- behind the first bytes of a token, which alone are the mark m: as many as make a longer one
+abbrev pub behind_mark : Mark → Token → (List ℕ → Type 0) → List ℕ → Type 0
+behind_mark m t K [] = (Sign m ≡ t) × K []
+behind_mark m t K (c ∷ b) = grown (growth m c) (λ k. behind_mark k t K b) m t K c b
 
 -- ---- tokens
 
@@ -167,8 +190,7 @@ abbrev pub begun : Start → ℕ → Token → (List ℕ → Type 0) → List �
 begun AWord c (Identifier w) K b = run in_identifier (c ∷ []) (λ v r. (v ≡ w) × K r) b
 begun AWord c _ K b = ⊥
 begun ANumber c t K b = decimal false (digit_value c) (behind_number t K) b
-begun (AMark m) c (Sign n) K b = behind_mark m n K b
-begun (AMark m) c _ K b = ⊥
+begun (AMark m) c t K b = behind_mark m t K b
 begun NoToken c t K b = ⊥
 
 -- a token, the longest that stands here, and then what K says

@@ -1,5 +1,6 @@
 -- Wires whose expressions use wires.
-use Rattle.std.specs.Prelude.{◌≡◌, ℕ, ◌^◌, ◌<◌, false, List, [], ◌∷◌, ◌⊎◌, Some}
+use Rattle.std.specs.Prelude.{◌≡◌, ℕ, ◌^◌, ◌<◌, cond, false, List, [], ◌∷◌, ◌⊎◌, Option, Some, None}
+use Rattle.std.specs.Str.{bytes_eq}
 use Rattle.verilog_tree.specs.declared.names.Kind.{Kind}
 use Rattle.verilog_tree.specs.declared.names.Kind.TheVariants as K
 use Rattle.verilog_tree.specs.Names.{Declaration, declarations, lookup, is_clk}
@@ -21,6 +22,14 @@ abbrev mutual
   pub UsesAny : List ℕ → Expressions → Type 0
   UsesAny n NoMore = ⊥
   UsesAny n (Followed x xs) = Uses n x ⊎ UsesAny n xs
+
+-- the first expression that a name is assigned
+abbrev pub driver : List ModuleItem → List ℕ → Option Expression
+driver [] n = None
+driver (WireItem m k ∷ is) n = driver is n
+driver (RegItem m k ∷ is) n = driver is n
+driver (AssignItem m x ∷ is) n = cond (bytes_eq n m) (Some x) (driver is n)
+driver (AlwaysItem c ss ∷ is) n = driver is n
 
 -- the name is assigned an expression that uses the other
 abbrev pub Leads : List ModuleItem → List ℕ → List ℕ → Type 0

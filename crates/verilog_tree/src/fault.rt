@@ -1,9 +1,28 @@
-//! What a module is refused for.
+//! What a text and what a module is refused for.
 
 ghost use Rattle.std.specs.Prelude.{◌≡◌};
 
 use crate::tree::Name;
 use bist_bits::NoMemory;
+
+/// Why a text is refused. The first byte at which one of L1, L3, L4 and L5 stands decides.
+#[derive(Clone, Copy, Debug, PartialEq, Eq)]
+pub enum ReadFault {
+    /// L1: with this byte no text of the grammar begins so.
+    Unexpected { byte: usize },
+    /// L2: the text ends too early.
+    Truncated,
+    /// L3: the opening that begins at this byte makes 65 open at once, or the operator that begins there is the
+    /// 257th of an expression that stands in no other.
+    TooDeep { byte: usize },
+    /// L4: this is the 65th byte of an identifier.
+    LongName { byte: usize },
+    /// L5: at this byte a number in brackets exceeds 63, the size of a literal 64, or its value what its size
+    /// holds; or it is the `'` after a size of 0.
+    OutOfRange { byte: usize },
+    /// L6: there was no memory.
+    NoMemory,
+}
 
 /// A rule that a module breaks, or that there was no memory.
 #[derive(Drop)]

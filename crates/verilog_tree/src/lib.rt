@@ -20,7 +20,7 @@ mod tree;
 mod widths;
 mod words;
 
-pub use fault::TreeFault;
+pub use fault::{ReadFault, TreeFault};
 pub use layout::fits;
 pub use mentions::names_read;
 pub use names::{Declared, Kind, all_declared};

@@ -32,6 +32,7 @@ pub enum Mark {
     TwoBars,
     TwoLess,
     TwoGreater,
+    FullStop,
 }
 
 /// Where in white space a byte stands.

@@ -1,4 +1,4 @@
-use Rattle.array_sim.specs.Addresses.{direction_of}
+use Rattle.march_core.specs.Addresses.{direction_of}
 use Rattle.array_sim.proofs.Runs.{element_goes_on, element_stops, element_ends}
 use Rattle.array_sim.proofs.element_run.run_sweep.Goals as goal
 

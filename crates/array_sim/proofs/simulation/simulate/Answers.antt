@@ -1,37 +1,60 @@
-use Rattle.std.proofs.Common.{Some, None, arith}
-use Rattle.array_sim.specs.Run.{places_of}
-use Rattle.array_sim.proofs.Runs.{march_goes_on, march_stops, march_ends}
-use Rattle.array_sim.proofs.Differing.{found}
+use Rattle.std.proofs.Common.{◌≡◌, List, Bool, Option, ap, sym, ◌∙◌, length, None, ◌↔◌, arith}
+use Rattle.std.specs.Option.{IsSome, IfSome}
+use Rattle.fault_core.specs.declared.cells.Places.{Places}
+use Rattle.fault_core.specs.Primitive.{Primitive}
+use Rattle.fault_core.specs.Cells.{close_of}
+use Rattle.march_core.specs.March.{MarchElement}
+use Rattle.march_core.specs.Visits.{Direction, MarchStep, directions_of, visits}
+use Rattle.march_core.specs.declared.visit.Miss.{Miss}
+use Rattle.array_sim.specs.Run.{Outcome, places_of, run_of}
+use Rattle.array_sim.specs.Differing.{left_behind, after_step, SomeDiffers, IsFirstMiss, StopsAt}
+use Rattle.array_sim.proofs.Differing.{found, all_left, stopped}
 use Rattle.array_sim.proofs.simulation.simulate.Goals as goal
 
-pub returns-in-Some-clause-cells : goal.returns-in-Some-clause-cells
-returns-in-Some-clause-cells c =
-    (march_stops c.args.instance.now.prim (places_of c.args.instance.now) c.args.march.now c.args.directions c.loop-element.element _
-    c.loop-element.cells c.run_element.new.cells c.in-Some.miss c.run_element.result _ (omega arith)
-    (omega arith) c.run_element.ensures.cells c.run_element.ensures.miss c.in-Some.is c.loop-element.invariant).0
+-- what a run over these steps ends with
+record Ran (p : Primitive) (at : Places) (closed : List Bool) (steps : List MarchStep) (miss : Option Miss) (left : List Bool) : Type 0 where
+  caught : IsSome miss ↔ SomeDiffers p at closed steps
+  first : IfSome miss (λ m. IsFirstMiss p at closed steps m)
+  passed : miss ≡ None → left ≡ left_behind (after_step p at) closed steps
+  stopped : IfSome miss (λ m. StopsAt p at closed steps m left)
 
-pub returns-in-Some-clause-miss : goal.returns-in-Some-clause-miss
-returns-in-Some-clause-miss c =
-    (march_stops c.args.instance.now.prim (places_of c.args.instance.now) c.args.march.now c.args.directions c.loop-element.element _
-    c.loop-element.cells c.run_element.new.cells c.in-Some.miss c.run_element.result _ (omega arith)
-    (omega arith) c.run_element.ensures.cells c.run_element.ensures.miss c.in-Some.is c.loop-element.invariant).1
-
-pub loop-element-preserved : goal.loop-element-preserved
-loop-element-preserved c =
-    march_goes_on c.args.instance.now.prim (places_of c.args.instance.now) c.args.march.now c.args.directions c.loop-element.element _
-    c.loop-element.cells c.run_element.new.cells c.run_element.result _ (omega arith)
-    (omega arith) c.run_element.ensures.cells c.run_element.ensures.miss c.in_default.is c.loop-element.invariant
-
-pub returns-in-Some-clause-caught : goal.returns-in-Some-clause-caught
-returns-in-Some-clause-caught c =
-    (found c.args.instance.now.prim (places_of c.args.instance.now) _ _ (Some c.in-Some.miss) (returns-in-Some-clause-miss c)).0
-
-pub returns-in-Some-clause-first : goal.returns-in-Some-clause-first
-returns-in-Some-clause-first c =
-    (found c.args.instance.now.prim (places_of c.args.instance.now) _ _ (Some c.in-Some.miss) (returns-in-Some-clause-miss c)).1
+ran : (p : Primitive) (at : Places) (cells closed : List Bool) (march : List MarchElement) (ds : List Direction) (miss : Option Miss) (left : List Bool)
+    → length closed ≡ length cells → closed ≡ close_of p at cells
+    → miss ≡ (run_of p at closed (visits march ds (length closed))).miss → left ≡ (run_of p at closed (visits march ds (length closed))).cells
+    → Ran p at (close_of p at cells) (visits march ds (length cells)) miss left
+ran p at cells closed march ds miss left size closes miss_is left_is =
+    let steps : List MarchStep = visits march ds (length cells) in
+    let same : run_of p at closed (visits march ds (length closed)) ≡ run_of p at (close_of p at cells) steps =
+    ap (λ k. run_of p at closed (visits march ds k)) size ∙ ap (λ l. run_of p at l steps) closes in
+    let named : miss ≡ (run_of p at (close_of p at cells) steps).miss = miss_is ∙ ap (λ (o : Outcome). o.miss) same in
+    let leaves : left ≡ (run_of p at (close_of p at cells) steps).cells = left_is ∙ ap (λ (o : Outcome). o.cells) same in
+    record {
+      caught = (found p at (close_of p at cells) steps miss named).0;
+      first = (found p at (close_of p at cells) steps miss named).1;
+      passed = λ none. leaves ∙ all_left p at (close_of p at cells) steps (sym named ∙ none);
+      stopped = stopped p at (close_of p at cells) steps miss left named leaves;
+    }
 
 pub returns-clause-caught : goal.returns-clause-caught
 returns-clause-caught c =
-    (found c.args.instance.now.prim (places_of c.args.instance.now) _ _ None
-    (march_ends c.args.instance.now.prim (places_of c.args.instance.now) c.args.march.now c.args.directions c.loop-element.element _
-    c.loop-element.cells _ (omega arith) c.loop-element.invariant).1).0
+    (ran c.args.instance.now.prim (places_of c.args.instance.now) c.args.cells.now c.close_cells.new.cells c.args.march.now
+    (directions_of c.args.directions (length c.args.march.now)) c.run_elements.result c.run_elements.new.cells (omega arith) c.close_cells.ensures
+    c.run_elements.ensures.miss c.run_elements.ensures.cells).caught
+
+pub returns-clause-first : goal.returns-clause-first
+returns-clause-first c =
+    (ran c.args.instance.now.prim (places_of c.args.instance.now) c.args.cells.now c.close_cells.new.cells c.args.march.now
+    (directions_of c.args.directions (length c.args.march.now)) c.run_elements.result c.run_elements.new.cells (omega arith) c.close_cells.ensures
+    c.run_elements.ensures.miss c.run_elements.ensures.cells).first
+
+pub returns-clause-passed : goal.returns-clause-passed
+returns-clause-passed c =
+    (ran c.args.instance.now.prim (places_of c.args.instance.now) c.args.cells.now c.close_cells.new.cells c.args.march.now
+    (directions_of c.args.directions (length c.args.march.now)) c.run_elements.result c.run_elements.new.cells (omega arith) c.close_cells.ensures
+    c.run_elements.ensures.miss c.run_elements.ensures.cells).passed
+
+pub returns-clause-stopped : goal.returns-clause-stopped
+returns-clause-stopped c =
+    (ran c.args.instance.now.prim (places_of c.args.instance.now) c.args.cells.now c.close_cells.new.cells c.args.march.now
+    (directions_of c.args.directions (length c.args.march.now)) c.run_elements.result c.run_elements.new.cells (omega arith) c.close_cells.ensures
+    c.run_elements.ensures.miss c.run_elements.ensures.cells).stopped

@@ -1,5 +1,5 @@
 use Rattle.std.proofs.Common.{rules, ◌≡◌, ◌∙◌, ◌<◌, length, arith}
-use Rattle.bist_app.proofs.AllBenched.{goes_failed, goes_passed, boxes_benched, one_gone, one_less, first_has_room, rest_have_room}
+use Rattle.bist_app.proofs.AllBenched.{goes_failed, goes_passed, boxes_counted, one_gone, one_less, first_has_room, rest_have_room}
 use Rattle.bist_app.proofs.benching_all.bench_boxes.Goals as goal
 
 pub take_first-requires-clause-room : goal.take_first-requires-clause-room
@@ -11,7 +11,6 @@ loop-devices-preserved-then-does_fail g c =
     let less = one_less c.loop-devices.devices.items c.take_first.new.devices.items some c.in_ok-device.ensures.taken in
     record {
       tree = c.does_fail.ensures.kept ∙ c.loop-devices.invariant.tree;
-      counted = c.loop-devices.invariant.counted;
       bound = omega (arith, less, c.loop-devices.invariant.bound);
       gone = one_gone _ _ c.loop-devices.devices.items c.take_first.new.devices.items c.loop-devices.invariant.gone c.in_ok-device.ensures.taken;
       rooms = rest_have_room _ _ c.loop-devices.devices.items c.take_first.new.devices.items c.in_ok-device.ensures.taken c.loop-devices.invariant.rooms;
@@ -26,7 +25,6 @@ loop-devices-preserved g c =
     let less = one_less c.loop-devices.devices.items c.take_first.new.devices.items some c.in_ok-device.ensures.taken in
     record {
       tree = c.does_fail.ensures.kept ∙ c.loop-devices.invariant.tree;
-      counted = c.loop-devices.invariant.counted;
       bound = omega (arith, less, c.loop-devices.invariant.bound);
       gone = one_gone _ _ c.loop-devices.devices.items c.take_first.new.devices.items c.loop-devices.invariant.gone c.in_ok-device.ensures.taken;
       rooms = rest_have_room _ _ c.loop-devices.devices.items c.take_first.new.devices.items c.in_ok-device.ensures.taken c.loop-devices.invariant.rooms;
@@ -35,8 +33,8 @@ loop-devices-preserved g c =
           c.does_fail.ensures.end c.loop-devices.invariant.goes_on;
     }
 
-pub returns-clause-benched : goal.returns-clause-benched
-returns-clause-benched g c =
+pub returns-clause-counts : goal.returns-clause-counts
+returns-clause-counts g c =
     let none : length c.loop-devices.devices.items ≡ 0 = search rules in
-    boxes_benched _ c.args.march.now c.args.memory.now c.args.devices.now.items c.loop-devices.devices.items c.loop-devices.failing c.len-count.result
-    c.all_plan.result c.loop-devices.invariant.goes_on c.loop-devices.invariant.counted none c.all_plan.ensures
+    boxes_counted _ c.args.march.now c.args.memory.now c.args.devices.now.items c.loop-devices.devices.items c.loop-devices.failing
+    c.loop-devices.invariant.goes_on none

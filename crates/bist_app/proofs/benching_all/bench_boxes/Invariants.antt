@@ -11,7 +11,6 @@ invariant-loop-devices g l =
     let left = map (λ b. let B = goal.Device-dyn g (b.vtable, b.value) in told (B.room_of b.value) (B.shape_of b.value) (B.tells b.value)) l.devices.items in
     record {
       tree : l.design.tree ≡ l.fn.design.tree;
-      counted : l.count ≡ length l.fn.devices.items;
       bound : l.failing + length l.devices.items ≤ l.count;
       gone : AreGone first left;
       rooms : HaveRoom l.memory.words left;

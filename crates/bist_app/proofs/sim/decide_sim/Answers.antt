@@ -5,16 +5,16 @@ use Rattle.fault_core.specs.Primitive.{Primitive}
 use Rattle.bist_endings.specs.Ending.{Done}
 use Rattle.bist_endings.specs.declared.ending.Refusal.{Refusal}
 use Rattle.bist_inputs.specs.Inputs.{GivesPrim}
-use Rattle.bist_app.specs.Sim.{FitsAggressor, FitsDirections, LeavesSim, miss_of}
+use Rattle.bist_app.specs.Sim.{FitsAggressor, FitsDirections, LeavesSim}
 use Rattle.bist_app.proofs.Refusing.{passed_on}
 use Rattle.bist_app.proofs.sim.decide_sim.Goals as goal
 
 -- the same places and bytes under other names
 told : (march : List MarchElement) (prim : Primitive) (places places' : Places) (digits digits' letters letters' : List ℕ) (outcome : Result Done Refusal)
-    → places ≡ places' → digits ≡ digits' → letters ≡ letters' → LeavesSim (miss_of march prim places digits letters) outcome → LeavesSim (miss_of march prim places' digits' letters') outcome
+    → places ≡ places' → digits ≡ digits' → letters ≡ letters' → LeavesSim march prim places digits letters outcome → LeavesSim march prim places' digits' letters' outcome
 told march prim places places' digits digits' letters letters' outcome p d l h =
-    subst (λ b. LeavesSim (miss_of march prim places' digits' b) outcome) l
-    (subst (λ b. LeavesSim (miss_of march prim places' b letters) outcome) d (subst (λ q. LeavesSim (miss_of march prim q digits letters) outcome) p h))
+    subst (λ b. LeavesSim march prim places' digits' b outcome) l
+    (subst (λ b. LeavesSim march prim places' b letters outcome) d (subst (λ q. LeavesSim march prim q digits letters outcome) p h))
 
 pub returns-in_err-march-clause-answer : goal.returns-in_err-march-clause-answer
 returns-in_err-march-clause-answer g c = (

@@ -1,6 +1,6 @@
 use Rattle.std.proofs.Common.{◌≡◌, drop}
 use Rattle.march_core.specs.Visits.{cell_visits}
-use Rattle.array_sim.specs.Addresses.{steps_of}
+use Rattle.march_core.specs.Addresses.{steps_of}
 use Rattle.dynamic_core.specs.Dynamic.{held_as, dyn_run}
 use Rattle.dynamic_core.proofs.simulation.run_cell.Given as goal
 

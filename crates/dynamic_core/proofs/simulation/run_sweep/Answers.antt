@@ -1,4 +1,4 @@
-use Rattle.array_sim.specs.Addresses.{direction_of}
+use Rattle.march_core.specs.Addresses.{direction_of}
 use Rattle.dynamic_core.specs.Dynamic.{held_as}
 use Rattle.dynamic_core.proofs.Runs.{sweep_goes_on, sweep_stops, sweep_ends}
 use Rattle.dynamic_core.proofs.simulation.run_sweep.Goals as goal

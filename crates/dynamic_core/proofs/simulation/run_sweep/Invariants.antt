@@ -1,6 +1,6 @@
 use Rattle.std.proofs.Common.{◌≡◌, length}
 use Rattle.march_core.specs.Visits.{address_visits, addresses}
-use Rattle.array_sim.specs.Addresses.{direction_of, steps_of}
+use Rattle.march_core.specs.Addresses.{direction_of, steps_of}
 use Rattle.array_sim.proofs.Runs.{visits_rest}
 use Rattle.dynamic_core.specs.Dynamic.{held_as, dyn_run}
 use Rattle.dynamic_core.proofs.simulation.run_sweep.Given as goal

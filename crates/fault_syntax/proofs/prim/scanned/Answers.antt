@@ -1,5 +1,4 @@
-use Rattle.std.proofs.Common.{◌≡◌, sym, ◌∙◌, arith}
-use Rattle.bist_text.proofs.Bytes.{slice_are_bytes}
+use Rattle.std.proofs.Common.{◌≡◌, sym, ◌∙◌}
 use Rattle.fault_syntax.specs.declared.reader.ReadItem.TheVariants.{Primitive}
 use Rattle.fault_syntax.specs.declared.reader.ReadParts.{ReadParts}
 use Rattle.fault_syntax.proofs.PrimReads.{is_primitive}
@@ -7,10 +6,10 @@ use Rattle.fault_syntax.proofs.prim.scanned.Goals as goal
 
 pub unreachable-requires : goal.unreachable-requires
 unreachable-requires c =
-    let item : (parts : ReadParts) × (c.in-Ok.item ≡ Primitive parts) = is_primitive c.args.bytes.now c.in-Ok.item (slice_are_bytes c.args.bytes.now (λ k l. omega (arith, c.type_inv.bytes k))) (sym c.in-Ok.is ∙ c.read_item.ensures) in
+    let item : (parts : ReadParts) × (c.in-Ok.item ≡ Primitive parts) = is_primitive c.args.bytes.now c.in-Ok.item (sym c.in-Ok.is ∙ c.read_item.ensures) in
     cc (item.1, c.in-Nothing.is)
 
 pub unreachable-requires-in-Named : goal.unreachable-requires-in-Named
 unreachable-requires-in-Named c =
-    let item : (parts : ReadParts) × (c.in-Ok.item ≡ Primitive parts) = is_primitive c.args.bytes.now c.in-Ok.item (slice_are_bytes c.args.bytes.now (λ k l. omega (arith, c.type_inv.bytes k))) (sym c.in-Ok.is ∙ c.read_item.ensures) in
+    let item : (parts : ReadParts) × (c.in-Ok.item ≡ Primitive parts) = is_primitive c.args.bytes.now c.in-Ok.item (sym c.in-Ok.is ∙ c.read_item.ensures) in
     cc (item.1, c.in-Named.is)

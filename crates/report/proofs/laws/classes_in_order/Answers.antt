@@ -1,5 +1,5 @@
 use Rattle.report.proofs.ClassOrder.{one_place}
 use Rattle.report.proofs.laws.classes_in_order.Goals as goal
 
-pub returns : goal.returns
-returns c = one_place
+pub returns-clause-order : goal.returns-clause-order
+returns-clause-order c = one_place

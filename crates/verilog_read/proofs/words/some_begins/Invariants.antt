@@ -1,5 +1,5 @@
 use Rattle.std.proofs.Common.{◌≡◌, map, drop}
-use Rattle.verilog_read.specs.Expected.{some_begins}
+use Rattle.verilog_text.specs.Expected.{some_begins}
 use Rattle.verilog_read.proofs.words.some_begins.Given as goal
 
 abbrev pub invariant-loop-word : goal.invariant-loop-word

@@ -1,0 +1,32 @@
+-- What the file is that a test of several memories is written to.
+use Rattle.std.specs.Prelude.{◌≡◌, ℕ, true, List, [], ◌∷◌, map}
+use Rattle.verilog_tree.specs.Plain.{ModuleTree}
+use Rattle.verilog_tree.specs.Spells.{all_limits}
+use Rattle.verilog_tree.specs.Words.{is_name}
+use Rattle.self_test.specs.SelfTest.{module_name}
+use Rattle.chip_plan.specs.Groups.{FirstFit}
+use Rattle.chip_rtl.specs.ChipTree.{ChipTree}
+use Rattle.chip_rtl.specs.ChipTest.{TestUnit, ChipTest}
+use Rattle.chip_rtl.specs.ChipLaws.{AllTested, IsPlan, memories, weights, chip_of}
+use Rattle.chip_rtl.specs.Together.{Differ}
+use Rattle.chip_rtl.specs.Tops.{top_ports}
+use Rattle.chip_rtl.specs.ChipGrammar.{ChipText, ChipSpells}
+use Rattle.chip_rtl.specs.PrintedTop.{printed_chip}
+use Rattle.chip_rtl.specs.TopFits.{AllFit}
+
+-- The bytes spell one chip and no other. It has this name and the ports of these memories, and tests them within the
+-- budget, in the groups of the first fit.
+pub record ChipFile (b name : List ℕ) (us : List TestUnit) (budget : ℕ) : Type 0 where
+  pub chip : ChipTree
+  pub groups : List ℕ
+  pub spelt : ChipSpells b chip
+  pub only : (other : ChipTree) → ChipText all_limits b other → other ≡ chip
+  pub named : chip.top.name ≡ name
+  pub ports : chip.top.ports ≡ top_ports (memories us)
+  pub fitted : FirstFit budget [] (weights us) groups
+  pub tests : ChipTest chip us budget groups
+
+-- The printed self-tests of a plan, and behind them its printed top, are such a file, where all names differ.
+abbrev pub PlansAreWritten : Type 0
+PlansAreWritten = (name : List ℕ) (us : List TestUnit) (budget : ℕ) (groups : List ℕ) (ms : List ModuleTree) → IsPlan us budget groups → AllTested ms us → AllFit ms → is_name name ≡ true
+    → Differ (name ∷ map (λ u. module_name u.memory.name) us) → ChipFile (printed_chip (chip_of name groups us ms)) name us budget

@@ -1,0 +1,14 @@
+pub mod ChipFile
+pub mod ChipGrammar
+pub mod ChipLaws
+pub mod ChipTest
+pub mod ChipTree
+pub mod Parts
+pub mod PrintedLaws
+pub mod PrintedTop
+pub mod ReadingLaws
+pub mod TextLaws
+pub mod Together
+pub mod TopFits
+pub mod TopSeen
+pub mod Tops

@@ -1,6 +1,0 @@
-use Rattle.std.proofs.Common.{◌≡◌, ◌++◌, map, take}
-use Rattle.dynamic_core.specs.declared.item.Item.TheVariants.{Dyn}
-use Rattle.dynamic_core.proofs.list.append_dyn.Given as goal
-
-abbrev pub invariant-loop-prim : goal.invariant-loop-prim
-invariant-loop-prim l = l.items.items ≡ l.initial.items.items ++ map Dyn (take l.prim-index l.prims)

@@ -1,0 +1,57 @@
+-- The names of a list: of a class, and the words for several.
+use Rattle.std.specs.Prelude.{ℕ, Bool, true, false, List, [], ◌∷◌, ◌++◌, codes}
+use Rattle.bist_text.specs.Keywords.{Word, all_words}
+use Rattle.fault_core.specs.declared.table.Class.{Class}
+use Rattle.fault_core.specs.declared.table.Class.TheVariants.{SF, TF, WDF, RDF, DRDF, IRF, CFst, CFds, CFtr, CFwd, CFrd, CFdr, CFir, DRF}
+use Rattle.fault_syntax.specs.declared.words.Form.{Form}
+use Rattle.fault_syntax.specs.declared.words.Form.TheVariants.{Listed}
+use Rattle.fault_syntax.specs.declared.words.Name.{Name}
+use Rattle.fault_syntax.specs.declared.words.Name.TheVariants.{OfClass, One, Two, All, DynOne, DynTwo}
+use Rattle.fault_syntax.specs.declared.words.NameSet.{NameSet}
+use Rattle.fault_syntax.specs.declared.words.NameSet.TheVariants.{Static, Every}
+
+-- the name of a class, in lists and reports
+abbrev pub class_text : Class → List ℕ
+class_text SF = codes "SF"
+class_text TF = codes "TF"
+class_text WDF = codes "WDF"
+class_text RDF = codes "RDF"
+class_text DRDF = codes "DRDF"
+class_text IRF = codes "IRF"
+class_text CFst = codes "CFst"
+class_text CFds = codes "CFds"
+class_text CFtr = codes "CFtr"
+class_text CFwd = codes "CFwd"
+class_text CFrd = codes "CFrd"
+class_text CFdr = codes "CFdr"
+class_text CFir = codes "CFir"
+class_text DRF = codes "DRF"
+
+abbrev pub name_text : Name → List ℕ
+name_text (OfClass class) = class_text class
+name_text One = codes "one"
+name_text Two = codes "two"
+name_text All = codes "all"
+name_text DynOne = codes "dyn1"
+name_text DynTwo = codes "dyn2"
+
+-- whether a list with these names may have this one
+abbrev pub is_in : NameSet → Name → Bool
+is_in Every n = true
+is_in Static DynOne = false
+is_in Static DynTwo = false
+is_in Static n = true
+
+-- ---- for proofs and private contracts alone: the words that a reader looks for
+
+abbrev pub static_names : List Name
+static_names =
+    OfClass SF ∷ OfClass TF ∷ OfClass WDF ∷ OfClass RDF ∷ OfClass DRDF ∷ OfClass IRF ∷ OfClass CFst ∷ OfClass CFds
+    ∷ OfClass CFtr ∷ OfClass CFwd ∷ OfClass CFrd ∷ OfClass CFdr ∷ OfClass CFir ∷ OfClass DRF ∷ One ∷ Two ∷ All ∷ []
+
+abbrev pub names_of : Form → List Name
+names_of (Listed Every) = static_names ++ DynOne ∷ DynTwo ∷ []
+names_of form = static_names
+
+abbrev pub words_of : Form → List (Word Name)
+words_of form = all_words (λ n. name_text n ∷ []) (names_of form)

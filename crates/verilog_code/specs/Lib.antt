@@ -1,0 +1,5 @@
+pub mod Actions
+pub mod Code
+pub mod OpenActions
+pub mod OpenCode
+pub mod Places

@@ -1,0 +1,13 @@
+//! Expressions and statements over numbered values, in the form that runs fast, and their run in place: what the cycle
+//! simulator compiles a module to.
+//!
+//! A value is a number (`code`, `action`, `run`), or a number or nothing (`open_code`, `open_action`, `open_run`), where
+//! some names are left open. One code serves both. Names, widths and modules are unknown here: a place is an index.
+#![tactic(auto)]
+
+pub mod action;
+pub mod code;
+pub mod open_action;
+pub mod open_code;
+pub mod open_run;
+pub mod run;

@@ -1,0 +1,101 @@
+//! The values of one cycle where some are open, computed in place.
+ghost use Rattle.std.specs.Prelude.{◌≡◌, ℕ, ◌+◌, ◌≤◌, length, map, take};
+ghost use Rattle.verilog_code.specs.Places.{put, put_all, settled};
+ghost use Rattle.verilog_code.specs.OpenActions.{open_action, open_run_blocks};
+ghost use Rattle.verilog_code.specs.OpenCode.{open_at, open_meaning};
+
+use crate::action::Action;
+use crate::code::Code;
+use crate::open_action::act_all;
+use crate::open_code::{open_at, open_value};
+
+fn put(values: &mut Vec<Option<u64>>, place: usize, x: Option<u64>)
+    ensures len { length values.new.items ≡ length values.old.items }
+    ensures items { values.new.items ≡ put values.old.items place x }
+{
+    if place < values.len() {
+        values[place] = x;
+    }
+}
+
+/// Puts these from a place on.
+pub fn put_all(values: &mut Vec<Option<u64>>, first: usize, all: &[Option<u64>])
+    requires { first + length all.now ≤ length values.old.items }
+    ensures len { length values.new.items ≡ length values.old.items }
+    ensures items { values.new.items ≡ put_all first all.now values.old.items }
+{
+    for (i, x) in all.iter().enumerate() {
+        put(values, first + i, *x);
+    }
+}
+
+// Computes the values from a place on, in order.
+fn settle(values: &mut Vec<Option<u64>>, first: usize, steps: &[Box<Code>])
+    requires { first + length steps.now ≤ length values.old.items }
+    ensures { values.new.items ≡ settled open_meaning first (map (λ b. b.value) steps.now) values.old.items }
+{
+    for (i, step) in steps.iter().enumerate() {
+        let x = open_value(step, values);
+        put(values, first + i, x);
+    }
+}
+
+/// Copies what stands at these places.
+pub fn show(shown: &mut Vec<Option<u64>>, places: &[usize], values: &[Option<u64>])
+    requires { length places.now ≡ length shown.old.items }
+    ensures len { length shown.new.items ≡ length shown.old.items }
+    ensures items { shown.new.items ≡ map (λ k. open_at values.now k) places.now }
+{
+    for (i, place) in places.iter().enumerate() {
+        shown[i] = open_at(values, *place);
+    }
+}
+
+fn run_blocks(next: &mut Vec<Option<u64>>, blocks: &[Vec<Action>], values: &[Option<u64>])
+    ensures len { length next.new.items ≡ length next.old.items }
+    ensures items { next.new.items ≡ open_run_blocks (map (λ b. map open_action b.items) blocks.now) values.now next.old.items }
+{
+    for block in blocks {
+        act_all(block, values, next.as_mut_slice());
+    }
+}
+
+// What the registers, the first of the values, become at an edge.
+fn advance(next: &mut Vec<Option<u64>>, blocks: &[Vec<Action>], values: &[Option<u64>])
+    requires { length next.old.items ≤ length values.now }
+    ensures len { length next.new.items ≡ length next.old.items }
+    ensures items { next.new.items ≡ open_run_blocks (map (λ b. map open_action b.items) blocks.now) values.now (put_all 0 (take (length next.old.items) values.now) next.old.items) }
+{
+    let registers = next.len();
+    put_all(next, 0, &values[..registers]);
+    run_blocks(next, blocks, values);
+}
+
+/// Puts the inputs behind the registers, and computes the nets behind them.
+pub fn compute(
+    values: &mut Vec<Option<u64>>,
+    registers: usize,
+    inputs: &[Option<u64>],
+    steps: &[Box<Code>],
+)
+    requires { registers + length inputs.now + length steps.now ≤ length values.old.items }
+    ensures { values.new.items ≡ settled open_meaning (registers + length inputs.now) (map (λ b. b.value) steps.now) (put_all registers inputs.now values.old.items) }
+{
+    put_all(values, registers, inputs);
+    settle(values, registers + inputs.len(), steps);
+}
+
+/// Gives the registers, the first of the values, what they become at an edge: all of them are worked out before one is
+/// written.
+pub fn step_registers(
+    values: &mut Vec<Option<u64>>,
+    next: &mut Vec<Option<u64>>,
+    blocks: &[Vec<Action>],
+)
+    requires { length next.old.items ≤ length values.old.items }
+    ensures items { values.new.items ≡ put_all 0 (open_run_blocks (map (λ b. map open_action b.items) blocks.now) values.old.items (put_all 0 (take (length next.old.items) values.old.items) next.old.items)) values.old.items }
+    ensures len { length next.new.items ≡ length next.old.items }
+{
+    advance(next, blocks, values);
+    put_all(values, 0, next);
+}

@@ -1,0 +1,91 @@
+-- Which marks may come behind a whole expression by precedence, and behind an operand.
+use Rattle.std.proofs.Common.{◌≡◌, ◌∙◌, ◌||◌, ℕ, Bool, true, false, List, ◌-◌, ◌≤◌, length, take, get_or, Option, Some, [], ◌∷◌, ◌<◌, refl, sym, ap, arith}
+use Rattle.std.proofs.lemmas.List.{length-take-le}
+use Rattle.verilog_tree.specs.Plain as P
+use Rattle.verilog_tree.specs.Plain.{Expression}
+use Rattle.verilog_tree.specs.declared.tokens.Mark.{Mark}
+use Rattle.verilog_tree.specs.declared.tokens.Mark.TheVariants.{OpenBracket, Close, Semicolon, Colon, Comma, CloseBrace, Question, Plus, Minus, Ampersand, Bar, Caret, TwoEquals, BangEquals, Less, LessEquals, Greater, GreaterEquals, TwoAmpersands, TwoBars, TwoLess, TwoGreater}
+use Rattle.verilog_tree.specs.declared.tree.UnOp.{UnOp}
+use Rattle.verilog_read.specs.declared.precedence.Nest.{Nest}
+use Rattle.verilog_read.specs.declared.precedence.Nest.TheVariants as N
+use Rattle.verilog_tree.specs.Grammar.{unlimited, is_sign}
+use Rattle.verilog_tree.specs.Free.{signed}
+use Rattle.verilog_text.specs.Flat.{Left, settle_all}
+use Rattle.verilog_tree.specs.Tokens.{Sign}
+use Rattle.verilog_text.specs.Places as Q
+use Rattle.verilog_text.specs.Places.{Alone, AsDriver, AsCondition, AsSubject, AsValue, Only, InRound, InList, IfTrue, IfFalse, Linked, Named, AtExpr, State}
+use Rattle.verilog_read.specs.Holding.{nest, nests_of}
+use Rattle.verilog_text.specs.Expected.{is_step, taken}
+use Rattle.verilog_text.specs.Steps.{only_where, alone_step, parts_step, close_step, have_step}
+use Rattle.verilog_read.specs.Ends.{ends, splits, closes, goes_on, ends_choice}
+use Rattle.verilog_read.proofs.FrameLemmas.{last_split}
+use Rattle.verilog_read.proofs.HoldingLemmas.{nests_push}
+
+where_is : (b : Bool) (s : State) → is_step (only_where b (Some s)) ≡ b
+where_is true s = refl
+where_is false s = refl
+
+pub ends_is : (p : ℕ) (x : Expression) (b : Alone) (m : Mark) → is_step (alone_step p x b (Sign m)) ≡ ends b m
+ends_is p x (AsDriver h n) m = where_is (is_sign Semicolon m) _
+ends_is p x (AsCondition r q a) m = where_is (is_sign Close m) _
+ends_is p x (AsSubject r q a) m = where_is (is_sign Close m) _
+ends_is p x (AsValue n a) m = where_is (is_sign Semicolon m) _
+
+splits_is : (p n r : ℕ) (old : P.Expressions) (x : Expression) (ws : List Left) (u : Option UnOp) (o : Q.Nest) (m : Mark) → is_step (parts_step p n r old x ws u o m) ≡ splits m
+splits_is p n r old x ws u o Comma = refl
+splits_is p n r old x ws u o CloseBrace = refl
+splits_is p n r old x ws u o m = refl
+
+pub closes_is : (p n : ℕ) (x : Expression) (o : Q.Nest) (m : Mark) → is_step (close_step p n x o (Sign m)) ≡ closes o m
+closes_is p n x (Only b) m = ends_is p x b m
+closes_is p n x (InRound r ws u o) m = where_is (is_sign Close m) _
+closes_is p n x (InList r old ws u o) m = splits_is p n r old x ws u o m
+closes_is p n x (IfTrue c o) m = where_is (is_sign Colon m) _
+closes_is p n x (IfFalse c y o) m = closes_is p n (P.Conditional c y x) o m
+
+pub linked_takes : (p n : ℕ) (x : Expression) (ws : List Left) (u : Option UnOp) (o : Q.Nest) (m : Mark) → is_step (have_step unlimited p x (Linked n ws u o) (Sign m)) ≡ goes_on o m
+linked_takes p n x ws u o Plus = refl
+linked_takes p n x ws u o Minus = refl
+linked_takes p n x ws u o Ampersand = refl
+linked_takes p n x ws u o Bar = refl
+linked_takes p n x ws u o Caret = refl
+linked_takes p n x ws u o TwoEquals = refl
+linked_takes p n x ws u o BangEquals = refl
+linked_takes p n x ws u o Less = refl
+linked_takes p n x ws u o LessEquals = refl
+linked_takes p n x ws u o Greater = refl
+linked_takes p n x ws u o GreaterEquals = refl
+linked_takes p n x ws u o TwoAmpersands = refl
+linked_takes p n x ws u o TwoBars = refl
+linked_takes p n x ws u o TwoLess = refl
+linked_takes p n x ws u o TwoGreater = refl
+linked_takes p n x ws u o Question = refl
+linked_takes p n x ws u o m = closes_is p n (settle_all ws (signed u x)) o m
+
+-- behind a name a select may come, too
+pub named_takes : (p n : ℕ) (w : List ℕ) (ws : List Left) (u : Option UnOp) (o : Q.Nest) (m : Mark) → taken (AtExpr (Named p w (Linked n ws u o))) (Sign m) ≡ (is_sign OpenBracket m || goes_on o m)
+named_takes p n w ws u o OpenBracket = refl
+named_takes p n w ws u o m = linked_takes p n (P.Net w) ws u o m
+
+nests_last : (ns : List Nest) (n : Nest) (b : Alone) → 1 ≤ length ns → n ≡ get_or ns (length ns - 1) n → nests_of ns b ≡ nest n (nests_of (take (length ns - 1) ns) b)
+nests_last ns n b h e = ap (λ x. nests_of x b) (last_split ns n h e) ∙ nests_push (take (length ns - 1) ns) n b
+
+-- a mark that may come, by the innermost; a choice of which the last part is read makes no difference
+pub innermost_takes : (ns : List Nest) (n : Nest) (b : Alone) (m : Mark) (r : Bool) → 1 ≤ length ns → n ≡ get_or ns (length ns - 1) n → r ≡ closes (nest n (nests_of (take (length ns - 1) ns) b)) m → r ≡ closes (nests_of ns b) m
+innermost_takes ns n b m r h e f = f ∙ ap (λ o. closes o m) (sym (nests_last ns n b h e))
+
+choice_ends : (n : Nest) (o : Q.Nest) (m : Mark) → ends_choice n ≡ true → closes (nest n o) m ≡ closes o m
+choice_ends (N.IfFalse c x) o m h = refl
+choice_ends (N.IfTrue c) o m h = cc
+choice_ends (N.Round r ls u) o m h = cc
+choice_ends (N.List r xs ls u) o m h = cc
+
+pub others_take : (ns : List Nest) (n : Nest) (b : Alone) (m : Mark) → 1 ≤ length ns → n ≡ get_or ns (length ns - 1) n → ends_choice n ≡ true → closes (nests_of (take (length ns - 1) ns) b) m ≡ closes (nests_of ns b) m
+others_take ns n b m h e t = sym (choice_ends n (nests_of (take (length ns - 1) ns) b) m t) ∙ ap (λ o. closes o m) (sym (nests_last ns n b h e))
+
+pub none_takes : (ns : List Nest) (b : Alone) (m : Mark) (r : Bool) → length ns < 1 → ((p : ℕ) (x : Expression) → r ≡ is_step (alone_step p x b (Sign m))) → r ≡ closes (nests_of ns b) m
+none_takes [] b m r h f = f 0 (P.Net []) ∙ ends_is 0 (P.Net []) b m
+none_takes (n ∷ ns) b m r h f = absurd (omega (arith, h))
+
+pub take_fewer : (ns : List Nest) (n : ℕ) → length ns ≤ n → length (take (length ns - 1) ns) ≤ n
+take_fewer ns n h = let k : length (take (length ns - 1) ns) ≡ length ns - 1 = length-take-le (length ns - 1) ns (omega arith) in omega (arith, h, k)

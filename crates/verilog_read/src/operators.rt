@@ -1,0 +1,86 @@
+//! The operators of an expression by precedence that wait for their second operand.
+ghost use Rattle.std.specs.Prelude.{◌≡◌, IfOk, IfErr};
+ghost use Rattle.verilog_tree.specs.Plain.{plain};
+ghost use Rattle.verilog_tree.specs.Free.{height};
+ghost use Rattle.verilog_text.specs.Flat.{settle, settle_all, linked};
+ghost use Rattle.verilog_read.specs.Waiting.{lefts_of, waiting_of};
+
+use crate::fault::ParseFault;
+use crate::trees::infixed;
+use std::alloc::Global;
+use verilog_tree::{BinOp, Expr};
+
+/// An operator that waits for its second operand, behind its first.
+#[derive(Drop)]
+pub struct Left {
+    pub operand: Expr,
+    pub operator: BinOp,
+}
+
+/// The height of an operator: those of height 1 bind most tightly.
+fn height(operator: BinOp) -> u8
+    ensures { result ≡ height operator }
+{
+    match operator {
+        BinOp::Add | BinOp::Sub => 1,
+        BinOp::Shl | BinOp::Shr => 2,
+        BinOp::Lt | BinOp::Le | BinOp::Gt | BinOp::Ge => 3,
+        BinOp::Eq | BinOp::Ne => 4,
+        BinOp::And => 5,
+        BinOp::Xor => 6,
+        BinOp::Or => 7,
+        BinOp::LogAnd => 8,
+        BinOp::LogOr => 9,
+    }
+}
+
+/// The operators that bind at least as tightly as one of this height take what is behind them.
+#[tactic(auto, using(crate::proofs::WaitingLemmas::lefts_push))]
+pub(crate) fn settle(
+    alloc: Global,
+    tightness: u8,
+    lefts: &mut Vec<Left>,
+    x: Expr,
+) -> Result<Expr, ParseFault>
+    ensures settled { IfOk result (λ y. waiting_of lefts.new.items y ≡ settle tightness (lefts_of lefts.old.items) (plain x)) }
+    ensures fault { IfErr result (λ f. f ≡ ParseFault.NoMemory) }
+{
+    let mut last = x;
+    while let Some(left) = lefts.pop() {
+        if height(left.operator) > tightness {
+            lefts.push(left)?;
+            return Ok(last);
+        }
+        last = infixed(alloc, left.operator, left.operand, last)?;
+    }
+    Ok(last)
+}
+
+/// All operators take what is behind them.
+#[tactic(auto, using(crate::proofs::WaitingLemmas::lefts_push))]
+pub(crate) fn settle_all(alloc: Global, lefts: &mut Vec<Left>, x: Expr) -> Result<Expr, ParseFault>
+    ensures settled { IfOk result (λ y. plain y ≡ settle_all (lefts_of lefts.old.items) (plain x)) }
+    ensures fault { IfErr result (λ f. f ≡ ParseFault.NoMemory) }
+{
+    let mut last = x;
+    while let Some(left) = lefts.pop() {
+        last = infixed(alloc, left.operator, left.operand, last)?;
+    }
+    Ok(last)
+}
+
+/// An operator comes behind an operand: it waits, once those before it that bind as tightly have theirs.
+#[tactic(auto, using(crate::proofs::WaitingLemmas::lefts_push))]
+pub(crate) fn link(
+    alloc: Global,
+    operator: BinOp,
+    lefts: &mut Vec<Left>,
+    x: Expr,
+) -> Result<(), ParseFault>
+    ensures linked { IfOk result (λ u. lefts_of lefts.new.items ≡ linked operator (lefts_of lefts.old.items) (plain x)) }
+    ensures fault { IfErr result (λ f. f ≡ ParseFault.NoMemory) }
+{
+    let operand = settle(alloc, height(operator), lefts, x)?;
+    lefts.push(Left { operand, operator })?;
+    Ok(())
+}

@@ -1,0 +1,471 @@
+//! What a token does in an expression whose operators bind by precedence.
+ghost use Rattle.std.specs.Prelude.{◌≡◌, ℕ, ◌+◌, ◌<◌, length, Some, IfSome, IfOk, IfErr, OnOk, [], ◌∷◌, map};
+ghost use Rattle.verilog_tree.specs.Plain.{plain, Literal, expressions, Followed, NoMore};
+ghost use Rattle.verilog_tree.specs.Free.{signed};
+ghost use Rattle.verilog_text.specs.Flat.{settle_all, linked};
+ghost use Rattle.verilog_tree.specs.Spells.{bounded};
+ghost use Rattle.verilog_tree.specs.Grammar.{deeper};
+ghost use Rattle.verilog_tree.specs.Tokens.{Token, Sign};
+ghost use Rattle.verilog_text.specs.Places as Q;
+ghost use Rattle.verilog_text.specs.Places.{InRound, IfTrue, Alone, AtExpr, WantOperand, WantPrim, Named, Have, Linked, more_parts};
+ghost use Rattle.verilog_text.specs.Steps.{unary_of, infix_of, one_more, prim_step, operand_step, close_step, have_step};
+ghost use Rattle.verilog_read.specs.Waiting.{lefts_of};
+ghost use Rattle.verilog_read.specs.Holding.{token_of, nest, nests_of, counted, is_expected, IsList, FreeSteps, Closes, PoppedNest};
+
+use crate::fault::ParseFault;
+use crate::lexemes::Lexeme;
+use crate::operators::{Left, link, settle_all};
+use crate::trees::{conditional, prefixed};
+use bist_bits::Bits;
+use bist_text::is_reserved;
+use std::alloc::Global;
+use verilog_tree::{BinOp, Expr, Mark, Name, UnOp};
+
+/// The operands that are read one behind another: how many operators the whole expression has so far, those that wait
+/// for an operand, and the mark before the operand that is read.
+#[derive(Drop)]
+pub struct Chain {
+    pub operators: u16,
+    pub lefts: Vec<Left>,
+    pub mark: Option<UnOp>,
+}
+
+/// What such operands stand in.
+#[derive(Drop)]
+pub enum Nest {
+    Round(u8, Vec<Left>, Option<UnOp>),
+    List(u8, Vec<Expr>, Vec<Left>, Option<UnOp>),
+    IfTrue(Expr),
+    IfFalse(Expr, Expr),
+}
+
+/// Where among them the parser stands.
+#[derive(Drop)]
+pub enum FreeSpot {
+    Operand(u8),
+    Prim(u8),
+    Named(u8, Name),
+    Bracket(u8, Name),
+    HighRead(u8, Name, u8),
+    ColonRead(u8, Name, u8),
+    LowRead(u8, Name, u8, u8),
+    Have(u8, Expr),
+}
+
+#[derive(Drop)]
+pub struct FreePlace {
+    pub spot: FreeSpot,
+    pub chain: Chain,
+}
+
+/// Behind a token that may end an expression: a place in what it stands in, or it is whole.
+#[derive(Drop)]
+pub enum Closed {
+    Inner(FreePlace),
+    Whole(Expr),
+}
+
+pub(crate) fn unary_of(mark: Mark) -> Option<UnOp>
+    ensures { result ≡ unary_of mark }
+{
+    match mark {
+        Mark::Bang => Some(UnOp::Not),
+        Mark::Tilde => Some(UnOp::Invert),
+        Mark::Ampersand => Some(UnOp::AllOnes),
+        Mark::Bar => Some(UnOp::AnyOne),
+        Mark::Caret => Some(UnOp::Parity),
+        _ => None,
+    }
+}
+
+pub(crate) fn infix_of(mark: Mark) -> Option<BinOp>
+    ensures { result ≡ infix_of mark }
+{
+    match mark {
+        Mark::Plus => Some(BinOp::Add),
+        Mark::Minus => Some(BinOp::Sub),
+        Mark::Ampersand => Some(BinOp::And),
+        Mark::Bar => Some(BinOp::Or),
+        Mark::Caret => Some(BinOp::Xor),
+        Mark::TwoEquals => Some(BinOp::Eq),
+        Mark::BangEquals => Some(BinOp::Ne),
+        Mark::Less => Some(BinOp::Lt),
+        Mark::LessEquals => Some(BinOp::Le),
+        Mark::Greater => Some(BinOp::Gt),
+        Mark::GreaterEquals => Some(BinOp::Ge),
+        Mark::TwoAmpersands => Some(BinOp::LogAnd),
+        Mark::TwoBars => Some(BinOp::LogOr),
+        Mark::TwoLess => Some(BinOp::Shl),
+        Mark::TwoGreater => Some(BinOp::Shr),
+        _ => None,
+    }
+}
+
+pub(crate) fn deeper(depth: u8) -> Option<u8>
+    ensures { result ≡ deeper bounded depth }
+{
+    if depth < 64 { Some(depth + 1) } else { None }
+}
+
+/// One operator more, where one more may be.
+fn counted(operators: u16) -> Option<u16>
+    ensures { result ≡ counted operators }
+{
+    if operators < 256 {
+        Some(operators + 1)
+    } else {
+        None
+    }
+}
+
+/// An operand with its mark.
+fn signed(alloc: Global, mark: Option<UnOp>, x: Expr) -> Result<Expr, ParseFault>
+    ensures value { IfOk result (λ y. plain y ≡ signed mark (plain x)) }
+    ensures fault { IfErr result (λ f. f ≡ ParseFault.NoMemory) }
+{
+    match mark {
+        Some(op) => prefixed(alloc, op, x),
+        None => Ok(x),
+    }
+}
+
+#[tactic(auto, using(crate::proofs::HoldingLemmas::parts_push))]
+pub(crate) fn with_part(parts: Vec<Expr>, x: Expr) -> Result<Vec<Expr>, ParseFault>
+    ensures value { IfOk result (λ ys. expressions (map plain ys.items) ≡ more_parts (expressions (map plain parts.items)) (Followed (plain x) NoMore)) }
+    ensures fault { IfErr result (λ f. f ≡ ParseFault.NoMemory) }
+{
+    let mut parts = parts;
+    parts.push(x)?;
+    Ok(parts)
+}
+
+#[tactic(auto, using(crate::proofs::HoldingLemmas::nests_push))]
+fn push(nests: &mut Vec<Nest>, inner: Nest) -> Result<(), ParseFault>
+    ensures pushed { OnOk result ((b : Alone) → nests_of nests.new.items b ≡ nest inner (nests_of nests.old.items b)) }
+    ensures fault { IfErr result (λ f. f ≡ ParseFault.NoMemory) }
+{
+    nests.push(inner)?;
+    Ok(())
+}
+
+#[tactic(auto, using(crate::proofs::HoldingLemmas::nests_push))]
+fn pop(nests: &mut Vec<Nest>) -> Option<Nest>
+    ensures popped { (b : Alone) → PoppedNest b (nests_of nests.old.items b) result (nests_of nests.new.items b) }
+    ensures fewer { IfSome result (λ n. length nests.new.items < length nests.old.items) }
+{
+    nests.pop()
+}
+
+/// An expression begins within another.
+fn begun(
+    alloc: Global,
+    nests: &mut Vec<Nest>,
+    outer: Nest,
+    depth: u8,
+    operators: u16,
+) -> Result<FreePlace, ParseFault>
+    ensures { (b : Alone) → FreeSteps (Some (AtExpr (WantOperand depth operators [] (nest outer (nests_of nests.old.items b))))) result (nests_of nests.new.items b) }
+{
+    push(nests, outer)?;
+    Ok(FreePlace {
+        spot: FreeSpot::Operand(depth),
+        chain: Chain {
+            operators,
+            lefts: Vec::new(alloc),
+            mark: None,
+        },
+    })
+}
+
+fn opened_round(
+    alloc: Global,
+    nests: &mut Vec<Nest>,
+    depth: u8,
+    chain: Chain,
+) -> Result<FreePlace, ParseFault>
+    ensures { (b : Alone) → FreeSteps (prim_step bounded depth chain.operators (lefts_of chain.lefts.items) chain.mark (nests_of nests.old.items b) (Sign Mark.Open)) result (nests_of nests.new.items b) }
+{
+    match deeper(depth) {
+        Some(inner) => begun(
+            alloc,
+            nests,
+            Nest::Round(depth, chain.lefts, chain.mark),
+            inner,
+            chain.operators,
+        ),
+        None => Err(ParseFault::Unexpected),
+    }
+}
+
+/// Where a name, a literal, a parenthesis or a brace is wanted.
+pub(crate) fn prim(
+    alloc: Global,
+    nests: &mut Vec<Nest>,
+    depth: u8,
+    chain: Chain,
+    token: &Lexeme,
+) -> Result<FreePlace, ParseFault>
+    ensures { (b : Alone) → FreeSteps (prim_step bounded depth chain.operators (lefts_of chain.lefts.items) chain.mark (nests_of nests.old.items b) (token_of token.now)) result (nests_of nests.new.items b) }
+{
+    match token {
+        Lexeme::Word(name) => {
+            if is_reserved(name.as_str().as_bytes()) {
+                Err(ParseFault::Unexpected)
+            } else {
+                Ok(FreePlace {
+                    spot: FreeSpot::Named(depth, *name),
+                    chain,
+                })
+            }
+        }
+        Lexeme::Constant(bits) => Ok(FreePlace {
+            spot: FreeSpot::Have(depth, Expr::Lit(*bits)),
+            chain,
+        }),
+        Lexeme::Sign(Mark::Open) => opened_round(alloc, nests, depth, chain),
+        Lexeme::Sign(Mark::OpenBrace) => match deeper(depth) {
+            Some(inner) => {
+                let outer = Nest::List(depth, Vec::new(alloc), chain.lefts, chain.mark);
+                begun(alloc, nests, outer, inner, chain.operators)
+            }
+            None => Err(ParseFault::Unexpected),
+        },
+        _ => Err(ParseFault::Unexpected),
+    }
+}
+
+/// Where an operand is wanted.
+pub(crate) fn operand(
+    alloc: Global,
+    nests: &mut Vec<Nest>,
+    depth: u8,
+    operators: u16,
+    lefts: Vec<Left>,
+    token: &Lexeme,
+) -> Result<FreePlace, ParseFault>
+    ensures { (b : Alone) → FreeSteps (operand_step bounded depth operators (lefts_of lefts.items) (nests_of nests.old.items b) (token_of token.now)) result (nests_of nests.new.items b) }
+{
+    if let Lexeme::Sign(mark) = token {
+        if let Some(op) = unary_of(*mark) {
+            return match counted(operators) {
+                Some(more) => Ok(FreePlace {
+                    spot: FreeSpot::Prim(depth),
+                    chain: Chain {
+                        operators: more,
+                        lefts,
+                        mark: Some(op),
+                    },
+                }),
+                None => Err(ParseFault::Unexpected),
+            };
+        }
+    }
+    prim(
+        alloc,
+        nests,
+        depth,
+        Chain {
+            operators,
+            lefts,
+            mark: None,
+        },
+        token,
+    )
+}
+
+/// Whether a token is this mark.
+#[tactic(auto, using(verilog_text::proofs::Marks::is_mark))]
+pub(crate) fn is_mark(mark: Mark, token: &Lexeme) -> bool
+    ensures { result ≡ is_expected mark (token_of token.now) }
+{
+    match token {
+        Lexeme::Sign(other) => mark == *other,
+        _ => false,
+    }
+}
+
+/// A parenthesis closes: what it holds is an operand.
+#[tactic(auto, using(crate::proofs::HoldingLemmas::expects_is))]
+fn in_round(
+    depth: u8,
+    operators: u16,
+    lefts: Vec<Left>,
+    mark: Option<UnOp>,
+    x: Expr,
+    token: &Lexeme,
+) -> Result<Closed, ParseFault>
+    ensures { (p : ℕ) (b : Alone) (o : Q.Nest) → Closes (close_step p operators (plain x) (InRound depth (lefts_of lefts.items) mark o) (token_of token.now)) result p b o (token_of token.now) }
+{
+    if !is_mark(Mark::Close, token) {
+        return Err(ParseFault::Unexpected);
+    }
+    Ok(Closed::Inner(FreePlace {
+        spot: FreeSpot::Have(depth, x),
+        chain: Chain {
+            operators,
+            lefts,
+            mark,
+        },
+    }))
+}
+
+/// A part of a concatenation ends.
+fn in_list(
+    alloc: Global,
+    nests: &mut Vec<Nest>,
+    inner: u8,
+    outer: Nest,
+    operators: u16,
+    x: Expr,
+    token: &Lexeme,
+) -> Result<Closed, ParseFault>
+    ensures { (b : Alone) → IsList outer → Closes (close_step inner operators (plain x) (nest outer (nests_of nests.old.items b)) (token_of token.now)) result inner b (nests_of nests.new.items b) (token_of token.now) }
+{
+    let Nest::List(depth, parts, lefts, mark) = outer else {
+        return Err(ParseFault::Unexpected);
+    };
+    match token {
+        Lexeme::Sign(Mark::Comma) => {
+            let parts = with_part(parts, x)?;
+            let outer = Nest::List(depth, parts, lefts, mark);
+            Ok(Closed::Inner(begun(alloc, nests, outer, inner, operators)?))
+        }
+        Lexeme::Sign(Mark::CloseBrace) => {
+            let parts = with_part(parts, x)?;
+            Ok(Closed::Inner(FreePlace {
+                spot: FreeSpot::Have(depth, Expr::Concat(parts)),
+                chain: Chain {
+                    operators,
+                    lefts,
+                    mark,
+                },
+            }))
+        }
+        _ => Err(ParseFault::Unexpected),
+    }
+}
+
+/// The first choice ends.
+#[tactic(auto, using(crate::proofs::HoldingLemmas::expects_is))]
+fn in_choice(
+    alloc: Global,
+    nests: &mut Vec<Nest>,
+    depth: u8,
+    operators: u16,
+    c: Expr,
+    x: Expr,
+    token: &Lexeme,
+) -> Result<Closed, ParseFault>
+    ensures { (b : Alone) → Closes (close_step depth operators (plain x) (IfTrue (plain c) (nests_of nests.old.items b)) (token_of token.now)) result depth b (nests_of nests.new.items b) (token_of token.now) }
+{
+    if !is_mark(Mark::Colon, token) {
+        return Err(ParseFault::Unexpected);
+    }
+    Ok(Closed::Inner(begun(alloc, nests, Nest::IfFalse(c, x), depth, operators)?))
+}
+
+/// What a token does behind a whole expression: each choice whose last part it was ends with it.
+fn close(
+    alloc: Global,
+    nests: &mut Vec<Nest>,
+    depth: u8,
+    operators: u16,
+    x: Expr,
+    token: &Lexeme,
+) -> Result<Closed, ParseFault>
+    ensures { (b : Alone) → Closes (close_step depth operators (plain x) (nests_of nests.old.items b) (token_of token.now)) result depth b (nests_of nests.new.items b) (token_of token.now) }
+{
+    let mut last = x;
+    while let Some(inner) = pop(nests) {
+        match inner {
+            Nest::IfFalse(c, yes) => last = conditional(alloc, c, yes, last)?,
+            Nest::Round(r, lefts, mark) => {
+                return in_round(r, operators, lefts, mark, last, token);
+            }
+            Nest::List(r, parts, lefts, mark) => {
+                let outer = Nest::List(r, parts, lefts, mark);
+                return in_list(alloc, nests, depth, outer, operators, last, token);
+            }
+            Nest::IfTrue(c) => {
+                return in_choice(alloc, nests, depth, operators, c, last, token);
+            }
+        }
+    }
+    Ok(Closed::Whole(last))
+}
+
+/// An operator comes behind an operand.
+fn joined_by(
+    alloc: Global,
+    depth: u8,
+    operators: u16,
+    op: BinOp,
+    lefts: Vec<Left>,
+    x: Expr,
+) -> Result<Closed, ParseFault>
+    ensures { (b : Alone) (o : Q.Nest) (t : Token) → Closes (one_more bounded operators (λ j. WantOperand depth j (linked op (lefts_of lefts.items) (plain x)) o)) result depth b o t }
+{
+    match counted(operators) {
+        Some(more) => {
+            let mut lefts = lefts;
+            link(alloc, op, &mut lefts, x)?;
+            Ok(Closed::Inner(FreePlace {
+                spot: FreeSpot::Operand(depth),
+                chain: Chain {
+                    operators: more,
+                    lefts,
+                    mark: None,
+                },
+            }))
+        }
+        None => Err(ParseFault::Unexpected),
+    }
+}
+
+/// A choice comes behind its condition.
+fn asked(
+    alloc: Global,
+    nests: &mut Vec<Nest>,
+    depth: u8,
+    operators: u16,
+    lefts: Vec<Left>,
+    x: Expr,
+) -> Result<FreePlace, ParseFault>
+    ensures { (b : Alone) → FreeSteps (one_more bounded operators (λ j. WantOperand depth j [] (IfTrue (settle_all (lefts_of lefts.items) (plain x)) (nests_of nests.old.items b)))) result (nests_of nests.new.items b) }
+{
+    match counted(operators) {
+        Some(more) => {
+            let mut lefts = lefts;
+            let c = settle_all(alloc, &mut lefts, x)?;
+            begun(alloc, nests, Nest::IfTrue(c), depth, more)
+        }
+        None => Err(ParseFault::Unexpected),
+    }
+}
+
+/// What a token does behind an operand.
+#[tactic(auto, using(crate::proofs::HoldingLemmas::ask_is))]
+pub(crate) fn have(
+    alloc: Global,
+    nests: &mut Vec<Nest>,
+    depth: u8,
+    x: Expr,
+    chain: Chain,
+    token: &Lexeme,
+) -> Result<Closed, ParseFault>
+    ensures { (b : Alone) → Closes (have_step bounded depth (plain x) (Linked chain.operators (lefts_of chain.lefts.items) chain.mark (nests_of nests.old.items b)) (token_of token.now)) result depth b (nests_of nests.new.items b) (token_of token.now) }
+{
+    let operators = chain.operators;
+    let x = signed(alloc, chain.mark, x)?;
+    if let Lexeme::Sign(mark) = token {
+        if let Some(op) = infix_of(*mark) {
+            return joined_by(alloc, depth, operators, op, chain.lefts, x);
+        }
+        if *mark == Mark::Question {
+            return Ok(Closed::Inner(asked(alloc, nests, depth, operators, chain.lefts, x)?));
+        }
+    }
+    let mut lefts = chain.lefts;
+    let whole = settle_all(alloc, &mut lefts, x)?;
+    close(alloc, nests, depth, operators, whole, token)
+}

@@ -1,0 +1,12 @@
+pub mod Flat
+pub mod Places
+pub mod Following
+pub mod Steps
+pub mod Lexing
+pub mod Expected
+pub mod Reading
+pub mod Laws
+pub mod Openings
+pub mod Operators
+pub mod Answering
+pub mod Refusals
