@@ -204,9 +204,11 @@ class Trier:
                 before = text[: at - 1 if text[at - 1 : at] in (b"w", b"r") else at]
             else:
                 before = text[:at] + b" " if whole else text[: word_start(text, at)]
+            # a second line of the version is of the grammar, and refused later
+            tokens = [token for token in TOKENS[kind] if token != "memory 1" or not before.strip()]
             found = [
                 token
-                for token in TOKENS[kind]
+                for token in tokens
                 if self.fits(folder, before + token.encode() + (b" " if is_letter(token[-1:].encode()) else b""))
             ]
         # where any name may stand, the words that may name something are not told
