@@ -74,12 +74,7 @@ abbrev bare : Command → Command
 bare (Command.Sim s) = Command.Sim (record { size = 0; aggressor = None; victim = 0 })
 bare (Command.BenchFault f) = Command.BenchFault (record { aggressor = None; victim = record { word = 0; bit = 0 } })
 bare (Command.Make n) = Command.Make 0
-bare Command.Judge = Command.Judge
-bare Command.Vectors = Command.Vectors
-bare Command.Compile = Command.Compile
-bare Command.Bench = Command.Bench
-bare Command.BenchFile = Command.BenchFile
-bare Command.BenchAll = Command.BenchAll
+bare other = other
 
 -- the command of a name; the last row takes every other text
 abbrev read : List ℕ → Command
@@ -109,14 +104,9 @@ read_back (Command.Make n) = refl
 
 abbrev Own : Command → Type 0
 Own (Command.Sim s) = SimShape
-Own Command.Judge = Unit {0}
-Own Command.Vectors = Unit {0}
-Own Command.Compile = Unit {0}
-Own Command.Bench = Unit {0}
 Own (Command.BenchFault f) = FaultShape
-Own Command.BenchFile = Unit {0}
-Own Command.BenchAll = Unit {0}
 Own (Command.Make n) = ℕ
+Own other = Unit {0}
 
 abbrev own : (c : Command) → Own (bare c)
 own (Command.Sim s) = s
@@ -153,14 +143,9 @@ filled_back (Command.Make n) = refl
 
 abbrev Say : Words → (c : Command) → Own c → Type 0
 Say words (Command.Sim s) o = IsSimShape words o
-Say words Command.Judge o = Unit {0}
-Say words Command.Vectors o = Unit {0}
-Say words Command.Compile o = Unit {0}
-Say words Command.Bench o = Unit {0}
 Say words (Command.BenchFault f) o = IsFaultShape words o
-Say words Command.BenchFile o = Unit {0}
-Say words Command.BenchAll o = Unit {0}
 Say words (Command.Make n) o = IsMakeShape words o
+Say words other o = Unit {0}
 
 says : (words : Words) (c : Command) → HasShape words c → Say words (bare c) (own c)
 says words (Command.Sim s) h = h
