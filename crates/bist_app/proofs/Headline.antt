@@ -1,5 +1,5 @@
 -- What the answer of the top call comes to for `compile`.
-use Rattle.std.proofs.Common.{◌≡◌, ◌≢◌, ◌<◌, ◌≤◌, inl, inr, refl, sym, ap, ◌∙◌, subst, arith, codes, ℕ, List, [], ◌∷◌, Option, Some, None, Ok, Err}
+use Rattle.std.proofs.Common.{◌≡◌, ◌≢◌, ◌<◌, ◌≤◌, inl, inr, sym, ◌∙◌, subst, arith, codes, ℕ, List, [], ◌∷◌, Option, Some, None, Ok, Err}
 use Rattle.bist_host.specs.Files.{Files, WritesFile, Says}
 use Rattle.march_core.specs.March.{MarchElement}
 use Rattle.march_syntax.specs.Answers.{Reads as ReadsMarch}
@@ -14,7 +14,6 @@ use Rattle.bist_endings.specs.Ending.{Done, status_of}
 use Rattle.bist_endings.specs.Conclude.{WritesInOrder, RefusalEnds, DoneEnds}
 use Rattle.bist_inputs.specs.Inputs.{InputMarch, InputList, GivesMarch, GivesList}
 use Rattle.bist_inputs.specs.Memories.{InputMemory, GivesMemory}
-use Rattle.bist_app.specs.declared.commands.Command.{Command}
 use Rattle.bist_app.specs.Bench.{Boxes}
 use Rattle.bist_app.specs.Compile.{IsCompiled, LeavesCompile, DecidesCompile}
 use Rattle.bist_app.specs.Headline.{InputHas, IsCompilation, LeavesCompilation}

@@ -60,14 +60,9 @@ name_of (Command.Make n) = codes "make"
 
 has_name : (words : Words) (c : Command) → HasShape words c → word words 0 ≡ name_of c
 has_name words (Command.Sim s) h = h.form.name
-has_name words Command.Judge h = h.name
-has_name words Command.Vectors h = h.name
-has_name words Command.Compile h = h.name
-has_name words Command.Bench h = h.name
 has_name words (Command.BenchFault f) h = h.form.name
-has_name words Command.BenchFile h = h.name
-has_name words Command.BenchAll h = h.name
 has_name words (Command.Make n) h = h.form.name
+has_name words other h = h.name
 
 -- a command without what its own words say
 abbrev bare : Command → Command
@@ -76,7 +71,7 @@ bare (Command.BenchFault f) = Command.BenchFault (record { aggressor = None; vic
 bare (Command.Make n) = Command.Make 0
 bare other = other
 
--- the command of a name; the last row takes every other text
+-- the command of a name; every other text is taken for the last
 abbrev read : List ℕ → Command
 read text =
     if bytes_eq text (codes "judge") then Command.Judge else
@@ -91,14 +86,9 @@ read text =
 
 read_back : (c : Command) → read (name_of c) ≡ bare c
 read_back (Command.Sim s) = refl
-read_back Command.Judge = refl
-read_back Command.Vectors = refl
-read_back Command.Compile = refl
-read_back Command.Bench = refl
 read_back (Command.BenchFault f) = refl
-read_back Command.BenchFile = refl
-read_back Command.BenchAll = refl
 read_back (Command.Make n) = refl
+read_back other = refl
 
 -- ---- what the words of its own say
 
@@ -110,36 +100,21 @@ Own other = Unit {0}
 
 abbrev own : (c : Command) → Own (bare c)
 own (Command.Sim s) = s
-own Command.Judge = tt
-own Command.Vectors = tt
-own Command.Compile = tt
-own Command.Bench = tt
 own (Command.BenchFault f) = f
-own Command.BenchFile = tt
-own Command.BenchAll = tt
 own (Command.Make n) = n
+own other = tt
 
 abbrev filled : (c : Command) → Own c → Command
 filled (Command.Sim s) o = Command.Sim o
-filled Command.Judge o = Command.Judge
-filled Command.Vectors o = Command.Vectors
-filled Command.Compile o = Command.Compile
-filled Command.Bench o = Command.Bench
 filled (Command.BenchFault f) o = Command.BenchFault o
-filled Command.BenchFile o = Command.BenchFile
-filled Command.BenchAll o = Command.BenchAll
 filled (Command.Make n) o = Command.Make o
+filled other o = other
 
 filled_back : (c : Command) → filled (bare c) (own c) ≡ c
 filled_back (Command.Sim s) = refl
-filled_back Command.Judge = refl
-filled_back Command.Vectors = refl
-filled_back Command.Compile = refl
-filled_back Command.Bench = refl
 filled_back (Command.BenchFault f) = refl
-filled_back Command.BenchFile = refl
-filled_back Command.BenchAll = refl
 filled_back (Command.Make n) = refl
+filled_back other = refl
 
 abbrev Say : Words → (c : Command) → Own c → Type 0
 Say words (Command.Sim s) o = IsSimShape words o
@@ -149,25 +124,15 @@ Say words other o = Unit {0}
 
 says : (words : Words) (c : Command) → HasShape words c → Say words (bare c) (own c)
 says words (Command.Sim s) h = h
-says words Command.Judge h = tt
-says words Command.Vectors h = tt
-says words Command.Compile h = tt
-says words Command.Bench h = tt
 says words (Command.BenchFault f) h = h
-says words Command.BenchFile h = tt
-says words Command.BenchAll h = tt
 says words (Command.Make n) h = h
+says words other h = tt
 
 say_one : (words : Words) (c : Command) (o p : Own c) → Say words c o → Say words c p → o ≡ p
 say_one words (Command.Sim s) o p h i = shape_one words o p h i
-say_one words Command.Judge o p h i = refl
-say_one words Command.Vectors o p h i = refl
-say_one words Command.Compile o p h i = refl
-say_one words Command.Bench o p h i = refl
 say_one words (Command.BenchFault f) o p h i = fault_shape_one words o p h i
-say_one words Command.BenchFile o p h i = refl
-say_one words Command.BenchAll o p h i = refl
 say_one words (Command.Make n) o p h i = number_one (word words 1) o p h.says i.says
+say_one words other o p h i = refl
 
 filled_one : (words : Words) (c d : Command) → c ≡ d → (o : Own c) (p : Own d) → Say words c o → Say words d p → filled c o ≡ filled d p
 filled_one words c d same o p h i =

@@ -10,7 +10,7 @@ use Rattle.word_march.specs.Commands.{port_ops, command_count, span}
 use Rattle.bist_endings.specs.declared.ending.Refusal.{Refusal}
 use Rattle.bist_endings.specs.Ending.{Done}
 use Rattle.bist_endings.specs.Then.{Then}
-use Rattle.bist_endings.specs.Words.{Words, word}
+use Rattle.bist_endings.specs.Words.{Words}
 use Rattle.bist_inputs.specs.Inputs.{InputMarch}
 use Rattle.bist_inputs.specs.Memories.{InputMemory}
 
