@@ -1,5 +1,5 @@
 -- What the answer of the top call comes to for `compile`.
-use Rattle.std.proofs.Common.{◌≡◌, ◌≢◌, ◌≤◌, inl, inr, refl, sym, ap, ◌∙◌, subst, arith, true, false, nat_eq, length, codes, slice_index_or, ℕ, List, [], ◌∷◌, Option, Some, None, Ok, Err}
+use Rattle.std.proofs.Common.{◌≡◌, ◌≢◌, ◌<◌, ◌≤◌, inl, inr, refl, sym, ap, ◌∙◌, subst, arith, codes, ℕ, List, [], ◌∷◌, Option, Some, None, Ok, Err}
 use Rattle.bist_host.specs.Files.{Files, WritesFile, Says}
 use Rattle.march_core.specs.March.{MarchElement}
 use Rattle.march_syntax.specs.Answers.{Reads as ReadsMarch}
@@ -16,17 +16,16 @@ use Rattle.bist_inputs.specs.Inputs.{InputMarch, InputList, GivesMarch, GivesLis
 use Rattle.bist_inputs.specs.Memories.{InputMemory, GivesMemory}
 use Rattle.bist_app.specs.declared.commands.Command.{Command}
 use Rattle.bist_app.specs.Bench.{Boxes}
-use Rattle.bist_app.specs.Compile.{IsCompileShape, IsCompiled, LeavesCompile, DecidesCompile}
+use Rattle.bist_app.specs.Compile.{IsCompiled, LeavesCompile, DecidesCompile}
 use Rattle.bist_app.specs.Headline.{InputHas, IsCompilation, LeavesCompilation}
+use Rattle.bist_app.specs.Forms.{HasForm, compile_form}
+use Rattle.bist_app.proofs.OneCommand.{only_compile}
 use Rattle.bist_app.specs.Run.{HasShape, Decides, DecidesCommand, Runs}
 
 -- ---- what can't be
 
 not_refused : {A E : Type 0} {value : A} {error : E} → Ok value ≡ Err error → ⊥
 not_refused same = cc
-
-not_true : true ≡ false → ⊥
-not_true same = cc
 
 too_high : (n k : ℕ) → n ≡ k → 2 ≤ k → n ≤ 1 → ⊥
 too_high n k is high low = omega (arith, is, high, low)
@@ -129,12 +128,24 @@ refused_high e s s' wr n (inl h) low = too_high n (status_of e) h.0 (status_high
 refused_high e s s' wr n (inr (inl h)) low = too_high n (status_of e) h.0 (status_high e) low
 refused_high e s s' wr n (inr (inr h)) low = too_high n 9 h.0 nine_high low
 
-compilation : (words : Words) (files : Files) (told : Option Files) (s s' : Option (List ℕ)) (wr : Type 0) (n : ℕ) (done : Done) → IsCompileShape words → n ≤ 1
+-- the words of the two files that are written
+module_not_report : (words : Words) → HasForm compile_form words → word words 4 ≢ word words 5
+module_not_report [] h = absurd (omega (arith, h.count))
+module_not_report (a ∷ []) h = absurd (omega (arith, h.count))
+module_not_report (a ∷ b ∷ []) h = absurd (omega (arith, h.count))
+module_not_report (a ∷ b ∷ c ∷ []) h = absurd (omega (arith, h.count))
+module_not_report (a ∷ b ∷ c ∷ d ∷ []) h = absurd (omega (arith, h.count))
+module_not_report (a ∷ b ∷ c ∷ d ∷ e ∷ []) h = absurd (omega (arith, h.count))
+module_not_report (a ∷ b ∷ c ∷ d ∷ e ∷ f ∷ rest) h =
+    let some : 0 < 1 = omega arith in
+    λ same. h.files.1.1.1.0 0 f some (sym same)
+
+compilation : (words : Words) (files : Files) (told : Option Files) (s s' : Option (List ℕ)) (wr : Type 0) (n : ℕ) (done : Done) → HasForm compile_form words → n ≤ 1
     → Inputs files words done → DoneEnds words done (Some files) told s s' wr n
     → (files' : Files) × (told ≡ Some files') × IsCompilation words files files' s s' n
 compilation words files told s s' wr n done shape low i (Ok u, writes, inl h) =
     let c = i.compiled in
-    let w = written words files told c.text c.bytes shape.module_not_report (subst (λ outs. WritesInOrder words outs (Some files) told (Ok tt)) c.outputs writes) in (
+    let w = written words files told c.text c.bytes (module_not_report words shape) (subst (λ outs. WritesInOrder words outs (Some files) told (Ok tt)) c.outputs writes) in (
       w.after,
       w.is_told,
       record {
@@ -164,20 +175,8 @@ compilation words files told s s' wr n done shape low i (Ok u, writes, inr (inr 
 compilation words files told s s' wr n done shape low i (Err (WriteStop.Failed p), writes, h) = absurd (too_high n 8 h.0 eight_high low)
 compilation words files told s s' wr n done shape low i (Err WriteStop.NoMemory, writes, h) = absurd (too_high n 9 h.0 nine_high low)
 
--- no other command has that name
-only_compile : (words : Words) (command : Command) → word words 0 ≡ codes "compile" → HasShape words command → command ≡ Command.Compile
-only_compile words (Command.Sim s) e h = let differ : 7 ≡ 3 = ap length (sym e ∙ h.name) in absurd (not_true (ap (nat_eq 7) differ))
-only_compile words Command.Judge e h = let differ : 7 ≡ 5 = ap length (sym e ∙ h.name) in absurd (not_true (ap (nat_eq 7) differ))
-only_compile words Command.Vectors e h = let differ : 99 ≡ 118 = ap (λ (l : List ℕ). slice_index_or l 0 0) (sym e ∙ h.name) in absurd (not_true (ap (nat_eq 99) differ))
-only_compile words Command.Compile e h = refl
-only_compile words Command.Bench e h = let differ : 7 ≡ 5 = ap length (sym e ∙ h.name) in absurd (not_true (ap (nat_eq 7) differ))
-only_compile words Command.BenchFile e h = let differ : 7 ≡ 9 = ap length (sym e ∙ h.name) in absurd (not_true (ap (nat_eq 7) differ))
-only_compile words (Command.Make n) e h = let differ : 7 ≡ 4 = ap length (sym e ∙ h.has_words.name) in absurd (not_true (ap (nat_eq 7) differ))
-only_compile words (Command.BenchFault s) e h = let differ : 7 ≡ 10 = ap length (sym e ∙ h.name) in absurd (not_true (ap (nat_eq 7) differ))
-only_compile words Command.BenchAll e h = let differ : 7 ≡ 8 = ap length (sym e ∙ h.name) in absurd (not_true (ap (nat_eq 7) differ))
-
 decided : (files : Files) (boxes left : Boxes) (words : Words) (done : Done) → word words 0 ≡ codes "compile" → Decides (Some files) boxes left words (Ok done)
-    → IsCompileShape words × DecidesCompile (Some files) words (Ok done)
+    → HasForm compile_form words × DecidesCompile (Some files) words (Ok done)
 decided files boxes left words done e (None, (none, is, same)) = absurd (not_refused is)
 decided files boxes left words done e (Some command, (own, decides)) =
     let compile = only_compile words command e own in

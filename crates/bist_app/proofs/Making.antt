@@ -15,7 +15,7 @@ are_named words march memory listed text bytes count =
 
 pub names_words : (words : Words) (number : ℕ) (done : Done) → IsMakeShape words number → IsMade number done → NamesWords words done.outputs
 names_words words number done shape (d, memory, made) =
-    subst (NamesWords words) (sym made.outputs) (are_named words (line_of (made_march number)) (printed d) made_text made.text made.bytes shape.has_words.count)
+    subst (NamesWords words) (sym made.outputs) (are_named words (line_of (made_march number)) (printed d) made_text made.text made.bytes shape.form.count)
 
 -- numbers behind their texts, one after another
 pub sizes_joined : (before first second third : List ℕ) (elements operations commands : ℕ) → first ≡ before ++ codes "made elements " ++ decimal elements

@@ -1,5 +1,6 @@
--- Words have the shape of one command alone.
-use Rattle.std.proofs.Common.{◌≡◌, ◌<◌, ◌^◌, ℕ, List, Option, Some, None, refl, sym, ◌∙◌, ap, arith, lit<, codes, length, subst}
+-- Words have the shape of one command alone: the names differ, and the words that a command has of its own say one thing.
+use Rattle.std.proofs.Common.{◌≡◌, ◌<◌, ◌^◌, ℕ, List, Option, Some, None, refl, sym, ◌∙◌, ap, arith, lit<, codes, subst}
+use Rattle.std.specs.Prelude.{bytes_eq, if◌then◌else◌}
 use Rattle.std.proofs.lemmas.Fmt.{decimal_injective, decimal_is_IsNumeral}
 use Rattle.std.specs.Str.Parse.{AllDigits}
 use Rattle.bist_endings.specs.Words.{Words, word, IsNumber}
@@ -7,13 +8,8 @@ use Rattle.bist_app.specs.declared.commands.Command.{Command}
 use Rattle.bist_app.specs.declared.sim.SimShape.{SimShape}
 use Rattle.bist_app.specs.declared.benchfault_command.FaultShape.{FaultShape}
 use Rattle.bist_app.specs.Sim.{IsSimShape, IsAggressorWord}
-use Rattle.bist_app.specs.Judge.{IsJudgeShape}
-use Rattle.bist_app.specs.Vectors.{IsVectorsShape}
-use Rattle.bist_app.specs.BenchFile.{IsBenchFileShape}
-use Rattle.bist_app.specs.Compile.{IsCompileShape}
 use Rattle.bist_app.specs.BenchFault.{IsFaultShape}
-use Rattle.bist_app.specs.Bench.{IsBenchShape}
-use Rattle.bist_app.specs.BenchAll.{IsBenchAllShape}
+use Rattle.bist_app.specs.Make.{IsMakeShape}
 use Rattle.bist_app.specs.Run.{HasShape}
 use Rattle.bist_app.proofs.PlaceWords.{place_one, aggressor_place_one}
 
@@ -43,127 +39,148 @@ shape_one words s t h i =
     let aggressor = aggressor_one (word words 5) s.size t.size s.victim t.victim s.aggressor t.aggressor h.aggressor i.aggressor in
     λ j. record { size = size j; aggressor = aggressor j; victim = victim j }
 
-judge_or_vectors : (words : Words) → IsJudgeShape words → IsVectorsShape words → ⊥
-judge_or_vectors words h i =
-    let same : codes "judge" ≡ codes "vectors" = sym h.name ∙ i.name in
-    let lengths : length (codes "judge") ≡ length (codes "vectors") = ap length same in
-    let differ : 5 ≡ 7 = lengths in
-    omega (arith, differ)
-
-judge_or_file : (words : Words) → IsJudgeShape words → IsBenchFileShape words → ⊥
-judge_or_file words h i =
-    let same : codes "judge" ≡ codes "benchfile" = sym h.name ∙ i.name in
-    let differ : 5 ≡ 9 = ap length same in
-    omega (arith, differ)
-
-vectors_or_file : (words : Words) → IsVectorsShape words → IsBenchFileShape words → ⊥
-vectors_or_file words h i =
-    let same : codes "vectors" ≡ codes "benchfile" = sym h.name ∙ i.name in
-    let differ : 7 ≡ 9 = ap length same in
-    omega (arith, differ)
-
-eight_or_four : (words : Words) → length words ≡ 8 → length words ≡ 4 → ⊥
-eight_or_four words h i = omega (arith, h, i)
-
 fault_shape_one : (words : Words) (s t : FaultShape) → IsFaultShape words s → IsFaultShape words t → s ≡ t
 fault_shape_one words s t h i =
     let aggressor = aggressor_place_one (word words 4) s.aggressor t.aggressor h.aggressor i.aggressor in
     let victim = place_one (word words 5) s.victim t.victim h.victim i.victim in
     λ j. record { aggressor = aggressor j; victim = victim j }
 
-compile_or_fault : (words : Words) (shape : FaultShape) → IsCompileShape words → IsFaultShape words shape → ⊥
-compile_or_fault words shape h i =
-    let same : codes "compile" ≡ codes "benchfault" = sym h.name ∙ i.name in
-    let lengths : length (codes "compile") ≡ length (codes "benchfault") = ap length same in
-    let differ : 7 ≡ 10 = lengths in
-    omega (arith, differ)
+-- ---- the commands by their names
 
-one_or_all : (words : Words) → IsBenchShape words → IsBenchAllShape words → ⊥
-one_or_all words h i =
-    let same : codes "bench" ≡ codes "benchall" = sym h.name ∙ i.name in
-    let lengths : length (codes "bench") ≡ length (codes "benchall") = ap length same in
-    let differ : 5 ≡ 8 = lengths in
-    omega (arith, differ)
+abbrev name_of : Command → List ℕ
+name_of (Command.Sim s) = codes "sim"
+name_of Command.Judge = codes "judge"
+name_of Command.Vectors = codes "vectors"
+name_of Command.Compile = codes "compile"
+name_of Command.Bench = codes "bench"
+name_of (Command.BenchFault f) = codes "benchfault"
+name_of Command.BenchFile = codes "benchfile"
+name_of Command.BenchAll = codes "benchall"
+name_of (Command.Make n) = codes "make"
+
+has_name : (words : Words) (c : Command) → HasShape words c → word words 0 ≡ name_of c
+has_name words (Command.Sim s) h = h.form.name
+has_name words Command.Judge h = h.name
+has_name words Command.Vectors h = h.name
+has_name words Command.Compile h = h.name
+has_name words Command.Bench h = h.name
+has_name words (Command.BenchFault f) h = h.form.name
+has_name words Command.BenchFile h = h.name
+has_name words Command.BenchAll h = h.name
+has_name words (Command.Make n) h = h.form.name
+
+-- a command without what its own words say
+abbrev bare : Command → Command
+bare (Command.Sim s) = Command.Sim (record { size = 0; aggressor = None; victim = 0 })
+bare (Command.BenchFault f) = Command.BenchFault (record { aggressor = None; victim = record { word = 0; bit = 0 } })
+bare (Command.Make n) = Command.Make 0
+bare other = other
+
+-- the command of a name; the last row takes every other text
+abbrev read : List ℕ → Command
+read text =
+    if bytes_eq text (codes "judge") then Command.Judge else
+    if bytes_eq text (codes "vectors") then Command.Vectors else
+    if bytes_eq text (codes "compile") then Command.Compile else
+    if bytes_eq text (codes "bench") then Command.Bench else
+    if bytes_eq text (codes "benchfile") then Command.BenchFile else
+    if bytes_eq text (codes "benchall") then Command.BenchAll else
+    if bytes_eq text (codes "benchfault") then Command.BenchFault (record { aggressor = None; victim = record { word = 0; bit = 0 } }) else
+    if bytes_eq text (codes "make") then Command.Make 0 else
+    Command.Sim (record { size = 0; aggressor = None; victim = 0 })
+
+read_back : (c : Command) → read (name_of c) ≡ bare c
+read_back (Command.Sim s) = refl
+read_back Command.Judge = refl
+read_back Command.Vectors = refl
+read_back Command.Compile = refl
+read_back Command.Bench = refl
+read_back (Command.BenchFault f) = refl
+read_back Command.BenchFile = refl
+read_back Command.BenchAll = refl
+read_back (Command.Make n) = refl
+
+-- ---- what the words of its own say
+
+abbrev Own : Command → Type 0
+Own (Command.Sim s) = SimShape
+Own (Command.BenchFault f) = FaultShape
+Own (Command.Make n) = ℕ
+Own other = Unit {0}
+
+abbrev own : (c : Command) → Own (bare c)
+own (Command.Sim s) = s
+own Command.Judge = tt
+own Command.Vectors = tt
+own Command.Compile = tt
+own Command.Bench = tt
+own (Command.BenchFault f) = f
+own Command.BenchFile = tt
+own Command.BenchAll = tt
+own (Command.Make n) = n
+
+abbrev filled : (c : Command) → Own c → Command
+filled (Command.Sim s) o = Command.Sim o
+filled Command.Judge o = Command.Judge
+filled Command.Vectors o = Command.Vectors
+filled Command.Compile o = Command.Compile
+filled Command.Bench o = Command.Bench
+filled (Command.BenchFault f) o = Command.BenchFault o
+filled Command.BenchFile o = Command.BenchFile
+filled Command.BenchAll o = Command.BenchAll
+filled (Command.Make n) o = Command.Make o
+
+filled_back : (c : Command) → filled (bare c) (own c) ≡ c
+filled_back (Command.Sim s) = refl
+filled_back Command.Judge = refl
+filled_back Command.Vectors = refl
+filled_back Command.Compile = refl
+filled_back Command.Bench = refl
+filled_back (Command.BenchFault f) = refl
+filled_back Command.BenchFile = refl
+filled_back Command.BenchAll = refl
+filled_back (Command.Make n) = refl
+
+abbrev Say : Words → (c : Command) → Own c → Type 0
+Say words (Command.Sim s) o = IsSimShape words o
+Say words (Command.BenchFault f) o = IsFaultShape words o
+Say words (Command.Make n) o = IsMakeShape words o
+Say words other o = Unit {0}
+
+says : (words : Words) (c : Command) → HasShape words c → Say words (bare c) (own c)
+says words (Command.Sim s) h = h
+says words Command.Judge h = tt
+says words Command.Vectors h = tt
+says words Command.Compile h = tt
+says words Command.Bench h = tt
+says words (Command.BenchFault f) h = h
+says words Command.BenchFile h = tt
+says words Command.BenchAll h = tt
+says words (Command.Make n) h = h
+
+say_one : (words : Words) (c : Command) (o p : Own c) → Say words c o → Say words c p → o ≡ p
+say_one words (Command.Sim s) o p h i = shape_one words o p h i
+say_one words Command.Judge o p h i = refl
+say_one words Command.Vectors o p h i = refl
+say_one words Command.Compile o p h i = refl
+say_one words Command.Bench o p h i = refl
+say_one words (Command.BenchFault f) o p h i = fault_shape_one words o p h i
+say_one words Command.BenchFile o p h i = refl
+say_one words Command.BenchAll o p h i = refl
+say_one words (Command.Make n) o p h i = number_one (word words 1) o p h.says i.says
+
+filled_one : (words : Words) (c d : Command) → c ≡ d → (o : Own c) (p : Own d) → Say words c o → Say words d p → filled c o ≡ filled d p
+filled_one words c d same o p h i =
+    subst (λ (x : Command). (q : Own x) → Say words x q → filled c o ≡ filled x q) same (λ q j. ap (filled c) (say_one words c o q h j)) p i
+
+-- ---- one command
 
 pub command_one : (words : Words) (c d : Command) → HasShape words c → HasShape words d → c ≡ d
-command_one words (Command.Sim s) (Command.Sim t) h i = ap Command.Sim (shape_one words s t h i)
-command_one words (Command.Sim s) Command.Judge h i = absurd (eight_or_four words h.count i.count)
-command_one words (Command.Sim s) Command.Vectors h i = absurd (eight_or_four words h.count i.count)
-command_one words Command.Judge (Command.Sim t) h i = absurd (eight_or_four words i.count h.count)
-command_one words Command.Judge Command.Judge h i = refl
-command_one words Command.Judge Command.Vectors h i = absurd (judge_or_vectors words h i)
-command_one words Command.Vectors (Command.Sim t) h i = absurd (eight_or_four words i.count h.count)
-command_one words Command.Vectors Command.Judge h i = absurd (judge_or_vectors words i h)
-command_one words Command.Vectors Command.Vectors h i = refl
-command_one words (Command.Sim s) Command.Compile h i = absurd (omega (arith, h.count, i.count))
-command_one words Command.Judge Command.Compile h i = absurd (omega (arith, h.count, i.count))
-command_one words Command.Vectors Command.Compile h i = absurd (omega (arith, h.count, i.count))
-command_one words Command.Compile (Command.Sim t) h i = absurd (omega (arith, h.count, i.count))
-command_one words Command.Compile Command.Judge h i = absurd (omega (arith, h.count, i.count))
-command_one words Command.Compile Command.Vectors h i = absurd (omega (arith, h.count, i.count))
-command_one words Command.Compile Command.Compile h i = refl
-command_one words (Command.Sim s) Command.Bench h i = absurd (omega (arith, h.count, i.count))
-command_one words Command.Judge Command.Bench h i = absurd (omega (arith, h.count, i.count))
-command_one words Command.Vectors Command.Bench h i = absurd (omega (arith, h.count, i.count))
-command_one words Command.Compile Command.Bench h i = absurd (omega (arith, h.count, i.count))
-command_one words Command.Bench (Command.Sim t) h i = absurd (omega (arith, h.count, i.count))
-command_one words Command.Bench Command.Judge h i = absurd (omega (arith, h.count, i.count))
-command_one words Command.Bench Command.Vectors h i = absurd (omega (arith, h.count, i.count))
-command_one words Command.Bench Command.Compile h i = absurd (omega (arith, h.count, i.count))
-command_one words Command.Bench Command.Bench h i = refl
-command_one words (Command.Sim s) Command.BenchFile h i = absurd (omega (arith, h.count, i.count))
-command_one words Command.Judge Command.BenchFile h i = absurd (judge_or_file words h i)
-command_one words Command.Vectors Command.BenchFile h i = absurd (vectors_or_file words h i)
-command_one words Command.Compile Command.BenchFile h i = absurd (omega (arith, h.count, i.count))
-command_one words Command.Bench Command.BenchFile h i = absurd (omega (arith, h.count, i.count))
-command_one words Command.BenchFile (Command.Sim t) h i = absurd (omega (arith, h.count, i.count))
-command_one words Command.BenchFile Command.Judge h i = absurd (judge_or_file words i h)
-command_one words Command.BenchFile Command.Vectors h i = absurd (vectors_or_file words i h)
-command_one words Command.BenchFile Command.Compile h i = absurd (omega (arith, h.count, i.count))
-command_one words Command.BenchFile Command.Bench h i = absurd (omega (arith, h.count, i.count))
-command_one words Command.BenchFile Command.BenchFile h i = refl
-command_one words (Command.Sim s) (Command.Make n) h i = absurd (omega (arith, h.count, i.has_words.count))
-command_one words Command.Judge (Command.Make n) h i = absurd (omega (arith, h.count, i.has_words.count))
-command_one words Command.Vectors (Command.Make n) h i = absurd (omega (arith, h.count, i.has_words.count))
-command_one words Command.Compile (Command.Make n) h i = absurd (omega (arith, h.count, i.has_words.count))
-command_one words Command.Bench (Command.Make n) h i = absurd (omega (arith, h.count, i.has_words.count))
-command_one words (Command.Make n) (Command.Sim t) h i = absurd (omega (arith, h.has_words.count, i.count))
-command_one words (Command.Make n) Command.Judge h i = absurd (omega (arith, h.has_words.count, i.count))
-command_one words (Command.Make n) Command.Vectors h i = absurd (omega (arith, h.has_words.count, i.count))
-command_one words (Command.Make n) Command.Compile h i = absurd (omega (arith, h.has_words.count, i.count))
-command_one words (Command.Make n) Command.Bench h i = absurd (omega (arith, h.has_words.count, i.count))
-command_one words (Command.Make m) (Command.Make n) h i = ap Command.Make (number_one (word words 1) m n h.says i.says)
-command_one words Command.BenchFile (Command.Make n) h i = absurd (omega (arith, h.count, i.has_words.count))
-command_one words (Command.Make n) Command.BenchFile h i = absurd (omega (arith, h.has_words.count, i.count))
-command_one words (Command.Sim s) (Command.BenchFault f) h i = absurd (omega (arith, h.count, i.count))
-command_one words Command.Judge (Command.BenchFault f) h i = absurd (omega (arith, h.count, i.count))
-command_one words Command.Vectors (Command.BenchFault f) h i = absurd (omega (arith, h.count, i.count))
-command_one words Command.Compile (Command.BenchFault f) h i = absurd (compile_or_fault words f h i)
-command_one words Command.Bench (Command.BenchFault f) h i = absurd (omega (arith, h.count, i.count))
-command_one words (Command.BenchFault f) (Command.Sim t) h i = absurd (omega (arith, h.count, i.count))
-command_one words (Command.BenchFault f) Command.Judge h i = absurd (omega (arith, h.count, i.count))
-command_one words (Command.BenchFault f) Command.Vectors h i = absurd (omega (arith, h.count, i.count))
-command_one words (Command.BenchFault f) Command.Compile h i = absurd (compile_or_fault words f i h)
-command_one words (Command.BenchFault f) Command.Bench h i = absurd (omega (arith, h.count, i.count))
-command_one words (Command.BenchFault f) (Command.BenchFault g) h i = ap Command.BenchFault (fault_shape_one words f g h i)
-command_one words Command.BenchFile (Command.BenchFault f) h i = absurd (omega (arith, h.count, i.count))
-command_one words (Command.BenchFault f) Command.BenchFile h i = absurd (omega (arith, h.count, i.count))
-command_one words (Command.Make n) (Command.BenchFault f) h i = absurd (omega (arith, h.has_words.count, i.count))
-command_one words (Command.BenchFault f) (Command.Make n) h i = absurd (omega (arith, h.count, i.has_words.count))
-command_one words (Command.Sim s) Command.BenchAll h i = absurd (omega (arith, h.count, i.count))
-command_one words Command.Judge Command.BenchAll h i = absurd (omega (arith, h.count, i.count))
-command_one words Command.Vectors Command.BenchAll h i = absurd (omega (arith, h.count, i.count))
-command_one words Command.Compile Command.BenchAll h i = absurd (omega (arith, h.count, i.count))
-command_one words Command.Bench Command.BenchAll h i = absurd (one_or_all words h i)
-command_one words (Command.BenchFault f) Command.BenchAll h i = absurd (omega (arith, h.count, i.count))
-command_one words Command.BenchAll (Command.Sim t) h i = absurd (omega (arith, h.count, i.count))
-command_one words Command.BenchAll Command.Judge h i = absurd (omega (arith, h.count, i.count))
-command_one words Command.BenchAll Command.Vectors h i = absurd (omega (arith, h.count, i.count))
-command_one words Command.BenchAll Command.Compile h i = absurd (omega (arith, h.count, i.count))
-command_one words Command.BenchAll Command.Bench h i = absurd (one_or_all words i h)
-command_one words Command.BenchAll (Command.BenchFault f) h i = absurd (omega (arith, h.count, i.count))
-command_one words Command.BenchAll Command.BenchAll h i = refl
-command_one words Command.BenchFile Command.BenchAll h i = absurd (omega (arith, h.count, i.count))
-command_one words Command.BenchAll Command.BenchFile h i = absurd (omega (arith, h.count, i.count))
-command_one words (Command.Make n) Command.BenchAll h i = absurd (omega (arith, h.has_words.count, i.count))
-command_one words Command.BenchAll (Command.Make n) h i = absurd (omega (arith, h.count, i.has_words.count))
+command_one words c d h i =
+    let same : bare c ≡ bare d = sym (read_back c) ∙ ap read (sym (has_name words c h) ∙ has_name words d i) ∙ read_back d in
+    sym (filled_back c) ∙ filled_one words (bare c) (bare d) same (own c) (own d) (says words c h) (says words d i) ∙ filled_back d
+
+pub only_compile : (words : Words) (c : Command) → word words 0 ≡ codes "compile" → HasShape words c → c ≡ Command.Compile
+only_compile words c e h =
+    let same : bare c ≡ Command.Compile = sym (read_back c) ∙ ap read (sym (has_name words c h) ∙ e) in
+    sym (filled_back c) ∙ filled_one words (bare c) Command.Compile same (own c) tt (says words c h) tt

@@ -1,5 +1,5 @@
 -- The command `bench MARCH MEMORY`: the self-test module against the first box. Its shape, its checks in their order, and what it leaves.
-use Rattle.std.specs.Prelude.{◌≡◌, ◌≢◌, ◌+◌, ◌/◌, ◌^◌, ◌<◌, ◌≤◌, ◌⊎◌, ◌++◌, ℕ, Bool, true, false, List, [], ◌∷◌, Option, Some, None, Result, Ok, Err, MatchResult, length, drop, codes, decimal, is_some}
+use Rattle.std.specs.Prelude.{◌≡◌, ◌+◌, ◌/◌, ◌^◌, ◌<◌, ◌≤◌, ◌⊎◌, ◌++◌, ℕ, Bool, true, false, List, [], ◌∷◌, Option, Some, None, Result, Ok, Err, MatchResult, drop, codes, decimal, is_some}
 use Rattle.bist_host.specs.Files.{Files}
 use Rattle.bist_text.specs.Numbers.{hex_digits}
 use Rattle.march_core.specs.March.{MarchElement}
@@ -14,7 +14,7 @@ use Rattle.bench.specs.Laws.{done_at, script_word, IsWrongRead, IsSeenOf}
 use Rattle.bist_endings.specs.declared.ending.Refusal.{Refusal}
 use Rattle.bist_endings.specs.declared.ending.DeviceRefusal.{DeviceRefusal}
 use Rattle.bist_endings.specs.Ending.{Done}
-use Rattle.bist_endings.specs.Words.{Words, word, ArePlain}
+use Rattle.bist_endings.specs.Words.{Words, word}
 use Rattle.bist_inputs.specs.Inputs.{InputMarch}
 use Rattle.bist_inputs.specs.Memories.{InputMemory}
 use Rattle.bist_app.specs.Vectors.{FitsLength}
@@ -22,13 +22,6 @@ use Rattle.bist_app.specs.Vectors.{FitsLength}
 -- the boxes that the program is given, as they tell
 abbrev pub Boxes : Type 0
 Boxes = List Told
-
--- the words have the shape; the files have two names
-pub record IsBenchShape (words : Words) : Type 0 where
-  pub count : length words ≡ 3
-  pub name : word words 0 ≡ codes "bench"
-  pub plain : ArePlain words
-  pub march_not_memory : word words 1 ≢ word words 2
 
 -- there is a box
 unfoldable pub HasBox : Boxes → Result (Unit {0}) Refusal → Type 0

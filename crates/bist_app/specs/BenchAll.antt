@@ -1,6 +1,6 @@
 -- The command `benchall MARCH MEMORY`: the self-test module against each box, one after another. Its shape, its checks in their order, and
 -- what it leaves.
-use Rattle.std.specs.Prelude.{◌≡◌, ◌≢◌, ◌+◌, ◌<◌, ◌≤◌, ◌⊎◌, ◌++◌, ℕ, nat_lt, List, [], ◌∷◌, Option, Some, None, Result, Ok, Err, length, drop, codes, decimal}
+use Rattle.std.specs.Prelude.{◌≡◌, ◌+◌, ◌<◌, ◌≤◌, ◌⊎◌, ◌++◌, ℕ, nat_lt, List, [], ◌∷◌, Option, Some, None, Result, Ok, Err, length, drop, codes, decimal}
 use Rattle.bist_host.specs.Files.{Files}
 use Rattle.march_core.specs.March.{MarchElement}
 use Rattle.memory_desc.specs.Descriptions.{Description}
@@ -10,18 +10,11 @@ use Rattle.bench.specs.declared.ending.Seen.{Seen}
 use Rattle.bist_endings.specs.declared.ending.Refusal.{Refusal}
 use Rattle.bist_endings.specs.declared.ending.DeviceRefusal.{DeviceRefusal}
 use Rattle.bist_endings.specs.Ending.{Done}
-use Rattle.bist_endings.specs.Words.{Words, word, ArePlain}
+use Rattle.bist_endings.specs.Words.{Words}
 use Rattle.bist_inputs.specs.Inputs.{InputMarch}
 use Rattle.bist_inputs.specs.Memories.{InputMemory}
 use Rattle.bist_app.specs.Vectors.{FitsLength}
 use Rattle.bist_app.specs.Bench.{Boxes, HasBox, IsSeen, Before}
-
--- the words have the shape; the files have two names
-pub record IsBenchAllShape (words : Words) : Type 0 where
-  pub count : length words ≡ 3
-  pub name : word words 0 ≡ codes "benchall"
-  pub plain : ArePlain words
-  pub march_not_memory : word words 1 ≢ word words 2
 
 -- ---- the rooms
 

@@ -1,6 +1,6 @@
 -- The command `benchfault MARCH MEMORY PRIM AGG VIC`: the self-test module against the first box, in which an instance of a primitive is
 -- planted. Its shape, its checks in their order, and what it leaves.
-use Rattle.std.specs.Prelude.{◌≡◌, ◌≢◌, ◌<◌, ◌^◌, ◌++◌, ℕ, List, [], ◌∷◌, Option, Some, None, Result, Ok, Err, IsTrue, length, codes, decimal, is_some}
+use Rattle.std.specs.Prelude.{◌≡◌, ◌≢◌, ◌<◌, ◌^◌, ◌++◌, ℕ, List, [], ◌∷◌, Option, Some, None, Result, Ok, Err, IsTrue, codes, decimal, is_some}
 use Rattle.bist_host.specs.Files.{Files}
 use Rattle.march_core.specs.March.{MarchElement}
 use Rattle.fault_core.specs.Primitive.{Primitive}
@@ -13,11 +13,12 @@ use Rattle.word_device.specs.Boxes.{Tells, TellsChip, after_fit, after_plant, af
 use Rattle.bist_endings.specs.declared.ending.Refusal.{Refusal}
 use Rattle.bist_endings.specs.declared.ending.DeviceRefusal.{DeviceRefusal}
 use Rattle.bist_endings.specs.Ending.{Done}
-use Rattle.bist_endings.specs.Words.{Words, word, ArePlain}
+use Rattle.bist_endings.specs.Words.{Words, word}
 use Rattle.bist_inputs.specs.Inputs.{InputMarch, GivesPrim}
 use Rattle.bist_inputs.specs.Memories.{InputMemory}
 use Rattle.bist_app.specs.declared.benchfault_command.NamedPlace.{NamedPlace}
 use Rattle.bist_app.specs.declared.benchfault_command.FaultShape.{FaultShape}
+use Rattle.bist_app.specs.Forms.{HasForm, bench_fault_form}
 use Rattle.bist_app.specs.Sim.{FitsAggressor}
 use Rattle.bist_app.specs.Vectors.{FitsLength}
 use Rattle.bist_app.specs.Bench.{Boxes, HasBox, FitsRoom, IsBenched, LeavesFirst, Before}
@@ -33,12 +34,9 @@ abbrev pub IsAggressorPlace : List ℕ → Option NamedPlace → Type 0
 IsAggressorPlace text None = text ≡ codes "none"
 IsAggressorPlace text (Some place) = IsPlaceWord text place
 
--- the words have the shape; the files have two names
+-- the words have the form, and the places are what they say
 pub record IsFaultShape (words : Words) (shape : FaultShape) : Type 0 where
-  pub count : length words ≡ 6
-  pub name : word words 0 ≡ codes "benchfault"
-  pub plain : ArePlain words
-  pub march_not_memory : word words 1 ≢ word words 2
+  pub form : HasForm bench_fault_form words
   pub aggressor : IsAggressorPlace (word words 4) shape.aggressor
   pub victim : IsPlaceWord (word words 5) shape.victim
 

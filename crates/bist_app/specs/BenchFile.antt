@@ -1,6 +1,6 @@
 -- The command `benchfile VERILOG MARCH MEMORY`: the module of a file against the first box. Its shape, its checks in their order, and what
 -- it leaves.
-use Rattle.std.specs.Prelude.{◌≡◌, ◌≢◌, ℕ, Bool, List, [], ◌∷◌, Option, Some, None, Result, Ok, Err, length, map, codes}
+use Rattle.std.specs.Prelude.{◌≡◌, ℕ, Bool, List, [], ◌∷◌, Option, Some, None, Result, Ok, Err, map}
 use Rattle.bist_host.specs.Files.{Files}
 use Rattle.verilog_tree.specs.Plain.{ModuleTree}
 use Rattle.verilog_cycle.specs.Design.{registers_of}
@@ -13,21 +13,12 @@ use Rattle.bench.specs.Endings.{Runs}
 use Rattle.bist_endings.specs.declared.ending.Refusal.{Refusal}
 use Rattle.bist_endings.specs.declared.ending.VerilogRefusal.{VerilogRefusal}
 use Rattle.bist_endings.specs.Ending.{Done}
-use Rattle.bist_endings.specs.Words.{Words, word, ArePlain}
+use Rattle.bist_endings.specs.Words.{Words}
 use Rattle.bist_inputs.specs.Inputs.{InputMarch}
 use Rattle.bist_inputs.specs.Memories.{InputMemory}
 use Rattle.bist_inputs.specs.Designs.{InputModule}
 use Rattle.bist_app.specs.Vectors.{FitsLength}
 use Rattle.bist_app.specs.Bench.{Boxes, HasBox, FitsRoom, ready, benched_done, LeavesFirst, Before}
-
--- the words have the shape; no two files have one name
-pub record IsBenchFileShape (words : Words) : Type 0 where
-  pub count : length words ≡ 4
-  pub name : word words 0 ≡ codes "benchfile"
-  pub plain : ArePlain words
-  pub module_not_march : word words 1 ≢ word words 2
-  pub module_not_memory : word words 1 ≢ word words 3
-  pub march_not_memory : word words 2 ≢ word words 3
 
 -- the ports are those of a self-test of the memory, in any order, or the first wrong one is named
 unfoldable pub HasPorts : Description → ModuleTree → Result (Unit {0}) Refusal → Type 0

@@ -2,7 +2,7 @@
 -- what the program is for: the written bytes spell one module, which tests the described memory by the march whatever its
 -- registers hold at first and whatever words return; and the report says of each item of the list whether the march detects it in
 -- arrays of every size, or gives its least escape.
-use Rattle.std.specs.Prelude.{◌≡◌, ◌≢◌, ℕ, List, [], ◌∷◌, Option, Some, Result, Ok, Err, length, codes}
+use Rattle.std.specs.Prelude.{◌≡◌, ℕ, List, [], ◌∷◌, Option, Some, Result, Ok, Err}
 use Rattle.bist_host.specs.Files.{Files}
 use Rattle.march_core.specs.March.{MarchElement}
 use Rattle.dynamic_core.specs.declared.item.Item.{Item}
@@ -13,26 +13,10 @@ use Rattle.self_test.specs.SelfTest.{SelfTest}
 use Rattle.bist_endings.specs.declared.ending.Refusal.{Refusal}
 use Rattle.bist_endings.specs.Ending.{Done}
 use Rattle.bist_endings.specs.Then.{Then}
-use Rattle.bist_endings.specs.Words.{Words, word, ArePlain}
+use Rattle.bist_endings.specs.Words.{Words}
 use Rattle.bist_inputs.specs.Inputs.{InputMarch, InputList}
 use Rattle.bist_inputs.specs.Memories.{InputMemory}
 use Rattle.bist_app.specs.Reported.{Reports}
-
--- the words have the shape; no two files have one name
-pub record IsCompileShape (words : Words) : Type 0 where
-  pub count : length words ≡ 6
-  pub name : word words 0 ≡ codes "compile"
-  pub plain : ArePlain words
-  pub march_not_memory : word words 1 ≢ word words 2
-  pub march_not_list : word words 1 ≢ word words 3
-  pub march_not_module : word words 1 ≢ word words 4
-  pub march_not_report : word words 1 ≢ word words 5
-  pub memory_not_list : word words 2 ≢ word words 3
-  pub memory_not_module : word words 2 ≢ word words 4
-  pub memory_not_report : word words 2 ≢ word words 5
-  pub list_not_module : word words 3 ≢ word words 4
-  pub list_not_report : word words 3 ≢ word words 5
-  pub module_not_report : word words 4 ≢ word words 5
 
 -- the bytes spell a module and no other, which is a self-test of the memory by the march
 pub record IsSelfTestText (march : List MarchElement) (d : Description) (text : List ℕ) : Type 0 where

@@ -14,7 +14,7 @@ use Rattle.report.specs.Report.{IsMixedReport, DetectsOf, total_line}
 use Rattle.bist_endings.specs.Words.{Words, word}
 use Rattle.bist_endings.specs.Ending.{found_status}
 use Rattle.bist_inputs.specs.Inputs.{input_limit}
-use Rattle.bist_app.specs.Compile.{IsCompileShape}
+use Rattle.bist_app.specs.Forms.{HasForm, compile_form}
 use Rattle.bist_app.specs.Reported.{SomeEscapes}
 
 -- the file of this name is there, and this holds of its bytes
@@ -29,7 +29,7 @@ InputHas files name P = FileHas files name (λ bytes. (length bytes ≤ input_li
 -- is a self-test of that memory by that march, and those of REPORT are the report of the list. Some item isn't detected exactly where the
 -- status is 1. How many there are and how many are detected was said, and all other files are as before.
 pub record IsCompilation (words : Words) (files files' : Files) (said said' : Option (List ℕ)) (status : ℕ) : Type 0 where
-  pub shape : IsCompileShape words
+  pub shape : HasForm compile_form words
   pub march : List MarchElement
   pub memory : Description
   pub is_memory : IsMemory memory

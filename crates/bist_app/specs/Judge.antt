@@ -1,23 +1,14 @@
 -- The command `judge MARCH FAULTS REPORT`: its shape, its checks in their order, and what it leaves.
-use Rattle.std.specs.Prelude.{◌≡◌, ◌≢◌, ℕ, List, [], ◌∷◌, Option, None, Result, Ok, Err, length, codes}
+use Rattle.std.specs.Prelude.{◌≡◌, ℕ, List, [], ◌∷◌, Option, None, Result, Ok, Err}
 use Rattle.bist_host.specs.Files.{Files}
 use Rattle.march_core.specs.March.{MarchElement}
 use Rattle.dynamic_core.specs.declared.item.Item.{Item}
 use Rattle.bist_endings.specs.declared.ending.Refusal.{Refusal}
 use Rattle.bist_endings.specs.Ending.{Done}
 use Rattle.bist_endings.specs.Then.{Then}
-use Rattle.bist_endings.specs.Words.{Words, word, ArePlain}
+use Rattle.bist_endings.specs.Words.{Words}
 use Rattle.bist_inputs.specs.Inputs.{InputMarch, InputList}
 use Rattle.bist_app.specs.Reported.{Reports}
-
--- the words have the shape; no two files have one name
-pub record IsJudgeShape (words : Words) : Type 0 where
-  pub count : length words ≡ 4
-  pub name : word words 0 ≡ codes "judge"
-  pub plain : ArePlain words
-  pub march_not_list : word words 1 ≢ word words 2
-  pub march_not_report : word words 1 ≢ word words 3
-  pub list_not_report : word words 2 ≢ word words 3
 
 -- the report in the file that the third word names, and its last line
 pub record IsJudged (march : List MarchElement) (items : List Item) (done : Done) : Type 0 where

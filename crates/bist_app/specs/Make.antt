@@ -1,6 +1,6 @@
 -- The command `make NUMBER MARCH MEMORY FAULTS VERILOG REPORT`: its shape, and what it leaves. It reads no file: a number makes a
 -- large march, memory and list, which are written, compiled and counted.
-use Rattle.std.specs.Prelude.{◌≡◌, ◌≢◌, ◌≤◌, ◌++◌, ℕ, List, [], ◌∷◌, Some, Result, Ok, Err, length, codes, decimal}
+use Rattle.std.specs.Prelude.{◌≡◌, ◌≤◌, ◌++◌, ℕ, List, [], ◌∷◌, Some, Result, Ok, Err, length, codes, decimal}
 use Rattle.march_core.specs.March.{MarchElement, all_ops}
 use Rattle.march_syntax.specs.Answers.{Reads as ReadsMarch}
 use Rattle.memory_desc.specs.Descriptions.{Description, IsMemory}
@@ -15,29 +15,14 @@ use Rattle.made_inputs.specs.MadeMemory.{IsMadeMemory}
 use Rattle.made_inputs.specs.MadeList.{made_text, made_items}
 use Rattle.bist_endings.specs.declared.ending.Refusal.{Refusal}
 use Rattle.bist_endings.specs.Ending.{Done, Written}
-use Rattle.bist_endings.specs.Words.{Words, word, ArePlain, IsNumber}
+use Rattle.bist_endings.specs.Words.{Words, word, IsNumber}
+use Rattle.bist_app.specs.Forms.{HasForm, make_form}
 use Rattle.bist_app.specs.Compile.{IsSelfTestText}
 use Rattle.bist_app.specs.Reported.{Reports}
 
--- seven words, of which the last five name files; no two files have one name
-pub record HasMakeWords (words : Words) : Type 0 where
-  pub count : length words ≡ 7
-  pub name : word words 0 ≡ codes "make"
-  pub plain : ArePlain words
-  pub march_not_memory : word words 2 ≢ word words 3
-  pub march_not_list : word words 2 ≢ word words 4
-  pub march_not_module : word words 2 ≢ word words 5
-  pub march_not_report : word words 2 ≢ word words 6
-  pub memory_not_list : word words 3 ≢ word words 4
-  pub memory_not_module : word words 3 ≢ word words 5
-  pub memory_not_report : word words 3 ≢ word words 6
-  pub list_not_module : word words 4 ≢ word words 5
-  pub list_not_report : word words 4 ≢ word words 6
-  pub module_not_report : word words 5 ≢ word words 6
-
--- the words have the shape, and this is the number; a memory of two words more is the largest that there is
+-- the words have the form, and this is the number; a memory of two words more is the largest that there is
 pub record IsMakeShape (words : Words) (number : ℕ) : Type 0 where
-  pub has_words : HasMakeWords words
+  pub form : HasForm make_form words
   pub says : IsNumber (word words 1) number
   pub most : number ≤ 65534
 

@@ -7,27 +7,28 @@ use Rattle.bist_endings.specs.Ending.{Done}
 use Rattle.bist_endings.specs.Words.{Words}
 use Rattle.bist_inputs.specs.Inputs.{HasReadCause}
 use Rattle.bist_endings.specs.Conclude.{Ends}
+use Rattle.bist_app.specs.Forms.{HasForm, judge_form, vectors_form, compile_form, bench_form, bench_file_form, bench_all_form}
 use Rattle.bist_app.specs.Sim.{IsSimShape, DecidesSim}
-use Rattle.bist_app.specs.Judge.{IsJudgeShape, DecidesJudge}
-use Rattle.bist_app.specs.Vectors.{IsVectorsShape, DecidesVectors}
-use Rattle.bist_app.specs.Compile.{IsCompileShape, DecidesCompile}
+use Rattle.bist_app.specs.Judge.{DecidesJudge}
+use Rattle.bist_app.specs.Vectors.{DecidesVectors}
+use Rattle.bist_app.specs.Compile.{DecidesCompile}
 use Rattle.bist_app.specs.Make.{IsMakeShape, LeavesMake}
-use Rattle.bist_app.specs.Bench.{Boxes, IsBenchShape, DecidesBench}
-use Rattle.bist_app.specs.BenchFile.{IsBenchFileShape, DecidesBenchFile}
+use Rattle.bist_app.specs.Bench.{Boxes, DecidesBench}
+use Rattle.bist_app.specs.BenchFile.{DecidesBenchFile}
 use Rattle.bist_app.specs.BenchFault.{IsFaultShape, DecidesFault}
-use Rattle.bist_app.specs.BenchAll.{IsBenchAllShape, DecidesBenchAll}
+use Rattle.bist_app.specs.BenchAll.{DecidesBenchAll}
 
 -- the words have the shape of this command
 abbrev pub HasShape : Words → Command → Type 0
 HasShape words (Command.Sim shape) = IsSimShape words shape
-HasShape words Command.Judge = IsJudgeShape words
-HasShape words Command.Vectors = IsVectorsShape words
-HasShape words Command.Compile = IsCompileShape words
-HasShape words Command.Bench = IsBenchShape words
-HasShape words Command.BenchFile = IsBenchFileShape words
+HasShape words Command.Judge = HasForm judge_form words
+HasShape words Command.Vectors = HasForm vectors_form words
+HasShape words Command.Compile = HasForm compile_form words
+HasShape words Command.Bench = HasForm bench_form words
+HasShape words Command.BenchFile = HasForm bench_file_form words
 HasShape words (Command.Make number) = IsMakeShape words number
 HasShape words (Command.BenchFault shape) = IsFaultShape words shape
-HasShape words Command.BenchAll = IsBenchAllShape words
+HasShape words Command.BenchAll = HasForm bench_all_form words
 
 -- the words have no shape
 abbrev pub HasNoShape : Words → Type 0

@@ -14,8 +14,9 @@ use Rattle.bist_endings.specs.declared.ending.Misfit.{Misfit}
 use Rattle.bist_app.specs.declared.sim.SimShape.{SimShape}
 use Rattle.bist_endings.specs.Ending.{Done}
 use Rattle.bist_endings.specs.Then.{Then}
-use Rattle.bist_endings.specs.Words.{Words, word, ArePlain, IsNumber}
+use Rattle.bist_endings.specs.Words.{Words, word, IsNumber}
 use Rattle.bist_inputs.specs.Inputs.{InputMarch, GivesPrim}
+use Rattle.bist_app.specs.Forms.{HasForm, sim_form}
 
 -- a digit 0 or 1
 abbrev pub IsBit : ℕ → Type 0
@@ -34,11 +35,9 @@ IsAggressorWord text size victim (Some cell) = IsNumber text cell × (cell < siz
 abbrev pub places_of : SimShape → Places
 places_of shape = record { agg = shape.aggressor; vic = shape.victim }
 
--- the words have the shape, and the numbers are what they say
+-- the words have the form, and the numbers are what they say
 pub record IsSimShape (words : Words) (shape : SimShape) : Type 0 where
-  pub count : length words ≡ 8
-  pub name : word words 0 ≡ codes "sim"
-  pub plain : ArePlain words
+  pub form : HasForm sim_form words
   pub size : IsNumber (word words 3) shape.size
   pub size_least : 2 ≤ shape.size
   pub size_most : shape.size ≤ 4096

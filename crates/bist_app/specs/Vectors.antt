@@ -1,5 +1,5 @@
 -- The command `vectors MARCH MEMORY OUT`: its shape, its checks in their order, and what it leaves.
-use Rattle.std.specs.Prelude.{◌≡◌, ◌≢◌, ◌<◌, ◌≤◌, ◌+◌, ◌/◌, ◌++◌, ℕ, Bool, true, false, List, [], ◌∷◌, length, Result, Ok, Err, Option, codes, decimal}
+use Rattle.std.specs.Prelude.{◌≡◌, ◌<◌, ◌≤◌, ◌+◌, ◌/◌, ◌++◌, ℕ, Bool, true, false, List, [], ◌∷◌, Result, Ok, Err, Option, codes, decimal}
 use Rattle.std.specs.List.{flat_map}
 use Rattle.bist_host.specs.Files.{Files}
 use Rattle.bist_text.specs.Numbers.{hex_digits}
@@ -10,18 +10,9 @@ use Rattle.word_march.specs.Commands.{port_ops, command_count, span}
 use Rattle.bist_endings.specs.declared.ending.Refusal.{Refusal}
 use Rattle.bist_endings.specs.Ending.{Done}
 use Rattle.bist_endings.specs.Then.{Then}
-use Rattle.bist_endings.specs.Words.{Words, word, ArePlain}
+use Rattle.bist_endings.specs.Words.{Words, word}
 use Rattle.bist_inputs.specs.Inputs.{InputMarch}
 use Rattle.bist_inputs.specs.Memories.{InputMemory}
-
--- the words have the shape; no two files have one name
-pub record IsVectorsShape (words : Words) : Type 0 where
-  pub count : length words ≡ 4
-  pub name : word words 0 ≡ codes "vectors"
-  pub plain : ArePlain words
-  pub march_not_memory : word words 1 ≢ word words 2
-  pub march_not_out : word words 1 ≢ word words 3
-  pub memory_not_out : word words 2 ≢ word words 3
 
 -- the cycles of a self-test: one for the reset, those of the run, those in which the last answer comes, and one in which
 -- its comparison shows

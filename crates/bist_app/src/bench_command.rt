@@ -1,35 +1,26 @@
 //! The command `bench`: the self-test of a march and a memory against the first box.
 
-ghost use Rattle.std.specs.Prelude.{◌≡◌, ◌≤◌, ◌<◌, ◌↔◌, [], IfOk, IfErr, IsTrue, length, map, vec_len};
+ghost use Rattle.std.specs.Prelude.{◌≡◌, ◌≤◌, ◌<◌, [], IfOk, IfErr, length, map, vec_len};
 ghost use Rattle.bist_host.specs.Files.{Rose};
 ghost use Rattle.word_device.specs.Boxes.{told};
 ghost use Rattle.bist_endings.specs.Ending.{plain, done_of};
 ghost use Rattle.bist_endings.specs.Conclude.{NamesWords};
 ghost use Rattle.bist_inputs.specs.Inputs.{HasReadCause, IsOwnRefusal};
+ghost use Rattle.bist_app.specs.Forms.{HasForm, bench_form};
 ghost use Rattle.bist_app.specs.Vectors.{IsShort};
-ghost use Rattle.bist_app.specs.Bench.{FirstHasRoom, IsBenchShape, LeavesBench, LeavesFirst, DecidesBench};
+ghost use Rattle.bist_app.specs.Bench.{FirstHasRoom, LeavesBench, LeavesFirst, DecidesBench};
 
 use crate::benching::bench_first;
 use crate::boxes::{fits_room, has_box};
 use crate::vectors::fit_length;
 use bist_bits::NoMemory;
-use bist_endings::{Plan, Refusal, are_plain};
+use bist_endings::{Plan, Refusal};
 use bist_host::Host;
 use bist_inputs::{read_march_input, read_memory_input};
 use march_core::March;
 use memory_desc::Memory;
 use std::alloc::Global;
 use word_device::{Device, unplanted_passes};
-
-/// Whether the words have the shape of `bench`.
-pub fn is_bench(words: &[&str]) -> bool
-    ensures { IsTrue result ↔ IsBenchShape words.now }
-{
-    let ["bench", march, memory] = *words else {
-        return false;
-    };
-    are_plain(words) && march != memory
-}
 
 /// The plan of the run, or want of memory.
 #[tactic(auto, using(crate::proofs::Benched::benched), unfolding(crate::specs::Bench::LeavesBench))]
@@ -62,7 +53,7 @@ pub fn decide_bench<H: Host>(
     host: &mut H,
     devices: &mut Vec<Box<dyn Device>>,
 ) -> Result<Plan, Refusal>
-    requires { IsBenchShape words.now }
+    requires { HasForm bench_form words.now }
     ensures files { H.files host.new ≡ H.files host.old }
     ensures said { H.said host.new ≡ H.said host.old }
     ensures writes { H.write_faults host.new ≡ H.write_faults host.old }

@@ -1,35 +1,26 @@
 //! The command `benchall`: the self-test of a march and a memory against each box.
 
-ghost use Rattle.std.specs.Prelude.{◌≡◌, ◌≤◌, ◌<◌, ◌↔◌, [], IfOk, IfErr, IsTrue, MatchOption, map};
+ghost use Rattle.std.specs.Prelude.{◌≡◌, ◌≤◌, ◌<◌, [], IfOk, IfErr, MatchOption, map};
 ghost use Rattle.bist_host.specs.Files.{Rose};
 ghost use Rattle.word_device.specs.Boxes.{told};
 ghost use Rattle.bist_endings.specs.Ending.{plain, done_of};
 ghost use Rattle.bist_endings.specs.Conclude.{NamesWords};
 ghost use Rattle.bist_inputs.specs.Inputs.{HasReadCause, IsOwnRefusal};
+ghost use Rattle.bist_app.specs.Forms.{HasForm, bench_all_form};
 ghost use Rattle.bist_app.specs.Vectors.{IsShort};
-ghost use Rattle.bist_app.specs.BenchAll.{IsBenchAllShape, HaveRoom, FirstSmall, FitsRooms, LeavesAll, DecidesBenchAll, LeavesNone};
+ghost use Rattle.bist_app.specs.BenchAll.{HaveRoom, FirstSmall, FitsRooms, LeavesAll, DecidesBenchAll, LeavesNone};
 
 use crate::benching_all::bench_all;
 use crate::boxes::{has_box, room_of_box};
 use crate::vectors::fit_length;
 use bist_bits::NoMemory;
-use bist_endings::{DeviceRefusal, Plan, Refusal, are_plain};
+use bist_endings::{DeviceRefusal, Plan, Refusal};
 use bist_host::Host;
 use bist_inputs::{read_march_input, read_memory_input};
 use march_core::March;
 use memory_desc::Memory;
 use std::alloc::Global;
 use word_device::Device;
-
-/// Whether the words have the shape of `benchall`.
-pub fn is_bench_all(words: &[&str]) -> bool
-    ensures { IsTrue result ↔ IsBenchAllShape words.now }
-{
-    let ["benchall", march, memory] = *words else {
-        return false;
-    };
-    are_plain(words) && march != memory
-}
 
 /// The room of the first box that has none for so many words, if there is one.
 fn small_room(devices: &[Box<dyn Device>], words: u32) -> Option<u32>
@@ -91,7 +82,7 @@ pub fn decide_bench_all<H: Host>(
     host: &mut H,
     devices: &mut Vec<Box<dyn Device>>,
 ) -> Result<Plan, Refusal>
-    requires { IsBenchAllShape words.now }
+    requires { HasForm bench_all_form words.now }
     ensures files { H.files host.new ≡ H.files host.old }
     ensures said { H.said host.new ≡ H.said host.old }
     ensures writes { H.write_faults host.new ≡ H.write_faults host.old }

@@ -15,11 +15,12 @@ ghost use Rattle.bist_app.specs.Bench.{FirstHasRoom, LeavesFirst};
 ghost use Rattle.bist_app.specs.BenchFault.{IsPlaceWord, IsAggressorPlace, IsFaultShape, IsWithin, IsApart, ArePlaces, FitsPlaces, place_in, aggressor_in, planted_of, LeavesFault, TestsFault, DecidesFault};
 
 use crate::boxes::{fits_room, has_box};
+use crate::forms::has_form;
 use crate::planting::{answers_wrong, bench_planted};
 use crate::sim::fit_aggressor;
 use crate::vectors::fit_length;
 use bist_bits::NoMemory;
-use bist_endings::{DeviceRefusal, Plan, Refusal, are_plain, number_of};
+use bist_endings::{DeviceRefusal, Plan, Refusal, number_of};
 use bist_host::Host;
 use bist_inputs::{give_prim, read_march_input, read_memory_input};
 use fault_core::Prim;
@@ -67,14 +68,11 @@ fn aggressor_place(text: &str) -> Option<Option<NamedPlace>>
 pub fn fault_shape(words: &[&str]) -> Option<FaultShape>
     ensures { MatchOption result ((shape : FaultShape) → IsFaultShape words.now shape → ⊥) (λ shape. IsFaultShape words.now shape) }
 {
-    let ["benchfault", march, memory, _, aggressor, victim] = *words else {
-        return None;
-    };
-    if !are_plain(words) || march == memory {
+    if !has_form(words, "benchfault", 6, 1, 3) {
         return None;
     }
-    let aggressor = aggressor_place(aggressor)?;
-    let victim = place_of(victim)?;
+    let aggressor = aggressor_place(words[4])?;
+    let victim = place_of(words[5])?;
     Some(FaultShape { aggressor, victim })
 }
 

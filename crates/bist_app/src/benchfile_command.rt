@@ -1,6 +1,6 @@
 //! The command `benchfile`: the module of a file against the first box.
 
-ghost use Rattle.std.specs.Prelude.{◌≡◌, ◌≤◌, ◌<◌, ◌↔◌, ◌∷◌, [], Some, None, IfOk, IfSome, IfErr, OnOk, OnErr, IsTrue, length, map, drop, vec_len};
+ghost use Rattle.std.specs.Prelude.{◌≡◌, ◌≤◌, ◌<◌, ◌∷◌, [], Some, None, IfOk, IfSome, IfErr, OnOk, OnErr, length, map, drop, vec_len};
 ghost use Rattle.bist_host.specs.Files.{Rose};
 ghost use Rattle.word_device.specs.Boxes.{told};
 ghost use Rattle.word_device.specs.Ports.{shape_of as memory_shape};
@@ -9,16 +9,17 @@ ghost use Rattle.bist_endings.specs.Ending.{plain, done_of};
 ghost use Rattle.bist_endings.specs.Conclude.{NamesWords};
 ghost use Rattle.bist_inputs.specs.Inputs.{HasReadCause, IsOwnRefusal};
 ghost use Rattle.self_test.specs.WrongPort.{wrong_port};
+ghost use Rattle.bist_app.specs.Forms.{HasForm, bench_file_form};
 ghost use Rattle.bist_app.specs.Vectors.{IsShort};
 ghost use Rattle.bist_app.specs.Bench.{FirstHasRoom, LeavesFirst, ready};
-ghost use Rattle.bist_app.specs.BenchFile.{IsBenchFileShape, HasPorts, IsFileRun, LeavesBenchFile, TestsFile, DecidesFileRun, DecidesBenchFile, zero_registers};
+ghost use Rattle.bist_app.specs.BenchFile.{HasPorts, IsFileRun, LeavesBenchFile, TestsFile, DecidesFileRun, DecidesBenchFile, zero_registers};
 
 use crate::benching::end_plan;
 use crate::boxes::{fits_room, has_box, take_first};
 use crate::vectors::fit_length;
 use bench::{BenchEnd, bench};
 use bist_bits::NoMemory;
-use bist_endings::{Plan, Refusal, VerilogRefusal, are_plain};
+use bist_endings::{Plan, Refusal, VerilogRefusal};
 use bist_host::Host;
 use bist_inputs::{read_design_input, read_march_input, read_memory_input};
 use march_core::March;
@@ -27,16 +28,6 @@ use self_test::wrong_port;
 use std::alloc::Global;
 use verilog_cycle::Design;
 use word_device::Device;
-
-/// Whether the words have the shape of `benchfile`.
-pub fn is_benchfile(words: &[&str]) -> bool
-    ensures { IsTrue result ↔ IsBenchFileShape words.now }
-{
-    let ["benchfile", module, march, memory] = *words else {
-        return false;
-    };
-    are_plain(words) && module != march && module != memory && march != memory
-}
 
 /// Refuses ports that aren't those of a self-test of the memory.
 #[tactic(auto, unfolding(crate::specs::BenchFile::HasPorts))]
@@ -164,7 +155,7 @@ fn decide_design<H: Host>(
     design: &mut Design,
     devices: &mut Vec<Box<dyn Device>>,
 ) -> Result<Plan, Refusal>
-    requires shape { IsBenchFileShape words.now }
+    requires shape { HasForm bench_file_form words.now }
     requires zero { design.old.registers ≡ zero_registers design.old.tree }
     ensures files { H.files host.new ≡ H.files host.old }
     ensures said { H.said host.new ≡ H.said host.old }
@@ -186,7 +177,7 @@ pub fn decide_benchfile<H: Host>(
     host: &mut H,
     devices: &mut Vec<Box<dyn Device>>,
 ) -> Result<Plan, Refusal>
-    requires { IsBenchFileShape words.now }
+    requires { HasForm bench_file_form words.now }
     ensures files { H.files host.new ≡ H.files host.old }
     ensures said { H.said host.new ≡ H.said host.old }
     ensures writes { H.write_faults host.new ≡ H.write_faults host.old }

@@ -1,15 +1,10 @@
 ghost use Rattle.std.specs.Prelude.{MatchOption};
 ghost use Rattle.bist_app.specs.Run.{HasShape, HasNoShape};
 
-use crate::bench_command::is_bench;
-use crate::benchall_command::is_bench_all;
 use crate::benchfault_command::{FaultShape, fault_shape};
-use crate::benchfile_command::is_benchfile;
-use crate::compile::is_compile;
-use crate::judge::is_judge;
+use crate::forms::has_form;
 use crate::make::make_number;
 use crate::sim::{SimShape, sim_shape};
-use crate::vectors::is_vectors;
 
 /// What the words ask for.
 #[derive(Clone, Copy)]
@@ -32,25 +27,25 @@ pub fn command_of(words: &[&str]) -> Option<Command>
     if let Some(shape) = sim_shape(words) {
         return Some(Command::Sim(shape));
     }
-    if is_judge(words) {
+    if has_form(words, "judge", 4, 1, 4) {
         return Some(Command::Judge);
     }
-    if is_vectors(words) {
+    if has_form(words, "vectors", 4, 1, 4) {
         return Some(Command::Vectors);
     }
-    if is_compile(words) {
+    if has_form(words, "compile", 6, 1, 6) {
         return Some(Command::Compile);
     }
-    if is_bench(words) {
+    if has_form(words, "bench", 3, 1, 3) {
         return Some(Command::Bench);
     }
     if let Some(shape) = fault_shape(words) {
         return Some(Command::BenchFault(shape));
     }
-    if is_benchfile(words) {
+    if has_form(words, "benchfile", 4, 1, 4) {
         return Some(Command::BenchFile);
     }
-    if is_bench_all(words) {
+    if has_form(words, "benchall", 3, 1, 3) {
         return Some(Command::BenchAll);
     }
     if let Some(number) = make_number(words) {

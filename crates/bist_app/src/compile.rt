@@ -1,17 +1,18 @@
 //! The command `compile`: a self-test module for a march and a memory, and the report of what the march detects.
 
-ghost use Rattle.std.specs.Prelude.{◌≡◌, ◌≤◌, ◌↔◌, ◌∷◌, [], IfOk, IfErr, IsTrue, map, true};
+ghost use Rattle.std.specs.Prelude.{◌≡◌, ◌≤◌, ◌∷◌, [], IfOk, IfErr, map, true};
 ghost use Rattle.bist_host.specs.Files.{Rose};
 ghost use Rattle.verilog_tree.specs.Plain.{plain_module};
 ghost use Rattle.self_test.specs.SelfTest.{SelfTest};
 ghost use Rattle.bist_endings.specs.Ending.{plain, done_of, written_of};
 ghost use Rattle.bist_endings.specs.Conclude.{NamesWords};
 ghost use Rattle.bist_inputs.specs.Inputs.{HasReadCause, IsOwnRefusal};
-ghost use Rattle.bist_app.specs.Compile.{IsCompileShape, IsSelfTestText, IsCompiled, LeavesCompile, DecidesCompile};
+ghost use Rattle.bist_app.specs.Forms.{HasForm, compile_form};
+ghost use Rattle.bist_app.specs.Compile.{IsSelfTestText, IsCompiled, LeavesCompile, DecidesCompile};
 
 use crate::reporting::report_list;
 use bist_bits::NoMemory;
-use bist_endings::{Output, Plan, Refusal, are_plain};
+use bist_endings::{Output, Plan, Refusal};
 use bist_host::Host;
 use bist_inputs::{read_list_input, read_march_input, read_memory_input};
 use dynamic_core::Item;
@@ -26,26 +27,6 @@ const VERILOG: usize = 4;
 
 /// The word that names the report's file.
 const REPORT: usize = 5;
-
-/// Whether the words have the shape of `compile`.
-pub fn is_compile(words: &[&str]) -> bool
-    ensures { IsTrue result ↔ IsCompileShape words.now }
-{
-    let ["compile", march, memory, list, verilog, report] = *words else {
-        return false;
-    };
-    are_plain(words)
-        && march != memory
-        && march != list
-        && march != verilog
-        && march != report
-        && memory != list
-        && memory != verilog
-        && memory != report
-        && list != verilog
-        && list != report
-        && verilog != report
-}
 
 /// The text of the self-test module.
 pub fn module_text(alloc: Global, march: &March, memory: &Memory) -> Result<Vec<u8>, NoMemory>
@@ -106,7 +87,7 @@ fn plan_compile(
 /// Compiles a self-test and judges the items of a list.
 #[tactic(auto, using(crate::proofs::Causes::own_cause))]
 pub fn decide_compile<H: Host>(alloc: Global, words: &[&str], host: &mut H) -> Result<Plan, Refusal>
-    requires { IsCompileShape words.now }
+    requires { HasForm compile_form words.now }
     ensures files { H.files host.new ≡ H.files host.old }
     ensures said { H.said host.new ≡ H.said host.old }
     ensures writes { H.write_faults host.new ≡ H.write_faults host.old }

@@ -1,13 +1,14 @@
-ghost use Rattle.std.specs.Prelude.{◌≡◌, ◌≤◌, ◌↔◌, ◌∷◌, [], IfOk, IfErr, IsTrue, map};
+ghost use Rattle.std.specs.Prelude.{◌≡◌, ◌≤◌, ◌∷◌, [], IfOk, IfErr, map};
 ghost use Rattle.bist_host.specs.Files.{Rose};
 ghost use Rattle.bist_endings.specs.Ending.{plain, done_of, written_of};
 ghost use Rattle.bist_inputs.specs.Inputs.{HasReadCause, IsOwnRefusal};
 ghost use Rattle.bist_endings.specs.Conclude.{NamesWords};
-ghost use Rattle.bist_app.specs.Judge.{IsJudgeShape, IsJudged, LeavesJudge, DecidesJudge};
+ghost use Rattle.bist_app.specs.Forms.{HasForm, judge_form};
+ghost use Rattle.bist_app.specs.Judge.{IsJudged, LeavesJudge, DecidesJudge};
 
 use crate::reporting::report_list;
 use bist_bits::NoMemory;
-use bist_endings::{Output, Plan, Refusal, are_plain};
+use bist_endings::{Output, Plan, Refusal};
 use bist_host::Host;
 use bist_inputs::{read_list_input, read_march_input};
 use dynamic_core::Item;
@@ -16,16 +17,6 @@ use std::alloc::Global;
 
 /// The word that names the report's file.
 const REPORT: usize = 3;
-
-/// Whether the words have the shape of `judge`.
-pub fn is_judge(words: &[&str]) -> bool
-    ensures { IsTrue result ↔ IsJudgeShape words.now }
-{
-    let ["judge", march, list, report] = *words else {
-        return false;
-    };
-    are_plain(words) && march != list && march != report && list != report
-}
 
 /// The file of the report.
 fn report_output(alloc: Global, bytes: Vec<u8>) -> Result<Vec<Output>, NoMemory>
@@ -71,7 +62,7 @@ fn plan_judge(alloc: Global, march: &March, items: &[Item]) -> Result<Plan, Refu
 /// Judges the items of a list.
 #[tactic(auto, using(crate::proofs::Causes::own_cause))]
 pub fn decide_judge<H: Host>(alloc: Global, words: &[&str], host: &mut H) -> Result<Plan, Refusal>
-    requires { IsJudgeShape words.now }
+    requires { HasForm judge_form words.now }
     ensures files { H.files host.new ≡ H.files host.old }
     ensures said { H.said host.new ≡ H.said host.old }
     ensures writes { H.write_faults host.new ≡ H.write_faults host.old }

@@ -11,6 +11,7 @@ mod boxes;
 mod commands;
 mod compile;
 mod directions;
+mod forms;
 mod judge;
 mod make;
 mod planting;

@@ -1,6 +1,6 @@
 //! The command `make`: large inputs that a number makes, compiled, and a summary.
 
-ghost use Rattle.std.specs.Prelude.{◌≡◌, ◌≤◌, ◌↔◌, ◌++◌, ◌∷◌, [], ℕ, Ok, IfOk, IfErr, OnOk, IsTrue, MatchOption, map, length, decimal};
+ghost use Rattle.std.specs.Prelude.{◌≡◌, ◌≤◌, ◌++◌, ◌∷◌, [], ℕ, Ok, IfOk, IfErr, OnOk, MatchOption, map, length, decimal};
 ghost use Rattle.march_core.specs.March.{all_ops};
 ghost use Rattle.word_march.specs.Commands.{command_count};
 ghost use Rattle.memory_desc.specs.Descriptions.{IsMemory};
@@ -10,12 +10,13 @@ ghost use Rattle.dynamic_core.specs.Items.{ReadsItems};
 ghost use Rattle.bist_endings.specs.Ending.{plain, done_of, written_of};
 ghost use Rattle.bist_endings.specs.Conclude.{NamesWords};
 ghost use Rattle.bist_inputs.specs.Inputs.{IsOwnRefusal};
-ghost use Rattle.bist_app.specs.Make.{HasMakeWords, IsMakeShape, made_outputs, sizes_text, covered_text, made_line, IsMadeOf, IsMade, LeavesMake};
+ghost use Rattle.bist_app.specs.Make.{IsMakeShape, made_outputs, sizes_text, covered_text, made_line, IsMadeOf, IsMade, LeavesMake};
 
 use crate::compile::module_text;
+use crate::forms::has_form;
 use crate::reporting::report_list;
 use bist_bits::NoMemory;
-use bist_endings::{Output, Plan, Refusal, are_plain, number_of};
+use bist_endings::{Output, Plan, Refusal, number_of};
 use bist_text::{put, put_decimal};
 use dynamic_core::Item;
 use made_inputs::{items_of_list, list_text, march_of, march_text, memory_of};
@@ -26,31 +27,11 @@ use std::alloc::Global;
 /// The greatest number: a memory has at most 65,536 words, which is two more.
 const MOST: usize = 65_534;
 
-/// Whether the words have the shape of `make`, but for the number.
-fn has_make_words(words: &[&str]) -> bool
-    ensures { IsTrue result ↔ HasMakeWords words.now }
-{
-    let ["make", _, march, memory, list, verilog, report] = *words else {
-        return false;
-    };
-    are_plain(words)
-        && march != memory
-        && march != list
-        && march != verilog
-        && march != report
-        && memory != list
-        && memory != verilog
-        && memory != report
-        && list != verilog
-        && list != report
-        && verilog != report
-}
-
 /// The number, where the words have the shape of `make`.
 pub fn make_number(words: &[&str]) -> Option<u16>
     ensures { MatchOption result ((number : ℕ) → IsMakeShape words.now number → ⊥) (λ number. IsMakeShape words.now number) }
 {
-    if !has_make_words(words) {
+    if !has_form(words, "make", 7, 2, 7) {
         return None;
     }
     let number = number_of(words[1])?;

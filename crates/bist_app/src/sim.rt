@@ -11,8 +11,9 @@ ghost use Rattle.bist_endings.specs.Words.{word};
 ghost use Rattle.bist_app.specs.Sim.{IsBit, IsLetter, IsAggressorWord, IsSimShape, FitsAggressor, places_of, content_of, directions_of_letters, FirstDiffers, caught_line, sim_line, LeavesSim, DecidesSim};
 
 use crate::directions::{direction_word, fit_directions};
+use crate::forms::has_form;
 use array_sim::{Instance, simulate};
-use bist_endings::{Misfit, Plan, Refusal, are_plain, number_of, push_number};
+use bist_endings::{Misfit, Plan, Refusal, number_of, push_number};
 use bist_host::Host;
 use bist_inputs::{give_prim, read_march_input};
 use fault_core::{Places, Prim};
@@ -31,16 +32,18 @@ pub struct SimShape {
 pub fn sim_shape(words: &[&str]) -> Option<SimShape>
     ensures { MatchOption result ((shape : SimShape) → IsSimShape words.now shape → ⊥) (λ shape. IsSimShape words.now shape) }
 {
-    let ["sim", _, _, size, content, aggressor, victim, letters] = *words else {
+    if !has_form(words, "sim", 8, 1, 2) {
         return None;
-    };
-    let size = number_of(size)?;
-    let victim = number_of(victim)?;
-    let aggressor = aggressor_of(aggressor, size, victim)?;
+    }
+    let content = words[4];
+    let letters = words[7];
+    let size = number_of(words[3])?;
+    let victim = number_of(words[6])?;
+    let aggressor = aggressor_of(words[5], size, victim)?;
     if size < 2 || size > 4096 || victim >= size || content.len() != size || letters.len() > 64 {
         return None;
     }
-    if !are_plain(words) || !are_bits(content.as_bytes()) || !are_letters(letters.as_bytes()) {
+    if letters.is_empty() || !are_bits(content.as_bytes()) || !are_letters(letters.as_bytes()) {
         return None;
     }
     Some(SimShape {

@@ -1,15 +1,16 @@
 //! The command `vectors`: the commands at a memory's port, a line each.
 
-ghost use Rattle.std.specs.Prelude.{◌≡◌, ◌≤◌, ◌<◌, ◌^◌, ◌↔◌, ◌++◌, ◌∷◌, [], length, map, IfOk, IfErr, OnOk, IsTrue};
+ghost use Rattle.std.specs.Prelude.{◌≡◌, ◌≤◌, ◌<◌, ◌^◌, ◌++◌, ◌∷◌, [], length, map, IfOk, IfErr, OnOk};
 ghost use Rattle.bist_host.specs.Files.{Rose};
 ghost use Rattle.word_march.specs.Commands.{port_ops, command_count};
 ghost use Rattle.bist_endings.specs.Ending.{plain, done_of, written_of};
 ghost use Rattle.bist_inputs.specs.Inputs.{HasReadCause, IsOwnRefusal};
 ghost use Rattle.bist_endings.specs.Conclude.{NamesWords};
-ghost use Rattle.bist_app.specs.Vectors.{IsVectorsShape, IsShort, FitsLength, kind_text, command_line, command_lines, vectors_line, vectors_done, LeavesVectors, DecidesVectors};
+ghost use Rattle.bist_app.specs.Forms.{HasForm, vectors_form};
+ghost use Rattle.bist_app.specs.Vectors.{IsShort, FitsLength, kind_text, command_line, command_lines, vectors_line, vectors_done, LeavesVectors, DecidesVectors};
 
 use bist_bits::NoMemory;
-use bist_endings::{Output, Plan, Refusal, are_plain, numbered};
+use bist_endings::{Output, Plan, Refusal, numbered};
 use bist_host::Host;
 use bist_inputs::{read_march_input, read_memory_input};
 use bist_text::{put, put_decimal, put_hex};
@@ -23,16 +24,6 @@ const OUT: usize = 3;
 
 /// A self-test takes at most this many cycles.
 const CYCLE_LIMIT: u64 = 2_000_000;
-
-/// Whether the words have the shape of `vectors`.
-pub fn is_vectors(words: &[&str]) -> bool
-    ensures { IsTrue result ↔ IsVectorsShape words.now }
-{
-    let ["vectors", march, memory, out] = *words else {
-        return false;
-    };
-    are_plain(words) && march != memory && march != out && memory != out
-}
 
 /// Refuses a test that takes too many cycles.
 #[tactic(auto, unfolding(crate::specs::Vectors::FitsLength))]
@@ -138,7 +129,7 @@ fn plan_vectors(alloc: Global, march: &March, memory: &Memory) -> Result<Plan, R
 /// Lists the commands of a march on a memory.
 #[tactic(auto, using(crate::proofs::Causes::own_cause))]
 pub fn decide_vectors<H: Host>(alloc: Global, words: &[&str], host: &mut H) -> Result<Plan, Refusal>
-    requires { IsVectorsShape words.now }
+    requires { HasForm vectors_form words.now }
     ensures files { H.files host.new ≡ H.files host.old }
     ensures said { H.said host.new ≡ H.said host.old }
     ensures writes { H.write_faults host.new ≡ H.write_faults host.old }

@@ -195,7 +195,9 @@ fn write_beside<R: Files + AllocGlobal + Clock>(
 }
 
 /// Gives a new file its permissions, where some are kept, and then its bytes.
-fn fill_new<F: Write + OpenFile>(file: &mut F, kept: Option<Permissions>, bytes: &[u8]) -> bool {
+fn fill_new<F: Write + OpenFile>(file: &mut F, kept: Option<Permissions>, bytes: &[u8]) -> bool
+    ensures { IsTrue result → Appends (F.contents file.old) (F.contents file.new) bytes.now }
+{
     if let Some(permissions) = kept {
         if file.set_permissions(permissions).is_err() {
             return false;
@@ -204,7 +206,7 @@ fn fill_new<F: Write + OpenFile>(file: &mut F, kept: Option<Permissions>, bytes:
     write_whole(file, bytes)
 }
 
-/// A name in the folder of this one that no word of the call is, since it is made from the time.
+/// A name in the folder of this one, made from the time, so that it can hardly be a word of the call.
 fn name_beside<R: AllocGlobal + Clock>(rt: &R, name: &str) -> Result<String, HostFault>
     ensures { IfErr result IsWriteFault }
 {

@@ -30,7 +30,7 @@ all_words texts (n ∷ ns) = words_for n (texts n) ++ all_words texts ns
 abbrev pub stands : {N : Type 0} → List (Word N) → N → (List ℕ → Type 0) → List ℕ → Type 0
 stands {N} ws v K b = (i : ℕ) × (w : Word N) × (slice_get ws i ≡ Some w) × (v ≡ w.value) × word w.text K b
 
--- ---- what a reader does
+-- ---- for proofs, and contracts between these crates: what a reader does, letter by letter
 
 -- the first letters of a word, where there are more of it
 abbrev pub front_of : {N : Type 0} → Option (Word N) → ℕ → List ℕ

@@ -1,4 +1,4 @@
--- What may still follow where a reader of a line stands, in the pieces of the grammar.
+-- For proofs and private contracts alone: what may still follow where a reader of a line stands, in the pieces of the grammar.
 use Rattle.std.specs.Prelude.{◌≡◌, ℕ, ◌+◌, ◌-◌, ◌≤◌, Bool, true, Option, Some, None, List, [], ◌∷◌, ◌++◌, ◌⊎◌, length, codes}
 use Rattle.std.specs.List.{list_all}
 use Rattle.bist_text.specs.Grammar.{word}

@@ -1,4 +1,4 @@
--- What the code's operators that wait are.
+-- For proofs and private contracts alone: what the code's operators that wait are.
 use Rattle.std.specs.Prelude.{List, [], ◌∷◌}
 use Rattle.verilog_tree.specs.Plain.{plain}
 use Rattle.verilog_tree.specs.declared.tree.Expr.{Expr}

@@ -12,8 +12,8 @@ use Rattle.verilog_tree.specs.declared.tokens.Within.TheVariants.{Between, Slash
 use Rattle.verilog_tree.specs.Words.{is_digit, begins_identifier, in_identifier, radix, base_of, is_digit_of, digit_value}
 
 -- A token. A number is told by whether it has more than one digit, and its value. A literal is the constant
--- that its size and digits write. A queried one is a literal of base b, o or h with a ? directly behind it,
--- which the standard reads as a z digit; so is each of the marks ~& ~| ~^ ^~ and &&&: no rule uses them.
+-- that its size and digits write. An unused one is a literal of base b, o or h with a ? directly behind it,
+-- which the standard reads as a z digit, or one of the marks ~& ~| ~^ ^~ and &&&: no rule uses it.
 pub data Token : Type 0 where
   Identifier : List ℕ → Token
   Number : Bool → ℕ → Token
@@ -62,7 +62,7 @@ takes_question Hexadecimal = true
 abbrev pub is_query : Base → ℕ → Bool
 is_query base c = takes_question base && (c == 63)
 
--- behind the digits: of a literal no ? that is a digit, and of a queried one such a ?
+-- behind the digits: of a literal no ? that is a digit, and of an unused one such a ?
 abbrev pub behind_digits : Token → (List ℕ → Type 0) → ℕ → Base → ℕ → List ℕ → Type 0
 behind_digits (Based x) K size base v b = ((record { width = size; value = v }) ≡ x) × stops (is_query base) K b
 behind_digits Unused K size base v [] = ⊥
