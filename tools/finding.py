@@ -211,6 +211,9 @@ class Trier:
                 for token in tokens
                 if self.fits(folder, before + token.encode() + (b" " if is_letter(token[-1:].encode()) else b""))
             ]
+        # a background is a word of hexadecimal digits, of which a0 and 1 are two
+        if kind == "memory" and {"a0", "1"} <= set(found):
+            found = [token for token in found if token not in ("a0", "1")] + ["a hexadecimal word"]
         # where any name may stand, the words that may name something are not told
         return ["x"] if kind == "memory" and "x" in found else found, whole
 
