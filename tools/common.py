@@ -128,6 +128,11 @@ def number(text: str, what: str, least: int = 0) -> int:
     return int(text)
 
 
+def ranged(width: int) -> str:
+    """The range of a name of so many bits, in Verilog."""
+    return f"[{width - 1}:0] " if width > 1 else ""
+
+
 # ---- the program
 
 FORMATS = ROOT / "docs" / "FORMATS.md"

@@ -141,8 +141,8 @@ def rule(elements: list[common.Element], memory: common.Memory) -> str:
     return RULE.format(
         name=memory.name,
         march=";".join(element.text for element in elements),
-        word=f"[{memory.bits - 1}:0] " if memory.bits > 1 else "",
-        index=f"[{memory.width - 1}:0] " if memory.width > 1 else "",
+        word=common.ranged(memory.bits),
+        index=common.ranged(memory.width),
         latency=memory.latency,
         bits=memory.bits,
         polarity=memory.polarity,
