@@ -99,7 +99,8 @@ def wrong_cell(name: str, word: str, named: dict, size: int | None) -> str | Non
         return (
             None
             if re.fullmatch(rf"{number}\.{number}", word)
-            else f"{name} is a cell as two numbers with a full stop between, its word's index and its bit, as 6.3, and not '{word}'"
+            else f"{name} is a cell as two numbers with a full stop between, its word's index and its bit, as 6.3, "
+            f"and not '{word}'"
         )
     if not re.fullmatch(number, word):
         return f"{name} is the number of a cell{' or none' if name == 'AGG' else ''}, and not '{word}'"
@@ -183,10 +184,8 @@ def file_of(words: list[str], said: str) -> list[str]:
     if what == "absent":
         return absent(word)
     if what == "too large":
-        size = os.path.getsize(word) if os.path.isfile(word) else 0
-        return [
-            f"{word}: error: the file has {thousands(size) if size else 'more'} bytes{'' if size else ' than may be'}, and an input at most 1,048,576"
-        ]
+        size = f"{os.path.getsize(word):,} bytes" if os.path.isfile(word) else "more bytes than may be"
+        return [f"{word}: error: the file has {size}, and an input at most 1,048,576"]
     mode, verb = ("r", "read") if what == "read failed" else ("w", "written")
     return [f"{word}: error: the file could not be {verb}: {why_not(word, mode)}"]
 
@@ -216,7 +215,8 @@ def device(words: list[str], said: str) -> list[str]:
         word, bit = common.place_of(named[name])
         if word >= memory.words:
             return [
-                f"{name}: error: {named[name]} is outside {memory.name}: its words are 0 to {thousands(memory.words - 1)}, by physical index"
+                f"{name}: error: {named[name]} is outside {memory.name}: "
+                f"its words are 0 to {thousands(memory.words - 1)}, by physical index"
             ]
         if bit >= memory.bits:
             return [f"{name}: error: {named[name]} is outside {memory.name}: the bits of its words are 0 to {memory.bits - 1}"]
@@ -227,9 +227,8 @@ def misfit(words: list[str], said: str) -> list[str]:
     named = words_by_name(words)
     if said == "misfit aggressor":
         two = common.read_primitive(named["PRIM"]).aggressor is not None
-        return [
-            f"AGG: error: {named['PRIM']} has {'two cells' if two else 'one cell'}, so AGG is {'the cell of its aggressor' if two else 'none'}, and not '{named['AGG']}'"
-        ]
+        cells, wanted = ("two cells", "the cell of its aggressor") if two else ("one cell", "none")
+        return [f"AGG: error: {named['PRIM']} has {cells}, so AGG is {wanted}, and not '{named['AGG']}'"]
     elements = common.elements_of(common.read_text(named["MARCH"]))
     directions = named["DIRS"]
     lines = [f"DIRS: error: '{directions}' has {len(directions)} letters, and {named['MARCH']} has {len(elements)} elements"]
