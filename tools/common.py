@@ -165,8 +165,14 @@ def form_of(name: str) -> list[str]:
 
 
 def written(name: str) -> list[int]:
-    """The places of the words that a command writes."""
-    return {"judge": [3], "vectors": [3], "compile": [4, 5], "make": [2, 3, 4, 5, 6]}.get(name, [])
+    """The places of the words that a command writes, as FORMATS tells it; `make` writes all but its number."""
+    command = next((command for command in commands() if command.name == name), None)
+    if command is None:
+        return []
+    if name == "make":
+        return list(range(2, len(command.form)))
+    told = [word in ("REPORT", "OUT") or f"to the file {word}" in command.does for word in command.form]
+    return [place for place, is_told in enumerate(told) if is_told]
 
 
 def version() -> tuple[str, str, str]:
