@@ -3,6 +3,7 @@ from __future__ import annotations
 
 import dataclasses
 import re
+import sys
 
 import common
 from diagnose_texts import early, unexpected
@@ -57,6 +58,8 @@ class Module:
         self.names: dict[str, Name] = {}
         self.ports: dict[str, Name] = {}
         self.events: list[Event] = []
+        # an expression takes a dozen calls for each of its 64 openings at most
+        sys.setrecursionlimit(max(sys.getrecursionlimit(), 20000))
         self.module()
 
     # the tokens

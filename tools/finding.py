@@ -8,6 +8,7 @@ import pathlib
 import re
 import subprocess
 import tempfile
+import time
 
 import common
 
@@ -141,6 +142,10 @@ SHOWN = {
 }
 
 
+# the seconds that are tried: of a very long text what could stand somewhere is not told
+PATIENCE = 2.0
+
+
 class Trier:
     """Asks a program of texts; without a program that answers at once nothing is found."""
 
@@ -194,6 +199,7 @@ class Trier:
         whether the word in front of the byte is whole."""
         if self.program is None:
             return [], False
+        begun = time.monotonic()
         begin = max(text.rfind(b"\n", 0, at), text.rfind(b">", 0, at))
         in_primitive = self.is_word or self.kind == "list" and text.rfind(b"<", 0, at) > begin
         kind = "primitive" if in_primitive else self.kind
@@ -206,11 +212,12 @@ class Trier:
                 before = text[:at] + b" " if whole else text[: word_start(text, at)]
             # a second line of the version is of the grammar, and refused later
             tokens = [token for token in TOKENS[kind] if token != "memory 1" or not before.strip()]
-            found = [
-                token
-                for token in tokens
-                if self.fits(folder, before + token.encode() + (b" " if is_letter(token[-1:].encode()) else b""))
-            ]
+            found = []
+            for token in tokens:
+                if time.monotonic() > begun + PATIENCE:
+                    return [], whole
+                if self.fits(folder, before + token.encode() + (b" " if is_letter(token[-1:].encode()) else b"")):
+                    found.append(token)
         # a background is a word of hexadecimal digits, of which a0 and 1 are two
         if kind == "memory" and {"a0", "1"} <= set(found):
             found = [token for token in found if token not in ("a0", "1")] + ["a hexadecimal word"]
