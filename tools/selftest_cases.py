@@ -391,6 +391,7 @@ CALLS = [
     ("yosys", ["tools/formal", "c.m"], 2, "", "formal: three files, or none"),
     ("yosys", ["tools/formal", "no.v", "c.m", "s.mem"], 1, "", "formal: yosys fails"),
     ("yosys", ["tools/formal", "--random", "x"], 2, "", "formal: --random is a number"),
+    ("yosys", ["tools/formal", "c.m", "--resets"], 2, "", "formal: three files, or none"),
     ("", ["tools/manual"], 0, ".TH VIDLAKOST 1", ""),
     ("", ["tools/manual", "--completion"], 0, "complete -o filenames -F _vidlakost vidlakost", ""),
     ("", ["tools/manual", "x"], 2, "", "manual: too many words"),
