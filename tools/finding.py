@@ -8,7 +8,6 @@ import pathlib
 import re
 import subprocess
 import tempfile
-import time
 
 import common
 
@@ -142,8 +141,9 @@ SHOWN = {
 }
 
 
-# the seconds that are tried: of a very long text what could stand somewhere is not told
-PATIENCE = 2.0
+# the longest text that is tried, in bytes: of a longer one what could stand somewhere is not told. Not a time: what is told
+# of a text is then the same on every machine, however busy it is.
+LONGEST = 65536
 
 
 class Trier:
@@ -197,9 +197,8 @@ class Trier:
     def fitting(self, text: bytes, at: int) -> tuple[list[str], bool]:
         """The tokens with which the text goes on at a byte, or at the beginning of the word in which it stands, and
         whether the word in front of the byte is whole."""
-        if self.program is None:
+        if self.program is None or len(text) > LONGEST:
             return [], False
-        begun = time.monotonic()
         begin = max(text.rfind(b"\n", 0, at), text.rfind(b">", 0, at))
         in_primitive = self.is_word or self.kind == "list" and text.rfind(b"<", 0, at) > begin
         kind = "primitive" if in_primitive else self.kind
@@ -212,12 +211,11 @@ class Trier:
                 before = text[:at] + b" " if whole else text[: word_start(text, at)]
             # a second line of the version is of the grammar, and refused later
             tokens = [token for token in TOKENS[kind] if token != "memory 1" or not before.strip()]
-            found = []
-            for token in tokens:
-                if time.monotonic() > begun + PATIENCE:
-                    return [], whole
-                if self.fits(folder, before + token.encode() + (b" " if is_letter(token[-1:].encode()) else b"")):
-                    found.append(token)
+            found = [
+                token
+                for token in tokens
+                if self.fits(folder, before + token.encode() + (b" " if is_letter(token[-1:].encode()) else b""))
+            ]
         # a background is a word of hexadecimal digits, of which a0 and 1 are two
         if kind == "memory" and {"a0", "1"} <= set(found):
             found = [token for token in found if token not in ("a0", "1")] + ["a hexadecimal word"]
