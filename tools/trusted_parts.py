@@ -43,6 +43,30 @@ PARTS = (
 What a march does to cells, what a fault is and when a march detects it, for static faults and for those of two operations;
 what a march is on the words of a memory, and which commands it gives at the port; what a module of the Verilog subset means in
 a cycle and from cycle to cycle; the rule of the ports; what a self-test is; and last the headline, which puts them together.
+
+- **Marches.** An element is a pause, or an order and operations. A direction stands for each element, as its order allows; the
+  visits are one list of steps: for each element in order a pause, or for each address in the element's direction each of its
+  operations. A march is within its limits, and each read expects what was written last before it.
+- **Faults.** A primitive says what the aggressor holds and does, if there is one, what the victim holds and what is done to it,
+  the victim's state afterwards, and the answer of a read. A step is the plain part of an operation, then the victim's state and
+  the answer where the operation is the primitive's own and its states hold, then *closing*: a primitive without an act sets its
+  victim where its states hold. A dynamic primitive has two operations; behind the first one, done where every state held, the
+  victim is *armed*, and nothing else leaves it so.
+- **Detection.** In an array, at a place, from a content, in these directions: the read of some visit differs from what the march
+  expects. Detected at n cells: so at every place, from every content, in every choice of directions. Detected: at every n from
+  two on.
+- **Words.** The march runs in each background, one after another; an operation acts on the word whose index it visits, at the
+  logical address of the index, with the background's word of its data value. `command_at` is the cycle of a command behind the
+  first, with the pauses before it, and `PortRule` says what stands at the ports in each cycle, whatever words return.
+- **Width and value** (`Meaning.antt`: `width`, `value`): by cases on the expression, as in the table of operators: sums and
+  differences modulo two to the width, shifts that bring in zeros and give 0 from the width on, comparisons and logical
+  operators of one bit, a concatenation with its first part highest. All values are unsigned.
+- **Settles** (`Settles module regs ins e`): `e` gives each name a number within its bits (the clock and names that aren't
+  declared have none, so they get 0); each input but the clock has its value in `ins`, each register its value in `regs`; each
+  assigned name has, in this same `e`, the value of its expression. These are simultaneous equations; no order is given.
+- **Next registers** (`next`): the taken statements of all blocks give a list of pairs, register and value, in the order of
+  the text, every condition and value taken in `e`; a register gets the value of its last pair, or keeps its own.
+- **History**: one environment a cycle; each settles with the registers that the cycle before leaves.
 """,
         (
             "march_core/declared.operation",
@@ -61,15 +85,9 @@ a cycle and from cycle to cycle; the rule of the ports; what a self-test is; and
             "dynamic_core/Dynamic",
             "dynamic_core/Differing",
             "dynamic_core/Detecting",
-            "scrambler/*",
-            "backgrounds/*",
-            "memory_desc/Descriptions",
             "word_march/*",
-            "bist_bits/*",
             "verilog_tree/declared.tree",
             "verilog_tree/Plain",
-            "verilog_tree/declared.names",
-            "verilog_tree/Names",
             "verilog_tree/Meaning",
             "self_test/Ports",
             "self_test/SelfTest",
@@ -81,8 +99,53 @@ a cycle and from cycle to cycle; the rule of the ports; what a self-test is; and
         """
 The rules that a module keeps, when its wires form a loop and when one environment settles a cycle; and which bytes spell
 which module: letters and tokens, the grammar in full parentheses and by precedence, and the limits of the reader.
+
+- **Names** (`Names.antt`): the declarations of a module are its ports, then its `wire` and `reg` items, in order; `lookup`
+  finds the first of a name. Its kind is input, wire (also a plain output) or register (also `output reg`).
+- A *mention* is a place where a name stands in an item: as its clock, as a target, or in an expression, whole or selected.
+  `mentions item` lists them in the order of the text.
+- `first_break module` is the first of: a port named twice (N2), a port `clk` that isn't an input of one bit (N10), the first
+  break of the items in order, the first wire or plain output that no `assign` names (N9). `item_break` is the first of N1 (a
+  mention of a name not declared before), N2, N6, N3, N5, N4, N10, each at its first place. N3 (`item_widths`) tries the parts
+  of an expression from left to right, then the expression; the expression of an assignment, then its target; the subject of a
+  `case`, then arm by arm the labels and the body.
+- `Refuses break result`: Ok exactly where there is no break, else the fault that tells it. Want of memory tells nothing.
+- **Loops** (`Wires.antt`): `Leads items n m`: `n` is assigned an expression that uses `m`. `IsLoop module names`: each name
+  leads to the next, and the last to the first. `Falls rank items`: a number for each name that falls along `Leads`.
+- **Formed** (`Formed.antt`): widths from 1 to 64, places at most 63, a module has a port, a concatenation a part, a `case` an
+  arm, an arm a label, and each literal's value is within its width (which `Bits` sees to). **Fits** (`Fits.antt`): formed,
+  the names legal, and the emitted text nests at most 64 deep.
+- **Words** (`Words.antt`): a simple identifier begins with a letter or `_` and goes on with letters, digits, `_`, `$`; a name
+  is one that isn't among the 124 reserved words (`bist_text/specs/ReservedWords`) and has at most 64 bytes.
+- **Tokens** (`Tokens.antt`): an identifier with its bytes; a number, by whether it has more than one digit, and its value; a
+  literal, as the constant that its size and digits write (`Based`); a literal of base b, o or h with a `?` directly behind it
+  (`Unused`, which no rule uses); a mark. The marks `~&`, `~|`, `~^`, `^~` and `&&&` of the standard are `Unused` too. A byte
+  begins a word, a number, a mark or no token (`start_of`), and a token takes as many bytes as there are (`run`, `decimal`,
+  `digits`, `behind_mark`), so that it is the longest at its place. `Lexed tokens bytes`: the bytes are these tokens in order,
+  with white space before, between and behind them. White space (`gap`) is spaces, tabs, line feeds, form feeds and carriage
+  returns, `//` to the line's end or the file's, and `/*` to the next `*/`.
+- **Grammar** (`Grammar.antt`): a derivation is a datum with one constructor for each alternative of the grammar (braces, `if`
+  with and without `else`, blocks, a default with or without its colon, a declaration of several names). `file style limit
+  derivation tokens` says that the tokens are those of the derivation; each rule stands as a line of the grammar above its
+  clause. An `else` demands that the statement before it does not end in an `if` without `else` (`ends_in_if`): so it belongs
+  to the nearest `if`. `file_tree` is the tree: parentheses leave no trace, a block is its list and is spliced into a list,
+  `wire a, b;` is two items, `[h:0]` gives `h + 1`.
+- **Expressions** come in two styles. In full parentheses (`Parenthesised.antt`) each operator has its own. Where operators
+  bind by precedence (`Free.antt`), rule 0 is `un`, and rule k + 1 joins operands of rule k by the operators of height k + 1,
+  to the left, up to `lor`, rule 9; `height` is the table of operators, and a choice stands above them and groups to the
+  right. An expression that stands in no other has at most so many operators (`operators`, counted on its tree; a choice is
+  one).
+- **Limits**: each rule counts how many of `(`, `{`, `begin`, `case` and `if` are open round it (`inside`, `deeper`; an `if`
+  is open to the end of its statement), and a limit says how many may be. `Limits` says which limits a text keeps;
+  `all_limits` are identifiers of at most 64 bytes, numbers of at most 63, literals with a size from 1 to 64 and a value that
+  it holds, at most 64 open at once, and at most 256 operators in an expression by precedence.
+- **`Text style limits bytes module`** (`Spells.antt`): there are tokens that keep the limits, and a derivation of them, whose
+  tree is the module. **`Spells bytes module`** is that in full parentheses within all limits, and **`FreelySpells bytes
+  module`** the same by precedence.
 """,
         (
+            "verilog_tree/declared.names",
+            "verilog_tree/Names",
             "verilog_tree/Formed",
             "verilog_tree/Rules",
             "verilog_tree/Wires",
@@ -107,9 +170,23 @@ which module: letters and tokens, the grammar in full parentheses and by precede
     Part(
         "What the texts are",
         """
-Which bytes are a march, a memory, a primitive and a list, and what they say; and what the report says of each primitive.
+What a memory is: its scrambling, an invertible matrix that gives the logical address of an index, and its backgrounds, one
+word for each data value. Which bytes are a march, a memory, a primitive and a list, and what they say; and what the report
+says of each primitive.
+
+A grammar is a relation between bytes and the value that they write, built of pieces that take what may follow them, and reads
+like the grammar in [FORMATS.md](FORMATS.md). A text *continues* where some bytes behind it make it one of the grammar; the first
+byte with which it doesn't is unexpected, and a text that continues and is none is truncated. A march is refused first where its
+bytes are none, then by a limit, then by its first wrong read. A list goes line by line, and the first line that is refused
+decides. A memory's lines are its *statements*; a table of steps on the list of statements says which refusal comes first, and
+else which memory it is. The report has a line for each primitive, by what the march makes of it, lines of the classes, and the
+total; the order of escapes is placement, content, directions.
 """,
         (
+            "bist_bits/*",
+            "scrambler/*",
+            "backgrounds/*",
+            "memory_desc/Descriptions",
             "bist_text/*",
             "march_core/*",
             "march_syntax/*",
@@ -131,6 +208,11 @@ Which bytes are a march, a memory, a primitive and a list, and what they say; an
 The words of a call, what each file gives, which check refuses first and with which line, and what stands afterwards of the
 files, of what was said and of the boxes, command by command; and for the commands that clock a module, what a box is and what
 is told of its run.
+
+`Then` puts checks in their order: the first that refuses decides. Each command is its checks and what it leaves (`Decides..`,
+`Leaves..`); `Ends` says of each way to end what stands of the files, of what was said and of the counts of faults. A host may
+tell its files or not: what is said of files stands where it tells them. A box tells a chip (words, a planted fault, answers under
+way), a script, or nothing.
 """,
         ("bist_host/*", "bist_endings/*", "bist_inputs/*", "word_device/*", "bench/*", "self_test/*", "*"),
     ),
