@@ -399,6 +399,11 @@ CALLS = [
     ("", ["tools/gallery", "x"], 2, "", "gallery: too many words"),
     ("", ["tools/interop", "x"], 2, "", "interop: too many words"),
     ("", ["tools/release", "x"], 2, "", "release: too many words"),
+    ("", ["tools/trusted", "bist_app::run", "compilation"], 0, "crates/array_sim/specs/Detection.antt", ""),
+    ("", ["tools/trusted", "bist_app::run", "compilation", "--dot"], 0, "digraph {", ""),
+    ("", ["tools/trusted", "bist_app::walk"], 2, "", "trusted: no public call bist_app::walk has clauses"),
+    ("", ["tools/trusted", "bist_app::run", "compiled"], 2, "", "trusted: no public call bist_app::run has a clause compiled"),
+    ("", ["tools/trusted", "a", "b", "c"], 2, "", "trusted: too many words"),
     ("", ["tools/unproved"], 2, "usage: tools/unproved", ""),
 ]
 PIPED = [
@@ -407,5 +412,6 @@ PIPED = [
     "tools/trace a.report --steps",
     "tools/report a.report --json",
     "tools/manual",
+    "tools/trusted bist_app::run",
     "./vidlakost --help",
 ]
