@@ -42,17 +42,22 @@ class Reader:
     """Reads a module; operators bind by precedence where no parentheses say otherwise."""
 
     def __init__(self, text: str):
-        matches = (match for match in LEXEME.finditer(text) if match.lastgroup)
+        matches = [match for match in LEXEME.finditer(text) if match.lastgroup]
         self.tokens = [match[0] for match in matches] + [""]
+        self.text, self.places = text, [match.start() for match in matches] + [len(text)]
         self.here, self.read, self.used = 0, Module(), set()
         sys.setrecursionlimit(max(sys.getrecursionlimit(), 20000))
 
     def take(self, *wanted: str) -> str:
         token = self.tokens[self.here]
         if wanted and token not in wanted:
-            raise common.ToolError(f"token {self.here} is '{token}', and not {' or '.join(wanted)}")
+            raise ValueError(f"'{token}' stands where {' or '.join(wanted)} has to")
         self.here += 1
         return token
+
+    def line(self) -> int:
+        """The line of the next token."""
+        return self.text.count("\n", 0, self.places[min(self.here, len(self.places) - 1)]) + 1
 
     def skip(self, token: str) -> bool:
         found = self.tokens[self.here] == token
@@ -212,7 +217,7 @@ class Reader:
 
     def named(self, name: str) -> Value:
         if name not in self.read.widths:
-            raise common.ToolError(f"'{name}' is not declared")
+            raise ValueError(f"'{name}' is not declared")
         self.used.add(name)
         if not self.skip("["):
             return Value(self.read.widths[name], lambda env: env[name])
@@ -398,11 +403,11 @@ def line_of(module: Module, elements: list[common.Element], memory: common.Memor
 
 def read_module(path) -> Module:
     """The module of a file that the program accepts."""
-    text = common.read_text(path)
+    reader = Reader(common.read_text(path))
     try:
-        module = Reader(text).module()
+        module = reader.module()
     except (ValueError, KeyError, IndexError) as error:
-        raise common.ToolError(f"{path} is no module of the subset: {error}") from error
+        raise common.ToolError(f"{path}:{reader.line()}: this is no module of the subset: {error}") from error
     missing = [port for port in ("reset", "rdata", *PORTS) if port not in module.widths]
     if missing:
         raise common.ToolError(f"{path} has no port '{missing[0]}'")

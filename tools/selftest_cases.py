@@ -89,6 +89,8 @@ FILES = {
     + "endmodule\n",
     "port.v": "module b(input clk, input reset, input [3:0] rdata, output en);\n  assign en = reset;\nendmodule\n",
     "blank.v": "",
+    "operand.v": PORTS + "  assign en = reset reset;\nendmodule\n",
+    "operators.v": PORTS + "  assign en = reset" + " | reset" * 257 + ";\nendmodule\n",
     "a.report": REPORT,
     "cut.report": REPORT[: -len("total 2 covered 1 escapes 1\n")],
     "count.report": REPORT.replace("escapes 1", "escapes 2"),
@@ -266,6 +268,31 @@ REFUSALS = [
     (["--version"], 0, "vidlakost ", ""),
     ([], 2, "", "To begin with:"),
 ]
+# the same of the command check
+CHECKS = [
+    (["check", "examples/foreign/one_hot.v", "examples/mats_plus.m", "examples/foreign/four.mem"], 0, "conforms 43", ""),
+    (
+        ["check", "examples/foreign/not_reset.v", "examples/c.m", "examples/foreign/six.mem"],
+        1,
+        "unknown cycle 2 port wdata",
+        "",
+    ),
+    (["check", "blank.v", "c.m", "s.mem"], 14, "verilog L2", "blank.v: error: the file is empty"),
+    (
+        ["check", "token.v", "c.m", "s.mem"],
+        14,
+        "verilog L1",
+        "token.v:2:3: error: 'wir' can't stand here; did you mean 'wire'?",
+    ),
+    (["check", "operand.v", "c.m", "s.mem"], 14, "verilog L1", "operand.v:2:21: error: 'reset' can't stand here"),
+    (["check", "operators.v", "c.m", "s.mem"], 14, "verilog L3", "operators.v:2:2069: error: this is the 257th operator"),
+    (["check", "loop.v", "c.m", "s.mem"], 14, "verilog N7 x y", "loop.v:4:10: error: these wires form a loop"),
+    (["check", "port.v", "c.m", "s.mem"], 14, "verilog B2 rdata", "port.v:1:46: error: 'rdata' has 4 bits here"),
+    (["check", "port.v", "c.m", "huge.mem"], 12, "too long 4587523", "huge.mem: error: the test takes 4,587,523 cycles"),
+    (["check", "port.v", "wrong.m", "huge.mem"], 3, "march M8", "wrong.m:2:5: error: "),
+    (["check", "missing.v", "c.m", "s.mem"], 10, "absent 1", "missing.v: error: there is no such file"),
+    (["check", "port.v", "c.m"], 2, "usage", "vidlakost: error: check takes 3 words, and there are 2: MEMORY is missing"),
+]
 
 TEST = ["tools/testbench", "c.m", "eight.mem", "tb"]
 # a tool that a call needs, its words, its status, a part of its output, and the beginning of standard error
@@ -334,6 +361,19 @@ CALLS = [
         "background 1 a element 5 any(r0) cycles 153 to 160\ndone from cycle 163",
         "",
     ),
+    ("", ["tools/locate", "c.m", "scrambled.mem", "--line", "unknown cycle 9 port we"], 0, "operation 0 r0\nindex 0\naddress 4\n", ""),
+    ("", ["tools/locate", "c.m", "scrambled.mem", "--line", "unknown cycle 0 port en"], 0, "the reset", ""),
+    ("", ["tools/locate", "c.m", "scrambled.mem", "--line", "unknown cycle 162 port en"], 0, "the last answer comes", ""),
+    ("", ["tools/locate", "c.m", "scrambled.mem", "--line", "differs cycle 163 port done expected 1 got 0"], 0, "done", ""),
+    ("", ["tools/locate", "c.m", "scrambled.mem", "--line", "unknown cycle 164 port en"], 2, "", "locate: the cycles of this test are"),
+    ("", ["tools/foreign"], 0, "13 controllers, 0 differences", ""),
+    ("", ["tools/foreign", "--random", "20"], 0, "20 modules, 0 differences", ""),
+    ("", ["tools/foreign", "examples/foreign/not_reset.v", "c.m", "examples/foreign/six.mem"], 0, "unknown cycle 2 port wdata", ""),
+    ("", ["tools/foreign", "c.m", "c.m", "s.mem"], 2, "", "foreign: c.m:1: this is no module of the subset: '{' stands where module has to"),
+    ("", ["tools/foreign", "port.v", "c.m", "s.mem"], 2, "", "foreign: port.v has no port"),
+    ("", ["tools/foreign", "token.v", "c.m", "s.mem"], 2, "", "foreign: token.v:2: this is no module of the subset: 'wir' stands"),
+    ("", ["tools/foreign", "loop.v", "c.m", "s.mem"], 2, "", "foreign: 'x' stands in a loop of wires"),
+    ("", ["tools/foreign", "c.m"], 2, "", "foreign: three files, or none"),
     ("", ["tools/locate", "c.m", "scrambled.mem", "5", "--elements"], 2, "", "locate: --elements stands alone"),
     ("", ["tools/turn", "sheet.txt"], 0, "scramble a0 = p0 ^ p1 ^ p2 ^ 1\nscramble a1 = p1 ^ p2 ^ 1\nscramble a2 = p2\n", ""),
     ("", ["tools/turn", "same.txt"], 2, "", "turn: same.txt: row 1 depends"),
