@@ -88,6 +88,8 @@ FILES = {
     )
     + "endmodule\n",
     "port.v": "module b(input clk, input reset, input [3:0] rdata, output en);\n  assign en = reset;\nendmodule\n",
+    "t.mem": "memory 1\nname t\nwords 4\nbits 2\n",
+    "two.chip": "chip 1\nname both # memories\nbudget 3\nunit 2 c.m s.mem\nunit 2 c.m t.mem\n",
     "blank.v": "",
     "operand.v": PORTS + "  assign en = reset reset;\nendmodule\n",
     "operators.v": PORTS + "  assign en = reset" + " | reset" * 257 + ";\nendmodule\n",
@@ -295,6 +297,7 @@ CHECKS = [
 ]
 
 TEST = ["tools/testbench", "c.m", "eight.mem", "tb"]
+CHIP_TEST = ["tools/testbench", "two.chip", "chiptb"]
 # a tool that a call needs, its words, its status, a part of its output, and the beginning of standard error
 CALLS = [
     ("", ["tools/explain", "M8"], 0, "march M8 element E operation O", ""),
@@ -415,6 +418,17 @@ CALLS = [
     ("", ["tools/testbench", "wrong.m", "s.mem", "tb"], 3, "", "testbench: march M8"),
     ("", ["tools/testbench", "c.m", "huge.mem", "tb"], 12, "", "testbench: too long 4587523"),
     ("", ["tools/testbench", "c.m", "s.mem", "c.m"], 2, "", "testbench: c.m: File exists"),
+    ("", ["tools/schedule", "two.chip"], 0, "   1  t            2      1      41     123\ngroups 2 done 123\n", ""),
+    ("", ["tools/schedule", "two.chip", "--svg", "two.svg"], 0, "groups 2 done 123", ""),
+    ("", ["tools/schedule", "two.chip", "--svg", "./two.chip"], 2, "", "schedule: './two.chip' is the chip file itself"),
+    ("", ["tools/schedule"], 2, "", "schedule: too few words"),
+    ("", [*CHIP_TEST, "--chip"], 0, "chiptb/both_tb.v", ""),
+    ("", [*CHIP_TEST, "--chip", "--unit", "1", "--fault", "<0w1/0/->", "--victim", "1.0"], 0, "chiptb/both_tb.v", ""),
+    ("", [*CHIP_TEST, "--chip", "--unit", "2", "--fault", "<0w1/0/->", "--victim", "1.0"], 2, "", "testbench: --unit is 0 to 1"),
+    ("", [*CHIP_TEST, "--chip", "--unit", "1"], 2, "", "testbench: --unit and --fault stand together"),
+    ("", [*CHIP_TEST, "--chip", "--assert"], 2, "", "testbench: --chip takes a chip file and a folder"),
+    ("", CHIP_TEST, 2, "", "testbench: too few words"),
+    ("", [*TEST, "--unit", "1"], 2, "", "testbench: --unit is of a chip"),
     ("", ["tools/collar", "latency.mem", "--macro", "ram.pins", "collar"], 0, "collar/s_collar.v", ""),
     ("", ["tools/collar", "latency.mem", "collar"], 2, "", "collar: --macro names"),
     ("", ["tools/collar", "eight.mem", "--macro", "ram.pins", "collar"], 2, "", "collar: ram.pins: s has latency 1"),
