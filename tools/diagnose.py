@@ -7,12 +7,19 @@ import pathlib
 import re
 
 import common
+import diagnose_chips
 import diagnose_texts
 import diagnose_verilog
 from finding import Trier, close_to, listed, thousands
 
 # the word of a call whose text a refusal speaks of
-SUBJECTS = {"march": ["MARCH"], "memory": ["MEMORY"], "fault": ["FAULTS", "PRIM"], "verilog": ["VERILOG"]}
+SUBJECTS = {
+    "march": ["MARCH"],
+    "memory": ["MEMORY"],
+    "fault": ["FAULTS", "PRIM"],
+    "verilog": ["VERILOG"],
+    "chip": ["CHIPFILE"],
+}
 FIELDS = [
     (r"line (\d+) byte (\d+)", ("line", "byte")),
     (r"line (\d+)", ("line",)),
@@ -20,6 +27,7 @@ FIELDS = [
     (r"element (\d+) operation (\d+)", ("element", "operation")),
     (r"element (\d+)", ("element",)),
     (r"rows (.+)", ("rows",)),
+    (r"unit (\d+)", ("unit",)),
 ]
 CONSOLE = "vidlakost"
 
@@ -28,7 +36,7 @@ def values_of(code: str, rest: str) -> dict:
     """What a refusal carries, by name."""
     if code == "N3":
         return dict(zip(("x", "y"), rest.split()))
-    if code in ("N7", "D4"):
+    if code in ("N7", "D4", "C4"):
         return {"names" if code == "N7" else "field": rest}
     for form, names in FIELDS:
         match = re.fullmatch(form, rest)
@@ -43,7 +51,7 @@ def words_by_name(words: list[str]) -> dict:
 
 
 def refused_text(words: list[str], said: str) -> list[str]:
-    """A refusal of a march, a memory, a list, a primitive or a module."""
+    """A refusal of a march, a memory, a list, a primitive, a module or a chip file."""
     kind, code, *rest = said.split(" ", 2)
     named = words_by_name(words)
     subjects = [word for word in SUBJECTS[kind] if word in named]
@@ -60,6 +68,8 @@ def refused_text(words: list[str], said: str) -> list[str]:
         return diagnose_texts.memory(named[subject], text, code, values).lines()
     if kind == "fault":
         return diagnose_texts.fault(named[subject], text, code, values, False).lines()
+    if kind == "chip":
+        return diagnose_chips.chip(named[subject], text, code, values).lines()
     Trier.reader = words[0]
     return diagnose_verilog.verilog(named[subject], text, code, values, named.get("MEMORY")).lines()
 
@@ -285,7 +295,9 @@ def lines(words: list[str], said: str, status: int) -> list[str]:
             return no_primitives(words) if said.startswith("total 0 ") else []
         if status == 2:
             return usage(words)
-        if status in (3, 4, 5, 14):
+        if words[0] == "chip" and said.startswith("unit "):
+            return lines(*diagnose_chips.unit_call(words[1], said), status)
+        if status in (3, 4, 5, 14, 15):
             return refused_text(words, said)
         if status in (6, 7, 8, 10) and said:
             return file_of(words, said)

@@ -366,9 +366,14 @@ def verilog(name: str, text: bytes, code: str, values: dict, memory_file: str | 
         return port(name, text, values["name"], common.parse_memory(common.read_text(memory_file)))
     if code[0] == "N":
         return rule(name, text, code, values)
+    at = int(values["byte"])
     message = {
-        "L3": "this opens the 65th of (, {, begin, case and if that are open at once; at most 64 may be",
+        "L3": (
+            "this opens the 65th of (, {, begin, case and if that are open at once; at most 64 may be"
+            if re.compile(rb"[({]|(begin|case|if)\b").match(text, at)
+            else "this is the 257th operator of an expression, and at most 256 may be"
+        ),
         "L4": "this name goes on for more than 64 bytes",
         "L5": "this number is too large: a literal has 1 to 64 bits and a value that they hold, and an index is at most 63",
     }[code]
-    return Finding(name, text, int(values["byte"]), message)
+    return Finding(name, text, at, message)

@@ -110,6 +110,7 @@ TOKENS = {
     ],
     "list": [*CLASSES, *GROUPS, "<", "#", "\n"],
     "primitive": "0 1 w0 w1 r0 r1 t ; / - >".split(),
+    "chip": ["chip 1", "name", "budget", "unit", "1", "x", "#", "\n"],
     "verilog": [
         "module",
         "input",
@@ -136,6 +137,7 @@ TOKENS = {
 # how a token of many is told
 SHOWN = {
     "memory": {"\n": "the end of the line", "1": "a number", "a0": "a row as a0", "p0": "an index bit as p0", "x": "a name"},
+    "chip": {"\n": "the end of the line", "#": "a comment (#)", "1": "a number", "x": "a name"},
     "list": {"\n": "the end of the line", "#": "a comment (#)", "<": "a primitive (<)"},
     "verilog": {"x": "a name", "1'h0": "a literal with its size as 1'h0", "0": "a number"},
 }
@@ -170,6 +172,7 @@ class Trier:
                 "list": ["judge", march, file, "/dev/null"],
                 "memory": ["benchfault", march, file, "<0/1/->", "none", "999999999.0"],
                 "verilog": [self.reader, file, missing, march],
+                "chip": ["chip", file, "/dev/null"],
             }[self.kind]
         done = subprocess.run(
             [self.program, *map(str, words)],
@@ -184,7 +187,7 @@ class Trier:
         """Whether a text is not refused before its end."""
         if self.is_word and b"\0" in text:
             return False
-        match = re.fullmatch(r"\w+ [MFDL]1(?: line (?P<line>\d+))? byte (?P<byte>\d+)", self.refusal(folder, text))
+        match = re.fullmatch(r"\w+ [MFDLC]1(?: line (?P<line>\d+))? byte (?P<byte>\d+)", self.refusal(folder, text))
         if match is None:
             return True
         return at_of({key: value for key, value in match.groupdict().items() if value}, text) >= len(text)
@@ -210,7 +213,7 @@ class Trier:
             else:
                 before = text[:at] + b" " if whole else text[: word_start(text, at)]
             # a second line of the version is of the grammar, and refused later
-            tokens = [token for token in TOKENS[kind] if token != "memory 1" or not before.strip()]
+            tokens = [token for token in TOKENS[kind] if token not in ("memory 1", "chip 1") or not before.strip()]
             found = [
                 token
                 for token in tokens

@@ -1,0 +1,1 @@
+{any(w0);del;up(r0,w1);del;down(r1)}

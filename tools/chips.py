@@ -1,0 +1,99 @@
+"""Chip files: several memories under a power budget, the groups in which they are tested, and when each test begins."""
+from __future__ import annotations
+
+import dataclasses
+import pathlib
+import re
+import tempfile
+
+import common
+
+
+@dataclasses.dataclass
+class Unit:
+    """A memory of a chip, its march, and how heavy it is; its group, and the cycle in which its own reset ends."""
+
+    weight: int
+    march: str
+    memory_file: str
+    elements: list[common.Element]
+    memory: common.Memory
+    group: int = 0
+    start: int = 0
+
+    @property
+    def length(self) -> int:
+        """How many cycles behind its start its test is done."""
+        return self.memory.cycles(self.elements) - 1
+
+    @property
+    def done(self) -> int:
+        return self.start + self.length
+
+
+@dataclasses.dataclass
+class Chip:
+    name: str
+    budget: int
+    units: list[Unit]
+
+    @property
+    def groups(self) -> int:
+        return 1 + max(unit.group for unit in self.units)
+
+    @property
+    def done(self) -> int:
+        """The first cycle in which the whole test is done."""
+        last = [unit for unit in self.units if unit.group == self.groups - 1]
+        return last[0].start + max(unit.length for unit in last)
+
+
+def place(chip: Chip) -> None:
+    """Gives each unit the first group that has room for it, and its start: a group begins in the last cycle but one of the
+    longest test of the group before it, which is the cycle of its reset."""
+    loads: list[int] = []
+    for unit in chip.units:
+        room = (number for number, load in enumerate(loads) if load + unit.weight <= chip.budget)
+        unit.group = next(room, len(loads))
+        loads += [0] * (unit.group + 1 - len(loads))
+        loads[unit.group] += unit.weight
+    start = 0
+    for group in range(len(loads)):
+        members = [unit for unit in chip.units if unit.group == group]
+        for unit in members:
+            unit.start = start
+        start += max(unit.length for unit in members) - 1
+
+
+def check_with_program(path) -> None:
+    """Hands on a refusal of the program, where it has the command."""
+    with tempfile.TemporaryDirectory() as folder:
+        status, said = common.run("chip", path, pathlib.Path(folder) / "chip.v")
+    if status > 2 or status < 0:
+        raise common.Refused(["chip", str(path), "chip.v"], said, status)
+
+
+def read_chip(path) -> Chip:
+    """The chip of a file, its units in their groups."""
+    check_with_program(path)
+    said: dict[str, str] = {}
+    units = []
+    for count, line in enumerate(common.read_text(path).split("\n"), 1):
+        words = line.split("#")[0].split()
+        form = " ".join(words)
+        if re.fullmatch(r"(chip|name|budget) \S+", form):
+            said[words[0]] = words[1]
+        elif re.fullmatch(r"unit \d{1,9} \S+ \S+", form):
+            elements = common.march_of(words[2])[1]
+            units.append(Unit(int(words[1]), words[2], words[3], elements, common.read_memory(words[3])))
+        elif form:
+            raise common.ToolError(f"{path}:{count}: this is no line of a chip file")
+    for word in ("name", "budget"):
+        if word not in said:
+            raise common.ToolError(f"{path}: the line '{word}' is missing")
+    chip = Chip(said["name"], common.number(said["budget"], "budget", 1), units)
+    heavy = next((number for number, unit in enumerate(units) if not 1 <= unit.weight <= chip.budget), None)
+    if not units or heavy is not None:
+        raise common.ToolError(f"{path}: there is no unit" if not units else f"{path}: unit {heavy} is above the budget")
+    place(chip)
+    return chip
