@@ -14,7 +14,7 @@ use Rattle.verilog_cycle.specs.Design.{names, registers_of, inputs_of, Cycle}
 use Rattle.word_device.specs.declared.device.PortCmd.{PortCmd}
 use Rattle.word_device.specs.Ports.{shape_of}
 use Rattle.word_device.specs.declared.shape.Shape.{Shape}
-use Rattle.word_device.specs.Boxes.{Tells, Told, told, after_cycle, Answers}
+use Rattle.word_device.specs.Boxes.{Tells, Told, after_cycle, Answers}
 use Rattle.bench.specs.declared.cycle.Outputs.{Outputs}
 use Rattle.word_device.specs.Joint.{command_on}
 use Rattle.bench.specs.declared.pins.Pins.{Pins}
@@ -69,20 +69,19 @@ turned mo d t registers after outs pins rdata answer box m a s low c answers =
     }
 
 -- the same of what the calls answer
-pub turn_is : (mo : ModuleTree) (d : Description) (t : ℕ) (registers after : List ℕ) (pins : Pins) (rdata answer word room room' : ℕ) (out : Outputs)
-    (shape shape' : Option Shape) (box left : Tells)
+pub turn_is : (mo : ModuleTree) (d : Description) (t : ℕ) (registers after : List ℕ) (pins : Pins) (rdata answer word : ℕ) (out : Outputs) (box left : Told)
     → IsMemory d → ArePorts d mo.ports → ArePins mo.ports pins → rdata < 2 ^ d.bits
     → (outs : List ℕ) × Cycle mo registers (input_values pins.reset_first (t == 0) rdata) outs after × (out ≡ outputs_at outs pins)
-    → shape ≡ Some (shape_of d) → Answers shape out.cmd box answer
-    → told room' shape' left ≡ told room shape (after_cycle shape out.cmd box) → word ≡ answer % 2 ^ d.bits
-    → Turned mo d t registers after rdata word box left out.done out.fail
-turn_is mo d t registers after pins rdata answer word room room' out shape shape' box left m a s low c fits answers new is =
-    let asked : Answers (Some (shape_of d)) (outputs_at c.0 pins).cmd box answer =
-    subst (λ (o : Outputs). Answers (Some (shape_of d)) o.cmd box answer) c.2 (subst (λ (o : Option Shape). Answers o out.cmd box answer) fits answers) in
-    let told_is : left ≡ after_cycle (Some (shape_of d)) (outputs_at c.0 pins).cmd box =
-    ap (λ (x : Told). x.tells) new ∙ ap₂ (λ (o : Option Shape) (x : Outputs). after_cycle o x.cmd box) fits c.2 in
-    let done = turned mo d t registers after c.0 pins rdata answer box m a s low c.1 asked in
-    subst (λ w. Turned mo d t registers after rdata w box left out.done out.fail) (sym is)
-    (subst (λ (x : Tells). Turned mo d t registers after rdata (answer % 2 ^ d.bits) box x out.done out.fail) (sym told_is)
-    (subst (λ (x : Outputs). Turned mo d t registers after rdata (answer % 2 ^ d.bits) box (after_cycle (Some (shape_of d)) (outputs_at c.0 pins).cmd box) x.done x.fail) (sym c.2)
+    → box.shape ≡ Some (shape_of d) → Answers box.shape out.cmd box.tells answer
+    → left ≡ record box { tells = after_cycle box.shape out.cmd box.tells } → word ≡ answer % 2 ^ d.bits
+    → Turned mo d t registers after rdata word box.tells left.tells out.done out.fail
+turn_is mo d t registers after pins rdata answer word out box left m a s low c fits answers new is =
+    let asked : Answers (Some (shape_of d)) (outputs_at c.0 pins).cmd box.tells answer =
+    subst (λ (o : Outputs). Answers (Some (shape_of d)) o.cmd box.tells answer) c.2 (subst (λ (o : Option Shape). Answers o out.cmd box.tells answer) fits answers) in
+    let told_is : left.tells ≡ after_cycle (Some (shape_of d)) (outputs_at c.0 pins).cmd box.tells =
+    ap (λ (x : Told). x.tells) new ∙ ap₂ (λ (o : Option Shape) (x : Outputs). after_cycle o x.cmd box.tells) fits c.2 in
+    let done = turned mo d t registers after c.0 pins rdata answer box.tells m a s low c.1 asked in
+    subst (λ w. Turned mo d t registers after rdata w box.tells left.tells out.done out.fail) (sym is)
+    (subst (λ (x : Tells). Turned mo d t registers after rdata (answer % 2 ^ d.bits) box.tells x out.done out.fail) (sym told_is)
+    (subst (λ (x : Outputs). Turned mo d t registers after rdata (answer % 2 ^ d.bits) box.tells (after_cycle (Some (shape_of d)) (outputs_at c.0 pins).cmd box.tells) x.done x.fail) (sym c.2)
     done))

@@ -4,7 +4,7 @@ ghost use Rattle.std.specs.Prelude.{◌≡◌, ◌<◌, ◌≤◌, ◌%◌, ◌^
 ghost use Rattle.verilog_cycle.specs.Design.{Cycle, Fit, inputs_of, outputs_of, with_registers};
 ghost use Rattle.self_test.specs.WrongPort.{ArePorts};
 ghost use Rattle.word_device.specs.Ports.{shape_of as memory_shape};
-ghost use Rattle.word_device.specs.Boxes.{Answers, after_cycle, told};
+ghost use Rattle.word_device.specs.Boxes.{Answers, after_cycle};
 ghost use Rattle.bench.specs.Pins.{ArePins};
 ghost use Rattle.bench.specs.Cycles.{AreWithin, Turned, input_values, outputs_at};
 
@@ -75,9 +75,9 @@ fn clock(design: &mut Design, pins: Pins, reset: bool, rdata: u64) -> Outputs
 
 /// One cycle of the box.
 fn cycle_box(device: &mut Box<dyn Device>, cmd: &PortCmd) -> u64
-    requires { IsSome (shape_of device.old) }
-    ensures new { told (room_of device.new) (shape_of device.new) (tells device.new) ≡ told (room_of device.old) (shape_of device.old) (after_cycle (shape_of device.old) cmd.now (tells device.old)) }
-    ensures answer { Answers (shape_of device.old) cmd.now (tells device.old) result }
+    requires { IsSome (told device.old).shape }
+    ensures new { told device.new ≡ record (told device.old) { tells = after_cycle (told device.old).shape cmd.now (told device.old).tells } }
+    ensures answer { Answers (told device.old).shape cmd.now (told device.old).tells result }
 {
     device.cycle(cmd)
 }
@@ -105,11 +105,11 @@ pub fn turn(
     requires ports { ArePorts memory.now design.old.tree.ports }
     requires pins { ArePins design.old.tree.ports pins }
     requires word { rdata < 2 ^ memory.now.bits }
-    requires fitted { shape_of device.old ≡ Some (memory_shape memory.now) }
+    requires fitted { (told device.old).shape ≡ Some (memory_shape memory.now) }
     ensures kept { design.new ≡ with_registers design.old design.new.registers }
-    ensures device { (room_of device.new ≡ room_of device.old) × (shape_of device.new ≡ shape_of device.old) }
+    ensures device { ((told device.new).room ≡ (told device.old).room) × ((told device.new).shape ≡ (told device.old).shape) }
     ensures low { result.rdata < 2 ^ memory.now.bits }
-    ensures turned { Turned design.old.tree memory.now cycle design.old.registers design.new.registers rdata result.rdata (tells device.old) (tells device.new) result.done result.fail }
+    ensures turned { Turned design.old.tree memory.now cycle design.old.registers design.new.registers rdata result.rdata (told device.old).tells (told device.new).tells result.done result.fail }
 {
     let outputs = clock(design, pins, cycle == 0, rdata);
     let answer = cycle_box(device, &outputs.cmd);

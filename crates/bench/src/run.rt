@@ -8,7 +8,7 @@ ghost use Rattle.self_test.specs.WrongPort.{ArePorts};
 ghost use Rattle.word_device.specs.Ports.{shape_of as memory_shape};
 ghost use Rattle.verilog_tree.specs.Plain.{plain_port};
 ghost use Rattle.self_test.specs.SelfTest.{SelfTest};
-ghost use Rattle.word_device.specs.Boxes.{told, IsTold};
+ghost use Rattle.word_device.specs.Boxes.{IsTold};
 ghost use Rattle.bench.specs.Pins.{ArePins};
 ghost use Rattle.bench.specs.Endings.{Runs, cycle_count};
 ghost use Rattle.bench.specs.Refusals.{Refuses};
@@ -90,11 +90,11 @@ fn first_cycle(
 ) -> Watch
     requires ports { ArePorts memory.now design.old.tree.ports }
     requires pins { ArePins design.old.tree.ports pins }
-    requires fitted { shape_of device.old ≡ Some (memory_shape memory.now) }
+    requires fitted { (told device.old).shape ≡ Some (memory_shape memory.now) }
     ensures kept { design.new ≡ with_registers design.old design.new.registers }
-    ensures device { (room_of device.new ≡ room_of device.old) × (shape_of device.new ≡ shape_of device.old) }
+    ensures device { ((told device.new).room ≡ (told device.old).room) × ((told device.new).shape ≡ (told device.old).shape) }
     ensures low { result.rdata < 2 ^ memory.now.bits }
-    ensures watched { FirstWatched design.old.tree memory.now design.old.registers design.new.registers (tells device.old) (tells device.new) result }
+    ensures watched { FirstWatched design.old.tree memory.now design.old.registers design.new.registers (told device.old).tells (told device.new).tells result }
 {
     let end = turn(design, pins, memory, device, 0, 0);
     let watch = Watch {
@@ -117,11 +117,11 @@ fn run_cycles(
 ) -> Watch
     requires ports { ArePorts memory.now design.old.tree.ports }
     requires pins { ArePins design.old.tree.ports pins }
-    requires fitted { shape_of device.old ≡ Some (memory_shape memory.now) }
+    requires fitted { (told device.old).shape ≡ Some (memory_shape memory.now) }
     requires some { 1 ≤ cycles }
     ensures kept { design.new ≡ with_registers design.old design.new.registers }
-    ensures device { (room_of device.new ≡ room_of device.old) × (shape_of device.new ≡ shape_of device.old) }
-    ensures stage { (control : State) × Stage design.old.tree march.now memory.now design.old.registers (tells device.old) cycles design.new.registers result (tells device.new) control }
+    ensures device { ((told device.new).room ≡ (told device.old).room) × ((told device.new).shape ≡ (told device.old).shape) }
+    ensures stage { (control : State) × Stage design.old.tree march.now memory.now design.old.registers (told device.old).tells cycles design.new.registers result (told device.new).tells control }
 {
     let _ = march.len();
     let code = assemble(march);
@@ -163,7 +163,7 @@ fn refusal(ports: &[Port], march: &March, memory: &Memory) -> Option<BenchFault>
 }
 
 fn is_fitted(device: &Box<dyn Device>) -> bool
-    ensures { IsTold (shape_of device.now) (tells device.now) }
+    ensures { IsTold (told device.now).shape (told device.now).tells }
 {
     device.fitted()
 }
@@ -182,15 +182,15 @@ pub fn bench(
     memory: &Memory,
     device: Box<dyn Device>,
 ) -> Result<BenchEnd, BenchRefused>
-    requires fitted { shape_of device ≡ Some (memory_shape memory.now) }
+    requires fitted { (told device).shape ≡ Some (memory_shape memory.now) }
     ensures accepted { IfOk result (λ _. Refuses march.now memory.now design.old.tree.ports None) }
     ensures ran { Refuses march.now memory.now design.old.tree.ports None → IsOk result }
-    ensures runs { IfOk result (λ end. Runs design.old.tree march.now memory.now design.old.registers design.new.registers (tells device) (tells end.device) end.fail end.done_cycle end.first) }
-    ensures self_test { IfOk result (λ end. SelfTest design.old.tree march.now memory.now → EndsSelfTest march.now memory.now (tells device) end.fail end.done_cycle end.first) }
+    ensures runs { IfOk result (λ end. Runs design.old.tree march.now memory.now design.old.registers design.new.registers (told device).tells (told end.device).tells end.fail end.done_cycle end.first) }
+    ensures self_test { IfOk result (λ end. SelfTest design.old.tree march.now memory.now → EndsSelfTest march.now memory.now (told device).tells end.fail end.done_cycle end.first) }
     ensures kept { IfOk result (λ _. design.new ≡ with_registers design.old design.new.registers) }
-    ensures device { IfOk result (λ end. (room_of end.device ≡ room_of device) × (shape_of end.device ≡ shape_of device)) }
+    ensures device { IfOk result (λ end. ((told end.device).room ≡ (told device).room) × ((told end.device).shape ≡ (told device).shape)) }
     ensures refused { IfErr result (λ refused. Refuses march.now memory.now design.old.tree.ports (Some refused.fault)) }
-    ensures as_before { IfErr result (λ refused. (design.new ≡ design.old) × (told (room_of refused.device) (shape_of refused.device) (tells refused.device) ≡ told (room_of device) (shape_of device) (tells device))) }
+    ensures as_before { IfErr result (λ refused. (design.new ≡ design.old) × (told refused.device ≡ told device)) }
 {
     let mut device = device;
     if let Some(fault) = refusal(design.ports(), march, memory) {

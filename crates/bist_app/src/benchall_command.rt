@@ -2,7 +2,6 @@
 
 ghost use Rattle.std.specs.Prelude.{◌≡◌, ◌≤◌, ◌<◌, [], IfOk, IfErr, MatchOption, map};
 ghost use Rattle.bist_host.specs.Files.{Rose};
-ghost use Rattle.word_device.specs.Boxes.{told};
 ghost use Rattle.bist_endings.specs.Ending.{plain, done_of};
 ghost use Rattle.bist_endings.specs.Conclude.{NamesWords};
 ghost use Rattle.bist_inputs.specs.Inputs.{HasReadCause, IsOwnRefusal};
@@ -24,7 +23,7 @@ use word_device::Device;
 
 /// The room of the first box that has none for so many words, if there is one.
 fn small_room(devices: &[Box<dyn Device>], words: u32) -> Option<u32>
-    ensures { MatchOption result (HaveRoom words (map (λ b. told (room_of b) (shape_of b) (tells b)) devices.now)) (λ room. FirstSmall words (map (λ b. told (room_of b) (shape_of b) (tells b)) devices.now) room) }
+    ensures { MatchOption result (HaveRoom words (map (λ b. told b) devices.now)) (λ room. FirstSmall words (map (λ b. told b) devices.now) room) }
 {
     match devices {
         [] => None,
@@ -42,9 +41,9 @@ fn small_room(devices: &[Box<dyn Device>], words: u32) -> Option<u32>
 /// Refuses a box with room for fewer words than the memory has.
 #[tactic(auto, unfolding(crate::specs::BenchAll::FitsRooms))]
 fn fit_rooms(devices: &[Box<dyn Device>], memory: &Memory) -> Result<(), Refusal>
-    ensures answer { FitsRooms memory.now (map (λ b. told (room_of b) (shape_of b) (tells b)) devices.now) result }
+    ensures answer { FitsRooms memory.now (map (λ b. told b) devices.now) result }
     ensures own { IfErr result IsOwnRefusal }
-    ensures rooms { IfOk result (λ _. HaveRoom memory.now.words (map (λ b. told (room_of b) (shape_of b) (tells b)) devices.now)) }
+    ensures rooms { IfOk result (λ _. HaveRoom memory.now.words (map (λ b. told b) devices.now)) }
 {
     let words = memory.words();
     match small_room(devices, words) {
@@ -62,10 +61,10 @@ fn plan_all(
     devices: &mut Vec<Box<dyn Device>>,
 ) -> Result<Plan, Refusal>
     requires short { IsShort march.now memory.now }
-    requires rooms { HaveRoom memory.now.words (map (λ b. told (room_of b) (shape_of b) (tells b)) devices.old.items) }
+    requires rooms { HaveRoom memory.now.words (map (λ b. told b) devices.old.items) }
     ensures own { IfErr result IsOwnRefusal }
-    ensures answer { LeavesAll march.now memory.now (map (λ b. told (room_of b) (shape_of b) (tells b)) devices.old.items) (plain result) }
-    ensures left { LeavesNone (map (λ b. told (room_of b) (shape_of b) (tells b)) devices.old.items) (map (λ b. told (room_of b) (shape_of b) (tells b)) devices.new.items) (plain result) }
+    ensures answer { LeavesAll march.now memory.now (map (λ b. told b) devices.old.items) (plain result) }
+    ensures left { LeavesNone (map (λ b. told b) devices.old.items) (map (λ b. told b) devices.new.items) (plain result) }
     ensures outputs { IfOk result (λ plan. (done_of plan).outputs ≡ []) }
 {
     match bench_all(alloc, march, memory, devices) {
@@ -88,7 +87,7 @@ pub fn decide_bench_all<H: Host>(
     ensures writes { H.write_faults host.new ≡ H.write_faults host.old }
     ensures reads { H.read_faults host.old ≤ H.read_faults host.new }
     ensures outputs { IfOk result (λ plan. NamesWords words.now (done_of plan).outputs) }
-    ensures answer { DecidesBenchAll (H.files host.old) (map (λ b. told (room_of b) (shape_of b) (tells b)) devices.old.items) (map (λ b. told (room_of b) (shape_of b) (tells b)) devices.new.items) words.now (plain result) }
+    ensures answer { DecidesBenchAll (H.files host.old) (map (λ b. told b) devices.old.items) (map (λ b. told b) devices.new.items) words.now (plain result) }
     ensures cause { HasReadCause (H.files host.old) (Rose (H.read_faults host.old) (H.read_faults host.new)) result }
 {
     let march = read_march_input(host, words, 1)?;

@@ -4,7 +4,6 @@ ghost use Rattle.std.specs.Prelude.{◌≡◌, ◌≤◌, ◌<◌, ◌↔◌, []
 ghost use Rattle.bist_host.specs.Files.{Rose};
 ghost use Rattle.fault_core.specs.Primitive.{has_aggressor};
 ghost use Rattle.word_device.specs.Chips.{FitsMemory};
-ghost use Rattle.word_device.specs.Boxes.{told};
 ghost use Rattle.bist_endings.specs.Ending.{plain, done_of};
 ghost use Rattle.bist_endings.specs.Conclude.{NamesWords};
 ghost use Rattle.bist_inputs.specs.Inputs.{HasReadCause, IsOwnRefusal};
@@ -152,12 +151,12 @@ fn plan_fault(
 ) -> Result<Plan, Refusal>
     requires short { IsShort march.now memory.now }
     requires some { 0 < vec_len devices.old }
-    requires room { FirstHasRoom memory.now.words (map (λ b. told (room_of b) (shape_of b) (tells b)) devices.old.items) }
+    requires room { FirstHasRoom memory.now.words (map (λ b. told b) devices.old.items) }
     requires fits { FitsMemory planted.now memory.now.words memory.now.bits }
     requires aggressor { is_some planted.now.agg ≡ has_aggressor planted.now.prim }
     ensures own { IfErr result IsOwnRefusal }
-    ensures answer { LeavesFault march.now memory.now planted.now (map (λ b. told (room_of b) (shape_of b) (tells b)) devices.old.items) (plain result) }
-    ensures left { LeavesFirst (map (λ b. told (room_of b) (shape_of b) (tells b)) devices.old.items) (map (λ b. told (room_of b) (shape_of b) (tells b)) devices.new.items) (plain result) }
+    ensures answer { LeavesFault march.now memory.now planted.now (map (λ b. told b) devices.old.items) (plain result) }
+    ensures left { LeavesFirst (map (λ b. told b) devices.old.items) (map (λ b. told b) devices.new.items) (plain result) }
     ensures outputs { IfOk result (λ plan. (done_of plan).outputs ≡ []) }
 {
     answers_wrong(march, memory, planted);
@@ -178,7 +177,7 @@ fn test_fault(
     devices: &mut Vec<Box<dyn Device>>,
 ) -> Result<Plan, Refusal>
     ensures own { IfErr result IsOwnRefusal }
-    ensures answer { TestsFault march.now memory.now prim.now shape (map (λ b. told (room_of b) (shape_of b) (tells b)) devices.old.items) (map (λ b. told (room_of b) (shape_of b) (tells b)) devices.new.items) (plain result) }
+    ensures answer { TestsFault march.now memory.now prim.now shape (map (λ b. told b) devices.old.items) (map (λ b. told b) devices.new.items) (plain result) }
     ensures outputs { IfOk result (λ plan. (done_of plan).outputs ≡ []) }
 {
     fit_aggressor(shape.aggressor.is_some(), prim)?;
@@ -205,7 +204,7 @@ pub fn decide_fault<H: Host>(
     ensures writes { H.write_faults host.new ≡ H.write_faults host.old }
     ensures reads { H.read_faults host.old ≤ H.read_faults host.new }
     ensures outputs { IfOk result (λ plan. NamesWords words.now (done_of plan).outputs) }
-    ensures answer { DecidesFault (H.files host.old) (map (λ b. told (room_of b) (shape_of b) (tells b)) devices.old.items) (map (λ b. told (room_of b) (shape_of b) (tells b)) devices.new.items) words.now shape (plain result) }
+    ensures answer { DecidesFault (H.files host.old) (map (λ b. told b) devices.old.items) (map (λ b. told b) devices.new.items) words.now shape (plain result) }
     ensures cause { HasReadCause (H.files host.old) (Rose (H.read_faults host.old) (H.read_faults host.new)) result }
 {
     let march = read_march_input(host, words, 1)?;

@@ -2,7 +2,6 @@
 
 ghost use Rattle.std.specs.Prelude.{◌≡◌, ◌≤◌, ◌<◌, ◌∷◌, [], Some, None, IfOk, IfSome, IfErr, OnOk, OnErr, length, map, drop, vec_len};
 ghost use Rattle.bist_host.specs.Files.{Rose};
-ghost use Rattle.word_device.specs.Boxes.{told};
 ghost use Rattle.word_device.specs.Ports.{shape_of as memory_shape};
 ghost use Rattle.verilog_cycle.specs.Design.{IsNew};
 ghost use Rattle.bist_endings.specs.Ending.{plain, done_of};
@@ -53,8 +52,8 @@ fn run_design(
     requires zero { design.old.registers ≡ zero_registers design.old.tree }
     requires short { IsShort march.now memory.now }
     requires ports { wrong_port memory.now design.old.tree.ports ≡ None }
-    requires fitted { shape_of device ≡ Some (memory_shape memory.now) }
-    ensures run { IfOk result (λ plan. IsFileRun design.old.tree march.now memory.now (tells device) (done_of plan)) }
+    requires fitted { (told device).shape ≡ Some (memory_shape memory.now) }
+    ensures run { IfOk result (λ plan. IsFileRun design.old.tree march.now memory.now (told device).tells (done_of plan)) }
     ensures outputs { IfOk result (λ plan. (done_of plan).outputs ≡ []) }
 {
     let bits = memory.bits();
@@ -87,10 +86,10 @@ fn run_first(
     requires short { IsShort march.now memory.now }
     requires ports { wrong_port memory.now design.old.tree.ports ≡ None }
     requires some { 0 < vec_len devices.old }
-    requires room { FirstHasRoom memory.now.words (map (λ b. told (room_of b) (shape_of b) (tells b)) devices.old.items) }
+    requires room { FirstHasRoom memory.now.words (map (λ b. told b) devices.old.items) }
     ensures taken { OnOk result (devices.new.items ≡ drop 1 devices.old.items) }
-    ensures kept { OnErr result (map (λ b. told (room_of b) (shape_of b) (tells b)) devices.new.items ≡ map (λ b. told (room_of b) (shape_of b) (tells b)) devices.old.items) }
-    ensures run { IfOk result (λ ended. IfSome ended (λ plan. (b : _) (rest : _) → devices.old.items ≡ b ∷ rest → IsFileRun design.old.tree march.now memory.now (ready memory.now (tells b)) (done_of plan))) }
+    ensures kept { OnErr result (map (λ b. told b) devices.new.items ≡ map (λ b. told b) devices.old.items) }
+    ensures run { IfOk result (λ ended. IfSome ended (λ plan. (b : _) (rest : _) → devices.old.items ≡ b ∷ rest → IsFileRun design.old.tree march.now memory.now (ready memory.now (told b).tells) (done_of plan))) }
     ensures outputs { IfOk result (λ ended. IfSome ended (λ plan. (done_of plan).outputs ≡ [])) }
 {
     let device = take_first(devices, memory)?;
@@ -113,10 +112,10 @@ fn plan_benchfile(
     requires short { IsShort march.now memory.now }
     requires ports { wrong_port memory.now design.old.tree.ports ≡ None }
     requires some { 0 < vec_len devices.old }
-    requires room { FirstHasRoom memory.now.words (map (λ b. told (room_of b) (shape_of b) (tells b)) devices.old.items) }
+    requires room { FirstHasRoom memory.now.words (map (λ b. told b) devices.old.items) }
     ensures own { IfErr result IsOwnRefusal }
-    ensures answer { LeavesBenchFile design.old.tree march.now memory.now (map (λ b. told (room_of b) (shape_of b) (tells b)) devices.old.items) (plain result) }
-    ensures left { LeavesFirst (map (λ b. told (room_of b) (shape_of b) (tells b)) devices.old.items) (map (λ b. told (room_of b) (shape_of b) (tells b)) devices.new.items) (plain result) }
+    ensures answer { LeavesBenchFile design.old.tree march.now memory.now (map (λ b. told b) devices.old.items) (plain result) }
+    ensures left { LeavesFirst (map (λ b. told b) devices.old.items) (map (λ b. told b) devices.new.items) (plain result) }
     ensures outputs { IfOk result (λ plan. (done_of plan).outputs ≡ []) }
 {
     match run_first(alloc, design, march, memory, devices) {
@@ -136,7 +135,7 @@ fn test_design(
 ) -> Result<Plan, Refusal>
     requires zero { design.old.registers ≡ zero_registers design.old.tree }
     ensures own { IfErr result IsOwnRefusal }
-    ensures answer { TestsFile design.old.tree march.now memory.now (map (λ b. told (room_of b) (shape_of b) (tells b)) devices.old.items) (map (λ b. told (room_of b) (shape_of b) (tells b)) devices.new.items) (plain result) }
+    ensures answer { TestsFile design.old.tree march.now memory.now (map (λ b. told b) devices.old.items) (map (λ b. told b) devices.new.items) (plain result) }
     ensures outputs { IfOk result (λ plan. (done_of plan).outputs ≡ []) }
 {
     fit_length(march, memory)?;
@@ -162,7 +161,7 @@ fn decide_design<H: Host>(
     ensures writes { H.write_faults host.new ≡ H.write_faults host.old }
     ensures reads { H.read_faults host.old ≤ H.read_faults host.new }
     ensures outputs { IfOk result (λ plan. NamesWords words.now (done_of plan).outputs) }
-    ensures answer { DecidesFileRun (H.files host.old) (map (λ b. told (room_of b) (shape_of b) (tells b)) devices.old.items) (map (λ b. told (room_of b) (shape_of b) (tells b)) devices.new.items) words.now design.old.tree (plain result) }
+    ensures answer { DecidesFileRun (H.files host.old) (map (λ b. told b) devices.old.items) (map (λ b. told b) devices.new.items) words.now design.old.tree (plain result) }
     ensures cause { HasReadCause (H.files host.old) (Rose (H.read_faults host.old) (H.read_faults host.new)) result }
 {
     let march = read_march_input(host, words, 2)?;
@@ -183,7 +182,7 @@ pub fn decide_benchfile<H: Host>(
     ensures writes { H.write_faults host.new ≡ H.write_faults host.old }
     ensures reads { H.read_faults host.old ≤ H.read_faults host.new }
     ensures outputs { IfOk result (λ plan. NamesWords words.now (done_of plan).outputs) }
-    ensures answer { DecidesBenchFile (H.files host.old) (map (λ b. told (room_of b) (shape_of b) (tells b)) devices.old.items) (map (λ b. told (room_of b) (shape_of b) (tells b)) devices.new.items) words.now (plain result) }
+    ensures answer { DecidesBenchFile (H.files host.old) (map (λ b. told b) devices.old.items) (map (λ b. told b) devices.new.items) words.now (plain result) }
     ensures cause { HasReadCause (H.files host.old) (Rose (H.read_faults host.old) (H.read_faults host.new)) result }
 {
     let mut design = read_design_input(alloc, host, words, 1)?;

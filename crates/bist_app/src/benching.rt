@@ -10,7 +10,6 @@ ghost use Rattle.verilog_tree.specs.declared.fault.ReadFault.{ReadFault};
 ghost use Rattle.verilog_cycle.specs.Design.{IsNew, NoLoop, registers_of};
 ghost use Rattle.self_test.specs.SelfTest.{SelfTest};
 ghost use Rattle.word_device.specs.Ports.{shape_of as memory_shape};
-ghost use Rattle.word_device.specs.Boxes.{told};
 ghost use Rattle.bist_endings.specs.Ending.{done_of};
 ghost use Rattle.bist_app.specs.Vectors.{IsShort};
 ghost use Rattle.bist_app.specs.Bench.{FirstHasRoom, done_text, word_text, seen_text, bench_line, benched_done, AreWords, IsRun, ready};
@@ -178,8 +177,8 @@ pub fn run_plan(
 ) -> Result<Plan, NoMemory>
     requires test { SelfTest design.old.tree march.now memory.now }
     requires short { IsShort march.now memory.now }
-    requires fitted { shape_of device ≡ Some (memory_shape memory.now) }
-    ensures run { IfOk result (λ plan. IsRun march.now memory.now (tells device) (done_of plan)) }
+    requires fitted { (told device).shape ≡ Some (memory_shape memory.now) }
+    ensures run { IfOk result (λ plan. IsRun march.now memory.now (told device).tells (done_of plan)) }
     ensures outputs { IfOk result (λ plan. (done_of plan).outputs ≡ []) }
 {
     match bench(design, march, memory, device) {
@@ -208,10 +207,10 @@ pub fn bench_first(
 ) -> Result<Option<Plan>, NoMemory>
     requires short { IsShort march.now memory.now }
     requires some { 0 < vec_len devices.old }
-    requires room { FirstHasRoom memory.now.words (map (λ b. told (room_of b) (shape_of b) (tells b)) devices.old.items) }
+    requires room { FirstHasRoom memory.now.words (map (λ b. told b) devices.old.items) }
     ensures taken { OnOk result (devices.new.items ≡ drop 1 devices.old.items) }
-    ensures kept { OnErr result (map (λ b. told (room_of b) (shape_of b) (tells b)) devices.new.items ≡ map (λ b. told (room_of b) (shape_of b) (tells b)) devices.old.items) }
-    ensures run { IfOk result (λ ended. IfSome ended (λ plan. (b : _) (rest : _) → devices.old.items ≡ b ∷ rest → IsRun march.now memory.now (ready memory.now (tells b)) (done_of plan))) }
+    ensures kept { OnErr result (map (λ b. told b) devices.new.items ≡ map (λ b. told b) devices.old.items) }
+    ensures run { IfOk result (λ ended. IfSome ended (λ plan. (b : _) (rest : _) → devices.old.items ≡ b ∷ rest → IsRun march.now memory.now (ready memory.now (told b).tells) (done_of plan))) }
     ensures outputs { IfOk result (λ ended. IfSome ended (λ plan. (done_of plan).outputs ≡ [])) }
 {
     let mut design = self_test_design(alloc, march, memory)?;

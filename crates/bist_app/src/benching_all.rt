@@ -4,7 +4,6 @@ ghost use Rattle.std.specs.Prelude.{◌≡◌, ◌⊎◌, ◌≤◌, ◌<◌, �
 ghost use Rattle.verilog_cycle.specs.Design.{Fit, registers_of};
 ghost use Rattle.self_test.specs.SelfTest.{SelfTest};
 ghost use Rattle.word_device.specs.Ports.{shape_of as memory_shape};
-ghost use Rattle.word_device.specs.Boxes.{told};
 ghost use Rattle.word_device.specs.Runs.{AllRight, run_word};
 ghost use Rattle.bist_endings.specs.Ending.{done_of};
 ghost use Rattle.bist_app.specs.Vectors.{IsShort};
@@ -67,9 +66,9 @@ fn does_fail(
     requires test { SelfTest design.old.tree march.now memory.now }
     requires short { IsShort march.now memory.now }
     requires zeros { Fit (registers_of design.old.tree) zeros.now }
-    requires fitted { shape_of device ≡ Some (memory_shape memory.now) }
+    requires fitted { (told device).shape ≡ Some (memory_shape memory.now) }
     ensures kept { design.new.tree ≡ design.old.tree }
-    ensures end { IsEnd march.now memory.now (tells device) result }
+    ensures end { IsEnd march.now memory.now (told device).tells result }
 {
     design.set_registers(zeros);
     match bench(design, march, memory, device) {
@@ -102,11 +101,11 @@ fn bench_boxes(
     requires short { IsShort march.now memory.now }
     requires zeros { Fit (registers_of design.old.tree) zeros.now }
     requires count { count ≡ length devices.old.items }
-    requires rooms { HaveRoom memory.now.words (map (λ b. told (room_of b) (shape_of b) (tells b)) devices.old.items) }
+    requires rooms { HaveRoom memory.now.words (map (λ b. told b) devices.old.items) }
     ensures none_left { OnOk result (devices.new.items ≡ []) }
-    ensures gone { OnErr result (AreGone (map (λ b. told (room_of b) (shape_of b) (tells b)) devices.old.items) (map (λ b. told (room_of b) (shape_of b) (tells b)) devices.new.items)) }
+    ensures gone { OnErr result (AreGone (map (λ b. told b) devices.old.items) (map (λ b. told b) devices.new.items)) }
     ensures stays { OnErr result (0 < length devices.new.items) }
-    ensures counts { IfOk result (λ failing. CountsFailing march.now memory.now (map (λ b. told (room_of b) (shape_of b) (tells b)) devices.old.items) failing) }
+    ensures counts { IfOk result (λ failing. CountsFailing march.now memory.now (map (λ b. told b) devices.old.items) failing) }
 {
     answers_right(march, memory);
     let mut failing = 0;
@@ -137,10 +136,10 @@ pub fn bench_all(
     devices: &mut Vec<Box<dyn Device>>,
 ) -> Result<Plan, NoMemory>
     requires short { IsShort march.now memory.now }
-    requires rooms { HaveRoom memory.now.words (map (λ b. told (room_of b) (shape_of b) (tells b)) devices.old.items) }
+    requires rooms { HaveRoom memory.now.words (map (λ b. told b) devices.old.items) }
     ensures none_left { OnOk result (devices.new.items ≡ []) }
-    ensures gone { OnErr result (AreGone (map (λ b. told (room_of b) (shape_of b) (tells b)) devices.old.items) (map (λ b. told (room_of b) (shape_of b) (tells b)) devices.new.items)) }
-    ensures benched { IfOk result (λ plan. IsAllBenched march.now memory.now (map (λ b. told (room_of b) (shape_of b) (tells b)) devices.old.items) (done_of plan)) }
+    ensures gone { OnErr result (AreGone (map (λ b. told b) devices.old.items) (map (λ b. told b) devices.new.items)) }
+    ensures benched { IfOk result (λ plan. IsAllBenched march.now memory.now (map (λ b. told b) devices.old.items) (done_of plan)) }
 {
     let mut design = self_test_design(alloc, march, memory)?;
     let zeros = zeros_for(alloc, &design)?;

@@ -3,7 +3,7 @@
 ghost use Rattle.std.specs.Prelude.{◌≡◌, ◌≤◌, ◌<◌, ◌∷◌, Some, Ok, length, map, drop, vec_len, IsSome, IfOk, IfErr, OnOk, OnErr};
 ghost use Rattle.word_device.specs.declared.device.DeviceFault.{DeviceFault};
 ghost use Rattle.word_device.specs.Ports.{shape_of as memory_shape};
-ghost use Rattle.word_device.specs.Boxes.{told, after_fit, after_fill, IsShape};
+ghost use Rattle.word_device.specs.Boxes.{after_fit, after_fill, IsShape};
 ghost use Rattle.bist_inputs.specs.Inputs.{IsOwnRefusal};
 ghost use Rattle.bist_app.specs.Bench.{HasBox, FirstHasRoom, FitsRoom, ready};
 
@@ -15,7 +15,7 @@ use word_device::{Device, DeviceFault, Shape, shape_of};
 /// Refuses an empty list.
 #[tactic(auto, unfolding(crate::specs::Bench::HasBox))]
 pub fn has_box(devices: &[Box<dyn Device>]) -> Result<(), Refusal>
-    ensures answer { HasBox (map (λ b. told (room_of b) (shape_of b) (tells b)) devices.now) result }
+    ensures answer { HasBox (map (λ b. told b) devices.now) result }
     ensures own { IfErr result IsOwnRefusal }
     ensures some { IfOk result (λ _. 0 < length devices.now) }
 {
@@ -27,7 +27,7 @@ pub fn has_box(devices: &[Box<dyn Device>]) -> Result<(), Refusal>
 
 /// How many words a box has room for.
 pub fn room_of_box(device: &Box<dyn Device>) -> u32
-    ensures { result ≡ room_of device.now }
+    ensures { result ≡ (told device.now).room }
 {
     device.room()
 }
@@ -36,9 +36,9 @@ pub fn room_of_box(device: &Box<dyn Device>) -> u32
 #[tactic(auto, unfolding(crate::specs::Bench::FitsRoom))]
 pub fn fits_room(devices: &[Box<dyn Device>], memory: &Memory) -> Result<(), Refusal>
     requires some { 0 < length devices.now }
-    ensures answer { FitsRoom memory.now (map (λ b. told (room_of b) (shape_of b) (tells b)) devices.now) result }
+    ensures answer { FitsRoom memory.now (map (λ b. told b) devices.now) result }
     ensures own { IfErr result IsOwnRefusal }
-    ensures room { IfOk result (λ _. FirstHasRoom memory.now.words (map (λ b. told (room_of b) (shape_of b) (tells b)) devices.now)) }
+    ensures room { IfOk result (λ _. FirstHasRoom memory.now.words (map (λ b. told b) devices.now)) }
 {
     let room = room_of_box(&devices[0]);
     let words = memory.words();
@@ -62,9 +62,9 @@ fn want_of_box(fault: DeviceFault) -> NoMemory
 #[tactic(auto, using(crate::proofs::Fitting::want_of_fitted))]
 fn fit_box(device: &mut Box<dyn Device>, shape: &Shape) -> Result<(), NoMemory>
     requires shape { IsShape shape.now }
-    requires room { shape.now.words ≤ room_of device.old }
-    ensures ok { OnOk result (told (room_of device.new) (shape_of device.new) (tells device.new) ≡ told (room_of device.old) (Some shape.now) (after_fit shape.now (tells device.old))) }
-    ensures err { OnErr result (told (room_of device.new) (shape_of device.new) (tells device.new) ≡ told (room_of device.old) (shape_of device.old) (tells device.old)) }
+    requires room { shape.now.words ≤ (told device.old).room }
+    ensures ok { OnOk result (told device.new ≡ record (told device.old) { shape = Some shape.now; tells = after_fit shape.now (told device.old).tells }) }
+    ensures err { OnErr result (told device.new ≡ told device.old) }
 {
     match device.fit(shape) {
         Ok(()) => Ok(()),
@@ -74,8 +74,8 @@ fn fit_box(device: &mut Box<dyn Device>, shape: &Shape) -> Result<(), NoMemory>
 
 /// Fills a box with zeros.
 pub fn clear_box(device: &mut Box<dyn Device>)
-    requires { IsSome (shape_of device.old) }
-    ensures { told (room_of device.new) (shape_of device.new) (tells device.new) ≡ told (room_of device.old) (shape_of device.old) (after_fill (shape_of device.old) 0 (tells device.old)) }
+    requires { IsSome (told device.old).shape }
+    ensures { told device.new ≡ record (told device.old) { tells = after_fill (told device.old).shape 0 (told device.old).tells } }
 {
     device.fill(0);
 }
@@ -86,11 +86,11 @@ pub fn fit_first(
     memory: &Memory,
 ) -> Result<Box<dyn Device>, NoMemory>
     requires some { 0 < vec_len devices.old }
-    requires room { FirstHasRoom memory.now.words (map (λ b. told (room_of b) (shape_of b) (tells b)) devices.old.items) }
+    requires room { FirstHasRoom memory.now.words (map (λ b. told b) devices.old.items) }
     ensures taken { OnOk result (devices.new.items ≡ drop 1 devices.old.items) }
-    ensures kept { OnErr result (map (λ b. told (room_of b) (shape_of b) (tells b)) devices.new.items ≡ map (λ b. told (room_of b) (shape_of b) (tells b)) devices.old.items) }
-    ensures fitted { IfOk result (λ d. shape_of d ≡ Some (memory_shape memory.now)) }
-    ensures tells { IfOk result (λ d. (b : _) (rest : _) → devices.old.items ≡ b ∷ rest → tells d ≡ after_fit (memory_shape memory.now) (tells b)) }
+    ensures kept { OnErr result (map (λ b. told b) devices.new.items ≡ map (λ b. told b) devices.old.items) }
+    ensures fitted { IfOk result (λ d. (told d).shape ≡ Some (memory_shape memory.now)) }
+    ensures tells { IfOk result (λ d. (b : _) (rest : _) → devices.old.items ≡ b ∷ rest → (told d).tells ≡ after_fit (memory_shape memory.now) (told b).tells) }
 {
     let shape = shape_of(memory);
     fit_box(&mut devices[0], &shape)?;
@@ -103,11 +103,11 @@ pub fn take_first(
     memory: &Memory,
 ) -> Result<Box<dyn Device>, NoMemory>
     requires some { 0 < vec_len devices.old }
-    requires room { FirstHasRoom memory.now.words (map (λ b. told (room_of b) (shape_of b) (tells b)) devices.old.items) }
+    requires room { FirstHasRoom memory.now.words (map (λ b. told b) devices.old.items) }
     ensures taken { OnOk result (devices.new.items ≡ drop 1 devices.old.items) }
-    ensures kept { OnErr result (map (λ b. told (room_of b) (shape_of b) (tells b)) devices.new.items ≡ map (λ b. told (room_of b) (shape_of b) (tells b)) devices.old.items) }
-    ensures fitted { IfOk result (λ d. shape_of d ≡ Some (memory_shape memory.now)) }
-    ensures tells { IfOk result (λ d. (b : _) (rest : _) → devices.old.items ≡ b ∷ rest → tells d ≡ ready memory.now (tells b)) }
+    ensures kept { OnErr result (map (λ b. told b) devices.new.items ≡ map (λ b. told b) devices.old.items) }
+    ensures fitted { IfOk result (λ d. (told d).shape ≡ Some (memory_shape memory.now)) }
+    ensures tells { IfOk result (λ d. (b : _) (rest : _) → devices.old.items ≡ b ∷ rest → (told d).tells ≡ ready memory.now (told b).tells) }
 {
     let mut device = fit_first(devices, memory)?;
     clear_box(&mut device);

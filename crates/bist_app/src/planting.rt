@@ -5,7 +5,7 @@ ghost use Rattle.fault_core.specs.Primitive.{has_aggressor};
 ghost use Rattle.array_sim.specs.Detection.{Detects};
 ghost use Rattle.word_device.specs.Chips.{FitsMemory};
 ghost use Rattle.word_device.specs.Ports.{shape_of as memory_shape};
-ghost use Rattle.word_device.specs.Boxes.{told, after_plant, FitsBox};
+ghost use Rattle.word_device.specs.Boxes.{after_plant, FitsBox};
 ghost use Rattle.word_device.specs.Runs.{SomeWrong, run_word};
 ghost use Rattle.bist_endings.specs.Ending.{done_of};
 ghost use Rattle.bist_app.specs.Vectors.{IsShort};
@@ -34,9 +34,9 @@ pub fn answers_wrong(march: &March, memory: &Memory, planted: &Planted)
 
 /// Plants an instance that fits the box's shape.
 fn plant_box(device: &mut Box<dyn Device>, planted: &Planted)
-    requires fits { FitsBox (shape_of device.old) planted.now }
+    requires fits { FitsBox (told device.old).shape planted.now }
     requires places { is_some planted.now.agg ≡ has_aggressor planted.now.prim }
-    ensures { told (room_of device.new) (shape_of device.new) (tells device.new) ≡ told (room_of device.old) (shape_of device.old) (after_plant planted.now (tells device.old)) }
+    ensures { told device.new ≡ record (told device.old) { tells = after_plant planted.now (told device.old).tells } }
 {
     device.plant(planted).unwrap();
 }
@@ -49,13 +49,13 @@ fn take_planted(
     planted: &Planted,
 ) -> Result<Box<dyn Device>, NoMemory>
     requires some { 0 < vec_len devices.old }
-    requires room { FirstHasRoom memory.now.words (map (λ b. told (room_of b) (shape_of b) (tells b)) devices.old.items) }
+    requires room { FirstHasRoom memory.now.words (map (λ b. told b) devices.old.items) }
     requires fits { FitsMemory planted.now memory.now.words memory.now.bits }
     requires places { is_some planted.now.agg ≡ has_aggressor planted.now.prim }
     ensures taken { OnOk result (devices.new.items ≡ drop 1 devices.old.items) }
-    ensures kept { OnErr result (map (λ b. told (room_of b) (shape_of b) (tells b)) devices.new.items ≡ map (λ b. told (room_of b) (shape_of b) (tells b)) devices.old.items) }
-    ensures fitted { IfOk result (λ d. shape_of d ≡ Some (memory_shape memory.now)) }
-    ensures tells { IfOk result (λ d. (b : _) (rest : _) → devices.old.items ≡ b ∷ rest → tells d ≡ ready_planted memory.now planted.now (tells b)) }
+    ensures kept { OnErr result (map (λ b. told b) devices.new.items ≡ map (λ b. told b) devices.old.items) }
+    ensures fitted { IfOk result (λ d. (told d).shape ≡ Some (memory_shape memory.now)) }
+    ensures tells { IfOk result (λ d. (b : _) (rest : _) → devices.old.items ≡ b ∷ rest → (told d).tells ≡ ready_planted memory.now planted.now (told b).tells) }
 {
     let mut device = fit_first(devices, memory)?;
     plant_box(&mut device, planted);
@@ -74,12 +74,12 @@ pub fn bench_planted(
 ) -> Result<Option<Plan>, NoMemory>
     requires short { IsShort march.now memory.now }
     requires some { 0 < vec_len devices.old }
-    requires room { FirstHasRoom memory.now.words (map (λ b. told (room_of b) (shape_of b) (tells b)) devices.old.items) }
+    requires room { FirstHasRoom memory.now.words (map (λ b. told b) devices.old.items) }
     requires fits { FitsMemory planted.now memory.now.words memory.now.bits }
     requires places { is_some planted.now.agg ≡ has_aggressor planted.now.prim }
     ensures taken { OnOk result (devices.new.items ≡ drop 1 devices.old.items) }
-    ensures kept { OnErr result (map (λ b. told (room_of b) (shape_of b) (tells b)) devices.new.items ≡ map (λ b. told (room_of b) (shape_of b) (tells b)) devices.old.items) }
-    ensures run { IfOk result (λ ended. IfSome ended (λ plan. (b : _) (rest : _) → devices.old.items ≡ b ∷ rest → IsRun march.now memory.now (ready_planted memory.now planted.now (tells b)) (done_of plan))) }
+    ensures kept { OnErr result (map (λ b. told b) devices.new.items ≡ map (λ b. told b) devices.old.items) }
+    ensures run { IfOk result (λ ended. IfSome ended (λ plan. (b : _) (rest : _) → devices.old.items ≡ b ∷ rest → IsRun march.now memory.now (ready_planted memory.now planted.now (told b).tells) (done_of plan))) }
     ensures outputs { IfOk result (λ ended. IfSome ended (λ plan. (done_of plan).outputs ≡ [])) }
 {
     let mut design = self_test_design(alloc, march, memory)?;

@@ -1,6 +1,5 @@
 ghost use Rattle.std.specs.Prelude.{◌≡◌, ◌≤◌, ◌⊎◌, IfOk, None, codes, map};
 ghost use Rattle.bist_host.specs.Files.{Rose};
-ghost use Rattle.word_device.specs.Boxes.{told};
 ghost use Rattle.bist_endings.specs.Ending.{plain, done_of};
 ghost use Rattle.bist_inputs.specs.Inputs.{HasReadCause};
 ghost use Rattle.bist_endings.specs.Conclude.{NamesWords};
@@ -37,7 +36,7 @@ fn decide<H: Host>(
     ensures writes { H.write_faults host.new ≡ H.write_faults host.old }
     ensures reads { H.read_faults host.old ≤ H.read_faults host.new }
     ensures outputs { IfOk result (λ plan. NamesWords words.now (done_of plan).outputs) }
-    ensures answer { Decides (H.files host.old) (map (λ b. told (room_of b) (shape_of b) (tells b)) devices.old.items) (map (λ b. told (room_of b) (shape_of b) (tells b)) devices.new.items) words.now (plain result) }
+    ensures answer { Decides (H.files host.old) (map (λ b. told b) devices.old.items) (map (λ b. told b) devices.new.items) words.now (plain result) }
     ensures cause { HasReadCause (H.files host.old) (Rose (H.read_faults host.old) (H.read_faults host.new)) result }
     ensures make { word words.now 0 ≡ codes "make" → H.read_faults host.new ≡ H.read_faults host.old }
 {
@@ -65,7 +64,7 @@ fn decide_and_end<H: Host>(
     ensures reads { H.read_faults host.old ≤ H.read_faults host.new }
     ensures make { word words.now 0 ≡ codes "make" → H.read_faults host.new ≡ H.read_faults host.old }
     ensures writes { H.write_faults host.old ≤ H.write_faults host.new }
-    ensures answer { Runs words.now (map (λ b. told (room_of b) (shape_of b) (tells b)) devices.old.items) (map (λ b. told (room_of b) (shape_of b) (tells b)) devices.new.items) (H.files host.old) (H.files host.new) (H.said host.old) (H.said host.new)
+    ensures answer { Runs words.now (map (λ b. told b) devices.old.items) (map (λ b. told b) devices.new.items) (H.files host.old) (H.files host.new) (H.said host.old) (H.said host.new)
         (Rose (H.read_faults host.old) (H.read_faults host.new)) (Rose (H.write_faults host.old) (H.write_faults host.new)) result.status }
 {
     let outcome = decide(alloc, words, host, devices);
@@ -83,16 +82,16 @@ pub fn run<H: Host>(
     ensures reads { H.read_faults host.old ≤ H.read_faults host.new }
     ensures make { word words.now 0 ≡ codes "make" → H.read_faults host.new ≡ H.read_faults host.old }
     ensures writes { H.write_faults host.old ≤ H.write_faults host.new }
-    ensures answer { Runs words.now (map (λ b. told (room_of b) (shape_of b) (tells b)) devices.old.items) (map (λ b. told (room_of b) (shape_of b) (tells b)) devices.new.items) (H.files host.old) (H.files host.new) (H.said host.old) (H.said host.new)
+    ensures answer { Runs words.now (map (λ b. told b) devices.old.items) (map (λ b. told b) devices.new.items) (H.files host.old) (H.files host.new) (H.said host.old) (H.said host.new)
         (Rose (H.read_faults host.old) (H.read_faults host.new)) (Rose (H.write_faults host.old) (H.write_faults host.new)) result.status }
-    ensures complete { IsComplete words.now (map (λ b. told (room_of b) (shape_of b) (tells b)) devices.old.items) (map (λ b. told (room_of b) (shape_of b) (tells b)) devices.new.items) (H.files host.old) (H.files host.new) (H.said host.old) (H.said host.new)
+    ensures complete { IsComplete words.now (map (λ b. told b) devices.old.items) (map (λ b. told b) devices.new.items) (H.files host.old) (H.files host.new) (H.said host.old) (H.said host.new)
         (Rose (H.read_faults host.old) (H.read_faults host.new)) (Rose (H.write_faults host.old) (H.write_faults host.new)) result.status }
 
     // What `compile` leaves where it ends with 0 or 1.
     ensures compilation { LeavesCompilation words.now (H.files host.old) (H.files host.new) (H.said host.old) (H.said host.new) result.status }
 
-    ensures one_answer { RunHasOneAnswer (H.files host.old) (map (λ b. told (room_of b) (shape_of b) (tells b)) devices.old.items) words.now }
-    ensures one_files { HaveSameFiles (H.files host.old) (map (λ b. told (room_of b) (shape_of b) (tells b)) devices.old.items) words.now }
+    ensures one_answer { RunHasOneAnswer (H.files host.old) (map (λ b. told b) devices.old.items) words.now }
+    ensures one_files { HaveSameFiles (H.files host.old) (map (λ b. told b) devices.old.items) words.now }
 
     // When the statuses of words and of faults come.
     ensures usage { result.status ≡ 2 → HasNoShape words.now }

@@ -4,7 +4,6 @@
 ghost use Rattle.std.specs.Prelude.{◌≡◌, IfOk, IfErr, map, drop, string_bytes};
 ghost use Rattle.std.specs.Vec.Iter.{into_iter_items};
 ghost use Rattle.bist_host.specs.Files.{Rose};
-ghost use Rattle.word_device.specs.Boxes.{told};
 ghost use Rattle.bist_cli.specs.Program.{own_box, RunsAlone, RunsTexts};
 
 use bist_app::run;
@@ -71,7 +70,7 @@ fn run_with<H: Host>(
     host: &mut H,
     device: Box<dyn Device>,
 ) -> Result<u8, AllocError>
-    requires own { told (room_of device) (shape_of device) (tells device) ≡ own_box }
+    requires own { told device ≡ own_box }
     ensures runs { IfOk result (RunsAlone words.now (H.files host.old) (H.files host.new) (H.said host.old) (H.said host.new)
         (Rose (H.read_faults host.old) (H.read_faults host.new)) (Rose (H.write_faults host.old) (H.write_faults host.new))) }
     ensures untouched { IfErr result (λ _. host.new ≡ host.old) }

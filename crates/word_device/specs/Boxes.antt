@@ -122,9 +122,6 @@ pub record Told : Type 0 where
   pub shape : Option Shape
   pub tells : Tells
 
-abbrev pub told : ℕ → Option Shape → Tells → Told
-told r s t = record { room = r; shape = s; tells = t }
-
 -- a memory of words: its room, its shape, once it has one, and its chip
 pub record ArrayState : Type 0 where
   pub room : ℕ

@@ -155,11 +155,7 @@ fn rest(shape: &Shape, planted: &Option<Planted>, words: &mut [u64], idle: u32) 
 impl Device for ArrayDevice {
     ghost use Rattle.word_device.specs.Boxes.{TellsChip};
 
-    ghost room_of = { λ s. s.room };
-
-    ghost shape_of = { λ s. s.shape };
-
-    ghost tells = { λ s. TellsChip s.chip };
+    ghost told = { λ s. record { room = s.room; shape = s.shape; tells = TellsChip s.chip } };
 
     fn room(&self) -> u32 {
         self.room

@@ -1,6 +1,6 @@
 ghost use Rattle.std.specs.Prelude.{◌≡◌, ◌≢◌, ℕ, ◌<◌, ◌↔◌, Option, Some, IsTrue, IsSome, IsOk, IfErr, is_some, Err, OnOk, OnErr};
 ghost use Rattle.fault_core.specs.Primitive.{has_aggressor};
-ghost use Rattle.word_device.specs.Boxes.{Tells, told, IsShape, IsTold, FitsBox, after_fit, after_plant, after_fill, after_cycle, Answers};
+ghost use Rattle.word_device.specs.Boxes.{Told, IsShape, IsTold, FitsBox, after_fit, after_plant, after_fill, after_cycle, Answers};
 
 use crate::shape::Shape;
 use fault_core::Prim;
@@ -49,58 +49,51 @@ pub enum DeviceFault {
 ///
 /// It tells its chip, or the script of its answers, or nothing; which of them never changes.
 pub trait Device: Drop {
-    ghost use Rattle.word_device.specs.declared.shape.Shape.{Shape};
-
-    ghost room_of: { Self → ℕ };
-
-    ghost shape_of: { Self → Option Shape };
-
-    ghost tells: { Self → Tells };
+    /// How many words it has room for, its shape once it has one, and what it tells.
+    ghost told: { Self → Told };
 
     /// How many words it has room for.
     fn room(&self) -> u32
-        ensures { result ≡ room_of self.now };
+        ensures { result ≡ (told self.now).room };
 
     /// Whether it has a shape.
     fn fitted(&self) -> bool
-        ensures fitted { IsTrue result ↔ IsSome (shape_of self.now) }
-        ensures told { IsTold (shape_of self.now) (tells self.now) };
+        ensures fitted { IsTrue result ↔ IsSome (told self.now).shape }
+        ensures told { IsTold (told self.now).shape (told self.now).tells };
 
     /// Takes a shape: all words are 0, nothing is planted, the answers under way are 0, and no idle cycle is counted. A script goes on where
     /// it stands. Refused with V1 exactly where it has room for fewer words, and else with V3 where no memory is found. After a refusal the
     /// box is as before.
     fn fit(&mut self, shape: &Shape) -> Result<(), DeviceFault>
         requires { IsShape shape.now }
-        ensures ok { OnOk result (told (room_of self.new) (shape_of self.new) (tells self.new)
-            ≡ told (room_of self.old) (Some shape.now) (after_fit shape.now (tells self.old))) }
-        ensures err { OnErr result (told (room_of self.new) (shape_of self.new) (tells self.new)
-            ≡ told (room_of self.old) (shape_of self.old) (tells self.old)) }
-        ensures too_big { result ≡ Err DeviceFault.TooBig ↔ (room_of self.old < shape.now.words) }
+        ensures ok { OnOk result (told self.new
+            ≡ record (told self.old) { shape = Some shape.now; tells = after_fit shape.now (told self.old).tells }) }
+        ensures err { OnErr result (told self.new ≡ told self.old) }
+        ensures too_big { result ≡ Err DeviceFault.TooBig ↔ ((told self.old).room < shape.now.words) }
         ensures places { IfErr result (λ fault. fault ≢ DeviceFault.BadPlace) };
 
     /// Plants an instance in place of an earlier one, and closes the words. Refused, with V2, exactly where the instance doesn't fit.
     fn plant(&mut self, planted: &Planted) -> Result<(), DeviceFault>
-        requires fitted { IsSome (shape_of self.old) }
+        requires fitted { IsSome (told self.old).shape }
         requires places { is_some planted.now.agg ≡ has_aggressor planted.now.prim }
-        ensures ok { OnOk result (told (room_of self.new) (shape_of self.new) (tells self.new)
-            ≡ told (room_of self.old) (shape_of self.old) (after_plant planted.now (tells self.old))) }
-        ensures err { OnErr result (told (room_of self.new) (shape_of self.new) (tells self.new)
-            ≡ told (room_of self.old) (shape_of self.old) (tells self.old)) }
-        ensures fits { IsOk result ↔ FitsBox (shape_of self.old) planted.now }
+        ensures ok { OnOk result (told self.new
+            ≡ record (told self.old) { tells = after_plant planted.now (told self.old).tells }) }
+        ensures err { OnErr result (told self.new ≡ told self.old) }
+        ensures fits { IsOk result ↔ FitsBox (told self.old).shape planted.now }
         ensures bad_place { IfErr result (λ fault. fault ≡ DeviceFault.BadPlace) };
 
     /// Stores the words that a number stands for, and closes them: word k is the low bits of `x ^ (x >> 32)`, where x is the number times
     /// 2k + 1, modulo 2^64; so the number 0 stands for zeros. They are stored as they are, the polarity isn't applied. The answers under way
     /// and the count of idle cycles stay. A script starts over.
     fn fill(&mut self, number: u64)
-        requires fitted { IsSome (shape_of self.old) }
-        ensures { told (room_of self.new) (shape_of self.new) (tells self.new)
-            ≡ told (room_of self.old) (shape_of self.old) (after_fill (shape_of self.old) number (tells self.old)) };
+        requires fitted { IsSome (told self.old).shape }
+        ensures { told self.new
+            ≡ record (told self.old) { tells = after_fill (told self.old).shape number (told self.old).tells } };
 
     /// Acts on the command, and answers the word that stands at the port in the next cycle.
     fn cycle(&mut self, cmd: &PortCmd) -> u64
-        requires fitted { IsSome (shape_of self.old) }
-        ensures new { told (room_of self.new) (shape_of self.new) (tells self.new)
-            ≡ told (room_of self.old) (shape_of self.old) (after_cycle (shape_of self.old) cmd.now (tells self.old)) }
-        ensures answer { Answers (shape_of self.old) cmd.now (tells self.old) result };
+        requires fitted { IsSome (told self.old).shape }
+        ensures new { told self.new
+            ≡ record (told self.old) { tells = after_cycle (told self.old).shape cmd.now (told self.old).tells } }
+        ensures answer { Answers (told self.old).shape cmd.now (told self.old).tells result };
 }

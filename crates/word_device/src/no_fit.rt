@@ -27,11 +27,7 @@ impl NoFitDevice {
 impl Device for NoFitDevice {
     ghost use Rattle.word_device.specs.Boxes.{TellsNothing};
 
-    ghost room_of = { λ s. s.room };
-
-    ghost shape_of = { λ s. s.shape };
-
-    ghost tells = { λ s. TellsNothing };
+    ghost told = { λ s. record { room = s.room; shape = s.shape; tells = TellsNothing } };
 
     fn room(&self) -> u32 {
         self.room

@@ -10,7 +10,7 @@ invariant-loop-cycle g l =
     let B0 = goal.Device-dyn g (l.fn.device.vtable, l.fn.device.value) in
     record {
       kept : l.design ≡ with_registers l.fn.design l.design.registers;
-      room : B.room_of l.device.value ≡ B0.room_of l.fn.device.value;
-      fitted : B.shape_of l.device.value ≡ Some (memory_shape l.memory);
-      stage : Stage l.fn.design.tree l.march l.memory l.fn.design.registers (B0.tells l.fn.device.value) l.cycle l.design.registers l.watch (B.tells l.device.value) l.control;
+      room : (B.told l.device.value).room ≡ (B0.told l.fn.device.value).room;
+      fitted : (B.told l.device.value).shape ≡ Some (memory_shape l.memory);
+      stage : Stage l.fn.design.tree l.march l.memory l.fn.design.registers (B0.told l.fn.device.value).tells l.cycle l.design.registers l.watch (B.told l.device.value).tells l.control;
     }

@@ -1,5 +1,4 @@
 use Rattle.std.proofs.Common.{◌≡◌, ◌+◌, ◌≤◌, length, map}
-use Rattle.word_device.specs.Boxes.{told}
 use Rattle.bist_app.specs.BenchAll.{AreGone, HaveRoom}
 use Rattle.bist_app.specs.BenchedBoxes.{GoesOn}
 use Rattle.bist_app.proofs.benching_all.bench_boxes.Given as goal
@@ -7,8 +6,8 @@ use Rattle.bist_app.proofs.benching_all.bench_boxes.Given as goal
 -- the boxes that are gone were benched, and so many of them failed
 abbrev pub invariant-loop-devices : goal.invariant-loop-devices
 invariant-loop-devices g l =
-    let first = map (λ b. let B = goal.Device-dyn g (b.vtable, b.value) in told (B.room_of b.value) (B.shape_of b.value) (B.tells b.value)) l.fn.devices.items in
-    let left = map (λ b. let B = goal.Device-dyn g (b.vtable, b.value) in told (B.room_of b.value) (B.shape_of b.value) (B.tells b.value)) l.devices.items in
+    let first = map (λ b. let B = goal.Device-dyn g (b.vtable, b.value) in B.told b.value) l.fn.devices.items in
+    let left = map (λ b. let B = goal.Device-dyn g (b.vtable, b.value) in B.told b.value) l.devices.items in
     record {
       tree : l.design.tree ≡ l.fn.design.tree;
       bound : l.failing + length l.devices.items ≤ l.count;
