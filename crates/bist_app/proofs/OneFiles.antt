@@ -9,6 +9,7 @@ use Rattle.memory_desc.specs.Printed.{printed}
 use Rattle.memory_desc.proofs.Determined.{width_one, log_set_one}
 use Rattle.scrambler.specs.Scrambling.{identity}
 use Rattle.verilog_tree.specs.Plain.{ModuleTree}
+use Rattle.verilog_tree.specs.Grammar.{Parenthesised}
 use Rattle.dynamic_core.specs.declared.item.Item.{Item}
 use Rattle.report.specs.Report.{IsMixedReport}
 use Rattle.report.proofs.OneReport.{text_one}
@@ -148,7 +149,7 @@ decides_fault files boxes left words shape =
 
 decides_file : (files : Option Files) (boxes left : Boxes) (words : Words) → WritesNone (DecidesBenchFile files boxes left words)
 decides_file files boxes left words =
-    before_none boxes left (InputModule files words 1) _ (λ mo.
+    before_none boxes left (InputModule Parenthesised files words 1) _ (λ mo.
     before_none boxes left (InputMarch files words 2) _ (λ march.
     before_none boxes left (InputMemory files words 3) _ (λ m.
     before_none boxes left (FitsLength march m) _ (λ _.

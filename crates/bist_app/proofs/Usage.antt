@@ -24,6 +24,7 @@ use Rattle.bist_app.specs.Compile.{LeavesCompile, DecidesCompile}
 use Rattle.word_device.specs.declared.device.Planted.{Planted}
 use Rattle.bist_app.specs.Bench.{Boxes, HasBox, FitsRoom, LeavesBench, DecidesBench}
 use Rattle.verilog_tree.specs.Plain.{ModuleTree}
+use Rattle.verilog_tree.specs.Grammar.{Parenthesised}
 use Rattle.bist_app.specs.BenchFile.{HasPorts, LeavesBenchFile, DecidesBenchFile}
 use Rattle.bist_app.specs.Make.{LeavesMake}
 use Rattle.bist_app.specs.BenchFault.{FitsPlaces, planted_of, LeavesFault, DecidesFault}
@@ -133,7 +134,7 @@ file_leaves_never mo march d (box ∷ boxes) h = h
 
 file_never : (files : Option Files) (boxes left : Boxes) (words : Words) → NeverUsage (DecidesBenchFile files boxes left words)
 file_never files boxes left words (Err e, read, is) =
-    input_module_never files words 1 (turned (InputModule files words 1) (let x : Result Done Refusal = Err Refusal.Usage in x) e refl is.0 read)
+    input_module_never Parenthesised files words 1 (turned (InputModule Parenthesised files words 1) (let x : Result Done Refusal = Err Refusal.Usage in x) e refl is.0 read)
 file_never files boxes left words (Ok mo, read, (Err e, given, is)) =
     input_march_never files words 2 (turned (InputMarch files words 2) (let x : Result Done Refusal = Err Refusal.Usage in x) e refl is.0 given)
 file_never files boxes left words (Ok mo, read, (Ok march, given, (Err e, described, is))) =
