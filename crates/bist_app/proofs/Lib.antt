@@ -23,6 +23,8 @@ pub mod Benched
 pub mod BenchedFile
 pub mod Apart
 pub mod OneBenchFile
+pub mod Checked
+pub mod OneCheck
 pub mod Making
 pub mod Caught
 pub mod Faulted

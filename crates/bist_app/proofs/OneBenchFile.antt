@@ -42,7 +42,7 @@ some_or_none o n h i = cc
 same_name : (o : Option (List ℕ)) (m n : List ℕ) → o ≡ Some m → o ≡ Some n → m ≡ n
 same_name o m n h i = cc
 
-ports_one : (d : Description) (mo : ModuleTree) → HasOneValue (HasPorts d mo)
+pub ports_one : (d : Description) (mo : ModuleTree) → HasOneValue (HasPorts d mo)
 unfolding HasPorts
 ports_one d mo (Ok u) (Ok v) f g r s = refl
 ports_one d mo (Ok u) (Err (Refusal.Verilog (VerilogRefusal.WrongPort n))) f g r s = absurd (some_or_none (wrong_port d mo.ports) n.bytes g f)

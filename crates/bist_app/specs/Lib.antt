@@ -7,6 +7,7 @@ pub mod Bench
 pub mod BenchFile
 pub mod BenchFault
 pub mod BenchAll
+pub mod Check
 pub mod BenchedBoxes
 pub mod Compile
 pub mod Headline

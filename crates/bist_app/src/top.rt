@@ -13,6 +13,7 @@ use crate::bench_command::decide_bench;
 use crate::benchall_command::decide_bench_all;
 use crate::benchfault_command::decide_fault;
 use crate::benchfile_command::decide_benchfile;
+use crate::check_command::decide_check;
 use crate::commands::{Command, command_of};
 use crate::compile::decide_compile;
 use crate::judge::decide_judge;
@@ -52,6 +53,7 @@ fn decide<H: Host>(
         Some(Command::Make(number)) => decide_make(alloc, words, number),
         Some(Command::BenchFault(shape)) => decide_fault(alloc, words, shape, host, devices),
         Some(Command::BenchAll) => decide_bench_all(alloc, words, host, devices),
+        Some(Command::Check) => decide_check(alloc, words, host),
     }
 }
 
