@@ -5,6 +5,7 @@ pub mod SameBoxes
 pub mod Usage
 pub mod Statuses
 pub mod Headline
+pub mod Conformance
 pub mod Complete
 pub mod Shapes
 pub mod DirectionWord

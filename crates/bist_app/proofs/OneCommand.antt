@@ -153,3 +153,6 @@ command_one words c d h i = by_name words c (bare d) (own d) (ap read (has_name 
 
 pub only_compile : (words : Words) (c : Command) → word words 0 ≡ codes "compile" → HasShape words c → c ≡ Command.Compile
 only_compile words c e h = by_name words c Command.Compile tt (ap read e) tt h
+
+pub only_check : (words : Words) (c : Command) → word words 0 ≡ codes "check" → HasShape words c → c ≡ Command.Check
+only_check words c e h = by_name words c Command.Check tt (ap read e) tt h

@@ -11,6 +11,7 @@ pub mod Check
 pub mod BenchedBoxes
 pub mod Compile
 pub mod Headline
+pub mod Conformance
 pub mod Make
 pub mod LetterBits
 pub mod Run

@@ -6,6 +6,7 @@ ghost use Rattle.bist_inputs.specs.Inputs.{HasReadCause};
 ghost use Rattle.bist_endings.specs.Conclude.{NamesWords};
 ghost use Rattle.bist_endings.specs.Words.{word};
 ghost use Rattle.bist_app.specs.Answer.{IsComplete, RunHasOneAnswer, HaveSameFiles};
+ghost use Rattle.bist_app.specs.Conformance.{LeavesConformance};
 ghost use Rattle.bist_app.specs.Headline.{LeavesCompilation};
 ghost use Rattle.bist_app.specs.Run.{Decides, Runs, HasNoShape};
 
@@ -92,6 +93,9 @@ pub fn run<H: Host>(
 
     // What `compile` leaves where it ends with 0 or 1.
     ensures compilation { LeavesCompilation words.now (H.files host.old) (H.files host.new) (H.said host.old) (H.said host.new) result.status }
+
+    // What `check` tells where it ends with 0 or 1.
+    ensures conformance { LeavesConformance words.now (H.files host.old) (H.files host.new) (H.said host.old) (H.said host.new) result.status }
 
     ensures one_answer { RunHasOneAnswer (H.files host.old) (map (λ b. told (room_of b) (shape_of b) (tells b)) devices.old.items) words.now }
     ensures one_files { HaveSameFiles (H.files host.old) (map (λ b. told (room_of b) (shape_of b) (tells b)) devices.old.items) words.now }
