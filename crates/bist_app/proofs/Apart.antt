@@ -30,3 +30,7 @@ before_but_names boxes first rest one each r s tells (x, f) (y, g) rs ss =
 pub with_left : {Tells : Type 0} (checks : Result Done Refusal → Type 0) (leaves : Boxes → Result Done Refusal → Type 0) → HasOneAnswer Tells checks
     → HasOneAnswer Tells (SomeLeft (λ left outcome. checks outcome × leaves left outcome))
 with_left checks leaves one r s tells (x, f) (y, g) rs ss = one r s tells f.0 g.0 rs ss
+
+pub left_but_names : {Tells : Type 0} (checks : Result Done Refusal → Type 0) (leaves : Boxes → Result Done Refusal → Type 0) → HasOneAnswerButNames Tells checks
+    → HasOneAnswerButNames Tells (SomeLeft (λ left outcome. checks outcome × leaves left outcome))
+left_but_names checks leaves one r s tells (x, f) (y, g) rs ss = one r s tells f.0 g.0 rs ss

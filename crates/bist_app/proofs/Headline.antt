@@ -23,29 +23,29 @@ use Rattle.bist_app.specs.Run.{HasShape, Decides, DecidesCommand, Runs}
 
 -- ---- what can't be
 
-not_refused : {A E : Type 0} {value : A} {error : E} → Ok value ≡ Err error → ⊥
+pub not_refused : {A E : Type 0} {value : A} {error : E} → Ok value ≡ Err error → ⊥
 not_refused same = cc
 
-too_high : (n k : ℕ) → n ≡ k → 2 ≤ k → n ≤ 1 → ⊥
+pub too_high : (n k : ℕ) → n ≡ k → 2 ≤ k → n ≤ 1 → ⊥
 too_high n k is high low = omega (arith, is, high, low)
 
-eight_high : 2 ≤ 8
+pub eight_high : 2 ≤ 8
 eight_high = omega arith
 
-nine_high : 2 ≤ 9
+pub nine_high : 2 ≤ 9
 nine_high = omega arith
 
 -- ---- the inputs
 
-march_read : (files : Files) (words : Words) (march : List MarchElement) → InputMarch (Some files) words 1 (Ok march) → InputHas files (word words 1) (λ bytes. ReadsMarch bytes (Ok march))
+pub march_read : (files : Files) (words : Words) (position : ℕ) (march : List MarchElement) → InputMarch (Some files) words position (Ok march) → InputHas files (word words position) (λ bytes. ReadsMarch bytes (Ok march))
 unfolding InputMarch GivesMarch
-march_read files words march (Ok bytes, gives, reads) = (bytes, gives.0, (gives.1, reads))
-march_read files words march (Err e, gives, same) = absurd (not_refused same)
+march_read files words position march (Ok bytes, gives, reads) = (bytes, gives.0, (gives.1, reads))
+march_read files words position march (Err e, gives, same) = absurd (not_refused same)
 
-memory_read : (files : Files) (words : Words) (d : Description) → InputMemory (Some files) words 2 (Ok d) → IsMemory d × InputHas files (word words 2) (λ bytes. ReadsMemory bytes (Ok d))
+pub memory_read : (files : Files) (words : Words) (position : ℕ) (d : Description) → InputMemory (Some files) words position (Ok d) → IsMemory d × InputHas files (word words position) (λ bytes. ReadsMemory bytes (Ok d))
 unfolding InputMemory GivesMemory
-memory_read files words d (Ok bytes, gives, reads) = (reads.1, (bytes, gives.0, (gives.1, reads.0)))
-memory_read files words d (Err e, gives, same) = absurd (not_refused same)
+memory_read files words position d (Ok bytes, gives, reads) = (reads.1, (bytes, gives.0, (gives.1, reads.0)))
+memory_read files words position d (Err e, gives, same) = absurd (not_refused same)
 
 list_read : (files : Files) (words : Words) (items : List Item) → InputList (Some files) words 3 (Ok items) → InputHas files (word words 3) (λ bytes. ReadsItems bytes (Ok items))
 unfolding InputList GivesList
@@ -71,10 +71,10 @@ inputs files words done (Ok march, first, (Ok memory, second, (Err e, third, sam
 inputs files words done (Ok march, first, (Ok memory, second, (Ok items, third, compiled))) = record {
   march = march;
   memory = memory;
-  is_memory = (memory_read files words memory second).0;
+  is_memory = (memory_read files words 2 memory second).0;
   items = items;
-  march_text = march_read files words march first;
-  memory_text = (memory_read files words memory second).1;
+  march_text = march_read files words 1 march first;
+  memory_text = (memory_read files words 2 memory second).1;
   list_text = list_read files words items third;
   compiled = compiled;
 }
@@ -122,7 +122,7 @@ status_high (Refusal.TooLong n) = omega arith
 status_high (Refusal.Misfit m) = omega arith
 status_high (Refusal.Verilog v) = omega arith
 
-refused_high : (e : Refusal) (s s' : Option (List ℕ)) (wr : Type 0) (n : ℕ) → RefusalEnds e s s' wr n → n ≤ 1 → ⊥
+pub refused_high : (e : Refusal) (s s' : Option (List ℕ)) (wr : Type 0) (n : ℕ) → RefusalEnds e s s' wr n → n ≤ 1 → ⊥
 refused_high e s s' wr n (inl h) low = too_high n (status_of e) h.0 (status_high e) low
 refused_high e s s' wr n (inr (inl h)) low = too_high n (status_of e) h.0 (status_high e) low
 refused_high e s s' wr n (inr (inr h)) low = too_high n 9 h.0 nine_high low

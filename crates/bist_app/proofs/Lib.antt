@@ -5,6 +5,7 @@ pub mod SameBoxes
 pub mod Usage
 pub mod Statuses
 pub mod Headline
+pub mod Conformance
 pub mod Complete
 pub mod Shapes
 pub mod DirectionWord
@@ -23,6 +24,8 @@ pub mod Benched
 pub mod BenchedFile
 pub mod Apart
 pub mod OneBenchFile
+pub mod Checked
+pub mod OneCheck
 pub mod Making
 pub mod Caught
 pub mod Faulted

@@ -16,11 +16,12 @@ use Rattle.bist_app.specs.Compile.{DecidesCompile}
 use Rattle.bist_app.specs.Run.{HasShape, DecidesCommand, Decides}
 use Rattle.bist_app.specs.Bench.{Boxes, HasBox, FitsRoom, LeavesBench, LeavesFirst, DecidesBench}
 use Rattle.bist_app.proofs.OneBenchFile.{bench_file_answer}
+use Rattle.bist_app.proofs.OneCheck.{check_answer}
 use Rattle.bist_app.specs.declared.benchfault_command.FaultShape.{FaultShape}
 use Rattle.bist_app.specs.BenchFault.{FitsPlaces, planted_of, LeavesFault, DecidesFault}
 use Rattle.bist_app.specs.BenchAll.{FitsRooms, LeavesAll, LeavesNone, DecidesBenchAll}
 use Rattle.bist_app.specs.Answer.{FirstTells, AllTell, CalledTell, RunHasOneAnswer}
-use Rattle.bist_app.proofs.Apart.{SomeLeft, before_answer, with_left}
+use Rattle.bist_app.proofs.Apart.{SomeLeft, before_answer, with_left, left_but_names}
 use Rattle.bist_app.proofs.OneBench.{box_one, room_one, bench_one, places_one, fault_one}
 use Rattle.bist_app.proofs.OneAll.{rooms_one, all_one}
 use Rattle.bist_app.proofs.OneCommand.{command_one}
@@ -95,6 +96,7 @@ command_answer files boxes words Command.Bench = but_names _ (bench_answer files
 command_answer files boxes words (Command.BenchFault shape) = but_names _ (fault_answer files boxes words shape)
 command_answer files boxes words Command.BenchFile = bench_file_answer files boxes words
 command_answer files boxes words Command.BenchAll = but_names _ (all_answer files boxes words)
+command_answer files boxes words Command.Check = left_but_names _ (λ left _. left ≡ boxes) (check_answer files words)
 command_answer files boxes words (Command.Make number) = but_names _ (with_left _ (λ left _. left ≡ boxes) (make_one number))
 
 decides_answer : (files : Files) (boxes : Boxes) (words : Words)

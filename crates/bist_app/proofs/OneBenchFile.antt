@@ -2,6 +2,7 @@
 use Rattle.std.proofs.Common.{◌≡◌, ◌≢◌, ◌+◌, ◌∙◌, ◌++◌, ℕ, Bool, List, [], ◌∷◌, Option, Some, None, Ok, Err, codes, refl, sym, ap, ap₂, subst, inl}
 use Rattle.bist_host.specs.Files.{Files}
 use Rattle.verilog_tree.specs.Plain.{ModuleTree}
+use Rattle.verilog_tree.specs.Grammar.{Parenthesised}
 use Rattle.verilog_tree.specs.Meaning.{Env}
 use Rattle.march_core.specs.March.{MarchElement}
 use Rattle.memory_desc.specs.Descriptions.{Description}
@@ -41,7 +42,7 @@ some_or_none o n h i = cc
 same_name : (o : Option (List ℕ)) (m n : List ℕ) → o ≡ Some m → o ≡ Some n → m ≡ n
 same_name o m n h i = cc
 
-ports_one : (d : Description) (mo : ModuleTree) → HasOneValue (HasPorts d mo)
+pub ports_one : (d : Description) (mo : ModuleTree) → HasOneValue (HasPorts d mo)
 unfolding HasPorts
 ports_one d mo (Ok u) (Ok v) f g r s = refl
 ports_one d mo (Ok u) (Err (Refusal.Verilog (VerilogRefusal.WrongPort n))) f g r s = absurd (some_or_none (wrong_port d mo.ports) n.bytes g f)
@@ -94,7 +95,7 @@ file_one mo march d (box ∷ boxes) can ports (Ok x) (Err other) n f g rs ss = a
 
 pub bench_file_answer : (files : Files) (boxes : Boxes) (words : Words) → HasOneAnswerButNames (FirstTells boxes) (SomeLeft (λ left. DecidesBenchFile (Some files) boxes left words))
 bench_file_answer files boxes words =
-    before_but_names boxes (InputModule (Some files) words 1) _ (input_module_one files words 1) (λ mo given.
+    before_but_names boxes (InputModule Parenthesised (Some files) words 1) _ (input_module_one Parenthesised files words 1) (λ mo given.
     before_but_names boxes (InputMarch (Some files) words 2) _ (outcome_value (InputMarch (Some files) words 2) (input_march_one files words 2)) (λ march _.
     before_but_names boxes (InputMemory (Some files) words 3) _ (outcome_value (InputMemory (Some files) words 3) (input_memory_one files words 3)) (λ d _.
     before_but_names boxes (FitsLength march d) _ (outcome_value (FitsLength march d) (length_one march d)) (λ _ _.
@@ -102,4 +103,4 @@ bench_file_answer files boxes words =
     before_but_names boxes (HasBox boxes) _ (outcome_value (HasBox boxes) (box_one boxes)) (λ _ _.
     before_but_names boxes (FitsRoom d boxes) _ (outcome_value (FitsRoom d boxes) (room_one d boxes)) (λ _ _.
     but_names _ (with_left (LeavesBenchFile mo march d boxes) (LeavesFirst boxes)
-    (file_one mo march d boxes (input_can_run (Some files) words 1 mo given) (none_wrong d mo u ports))))))))))
+    (file_one mo march d boxes (input_can_run Parenthesised (Some files) words 1 mo given) (none_wrong d mo u ports))))))))))

@@ -56,6 +56,7 @@ name_of Command.Bench = codes "bench"
 name_of (Command.BenchFault f) = codes "benchfault"
 name_of Command.BenchFile = codes "benchfile"
 name_of Command.BenchAll = codes "benchall"
+name_of Command.Check = codes "check"
 name_of (Command.Make n) = codes "make"
 
 has_name : (words : Words) (c : Command) → HasShape words c → word words 0 ≡ name_of c
@@ -80,6 +81,7 @@ read text =
     if bytes_eq text (codes "bench") then Command.Bench else
     if bytes_eq text (codes "benchfile") then Command.BenchFile else
     if bytes_eq text (codes "benchall") then Command.BenchAll else
+    if bytes_eq text (codes "check") then Command.Check else
     if bytes_eq text (codes "benchfault") then Command.BenchFault (record { aggressor = None; victim = record { word = 0; bit = 0 } }) else
     if bytes_eq text (codes "make") then Command.Make 0 else
     Command.Sim (record { size = 0; aggressor = None; victim = 0 })
@@ -140,12 +142,17 @@ filled_one words c d same o p h i =
 
 -- ---- one command
 
+-- the command that words have the shape of, where their first is a name and its own words say this
+by_name : (words : Words) (c d : Command) (o : Own d) → read (word words 0) ≡ d → Say words d o → HasShape words c → c ≡ filled d o
+by_name words c d o e i h =
+    let same : bare c ≡ d = sym (read_back c) ∙ ap read (sym (has_name words c h)) ∙ e in
+    sym (filled_back c) ∙ filled_one words (bare c) d same (own c) o (says words c h) i
+
 pub command_one : (words : Words) (c d : Command) → HasShape words c → HasShape words d → c ≡ d
-command_one words c d h i =
-    let same : bare c ≡ bare d = sym (read_back c) ∙ ap read (sym (has_name words c h) ∙ has_name words d i) ∙ read_back d in
-    sym (filled_back c) ∙ filled_one words (bare c) (bare d) same (own c) (own d) (says words c h) (says words d i) ∙ filled_back d
+command_one words c d h i = by_name words c (bare d) (own d) (ap read (has_name words d i) ∙ read_back d) (says words d i) h ∙ filled_back d
 
 pub only_compile : (words : Words) (c : Command) → word words 0 ≡ codes "compile" → HasShape words c → c ≡ Command.Compile
-only_compile words c e h =
-    let same : bare c ≡ Command.Compile = sym (read_back c) ∙ ap read (sym (has_name words c h) ∙ e) in
-    sym (filled_back c) ∙ filled_one words (bare c) Command.Compile same (own c) tt (says words c h) tt
+only_compile words c e h = by_name words c Command.Compile tt (ap read e) tt h
+
+pub only_check : (words : Words) (c : Command) → word words 0 ≡ codes "check" → HasShape words c → c ≡ Command.Check
+only_check words c e h = by_name words c Command.Check tt (ap read e) tt h

@@ -9,6 +9,7 @@ use Rattle.memory_desc.specs.Printed.{printed}
 use Rattle.memory_desc.proofs.Determined.{width_one, log_set_one}
 use Rattle.scrambler.specs.Scrambling.{identity}
 use Rattle.verilog_tree.specs.Plain.{ModuleTree}
+use Rattle.verilog_tree.specs.Grammar.{Parenthesised, ByPrecedence}
 use Rattle.dynamic_core.specs.declared.item.Item.{Item}
 use Rattle.report.specs.Report.{IsMixedReport}
 use Rattle.report.proofs.OneReport.{text_one}
@@ -37,6 +38,7 @@ use Rattle.bist_app.specs.Bench.{Boxes, HasBox, FitsRoom, Before, LeavesBench, L
 use Rattle.bist_app.specs.BenchFault.{FitsPlaces, planted_of, LeavesFault, DecidesFault}
 use Rattle.bist_app.specs.BenchFile.{HasPorts, LeavesBenchFile, DecidesBenchFile}
 use Rattle.bist_app.specs.BenchAll.{FitsRooms, LeavesAll, LeavesNone, DecidesBenchAll}
+use Rattle.bist_app.specs.Check.{LeavesCheck, DecidesCheck}
 use Rattle.bist_app.specs.Run.{DecidesCommand}
 use Rattle.bist_app.specs.Answer.{settled_files, HaveSameFiles}
 use Rattle.bist_app.proofs.OnePlan.{length_one}
@@ -113,6 +115,10 @@ all_none : (march : List MarchElement) (m : Description) (boxes : Boxes) (d : Do
 unfolding LeavesAll
 all_none march m boxes d f = outputs_of d _ f.done_is
 
+check_none : (mo : ModuleTree) (march : List MarchElement) (m : Description) (d : Done) → LeavesCheck mo march m (Ok d) → d.outputs ≡ []
+unfolding LeavesCheck
+check_none mo march m d f = outputs_of d _ f.done_is
+
 with_left_none : (checks leaves : Result Done Refusal → Type 0) → WritesNone checks → WritesNone (λ outcome. checks outcome × leaves outcome)
 with_left_none checks leaves none r d f is = none r d f.0 is
 
@@ -148,7 +154,7 @@ decides_fault files boxes left words shape =
 
 decides_file : (files : Option Files) (boxes left : Boxes) (words : Words) → WritesNone (DecidesBenchFile files boxes left words)
 decides_file files boxes left words =
-    before_none boxes left (InputModule files words 1) _ (λ mo.
+    before_none boxes left (InputModule Parenthesised files words 1) _ (λ mo.
     before_none boxes left (InputMarch files words 2) _ (λ march.
     before_none boxes left (InputMemory files words 3) _ (λ m.
     before_none boxes left (FitsLength march m) _ (λ _.
@@ -165,6 +171,15 @@ decides_all files boxes left words =
     before_none boxes left (HasBox boxes) _ (λ _.
     before_none boxes left (FitsRooms m boxes) _ (λ _.
     with_left_none (LeavesAll march m boxes) (LeavesNone boxes left) (only_none (LeavesAll march m boxes) (all_none march m boxes)))))))
+
+decides_check : (files : Option Files) (words : Words) → WritesNone (DecidesCheck files words)
+decides_check files words =
+    then_none (InputModule ByPrecedence files words 1) _ (λ mo.
+    then_none (InputMarch files words 2) _ (λ march.
+    then_none (InputMemory files words 3) _ (λ m.
+    then_none (FitsLength march m) _ (λ _.
+    then_none (HasPorts m mo) _ (λ _.
+    only_none (LeavesCheck mo march m) (check_none mo march m))))))
 
 -- ---- commands that write files
 
@@ -260,6 +275,8 @@ decides_alike files boxes left right words (Command.BenchFault shape) d e f g =
     none_alike d e (decides_fault (Some files) boxes left words shape (Ok d) d f refl) (decides_fault (Some files) boxes right words shape (Ok e) e g refl)
 decides_alike files boxes left right words Command.BenchAll d e f g =
     none_alike d e (decides_all (Some files) boxes left words (Ok d) d f refl) (decides_all (Some files) boxes right words (Ok e) e g refl)
+decides_alike files boxes left right words Command.Check d e f g =
+    none_alike d e (decides_check (Some files) words (Ok d) d f.0 refl) (decides_check (Some files) words (Ok e) e g.0 refl)
 decides_alike files boxes left right words (Command.Make number) d e f g = make_alike number d e f.0 g.0
 
 pub same_files : (told : Option Files) (boxes : Boxes) (words : Words) → HaveSameFiles told boxes words

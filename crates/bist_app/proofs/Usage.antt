@@ -24,10 +24,12 @@ use Rattle.bist_app.specs.Compile.{LeavesCompile, DecidesCompile}
 use Rattle.word_device.specs.declared.device.Planted.{Planted}
 use Rattle.bist_app.specs.Bench.{Boxes, HasBox, FitsRoom, LeavesBench, DecidesBench}
 use Rattle.verilog_tree.specs.Plain.{ModuleTree}
+use Rattle.verilog_tree.specs.Grammar.{Parenthesised, ByPrecedence}
 use Rattle.bist_app.specs.BenchFile.{HasPorts, LeavesBenchFile, DecidesBenchFile}
 use Rattle.bist_app.specs.Make.{LeavesMake}
 use Rattle.bist_app.specs.BenchFault.{FitsPlaces, planted_of, LeavesFault, DecidesFault}
 use Rattle.bist_app.specs.BenchAll.{FitsRooms, LeavesAll, DecidesBenchAll}
+use Rattle.bist_app.specs.Check.{LeavesCheck, DecidesCheck}
 use Rattle.bist_app.specs.Run.{DecidesCommand}
 
 aggressor_never : (given : Bool) (prim : Primitive) → NeverUsage (FitsAggressor given prim)
@@ -133,7 +135,7 @@ file_leaves_never mo march d (box ∷ boxes) h = h
 
 file_never : (files : Option Files) (boxes left : Boxes) (words : Words) → NeverUsage (DecidesBenchFile files boxes left words)
 file_never files boxes left words (Err e, read, is) =
-    input_module_never files words 1 (turned (InputModule files words 1) (let x : Result Done Refusal = Err Refusal.Usage in x) e refl is.0 read)
+    input_module_never Parenthesised files words 1 (turned (InputModule Parenthesised files words 1) (let x : Result Done Refusal = Err Refusal.Usage in x) e refl is.0 read)
 file_never files boxes left words (Ok mo, read, (Err e, given, is)) =
     input_march_never files words 2 (turned (InputMarch files words 2) (let x : Result Done Refusal = Err Refusal.Usage in x) e refl is.0 given)
 file_never files boxes left words (Ok mo, read, (Ok march, given, (Err e, described, is))) =
@@ -204,6 +206,23 @@ bench_all_never files boxes left words (Ok march, read, (Ok d, given, (Ok _, fit
 bench_all_never files boxes left words (Ok march, read, (Ok d, given, (Ok _, fits, (Ok _, has, (Ok _, room, leaves))))) =
     all_leaves_never march d boxes leaves.0
 
+check_leaves_never : (mo : ModuleTree) (march : List MarchElement) (d : Description) → NeverUsage (LeavesCheck mo march d)
+unfolding LeavesCheck
+check_leaves_never mo march d h = h
+
+check_never : (files : Option Files) (words : Words) → NeverUsage (DecidesCheck files words)
+check_never files words (Err e, read, is) =
+    input_module_never ByPrecedence files words 1 (turned (InputModule ByPrecedence files words 1) (let x : Result Done Refusal = Err Refusal.Usage in x) e refl is read)
+check_never files words (Ok mo, read, (Err e, given, is)) =
+    input_march_never files words 2 (turned (InputMarch files words 2) (let x : Result Done Refusal = Err Refusal.Usage in x) e refl is given)
+check_never files words (Ok mo, read, (Ok march, given, (Err e, described, is))) =
+    input_memory_never files words 3 (turned (InputMemory files words 3) (let x : Result Done Refusal = Err Refusal.Usage in x) e refl is described)
+check_never files words (Ok mo, read, (Ok march, given, (Ok d, described, (Err e, fits, is)))) =
+    length_never march d (turned (FitsLength march d) (let x : Result Done Refusal = Err Refusal.Usage in x) e refl is fits)
+check_never files words (Ok mo, read, (Ok march, given, (Ok d, described, (Ok _, fits, (Err e, ports, is))))) =
+    ports_never d mo (turned (HasPorts d mo) (let x : Result Done Refusal = Err Refusal.Usage in x) e refl is ports)
+check_never files words (Ok mo, read, (Ok march, given, (Ok d, described, (Ok _, fits, (Ok _, ports, leaves))))) = check_leaves_never mo march d leaves
+
 pub never_usage : (files : Option Files) (boxes left : Boxes) (words : Words) (command : Command) → NeverUsage (DecidesCommand files boxes left words command)
 never_usage files boxes left words (Command.Sim shape) = λ h. sim_never files words shape h.0
 never_usage files boxes left words Command.Judge = λ h. judge_never files words h.0
@@ -214,3 +233,4 @@ never_usage files boxes left words Command.BenchFile = file_never files boxes le
 never_usage files boxes left words (Command.Make number) = λ h. make_never number h.0
 never_usage files boxes left words (Command.BenchFault shape) = fault_never files boxes left words shape
 never_usage files boxes left words Command.BenchAll = bench_all_never files boxes left words
+never_usage files boxes left words Command.Check = λ h. check_never files words h.0

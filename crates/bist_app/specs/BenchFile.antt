@@ -3,6 +3,7 @@
 use Rattle.std.specs.Prelude.{◌≡◌, ℕ, Bool, List, [], ◌∷◌, Option, Some, None, Result, Ok, Err, map}
 use Rattle.bist_host.specs.Files.{Files}
 use Rattle.verilog_tree.specs.Plain.{ModuleTree}
+use Rattle.verilog_tree.specs.Grammar.{Parenthesised}
 use Rattle.verilog_cycle.specs.Design.{registers_of}
 use Rattle.march_core.specs.March.{MarchElement}
 use Rattle.memory_desc.specs.Descriptions.{Description}
@@ -65,4 +66,4 @@ DecidesFileRun files boxes left words mo =
 
 -- the checks of `benchfile` in their order
 abbrev pub DecidesBenchFile : Option Files → Boxes → Boxes → Words → Result Done Refusal → Type 0
-DecidesBenchFile files boxes left words = Before boxes left (InputModule files words 1) (λ mo. DecidesFileRun files boxes left words mo)
+DecidesBenchFile files boxes left words = Before boxes left (InputModule Parenthesised files words 1) (λ mo. DecidesFileRun files boxes left words mo)

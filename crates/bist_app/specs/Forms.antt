@@ -47,5 +47,8 @@ bench_file_form = record { name = codes "benchfile"; count = 4; first = 1; last 
 abbrev pub bench_all_form : Form
 bench_all_form = record { name = codes "benchall"; count = 3; first = 1; last = 3 }
 
+abbrev pub check_form : Form
+check_form = record { name = codes "check"; count = 4; first = 1; last = 4 }
+
 abbrev pub make_form : Form
 make_form = record { name = codes "make"; count = 7; first = 2; last = 7 }

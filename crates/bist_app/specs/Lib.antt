@@ -7,9 +7,11 @@ pub mod Bench
 pub mod BenchFile
 pub mod BenchFault
 pub mod BenchAll
+pub mod Check
 pub mod BenchedBoxes
 pub mod Compile
 pub mod Headline
+pub mod Conformance
 pub mod Make
 pub mod LetterBits
 pub mod Run

@@ -7,7 +7,7 @@ use Rattle.bist_endings.specs.Ending.{Done}
 use Rattle.bist_endings.specs.Words.{Words}
 use Rattle.bist_inputs.specs.Inputs.{HasReadCause}
 use Rattle.bist_endings.specs.Conclude.{Ends}
-use Rattle.bist_app.specs.Forms.{HasForm, judge_form, vectors_form, compile_form, bench_form, bench_file_form, bench_all_form}
+use Rattle.bist_app.specs.Forms.{HasForm, judge_form, vectors_form, compile_form, bench_form, bench_file_form, bench_all_form, check_form}
 use Rattle.bist_app.specs.Sim.{IsSimShape, DecidesSim}
 use Rattle.bist_app.specs.Judge.{DecidesJudge}
 use Rattle.bist_app.specs.Vectors.{DecidesVectors}
@@ -17,6 +17,7 @@ use Rattle.bist_app.specs.Bench.{Boxes, DecidesBench}
 use Rattle.bist_app.specs.BenchFile.{DecidesBenchFile}
 use Rattle.bist_app.specs.BenchFault.{IsFaultShape, DecidesFault}
 use Rattle.bist_app.specs.BenchAll.{DecidesBenchAll}
+use Rattle.bist_app.specs.Check.{DecidesCheck}
 
 -- the words have the shape of this command
 abbrev pub HasShape : Words → Command → Type 0
@@ -29,6 +30,7 @@ HasShape words Command.BenchFile = HasForm bench_file_form words
 HasShape words (Command.Make number) = IsMakeShape words number
 HasShape words (Command.BenchFault shape) = IsFaultShape words shape
 HasShape words Command.BenchAll = HasForm bench_all_form words
+HasShape words Command.Check = HasForm check_form words
 
 -- the words have no shape
 abbrev pub HasNoShape : Words → Type 0
@@ -45,6 +47,7 @@ DecidesCommand files boxes left words Command.BenchFile outcome = DecidesBenchFi
 DecidesCommand files boxes left words (Command.Make number) outcome = LeavesMake number outcome × (left ≡ boxes)
 DecidesCommand files boxes left words (Command.BenchFault shape) outcome = DecidesFault files boxes left words shape outcome
 DecidesCommand files boxes left words Command.BenchAll outcome = DecidesBenchAll files boxes left words outcome
+DecidesCommand files boxes left words Command.Check outcome = DecidesCheck files words outcome × (left ≡ boxes)
 
 -- the check of the words, and then the command's
 abbrev pub Decides : Option Files → Boxes → Boxes → Words → Result Done Refusal → Type 0

@@ -20,7 +20,7 @@ use bench::{BenchEnd, bench};
 use bist_bits::NoMemory;
 use bist_endings::{Plan, Refusal, VerilogRefusal};
 use bist_host::Host;
-use bist_inputs::{read_design_input, read_march_input, read_memory_input};
+use bist_inputs::{Style, read_design_input, read_march_input, read_memory_input};
 use march_core::March;
 use memory_desc::Memory;
 use self_test::wrong_port;
@@ -185,6 +185,6 @@ pub fn decide_benchfile<H: Host>(
     ensures answer { DecidesBenchFile (H.files host.old) (map (λ b. told b) devices.old.items) (map (λ b. told b) devices.new.items) words.now (plain result) }
     ensures cause { HasReadCause (H.files host.old) (Rose (H.read_faults host.old) (H.read_faults host.new)) result }
 {
-    let mut design = read_design_input(alloc, host, words, 1)?;
+    let mut design = read_design_input(alloc, host, words, 1, Style::Parenthesised)?;
     decide_design(alloc, words, host, &mut design, devices)
 }

@@ -17,6 +17,7 @@ pub enum Command {
     BenchFault(FaultShape),
     BenchFile,
     BenchAll,
+    Check,
     Make(u16),
 }
 
@@ -47,6 +48,9 @@ pub fn command_of(words: &[&str]) -> Option<Command>
     }
     if has_form(words, "benchall", 3, 1, 3) {
         return Some(Command::BenchAll);
+    }
+    if has_form(words, "check", 4, 1, 4) {
+        return Some(Command::Check);
     }
     if let Some(number) = make_number(words) {
         return Some(Command::Make(number));

@@ -8,6 +8,7 @@ mod benchfile_command;
 mod benching;
 mod benching_all;
 mod boxes;
+mod check_command;
 mod commands;
 mod compile;
 mod directions;

@@ -5,6 +5,7 @@ ghost use Rattle.bist_inputs.specs.Inputs.{HasReadCause};
 ghost use Rattle.bist_endings.specs.Conclude.{NamesWords};
 ghost use Rattle.bist_endings.specs.Words.{word};
 ghost use Rattle.bist_app.specs.Answer.{IsComplete, RunHasOneAnswer, HaveSameFiles};
+ghost use Rattle.bist_app.specs.Conformance.{LeavesConformance};
 ghost use Rattle.bist_app.specs.Headline.{LeavesCompilation};
 ghost use Rattle.bist_app.specs.Run.{Decides, Runs, HasNoShape};
 
@@ -12,6 +13,7 @@ use crate::bench_command::decide_bench;
 use crate::benchall_command::decide_bench_all;
 use crate::benchfault_command::decide_fault;
 use crate::benchfile_command::decide_benchfile;
+use crate::check_command::decide_check;
 use crate::commands::{Command, command_of};
 use crate::compile::decide_compile;
 use crate::judge::decide_judge;
@@ -51,6 +53,7 @@ fn decide<H: Host>(
         Some(Command::Make(number)) => decide_make(alloc, words, number),
         Some(Command::BenchFault(shape)) => decide_fault(alloc, words, shape, host, devices),
         Some(Command::BenchAll) => decide_bench_all(alloc, words, host, devices),
+        Some(Command::Check) => decide_check(alloc, words, host),
     }
 }
 
@@ -89,6 +92,9 @@ pub fn run<H: Host>(
 
     // What `compile` leaves where it ends with 0 or 1.
     ensures compilation { LeavesCompilation words.now (H.files host.old) (H.files host.new) (H.said host.old) (H.said host.new) result.status }
+
+    // What `check` tells where it ends with 0 or 1.
+    ensures conformance { LeavesConformance words.now (H.files host.old) (H.files host.new) (H.said host.old) (H.said host.new) result.status }
 
     ensures one_answer { RunHasOneAnswer (H.files host.old) (map (λ b. told b) devices.old.items) words.now }
     ensures one_files { HaveSameFiles (H.files host.old) (map (λ b. told b) devices.old.items) words.now }

@@ -1,31 +1,34 @@
 -- What the reader of modules and the elaboration answer, as refusals of a command.
-use Rattle.std.proofs.Common.{◌≡◌, ◌↔◌, ◌⊎◌, ◌∙◌, true, ℕ, List, Result, Err, refl, sym, subst, inl, inr}
+use Rattle.std.proofs.Common.{◌≡◌, ◌↔◌, ◌⊎◌, true, ℕ, List, Result, Ok, Err, IfErr, refl, sym, subst, inl, inr}
 use Rattle.verilog_tree.specs.declared.fault.TreeFault.{TreeFault}
 use Rattle.verilog_tree.specs.Plain.{ModuleTree}
 use Rattle.verilog_tree.specs.Formed.{formed}
+use Rattle.verilog_tree.specs.Grammar.{Style}
 use Rattle.verilog_tree.specs.declared.fault.ReadFault.{ReadFault}
-use Rattle.verilog_text.specs.Refusals.{IsFirst}
+use Rattle.verilog_text.specs.Refusals.{IsFirstIn}
 use Rattle.verilog_cycle.specs.Design.{DesignView, IsNew, Refused}
 use Rattle.bist_inputs.specs.Designs.{CanRun, Breaks}
 
--- what isn't want of memory is the first refusal of the text
-pub first_fault : {A : Type 0} (bytes : List ℕ) (r : Result A ReadFault) (fault : ReadFault) → r ≡ Err fault
-    → ((r ≡ Err ReadFault.NoMemory → ⊥) → (f : ReadFault) → (r ≡ Err f) ↔ IsFirst bytes f) → (fault ≡ ReadFault.NoMemory) ⊎ IsFirst bytes fault
-first_fault {A} bytes r fault is h = by fault is
-  where
-    other : (f : ReadFault) → r ≡ Err f → (f ≡ ReadFault.NoMemory → ⊥) → IsFirst bytes f
-    other f e unlike = (h (λ none. unlike (same f e none)) f).0 e
-      where
-        same : (g : ReadFault) → r ≡ Err g → r ≡ Err ReadFault.NoMemory → g ≡ ReadFault.NoMemory
-        same g x y = let z : (let s : Result A ReadFault = Err g in s) ≡ Err ReadFault.NoMemory = sym x ∙ y in cc
+-- but for want of memory, a fault is answered exactly where it is the first of the text
+abbrev AreFirst : {A : Type 0} → Style → List ℕ → Result A ReadFault → Type 0
+AreFirst style bytes r = (r ≡ Err ReadFault.NoMemory → ⊥) → (f : ReadFault) → (r ≡ Err f) ↔ IsFirstIn style bytes f
 
-    by : (f : ReadFault) → r ≡ Err f → (f ≡ ReadFault.NoMemory) ⊎ IsFirst bytes f
-    by ReadFault.NoMemory e = inl refl
-    by (ReadFault.Unexpected k) e = inr (other (ReadFault.Unexpected k) e (λ x. cc))
-    by ReadFault.Truncated e = inr (other ReadFault.Truncated e (λ x. cc))
-    by (ReadFault.TooDeep k) e = inr (other (ReadFault.TooDeep k) e (λ x. cc))
-    by (ReadFault.LongName k) e = inr (other (ReadFault.LongName k) e (λ x. cc))
-    by (ReadFault.OutOfRange k) e = inr (other (ReadFault.OutOfRange k) e (λ x. cc))
+-- what isn't want of memory is the first refusal of the text
+pub first_fault : {A : Type 0} (style : Style) (bytes : List ℕ) (r : Result A ReadFault) → AreFirst style bytes r
+    → IfErr r (λ fault. (fault ≡ ReadFault.NoMemory) ⊎ IsFirstIn style bytes fault)
+first_fault {A} style bytes (Ok a) h = tt
+first_fault {A} style bytes (Err fault) h = by fault h
+  where
+    other : (f : ReadFault) → AreFirst {A = A} style bytes (Err f) → ((let s : Result A ReadFault = Err f in s) ≡ Err ReadFault.NoMemory → ⊥) → IsFirstIn style bytes f
+    other f k unlike = (k unlike f).0 refl
+
+    by : (f : ReadFault) → AreFirst {A = A} style bytes (Err f) → (f ≡ ReadFault.NoMemory) ⊎ IsFirstIn style bytes f
+    by ReadFault.NoMemory k = inl refl
+    by (ReadFault.Unexpected n) k = inr (other (ReadFault.Unexpected n) k (λ x. cc))
+    by ReadFault.Truncated k = inr (other ReadFault.Truncated k (λ x. cc))
+    by (ReadFault.TooDeep n) k = inr (other (ReadFault.TooDeep n) k (λ x. cc))
+    by (ReadFault.LongName n) k = inr (other (ReadFault.LongName n) k (λ x. cc))
+    by (ReadFault.OutOfRange n) k = inr (other (ReadFault.OutOfRange n) k (λ x. cc))
 
 -- a refusal that isn't want of memory is that of a broken rule, or of a loop
 pub broken : (mo : ModuleTree) (fault : TreeFault) → Refused mo fault → (fault ≡ TreeFault.NoMemory → ⊥) → Breaks mo fault

@@ -1,14 +1,14 @@
 -- Over files that are told, a module's input gives one value, or is refused in one way but for the names of a loop.
-use Rattle.std.proofs.Common.{◌≡◌, ◌∙◌, ◌⊎◌, inl, inr, ℕ, List, Option, Some, None, Result, Ok, Err, refl, sym, ap, subst, arith, decimal, codes, ◌++◌}
+use Rattle.std.proofs.Common.{◌≡◌, ◌≤◌, ◌∙◌, ◌⊎◌, inl, inr, ℕ, List, Option, Some, None, Result, Ok, Err, refl, sym, ap, subst, arith, decimal, codes, ◌++◌, length}
 use Rattle.bist_host.specs.Files.{Files}
 use Rattle.verilog_tree.specs.declared.fault.TreeFault.{TreeFault}
 use Rattle.verilog_tree.specs.Plain.{ModuleTree}
 use Rattle.verilog_tree.specs.Rules.{Break, Unknown, Twice, Width, TwoBlocks, NotAssignable, SelectRange, Undriven, Clock, first_break}
-use Rattle.verilog_tree.specs.Grammar.{Parenthesised}
-use Rattle.verilog_tree.specs.Spells.{Spells, all_limits}
+use Rattle.verilog_tree.specs.Grammar.{Style}
+use Rattle.verilog_tree.specs.Spells.{Text, all_limits}
 use Rattle.verilog_tree.specs.Wires.{IsLoop}
 use Rattle.verilog_tree.specs.declared.fault.ReadFault.{ReadFault}
-use Rattle.verilog_text.specs.Refusals.{IsFirst}
+use Rattle.verilog_text.specs.Refusals.{IsFirstIn}
 use Rattle.verilog_text.specs.Answering.{Finished}
 use Rattle.verilog_text.proofs.Finishing.{finishes}
 use Rattle.verilog_text.proofs.Firsts.{first}
@@ -20,36 +20,36 @@ use Rattle.bist_endings.specs.Ending.{tree_fault_text}
 use Rattle.bist_endings.specs.Words.{Words, word}
 use Rattle.bist_endings.specs.OneOutcome.{HasOneOutcome, HasOneValue, SayAlike, TellsLoop}
 use Rattle.bist_endings.proofs.OneOutcome.{outcome_value, then_value}
-use Rattle.bist_inputs.specs.Inputs.{GivesBytes}
+use Rattle.bist_inputs.specs.Inputs.{GivesBytes, input_limit}
 use Rattle.bist_inputs.specs.Designs.{CanRun, Breaks, GivesTree, GivesRunnable, GivesModule, InputModule}
 use Rattle.bist_inputs.proofs.OneInput.{bytes_one}
 
 -- ---- the text
 
 -- two first refusals of a text are one
-one_first : (bytes : List ℕ) (f g : ReadFault) → IsFirst bytes f → IsFirst bytes g → f ≡ g
-one_first bytes f g h i = elim (h.1 g i.0) [
+one_first : (style : Style) (bytes : List ℕ) (f g : ReadFault) → IsFirstIn style bytes f → IsFirstIn style bytes g → f ≡ g
+one_first style bytes f g h i = elim (h.1 g i.0) [
   | inl e ↦ sym e
   | inr l ↦ elim (i.1 f h.0) [ inl e ↦ e | inr m ↦ absurd (omega (arith, l, m)) ]
 ]
 
 -- what is spelled isn't refused
-never_refused : (bytes : List ℕ) (mo : ModuleTree) (fault : ReadFault) → Spells bytes mo → IsFirst bytes fault → ⊥
-never_refused bytes mo fault s f = first Parenthesised bytes (Finished mo) fault ((finishes Parenthesised bytes mo).1 s) f.0
+never_refused : (style : Style) (bytes : List ℕ) (mo : ModuleTree) (fault : ReadFault) → Text style all_limits bytes mo → IsFirstIn style bytes fault → ⊥
+never_refused style bytes mo fault s f = first style bytes (Finished mo) fault ((finishes style bytes mo).1 s) f.0
 
-tree_one : (bytes : List ℕ) → HasOneOutcome (GivesTree bytes)
+tree_one : (style : Style) (bytes : List ℕ) → HasOneOutcome (GivesTree style bytes)
 unfolding GivesTree
-tree_one bytes (Ok m) (Ok n) f g r s = ap Ok (one_text all_limits Parenthesised bytes m n f g)
-tree_one bytes (Ok m) (Err (Refusal.Verilog (VerilogRefusal.Read e))) f g r s = absurd (never_refused bytes m e f g)
-tree_one bytes (Ok m) (Err Refusal.NoMemory) f g r s = absurd s
-tree_one bytes (Ok m) (Err other) f g r s = absurd g
-tree_one bytes (Err (Refusal.Verilog (VerilogRefusal.Read d))) (Ok n) f g r s = absurd (never_refused bytes n d g f)
-tree_one bytes (Err (Refusal.Verilog (VerilogRefusal.Read d))) (Err (Refusal.Verilog (VerilogRefusal.Read e))) f g r s =
-    ap (λ (x : ReadFault). Err (Refusal.Verilog (VerilogRefusal.Read x))) (one_first bytes d e f g)
-tree_one bytes (Err (Refusal.Verilog (VerilogRefusal.Read d))) (Err Refusal.NoMemory) f g r s = absurd s
-tree_one bytes (Err (Refusal.Verilog (VerilogRefusal.Read d))) (Err other) f g r s = absurd g
-tree_one bytes (Err Refusal.NoMemory) outcome f g r s = absurd r
-tree_one bytes (Err other) outcome f g r s = absurd f
+tree_one style bytes (Ok m) (Ok n) f g r s = ap Ok (one_text all_limits style bytes m n f g)
+tree_one style bytes (Ok m) (Err (Refusal.Verilog (VerilogRefusal.Read e))) f g r s = absurd (never_refused style bytes m e f g)
+tree_one style bytes (Ok m) (Err Refusal.NoMemory) f g r s = absurd s
+tree_one style bytes (Ok m) (Err other) f g r s = absurd g
+tree_one style bytes (Err (Refusal.Verilog (VerilogRefusal.Read d))) (Ok n) f g r s = absurd (never_refused style bytes n d g f)
+tree_one style bytes (Err (Refusal.Verilog (VerilogRefusal.Read d))) (Err (Refusal.Verilog (VerilogRefusal.Read e))) f g r s =
+    ap (λ (x : ReadFault). Err (Refusal.Verilog (VerilogRefusal.Read x))) (one_first style bytes d e f g)
+tree_one style bytes (Err (Refusal.Verilog (VerilogRefusal.Read d))) (Err Refusal.NoMemory) f g r s = absurd s
+tree_one style bytes (Err (Refusal.Verilog (VerilogRefusal.Read d))) (Err other) f g r s = absurd g
+tree_one style bytes (Err Refusal.NoMemory) outcome f g r s = absurd r
+tree_one style bytes (Err other) outcome f g r s = absurd f
 
 -- ---- the rules
 
@@ -125,21 +125,37 @@ runnable_one mo (Err (Refusal.Verilog (VerilogRefusal.Tree d))) (Err other) f g 
 runnable_one mo (Err Refusal.NoMemory) outcome f g r s = absurd r
 runnable_one mo (Err other) outcome f g r s = absurd f
 
-module_one : (bytes : List ℕ) → HasOneValue (GivesModule bytes)
-module_one bytes = then_value (GivesTree bytes) GivesRunnable (outcome_value (GivesTree bytes) (tree_one bytes)) (λ mo spells. runnable_one mo)
+module_one : (style : Style) (bytes : List ℕ) → HasOneValue (GivesModule style bytes)
+module_one style bytes = then_value (GivesTree style bytes) GivesRunnable (outcome_value (GivesTree style bytes) (tree_one style bytes)) (λ mo spells. runnable_one mo)
 
-pub input_module_one : (files : Files) (words : Words) (position : ℕ) → HasOneValue (InputModule (Some files) words position)
+pub input_module_one : (style : Style) (files : Files) (words : Words) (position : ℕ) → HasOneValue (InputModule style (Some files) words position)
 unfolding InputModule
-input_module_one files words position =
-    then_value (GivesBytes (Some files) (word words position) position) GivesModule
-    (outcome_value (GivesBytes (Some files) (word words position) position) (bytes_one files (word words position) position)) (λ bytes read. module_one bytes)
+input_module_one style files words position =
+    then_value (GivesBytes (Some files) (word words position) position) (GivesModule style)
+    (outcome_value (GivesBytes (Some files) (word words position) position) (bytes_one files (word words position) position)) (λ bytes read. module_one style bytes)
 
 -- a module that is given can be run
 never_ok : {A : Type 0} (a : A) (e : Refusal) (r s : Result A Refusal) → r ≡ Ok a → s ≡ Err e → r ≡ s → ⊥
 never_ok a e r s x y h = cc
 
-pub input_can_run : (files : Option Files) (words : Words) (position : ℕ) (mo : ModuleTree) → InputModule files words position (Ok mo) → CanRun mo
+pub input_can_run : (style : Style) (files : Option Files) (words : Words) (position : ℕ) (mo : ModuleTree) → InputModule style files words position (Ok mo) → CanRun mo
 unfolding InputModule GivesRunnable
-input_can_run files words position mo (Ok bytes, read, (Ok m, spells, runs)) = subst CanRun (sym runs.0) runs.1
-input_can_run files words position mo (Ok bytes, read, (Err e, spells, is)) = absurd (never_ok mo e (Ok mo) (Err e) refl refl is)
-input_can_run files words position mo (Err e, read, is) = absurd (never_ok mo e (Ok mo) (Err e) refl refl is)
+input_can_run style files words position mo (Ok bytes, read, (Ok m, spells, runs)) = subst CanRun (sym runs.0) runs.1
+input_can_run style files words position mo (Ok bytes, read, (Err e, spells, is)) = absurd (never_ok mo e (Ok mo) (Err e) refl refl is)
+input_can_run style files words position mo (Err e, read, is) = absurd (never_ok mo e (Ok mo) (Err e) refl refl is)
+
+-- the module that was read is the one that the file's bytes spell, and they spell no other
+pub record Spelled (style : Style) (files : Files) (name : List ℕ) (mo : ModuleTree) : Type 0 where
+  pub bytes : List ℕ
+  pub are : files name ≡ Some bytes
+  pub fits : length bytes ≤ input_limit
+  pub spells : Text style all_limits bytes mo
+  pub no_other : (other : ModuleTree) → Text style all_limits bytes other → other ≡ mo
+
+pub input_spells : (style : Style) (files : Files) (words : Words) (position : ℕ) (mo : ModuleTree) → InputModule style (Some files) words position (Ok mo) → Spelled style files (word words position) mo
+unfolding InputModule GivesTree GivesRunnable
+input_spells style files words position mo (Ok bytes, read, (Ok m, spells, runs)) =
+    let is : Text style all_limits bytes mo = subst (Text style all_limits bytes) (sym runs.0) spells in
+    record { bytes = bytes; are = read.0; fits = read.1; spells = is; no_other = λ other o. one_text all_limits style bytes other mo o is }
+input_spells style files words position mo (Ok bytes, read, (Err e, spells, is)) = absurd (never_ok mo e (Ok mo) (Err e) refl refl is)
+input_spells style files words position mo (Err e, read, is) = absurd (never_ok mo e (Ok mo) (Err e) refl refl is)

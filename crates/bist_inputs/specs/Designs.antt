@@ -6,14 +6,22 @@ use Rattle.verilog_tree.specs.declared.tree.Module.{Module}
 use Rattle.verilog_tree.specs.Plain.{ModuleTree, plain_module}
 use Rattle.verilog_tree.specs.Formed.{formed}
 use Rattle.verilog_tree.specs.Rules.{first_break}
-use Rattle.verilog_tree.specs.Spells.{Spells}
-use Rattle.verilog_text.specs.Refusals.{IsFirst}
+use Rattle.verilog_tree.specs.Grammar as G
+use Rattle.verilog_tree.specs.Spells.{Text, all_limits}
+use Rattle.verilog_text.specs.Refusals.{IsFirstIn}
 use Rattle.verilog_cycle.specs.Design.{DesignView, NoLoop, AreNets, Refused}
 use Rattle.bist_endings.specs.declared.ending.Refusal.{Refusal}
 use Rattle.bist_endings.specs.declared.ending.VerilogRefusal.{VerilogRefusal}
 use Rattle.bist_endings.specs.Then.{Then}
 use Rattle.bist_endings.specs.Words.{Words, word}
+use Rattle.bist_inputs.specs.declared.designs.Style.{Style}
+use Rattle.bist_inputs.specs.declared.designs.Style.TheVariants as S
 use Rattle.bist_inputs.specs.Inputs.{GivesBytes}
+
+-- how the grammar writes expressions
+abbrev pub styled : Style → G.Style
+styled S.Parenthesised = G.Parenthesised
+styled S.ByPrecedence = G.ByPrecedence
 
 -- a module in place of its collections
 abbrev pub plain_tree : Result Module Refusal → Result ModuleTree Refusal
@@ -25,12 +33,12 @@ abbrev pub tree_of : Result DesignView Refusal → Result ModuleTree Refusal
 tree_of (Ok design) = Ok design.tree
 tree_of (Err refusal) = Err refusal
 
--- the module that a text spells, or the first refusal of the text
-unfoldable pub GivesTree : List ℕ → Result ModuleTree Refusal → Type 0
-GivesTree bytes (Ok mo) = Spells bytes mo
-GivesTree bytes (Err (Refusal.Verilog (VerilogRefusal.Read fault))) = IsFirst bytes fault
-GivesTree bytes (Err Refusal.NoMemory) = Unit {0}
-GivesTree bytes (Err other) = ⊥
+-- the module that a text of this style spells, or the first refusal of the text
+unfoldable pub GivesTree : G.Style → List ℕ → Result ModuleTree Refusal → Type 0
+GivesTree style bytes (Ok mo) = Text style all_limits bytes mo
+GivesTree style bytes (Err (Refusal.Verilog (VerilogRefusal.Read fault))) = IsFirstIn style bytes fault
+GivesTree style bytes (Err Refusal.NoMemory) = Unit {0}
+GivesTree style bytes (Err other) = ⊥
 
 -- a module that can be run: it breaks no rule and its wires form no loop, so they can be computed in some order
 pub record CanRun (mo : ModuleTree) : Type 0 where
@@ -53,9 +61,9 @@ GivesRunnable mo (Err Refusal.NoMemory) = Unit {0}
 GivesRunnable mo (Err other) = ⊥
 
 -- the checks of a text in their order
-abbrev pub GivesModule : List ℕ → Result ModuleTree Refusal → Type 0
-GivesModule bytes = Then (GivesTree bytes) GivesRunnable
+abbrev pub GivesModule : G.Style → List ℕ → Result ModuleTree Refusal → Type 0
+GivesModule style bytes = Then (GivesTree style bytes) GivesRunnable
 
 -- the module of the file that a word names
-unfoldable pub InputModule : Option Files → Words → ℕ → Result ModuleTree Refusal → Type 0
-InputModule files words position = Then (GivesBytes files (word words position) position) GivesModule
+unfoldable pub InputModule : G.Style → Option Files → Words → ℕ → Result ModuleTree Refusal → Type 0
+InputModule style files words position = Then (GivesBytes files (word words position) position) (GivesModule style)

@@ -2,25 +2,47 @@ ghost use Rattle.std.specs.Prelude.{◌≡◌, ◌<◌, ◌≤◌, ◌⊎◌, tr
 ghost use Rattle.bist_host.specs.Files.{Rose};
 ghost use Rattle.verilog_tree.specs.Plain.{plain_module};
 ghost use Rattle.verilog_tree.specs.Formed.{formed};
-ghost use Rattle.verilog_text.specs.Refusals.{IsFirst};
+ghost use Rattle.verilog_tree.specs.Grammar.{Style as Written};
+ghost use Rattle.verilog_tree.specs.Spells.{Text, all_limits};
+ghost use Rattle.verilog_text.specs.Refusals.{IsFirstIn};
 ghost use Rattle.verilog_cycle.specs.Design.{IsNew};
 ghost use Rattle.bist_endings.specs.Words.{word};
 ghost use Rattle.bist_inputs.specs.Inputs.{HasReadCause, IsOwnRefusal};
-ghost use Rattle.bist_inputs.specs.Designs.{plain_tree, tree_of, GivesTree, GivesRunnable, GivesModule, InputModule};
+ghost use Rattle.bist_inputs.specs.Designs.{styled, plain_tree, tree_of, GivesTree, GivesRunnable, GivesModule, InputModule};
 
 use crate::inputs::read_input;
 use bist_endings::{Refusal, VerilogRefusal};
 use bist_host::Host;
 use std::alloc::Global;
 use verilog_cycle::{Design, elaborate};
-use verilog_read::read_module;
+use verilog_read::{read_free, read_module};
 use verilog_tree::{Module, ReadFault, TreeFault};
+
+/// How the expressions of a module's text are written.
+#[derive(Clone, Copy)]
+pub enum Style {
+    /// Each operator stands in parentheses of its own.
+    Parenthesised,
+    /// Operators bind by precedence.
+    ByPrecedence,
+}
+
+/// Reads the text of a module in its style.
+fn read_text(alloc: Global, bytes: &[u8], style: Style) -> Result<Module, ReadFault>
+    ensures spells { IfOk result (λ m. Text (styled style) all_limits bytes.now (plain_module m)) }
+    ensures sizes { IfOk result (λ m. formed (plain_module m) ≡ true) }
+    ensures fault { IfErr result (λ fault. (fault ≡ ReadFault.NoMemory) ⊎ IsFirstIn (styled style) bytes.now fault) }
+{
+    match style {
+        Style::Parenthesised => read_module(alloc, bytes),
+        Style::ByPrecedence => read_free(alloc, bytes),
+    }
+}
 
 /// Why a text is refused; want of memory is no refusal of a text.
 #[tactic(auto, unfolding(crate::specs::Designs::GivesTree))]
 fn text_refusal(bytes: &[u8], fault: ReadFault) -> Refusal
-    requires { (fault ≡ ReadFault.NoMemory) ⊎ IsFirst bytes.now fault }
-    ensures answer { GivesTree bytes.now (Err result) }
+    ensures answer { (y : Written) → (fault ≡ ReadFault.NoMemory) ⊎ IsFirstIn y bytes.now fault → GivesTree y bytes.now (Err result) }
     ensures own { IsOwnRefusal result }
 {
     if fault == ReadFault::NoMemory {
@@ -31,12 +53,12 @@ fn text_refusal(bytes: &[u8], fault: ReadFault) -> Refusal
 
 /// The module that a text spells.
 #[tactic(auto, unfolding(crate::specs::Designs::GivesTree))]
-fn give_tree(alloc: Global, bytes: &[u8]) -> Result<Module, Refusal>
-    ensures answer { GivesTree bytes.now (plain_tree result) }
+fn give_tree(alloc: Global, bytes: &[u8], style: Style) -> Result<Module, Refusal>
+    ensures answer { GivesTree (styled style) bytes.now (plain_tree result) }
     ensures own { IfErr result IsOwnRefusal }
     ensures sizes { IfOk result (λ m. formed (plain_module m) ≡ true) }
 {
-    match read_module(alloc, bytes) {
+    match read_text(alloc, bytes, style) {
         Ok(module) => Ok(module),
         Err(fault) => Err(text_refusal(bytes, fault)),
     }
@@ -58,32 +80,33 @@ fn give_design(alloc: Global, module: Module) -> Result<Design, Refusal>
 }
 
 /// The design of a text.
-fn give_module(alloc: Global, bytes: &[u8]) -> Result<Design, Refusal>
-    ensures answer { GivesModule bytes.now (tree_of result) }
+fn give_module(alloc: Global, bytes: &[u8], style: Style) -> Result<Design, Refusal>
+    ensures answer { GivesModule (styled style) bytes.now (tree_of result) }
     ensures own { IfErr result IsOwnRefusal }
     ensures new { IfOk result (λ design. IsNew design.tree design) }
 {
-    let module = give_tree(alloc, bytes)?;
+    let module = give_tree(alloc, bytes, style)?;
     give_design(alloc, module)
 }
 
-/// The design of the file that a word names, whose registers hold 0.
+/// The design of the file that a word names, in this style, whose registers hold 0.
 #[tactic(auto, using(crate::proofs::Causes::own_cause), unfolding(crate::specs::Designs::InputModule))]
 pub fn read_design_input<H: Host>(
     alloc: Global,
     host: &mut H,
     words: &[&str],
     position: usize,
+    style: Style,
 ) -> Result<Design, Refusal>
     requires { position < length words.now }
     ensures files { H.files host.new ≡ H.files host.old }
     ensures said { H.said host.new ≡ H.said host.old }
     ensures writes { H.write_faults host.new ≡ H.write_faults host.old }
     ensures reads { H.read_faults host.old ≤ H.read_faults host.new }
-    ensures answer { InputModule (H.files host.old) words.now position (tree_of result) }
+    ensures answer { InputModule (styled style) (H.files host.old) words.now position (tree_of result) }
     ensures new { IfOk result (λ design. IsNew design.tree design) }
     ensures cause { HasReadCause (H.files host.old) (Rose (H.read_faults host.old) (H.read_faults host.new)) result }
 {
     let bytes = read_input(host, words, position)?;
-    give_module(alloc, &bytes)
+    give_module(alloc, &bytes, style)
 }

@@ -7,7 +7,7 @@ mod inputs;
 mod memories;
 mod texts;
 
-pub use designs::read_design_input;
+pub use designs::{Style, read_design_input};
 pub use inputs::read_march_input;
 pub use memories::read_memory_input;
 pub use texts::{give_prim, read_list_input};

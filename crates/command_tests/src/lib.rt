@@ -8,6 +8,8 @@ mod array_rows;
 #[cfg(test)]
 mod bench_rows;
 #[cfg(test)]
+mod check_rows;
+#[cfg(test)]
 mod compile_rows;
 #[cfg(test)]
 mod file_rows;

@@ -7,7 +7,7 @@ const GRAY: &[u8] =
     b"memory 1\nname s4\nwords 4\nbits 1\nscramble a0 = p0 ^ p1\nscramble a1 = p1\n";
 
 /// Each cell is written, left alone 31 times, and read.
-const LONG_RETENTION: &[u8] =
+pub const LONG_RETENTION: &[u8] =
     b"{any(w0);del;del;del;del;del;del;del;del;del;del;del;del;del;del;del;del;del;del;del;del;del;del;del;del;del;del;del;del;del;del;del;any(r0)}";
 
 /// The files of the commands.

@@ -1,0 +1,120 @@
+-- What the answer of the top call comes to for `check`.
+use Rattle.std.proofs.Common.{◌≡◌, ◌≤◌, ◌∙◌, inl, inr, sym, subst, ap, arith, codes, ℕ, List, [], Option, Some, None, Ok, Err}
+use Rattle.bist_host.specs.Files.{Files, Says}
+use Rattle.march_core.specs.March.{MarchElement}
+use Rattle.march_syntax.specs.Answers.{Reads as ReadsMarch}
+use Rattle.memory_desc.specs.Descriptions.{Description, IsMemory}
+use Rattle.memory_desc.specs.Table.{Reads as ReadsMemory}
+use Rattle.verilog_tree.specs.Plain.{ModuleTree}
+use Rattle.verilog_tree.specs.Grammar.{ByPrecedence}
+use Rattle.self_test.specs.WrongPort.{wrong_port}
+use Rattle.port_check.specs.declared.answer.PortAnswer.{PortAnswer}
+use Rattle.port_check.specs.Answers.{Told}
+use Rattle.port_check.specs.Compared.{Issues}
+use Rattle.port_check.proofs.Checking.{told_of}
+use Rattle.bist_endings.specs.declared.concluding.WriteStop.{WriteStop}
+use Rattle.bist_endings.specs.Words.{Words, word}
+use Rattle.bist_endings.specs.Ending.{Done, found_status}
+use Rattle.bist_endings.specs.Conclude.{WritesInOrder, DoneEnds}
+use Rattle.bist_inputs.specs.Designs.{CanRun}
+use Rattle.bist_inputs.proofs.OneDesign.{Spelled, input_spells, input_can_run}
+use Rattle.bist_app.specs.Bench.{Boxes}
+use Rattle.bist_app.specs.BenchFile.{HasPorts}
+use Rattle.bist_app.specs.Check.{IsChecked, LeavesCheck, DecidesCheck, is_amiss}
+use Rattle.bist_app.specs.Conformance.{IsConformance, LeavesConformance}
+use Rattle.bist_app.specs.Headline.{InputHas}
+use Rattle.bist_app.specs.Forms.{HasForm, check_form}
+use Rattle.bist_app.specs.Run.{HasShape, Decides, DecidesCommand, Runs}
+use Rattle.bist_app.proofs.Headline.{not_refused, too_high, eight_high, nine_high, refused_high, march_read, memory_read}
+use Rattle.bist_app.proofs.OneCommand.{only_check}
+
+-- the module, the march and the memory that were read, and what is left of them
+record Inputs (files : Files) (words : Words) (done : Done) : Type 0 where
+  tree : ModuleTree
+  march : List MarchElement
+  memory : Description
+  is_memory : IsMemory memory
+  module_text : Spelled ByPrecedence files (word words 1) tree
+  march_text : InputHas files (word words 2) (λ bytes. ReadsMarch bytes (Ok march))
+  memory_text : InputHas files (word words 3) (λ bytes. ReadsMemory bytes (Ok memory))
+  can_run : CanRun tree
+  ports : wrong_port memory tree.ports ≡ None
+  checked : IsChecked tree march memory done
+
+inputs : (files : Files) (words : Words) (done : Done) → DecidesCheck (Some files) words (Ok done) → Inputs files words done
+unfolding LeavesCheck HasPorts
+inputs files words done (Err e, first, same) = absurd (not_refused same)
+inputs files words done (Ok tree, first, (Err e, second, same)) = absurd (not_refused same)
+inputs files words done (Ok tree, first, (Ok march, second, (Err e, third, same))) = absurd (not_refused same)
+inputs files words done (Ok tree, first, (Ok march, second, (Ok memory, third, (Err e, fits, same)))) = absurd (not_refused same)
+inputs files words done (Ok tree, first, (Ok march, second, (Ok memory, third, (Ok _, fits, (Err e, ports, same))))) = absurd (not_refused same)
+inputs files words done (Ok tree, first, (Ok march, second, (Ok memory, third, (Ok _, fits, (Ok _, ports, checked))))) = record {
+  tree = tree;
+  march = march;
+  memory = memory;
+  is_memory = (memory_read files words 3 memory third).0;
+  module_text = input_spells ByPrecedence files words 1 tree first;
+  march_text = march_read files words 2 march second;
+  memory_text = (memory_read files words 3 memory third).1;
+  can_run = input_can_run ByPrecedence (Some files) words 1 tree first;
+  ports = ports;
+  checked = checked;
+}
+
+-- what conforms issues the commands
+issues_of : (mo : ModuleTree) (march : List MarchElement) (d : Description) (a : PortAnswer) → found_status (is_amiss a) ≡ 0 → Told mo march d a → Issues mo march d
+issues_of mo march d (PortAnswer.Conforms c) h told = told
+issues_of mo march d (PortAnswer.Differs t p x g) h told = absurd (omega (arith, h))
+issues_of mo march d (PortAnswer.Unknown t p) h told = absurd (omega (arith, h))
+
+conforming : (words : Words) (files : Files) (said said' : Option (List ℕ)) (n : ℕ) (done : Done) → HasForm check_form words
+    → Inputs files words done → n ≡ found_status done.found → Says said said' done.line → IsConformance words files said said' n
+conforming words files said said' n done shape i is says =
+    let c = i.checked in
+    let status : n ≡ found_status (is_amiss c.answer) = is ∙ ap (λ (d : Done). found_status d.found) c.done_is in
+    let told : Told i.tree i.march i.memory c.answer =
+    told_of i.tree i.march i.memory i.can_run.wires c.answer i.can_run.sizes i.can_run.legal i.can_run.in_order c.is_answer in
+    let text = i.module_text in
+    record {
+      shape = shape;
+      tree = i.tree;
+      march = i.march;
+      memory = i.memory;
+      is_memory = i.is_memory;
+      module_text = (text.bytes, text.are, (text.fits, (text.spells, text.no_other)));
+      march_text = i.march_text;
+      memory_text = i.memory_text;
+      can_run = i.can_run;
+      ports = i.ports;
+      issues = λ zero. issues_of i.tree i.march i.memory c.answer (sym status ∙ zero) told;
+      answer = c.answer;
+      is_answer = c.is_answer;
+      tells = told;
+      status_is = status;
+      says = subst (λ (d : Done). Says said said' d.line) c.done_is says;
+    }
+
+conformance : (words : Words) (files : Files) (told : Option Files) (s s' : Option (List ℕ)) (wr : Type 0) (n : ℕ) (done : Done) → HasForm check_form words → n ≤ 1
+    → Inputs files words done → DoneEnds words done (Some files) told s s' wr n → (told ≡ Some files) × IsConformance words files s s' n
+conformance words files told s s' wr n done shape low i (Ok u, writes, inl h) =
+    let none : done.outputs ≡ [] = ap (λ (d : Done). d.outputs) i.checked.done_is in
+    (subst (λ outs. WritesInOrder words outs (Some files) told (Ok tt)) none writes, conforming words files s s' n done shape i h.0 h.1)
+conformance words files told s s' wr n done shape low i (Ok u, writes, inr (inl h)) = absurd (too_high n 8 h.0 eight_high low)
+conformance words files told s s' wr n done shape low i (Ok u, writes, inr (inr h)) = absurd (too_high n 9 h.0 nine_high low)
+conformance words files told s s' wr n done shape low i (Err (WriteStop.Failed p), writes, h) = absurd (too_high n 8 h.0 eight_high low)
+conformance words files told s s' wr n done shape low i (Err WriteStop.NoMemory, writes, h) = absurd (too_high n 9 h.0 nine_high low)
+
+decided : (files : Files) (boxes left : Boxes) (words : Words) (done : Done) → word words 0 ≡ codes "check" → Decides (Some files) boxes left words (Ok done)
+    → HasForm check_form words × DecidesCheck (Some files) words (Ok done)
+decided files boxes left words done e (None, (none, is, same)) = absurd (not_refused is)
+decided files boxes left words done e (Some command, (own, decides)) =
+    let check = only_check words command e own in
+    (subst (HasShape words) check own, (subst (λ c. DecidesCommand (Some files) boxes left words c (Ok done)) check decides).0)
+
+pub leaves_conformance : (words : Words) (boxes left : Boxes) (told told' : Option Files) (s s' : Option (List ℕ)) (rr wr : Type 0) (n : ℕ)
+    → Runs words boxes left told told' s s' rr wr n → LeavesConformance words told told' s s' n
+leaves_conformance words boxes left None told' s s' rr wr n runs = tt
+leaves_conformance words boxes left (Some files) told' s s' rr wr n (Ok done, decides, cause, ends) = λ name low.
+    let d = decided files boxes left words done name decides in
+    conformance words files told' s s' wr n done d.0 low (inputs files words done d.1) ends
+leaves_conformance words boxes left (Some files) told' s s' rr wr n (Err e, decides, cause, (same, ends)) = λ name low. absurd (refused_high e s s' wr n ends low)

@@ -1,0 +1,47 @@
+-- What `check` comes to where it ends with status 0 or 1 over told files: the answer of the top call, without the order of its checks.
+use Rattle.std.specs.Prelude.{◌≡◌, ◌≤◌, ℕ, List, Option, Some, None, Ok, codes}
+use Rattle.bist_host.specs.Files.{Files, Says}
+use Rattle.march_core.specs.March.{MarchElement}
+use Rattle.march_syntax.specs.Answers.{Reads as ReadsMarch}
+use Rattle.memory_desc.specs.Descriptions.{Description, IsMemory}
+use Rattle.memory_desc.specs.Table.{Reads as ReadsMemory}
+use Rattle.verilog_tree.specs.Plain.{ModuleTree}
+use Rattle.verilog_tree.specs.Spells.{FreelySpells}
+use Rattle.self_test.specs.WrongPort.{wrong_port}
+use Rattle.port_check.specs.declared.answer.PortAnswer.{PortAnswer}
+use Rattle.port_check.specs.Answers.{IsAnswer, Told}
+use Rattle.port_check.specs.Compared.{Issues}
+use Rattle.bist_endings.specs.Words.{Words, word}
+use Rattle.bist_endings.specs.Ending.{found_status}
+use Rattle.bist_inputs.specs.Designs.{CanRun}
+use Rattle.bist_app.specs.Forms.{HasForm, check_form}
+use Rattle.bist_app.specs.Headline.{InputHas}
+use Rattle.bist_app.specs.Check.{is_amiss, check_line}
+
+-- The bytes of VERILOG spell a module and no other, which can be run and has the ports of a self-test; MARCH and MEMORY were read as a march
+-- and a memory. With status 0 the module issues the commands of the march, whatever its registers hold at first and whatever words return.
+-- The answer of its open run was said, and what it tells of every history holds: with a number that differs, that this number is there.
+pub record IsConformance (words : Words) (files : Files) (said said' : Option (List ℕ)) (status : ℕ) : Type 0 where
+  pub shape : HasForm check_form words
+  pub tree : ModuleTree
+  pub march : List MarchElement
+  pub memory : Description
+  pub is_memory : IsMemory memory
+  pub module_text : InputHas files (word words 1) (λ bytes. FreelySpells bytes tree × ((other : ModuleTree) → FreelySpells bytes other → other ≡ tree))
+  pub march_text : InputHas files (word words 2) (λ bytes. ReadsMarch bytes (Ok march))
+  pub memory_text : InputHas files (word words 3) (λ bytes. ReadsMemory bytes (Ok memory))
+  pub can_run : CanRun tree
+  pub ports : wrong_port memory tree.ports ≡ None
+  pub issues : status ≡ 0 → Issues tree march memory
+  pub answer : PortAnswer
+  pub is_answer : IsAnswer tree march memory answer
+  pub tells : Told tree march memory answer
+  pub status_is : status ≡ found_status (is_amiss answer)
+  pub says : Says said said' (check_line answer)
+
+-- The first word is `check`, the files are told, and the status is 0 or 1: then this stands, and all files are as before. Of files that
+-- aren't told nothing is said here.
+abbrev pub LeavesConformance : Words → Option Files → Option Files → Option (List ℕ) → Option (List ℕ) → ℕ → Type 0
+LeavesConformance words None told said said' status = Unit {0}
+LeavesConformance words (Some files) told said said' status =
+    word words 0 ≡ codes "check" → status ≤ 1 → (told ≡ Some files) × IsConformance words files said said' status

@@ -1,0 +1,176 @@
+//! The command `check`: whether the module of a file issues the commands of a march, whatever its registers hold at first and whatever
+//! words return.
+
+ghost use Rattle.std.specs.Prelude.{◌≡◌, ◌≤◌, ◌++◌, List, [], Some, Err, IfOk, IfErr, OnOk, codes, decimal};
+ghost use Rattle.bist_host.specs.Files.{Rose};
+ghost use Rattle.verilog_tree.specs.Plain.{ModuleTree};
+ghost use Rattle.march_core.specs.March.{MarchElement};
+ghost use Rattle.memory_desc.specs.Descriptions.{Description};
+ghost use Rattle.port_check.specs.Refusals.{Refuses};
+ghost use Rattle.bist_endings.specs.Ending.{plain, done_of};
+ghost use Rattle.bist_endings.specs.Conclude.{NamesWords};
+ghost use Rattle.bist_inputs.specs.Inputs.{HasReadCause, IsOwnRefusal};
+ghost use Rattle.bist_app.specs.Forms.{HasForm, check_form};
+ghost use Rattle.bist_app.specs.Check.{is_amiss, at_text, check_line, check_done, ChecksRun, DecidesRun, DecidesCheck};
+
+use bist_endings::{Plan, Refusal, VerilogRefusal, numbered, push_number};
+use bist_host::Host;
+use bist_inputs::{Style, read_design_input, read_march_input, read_memory_input};
+use march_core::March;
+use memory_desc::Memory;
+use port_check::{CheckFault, PortAnswer, check_run};
+use std::alloc::{AllocError, Global};
+use verilog_cycle::Design;
+use verilog_tree::Name;
+
+/// Appends a text, a cycle and a port.
+fn push_place(line: &mut Vec<u8>, text: &[u8], cycle: u64, port: &Name) -> Result<(), AllocError>
+    ensures { OnOk result (line.new.items ≡ line.old.items ++ text.now ++ at_text cycle port.now.bytes) }
+{
+    push_number(line, text, cycle as usize)?;
+    line.extend_from_slice(b" port ")?;
+    line.extend_from_slice(port.as_str().as_bytes())
+}
+
+/// The line of a port that has another number than it should.
+fn differs_line(
+    alloc: Global,
+    cycle: u64,
+    port: &Name,
+    expected: u64,
+    got: u64,
+) -> Result<Vec<u8>, AllocError>
+    ensures { IfOk result (λ line. line.items ≡ check_line (PortAnswer.Differs cycle port.now expected got)) }
+{
+    let mut line = Vec::new(alloc);
+    push_place(&mut line, b"differs cycle ", cycle, port)?;
+    push_number(&mut line, b" expected ", expected as usize)?;
+    push_number(&mut line, b" got ", got as usize)?;
+    line.extend_from_slice(b"\n")?;
+    Ok(line)
+}
+
+/// The line of a port that has no number.
+fn unknown_line(alloc: Global, cycle: u64, port: &Name) -> Result<Vec<u8>, AllocError>
+    ensures { IfOk result (λ line. line.items ≡ check_line (PortAnswer.Unknown cycle port.now)) }
+{
+    let mut line = Vec::new(alloc);
+    push_place(&mut line, b"unknown cycle ", cycle, port)?;
+    line.extend_from_slice(b"\n")?;
+    Ok(line)
+}
+
+/// The line of an answer.
+fn answer_line(alloc: Global, answer: &PortAnswer) -> Result<Vec<u8>, AllocError>
+    ensures { IfOk result (λ line. line.items ≡ check_line answer.now) }
+{
+    match answer {
+        PortAnswer::Conforms { cycles } => numbered(alloc, b"conforms ", *cycles as usize),
+        PortAnswer::Differs {
+            cycle,
+            port,
+            expected,
+            got,
+        } => differs_line(alloc, *cycle, port, *expected, *got),
+        PortAnswer::Unknown { cycle, port } => unknown_line(alloc, *cycle, port),
+    }
+}
+
+/// Whether some port isn't seen to be as it should.
+fn is_amiss(answer: &PortAnswer) -> bool
+    ensures { result ≡ is_amiss answer.now }
+{
+    match answer {
+        PortAnswer::Conforms { .. } => false,
+        PortAnswer::Differs { .. } | PortAnswer::Unknown { .. } => true,
+    }
+}
+
+/// The plan of an answer.
+fn answer_plan(alloc: Global, answer: &PortAnswer) -> Result<Plan, AllocError>
+    ensures { IfOk result (λ plan. done_of plan ≡ check_done answer.now) }
+{
+    let line = answer_line(alloc, answer)?;
+    Ok(Plan {
+        found: is_amiss(answer),
+        outputs: Vec::new(alloc),
+        line,
+    })
+}
+
+/// Why nothing was run, as a refusal of the command.
+fn run_refusal(fault: CheckFault) -> Refusal
+    ensures answer { (mo : ModuleTree) (march : List MarchElement) (d : Description) → Refuses march d mo.ports (Some fault) → ChecksRun mo march d (Err result) }
+    ensures own { IsOwnRefusal result }
+{
+    match fault {
+        CheckFault::TooLong { cycles } => Refusal::TooLong { cycles },
+        CheckFault::WrongPorts { name } => Refusal::Verilog(VerilogRefusal::WrongPort { name }),
+        CheckFault::NoMemory => Refusal::NoMemory,
+    }
+}
+
+/// The plan of an answer, or want of memory.
+fn plan_answer(alloc: Global, answer: &PortAnswer) -> Result<Plan, Refusal>
+    ensures done { IfOk result (λ plan. done_of plan ≡ check_done answer.now) }
+    ensures wants { IfErr result (λ refusal. refusal ≡ Refusal.NoMemory) }
+{
+    match answer_plan(alloc, answer) {
+        Ok(plan) => Ok(plan),
+        Err(AllocError) => Err(Refusal::NoMemory),
+    }
+}
+
+/// Runs a design with all that is not known left open.
+fn check_design(
+    alloc: Global,
+    design: &Design,
+    march: &March,
+    memory: &Memory,
+) -> Result<Plan, Refusal>
+    ensures own { IfErr result IsOwnRefusal }
+    ensures answer { ChecksRun design.now.tree march.now memory.now (plain result) }
+    ensures outputs { IfOk result (λ plan. (done_of plan).outputs ≡ []) }
+{
+    match check_run(alloc, design, march, memory) {
+        Ok(answer) => plan_answer(alloc, &answer),
+        Err(fault) => Err(run_refusal(fault)),
+    }
+}
+
+/// Decides the rest behind the module.
+#[tactic(auto, using(crate::proofs::Causes::own_cause))]
+fn decide_run<H: Host>(
+    alloc: Global,
+    words: &[&str],
+    host: &mut H,
+    design: &Design,
+) -> Result<Plan, Refusal>
+    requires { HasForm check_form words.now }
+    ensures files { H.files host.new ≡ H.files host.old }
+    ensures said { H.said host.new ≡ H.said host.old }
+    ensures writes { H.write_faults host.new ≡ H.write_faults host.old }
+    ensures reads { H.read_faults host.old ≤ H.read_faults host.new }
+    ensures outputs { IfOk result (λ plan. NamesWords words.now (done_of plan).outputs) }
+    ensures answer { DecidesRun (H.files host.old) words.now design.now.tree (plain result) }
+    ensures cause { HasReadCause (H.files host.old) (Rose (H.read_faults host.old) (H.read_faults host.new)) result }
+{
+    let march = read_march_input(host, words, 2)?;
+    let memory = read_memory_input(host, words, 3)?;
+    check_design(alloc, design, &march, &memory)
+}
+
+/// Checks whether the module of a file, which may be any with the ports of a self-test, issues the commands of the march.
+pub fn decide_check<H: Host>(alloc: Global, words: &[&str], host: &mut H) -> Result<Plan, Refusal>
+    requires { HasForm check_form words.now }
+    ensures files { H.files host.new ≡ H.files host.old }
+    ensures said { H.said host.new ≡ H.said host.old }
+    ensures writes { H.write_faults host.new ≡ H.write_faults host.old }
+    ensures reads { H.read_faults host.old ≤ H.read_faults host.new }
+    ensures outputs { IfOk result (λ plan. NamesWords words.now (done_of plan).outputs) }
+    ensures answer { DecidesCheck (H.files host.old) words.now (plain result) }
+    ensures cause { HasReadCause (H.files host.old) (Rose (H.read_faults host.old) (H.read_faults host.new)) result }
+{
+    let design = read_design_input(alloc, host, words, 1, Style::ByPrecedence)?;
+    decide_run(alloc, words, host, &design)
+}
