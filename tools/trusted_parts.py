@@ -92,6 +92,7 @@ a cycle and from cycle to cycle; the rule of the ports; what a self-test is; and
             "self_test/Ports",
             "self_test/SelfTest",
             "bist_app/Headline",
+            "bist_app/Conformance",
         ),
     ),
     Part(
@@ -164,6 +165,7 @@ which module: letters and tokens, the grammar in full parentheses and by precede
             "verilog_open/*",
             "verilog_code/*",
             "verilog_cycle/*",
+            "port_check/*",
             "chip_*/*",
         ),
     ),
