@@ -106,10 +106,10 @@ class Reader:
             while self.skip(","):
                 self.declare(width, *places)
         elif kind == "assign":
-            name, self.used = self.take(), set()
+            name = self.take()
             self.take("=")
             self.read.assigns[name] = self.expression()
-            self.read.reads[name] = self.used
+            self.read.reads[name], self.used = self.used, set()
         else:
             for token in ("@", "(", "posedge", "clk", ")"):
                 self.take(token)
