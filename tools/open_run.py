@@ -106,10 +106,10 @@ class Reader:
             while self.skip(","):
                 self.declare(width, *places)
         elif kind == "assign":
-            name = self.take()
+            name, self.used = self.take(), set()
             self.take("=")
             self.read.assigns[name] = self.expression()
-            self.read.reads[name], self.used = self.used, set()
+            self.read.reads[name] = set(self.used)
         else:
             for token in ("@", "(", "posedge", "clk", ")"):
                 self.take(token)
