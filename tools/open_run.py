@@ -109,7 +109,7 @@ class Reader:
             name, self.used = self.take(), set()
             self.take("=")
             self.read.assigns[name] = self.expression()
-            self.read.reads[name] = self.used
+            self.read.reads[name] = set(self.used)
         else:
             for token in ("@", "(", "posedge", "clk", ")"):
                 self.take(token)
