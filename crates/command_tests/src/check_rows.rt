@@ -158,21 +158,39 @@ fn controllers(rt: HostRuntime) {
 static REFUSED: [Row; 16] = [
     Row {
         command: CHECK,
-        files: &[("m", LONG_RETENTION), ("d", b"memory 2\nname buf0\nwords 16\nbits 1\npause 64515\n"), ("z", STILL)],
+        files: &[
+            ("m", LONG_RETENTION),
+            ("d", b"memory 2\nname buf0\nwords 16\nbits 1\npause 64515\n"),
+            ("z", STILL),
+        ],
         said: b"differs cycle 1 port en expected 1 got 0\n",
         status: 1,
         ..PLAIN
     },
     Row {
         command: CHECK,
-        files: &[("m", LONG_RETENTION), ("d", b"memory 2\nname buf0\nwords 16\nbits 1\nlatency 2\npause 64515\n"), ("z", STILL)],
+        files: &[
+            ("m", LONG_RETENTION),
+            (
+                "d",
+                b"memory 2\nname buf0\nwords 16\nbits 1\nlatency 2\npause 64515\n",
+            ),
+            ("z", STILL),
+        ],
         said: b"too long 2000001\n",
         status: 12,
         ..PLAIN
     },
     Row {
         command: CHECK,
-        files: &[("m", LONG_RETENTION), ("d", b"memory 2\nname buf0\nwords 16\nbits 1\nlatency 2\npause 64515\n"), ("z", RIGHT)],
+        files: &[
+            ("m", LONG_RETENTION),
+            (
+                "d",
+                b"memory 2\nname buf0\nwords 16\nbits 1\nlatency 2\npause 64515\n",
+            ),
+            ("z", RIGHT),
+        ],
         said: b"too long 2000001\n",
         status: 12,
         ..PLAIN
@@ -193,28 +211,47 @@ static REFUSED: [Row; 16] = [
     },
     Row {
         command: CHECK,
-        files: &[("m", MARCH_C), ("d", SIXTEEN), ("z", b"module m(output a);assign a=1'd0&&&1'd0;endmodule")],
+        files: &[
+            ("m", MARCH_C),
+            ("d", SIXTEEN),
+            ("z", b"module m(output a);assign a=1'd0&&&1'd0;endmodule"),
+        ],
         said: b"verilog L1 byte 34\n",
         status: 14,
         ..PLAIN
     },
     Row {
         command: CHECK,
-        files: &[("m", MARCH_C), ("d", SIXTEEN), ("z", b"module m(output a);assign a=1'd0|1'd0|1'd0|1'd0|1'd0|1'd0|1'd0|1'd0|1'd0|1'd0|1'd0|1'd0|1'd0|1'd0|1'd0|1'd0|1'd0|1'd0|1'd0|1'd0|1'd0|1'd0|1'd0|1'd0|1'd0|1'd0|1'd0|1'd0|1'd0|1'd0|1'd0|1'd0|1'd0|1'd0|1'd0|1'd0|1'd0|1'd0|1'd0|1'd0|1'd0|1'd0|1'd0|1'd0|1'd0|1'd0|1'd0|1'd0|1'd0|1'd0|1'd0|1'd0|1'd0|1'd0|1'd0|1'd0|1'd0|1'd0|1'd0|1'd0|1'd0|1'd0|1'd0|1'd0|1'd0|1'd0|1'd0|1'd0|1'd0|1'd0|1'd0|1'd0|1'd0|1'd0|1'd0|1'd0|1'd0|1'd0|1'd0|1'd0|1'd0|1'd0|1'd0|1'd0|1'd0|1'd0|1'd0|1'd0|1'd0|1'd0|1'd0|1'd0|1'd0|1'd0|1'd0|1'd0|1'd0|1'd0|1'd0|1'd0|1'd0|1'd0|1'd0|1'd0|1'd0|1'd0|1'd0|1'd0|1'd0|1'd0|1'd0|1'd0|1'd0|1'd0|1'd0|1'd0|1'd0|1'd0|1'd0|1'd0|1'd0|1'd0|1'd0|1'd0|1'd0|1'd0|1'd0|1'd0|1'd0|1'd0|1'd0|1'd0|1'd0|1'd0|1'd0|1'd0|1'd0|1'd0|1'd0|1'd0|1'd0|1'd0|1'd0|1'd0|1'd0|1'd0|1'd0|1'd0|1'd0|1'd0|1'd0|1'd0|1'd0|1'd0|1'd0|1'd0|1'd0|1'd0|1'd0|1'd0|1'd0|1'd0|1'd0|1'd0|1'd0|1'd0|1'd0|1'd0|1'd0|1'd0|1'd0|1'd0|1'd0|1'd0|1'd0|1'd0|1'd0|1'd0|1'd0|1'd0|1'd0|1'd0|1'd0|1'd0|1'd0|1'd0|1'd0|1'd0|1'd0|1'd0|1'd0|1'd0|1'd0|1'd0|1'd0|1'd0|1'd0|1'd0|1'd0|1'd0|1'd0|1'd0|1'd0|1'd0|1'd0|1'd0|1'd0|1'd0|1'd0|1'd0|1'd0|1'd0|1'd0|1'd0|1'd0|1'd0|1'd0|1'd0|1'd0|1'd0|1'd0|1'd0|1'd0|1'd0|1'd0|1'd0|1'd0|1'd0|1'd0|1'd0|1'd0|1'd0|1'd0|1'd0|1'd0|1'd0|1'd0|1'd0|1'd0|1'd0|1'd0|1'd0|1'd0|1'd0|1'd0|1'd0|1'd0|1'd0|1'd0|1'd0|1'd0|1'd0|1'd0|1'd0|1'd0|1'd0|1'd0|")],
+        files: &[
+            ("m", MARCH_C),
+            ("d", SIXTEEN),
+            (
+                "z",
+                b"module m(output a);assign a=1'd0|1'd0|1'd0|1'd0|1'd0|1'd0|1'd0|1'd0|1'd0|1'd0|1'd0|1'd0|1'd0|1'd0|1'd0|1'd0|1'd0|1'd0|1'd0|1'd0|1'd0|1'd0|1'd0|1'd0|1'd0|1'd0|1'd0|1'd0|1'd0|1'd0|1'd0|1'd0|1'd0|1'd0|1'd0|1'd0|1'd0|1'd0|1'd0|1'd0|1'd0|1'd0|1'd0|1'd0|1'd0|1'd0|1'd0|1'd0|1'd0|1'd0|1'd0|1'd0|1'd0|1'd0|1'd0|1'd0|1'd0|1'd0|1'd0|1'd0|1'd0|1'd0|1'd0|1'd0|1'd0|1'd0|1'd0|1'd0|1'd0|1'd0|1'd0|1'd0|1'd0|1'd0|1'd0|1'd0|1'd0|1'd0|1'd0|1'd0|1'd0|1'd0|1'd0|1'd0|1'd0|1'd0|1'd0|1'd0|1'd0|1'd0|1'd0|1'd0|1'd0|1'd0|1'd0|1'd0|1'd0|1'd0|1'd0|1'd0|1'd0|1'd0|1'd0|1'd0|1'd0|1'd0|1'd0|1'd0|1'd0|1'd0|1'd0|1'd0|1'd0|1'd0|1'd0|1'd0|1'd0|1'd0|1'd0|1'd0|1'd0|1'd0|1'd0|1'd0|1'd0|1'd0|1'd0|1'd0|1'd0|1'd0|1'd0|1'd0|1'd0|1'd0|1'd0|1'd0|1'd0|1'd0|1'd0|1'd0|1'd0|1'd0|1'd0|1'd0|1'd0|1'd0|1'd0|1'd0|1'd0|1'd0|1'd0|1'd0|1'd0|1'd0|1'd0|1'd0|1'd0|1'd0|1'd0|1'd0|1'd0|1'd0|1'd0|1'd0|1'd0|1'd0|1'd0|1'd0|1'd0|1'd0|1'd0|1'd0|1'd0|1'd0|1'd0|1'd0|1'd0|1'd0|1'd0|1'd0|1'd0|1'd0|1'd0|1'd0|1'd0|1'd0|1'd0|1'd0|1'd0|1'd0|1'd0|1'd0|1'd0|1'd0|1'd0|1'd0|1'd0|1'd0|1'd0|1'd0|1'd0|1'd0|1'd0|1'd0|1'd0|1'd0|1'd0|1'd0|1'd0|1'd0|1'd0|1'd0|1'd0|1'd0|1'd0|1'd0|1'd0|1'd0|1'd0|1'd0|1'd0|1'd0|1'd0|1'd0|1'd0|1'd0|1'd0|1'd0|1'd0|1'd0|1'd0|1'd0|1'd0|1'd0|1'd0|1'd0|1'd0|1'd0|1'd0|1'd0|1'd0|1'd0|1'd0|1'd0|1'd0|1'd0|1'd0|1'd0|1'd0|1'd0|1'd0|1'd0|1'd0|1'd0|1'd0|1'd0|1'd0|",
+            ),
+        ],
         said: b"verilog L3 byte 1312\n",
         status: 14,
         ..PLAIN
     },
     Row {
         command: CHECK,
-        files: &[("m", MARCH_C), ("d", SIXTEEN), ("z", b"module m(output a);wire b;assign a=b|c;endmodule")],
+        files: &[
+            ("m", MARCH_C),
+            ("d", SIXTEEN),
+            ("z", b"module m(output a);wire b;assign a=b|c;endmodule"),
+        ],
         said: b"verilog N1 c\n",
         status: 14,
         ..PLAIN
     },
     Row {
         command: CHECK,
-        files: &[("m", MARCH_C), ("d", SIXTEEN), ("z", b"module m(output b);endmodule")],
+        files: &[
+            ("m", MARCH_C),
+            ("d", SIXTEEN),
+            ("z", b"module m(output b);endmodule"),
+        ],
         said: b"verilog N9 b\n",
         status: 14,
         ..PLAIN
