@@ -15,7 +15,7 @@ use Rattle.verilog_tree.specs.Partial.{both}
 use Rattle.verilog_tree.proofs.Clean.{driver}
 use Rattle.verilog_tree.proofs.Settling.{leads_of}
 use Rattle.verilog_open.specs.Open.{OpenEnv, open_infixed, open_choice, open_value, open_joined, OpenSettles}
-use Rattle.verilog_open.specs.Known.{Known, AreClear, AreKnown, InputsKnown, SetsKnown, IsGiven}
+use Rattle.verilog_open.specs.Known.{Known, AreClear, AreKnown, RegistersKnown, InputsKnown, SetsKnown, IsGiven}
 use Rattle.verilog_open.proofs.Settling.{by_kind, by_source, source_of}
 
 -- ---- an expression
@@ -68,26 +68,27 @@ known_input : (c : Bool) (o : Option ℕ) → (c ≡ false → Known o) → Know
 known_input true o h = tt
 known_input false o h = h refl
 
-known_kind : (w : List ℕ → ℕ) (regs ins e : OpenEnv) (n : List ℕ) (k : Kind) (o : Option Expression) → Known (regs n) → (k ≡ K.Input → is_clk n ≡ false → Known (ins n))
+known_kind : (w : List ℕ → ℕ) (regs ins e : OpenEnv) (n : List ℕ) (k : Kind) (o : Option Expression) → (k ≡ K.Register → Known (regs n)) → (k ≡ K.Input → is_clk n ≡ false → Known (ins n))
     → ((x : Expression) → o ≡ Some x → Known (open_value w e x)) → Known (by_kind w regs ins e k o n)
 known_kind w regs ins e n K.Input o r i x = known_input (is_clk n) (ins n) (i refl)
 known_kind w regs ins e n K.Wire None r i x = tt
 known_kind w regs ins e n K.Wire (Some y) r i x = x y refl
-known_kind w regs ins e n K.Register o r i x = r
+known_kind w regs ins e n K.Register o r i x = r refl
 
-known_source : (w : List ℕ → ℕ) (regs ins e : OpenEnv) (n : List ℕ) (d : Option Declaration) (o : Option Expression) → Known (regs n)
+known_source : (w : List ℕ → ℕ) (regs ins e : OpenEnv) (n : List ℕ) (d : Option Declaration) (o : Option Expression)
+    → ((c : Declaration) → d ≡ Some c → c.kind ≡ K.Register → Known (regs n))
     → ((c : Declaration) → d ≡ Some c → c.kind ≡ K.Input → is_clk n ≡ false → Known (ins n))
     → ((x : Expression) → o ≡ Some x → Known (open_value w e x)) → Known (by_source w regs ins e d o n)
 known_source w regs ins e n None o r i x = tt
-known_source w regs ins e n (Some d) o r i x = known_kind w regs ins e n d.kind o r (i d refl) x
+known_source w regs ins e n (Some d) o r i x = known_kind w regs ins e n d.kind o (r d refl) (i d refl) x
 
 module _ (mo : ModuleTree) (f : formed mo ≡ true) (h : first_break mo ≡ None) (rank : List ℕ → ℕ) (falls : Falls rank mo.items) (clear : List ℕ → Bool) (are : AreClear clear mo.items)
-    (regs ins o : OpenEnv) (settles : OpenSettles mo regs ins o) (known : AreKnown clear regs) (inputs : InputsKnown mo clear ins) where
+    (regs ins o : OpenEnv) (settles : OpenSettles mo regs ins o) (known : RegistersKnown mo clear regs) (inputs : InputsKnown mo clear ins) where
   by_rank : (k : ℕ) (n : List ℕ) → rank n < k → clear n ≡ true → Known (o n)
   by_rank zero n lt c = absurd (omega arith)
   by_rank (suc k) n lt c =
       subst Known (sym (source_of mo f h rank falls regs ins o settles n))
-      (known_source (names_widths mo) regs ins o n (lookup (declarations mo.ports mo.items) n) (driver mo.items n) (known n c) (λ d q i z. inputs n d q i z c)
+      (known_source (names_widths mo) regs ins o n (lookup (declarations mo.ports mo.items) n) (driver mo.items n) (λ d q i. known n d q i c) (λ d q i z. inputs n d q i z c)
       (λ x q. known_value (names_widths mo) o x (λ m u.
       let l = leads_of mo.items n m x q u in by_rank k m (below (falls n m l) lt) (are n m l c))))
     where

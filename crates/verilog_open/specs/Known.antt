@@ -19,6 +19,11 @@ AreClear clear is = (n m : List ℕ) → Leads is n m → clear n ≡ true → c
 abbrev pub AreKnown : (List ℕ → Bool) → OpenEnv → Type 0
 AreKnown clear o = (n : List ℕ) → clear n ≡ true → Known (o n)
 
+-- the clear registers have numbers
+abbrev pub RegistersKnown : ModuleTree → (List ℕ → Bool) → OpenEnv → Type 0
+RegistersKnown mo clear regs =
+    (n : List ℕ) (d : Declaration) → lookup (declarations mo.ports mo.items) n ≡ Some d → d.kind ≡ K.Register → clear n ≡ true → Known (regs n)
+
 -- the clear inputs but the clock have numbers
 abbrev pub InputsKnown : ModuleTree → (List ℕ → Bool) → OpenEnv → Type 0
 InputsKnown mo clear ins =
