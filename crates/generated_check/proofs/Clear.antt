@@ -51,7 +51,7 @@ stages_pure many w i zero rest h = h
 stages_pure true w i (suc n) rest h = stages_pure true w (suc i) n rest h
 stages_pure false w i (suc n) rest h = stages_pure false w (suc i) n rest h
 
-not_true : {P : Type 0} → false ≡ true → P
+pub not_true : {P : Type 0} → false ≡ true → P
 not_true h = cc
 
 module _ (p : Plan) (ready : Ready p) where

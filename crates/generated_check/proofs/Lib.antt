@@ -1,1 +1,3 @@
 pub mod Clear
+pub mod Sets
+pub mod Runs
