@@ -1,13 +1,12 @@
 -- Names of the generator's module to which nothing leads that is left open: all but those to which the returned word leads.
-use Rattle.std.proofs.Common.{◌≡◌, ℕ, zero, suc, ◌+◌, ◌-◌, ◌<◌, Bool, true, false, cond, not, ◌||◌, List, [], ◌∷◌, ◌++◌, length, Option, Some, None, refl, sym, subst, arith, inl, inr, codes}
+use Rattle.std.proofs.Common.{◌≡◌, ℕ, zero, suc, ◌-◌, ◌<◌, Bool, true, false, cond, not, ◌||◌, List, [], ◌∷◌, ◌++◌, length, refl, sym, subst, arith, inl, inr}
 use Rattle.std.specs.Str.{bytes_eq}
-use Rattle.verilog_tree.specs.declared.names.Kind.{Kind}
 use Rattle.verilog_tree.specs.declared.names.Kind.TheVariants as K
 use Rattle.verilog_tree.specs.Plain.{Expression, ModuleItem, WireItem, RegItem, AssignItem, AlwaysItem}
-use Rattle.verilog_tree.specs.Names.{Declaration, declarations, item_declarations, lookup, is_clk}
+use Rattle.verilog_tree.specs.Names.{Declaration, declarations, item_declarations, is_clk}
 use Rattle.verilog_tree.specs.Meaning.{bit}
-use Rattle.verilog_tree.specs.Wires.{Uses, Leads}
-use Rattle.verilog_tree.proofs.Clean.{Each, each_append, found}
+use Rattle.verilog_tree.specs.Wires.{Uses}
+use Rattle.verilog_tree.proofs.Clean.{Each, found}
 use Rattle.verilog_open.specs.Known.{Known, AreClear, InputsKnown}
 use Rattle.rtl_layout.specs.Plan.{Plan, several}
 use Rattle.rtl_layout.specs.Shows.{Ready}
@@ -56,24 +55,55 @@ not_true h = cc
 
 module _ (p : Plan) (ready : Ready p) where
   after_pure : Pure (L.items_after p)
-  after_pure =
-      ((λ c. operation_under p ready taint 1 (λ o. o.write) refl refl),
-      ((λ c. operation_under p ready taint 1 (λ o. o.bit) refl refl),
-      ((λ c. element_under p ready taint 1 1 (λ x. bit x.down) refl),
-      ((λ c. element_under p ready taint 1 1 (λ x. bit x.pause) refl),
-      ((λ c. (refl, element_under p ready taint 1 p.oper_width (λ x. length x.operations - 1) refl)),
-      ((λ c. (refl, (refl, tt, tt))),
-      ((λ c. (refl, tt)),
-      ((λ c. (refl, tt)),
-      ((λ c. (refl, tt, refl)),
-      ((λ c. (refl, (tt, visited_under p ready taint 1 refl), visited_under p ready taint 1 refl)),
-      ((λ c. (refl, tt, refl)),
-      ((λ c. refl),
-      ((λ c. address_under p ready taint 1 refl),
-      ((λ c. word_under p ready taint 1 L.back L.value refl refl),
-      ((λ c. (refl, tt, refl)),
-      ((λ c. not_true c),
-      tt))))))))))))))))
+  after_pure = (
+    (λ c. operation_under p ready taint 1 (λ o. o.write) refl refl),
+    (
+      (λ c. operation_under p ready taint 1 (λ o. o.bit) refl refl),
+      (
+        (λ c. element_under p ready taint 1 1 (λ x. bit x.down) refl),
+        (
+          (λ c. element_under p ready taint 1 1 (λ x. bit x.pause) refl),
+          (
+            (λ c. (refl, element_under p ready taint 1 p.oper_width (λ x. length x.operations - 1) refl)),
+            (
+              (λ c. (refl, (refl, tt, tt))),
+              (
+                (λ c. (refl, tt)),
+                (
+                  (λ c. (refl, tt)),
+                  (
+                    (λ c. (refl, tt, refl)),
+                    (
+                      (λ c. (refl, (tt, visited_under p ready taint 1 refl), visited_under p ready taint 1 refl)),
+                      (
+                        (λ c. (refl, tt, refl)),
+                        (
+                          (λ c. refl),
+                          (
+                            (λ c. address_under p ready taint 1 refl),
+                            (
+                              (λ c. word_under p ready taint 1 L.back L.value refl refl),
+                              (
+                                (λ c. (refl, tt, refl)),
+                                (
+                                  (λ c. not_true c),
+                                  tt,
+                                ),
+                              ),
+                            ),
+                          ),
+                        ),
+                      ),
+                    ),
+                  ),
+                ),
+              ),
+            ),
+          ),
+        ),
+      ),
+    ),
+  )
 
   pub items_clear : AreClear clear (L.items p)
   items_clear = pure_clear (L.items p) (stages_pure (several p) p.back_width 0 p.delay (L.items_after p) after_pure)
@@ -98,17 +128,34 @@ abbrev IsKnownInput : ℕ → Declaration → Type 0
 IsKnownInput t d = d.kind ≡ K.Input → is_clk d.name ≡ false → clear d.name ≡ true → Known (open_inputs t d.name)
 
 all_known : (p : Plan) (t : ℕ) → Each (IsKnownInput t) (declarations (L.ports p) (L.items p))
-all_known p t =
-    ((λ e k c. true_not k),
-    ((λ e k c. tt),
-    ((λ e k c. not_true c),
-    ((λ e k c. not_input e),
-    ((λ e k c. not_input e),
-    ((λ e k c. not_input e),
-    ((λ e k c. not_input e),
-    ((λ e k c. not_input e),
-    ((λ e k c. not_input e),
-    no_inputs (IsKnownInput t) (λ d no e k c. absurd (no e)) (L.items p))))))))))
+all_known p t = (
+  (λ e k c. true_not k),
+  (
+    (λ e k c. tt),
+    (
+      (λ e k c. not_true c),
+      (
+        (λ e k c. not_input e),
+        (
+          (λ e k c. not_input e),
+          (
+            (λ e k c. not_input e),
+            (
+              (λ e k c. not_input e),
+              (
+                (λ e k c. not_input e),
+                (
+                  (λ e k c. not_input e),
+                  no_inputs (IsKnownInput t) (λ d no e k c. absurd (no e)) (L.items p),
+                ),
+              ),
+            ),
+          ),
+        ),
+      ),
+    ),
+  ),
+)
   where
     true_not : {P : Type 0} → true ≡ false → P
     true_not h = cc

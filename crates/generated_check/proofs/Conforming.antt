@@ -1,15 +1,15 @@
 -- Of a module that the generator makes every open run conforms.
-use Rattle.std.proofs.Common.{◌≡◌, ◌≢◌, ℕ, zero, suc, ◌<◌, ◌^◌, Bool, true, false, cond, ◌==◌, if◌then◌else◌, List, [], ◌∷◌, ◌++◌, Option, Some, None, slice_get, slice_index, codes, refl, sym, ap, ◌∙◌, subst, arith}
+use Rattle.std.proofs.Common.{◌≡◌, ℕ, zero, suc, ◌<◌, ◌^◌, Bool, true, false, ◌==◌, if◌then◌else◌, List, [], ◌∷◌, ◌++◌, Option, Some, None, slice_index, codes, refl, sym, ap, ◌∙◌, subst, arith}
 use Rattle.std.proofs.lemmas.Nat.{pow_pos}
 use Rattle.verilog_tree.specs.Formed.{formed}
 use Rattle.verilog_tree.specs.Meaning.{Env, bit, names_widths}
 use Rattle.march_core.specs.March.{MarchElement}
 use Rattle.memory_desc.specs.Descriptions.{Description}
-use Rattle.word_march.specs.PortRule.{PortValues, PortRule}
+use Rattle.word_march.specs.PortRule.{PortValues}
 use Rattle.self_test.specs.Ports.{port_values}
 use Rattle.self_test.specs.SelfTest.{SelfTest}
 use Rattle.verilog_open.specs.Open.{OpenEnv}
-use Rattle.verilog_open.specs.Known.{Known, AreKnown}
+use Rattle.verilog_open.specs.Known.{Known}
 use Rattle.rtl_layout.specs.Plan.{Plan}
 use Rattle.rtl_layout.specs.Shows.{IsPlan}
 use Rattle.rtl_layout.specs.Layout as L
@@ -18,8 +18,8 @@ use Rattle.rtl_layout.proofs.Ranked.{rank, rank_falls}
 use Rattle.port_check.specs.declared.answer.PortAnswer.{PortAnswer}
 use Rattle.port_check.specs.declared.answer.PortAnswer.TheVariants as A
 use Rattle.port_check.specs.OpenRun.{IsOpenRun}
-use Rattle.port_check.specs.Compared.{PortValue, shows, word_port, command_ports, compared, cycle_count, IsRight, Wants}
-use Rattle.port_check.specs.Results.{Conforms, IsUnknown, IsDifferent}
+use Rattle.port_check.specs.Compared.{PortValue, shows, word_port, compared, cycle_count, Wants}
+use Rattle.port_check.specs.Results.{IsUnknown, IsDifferent}
 use Rattle.port_check.specs.Answers.{IsAnswer, AnswerOf}
 use Rattle.port_check.proofs.Runs.{number_shows}
 use Rattle.port_check.proofs.Answers.{wants_one}

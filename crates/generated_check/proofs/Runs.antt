@@ -1,10 +1,10 @@
 -- In the open run of the generator's module the compared ports have numbers in each cycle.
-use Rattle.std.proofs.Common.{◌≡◌, ℕ, zero, suc, Bool, true, false, cond, List, [], ◌∷◌, ◌++◌, Option, Some, None, refl, sym, ap, ◌∙◌, subst}
+use Rattle.std.proofs.Common.{◌≡◌, ℕ, zero, suc, Bool, true, false, List, ◌++◌, Option, Some, None, refl, sym, subst}
 use Rattle.verilog_tree.specs.Plain.{ModuleItem}
 use Rattle.verilog_tree.specs.Formed.{formed}
 use Rattle.verilog_tree.specs.Meaning.{names_widths}
 use Rattle.verilog_tree.specs.Rules.{first_break}
-use Rattle.verilog_open.specs.Open.{OpenEnv, open_choice, open_next, OpenEquations}
+use Rattle.verilog_open.specs.Open.{OpenEnv, open_choice, OpenEquations}
 use Rattle.verilog_open.specs.Known.{Known, AreKnown, RegistersKnown}
 use Rattle.verilog_open.proofs.Known.{clear_are_known}
 use Rattle.self_test.specs.SelfTest.{reset_at}

@@ -1,19 +1,19 @@
 -- What the block of the generator's module sets: after the reset each clear register has a number, and keeps one.
-use Rattle.std.proofs.Common.{◌≡◌, ℕ, zero, suc, ◌+◌, Bool, true, false, cond, nat_lt, ◌/◌, List, [], ◌∷◌, ◌++◌, Option, Some, None, refl, sym, ap, ◌∙◌, subst, inl, inr, ◌⊎◌, codes, append-nil}
+use Rattle.std.proofs.Common.{◌≡◌, ℕ, zero, suc, Bool, true, false, cond, nat_lt, ◌/◌, List, [], ◌∷◌, ◌++◌, Option, Some, refl, sym, ap, ◌∙◌, subst, inl, inr, ◌⊎◌, append-nil}
 use Rattle.verilog_tree.specs.declared.names.Kind.TheVariants as K
 use Rattle.verilog_tree.specs.declared.tree.BinOp.TheVariants as B
-use Rattle.verilog_tree.specs.Plain.{Expression, Net, BitSelect, PartSelect, Literal, Concatenation, Prefixed, Infixed, Conditional, Statement, SetTo, IfElse, CaseOf, statements, ModuleItem, WireItem, RegItem, AssignItem, AlwaysItem}
-use Rattle.verilog_tree.specs.Names.{Declaration, declarations, item_declarations, lookup}
+use Rattle.verilog_tree.specs.Plain.{Expression, Net, Literal, Infixed, Conditional, Statement, SetTo, IfElse, CaseOf, statements, ModuleItem}
+use Rattle.verilog_tree.specs.Names.{Declaration, declarations, item_declarations}
 use Rattle.verilog_tree.specs.Meaning.{names_widths, last_set}
-use Rattle.verilog_tree.proofs.Clean.{Each, each_append, found}
+use Rattle.verilog_tree.proofs.Clean.{Each, found}
 use Rattle.verilog_open.specs.Open.{OpenEnv, open_choice, open_value, open_sets, open_block_sets, open_next}
 use Rattle.verilog_open.specs.Known.{Known, AreKnown, RegistersKnown, SetsKnown, IsGiven}
 use Rattle.verilog_open.proofs.Known.{known_value, known_last, known_given}
-use Rattle.rtl_layout.specs.Build.{lit, at_reset, one_more, in_halves}
+use Rattle.rtl_layout.specs.Build.{lit, one_more, in_halves}
 use Rattle.rtl_layout.specs.Plan.{Plan, several}
 use Rattle.rtl_layout.specs.Shows.{Ready}
 use Rattle.rtl_layout.specs.Layout as L
-use Rattle.rtl_layout.proofs.Ranked.{Under, under_uses, element_under, operation_under, word_under}
+use Rattle.rtl_layout.proofs.Ranked.{Under, word_under}
 use Rattle.generated_check.proofs.Clear.{clear, taint, uses_clear, not_true}
 
 -- ---- statements that set clear names by clear names, and to a literal at the reset
@@ -106,19 +106,31 @@ value_low (suc i) = refl
 
 module _ (p : Plan) (ready : Ready p) where
   ends_pure : PureSets (L.end_sets p)
-  ends_pure =
-      ((λ c. ((refl, tt, word_under p ready taint 1 (L.back_at (several p) p.delay) (L.value_at p.delay) (back_low (several p) p.delay) (value_low p.delay)), refl)),
-      ((λ c. not_true c),
-      tt))
+  ends_pure = (
+    (λ c. ((refl, tt, word_under p ready taint 1 (L.back_at (several p) p.delay) (L.value_at p.delay) (back_low (several p) p.delay) (value_low p.delay)), refl)),
+    (
+      (λ c. not_true c),
+      tt,
+    ),
+  )
 
   all_pure : PureSets (L.sets_all p)
-  all_pure =
-      ((λ c. ((refl, tt, (refl, (refl, tt, more_under L.oper p.oper_width refl), refl)), refl)),
-      ((λ c. ((refl, tt, (refl, (refl, (refl, tt, more_under L.visit p.visit_width refl), refl), refl)), refl)),
-      ((λ c. ((refl, tt, (refl, (refl, (refl, (refl, tt, more_under L.element p.element_width refl), refl), refl), refl)), refl)),
-      ((λ c. ((refl, tt, (refl, (refl, (refl, (refl, (refl, tt, more_under L.back p.back_width refl), refl), refl), refl), refl)), refl)),
-      ((λ c. ((refl, tt, (refl, (refl, (refl, (refl, (refl, tt, refl), refl), refl), refl), refl)), refl)),
-      ages_pure (several p) p.back_width 0 p.delay (L.end_sets p) ends_pure)))))
+  all_pure = (
+    (λ c. ((refl, tt, (refl, (refl, tt, more_under L.oper p.oper_width refl), refl)), refl)),
+    (
+      (λ c. ((refl, tt, (refl, (refl, (refl, tt, more_under L.visit p.visit_width refl), refl), refl)), refl)),
+      (
+        (λ c. ((refl, tt, (refl, (refl, (refl, (refl, tt, more_under L.element p.element_width refl), refl), refl), refl)), refl)),
+        (
+          (λ c. ((refl, tt, (refl, (refl, (refl, (refl, (refl, tt, more_under L.back p.back_width refl), refl), refl), refl), refl)), refl)),
+          (
+            (λ c. ((refl, tt, (refl, (refl, (refl, (refl, (refl, tt, refl), refl), refl), refl), refl)), refl)),
+            ages_pure (several p) p.back_width 0 p.delay (L.end_sets p) ends_pure,
+          ),
+        ),
+      ),
+    ),
+  )
 
 -- ---- each register is set
 
@@ -134,17 +146,29 @@ ages_each : (P : Declaration → Type 0) (Q : List ℕ → Type 0) → ((n : Lis
     → (((m : List ℕ) → IsSet m ss → Q m) → Each P (item_declarations is)) → Each P (item_declarations (L.stage_regs many w i n ++ is))
 ages_each P Q one many w i zero ss is up rest =
     (one (L.reads_at (suc i)) 1 (up (L.reads_at (suc i)) (inl refl)), (one (L.over_at (suc i)) 1 (up (L.over_at (suc i)) (inr (inl refl))), rest (λ m s. up m (inr (inr s)))))
-ages_each P Q one true w i (suc n) ss is up rest =
-    (one (L.reads_at (suc i)) 1 (up (L.reads_at (suc i)) (inl refl)),
-    (one (L.over_at (suc i)) 1 (up (L.over_at (suc i)) (inr (inl refl))),
-    (one (L.value_at (suc i)) 1 (up (L.value_at (suc i)) (inr (inr (inl refl)))),
-    (one (L.aged L.back (suc i)) w (up (L.aged L.back (suc i)) (inr (inr (inr (inl refl))))),
-    ages_each P Q one true w (suc i) n ss is (λ m s. up m (inr (inr (inr (inr s))))) rest))))
-ages_each P Q one false w i (suc n) ss is up rest =
-    (one (L.reads_at (suc i)) 1 (up (L.reads_at (suc i)) (inl refl)),
-    (one (L.over_at (suc i)) 1 (up (L.over_at (suc i)) (inr (inl refl))),
-    (one (L.value_at (suc i)) 1 (up (L.value_at (suc i)) (inr (inr (inl refl)))),
-    ages_each P Q one false w (suc i) n ss is (λ m s. up m (inr (inr (inr s)))) rest)))
+ages_each P Q one true w i (suc n) ss is up rest = (
+  one (L.reads_at (suc i)) 1 (up (L.reads_at (suc i)) (inl refl)),
+  (
+    one (L.over_at (suc i)) 1 (up (L.over_at (suc i)) (inr (inl refl))),
+    (
+      one (L.value_at (suc i)) 1 (up (L.value_at (suc i)) (inr (inr (inl refl)))),
+      (
+        one (L.aged L.back (suc i)) w (up (L.aged L.back (suc i)) (inr (inr (inr (inl refl))))),
+        ages_each P Q one true w (suc i) n ss is (λ m s. up m (inr (inr (inr (inr s))))) rest,
+      ),
+    ),
+  ),
+)
+ages_each P Q one false w i (suc n) ss is up rest = (
+  one (L.reads_at (suc i)) 1 (up (L.reads_at (suc i)) (inl refl)),
+  (
+    one (L.over_at (suc i)) 1 (up (L.over_at (suc i)) (inr (inl refl))),
+    (
+      one (L.value_at (suc i)) 1 (up (L.value_at (suc i)) (inr (inr (inl refl)))),
+      ages_each P Q one false w (suc i) n ss is (λ m s. up m (inr (inr (inr s)))) rest,
+    ),
+  ),
+)
 
 abbrev IsSetRegister : Plan → Declaration → Type 0
 IsSetRegister p d = d.kind ≡ K.Register → IsSet d.name (L.sets_all p)
@@ -160,38 +184,88 @@ module _ (p : Plan) where
   behind_digits m s = inr (inr (inr (inr (inr s))))
 
   ends_set : ((m : List ℕ) → IsSet m (L.end_sets p) → IsSet m (L.sets_all p)) → Each (IsSetRegister p) (item_declarations (L.items_after p))
-  ends_set up =
-      ((λ e. up L.want (inl refl)),
-      ((λ e. up L.bad (inr (inl refl))),
-      ((λ e. wire_no_register e),
-      ((λ e. wire_no_register e),
-      ((λ e. wire_no_register e),
-      ((λ e. wire_no_register e),
-      ((λ e. wire_no_register e),
-      ((λ e. wire_no_register e),
-      ((λ e. wire_no_register e),
-      ((λ e. wire_no_register e),
-      ((λ e. wire_no_register e),
-      ((λ e. wire_no_register e),
-      tt))))))))))))
+  ends_set up = (
+    (λ e. up L.want (inl refl)),
+    (
+      (λ e. up L.bad (inr (inl refl))),
+      (
+        (λ e. wire_no_register e),
+        (
+          (λ e. wire_no_register e),
+          (
+            (λ e. wire_no_register e),
+            (
+              (λ e. wire_no_register e),
+              (
+                (λ e. wire_no_register e),
+                (
+                  (λ e. wire_no_register e),
+                  (
+                    (λ e. wire_no_register e),
+                    (
+                      (λ e. wire_no_register e),
+                      (
+                        (λ e. wire_no_register e),
+                        (
+                          (λ e. wire_no_register e),
+                          tt,
+                        ),
+                      ),
+                    ),
+                  ),
+                ),
+              ),
+            ),
+          ),
+        ),
+      ),
+    ),
+  )
 
   all_set : Each (IsSetRegister p) (declarations (L.ports p) (L.items p))
-  all_set =
-      ((λ e. input_no_register e),
-      ((λ e. input_no_register e),
-      ((λ e. input_no_register e),
-      ((λ e. wire_no_register e),
-      ((λ e. wire_no_register e),
-      ((λ e. wire_no_register e),
-      ((λ e. wire_no_register e),
-      ((λ e. wire_no_register e),
-      ((λ e. wire_no_register e),
-      ((λ e. inl refl),
-      ((λ e. inr (inl refl)),
-      ((λ e. inr (inr (inl refl))),
-      ((λ e. inr (inr (inr (inl refl)))),
-      ((λ e. inr (inr (inr (inr (inl refl))))),
-      ages_each (IsSetRegister p) (λ m. IsSet m (L.sets_all p)) (λ n k q e. q) (several p) p.back_width 0 p.delay (L.end_sets p) (L.items_after p) behind_digits ends_set))))))))))))))
+  all_set = (
+    (λ e. input_no_register e),
+    (
+      (λ e. input_no_register e),
+      (
+        (λ e. input_no_register e),
+        (
+          (λ e. wire_no_register e),
+          (
+            (λ e. wire_no_register e),
+            (
+              (λ e. wire_no_register e),
+              (
+                (λ e. wire_no_register e),
+                (
+                  (λ e. wire_no_register e),
+                  (
+                    (λ e. wire_no_register e),
+                    (
+                      (λ e. inl refl),
+                      (
+                        (λ e. inr (inl refl)),
+                        (
+                          (λ e. inr (inr (inl refl))),
+                          (
+                            (λ e. inr (inr (inr (inl refl)))),
+                            (
+                              (λ e. inr (inr (inr (inr (inl refl))))),
+                              ages_each (IsSetRegister p) (λ m. IsSet m (L.sets_all p)) (λ n k q e. q) (several p) p.back_width 0 p.delay (L.end_sets p) (L.items_after p) behind_digits ends_set,
+                            ),
+                          ),
+                        ),
+                      ),
+                    ),
+                  ),
+                ),
+              ),
+            ),
+          ),
+        ),
+      ),
+    ),
+  )
 
 -- ---- the registers behind an edge
 
