@@ -2,6 +2,9 @@ ghost use Rattle.std.specs.Prelude.{◌≡◌, true, IfOk};
 ghost use Rattle.verilog_tree.specs.Plain.{plain_module};
 ghost use Rattle.verilog_tree.specs.Fits.{fits};
 ghost use Rattle.self_test.specs.SelfTest.{SelfTest};
+ghost use Rattle.rtl_layout.specs.Plan.{Plan};
+ghost use Rattle.rtl_layout.specs.Layout as L;
+ghost use Rattle.rtl_layout.specs.Shows.{IsPlan};
 
 use crate::planning::plan;
 use bist_bits::NoMemory;
@@ -16,6 +19,7 @@ use verilog_tree::Module;
 /// Want of memory is its only refusal.
 pub fn generate(alloc: Global, march: &March, memory: &Memory) -> Result<Module, NoMemory>
     ensures fits { IfOk result (λ m. fits (plain_module m) ≡ true) }
+    ensures layout { IfOk result (λ m. (p : Plan) × IsPlan p × (plain_module m ≡ L.self_test p)) }
     ensures self_test { IfOk result (λ m. SelfTest (plain_module m) march.now memory.now) }
 {
     let plan = plan(march, memory);

@@ -64,7 +64,7 @@ abbrev mutual
   UnderAll rank r (Followed x xs) = Under rank r x × UnderAll rank r xs
 
 mutual
-  under_uses : (rank : List ℕ → ℕ) (r : ℕ) (m : List ℕ) (x : Expression) → Under rank r x → Uses m x → rank m < r
+  pub under_uses : (rank : List ℕ → ℕ) (r : ℕ) (m : List ℕ) (x : Expression) → Under rank r x → Uses m x → rank m < r
   under_uses rank r m (Net k) h u = rw u (ltb-true _ _ h)
   under_uses rank r m (BitSelect k i) h u = rw u (ltb-true _ _ h)
   under_uses rank r m (PartSelect k i l) h u = rw u (ltb-true _ _ h)
@@ -116,42 +116,45 @@ bit_under r k n v i h = elim (eqb_tells v 1) [ inl q ↦ subst (λ t. Under r k 
 pick_under : {A : Type 0} (r : List ℕ → ℕ) (k : ℕ) (n : List ℕ) (v : ℕ) (f : A → Expression) (d : A) (xs : List A) → nat_lt (r n) k ≡ true → 0 < length xs → ((j : ℕ) → j < length xs → Under r k (f (slice_index_or xs j d))) → Under r k (pick n v (map f xs))
 pick_under r k n v f d xs h l a = pick_has n v (λ i x. Under r k x) (λ i x u. u) (λ i x y g a b. (bit_under r k n v i h, a, b)) f d xs l a
 
-module _ (p : Plan) (ready : Ready p) where
-  element_under : (k s : ℕ) (f : Element → ℕ) → nat_lt 0 k ≡ true → Under rank k (by_element p s f)
-  element_under k s f h = pick_under rank k L.element p.element_width (λ (x : Element). lit s (f x)) nothing p.elements h ready.has_element (λ j g. tt)
+-- the tables and the address, for any rank under which the names that they use are low enough
+module _ (p : Plan) (ready : Ready p) (r : List ℕ → ℕ) (k : ℕ) where
+  pub element_under : (s : ℕ) (f : Element → ℕ) → nat_lt (r L.element) k ≡ true → Under r k (by_element p s f)
+  element_under s f h = pick_under r k L.element p.element_width (λ (x : Element). lit s (f x)) nothing p.elements h ready.has_element (λ j g. tt)
 
-  operation_under : (k : ℕ) (f : Operation → Bool) → nat_lt 0 k ≡ true → Under rank k (by_operation p f)
-  operation_under k f h =
-      pick_under rank k L.element p.element_width (λ (x : Element). pick L.oper p.oper_width (map (λ (o : Operation). lit 1 (bit (f o))) x.operations)) nothing p.elements h ready.has_element
-      (λ j g. pick_under rank k L.oper p.oper_width (λ (o : Operation). lit 1 (bit (f o))) idle (element_at p j).operations h (ready.has_operation j) (λ i m. tt))
+  pub operation_under : (f : Operation → Bool) → nat_lt (r L.element) k ≡ true → nat_lt (r L.oper) k ≡ true → Under r k (by_operation p f)
+  operation_under f h g =
+      pick_under r k L.element p.element_width (λ (x : Element). pick L.oper p.oper_width (map (λ (o : Operation). lit 1 (bit (f o))) x.operations)) nothing p.elements h ready.has_element
+      (λ j l. pick_under r k L.oper p.oper_width (λ (o : Operation). lit 1 (bit (f o))) idle (element_at p j).operations g (ready.has_operation j) (λ i m. tt))
 
-  word_under : Under rank 3 (word p L.back L.value)
-  word_under = pick_under rank 3 L.back p.back_width (λ b. choose (Net L.value) (lit p.bits (port_word p true b)) (lit p.bits (port_word p false b))) 0 p.backgrounds refl ready.has_background (λ j g. (refl, tt, tt))
+  pub word_under : (b v : List ℕ) → nat_lt (r b) k ≡ true → nat_lt (r v) k ≡ true → Under r k (word p b v)
+  word_under b v h g =
+      pick_under r k b p.back_width (λ w. choose (Net v) (lit p.bits (port_word p true w)) (lit p.bits (port_word p false w))) 0 p.backgrounds h ready.has_background (λ j l. (g, tt, tt))
 
-  visited_under : Under rank 2 (L.visited p)
-  visited_under = elim (eqb_tells p.addr_width p.visit_width) [
-    | inl q ↦ subst (λ t. Under rank 2 (cond t (Net L.visit) (PartSelect L.visit (p.addr_width - 1) 0))) (sym q.0) refl
-    | inr q ↦ subst (λ t. Under rank 2 (cond t (Net L.visit) (PartSelect L.visit (p.addr_width - 1) 0))) (sym q.0) refl
+  pub visited_under : nat_lt (r L.visit) k ≡ true → Under r k (L.visited p)
+  visited_under h = elim (eqb_tells p.addr_width p.visit_width) [
+    | inl q ↦ subst (λ t. Under r k (cond t (Net L.visit) (PartSelect L.visit (p.addr_width - 1) 0))) (sym q.0) h
+    | inr q ↦ subst (λ t. Under r k (cond t (Net L.visit) (PartSelect L.visit (p.addr_width - 1) 0))) (sym q.0) h
   ]
 
-  rows_under : (rs : List Row) (xs : Expressions) → UnderAll rank 3 xs → UnderAll rank 3 (L.address_bits p rs xs)
-  rows_under [] xs h = h
-  rows_under (r ∷ rs) xs h = rows_under rs (Followed (L.row_bit p.addr_width r) xs) (((refl, tt), tt), h)
+  rows_under : (rs : List Row) (xs : Expressions) → nat_lt (r L.index) k ≡ true → UnderAll r k xs → UnderAll r k (L.address_bits p rs xs)
+  rows_under [] xs i h = h
+  rows_under (w ∷ rs) xs i h = rows_under rs (Followed (L.row_bit p.addr_width w) xs) i (((i, tt), tt), h)
 
-  address_under : Under rank 3 (L.address p)
-  address_under = elim p.straight as (λ t. Under rank 3 (cond t (Net L.index) (Concatenation (L.address_bits p p.rows NoMore)))) [ true ↦ refl | false ↦ rows_under p.rows NoMore tt ]
+  pub address_under : nat_lt (r L.index) k ≡ true → Under r k (L.address p)
+  address_under i = elim p.straight as (λ t. Under r k (cond t (Net L.index) (Concatenation (L.address_bits p p.rows NoMore)))) [ true ↦ i | false ↦ rows_under p.rows NoMore i tt ]
 
+module _ (p : Plan) (ready : Ready p) where
   pub rank_falls : Falls rank (L.items p)
   rank_falls = falls rank (L.items p) (stages_ranked rank (several p) p.back_width 0 p.delay (items_after p) (
-    operation_under 1 (λ o. o.write) refl,
+    operation_under p ready rank 1 (λ o. o.write) refl refl,
     (
-      operation_under 1 (λ o. o.bit) refl,
+      operation_under p ready rank 1 (λ o. o.bit) refl refl,
       (
-        element_under 1 1 (λ x. bit x.down) refl,
+        element_under p ready rank 1 1 (λ x. bit x.down) refl,
         (
-          element_under 1 1 (λ x. bit x.pause) refl,
+          element_under p ready rank 1 1 (λ x. bit x.pause) refl,
           (
-            (refl, element_under 1 p.oper_width (λ x. length x.operations - 1) refl),
+            (refl, element_under p ready rank 1 p.oper_width (λ x. length x.operations - 1) refl),
             (
               (refl, (refl, tt, tt)),
               (
@@ -161,15 +164,15 @@ module _ (p : Plan) (ready : Ready p) where
                   (
                     (refl, tt, refl),
                     (
-                      (refl, (tt, visited_under), visited_under),
+                      (refl, (tt, visited_under p ready rank 2 refl), visited_under p ready rank 2 refl),
                       (
                         (refl, tt, refl),
                         (
                           refl,
                           (
-                            address_under,
+                            address_under p ready rank 3 refl,
                             (
-                              word_under,
+                              word_under p ready rank 3 L.back L.value refl refl,
                               (
                                 (refl, tt, refl),
                                 (

@@ -16,3 +16,6 @@ pub returns-in-Ok-clause-self_test : goal.returns-in-Ok-clause-self_test
 returns-in-Ok-clause-self_test c =
     subst (λ (mo : ModuleTree). SelfTest mo c.args.march.now c.args.memory.now) (sym c.in-Ok.ensures)
     (self_tested c.args.march.now c.args.memory.now (seen c.plan-plan.result) c.plan-plan.ensures.plans c.plan-plan.result.is_plan c.plan-plan.ensures.march c.plan-plan.ensures.memory)
+
+pub returns-in-Ok-clause-layout : goal.returns-in-Ok-clause-layout
+returns-in-Ok-clause-layout c = (seen c.plan-plan.result, c.plan-plan.result.is_plan, c.in-Ok.ensures)

@@ -1,0 +1,166 @@
+-- Names of the generator's module to which nothing leads that is left open: all but those to which the returned word leads.
+use Rattle.std.proofs.Common.{◌≡◌, ℕ, zero, suc, ◌-◌, ◌<◌, Bool, true, false, cond, not, ◌||◌, List, [], ◌∷◌, ◌++◌, length, refl, sym, subst, arith, inl, inr}
+use Rattle.std.specs.Str.{bytes_eq}
+use Rattle.verilog_tree.specs.declared.names.Kind.TheVariants as K
+use Rattle.verilog_tree.specs.Plain.{Expression, ModuleItem, WireItem, RegItem, AssignItem, AlwaysItem}
+use Rattle.verilog_tree.specs.Names.{Declaration, declarations, item_declarations, is_clk}
+use Rattle.verilog_tree.specs.Meaning.{bit}
+use Rattle.verilog_tree.specs.Wires.{Uses}
+use Rattle.verilog_tree.proofs.Clean.{Each, found}
+use Rattle.verilog_open.specs.Known.{Known, AreClear, InputsKnown}
+use Rattle.rtl_layout.specs.Plan.{Plan, several}
+use Rattle.rtl_layout.specs.Shows.{Ready}
+use Rattle.rtl_layout.specs.Layout as L
+use Rattle.rtl_layout.proofs.Ranked.{Under, under_uses, element_under, operation_under, word_under, visited_under, address_under}
+use Rattle.port_check.specs.OpenRun.{open_inputs}
+
+-- not `rdata`, nor what it leads to
+abbrev pub clear : List ℕ → Bool
+clear n = not (bytes_eq n L.rdata || (bytes_eq n L.bad || bytes_eq n L.fail))
+
+-- a rank that is low where a name is clear
+abbrev pub taint : List ℕ → ℕ
+taint n = cond (clear n) 0 1
+
+low_clear : (t : Bool) → cond t 0 1 < 1 → t ≡ true
+low_clear true h = refl
+low_clear false h = absurd (omega (arith, h))
+
+pub uses_clear : (x : Expression) (m : List ℕ) → Under taint 1 x → Uses m x → clear m ≡ true
+uses_clear x m h u = low_clear (clear m) (under_uses taint 1 m x h u)
+
+-- each clear name is assigned what uses clear names alone
+abbrev Pure : List ModuleItem → Type 0
+Pure [] = Unit {0}
+Pure (WireItem n k ∷ is) = Pure is
+Pure (RegItem n k ∷ is) = Pure is
+Pure (AssignItem n x ∷ is) = (clear n ≡ true → Under taint 1 x) × Pure is
+Pure (AlwaysItem c ss ∷ is) = Pure is
+
+pure_clear : (is : List ModuleItem) → Pure is → AreClear clear is
+pure_clear [] h n m l c = absurd l
+pure_clear (WireItem k v ∷ is) h n m l c = pure_clear is h n m l c
+pure_clear (RegItem k v ∷ is) h n m l c = pure_clear is h n m l c
+pure_clear (AssignItem k x ∷ is) h n m l c =
+    elim l [ inl v ↦ uses_clear x m (h.0 (subst (λ (j : List ℕ). clear j ≡ true) v.0 c)) v.1 | inr v ↦ pure_clear is h.1 n m v c ]
+pure_clear (AlwaysItem k v ∷ is) h n m l c = pure_clear is h n m l c
+
+stages_pure : (many : Bool) (w i n : ℕ) (rest : List ModuleItem) → Pure rest → Pure (L.stage_regs many w i n ++ rest)
+stages_pure many w i zero rest h = h
+stages_pure true w i (suc n) rest h = stages_pure true w (suc i) n rest h
+stages_pure false w i (suc n) rest h = stages_pure false w (suc i) n rest h
+
+pub not_true : {P : Type 0} → false ≡ true → P
+not_true h = cc
+
+module _ (p : Plan) (ready : Ready p) where
+  after_pure : Pure (L.items_after p)
+  after_pure = (
+    (λ c. operation_under p ready taint 1 (λ o. o.write) refl refl),
+    (
+      (λ c. operation_under p ready taint 1 (λ o. o.bit) refl refl),
+      (
+        (λ c. element_under p ready taint 1 1 (λ x. bit x.down) refl),
+        (
+          (λ c. element_under p ready taint 1 1 (λ x. bit x.pause) refl),
+          (
+            (λ c. (refl, element_under p ready taint 1 p.oper_width (λ x. length x.operations - 1) refl)),
+            (
+              (λ c. (refl, (refl, tt, tt))),
+              (
+                (λ c. (refl, tt)),
+                (
+                  (λ c. (refl, tt)),
+                  (
+                    (λ c. (refl, tt, refl)),
+                    (
+                      (λ c. (refl, (tt, visited_under p ready taint 1 refl), visited_under p ready taint 1 refl)),
+                      (
+                        (λ c. (refl, tt, refl)),
+                        (
+                          (λ c. refl),
+                          (
+                            (λ c. address_under p ready taint 1 refl),
+                            (
+                              (λ c. word_under p ready taint 1 L.back L.value refl refl),
+                              (
+                                (λ c. (refl, tt, refl)),
+                                (
+                                  (λ c. not_true c),
+                                  tt,
+                                ),
+                              ),
+                            ),
+                          ),
+                        ),
+                      ),
+                    ),
+                  ),
+                ),
+              ),
+            ),
+          ),
+        ),
+      ),
+    ),
+  )
+
+  pub items_clear : AreClear clear (L.items p)
+  items_clear = pure_clear (L.items p) (stages_pure (several p) p.back_width 0 p.delay (L.items_after p) after_pure)
+
+-- ---- inputs
+
+not_input : {P : Type 0} → K.Wire ≡ K.Input → P
+not_input h = cc
+
+not_input_register : {P : Type 0} → K.Register ≡ K.Input → P
+not_input_register h = cc
+
+-- no item declares an input
+no_inputs : (P : Declaration → Type 0) → ((d : Declaration) → (d.kind ≡ K.Input → ⊥) → P d) → (is : List ModuleItem) → Each P (item_declarations is)
+no_inputs P all [] = tt
+no_inputs P all (WireItem n k ∷ is) = (all (record { name = n; kind = K.Wire; width = k }) (λ e. not_input e), no_inputs P all is)
+no_inputs P all (RegItem n k ∷ is) = (all (record { name = n; kind = K.Register; width = k }) (λ e. not_input_register e), no_inputs P all is)
+no_inputs P all (AssignItem n x ∷ is) = no_inputs P all is
+no_inputs P all (AlwaysItem c ss ∷ is) = no_inputs P all is
+
+abbrev IsKnownInput : ℕ → Declaration → Type 0
+IsKnownInput t d = d.kind ≡ K.Input → is_clk d.name ≡ false → clear d.name ≡ true → Known (open_inputs t d.name)
+
+all_known : (p : Plan) (t : ℕ) → Each (IsKnownInput t) (declarations (L.ports p) (L.items p))
+all_known p t = (
+  (λ e k c. true_not k),
+  (
+    (λ e k c. tt),
+    (
+      (λ e k c. not_true c),
+      (
+        (λ e k c. not_input e),
+        (
+          (λ e k c. not_input e),
+          (
+            (λ e k c. not_input e),
+            (
+              (λ e k c. not_input e),
+              (
+                (λ e k c. not_input e),
+                (
+                  (λ e k c. not_input e),
+                  no_inputs (IsKnownInput t) (λ d no e k c. absurd (no e)) (L.items p),
+                ),
+              ),
+            ),
+          ),
+        ),
+      ),
+    ),
+  ),
+)
+  where
+    true_not : {P : Type 0} → true ≡ false → P
+    true_not h = cc
+
+pub inputs_known : (p : Plan) (t : ℕ) → InputsKnown (L.self_test p) clear (open_inputs t)
+inputs_known p t n d q i z c =
+    let g = found (IsKnownInput t) (declarations (L.ports p) (L.items p)) n d (all_known p t) q in
+    subst (λ (m : List ℕ). Known (open_inputs t m)) (sym g.1) (g.0 i (subst (λ (m : List ℕ). is_clk m ≡ false) g.1 z) (subst (λ (m : List ℕ). clear m ≡ true) g.1 c))
