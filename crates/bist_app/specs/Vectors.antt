@@ -1,8 +1,8 @@
 -- The command `vectors MARCH MEMORY OUT`: its shape, its checks in their order, and what it leaves.
-use Rattle.std.specs.Prelude.{◌≡◌, ◌+◌, ◌/◌, ◌++◌, ℕ, Bool, true, false, List, [], ◌∷◌, Result, Ok, Err, Option, codes, decimal}
+use Rattle.std.specs.Prelude.{◌≡◌, ◌++◌, ℕ, Bool, true, false, List, [], ◌∷◌, Result, Ok, Err, Option, codes, decimal}
 use Rattle.std.specs.List.{flat_map}
 use Rattle.bist_host.specs.Files.{Files}
-use Rattle.bist_text.specs.Numbers.{hex_digits}
+use Rattle.bist_text.specs.Numbers.{word_text}
 use Rattle.march_core.specs.March.{MarchElement}
 use Rattle.memory_desc.specs.Descriptions.{Description}
 use Rattle.word_march.specs.declared.operations.PortOp.{PortOp}
@@ -27,7 +27,7 @@ kind_text false = codes "r "
 
 -- a command's line: whether it writes, its address, and its word in as many digits as the memory's words need
 abbrev pub command_line : ℕ → PortOp → List ℕ
-command_line bits o = kind_text o.write ++ decimal o.addr ++ codes " " ++ hex_digits ((bits + 3) / 4) o.word ++ codes "\n"
+command_line bits o = kind_text o.write ++ decimal o.addr ++ codes " " ++ word_text bits o.word ++ codes "\n"
 
 abbrev pub command_lines : ℕ → List PortOp → List ℕ
 command_lines bits os = flat_map (command_line bits) os

@@ -14,7 +14,7 @@ use bist_bits::NoMemory;
 use bist_endings::{Output, Plan, Refusal, numbered};
 use bist_host::Host;
 use bist_inputs::{read_march_input, read_memory_input};
-use bist_text::{put, put_decimal, put_hex};
+use bist_text::{put, put_decimal, put_word};
 use march_core::March;
 use memory_desc::Memory;
 use self_test::too_long;
@@ -53,7 +53,7 @@ fn put_command(out: &mut Vec<u8>, command: PortOp, bits: u8) -> Result<(), NoMem
     put_kind(out, command.write)?;
     put_decimal(out, u64::from(command.addr))?;
     put(out, b" ")?;
-    put_hex(out, command.word, (bits + 3) / 4)?;
+    put_word(out, bits, command.word)?;
     put(out, b"\n")
 }
 

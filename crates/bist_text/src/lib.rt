@@ -13,7 +13,7 @@ mod writing;
 pub use byte_set::ByteSet;
 pub use cursors::Cursor;
 pub use keywords::{Keyword, Letters, Spelled, first_letter, next_letter};
-pub use numbers::{decimal, hex, put_decimal, put_hex};
+pub use numbers::{decimal, hex, put_decimal, put_hex, put_word};
 pub use reserved_words::is_reserved;
 pub use text_lines::{Line, Lines};
 pub use writing::put;

@@ -1,7 +1,7 @@
 -- The printed form of a memory.
-use Rattle.std.specs.Prelude.{ℕ, zero, suc, ◌+◌, ◌/◌, ◌^◌, ◌==◌, ◌&&◌, Bool, true, false, if◌then◌else◌, List, [], ◌∷◌, ◌++◌, codes, decimal}
+use Rattle.std.specs.Prelude.{ℕ, zero, suc, ◌+◌, ◌^◌, ◌==◌, ◌&&◌, Bool, true, false, if◌then◌else◌, List, [], ◌∷◌, ◌++◌, codes, decimal}
 use Rattle.std.specs.Int.{bit_at}
-use Rattle.bist_text.specs.Numbers.{hex_digits}
+use Rattle.bist_text.specs.Numbers.{word_text}
 use Rattle.scrambler.specs.Scrambling.{Scrambling, row}
 use Rattle.memory_desc.specs.Descriptions.{Description}
 
@@ -11,7 +11,7 @@ number_line word n = word ++ (decimal n ++ (10 ∷ []))
 
 -- a background, behind a blank, in as many digits as the word needs
 abbrev pub background_text : ℕ → ℕ → List ℕ
-background_text bits word = 32 ∷ hex_digits ((bits + 3) / 4) word
+background_text bits word = 32 ∷ word_text bits word
 
 abbrev pub background_texts : ℕ → List ℕ → List ℕ
 background_texts bits [] = []
@@ -86,7 +86,7 @@ head_lines d = version_text (is_plain d) ++ (10 ∷ (name_line d.name ++ size_li
 
 -- the polarity, in as many digits as the word needs
 abbrev pub polarity_line : ℕ → ℕ → List ℕ
-polarity_line bits word = codes "polarity " ++ (hex_digits ((bits + 3) / 4) word ++ (10 ∷ []))
+polarity_line bits word = codes "polarity " ++ (word_text bits word ++ (10 ∷ []))
 
 abbrev pub port_lines : Description → List ℕ
 port_lines d = number_line (codes "latency ") d.latency ++ (polarity_line d.bits d.polarity ++ number_line (codes "pause ") d.pause)

@@ -7,7 +7,7 @@ ghost use Rattle.memory_desc.specs.Printed.{number_line, name_line, is_plain, ve
 
 use crate::memory::Memory;
 use bist_bits::NoMemory;
-use bist_text::{put, put_decimal, put_hex};
+use bist_text::{put, put_decimal, put_word};
 use scrambler::Scramble;
 use std::alloc::Global;
 
@@ -63,7 +63,7 @@ fn put_later_lines(out: &mut Vec<u8>, memory: &Memory) -> Result<(), NoMemory>
     }
     put_number_line(out, b"latency ", u64::from(memory.latency()))?;
     put(out, b"polarity ")?;
-    put_hex(out, memory.polarity(), (memory.bits() + 3) / 4)?;
+    put_word(out, memory.bits(), memory.polarity())?;
     put(out, b"\n")?;
     put_number_line(out, b"pause ", u64::from(memory.pause()))
 }
@@ -164,7 +164,7 @@ fn put_backgrounds(out: &mut Vec<u8>, set: &[u64], bits: u8) -> Result<(), NoMem
     put(out, b"backgrounds")?;
     for word in set {
         put(out, b" ")?;
-        put_hex(out, *word, (bits + 3) / 4)?;
+        put_word(out, bits, *word)?;
     }
     put(out, b"\n")
 }
