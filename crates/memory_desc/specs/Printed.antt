@@ -1,8 +1,8 @@
 -- The printed form of a memory.
-use Rattle.std.specs.Prelude.{ℕ, zero, suc, ◌+◌, ◌^◌, ◌==◌, ◌&&◌, Bool, true, false, if◌then◌else◌, List, [], ◌∷◌, ◌++◌, codes, decimal}
+use Rattle.std.specs.Prelude.{ℕ, zero, suc, ◌+◌, ◌==◌, ◌&&◌, Bool, true, false, if◌then◌else◌, List, [], ◌∷◌, ◌++◌, codes, decimal}
 use Rattle.std.specs.Int.{bit_at}
 use Rattle.bist_text.specs.Numbers.{word_text}
-use Rattle.scrambler.specs.Scrambling.{Scrambling, row}
+use Rattle.scrambler.specs.Scrambling.{Scrambling, row, is_identity}
 use Rattle.memory_desc.specs.Descriptions.{Description}
 
 -- a word, a number, and the line's end
@@ -55,14 +55,6 @@ row_line s i = codes "scramble a" ++ (decimal i ++ (codes " = " ++ (joined (row_
 abbrev pub row_lines : Scrambling → ℕ → List ℕ
 row_lines s zero = []
 row_lines s (suc n) = row_lines s n ++ row_line s n
-
--- each of the first n rows names its own bit alone
-abbrev pub are_units : Scrambling → ℕ → Bool
-are_units s zero = true
-are_units s (suc n) = are_units s n && (row s n == 2 ^ n)
-
-abbrev pub is_identity : Scrambling → Bool
-is_identity s = (s.constant == 0) && are_units s s.width
 
 abbrev pub scramble_lines : Scrambling → List ℕ
 scramble_lines s = if is_identity s then [] else row_lines s s.width
