@@ -12,7 +12,8 @@ use Rattle.verilog_tree.specs.declared.tokens.Base.TheVariants.{Hexadecimal}
 use Rattle.verilog_tree.specs.Formed.{is_width, is_place, is_literal}
 use Rattle.verilog_tree.specs.Grammar.{number, zero_number, literal}
 use Rattle.verilog_tree.specs.Tokens as T
-use Rattle.verilog_tree.specs.Words.{is_digit, in_identifier, begins_identifier, is_digit_of, digit_value}
+use Rattle.bist_text.specs.Identifiers.{is_digit, begins_identifier, in_identifier}
+use Rattle.verilog_tree.specs.Words.{is_digit_of, digit_value}
 use Rattle.verilog_emit.specs.Printed.{literal_text}
 use Rattle.bist_text.proofs.Powers.{word_digits}
 use Rattle.verilog_emit.proofs.Pieces.{Spelt, both, refused, no_letter, is_apart, grouped}
