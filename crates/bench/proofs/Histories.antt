@@ -12,7 +12,7 @@ use Rattle.verilog_tree.specs.Meaning.{Env, Settles, History, next}
 use Rattle.march_core.specs.March.{MarchElement, IsMarch}
 use Rattle.memory_desc.specs.Descriptions.{Description, IsMemory}
 use Rattle.word_march.specs.declared.operations.PortOp.{PortOp}
-use Rattle.word_march.specs.Commands.{port_ops, command_at, slots, span}
+use Rattle.word_march.specs.Commands.{port_ops, command_at, slots, span, cycle_count}
 use Rattle.word_march.specs.PortRule.{PortValues, PortRule, SomeReadDiffers, cycle_of}
 use Rattle.controller.specs.Standing.{Starts}
 use Rattle.controller.proofs.Slots.{start}
@@ -32,7 +32,7 @@ use Rattle.word_device.proofs.Joint.{joint_fails, joint_passes, same_first}
 use Rattle.word_device.proofs.Joining.{same_words}
 use Rattle.bench.specs.declared.ending.Seen.{Seen}
 use Rattle.bench.specs.Joint.{Between, Turn, Joint, at_first, word_in, ports_in, first_done}
-use Rattle.bench.specs.Endings.{cycle_count, IsFirstRead, IsFirstSeen, Runs}
+use Rattle.bench.specs.Endings.{IsFirstRead, IsFirstSeen, Runs}
 use Rattle.bench.specs.Laws.{done_at, EndsFailed, PlantedFails, EndsPassed, PlainPasses, IsWrongRead, EndsAsSeen, AnyBox, SeenAlone, script_word, SeenScript, IsSeenOf, EndsSelfTest}
 use Rattle.bench.proofs.Inputs.{given_there}
 

@@ -16,7 +16,8 @@ use Rattle.self_test.specs.WrongPort.{has_port, has_name, same_port, same_direct
 use Rattle.verilog_tree.specs.Meaning.{Env, Given, AllGiven}
 use Rattle.verilog_cycle.specs.Nets.{valued}
 use Rattle.verilog_cycle.specs.Design.{inputs_of, names, Fit}
-use Rattle.bench.specs.Pins.{reset_leads}
+use Rattle.self_test.specs.Pins.{reset_leads}
+use Rattle.self_test.proofs.Places.{or_true, and_true, nothing_left}
 use Rattle.bench.specs.Cycles.{input_values}
 
 -- ---- the inputs by recursion on the ports
@@ -52,20 +53,9 @@ rdata_input d = record { name = codes "rdata"; kind = K.Input; width = d.bits }
 abbrev IsOne : Description → Declaration → Type 0
 IsOne d x = (x ≡ reset_input) ⊎ (x ≡ rdata_input d)
 
-pub or_true : (x y : Bool) → (x || y) ≡ true → (x ≡ true) ⊎ (y ≡ true)
-or_true true y h = inl refl
-or_true false y h = inr h
-
-pub and_true : (x y : Bool) → (x && y) ≡ true → (x ≡ true) × (y ≡ true)
-and_true true y h = (refl, h)
-and_true false y h = cc
-
 skip_output : (x y r : Bool) → ((x && (false && y)) || r) ≡ true → r ≡ true
 skip_output true y r h = h
 skip_output false y r h = h
-
-pub nothing_left : false ≡ true → ⊥
-nothing_left h = cc
 
 -- a port of the list that is an input and not the clock
 is_one : (d : Description) (n : List ℕ) (k : ℕ) → has_port (record { dir = Input; name = n; width = k }) (ports d) ≡ true → is_clk n ≡ false

@@ -8,13 +8,13 @@ use Rattle.verilog_tree.specs.declared.names.Kind.{Kind}
 use Rattle.verilog_tree.specs.declared.names.Kind.TheVariants as K
 use Rattle.verilog_tree.specs.Plain.{ModuleTree}
 use Rattle.verilog_tree.specs.Formed.{formed}
-use Rattle.verilog_tree.specs.Names.{Declaration, declarations, item_declarations, lookup, declared_width, is_input, is_clk}
+use Rattle.verilog_tree.specs.Names.{Declaration, declarations, item_declarations, lookup, declared_width, is_input, is_clk, number}
 use Rattle.verilog_tree.specs.Meaning.{Env, Given, AllGiven, Settles, next, names_widths, settled_width}
 use Rattle.verilog_tree.specs.Rules.{first_break}
 use Rattle.verilog_tree.specs.Wires.{GivenWithin, AllWithin}
 use Rattle.verilog_tree.proofs.Clean.{Fresh, fresh_found}
 use Rattle.verilog_tree.proofs.Settling.{lawful_module, one_settles, narrowed}
-use Rattle.verilog_cycle.specs.Nets.{valued, number}
+use Rattle.verilog_cycle.specs.Nets.{valued}
 use Rattle.verilog_cycle.specs.Design.{names, registers_of, inputs_of, AreNets}
 use Rattle.verilog_cycle.proofs.Settled.{places_fall}
 use Rattle.march_core.specs.March.{MarchElement}

@@ -9,20 +9,20 @@ use Rattle.bist_text.specs.ReservedWords.{is_among}
 use Rattle.verilog_tree.specs.declared.names.Kind.{Kind}
 use Rattle.verilog_tree.specs.declared.names.Kind.TheVariants as K
 use Rattle.verilog_tree.specs.Plain.{ModuleTree}
-use Rattle.verilog_tree.specs.Names.{Declaration, declarations, is_register}
+use Rattle.verilog_tree.specs.Names.{Declaration, declarations, is_register, number}
 use Rattle.verilog_tree.specs.Meaning.{Env, Given, AllGiven, Settles, next}
 use Rattle.march_core.specs.March.{MarchElement, IsMarch}
 use Rattle.memory_desc.specs.Descriptions.{Description, IsMemory}
 use Rattle.word_march.specs.declared.operations.PortOp.{PortOp}
 use Rattle.std.proofs.lemmas.Option.{slice_get_within}
-use Rattle.word_march.specs.Commands.{port_ops, command_at, slots, span}
+use Rattle.word_march.specs.Commands.{port_ops, command_at, slots, span, cycle_count}
 use Rattle.controller.specs.Standing.{Starts}
 use Rattle.controller.proofs.Slots.{start}
 use Rattle.word_march.specs.PortRule.{PortValues, cycle_of}
 use Rattle.word_march.proofs.Ports.{at_more, one_command}
 use Rattle.self_test.specs.Ports.{port_values}
 use Rattle.controller.specs.States.{State, StandsIn, IsExpected}
-use Rattle.verilog_cycle.specs.Nets.{number, valued}
+use Rattle.verilog_cycle.specs.Nets.{valued}
 use Rattle.verilog_cycle.specs.Design.{names, registers_of}
 use Rattle.word_device.specs.Ports.{shape_of}
 use Rattle.word_device.specs.Boxes.{Tells, Answers, after_cycle}
@@ -32,7 +32,7 @@ use Rattle.bench.specs.declared.ending.Seen.{Seen}
 use Rattle.bench.specs.declared.cycle.CycleEnd.{CycleEnd}
 use Rattle.bench.specs.declared.run.Watch.{Watch}
 use Rattle.bench.specs.Joint.{Between, Turn, Joint, at_first, word_in, ports_in, first_done}
-use Rattle.bench.specs.Endings.{cycle_count, IsFirstSeen, Shows, Runs}
+use Rattle.bench.specs.Endings.{IsFirstSeen, Shows, Runs}
 use Rattle.bench.specs.Cycles.{Turned, IsFirstSeenBefore, seen_by, done_by, watched_by, unwatched, FirstWatched, Controls, Stage}
 
 -- ---- registers by their list

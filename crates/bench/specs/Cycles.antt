@@ -15,7 +15,7 @@ use Rattle.word_device.specs.Boxes.{Tells}
 use Rattle.word_device.specs.Joint.{returned_word}
 use Rattle.word_device.specs.Runs.{IsRight, IsFirstWrong}
 use Rattle.bench.specs.declared.ending.Seen.{Seen}
-use Rattle.bench.specs.declared.pins.Pins.{Pins}
+use Rattle.self_test.specs.declared.pins.Pins.{Pins}
 use Rattle.bench.specs.declared.cycle.Outputs.{Outputs}
 use Rattle.bench.specs.declared.cycle.CycleEnd.{CycleEnd}
 use Rattle.bench.specs.declared.run.Watch.{Watch}

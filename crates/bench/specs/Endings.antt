@@ -5,7 +5,7 @@ use Rattle.verilog_tree.specs.Meaning.{Env}
 use Rattle.march_core.specs.March.{MarchElement}
 use Rattle.memory_desc.specs.Descriptions.{Description}
 use Rattle.word_march.specs.declared.operations.PortOp.{PortOp}
-use Rattle.word_march.specs.Commands.{port_ops, span}
+use Rattle.word_march.specs.Commands.{port_ops, span, cycle_count}
 use Rattle.word_march.specs.PortRule.{cycle_of}
 use Rattle.verilog_cycle.specs.Nets.{valued}
 use Rattle.verilog_cycle.specs.Design.{names, registers_of}
@@ -14,11 +14,6 @@ use Rattle.word_device.specs.Joint.{returned_word}
 use Rattle.word_device.specs.Runs.{AllRight, IsFirstWrong}
 use Rattle.bench.specs.declared.ending.Seen.{Seen}
 use Rattle.bench.specs.Joint.{Between, Joint, at_first, word_in, ports_in, first_done}
-
--- the cycles of a run: the reset, the march, the latency of the last answer, and one in which its comparison shows; a self-test is
--- done in the last of them
-abbrev pub cycle_count : List MarchElement → Description → ℕ
-cycle_count march d = span march d + d.latency + 2
 
 -- the first read whose word isn't the one that it expects, where command j has word j: the cycle in which its answer stands on
 -- `rdata`, and both words; none where every read's word is right

@@ -2,15 +2,15 @@
 
 ghost use Rattle.std.specs.Prelude.{◌≡◌, ◌<◌, ◌≤◌, ◌%◌, ◌^◌, ◌==◌, IsSome, Some, List, ℕ, length};
 ghost use Rattle.verilog_cycle.specs.Design.{Cycle, Fit, inputs_of, outputs_of, with_registers};
+ghost use Rattle.self_test.specs.Pins.{ArePins};
 ghost use Rattle.self_test.specs.WrongPort.{ArePorts};
 ghost use Rattle.word_device.specs.Ports.{shape_of as memory_shape};
 ghost use Rattle.word_device.specs.Boxes.{Answers, after_cycle};
-ghost use Rattle.bench.specs.Pins.{ArePins};
 ghost use Rattle.bench.specs.Cycles.{AreWithin, Turned, input_values, outputs_at};
 
-use crate::pins::Pins;
 use bist_bits::all_ones;
 use memory_desc::Memory;
+use self_test::Pins;
 use verilog_cycle::Design;
 use word_device::{Device, PortCmd};
 

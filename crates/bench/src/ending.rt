@@ -1,4 +1,4 @@
-use verilog_tree::Name;
+use self_test::RunFault;
 use word_device::Device;
 
 /// The first read that was not answered by its expected word.
@@ -24,17 +24,8 @@ pub struct BenchEnd {
     pub device: Box<dyn Device>,
 }
 
-/// Why a design isn't run.
-#[derive(Clone, Copy, Debug)]
-pub enum BenchFault {
-    /// B1: the run takes so many cycles, more than 2,000,000.
-    TooLong { cycles: u64 },
-    /// B2: this port is missing, goes another way or has another width; or else it is one too many.
-    WrongPorts { name: Name },
-}
-
 /// A refusal hands the box back, which was not called.
 pub struct BenchRefused {
-    pub fault: BenchFault,
+    pub fault: RunFault,
     pub device: Box<dyn Device>,
 }

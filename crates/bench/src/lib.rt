@@ -5,8 +5,7 @@
 mod cycle;
 mod ending;
 pub mod laws;
-mod pins;
 mod run;
 
-pub use ending::{BenchEnd, BenchFault, BenchRefused, Seen};
+pub use ending::{BenchEnd, BenchRefused, Seen};
 pub use run::bench;

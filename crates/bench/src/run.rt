@@ -1,32 +1,27 @@
 ghost use Rattle.std.specs.Prelude.{◌≡◌, ◌<◌, ◌≤◌, ◌+◌, ◌^◌, Some, None, Ok, Err, Option, List, map, IsOk, IfOk, IfErr, IfNone};
-ghost use Rattle.march_core.specs.March.{IsMarch};
-ghost use Rattle.memory_desc.specs.Descriptions.{IsMemory};
 ghost use Rattle.controller.specs.States.{State};
 ghost use Rattle.verilog_cycle.specs.Nets.{valued};
 ghost use Rattle.verilog_cycle.specs.Design.{names, registers_of, with_registers};
+ghost use Rattle.self_test.specs.Pins.{ArePins};
+ghost use Rattle.self_test.specs.Refusals.{Refuses};
 ghost use Rattle.self_test.specs.WrongPort.{ArePorts};
 ghost use Rattle.word_device.specs.Ports.{shape_of as memory_shape};
-ghost use Rattle.verilog_tree.specs.Plain.{plain_port};
 ghost use Rattle.self_test.specs.SelfTest.{SelfTest};
 ghost use Rattle.word_device.specs.Boxes.{IsTold};
-ghost use Rattle.bench.specs.Pins.{ArePins};
-ghost use Rattle.bench.specs.Endings.{Runs, cycle_count};
-ghost use Rattle.bench.specs.Refusals.{Refuses};
+ghost use Rattle.bench.specs.Endings.{Runs};
 ghost use Rattle.bench.specs.Laws.{EndsSelfTest};
 ghost use Rattle.bench.specs.Cycles.{seen_by, done_by, watched_by, FirstWatched, Stage};
 
 use crate::cycle::{CycleEnd, turn};
-use crate::ending::{BenchEnd, BenchFault, BenchRefused, Seen};
-use crate::pins::{Pins, pins_of};
+use crate::ending::{BenchEnd, BenchRefused, Seen};
 use controller::Control;
 use march_core::March;
 use memory_desc::Memory;
 use microcode::assemble;
-use self_test::wrong_port;
+use self_test::{Pins, pins_of, refusal};
 use verilog_cycle::Design;
-use verilog_tree::Port;
 use word_device::Device;
-use word_march::span;
+use word_march::cycle_count;
 
 /// What was seen so far.
 #[derive(Clone, Copy)]
@@ -136,32 +131,6 @@ fn run_cycles(
     watch
 }
 
-/// The longest run, in cycles.
-const CYCLE_LIMIT: u64 = 2_000_000;
-
-/// How many cycles the run takes.
-fn count_cycles(march: &March, memory: &Memory) -> u64
-    ensures count { result ≡ cycle_count march.now memory.now }
-    ensures memory { IsMemory memory.now }
-    ensures march { IsMarch march.now }
-{
-    let _ = march.len();
-    span(march, memory) + u64::from(memory.latency()) + 2
-}
-
-/// Why the design isn't run, if it isn't.
-fn refusal(ports: &[Port], march: &March, memory: &Memory) -> Option<BenchFault>
-    ensures refuses { Refuses march.now memory.now (map plain_port ports.now) result }
-    ensures ports { IfNone result (ArePorts memory.now (map plain_port ports.now)) }
-{
-    let cycles = count_cycles(march, memory);
-    if cycles > CYCLE_LIMIT {
-        return Some(BenchFault::TooLong { cycles });
-    }
-    let name = wrong_port(ports, memory)?;
-    Some(BenchFault::WrongPorts { name })
-}
-
 fn is_fitted(device: &Box<dyn Device>) -> bool
     ensures { IsTold (told device.now).shape (told device.now).tells }
 {
@@ -198,7 +167,7 @@ pub fn bench(
     }
     let _ = is_fitted(&device);
     let pins = pins_of(design.ports());
-    let cycles = count_cycles(march, memory);
+    let cycles = cycle_count(march, memory);
     let watch = run_cycles(design, pins, march, memory, &mut device, cycles as u32);
     Ok(BenchEnd {
         fail: watch.fail,

@@ -18,6 +18,7 @@ pub mod OneBench
 pub mod OneMade
 pub mod PlaceWords
 pub mod OneAll
+pub mod SmallRooms
 pub mod OneAnswer
 pub mod ReadBack
 pub mod Benched

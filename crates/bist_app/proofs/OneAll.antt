@@ -8,18 +8,20 @@ use Rattle.bist_endings.specs.declared.ending.DeviceRefusal.{DeviceRefusal}
 use Rattle.bist_endings.specs.Ending.{Done}
 use Rattle.bist_endings.specs.OneOutcome.{HasOneOutcome, HasOneAnswer, answer_of}
 use Rattle.bist_app.specs.Bench.{Boxes}
-use Rattle.bist_app.specs.BenchAll.{HaveRoom, FirstSmall, FitsRooms, AreSeen, failing_of, all_done, LeavesAll}
+use Rattle.bist_app.specs.BenchAll.{HaveRoom, FitsRooms, AreSeen, failing_of, all_done, LeavesAll}
+use Rattle.bist_app.specs.BenchedBoxes.{SmallRoom}
 use Rattle.bist_app.specs.Answer.{AllTell}
+use Rattle.bist_app.proofs.SmallRooms.{small_room}
 use Rattle.bist_app.proofs.OneBench.{one_seen}
 
 -- ---- the rooms
 
-room_or_small : (words : ℕ) (boxes : Boxes) (room : ℕ) → HaveRoom words boxes → FirstSmall words boxes room → ⊥
+room_or_small : (words : ℕ) (boxes : Boxes) (room : ℕ) → HaveRoom words boxes → SmallRoom words boxes room → ⊥
 room_or_small words [] room h g = g
 room_or_small words (box ∷ boxes) room h (inl g) = omega (arith, h.0, g.0)
 room_or_small words (box ∷ boxes) room h (inr g) = room_or_small words boxes room h.1 g.1
 
-small_one : (words : ℕ) (boxes : Boxes) (m n : ℕ) → FirstSmall words boxes m → FirstSmall words boxes n → m ≡ n
+small_one : (words : ℕ) (boxes : Boxes) (m n : ℕ) → SmallRoom words boxes m → SmallRoom words boxes n → m ≡ n
 small_one words [] m n f g = absurd f
 small_one words (box ∷ boxes) m n (inl f) (inl g) = f.1 ∙ sym g.1
 small_one words (box ∷ boxes) m n (inl f) (inr g) = absurd (omega (arith, f.0, g.0))
@@ -33,11 +35,11 @@ same_room m k a r s e f g = ap₂ (λ x y. Err (Refusal.Device (DeviceRefusal.To
 pub rooms_one : (d : Description) (boxes : Boxes) → HasOneOutcome (FitsRooms d boxes)
 unfolding FitsRooms
 rooms_one d boxes (Ok u) (Ok v) f g rs ss = refl
-rooms_one d boxes (Ok u) (Err (Refusal.Device (DeviceRefusal.TooSmall m r))) f g rs ss = absurd (room_or_small d.words boxes r f g.1)
+rooms_one d boxes (Ok u) (Err (Refusal.Device (DeviceRefusal.TooSmall m r))) f g rs ss = absurd (room_or_small d.words boxes r f (small_room d.words boxes r g.1))
 rooms_one d boxes (Ok u) (Err other) f g rs ss = absurd g
-rooms_one d boxes (Err (Refusal.Device (DeviceRefusal.TooSmall m r))) (Ok v) f g rs ss = absurd (room_or_small d.words boxes r g f.1)
+rooms_one d boxes (Err (Refusal.Device (DeviceRefusal.TooSmall m r))) (Ok v) f g rs ss = absurd (room_or_small d.words boxes r g (small_room d.words boxes r f.1))
 rooms_one d boxes (Err (Refusal.Device (DeviceRefusal.TooSmall m r))) (Err (Refusal.Device (DeviceRefusal.TooSmall k s))) f g rs ss =
-    same_room m k d.words r s f.0 g.0 (small_one d.words boxes r s f.1 g.1)
+    same_room m k d.words r s f.0 g.0 (small_one d.words boxes r s (small_room d.words boxes r f.1) (small_room d.words boxes s g.1))
 rooms_one d boxes (Err (Refusal.Device (DeviceRefusal.TooSmall m r))) (Err other) f g rs ss = absurd g
 rooms_one d boxes (Err other) s f g rs ss = absurd f
 

@@ -1,7 +1,7 @@
 -- The command `bench MARCH MEMORY`: the self-test module against the first box. Its shape, its checks in their order, and what it leaves.
-use Rattle.std.specs.Prelude.{◌≡◌, ◌+◌, ◌/◌, ◌^◌, ◌<◌, ◌≤◌, ◌⊎◌, ◌++◌, ℕ, Bool, true, false, List, [], ◌∷◌, Option, Some, None, Result, Ok, Err, MatchResult, drop, codes, decimal, is_some}
+use Rattle.std.specs.Prelude.{◌≡◌, ◌^◌, ◌<◌, ◌≤◌, ◌⊎◌, ◌++◌, ℕ, Bool, true, false, List, [], ◌∷◌, Option, Some, None, Result, Ok, Err, MatchResult, drop, codes, decimal, is_some}
 use Rattle.bist_host.specs.Files.{Files}
-use Rattle.bist_text.specs.Numbers.{hex_digits}
+use Rattle.bist_text.specs.Numbers.{word_text}
 use Rattle.march_core.specs.March.{MarchElement}
 use Rattle.memory_desc.specs.Descriptions.{Description}
 use Rattle.word_device.specs.declared.device.Planted.{Planted}
@@ -66,10 +66,6 @@ IsSeen march d planted TellsNothing seen = IsWrongRead march d seen
 abbrev pub done_text : Option ℕ → List ℕ
 done_text None = codes "none"
 done_text (Some cycle) = decimal cycle
-
--- a word in as many digits as the memory's words need
-abbrev pub word_text : ℕ → ℕ → List ℕ
-word_text bits word = hex_digits ((bits + 3) / 4) word
 
 abbrev pub seen_text : ℕ → Option Seen → List ℕ
 seen_text bits None = []

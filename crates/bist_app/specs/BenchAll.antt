@@ -1,11 +1,12 @@
 -- The command `benchall MARCH MEMORY`: the self-test module against each box, one after another. Its shape, its checks in their order, and
 -- what it leaves.
-use Rattle.std.specs.Prelude.{◌≡◌, ◌+◌, ◌<◌, ◌≤◌, ◌⊎◌, ◌++◌, ℕ, nat_lt, List, [], ◌∷◌, Option, Some, None, Result, Ok, Err, length, drop, codes, decimal}
+use Rattle.std.specs.Prelude.{◌≡◌, ◌<◌, ◌≤◌, ◌++◌, ℕ, nat_lt, List, [], ◌∷◌, Option, None, Result, Ok, Err, is_some, length, drop, codes, decimal}
+use Rattle.std.specs.List.{filter}
 use Rattle.bist_host.specs.Files.{Files}
 use Rattle.march_core.specs.March.{MarchElement}
 use Rattle.memory_desc.specs.Descriptions.{Description}
 use Rattle.word_device.specs.Ports.{Chip}
-use Rattle.word_device.specs.Boxes.{Tells, TellsChip}
+use Rattle.word_device.specs.Boxes.{Told, Tells, TellsChip}
 use Rattle.bench.specs.declared.ending.Seen.{Seen}
 use Rattle.bist_endings.specs.declared.ending.Refusal.{Refusal}
 use Rattle.bist_endings.specs.declared.ending.DeviceRefusal.{DeviceRefusal}
@@ -23,10 +24,15 @@ abbrev pub HaveRoom : ℕ → Boxes → Type 0
 HaveRoom words [] = Unit {0}
 HaveRoom words (box ∷ boxes) = (words ≤ box.room) × HaveRoom words boxes
 
--- the first box without room for so many words has this room
-abbrev pub FirstSmall : ℕ → Boxes → ℕ → Type 0
-FirstSmall words [] room = ⊥
-FirstSmall words (box ∷ boxes) room = ((box.room < words) × (room ≡ box.room)) ⊎ ((words ≤ box.room) × FirstSmall words boxes room)
+-- the first box without room for so many words has this room: those before it have room
+pub record FirstSmall (words : ℕ) (boxes : Boxes) (room : ℕ) : Type 0 where
+  pub before : Boxes
+  pub box : Told
+  pub behind : Boxes
+  pub split : boxes ≡ before ++ box ∷ behind
+  pub enough : HaveRoom words before
+  pub small : box.room < words
+  pub room_is : room ≡ box.room
 
 -- each box has room for the memory's words
 unfoldable pub FitsRooms : Description → Boxes → Result (Unit {0}) Refusal → Type 0
@@ -50,9 +56,7 @@ AreSeen march d (box ∷ boxes) (seen ∷ rest) = IsBoxSeen march d box.tells se
 
 -- of how many a read differs
 abbrev pub failing_of : List (Option Seen) → ℕ
-failing_of [] = 0
-failing_of (None ∷ rest) = failing_of rest
-failing_of (Some seen ∷ rest) = failing_of rest + 1
+failing_of seen = length (filter is_some seen)
 
 -- ---- what the command leaves
 

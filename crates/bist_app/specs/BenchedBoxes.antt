@@ -1,5 +1,5 @@
 -- For proofs and private contracts alone: the boxes that are benched so far.
-use Rattle.std.specs.Prelude.{◌≡◌, ◌+◌, ℕ, Bool, List, Option, is_some}
+use Rattle.std.specs.Prelude.{◌≡◌, ◌+◌, ◌<◌, ◌≤◌, ◌⊎◌, ℕ, Bool, List, [], ◌∷◌, Option, is_some}
 use Rattle.march_core.specs.March.{MarchElement}
 use Rattle.memory_desc.specs.Descriptions.{Description}
 use Rattle.word_device.specs.Boxes.{Tells}
@@ -24,3 +24,8 @@ GoesOn march d boxes left failing =
 -- beside so many of these boxes a read differs
 abbrev pub CountsFailing : List MarchElement → Description → Boxes → ℕ → Type 0
 CountsFailing march d boxes failing = (seen : List (Option Seen)) × AreSeen march d boxes seen × (failing ≡ failing_of seen)
+
+-- the room of the first box without room for so many words, box by box
+abbrev pub SmallRoom : ℕ → Boxes → ℕ → Type 0
+SmallRoom words [] room = ⊥
+SmallRoom words (box ∷ boxes) room = ((box.room < words) × (room ≡ box.room)) ⊎ ((words ≤ box.room) × SmallRoom words boxes room)

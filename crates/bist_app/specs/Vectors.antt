@@ -1,12 +1,13 @@
 -- The command `vectors MARCH MEMORY OUT`: its shape, its checks in their order, and what it leaves.
-use Rattle.std.specs.Prelude.{◌≡◌, ◌<◌, ◌≤◌, ◌+◌, ◌/◌, ◌++◌, ℕ, Bool, true, false, List, [], ◌∷◌, Result, Ok, Err, Option, codes, decimal}
+use Rattle.std.specs.Prelude.{◌≡◌, ◌++◌, ℕ, Bool, true, false, List, [], ◌∷◌, Result, Ok, Err, Option, codes, decimal}
 use Rattle.std.specs.List.{flat_map}
 use Rattle.bist_host.specs.Files.{Files}
-use Rattle.bist_text.specs.Numbers.{hex_digits}
+use Rattle.bist_text.specs.Numbers.{word_text}
 use Rattle.march_core.specs.March.{MarchElement}
 use Rattle.memory_desc.specs.Descriptions.{Description}
 use Rattle.word_march.specs.declared.operations.PortOp.{PortOp}
-use Rattle.word_march.specs.Commands.{port_ops, command_count, span}
+use Rattle.word_march.specs.Commands.{port_ops, command_count}
+use Rattle.self_test.specs.Refusals.{IsShort, IsTooLong}
 use Rattle.bist_endings.specs.declared.ending.Refusal.{Refusal}
 use Rattle.bist_endings.specs.Ending.{Done}
 use Rattle.bist_endings.specs.Then.{Then}
@@ -14,22 +15,10 @@ use Rattle.bist_endings.specs.Words.{Words}
 use Rattle.bist_inputs.specs.Inputs.{InputMarch}
 use Rattle.bist_inputs.specs.Memories.{InputMemory}
 
--- the cycles of a self-test: one for the reset, those of the run, those in which the last answer comes, and one in which
--- its comparison shows
-abbrev pub cycles : List MarchElement → Description → ℕ
-cycles march d = span march d + d.latency + 2
-
--- a self-test takes at most this many cycles
-abbrev pub cycle_limit : ℕ
-cycle_limit = 2000000
-
 -- the test isn't too long
-abbrev pub IsShort : List MarchElement → Description → Type 0
-IsShort march d = cycles march d ≤ cycle_limit
-
 unfoldable pub FitsLength : List MarchElement → Description → Result (Unit {0}) Refusal → Type 0
 FitsLength march d (Ok _) = IsShort march d
-FitsLength march d (Err (Refusal.TooLong number)) = (number ≡ cycles march d) × (cycle_limit < cycles march d)
+FitsLength march d (Err (Refusal.TooLong number)) = IsTooLong march d number
 FitsLength march d (Err other) = ⊥
 
 abbrev pub kind_text : Bool → List ℕ
@@ -38,7 +27,7 @@ kind_text false = codes "r "
 
 -- a command's line: whether it writes, its address, and its word in as many digits as the memory's words need
 abbrev pub command_line : ℕ → PortOp → List ℕ
-command_line bits o = kind_text o.write ++ decimal o.addr ++ codes " " ++ hex_digits ((bits + 3) / 4) o.word ++ codes "\n"
+command_line bits o = kind_text o.write ++ decimal o.addr ++ codes " " ++ word_text bits o.word ++ codes "\n"
 
 abbrev pub command_lines : ℕ → List PortOp → List ℕ
 command_lines bits os = flat_map (command_line bits) os

@@ -6,7 +6,7 @@ ghost use Rattle.bist_endings.specs.Ending.{plain, done_of};
 ghost use Rattle.bist_endings.specs.Conclude.{NamesWords};
 ghost use Rattle.bist_inputs.specs.Inputs.{HasReadCause, IsOwnRefusal};
 ghost use Rattle.bist_app.specs.Forms.{HasForm, bench_form};
-ghost use Rattle.bist_app.specs.Vectors.{IsShort};
+ghost use Rattle.self_test.specs.Refusals.{IsShort};
 ghost use Rattle.bist_app.specs.Bench.{FirstHasRoom, LeavesBench, LeavesFirst, DecidesBench};
 
 use crate::benching::bench_first;

@@ -6,8 +6,9 @@ ghost use Rattle.bist_endings.specs.Ending.{plain, done_of};
 ghost use Rattle.bist_endings.specs.Conclude.{NamesWords};
 ghost use Rattle.bist_inputs.specs.Inputs.{HasReadCause, IsOwnRefusal};
 ghost use Rattle.bist_app.specs.Forms.{HasForm, bench_all_form};
-ghost use Rattle.bist_app.specs.Vectors.{IsShort};
-ghost use Rattle.bist_app.specs.BenchAll.{HaveRoom, FirstSmall, FitsRooms, LeavesAll, DecidesBenchAll, LeavesNone};
+ghost use Rattle.self_test.specs.Refusals.{IsShort};
+ghost use Rattle.bist_app.specs.BenchAll.{HaveRoom, FitsRooms, LeavesAll, DecidesBenchAll, LeavesNone};
+ghost use Rattle.bist_app.specs.BenchedBoxes.{SmallRoom};
 
 use crate::benching_all::bench_all;
 use crate::boxes::{has_box, room_of_box};
@@ -23,7 +24,7 @@ use word_device::Device;
 
 /// The room of the first box that has none for so many words, if there is one.
 fn small_room(devices: &[Box<dyn Device>], words: u32) -> Option<u32>
-    ensures { MatchOption result (HaveRoom words (map (λ b. told b) devices.now)) (λ room. FirstSmall words (map (λ b. told b) devices.now) room) }
+    ensures { MatchOption result (HaveRoom words (map (λ b. told b) devices.now)) (λ room. SmallRoom words (map (λ b. told b) devices.now) room) }
 {
     match devices {
         [] => None,
@@ -39,7 +40,7 @@ fn small_room(devices: &[Box<dyn Device>], words: u32) -> Option<u32>
 }
 
 /// Refuses a box with room for fewer words than the memory has.
-#[tactic(auto, unfolding(crate::specs::BenchAll::FitsRooms))]
+#[tactic(auto, using(crate::proofs::SmallRooms::first_small), unfolding(crate::specs::BenchAll::FitsRooms))]
 fn fit_rooms(devices: &[Box<dyn Device>], memory: &Memory) -> Result<(), Refusal>
     ensures answer { FitsRooms memory.now (map (λ b. told b) devices.now) result }
     ensures own { IfErr result IsOwnRefusal }

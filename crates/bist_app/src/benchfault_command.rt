@@ -9,7 +9,7 @@ ghost use Rattle.bist_endings.specs.Conclude.{NamesWords};
 ghost use Rattle.bist_inputs.specs.Inputs.{HasReadCause, IsOwnRefusal};
 ghost use Rattle.bist_app.specs.declared.benchfault_command.NamedPlace.{NamedPlace};
 ghost use Rattle.bist_app.specs.declared.benchfault_command.FaultShape.{FaultShape};
-ghost use Rattle.bist_app.specs.Vectors.{IsShort};
+ghost use Rattle.self_test.specs.Refusals.{IsShort};
 ghost use Rattle.bist_app.specs.Bench.{FirstHasRoom, LeavesFirst};
 ghost use Rattle.bist_app.specs.BenchFault.{IsPlaceWord, IsAggressorPlace, IsFaultShape, IsWithin, IsApart, ArePlaces, FitsPlaces, place_in, aggressor_in, planted_of, LeavesFault, TestsFault, DecidesFault};
 

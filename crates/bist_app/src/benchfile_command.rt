@@ -9,7 +9,7 @@ ghost use Rattle.bist_endings.specs.Conclude.{NamesWords};
 ghost use Rattle.bist_inputs.specs.Inputs.{HasReadCause, IsOwnRefusal};
 ghost use Rattle.self_test.specs.WrongPort.{wrong_port};
 ghost use Rattle.bist_app.specs.Forms.{HasForm, bench_file_form};
-ghost use Rattle.bist_app.specs.Vectors.{IsShort};
+ghost use Rattle.self_test.specs.Refusals.{IsShort};
 ghost use Rattle.bist_app.specs.Bench.{FirstHasRoom, LeavesFirst, ready};
 ghost use Rattle.bist_app.specs.BenchFile.{HasPorts, IsFileRun, LeavesBenchFile, TestsFile, DecidesFileRun, DecidesBenchFile, zero_registers};
 

@@ -11,14 +11,14 @@ ghost use Rattle.verilog_cycle.specs.Design.{IsNew, NoLoop, registers_of};
 ghost use Rattle.self_test.specs.SelfTest.{SelfTest};
 ghost use Rattle.word_device.specs.Ports.{shape_of as memory_shape};
 ghost use Rattle.bist_endings.specs.Ending.{done_of};
-ghost use Rattle.bist_app.specs.Vectors.{IsShort};
-ghost use Rattle.bist_app.specs.Bench.{FirstHasRoom, done_text, word_text, seen_text, bench_line, benched_done, AreWords, IsRun, ready};
+ghost use Rattle.self_test.specs.Refusals.{IsShort};
+ghost use Rattle.bist_app.specs.Bench.{FirstHasRoom, done_text, seen_text, bench_line, benched_done, AreWords, IsRun, ready};
 
 use crate::boxes::take_first;
 use bench::{BenchEnd, Seen, bench};
 use bist_bits::NoMemory;
 use bist_endings::Plan;
-use bist_text::{put, put_decimal, put_hex};
+use bist_text::{put, put_decimal, put_word};
 use march_core::March;
 use memory_desc::Memory;
 use rtl_gen::generate;
@@ -103,9 +103,9 @@ fn put_read(line: &mut Vec<u8>, bits: u8, seen: Seen) -> Result<(), NoMemory>
     put(line, b" cycle ")?;
     put_decimal(line, u64::from(seen.cycle))?;
     put(line, b" expected ")?;
-    put_hex(line, seen.expected, (bits + 3) / 4)?;
+    put_word(line, bits, seen.expected)?;
     put(line, b" returned ")?;
-    put_hex(line, seen.returned, (bits + 3) / 4)
+    put_word(line, bits, seen.returned)
 }
 
 /// Appends the first read that was answered wrong, if one was.

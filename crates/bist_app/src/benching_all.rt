@@ -6,7 +6,7 @@ ghost use Rattle.self_test.specs.SelfTest.{SelfTest};
 ghost use Rattle.word_device.specs.Ports.{shape_of as memory_shape};
 ghost use Rattle.word_device.specs.Runs.{AllRight, run_word};
 ghost use Rattle.bist_endings.specs.Ending.{done_of};
-ghost use Rattle.bist_app.specs.Vectors.{IsShort};
+ghost use Rattle.self_test.specs.Refusals.{IsShort};
 ghost use Rattle.bist_app.specs.Bench.{benched_chip};
 ghost use Rattle.bist_app.specs.BenchAll.{HaveRoom, all_line, all_done, IsAllBenched, AreGone};
 ghost use Rattle.bist_app.specs.BenchedBoxes.{IsEnd, CountsFailing};

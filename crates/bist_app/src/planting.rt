@@ -8,7 +8,7 @@ ghost use Rattle.word_device.specs.Ports.{shape_of as memory_shape};
 ghost use Rattle.word_device.specs.Boxes.{after_plant, FitsBox};
 ghost use Rattle.word_device.specs.Runs.{SomeWrong, run_word};
 ghost use Rattle.bist_endings.specs.Ending.{done_of};
-ghost use Rattle.bist_app.specs.Vectors.{IsShort};
+ghost use Rattle.self_test.specs.Refusals.{IsShort};
 ghost use Rattle.bist_app.specs.Bench.{FirstHasRoom, IsRun, benched_chip};
 ghost use Rattle.bist_app.specs.BenchFault.{ready_planted};
 

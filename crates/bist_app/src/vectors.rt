@@ -7,23 +7,22 @@ ghost use Rattle.bist_endings.specs.Ending.{plain, done_of, written_of};
 ghost use Rattle.bist_inputs.specs.Inputs.{HasReadCause, IsOwnRefusal};
 ghost use Rattle.bist_endings.specs.Conclude.{NamesWords};
 ghost use Rattle.bist_app.specs.Forms.{HasForm, vectors_form};
-ghost use Rattle.bist_app.specs.Vectors.{IsShort, FitsLength, kind_text, command_line, command_lines, vectors_line, vectors_done, LeavesVectors, DecidesVectors};
+ghost use Rattle.self_test.specs.Refusals.{IsShort};
+ghost use Rattle.bist_app.specs.Vectors.{FitsLength, kind_text, command_line, command_lines, vectors_line, vectors_done, LeavesVectors, DecidesVectors};
 
 use bist_bits::NoMemory;
 use bist_endings::{Output, Plan, Refusal, numbered};
 use bist_host::Host;
 use bist_inputs::{read_march_input, read_memory_input};
-use bist_text::{put, put_decimal, put_hex};
+use bist_text::{put, put_decimal, put_word};
 use march_core::March;
 use memory_desc::Memory;
+use self_test::too_long;
 use std::alloc::{AllocError, Global};
 use word_march::{PortOp, port_ops};
 
 /// The word that names the file of the commands.
 const OUT: usize = 3;
-
-/// A self-test takes at most this many cycles.
-const CYCLE_LIMIT: u64 = 2_000_000;
 
 /// Refuses a test that takes too many cycles.
 #[tactic(auto, unfolding(crate::specs::Vectors::FitsLength))]
@@ -32,11 +31,10 @@ pub fn fit_length(march: &March, memory: &Memory) -> Result<(), Refusal>
     ensures own { IfErr result IsOwnRefusal }
     ensures short { IfOk result (λ _. IsShort march.now memory.now) }
 {
-    let cycles = word_march::span(march, memory) + u64::from(memory.latency()) + 2;
-    if cycles > CYCLE_LIMIT {
-        return Err(Refusal::TooLong { cycles });
+    match too_long(march, memory) {
+        None => Ok(()),
+        Some(cycles) => Err(Refusal::TooLong { cycles }),
     }
-    Ok(())
 }
 
 /// Appends whether a command writes.
@@ -55,7 +53,7 @@ fn put_command(out: &mut Vec<u8>, command: PortOp, bits: u8) -> Result<(), NoMem
     put_kind(out, command.write)?;
     put_decimal(out, u64::from(command.addr))?;
     put(out, b" ")?;
-    put_hex(out, command.word, (bits + 3) / 4)?;
+    put_word(out, bits, command.word)?;
     put(out, b"\n")
 }
 

@@ -1,5 +1,5 @@
 -- Numbers as texts.
-use Rattle.std.specs.Prelude.{ℕ, zero, suc, ◌/◌, ◌%◌, ◌≤◌, List, [], ◌∷◌, ◌++◌, length, false}
+use Rattle.std.specs.Prelude.{ℕ, zero, suc, ◌+◌, ◌/◌, ◌%◌, ◌≤◌, List, [], ◌∷◌, ◌++◌, length, false}
 use Rattle.std.specs.Str.Parse.{IsNumeral}
 use Rattle.std.specs.Fmt.{digit_glyph}
 
@@ -11,3 +11,7 @@ IsNumber radix most b = IsNumeral radix b × (length b ≤ most)
 abbrev pub hex_digits : ℕ → ℕ → List ℕ
 hex_digits zero value = []
 hex_digits (suc n) value = hex_digits n (value / 16) ++ (digit_glyph false (value % 16) ∷ [])
+
+-- a word of so many bits in hexadecimal, with as many digits as they need
+abbrev pub word_text : ℕ → ℕ → List ℕ
+word_text bits word = hex_digits ((bits + 3) / 4) word

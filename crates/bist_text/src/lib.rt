@@ -4,6 +4,7 @@
 
 mod byte_set;
 mod cursors;
+mod identifiers;
 mod keywords;
 mod numbers;
 mod reserved_words;
@@ -12,8 +13,9 @@ mod writing;
 
 pub use byte_set::ByteSet;
 pub use cursors::Cursor;
+pub use identifiers::{begins_identifier, in_identifier, is_identifier};
 pub use keywords::{Keyword, Letters, Spelled, first_letter, next_letter};
-pub use numbers::{decimal, hex, put_decimal, put_hex};
+pub use numbers::{decimal, hex, put_decimal, put_hex, put_word};
 pub use reserved_words::is_reserved;
 pub use text_lines::{Line, Lines};
 pub use writing::put;

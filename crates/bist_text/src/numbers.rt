@@ -2,7 +2,7 @@ ghost use Rattle.std.specs.Prelude.{◌≡◌, ℕ, ◌+◌, ◌<◌, ◌≤◌,
 ghost use Rattle.std.specs.Option.{SomeIff};
 ghost use Rattle.std.specs.Fmt.{digit_glyph};
 ghost use Rattle.std.specs.Str.Parse.{AllDigits, digits_value};
-ghost use Rattle.bist_text.specs.Numbers.{IsNumber, hex_digits};
+ghost use Rattle.bist_text.specs.Numbers.{IsNumber, hex_digits, word_text};
 
 use bist_bits::NoMemory;
 use itoa::Buffer;
@@ -65,6 +65,17 @@ pub fn put_hex(out: &mut Vec<u8>, value: u64, digits: u8) -> Result<(), NoMemory
     let text = &mut text[..digits as usize];
     write_hex(text, value);
     out.extend_from_slice(text).map_err(|_| NoMemory)
+}
+
+/// Appends a word of so many bits in lower case hexadecimal, with as many digits as they need. Where no memory is found nothing is
+/// appended.
+pub fn put_word(out: &mut Vec<u8>, bits: u8, word: u64) -> Result<(), NoMemory>
+    requires bits { bits ≤ 64 }
+    requires fits { word < 2 ^ bits }
+    ensures ok { OnOk result (out.new.items ≡ out.old.items ++ word_text bits word) }
+    ensures err { OnErr result (out.new.items ≡ out.old.items) }
+{
+    put_hex(out, word, (bits + 3) / 4)
 }
 
 /// Writes the last hexadecimal digits of a value, as many as there is room.

@@ -8,14 +8,14 @@ use Rattle.std.proofs.lemmas.Bool.{and_parts, cases_lt, eqb-true}
 use Rattle.std.proofs.lemmas.List.Elements.{All-from_recursion}
 use Rattle.bist_bits.specs.Width.{IsWidthOf}
 use Rattle.bist_bits.proofs.BitLemmas.{width_by_leading_zeros}
-use Rattle.scrambler.specs.Scrambling.{IsFull, IsInvertible, identity}
+use Rattle.scrambler.specs.Scrambling.{IsFull, IsInvertible, identity, is_identity}
 use Rattle.scrambler.proofs.ScramblingLemmas.{units, units_undone, identity_is, invertible, matrix_is_full}
 use Rattle.backgrounds.specs.Backgrounds.{IsStripe, IsLogSet}
 use Rattle.memory_desc.specs.Descriptions.{Description, IsMemory, IsBackgrounds, assembled}
 use Rattle.memory_desc.specs.Names.{IsName}
-use Rattle.memory_desc.specs.Printed.{number_line, backgrounds_line, scramble_lines, printed, row_lines, is_identity}
+use Rattle.memory_desc.specs.Printed.{number_line, backgrounds_line, scramble_lines, printed, row_lines}
 use Rattle.memory_desc.specs.Table.{Reads}
-use Rattle.memory_desc.proofs.BackScrambling.{identity_is_identity}
+use Rattle.scrambler.proofs.Identity.{identity_is_identity}
 use Rattle.memory_desc.proofs.Parts.{width_small}
 use Rattle.memory_desc.proofs.ReadBack.{read_back}
 use Rattle.made_inputs.specs.MadeMemory.{IsMadeMemory, head, tail, written}

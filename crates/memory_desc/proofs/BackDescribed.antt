@@ -6,11 +6,11 @@ use Rattle.std.specs.Str.Parse.{digits_value}
 use Rattle.std.proofs.Math.Path.{ap₂}
 use Rattle.std.proofs.lemmas.Bool.{lt-leb, and_parts, eqb-true}
 use Rattle.bist_bits.specs.Width.{IsWidthOf}
-use Rattle.scrambler.specs.Scrambling.{Scrambling, IsFull, identity}
+use Rattle.scrambler.specs.Scrambling.{Scrambling, IsFull, identity, is_identity}
 use Rattle.memory_desc.specs.Descriptions.{Description, IsMemory, assembled}
 use Rattle.memory_desc.specs.LineText.{Content, name, words, bits, latency, polarity, pause, backgrounds}
 use Rattle.bist_text.specs.ReservedWords.{is_among, reserved_words}
-use Rattle.memory_desc.specs.Printed.{is_plain, is_identity}
+use Rattle.memory_desc.specs.Printed.{is_plain}
 use Rattle.memory_desc.specs.Statements.{Statement}
 use Rattle.memory_desc.specs.Subjects.{is_same, said}
 use Rattle.memory_desc.specs.Values.{words_said, bits_said, latency_in, polarity_in, pause_in, latency_said, polarity_said, pause_said, matrix_said, AreBackgrounds}
@@ -23,7 +23,7 @@ use Rattle.memory_desc.proofs.BackLines.{numbered}
 use Rattle.memory_desc.proofs.BackDigits.{decimal_value}
 use Rattle.memory_desc.proofs.BackFound.{Others, Distinct, not_repeated, others_head, rows_distinct, said_backgrounds, unsaid, found_none, none_found, row_content, body}
 use Rattle.memory_desc.proofs.BackInside.{rows_printed}
-use Rattle.memory_desc.proofs.BackScrambling.{identity_is_identity, identity_by_rows}
+use Rattle.scrambler.proofs.Identity.{identity_is_identity, identity_by_rows}
 use Rattle.memory_desc.proofs.BackTerms.{neither_too_wide}
 use Rattle.memory_desc.proofs.BackTexts.{digits_of_word}
 use Rattle.memory_desc.proofs.BackValues.{statements, later_said, word_value, some_rows, no_row_missing, matrix_is, row_within, words_are, words_within, few_enough, solid_enough}

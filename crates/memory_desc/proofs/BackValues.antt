@@ -20,7 +20,7 @@ use Rattle.memory_desc.specs.Table.{is_row, is_scrambled, is_too_wide, is_term_t
 use Rattle.memory_desc.specs.declared.content.Subject.TheVariants.{Row}
 use Rattle.memory_desc.specs.declared.fault.Field.TheVariants.{Row as RowField}
 use Rattle.memory_desc.specs.declared.fault.MemoryFault.TheVariants.{Missing, TooManyBackgrounds, NoSolidBackground}
-use Rattle.memory_desc.proofs.Printing.{word_digits}
+use Rattle.bist_text.proofs.Powers.{word_digits}
 use Rattle.memory_desc.proofs.BackLines.{numbered}
 use Rattle.memory_desc.proofs.BackDigits.{decimal_value, hex_digits_value}
 use Rattle.memory_desc.proofs.BackFound.{row_content, body, said_row, is_there}

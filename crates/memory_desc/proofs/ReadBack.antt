@@ -4,10 +4,10 @@ use Rattle.std.specs.Prelude.{decimal}
 use Rattle.std.specs.Int.{bit_at}
 use Rattle.std.specs.List.{list_all}
 use Rattle.bist_text.specs.Lines.{text_lines}
-use Rattle.scrambler.specs.Scrambling.{Scrambling, IsFull, IsInvertible, row}
+use Rattle.scrambler.specs.Scrambling.{Scrambling, IsFull, IsInvertible, row, is_identity}
 use Rattle.memory_desc.specs.Descriptions.{Description, IsMemory}
 use Rattle.memory_desc.specs.LineText.{Term, Content, version, scramble, backgrounds, ContentText, is_term, term_text}
-use Rattle.memory_desc.specs.Printed.{joined, background_texts, is_plain, version_text, is_identity, printed}
+use Rattle.memory_desc.specs.Printed.{joined, background_texts, is_plain, version_text, printed}
 use Rattle.memory_desc.specs.Statements.{Say, is_said_in, IsOfVersion}
 use Rattle.memory_desc.specs.declared.line_place.Version.{Version}
 use Rattle.memory_desc.specs.declared.line_place.Version.TheVariants.{One, Two}

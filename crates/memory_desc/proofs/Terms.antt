@@ -1,13 +1,11 @@
 -- The terms of a row, one after another.
-use Rattle.std.proofs.Common.{◌≡◌, ◌≢◌, ℕ, zero, suc, ◌+◌, ◌*◌, ◌/◌, ◌%◌, ◌^◌, ◌<◌, Bool, true, false, List, [], ◌∷◌, ◌++◌, ◌==◌, if◌then◌else◌, codes, refl, sym, ◌∙◌, ap, subst, arith, append_assoc, append-nil, bit_and, decimal, add-one, inl, inr}
+use Rattle.std.proofs.Common.{◌≡◌, ◌≢◌, ℕ, ◌+◌, ◌/◌, ◌^◌, Bool, true, false, List, [], ◌∷◌, ◌++◌, ◌==◌, if◌then◌else◌, codes, refl, sym, ◌∙◌, ap, append_assoc, append-nil, bit_and, decimal, add-one}
 use Rattle.std.proofs.Math.Path.{ap₂}
-use Rattle.std.proofs.Math.Pow.{pow-lt}
-use Rattle.std.proofs.Math.Nat.{one-mul, mod-eq_of_lt}
-use Rattle.std.proofs.lemmas.Bool.{cases_lt, eq-eqb, ne_eqb, and_left, and_right}
+use Rattle.std.proofs.lemmas.Bool.{eq-eqb, ne_eqb}
 use Rattle.std.proofs.lemmas.Nat.Bits.{shr_and_one}
 use Rattle.std.specs.Int.{bit_at}
-use Rattle.scrambler.specs.Scrambling.{Scrambling, row}
-use Rattle.memory_desc.specs.Printed.{index_terms, is_none, joined, separator, term_after, row_terms, are_units, is_identity}
+use Rattle.scrambler.specs.Scrambling.{row}
+use Rattle.memory_desc.specs.Printed.{index_terms, is_none, joined, separator, term_after, row_terms}
 
 -- one more term
 joined-more : (ts : List (List ℕ)) (t : List ℕ) → joined (ts ++ t ∷ []) ≡ joined ts ++ term_after (is_none ts) t
@@ -66,19 +64,3 @@ pub constant_written : (before out new : List ℕ) (names constant width : ℕ) 
 constant_written before out new names constant width none o n c e =
     term_written before out new (index_terms names width) (49 ∷ []) none o n (e ∙ append_assoc out (separator none) (49 ∷ []))
     ∙ ap (λ (b : Bool). before ++ joined (index_terms names width ++ (if b then (49 ∷ []) ∷ [] else []))) (sym (eq-eqb constant 1 c))
-
--- ---- a row that does not name its own bit alone
-
-units_end : (s : Scrambling) (n i : ℕ) → i < n → row s i ≢ 2 ^ i → are_units s n ≡ false
-units_end s zero i h ne = absurd (omega arith)
-units_end s (suc n) i h ne =
-    elim (cases_lt i n) [
-      | inl p ↦ and_left (are_units s n) (row s n == 2 ^ n) (units_end s n i p ne)
-      | inr p ↦ let e : i ≡ n = omega arith in
-          and_right (are_units s n) (row s n == 2 ^ n) (ne_eqb (row s n) (2 ^ n) (subst (λ (k : ℕ). row s k ≢ 2 ^ k) e ne))
-    ]
-
-pub no_identity : (s : Scrambling) (i r : ℕ) → i < s.width → i < 16 → r ≡ row s i → r ≢ 1 * 2 ^ i % 65536 → false ≡ is_identity s
-no_identity s i r h w e ne =
-    let small : 1 * 2 ^ i % 65536 ≡ 2 ^ i = ap (λ (x : ℕ). x % 65536) (one-mul (2 ^ i)) ∙ mod-eq_of_lt (pow-lt {j = 16} w) in
-    sym (and_right (s.constant == 0) (are_units s s.width) (units_end s s.width i h (λ same. ne (e ∙ same ∙ sym small))))

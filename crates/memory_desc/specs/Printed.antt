@@ -1,8 +1,8 @@
 -- The printed form of a memory.
-use Rattle.std.specs.Prelude.{ℕ, zero, suc, ◌+◌, ◌/◌, ◌^◌, ◌==◌, ◌&&◌, Bool, true, false, if◌then◌else◌, List, [], ◌∷◌, ◌++◌, codes, decimal}
+use Rattle.std.specs.Prelude.{ℕ, zero, suc, ◌+◌, ◌==◌, ◌&&◌, Bool, true, false, if◌then◌else◌, List, [], ◌∷◌, ◌++◌, codes, decimal}
 use Rattle.std.specs.Int.{bit_at}
-use Rattle.bist_text.specs.Numbers.{hex_digits}
-use Rattle.scrambler.specs.Scrambling.{Scrambling, row}
+use Rattle.bist_text.specs.Numbers.{word_text}
+use Rattle.scrambler.specs.Scrambling.{Scrambling, row, is_identity}
 use Rattle.memory_desc.specs.Descriptions.{Description}
 
 -- a word, a number, and the line's end
@@ -11,7 +11,7 @@ number_line word n = word ++ (decimal n ++ (10 ∷ []))
 
 -- a background, behind a blank, in as many digits as the word needs
 abbrev pub background_text : ℕ → ℕ → List ℕ
-background_text bits word = 32 ∷ hex_digits ((bits + 3) / 4) word
+background_text bits word = 32 ∷ word_text bits word
 
 abbrev pub background_texts : ℕ → List ℕ → List ℕ
 background_texts bits [] = []
@@ -56,14 +56,6 @@ abbrev pub row_lines : Scrambling → ℕ → List ℕ
 row_lines s zero = []
 row_lines s (suc n) = row_lines s n ++ row_line s n
 
--- each of the first n rows names its own bit alone
-abbrev pub are_units : Scrambling → ℕ → Bool
-are_units s zero = true
-are_units s (suc n) = are_units s n && (row s n == 2 ^ n)
-
-abbrev pub is_identity : Scrambling → Bool
-is_identity s = (s.constant == 0) && are_units s s.width
-
 abbrev pub scramble_lines : Scrambling → List ℕ
 scramble_lines s = if is_identity s then [] else row_lines s s.width
 
@@ -86,7 +78,7 @@ head_lines d = version_text (is_plain d) ++ (10 ∷ (name_line d.name ++ size_li
 
 -- the polarity, in as many digits as the word needs
 abbrev pub polarity_line : ℕ → ℕ → List ℕ
-polarity_line bits word = codes "polarity " ++ (hex_digits ((bits + 3) / 4) word ++ (10 ∷ []))
+polarity_line bits word = codes "polarity " ++ (word_text bits word ++ (10 ∷ []))
 
 abbrev pub port_lines : Description → List ℕ
 port_lines d = number_line (codes "latency ") d.latency ++ (polarity_line d.bits d.polarity ++ number_line (codes "pause ") d.pause)

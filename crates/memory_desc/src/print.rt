@@ -1,13 +1,13 @@
 //! The printer of memory descriptions.
 
-ghost use Rattle.std.specs.Prelude.{◌≡◌, ◌+◌, ◌<◌, ◌≤◌, ◌^◌, ◌++◌, ◌∷◌, [], All, Ok, OnOk, IfOk, decimal};
+ghost use Rattle.std.specs.Prelude.{◌≡◌, ◌+◌, ◌<◌, ◌≤◌, ◌^◌, ◌++◌, ◌∷◌, All, Ok, OnOk, IfOk, decimal};
 ghost use Rattle.memory_desc.specs.Descriptions.{IsMemory};
 ghost use Rattle.memory_desc.specs.Table.{Reads};
-ghost use Rattle.memory_desc.specs.Printed.{number_line, name_line, is_plain, version_text, later_lines, backgrounds_line, head_lines, index_terms, is_none, joined, separator, term_after, row_terms, row_line, is_identity, scramble_lines, printed};
+ghost use Rattle.memory_desc.specs.Printed.{number_line, name_line, is_plain, version_text, later_lines, backgrounds_line, head_lines, index_terms, is_none, joined, separator, term_after, row_terms, row_line, scramble_lines, printed};
 
 use crate::memory::Memory;
 use bist_bits::NoMemory;
-use bist_text::{put, put_decimal, put_hex};
+use bist_text::{put, put_decimal, put_word};
 use scrambler::Scramble;
 use std::alloc::Global;
 
@@ -63,7 +63,7 @@ fn put_later_lines(out: &mut Vec<u8>, memory: &Memory) -> Result<(), NoMemory>
     }
     put_number_line(out, b"latency ", u64::from(memory.latency()))?;
     put(out, b"polarity ")?;
-    put_hex(out, memory.polarity(), (memory.bits() + 3) / 4)?;
+    put_word(out, memory.bits(), memory.polarity())?;
     put(out, b"\n")?;
     put_number_line(out, b"pause ", u64::from(memory.pause()))
 }
@@ -128,25 +128,10 @@ fn put_row(out: &mut Vec<u8>, scramble: &Scramble, i: u8) -> Result<(), NoMemory
     put(out, b"\n")
 }
 
-/// Whether a scrambling changes nothing.
-fn is_identity(scramble: &Scramble) -> bool
-    ensures { result ≡ is_identity scramble.now }
-{
-    if scramble.constant() != 0 {
-        return false;
-    }
-    for i in 0..scramble.width() {
-        if scramble.row(i) != 1 << i {
-            return false;
-        }
-    }
-    true
-}
-
 fn put_scramble(out: &mut Vec<u8>, scramble: &Scramble) -> Result<(), NoMemory>
     ensures { OnOk result (out.new.items ≡ out.old.items ++ scramble_lines scramble.now) }
 {
-    if is_identity(scramble) {
+    if scramble.is_identity() {
         return Ok(());
     }
     for i in 0..scramble.width() {
@@ -164,7 +149,7 @@ fn put_backgrounds(out: &mut Vec<u8>, set: &[u64], bits: u8) -> Result<(), NoMem
     put(out, b"backgrounds")?;
     for word in set {
         put(out, b" ")?;
-        put_hex(out, *word, (bits + 3) / 4)?;
+        put_word(out, bits, *word)?;
     }
     put(out, b"\n")
 }

@@ -1,19 +1,20 @@
 -- What is read of a march and a memory makes a plan of them.
-use Rattle.std.proofs.Common.{◌≡◌, ℕ, ◌-◌, ◌^◌, ◌<◌, ◌≤◌, true, List, length, map, ap, ◌∙◌, subst, arith}
+use Rattle.std.proofs.Common.{◌≡◌, ℕ, ◌-◌, ◌^◌, ◌<◌, ◌≤◌, true, List, length, map, ap, sym, ◌∙◌, subst, arith}
 use Rattle.bist_bits.specs.Width.{IsWidthOf}
 use Rattle.march_core.specs.March.{MarchElement, is_pause_at, ops_at}
-use Rattle.scrambler.specs.Scrambling.{Scrambling, row}
+use Rattle.scrambler.specs.Scrambling.{Scrambling, is_identity}
 use Rattle.memory_desc.specs.Descriptions.{Description, IsMemory}
 use Rattle.self_test.specs.SelfTest.{module_name}
 use Rattle.rtl_layout.specs.Plan.{Plan}
 use Rattle.rtl_gen.specs.Planned.{element_of, rows_from, Plans}
+use Rattle.scrambler.proofs.Identity.{unit_rows}
 use Rattle.rtl_gen.proofs.Addressed.{addresses_are}
 use Rattle.rtl_gen.proofs.Sizes.{Widths}
 
 pub planned : (march : List MarchElement) (d : Description) (p : Plan) (s : Scrambling) → IsMemory d → s ≡ d.scramble
     → p.name ≡ module_name d.name → p.elements ≡ map element_of march → p.words ≡ d.words → p.bits ≡ d.bits → p.backgrounds ≡ d.backgrounds
     → p.delay ≡ d.latency - 1 → p.polarity ≡ d.polarity → ((k : ℕ) → k < length march → is_pause_at march k ≡ true → p.pause ≡ d.pause) → p.addr_width ≡ d.scramble.width
-    → (p.straight ≡ true → (s.constant ≡ 0) × ((i : ℕ) → i < s.width → row s i ≡ 2 ^ i)) → p.rows ≡ rows_from s 0 s.width
+    → p.straight ≡ is_identity s → p.rows ≡ rows_from s 0 s.width
     → Plans march d p
 planned march d p s m is name elements words bits backgrounds delay polarity pauses address straight rows =
     let late = m.latency_low in
@@ -29,7 +30,7 @@ planned march d p s m is name elements words bits backgrounds delay polarity pau
       address_width = address;
       addresses = λ k h.
           let wide = m.address.holds in
-          addresses_are p d.scramble (subst (λ (t : Scrambling). p.straight ≡ true → (t.constant ≡ 0) × ((i : ℕ) → i < t.width → row t i ≡ 2 ^ i)) is straight)
+          addresses_are p d.scramble (λ t. unit_rows d.scramble (sym (straight ∙ ap is_identity is) ∙ t))
           (rows ∙ ap (λ (t : Scrambling). rows_from t 0 t.width) is) k (omega arith);
     }
 

@@ -5,7 +5,7 @@ ghost use Rattle.memory_desc.specs.Descriptions.{IsMemory};
 ghost use Rattle.rtl_layout.specs.Seen.{seen};
 ghost use Rattle.rtl_gen.specs.Planned.{Plans};
 
-use crate::tables::{backgrounds, elements, has_pause, is_straight, module_name, most_ops, rows};
+use crate::tables::{backgrounds, elements, has_pause, module_name, most_ops, rows};
 use bist_bits::width_of;
 use march_core::March;
 use memory_desc::Memory;
@@ -49,7 +49,7 @@ pub fn plan(march: &March, memory: &Memory) -> Plan
         words: memory.words(),
         bits: memory.bits(),
         backgrounds: backgrounds(memory),
-        straight: is_straight(scramble),
+        straight: scramble.is_identity(),
         rows: rows(scramble),
         delay: memory.latency() - 1,
         polarity: memory.polarity(),

@@ -1,7 +1,6 @@
 //! The tables of a march and a memory.
-ghost use Rattle.std.specs.Prelude.{◌≡◌, ◌↔◌, ℕ, ◌+◌, ◌<◌, ◌≤◌, ◌^◌, false, IsTrue, map, length};
+ghost use Rattle.std.specs.Prelude.{◌≡◌, ℕ, ◌<◌, ◌≤◌, false, map, length};
 ghost use Rattle.march_core.specs.March.{pause, sweep, element_at, is_pause_at, ops_at};
-ghost use Rattle.scrambler.specs.Scrambling.{row};
 ghost use Rattle.self_test.specs.SelfTest.{module_name};
 ghost use Rattle.microcode.specs.Code.{goes_down};
 ghost use Rattle.rtl_gen.specs.Planned.{operation_of, element_of, row_of, rows_from};
@@ -139,21 +138,6 @@ pub fn backgrounds(memory: &Memory) -> ArrayVec<u64, 8>
         set.push(*word);
     }
     set
-}
-
-/// Whether a scrambling changes nothing: each bit of the address is that of the index.
-pub fn is_straight(scramble: &Scramble) -> bool
-    ensures { IsTrue result → (scramble.now.constant ≡ 0) × ((i : ℕ) → i < scramble.now.width → row scramble.now i ≡ 2 ^ i) }
-{
-    if scramble.constant() != 0 {
-        return false;
-    }
-    for i in 0..scramble.width() {
-        if scramble.row(i) != 1 << i {
-            return false;
-        }
-    }
-    true
 }
 
 // Bit i of the address.

@@ -3,3 +3,4 @@ pub mod EliminationLemmas
 pub mod Steps
 pub mod Clearing
 pub mod ScramblingLemmas
+pub mod Identity

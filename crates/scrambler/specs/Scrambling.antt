@@ -1,6 +1,6 @@
 -- Address scrambling: a logical address is an invertible matrix times the physical index, plus a constant,
 -- over the two elements 0 and 1.
-use Rattle.std.specs.Prelude.{◌≡◌, ℕ, ◌+◌, ◌%◌, ◌^◌, ◌<◌, ◌≤◌, List, [], ◌∷◌, zero, suc, length, slice_index, take}
+use Rattle.std.specs.Prelude.{◌≡◌, ℕ, ◌+◌, ◌%◌, ◌^◌, ◌<◌, ◌≤◌, ◌==◌, ◌&&◌, Bool, true, List, [], ◌∷◌, zero, suc, length, slice_index, take}
 use Rattle.std.specs.Int.{bit_at}
 use Rattle.scrambler.specs.Linear.{dot, number, combination}
 
@@ -69,3 +69,12 @@ doublings x (suc n) = x ∷ doublings (x + x) n
 -- each row names its own bit alone
 abbrev pub identity : ℕ → Scrambling
 identity width = record { width = width; rows = doublings 1 width; constant = 0 }
+
+-- each of the first n rows names its own bit alone
+abbrev pub are_units : Scrambling → ℕ → Bool
+are_units s zero = true
+are_units s (suc n) = are_units s n && (row s n == 2 ^ n)
+
+-- each bit of the address is that of the index
+abbrev pub is_identity : Scrambling → Bool
+is_identity s = (s.constant == 0) && are_units s s.width

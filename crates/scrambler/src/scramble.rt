@@ -1,6 +1,6 @@
 ghost use Rattle.std.specs.Prelude.{◌≡◌, ℕ, ◌+◌, ◌^◌, ◌<◌, ◌≤◌, ◌↔◌, IsOk, IsErr, IfOk, IfErr};
 ghost use Rattle.scrambler.specs.Linear.{combination};
-ghost use Rattle.scrambler.specs.Scrambling.{IsWithin, IsFull, IsInvertible, IsLeastDependence, matrix_of, row, identity, logical};
+ghost use Rattle.scrambler.specs.Scrambling.{IsWithin, IsFull, IsInvertible, IsLeastDependence, matrix_of, row, identity, is_identity, logical};
 
 use crate::elimination::reduce;
 use crate::linear::{UNITS, combination, product};
@@ -102,6 +102,21 @@ impl Scramble {
         ensures fits { result < 2 ^ self.now.width }
     {
         self.matrix.constant
+    }
+
+    /// Whether it changes nothing: each bit of the address is that of the index.
+    pub fn is_identity(&self) -> bool
+        ensures { result ≡ is_identity self.now }
+    {
+        if self.constant() != 0 {
+            return false;
+        }
+        for i in 0..self.width() {
+            if self.row(i) != 1 << i {
+                return false;
+            }
+        }
+        true
     }
 
     /// How many bits an index and an address have: 1 to 16.

@@ -1,3 +1,5 @@
+pub mod Pins
 pub mod Ports
+pub mod Refusals
 pub mod SelfTest
 pub mod WrongPort

@@ -3,15 +3,13 @@ use Rattle.std.specs.Prelude.{◌≡◌, ◌⊎◌, ℕ, Bool, true, false, not,
 use Rattle.std.specs.List.{AllByRecursion}
 use Rattle.std.specs.Str.{bytes_eq}
 use Rattle.verilog_tree.specs.declared.tree.Dir.{Dir}
-use Rattle.verilog_tree.specs.declared.tree.Dir.TheVariants.{Input, Output, OutputReg}
 use Rattle.verilog_tree.specs.Plain.{ModulePort}
+use Rattle.verilog_tree.specs.Names as N
 use Rattle.memory_desc.specs.Descriptions.{Description}
 use Rattle.self_test.specs.Ports.{ports}
 
 abbrev pub is_input : Dir → Bool
-is_input Input = true
-is_input Output = false
-is_input OutputReg = false
+is_input dir = N.is_input (N.kind_of dir)
 
 -- an output may be a register
 abbrev pub same_direction : Dir → Dir → Bool

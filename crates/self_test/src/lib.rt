@@ -2,5 +2,9 @@
 #![tactic(auto)]
 
 mod naming;
+mod pins;
+mod running;
 
 pub use naming::wrong_port;
+pub use pins::{Pins, pins_of};
+pub use running::{RunFault, refusal, too_long};

@@ -36,7 +36,7 @@ fn expected(memory: &Memory) -> [Port; 9]
     ]
 }
 
-fn is_input(dir: Dir) -> bool
+pub fn is_input(dir: Dir) -> bool
     ensures { result ≡ is_input dir }
 {
     match dir {

@@ -4,11 +4,11 @@ use Rattle.std.specs.List.{filter}
 use Rattle.std.specs.Str.{bytes_eq}
 use Rattle.std.proofs.lemmas.List.{length-map}
 use Rattle.bist_text.specs.ReservedWords.{is_among}
-use Rattle.verilog_tree.specs.Names.{Declaration}
+use Rattle.verilog_tree.specs.Names.{Declaration, number}
 use Rattle.verilog_tree.specs.Meaning.{last_set}
 use Rattle.verilog_code.specs.Places.{put}
 use Rattle.verilog_code.proofs.Putting.{put_within, put_beyond}
-use Rattle.verilog_cycle.specs.Nets.{number, held}
+use Rattle.verilog_cycle.specs.Nets.{held}
 use Rattle.verilog_cycle.specs.Does.{written}
 use Rattle.verilog_cycle.specs.Design.{names}
 use Rattle.verilog_cycle.proofs.Places.{same_name, itself, number_left, number_right}

@@ -7,7 +7,8 @@ use Rattle.verilog_tree.specs.Rules.{statement_widths, statements_widths, arms_w
 use Rattle.verilog_code.specs.Places.{put}
 use Rattle.verilog_code.specs.Actions.{Run, BranchRun, run_all, run_branch, run_blocks}
 use Rattle.verilog_cycle.specs.Compile.{Narrow}
-use Rattle.verilog_cycle.specs.Nets.{number, valued}
+use Rattle.verilog_tree.specs.Names.{number}
+use Rattle.verilog_cycle.specs.Nets.{valued}
 
 -- each of these pairs set, in order, where a name has a place among these values
 abbrev pub written : {A : Type 0} → List (List ℕ) → List (List ℕ × A) → List A → List A

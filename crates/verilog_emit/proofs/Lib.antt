@@ -1,6 +1,5 @@
 pub mod Bodies
 pub mod Derivations
-pub mod Digits
 pub mod Numerals
 pub mod Pieces
 pub mod WrittenExpressions

@@ -12,9 +12,10 @@ use Rattle.verilog_tree.specs.declared.tokens.Base.TheVariants.{Hexadecimal}
 use Rattle.verilog_tree.specs.Formed.{is_width, is_place, is_literal}
 use Rattle.verilog_tree.specs.Grammar.{number, zero_number, literal}
 use Rattle.verilog_tree.specs.Tokens as T
-use Rattle.verilog_tree.specs.Words.{is_digit, in_identifier, begins_identifier, is_digit_of, digit_value}
+use Rattle.bist_text.specs.Identifiers.{is_digit, begins_identifier, in_identifier}
+use Rattle.verilog_tree.specs.Words.{is_digit_of, digit_value}
 use Rattle.verilog_emit.specs.Printed.{literal_text}
-use Rattle.verilog_emit.proofs.Digits.{digits_hold}
+use Rattle.bist_text.proofs.Powers.{word_digits}
 use Rattle.verilog_emit.proofs.Pieces.{Spelt, both, refused, no_letter, is_apart, grouped}
 
 -- ---- decimal digits
@@ -204,7 +205,7 @@ constant x K r i p h = grouped (literal x K) (literal_text x ++ r) (decimal x.wi
 
     written : T.behind_letter (T.Based x) (T.Lexed h.tokens) x.width Hexadecimal (hex_digits ((x.width + 3) / 4) x.value ++ r)
     written = subst (λ (n : ℕ). T.behind_letter (T.Based x) (T.Lexed h.tokens) x.width Hexadecimal (hex_digits n x.value ++ r)) (sym count)
-        (hex_text ((x.width - 1) / 4) x.value (T.Based x) (T.Lexed h.tokens) x.width r (subst (λ (n : ℕ). x.value < 16 ^ n) count (digits_hold x.width x.value (ltb-true x.value (2 ^ x.width) parts.1)))
+        (hex_text ((x.width - 1) / 4) x.value (T.Based x) (T.Lexed h.tokens) x.width r (subst (λ (n : ℕ). x.value < 16 ^ n) count (word_digits x.width x.value (ltb-true x.value (2 ^ x.width) parts.1)))
         (hex_end x.value (T.behind_digits (T.Based x) (T.Lexed h.tokens) x.width Hexadecimal) r p (refl, not_asked (T.Lexed h.tokens) r p h.lexed)))
 
     begins : (b : List ℕ) → T.token (T.Based x) (T.Lexed h.tokens) b → T.Lexed (T.Based x ∷ h.tokens) b

@@ -1,5 +1,6 @@
 -- The pieces of a text: bytes that are tokens within the limits, of which a set of lists of tokens holds.
 use Rattle.std.proofs.Common.{◌≡◌, ℕ, zero, suc, ◌+◌, ◌-◌, ◌==◌, ◌&&◌, not, nat_lt, nat_le, length, Bool, true, false, List, [], ◌∷◌, ◌++◌, Some, None, refl, inl, inr, subst, sym, append_assoc, append-nil, if◌then◌else◌, arith}
+use Rattle.std.specs.List.{list_all}
 use Rattle.std.specs.Str.{bytes_eq}
 use Rattle.std.proofs.lemmas.Bool.{lt-ltb}
 use Rattle.std.proofs.lemmas.Slice.Eq.{bytes_eq-Decides}
@@ -11,7 +12,8 @@ use Rattle.verilog_tree.specs.declared.tokens.Mark.TheVariants.{LessEquals, TwoE
 use Rattle.verilog_tree.specs.Grammar.{sign, keyword, name, inside}
 use Rattle.verilog_tree.specs.Spells.{all_limits, all_keep, bounded}
 use Rattle.verilog_tree.specs.Tokens.{Token, Identifier, Sign, run, whether, Start, AWord, start_of, begun, mark_text, Growth, Longer, Spoiled, Complete, growth, grown, behind_mark, Lexed}
-use Rattle.verilog_tree.specs.Words.{begins_identifier, in_identifier, all_in_identifier, is_identifier, is_name}
+use Rattle.bist_text.specs.Identifiers.{begins_identifier, in_identifier, is_identifier}
+use Rattle.verilog_tree.specs.Words.{is_name}
 use Rattle.verilog_emit.specs.Printed.{margin}
 
 -- the bytes are tokens within the limits, of which K holds
@@ -98,17 +100,17 @@ refused true e = cc
 pub no_letter : (c : ℕ) (r : List ℕ) → is_apart (c ∷ r) ≡ true → in_identifier c ≡ false
 no_letter c r p = refused (in_identifier c) (both (not (in_identifier c)) (not (c == 39)) (both (not (in_identifier c) && not (c == 39)) (not (c == 63)) p).0).0
 
-run_on : (w v : List ℕ) (K : List ℕ → List ℕ → Type 0) (r : List ℕ) → all_in_identifier w ≡ true → is_apart r ≡ true → K (v ++ w) r → run in_identifier v K (w ++ r)
+run_on : (w v : List ℕ) (K : List ℕ → List ℕ → Type 0) (r : List ℕ) → list_all in_identifier w ≡ true → is_apart r ≡ true → K (v ++ w) r → run in_identifier v K (w ++ r)
 run_on [] v K [] a p h = subst (λ (x : List ℕ). K x []) (append-nil v) h
 run_on [] v K (c ∷ r) a p h = let z : in_identifier c ≡ false = no_letter c r p in rw z (subst (λ (x : List ℕ). K x (c ∷ r)) (append-nil v) h)
-run_on (c ∷ w) v K r a p h = let q : (in_identifier c ≡ true) × (all_in_identifier w ≡ true) = both (in_identifier c) (all_in_identifier w) a in subst (λ t. whether t (run in_identifier (v ++ (c ∷ [])) K (w ++ r)) (K v (c ∷ (w ++ r)))) (sym q.0) (run_on w (v ++ (c ∷ [])) K r q.1 p (subst (λ (x : List ℕ). K x r) (sym (append_assoc v (c ∷ []) w)) h))
+run_on (c ∷ w) v K r a p h = let q : (in_identifier c ≡ true) × (list_all in_identifier w ≡ true) = both (in_identifier c) (list_all in_identifier w) a in subst (λ t. whether t (run in_identifier (v ++ (c ∷ [])) K (w ++ r)) (K v (c ∷ (w ++ r)))) (sym q.0) (run_on w (v ++ (c ∷ [])) K r q.1 p (subst (λ (x : List ℕ). K x r) (sym (append_assoc v (c ∷ []) w)) h))
 
 word_start : (c : ℕ) → begins_identifier c ≡ true → start_of c ≡ AWord
 word_start c e = rw e refl
 
 lexed_word : (w : List ℕ) (us : List Token) (r : List ℕ) → is_identifier w ≡ true → is_apart r ≡ true → Lexed us r → Lexed (Identifier w ∷ us) (w ++ r)
 lexed_word [] us r i p h = cc
-lexed_word (c ∷ w) us r i p h = let q : (begins_identifier c ≡ true) × (all_in_identifier w ≡ true) = both (begins_identifier c) (all_in_identifier w) i in inl (subst (λ (s : Start). begun s c (Identifier (c ∷ w)) (Lexed us) (w ++ r)) (sym (word_start c q.0)) (run_on w (c ∷ []) (λ v b. (v ≡ c ∷ w) × Lexed us b) r q.1 p (refl, h)))
+lexed_word (c ∷ w) us r i p h = let q : (begins_identifier c ≡ true) × (list_all in_identifier w ≡ true) = both (begins_identifier c) (list_all in_identifier w) i in inl (subst (λ (s : Start). begun s c (Identifier (c ∷ w)) (Lexed us) (w ++ r)) (sym (word_start c q.0)) (run_on w (c ∷ []) (λ v b. (v ≡ c ∷ w) × Lexed us b) r q.1 p (refl, h)))
 
 -- a reserved word: none has more than 64 bytes
 pub reserved : (w : List ℕ) (K : List Token → Type 0) (r : List ℕ) → (is_identifier w && nat_le (length w) 64) ≡ true → is_apart r ≡ true → Spelt K r → Spelt (keyword w K) (w ++ r)

@@ -1,5 +1,6 @@
 -- What is printed of an expression is derived, within the room that it fits in.
 use Rattle.std.proofs.Common.{◌≡◌, ℕ, ◌+◌, ◌-◌, ◌/◌, ◌==◌, ◌<◌, ◌&&◌, ◌||◌, nat_lt, Bool, true, false, List, [], ◌∷◌, ◌++◌, refl, subst, sym, append_assoc, codes}
+use Rattle.std.specs.List.{list_all}
 use Rattle.std.specs.Prelude.{decimal}
 use Rattle.bist_text.specs.Numbers.{hex_digits}
 use Rattle.bist_text.proofs.Pieces.{at_byte}
@@ -16,7 +17,7 @@ use Rattle.verilog_tree.specs.Parenthesised.{expr, exprs}
 use Rattle.verilog_tree.specs.Spells.{bounded}
 use Rattle.verilog_tree.specs.Plain as P
 use Rattle.verilog_tree.specs.Tokens.{Token, mark_text, Complete, growth}
-use Rattle.verilog_tree.specs.Words.{is_digit, begins_identifier, all_in_identifier, is_identifier}
+use Rattle.bist_text.specs.Identifiers.{is_digit, begins_identifier, is_identifier, in_identifier}
 use Rattle.verilog_emit.specs.Printed.{expression_text, parts_text}
 use Rattle.verilog_emit.proofs.Derivations.{derive, braces, derive_more}
 use Rattle.verilog_emit.proofs.Numerals.{numbered, constant, first_digit, narrow}
@@ -50,7 +51,7 @@ operand_alone U.Parity (c ∷ b) e = at_byte (λ x. begins_operand x ≡ true �
 
 name_operand : (n r : List ℕ) → is_identifier n ≡ true → is_operand (n ++ r) ≡ true
 name_operand [] r e = cc
-name_operand (c ∷ n) r e = rw (both (begins_identifier c) (all_in_identifier n) e).0 refl
+name_operand (c ∷ n) r e = rw (both (begins_identifier c) (list_all in_identifier n) e).0 refl
 
 digits_operand : (c : ℕ) (w r : List ℕ) → is_digit c ≡ true → is_operand ((c ∷ w) ++ r) ≡ true
 digits_operand c w r e = or_digit (begins_identifier c) (is_digit c) e

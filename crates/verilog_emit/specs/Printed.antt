@@ -1,7 +1,7 @@
 -- The layout of a module's text. Every line ends with a line feed, and each depth is two blanks.
-use Rattle.std.specs.Prelude.{ℕ, zero, suc, ◌+◌, ◌-◌, ◌/◌, Bool, true, false, nat_lt, if◌then◌else◌, List, [], ◌∷◌, ◌++◌, codes, decimal}
+use Rattle.std.specs.Prelude.{ℕ, zero, suc, ◌+◌, ◌-◌, Bool, true, false, nat_lt, if◌then◌else◌, List, [], ◌∷◌, ◌++◌, codes, decimal}
 use Rattle.bist_bits.specs.Vector.{Vector}
-use Rattle.bist_text.specs.Numbers.{hex_digits}
+use Rattle.bist_text.specs.Numbers.{word_text}
 use Rattle.verilog_tree.specs.declared.tree.Dir.{Dir}
 use Rattle.verilog_tree.specs.declared.tree.Dir.TheVariants.{Input, Output, OutputReg}
 use Rattle.verilog_tree.specs.Grammar.{unary_mark, binary_mark}
@@ -21,7 +21,7 @@ line depth text = margin depth ++ text ++ (10 ∷ [])
 
 -- the width, 'h, and the value in lower case with as many digits as the width needs
 abbrev pub literal_text : Vector → List ℕ
-literal_text x = decimal x.width ++ codes "'h" ++ hex_digits ((x.width + 3) / 4) x.value
+literal_text x = decimal x.width ++ codes "'h" ++ word_text x.width x.value
 
 -- a comma and a blank stand before each part and each label but the first
 abbrev pub separator : Bool → List ℕ

@@ -3,7 +3,7 @@ ghost use Rattle.std.specs.Prelude.{◌≡◌, ℕ, ◌+◌, ◌<◌, ◌≤◌,
 ghost use Rattle.verilog_emit.specs.Printed.{margin, line, literal_text, range_text, separator, labels_text};
 
 use bist_bits::{Bits, NoMemory};
-use bist_text::{put, put_decimal, put_hex};
+use bist_text::{put, put_decimal, put_word};
 use verilog_tree::Name;
 
 /// Appends the blanks before a line: two for each depth.
@@ -55,7 +55,7 @@ pub fn put_literal(out: &mut Vec<u8>, x: Bits) -> Result<(), NoMemory>
 {
     put_decimal(out, u64::from(x.width()))?;
     put(out, b"'h")?;
-    put_hex(out, x.value(), (x.width() + 3) / 4)
+    put_word(out, x.width(), x.value())
 }
 
 /// Appends what stands before a part or a label: nothing before the first.

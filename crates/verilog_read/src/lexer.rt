@@ -1,14 +1,16 @@
 //! The lexer: what a byte does where it stands.
 ghost use Rattle.std.specs.Prelude.{◌≡◌, ◌+◌, ◌*◌, ◌∷◌, [], ◌++◌, true, Some, None, ◌≤◌, ◌<◌, ◌↔◌, length, IsOk, IfOk, IfErr};
 ghost use Rattle.verilog_tree.specs.Tokens.{is_space, is_query, mark_of, lengthened, spoils};
-ghost use Rattle.verilog_tree.specs.Words.{is_digit, digit_value, radix, is_digit_of, base_of};
+ghost use Rattle.bist_text.specs.Identifiers.{is_digit};
+ghost use Rattle.verilog_tree.specs.Words.{digit_value, radix, is_digit_of, base_of};
 ghost use Rattle.verilog_text.specs.Lexing.{begin, lex, last, with_token, InGap, InWord, InNumber, Quoted, Lettered, InDigits, Marked};
 ghost use Rattle.verilog_read.specs.Holding.{token_of};
 ghost use Rattle.verilog_read.specs.Lexemes.{lexer_of, ends_of, Scans, Begins, BeginsAs, Stays};
 
 use crate::lexemes::{Lexeme, SmallNumber};
 use bist_bits::Bits;
-use verilog_tree::{Base, Mark, Name, Within, begins_identifier, in_identifier};
+use bist_text::{begins_identifier, in_identifier};
+use verilog_tree::{Base, Mark, Name, Within};
 
 /// Where the lexer stands. Behind the `'` of a literal a vector has the literal's size, and the value of the
 /// digits so far.

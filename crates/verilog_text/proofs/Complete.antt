@@ -12,7 +12,8 @@ use Rattle.verilog_tree.specs.Formed.{is_place, is_width, is_literal}
 use Rattle.verilog_tree.specs.Plain.{ModuleTree}
 use Rattle.verilog_tree.specs.Spells.{Limits, keeps, all_keep, short_names, small_numbers}
 use Rattle.verilog_tree.specs.Tokens.{Token, Identifier, Number, Based, Unused, Sign, Lexed, decimal, digits, spoils, growth_of, grown, lengthened, behind_mark, behind_number, behind_quote, behind_letter, behind_digits}
-use Rattle.verilog_tree.specs.Words.{in_identifier, base_of, is_digit_of, digit_value}
+use Rattle.bist_text.specs.Identifiers.{in_identifier}
+use Rattle.verilog_tree.specs.Words.{base_of, is_digit_of, digit_value}
 use Rattle.verilog_text.specs.Expected.{Numbers, AllNumbers, ZeroAlone, NoNumber, numbers, taken_as, words, takes_names, taken, takes_literals, most_of, some_begins, some_taken, longer_marks, live, name_fits, number_fits, live_in}
 use Rattle.verilog_text.specs.Following.{rest}
 use Rattle.verilog_text.specs.Lexing.{Lexer, InGap, InWord, InNumber, Quoted, Lettered, InDigits, Marked, Whole, unread}

@@ -11,7 +11,7 @@ use Rattle.verilog_tree.specs.declared.tokens.Within.TheVariants.{Between, Slash
 use Rattle.verilog_tree.specs.Spells.{Derives, bounded}
 use Rattle.verilog_tree.specs.Plain.{ModuleTree}
 use Rattle.verilog_tree.specs.Tokens.{Token, Identifier, mark_text, Lexed, stops, whether, Growth, Longer, Spoiled, Complete, growth, Unused, Sign}
-use Rattle.verilog_tree.specs.Words.{in_identifier}
+use Rattle.bist_text.specs.Identifiers.{in_identifier}
 use Rattle.verilog_tree.specs.declared.fault.ReadFault.TheVariants as R
 use Rattle.verilog_text.specs.declared.fault.ByteFault.TheVariants.{TooDeep}
 use Rattle.verilog_text.specs.Answering.{Taking, Leads, Refused, OneTooMany, taking, take_token, Stops, is_between, while_live, gone, within, ended, stuck_at, stuck, read_on, lexed, byte_move, Faulty, value_answer, last_answer, end_answer}

@@ -1,6 +1,6 @@
 -- What is live goes on to a text: the token that is begun can be ended so that it is taken and keeps the limits.
 use Rattle.std.proofs.Common.{◌≡◌, ℕ, zero, suc, ◌+◌, ◌^◌, ◌<◌, ◌≤◌, Bool, true, false, not, ◌||◌, ◌&&◌, ◌==◌, List, [], ◌∷◌, ◌++◌, Option, Some, None, refl, sym, ap, subst, ◌∙◌, ◌⊎◌, inl, inr, arith, codes, length, drop, nat_eq, nat_le, nat_lt, if◌then◌else◌, append_assoc, append-nil}
-use Rattle.std.specs.List.{starts_with}
+use Rattle.std.specs.List.{starts_with, list_all}
 use Rattle.std.specs.Str.{bytes_eq}
 use Rattle.std.proofs.lemmas.Bool.{and_parts, and_from, or_cases, or_left, or_right, or_from, le-leb, leb-true, lt-ltb, eqb-true}
 use Rattle.std.proofs.lemmas.Bool.Decides.{Decides-eqb}
@@ -22,7 +22,7 @@ use Rattle.verilog_tree.specs.Formed.{is_place, is_width, is_literal}
 use Rattle.verilog_tree.specs.Plain.{ModuleTree}
 use Rattle.verilog_tree.specs.Spells.{Limits, keeps, all_keep, all_limits, short_names, small_numbers}
 use Rattle.verilog_tree.specs.Tokens.{Token, Identifier, Number, Based, Unused, Sign}
-use Rattle.verilog_tree.specs.Words.{in_identifier, all_in_identifier}
+use Rattle.bist_text.specs.Identifiers.{in_identifier}
 use Rattle.verilog_tree.specs.Grammar.{unlimited}
 use Rattle.verilog_text.specs.Expected.{Numbers, AllNumbers, ZeroAlone, NoNumber, numbers, taken_as, else_behind, words_behind, with_else, place_words, words, takes_names, is_step, taken, takes_literals, some_begins, some_taken, longer_marks, live, most_of, name_fits, number_fits, live_in}
 use Rattle.verilog_text.specs.Following.{rest}
@@ -43,10 +43,10 @@ blank_word : (w : List ℕ) → lexing (32 ∷ []) (InWord w) ≡ Some (Identifi
 blank_word w = refl
 
 -- letters, and a blank
-word_lexing : (u w : List ℕ) → all_in_identifier u ≡ true → lexing (u ++ (32 ∷ [])) (InWord w) ≡ Some (Identifier (w ++ u) ∷ [], InGap Between)
+word_lexing : (u w : List ℕ) → list_all in_identifier u ≡ true → lexing (u ++ (32 ∷ [])) (InWord w) ≡ Some (Identifier (w ++ u) ∷ [], InGap Between)
 word_lexing [] w h = ap (λ x. Some (Identifier x ∷ [], InGap Between)) (sym (append-nil w))
 word_lexing (c ∷ u) w h =
-    let p = and_parts (in_identifier c) (all_in_identifier u) h in
+    let p = and_parts (in_identifier c) (list_all in_identifier u) h in
     let more : lexing (u ++ (32 ∷ [])) (InWord (w ++ (c ∷ []))) ≡ Some (Identifier ((w ++ (c ∷ [])) ++ u) ∷ [], InGap Between) = word_lexing u (w ++ (c ∷ [])) p.1 in
     ap (λ b. and_then (if b then Some (InWord (w ++ (c ∷ [])), None) else with_token (Identifier w) (begin c)) (λ r. and_then (lexing (u ++ (32 ∷ [])) r.0) (λ s. Some (emitted r.1 s.0, s.1)))) p.0
     ∙ ap (λ o. and_then o (λ s. Some (emitted (let n : Option Token = None in n) s.0, s.1))) more
@@ -55,7 +55,7 @@ word_lexing (c ∷ u) w h =
 -- words of the lists are identifiers, of at most 63 bytes
 abbrev all_words : List (List ℕ) → Bool
 all_words [] = true
-all_words (w ∷ ws) = (all_in_identifier w && nat_le (length w) 63) && all_words ws
+all_words (w ∷ ws) = (list_all in_identifier w && nat_le (length w) 63) && all_words ws
 
 else_words : (b : Bool) (ws : List (List ℕ)) → all_words ws ≡ true → all_words (with_else b ws) ≡ true
 else_words true ws e = e
@@ -87,27 +87,27 @@ words_are (AtItem p) = item_words_are p
     item_words_are (ClockOpen h) = refl
     item_words_are p = refl
 
-all_behind : (w u : List ℕ) → all_in_identifier (w ++ u) ≡ true → all_in_identifier u ≡ true
+all_behind : (w u : List ℕ) → list_all in_identifier (w ++ u) ≡ true → list_all in_identifier u ≡ true
 all_behind [] u h = h
-all_behind (c ∷ w) u h = all_behind w u (and_parts (in_identifier c) (all_in_identifier (w ++ u)) h).1
+all_behind (c ∷ w) u h = all_behind w u (and_parts (in_identifier c) (list_all in_identifier (w ++ u)) h).1
 
 -- a word of the list that begins with w
 record Longer (w : List ℕ) (ws : List (List ℕ)) : Type 0 where
   more : List ℕ
   listed : is_among (w ++ more) ws ≡ true
-  letters : all_in_identifier more ≡ true
+  letters : list_all in_identifier more ≡ true
   short : length (w ++ more) ≤ 63
 
 begins_longer : (w : List ℕ) (ws : List (List ℕ)) → all_words ws ≡ true → some_begins w ws ≡ true → Longer w ws
 begins_longer w [] a h = cc
 begins_longer w (v ∷ vs) a h =
-    let p = and_parts (all_in_identifier v && nat_le (length v) 63) (all_words vs) a in
-    let q = and_parts (all_in_identifier v) (nat_le (length v) 63) p.0 in
+    let p = and_parts (list_all in_identifier v && nat_le (length v) 63) (all_words vs) a in
+    let q = and_parts (list_all in_identifier v) (nat_le (length v) 63) p.0 in
     elim (or_cases (starts_with nat_eq v w) (some_begins w vs) h) [
       | inl e ↦ let whole : v ≡ w ++ drop (length w) v = (starts_is (λ x y. Decides-eqb x y) v w (starts_with nat_eq v w) refl).0 e in record {
         more = drop (length w) v;
         listed = or_left (bytes_eq (w ++ drop (length w) v) v) (is_among (w ++ drop (length w) v) vs) ((bytes_eq-Decides (w ++ drop (length w) v) v).1 (sym whole));
-        letters = all_behind w (drop (length w) v) (subst (λ x. all_in_identifier x ≡ true) whole q.0);
+        letters = all_behind w (drop (length w) v) (subst (λ x. list_all in_identifier x ≡ true) whole q.0);
         short = subst (λ (x : List ℕ). length x ≤ 63) whole (leb-true (length v) 63 q.1);
       }
       | inr e ↦ let k = begins_longer w vs p.1 e in record { more = k.more; listed = or_right (bytes_eq (w ++ k.more) v) (is_among (w ++ k.more) vs) k.listed; letters = k.letters; short = k.short }
@@ -157,7 +157,7 @@ reserved_short w (v ∷ vs) h e =
 record ANameOf (w : List ℕ) : Type 0 where
   more : List ℕ
   free : is_among (w ++ more) reserved_words ≡ false
-  letters : all_in_identifier more ≡ true
+  letters : list_all in_identifier more ≡ true
   short : length w ≤ 64 → length (w ++ more) ≤ 64
 
 name_of : (w : List ℕ) → ANameOf w
@@ -250,9 +250,9 @@ module _ (names_kept numbers_kept : Bool) where
       is_byte : (c d : ℕ) → (c == d) ≡ true → d < 256 → c < 256
       is_byte c d e k = let p = eqb-true c d e in omega (arith, p, k)
 
-  letters_bytes : (u : List ℕ) → all_in_identifier u ≡ true → are_bytes (u ++ (32 ∷ [])) ≡ true
+  letters_bytes : (u : List ℕ) → list_all in_identifier u ≡ true → are_bytes (u ++ (32 ∷ [])) ≡ true
   letters_bytes [] h = refl
-  letters_bytes (c ∷ u) h = let p = and_parts (in_identifier c) (all_in_identifier u) h in and_from (nat_lt c 256) (are_bytes (u ++ (32 ∷ []))) (letter_byte c p.0) (letters_bytes u p.1)
+  letters_bytes (c ∷ u) h = let p = and_parts (in_identifier c) (list_all in_identifier u) h in and_from (nat_lt c 256) (are_bytes (u ++ (32 ∷ []))) (letter_byte c p.0) (letters_bytes u p.1)
 
   -- parts of what is live
   if_true : (b t : Bool) → (if b then t else true) ≡ true → b ≡ true → t ≡ true

@@ -12,7 +12,8 @@ use Rattle.verilog_tree.specs.declared.tokens.Mark.{Mark}
 use Rattle.verilog_tree.specs.declared.tokens.Mark.TheVariants.{Open, OpenBrace, Equals, Bang, Less, Greater, Ampersand, Bar, TwoEquals, BangEquals, LessEquals, TwoLess, GreaterEquals, TwoGreater, TwoAmpersands, TwoBars}
 use Rattle.verilog_tree.specs.declared.tokens.Within.TheVariants.{Between, Slash, Line, Block, Star}
 use Rattle.verilog_tree.specs.Tokens.{Token, Identifier, Number, Unused, Sign, is_space, is_query, lengthened, Start, AWord, ANumber, AMark, NoToken, start_of, Lexed, spoils, growth_of, mark_text, Growth, Longer, Spoiled, Complete, growth}
-use Rattle.verilog_tree.specs.Words.{in_identifier, is_digit, digit_value, radix, base_of, is_digit_of}
+use Rattle.bist_text.specs.Identifiers.{is_digit, in_identifier}
+use Rattle.verilog_tree.specs.Words.{digit_value, radix, base_of, is_digit_of}
 use Rattle.verilog_text.specs.Lexing.{Lexer, InGap, InWord, InNumber, Quoted, Lettered, InDigits, Marked, Whole, literal, begin_token, begin, with_token, silent, lettered, grow, lex, last, unread}
 use Rattle.verilog_text.specs.Openings.{Opening, Parenthesis, Brace, BlockWord, IfWord, CaseWord, opening_text, opening_token, opening_goes_on, Operator, grows}
 use Rattle.verilog_text.proofs.LexerLaws.{by_test, lexes}

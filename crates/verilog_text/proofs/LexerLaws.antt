@@ -4,7 +4,8 @@ use Rattle.bist_text.proofs.Pieces.{at_byte, also, skip, stay, neither, same, ne
 use Rattle.bist_text.specs.Lexed.{emitted, Lexes}
 use Rattle.bist_text.specs.Machine.{Holds}
 use Rattle.verilog_tree.specs.Tokens.{gap, Token, Identifier, Number, Based, Unused, Sign, Start, AWord, ANumber, AMark, NoToken, start_of, is_query, Growth, Longer, Spoiled, Complete, growth, grown, behind_mark, begun, first, Lexed}
-use Rattle.verilog_tree.specs.Words.{in_identifier, is_digit, digit_value, radix, is_digit_of, base_of}
+use Rattle.bist_text.specs.Identifiers.{is_digit, in_identifier}
+use Rattle.verilog_tree.specs.Words.{digit_value, radix, is_digit_of, base_of}
 use Rattle.verilog_tree.specs.declared.tokens.Base.{Base}
 use Rattle.verilog_tree.specs.declared.tokens.Mark.{Mark}
 use Rattle.verilog_tree.specs.declared.tokens.Within.TheVariants.{Between, Slash, Line, Block, Star}

@@ -12,7 +12,8 @@ use Rattle.verilog_tree.specs.declared.tokens.Mark.{Mark}
 use Rattle.verilog_tree.specs.declared.tokens.Mark.TheVariants.{Open, Close, OpenBracket, CloseBracket, OpenBrace, CloseBrace, Comma, Semicolon, Colon, At, Question, Equals, LessEquals, Plus, Minus, Ampersand, Bar, Caret, Tilde, Bang, TwoEquals, BangEquals, Less, Greater, GreaterEquals, TwoAmpersands, TwoBars, TwoLess, TwoGreater, FullStop}
 use Rattle.verilog_tree.specs.declared.tokens.Within.TheVariants.{Between, Slash, Line, Block, Star}
 use Rattle.verilog_tree.specs.Tokens.{Token, Identifier, Number, Unused, Sign, is_space, is_query, mark_text, mark_of, lengthened, Start, AWord, ANumber, AMark, NoToken, start_of, start_mark, Lexed, spoils, growth_of}
-use Rattle.verilog_tree.specs.Words.{in_identifier, begins_identifier, is_digit, digit_value, radix, base_of, is_digit_of}
+use Rattle.bist_text.specs.Identifiers.{is_digit, begins_identifier, in_identifier}
+use Rattle.verilog_tree.specs.Words.{digit_value, radix, base_of, is_digit_of}
 use Rattle.verilog_text.specs.Answering.{Taking, Leads, Refused, OneTooMany, taking, take_token, Move, Goes, Stops, is_between, while_live, gone, within, ended, stuck_at, stuck, read_on, lexed, byte_move}
 use Rattle.verilog_text.specs.Expected.{live, name_fits, number_fits, most_of, taken}
 use Rattle.verilog_text.specs.Lexing.{Lexer, InGap, InWord, InNumber, Quoted, Lettered, InDigits, Marked, Whole, literal, begin_token, begin, with_token, silent, lettered, grow, lex, last}

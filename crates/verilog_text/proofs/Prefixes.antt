@@ -11,7 +11,8 @@ use Rattle.verilog_tree.specs.declared.tokens.Base.TheVariants.{Binary}
 use Rattle.verilog_tree.specs.declared.tokens.Mark.{Mark}
 use Rattle.verilog_tree.specs.declared.tokens.Mark.TheVariants.{Equals, Bang, Less, Greater, Ampersand, Bar, TwoEquals, BangEquals, LessEquals, TwoLess, GreaterEquals, TwoGreater, TwoAmpersands, TwoBars}
 use Rattle.verilog_tree.specs.Tokens.{whether, run, decimal, digits, lengthened, Sign}
-use Rattle.verilog_tree.specs.Words.{is_digit, digit_value, radix, is_digit_of}
+use Rattle.bist_text.specs.Identifiers.{is_digit}
+use Rattle.verilog_tree.specs.Words.{digit_value, radix, is_digit_of}
 use Rattle.verilog_text.specs.Expected.{some_begins, longer_marks, some_taken, taken}
 use Rattle.verilog_text.specs.Places.{State}
 

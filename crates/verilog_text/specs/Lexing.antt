@@ -1,7 +1,8 @@
 -- What the lexer does at each byte, and what may still come where it stands.
 use Rattle.std.specs.Prelude.{◌≡◌, ℕ, ◌+◌, ◌*◌, Bool, true, false, ◌==◌, List, [], ◌∷◌, ◌++◌, Option, Some, None, if◌then◌else◌}
 use Rattle.verilog_tree.specs.Tokens.{is_space, gap, Token, Identifier, Number, Based, Unused, Sign, run, sized, decimal, digits, Start, AWord, ANumber, AMark, NoToken, start_of, is_query, behind_digits, behind_letter, behind_quote, behind_number, Growth, Longer, Spoiled, Complete, growth, behind_mark, first, Lexed}
-use Rattle.verilog_tree.specs.Words.{in_identifier, is_digit, digit_value, radix, is_digit_of, base_of}
+use Rattle.bist_text.specs.Identifiers.{is_digit, in_identifier}
+use Rattle.verilog_tree.specs.Words.{digit_value, radix, is_digit_of, base_of}
 use Rattle.verilog_tree.specs.declared.tokens.Base.{Base}
 use Rattle.verilog_tree.specs.declared.tokens.Mark.{Mark}
 use Rattle.verilog_tree.specs.declared.tokens.Within.TheVariants.{Between, Slash, Line, Block, Star}

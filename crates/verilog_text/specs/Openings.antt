@@ -7,7 +7,7 @@ use Rattle.verilog_tree.specs.Grammar.{Limit, unlimited, Style}
 use Rattle.verilog_tree.specs.Plain.{ModuleTree}
 use Rattle.verilog_tree.specs.Spells.{Derives}
 use Rattle.verilog_tree.specs.Tokens.{Token, Identifier, Sign, Lexed, stops, mark_text, Growth, Longer, Spoiled, Complete, growth}
-use Rattle.verilog_tree.specs.Words.{in_identifier}
+use Rattle.bist_text.specs.Identifiers.{in_identifier}
 
 pub data Opening : Type 0 where
   Parenthesis : Opening

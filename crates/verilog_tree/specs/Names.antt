@@ -1,5 +1,5 @@
 -- What the names of a module are.
-use Rattle.std.specs.Prelude.{ℕ, Bool, true, false, cond, nat_eq, ◌&&◌, List, [], ◌∷◌, ◌++◌, map, Option, Some, None, codes}
+use Rattle.std.specs.Prelude.{ℕ, ◌+◌, Bool, true, false, cond, nat_eq, ◌&&◌, List, [], ◌∷◌, ◌++◌, map, Option, Some, None, codes}
 use Rattle.std.specs.Str.{bytes_eq}
 use Rattle.verilog_tree.specs.declared.tree.Dir.{Dir}
 use Rattle.verilog_tree.specs.declared.tree.Dir.TheVariants.{Input, Output, OutputReg}
@@ -43,6 +43,11 @@ declarations ps is = port_declarations ps ++ item_declarations is
 abbrev pub lookup : List Declaration → List ℕ → Option Declaration
 lookup [] n = None
 lookup (d ∷ ds) n = cond (bytes_eq n d.name) (Some d) (lookup ds n)
+
+-- how many of these names stand before n
+abbrev pub number : List (List ℕ) → List ℕ → ℕ
+number [] n = 0
+number (x ∷ xs) n = cond (bytes_eq n x) 0 (1 + number xs n)
 
 abbrev pub declared_width : Option Declaration → ℕ
 declared_width None = 0

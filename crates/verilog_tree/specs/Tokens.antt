@@ -9,7 +9,8 @@ use Rattle.verilog_tree.specs.declared.tokens.Mark.{Mark}
 use Rattle.verilog_tree.specs.declared.tokens.Mark.TheVariants.{Open, Close, OpenBracket, CloseBracket, OpenBrace, CloseBrace, Comma, Semicolon, Colon, At, Question, Equals, LessEquals, Plus, Minus, Ampersand, Bar, Caret, Tilde, Bang, TwoEquals, BangEquals, Less, Greater, GreaterEquals, TwoAmpersands, TwoBars, TwoLess, TwoGreater, FullStop}
 use Rattle.verilog_tree.specs.declared.tokens.Within.{Within}
 use Rattle.verilog_tree.specs.declared.tokens.Within.TheVariants.{Between, Slash, Line, Block, Star}
-use Rattle.verilog_tree.specs.Words.{is_digit, begins_identifier, in_identifier, radix, base_of, is_digit_of, digit_value}
+use Rattle.bist_text.specs.Identifiers.{is_digit, begins_identifier, in_identifier}
+use Rattle.verilog_tree.specs.Words.{radix, base_of, is_digit_of, digit_value}
 
 -- A token. A number is told by whether it has more than one digit, and its value. A literal is the constant
 -- that its size and digits write. An unused one is a literal of base b, o or h with a ? directly behind it,

@@ -1,31 +1,9 @@
--- The words of the subset: identifiers, names, numbers and literals (IEEE 1364-2005, clause 3).
-use Rattle.std.specs.Prelude.{ℕ, ◌-◌, Bool, true, false, not, ◌==◌, ◌&&◌, ◌||◌, nat_le, List, [], ◌∷◌, length, Option, Some, None, if◌then◌else◌}
+-- The words of the subset: names, numbers and literals (IEEE 1364-2005, clause 3).
+use Rattle.std.specs.Prelude.{ℕ, ◌-◌, Bool, not, ◌==◌, ◌&&◌, ◌||◌, nat_le, List, length, Option, Some, None, if◌then◌else◌}
 use Rattle.bist_text.specs.ReservedWords.{is_among, reserved_words}
+use Rattle.bist_text.specs.Identifiers.{is_digit, is_identifier}
 use Rattle.verilog_tree.specs.declared.tokens.Base.{Base}
 use Rattle.verilog_tree.specs.declared.tokens.Base.TheVariants.{Binary, Octal, Decimal, Hexadecimal}
-
-abbrev pub is_letter : ℕ → Bool
-is_letter c = (nat_le 97 c && nat_le c 122) || (nat_le 65 c && nat_le c 90)
-
-abbrev pub is_digit : ℕ → Bool
-is_digit c = nat_le 48 c && nat_le c 57
-
--- a letter or _
-abbrev pub begins_identifier : ℕ → Bool
-begins_identifier c = is_letter c || (c == 95)
-
--- a letter, a digit, _ or $
-abbrev pub in_identifier : ℕ → Bool
-in_identifier c = begins_identifier c || is_digit c || (c == 36)
-
-abbrev pub all_in_identifier : List ℕ → Bool
-all_in_identifier [] = true
-all_in_identifier (c ∷ w) = in_identifier c && all_in_identifier w
-
--- a simple identifier
-abbrev pub is_identifier : List ℕ → Bool
-is_identifier [] = false
-is_identifier (c ∷ w) = begins_identifier c && all_in_identifier w
 
 -- a simple identifier that isn't reserved, of at most 64 bytes
 abbrev pub is_name : List ℕ → Bool

@@ -30,4 +30,4 @@ pub use tables::{Declarations, NameSet, all_declarations};
 pub use tokens::{Base, Mark, Within};
 pub use tree::{Arm, BinOp, Decl, Dir, Expr, Item, Module, Name, Port, Stmt, UnOp};
 pub use widths::{binary_width, unary_width};
-pub use words::{begins_identifier, in_identifier, is_name};
+pub use words::is_name;

@@ -65,6 +65,11 @@ command_at march d j = j + d.pause * pauses_before (word_steps march d) j
 abbrev pub span : List MarchElement → Description → ℕ
 span march d = command_count march d + d.pause * pauses (word_steps march d)
 
+-- the cycles of a self-test: the reset, those of the run, those in which the last answer comes, and one in which its comparison shows;
+-- it is done in the last of them
+abbrev pub cycle_count : List MarchElement → Description → ℕ
+cycle_count march d = span march d + d.latency + 2
+
 -- ---- the run, cycle by cycle
 
 -- the cycles of a step: the cycles of a pause are idle

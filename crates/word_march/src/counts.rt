@@ -1,7 +1,9 @@
 //! How many commands a march gives, and how many cycles its run takes.
 
 ghost use Rattle.std.specs.Prelude.{◌≡◌, ◌≤◌};
-ghost use Rattle.word_march.specs.Commands.{command_count, span};
+ghost use Rattle.march_core.specs.March.{IsMarch};
+ghost use Rattle.memory_desc.specs.Descriptions.{IsMemory};
+ghost use Rattle.word_march.specs.Commands.{command_count, cycle_count, span};
 ghost use Rattle.word_march.specs.Standing.{pause_count};
 
 use march_core::March;
@@ -41,4 +43,16 @@ pub fn span(march: &March, memory: &Memory) -> u64
 {
     let pauses = memory.backgrounds().len() as u64 * pause_count(march) as u64;
     length(march, memory) + u64::from(memory.pause()) * pauses
+}
+
+/// How many cycles a self-test takes: one for the reset, those of the run, those in which the last answer comes, and one in which its
+/// comparison shows.
+pub fn cycle_count(march: &March, memory: &Memory) -> u64
+    ensures count { result ≡ cycle_count march.now memory.now }
+    ensures some { 1 ≤ result }
+    ensures march { IsMarch march.now }
+    ensures memory { IsMemory memory.now }
+{
+    let _ = march.len();
+    span(march, memory) + u64::from(memory.latency()) + 2
 }

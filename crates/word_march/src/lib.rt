@@ -10,7 +10,7 @@ mod laws;
 mod operations;
 mod place;
 
-pub use counts::{length, span};
+pub use counts::{cycle_count, length, span};
 pub use iterators::{PortOps, WordOps, port_ops, word_ops};
 pub use laws::{examples, port_rule, unbroken};
 pub use operations::{PortOp, WordOp};

@@ -1,16 +1,10 @@
-use Rattle.std.proofs.Common.{List, ℕ, ◌++◌, ◌∷◌, [], ◌+◌, ◌/◌, codes, slice_index, take, sym, ◌∙◌, ap, append_assoc, arith}
+use Rattle.std.proofs.Common.{List, ℕ, ◌++◌, ◌∷◌, [], codes, slice_index, take, sym, ◌∙◌, ap, append_assoc, arith}
 use Rattle.std.proofs.lemmas.List.{take_all}
 use Rattle.std.proofs.lemmas.Result.{on_ok_weaker}
-use Rattle.bist_text.specs.Numbers.{hex_digits}
+use Rattle.bist_text.specs.Numbers.{word_text}
 use Rattle.memory_desc.specs.Printed.{background_texts}
-use Rattle.memory_desc.proofs.Printing.{word_digits, words_more}
+use Rattle.memory_desc.proofs.Printing.{words_more}
 use Rattle.memory_desc.proofs.print.put_backgrounds.Goals as goal
-
-pub put_hex-requires : goal.put_hex-requires
-put_hex-requires c =
-    let set = c.args.set.now in
-    let i = c.loop-word.word-index in
-    record { fits = word_digits c.args.bits (slice_index set i) (c.requires.fit i 0 c.loop-word-test.true) }
 
 pub loop-word-preserved : goal.loop-word-preserved
 loop-word-preserved c =
@@ -18,8 +12,8 @@ loop-word-preserved c =
     let i = c.loop-word.word-index in
     let before = c.put.new.out.items in
     let so_far = background_texts c.args.bits (take i set) in
-    let digits = hex_digits ((c.args.bits + 3) / 4) (slice_index set i) in
-    c.in_ok-put_hex.ensures.ok
+    let digits = word_text c.args.bits (slice_index set i) in
+    c.in_ok-put_word.ensures.ok
     ∙ ap (λ (t : List ℕ). t ++ digits) (c.in_ok-put-2.ensures.ok ∙ ap (λ (t : List ℕ). t ++ 32 ∷ []) c.loop-word.invariant)
     ∙ append_assoc (before ++ so_far) (32 ∷ []) digits ∙ append_assoc before so_far (32 ∷ digits)
     ∙ ap (λ (t : List ℕ). before ++ t) (sym (words_more c.args.bits set i c.loop-word-test.true))

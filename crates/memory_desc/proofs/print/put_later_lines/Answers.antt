@@ -1,16 +1,11 @@
 use Rattle.std.proofs.Common.{◌∙◌}
 use Rattle.std.proofs.lemmas.Result.{on_ok_weaker}
 use Rattle.memory_desc.proofs.PrintSteps.{later_printed}
-use Rattle.memory_desc.proofs.Printing.{word_digits}
 use Rattle.memory_desc.proofs.print.put_later_lines.Goals as goal
-
-pub put_hex-requires : goal.put_hex-requires
-put_hex-requires c =
-    record { fits = word_digits c.bits.result c.polarity.result (rw (c.polarity.ensures.value, c.bits.ensures.value) c.polarity.ensures.memory.polarity) }
 
 pub returns : goal.returns
 returns c =
     on_ok_weaker _
     (later_printed c.args.memory.now c.args.out.now.items _ _ _ _ _ _ _ _ _ c.if-is_plain.ensures (c.from.ensures ∙ c.latency.ensures.value) c.bits.ensures.value c.polarity.ensures.value
-    (c.from-2.ensures ∙ c.pause.ensures.value) c.in_ok-put_number_line.ensures c.in_ok-put.ensures.ok c.in_ok-put_hex.ensures.ok c.in_ok-put-2.ensures.ok)
+    (c.from-2.ensures ∙ c.pause.ensures.value) c.in_ok-put_number_line.ensures c.in_ok-put.ensures.ok c.in_ok-put_word.ensures.ok c.in_ok-put-2.ensures.ok)
     c.put_number_line-2.ensures

@@ -11,7 +11,7 @@ invariant_of-result c =
           (planned c.args.march.now d _ c.scramble-scramble.result.now c.words.ensures.memory c.scramble-scramble.ensures
           c.module_name.ensures c.elements.ensures c.words.ensures.value c.bits.ensures.value c.backgrounds.ensures
           (ap (λ n. n - 1) c.latency.ensures.value) c.polarity.ensures.value c.pause_of-pause.ensures.pauses c.address_bits.ensures.value
-          c.is_straight.ensures c.rows.ensures)
+          c.is_identity.ensures c.rows.ensures)
           c.most_ops-most.result
           (widthed c.args.march.now d _ c.scramble-scramble.result.now c.most_ops-most.result c.len.result c.address_bits-2.result c.backgrounds-count.result.now c.scramble-scramble.ensures c.rows.ensures
           c.pause_of-pause.ensures.low c.pause_of-pause.ensures.high c.visit_width.ensures.pause c.address_bits.ensures.value c.address_bits-2.ensures.value c.visit_width.ensures.address c.visit_width.ensures.narrow
@@ -26,4 +26,4 @@ returns-clause-plans c =
     planned c.args.march.now c.args.memory.now _ c.scramble-scramble.result.now c.words.ensures.memory c.scramble-scramble.ensures
     c.module_name.ensures c.elements.ensures c.words.ensures.value c.bits.ensures.value c.backgrounds.ensures
     (ap (λ n. n - 1) c.latency.ensures.value) c.polarity.ensures.value c.pause_of-pause.ensures.pauses c.address_bits.ensures.value
-    c.is_straight.ensures c.rows.ensures
+    c.is_identity.ensures c.rows.ensures

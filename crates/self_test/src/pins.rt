@@ -2,10 +2,11 @@
 
 ghost use Rattle.std.specs.Prelude.{◌≡◌, codes, map};
 ghost use Rattle.verilog_tree.specs.Plain.{plain_port};
-ghost use Rattle.verilog_cycle.specs.Nets.{number};
-ghost use Rattle.bench.specs.Pins.{output_names, is_plain_input, reset_leads, ArePins};
+ghost use Rattle.verilog_tree.specs.Names.{number};
+ghost use Rattle.self_test.specs.Pins.{output_names, reset_leads, ArePins};
 
-use verilog_tree::{Dir, Port};
+use crate::naming::is_input;
+use verilog_tree::Port;
 
 /// The places of the outputs among the outputs, and the order of the two inputs besides the clock.
 #[derive(Clone, Copy, Debug)]
@@ -18,15 +19,6 @@ pub struct Pins {
     pub wdata: usize,
     pub done: usize,
     pub fail: usize,
-}
-
-fn is_input(dir: Dir) -> bool
-    ensures { result ≡ is_plain_input dir }
-{
-    match dir {
-        Dir::Input => true,
-        Dir::Output | Dir::OutputReg => false,
-    }
 }
 
 /// How many outputs stand before the one of this name.
