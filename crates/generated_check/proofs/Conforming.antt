@@ -18,7 +18,8 @@ use Rattle.rtl_layout.proofs.Ranked.{rank, rank_falls}
 use Rattle.port_check.specs.declared.answer.PortAnswer.{PortAnswer}
 use Rattle.port_check.specs.declared.answer.PortAnswer.TheVariants as A
 use Rattle.port_check.specs.OpenRun.{IsOpenRun}
-use Rattle.port_check.specs.Compared.{PortValue, shows, word_port, compared, cycle_count, Wants}
+use Rattle.word_march.specs.Commands.{cycle_count}
+use Rattle.port_check.specs.Compared.{PortValue, shows, word_port, compared, Wants}
 use Rattle.port_check.specs.Results.{IsUnknown, IsDifferent}
 use Rattle.port_check.specs.Answers.{IsAnswer, AnswerOf}
 use Rattle.port_check.proofs.Runs.{number_shows}

@@ -9,7 +9,7 @@ ghost use Rattle.rtl_layout.specs.Layout as L;
 ghost use Rattle.port_check.specs.declared.answer.PortAnswer.{PortAnswer};
 ghost use Rattle.port_check.specs.declared.answer.PortAnswer.TheVariants.{Conforms};
 ghost use Rattle.port_check.specs.Answers.{IsAnswer};
-ghost use Rattle.port_check.specs.Compared.{cycle_count};
+ghost use Rattle.word_march.specs.Commands.{cycle_count};
 
 /// The module that the generator makes of a march and a memory conforms: the check of it has no other answer. (It is the layout of a plan, by
 /// the clause `layout` of `generate`, and a self-test of them, by its clause `self_test`.)
