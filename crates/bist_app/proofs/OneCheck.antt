@@ -1,5 +1,5 @@
 -- The check of a file's module has one answer.
-use Rattle.std.proofs.Common.{◌≡◌, ◌∙◌, ◌++◌, ℕ, List, Option, Some, None, Result, Ok, Err, codes, decimal, refl, sym, ap}
+use Rattle.std.proofs.Common.{◌≡◌, ◌∙◌, ◌++◌, ℕ, List, Some, Ok, Err, codes, decimal, sym, ap}
 use Rattle.bist_host.specs.Files.{Files}
 use Rattle.verilog_tree.specs.Plain.{ModuleTree}
 use Rattle.verilog_tree.specs.Grammar.{ByPrecedence}
@@ -11,7 +11,7 @@ use Rattle.port_check.proofs.Checking.{only_answer}
 use Rattle.bist_endings.specs.declared.ending.Refusal.{Refusal}
 use Rattle.bist_endings.specs.Ending.{Done}
 use Rattle.bist_endings.specs.Words.{Words}
-use Rattle.bist_endings.specs.OneOutcome.{HasOneAnswer, HasOneAnswerButNames, Answer, answer_of}
+use Rattle.bist_endings.specs.OneOutcome.{HasOneAnswer, HasOneAnswerButNames, answer_of}
 use Rattle.bist_endings.proofs.OneOutcome.{but_names, outcome_value, then_but_names}
 use Rattle.bist_inputs.specs.Inputs.{InputMarch}
 use Rattle.bist_inputs.specs.Memories.{InputMemory}
