@@ -7,3 +7,4 @@ pub mod Cursors
 pub mod Lines
 pub mod ReservedWords
 pub mod Keywords
+pub mod LineGrammar

@@ -4,15 +4,10 @@ use Rattle.std.proofs.lemmas.Bool.{eqb-true, eq-eqb, and_parts, and_from, le-leb
 use Rattle.std.specs.List.{list_all, take_while}
 use Rattle.std.specs.Prelude.{nat_le}
 use Rattle.bist_text.specs.Grammar.{word, many, is_blank}
-use Rattle.memory_desc.specs.ContentParts.{after}
 use Rattle.memory_desc.specs.Names.{is_digit, is_letter, is_name_byte, is_identifier}
-use Rattle.memory_desc.specs.LineText.{is_number, space, gap, tail}
-use Rattle.memory_desc.specs.LineRest.{Run}
-use Rattle.memory_desc.proofs.Behind.{is_small, many_after, word_run}
-use Rattle.memory_desc.proofs.LinePieces.{when_true, when_holds}
-use Rattle.memory_desc.proofs.LineRefusals.{IsPlain, digits_plain, names_plain}
-use Rattle.memory_desc.proofs.LineStarts.{run_parts, run_of}
-use Rattle.memory_desc.proofs.LineStops.{Stops, gap_stops, tail_stops, run_stops, name_run, space_of_gap}
+use Rattle.memory_desc.specs.LineText.{is_number}
+use Rattle.memory_desc.proofs.LineRefusals.{digits_plain, names_plain}
+use Rattle.memory_desc.proofs.LineStops.{name_run}
 use Rattle.chip_desc.specs.Chips.{is_file_byte, is_file}
 use Rattle.chip_desc.specs.ChipFaults.{may_stand, LineOf}
 use Rattle.chip_desc.specs.ChipLines.{Content, version, name, budget, unit, kind_of, is_formed, argument, key_text, ContentText}
@@ -20,9 +15,13 @@ use Rattle.chip_desc.specs.Heard.{behind_key, behind_weight, march_in, memory_in
 use Rattle.chip_desc.specs.LineMachine.{memory_left, march_left, name_left, argument_left, KindLine}
 use Rattle.chip_desc.specs.declared.line_place.Key.{Key}
 use Rattle.chip_desc.specs.declared.line_place.Key.TheVariants.{Chip, Name, Budget, Unit as OfUnit}
-use Rattle.chip_desc.proofs.ChipPieces.{many_map, gap_map, word_map, many_pull, gap_pull, word_pull, word_many, word_some, many_word, some_word}
 use Rattle.chip_desc.proofs.FileBytes.{files_plain, file_parts}
 use Rattle.chip_desc.proofs.KindLines.{first_stops}
+use Rattle.bist_text.specs.LineGrammar.{after, space, gap, tail, Run}
+use Rattle.bist_text.proofs.Behind.{is_small, many_after, word_run}
+use Rattle.bist_text.proofs.LinePieces.{when_true, when_holds}
+use Rattle.bist_text.proofs.LineStops.{IsPlain, run_parts, run_of, Stops, gap_stops, tail_stops, run_stops, space_of_gap}
+use Rattle.bist_text.proofs.RunPieces.{many_map, gap_map, word_map, many_pull, gap_pull, word_pull, word_many, word_some, many_word, some_word}
 
 -- ---- from contents to kinds
 

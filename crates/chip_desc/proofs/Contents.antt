@@ -8,19 +8,19 @@ use Rattle.bist_text.specs.declared.byte_set.ByteSet.{ByteSet}
 use Rattle.bist_text.specs.Cursors.{TextPlace, left_of}
 use Rattle.bist_text.specs.Grammar.{word}
 use Rattle.bist_text.specs.Numbers.{IsNumber}
-use Rattle.memory_desc.specs.ContentParts.{after}
 use Rattle.memory_desc.specs.Names.{is_digit}
-use Rattle.memory_desc.specs.LineText.{is_number, gap, tail}
-use Rattle.memory_desc.proofs.Behind.{Has, Passes, passes_to, run_is}
+use Rattle.memory_desc.specs.LineText.{is_number}
 use Rattle.memory_desc.proofs.ContentReads.{number_read}
 use Rattle.memory_desc.proofs.LineRefusals.{digits_plain}
-use Rattle.memory_desc.proofs.LineStops.{tail_stops, gap_stops}
 use Rattle.chip_desc.specs.Chips.{is_file}
 use Rattle.chip_desc.specs.ChipLines.{Content, version, name, budget, unit, kind_of, is_formed}
 use Rattle.chip_desc.specs.Heard.{behind_key, content_in, digits_in, said}
 use Rattle.chip_desc.specs.declared.line_place.Key.{Key}
 use Rattle.chip_desc.proofs.ContentLines.{argument_there, content_there}
 use Rattle.chip_desc.proofs.LineReads.{text_said}
+use Rattle.bist_text.specs.LineGrammar.{after, gap, tail}
+use Rattle.bist_text.proofs.Behind.{Has, Passes, passes_to, run_is}
+use Rattle.bist_text.proofs.LineStops.{tail_stops, gap_stops}
 
 -- ---- cursors
 

@@ -1,17 +1,13 @@
 -- The bytes of names of files.
-use Rattle.std.proofs.Common.{◌≡◌, ℕ, zero, suc, ◌-◌, ◌<◌, ◌≤◌, ◌==◌, ◌&&◌, Bool, true, false, not, cond, List, [], ◌∷◌, ◌∙◌, length, refl, sym, ap, subst, arith}
-use Rattle.std.proofs.lemmas.Bool.{eqb-true, and_parts, ltb-true, leb-true}
+use Rattle.std.proofs.Common.{◌≡◌, ℕ, zero, suc, ◌<◌, ◌≤◌, ◌==◌, ◌&&◌, true, not, List, [], ◌∷◌, length, refl, arith}
+use Rattle.std.proofs.lemmas.Bool.{and_parts, leb-true}
 use Rattle.std.proofs.lemmas.Bool.Decides.{nat_tests}
-use Rattle.std.proofs.lemmas.Nat.Bits.{bit_at-zero}
-use Rattle.std.specs.Prelude.{nat_lt, nat_le}
-use Rattle.std.specs.Int.{bit_at}
+use Rattle.std.specs.Prelude.{nat_le}
 use Rattle.std.specs.List.{list_all}
 use Rattle.std.specs.Str.{IsAscii}
-use Rattle.bist_text.specs.ByteSets.{in_set}
-use Rattle.memory_desc.proofs.Behind.{Has}
-use Rattle.memory_desc.proofs.LinePieces.{at_bool}
-use Rattle.memory_desc.proofs.LineRefusals.{IsPlain}
 use Rattle.chip_desc.specs.Chips.{is_file_byte, is_file}
+use Rattle.bist_text.proofs.Behind.{Has, Low, agree, set_has}
+use Rattle.bist_text.proofs.LineStops.{IsPlain}
 
 pub files_plain : IsPlain is_file_byte
 files_plain = record { space_no = refl; tab_no = refl; return_no = refl; hash_no = refl }
@@ -21,39 +17,12 @@ file_parts b h = let p = and_parts (list_all is_file_byte b) (nat_le 1 (length b
 
 -- ---- the set
 
-agree : (ℕ → Bool) → (ℕ → Bool) → ℕ → Bool
-agree p q zero = true
-agree p q (suc n) = cond (p n) (q n) (not (q n)) && agree p q n
-
-agree_at : (s t : Bool) → cond s t (not t) ≡ true → s ≡ t
-agree_at true true e = refl
-agree_at true false e = sym e
-agree_at false true e = e
-agree_at false false e = refl
-
-agrees : (p q : ℕ → Bool) (n k : ℕ) → agree p q n ≡ true → k < n → p k ≡ q k
-unfolding agree
-agrees p q zero k h l = absurd (omega arith)
-agrees p q (suc n) k h l =
-    let parts = and_parts (cond (p n) (q n) (not (q n))) (agree p q n) h in
-    at_bool (λ t. (k == n) ≡ t → p k ≡ q k) (k == n)
-    (λ e _. let same : k ≡ n = eqb-true k n e in subst (λ (x : ℕ). p x ≡ q x) (sym same) (agree_at (p n) (q n) parts.0))
-    (λ e _. agrees p q n k parts.1 (grind (arith, nat_tests))) refl
-
-file_low : (c : ℕ) → 128 ≤ c → is_file_byte c ≡ false
+file_low : Low is_file_byte
 file_low c h = grind (arith, nat_tests)
 
 pub files_have : Has (record { low = 170141183460469231731687303672934432768; high = 0 }) is_file_byte
 unfolding agree
-files_have c =
-    at_bool (λ t. nat_lt c 128 ≡ t → in_set (record { low = 170141183460469231731687303672934432768; high = 0 }) c ≡ is_file_byte c) (nat_lt c 128)
-    (λ e _. agrees (in_set (record { low = 170141183460469231731687303672934432768; high = 0 })) is_file_byte 128 c refl (ltb-true c 128 e))
-    (λ e _. (
-    let far : 128 ≤ c = grind (arith, nat_tests) in
-    let none : is_file_byte c ≡ false = file_low c far in
-    let off : in_set (record { low = 170141183460469231731687303672934432768; high = 0 }) c ≡ (bit_at 0 (c - 128) == 1) = ap (λ t. cond t (bit_at 170141183460469231731687303672934432768 c) (bit_at 0 (c - 128)) == 1) e in
-    off ∙ ap (λ x. x == 1) (bit_at-zero (c - 128)) ∙ sym none))
-    refl
+files_have = set_has 170141183460469231731687303672934432768 is_file_byte refl file_low
 
 -- ---- ASCII
 

@@ -13,21 +13,21 @@ use Rattle.bist_text.proofs.Bytes.{are_bytes-append}
 use Rattle.bist_text.proofs.KeywordLaws.{IsOf, is_at, is_passed, stands_all, first_law, spell_law, spell_ends, spell_alive}
 use Rattle.bist_text.proofs.Pieces.{also, stay, same, never}
 use Rattle.memory_desc.specs.Names.{is_letter, is_digit, is_name_byte}
-use Rattle.memory_desc.specs.LineText.{space, gap, tail}
-use Rattle.memory_desc.specs.LineRest.{Run}
-use Rattle.memory_desc.proofs.LinePieces.{at_bool, when_true, when_false, space_on, space_off, gap_on, gap_off, tail_blank, tail_other, tail_never, positive, run_on, run_off, run_none}
-use Rattle.memory_desc.proofs.LineRefusals.{digits_plain, names_plain, plain_blank, no_tail}
-use Rattle.memory_desc.proofs.LineStops.{Stops, gap_stops, tail_stops, run_stops, letters_plain}
+use Rattle.memory_desc.proofs.LineRefusals.{digits_plain, names_plain}
+use Rattle.memory_desc.proofs.LineStops.{letters_plain}
 use Rattle.chip_desc.specs.Chips.{is_file_byte}
 use Rattle.chip_desc.specs.ChipLines.{key_text}
 use Rattle.chip_desc.specs.ChipFaults.{may_stand}
-use Rattle.chip_desc.specs.LineMachine.{keys_in, keys_of, ended, argument_begun, number_ended, spelling, step, value, some, memory_left, march_left, name_left, behind_number, argument_left, Keyed, KindLine, rest}
+use Rattle.chip_desc.specs.LineMachine.{keys_in, keys_of, ended, argument_begun, number_ended, spelling, step, value, memory_left, march_left, name_left, behind_number, argument_left, Keyed, KindLine, rest}
 use Rattle.chip_desc.specs.declared.line_place.Key.{Key}
 use Rattle.chip_desc.specs.declared.line_place.Key.TheVariants.{Chip, Name, Budget, Unit as OfUnit}
 use Rattle.chip_desc.specs.declared.line_place.Place.{Place}
 use Rattle.chip_desc.specs.declared.line_place.Place.TheVariants.{Begin, Remark, Letters, Named, Wanted, Number, Name as InName, Weighed, March, Marched, Memory, End}
-use Rattle.chip_desc.proofs.ChipPieces.{many_on, many_off, some_on, some_off}
 use Rattle.chip_desc.proofs.FileBytes.{files_plain}
+use Rattle.bist_text.specs.LineGrammar.{space, gap, tail, Run, some}
+use Rattle.bist_text.proofs.LinePieces.{many_on, many_off, at_bool, when_true, when_false, space_on, space_off, gap_on, gap_off, tail_blank, tail_other, tail_never, positive, run_on, run_off, run_none}
+use Rattle.bist_text.proofs.LineStops.{plain_blank, no_tail, Stops, gap_stops, tail_stops, run_stops}
+use Rattle.bist_text.proofs.RunPieces.{some_on, some_off}
 
 abbrev pub Law : Place → ℕ → List ℕ → Option Key → Type 0
 Law p c b v = rest p (c ∷ b) v ↔ Holds (step p c) (λ t. rest t b v)

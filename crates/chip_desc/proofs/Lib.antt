@@ -1,4 +1,3 @@
-pub mod ChipPieces
 pub mod FileBytes
 pub mod KindLines
 pub mod ContentLines

@@ -3,12 +3,12 @@ use Rattle.std.specs.Prelude.{◌≡◌, ◌⊎◌, ◌==◌, ℕ, Bool, true, f
 use Rattle.std.specs.Str.Parse.{digits_value}
 use Rattle.bist_text.specs.Grammar.{IsUnexpected, IsTruncated}
 use Rattle.bist_text.specs.Lines.{TextLine}
-use Rattle.memory_desc.specs.LineText.{tail}
 use Rattle.chip_desc.specs.ChipLines.{Content, version, kind_of, ContentText, LineText}
 use Rattle.chip_desc.specs.declared.fault.ChipFault.{ChipFault}
 use Rattle.chip_desc.specs.declared.fault.ChipFault.TheVariants.{Unexpected, Truncated, OtherVersion}
 use Rattle.chip_desc.specs.declared.line_place.Key.{Key}
 use Rattle.chip_desc.specs.declared.line_place.Key.TheVariants.{Chip}
+use Rattle.bist_text.specs.LineGrammar.{tail}
 
 -- the kinds of content lines that may stand: a `chip` line alone before there was one, and behind it any
 abbrev pub may_stand : Bool → Key → Bool

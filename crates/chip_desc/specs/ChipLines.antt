@@ -4,10 +4,11 @@ use Rattle.std.specs.Str.Parse.{digits_value}
 use Rattle.bist_text.specs.Grammar.{word}
 use Rattle.bist_text.specs.Lines.{TextLine, text_lines}
 use Rattle.memory_desc.specs.Names.{is_identifier}
-use Rattle.memory_desc.specs.LineText.{is_number, space, gap, tail}
+use Rattle.memory_desc.specs.LineText.{is_number}
 use Rattle.chip_desc.specs.Chips.{is_file}
 use Rattle.chip_desc.specs.declared.line_place.Key.{Key}
 use Rattle.chip_desc.specs.declared.line_place.Key.TheVariants.{Chip, Name, Budget, Unit as OfUnit}
+use Rattle.bist_text.specs.LineGrammar.{space, gap, tail}
 
 -- what a content line says; numbers are kept as their digits
 pub data Content : Type 0 where

@@ -6,9 +6,7 @@ use Rattle.bist_text.specs.declared.text_lines.Line.{Line}
 use Rattle.bist_text.specs.Grammar.{is_blank}
 use Rattle.bist_text.specs.Lines.{TextLine, text_lines}
 use Rattle.bist_text.specs.Machine.{Outcome, read, unexpected, truncated, scan}
-use Rattle.memory_desc.specs.ContentParts.{after}
 use Rattle.memory_desc.specs.Names.{is_digit, is_name_byte}
-use Rattle.memory_desc.proofs.Behind.{is_small}
 use Rattle.chip_desc.specs.Chips.{ChipDescription, is_file_byte}
 use Rattle.chip_desc.specs.ChipLines.{Content, version, name, budget, unit, Statement, stated}
 use Rattle.chip_desc.specs.ChipTable.{refusal, described}
@@ -20,6 +18,8 @@ use Rattle.chip_desc.specs.declared.line_place.Key.TheVariants.{Chip, Name, Budg
 use Rattle.chip_desc.specs.declared.line_place.Place.TheVariants.{Begin}
 use Rattle.chip_desc.specs.declared.line_reader.LineFault.{LineFault}
 use Rattle.chip_desc.specs.declared.line_reader.LineFault.TheVariants.{Unexpected as UnexpectedByte, Truncated as TruncatedLine}
+use Rattle.bist_text.specs.LineGrammar.{after}
+use Rattle.bist_text.proofs.Behind.{is_small}
 
 -- ---- a line
 

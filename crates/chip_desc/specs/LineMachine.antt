@@ -5,8 +5,6 @@ use Rattle.bist_text.specs.declared.keywords.Spelled.TheVariants.{More, Whole}
 use Rattle.bist_text.specs.Grammar.{is_blank, many, word, when}
 use Rattle.bist_text.specs.Keywords.{Word, all_words, seek, spell, stands, letters_of}
 use Rattle.memory_desc.specs.Names.{is_letter, is_digit, is_name_byte}
-use Rattle.memory_desc.specs.LineText.{space, gap, tail}
-use Rattle.memory_desc.specs.LineRest.{Run}
 use Rattle.chip_desc.specs.Chips.{is_file_byte}
 use Rattle.chip_desc.specs.ChipLines.{key_text}
 use Rattle.chip_desc.specs.ChipFaults.{may_stand}
@@ -14,6 +12,7 @@ use Rattle.chip_desc.specs.declared.line_place.Key.{Key}
 use Rattle.chip_desc.specs.declared.line_place.Key.TheVariants.{Chip, Name, Budget, Unit as OfUnit}
 use Rattle.chip_desc.specs.declared.line_place.Place.{Place}
 use Rattle.chip_desc.specs.declared.line_place.Place.TheVariants.{Begin, Remark, Letters, Named, Wanted, Number, Name as InName, Weighed, March, Marched, Memory, End}
+use Rattle.bist_text.specs.LineGrammar.{some, space, gap, tail, Run}
 
 -- the first words that may stand
 abbrev pub keys_in : Bool → List Key
@@ -78,11 +77,6 @@ value Memory = Some (Some OfUnit)
 value (End key) = Some (Some key)
 
 -- ---- what may follow
-
--- one or more bytes of a class
-abbrev pub some : (ℕ → Bool) → (List ℕ → Type 0) → List ℕ → Type 0
-some p K [] = ⊥
-some p K (c ∷ b) = when (p c) (many p K b)
 
 abbrev pub memory_left : List ℕ → Type 0
 memory_left b = some is_file_byte tail b

@@ -43,7 +43,7 @@ pub enum Place {
 }
 
 /// The place behind one more byte; None where the line can't go on so.
-#[tactic(auto, using(memory_desc::proofs::Behind::blanks_have, memory_desc::proofs::Behind::names_have, crate::proofs::FileBytes::files_have))]
+#[tactic(auto, using(bist_text::proofs::Behind::blanks_have, memory_desc::proofs::Behind::names_have, crate::proofs::FileBytes::files_have))]
 pub fn place_after(place: Place, byte: u8) -> Option<Place>
     ensures { result ≡ step place byte }
 {
@@ -105,7 +105,7 @@ fn spelled(opened: bool, spelled: Option<Spelled<Key>>) -> Option<Place>
 }
 
 /// A byte before a line.
-#[tactic(auto, using(memory_desc::proofs::Behind::blanks_have))]
+#[tactic(auto, using(bist_text::proofs::Behind::blanks_have))]
 fn begun(opened: bool, byte: u8) -> Option<Place>
     ensures { result ≡ begun opened byte }
 {
@@ -132,7 +132,7 @@ fn argument(key: Key, byte: u8) -> Option<Place>
 }
 
 /// A byte behind the number of a line.
-#[tactic(auto, using(memory_desc::proofs::Behind::blanks_have))]
+#[tactic(auto, using(bist_text::proofs::Behind::blanks_have))]
 fn number_end(key: Key, byte: u8) -> Option<Place>
     ensures { result ≡ number_ended key byte }
 {
@@ -143,7 +143,7 @@ fn number_end(key: Key, byte: u8) -> Option<Place>
 }
 
 /// A byte behind the content of a line.
-#[tactic(auto, using(memory_desc::proofs::Behind::blanks_have))]
+#[tactic(auto, using(bist_text::proofs::Behind::blanks_have))]
 fn end(key: Key, byte: u8) -> Option<Place>
     ensures { result ≡ ended key byte }
 {

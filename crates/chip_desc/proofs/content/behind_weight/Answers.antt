@@ -1,7 +1,8 @@
-use Rattle.memory_desc.proofs.Behind.{blanks_have, digits_have}
+use Rattle.memory_desc.proofs.Behind.{digits_have}
 use Rattle.memory_desc.specs.Names.{is_digit}
 use Rattle.bist_text.specs.Grammar.{is_blank}
 use Rattle.chip_desc.proofs.Contents.{skipped}
+use Rattle.bist_text.proofs.Behind.{blanks_have}
 use Rattle.chip_desc.proofs.content.behind_weight.Goals as goal
 
 pub returns : goal.returns

@@ -1,8 +1,8 @@
 use Rattle.bist_text.specs.Grammar.{is_blank}
-use Rattle.memory_desc.proofs.Behind.{blanks_have}
 use Rattle.chip_desc.specs.Chips.{is_file_byte}
 use Rattle.chip_desc.proofs.Contents.{skipped, taken}
 use Rattle.chip_desc.proofs.FileBytes.{files_have}
+use Rattle.bist_text.proofs.Behind.{blanks_have}
 use Rattle.chip_desc.proofs.content.memory_of.Goals as goal
 
 pub returns : goal.returns

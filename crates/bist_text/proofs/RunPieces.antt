@@ -3,18 +3,10 @@ use Rattle.std.proofs.Common.{◌≡◌, ℕ, ◌≤◌, ◌==◌, Bool, true, f
 use Rattle.std.proofs.lemmas.Bool.{eqb-true, eq-eqb, and_parts, and_from}
 use Rattle.std.specs.List.{list_all}
 use Rattle.bist_text.specs.Grammar.{word, many, is_blank}
-use Rattle.bist_text.proofs.Pieces.{also, skip, stay}
-use Rattle.memory_desc.specs.LineText.{space, gap}
-use Rattle.memory_desc.proofs.LinePieces.{when_true, when_false, when_holds}
-use Rattle.chip_desc.specs.LineMachine.{some}
+use Rattle.bist_text.specs.LineGrammar.{space, gap, some}
+use Rattle.bist_text.proofs.LinePieces.{when_true, when_false, when_holds}
 
 -- ---- the next byte
-
-pub many_on : (p : ℕ → Bool) (K : List ℕ → Type 0) (c : ℕ) (b : List ℕ) → p c ≡ true → (K (c ∷ b) → ⊥) → many p K (c ∷ b) ↔ many p K b
-many_on p K c b e f = also (skip f) (when_true (p c) (many p K b) e)
-
-pub many_off : (p : ℕ → Bool) (K : List ℕ → Type 0) (c : ℕ) (b : List ℕ) → p c ≡ false → many p K (c ∷ b) ↔ K (c ∷ b)
-many_off p K c b e = stay (when_false (p c) (many p K b) e)
 
 pub some_on : (p : ℕ → Bool) (K : List ℕ → Type 0) (c : ℕ) (b : List ℕ) → p c ≡ true → some p K (c ∷ b) ↔ many p K b
 some_on p K c b e = when_true (p c) (many p K b) e
