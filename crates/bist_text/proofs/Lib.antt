@@ -10,3 +10,7 @@ pub mod Lexed
 pub mod Unique
 pub mod Settled
 pub mod KeywordLaws
+pub mod LinePieces
+pub mod LineStops
+pub mod RunPieces
+pub mod Behind

@@ -8,3 +8,4 @@ pub mod Lines
 pub mod ReservedWords
 pub mod Keywords
 pub mod Identifiers
+pub mod LineGrammar

@@ -27,3 +27,4 @@ pub mod Whole
 pub mod Wiring
 pub mod WrittenChip
 pub mod WrittenTop
+pub mod EndedFiles

@@ -7,6 +7,7 @@
 
 mod emit;
 mod expressions;
+mod file;
 mod generate;
 mod items;
 pub mod laws;
@@ -16,5 +17,6 @@ mod ports;
 mod top;
 
 pub use emit::emit_top;
+pub use file::end_chip;
 pub use generate::generate_top;
 pub use top::{Link, Placed, Top};

@@ -13,9 +13,9 @@ use Rattle.memory_desc.specs.Descriptions.{Description}
 use Rattle.memory_desc.specs.Names.{is_digit, is_letter, is_name_byte, is_identifier}
 use Rattle.memory_desc.specs.LineText.{Term, index_bit, constant, is_hex, is_term, term_text}
 use Rattle.memory_desc.specs.Printed.{joined, row_terms, row_line, row_lines, background_texts, backgrounds_line, number_line, name_line, size_lines, is_plain, version_text, polarity_line, port_lines, later_lines, head_lines, printed}
-use Rattle.memory_desc.proofs.LinePieces.{apart}
 use Rattle.memory_desc.proofs.BackDigits.{decimal_digits, hex_digits_hex}
 use Rattle.memory_desc.proofs.BackLines.{is_inside, with_feeds, with_feeds_more}
+use Rattle.bist_text.proofs.LinePieces.{apart}
 
 -- ---- no line feed
 

@@ -7,9 +7,10 @@ use Rattle.bist_text.specs.Grammar.{byte, word, is_blank}
 use Rattle.bist_text.specs.Numbers.{hex_digits}
 use Rattle.bist_text.proofs.Pieces.{many_none, word_on}
 use Rattle.memory_desc.specs.Names.{is_identifier}
-use Rattle.memory_desc.specs.LineText.{Term, Content, version, name, words, bits, latency, polarity, pause, scramble, backgrounds, is_word, is_term, is_formed, space, gap, tail, term_text, more_terms, equation, more_words, argument, key_text, kind_of, ContentText}
+use Rattle.memory_desc.specs.LineText.{Term, Content, version, name, words, bits, latency, polarity, pause, scramble, backgrounds, is_word, is_term, is_formed, term_text, more_terms, equation, more_words, argument, key_text, kind_of, ContentText}
 use Rattle.memory_desc.specs.Printed.{joined, background_texts}
 use Rattle.memory_desc.proofs.BackDigits.{decimal_number, hex_word}
+use Rattle.bist_text.specs.LineGrammar.{space, gap, tail}
 
 -- a word at a line's end
 word_last : (w : List ℕ) (K : List ℕ → Type 0) → K [] → word w K w

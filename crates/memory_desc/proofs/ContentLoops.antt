@@ -13,7 +13,7 @@ use Rattle.std.specs.Str.Parse.{digits_value}
 use Rattle.arrayvec.specs.ArrayVec.{ArrayVec}
 use Rattle.bist_text.specs.Cursors.{TextPlace, left_of}
 use Rattle.bist_text.specs.Grammar.{word, many, is_blank}
-use Rattle.memory_desc.specs.LineText.{Term, backgrounds, is_word, is_term, tail, equation, argument, more_words}
+use Rattle.memory_desc.specs.LineText.{Term, backgrounds, is_word, is_term, equation, argument, more_words}
 use Rattle.memory_desc.specs.LineRest.{words_left}
 use Rattle.memory_desc.specs.Standing.{highest_of, union_of, IsRow, AreWords}
 use Rattle.memory_desc.specs.Values.{index_bits, word_values}
@@ -21,6 +21,7 @@ use Rattle.memory_desc.specs.ContentParts.{IsTerm, terms_left, NextTerm, Gathers
 use Rattle.memory_desc.specs.declared.content.Row.{Row}
 use Rattle.memory_desc.specs.declared.content.Summand.{Summand}
 use Rattle.memory_desc.specs.declared.content.Words.{Words}
+use Rattle.bist_text.specs.LineGrammar.{tail}
 
 -- ---- rows
 

@@ -1,4 +1,3 @@
-pub mod LinePieces
 pub mod LineRefusals
 pub mod LineLaws
 pub mod LineStarts

@@ -7,7 +7,7 @@ use Rattle.memory_desc.specs.declared.line_place.Key.{Key}
 use Rattle.memory_desc.specs.declared.line_place.Key.TheVariants.{Memory}
 use Rattle.memory_desc.specs.declared.line_reader.LineFault.{LineFault}
 use Rattle.memory_desc.specs.declared.line_reader.LineFault.TheVariants.{Unexpected, Truncated}
-use Rattle.memory_desc.specs.LineText.{Content, version, kind_of, tail, ContentText, LineText}
+use Rattle.memory_desc.specs.LineText.{Content, version, kind_of, ContentText, LineText}
 use Rattle.memory_desc.specs.LineRest.{KindText, OpeningText}
 use Rattle.memory_desc.specs.LineAnswers.{refusal_at, IsReadBy, Opens, Checks}
 use Rattle.memory_desc.specs.LineFaults.{IsLineFault}
@@ -15,6 +15,7 @@ use Rattle.memory_desc.specs.Statements.{is_line_of, version_of, GivesVersion, I
 use Rattle.memory_desc.specs.declared.line_place.Version.{Version}
 use Rattle.memory_desc.specs.Standing.{digits_in}
 use Rattle.std.specs.Str.Parse.{digits_value}
+use Rattle.bist_text.specs.LineGrammar.{tail}
 
 -- ---- faults
 

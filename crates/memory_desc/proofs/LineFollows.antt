@@ -16,14 +16,15 @@ use Rattle.memory_desc.specs.declared.line_place.Version.{Version}
 use Rattle.memory_desc.specs.declared.line_place.Version.TheVariants.{One, Two}
 use Rattle.memory_desc.specs.declared.line_place.Place.{Place}
 use Rattle.memory_desc.specs.declared.line_place.Place.TheVariants.{Opening, Begin, Remark, Letters, Named, Wanted, Number, Name as InName, RowNumber, RowEnd, Term as AtTerm, TermNumber, TermEnd, LetterL, LetterO, Hex, HexEnd, End}
-use Rattle.memory_desc.specs.LineText.{Content, kind_of, in_table, space, gap, tail, argument, key_text}
+use Rattle.memory_desc.specs.LineText.{Content, kind_of, in_table, argument, key_text}
 use Rattle.memory_desc.specs.LinePlaces.{keys_in, keys_of, spelling, at_start, begun}
 use Rattle.memory_desc.specs.LineRest.{LineOf, Keyed, rest}
-use Rattle.memory_desc.proofs.LinePieces.{at_bool, when_true, space_on, space_off, tail_blank, tail_other, tail_never}
 use Rattle.memory_desc.proofs.LineLaws.{Law, second, ended_law, row_ended_law, term_ended_law, goes_number, goes_name, goes_row_number, goes_term_number, goes_hex, goes_letter_l, goes_letter_o, goes_named}
 use Rattle.memory_desc.proofs.LineStarts.{goes_hex_end, goes_term}
 use Rattle.memory_desc.proofs.LineStops.{first_stops}
 use Rattle.memory_desc.proofs.LineBegins.{goes_wanted}
+use Rattle.bist_text.specs.LineGrammar.{space, gap, tail}
+use Rattle.bist_text.proofs.LinePieces.{at_bool, when_true, space_on, space_off, tail_blank, tail_other, tail_never}
 
 -- ---- the words that may be first
 

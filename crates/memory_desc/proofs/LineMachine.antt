@@ -15,13 +15,14 @@ use Rattle.memory_desc.specs.declared.line_place.Key.{Key}
 use Rattle.memory_desc.specs.declared.line_place.Key.TheVariants.{Memory, Name, Words, Bits, Latency, Polarity, Pause, Scramble, Backgrounds}
 use Rattle.memory_desc.specs.declared.line_place.Place.{Place}
 use Rattle.memory_desc.specs.declared.line_place.Place.TheVariants.{Opening, Begin, Remark, Letters, Named, Wanted, Number, Name as InName, RowNumber, RowEnd, Term as AtTerm, TermNumber, TermEnd, LetterL, LetterO, Hex, HexEnd, End}
-use Rattle.memory_desc.specs.LineText.{Term, index_bit, constant, Content, version, name, words, bits, latency, polarity, pause, scramble, log, backgrounds, kind_of, in_table, is_hex, is_word, is_formed, space, gap, tail, term_text, more_terms, equation, more_words, argument, key_text}
+use Rattle.memory_desc.specs.LineText.{Term, index_bit, constant, Content, version, name, words, bits, latency, polarity, pause, scramble, log, backgrounds, kind_of, in_table, is_hex, is_word, is_formed, term_text, more_terms, equation, more_words, argument, key_text}
 use Rattle.memory_desc.specs.LinePlaces.{step, value, is_digit_of, most_digits, keys_of}
-use Rattle.memory_desc.specs.LineRest.{LineOf, Run, Terms, HexWords, rest}
-use Rattle.memory_desc.proofs.LinePieces.{at_bool, positive, when_true}
-use Rattle.memory_desc.proofs.LineStarts.{is_run, run_parts}
+use Rattle.memory_desc.specs.LineRest.{LineOf, Terms, HexWords, rest}
 use Rattle.memory_desc.proofs.LineBegins.{some_digits}
 use Rattle.memory_desc.proofs.LineFollows.{fine, memory_word, first_key, goes_at}
+use Rattle.bist_text.specs.LineGrammar.{space, gap, tail, Run}
+use Rattle.bist_text.proofs.LinePieces.{at_bool, positive, when_true}
+use Rattle.bist_text.proofs.LineStops.{is_run, run_parts}
 
 -- ---- where a line ends
 

@@ -1,7 +1,6 @@
 -- What may follow where a part of a line begins, by the next byte.
-use Rattle.std.proofs.Common.{◌≡◌, ℕ, ◌≤◌, ◌==◌, ◌&&◌, ◌||◌, Bool, true, false, if◌then◌else◌, List, [], ◌∷◌, length, Option, Some, None, refl, ◌↔◌, ap, ◌∙◌, arith}
-use Rattle.std.proofs.lemmas.Bool.{eqb-true, eq-eqb, and_parts, and_from, le-leb, leb-true}
-use Rattle.std.specs.Prelude.{nat_le}
+use Rattle.std.proofs.Common.{◌≡◌, ℕ, ◌==◌, ◌||◌, true, false, if◌then◌else◌, List, [], ◌∷◌, Option, Some, None, refl, ◌↔◌, arith}
+use Rattle.std.proofs.lemmas.Bool.{and_parts, and_from}
 use Rattle.std.specs.List.{list_all}
 use Rattle.bist_text.specs.Grammar.{word, is_blank}
 use Rattle.bist_text.specs.Machine.{Holds}
@@ -10,59 +9,16 @@ use Rattle.memory_desc.specs.Names.{is_digit}
 use Rattle.memory_desc.specs.declared.line_place.Key.{Key}
 use Rattle.memory_desc.specs.declared.line_place.Key.TheVariants.{Backgrounds}
 use Rattle.memory_desc.specs.declared.line_place.Place.TheVariants.{Remark, Term as AtTerm, TermNumber, TermEnd, Hex, HexEnd}
-use Rattle.memory_desc.specs.LineText.{Term, index_bit, constant, is_hex, is_word, is_term, space, tail, term_text, more_terms, more_words}
+use Rattle.memory_desc.specs.LineText.{Term, index_bit, constant, is_hex, is_word, is_term, term_text, more_terms, more_words}
 use Rattle.memory_desc.specs.LinePlaces.{word_ended}
-use Rattle.memory_desc.specs.LineRest.{Run, words_left, Terms, OneTerm, HexWords, rest}
-use Rattle.memory_desc.proofs.LinePieces.{at_bool, when_true, when_false, when_holds, apart, space_on, space_off, tail_blank, tail_other, tail_never}
-use Rattle.memory_desc.proofs.LineRefusals.{hex_plain, plain_blank, no_tail, blank_word}
+use Rattle.memory_desc.specs.LineRest.{words_left, Terms, OneTerm, HexWords, rest}
+use Rattle.memory_desc.proofs.LineRefusals.{hex_plain}
 use Rattle.memory_desc.proofs.LineLaws.{Law, second, hex_iff, not_both}
+use Rattle.bist_text.proofs.LineStops.{run_parts, run_of, run_begins, no_run, blank_run, plain_blank, no_tail}
+use Rattle.bist_text.specs.LineGrammar.{space, tail, Run}
+use Rattle.bist_text.proofs.LinePieces.{at_bool, when_true, when_false, when_holds, apart, space_on, space_off, tail_blank, tail_other, tail_never}
 
 -- ---- a run that begins
-
-abbrev pub is_run : (ℕ → Bool) → ℕ → List ℕ → Bool
-is_run p most ds = list_all p ds && nat_le 1 (length ds) && nat_le (length ds) most
-
-pub run_parts : (p : ℕ → Bool) (most : ℕ) (ds : List ℕ) → is_run p most ds ≡ true → (list_all p ds ≡ true) × (1 ≤ length ds) × (length ds ≤ most)
-run_parts p most ds h =
-    let outer = and_parts (list_all p ds && nat_le 1 (length ds)) (nat_le (length ds) most) h in
-    let inner = and_parts (list_all p ds) (nat_le 1 (length ds)) outer.0 in
-    (inner.0, leb-true 1 (length ds) inner.1, leb-true (length ds) most outer.1)
-
-pub run_of : (p : ℕ → Bool) (most : ℕ) (ds : List ℕ) → list_all p ds ≡ true → 1 ≤ length ds → length ds ≤ most → is_run p most ds ≡ true
-run_of p most ds a l m =
-    and_from (list_all p ds && nat_le 1 (length ds)) (nat_le (length ds) most)
-    (and_from (list_all p ds) (nat_le 1 (length ds)) a (le-leb 1 (length ds) l)) (le-leb (length ds) most m)
-
-pub run_begins : (p : ℕ → Bool) (most : ℕ) (K : List ℕ → Type 0) (c : ℕ) (b : List ℕ) → p c ≡ true → 1 ≤ most
-    → ((ds : List ℕ) × (is_run p most ds ≡ true) × word ds K (c ∷ b)) ↔ Run p most 1 K b
-run_begins p most K c b e m = (
-  λ h. to h.0 h.1 h.2,
-  λ h. (
-    c ∷ h.0,
-    run_of p most (c ∷ h.0) (and_from (p c) (list_all p h.0) e h.1) (omega arith) (let l = h.2 in omega arith),
-    (when_true (c == c) (word h.0 K b) (eq-eqb c c refl)).1 h.4,
-  ),
-)
-  where
-    to : (ds : List ℕ) → is_run p most ds ≡ true → word ds K (c ∷ b) → Run p most 1 K b
-    to [] r w = (let parts = run_parts p most [] r in let l = parts.1 in absurd (omega arith))
-    to (d ∷ ds) r w =
-        let parts = run_parts p most (d ∷ ds) r in
-        let l = parts.2 in
-        (ds, (and_parts (p d) (list_all p ds) parts.0).1, omega arith, omega arith, (when_holds (c == d) (word ds K b) w).1)
-
-pub no_run : (p : ℕ → Bool) (most : ℕ) (ds : List ℕ) (K : List ℕ → Type 0) (c : ℕ) (b : List ℕ) → p c ≡ false → is_run p most ds ≡ true → word ds K (c ∷ b) → ⊥
-no_run p most [] K c b e r w = (let parts = run_parts p most [] r in let l = parts.1 in absurd (omega arith))
-no_run p most (d ∷ ds) K c b e r w =
-    let same_byte : c ≡ d = eqb-true c d (when_holds (c == d) (word ds K b) w).0 in
-    let of_class : p c ≡ true = ap p same_byte ∙ (and_parts (p d) (list_all p ds) (run_parts p most (d ∷ ds) r).0).0 in
-    (let z : ⊥ = cc in z)
-
-pub blank_run : (p : ℕ → Bool) (most : ℕ) (ds : List ℕ) (K : List ℕ → Type 0) (c : ℕ) (b : List ℕ) → p 32 ≡ false → p 9 ≡ false → p 13 ≡ false
-    → is_run p most ds ≡ true → is_blank c ≡ true → word ds K (c ∷ b) → ⊥
-blank_run p most [] K c b x y z r e w = (let parts = run_parts p most [] r in let l = parts.1 in absurd (omega arith))
-blank_run p most (d ∷ ds) K c b x y z r e w =
-    blank_word p d ds K c b x y z (and_parts (p d) (list_all p ds) (run_parts p most (d ∷ ds) r).0).0 e w
 
 -- ---- a background
 

@@ -1,46 +1,15 @@
 -- Where pieces of a line can't begin.
-use Rattle.std.proofs.Common.{◌≡◌, ℕ, ◌≤◌, ◌==◌, ◌||◌, Bool, true, false, List, [], ◌∷◌, length, refl, inr, ap, arith}
-use Rattle.std.proofs.lemmas.Bool.{eqb-true, and_parts, and_from}
+use Rattle.std.proofs.Common.{◌≡◌, ℕ, ◌≤◌, ◌==◌, ◌||◌, Bool, true, false, List, [], ◌∷◌, length, refl, ap, arith}
+use Rattle.std.proofs.lemmas.Bool.{and_parts, and_from}
 use Rattle.std.specs.List.{list_all}
 use Rattle.bist_text.specs.Grammar.{word, is_blank}
 use Rattle.memory_desc.specs.Names.{is_digit, is_letter, is_name_byte, is_identifier}
 use Rattle.memory_desc.specs.declared.line_place.Key.{Key}
 use Rattle.memory_desc.specs.declared.line_place.Key.TheVariants.{Memory}
-use Rattle.memory_desc.specs.LineText.{Term, index_bit, constant, Content, version, name, words, bits, latency, polarity, pause, scramble, log, backgrounds, is_hex, is_word, is_number, is_formed, space, gap, comment, tail, term_text, equation, more_words, argument, key_text}
-use Rattle.memory_desc.proofs.LinePieces.{when_holds}
-use Rattle.memory_desc.proofs.LineRefusals.{IsPlain, digits_plain, hex_plain, names_plain, plain_blank, no_tail}
-use Rattle.memory_desc.proofs.LineStarts.{run_parts}
-
--- no text of K begins with a byte of the class
-abbrev pub Stops : (ℕ → Bool) → (List ℕ → Type 0) → Type 0
-Stops p K = (c : ℕ) (b : List ℕ) → p c ≡ true → K (c ∷ b) → ⊥
-
-pub word_stops : (p : ℕ → Bool) (d : ℕ) (w : List ℕ) (K : List ℕ → Type 0) → p d ≡ false → Stops p (word (d ∷ w) K)
-word_stops p d w K off c b on h =
-    let e : c ≡ d = eqb-true c d (when_holds (c == d) (word w K b) h).0 in
-    let k : p c ≡ p d = ap p e in
-    (let z : ⊥ = cc in z)
-
-pub comment_stops : (p : ℕ → Bool) → p 35 ≡ false → Stops p comment
-comment_stops p off c b on h = word_stops p 35 [] (λ _. Unit {0}) off c b on h
-
-pub gap_stops : (p : ℕ → Bool) (K : List ℕ → Type 0) → IsPlain p → Stops p (gap K)
-gap_stops p K off c b on h =
-    (let blank : is_blank c ≡ true = (when_holds (is_blank c) (space K b) h).0 in let other = plain_blank p c off on in let z : ⊥ = cc in z)
-
-pub tail_stops : (p : ℕ → Bool) → IsPlain p → Stops p tail
-tail_stops p off c b on h = no_tail p c b off on h
-
--- a run of a class that has no blanks begins with none
-pub run_stops : (p : ℕ → Bool) (w : List ℕ) (K : List ℕ → Type 0) → IsPlain p → list_all p w ≡ true → 1 ≤ length w
-    → Stops is_blank (word w K)
-run_stops p [] K off a l = absurd (omega arith)
-run_stops p (d ∷ w) K off a l = word_stops is_blank d w K (plain_blank p d off (and_parts (p d) (list_all p w) a).0)
-
--- a gap is space
-pub space_of_gap : (K : List ℕ → Type 0) (b : List ℕ) → gap K b → space K b
-space_of_gap K [] h = absurd h
-space_of_gap K (c ∷ b) h = inr h
+use Rattle.memory_desc.specs.LineText.{Term, index_bit, constant, Content, version, name, words, bits, latency, polarity, pause, scramble, log, backgrounds, is_hex, is_word, is_number, is_formed, term_text, equation, more_words, argument, key_text}
+use Rattle.memory_desc.proofs.LineRefusals.{digits_plain, hex_plain, names_plain}
+use Rattle.bist_text.proofs.LineStops.{Stops, word_stops, run_stops, IsPlain, run_parts}
+use Rattle.bist_text.specs.LineGrammar.{tail}
 
 pub term_stops : (t : Term) (K : List ℕ → Type 0) → Stops is_blank (word (term_text t) K)
 term_stops (index_bit ds) K = word_stops is_blank 112 ds K refl

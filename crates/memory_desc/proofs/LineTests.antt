@@ -19,9 +19,9 @@ use Rattle.memory_desc.specs.declared.content.Subject.{Subject}
 use Rattle.memory_desc.specs.declared.content.Subject.TheVariants.{Version, Name, Words, Bits, Latency, Polarity, Pause, Row, Backgrounds}
 use Rattle.memory_desc.specs.declared.content.Words.{Words as WordsRead}
 use Rattle.memory_desc.specs.declared.line_place.Key.TheVariants.{Backgrounds as BackgroundsKey}
-use Rattle.memory_desc.proofs.LinePieces.{at_bool}
 use Rattle.memory_desc.proofs.Stated.{has_digits}
 use Rattle.memory_desc.proofs.Repeats.{self_same}
+use Rattle.bist_text.proofs.LinePieces.{at_bool}
 
 -- ---- two subjects
 

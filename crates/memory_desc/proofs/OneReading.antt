@@ -8,13 +8,14 @@ use Rattle.bist_text.specs.Lines.{TextLine, text_lines}
 use Rattle.memory_desc.specs.Names.{is_digit, is_letter, is_name_byte}
 use Rattle.memory_desc.specs.declared.line_place.Key.{Key}
 use Rattle.memory_desc.specs.declared.line_place.Key.TheVariants.{Memory, Name, Words, Bits, Latency, Polarity, Pause, Scramble, Backgrounds}
-use Rattle.memory_desc.specs.LineText.{Term, index_bit, constant, Content, version, name, words, bits, latency, polarity, pause, scramble, log, backgrounds, kind_of, is_hex, is_word, is_number, is_term, is_formed, space, gap, comment, tail, term_text, more_terms, equation, more_words, argument, key_text, ContentText, LineText}
+use Rattle.memory_desc.specs.LineText.{Term, index_bit, constant, Content, version, name, words, bits, latency, polarity, pause, scramble, log, backgrounds, kind_of, is_hex, is_word, is_number, is_term, is_formed, term_text, more_terms, equation, more_words, argument, key_text, ContentText, LineText}
 use Rattle.memory_desc.specs.Statements.{Statement, stated, Say}
 use Rattle.memory_desc.specs.Table.{AreStatements}
-use Rattle.memory_desc.proofs.LinePieces.{when_holds}
 use Rattle.memory_desc.proofs.LineRefusals.{digits_plain, hex_plain, names_plain, no_more_terms, no_equation, no_more_words}
-use Rattle.memory_desc.proofs.LineStarts.{run_parts}
-use Rattle.memory_desc.proofs.LineStops.{Stops, word_stops, comment_stops, gap_stops, tail_stops, space_of_gap, term_stops, hex_stops, name_run, argument_stops, letters_plain, key_letters, first_stops}
+use Rattle.memory_desc.proofs.LineStops.{term_stops, hex_stops, name_run, argument_stops, letters_plain, key_letters, first_stops}
+use Rattle.bist_text.specs.LineGrammar.{space, gap, comment, tail}
+use Rattle.bist_text.proofs.LinePieces.{when_holds}
+use Rattle.bist_text.proofs.LineStops.{run_parts, Stops, word_stops, comment_stops, gap_stops, tail_stops, space_of_gap}
 
 -- ---- two readings of one text
 

@@ -1,8 +1,7 @@
 -- What the readers of the parts of a content line answer.
-use Rattle.std.specs.Prelude.{◌≡◌, ℕ, ◌<◌, ◌≤◌, Bool, not, if◌then◌else◌, List, [], ◌∷◌, ◌++◌, ◌+◌, ◌⊎◌, Option, Some, None, length, take, drop, bit_xor, bit_or, max}
-use Rattle.std.specs.List.{take_while}
+use Rattle.std.specs.Prelude.{◌≡◌, ℕ, ◌<◌, ◌≤◌, not, if◌then◌else◌, List, [], ◌∷◌, ◌++◌, ◌+◌, ◌⊎◌, Option, Some, None, length, take, bit_xor, bit_or, max}
 use Rattle.std.specs.Str.Parse.{digits_value}
-use Rattle.memory_desc.specs.LineText.{Term, index_bit, constant, tail, more_terms, equation}
+use Rattle.memory_desc.specs.LineText.{Term, index_bit, constant, more_terms, equation}
 use Rattle.memory_desc.specs.LineRest.{words_left}
 use Rattle.memory_desc.specs.Standing.{highest_of, union_of}
 use Rattle.memory_desc.specs.Values.{index_bits, constant_of, word_values}
@@ -10,10 +9,7 @@ use Rattle.memory_desc.specs.declared.content.Row.{Row}
 use Rattle.memory_desc.specs.declared.content.Summand.{Summand}
 use Rattle.memory_desc.specs.declared.content.Summand.TheVariants.{IndexBit, Constant}
 use Rattle.memory_desc.specs.declared.content.Words.{Words}
-
--- what stands behind the longest run of bytes of a class
-abbrev pub after : (ℕ → Bool) → List ℕ → List ℕ
-after p b = drop (length (take_while p b)) b
+use Rattle.bist_text.specs.LineGrammar.{tail}
 
 -- ---- rows
 

@@ -1,5 +1,5 @@
 -- For proofs and private contracts alone: what may still follow where a reader of a line stands, in the pieces of the grammar.
-use Rattle.std.specs.Prelude.{◌≡◌, ℕ, ◌+◌, ◌-◌, ◌≤◌, Bool, true, Option, Some, None, List, [], ◌∷◌, ◌++◌, ◌⊎◌, length, codes}
+use Rattle.std.specs.Prelude.{◌≡◌, ℕ, true, Option, Some, None, List, [], ◌∷◌, ◌++◌, ◌⊎◌, codes}
 use Rattle.std.specs.List.{list_all}
 use Rattle.bist_text.specs.Grammar.{word}
 use Rattle.bist_text.specs.Keywords.{stands, letters_of}
@@ -10,7 +10,8 @@ use Rattle.memory_desc.specs.declared.line_place.Version.{Version}
 use Rattle.memory_desc.specs.declared.line_place.Place.{Place}
 use Rattle.memory_desc.specs.declared.line_place.Place.TheVariants.{Opening, Begin, Remark, Letters, Named, Wanted, Number, Name as InName, RowNumber, RowEnd, Term as AtTerm, TermNumber, TermEnd, LetterL, LetterO, Hex, HexEnd, End}
 use Rattle.memory_desc.specs.LinePlaces.{is_digit_of, most_digits, keys_of}
-use Rattle.memory_desc.specs.LineText.{Term, Content, kind_of, in_table, is_hex, is_word, is_term, is_formed, space, gap, tail, term_text, more_terms, equation, more_words, argument, ContentText}
+use Rattle.memory_desc.specs.LineText.{Term, Content, kind_of, in_table, is_hex, is_word, is_term, is_formed, term_text, more_terms, equation, more_words, argument, ContentText}
+use Rattle.bist_text.specs.LineGrammar.{Run, space, gap, tail}
 
 -- a line without content, or a content line of a kind that is allowed
 abbrev pub LineOf : (Key → Type 0) → List ℕ → Option Key → Type 0
@@ -24,10 +25,6 @@ KindText version b v = LineOf (λ k. in_table version k ≡ true) b v
 -- a line that may only be a `memory` line
 abbrev pub OpeningText : List ℕ → Option Key → Type 0
 OpeningText b v = LineOf (λ k. k ≡ Memory) b v
-
--- more bytes of a class, of which n are read and there are 1 to `most`
-abbrev pub Run : (ℕ → Bool) → ℕ → ℕ → (List ℕ → Type 0) → List ℕ → Type 0
-Run p most n K b = (more : List ℕ) × (list_all p more ≡ true) × (length more ≤ most - n) × (1 ≤ n + length more) × word more K b
 
 -- any number of bytes of a class
 abbrev pub Names : (List ℕ → Type 0) → List ℕ → Type 0

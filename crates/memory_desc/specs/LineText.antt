@@ -1,12 +1,13 @@
 -- The grammar of one line of a memory description, without its line feed.
-use Rattle.std.specs.Prelude.{◌≡◌, ℕ, ◌==◌, ◌||◌, ◌&&◌, nat_le, Bool, true, false, Option, Some, None, List, [], ◌∷◌, length, codes}
+use Rattle.std.specs.Prelude.{◌≡◌, ℕ, ◌||◌, ◌&&◌, nat_le, Bool, true, false, Option, Some, None, List, [], ◌∷◌, length, codes}
 use Rattle.std.specs.List.{list_all}
-use Rattle.bist_text.specs.Grammar.{byte, word, many, when, is_blank}
+use Rattle.bist_text.specs.Grammar.{byte, word}
 use Rattle.memory_desc.specs.Names.{is_digit, is_identifier}
 use Rattle.memory_desc.specs.declared.line_place.Key.{Key}
 use Rattle.memory_desc.specs.declared.line_place.Key.TheVariants.{Memory, Name, Words, Bits, Latency, Polarity, Pause, Scramble, Backgrounds}
 use Rattle.memory_desc.specs.declared.line_place.Version.{Version}
 use Rattle.memory_desc.specs.declared.line_place.Version.TheVariants.{One, Two}
+use Rattle.bist_text.specs.LineGrammar.{space, gap, tail}
 
 -- a term of a scrambling row: an index bit, by its digits, or a constant
 pub data Term : Type 0 where
@@ -73,23 +74,6 @@ is_formed (pause ds) = is_number ds
 is_formed (scramble i ts) = is_number i && list_all is_term ts
 is_formed log = true
 is_formed (backgrounds ws) = list_all is_word ws
-
--- any number of blanks
-abbrev pub space : (List ℕ → Type 0) → List ℕ → Type 0
-space K = many is_blank K
-
--- at least one blank
-abbrev pub gap : (List ℕ → Type 0) → List ℕ → Type 0
-gap K [] = ⊥
-gap K (c ∷ b) = when (is_blank c) (space K b)
-
--- nothing, or a comment
-abbrev pub comment : List ℕ → Type 0
-comment [] = Unit {0}
-comment (c ∷ b) = when (c == 35) (Unit {0})
-
-abbrev pub tail : List ℕ → Type 0
-tail b = space comment b
 
 abbrev pub term_text : Term → List ℕ
 term_text (index_bit ds) = 112 ∷ ds

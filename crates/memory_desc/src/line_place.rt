@@ -71,7 +71,7 @@ fn is_digit_of(key: Key, count: u8, byte: u8) -> bool
 }
 
 /// The place behind one more byte; None where the line can't go on so.
-#[tactic(auto, using(crate::proofs::Behind::blanks_have, crate::proofs::Behind::names_have))]
+#[tactic(auto, using(bist_text::proofs::Behind::blanks_have, crate::proofs::Behind::names_have))]
 pub fn place_after(place: Place, byte: u8) -> Option<Place>
     ensures { result ≡ step place byte }
 {
@@ -200,7 +200,7 @@ fn at_start(version: Option<Version>) -> Place
 }
 
 /// A byte before a line.
-#[tactic(auto, using(crate::proofs::Behind::blanks_have))]
+#[tactic(auto, using(bist_text::proofs::Behind::blanks_have))]
 fn begun(version: Option<Version>, byte: u8) -> Option<Place>
     ensures { result ≡ begun version byte }
 {
@@ -231,7 +231,7 @@ fn argument(key: Key, byte: u8) -> Option<Place>
 }
 
 /// A byte behind the content of a line.
-#[tactic(auto, using(crate::proofs::Behind::blanks_have))]
+#[tactic(auto, using(bist_text::proofs::Behind::blanks_have))]
 fn end(key: Key, byte: u8) -> Option<Place>
     ensures { result ≡ ended key byte }
 {
@@ -245,7 +245,7 @@ fn end(key: Key, byte: u8) -> Option<Place>
 }
 
 /// A byte behind a row's number.
-#[tactic(auto, using(crate::proofs::Behind::blanks_have))]
+#[tactic(auto, using(bist_text::proofs::Behind::blanks_have))]
 fn row_end(byte: u8) -> Option<Place>
     ensures { result ≡ row_ended byte }
 {
@@ -259,7 +259,7 @@ fn row_end(byte: u8) -> Option<Place>
 }
 
 /// A byte behind a term.
-#[tactic(auto, using(crate::proofs::Behind::blanks_have))]
+#[tactic(auto, using(bist_text::proofs::Behind::blanks_have))]
 fn term_end(byte: u8) -> Option<Place>
     ensures { result ≡ term_ended byte }
 {
@@ -275,7 +275,7 @@ fn term_end(byte: u8) -> Option<Place>
 }
 
 /// A byte behind a background.
-#[tactic(auto, using(crate::proofs::Behind::blanks_have))]
+#[tactic(auto, using(bist_text::proofs::Behind::blanks_have))]
 fn word_end(byte: u8) -> Option<Place>
     ensures { result ≡ word_ended byte }
 {

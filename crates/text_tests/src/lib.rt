@@ -1,7 +1,9 @@
-//! Tests of the texts of marches, primitives, lists and memories, through public calls. The rows stand in statics, and
+//! Tests of the texts of marches, primitives, lists, memories and chips, through public calls. The rows stand in statics, and
 //! small functions walk them, since the proof of a long test costs more than theirs.
 #![tactic(auto)]
 
+#[cfg(test)]
+mod chip_texts;
 #[cfg(test)]
 mod dynamic_texts;
 #[cfg(test)]

@@ -3,8 +3,9 @@ use Rattle.std.proofs.Common.{◌∙◌}
 use Rattle.bist_text.specs.Cursors.{left_of}
 use Rattle.memory_desc.specs.Names.{is_name_byte}
 use Rattle.memory_desc.specs.LineText.{name}
-use Rattle.memory_desc.proofs.Behind.{run_is, names_have}
+use Rattle.memory_desc.proofs.Behind.{names_have}
 use Rattle.memory_desc.proofs.ContentReads.{name_said}
+use Rattle.bist_text.proofs.Behind.{run_is}
 use Rattle.memory_desc.proofs.content.name_of.Goals as goal
 
 pub returns : goal.returns

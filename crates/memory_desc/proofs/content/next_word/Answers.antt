@@ -2,8 +2,9 @@
 use Rattle.std.proofs.Common.{◌∙◌}
 use Rattle.bist_text.specs.Cursors.{left_of}
 use Rattle.memory_desc.specs.LineText.{is_hex}
-use Rattle.memory_desc.proofs.Behind.{passes_to, run_is, hex_have}
+use Rattle.memory_desc.proofs.Behind.{hex_have}
 use Rattle.memory_desc.proofs.ContentReads.{word_read}
+use Rattle.bist_text.proofs.Behind.{passes_to, run_is}
 use Rattle.memory_desc.proofs.content.next_word.Goals as goal
 
 pub returns-clause-word : goal.returns-clause-word

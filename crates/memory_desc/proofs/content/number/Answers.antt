@@ -4,8 +4,9 @@ use Rattle.std.specs.Str.Parse.{digits_value}
 use Rattle.bist_text.specs.Cursors.{left_of}
 use Rattle.bist_text.specs.Numbers.{IsNumber}
 use Rattle.memory_desc.specs.Names.{is_digit}
-use Rattle.memory_desc.proofs.Behind.{passes_to, run_is, digits_have}
+use Rattle.memory_desc.proofs.Behind.{digits_have}
 use Rattle.memory_desc.proofs.ContentReads.{some_value}
+use Rattle.bist_text.proofs.Behind.{passes_to, run_is}
 use Rattle.memory_desc.proofs.content.number.Goals as goal
 
 pub returns-clause-left : goal.returns-clause-left

@@ -2,8 +2,9 @@
 use Rattle.std.proofs.Common.{◌∙◌}
 use Rattle.bist_text.specs.Cursors.{left_of}
 use Rattle.memory_desc.specs.LineText.{polarity, is_hex}
-use Rattle.memory_desc.proofs.Behind.{run_is, hex_have}
+use Rattle.memory_desc.proofs.Behind.{hex_have}
 use Rattle.memory_desc.proofs.ContentReads.{polarity_read}
+use Rattle.bist_text.proofs.Behind.{run_is}
 use Rattle.memory_desc.proofs.content.polarity_of.Goals as goal
 
 pub returns : goal.returns

@@ -3,10 +3,9 @@ use Rattle.std.proofs.Common.{◌≡◌, ℕ, zero, suc, ◌+◌, ◌-◌, ◌<�
 use Rattle.std.proofs.lemmas.Bool.{eqb-true, eq-eqb, and_parts, and_from, lt-ltb, ltb-true}
 use Rattle.std.specs.Prelude.{nat_lt}
 use Rattle.std.specs.List.{list_all}
-use Rattle.bist_text.specs.Grammar.{word, when, is_blank}
+use Rattle.bist_text.specs.Grammar.{word, many, when, is_blank}
 use Rattle.bist_text.proofs.Pieces.{at_byte, also, skip, stay, same}
-use Rattle.memory_desc.specs.LineText.{space, gap, comment, tail}
-use Rattle.memory_desc.specs.LineRest.{Run}
+use Rattle.bist_text.specs.LineGrammar.{space, gap, comment, tail, Run}
 
 -- ---- tests
 
@@ -35,13 +34,21 @@ pub of_blank : (P : ℕ → Type 0) (c : ℕ) → is_blank c ≡ true → P 32 �
 of_blank P c h p q r =
     at_byte P c 32 p (λ n32. at_byte P c 9 q (λ n9. at_byte P c 13 r (λ n13. (let z : is_blank c ≡ false = simp (n32, n9, n13) in let y : ⊥ = cc in absurd y))))
 
+-- ---- any number of bytes of a class
+
+pub many_on : (p : ℕ → Bool) (K : List ℕ → Type 0) (c : ℕ) (b : List ℕ) → p c ≡ true → (K (c ∷ b) → ⊥) → many p K (c ∷ b) ↔ many p K b
+many_on p K c b e f = also (skip f) (when_true (p c) (many p K b) e)
+
+pub many_off : (p : ℕ → Bool) (K : List ℕ → Type 0) (c : ℕ) (b : List ℕ) → p c ≡ false → many p K (c ∷ b) ↔ K (c ∷ b)
+many_off p K c b e = stay (when_false (p c) (many p K b) e)
+
 -- ---- blanks
 
 pub space_on : (K : List ℕ → Type 0) (c : ℕ) (b : List ℕ) → is_blank c ≡ true → (K (c ∷ b) → ⊥) → space K (c ∷ b) ↔ space K b
-space_on K c b e f = also (skip f) (when_true (is_blank c) (space K b) e)
+space_on = many_on is_blank
 
 pub space_off : (K : List ℕ → Type 0) (c : ℕ) (b : List ℕ) → is_blank c ≡ false → space K (c ∷ b) ↔ K (c ∷ b)
-space_off K c b e = stay (when_false (is_blank c) (space K b) e)
+space_off = many_off is_blank
 
 pub gap_on : (K : List ℕ → Type 0) (c : ℕ) (b : List ℕ) → is_blank c ≡ true → gap K (c ∷ b) ↔ space K b
 gap_on K c b e = when_true (is_blank c) (space K b) e

@@ -1,0 +1,34 @@
+-- The pieces of a line: blanks, a comment at its end, and runs of bytes of a class.
+use Rattle.std.specs.Prelude.{◌≡◌, ℕ, ◌==◌, Bool, true, List, [], ◌∷◌, length, ◌+◌, ◌-◌, ◌≤◌, drop}
+use Rattle.std.specs.List.{list_all, take_while}
+use Rattle.bist_text.specs.Grammar.{word, many, when, is_blank}
+
+-- any number of blanks
+abbrev pub space : (List ℕ → Type 0) → List ℕ → Type 0
+space K = many is_blank K
+
+-- at least one blank
+abbrev pub gap : (List ℕ → Type 0) → List ℕ → Type 0
+gap K [] = ⊥
+gap K (c ∷ b) = when (is_blank c) (space K b)
+
+-- nothing, or a comment
+abbrev pub comment : List ℕ → Type 0
+comment [] = Unit {0}
+comment (c ∷ b) = when (c == 35) (Unit {0})
+
+abbrev pub tail : List ℕ → Type 0
+tail b = space comment b
+
+-- more bytes of a class, of which n are read and there are 1 to `most`
+abbrev pub Run : (ℕ → Bool) → ℕ → ℕ → (List ℕ → Type 0) → List ℕ → Type 0
+Run p most n K b = (more : List ℕ) × (list_all p more ≡ true) × (length more ≤ most - n) × (1 ≤ n + length more) × word more K b
+
+-- one or more bytes of a class
+abbrev pub some : (ℕ → Bool) → (List ℕ → Type 0) → List ℕ → Type 0
+some p K [] = ⊥
+some p K (c ∷ b) = when (p c) (many p K b)
+
+-- what stands behind the longest run of bytes of a class
+abbrev pub after : (ℕ → Bool) → List ℕ → List ℕ
+after p b = drop (length (take_while p b)) b

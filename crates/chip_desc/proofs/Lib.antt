@@ -1,0 +1,10 @@
+pub mod FileBytes
+pub mod KindLines
+pub mod ContentLines
+pub mod LineReads
+pub mod OneText
+pub mod Contents
+pub mod Searching
+pub mod LineChecking
+pub mod UnitLines
+pub mod Described

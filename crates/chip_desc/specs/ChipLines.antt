@@ -1,0 +1,83 @@
+-- The lines of a chip file, and what they say. Blanks, comments, numbers and names are those of memory descriptions.
+use Rattle.std.specs.Prelude.{◌≡◌, ℕ, ◌==◌, ◌&&◌, Bool, true, false, Option, Some, None, List, [], ◌∷◌, ◌++◌, codes}
+use Rattle.std.specs.Str.Parse.{digits_value}
+use Rattle.bist_text.specs.Grammar.{word}
+use Rattle.bist_text.specs.Lines.{TextLine, text_lines}
+use Rattle.memory_desc.specs.Names.{is_identifier}
+use Rattle.memory_desc.specs.LineText.{is_number}
+use Rattle.chip_desc.specs.Chips.{is_file}
+use Rattle.chip_desc.specs.declared.line_place.Key.{Key}
+use Rattle.chip_desc.specs.declared.line_place.Key.TheVariants.{Chip, Name, Budget, Unit as OfUnit}
+use Rattle.bist_text.specs.LineGrammar.{space, gap, tail}
+
+-- what a content line says; numbers are kept as their digits
+pub data Content : Type 0 where
+  version : List ℕ → Content
+  name : List ℕ → Content
+  budget : List ℕ → Content
+  unit : List ℕ → List ℕ → List ℕ → Content
+
+abbrev pub kind_of : Content → Key
+kind_of (version ds) = Chip
+kind_of (name b) = Name
+kind_of (budget ds) = Budget
+kind_of (unit ds march memory) = OfUnit
+
+-- the digits are digits, a name is an identifier, and files have names
+abbrev pub is_formed : Content → Bool
+is_formed (version ds) = is_number ds
+is_formed (name b) = is_identifier b
+is_formed (budget ds) = is_number ds
+is_formed (unit ds march memory) = is_number ds && is_file march && is_file memory
+
+-- what stands behind a line's first word
+abbrev pub argument : Content → (List ℕ → Type 0) → List ℕ → Type 0
+argument (version ds) K b = word ds K b
+argument (name n) K b = word n K b
+argument (budget ds) K b = word ds K b
+argument (unit ds march memory) K b = word ds (gap (word march (gap (word memory K)))) b
+
+abbrev pub key_text : Key → List ℕ
+key_text Chip = codes "chip"
+key_text Name = codes "name"
+key_text Budget = codes "budget"
+key_text OfUnit = codes "unit"
+
+-- A content line.
+abbrev pub ContentText : List ℕ → Content → Type 0
+ContentText b c = (is_formed c ≡ true) × space (word (key_text (kind_of c)) (gap (argument c tail))) b
+
+-- A line: blanks and a comment alone, or a content line.
+abbrev pub LineText : List ℕ → Option Content → Type 0
+LineText b None = tail b
+LineText b (Some c) = ContentText b c
+
+-- ---- what the lines say
+
+-- a content line: its number, and what it says
+pub record Statement : Type 0 where
+  pub line : ℕ
+  pub content : Content
+
+abbrev pub stated : ℕ → Option Content → List Statement
+stated number None = []
+stated number (Some c) = (record { line = number; content = c }) ∷ []
+
+-- each of the lines is one of a chip file, and these are their statements, in their order
+abbrev pub Say : List TextLine → List Statement → Type 0
+Say [] ss = ss ≡ []
+Say (l ∷ ls) ss = (v : Option Content) × (more : List Statement) × LineText l.text v × Say ls more × (ss ≡ stated l.number v ++ more)
+
+-- the version is 1
+abbrev pub is_version_one : Content → Bool
+is_version_one (version ds) = digits_value 10 ds == 1
+is_version_one c = false
+
+-- the first statement gives the version 1
+abbrev pub are_of_version_one : List Statement → Bool
+are_of_version_one [] = false
+are_of_version_one (s ∷ ss) = is_version_one s.content
+
+-- The statements of a text's lines, of which the first gives the version 1.
+abbrev pub AreStatements : List ℕ → List Statement → Type 0
+AreStatements bytes ss = Say (text_lines bytes) ss × (are_of_version_one ss ≡ true)

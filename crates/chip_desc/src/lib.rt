@@ -1,0 +1,17 @@
+//! Chip files: which memories are tested on one chip, each by which march, and within which budget.
+#![tactic(auto)]
+
+mod byte_sets;
+mod chip;
+mod content;
+mod fault;
+mod line_place;
+mod line_reader;
+mod lines;
+mod read;
+mod search;
+mod units;
+
+pub use chip::{ChipDesc, ChipUnit};
+pub use fault::{ChipFault, ChipField};
+pub use read::read_chip;

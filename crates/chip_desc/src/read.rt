@@ -1,0 +1,60 @@
+//! The reader of chip files.
+
+ghost use Rattle.std.specs.Prelude.{◌≡◌, ◌↔◌, ◌≤◌, ◌<◌, ◌^◌, ℕ, List, None, Ok, Err, Result, length};
+ghost use Rattle.bist_text.specs.Lines.{text_lines};
+ghost use Rattle.memory_desc.specs.Names.{IsName};
+ghost use Rattle.chip_desc.specs.Chips.{ChipDescription, IsChip};
+ghost use Rattle.chip_desc.specs.ChipTable.{Reads, refusal, described};
+ghost use Rattle.chip_desc.specs.Heard.{by_statements, statements, reading};
+ghost use Rattle.chip_desc.specs.declared.fault.ChipFault.{ChipFault};
+
+use crate::chip::ChipDesc;
+use crate::content::{name_of, number_of};
+use crate::fault::{ChipFault, ChipField};
+use crate::line_place::Key;
+use crate::lines::check_lines;
+use crate::search::{check_ranges, check_repeats, check_weights, field};
+use crate::units::units_of;
+use arrayvec::ArrayString;
+use std::str;
+
+/// The text of a name.
+fn name_from(bytes: &[u8]) -> ArrayString<48>
+    requires { IsName bytes.now }
+    ensures { result.bytes ≡ bytes.now }
+{
+    let Ok(text) = str::from_utf8(bytes) else {
+        unreachable!()
+    };
+    ArrayString::from(text).unwrap()
+}
+
+/// The chip that the statements of a text describe.
+fn described(bytes: &[u8]) -> Result<ChipDesc, ChipFault>
+    ensures { result ≡ by_statements (refusal (statements (text_lines bytes.now))) (statements (text_lines bytes.now)) }
+{
+    check_repeats(bytes)?;
+    let name_line = field(bytes, Key::Name, ChipField::Name)?;
+    let budget_line = field(bytes, Key::Budget, ChipField::Budget)?;
+    field(bytes, Key::Unit, ChipField::Unit)?;
+    check_ranges(bytes)?;
+    let units = units_of(bytes)?;
+    let budget = number_of(budget_line.text);
+    check_weights(bytes, budget)?;
+    Ok(ChipDesc::new(name_from(name_of(name_line.text)), budget, units))
+}
+
+/// Reads a chip file. The first refusal decides, in the order of the table. It takes no memory.
+pub fn read_chip(bytes: &[u8]) -> Result<ChipDesc, ChipFault>
+    // What is read is the chip that the text's statements describe, and each text that describes one is read as it.
+    ensures ok { (d : ChipDescription) → (result ≡ Ok d) ↔ Reads bytes.now (Ok d) }
+
+    // C1 to C7 and C9, exactly where they come.
+    ensures refused { (fault : ChipFault) → (result ≡ Err fault) ↔ Reads bytes.now (Err fault) }
+
+    // A text is read in one way.
+    ensures one_reading { (q r : Result ChipDescription ChipFault) → Reads bytes.now q → Reads bytes.now r → q ≡ r }
+{
+    check_lines(bytes)?;
+    described(bytes)
+}
