@@ -7,7 +7,7 @@ use Rattle.memory_desc.specs.Descriptions.{Description}
 use Rattle.port_check.specs.declared.answer.CheckFault.{CheckFault}
 use Rattle.port_check.specs.declared.answer.PortAnswer.{PortAnswer}
 use Rattle.port_check.specs.Answers.{IsAnswer}
-use Rattle.port_check.specs.Refusals.{Passes, Refuses}
+use Rattle.port_check.specs.Refusals.{Refuses}
 use Rattle.bist_endings.specs.declared.ending.Refusal.{Refusal}
 use Rattle.bist_endings.specs.declared.ending.VerilogRefusal.{VerilogRefusal}
 use Rattle.bist_endings.specs.declared.ending.Plan.{Plan}
@@ -16,18 +16,18 @@ use Rattle.bist_app.specs.Vectors.{FitsLength}
 use Rattle.bist_app.specs.BenchFile.{HasPorts}
 use Rattle.bist_app.specs.Check.{LeavesCheck, ChecksRun, check_done}
 
-answered : (mo : ModuleTree) (march : List MarchElement) (d : Description) (answer : PortAnswer) (done : Done) → Passes march d mo.ports
+answered : (mo : ModuleTree) (march : List MarchElement) (d : Description) (answer : PortAnswer) (done : Done) → Refuses march d mo.ports None
     → IsAnswer mo march d answer → done ≡ check_done answer → ChecksRun mo march d (Ok done)
 unfolding FitsLength HasPorts LeavesCheck
-answered mo march d answer done passes is same = (Ok tt, passes.short, (Ok tt, passes.ports_are, record { answer = answer; is_answer = is; done_is = same }))
+answered mo march d answer done passes is same = (Ok tt, passes.0, (Ok tt, passes.1, record { answer = answer; is_answer = is; done_is = same }))
 
-pub wanting : (mo : ModuleTree) (march : List MarchElement) (d : Description) → Passes march d mo.ports → ChecksRun mo march d (Err Refusal.NoMemory)
+pub wanting : (mo : ModuleTree) (march : List MarchElement) (d : Description) → Refuses march d mo.ports None → ChecksRun mo march d (Err Refusal.NoMemory)
 unfolding FitsLength HasPorts LeavesCheck
-wanting mo march d passes = (Ok tt, passes.short, (Ok tt, passes.ports_are, tt))
+wanting mo march d passes = (Ok tt, passes.0, (Ok tt, passes.1, tt))
 
 pub too_long : (mo : ModuleTree) (march : List MarchElement) (d : Description) (number : ℕ) → Refuses march d mo.ports (Some (CheckFault.TooLong number)) → ChecksRun mo march d (Err (Refusal.TooLong number))
 unfolding FitsLength
-too_long mo march d number h = (Err (Refusal.TooLong number), (h.1, h.0), refl)
+too_long mo march d number h = (Err (Refusal.TooLong number), h, refl)
 
 pub wrong_ports : (mo : ModuleTree) (march : List MarchElement) (d : Description) (name : ArrayString) → Refuses march d mo.ports (Some (CheckFault.WrongPorts name))
     → ChecksRun mo march d (Err (Refusal.Verilog (VerilogRefusal.WrongPort name)))
@@ -35,7 +35,7 @@ unfolding FitsLength HasPorts
 wrong_ports mo march d name h = (Ok tt, h.0, (Err (Refusal.Verilog (VerilogRefusal.WrongPort name)), h.1, refl))
 
 -- the plan of an answer, or want of memory
-pub planned : (mo : ModuleTree) (march : List MarchElement) (d : Description) (answer : PortAnswer) (r : Result Plan Refusal) → Passes march d mo.ports → IsAnswer mo march d answer
+pub planned : (mo : ModuleTree) (march : List MarchElement) (d : Description) (answer : PortAnswer) (r : Result Plan Refusal) → Refuses march d mo.ports None → IsAnswer mo march d answer
     → IfOk r (λ plan. done_of plan ≡ check_done answer) → IfErr r (λ refusal. refusal ≡ Refusal.NoMemory) → ChecksRun mo march d (plain r)
 planned mo march d answer (Ok plan) passes is done wants = answered mo march d answer (done_of plan) passes is done
 planned mo march d answer (Err refusal) passes is done wants = subst (λ (e : Refusal). ChecksRun mo march d (Err e)) (sym wants) (wanting mo march d passes)
