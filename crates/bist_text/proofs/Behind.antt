@@ -12,7 +12,7 @@ use Rattle.bist_text.specs.ByteSets.{in_set}
 use Rattle.bist_text.specs.declared.byte_set.ByteSet.{ByteSet}
 use Rattle.bist_text.specs.Cursors.{TextPlace, left_of}
 use Rattle.bist_text.specs.Grammar.{word, many, is_blank}
-use Rattle.bist_text.specs.LineGrammar.{after}
+use Rattle.bist_text.specs.LineGrammar.{after, is_small}
 use Rattle.bist_text.proofs.LinePieces.{at_bool, when_true, when_false, when_holds}
 use Rattle.bist_text.proofs.LineStops.{Stops}
 
@@ -91,10 +91,6 @@ set_has low p h f c =
 
 blank_low : Low is_blank
 blank_low c h = grind (arith, nat_tests)
-
--- a letter of a first word
-abbrev pub is_small : ℕ → Bool
-is_small c = nat_le 97 c && nat_le c 122
 
 small_low : Low is_small
 small_low c h = grind (arith, nat_tests)

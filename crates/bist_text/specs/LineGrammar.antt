@@ -1,5 +1,5 @@
 -- The pieces of a line: blanks, a comment at its end, and runs of bytes of a class.
-use Rattle.std.specs.Prelude.{◌≡◌, ℕ, ◌==◌, Bool, true, List, [], ◌∷◌, length, ◌+◌, ◌-◌, ◌≤◌, drop}
+use Rattle.std.specs.Prelude.{◌≡◌, ℕ, ◌==◌, ◌&&◌, nat_le, Bool, true, List, [], ◌∷◌, length, ◌+◌, ◌-◌, ◌≤◌, drop}
 use Rattle.std.specs.List.{list_all, take_while}
 use Rattle.bist_text.specs.Grammar.{word, many, when, is_blank}
 
@@ -32,3 +32,7 @@ some p K (c ∷ b) = when (p c) (many p K b)
 -- what stands behind the longest run of bytes of a class
 abbrev pub after : (ℕ → Bool) → List ℕ → List ℕ
 after p b = drop (length (take_while p b)) b
+
+-- a letter in lower case
+abbrev pub is_small : ℕ → Bool
+is_small c = nat_le 97 c && nat_le c 122

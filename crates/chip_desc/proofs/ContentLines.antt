@@ -17,8 +17,8 @@ use Rattle.chip_desc.specs.declared.line_place.Key.{Key}
 use Rattle.chip_desc.specs.declared.line_place.Key.TheVariants.{Chip, Name, Budget, Unit as OfUnit}
 use Rattle.chip_desc.proofs.FileBytes.{files_plain, file_parts}
 use Rattle.chip_desc.proofs.KindLines.{first_stops}
-use Rattle.bist_text.specs.LineGrammar.{after, space, gap, tail, Run}
-use Rattle.bist_text.proofs.Behind.{is_small, many_after, word_run}
+use Rattle.bist_text.specs.LineGrammar.{after, space, gap, tail, Run, is_small}
+use Rattle.bist_text.proofs.Behind.{many_after, word_run}
 use Rattle.bist_text.proofs.LinePieces.{when_true, when_holds}
 use Rattle.bist_text.proofs.LineStops.{IsPlain, run_parts, run_of, Stops, gap_stops, tail_stops, run_stops, space_of_gap}
 use Rattle.bist_text.proofs.RunPieces.{many_map, gap_map, word_map, many_pull, gap_pull, word_pull, word_many, word_some, many_word, some_word}

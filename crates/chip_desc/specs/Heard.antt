@@ -18,8 +18,7 @@ use Rattle.chip_desc.specs.declared.line_place.Key.TheVariants.{Chip, Name, Budg
 use Rattle.chip_desc.specs.declared.line_place.Place.TheVariants.{Begin}
 use Rattle.chip_desc.specs.declared.line_reader.LineFault.{LineFault}
 use Rattle.chip_desc.specs.declared.line_reader.LineFault.TheVariants.{Unexpected as UnexpectedByte, Truncated as TruncatedLine}
-use Rattle.bist_text.specs.LineGrammar.{after}
-use Rattle.bist_text.proofs.Behind.{is_small}
+use Rattle.bist_text.specs.LineGrammar.{after, is_small}
 
 -- ---- a line
 
