@@ -1,4 +1,4 @@
--- When a march detects a primitive: at one size, and at every size.
+-- Trusted. When a march detects a primitive: at one size, and at every size.
 use Rattle.std.specs.Prelude.{◌≡◌, ◌≤◌, ℕ, Bool, IsTrue, List, length}
 use Rattle.fault_core.specs.declared.cells.Places.{Places}
 use Rattle.fault_core.specs.Primitive.{Primitive}

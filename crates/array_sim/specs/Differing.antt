@@ -1,4 +1,4 @@
--- Which visit of a run differs first: for any state, and then for an array with an instance of a primitive.
+-- Trusted. Which visit of a run differs first: for any state, and then for an array with an instance of a primitive.
 use Rattle.std.specs.Prelude.{◌≡◌, Bool, true, List, [], ◌∷◌, ◌++◌}
 use Rattle.fault_core.specs.declared.cells.Places.{Places}
 use Rattle.fault_core.specs.Primitive.{Primitive}

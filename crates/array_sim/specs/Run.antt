@@ -1,4 +1,4 @@
--- A run of the steps of a march on an array with one instance of a primitive.
+-- Trusted. A run of the steps of a march on an array with one instance of a primitive.
 use Rattle.std.specs.Prelude.{Bool, true, false, if◌then◌else◌, Option, Some, None, List, [], ◌∷◌, length}
 use Rattle.fault_core.specs.declared.primitive.Act.{Act}
 use Rattle.fault_core.specs.declared.primitive.Act.TheVariants.{Write, Read}

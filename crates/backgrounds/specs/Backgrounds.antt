@@ -1,4 +1,4 @@
--- Data backgrounds: the words that a march writes for its two data values.
+-- Trusted. Data backgrounds: the words that a march writes for its two data values.
 use Rattle.std.specs.Prelude.{◌≡◌, ◌≢◌, ℕ, ◌+◌, ◌-◌, ◌^◌, ◌<◌, ◌≤◌, Bool, true, false, List, length, slice_index}
 use Rattle.std.specs.Int.{bit_at}
 

@@ -1,4 +1,4 @@
--- What a bench run sees: how it ends, and the first read that is answered wrong.
+-- Trusted. What a bench run sees: how it ends, and the first read that is answered wrong.
 use Rattle.std.specs.Prelude.{◌≡◌, ◌+◌, ℕ, Bool, List, length, Option, Some, None, map, slice_get}
 use Rattle.verilog_tree.specs.Plain.{ModuleTree}
 use Rattle.verilog_tree.specs.Meaning.{Env}

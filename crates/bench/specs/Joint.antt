@@ -1,4 +1,4 @@
--- A module and a boxed memory, cycle by cycle: the outputs of a cycle command the box, and its answer stands on `rdata` in the next.
+-- Trusted. A module and a boxed memory, cycle by cycle: the outputs of a cycle command the box, and its answer stands on `rdata` in the next.
 use Rattle.std.specs.Prelude.{◌≡◌, ◌%◌, ◌^◌, ◌+◌, ℕ, zero, suc, Bool, false, if◌then◌else◌, List, [], ◌∷◌, Option, Some, None, codes}
 use Rattle.verilog_tree.specs.Plain.{ModuleTree}
 use Rattle.verilog_tree.specs.Meaning.{Env, Settles, next}

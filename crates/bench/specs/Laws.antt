@@ -1,4 +1,4 @@
--- What a run of a self-test ends with, beside a sound memory, one with a detected fault, and any box.
+-- Trusted. What a run of a self-test ends with, beside a sound memory, one with a detected fault, and any box.
 use Rattle.std.specs.Prelude.{◌≡◌, ◌≢◌, ◌+◌, ◌-◌, ◌*◌, ◌%◌, ◌<◌, ◌^◌, ℕ, Bool, true, false, List, length, Option, Some, None, is_some, slice_get}
 use Rattle.verilog_tree.specs.Plain.{ModuleTree}
 use Rattle.march_core.specs.March.{MarchElement}

@@ -1,4 +1,4 @@
--- The command `bench MARCH MEMORY`: the self-test module against the first box. Its shape, its checks in their order, and what it leaves.
+-- Trusted. The command `bench MARCH MEMORY`: the self-test module against the first box. Its shape, its checks in their order, and what it leaves.
 use Rattle.std.specs.Prelude.{◌≡◌, ◌^◌, ◌<◌, ◌≤◌, ◌⊎◌, ◌++◌, ℕ, Bool, true, false, List, [], ◌∷◌, Option, Some, None, Result, Ok, Err, MatchResult, drop, codes, decimal, is_some}
 use Rattle.bist_host.specs.Files.{Files}
 use Rattle.bist_text.specs.Numbers.{word_text}

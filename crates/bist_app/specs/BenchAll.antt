@@ -1,4 +1,4 @@
--- The command `benchall MARCH MEMORY`: the self-test module against each box, one after another. Its shape, its checks in their order, and
+-- Trusted. The command `benchall MARCH MEMORY`: the self-test module against each box, one after another. Its shape, its checks in their order, and
 -- what it leaves.
 use Rattle.std.specs.Prelude.{◌≡◌, ◌<◌, ◌≤◌, ◌++◌, ℕ, nat_lt, List, [], ◌∷◌, Option, None, Result, Ok, Err, is_some, length, drop, codes, decimal}
 use Rattle.std.specs.List.{filter}

@@ -1,4 +1,4 @@
--- The command `benchfault MARCH MEMORY PRIM AGG VIC`: the self-test module against the first box, in which an instance of a primitive is
+-- Trusted. The command `benchfault MARCH MEMORY PRIM AGG VIC`: the self-test module against the first box, in which an instance of a primitive is
 -- planted. Its shape, its checks in their order, and what it leaves.
 use Rattle.std.specs.Prelude.{◌≡◌, ◌≢◌, ◌<◌, ◌^◌, ◌++◌, ℕ, List, [], ◌∷◌, Option, Some, None, Result, Ok, Err, IsTrue, codes, decimal, is_some}
 use Rattle.bist_host.specs.Files.{Files}

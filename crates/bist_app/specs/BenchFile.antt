@@ -1,4 +1,4 @@
--- The command `benchfile VERILOG MARCH MEMORY`: the module of a file against the first box. Its shape, its checks in their order, and what
+-- Trusted. The command `benchfile VERILOG MARCH MEMORY`: the module of a file against the first box. Its shape, its checks in their order, and what
 -- it leaves.
 use Rattle.std.specs.Prelude.{◌≡◌, ℕ, Bool, List, [], ◌∷◌, Option, Some, None, Result, Ok, Err, map}
 use Rattle.bist_host.specs.Files.{Files}

@@ -1,4 +1,4 @@
--- For proofs and private contracts alone: the boxes that are benched so far.
+-- Inner. For proofs and private contracts alone: the boxes that are benched so far.
 use Rattle.std.specs.Prelude.{◌≡◌, ◌+◌, ◌<◌, ◌≤◌, ◌⊎◌, ℕ, Bool, List, [], ◌∷◌, Option, is_some}
 use Rattle.march_core.specs.March.{MarchElement}
 use Rattle.memory_desc.specs.Descriptions.{Description}

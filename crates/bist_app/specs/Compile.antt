@@ -1,4 +1,4 @@
--- The command `compile MARCH MEMORY FAULTS VERILOG REPORT`: its shape, its checks in their order, and what it leaves. This is
+-- Trusted. The command `compile MARCH MEMORY FAULTS VERILOG REPORT`: its shape, its checks in their order, and what it leaves. This is
 -- what the program is for: the written bytes spell one module, which tests the described memory by the march whatever its
 -- registers hold at first and whatever words return; and the report says of each item of the list whether the march detects it in
 -- arrays of every size, or gives its least escape.

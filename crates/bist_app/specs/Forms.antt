@@ -1,4 +1,4 @@
--- The forms of the commands' words: a command's name, how many words there are with it, and which of them name files.
+-- Trusted. The forms of the commands' words: a command's name, how many words there are with it, and which of them name files.
 use Rattle.std.specs.Prelude.{◌≡◌, ◌≢◌, ◌-◌, ℕ, List, [], ◌∷◌, All, length, take, drop, codes}
 use Rattle.bist_endings.specs.Words.{Words, word, ArePlain}
 

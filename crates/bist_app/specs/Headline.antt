@@ -1,4 +1,4 @@
--- What `compile` comes to where it ends with status 0 or 1 over told files: the answer of the top call, without the order of its checks.
+-- Trusted. What `compile` comes to where it ends with status 0 or 1 over told files: the answer of the top call, without the order of its checks.
 use Rattle.std.specs.Prelude.{◌≡◌, ◌≢◌, ◌≤◌, ℕ, Bool, List, length, Option, Some, None, Ok, codes}
 use Rattle.bist_host.specs.Files.{Files, Says}
 use Rattle.march_core.specs.March.{MarchElement}

@@ -1,4 +1,4 @@
--- The command `judge MARCH FAULTS REPORT`: its shape, its checks in their order, and what it leaves.
+-- Trusted. The command `judge MARCH FAULTS REPORT`: its shape, its checks in their order, and what it leaves.
 use Rattle.std.specs.Prelude.{◌≡◌, ℕ, List, [], ◌∷◌, Option, None, Result, Ok, Err}
 use Rattle.bist_host.specs.Files.{Files}
 use Rattle.march_core.specs.March.{MarchElement}

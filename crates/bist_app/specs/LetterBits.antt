@@ -1,4 +1,4 @@
--- The number whose binary digits are the letters of directions.
+-- Inner. The number whose binary digits are the letters of directions.
 use Rattle.std.specs.Prelude.{◌≡◌, ◌<◌, ◌-◌, ◌/◌, ◌%◌, ◌^◌, ◌==◌, ℕ, List, slice_index}
 
 -- the number has a digit for each of the first letters, the first on top, which is 1 for a d

@@ -1,4 +1,4 @@
--- The command `make NUMBER MARCH MEMORY FAULTS VERILOG REPORT`: its shape, and what it leaves. It reads no file: a number makes a
+-- Trusted. The command `make NUMBER MARCH MEMORY FAULTS VERILOG REPORT`: its shape, and what it leaves. It reads no file: a number makes a
 -- large march, memory and list, which are written, compiled and counted.
 use Rattle.std.specs.Prelude.{◌≡◌, ◌≤◌, ◌++◌, ℕ, List, [], ◌∷◌, Some, Result, Ok, Err, length, codes, decimal}
 use Rattle.march_core.specs.March.{MarchElement, all_ops}

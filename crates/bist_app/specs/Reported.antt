@@ -1,4 +1,4 @@
--- What is written and said of a list of items: the report, its last line, and whether something escapes.
+-- Trusted. What is written and said of a list of items: the report, its last line, and whether something escapes.
 use Rattle.std.specs.Prelude.{◌≡◌, ℕ, Bool, true, false, List, Contains, Option, length}
 use Rattle.std.specs.List.{AllByRecursion}
 use Rattle.march_core.specs.March.{MarchElement}

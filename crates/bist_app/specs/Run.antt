@@ -1,4 +1,4 @@
--- The top call: what the words ask for, decided, and ended.
+-- Trusted. The top call: what the words ask for, decided, and ended.
 use Rattle.std.specs.Prelude.{◌≡◌, ℕ, List, Option, Result, Err, MatchOption}
 use Rattle.bist_host.specs.Files.{Files}
 use Rattle.bist_endings.specs.declared.ending.Refusal.{Refusal}

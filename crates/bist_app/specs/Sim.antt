@@ -1,4 +1,4 @@
--- The command `sim MARCH PRIM SIZE CONTENT AGG VIC DIRS`: its shape, its checks in their order, and what it leaves.
+-- Trusted. The command `sim MARCH PRIM SIZE CONTENT AGG VIC DIRS`: its shape, its checks in their order, and what it leaves.
 use Rattle.std.specs.Prelude.{◌≡◌, ◌≢◌, ◌<◌, ◌≤◌, ◌⊎◌, ◌++◌, ◌==◌, ℕ, Bool, List, [], map, All, Option, Some, None, Result, Ok, Err, length, codes, decimal, is_some, IsTrue, if◌then◌else◌}
 use Rattle.bist_host.specs.Files.{Files}
 use Rattle.march_core.specs.March.{MarchElement}

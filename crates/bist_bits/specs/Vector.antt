@@ -1,4 +1,4 @@
--- Bit vectors, as contracts see them: a width and a value.
+-- Trusted. Bit vectors, as contracts see them: a width and a value.
 use Rattle.std.specs.Prelude.{ℕ, ◌+◌, ◌-◌, ◌*◌, ◌/◌, ◌%◌, ◌^◌, ◌<◌, ◌≤◌}
 
 pub record Vector : Type 0 where

@@ -1,4 +1,4 @@
--- How many bits a number needs.
+-- Trusted. How many bits a number needs.
 use Rattle.std.specs.Prelude.{ℕ, ◌^◌, ◌<◌, ◌≤◌}
 
 -- w is the least width of at least 1 that holds n

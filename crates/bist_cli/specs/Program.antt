@@ -1,4 +1,4 @@
--- What the program does with the words of its command line.
+-- Public. What the program does with the words of its command line.
 use Rattle.std.specs.Prelude.{◌≡◌, ℕ, List, [], ◌∷◌, Option, None, map}
 use Rattle.bist_host.specs.Files.{Files}
 use Rattle.word_device.specs.Boxes.{Told, TellsChip}

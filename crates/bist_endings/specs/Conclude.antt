@@ -1,4 +1,4 @@
--- How a decided command ends: its files are written, then its line is said.
+-- Trusted. How a decided command ends: its files are written, then its line is said.
 use Rattle.std.specs.Prelude.{◌≡◌, ◌<◌, ◌⊎◌, ℕ, List, [], ◌∷◌, length, Option, Result, Ok, Err}
 use Rattle.bist_host.specs.Files.{Files, KeepsOthers, WritesFile, Says, SaysPrefix}
 use Rattle.bist_endings.specs.declared.ending.Refusal.{Refusal}

@@ -1,4 +1,4 @@
--- What a command ends with: its plan as plain data, the statuses and the said lines.
+-- Trusted. What a command ends with: its plan as plain data, the statuses and the said lines.
 use Rattle.std.specs.Prelude.{◌++◌, ◌==◌, ℕ, zero, suc, Bool, true, false, if◌then◌else◌, List, [], ◌∷◌, map, Result, Ok, Err, codes, decimal}
 use Rattle.std.specs.Int.{bit_at}
 use Rattle.march_core.specs.declared.fault.MarchFault.{MarchFault}

@@ -1,4 +1,4 @@
--- Checks that have one settled outcome alone, and commands that have one answer.
+-- Trusted. Checks that have one settled outcome alone, and commands that have one answer.
 use Rattle.std.specs.Prelude.{◌≡◌, ◌⊎◌, ℕ, List, Result, Ok, Err}
 use Rattle.verilog_tree.specs.declared.fault.TreeFault.{TreeFault}
 use Rattle.bist_endings.specs.declared.ending.Refusal.{Refusal}

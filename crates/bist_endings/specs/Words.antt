@@ -1,4 +1,4 @@
--- The words of the command line, without the program's own name.
+-- Trusted. The words of the command line, without the program's own name.
 use Rattle.std.specs.Prelude.{◌≡◌, ◌≢◌, ◌<◌, ◌^◌, ℕ, List, [], ◌∷◌, slice_index_or, decimal, All}
 use Rattle.std.specs.Borrow.{Bor}
 

@@ -1,4 +1,4 @@
--- What a host does whose listed calls fail.
+-- Public. What a host does whose listed calls fail.
 use Rattle.std.specs.Prelude.{◌≡◌, ◌≤◌, ◌+◌, ◌-◌, ◌/◌, ◌^◌, ◌++◌, ℕ, min, length, take, Contains, Some, None, List}
 use Rattle.bist_host.specs.declared.host.HostFault.{HostFault}
 use Rattle.bist_host.specs.declared.host.HostFault.TheVariants.{Absent, TooLarge, ReadFailed, WriteFailed, NoMemory}

@@ -1,4 +1,4 @@
--- What the calls of a host may answer, and what they leave.
+-- Trusted. What the calls of a host may answer, and what they leave.
 use Rattle.std.specs.Prelude.{◌≡◌, ◌≢◌, ◌<◌, ◌≤◌, ◌+◌, ◌-◌, ◌^◌, ℕ, min, Option, Some, None, List, ◌++◌, length}
 use Rattle.bist_host.specs.declared.host.HostFault.{HostFault}
 use Rattle.bist_host.specs.declared.host.HostFault.TheVariants.{Absent, TooLarge, ReadFailed, WriteFailed, NoMemory}

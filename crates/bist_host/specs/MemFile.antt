@@ -1,4 +1,4 @@
--- The files of a host in memory as plain data.
+-- Public. The files of a host in memory as plain data.
 use Rattle.std.specs.Prelude.{List, map, string_bytes}
 use Rattle.bist_host.specs.declared.mem_host.MemFile.{MemFile}
 use Rattle.bist_host.specs.MemHost.{NamedFile}

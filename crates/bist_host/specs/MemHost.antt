@@ -1,4 +1,4 @@
--- What a host in memory holds: its files, and the bytes that were said.
+-- Public. What a host in memory holds: its files, and the bytes that were said.
 use Rattle.std.specs.Prelude.{◌≡◌, ℕ, Some, None, List, [], ◌∷◌, if◌then◌else◌, take, slice_get, IsSomeAnd}
 use Rattle.std.specs.Str.{bytes_eq}
 use Rattle.bist_host.specs.Files.{Files}

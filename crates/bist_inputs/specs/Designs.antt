@@ -1,4 +1,4 @@
--- What the module of a command gives: the module that a text spells, where it breaks no rule and its wires form no loop.
+-- Trusted. What the module of a command gives: the module that a text spells, where it breaks no rule and its wires form no loop.
 use Rattle.std.specs.Prelude.{◌≡◌, true, ℕ, List, Option, None, Result, Ok, Err}
 use Rattle.bist_host.specs.Files.{Files}
 use Rattle.verilog_tree.specs.declared.fault.TreeFault.{TreeFault}

@@ -1,4 +1,4 @@
--- What the inputs of a command give: its checks in their order.
+-- Trusted. What the inputs of a command give: its checks in their order.
 use Rattle.std.specs.Prelude.{◌≡◌, ℕ, List, Option, Some, None, Result, Ok, Err}
 use Rattle.bist_host.specs.Files.{Files, ReadGives, IsReadable, IsTooLarge}
 use Rattle.march_core.specs.March.{MarchElement}

@@ -1,4 +1,4 @@
--- What the memory description of a command gives.
+-- Trusted. What the memory description of a command gives.
 use Rattle.std.specs.Prelude.{ℕ, List, Option, Result, Ok, Err}
 use Rattle.bist_host.specs.Files.{Files}
 use Rattle.memory_desc.specs.Descriptions.{Description, IsMemory}

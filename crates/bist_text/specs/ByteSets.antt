@@ -1,4 +1,4 @@
--- Sets of bytes.
+-- Public. Sets of bytes.
 use Rattle.std.specs.Prelude.{ℕ, ◌-◌, ◌==◌, nat_lt, Bool, if◌then◌else◌}
 use Rattle.std.specs.Int.{bit_at}
 use Rattle.bist_text.specs.declared.byte_set.ByteSet.{ByteSet}

@@ -1,4 +1,4 @@
--- A place in a text, and the text.
+-- Public. A place in a text, and the text.
 use Rattle.std.specs.Prelude.{ℕ, List, drop}
 
 pub record TextPlace : Type 0 where

@@ -1,4 +1,4 @@
--- Grammars as relations between bytes and values. A piece of a grammar takes what may follow it, a set of
+-- Trusted. Grammars as relations between bytes and values. A piece of a grammar takes what may follow it, a set of
 -- texts, and gives the texts that begin with the piece and go on so. A grammar is then written in the order
 -- in which its text is read: `word (codes "up") (byte 40 K)` is "up", an opening parenthesis, and then K.
 use Rattle.std.specs.Prelude.{◌≡◌, ℕ, ◌+◌, ◌<◌, Bool, true, false, List, [], ◌∷◌, ◌++◌, length, take, ◌⊎◌, ◌==◌, ◌||◌, nat_lt}

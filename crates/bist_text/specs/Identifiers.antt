@@ -1,4 +1,4 @@
--- Simple identifiers (IEEE 1364-2005, clause 3.7.1).
+-- Trusted. Simple identifiers (IEEE 1364-2005, clause 3.7.1).
 use Rattle.std.specs.Prelude.{ℕ, Bool, false, ◌==◌, ◌&&◌, ◌||◌, nat_le, List, [], ◌∷◌}
 use Rattle.std.specs.List.{list_all}
 

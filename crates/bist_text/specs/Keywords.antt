@@ -1,4 +1,4 @@
--- Words of a table that are read letter by letter. The letters that are read are the front of a word; what may follow is
+-- Public. Words of a table that are read letter by letter. The letters that are read are the front of a word; what may follow is
 -- what goes on behind them.
 use Rattle.std.specs.Prelude.{◌≡◌, ℕ, ◌+◌, ◌==◌, ◌&&◌, ◌||◌, not, nat_lt, Bool, true, false, if◌then◌else◌, List, [], ◌∷◌, ◌++◌, length, take, get_or, slice_get, Option, Some, None}
 use Rattle.std.specs.Str.{bytes_eq}

@@ -1,4 +1,4 @@
--- A reader of tokens over a reader of bytes: a lexer gives tokens, a parser takes them, and the two together
+-- Public. A reader of tokens over a reader of bytes: a lexer gives tokens, a parser takes them, and the two together
 -- are one machine over bytes (`both_follows` of proofs/Lexed.antt).
 use Rattle.std.specs.Prelude.{◌≡◌, ℕ, Bool, true, false, List, [], ◌∷◌, ◌↔◌, Option, Some, None}
 use Rattle.bist_text.specs.Grammar.{are_bytes}

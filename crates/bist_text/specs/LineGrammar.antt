@@ -1,4 +1,4 @@
--- The pieces of a line: blanks, a comment at its end, and runs of bytes of a class.
+-- Trusted. The pieces of a line: blanks, a comment at its end, and runs of bytes of a class.
 use Rattle.std.specs.Prelude.{◌≡◌, ℕ, ◌==◌, ◌&&◌, nat_le, Bool, true, List, [], ◌∷◌, length, ◌+◌, ◌-◌, ◌≤◌, drop}
 use Rattle.std.specs.List.{list_all, take_while}
 use Rattle.bist_text.specs.Grammar.{word, many, when, is_blank}

@@ -1,4 +1,4 @@
--- A reader as a machine over bytes: what may still follow in a state is a relation between texts and values.
+-- Trusted. A reader as a machine over bytes: what may still follow in a state is a relation between texts and values.
 -- Four laws tie the machine to that relation, and from them comes everything that a reader promises: it
 -- reads exactly the texts of its grammar, each to its one value, and refuses at exactly the first byte that
 -- can't go on (`scan_exact` of proofs/Settled.antt).

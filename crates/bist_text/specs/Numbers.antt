@@ -1,4 +1,4 @@
--- Numbers as texts.
+-- Trusted. Numbers as texts.
 use Rattle.std.specs.Prelude.{ℕ, zero, suc, ◌+◌, ◌/◌, ◌%◌, ◌≤◌, List, [], ◌∷◌, ◌++◌, length, false}
 use Rattle.std.specs.Str.Parse.{IsNumeral}
 use Rattle.std.specs.Fmt.{digit_glyph}

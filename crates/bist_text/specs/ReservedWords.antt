@@ -1,4 +1,4 @@
--- The words that Verilog keeps for itself (IEEE 1364-2005, annex B): none of them is a name.
+-- Trusted. The words that Verilog keeps for itself (IEEE 1364-2005, annex B): none of them is a name.
 use Rattle.std.specs.Prelude.{ℕ, Bool, false, ◌||◌, List, [], ◌∷◌, codes}
 use Rattle.std.specs.Str.{bytes_eq}
 

@@ -1,4 +1,4 @@
--- The two cells of one instance, and what an act on one of them makes of both.
+-- Public. The two cells of one instance, and what an act on one of them makes of both.
 use Rattle.std.specs.Prelude.{◌≡◌, Bool, true, not, ◌&&◌, if◌then◌else◌, Option, Some, None}
 use Rattle.fault_core.specs.declared.primitive.Act.{Act}
 use Rattle.fault_core.specs.declared.primitive.Act.TheVariants.{Write, Read, Pause}

@@ -1,4 +1,4 @@
--- A pair as two cells of an array.
+-- Public. A pair as two cells of an array.
 use Rattle.std.specs.Prelude.{◌≡◌, ◌≢◌, ◌<◌, ℕ, Bool, if◌then◌else◌, Some, None, List, [], ◌∷◌}
 use Rattle.fault_core.specs.declared.cells.Places.{Places}
 use Rattle.fault_core.specs.Primitive.{Primitive, has_aggressor}

@@ -1,4 +1,4 @@
--- For proofs and private contracts alone: what the reader hears in a text, as functions of its bytes.
+-- Inner. For proofs and private contracts alone: what the reader hears in a text, as functions of its bytes.
 use Rattle.std.specs.Prelude.{◌≡◌, ℕ, ◌==◌, Bool, true, false, if◌then◌else◌, List, [], ◌∷◌, ◌++◌, length, Option, Some, None, Result, Ok, Err}
 use Rattle.std.specs.List.{take_while}
 use Rattle.std.specs.Str.Parse.{digits_value}

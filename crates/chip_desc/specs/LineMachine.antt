@@ -1,4 +1,4 @@
--- For proofs and private contracts alone: what the reader of a line does at each byte, and what may still follow where it stands.
+-- Inner. For proofs and private contracts alone: what the reader of a line does at each byte, and what may still follow where it stands.
 use Rattle.std.specs.Prelude.{◌≡◌, ◌⊎◌, ℕ, ◌+◌, ◌==◌, ◌&&◌, Bool, true, false, nat_lt, if◌then◌else◌, Option, Some, None, List, [], ◌∷◌, ◌++◌}
 use Rattle.bist_text.specs.declared.keywords.Spelled.{Spelled}
 use Rattle.bist_text.specs.declared.keywords.Spelled.TheVariants.{More, Whole}

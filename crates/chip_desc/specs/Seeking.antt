@@ -1,4 +1,4 @@
--- For proofs and private contracts alone: what searches in the lines of a text look for.
+-- Inner. For proofs and private contracts alone: what searches in the lines of a text look for.
 use Rattle.std.specs.Prelude.{◌≡◌, ℕ, Bool, false, List, Option, Some, None, Result, Ok, Err, find, map}
 use Rattle.bist_text.specs.declared.text_lines.Line.{Line}
 use Rattle.chip_desc.specs.Chips.{unit_of}

@@ -1,4 +1,4 @@
--- What holds of the printed texts of chips.
+-- Public. What holds of the printed texts of chips.
 use Rattle.std.specs.Prelude.{◌≡◌, ℕ, true, List, ◌++◌}
 use Rattle.verilog_tree.specs.Plain.{ModuleTree}
 use Rattle.verilog_tree.specs.Spells.{all_limits}

@@ -1,4 +1,4 @@
--- What holds of the texts of chips.
+-- Public. What holds of the texts of chips.
 use Rattle.std.specs.Prelude.{◌≡◌, ℕ, List}
 use Rattle.verilog_tree.specs.Spells.{all_limits}
 use Rattle.chip_rtl.specs.ChipTree.{ChipTree}

@@ -1,4 +1,4 @@
--- What holds of the tokens of chips.
+-- Public. What holds of the tokens of chips.
 use Rattle.std.specs.Prelude.{◌≡◌, List}
 use Rattle.verilog_tree.specs.Plain.{ModuleTree}
 use Rattle.verilog_tree.specs.Tokens.{Token}

@@ -1,4 +1,4 @@
--- The controller as a machine: one step a cycle.
+-- Public. The controller as a machine: one step a cycle.
 use Rattle.std.specs.Prelude.{ℕ, zero, suc, ◌-◌, ◌==◌, Bool, true, false, if◌then◌else◌, not, ◌&&◌, List, [], ◌∷◌, replicate}
 use Rattle.march_core.specs.Runs.{is_write, data_value}
 use Rattle.word_march.specs.PortRule.{PortValues}

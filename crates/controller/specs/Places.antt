@@ -1,4 +1,4 @@
--- What the port does at the places of a march's run on a memory.
+-- Public. What the port does at the places of a march's run on a memory.
 use Rattle.std.specs.Prelude.{ℕ, Bool, if◌then◌else◌, List, Option, Some, None, length, slice_index, bit_xor}
 use Rattle.std.specs.List.{slice_index_or}
 use Rattle.march_core.specs.declared.operation.Op.{Op}

@@ -1,4 +1,4 @@
--- Where in the code of a march a controller of this memory stands.
+-- Public. Where in the code of a march a controller of this memory stands.
 use Rattle.std.specs.Prelude.{List, Option}
 use Rattle.march_core.specs.March.{MarchElement}
 use Rattle.memory_desc.specs.Descriptions.{Description}

@@ -1,4 +1,4 @@
--- Where a controller stands in a cycle of the run, and what it has seen.
+-- Public. Where a controller stands in a cycle of the run, and what it has seen.
 use Rattle.std.specs.Prelude.{◌≡◌, ◌≢◌, ℕ, suc, ◌+◌, ◌<◌, ◌≤◌, Bool, true, false, if◌then◌else◌, List, [], ◌∷◌, Option, Some, slice_get, drop, length, filter_map}
 use Rattle.word_march.specs.declared.operations.PortOp.{PortOp}
 use Rattle.march_core.specs.March.{MarchElement, IsMarch}

@@ -1,4 +1,4 @@
--- The controller as contracts see it, and what it mirrors.
+-- Public. The controller as contracts see it, and what it mirrors.
 use Rattle.std.specs.Prelude.{◌≡◌, ◌≢◌, ℕ, ◌+◌, ◌<◌, Bool, true, false, if◌then◌else◌, not, ◌&&◌, List, Option, Some, None, length, slice_get}
 use Rattle.std.specs.List.{AllByRecursion}
 use Rattle.word_march.specs.declared.operations.PortOp.{PortOp}

@@ -1,4 +1,4 @@
--- When a march detects a dynamic primitive: at one size, and at every size.
+-- Trusted. When a march detects a dynamic primitive: at one size, and at every size.
 use Rattle.std.specs.Prelude.{◌≡◌, ◌≢◌, ◌<◌, ◌≤◌, ℕ, Bool, false, IsTrue, Option, Some, None, List, length}
 use Rattle.fault_core.specs.declared.cells.Places.{Places}
 use Rattle.march_core.specs.March.{MarchElement}

@@ -1,4 +1,4 @@
--- Which visit of a run differs first.
+-- Trusted. Which visit of a run differs first.
 use Rattle.std.specs.Prelude.{◌≡◌, Bool, List}
 use Rattle.fault_core.specs.declared.cells.Places.{Places}
 use Rattle.march_core.specs.Visits.{Visit, MarchStep, pausing, visiting}

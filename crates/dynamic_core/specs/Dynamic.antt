@@ -1,4 +1,4 @@
--- What one instance of a dynamic primitive does to an array of cells, step by step.
+-- Trusted. What one instance of a dynamic primitive does to an array of cells, step by step.
 use Rattle.std.specs.Prelude.{◌==◌, ℕ, Bool, true, false, ◌&&◌, if◌then◌else◌, Option, Some, None, List, [], ◌∷◌, slice_set}
 use Rattle.fault_core.specs.declared.primitive.Act.{Act}
 use Rattle.fault_core.specs.declared.cells.Places.{Places}

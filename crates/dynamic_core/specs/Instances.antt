@@ -1,4 +1,4 @@
--- Where an instance stands.
+-- Public. Where an instance stands.
 use Rattle.fault_core.specs.declared.cells.Places.{Places}
 use Rattle.dynamic_core.specs.declared.simulation.DynInstance.{DynInstance}
 

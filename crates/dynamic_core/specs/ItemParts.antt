@@ -1,4 +1,4 @@
--- What the parts of a primitive's text stand for where two operations may act together, and when they are refused.
+-- Trusted. What the parts of a primitive's text stand for where two operations may act together, and when they are refused.
 use Rattle.std.specs.Prelude.{◌≡◌, ◌<◌, ◌⊎◌, ℕ, Bool, Option, Some, None, List, [], ◌∷◌, map, length}
 use Rattle.fault_core.specs.declared.primitive.PrimFault.{PrimFault}
 use Rattle.fault_core.specs.declared.primitive.PrimFault.TheVariants.{NotAFault as IsNotAFault, TooManyOperations as HasTooManyOperations}

@@ -1,4 +1,4 @@
--- What the lines of a list with dynamic primitives bring, and the first line that is refused.
+-- Trusted. What the lines of a list with dynamic primitives bring, and the first line that is refused.
 use Rattle.std.specs.Prelude.{Result, ℕ, List}
 use Rattle.bist_text.specs.Lines.{TextLine}
 use Rattle.fault_syntax.specs.declared.fault.FaultFault.{FaultFault}

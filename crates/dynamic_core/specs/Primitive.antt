@@ -1,4 +1,4 @@
--- Dynamic fault primitives <S/F/R> of two operations, after van de Goor and Al-Ars.
+-- Trusted. Dynamic fault primitives <S/F/R> of two operations, after van de Goor and Al-Ars.
 use Rattle.std.specs.Prelude.{◌≡◌, ◌≢◌, ◌↔◌, Bool, not, ◌&&◌, if◌then◌else◌, Option, Some, None, IsSome, is_some}
 use Rattle.fault_core.specs.declared.primitive.Act.{Act}
 use Rattle.fault_core.specs.declared.primitive.Act.TheVariants.{Write, Read, Pause}

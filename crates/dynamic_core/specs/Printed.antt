@@ -1,4 +1,4 @@
--- The printed form of a dynamic primitive: no blanks, and the state always shown.
+-- Trusted. The printed form of a dynamic primitive: no blanks, and the state always shown.
 use Rattle.std.specs.Prelude.{ℕ, Bool, Option, Some, None, List, [], ◌++◌, codes}
 use Rattle.fault_syntax.specs.Printed.{act_text}
 use Rattle.fault_syntax.specs.PrimText.{bit_text, answer_text}

@@ -1,4 +1,4 @@
--- For proofs and private contracts alone: what is made of written parts, and what a line adds to the primitives.
+-- Inner. For proofs and private contracts alone: what is made of written parts, and what a line adds to the primitives.
 use Rattle.std.specs.Prelude.{ℕ, Option, List, [], ◌∷◌, Result, Ok, Err}
 use Rattle.std.specs.List.{flat_map}
 use Rattle.fault_core.specs.declared.primitive.PrimFault.{PrimFault}

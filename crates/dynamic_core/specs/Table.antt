@@ -1,4 +1,4 @@
--- The dynamic fault primitives of one and of two cells, in the order in which a list's words stand for them.
+-- Trusted. The dynamic fault primitives of one and of two cells, in the order in which a list's words stand for them.
 use Rattle.std.specs.Prelude.{Bool, true, false, not, Option, Some, None, List, [], ◌∷◌, ◌++◌, map}
 use Rattle.std.specs.List.{flat_map}
 use Rattle.fault_core.specs.declared.primitive.Act.{Act}

@@ -1,4 +1,4 @@
--- For proofs and private contracts alone: the two acts as an array, and the test of the parts, by cases on the acts.
+-- Public. For proofs and private contracts alone: the two acts as an array, and the test of the parts, by cases on the acts.
 use Rattle.std.specs.Prelude.{◌≡◌, Bool, true, false, not, ◌&&◌, ◌||◌, Option, Some, None, List, [], ◌∷◌, length, refl}
 use Rattle.fault_core.specs.declared.primitive.Act.{Act}
 use Rattle.fault_core.specs.declared.primitive.Act.TheVariants.{Write, Read, Pause}

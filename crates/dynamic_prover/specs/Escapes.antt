@@ -1,4 +1,4 @@
--- Arrays of any size that pass a march with one instance of a dynamic primitive, and the least of them.
+-- Trusted. Arrays of any size that pass a march with one instance of a dynamic primitive, and the least of them.
 use Rattle.std.specs.Prelude.{◌≡◌, ◌<◌, ◌≤◌, ◌^◌, ◌⊎◌, ℕ, Bool, true, false, Option, Some, None, List, [], ◌∷◌, ◌++◌, length, map, take, drop}
 use Rattle.std.specs.List.{AllByRecursion}
 use Rattle.fault_core.specs.declared.cells.Places.{Places}

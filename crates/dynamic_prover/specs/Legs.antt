@@ -1,4 +1,4 @@
--- Only helps proofs: the tables of the elements of a march, in which the code looks up where each leads.
+-- Inner. Only helps proofs: the tables of the elements of a march, in which the code looks up where each leads.
 use Rattle.std.specs.Prelude.{◌≡◌, ◌+◌, ◌*◌, ℕ, Bool, true, false, if◌then◌else◌, Option, Some, None, List, [], ◌∷◌, slice_index_or}
 use Rattle.std.specs.Option.{option_and_then, option_map}
 use Rattle.march_core.specs.March.{MarchElement}

@@ -1,4 +1,4 @@
--- Only helps proofs: what an instance of a dynamic primitive does to its own two cells.
+-- Inner. Only helps proofs: what an instance of a dynamic primitive does to its own two cells.
 use Rattle.std.specs.Prelude.{Bool, true, false, ◌&&◌, if◌then◌else◌, Option, Some, None, List, [], ◌∷◌}
 use Rattle.fault_core.specs.declared.primitive.Act.{Act}
 use Rattle.fault_core.specs.declared.cells.Places.{Places}

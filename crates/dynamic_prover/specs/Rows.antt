@@ -1,4 +1,4 @@
--- Only helps proofs: from which contents of the two cells the rest of a march can still be passed, and the walk that picks the first way.
+-- Inner. Only helps proofs: from which contents of the two cells the rest of a march can still be passed, and the walk that picks the first way.
 use Rattle.std.specs.Prelude.{◌≡◌, ◌≤◌, ℕ, Bool, false, List, length, drop, slice_index_or}
 use Rattle.march_core.specs.Visits.{Upward}
 use Rattle.dynamic_prover.specs.declared.own_cells.OwnCells.{OwnCells}

@@ -1,4 +1,4 @@
--- Only helps proofs: the shape of an array with one instance, which alone decides. It is the order of the instance's cells, and whether any
+-- Inner. Only helps proofs: the shape of an array with one instance, which alone decides. It is the order of the instance's cells, and whether any
 -- other cell lies below or above both.
 use Rattle.std.specs.Prelude.{◌-◌, ℕ, zero, suc, Bool, true, false, if◌then◌else◌, nat_lt, Option, Some, None, List, [], ◌∷◌, ◌++◌}
 use Rattle.std.specs.Option.{option_and_then}

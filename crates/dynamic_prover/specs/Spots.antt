@@ -1,4 +1,4 @@
--- Only helps proofs: the small arrays that show every case, in their order.
+-- Inner. Only helps proofs: the small arrays that show every case, in their order.
 use Rattle.std.specs.Prelude.{◌+◌, ◌==◌, ◌≡◌, ℕ, zero, suc, Bool, true, false, ◌&&◌, not, if◌then◌else◌, nat_lt, Option, Some, None, List, [], ◌∷◌, ◌++◌, map}
 use Rattle.std.specs.List.{AllByRecursion, flat_map}
 use Rattle.cell_machine.specs.declared.pair.Pair.{Pair}

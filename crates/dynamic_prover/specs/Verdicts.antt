@@ -1,4 +1,4 @@
--- What a verdict on a dynamic primitive says.
+-- Public. What a verdict on a dynamic primitive says.
 use Rattle.std.specs.Prelude.{◌≡◌, ℕ, List}
 use Rattle.march_core.specs.March.{MarchElement}
 use Rattle.dynamic_core.specs.Primitive.{DynamicPrimitive}

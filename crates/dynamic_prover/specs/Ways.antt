@@ -1,4 +1,4 @@
--- Only helps proofs: elements that each lead on in one of two directions. Whether some choice of directions leads to the end, and the first that does.
+-- Inner. Only helps proofs: elements that each lead on in one of two directions. Whether some choice of directions leads to the end, and the first that does.
 use Rattle.std.specs.Prelude.{◌+◌, ◌-◌, ◌^◌, ℕ, Bool, true, false, ◌||◌, if◌then◌else◌, Option, Some, None, List, [], ◌∷◌}
 use Rattle.std.specs.Option.{option_and_then}
 use Rattle.march_core.specs.Visits.{Direction, Upward, Downward}

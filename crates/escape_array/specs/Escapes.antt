@@ -1,4 +1,4 @@
--- Arrays of two cells that pass a march, and the least of them.
+-- Trusted. Arrays of two cells that pass a march, and the least of them.
 use Rattle.std.specs.Prelude.{◌≡◌, ◌<◌, ◌≤◌, ◌+◌, ◌^◌, ◌⊎◌, ℕ, Bool, Option, Some, None, List, [], ◌∷◌, length, if◌then◌else◌}
 use Rattle.fault_core.specs.declared.cells.Places.{Places}
 use Rattle.march_core.specs.March.{MarchElement}

@@ -1,4 +1,4 @@
--- Only helps proofs: what the search for the least escape finds in one placement.
+-- Inner. Only helps proofs: what the search for the least escape finds in one placement.
 use Rattle.std.specs.Prelude.{◌≡◌, ◌<◌, ◌≤◌, ℕ, min, Bool, Option, Some, None, List, [], ◌∷◌, length}
 use Rattle.fault_core.specs.Primitive.{Primitive}
 use Rattle.march_core.specs.March.{MarchElement}

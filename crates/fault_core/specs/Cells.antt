@@ -1,4 +1,4 @@
--- What one instance of a primitive does to an array of cells.
+-- Trusted. What one instance of a primitive does to an array of cells.
 use Rattle.std.specs.Prelude.{◌≢◌, ◌<◌, ◌==◌, ℕ, Bool, true, false, not, ◌||◌, ◌&&◌, if◌then◌else◌, Option, Some, None, is_some, List, slice_index_or, slice_set}
 use Rattle.fault_core.specs.declared.primitive.Act.{Act}
 use Rattle.fault_core.specs.declared.primitive.Act.TheVariants.{Write, Read, Pause}

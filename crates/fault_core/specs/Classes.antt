@@ -1,4 +1,4 @@
--- The class of a primitive by its parts.
+-- Trusted. The class of a primitive by its parts.
 use Rattle.std.specs.Prelude.{Bool, if◌then◌else◌, Option, Some, None}
 use Rattle.fault_core.specs.declared.primitive.Act.{Act}
 use Rattle.fault_core.specs.declared.primitive.Act.TheVariants.{Write, Read, Pause}

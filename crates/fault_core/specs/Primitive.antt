@@ -1,4 +1,4 @@
--- Static fault primitives <S/F/R>, after van de Goor and Al-Ars.
+-- Trusted. Static fault primitives <S/F/R>, after van de Goor and Al-Ars.
 use Rattle.std.specs.Prelude.{◌≡◌, ◌≢◌, ◌↔◌, Bool, true, false, not, ◌&&◌, if◌then◌else◌, Option, Some, None, IsSome, is_some}
 use Rattle.fault_core.specs.declared.primitive.Act.{Act}
 use Rattle.fault_core.specs.declared.primitive.Act.TheVariants.{Write, Read, Pause}

@@ -1,4 +1,4 @@
--- For proofs and private contracts alone: a class as the senses of its aggressor, each with the two states of its victim.
+-- Inner. For proofs and private contracts alone: a class as the senses of its aggressor, each with the two states of its victim.
 use Rattle.std.specs.Prelude.{◌≡◌, Bool, true, false, not, Option, Some, None, List, [], ◌∷◌}
 use Rattle.std.specs.List.{flat_map}
 use Rattle.fault_core.specs.declared.primitive.Act.{Act}

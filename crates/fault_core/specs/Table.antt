@@ -1,4 +1,4 @@
--- The static unlinked fault primitives of one and of two cells, class by class, in the order in which they are printed.
+-- Trusted. The static unlinked fault primitives of one and of two cells, class by class, in the order in which they are printed.
 use Rattle.std.specs.Prelude.{ℕ, zero, suc, Bool, true, false, Option, Some, None, List, [], ◌∷◌, ◌++◌}
 use Rattle.fault_core.specs.declared.primitive.Act.TheVariants.{Write, Read, Pause}
 use Rattle.fault_core.specs.declared.primitive.Sense.{Sense}

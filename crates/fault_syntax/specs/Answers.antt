@@ -1,4 +1,4 @@
--- What the text of a primitive is read as: the primitive, or the first refusal.
+-- Trusted. What the text of a primitive is read as: the primitive, or the first refusal.
 use Rattle.std.specs.Prelude.{◌≡◌, ℕ, List, Option, Some, None, Result, Ok, Err}
 use Rattle.bist_text.specs.Grammar.{IsUnexpected, IsTruncated}
 use Rattle.bist_text.specs.Machine.{Outcome, read, unexpected, truncated}

@@ -1,4 +1,4 @@
--- For proofs and private contracts alone: what a reader keeps of what it has read.
+-- Public. For proofs and private contracts alone: what a reader keeps of what it has read.
 use Rattle.std.specs.Prelude.{Bool, true, false, Option, Some, None, List, [], ◌∷◌, Result, Ok, Err, option_map}
 use Rattle.bist_text.specs.Machine.{Outcome, read, unexpected, truncated}
 use Rattle.fault_syntax.specs.declared.words.Operation.{Operation}

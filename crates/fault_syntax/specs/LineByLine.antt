@@ -1,4 +1,4 @@
--- What the lines of a list bring, and the first line that is refused: for any grammar of a line, and any primitives.
+-- Trusted. What the lines of a list bring, and the first line that is refused: for any grammar of a line, and any primitives.
 use Rattle.std.specs.Prelude.{Result, Ok, Err, ◌≡◌, ◌<◌, ◌≤◌, ◌+◌, ◌⊎◌, ℕ, true, false, Option, Some, List, [], ◌∷◌, ◌++◌, length}
 use Rattle.bist_text.specs.Grammar.{IsUnexpected, IsTruncated}
 use Rattle.bist_text.specs.Lines.{TextLine, text_lines}

@@ -1,4 +1,4 @@
--- For proofs and private contracts alone: what a line is read to.
+-- Public. For proofs and private contracts alone: what a line is read to.
 use Rattle.std.specs.Prelude.{◌≡◌, ℕ, false, Option, List, Result, Ok, Err}
 use Rattle.bist_text.specs.Grammar.{IsUnexpected, IsTruncated}
 use Rattle.bist_text.specs.Lines.{TextLine}

@@ -1,4 +1,4 @@
--- The grammar of a line of a fault list: `ws [ item ws ] [ comment ]`. A comment is `#` and any bytes to the
+-- Trusted. The grammar of a line of a fault list: `ws [ item ws ] [ comment ]`. A comment is `#` and any bytes to the
 -- line's end. An item is a primitive, a class, or one of the words `one`, `two` and `all`; and in a list with dynamic
 -- primitives also `dyn1` or `dyn2`.
 use Rattle.std.specs.Prelude.{◌≡◌, true, Option, Some, None, List, ℕ, ◌⊎◌, codes}

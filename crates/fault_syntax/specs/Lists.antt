@@ -1,4 +1,4 @@
--- What the lines of a fault list bring, and the first line that is refused.
+-- Public. What the lines of a fault list bring, and the first line that is refused.
 use Rattle.std.specs.Prelude.{Result, ℕ, List}
 use Rattle.fault_core.specs.Primitive.{Primitive}
 use Rattle.fault_syntax.specs.declared.fault.FaultFault.{FaultFault}

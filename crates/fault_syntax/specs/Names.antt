@@ -1,4 +1,4 @@
--- The names of a list: of a class, and the words for several.
+-- Trusted. The names of a list: of a class, and the words for several.
 use Rattle.std.specs.Prelude.{ℕ, Bool, true, false, List, [], ◌∷◌, ◌++◌, codes}
 use Rattle.bist_text.specs.Keywords.{Word, all_words}
 use Rattle.fault_core.specs.declared.table.Class.{Class}

@@ -1,4 +1,4 @@
--- What the parts of a primitive's text stand for, and when they are refused.
+-- Trusted. What the parts of a primitive's text stand for, and when they are refused.
 use Rattle.std.specs.Prelude.{◌≡◌, ◌<◌, ◌≤◌, ◌+◌, ℕ, Bool, Option, Some, None, List, [], ◌∷◌, ◌++◌, length, Result, Ok, Err}
 use Rattle.fault_core.specs.declared.primitive.Act.{Act}
 use Rattle.fault_core.specs.declared.primitive.Act.TheVariants.{Write as Writes, Read as Reads, Pause as Pauses}

@@ -1,4 +1,4 @@
--- For proofs and private contracts alone: what a reader of primitives and list lines does at each byte, and what may still follow where it stands.
+-- Inner. For proofs and private contracts alone: what a reader of primitives and list lines does at each byte, and what may still follow where it stands.
 use Rattle.std.specs.Prelude.{◌≡◌, ℕ, ◌&&◌, ◌==◌, Bool, true, false, not, List, [], ◌∷◌, ◌++◌, Option, Some, None, is_some, option_map, if◌then◌else◌, codes}
 use Rattle.bist_text.specs.Grammar.{finish, word, is_blank}
 use Rattle.bist_text.specs.Machine.{Grows}

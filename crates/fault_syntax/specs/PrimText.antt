@@ -1,4 +1,4 @@
--- The grammar of a fault primitive's text.
+-- Trusted. The grammar of a fault primitive's text.
 --
 --     prim   = "<" ws [ sense ws ";" ws ] sense ws "/" ws bit ws "/" ws answer ws ">"
 --     sense  = bit { ws op } | read { ws op }

@@ -1,4 +1,4 @@
--- The printed form of a primitive: no blanks, and the state always shown.
+-- Trusted. The printed form of a primitive: no blanks, and the state always shown.
 use Rattle.std.specs.Prelude.{ℕ, Bool, Option, Some, None, List, [], ◌++◌, codes}
 use Rattle.fault_core.specs.declared.primitive.Act.{Act}
 use Rattle.fault_core.specs.declared.primitive.Act.TheVariants.{Write, Read, Pause}

@@ -1,4 +1,4 @@
--- The list of every number: all static primitives, 21 times.
+-- Trusted. The list of every number: all static primitives, 21 times.
 use Rattle.std.specs.Prelude.{ℕ, zero, suc, List, [], ◌++◌, map, codes}
 use Rattle.fault_syntax.specs.declared.words.Name.TheVariants.{All}
 use Rattle.fault_syntax.specs.Parts.{primitives_of}

@@ -1,4 +1,4 @@
--- The march of a number: March C- of an odd one; of an even one March SS and 58 further elements, which a sequence of numbers gives.
+-- Trusted. The march of a number: March C- of an odd one; of an even one March SS and 58 further elements, which a sequence of numbers gives.
 use Rattle.std.specs.Prelude.{◌+◌, ◌*◌, ◌/◌, ◌%◌, ◌==◌, ℕ, zero, suc, Bool, true, false, if◌then◌else◌, List, [], ◌∷◌, ◌++◌, codes}
 use Rattle.march_core.specs.declared.operation.Order.{Order}
 use Rattle.march_core.specs.declared.operation.Order.TheVariants.{Up, Down, Any}

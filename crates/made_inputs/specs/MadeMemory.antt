@@ -1,4 +1,4 @@
--- The memory of a number.
+-- Trusted. The memory of a number.
 use Rattle.std.specs.Prelude.{◌≡◌, ℕ, ◌+◌, ◌++◌, List, codes, decimal}
 use Rattle.bist_bits.specs.Width.{IsWidthOf}
 use Rattle.scrambler.specs.Scrambling.{identity}

@@ -1,4 +1,4 @@
--- Only helps proofs: the code's walk over the addresses of an element.
+-- Public. Only helps proofs: the code's walk over the addresses of an element.
 use Rattle.std.specs.Prelude.{◌-◌, ℕ, Bool, true, false, List, map}
 use Rattle.march_core.specs.Visits.{Visit, MarchStep, visiting, Direction, Upward, Downward}
 

@@ -1,4 +1,4 @@
--- A march under construction: one more operation, and why it is not yet a march.
+-- Trusted. A march under construction: one more operation, and why it is not yet a march.
 use Rattle.std.specs.Prelude.{◌≡◌, ◌<◌, ◌≤◌, ◌==◌, ◌&&◌, ◌||◌, ◌⊎◌, IsTrue, ℕ, Bool, true, false, not, Some, List, [], ◌∷◌, ◌++◌, length, take, slice_get}
 use Rattle.std.specs.List.{AllByRecursion}
 use Rattle.march_core.specs.declared.operation.Op.{Op}

@@ -1,4 +1,4 @@
--- A march as a plain list of elements.
+-- Trusted. A march as a plain list of elements.
 use Rattle.std.specs.Prelude.{◌≡◌, ◌<◌, ◌≤◌, ℕ, zero, suc, Bool, true, false, not, ◌||◌, ◌⊎◌, IsTrue, List, [], ◌∷◌, length}
 use Rattle.std.specs.List.{AllByRecursion, flat_map}
 use Rattle.march_core.specs.declared.operation.Order.{Order}

@@ -1,4 +1,4 @@
--- What an operation writes or expects, and when a list of operations is consistent.
+-- Trusted. What an operation writes or expects, and when a list of operations is consistent.
 use Rattle.std.specs.Prelude.{◌≡◌, Bool, true, false, Option, Some, None, List, ◌∷◌, ◌++◌}
 use Rattle.std.specs.List.{AllByRecursion}
 use Rattle.march_core.specs.declared.operation.Op.{Op}

@@ -1,4 +1,4 @@
--- How the hardware runs a march: in which directions, and what an operation does there.
+-- Trusted. How the hardware runs a march: in which directions, and what an operation does there.
 use Rattle.std.specs.Prelude.{Bool, true, false, List, map}
 use Rattle.march_core.specs.declared.operation.Order.{Order}
 use Rattle.march_core.specs.declared.operation.Order.TheVariants.{Up, Down, Any}

@@ -1,4 +1,4 @@
--- For proofs and private contracts alone: the scan of the operations that keeps the bit written last.
+-- Inner. For proofs and private contracts alone: the scan of the operations that keeps the bit written last.
 use Rattle.std.specs.Prelude.{◌≡◌, ℕ, Bool, true, false, not, if◌then◌else◌, Option, Some, None, List, [], ◌∷◌, take, slice_get}
 use Rattle.march_core.specs.declared.fault.MarchFault.{MarchFault}
 use Rattle.march_core.specs.declared.fault.MarchFault.TheVariants.{ReadBeforeWrite, WrongExpect}

@@ -1,4 +1,4 @@
--- Choices of direction, direction words, and the visits of a march to the cells of an array.
+-- Trusted. Choices of direction, direction words, and the visits of a march to the cells of an array.
 use Rattle.std.specs.Prelude.{◌≡◌, ◌==◌, ◌+◌, ◌-◌, ◌/◌, ◌%◌, ◌^◌, ℕ, Bool, true, false, ◌&&◌, if◌then◌else◌, List, [], ◌∷◌, ◌++◌, length, map, reverse, IsTrue}
 use Rattle.std.specs.List.{flat_map, range_with_len}
 use Rattle.march_core.specs.declared.operation.Order.{Order}

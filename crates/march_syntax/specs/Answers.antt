@@ -1,4 +1,4 @@
--- What a text is read as: a march, or the first refusal.
+-- Trusted. What a text is read as: a march, or the first refusal.
 use Rattle.std.specs.Prelude.{◌≡◌, List, ℕ, ◌⊎◌, Result, Ok, Err}
 use Rattle.bist_text.specs.Grammar.{IsUnexpected, IsTruncated}
 use Rattle.bist_text.specs.Machine.{Outcome, read, unexpected, truncated}

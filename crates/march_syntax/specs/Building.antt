@@ -1,4 +1,4 @@
--- For proofs and private contracts alone: what the events of a text do to the elements that are built, until a limit is exceeded.
+-- Inner. For proofs and private contracts alone: what the events of a text do to the elements that are built, until a limit is exceeded.
 use Rattle.std.specs.Prelude.{◌≡◌, ◌<◌, ◌-◌, ◌⊎◌, Option, Some, None, List, [], ◌∷◌, ◌++◌, length, IsTrue}
 use Rattle.march_core.specs.declared.fault.MarchFault.{MarchFault}
 use Rattle.march_core.specs.declared.fault.MarchFault.TheVariants.{TooManyElements, TooManyOps, TooManyInAll}

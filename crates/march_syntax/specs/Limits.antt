@@ -1,4 +1,4 @@
--- The first place in a march's text that exceeds a limit: 64 elements, 16 operations an element, 256
+-- Trusted. The first place in a march's text that exceeds a limit: 64 elements, 16 operations an element, 256
 -- operations in all.
 use Rattle.std.specs.Prelude.{◌≡◌, ◌<◌, ◌≤◌, List, [], ◌∷◌, ◌++◌, length}
 use Rattle.std.specs.List.{AllByRecursion}

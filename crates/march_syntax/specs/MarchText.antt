@@ -1,4 +1,4 @@
--- The grammar of a march's text, before any limit is tried.
+-- Trusted. The grammar of a march's text, before any limit is tried.
 --
 --     text    = ws [ "{" ws [ list ws ] "}" | list ] ws
 --     list    = element { ws ";" ws element }

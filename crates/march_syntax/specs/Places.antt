@@ -1,4 +1,4 @@
--- For proofs and private contracts alone: what a reader of a march does at each byte, and what may still follow where it
+-- Inner. For proofs and private contracts alone: what a reader of a march does at each byte, and what may still follow where it
 -- stands.
 use Rattle.std.specs.Prelude.{◌≡◌, ℕ, ◌&&◌, ◌==◌, Bool, true, false, List, [], ◌∷◌, ◌++◌, ◌⊎◌, Option, Some, None, option_map, if◌then◌else◌, codes}
 use Rattle.bist_text.specs.declared.keywords.Spelled.{Spelled}

@@ -1,4 +1,4 @@
--- The printed form of a march: the words `up`, `down`, `any` and `del`, braces, and no blanks.
+-- Trusted. The printed form of a march: the words `up`, `down`, `any` and `del`, braces, and no blanks.
 use Rattle.std.specs.Prelude.{ℕ, zero, suc, List, [], ◌∷◌, ◌++◌, codes}
 use Rattle.march_core.specs.declared.operation.Order.{Order}
 use Rattle.march_core.specs.declared.operation.Order.TheVariants.{Up, Down, Any}

@@ -1,4 +1,4 @@
--- What the readers of the parts of a content line answer.
+-- Inner. What the readers of the parts of a content line answer.
 use Rattle.std.specs.Prelude.{◌≡◌, ℕ, ◌<◌, ◌≤◌, not, if◌then◌else◌, List, [], ◌∷◌, ◌++◌, ◌+◌, ◌⊎◌, Option, Some, None, length, take, bit_xor, bit_or, max}
 use Rattle.std.specs.Str.Parse.{digits_value}
 use Rattle.memory_desc.specs.LineText.{Term, index_bit, constant, more_terms, equation}

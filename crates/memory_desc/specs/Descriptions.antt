@@ -1,4 +1,4 @@
--- A memory, as contracts see it.
+-- Trusted. A memory, as contracts see it.
 use Rattle.std.specs.Prelude.{◌≡◌, ℕ, ◌-◌, ◌^◌, ◌<◌, ◌≤◌, false, List, length, All, Contains}
 use Rattle.std.specs.Int.{is_power_of_two}
 use Rattle.bist_bits.specs.Width.{IsWidthOf}

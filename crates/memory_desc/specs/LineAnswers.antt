@@ -1,4 +1,4 @@
--- What the reader of a line answers.
+-- Inner. What the reader of a line answers.
 use Rattle.std.specs.Prelude.{◌≡◌, ◌↔◌, ℕ, List, if◌then◌else◌, length, true, Option, Some, None, Result, Ok, Err, OnOk, IfOk, IfErr, IsOk, MatchOption}
 use Rattle.bist_text.specs.Grammar.{IsUnexpected, IsTruncated}
 use Rattle.bist_text.specs.Lines.{TextLine}

@@ -1,4 +1,4 @@
--- Why the lines of a text are none of a description: the first steps of the table.
+-- Trusted. Why the lines of a text are none of a description: the first steps of the table.
 use Rattle.std.specs.Prelude.{◌≡◌, ◌⊎◌, ℕ, true, false, [], ◌∷◌, List, Option, Some, None, length}
 use Rattle.bist_text.specs.Grammar.{IsUnexpected, IsTruncated}
 use Rattle.bist_text.specs.Lines.{TextLine}

@@ -1,4 +1,4 @@
--- What a reader of a line does at each byte, and what may still follow where it stands.
+-- Inner. What a reader of a line does at each byte, and what may still follow where it stands.
 use Rattle.std.specs.Prelude.{ℕ, ◌+◌, ◌==◌, ◌||◌, ◌&&◌, Bool, nat_lt, Option, Some, None, List, [], ◌∷◌, if◌then◌else◌}
 use Rattle.bist_text.specs.declared.keywords.Spelled.{Spelled}
 use Rattle.bist_text.specs.declared.keywords.Spelled.TheVariants.{More, Whole}

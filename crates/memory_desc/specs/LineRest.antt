@@ -1,4 +1,4 @@
--- For proofs and private contracts alone: what may still follow where a reader of a line stands, in the pieces of the grammar.
+-- Trusted. For proofs and private contracts alone: what may still follow where a reader of a line stands, in the pieces of the grammar.
 use Rattle.std.specs.Prelude.{◌≡◌, ℕ, true, Option, Some, None, List, [], ◌∷◌, ◌++◌, ◌⊎◌, codes}
 use Rattle.std.specs.List.{list_all}
 use Rattle.bist_text.specs.Grammar.{word}

@@ -1,4 +1,4 @@
--- The grammar of one line of a memory description, without its line feed.
+-- Trusted. The grammar of one line of a memory description, without its line feed.
 use Rattle.std.specs.Prelude.{◌≡◌, ℕ, ◌||◌, ◌&&◌, nat_le, Bool, true, false, Option, Some, None, List, [], ◌∷◌, length, codes}
 use Rattle.std.specs.List.{list_all}
 use Rattle.bist_text.specs.Grammar.{byte, word}

@@ -1,4 +1,4 @@
--- What a search for a repeated line has met.
+-- Inner. What a search for a repeated line has met.
 use Rattle.std.specs.Prelude.{ℕ, ◌≤◌, ◌⊎◌, List, length, Contains}
 use Rattle.memory_desc.specs.declared.content.Subject.{Subject}
 use Rattle.memory_desc.specs.declared.content.Subject.TheVariants.{Row}

@@ -1,4 +1,4 @@
--- Names: simple identifiers of Verilog that the language doesn't keep for itself.
+-- Trusted. Names: simple identifiers of Verilog that the language doesn't keep for itself.
 use Rattle.std.specs.Prelude.{ℕ, ◌≤◌, ◌≡◌, true, false, List, length}
 use Rattle.bist_text.specs.ReservedWords.{is_among, reserved_words}
 pub use Rattle.bist_text.specs.Identifiers.{is_digit, begins_identifier as is_letter, in_identifier as is_name_byte, is_identifier}

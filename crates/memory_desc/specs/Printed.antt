@@ -1,4 +1,4 @@
--- The printed form of a memory.
+-- Trusted. The printed form of a memory.
 use Rattle.std.specs.Prelude.{ℕ, zero, suc, ◌+◌, ◌==◌, ◌&&◌, Bool, true, false, if◌then◌else◌, List, [], ◌∷◌, ◌++◌, codes, decimal}
 use Rattle.std.specs.Int.{bit_at}
 use Rattle.bist_text.specs.Numbers.{word_text}

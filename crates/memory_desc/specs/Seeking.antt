@@ -1,4 +1,4 @@
--- What a search in the lines of a text looks for.
+-- Inner. What a search in the lines of a text looks for.
 use Rattle.std.specs.Prelude.{◌≤◌, Bool, List, Option, find}
 use Rattle.memory_desc.specs.LineText.{Content}
 use Rattle.memory_desc.specs.Statements.{Statement}

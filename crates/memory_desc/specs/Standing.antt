@@ -1,4 +1,4 @@
--- What parts of the reader answer, said of the statements of the text.
+-- Inner. What parts of the reader answer, said of the statements of the text.
 use Rattle.std.specs.Prelude.{◌≡◌, ◌<◌, ℕ, Bool, true, false, List, [], ◌∷◌, length, take, Option, Some, None, Result, Ok, Err, bit_or, max}
 use Rattle.std.specs.Str.Parse.{digits_value}
 use Rattle.bist_text.specs.declared.text_lines.Line.{Line}

@@ -1,4 +1,4 @@
--- What the lines of a description say.
+-- Trusted. What the lines of a description say.
 use Rattle.std.specs.Prelude.{◌≡◌, ◌==◌, ℕ, Bool, true, if◌then◌else◌, ◌++◌, ◌∷◌, [], List, Option, Some, None}
 use Rattle.std.specs.List.{list_all}
 use Rattle.std.specs.Str.Parse.{digits_value}

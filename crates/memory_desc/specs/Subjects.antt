@@ -1,4 +1,4 @@
--- What statements speak of, and the statements about something.
+-- Trusted. What statements speak of, and the statements about something.
 use Rattle.std.specs.Prelude.{◌==◌, Bool, true, false, List, Option, Some, None, find}
 use Rattle.std.specs.Str.Parse.{digits_value}
 use Rattle.memory_desc.specs.LineText.{Content, version, name, words, bits, latency, polarity, pause, scramble, log, backgrounds}

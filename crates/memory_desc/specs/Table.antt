@@ -1,4 +1,4 @@
--- The refusals of a description whose lines are all of the table, in their order, and the memory that it describes.
+-- Trusted. The refusals of a description whose lines are all of the table, in their order, and the memory that it describes.
 use Rattle.std.specs.Prelude.{◌≡◌, ℕ, zero, suc, ◌-◌, ◌^◌, ◌==◌, ◌||◌, ◌&&◌, ◌⊎◌, Bool, true, false, not, nat_lt, nat_le, if◌then◌else◌, List, length, Option, Some, None, Result, Ok, Err, MatchBool, MatchResult, find}
 use Rattle.std.specs.Int.{is_power_of_two}
 use Rattle.std.specs.List.{list_any}

@@ -1,4 +1,4 @@
--- The values that a description's statements give.
+-- Trusted. The values that a description's statements give.
 use Rattle.std.specs.Prelude.{◌≡◌, ℕ, zero, suc, ◌^◌, Bool, true, false, not, List, [], ◌∷◌, ◌++◌, Option, Some, map, bit_xor}
 use Rattle.std.specs.Int.{from_bool}
 use Rattle.std.specs.Str.Parse.{digits_value}

@@ -1,4 +1,4 @@
--- An instruction as a byte.
+-- Public. An instruction as a byte.
 use Rattle.std.specs.Prelude.{◌≡◌, ℕ, ◌+◌, ◌*◌, true, false}
 use Rattle.std.specs.Int.{from_bool}
 use Rattle.microcode.specs.declared.code.Instr.{Instr}

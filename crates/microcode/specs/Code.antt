@@ -1,4 +1,4 @@
--- The code of a march: one instruction for each operation, and one for each pause.
+-- Public. The code of a march: one instruction for each operation, and one for each pause.
 use Rattle.std.specs.Prelude.{◌≡◌, ℕ, zero, suc, ◌+◌, ◌-◌, ◌==◌, Bool, true, false, List, [], ◌∷◌, length}
 use Rattle.std.specs.List.{flat_map, slice_index_or}
 use Rattle.march_core.specs.declared.operation.Order.{Order}

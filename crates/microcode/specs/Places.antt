@@ -1,4 +1,4 @@
--- Places in the run of a march, by four digits, and what is left from one of them on.
+-- Public. Places in the run of a march, by four digits, and what is left from one of them on.
 use Rattle.std.specs.Prelude.{ℕ, ◌+◌, ◌-◌, ◌<◌, ◌≤◌, ◌≡◌, ◌==◌, Bool, true, if◌then◌else◌, ◌&&◌, List, [], ◌∷◌, length}
 use Rattle.march_core.specs.March.{MarchElement, pause, sweep, element_at}
 use Rattle.march_core.specs.Visits.{Direction, Upward, Downward}

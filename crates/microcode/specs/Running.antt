@@ -1,4 +1,4 @@
--- Places in a flat code.
+-- Public. Places in a flat code.
 use Rattle.std.specs.Prelude.{◌≡◌, true, false, List, Option, Some, None}
 use Rattle.march_core.specs.March.{MarchElement, IsMarch}
 use Rattle.microcode.specs.declared.code.Instr.{Instr}

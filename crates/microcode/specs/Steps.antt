@@ -1,4 +1,4 @@
--- The run of a march, step by step: which word, and which instruction.
+-- Public. The run of a march, step by step: which word, and which instruction.
 use Rattle.std.specs.Prelude.{◌≡◌, ℕ, ◌≤◌, if◌then◌else◌, List, [], Option, Some, None, map}
 use Rattle.march_core.specs.March.{MarchElement, order_of, is_pause, element_at}
 use Rattle.march_core.specs.Visits.{MarchStep, pausing, visiting, visits}

@@ -1,4 +1,4 @@
--- What some neighbouring elements of a march do to two cells, over all choices of direction.
+-- Public. What some neighbouring elements of a march do to two cells, over all choices of direction.
 use Rattle.std.specs.Prelude.{◌≡◌, ◌<◌, ◌-◌, ◌%◌, ◌^◌, ℕ, Bool, List, [], ◌∷◌, map, take, drop, IsTrue, slice_index_or}
 use Rattle.std.specs.List.{range_with_len}
 use Rattle.fault_core.specs.Primitive.{Primitive}

@@ -1,4 +1,4 @@
--- Where an instance stands in an array of two cells.
+-- Trusted. Where an instance stands in an array of two cells.
 use Rattle.std.specs.Prelude.{◌≡◌, ℕ, Some, None, IsSome, List, Bool}
 use Rattle.fault_core.specs.declared.cells.Places.{Places}
 use Rattle.fault_core.specs.Primitive.{Primitive}

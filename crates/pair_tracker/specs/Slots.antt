@@ -1,4 +1,4 @@
--- Only helps proofs: the slots that hold the least direction word of each start and each pair.
+-- Public. Only helps proofs: the slots that hold the least direction word of each start and each pair.
 use Rattle.std.specs.Prelude.{◌≡◌, ◌≤◌, ◌+◌, ◌⊎◌, ℕ, min, true, false, if◌then◌else◌, Option, Some, None, List, [], ◌∷◌, map, length}
 use Rattle.std.specs.List.{filter_map}
 use Rattle.std.specs.Option.{option_map}

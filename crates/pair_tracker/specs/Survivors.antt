@@ -1,4 +1,4 @@
--- What a march lets through on an array of two cells, over all choices of direction.
+-- Public. What a march lets through on an array of two cells, over all choices of direction.
 use Rattle.std.specs.Prelude.{◌≡◌, ◌<◌, ◌≤◌, ◌+◌, ◌*◌, ◌^◌, ℕ, Bool, List, length, map, if◌then◌else◌, Contains}
 use Rattle.std.specs.List.{AllByRecursion}
 use Rattle.std.specs.List.Sorted.{IsStrictlyIncreasing}

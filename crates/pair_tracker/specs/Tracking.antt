@@ -1,4 +1,4 @@
--- Only helps proofs: for each start and each pair the least direction word that leads from one to the other.
+-- Public. Only helps proofs: for each start and each pair the least direction word that leads from one to the other.
 use Rattle.std.specs.Prelude.{◌≡◌, ◌<◌, ◌≤◌, ◌+◌, ◌-◌, ◌*◌, ◌^◌, ℕ, Bool, true, false, if◌then◌else◌, Option, Some, None, List}
 use Rattle.march_core.specs.March.{MarchElement, order_of}
 use Rattle.march_core.specs.Visits.{Direction, Upward, Downward, allows, is_direction}

@@ -1,4 +1,4 @@
--- Items of a list, static and dynamic, and what is said of them under a march.
+-- Trusted. Items of a list, static and dynamic, and what is said of them under a march.
 use Rattle.std.specs.Prelude.{◌≡◌, ℕ, Bool, true, false, List, [], ◌∷◌, map, count_by}
 use Rattle.std.specs.List.{AllByRecursion}
 use Rattle.fault_core.specs.Primitive.{Primitive}

@@ -1,4 +1,4 @@
--- That the bytes of a report are determined.
+-- Public. That the bytes of a report are determined.
 use Rattle.std.specs.Prelude.{◌≡◌, ℕ, List, Option}
 use Rattle.march_core.specs.March.{MarchElement}
 use Rattle.memory_desc.specs.Descriptions.{Description}

@@ -1,4 +1,4 @@
--- The report of verdicts: the march, the memory where there is one, one line for each item of the list, one for each class that
+-- Trusted. The report of verdicts: the march, the memory where there is one, one line for each item of the list, one for each class that
 -- occurs, and the total. Every line ends with a line feed.
 use Rattle.std.specs.Prelude.{◌≡◌, ◌-◌, ◌+◌, ◌++◌, ◌&&◌, ◌==◌, ◌⊎◌, ℕ, zero, suc, Bool, true, false, if◌then◌else◌, Option, Some, None, List, [], ◌∷◌, length, filter, count_by, map, take, codes, decimal}
 use Rattle.std.specs.List.{flat_map}

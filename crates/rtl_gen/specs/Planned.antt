@@ -1,4 +1,4 @@
--- The plan of a march and a memory.
+-- Inner. The plan of a march and a memory.
 use Rattle.std.specs.Prelude.{◌≡◌, ℕ, zero, suc, ◌+◌, ◌<◌, ◌==◌, true, false, List, [], ◌∷◌, map, length}
 use Rattle.std.specs.Int.{bit_at}
 use Rattle.march_core.specs.declared.operation.Op.{Op}

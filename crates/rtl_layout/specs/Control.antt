@@ -1,4 +1,4 @@
--- The controller as a machine.
+-- Public. The controller as a machine.
 use Rattle.std.specs.Prelude.{ℕ, zero, suc, ◌+◌, ◌-◌, Bool, true, false, cond, not, ◌&&◌, nat_eq, List, [], ◌∷◌, length, bit_xor, slice_index_or, bit_and, count_ones, ◌*◌, ◌%◌}
 use Rattle.verilog_tree.specs.Meaning.{bit}
 use Rattle.rtl_layout.specs.declared.element.Operation.{Operation}

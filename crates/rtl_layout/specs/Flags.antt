@@ -1,4 +1,4 @@
--- What the tables over the march tell.
+-- Inner. What the tables over the march tell.
 use Rattle.std.specs.Prelude.{Bool}
 use Rattle.rtl_layout.specs.declared.element.Operation.{Operation}
 use Rattle.rtl_layout.specs.declared.flags.OperationFlag.{OperationFlag}

@@ -1,4 +1,4 @@
--- The self-test module of a plan.
+-- Public. The self-test module of a plan.
 use Rattle.std.specs.Prelude.{ℕ, zero, suc, ◌+◌, ◌-◌, Bool, true, false, cond, List, [], ◌∷◌, ◌++◌, map, length, codes}
 use Rattle.verilog_tree.specs.declared.tree.UnOp.TheVariants.{Not, Parity}
 use Rattle.verilog_tree.specs.declared.tree.BinOp.TheVariants.{Sub, And, Xor, Eq, Ne}

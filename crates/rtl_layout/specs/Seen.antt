@@ -1,4 +1,4 @@
--- A plan as contracts see it: vectors are lists, and a name is its bytes.
+-- Public. A plan as contracts see it: vectors are lists, and a name is its bytes.
 use Rattle.rtl_layout.specs.declared.plan.Plan.{Plan as Tables}
 use Rattle.rtl_layout.specs.Plan.{Plan}
 

@@ -1,4 +1,4 @@
--- When registers show a controller, and ports answer for it.
+-- Public. When registers show a controller, and ports answer for it.
 use Rattle.std.specs.Prelude.{◌≡◌, ℕ, suc, ◌^◌, ◌<◌, ◌≤◌, Bool, true, false, List, [], ◌∷◌, length, slice_index_or}
 use Rattle.verilog_tree.specs.Words.{is_name}
 use Rattle.verilog_tree.specs.Meaning.{Env, bit, History}

@@ -1,4 +1,4 @@
--- Linear algebra over the two elements 0 and 1. A vector is a number, its bit i being its part i, and two
+-- Trusted. Linear algebra over the two elements 0 and 1. A vector is a number, its bit i being its part i, and two
 -- vectors are added by exclusive or.
 use Rattle.std.specs.Prelude.{ℕ, zero, suc, ◌+◌, ◌*◌, ◌%◌, ◌^◌, bit_and, bit_xor, count_ones}
 use Rattle.std.specs.Int.{bit_at}

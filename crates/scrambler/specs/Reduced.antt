@@ -1,4 +1,4 @@
--- What elimination keeps: as many vectors as the matrix has rows, so that each row dealt with takes 1 of its own
+-- Public. What elimination keeps: as many vectors as the matrix has rows, so that each row dealt with takes 1 of its own
 -- vector and 0 of every other. (A row takes 1 of a vector where it names an odd number of its bits.)
 use Rattle.std.specs.Prelude.{◌≡◌, ◌≢◌, ℕ, ◌*◌, ◌^◌, ◌<◌, bit_xor}
 use Rattle.std.specs.Int.{bit_at}

@@ -1,4 +1,4 @@
--- Address scrambling: a logical address is an invertible matrix times the physical index, plus a constant,
+-- Trusted. Address scrambling: a logical address is an invertible matrix times the physical index, plus a constant,
 -- over the two elements 0 and 1.
 use Rattle.std.specs.Prelude.{◌≡◌, ℕ, ◌+◌, ◌%◌, ◌^◌, ◌<◌, ◌≤◌, ◌==◌, ◌&&◌, Bool, true, List, [], ◌∷◌, zero, suc, length, slice_index, take}
 use Rattle.std.specs.Int.{bit_at}

@@ -1,4 +1,4 @@
--- What a scrambling keeps beside its matrix.
+-- Public. What a scrambling keeps beside its matrix.
 use Rattle.std.specs.Prelude.{ℕ, List, slice_index}
 use Rattle.scrambler.specs.Reduced.{Reduced}
 use Rattle.scrambler.specs.Scrambling.{IsWithin, matrix_of, row}

@@ -1,4 +1,4 @@
--- Where the ports of a self-test stand among a module's ports.
+-- Public. Where the ports of a self-test stand among a module's ports.
 use Rattle.std.specs.Prelude.{◌≡◌, ℕ, Bool, false, not, ◌&&◌, if◌then◌else◌, List, [], ◌∷◌, codes}
 use Rattle.std.specs.Str.{bytes_eq}
 use Rattle.verilog_tree.specs.Plain.{ModulePort}

@@ -1,4 +1,4 @@
--- Why a module isn't run as the self-test of a march on a memory.
+-- Trusted. Why a module isn't run as the self-test of a march on a memory.
 use Rattle.std.specs.Prelude.{◌≡◌, ◌<◌, ◌≤◌, ℕ, List, Option, Some, None}
 use Rattle.verilog_tree.specs.Plain.{ModulePort}
 use Rattle.march_core.specs.March.{MarchElement}

@@ -1,4 +1,4 @@
--- What a module is that tests a memory by a march, whatever its registers hold at first and whatever words return.
+-- Trusted. What a module is that tests a memory by a march, whatever its registers hold at first and whatever words return.
 use Rattle.std.specs.Prelude.{◌≡◌, ℕ, zero, suc, List, [], ◌∷◌, ◌++◌, Some, None, slice_get, slice_index, codes}
 use Rattle.verilog_tree.specs.Plain.{ModuleTree}
 use Rattle.verilog_tree.specs.Meaning.{Env, History}

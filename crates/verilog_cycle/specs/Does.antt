@@ -1,4 +1,4 @@
--- For proofs and private contracts alone: what the actions of statements have to do.
+-- Public. For proofs and private contracts alone: what the actions of statements have to do.
 use Rattle.std.specs.Prelude.{◌≡◌, ℕ, ◌^◌, ◌<◌, Bool, true, false, List, [], ◌∷◌, None}
 use Rattle.verilog_tree.specs.Plain.{Statement, Statements, Arms, ModuleItem, WireItem, RegItem, AssignItem, AlwaysItem}
 use Rattle.verilog_tree.specs.Formed.{statement_formed, statements_formed, arms_formed}

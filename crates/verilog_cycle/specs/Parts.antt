@@ -1,4 +1,4 @@
--- For proofs and private contracts alone: what the parts of a design are to its module.
+-- Inner. For proofs and private contracts alone: what the parts of a design are to its module.
 use Rattle.std.specs.Prelude.{◌≡◌, ℕ, map, take, length}
 use Rattle.verilog_tree.specs.Plain.{ModuleTree}
 use Rattle.verilog_tree.specs.Meaning.{names_widths}

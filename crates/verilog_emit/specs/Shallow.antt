@@ -1,4 +1,4 @@
--- Where the lines of a statement stand.
+-- Inner. Where the lines of a statement stand.
 use Rattle.std.specs.Prelude.{ℕ, ◌+◌, Bool, true, nat_lt, ◌&&◌}
 use Rattle.verilog_tree.specs.Plain.{Statement, SetTo, IfElse, CaseOf, Statements, Done, Then, Arms, NoArm, ArmOf}
 

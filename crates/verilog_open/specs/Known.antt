@@ -1,4 +1,4 @@
--- Names that have numbers, whatever is left open: those that nothing which is left open leads to.
+-- Public. Names that have numbers, whatever is left open: those that nothing which is left open leads to.
 use Rattle.std.specs.Prelude.{◌≡◌, ℕ, Bool, true, false, List, [], ◌∷◌, ◌⊎◌, Option, Some, None}
 use Rattle.verilog_tree.specs.declared.names.Kind.TheVariants as K
 use Rattle.verilog_tree.specs.Names.{Declaration, declarations, lookup, is_clk}

@@ -1,4 +1,4 @@
--- What the code answers to a token, by what the step is.
+-- Inner. What the code answers to a token, by what the step is.
 use Rattle.std.specs.Prelude.{true, if◌then◌else◌, ◌≡◌, Bool, false, ℕ, ⊤, List, Option, Some, None, Result, Ok, Err}
 use Rattle.bist_text.specs.ReservedWords.{is_among, reserved_words}
 use Rattle.verilog_tree.specs.Grammar.{Limit, Style, deeper, is_zero}

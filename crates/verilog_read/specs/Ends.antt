@@ -1,4 +1,4 @@
--- Which marks may come behind a whole expression by precedence, and behind an operand.
+-- Inner. Which marks may come behind a whole expression by precedence, and behind an operand.
 use Rattle.std.specs.Prelude.{Bool, true, false, Option, Some, None, ◌||◌}
 use Rattle.verilog_tree.specs.declared.tokens.Mark.{Mark}
 use Rattle.verilog_tree.specs.declared.tokens.Mark.TheVariants.{Close, CloseBrace, Comma, Semicolon, Colon, Question}

@@ -1,4 +1,4 @@
--- What the code's frames and holders are.
+-- Inner. What the code's frames and holders are.
 use Rattle.std.specs.Prelude.{List, [], ◌∷◌, map}
 use Rattle.verilog_tree.specs.Grammar as G
 use Rattle.verilog_tree.specs.Plain as P

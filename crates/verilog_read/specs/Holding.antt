@@ -1,4 +1,4 @@
--- For proofs and private contracts alone: what the code holds of an expression by precedence, and what it answers to a token.
+-- Inner. For proofs and private contracts alone: what the code holds of an expression by precedence, and what it answers to a token.
 use Rattle.std.specs.Prelude.{◌≡◌, ℕ, ◌+◌, ⊤, Bool, false, nat_le, List, [], ◌∷◌, map, Option, Some, None, Result, Ok, Err, if◌then◌else◌}
 use Rattle.verilog_tree.specs.Plain as P
 use Rattle.verilog_tree.specs.Tokens.{Token, Identifier, Number, Based, Unused, Sign}

@@ -1,4 +1,4 @@
--- What the code's tokens and the places of its lexer are, and what the lexer answers.
+-- Inner. What the code's tokens and the places of its lexer are, and what the lexer answers.
 use Rattle.std.specs.Prelude.{true, ◌≡◌, ℕ, ◌<◌, ◌≤◌, length, Option, Some, None, Result, Ok, Err}
 use Rattle.bist_bits.specs.Vector.{IsVector}
 use Rattle.bist_text.specs.Machine.{Holds}

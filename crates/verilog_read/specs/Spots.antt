@@ -1,4 +1,4 @@
--- What the code's places are.
+-- Inner. What the code's places are.
 use Rattle.std.specs.Prelude.{map}
 use Rattle.verilog_tree.specs.Plain as P
 use Rattle.verilog_read.specs.Frames.{styled, head_of, around_of, alone_of, outside_of}

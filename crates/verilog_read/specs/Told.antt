@@ -1,4 +1,4 @@
--- For proofs and private contracts alone: what the code answers, by what the machine does.
+-- Inner. For proofs and private contracts alone: what the code answers, by what the machine does.
 use Rattle.std.specs.Prelude.{◌≡◌, ◌||◌, ℕ, ⊤, true, Result, Ok, Err}
 use Rattle.bist_text.specs.Lexed.{Both}
 use Rattle.verilog_tree.specs.declared.tree.Module.{Module}

@@ -1,4 +1,4 @@
--- For proofs and private contracts alone: what the code's operators that wait are.
+-- Inner. For proofs and private contracts alone: what the code's operators that wait are.
 use Rattle.std.specs.Prelude.{List, [], ◌∷◌}
 use Rattle.verilog_tree.specs.Plain.{plain}
 use Rattle.verilog_tree.specs.declared.tree.Expr.{Expr}

@@ -1,4 +1,4 @@
--- The words of the code's sets, and what the code expects where the parser stands.
+-- Inner. The words of the code's sets, and what the code expects where the parser stands.
 use Rattle.std.specs.Prelude.{◌≡◌, List, [], ◌∷◌, ℕ, codes}
 use Rattle.verilog_read.specs.declared.words.WordSet.{WordSet}
 use Rattle.verilog_read.specs.declared.words.WordSet.TheVariants as W

@@ -1,4 +1,4 @@
--- What the reader does at each byte and at the end, with the place where the token that is read began.
+-- Public. What the reader does at each byte and at the end, with the place where the token that is read began.
 use Rattle.verilog_tree.specs.Spells.{bounded}
 use Rattle.verilog_tree.specs.Grammar.{Style}
 use Rattle.std.specs.Prelude.{ℕ, ◌+◌, Bool, true, false, List, [], ◌∷◌, Option, Some, None, if◌then◌else◌}

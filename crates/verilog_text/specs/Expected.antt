@@ -1,4 +1,4 @@
--- Which tokens a text may go on with where the reader of a module stands, whatever its limits.
+-- Public. Which tokens a text may go on with where the reader of a module stands, whatever its limits.
 use Rattle.std.specs.Prelude.{ℕ, Bool, true, false, ◌||◌, ◌&&◌, nat_le, nat_eq, List, [], ◌∷◌, Option, Some, None, length, codes, if◌then◌else◌}
 use Rattle.std.specs.List.{starts_with}
 use Rattle.verilog_tree.specs.Grammar.{is_zero, unlimited}

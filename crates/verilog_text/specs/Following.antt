@@ -1,4 +1,4 @@
--- What may still follow where a reader of a module stands, and the module that the whole then is.
+-- Public. What may still follow where a reader of a module stands, and the module that the whole then is.
 use Rattle.std.specs.Prelude.{◌≡◌, ℕ, ◌+◌, Bool, true, false, List, [], ◌∷◌, ◌++◌, ◌⊎◌, Option, Some, None, codes}
 use Rattle.bist_bits.specs.Vector.{Vector}
 use Rattle.bist_text.specs.Machine.{Holds}

@@ -1,4 +1,4 @@
--- Laws, as statements that a contract can name.
+-- Public. Laws, as statements that a contract can name.
 use Rattle.std.specs.Prelude.{◌≡◌, ℕ, ◌<◌, ◌⊎◌, true, List, Some, ◌↔◌}
 use Rattle.verilog_tree.specs.Formed.{formed}
 use Rattle.bist_text.specs.Machine.{read}

@@ -1,4 +1,4 @@
--- What the lexer does at each byte, and what may still come where it stands.
+-- Public. What the lexer does at each byte, and what may still come where it stands.
 use Rattle.std.specs.Prelude.{◌≡◌, ℕ, ◌+◌, ◌*◌, Bool, true, false, ◌==◌, List, [], ◌∷◌, ◌++◌, Option, Some, None, if◌then◌else◌}
 use Rattle.verilog_tree.specs.Tokens.{is_space, gap, Token, Identifier, Number, Based, Unused, Sign, run, sized, decimal, digits, Start, AWord, ANumber, AMark, NoToken, start_of, is_query, behind_digits, behind_letter, behind_quote, behind_number, Growth, Longer, Spoiled, Complete, growth, behind_mark, first, Lexed}
 use Rattle.bist_text.specs.Identifiers.{is_digit, in_identifier}

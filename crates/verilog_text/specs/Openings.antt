@@ -1,4 +1,4 @@
--- Openings and operators, and when one is too many.
+-- Trusted. Openings and operators, and when one is too many.
 use Rattle.std.specs.Prelude.{ℕ, Bool, true, false, List, [], ◌∷◌, ◌++◌, Some, None, take, drop, codes}
 use Rattle.bist_text.specs.Grammar.{word}
 use Rattle.verilog_tree.specs.declared.tokens.Mark.TheVariants.{Open, OpenBrace}

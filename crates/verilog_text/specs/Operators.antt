@@ -1,4 +1,4 @@
--- Whether each expression of a module has no more operators than may be.
+-- Public. Whether each expression of a module has no more operators than may be.
 use Rattle.std.specs.Prelude.{ℕ, Bool, true, ◌&&◌, List, [], ◌∷◌, Option}
 use Rattle.verilog_tree.specs.Free.{operators}
 use Rattle.verilog_tree.specs.Pieces.{few_in}

@@ -1,4 +1,4 @@
--- Where a reader of a module stands among its tokens: what is read so far, and what the part that is read stands in.
+-- Public. Where a reader of a module stands among its tokens: what is read so far, and what the part that is read stands in.
 use Rattle.std.specs.Prelude.{ℕ, List, [], ◌∷◌, ◌++◌, Option}
 use Rattle.bist_bits.specs.Vector.{Vector}
 use Rattle.verilog_tree.specs.Grammar.{Style, Parenthesised, ByPrecedence}

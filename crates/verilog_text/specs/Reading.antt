@@ -1,4 +1,4 @@
--- The reader of a module's text as a machine over bytes, within limits.
+-- Public. The reader of a module's text as a machine over bytes, within limits.
 use Rattle.std.specs.Prelude.{◌≡◌, ℕ, true, List, Option, None, if◌then◌else◌}
 use Rattle.bist_text.specs.Lexed.{Both, both_step, both_value, both_rest}
 use Rattle.bist_text.specs.Machine.{Outcome, scan}

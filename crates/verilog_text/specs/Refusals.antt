@@ -1,4 +1,4 @@
--- What stands at a byte of a text that is refused, and which refusal is the first.
+-- Trusted. What stands at a byte of a text that is refused, and which refusal is the first.
 use Rattle.verilog_tree.specs.Grammar.{Style, Parenthesised}
 use Rattle.std.specs.Prelude.{◌≡◌, ℕ, ◌+◌, ◌<◌, List, take, length, ◌⊎◌}
 use Rattle.bist_text.specs.Grammar.{Continues, IsUnexpected, IsTruncated}

@@ -1,4 +1,4 @@
--- What a reader of a module does at each token.
+-- Public. What a reader of a module does at each token.
 use Rattle.std.specs.Prelude.{ℕ, ◌+◌, Bool, true, false, List, [], ◌∷◌, ◌++◌, Option, Some, None, if◌then◌else◌, codes}
 use Rattle.std.specs.Str.{bytes_eq}
 use Rattle.bist_bits.specs.Vector.{Vector}

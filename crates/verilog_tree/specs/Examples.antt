@@ -1,4 +1,4 @@
--- Small modules, to try the definitions on.
+-- Public. Small modules, to try the definitions on.
 use Rattle.std.specs.Prelude.{ℕ, List, [], ◌∷◌, codes}
 use Rattle.verilog_tree.specs.declared.tree.Dir.TheVariants.{Input, Output}
 use Rattle.verilog_tree.specs.declared.tree.BinOp.TheVariants.{Add, Shl}

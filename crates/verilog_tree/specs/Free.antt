@@ -1,4 +1,4 @@
--- Expressions with operators that bind by precedence: derivations, the tokens that each derives, and its tree.
+-- Trusted. Expressions with operators that bind by precedence: derivations, the tokens that each derives, and its tree.
 use Rattle.std.specs.Prelude.{◌≡◌, ℕ, zero, suc, ◌+◌, List, Option, Some, None}
 use Rattle.bist_bits.specs.Vector.{Vector}
 use Rattle.verilog_tree.specs.declared.tokens.Mark.TheVariants.{Open, Close, OpenBracket, CloseBracket, OpenBrace, CloseBrace, Comma, Colon, Question}

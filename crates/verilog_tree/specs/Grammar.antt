@@ -1,4 +1,4 @@
--- The grammar of a module: derivations, the tokens that each derives, and its tree.
+-- Trusted. The grammar of a module: derivations, the tokens that each derives, and its tree.
 use Rattle.std.specs.Prelude.{◌≡◌, ℕ, ◌+◌, Bool, true, false, List, [], ◌∷◌, ◌++◌, Option, Some, None, codes}
 use Rattle.bist_bits.specs.Vector.{Vector}
 use Rattle.verilog_tree.specs.declared.tokens.Mark.TheVariants.{Open, Close, OpenBracket, CloseBracket, Comma, Semicolon, Colon, At, Equals, LessEquals}

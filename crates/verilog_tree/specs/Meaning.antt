@@ -1,4 +1,4 @@
--- What a module means: the width and the value of an expression, the equations that settle a cycle, and
+-- Trusted. What a module means: the width and the value of an expression, the equations that settle a cycle, and
 -- the registers after a rising edge of the clock. All values are unsigned and two-valued (IEEE 1364-2005
 -- without x and z).
 use Rattle.std.specs.Prelude.{◌≡◌, ℕ, ◌+◌, ◌-◌, ◌*◌, ◌/◌, ◌%◌, ◌^◌, ◌<◌, Bool, false, cond, not, ◌&&◌, ◌||◌, nat_eq, nat_lt, nat_le, List, [], ◌∷◌, ◌++◌, bit_and, bit_or, bit_xor, count_ones}

@@ -1,4 +1,4 @@
--- What the names of a module are.
+-- Trusted. What the names of a module are.
 use Rattle.std.specs.Prelude.{ℕ, ◌+◌, Bool, true, false, cond, nat_eq, ◌&&◌, List, [], ◌∷◌, ◌++◌, map, Option, Some, None, codes}
 use Rattle.std.specs.Str.{bytes_eq}
 use Rattle.verilog_tree.specs.declared.tree.Dir.{Dir}

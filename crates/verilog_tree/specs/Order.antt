@@ -1,4 +1,4 @@
--- Modules whose assign items and always blocks stand in another order.
+-- Public. Modules whose assign items and always blocks stand in another order.
 use Rattle.std.specs.Prelude.{◌≡◌, ℕ, List, [], ◌∷◌}
 use Rattle.std.specs.List.Sorted.{IsPermutation}
 use Rattle.verilog_tree.specs.Names.{item_declarations}

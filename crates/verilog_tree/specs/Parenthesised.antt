@@ -1,4 +1,4 @@
--- Expressions in full parentheses: derivations, the tokens that each derives, and its tree.
+-- Trusted. Expressions in full parentheses: derivations, the tokens that each derives, and its tree.
 use Rattle.std.specs.Prelude.{ℕ, List}
 use Rattle.bist_bits.specs.Vector.{Vector}
 use Rattle.verilog_tree.specs.declared.tokens.Mark.TheVariants.{Open, Close, OpenBracket, CloseBracket, OpenBrace, CloseBrace, Comma, Colon, Question}

@@ -1,4 +1,4 @@
--- What two numbers give of which either may be open.
+-- Trusted. What two numbers give of which either may be open.
 use Rattle.std.specs.Prelude.{ℕ, cond, nat_eq, Option, Some, None}
 
 -- what both numbers give

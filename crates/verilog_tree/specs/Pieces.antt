@@ -1,4 +1,4 @@
--- Pieces of the grammar: tokens, limits, and the marks of operators.
+-- Trusted. Pieces of the grammar: tokens, limits, and the marks of operators.
 use Rattle.std.specs.Prelude.{◌≡◌, ℕ, ◌+◌, ◌==◌, Bool, true, false, not, ◌&&◌, nat_lt, nat_le, List, [], ◌∷◌, Option, Some, None, if◌then◌else◌}
 use Rattle.std.specs.Str.{bytes_eq}
 use Rattle.bist_bits.specs.Vector.{Vector}

@@ -1,4 +1,4 @@
--- A module as contracts see it: names are their bytes, vectors are lists, and a box is what it holds.
+-- Trusted. A module as contracts see it: names are their bytes, vectors are lists, and a box is what it holds.
 use Rattle.std.specs.Prelude.{ℕ, List, [], ◌∷◌, map}
 use Rattle.bist_bits.specs.Vector.{Vector}
 use Rattle.verilog_tree.specs.declared.tree.UnOp.{UnOp}

@@ -1,4 +1,4 @@
--- What the crate's own types are to its definitions.
+-- Public. What the crate's own types are to its definitions.
 use Rattle.std.specs.Prelude.{List, [], ◌∷◌, Option, Some, None}
 use Rattle.verilog_tree.specs.declared.names.Declared.{Declared}
 use Rattle.verilog_tree.specs.declared.mentions.Mention as M

@@ -1,4 +1,4 @@
--- The module that bytes spell.
+-- Trusted. The module that bytes spell.
 use Rattle.std.specs.Prelude.{◌≡◌, ℕ, Bool, true, false, not, ◌&&◌, ◌||◌, nat_le, List, [], ◌∷◌, Some, length}
 use Rattle.verilog_tree.specs.Formed.{is_literal, is_place}
 use Rattle.verilog_tree.specs.Plain.{ModuleTree}

@@ -1,4 +1,4 @@
--- How the logic stores a plain module: a tree of numbers, from which it is read again.
+-- Public. How the logic stores a plain module: a tree of numbers, from which it is read again.
 use Rattle.std.specs.Prelude.{◌≡◌, ℕ, zero, suc, List, [], ◌∷◌, refl}
 use mathlib.Core.Path.{sym, ap, ◌∙◌}
 use Rattle.std.specs.Coded.{Coded, code_by, coded×, coded⊎, coded_ℕ, coded_list}

@@ -1,4 +1,4 @@
--- The tokens of a text, each the longest at its place, with white space between them.
+-- Trusted. The tokens of a text, each the longest at its place, with white space between them.
 use Rattle.std.specs.Prelude.{◌≡◌, ℕ, ◌+◌, ◌*◌, Bool, true, false, not, ◌==◌, ◌&&◌, ◌||◌, List, [], ◌∷◌, ◌++◌, ◌⊎◌, Option, Some, None, codes, if◌then◌else◌}
 use Rattle.bist_bits.specs.Vector.{Vector}
 use Rattle.bist_text.specs.Grammar.{finish, byte, when}

@@ -1,4 +1,4 @@
--- Wires whose expressions use wires.
+-- Trusted. Wires whose expressions use wires.
 use Rattle.std.specs.Prelude.{◌≡◌, ℕ, ◌^◌, ◌<◌, cond, false, List, [], ◌∷◌, ◌⊎◌, Option, Some, None}
 use Rattle.std.specs.Str.{bytes_eq}
 use Rattle.verilog_tree.specs.declared.names.Kind.{Kind}

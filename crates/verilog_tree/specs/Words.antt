@@ -1,4 +1,4 @@
--- The words of the subset: names, numbers and literals (IEEE 1364-2005, clause 3).
+-- Trusted. The words of the subset: names, numbers and literals (IEEE 1364-2005, clause 3).
 use Rattle.std.specs.Prelude.{ℕ, ◌-◌, Bool, not, ◌==◌, ◌&&◌, ◌||◌, nat_le, List, length, Option, Some, None, if◌then◌else◌}
 use Rattle.bist_text.specs.ReservedWords.{is_among, reserved_words}
 use Rattle.bist_text.specs.Identifiers.{is_digit, is_identifier}

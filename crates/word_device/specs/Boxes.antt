@@ -1,4 +1,4 @@
--- What a boxed memory tells, and what its calls make of that.
+-- Trusted. What a boxed memory tells, and what its calls make of that.
 use Rattle.std.specs.Prelude.{◌≡◌, ◌<◌, ◌≤◌, ◌+◌, ◌-◌, ◌*◌, ◌/◌, ◌%◌, ◌^◌, ℕ, Option, Some, None, List, length, map, replicate, bit_xor}
 use Rattle.std.specs.List.{range_with_len}
 use Rattle.bist_bits.specs.Width.{IsWidthOf}

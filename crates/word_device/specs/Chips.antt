@@ -1,4 +1,4 @@
--- A memory of words with at most one planted instance of a primitive, and what commands do to it.
+-- Trusted. A memory of words with at most one planted instance of a primitive, and what commands do to it.
 use Rattle.std.specs.Prelude.{◌≢◌, ◌<◌, ◌==◌, ◌^◌, ℕ, Bool, true, false, not, ◌&&◌, ◌||◌, if◌then◌else◌, Option, Some, None, List, slice_index, slice_set, bit_xor}
 use Rattle.std.specs.Int.{bit_at}
 use Rattle.fault_core.specs.declared.primitive.Act.{Act}

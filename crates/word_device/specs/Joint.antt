@@ -1,4 +1,4 @@
--- The ports of a self-test and a chip, cycle by cycle: what the chip answers in a cycle stands on the port in the next.
+-- Trusted. The ports of a self-test and a chip, cycle by cycle: what the chip answers in a cycle stands on the port in the next.
 use Rattle.std.specs.Prelude.{◌≡◌, ◌↔◌, ◌+◌, ◌<◌, ◌≤◌, ◌^◌, ◌%◌, ℕ, zero, suc, List, length, IsTrue, false}
 use Rattle.march_core.specs.March.{MarchElement}
 use Rattle.memory_desc.specs.Descriptions.{Description}

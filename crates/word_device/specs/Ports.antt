@@ -1,4 +1,4 @@
--- A chip behind its port: its words by physical index, the planted instance, the answers that are under way and the count of
+-- Trusted. A chip behind its port: its words by physical index, the planted instance, the answers that are under way and the count of
 -- idle cycles; and what a command in a cycle does to them.
 use Rattle.std.specs.Prelude.{◌==◌, ◌+◌, ◌^◌, ◌%◌, ℕ, zero, suc, Bool, true, false, nat_lt, if◌then◌else◌, Option, Some, None, List, [], ◌∷◌, ◌++◌, drop, slice_index, bit_xor}
 use Rattle.scrambler.specs.Scrambling.{Scrambling, logical}

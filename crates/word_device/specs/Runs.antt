@@ -1,4 +1,4 @@
--- A chip and the cycles of a march, one after another.
+-- Trusted. A chip and the cycles of a march, one after another.
 use Rattle.std.specs.Prelude.{◌≡◌, ◌≢◌, ◌<◌, ◌^◌, ◌%◌, ℕ, true, false, if◌then◌else◌, Option, Some, None, List, [], ◌∷◌, length, map, slice_get, slice_index}
 use Rattle.fault_core.specs.Primitive.{IsPrimitive}
 use Rattle.march_core.specs.March.{MarchElement}

@@ -1,4 +1,4 @@
--- What a march does to the words of a memory, and to its port; where in the run each command stands.
+-- Trusted. What a march does to the words of a memory, and to its port; where in the run each command stands.
 use Rattle.std.specs.Prelude.{ℕ, zero, suc, ◌+◌, ◌*◌, List, [], ◌∷◌, Option, Some, None, map, length, replicate, filter_map, bit_xor}
 use Rattle.std.specs.List.{flat_map}
 use Rattle.march_core.specs.March.{MarchElement}

@@ -1,4 +1,4 @@
--- What follows from the definitions of commands and ports alone, and two small runs.
+-- Public. What follows from the definitions of commands and ports alone, and two small runs.
 use Rattle.std.specs.Prelude.{◌≡◌, ℕ, ◌≤◌, true, false, IsTrue, List, [], ◌∷◌, map}
 use Rattle.std.specs.List.{AllByRecursion}
 use Rattle.march_core.specs.declared.operation.Order.TheVariants.{Up, Down, Any}

@@ -1,4 +1,4 @@
--- What a self-test does at its ports, cycle by cycle, whatever words return.
+-- Trusted. What a self-test does at its ports, cycle by cycle, whatever words return.
 use Rattle.std.specs.Prelude.{◌≡◌, ◌≢◌, ◌↔◌, ℕ, ◌+◌, ◌<◌, ◌≤◌, Bool, true, false, List, Some, IsTrue, slice_get}
 use Rattle.march_core.specs.March.{MarchElement}
 use Rattle.memory_desc.specs.Descriptions.{Description}

@@ -1,4 +1,4 @@
--- Proof help, and nothing that a clause claims: where an iterator over the operations stands, and what it has left.
+-- Public. Proof help, and nothing that a clause claims: where an iterator over the operations stands, and what it has left.
 use Rattle.std.specs.Prelude.{◌≡◌, ℕ, suc, ◌+◌, ◌<◌, ◌≤◌, true, false, nat_lt, if◌then◌else◌, List, [], ◌∷◌, ◌++◌, drop, map, length, slice_index}
 use Rattle.std.specs.List.{flat_map}
 use Rattle.march_core.specs.declared.operation.Op.{Op}
