@@ -1,5 +1,5 @@
 -- What the check of a module's open run leaves.
-use Rattle.std.proofs.Common.{◌≡◌, ℕ, List, Some, Result, Ok, Err, IfOk, IfErr, refl, sym, subst}
+use Rattle.std.proofs.Common.{◌≡◌, ℕ, List, Some, None, Result, Ok, Err, IfOk, IfErr, refl, sym, subst}
 use Rattle.arrayvec.specs.ArrayString.{ArrayString}
 use Rattle.verilog_tree.specs.Plain.{ModuleTree}
 use Rattle.march_core.specs.March.{MarchElement}
