@@ -236,8 +236,11 @@ def is_block(line: str) -> bool:
 # ---- what a definition refers to
 
 
-def bound_in(lines: Iterable[str], own: Iterable[str], kind: str) -> set[str]:
-    """The names that are bound within these lines."""
+FIELD_HEAD = re.compile(r"\s+(?:pub )?([^\W\d][\w']*) : ")
+
+
+def bound_in(lines: Iterable[str], own: Iterable[str]) -> set[str]:
+    """The names that are bound within these lines, but for the fields of a record, which are bound one after another."""
     bound: set[str] = set()
     own = set(own)
     for line in lines:
@@ -250,13 +253,23 @@ def bound_in(lines: Iterable[str], own: Iterable[str], kind: str) -> set[str]:
         if words and words[0] in own and "=" in words:
             pattern = stripped[: stripped.index(" =")] if " =" in stripped else stripped
             bound.update(word for word in NAME.findall(pattern)[1:] if word[0].islower())
-        if kind == "record":
-            field = re.match(r"\s+(?:pub )?([^\W\d][\w']*) : ", line)
-            if field:
-                bound.add(field[1])
         for found in re.finditer(r"\blet ([^\W\d][\w']*)", line):
             bound.add(found[1])
     return bound - own
+
+
+def references(definition: Definition) -> Iterator[str]:
+    """The words of a definition that it doesn't bind itself. A field's type may use a name that the field then takes."""
+    bound = bound_in(definition.lines, definition.names)
+    field = ""
+    for line in definition.lines:
+        head = FIELD_HEAD.match(line) if definition.kind == "record" else None
+        if head:
+            bound.add(field)
+            field, line = head[1], line[head.end() :]
+        for word in words_in([line]):
+            if word.split(".")[0] not in bound:
+                yield word
 
 
 def words_in(lines: Iterable[str]) -> Iterator[str]:
@@ -347,12 +360,8 @@ class Graph:
         return self.target((crate, file, name or parts[1])) if name or len(parts) > 1 else None
 
     def follow(self, spec: SpecFile, definition: Definition) -> None:
-        bound = bound_in(definition.lines, definition.names, definition.kind)
-        for word in words_in(definition.lines):
-            first = word.split(".")[0]
-            if first in bound:
-                continue
-            found = self.meant(word, spec.imports, (spec.crate, spec.name, first))
+        for word in references(definition):
+            found = self.meant(word, spec.imports, (spec.crate, spec.name, word.split(".")[0]))
             if found and found is not definition:
                 definition.uses.add(found.key)
 

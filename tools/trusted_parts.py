@@ -8,7 +8,9 @@ TITLE = """# What has to be trusted
 
 A proof is worth as much as the statement that it proves. This page has each definition that a clause of the top call `run`
 stands on, whole, with its comment, in four parts; nothing else of the repository's definitions has to be read in order to know
-what is promised, and no code. The page is made from the sources by `tools/trusted`, and the gate compares it, so it can't be
+what is promised, and no code. `H.files`, `H.said` and the counts of faults in a clause are what a host tells, `told` what a box tells
+(the traits `Host` and `Device`); in a Rust type a `Prim` stands for its `Primitive`, a `DynPrim` for its `DynamicPrimitive`, a
+`Scramble` for its `Scrambling`, a `Name` for its bytes. The page is made from the sources by `tools/trusted`, and the gate compares it, so it can't be
 other than what is proved.
 
 *How to read it.* `Name : A → B → Type 0` declares a relation or a statement about an A and a B; the lines below say what it
@@ -42,7 +44,8 @@ PARTS = (
         """
 What a march does to cells, what a fault is and when a march detects it, for static faults and for those of two operations;
 what a march is on the words of a memory, and which commands it gives at the port; what a module of the Verilog subset means in
-a cycle and from cycle to cycle; the rule of the ports; what a self-test is; and last the headline, which puts them together.
+a cycle and from cycle to cycle; the rule of the ports; what a self-test is; and last the headline, which puts them together, and
+what `check` promises, the second clause of its kind.
 
 - **Marches.** An element is a pause, or an order and operations. A direction stands for each element, as its order allows; the
   visits are one list of steps: for each element in order a pause, or for each address in the element's direction each of its
@@ -99,7 +102,10 @@ a cycle and from cycle to cycle; the rule of the ports; what a self-test is; and
         "What a module is",
         """
 The rules that a module keeps, when its wires form a loop and when one environment settles a cycle; and which bytes spell
-which module: letters and tokens, the grammar in full parentheses and by precedence, and the limits of the reader.
+which module: letters and tokens, the grammar in full parentheses and by precedence, and the limits of the reader. At the end
+stands what a module means where some values are left open, and what a controller issues (`Issues`), of which `check` speaks: a
+number that stands in the open run stands in every history, and the answer is the first cycle and port where it has none, or
+another than the rule of the ports wants.
 
 - **Names** (`Names.antt`): the declarations of a module are its ports, then its `wire` and `reg` items, in order; `lookup`
   finds the first of a name. Its kind is input, wire (also a plain output) or register (also `output reg`).
