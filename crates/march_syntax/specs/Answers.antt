@@ -14,9 +14,13 @@ use Rattle.march_syntax.specs.MarchText.{MarchText}
 abbrev pub Refuses : List MarchElement → MarchFault → Type 0
 Refuses elements fault = Exceeds elements fault ⊎ (IsWithin elements × IsRefused elements fault)
 
+-- the bytes are the text of this march
+abbrev pub SpellsMarch : List ℕ → List MarchElement → Type 0
+SpellsMarch bytes march = MarchText bytes march × IsMarch march
+
 -- What the bytes are read as. M1 and M2 speak of bytes that are no text of the grammar, the others of those that are one.
 abbrev pub Reads : List ℕ → Result (List MarchElement) MarchFault → Type 0
-Reads bytes (Ok march) = MarchText bytes march × IsMarch march
+Reads bytes (Ok march) = SpellsMarch bytes march
 Reads bytes (Err (Unexpected k)) = IsUnexpected MarchText bytes k
 Reads bytes (Err Truncated) = IsTruncated MarchText bytes
 Reads bytes (Err fault) = (elements : List MarchElement) × MarchText bytes elements × Refuses elements fault
