@@ -4,7 +4,7 @@ use Rattle.bist_text.specs.Lines.{TextLine}
 use Rattle.fault_syntax.specs.declared.fault.FaultFault.{FaultFault}
 use Rattle.fault_syntax.specs.declared.words.NameSet.{NameSet}
 use Rattle.fault_syntax.specs.declared.words.NameSet.TheVariants.{Every}
-use Rattle.fault_syntax.specs.LineByLine.{BringBy, ReadsLines}
+use Rattle.fault_syntax.specs.LineByLine.{BringBy, SpellsLines, ReadsLines}
 use Rattle.fault_syntax.specs.ListText.{Primitive as OnePrimitive, LineOf, ItemLine}
 use Rattle.dynamic_core.specs.declared.item.Item.{Item}
 use Rattle.dynamic_core.specs.ItemParts.{RefusesOn, BringsIn}
@@ -17,6 +17,10 @@ BringAll lines items = BringBy ItemLine (BringsIn Every) lines items
 abbrev pub ReadsIn : NameSet → List ℕ → Result (List Item) FaultFault → Type 0
 ReadsIn set bytes r = ReadsLines (LineOf set) (BringsIn set) OnePrimitive (RefusesOn set) bytes r
 
--- and of a list with every name
+-- the bytes are a list of these items, with any names
+abbrev pub SpellsItems : List ℕ → List Item → Type 0
+SpellsItems bytes items = SpellsLines (LineOf Every) (BringsIn Every) bytes items
+
+-- what the bytes of such a list are read as
 abbrev pub ReadsItems : List ℕ → Result (List Item) FaultFault → Type 0
 ReadsItems bytes r = ReadsIn Every bytes r

@@ -27,6 +27,10 @@ module _ {V P : Type 0} (Line : List ℕ → Option V → Type 0) (Brings : Opti
   BringBy (l ∷ ls) ps =
       (item : Option V) × (first : List P) × (others : List P) × Line l.text item × Brings item first × BringBy ls others × (ps ≡ first ++ others)
 
+  -- the lines of these bytes bring these primitives, at most 1,024
+  abbrev pub SpellsLines : List ℕ → List P → Type 0
+  SpellsLines bytes ps = BringBy (text_lines bytes) ps × (length ps ≤ 1024)
+
 module _ {V P : Type 0} (Line : List ℕ → Option V → Type 0) (Brings : Option V → List P → Type 0) (written : PrimParts → V) (Refuses : ℕ → PrimParts → FaultFault → Type 0) where
   -- why a line is refused behind others that brought these primitives
   abbrev pub IsRefusedBehind : List P → TextLine → FaultFault → Type 0
@@ -45,10 +49,10 @@ module _ {V P : Type 0} (Line : List ℕ → Option V → Type 0) (Brings : Opti
     pub within : length held ≤ 1024
     pub refused : IsRefusedBehind held line fault
 
-  -- What the bytes of a list are read as: what its lines bring, at most 1,024, or the refusal of the first line that is
-  -- refused. Want of memory is no refusal of a list.
+  -- What the bytes of a list are read as: what its lines bring, or the refusal of the first line that is refused. Want of
+  -- memory is no refusal of a list.
   abbrev pub ReadsLines : List ℕ → Result (List P) FaultFault → Type 0
-  ReadsLines bytes (Ok ps) = BringBy Line Brings (text_lines bytes) ps × (length ps ≤ 1024)
+  ReadsLines bytes (Ok ps) = SpellsLines Line Brings bytes ps
   ReadsLines bytes (Err fault) = FirstRefusal (text_lines bytes) fault
 
 -- ---- for proofs and private contracts alone
