@@ -32,6 +32,7 @@ pub mod BackValues
 pub mod ReadBack
 pub mod BackDescribed
 pub mod Behind
+pub mod DescribedLaws
 pub mod ContentReads
 pub mod ContentLoops
 pub mod ContentSubjects

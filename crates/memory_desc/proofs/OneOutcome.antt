@@ -21,6 +21,7 @@ use Rattle.memory_desc.specs.LineRest.{KindText, OpeningText, rest}
 use Rattle.memory_desc.specs.LineText.{Content, version, ContentText, LineText}
 use Rattle.memory_desc.specs.Statements.{Statement, stated, version_of, GivesVersion, is_said_in, is_line_of, IsOfVersion, first_version, Say}
 use Rattle.memory_desc.specs.Table.{AreStatements, Describes, Reads}
+use Rattle.memory_desc.proofs.DescribedLaws.{spelled}
 use Rattle.memory_desc.proofs.Determined.{describes_one}
 use Rattle.memory_desc.proofs.LineChecks.{says_kind, opening_blank, opening_version}
 use Rattle.memory_desc.proofs.LineMachine.{follows}
@@ -196,9 +197,9 @@ both_ways bytes f ss h a = not_stated (text_lines bytes) ss a.1.0 f h a.0 a.1.1
 
 -- A text is read in one way.
 pub reads_one : (bytes : List ℕ) (r s : Result Description MemoryFault) → Reads bytes r → Reads bytes s → r ≡ s
-reads_one bytes (Ok d) (Ok e) h k = described_one bytes (Ok d) (Ok e) h k
-reads_one bytes (Ok d) (Err g) h k = elim k [ inl b ↦ absurd (both_ways bytes g h.0 b h.1) | inr b ↦ described_one bytes (Ok d) (Err g) h b ]
-reads_one bytes (Err f) (Ok e) h k = elim h [ inl a ↦ absurd (both_ways bytes f k.0 a k.1) | inr a ↦ described_one bytes (Err f) (Ok e) a k ]
+reads_one bytes (Ok d) (Ok e) h k = described_one bytes (Ok d) (Ok e) (spelled bytes d h) (spelled bytes e k)
+reads_one bytes (Ok d) (Err g) h k = elim k [ inl b ↦ absurd (both_ways bytes g h.0 b h.1) | inr b ↦ described_one bytes (Ok d) (Err g) (spelled bytes d h) b ]
+reads_one bytes (Err f) (Ok e) h k = elim h [ inl a ↦ absurd (both_ways bytes f k.0 a k.1) | inr a ↦ described_one bytes (Err f) (Ok e) a (spelled bytes e k) ]
 reads_one bytes (Err f) (Err g) h k = elim h [
   | inl a ↦ elim k [ inl b ↦ ap Err (refused_one (text_lines bytes) f g a b) | inr b ↦ absurd (both_ways bytes f b.0 a b.1) ]
   | inr a ↦ elim k [ inl b ↦ absurd (both_ways bytes g a.0 b a.1) | inr b ↦ described_one bytes (Err f) (Err g) a b ]

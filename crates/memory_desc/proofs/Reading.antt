@@ -6,6 +6,7 @@ use Rattle.memory_desc.specs.LineFaults.{AreRefused}
 use Rattle.memory_desc.specs.Statements.{Statement, Say}
 use Rattle.memory_desc.specs.Table.{AreStatements, Describes, Reads}
 use Rattle.memory_desc.specs.declared.fault.MemoryFault.{MemoryFault}
+use Rattle.memory_desc.proofs.DescribedLaws.{spells, spelled}
 use Rattle.memory_desc.proofs.Determined.{describes_one}
 
 -- the answer is the one that the text is read as
@@ -24,7 +25,7 @@ module _ (bytes : List ℕ) (r : Result Description MemoryFault) (some : (ss : L
 
   pub reading_described : ((fault : MemoryFault) → AreRefused (text_lines bytes) fault → ⊥) → IsReading bytes r
   reading_described unrefused = record {
-    ok = λ d. (to_description (Ok d), from_description (Ok d));
+    ok = λ d. (λ e. spells bytes d (to_description (Ok d) e), λ h. from_description (Ok d) (spelled bytes d h));
     refused = λ fault. (
       λ e. inr (to_description (Err fault) e),
       λ h. elim h [ inl a ↦ absurd (unrefused fault a) | inr s ↦ from_description (Err fault) s ],

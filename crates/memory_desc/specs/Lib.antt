@@ -9,6 +9,7 @@ pub mod Statements
 pub mod LineFaults
 pub mod Subjects
 pub mod Values
+pub mod Described
 pub mod Table
 pub mod Standing
 pub mod Seeking

@@ -1,4 +1,4 @@
--- Trusted. The refusals of a description whose lines are all of the table, in their order, and the memory that it describes.
+-- Trusted. The refusals of a description whose lines are all of the table, in their order; else it describes a memory.
 use Rattle.std.specs.Prelude.{◌≡◌, ℕ, zero, suc, ◌-◌, ◌^◌, ◌==◌, ◌||◌, ◌&&◌, ◌⊎◌, Bool, true, false, not, nat_lt, nat_le, if◌then◌else◌, List, length, Option, Some, None, Result, Ok, Err, MatchBool, MatchResult, find}
 use Rattle.std.specs.Int.{is_power_of_two}
 use Rattle.std.specs.List.{list_any}
@@ -7,6 +7,7 @@ use Rattle.bist_bits.specs.Width.{IsWidthOf}
 use Rattle.bist_text.specs.Lines.{text_lines}
 use Rattle.scrambler.specs.Scrambling.{Scrambling, IsInvertible, IsLeastDependence, identity}
 use Rattle.memory_desc.specs.Descriptions.{Description, assembled}
+pub use Rattle.memory_desc.specs.Described.{is_other, is_repeat, is_out_of_range, is_row, is_scrambled, is_term_too_wide, is_too_wide, described, AreStatements, SpellsMemory}
 use Rattle.memory_desc.specs.LineText.{Term, index_bit, constant, Content, name, words, bits, latency, polarity, pause, scramble, backgrounds}
 use Rattle.memory_desc.specs.LineFaults.{AreRefused}
 use Rattle.bist_text.specs.ReservedWords.{is_among, reserved_words}
@@ -28,13 +29,6 @@ at_line fault (Some s) = Some (fault s.line)
 
 -- ---- D3: an earlier line speaks of the same
 
-abbrev pub is_other : ℕ → Option Statement → Bool
-is_other line None = false
-is_other line (Some s) = not (s.line == line)
-
-abbrev pub is_repeat : List Statement → Statement → Bool
-is_repeat ss s = is_other s.line (about (subject s.content) ss)
-
 abbrev pub repeated : List Statement → Option MemoryFault
 repeated ss = at_line (λ n. Repeated n) (find (is_repeat ss) ss)
 
@@ -49,40 +43,15 @@ missing q field ss = unless_there (Missing field) (about q ss)
 
 -- ---- D5: a name, a number of words or of bits, a latency or a pause outside its range
 
-abbrev pub is_out_of_range : Content → Bool
-is_out_of_range (name b) = nat_lt 48 (length b) || is_among b reserved_words
-is_out_of_range (words ds) = nat_lt (digits_value 10 ds) 2 || nat_lt 65536 (digits_value 10 ds)
-is_out_of_range (bits ds) = nat_lt (digits_value 10 ds) 1 || nat_lt 64 (digits_value 10 ds)
-is_out_of_range (latency ds) = nat_lt (digits_value 10 ds) 1 || nat_lt 4 (digits_value 10 ds)
-is_out_of_range (pause ds) = nat_lt (digits_value 10 ds) 1 || nat_lt 65535 (digits_value 10 ds)
-is_out_of_range other = false
-
 abbrev pub out_of_range : List Statement → Option MemoryFault
 out_of_range ss = at_line (λ n. OutOfRange n) (find (λ s. is_out_of_range s.content) ss)
 
 -- ---- D7: rows, and a number of words that is no power of two
 
-abbrev pub is_row : Content → Bool
-is_row (scramble i ts) = true
-is_row other = false
-
-abbrev pub is_scrambled : List Statement → Bool
-is_scrambled ss = list_any (λ s. is_row s.content) ss
-
 abbrev pub unscramblable : List Statement → Option MemoryFault
 unscramblable ss = if is_scrambled ss && not (is_power_of_two (words_said ss)) then Some ScrambleNeedsPowerOfTwo else None
 
 -- ---- D5: a row or an index bit past the address, or a background or a polarity past the word
-
-abbrev pub is_term_too_wide : ℕ → Term → Bool
-is_term_too_wide width (index_bit ds) = nat_le width (digits_value 10 ds)
-is_term_too_wide width (constant b) = false
-
-abbrev pub is_too_wide : ℕ → ℕ → Content → Bool
-is_too_wide width size (scramble i ts) = nat_le width (digits_value 10 i) || list_any (is_term_too_wide width) ts
-is_too_wide width size (backgrounds ws) = list_any (λ w. nat_le (2 ^ size) (digits_value 16 w)) ws
-is_too_wide width size (polarity w) = nat_le (2 ^ size) (digits_value 16 w)
-is_too_wide width size other = false
 
 abbrev pub too_wide : List Statement → ℕ → ℕ → Option MemoryFault
 too_wide ss width size = at_line (λ n. OutOfRange n) (find (λ s. is_too_wide width size s.content) ss)
@@ -135,10 +104,6 @@ StatesBackgrounds ss r = SelectsBackgrounds (said Backgrounds ss) (bits_said ss)
 
 -- ---- the whole
 
--- a memory of this scrambling and these backgrounds
-abbrev pub described : List Statement → Scrambling → List ℕ → Description
-described ss s set = assembled (name_said ss) (words_said ss) (bits_said ss) (latency_said ss) (polarity_said ss) (pause_said ss) s set
-
 -- the memory of a name, a number of words and a number of bits
 abbrev pub Builds : List Statement → ℕ → Result Description MemoryFault → Type 0
 Builds ss width r =
@@ -160,11 +125,7 @@ Describes ss r =
     Unless (out_of_range ss) r (
     (width : ℕ) × IsWidthOf (words_said ss - 1) width × Builds ss width r)))))
 
--- the statements of a text's lines, of which the first is version 1 or 2, and each is of its version's table
-abbrev pub AreStatements : List ℕ → List Statement → Type 0
-AreStatements bytes ss = Say (text_lines bytes) ss × ((version : Version) × IsOfVersion ss version)
-
 -- What a text is read as: a line is refused, or its statements describe a memory or are refused.
 abbrev pub Reads : List ℕ → Result Description MemoryFault → Type 0
-Reads bytes (Ok d) = (ss : List Statement) × AreStatements bytes ss × Describes ss (Ok d)
+Reads bytes (Ok d) = SpellsMemory bytes d
 Reads bytes (Err fault) = AreRefused (text_lines bytes) fault ⊎ ((ss : List Statement) × AreStatements bytes ss × Describes ss (Err fault))
