@@ -1,10 +1,10 @@
 -- Trusted. What `check` comes to where it ends with status 0 or 1 over told files: the answer of the top call, without the order of its checks.
-use Rattle.std.specs.Prelude.{◌≡◌, ◌≤◌, ℕ, List, Option, Some, None, Ok, codes}
+use Rattle.std.specs.Prelude.{◌≡◌, ◌≤◌, ℕ, List, Option, Some, None, codes}
 use Rattle.bist_host.specs.Files.{Files, Says}
 use Rattle.march_core.specs.March.{MarchElement}
-use Rattle.march_syntax.specs.Answers.{Reads as ReadsMarch}
+use Rattle.march_syntax.specs.Answers.{SpellsMarch}
 use Rattle.memory_desc.specs.Descriptions.{Description, IsMemory}
-use Rattle.memory_desc.specs.Table.{Reads as ReadsMemory}
+use Rattle.memory_desc.specs.Described.{SpellsMemory}
 use Rattle.verilog_tree.specs.Plain.{ModuleTree}
 use Rattle.verilog_tree.specs.Spells.{FreelySpells}
 use Rattle.self_test.specs.WrongPort.{wrong_port}
@@ -28,8 +28,8 @@ pub record IsConformance (words : Words) (files : Files) (said said' : Option (L
   pub memory : Description
   pub is_memory : IsMemory memory
   pub module_text : InputHas files (word words 1) (λ bytes. FreelySpells bytes tree × ((other : ModuleTree) → FreelySpells bytes other → other ≡ tree))
-  pub march_text : InputHas files (word words 2) (λ bytes. ReadsMarch bytes (Ok march))
-  pub memory_text : InputHas files (word words 3) (λ bytes. ReadsMemory bytes (Ok memory))
+  pub march_text : InputHas files (word words 2) (λ bytes. SpellsMarch bytes march)
+  pub memory_text : InputHas files (word words 3) (λ bytes. SpellsMemory bytes memory)
   pub can_run : CanRun tree
   pub ports : wrong_port memory tree.ports ≡ None
   pub issues : status ≡ 0 → Issues tree march memory

@@ -1,12 +1,12 @@
 -- Trusted. What `compile` comes to where it ends with status 0 or 1 over told files: the answer of the top call, without the order of its checks.
-use Rattle.std.specs.Prelude.{◌≡◌, ◌≢◌, ◌≤◌, ℕ, Bool, List, length, Option, Some, None, Ok, codes}
+use Rattle.std.specs.Prelude.{◌≡◌, ◌≢◌, ◌≤◌, ℕ, Bool, List, length, Option, Some, None, codes}
 use Rattle.bist_host.specs.Files.{Files, Says}
 use Rattle.march_core.specs.March.{MarchElement}
-use Rattle.march_syntax.specs.Answers.{Reads as ReadsMarch}
+use Rattle.march_syntax.specs.Answers.{SpellsMarch}
 use Rattle.memory_desc.specs.Descriptions.{Description, IsMemory}
-use Rattle.memory_desc.specs.Table.{Reads as ReadsMemory}
+use Rattle.memory_desc.specs.Described.{SpellsMemory}
 use Rattle.dynamic_core.specs.declared.item.Item.{Item}
-use Rattle.dynamic_core.specs.Items.{ReadsItems}
+use Rattle.dynamic_core.specs.Items.{SpellsItems}
 use Rattle.verilog_tree.specs.Plain.{ModuleTree}
 use Rattle.verilog_tree.specs.Spells.{Spells}
 use Rattle.self_test.specs.SelfTest.{SelfTest}
@@ -34,9 +34,9 @@ pub record IsCompilation (words : Words) (files files' : Files) (said said' : Op
   pub memory : Description
   pub is_memory : IsMemory memory
   pub items : List Item
-  pub march_text : InputHas files (word words 1) (λ bytes. ReadsMarch bytes (Ok march))
-  pub memory_text : InputHas files (word words 2) (λ bytes. ReadsMemory bytes (Ok memory))
-  pub list_text : InputHas files (word words 3) (λ bytes. ReadsItems bytes (Ok items))
+  pub march_text : InputHas files (word words 1) (λ bytes. SpellsMarch bytes march)
+  pub memory_text : InputHas files (word words 2) (λ bytes. SpellsMemory bytes memory)
+  pub list_text : InputHas files (word words 3) (λ bytes. SpellsItems bytes items)
   pub tree : ModuleTree
   pub self_test : SelfTest tree march memory
   pub module_text : FileHas files' (word words 4) (λ bytes. Spells bytes tree × ((other : ModuleTree) → Spells bytes other → other ≡ tree))
