@@ -26,11 +26,13 @@ module _ {S : Type 0} (after : S → MarchStep → S) (is_wrong : S → Visit �
   abbrev pub SomeDiffersBy : S → List MarchStep → Type 0
   SomeDiffersBy s steps = (v : Visit) × DiffersBy s steps v
 
+-- the same parameters
+module _ {S : Type 0} (after : S → MarchStep → S) (is_wrong : S → Visit → Bool) where
   -- the first visit whose read differs
   pub record IsFirstBy (s : S) (steps : List MarchStep) (miss : Miss) : Type 0 where
     pub visit : Visit
-    pub differs : DiffersBy s steps visit
-    pub none_before : SomeDiffersBy s differs.before → ⊥
+    pub differs : DiffersBy after is_wrong s steps visit
+    pub none_before : SomeDiffersBy after is_wrong s differs.before → ⊥
     pub named : miss ≡ miss_at visit
 
   -- what stands behind the first visit whose read differs

@@ -10,10 +10,9 @@ use Rattle.dynamic_core.specs.Differing.{held_after, SomeDynDiffers}
 
 -- the aggressor's place: there exactly for a primitive with an aggressor, within the array, and not the victim's
 abbrev pub FitsDynAgg : Option DynamicSense → Option ℕ → ℕ → ℕ → Type 0
-FitsDynAgg None None victim size = Unit {0}
-FitsDynAgg None (Some a) victim size = ⊥
-FitsDynAgg (Some sense) None victim size = ⊥
 FitsDynAgg (Some sense) (Some a) victim size = (a < size) × (a ≢ victim)
+FitsDynAgg None None victim size = Unit {0}
+FitsDynAgg agg place victim size = ⊥
 
 -- the places of an instance in an array of this size
 pub record FitsDyn (p : DynamicPrimitive) (at : Places) (size : ℕ) : Type 0 where

@@ -17,9 +17,8 @@ actor_on x state None = None
 actor_on x state (Some acts) = Some (record { place = x; state = state; first = acts.first; second = acts.second })
 
 abbrev pub agg_actor : Option DynamicSense → Option ℕ → Option Actor
-agg_actor None place = None
-agg_actor (Some sense) None = None
 agg_actor (Some sense) (Some a) = actor_on a sense.state sense.acts
+agg_actor agg place = None
 
 abbrev pub actor_or : Option Actor → Option Actor → Option Actor
 actor_or None other = other
@@ -30,9 +29,8 @@ actor_of p at = actor_or (actor_on at.vic p.vic.state p.vic.acts) (agg_actor p.a
 
 -- whether the aggressor's cell holds its state, where there is an aggressor
 abbrev pub agg_state_holds : Option DynamicSense → Option ℕ → List Bool → Bool
-agg_state_holds None place cells = true
-agg_state_holds (Some sense) None cells = true
 agg_state_holds (Some sense) (Some a) cells = same_bit (cell cells a) sense.state
+agg_state_holds agg place cells = true
 
 -- whether every state of the primitive holds
 abbrev pub all_states_hold : DynamicPrimitive → Places → List Bool → Bool

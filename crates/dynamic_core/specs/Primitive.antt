@@ -26,8 +26,7 @@ pub record DynamicPrimitive : Type 0 where
 -- what an act plainly leaves of a bit
 abbrev pub left_by : Bool → Act → Bool
 left_by state (Write bit) = bit
-left_by state Read = state
-left_by state Pause = state
+left_by state other = state
 
 -- the acts of the aggressor, where it has any
 abbrev pub agg_acts : Option DynamicSense → Option TwoActs

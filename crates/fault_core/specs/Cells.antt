@@ -12,9 +12,8 @@ cell cells x = slice_index_or cells x false
 
 -- whether the aggressor's cell holds its state, where there is an aggressor
 abbrev pub agg_holds : Option Sense → Option ℕ → List Bool → Bool
-agg_holds None place cells = true
-agg_holds (Some sense) None cells = true
 agg_holds (Some sense) (Some x) cells = same_bit (cell cells x) sense.state
+agg_holds agg place cells = true
 
 -- whether every state of the primitive holds
 abbrev pub states_hold : Primitive → Places → List Bool → Bool
@@ -30,15 +29,10 @@ close_of p at cells = if not (has_act p) && states_hold p at cells then slice_se
 
 -- whether two acts are the same
 abbrev pub same_act : Act → Act → Bool
-same_act Read Read = true
-same_act Read (Write b) = false
-same_act Read Pause = false
-same_act (Write a) Read = false
 same_act (Write a) (Write b) = same_bit a b
-same_act (Write a) Pause = false
-same_act Pause Read = false
-same_act Pause (Write b) = false
+same_act Read Read = true
 same_act Pause Pause = true
+same_act act other = false
 
 -- whether a sense has this act
 abbrev pub has_this_act : Option Act → Act → Bool
@@ -47,9 +41,8 @@ has_this_act (Some own) act = same_act own act
 
 -- whether this act on this cell is the aggressor's
 abbrev pub agg_acts : Option Sense → Option ℕ → ℕ → Act → Bool
-agg_acts None place x act = false
-agg_acts (Some sense) None x act = false
 agg_acts (Some sense) (Some a) x act = (a == x) && has_this_act sense.act act
+agg_acts agg place x act = false
 
 -- whether this act on this cell is the primitive's, on contents where its states hold
 unfoldable pub acts : Primitive → Places → List Bool → ℕ → Act → Bool
@@ -59,14 +52,12 @@ acts p at cells x act =
 -- the plain part of an act on a cell; a pause is none, and has none
 abbrev pub plain_cells : List Bool → ℕ → Act → List Bool
 plain_cells cells x (Write bit) = slice_set cells x bit
-plain_cells cells x Read = cells
-plain_cells cells x Pause = cells
+plain_cells cells x other = cells
 
 -- what the plain part answers
 abbrev pub plain_answer : List Bool → ℕ → Act → Option Bool
-plain_answer cells x (Write bit) = None
 plain_answer cells x Read = Some (cell cells x)
-plain_answer cells x Pause = None
+plain_answer cells x other = None
 
 -- the answer of an act that matches: the primitive's, where it has one
 abbrev pub answer_or : Option Bool → Option Bool → Option Bool
@@ -94,10 +85,9 @@ pause_cells p at cells = close_of p at (if pauses p && states_hold p at cells th
 
 -- the aggressor's place: there exactly for a primitive with an aggressor, within the array, and not the victim's
 abbrev pub FitsAgg : Option Sense → Option ℕ → ℕ → ℕ → Type 0
-FitsAgg None None victim size = Unit {0}
-FitsAgg None (Some a) victim size = ⊥
-FitsAgg (Some sense) None victim size = ⊥
 FitsAgg (Some sense) (Some a) victim size = (a < size) × (a ≢ victim)
+FitsAgg None None victim size = Unit {0}
+FitsAgg agg place victim size = ⊥
 
 -- the places of an instance in an array of this size
 pub record FitsPlace (p : Primitive) (at : Places) (size : ℕ) : Type 0 where

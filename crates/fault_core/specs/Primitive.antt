@@ -21,10 +21,8 @@ agg_has_act (Some sense) = is_some sense.act
 
 -- whether an act is a pause
 abbrev pub is_pause : Option Act → Bool
-is_pause None = false
-is_pause (Some (Write bit)) = false
-is_pause (Some Read) = false
 is_pause (Some Pause) = true
+is_pause other = false
 
 -- what makes the parts a fault
 pub record IsPrimitive (p : Primitive) : Type 0 where

@@ -2,6 +2,8 @@ pub mod Operation
 pub mod March
 pub mod Building
 pub mod Scan
+pub mod Directions
+pub mod DirectionWords
 pub mod Visits
 pub mod Runs
 pub mod Addresses

@@ -8,26 +8,21 @@ use Rattle.march_core.specs.declared.operation.Op.TheVariants.{W0, W1, R0, R1}
 abbrev pub written_by : Op → Option Bool
 written_by W0 = Some false
 written_by W1 = Some true
-written_by R0 = None
-written_by R1 = None
+written_by read = None
 
 -- the bit that a read expects
 abbrev pub expected_by : Op → Option Bool
-expected_by W0 = None
-expected_by W1 = None
 expected_by R0 = Some false
 expected_by R1 = Some true
+expected_by write = None
 
 -- whether this is a read that got another answer than it expects
 abbrev pub is_wrong_of : Op → Option Bool → Bool
 is_wrong_of W0 answer = false
 is_wrong_of W1 answer = false
 is_wrong_of R0 (Some false) = false
-is_wrong_of R0 (Some true) = true
-is_wrong_of R0 None = true
 is_wrong_of R1 (Some true) = false
-is_wrong_of R1 (Some false) = true
-is_wrong_of R1 None = true
+is_wrong_of read answer = true
 
 -- none of these operations writes
 abbrev pub HasNoWrite : List Op → Type 0

@@ -1,7 +1,7 @@
 -- Trusted. How the hardware runs a march: in which directions, and what an operation does there.
 use Rattle.std.specs.Prelude.{Bool, true, false, List, map}
 use Rattle.march_core.specs.declared.operation.Order.{Order}
-use Rattle.march_core.specs.declared.operation.Order.TheVariants.{Up, Down, Any}
+use Rattle.march_core.specs.declared.operation.Order.TheVariants.{Down}
 use Rattle.march_core.specs.declared.operation.Op.{Op}
 use Rattle.march_core.specs.declared.operation.Op.TheVariants.{W0, W1, R0, R1}
 use Rattle.march_core.specs.March.{MarchElement, order_of}
@@ -9,9 +9,8 @@ use Rattle.march_core.specs.Visits.{Direction, Upward, Downward}
 
 -- the direction in which the hardware runs an element
 abbrev pub upward : Order → Direction
-upward Up = Upward
 upward Down = Downward
-upward Any = Upward
+upward other = Upward
 
 abbrev pub up : List MarchElement → List Direction
 up march = map (λ e. upward (order_of e)) march
@@ -19,8 +18,7 @@ up march = map (λ e. upward (order_of e)) march
 abbrev pub is_write : Op → Bool
 is_write W0 = true
 is_write W1 = true
-is_write R0 = false
-is_write R1 = false
+is_write read = false
 
 -- the data value that an operation writes or expects
 abbrev pub data_value : Op → Bool
