@@ -11,7 +11,7 @@ import re
 from collections.abc import Iterable, Iterator
 
 NAME = re.compile(r"[^\W\d][\w']*(?:\.[^\W\d][\w']*)*")
-USE = re.compile(r"^\s*(?:ghost )?(?:pub )?use ([\w.]+?)(?:\.\{(.*)\})?(?: as (\w+))?;?$")
+USE = re.compile(r"^\s*(?:ghost |unfoldable )?(?:pub )?use ([\w.]+?)(?:\.\{(.*)\})?(?: as (\w+))?;?$")
 HEAD = re.compile(r"^(?:(?:abbrev|unfoldable|opaque) )*(?:pub )?(?:(record|data) )?([^\s(){}:]+)")
 BINDER = re.compile(r"[({]((?:[^\W\d][\w']*\s+)*[^\W\d][\w']*)\s*:")
 LAMBDA = re.compile(r"λ\s*\(?((?:[^\W\d][\w']*\s+)*[^\W\d][\w']*)")
@@ -141,7 +141,7 @@ class SpecReader:
         if self.use:
             self.use += " " + line.strip()
             self.end_use()
-        elif line.startswith(("use ", "pub use ")):
+        elif line.startswith(("use ", "pub use ", "unfoldable pub use ")):
             self.seen_code = True
             self.current = None
             self.use = line
@@ -178,7 +178,7 @@ class SpecReader:
         if line.startswith(("mod ", "pub mod ")):
             return
         first = line.split()[0]
-        if self.current and (first in self.current.names or first == "unfolding"):
+        if self.current and not is_block(line) and (first in self.current.names or first == "unfolding"):
             self.current.lines += [f"-- {words}" for words in self.comment] + [line]
             self.comment = []
             return

@@ -75,6 +75,7 @@ what `check` promises, the second clause of its kind.
             "march_core/declared.operation",
             "march_core/Operation",
             "march_core/March",
+            "march_core/Directions",
             "march_core/Runs",
             "march_core/declared.visit",
             "march_core/Visits",
