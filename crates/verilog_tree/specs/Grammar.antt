@@ -105,8 +105,12 @@ abbrev mutual
   pub stmt : Style → Limit → ℕ → Stmt → (List Token → Type 0) → List Token → Type 0
   stmt y l d (BeginEnd ss) K = keyword (codes "begin") (inside l d (λ e. stmts y l e ss (keyword (codes "end") K)))
   stmt y l d (If c s) K = keyword (codes "if") (inside l d (λ e. sign Open (inside l e (λ f. expr y l f c (sign Close (stmt y l e s K))))))
-  stmt y l d (IfElse c a b) K = keyword (codes "if") (inside l d (λ e. sign Open (inside l e (λ f. expr y l f c (sign Close (stmt y l e a (λ ts. (ends_in_if a ≡ false) × keyword (codes "else") (stmt y l e b K) ts)))))))
-  stmt y l d (Case x a as' o) K = keyword (codes "case") (inside l d (λ e. sign Open (inside l e (λ f. expr y l f x (sign Close (arm y l e a (arms y l e as' (default y l e o (keyword (codes "endcase") K)))))))))
+  stmt y l d (IfElse c a b) K =
+      keyword (codes "if") (inside l d (λ e. sign Open (inside l e (λ f. expr y l f c (sign Close
+      (stmt y l e a (λ ts. (ends_in_if a ≡ false) × keyword (codes "else") (stmt y l e b K) ts)))))))
+  stmt y l d (Case x a as' o) K =
+      keyword (codes "case") (inside l d (λ e. sign Open (inside l e (λ f. expr y l f x (sign Close
+      (arm y l e a (arms y l e as' (default y l e o (keyword (codes "endcase") K)))))))))
   stmt y l d (Assign n x) K = name n (sign LessEquals (expr y l d x (sign Semicolon K)))
 
   pub stmts : Style → Limit → ℕ → Stmts → (List Token → Type 0) → List Token → Type 0
@@ -182,7 +186,9 @@ no_token (t ∷ ts) = ⊥
 
 -- "module" name "(" port { "," port } ")" ";" { item } "endmodule"
 abbrev pub module_of : Style → Limit → File → (List Token → Type 0) → List Token → Type 0
-module_of y l f K = keyword (codes "module") (name f.name (sign Open (inside l 0 (λ e. port f.port (ports f.ports (sign Close (sign Semicolon (items y l f.items (keyword (codes "endmodule") K)))))))))
+module_of y l f K =
+    keyword (codes "module") (name f.name (sign Open (inside l 0 (λ e. port f.port (ports f.ports (sign Close
+    (sign Semicolon (items y l f.items (keyword (codes "endmodule") K)))))))))
 
 -- file = module
 abbrev pub file : Style → Limit → File → List Token → Type 0

@@ -8,7 +8,7 @@ use Rattle.verilog_tree.specs.declared.tree.UnOp.{UnOp}
 use Rattle.verilog_tree.specs.declared.tree.UnOp.TheVariants.{Not, Invert, AllOnes, AnyOne, Parity}
 use Rattle.verilog_tree.specs.declared.tree.BinOp.{BinOp}
 use Rattle.verilog_tree.specs.declared.tree.BinOp.TheVariants.{Add, Sub, And, Or, Xor, Eq, Ne, Lt, Le, Gt, Ge, LogAnd, LogOr, Shl, Shr}
-use Rattle.verilog_tree.specs.Plain.{Expression, Net, BitSelect, PartSelect, Literal, Concatenation, Prefixed, Infixed, Conditional, Expressions, NoMore, Followed, Statement, SetTo, IfElse, CaseOf, Statements, Done, Then, Arms, NoArm, ArmOf, ModuleItem, WireItem, RegItem, AssignItem, AlwaysItem, ModuleTree}
+use Rattle.verilog_tree.specs.Plain.{Expression, Net, BitSelect, PartSelect, Literal, Concatenation, Prefixed, Infixed, Conditional, Expressions, NoMore, Followed, Statement, SetTo, IfElse, CaseOf, Statements, Done, Then, Arms, NoArm, ArmOf, ModuleItem, AssignItem, AlwaysItem, ModuleTree}
 use Rattle.verilog_tree.specs.declared.names.Kind.{Kind}
 use Rattle.verilog_tree.specs.declared.names.Kind.TheVariants as K
 use Rattle.verilog_tree.specs.Names.{Declaration, declarations, width_of, is_clk}
@@ -24,13 +24,10 @@ bit b = cond b 1 0
 abbrev pub truth : ℕ → Bool
 truth v = not (nat_eq v 0)
 
--- the width of an operator's result, by that of its operand
+-- the width of an operator's result, by that of its operand: comparisons and the like have one bit
 abbrev pub prefixed_width : UnOp → ℕ → ℕ
 prefixed_width Invert k = k
-prefixed_width Not k = 1
-prefixed_width AllOnes k = 1
-prefixed_width AnyOne k = 1
-prefixed_width Parity k = 1
+prefixed_width other k = 1
 
 -- the same, by that of its left operand
 abbrev pub infixed_width : BinOp → ℕ → ℕ
@@ -41,14 +38,7 @@ infixed_width Or k = k
 infixed_width Xor k = k
 infixed_width Shl k = k
 infixed_width Shr k = k
-infixed_width Eq k = 1
-infixed_width Ne k = 1
-infixed_width Lt k = 1
-infixed_width Le k = 1
-infixed_width Gt k = 1
-infixed_width Ge k = 1
-infixed_width LogAnd k = 1
-infixed_width LogOr k = 1
+infixed_width other k = 1
 
 -- the width of an expression, where names have the widths w
 abbrev mutual
@@ -131,10 +121,8 @@ AllGiven regs ins e (d ∷ ds) = Given regs ins e d.kind d.name × AllGiven regs
 -- each wire and plain output has, in this same e, the value of its expression: no order is given
 abbrev pub Equations : (List ℕ → ℕ) → Env → List ModuleItem → Type 0
 Equations w e [] = Unit {0}
-Equations w e (WireItem n k ∷ is) = Equations w e is
-Equations w e (RegItem n k ∷ is) = Equations w e is
 Equations w e (AssignItem n x ∷ is) = (e n ≡ value w e x) × Equations w e is
-Equations w e (AlwaysItem c ss ∷ is) = Equations w e is
+Equations w e (other ∷ is) = Equations w e is
 
 -- The environment e settles a cycle whose registers and inputs have these values. A name that the
 -- module doesn't declare has no bits, so e gives it 0.
@@ -167,10 +155,8 @@ abbrev mutual
 -- those of all blocks, block by block
 abbrev pub block_sets : (List ℕ → ℕ) → Env → List ModuleItem → List (List ℕ × ℕ)
 block_sets w e [] = []
-block_sets w e (WireItem n k ∷ is) = block_sets w e is
-block_sets w e (RegItem n k ∷ is) = block_sets w e is
-block_sets w e (AssignItem n x ∷ is) = block_sets w e is
 block_sets w e (AlwaysItem c ss ∷ is) = sets w e ss ++ block_sets w e is
+block_sets w e (other ∷ is) = block_sets w e is
 
 -- what the last pair of a name sets, or else the old
 abbrev pub last_set : {A : Type 0} → List ℕ → List (List ℕ × A) → A → A
@@ -186,5 +172,4 @@ next mo e n = last_set n (block_sets (names_widths mo) e mo.items) (e n)
 abbrev pub History : ModuleTree → Env → List Env → List Env → Type 0
 History mo regs [] [] = Unit {0}
 History mo regs (i ∷ is) (e ∷ es) = Settles mo regs i e × History mo (next mo e) is es
-History mo regs [] (e ∷ es) = ⊥
-History mo regs (i ∷ is) [] = ⊥
+History mo regs inputs environments = ⊥

@@ -3,7 +3,7 @@ use Rattle.std.specs.Prelude.{◌≡◌, ℕ, ◌-◌, ◌^◌, Bool, false, con
 use Rattle.std.specs.Str.{bytes_eq}
 use Rattle.bist_bits.specs.Vector.{Vector}
 use Rattle.verilog_tree.specs.declared.tree.BinOp.{BinOp}
-use Rattle.verilog_tree.specs.declared.tree.BinOp.TheVariants.{Add, Sub, And, Or, Xor, Eq, Ne, Lt, Le, Gt, Ge, LogAnd, LogOr, Shl, Shr}
+use Rattle.verilog_tree.specs.declared.tree.BinOp.TheVariants.{LogAnd, LogOr, Shl, Shr}
 use Rattle.verilog_tree.specs.declared.fault.TreeFault.{TreeFault}
 use Rattle.verilog_tree.specs.declared.fault.TreeFault.TheVariants as T
 use Rattle.verilog_tree.specs.Plain.{Expression, Net, BitSelect, PartSelect, Literal, Concatenation, Prefixed, Infixed, Conditional, Expressions, NoMore, Followed, Statement, SetTo, IfElse, CaseOf, Statements, Done, Then, Arms, NoArm, ArmOf, ModuleItem, WireItem, RegItem, AssignItem, AlwaysItem, ModulePort, ModuleTree}
@@ -92,10 +92,8 @@ is_unknown ds m = is_none (lookup ds (mentioned m))
 -- the names that earlier items assign
 abbrev pub is_assigned : List ModuleItem → List ℕ → Bool
 is_assigned [] n = false
-is_assigned (WireItem m k ∷ is) n = is_assigned is n
-is_assigned (RegItem m k ∷ is) n = is_assigned is n
 is_assigned (AssignItem m x ∷ is) n = bytes_eq n m || is_assigned is n
-is_assigned (AlwaysItem c ss ∷ is) n = is_assigned is n
+is_assigned (other ∷ is) n = is_assigned is n
 
 -- a test of the kind that a name is declared with
 abbrev pub has_kind : (Kind → Bool) → List Declaration → List ℕ → Bool
@@ -111,10 +109,8 @@ twice ds before (AlwaysItem c ss) = None
 -- N6: a select's high place isn't below the width of its name, or its low place is above its high one,
 -- or its name has one bit
 abbrev pub is_out_of_range : (List ℕ → ℕ) → Mention → Bool
-is_out_of_range w (AsClock n) = false
-is_out_of_range w (AsTarget n) = false
-is_out_of_range w (Whole n) = false
 is_out_of_range w (Selected n h l) = not (nat_lt h (w n)) || nat_lt h l || nat_eq (w n) 1
+is_out_of_range w other = false
 
 -- N3: these two widths differ
 abbrev pub unequal : ℕ → ℕ → Option Break
@@ -130,17 +126,7 @@ infixed_widths LogAnd j k = None
 infixed_widths LogOr j k = None
 infixed_widths Shl j k = None
 infixed_widths Shr j k = None
-infixed_widths Add j k = unequal j k
-infixed_widths Sub j k = unequal j k
-infixed_widths And j k = unequal j k
-infixed_widths Or j k = unequal j k
-infixed_widths Xor j k = unequal j k
-infixed_widths Eq j k = unequal j k
-infixed_widths Ne j k = unequal j k
-infixed_widths Lt j k = unequal j k
-infixed_widths Le j k = unequal j k
-infixed_widths Gt j k = unequal j k
-infixed_widths Ge j k = unequal j k
+infixed_widths other j k = unequal j k
 
 -- N3 in an expression: its parts from left to right, and then itself
 abbrev mutual
@@ -152,7 +138,8 @@ abbrev mutual
   expression_widths w (Concatenation xs) = first_of (parts_widths w xs ∷ too_wide (widths w xs) ∷ [])
   expression_widths w (Prefixed o x) = expression_widths w x
   expression_widths w (Infixed o x y) = first_of (expression_widths w x ∷ expression_widths w y ∷ infixed_widths o (width w x) (width w y) ∷ [])
-  expression_widths w (Conditional c x y) = first_of (expression_widths w c ∷ expression_widths w x ∷ expression_widths w y ∷ unequal (width w x) (width w y) ∷ [])
+  expression_widths w (Conditional c x y) =
+      first_of (expression_widths w c ∷ expression_widths w x ∷ expression_widths w y ∷ unequal (width w x) (width w y) ∷ [])
 
   pub parts_widths : (List ℕ → ℕ) → Expressions → Option Break
   parts_widths w NoMore = None
@@ -189,39 +176,29 @@ item_widths w (AlwaysItem c ss) = statements_widths w ss
 
 -- N5: `assign` names something that isn't a wire or plain output, or `<=` something that isn't a register
 abbrev pub is_wrong_target : (Kind → Bool) → List Declaration → Mention → Bool
-is_wrong_target right ds (AsClock n) = false
 is_wrong_target right ds (AsTarget n) = not (has_kind right ds n)
-is_wrong_target right ds (Whole n) = false
-is_wrong_target right ds (Selected n h l) = false
+is_wrong_target right ds other = false
 
 -- what may be assigned in an item
 abbrev pub assignable : ModuleItem → Kind → Bool
-assignable (WireItem n k) = is_wire
-assignable (RegItem n k) = is_wire
-assignable (AssignItem n x) = is_wire
 assignable (AlwaysItem c ss) = is_register
+assignable other = is_wire
 
 abbrev pub is_target : List ℕ → List Mention → Bool
 is_target n [] = false
-is_target n (AsClock m ∷ ms) = is_target n ms
 is_target n (AsTarget m ∷ ms) = bytes_eq n m || is_target n ms
-is_target n (Whole m ∷ ms) = is_target n ms
-is_target n (Selected m h l ∷ ms) = is_target n ms
+is_target n (other ∷ ms) = is_target n ms
 
 -- the registers that earlier blocks set
 abbrev pub is_set : List ModuleItem → List ℕ → Bool
 is_set [] n = false
-is_set (WireItem m k ∷ is) n = is_set is n
-is_set (RegItem m k ∷ is) n = is_set is n
-is_set (AssignItem m x ∷ is) n = is_set is n
 is_set (AlwaysItem c ss ∷ is) n = is_target n (statements_mentions ss) || is_set is n
+is_set (other ∷ is) n = is_set is n
 
 -- N4: an earlier block sets what is set here
 abbrev pub is_set_before : List ModuleItem → Mention → Bool
-is_set_before before (AsClock n) = false
 is_set_before before (AsTarget n) = is_set before n
-is_set_before before (Whole n) = false
-is_set_before before (Selected n h l) = false
+is_set_before before other = false
 
 -- N10: a clock isn't an input of one bit named clk, or clk stands in an expression
 abbrev pub is_wrong_clock : List Declaration → Mention → Bool

@@ -127,7 +127,13 @@ mark_text FullStop = codes "."
 
 -- the mark of one byte
 abbrev pub mark_of : ℕ → Option Mark
-mark_of c = if c == 40 then Some Open else if c == 41 then Some Close else if c == 91 then Some OpenBracket else if c == 93 then Some CloseBracket else if c == 123 then Some OpenBrace else if c == 125 then Some CloseBrace else if c == 44 then Some Comma else if c == 59 then Some Semicolon else if c == 58 then Some Colon else if c == 64 then Some At else if c == 63 then Some Question else if c == 61 then Some Equals else if c == 43 then Some Plus else if c == 45 then Some Minus else if c == 38 then Some Ampersand else if c == 124 then Some Bar else if c == 94 then Some Caret else if c == 126 then Some Tilde else if c == 33 then Some Bang else if c == 60 then Some Less else if c == 62 then Some Greater else if c == 46 then Some FullStop else None
+mark_of c =
+    if c == 40 then Some Open else if c == 41 then Some Close else if c == 91 then Some OpenBracket else if c == 93 then Some CloseBracket
+    else if c == 123 then Some OpenBrace else if c == 125 then Some CloseBrace else if c == 44 then Some Comma else if c == 59 then Some Semicolon
+    else if c == 58 then Some Colon else if c == 64 then Some At else if c == 63 then Some Question else if c == 61 then Some Equals
+    else if c == 43 then Some Plus else if c == 45 then Some Minus else if c == 38 then Some Ampersand else if c == 124 then Some Bar
+    else if c == 94 then Some Caret else if c == 126 then Some Tilde else if c == 33 then Some Bang else if c == 60 then Some Less
+    else if c == 62 then Some Greater else if c == 46 then Some FullStop else None
 
 -- the mark that a second byte makes of one, if it makes one
 abbrev pub lengthened : Mark → ℕ → Option Mark

@@ -17,7 +17,9 @@ radix Hexadecimal = 16
 
 -- the base that a letter names, in lower or upper case
 abbrev pub base_of : ℕ → Option Base
-base_of c = if (c == 98) || (c == 66) then Some Binary else if (c == 111) || (c == 79) then Some Octal else if (c == 100) || (c == 68) then Some Decimal else if (c == 104) || (c == 72) then Some Hexadecimal else None
+base_of c =
+    if (c == 98) || (c == 66) then Some Binary else if (c == 111) || (c == 79) then Some Octal
+    else if (c == 100) || (c == 68) then Some Decimal else if (c == 104) || (c == 72) then Some Hexadecimal else None
 
 abbrev pub is_digit_of : Base → ℕ → Bool
 is_digit_of Binary c = nat_le 48 c && nat_le c 49
