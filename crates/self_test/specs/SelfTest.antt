@@ -17,9 +17,8 @@ reset_at (suc t) = 0
 -- the inputs of the cycles from t on: one reset, in the first cycle of all, and these words on `rdata`
 abbrev pub AreInputs : ℕ → List ℕ → List Env → Type 0
 AreInputs t [] [] = Unit {0}
-AreInputs t [] (i ∷ is) = ⊥
-AreInputs t (w ∷ ws) [] = ⊥
 AreInputs t (w ∷ ws) (i ∷ is) = (i (codes "reset") ≡ reset_at t) × (i (codes "rdata") ≡ w) × AreInputs (suc t) ws is
+AreInputs t words inputs = ⊥
 
 -- each of these cycles meets the rule of the ports
 abbrev pub EachMeets : List MarchElement → Description → (ℕ → ℕ) → List Env → Type 0
