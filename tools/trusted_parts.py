@@ -8,8 +8,8 @@ TITLE = """# What has to be trusted
 
 A proof is worth as much as the statement that it proves. This page has each definition that a clause of the top call `run`
 stands on, whole, with its comment, in four parts; nothing else of the repository's definitions has to be read in order to know
-what is promised, and no code. `H.files`, `H.said` and the counts of faults in a clause are what a host tells, `told` what a box tells
-(the traits `Host` and `Device`); in a Rust type a `Prim` stands for its `Primitive`, a `DynPrim` for its `DynamicPrimitive`, a
+what is promised, and no code. `H.state` in a clause is what a host tells: its files, what was said and the counts of its faults; `told` is
+what a box tells (the traits `Host` and `Device`); in a Rust type a `Prim` stands for its `Primitive`, a `DynPrim` for its `DynamicPrimitive`, a
 `Scramble` for its `Scrambling`, a `Name` for its bytes. The page is made from the sources by `tools/trusted`, and the gate compares it, so it can't be
 other than what is proved.
 

@@ -1,6 +1,6 @@
 -- What the answer of the top call comes to for `check`.
 use Rattle.std.proofs.Common.{◌≡◌, ◌≤◌, ◌∙◌, inl, inr, sym, subst, ap, arith, codes, ℕ, List, [], Option, Some, None, Ok, Err}
-use Rattle.bist_host.specs.Files.{Files, Says}
+use Rattle.bist_host.specs.Files.{Files, HostState, Says}
 use Rattle.march_core.specs.March.{MarchElement}
 use Rattle.march_syntax.specs.Answers.{Reads as ReadsMarch}
 use Rattle.memory_desc.specs.Descriptions.{Description, IsMemory}
@@ -26,6 +26,7 @@ use Rattle.bist_app.specs.Headline.{InputHas}
 use Rattle.bist_app.specs.Forms.{HasForm, check_form}
 use Rattle.bist_app.specs.Run.{HasShape, Decides, DecidesCommand, Runs}
 use Rattle.bist_app.proofs.Headline.{not_refused, too_high, eight_high, nine_high, refused_high, march_read, memory_read}
+use Rattle.bist_app.proofs.Complete.{if_told}
 use Rattle.bist_app.proofs.OneCommand.{only_check}
 
 -- the module, the march and the memory that were read, and what is left of them
@@ -94,15 +95,15 @@ conforming words files said said' n done shape i is says =
       says = subst (λ (d : Done). Says said said' d.line) c.done_is says;
     }
 
-conformance : (words : Words) (files : Files) (told : Option Files) (s s' : Option (List ℕ)) (wr : Type 0) (n : ℕ) (done : Done) → HasForm check_form words → n ≤ 1
-    → Inputs files words done → DoneEnds words done (Some files) told s s' wr n → (told ≡ Some files) × IsConformance words files s s' n
-conformance words files told s s' wr n done shape low i (Ok u, writes, inl h) =
+conformance : (words : Words) (files : Files) (old new : HostState) (n : ℕ) (done : Done) → old.files ≡ Some files → HasForm check_form words → n ≤ 1
+    → Inputs files words done → DoneEnds words done old new n → (new.files ≡ Some files) × IsConformance words files old.said new.said n
+conformance words files old new n done is shape low i (Ok u, writes, inl h) =
     let none : done.outputs ≡ [] = ap (λ (d : Done). d.outputs) i.checked.done_is in
-    (subst (λ outs. WritesInOrder words outs (Some files) told (Ok tt)) none writes, conforming words files s s' n done shape i h.0 h.1)
-conformance words files told s s' wr n done shape low i (Ok u, writes, inr (inl h)) = absurd (too_high n 8 h.0 eight_high low)
-conformance words files told s s' wr n done shape low i (Ok u, writes, inr (inr h)) = absurd (too_high n 9 h.0 nine_high low)
-conformance words files told s s' wr n done shape low i (Err (WriteStop.Failed p), writes, h) = absurd (too_high n 8 h.0 eight_high low)
-conformance words files told s s' wr n done shape low i (Err WriteStop.NoMemory, writes, h) = absurd (too_high n 9 h.0 nine_high low)
+    (subst (λ outs. WritesInOrder words outs old.files new.files (Ok tt)) none writes ∙ is, conforming words files old.said new.said n done shape i h.0 h.1)
+conformance words files old new n done is shape low i (Ok u, writes, inr (inl h)) = absurd (too_high n 8 h.0 eight_high low)
+conformance words files old new n done is shape low i (Ok u, writes, inr (inr h)) = absurd (too_high n 9 h.0 nine_high low)
+conformance words files old new n done is shape low i (Err (WriteStop.Failed p), writes, h) = absurd (too_high n 8 h.0 eight_high low)
+conformance words files old new n done is shape low i (Err WriteStop.NoMemory, writes, h) = absurd (too_high n 9 h.0 nine_high low)
 
 decided : (files : Files) (boxes left : Boxes) (words : Words) (done : Done) → word words 0 ≡ codes "check" → Decides (Some files) boxes left words (Ok done)
     → HasForm check_form words × DecidesCheck (Some files) words (Ok done)
@@ -111,10 +112,12 @@ decided files boxes left words done e (Some command, (own, decides)) =
     let check = only_check words command e own in
     (subst (HasShape words) check own, (subst (λ c. DecidesCommand (Some files) boxes left words c (Ok done)) check decides).0)
 
-pub leaves_conformance : (words : Words) (boxes left : Boxes) (told told' : Option Files) (s s' : Option (List ℕ)) (rr wr : Type 0) (n : ℕ)
-    → Runs words boxes left told told' s s' rr wr n → LeavesConformance words told told' s s' n
-leaves_conformance words boxes left None told' s s' rr wr n runs = tt
-leaves_conformance words boxes left (Some files) told' s s' rr wr n (Ok done, decides, cause, ends) = λ name low.
-    let d = decided files boxes left words done name decides in
-    conformance words files told' s s' wr n done d.0 low (inputs files words done d.1) ends
-leaves_conformance words boxes left (Some files) told' s s' rr wr n (Err e, decides, cause, (same, ends)) = λ name low. absurd (refused_high e s s' wr n ends low)
+leaves_with : (words : Words) (boxes left : Boxes) (files : Files) (old new : HostState) (n : ℕ) → old.files ≡ Some files → Runs words boxes left old new n
+    → word words 0 ≡ codes "check" → n ≤ 1 → (new.files ≡ Some files) × IsConformance words files old.said new.said n
+leaves_with words boxes left files old new n told (Ok done, decides, cause, ends) name low =
+    let d = decided files boxes left words done name (subst (λ t. Decides t boxes left words (Ok done)) told decides) in
+    conformance words files old new n done told d.0 low (inputs files words done d.1) ends
+leaves_with words boxes left files old new n told (Err e, decides, cause, (same, ends)) name low = absurd (refused_high e old new n ends low)
+
+pub leaves_conformance : (words : Words) (boxes left : Boxes) (old new : HostState) (n : ℕ) → Runs words boxes left old new n → LeavesConformance words old new n
+leaves_conformance words boxes left old new n runs = if_told old.files _ (λ files told. leaves_with words boxes left files old new n told runs)

@@ -1,6 +1,6 @@
 -- What the answer of the top call comes to for `compile`.
 use Rattle.std.proofs.Common.{◌≡◌, ◌≢◌, ◌<◌, ◌≤◌, inl, inr, sym, ◌∙◌, subst, arith, codes, ℕ, List, [], ◌∷◌, Option, Some, None, Ok, Err}
-use Rattle.bist_host.specs.Files.{Files, WritesFile, Says}
+use Rattle.bist_host.specs.Files.{Files, HostState, WritesFile, Says}
 use Rattle.march_core.specs.March.{MarchElement}
 use Rattle.march_syntax.specs.Answers.{Reads as ReadsMarch}
 use Rattle.memory_desc.specs.Descriptions.{Description, IsMemory}
@@ -18,6 +18,7 @@ use Rattle.bist_app.specs.Bench.{Boxes}
 use Rattle.bist_app.specs.Compile.{IsCompiled, LeavesCompile, DecidesCompile}
 use Rattle.bist_app.specs.Headline.{InputHas, IsCompilation, LeavesCompilation}
 use Rattle.bist_app.specs.Forms.{HasForm, compile_form}
+use Rattle.bist_app.proofs.Complete.{if_told}
 use Rattle.bist_app.proofs.OneCommand.{only_compile}
 use Rattle.bist_app.specs.Run.{HasShape, Decides, DecidesCommand, Runs}
 
@@ -122,10 +123,10 @@ status_high (Refusal.TooLong n) = omega arith
 status_high (Refusal.Misfit m) = omega arith
 status_high (Refusal.Verilog v) = omega arith
 
-pub refused_high : (e : Refusal) (s s' : Option (List ℕ)) (wr : Type 0) (n : ℕ) → RefusalEnds e s s' wr n → n ≤ 1 → ⊥
-refused_high e s s' wr n (inl h) low = too_high n (status_of e) h.0 (status_high e) low
-refused_high e s s' wr n (inr (inl h)) low = too_high n (status_of e) h.0 (status_high e) low
-refused_high e s s' wr n (inr (inr h)) low = too_high n 9 h.0 nine_high low
+pub refused_high : (e : Refusal) (old new : HostState) (n : ℕ) → RefusalEnds e old new n → n ≤ 1 → ⊥
+refused_high e old new n (inl h) low = too_high n (status_of e) h.0 (status_high e) low
+refused_high e old new n (inr (inl h)) low = too_high n (status_of e) h.0 (status_high e) low
+refused_high e old new n (inr (inr h)) low = too_high n 9 h.0 nine_high low
 
 -- the words of the two files that are written
 module_not_report : (words : Words) → HasForm compile_form words → word words 4 ≢ word words 5
@@ -139,12 +140,13 @@ module_not_report (a ∷ b ∷ c ∷ d ∷ e ∷ f ∷ rest) h =
     let some : 0 < 1 = omega arith in
     λ same. h.files.1.1.1.0 0 f some (sym same)
 
-compilation : (words : Words) (files : Files) (told : Option Files) (s s' : Option (List ℕ)) (wr : Type 0) (n : ℕ) (done : Done) → HasForm compile_form words → n ≤ 1
-    → Inputs files words done → DoneEnds words done (Some files) told s s' wr n
-    → (files' : Files) × (told ≡ Some files') × IsCompilation words files files' s s' n
-compilation words files told s s' wr n done shape low i (Ok u, writes, inl h) =
+compilation : (words : Words) (files : Files) (old new : HostState) (n : ℕ) (done : Done) → old.files ≡ Some files → HasForm compile_form words → n ≤ 1
+    → Inputs files words done → DoneEnds words done old new n
+    → (files' : Files) × (new.files ≡ Some files') × IsCompilation words files files' old.said new.said n
+compilation words files old new n done told shape low i (Ok u, writes, inl h) =
     let c = i.compiled in
-    let w = written words files told c.text c.bytes (module_not_report words shape) (subst (λ outs. WritesInOrder words outs (Some files) told (Ok tt)) c.outputs writes) in (
+    let writes' = subst (λ t. WritesInOrder words done.outputs t new.files (Ok tt)) told writes in
+    let w = written words files new.files c.text c.bytes (module_not_report words shape) (subst (λ outs. WritesInOrder words outs (Some files) new.files (Ok tt)) c.outputs writes') in (
       w.after,
       w.is_told,
       record {
@@ -165,14 +167,14 @@ compilation words files told s s' wr n done shape low i (Ok u, writes, inl h) =
         status_is = h.0;
         covered = c.reports.covered;
         detects = c.reports.detects;
-        says = subst (λ line. Says s s' line) c.reports.last h.1;
+        says = subst (λ line. Says old.said new.said line) c.reports.last h.1;
         others = w.others;
       },
     )
-compilation words files told s s' wr n done shape low i (Ok u, writes, inr (inl h)) = absurd (too_high n 8 h.0 eight_high low)
-compilation words files told s s' wr n done shape low i (Ok u, writes, inr (inr h)) = absurd (too_high n 9 h.0 nine_high low)
-compilation words files told s s' wr n done shape low i (Err (WriteStop.Failed p), writes, h) = absurd (too_high n 8 h.0 eight_high low)
-compilation words files told s s' wr n done shape low i (Err WriteStop.NoMemory, writes, h) = absurd (too_high n 9 h.0 nine_high low)
+compilation words files old new n done told shape low i (Ok u, writes, inr (inl h)) = absurd (too_high n 8 h.0 eight_high low)
+compilation words files old new n done told shape low i (Ok u, writes, inr (inr h)) = absurd (too_high n 9 h.0 nine_high low)
+compilation words files old new n done told shape low i (Err (WriteStop.Failed p), writes, h) = absurd (too_high n 8 h.0 eight_high low)
+compilation words files old new n done told shape low i (Err WriteStop.NoMemory, writes, h) = absurd (too_high n 9 h.0 nine_high low)
 
 decided : (files : Files) (boxes left : Boxes) (words : Words) (done : Done) → word words 0 ≡ codes "compile" → Decides (Some files) boxes left words (Ok done)
     → HasForm compile_form words × DecidesCompile (Some files) words (Ok done)
@@ -181,10 +183,12 @@ decided files boxes left words done e (Some command, (own, decides)) =
     let compile = only_compile words command e own in
     (subst (HasShape words) compile own, (subst (λ c. DecidesCommand (Some files) boxes left words c (Ok done)) compile decides).0)
 
-pub leaves_compilation : (words : Words) (boxes left : Boxes) (told told' : Option Files) (s s' : Option (List ℕ)) (rr wr : Type 0) (n : ℕ)
-    → Runs words boxes left told told' s s' rr wr n → LeavesCompilation words told told' s s' n
-leaves_compilation words boxes left None told' s s' rr wr n runs = tt
-leaves_compilation words boxes left (Some files) told' s s' rr wr n (Ok done, decides, cause, ends) = λ name low.
-    let d = decided files boxes left words done name decides in
-    compilation words files told' s s' wr n done d.0 low (inputs files words done d.1) ends
-leaves_compilation words boxes left (Some files) told' s s' rr wr n (Err e, decides, cause, (same, ends)) = λ name low. absurd (refused_high e s s' wr n ends low)
+leaves_with : (words : Words) (boxes left : Boxes) (files : Files) (old new : HostState) (n : ℕ) → old.files ≡ Some files → Runs words boxes left old new n
+    → word words 0 ≡ codes "compile" → n ≤ 1 → (files' : Files) × (new.files ≡ Some files') × IsCompilation words files files' old.said new.said n
+leaves_with words boxes left files old new n told (Ok done, decides, cause, ends) name low =
+    let d = decided files boxes left words done name (subst (λ t. Decides t boxes left words (Ok done)) told decides) in
+    compilation words files old new n done told d.0 low (inputs files words done d.1) ends
+leaves_with words boxes left files old new n told (Err e, decides, cause, (same, ends)) name low = absurd (refused_high e old new n ends low)
+
+pub leaves_compilation : (words : Words) (boxes left : Boxes) (old new : HostState) (n : ℕ) → Runs words boxes left old new n → LeavesCompilation words old new n
+leaves_compilation words boxes left old new n runs = if_told old.files _ (λ files told. leaves_with words boxes left files old new n told runs)

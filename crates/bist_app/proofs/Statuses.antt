@@ -1,6 +1,6 @@
 -- Which status comes from what.
 use Rattle.std.proofs.Common.{◌≡◌, ◌⊎◌, inl, inr, List, ℕ, Bool, true, false, Option, Some, None, Result, Ok, Err, ◌∙◌, ap, refl, subst, ◌<◌, ◌≤◌, arith}
-use Rattle.bist_host.specs.Files.{Files}
+use Rattle.bist_host.specs.Files.{Files, HostState, ReadsRose, WritesRose}
 use Rattle.bist_endings.specs.declared.ending.Refusal.{Refusal}
 use Rattle.bist_endings.specs.declared.concluding.WriteStop.{WriteStop}
 use Rattle.bist_endings.specs.Words.{Words}
@@ -17,30 +17,30 @@ found_low false n e = omega arith
 found_low true n e = omega arith
 
 -- after the writes the status is 0, 1, 8 or 9
-after_writes : (done : Done) (s s' : Option (List ℕ)) (wr : Type 0) (stop : Result (Unit {0}) WriteStop) (n : ℕ)
-    → SaysAfterWrites done s s' wr stop n → 2 ≤ n → n < 8 → ⊥
-after_writes done s s' wr (Ok _) n (inl h) low high = let small = found_low done.found n h.0 in omega (arith, small)
-after_writes done s s' wr (Ok _) n (inr (inl h)) low high = omega (arith, h.0)
-after_writes done s s' wr (Ok _) n (inr (inr h)) low high = omega (arith, h.0)
-after_writes done s s' wr (Err (WriteStop.Failed p)) n h low high = omega (arith, h.0)
-after_writes done s s' wr (Err WriteStop.NoMemory) n h low high = omega (arith, h.0)
+after_writes : (done : Done) (old new : HostState) (stop : Result (Unit {0}) WriteStop) (n : ℕ)
+    → SaysAfterWrites done old new stop n → 2 ≤ n → n < 8 → ⊥
+after_writes done old new (Ok _) n (inl h) low high = let small = found_low done.found n h.0 in omega (arith, small)
+after_writes done old new (Ok _) n (inr (inl h)) low high = omega (arith, h.0)
+after_writes done old new (Ok _) n (inr (inr h)) low high = omega (arith, h.0)
+after_writes done old new (Err (WriteStop.Failed p)) n h low high = omega (arith, h.0)
+after_writes done old new (Err WriteStop.NoMemory) n h low high = omega (arith, h.0)
 
-done_below : (done : Done) (s s' : Option (List ℕ)) (wr : Type 0) (stop : Result (Unit {0}) WriteStop) (n : ℕ)
-    → SaysAfterWrites done s s' wr stop n → 9 < n → ⊥
-done_below done s s' wr (Ok _) n (inl h) high = let small = found_low done.found n h.0 in omega (arith, small)
-done_below done s s' wr (Ok _) n (inr (inl h)) high = omega (arith, h.0)
-done_below done s s' wr (Ok _) n (inr (inr h)) high = omega (arith, h.0)
-done_below done s s' wr (Err (WriteStop.Failed p)) n h high = omega (arith, h.0)
-done_below done s s' wr (Err WriteStop.NoMemory) n h high = omega (arith, h.0)
+done_below : (done : Done) (old new : HostState) (stop : Result (Unit {0}) WriteStop) (n : ℕ)
+    → SaysAfterWrites done old new stop n → 9 < n → ⊥
+done_below done old new (Ok _) n (inl h) high = let small = found_low done.found n h.0 in omega (arith, small)
+done_below done old new (Ok _) n (inr (inl h)) high = omega (arith, h.0)
+done_below done old new (Ok _) n (inr (inr h)) high = omega (arith, h.0)
+done_below done old new (Err (WriteStop.Failed p)) n h high = omega (arith, h.0)
+done_below done old new (Err WriteStop.NoMemory) n h high = omega (arith, h.0)
 
 -- it is 8 only where the count of writes rose
-failed_writes : (done : Done) (s s' : Option (List ℕ)) (wr : Type 0) (stop : Result (Unit {0}) WriteStop) (n : ℕ)
-    → SaysAfterWrites done s s' wr stop n → n ≡ 8 → wr
-failed_writes done s s' wr (Ok _) n (inl h) k = let small = found_low done.found n h.0 in absurd (omega (arith, small))
-failed_writes done s s' wr (Ok _) n (inr (inl h)) k = h.1
-failed_writes done s s' wr (Ok _) n (inr (inr h)) k = absurd (omega (arith, h.0))
-failed_writes done s s' wr (Err (WriteStop.Failed p)) n h k = h.1
-failed_writes done s s' wr (Err WriteStop.NoMemory) n h k = absurd (omega (arith, h.0))
+failed_writes : (done : Done) (old new : HostState) (stop : Result (Unit {0}) WriteStop) (n : ℕ)
+    → SaysAfterWrites done old new stop n → n ≡ 8 → WritesRose old new
+failed_writes done old new (Ok _) n (inl h) k = let small = found_low done.found n h.0 in absurd (omega (arith, small))
+failed_writes done old new (Ok _) n (inr (inl h)) k = h.1
+failed_writes done old new (Ok _) n (inr (inr h)) k = absurd (omega (arith, h.0))
+failed_writes done old new (Err (WriteStop.Failed p)) n h k = h.1
+failed_writes done old new (Err WriteStop.NoMemory) n h k = absurd (omega (arith, h.0))
 
 -- no refusal has the status of a failed write
 not_eight : (e : Refusal) (n : ℕ) → n ≡ status_of e → n ≡ 8 → ⊥
@@ -86,24 +86,24 @@ read_cause files rr (Refusal.Verilog v) n h k c = absurd (omega arith)
 read_cause files rr Refusal.NoMemory n h k c = absurd (omega arith)
 
 -- how a refusal's status comes: its own, or 9
-refusal_status : (e : Refusal) (s s' : Option (List ℕ)) (wr : Type 0) (n : ℕ) → RefusalEnds e s s' wr n → (n ≡ status_of e) ⊎ (n ≡ 9)
-refusal_status e s s' wr n (inl h) = inl h.0
-refusal_status e s s' wr n (inr (inl h)) = inl h.0
-refusal_status e s s' wr n (inr (inr h)) = inr h.0
+refusal_status : (e : Refusal) (old new : HostState) (n : ℕ) → RefusalEnds e old new n → (n ≡ status_of e) ⊎ (n ≡ 9)
+refusal_status e old new n (inl h) = inl h.0
+refusal_status e old new n (inr (inl h)) = inl h.0
+refusal_status e old new n (inr (inr h)) = inr h.0
 
 -- a read fault comes only where the count of reads rose
-pub read_fault_rose : (words : Words) (boxes left : Boxes) (f f' : Option Files) (s s' : Option (List ℕ)) (rr wr : Type 0) (n : ℕ)
-    → Runs words boxes left f f' s s' rr wr n → n ≡ 7 → rr
-read_fault_rose words boxes left f f' s s' rr wr n (Ok done, decides, cause, (stop, writes, says)) k = absurd (after_writes done s s' wr stop n says (omega arith) (omega arith))
-read_fault_rose words boxes left f f' s s' rr wr n (Err e, decides, cause, (same, ends)) k =
-    elim (refusal_status e s s' wr n ends) [ inl h ↦ read_cause f rr e n h k cause | inr h ↦ absurd (omega arith) ]
+pub read_fault_rose : (words : Words) (boxes left : Boxes) (old new : HostState) (n : ℕ)
+    → Runs words boxes left old new n → n ≡ 7 → ReadsRose old new
+read_fault_rose words boxes left old new n (Ok done, decides, cause, (stop, writes, says)) k = absurd (after_writes done old new stop n says (omega arith) (omega arith))
+read_fault_rose words boxes left old new n (Err e, decides, cause, (same, ends)) k =
+    elim (refusal_status e old new n ends) [ inl h ↦ read_cause old.files (ReadsRose old new) e n h k cause | inr h ↦ absurd (omega arith) ]
 
 -- a write fault comes only where the count of writes rose
-pub write_fault_rose : (words : Words) (boxes left : Boxes) (f f' : Option Files) (s s' : Option (List ℕ)) (rr wr : Type 0) (n : ℕ)
-    → Runs words boxes left f f' s s' rr wr n → n ≡ 8 → wr
-write_fault_rose words boxes left f f' s s' rr wr n (Ok done, decides, cause, (stop, writes, says)) k = failed_writes done s s' wr stop n says k
-write_fault_rose words boxes left f f' s s' rr wr n (Err e, decides, cause, (same, ends)) k =
-    elim (refusal_status e s s' wr n ends) [ inl h ↦ absurd (not_eight e n h k) | inr h ↦ absurd (omega arith) ]
+pub write_fault_rose : (words : Words) (boxes left : Boxes) (old new : HostState) (n : ℕ)
+    → Runs words boxes left old new n → n ≡ 8 → WritesRose old new
+write_fault_rose words boxes left old new n (Ok done, decides, cause, (stop, writes, says)) k = failed_writes done old new stop n says k
+write_fault_rose words boxes left old new n (Err e, decides, cause, (same, ends)) k =
+    elim (refusal_status e old new n ends) [ inl h ↦ absurd (not_eight e n h k) | inr h ↦ absurd (omega arith) ]
 
 silent_cause : (rr : Type 0) (e : Refusal) (n : ℕ) → n ≡ status_of e → (n ≡ 6) ⊎ (n ≡ 10) → HasReadCause {A = Done} None rr (Err e) → rr
 silent_cause rr Refusal.Usage n h k c = absurd (omega arith)
@@ -120,27 +120,27 @@ silent_cause rr (Refusal.Verilog v) n h k c = absurd (omega arith)
 silent_cause rr Refusal.NoMemory n h k c = absurd (omega arith)
 
 -- over files that aren't told, a file is absent or too large only where the count of reads rose
-pub silent_rose : (words : Words) (boxes left : Boxes) (f f' : Option Files) (s s' : Option (List ℕ)) (rr wr : Type 0) (n : ℕ)
-    → Runs words boxes left f f' s s' rr wr n → f ≡ None → (n ≡ 6) ⊎ (n ≡ 10) → rr
-silent_rose words boxes left (Some f) f' s s' rr wr n h none k = cc
-silent_rose words boxes left None f' s s' rr wr n (Ok done, decides, cause, (stop, writes, says)) none (inl k) = absurd (after_writes done s s' wr stop n says (omega arith) (omega arith))
-silent_rose words boxes left None f' s s' rr wr n (Ok done, decides, cause, (stop, writes, says)) none (inr k) = absurd (done_below done s s' wr stop n says (omega arith))
-silent_rose words boxes left None f' s s' rr wr n (Err e, decides, cause, (same, ends)) none k =
-    elim (refusal_status e s s' wr n ends) [ inl h ↦ silent_cause rr e n h k cause | inr h ↦ absurd (omega arith) ]
+pub silent_rose : (words : Words) (boxes left : Boxes) (old new : HostState) (n : ℕ)
+    → Runs words boxes left old new n → old.files ≡ None → (n ≡ 6) ⊎ (n ≡ 10) → ReadsRose old new
+silent_rose words boxes left old new n (Ok done, decides, cause, (stop, writes, says)) none (inl k) = absurd (after_writes done old new stop n says (omega arith) (omega arith))
+silent_rose words boxes left old new n (Ok done, decides, cause, (stop, writes, says)) none (inr k) = absurd (done_below done old new stop n says (omega arith))
+silent_rose words boxes left old new n (Err e, decides, cause, (same, ends)) none k =
+    let silent : HasReadCause {A = Done} None (ReadsRose old new) (Err e) = subst (λ (f : Option Files). HasReadCause {A = Done} f (ReadsRose old new) (Err e)) none cause in
+    elim (refusal_status e old new n ends) [ inl h ↦ silent_cause (ReadsRose old new) e n h k silent | inr h ↦ absurd (omega arith) ]
 
 -- words without a shape end with 2, or 9
-pub no_shape_ends : (words : Words) (boxes left : Boxes) (f f' : Option Files) (s s' : Option (List ℕ)) (rr wr : Type 0) (n : ℕ)
-    → Runs words boxes left f f' s s' rr wr n → HasNoShape words → (n ≡ 2) ⊎ (n ≡ 9)
-no_shape_ends words boxes left f f' s s' rr wr n (outcome, (Some command, (shape, rest)), cause, ends) none = absurd (none command shape)
-no_shape_ends words boxes left f f' s s' rr wr n (Ok done, (None, (shape, is, _)), cause, ends) none = cc
-no_shape_ends words boxes left f f' s s' rr wr n (Err e, (None, (shape, is, _)), cause, (same, ends)) none =
+pub no_shape_ends : (words : Words) (boxes left : Boxes) (old new : HostState) (n : ℕ)
+    → Runs words boxes left old new n → HasNoShape words → (n ≡ 2) ⊎ (n ≡ 9)
+no_shape_ends words boxes left old new n (outcome, (Some command, (shape, rest)), cause, ends) none = absurd (none command shape)
+no_shape_ends words boxes left old new n (Ok done, (None, (shape, is, _)), cause, ends) none = cc
+no_shape_ends words boxes left old new n (Err e, (None, (shape, is, _)), cause, (same, ends)) none =
     let usage : e ≡ Refusal.Usage = cc in
-    elim (refusal_status e s s' wr n ends) [ inl h ↦ inl (h ∙ ap status_of usage) | inr h ↦ inr h ]
+    elim (refusal_status e old new n ends) [ inl h ↦ inl (h ∙ ap status_of usage) | inr h ↦ inr h ]
 
 -- status 2 comes only of the words
-pub usage_has_no_shape : (words : Words) (boxes left : Boxes) (f f' : Option Files) (s s' : Option (List ℕ)) (rr wr : Type 0) (n : ℕ)
-    → Runs words boxes left f f' s s' rr wr n → n ≡ 2 → HasNoShape words
-usage_has_no_shape words boxes left f f' s s' rr wr n (outcome, (None, (shape, is, _)), cause, ends) k = shape
-usage_has_no_shape words boxes left f f' s s' rr wr n (Ok done, (Some command, (shape, rest)), cause, (stop, writes, says)) k = absurd (after_writes done s s' wr stop n says (omega arith) (omega arith))
-usage_has_no_shape words boxes left f f' s s' rr wr n (Err e, (Some command, (shape, rest)), cause, (same, ends)) k =
-    elim (refusal_status e s s' wr n ends) [ inl h ↦ absurd (never_usage f boxes left words command (subst (λ r. DecidesCommand f boxes left words command (Err r)) (two_is_usage e n h k) rest)) | inr h ↦ absurd (omega arith) ]
+pub usage_has_no_shape : (words : Words) (boxes left : Boxes) (old new : HostState) (n : ℕ)
+    → Runs words boxes left old new n → n ≡ 2 → HasNoShape words
+usage_has_no_shape words boxes left old new n (outcome, (None, (shape, is, _)), cause, ends) k = shape
+usage_has_no_shape words boxes left old new n (Ok done, (Some command, (shape, rest)), cause, (stop, writes, says)) k = absurd (after_writes done old new stop n says (omega arith) (omega arith))
+usage_has_no_shape words boxes left old new n (Err e, (Some command, (shape, rest)), cause, (same, ends)) k =
+    elim (refusal_status e old new n ends) [ inl h ↦ absurd (never_usage old.files boxes left words command (subst (λ r. DecidesCommand old.files boxes left words command (Err r)) (two_is_usage e n h k) rest)) | inr h ↦ absurd (omega arith) ]

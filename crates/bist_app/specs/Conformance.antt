@@ -1,6 +1,6 @@
 -- Trusted. What `check` comes to where it ends with status 0 or 1 over told files: the answer of the top call, without the order of its checks.
-use Rattle.std.specs.Prelude.{◌≡◌, ◌≤◌, ℕ, List, Option, Some, None, codes}
-use Rattle.bist_host.specs.Files.{Files, Says}
+use Rattle.std.specs.Prelude.{◌≡◌, ◌≤◌, ℕ, List, Option, Some, None, IfSome, codes}
+use Rattle.bist_host.specs.Files.{Files, HostState, Says}
 use Rattle.march_core.specs.March.{MarchElement}
 use Rattle.march_syntax.specs.Answers.{SpellsMarch}
 use Rattle.memory_desc.specs.Descriptions.{Description, IsMemory}
@@ -41,7 +41,7 @@ pub record IsConformance (words : Words) (files : Files) (said said' : Option (L
 
 -- The first word is `check`, the files are told, and the status is 0 or 1: then this stands, and all files are as before. Of files that
 -- aren't told nothing is said here.
-abbrev pub LeavesConformance : Words → Option Files → Option Files → Option (List ℕ) → Option (List ℕ) → ℕ → Type 0
-LeavesConformance words None told said said' status = Unit {0}
-LeavesConformance words (Some files) told said said' status =
-    word words 0 ≡ codes "check" → status ≤ 1 → (told ≡ Some files) × IsConformance words files said said' status
+abbrev pub LeavesConformance : Words → HostState → HostState → ℕ → Type 0
+LeavesConformance words old new status =
+    IfSome old.files (λ files.
+    word words 0 ≡ codes "check" → status ≤ 1 → (new.files ≡ Some files) × IsConformance words files old.said new.said status)

@@ -1,6 +1,6 @@
 -- Trusted. What `compile` comes to where it ends with status 0 or 1 over told files: the answer of the top call, without the order of its checks.
-use Rattle.std.specs.Prelude.{◌≡◌, ◌≢◌, ◌≤◌, ℕ, Bool, List, length, Option, Some, None, codes}
-use Rattle.bist_host.specs.Files.{Files, Says}
+use Rattle.std.specs.Prelude.{◌≡◌, ◌≢◌, ◌≤◌, ℕ, Bool, List, length, Option, Some, IfSome, codes}
+use Rattle.bist_host.specs.Files.{Files, HostState, Says}
 use Rattle.march_core.specs.March.{MarchElement}
 use Rattle.march_syntax.specs.Answers.{SpellsMarch}
 use Rattle.memory_desc.specs.Descriptions.{Description, IsMemory}
@@ -50,7 +50,7 @@ pub record IsCompilation (words : Words) (files files' : Files) (said said' : Op
   pub others : (name : List ℕ) → name ≢ word words 4 → name ≢ word words 5 → files' name ≡ files name
 
 -- The first word is `compile`, the files are told, and the status is 0 or 1: then this stands. Of files that aren't told nothing is said here.
-abbrev pub LeavesCompilation : Words → Option Files → Option Files → Option (List ℕ) → Option (List ℕ) → ℕ → Type 0
-LeavesCompilation words None told said said' status = Unit {0}
-LeavesCompilation words (Some files) told said said' status =
-    word words 0 ≡ codes "compile" → status ≤ 1 → (files' : Files) × (told ≡ Some files') × IsCompilation words files files' said said' status
+abbrev pub LeavesCompilation : Words → HostState → HostState → ℕ → Type 0
+LeavesCompilation words old new status =
+    IfSome old.files (λ files.
+    word words 0 ≡ codes "compile" → status ≤ 1 → (files' : Files) × (new.files ≡ Some files') × IsCompilation words files files' old.said new.said status)

@@ -1,11 +1,11 @@
 -- Trusted. The top call: what the words ask for, decided, and ended.
-use Rattle.std.specs.Prelude.{◌≡◌, ℕ, List, Option, Result, Err, MatchOption}
-use Rattle.bist_host.specs.Files.{Files}
+use Rattle.std.specs.Prelude.{◌≡◌, ℕ, Option, Result, Err, MatchOption}
+use Rattle.bist_host.specs.Files.{Files, HostState}
 use Rattle.bist_endings.specs.declared.ending.Refusal.{Refusal}
 use Rattle.bist_app.specs.declared.commands.Command.{Command}
 use Rattle.bist_endings.specs.Ending.{Done}
 use Rattle.bist_endings.specs.Words.{Words}
-use Rattle.bist_inputs.specs.Inputs.{HasReadCause}
+use Rattle.bist_inputs.specs.Inputs.{HasCause}
 use Rattle.bist_endings.specs.Conclude.{Ends}
 use Rattle.bist_app.specs.Forms.{HasForm, judge_form, vectors_form, compile_form, bench_form, bench_file_form, bench_all_form, check_form}
 use Rattle.bist_app.specs.Sim.{IsSimShape, DecidesSim}
@@ -57,9 +57,6 @@ Decides files boxes left words outcome =
     (λ command. HasShape words command × DecidesCommand files boxes left words command outcome)
 
 -- what a run answers and leaves
-abbrev pub Runs : Words → Boxes → Boxes → Option Files → Option Files → Option (List ℕ) → Option (List ℕ) → Type 0 → Type 0 → ℕ → Type 0
-Runs words boxes left files files' said said' reads_rose writes_rose status =
-    (outcome : Result Done Refusal)
-    × Decides files boxes left words outcome
-    × HasReadCause files reads_rose outcome
-    × Ends words outcome files files' said said' writes_rose status
+abbrev pub Runs : Words → Boxes → Boxes → HostState → HostState → ℕ → Type 0
+Runs words boxes left old new status =
+    (outcome : Result Done Refusal) × Decides old.files boxes left words outcome × HasCause old new outcome × Ends words outcome old new status

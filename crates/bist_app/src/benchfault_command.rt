@@ -1,12 +1,12 @@
 //! The command `benchfault`: the self-test of a march and a memory against the first box, in which an instance of a primitive is planted.
 
 ghost use Rattle.std.specs.Prelude.{◌≡◌, ◌≤◌, ◌<◌, ◌↔◌, [], Some, IfOk, IfErr, IsTrue, MatchOption, Option, is_some, map, vec_len};
-ghost use Rattle.bist_host.specs.Files.{Rose};
+ghost use Rattle.bist_host.specs.Files.{OnlyReads};
 ghost use Rattle.fault_core.specs.Primitive.{has_aggressor};
 ghost use Rattle.word_device.specs.Chips.{FitsMemory};
 ghost use Rattle.bist_endings.specs.Ending.{plain, done_of};
 ghost use Rattle.bist_endings.specs.Conclude.{NamesWords};
-ghost use Rattle.bist_inputs.specs.Inputs.{HasReadCause, IsOwnRefusal};
+ghost use Rattle.bist_inputs.specs.Inputs.{HasCause, IsOwnRefusal};
 ghost use Rattle.bist_app.specs.declared.benchfault_command.NamedPlace.{NamedPlace};
 ghost use Rattle.bist_app.specs.declared.benchfault_command.FaultShape.{FaultShape};
 ghost use Rattle.self_test.specs.Refusals.{IsShort};
@@ -199,13 +199,10 @@ pub fn decide_fault<H: Host>(
     devices: &mut Vec<Box<dyn Device>>,
 ) -> Result<Plan, Refusal>
     requires { IsFaultShape words.now shape }
-    ensures files { H.files host.new ≡ H.files host.old }
-    ensures said { H.said host.new ≡ H.said host.old }
-    ensures writes { H.write_faults host.new ≡ H.write_faults host.old }
-    ensures reads { H.read_faults host.old ≤ H.read_faults host.new }
+    ensures kept { OnlyReads (H.state host.old) (H.state host.new) }
     ensures outputs { IfOk result (λ plan. NamesWords words.now (done_of plan).outputs) }
-    ensures answer { DecidesFault (H.files host.old) (map (λ b. told b) devices.old.items) (map (λ b. told b) devices.new.items) words.now shape (plain result) }
-    ensures cause { HasReadCause (H.files host.old) (Rose (H.read_faults host.old) (H.read_faults host.new)) result }
+    ensures answer { DecidesFault (H.state host.old).files (map (λ b. told b) devices.old.items) (map (λ b. told b) devices.new.items) words.now shape (plain result) }
+    ensures cause { HasCause (H.state host.old) (H.state host.new) result }
 {
     let march = read_march_input(host, words, 1)?;
     let memory = read_memory_input(host, words, 2)?;

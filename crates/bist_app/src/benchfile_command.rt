@@ -1,12 +1,12 @@
 //! The command `benchfile`: the module of a file against the first box.
 
 ghost use Rattle.std.specs.Prelude.{◌≡◌, ◌≤◌, ◌<◌, ◌∷◌, [], Some, None, IfOk, IfSome, IfErr, OnOk, OnErr, length, map, drop, vec_len};
-ghost use Rattle.bist_host.specs.Files.{Rose};
+ghost use Rattle.bist_host.specs.Files.{OnlyReads};
 ghost use Rattle.word_device.specs.Ports.{shape_of as memory_shape};
 ghost use Rattle.verilog_cycle.specs.Design.{IsNew};
 ghost use Rattle.bist_endings.specs.Ending.{plain, done_of};
 ghost use Rattle.bist_endings.specs.Conclude.{NamesWords};
-ghost use Rattle.bist_inputs.specs.Inputs.{HasReadCause, IsOwnRefusal};
+ghost use Rattle.bist_inputs.specs.Inputs.{HasCause, IsOwnRefusal};
 ghost use Rattle.self_test.specs.WrongPort.{wrong_port};
 ghost use Rattle.bist_app.specs.Forms.{HasForm, bench_file_form};
 ghost use Rattle.self_test.specs.Refusals.{IsShort};
@@ -156,13 +156,10 @@ fn decide_design<H: Host>(
 ) -> Result<Plan, Refusal>
     requires shape { HasForm bench_file_form words.now }
     requires zero { design.old.registers ≡ zero_registers design.old.tree }
-    ensures files { H.files host.new ≡ H.files host.old }
-    ensures said { H.said host.new ≡ H.said host.old }
-    ensures writes { H.write_faults host.new ≡ H.write_faults host.old }
-    ensures reads { H.read_faults host.old ≤ H.read_faults host.new }
+    ensures kept { OnlyReads (H.state host.old) (H.state host.new) }
     ensures outputs { IfOk result (λ plan. NamesWords words.now (done_of plan).outputs) }
-    ensures answer { DecidesFileRun (H.files host.old) (map (λ b. told b) devices.old.items) (map (λ b. told b) devices.new.items) words.now design.old.tree (plain result) }
-    ensures cause { HasReadCause (H.files host.old) (Rose (H.read_faults host.old) (H.read_faults host.new)) result }
+    ensures answer { DecidesFileRun (H.state host.old).files (map (λ b. told b) devices.old.items) (map (λ b. told b) devices.new.items) words.now design.old.tree (plain result) }
+    ensures cause { HasCause (H.state host.old) (H.state host.new) result }
 {
     let march = read_march_input(host, words, 2)?;
     let memory = read_memory_input(host, words, 3)?;
@@ -177,13 +174,10 @@ pub fn decide_benchfile<H: Host>(
     devices: &mut Vec<Box<dyn Device>>,
 ) -> Result<Plan, Refusal>
     requires { HasForm bench_file_form words.now }
-    ensures files { H.files host.new ≡ H.files host.old }
-    ensures said { H.said host.new ≡ H.said host.old }
-    ensures writes { H.write_faults host.new ≡ H.write_faults host.old }
-    ensures reads { H.read_faults host.old ≤ H.read_faults host.new }
+    ensures kept { OnlyReads (H.state host.old) (H.state host.new) }
     ensures outputs { IfOk result (λ plan. NamesWords words.now (done_of plan).outputs) }
-    ensures answer { DecidesBenchFile (H.files host.old) (map (λ b. told b) devices.old.items) (map (λ b. told b) devices.new.items) words.now (plain result) }
-    ensures cause { HasReadCause (H.files host.old) (Rose (H.read_faults host.old) (H.read_faults host.new)) result }
+    ensures answer { DecidesBenchFile (H.state host.old).files (map (λ b. told b) devices.old.items) (map (λ b. told b) devices.new.items) words.now (plain result) }
+    ensures cause { HasCause (H.state host.old) (H.state host.new) result }
 {
     let mut design = read_design_input(alloc, host, words, 1, Style::Parenthesised)?;
     decide_design(alloc, words, host, &mut design, devices)

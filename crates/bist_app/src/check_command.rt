@@ -2,14 +2,14 @@
 //! words return.
 
 ghost use Rattle.std.specs.Prelude.{◌≡◌, ◌≤◌, ◌++◌, List, [], Some, Err, IfOk, IfErr, OnOk};
-ghost use Rattle.bist_host.specs.Files.{Rose};
+ghost use Rattle.bist_host.specs.Files.{OnlyReads};
 ghost use Rattle.verilog_tree.specs.Plain.{ModuleTree};
 ghost use Rattle.march_core.specs.March.{MarchElement};
 ghost use Rattle.memory_desc.specs.Descriptions.{Description};
 ghost use Rattle.port_check.specs.Refusals.{Refuses};
 ghost use Rattle.bist_endings.specs.Ending.{plain, done_of};
 ghost use Rattle.bist_endings.specs.Conclude.{NamesWords};
-ghost use Rattle.bist_inputs.specs.Inputs.{HasReadCause, IsOwnRefusal};
+ghost use Rattle.bist_inputs.specs.Inputs.{HasCause, IsOwnRefusal};
 ghost use Rattle.bist_app.specs.Forms.{HasForm, check_form};
 ghost use Rattle.bist_app.specs.Check.{is_amiss, at_text, check_line, check_done, ChecksRun, DecidesRun, DecidesCheck};
 
@@ -147,13 +147,10 @@ fn decide_run<H: Host>(
     design: &Design,
 ) -> Result<Plan, Refusal>
     requires { HasForm check_form words.now }
-    ensures files { H.files host.new ≡ H.files host.old }
-    ensures said { H.said host.new ≡ H.said host.old }
-    ensures writes { H.write_faults host.new ≡ H.write_faults host.old }
-    ensures reads { H.read_faults host.old ≤ H.read_faults host.new }
+    ensures kept { OnlyReads (H.state host.old) (H.state host.new) }
     ensures outputs { IfOk result (λ plan. NamesWords words.now (done_of plan).outputs) }
-    ensures answer { DecidesRun (H.files host.old) words.now design.now.tree (plain result) }
-    ensures cause { HasReadCause (H.files host.old) (Rose (H.read_faults host.old) (H.read_faults host.new)) result }
+    ensures answer { DecidesRun (H.state host.old).files words.now design.now.tree (plain result) }
+    ensures cause { HasCause (H.state host.old) (H.state host.new) result }
 {
     let march = read_march_input(host, words, 2)?;
     let memory = read_memory_input(host, words, 3)?;
@@ -163,13 +160,10 @@ fn decide_run<H: Host>(
 /// Checks whether the module of a file, which may be any with the ports of a self-test, issues the commands of the march.
 pub fn decide_check<H: Host>(alloc: Global, words: &[&str], host: &mut H) -> Result<Plan, Refusal>
     requires { HasForm check_form words.now }
-    ensures files { H.files host.new ≡ H.files host.old }
-    ensures said { H.said host.new ≡ H.said host.old }
-    ensures writes { H.write_faults host.new ≡ H.write_faults host.old }
-    ensures reads { H.read_faults host.old ≤ H.read_faults host.new }
+    ensures kept { OnlyReads (H.state host.old) (H.state host.new) }
     ensures outputs { IfOk result (λ plan. NamesWords words.now (done_of plan).outputs) }
-    ensures answer { DecidesCheck (H.files host.old) words.now (plain result) }
-    ensures cause { HasReadCause (H.files host.old) (Rose (H.read_faults host.old) (H.read_faults host.new)) result }
+    ensures answer { DecidesCheck (H.state host.old).files words.now (plain result) }
+    ensures cause { HasCause (H.state host.old) (H.state host.new) result }
 {
     let design = read_design_input(alloc, host, words, 1, Style::ByPrecedence)?;
     decide_run(alloc, words, host, &design)

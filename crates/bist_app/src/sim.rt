@@ -1,11 +1,11 @@
 ghost use Rattle.std.specs.Prelude.{◌≡◌, ◌≤◌, ◌<◌, ◌↔◌, ℕ, [], length, is_some, All, IfOk, IfErr, OnOk, IsTrue, MatchOption, Option, map};
-ghost use Rattle.bist_host.specs.Files.{Rose};
+ghost use Rattle.bist_host.specs.Files.{OnlyReads};
 ghost use Rattle.march_core.specs.Visits.{is_direction};
 ghost use Rattle.fault_core.specs.Primitive.{has_aggressor};
 ghost use Rattle.fault_core.specs.Cells.{FitsPlace};
 ghost use Rattle.bist_app.specs.declared.sim.SimShape.{SimShape};
 ghost use Rattle.bist_endings.specs.Ending.{plain, done_of};
-ghost use Rattle.bist_inputs.specs.Inputs.{HasReadCause, IsOwnRefusal};
+ghost use Rattle.bist_inputs.specs.Inputs.{HasCause, IsOwnRefusal};
 ghost use Rattle.bist_endings.specs.Conclude.{NamesWords};
 ghost use Rattle.bist_endings.specs.Words.{word};
 ghost use Rattle.bist_app.specs.Sim.{IsBit, IsLetter, IsAggressorWord, IsSimShape, FitsAggressor, places_of, content_of, directions_of_letters, FirstDiffers, caught_line, sim_line, LeavesSim, DecidesSim};
@@ -199,13 +199,10 @@ pub fn decide_sim<H: Host>(
     host: &mut H,
 ) -> Result<Plan, Refusal>
     requires { IsSimShape words.now shape }
-    ensures files { H.files host.new ≡ H.files host.old }
-    ensures said { H.said host.new ≡ H.said host.old }
-    ensures writes { H.write_faults host.new ≡ H.write_faults host.old }
-    ensures reads { H.read_faults host.old ≤ H.read_faults host.new }
+    ensures kept { OnlyReads (H.state host.old) (H.state host.new) }
     ensures outputs { IfOk result (λ plan. NamesWords words.now (done_of plan).outputs) }
-    ensures answer { DecidesSim (H.files host.old) words.now shape (plain result) }
-    ensures cause { HasReadCause (H.files host.old) (Rose (H.read_faults host.old) (H.read_faults host.new)) result }
+    ensures answer { DecidesSim (H.state host.old).files words.now shape (plain result) }
+    ensures cause { HasCause (H.state host.old) (H.state host.new) result }
 {
     let march = read_march_input(host, words, 1)?;
     let prim = give_prim(words[2].as_bytes())?;

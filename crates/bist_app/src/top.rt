@@ -1,7 +1,7 @@
 ghost use Rattle.std.specs.Prelude.{◌≡◌, ◌≤◌, ◌⊎◌, IfOk, None, codes, map};
-ghost use Rattle.bist_host.specs.Files.{Rose};
+ghost use Rattle.bist_host.specs.Files.{OnlyReads, ReadsRose, WritesRose};
 ghost use Rattle.bist_endings.specs.Ending.{plain, done_of};
-ghost use Rattle.bist_inputs.specs.Inputs.{HasReadCause};
+ghost use Rattle.bist_inputs.specs.Inputs.{HasCause};
 ghost use Rattle.bist_endings.specs.Conclude.{NamesWords};
 ghost use Rattle.bist_endings.specs.Words.{word};
 ghost use Rattle.bist_app.specs.Answer.{IsComplete, RunHasOneAnswer, HaveSameFiles};
@@ -33,14 +33,11 @@ fn decide<H: Host>(
     host: &mut H,
     devices: &mut Vec<Box<dyn Device>>,
 ) -> Result<Plan, Refusal>
-    ensures files { H.files host.new ≡ H.files host.old }
-    ensures said { H.said host.new ≡ H.said host.old }
-    ensures writes { H.write_faults host.new ≡ H.write_faults host.old }
-    ensures reads { H.read_faults host.old ≤ H.read_faults host.new }
+    ensures kept { OnlyReads (H.state host.old) (H.state host.new) }
     ensures outputs { IfOk result (λ plan. NamesWords words.now (done_of plan).outputs) }
-    ensures answer { Decides (H.files host.old) (map (λ b. told b) devices.old.items) (map (λ b. told b) devices.new.items) words.now (plain result) }
-    ensures cause { HasReadCause (H.files host.old) (Rose (H.read_faults host.old) (H.read_faults host.new)) result }
-    ensures make { word words.now 0 ≡ codes "make" → H.read_faults host.new ≡ H.read_faults host.old }
+    ensures answer { Decides (H.state host.old).files (map (λ b. told b) devices.old.items) (map (λ b. told b) devices.new.items) words.now (plain result) }
+    ensures cause { HasCause (H.state host.old) (H.state host.new) result }
+    ensures make { word words.now 0 ≡ codes "make" → (H.state host.new).read_faults ≡ (H.state host.old).read_faults }
 {
     match command_of(words) {
         None => Err(Refusal::Usage),
@@ -64,11 +61,10 @@ fn decide_and_end<H: Host>(
     host: &mut H,
     devices: &mut Vec<Box<dyn Device>>,
 ) -> Ended
-    ensures reads { H.read_faults host.old ≤ H.read_faults host.new }
-    ensures make { word words.now 0 ≡ codes "make" → H.read_faults host.new ≡ H.read_faults host.old }
-    ensures writes { H.write_faults host.old ≤ H.write_faults host.new }
-    ensures answer { Runs words.now (map (λ b. told b) devices.old.items) (map (λ b. told b) devices.new.items) (H.files host.old) (H.files host.new) (H.said host.old) (H.said host.new)
-        (Rose (H.read_faults host.old) (H.read_faults host.new)) (Rose (H.write_faults host.old) (H.write_faults host.new)) result.status }
+    ensures reads { (H.state host.old).read_faults ≤ (H.state host.new).read_faults }
+    ensures make { word words.now 0 ≡ codes "make" → (H.state host.new).read_faults ≡ (H.state host.old).read_faults }
+    ensures writes { (H.state host.old).write_faults ≤ (H.state host.new).write_faults }
+    ensures answer { Runs words.now (map (λ b. told b) devices.old.items) (map (λ b. told b) devices.new.items) (H.state host.old) (H.state host.new) result.status }
 {
     let outcome = decide(alloc, words, host, devices);
     conclude(alloc, words, host, outcome)
@@ -82,29 +78,27 @@ pub fn run<H: Host>(
     host: &mut H,
     devices: &mut Vec<Box<dyn Device>>,
 ) -> Ended
-    ensures reads { H.read_faults host.old ≤ H.read_faults host.new }
-    ensures make { word words.now 0 ≡ codes "make" → H.read_faults host.new ≡ H.read_faults host.old }
-    ensures writes { H.write_faults host.old ≤ H.write_faults host.new }
-    ensures answer { Runs words.now (map (λ b. told b) devices.old.items) (map (λ b. told b) devices.new.items) (H.files host.old) (H.files host.new) (H.said host.old) (H.said host.new)
-        (Rose (H.read_faults host.old) (H.read_faults host.new)) (Rose (H.write_faults host.old) (H.write_faults host.new)) result.status }
-    ensures complete { IsComplete words.now (map (λ b. told b) devices.old.items) (map (λ b. told b) devices.new.items) (H.files host.old) (H.files host.new) (H.said host.old) (H.said host.new)
-        (Rose (H.read_faults host.old) (H.read_faults host.new)) (Rose (H.write_faults host.old) (H.write_faults host.new)) result.status }
+    ensures reads { (H.state host.old).read_faults ≤ (H.state host.new).read_faults }
+    ensures make { word words.now 0 ≡ codes "make" → (H.state host.new).read_faults ≡ (H.state host.old).read_faults }
+    ensures writes { (H.state host.old).write_faults ≤ (H.state host.new).write_faults }
+    ensures answer { Runs words.now (map (λ b. told b) devices.old.items) (map (λ b. told b) devices.new.items) (H.state host.old) (H.state host.new) result.status }
+    ensures complete { IsComplete words.now (map (λ b. told b) devices.old.items) (map (λ b. told b) devices.new.items) (H.state host.old) (H.state host.new) result.status }
 
     // What `compile` leaves where it ends with 0 or 1.
-    ensures compilation { LeavesCompilation words.now (H.files host.old) (H.files host.new) (H.said host.old) (H.said host.new) result.status }
+    ensures compilation { LeavesCompilation words.now (H.state host.old) (H.state host.new) result.status }
 
     // What `check` tells where it ends with 0 or 1.
-    ensures conformance { LeavesConformance words.now (H.files host.old) (H.files host.new) (H.said host.old) (H.said host.new) result.status }
+    ensures conformance { LeavesConformance words.now (H.state host.old) (H.state host.new) result.status }
 
-    ensures one_answer { RunHasOneAnswer (H.files host.old) (map (λ b. told b) devices.old.items) words.now }
-    ensures one_files { HaveSameFiles (H.files host.old) (map (λ b. told b) devices.old.items) words.now }
+    ensures one_answer { RunHasOneAnswer (H.state host.old).files (map (λ b. told b) devices.old.items) words.now }
+    ensures one_files { HaveSameFiles (H.state host.old).files (map (λ b. told b) devices.old.items) words.now }
 
     // When the statuses of words and of faults come.
     ensures usage { result.status ≡ 2 → HasNoShape words.now }
     ensures no_shape { HasNoShape words.now → (result.status ≡ 2) ⊎ (result.status ≡ 9) }
-    ensures read_fault { result.status ≡ 7 → Rose (H.read_faults host.old) (H.read_faults host.new) }
-    ensures write_fault { result.status ≡ 8 → Rose (H.write_faults host.old) (H.write_faults host.new) }
-    ensures not_told { H.files host.old ≡ None → (result.status ≡ 6) ⊎ (result.status ≡ 10) → Rose (H.read_faults host.old) (H.read_faults host.new) }
+    ensures read_fault { result.status ≡ 7 → ReadsRose (H.state host.old) (H.state host.new) }
+    ensures write_fault { result.status ≡ 8 → WritesRose (H.state host.old) (H.state host.new) }
+    ensures not_told { (H.state host.old).files ≡ None → (result.status ≡ 6) ⊎ (result.status ≡ 10) → ReadsRose (H.state host.old) (H.state host.new) }
 {
     decide_and_end(alloc, words, host, devices)
 }

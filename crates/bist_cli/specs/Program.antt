@@ -1,6 +1,6 @@
 -- Public. What the program does with the words of its command line.
-use Rattle.std.specs.Prelude.{◌≡◌, ℕ, List, [], ◌∷◌, Option, None, map}
-use Rattle.bist_host.specs.Files.{Files}
+use Rattle.std.specs.Prelude.{◌≡◌, ℕ, List, [], ◌∷◌, None, map}
+use Rattle.bist_host.specs.Files.{HostState}
 use Rattle.word_device.specs.Boxes.{Told, TellsChip}
 use Rattle.bist_endings.specs.Words.{Words}
 use Rattle.bist_app.specs.Bench.{Boxes}
@@ -11,11 +11,9 @@ abbrev pub own_box : Told
 own_box = record { room = 65536; shape = None; tells = TellsChip (record { words = []; planted = None; pending = []; idle = 0 }) }
 
 -- a run of the command of the words with that box alone
-abbrev pub RunsAlone : Words → Option Files → Option Files → Option (List ℕ) → Option (List ℕ) → Type 0 → Type 0 → ℕ → Type 0
-RunsAlone words files files' said said' reads_rose writes_rose status =
-    (left : Boxes) × Runs words (own_box ∷ []) left files files' said said' reads_rose writes_rose status
+abbrev pub RunsAlone : Words → HostState → HostState → ℕ → Type 0
+RunsAlone words old new status = (left : Boxes) × Runs words (own_box ∷ []) left old new status
 
 -- the same of words with these texts
-abbrev pub RunsTexts : List (List ℕ) → Option Files → Option Files → Option (List ℕ) → Option (List ℕ) → Type 0 → Type 0 → ℕ → Type 0
-RunsTexts texts files files' said said' reads_rose writes_rose status =
-    (words : Words) × (map (λ w. w.now) words ≡ texts) × RunsAlone words files files' said said' reads_rose writes_rose status
+abbrev pub RunsTexts : List (List ℕ) → HostState → HostState → ℕ → Type 0
+RunsTexts texts old new status = (words : Words) × (map (λ w. w.now) words ≡ texts) × RunsAlone words old new status

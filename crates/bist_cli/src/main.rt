@@ -3,7 +3,6 @@
 
 ghost use Rattle.std.specs.Prelude.{◌≡◌, IfOk, IfErr, map, drop, string_bytes};
 ghost use Rattle.std.specs.Vec.Iter.{into_iter_items};
-ghost use Rattle.bist_host.specs.Files.{Rose};
 ghost use Rattle.bist_cli.specs.Program.{own_box, RunsAlone, RunsTexts};
 
 use bist_app::run;
@@ -71,8 +70,7 @@ fn run_with<H: Host>(
     device: Box<dyn Device>,
 ) -> Result<u8, AllocError>
     requires own { told device ≡ own_box }
-    ensures runs { IfOk result (RunsAlone words.now (H.files host.old) (H.files host.new) (H.said host.old) (H.said host.new)
-        (Rose (H.read_faults host.old) (H.read_faults host.new)) (Rose (H.write_faults host.old) (H.write_faults host.new))) }
+    ensures runs { IfOk result (RunsAlone words.now (H.state host.old) (H.state host.new)) }
     ensures untouched { IfErr result (λ _. host.new ≡ host.old) }
 {
     let mut devices: Vec<Box<dyn Device>> = Vec::new(alloc);
@@ -82,8 +80,7 @@ fn run_with<H: Host>(
 
 /// Runs the command of the words with one box, a memory.
 fn run_texts<H: Host>(alloc: Global, words: &[&str], host: &mut H) -> Result<u8, AllocError>
-    ensures runs { IfOk result (RunsAlone words.now (H.files host.old) (H.files host.new) (H.said host.old) (H.said host.new)
-        (Rose (H.read_faults host.old) (H.read_faults host.new)) (Rose (H.write_faults host.old) (H.write_faults host.new))) }
+    ensures runs { IfOk result (RunsAlone words.now (H.state host.old) (H.state host.new)) }
     ensures untouched { IfErr result (λ _. host.new ≡ host.old) }
 {
     run_with(
@@ -96,8 +93,7 @@ fn run_texts<H: Host>(alloc: Global, words: &[&str], host: &mut H) -> Result<u8,
 
 /// Runs the command of the words behind the program's own name. Want of memory before it leaves the host as it was.
 fn run_words<H: Host>(alloc: Global, args: Args, host: &mut H) -> Result<u8, AllocError>
-    ensures runs { IfOk result (RunsTexts (map string_bytes (drop 1 (into_iter_items args))) (H.files host.old) (H.files host.new) (H.said host.old) (H.said host.new)
-        (Rose (H.read_faults host.old) (H.read_faults host.new)) (Rose (H.write_faults host.old) (H.write_faults host.new))) }
+    ensures runs { IfOk result (RunsTexts (map string_bytes (drop 1 (into_iter_items args))) (H.state host.old) (H.state host.new)) }
     ensures untouched { IfErr result (λ _. host.new ≡ host.old) }
 {
     let words = words_of(alloc, behind_name(args))?;

@@ -1,6 +1,6 @@
 -- Trusted. How a decided command ends: its files are written, then its line is said.
 use Rattle.std.specs.Prelude.{◌≡◌, ◌<◌, ◌⊎◌, ℕ, List, [], ◌∷◌, length, Option, Result, Ok, Err}
-use Rattle.bist_host.specs.Files.{Files, KeepsOthers, WritesFile, Says, SaysPrefix}
+use Rattle.bist_host.specs.Files.{Files, HostState, WritesRose, KeepsOthers, WritesFile, Says, SaysPrefix}
 use Rattle.bist_endings.specs.declared.ending.Refusal.{Refusal}
 use Rattle.bist_endings.specs.declared.concluding.WriteStop.{WriteStop}
 use Rattle.bist_endings.specs.declared.concluding.SayEnd.{SayEnd}
@@ -33,37 +33,37 @@ HasWriteCause rose (Err (WriteStop.Failed p)) = rose
 HasWriteCause rose other = Unit {0}
 
 -- what a say answers, and what it leaves
-abbrev pub SaysLine : Option (List ℕ) → Option (List ℕ) → List ℕ → Type 0 → SayEnd → Type 0
-SaysLine old new line rose SayEnd.Said = Says old new line
-SaysLine old new line rose SayEnd.Failed = rose × SaysPrefix old new line
-SaysLine old new line rose SayEnd.NoMemory = new ≡ old
+abbrev pub SaysLine : HostState → HostState → List ℕ → SayEnd → Type 0
+SaysLine old new line SayEnd.Said = Says old.said new.said line
+SaysLine old new line SayEnd.Failed = WritesRose old new × SaysPrefix old.said new.said line
+SaysLine old new line SayEnd.NoMemory = new.said ≡ old.said
 
 -- a refusal ends with its status and its line, the line cut short only where the count of writes rose; or memory ran out
-abbrev pub RefusalEnds : Refusal → Option (List ℕ) → Option (List ℕ) → Type 0 → ℕ → Type 0
-RefusalEnds refusal old new rose status =
-    ((status ≡ status_of refusal) × Says old new (refusal_line refusal))
-    ⊎ (((status ≡ status_of refusal) × rose × SaysPrefix old new (refusal_line refusal))
-    ⊎ ((status ≡ 9) × SaysPrefix old new no_memory_line))
+abbrev pub RefusalEnds : Refusal → HostState → HostState → ℕ → Type 0
+RefusalEnds refusal old new status =
+    ((status ≡ status_of refusal) × Says old.said new.said (refusal_line refusal))
+    ⊎ (((status ≡ status_of refusal) × WritesRose old new × SaysPrefix old.said new.said (refusal_line refusal))
+    ⊎ ((status ≡ 9) × SaysPrefix old.said new.said no_memory_line))
 
 -- what the say of a command's own line leaves, and the status then
-abbrev pub SaysDone : Done → Option (List ℕ) → Option (List ℕ) → Type 0 → ℕ → Type 0
-SaysDone done old new rose status =
-    ((status ≡ found_status done.found) × Says old new done.line)
-    ⊎ (((status ≡ 8) × rose × SaysPrefix old new done.line)
-    ⊎ ((status ≡ 9) × (new ≡ old)))
+abbrev pub SaysDone : Done → HostState → HostState → ℕ → Type 0
+SaysDone done old new status =
+    ((status ≡ found_status done.found) × Says old.said new.said done.line)
+    ⊎ (((status ≡ 8) × WritesRose old new × SaysPrefix old.said new.said done.line)
+    ⊎ ((status ≡ 9) × (new.said ≡ old.said)))
 
 -- what is said after the writes
-abbrev pub SaysAfterWrites : Done → Option (List ℕ) → Option (List ℕ) → Type 0 → Result (Unit {0}) WriteStop → ℕ → Type 0
-SaysAfterWrites done old new rose (Ok _) status = SaysDone done old new rose status
-SaysAfterWrites done old new rose (Err (WriteStop.Failed p)) status = (status ≡ 8) × rose × SaysPrefix old new (write_failed_line p)
-SaysAfterWrites done old new rose (Err WriteStop.NoMemory) status = (status ≡ 9) × SaysPrefix old new no_memory_line
+abbrev pub SaysAfterWrites : Done → HostState → HostState → Result (Unit {0}) WriteStop → ℕ → Type 0
+SaysAfterWrites done old new (Ok _) status = SaysDone done old new status
+SaysAfterWrites done old new (Err (WriteStop.Failed p)) status = (status ≡ 8) × WritesRose old new × SaysPrefix old.said new.said (write_failed_line p)
+SaysAfterWrites done old new (Err WriteStop.NoMemory) status = (status ≡ 9) × SaysPrefix old.said new.said no_memory_line
 
 -- the writes, and then the say
-abbrev pub DoneEnds : Words → Done → Option Files → Option Files → Option (List ℕ) → Option (List ℕ) → Type 0 → ℕ → Type 0
-DoneEnds words done files files' said said' rose status =
-    (stop : Result (Unit {0}) WriteStop) × WritesInOrder words done.outputs files files' stop × SaysAfterWrites done said said' rose stop status
+abbrev pub DoneEnds : Words → Done → HostState → HostState → ℕ → Type 0
+DoneEnds words done old new status =
+    (stop : Result (Unit {0}) WriteStop) × WritesInOrder words done.outputs old.files new.files stop × SaysAfterWrites done old new stop status
 
 -- what stands when the program ends
-abbrev pub Ends : Words → Result Done Refusal → Option Files → Option Files → Option (List ℕ) → Option (List ℕ) → Type 0 → ℕ → Type 0
-Ends words (Ok done) files files' said said' rose status = DoneEnds words done files files' said said' rose status
-Ends words (Err refusal) files files' said said' rose status = (files' ≡ files) × RefusalEnds refusal said said' rose status
+abbrev pub Ends : Words → Result Done Refusal → HostState → HostState → ℕ → Type 0
+Ends words (Ok done) old new status = DoneEnds words done old new status
+Ends words (Err refusal) old new status = (new.files ≡ old.files) × RefusalEnds refusal old new status

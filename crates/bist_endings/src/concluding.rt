@@ -1,5 +1,5 @@
 ghost use Rattle.std.specs.Prelude.{◌≡◌, ◌≤◌, ◌<◌, length, map, IfOk, codes};
-ghost use Rattle.bist_host.specs.Files.{Rose, SaysPrefix};
+ghost use Rattle.bist_host.specs.Files.{OnlyWrites, OnlySays, WritesRose, SaysPrefix};
 ghost use Rattle.bist_endings.specs.Ending.{plain, written_of, status_of, refusal_line, numbered_line, done_of, no_memory_line, write_failed_line};
 ghost use Rattle.bist_endings.specs.Conclude.{NamesWords, WritesInOrder, HasWriteCause, SaysLine, RefusalEnds, SaysDone, DoneEnds, Ends};
 
@@ -28,11 +28,9 @@ pub enum SayEnd {
 /// Writes the files in their order, up to the first that can't be written.
 fn write_outputs<H: Host>(host: &mut H, words: &[&str], outputs: &[Output]) -> Result<(), WriteStop>
     requires { NamesWords words.now (map written_of outputs.now) }
-    ensures said { H.said host.new ≡ H.said host.old }
-    ensures reads { H.read_faults host.new ≡ H.read_faults host.old }
-    ensures writes { H.write_faults host.old ≤ H.write_faults host.new }
-    ensures answer { WritesInOrder words.now (map written_of outputs.now) (H.files host.old) (H.files host.new) result }
-    ensures cause { HasWriteCause (Rose (H.write_faults host.old) (H.write_faults host.new)) result }
+    ensures kept { OnlyWrites (H.state host.old) (H.state host.new) }
+    ensures answer { WritesInOrder words.now (map written_of outputs.now) (H.state host.old).files (H.state host.new).files result }
+    ensures cause { HasWriteCause (WritesRose (H.state host.old) (H.state host.new)) result }
 {
     match outputs {
         [] => Ok(()),
@@ -46,10 +44,8 @@ fn write_outputs<H: Host>(host: &mut H, words: &[&str], outputs: &[Output]) -> R
 
 /// Says a line.
 fn say_line<H: Host>(host: &mut H, line: &[u8]) -> SayEnd
-    ensures files { H.files host.new ≡ H.files host.old }
-    ensures reads { H.read_faults host.new ≡ H.read_faults host.old }
-    ensures writes { H.write_faults host.old ≤ H.write_faults host.new }
-    ensures answer { SaysLine (H.said host.old) (H.said host.new) line.now (Rose (H.write_faults host.old) (H.write_faults host.new)) result }
+    ensures kept { OnlySays (H.state host.old) (H.state host.new) }
+    ensures answer { SaysLine (H.state host.old) (H.state host.new) line.now result }
 {
     match host.say(line) {
         Ok(()) => SayEnd::Said,
@@ -100,10 +96,8 @@ fn status(refusal: &Refusal) -> u8
 
 /// Says a refusal's line.
 fn refuse<H: Host>(alloc: Global, host: &mut H, refusal: Refusal) -> Ended
-    ensures files { H.files host.new ≡ H.files host.old }
-    ensures reads { H.read_faults host.new ≡ H.read_faults host.old }
-    ensures writes { H.write_faults host.old ≤ H.write_faults host.new }
-    ensures answer { RefusalEnds refusal (H.said host.old) (H.said host.new) (Rose (H.write_faults host.old) (H.write_faults host.new)) result.status }
+    ensures kept { OnlySays (H.state host.old) (H.state host.new) }
+    ensures answer { RefusalEnds refusal (H.state host.old) (H.state host.new) result.status }
 {
     let status = status(&refusal);
     match line_of_refusal(alloc, refusal) {
@@ -118,10 +112,8 @@ fn refuse<H: Host>(alloc: Global, host: &mut H, refusal: Refusal) -> Ended
 
 /// Says that there was no memory.
 fn end_without_memory<H: Host>(host: &mut H) -> Ended
-    ensures files { H.files host.new ≡ H.files host.old }
-    ensures reads { H.read_faults host.new ≡ H.read_faults host.old }
-    ensures writes { H.write_faults host.old ≤ H.write_faults host.new }
-    ensures said { SaysPrefix (H.said host.old) (H.said host.new) no_memory_line }
+    ensures kept { OnlySays (H.state host.old) (H.state host.new) }
+    ensures said { SaysPrefix (H.state host.old).said (H.state host.new).said no_memory_line }
     ensures status { result.status ≡ 9 }
 {
     say_line(host, b"no memory\n");
@@ -130,10 +122,8 @@ fn end_without_memory<H: Host>(host: &mut H) -> Ended
 
 /// Says that a file couldn't be written.
 fn end_failed_write<H: Host>(alloc: Global, host: &mut H, position: usize) -> Ended
-    ensures files { H.files host.new ≡ H.files host.old }
-    ensures reads { H.read_faults host.new ≡ H.read_faults host.old }
-    ensures writes { H.write_faults host.old ≤ H.write_faults host.new }
-    ensures said { SaysPrefix (H.said host.old) (H.said host.new) (write_failed_line position) }
+    ensures kept { OnlySays (H.state host.old) (H.state host.new) }
+    ensures said { SaysPrefix (H.state host.old).said (H.state host.new).said (write_failed_line position) }
     ensures status { result.status ≡ 8 }
 {
     if let Ok(line) = numbered(alloc, b"write failed ", position) {
@@ -144,10 +134,8 @@ fn end_failed_write<H: Host>(alloc: Global, host: &mut H, position: usize) -> En
 
 /// Says the line of a command that is done.
 fn end_done<H: Host>(host: &mut H, plan: &Plan) -> Ended
-    ensures files { H.files host.new ≡ H.files host.old }
-    ensures reads { H.read_faults host.new ≡ H.read_faults host.old }
-    ensures writes { H.write_faults host.old ≤ H.write_faults host.new }
-    ensures answer { SaysDone (done_of plan.now) (H.said host.old) (H.said host.new) (Rose (H.write_faults host.old) (H.write_faults host.new)) result.status }
+    ensures kept { OnlySays (H.state host.old) (H.state host.new) }
+    ensures answer { SaysDone (done_of plan.now) (H.state host.old) (H.state host.new) result.status }
 {
     match say_line(host, &plan.line) {
         SayEnd::Said => Ended {
@@ -161,9 +149,9 @@ fn end_done<H: Host>(host: &mut H, plan: &Plan) -> Ended
 /// Writes the files of a command that is done, and says its line.
 fn finish<H: Host>(alloc: Global, words: &[&str], host: &mut H, plan: &Plan) -> Ended
     requires { NamesWords words.now (done_of plan.now).outputs }
-    ensures reads { H.read_faults host.new ≡ H.read_faults host.old }
-    ensures writes { H.write_faults host.old ≤ H.write_faults host.new }
-    ensures answer { DoneEnds words.now (done_of plan.now) (H.files host.old) (H.files host.new) (H.said host.old) (H.said host.new) (Rose (H.write_faults host.old) (H.write_faults host.new)) result.status }
+    ensures reads { (H.state host.new).read_faults ≡ (H.state host.old).read_faults }
+    ensures writes { (H.state host.old).write_faults ≤ (H.state host.new).write_faults }
+    ensures answer { DoneEnds words.now (done_of plan.now) (H.state host.old) (H.state host.new) result.status }
 {
     match write_outputs(host, words, &plan.outputs) {
         Ok(()) => end_done(host, plan),
@@ -180,9 +168,9 @@ pub fn conclude<H: Host>(
     outcome: Result<Plan, Refusal>,
 ) -> Ended
     requires { IfOk outcome (λ plan. NamesWords words.now (done_of plan).outputs) }
-    ensures reads { H.read_faults host.new ≡ H.read_faults host.old }
-    ensures writes { H.write_faults host.old ≤ H.write_faults host.new }
-    ensures answer { Ends words.now (plain outcome) (H.files host.old) (H.files host.new) (H.said host.old) (H.said host.new) (Rose (H.write_faults host.old) (H.write_faults host.new)) result.status }
+    ensures reads { (H.state host.new).read_faults ≡ (H.state host.old).read_faults }
+    ensures writes { (H.state host.old).write_faults ≤ (H.state host.new).write_faults }
+    ensures answer { Ends words.now (plain outcome) (H.state host.old) (H.state host.new) result.status }
 {
     match outcome {
         Ok(plan) => finish(alloc, words, host, &plan),

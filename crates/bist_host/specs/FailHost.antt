@@ -2,7 +2,7 @@
 use Rattle.std.specs.Prelude.{◌≡◌, ◌≤◌, ◌+◌, ◌-◌, ◌/◌, ◌^◌, ◌++◌, ℕ, min, length, take, Contains, Some, None, List}
 use Rattle.bist_host.specs.declared.host.HostFault.{HostFault}
 use Rattle.bist_host.specs.declared.host.HostFault.TheVariants.{Absent, TooLarge, ReadFailed, WriteFailed, NoMemory}
-use Rattle.bist_host.specs.Files.{IsReadable, IsTooLarge, WritesFile}
+use Rattle.bist_host.specs.Files.{HostState, IsReadable, IsTooLarge, WritesFile}
 use Rattle.bist_host.specs.MemHost.{MemContent, files_of}
 
 pub record FailContent : Type 0 where
@@ -11,6 +11,10 @@ pub record FailContent : Type 0 where
   pub calls : ℕ
   pub read_faults : ℕ
   pub write_faults : ℕ
+
+-- what the host tells
+abbrev pub state_of : FailContent → HostState
+state_of h = record { files = Some (files_of h.inner); said = Some h.inner.said; read_faults = h.read_faults; write_faults = h.write_faults }
 
 -- one more, up to the last value of a count
 abbrev pub raised : ℕ → ℕ

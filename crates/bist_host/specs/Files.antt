@@ -7,9 +7,43 @@ use Rattle.bist_host.specs.declared.host.HostFault.TheVariants.{Absent, TooLarge
 abbrev pub Files : Type 0
 Files = List ℕ → Option (List ℕ)
 
+-- what a host tells: its files and all bytes that were said, where it tells them, and its counts of faults
+pub record HostState : Type 0 where
+  pub files : Option Files
+  pub said : Option (List ℕ)
+  pub read_faults : ℕ
+  pub write_faults : ℕ
+
+-- a call that reads changes nothing but the count of read faults, which doesn't fall
+pub record OnlyReads (old new : HostState) : Type 0 where
+  pub files : new.files ≡ old.files
+  pub said : new.said ≡ old.said
+  pub reads : old.read_faults ≤ new.read_faults
+  pub writes : new.write_faults ≡ old.write_faults
+
+-- a call that writes leaves what was said and the count of read faults
+pub record OnlyWrites (old new : HostState) : Type 0 where
+  pub said : new.said ≡ old.said
+  pub reads : new.read_faults ≡ old.read_faults
+  pub writes : old.write_faults ≤ new.write_faults
+
+-- a call that says leaves the files and the count of read faults
+pub record OnlySays (old new : HostState) : Type 0 where
+  pub files : new.files ≡ old.files
+  pub reads : new.read_faults ≡ old.read_faults
+  pub writes : old.write_faults ≤ new.write_faults
+
 -- a count, of at most 2^64-1, rose in a call: it is greater, or stands at its last value
 abbrev pub Rose : ℕ → ℕ → Type 0
 Rose before now = (before < 2 ^ 64) × (min (before + 1) (2 ^ 64 - 1) ≤ now)
+
+-- the count of read faults rose between what a host tells before and after
+abbrev pub ReadsRose : HostState → HostState → Type 0
+ReadsRose old new = Rose old.read_faults new.read_faults
+
+-- the same of the count of write faults
+abbrev pub WritesRose : HostState → HostState → Type 0
+WritesRose old new = Rose old.write_faults new.write_faults
 
 -- the bytes that a read gives, where the files are told
 abbrev pub ReadGives : Option Files → List ℕ → ℕ → List ℕ → Type 0

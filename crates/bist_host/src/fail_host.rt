@@ -91,24 +91,15 @@ impl FailHost {
 }
 
 impl Host for FailHost {
-    ghost use Rattle.std.specs.Prelude.{◌≡◌, ◌≤◌, Some, MatchResult, IsErrAnd};
-    ghost use Rattle.bist_host.specs.Files.{ReadGives, ReadRefused, WritesFile, WriteRefused, Says, SayRefused};
+    ghost use Rattle.std.specs.Prelude.{Some, MatchResult, IsErrAnd};
+    ghost use Rattle.bist_host.specs.Files.{OnlyReads, OnlyWrites, OnlySays, ReadGives, ReadRefused, WritesFile, WriteRefused, Says, SayRefused};
     ghost use Rattle.bist_host.specs.MemHost.{files_of};
-    ghost use Rattle.bist_host.specs.FailHost.{counted, IsNextListed, ListedRead, ListedWrite, ListedSay, OtherRead, OtherCall, ReadsWhole, WritesWhole, SaysWhole};
+    ghost use Rattle.bist_host.specs.FailHost.{state_of, counted, IsNextListed, ListedRead, ListedWrite, ListedSay, OtherRead, OtherCall, ReadsWhole, WritesWhole, SaysWhole};
 
-    ghost files = { λ h. Some (files_of h.inner) };
-
-    ghost said = { λ h. Some h.inner.said };
-
-    ghost read_faults = { λ h. h.read_faults };
-
-    ghost write_faults = { λ h. h.write_faults };
+    ghost state = { state_of };
 
     fn read_file(&mut self, name: &str, limit: usize) -> Result<Vec<u8>, HostFault>
-        ensures files { files_of self.new.inner ≡ files_of self.old.inner }
-        ensures said { self.new.inner.said ≡ self.old.inner.said }
-        ensures reads { self.old.read_faults ≤ self.new.read_faults }
-        ensures writes { self.new.write_faults ≡ self.old.write_faults }
+        ensures kept { OnlyReads (state_of self.old) (state_of self.new) }
         ensures answer { MatchResult result
             (λ bytes. ReadGives (Some (files_of self.old.inner)) name.now limit bytes.items)
             (λ fault. ReadRefused (Some (files_of self.old.inner)) name.now limit fault self.old.read_faults self.new.read_faults) }
@@ -126,9 +117,7 @@ impl Host for FailHost {
     }
 
     fn write_file(&mut self, name: &str, bytes: &[u8]) -> Result<(), HostFault>
-        ensures said { self.new.inner.said ≡ self.old.inner.said }
-        ensures reads { self.new.read_faults ≡ self.old.read_faults }
-        ensures writes { self.old.write_faults ≤ self.new.write_faults }
+        ensures kept { OnlyWrites (state_of self.old) (state_of self.new) }
         ensures answer { MatchResult result
             (λ _. WritesFile (Some (files_of self.old.inner)) (Some (files_of self.new.inner)) name.now bytes.now)
             (λ fault. WriteRefused (Some (files_of self.old.inner)) (Some (files_of self.new.inner)) name.now fault self.old.write_faults self.new.write_faults) }
@@ -146,9 +135,7 @@ impl Host for FailHost {
     }
 
     fn say(&mut self, bytes: &[u8]) -> Result<(), HostFault>
-        ensures files { files_of self.new.inner ≡ files_of self.old.inner }
-        ensures reads { self.new.read_faults ≡ self.old.read_faults }
-        ensures writes { self.old.write_faults ≤ self.new.write_faults }
+        ensures kept { OnlySays (state_of self.old) (state_of self.new) }
         ensures answer { MatchResult result
             (λ _. Says (Some self.old.inner.said) (Some self.new.inner.said) bytes.now)
             (λ fault. SayRefused (Some self.old.inner.said) (Some self.new.inner.said) bytes.now fault self.old.write_faults self.new.write_faults) }

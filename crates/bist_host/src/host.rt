@@ -1,5 +1,5 @@
-ghost use Rattle.std.specs.Prelude.{◌≡◌, ◌≤◌, ℕ, List, Option, MatchResult};
-ghost use Rattle.bist_host.specs.Files.{Files, ReadGives, ReadRefused, WritesFile, WriteRefused, Says, SayRefused};
+ghost use Rattle.std.specs.Prelude.{MatchResult};
+ghost use Rattle.bist_host.specs.Files.{HostState, OnlyReads, OnlyWrites, OnlySays, ReadGives, ReadRefused, WritesFile, WriteRefused, Says, SayRefused};
 
 /// Why a call of a host gives up.
 #[derive(Clone, Copy, Debug, PartialEq, Eq)]
@@ -19,40 +19,27 @@ pub enum HostFault {
 /// Files by name, and the bytes that are said. A host tells both to the contracts, or doesn't tell them. It counts
 /// its faults, of reads and of writes: a count never falls, and stands at `u64::MAX`.
 pub trait Host {
-    /// The bytes of each file, where the host tells them.
-    ghost files: { Self → Option Files };
-    /// All bytes that were said, where the host tells them.
-    ghost said: { Self → Option (List ℕ) };
-
-    ghost read_faults: { Self → ℕ };
-
-    ghost write_faults: { Self → ℕ };
+    /// Its files, what was said, and its counts of faults, as it tells them.
+    ghost state: { Self → HostState };
 
     /// The bytes of a file that has at most `limit` bytes. It changes nothing but the count of read faults.
     fn read_file(&mut self, name: &str, limit: usize) -> Result<Vec<u8>, HostFault>
-        ensures files { files self.new ≡ files self.old }
-        ensures said { said self.new ≡ said self.old }
-        ensures reads { read_faults self.old ≤ read_faults self.new }
-        ensures writes { write_faults self.new ≡ write_faults self.old }
+        ensures kept { OnlyReads (state self.old) (state self.new) }
         ensures answer { MatchResult result
-            (λ bytes. ReadGives (files self.old) name.now limit bytes.items)
-            (λ fault. ReadRefused (files self.old) name.now limit fault (read_faults self.old) (read_faults self.new)) };
+            (λ bytes. ReadGives (state self.old).files name.now limit bytes.items)
+            (λ fault. ReadRefused (state self.old).files name.now limit fault (state self.old).read_faults (state self.new).read_faults) };
 
     /// Makes the file have these bytes. After `WriteFailed` it may be missing or hold anything; all others stay.
     fn write_file(&mut self, name: &str, bytes: &[u8]) -> Result<(), HostFault>
-        ensures said { said self.new ≡ said self.old }
-        ensures reads { read_faults self.new ≡ read_faults self.old }
-        ensures writes { write_faults self.old ≤ write_faults self.new }
+        ensures kept { OnlyWrites (state self.old) (state self.new) }
         ensures answer { MatchResult result
-            (λ _. WritesFile (files self.old) (files self.new) name.now bytes.now)
-            (λ fault. WriteRefused (files self.old) (files self.new) name.now fault (write_faults self.old) (write_faults self.new)) };
+            (λ _. WritesFile (state self.old).files (state self.new).files name.now bytes.now)
+            (λ fault. WriteRefused (state self.old).files (state self.new).files name.now fault (state self.old).write_faults (state self.new).write_faults) };
 
     /// Says these bytes. After `WriteFailed` some first part of them was said.
     fn say(&mut self, bytes: &[u8]) -> Result<(), HostFault>
-        ensures files { files self.new ≡ files self.old }
-        ensures reads { read_faults self.new ≡ read_faults self.old }
-        ensures writes { write_faults self.old ≤ write_faults self.new }
+        ensures kept { OnlySays (state self.old) (state self.new) }
         ensures answer { MatchResult result
-            (λ _. Says (said self.old) (said self.new) bytes.now)
-            (λ fault. SayRefused (said self.old) (said self.new) bytes.now fault (write_faults self.old) (write_faults self.new)) };
+            (λ _. Says (state self.old).said (state self.new).said bytes.now)
+            (λ fault. SayRefused (state self.old).said (state self.new).said bytes.now fault (state self.old).write_faults (state self.new).write_faults) };
 }

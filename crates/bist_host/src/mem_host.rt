@@ -83,13 +83,7 @@ impl Host for MemHost {
     ghost use Rattle.bist_host.specs.Files.{ReadGives, ReadRefused, WritesFile, IsNoMemory};
     ghost use Rattle.bist_host.specs.MemHost.{files_of};
 
-    ghost files = { λ h. Some (files_of h) };
-
-    ghost said = { λ h. Some h.said };
-
-    ghost read_faults = { λ h. 0 };
-
-    ghost write_faults = { λ h. 0 };
+    ghost state = { λ h. record { files = Some (files_of h); said = Some h.said; read_faults = 0; write_faults = 0 } };
 
     fn read_file(&mut self, name: &str, limit: usize) -> Result<Vec<u8>, HostFault>
         ensures stays { self.new ≡ self.old }

@@ -35,13 +35,7 @@ impl<R: Files + Print + AllocGlobal + Clock + Drop> RealHost<R> {
 }
 
 impl<R: Files + Print + AllocGlobal + Clock + Drop> Host for RealHost<R> {
-    ghost files = { λ h. None };
-
-    ghost said = { λ h. None };
-
-    ghost read_faults = { λ h. h.read_faults };
-
-    ghost write_faults = { λ h. h.write_faults };
+    ghost state = { λ h. record { files = None; said = None; read_faults = h.read_faults; write_faults = h.write_faults } };
 
     fn read_file(&mut self, name: &str, limit: usize) -> Result<Vec<u8>, HostFault>
         ensures reads { self.old.read_faults ≤ self.new.read_faults }

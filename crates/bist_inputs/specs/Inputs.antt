@@ -1,6 +1,6 @@
 -- Trusted. What the inputs of a command give: its checks in their order.
 use Rattle.std.specs.Prelude.{◌≡◌, ℕ, List, Option, Some, None, Result, Ok, Err}
-use Rattle.bist_host.specs.Files.{Files, ReadGives, IsReadable, IsTooLarge}
+use Rattle.bist_host.specs.Files.{Files, HostState, ReadsRose, ReadGives, IsReadable, IsTooLarge}
 use Rattle.march_core.specs.March.{MarchElement}
 use Rattle.march_syntax.specs.Answers.{Reads as ReadsMarch}
 use Rattle.fault_core.specs.Primitive.{Primitive}
@@ -33,6 +33,10 @@ HasReadCause files rose (Err (Refusal.ReadFailed p)) = rose
 HasReadCause None rose (Err (Refusal.Absent p)) = rose
 HasReadCause None rose (Err (Refusal.TooLarge p)) = rose
 HasReadCause files rose other = Unit {0}
+
+-- the same between what a host tells before and after
+abbrev pub HasCause : {A : Type 0} → HostState → HostState → Result A Refusal → Type 0
+HasCause old new result = HasReadCause old.files (ReadsRose old new) result
 
 -- not a refusal of a file's reading
 abbrev pub IsOwnRefusal : Refusal → Type 0

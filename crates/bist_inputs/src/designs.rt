@@ -1,5 +1,5 @@
 ghost use Rattle.std.specs.Prelude.{◌≡◌, ◌<◌, ◌≤◌, ◌⊎◌, true, Err, IfOk, IfErr, IsTrue, length};
-ghost use Rattle.bist_host.specs.Files.{Rose};
+ghost use Rattle.bist_host.specs.Files.{OnlyReads};
 ghost use Rattle.verilog_tree.specs.Plain.{plain_module};
 ghost use Rattle.verilog_tree.specs.Formed.{formed};
 ghost use Rattle.verilog_tree.specs.Grammar.{Style as Written};
@@ -7,7 +7,7 @@ ghost use Rattle.verilog_tree.specs.Spells.{Text, all_limits};
 ghost use Rattle.verilog_text.specs.Refusals.{IsFirstIn};
 ghost use Rattle.verilog_cycle.specs.Design.{IsNew};
 ghost use Rattle.bist_endings.specs.Words.{word};
-ghost use Rattle.bist_inputs.specs.Inputs.{HasReadCause, IsOwnRefusal};
+ghost use Rattle.bist_inputs.specs.Inputs.{HasCause, IsOwnRefusal};
 ghost use Rattle.bist_inputs.specs.Designs.{styled, plain_tree, tree_of, GivesTree, GivesRunnable, GivesModule, InputModule};
 
 use crate::inputs::read_input;
@@ -99,13 +99,10 @@ pub fn read_design_input<H: Host>(
     style: Style,
 ) -> Result<Design, Refusal>
     requires { position < length words.now }
-    ensures files { H.files host.new ≡ H.files host.old }
-    ensures said { H.said host.new ≡ H.said host.old }
-    ensures writes { H.write_faults host.new ≡ H.write_faults host.old }
-    ensures reads { H.read_faults host.old ≤ H.read_faults host.new }
-    ensures answer { InputModule (styled style) (H.files host.old) words.now position (tree_of result) }
+    ensures kept { OnlyReads (H.state host.old) (H.state host.new) }
+    ensures answer { InputModule (styled style) (H.state host.old).files words.now position (tree_of result) }
     ensures new { IfOk result (λ design. IsNew design.tree design) }
-    ensures cause { HasReadCause (H.files host.old) (Rose (H.read_faults host.old) (H.read_faults host.new)) result }
+    ensures cause { HasCause (H.state host.old) (H.state host.new) result }
 {
     let bytes = read_input(host, words, position)?;
     give_module(alloc, &bytes, style)

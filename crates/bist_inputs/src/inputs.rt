@@ -1,8 +1,8 @@
 ghost use Rattle.std.specs.Prelude.{◌≡◌, ◌≤◌, ◌<◌, length, IfErr};
-ghost use Rattle.bist_host.specs.Files.{Rose};
+ghost use Rattle.bist_host.specs.Files.{OnlyReads};
 ghost use Rattle.bist_endings.specs.Then.{items_of};
 ghost use Rattle.bist_endings.specs.Words.{word};
-ghost use Rattle.bist_inputs.specs.Inputs.{GivesBytes, GivesMarch, HasReadCause, InputMarch, IsOwnRefusal};
+ghost use Rattle.bist_inputs.specs.Inputs.{GivesBytes, GivesMarch, HasCause, InputMarch, IsOwnRefusal};
 
 use bist_endings::Refusal;
 use bist_host::{Host, HostFault};
@@ -19,12 +19,9 @@ pub fn read_input<H: Host>(
     position: usize,
 ) -> Result<Vec<u8>, Refusal>
     requires { position < length words.now }
-    ensures files { H.files host.new ≡ H.files host.old }
-    ensures said { H.said host.new ≡ H.said host.old }
-    ensures writes { H.write_faults host.new ≡ H.write_faults host.old }
-    ensures reads { H.read_faults host.old ≤ H.read_faults host.new }
-    ensures answer { GivesBytes (H.files host.old) (word words.now position) position (items_of result) }
-    ensures cause { HasReadCause (H.files host.old) (Rose (H.read_faults host.old) (H.read_faults host.new)) result }
+    ensures kept { OnlyReads (H.state host.old) (H.state host.new) }
+    ensures answer { GivesBytes (H.state host.old).files (word words.now position) position (items_of result) }
+    ensures cause { HasCause (H.state host.old) (H.state host.new) result }
 {
     match host.read_file(words[position], INPUT_LIMIT) {
         Ok(bytes) => Ok(bytes),
@@ -43,12 +40,9 @@ pub fn read_march_input<H: Host>(
     position: usize,
 ) -> Result<March, Refusal>
     requires { position < length words.now }
-    ensures files { H.files host.new ≡ H.files host.old }
-    ensures said { H.said host.new ≡ H.said host.old }
-    ensures writes { H.write_faults host.new ≡ H.write_faults host.old }
-    ensures reads { H.read_faults host.old ≤ H.read_faults host.new }
-    ensures answer { InputMarch (H.files host.old) words.now position result }
-    ensures cause { HasReadCause (H.files host.old) (Rose (H.read_faults host.old) (H.read_faults host.new)) result }
+    ensures kept { OnlyReads (H.state host.old) (H.state host.new) }
+    ensures answer { InputMarch (H.state host.old).files words.now position result }
+    ensures cause { HasCause (H.state host.old) (H.state host.new) result }
 {
     let bytes = read_input(host, words, position)?;
     give_march(&bytes)

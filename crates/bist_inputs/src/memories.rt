@@ -1,6 +1,6 @@
 ghost use Rattle.std.specs.Prelude.{◌≡◌, ◌<◌, ◌≤◌, IfErr, length};
-ghost use Rattle.bist_host.specs.Files.{Rose};
-ghost use Rattle.bist_inputs.specs.Inputs.{HasReadCause, IsOwnRefusal};
+ghost use Rattle.bist_host.specs.Files.{OnlyReads};
+ghost use Rattle.bist_inputs.specs.Inputs.{HasCause, IsOwnRefusal};
 ghost use Rattle.bist_inputs.specs.Memories.{GivesMemory, InputMemory};
 
 use crate::inputs::read_input;
@@ -31,12 +31,9 @@ pub fn read_memory_input<H: Host>(
     position: usize,
 ) -> Result<Memory, Refusal>
     requires { position < length words.now }
-    ensures files { H.files host.new ≡ H.files host.old }
-    ensures said { H.said host.new ≡ H.said host.old }
-    ensures writes { H.write_faults host.new ≡ H.write_faults host.old }
-    ensures reads { H.read_faults host.old ≤ H.read_faults host.new }
-    ensures answer { InputMemory (H.files host.old) words.now position result }
-    ensures cause { HasReadCause (H.files host.old) (Rose (H.read_faults host.old) (H.read_faults host.new)) result }
+    ensures kept { OnlyReads (H.state host.old) (H.state host.new) }
+    ensures answer { InputMemory (H.state host.old).files words.now position result }
+    ensures cause { HasCause (H.state host.old) (H.state host.new) result }
 {
     let bytes = read_input(host, words, position)?;
     give_memory(&bytes)

@@ -1,8 +1,8 @@
 ghost use Rattle.std.specs.Prelude.{◌≡◌, ◌<◌, ◌≤◌, ◌⊎◌, IfErr, Err, length};
-ghost use Rattle.bist_host.specs.Files.{Rose};
+ghost use Rattle.bist_host.specs.Files.{OnlyReads};
 ghost use Rattle.dynamic_core.specs.Items.{ReadsItems};
 ghost use Rattle.bist_endings.specs.Then.{items_of};
-ghost use Rattle.bist_inputs.specs.Inputs.{GivesPrim, GivesList, HasReadCause, InputList, IsOwnRefusal};
+ghost use Rattle.bist_inputs.specs.Inputs.{GivesPrim, GivesList, HasCause, InputList, IsOwnRefusal};
 
 use crate::inputs::read_input;
 use bist_endings::Refusal;
@@ -58,12 +58,9 @@ pub fn read_list_input<H: Host>(
     position: usize,
 ) -> Result<Vec<Item>, Refusal>
     requires { position < length words.now }
-    ensures files { H.files host.new ≡ H.files host.old }
-    ensures said { H.said host.new ≡ H.said host.old }
-    ensures writes { H.write_faults host.new ≡ H.write_faults host.old }
-    ensures reads { H.read_faults host.old ≤ H.read_faults host.new }
-    ensures answer { InputList (H.files host.old) words.now position (items_of result) }
-    ensures cause { HasReadCause (H.files host.old) (Rose (H.read_faults host.old) (H.read_faults host.new)) result }
+    ensures kept { OnlyReads (H.state host.old) (H.state host.new) }
+    ensures answer { InputList (H.state host.old).files words.now position (items_of result) }
+    ensures cause { HasCause (H.state host.old) (H.state host.new) result }
 {
     let bytes = read_input(host, words, position)?;
     give_list(alloc, &bytes)

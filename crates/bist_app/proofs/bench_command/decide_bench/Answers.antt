@@ -14,7 +14,7 @@ returns-in_err-memory-clause-answer g c = (
   c.in_ok-march.ensures.answer,
   (
     Err c.in_err-memory.field-0.0,
-    subst (λ f. InputMemory f c.args.words.now 2 (Err c.in_err-memory.field-0.0)) c.in_ok-march.ensures.files c.in_err-memory.ensures.answer,
+    subst (λ f. InputMemory f c.args.words.now 2 (Err c.in_err-memory.field-0.0)) c.in_ok-march.ensures.kept.files c.in_err-memory.ensures.answer,
     (passed_on c.from_residual-in_err-memory.result c.in_err-memory.field-0.0 c.from_residual-in_err-memory.ensures, refl),
   ),
 )
@@ -25,7 +25,7 @@ returns-in_err-fit_length-clause-answer g c = (
   c.in_ok-march.ensures.answer,
   (
     Ok c.in_ok-memory.memory,
-    subst (λ f. InputMemory f c.args.words.now 2 (Ok c.in_ok-memory.memory)) c.in_ok-march.ensures.files c.in_ok-memory.ensures.answer,
+    subst (λ f. InputMemory f c.args.words.now 2 (Ok c.in_ok-memory.memory)) c.in_ok-march.ensures.kept.files c.in_ok-memory.ensures.answer,
     (
       Err c.in_err-fit_length.field-0.0,
       c.in_err-fit_length.ensures.answer,
@@ -40,7 +40,7 @@ returns-in_err-has_box-clause-answer g c = (
   c.in_ok-march.ensures.answer,
   (
     Ok c.in_ok-memory.memory,
-    subst (λ f. InputMemory f c.args.words.now 2 (Ok c.in_ok-memory.memory)) c.in_ok-march.ensures.files c.in_ok-memory.ensures.answer,
+    subst (λ f. InputMemory f c.args.words.now 2 (Ok c.in_ok-memory.memory)) c.in_ok-march.ensures.kept.files c.in_ok-memory.ensures.answer,
     (
       Ok c.in_ok-fit_length.field-0,
       c.in_ok-fit_length.ensures.answer,
@@ -59,7 +59,7 @@ returns-in_err-fits_room-clause-answer g c = (
   c.in_ok-march.ensures.answer,
   (
     Ok c.in_ok-memory.memory,
-    subst (λ f. InputMemory f c.args.words.now 2 (Ok c.in_ok-memory.memory)) c.in_ok-march.ensures.files c.in_ok-memory.ensures.answer,
+    subst (λ f. InputMemory f c.args.words.now 2 (Ok c.in_ok-memory.memory)) c.in_ok-march.ensures.kept.files c.in_ok-memory.ensures.answer,
     (
       Ok c.in_ok-fit_length.field-0,
       c.in_ok-fit_length.ensures.answer,
@@ -82,7 +82,7 @@ returns-clause-answer g c = (
   c.in_ok-march.ensures.answer,
   (
     Ok c.in_ok-memory.memory,
-    subst (λ f. InputMemory f c.args.words.now 2 (Ok c.in_ok-memory.memory)) c.in_ok-march.ensures.files c.in_ok-memory.ensures.answer,
+    subst (λ f. InputMemory f c.args.words.now 2 (Ok c.in_ok-memory.memory)) c.in_ok-march.ensures.kept.files c.in_ok-memory.ensures.answer,
     (
       Ok c.in_ok-fit_length.field-0,
       c.in_ok-fit_length.ensures.answer,

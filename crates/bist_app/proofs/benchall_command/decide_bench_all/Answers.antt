@@ -17,7 +17,7 @@ returns-in_err-memory-clause-answer g c = (
   c.in_ok-march.ensures.answer,
   (
     Err c.in_err-memory.field-0.0,
-    subst (λ f. InputMemory f c.args.words.now 2 (Err c.in_err-memory.field-0.0)) c.in_ok-march.ensures.files c.in_err-memory.ensures.answer,
+    subst (λ f. InputMemory f c.args.words.now 2 (Err c.in_err-memory.field-0.0)) c.in_ok-march.ensures.kept.files c.in_err-memory.ensures.answer,
     (passed_on c.from_residual-in_err-memory.result c.in_err-memory.field-0.0 c.from_residual-in_err-memory.ensures, refl),
   ),
 )
@@ -28,7 +28,7 @@ returns-in_err-fit_length-clause-answer g c = (
   c.in_ok-march.ensures.answer,
   (
     Ok c.in_ok-memory.memory,
-    subst (λ f. InputMemory f c.args.words.now 2 (Ok c.in_ok-memory.memory)) c.in_ok-march.ensures.files c.in_ok-memory.ensures.answer,
+    subst (λ f. InputMemory f c.args.words.now 2 (Ok c.in_ok-memory.memory)) c.in_ok-march.ensures.kept.files c.in_ok-memory.ensures.answer,
     (
       Err c.in_err-fit_length.field-0.0,
       c.in_err-fit_length.ensures.answer,
@@ -43,7 +43,7 @@ returns-in_err-has_box-clause-answer g c = (
   c.in_ok-march.ensures.answer,
   (
     Ok c.in_ok-memory.memory,
-    subst (λ f. InputMemory f c.args.words.now 2 (Ok c.in_ok-memory.memory)) c.in_ok-march.ensures.files c.in_ok-memory.ensures.answer,
+    subst (λ f. InputMemory f c.args.words.now 2 (Ok c.in_ok-memory.memory)) c.in_ok-march.ensures.kept.files c.in_ok-memory.ensures.answer,
     (
       Ok c.in_ok-fit_length.field-0,
       c.in_ok-fit_length.ensures.answer,
@@ -62,7 +62,7 @@ returns-in_err-fit_rooms-clause-answer g c = (
   c.in_ok-march.ensures.answer,
   (
     Ok c.in_ok-memory.memory,
-    subst (λ f. InputMemory f c.args.words.now 2 (Ok c.in_ok-memory.memory)) c.in_ok-march.ensures.files c.in_ok-memory.ensures.answer,
+    subst (λ f. InputMemory f c.args.words.now 2 (Ok c.in_ok-memory.memory)) c.in_ok-march.ensures.kept.files c.in_ok-memory.ensures.answer,
     (
       Ok c.in_ok-fit_length.field-0,
       c.in_ok-fit_length.ensures.answer,
@@ -85,7 +85,7 @@ returns-clause-answer g c = (
   c.in_ok-march.ensures.answer,
   (
     Ok c.in_ok-memory.memory,
-    subst (λ f. InputMemory f c.args.words.now 2 (Ok c.in_ok-memory.memory)) c.in_ok-march.ensures.files c.in_ok-memory.ensures.answer,
+    subst (λ f. InputMemory f c.args.words.now 2 (Ok c.in_ok-memory.memory)) c.in_ok-march.ensures.kept.files c.in_ok-memory.ensures.answer,
     (
       Ok c.in_ok-fit_length.field-0,
       c.in_ok-fit_length.ensures.answer,

@@ -17,7 +17,7 @@ returns-in_err-memory-clause-answer g c = (
   c.in_ok-march.ensures.answer,
   (
     Err c.in_err-memory.field-0.0,
-    subst (λ f. InputMemory f c.args.words.now 2 (Err c.in_err-memory.field-0.0)) c.in_ok-march.ensures.files c.in_err-memory.ensures.answer,
+    subst (λ f. InputMemory f c.args.words.now 2 (Err c.in_err-memory.field-0.0)) c.in_ok-march.ensures.kept.files c.in_err-memory.ensures.answer,
     (passed_on c.from_residual-in_err-memory.result c.in_err-memory.field-0.0 c.from_residual-in_err-memory.ensures, refl),
   ),
 )
@@ -28,7 +28,7 @@ returns-in_err-prim-clause-answer g c = (
   c.in_ok-march.ensures.answer,
   (
     Ok c.in_ok-memory.memory,
-    subst (λ f. InputMemory f c.args.words.now 2 (Ok c.in_ok-memory.memory)) c.in_ok-march.ensures.files c.in_ok-memory.ensures.answer,
+    subst (λ f. InputMemory f c.args.words.now 2 (Ok c.in_ok-memory.memory)) c.in_ok-march.ensures.kept.files c.in_ok-memory.ensures.answer,
     (
       Err c.in_err-prim.field-0.0,
       subst (λ b. GivesPrim b (Err c.in_err-prim.field-0.0)) c.as_bytes.ensures.value c.in_err-prim.ensures.answer,
@@ -43,7 +43,7 @@ returns-clause-answer g c = (
   c.in_ok-march.ensures.answer,
   (
     Ok c.in_ok-memory.memory,
-    subst (λ f. InputMemory f c.args.words.now 2 (Ok c.in_ok-memory.memory)) c.in_ok-march.ensures.files c.in_ok-memory.ensures.answer,
+    subst (λ f. InputMemory f c.args.words.now 2 (Ok c.in_ok-memory.memory)) c.in_ok-march.ensures.kept.files c.in_ok-memory.ensures.answer,
     (
       Ok c.in_ok-prim.prim,
       subst (λ b. GivesPrim b (Ok c.in_ok-prim.prim)) c.as_bytes.ensures.value c.in_ok-prim.ensures.answer,

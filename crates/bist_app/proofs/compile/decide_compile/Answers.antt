@@ -19,7 +19,7 @@ returns-in_err-memory-clause-answer g c = (
   c.in_ok-march.ensures.answer,
   (
     Err c.in_err-memory.field-0.0,
-    subst (λ f. InputMemory f c.args.words.now 2 (Err c.in_err-memory.field-0.0)) c.in_ok-march.ensures.files c.in_err-memory.ensures.answer,
+    subst (λ f. InputMemory f c.args.words.now 2 (Err c.in_err-memory.field-0.0)) c.in_ok-march.ensures.kept.files c.in_err-memory.ensures.answer,
     passed_on c.from_residual-in_err-memory.result c.in_err-memory.field-0.0 c.from_residual-in_err-memory.ensures,
   ),
 )
@@ -30,10 +30,10 @@ returns-in_err-items-clause-answer g c = (
   c.in_ok-march.ensures.answer,
   (
     Ok c.in_ok-memory.memory,
-    subst (λ f. InputMemory f c.args.words.now 2 (Ok c.in_ok-memory.memory)) c.in_ok-march.ensures.files c.in_ok-memory.ensures.answer,
+    subst (λ f. InputMemory f c.args.words.now 2 (Ok c.in_ok-memory.memory)) c.in_ok-march.ensures.kept.files c.in_ok-memory.ensures.answer,
     (
       Err c.in_err-items.field-0.0,
-      subst (λ f. InputList f c.args.words.now 3 (Err c.in_err-items.field-0.0)) (c.in_ok-memory.ensures.files ∙ c.in_ok-march.ensures.files) c.in_err-items.ensures.answer,
+      subst (λ f. InputList f c.args.words.now 3 (Err c.in_err-items.field-0.0)) (c.in_ok-memory.ensures.kept.files ∙ c.in_ok-march.ensures.kept.files) c.in_err-items.ensures.answer,
       passed_on c.from_residual-in_err-items.result c.in_err-items.field-0.0 c.from_residual-in_err-items.ensures,
     ),
   ),
@@ -45,10 +45,10 @@ returns-clause-answer g c = (
   c.in_ok-march.ensures.answer,
   (
     Ok c.in_ok-memory.memory,
-    subst (λ f. InputMemory f c.args.words.now 2 (Ok c.in_ok-memory.memory)) c.in_ok-march.ensures.files c.in_ok-memory.ensures.answer,
+    subst (λ f. InputMemory f c.args.words.now 2 (Ok c.in_ok-memory.memory)) c.in_ok-march.ensures.kept.files c.in_ok-memory.ensures.answer,
     (
       Ok c.in_ok-items.items.items,
-      subst (λ f. InputList f c.args.words.now 3 (Ok c.in_ok-items.items.items)) (c.in_ok-memory.ensures.files ∙ c.in_ok-march.ensures.files) c.in_ok-items.ensures.answer,
+      subst (λ f. InputList f c.args.words.now 3 (Ok c.in_ok-items.items.items)) (c.in_ok-memory.ensures.kept.files ∙ c.in_ok-march.ensures.kept.files) c.in_ok-items.ensures.answer,
       subst (λ l. LeavesCompile c.in_ok-march.march c.in_ok-memory.memory l (plain c.plan_compile.result)) c.deref.ensures.value c.plan_compile.ensures.answer,
     ),
   ),

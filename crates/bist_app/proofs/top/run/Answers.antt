@@ -1,24 +1,21 @@
 use Rattle.bist_app.proofs.Statuses.{usage_has_no_shape}
-use Rattle.bist_host.specs.Files.{Rose}
 use Rattle.bist_app.proofs.Conformance.{leaves_conformance}
 use Rattle.bist_app.proofs.Headline.{leaves_compilation}
 use Rattle.bist_app.proofs.OneFiles.{same_files}
 use Rattle.bist_app.proofs.top.run.Goals as goal
 
 pub returns-clause-usage : goal.returns-clause-usage
-returns-clause-usage g c = usage_has_no_shape _ _ _ _ _ _ _ _ _ _ c.decide_and_end.ensures.answer
+returns-clause-usage g c = usage_has_no_shape _ _ _ _ _ _ c.decide_and_end.ensures.answer
 
 pub returns-clause-one_files : goal.returns-clause-one_files
-returns-clause-one_files g c = same_files (g.H.Host.files c.args.host.now) _ c.args.words.now
+returns-clause-one_files g c = same_files (g.H.Host.state c.args.host.now).files _ c.args.words.now
 
 pub returns-clause-compilation : goal.returns-clause-compilation
 returns-clause-compilation g c =
-    leaves_compilation c.args.words.now _ _ (g.H.Host.files c.args.host.now) (g.H.Host.files c.decide_and_end.new.host) (g.H.Host.said c.args.host.now) (g.H.Host.said c.decide_and_end.new.host)
-    (Rose (g.H.Host.read_faults c.args.host.now) (g.H.Host.read_faults c.decide_and_end.new.host)) (Rose (g.H.Host.write_faults c.args.host.now) (g.H.Host.write_faults c.decide_and_end.new.host))
+    leaves_compilation c.args.words.now _ _ (g.H.Host.state c.args.host.now) (g.H.Host.state c.decide_and_end.new.host)
     c.decide_and_end.result.status c.decide_and_end.ensures.answer
 
 pub returns-clause-conformance : goal.returns-clause-conformance
 returns-clause-conformance g c =
-    leaves_conformance c.args.words.now _ _ (g.H.Host.files c.args.host.now) (g.H.Host.files c.decide_and_end.new.host) (g.H.Host.said c.args.host.now) (g.H.Host.said c.decide_and_end.new.host)
-    (Rose (g.H.Host.read_faults c.args.host.now) (g.H.Host.read_faults c.decide_and_end.new.host)) (Rose (g.H.Host.write_faults c.args.host.now) (g.H.Host.write_faults c.decide_and_end.new.host))
+    leaves_conformance c.args.words.now _ _ (g.H.Host.state c.args.host.now) (g.H.Host.state c.decide_and_end.new.host)
     c.decide_and_end.result.status c.decide_and_end.ensures.answer
