@@ -190,12 +190,15 @@ module _ (ss : List Statement) (d : Description) where
 
   pub describes : AreOfMemory ss d → Describes ss (Ok d)
   describes m =
-      let fitting : Scrambled m.width = (Ok m.scrambling, scrambles ss m.width m.scrambling m.is_scrambling,
-          (Ok m.set, (m.set, m.are_backgrounds, keeps m.set m.few m.solid), ap Ok m.described_as)) in
+      let fitting : Scrambled m.width = (
+        Ok m.scrambling,
+        scrambles ss m.width m.scrambling m.is_scrambling,
+        (Ok m.set, (m.set, m.are_backgrounds, keeps m.set m.few m.solid), ap Ok m.described_as),
+      ) in
       let builds : Builds ss m.width (Ok d) =
-          passes (unscramblable ss) (Ok d) (Fitting m.width) (none_if ScrambleNeedsPowerOfTwo (is_scrambled ss) (is_power_of_two (words_said ss)) m.scramblable)
-          (passes (too_wide ss m.width (bits_said ss)) (Ok d) (Scrambled m.width)
-          (at_none (λ n. OutOfRange n) (find (λ s. is_too_wide m.width (bits_said ss) s.content) ss) m.fit) fitting) in
+      passes (unscramblable ss) (Ok d) (Fitting m.width) (none_if ScrambleNeedsPowerOfTwo (is_scrambled ss) (is_power_of_two (words_said ss)) m.scramblable)
+      (passes (too_wide ss m.width (bits_said ss)) (Ok d) (Scrambled m.width)
+      (at_none (λ n. OutOfRange n) (find (λ s. is_too_wide m.width (bits_said ss) s.content) ss) m.fit) fitting) in
       passes (repeated ss) (Ok d) IsOnce (at_none (λ n. Repeated n) (find (is_repeat ss) ss) m.once)
       (passes (missing Name NameField ss) (Ok d) HasName (there (Missing NameField) (about Name ss) m.has_name)
       (passes (missing Words WordsField ss) (Ok d) HasWords (there (Missing WordsField) (about Words ss) m.has_words)
