@@ -1,5 +1,5 @@
 -- What a text describes, said directly, is what the table of refusals lets through.
-use Rattle.std.proofs.Common.{◌≡◌, ℕ, zero, suc, ◌-◌, ◌<◌, ◌≤◌, ◌&&◌, Bool, true, false, not, if◌then◌else◌, List, Option, Some, None, Result, Ok, Err, MatchBool, MatchResult, Contains, length, find, refl, sym, ap, subst, arith, inl, inr}
+use Rattle.std.proofs.Common.{◌≡◌, ℕ, zero, suc, ◌-◌, ◌<◌, ◌≤◌, ◌&&◌, Bool, true, false, not, if◌then◌else◌, List, Option, Some, None, Result, Ok, Err, MatchBool, MatchResult, Contains, length, find, refl, ap, subst, arith, inl, inr}
 use Rattle.std.proofs.lemmas.Bool.{cases_lt}
 use Rattle.std.specs.Int.{is_power_of_two}
 use Rattle.std.specs.Option.{IsSome}
@@ -9,7 +9,7 @@ use Rattle.memory_desc.specs.Descriptions.{Description}
 use Rattle.memory_desc.specs.Described.{AreStatements, IsScrambling, AreOfMemory, SpellsMemory, is_scrambled, is_too_wide, is_repeat, is_out_of_range, described}
 use Rattle.memory_desc.specs.Statements.{Statement}
 use Rattle.memory_desc.specs.Subjects.{about, said}
-use Rattle.memory_desc.specs.Table.{at_line, unless_there, missing, missing_row, first_refusal, repeated, out_of_range, unscramblable, too_wide, Unless, Inverts, Scrambles, AcceptsBackgrounds, StatesBackgrounds, Builds, Describes}
+use Rattle.memory_desc.specs.Table.{at_line, unless_there, missing, missing_row, first_refusal, repeated, out_of_range, unscramblable, too_wide, Unless, Inverts, Scrambles, StatesBackgrounds, Builds, Describes}
 use Rattle.memory_desc.specs.Values.{words_said, bits_said, matrix_said, AreBackgrounds}
 use Rattle.memory_desc.specs.declared.content.Subject.TheVariants.{Name, Words, Bits, Row, Backgrounds}
 use Rattle.memory_desc.specs.declared.fault.Field.TheVariants.{Name as NameField, Words as WordsField, Bits as BitsField, Row as RowField}
