@@ -306,6 +306,23 @@ def declared_types(path: pathlib.Path, crate: str, module: str) -> Iterator[Defi
         index += 1
 
 
+TYPE = re.compile(r"\b[A-Z]\w*")
+VARIANT = re.compile(r"^\s*[A-Z]\w*(?=\W|$)")
+RUST_USE = re.compile(r"^(?:pub )?use (\w+)((?:::\w+)*)(?:::\{([^}]*)\})?;")
+
+
+def brought_types(path: pathlib.Path, crate: str) -> Iterator[tuple[str, tuple[str, str]]]:
+    """The types that the `use` lines of a source file bring: the name here, then the crate and the name there."""
+    for line in joined_uses(path.read_text().splitlines()):
+        found = RUST_USE.match(line)
+        if found:
+            home = crate if found[1] in ("crate", "self", "super") else found[1]
+            for part in (found[3] or found[2].rsplit("::", 1)[-1]).split(","):
+                words = part.split()
+                if words:
+                    yield words[-1].rsplit("::", 1)[-1], (home, words[0].rsplit("::", 1)[-1])
+
+
 # ---- the whole
 
 
@@ -328,6 +345,7 @@ class Graph:
             exported = exports(folder / "src" / "lib.rt")
             for path in sorted((folder / "src").glob("**/*.rt")):
                 self.read_source(path, folder.name, exported)
+        self.follow_types()
 
     def read_crate(self, folder: pathlib.Path) -> None:
         for path in sorted((folder / "specs").glob("**/*.antt")):
@@ -377,6 +395,32 @@ class Graph:
             uses = {found.key for word in words_in([clause]) if (found := self.meant(word, imports, ("", "", "")))}
             self.clauses.append(Clause(f"{crate}::{call}", name, clause, uses))
 
+    def follow_types(self) -> None:
+        """A declared type stands on the types of its parts: on what each is seen as, where it is a model, else on itself."""
+        seen_as = {one.call: one.uses for one in self.clauses if one.name == "Value"}
+        types: dict[tuple[str, str], list[Definition]] = {}
+        for definition in self.by_key.values():
+            if definition.kind == "type":
+                types.setdefault((definition.key.crate, definition.key.name), []).append(definition)
+        brought: dict[pathlib.Path, dict[str, tuple[str, str]]] = {}
+        for definition in [one for several in types.values() for one in several]:
+            if definition.path not in brought:
+                brought[definition.path] = dict(brought_types(definition.path, definition.key.crate))
+            definition.uses |= seen_as.get(f"{definition.key.crate}::{definition.key.name}", set())
+            for word in TYPE.findall(" ".join(VARIANT.sub("", line.split("//")[0]) for line in definition.lines)):
+                crate, name = brought[definition.path].get(word, (definition.key.crate, word))
+                name = self.renamed(crate).get(name, name)
+                found = types.get((crate, name), [])
+                part = next((one for one in found if one.path == definition.path), found[0] if found else None)
+                if part and part is not definition:
+                    definition.uses |= seen_as.get(f"{crate}::{name}") or {part.key}
+
+    def renamed(self, crate: str) -> dict[str, str]:
+        """The names under which a crate gives out types that it calls otherwise."""
+        library = self.root / "crates" / crate / "src" / "lib.rt"
+        text = library.read_text() if library.exists() else ""
+        return {there: here for here, there in re.findall(r"\b(\w+) as (\w+)", text)}
+
     def below(self, start: Iterable[Key]) -> list[Key]:
         """All that these stand on, each behind what it uses."""
         order: list[Key] = []
@@ -405,7 +449,8 @@ def exports(library: pathlib.Path) -> set[str]:
     text = library.read_text()
     names = set(re.findall(r"^pub mod (\w+);", text, re.M))
     for found in re.finditer(r"^pub use [\w:]*?(?:\{([^}]*)\}|(\w+));", text, re.M):
-        names.update(word.split()[-1] for word in (found[1] or found[2]).replace(",", "\n").splitlines() if word.strip())
+        for word in (found[1] or found[2]).replace(",", "\n").splitlines():
+            names.update(part for part in word.split() if part != "as")
     return names
 
 

@@ -8,10 +8,10 @@ TITLE = """# What has to be trusted
 
 A proof is worth as much as the statement that it proves. This page has each definition that a clause of the top call `run`
 stands on, whole, with its comment, in four parts; nothing else of the repository's definitions has to be read in order to know
-what is promised, and no code. `H.state` in a clause is what a host tells: its files, what was said and the counts of its faults; `told` is
-what a box tells (the traits `Host` and `Device`); in a Rust type a `Prim` stands for its `Primitive`, a `DynPrim` for its `DynamicPrimitive`, a
-`Scramble` for its `Scrambling`, a `Name` for its bytes. The page is made from the sources by `tools/trusted`, and the gate compares it, so it can't be
-other than what is proved.
+what is promised, and no code. `H.state` in a clause is what a host tells: its files, what was said and the counts of its
+faults; `told` is what a box tells (the traits `Host` and `Device`); in a Rust type a `Prim` stands for its `Primitive`, a
+`DynPrim` for its `DynamicPrimitive`, a `Scramble` for its `Scrambling`, a `Name` for its bytes, and the page shows what each is
+seen as. The page is made from the sources by `tools/trusted`, and the gate compares it, so it can't be other than what is proved.
 
 *How to read it.* `Name : A → B → Type 0` declares a relation or a statement about an A and a B; the lines below say what it
 means, case by case. `(x : A) × P x` is "some x with P", `(x : A) → P x` is "for every x, P", `A ⊎ B` is "A or B", `A × B` is "A
@@ -55,9 +55,9 @@ what `check` promises, the second clause of its kind.
   the answer where the operation is the primitive's own and its states hold, then *closing*: a primitive without an act sets its
   victim where its states hold. A dynamic primitive has two operations; behind the first one, done where every state held, the
   victim is *armed*, and nothing else leaves it so.
-- **Detection.** In an array, at a place, from a content, in these directions: the read of some visit differs from what the march
-  expects. Detected at n cells: so at every place, from every content, in every choice of directions. Detected: at every n from
-  two on.
+- **Detection.** In an array, at a place, from a content, in these directions: the read of some visit differs from what the
+  march expects (`SomeDiffersBy`, by what the steps before that visit left). Detected at n cells: so at every place, from every
+  content, in every choice of directions. Detected: at every n from two on.
 - **Words.** The march runs in each background, one after another; an operation acts on the word whose index it visits, at the
   logical address of the index, with the background's word of its data value. `command_at` is the cycle of a command behind the
   first, with the pauses before it, and `PortRule` says what stands at the ports in each cycle, whatever words return.
@@ -184,12 +184,14 @@ word for each data value. Which bytes are a march, a memory, a primitive and a l
 says of each primitive.
 
 A grammar is a relation between bytes and the value that they write, built of pieces that take what may follow them, and reads
-like the grammar in [FORMATS.md](FORMATS.md). A text *continues* where some bytes behind it make it one of the grammar; the first
-byte with which it doesn't is unexpected, and a text that continues and is none is truncated. A march is refused first where its
-bytes are none, then by a limit, then by its first wrong read. A list goes line by line, and the first line that is refused
-decides. A memory's lines are its *statements*; a table of steps on the list of statements says which refusal comes first, and
-else which memory it is. The report has a line for each primitive, by what the march makes of it, lines of the classes, and the
-total; the order of escapes is placement, content, directions.
+like the grammar in [FORMATS.md](FORMATS.md). A text *continues* where some bytes behind it make it one of the grammar; the
+first byte with which it doesn't is unexpected, and a text that continues and is none is truncated. A march is refused first
+where its bytes are none, then by a limit, then by its first wrong read. A list goes line by line, and the first line that is
+refused decides. The headline cites what bytes spell (`SpellsMarch`, `SpellsMemory`, `SpellsItems`); what a refused text is
+called stands in the relations `Reads`, whose accepted side is that. A memory's lines are its *statements*: `AreOfMemory` says
+which memory they describe, and a table of steps on the list of statements which refusal comes first. The report has a line for
+each primitive, by what the march makes of it, lines of the classes, and the total; the order of escapes is placement, content,
+directions.
 """,
         (
             "bist_bits/*",

@@ -26,7 +26,7 @@ module _ {S : Type 0} (after : S → MarchStep → S) (is_wrong : S → Visit �
   abbrev pub SomeDiffersBy : S → List MarchStep → Type 0
   SomeDiffersBy s steps = (v : Visit) × DiffersBy s steps v
 
--- the same parameters
+-- by the same two of a state
 module _ {S : Type 0} (after : S → MarchStep → S) (is_wrong : S → Visit → Bool) where
   -- the first visit whose read differs
   pub record IsFirstBy (s : S) (steps : List MarchStep) (miss : Miss) : Type 0 where

@@ -17,7 +17,8 @@ pub record TextLine : Type 0 where
 abbrev pub lines_of_parts : ℕ → ℕ → List (List ℕ) → List TextLine
 lines_of_parts number start [] = []
 lines_of_parts number start (x ∷ []) = if length x == 0 then [] else ((record { number = number; start = start; text = x; ended = false }) ∷ [])
-lines_of_parts number start (x ∷ y ∷ more) = (record { number = number; start = start; text = x; ended = true }) ∷ lines_of_parts (number + 1) (start + length x + 1) (y ∷ more)
+lines_of_parts number start (x ∷ y ∷ more) =
+    (record { number = number; start = start; text = x; ended = true }) ∷ lines_of_parts (number + 1) (start + length x + 1) (y ∷ more)
 
 abbrev pub lines_from : ℕ → ℕ → List ℕ → List TextLine
 lines_from number start text = lines_of_parts number start (slice_split is_newline text)

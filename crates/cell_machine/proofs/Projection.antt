@@ -7,7 +7,7 @@ use Rattle.fault_core.specs.declared.primitive.Act.{Act}
 use Rattle.fault_core.specs.declared.primitive.Act.TheVariants.{Write, Read, Pause}
 use Rattle.fault_core.specs.declared.primitive.Sense.{Sense}
 use Rattle.fault_core.specs.declared.cells.Places.{Places}
-use Rattle.fault_core.specs.Primitive.{Primitive, same_bit, pauses}
+use Rattle.fault_core.specs.Primitive.{Primitive, same_bit, is_retention}
 use Rattle.fault_core.specs.Cells.{cell, agg_holds, states_hold, has_act, close_of, has_this_act, agg_acts, acts, plain_cells, plain_answer, answer_or, acted, step_cells, step_answer, pause_cells}
 use Rattle.cell_machine.specs.declared.pair.Pair.{Pair}
 use Rattle.cell_machine.specs.declared.pair.Side.TheVariants.{A, V}
@@ -209,26 +209,26 @@ pub pair_at-pause_cells : (p : Primitive) (at : Places) (a : ℕ) (cells : List 
     → pair_at (pause_cells p at cells) a at.vic ≡ pair_pause p (pair_at cells a at.vic)
 unfolding pause_cells pair_pause
 pair_at-pause_cells p at a cells sees =
-    let own : Bool = pauses p && states_hold p at cells in
+    let own : Bool = is_retention p && states_hold p at cells in
     let size : length (set_if own cells at.vic p.after) ≡ length cells = length-set_if own cells at.vic p.after in
     pair_at-close_of p at a (set_if own cells at.vic p.after) (sees-resized p at a _ _ size sees)
     ∙ ap (pair_close p)
     (pair_at-set_if own cells a at.vic p.after sees.apart sees.victim
-    ∙ ap (λ b. if pauses p && b then with_victim (pair_at cells a at.vic) p.after else pair_at cells a at.vic)
+    ∙ ap (λ b. if is_retention p && b then with_victim (pair_at cells a at.vic) p.after else pair_at cells a at.vic)
     (states_hold-seen p at a (length cells) cells sees))
 
 pub length-pause_cells : (p : Primitive) (at : Places) (cells : List Bool) → length (pause_cells p at cells) ≡ length cells
 unfolding pause_cells
 length-pause_cells p at cells =
-    length-close_of p at (set_if (pauses p && states_hold p at cells) cells at.vic p.after)
-    ∙ length-set_if (pauses p && states_hold p at cells) cells at.vic p.after
+    length-close_of p at (set_if (is_retention p && states_hold p at cells) cells at.vic p.after)
+    ∙ length-set_if (is_retention p && states_hold p at cells) cells at.vic p.after
 
 -- cells other than the victim stay
 pub cell-pause_cells_other : (p : Primitive) (at : Places) (cells : List Bool) (y : ℕ) → y ≢ at.vic → cell (pause_cells p at cells) y ≡ cell cells y
 unfolding pause_cells
 cell-pause_cells_other p at cells y apart =
-    cell-close_of_other p at (set_if (pauses p && states_hold p at cells) cells at.vic p.after) y apart
-    ∙ cell-set_if_other (pauses p && states_hold p at cells) cells at.vic y p.after apart
+    cell-close_of_other p at (set_if (is_retention p && states_hold p at cells) cells at.vic p.after) y apart
+    ∙ cell-set_if_other (is_retention p && states_hold p at cells) cells at.vic y p.after apart
 
 -- what the acts answer
 plain_answer-reply : (cells : List Bool) (a v : ℕ) (act : Act) → plain_answer cells v act ≡ plain_reply (pair_at cells a v) V act

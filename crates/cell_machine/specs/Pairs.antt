@@ -3,7 +3,7 @@ use Rattle.std.specs.Prelude.{◌≡◌, Bool, true, not, ◌&&◌, if◌then◌
 use Rattle.fault_core.specs.declared.primitive.Act.{Act}
 use Rattle.fault_core.specs.declared.primitive.Act.TheVariants.{Write, Read, Pause}
 use Rattle.fault_core.specs.declared.primitive.Sense.{Sense}
-use Rattle.fault_core.specs.Primitive.{Primitive, same_bit, pauses}
+use Rattle.fault_core.specs.Primitive.{Primitive, same_bit, is_retention}
 use Rattle.fault_core.specs.Cells.{has_act, has_this_act, answer_or}
 use Rattle.cell_machine.specs.declared.pair.Pair.{Pair}
 use Rattle.cell_machine.specs.declared.pair.Side.{Side}
@@ -81,4 +81,4 @@ pair_answer p pair on act =
 
 -- a pause: the primitive's effect where the pause is its act and its states hold, and closing
 unfoldable pub pair_pause : Primitive → Pair → Pair
-pair_pause p pair = pair_close p (if pauses p && pair_holds p pair then with_victim pair p.after else pair)
+pair_pause p pair = pair_close p (if is_retention p && pair_holds p pair then with_victim pair p.after else pair)

@@ -1,5 +1,5 @@
 ghost use Rattle.std.specs.Prelude.{◌≡◌, ◌≢◌};
-ghost use Rattle.fault_core.specs.Primitive.{pauses};
+ghost use Rattle.fault_core.specs.Primitive.{is_retention};
 ghost use Rattle.fault_core.specs.Cells.{has_act, has_this_act, close_of, step_cells, step_answer, pause_cells};
 ghost use Rattle.cell_machine.specs.Pairs.{side_holds, pair_holds, pair_close, agg_act_of, act_on, pair_acts, plain_pair, plain_reply, pair_step, pair_answer, pair_pause};
 ghost use Rattle.cell_machine.specs.Seen.{cells_of, pair_places, place_of};
@@ -133,7 +133,7 @@ pub fn act(prim: &Prim, pair: Pair, on: Side, act: Act) -> (Pair, Option<bool>)
 
 /// Whether the act of the primitive is a pause.
 fn does_pause(prim: &Prim) -> bool
-    ensures { result ≡ pauses prim.now }
+    ensures { result ≡ is_retention prim.now }
 {
     matches!(prim.vic().act, Some(Act::Pause))
 }

@@ -5,7 +5,7 @@ use Rattle.fault_core.specs.declared.primitive.Act.{Act}
 use Rattle.fault_core.specs.Primitive.{same_bit}
 use Rattle.fault_core.specs.Cells.{same_act}
 use Rattle.fault_core.proofs.Tests.{at_all_bits, at_all_acts, at_all_options, bit_passes, act_passes, option_passes, same_options, same_bit-equal, same_act-equal, same_options-equal, FourParts, at_all_four, four_pass, same_four, same_four-equal, same_four-refl}
-use Rattle.dynamic_core.specs.Primitive.{TwoActs, DynamicSense, DynamicPrimitive, IsDynamic, agg_acts}
+use Rattle.dynamic_core.specs.Primitive.{TwoActs, DynamicSense, DynamicPrimitive, IsDynamic, aggressor_acts}
 use Rattle.dynamic_core.specs.Testing.{fault_by_acts}
 
 abbrev two : Act → Act → TwoActs
@@ -38,7 +38,7 @@ of_parts p = record { agg = p.agg; vic = p.vic; after = p.after; answer = p.answ
 
 -- whether exactly one of the senses has acts
 abbrev pub acts_once : Option DynamicSense → DynamicSense → Bool
-acts_once agg vic = same_bit (is_some (agg_acts agg)) (not (is_some vic.acts))
+acts_once agg vic = same_bit (is_some (aggressor_acts agg)) (not (is_some vic.acts))
 
 -- a test passes at every choice of parts of which one sense has acts
 abbrev pub at_all_parts : (DynamicPrimitive → Bool) → Bool
@@ -78,7 +78,7 @@ same_parts-refl p = same_four-refl same_sense (sense_passes (λ s. same_sense s 
 
 -- whether parts are a dynamic primitive
 abbrev pub is_dynamic : DynamicPrimitive → Bool
-is_dynamic p = acts_once p.agg p.vic && fault_by_acts (agg_acts p.agg) p.vic.acts p.vic.state p.after p.answer
+is_dynamic p = acts_once p.agg p.vic && fault_by_acts (aggressor_acts p.agg) p.vic.acts p.vic.state p.after p.answer
 
 pub dynamic_passes : (p : DynamicPrimitive) → IsDynamic p → is_dynamic p ≡ true
 dynamic_passes p h = grind arith

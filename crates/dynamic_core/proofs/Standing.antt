@@ -11,7 +11,7 @@ use Rattle.fault_syntax.proofs.Judging.{stands_one, one_operation}
 use Rattle.dynamic_core.specs.declared.item.Item.{Item}
 use Rattle.dynamic_core.specs.declared.item.Item.TheVariants.{Plain, Dyn}
 use Rattle.dynamic_core.specs.ItemParts.{AreTwo, AreActs, IsDynamicSense, IsDynamicAggressor, StandsForDynamic, IsItem, HasTooMany}
-use Rattle.dynamic_core.specs.Primitive.{TwoActs, DynamicSense, DynamicPrimitive, IsDynamic, agg_acts, left_by}
+use Rattle.dynamic_core.specs.Primitive.{TwoActs, DynamicSense, DynamicPrimitive, IsDynamic, aggressor_acts, left_by}
 
 -- ---- one reading
 
@@ -91,16 +91,16 @@ acts_count state (o ∷ []) a h = absurd h
 acts_count state (o ∷ p ∷ []) a h = subst (λ (x : Option TwoActs). Counts 2 (is_some x)) (sym h.1) refl
 acts_count state (o ∷ p ∷ q ∷ os) a h = absurd h
 
-agg_count : (t : Option SenseText) (a : Option DynamicSense) → IsDynamicAggressor t a → Counts (length (agg_ops t)) (is_some (agg_acts a))
-agg_count None a h = subst (λ (x : Option DynamicSense). Counts 0 (is_some (agg_acts x))) (sym h) refl
+agg_count : (t : Option SenseText) (a : Option DynamicSense) → IsDynamicAggressor t a → Counts (length (agg_ops t)) (is_some (aggressor_acts a))
+agg_count None a h = subst (λ (x : Option DynamicSense). Counts 0 (is_some (aggressor_acts x))) (sym h) refl
 agg_count (Some t) a h =
-    subst (λ (x : Option DynamicSense). Counts (length t.ops) (is_some (agg_acts x))) (sym h.1) (acts_count t.state t.ops (h.0).acts (h.2).1)
+    subst (λ (x : Option DynamicSense). Counts (length t.ops) (is_some (aggressor_acts x))) (sym h.1) (acts_count t.state t.ops (h.0).acts (h.2).1)
 
 -- a dynamic primitive has two operations, in one sense
 pub two_operations : (text : PrimParts) (p : DynamicPrimitive) → StandsForDynamic text p → IsDynamic p
     → (op_count text ≡ 2) × (HasTooMany text → ⊥)
 two_operations text p h i =
-    go (is_some (agg_acts p.agg)) (is_some p.vic.acts) (length (agg_ops text.agg)) (length text.vic.ops) i.one_acts
+    go (is_some (aggressor_acts p.agg)) (is_some p.vic.acts) (length (agg_ops text.agg)) (length text.vic.ops) i.one_acts
     (agg_count text.agg p.agg h.agg) (acts_count text.vic.state text.vic.ops p.vic.acts (h.vic).1)
   where
     go : (a v : Bool) (m n : ℕ) → a ≡ not v → Counts m a → Counts n v → (m + n ≡ 2) × ((2 < m + n) ⊎ ((m ≡ 1) × (n ≡ 1)) → ⊥)

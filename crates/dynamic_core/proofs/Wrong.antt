@@ -3,7 +3,7 @@ use Rattle.std.proofs.Common.{◌≡◌, ◌≢◌, Bool, true, false, not, ◌&
 use Rattle.fault_core.specs.declared.primitive.Act.{Act}
 use Rattle.fault_core.specs.declared.primitive.Act.TheVariants.{Write, Read, Pause}
 use Rattle.fault_core.specs.Primitive.{same_bit}
-use Rattle.dynamic_core.specs.Primitive.{TwoActs, DynamicSense, AreAccesses, IsDynamic, agg_acts, left_by}
+use Rattle.dynamic_core.specs.Primitive.{TwoActs, DynamicSense, AreAccesses, IsDynamic, aggressor_acts, left_by}
 use Rattle.dynamic_core.specs.Testing.{HasTwo, two_acts, acts_in, is_access, fault_by_second, fault_by_acts}
 use Rattle.dynamic_core.proofs.Parts.{passes_dynamic}
 
@@ -32,7 +32,7 @@ test state after answer agg vic = same_bit (is_some agg) (not (is_some vic)) && 
 
 -- beside an aggressor that doesn't act, and where the second act is a fault
 pub is_wrong : (agg : Option DynamicSense) (vic : DynamicSense) (state : Bool) (held : Option (List Act)) (acts : List Act) (d e : Act) (left after : Bool) (answer : Option Bool)
-    → agg_acts agg ≡ None → ((two : TwoActs) → vic.acts ≡ Some two → AreAccesses two) → acts_in held ≡ vic.acts → HasTwo held → held ≡ Some acts
+    → aggressor_acts agg ≡ None → ((two : TwoActs) → vic.acts ≡ Some two → AreAccesses two) → acts_in held ≡ vic.acts → HasTwo held → held ≡ Some acts
     → left ≡ left_by state (get_or acts 0 d) → fault_by_second (get_or acts 1 e) left after answer ≡ true
     → IsDynamic (record { agg = agg; vic = record { state = state; acts = acts_in held }; after = after; answer = answer })
 is_wrong agg vic state held acts d e left after answer none are view has is leaves wrong =

@@ -29,9 +29,9 @@ left_by state (Write bit) = bit
 left_by state other = state
 
 -- the acts of the aggressor, where it has any
-abbrev pub agg_acts : Option DynamicSense → Option TwoActs
-agg_acts None = None
-agg_acts (Some sense) = sense.acts
+abbrev pub aggressor_acts : Option DynamicSense → Option TwoActs
+aggressor_acts None = None
+aggressor_acts (Some sense) = sense.acts
 
 -- the second act, where there are acts
 abbrev pub second_act : Option TwoActs → Option Act
@@ -46,9 +46,9 @@ pub record AreAccesses (acts : TwoActs) : Type 0 where
 -- what makes the parts a dynamic fault
 pub record IsDynamic (p : DynamicPrimitive) : Type 0 where
   -- exactly one of the senses has acts
-  pub one_acts : is_some (agg_acts p.agg) ≡ not (is_some p.vic.acts)
+  pub one_acts : is_some (aggressor_acts p.agg) ≡ not (is_some p.vic.acts)
   -- they are writes and reads
-  pub agg_accesses : (acts : TwoActs) → agg_acts p.agg ≡ Some acts → AreAccesses acts
+  pub agg_accesses : (acts : TwoActs) → aggressor_acts p.agg ≡ Some acts → AreAccesses acts
   pub vic_accesses : (acts : TwoActs) → p.vic.acts ≡ Some acts → AreAccesses acts
   -- the answer is a bit exactly where the acts are the victim's and the second is a read
   pub answered : IsSome p.answer ↔ (second_act p.vic.acts ≡ Some Read)
@@ -62,7 +62,7 @@ pub record IsDynamic (p : DynamicPrimitive) : Type 0 where
 
 -- why parts that are no dynamic primitive are refused: acts in both senses come first
 abbrev pub refusal_of : DynamicPrimitive → PrimFault
-refusal_of p = if is_some (agg_acts p.agg) && is_some p.vic.acts then TooManyOperations else NotAFault
+refusal_of p = if is_some (aggressor_acts p.agg) && is_some p.vic.acts then TooManyOperations else NotAFault
 
 -- whether there is an aggressor
 abbrev pub has_aggressor : DynamicPrimitive → Bool

@@ -1,5 +1,5 @@
 ghost use Rattle.std.specs.Prelude.{◌≡◌, ◌↔◌, IsOk, IfOk, IfErr};
-ghost use Rattle.dynamic_core.specs.Primitive.{IsDynamic, agg_acts, left_by, refusal_of, has_aggressor};
+ghost use Rattle.dynamic_core.specs.Primitive.{IsDynamic, aggressor_acts, left_by, refusal_of, has_aggressor};
 ghost use Rattle.dynamic_core.specs.Testing.{acts_in, is_access, fault_by_second, fault_by_acts};
 
 use fault_core::{Act, PrimFault};
@@ -158,7 +158,7 @@ impl Default for DynPrim {
 
 /// The acts of an aggressor, where there is one that has any.
 fn acts_of(agg: &Option<DynSense>) -> Option<[Act; 2]>
-    ensures { acts_in result ≡ agg_acts agg.now }
+    ensures { acts_in result ≡ aggressor_acts agg.now }
 {
     match agg {
         Some(sense) => sense.acts,

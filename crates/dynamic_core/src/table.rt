@@ -1,7 +1,7 @@
 ghost use Rattle.std.specs.Prelude.{◌≡◌, ◌≢◌, ◌+◌, ◌≤◌, ◌++◌, false, true, Some, None, All, AllPairs, Contains, length, map, IsSome};
 ghost use Rattle.std.specs.List.{flat_map};
 ghost use Rattle.fault_core.specs.declared.primitive.Act.{Act};
-ghost use Rattle.dynamic_core.specs.Primitive.{DynamicPrimitive, IsDynamic, TwoActs, AreAccesses, agg_acts, has_aggressor};
+ghost use Rattle.dynamic_core.specs.Primitive.{DynamicPrimitive, IsDynamic, TwoActs, AreAccesses, aggressor_acts, has_aggressor};
 ghost use Rattle.dynamic_core.specs.Table.{accesses, acting, acting_senses, holding, wrong_acts, wrong_victims, disturbed, disturbs, dyn_one_table, dyn_two_table};
 
 use crate::primitive::{DynPrim, DynSense, left_by};
@@ -63,7 +63,7 @@ fn append_wrong<const N: usize>(
     agg: &Option<DynSense>,
     vic: &DynSense,
 )
-    requires aggressor { agg_acts agg.now ≡ None }
+    requires aggressor { aggressor_acts agg.now ≡ None }
     requires accesses { (acts : TwoActs) → vic.now.acts ≡ Some acts → AreAccesses acts }
     requires room { length prims.old.items + length (wrong_acts agg.now vic.now) ≤ N }
     ensures { prims.new.items ≡ prims.old.items ++ wrong_acts agg.now vic.now }
@@ -85,7 +85,7 @@ fn append_wrong<const N: usize>(
 
 /// Appends all in which the acts of a victim go wrong, beside an aggressor that doesn't act.
 fn append_victims<const N: usize>(prims: &mut ArrayVec<DynPrim, N>, agg: &Option<DynSense>)
-    requires aggressor { agg_acts agg.now ≡ None }
+    requires aggressor { aggressor_acts agg.now ≡ None }
     requires room { length prims.old.items + 30 ≤ N }
     ensures { prims.new.items ≡ prims.old.items ++ wrong_victims agg.now }
 {

@@ -6,7 +6,7 @@ use Rattle.std.proofs.lemmas.List.Sums.{AllPass-from_list_all}
 use Rattle.std.proofs.lemmas.Map.Views.{Contains-from_any}
 use Rattle.fault_core.specs.declared.table.Class.{Class}
 use Rattle.fault_core.specs.declared.table.Class.TheVariants.{SF, TF, WDF, RDF, DRDF, IRF, CFst, CFds, CFtr, CFwd, CFrd, CFdr, CFir, DRF}
-use Rattle.fault_core.specs.Primitive.{Primitive, IsPrimitive, has_aggressor, pauses}
+use Rattle.fault_core.specs.Primitive.{Primitive, IsPrimitive, has_aggressor, is_retention}
 use Rattle.fault_core.specs.Classes.{class_by_parts}
 use Rattle.fault_core.specs.Table.{members_of, one_cell_table, two_cell_table, retention_table}
 use Rattle.fault_core.proofs.Tests.{implied, other_holds, all_differ-pairs}
@@ -31,31 +31,31 @@ pub class_has : (p : Primitive) → IsPrimitive p → Contains (members_of (clas
 class_has p is = contained _ p (shown_of_primitives (λ q. is_among (members_of (class_by_parts q)) q) refl p is)
 
 -- a primitive without an aggressor is in the table of one cell, and one with an aggressor in that of two
-pub one_cell_has : (p : Primitive) → IsPrimitive p → has_aggressor p ≡ false → pauses p ≡ false → Contains one_cell_table p
+pub one_cell_has : (p : Primitive) → IsPrimitive p → has_aggressor p ≡ false → is_retention p ≡ false → Contains one_cell_table p
 one_cell_has p is alone stays =
-    contained one_cell_table p (other_holds (pauses p) _ stays (other_holds (has_aggressor p) _ alone
-    (shown_of_primitives (λ q. has_aggressor q || (pauses q || is_among one_cell_table q)) refl p is)))
+    contained one_cell_table p (other_holds (is_retention p) _ stays (other_holds (has_aggressor p) _ alone
+    (shown_of_primitives (λ q. has_aggressor q || (is_retention q || is_among one_cell_table q)) refl p is)))
 
-pub retention_has : (p : Primitive) → IsPrimitive p → pauses p ≡ true → Contains retention_table p
+pub retention_has : (p : Primitive) → IsPrimitive p → is_retention p ≡ true → Contains retention_table p
 retention_has p is lost =
-    contained retention_table p (implied (pauses p) _ lost (shown_of_primitives (λ q. not (pauses q) || is_among retention_table q) refl p is))
+    contained retention_table p (implied (is_retention p) _ lost (shown_of_primitives (λ q. not (is_retention q) || is_among retention_table q) refl p is))
 
 pub two_cell_has : (p : Primitive) → IsPrimitive p → has_aggressor p ≡ true → Contains two_cell_table p
 two_cell_has p is beside =
     contained two_cell_table p (implied (has_aggressor p) _ beside (shown_of_primitives (λ q. not (has_aggressor q) || is_among two_cell_table q) refl p is))
 
 -- what is in the tables is a primitive
-pub one_cell_are : All (λ p. IsPrimitive p × (has_aggressor p ≡ false) × (pauses p ≡ false)) one_cell_table
+pub one_cell_are : All (λ p. IsPrimitive p × (has_aggressor p ≡ false) × (is_retention p ≡ false)) one_cell_table
 one_cell_are k d within =
     let both =
-    and_parts _ _ (AllPass-from_list_all (λ q. is_primitive q && (not (has_aggressor q) && not (pauses q))) one_cell_table refl k d within) in
+    and_parts _ _ (AllPass-from_list_all (λ q. is_primitive q && (not (has_aggressor q) && not (is_retention q))) one_cell_table refl k d within) in
     let rest = and_parts _ _ both.1 in
     (passes_primitive _ both.0, not-true _ rest.0, not-true _ rest.1)
 
-pub retention_are : All (λ p. IsPrimitive p × (has_aggressor p ≡ false) × (pauses p ≡ true)) retention_table
+pub retention_are : All (λ p. IsPrimitive p × (has_aggressor p ≡ false) × (is_retention p ≡ true)) retention_table
 retention_are k d within =
     let both =
-    and_parts _ _ (AllPass-from_list_all (λ q. is_primitive q && (not (has_aggressor q) && pauses q)) retention_table refl k d within) in
+    and_parts _ _ (AllPass-from_list_all (λ q. is_primitive q && (not (has_aggressor q) && is_retention q)) retention_table refl k d within) in
     let rest = and_parts _ _ both.1 in
     (passes_primitive _ both.0, not-true _ rest.0, rest.1)
 

@@ -4,7 +4,7 @@ use Rattle.fault_core.specs.declared.primitive.Act.{Act}
 use Rattle.fault_core.specs.declared.primitive.Act.TheVariants.{Write, Read, Pause}
 use Rattle.fault_core.specs.declared.primitive.Sense.{Sense}
 use Rattle.fault_core.specs.declared.cells.Places.{Places}
-use Rattle.fault_core.specs.Primitive.{Primitive, same_bit, agg_has_act, pauses}
+use Rattle.fault_core.specs.Primitive.{Primitive, same_bit, agg_has_act, is_retention}
 
 -- the content of a cell; places are within the array wherever it is asked for, so the default is never seen
 abbrev pub cell : List Bool → ℕ → Bool
@@ -81,7 +81,7 @@ step_answer p at cells x act =
 -- a pause, which is on no cell: the effect of the primitive where the pause is its own and its states hold, and closing;
 -- it answers nothing
 unfoldable pub pause_cells : Primitive → Places → List Bool → List Bool
-pause_cells p at cells = close_of p at (if pauses p && states_hold p at cells then slice_set cells at.vic p.after else cells)
+pause_cells p at cells = close_of p at (if is_retention p && states_hold p at cells then slice_set cells at.vic p.after else cells)
 
 -- the aggressor's place: there exactly for a primitive with an aggressor, within the array, and not the victim's
 abbrev pub FitsAgg : Option Sense → Option ℕ → ℕ → ℕ → Type 0

@@ -50,9 +50,9 @@ refusal_of p = if agg_has_act p.agg && is_some p.vic.act then TooManyOperations 
 abbrev pub has_aggressor : Primitive → Bool
 has_aggressor p = is_some p.agg
 
--- whether it loses its state over a pause
-abbrev pub pauses : Primitive → Bool
-pauses p = is_pause p.vic.act
+-- whether it is a retention fault: its act is a pause
+abbrev pub is_retention : Primitive → Bool
+is_retention p = is_pause p.vic.act
 
 -- whether two bits are the same
 abbrev pub same_bit : Bool → Bool → Bool

@@ -46,97 +46,51 @@ beside a s f r = record { agg = Some a; vic = s; after = bit f; answer = r }
 -- the primitives of a class
 abbrev pub members_of : Class → List Primitive
 -- state faults
-members_of SF =
-    alone (holds 0) 1 no_answer
-    ∷ alone (holds 1) 0 no_answer
-    ∷ []
+members_of SF = alone (holds 0) 1 no_answer ∷ alone (holds 1) 0 no_answer ∷ []
 -- transition faults
-members_of TF =
-    alone (writes 0 1) 0 no_answer
-    ∷ alone (writes 1 0) 1 no_answer
-    ∷ []
+members_of TF = alone (writes 0 1) 0 no_answer ∷ alone (writes 1 0) 1 no_answer ∷ []
 -- write disturb faults
-members_of WDF =
-    alone (writes 0 0) 1 no_answer
-    ∷ alone (writes 1 1) 0 no_answer
-    ∷ []
+members_of WDF = alone (writes 0 0) 1 no_answer ∷ alone (writes 1 1) 0 no_answer ∷ []
 -- read destructive faults
-members_of RDF =
-    alone (reads 0) 1 (answers 1)
-    ∷ alone (reads 1) 0 (answers 0)
-    ∷ []
+members_of RDF = alone (reads 0) 1 (answers 1) ∷ alone (reads 1) 0 (answers 0) ∷ []
 -- deceptive read destructive faults
-members_of DRDF =
-    alone (reads 0) 1 (answers 0)
-    ∷ alone (reads 1) 0 (answers 1)
-    ∷ []
+members_of DRDF = alone (reads 0) 1 (answers 0) ∷ alone (reads 1) 0 (answers 1) ∷ []
 -- incorrect read faults
-members_of IRF =
-    alone (reads 0) 0 (answers 1)
-    ∷ alone (reads 1) 1 (answers 0)
-    ∷ []
+members_of IRF = alone (reads 0) 0 (answers 1) ∷ alone (reads 1) 1 (answers 0) ∷ []
 -- state coupling faults
 members_of CFst =
-    beside (holds 0) (holds 0) 1 no_answer
-    ∷ beside (holds 0) (holds 1) 0 no_answer
-    ∷ beside (holds 1) (holds 0) 1 no_answer
-    ∷ beside (holds 1) (holds 1) 0 no_answer
-    ∷ []
+    beside (holds 0) (holds 0) 1 no_answer ∷ beside (holds 0) (holds 1) 0 no_answer
+    ∷ beside (holds 1) (holds 0) 1 no_answer ∷ beside (holds 1) (holds 1) 0 no_answer ∷ []
 -- disturb coupling faults
 members_of CFds =
-    beside (writes 0 0) (holds 0) 1 no_answer
-    ∷ beside (writes 0 0) (holds 1) 0 no_answer
-    ∷ beside (writes 0 1) (holds 0) 1 no_answer
-    ∷ beside (writes 0 1) (holds 1) 0 no_answer
-    ∷ beside (writes 1 0) (holds 0) 1 no_answer
-    ∷ beside (writes 1 0) (holds 1) 0 no_answer
-    ∷ beside (writes 1 1) (holds 0) 1 no_answer
-    ∷ beside (writes 1 1) (holds 1) 0 no_answer
-    ∷ beside (reads 0) (holds 0) 1 no_answer
-    ∷ beside (reads 0) (holds 1) 0 no_answer
-    ∷ beside (reads 1) (holds 0) 1 no_answer
-    ∷ beside (reads 1) (holds 1) 0 no_answer
-    ∷ []
+    beside (writes 0 0) (holds 0) 1 no_answer ∷ beside (writes 0 0) (holds 1) 0 no_answer
+    ∷ beside (writes 0 1) (holds 0) 1 no_answer ∷ beside (writes 0 1) (holds 1) 0 no_answer
+    ∷ beside (writes 1 0) (holds 0) 1 no_answer ∷ beside (writes 1 0) (holds 1) 0 no_answer
+    ∷ beside (writes 1 1) (holds 0) 1 no_answer ∷ beside (writes 1 1) (holds 1) 0 no_answer
+    ∷ beside (reads 0) (holds 0) 1 no_answer ∷ beside (reads 0) (holds 1) 0 no_answer
+    ∷ beside (reads 1) (holds 0) 1 no_answer ∷ beside (reads 1) (holds 1) 0 no_answer ∷ []
 -- transition coupling faults
 members_of CFtr =
-    beside (holds 0) (writes 0 1) 0 no_answer
-    ∷ beside (holds 0) (writes 1 0) 1 no_answer
-    ∷ beside (holds 1) (writes 0 1) 0 no_answer
-    ∷ beside (holds 1) (writes 1 0) 1 no_answer
-    ∷ []
+    beside (holds 0) (writes 0 1) 0 no_answer ∷ beside (holds 0) (writes 1 0) 1 no_answer
+    ∷ beside (holds 1) (writes 0 1) 0 no_answer ∷ beside (holds 1) (writes 1 0) 1 no_answer ∷ []
 -- write disturb coupling faults
 members_of CFwd =
-    beside (holds 0) (writes 0 0) 1 no_answer
-    ∷ beside (holds 0) (writes 1 1) 0 no_answer
-    ∷ beside (holds 1) (writes 0 0) 1 no_answer
-    ∷ beside (holds 1) (writes 1 1) 0 no_answer
-    ∷ []
+    beside (holds 0) (writes 0 0) 1 no_answer ∷ beside (holds 0) (writes 1 1) 0 no_answer
+    ∷ beside (holds 1) (writes 0 0) 1 no_answer ∷ beside (holds 1) (writes 1 1) 0 no_answer ∷ []
 -- read destructive coupling faults
 members_of CFrd =
-    beside (holds 0) (reads 0) 1 (answers 1)
-    ∷ beside (holds 0) (reads 1) 0 (answers 0)
-    ∷ beside (holds 1) (reads 0) 1 (answers 1)
-    ∷ beside (holds 1) (reads 1) 0 (answers 0)
-    ∷ []
+    beside (holds 0) (reads 0) 1 (answers 1) ∷ beside (holds 0) (reads 1) 0 (answers 0)
+    ∷ beside (holds 1) (reads 0) 1 (answers 1) ∷ beside (holds 1) (reads 1) 0 (answers 0) ∷ []
 -- deceptive read destructive coupling faults
 members_of CFdr =
-    beside (holds 0) (reads 0) 1 (answers 0)
-    ∷ beside (holds 0) (reads 1) 0 (answers 1)
-    ∷ beside (holds 1) (reads 0) 1 (answers 0)
-    ∷ beside (holds 1) (reads 1) 0 (answers 1)
-    ∷ []
+    beside (holds 0) (reads 0) 1 (answers 0) ∷ beside (holds 0) (reads 1) 0 (answers 1)
+    ∷ beside (holds 1) (reads 0) 1 (answers 0) ∷ beside (holds 1) (reads 1) 0 (answers 1) ∷ []
 -- incorrect read coupling faults
 members_of CFir =
-    beside (holds 0) (reads 0) 0 (answers 1)
-    ∷ beside (holds 0) (reads 1) 1 (answers 0)
-    ∷ beside (holds 1) (reads 0) 0 (answers 1)
-    ∷ beside (holds 1) (reads 1) 1 (answers 0)
-    ∷ []
+    beside (holds 0) (reads 0) 0 (answers 1) ∷ beside (holds 0) (reads 1) 1 (answers 0)
+    ∷ beside (holds 1) (reads 0) 0 (answers 1) ∷ beside (holds 1) (reads 1) 1 (answers 0) ∷ []
 -- data retention faults
-members_of DRF =
-    alone (waits 0) 1 no_answer
-    ∷ alone (waits 1) 0 no_answer
-    ∷ []
+members_of DRF = alone (waits 0) 1 no_answer ∷ alone (waits 1) 0 no_answer ∷ []
 
 -- the twelve of one cell that need no pause
 abbrev pub one_cell_table : List Primitive

@@ -1,5 +1,5 @@
 ghost use Rattle.std.specs.Prelude.{◌≡◌, ◌≢◌, ◌<◌, Some, length, false, IsTrue, if◌then◌else◌, slice_set, ◌&&◌};
-ghost use Rattle.fault_core.specs.Primitive.{same_bit, agg_has_act, pauses};
+ghost use Rattle.fault_core.specs.Primitive.{same_bit, agg_has_act, is_retention};
 ghost use Rattle.fault_core.specs.Cells.{FitsPlace, FitsAgg, states_hold, agg_holds, has_act, close_of, acts, agg_acts, has_this_act, same_act, step_cells, step_answer, pause_cells, acted, plain_cells, plain_answer};
 
 use crate::primitive::{Act, FaultPrimitive, Sense, has_agg_act, is_pause};

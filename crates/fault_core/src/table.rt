@@ -1,6 +1,6 @@
 ghost use Rattle.std.specs.Prelude.{◌≡◌, ◌≢◌, ◌+◌, ◌≤◌, ◌++◌, ◌∷◌, [], false, not, Some, None, All, AllPairs, Contains, length, true};
 ghost use Rattle.arrayvec.specs.ArrayVec.{array_vec_len};
-ghost use Rattle.fault_core.specs.Primitive.{Primitive, IsPrimitive, agg_has_act, has_aggressor, pauses};
+ghost use Rattle.fault_core.specs.Primitive.{Primitive, IsPrimitive, agg_has_act, has_aggressor, is_retention};
 ghost use Rattle.fault_core.specs.Classes.{class_of_read, class_of_victim, coupled, class_by_parts};
 ghost use Rattle.fault_core.specs.Rows.{never_pauses, lost, flipped, unwritten, disturbed, prim_of, sense_of, member_of, FitsClass, senses_of};
 ghost use Rattle.fault_core.specs.Table.{members_of, one_cell_table, two_cell_table, retention_table};
@@ -195,8 +195,8 @@ fn append<const N: usize>(prims: &mut ArrayVec<Prim, N>, class: Class)
 #[tactic(auto, using(crate::proofs::EveryPrimitive::one_cell_has, crate::proofs::EveryPrimitive::one_cell_are, crate::proofs::EveryPrimitive::one_cell_differ))]
 pub fn one_cell() -> [Prim; 12]
     ensures rows { result ≡ one_cell_table }
-    ensures every { (p : Primitive) → IsPrimitive p → has_aggressor p ≡ false → pauses p ≡ false → Contains result p }
-    ensures primitives { All (λ p. IsPrimitive p × (has_aggressor p ≡ false) × (pauses p ≡ false)) result }
+    ensures every { (p : Primitive) → IsPrimitive p → has_aggressor p ≡ false → is_retention p ≡ false → Contains result p }
+    ensures primitives { All (λ p. IsPrimitive p × (has_aggressor p ≡ false) × (is_retention p ≡ false)) result }
     ensures distinct { AllPairs (λ p q. p ≢ q) result }
 {
     let mut prims = ArrayVec::<Prim, 12>::new();
@@ -232,8 +232,8 @@ pub fn two_cell() -> [Prim; 36]
 #[tactic(auto, using(crate::proofs::EveryPrimitive::retention_has, crate::proofs::EveryPrimitive::retention_are, crate::proofs::EveryPrimitive::retention_differ))]
 pub fn retention() -> [Prim; 2]
     ensures rows { result ≡ retention_table }
-    ensures every { (p : Primitive) → IsPrimitive p → pauses p ≡ true → Contains result p }
-    ensures primitives { All (λ p. IsPrimitive p × (has_aggressor p ≡ false) × (pauses p ≡ true)) result }
+    ensures every { (p : Primitive) → IsPrimitive p → is_retention p ≡ true → Contains result p }
+    ensures primitives { All (λ p. IsPrimitive p × (has_aggressor p ≡ false) × (is_retention p ≡ true)) result }
     ensures distinct { AllPairs (λ p q. p ≢ q) result }
 {
     [

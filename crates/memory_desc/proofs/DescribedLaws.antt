@@ -1,5 +1,5 @@
 -- What a text describes, said directly, is what the table of refusals lets through.
-use Rattle.std.proofs.Common.{◌≡◌, ℕ, zero, suc, ◌-◌, ◌<◌, ◌≤◌, ◌&&◌, Bool, true, false, not, if◌then◌else◌, List, Option, Some, None, Result, Ok, Err, MatchBool, MatchResult, Contains, length, find, refl, sym, ap, subst, arith, inl, inr}
+use Rattle.std.proofs.Common.{◌≡◌, ℕ, zero, suc, ◌-◌, ◌<◌, ◌≤◌, ◌&&◌, Bool, true, false, not, if◌then◌else◌, List, Option, Some, None, Result, Ok, Err, MatchBool, MatchResult, Contains, length, find, refl, ap, subst, arith, inl, inr}
 use Rattle.std.proofs.lemmas.Bool.{cases_lt}
 use Rattle.std.specs.Int.{is_power_of_two}
 use Rattle.std.specs.Option.{IsSome}
@@ -9,7 +9,7 @@ use Rattle.memory_desc.specs.Descriptions.{Description}
 use Rattle.memory_desc.specs.Described.{AreStatements, IsScrambling, AreOfMemory, SpellsMemory, is_scrambled, is_too_wide, is_repeat, is_out_of_range, described}
 use Rattle.memory_desc.specs.Statements.{Statement}
 use Rattle.memory_desc.specs.Subjects.{about, said}
-use Rattle.memory_desc.specs.Table.{at_line, unless_there, missing, missing_row, first_refusal, repeated, out_of_range, unscramblable, too_wide, Unless, Inverts, Scrambles, AcceptsBackgrounds, StatesBackgrounds, Builds, Describes}
+use Rattle.memory_desc.specs.Table.{at_line, unless_there, missing, missing_row, first_refusal, repeated, out_of_range, unscramblable, too_wide, Unless, Inverts, Scrambles, StatesBackgrounds, Builds, Describes}
 use Rattle.memory_desc.specs.Values.{words_said, bits_said, matrix_said, AreBackgrounds}
 use Rattle.memory_desc.specs.declared.content.Subject.TheVariants.{Name, Words, Bits, Row, Backgrounds}
 use Rattle.memory_desc.specs.declared.fault.Field.TheVariants.{Name as NameField, Words as WordsField, Bits as BitsField, Row as RowField}
@@ -190,12 +190,15 @@ module _ (ss : List Statement) (d : Description) where
 
   pub describes : AreOfMemory ss d → Describes ss (Ok d)
   describes m =
-      let fitting : Scrambled m.width = (Ok m.scrambling, scrambles ss m.width m.scrambling m.is_scrambling,
-          (Ok m.set, (m.set, m.are_backgrounds, keeps m.set m.few m.solid), ap Ok m.described_as)) in
+      let fitting : Scrambled m.width = (
+        Ok m.scrambling,
+        scrambles ss m.width m.scrambling m.is_scrambling,
+        (Ok m.set, (m.set, m.are_backgrounds, keeps m.set m.few m.solid), ap Ok m.described_as),
+      ) in
       let builds : Builds ss m.width (Ok d) =
-          passes (unscramblable ss) (Ok d) (Fitting m.width) (none_if ScrambleNeedsPowerOfTwo (is_scrambled ss) (is_power_of_two (words_said ss)) m.scramblable)
-          (passes (too_wide ss m.width (bits_said ss)) (Ok d) (Scrambled m.width)
-          (at_none (λ n. OutOfRange n) (find (λ s. is_too_wide m.width (bits_said ss) s.content) ss) m.fit) fitting) in
+      passes (unscramblable ss) (Ok d) (Fitting m.width) (none_if ScrambleNeedsPowerOfTwo (is_scrambled ss) (is_power_of_two (words_said ss)) m.scramblable)
+      (passes (too_wide ss m.width (bits_said ss)) (Ok d) (Scrambled m.width)
+      (at_none (λ n. OutOfRange n) (find (λ s. is_too_wide m.width (bits_said ss) s.content) ss) m.fit) fitting) in
       passes (repeated ss) (Ok d) IsOnce (at_none (λ n. Repeated n) (find (is_repeat ss) ss) m.once)
       (passes (missing Name NameField ss) (Ok d) HasName (there (Missing NameField) (about Name ss) m.has_name)
       (passes (missing Words WordsField ss) (Ok d) HasWords (there (Missing WordsField) (about Words ss) m.has_words)

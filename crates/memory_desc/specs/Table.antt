@@ -1,23 +1,20 @@
 -- Trusted. The refusals of a description whose lines are all of the table, in their order; else it describes a memory.
-use Rattle.std.specs.Prelude.{◌≡◌, ℕ, zero, suc, ◌-◌, ◌^◌, ◌==◌, ◌||◌, ◌&&◌, ◌⊎◌, Bool, true, false, not, nat_lt, nat_le, if◌then◌else◌, List, length, Option, Some, None, Result, Ok, Err, MatchBool, MatchResult, find}
+use Rattle.std.specs.Prelude.{◌≡◌, ℕ, zero, suc, ◌-◌, ◌==◌, ◌&&◌, ◌⊎◌, not, nat_lt, if◌then◌else◌, List, length, Option, Some, None, Result, Ok, Err, MatchBool, MatchResult, find}
 use Rattle.std.specs.Int.{is_power_of_two}
 use Rattle.std.specs.List.{list_any}
-use Rattle.std.specs.Str.Parse.{digits_value}
 use Rattle.bist_bits.specs.Width.{IsWidthOf}
 use Rattle.bist_text.specs.Lines.{text_lines}
 use Rattle.scrambler.specs.Scrambling.{Scrambling, IsInvertible, IsLeastDependence, identity}
-use Rattle.memory_desc.specs.Descriptions.{Description, assembled}
+use Rattle.memory_desc.specs.Descriptions.{Description}
 pub use Rattle.memory_desc.specs.Described.{is_other, is_repeat, is_out_of_range, is_row, is_scrambled, is_term_too_wide, is_too_wide, described, AreStatements, SpellsMemory}
-use Rattle.memory_desc.specs.LineText.{Term, index_bit, constant, Content, name, words, bits, latency, polarity, pause, scramble, backgrounds}
+use Rattle.memory_desc.specs.LineText.{Content}
 use Rattle.memory_desc.specs.LineFaults.{AreRefused}
-use Rattle.bist_text.specs.ReservedWords.{is_among, reserved_words}
-use Rattle.memory_desc.specs.Statements.{Statement, Say, IsOfVersion}
-use Rattle.memory_desc.specs.Subjects.{subject, about, said}
-use Rattle.memory_desc.specs.Values.{name_said, words_said, bits_said, latency_said, polarity_said, pause_said, matrix_said, AreBackgrounds}
+use Rattle.memory_desc.specs.Statements.{Statement}
+use Rattle.memory_desc.specs.Subjects.{about, said}
+use Rattle.memory_desc.specs.Values.{words_said, bits_said, matrix_said, AreBackgrounds}
 use Rattle.memory_desc.specs.declared.content.Subject.{Subject}
 use Rattle.memory_desc.specs.declared.content.Subject.TheVariants.{Name, Words, Bits, Row, Backgrounds}
 use Rattle.memory_desc.specs.declared.fault.Field.{Field}
-use Rattle.memory_desc.specs.declared.line_place.Version.{Version}
 use Rattle.memory_desc.specs.declared.fault.Field.TheVariants.{Name as NameField, Words as WordsField, Bits as BitsField, Row as RowField}
 use Rattle.memory_desc.specs.declared.fault.MemoryFault.{MemoryFault}
 use Rattle.memory_desc.specs.declared.fault.MemoryFault.TheVariants.{Repeated, Missing, OutOfRange, Singular, ScrambleNeedsPowerOfTwo, NoSolidBackground, TooManyBackgrounds}

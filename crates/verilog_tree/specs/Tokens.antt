@@ -49,7 +49,8 @@ decimal long n K (c ∷ b) = whether (is_digit c) (decimal true (n * 10 + digit_
 -- all digits of a base and _ that stand here, behind others that are worth v; K takes the value
 abbrev pub digits : Base → ℕ → (ℕ → List ℕ → Type 0) → List ℕ → Type 0
 digits base v K [] = K v []
-digits base v K (c ∷ b) = whether (is_digit_of base c) (digits base (v * radix base + digit_value c) K b) (whether (c == 95) (digits base v K b) (K v (c ∷ b)))
+digits base v K (c ∷ b) =
+    whether (is_digit_of base c) (digits base (v * radix base + digit_value c) K b) (whether (c == 95) (digits base v K b) (K v (c ∷ b)))
 
 -- ---- literals: a decimal size, ', a letter of the base, and digits, with nothing between
 

@@ -4,7 +4,7 @@ use Rattle.std.specs.Prelude.{if◌then◌else◌, slice_index}
 use Rattle.std.proofs.lemmas.List.{get_or-set_same, length-set}
 use Rattle.fault_core.specs.declared.primitive.Act.{Act}
 use Rattle.fault_core.specs.declared.primitive.Act.TheVariants.{Write, Read, Pause}
-use Rattle.fault_core.specs.Primitive.{IsPrimitive, same_bit, agg_has_act, is_pause, pauses}
+use Rattle.fault_core.specs.Primitive.{IsPrimitive, same_bit, agg_has_act, is_pause, is_retention}
 use Rattle.fault_core.specs.Cells.{has_act}
 use Rattle.cell_machine.proofs.Closing.{spent, differs, left_state}
 use Rattle.word_device.specs.declared.device.Place.{Place}
@@ -57,7 +57,7 @@ set_where b i ws = if b then with_bit_in ws i.vic i.prim.after else ws
 abbrev rest_of : Bool → Planted → List ℕ → List ℕ
 rest_of own i ws = closed_words i (set_where (own && bits_hold i ws) i ws)
 
-rest_twice : (i : Planted) (ws : List ℕ) → IsPrimitive i.prim → i.vic.word < length ws → (own : Bool) → pauses i.prim ≡ own
+rest_twice : (i : Planted) (ws : List ℕ) → IsPrimitive i.prim → i.vic.word < length ws → (own : Bool) → is_retention i.prim ≡ own
     → rest_of own i (rest_of own i ws) ≡ rest_of own i ws
 rest_twice i ws is inside false e = closed_twice i ws is inside
 rest_twice i ws is inside true e =
@@ -74,7 +74,7 @@ rest_twice i ws is inside true e =
 
 pub paused_twice : (i : Planted) (ws : List ℕ) → IsPrimitive i.prim → i.vic.word < length ws → paused_words i (paused_words i ws) ≡ paused_words i ws
 unfolding paused_words
-paused_twice i ws is inside = rest_twice i ws is inside (pauses i.prim) refl
+paused_twice i ws is inside = rest_twice i ws is inside (is_retention i.prim) refl
 
 pub closes : Closes
 closes i ws is inside = record { closed = closed_twice i ws is inside; as_many = length-closed_words i ws }

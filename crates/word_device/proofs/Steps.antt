@@ -6,7 +6,7 @@ use Rattle.fault_core.specs.declared.primitive.Act.{Act}
 use Rattle.fault_core.specs.declared.primitive.Act.TheVariants.{Write, Read}
 use Rattle.fault_core.specs.declared.primitive.Sense.{Sense}
 use Rattle.fault_core.specs.declared.cells.Places.{Places}
-use Rattle.fault_core.specs.Primitive.{Primitive, IsPrimitive, same_bit, agg_has_act, pauses}
+use Rattle.fault_core.specs.Primitive.{Primitive, IsPrimitive, same_bit, agg_has_act, is_retention}
 use Rattle.fault_core.specs.Cells.{cell, agg_holds, states_hold, has_act, close_of, has_this_act, agg_acts, acts, plain_cells, answer_or, acted, step_cells, step_answer, pause_cells}
 use Rattle.word_march.specs.declared.operations.WordOp.{WordOp}
 use Rattle.word_device.specs.declared.device.Place.{Place}
@@ -116,7 +116,7 @@ lane_step i at ws o t = lane_closed i at (acted_words i ws o) t ∙ ap (close_of
 pub lane_pause : (i : Planted) (at : ℕ → ℕ) (ws : List ℕ) → Through i at → lane at (paused_words i ws) ≡ pause_cells i.prim (spots i) (lane at ws)
 unfolding paused_words pause_cells
 lane_pause i at ws t =
-    let own : Bool = pauses i.prim in
+    let own : Bool = is_retention i.prim in
     let rested : List ℕ = if own && bits_hold i ws then with_bit_in ws i.vic i.prim.after else ws in
     lane_closed i at rested t
     ∙ ap (λ b. close_of i.prim (spots i) (lane at (if own && b then with_bit_in ws i.vic i.prim.after else ws))) (states_same i at ws t)

@@ -4,7 +4,7 @@ use Rattle.std.specs.Int.{bit_at}
 use Rattle.fault_core.specs.declared.primitive.Act.{Act}
 use Rattle.fault_core.specs.declared.primitive.Act.TheVariants.{Write, Read}
 use Rattle.fault_core.specs.declared.primitive.Sense.{Sense}
-use Rattle.fault_core.specs.Primitive.{same_bit, pauses}
+use Rattle.fault_core.specs.Primitive.{same_bit, is_retention}
 use Rattle.fault_core.specs.Cells.{has_act, has_this_act}
 use Rattle.word_march.specs.declared.operations.WordOp.{WordOp}
 use Rattle.word_device.specs.declared.device.Place.{Place}
@@ -76,7 +76,7 @@ answered (Some bit) at word = with_bit word at.bit bit
 -- a pause: the effect of the instance where the pause is its act, on words where its states hold, and closing
 unfoldable pub paused_words : Planted → List ℕ → List ℕ
 paused_words i words =
-    closed_words i (if pauses i.prim && bits_hold i words then with_bit_in words i.vic i.prim.after else words)
+    closed_words i (if is_retention i.prim && bits_hold i words then with_bit_in words i.vic i.prim.after else words)
 
 abbrev pub words_paused : Option Planted → List ℕ → List ℕ
 words_paused None words = words

@@ -1,5 +1,5 @@
 ghost use Rattle.std.specs.Prelude.{◌≡◌, ◌<◌, ◌↔◌, if◌then◌else◌, IsTrue, IsOk, IfErr, is_some, length, Some, None};
-ghost use Rattle.fault_core.specs.Primitive.{agg_has_act, has_aggressor, pauses};
+ghost use Rattle.fault_core.specs.Primitive.{agg_has_act, has_aggressor, is_retention};
 ghost use Rattle.fault_core.specs.Cells.{has_act, has_this_act};
 ghost use Rattle.word_device.specs.Boxes.{FitsBox};
 ghost use Rattle.word_device.specs.Chips.{bit_in, with_bit_in, agg_bit_holds, bits_hold, closed_words, paused_words, act_on, falls_on, falls_on_agg, matches, plain_words, plain_reply, answered, words_after, reply_to, FitsMemory, FitsAggPlace};
@@ -84,7 +84,7 @@ fn take_effect(planted: &Planted, words: &mut [u64], own: bool)
 }
 
 fn is_retention(prim: &Prim) -> bool
-    ensures { result ≡ pauses prim.now }
+    ensures { result ≡ is_retention prim.now }
 {
     matches!(prim.vic().act, Some(Act::Pause))
 }
