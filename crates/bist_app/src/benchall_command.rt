@@ -1,6 +1,5 @@
 //! The command `benchall`: the self-test of a march and a memory against each box.
-
-ghost use Rattle.std.specs.Prelude.{◌≡◌, ◌≤◌, ◌<◌, [], IfOk, IfErr, MatchOption, map};
+ ghost use Rattle.std.specs.Prelude.{◌≡◌, ◌≤◌, ◌<◌, [], IfOk, IfErr, MatchOption, map};
 ghost use Rattle.bist_host.specs.Files.{Rose};
 ghost use Rattle.bist_endings.specs.Ending.{plain, done_of};
 ghost use Rattle.bist_endings.specs.Conclude.{NamesWords};

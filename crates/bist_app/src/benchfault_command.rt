@@ -1,6 +1,5 @@
 //! The command `benchfault`: the self-test of a march and a memory against the first box, in which an instance of a primitive is planted.
-
-ghost use Rattle.std.specs.Prelude.{◌≡◌, ◌≤◌, ◌<◌, ◌↔◌, [], Some, IfOk, IfErr, IsTrue, MatchOption, Option, is_some, map, vec_len};
+ ghost use Rattle.std.specs.Prelude.{◌≡◌, ◌≤◌, ◌<◌, ◌↔◌, [], Some, IfOk, IfErr, IsTrue, MatchOption, Option, is_some, map, vec_len};
 ghost use Rattle.bist_host.specs.Files.{Rose};
 ghost use Rattle.fault_core.specs.Primitive.{has_aggressor};
 ghost use Rattle.word_device.specs.Chips.{FitsMemory};

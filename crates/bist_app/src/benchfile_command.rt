@@ -1,6 +1,5 @@
 //! The command `benchfile`: the module of a file against the first box.
-
-ghost use Rattle.std.specs.Prelude.{◌≡◌, ◌≤◌, ◌<◌, ◌∷◌, [], Some, None, IfOk, IfSome, IfErr, OnOk, OnErr, length, map, drop, vec_len};
+ ghost use Rattle.std.specs.Prelude.{◌≡◌, ◌≤◌, ◌<◌, ◌∷◌, [], Some, None, IfOk, IfSome, IfErr, OnOk, OnErr, length, map, drop, vec_len};
 ghost use Rattle.bist_host.specs.Files.{Rose};
 ghost use Rattle.word_device.specs.Ports.{shape_of as memory_shape};
 ghost use Rattle.verilog_cycle.specs.Design.{IsNew};

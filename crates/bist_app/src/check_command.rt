@@ -1,7 +1,6 @@
 //! The command `check`: whether the module of a file issues the commands of a march, whatever its registers hold at first and whatever
 //! words return.
-
-ghost use Rattle.std.specs.Prelude.{◌≡◌, ◌≤◌, ◌++◌, List, [], Some, Err, IfOk, IfErr, OnOk};
+ ghost use Rattle.std.specs.Prelude.{◌≡◌, ◌≤◌, ◌++◌, List, [], Some, Err, IfOk, IfErr, OnOk};
 ghost use Rattle.bist_host.specs.Files.{Rose};
 ghost use Rattle.verilog_tree.specs.Plain.{ModuleTree};
 ghost use Rattle.march_core.specs.March.{MarchElement};

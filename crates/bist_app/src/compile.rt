@@ -1,6 +1,5 @@
 //! The command `compile`: a self-test module for a march and a memory, and the report of what the march detects.
-
-ghost use Rattle.std.specs.Prelude.{◌≡◌, ◌≤◌, ◌∷◌, [], IfOk, IfErr, map, true};
+ ghost use Rattle.std.specs.Prelude.{◌≡◌, ◌≤◌, ◌∷◌, [], IfOk, IfErr, map, true};
 ghost use Rattle.bist_host.specs.Files.{Rose};
 ghost use Rattle.verilog_tree.specs.Plain.{plain_module};
 ghost use Rattle.self_test.specs.SelfTest.{SelfTest};

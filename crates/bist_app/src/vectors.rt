@@ -1,6 +1,5 @@
 //! The command `vectors`: the commands at a memory's port, a line each.
-
-ghost use Rattle.std.specs.Prelude.{◌≡◌, ◌≤◌, ◌<◌, ◌^◌, ◌++◌, ◌∷◌, [], length, map, IfOk, IfErr, OnOk};
+ ghost use Rattle.std.specs.Prelude.{◌≡◌, ◌≤◌, ◌<◌, ◌^◌, ◌++◌, ◌∷◌, [], length, map, IfOk, IfErr, OnOk};
 ghost use Rattle.bist_host.specs.Files.{Rose};
 ghost use Rattle.word_march.specs.Commands.{port_ops, command_count};
 ghost use Rattle.bist_endings.specs.Ending.{plain, done_of, written_of};
