@@ -6,7 +6,8 @@ use Rattle.fault_core.specs.Primitive.{Primitive}
 use Rattle.fault_core.specs.Cells.{step_cells, pause_cells}
 use Rattle.march_core.specs.Visits.{Visit, MarchStep, pausing, visiting, miss_at}
 use Rattle.march_core.specs.declared.visit.Miss.{Miss}
-use Rattle.array_sim.specs.Run.{Outcome, run_of, act_of}
+use Rattle.array_sim.specs.inner.Run.{Outcome, run_of}
+use Rattle.array_sim.specs.Run.{act_of}
 use Rattle.array_sim.specs.Differing.{left_behind, DiffersBy, SomeDiffersBy, IsFirstBy, behind_first, after_step, is_wrong_at, SomeDiffers, IsFirstMiss, StopsAt}
 
 no_visit : (e : ℕ) (v : Visit) → pausing e ≡ visiting v → ⊥

@@ -10,10 +10,12 @@ use Rattle.march_core.specs.declared.operation.Op.{Op}
 use Rattle.march_core.specs.March.{MarchElement, pause, sweep, element_at, order_at, ops_at, is_pause_at}
 use Rattle.march_core.specs.Operation.{is_wrong_of}
 use Rattle.march_core.specs.Visits.{Visit, MarchStep, pausing, visiting, miss_at, Direction, Upward, Downward, cell_visits, address_visits, addresses, element_visits, visits_from, is_down_at, direction_at}
-use Rattle.march_core.specs.Addresses.{address_at, direction_of, steps_of}
+use Rattle.march_core.specs.Addresses.{address_at, direction_of}
+use Rattle.march_core.specs.inner.Addresses.{steps_of}
 use Rattle.march_core.specs.declared.visit.Miss.{Miss}
 use Rattle.march_core.proofs.Directions.{directions_from, range_more}
-use Rattle.array_sim.specs.Run.{Outcome, run_of, act_of}
+use Rattle.array_sim.specs.inner.Run.{Outcome, run_of}
+use Rattle.array_sim.specs.Run.{act_of}
 
 -- what the first visit makes of a run
 abbrev pub after_first : Bool → List Bool → Visit → Outcome → Outcome

@@ -1,3 +1,4 @@
 pub mod Run
 pub mod Differing
 pub mod Detection
+pub mod inner

@@ -1,16 +1,10 @@
 -- Trusted. A run of the steps of a march on an array with one instance of a primitive.
-use Rattle.std.specs.Prelude.{Bool, true, false, if◌then◌else◌, Option, Some, None, List, [], ◌∷◌, length}
+use Rattle.std.specs.Prelude.{true, false}
 use Rattle.fault_core.specs.declared.primitive.Act.{Act}
 use Rattle.fault_core.specs.declared.primitive.Act.TheVariants.{Write, Read}
 use Rattle.fault_core.specs.declared.cells.Places.{Places}
-use Rattle.fault_core.specs.Primitive.{Primitive}
-use Rattle.fault_core.specs.Cells.{close_of, step_cells, step_answer, pause_cells}
 use Rattle.march_core.specs.declared.operation.Op.{Op}
 use Rattle.march_core.specs.declared.operation.Op.TheVariants.{W0, W1, R0, R1}
-use Rattle.march_core.specs.March.{MarchElement}
-use Rattle.march_core.specs.Operation.{is_wrong_of}
-use Rattle.march_core.specs.Visits.{MarchStep, pausing, visiting, miss_at, Direction, visits}
-use Rattle.march_core.specs.declared.visit.Miss.{Miss}
 use Rattle.array_sim.specs.declared.simulation.Instance.{Instance}
 
 -- an operation as an act: the bit that a read expects plays no part
@@ -20,24 +14,6 @@ act_of W1 = Write true
 act_of R0 = Read
 act_of R1 = Read
 
--- the cells after a run, and the read that differed, if one did
-pub record Outcome : Type 0 where
-  pub cells : List Bool
-  pub miss : Option Miss
-
--- the steps one after another, up to the first read that differs
-abbrev pub run_of : Primitive → Places → List Bool → List MarchStep → Outcome
-run_of p at cells [] = record { cells = cells; miss = None }
-run_of p at cells (pausing element ∷ steps) = run_of p at (pause_cells p at cells) steps
-run_of p at cells (visiting v ∷ steps) =
-    if is_wrong_of v.op (step_answer p at cells v.address (act_of v.op))
-    then (record { cells = step_cells p at cells v.address (act_of v.op); miss = Some (miss_at v) })
-    else run_of p at (step_cells p at cells v.address (act_of v.op)) steps
-
 -- where an instance stands
 abbrev pub places_of : Instance → Places
 places_of i = record { agg = i.agg; vic = i.vic }
-
--- a march in these directions on this content, which is closed first
-abbrev pub outcome_of : List MarchElement → List Direction → Primitive → Places → List Bool → Outcome
-outcome_of march directions p at content = run_of p at (close_of p at content) (visits march directions (length content))

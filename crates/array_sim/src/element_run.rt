@@ -2,8 +2,9 @@ ghost use Rattle.std.specs.Prelude.{◌≡◌, ◌<◌, length};
 ghost use Rattle.fault_core.specs.Cells.{FitsPlace};
 ghost use Rattle.march_core.specs.March.{element_at};
 ghost use Rattle.march_core.specs.Visits.{cell_visits, address_visits, addresses, direction_at, element_visits};
-ghost use Rattle.march_core.specs.Addresses.{direction_of, steps_of};
-ghost use Rattle.array_sim.specs.Run.{run_of};
+ghost use Rattle.march_core.specs.Addresses.{direction_of};
+ghost use Rattle.march_core.specs.inner.Addresses.{steps_of};
+ghost use Rattle.array_sim.specs.inner.Run.{run_of};
 
 use crate::act::act_of;
 use fault_core::{Places, Prim, pause_cells, step};

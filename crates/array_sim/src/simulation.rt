@@ -1,7 +1,8 @@
 ghost use Rattle.std.specs.Prelude.{◌≡◌, ◌<◌, ◌↔◌, None, IsSome, IfSome, length};
 ghost use Rattle.fault_core.specs.Cells.{FitsPlace, close_of};
 ghost use Rattle.march_core.specs.Visits.{FitsWord, visits, directions_of};
-ghost use Rattle.array_sim.specs.Run.{places_of, run_of};
+ghost use Rattle.array_sim.specs.Run.{places_of};
+ghost use Rattle.array_sim.specs.inner.Run.{run_of};
 ghost use Rattle.array_sim.specs.Differing.{IsFirstMiss, StopsAt};
 ghost use Rattle.array_sim.specs.Detection.{IsCaught, cells_after};
 

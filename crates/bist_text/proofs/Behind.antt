@@ -12,7 +12,7 @@ use Rattle.bist_text.specs.ByteSets.{in_set}
 use Rattle.bist_text.specs.declared.byte_set.ByteSet.{ByteSet}
 use Rattle.bist_text.specs.Cursors.{TextPlace, left_of}
 use Rattle.bist_text.specs.Grammar.{word, many, is_blank}
-use Rattle.bist_text.specs.LineGrammar.{after, is_small}
+use Rattle.bist_text.specs.inner.LineGrammar.{after, is_small}
 use Rattle.bist_text.proofs.LinePieces.{at_bool, when_true, when_false, when_holds}
 use Rattle.bist_text.proofs.LineStops.{Stops}
 

@@ -11,7 +11,8 @@ use Rattle.bist_text.specs.declared.keywords.Letters.{Letters}
 use Rattle.bist_text.specs.declared.keywords.Spelled.{Spelled}
 use Rattle.bist_text.specs.declared.keywords.Spelled.TheVariants.{More, Whole}
 use Rattle.bist_text.specs.Grammar.{word, when, one_of, are_bytes}
-use Rattle.bist_text.specs.Keywords.{Word, stands, front_of, letters_of, goes_on, spelled_as, seek, spell, left, begins, is_written, is_apart, are_apart, words_for, all_words}
+use Rattle.bist_text.specs.Keywords.{Word, front_of, letters_of, goes_on, spelled_as, seek, spell}
+use Rattle.bist_text.specs.inner.Keywords.{stands, left, begins, is_written, is_apart, are_apart, words_for, all_words}
 use Rattle.bist_text.specs.Machine.{Holds}
 use Rattle.bist_text.proofs.Bytes.{are_bytes-drop}
 use Rattle.bist_text.proofs.Settled.{split_at}

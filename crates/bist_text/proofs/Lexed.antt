@@ -1,7 +1,9 @@
 use Rattle.std.proofs.Common.{◌≡◌, ℕ, Bool, true, false, List, [], ◌∷◌, ◌↔◌, Option, Some, None, refl, subst}
 use Rattle.bist_text.specs.Grammar.{Continues, are_bytes}
-use Rattle.bist_text.specs.Machine.{Holds, Follows}
-use Rattle.bist_text.specs.Lexed.{emitted, Lexes, Parses, Decides, advance, then, only_if, Both, both_step, both_value, both_rest}
+use Rattle.bist_text.specs.Machine.{Holds}
+use Rattle.bist_text.specs.inner.Machine.{Follows}
+use Rattle.bist_text.specs.inner.Lexed.{emitted, Lexes, Parses, Decides, both_rest}
+use Rattle.bist_text.specs.Lexed.{advance, then, only_if, Both, both_step, both_value}
 use Rattle.bist_text.proofs.Pieces.{also, back, same, never, holds_iff}
 
 then_holds : {A B : Type 0} (o : Option A) (f : A → Option B) (P : B → Type 0) → Holds o (λ x. Holds (f x) P) ↔ Holds (then o f) P

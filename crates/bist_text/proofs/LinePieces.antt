@@ -5,7 +5,8 @@ use Rattle.std.specs.Prelude.{nat_lt}
 use Rattle.std.specs.List.{list_all}
 use Rattle.bist_text.specs.Grammar.{word, many, when, is_blank}
 use Rattle.bist_text.proofs.Pieces.{at_byte, also, skip, stay, same}
-use Rattle.bist_text.specs.LineGrammar.{space, gap, comment, tail, Run}
+use Rattle.bist_text.specs.LineGrammar.{space, gap, comment, tail}
+use Rattle.bist_text.specs.inner.LineGrammar.{Run}
 
 -- ---- tests
 

@@ -4,7 +4,8 @@ use Rattle.std.proofs.lemmas.Bool.{eqb-true, and_parts, and_from, eq-eqb, le-leb
 use Rattle.bist_text.specs.Grammar.{byte, word, is_blank}
 use Rattle.std.specs.List.{list_all}
 use Rattle.std.specs.Prelude.{nat_le}
-use Rattle.bist_text.specs.LineGrammar.{space, tail, gap, comment, Run}
+use Rattle.bist_text.specs.LineGrammar.{space, tail, gap, comment}
+use Rattle.bist_text.specs.inner.LineGrammar.{Run}
 use Rattle.bist_text.proofs.LinePieces.{at_bool, when_false, when_holds, apart, of_blank, space_off, tail_never, when_true}
 
 -- a byte of a class that has no blank isn't a blank

@@ -2,7 +2,8 @@
 -- is at its place.
 use Rattle.std.proofs.Common.{◌≡◌, ℕ, ◌+◌, ◌<◌, suc, List, [], ◌∷◌, ◌++◌, length, take, Option, Some, None, refl, arith, sym, ap, subst, ◌↔◌, add-one}
 use Rattle.bist_text.specs.Grammar.{Continues, IsUnexpected, IsTruncated}
-use Rattle.bist_text.specs.Machine.{Holds, Outcome, read, unexpected, truncated, ended, after, scan, Follows, Answers}
+use Rattle.bist_text.specs.Machine.{Holds, Outcome, read, unexpected, truncated, ended, after, scan}
+use Rattle.bist_text.specs.inner.Machine.{Follows, Answers}
 
 -- what holds of the next state
 holds_after : {S V : Type 0} (o : Option S) (P : S → Type 0) (k : ℕ) (f : S → Outcome V) (x : Outcome V) → Holds o P → ((t : S) → P t → f t ≡ x) → after o k f ≡ x

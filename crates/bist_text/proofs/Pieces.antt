@@ -2,7 +2,8 @@
 use Rattle.std.proofs.Common.{◌≡◌, ℕ, ◌==◌, Bool, true, false, List, [], ◌∷◌, ◌++◌, ◌∙◌, Option, Some, None, refl, ◌↔◌, ◌⊎◌, inl, inr, subst, sym, ap, append_assoc, append-nil}
 use Rattle.std.proofs.lemmas.Bool.{eqb-true, eq-eqb}
 use Rattle.bist_text.specs.Grammar.{when, many, word}
-use Rattle.bist_text.specs.Machine.{Holds, Grows}
+use Rattle.bist_text.specs.Machine.{Holds}
+use Rattle.bist_text.specs.inner.Machine.{Grows}
 
 -- a fact of every byte, from that of d and that of the others
 pub at_byte : (P : ℕ → Type 0) (c d : ℕ) → P d → ((c == d) ≡ false → P c) → P c

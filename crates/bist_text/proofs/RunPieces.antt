@@ -3,7 +3,8 @@ use Rattle.std.proofs.Common.{◌≡◌, ℕ, ◌≤◌, ◌==◌, Bool, true, f
 use Rattle.std.proofs.lemmas.Bool.{eqb-true, eq-eqb, and_parts, and_from}
 use Rattle.std.specs.List.{list_all}
 use Rattle.bist_text.specs.Grammar.{word, many, is_blank}
-use Rattle.bist_text.specs.LineGrammar.{space, gap, some}
+use Rattle.bist_text.specs.LineGrammar.{space, gap}
+use Rattle.bist_text.specs.inner.LineGrammar.{some}
 use Rattle.bist_text.proofs.LinePieces.{when_true, when_false, when_holds}
 
 -- ---- the next byte

@@ -1,7 +1,8 @@
 -- Of any text, bytes or not, a grammar that a machine follows has one answer: what is read of one of its texts goes on.
 use Rattle.std.proofs.Common.{◌≡◌, ◌↔◌, ℕ, zero, suc, ◌+◌, ◌<◌, ◌≤◌, List, [], ◌∷◌, ◌++◌, ◌∙◌, take, drop, Option, Some, None, refl, arith, sym, ap, subst, append_assoc, append-nil}
 use Rattle.bist_text.specs.Grammar.{Continues, IsUnexpected}
-use Rattle.bist_text.specs.Machine.{Holds, Outcome, read, unexpected, truncated, scan, Follows, Answers, IsExact}
+use Rattle.bist_text.specs.Machine.{Holds, Outcome, read, unexpected, truncated, scan}
+use Rattle.bist_text.specs.inner.Machine.{Follows, Answers, IsExact}
 use Rattle.bist_text.proofs.Machine.{scan_answers, backward, one_value, answers_iff}
 
 pub split_at : (n : ℕ) (b : List ℕ) → take n b ++ drop n b ≡ b

@@ -1,7 +1,7 @@
 -- A parser whose tokens must pass a test is a parser.
 use Rattle.std.proofs.Common.{◌≡◌, ◌&&◌, Bool, true, false, List, [], ◌∷◌, Option, Some, None, refl, ◌↔◌, if◌then◌else◌}
 use Rattle.bist_text.specs.Machine.{Holds}
-use Rattle.bist_text.specs.Lexed.{Parses}
+use Rattle.bist_text.specs.inner.Lexed.{Parses}
 use Rattle.bist_text.proofs.Pieces.{also, same, never}
 
 module _ {S T V : Type 0} (step : S → T → Option S) (value : S → Option V) (rest : S → List T → V → Type 0) (x : Parses step value rest) where

@@ -1,28 +1,6 @@
 -- Public. A reader of tokens over a reader of bytes: a lexer gives tokens, a parser takes them, and the two together
 -- are one machine over bytes (`both_follows` of proofs/Lexed.antt).
-use Rattle.std.specs.Prelude.{◌≡◌, ℕ, Bool, true, false, List, [], ◌∷◌, ◌↔◌, Option, Some, None}
-use Rattle.bist_text.specs.Grammar.{are_bytes}
-use Rattle.bist_text.specs.Machine.{Holds}
-
--- the tokens, behind the one that a byte ended
-abbrev pub emitted : {T : Type 0} → Option T → List T → List T
-emitted None us = us
-emitted (Some t) us = t ∷ us
-
--- what may still come in a state of the lexer
-pub record Lexes {L T : Type 0} (lex : L → ℕ → Option (L × Option T)) (last : L → Option (Option T)) (unread : L → List ℕ → List T → Type 0) : Type 0 where
-  pub ends : (l : L) (ts : List T) → unread l [] ts ↔ Holds (last l) (λ o. ts ≡ emitted o [])
-  pub goes : (l : L) (c : ℕ) (b : List ℕ) (ts : List T) → unread l (c ∷ b) ts ↔ Holds (lex l c) (λ r. (us : List T) × (ts ≡ emitted r.1 us) × unread r.0 b us)
-
--- the same of a machine over tokens
-pub record Parses {S T V : Type 0} (step : S → T → Option S) (value : S → Option V) (rest : S → List T → V → Type 0) : Type 0 where
-  pub ends : (s : S) (v : V) → rest s [] v ↔ (value s ≡ Some v)
-  pub goes : (s : S) (t : T) (ts : List T) (v : V) → rest s (t ∷ ts) v ↔ Holds (step s t) (λ q. rest q ts v)
-
--- whether what the lexer has begun can go on to tokens that the parser takes
-pub record Decides {S L T V : Type 0} (live : S → L → Bool) (unread : L → List ℕ → List T → Type 0) (rest : S → List T → V → Type 0) : Type 0 where
-  pub sound : (s : S) (l : L) → live s l ≡ true → (b : List ℕ) × (ts : List T) × (v : V) × (are_bytes b ≡ true) × unread l b ts × rest s ts v
-  pub complete : (s : S) (l : L) (b : List ℕ) (ts : List T) (v : V) → unread l b ts → rest s ts v → live s l ≡ true
+use Rattle.std.specs.Prelude.{ℕ, Bool, true, false, Option, Some, None}
 
 abbrev pub advance : {S T : Type 0} → (S → T → Option S) → S → Option T → Option S
 advance step s None = Some s
@@ -46,7 +24,3 @@ both_step lex step live q c = then (lex q.lexer c) (λ r. then (advance step q.p
 
 abbrev pub both_value : {S L T V : Type 0} → (L → Option (Option T)) → (S → T → Option S) → (S → Option V) → Both S L → Option V
 both_value last step value q = then (last q.lexer) (λ o. then (advance step q.parser o) value)
-
--- The bytes are lexed to tokens, which the parser takes.
-abbrev pub both_rest : {S L T V : Type 0} → (L → List ℕ → List T → Type 0) → (S → List T → V → Type 0) → Both S L → List ℕ → V → Type 0
-both_rest {T = T} unread rest q b v = (ts : List T) × unread q.lexer b ts × rest q.parser ts v

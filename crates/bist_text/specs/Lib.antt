@@ -9,3 +9,4 @@ pub mod ReservedWords
 pub mod Keywords
 pub mod Identifiers
 pub mod LineGrammar
+pub mod inner

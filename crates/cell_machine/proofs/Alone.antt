@@ -7,7 +7,8 @@ use Rattle.cell_machine.specs.declared.pair.Pair.{Pair}
 use Rattle.cell_machine.specs.declared.pair.Side.{Side}
 use Rattle.cell_machine.specs.declared.pair.Side.TheVariants.{A, V}
 use Rattle.cell_machine.specs.Pairs.{pair_close, pair_step, pair_answer, pair_pause}
-use Rattle.cell_machine.specs.Seen.{cells_of, pair_places, place_of, pair_at, SeesPair}
+use Rattle.cell_machine.specs.Seen.{cells_of, pair_places, place_of, pair_at}
+use Rattle.cell_machine.specs.inner.Seen.{SeesPair}
 use Rattle.cell_machine.proofs.Projection.{pair_at-close_of, pair_at-step_victim, pair_at-step_aggressor, step_answer-victim, step_answer-aggressor, length-close_of, length-step_cells, pair_at-pause_cells, length-pause_cells}
 
 sees_alone : (p : Primitive) (pair : Pair) → SeesPair p (pair_places p) 0 (length (cells_of pair))

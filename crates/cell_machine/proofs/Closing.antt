@@ -5,7 +5,8 @@ use Rattle.std.proofs.lemmas.Bool.{not-true, or_parts}
 use Rattle.fault_core.specs.Primitive.{Primitive, IsPrimitive, same_bit, agg_has_act}
 use Rattle.fault_core.specs.Cells.{has_act}
 use Rattle.cell_machine.specs.declared.pair.Pair.{Pair}
-use Rattle.cell_machine.specs.Pairs.{side_holds, pair_holds, with_victim, pair_close, IsClosed}
+use Rattle.cell_machine.specs.Pairs.{side_holds, pair_holds, with_victim, pair_close}
+use Rattle.cell_machine.specs.inner.Pairs.{IsClosed}
 
 -- a write that ends its own condition is not done a second time
 pub spent : {X : Type 0} (t : Bool) (holds : X → Bool) (before after : X) → (t ≡ true → holds after ≡ false)

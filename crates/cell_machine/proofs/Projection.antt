@@ -12,7 +12,8 @@ use Rattle.fault_core.specs.Cells.{cell, agg_holds, states_hold, has_act, close_
 use Rattle.cell_machine.specs.declared.pair.Pair.{Pair}
 use Rattle.cell_machine.specs.declared.pair.Side.TheVariants.{A, V}
 use Rattle.cell_machine.specs.Pairs.{pair_of, side_holds, pair_holds, with_victim, pair_close, agg_act_of, pair_acts, plain_pair, plain_reply, pair_step, pair_answer, pair_pause}
-use Rattle.cell_machine.specs.Seen.{pair_at, SeesPair}
+use Rattle.cell_machine.specs.Seen.{pair_at}
+use Rattle.cell_machine.specs.inner.Seen.{SeesPair}
 
 and-false : (b : Bool) → (b && false) ≡ false
 and-false true = refl

@@ -1,5 +1,5 @@
 -- Public. The two cells of one instance, and what an act on one of them makes of both.
-use Rattle.std.specs.Prelude.{◌≡◌, Bool, true, not, ◌&&◌, if◌then◌else◌, Option, Some, None}
+use Rattle.std.specs.Prelude.{Bool, true, not, ◌&&◌, if◌then◌else◌, Option, Some, None}
 use Rattle.fault_core.specs.declared.primitive.Act.{Act}
 use Rattle.fault_core.specs.declared.primitive.Act.TheVariants.{Write, Read, Pause}
 use Rattle.fault_core.specs.declared.primitive.Sense.{Sense}
@@ -28,10 +28,6 @@ with_victim pair bit = pair_of pair.a bit
 -- closing: a primitive without an act sets its victim where its states hold
 unfoldable pub pair_close : Primitive → Pair → Pair
 pair_close p pair = if not (has_act p) && pair_holds p pair then with_victim pair p.after else pair
-
--- closing leaves the pair
-abbrev pub IsClosed : Primitive → Pair → Type 0
-IsClosed p pair = pair_close p pair ≡ pair
 
 -- the act of the aggressor, if it has one
 abbrev pub agg_act_of : Option Sense → Option Act

@@ -1,5 +1,5 @@
 -- Public. A pair as two cells of an array.
-use Rattle.std.specs.Prelude.{◌≡◌, ◌≢◌, ◌<◌, ℕ, Bool, if◌then◌else◌, Some, None, List, [], ◌∷◌}
+use Rattle.std.specs.Prelude.{ℕ, Bool, if◌then◌else◌, Some, None, List, [], ◌∷◌}
 use Rattle.fault_core.specs.declared.cells.Places.{Places}
 use Rattle.fault_core.specs.Primitive.{Primitive, has_aggressor}
 use Rattle.fault_core.specs.Cells.{cell}
@@ -24,10 +24,3 @@ place_of a v V = v
 -- the pair in an array of any length
 abbrev pub pair_at : List Bool → ℕ → ℕ → Pair
 pair_at cells a v = pair_of (cell cells a) (cell cells v)
-
--- an instance at these places is about cells a and at.vic of an array of this size: a is its aggressor's cell, or any
--- other address, a bystander's or one past the array, where it has no aggressor
-pub record SeesPair (p : Primitive) (at : Places) (a : ℕ) (size : ℕ) : Type 0 where
-  pub aggressor : at.agg ≡ (if has_aggressor p then Some a else None)
-  pub apart : a ≢ at.vic
-  pub victim : at.vic < size

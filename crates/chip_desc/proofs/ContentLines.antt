@@ -11,13 +11,14 @@ use Rattle.memory_desc.proofs.LineStops.{name_run}
 use Rattle.chip_desc.specs.Chips.{is_file_byte, is_file}
 use Rattle.chip_desc.specs.ChipFaults.{may_stand, LineOf}
 use Rattle.chip_desc.specs.ChipLines.{Content, version, name, budget, unit, kind_of, is_formed, argument, key_text, ContentText}
-use Rattle.chip_desc.specs.Heard.{behind_key, behind_weight, march_in, memory_in, content_in}
-use Rattle.chip_desc.specs.LineMachine.{memory_left, march_left, name_left, argument_left, KindLine}
+use Rattle.chip_desc.specs.inner.Heard.{behind_key, behind_weight, march_in, memory_in, content_in}
+use Rattle.chip_desc.specs.inner.LineMachine.{memory_left, march_left, name_left, argument_left, KindLine}
 use Rattle.chip_desc.specs.declared.line_place.Key.{Key}
 use Rattle.chip_desc.specs.declared.line_place.Key.TheVariants.{Chip, Name, Budget, Unit as OfUnit}
 use Rattle.chip_desc.proofs.FileBytes.{files_plain, file_parts}
 use Rattle.chip_desc.proofs.KindLines.{first_stops}
-use Rattle.bist_text.specs.LineGrammar.{after, space, gap, tail, Run, is_small}
+use Rattle.bist_text.specs.inner.LineGrammar.{after, Run, is_small}
+use Rattle.bist_text.specs.LineGrammar.{space, gap, tail}
 use Rattle.bist_text.proofs.Behind.{many_after, word_run}
 use Rattle.bist_text.proofs.LinePieces.{when_true, when_holds}
 use Rattle.bist_text.proofs.LineStops.{IsPlain, run_parts, run_of, Stops, gap_stops, tail_stops, run_stops, space_of_gap}

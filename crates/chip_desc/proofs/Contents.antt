@@ -14,11 +14,12 @@ use Rattle.memory_desc.proofs.ContentReads.{number_read}
 use Rattle.memory_desc.proofs.LineRefusals.{digits_plain}
 use Rattle.chip_desc.specs.Chips.{is_file}
 use Rattle.chip_desc.specs.ChipLines.{Content, version, name, budget, unit, kind_of, is_formed}
-use Rattle.chip_desc.specs.Heard.{behind_key, content_in, digits_in, said}
+use Rattle.chip_desc.specs.inner.Heard.{behind_key, content_in, digits_in, said}
 use Rattle.chip_desc.specs.declared.line_place.Key.{Key}
 use Rattle.chip_desc.proofs.ContentLines.{argument_there, content_there}
 use Rattle.chip_desc.proofs.LineReads.{text_said}
-use Rattle.bist_text.specs.LineGrammar.{after, gap, tail}
+use Rattle.bist_text.specs.inner.LineGrammar.{after}
+use Rattle.bist_text.specs.LineGrammar.{gap, tail}
 use Rattle.bist_text.proofs.Behind.{Has, Passes, passes_to, run_is}
 use Rattle.bist_text.proofs.LineStops.{tail_stops, gap_stops}
 

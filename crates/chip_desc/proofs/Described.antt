@@ -13,8 +13,8 @@ use Rattle.memory_desc.specs.Names.{is_name_byte, IsName}
 use Rattle.chip_desc.specs.Chips.{ChipDescription, UnitDescription, described_as, unit_of, IsChip, IsUnit}
 use Rattle.chip_desc.specs.ChipLines.{name, budget, kind_of, is_formed, Statement}
 use Rattle.chip_desc.specs.ChipTable.{is_key, first_of, is_heavier, is_out_of_range, is_outside, missing, unless_there, repeated, out_of_range, too_many, too_heavy, content_of, name_in, budget_in, name_said, budget_said, unit_in, units_said, first_refusal, refusal, described}
-use Rattle.chip_desc.specs.Heard.{behind_key, by_statements, checked, content_in, digits_in, said, statements, StandsAt}
-use Rattle.chip_desc.specs.Seeking.{heavier_than}
+use Rattle.chip_desc.specs.inner.Heard.{behind_key, by_statements, checked, content_in, digits_in, said, statements, StandsAt}
+use Rattle.chip_desc.specs.inner.Seeking.{heavier_than}
 use Rattle.chip_desc.specs.declared.chip.ChipUnit.{ChipUnit}
 use Rattle.chip_desc.specs.declared.fault.ChipField.{ChipField}
 use Rattle.chip_desc.specs.declared.fault.ChipField.TheVariants.{Name as NameField, Budget as BudgetField, Unit as UnitField}

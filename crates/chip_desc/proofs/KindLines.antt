@@ -7,8 +7,10 @@ use Rattle.std.specs.Prelude.{slice_get, nat_lt}
 use Rattle.bist_text.specs.declared.keywords.Spelled.{Spelled}
 use Rattle.bist_text.specs.declared.keywords.Spelled.TheVariants.{More, Whole}
 use Rattle.bist_text.specs.Grammar.{word, many, is_blank, Continues, are_bytes}
-use Rattle.bist_text.specs.Keywords.{Word, stands, letters_of, seek, spell, left, are_apart}
-use Rattle.bist_text.specs.Machine.{Holds, Follows}
+use Rattle.bist_text.specs.Keywords.{Word, letters_of, seek, spell}
+use Rattle.bist_text.specs.inner.Keywords.{stands, left, are_apart}
+use Rattle.bist_text.specs.Machine.{Holds}
+use Rattle.bist_text.specs.inner.Machine.{Follows}
 use Rattle.bist_text.proofs.Bytes.{are_bytes-append}
 use Rattle.bist_text.proofs.KeywordLaws.{IsOf, is_at, is_passed, stands_all, first_law, spell_law, spell_ends, spell_alive}
 use Rattle.bist_text.proofs.Pieces.{also, stay, same, never}
@@ -18,13 +20,14 @@ use Rattle.memory_desc.proofs.LineStops.{letters_plain}
 use Rattle.chip_desc.specs.Chips.{is_file_byte}
 use Rattle.chip_desc.specs.ChipLines.{key_text}
 use Rattle.chip_desc.specs.ChipFaults.{may_stand}
-use Rattle.chip_desc.specs.LineMachine.{keys_in, keys_of, ended, argument_begun, number_ended, spelling, step, value, memory_left, march_left, name_left, behind_number, argument_left, Keyed, KindLine, rest}
+use Rattle.chip_desc.specs.inner.LineMachine.{keys_in, keys_of, ended, argument_begun, number_ended, spelling, step, value, memory_left, march_left, name_left, behind_number, argument_left, Keyed, KindLine, rest}
 use Rattle.chip_desc.specs.declared.line_place.Key.{Key}
 use Rattle.chip_desc.specs.declared.line_place.Key.TheVariants.{Chip, Name, Budget, Unit as OfUnit}
 use Rattle.chip_desc.specs.declared.line_place.Place.{Place}
 use Rattle.chip_desc.specs.declared.line_place.Place.TheVariants.{Begin, Remark, Letters, Named, Wanted, Number, Name as InName, Weighed, March, Marched, Memory, End}
 use Rattle.chip_desc.proofs.FileBytes.{files_plain}
-use Rattle.bist_text.specs.LineGrammar.{space, gap, tail, Run, some}
+use Rattle.bist_text.specs.LineGrammar.{space, gap, tail}
+use Rattle.bist_text.specs.inner.LineGrammar.{Run, some}
 use Rattle.bist_text.proofs.LinePieces.{many_on, many_off, at_bool, when_true, when_false, space_on, space_off, gap_on, gap_off, tail_blank, tail_other, tail_never, positive, run_on, run_off, run_none}
 use Rattle.bist_text.proofs.LineStops.{plain_blank, no_tail, Stops, gap_stops, tail_stops, run_stops}
 use Rattle.bist_text.proofs.RunPieces.{some_on, some_off}

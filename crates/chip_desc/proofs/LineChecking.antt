@@ -5,7 +5,7 @@ use Rattle.bist_text.specs.Lines.{TextLine}
 use Rattle.bist_text.specs.Machine.{Outcome, read, unexpected, truncated}
 use Rattle.bist_text.specs.Numbers.{IsNumber}
 use Rattle.chip_desc.specs.ChipLines.{version}
-use Rattle.chip_desc.specs.Heard.{answer, checked, digits_in, heard, later_refusal, first_lines_refusal, line_refusal, lines_refusal, opening, or_later, turned}
+use Rattle.chip_desc.specs.inner.Heard.{answer, checked, digits_in, heard, later_refusal, first_lines_refusal, line_refusal, lines_refusal, opening, or_later, turned}
 use Rattle.chip_desc.specs.declared.fault.ChipFault.{ChipFault}
 use Rattle.chip_desc.specs.declared.fault.ChipFault.TheVariants.{OtherVersion}
 use Rattle.chip_desc.specs.declared.line_place.Key.{Key}

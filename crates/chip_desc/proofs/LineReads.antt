@@ -2,12 +2,13 @@
 use Rattle.std.proofs.Common.{◌≡◌, ℕ, ◌==◌, Bool, true, false, if◌then◌else◌, List, length, Option, Some, None, Result, Ok, Err, refl, inl, inr, sym, ap, subst, ◌∙◌}
 use Rattle.std.specs.Str.Parse.{digits_value}
 use Rattle.bist_text.specs.Lines.{TextLine}
-use Rattle.bist_text.specs.Machine.{Outcome, read, unexpected, truncated, IsExact}
+use Rattle.bist_text.specs.Machine.{Outcome, read, unexpected, truncated}
+use Rattle.bist_text.specs.inner.Machine.{IsExact}
 use Rattle.bist_text.proofs.Settled.{scan_exact}
 use Rattle.chip_desc.specs.ChipFaults.{may_stand, LineOf, IsLineFault}
 use Rattle.chip_desc.specs.ChipLines.{Content, version, kind_of, ContentText, LineText}
-use Rattle.chip_desc.specs.Heard.{answer, checked_by, content_heard, content_in, digits_in, heard, kind_heard, opened_by, opening, refusal_at, said}
-use Rattle.chip_desc.specs.LineMachine.{step, value, rest}
+use Rattle.chip_desc.specs.inner.Heard.{answer, checked_by, content_heard, content_in, digits_in, heard, kind_heard, opened_by, opening, refusal_at, said}
+use Rattle.chip_desc.specs.inner.LineMachine.{step, value, rest}
 use Rattle.chip_desc.specs.declared.fault.ChipFault.{ChipFault}
 use Rattle.chip_desc.specs.declared.fault.ChipFault.TheVariants.{Unexpected, Truncated, OtherVersion}
 use Rattle.chip_desc.specs.declared.line_place.Key.{Key}

@@ -9,7 +9,7 @@ use Rattle.chip_desc.specs.Chips.{ChipDescription}
 use Rattle.chip_desc.specs.ChipFaults.{AreRefused, IsLaterFault}
 use Rattle.chip_desc.specs.ChipLines.{Content, version, kind_of, ContentText, LineText, Statement, stated, Say, is_version_one, are_of_version_one, AreStatements}
 use Rattle.chip_desc.specs.ChipTable.{Reads, refusal, described}
-use Rattle.chip_desc.specs.Heard.{answer, by_lines, by_statements, checked_by, first_lines_refusal, heard, later_refusal, line_refusal, opened_by, opening, or_later, reading, said, statements, turned}
+use Rattle.chip_desc.specs.inner.Heard.{answer, by_lines, by_statements, checked_by, first_lines_refusal, heard, later_refusal, line_refusal, opened_by, opening, or_later, reading, said, statements, turned}
 use Rattle.chip_desc.specs.declared.fault.ChipFault.{ChipFault}
 use Rattle.chip_desc.specs.declared.fault.ChipFault.TheVariants.{Truncated, OtherVersion}
 use Rattle.chip_desc.specs.declared.line_place.Key.{Key}

@@ -10,8 +10,8 @@ use Rattle.bist_text.specs.ReservedWords.{is_among, reserved_words}
 use Rattle.memory_desc.specs.Names.{is_name_byte}
 use Rattle.chip_desc.specs.ChipLines.{Content, kind_of, Statement, stated}
 use Rattle.chip_desc.specs.ChipTable.{is_key, is_heavier, is_out_of_range, is_outside}
-use Rattle.chip_desc.specs.Heard.{behind_key, content_in, digits_in, heard, kind_heard, march_in, memory_in, said, statements, StandsAt}
-use Rattle.chip_desc.specs.Seeking.{is_said}
+use Rattle.chip_desc.specs.inner.Heard.{behind_key, content_in, digits_in, heard, kind_heard, march_in, memory_in, said, statements, StandsAt}
+use Rattle.chip_desc.specs.inner.Seeking.{is_said}
 use Rattle.chip_desc.specs.declared.line_place.Key.{Key}
 use Rattle.chip_desc.specs.declared.line_place.Key.TheVariants.{Chip, Name, Budget, Unit as OfUnit}
 use Rattle.chip_desc.proofs.Contents.{content_is, number_is}

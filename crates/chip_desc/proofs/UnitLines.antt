@@ -11,7 +11,7 @@ use Rattle.memory_desc.specs.LineText.{is_number}
 use Rattle.chip_desc.specs.Chips.{is_file, IsUnit}
 use Rattle.chip_desc.specs.ChipLines.{Content, version, name, budget, unit, kind_of, is_formed, Statement, stated}
 use Rattle.chip_desc.specs.ChipTable.{at_line, is_key, is_heavier, is_out_of_range, is_outside, unit_in, units_said}
-use Rattle.chip_desc.specs.Heard.{content_in, digits_in, march_in, memory_in, said, statements}
+use Rattle.chip_desc.specs.inner.Heard.{content_in, digits_in, march_in, memory_in, said, statements}
 use Rattle.chip_desc.specs.declared.fault.ChipFault.{ChipFault}
 use Rattle.chip_desc.specs.declared.line_place.Key.TheVariants.{Unit as OfUnit}
 use Rattle.chip_desc.proofs.Contents.{content_is, formed_said, number_is}

@@ -2,6 +2,4 @@ pub mod Chips
 pub mod ChipLines
 pub mod ChipFaults
 pub mod ChipTable
-pub mod LineMachine
-pub mod Heard
-pub mod Seeking
+pub mod inner

@@ -1,12 +1,11 @@
 //! What a content line says, once it is known to be one.
-
-ghost use Rattle.std.specs.Prelude.{◌≡◌};
+ ghost use Rattle.std.specs.Prelude.{◌≡◌};
 ghost use Rattle.std.specs.List.{take_while};
 ghost use Rattle.std.specs.Str.Parse.{digits_value};
 ghost use Rattle.bist_text.specs.Cursors.{left_of};
 ghost use Rattle.bist_text.specs.Numbers.{IsNumber};
 ghost use Rattle.memory_desc.specs.Names.{is_name_byte};
-ghost use Rattle.chip_desc.specs.Heard.{behind_key, digits_in, behind_weight, march_in, memory_in};
+ghost use Rattle.chip_desc.specs.inner.Heard.{behind_key, digits_in, behind_weight, march_in, memory_in};
 
 use crate::byte_sets::{BLANKS, DIGITS, FILE_BYTES, LETTERS, NAME_BYTES};
 use bist_text::{Cursor, decimal};

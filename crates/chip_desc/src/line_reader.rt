@@ -1,9 +1,8 @@
 //! The reader of one line.
-
-ghost use Rattle.std.specs.Prelude.{◌≡◌, true};
+ ghost use Rattle.std.specs.Prelude.{◌≡◌, true};
 ghost use Rattle.bist_text.specs.Machine.{scan};
-ghost use Rattle.chip_desc.specs.LineMachine.{step, value};
-ghost use Rattle.chip_desc.specs.Heard.{answer, heard, kind_heard};
+ghost use Rattle.chip_desc.specs.inner.LineMachine.{step, value};
+ghost use Rattle.chip_desc.specs.inner.Heard.{answer, heard, kind_heard};
 
 use crate::line_place::{Key, Place, kind_at, place_after};
 

@@ -1,11 +1,10 @@
 //! The reader of chip files.
-
-ghost use Rattle.std.specs.Prelude.{◌≡◌, ◌↔◌, ◌≤◌, ◌<◌, ◌^◌, ℕ, List, None, Ok, Err, Result, length};
+ ghost use Rattle.std.specs.Prelude.{◌≡◌, ◌↔◌, ◌≤◌, ◌<◌, ◌^◌, ℕ, List, None, Ok, Err, Result, length};
 ghost use Rattle.bist_text.specs.Lines.{text_lines};
 ghost use Rattle.memory_desc.specs.Names.{IsName};
 ghost use Rattle.chip_desc.specs.Chips.{ChipDescription, IsChip};
 ghost use Rattle.chip_desc.specs.ChipTable.{Reads, refusal, described};
-ghost use Rattle.chip_desc.specs.Heard.{by_statements, statements, reading};
+ghost use Rattle.chip_desc.specs.inner.Heard.{by_statements, statements, reading};
 ghost use Rattle.chip_desc.specs.declared.fault.ChipFault.{ChipFault};
 
 use crate::chip::ChipDesc;

@@ -1,12 +1,11 @@
 //! Searches in the lines of a text.
-
-ghost use Rattle.std.specs.Prelude.{◌≡◌, ◌||◌, nat_lt, length, Option, None, Some, find};
+ ghost use Rattle.std.specs.Prelude.{◌≡◌, ◌||◌, nat_lt, length, Option, None, Some, find};
 ghost use Rattle.bist_text.specs.ReservedWords.{is_among, reserved_words};
 ghost use Rattle.bist_text.specs.Lines.{text_lines};
 ghost use Rattle.chip_desc.specs.ChipLines.{Content, Statement, kind_of};
 ghost use Rattle.chip_desc.specs.ChipTable.{first_of, is_heavier, is_other, is_out_of_range, is_outside, is_repeat, repeated, out_of_range};
-ghost use Rattle.chip_desc.specs.Heard.{checked, said, statements, StandsAt};
-ghost use Rattle.chip_desc.specs.Seeking.{is_said, is_sought, GivesField, heavier_than};
+ghost use Rattle.chip_desc.specs.inner.Heard.{checked, said, statements, StandsAt};
+ghost use Rattle.chip_desc.specs.inner.Seeking.{is_said, is_sought, GivesField, heavier_than};
 
 use crate::content::{march_of, memory_of, name_of, number_of};
 use crate::fault::{ChipFault, ChipField};

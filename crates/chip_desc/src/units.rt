@@ -1,12 +1,11 @@
 //! The units of a text whose lines are all lines of a chip file.
-
-ghost use Rattle.std.specs.Prelude.{◌≡◌, ◌≤◌, ◌∷◌, [], length, false, true, None, Some, Ok, Err, MatchResult};
+ ghost use Rattle.std.specs.Prelude.{◌≡◌, ◌≤◌, ◌∷◌, [], length, false, true, None, Some, Ok, Err, MatchResult};
 ghost use Rattle.bist_text.specs.Lines.{text_lines};
 ghost use Rattle.chip_desc.specs.Chips.{is_file, unit_of};
 ghost use Rattle.chip_desc.specs.ChipLines.{Content, kind_of};
 ghost use Rattle.chip_desc.specs.ChipTable.{is_out_of_range, out_of_range, unit_in};
-ghost use Rattle.chip_desc.specs.Heard.{said, statements};
-ghost use Rattle.chip_desc.specs.Seeking.{GivesUnits};
+ghost use Rattle.chip_desc.specs.inner.Heard.{said, statements};
+ghost use Rattle.chip_desc.specs.inner.Seeking.{GivesUnits};
 
 use crate::chip::ChipUnit;
 use crate::content::{march_of, memory_of, number_of};

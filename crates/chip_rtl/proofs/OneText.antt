@@ -1,14 +1,15 @@
 -- Tokens are one module, and bytes are one list of tokens, so bytes are one chip.
 use Rattle.std.proofs.Common.{◌≡◌, ℕ, List, [], ◌∷◌, Option, Some, None, sym, ap, ◌∙◌, subst}
 use Rattle.bist_text.specs.Machine.{Holds}
-use Rattle.bist_text.specs.Lexed.{emitted}
+use Rattle.bist_text.specs.inner.Lexed.{emitted}
 use Rattle.verilog_tree.specs.declared.tokens.Within.TheVariants.{Between}
 use Rattle.verilog_tree.specs.Plain.{ModuleTree}
 use Rattle.verilog_tree.specs.Tokens.{Token}
 use Rattle.verilog_tree.specs.Grammar.{Limit, Parenthesised}
 use Rattle.verilog_tree.specs.Spells.{bounded}
-use Rattle.verilog_text.specs.Following.{rest}
-use Rattle.verilog_text.specs.Lexing.{Lexer, InGap, lex, last, unread}
+use Rattle.verilog_text.specs.inner.Following.{rest}
+use Rattle.verilog_text.specs.Lexing.{Lexer, InGap, lex, last}
+use Rattle.verilog_text.specs.inner.Lexing.{unread}
 use Rattle.verilog_text.specs.Places.{State, AtItem, Begin}
 use Rattle.verilog_text.specs.Steps.{step}
 use Rattle.verilog_text.proofs.GrammarPieces.{begins_file}

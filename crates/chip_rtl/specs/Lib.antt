@@ -3,7 +3,6 @@ pub mod ChipGrammar
 pub mod ChipLaws
 pub mod ChipTest
 pub mod ChipTree
-pub mod Parts
 pub mod PrintedLaws
 pub mod PrintedTop
 pub mod ReadingLaws
@@ -12,3 +11,4 @@ pub mod Together
 pub mod TopFits
 pub mod TopSeen
 pub mod Tops
+pub mod inner

@@ -12,7 +12,8 @@ use Rattle.controller.specs.declared.stage.Stage.{Stage}
 use Rattle.march_core.specs.March.{MarchElement, pause, sweep, order_of, is_pause, IsMarch}
 use Rattle.memory_desc.specs.Descriptions.{Description, IsMemory}
 use Rattle.word_march.specs.PortRule.{PortRule}
-use Rattle.controller.specs.Places.{IsPlace, word_at, visits_of}
+use Rattle.controller.specs.Places.{IsPlace, word_at}
+use Rattle.controller.specs.inner.Places.{visits_of}
 use Rattle.microcode.specs.Places.{index_in}
 use Rattle.march_core.specs.March.{element_at}
 use Rattle.microcode.specs.Places.{first_place}
@@ -20,8 +21,10 @@ use Rattle.controller.specs.Machine.{blank, Control, outputs, stage_of, pushed, 
 use Rattle.controller.specs.Standing.{Stands}
 use Rattle.microcode.specs.Code.{goes_down, assemble}
 use Rattle.microcode.specs.Running.{digits}
-use Rattle.controller.specs.Running.{IsAt, IsBehind}
-use Rattle.controller.specs.States.{State, control_of, IsKnown, IsControl, IsTurned, stage_from, StandsIn, Answers, IsExpected}
+use Rattle.controller.specs.Running.{IsAt}
+use Rattle.controller.specs.inner.Running.{IsBehind}
+use Rattle.controller.specs.States.{State, control_of, IsKnown, IsControl, StandsIn, IsExpected}
+use Rattle.controller.specs.inner.States.{IsTurned, stage_from, Answers}
 use Rattle.controller.proofs.Turn.{turns}
 use Rattle.controller.proofs.Slots.{start}
 use Rattle.controller.proofs.Stages.{length-pushed}

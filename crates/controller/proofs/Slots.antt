@@ -16,7 +16,7 @@ use Rattle.march_core.specs.Runs.{up}
 use Rattle.word_march.specs.Commands.{word_step, run_in, word_steps, port_op, spread, slots}
 use Rattle.microcode.specs.Rows.{rows}
 use Rattle.microcode.specs.Code.{opers_of}
-use Rattle.controller.specs.Places.{visits_of, element_slots, run_slots, all_slots}
+use Rattle.controller.specs.inner.Places.{visits_of, element_slots, run_slots, all_slots}
 use Rattle.microcode.specs.Places.{index_in}
 use Rattle.controller.specs.Standing.{Starts}
 use Rattle.microcode.proofs.Stepped.{address_is, element_is as element_found}

@@ -8,7 +8,8 @@ use Rattle.microcode.specs.Code.{opers_at, instr_of}
 use Rattle.microcode.specs.Places.{Place, IsExtent, first_place}
 use Rattle.microcode.proofs.Turn.{turns as turns_within, all_starts as all_starts_within, visits_some as visits_some_within}
 use Rattle.microcode.proofs.Behind.{within as within_code, is_instr as is_instr_within}
-use Rattle.controller.specs.Places.{extent_of, visits_at, IsPlace, slot_at, all_slots, rest, Turns}
+use Rattle.controller.specs.Places.{extent_of, IsPlace, slot_at, rest, Turns}
+use Rattle.controller.specs.inner.Places.{visits_at, all_slots}
 use Rattle.controller.specs.Running.{IsAt}
 
 pub extent_is : (d : Description) → IsMemory d → IsExtent (extent_of d)

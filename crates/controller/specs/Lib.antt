@@ -3,3 +3,4 @@ pub mod Machine
 pub mod Standing
 pub mod Running
 pub mod States
+pub mod inner

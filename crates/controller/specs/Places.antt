@@ -10,19 +10,13 @@ use Rattle.memory_desc.specs.Descriptions.{Description}
 use Rattle.word_march.specs.declared.operations.PortOp.{PortOp}
 use Rattle.march_core.specs.Runs.{upward, is_write, data_value}
 use Rattle.microcode.specs.declared.place.Extent.{Extent}
-use Rattle.microcode.specs.Places.{Place, Lasts, index_in, visits_of as visits_in, visits_at as visits_within, IsPlace as IsWithin, lasts_at as lasts_within, next_place as next_within, is_last as is_last_within, element_slots as element_rows, run_slots as run_rows, all_slots as all_rows, rest as rest_within, Turns as TurnsWithin}
+use Rattle.microcode.specs.Places.{Place, index_in, IsPlace as IsWithin, next_place as next_within, is_last as is_last_within, rest as rest_within, Turns as TurnsWithin}
 
 -- an element is done at each word, a pause takes some cycles, and the march runs in each background
 abbrev pub extent_of : Description → Extent
 extent_of d = record { words = d.words; pause = d.pause; runs = length d.backgrounds }
 
 -- ---- the march by numbers
-
-abbrev pub visits_of : Description → MarchElement → ℕ
-visits_of d x = visits_in (extent_of d) x
-
-abbrev pub visits_at : List MarchElement → Description → ℕ → ℕ
-visits_at march d e = visits_within march (extent_of d) e
 
 -- the operation; a read of 0 where there is none
 abbrev pub op_at : List MarchElement → ℕ → ℕ → Op
@@ -52,9 +46,6 @@ slot_at march d p = if is_pause (element_at march p.element) then None else Some
 abbrev pub IsPlace : List MarchElement → Description → Place → Type 0
 IsPlace march d p = IsWithin march (extent_of d) p
 
-abbrev pub lasts_at : List MarchElement → Description → Place → Lasts
-lasts_at march d p = lasts_within march (extent_of d) p
-
 abbrev pub next_place : List MarchElement → Description → Place → Place
 next_place march d p = next_within march (extent_of d) p
 
@@ -62,15 +53,6 @@ abbrev pub is_last : List MarchElement → Description → Place → Bool
 is_last march d p = is_last_within march (extent_of d) p
 
 -- ---- what the port does in the run, and what is left of it from a place on
-
-abbrev pub element_slots : List MarchElement → Description → ℕ → ℕ → List (Option PortOp)
-element_slots march d b e = element_rows (slot_at march d) march (extent_of d) b e
-
-abbrev pub run_slots : List MarchElement → Description → ℕ → List (Option PortOp)
-run_slots march d b = run_rows (slot_at march d) march (extent_of d) b
-
-abbrev pub all_slots : List MarchElement → Description → List (Option PortOp)
-all_slots march d = all_rows (slot_at march d) march (extent_of d)
 
 abbrev pub rest : List MarchElement → Description → Place → List (Option PortOp)
 rest march d p = rest_within (slot_at march d) march (extent_of d) p

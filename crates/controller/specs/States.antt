@@ -1,5 +1,5 @@
 -- Public. The controller as contracts see it, and what it mirrors.
-use Rattle.std.specs.Prelude.{◌≡◌, ◌≢◌, ℕ, ◌+◌, ◌<◌, Bool, true, false, if◌then◌else◌, not, ◌&&◌, List, Option, Some, None, length, slice_get}
+use Rattle.std.specs.Prelude.{◌≡◌, ◌≢◌, ℕ, ◌+◌, ◌<◌, Bool, false, List, Option, Some, None, length, slice_get}
 use Rattle.std.specs.List.{AllByRecursion}
 use Rattle.word_march.specs.declared.operations.PortOp.{PortOp}
 use Rattle.word_march.specs.Commands.{port_ops}
@@ -10,7 +10,6 @@ use Rattle.controller.specs.declared.stage.Stage.{Stage}
 use Rattle.controller.specs.declared.control.Ports.{Ports}
 use Rattle.march_core.specs.March.{MarchElement}
 use Rattle.memory_desc.specs.Descriptions.{Description}
-use Rattle.controller.specs.Places.{next_place, is_last}
 use Rattle.controller.specs.Machine.{Control}
 use Rattle.controller.specs.Standing.{Stands}
 use Rattle.microcode.specs.Running.{digits}
@@ -41,16 +40,6 @@ pub record IsControl (s : State) : Type 0 where
   pub count : length s.stages + 1 ≡ s.memory.latency
   pub known : AllByRecursion (IsKnown s.memory) s.stages
 
--- the place and whether the run goes on, a cycle later
-pub record IsTurned (march : List MarchElement) (code : List Instr) (d : Description) (p : CodePlace) (run : Bool) (q : CodePlace) (goes_on : Bool) : Type 0 where
-  pub there : IsAt march code d q
-  pub place : digits q ≡ (if run then next_place march d (digits p) else digits p)
-  pub run_is : goes_on ≡ (run && not (is_last march d (digits p)))
-
--- what an instruction leaves for the comparison
-abbrev pub stage_from : Instr → Bool → ℕ → Stage
-stage_from i run back = record { reads = (run && not i.pause) && not i.write; over = not run; value = i.bit; back = back }
-
 -- the controller of a march's code and a memory stands in cycle k+1 of the run, where `returned` are the words on `rdata`, by
 -- cycle
 pub record StandsIn (march : List MarchElement) (d : Description) (s : State) (returned : ℕ → ℕ) (k : ℕ) : Type 0 where
@@ -60,15 +49,6 @@ pub record StandsIn (march : List MarchElement) (d : Description) (s : State) (r
 
 abbrev pub values : Ports → PortValues
 values p = record { en = p.en; we = p.we; addr = p.addr; wdata = p.wdata; done = p.done; fail = p.fail }
-
--- the same outputs, as far as anyone looks
-pub record Answers (q e : PortValues) : Type 0 where
-  pub en : e.en ≡ q.en
-  pub we : q.en ≡ true → e.we ≡ q.we
-  pub addr : q.en ≡ true → e.addr ≡ q.addr
-  pub wdata : q.en ≡ true → e.wdata ≡ q.wdata
-  pub done : e.done ≡ q.done
-  pub fail : e.fail ≡ q.fail
 
 -- the read whose answer stands on `rdata` in cycle t expects this word; none where no read is answered then
 abbrev pub IsExpected : List MarchElement → Description → ℕ → Option ℕ → Type 0

@@ -6,7 +6,8 @@ ghost use Rattle.controller.specs.Machine.{blank, compared};
 ghost use Rattle.microcode.specs.Code.{assemble, IsCode};
 ghost use Rattle.controller.specs.Running.{IsAt, IsSomewhere};
 ghost use Rattle.word_march.specs.PortRule.{PortRule};
-ghost use Rattle.controller.specs.States.{IsTurned, stage_from, StandsIn, values, IsExpected};
+ghost use Rattle.controller.specs.inner.States.{IsTurned, stage_from};
+ghost use Rattle.controller.specs.States.{StandsIn, values, IsExpected};
 
 use crate::place::{extent_of, word_at};
 use crate::stage::{Stage, push_stage};

@@ -10,7 +10,7 @@ use Rattle.fault_core.specs.Cells.{cell, close_of, FitsPlace, FitsAgg}
 use Rattle.march_core.specs.March.{MarchElement, IsMarch, all_ops}
 use Rattle.march_core.specs.Visits.{Direction, addresses, visits}
 use Rattle.march_core.proofs.Consistent.{consistent_scan, last_after}
-use Rattle.array_sim.specs.Run.{Outcome, run_of, outcome_of}
+use Rattle.array_sim.specs.inner.Run.{Outcome, run_of, outcome_of}
 use Rattle.array_sim.specs.Detection.{DetectsAt}
 use Rattle.array_sim.proofs.Differing.{differs_unless, all_right}
 use Rattle.cell_machine.specs.declared.pair.Pair.{Pair}

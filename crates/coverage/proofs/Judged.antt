@@ -6,7 +6,7 @@ use Rattle.fault_core.specs.Primitive.{Primitive, IsPrimitive}
 use Rattle.fault_core.specs.Cells.{close_of}
 use Rattle.march_core.specs.March.{MarchElement, IsMarch, order_of}
 use Rattle.march_core.specs.Visits.{Direction, FitsWord, is_direction, allows, directions_of, visits}
-use Rattle.array_sim.specs.Run.{outcome_of}
+use Rattle.array_sim.specs.inner.Run.{outcome_of}
 use Rattle.array_sim.specs.Detection.{DetectsAt, Detects}
 use Rattle.array_sim.proofs.Differing.{differs_unless, all_right}
 use Rattle.cell_machine.specs.Pairs.{pair_close}

@@ -7,8 +7,10 @@ use Rattle.fault_core.specs.Primitive.{Primitive, IsPrimitive, has_aggressor}
 use Rattle.fault_core.specs.Cells.{FitsPlace, FitsAgg, close_of}
 use Rattle.march_core.specs.March.{MarchElement, IsMarch}
 use Rattle.array_sim.specs.Detection.{DetectsAt, Detects}
-use Rattle.cell_machine.specs.Pairs.{pair_close, IsClosed}
-use Rattle.cell_machine.specs.Seen.{pair_at, SeesPair}
+use Rattle.cell_machine.specs.Pairs.{pair_close}
+use Rattle.cell_machine.specs.inner.Pairs.{IsClosed}
+use Rattle.cell_machine.specs.Seen.{pair_at}
+use Rattle.cell_machine.specs.inner.Seen.{SeesPair}
 use Rattle.cell_machine.proofs.Projection.{pair_at-close_of, length-close_of}
 use Rattle.cell_machine.proofs.Closing.{pair_close-closed}
 use Rattle.pair_tracker.proofs.Machines.{machine_of, ShowsClosed, laws_hold}

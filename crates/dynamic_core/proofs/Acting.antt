@@ -6,7 +6,7 @@ use Rattle.fault_core.specs.declared.primitive.Act.{Act}
 use Rattle.fault_core.specs.declared.primitive.Act.TheVariants.{Write, Read, Pause}
 use Rattle.dynamic_core.specs.Primitive.{TwoActs, DynamicSense, AreAccesses}
 use Rattle.dynamic_core.specs.Table.{acting_senses}
-use Rattle.dynamic_core.specs.Testing.{is_access}
+use Rattle.dynamic_core.specs.inner.Testing.{is_access}
 
 abbrev has_accesses : Option TwoActs → Bool
 has_accesses None = false

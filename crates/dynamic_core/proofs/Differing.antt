@@ -9,9 +9,11 @@ use Rattle.array_sim.specs.Run.{act_of}
 use Rattle.array_sim.specs.Differing.{left_behind}
 use Rattle.array_sim.proofs.Differing.{first_of, first_found, left_at, left_first, all_behind}
 use Rattle.dynamic_core.specs.Primitive.{DynamicPrimitive}
-use Rattle.dynamic_core.specs.Dynamic.{Held, held_as, dyn_step, after_pause, Ending, Differs, dyn_run, miss_of, held_of}
+use Rattle.dynamic_core.specs.Dynamic.{Held, held_as, dyn_step, after_pause}
+use Rattle.dynamic_core.specs.inner.Dynamic.{Ending, Differs, dyn_run, miss_of, held_of}
 use Rattle.dynamic_core.specs.Differing.{held_after, is_wrong_visit, SomeDynDiffers, IsFirstDynMiss, StopsAtDyn}
-use Rattle.dynamic_core.specs.Detecting.{ending_of, IsCaughtDyn}
+use Rattle.dynamic_core.specs.inner.Detecting.{ending_of}
+use Rattle.dynamic_core.specs.Detecting.{IsCaughtDyn}
 
 miss_is : (p : DynamicPrimitive) (at : Places) (h : Held) (steps : List MarchStep) → miss_of (dyn_run p at h steps) ≡ first_of (held_after p at) (is_wrong_visit p at) h steps
 miss_is p at h [] = refl

@@ -13,14 +13,15 @@ use Rattle.fault_syntax.specs.declared.fault.FaultFault.TheVariants.{Unexpected,
 use Rattle.fault_syntax.specs.declared.words.NameSet.{NameSet}
 use Rattle.fault_syntax.specs.Brief.{read_parts_of, read_item_of}
 use Rattle.bist_text.specs.Lines.{TextLine}
-use Rattle.fault_syntax.specs.LineByLine.{HasNoRoom, IsFaultOn}
+use Rattle.fault_syntax.specs.inner.LineByLine.{HasNoRoom}
+use Rattle.fault_syntax.specs.LineByLine.{IsFaultOn}
 use Rattle.fault_syntax.specs.LineReading.{IsTextFault}
 use Rattle.fault_syntax.specs.ListText.{Item as ListedItem, Primitive as OnePrimitive, Named, LineOf}
 use Rattle.fault_syntax.specs.PrimText.{PrimParts}
 use Rattle.dynamic_core.specs.declared.item.Item.{Item}
 use Rattle.dynamic_core.specs.declared.item.Item.TheVariants.{Plain}
 use Rattle.dynamic_core.specs.ItemParts.{IsItemIn, RefusesOn, items_of}
-use Rattle.dynamic_core.specs.Reading.{NotAdded}
+use Rattle.dynamic_core.specs.inner.Reading.{NotAdded}
 
 -- a primitive for which there is no room
 pub one_not_added : (set : NameSet) (v : Option ListedItem) (parts : ReadParts) (item : Item) (line : ℕ) (old : List Item) (r : Result (Unit {0}) FaultFault)

@@ -6,7 +6,7 @@ use Rattle.fault_core.specs.Primitive.{same_bit}
 use Rattle.fault_core.specs.Cells.{same_act}
 use Rattle.fault_core.proofs.Tests.{at_all_bits, at_all_acts, at_all_options, bit_passes, act_passes, option_passes, same_options, same_bit-equal, same_act-equal, same_options-equal, FourParts, at_all_four, four_pass, same_four, same_four-equal, same_four-refl}
 use Rattle.dynamic_core.specs.Primitive.{TwoActs, DynamicSense, DynamicPrimitive, IsDynamic, aggressor_acts}
-use Rattle.dynamic_core.specs.Testing.{fault_by_acts}
+use Rattle.dynamic_core.specs.inner.Testing.{fault_by_acts}
 
 abbrev two : Act → Act → TwoActs
 two first second = record { first = first; second = second }

@@ -20,7 +20,8 @@ use Rattle.fault_syntax.specs.PrimText.{SenseText, PrimParts, ws, bit_text, answ
 use Rattle.fault_syntax.proofs.PrintLaws.{effect_on}
 use Rattle.dynamic_core.specs.declared.item.Item.TheVariants.{Dyn}
 use Rattle.dynamic_core.specs.ItemParts.{AreActs, IsDynamicAggressor, StandsForDynamic}
-use Rattle.dynamic_core.specs.Items.{BringAll, ReadsItems}
+use Rattle.dynamic_core.specs.inner.Items.{BringAll}
+use Rattle.dynamic_core.specs.Items.{ReadsItems}
 use Rattle.dynamic_core.specs.Primitive.{TwoActs, DynamicSense, DynamicPrimitive, IsDynamic, left_by}
 use Rattle.dynamic_core.specs.Printed.{acts_text, dynamic_sense_text, dynamic_aggressor_text, printed_dynamic}
 use Rattle.dynamic_core.proofs.Parts.{parts_pass, dynamic_passes}

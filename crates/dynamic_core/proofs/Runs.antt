@@ -7,10 +7,12 @@ use Rattle.march_core.specs.Visits.{MarchStep, pausing, visiting, Direction, cel
 use Rattle.march_core.specs.declared.visit.Miss.{Miss}
 use Rattle.march_core.specs.Operation.{is_wrong_of}
 use Rattle.array_sim.specs.Run.{act_of}
-use Rattle.march_core.specs.Addresses.{address_at, steps_of}
+use Rattle.march_core.specs.Addresses.{address_at}
+use Rattle.march_core.specs.inner.Addresses.{steps_of}
 use Rattle.array_sim.proofs.Runs.{visits_rest, visits_rest_more, addresses_past, march_rest, march_rest_more}
 use Rattle.dynamic_core.specs.Primitive.{DynamicPrimitive}
-use Rattle.dynamic_core.specs.Dynamic.{Held, dyn_step, dyn_answer, after_pause, Ending, Differs, Ends, dyn_run, miss_of, held_of, ending_as}
+use Rattle.dynamic_core.specs.Dynamic.{Held, dyn_step, dyn_answer, after_pause}
+use Rattle.dynamic_core.specs.inner.Dynamic.{Ending, Differs, Ends, dyn_run, miss_of, held_of, ending_as}
 
 -- one part of a run behind another
 abbrev pub then_run : Ending → (Held → Ending) → Ending

@@ -22,7 +22,7 @@ use Rattle.dynamic_core.specs.declared.item.Item.{Item}
 use Rattle.dynamic_core.specs.declared.item.Item.TheVariants.{Plain, Dyn}
 use Rattle.dynamic_core.specs.ItemParts.{IsItemIn, RefusesOn, BringsIn, items_of}
 use Rattle.dynamic_core.specs.Items.{ReadsIn}
-use Rattle.dynamic_core.specs.Reading.{static_of, statics_of}
+use Rattle.dynamic_core.specs.inner.Reading.{static_of, statics_of}
 
 -- what holds wherever a text begins behind blanks
 behind_blanks : (P : Type 0) (K : List ℕ → Type 0) → ((b : List ℕ) → K b → P) → (b : List ℕ) → many is_blank K b → P

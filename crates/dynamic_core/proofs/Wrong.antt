@@ -4,7 +4,8 @@ use Rattle.fault_core.specs.declared.primitive.Act.{Act}
 use Rattle.fault_core.specs.declared.primitive.Act.TheVariants.{Write, Read, Pause}
 use Rattle.fault_core.specs.Primitive.{same_bit}
 use Rattle.dynamic_core.specs.Primitive.{TwoActs, DynamicSense, AreAccesses, IsDynamic, aggressor_acts, left_by}
-use Rattle.dynamic_core.specs.Testing.{HasTwo, two_acts, acts_in, is_access, fault_by_second, fault_by_acts}
+use Rattle.dynamic_core.specs.Testing.{HasTwo, two_acts, acts_in}
+use Rattle.dynamic_core.specs.inner.Testing.{is_access, fault_by_second, fault_by_acts}
 use Rattle.dynamic_core.proofs.Parts.{passes_dynamic}
 
 -- the acts of an array

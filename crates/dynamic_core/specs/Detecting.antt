@@ -5,7 +5,7 @@ use Rattle.march_core.specs.March.{MarchElement}
 use Rattle.march_core.specs.Visits.{Direction, is_direction, visits}
 use Rattle.dynamic_core.specs.Primitive.{DynamicSense, DynamicPrimitive}
 use Rattle.array_sim.specs.Differing.{left_behind}
-use Rattle.dynamic_core.specs.Dynamic.{Held, Ending, held_as, dyn_run}
+use Rattle.dynamic_core.specs.Dynamic.{Held, held_as}
 use Rattle.dynamic_core.specs.Differing.{held_after, SomeDynDiffers}
 
 -- the aggressor's place: there exactly for a primitive with an aggressor, within the array, and not the victim's
@@ -18,10 +18,6 @@ FitsDynAgg agg place victim size = ⊥
 pub record FitsDyn (p : DynamicPrimitive) (at : Places) (size : ℕ) : Type 0 where
   pub victim : at.vic < size
   pub aggressor : FitsDynAgg p.agg at.agg at.vic size
-
--- a march in these directions on this content; nothing is armed at the start
-abbrev pub ending_of : List MarchElement → List Direction → DynamicPrimitive → Places → List Bool → Ending
-ending_of march directions p at content = dyn_run p at (held_as content false) (visits march directions (length content))
 
 -- in these directions on this content some read answers another bit than the march expects
 abbrev pub IsCaughtDyn : List MarchElement → List Direction → DynamicPrimitive → Places → List Bool → Type 0

@@ -1,13 +1,9 @@
 -- Trusted. What one instance of a dynamic primitive does to an array of cells, step by step.
-use Rattle.std.specs.Prelude.{◌==◌, ℕ, Bool, true, false, ◌&&◌, if◌then◌else◌, Option, Some, None, List, [], ◌∷◌, slice_set}
+use Rattle.std.specs.Prelude.{◌==◌, ℕ, Bool, true, false, ◌&&◌, if◌then◌else◌, Option, Some, None, List, slice_set}
 use Rattle.fault_core.specs.declared.primitive.Act.{Act}
 use Rattle.fault_core.specs.declared.cells.Places.{Places}
 use Rattle.fault_core.specs.Primitive.{same_bit}
 use Rattle.fault_core.specs.Cells.{cell, same_act, plain_cells, plain_answer, answer_or}
-use Rattle.march_core.specs.Visits.{MarchStep, pausing, visiting, miss_at}
-use Rattle.march_core.specs.declared.visit.Miss.{Miss}
-use Rattle.march_core.specs.Operation.{is_wrong_of}
-use Rattle.array_sim.specs.Run.{act_of}
 use Rattle.dynamic_core.specs.declared.stepping.Actor.{Actor}
 use Rattle.dynamic_core.specs.Primitive.{TwoActs, DynamicSense, DynamicPrimitive, left_by}
 
@@ -75,32 +71,3 @@ dyn_answer p at h x act =
 -- a pause changes no cell and leaves nothing armed
 abbrev pub after_pause : Held → Held
 after_pause h = held_as h.cells false
-
--- how a run ends: behind the first read that differs, or behind the last step
-pub data Ending : Type 0 where
-  Differs : Miss → Held → Ending
-  Ends : Held → Ending
-
--- the steps one after another, up to the first read that differs
-abbrev pub dyn_run : DynamicPrimitive → Places → Held → List MarchStep → Ending
-dyn_run p at h [] = Ends h
-dyn_run p at h (pausing element ∷ steps) = dyn_run p at (after_pause h) steps
-dyn_run p at h (visiting v ∷ steps) =
-    if is_wrong_of v.op (dyn_answer p at h v.address (act_of v.op))
-    then Differs (miss_at v) (dyn_step p at h v.address (act_of v.op))
-    else dyn_run p at (dyn_step p at h v.address (act_of v.op)) steps
-
--- the read that differed, if one did
-abbrev pub miss_of : Ending → Option Miss
-miss_of (Differs miss h) = Some miss
-miss_of (Ends h) = None
-
--- what is left
-abbrev pub held_of : Ending → Held
-held_of (Differs miss h) = h
-held_of (Ends h) = h
-
--- how a run ended that left this, with this answer
-abbrev pub ending_as : Option Miss → Held → Ending
-ending_as None h = Ends h
-ending_as (Some miss) h = Differs miss h

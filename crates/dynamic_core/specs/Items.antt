@@ -1,17 +1,12 @@
 -- Trusted. What the lines of a list with dynamic primitives bring, and the first line that is refused.
 use Rattle.std.specs.Prelude.{Result, ℕ, List}
-use Rattle.bist_text.specs.Lines.{TextLine}
 use Rattle.fault_syntax.specs.declared.fault.FaultFault.{FaultFault}
 use Rattle.fault_syntax.specs.declared.words.NameSet.{NameSet}
 use Rattle.fault_syntax.specs.declared.words.NameSet.TheVariants.{Every}
-use Rattle.fault_syntax.specs.LineByLine.{BringBy, SpellsLines, ReadsLines}
-use Rattle.fault_syntax.specs.ListText.{Primitive as OnePrimitive, LineOf, ItemLine}
+use Rattle.fault_syntax.specs.LineByLine.{SpellsLines, ReadsLines}
+use Rattle.fault_syntax.specs.ListText.{Primitive as OnePrimitive, LineOf}
 use Rattle.dynamic_core.specs.declared.item.Item.{Item}
 use Rattle.dynamic_core.specs.ItemParts.{RefusesOn, BringsIn}
-
--- lines that are read, and the primitives that they bring, in their order
-abbrev pub BringAll : List TextLine → List Item → Type 0
-BringAll lines items = BringBy ItemLine (BringsIn Every) lines items
 
 -- what the bytes of a list with these names are read as
 abbrev pub ReadsIn : NameSet → List ℕ → Result (List Item) FaultFault → Type 0

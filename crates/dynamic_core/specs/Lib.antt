@@ -8,4 +8,4 @@ pub mod Table
 pub mod ItemParts
 pub mod Items
 pub mod Printed
-pub mod Reading
+pub mod inner

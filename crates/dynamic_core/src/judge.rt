@@ -4,7 +4,7 @@ ghost use Rattle.fault_syntax.specs.Parts.{agg_ops};
 ghost use Rattle.fault_syntax.specs.PrimText.{SenseText, PrimParts};
 ghost use Rattle.dynamic_core.specs.ItemParts.{AreTwo, AreActs, IsDynamicSense, IsDynamicAggressor, StandsForDynamic};
 ghost use Rattle.dynamic_core.specs.Primitive.{TwoActs, DynamicSense, DynamicPrimitive, IsDynamic};
-ghost use Rattle.dynamic_core.specs.Reading.{JudgesItem};
+ghost use Rattle.dynamic_core.specs.inner.Reading.{JudgesItem};
 ghost use Rattle.dynamic_core.specs.Testing.{two_acts, acts_in};
 
 use crate::item::Item;

@@ -1,14 +1,14 @@
 ghost use Rattle.std.specs.Prelude.{◌≡◌, ◌++◌, ◌≤◌, ◌∷◌, [], ◌⊎◌, Result, length, List, Ok, Err, OnOk, IfOk, IfErr, MatchResult, Option, map};
 ghost use Rattle.fault_core.specs.Primitive.{Primitive};
 ghost use Rattle.fault_syntax.specs.Brief.{read_parts_of, read_item_of};
-ghost use Rattle.fault_syntax.specs.LineByLine.{HasNoRoom};
+ghost use Rattle.fault_syntax.specs.inner.LineByLine.{HasNoRoom};
 ghost use Rattle.fault_syntax.specs.Lists.{ReadsList};
 ghost use Rattle.fault_syntax.specs.ListText.{Item as ListedItem};
 ghost use Rattle.fault_syntax.specs.PrimText.{PrimParts};
 ghost use Rattle.dynamic_core.specs.declared.item.Item.{Item};
 ghost use Rattle.dynamic_core.specs.ItemParts.{items_of};
 ghost use Rattle.dynamic_core.specs.Items.{ReadsIn, ReadsItems};
-ghost use Rattle.dynamic_core.specs.Reading.{JudgesItemIn, JudgesItemOn, AddsItems, NotAdded, static_of, statics_of};
+ghost use Rattle.dynamic_core.specs.inner.Reading.{JudgesItemIn, JudgesItemOn, AddsItems, NotAdded, static_of, statics_of};
 
 use crate::item::{Item, Listed};
 use crate::judge::judge_item;

@@ -1,6 +1,7 @@
 ghost use Rattle.std.specs.Prelude.{◌≡◌, ◌↔◌, IsOk, IfOk, IfErr};
 ghost use Rattle.dynamic_core.specs.Primitive.{IsDynamic, aggressor_acts, left_by, refusal_of, has_aggressor};
-ghost use Rattle.dynamic_core.specs.Testing.{acts_in, is_access, fault_by_second, fault_by_acts};
+ghost use Rattle.dynamic_core.specs.Testing.{acts_in};
+ghost use Rattle.dynamic_core.specs.inner.Testing.{is_access, fault_by_second, fault_by_acts};
 
 use fault_core::{Act, PrimFault};
 use std::marker::Model;

@@ -1,10 +1,13 @@
 ghost use Rattle.std.specs.Prelude.{◌≡◌, ◌<◌, ◌↔◌, false, None, IsSome, IfSome, length};
 ghost use Rattle.march_core.specs.March.{element_at};
 ghost use Rattle.march_core.specs.Visits.{cell_visits, address_visits, addresses, element_visits, direction_at, FitsWord, visits, directions_of};
-ghost use Rattle.march_core.specs.Addresses.{direction_of, steps_of};
-ghost use Rattle.dynamic_core.specs.Dynamic.{held_as, dyn_run, ending_as};
+ghost use Rattle.march_core.specs.Addresses.{direction_of};
+ghost use Rattle.march_core.specs.inner.Addresses.{steps_of};
+ghost use Rattle.dynamic_core.specs.Dynamic.{held_as};
+ghost use Rattle.dynamic_core.specs.inner.Dynamic.{dyn_run, ending_as};
 ghost use Rattle.dynamic_core.specs.Differing.{IsFirstDynMiss, StopsAtDyn};
-ghost use Rattle.dynamic_core.specs.Detecting.{FitsDyn, ending_of, IsCaughtDyn, cells_after_dyn};
+ghost use Rattle.dynamic_core.specs.Detecting.{FitsDyn, IsCaughtDyn, cells_after_dyn};
+ghost use Rattle.dynamic_core.specs.inner.Detecting.{ending_of};
 ghost use Rattle.dynamic_core.specs.Instances.{dyn_places};
 
 use crate::primitive::DynPrim;

@@ -5,8 +5,10 @@ use Rattle.fault_core.specs.declared.cells.Places.{Places}
 use Rattle.march_core.specs.March.{MarchElement, IsMarch, order_of}
 use Rattle.march_core.specs.Visits.{Direction, Upward, Downward, allows, is_direction}
 use Rattle.dynamic_core.specs.Primitive.{DynamicPrimitive}
-use Rattle.dynamic_core.specs.Dynamic.{Held, Ending, Differs, Ends, miss_of}
-use Rattle.dynamic_core.specs.Detecting.{FitsDyn, ending_of, IsCaughtDyn}
+use Rattle.dynamic_core.specs.Dynamic.{Held}
+use Rattle.dynamic_core.specs.inner.Dynamic.{Ending, Differs, Ends, miss_of}
+use Rattle.dynamic_core.specs.Detecting.{FitsDyn, IsCaughtDyn}
+use Rattle.dynamic_core.specs.inner.Detecting.{ending_of}
 use Rattle.dynamic_core.proofs.Differing.{missed}
 use Rattle.dynamic_prover.specs.declared.own_cells.OwnCells.{OwnCells}
 use Rattle.dynamic_prover.specs.declared.shape.Shape.{Shape}

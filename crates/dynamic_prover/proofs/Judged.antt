@@ -11,8 +11,9 @@ use Rattle.march_core.specs.declared.visit.Miss.{Miss}
 use Rattle.cell_machine.specs.declared.pair.Pair.{Pair}
 use Rattle.cell_machine.specs.Seen.{pair_at}
 use Rattle.dynamic_core.specs.Primitive.{DynamicSense, DynamicPrimitive, has_aggressor}
-use Rattle.dynamic_core.specs.Dynamic.{miss_of}
-use Rattle.dynamic_core.specs.Detecting.{FitsDynAgg, FitsDyn, ending_of, IsCaughtDyn, DetectsDynAt, DetectsDyn}
+use Rattle.dynamic_core.specs.inner.Dynamic.{miss_of}
+use Rattle.dynamic_core.specs.Detecting.{FitsDynAgg, FitsDyn, IsCaughtDyn, DetectsDynAt, DetectsDyn}
+use Rattle.dynamic_core.specs.inner.Detecting.{ending_of}
 use Rattle.dynamic_core.proofs.Differing.{missed}
 use Rattle.dynamic_prover.specs.declared.own_cells.OwnCells.{OwnCells}
 use Rattle.dynamic_prover.specs.declared.shape.Shape.{Shape}

@@ -11,17 +11,18 @@ use Rattle.fault_core.specs.Cells.{cell, plain_cells, plain_answer}
 use Rattle.march_core.specs.declared.operation.Op.{Op}
 use Rattle.march_core.specs.declared.operation.Op.TheVariants.{W0, W1, R0, R1}
 use Rattle.march_core.specs.March.{MarchElement, pause, sweep, all_ops}
-use Rattle.march_core.specs.Scan.{after_op, is_right, scan_of}
+use Rattle.march_core.specs.inner.Scan.{after_op, is_right, scan_of}
 use Rattle.march_core.specs.Visits.{Visit, MarchStep, visiting, Direction, cell_visits, address_visits, addresses, visits_from, miss_at}
 use Rattle.march_core.specs.Operation.{is_wrong_of}
 use Rattle.array_sim.specs.Run.{act_of}
-use Rattle.march_core.specs.Addresses.{steps_of}
+use Rattle.march_core.specs.inner.Addresses.{steps_of}
 use Rattle.cell_machine.specs.declared.pair.Side.{Side}
 use Rattle.cell_machine.specs.declared.pair.Side.TheVariants.{A, V}
 use Rattle.cell_machine.specs.Seen.{place_of}
 use Rattle.pair_tracker.proofs.Sides.{contains, Distinct, AllBelow, addresses_distinct, addresses_below, addresses_all}
 use Rattle.dynamic_core.specs.Primitive.{DynamicPrimitive}
-use Rattle.dynamic_core.specs.Dynamic.{Held, held_as, dyn_step, dyn_answer, Ending, Differs, Ends, dyn_run}
+use Rattle.dynamic_core.specs.Dynamic.{Held, held_as, dyn_step, dyn_answer}
+use Rattle.dynamic_core.specs.inner.Dynamic.{Ending, Differs, Ends, dyn_run}
 use Rattle.dynamic_core.proofs.Runs.{then_run, run_append}
 use Rattle.dynamic_prover.specs.declared.own_cells.OwnCells.{OwnCells}
 use Rattle.dynamic_prover.specs.declared.shape.Shape.{Shape}

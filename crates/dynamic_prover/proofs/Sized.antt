@@ -5,8 +5,10 @@ use Rattle.march_core.specs.March.{MarchElement, IsMarch, all_ops}
 use Rattle.march_core.specs.Visits.{Direction, visits}
 use Rattle.march_core.proofs.Consistent.{consistent_scan, last_after}
 use Rattle.dynamic_core.specs.Primitive.{DynamicSense, DynamicPrimitive}
-use Rattle.dynamic_core.specs.Dynamic.{held_as, dyn_run}
-use Rattle.dynamic_core.specs.Detecting.{FitsDynAgg, FitsDyn, ending_of}
+use Rattle.dynamic_core.specs.Dynamic.{held_as}
+use Rattle.dynamic_core.specs.inner.Dynamic.{dyn_run}
+use Rattle.dynamic_core.specs.Detecting.{FitsDynAgg, FitsDyn}
+use Rattle.dynamic_core.specs.inner.Detecting.{ending_of}
 use Rattle.dynamic_prover.specs.declared.own_cells.OwnCells.{OwnCells}
 use Rattle.dynamic_prover.specs.Shapes.{shape_of, shape_run}
 use Rattle.dynamic_prover.proofs.Own.{own_of, About, about}

@@ -18,7 +18,7 @@ use Rattle.pair_tracker.specs.Survivors.{pair_number}
 use Rattle.pair_tracker.proofs.Joining.{same_number}
 use Rattle.escape_array.specs.declared.escape.EscapeArray.{EscapeArray}
 use Rattle.escape_array.specs.Escapes.{IsEscape, IsLeastEscape, IsNoGreater, places_of_escape, placement_number, content_number}
-use Rattle.escape_array.specs.Searching.{LetsThrough, IsLeastWord, NoneBefore, IsLeastIn}
+use Rattle.escape_array.specs.inner.Searching.{LetsThrough, IsLeastWord, NoneBefore, IsLeastIn}
 
 -- two cells hold one of four contents
 content_below : (content : List Bool) → length content ≡ 2 → content_number content < 4

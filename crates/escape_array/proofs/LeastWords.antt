@@ -8,7 +8,7 @@ use Rattle.pair_tracker.specs.declared.placement.Placement.{Placement}
 use Rattle.pair_tracker.specs.declared.placement.Survivor.{Survivor}
 use Rattle.pair_tracker.specs.Survivors.{Survives, IsEnd, AreSurvivors}
 use Rattle.pair_tracker.specs.Legs.{Leg, SumsUp}
-use Rattle.escape_array.specs.Searching.{LetsThrough, IsLeastWord, lesser_of, least_of}
+use Rattle.escape_array.specs.inner.Searching.{LetsThrough, IsLeastWord, lesser_of, least_of}
 
 some_same : (a b : ℕ) → Some a ≡ Some b → a ≡ b
 some_same a b e = cc

@@ -1,2 +1,2 @@
 pub mod Escapes
-pub mod Searching
+pub mod inner

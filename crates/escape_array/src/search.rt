@@ -2,7 +2,7 @@ ghost use Rattle.std.specs.Prelude.{◌≡◌, ◌<◌, None, MatchOption, lengt
 ghost use Rattle.pair_tracker.specs.Placements.{FitsPlacement, places_in};
 ghost use Rattle.escape_array.specs.declared.escape.EscapeArray.{EscapeArray};
 ghost use Rattle.escape_array.specs.Escapes.{IsEscape, IsLeastEscape, content_number, places_of_escape};
-ghost use Rattle.escape_array.specs.Searching.{IsLeastWord, NoneBefore, IsLeastIn, lesser_of, least_of};
+ghost use Rattle.escape_array.specs.inner.Searching.{IsLeastWord, NoneBefore, IsLeastIn, lesser_of, least_of};
 
 use crate::escape::EscapeArray;
 use fault_core::Prim;

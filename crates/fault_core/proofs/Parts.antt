@@ -3,9 +3,9 @@ use Rattle.std.proofs.Common.{◌≡◌, Bool, true, not, ◌&&◌, is_some, ref
 use Rattle.std.proofs.lemmas.Bool.{and_parts}
 use Rattle.fault_core.specs.declared.primitive.Sense.{Sense}
 use Rattle.fault_core.specs.Primitive.{Primitive, IsPrimitive, same_bit, agg_has_act}
-use Rattle.fault_core.specs.Testing.{is_fault_of, pauses_alone}
+use Rattle.fault_core.specs.inner.Testing.{is_fault_of, pauses_alone}
 use Rattle.fault_core.specs.Cells.{same_act}
-use Rattle.fault_core.specs.Rows.{sense_of, prim_of}
+use Rattle.fault_core.specs.inner.Rows.{sense_of, prim_of}
 use Rattle.fault_core.proofs.Tests.{at_all_bits, at_all_acts, at_all_options, bit_passes, act_passes, option_passes, same_options, same_bit-equal, same_act-equal, same_options-equal, FourParts, at_all_four, four_pass, same_four, same_four-equal, same_four-refl}
 
 abbrev at_all_senses : (Sense → Bool) → Bool

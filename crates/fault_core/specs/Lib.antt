@@ -1,6 +1,5 @@
 pub mod Primitive
-pub mod Testing
 pub mod Cells
 pub mod Table
 pub mod Classes
-pub mod Rows
+pub mod inner

@@ -1,6 +1,6 @@
 ghost use Rattle.std.specs.Prelude.{◌≡◌, ◌↔◌, IsOk, IfOk, IfErr};
 ghost use Rattle.fault_core.specs.Primitive.{IsPrimitive, agg_has_act, refusal_of, has_aggressor, is_pause};
-ghost use Rattle.fault_core.specs.Testing.{is_fault_of, pauses_alone};
+ghost use Rattle.fault_core.specs.inner.Testing.{is_fault_of, pauses_alone};
 
 use std::marker::Model;
 

@@ -2,7 +2,7 @@ ghost use Rattle.std.specs.Prelude.{◌≡◌, ◌≢◌, ◌+◌, ◌≤◌, �
 ghost use Rattle.arrayvec.specs.ArrayVec.{array_vec_len};
 ghost use Rattle.fault_core.specs.Primitive.{Primitive, IsPrimitive, agg_has_act, has_aggressor, is_retention};
 ghost use Rattle.fault_core.specs.Classes.{class_of_read, class_of_victim, coupled, class_by_parts};
-ghost use Rattle.fault_core.specs.Rows.{never_pauses, lost, flipped, unwritten, disturbed, prim_of, sense_of, member_of, FitsClass, senses_of};
+ghost use Rattle.fault_core.specs.inner.Rows.{never_pauses, lost, flipped, unwritten, disturbed, prim_of, sense_of, member_of, FitsClass, senses_of};
 ghost use Rattle.fault_core.specs.Table.{members_of, one_cell_table, two_cell_table, retention_table};
 
 use crate::primitive::{Act, FaultPrimitive as Prim, Sense};

@@ -3,7 +3,7 @@ use Rattle.std.proofs.Common.{◌≡◌, ℕ, ◌+◌, ◌-◌, ◌<◌, ◌≤�
 use Rattle.std.proofs.lemmas.List.{take_all, map_more}
 use Rattle.fault_syntax.specs.declared.fault.FaultFault.{FaultFault}
 use Rattle.fault_syntax.specs.declared.fault.FaultFault.TheVariants.{TooManyPrimitives}
-use Rattle.fault_syntax.specs.LineByLine.{HasNoRoom}
+use Rattle.fault_syntax.specs.inner.LineByLine.{HasNoRoom}
 
 -- what a push that succeeds leaves
 pub pushed : {P : Type 0} (ok : Bool) (old now : List P) (y : P) → ok ≡ true → now ≡ (if ok then old ++ y ∷ [] else old) → now ≡ old ++ y ∷ []

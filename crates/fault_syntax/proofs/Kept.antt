@@ -4,8 +4,8 @@ use Rattle.bist_text.specs.Machine.{unexpected, scan, ended}
 use Rattle.bist_text.proofs.Loops.{scan_on, scan_stop, scan_end}
 use Rattle.fault_syntax.specs.declared.reader.Reader.{Reader}
 use Rattle.fault_syntax.specs.declared.words.Form.{Form}
-use Rattle.fault_syntax.specs.Places.{State, start, step, value, may_end, item_at}
-use Rattle.fault_syntax.specs.Brief.{reader_of}
+use Rattle.fault_syntax.specs.inner.Places.{State, start, step, value, may_end, item_at}
+use Rattle.fault_syntax.specs.inner.Brief.{reader_of}
 
 -- where a reader stands in a text
 pub record Stands (b : List ℕ) (l : Form) (reader : Reader) (i : ℕ) : Type 0 where

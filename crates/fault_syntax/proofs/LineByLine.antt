@@ -1,10 +1,12 @@
 -- Lines that are read one after another; and a list is read as one thing, or refused in one way.
 use Rattle.std.proofs.Common.{◌≡◌, ℕ, ◌+◌, ◌<◌, ◌≤◌, List, [], ◌∷◌, ◌++◌, ◌∙◌, ◌⊎◌, length, Option, Some, Result, Ok, Err, IfOk, IfErr, MatchResult, refl, sym, ap, subst, append_assoc, append-nil, length-append, arith, inl, inr, if◌then◌else◌}
 use Rattle.bist_text.specs.Lines.{TextLine, text_lines}
-use Rattle.bist_text.specs.Machine.{Outcome, read, unexpected, truncated, Answers}
+use Rattle.bist_text.specs.Machine.{Outcome, read, unexpected, truncated}
+use Rattle.bist_text.specs.inner.Machine.{Answers}
 use Rattle.fault_syntax.specs.declared.fault.FaultFault.{FaultFault}
 use Rattle.fault_syntax.specs.declared.fault.FaultFault.TheVariants.{Unexpected, Truncated, NotAFault, TooManyOperations, TooManyPrimitives, NoMemory}
-use Rattle.fault_syntax.specs.LineByLine.{BringBy, IsRefusedBehind, FirstRefusal, ReadsLines, AddsBy, IsFaultOn, NotAddedBy}
+use Rattle.fault_syntax.specs.LineByLine.{BringBy, IsRefusedBehind, FirstRefusal, ReadsLines, IsFaultOn}
+use Rattle.fault_syntax.specs.inner.LineByLine.{AddsBy, NotAddedBy}
 use Rattle.fault_syntax.specs.PrimText.{PrimParts}
 
 -- where two lines stand in a list

@@ -1,15 +1,16 @@
 -- What is said of a line's bytes.
 use Rattle.std.proofs.Common.{◌≡◌, ℕ, List, Option, Result, refl, sym, subst}
-use Rattle.bist_text.specs.Machine.{Outcome, read, unexpected, truncated, scan, IsExact, Answers}
+use Rattle.bist_text.specs.Machine.{Outcome, read, unexpected, truncated, scan}
+use Rattle.bist_text.specs.inner.Machine.{IsExact, Answers}
 use Rattle.bist_text.proofs.Settled.{answers_one, scan_exact}
 use Rattle.fault_syntax.specs.declared.reader.ReadItem.{ReadItem}
 use Rattle.fault_syntax.specs.declared.reader.Refusal.{Refusal}
 use Rattle.fault_syntax.specs.declared.words.Form.TheVariants.{Listed}
 use Rattle.fault_syntax.specs.declared.words.NameSet.{NameSet}
-use Rattle.fault_syntax.specs.Brief.{answer_of}
-use Rattle.fault_syntax.specs.LineReading.{Says}
+use Rattle.fault_syntax.specs.inner.Brief.{answer_of}
+use Rattle.fault_syntax.specs.inner.LineReading.{Says}
 use Rattle.fault_syntax.specs.ListText.{Item, LineOf}
-use Rattle.fault_syntax.specs.Places.{start, step, value, rest}
+use Rattle.fault_syntax.specs.inner.Places.{start, step, value, rest}
 use Rattle.fault_syntax.proofs.PlaceLaws.{follows, line_is}
 
 module _ (set : NameSet) where

@@ -3,7 +3,8 @@ use Rattle.std.proofs.Common.{◌≡◌, ◌↔◌, ℕ, true, List, [], ◌∷�
 use Rattle.std.specs.List.{list_all}
 use Rattle.std.specs.Prelude.{slice_get}
 use Rattle.bist_text.specs.Grammar.{word}
-use Rattle.bist_text.specs.Keywords.{Word, stands, seek, are_apart}
+use Rattle.bist_text.specs.Keywords.{Word, seek}
+use Rattle.bist_text.specs.inner.Keywords.{stands, are_apart}
 use Rattle.bist_text.proofs.KeywordLaws.{IsOf, is_at, is_passed, stands_all}
 use Rattle.bist_text.proofs.Pieces.{stay}
 use Rattle.fault_core.specs.declared.table.Class.TheVariants.{SF, TF, WDF, RDF, DRDF, IRF, CFst, CFds, CFtr, CFwd, CFrd, CFdr, CFir, DRF}
@@ -13,7 +14,8 @@ use Rattle.fault_syntax.specs.declared.words.Name.{Name}
 use Rattle.fault_syntax.specs.declared.words.Name.TheVariants.{OfClass, One, Two, All, DynOne, DynTwo}
 use Rattle.fault_syntax.specs.declared.words.NameSet.{NameSet}
 use Rattle.fault_syntax.specs.declared.words.NameSet.TheVariants.{Static, Every}
-use Rattle.fault_syntax.specs.Names.{name_text, is_in, static_names, names_of, words_of}
+use Rattle.fault_syntax.specs.Names.{name_text, is_in}
+use Rattle.fault_syntax.specs.inner.Names.{static_names, names_of, words_of}
 
 -- no word begins another
 pub fine : (form : Form) → are_apart (words_of form) ≡ true

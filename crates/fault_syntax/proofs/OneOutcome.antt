@@ -1,17 +1,19 @@
 -- A text is read as one primitive, or refused in one way.
 use Rattle.std.proofs.Common.{◌≡◌, ◌↔◌, ℕ, List, ◌∙◌, Option, Some, None, Result, Ok, Err, sym, ap, subst, arith}
 use Rattle.bist_text.specs.Grammar.{IsUnexpected, IsTruncated}
-use Rattle.bist_text.specs.Machine.{Outcome, read, unexpected, truncated, Answers}
+use Rattle.bist_text.specs.Machine.{Outcome, read, unexpected, truncated}
+use Rattle.bist_text.specs.inner.Machine.{Answers}
 use Rattle.bist_text.proofs.Machine.{HasTexts, unexpected_so, truncated_so}
 use Rattle.bist_text.proofs.Settled.{answers_one}
 use Rattle.fault_core.specs.Primitive.{Primitive, IsPrimitive}
 use Rattle.fault_syntax.specs.declared.fault.FaultFault.{FaultFault}
 use Rattle.fault_syntax.specs.declared.fault.FaultFault.TheVariants.{Unexpected, Truncated, NotAFault, TooManyOperations, TooManyPrimitives, NoMemory}
-use Rattle.fault_syntax.specs.Answers.{RefusesAt, JudgesAt, GivesPrim, ReadsPrim}
+use Rattle.fault_syntax.specs.Answers.{RefusesAt, ReadsPrim}
+use Rattle.fault_syntax.specs.inner.Answers.{JudgesAt, GivesPrim}
 use Rattle.fault_syntax.specs.ListText.{Item, Primitive as OnePrimitive, Named}
 use Rattle.fault_syntax.specs.Parts.{StandsFor}
 use Rattle.fault_syntax.specs.declared.words.Form.TheVariants.{Single}
-use Rattle.fault_syntax.specs.Places.{start, step, value, rest}
+use Rattle.fault_syntax.specs.inner.Places.{start, step, value, rest}
 use Rattle.fault_syntax.specs.PrimText.{PrimParts, PrimText}
 use Rattle.fault_syntax.proofs.Judging.{stands_one, one_operation}
 use Rattle.fault_syntax.proofs.PlaceLaws.{follows, Alone, alone_is}

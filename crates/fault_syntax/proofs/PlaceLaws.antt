@@ -4,8 +4,10 @@ use Rattle.bist_text.specs.Grammar.{finish, word, when, many, is_blank, Continue
 use Rattle.bist_text.specs.declared.keywords.Letters.{Letters}
 use Rattle.bist_text.specs.declared.keywords.Spelled.{Spelled}
 use Rattle.bist_text.specs.declared.keywords.Spelled.TheVariants.{More, Whole}
-use Rattle.bist_text.specs.Keywords.{stands, letters_of, seek, spell, left}
-use Rattle.bist_text.specs.Machine.{Holds, Grows, Follows}
+use Rattle.bist_text.specs.inner.Keywords.{stands, left}
+use Rattle.bist_text.specs.Keywords.{letters_of, seek, spell}
+use Rattle.bist_text.specs.Machine.{Holds}
+use Rattle.bist_text.specs.inner.Machine.{Grows, Follows}
 use Rattle.bist_text.proofs.Bytes.{are_bytes-append}
 use Rattle.bist_text.proofs.KeywordLaws.{first_law, spell_law, spell_ends, first_ends, spell_alive}
 use Rattle.bist_text.proofs.Pieces.{at_byte, also, skip, stay, neither, same, never, grows_iff, grows_never, grows_from_none, Headed, grows_one, many_never, many_iff}
@@ -17,13 +19,13 @@ use Rattle.fault_syntax.specs.declared.words.Form.{Form}
 use Rattle.fault_syntax.specs.declared.words.Form.TheVariants.{Single, Listed}
 use Rattle.fault_syntax.specs.declared.words.Name.{Name}
 use Rattle.fault_syntax.specs.declared.words.NameSet.{NameSet}
-use Rattle.fault_syntax.specs.Names.{words_of}
+use Rattle.fault_syntax.specs.inner.Names.{words_of}
 use Rattle.fault_syntax.specs.declared.place.Place.{Place}
 use Rattle.fault_syntax.specs.declared.place.Place.TheVariants.{Start, Spelling, Opened, Lead, Sensed, Digit, Effect, Left, Reply, Replied, Closed, Comment}
 use Rattle.fault_syntax.specs.declared.place.Event.TheVariants.{Parts}
 use Rattle.fault_syntax.specs.ListText.{Item, Primitive, Named, anything, line_end, item, LineOf}
 use Rattle.fault_syntax.specs.PrimText.{SenseText, PrimParts, ws, bit_text, answer_text, op, more_ops, led, sense, effect, senses, PrimText}
-use Rattle.fault_syntax.specs.Places.{to, spelling, operation, after_letter, may_end, State, start, moved, step_at, step, parts_of, item_of, item_at, value, ending, begins, in_prim, in_name, victim_left, first_sense, the_sense, lead_left, digit_left, begun, answer_left, effect_left, left_at, rest}
+use Rattle.fault_syntax.specs.inner.Places.{to, spelling, operation, after_letter, may_end, State, start, moved, step_at, step, parts_of, item_of, item_at, value, ending, begins, in_prim, in_name, victim_left, first_sense, the_sense, lead_left, digit_left, begun, answer_left, effect_left, left_at, rest}
 use Rattle.fault_syntax.proofs.NameLaws.{fine, sf, first_word, NoName, no_names, named}
 
 abbrev Law : Form → Place → State → List ℕ → Option Item → ℕ → Type 0

@@ -1,19 +1,22 @@
 -- From the outcome of the machine to what the reader of a primitive promises.
 use Rattle.std.proofs.Common.{◌≡◌, ◌↔◌, ℕ, List, Option, Some, None, Result, Ok, Err, refl, sym, subst}
-use Rattle.bist_text.specs.Machine.{Outcome, read, unexpected, truncated, scan, IsExact}
+use Rattle.bist_text.specs.Machine.{Outcome, read, unexpected, truncated, scan}
+use Rattle.bist_text.specs.inner.Machine.{IsExact}
 use Rattle.bist_text.proofs.Settled.{scan_exact}
 use Rattle.fault_core.specs.Primitive.{Primitive}
 use Rattle.fault_syntax.specs.declared.fault.FaultFault.{FaultFault}
 use Rattle.fault_syntax.specs.declared.fault.FaultFault.TheVariants.{Unexpected, Truncated, NotAFault, TooManyOperations, TooManyPrimitives, NoMemory}
-use Rattle.fault_syntax.specs.Answers.{RefusesAt, GivesPrim, ReadsPrim}
+use Rattle.fault_syntax.specs.Answers.{RefusesAt, ReadsPrim}
+use Rattle.fault_syntax.specs.inner.Answers.{GivesPrim}
 use Rattle.fault_syntax.specs.ListText.{Item, Primitive as OnePrimitive, Named}
-use Rattle.fault_syntax.specs.Brief.{answer_of, read_parts_of}
+use Rattle.fault_syntax.specs.inner.Brief.{answer_of}
+use Rattle.fault_syntax.specs.Brief.{read_parts_of}
 use Rattle.fault_syntax.specs.declared.reader.ReadItem.{ReadItem}
 use Rattle.fault_syntax.specs.declared.reader.ReadItem.TheVariants.{Primitive as ReadPrimitive}
 use Rattle.fault_syntax.specs.declared.reader.ReadParts.{ReadParts}
 use Rattle.fault_syntax.specs.declared.reader.Refusal.{Refusal}
 use Rattle.fault_syntax.specs.declared.words.Form.TheVariants.{Single}
-use Rattle.fault_syntax.specs.Places.{start, step, value, rest, in_prim}
+use Rattle.fault_syntax.specs.inner.Places.{start, step, value, rest, in_prim}
 use Rattle.fault_syntax.specs.PrimText.{PrimParts, PrimText}
 use Rattle.fault_syntax.proofs.OneOutcome.{unexpected_parts, truncated_parts, prim_one}
 use Rattle.fault_syntax.proofs.PlaceLaws.{follows, Alone, alone_is}

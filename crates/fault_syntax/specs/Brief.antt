@@ -1,16 +1,11 @@
 -- Public. For proofs and private contracts alone: what a reader keeps of what it has read.
-use Rattle.std.specs.Prelude.{Bool, true, false, Option, Some, None, List, [], ◌∷◌, Result, Ok, Err, option_map}
-use Rattle.bist_text.specs.Machine.{Outcome, read, unexpected, truncated}
+use Rattle.std.specs.Prelude.{Bool, true, false, Option, Some, None, List, [], ◌∷◌, option_map}
 use Rattle.fault_syntax.specs.declared.words.Operation.{Operation}
 use Rattle.fault_syntax.specs.declared.reader.Brief.{Brief}
-use Rattle.fault_syntax.specs.declared.reader.Reader.{Reader}
 use Rattle.fault_syntax.specs.declared.reader.ReadParts.{ReadParts}
 use Rattle.fault_syntax.specs.declared.reader.ReadItem.{ReadItem}
 use Rattle.fault_syntax.specs.declared.reader.ReadItem.TheVariants.{Nothing, Primitive as ReadPrimitive, Named as ReadName}
-use Rattle.fault_syntax.specs.declared.reader.Refusal.{Refusal}
-use Rattle.fault_syntax.specs.declared.reader.Refusal.TheVariants.{Unexpected, Truncated}
 use Rattle.fault_syntax.specs.ListText.{Item, Primitive, Named}
-use Rattle.fault_syntax.specs.Places.{State}
 use Rattle.fault_syntax.specs.PrimText.{SenseText, PrimParts}
 
 abbrev pub first_of : List Operation → Option Operation
@@ -31,9 +26,6 @@ has_more (o ∷ p ∷ q ∷ os) = true
 abbrev pub brief_of : SenseText → Brief
 brief_of text = record { state = text.state; first = first_of text.ops; second = second_of text.ops; more = has_more text.ops }
 
-abbrev pub reader_of : State → Reader
-reader_of s = record { place = s.place; agg = option_map brief_of s.agg; sense = brief_of s.sense; after = s.after; answer = s.answer; kind = s.kind }
-
 abbrev pub read_parts_of : PrimParts → ReadParts
 read_parts_of p = record { agg = option_map brief_of p.agg; vic = brief_of p.vic; after = p.after; answer = p.answer }
 
@@ -41,9 +33,3 @@ abbrev pub read_item_of : Option Item → ReadItem
 read_item_of None = Nothing
 read_item_of (Some (Primitive p)) = ReadPrimitive (read_parts_of p)
 read_item_of (Some (Named n)) = ReadName n
-
--- what is answered for an outcome of the machine
-abbrev pub answer_of : Outcome (Option Item) → Result ReadItem Refusal
-answer_of (read v) = Ok (read_item_of v)
-answer_of (unexpected k) = Err (Unexpected k)
-answer_of truncated = Err Truncated

@@ -1,7 +1,6 @@
 pub mod PrimText
 pub mod Names
 pub mod ListText
-pub mod Places
 pub mod Parts
 pub mod Brief
 pub mod Answers
@@ -9,3 +8,4 @@ pub mod Printed
 pub mod LineByLine
 pub mod Lists
 pub mod LineReading
+pub mod inner

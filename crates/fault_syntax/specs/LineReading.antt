@@ -1,22 +1,14 @@
 -- Public. For proofs and private contracts alone: what a line is read to.
-use Rattle.std.specs.Prelude.{◌≡◌, ℕ, false, Option, List, Result, Ok, Err}
-use Rattle.bist_text.specs.Grammar.{IsUnexpected, IsTruncated}
+use Rattle.std.specs.Prelude.{◌≡◌, false, Option, Result, Ok, Err}
+use Rattle.bist_text.specs.Grammar.{IsTruncated}
 use Rattle.bist_text.specs.Lines.{TextLine}
 use Rattle.fault_syntax.specs.declared.fault.FaultFault.{FaultFault}
 use Rattle.fault_syntax.specs.declared.fault.FaultFault.TheVariants.{Unexpected, Truncated}
 use Rattle.fault_syntax.specs.declared.reader.ReadItem.{ReadItem}
-use Rattle.fault_syntax.specs.declared.reader.Refusal.{Refusal}
-use Rattle.fault_syntax.specs.declared.reader.Refusal.TheVariants.{Unexpected as UnexpectedAt, Truncated as EndedEarly}
 use Rattle.fault_syntax.specs.declared.words.NameSet.{NameSet}
 use Rattle.fault_syntax.specs.Brief.{read_item_of}
 use Rattle.fault_syntax.specs.LineByLine.{IsUnexpectedOn}
 use Rattle.fault_syntax.specs.ListText.{Item, LineOf}
-
--- what is said of a line's bytes
-abbrev pub Says : NameSet → List ℕ → Result ReadItem Refusal → Type 0
-Says set b (Ok item) = (v : Option Item) × LineOf set b v × (item ≡ read_item_of v)
-Says set b (Err (UnexpectedAt k)) = IsUnexpected (LineOf set) b k
-Says set b (Err EndedEarly) = IsTruncated (LineOf set) b
 
 -- why a line's bytes aren't read
 abbrev pub IsTextFault : NameSet → TextLine → FaultFault → Type 0

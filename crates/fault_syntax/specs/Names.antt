@@ -1,10 +1,7 @@
 -- Trusted. The names of a list: of a class, and the words for several.
-use Rattle.std.specs.Prelude.{ℕ, Bool, true, false, List, [], ◌∷◌, ◌++◌, codes}
-use Rattle.bist_text.specs.Keywords.{Word, all_words}
+use Rattle.std.specs.Prelude.{ℕ, Bool, true, false, List, codes}
 use Rattle.fault_core.specs.declared.table.Class.{Class}
 use Rattle.fault_core.specs.declared.table.Class.TheVariants.{SF, TF, WDF, RDF, DRDF, IRF, CFst, CFds, CFtr, CFwd, CFrd, CFdr, CFir, DRF}
-use Rattle.fault_syntax.specs.declared.words.Form.{Form}
-use Rattle.fault_syntax.specs.declared.words.Form.TheVariants.{Listed}
 use Rattle.fault_syntax.specs.declared.words.Name.{Name}
 use Rattle.fault_syntax.specs.declared.words.Name.TheVariants.{OfClass, One, Two, All, DynOne, DynTwo}
 use Rattle.fault_syntax.specs.declared.words.NameSet.{NameSet}
@@ -41,17 +38,3 @@ is_in Every n = true
 is_in Static DynOne = false
 is_in Static DynTwo = false
 is_in Static n = true
-
--- ---- for proofs and private contracts alone: the words that a reader looks for
-
-abbrev pub static_names : List Name
-static_names =
-    OfClass SF ∷ OfClass TF ∷ OfClass WDF ∷ OfClass RDF ∷ OfClass DRDF ∷ OfClass IRF ∷ OfClass CFst ∷ OfClass CFds
-    ∷ OfClass CFtr ∷ OfClass CFwd ∷ OfClass CFrd ∷ OfClass CFdr ∷ OfClass CFir ∷ OfClass DRF ∷ One ∷ Two ∷ All ∷ []
-
-abbrev pub names_of : Form → List Name
-names_of (Listed Every) = static_names ++ DynOne ∷ DynTwo ∷ []
-names_of form = static_names
-
-abbrev pub words_of : Form → List (Word Name)
-words_of form = all_words (λ n. name_text n ∷ []) (names_of form)

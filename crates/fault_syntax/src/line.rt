@@ -1,6 +1,7 @@
 ghost use Rattle.std.specs.Prelude.{◌≡◌};
 ghost use Rattle.bist_text.specs.Lines.{plain_line};
-ghost use Rattle.fault_syntax.specs.LineReading.{Says, LineGives};
+ghost use Rattle.fault_syntax.specs.inner.LineReading.{Says};
+ghost use Rattle.fault_syntax.specs.LineReading.{LineGives};
 
 use crate::fault::FaultFault;
 use crate::reader::{ReadItem, Refusal, read_item};

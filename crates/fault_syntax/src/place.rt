@@ -1,6 +1,6 @@
 ghost use Rattle.std.specs.Prelude.{◌≡◌, Bool, Some, false};
 ghost use Rattle.bist_text.specs.Grammar.{is_blank};
-ghost use Rattle.fault_syntax.specs.Places.{spelling, named_at, comment_at, bit_of, operation, move_at, may_end, IsOutside, IsSense, IsEffect};
+ghost use Rattle.fault_syntax.specs.inner.Places.{spelling, named_at, comment_at, bit_of, operation, move_at, may_end, IsOutside, IsSense, IsEffect};
 
 use crate::words::{Form, Name, Operation, words_of};
 use bist_text::{Letters, Spelled, first_letter, next_letter};

@@ -1,9 +1,10 @@
 ghost use Rattle.std.specs.Prelude.{◌≡◌, ◌↔◌, Ok, Err, false};
 ghost use Rattle.bist_text.specs.Machine.{scan};
 ghost use Rattle.fault_core.specs.Primitive.{Primitive};
-ghost use Rattle.fault_syntax.specs.Answers.{fault_at, JudgesAt, GivesPrim, ReadsPrim};
+ghost use Rattle.fault_syntax.specs.inner.Answers.{fault_at, JudgesAt, GivesPrim};
+ghost use Rattle.fault_syntax.specs.Answers.{ReadsPrim};
 ghost use Rattle.fault_syntax.specs.Brief.{read_parts_of};
-ghost use Rattle.fault_syntax.specs.Places.{step, value, start};
+ghost use Rattle.fault_syntax.specs.inner.Places.{step, value, start};
 ghost use Rattle.fault_syntax.specs.PrimText.{PrimParts, PrimText};
 
 use crate::fault::FaultFault;

@@ -1,8 +1,9 @@
 ghost use Rattle.std.specs.Prelude.{◌≡◌, ◌++◌, ◌∷◌, [], option_map};
 ghost use Rattle.bist_text.specs.Machine.{scan};
-ghost use Rattle.fault_syntax.specs.Brief.{brief_of, reader_of, read_item_of, answer_of};
+ghost use Rattle.fault_syntax.specs.Brief.{brief_of, read_item_of};
+ghost use Rattle.fault_syntax.specs.inner.Brief.{reader_of, answer_of};
 ghost use Rattle.fault_syntax.specs.PrimText.{SenseText};
-ghost use Rattle.fault_syntax.specs.Places.{State, start, step, value, after_event, item_at};
+ghost use Rattle.fault_syntax.specs.inner.Places.{State, start, step, value, after_event, item_at};
 
 use crate::place::{Event, Kind, Place, is_end, next_move};
 use crate::words::{Form, Name, Operation};

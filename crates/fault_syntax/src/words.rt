@@ -1,6 +1,7 @@
 ghost use Rattle.std.specs.Prelude.{◌≡◌, map};
 ghost use Rattle.bist_text.specs.Keywords.{word_of};
-ghost use Rattle.fault_syntax.specs.Names.{class_text, words_of};
+ghost use Rattle.fault_syntax.specs.Names.{class_text};
+ghost use Rattle.fault_syntax.specs.inner.Names.{words_of};
 
 use bist_text::Keyword;
 use fault_core::Class;

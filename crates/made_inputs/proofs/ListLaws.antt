@@ -6,7 +6,8 @@ use Rattle.fault_syntax.specs.ListText.{Named, ItemLine}
 use Rattle.fault_syntax.specs.Parts.{primitives_of}
 use Rattle.memory_desc.proofs.BackLines.{first_line}
 use Rattle.dynamic_core.specs.declared.item.Item.TheVariants.{Plain}
-use Rattle.dynamic_core.specs.Items.{BringAll, ReadsItems}
+use Rattle.dynamic_core.specs.inner.Items.{BringAll}
+use Rattle.dynamic_core.specs.Items.{ReadsItems}
 use Rattle.made_inputs.specs.MadeList.{all_lines, all_items, made_text, made_items}
 
 -- one more line

@@ -9,7 +9,7 @@ use Rattle.march_core.specs.declared.operation.Op.TheVariants.{W0}
 use Rattle.march_core.specs.declared.fault.MarchFault.{MarchFault}
 use Rattle.march_core.specs.March.{MarchElement, sweep, ops_of, all_ops, IsElement, IsMarch}
 use Rattle.march_core.specs.Building.{with_op, last_ops, ends_in_sweep}
-use Rattle.march_core.specs.Scan.{scan_of}
+use Rattle.march_core.specs.inner.Scan.{scan_of}
 use Rattle.march_core.proofs.Consistent.{scan_consistent}
 use Rattle.made_inputs.specs.MadeMarch.{next_number, order_for, first_bit, last_bit, read_of, write_of, further_ops, further_element, further, march_c_minus, long_march, made_march}
 

@@ -5,7 +5,8 @@ use Rattle.std.specs.List.{AllByRecursion, refill}
 use Rattle.march_core.specs.declared.operation.Op.{Op}
 use Rattle.std.proofs.lemmas.Bool.Decides.{nat_tests}
 use Rattle.march_core.specs.March.{MarchElement, pause, sweep, order_of, ops_of, is_pause, all_ops, has_sweep, IsElement, IsMarch}
-use Rattle.march_core.specs.Building.{with_op, last_ops, ends_in_sweep, HasOps, some_empty, IsBuilt, IsFilled}
+use Rattle.march_core.specs.Building.{with_op, last_ops, ends_in_sweep, HasOps, IsBuilt, IsFilled}
+use Rattle.march_core.specs.inner.Building.{some_empty}
 use Rattle.march_core.specs.Operation.{IsConsistent}
 
 -- an element with one more operation

@@ -3,7 +3,7 @@ use Rattle.std.proofs.Common.{◌≡◌, Bool, true, false, cond, Option, Some, 
 use Rattle.march_core.specs.declared.operation.Op.{Op}
 use Rattle.march_core.specs.declared.operation.Op.TheVariants.{W0, W1, R0, R1}
 use Rattle.march_core.specs.Operation.{written_by, expected_by, HasNoWrite, LastWrites, IsConsistent}
-use Rattle.march_core.specs.Scan.{after_op, is_right, scan_of}
+use Rattle.march_core.specs.inner.Scan.{after_op, is_right, scan_of}
 
 -- the bit that was written last after these operations
 abbrev pub last_after : Option Bool → List Op → Option Bool

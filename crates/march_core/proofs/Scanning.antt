@@ -13,7 +13,7 @@ use Rattle.march_core.specs.declared.fault.MarchFault.TheVariants.{Unexpected, T
 use Rattle.march_core.specs.March.{MarchElement, ops_of, all_ops, ops_at, IsMarch}
 use Rattle.march_core.specs.Operation.{written_by, expected_by, HasNoWrite, LastWrites, IsConsistent}
 use Rattle.march_core.specs.Building.{ops_before, IsFilled, IsRefused}
-use Rattle.march_core.specs.Scan.{is_right, scan_of, StopsAt, refusal_of}
+use Rattle.march_core.specs.inner.Scan.{is_right, scan_of, StopsAt, refusal_of}
 use Rattle.march_core.proofs.Built.{march_filled}
 use Rattle.march_core.proofs.Consistent.{last_after, scan_of-append, scan_consistent, consistent_scan, writes_last, last_writes, after_reads}
 

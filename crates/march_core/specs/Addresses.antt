@@ -1,6 +1,6 @@
 -- Public. Only helps proofs: the code's walk over the addresses of an element.
-use Rattle.std.specs.Prelude.{◌-◌, ℕ, Bool, true, false, List, map}
-use Rattle.march_core.specs.Visits.{Visit, MarchStep, visiting, Direction, Upward, Downward}
+use Rattle.std.specs.Prelude.{◌-◌, ℕ, Bool, true, false}
+use Rattle.march_core.specs.Visits.{Direction, Upward, Downward}
 
 abbrev pub direction_of : Bool → Direction
 direction_of true = Downward
@@ -10,7 +10,3 @@ direction_of false = Upward
 unfoldable pub address_at : Direction → ℕ → ℕ → ℕ
 address_at Upward place size = place
 address_at Downward place size = size - 1 - place
-
--- visits as steps of a march
-abbrev pub steps_of : List Visit → List MarchStep
-steps_of visits = map visiting visits

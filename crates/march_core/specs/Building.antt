@@ -1,5 +1,5 @@
 -- Trusted. A march under construction: one more operation, and why it is not yet a march.
-use Rattle.std.specs.Prelude.{◌≡◌, ◌<◌, ◌≤◌, ◌==◌, ◌&&◌, ◌||◌, ◌⊎◌, IsTrue, ℕ, Bool, true, false, not, Some, List, [], ◌∷◌, ◌++◌, length, take, slice_get}
+use Rattle.std.specs.Prelude.{◌≡◌, ◌<◌, ◌≤◌, ◌⊎◌, IsTrue, ℕ, Bool, true, false, not, Some, List, [], ◌∷◌, ◌++◌, length, take, slice_get}
 use Rattle.std.specs.List.{AllByRecursion}
 use Rattle.march_core.specs.declared.operation.Op.{Op}
 use Rattle.march_core.specs.declared.fault.MarchFault.{MarchFault}
@@ -32,11 +32,6 @@ HasOps e = (is_pause e ≡ true) ⊎ (0 < length (ops_of e))
 -- one element at least isn't a pause, and each of these has operations
 abbrev pub IsFilled : List MarchElement → Type 0
 IsFilled elements = IsTrue (has_sweep elements) × AllByRecursion HasOps elements
-
--- some element isn't a pause and has no operation
-abbrev pub some_empty : List MarchElement → Bool
-some_empty [] = false
-some_empty (e ∷ es) = (not (is_pause e) && (length (ops_of e) == 0)) || some_empty es
 
 -- what is built so far is within the limits, and its operations are counted
 pub record IsBuilt (elements : List MarchElement) (total : ℕ) : Type 0 where

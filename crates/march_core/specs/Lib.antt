@@ -1,9 +1,9 @@
 pub mod Operation
 pub mod March
 pub mod Building
-pub mod Scan
 pub mod Directions
 pub mod DirectionWords
 pub mod Visits
 pub mod Runs
 pub mod Addresses
+pub mod inner

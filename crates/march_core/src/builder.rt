@@ -1,6 +1,7 @@
 ghost use Rattle.std.specs.Prelude.{◌≡◌, ◌<◌, ◌≤◌, ◌+◌, ◌-◌, ◌++◌, ◌∷◌, [], ◌↔◌, IsOk, IfOk, IfErr, OnOk, OnErr, IsTrue, length};
 ghost use Rattle.march_core.specs.March.{pause, sweep, IsMarch, all_ops};
-ghost use Rattle.march_core.specs.Building.{with_op, last_ops, ends_in_sweep, some_empty, IsFilled, IsRefused};
+ghost use Rattle.march_core.specs.Building.{with_op, last_ops, ends_in_sweep, IsFilled, IsRefused};
+ghost use Rattle.march_core.specs.inner.Building.{some_empty};
 
 use crate::element::Element;
 use crate::fault::MarchFault;

@@ -1,5 +1,5 @@
 ghost use Rattle.std.specs.Prelude.{◌≡◌, Some, None, MatchResult};
-ghost use Rattle.march_core.specs.Scan.{scan_of, StopsAt, refusal_of};
+ghost use Rattle.march_core.specs.inner.Scan.{scan_of, StopsAt, refusal_of};
 ghost use Rattle.march_core.specs.March.{all_ops};
 ghost use Rattle.march_core.specs.Operation.{IsConsistent};
 ghost use Rattle.march_core.specs.Building.{IsFilled, IsRefused};

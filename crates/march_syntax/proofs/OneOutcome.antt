@@ -1,13 +1,15 @@
 -- A text is read as one march, or refused in one way.
 use Rattle.std.proofs.Common.{◌≡◌, ℕ, List, ◌∙◌, Result, Ok, Err, refl, sym, ap, subst}
-use Rattle.bist_text.specs.Machine.{Outcome, read, unexpected, truncated, Answers}
+use Rattle.bist_text.specs.Machine.{Outcome, read, unexpected, truncated}
+use Rattle.bist_text.specs.inner.Machine.{Answers}
 use Rattle.bist_text.proofs.Settled.{answers_one}
 use Rattle.march_core.specs.declared.fault.MarchFault.{MarchFault}
 use Rattle.march_core.specs.declared.fault.MarchFault.TheVariants.{Unexpected, Truncated, Empty, TooManyElements, TooManyOps, TooManyInAll, ReadBeforeWrite, WrongExpect}
 use Rattle.march_core.specs.March.{MarchElement}
-use Rattle.march_syntax.specs.Answers.{Decides, Gives, Reads}
+use Rattle.march_syntax.specs.inner.Answers.{Decides, Gives}
+use Rattle.march_syntax.specs.Answers.{Reads}
 use Rattle.march_syntax.specs.MarchText.{MarchText}
-use Rattle.march_syntax.specs.Places.{start, step, value, rest}
+use Rattle.march_syntax.specs.inner.Places.{start, step, value, rest}
 use Rattle.march_syntax.proofs.Exceeding.{refuses_once, refuses_no_march}
 use Rattle.march_syntax.proofs.PlaceLaws.{follows, start_is}
 

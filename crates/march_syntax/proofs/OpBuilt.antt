@@ -10,7 +10,7 @@ use Rattle.march_core.specs.March.{MarchElement, ops_of, all_ops}
 use Rattle.march_core.proofs.Built.{sweep_is_some, length-with_op, within-with_op, length-all_ops-with_op}
 use Rattle.march_syntax.specs.declared.place.Event.{Event}
 use Rattle.march_syntax.specs.declared.place.Event.TheVariants.{Quiet, Begins, Adds, Ends, Waits}
-use Rattle.march_syntax.specs.Building.{CanAdd, Builds}
+use Rattle.march_syntax.specs.inner.Building.{CanAdd, Builds}
 use Rattle.march_syntax.specs.Limits.{IsWithin}
 
 last_within : (es : List MarchElement) → AllByRecursion (λ e. length (ops_of e) ≤ 16) es → 0 < length es → length (last_ops es) ≤ 16

@@ -1,15 +1,17 @@
 -- From where a reader stands to what it answers.
 use Rattle.std.proofs.Common.{◌≡◌, ◌↔◌, ℕ, Bool, true, List, [], ◌∙◌, drop, Option, Some, Result, Ok, Err, refl, sym, subst, inl, inr}
-use Rattle.bist_text.specs.Machine.{Outcome, read, unexpected, truncated, scan, IsExact}
+use Rattle.bist_text.specs.Machine.{Outcome, read, unexpected, truncated, scan}
+use Rattle.bist_text.specs.inner.Machine.{IsExact}
 use Rattle.bist_text.proofs.Settled.{scan_exact}
 use Rattle.march_core.specs.declared.fault.MarchFault.{MarchFault}
 use Rattle.march_core.specs.declared.fault.MarchFault.TheVariants.{Unexpected, Truncated, Empty, TooManyElements, TooManyOps, TooManyInAll, ReadBeforeWrite, WrongExpect}
 use Rattle.march_core.specs.March.{MarchElement, IsMarch}
 use Rattle.march_syntax.specs.declared.place.Place.{Place}
-use Rattle.march_syntax.specs.Answers.{Refuses, Gives, Reads}
+use Rattle.march_syntax.specs.Answers.{Refuses, Reads}
+use Rattle.march_syntax.specs.inner.Answers.{Gives}
 use Rattle.march_syntax.proofs.OneOutcome.{reads_one}
 use Rattle.march_syntax.specs.MarchText.{MarchText}
-use Rattle.march_syntax.specs.Places.{may_end, start, step, value, rest}
+use Rattle.march_syntax.specs.inner.Places.{may_end, start, step, value, rest}
 use Rattle.march_syntax.proofs.PlaceLaws.{follows, start_is}
 use Rattle.march_syntax.proofs.Standing.{Stands, Keeps, stands_end}
 

@@ -4,8 +4,10 @@ use Rattle.bist_text.specs.Grammar.{finish, byte, are_bytes, Continues}
 use Rattle.bist_text.specs.declared.keywords.Letters.{Letters}
 use Rattle.bist_text.specs.declared.keywords.Spelled.{Spelled}
 use Rattle.bist_text.specs.declared.keywords.Spelled.TheVariants.{More, Whole}
-use Rattle.bist_text.specs.Keywords.{stands, letters_of, seek, spell, left}
-use Rattle.bist_text.specs.Machine.{Holds, Grows, Follows}
+use Rattle.bist_text.specs.inner.Keywords.{stands, left}
+use Rattle.bist_text.specs.Keywords.{letters_of, seek, spell}
+use Rattle.bist_text.specs.Machine.{Holds}
+use Rattle.bist_text.specs.inner.Machine.{Grows, Follows}
 use Rattle.bist_text.proofs.KeywordLaws.{first_law, spell_law, first_ends, spell_ends}
 use Rattle.bist_text.proofs.Pieces.{at_byte, also, skip, stay, neither, same, never, holds_iff, holds_never, grows_iff, grows_never, grows_from_none, Headed, grows_one, many_never, ends_none, ends_here}
 use Rattle.march_core.specs.declared.operation.Order.{Order}
@@ -22,7 +24,7 @@ use Rattle.march_syntax.specs.declared.place.Place.TheVariants.{Start, Open, Spe
 use Rattle.march_syntax.specs.declared.place.Event.TheVariants.{Quiet, Adds}
 use Rattle.march_syntax.specs.declared.place.Move.{Move}
 use Rattle.march_syntax.specs.MarchText.{is_white, ws, more_ops, ops, body, element, more_elements, elements, close, listed, MarchText}
-use Rattle.march_syntax.specs.Places.{marks, mark_of, behind, paused, State, begun, spelling, op_of, start, moved, move, step_at, step, value, may_end, digit, ops_left, in_element, in_spelling, left_at, Nothing, rest, spelled_at}
+use Rattle.march_syntax.specs.inner.Places.{marks, mark_of, behind, paused, State, begun, spelling, op_of, start, moved, move, step_at, step, value, may_end, digit, ops_left, in_element, in_spelling, left_at, Nothing, rest, spelled_at}
 use Rattle.march_syntax.proofs.Spelling.{fine, element_is, part_alive}
 
 -- what one more letter of a spelling leaves

@@ -8,7 +8,8 @@ use Rattle.march_core.specs.declared.operation.Order.TheVariants.{Up, Down, Any}
 use Rattle.march_core.specs.declared.operation.Op.{Op}
 use Rattle.march_core.specs.March.{MarchElement, pause, sweep, is_pause, IsElement, IsMarch, element_at, order_at, ops_at, is_pause_at}
 use Rattle.march_syntax.specs.MarchText.{is_white, ws, spellings, op_text, more_ops, ops, body, element, more_elements, close, listed, MarchText}
-use Rattle.march_syntax.specs.Printed.{order_text, more_ops_text, ops_text, element_text, more_elements_text, elements_text, printed, separator}
+use Rattle.march_syntax.specs.Printed.{order_text, more_ops_text, ops_text, element_text, more_elements_text, elements_text, printed}
+use Rattle.march_syntax.specs.inner.Printed.{separator}
 
 -- ---- what is printed is a text of the grammar
 

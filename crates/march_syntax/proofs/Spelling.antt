@@ -2,7 +2,8 @@
 use Rattle.std.proofs.Common.{◌≡◌, ◌↔◌, ℕ, true, List, ◌∷◌, [], ◌++◌, refl, inl, inr, subst}
 use Rattle.bist_text.specs.declared.keywords.Letters.{Letters}
 use Rattle.bist_text.specs.Grammar.{one_of, are_bytes}
-use Rattle.bist_text.specs.Keywords.{stands, letters_of, are_apart}
+use Rattle.bist_text.specs.inner.Keywords.{stands, are_apart}
+use Rattle.bist_text.specs.Keywords.{letters_of}
 use Rattle.bist_text.proofs.Bytes.{are_bytes-append}
 use Rattle.bist_text.proofs.KeywordLaws.{IsOf, stands_all, spell_alive}
 use Rattle.march_core.specs.declared.operation.Order.TheVariants.{Up, Down, Any}
@@ -11,7 +12,7 @@ use Rattle.march_core.specs.March.{MarchElement, pause, sweep}
 use Rattle.march_syntax.specs.declared.place.Mark.{Mark}
 use Rattle.march_syntax.specs.declared.place.Mark.TheVariants.{OfOrder, OfPause}
 use Rattle.march_syntax.specs.MarchText.{element, body}
-use Rattle.march_syntax.specs.Places.{texts, all_marks, marks, mark_of, behind}
+use Rattle.march_syntax.specs.inner.Places.{texts, all_marks, marks, mark_of, behind}
 
 pub fine : are_apart marks ≡ true
 fine = refl

@@ -19,10 +19,10 @@ use Rattle.march_syntax.specs.declared.place.Mark.TheVariants.{OfOrder, OfPause}
 use Rattle.march_syntax.specs.declared.place.Event.{Event}
 use Rattle.march_syntax.specs.declared.place.Event.TheVariants.{Quiet, Begins, Adds, Ends, Waits}
 use Rattle.march_syntax.specs.declared.place.Move.{Move}
-use Rattle.march_syntax.specs.Building.{with_event, HasBegun, IsFull, CanAdd, Builds}
+use Rattle.march_syntax.specs.inner.Building.{with_event, HasBegun, IsFull, CanAdd, Builds}
 use Rattle.march_syntax.specs.Limits.{IsWithin, BeforeOp, so_far, Exceeds}
 use Rattle.march_syntax.specs.MarchText.{is_white}
-use Rattle.march_syntax.specs.Places.{marks, spelling, move_at, may_end, State, begun, start, after_event, moved, step, value, rest, in_element, is_inside, held}
+use Rattle.march_syntax.specs.inner.Places.{marks, spelling, move_at, may_end, State, begun, start, after_event, moved, step, value, rest, in_element, is_inside, held}
 use Rattle.march_syntax.proofs.PlaceLaws.{follows}
 
 -- ---- which events come at which places

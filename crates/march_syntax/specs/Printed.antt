@@ -1,5 +1,5 @@
 -- Trusted. The printed form of a march: the words `up`, `down`, `any` and `del`, braces, and no blanks.
-use Rattle.std.specs.Prelude.{ℕ, zero, suc, List, [], ◌∷◌, ◌++◌, codes}
+use Rattle.std.specs.Prelude.{ℕ, List, [], ◌∷◌, ◌++◌, codes}
 use Rattle.march_core.specs.declared.operation.Order.{Order}
 use Rattle.march_core.specs.declared.operation.Order.TheVariants.{Up, Down, Any}
 use Rattle.march_core.specs.declared.operation.Op.{Op}
@@ -35,8 +35,3 @@ elements_text (e ∷ es) = element_text e ++ more_elements_text es
 
 abbrev pub printed : List MarchElement → List ℕ
 printed es = codes "{" ++ elements_text es ++ codes "}"
-
--- a separator, before each part but the first
-abbrev pub separator : ℕ → ℕ → List ℕ
-separator c zero = []
-separator c (suc i) = c ∷ []

@@ -1,7 +1,7 @@
 ghost use Rattle.std.specs.Prelude.{◌≡◌, [], false};
 ghost use Rattle.bist_text.specs.Keywords.{seek, spell};
 ghost use Rattle.march_syntax.specs.MarchText.{is_white};
-ghost use Rattle.march_syntax.specs.Places.{marks, spelling, move_at, may_end, IsBetween};
+ghost use Rattle.march_syntax.specs.inner.Places.{marks, spelling, move_at, may_end, IsBetween};
 
 use bist_text::{Keyword, Letters, Spelled, first_letter, next_letter};
 use march_core::{Op, Order};

@@ -1,7 +1,8 @@
 ghost use Rattle.std.specs.Prelude.{◌≡◌, ◌<◌, length, ◌++◌, ◌∷◌, [], OnOk, IfOk};
 ghost use Rattle.march_core.specs.March.{pause, sweep, element_at, IsMarch};
 ghost use Rattle.march_syntax.specs.MarchText.{MarchText, op_text};
-ghost use Rattle.march_syntax.specs.Printed.{order_text, ops_text, element_text, elements_text, printed, separator};
+ghost use Rattle.march_syntax.specs.Printed.{order_text, ops_text, element_text, elements_text, printed};
+ghost use Rattle.march_syntax.specs.inner.Printed.{separator};
 
 use bist_bits::NoMemory;
 use march_core::{March, Op, Order};

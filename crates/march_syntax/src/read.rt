@@ -1,10 +1,11 @@
 ghost use Rattle.std.specs.Prelude.{◌≡◌, ◌↔◌, List, Ok, Err};
 ghost use Rattle.bist_text.specs.Machine.{scan};
 ghost use Rattle.march_core.specs.March.{MarchElement};
-ghost use Rattle.march_syntax.specs.Answers.{Reads, Gives};
-ghost use Rattle.march_syntax.specs.Building.{CanAdd, Builds};
+ghost use Rattle.march_syntax.specs.Answers.{Reads};
+ghost use Rattle.march_syntax.specs.inner.Answers.{Gives};
+ghost use Rattle.march_syntax.specs.inner.Building.{CanAdd, Builds};
 ghost use Rattle.march_syntax.specs.MarchText.{MarchText};
-ghost use Rattle.march_syntax.specs.Places.{step, value, start};
+ghost use Rattle.march_syntax.specs.inner.Places.{step, value, start};
 
 use crate::place::{Event, Place, is_end, next_move};
 use march_core::{March, MarchBuilder, MarchFault};

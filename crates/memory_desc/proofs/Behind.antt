@@ -10,7 +10,8 @@ use Rattle.memory_desc.specs.declared.line_place.Key.{Key}
 use Rattle.memory_desc.specs.declared.line_place.Key.TheVariants.{Memory}
 use Rattle.memory_desc.proofs.LineStops.{first_stops, argument_stops}
 use Rattle.bist_text.proofs.Behind.{agree, Has, Low, set_has, blanks_have, small_have, Passes, skip_many, skip_word}
-use Rattle.bist_text.specs.LineGrammar.{space, gap, tail, is_small}
+use Rattle.bist_text.specs.LineGrammar.{space, gap, tail}
+use Rattle.bist_text.specs.inner.LineGrammar.{is_small}
 use Rattle.bist_text.proofs.LineStops.{IsPlain, gap_stops, space_of_gap}
 
 -- ---- the sets of the reader

@@ -2,7 +2,7 @@
 use Rattle.std.proofs.Common.{◌≡◌, ℕ, List, Option, Some, None, Result, Ok, Err, refl, sym, ap}
 use Rattle.scrambler.specs.Scrambling.{Scrambling}
 use Rattle.memory_desc.specs.Descriptions.{Description, assembled}
-use Rattle.memory_desc.specs.Standing.{checked}
+use Rattle.memory_desc.specs.inner.Standing.{checked}
 use Rattle.memory_desc.specs.Statements.{Statement}
 use Rattle.memory_desc.specs.Table.{unscramblable, too_wide, described, Scrambles, StatesBackgrounds, Builds}
 use Rattle.memory_desc.specs.Values.{name_said, words_said, bits_said, latency_said, polarity_said, pause_said}

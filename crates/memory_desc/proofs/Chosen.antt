@@ -8,7 +8,7 @@ use Rattle.std.proofs.lemmas.List.{length-map, take_all}
 use Rattle.backgrounds.specs.Backgrounds.{IsLogSet}
 use Rattle.memory_desc.specs.Descriptions.{IsBackgrounds}
 use Rattle.memory_desc.specs.LineText.{Content, log, backgrounds, kind_of, ContentText}
-use Rattle.memory_desc.specs.Standing.{StandsAt, is_log}
+use Rattle.memory_desc.specs.inner.Standing.{StandsAt, is_log}
 use Rattle.memory_desc.specs.Statements.{Statement}
 use Rattle.memory_desc.specs.Subjects.{about, said}
 use Rattle.memory_desc.specs.Table.{Unless, too_many, without_solid, is_too_wide, too_wide, StatesBackgrounds, AcceptsBackgrounds, SelectsBackgrounds}

@@ -14,10 +14,10 @@ use Rattle.arrayvec.specs.ArrayVec.{ArrayVec}
 use Rattle.bist_text.specs.Cursors.{TextPlace, left_of}
 use Rattle.bist_text.specs.Grammar.{word, many, is_blank}
 use Rattle.memory_desc.specs.LineText.{Term, backgrounds, is_word, is_term, equation, argument, more_words}
-use Rattle.memory_desc.specs.LineRest.{words_left}
-use Rattle.memory_desc.specs.Standing.{highest_of, union_of, IsRow, AreWords}
+use Rattle.memory_desc.specs.inner.LineRest.{words_left}
+use Rattle.memory_desc.specs.inner.Standing.{highest_of, union_of, IsRow, AreWords}
 use Rattle.memory_desc.specs.Values.{index_bits, word_values}
-use Rattle.memory_desc.specs.ContentParts.{IsTerm, terms_left, NextTerm, Gathers, NextWord, Collects}
+use Rattle.memory_desc.specs.inner.ContentParts.{IsTerm, terms_left, NextTerm, Gathers, NextWord, Collects}
 use Rattle.memory_desc.specs.declared.content.Row.{Row}
 use Rattle.memory_desc.specs.declared.content.Summand.{Summand}
 use Rattle.memory_desc.specs.declared.content.Words.{Words}

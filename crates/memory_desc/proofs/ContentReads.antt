@@ -12,15 +12,16 @@ use Rattle.bist_text.specs.Grammar.{byte, word, is_blank}
 use Rattle.bist_text.specs.Numbers.{IsNumber}
 use Rattle.memory_desc.specs.Names.{is_digit, is_name_byte}
 use Rattle.memory_desc.specs.LineText.{Term, index_bit, constant, Content, version, name, words, bits, latency, polarity, pause, scramble, log, backgrounds, kind_of, is_hex, is_number, is_word, is_term, is_formed, term_text, more_terms, equation, more_words, argument}
-use Rattle.memory_desc.specs.LineRest.{words_left}
-use Rattle.memory_desc.specs.Standing.{digits_in, is_log}
-use Rattle.memory_desc.specs.ContentParts.{IsTerm, terms_left, NextTerm, NextWord}
+use Rattle.memory_desc.specs.inner.LineRest.{words_left}
+use Rattle.memory_desc.specs.inner.Standing.{digits_in, is_log}
+use Rattle.memory_desc.specs.inner.ContentParts.{IsTerm, terms_left, NextTerm, NextWord}
 use Rattle.memory_desc.specs.declared.content.Summand.{Summand}
 use Rattle.memory_desc.specs.declared.content.Summand.TheVariants.{IndexBit}
 use Rattle.memory_desc.specs.declared.line_place.Key.TheVariants.{Backgrounds}
 use Rattle.memory_desc.proofs.LineRefusals.{digits_plain, hex_plain, names_plain, no_more_terms, no_equation, no_more_words}
 use Rattle.memory_desc.proofs.LineStops.{term_stops, hex_stops, name_run}
-use Rattle.bist_text.specs.LineGrammar.{space, comment, tail, after}
+use Rattle.bist_text.specs.LineGrammar.{space, comment, tail}
+use Rattle.bist_text.specs.inner.LineGrammar.{after}
 use Rattle.bist_text.proofs.LinePieces.{when_false, when_holds, apart}
 use Rattle.bist_text.proofs.LineStops.{no_tail, run_parts, Stops, comment_stops, tail_stops, space_of_gap}
 use Rattle.bist_text.proofs.Behind.{many_after, word_run}

@@ -2,7 +2,7 @@
 use Rattle.std.proofs.Common.{◌≡◌, ℕ, List, Option, Some, None, Result, Ok, Err, refl, ap, ◌↔◌, inl, inr}
 use Rattle.memory_desc.specs.LineText.{Term, Content, scramble, kind_of, ContentText, LineText}
 use Rattle.memory_desc.specs.LineRest.{KindText}
-use Rattle.memory_desc.specs.Standing.{subject_in, IsRow}
+use Rattle.memory_desc.specs.inner.Standing.{subject_in, IsRow}
 use Rattle.memory_desc.specs.Subjects.{subject}
 use Rattle.memory_desc.specs.declared.line_place.Key.{Key}
 use Rattle.memory_desc.specs.declared.line_place.Key.TheVariants.{Scramble}

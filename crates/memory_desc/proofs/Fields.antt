@@ -9,7 +9,7 @@ use Rattle.memory_desc.specs.Descriptions.{Description}
 use Rattle.memory_desc.specs.LineText.{Content, name, polarity, ContentText}
 use Rattle.memory_desc.specs.Names.{IsName}
 use Rattle.bist_text.specs.ReservedWords.{is_among, reserved_words}
-use Rattle.memory_desc.specs.Standing.{is_ranged, least, most, value_in, StandsAt, digits_in}
+use Rattle.memory_desc.specs.inner.Standing.{is_ranged, least, most, value_in, StandsAt, digits_in}
 use Rattle.memory_desc.specs.Statements.{Statement}
 use Rattle.memory_desc.specs.Subjects.{about, said}
 use Rattle.memory_desc.specs.Table.{missing, unless_there, repeated, out_of_range, too_wide, Builds, Describes}

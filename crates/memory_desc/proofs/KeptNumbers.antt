@@ -15,7 +15,7 @@ use Rattle.std.specs.List.{list_any, refill}
 use Rattle.std.specs.List.Sorted.{IsNonDecreasing, IsBinarySearchResult, IsPermutation, IsSorted}
 use Rattle.std.specs.Ordering.{nat_cmp}
 use Rattle.std.specs.Result.{is_ok}
-use Rattle.memory_desc.specs.Met.{MayHave}
+use Rattle.memory_desc.specs.inner.Met.{MayHave}
 use Rattle.memory_desc.proofs.LineTests.{eqb_turns}
 
 any_there : (n : ℕ) (xs : List ℕ) → list_any (λ y. nat_eq y n) xs ≡ true → Contains xs n

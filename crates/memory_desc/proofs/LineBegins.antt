@@ -10,11 +10,12 @@ use Rattle.memory_desc.specs.declared.line_place.Key.{Key}
 use Rattle.memory_desc.specs.declared.line_place.Key.TheVariants.{Memory, Name, Words, Bits, Latency, Polarity, Pause, Scramble, Backgrounds}
 use Rattle.memory_desc.specs.declared.line_place.Place.TheVariants.{Wanted, Number, Name as InName, RowNumber, LetterL, Hex}
 use Rattle.memory_desc.specs.LineText.{Term, Content, version, name, words, bits, latency, polarity, pause, scramble, log, backgrounds, kind_of, is_hex, is_number, is_word, is_term, is_formed, equation, more_words, argument}
-use Rattle.memory_desc.specs.LinePlaces.{argument_begun, is_digit_of, most_digits}
-use Rattle.memory_desc.specs.LineRest.{Names, Of, Terms, HexWords, rest}
+use Rattle.memory_desc.specs.inner.LinePlaces.{argument_begun, is_digit_of, most_digits}
+use Rattle.memory_desc.specs.inner.LineRest.{Names, Of, Terms, HexWords, rest}
 use Rattle.memory_desc.proofs.LineStops.{argument_stops}
 use Rattle.memory_desc.proofs.LineLaws.{Law, second, of_iff}
-use Rattle.bist_text.specs.LineGrammar.{space, tail, Run}
+use Rattle.bist_text.specs.LineGrammar.{space, tail}
+use Rattle.bist_text.specs.inner.LineGrammar.{Run}
 use Rattle.bist_text.proofs.LinePieces.{at_bool, when_true, when_false, when_holds, space_on, space_off}
 use Rattle.bist_text.proofs.LineStops.{is_run, run_parts, run_of, run_begins, no_run}
 

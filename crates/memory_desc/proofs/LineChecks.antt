@@ -9,11 +9,12 @@ use Rattle.memory_desc.specs.declared.line_reader.LineFault.{LineFault}
 use Rattle.memory_desc.specs.declared.line_reader.LineFault.TheVariants.{Unexpected, Truncated}
 use Rattle.memory_desc.specs.LineText.{Content, version, kind_of, ContentText, LineText}
 use Rattle.memory_desc.specs.LineRest.{KindText, OpeningText}
-use Rattle.memory_desc.specs.LineAnswers.{refusal_at, IsReadBy, Opens, Checks}
+use Rattle.memory_desc.specs.inner.LineAnswers.{refusal_at, IsReadBy, Opens, Checks}
 use Rattle.memory_desc.specs.LineFaults.{IsLineFault}
-use Rattle.memory_desc.specs.Statements.{is_line_of, version_of, GivesVersion, IsVersionLine}
+use Rattle.memory_desc.specs.inner.Statements.{is_line_of, IsVersionLine}
+use Rattle.memory_desc.specs.Statements.{version_of, GivesVersion}
 use Rattle.memory_desc.specs.declared.line_place.Version.{Version}
-use Rattle.memory_desc.specs.Standing.{digits_in}
+use Rattle.memory_desc.specs.inner.Standing.{digits_in}
 use Rattle.std.specs.Str.Parse.{digits_value}
 use Rattle.bist_text.specs.LineGrammar.{tail}
 

@@ -6,7 +6,8 @@ use Rattle.std.specs.Prelude.{slice_get}
 use Rattle.bist_text.specs.declared.keywords.Spelled.{Spelled}
 use Rattle.bist_text.specs.declared.keywords.Spelled.TheVariants.{More, Whole}
 use Rattle.bist_text.specs.Grammar.{word, is_blank}
-use Rattle.bist_text.specs.Keywords.{Word, stands, letters_of, seek, spell, left, are_apart}
+use Rattle.bist_text.specs.Keywords.{Word, letters_of, seek, spell}
+use Rattle.bist_text.specs.inner.Keywords.{stands, left, are_apart}
 use Rattle.bist_text.specs.Machine.{Holds}
 use Rattle.bist_text.proofs.KeywordLaws.{IsOf, is_at, is_passed, stands_all, first_law, spell_law}
 use Rattle.bist_text.proofs.Pieces.{also, stay, same, never}
@@ -17,8 +18,9 @@ use Rattle.memory_desc.specs.declared.line_place.Version.TheVariants.{One, Two}
 use Rattle.memory_desc.specs.declared.line_place.Place.{Place}
 use Rattle.memory_desc.specs.declared.line_place.Place.TheVariants.{Opening, Begin, Remark, Letters, Named, Wanted, Number, Name as InName, RowNumber, RowEnd, Term as AtTerm, TermNumber, TermEnd, LetterL, LetterO, Hex, HexEnd, End}
 use Rattle.memory_desc.specs.LineText.{Content, kind_of, in_table, argument, key_text}
-use Rattle.memory_desc.specs.LinePlaces.{keys_in, keys_of, spelling, at_start, begun}
-use Rattle.memory_desc.specs.LineRest.{LineOf, Keyed, rest}
+use Rattle.memory_desc.specs.inner.LinePlaces.{keys_in, keys_of, spelling, at_start, begun}
+use Rattle.memory_desc.specs.LineRest.{LineOf}
+use Rattle.memory_desc.specs.inner.LineRest.{Keyed, rest}
 use Rattle.memory_desc.proofs.LineLaws.{Law, second, ended_law, row_ended_law, term_ended_law, goes_number, goes_name, goes_row_number, goes_term_number, goes_hex, goes_letter_l, goes_letter_o, goes_named}
 use Rattle.memory_desc.proofs.LineStarts.{goes_hex_end, goes_term}
 use Rattle.memory_desc.proofs.LineStops.{first_stops}

@@ -12,10 +12,11 @@ use Rattle.memory_desc.specs.declared.line_place.Key.TheVariants.{Name, Scramble
 use Rattle.memory_desc.specs.declared.line_place.Place.{Place}
 use Rattle.memory_desc.specs.declared.line_place.Place.TheVariants.{Remark, Named, Wanted, Number, Name as InName, RowNumber, RowEnd, Term as AtTerm, TermNumber, TermEnd, LetterL, LetterO, Hex, HexEnd, End}
 use Rattle.memory_desc.specs.LineText.{Term, Content, is_hex, is_word, is_term, is_formed, term_text, more_terms, equation, more_words, argument}
-use Rattle.memory_desc.specs.LinePlaces.{step, is_digit_of, most_digits, ended, term_ended, row_ended, word_ended}
-use Rattle.memory_desc.specs.LineRest.{Names, words_left, Of, Terms, HexWords, rest}
+use Rattle.memory_desc.specs.inner.LinePlaces.{step, is_digit_of, most_digits, ended, term_ended, row_ended, word_ended}
+use Rattle.memory_desc.specs.inner.LineRest.{Names, words_left, Of, Terms, HexWords, rest}
 use Rattle.memory_desc.proofs.LineRefusals.{names_plain, number_plain, no_more_terms, no_equation, no_more_words}
-use Rattle.bist_text.specs.LineGrammar.{space, gap, tail, Run}
+use Rattle.bist_text.specs.LineGrammar.{space, gap, tail}
+use Rattle.bist_text.specs.inner.LineGrammar.{Run}
 use Rattle.bist_text.proofs.LinePieces.{at_bool, when_true, when_false, when_holds, apart, space_on, space_off, gap_on, gap_off, tail_blank, tail_other, tail_never, run_on, run_off, run_none}
 use Rattle.bist_text.proofs.LineStops.{no_tail}
 

@@ -4,8 +4,10 @@ use Rattle.std.proofs.lemmas.Bool.{and_from, and_parts, eq-eqb}
 use Rattle.std.proofs.Math.Dec.{eqb-suc-zero}
 use Rattle.std.specs.List.{list_all}
 use Rattle.bist_text.specs.Grammar.{word, Continues, are_bytes}
-use Rattle.bist_text.specs.Keywords.{stands, letters_of}
-use Rattle.bist_text.specs.Machine.{Follows, scan, IsExact}
+use Rattle.bist_text.specs.inner.Keywords.{stands}
+use Rattle.bist_text.specs.Keywords.{letters_of}
+use Rattle.bist_text.specs.inner.Machine.{Follows, IsExact}
+use Rattle.bist_text.specs.Machine.{scan}
 use Rattle.bist_text.proofs.Pieces.{same, never}
 use Rattle.bist_text.proofs.Bytes.{are_bytes-append}
 use Rattle.bist_text.proofs.KeywordLaws.{spell_ends, spell_alive}
@@ -16,11 +18,13 @@ use Rattle.memory_desc.specs.declared.line_place.Key.TheVariants.{Memory, Name, 
 use Rattle.memory_desc.specs.declared.line_place.Place.{Place}
 use Rattle.memory_desc.specs.declared.line_place.Place.TheVariants.{Opening, Begin, Remark, Letters, Named, Wanted, Number, Name as InName, RowNumber, RowEnd, Term as AtTerm, TermNumber, TermEnd, LetterL, LetterO, Hex, HexEnd, End}
 use Rattle.memory_desc.specs.LineText.{Term, index_bit, constant, Content, version, name, words, bits, latency, polarity, pause, scramble, log, backgrounds, kind_of, in_table, is_hex, is_word, is_formed, term_text, more_terms, equation, more_words, argument, key_text}
-use Rattle.memory_desc.specs.LinePlaces.{step, value, is_digit_of, most_digits, keys_of}
-use Rattle.memory_desc.specs.LineRest.{LineOf, Terms, HexWords, rest}
+use Rattle.memory_desc.specs.inner.LinePlaces.{step, value, is_digit_of, most_digits, keys_of}
+use Rattle.memory_desc.specs.LineRest.{LineOf}
+use Rattle.memory_desc.specs.inner.LineRest.{Terms, HexWords, rest}
 use Rattle.memory_desc.proofs.LineBegins.{some_digits}
 use Rattle.memory_desc.proofs.LineFollows.{fine, memory_word, first_key, goes_at}
-use Rattle.bist_text.specs.LineGrammar.{space, gap, tail, Run}
+use Rattle.bist_text.specs.LineGrammar.{space, gap, tail}
+use Rattle.bist_text.specs.inner.LineGrammar.{Run}
 use Rattle.bist_text.proofs.LinePieces.{at_bool, positive, when_true}
 use Rattle.bist_text.proofs.LineStops.{is_run, run_parts}
 

@@ -4,7 +4,7 @@ use Rattle.bist_text.specs.Grammar.{word}
 use Rattle.memory_desc.specs.Names.{is_digit, is_name_byte}
 use Rattle.memory_desc.specs.declared.line_place.Key.{Key}
 use Rattle.memory_desc.specs.declared.line_place.Key.TheVariants.{Polarity}
-use Rattle.memory_desc.specs.LinePlaces.{is_digit_of}
+use Rattle.memory_desc.specs.inner.LinePlaces.{is_digit_of}
 use Rattle.memory_desc.specs.LineText.{Term, is_hex, more_terms, equation, more_words}
 use Rattle.bist_text.proofs.LineStops.{IsPlain, plain_blank, no_tail, no_mark}
 use Rattle.bist_text.specs.LineGrammar.{tail}

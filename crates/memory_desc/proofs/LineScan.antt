@@ -1,16 +1,17 @@
 -- The loop over a line, and what its answer says by the grammar.
 use Rattle.std.proofs.Common.{◌≡◌, ℕ, List, Option, Result, Ok, Err, refl, ◌↔◌, ap}
 use Rattle.bist_text.specs.Grammar.{IsUnexpected, IsTruncated}
-use Rattle.bist_text.specs.Machine.{Outcome, read, unexpected, truncated, IsExact}
+use Rattle.bist_text.specs.Machine.{Outcome, read, unexpected, truncated}
+use Rattle.bist_text.specs.inner.Machine.{IsExact}
 use Rattle.memory_desc.specs.declared.line_place.Key.{Key}
 use Rattle.memory_desc.specs.declared.line_reader.LineFault.{LineFault}
 use Rattle.memory_desc.specs.declared.line_reader.LineFault.TheVariants.{Unexpected, Truncated}
 use Rattle.bist_text.specs.Machine.{scan}
 use Rattle.memory_desc.specs.declared.line_place.Place.{Place}
-use Rattle.memory_desc.specs.LinePlaces.{step, value}
-use Rattle.memory_desc.specs.LineRest.{rest}
+use Rattle.memory_desc.specs.inner.LinePlaces.{step, value}
+use Rattle.memory_desc.specs.inner.LineRest.{rest}
 use Rattle.memory_desc.proofs.LineMachine.{line_exact}
-use Rattle.memory_desc.specs.LineAnswers.{Gives, IsReadBy}
+use Rattle.memory_desc.specs.inner.LineAnswers.{Gives, IsReadBy}
 
 -- what the answer is, of an exact outcome
 kinds : (G : List ℕ → Option Key → Type 0) (b : List ℕ) (r : Result (Option Key) LineFault) (o : Outcome (Option Key)) → Gives r o → IsExact G b o

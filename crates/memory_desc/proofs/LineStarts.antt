@@ -10,12 +10,13 @@ use Rattle.memory_desc.specs.declared.line_place.Key.{Key}
 use Rattle.memory_desc.specs.declared.line_place.Key.TheVariants.{Backgrounds}
 use Rattle.memory_desc.specs.declared.line_place.Place.TheVariants.{Remark, Term as AtTerm, TermNumber, TermEnd, Hex, HexEnd}
 use Rattle.memory_desc.specs.LineText.{Term, index_bit, constant, is_hex, is_word, is_term, term_text, more_terms, more_words}
-use Rattle.memory_desc.specs.LinePlaces.{word_ended}
-use Rattle.memory_desc.specs.LineRest.{words_left, Terms, OneTerm, HexWords, rest}
+use Rattle.memory_desc.specs.inner.LinePlaces.{word_ended}
+use Rattle.memory_desc.specs.inner.LineRest.{words_left, Terms, OneTerm, HexWords, rest}
 use Rattle.memory_desc.proofs.LineRefusals.{hex_plain}
 use Rattle.memory_desc.proofs.LineLaws.{Law, second, hex_iff, not_both}
 use Rattle.bist_text.proofs.LineStops.{run_parts, run_of, run_begins, no_run, blank_run, plain_blank, no_tail}
-use Rattle.bist_text.specs.LineGrammar.{space, tail, Run}
+use Rattle.bist_text.specs.LineGrammar.{space, tail}
+use Rattle.bist_text.specs.inner.LineGrammar.{Run}
 use Rattle.bist_text.proofs.LinePieces.{at_bool, when_true, when_false, when_holds, apart, space_on, space_off, tail_blank, tail_other, tail_never}
 
 -- ---- a run that begins

@@ -1,6 +1,6 @@
 -- Steps of the reader of a line.
 use Rattle.std.proofs.Common.{◌≡◌, ℕ, Option, ◌∙◌, sym, ap}
-use Rattle.memory_desc.specs.LinePlaces.{step}
+use Rattle.memory_desc.specs.inner.LinePlaces.{step}
 use Rattle.memory_desc.specs.declared.line_place.Place.{Place}
 
 -- the step where the reader stands

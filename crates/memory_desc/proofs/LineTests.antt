@@ -10,7 +10,7 @@ use Rattle.memory_desc.specs.LineText.{Term, index_bit, constant, Content, name,
 use Rattle.bist_text.specs.ReservedWords.{is_among, reserved_words}
 use Rattle.memory_desc.specs.Statements.{Statement}
 use Rattle.memory_desc.specs.Subjects.{subject, is_same, about}
-use Rattle.memory_desc.specs.Standing.{is_ranged, least, most, digits_in, is_log, highest_of, union_of, IsRow, AreWords, StandsAt}
+use Rattle.memory_desc.specs.inner.Standing.{is_ranged, least, most, digits_in, is_log, highest_of, union_of, IsRow, AreWords, StandsAt}
 use Rattle.memory_desc.specs.Table.{is_other, is_repeat, is_out_of_range, is_term_too_wide, is_too_wide}
 use Rattle.memory_desc.specs.Values.{word_values}
 use Rattle.memory_desc.specs.contracts.content.SubjectPartialEq.TheImpl.{eq-value}

@@ -4,7 +4,8 @@ use Rattle.std.proofs.lemmas.Bool.{and_parts}
 use Rattle.std.specs.List.{list_all}
 use Rattle.std.specs.Str.Parse.{digits_value}
 use Rattle.bist_text.specs.Lines.{TextLine, text_lines}
-use Rattle.bist_text.specs.Machine.{Outcome, read, unexpected, truncated, Answers}
+use Rattle.bist_text.specs.Machine.{Outcome, read, unexpected, truncated}
+use Rattle.bist_text.specs.inner.Machine.{Answers}
 use Rattle.bist_text.proofs.Settled.{one_answer}
 use Rattle.memory_desc.specs.Descriptions.{Description}
 use Rattle.memory_desc.specs.declared.fault.MemoryFault.{MemoryFault}
@@ -14,12 +15,14 @@ use Rattle.memory_desc.specs.declared.line_place.Place.TheVariants.{Opening, Beg
 use Rattle.memory_desc.specs.declared.line_place.Version.{Version}
 use Rattle.memory_desc.specs.declared.line_reader.LineFault.{LineFault}
 use Rattle.memory_desc.specs.declared.line_reader.LineFault.TheVariants.{Unexpected, Truncated}
-use Rattle.memory_desc.specs.LineAnswers.{refusal_at}
+use Rattle.memory_desc.specs.inner.LineAnswers.{refusal_at}
 use Rattle.memory_desc.specs.LineFaults.{IsLineFault, IsLaterFault, IsOpeningFault, AreRefused}
-use Rattle.memory_desc.specs.LinePlaces.{step, value}
-use Rattle.memory_desc.specs.LineRest.{KindText, OpeningText, rest}
+use Rattle.memory_desc.specs.inner.LinePlaces.{step, value}
+use Rattle.memory_desc.specs.LineRest.{KindText, OpeningText}
+use Rattle.memory_desc.specs.inner.LineRest.{rest}
 use Rattle.memory_desc.specs.LineText.{Content, version, ContentText, LineText}
-use Rattle.memory_desc.specs.Statements.{Statement, stated, version_of, GivesVersion, is_said_in, is_line_of, IsOfVersion, first_version, Say}
+use Rattle.memory_desc.specs.Statements.{Statement, stated, version_of, GivesVersion, is_said_in, IsOfVersion, first_version, Say}
+use Rattle.memory_desc.specs.inner.Statements.{is_line_of}
 use Rattle.memory_desc.specs.Table.{AreStatements, Describes, Reads}
 use Rattle.memory_desc.proofs.DescribedLaws.{spelled}
 use Rattle.memory_desc.proofs.Determined.{describes_one}

@@ -7,9 +7,9 @@ use Rattle.std.specs.List.{find}
 use Rattle.std.specs.Option.{option_or}
 use Rattle.bist_text.specs.Lines.{TextLine}
 use Rattle.memory_desc.specs.LineText.{Content, ContentText, LineText}
-use Rattle.memory_desc.specs.Met.{MayHave, MayBeMet}
+use Rattle.memory_desc.specs.inner.Met.{MayHave, MayBeMet}
 use Rattle.memory_desc.specs.Statements.{Statement, stated, Say}
-use Rattle.memory_desc.specs.Standing.{checked}
+use Rattle.memory_desc.specs.inner.Standing.{checked}
 use Rattle.memory_desc.specs.Subjects.{subject, is_same, is_about, about}
 use Rattle.memory_desc.specs.Table.{is_other, is_repeat, repeated, at_line}
 use Rattle.memory_desc.specs.declared.content.Subject.{Subject}

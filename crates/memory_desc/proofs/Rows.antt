@@ -17,7 +17,7 @@ use Rattle.bist_text.specs.declared.text_lines.Line.{Line}
 use Rattle.memory_desc.specs.LineText.{Content, Term, index_bit, constant, scramble, ContentText}
 use Rattle.memory_desc.specs.Statements.{Statement, Say}
 use Rattle.memory_desc.specs.Subjects.{about, said, content_of}
-use Rattle.memory_desc.specs.Standing.{IsRow, StandsAt, highest_of}
+use Rattle.memory_desc.specs.inner.Standing.{IsRow, StandsAt, highest_of}
 use Rattle.memory_desc.specs.Table.{is_term_too_wide, too_wide, missing, missing_row, first_refusal, unless_there}
 use Rattle.memory_desc.specs.Values.{index_bits, constant_of, terms_said, terms_in, rows_said}
 use Rattle.memory_desc.specs.declared.content.Row.{Row}

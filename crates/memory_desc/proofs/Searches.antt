@@ -5,7 +5,7 @@ use Rattle.bist_text.specs.Lines.{TextLine, plain_line}
 use Rattle.bist_text.specs.declared.text_lines.Line.{Line}
 use Rattle.memory_desc.specs.LineText.{Content, ContentText, LineText}
 use Rattle.memory_desc.specs.Statements.{Statement, stated, Say}
-use Rattle.memory_desc.specs.Standing.{StandsAt}
+use Rattle.memory_desc.specs.inner.Standing.{StandsAt}
 
 -- the first statement whose content is of a kind
 abbrev pub first_of : (Content → Bool) → List Statement → Option Statement

@@ -6,7 +6,7 @@ use Rattle.bist_text.specs.declared.text_lines.Line.{Line}
 use Rattle.memory_desc.specs.LineText.{Content, Term, name, words, bits, latency, polarity, pause, scramble, log, backgrounds, kind_of, ContentText}
 use Rattle.memory_desc.specs.Statements.{Statement}
 use Rattle.memory_desc.specs.Subjects.{subject, is_same, is_about, about, said, content_of}
-use Rattle.memory_desc.specs.Standing.{StandsAt, digits_in, is_ranged, least, most, value_in}
+use Rattle.memory_desc.specs.inner.Standing.{StandsAt, digits_in, is_ranged, least, most, value_in}
 use Rattle.memory_desc.specs.Table.{at_line, is_too_wide, too_wide, is_out_of_range, out_of_range}
 use Rattle.memory_desc.specs.declared.line_place.Key.TheVariants.{Backgrounds as BackgroundsKey}
 use Rattle.memory_desc.specs.declared.content.Subject.{Subject}

@@ -11,8 +11,9 @@ use Rattle.memory_desc.specs.declared.line_place.Version.{Version}
 use Rattle.memory_desc.specs.declared.line_place.Version.TheVariants.{One, Two}
 use Rattle.memory_desc.specs.LineText.{Content, version, in_table, ContentText, LineText}
 use Rattle.memory_desc.specs.LineFaults.{IsLaterFault, AreRefused}
-use Rattle.memory_desc.specs.LineAnswers.{Opens, Checks}
-use Rattle.memory_desc.specs.Statements.{Statement, stated, version_of, GivesVersion, first_version, is_line_of, is_said_in, IsOfVersion, Say}
+use Rattle.memory_desc.specs.inner.LineAnswers.{Opens, Checks}
+use Rattle.memory_desc.specs.Statements.{Statement, stated, version_of, GivesVersion, first_version, is_said_in, IsOfVersion, Say}
+use Rattle.memory_desc.specs.inner.Statements.{is_line_of}
 use Rattle.memory_desc.proofs.LineChecks.{kind_says, says_kind}
 
 -- no line so far has content

@@ -1,9 +1,7 @@
 pub mod Names
 pub mod Descriptions
 pub mod LineText
-pub mod LinePlaces
 pub mod LineRest
-pub mod LineAnswers
 pub mod Printed
 pub mod Statements
 pub mod LineFaults
@@ -11,7 +9,4 @@ pub mod Subjects
 pub mod Values
 pub mod Described
 pub mod Table
-pub mod Standing
-pub mod Seeking
-pub mod ContentParts
-pub mod Met
+pub mod inner

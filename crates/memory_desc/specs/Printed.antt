@@ -25,24 +25,11 @@ abbrev pub index_terms : ℕ → ℕ → List (List ℕ)
 index_terms names zero = []
 index_terms names (suc n) = index_terms names n ++ (if bit_at names n == 1 then (112 ∷ decimal n) ∷ [] else [])
 
-abbrev pub is_none : List (List ℕ) → Bool
-is_none [] = true
-is_none (t ∷ ts) = false
-
 -- the terms, with ^ between them
 abbrev pub joined : List (List ℕ) → List ℕ
 joined [] = []
 joined (t ∷ []) = t
 joined (t ∷ u ∷ ts) = t ++ (codes " ^ " ++ joined (u ∷ ts))
-
--- what stands before a term: nothing if it is the first
-abbrev pub separator : Bool → List ℕ
-separator true = []
-separator false = codes " ^ "
-
--- a term, behind those before it
-abbrev pub term_after : Bool → List ℕ → List ℕ
-term_after first t = separator first ++ t
 
 -- the terms of a row: its index bits, and 1 where its constant is 1
 abbrev pub row_terms : ℕ → ℕ → ℕ → List (List ℕ)

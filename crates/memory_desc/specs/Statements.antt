@@ -25,10 +25,6 @@ Say (l ∷ ls) ss = (v : Option Content) × (more : List Statement) × LineText 
 abbrev pub version_of : ℕ → Option Version
 version_of n = if n == 1 then Some One else if n == 2 then Some Two else None
 
--- a `memory` line
-abbrev pub IsVersionLine : List ℕ → Type 0
-IsVersionLine b = (ds : List ℕ) × ContentText b (version ds)
-
 -- a `memory` line, and the version of its number, where it has one
 abbrev pub GivesVersion : List ℕ → Option Version → Type 0
 GivesVersion b v = (ds : List ℕ) × ContentText b (version ds) × (version_of (digits_value 10 ds) ≡ v)
@@ -41,11 +37,6 @@ version_in c = None
 abbrev pub first_version : List Statement → Option Version
 first_version [] = None
 first_version (s ∷ ss) = version_in s.content
-
--- a line without content is of any version
-abbrev pub is_line_of : Version → Option Content → Bool
-is_line_of v None = true
-is_line_of v (Some c) = in_table v (kind_of c)
 
 abbrev pub is_said_in : Version → Statement → Bool
 is_said_in v s = in_table v (kind_of s.content)

@@ -1,13 +1,12 @@
 //! The scrambling and the backgrounds of a text whose lines are all lines of a description.
-
-ghost use Rattle.std.specs.Prelude.{◌≡◌, ◌≤◌, ◌↔◌, ℕ, false, List, Some, None, Ok, Err, IsTrue, Contains, IfOk, MatchResult};
+ ghost use Rattle.std.specs.Prelude.{◌≡◌, ◌≤◌, ◌↔◌, ℕ, false, List, Some, None, Ok, Err, IsTrue, Contains, IfOk, MatchResult};
 ghost use Rattle.bist_text.specs.Lines.{text_lines};
 ghost use Rattle.scrambler.specs.Scrambling.{IsFull, IsInvertible, IsWithin, identity};
 ghost use Rattle.memory_desc.specs.Descriptions.{IsBackgrounds};
 ghost use Rattle.memory_desc.specs.Statements.{Statement, Say};
 ghost use Rattle.memory_desc.specs.Table.{is_scrambled, too_wide, Scrambles, AcceptsBackgrounds, SelectsBackgrounds, StatesBackgrounds};
 ghost use Rattle.memory_desc.specs.LineText.{Content, backgrounds, kind_of, ContentText};
-ghost use Rattle.memory_desc.specs.Standing.{GivesMatrix};
+ghost use Rattle.memory_desc.specs.inner.Standing.{GivesMatrix};
 ghost use Rattle.memory_desc.specs.Values.{bits_said, word_values};
 
 use crate::content::{Subject, is_log, row_of, words_of};

@@ -1,18 +1,18 @@
 //! What a content line says, once it is known to be one.
-
-ghost use Rattle.std.specs.Prelude.{◌≡◌, ◌+◌, ◌<◌, ◌^◌, List, ◌∷◌, Option, Some, ℕ, true, length, drop, max, bit_xor, slice_get, IfSome};
+ ghost use Rattle.std.specs.Prelude.{◌≡◌, ◌+◌, ◌<◌, ◌^◌, List, ◌∷◌, Option, Some, ℕ, true, length, drop, max, bit_xor, slice_get, IfSome};
 ghost use Rattle.std.specs.List.{list_all, take_while};
 ghost use Rattle.std.specs.Str.Parse.{digits_value};
 ghost use Rattle.memory_desc.specs.Names.{is_digit};
 ghost use Rattle.memory_desc.specs.LineText.{Content, Term, name, polarity, scramble, backgrounds, kind_of, is_word, is_term, term_text, more_terms, argument, ContentText, LineText};
-ghost use Rattle.memory_desc.specs.LineRest.{words_left};
+ghost use Rattle.memory_desc.specs.inner.LineRest.{words_left};
 ghost use Rattle.memory_desc.specs.Subjects.{subject};
-ghost use Rattle.memory_desc.specs.Standing.{digits_in, is_log, subject_in, IsRow, AreWords};
-ghost use Rattle.memory_desc.specs.ContentParts.{IsTerm, terms_left, NextTerm, Gathers, NextWord, Collects};
+ghost use Rattle.memory_desc.specs.inner.Standing.{digits_in, is_log, subject_in, IsRow, AreWords};
+ghost use Rattle.memory_desc.specs.inner.ContentParts.{IsTerm, terms_left, NextTerm, Gathers, NextWord, Collects};
 ghost use Rattle.bist_text.specs.Cursors.{left_of};
 ghost use Rattle.bist_text.specs.Grammar.{word, is_blank};
 ghost use Rattle.bist_text.specs.Numbers.{IsNumber};
-ghost use Rattle.bist_text.specs.LineGrammar.{tail, after};
+ghost use Rattle.bist_text.specs.LineGrammar.{tail};
+ghost use Rattle.bist_text.specs.inner.LineGrammar.{after};
 
 use crate::byte_sets::{BLANKS, DIGITS, HEX_DIGITS, LETTERS, NAME_BYTES};
 use crate::line_place::{Key, Place, Version};

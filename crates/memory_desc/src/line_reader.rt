@@ -1,9 +1,8 @@
 //! The reader of one line.
-
-ghost use Rattle.bist_text.specs.Machine.{scan};
-ghost use Rattle.memory_desc.specs.LinePlaces.{step, value};
-ghost use Rattle.memory_desc.specs.LineRest.{rest};
-ghost use Rattle.memory_desc.specs.LineAnswers.{Gives, IsReadBy};
+ ghost use Rattle.bist_text.specs.Machine.{scan};
+ghost use Rattle.memory_desc.specs.inner.LinePlaces.{step, value};
+ghost use Rattle.memory_desc.specs.inner.LineRest.{rest};
+ghost use Rattle.memory_desc.specs.inner.LineAnswers.{Gives, IsReadBy};
 
 use crate::line_place::{Key, Place, kind_at, place_after};
 

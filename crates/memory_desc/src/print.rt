@@ -1,9 +1,9 @@
 //! The printer of memory descriptions.
-
-ghost use Rattle.std.specs.Prelude.{◌≡◌, ◌+◌, ◌<◌, ◌≤◌, ◌^◌, ◌++◌, ◌∷◌, All, Ok, OnOk, IfOk, decimal};
+ ghost use Rattle.std.specs.Prelude.{◌≡◌, ◌+◌, ◌<◌, ◌≤◌, ◌^◌, ◌++◌, ◌∷◌, All, Ok, OnOk, IfOk, decimal};
 ghost use Rattle.memory_desc.specs.Descriptions.{IsMemory};
 ghost use Rattle.memory_desc.specs.Table.{Reads};
-ghost use Rattle.memory_desc.specs.Printed.{number_line, name_line, is_plain, version_text, later_lines, backgrounds_line, head_lines, index_terms, is_none, joined, separator, term_after, row_terms, row_line, scramble_lines, printed};
+ghost use Rattle.memory_desc.specs.Printed.{number_line, name_line, is_plain, version_text, later_lines, backgrounds_line, head_lines, index_terms, joined, row_terms, row_line, scramble_lines, printed};
+ghost use Rattle.memory_desc.specs.inner.Printed.{is_none, separator, term_after};
 
 use crate::memory::Memory;
 use bist_bits::NoMemory;

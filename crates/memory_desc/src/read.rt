@@ -1,6 +1,5 @@
 //! The reader of memory descriptions.
-
-ghost use Rattle.std.specs.Prelude.{◌≡◌, ◌≤◌, ◌↔◌, ◌-◌, ℕ, false, List, None, Ok, Err, OnOk};
+ ghost use Rattle.std.specs.Prelude.{◌≡◌, ◌≤◌, ◌↔◌, ◌-◌, ℕ, false, List, None, Ok, Err, OnOk};
 ghost use Rattle.std.specs.Int.{is_power_of_two};
 ghost use Rattle.bist_bits.specs.Width.{IsWidthOf};
 ghost use Rattle.bist_text.specs.Lines.{text_lines};
@@ -9,7 +8,7 @@ ghost use Rattle.memory_desc.specs.Descriptions.{Description};
 ghost use Rattle.memory_desc.specs.Names.{IsName};
 ghost use Rattle.memory_desc.specs.Statements.{Statement, Say};
 ghost use Rattle.memory_desc.specs.Values.{name_said, words_said, bits_said};
-ghost use Rattle.memory_desc.specs.Standing.{checked};
+ghost use Rattle.memory_desc.specs.inner.Standing.{checked};
 ghost use Rattle.memory_desc.specs.Table.{is_scrambled, unscramblable, out_of_range, AreStatements, Builds, Describes, Reads};
 
 use crate::building::{backgrounds_from, scramble_from};

@@ -1,9 +1,8 @@
 //! The numbers of the rows that a search has met.
-
-ghost use Rattle.std.specs.Prelude.{◌≡◌, ◌≤◌, ◌↔◌, ℕ, IsTrue, Contains, length, take};
+ ghost use Rattle.std.specs.Prelude.{◌≡◌, ◌≤◌, ◌↔◌, ℕ, IsTrue, Contains, length, take};
 ghost use Rattle.std.specs.List.Sorted.{IsNonDecreasing, IsPermutation};
 ghost use Rattle.std.proofs.Props.{props};
-ghost use Rattle.memory_desc.specs.Met.{MayHave, MayBeMet};
+ghost use Rattle.memory_desc.specs.inner.Met.{MayHave, MayBeMet};
 
 use crate::content::Subject;
 use arrayvec::ArrayVec;

@@ -1,14 +1,13 @@
 //! Searches in the lines of a text that are all lines of a description.
-
-ghost use Rattle.std.specs.Prelude.{◌≡◌, ◌≤◌, ◌||◌, nat_lt, false, List, None, find};
+ ghost use Rattle.std.specs.Prelude.{◌≡◌, ◌≤◌, ◌||◌, nat_lt, false, List, None, find};
 ghost use Rattle.bist_text.specs.Lines.{text_lines};
 ghost use Rattle.memory_desc.specs.LineText.{Content, ContentText, LineText};
-ghost use Rattle.memory_desc.specs.Met.{MayBeMet};
+ghost use Rattle.memory_desc.specs.inner.Met.{MayBeMet};
 ghost use Rattle.memory_desc.specs.Statements.{Statement, Say};
 ghost use Rattle.memory_desc.specs.Subjects.{subject, about};
 ghost use Rattle.memory_desc.specs.Table.{is_repeat, is_out_of_range, is_too_wide, is_scrambled, repeated, out_of_range, too_wide};
-ghost use Rattle.memory_desc.specs.Standing.{StandsAt, GivesField, checked};
-ghost use Rattle.memory_desc.specs.Seeking.{is_sought, IsPosed, refused_first};
+ghost use Rattle.memory_desc.specs.inner.Standing.{StandsAt, GivesField, checked};
+ghost use Rattle.memory_desc.specs.inner.Seeking.{is_sought, IsPosed, refused_first};
 
 use crate::content::{
     Subject, is_log, name_of, number_of, polarity_of, row_of, subject_of, words_of,

@@ -12,7 +12,8 @@ use Rattle.march_core.proofs.Addresses.{length-addresses, address_upward, addres
 use Rattle.microcode.specs.declared.code.Instr.{Instr}
 use Rattle.microcode.specs.declared.place.Place.{Place as CodePlace}
 use Rattle.microcode.specs.Code.{opers_of, instr_of, assemble}
-use Rattle.microcode.specs.Places.{IsExtent, index_in, visits_of, element_slots, run_slots, all_slots, rest, next_place, is_last}
+use Rattle.microcode.specs.Places.{IsExtent, index_in, visits_of, element_slots, run_slots, rest, next_place, is_last}
+use Rattle.microcode.specs.inner.Places.{all_slots}
 use Rattle.microcode.specs.Rows.{rows}
 use Rattle.microcode.specs.Running.{digits, IsAt, IsBehind}
 use Rattle.microcode.specs.Steps.{Step, step_of, steps, one_run, step_in, step_at, LeavesAt}

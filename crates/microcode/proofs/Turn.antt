@@ -6,7 +6,8 @@ use Rattle.march_core.specs.March.{MarchElement, pause, sweep, element_at, IsEle
 use Rattle.microcode.specs.declared.place.Extent.{Extent}
 use Rattle.microcode.specs.Code.{opers_at}
 use Rattle.microcode.specs.Rows.{rest_of}
-use Rattle.microcode.specs.Places.{Place, Lasts, lasts_at, place_after, all_last, IsPlace, IsExtent, Turns, visits_of, visits_at, slot_of, visit_slots, element_slots, run_slots, all_slots, visit_rest, element_rest, run_rest, rest, first_place}
+use Rattle.microcode.specs.Places.{Place, Lasts, lasts_at, place_after, all_last, IsPlace, IsExtent, Turns, visits_of, visits_at, slot_of, visit_slots, element_slots, run_slots, visit_rest, element_rest, run_rest, rest, first_place}
+use Rattle.microcode.specs.inner.Places.{all_slots}
 use Rattle.microcode.proofs.Rows.{goes_on, carries, ends, starts}
 
 -- each element has a visit, and each visit an operation

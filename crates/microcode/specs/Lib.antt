@@ -4,3 +4,4 @@ pub mod Rows
 pub mod Places
 pub mod Running
 pub mod Steps
+pub mod inner

@@ -91,9 +91,6 @@ element_slots slot march g b e = rows (visit_slots slot march b e) 0 (visits_at 
 abbrev pub run_slots : {A : Type 0} → (Place → A) → List MarchElement → Extent → ℕ → List A
 run_slots slot march g b = rows (element_slots slot march g b) 0 (length march)
 
-abbrev pub all_slots : {A : Type 0} → (Place → A) → List MarchElement → Extent → List A
-all_slots slot march g = rows (run_slots slot march g) 0 g.runs
-
 -- ---- what is left of them from a place on
 
 abbrev pub visit_rest : {A : Type 0} → (Place → A) → List MarchElement → ℕ → ℕ → ℕ → ℕ → List A

@@ -8,8 +8,10 @@ use Rattle.fault_core.specs.Cells.{cell, has_act, states_hold, close_of, acted, 
 use Rattle.cell_machine.specs.declared.pair.Pair.{Pair}
 use Rattle.cell_machine.specs.declared.pair.Side.{Side}
 use Rattle.cell_machine.specs.declared.pair.Side.TheVariants.{A, V}
-use Rattle.cell_machine.specs.Pairs.{pair_holds, side_holds, pair_close, pair_step, pair_answer, pair_pause, with_victim, IsClosed}
-use Rattle.cell_machine.specs.Seen.{pair_at, place_of, SeesPair}
+use Rattle.cell_machine.specs.Pairs.{pair_holds, side_holds, pair_close, pair_step, pair_answer, pair_pause, with_victim}
+use Rattle.cell_machine.specs.inner.Pairs.{IsClosed}
+use Rattle.cell_machine.specs.Seen.{pair_at, place_of}
+use Rattle.cell_machine.specs.inner.Seen.{SeesPair}
 use Rattle.cell_machine.proofs.Projection.{length-plain_cells, length-set_if, length-step_cells, states_hold-seen, pair_at-close_of, acts-elsewhere, pair_at-step_victim, pair_at-step_aggressor, step_answer-victim, step_answer-aggressor, step_answer-elsewhere, cell-step_cells_other, cell-plain_cells_other, pair_at-pause_cells, length-pause_cells, cell-pause_cells_other}
 use Rattle.cell_machine.proofs.Closing.{left_state, pair_close-closed}
 pub use Rattle.pair_tracker.specs.Pairs.{machine_of}

@@ -8,16 +8,17 @@ use Rattle.fault_core.specs.declared.cells.Places.{Places}
 use Rattle.fault_core.specs.Primitive.{Primitive}
 use Rattle.fault_core.specs.Cells.{close_of}
 use Rattle.march_core.specs.March.{MarchElement, IsMarch, all_ops, ops_of}
-use Rattle.march_core.specs.Scan.{scan_of}
+use Rattle.march_core.specs.inner.Scan.{scan_of}
 use Rattle.march_core.specs.Visits.{Direction, is_direction, directions_of, visits, visits_from}
 use Rattle.march_core.proofs.Consistent.{consistent_scan, last_after}
-use Rattle.array_sim.specs.Run.{Outcome, run_of, outcome_of}
+use Rattle.array_sim.specs.inner.Run.{Outcome, run_of, outcome_of}
 use Rattle.array_sim.specs.Differing.{left_behind, after_step}
 use Rattle.array_sim.specs.Detection.{cells_after}
 use Rattle.array_sim.proofs.Differing.{passes_unless, all_right, all_left}
 use Rattle.cell_machine.specs.declared.pair.Pair.{Pair}
 use Rattle.cell_machine.specs.Pairs.{pair_close}
-use Rattle.cell_machine.specs.Seen.{pair_at, SeesPair}
+use Rattle.cell_machine.specs.Seen.{pair_at}
+use Rattle.cell_machine.specs.inner.Seen.{SeesPair}
 use Rattle.cell_machine.proofs.Projection.{length-close_of, pair_at-close_of}
 use Rattle.pair_tracker.specs.declared.placement.Placement.{Placement}
 use Rattle.pair_tracker.specs.declared.placement.Placement.TheVariants.{Alone, Below, Above}

@@ -14,12 +14,13 @@ use Rattle.fault_core.specs.Cells.{cell, step_cells, step_answer, plain_cells, p
 use Rattle.march_core.specs.declared.operation.Op.{Op}
 use Rattle.march_core.specs.declared.operation.Op.TheVariants.{W0, W1, R0, R1}
 use Rattle.march_core.specs.March.{MarchElement, pause, sweep, all_ops}
-use Rattle.march_core.specs.Scan.{after_op, is_right, scan_of}
+use Rattle.march_core.specs.inner.Scan.{after_op, is_right, scan_of}
 use Rattle.march_core.specs.Visits.{Visit, MarchStep, visiting, Direction, cell_visits, address_visits, addresses, element_visits, visits_from, miss_at}
 use Rattle.march_core.specs.declared.visit.Miss.{Miss}
 use Rattle.march_core.specs.Operation.{is_wrong_of}
-use Rattle.array_sim.specs.Run.{Outcome, run_of, act_of}
-use Rattle.march_core.specs.Addresses.{steps_of}
+use Rattle.array_sim.specs.inner.Run.{Outcome, run_of}
+use Rattle.array_sim.specs.Run.{act_of}
+use Rattle.march_core.specs.inner.Addresses.{steps_of}
 use Rattle.array_sim.proofs.Runs.{run_on, run_stops}
 use Rattle.cell_machine.specs.declared.pair.Pair.{Pair}
 use Rattle.cell_machine.specs.declared.pair.Side.{Side}

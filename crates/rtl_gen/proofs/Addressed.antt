@@ -13,7 +13,7 @@ use Rattle.rtl_layout.proofs.Choice.{double}
 use Rattle.rtl_layout.specs.Plan.{Plan}
 use Rattle.rtl_layout.specs.Control.{address_bit, address_of}
 use Rattle.rtl_layout.specs.Control as C
-use Rattle.rtl_gen.specs.Planned.{row_of, rows_from}
+use Rattle.rtl_gen.specs.inner.Planned.{row_of, rows_from}
 
 -- ---- numbers from their lowest bit up
 

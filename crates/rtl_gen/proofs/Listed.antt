@@ -7,7 +7,7 @@ use Rattle.march_core.specs.March.{MarchElement, pause, sweep, ops_of, IsElement
 use Rattle.scrambler.specs.Scrambling.{Scrambling}
 use Rattle.rtl_layout.specs.declared.row.Row.{Row}
 use Rattle.rtl_layout.specs.Plan.{Element}
-use Rattle.rtl_gen.specs.Planned.{element_of, row_of, rows_from}
+use Rattle.rtl_gen.specs.inner.Planned.{element_of, row_of, rows_from}
 
 -- ---- the elements of a march
 

@@ -6,7 +6,7 @@ use Rattle.scrambler.specs.Scrambling.{Scrambling, is_identity}
 use Rattle.memory_desc.specs.Descriptions.{Description, IsMemory}
 use Rattle.self_test.specs.SelfTest.{module_name}
 use Rattle.rtl_layout.specs.Plan.{Plan}
-use Rattle.rtl_gen.specs.Planned.{element_of, rows_from, Plans}
+use Rattle.rtl_gen.specs.inner.Planned.{element_of, rows_from, Plans}
 use Rattle.scrambler.proofs.Identity.{unit_rows}
 use Rattle.rtl_gen.proofs.Addressed.{addresses_are}
 use Rattle.rtl_gen.proofs.Sizes.{Widths}

@@ -14,11 +14,12 @@ use Rattle.controller.specs.declared.stage.Stage.{Stage}
 use Rattle.microcode.specs.Code.{opers_of, opers_at}
 use Rattle.microcode.specs.Places.{Place, Lasts, first_place, place_after, all_last, index_in}
 use Rattle.controller.specs.Places as P
+use Rattle.controller.specs.inner.Places as PInner
 use Rattle.controller.specs.Machine as M
 use Rattle.rtl_layout.specs.Plan.{Plan, limit, port_word}
 use Rattle.rtl_layout.specs.Control.{nothing, idle, element_at, operation_at, here, operation, is_live, now, turned, all, younger, oldest, quiet, start, step, word_at, background_at, index_at, ends_oper, ends_visit, ends_element, ends_back}
 use Rattle.rtl_layout.specs.Control as C
-use Rattle.rtl_gen.specs.Planned.{operation_of, element_of, Plans}
+use Rattle.rtl_gen.specs.inner.Planned.{operation_of, element_of, Plans}
 
 -- ---- a state of the plan's machine as one of the controller
 
@@ -56,7 +57,7 @@ pause_of : (x : MarchElement) → (element_of x).pause ≡ is_pause x
 pause_of pause = refl
 pause_of (sweep order ops) = refl
 
-visits_of : (x : MarchElement) (a b : ℕ) (d : Description) → (is_pause x ≡ true → a ≡ d.pause) → b ≡ d.words → cond (element_of x).pause a b ≡ P.visits_of d x
+visits_of : (x : MarchElement) (a b : ℕ) (d : Description) → (is_pause x ≡ true → a ≡ d.pause) → b ≡ d.words → cond (element_of x).pause a b ≡ PInner.visits_of d x
 visits_of pause a b d h e = h refl
 visits_of (sweep order ops) a b d h e = e
 
@@ -156,7 +157,7 @@ module _ (march : List MarchElement) (d : Description) (p : Plan) (pl : Plans ma
     paused : is_pause x ≡ true → p.pause ≡ d.pause
     paused h = pl.pauses c.element at (is_pause_in march c.element at ∙ h)
 
-    limit_seen : limit p (here p c) ≡ P.visits_at march d c.element
+    limit_seen : limit p (here p c) ≡ PInner.visits_at march d c.element
     limit_seen = ap (limit p) here_seen ∙ visits_of x p.pause p.words d paused pl.words
 
     pub index_seen : index_at p (here p c) c.visit ≡ P.index_at march d c.element c.visit
@@ -172,10 +173,10 @@ module _ (march : List MarchElement) (d : Description) (p : Plan) (pl : Plans ma
     abbrev lasts : Lasts
     lasts = record { oper = ends_oper p c; visit = ends_visit p c; element = ends_element p c; back = ends_back p c }
 
-    lasts_seen : lasts ≡ P.lasts_at march d (place c)
+    lasts_seen : lasts ≡ PInner.lasts_at march d (place c)
     lasts_seen =
         let oper : ends_oper p c ≡ (c.oper == opers_at march c.element - 1) = ap (λ y. nat_eq c.oper (length y.operations - 1)) here_seen ∙ ap (λ n. nat_eq c.oper (n - 1)) (count_of x) in
-        let visit : ends_visit p c ≡ (c.visit == P.visits_at march d c.element - 1) = ap (λ n. nat_eq c.visit (n - 1)) limit_seen in
+        let visit : ends_visit p c ≡ (c.visit == PInner.visits_at march d c.element - 1) = ap (λ n. nat_eq c.visit (n - 1)) limit_seen in
         let element : ends_element p c ≡ (c.element == length march - 1) = ap (λ l. nat_eq c.element (length l - 1)) pl.elements ∙ ap (λ n. nat_eq c.element (n - 1)) (length-map march element_of) in
         let back : ends_back p c ≡ (c.back == length d.backgrounds - 1) = ap (λ l. nat_eq c.back (length l - 1)) pl.backgrounds in
         λ j. record { oper = oper j; visit = visit j; element = element j; back = back j }

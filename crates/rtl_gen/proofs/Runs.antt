@@ -9,9 +9,10 @@ use Rattle.march_core.specs.Visits.{Direction, Upward, Downward}
 use Rattle.scrambler.specs.Scrambling.{logical}
 use Rattle.memory_desc.specs.Descriptions.{Description, IsMemory}
 use Rattle.word_march.specs.PortRule.{PortRule}
-use Rattle.controller.specs.States.{Answers}
+use Rattle.controller.specs.inner.States.{Answers}
 use Rattle.microcode.specs.Places.{index_in}
 use Rattle.controller.specs.Places as P
+use Rattle.controller.specs.inner.Places as PInner
 use Rattle.controller.specs.Machine as M
 use Rattle.controller.specs.Standing.{Stands}
 use Rattle.controller.proofs.Turn.{turns}
@@ -30,7 +31,7 @@ use Rattle.rtl_layout.proofs.History.{always}
 use Rattle.rtl_layout.proofs.Ranked.{rank, rank_falls}
 use Rattle.rtl_layout.proofs.Whole.{legal}
 use Rattle.rtl_layout.proofs.Forms.{settles_once}
-use Rattle.rtl_gen.specs.Planned.{Plans}
+use Rattle.rtl_gen.specs.inner.Planned.{Plans}
 use Rattle.rtl_gen.proofs.Mirror.{place, seen, starts_seen, word_seen, operation_seen, live_seen, index_seen, step_seen}
 
 -- ---- ports
@@ -47,7 +48,7 @@ awake true true h = cc
 awake true false h = cc
 awake false r h = refl
 
-awake_visits : (x : MarchElement) (d : Description) → is_pause x ≡ false → P.visits_of d x ≡ d.words
+awake_visits : (x : MarchElement) (d : Description) → is_pause x ≡ false → PInner.visits_of d x ≡ d.words
 awake_visits pause d h = cc
 awake_visits (sweep order ops) d h = refl
 

@@ -13,7 +13,7 @@ use Rattle.memory_desc.specs.Descriptions.{Description, IsMemory}
 use Rattle.rtl_layout.specs.Plan.{Plan}
 use Rattle.rtl_layout.specs.Control.{nothing, element_at, background_at}
 use Rattle.rtl_layout.specs.Shows.{Ready, Sized, IsPlan, no_row, mask_at}
-use Rattle.rtl_gen.specs.Planned.{operation_of, element_of, rows_from, Plans}
+use Rattle.rtl_gen.specs.inner.Planned.{operation_of, element_of, rows_from, Plans}
 use Rattle.rtl_gen.proofs.Listed.{length-rows}
 use Rattle.self_test.proofs.Named.{module_name_legal}
 

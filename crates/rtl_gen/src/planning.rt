@@ -3,7 +3,7 @@ ghost use Rattle.std.specs.Prelude.{◌≡◌, ℕ, ◌-◌, ◌^◌, ◌<◌, �
 ghost use Rattle.march_core.specs.March.{IsMarch, is_pause_at};
 ghost use Rattle.memory_desc.specs.Descriptions.{IsMemory};
 ghost use Rattle.rtl_layout.specs.Seen.{seen};
-ghost use Rattle.rtl_gen.specs.Planned.{Plans};
+ghost use Rattle.rtl_gen.specs.inner.Planned.{Plans};
 
 use crate::tables::{backgrounds, elements, has_pause, module_name, most_ops, rows};
 use bist_bits::width_of;

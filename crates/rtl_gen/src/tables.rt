@@ -3,7 +3,7 @@ ghost use Rattle.std.specs.Prelude.{◌≡◌, ℕ, ◌<◌, ◌≤◌, false, m
 ghost use Rattle.march_core.specs.March.{pause, sweep, element_at, is_pause_at, ops_at};
 ghost use Rattle.self_test.specs.SelfTest.{module_name};
 ghost use Rattle.microcode.specs.Code.{goes_down};
-ghost use Rattle.rtl_gen.specs.Planned.{operation_of, element_of, row_of, rows_from};
+ghost use Rattle.rtl_gen.specs.inner.Planned.{operation_of, element_of, row_of, rows_from};
 
 use arrayvec::{ArrayString, ArrayVec};
 use march_core::{March, Op, Order};

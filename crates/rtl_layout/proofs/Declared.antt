@@ -1,7 +1,8 @@
 -- One age more.
 use Rattle.std.proofs.Common.{◌≡◌, ℕ, suc, ◌+◌, ◌-◌, ◌<◌, Bool, List, [], ◌∷◌, ◌++◌, codes, true, false, refl, sym, ap, ◌∙◌, arith, append_assoc}
 use Rattle.verilog_tree.specs.Plain.{Expression, Statement, SetTo, ModuleItem}
-use Rattle.rtl_layout.specs.Layout.{aged, reads_at, over_at, age_regs, stage_regs, gated, feed_reads, feed_over, end_age_sets, age_sets, stage_sets}
+use Rattle.rtl_layout.specs.Layout.{aged, reads_at, over_at, stage_regs, gated, feed_reads, feed_over, stage_sets}
+use Rattle.rtl_layout.specs.inner.Layout.{age_regs, end_age_sets, age_sets}
 
 pub ages_turn : (many : Bool) (w i d : ℕ) (xs ys q : List ModuleItem) → i < d → ys ≡ xs ++ age_regs many w (i + 1) → xs ++ stage_regs many w i (d - i) ≡ q → ys ++ stage_regs many w (i + 1) (d - (i + 1)) ≡ q
 ages_turn many w i d xs ys q lt is h =

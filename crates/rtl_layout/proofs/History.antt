@@ -4,7 +4,8 @@ use Rattle.verilog_tree.specs.Meaning.{Env, History, next}
 use Rattle.rtl_layout.specs.Plan.{Plan}
 use Rattle.rtl_layout.specs.Layout.{rdata, self_test}
 use Rattle.rtl_layout.specs.Control.{Control, start, step}
-use Rattle.rtl_layout.specs.Shows.{Ready, Shows, AllAnswer, AnswersAlways, NoReset}
+use Rattle.rtl_layout.specs.Shows.{Ready, AllAnswer, AnswersAlways, NoReset}
+use Rattle.rtl_layout.specs.inner.Shows.{Shows}
 use Rattle.rtl_layout.proofs.Step.{turn}
 use Rattle.rtl_layout.proofs.Outputs.{answers}
 use Rattle.rtl_layout.proofs.Resets.{starts, quiet_ports}

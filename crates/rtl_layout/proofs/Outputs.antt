@@ -10,7 +10,8 @@ use Rattle.rtl_layout.specs.Plan.{Plan}
 use Rattle.rtl_layout.specs.Layout.{reset, index, visit, down, back, row_bit, address_bits, address, visited, self_test}
 use Rattle.rtl_layout.specs.Layout as L
 use Rattle.rtl_layout.specs.Control.{Control, here, operation, outputs, index_at, address_bit, address_of, logical}
-use Rattle.rtl_layout.specs.Shows.{Ready, Shows, Answers}
+use Rattle.rtl_layout.specs.Shows.{Ready, Answers}
+use Rattle.rtl_layout.specs.inner.Shows.{Shows}
 use Rattle.rtl_layout.proofs.Counter.{by_bit, on_zero}
 use Rattle.rtl_layout.proofs.Step.{word_is, is_back, is_value, is_write, is_live_here, is_visit, is_down, last_is}
 use Rattle.rtl_layout.proofs.Turn as T

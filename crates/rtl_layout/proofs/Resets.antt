@@ -7,7 +7,8 @@ use Rattle.rtl_layout.specs.Plan.{Plan, several}
 use Rattle.rtl_layout.specs.Layout.{reset, back, reads_at, over_at, end_sets, self_test, en, done, fail}
 use Rattle.rtl_layout.specs.Layout as L
 use Rattle.rtl_layout.specs.Control.{start, quiet, here}
-use Rattle.rtl_layout.specs.Shows.{Ready, BacksIn, Shows}
+use Rattle.rtl_layout.specs.Shows.{Ready}
+use Rattle.rtl_layout.specs.inner.Shows.{BacksIn, Shows}
 use Rattle.rtl_layout.proofs.Counter.{on_one}
 use Rattle.rtl_layout.proofs.Stages.{ages_reset, last_resets}
 use Rattle.rtl_layout.proofs.Step.{ages_shown}

@@ -9,7 +9,7 @@ use Rattle.std.proofs.lemmas.Slice.Eq.{bytes_eq-Decides}
 use Rattle.verilog_tree.proofs.Clean.{same_bytes}
 use Rattle.rtl_layout.specs.Layout.{reads_at, over_at, value_at, back_at, aged, back, stage_regs, stage_sets, feed_reads, feed_over, reset}
 use Rattle.rtl_layout.specs.Control.{Stage, oldest, younger, quiet}
-use Rattle.rtl_layout.specs.Shows.{ShowsStage, ShowsStages}
+use Rattle.rtl_layout.specs.inner.Shows.{ShowsStage, ShowsStages}
 
 -- ---- what stands behind the declarations of the ages
 

@@ -10,7 +10,8 @@ use Rattle.rtl_layout.specs.Plan.{Element, Plan, several, port_word, limit}
 use Rattle.rtl_layout.specs.Layout.{reset, rdata, en, we, addr, wdata, done, fail, oper, visit, element, back, run, want, bad, write, down, pause, last_oper, last_visit, last_element, last_back, live, index, reads_at, over_at, value_at, back_at, aged, by_operation, by_element, word, end_sets, self_test, feed_reads, feed_over}
 use Rattle.rtl_layout.specs.Layout as L
 use Rattle.rtl_layout.specs.Control.{Stage, Control, nothing, idle, element_at, background_at, word_at, here, operation, is_live, now, ends_oper, ends_visit, ends_element, ends_back, turned, all, step, oldest, younger}
-use Rattle.rtl_layout.specs.Shows.{Ready, ShowsStages, BacksIn, Shows}
+use Rattle.rtl_layout.specs.Shows.{Ready}
+use Rattle.rtl_layout.specs.inner.Shows.{ShowsStages, BacksIn, Shows}
 use Rattle.rtl_layout.proofs.Choice.{pick_of}
 use Rattle.rtl_layout.proofs.Counter.{truth_bit, by_bit, on_zero, all_hold, step_while_is, and_bit, not_equal, counter_is, turned_in}
 use Rattle.rtl_layout.proofs.Stages.{ages_held, last_held, Leaves, Feeds, ages_take, last_takes, oldest_feeds}

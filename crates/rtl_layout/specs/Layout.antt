@@ -130,10 +130,6 @@ digit_regs p = RegItem oper p.oper_width ∷ RegItem visit p.visit_width ∷ Reg
 abbrev pub maybe : {A : Type 0} → Bool → A → List A
 maybe b x = cond b (x ∷ []) []
 
--- of one age that has a value
-abbrev pub age_regs : Bool → ℕ → ℕ → List ModuleItem
-age_regs many w i = RegItem (reads_at i) 1 ∷ RegItem (over_at i) 1 ∷ RegItem (aged value i) 1 ∷ maybe many (RegItem (aged back i) w)
-
 -- of the ages from suc i on, of which n have a value
 abbrev pub stage_regs : Bool → ℕ → ℕ → ℕ → List ModuleItem
 stage_regs many w i zero = RegItem (reads_at (suc i)) 1 ∷ RegItem (over_at (suc i)) 1 ∷ []
@@ -143,10 +139,6 @@ stage_regs many w i (suc n) =
 
 abbrev pub end_regs : Plan → List ModuleItem
 end_regs p = RegItem want p.bits ∷ RegItem bad 1 ∷ []
-
--- all registers
-abbrev pub registers : Plan → List ModuleItem
-registers p = digit_regs p ++ (stage_regs (several p) p.back_width 0 p.delay ++ end_regs p)
 
 abbrev pub wire : List ℕ → ℕ → ModuleItem
 wire n w = WireItem n w
@@ -251,18 +243,9 @@ abbrev pub feed_over : ℕ → Expression
 feed_over zero = Prefixed Not (Net run)
 feed_over (suc i) = Net (over_at (suc i))
 
--- what age suc i takes from age i
-abbrev pub end_age_sets : ℕ → List Statement
-end_age_sets i = SetTo (reads_at (suc i)) (gated (feed_reads i)) ∷ SetTo (over_at (suc i)) (gated (feed_over i)) ∷ []
-
 -- where there are several backgrounds
 abbrev pub back_set : ℕ → ℕ → Statement
 back_set w i = SetTo (aged back (suc i)) (at_reset (lit w 0) (Net (back_at true i)))
-
-abbrev pub age_sets : Bool → ℕ → ℕ → List Statement
-age_sets many w i =
-    SetTo (reads_at (suc i)) (gated (feed_reads i)) ∷ SetTo (over_at (suc i)) (gated (feed_over i)) ∷ SetTo (value_at (suc i)) (gated (Net (value_at i)))
-    ∷ maybe many (back_set w i)
 
 -- what the ages from suc i on take, of which n have a value
 abbrev pub stage_sets : Bool → ℕ → ℕ → ℕ → List Statement

@@ -4,4 +4,4 @@ pub mod Layout
 pub mod Control
 pub mod Shows
 pub mod Seen
-pub mod Flags
+pub mod inner

@@ -1,11 +1,11 @@
 -- Public. When registers show a controller, and ports answer for it.
-use Rattle.std.specs.Prelude.{◌≡◌, ℕ, suc, ◌^◌, ◌<◌, ◌≤◌, Bool, true, false, List, [], ◌∷◌, length, slice_index_or}
+use Rattle.std.specs.Prelude.{◌≡◌, ℕ, ◌^◌, ◌<◌, ◌≤◌, true, false, List, [], ◌∷◌, length, slice_index_or}
 use Rattle.verilog_tree.specs.Words.{is_name}
 use Rattle.verilog_tree.specs.Meaning.{Env, bit, History}
 use Rattle.rtl_layout.specs.declared.row.Row.{Row}
-use Rattle.rtl_layout.specs.Plan.{Plan, several, limit}
-use Rattle.rtl_layout.specs.Layout.{reset, rdata, self_test, reads_at, over_at, value_at, back_at, oper, visit, element, back, run, want, bad, en, we, addr, wdata, done, fail}
-use Rattle.rtl_layout.specs.Control.{Stage, Control, Ports, start, step, outputs, here, logical, element_at, background_at}
+use Rattle.rtl_layout.specs.Plan.{Plan}
+use Rattle.rtl_layout.specs.Layout.{reset, rdata, self_test, en, we, addr, wdata, done, fail}
+use Rattle.rtl_layout.specs.Control.{Control, Ports, start, step, outputs, logical, element_at, background_at}
 
 -- the numbers of a plan fit
 pub record Ready (p : Plan) : Type 0 where
@@ -21,38 +21,6 @@ pub record Ready (p : Plan) : Type 0 where
   pub operations_fit : (k : ℕ) → length (element_at p k).operations ≤ 2 ^ p.oper_width
   pub index_fits : p.words ≤ 2 ^ p.addr_width
   pub addr_some : 1 ≤ p.addr_width
-
-pub record ShowsStage (many : Bool) (i : ℕ) (s : Stage) (regs : Env) : Type 0 where
-  pub reads_is : regs (reads_at i) ≡ bit s.reads
-  pub over_is : regs (over_at i) ≡ bit s.over
-  pub value_is : regs (value_at i) ≡ bit s.value
-  pub back_is : regs (back_at many i) ≡ s.back
-
-abbrev pub ShowsStages : Bool → ℕ → List Stage → Env → Type 0
-ShowsStages many i [] regs = Unit {0}
-ShowsStages many i (s ∷ ss) regs = ShowsStage many (suc i) s regs × ShowsStages many (suc i) ss regs
-
-abbrev pub BacksIn : ℕ → List Stage → Type 0
-BacksIn k [] = Unit {0}
-BacksIn k (s ∷ ss) = (s.back < k) × BacksIn k ss
-
-pub record Shows (p : Plan) (c : Control) (regs : Env) : Type 0 where
-  pub oper_is : regs oper ≡ c.oper
-  pub visit_is : regs visit ≡ c.visit
-  pub element_is : regs element ≡ c.element
-  pub back_is : regs back ≡ c.back
-  pub run_is : regs run ≡ bit c.run
-  pub stages_are : ShowsStages (several p) 0 c.stages regs
-  pub reads_is : regs (reads_at (suc p.delay)) ≡ bit c.reads
-  pub over_is : regs (over_at (suc p.delay)) ≡ bit c.over
-  pub want_is : regs want ≡ c.want
-  pub bad_is : regs bad ≡ bit c.bad
-  pub stages_count : length c.stages ≡ p.delay
-  pub backs_in : BacksIn (length p.backgrounds) c.stages
-  pub oper_in : c.oper < length (here p c).operations
-  pub visit_in : c.visit < limit p (here p c)
-  pub element_in : c.element < length p.elements
-  pub back_in : c.back < length p.backgrounds
 
 -- The ports answer for the controller: the address where a command goes out.
 pub record Answers (p : Plan) (q : Ports) (e : Env) : Type 0 where

@@ -3,6 +3,7 @@ ghost use Rattle.std.specs.Prelude.{◌≡◌, ℕ, suc, ◌+◌, ◌<◌, ◌�
 ghost use Rattle.verilog_tree.specs.Plain.{plain, plain_item, plain_stmt, RegItem, SetTo};
 ghost use Rattle.rtl_layout.specs.Build.{lit, at_reset};
 ghost use Rattle.rtl_layout.specs.Layout as L;
+ghost use Rattle.rtl_layout.specs.inner.Layout as LInner;
 
 use crate::digits::set;
 use crate::trees::{after_reset, choose, flag, gate, literal, name, net, unary};
@@ -49,7 +50,7 @@ pub fn declare(items: &mut Vec<Item>, name: Name, width: u8) -> Result<(), Alloc
 fn declare_age(items: &mut Vec<Item>, many: bool, width: u8, age: u8) -> Result<(), AllocError>
     requires some { 1 ≤ age }
     requires few { age ≤ 4 }
-    ensures { OnOk result (map plain_item items.new.items ≡ map plain_item items.old.items ++ L.age_regs many width age) }
+    ensures { OnOk result (map plain_item items.new.items ≡ map plain_item items.old.items ++ LInner.age_regs many width age) }
 {
     declare(items, aged("reads", age), 1)?;
     declare(items, aged("over", age), 1)?;
@@ -145,7 +146,7 @@ fn gated_over(alloc: Global, age: u8) -> Result<Expr, AllocError>
 // What an age takes from the one before it, whether it read and whether the run was over.
 fn set_ends(block: &mut Vec<Stmt>, alloc: Global, age: u8) -> Result<(), AllocError>
     requires { age ≤ 3 }
-    ensures { OnOk result (map plain_stmt block.new.items ≡ map plain_stmt block.old.items ++ L.end_age_sets age) }
+    ensures { OnOk result (map plain_stmt block.new.items ≡ map plain_stmt block.old.items ++ LInner.end_age_sets age) }
 {
     let reads = gated_reads(alloc, age)?;
     set(block, aged("reads", age + 1), reads)?;
@@ -177,7 +178,7 @@ fn set_age(
     requires few { age ≤ 3 }
     requires positive { 1 ≤ width }
     requires narrow { width ≤ 64 }
-    ensures { OnOk result (map plain_stmt block.new.items ≡ map plain_stmt block.old.items ++ L.age_sets many width age) }
+    ensures { OnOk result (map plain_stmt block.new.items ≡ map plain_stmt block.old.items ++ LInner.age_sets many width age) }
 {
     set_ends(block, alloc, age)?;
     let value = gate(alloc, net(value_at(age)))?;

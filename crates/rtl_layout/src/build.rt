@@ -2,6 +2,7 @@
 ghost use Rattle.std.specs.Prelude.{◌≡◌, ◌≤◌, IfOk, OnOk, map, ◌++◌, ◌∷◌, []};
 ghost use Rattle.verilog_tree.specs.Plain.{plain, plain_item, plain_stmt, plain_module, statements, SetTo, AlwaysItem};
 ghost use Rattle.rtl_layout.specs.Layout as L;
+ghost use Rattle.rtl_layout.specs.inner.Layout as LInner;
 ghost use Rattle.rtl_layout.specs.Plan.{several};
 ghost use Rattle.rtl_layout.specs.Seen.{seen};
 
@@ -34,7 +35,7 @@ fn declare_digits(items: &mut Vec<Item>, plan: &Plan) -> Result<(), AllocError>
 
 // All registers.
 fn declare_registers(items: &mut Vec<Item>, plan: &Plan) -> Result<(), AllocError>
-    ensures { OnOk result (map plain_item items.new.items ≡ map plain_item items.old.items ++ L.registers (seen plan.now)) }
+    ensures { OnOk result (map plain_item items.new.items ≡ map plain_item items.old.items ++ LInner.registers (seen plan.now)) }
 {
     declare_digits(items, plan)?;
     declare_ages(items, is_several(plan), plan.back_width, plan.delay)?;
@@ -125,7 +126,7 @@ fn block(alloc: Global, plan: &Plan) -> Result<Vec<Stmt>, AllocError>
 }
 
 fn declare_all(items: &mut Vec<Item>, plan: &Plan) -> Result<(), AllocError>
-    ensures { OnOk result (map plain_item items.new.items ≡ map plain_item items.old.items ++ (L.registers (seen plan.now) ++ L.wires (seen plan.now))) }
+    ensures { OnOk result (map plain_item items.new.items ≡ map plain_item items.old.items ++ (LInner.registers (seen plan.now) ++ L.wires (seen plan.now))) }
 {
     declare_registers(items, plan)?;
     declare_wires(items, plan)?;

@@ -4,7 +4,7 @@ ghost use Rattle.verilog_tree.specs.Plain.{plain, Net};
 ghost use Rattle.verilog_tree.specs.Meaning.{bit};
 ghost use Rattle.rtl_layout.specs.Build.{lit, choose, pick};
 ghost use Rattle.rtl_layout.specs.Control.{nothing};
-ghost use Rattle.rtl_layout.specs.Flags.{operation_flag, element_flag};
+ghost use Rattle.rtl_layout.specs.inner.Flags.{operation_flag, element_flag};
 ghost use Rattle.rtl_layout.specs.Layout as L;
 ghost use Rattle.rtl_layout.specs.Plan.{port_word};
 ghost use Rattle.rtl_layout.specs.Seen.{seen};

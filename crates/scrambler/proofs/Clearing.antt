@@ -6,7 +6,7 @@ use Rattle.std.proofs.lemmas.List.{get_or-set_same, get_or-set_other}
 use Rattle.std.specs.List.{SwappedAt}
 use Rattle.std.specs.Prelude.{slice_index}
 use Rattle.scrambler.specs.Linear.{dot}
-use Rattle.scrambler.specs.Reduced.{SwapsAt}
+use Rattle.scrambler.specs.inner.Reduced.{SwapsAt}
 use Rattle.scrambler.proofs.LinearLemmas.{dot_below, scaled}
 
 -- the vectors before `done` are cleared, and those from there on are as they were

@@ -9,7 +9,8 @@ use Rattle.std.proofs.lemmas.Nat.Bits.{same_from_bits_below, bit_at-lt, bit_at-p
 use Rattle.std.specs.Int.{bit_at}
 use Rattle.std.specs.Int.Bits.{xor_self, xor_assoc, xor_zero_l, xor_zero_r}
 use Rattle.scrambler.specs.Linear.{dot, number, combination}
-use Rattle.scrambler.specs.Reduced.{Reduced, SwapsAt, ClearsBy}
+use Rattle.scrambler.specs.Reduced.{Reduced}
+use Rattle.scrambler.specs.inner.Reduced.{SwapsAt, ClearsBy}
 use Rattle.scrambler.proofs.LinearLemmas.{dot_below, dot_comm, dot-zero, dot_xor, dot_xor_left, dot-scaled, dot-unit, number-below, bit_at-number, number_same, number-bits, number-zero, combination-below, dot-combination, scaled}
 
 dot_scaled_right : (r b v : ℕ) → b < 2 → dot r (b * v) ≡ b * dot r v

@@ -1,6 +1,7 @@
 ghost use Rattle.std.specs.Prelude.{◌≡◌, ℕ, ◌<◌, ◌≤◌, IfOk, IfErr, IfSome, IfNone, slice_index};
 ghost use Rattle.scrambler.specs.Linear.{dot};
-ghost use Rattle.scrambler.specs.Reduced.{Reduced, ClearsBy};
+ghost use Rattle.scrambler.specs.Reduced.{Reduced};
+ghost use Rattle.scrambler.specs.inner.Reduced.{ClearsBy};
 ghost use Rattle.scrambler.specs.Scrambling.{IsWithin, IsLeastDependence, matrix_of, row};
 
 use crate::linear::{UNITS, dot, product};

@@ -7,7 +7,8 @@ use Rattle.verilog_tree.specs.Formed.{formed}
 use Rattle.verilog_tree.specs.Grammar.{binary_mark}
 use Rattle.verilog_tree.specs.Tokens.{mark_text}
 use Rattle.verilog_tree.specs.declared.tree.BinOp.{BinOp}
-use Rattle.verilog_tree.specs.Plain.{plain_stmt, plain_stmts, plain_arm, arms, plain_item, Expression, Infixed, Conditional, Statement, SetTo, IfElse, CaseOf, Statements, Done, Then, Arms, NoArm, ArmOf, AlwaysItem, ModuleTree}
+use Rattle.verilog_tree.specs.Plain.{plain_stmt, plain_stmts, arms, plain_item, Expression, Infixed, Conditional, Statement, SetTo, IfElse, CaseOf, Statements, Done, Then, Arms, NoArm, ArmOf, AlwaysItem, ModuleTree}
+use Rattle.verilog_tree.specs.inner.Plain.{plain_arm}
 use Rattle.verilog_tree.specs.Words.{is_name}
 use Rattle.verilog_tree.specs.declared.tree.Stmt.{Stmt}
 use Rattle.verilog_tree.specs.declared.tree.Stmt as S
@@ -17,7 +18,7 @@ use Rattle.verilog_tree.specs.declared.tree.Item.{Item}
 use Rattle.std.proofs.Math.Seq.{drop-cons}
 use Rattle.std.proofs.lemmas.List.{drop_all}
 use Rattle.verilog_emit.specs.Printed.{expression_text, unless_empty}
-use Rattle.verilog_emit.specs.Shallow.{statement_shallow, statements_shallow, arms_shallow}
+use Rattle.verilog_emit.specs.inner.Shallow.{statement_shallow, statements_shallow, arms_shallow}
 use Rattle.verilog_tree.proofs.Layers.{plain_if, plain_case, arm_is}
 use Rattle.verilog_emit.proofs.Pieces.{both}
 

@@ -74,14 +74,6 @@ abbrev mutual
   statements_text depth Done = []
   statements_text depth (Then s ss) = statement_text depth s ++ statements_text depth ss
 
--- what stands behind the first body of an if
-abbrev pub else_text : ℕ → Statements → List ℕ
-else_text depth ss = unless_empty ss (line depth (codes "end else begin") ++ statements_text (depth + 1) ss)
-
--- what stands behind the arms of a case
-abbrev pub default_text : ℕ → Statements → List ℕ
-default_text depth ss = unless_empty ss (line (depth + 1) (codes "default: begin") ++ statements_text (depth + 2) ss ++ line (depth + 1) (codes "end"))
-
 -- ---- ports and items
 
 -- the range of a width above 1, and the blank behind it

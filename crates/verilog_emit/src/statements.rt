@@ -1,8 +1,10 @@
 //! Statements, with begin and end round each body.
 ghost use Rattle.std.specs.Prelude.{◌≡◌, ℕ, ◌+◌, ◌<◌, ◌&&◌, ◌++◌, OnOk, codes, map, true, nat_lt};
-ghost use Rattle.verilog_tree.specs.Plain.{plain, plain_stmt, plain_stmts, plain_arm, arms, SetTo};
-ghost use Rattle.verilog_emit.specs.Printed.{line, expression_text, statement_text, statements_text, else_text, arms_text, default_text, labels_text};
-ghost use Rattle.verilog_emit.specs.Shallow.{statement_shallow, statements_shallow, arms_shallow};
+ghost use Rattle.verilog_tree.specs.Plain.{plain, plain_stmt, plain_stmts, arms, SetTo};
+ghost use Rattle.verilog_tree.specs.inner.Plain.{plain_arm};
+ghost use Rattle.verilog_emit.specs.Printed.{line, expression_text, statement_text, statements_text, arms_text, labels_text};
+ghost use Rattle.verilog_emit.specs.inner.Printed.{else_text, default_text};
+ghost use Rattle.verilog_emit.specs.inner.Shallow.{statement_shallow, statements_shallow, arms_shallow};
 
 use crate::expressions::put_expr;
 use crate::writing::{put_labels, put_line, put_margin, put_name};

@@ -8,7 +8,7 @@ use Rattle.verilog_tree.specs.Grammar.{Style}
 use Rattle.verilog_tree.specs.declared.fault.ReadFault.{ReadFault}
 use Rattle.verilog_tree.specs.declared.fault.ReadFault.TheVariants as R
 use Rattle.verilog_text.specs.Answering.{Answer, Finished, Faulty, answer}
-use Rattle.verilog_read.specs.Told.{Gives}
+use Rattle.verilog_read.specs.inner.Told.{Gives}
 use Rattle.verilog_text.specs.Refusals.{SaysIn, StandsIn, IsFirstIn}
 use Rattle.verilog_text.proofs.Faults.{says}
 use Rattle.verilog_text.proofs.Finishing.{finishes}

@@ -14,10 +14,10 @@ use Rattle.verilog_text.specs.Flat.{Left, settle_all}
 use Rattle.verilog_tree.specs.Tokens.{Sign}
 use Rattle.verilog_text.specs.Places as Q
 use Rattle.verilog_text.specs.Places.{Alone, AsDriver, AsCondition, AsSubject, AsValue, Only, InRound, InList, IfTrue, IfFalse, Linked, Named, AtExpr, State}
-use Rattle.verilog_read.specs.Holding.{nest, nests_of}
+use Rattle.verilog_read.specs.inner.Holding.{nest, nests_of}
 use Rattle.verilog_text.specs.Expected.{is_step, taken}
 use Rattle.verilog_text.specs.Steps.{only_where, alone_step, parts_step, close_step, have_step}
-use Rattle.verilog_read.specs.Ends.{ends, splits, closes, goes_on, ends_choice}
+use Rattle.verilog_read.specs.inner.Ends.{ends, splits, closes, goes_on, ends_choice}
 use Rattle.verilog_read.proofs.FrameLemmas.{last_split}
 use Rattle.verilog_read.proofs.HoldingLemmas.{nests_push}
 

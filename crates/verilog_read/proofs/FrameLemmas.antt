@@ -7,14 +7,15 @@ use Rattle.verilog_tree.specs.declared.tokens.Mark.{Mark}
 use Rattle.verilog_tree.specs.declared.tree.Arm.{Arm}
 use Rattle.verilog_tree.specs.declared.tree.Stmt.{Stmt}
 use Rattle.verilog_tree.specs.Grammar.{Limit, unlimited, then_all}
-use Rattle.verilog_tree.specs.Plain.{Expression, plain_arm, arms, ArmOf, NoArm, plain_stmt, plain_stmts, Then}
+use Rattle.verilog_tree.specs.Plain.{Expression, arms, ArmOf, NoArm, plain_stmt, plain_stmts, Then}
+use Rattle.verilog_tree.specs.inner.Plain.{plain_arm}
 use Rattle.verilog_tree.specs.Tokens.{Token, Identifier, Number, Based, Unused, Sign}
 use Rattle.verilog_read.specs.declared.places.Frame.{Frame}
 use Rattle.verilog_read.specs.declared.places.Holder.{Holder}
 use Rattle.verilog_read.specs.declared.words.Expected.{Expected}
-use Rattle.verilog_read.specs.WordSets.{ExpectsBehind}
-use Rattle.verilog_read.specs.Answers.{name_unless, a_name, found}
-use Rattle.verilog_read.specs.Frames.{frame, stack, holder, holders}
+use Rattle.verilog_read.specs.inner.WordSets.{ExpectsBehind}
+use Rattle.verilog_read.specs.inner.Answers.{name_unless, a_name, found}
+use Rattle.verilog_read.specs.inner.Frames.{frame, stack, holder, holders}
 use Rattle.verilog_text.specs.Places.{Around, style_of, Alone, AsDriver, AsCondition, AsSubject, AsValue, based, Outside, State, more_arms}
 use Rattle.verilog_text.specs.Steps.{have_step, alone_step, unless, takes_name}
 use Rattle.verilog_text.specs.Expected.{is_step}

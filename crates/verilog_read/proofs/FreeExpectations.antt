@@ -3,10 +3,10 @@ use Rattle.std.proofs.Common.{◌≡◌, Bool, false, refl, sym, subst}
 use Rattle.verilog_tree.specs.Plain as P
 use Rattle.verilog_text.specs.Places as Q
 use Rattle.verilog_text.specs.Places.{AtExpr, Linked}
-use Rattle.verilog_read.specs.Waiting.{lefts_of}
-use Rattle.verilog_read.specs.Holding.{standing}
-use Rattle.verilog_read.specs.WordSets.{Expects}
-use Rattle.verilog_read.specs.Ends.{begins}
+use Rattle.verilog_read.specs.inner.Waiting.{lefts_of}
+use Rattle.verilog_read.specs.inner.Holding.{standing}
+use Rattle.verilog_read.specs.inner.WordSets.{Expects}
+use Rattle.verilog_read.specs.inner.Ends.{begins}
 use Rattle.verilog_read.specs.declared.words.Expected.{Expected}
 use Rattle.verilog_read.specs.declared.words.WordSet.TheVariants as W
 use Rattle.verilog_read.specs.declared.precedence.Chain.{Chain}

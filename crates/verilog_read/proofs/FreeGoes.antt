@@ -6,8 +6,8 @@ use Rattle.verilog_text.specs.Places as Q
 use Rattle.verilog_text.specs.Places.{Alone, State}
 use Rattle.verilog_tree.specs.Tokens.{Token}
 use Rattle.verilog_text.specs.Steps.{alone_step}
-use Rattle.verilog_read.specs.Holding.{Closes}
-use Rattle.verilog_read.specs.Answers.{Goes}
+use Rattle.verilog_read.specs.inner.Holding.{Closes}
+use Rattle.verilog_read.specs.inner.Answers.{Goes}
 use Rattle.verilog_read.specs.declared.fault.ParseFault.{ParseFault}
 use Rattle.verilog_read.specs.declared.fault.ParseFault.TheVariants.{Unexpected, NoMemory}
 use Rattle.verilog_read.specs.declared.places.Outer.{Outer}

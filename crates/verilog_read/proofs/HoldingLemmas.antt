@@ -4,7 +4,7 @@ use Rattle.verilog_tree.specs.declared.tree.Expr.{Expr}
 use Rattle.verilog_tree.specs.Plain.{Expression, plain, expressions, Followed, NoMore}
 use Rattle.verilog_text.specs.Places as Q
 use Rattle.verilog_text.specs.Places.{Alone, Only, IfTrue, WantOperand, State, more_parts}
-use Rattle.verilog_read.specs.Holding.{nest, nests_on, nests_of, is_expected}
+use Rattle.verilog_read.specs.inner.Holding.{nest, nests_on, nests_of, is_expected}
 use Rattle.verilog_tree.specs.Grammar.{Limit, is_sign}
 use Rattle.verilog_text.specs.Flat.{Left, settle_all}
 use Rattle.verilog_text.specs.Steps.{expects, only_where, one_more, ask_step, close_step}

@@ -9,7 +9,7 @@ use Rattle.verilog_read.specs.declared.lexer.LexFault.{LexFault}
 use Rattle.verilog_read.specs.declared.lexer.LexFault.TheVariants.{Unexpected, LongName, LargeNumber, WrongLiteral}
 use Rattle.verilog_read.specs.declared.lexer.Read.{Read}
 use Rattle.verilog_read.specs.declared.lexer.Scanner.{Scanner}
-use Rattle.verilog_read.specs.Lexemes.{lexer_of, Fits, IsLarge, IsSize, Scans, BeginsAs, Stays}
+use Rattle.verilog_read.specs.inner.Lexemes.{lexer_of, Fits, IsLarge, IsSize, Scans, BeginsAs, Stays}
 use Rattle.verilog_text.specs.Lexing.{Lexer, InWord, InNumber, silent}
 
 fits_more : (most : ℕ) (l : Lexer) → 63 ≤ most → Fits 63 l → Fits most l

@@ -13,10 +13,12 @@ use Rattle.verilog_read.specs.declared.lexer.LexFault.{LexFault}
 use Rattle.verilog_read.specs.declared.lexer.LexFault.TheVariants as L
 use Rattle.verilog_read.specs.declared.lexer.Read.{Read}
 use Rattle.verilog_text.specs.declared.fault.ByteFault.TheVariants.{LongName, OutOfRange}
-use Rattle.verilog_text.specs.Answering.{Move, Stops, while_live, within, read_on, read_within, lexed, byte_move}
-use Rattle.verilog_read.specs.Told.{Scanned}
-use Rattle.verilog_text.specs.Expected.{Numbers, AllNumbers, ZeroAlone, NoNumber, numbers, taken_as, else_behind, words_behind, with_else, place_words, words, takes_names, taken, takes_literals, some_begins, live, most_of, name_fits, number_fits}
-use Rattle.verilog_read.specs.Lexemes.{lexer_of, tokens_of, Fits, IsLong, IsLarge, IsWrong, IsSize, Scans}
+use Rattle.verilog_text.specs.Answering.{Move, Stops, while_live, within, read_on, lexed, byte_move}
+use Rattle.verilog_text.specs.inner.Answering.{read_within}
+use Rattle.verilog_read.specs.inner.Told.{Scanned}
+use Rattle.verilog_text.specs.inner.Expected.{Numbers, AllNumbers, ZeroAlone, NoNumber, numbers, taken_as}
+use Rattle.verilog_text.specs.Expected.{else_behind, words_behind, with_else, place_words, words, takes_names, taken, takes_literals, some_begins, live, most_of, name_fits, number_fits}
+use Rattle.verilog_read.specs.inner.Lexemes.{lexer_of, tokens_of, Fits, IsLong, IsLarge, IsWrong, IsSize, Scans}
 use Rattle.verilog_text.specs.Lexing.{Lexer, InWord, InNumber, Quoted, Lettered, InDigits, Whole, lex}
 use Rattle.verilog_text.specs.Places.{Around, InAlways, InBlock, InThen, InElse, InArm, InDefault, WantStmt, DefaultRead, Block, HaveStmt, ItemPlace, Begin, WantPort, InputRead, OutputRead, WantItem, ClockOpen, State, AtExpr, AtStmt, AtItem}
 use Rattle.verilog_text.proofs.Expectations.{number_taken}

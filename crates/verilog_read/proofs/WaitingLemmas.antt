@@ -1,7 +1,7 @@
 -- Operators that wait, as the code holds them.
 use Rattle.std.proofs.Common.{◌≡◌, List, [], ◌∷◌, ◌++◌, refl}
 use Rattle.verilog_text.specs.Flat as F
-use Rattle.verilog_read.specs.Waiting.{left_of, lefts_on, lefts_of}
+use Rattle.verilog_read.specs.inner.Waiting.{left_of, lefts_on, lefts_of}
 use Rattle.verilog_read.specs.declared.operators.Left.{Left}
 
 push_on : (ls : List Left) (l : Left) (ws : List F.Left) → lefts_on (ls ++ (l ∷ [])) ws ≡ left_of l ∷ lefts_on ls ws

@@ -1,9 +1,2 @@
-pub mod Waiting
-pub mod Holding
-pub mod Ends
-pub mod Told
-pub mod Lexemes
-pub mod WordSets
-pub mod Answers
-pub mod Spots
-pub mod Frames
+
+pub mod inner

@@ -6,10 +6,10 @@ ghost use Rattle.verilog_tree.specs.Grammar.{alone};
 ghost use Rattle.verilog_tree.specs.Tokens.{Identifier};
 ghost use Rattle.verilog_text.specs.Places.{Outside, AtExpr, AtStmt, AtItem, Want, Have, InBraces, Otherwise, WantItem, WantStmt, HaveStmt, InThen, with_item};
 ghost use Rattle.verilog_text.specs.Steps.{want_step, inside_step, have_step, alone_step, step_expr, expects};
-ghost use Rattle.verilog_read.specs.Holding.{token_of};
-ghost use Rattle.verilog_read.specs.Frames.{frame, alone_of, outside_of, around_of, head_of};
-ghost use Rattle.verilog_read.specs.Spots.{spot};
-ghost use Rattle.verilog_read.specs.Answers.{Steps, Goes};
+ghost use Rattle.verilog_read.specs.inner.Holding.{token_of};
+ghost use Rattle.verilog_read.specs.inner.Frames.{frame, alone_of, outside_of, around_of, head_of};
+ghost use Rattle.verilog_read.specs.inner.Spots.{spot};
+ghost use Rattle.verilog_read.specs.inner.Answers.{Steps, Goes};
 
 use crate::fault::ParseFault;
 use crate::lexemes::Lexeme;

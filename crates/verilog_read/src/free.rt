@@ -4,10 +4,10 @@ ghost use Rattle.verilog_tree.specs.Plain.{plain};
 ghost use Rattle.verilog_tree.specs.Spells.{bounded};
 ghost use Rattle.verilog_text.specs.Places.{State, Linked};
 ghost use Rattle.verilog_text.specs.Steps.{prim_step, operand_step, have_step, step_expr};
-ghost use Rattle.verilog_read.specs.Waiting.{lefts_of};
-ghost use Rattle.verilog_read.specs.Holding.{token_of, standing, nests_of, FreeSteps};
-ghost use Rattle.verilog_read.specs.Frames.{alone_of};
-ghost use Rattle.verilog_read.specs.Answers.{Goes};
+ghost use Rattle.verilog_read.specs.inner.Waiting.{lefts_of};
+ghost use Rattle.verilog_read.specs.inner.Holding.{token_of, standing, nests_of, FreeSteps};
+ghost use Rattle.verilog_read.specs.inner.Frames.{alone_of};
+ghost use Rattle.verilog_read.specs.inner.Answers.{Goes};
 
 use crate::expressions::have_whole;
 use crate::fault::ParseFault;

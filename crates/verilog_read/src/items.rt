@@ -5,10 +5,10 @@ ghost use Rattle.verilog_tree.specs.Plain.{plain_port};
 ghost use Rattle.verilog_text.specs.Places.{HeadOpen, ClockRead, AtItem};
 ghost use Rattle.verilog_text.specs.Following.{with_ports};
 ghost use Rattle.verilog_text.specs.Steps.{declared, takes_name, range_step, name_step, port_step, input_step, output_step, step_item, step};
-ghost use Rattle.verilog_read.specs.Holding.{token_of};
-ghost use Rattle.verilog_read.specs.Frames.{styled, head_of};
-ghost use Rattle.verilog_read.specs.Spots.{use_of, item_spot, state_of};
-ghost use Rattle.verilog_read.specs.Answers.{Goes, a_name, bytes_of, is_zero_number};
+ghost use Rattle.verilog_read.specs.inner.Holding.{token_of};
+ghost use Rattle.verilog_read.specs.inner.Frames.{styled, head_of};
+ghost use Rattle.verilog_read.specs.inner.Spots.{use_of, item_spot, state_of};
+ghost use Rattle.verilog_read.specs.inner.Answers.{Goes, a_name, bytes_of, is_zero_number};
 
 use crate::expressions::step_expr;
 use crate::fault::ParseFault;

@@ -4,8 +4,8 @@ ghost use Rattle.verilog_tree.specs.Tokens.{is_space, is_query, mark_of, lengthe
 ghost use Rattle.bist_text.specs.Identifiers.{is_digit};
 ghost use Rattle.verilog_tree.specs.Words.{digit_value, radix, is_digit_of, base_of};
 ghost use Rattle.verilog_text.specs.Lexing.{begin, lex, last, with_token, InGap, InWord, InNumber, Quoted, Lettered, InDigits, Marked};
-ghost use Rattle.verilog_read.specs.Holding.{token_of};
-ghost use Rattle.verilog_read.specs.Lexemes.{lexer_of, ends_of, Scans, Begins, BeginsAs, Stays};
+ghost use Rattle.verilog_read.specs.inner.Holding.{token_of};
+ghost use Rattle.verilog_read.specs.inner.Lexemes.{lexer_of, ends_of, Scans, Begins, BeginsAs, Stays};
 
 use crate::lexemes::{Lexeme, SmallNumber};
 use bist_bits::Bits;

@@ -3,7 +3,7 @@ ghost use Rattle.std.specs.Prelude.{◌≡◌, IfOk, IfErr};
 ghost use Rattle.verilog_tree.specs.Plain.{plain};
 ghost use Rattle.verilog_tree.specs.Free.{height};
 ghost use Rattle.verilog_text.specs.Flat.{settle, settle_all, linked};
-ghost use Rattle.verilog_read.specs.Waiting.{lefts_of, waiting_of};
+ghost use Rattle.verilog_read.specs.inner.Waiting.{lefts_of, waiting_of};
 
 use crate::fault::ParseFault;
 use crate::trees::infixed;

@@ -9,8 +9,8 @@ ghost use Rattle.verilog_tree.specs.Tokens.{Token, Sign};
 ghost use Rattle.verilog_text.specs.Places as Q;
 ghost use Rattle.verilog_text.specs.Places.{InRound, IfTrue, Alone, AtExpr, WantOperand, WantPrim, Named, Have, Linked, more_parts};
 ghost use Rattle.verilog_text.specs.Steps.{unary_of, infix_of, one_more, prim_step, operand_step, close_step, have_step};
-ghost use Rattle.verilog_read.specs.Waiting.{lefts_of};
-ghost use Rattle.verilog_read.specs.Holding.{token_of, nest, nests_of, counted, is_expected, IsList, FreeSteps, Closes, PoppedNest};
+ghost use Rattle.verilog_read.specs.inner.Waiting.{lefts_of};
+ghost use Rattle.verilog_read.specs.inner.Holding.{token_of, nest, nests_of, counted, is_expected, IsList, FreeSteps, Closes, PoppedNest};
 
 use crate::fault::ParseFault;
 use crate::lexemes::Lexeme;

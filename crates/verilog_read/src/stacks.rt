@@ -3,10 +3,10 @@ ghost use Rattle.std.specs.Prelude.{◌≡◌, ◌<◌, length, IfSome, Some, On
 ghost use Rattle.verilog_tree.specs.Plain.{plain_item};
 ghost use Rattle.verilog_text.specs.Places.{AtExpr, with_item, style_of, begin_expr};
 ghost use Rattle.verilog_text.specs.Steps.{is_word};
-ghost use Rattle.verilog_read.specs.Holding.{token_of};
-ghost use Rattle.verilog_read.specs.Frames.{styled, frame, holder, alone, base_of, outside_of, around_of, head_of};
-ghost use Rattle.verilog_read.specs.Spots.{state_of};
-ghost use Rattle.verilog_read.specs.Answers.{Popped, Released};
+ghost use Rattle.verilog_read.specs.inner.Holding.{token_of};
+ghost use Rattle.verilog_read.specs.inner.Frames.{styled, frame, holder, alone, base_of, outside_of, around_of, head_of};
+ghost use Rattle.verilog_read.specs.inner.Spots.{state_of};
+ghost use Rattle.verilog_read.specs.inner.Answers.{Popped, Released};
 
 use crate::fault::ParseFault;
 use crate::lexemes::Lexeme;

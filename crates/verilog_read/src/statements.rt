@@ -1,15 +1,16 @@
 //! What a token does in a statement.
 ghost use Rattle.std.specs.Prelude.{◌≡◌, Some, map, codes};
 ghost use Rattle.verilog_tree.specs.Spells.{bounded};
-ghost use Rattle.verilog_tree.specs.Plain.{plain, plain_stmts, plain_arm, arms, AlwaysItem};
+ghost use Rattle.verilog_tree.specs.Plain.{plain, plain_stmts, arms, AlwaysItem};
+ghost use Rattle.verilog_tree.specs.inner.Plain.{plain_arm};
 ghost use Rattle.verilog_tree.specs.Grammar.{then_all};
 ghost use Rattle.verilog_text.specs.Following.{case_of};
 ghost use Rattle.verilog_text.specs.Places.{with_item, AtStmt, WantStmt, HaveStmt, InElse, style_of};
 ghost use Rattle.verilog_text.specs.Steps.{word_step, want_stmt_step, block_step, arm_step, want_item_step, have_stmt_step, step_stmt, expects_word};
-ghost use Rattle.verilog_read.specs.Holding.{token_of};
-ghost use Rattle.verilog_read.specs.Frames.{alone, holder, around_of, head_of};
-ghost use Rattle.verilog_read.specs.Spots.{stmt_spot};
-ghost use Rattle.verilog_read.specs.Answers.{StmtSteps, Goes, opens_expr};
+ghost use Rattle.verilog_read.specs.inner.Holding.{token_of};
+ghost use Rattle.verilog_read.specs.inner.Frames.{alone, holder, around_of, head_of};
+ghost use Rattle.verilog_read.specs.inner.Spots.{stmt_spot};
+ghost use Rattle.verilog_read.specs.inner.Answers.{StmtSteps, Goes, opens_expr};
 
 use crate::fault::ParseFault;
 use crate::lexemes::Lexeme;

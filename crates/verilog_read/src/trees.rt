@@ -1,6 +1,7 @@
 //! Parts of trees, each built of its parts.
 ghost use Rattle.std.specs.Prelude.{◌≡◌, ◌++◌, ◌∷◌, [], map, IfOk, IfErr};
-ghost use Rattle.verilog_tree.specs.Plain.{plain, plain_stmt, plain_stmts, plain_arm, arms, ArmOf, NoArm, IfElse, Prefixed, Infixed, Conditional};
+ghost use Rattle.verilog_tree.specs.Plain.{plain, plain_stmt, plain_stmts, arms, ArmOf, NoArm, IfElse, Prefixed, Infixed, Conditional};
+ghost use Rattle.verilog_tree.specs.inner.Plain.{plain_arm};
 ghost use Rattle.verilog_tree.specs.Grammar.{then_all, alone};
 ghost use Rattle.verilog_text.specs.Places.{more_arms};
 ghost use Rattle.verilog_text.specs.Following.{case_of};

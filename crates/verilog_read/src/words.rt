@@ -3,12 +3,12 @@ ghost use Rattle.std.specs.Prelude.{◌≡◌, ℕ, List, false, map};
 ghost use Rattle.bist_text.specs.ReservedWords.{is_among};
 ghost use Rattle.verilog_text.specs.Expected.{some_begins};
 ghost use Rattle.verilog_text.specs.Places.{Nest, Head, InAlways, AtExpr, AtStmt, AtItem};
-ghost use Rattle.verilog_read.specs.Frames.{holders, outside_of, around_of};
-ghost use Rattle.verilog_read.specs.Spots.{spot, stmt_spot, item_spot, state_of};
-ghost use Rattle.verilog_read.specs.Holding.{standing};
+ghost use Rattle.verilog_read.specs.inner.Frames.{holders, outside_of, around_of};
+ghost use Rattle.verilog_read.specs.inner.Spots.{spot, stmt_spot, item_spot, state_of};
+ghost use Rattle.verilog_read.specs.inner.Holding.{standing};
 ghost use Rattle.verilog_read.specs.declared.precedence.Chain.{Chain};
-ghost use Rattle.verilog_read.specs.WordSets.{words_of, Expects, ExpectsBehind};
-ghost use Rattle.verilog_read.specs.Ends.{begins};
+ghost use Rattle.verilog_read.specs.inner.WordSets.{words_of, Expects, ExpectsBehind};
+ghost use Rattle.verilog_read.specs.inner.Ends.{begins};
 
 use crate::places::{Holder, ItemSpot, Outer, Place, Spot, StmtSpot};
 use crate::precedence::FreeSpot;
@@ -80,9 +80,9 @@ fn words_of(set: WordSet) -> &'static [&'static str]
 
 impl Expected {
     ghost use Rattle.verilog_text.specs.Expected.{with_else, some_begins};
-    ghost use Rattle.verilog_read.specs.Holding.{standing};
+    ghost use Rattle.verilog_read.specs.inner.Holding.{standing};
     ghost use Rattle.verilog_read.specs.declared.precedence.Chain.{Chain};
-    ghost use Rattle.verilog_read.specs.WordSets.{words_of};
+    ghost use Rattle.verilog_read.specs.inner.WordSets.{words_of};
 
     /// Whether a word is one of those that may come.
     pub(crate) fn lists(self, word: &[u8]) -> bool

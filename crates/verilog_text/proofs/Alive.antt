@@ -20,9 +20,11 @@ use Rattle.verilog_text.proofs.Counting.{none_is_few}
 use Rattle.verilog_tree.specs.Plain as P
 use Rattle.verilog_tree.specs.Spells.{all_limits, keeps, all_keep}
 use Rattle.verilog_tree.specs.Tokens.{Token, Identifier, Number, Based, Sign, Lexed}
-use Rattle.verilog_text.specs.Following.{items_behind, wires, regs, with_ports, new_head, after_items, AfterStmt, after_stmt, AfterExpr, after_expr, UseTail, after_name, name_read, rest, case_of, case_ends, AfterAlone, after_alone, AfterNest, after_nest}
+use Rattle.verilog_text.specs.inner.Following.{items_behind, wires, regs, after_items, AfterStmt, after_stmt, AfterExpr, after_expr, UseTail, after_name, name_read, rest, case_ends, AfterAlone, after_alone, AfterNest, after_nest}
+use Rattle.verilog_text.specs.Following.{with_ports, new_head, case_of}
 use Rattle.verilog_text.specs.Lexing.{InGap}
-use Rattle.verilog_text.specs.Places.{Head, with_item, Around, Outside, ExprPlace, StmtPlace, Use, ItemPlace, State, more_parts, more_arms, Closed, Whole, InAlways, InBlock, InThen, InElse, InArm, InDefault, Driving, Condition, Subject, Setting, InBraces, InParens, Operand, Second, Chosen, Otherwise, Want, Inside, Named, Bracket, HighRead, ColonRead, LowRead, Have, WantStmt, Target, IfRead, CaseRead, FirstLabel, Labels, NextLabel, DefaultRead, Block, HaveStmt, AsWire, AsReg, AsPort, Begin, HeadName, HeadOpen, WantPort, InputRead, OutputRead, WantRange, WantHigh, WantColon, WantZero, WantBracket, WantName, NameRead, PortsRead, WantItem, AssignRead, DriveRead, AlwaysRead, AtRead, ClockOpen, EdgeRead, ClockRead, Ended, AtExpr, AtStmt, AtItem, style_of, Alone, AsDriver, AsCondition, AsSubject, AsValue, Nest, Only, InRound, InList, IfTrue, IfFalse, Linked, WantOperand, WantPrim}
+use Rattle.verilog_text.specs.Places.{Head, with_item, Around, Outside, ExprPlace, StmtPlace, Use, ItemPlace, State, more_parts, more_arms, InAlways, InBlock, InThen, InElse, InArm, InDefault, Driving, Condition, Subject, Setting, InBraces, InParens, Operand, Second, Chosen, Otherwise, Want, Inside, Named, Bracket, HighRead, ColonRead, LowRead, Have, WantStmt, Target, IfRead, CaseRead, FirstLabel, Labels, NextLabel, DefaultRead, Block, HaveStmt, AsWire, AsReg, AsPort, Begin, HeadName, HeadOpen, WantPort, InputRead, OutputRead, WantRange, WantHigh, WantColon, WantZero, WantBracket, WantName, NameRead, PortsRead, WantItem, AssignRead, DriveRead, AlwaysRead, AtRead, ClockOpen, EdgeRead, ClockRead, Ended, AtExpr, AtStmt, AtItem, style_of, Alone, AsDriver, AsCondition, AsSubject, AsValue, Nest, Only, InRound, InList, IfTrue, IfFalse, Linked, WantOperand, WantPrim}
+use Rattle.verilog_text.specs.inner.Places.{Closed, Whole}
 use Rattle.verilog_text.proofs.LexingOn.{lexing, lexed_on}
 
 -- some bytes are tokens within all limits of which P holds, with some module

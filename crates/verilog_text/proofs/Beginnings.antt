@@ -6,7 +6,7 @@ use Rattle.verilog_tree.specs.Grammar.{Limit, few, Style, Parenthesised, ByPrece
 use Rattle.verilog_tree.specs.Parenthesised as Y
 use Rattle.verilog_tree.specs.Free as T
 use Rattle.verilog_text.specs.Flat as F
-use Rattle.verilog_text.specs.Following.{AfterAlone, after_alone, rest}
+use Rattle.verilog_text.specs.inner.Following.{AfterAlone, after_alone, rest}
 use Rattle.verilog_text.specs.Places.{Alone, AsDriver, AsCondition, AsSubject, AsValue, begin_expr, AtExpr}
 use Rattle.verilog_text.proofs.SameTexts.{same_texts}
 

@@ -14,9 +14,11 @@ use Rattle.verilog_tree.specs.Spells.{Limits, keeps, all_keep, short_names, smal
 use Rattle.verilog_tree.specs.Tokens.{Token, Identifier, Number, Based, Unused, Sign, Lexed, decimal, digits, spoils, growth_of, grown, lengthened, behind_mark, behind_number, behind_quote, behind_letter, behind_digits}
 use Rattle.bist_text.specs.Identifiers.{in_identifier}
 use Rattle.verilog_tree.specs.Words.{base_of, is_digit_of, digit_value}
-use Rattle.verilog_text.specs.Expected.{Numbers, AllNumbers, ZeroAlone, NoNumber, numbers, taken_as, words, takes_names, taken, takes_literals, most_of, some_begins, some_taken, longer_marks, live, name_fits, number_fits, live_in}
-use Rattle.verilog_text.specs.Following.{rest}
-use Rattle.verilog_text.specs.Lexing.{Lexer, InGap, InWord, InNumber, Quoted, Lettered, InDigits, Marked, Whole, unread}
+use Rattle.verilog_text.specs.inner.Expected.{Numbers, AllNumbers, ZeroAlone, NoNumber, numbers, taken_as}
+use Rattle.verilog_text.specs.Expected.{words, takes_names, taken, takes_literals, most_of, some_begins, some_taken, longer_marks, live, name_fits, number_fits, live_in}
+use Rattle.verilog_text.specs.inner.Following.{rest}
+use Rattle.verilog_text.specs.Lexing.{Lexer, InGap, InWord, InNumber, Quoted, Lettered, InDigits, Marked, Whole}
+use Rattle.verilog_text.specs.inner.Lexing.{unread}
 use Rattle.verilog_text.specs.Places.{State}
 use Rattle.verilog_text.proofs.Expectations.{word_taken, literals_alike, no_query, number_taken, numbers_or_literals}
 use Rattle.verilog_text.proofs.Limits.{first_taken}

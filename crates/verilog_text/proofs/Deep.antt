@@ -16,7 +16,7 @@ use Rattle.verilog_tree.specs.declared.fault.ReadFault.TheVariants as R
 use Rattle.verilog_text.specs.declared.fault.ByteFault.TheVariants.{TooDeep}
 use Rattle.verilog_text.specs.Answering.{Taking, Leads, Refused, OneTooMany, taking, take_token, Stops, is_between, while_live, gone, within, ended, stuck_at, stuck, read_on, lexed, byte_move, Faulty, value_answer, last_answer, end_answer}
 use Rattle.verilog_text.specs.Expected.{is_step, live, name_fits, number_fits, most_of, taken}
-use Rattle.verilog_text.specs.Following.{rest}
+use Rattle.verilog_text.specs.inner.Following.{rest}
 use Rattle.verilog_text.specs.Lexing.{Lexer, InGap, InWord, InNumber, Quoted, Lettered, InDigits, Marked, Whole, begin, with_token, lex, last, grow}
 use Rattle.verilog_text.specs.Openings.{Opening, Parenthesis, Brace, BlockWord, IfWord, CaseWord, opening_text, opening_token, opening_goes_on, BeginsText, IsDeep, Operator, limit_of, grows}
 use Rattle.verilog_text.specs.Places.{State, AtExpr, AtStmt, AtItem, Begin, IfRead, CaseRead}

@@ -6,7 +6,8 @@ use Rattle.std.proofs.Common.{◌≡◌, ℕ, ◌+◌, ◌<◌, ◌≤◌, Bool,
 use Rattle.std.proofs.lemmas.Bool.{eqb-true, ltb-true, ltb-false, and_from}
 use Rattle.std.proofs.lemmas.List.{append_cancel_left, append_cancel_right, take-append-le, length-take-le}
 use Rattle.bist_text.specs.Grammar.{when, word, Continues}
-use Rattle.bist_text.specs.Lexed.{Both, emitted, then as and_then}
+use Rattle.bist_text.specs.Lexed.{Both, then as and_then}
+use Rattle.bist_text.specs.inner.Lexed.{emitted}
 use Rattle.bist_text.specs.Machine.{Holds}
 use Rattle.verilog_tree.specs.declared.tokens.Within.TheVariants.{Between}
 use Rattle.verilog_tree.specs.Spells.{all_limits, no_limits, all_keep, keeps, Text, bounded}
@@ -16,11 +17,13 @@ use Rattle.verilog_text.specs.declared.fault.ByteFault.{ByteFault}
 use Rattle.verilog_text.specs.declared.fault.ByteFault.TheVariants.{Unexpected, TooDeep, LongName, OutOfRange, NoMemory}
 use Rattle.verilog_text.specs.Answering.{OneTooMany, taking, take_token, Move, Goes, Stops, ended, stuck, stuck_at, read_on, lexed, byte_move, Faulty, last_answer, end_answer}
 use Rattle.verilog_text.specs.Expected.{taken, live_in}
-use Rattle.verilog_text.specs.Following.{rest}
-use Rattle.verilog_text.specs.Lexing.{Lexer, InGap, lex, last, unread, Marked}
+use Rattle.verilog_text.specs.inner.Following.{rest}
+use Rattle.verilog_text.specs.Lexing.{Lexer, InGap, lex, last, Marked}
+use Rattle.verilog_text.specs.inner.Lexing.{unread}
 use Rattle.verilog_text.specs.Openings.{Opening, Parenthesis, Brace, BlockWord, IfWord, CaseWord, opening_text, opening_token, opening_goes_on, limit_of, BeginsText, IsDeep, Operator}
 use Rattle.verilog_text.specs.Places.{State, AtItem, Begin}
-use Rattle.verilog_text.specs.Reading.{start, byte_step, end_value, unread_in}
+use Rattle.verilog_text.specs.Reading.{start, byte_step, end_value}
+use Rattle.verilog_text.specs.inner.Reading.{unread_in}
 use Rattle.verilog_text.specs.Steps.{step}
 use Rattle.verilog_text.proofs.Alive.{alive}
 use Rattle.verilog_text.proofs.Deep.{opening_read, deep_at, room_free, mark_long}

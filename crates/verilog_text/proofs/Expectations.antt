@@ -12,7 +12,8 @@ use Rattle.verilog_tree.specs.declared.tokens.Mark.TheVariants.{Close, Semicolon
 use Rattle.verilog_tree.specs.declared.tree.UnOp.{UnOp}
 use Rattle.verilog_tree.specs.Free.{signed}
 use Rattle.verilog_text.specs.Flat.{Left, settle_all}
-use Rattle.verilog_text.specs.Expected.{NoNumber, numbers, taken_as, item_words, statement_words, else_behind, words_behind, with_else, words, names_behind, takes_names, literals_behind, is_step, taken, takes_literals}
+use Rattle.verilog_text.specs.inner.Expected.{NoNumber, numbers, taken_as, literals_behind}
+use Rattle.verilog_text.specs.Expected.{item_words, statement_words, else_behind, words_behind, with_else, words, names_behind, takes_names, is_step, taken, takes_literals}
 use Rattle.verilog_text.specs.Places.{Head, with_item, Around, Outside, ExprPlace, StmtPlace, Use, ItemPlace, State, InAlways, InBlock, InThen, InElse, InArm, InDefault, InBraces, InParens, Want, Inside, Named, Bracket, ColonRead, Have, WantStmt, DefaultRead, Block, HaveStmt, AsWire, AsReg, AsPort, Begin, HeadName, WantPort, InputRead, OutputRead, WantRange, WantHigh, WantZero, WantName, NameRead, WantItem, AssignRead, ClockOpen, EdgeRead, AtExpr, AtStmt, AtItem, Nest, Only, InRound, InList, IfTrue, IfFalse, AsDriver, AsCondition, AsSubject, AsValue, Linked, WantOperand, WantPrim, FirstLabel, AtExpr, AtStmt, AtItem}
 use Rattle.verilog_text.specs.Steps.{step, only_where, unless, target_step, want_step, have_step, want_stmt_step, block_step, have_stmt_step, want_item_step, range_step, name_step, to_expr, expects, close_step, prim_step}
 

@@ -13,10 +13,11 @@ use Rattle.verilog_tree.specs.declared.tokens.Mark.{Mark}
 use Rattle.verilog_tree.specs.declared.tree.BinOp.{BinOp}
 use Rattle.verilog_tree.specs.declared.tree.UnOp.TheVariants as U
 use Rattle.verilog_tree.specs.declared.tree.UnOp.{UnOp}
-use Rattle.verilog_text.specs.Following.{turn, AfterExpr, after_expr, wanted, prefixed, place, in_bracket, rest_expr, rest}
+use Rattle.verilog_text.specs.inner.Following.{turn, AfterExpr, after_expr, wanted, prefixed, place, in_bracket, rest_expr, rest}
 use Rattle.verilog_tree.specs.Free.{signed}
 use Rattle.verilog_text.specs.Flat.{settle_all}
-use Rattle.verilog_text.specs.Places.{Outside, Driving, Condition, Subject, Setting, InBraces, InParens, Operand, Second, Chosen, Otherwise, more_parts, Turn, Closed, Infix, Asked, ExprPlace, Want, Inside, Named, Bracket, HighRead, ColonRead, LowRead, Have, Place, Whole, One, Two, AtExpr, AsDriver, AsCondition, AsSubject, AsValue, Linked, WantOperand, WantPrim}
+use Rattle.verilog_text.specs.Places.{Outside, Driving, Condition, Subject, Setting, InBraces, InParens, Operand, Second, Chosen, Otherwise, more_parts, ExprPlace, Want, Inside, Named, Bracket, HighRead, ColonRead, LowRead, Have, AtExpr, AsDriver, AsCondition, AsSubject, AsValue, Linked, WantOperand, WantPrim}
+use Rattle.verilog_text.specs.inner.Places.{Turn, Closed, Infix, Asked, Place, Whole, One, Two}
 use Rattle.verilog_text.specs.Steps.{to_expr, in_room, unary_of, unary_step, infix_of, infix_step, paren_step, have_step}
 use Rattle.verilog_text.proofs.MarkLaws.{Law, expects_goes, parts_on}
 use Rattle.verilog_text.proofs.FreeLaws.{no_close, alone_goes, linked_goes, operand_goes, prim_goes}

@@ -9,7 +9,8 @@ use Rattle.std.proofs.lemmas.Nat.{pow_pos}
 use Rattle.std.proofs.lemmas.Slice.Eq.{bytes_eq-Decides, starts_is}
 use Rattle.bist_bits.specs.Vector.{Vector}
 use Rattle.bist_text.specs.Grammar.{are_bytes}
-use Rattle.bist_text.specs.Lexed.{Decides, emitted, then as and_then}
+use Rattle.bist_text.specs.inner.Lexed.{Decides, emitted}
+use Rattle.bist_text.specs.Lexed.{then as and_then}
 use Rattle.bist_text.specs.Machine.{Holds}
 use Rattle.bist_text.specs.ReservedWords.{is_among, reserved_words}
 use Rattle.bist_text.proofs.Bytes.{are_bytes-append}
@@ -24,12 +25,14 @@ use Rattle.verilog_tree.specs.Spells.{Limits, keeps, all_keep, all_limits, short
 use Rattle.verilog_tree.specs.Tokens.{Token, Identifier, Number, Based, Unused, Sign}
 use Rattle.bist_text.specs.Identifiers.{in_identifier}
 use Rattle.verilog_tree.specs.Grammar.{unlimited}
-use Rattle.verilog_text.specs.Expected.{Numbers, AllNumbers, ZeroAlone, NoNumber, numbers, taken_as, else_behind, words_behind, with_else, place_words, words, takes_names, is_step, taken, takes_literals, some_begins, some_taken, longer_marks, live, most_of, name_fits, number_fits, live_in}
-use Rattle.verilog_text.specs.Following.{rest}
-use Rattle.verilog_text.specs.Lexing.{Lexer, InGap, InWord, InNumber, Quoted, Lettered, InDigits, Marked, Whole, unread, with_token, begin}
+use Rattle.verilog_text.specs.inner.Expected.{Numbers, AllNumbers, ZeroAlone, NoNumber, numbers, taken_as}
+use Rattle.verilog_text.specs.Expected.{else_behind, words_behind, with_else, place_words, words, takes_names, is_step, taken, takes_literals, some_begins, some_taken, longer_marks, live, most_of, name_fits, number_fits, live_in}
+use Rattle.verilog_text.specs.inner.Following.{rest}
+use Rattle.verilog_text.specs.Lexing.{Lexer, InGap, InWord, InNumber, Quoted, Lettered, InDigits, Marked, Whole, with_token, begin}
+use Rattle.verilog_text.specs.inner.Lexing.{unread}
 use Rattle.verilog_text.specs.Places.{Around, InAlways, InBlock, InThen, InElse, InArm, InDefault, StmtPlace, WantStmt, IfRead, CaseRead, DefaultRead, HaveStmt, ItemPlace, Begin, WantPort, InputRead, OutputRead, WantItem, ClockOpen, State, AtExpr, AtStmt, AtItem}
 use Rattle.verilog_text.specs.Places as L
-use Rattle.verilog_text.specs.Reading.{rest_in}
+use Rattle.verilog_text.specs.inner.Reading.{rest_in}
 use Rattle.verilog_text.specs.Steps.{step}
 use Rattle.verilog_text.proofs.Alive.{HasRoom, alive}
 use Rattle.verilog_text.proofs.Complete.{most_literal, complete}

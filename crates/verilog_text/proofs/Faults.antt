@@ -15,7 +15,8 @@ use Rattle.verilog_text.specs.Answering.{Taking, Leads, Refused, OneTooMany, tak
 use Rattle.verilog_text.specs.Expected.{taken, live_in}
 use Rattle.verilog_text.specs.Lexing.{Lexer, last}
 use Rattle.verilog_text.specs.Places.{State}
-use Rattle.verilog_text.specs.Reading.{step_in, start, byte_step, end_value, unread_in}
+use Rattle.verilog_text.specs.Reading.{step_in, start, byte_step, end_value}
+use Rattle.verilog_text.specs.inner.Reading.{unread_in}
 use Rattle.verilog_text.specs.Refusals.{SaysIn}
 use Rattle.verilog_text.specs.Steps.{step, value}
 use Rattle.verilog_text.specs.Openings.{IsDeep}

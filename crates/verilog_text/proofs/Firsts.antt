@@ -15,10 +15,11 @@ use Rattle.verilog_text.specs.declared.fault.ByteFault.{ByteFault}
 use Rattle.verilog_text.specs.declared.fault.ByteFault.TheVariants.{Unexpected, TooDeep, LongName, OutOfRange, NoMemory}
 use Rattle.verilog_text.specs.Answering.{Taking, Leads, Refused, OneTooMany, take_token, Stops, byte_move, Answer, Finished, Faulty, fault_at, value_answer, last_answer, end_answer, answer}
 use Rattle.verilog_text.specs.Expected.{live_in}
-use Rattle.verilog_text.specs.Following.{rest}
+use Rattle.verilog_text.specs.inner.Following.{rest}
 use Rattle.verilog_text.specs.Lexing.{Lexer, last}
 use Rattle.verilog_text.specs.Places.{State, AtItem, Begin}
-use Rattle.verilog_text.specs.Reading.{start, byte_step, end_value, unread_in}
+use Rattle.verilog_text.specs.Reading.{start, byte_step, end_value}
+use Rattle.verilog_text.specs.inner.Reading.{unread_in}
 use Rattle.verilog_text.specs.Refusals.{StandsIn, byte_of}
 use Rattle.verilog_text.specs.Steps.{value}
 use Rattle.verilog_text.proofs.Deep.{deep_at, deep_end}

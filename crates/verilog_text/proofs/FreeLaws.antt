@@ -16,8 +16,9 @@ use Rattle.verilog_tree.specs.Grammar.{Limit, few, deeper, is_sign, sign, unary_
 use Rattle.verilog_tree.specs.Free.{signed}
 use Rattle.verilog_text.specs.Flat as F
 use Rattle.verilog_text.specs.Flat.{Left, settle_all, linked}
-use Rattle.verilog_text.specs.Following.{AfterAlone, after_alone, AfterNest, after_nest, after_items, after_stmt, after_subject, wanted_operand, place, rest_expr, rest}
-use Rattle.verilog_text.specs.Places.{with_item, style_of, Alone, AsDriver, AsCondition, AsSubject, AsValue, Nest, Only, InRound, InList, IfTrue, IfFalse, Linked, more_parts, Place, Whole, One, Two, InThen, WantItem, WantStmt, FirstLabel, HaveStmt, Have, Named, WantOperand, WantPrim, ExprPlace, AtExpr, AtStmt, AtItem, State}
+use Rattle.verilog_text.specs.inner.Following.{AfterAlone, after_alone, AfterNest, after_nest, after_items, after_stmt, after_subject, wanted_operand, place, rest_expr, rest}
+use Rattle.verilog_text.specs.Places.{with_item, style_of, Alone, AsDriver, AsCondition, AsSubject, AsValue, Nest, Only, InRound, InList, IfTrue, IfFalse, Linked, more_parts, InThen, WantItem, WantStmt, FirstLabel, HaveStmt, Have, Named, WantOperand, WantPrim, ExprPlace, AtExpr, AtStmt, AtItem, State}
+use Rattle.verilog_text.specs.inner.Places.{Place, Whole, One, Two}
 use Rattle.verilog_text.specs.Steps.{to_expr, in_room, only_where, infix_of, unary_of, alone_step, parts_step, one_more, close_step, ask_step, link_step, sign_step}
 use Rattle.verilog_text.proofs.Marks.{infix_goes, unary_goes, unary_from}
 use Rattle.verilog_text.proofs.MarkLaws.{Law, expects_goes, parts_on}

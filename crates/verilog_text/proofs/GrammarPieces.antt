@@ -12,7 +12,7 @@ use Rattle.verilog_tree.specs.Plain as P
 use Rattle.verilog_tree.specs.Spells.{Derives}
 use Rattle.verilog_tree.specs.Tokens.{Token}
 use Rattle.verilog_tree.specs.declared.tokens.Mark.TheVariants.{Open, Close, OpenBracket, CloseBracket, OpenBrace, CloseBrace, Comma, Semicolon, Colon, Question, LessEquals, Equals, At}
-use Rattle.verilog_text.specs.Following.{rest}
+use Rattle.verilog_text.specs.inner.Following.{rest}
 use Rattle.verilog_text.specs.Places.{AtItem, Begin}
 
 module _ (limit : Limit) where

@@ -4,7 +4,7 @@ use Rattle.std.specs.Str.{bytes_eq}
 use Rattle.bist_bits.specs.Vector.{Vector}
 use Rattle.bist_text.proofs.Pieces.{also, neither, same, never}
 use Rattle.bist_text.specs.Grammar.{when}
-use Rattle.bist_text.specs.Lexed.{Parses}
+use Rattle.bist_text.specs.inner.Lexed.{Parses}
 use Rattle.bist_text.specs.Machine.{Holds}
 use Rattle.bist_text.specs.ReservedWords.{is_among, reserved_words}
 use Rattle.verilog_tree.specs.Grammar.{Limit, Item, Port, File, is_sign, sign, keyword, name, number, is_zero, zero_number, deeper, inside, literals, ends_in_if, colon_if, range, names, wire_if, output_of, direction, port, ports, then_all, alone, range_width, ports_tree, Expr, Stmt, Stmts, Arm, Arms, Default, expr, stmt, stmts, arm, arms, default, expr_tree, stmt_tree, stmts_tree, arm_tree, arms_tree, default_tree, IfElse, NoStmt, AndStmt, ArmOf, NoArm, AndArm, NoDefault, ItsDefault, Wires, Style}
@@ -18,8 +18,10 @@ use Rattle.verilog_tree.specs.declared.tokens.Mark.TheVariants.{Open, Close, Ope
 use Rattle.verilog_tree.specs.declared.tokens.Mark.{Mark}
 use Rattle.verilog_tree.specs.declared.tree.Dir.TheVariants.{Input, Output, OutputReg}
 use Rattle.verilog_tree.specs.declared.tree.Dir.{Dir}
-use Rattle.verilog_text.specs.Following.{AfterStmt, items_behind, after_items, case_of, else_part, after_stmt, turn, AfterExpr, after_expr, place, in_bracket, rest_expr, case_ends, rest_stmt, UseTail, wires, regs, with_ports, after_ports, after_name, name_read, declare, new_head, rest_item, rest, AfterAlone, after_alone, AfterNest, after_nest}
-use Rattle.verilog_text.specs.Places.{Head, with_item, Around, Outside, more_parts, more_arms, Turn, ExprPlace, Place, StmtPlace, Use, ItemPlace, State, InAlways, InBlock, InThen, InElse, InArm, InDefault, Driving, InBraces, InParens, Closed, Infix, Asked, Want, Inside, Named, Bracket, HighRead, ColonRead, LowRead, Have, Whole, One, Two, WantStmt, Target, IfRead, CaseRead, FirstLabel, Labels, NextLabel, DefaultRead, Block, HaveStmt, AsWire, AsReg, AsPort, Begin, HeadName, HeadOpen, WantPort, InputRead, OutputRead, WantRange, WantHigh, WantColon, WantZero, WantBracket, WantName, NameRead, PortsRead, WantItem, AssignRead, DriveRead, AlwaysRead, AtRead, ClockOpen, EdgeRead, ClockRead, Ended, AtExpr, AtStmt, AtItem, style_of, AsDriver, begin_expr, Alone, Nest, Only, InRound, InList, IfTrue, IfFalse, Linked, WantOperand, WantPrim}
+use Rattle.verilog_text.specs.inner.Following.{AfterStmt, items_behind, after_items, else_part, after_stmt, turn, AfterExpr, after_expr, place, in_bracket, rest_expr, case_ends, rest_stmt, UseTail, wires, regs, after_ports, after_name, name_read, rest_item, rest, AfterAlone, after_alone, AfterNest, after_nest}
+use Rattle.verilog_text.specs.Following.{case_of, with_ports, declare, new_head}
+use Rattle.verilog_text.specs.Places.{Head, with_item, Around, Outside, more_parts, more_arms, ExprPlace, StmtPlace, Use, ItemPlace, State, InAlways, InBlock, InThen, InElse, InArm, InDefault, Driving, InBraces, InParens, Want, Inside, Named, Bracket, HighRead, ColonRead, LowRead, Have, WantStmt, Target, IfRead, CaseRead, FirstLabel, Labels, NextLabel, DefaultRead, Block, HaveStmt, AsWire, AsReg, AsPort, Begin, HeadName, HeadOpen, WantPort, InputRead, OutputRead, WantRange, WantHigh, WantColon, WantZero, WantBracket, WantName, NameRead, PortsRead, WantItem, AssignRead, DriveRead, AlwaysRead, AtRead, ClockOpen, EdgeRead, ClockRead, Ended, AtExpr, AtStmt, AtItem, style_of, AsDriver, begin_expr, Alone, Nest, Only, InRound, InList, IfTrue, IfFalse, Linked, WantOperand, WantPrim}
+use Rattle.verilog_text.specs.inner.Places.{Turn, Place, Closed, Infix, Asked, Whole, One, Two}
 use Rattle.verilog_text.specs.Steps.{in_room, only_where, is_word, unless, takes_name, takes_number, takes_zero, opens, declared, range_step, port_step, input_step, output_step, list_step, name_step, step_item, step, value_item, value}
 use Rattle.verilog_text.proofs.ExprLaws.{expr_laws}
 use Rattle.verilog_text.proofs.MarkLaws.{expects_goes}

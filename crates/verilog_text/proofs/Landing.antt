@@ -5,7 +5,7 @@ use Rattle.std.proofs.Common.{◌≡◌, ℕ, suc, ◌+◌, ◌*◌, ◌≤◌, 
 use Rattle.std.specs.List.{list_all}
 use Rattle.std.proofs.lemmas.Bool.{and_parts, and_from, eqb-true, le-leb, or_left, or_right}
 use Rattle.std.proofs.lemmas.List.{append_cancel_left, length-append, append_cancel_right}
-use Rattle.bist_text.specs.Lexed.{emitted}
+use Rattle.bist_text.specs.inner.Lexed.{emitted}
 use Rattle.bist_text.specs.Machine.{Holds}
 use Rattle.verilog_tree.specs.declared.tokens.Base.{Base}
 use Rattle.verilog_tree.specs.declared.tokens.Mark.{Mark}
@@ -14,7 +14,8 @@ use Rattle.verilog_tree.specs.declared.tokens.Within.TheVariants.{Between, Slash
 use Rattle.verilog_tree.specs.Tokens.{Token, Identifier, Number, Unused, Sign, is_space, is_query, lengthened, Start, AWord, ANumber, AMark, NoToken, start_of, Lexed, spoils, growth_of, mark_text, Growth, Longer, Spoiled, Complete, growth}
 use Rattle.bist_text.specs.Identifiers.{is_digit, in_identifier}
 use Rattle.verilog_tree.specs.Words.{digit_value, radix, base_of, is_digit_of}
-use Rattle.verilog_text.specs.Lexing.{Lexer, InGap, InWord, InNumber, Quoted, Lettered, InDigits, Marked, Whole, literal, begin_token, begin, with_token, silent, lettered, grow, lex, last, unread}
+use Rattle.verilog_text.specs.Lexing.{Lexer, InGap, InWord, InNumber, Quoted, Lettered, InDigits, Marked, Whole, literal, begin_token, begin, with_token, silent, lettered, grow, lex, last}
+use Rattle.verilog_text.specs.inner.Lexing.{unread}
 use Rattle.verilog_text.specs.Openings.{Opening, Parenthesis, Brace, BlockWord, IfWord, CaseWord, opening_text, opening_token, opening_goes_on, Operator, grows}
 use Rattle.verilog_text.proofs.LexerLaws.{by_test, lexes}
 use Rattle.verilog_text.proofs.LexingOn.{lexing, emitted_on, unread_to}

@@ -1,7 +1,7 @@
 -- The lexer's laws.
 use Rattle.std.proofs.Common.{◌≡◌, ℕ, ◌+◌, ◌*◌, ◌==◌, Bool, true, false, List, [], ◌∷◌, ◌++◌, Option, Some, None, refl, ◌↔◌, ◌⊎◌, subst, sym, ap, if◌then◌else◌}
 use Rattle.bist_text.proofs.Pieces.{at_byte, also, skip, stay, neither, same, never}
-use Rattle.bist_text.specs.Lexed.{emitted, Lexes}
+use Rattle.bist_text.specs.inner.Lexed.{emitted, Lexes}
 use Rattle.bist_text.specs.Machine.{Holds}
 use Rattle.verilog_tree.specs.Tokens.{gap, Token, Identifier, Number, Based, Unused, Sign, Start, AWord, ANumber, AMark, NoToken, start_of, is_query, Growth, Longer, Spoiled, Complete, growth, grown, behind_mark, begun, first, Lexed}
 use Rattle.bist_text.specs.Identifiers.{is_digit, in_identifier}
@@ -10,7 +10,8 @@ use Rattle.verilog_tree.specs.declared.tokens.Base.{Base}
 use Rattle.verilog_tree.specs.declared.tokens.Mark.{Mark}
 use Rattle.verilog_tree.specs.declared.tokens.Within.TheVariants.{Between, Slash, Line, Block, Star}
 use Rattle.verilog_tree.specs.declared.tokens.Within.{Within}
-use Rattle.verilog_text.specs.Lexing.{Lexer, InGap, InWord, InNumber, Quoted, Lettered, InDigits, Marked, Whole, literal, begin_token, begin, with_token, silent, lettered, grow, lex, last, unread}
+use Rattle.verilog_text.specs.Lexing.{Lexer, InGap, InWord, InNumber, Quoted, Lettered, InDigits, Marked, Whole, literal, begin_token, begin, with_token, silent, lettered, grow, lex, last}
+use Rattle.verilog_text.specs.inner.Lexing.{unread}
 
 pub by_test : (P : Bool → Type 0) (t : Bool) → (t ≡ true → P true) → (t ≡ false → P false) → P t
 by_test P true f g = f refl

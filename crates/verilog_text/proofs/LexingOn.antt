@@ -1,9 +1,11 @@
 -- What the lexer makes of bytes, whatever follows.
 use Rattle.std.proofs.Common.{◌≡◌, ℕ, List, [], ◌∷◌, ◌++◌, Option, Some, None, refl, sym, ap, subst, ◌∙◌}
-use Rattle.bist_text.specs.Lexed.{emitted, then as and_then}
+use Rattle.bist_text.specs.inner.Lexed.{emitted}
+use Rattle.bist_text.specs.Lexed.{then as and_then}
 use Rattle.bist_text.specs.Machine.{Holds}
 use Rattle.verilog_tree.specs.Tokens.{Token}
-use Rattle.verilog_text.specs.Lexing.{Lexer, lex, unread}
+use Rattle.verilog_text.specs.Lexing.{Lexer, lex}
+use Rattle.verilog_text.specs.inner.Lexing.{unread}
 use Rattle.verilog_text.proofs.LexerLaws.{lexes}
 
 -- the tokens that end in these bytes, and where the lexer then stands

@@ -12,7 +12,7 @@ use Rattle.verilog_tree.specs.Grammar.{Limit, unlimited, deeper_in, few, deeper,
 use Rattle.verilog_tree.specs.Plain as P
 use Rattle.verilog_tree.specs.Tokens.{Token, Identifier, Sign}
 use Rattle.verilog_text.specs.Expected.{is_step, taken}
-use Rattle.verilog_text.specs.Following.{rest}
+use Rattle.verilog_text.specs.inner.Following.{rest}
 use Rattle.verilog_text.specs.Places.{Around, Outside, ExprPlace, StmtPlace, ItemPlace, State, InBlock, InThen, InElse, InDefault, InParens, Want, Inside, WantStmt, IfRead, CaseRead, DefaultRead, Block, HaveStmt, HeadOpen, AtRead, AtExpr, AtStmt, AtItem, Nest, IfTrue, Linked, WantOperand, WantPrim, Named, Have, InBraces}
 use Rattle.verilog_text.specs.Steps.{in_room, want_step, unary_of, unary_step, inside_step, step_expr, word_step, want_stmt_step, block_step, have_stmt_step, step_stmt, opens, step_item, step, is_word, only_where, one_more, ask_step, link_step, have_step, prim_step, sign_step, operand_step, infix_of}
 use Rattle.verilog_text.proofs.ItemLaws.{parse_goes}

@@ -7,7 +7,7 @@ use Rattle.verilog_tree.specs.Grammar.{Limit, is_sign, sign}
 use Rattle.verilog_tree.specs.Plain as P
 use Rattle.verilog_tree.specs.Tokens.{Token, Sign}
 use Rattle.verilog_tree.specs.declared.tokens.Mark.{Mark}
-use Rattle.verilog_text.specs.Following.{rest_expr, rest}
+use Rattle.verilog_text.specs.inner.Following.{rest_expr, rest}
 use Rattle.verilog_text.specs.Places.{more_parts, ExprPlace, State}
 use Rattle.verilog_text.specs.Steps.{only_where, expects, step_expr}
 

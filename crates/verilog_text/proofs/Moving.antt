@@ -11,7 +11,8 @@ use Rattle.verilog_tree.specs.Tokens.{Token, Identifier, Number, Based, Unused, 
 use Rattle.bist_text.specs.Identifiers.{is_digit, begins_identifier, in_identifier}
 use Rattle.verilog_tree.specs.Words.{digit_value, radix, base_of, is_digit_of}
 use Rattle.verilog_text.specs.Answering.{Taking, Leads, Refused, OneTooMany, taking, take_token, Move, Goes, Stops, is_between, while_live, gone, arrive, within, ended, stuck_at, stuck, read_on, lexed, byte_move}
-use Rattle.verilog_text.specs.Expected.{Numbers, AllNumbers, ZeroAlone, NoNumber, numbers, taken_as, is_step, taken, most_of, live, name_fits, number_fits, live_in}
+use Rattle.verilog_text.specs.inner.Expected.{Numbers, AllNumbers, ZeroAlone, NoNumber, numbers, taken_as}
+use Rattle.verilog_text.specs.Expected.{is_step, taken, most_of, live, name_fits, number_fits, live_in}
 use Rattle.verilog_text.specs.Lexing.{Lexer, InGap, InWord, InNumber, Quoted, Lettered, InDigits, Marked, Whole, literal, begin_token, begin, with_token, silent, lettered, grow, lex, last}
 use Rattle.verilog_text.specs.Places.{State}
 use Rattle.verilog_text.specs.Reading.{step_in, byte_step}

@@ -18,7 +18,7 @@ use Rattle.verilog_tree.specs.Spells.{bounded}
 use Rattle.verilog_tree.specs.Plain as P
 use Rattle.verilog_tree.specs.Tokens.{Token, Identifier, Sign}
 use Rattle.verilog_text.specs.Expected.{is_step, taken}
-use Rattle.verilog_text.specs.Following.{rest}
+use Rattle.verilog_text.specs.inner.Following.{rest}
 use Rattle.verilog_text.specs.Openings.{Opening, Parenthesis, Brace, BlockWord, IfWord, CaseWord, Operator, opening_token, limit_of}
 use Rattle.verilog_text.specs.Places.{Around, Outside, ExprPlace, StmtPlace, ItemPlace, State, InBlock, InThen, InElse, InDefault, InParens, Want, Inside, WantStmt, IfRead, CaseRead, DefaultRead, Block, HaveStmt, HeadOpen, AtRead, AtExpr, AtStmt, AtItem, Nest, InRound, InList, IfTrue, Linked, InBraces, WantOperand, WantPrim, Named, Have}
 use Rattle.verilog_text.specs.Steps.{in_room, want_step, unary_of, unary_step, inside_step, step_expr, word_step, want_stmt_step, block_step, have_stmt_step, step_stmt, step_item, step, is_word, target_step, one_more, ask_step, link_step, have_step, prim_step, sign_step, operand_step, infix_of}

@@ -5,7 +5,8 @@ use Rattle.verilog_tree.specs.Spells.{bounded}
 use Rattle.std.proofs.Common.{◌≡◌, ℕ, ◌+◌, ◌*◌, Bool, true, false, List, [], ◌∷◌, ◌++◌, length, Option, Some, None, refl, sym, ap, subst, ◌∙◌, if◌then◌else◌, ◌==◌, append-nil}
 use Rattle.std.proofs.lemmas.Bool.{eqb-true}
 use Rattle.std.proofs.lemmas.List.{append_assoc}
-use Rattle.bist_text.specs.Lexed.{Both, emitted, then as and_then}
+use Rattle.bist_text.specs.Lexed.{Both, then as and_then}
+use Rattle.bist_text.specs.inner.Lexed.{emitted}
 use Rattle.bist_text.specs.Machine.{Holds}
 use Rattle.verilog_tree.specs.declared.tokens.Base.{Base}
 use Rattle.verilog_tree.specs.declared.tokens.Mark.{Mark}

@@ -1,7 +1,8 @@
 -- The machine reads exactly the texts within its limits, each to its one module.
 use Rattle.std.proofs.Common.{◌≡◌, ℕ, ◌&&◌, List, [], ◌∷◌, refl, sym, ap, ◌∙◌, ◌↔◌}
-use Rattle.bist_text.specs.Lexed.{Parses}
-use Rattle.bist_text.specs.Machine.{read, Follows}
+use Rattle.bist_text.specs.inner.Lexed.{Parses}
+use Rattle.bist_text.specs.Machine.{read}
+use Rattle.bist_text.specs.inner.Machine.{Follows}
 use Rattle.bist_text.proofs.Machine.{scan_reads, scan_read, one_value}
 use Rattle.bist_text.proofs.Pieces.{also, holds_iff}
 use Rattle.bist_text.proofs.Unique.{all_within, rest_within, within_parses}
@@ -11,10 +12,12 @@ use Rattle.verilog_tree.specs.Spells.{Limits, keeps, all_keep, Text}
 use Rattle.verilog_tree.specs.Tokens.{Token}
 use Rattle.verilog_tree.specs.Grammar.{Style}
 use Rattle.verilog_text.specs.Expected.{live_in}
-use Rattle.verilog_text.specs.Following.{rest}
-use Rattle.verilog_text.specs.Lexing.{lex, last, unread}
+use Rattle.verilog_text.specs.inner.Following.{rest}
+use Rattle.verilog_text.specs.Lexing.{lex, last}
+use Rattle.verilog_text.specs.inner.Lexing.{unread}
 use Rattle.verilog_text.specs.Places.{State}
-use Rattle.verilog_text.specs.Reading.{step_in, rest_in, start, byte_step, end_value, unread_in, reads}
+use Rattle.verilog_text.specs.Reading.{step_in, start, byte_step, end_value, reads}
+use Rattle.verilog_text.specs.inner.Reading.{rest_in, unread_in}
 use Rattle.verilog_text.specs.Steps.{step, value}
 use Rattle.verilog_text.proofs.Complete.{complete}
 use Rattle.verilog_text.proofs.GrammarPieces.{begins_file}

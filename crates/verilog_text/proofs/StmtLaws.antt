@@ -11,7 +11,8 @@ use Rattle.verilog_tree.specs.Grammar.{Limit, Item, sign, keyword, name, literal
 use Rattle.verilog_tree.specs.Plain as P
 use Rattle.verilog_tree.specs.Tokens.{Token, Identifier, Based, Sign}
 use Rattle.verilog_tree.specs.declared.tokens.Mark.TheVariants.{Open, Close, Comma, Semicolon, Colon, LessEquals, Equals, At}
-use Rattle.verilog_text.specs.Following.{AfterStmt, finished, after_items, case_of, else_part, after_stmt, after_expr, case_ends, wanted_stmt, rest_stmt, wires, regs, rest_item, rest}
+use Rattle.verilog_text.specs.inner.Following.{AfterStmt, finished, after_items, else_part, after_stmt, after_expr, case_ends, wanted_stmt, rest_stmt, wires, regs, rest_item, rest}
+use Rattle.verilog_text.specs.Following.{case_of}
 use Rattle.verilog_text.specs.Places.{Head, with_item, Around, more_arms, StmtPlace, ItemPlace, State, InAlways, InBlock, InThen, InElse, InArm, InDefault, Condition, Subject, Setting, WantStmt, Target, IfRead, CaseRead, FirstLabel, Labels, NextLabel, DefaultRead, Block, HaveStmt, AsWire, AsReg, WantRange, WantItem, AssignRead, AlwaysRead, Ended, AtExpr, AtStmt, style_of, AsCondition, AsSubject, AsValue, begin_expr}
 use Rattle.verilog_text.specs.Steps.{in_room, only_where, expects_word, target_step, word_step, want_stmt_step, is_word, block_step, arm_step, item_word_step, want_item_step, have_stmt_step, labels_step, step_stmt}
 use Rattle.verilog_text.proofs.MarkLaws.{expects_goes}

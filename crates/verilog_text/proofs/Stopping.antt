@@ -2,7 +2,7 @@
 use Rattle.verilog_tree.specs.Grammar.{unlimited}
 use Rattle.std.proofs.Common.{◌≡◌, ℕ, ◌&&◌, Bool, true, false, List, [], ◌∷◌, Option, Some, None, refl, sym, ap, ◌∙◌, ◌⊎◌, inl, inr, if◌then◌else◌}
 use Rattle.bist_text.specs.Lexed.{Both, advance, then as and_then, only_if}
-use Rattle.bist_text.specs.Machine.{Follows}
+use Rattle.bist_text.specs.inner.Machine.{Follows}
 use Rattle.bist_text.proofs.Lexed.{both_follows}
 use Rattle.verilog_tree.specs.Spells.{all_limits, no_limits, short_names, small_numbers, keeps, bounded}
 use Rattle.verilog_tree.specs.Tokens.{Token, Identifier, Number, Based, Unused, Sign}
@@ -10,9 +10,11 @@ use Rattle.verilog_text.specs.declared.fault.ByteFault.{ByteFault}
 use Rattle.verilog_text.specs.declared.fault.ByteFault.TheVariants.{Unexpected, TooDeep, LongName, OutOfRange, NoMemory}
 use Rattle.verilog_text.specs.Answering.{Taking, Leads, Refused, OneTooMany, taking, take_token, Stops, is_between, while_live, gone, arrive, within, ended, stuck_at, stuck, read_on, lexed, byte_move}
 use Rattle.verilog_text.specs.Expected.{is_step, taken, live, name_fits, number_fits, most_of, live_in}
-use Rattle.verilog_text.specs.Lexing.{Lexer, InWord, Whole, lex, last, unread}
+use Rattle.verilog_text.specs.Lexing.{Lexer, InWord, Whole, lex, last}
+use Rattle.verilog_text.specs.inner.Lexing.{unread}
 use Rattle.verilog_text.specs.Places.{State}
-use Rattle.verilog_text.specs.Reading.{step_in, rest_in, byte_step, end_value, unread_in}
+use Rattle.verilog_text.specs.Reading.{step_in, byte_step, end_value}
+use Rattle.verilog_text.specs.inner.Reading.{rest_in, unread_in}
 use Rattle.verilog_text.specs.Steps.{step, value}
 use Rattle.verilog_text.proofs.Complete.{live_from, most_low}
 use Rattle.verilog_text.proofs.Extends.{limits, all_kept, decides}

@@ -77,11 +77,6 @@ abbrev pub read_on : Both State Lexer → Lexer → Option Token → Move
 read_on q l None = while_live (live q.parser l) (within (name_fits l) (number_fits (most_of q.parser) l) (gone q.parser l (is_between q.lexer)))
 read_on q l (Some t) = ended (take_token q.parser t) l
 
--- the same, of a state within the limits
-abbrev pub read_within : Both State Lexer → Lexer → Option Token → Move
-read_within q l None = arrive q.parser l (is_between q.lexer)
-read_within q l (Some t) = ended (take_token q.parser t) l
-
 abbrev pub lexed : Both State Lexer → Option (Lexer × Option Token) → Move
 lexed q None = stuck q.parser (last q.lexer)
 lexed q (Some r) = read_on q r.0 r.1

@@ -1,14 +1,14 @@
 -- Public. Which tokens a text may go on with where the reader of a module stands, whatever its limits.
 use Rattle.std.specs.Prelude.{ℕ, Bool, true, false, ◌||◌, ◌&&◌, nat_le, nat_eq, List, [], ◌∷◌, Option, Some, None, length, codes, if◌then◌else◌}
 use Rattle.std.specs.List.{starts_with}
-use Rattle.verilog_tree.specs.Grammar.{is_zero, unlimited}
+use Rattle.verilog_tree.specs.Grammar.{unlimited}
 use Rattle.verilog_tree.specs.Formed.{is_width, is_literal}
 use Rattle.verilog_tree.specs.Spells.{Limits, keeps, short_names, small_numbers}
 use Rattle.verilog_tree.specs.Tokens.{Token, Number, Based, Sign}
 use Rattle.verilog_tree.specs.declared.tokens.Mark.{Mark}
 use Rattle.verilog_tree.specs.declared.tokens.Mark.TheVariants.{Equals, Bang, Less, Greater, Ampersand, Bar, TwoEquals, BangEquals, LessEquals, TwoLess, GreaterEquals, TwoGreater, TwoAmpersands, TwoBars}
 use Rattle.verilog_text.specs.Lexing.{Lexer, InGap, InWord, InNumber, Quoted, Lettered, InDigits, Marked, Whole}
-use Rattle.verilog_text.specs.Places.{Around, InAlways, InBlock, InThen, InElse, InArm, InDefault, ExprPlace, Want, Inside, WantOperand, WantPrim, Bracket, ColonRead, StmtPlace, WantStmt, DefaultRead, Block, HaveStmt, ItemPlace, Begin, HeadName, WantPort, InputRead, OutputRead, WantRange, WantHigh, WantZero, WantName, WantItem, AssignRead, ClockOpen, EdgeRead, State, AtExpr, AtStmt, AtItem}
+use Rattle.verilog_text.specs.Places.{Around, InAlways, InBlock, InThen, InElse, InArm, InDefault, ExprPlace, Want, Inside, WantOperand, WantPrim, StmtPlace, WantStmt, DefaultRead, Block, HaveStmt, ItemPlace, Begin, HeadName, WantPort, InputRead, OutputRead, WantRange, WantName, WantItem, AssignRead, ClockOpen, EdgeRead, State, AtExpr, AtStmt, AtItem}
 use Rattle.verilog_text.specs.Steps.{step}
 
 -- ---- words
@@ -93,13 +93,6 @@ names_item (AssignRead h) = true
 names_item (EdgeRead h) = true
 names_item _ = false
 
--- whether a literal may come there, as a label
-abbrev pub literals_behind : Around → Bool
-literals_behind (InThen r c a) = literals_behind a
-literals_behind (InElse r c s a) = literals_behind a
-literals_behind (InArm r x as' ls a) = true
-literals_behind _ = false
-
 -- whether a name may come
 abbrev pub takes_names : State → Bool
 takes_names (AtExpr p) = names_expr p
@@ -123,24 +116,6 @@ takes_literals s = taken s (Based (record { width = 1; value = 0 }))
 -- how large a number may be: in brackets 63, and as the size of a literal 64
 abbrev pub most_of : State → ℕ
 most_of s = if taken s (Number false 0) then 63 else 64
-
--- where numbers are taken: all, the number "0" alone, or none
-pub data Numbers : Type 0 where
-  AllNumbers : Numbers
-  ZeroAlone : Numbers
-  NoNumber : Numbers
-
-abbrev pub numbers : State → Numbers
-numbers (AtExpr (Bracket p n o)) = AllNumbers
-numbers (AtExpr (ColonRead p n h o)) = AllNumbers
-numbers (AtItem (WantHigh u)) = AllNumbers
-numbers (AtItem (WantZero u i)) = ZeroAlone
-numbers _ = NoNumber
-
-abbrev pub taken_as : Numbers → Bool → ℕ → Bool
-taken_as AllNumbers l n = true
-taken_as ZeroAlone l n = is_zero l n
-taken_as NoNumber l n = false
 
 -- ---- what is begun
 

@@ -1,6 +1,6 @@
 -- Public. What the lexer does at each byte, and what may still come where it stands.
-use Rattle.std.specs.Prelude.{◌≡◌, ℕ, ◌+◌, ◌*◌, Bool, true, false, ◌==◌, List, [], ◌∷◌, ◌++◌, Option, Some, None, if◌then◌else◌}
-use Rattle.verilog_tree.specs.Tokens.{is_space, gap, Token, Identifier, Number, Based, Unused, Sign, run, sized, decimal, digits, Start, AWord, ANumber, AMark, NoToken, start_of, is_query, behind_digits, behind_letter, behind_quote, behind_number, Growth, Longer, Spoiled, Complete, growth, behind_mark, first, Lexed}
+use Rattle.std.specs.Prelude.{ℕ, ◌+◌, ◌*◌, Bool, true, false, ◌==◌, List, [], ◌∷◌, ◌++◌, Option, Some, None, if◌then◌else◌}
+use Rattle.verilog_tree.specs.Tokens.{is_space, Token, Identifier, Number, Based, Unused, Sign, Start, AWord, ANumber, AMark, NoToken, start_of, is_query, Growth, Longer, Spoiled, Complete, growth}
 use Rattle.bist_text.specs.Identifiers.{is_digit, in_identifier}
 use Rattle.verilog_tree.specs.Words.{digit_value, radix, is_digit_of, base_of}
 use Rattle.verilog_tree.specs.declared.tokens.Base.{Base}
@@ -76,23 +76,3 @@ last (Lettered n base) = None
 last (InDigits n base v) = Some (Some (literal n v))
 last (Marked m) = Some (Some (Sign m))
 last (Whole t) = Some (Some t)
-
--- what the rest of a token's text is
-abbrev pub unread_token : Lexer → Token → (List ℕ → Type 0) → List ℕ → Type 0
-unread_token (InGap m) t K b = ⊥
-unread_token (InWord w) (Identifier v) K b = run in_identifier w (λ x r. (x ≡ v) × K r) b
-unread_token (InWord w) _ K b = ⊥
-unread_token (InNumber long n) t K b = decimal long n (behind_number t K) b
-unread_token (Quoted n) t K b = sized t (behind_quote t K n b)
-unread_token (Lettered n base) t K b = sized t (behind_letter t K n base b)
-unread_token (InDigits n base v) t K b = sized t (digits base v (behind_digits t K n base) b)
-unread_token (Marked m) t K b = behind_mark m t K b
-unread_token (Whole s) t K b = (s ≡ t) × K b
-
-abbrev pub unread_first : Lexer → List ℕ → List Token → Type 0
-unread_first l b [] = ⊥
-unread_first l b (t ∷ us) = unread_token l t (Lexed us) b
-
-abbrev pub unread : Lexer → List ℕ → List Token → Type 0
-unread (InGap m) b ts = gap m (first ts) b
-unread l b ts = unread_first l b ts

@@ -10,3 +10,4 @@ pub mod Openings
 pub mod Operators
 pub mod Answering
 pub mod Refusals
+pub mod inner

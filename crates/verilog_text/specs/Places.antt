@@ -2,7 +2,6 @@
 use Rattle.std.specs.Prelude.{ℕ, List, [], ◌∷◌, ◌++◌, Option}
 use Rattle.bist_bits.specs.Vector.{Vector}
 use Rattle.verilog_tree.specs.Grammar.{Style, Parenthesised, ByPrecedence}
-use Rattle.verilog_tree.specs.Parenthesised.{Expr}
 use Rattle.verilog_text.specs.Flat.{Left}
 use Rattle.verilog_tree.specs.Plain as P
 use Rattle.verilog_tree.specs.declared.tree.BinOp.{BinOp}
@@ -81,12 +80,6 @@ abbrev pub more_arms : P.Arms → P.Arms → P.Arms
 more_arms P.NoArm bs = bs
 more_arms (P.ArmOf ls s as') bs = P.ArmOf ls s (more_arms as' bs)
 
--- what stands behind an expression in parentheses
-pub data Turn : Type 0 where
-  Closed : Turn
-  Infix : BinOp → Expr → Turn
-  Asked : Expr → Expr → Turn
-
 -- in an expression: where one is wanted, behind a parenthesis, behind a name and in its brackets, and behind
 -- a whole one; by precedence, where an operand is wanted, and behind its mark, and how many operators are read
 pub data ExprPlace : Type 0 where
@@ -105,12 +98,6 @@ pub data ExprPlace : Type 0 where
 abbrev pub begin_expr : Style → ℕ → Alone → ExprPlace
 begin_expr Parenthesised q b = Want q (based b)
 begin_expr ByPrecedence q b = WantOperand q 0 [] (Only b)
-
--- behind a name: a select, or nothing of the expression
-pub data Place : Type 0 where
-  Whole : Place
-  One : ℕ → Place
-  Two : ℕ → ℕ → Place
 
 -- in a statement: where one is wanted, behind a target, behind if and case, where a label is wanted, behind
 -- labels, behind a comma there, behind default, in a block, and behind a whole statement

@@ -1,25 +1,20 @@
 -- Public. The reader of a module's text as a machine over bytes, within limits.
-use Rattle.std.specs.Prelude.{◌≡◌, ℕ, true, List, Option, None, if◌then◌else◌}
-use Rattle.bist_text.specs.Lexed.{Both, both_step, both_value, both_rest}
+use Rattle.std.specs.Prelude.{ℕ, List, Option, None, if◌then◌else◌}
+use Rattle.bist_text.specs.Lexed.{Both, both_step, both_value}
 use Rattle.bist_text.specs.Machine.{Outcome, scan}
 use Rattle.verilog_tree.specs.declared.tokens.Within.TheVariants.{Between}
 use Rattle.verilog_tree.specs.Plain.{ModuleTree}
 use Rattle.verilog_tree.specs.Grammar.{Style}
-use Rattle.verilog_tree.specs.Spells.{Limits, keeps, all_keep}
+use Rattle.verilog_tree.specs.Spells.{Limits, keeps}
 use Rattle.verilog_tree.specs.Tokens.{Token}
 use Rattle.verilog_text.specs.Expected.{live_in}
-use Rattle.verilog_text.specs.Following.{rest}
-use Rattle.verilog_text.specs.Lexing.{Lexer, InGap, lex, last, unread}
+use Rattle.verilog_text.specs.Lexing.{Lexer, InGap, lex, last}
 use Rattle.verilog_text.specs.Places.{State, AtItem, Begin}
 use Rattle.verilog_text.specs.Steps.{step, value}
 
 -- a token that keeps the limits
 abbrev pub step_in : Limits → State → Token → Option State
 step_in limits s t = if keeps limits t then step limits.counts s t else None
-
--- what may still follow, within the limits
-abbrev pub rest_in : Limits → State → List Token → ModuleTree → Type 0
-rest_in limits s ts v = (all_keep limits ts ≡ true) × rest limits.counts s ts v
 
 -- where a text begins
 abbrev pub start : Style → Both State Lexer
@@ -31,9 +26,6 @@ byte_step limits q c = both_step lex (step_in limits) (live_in limits) q c
 
 abbrev pub end_value : Limits → Both State Lexer → Option ModuleTree
 end_value limits q = both_value last (step_in limits) value q
-
-abbrev pub unread_in : Limits → Both State Lexer → List ℕ → ModuleTree → Type 0
-unread_in limits q b v = both_rest unread (rest_in limits) q b v
 
 -- what the machine makes of a text
 abbrev pub reads : Style → Limits → List ℕ → Outcome ModuleTree

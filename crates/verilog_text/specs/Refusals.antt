@@ -43,8 +43,5 @@ IsFirstIn y b f = StandsIn y b f × ((g : ReadFault) → StandsIn y b g → (g �
 abbrev pub Says : List ℕ → ReadFault → Type 0
 Says b f = SaysIn Parenthesised b f
 
-abbrev pub Stands : List ℕ → ReadFault → Type 0
-Stands b f = StandsIn Parenthesised b f
-
 abbrev pub IsFirst : List ℕ → ReadFault → Type 0
 IsFirst b f = IsFirstIn Parenthesised b f

@@ -2,7 +2,8 @@
 use Rattle.std.proofs.Common.{arith, ◌≡◌, ℕ, suc, ◌==◌, not, false, List, [], ◌∷◌, length, map, refl, arith, ap, sym}
 use Rattle.std.proofs.lemmas.Bool.Decides.{nat_tests}
 use Rattle.bist_bits.specs.Vector.{Vector}
-use Rattle.verilog_tree.specs.Plain.{plain, plain_arm, plain_port, expressions, arms}
+use Rattle.verilog_tree.specs.Plain.{plain, plain_port, expressions, arms}
+use Rattle.verilog_tree.specs.inner.Plain.{plain_arm}
 use Rattle.verilog_tree.specs.declared.tree.Arm.{Arm}
 use Rattle.verilog_tree.specs.declared.tree.Port.{Port}
 use Rattle.verilog_tree.specs.declared.tree.Expr.{Expr}

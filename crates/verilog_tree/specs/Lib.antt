@@ -18,3 +18,4 @@ pub mod Tables
 pub mod Tokens
 pub mod Wires
 pub mod Words
+pub mod inner

@@ -13,7 +13,7 @@ use Rattle.verilog_tree.specs.declared.tree.Expr.TheOpen.{Expr-F, Name, Bit, Par
 use Rattle.verilog_tree.specs.declared.tree.Expr.TheFolds.{fold-Expr}
 use Rattle.verilog_tree.specs.declared.tree.Stmt.{Stmt}
 use Rattle.verilog_tree.specs.declared.tree.Stmt.TheOpen.{Stmt-F, Arm-F, Set, If, Case}
-use Rattle.verilog_tree.specs.declared.tree.Stmt.TheFolds.{fold-Stmt, fold-Arm}
+use Rattle.verilog_tree.specs.declared.tree.Stmt.TheFolds.{fold-Stmt}
 use Rattle.verilog_tree.specs.declared.tree.Arm.{Arm}
 
 mutual
@@ -109,10 +109,6 @@ arm_layer a = record { labels = a.labels.items; body = statements a.body.items }
 -- the statement that a `Stmt` is
 abbrev pub plain_stmt : Stmt → Statement
 plain_stmt = fold-Stmt Statement ArmTree stmt_layer arm_layer
-
--- the arm that an `Arm` is
-abbrev pub plain_arm : Arm → ArmTree
-plain_arm = fold-Arm Statement ArmTree stmt_layer arm_layer
 
 abbrev pub plain_stmts : List Stmt → Statements
 plain_stmts ss = statements (map plain_stmt ss)

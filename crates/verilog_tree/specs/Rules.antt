@@ -278,8 +278,3 @@ Tells (T.Clock n) o = o ≡ Some (Clock n.bytes)
 abbrev pub Refuses : {A : Type 0} → Option Break → Result A TreeFault → Type 0
 Refuses o (Ok _) = o ≡ None
 Refuses o (Err f) = Tells f o
-
--- The same, and else the answer is this number.
-abbrev pub RefusesOr : Option Break → ℕ → Result ℕ TreeFault → Type 0
-RefusesOr o k (Ok j) = (o ≡ None) × (j ≡ k)
-RefusesOr o k (Err f) = Tells f o

@@ -5,8 +5,8 @@ ghost use Rattle.verilog_tree.specs.Names.{is_wire, port_declarations, item_decl
 ghost use Rattle.verilog_tree.specs.Formed.{formed};
 ghost use Rattle.verilog_tree.specs.Rules.{has_kind, Refuses, Unknown, SelectRange, NotAssignable, TwoBlocks, Clock, mentions, first_bad, is_unknown, is_out_of_range, assignable, is_wrong_target, is_wrong_clock, declares_clk, port_twice, port_clock, undriven, first_of, items_break, first_break};
 ghost use Rattle.verilog_tree.specs.Meaning.{names_widths};
-ghost use Rattle.verilog_tree.specs.Seen.{mention};
-ghost use Rattle.verilog_tree.specs.Tables.{RefusesElse, among, again, is_target_among, with_targets, break_behind, declared_behind, assigned_behind, set_behind, breaks_behind, all_assigned, unassigned};
+ghost use Rattle.verilog_tree.specs.inner.Seen.{mention};
+ghost use Rattle.verilog_tree.specs.inner.Tables.{RefusesElse, among, again, is_target_among, with_targets, break_behind, declared_behind, assigned_behind, set_behind, breaks_behind, all_assigned, unassigned};
 
 use crate::fault::TreeFault;
 use crate::mentions::{Mention, mentions};
@@ -208,7 +208,7 @@ impl Before {
     }
 }
 
-#[tactic(auto, using(crate::proofs::Refusals::tells_now, crate::proofs::Refusals::tells_later, crate::proofs::Refusals::none_more), unfolding(crate::specs::Tables::break_behind))]
+#[tactic(auto, using(crate::proofs::Refusals::tells_now, crate::proofs::Refusals::tells_later, crate::proofs::Refusals::none_more), unfolding(crate::specs::inner::Tables::break_behind))]
 fn check_item(
     widths: &Declarations,
     before: &Before,

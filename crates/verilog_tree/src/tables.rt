@@ -4,7 +4,8 @@ ghost use Rattle.std.specs.Option.{option_map};
 ghost use Rattle.verilog_tree.specs.Plain.{plain_item, plain_port, plain_module};
 ghost use Rattle.verilog_tree.specs.Names.{lookup, width_of, port_declarations, item_declarations, declarations};
 ghost use Rattle.verilog_tree.specs.Seen.{declaration};
-ghost use Rattle.verilog_tree.specs.Tables.{same_name, with_declared, with_all, with_name, declared_behind};
+ghost use Rattle.verilog_tree.specs.inner.Tables.{same_name, with_all, declared_behind};
+ghost use Rattle.verilog_tree.specs.Tables.{with_declared, with_name};
 ghost use Rattle.indexmap.specs.IndexMap.{insert_entry};
 ghost use Rattle.indexmap.specs.IndexSet.{insert_key};
 ghost use Rattle.bist_text.specs.ReservedWords.{is_among};
@@ -34,8 +35,7 @@ impl Model for Declarations {
     ghost use Rattle.verilog_tree.specs.Names.{Declaration};
 
     ghost Value = { List Declaration };
-
-    ghost use Rattle.verilog_tree.specs.Tables.{declarations_of};
+ ghost use Rattle.verilog_tree.specs.Tables.{declarations_of};
 
     ghost view = { declarations_of };
 }
@@ -152,8 +152,7 @@ impl Model for NameSet {
     ghost use Rattle.std.specs.Prelude.{ℕ, List};
 
     ghost Value = { List (List ℕ) };
-
-    ghost use Rattle.verilog_tree.specs.Tables.{names_of};
+ ghost use Rattle.verilog_tree.specs.Tables.{names_of};
 
     ghost view = { names_of };
 }

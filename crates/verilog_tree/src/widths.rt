@@ -1,9 +1,11 @@
 //! Widths that must be equal.
 ghost use Rattle.std.specs.Prelude.{◌≡◌, ℕ, ◌^◌, ◌-◌, ◌+◌, min, map};
-ghost use Rattle.verilog_tree.specs.Plain.{plain, plain_stmt, plain_stmts, plain_arm, plain_item, expressions, arms};
+ghost use Rattle.verilog_tree.specs.Plain.{plain, plain_stmt, plain_stmts, plain_item, expressions, arms};
+ghost use Rattle.verilog_tree.specs.inner.Plain.{plain_arm};
 ghost use Rattle.verilog_tree.specs.Names.{width_of};
 ghost use Rattle.verilog_tree.specs.Meaning.{prefixed_width, infixed_width, width, widths};
-ghost use Rattle.verilog_tree.specs.Rules.{Refuses, RefusesOr, unequal, too_wide, infixed_widths, expression_widths, parts_widths, assignment_widths, label_widths, statement_widths, statements_widths, arms_widths, item_widths};
+ghost use Rattle.verilog_tree.specs.Rules.{Refuses, unequal, too_wide, infixed_widths, expression_widths, parts_widths, assignment_widths, label_widths, statement_widths, statements_widths, arms_widths, item_widths};
+ghost use Rattle.verilog_tree.specs.inner.Rules.{RefusesOr};
 
 use crate::fault::TreeFault;
 use crate::tables::Declarations;

@@ -19,7 +19,8 @@ use Rattle.march_core.specs.March.{MarchElement, order_of}
 use Rattle.march_core.specs.Runs.{upward, up, is_write, data_value}
 use Rattle.march_core.specs.Visits.{Visit, MarchStep, pausing, visiting, visits, allows, is_direction, miss_at}
 use Rattle.march_core.specs.Operation.{is_wrong_of}
-use Rattle.array_sim.specs.Run.{run_of, act_of}
+use Rattle.array_sim.specs.inner.Run.{run_of}
+use Rattle.array_sim.specs.Run.{act_of}
 use Rattle.array_sim.specs.Detection.{DetectsAt}
 use Rattle.array_sim.proofs.Differing.{missed}
 use Rattle.backgrounds.specs.Backgrounds.{word_of}

@@ -8,7 +8,7 @@ use Rattle.march_core.specs.declared.operation.Op.{Op}
 use Rattle.march_core.specs.declared.operation.Op.TheVariants.{W0, W1, R0, R1}
 use Rattle.march_core.specs.March.{MarchElement, IsMarch, order_of, ops_of, all_ops}
 use Rattle.march_core.specs.Runs.{upward, is_write, data_value}
-use Rattle.march_core.specs.Scan.{after_op, is_right, scan_of}
+use Rattle.march_core.specs.inner.Scan.{after_op, is_right, scan_of}
 use Rattle.march_core.specs.Visits.{Visit, cell_visits, address_visits, addresses}
 use Rattle.march_core.proofs.Consistent.{consistent_scan, last_after}
 use Rattle.pair_tracker.proofs.Sides.{contains, Distinct, AllBelow, addresses_distinct, addresses_below, addresses_all}

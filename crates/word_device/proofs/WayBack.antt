@@ -11,7 +11,8 @@ use Rattle.scrambler.specs.Scrambling.{Scrambling, IsFull, IsInvertible, product
 use Rattle.scrambler.proofs.LinearLemmas.{dot_below, dot_xor, bit_at-number}
 use Rattle.scrambler.proofs.ScramblingLemmas.{logical_is}
 use Rattle.word_device.specs.declared.way_back.WayBack.{WayBack}
-use Rattle.word_device.specs.WayBack.{IsBack, AreLow, AreHigh, IsWayBack}
+use Rattle.word_device.specs.inner.WayBack.{IsBack, AreLow, AreHigh}
+use Rattle.word_device.specs.WayBack.{IsWayBack}
 use Rattle.word_device.proofs.Porting.{one_index, product_from, product_below, twice}
 
 -- the product of a sum

@@ -4,3 +4,4 @@ pub mod Boxes
 pub mod Runs
 pub mod Joint
 pub mod WayBack
+pub mod inner

@@ -1,5 +1,6 @@
 ghost use Rattle.std.specs.Prelude.{◌≡◌, ◌*◌, ◌<◌, ◌≤◌, ◌^◌};
-ghost use Rattle.word_device.specs.WayBack.{IsIndexOf, IsWayBack, AreLow, AreHigh, led_to};
+ghost use Rattle.word_device.specs.WayBack.{IsIndexOf, IsWayBack, led_to};
+ghost use Rattle.word_device.specs.inner.WayBack.{AreLow, AreHigh};
 
 use bist_bits::all_ones;
 use scrambler::Scramble;

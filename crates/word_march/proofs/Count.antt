@@ -11,7 +11,8 @@ use Rattle.march_core.specs.Visits.{Visit, cell_visits, addresses, address_visit
 use Rattle.memory_desc.specs.Descriptions.{Description}
 use Rattle.march_core.specs.Runs.{upward, up}
 use Rattle.word_march.specs.Commands.{word_op, word_step, run_in, word_steps, word_ops, port_op, command_count, pauses, span}
-use Rattle.word_march.specs.Standing.{sweeps_from, run_ops, pause_count}
+use Rattle.word_march.specs.Standing.{sweeps_from, run_ops}
+use Rattle.word_march.specs.inner.Standing.{pause_count}
 use Rattle.march_core.proofs.Addresses.{length-addresses}
 use Rattle.word_march.proofs.Left.{runs_are}
 

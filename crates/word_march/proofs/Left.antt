@@ -15,7 +15,8 @@ use Rattle.word_march.specs.declared.operations.WordOp.{WordOp}
 use Rattle.word_march.specs.declared.place.Place.{Place}
 use Rattle.march_core.specs.Runs.{upward, up}
 use Rattle.word_march.specs.Commands.{word_op, word_step, run_in, word_ops}
-use Rattle.word_march.specs.Standing.{addresses_at, sweeps_from, run_ops, visits_left, run_left, ops_left, IsPlace, visit_at, ArePauses, IsNextSweep, first_of, IsFirst, Follows, next_op, next_step, next_elem, next_run}
+use Rattle.word_march.specs.Standing.{addresses_at, sweeps_from, run_ops, visits_left, run_left, ops_left, IsPlace}
+use Rattle.word_march.specs.inner.Standing.{visit_at, ArePauses, IsNextSweep, first_of, IsFirst, Follows, next_op, next_step, next_elem, next_run}
 
 -- ---- lists from a place on
 

@@ -9,7 +9,8 @@ use Rattle.memory_desc.specs.Descriptions.{Description, IsMemory}
 use Rattle.word_march.specs.declared.operations.WordOp.{WordOp}
 use Rattle.word_march.specs.declared.place.Place.{Place}
 use Rattle.word_march.specs.Commands.{word_op, port_op, port_ops}
-use Rattle.word_march.specs.Standing.{IsPlace, IsFirst, Follows, ops_left, visit_at}
+use Rattle.word_march.specs.Standing.{IsPlace, ops_left}
+use Rattle.word_march.specs.inner.Standing.{IsFirst, Follows, visit_at}
 use Rattle.word_march.proofs.Left.{left_step, all_left}
 
 -- the operation of a place comes first

@@ -5,7 +5,8 @@ use Rattle.std.specs.List.{AllByRecursion}
 use Rattle.march_core.specs.March.{MarchElement, pause, sweep, has_sweep, is_pause_at, IsElement, IsMarch, ops_at}
 use Rattle.memory_desc.specs.Descriptions.{Description}
 use Rattle.word_march.specs.declared.place.Place.{Place}
-use Rattle.word_march.specs.Standing.{IsPlace, ArePauses, IsNextSweep, first_of, IsFirst}
+use Rattle.word_march.specs.Standing.{IsPlace}
+use Rattle.word_march.specs.inner.Standing.{ArePauses, IsNextSweep, first_of, IsFirst}
 
 filled : (march : List MarchElement) (e : ℕ) → AllByRecursion IsElement march → e < length march → is_pause_at march e ≡ false → 0 < length (ops_at march e)
 filled [] e all h s = absurd (omega arith)

@@ -5,7 +5,7 @@ use Rattle.march_core.specs.March.{MarchElement, pause, sweep, is_pause}
 use Rattle.memory_desc.specs.Descriptions.{Description}
 use Rattle.word_march.specs.Commands.{word_steps, pauses_before, pauses, command_count}
 use Rattle.word_march.specs.Laws.{Unpaused}
-use Rattle.word_march.specs.Standing.{pause_count}
+use Rattle.word_march.specs.inner.Standing.{pause_count}
 use Rattle.word_march.proofs.Count.{pauses_are}
 
 fewer : {A : Type 0} (steps : List (Option A)) (j : ℕ) → pauses_before steps j ≤ pauses steps

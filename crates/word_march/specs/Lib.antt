@@ -2,3 +2,4 @@ pub mod Commands
 pub mod PortRule
 pub mod Laws
 pub mod Standing
+pub mod inner

@@ -4,7 +4,8 @@ ghost use Rattle.march_core.specs.March.{ops_at};
 ghost use Rattle.march_core.specs.Visits.{addresses};
 ghost use Rattle.march_core.specs.Runs.{upward};
 ghost use Rattle.word_march.specs.Commands.{word_op};
-ghost use Rattle.word_march.specs.Standing.{IsPlace, IsFirst, IsNextSweep, ArePauses, Follows, visit_at};
+ghost use Rattle.word_march.specs.Standing.{IsPlace};
+ghost use Rattle.word_march.specs.inner.Standing.{IsFirst, IsNextSweep, ArePauses, Follows, visit_at};
 
 use crate::operations::WordOp;
 use backgrounds::word_of;

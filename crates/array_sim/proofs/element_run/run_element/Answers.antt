@@ -1,6 +1,6 @@
 use Rattle.std.proofs.Common.{List, ◌∙◌, ap, sym, length}
 use Rattle.march_core.specs.Visits.{MarchStep, direction_at}
-use Rattle.array_sim.specs.Run.{run_of}
+use Rattle.array_sim.specs.inner.Run.{run_of}
 use Rattle.array_sim.proofs.Runs.{pause_visits, sweep_visits}
 use Rattle.array_sim.proofs.element_run.run_element.Goals as goal
 

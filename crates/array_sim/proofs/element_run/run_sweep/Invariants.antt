@@ -1,7 +1,8 @@
 use Rattle.std.proofs.Common.{◌≡◌, length}
 use Rattle.march_core.specs.Visits.{address_visits, addresses}
-use Rattle.array_sim.specs.Run.{run_of}
-use Rattle.march_core.specs.Addresses.{direction_of, steps_of}
+use Rattle.array_sim.specs.inner.Run.{run_of}
+use Rattle.march_core.specs.Addresses.{direction_of}
+use Rattle.march_core.specs.inner.Addresses.{steps_of}
 use Rattle.array_sim.proofs.Runs.{visits_rest}
 use Rattle.array_sim.proofs.element_run.run_sweep.Given as goal
 

@@ -1,6 +1,6 @@
 use Rattle.std.proofs.Common.{◌≡◌, length}
 use Rattle.march_core.specs.Visits.{visits, directions_of}
-use Rattle.array_sim.specs.Run.{run_of}
+use Rattle.array_sim.specs.inner.Run.{run_of}
 use Rattle.array_sim.proofs.Runs.{march_rest}
 use Rattle.array_sim.proofs.simulation.run_elements.Given as goal
 

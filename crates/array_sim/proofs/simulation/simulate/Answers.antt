@@ -6,7 +6,8 @@ use Rattle.fault_core.specs.Cells.{close_of}
 use Rattle.march_core.specs.March.{MarchElement}
 use Rattle.march_core.specs.Visits.{Direction, MarchStep, directions_of, visits}
 use Rattle.march_core.specs.declared.visit.Miss.{Miss}
-use Rattle.array_sim.specs.Run.{Outcome, places_of, run_of}
+use Rattle.array_sim.specs.inner.Run.{Outcome, run_of}
+use Rattle.array_sim.specs.Run.{places_of}
 use Rattle.array_sim.specs.Differing.{left_behind, after_step, SomeDiffers, IsFirstMiss, StopsAt}
 use Rattle.array_sim.proofs.Differing.{found, all_left, stopped}
 use Rattle.array_sim.proofs.simulation.simulate.Goals as goal

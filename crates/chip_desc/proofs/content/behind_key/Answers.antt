@@ -1,7 +1,7 @@
 use Rattle.bist_text.specs.Grammar.{is_blank}
 use Rattle.chip_desc.proofs.Contents.{starts, skipped}
 use Rattle.bist_text.proofs.Behind.{blanks_have, small_have}
-use Rattle.bist_text.specs.LineGrammar.{is_small}
+use Rattle.bist_text.specs.inner.LineGrammar.{is_small}
 use Rattle.chip_desc.proofs.content.behind_key.Goals as goal
 
 pub returns : goal.returns

@@ -1,7 +1,7 @@
 use Rattle.std.proofs.Common.{sym}
 use Rattle.bist_text.proofs.Loops.{scan_on}
-use Rattle.chip_desc.specs.Heard.{heard}
-use Rattle.chip_desc.specs.LineMachine.{step, value}
+use Rattle.chip_desc.specs.inner.Heard.{heard}
+use Rattle.chip_desc.specs.inner.LineMachine.{step, value}
 use Rattle.chip_desc.proofs.line_reader.read_line.Goals as goal
 
 pub loop-i-preserved : goal.loop-i-preserved

@@ -1,6 +1,6 @@
 use Rattle.std.proofs.Common.{◌≡◌, false}
 use Rattle.bist_text.specs.Lines.{lines_left, text_lines}
-use Rattle.chip_desc.specs.Heard.{lines_refusal}
+use Rattle.chip_desc.specs.inner.Heard.{lines_refusal}
 use Rattle.chip_desc.proofs.lines.check_lines.Given as goal
 
 abbrev pub invariant-loop-line : goal.invariant-loop-line

@@ -3,8 +3,8 @@ use Rattle.std.proofs.lemmas.Result.{err_from_is_err_and}
 use Rattle.bist_text.specs.Lines.{text_lines}
 use Rattle.memory_desc.specs.Names.{IsName}
 use Rattle.chip_desc.specs.ChipTable.{out_of_range}
-use Rattle.chip_desc.specs.Heard.{statements}
-use Rattle.chip_desc.specs.Seeking.{heavier_than}
+use Rattle.chip_desc.specs.inner.Heard.{statements}
+use Rattle.chip_desc.specs.inner.Seeking.{heavier_than}
 use Rattle.chip_desc.proofs.Described.{name_given, budget_given, is_chip, comes_to, is_refused, is_described, parts_same}
 use Rattle.chip_desc.proofs.LineChecking.{unchecked}
 use Rattle.chip_desc.proofs.read.described.Goals as goal

@@ -1,7 +1,7 @@
 use Rattle.std.proofs.Common.{◌≡◌, ◌∙◌, Err, false, sym, ap}
 use Rattle.std.proofs.lemmas.Result.{err_from_is_err_and}
 use Rattle.bist_text.specs.Lines.{text_lines}
-use Rattle.chip_desc.specs.Heard.{by_lines, lines_refusal, reading, statements}
+use Rattle.chip_desc.specs.inner.Heard.{by_lines, lines_refusal, reading, statements}
 use Rattle.chip_desc.proofs.LineChecking.{unchecked, refused}
 use Rattle.chip_desc.proofs.OneText.{reads_ok, reads_refused, reads_one}
 use Rattle.chip_desc.proofs.read.read_chip.Goals as goal

@@ -1,7 +1,7 @@
 use Rattle.std.proofs.Common.{sym, ◌∙◌}
 use Rattle.bist_text.specs.Lines.{text_lines}
-use Rattle.chip_desc.specs.Heard.{content_in, statements}
-use Rattle.chip_desc.specs.Seeking.{is_sought}
+use Rattle.chip_desc.specs.inner.Heard.{content_in, statements}
+use Rattle.chip_desc.specs.inner.Seeking.{is_sought}
 use Rattle.chip_desc.proofs.LineReads.{kind_said}
 use Rattle.chip_desc.proofs.Searching.{find_on, find_here, find_none, kind_is, nothing_said}
 use Rattle.chip_desc.proofs.search.first_line.Goals as goal

@@ -1,5 +1,5 @@
 use Rattle.std.proofs.Common.{◌≡◌, take}
-use Rattle.dynamic_core.specs.Reading.{statics_of}
+use Rattle.dynamic_core.specs.inner.Reading.{statics_of}
 use Rattle.dynamic_core.proofs.list.statics.Given as goal
 
 abbrev pub invariant-loop-item : goal.invariant-loop-item

@@ -1,7 +1,8 @@
 use Rattle.std.proofs.Common.{◌≡◌, drop}
 use Rattle.march_core.specs.Visits.{cell_visits}
-use Rattle.march_core.specs.Addresses.{steps_of}
-use Rattle.dynamic_core.specs.Dynamic.{held_as, dyn_run}
+use Rattle.march_core.specs.inner.Addresses.{steps_of}
+use Rattle.dynamic_core.specs.Dynamic.{held_as}
+use Rattle.dynamic_core.specs.inner.Dynamic.{dyn_run}
 use Rattle.dynamic_core.proofs.simulation.run_cell.Given as goal
 
 abbrev pub invariant-loop-number : goal.invariant-loop-number

@@ -1,7 +1,8 @@
 use Rattle.std.proofs.Common.{List, ◌∙◌, ap, sym, length}
 use Rattle.march_core.specs.Visits.{MarchStep, direction_at}
 use Rattle.array_sim.proofs.Runs.{pause_visits, sweep_visits}
-use Rattle.dynamic_core.specs.Dynamic.{held_as, dyn_run}
+use Rattle.dynamic_core.specs.Dynamic.{held_as}
+use Rattle.dynamic_core.specs.inner.Dynamic.{dyn_run}
 use Rattle.dynamic_core.proofs.simulation.run_element.Goals as goal
 
 pub returns-then-is_pause : goal.returns-then-is_pause

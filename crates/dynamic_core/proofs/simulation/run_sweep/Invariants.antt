@@ -1,8 +1,10 @@
 use Rattle.std.proofs.Common.{◌≡◌, length}
 use Rattle.march_core.specs.Visits.{address_visits, addresses}
-use Rattle.march_core.specs.Addresses.{direction_of, steps_of}
+use Rattle.march_core.specs.Addresses.{direction_of}
+use Rattle.march_core.specs.inner.Addresses.{steps_of}
 use Rattle.array_sim.proofs.Runs.{visits_rest}
-use Rattle.dynamic_core.specs.Dynamic.{held_as, dyn_run}
+use Rattle.dynamic_core.specs.Dynamic.{held_as}
+use Rattle.dynamic_core.specs.inner.Dynamic.{dyn_run}
 use Rattle.dynamic_core.proofs.simulation.run_sweep.Given as goal
 
 abbrev pub invariant-loop-place : goal.invariant-loop-place

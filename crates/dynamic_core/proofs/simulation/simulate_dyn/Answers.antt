@@ -1,6 +1,7 @@
 use Rattle.std.proofs.Common.{false, ap, length, ◌∙◌, sym}
 use Rattle.march_core.specs.Visits.{visits, directions_of}
-use Rattle.dynamic_core.specs.Dynamic.{Held, held_as, miss_of, held_of}
+use Rattle.dynamic_core.specs.Dynamic.{Held, held_as}
+use Rattle.dynamic_core.specs.inner.Dynamic.{miss_of, held_of}
 use Rattle.dynamic_core.specs.Instances.{dyn_places}
 use Rattle.dynamic_core.proofs.Runs.{ending_miss, ending_held}
 use Rattle.dynamic_core.proofs.Differing.{found, all_left, stopped}

@@ -1,5 +1,5 @@
 use Rattle.std.proofs.Common.{◌≡◌, drop, None}
-use Rattle.escape_array.specs.Searching.{least_of}
+use Rattle.escape_array.specs.inner.Searching.{least_of}
 use Rattle.escape_array.proofs.search.least_directions.Given as goal
 
 abbrev pub invariant-loop-survivor : goal.invariant-loop-survivor

@@ -1,6 +1,6 @@
 use Rattle.std.proofs.Common.{◌≡◌, ◌∙◌, ap, sym, subst, length, Some, None, arith}
 use Rattle.escape_array.specs.Escapes.{content_number}
-use Rattle.escape_array.specs.Searching.{NoneBefore, IsLeastWord}
+use Rattle.escape_array.specs.inner.Searching.{NoneBefore, IsLeastWord}
 use Rattle.escape_array.proofs.LeastArray.{none_so_far}
 use Rattle.escape_array.proofs.LeastWords.{least_of_whole}
 use Rattle.escape_array.proofs.search.least_in.Goals as goal

@@ -1,4 +1,4 @@
-use Rattle.escape_array.specs.Searching.{NoneBefore}
+use Rattle.escape_array.specs.inner.Searching.{NoneBefore}
 use Rattle.escape_array.proofs.search.least_in.Given as goal
 
 abbrev pub invariant-loop-number : goal.invariant-loop-number

@@ -1,5 +1,5 @@
 use Rattle.std.proofs.Common.{◌∙◌, ap, None}
-use Rattle.escape_array.specs.Searching.{least_of}
+use Rattle.escape_array.specs.inner.Searching.{least_of}
 use Rattle.escape_array.proofs.LeastWords.{least_word_found}
 use Rattle.escape_array.proofs.search.least_word.Goals as goal
 

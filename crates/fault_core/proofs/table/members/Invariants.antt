@@ -1,5 +1,5 @@
 use Rattle.std.proofs.Common.{◌≡◌, take}
-use Rattle.fault_core.specs.Rows.{rows_of}
+use Rattle.fault_core.specs.inner.Rows.{rows_of}
 use Rattle.fault_core.proofs.table.members.Given as goal
 
 abbrev pub invariant-loop-agg : goal.invariant-loop-agg

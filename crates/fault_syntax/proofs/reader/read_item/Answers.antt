@@ -1,5 +1,5 @@
 use Rattle.std.proofs.Common.{ap, sym}
-use Rattle.fault_syntax.specs.Brief.{answer_of}
+use Rattle.fault_syntax.specs.inner.Brief.{answer_of}
 use Rattle.fault_syntax.proofs.Kept.{stands_on, stands_stop}
 use Rattle.fault_syntax.proofs.reader.read_item.Goals as goal
 

@@ -1,5 +1,5 @@
 use Rattle.std.proofs.Common.{◌≡◌, drop}
-use Rattle.march_core.specs.Building.{some_empty}
+use Rattle.march_core.specs.inner.Building.{some_empty}
 use Rattle.march_core.proofs.builder.has_empty_element.Given as goal
 
 abbrev pub invariant-loop-element : goal.invariant-loop-element

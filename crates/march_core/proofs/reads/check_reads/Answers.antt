@@ -1,6 +1,6 @@
 use Rattle.std.proofs.Common.{◌∙◌, sym, ap, subst, None, take_all}
 use Rattle.march_core.specs.Building.{IsRefused}
-use Rattle.march_core.specs.Scan.{scan_of}
+use Rattle.march_core.specs.inner.Scan.{scan_of}
 use Rattle.march_core.specs.March.{all_ops}
 use Rattle.march_core.proofs.Consistent.{scan_consistent}
 use Rattle.march_core.proofs.Scanning.{element_scanned, stop_refused}

@@ -1,5 +1,5 @@
 use Rattle.std.proofs.Common.{◌≡◌, take, Some, None}
-use Rattle.march_core.specs.Scan.{scan_of}
+use Rattle.march_core.specs.inner.Scan.{scan_of}
 use Rattle.march_core.specs.March.{all_ops}
 use Rattle.march_core.proofs.reads.check_reads.Given as goal
 

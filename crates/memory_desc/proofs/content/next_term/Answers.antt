@@ -1,7 +1,7 @@
 -- A sign is ahead where terms are left.
 use Rattle.std.proofs.Common.{◌≡◌, Some, None, ◌⊎◌, sym, subst, inl, inr}
 use Rattle.bist_text.specs.Cursors.{left_of}
-use Rattle.memory_desc.specs.ContentParts.{NextTerm}
+use Rattle.memory_desc.specs.inner.ContentParts.{NextTerm}
 use Rattle.memory_desc.proofs.ContentReads.{no_sign, sign_ahead, signs, blanks_shorter}
 use Rattle.memory_desc.proofs.content.next_term.Goals as goal
 use Rattle.memory_desc.proofs.content.next_term.Goals.{else-sign-ne61-via-then-sign-ne61+else-sign-ne94, else-sign-ne61-via-else-sign-ne61}

@@ -1,6 +1,6 @@
 use Rattle.std.proofs.Common.{◌∙◌, refl, ap}
 use Rattle.bist_text.specs.Keywords.{spell}
-use Rattle.memory_desc.specs.LinePlaces.{spelling}
+use Rattle.memory_desc.specs.inner.LinePlaces.{spelling}
 use Rattle.memory_desc.proofs.LineSteps.{stepped}
 use Rattle.memory_desc.proofs.line_place.place_after.Goals as goal
 

@@ -1,7 +1,7 @@
 use Rattle.std.proofs.Common.{sym}
 use Rattle.bist_text.specs.Machine.{scan}
 use Rattle.bist_text.proofs.Loops.{scan_on}
-use Rattle.memory_desc.specs.LinePlaces.{step, value}
+use Rattle.memory_desc.specs.inner.LinePlaces.{step, value}
 use Rattle.memory_desc.proofs.line_reader.scanned.Goals as goal
 
 pub loop-i-preserved : goal.loop-i-preserved

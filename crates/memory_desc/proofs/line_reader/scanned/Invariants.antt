@@ -1,6 +1,6 @@
 use Rattle.std.proofs.Common.{◌≡◌, drop}
 use Rattle.bist_text.specs.Machine.{scan}
-use Rattle.memory_desc.specs.LinePlaces.{step, value}
+use Rattle.memory_desc.specs.inner.LinePlaces.{step, value}
 use Rattle.memory_desc.proofs.line_reader.scanned.Given as goal
 
 abbrev pub invariant-loop-i : goal.invariant-loop-i

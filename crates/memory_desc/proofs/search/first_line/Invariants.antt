@@ -1,5 +1,5 @@
 use Rattle.bist_text.specs.Lines.{lines_left, text_lines}
-use Rattle.memory_desc.specs.Seeking.{is_sought}
+use Rattle.memory_desc.specs.inner.Seeking.{is_sought}
 use Rattle.memory_desc.proofs.Searches.{Searching}
 use Rattle.memory_desc.proofs.search.first_line.Given as goal
 

@@ -1,6 +1,6 @@
 use Rattle.std.proofs.Common.{sym, ap, ◌∙◌}
 use Rattle.march_core.specs.March.{sweep, order_at}
-use Rattle.rtl_gen.specs.Planned.{element_of}
+use Rattle.rtl_gen.specs.inner.Planned.{element_of}
 use Rattle.rtl_gen.proofs.Listed.{at_pause, at_sweep}
 use Rattle.rtl_gen.proofs.tables.element.Goals as goal
 

@@ -1,5 +1,5 @@
 use Rattle.std.proofs.Common.{◌≡◌, map, take}
-use Rattle.rtl_gen.specs.Planned.{element_of}
+use Rattle.rtl_gen.specs.inner.Planned.{element_of}
 use Rattle.rtl_gen.proofs.tables.elements.Given as goal
 
 abbrev pub invariant-loop-i : goal.invariant-loop-i

@@ -1,5 +1,5 @@
 use Rattle.std.proofs.Common.{◌≡◌, ◌+◌, length, ap, ◌∙◌}
-use Rattle.rtl_gen.specs.Planned.{rows_from}
+use Rattle.rtl_gen.specs.inner.Planned.{rows_from}
 use Rattle.rtl_gen.proofs.Listed.{row_more, length-rows}
 use Rattle.rtl_gen.proofs.tables.rows.Goals as goal
 

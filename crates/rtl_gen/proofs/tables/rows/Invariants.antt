@@ -1,5 +1,5 @@
 use Rattle.std.proofs.Common.{◌≡◌, length}
-use Rattle.rtl_gen.specs.Planned.{rows_from}
+use Rattle.rtl_gen.specs.inner.Planned.{rows_from}
 use Rattle.rtl_gen.proofs.tables.rows.Given as goal
 
 abbrev pub invariant-loop-i : goal.invariant-loop-i

@@ -1,6 +1,6 @@
 use Rattle.std.proofs.Common.{◌≡◌, false, map, take}
 use Rattle.microcode.specs.Code.{goes_down}
-use Rattle.rtl_gen.specs.Planned.{operation_of}
+use Rattle.rtl_gen.specs.inner.Planned.{operation_of}
 use Rattle.rtl_gen.proofs.tables.swept.Given as goal
 
 abbrev pub invariant-loop-op : goal.invariant-loop-op

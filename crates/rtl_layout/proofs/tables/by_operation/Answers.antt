@@ -1,7 +1,7 @@
 use Rattle.std.proofs.Common.{◌^◌, ap, ◌∙◌, map}
 use Rattle.verilog_tree.specs.Meaning.{bit}
 use Rattle.rtl_layout.specs.Build.{lit, pick}
-use Rattle.rtl_layout.specs.Flags.{operation_flag}
+use Rattle.rtl_layout.specs.inner.Flags.{operation_flag}
 use Rattle.rtl_layout.specs.Layout as L
 use Rattle.rtl_layout.specs.declared.element.Operation.{Operation}
 use Rattle.rtl_layout.specs.Plan.{Element}

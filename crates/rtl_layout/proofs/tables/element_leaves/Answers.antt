@@ -1,7 +1,7 @@
 use Rattle.std.proofs.Common.{ap, ◌∙◌}
 use Rattle.verilog_tree.specs.Meaning.{bit}
 use Rattle.rtl_layout.specs.Build.{lit}
-use Rattle.rtl_layout.specs.Flags.{element_flag}
+use Rattle.rtl_layout.specs.inner.Flags.{element_flag}
 use Rattle.rtl_layout.specs.Plan.{Element}
 use Rattle.rtl_layout.proofs.Tabled.{one_more, all_of}
 use Rattle.rtl_layout.proofs.tables.element_leaves.Goals as goal

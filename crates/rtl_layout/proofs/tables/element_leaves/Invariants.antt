@@ -2,7 +2,7 @@ use Rattle.std.proofs.Common.{◌≡◌, map, take}
 use Rattle.verilog_tree.specs.Plain.{plain}
 use Rattle.verilog_tree.specs.Meaning.{bit}
 use Rattle.rtl_layout.specs.Build.{lit}
-use Rattle.rtl_layout.specs.Flags.{element_flag}
+use Rattle.rtl_layout.specs.inner.Flags.{element_flag}
 use Rattle.rtl_layout.proofs.tables.element_leaves.Given as goal
 
 abbrev pub invariant-loop-element : goal.invariant-loop-element

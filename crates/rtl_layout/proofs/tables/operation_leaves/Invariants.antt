@@ -2,7 +2,7 @@ use Rattle.std.proofs.Common.{◌≡◌, map, take}
 use Rattle.verilog_tree.specs.Plain.{plain}
 use Rattle.verilog_tree.specs.Meaning.{bit}
 use Rattle.rtl_layout.specs.Build.{lit, pick}
-use Rattle.rtl_layout.specs.Flags.{operation_flag}
+use Rattle.rtl_layout.specs.inner.Flags.{operation_flag}
 use Rattle.rtl_layout.specs.Layout as L
 use Rattle.rtl_layout.proofs.tables.operation_leaves.Given as goal
 

@@ -1,7 +1,7 @@
 use Rattle.std.proofs.Common.{◌^◌, ap, ◌∙◌, map}
 use Rattle.verilog_tree.specs.Meaning.{bit}
 use Rattle.rtl_layout.specs.Build.{lit}
-use Rattle.rtl_layout.specs.Flags.{operation_flag}
+use Rattle.rtl_layout.specs.inner.Flags.{operation_flag}
 use Rattle.rtl_layout.specs.declared.element.Operation.{Operation}
 use Rattle.rtl_layout.proofs.Tabled.{one_more, all_of, some_leaves, few_leaves, picked}
 use Rattle.rtl_layout.proofs.tables.operations_table.Goals as goal

@@ -1,7 +1,8 @@
 use Rattle.std.proofs.Common.{◌≡◌, ℕ, ◌*◌, ◌^◌, ◌%◌, slice_index, refl, sym, ◌∙◌, subst, add-one, bit_or}
 use Rattle.std.proofs.Math.Path.{ap₂}
 use Rattle.scrambler.specs.Linear.{dot}
-use Rattle.scrambler.specs.Reduced.{Reduced, ClearsBy}
+use Rattle.scrambler.specs.Reduced.{Reduced}
+use Rattle.scrambler.specs.inner.Reduced.{ClearsBy}
 use Rattle.scrambler.specs.Scrambling.{IsLeastDependence, matrix_of, row}
 use Rattle.scrambler.proofs.ScramblingLemmas.{units_reduced, dependence, row-matrix_of}
 use Rattle.scrambler.proofs.EliminationLemmas.{swap_keeps, clear_keeps}

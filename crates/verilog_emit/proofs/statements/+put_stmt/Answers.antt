@@ -1,11 +1,13 @@
 use Rattle.std.proofs.Common.{rules, List, ◌+◌, ◌++◌, nat_lt, codes, map, drop, true, refl, ap}
 use Rattle.std.proofs.lemmas.Result.{on_ok_weaker}
-use Rattle.verilog_tree.specs.Plain.{ArmOf, plain, plain_stmt, plain_stmts, plain_arm, arms}
+use Rattle.verilog_tree.specs.Plain.{ArmOf, plain, plain_stmt, plain_stmts, arms}
+use Rattle.verilog_tree.specs.inner.Plain.{plain_arm}
 use Rattle.verilog_tree.specs.declared.tree.Arm.{Arm}
 use Rattle.verilog_tree.specs.declared.tree.Stmt.{Stmt}
 use Rattle.verilog_tree.specs.declared.tree.Stmt as S
-use Rattle.verilog_emit.specs.Printed.{line, expression_text, labels_text, statement_text, statements_text, else_text, arms_text, default_text}
-use Rattle.verilog_emit.specs.Shallow.{statement_shallow, statements_shallow}
+use Rattle.verilog_emit.specs.Printed.{line, expression_text, labels_text, statement_text, statements_text, arms_text}
+use Rattle.verilog_emit.specs.inner.Printed.{else_text, default_text}
+use Rattle.verilog_emit.specs.inner.Shallow.{statement_shallow, statements_shallow}
 use Rattle.verilog_emit.proofs.Bodies.{begun_body, ended_body, three_parts, four_parts, told, one_written, one_left, arm_left, if_shallow, case_shallow, all_written}
 use Rattle.verilog_emit.proofs.Pieces.{both}
 use Rattle.verilog_tree.proofs.Layers.{plain_if, plain_case, arm_is}

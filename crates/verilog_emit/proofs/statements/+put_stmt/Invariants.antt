@@ -1,7 +1,8 @@
 use Rattle.std.proofs.Common.{◌≡◌, ◌++◌, true, drop, map}
-use Rattle.verilog_tree.specs.Plain.{plain_stmts, plain_arm, arms}
+use Rattle.verilog_tree.specs.Plain.{plain_stmts, arms}
+use Rattle.verilog_tree.specs.inner.Plain.{plain_arm}
 use Rattle.verilog_emit.specs.Printed.{statements_text, arms_text}
-use Rattle.verilog_emit.specs.Shallow.{statements_shallow, arms_shallow}
+use Rattle.verilog_emit.specs.inner.Shallow.{statements_shallow, arms_shallow}
 use Rattle.verilog_emit.proofs.statements.+put_stmt.Given as goal
 
 abbrev pub invariant-put_stmts-loop-s : goal.invariant-put_stmts-loop-s

@@ -1,4 +1,4 @@
-use Rattle.verilog_read.specs.Frames.{alone_of}
+use Rattle.verilog_read.specs.inner.Frames.{alone_of}
 use Rattle.verilog_read.proofs.free.in_operand.Goals as goal
 
 pub returns : goal.returns

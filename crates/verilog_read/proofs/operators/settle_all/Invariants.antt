@@ -1,7 +1,7 @@
 use Rattle.std.proofs.Common.{◌≡◌}
 use Rattle.verilog_tree.specs.Plain.{plain}
 use Rattle.verilog_text.specs.Flat.{settle_all}
-use Rattle.verilog_read.specs.Waiting.{lefts_of}
+use Rattle.verilog_read.specs.inner.Waiting.{lefts_of}
 use Rattle.verilog_read.proofs.operators.settle_all.Given as goal
 
 abbrev pub invariant-loop-left : goal.invariant-loop-left

@@ -1,6 +1,6 @@
 use Rattle.std.proofs.Common.{◌≡◌, length}
 use Rattle.verilog_tree.specs.Plain.{plain}
-use Rattle.verilog_read.specs.Holding.{token_of, nests_of}
+use Rattle.verilog_read.specs.inner.Holding.{token_of, nests_of}
 use Rattle.verilog_text.specs.Places.{Alone}
 use Rattle.verilog_text.specs.Steps.{close_step}
 use Rattle.verilog_read.proofs.precedence.close.Given as goal

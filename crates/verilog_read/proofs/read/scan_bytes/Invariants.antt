@@ -1,6 +1,6 @@
 use Rattle.std.proofs.Common.{◌≡◌, drop}
 use Rattle.verilog_text.specs.Answering.{run}
-use Rattle.verilog_read.specs.Told.{both_of}
+use Rattle.verilog_read.specs.inner.Told.{both_of}
 use Rattle.verilog_read.proofs.read.scan_bytes.Given as goal
 
 -- what the rest of the text makes of what is read is what the whole makes of what stood before it

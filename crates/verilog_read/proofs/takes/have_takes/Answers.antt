@@ -2,7 +2,7 @@ use Rattle.std.proofs.Common.{◌∙◌, ◌-◌, length, take, sym, ap, subst, 
 use Rattle.verilog_tree.specs.Tokens.{Sign}
 use Rattle.verilog_tree.specs.Grammar.{unlimited}
 use Rattle.verilog_text.specs.Expected.{is_step}
-use Rattle.verilog_read.specs.Frames.{stack, alone_of, base_of}
+use Rattle.verilog_read.specs.inner.Frames.{stack, alone_of, base_of}
 use Rattle.verilog_text.specs.Steps.{have_step}
 use Rattle.verilog_read.proofs.FrameLemmas.{stack_last, empty_takes}
 use Rattle.verilog_read.proofs.takes.have_takes.Goals as goal

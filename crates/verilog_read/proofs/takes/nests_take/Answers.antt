@@ -1,7 +1,7 @@
 use Rattle.std.proofs.Common.{◌≡◌, ◌∙◌, ◌-◌, length, take, true, false}
-use Rattle.verilog_read.specs.Ends.{ends_choice}
-use Rattle.verilog_read.specs.Frames.{alone_of}
-use Rattle.verilog_read.specs.Holding.{nests_of}
+use Rattle.verilog_read.specs.inner.Ends.{ends_choice}
+use Rattle.verilog_read.specs.inner.Frames.{alone_of}
+use Rattle.verilog_read.specs.inner.Holding.{nests_of}
 use Rattle.verilog_read.proofs.Ends.{innermost_takes, others_take, none_takes, take_fewer}
 use Rattle.verilog_read.proofs.takes.nests_take.Goals as goal
 

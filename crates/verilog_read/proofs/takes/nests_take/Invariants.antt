@@ -1,7 +1,7 @@
 use Rattle.std.proofs.Common.{◌≡◌, ◌≤◌, length}
-use Rattle.verilog_read.specs.Ends.{closes}
-use Rattle.verilog_read.specs.Frames.{alone_of}
-use Rattle.verilog_read.specs.Holding.{nests_of}
+use Rattle.verilog_read.specs.inner.Ends.{closes}
+use Rattle.verilog_read.specs.inner.Frames.{alone_of}
+use Rattle.verilog_read.specs.inner.Holding.{nests_of}
 use Rattle.verilog_read.proofs.takes.nests_take.Given as goal
 
 -- the choices that end make no difference

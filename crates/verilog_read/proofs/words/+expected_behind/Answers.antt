@@ -1,5 +1,5 @@
 use Rattle.std.proofs.Common.{◌∙◌, ◌-◌, length, take, ap, refl}
-use Rattle.verilog_read.specs.Frames.{holder, holders}
+use Rattle.verilog_read.specs.inner.Frames.{holder, holders}
 use Rattle.verilog_text.specs.Places.{InAlways}
 use Rattle.verilog_read.proofs.FrameLemmas.{holders_last, expects_last}
 use Rattle.verilog_read.proofs.words.+expected_behind.Goals as goal

@@ -1,5 +1,6 @@
 use Rattle.std.proofs.Common.{◌≡◌, map, drop}
-use Rattle.verilog_tree.specs.Plain.{plain_stmts, plain_arm, arms}
+use Rattle.verilog_tree.specs.Plain.{plain_stmts, arms}
+use Rattle.verilog_tree.specs.inner.Plain.{plain_arm}
 use Rattle.verilog_tree.specs.Fits.{statements_fit, arms_fit}
 use Rattle.verilog_tree.proofs.layout.+stmt_fits.Given as goal
 

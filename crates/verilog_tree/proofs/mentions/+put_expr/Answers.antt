@@ -3,7 +3,7 @@ use Rattle.std.proofs.lemmas.Result.{on_ok_weaker}
 use Rattle.verilog_tree.specs.declared.tree.Expr.{Expr}
 use Rattle.verilog_tree.specs.Plain.{plain, expressions}
 use Rattle.verilog_tree.specs.Rules.{reads, all_reads}
-use Rattle.verilog_tree.specs.Seen.{mention}
+use Rattle.verilog_tree.specs.inner.Seen.{mention}
 use Rattle.verilog_tree.proofs.Appended.{two_more, three_more, item_more}
 use Rattle.verilog_tree.proofs.Layers.{plain_binary, plain_choose}
 use Rattle.verilog_tree.proofs.mentions.+put_expr.Goals as goal

@@ -1,7 +1,7 @@
 use Rattle.std.proofs.Common.{◌≡◌, ◌++◌, map, drop}
 use Rattle.verilog_tree.specs.Plain.{plain, expressions}
 use Rattle.verilog_tree.specs.Rules.{all_reads}
-use Rattle.verilog_tree.specs.Seen.{mention}
+use Rattle.verilog_tree.specs.inner.Seen.{mention}
 use Rattle.verilog_tree.proofs.mentions.+put_expr.Given as goal
 
 abbrev pub invariant-put_exprs-loop-part : goal.invariant-put_exprs-loop-part

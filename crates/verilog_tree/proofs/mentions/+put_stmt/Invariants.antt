@@ -1,7 +1,8 @@
 use Rattle.std.proofs.Common.{◌≡◌, ◌++◌, map, drop}
-use Rattle.verilog_tree.specs.Plain.{plain_stmts, plain_arm, arms}
+use Rattle.verilog_tree.specs.Plain.{plain_stmts, arms}
+use Rattle.verilog_tree.specs.inner.Plain.{plain_arm}
 use Rattle.verilog_tree.specs.Rules.{statements_mentions, arms_mentions}
-use Rattle.verilog_tree.specs.Seen.{mention}
+use Rattle.verilog_tree.specs.inner.Seen.{mention}
 use Rattle.verilog_tree.proofs.mentions.+put_stmt.Given as goal
 
 abbrev pub invariant-put_stmts-loop-s : goal.invariant-put_stmts-loop-s

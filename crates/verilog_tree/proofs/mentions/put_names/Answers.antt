@@ -1,6 +1,6 @@
 use Rattle.std.proofs.Common.{[], ◌∷◌, ◌++◌, map, refl, ap, ◌∙◌}
 use Rattle.verilog_tree.specs.Rules.{mentioned}
-use Rattle.verilog_tree.specs.Seen.{mention}
+use Rattle.verilog_tree.specs.inner.Seen.{mention}
 use Rattle.verilog_tree.proofs.Appended.{item_more}
 use Rattle.verilog_tree.proofs.mentions.put_names.Goals as goal
 

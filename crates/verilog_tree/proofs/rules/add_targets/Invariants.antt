@@ -1,6 +1,6 @@
 use Rattle.std.proofs.Common.{◌≡◌, map, drop}
-use Rattle.verilog_tree.specs.Seen.{mention}
-use Rattle.verilog_tree.specs.Tables.{with_targets}
+use Rattle.verilog_tree.specs.inner.Seen.{mention}
+use Rattle.verilog_tree.specs.inner.Tables.{with_targets}
 use Rattle.verilog_tree.proofs.rules.add_targets.Given as goal
 
 abbrev pub invariant-loop-next : goal.invariant-loop-next

@@ -1,7 +1,7 @@
 use Rattle.std.proofs.Common.{◌≡◌, map, drop}
 use Rattle.verilog_tree.specs.Plain.{plain_item}
 use Rattle.verilog_tree.specs.Names.{width_of}
-use Rattle.verilog_tree.specs.Tables.{breaks_behind, all_assigned}
+use Rattle.verilog_tree.specs.inner.Tables.{breaks_behind, all_assigned}
 use Rattle.verilog_tree.proofs.rules.check_items.Given as goal
 
 abbrev pub invariant-loop-item : goal.invariant-loop-item

@@ -1,7 +1,7 @@
 use Rattle.std.proofs.Common.{[], map, ap, sym, ◌∙◌, rules}
 use Rattle.verilog_tree.specs.Plain.{plain_item, plain_module}
 use Rattle.verilog_tree.specs.Names.{width_of, port_declarations, item_declarations}
-use Rattle.verilog_tree.specs.Tables.{breaks_behind}
+use Rattle.verilog_tree.specs.inner.Tables.{breaks_behind}
 use Rattle.verilog_tree.proofs.Behind.{none_assigned, module_assigned, driven_behind}
 use Rattle.verilog_tree.proofs.Refusals.{tells_now}
 use Rattle.verilog_tree.proofs.rules.check_to_end.Goals as goal

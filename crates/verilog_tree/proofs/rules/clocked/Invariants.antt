@@ -1,6 +1,6 @@
 use Rattle.std.proofs.Common.{◌≡◌, map, drop}
 use Rattle.verilog_tree.specs.Rules.{Clock, first_bad, is_wrong_clock}
-use Rattle.verilog_tree.specs.Seen.{mention}
+use Rattle.verilog_tree.specs.inner.Seen.{mention}
 use Rattle.verilog_tree.proofs.rules.clocked.Given as goal
 
 abbrev pub invariant-loop-next : goal.invariant-loop-next

@@ -1,7 +1,7 @@
 use Rattle.std.proofs.Common.{◌≡◌, map, drop}
 use Rattle.verilog_tree.specs.Rules.{TwoBlocks, first_bad}
-use Rattle.verilog_tree.specs.Seen.{mention}
-use Rattle.verilog_tree.specs.Tables.{is_target_among}
+use Rattle.verilog_tree.specs.inner.Seen.{mention}
+use Rattle.verilog_tree.specs.inner.Tables.{is_target_among}
 use Rattle.verilog_tree.proofs.rules.in_one_block.Given as goal
 
 abbrev pub invariant-loop-next : goal.invariant-loop-next

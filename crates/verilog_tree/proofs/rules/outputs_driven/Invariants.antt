@@ -1,7 +1,7 @@
 use Rattle.std.proofs.Common.{◌≡◌, map, drop}
 use Rattle.verilog_tree.specs.Plain.{plain_port}
 use Rattle.verilog_tree.specs.Names.{port_declarations}
-use Rattle.verilog_tree.specs.Tables.{among, unassigned}
+use Rattle.verilog_tree.specs.inner.Tables.{among, unassigned}
 use Rattle.verilog_tree.proofs.rules.outputs_driven.Given as goal
 
 abbrev pub invariant-loop-port : goal.invariant-loop-port

@@ -1,7 +1,7 @@
 use Rattle.std.proofs.Common.{◌≡◌, map, drop}
 use Rattle.verilog_tree.specs.Plain.{plain_item}
 use Rattle.verilog_tree.specs.Rules.{NotAssignable, first_bad, assignable, is_wrong_target}
-use Rattle.verilog_tree.specs.Seen.{mention}
+use Rattle.verilog_tree.specs.inner.Seen.{mention}
 use Rattle.verilog_tree.proofs.rules.targets_assignable.Given as goal
 
 abbrev pub invariant-loop-next : goal.invariant-loop-next

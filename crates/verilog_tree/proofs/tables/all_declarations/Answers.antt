@@ -1,7 +1,7 @@
 use Rattle.std.proofs.Common.{ap, ◌∙◌}
 use Rattle.verilog_tree.specs.Plain.{plain_module}
 use Rattle.verilog_tree.specs.Names.{port_declarations, item_declarations, lookup}
-use Rattle.verilog_tree.specs.Tables.{with_all}
+use Rattle.verilog_tree.specs.inner.Tables.{with_all}
 use Rattle.verilog_tree.proofs.Behind.{both_found}
 use Rattle.verilog_tree.proofs.tables.all_declarations.Goals as goal
 

@@ -1,5 +1,6 @@
 use Rattle.std.proofs.Common.{◌≡◌, map, drop}
-use Rattle.verilog_tree.specs.Plain.{plain_stmts, plain_arm, arms}
+use Rattle.verilog_tree.specs.Plain.{plain_stmts, arms}
+use Rattle.verilog_tree.specs.inner.Plain.{plain_arm}
 use Rattle.verilog_tree.specs.Rules.{statements_widths, arms_widths}
 use Rattle.verilog_tree.specs.Names.{width_of}
 use Rattle.verilog_tree.proofs.widths.+stmt_widths.Given as goal

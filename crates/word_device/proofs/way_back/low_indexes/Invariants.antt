@@ -1,6 +1,6 @@
 use Rattle.std.proofs.Common.{◌≡◌, ◌<◌, ℕ, length}
 use Rattle.std.specs.Prelude.{slice_index}
-use Rattle.word_device.specs.WayBack.{IsBack}
+use Rattle.word_device.specs.inner.WayBack.{IsBack}
 use Rattle.word_device.proofs.way_back.low_indexes.Given as goal
 
 abbrev pub invariant-loop-byte : goal.invariant-loop-byte

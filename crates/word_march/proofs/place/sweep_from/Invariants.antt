@@ -1,4 +1,4 @@
-use Rattle.word_march.specs.Standing.{ArePauses}
+use Rattle.word_march.specs.inner.Standing.{ArePauses}
 use Rattle.word_march.proofs.place.sweep_from.Given as goal
 
 abbrev pub invariant-loop-element : goal.invariant-loop-element

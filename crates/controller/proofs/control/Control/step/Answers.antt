@@ -1,7 +1,8 @@
 use Rattle.std.proofs.Common.{sym, ap, ◌∙◌, subst, arith}
 use Rattle.controller.specs.declared.stage.Stage.{Stage}
 use Rattle.controller.specs.Machine.{pushed, last_stage}
-use Rattle.controller.specs.States.{stage_from, IsKnown}
+use Rattle.controller.specs.inner.States.{stage_from}
+use Rattle.controller.specs.States.{IsKnown}
 use Rattle.controller.proofs.Turn.{within}
 use Rattle.controller.proofs.Mirror.{known_pushed, control_next, stands_next}
 use Rattle.controller.proofs.control.Control.step.Goals as goal

@@ -1,7 +1,8 @@
 use Rattle.std.proofs.Common.{sym, ap, ◌∙◌, map}
 use Rattle.indexmap.proofs.CallerLemmas.{insert_entry-new}
 use Rattle.verilog_tree.specs.Seen.{declaration}
-use Rattle.verilog_tree.specs.Tables.{same_name, with_declared}
+use Rattle.verilog_tree.specs.inner.Tables.{same_name}
+use Rattle.verilog_tree.specs.Tables.{with_declared}
 use Rattle.std.proofs.lemmas.Result.{on_ok_weaker}
 use Rattle.verilog_tree.proofs.Hashed.{declares, table_none, declared_already, declared_last}
 use Rattle.verilog_tree.proofs.tables.Declarations.add.Goals as goal

@@ -1,0 +1,4 @@
+pub mod Keywords
+pub mod Lexed
+pub mod LineGrammar
+pub mod Machine

@@ -1,0 +1,7 @@
+-- Inner. For proofs and private contracts alone, beside Addresses: only helps proofs: the code's walk over the addresses of an element.
+use Rattle.std.specs.Prelude.{◌-◌, List, map}
+use Rattle.march_core.specs.Visits.{Visit, MarchStep, visiting}
+
+-- visits as steps of a march
+abbrev pub steps_of : List Visit → List MarchStep
+steps_of visits = map visiting visits

@@ -1,0 +1,4 @@
+pub mod Answers
+pub mod Building
+pub mod Places
+pub mod Printed

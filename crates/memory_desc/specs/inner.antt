@@ -1,0 +1,9 @@
+pub mod ContentParts
+pub mod LineAnswers
+pub mod LinePlaces
+pub mod LineRest
+pub mod Met
+pub mod Printed
+pub mod Seeking
+pub mod Standing
+pub mod Statements

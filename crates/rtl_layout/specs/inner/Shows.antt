@@ -1,0 +1,38 @@
+-- Inner. For proofs and private contracts alone, beside Shows: when registers show a controller, and ports answer for it.
+use Rattle.std.specs.Prelude.{◌≡◌, ℕ, suc, ◌<◌, Bool, List, [], ◌∷◌, length}
+use Rattle.verilog_tree.specs.Meaning.{Env, bit}
+use Rattle.rtl_layout.specs.Plan.{Plan, several, limit}
+use Rattle.rtl_layout.specs.Layout.{reads_at, over_at, value_at, back_at, oper, visit, element, back, run, want, bad}
+use Rattle.rtl_layout.specs.Control.{Stage, Control, here}
+
+pub record ShowsStage (many : Bool) (i : ℕ) (s : Stage) (regs : Env) : Type 0 where
+  pub reads_is : regs (reads_at i) ≡ bit s.reads
+  pub over_is : regs (over_at i) ≡ bit s.over
+  pub value_is : regs (value_at i) ≡ bit s.value
+  pub back_is : regs (back_at many i) ≡ s.back
+
+abbrev pub ShowsStages : Bool → ℕ → List Stage → Env → Type 0
+ShowsStages many i [] regs = Unit {0}
+ShowsStages many i (s ∷ ss) regs = ShowsStage many (suc i) s regs × ShowsStages many (suc i) ss regs
+
+abbrev pub BacksIn : ℕ → List Stage → Type 0
+BacksIn k [] = Unit {0}
+BacksIn k (s ∷ ss) = (s.back < k) × BacksIn k ss
+
+pub record Shows (p : Plan) (c : Control) (regs : Env) : Type 0 where
+  pub oper_is : regs oper ≡ c.oper
+  pub visit_is : regs visit ≡ c.visit
+  pub element_is : regs element ≡ c.element
+  pub back_is : regs back ≡ c.back
+  pub run_is : regs run ≡ bit c.run
+  pub stages_are : ShowsStages (several p) 0 c.stages regs
+  pub reads_is : regs (reads_at (suc p.delay)) ≡ bit c.reads
+  pub over_is : regs (over_at (suc p.delay)) ≡ bit c.over
+  pub want_is : regs want ≡ c.want
+  pub bad_is : regs bad ≡ bit c.bad
+  pub stages_count : length c.stages ≡ p.delay
+  pub backs_in : BacksIn (length p.backgrounds) c.stages
+  pub oper_in : c.oper < length (here p c).operations
+  pub visit_in : c.visit < limit p (here p c)
+  pub element_in : c.element < length p.elements
+  pub back_in : c.back < length p.backgrounds

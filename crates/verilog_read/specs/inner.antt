@@ -1,0 +1,9 @@
+pub mod Answers
+pub mod Ends
+pub mod Frames
+pub mod Holding
+pub mod Lexemes
+pub mod Spots
+pub mod Told
+pub mod Waiting
+pub mod WordSets

@@ -1,0 +1,4 @@
+pub mod Plain
+pub mod Rules
+pub mod Seen
+pub mod Tables
