@@ -4,7 +4,8 @@
 //! backgrounds separates two bit positions where they differ in some word of it; the logarithmic set
 //! separates every two. No call of this crate takes memory.
 #![tactic(auto)]
- ghost use Rattle.std.specs.Prelude.{◌≡◌, ◌≢◌, ℕ, ◌^◌, ◌<◌, ◌≤◌, ◌↔◌, IsTrue, Any};
+
+ghost use Rattle.std.specs.Prelude.{◌≡◌, ◌≢◌, ℕ, ◌^◌, ◌<◌, ◌≤◌, ◌↔◌, IsTrue, Any};
 ghost use Rattle.backgrounds.specs.Backgrounds.{Differ, IsLogSet, IsLogarithm, IsStripe, word_of};
 
 use arrayvec::ArrayVec;

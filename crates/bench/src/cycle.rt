@@ -1,5 +1,6 @@
 //! One cycle of a design and a box.
- ghost use Rattle.std.specs.Prelude.{◌≡◌, ◌<◌, ◌≤◌, ◌%◌, ◌^◌, ◌==◌, IsSome, Some, List, ℕ, length};
+
+ghost use Rattle.std.specs.Prelude.{◌≡◌, ◌<◌, ◌≤◌, ◌%◌, ◌^◌, ◌==◌, IsSome, Some, List, ℕ, length};
 ghost use Rattle.verilog_cycle.specs.Design.{Cycle, Fit, inputs_of, outputs_of, with_registers};
 ghost use Rattle.self_test.specs.Pins.{ArePins};
 ghost use Rattle.self_test.specs.WrongPort.{ArePorts};

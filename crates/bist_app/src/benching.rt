@@ -1,5 +1,6 @@
 //! The self-test module against a box: the module is made, written, read back and run, and the line tells how it ended.
- ghost use Rattle.std.specs.Prelude.{◌≡◌, ◌≤◌, ◌<◌, ◌++◌, ◌∷◌, [], Some, None, IsTrue, IfOk, IfSome, OnOk, OnErr, codes, decimal, map, drop, vec_len};
+
+ghost use Rattle.std.specs.Prelude.{◌≡◌, ◌≤◌, ◌<◌, ◌++◌, ◌∷◌, [], Some, None, IsTrue, IfOk, IfSome, OnOk, OnErr, codes, decimal, map, drop, vec_len};
 ghost use Rattle.verilog_tree.specs.declared.fault.TreeFault.{TreeFault};
 ghost use Rattle.verilog_tree.specs.Plain.{ModuleTree, plain_module};
 ghost use Rattle.verilog_tree.specs.Rules.{first_break};

@@ -1,5 +1,6 @@
 //! The boxes that the program is given: whether there is one with room for a memory, and the first one fitted and taken.
- ghost use Rattle.std.specs.Prelude.{◌≡◌, ◌≤◌, ◌<◌, ◌∷◌, Some, Ok, length, map, drop, vec_len, IsSome, IfOk, IfErr, OnOk, OnErr};
+
+ghost use Rattle.std.specs.Prelude.{◌≡◌, ◌≤◌, ◌<◌, ◌∷◌, Some, Ok, length, map, drop, vec_len, IsSome, IfOk, IfErr, OnOk, OnErr};
 ghost use Rattle.word_device.specs.declared.device.DeviceFault.{DeviceFault};
 ghost use Rattle.word_device.specs.Ports.{shape_of as memory_shape};
 ghost use Rattle.word_device.specs.Boxes.{after_fit, after_fill, IsShape};

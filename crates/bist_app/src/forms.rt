@@ -1,5 +1,6 @@
 //! The form of a command's words: its name, how many there are, and which of them name files.
- ghost use Rattle.std.specs.Prelude.{◌≢◌, All, ◌≤◌, ◌<◌, ◌↔◌, IsTrue};
+
+ghost use Rattle.std.specs.Prelude.{◌≢◌, All, ◌≤◌, ◌<◌, ◌↔◌, IsTrue};
 ghost use Rattle.bist_app.specs.Forms.{AreDistinct, HasForm};
 
 use bist_endings::are_plain;

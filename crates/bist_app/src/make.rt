@@ -1,5 +1,6 @@
 //! The command `make`: large inputs that a number makes, compiled, and a summary.
- ghost use Rattle.std.specs.Prelude.{◌≡◌, ◌≤◌, ◌++◌, ◌∷◌, [], ℕ, Ok, IfOk, IfErr, OnOk, MatchOption, map, length, decimal};
+
+ghost use Rattle.std.specs.Prelude.{◌≡◌, ◌≤◌, ◌++◌, ◌∷◌, [], ℕ, Ok, IfOk, IfErr, OnOk, MatchOption, map, length, decimal};
 ghost use Rattle.march_core.specs.March.{all_ops};
 ghost use Rattle.word_march.specs.Commands.{command_count};
 ghost use Rattle.memory_desc.specs.Descriptions.{IsMemory};

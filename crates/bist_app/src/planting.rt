@@ -1,5 +1,6 @@
 //! The self-test module against the first box with a planted instance of a primitive.
- ghost use Rattle.std.specs.Prelude.{◌≡◌, ◌<◌, ◌∷◌, [], Some, IfOk, IfSome, IsTrue, OnOk, OnErr, is_some, map, drop, vec_len};
+
+ghost use Rattle.std.specs.Prelude.{◌≡◌, ◌<◌, ◌∷◌, [], Some, IfOk, IfSome, IsTrue, OnOk, OnErr, is_some, map, drop, vec_len};
 ghost use Rattle.fault_core.specs.Primitive.{has_aggressor};
 ghost use Rattle.array_sim.specs.Detection.{Detects};
 ghost use Rattle.word_device.specs.Chips.{FitsMemory};

@@ -1,5 +1,6 @@
 //! The verdicts on a list as a report and its last line, which `judge` and `compile` share.
- ghost use Rattle.std.specs.Prelude.{◌≡◌, IfOk, List, length};
+
+ghost use Rattle.std.specs.Prelude.{◌≡◌, IfOk, List, length};
 ghost use Rattle.std.specs.Option.{option_copied};
 ghost use Rattle.report.specs.Items.{AreJudged, covered_count};
 ghost use Rattle.report.specs.Report.{total_line, DetectsOf};

@@ -3,7 +3,8 @@
 //! A vector is a width and an unsigned value below two to that width. Bit 0 is the lowest. No call of
 //! this crate takes memory.
 #![tactic(auto)]
- ghost use Rattle.std.specs.Prelude.{◌≡◌, ℕ, ◌+◌, ◌-◌, ◌%◌, ◌^◌, ◌<◌, ◌≤◌, ◌↔◌, IsTrue, IsSome, IfSome, count_ones};
+
+ghost use Rattle.std.specs.Prelude.{◌≡◌, ℕ, ◌+◌, ◌-◌, ◌%◌, ◌^◌, ◌<◌, ◌≤◌, ◌↔◌, IsTrue, IsSome, IfSome, count_ones};
 ghost use Rattle.bist_bits.specs.Width.{IsWidthOf};
 
 mod bits;

@@ -1,6 +1,7 @@
 //! Vidlakost: which memory faults a march test detects.
 #![tactic(auto)]
- ghost use Rattle.std.specs.Prelude.{◌≡◌, IfOk, IfErr, map, drop, string_bytes};
+
+ghost use Rattle.std.specs.Prelude.{◌≡◌, IfOk, IfErr, map, drop, string_bytes};
 ghost use Rattle.std.specs.Vec.Iter.{into_iter_items};
 ghost use Rattle.bist_cli.specs.Program.{own_box, RunsAlone, RunsTexts};
 

@@ -28,7 +28,8 @@ impl Model for MemHost {
     ghost use Rattle.bist_host.specs.MemHost.{MemContent};
 
     ghost Value = { MemContent };
- ghost use Rattle.bist_host.specs.MemFile.{named_files};
+
+    ghost use Rattle.bist_host.specs.MemFile.{named_files};
 
     ghost view = { λ h. record { listed = named_files h.files.items; said = h.said.items } };
 }

@@ -1,5 +1,6 @@
 //! What a content line says, once it is known to be one.
- ghost use Rattle.std.specs.Prelude.{◌≡◌};
+
+ghost use Rattle.std.specs.Prelude.{◌≡◌};
 ghost use Rattle.std.specs.List.{take_while};
 ghost use Rattle.std.specs.Str.Parse.{digits_value};
 ghost use Rattle.bist_text.specs.Cursors.{left_of};

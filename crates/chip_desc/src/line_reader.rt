@@ -1,5 +1,6 @@
 //! The reader of one line.
- ghost use Rattle.std.specs.Prelude.{◌≡◌, true};
+
+ghost use Rattle.std.specs.Prelude.{◌≡◌, true};
 ghost use Rattle.bist_text.specs.Machine.{scan};
 ghost use Rattle.chip_desc.specs.inner.LineMachine.{step, value};
 ghost use Rattle.chip_desc.specs.inner.Heard.{answer, heard, kind_heard};

@@ -1,5 +1,6 @@
 //! The lines of a chip file: the first with content must be a `chip` line of version 1, and each later one a line of the table.
- ghost use Rattle.std.specs.Prelude.{◌≡◌, false};
+
+ghost use Rattle.std.specs.Prelude.{◌≡◌, false};
 ghost use Rattle.bist_text.specs.Lines.{plain_line, text_lines};
 ghost use Rattle.chip_desc.specs.inner.Heard.{checked, line_refusal, lines_refusal, opening, refusal_at};
 

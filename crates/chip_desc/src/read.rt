@@ -1,5 +1,6 @@
 //! The reader of chip files.
- ghost use Rattle.std.specs.Prelude.{◌≡◌, ◌↔◌, ◌≤◌, ◌<◌, ◌^◌, ℕ, List, None, Ok, Err, Result, length};
+
+ghost use Rattle.std.specs.Prelude.{◌≡◌, ◌↔◌, ◌≤◌, ◌<◌, ◌^◌, ℕ, List, None, Ok, Err, Result, length};
 ghost use Rattle.bist_text.specs.Lines.{text_lines};
 ghost use Rattle.memory_desc.specs.Names.{IsName};
 ghost use Rattle.chip_desc.specs.Chips.{ChipDescription, IsChip};

@@ -1,5 +1,6 @@
 //! Searches in the lines of a text.
- ghost use Rattle.std.specs.Prelude.{◌≡◌, ◌||◌, nat_lt, length, Option, None, Some, find};
+
+ghost use Rattle.std.specs.Prelude.{◌≡◌, ◌||◌, nat_lt, length, Option, None, Some, find};
 ghost use Rattle.bist_text.specs.ReservedWords.{is_among, reserved_words};
 ghost use Rattle.bist_text.specs.Lines.{text_lines};
 ghost use Rattle.chip_desc.specs.ChipLines.{Content, Statement, kind_of};

@@ -1,5 +1,6 @@
 //! The units of a text whose lines are all lines of a chip file.
- ghost use Rattle.std.specs.Prelude.{◌≡◌, ◌≤◌, ◌∷◌, [], length, false, true, None, Some, Ok, Err, MatchResult};
+
+ghost use Rattle.std.specs.Prelude.{◌≡◌, ◌≤◌, ◌∷◌, [], length, false, true, None, Some, Ok, Err, MatchResult};
 ghost use Rattle.bist_text.specs.Lines.{text_lines};
 ghost use Rattle.chip_desc.specs.Chips.{is_file, unit_of};
 ghost use Rattle.chip_desc.specs.ChipLines.{Content, kind_of};

@@ -1,6 +1,7 @@
 //! Calls of the libraries' functions, with answers that were found by hand. Those of reports, of texts, of Verilog and
 //! of boxes are called elsewhere.
- ghost use Rattle.std.specs.Prelude.{◌≡◌, None, IfOk};
+
+ghost use Rattle.std.specs.Prelude.{◌≡◌, None, IfOk};
 ghost use Rattle.march_core.specs.Visits.{FitsWord};
 
 use array_sim::{Instance, act_of, simulate};

@@ -1,5 +1,6 @@
 //! Rows of dynamic primitives: what one array shows, and the verdicts.
- ghost use Rattle.std.specs.Prelude.{◌≡◌, ◌<◌, None, IfOk};
+
+ghost use Rattle.std.specs.Prelude.{◌≡◌, ◌<◌, None, IfOk};
 ghost use Rattle.march_core.specs.Visits.{FitsWord};
 
 use dynamic_core::{DynInstance, DynPrim, DynSense, dyn_one, dyn_two, print_dyn, simulate_dyn};

@@ -1,5 +1,6 @@
 //! Rows of marches with pauses: the faults that they find, and what some of their elements lead to.
- ghost use Rattle.std.specs.Prelude.{◌≡◌, None, IsSome, IfOk};
+
+ghost use Rattle.std.specs.Prelude.{◌≡◌, None, IsSome, IfOk};
 ghost use Rattle.march_core.specs.Visits.{FitsWord};
 
 use array_sim::{Instance, simulate};

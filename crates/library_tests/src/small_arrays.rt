@@ -1,5 +1,6 @@
 //! Verdicts compared with runs of every array of two to four cells.
- ghost use Rattle.std.specs.Prelude.{◌≡◌, ◌≢◌, ◌<◌, ◌≤◌};
+
+ghost use Rattle.std.specs.Prelude.{◌≡◌, ◌≢◌, ◌<◌, ◌≤◌};
 ghost use Rattle.fault_core.specs.Cells.{FitsPlace};
 ghost use Rattle.march_core.specs.Visits.{FitsWord};
 ghost use Rattle.array_sim.specs.Run.{places_of};

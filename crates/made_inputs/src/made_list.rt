@@ -1,5 +1,6 @@
 //! The list of every number: all static primitives, 21 times.
- ghost use Rattle.std.specs.Prelude.{◌≡◌, Ok, IfOk, length};
+
+ghost use Rattle.std.specs.Prelude.{◌≡◌, Ok, IfOk, length};
 ghost use Rattle.fault_syntax.specs.declared.fault.FaultFault.{FaultFault};
 ghost use Rattle.dynamic_core.specs.Items.{ReadsItems};
 ghost use Rattle.made_inputs.specs.MadeList.{made_text, made_items};

@@ -1,5 +1,6 @@
 //! The march of a number: March C- of an odd one; of an even one March SS and further elements, which a sequence of numbers gives.
- ghost use Rattle.std.specs.Prelude.{◌≡◌, ◌<◌, ◌≤◌, ◌+◌, ◌++◌, ◌∷◌, [], Ok, IfOk, length};
+
+ghost use Rattle.std.specs.Prelude.{◌≡◌, ◌<◌, ◌≤◌, ◌+◌, ◌++◌, ◌∷◌, [], Ok, IfOk, length};
 ghost use Rattle.march_core.specs.March.{sweep, all_ops};
 ghost use Rattle.march_syntax.specs.Answers.{Reads};
 ghost use Rattle.made_inputs.specs.MadeMarch.{next_number, order_for, first_bit, last_bit, read_of, write_of, further_ops, march_c_minus, march_ss, long_march, made_march, line_of};

@@ -1,5 +1,6 @@
 //! The memory of a number.
- ghost use Rattle.std.specs.Prelude.{◌≡◌, ◌≤◌, IfOk};
+
+ghost use Rattle.std.specs.Prelude.{◌≡◌, ◌≤◌, IfOk};
 ghost use Rattle.made_inputs.specs.MadeMemory.{IsMadeMemory, written};
 
 use bist_bits::NoMemory;

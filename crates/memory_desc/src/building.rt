@@ -1,5 +1,6 @@
 //! The scrambling and the backgrounds of a text whose lines are all lines of a description.
- ghost use Rattle.std.specs.Prelude.{◌≡◌, ◌≤◌, ◌↔◌, ℕ, false, List, Some, None, Ok, Err, IsTrue, Contains, IfOk, MatchResult};
+
+ghost use Rattle.std.specs.Prelude.{◌≡◌, ◌≤◌, ◌↔◌, ℕ, false, List, Some, None, Ok, Err, IsTrue, Contains, IfOk, MatchResult};
 ghost use Rattle.bist_text.specs.Lines.{text_lines};
 ghost use Rattle.scrambler.specs.Scrambling.{IsFull, IsInvertible, IsWithin, identity};
 ghost use Rattle.memory_desc.specs.Descriptions.{IsBackgrounds};

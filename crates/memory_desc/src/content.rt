@@ -1,5 +1,6 @@
 //! What a content line says, once it is known to be one.
- ghost use Rattle.std.specs.Prelude.{◌≡◌, ◌+◌, ◌<◌, ◌^◌, List, ◌∷◌, Option, Some, ℕ, true, length, drop, max, bit_xor, slice_get, IfSome};
+
+ghost use Rattle.std.specs.Prelude.{◌≡◌, ◌+◌, ◌<◌, ◌^◌, List, ◌∷◌, Option, Some, ℕ, true, length, drop, max, bit_xor, slice_get, IfSome};
 ghost use Rattle.std.specs.List.{list_all, take_while};
 ghost use Rattle.std.specs.Str.Parse.{digits_value};
 ghost use Rattle.memory_desc.specs.Names.{is_digit};

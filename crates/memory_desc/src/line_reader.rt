@@ -1,5 +1,6 @@
 //! The reader of one line.
- ghost use Rattle.bist_text.specs.Machine.{scan};
+
+ghost use Rattle.bist_text.specs.Machine.{scan};
 ghost use Rattle.memory_desc.specs.inner.LinePlaces.{step, value};
 ghost use Rattle.memory_desc.specs.inner.LineRest.{rest};
 ghost use Rattle.memory_desc.specs.inner.LineAnswers.{Gives, IsReadBy};

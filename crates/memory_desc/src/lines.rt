@@ -1,5 +1,6 @@
 //! The lines of a description: each must be one of the table, and the first with content a `memory` line.
- ghost use Rattle.std.specs.Prelude.{◌≡◌, List, Err, OnOk, IfErr, IsOk};
+
+ghost use Rattle.std.specs.Prelude.{◌≡◌, List, Err, OnOk, IfErr, IsOk};
 ghost use Rattle.bist_text.specs.Lines.{plain_line, text_lines};
 ghost use Rattle.memory_desc.specs.declared.fault.MemoryFault.{MemoryFault};
 ghost use Rattle.memory_desc.specs.inner.LineAnswers.{refusal_at, Opens, Checks};

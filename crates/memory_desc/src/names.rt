@@ -1,5 +1,6 @@
 //! Names: simple identifiers that Verilog doesn't keep for itself.
- ghost use Rattle.std.specs.Prelude.{◌≡◌};
+
+ghost use Rattle.std.specs.Prelude.{◌≡◌};
 ghost use Rattle.memory_desc.specs.Names.{IsName};
 
 use arrayvec::ArrayString;

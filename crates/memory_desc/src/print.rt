@@ -1,5 +1,6 @@
 //! The printer of memory descriptions.
- ghost use Rattle.std.specs.Prelude.{◌≡◌, ◌+◌, ◌<◌, ◌≤◌, ◌^◌, ◌++◌, ◌∷◌, All, Ok, OnOk, IfOk, decimal};
+
+ghost use Rattle.std.specs.Prelude.{◌≡◌, ◌+◌, ◌<◌, ◌≤◌, ◌^◌, ◌++◌, ◌∷◌, All, Ok, OnOk, IfOk, decimal};
 ghost use Rattle.memory_desc.specs.Descriptions.{IsMemory};
 ghost use Rattle.memory_desc.specs.Table.{Reads};
 ghost use Rattle.memory_desc.specs.Printed.{number_line, name_line, is_plain, version_text, later_lines, backgrounds_line, head_lines, index_terms, joined, row_terms, row_line, scramble_lines, printed};

@@ -1,5 +1,6 @@
 //! The reader of memory descriptions.
- ghost use Rattle.std.specs.Prelude.{◌≡◌, ◌≤◌, ◌↔◌, ◌-◌, ℕ, false, List, None, Ok, Err, OnOk};
+
+ghost use Rattle.std.specs.Prelude.{◌≡◌, ◌≤◌, ◌↔◌, ◌-◌, ℕ, false, List, None, Ok, Err, OnOk};
 ghost use Rattle.std.specs.Int.{is_power_of_two};
 ghost use Rattle.bist_bits.specs.Width.{IsWidthOf};
 ghost use Rattle.bist_text.specs.Lines.{text_lines};

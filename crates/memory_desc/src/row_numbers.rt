@@ -1,5 +1,6 @@
 //! The numbers of the rows that a search has met.
- ghost use Rattle.std.specs.Prelude.{◌≡◌, ◌≤◌, ◌↔◌, ℕ, IsTrue, Contains, length, take};
+
+ghost use Rattle.std.specs.Prelude.{◌≡◌, ◌≤◌, ◌↔◌, ℕ, IsTrue, Contains, length, take};
 ghost use Rattle.std.specs.List.Sorted.{IsNonDecreasing, IsPermutation};
 ghost use Rattle.std.proofs.Props.{props};
 ghost use Rattle.memory_desc.specs.inner.Met.{MayHave, MayBeMet};

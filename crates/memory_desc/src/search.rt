@@ -1,5 +1,6 @@
 //! Searches in the lines of a text that are all lines of a description.
- ghost use Rattle.std.specs.Prelude.{◌≡◌, ◌≤◌, ◌||◌, nat_lt, false, List, None, find};
+
+ghost use Rattle.std.specs.Prelude.{◌≡◌, ◌≤◌, ◌||◌, nat_lt, false, List, None, find};
 ghost use Rattle.bist_text.specs.Lines.{text_lines};
 ghost use Rattle.memory_desc.specs.LineText.{Content, ContentText, LineText};
 ghost use Rattle.memory_desc.specs.inner.Met.{MayBeMet};

@@ -1,5 +1,6 @@
 //! Why a module isn't run as a self-test.
- ghost use Rattle.std.specs.Prelude.{IfNone, IfSome, map};
+
+ghost use Rattle.std.specs.Prelude.{IfNone, IfSome, map};
 ghost use Rattle.verilog_tree.specs.Plain.{plain_port};
 ghost use Rattle.self_test.specs.Refusals.{IsShort, IsTooLong, Refuses};
 ghost use Rattle.self_test.specs.WrongPort.{ArePorts};

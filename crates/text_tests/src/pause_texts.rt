@@ -1,5 +1,6 @@
 //! Texts with pauses: marches, primitives and lists, and what the readers say of them.
- ghost use Rattle.std.specs.Prelude.{◌≡◌, None, IfOk};
+
+ghost use Rattle.std.specs.Prelude.{◌≡◌, None, IfOk};
 
 use crate::texts::{
     are_no_lists, are_no_marches, are_no_prims, list_len, print_marches, prints_prim, repeated,

@@ -1,6 +1,7 @@
 //! The printer of modules in a subset of Verilog, IEEE 1364-2005. `specs/Printed.antt` is the layout.
 #![tactic(auto)]
- ghost use Rattle.std.specs.Prelude.{◌≡◌, ◌++◌, codes, map, true, OnOk, IfOk};
+
+ghost use Rattle.std.specs.Prelude.{◌≡◌, ◌++◌, codes, map, true, OnOk, IfOk};
 ghost use Rattle.verilog_tree.specs.Fits.{fits, items_fit};
 ghost use Rattle.verilog_tree.specs.Plain.{ModuleTree, plain_module, plain_item, plain_port};
 ghost use Rattle.verilog_tree.specs.Spells.{Spells};

@@ -1,5 +1,6 @@
 //! The microcode of marches, its steps, and what the controller shows at the ports.
- ghost use Rattle.std.specs.Prelude.{◌<◌};
+
+ghost use Rattle.std.specs.Prelude.{◌<◌};
 ghost use Rattle.march_core.specs.March.{IsMarch};
 
 use controller::Control;

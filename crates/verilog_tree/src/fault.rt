@@ -1,5 +1,6 @@
 //! What a text and what a module is refused for.
- ghost use Rattle.std.specs.Prelude.{◌≡◌};
+
+ghost use Rattle.std.specs.Prelude.{◌≡◌};
 
 use crate::tree::Name;
 use bist_bits::NoMemory;

@@ -35,7 +35,8 @@ impl Model for Declarations {
     ghost use Rattle.verilog_tree.specs.Names.{Declaration};
 
     ghost Value = { List Declaration };
- ghost use Rattle.verilog_tree.specs.Tables.{declarations_of};
+
+    ghost use Rattle.verilog_tree.specs.Tables.{declarations_of};
 
     ghost view = { declarations_of };
 }
@@ -152,7 +153,8 @@ impl Model for NameSet {
     ghost use Rattle.std.specs.Prelude.{ℕ, List};
 
     ghost Value = { List (List ℕ) };
- ghost use Rattle.verilog_tree.specs.Tables.{names_of};
+
+    ghost use Rattle.verilog_tree.specs.Tables.{names_of};
 
     ghost view = { names_of };
 }

@@ -1,5 +1,6 @@
 //! How many commands a march gives, and how many cycles its run takes.
- ghost use Rattle.std.specs.Prelude.{◌≡◌, ◌≤◌};
+
+ghost use Rattle.std.specs.Prelude.{◌≡◌, ◌≤◌};
 ghost use Rattle.march_core.specs.March.{IsMarch};
 ghost use Rattle.memory_desc.specs.Descriptions.{IsMemory};
 ghost use Rattle.word_march.specs.Commands.{command_count, cycle_count, span};
