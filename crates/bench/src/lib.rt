@@ -9,3 +9,4 @@ mod run;
 
 pub use ending::{BenchEnd, BenchRefused, Seen};
 pub use run::bench;
+pub use self_test::RunFault as BenchFault;

@@ -14,7 +14,7 @@ use Rattle.pair_tracker.specs.Placements.{FitsPlacement, pair_in}
 use Rattle.pair_tracker.specs.Survivors.{Survives, IsEnd, AreEnds, AreSurvivors, pair_number}
 use Rattle.pair_tracker.specs.Slots.{all_pairs, survivor_at, row_of, word_in, rows_of, IsTableOf}
 use Rattle.pair_tracker.specs.Tracking.{IsLeastOf, Leads, AreLeast, Joins, CanJoin, is_below}
-use Rattle.pair_tracker.proofs.Leading.{least_same, least_there, least_joined, can_join}
+use Rattle.pair_tracker.proofs.Leading.{least_same, least_there, least_joined, least_behind, can_join}
 use Rattle.pair_tracker.proofs.Joining.{at_each_pair}
 use Rattle.pair_tracker.proofs.Passing.{leg_leads, leads_leg, start_in, survives_leg, leg_survives}
 use Rattle.pair_tracker.proofs.Found.{with_word, each_found, found_there, found_ordered}
@@ -115,7 +115,7 @@ pub joinable : (march march' : List MarchElement) (p p' : Primitive) (placement 
 joinable march march' p p' placement placement' i j first k a b next is_a other =
     let is_b : IsTableOf march p placement j k b = same_table march march' p p' placement placement' j first k b next other in
     can_join (machine_of p) (is_below placement) march i j k (word_in a) (word_in b) is_a.ordered is_b.ordered is_b.within is_a.is_march.elements_within
-    is_a.least is_b.least
+    is_a.least (least_behind (machine_of p) (is_below placement) march j k (word_in a) (word_in b) is_b.least)
 
 pub joined_table : (march march' : List MarchElement) (p p' : Primitive) (placement placement' : Placement) (i j first k : ℕ) (a b c : Table)
     → IsNext march march' p p' placement placement' j first → IsTableOf march p placement i j a → IsTableOf march' p' placement' first k b
@@ -131,5 +131,5 @@ joined_table march march' p p' placement placement' i j first k a b c next is_a 
       ordered = omega arith;
       within = is_b.within;
       least = least_joined (machine_of p) (is_below placement) march i j k (word_in a) (word_in b) (word_in c) ij jk is_b.within
-          is_a.is_march.elements_within is_a.least is_b.least joined;
+          is_a.is_march.elements_within is_a.least (least_behind (machine_of p) (is_below placement) march j k (word_in a) (word_in b) is_b.least) joined;
     }

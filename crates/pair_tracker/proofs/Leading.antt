@@ -12,7 +12,7 @@ use Rattle.array_sim.proofs.Runs.{element_at-get}
 use Rattle.cell_machine.specs.declared.pair.Pair.{Pair}
 use Rattle.pair_tracker.specs.Legs.{elements_between, directions_between}
 use Rattle.pair_tracker.specs.Pairs.{Machine, sides_in, element_run, pair_run}
-use Rattle.pair_tracker.specs.Tracking.{IsLeastOf, weight_in, end_of, Leads, AreLeast, Joins, CanJoin}
+use Rattle.pair_tracker.specs.Tracking.{IsLeastOf, weight_in, end_of, Leads, AreLeast, AreLeastBehind, Joins, CanJoin}
 use Rattle.pair_tracker.proofs.Words.{IsSplit, span_join, span_split, span_fits, span_one, directions_join, directions_one, one_split}
 
 -- the elements in parts
@@ -204,7 +204,7 @@ least_holds P o u least e = let at : IsLeastOf P (Some u) = subst (IsLeastOf P) 
 
 -- the least words of two parts, joined, are those of the whole
 pub least_joined : (m : Machine) (below : Bool) (es : List MarchElement) (i j k : ℕ) (a b c : Pair → Pair → Option ℕ)
-    → i ≤ j → j ≤ k → k ≤ length es → length es ≤ 64 → AreLeast m below es i j a → AreLeast m below es j k b
+    → i ≤ j → j ≤ k → k ≤ length es → length es ≤ 64 → AreLeast m below es i j a → AreLeastBehind m below es j k a b
     → ((start end : Pair) → IsLeastOf (Joins (a start) b end) (c start end)) → AreLeast m below es i k c
 least_joined m below es i j k a b c ij jk within most first second joined start end =
     least_by (Joins (a start) b end) (Leads m below es i k start end) reached low (c start end) (joined start end)
@@ -214,21 +214,25 @@ least_joined m below es i j k a b c ij jk within most first second joined start 
         subst (Leads m below es i k start end) (sym x.adds)
         (leads_join m below es i j k start x.middle end x.before x.rest ij jk within most
         (least_holds (Leads m below es i j start x.middle) (a start x.middle) x.before (first start x.middle) x.kept)
-        (least_holds (Leads m below es j k x.middle end) (b x.middle end) x.rest (second x.middle end) x.leads))
+        (least_holds (Leads m below es j k x.middle end) (b x.middle end) x.rest (second start x.middle end x.before x.kept) x.leads))
 
     low : (w : ℕ) → Leads m below es i k start end w → (u : ℕ) × (u ≤ w) × Joins (a start) b end u
     low w leads =
         let p = leads_split m below es i j k start end w ij jk within most leads in
         let l = least_there (Leads m below es i j start p.middle) (a start p.middle) p.before (first start p.middle) p.first in
-        let r = least_there (Leads m below es j k p.middle end) (b p.middle end) p.rest (second p.middle end) p.second in
+        let r = least_there (Leads m below es j k p.middle end) (b p.middle end) p.rest (second start p.middle end l.0 l.1) p.second in
         let left : l.0 ≤ p.before = l.2 in
         let right : r.0 ≤ p.rest = r.2 in
         (l.0 + r.0, omega (arith, p.adds), record { middle = p.middle; before = l.0; rest = r.0; kept = l.1; leads = r.1; adds = refl })
 
 pub can_join : (m : Machine) (below : Bool) (es : List MarchElement) (i j k : ℕ) (a b : Pair → Pair → Option ℕ)
-    → i ≤ j → j ≤ k → k ≤ length es → length es ≤ 64 → AreLeast m below es i j a → AreLeast m below es j k b → (start : Pair) → CanJoin (a start) b
+    → i ≤ j → j ≤ k → k ≤ length es → length es ≤ 64 → AreLeast m below es i j a → AreLeastBehind m below es j k a b → (start : Pair) → CanJoin (a start) b
 can_join m below es i j k a b ij jk within most first second start middle end before rest is_before is_rest =
     let k64 : k ≤ 64 = omega arith in
     let x : Leads m below es i j start middle before = least_holds (Leads m below es i j start middle) (a start middle) before (first start middle) is_before in
-    let y : Leads m below es j k middle end rest = least_holds (Leads m below es j k middle end) (b middle end) rest (second middle end) is_rest in
+    let y : Leads m below es j k middle end rest = least_holds (Leads m below es j k middle end) (b middle end) rest (second start middle end before is_before) is_rest in
     span_fits i k (before + rest) (omega arith) k64 (span_join i j k before rest ij jk k64 x.span y.span)
+
+-- what is least for all starts is so for some
+pub least_behind : (m : Machine) (below : Bool) (es : List MarchElement) (j k : ℕ) (a b : Pair → Pair → Option ℕ) → AreLeast m below es j k b → AreLeastBehind m below es j k a b
+least_behind m below es j k a b least = λ first start end word led. least start end

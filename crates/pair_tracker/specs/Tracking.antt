@@ -38,6 +38,11 @@ pub record Leads (m : Machine) (below : Bool) (march : List MarchElement) (i j :
 abbrev pub AreLeast : Machine → Bool → List MarchElement → ℕ → ℕ → (Pair → Pair → Option ℕ) → Type 0
 AreLeast m below march i j words = (start end : Pair) → IsLeastOf (Leads m below march i j start end) (words start end)
 
+-- the same for the starts to which these words lead
+abbrev pub AreLeastBehind : Machine → Bool → List MarchElement → ℕ → ℕ → (Pair → Pair → Option ℕ) → (Pair → Pair → Option ℕ) → Type 0
+AreLeastBehind m below march i j before words =
+    (first start end : Pair) (word : ℕ) → before first start ≡ Some word → IsLeastOf (Leads m below march i j start end) (words start end)
+
 -- a word to a pair in between, and one from there to this pair
 pub record Joins (words : Pair → Option ℕ) (next : Pair → Pair → Option ℕ) (end : Pair) (word : ℕ) : Type 0 where
   pub middle : Pair

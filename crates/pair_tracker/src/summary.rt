@@ -91,7 +91,7 @@ impl<'a> Summary<'a> {
         let is_below = has_lower_aggressor(prim, placement);
         let mut table = Table::of_element(prim, is_below, march, 0);
         for i in 1..count {
-            table = table.then(&Table::of_element(prim, is_below, march, i));
+            table = table.then(&table.element_behind(prim, is_below, march, i));
         }
         Summary {
             march,

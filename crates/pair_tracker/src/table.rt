@@ -1,7 +1,7 @@
-ghost use Rattle.std.specs.Prelude.{◌≡◌, ◌+◌, ◌-◌, ◌^◌, ◌<◌, length};
+ghost use Rattle.std.specs.Prelude.{◌≡◌, ◌+◌, ◌-◌, ◌^◌, ◌<◌, ℕ, length, None, Some, true};
 ghost use Rattle.cell_machine.specs.declared.pair.Pair.{Pair};
 ghost use Rattle.pair_tracker.specs.Pairs.{machine_of};
-ghost use Rattle.pair_tracker.specs.Tracking.{IsLeastOf, Leads, AreLeast, Joins, CanJoin};
+ghost use Rattle.pair_tracker.specs.Tracking.{IsLeastOf, Leads, AreLeast, AreLeastBehind, Joins, CanJoin};
 ghost use Rattle.pair_tracker.specs.Slots.{word_of, row_of, word_in};
 
 use crate::element_step::ends_of;
@@ -78,6 +78,42 @@ impl Table {
             (false, true) => self.from_victim_one,
             (true, false) => self.from_aggressor_one,
             (true, true) => self.from_both_one,
+        }
+    }
+
+    /// Whether no start leads to this pair.
+    fn misses(&self, end: Pair) -> bool
+        ensures { result ≡ true → (start : Pair) → word_in self.now start end ≡ None }
+    {
+        self.from_both_zero.word(end).is_none()
+            && self.from_victim_one.word(end).is_none()
+            && self.from_aggressor_one.word(end).is_none()
+            && self.from_both_one.word(end).is_none()
+    }
+
+    /// Where an element leads from a pair, if this table leads there.
+    fn row_behind(&self, prim: &Prim, is_below: bool, march: &March, i: usize, a: bool, v: bool) -> Row
+        requires there { i < length march.now }
+        requires within { i < 64 }
+        ensures { (start q : Pair) (word : ℕ) → word_in self.now start (record { a = a; v = v }) ≡ Some word → IsLeastOf (Leads (machine_of prim.now) is_below march.now i (i + 1) (record { a = a; v = v }) q) (word_of result q) }
+    {
+        if self.misses(Pair { a, v }) {
+            return Row::nowhere();
+        }
+        element_row(prim, is_below, march, i, a, v)
+    }
+
+    /// The table of one element behind this one: of its starts only those count to which this one leads.
+    pub(crate) fn element_behind(&self, prim: &Prim, is_below: bool, march: &March, i: usize) -> Table
+        requires there { i < length march.now }
+        requires within { i < 64 }
+        ensures { AreLeastBehind (machine_of prim.now) is_below march.now i (i + 1) (word_in self.now) (word_in result) }
+    {
+        Table {
+            from_both_zero: self.row_behind(prim, is_below, march, i, false, false),
+            from_victim_one: self.row_behind(prim, is_below, march, i, false, true),
+            from_aggressor_one: self.row_behind(prim, is_below, march, i, true, false),
+            from_both_one: self.row_behind(prim, is_below, march, i, true, true),
         }
     }
 

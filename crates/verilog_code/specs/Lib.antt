@@ -3,3 +3,4 @@ pub mod Code
 pub mod OpenActions
 pub mod OpenCode
 pub mod Places
+pub mod Reading

@@ -1,5 +1,5 @@
 -- Public. For proofs and private contracts alone: what statements over numbered values do to the next values where some are open.
-use Rattle.std.specs.Prelude.{ℕ, cond, List, [], ◌∷◌, map, Option, Some, None}
+use Rattle.std.specs.Prelude.{ℕ, cond, List, [], ◌∷◌, Option, Some, None}
 use Rattle.verilog_tree.specs.Meaning.{truth}
 use Rattle.verilog_code.specs.declared.action.Action.{Action}
 use Rattle.verilog_code.specs.declared.action.Action.TheOpen.{Action-F, Branch-F, Set, If, Case}

@@ -3,6 +3,8 @@
 //!
 //! A value is a number (`code`, `action`, `run`), or a number or nothing (`open_code`, `open_action`, `open_run`), where
 //! some names are left open. One code serves both. Names, widths and modules are unknown here: a place is an index.
+//!
+//! A net is worked out again only where something that it reads has changed (`step`, `run`).
 #![tactic(auto)]
 
 pub mod action;
@@ -11,3 +13,4 @@ pub mod open_action;
 pub mod open_code;
 pub mod open_run;
 pub mod run;
+pub mod step;

@@ -1,13 +1,15 @@
 //! The values of one cycle where some are open, computed in place.
-ghost use Rattle.std.specs.Prelude.{◌≡◌, ℕ, ◌+◌, ◌≤◌, length, map, take};
+ghost use Rattle.std.specs.Prelude.{◌≡◌, ℕ, ◌+◌, ◌<◌, ◌≤◌, List, Some, length, map, take};
 ghost use Rattle.verilog_code.specs.Places.{put, put_all, settled};
+ghost use Rattle.verilog_code.specs.Reading.{AreReading, Known};
+ghost use Rattle.verilog_code.specs.declared.step.Step.{Step};
 ghost use Rattle.verilog_code.specs.OpenActions.{open_action, open_run_blocks};
 ghost use Rattle.verilog_code.specs.OpenCode.{open_at, open_meaning};
 
 use crate::action::Action;
-use crate::code::Code;
 use crate::open_action::act_all;
 use crate::open_code::{open_at, open_value};
+use crate::step::{Step, bit};
 
 fn put(values: &mut Vec<Option<u64>>, place: usize, x: Option<u64>)
     ensures len { length values.new.items ≡ length values.old.items }
@@ -29,14 +31,48 @@ pub fn put_all(values: &mut Vec<Option<u64>>, first: usize, all: &[Option<u64>])
     }
 }
 
-// Computes the values from a place on, in order.
-fn settle(values: &mut Vec<Option<u64>>, first: usize, steps: &[Box<Code>])
-    requires { first + length steps.now ≤ length values.old.items }
-    ensures { values.new.items ≡ settled open_meaning first (map (λ b. b.value) steps.now) values.old.items }
+// Puts a value at a place, and gives the bits of what has changed: these, and that of the place where it has.
+#[inline]
+fn renew(values: &mut Vec<Option<u64>>, place: usize, x: Option<u64>, changed: u64) -> u64
+    ensures len { length values.new.items ≡ length values.old.items }
+    ensures items { values.new.items ≡ put values.old.items place x }
+    ensures known { (k : ℕ) (ss : List Step) → place < k → AreReading ss → Known (Some 0) open_meaning k changed ss values.old.items → Known (Some 0) open_meaning k result ss values.new.items }
 {
+    if open_at(values, place) == x {
+        return changed;
+    }
+    put(values, place, x);
+    changed | bit(place)
+}
+
+// Puts these from a place on, in the same way.
+fn renew_all(values: &mut Vec<Option<u64>>, first: usize, all: &[Option<u64>], before: u64) -> u64
+    requires { first + length all.now ≤ length values.old.items }
+    ensures len { length values.new.items ≡ length values.old.items }
+    ensures items { values.new.items ≡ put_all first all.now values.old.items }
+    ensures known { (k : ℕ) (ss : List Step) → first + length all.now ≤ k → AreReading ss → Known (Some 0) open_meaning k before ss values.old.items → Known (Some 0) open_meaning k result ss values.new.items }
+{
+    let mut changed = before;
+    for (i, x) in all.iter().enumerate() {
+        changed = renew(values, first + i, *x, changed);
+    }
+    changed
+}
+
+// Computes the values from a place on, in order: where nothing that a code reads has changed, what it is worth stands
+// there.
+fn settle(values: &mut Vec<Option<u64>>, first: usize, steps: &[Step], before: u64)
+    requires room { first + length steps.now ≤ length values.old.items }
+    requires reading { AreReading steps.now }
+    requires known { Known (Some 0) open_meaning first before steps.now values.old.items }
+    ensures { values.new.items ≡ settled open_meaning first (map (λ s. s.code.value) steps.now) values.old.items }
+{
+    let mut changed = before;
     for (i, step) in steps.iter().enumerate() {
-        let x = open_value(step, values);
-        put(values, first + i, x);
+        if changed & step.reads != 0 {
+            let x = open_value(&step.code, values);
+            changed = renew(values, first + i, x, changed);
+        }
     }
 }
 
@@ -71,31 +107,32 @@ fn advance(next: &mut Vec<Option<u64>>, blocks: &[Vec<Action>], values: &[Option
     run_blocks(next, blocks, values);
 }
 
-/// Puts the inputs behind the registers, and computes the nets behind them.
+/// Puts the inputs behind the registers, and computes the nets behind them. These are the bits of the places that have
+/// changed since they were computed last.
 pub fn compute(
     values: &mut Vec<Option<u64>>,
     registers: usize,
     inputs: &[Option<u64>],
-    steps: &[Box<Code>],
+    steps: &[Step],
+    changed: u64,
 )
-    requires { registers + length inputs.now + length steps.now ≤ length values.old.items }
-    ensures { values.new.items ≡ settled open_meaning (registers + length inputs.now) (map (λ b. b.value) steps.now) (put_all registers inputs.now values.old.items) }
+    requires room { registers + length inputs.now + length steps.now ≤ length values.old.items }
+    requires reading { AreReading steps.now }
+    requires known { Known (Some 0) open_meaning (registers + length inputs.now) changed steps.now values.old.items }
+    ensures { values.new.items ≡ settled open_meaning (registers + length inputs.now) (map (λ s. s.code.value) steps.now) (put_all registers inputs.now values.old.items) }
 {
-    put_all(values, registers, inputs);
-    settle(values, registers + inputs.len(), steps);
+    let changed = renew_all(values, registers, inputs, changed);
+    settle(values, registers + inputs.len(), steps, changed);
 }
 
 /// Gives the registers, the first of the values, what they become at an edge: all of them are worked out before one is
-/// written.
-pub fn step_registers(
-    values: &mut Vec<Option<u64>>,
-    next: &mut Vec<Option<u64>>,
-    blocks: &[Vec<Action>],
-)
+/// written. The result is the bits of the registers that change.
+pub fn step_registers(values: &mut Vec<Option<u64>>, next: &mut Vec<Option<u64>>, blocks: &[Vec<Action>]) -> u64
     requires { length next.old.items ≤ length values.old.items }
     ensures items { values.new.items ≡ put_all 0 (open_run_blocks (map (λ b. map open_action b.items) blocks.now) values.old.items (put_all 0 (take (length next.old.items) values.old.items) next.old.items)) values.old.items }
     ensures len { length next.new.items ≡ length next.old.items }
+    ensures known { (k : ℕ) (ss : List Step) → length next.old.items ≤ k → AreReading ss → Known (Some 0) open_meaning k 0 ss values.old.items → Known (Some 0) open_meaning k result ss values.new.items }
 {
     advance(next, blocks, values);
-    put_all(values, 0, next);
+    renew_all(values, 0, next, 0)
 }

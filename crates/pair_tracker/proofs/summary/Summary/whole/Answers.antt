@@ -15,14 +15,14 @@ pub then-table-requires : goal.then-table-requires
 then-table-requires c =
     let most : length c.args.march.now ≤ 64 = c.len-count.ensures.march.elements_within in
     can_join (machine_of c.args.prim.now) c.has_lower_aggressor-is_below.result c.args.march.now 0 c.loop-i.i (c.loop-i.i + 1)
-    (word_in c.loop-i.table) (word_in c.of_element.result) (omega arith) (omega arith) (omega arith) most c.loop-i.invariant c.of_element.ensures
+    (word_in c.loop-i.table) (word_in c.element_behind.result) (omega arith) (omega arith) (omega arith) most c.loop-i.invariant c.element_behind.ensures
 
 pub loop-i-preserved : goal.loop-i-preserved
 loop-i-preserved c =
     let most : length c.args.march.now ≤ 64 = c.len-count.ensures.march.elements_within in
     least_joined (machine_of c.args.prim.now) c.has_lower_aggressor-is_below.result c.args.march.now 0 c.loop-i.i (c.loop-i.i + 1)
-    (word_in c.loop-i.table) (word_in c.of_element.result) (word_in c.then-table.result) (omega arith) (omega arith) (omega arith) most
-    c.loop-i.invariant c.of_element.ensures c.then-table.ensures
+    (word_in c.loop-i.table) (word_in c.element_behind.result) (word_in c.then-table.result) (omega arith) (omega arith) (omega arith) most
+    c.loop-i.invariant c.element_behind.ensures c.then-table.ensures
 
 pub invariant_of-result : goal.invariant_of-result
 invariant_of-result c =

@@ -1,0 +1,13 @@
+use Rattle.std.proofs.Common.{Some, ℕ, sym, subst, bit_or}
+use Rattle.verilog_code.specs.OpenCode.{open_meaning}
+use Rattle.verilog_code.specs.Places.{put}
+use Rattle.verilog_code.specs.Reading.{Known}
+use Rattle.verilog_code.proofs.Knowing.{known_put}
+use Rattle.verilog_code.proofs.open_run.renew.Goals as goal
+
+pub returns-clause-known : goal.returns-clause-known
+returns-clause-known c = λ k ss lt r h.
+    let a = c.args in
+    subst (Known (Some 0) open_meaning k (bit_or a.changed c.bit.result) ss) (sym c.put.ensures.items)
+    (subst (λ (b : ℕ). Known (Some 0) open_meaning k (bit_or a.changed b) ss (put a.values.now.items a.place a.x)) (sym c.bit.ensures)
+    (known_put (Some 0) open_meaning (λ bits c r. r.when_open) k a.changed a.place a.x ss a.values.now.items lt r h))
