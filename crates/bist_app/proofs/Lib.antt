@@ -33,3 +33,4 @@ pub mod Faulted
 pub mod AllBenched
 pub mod Fitting
 pub mod OneFiles
+pub mod Deciding
