@@ -8,7 +8,7 @@ use Rattle.bist_endings.specs.Ending.{Done, plain}
 use Rattle.bist_endings.specs.Words.{Words}
 use Rattle.bist_endings.specs.Conclude.{Ends}
 use Rattle.bist_inputs.specs.Inputs.{HasReadCause, HasCause}
-use Rattle.bist_app.specs.Bench.{Boxes}
+use Rattle.bist_app.specs.Shared.{Boxes}
 use Rattle.bist_app.specs.Run.{Decides, Runs}
 
 plain_cause : (files : Option Files) (rose : Type 0) (r : Result Plan Refusal) → HasReadCause files rose r → HasReadCause files rose (plain r)
