@@ -15,7 +15,8 @@ use Rattle.bench.specs.Laws.{IsSeenOf}
 use Rattle.bist_bits.specs.declared.NoMemory.{NoMemory}
 use Rattle.bist_endings.specs.declared.ending.Plan.{Plan}
 use Rattle.bist_endings.specs.Ending.{done_of}
-use Rattle.bist_app.specs.Bench.{Boxes, FirstHasRoom, ready, benched_chip, IsSeen}
+use Rattle.bist_app.specs.Shared.{Boxes, FirstHasRoom}
+use Rattle.bist_app.specs.Bench.{ready, benched_chip, IsSeen}
 use Rattle.bist_app.specs.BenchAll.{HaveRoom, IsBoxSeen, failing_of, all_done, IsAllBenched, AreGone}
 use Rattle.bist_app.specs.BenchedBoxes.{IsEnd, GoesOn, CountsFailing}
 use Rattle.bist_app.proofs.Benched.{blank_filled}

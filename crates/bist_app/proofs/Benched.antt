@@ -14,7 +14,7 @@ use Rattle.bench.specs.Endings.{IsFirstRead}
 use Rattle.bench.specs.Laws.{IsSeenOf}
 use Rattle.bist_endings.specs.Ending.{Done}
 use Rattle.bist_app.specs.Bench.{ready, benched_chip, IsSeen, IsRun, IsBenched, IsSoundBenched, LeavesBench}
-use Rattle.bist_app.proofs.OneBench.{first_one}
+use Rattle.bist_app.proofs.Table.BenchFacts.{first_one}
 
 -- the number 0 stands for words of 0
 zero_pattern : (bits k : ℕ) → pattern 0 bits k ≡ 0

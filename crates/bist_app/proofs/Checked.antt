@@ -12,8 +12,7 @@ use Rattle.bist_endings.specs.declared.ending.Refusal.{Refusal}
 use Rattle.bist_endings.specs.declared.ending.VerilogRefusal.{VerilogRefusal}
 use Rattle.bist_endings.specs.declared.ending.Plan.{Plan}
 use Rattle.bist_endings.specs.Ending.{Done, done_of, plain}
-use Rattle.bist_app.specs.Vectors.{FitsLength}
-use Rattle.bist_app.specs.BenchFile.{HasPorts}
+use Rattle.bist_app.specs.Shared.{FitsLength, HasPorts}
 use Rattle.bist_app.specs.Check.{LeavesCheck, ChecksRun, check_done}
 
 answered : (mo : ModuleTree) (march : List MarchElement) (d : Description) (answer : PortAnswer) (done : Done) → Refuses march d mo.ports None

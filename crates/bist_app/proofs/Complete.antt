@@ -8,23 +8,14 @@ use Rattle.bist_endings.specs.Ending.{Done, status_of}
 use Rattle.bist_inputs.specs.Inputs.{HasReadCause}
 use Rattle.bist_endings.specs.OneOutcome.{IsSettledRefusal}
 use Rattle.bist_endings.specs.Conclude.{WritesInOrder}
+use Rattle.bist_app.specs.Shared.{Boxes}
 use Rattle.bist_app.specs.Answer.{Answers, IsComplete}
-use Rattle.bist_app.specs.Bench.{Boxes}
 use Rattle.bist_app.specs.Run.{Runs, Decides}
 
 is_settled : (files : Option Files) (rr : Type 0) (e : Refusal) → (rr → ⊥) → (status_of e ≡ 9 → ⊥) → HasReadCause {A = Done} files rr (Err e) → IsSettledRefusal e
-is_settled files rr Refusal.Usage quiet nine c = tt
-is_settled files rr (Refusal.March f) quiet nine c = tt
-is_settled files rr (Refusal.Memory f) quiet nine c = tt
-is_settled files rr (Refusal.Fault l) quiet nine c = tt
-is_settled files rr (Refusal.TooLong n) quiet nine c = tt
-is_settled files rr (Refusal.TooLarge p) quiet nine c = tt
 is_settled files rr (Refusal.ReadFailed p) quiet nine c = quiet c
-is_settled files rr (Refusal.Absent p) quiet nine c = tt
-is_settled files rr (Refusal.Misfit m) quiet nine c = tt
-is_settled files rr (Refusal.Device d) quiet nine c = tt
-is_settled files rr (Refusal.Verilog v) quiet nine c = tt
 is_settled files rr Refusal.NoMemory quiet nine c = nine refl
+is_settled files rr other quiet nine c = tt
 
 complete : (words : Words) (boxes left : Boxes) (f : Files) (old new : HostState) (n : ℕ) → old.files ≡ Some f
     → Runs words boxes left old new n → (ReadsRose old new → ⊥) → (WritesRose old new → ⊥) → (n ≡ 9 → ⊥) → Answers f boxes left words old new n

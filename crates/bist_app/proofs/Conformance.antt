@@ -18,16 +18,16 @@ use Rattle.bist_endings.specs.Ending.{Done, found_status}
 use Rattle.bist_endings.specs.Conclude.{WritesInOrder, DoneEnds}
 use Rattle.bist_inputs.specs.Designs.{CanRun}
 use Rattle.bist_inputs.proofs.OneDesign.{Spelled, input_spells, input_can_run}
-use Rattle.bist_app.specs.Bench.{Boxes}
-use Rattle.bist_app.specs.BenchFile.{HasPorts}
-use Rattle.bist_app.specs.Check.{IsChecked, LeavesCheck, DecidesCheck, is_amiss}
+use Rattle.bist_app.specs.Shared.{Boxes, HasPorts}
+use Rattle.bist_app.specs.Check.{IsChecked, LeavesCheck, DecidesCheck, is_amiss, check_form}
 use Rattle.bist_app.specs.Conformance.{IsConformance, LeavesConformance}
 use Rattle.bist_app.specs.Headline.{InputHas}
-use Rattle.bist_app.specs.Forms.{HasForm, check_form}
-use Rattle.bist_app.specs.Run.{HasShape, Decides, DecidesCommand, Runs}
-use Rattle.bist_app.proofs.Headline.{not_refused, too_high, eight_high, nine_high, refused_high, march_read, memory_read}
+use Rattle.bist_app.specs.Forms.{HasForm}
+use Rattle.bist_app.specs.Run.{command_named, Runs}
+use Rattle.bist_app.proofs.Headline.{march_read, memory_read}
 use Rattle.bist_app.proofs.Complete.{if_told}
-use Rattle.bist_app.proofs.OneCommand.{only_check}
+use Rattle.bist_app.proofs.Succeeding.{Succeeds, succeeds, not_refused}
+use Rattle.bist_app.specs.declared.commands.Command.{Command}
 
 -- the module, the march and the memory that were read, and what is left of them
 record Inputs (files : Files) (words : Words) (done : Done) : Type 0 where
@@ -95,29 +95,13 @@ conforming words files said said' n done shape i is says =
       says = subst (λ (d : Done). Says said said' d.line) c.done_is says;
     }
 
-conformance : (words : Words) (files : Files) (old new : HostState) (n : ℕ) (done : Done) → old.files ≡ Some files → HasForm check_form words → n ≤ 1
-    → Inputs files words done → DoneEnds words done old new n → (new.files ≡ Some files) × IsConformance words files old.said new.said n
-conformance words files old new n done is shape low i (Ok u, writes, inl h) =
-    let none : done.outputs ≡ [] = ap (λ (d : Done). d.outputs) i.checked.done_is in
-    (subst (λ outs. WritesInOrder words outs old.files new.files (Ok tt)) none writes ∙ is, conforming words files old.said new.said n done shape i h.0 h.1)
-conformance words files old new n done is shape low i (Ok u, writes, inr (inl h)) = absurd (too_high n 8 h.0 eight_high low)
-conformance words files old new n done is shape low i (Ok u, writes, inr (inr h)) = absurd (too_high n 9 h.0 nine_high low)
-conformance words files old new n done is shape low i (Err (WriteStop.Failed p), writes, h) = absurd (too_high n 8 h.0 eight_high low)
-conformance words files old new n done is shape low i (Err WriteStop.NoMemory, writes, h) = absurd (too_high n 9 h.0 nine_high low)
-
-decided : (files : Files) (boxes left : Boxes) (words : Words) (done : Done) → word words 0 ≡ codes "check" → Decides (Some files) boxes left words (Ok done)
-    → HasForm check_form words × DecidesCheck (Some files) words (Ok done)
-decided files boxes left words done e (None, (none, is, same)) = absurd (not_refused is)
-decided files boxes left words done e (Some command, (own, decides)) =
-    let check = only_check words command e own in
-    (subst (HasShape words) check own, (subst (λ c. DecidesCommand (Some files) boxes left words c (Ok done)) check decides).0)
-
-leaves_with : (words : Words) (boxes left : Boxes) (files : Files) (old new : HostState) (n : ℕ) → old.files ≡ Some files → Runs words boxes left old new n
-    → word words 0 ≡ codes "check" → n ≤ 1 → (new.files ≡ Some files) × IsConformance words files old.said new.said n
-leaves_with words boxes left files old new n told (Ok done, decides, cause, ends) name low =
-    let d = decided files boxes left words done name (subst (λ t. Decides t boxes left words (Ok done)) told decides) in
-    conformance words files old new n done told d.0 low (inputs files words done d.1) ends
-leaves_with words boxes left files old new n told (Err e, decides, cause, (same, ends)) name low = absurd (refused_high e old new n ends low)
+conformance : (words : Words) (files : Files) (old new : HostState) (n : ℕ) → Succeeds Command.Check words files old new n
+    → (new.files ≡ Some files) × IsConformance words files old.said new.said n
+conformance words files old new n s =
+    let i = inputs files words s.done s.decides.0 in
+    let none : s.done.outputs ≡ [] = ap (λ (d : Done). d.outputs) i.checked.done_is in
+    (subst (λ outs. WritesInOrder words outs (Some files) new.files (Ok tt)) none s.writes, conforming words files old.said new.said n s.done s.form i s.status s.says)
 
 pub leaves_conformance : (words : Words) (boxes left : Boxes) (old new : HostState) (n : ℕ) → Runs words boxes left old new n → LeavesConformance words old new n
-leaves_conformance words boxes left old new n runs = if_told old.files _ (λ files told. leaves_with words boxes left files old new n told runs)
+leaves_conformance words boxes left old new n runs =
+    if_told old.files _ (λ files told name low. conformance words files old new n (succeeds Command.Check words boxes left files old new n (ap command_named name) low told runs))

@@ -1,5 +1,5 @@
 -- What the answer of the top call comes to for `compile`.
-use Rattle.std.proofs.Common.{◌≡◌, ◌≢◌, ◌<◌, ◌≤◌, inl, inr, sym, ◌∙◌, subst, arith, codes, ℕ, List, [], ◌∷◌, Option, Some, None, Ok, Err}
+use Rattle.std.proofs.Common.{ap, ◌≡◌, ◌≢◌, ◌<◌, ◌≤◌, inl, inr, sym, ◌∙◌, subst, arith, codes, ℕ, List, [], ◌∷◌, Option, Some, None, Ok, Err}
 use Rattle.bist_host.specs.Files.{Files, HostState, WritesFile, Says}
 use Rattle.march_core.specs.March.{MarchElement}
 use Rattle.march_syntax.specs.Answers.{Reads as ReadsMarch}
@@ -14,27 +14,14 @@ use Rattle.bist_endings.specs.Ending.{Done, status_of}
 use Rattle.bist_endings.specs.Conclude.{WritesInOrder, RefusalEnds, DoneEnds}
 use Rattle.bist_inputs.specs.Inputs.{InputMarch, InputList, GivesMarch, GivesList}
 use Rattle.bist_inputs.specs.Memories.{InputMemory, GivesMemory}
-use Rattle.bist_app.specs.Bench.{Boxes}
-use Rattle.bist_app.specs.Compile.{IsCompiled, LeavesCompile, DecidesCompile}
+use Rattle.bist_app.specs.Shared.{Boxes}
+use Rattle.bist_app.specs.Compile.{IsCompiled, LeavesCompile, DecidesCompile, compile_form}
 use Rattle.bist_app.specs.Headline.{InputHas, IsCompilation, LeavesCompilation}
-use Rattle.bist_app.specs.Forms.{HasForm, compile_form}
+use Rattle.bist_app.specs.Forms.{HasForm}
 use Rattle.bist_app.proofs.Complete.{if_told}
-use Rattle.bist_app.proofs.OneCommand.{only_compile}
-use Rattle.bist_app.specs.Run.{HasShape, Decides, DecidesCommand, Runs}
-
--- ---- what can't be
-
-pub not_refused : {A E : Type 0} {value : A} {error : E} → Ok value ≡ Err error → ⊥
-not_refused same = cc
-
-pub too_high : (n k : ℕ) → n ≡ k → 2 ≤ k → n ≤ 1 → ⊥
-too_high n k is high low = omega (arith, is, high, low)
-
-pub eight_high : 2 ≤ 8
-eight_high = omega arith
-
-pub nine_high : 2 ≤ 9
-nine_high = omega arith
+use Rattle.bist_app.proofs.Succeeding.{Succeeds, succeeds, not_refused}
+use Rattle.bist_app.specs.declared.commands.Command.{Command}
+use Rattle.bist_app.specs.Run.{command_named, Runs}
 
 -- ---- the inputs
 
@@ -109,25 +96,6 @@ written words files told text bytes apart (between, w, (last, v, same)) = two fi
 
 -- ---- the whole
 
-status_high : (e : Refusal) → 2 ≤ status_of e
-status_high Refusal.Usage = omega arith
-status_high (Refusal.March f) = omega arith
-status_high (Refusal.Memory f) = omega arith
-status_high (Refusal.Fault f) = omega arith
-status_high (Refusal.TooLarge p) = omega arith
-status_high (Refusal.ReadFailed p) = omega arith
-status_high Refusal.NoMemory = omega arith
-status_high (Refusal.Absent p) = omega arith
-status_high (Refusal.Device d) = omega arith
-status_high (Refusal.TooLong n) = omega arith
-status_high (Refusal.Misfit m) = omega arith
-status_high (Refusal.Verilog v) = omega arith
-
-pub refused_high : (e : Refusal) (old new : HostState) (n : ℕ) → RefusalEnds e old new n → n ≤ 1 → ⊥
-refused_high e old new n (inl h) low = too_high n (status_of e) h.0 (status_high e) low
-refused_high e old new n (inr (inl h)) low = too_high n (status_of e) h.0 (status_high e) low
-refused_high e old new n (inr (inr h)) low = too_high n 9 h.0 nine_high low
-
 -- the words of the two files that are written
 module_not_report : (words : Words) → HasForm compile_form words → word words 4 ≢ word words 5
 module_not_report [] h = absurd (omega (arith, h.count))
@@ -140,17 +108,16 @@ module_not_report (a ∷ b ∷ c ∷ d ∷ e ∷ f ∷ rest) h =
     let some : 0 < 1 = omega arith in
     λ same. h.files.1.1.1.0 0 f some (sym same)
 
-compilation : (words : Words) (files : Files) (old new : HostState) (n : ℕ) (done : Done) → old.files ≡ Some files → HasForm compile_form words → n ≤ 1
-    → Inputs files words done → DoneEnds words done old new n
+compilation : (words : Words) (files : Files) (old new : HostState) (n : ℕ) → Succeeds Command.Compile words files old new n
     → (files' : Files) × (new.files ≡ Some files') × IsCompilation words files files' old.said new.said n
-compilation words files old new n done told shape low i (Ok u, writes, inl h) =
+compilation words files old new n s =
+    let i = inputs files words s.done s.decides.0 in
     let c = i.compiled in
-    let writes' = subst (λ t. WritesInOrder words done.outputs t new.files (Ok tt)) told writes in
-    let w = written words files new.files c.text c.bytes (module_not_report words shape) (subst (λ outs. WritesInOrder words outs (Some files) new.files (Ok tt)) c.outputs writes') in (
+    let w = written words files new.files c.text c.bytes (module_not_report words s.form) (subst (λ outs. WritesInOrder words outs (Some files) new.files (Ok tt)) c.outputs s.writes) in (
       w.after,
       w.is_told,
       record {
-        shape = shape;
+        shape = s.form;
         march = i.march;
         memory = i.memory;
         is_memory = i.is_memory;
@@ -162,33 +129,16 @@ compilation words files old new n done told shape low i (Ok u, writes, inl h) =
         self_test = c.tests.self_test;
         module_text = (c.text, w.first, (c.tests.spells, c.tests.no_other));
         report_text = (c.bytes, w.second, c.reports.report);
-        escapes = done.found;
+        escapes = s.done.found;
         found = c.reports.found;
-        status_is = h.0;
+        status_is = s.status;
         covered = c.reports.covered;
         detects = c.reports.detects;
-        says = subst (λ line. Says old.said new.said line) c.reports.last h.1;
+        says = subst (λ line. Says old.said new.said line) c.reports.last s.says;
         others = w.others;
       },
     )
-compilation words files old new n done told shape low i (Ok u, writes, inr (inl h)) = absurd (too_high n 8 h.0 eight_high low)
-compilation words files old new n done told shape low i (Ok u, writes, inr (inr h)) = absurd (too_high n 9 h.0 nine_high low)
-compilation words files old new n done told shape low i (Err (WriteStop.Failed p), writes, h) = absurd (too_high n 8 h.0 eight_high low)
-compilation words files old new n done told shape low i (Err WriteStop.NoMemory, writes, h) = absurd (too_high n 9 h.0 nine_high low)
-
-decided : (files : Files) (boxes left : Boxes) (words : Words) (done : Done) → word words 0 ≡ codes "compile" → Decides (Some files) boxes left words (Ok done)
-    → HasForm compile_form words × DecidesCompile (Some files) words (Ok done)
-decided files boxes left words done e (None, (none, is, same)) = absurd (not_refused is)
-decided files boxes left words done e (Some command, (own, decides)) =
-    let compile = only_compile words command e own in
-    (subst (HasShape words) compile own, (subst (λ c. DecidesCommand (Some files) boxes left words c (Ok done)) compile decides).0)
-
-leaves_with : (words : Words) (boxes left : Boxes) (files : Files) (old new : HostState) (n : ℕ) → old.files ≡ Some files → Runs words boxes left old new n
-    → word words 0 ≡ codes "compile" → n ≤ 1 → (files' : Files) × (new.files ≡ Some files') × IsCompilation words files files' old.said new.said n
-leaves_with words boxes left files old new n told (Ok done, decides, cause, ends) name low =
-    let d = decided files boxes left words done name (subst (λ t. Decides t boxes left words (Ok done)) told decides) in
-    compilation words files old new n done told d.0 low (inputs files words done d.1) ends
-leaves_with words boxes left files old new n told (Err e, decides, cause, (same, ends)) name low = absurd (refused_high e old new n ends low)
 
 pub leaves_compilation : (words : Words) (boxes left : Boxes) (old new : HostState) (n : ℕ) → Runs words boxes left old new n → LeavesCompilation words old new n
-leaves_compilation words boxes left old new n runs = if_told old.files _ (λ files told. leaves_with words boxes left files old new n told runs)
+leaves_compilation words boxes left old new n runs =
+    if_told old.files _ (λ files told name low. compilation words files old new n (succeeds Command.Compile words boxes left files old new n (ap command_named name) low told runs))

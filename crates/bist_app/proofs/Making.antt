@@ -7,15 +7,16 @@ use Rattle.made_inputs.specs.MadeList.{made_text}
 use Rattle.bist_endings.specs.Ending.{Done}
 use Rattle.bist_endings.specs.Words.{Words}
 use Rattle.bist_endings.specs.Conclude.{NamesWords}
-use Rattle.bist_app.specs.Make.{IsMakeShape, IsMade, made_outputs, sizes_text}
+use Rattle.bist_app.specs.Forms.{HasForm}
+use Rattle.bist_app.specs.Make.{make_form, IsMade, made_outputs, sizes_text}
 
 are_named : (words : Words) (march memory listed text bytes : List ℕ) → length words ≡ 7 → NamesWords words (made_outputs march memory listed text bytes)
 are_named words march memory listed text bytes count =
     (omega (arith, count), (omega (arith, count), (omega (arith, count), (omega (arith, count), (omega (arith, count), tt)))))
 
-pub names_words : (words : Words) (number : ℕ) (done : Done) → IsMakeShape words number → IsMade number done → NamesWords words done.outputs
-names_words words number done shape (d, memory, made) =
-    subst (NamesWords words) (sym made.outputs) (are_named words (line_of (made_march number)) (printed d) made_text made.text made.bytes shape.form.count)
+pub names_words : (words : Words) (number : ℕ) (done : Done) → HasForm make_form words → IsMade number done → NamesWords words done.outputs
+names_words words number done form (d, memory, made) =
+    subst (NamesWords words) (sym made.outputs) (are_named words (line_of (made_march number)) (printed d) made_text made.text made.bytes form.count)
 
 -- numbers behind their texts, one after another
 pub sizes_joined : (before first second third : List ℕ) (elements operations commands : ℕ) → first ≡ before ++ codes "made elements " ++ decimal elements

@@ -5,9 +5,9 @@ use Rattle.march_core.specs.March.{MarchElement}
 use Rattle.word_device.specs.declared.device.Planted.{Planted}
 use Rattle.word_device.specs.Boxes.{Told}
 use Rattle.bist_endings.specs.Ending.{Done}
+use Rattle.bist_app.specs.Shared.{Boxes, FitsRoom, HasBox}
 use Rattle.bist_app.specs.BenchFault.{LeavesFault}
 use Rattle.bist_endings.specs.declared.ending.Refusal.{Refusal}
-use Rattle.bist_app.specs.Bench.{Boxes, HasBox, FitsRoom}
 use Rattle.bist_app.specs.BenchAll.{FitsRooms}
 
 pub has_box : {A : Type 0} (f : A → Told) (xs ys : List A) (r : Result (Unit {0}) Refusal) → xs ≡ ys → HasBox (map f xs) r → HasBox (map f ys) r

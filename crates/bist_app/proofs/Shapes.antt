@@ -1,29 +1,17 @@
--- Words that have the shape of no command.
-use Rattle.std.proofs.Common.{◌≡◌, ◌∙◌, sym, ℕ, Bool, false, IsTrue}
-use Rattle.std.proofs.lemmas.Bool.{false≢true}
+-- Words that have the form of no command.
+use Rattle.std.proofs.Common.{ℕ, None, Option, Some, subst, ◌≡◌}
+use Rattle.bist_app.proofs.OneCommand.{by_name, only_named}
+use Rattle.bist_app.specs.Run.{HasNoForm, IsFormed, command_named}
 use Rattle.bist_app.specs.declared.commands.Command.{Command}
-use Rattle.bist_app.specs.declared.sim.SimShape.{SimShape}
-use Rattle.bist_app.specs.declared.benchfault_command.FaultShape.{FaultShape}
-use Rattle.bist_endings.specs.Words.{Words}
-use Rattle.bist_app.specs.Forms.{HasForm, judge_form, vectors_form, compile_form, bench_form, bench_file_form, bench_all_form, check_form}
-use Rattle.bist_app.specs.Sim.{IsSimShape}
-use Rattle.bist_app.specs.BenchFault.{IsFaultShape}
-use Rattle.bist_app.specs.Make.{IsMakeShape}
-use Rattle.bist_app.specs.Run.{HasNoShape}
+use Rattle.bist_endings.specs.Words.{Words, word}
 
--- the words do not have a form that was tested in vain
-pub no_form : {fits : Bool} {A : Type 0} → fits ≡ false → (A → IsTrue fits) → A → ⊥
-no_form not_so every form = false≢true (sym not_so ∙ every form)
+-- words whose first is no command's name
+pub none_named : (words : Words) → command_named (word words 0) ≡ None → HasNoForm words
+none_named words none command h = some_or_none (command_named (word words 0)) command (by_name words command h) none
+  where
+    some_or_none : (o : Option Command) (c : Command) → o ≡ Some c → o ≡ None → ⊥
+    some_or_none o c x y = cc
 
-pub no_shape : (words : Words) → ((shape : SimShape) → IsSimShape words shape → ⊥) → (HasForm judge_form words → ⊥) → (HasForm vectors_form words → ⊥) → (HasForm compile_form words → ⊥) → (HasForm bench_form words → ⊥)
-    → ((shape : FaultShape) → IsFaultShape words shape → ⊥) → (HasForm bench_file_form words → ⊥) → (HasForm bench_all_form words → ⊥) → (HasForm check_form words → ⊥) → ((number : ℕ) → IsMakeShape words number → ⊥) → HasNoShape words
-no_shape words sim judge vectors compile bench fault file all check make (Command.Sim shape) h = sim shape h
-no_shape words sim judge vectors compile bench fault file all check make Command.Judge h = judge h
-no_shape words sim judge vectors compile bench fault file all check make Command.Vectors h = vectors h
-no_shape words sim judge vectors compile bench fault file all check make Command.Compile h = compile h
-no_shape words sim judge vectors compile bench fault file all check make Command.Bench h = bench h
-no_shape words sim judge vectors compile bench fault file all check make Command.BenchFile h = file h
-no_shape words sim judge vectors compile bench fault file all check make (Command.Make number) h = make number h
-no_shape words sim judge vectors compile bench fault file all check make (Command.BenchFault shape) h = fault shape h
-no_shape words sim judge vectors compile bench fault file all check make Command.BenchAll h = all h
-no_shape words sim judge vectors compile bench fault file all check make Command.Check h = check h
+-- words that don't have the form of the command of their name
+pub none_formed : (words : Words) (command : Command) → command_named (word words 0) ≡ Some command → (IsFormed words command → ⊥) → HasNoForm words
+none_formed words command is none other h = none (subst (IsFormed words) (only_named words other command h is) h)

@@ -7,9 +7,12 @@ use Rattle.bist_endings.specs.Words.{Words}
 use Rattle.bist_endings.specs.Ending.{Done, status_of, found_status}
 use Rattle.bist_inputs.specs.Inputs.{HasReadCause}
 use Rattle.bist_endings.specs.Conclude.{RefusalEnds, SaysAfterWrites}
-use Rattle.bist_app.specs.Bench.{Boxes}
-use Rattle.bist_app.specs.Run.{Runs, HasNoShape, DecidesCommand}
-use Rattle.bist_app.proofs.Usage.{never_usage}
+use Rattle.bist_app.specs.Shared.{Boxes}
+use Rattle.bist_app.specs.Run.{row_of, Runs, Decides, HasNoShape}
+use Rattle.bist_app.specs.declared.commands.Command.{Command}
+use Rattle.bist_app.proofs.OneCommand.{command_one}
+use Rattle.bist_app.proofs.OneAnswer.{never_usage}
+use Rattle.bist_app.proofs.Table.{facts_of}
 
 -- 0 or 1
 found_low : (b : Bool) (n : ℕ) → n ≡ found_status b → n < 2
@@ -45,45 +48,15 @@ failed_writes done old new (Err WriteStop.NoMemory) n h k = absurd (omega (arith
 -- no refusal has the status of a failed write
 not_eight : (e : Refusal) (n : ℕ) → n ≡ status_of e → n ≡ 8 → ⊥
 not_eight Refusal.Usage n h k = omega arith
-not_eight (Refusal.March f) n h k = omega arith
-not_eight (Refusal.Fault l) n h k = omega arith
-not_eight (Refusal.Memory f) n h k = omega arith
-not_eight (Refusal.TooLong n12) n h k = omega arith
-not_eight (Refusal.TooLarge p) n h k = omega arith
-not_eight (Refusal.ReadFailed p) n h k = omega arith
-not_eight (Refusal.Absent p) n h k = omega arith
-not_eight (Refusal.Misfit m) n h k = omega arith
-not_eight (Refusal.Device d) n h k = omega arith
-not_eight (Refusal.Verilog v) n h k = omega arith
-not_eight Refusal.NoMemory n h k = omega arith
+not_eight other n h k = omega arith
 
 two_is_usage : (e : Refusal) (n : ℕ) → n ≡ status_of e → n ≡ 2 → e ≡ Refusal.Usage
 two_is_usage Refusal.Usage n h k = refl
-two_is_usage (Refusal.March f) n h k = absurd (omega arith)
-two_is_usage (Refusal.Fault l) n h k = absurd (omega arith)
-two_is_usage (Refusal.Memory f) n h k = absurd (omega arith)
-two_is_usage (Refusal.TooLong n12) n h k = absurd (omega arith)
-two_is_usage (Refusal.TooLarge p) n h k = absurd (omega arith)
-two_is_usage (Refusal.ReadFailed p) n h k = absurd (omega arith)
-two_is_usage (Refusal.Absent p) n h k = absurd (omega arith)
-two_is_usage (Refusal.Misfit m) n h k = absurd (omega arith)
-two_is_usage (Refusal.Device d) n h k = absurd (omega arith)
-two_is_usage (Refusal.Verilog v) n h k = absurd (omega arith)
-two_is_usage Refusal.NoMemory n h k = absurd (omega arith)
+two_is_usage other n h k = absurd (omega arith)
 
 read_cause : (files : Option Files) (rr : Type 0) (e : Refusal) (n : ℕ) → n ≡ status_of e → n ≡ 7 → HasReadCause {A = Done} files rr (Err e) → rr
-read_cause files rr Refusal.Usage n h k c = absurd (omega arith)
-read_cause files rr (Refusal.March f) n h k c = absurd (omega arith)
-read_cause files rr (Refusal.Fault l) n h k c = absurd (omega arith)
-read_cause files rr (Refusal.Memory f) n h k c = absurd (omega arith)
-read_cause files rr (Refusal.TooLong n12) n h k c = absurd (omega arith)
-read_cause files rr (Refusal.TooLarge p) n h k c = absurd (omega arith)
 read_cause files rr (Refusal.ReadFailed p) n h k c = c
-read_cause files rr (Refusal.Absent p) n h k c = absurd (omega arith)
-read_cause files rr (Refusal.Misfit m) n h k c = absurd (omega arith)
-read_cause files rr (Refusal.Device d) n h k c = absurd (omega arith)
-read_cause files rr (Refusal.Verilog v) n h k c = absurd (omega arith)
-read_cause files rr Refusal.NoMemory n h k c = absurd (omega arith)
+read_cause files rr other n h k c = absurd (omega arith)
 
 -- how a refusal's status comes: its own, or 9
 refusal_status : (e : Refusal) (old new : HostState) (n : ℕ) → RefusalEnds e old new n → (n ≡ status_of e) ⊎ (n ≡ 9)
@@ -106,18 +79,10 @@ write_fault_rose words boxes left old new n (Err e, decides, cause, (same, ends)
     elim (refusal_status e old new n ends) [ inl h ↦ absurd (not_eight e n h k) | inr h ↦ absurd (omega arith) ]
 
 silent_cause : (rr : Type 0) (e : Refusal) (n : ℕ) → n ≡ status_of e → (n ≡ 6) ⊎ (n ≡ 10) → HasReadCause {A = Done} None rr (Err e) → rr
-silent_cause rr Refusal.Usage n h k c = absurd (omega arith)
-silent_cause rr (Refusal.March f) n h k c = absurd (omega arith)
-silent_cause rr (Refusal.Fault l) n h k c = absurd (omega arith)
-silent_cause rr (Refusal.Memory f) n h k c = absurd (omega arith)
-silent_cause rr (Refusal.TooLong n12) n h k c = absurd (omega arith)
 silent_cause rr (Refusal.TooLarge p) n h k c = c
 silent_cause rr (Refusal.ReadFailed p) n h k c = c
 silent_cause rr (Refusal.Absent p) n h k c = c
-silent_cause rr (Refusal.Misfit m) n h k c = absurd (omega arith)
-silent_cause rr (Refusal.Device d) n h k c = absurd (omega arith)
-silent_cause rr (Refusal.Verilog v) n h k c = absurd (omega arith)
-silent_cause rr Refusal.NoMemory n h k c = absurd (omega arith)
+silent_cause rr other n h k c = absurd (omega arith)
 
 -- over files that aren't told, a file is absent or too large only where the count of reads rose
 pub silent_rose : (words : Words) (boxes left : Boxes) (old new : HostState) (n : ℕ)
@@ -128,19 +93,36 @@ silent_rose words boxes left old new n (Err e, decides, cause, (same, ends)) non
     let silent : HasReadCause {A = Done} None (ReadsRose old new) (Err e) = subst (λ (f : Option Files). HasReadCause {A = Done} f (ReadsRose old new) (Err e)) none cause in
     elim (refusal_status e old new n ends) [ inl h ↦ silent_cause (ReadsRose old new) e n h k silent | inr h ↦ absurd (omega arith) ]
 
--- words without a shape end with 2, or 9
+-- words without a shape are refused as such
+no_shape_refused : (files : Option Files) (boxes left : Boxes) (words : Words) (outcome : Result Done Refusal) → Decides files boxes left words outcome
+    → HasNoShape words → outcome ≡ Err Refusal.Usage
+no_shape_refused files boxes left words outcome (None, (form, is, _)) none = is
+no_shape_refused files boxes left words outcome (Some command, (form, rest)) none =
+    elim ((facts_of command).said files boxes left words outcome rest) [ inl h ↦ h.0 | inr h ↦ absurd (none command (form, h)) ]
+
+-- and end with 2, or 9
 pub no_shape_ends : (words : Words) (boxes left : Boxes) (old new : HostState) (n : ℕ)
     → Runs words boxes left old new n → HasNoShape words → (n ≡ 2) ⊎ (n ≡ 9)
-no_shape_ends words boxes left old new n (outcome, (Some command, (shape, rest)), cause, ends) none = absurd (none command shape)
-no_shape_ends words boxes left old new n (Ok done, (None, (shape, is, _)), cause, ends) none = cc
-no_shape_ends words boxes left old new n (Err e, (None, (shape, is, _)), cause, (same, ends)) none =
+no_shape_ends words boxes left old new n (Ok done, decides, cause, ends) none =
+    let is = no_shape_refused old.files boxes left words (Ok done) decides none in cc
+no_shape_ends words boxes left old new n (Err e, decides, cause, (same, ends)) none =
+    let is = no_shape_refused old.files boxes left words (Err e) decides none in
     let usage : e ≡ Refusal.Usage = cc in
     elim (refusal_status e old new n ends) [ inl h ↦ inl (h ∙ ap status_of usage) | inr h ↦ inr h ]
+
+-- words that are refused as such have no shape
+refused_no_shape : (files : Option Files) (boxes left : Boxes) (words : Words) → Decides files boxes left words (Err Refusal.Usage) → HasNoShape words
+refused_no_shape files boxes left words (None, (form, is, _)) command shape = form command shape.0
+refused_no_shape files boxes left words (Some given, (form, rest)) command shape =
+    let same : command ≡ given = command_one words command given shape.0 form in
+    never_usage files boxes left words given (subst (λ (c : Command). (row_of c).says words) same shape.1) rest
 
 -- status 2 comes only of the words
 pub usage_has_no_shape : (words : Words) (boxes left : Boxes) (old new : HostState) (n : ℕ)
     → Runs words boxes left old new n → n ≡ 2 → HasNoShape words
-usage_has_no_shape words boxes left old new n (outcome, (None, (shape, is, _)), cause, ends) k = shape
-usage_has_no_shape words boxes left old new n (Ok done, (Some command, (shape, rest)), cause, (stop, writes, says)) k = absurd (after_writes done old new stop n says (omega arith) (omega arith))
-usage_has_no_shape words boxes left old new n (Err e, (Some command, (shape, rest)), cause, (same, ends)) k =
-    elim (refusal_status e old new n ends) [ inl h ↦ absurd (never_usage old.files boxes left words command (subst (λ r. DecidesCommand old.files boxes left words command (Err r)) (two_is_usage e n h k) rest)) | inr h ↦ absurd (omega arith) ]
+usage_has_no_shape words boxes left old new n (Ok done, decides, cause, (stop, writes, says)) k = absurd (after_writes done old new stop n says (omega arith) (omega arith))
+usage_has_no_shape words boxes left old new n (Err e, decides, cause, (same, ends)) k =
+    elim (refusal_status e old new n ends) [
+      | inl h ↦ refused_no_shape old.files boxes left words (subst (λ f. Decides old.files boxes left words (Err f)) (two_is_usage e n h k) decides)
+      | inr h ↦ absurd (omega arith)
+    ]

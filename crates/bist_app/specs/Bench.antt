@@ -12,35 +12,13 @@ use Rattle.bench.specs.declared.ending.Seen.{Seen}
 use Rattle.bench.specs.Endings.{IsFirstRead}
 use Rattle.bench.specs.Laws.{done_at, script_word, IsWrongRead, IsSeenOf}
 use Rattle.bist_endings.specs.declared.ending.Refusal.{Refusal}
-use Rattle.bist_endings.specs.declared.ending.DeviceRefusal.{DeviceRefusal}
 use Rattle.bist_endings.specs.Ending.{Done}
 use Rattle.bist_endings.specs.Words.{Words, word}
 use Rattle.bist_inputs.specs.Inputs.{InputMarch}
 use Rattle.bist_inputs.specs.Memories.{InputMemory}
-use Rattle.bist_app.specs.Vectors.{FitsLength}
-
--- the boxes that the program is given, as they tell
-abbrev pub Boxes : Type 0
-Boxes = List Told
-
--- there is a box
-unfoldable pub HasBox : Boxes → Result (Unit {0}) Refusal → Type 0
-HasBox [] (Err (Refusal.Device DeviceRefusal.NoBox)) = Unit {0}
-HasBox [] other = ⊥
-HasBox (box ∷ boxes) (Ok _) = Unit {0}
-HasBox (box ∷ boxes) (Err other) = ⊥
-
--- for private contracts alone: the first, where there is one, has room for so many words
-abbrev pub FirstHasRoom : ℕ → Boxes → Type 0
-FirstHasRoom words [] = Unit {0}
-FirstHasRoom words (box ∷ boxes) = words ≤ box.room
-
--- the first has room for the memory's words
-unfoldable pub FitsRoom : Description → Boxes → Result (Unit {0}) Refusal → Type 0
-FitsRoom d [] result = ⊥
-FitsRoom d (box ∷ boxes) (Ok _) = d.words ≤ box.room
-FitsRoom d (box ∷ boxes) (Err (Refusal.Device (DeviceRefusal.TooSmall words room))) = (box.room < d.words) × (words ≡ d.words) × (room ≡ box.room)
-FitsRoom d (box ∷ boxes) (Err other) = ⊥
+use Rattle.bist_app.specs.Forms.{Form, Row}
+use Rattle.bist_app.specs.Shared.{Boxes, FirstTells, FitsLength, HasBox, FitsRoom, LeavesFirst, Before}
+use Rattle.bist_endings.specs.Then.{OrNoMemory}
 
 -- what a box tells that is fitted with the memory's shape and filled with zeros
 abbrev pub ready : Description → Tells → Tells
@@ -114,27 +92,33 @@ pub record IsSoundBenched (march : List MarchElement) (d : Description) (tells :
 
 unfoldable pub LeavesBench : List MarchElement → Description → Boxes → Result Done Refusal → Type 0
 LeavesBench march d [] result = ⊥
-LeavesBench march d (box ∷ boxes) (Ok done) = IsSoundBenched march d box.tells done
-LeavesBench march d (box ∷ boxes) (Err Refusal.NoMemory) = Unit {0}
-LeavesBench march d (box ∷ boxes) (Err other) = ⊥
+LeavesBench march d (box ∷ boxes) result = OrNoMemory (IsSoundBenched march d box.tells) result
 
--- What the run leaves of the boxes: the one that was benched is gone, and the others stay in their order; where memory ran out it may be gone
--- or not. It ends with no other refusal.
-abbrev pub LeavesFirst : Boxes → Boxes → Result Done Refusal → Type 0
-LeavesFirst boxes left (Ok done) = left ≡ drop 1 boxes
-LeavesFirst boxes left (Err Refusal.NoMemory) = (left ≡ boxes) ⊎ (left ≡ drop 1 boxes)
-LeavesFirst boxes left (Err other) = left ≡ boxes
+-- the checks behind the inputs, in their order, and the run
+abbrev pub TestsBench : List MarchElement → Description → Boxes → Boxes → Result Done Refusal → Type 0
+TestsBench march d boxes left =
+    Before boxes left (FitsLength march d) (λ _.
+    Before boxes left (HasBox boxes) (λ _.
+    Before boxes left (FitsRoom d boxes) (λ _ outcome.
+    LeavesBench march d boxes outcome × LeavesFirst boxes left outcome)))
 
--- a check before any box is called, and the rest where it gives a value: where it refuses, all boxes are as before
-abbrev pub Before : {A : Type 0} → Boxes → Boxes → (Result A Refusal → Type 0) → (A → Result Done Refusal → Type 0) → Result Done Refusal → Type 0
-Before {A} boxes left first rest result = (r : Result A Refusal) × first r × MatchResult r (λ a. rest a result) (λ e. (result ≡ Err e) × (left ≡ boxes))
-
--- the checks of `bench` in their order, and the run
+-- the checks of `bench` in their order
 abbrev pub DecidesBench : Option Files → Boxes → Boxes → Words → Result Done Refusal → Type 0
 DecidesBench files boxes left words =
     Before boxes left (InputMarch files words 1) (λ march.
     Before boxes left (InputMemory files words 2) (λ d.
-    Before boxes left (FitsLength march d) (λ _.
-    Before boxes left (HasBox boxes) (λ _.
-    Before boxes left (FitsRoom d boxes) (λ _ outcome.
-    LeavesBench march d boxes outcome × LeavesFirst boxes left outcome)))))
+    TestsBench march d boxes left))
+
+-- ---- the row
+
+abbrev pub bench_form : Form
+bench_form = record { name = codes "bench"; count = 3; first = 1; last = 3 }
+
+abbrev pub bench_row : Row
+bench_row = record {
+  form = bench_form;
+  says = λ words. Unit {0};
+  decides = λ files boxes left words outcome. DecidesBench files boxes left words outcome;
+  called_tell = λ boxes. FirstTells boxes;
+  settled = λ outputs. outputs;
+}

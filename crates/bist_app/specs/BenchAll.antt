@@ -1,12 +1,12 @@
 -- Trusted. The command `benchall MARCH MEMORY`: the self-test module against each box, one after another. Its shape, its checks in their order, and
 -- what it leaves.
-use Rattle.std.specs.Prelude.{◌≡◌, ◌<◌, ◌≤◌, ◌++◌, ℕ, nat_lt, List, [], ◌∷◌, Option, None, Result, Ok, Err, is_some, length, drop, codes, decimal}
+use Rattle.std.specs.Prelude.{◌≡◌, ◌<◌, ◌≤◌, ◌++◌, ℕ, nat_lt, List, [], ◌∷◌, Option, None, Result, Ok, Err, is_some, length, drop, codes, decimal, ◌≢◌}
 use Rattle.std.specs.List.{filter}
 use Rattle.bist_host.specs.Files.{Files}
 use Rattle.march_core.specs.March.{MarchElement}
 use Rattle.memory_desc.specs.Descriptions.{Description}
 use Rattle.word_device.specs.Ports.{Chip}
-use Rattle.word_device.specs.Boxes.{Told, Tells, TellsChip}
+use Rattle.word_device.specs.Boxes.{Told, Tells, TellsChip, TellsNothing}
 use Rattle.bench.specs.declared.ending.Seen.{Seen}
 use Rattle.bist_endings.specs.declared.ending.Refusal.{Refusal}
 use Rattle.bist_endings.specs.declared.ending.DeviceRefusal.{DeviceRefusal}
@@ -14,8 +14,10 @@ use Rattle.bist_endings.specs.Ending.{Done}
 use Rattle.bist_endings.specs.Words.{Words}
 use Rattle.bist_inputs.specs.Inputs.{InputMarch}
 use Rattle.bist_inputs.specs.Memories.{InputMemory}
-use Rattle.bist_app.specs.Vectors.{FitsLength}
-use Rattle.bist_app.specs.Bench.{Boxes, HasBox, IsSeen, Before}
+use Rattle.bist_app.specs.Forms.{Form, Row}
+use Rattle.bist_app.specs.Shared.{Boxes, FitsLength, HasBox, Before}
+use Rattle.bist_app.specs.Bench.{IsSeen}
+use Rattle.bist_endings.specs.Then.{OrNoMemory}
 
 -- ---- the rooms
 
@@ -39,6 +41,11 @@ unfoldable pub FitsRooms : Description → Boxes → Result (Unit {0}) Refusal �
 FitsRooms d boxes (Ok _) = HaveRoom d.words boxes
 FitsRooms d boxes (Err (Refusal.Device (DeviceRefusal.TooSmall words room))) = (words ≡ d.words) × FirstSmall d.words boxes room
 FitsRooms d boxes (Err other) = ⊥
+
+-- every box is called, and tells
+abbrev pub AllTell : Boxes → Type 0
+AllTell [] = Unit {0}
+AllTell (box ∷ boxes) = (box.tells ≢ TellsNothing) × AllTell boxes
 
 -- ---- what is seen of the runs
 
@@ -74,9 +81,7 @@ pub record IsAllBenched (march : List MarchElement) (d : Description) (boxes : B
   pub done_is : done ≡ all_done (length boxes) (failing_of seen)
 
 unfoldable pub LeavesAll : List MarchElement → Description → Boxes → Result Done Refusal → Type 0
-LeavesAll march d boxes (Ok done) = IsAllBenched march d boxes done
-LeavesAll march d boxes (Err Refusal.NoMemory) = Unit {0}
-LeavesAll march d boxes (Err other) = ⊥
+LeavesAll march d boxes = OrNoMemory (IsAllBenched march d boxes)
 
 -- some of the boxes from the first on are gone, possibly none, and the others stay in their order
 abbrev pub AreGone : Boxes → Boxes → Type 0
@@ -88,12 +93,31 @@ LeavesNone boxes left (Ok done) = left ≡ []
 LeavesNone boxes left (Err Refusal.NoMemory) = AreGone boxes left
 LeavesNone boxes left (Err other) = left ≡ boxes
 
--- the checks of `benchall` in their order, and the runs
+-- the checks behind the inputs, in their order, and the runs
+abbrev pub TestsAll : List MarchElement → Description → Boxes → Boxes → Result Done Refusal → Type 0
+TestsAll march d boxes left =
+    Before boxes left (FitsLength march d) (λ _.
+    Before boxes left (HasBox boxes) (λ _.
+    Before boxes left (FitsRooms d boxes) (λ _ outcome.
+    LeavesAll march d boxes outcome × LeavesNone boxes left outcome)))
+
+-- the checks of `benchall` in their order
 abbrev pub DecidesBenchAll : Option Files → Boxes → Boxes → Words → Result Done Refusal → Type 0
 DecidesBenchAll files boxes left words =
     Before boxes left (InputMarch files words 1) (λ march.
     Before boxes left (InputMemory files words 2) (λ d.
-    Before boxes left (FitsLength march d) (λ _.
-    Before boxes left (HasBox boxes) (λ _.
-    Before boxes left (FitsRooms d boxes) (λ _ outcome.
-    LeavesAll march d boxes outcome × LeavesNone boxes left outcome)))))
+    TestsAll march d boxes left))
+
+-- ---- the row
+
+abbrev pub bench_all_form : Form
+bench_all_form = record { name = codes "benchall"; count = 3; first = 1; last = 3 }
+
+abbrev pub bench_all_row : Row
+bench_all_row = record {
+  form = bench_all_form;
+  says = λ words. Unit {0};
+  decides = λ files boxes left words outcome. DecidesBenchAll files boxes left words outcome;
+  called_tell = λ boxes. AllTell boxes;
+  settled = λ outputs. outputs;
+}

@@ -18,10 +18,10 @@ use Rattle.bist_inputs.specs.Inputs.{InputMarch, GivesPrim}
 use Rattle.bist_inputs.specs.Memories.{InputMemory}
 use Rattle.bist_app.specs.declared.benchfault_command.NamedPlace.{NamedPlace}
 use Rattle.bist_app.specs.declared.benchfault_command.FaultShape.{FaultShape}
-use Rattle.bist_app.specs.Forms.{HasForm, bench_fault_form}
-use Rattle.bist_app.specs.Sim.{FitsAggressor}
-use Rattle.bist_app.specs.Vectors.{FitsLength}
-use Rattle.bist_app.specs.Bench.{Boxes, HasBox, FitsRoom, IsBenched, LeavesFirst, Before}
+use Rattle.bist_app.specs.Forms.{Form, Row}
+use Rattle.bist_app.specs.Shared.{Boxes, FirstTells, FitsAggressor, FitsLength, HasBox, FitsRoom, LeavesFirst, Before}
+use Rattle.bist_app.specs.Bench.{IsBenched}
+use Rattle.bist_endings.specs.Then.{OrNoMemory, SaysOwn}
 
 -- ---- the words
 
@@ -34,9 +34,8 @@ abbrev pub IsAggressorPlace : List ℕ → Option NamedPlace → Type 0
 IsAggressorPlace text None = text ≡ codes "none"
 IsAggressorPlace text (Some place) = IsPlaceWord text place
 
--- the words have the form, and the places are what they say
+-- the places are what the words say
 pub record IsFaultShape (words : Words) (shape : FaultShape) : Type 0 where
-  pub form : HasForm bench_fault_form words
   pub aggressor : IsAggressorPlace (word words 4) shape.aggressor
   pub victim : IsPlaceWord (word words 5) shape.victim
 
@@ -84,24 +83,45 @@ pub record IsFaultBenched (march : List MarchElement) (d : Description) (planted
 
 unfoldable pub LeavesFault : List MarchElement → Description → Planted → Boxes → Result Done Refusal → Type 0
 LeavesFault march d planted [] result = ⊥
-LeavesFault march d planted (box ∷ boxes) (Ok done) = IsFaultBenched march d planted box.tells done
-LeavesFault march d planted (box ∷ boxes) (Err Refusal.NoMemory) = Unit {0}
-LeavesFault march d planted (box ∷ boxes) (Err other) = ⊥
+LeavesFault march d planted (box ∷ boxes) result = OrNoMemory (IsFaultBenched march d planted box.tells) result
 
--- the checks behind the inputs, in their order, and the run
+-- the checks of the boxes and the places, in their order, and the run
+abbrev pub PlantsFault : List MarchElement → Description → Primitive → FaultShape → Boxes → Boxes → Result Done Refusal → Type 0
+PlantsFault march d prim shape boxes left =
+    Before boxes left (HasBox boxes) (λ _.
+    Before boxes left (FitsPlaces d shape) (λ _.
+    Before boxes left (FitsRoom d boxes) (λ _ outcome.
+    LeavesFault march d (planted_of prim shape) boxes outcome × LeavesFirst boxes left outcome)))
+
+-- the checks behind the inputs, in their order
 abbrev pub TestsFault : List MarchElement → Description → Primitive → FaultShape → Boxes → Boxes → Result Done Refusal → Type 0
 TestsFault march d prim shape boxes left =
     Before boxes left (FitsAggressor (is_some shape.aggressor) prim) (λ _.
     Before boxes left (FitsLength march d) (λ _.
-    Before boxes left (HasBox boxes) (λ _.
-    Before boxes left (FitsPlaces d shape) (λ _.
-    Before boxes left (FitsRoom d boxes) (λ _ outcome.
-    LeavesFault march d (planted_of prim shape) boxes outcome × LeavesFirst boxes left outcome)))))
+    PlantsFault march d prim shape boxes left))
 
--- the checks of `benchfault` in their order
-abbrev pub DecidesFault : Option Files → Boxes → Boxes → Words → FaultShape → Result Done Refusal → Type 0
-DecidesFault files boxes left words shape =
+-- the checks behind the command's own words, in their order
+abbrev pub RunsFault : Option Files → Boxes → Boxes → Words → FaultShape → Result Done Refusal → Type 0
+RunsFault files boxes left words shape =
     Before boxes left (InputMarch files words 1) (λ march.
     Before boxes left (InputMemory files words 2) (λ d.
     Before boxes left (GivesPrim (word words 3)) (λ prim.
     TestsFault march d prim shape boxes left)))
+
+-- the checks of `benchfault` in their order
+abbrev pub DecidesFault : Option Files → Boxes → Boxes → Words → Result Done Refusal → Type 0
+DecidesFault files boxes left words = Before boxes left (SaysOwn (IsFaultShape words)) (λ shape. RunsFault files boxes left words shape)
+
+-- ---- the row
+
+abbrev pub bench_fault_form : Form
+bench_fault_form = record { name = codes "benchfault"; count = 6; first = 1; last = 3 }
+
+abbrev pub bench_fault_row : Row
+bench_fault_row = record {
+  form = bench_fault_form;
+  says = λ words. (shape : FaultShape) × IsFaultShape words shape;
+  decides = λ files boxes left words outcome. DecidesFault files boxes left words outcome;
+  called_tell = λ boxes. FirstTells boxes;
+  settled = λ outputs. outputs;
+}

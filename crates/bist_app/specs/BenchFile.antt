@@ -1,31 +1,25 @@
 -- Trusted. The command `benchfile VERILOG MARCH MEMORY`: the module of a file against the first box. Its shape, its checks in their order, and what
 -- it leaves.
-use Rattle.std.specs.Prelude.{◌≡◌, ℕ, Bool, List, [], ◌∷◌, Option, Some, None, Result, Ok, Err, map}
+use Rattle.std.specs.Prelude.{◌≡◌, ℕ, Bool, List, [], ◌∷◌, Option, Some, None, Result, Ok, Err, map, codes}
 use Rattle.bist_host.specs.Files.{Files}
 use Rattle.verilog_tree.specs.Plain.{ModuleTree}
 use Rattle.verilog_tree.specs.Grammar.{Parenthesised}
 use Rattle.verilog_cycle.specs.Design.{registers_of}
 use Rattle.march_core.specs.March.{MarchElement}
 use Rattle.memory_desc.specs.Descriptions.{Description}
-use Rattle.self_test.specs.WrongPort.{wrong_port}
 use Rattle.word_device.specs.Boxes.{Tells}
 use Rattle.bench.specs.declared.ending.Seen.{Seen}
 use Rattle.bench.specs.Endings.{Runs}
 use Rattle.bist_endings.specs.declared.ending.Refusal.{Refusal}
-use Rattle.bist_endings.specs.declared.ending.VerilogRefusal.{VerilogRefusal}
 use Rattle.bist_endings.specs.Ending.{Done}
 use Rattle.bist_endings.specs.Words.{Words}
 use Rattle.bist_inputs.specs.Inputs.{InputMarch}
 use Rattle.bist_inputs.specs.Memories.{InputMemory}
 use Rattle.bist_inputs.specs.Designs.{InputModule}
-use Rattle.bist_app.specs.Vectors.{FitsLength}
-use Rattle.bist_app.specs.Bench.{Boxes, HasBox, FitsRoom, ready, benched_done, LeavesFirst, Before}
-
--- the ports are those of a self-test of the memory, in any order, or the first wrong one is named
-unfoldable pub HasPorts : Description → ModuleTree → Result (Unit {0}) Refusal → Type 0
-HasPorts d mo (Ok _) = wrong_port d mo.ports ≡ None
-HasPorts d mo (Err (Refusal.Verilog (VerilogRefusal.WrongPort name))) = wrong_port d mo.ports ≡ Some name.bytes
-HasPorts d mo (Err other) = ⊥
+use Rattle.bist_app.specs.Forms.{Form, Row}
+use Rattle.bist_app.specs.Shared.{Boxes, FirstTells, FitsLength, HasPorts, HasBox, FitsRoom, LeavesFirst, Before}
+use Rattle.bist_app.specs.Bench.{ready, benched_done}
+use Rattle.bist_endings.specs.Then.{OrNoMemory}
 
 -- each register of the module at 0
 abbrev pub zero_registers : ModuleTree → List ℕ
@@ -44,9 +38,7 @@ pub record IsFileRun (mo : ModuleTree) (march : List MarchElement) (d : Descript
 
 unfoldable pub LeavesBenchFile : ModuleTree → List MarchElement → Description → Boxes → Result Done Refusal → Type 0
 LeavesBenchFile mo march d [] result = ⊥
-LeavesBenchFile mo march d (box ∷ boxes) (Ok done) = IsFileRun mo march d (ready d box.tells) done
-LeavesBenchFile mo march d (box ∷ boxes) (Err Refusal.NoMemory) = Unit {0}
-LeavesBenchFile mo march d (box ∷ boxes) (Err other) = ⊥
+LeavesBenchFile mo march d (box ∷ boxes) result = OrNoMemory (IsFileRun mo march d (ready d box.tells)) result
 
 -- the checks behind the inputs, in their order, and the run
 abbrev pub TestsFile : ModuleTree → List MarchElement → Description → Boxes → Boxes → Result Done Refusal → Type 0
@@ -67,3 +59,17 @@ DecidesFileRun files boxes left words mo =
 -- the checks of `benchfile` in their order
 abbrev pub DecidesBenchFile : Option Files → Boxes → Boxes → Words → Result Done Refusal → Type 0
 DecidesBenchFile files boxes left words = Before boxes left (InputModule Parenthesised files words 1) (λ mo. DecidesFileRun files boxes left words mo)
+
+-- ---- the row
+
+abbrev pub bench_file_form : Form
+bench_file_form = record { name = codes "benchfile"; count = 4; first = 1; last = 4 }
+
+abbrev pub bench_file_row : Row
+bench_file_row = record {
+  form = bench_file_form;
+  says = λ words. Unit {0};
+  decides = λ files boxes left words outcome. DecidesBenchFile files boxes left words outcome;
+  called_tell = λ boxes. FirstTells boxes;
+  settled = λ outputs. outputs;
+}

@@ -5,7 +5,7 @@ use Rattle.memory_desc.specs.Descriptions.{Description}
 use Rattle.word_device.specs.Boxes.{Tells}
 use Rattle.bench.specs.declared.ending.Seen.{Seen}
 use Rattle.bench.specs.Laws.{IsWrongRead, IsSeenOf}
-use Rattle.bist_app.specs.Bench.{Boxes}
+use Rattle.bist_app.specs.Shared.{Boxes}
 use Rattle.bist_app.specs.BenchAll.{AreSeen, failing_of}
 
 -- a run beside a box that tells this at its beginning ended with `fail`, or without

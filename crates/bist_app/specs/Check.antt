@@ -10,13 +10,13 @@ use Rattle.port_check.specs.declared.answer.PortAnswer.{PortAnswer}
 use Rattle.port_check.specs.Answers.{IsAnswer}
 use Rattle.bist_endings.specs.declared.ending.Refusal.{Refusal}
 use Rattle.bist_endings.specs.Ending.{Done, numbered_line}
-use Rattle.bist_endings.specs.Then.{Then}
+use Rattle.bist_endings.specs.Then.{Then, OrNoMemory}
 use Rattle.bist_endings.specs.Words.{Words}
 use Rattle.bist_inputs.specs.Inputs.{InputMarch}
 use Rattle.bist_inputs.specs.Memories.{InputMemory}
 use Rattle.bist_inputs.specs.Designs.{InputModule}
-use Rattle.bist_app.specs.Vectors.{FitsLength}
-use Rattle.bist_app.specs.BenchFile.{HasPorts}
+use Rattle.bist_app.specs.Forms.{Form, Row}
+use Rattle.bist_app.specs.Shared.{FitsLength, HasPorts}
 
 -- some port isn't seen to be as the rule of the ports wants it
 abbrev pub is_amiss : PortAnswer → Bool
@@ -43,9 +43,7 @@ pub record IsChecked (mo : ModuleTree) (march : List MarchElement) (d : Descript
   pub done_is : done ≡ check_done answer
 
 unfoldable pub LeavesCheck : ModuleTree → List MarchElement → Description → Result Done Refusal → Type 0
-LeavesCheck mo march d (Ok done) = IsChecked mo march d done
-LeavesCheck mo march d (Err Refusal.NoMemory) = Unit {0}
-LeavesCheck mo march d (Err other) = ⊥
+LeavesCheck mo march d = OrNoMemory (IsChecked mo march d)
 
 -- the checks behind the inputs, in their order, and the open run
 abbrev pub ChecksRun : ModuleTree → List MarchElement → Description → Result Done Refusal → Type 0
@@ -64,3 +62,17 @@ DecidesRun files words mo =
 -- the checks of `check` in their order
 abbrev pub DecidesCheck : Option Files → Words → Result Done Refusal → Type 0
 DecidesCheck files words = Then (InputModule ByPrecedence files words 1) (λ mo. DecidesRun files words mo)
+
+-- ---- the row
+
+abbrev pub check_form : Form
+check_form = record { name = codes "check"; count = 4; first = 1; last = 4 }
+
+abbrev pub check_row : Row
+check_row = record {
+  form = check_form;
+  says = λ words. Unit {0};
+  decides = λ files boxes left words outcome. DecidesCheck files words outcome × (left ≡ boxes);
+  called_tell = λ boxes. Unit {0};
+  settled = λ outputs. outputs;
+}

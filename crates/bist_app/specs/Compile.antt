@@ -2,7 +2,7 @@
 -- what the program is for: the written bytes spell one module, which tests the described memory by the march whatever its
 -- registers hold at first and whatever words return; and the report says of each item of the list whether the march detects it in
 -- arrays of every size, or gives its least escape.
-use Rattle.std.specs.Prelude.{◌≡◌, ℕ, List, [], ◌∷◌, Option, Some, Result, Ok, Err}
+use Rattle.std.specs.Prelude.{◌≡◌, ℕ, List, [], ◌∷◌, Option, Some, Result, Ok, Err, codes, drop}
 use Rattle.bist_host.specs.Files.{Files}
 use Rattle.march_core.specs.March.{MarchElement}
 use Rattle.dynamic_core.specs.declared.item.Item.{Item}
@@ -12,11 +12,12 @@ use Rattle.verilog_tree.specs.Spells.{Spells}
 use Rattle.self_test.specs.SelfTest.{SelfTest}
 use Rattle.bist_endings.specs.declared.ending.Refusal.{Refusal}
 use Rattle.bist_endings.specs.Ending.{Done}
-use Rattle.bist_endings.specs.Then.{Then}
+use Rattle.bist_endings.specs.Then.{Then, OrNoMemory}
 use Rattle.bist_endings.specs.Words.{Words}
 use Rattle.bist_inputs.specs.Inputs.{InputMarch, InputList}
 use Rattle.bist_inputs.specs.Memories.{InputMemory}
 use Rattle.bist_app.specs.Reported.{Reports}
+use Rattle.bist_app.specs.Forms.{Form, Row}
 
 -- the bytes spell a module and no other, which is a self-test of the memory by the march
 pub record IsSelfTestText (march : List MarchElement) (d : Description) (text : List ℕ) : Type 0 where
@@ -35,9 +36,7 @@ pub record IsCompiled (march : List MarchElement) (d : Description) (items : Lis
   pub outputs : done.outputs ≡ (record { position = 4; bytes = text }) ∷ (record { position = 5; bytes = bytes }) ∷ []
 
 unfoldable pub LeavesCompile : List MarchElement → Description → List Item → Result Done Refusal → Type 0
-LeavesCompile march d items (Ok done) = IsCompiled march d items done
-LeavesCompile march d items (Err Refusal.NoMemory) = Unit {0}
-LeavesCompile march d items (Err other) = ⊥
+LeavesCompile march d items = OrNoMemory (IsCompiled march d items)
 
 -- the checks of `compile` in their order
 abbrev pub DecidesCompile : Option Files → Words → Result Done Refusal → Type 0
@@ -46,3 +45,18 @@ DecidesCompile files words =
     Then (InputMemory files words 2) (λ d.
     Then (InputList files words 3) (λ items.
     LeavesCompile march d items)))
+
+-- ---- the row
+
+abbrev pub compile_form : Form
+compile_form = record { name = codes "compile"; count = 6; first = 1; last = 6 }
+
+-- the text of the module is left open
+abbrev pub compile_row : Row
+compile_row = record {
+  form = compile_form;
+  says = λ words. Unit {0};
+  decides = λ files boxes left words outcome. DecidesCompile files words outcome × (left ≡ boxes);
+  called_tell = λ boxes. Unit {0};
+  settled = λ outputs. drop 1 outputs;
+}

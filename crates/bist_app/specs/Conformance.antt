@@ -14,9 +14,9 @@ use Rattle.port_check.specs.Compared.{Issues}
 use Rattle.bist_endings.specs.Words.{Words, word}
 use Rattle.bist_endings.specs.Ending.{found_status}
 use Rattle.bist_inputs.specs.Designs.{CanRun}
-use Rattle.bist_app.specs.Forms.{HasForm, check_form}
+use Rattle.bist_app.specs.Forms.{HasForm}
 use Rattle.bist_app.specs.Headline.{InputHas}
-use Rattle.bist_app.specs.Check.{is_amiss, check_line}
+use Rattle.bist_app.specs.Check.{check_form, is_amiss, check_line}
 
 -- The bytes of VERILOG spell a module and no other, which can be run and has the ports of a self-test; MARCH and MEMORY were read as a march
 -- and a memory. With status 0 the module issues the commands of the march, whatever its registers hold at first and whatever words return.

@@ -1,6 +1,10 @@
--- Trusted. The forms of the commands' words: a command's name, how many words there are with it, and which of them name files.
-use Rattle.std.specs.Prelude.{◌≡◌, ◌≢◌, ◌-◌, ℕ, List, [], ◌∷◌, All, length, take, drop, codes}
+-- Trusted. What a command is: a row of a table. The form of its words is a command's name, how many words there are with it, and which of them name files.
+use Rattle.std.specs.Prelude.{◌≡◌, ◌≢◌, ◌-◌, ℕ, List, [], ◌∷◌, All, Option, Result, length, take, drop}
+use Rattle.bist_host.specs.Files.{Files}
+use Rattle.bist_endings.specs.declared.ending.Refusal.{Refusal}
+use Rattle.bist_endings.specs.Ending.{Done, Written}
 use Rattle.bist_endings.specs.Words.{Words, word, ArePlain}
+use Rattle.bist_app.specs.Shared.{Boxes}
 
 -- the words that name files are those from `first` on, up to `last` without it
 pub record Form : Type 0 where
@@ -21,34 +25,12 @@ pub record HasForm (form : Form) (words : Words) : Type 0 where
   pub plain : ArePlain words
   pub files : AreDistinct (take (form.last - form.first) (drop form.first words))
 
--- ---- the forms, a row for each command
-
-abbrev pub sim_form : Form
-sim_form = record { name = codes "sim"; count = 8; first = 1; last = 2 }
-
-abbrev pub judge_form : Form
-judge_form = record { name = codes "judge"; count = 4; first = 1; last = 4 }
-
-abbrev pub vectors_form : Form
-vectors_form = record { name = codes "vectors"; count = 4; first = 1; last = 4 }
-
-abbrev pub compile_form : Form
-compile_form = record { name = codes "compile"; count = 6; first = 1; last = 6 }
-
-abbrev pub bench_form : Form
-bench_form = record { name = codes "bench"; count = 3; first = 1; last = 3 }
-
-abbrev pub bench_fault_form : Form
-bench_fault_form = record { name = codes "benchfault"; count = 6; first = 1; last = 3 }
-
-abbrev pub bench_file_form : Form
-bench_file_form = record { name = codes "benchfile"; count = 4; first = 1; last = 4 }
-
-abbrev pub bench_all_form : Form
-bench_all_form = record { name = codes "benchall"; count = 3; first = 1; last = 3 }
-
-abbrev pub check_form : Form
-check_form = record { name = codes "check"; count = 4; first = 1; last = 4 }
-
-abbrev pub make_form : Form
-make_form = record { name = codes "make"; count = 7; first = 2; last = 7 }
+-- What a command is: the form of its words, and what those of them say that are neither the name nor files; its checks over the files and
+-- the boxes, and what it leaves of files, lines and boxes; which boxes it calls, that these tell; and those of its files whose bytes the
+-- inputs determine.
+pub record Row : Type 1 where
+  pub form : Form
+  pub says : Words → Type 0
+  pub decides : Option Files → Boxes → Boxes → Words → Result Done Refusal → Type 0
+  pub called_tell : Boxes → Type 0
+  pub settled : List Written → List Written

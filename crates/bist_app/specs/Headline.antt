@@ -14,8 +14,9 @@ use Rattle.report.specs.Report.{IsMixedReport, DetectsOf, total_line}
 use Rattle.bist_endings.specs.Words.{Words, word}
 use Rattle.bist_endings.specs.Ending.{found_status}
 use Rattle.bist_inputs.specs.Inputs.{input_limit}
-use Rattle.bist_app.specs.Forms.{HasForm, compile_form}
+use Rattle.bist_app.specs.Forms.{HasForm}
 use Rattle.bist_app.specs.Reported.{SomeEscapes}
+use Rattle.bist_app.specs.Compile.{compile_form}
 
 -- the file of this name is there, and this holds of its bytes
 abbrev pub FileHas : Files → List ℕ → (List ℕ → Type 0) → Type 0

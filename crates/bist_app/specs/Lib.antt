@@ -1,3 +1,4 @@
+pub mod Shared
 pub mod Forms
 pub mod Sim
 pub mod Reported

@@ -1,6 +1,6 @@
 -- Trusted. The command `make NUMBER MARCH MEMORY FAULTS VERILOG REPORT`: its shape, and what it leaves. It reads no file: a number makes a
 -- large march, memory and list, which are written, compiled and counted.
-use Rattle.std.specs.Prelude.{◌≡◌, ◌≤◌, ◌++◌, ℕ, List, [], ◌∷◌, Some, Result, Ok, Err, length, codes, decimal}
+use Rattle.std.specs.Prelude.{◌≡◌, ◌≤◌, ◌++◌, ℕ, List, [], ◌∷◌, Some, Result, Ok, Err, length, codes, decimal, take, drop}
 use Rattle.march_core.specs.March.{MarchElement, all_ops}
 use Rattle.march_syntax.specs.Answers.{Reads as ReadsMarch}
 use Rattle.memory_desc.specs.Descriptions.{Description, IsMemory}
@@ -16,13 +16,13 @@ use Rattle.made_inputs.specs.MadeList.{made_text, made_items}
 use Rattle.bist_endings.specs.declared.ending.Refusal.{Refusal}
 use Rattle.bist_endings.specs.Ending.{Done, Written}
 use Rattle.bist_endings.specs.Words.{Words, word, IsNumber}
-use Rattle.bist_app.specs.Forms.{HasForm, make_form}
+use Rattle.bist_app.specs.Forms.{Form, Row}
 use Rattle.bist_app.specs.Compile.{IsSelfTestText}
 use Rattle.bist_app.specs.Reported.{Reports}
+use Rattle.bist_endings.specs.Then.{Then, OrNoMemory, SaysOwn}
 
--- the words have the form, and this is the number; a memory of two words more is the largest that there is
+-- this is the number that the words say; a memory of two words more is the largest that there is
 pub record IsMakeShape (words : Words) (number : ℕ) : Type 0 where
-  pub form : HasForm make_form words
   pub says : IsNumber (word words 1) number
   pub most : number ≤ 65534
 
@@ -70,6 +70,23 @@ abbrev pub IsMade : ℕ → Done → Type 0
 IsMade number done = (d : Description) × IsMadeMemory number d × IsMadeOf (made_march number) d made_items made_text done
 
 unfoldable pub LeavesMake : ℕ → Result Done Refusal → Type 0
-LeavesMake number (Ok done) = IsMade number done
-LeavesMake number (Err Refusal.NoMemory) = Unit {0}
-LeavesMake number (Err other) = ⊥
+LeavesMake number = OrNoMemory (IsMade number)
+
+-- the check of `make`, and what it leaves
+abbrev pub DecidesMake : Words → Result Done Refusal → Type 0
+DecidesMake words = Then (SaysOwn (IsMakeShape words)) LeavesMake
+
+-- ---- the row
+
+abbrev pub make_form : Form
+make_form = record { name = codes "make"; count = 7; first = 2; last = 7 }
+
+-- all files but the fourth, the text of the module, which is left open
+abbrev pub make_row : Row
+make_row = record {
+  form = make_form;
+  says = λ words. (number : ℕ) × IsMakeShape words number;
+  decides = λ files boxes left words outcome. DecidesMake words outcome × (left ≡ boxes);
+  called_tell = λ boxes. Unit {0};
+  settled = λ outputs. take 3 outputs ++ drop 4 outputs;
+}

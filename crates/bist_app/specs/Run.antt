@@ -1,5 +1,5 @@
 -- Trusted. The top call: what the words ask for, decided, and ended.
-use Rattle.std.specs.Prelude.{◌≡◌, ℕ, Option, Result, Err, MatchOption}
+use Rattle.std.specs.Prelude.{◌≡◌, ℕ, List, codes, bytes_eq, if◌then◌else◌, Option, Some, None, Result, Err, MatchOption}
 use Rattle.bist_host.specs.Files.{Files, HostState}
 use Rattle.bist_endings.specs.declared.ending.Refusal.{Refusal}
 use Rattle.bist_app.specs.declared.commands.Command.{Command}
@@ -7,30 +7,58 @@ use Rattle.bist_endings.specs.Ending.{Done}
 use Rattle.bist_endings.specs.Words.{Words}
 use Rattle.bist_inputs.specs.Inputs.{HasCause}
 use Rattle.bist_endings.specs.Conclude.{Ends}
-use Rattle.bist_app.specs.Forms.{HasForm, judge_form, vectors_form, compile_form, bench_form, bench_file_form, bench_all_form, check_form}
-use Rattle.bist_app.specs.Sim.{IsSimShape, DecidesSim}
-use Rattle.bist_app.specs.Judge.{DecidesJudge}
-use Rattle.bist_app.specs.Vectors.{DecidesVectors}
-use Rattle.bist_app.specs.Compile.{DecidesCompile}
-use Rattle.bist_app.specs.Make.{IsMakeShape, LeavesMake}
-use Rattle.bist_app.specs.Bench.{Boxes, DecidesBench}
-use Rattle.bist_app.specs.BenchFile.{DecidesBenchFile}
-use Rattle.bist_app.specs.BenchFault.{IsFaultShape, DecidesFault}
-use Rattle.bist_app.specs.BenchAll.{DecidesBenchAll}
-use Rattle.bist_app.specs.Check.{DecidesCheck}
+use Rattle.bist_app.specs.Shared.{Boxes}
+use Rattle.bist_app.specs.Forms.{HasForm, Row}
+use Rattle.bist_app.specs.Sim.{sim_row}
+use Rattle.bist_app.specs.Judge.{judge_row}
+use Rattle.bist_app.specs.Vectors.{vectors_row}
+use Rattle.bist_app.specs.Compile.{compile_row}
+use Rattle.bist_app.specs.Make.{make_row}
+use Rattle.bist_app.specs.Bench.{bench_row}
+use Rattle.bist_app.specs.BenchFile.{bench_file_row}
+use Rattle.bist_app.specs.BenchFault.{bench_fault_row}
+use Rattle.bist_app.specs.BenchAll.{bench_all_row}
+use Rattle.bist_app.specs.Check.{check_row}
 
--- the words have the shape of this command
+-- the table of the commands
+abbrev pub row_of : Command → Row
+row_of Command.Sim = sim_row
+row_of Command.Judge = judge_row
+row_of Command.Vectors = vectors_row
+row_of Command.Compile = compile_row
+row_of Command.Make = make_row
+row_of Command.Bench = bench_row
+row_of Command.BenchFile = bench_file_row
+row_of Command.BenchFault = bench_fault_row
+row_of Command.BenchAll = bench_all_row
+row_of Command.Check = check_row
+
+-- for private contracts alone: the command of a name
+abbrev pub command_named : List ℕ → Option Command
+command_named text =
+    if bytes_eq text (codes "sim") then Some Command.Sim else
+    if bytes_eq text (codes "judge") then Some Command.Judge else
+    if bytes_eq text (codes "vectors") then Some Command.Vectors else
+    if bytes_eq text (codes "compile") then Some Command.Compile else
+    if bytes_eq text (codes "make") then Some Command.Make else
+    if bytes_eq text (codes "bench") then Some Command.Bench else
+    if bytes_eq text (codes "benchfile") then Some Command.BenchFile else
+    if bytes_eq text (codes "benchfault") then Some Command.BenchFault else
+    if bytes_eq text (codes "benchall") then Some Command.BenchAll else
+    if bytes_eq text (codes "check") then Some Command.Check else
+    None
+
+-- the words have the form of this command
+abbrev pub IsFormed : Words → Command → Type 0
+IsFormed words command = HasForm (row_of command).form words
+
+-- the words have the form of no command
+abbrev pub HasNoForm : Words → Type 0
+HasNoForm words = (command : Command) → IsFormed words command → ⊥
+
+-- the words have the shape of this command: its form, and its own words say something
 abbrev pub HasShape : Words → Command → Type 0
-HasShape words (Command.Sim shape) = IsSimShape words shape
-HasShape words Command.Judge = HasForm judge_form words
-HasShape words Command.Vectors = HasForm vectors_form words
-HasShape words Command.Compile = HasForm compile_form words
-HasShape words Command.Bench = HasForm bench_form words
-HasShape words Command.BenchFile = HasForm bench_file_form words
-HasShape words (Command.Make number) = IsMakeShape words number
-HasShape words (Command.BenchFault shape) = IsFaultShape words shape
-HasShape words Command.BenchAll = HasForm bench_all_form words
-HasShape words Command.Check = HasForm check_form words
+HasShape words command = IsFormed words command × (row_of command).says words
 
 -- the words have no shape
 abbrev pub HasNoShape : Words → Type 0
@@ -38,23 +66,14 @@ HasNoShape words = (command : Command) → HasShape words command → ⊥
 
 -- the checks of this command, and what it leaves of files, lines and boxes
 abbrev pub DecidesCommand : Option Files → Boxes → Boxes → Words → Command → Result Done Refusal → Type 0
-DecidesCommand files boxes left words (Command.Sim shape) outcome = DecidesSim files words shape outcome × (left ≡ boxes)
-DecidesCommand files boxes left words Command.Judge outcome = DecidesJudge files words outcome × (left ≡ boxes)
-DecidesCommand files boxes left words Command.Vectors outcome = DecidesVectors files words outcome × (left ≡ boxes)
-DecidesCommand files boxes left words Command.Compile outcome = DecidesCompile files words outcome × (left ≡ boxes)
-DecidesCommand files boxes left words Command.Bench outcome = DecidesBench files boxes left words outcome
-DecidesCommand files boxes left words Command.BenchFile outcome = DecidesBenchFile files boxes left words outcome
-DecidesCommand files boxes left words (Command.Make number) outcome = LeavesMake number outcome × (left ≡ boxes)
-DecidesCommand files boxes left words (Command.BenchFault shape) outcome = DecidesFault files boxes left words shape outcome
-DecidesCommand files boxes left words Command.BenchAll outcome = DecidesBenchAll files boxes left words outcome
-DecidesCommand files boxes left words Command.Check outcome = DecidesCheck files words outcome × (left ≡ boxes)
+DecidesCommand files boxes left words command outcome = (row_of command).decides files boxes left words outcome
 
--- the check of the words, and then the command's
+-- the check of the words' form, and then the command's: the first of them is of what its own words say
 abbrev pub Decides : Option Files → Boxes → Boxes → Words → Result Done Refusal → Type 0
 Decides files boxes left words outcome =
     (command : Option Command) × MatchOption command
-    (HasNoShape words × (outcome ≡ Err Refusal.Usage) × (left ≡ boxes))
-    (λ command. HasShape words command × DecidesCommand files boxes left words command outcome)
+    (HasNoForm words × (outcome ≡ Err Refusal.Usage) × (left ≡ boxes))
+    (λ command. IsFormed words command × DecidesCommand files boxes left words command outcome)
 
 -- what a run answers and leaves
 abbrev pub Runs : Words → Boxes → Boxes → HostState → HostState → ℕ → Type 0

@@ -13,10 +13,11 @@ use Rattle.bist_endings.specs.declared.ending.Refusal.{Refusal}
 use Rattle.bist_endings.specs.declared.ending.Misfit.{Misfit}
 use Rattle.bist_app.specs.declared.sim.SimShape.{SimShape}
 use Rattle.bist_endings.specs.Ending.{Done}
-use Rattle.bist_endings.specs.Then.{Then}
+use Rattle.bist_endings.specs.Then.{Then, OrNoMemory, SaysOwn}
 use Rattle.bist_endings.specs.Words.{Words, word, IsNumber}
 use Rattle.bist_inputs.specs.Inputs.{InputMarch, GivesPrim}
-use Rattle.bist_app.specs.Forms.{HasForm, sim_form}
+use Rattle.bist_app.specs.Forms.{Form, Row}
+use Rattle.bist_app.specs.Shared.{FitsAggressor}
 
 -- a digit 0 or 1
 abbrev pub IsBit : ℕ → Type 0
@@ -35,9 +36,8 @@ IsAggressorWord text size victim (Some cell) = IsNumber text cell × (cell < siz
 abbrev pub places_of : SimShape → Places
 places_of shape = record { agg = shape.aggressor; vic = shape.victim }
 
--- the words have the form, and the numbers are what they say
+-- the numbers are what the words say
 pub record IsSimShape (words : Words) (shape : SimShape) : Type 0 where
-  pub form : HasForm sim_form words
   pub size : IsNumber (word words 3) shape.size
   pub size_least : 2 ≤ shape.size
   pub size_most : shape.size ≤ 4096
@@ -67,12 +67,6 @@ FitsDirections letters march (Ok _) = IsTrue (is_direction march (directions_of_
 FitsDirections letters march (Err (Refusal.Misfit Misfit.Directions)) = IsTrue (is_direction march (directions_of_letters letters)) → ⊥
 FitsDirections letters march (Err other) = ⊥
 
--- an aggressor is given exactly for a primitive of two cells
-unfoldable pub FitsAggressor : Bool → Primitive → Result (Unit {0}) Refusal → Type 0
-FitsAggressor given prim (Ok _) = given ≡ has_aggressor prim
-FitsAggressor given prim (Err (Refusal.Misfit Misfit.Aggressor)) = given ≢ has_aggressor prim
-FitsAggressor given prim (Err other) = ⊥
-
 -- the first read that differs in a run on this content, or none where none does
 abbrev pub FirstDiffers : List MarchElement → List Direction → Primitive → Places → List Bool → Option Miss → Type 0
 FirstDiffers march directions prim at content None = IsCaught march directions prim at content → ⊥
@@ -92,17 +86,36 @@ abbrev pub sim_done : Option Miss → Done
 sim_done miss = record { found = is_some miss; outputs = []; line = sim_line miss }
 
 -- the run in these places, from the content of the digits, in the directions of the letters
-unfoldable pub LeavesSim : List MarchElement → Primitive → Places → List ℕ → List ℕ → Result Done Refusal → Type 0
-LeavesSim march prim at digits letters (Ok done) =
+abbrev pub IsSimulated : List MarchElement → Primitive → Places → List ℕ → List ℕ → Done → Type 0
+IsSimulated march prim at digits letters done =
     (miss : Option Miss) × FirstDiffers march (directions_of_letters letters) prim at (content_of digits) miss × (done ≡ sim_done miss)
-LeavesSim march prim at digits letters (Err Refusal.NoMemory) = Unit {0}
-LeavesSim march prim at digits letters (Err other) = ⊥
 
--- the checks of `sim` in their order
-abbrev pub DecidesSim : Option Files → Words → SimShape → Result Done Refusal → Type 0
-DecidesSim files words shape =
+unfoldable pub LeavesSim : List MarchElement → Primitive → Places → List ℕ → List ℕ → Result Done Refusal → Type 0
+LeavesSim march prim at digits letters = OrNoMemory (IsSimulated march prim at digits letters)
+
+-- the checks behind the command's own words, in their order
+abbrev pub RunsSim : Option Files → Words → SimShape → Result Done Refusal → Type 0
+RunsSim files words shape =
     Then (InputMarch files words 1) (λ march.
     Then (GivesPrim (word words 2)) (λ prim.
     Then (FitsAggressor (is_some shape.aggressor) prim) (λ _.
     Then (FitsDirections (word words 7) march) (λ _.
     LeavesSim march prim (places_of shape) (word words 4) (word words 7)))))
+
+-- the checks of `sim` in their order
+abbrev pub DecidesSim : Option Files → Words → Result Done Refusal → Type 0
+DecidesSim files words = Then (SaysOwn (IsSimShape words)) (RunsSim files words)
+
+-- ---- the row
+
+abbrev pub sim_form : Form
+sim_form = record { name = codes "sim"; count = 8; first = 1; last = 2 }
+
+abbrev pub sim_row : Row
+sim_row = record {
+  form = sim_form;
+  says = λ words. (shape : SimShape) × IsSimShape words shape;
+  decides = λ files boxes left words outcome. DecidesSim files words outcome × (left ≡ boxes);
+  called_tell = λ boxes. Unit {0};
+  settled = λ outputs. outputs;
+}

@@ -7,19 +7,14 @@ use Rattle.march_core.specs.March.{MarchElement}
 use Rattle.memory_desc.specs.Descriptions.{Description}
 use Rattle.word_march.specs.declared.operations.PortOp.{PortOp}
 use Rattle.word_march.specs.Commands.{port_ops, command_count}
-use Rattle.self_test.specs.Refusals.{IsShort, IsTooLong}
 use Rattle.bist_endings.specs.declared.ending.Refusal.{Refusal}
 use Rattle.bist_endings.specs.Ending.{Done}
-use Rattle.bist_endings.specs.Then.{Then}
+use Rattle.bist_endings.specs.Then.{Then, OrNoMemory}
 use Rattle.bist_endings.specs.Words.{Words}
 use Rattle.bist_inputs.specs.Inputs.{InputMarch}
 use Rattle.bist_inputs.specs.Memories.{InputMemory}
-
--- the test isn't too long
-unfoldable pub FitsLength : List MarchElement → Description → Result (Unit {0}) Refusal → Type 0
-FitsLength march d (Ok _) = IsShort march d
-FitsLength march d (Err (Refusal.TooLong number)) = IsTooLong march d number
-FitsLength march d (Err other) = ⊥
+use Rattle.bist_app.specs.Forms.{Form, Row}
+use Rattle.bist_app.specs.Shared.{FitsLength}
 
 abbrev pub kind_text : Bool → List ℕ
 kind_text true = codes "w "
@@ -44,9 +39,7 @@ vectors_done march d = record {
 }
 
 unfoldable pub LeavesVectors : List MarchElement → Description → Result Done Refusal → Type 0
-LeavesVectors march d (Ok done) = done ≡ vectors_done march d
-LeavesVectors march d (Err Refusal.NoMemory) = Unit {0}
-LeavesVectors march d (Err other) = ⊥
+LeavesVectors march d = OrNoMemory (λ done. done ≡ vectors_done march d)
 
 -- the checks of `vectors` in their order
 abbrev pub DecidesVectors : Option Files → Words → Result Done Refusal → Type 0
@@ -55,3 +48,17 @@ DecidesVectors files words =
     Then (InputMemory files words 2) (λ d.
     Then (FitsLength march d) (λ _.
     LeavesVectors march d)))
+
+-- ---- the row
+
+abbrev pub vectors_form : Form
+vectors_form = record { name = codes "vectors"; count = 4; first = 1; last = 4 }
+
+abbrev pub vectors_row : Row
+vectors_row = record {
+  form = vectors_form;
+  says = λ words. Unit {0};
+  decides = λ files boxes left words outcome. DecidesVectors files words outcome × (left ≡ boxes);
+  called_tell = λ boxes. Unit {0};
+  settled = λ outputs. outputs;
+}

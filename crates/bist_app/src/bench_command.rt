@@ -5,9 +5,10 @@ ghost use Rattle.bist_host.specs.Files.{OnlyReads};
 ghost use Rattle.bist_endings.specs.Ending.{plain, done_of};
 ghost use Rattle.bist_endings.specs.Conclude.{NamesWords};
 ghost use Rattle.bist_inputs.specs.Inputs.{HasCause, IsOwnRefusal};
-ghost use Rattle.bist_app.specs.Forms.{HasForm, bench_form};
+ghost use Rattle.bist_app.specs.Shared.{FirstHasRoom, LeavesFirst};
+ghost use Rattle.bist_app.specs.Forms.{HasForm};
 ghost use Rattle.self_test.specs.Refusals.{IsShort};
-ghost use Rattle.bist_app.specs.Bench.{FirstHasRoom, LeavesBench, LeavesFirst, DecidesBench};
+ghost use Rattle.bist_app.specs.Bench.{LeavesBench, TestsBench, DecidesBench, bench_form};
 
 use crate::benching::bench_first;
 use crate::boxes::{fits_room, has_box};
@@ -45,7 +46,25 @@ fn plan_bench(
     }
 }
 
+/// The checks behind the inputs, and the run.
+fn test_bench(
+    alloc: Global,
+    march: &March,
+    memory: &Memory,
+    devices: &mut Vec<Box<dyn Device>>,
+) -> Result<Plan, Refusal>
+    ensures own { IfErr result IsOwnRefusal }
+    ensures answer { TestsBench march.now memory.now (map (λ b. told b) devices.old.items) (map (λ b. told b) devices.new.items) (plain result) }
+    ensures outputs { IfOk result (λ plan. (done_of plan).outputs ≡ []) }
+{
+    fit_length(march, memory)?;
+    has_box(devices)?;
+    fits_room(devices, memory)?;
+    plan_bench(alloc, march, memory, devices)
+}
+
 /// Runs the self-test of a memory by a march against the first box.
+#[tactic(auto, using(crate::proofs::Causes::own_cause))]
 pub fn decide_bench<H: Host>(
     alloc: Global,
     words: &[&str],
@@ -60,8 +79,5 @@ pub fn decide_bench<H: Host>(
 {
     let march = read_march_input(host, words, 1)?;
     let memory = read_memory_input(host, words, 2)?;
-    fit_length(&march, &memory)?;
-    has_box(devices)?;
-    fits_room(devices, &memory)?;
-    plan_bench(alloc, &march, &memory, devices)
+    test_bench(alloc, &march, &memory, devices)
 }

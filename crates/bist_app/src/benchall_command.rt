@@ -5,9 +5,9 @@ ghost use Rattle.bist_host.specs.Files.{OnlyReads};
 ghost use Rattle.bist_endings.specs.Ending.{plain, done_of};
 ghost use Rattle.bist_endings.specs.Conclude.{NamesWords};
 ghost use Rattle.bist_inputs.specs.Inputs.{HasCause, IsOwnRefusal};
-ghost use Rattle.bist_app.specs.Forms.{HasForm, bench_all_form};
+ghost use Rattle.bist_app.specs.Forms.{HasForm};
 ghost use Rattle.self_test.specs.Refusals.{IsShort};
-ghost use Rattle.bist_app.specs.BenchAll.{HaveRoom, FitsRooms, LeavesAll, DecidesBenchAll, LeavesNone};
+ghost use Rattle.bist_app.specs.BenchAll.{HaveRoom, FitsRooms, LeavesAll, TestsAll, DecidesBenchAll, LeavesNone, bench_all_form};
 ghost use Rattle.bist_app.specs.BenchedBoxes.{SmallRoom};
 
 use crate::benching_all::bench_all;
@@ -74,6 +74,23 @@ fn plan_all(
     }
 }
 
+/// The checks behind the inputs, and the runs.
+fn test_all(
+    alloc: Global,
+    march: &March,
+    memory: &Memory,
+    devices: &mut Vec<Box<dyn Device>>,
+) -> Result<Plan, Refusal>
+    ensures own { IfErr result IsOwnRefusal }
+    ensures answer { TestsAll march.now memory.now (map (λ b. told b) devices.old.items) (map (λ b. told b) devices.new.items) (plain result) }
+    ensures outputs { IfOk result (λ plan. (done_of plan).outputs ≡ []) }
+{
+    fit_length(march, memory)?;
+    has_box(devices)?;
+    fit_rooms(devices, memory)?;
+    plan_all(alloc, march, memory, devices)
+}
+
 /// Runs the self-test of a memory by a march against each box.
 #[tactic(auto, using(crate::proofs::Causes::own_cause))]
 pub fn decide_bench_all<H: Host>(
@@ -90,8 +107,5 @@ pub fn decide_bench_all<H: Host>(
 {
     let march = read_march_input(host, words, 1)?;
     let memory = read_memory_input(host, words, 2)?;
-    fit_length(&march, &memory)?;
-    has_box(devices)?;
-    fit_rooms(devices, &memory)?;
-    plan_all(alloc, &march, &memory, devices)
+    test_all(alloc, &march, &memory, devices)
 }

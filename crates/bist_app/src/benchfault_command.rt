@@ -10,18 +10,19 @@ ghost use Rattle.bist_inputs.specs.Inputs.{HasCause, IsOwnRefusal};
 ghost use Rattle.bist_app.specs.declared.benchfault_command.NamedPlace.{NamedPlace};
 ghost use Rattle.bist_app.specs.declared.benchfault_command.FaultShape.{FaultShape};
 ghost use Rattle.self_test.specs.Refusals.{IsShort};
-ghost use Rattle.bist_app.specs.Bench.{FirstHasRoom, LeavesFirst};
-ghost use Rattle.bist_app.specs.BenchFault.{IsPlaceWord, IsAggressorPlace, IsFaultShape, IsWithin, IsApart, ArePlaces, FitsPlaces, place_in, aggressor_in, planted_of, LeavesFault, TestsFault, DecidesFault};
+ghost use Rattle.bist_app.specs.Shared.{FirstHasRoom, LeavesFirst};
+ghost use Rattle.bist_app.specs.BenchFault.{IsPlaceWord, IsAggressorPlace, IsFaultShape, IsWithin, IsApart, ArePlaces, FitsPlaces, place_in, aggressor_in, planted_of, LeavesFault, PlantsFault, TestsFault, RunsFault, DecidesFault, bench_fault_form};
+ghost use Rattle.bist_app.specs.Forms.{HasForm};
+ghost use Rattle.bist_endings.specs.Then.{SaysOwn};
 
 use crate::boxes::{fits_room, has_box};
-use crate::forms::has_form;
 use crate::planting::{answers_wrong, bench_planted};
-use crate::sim::fit_aggressor;
+use crate::sim::{fit_aggressor, give_word};
 use crate::vectors::fit_length;
 use bist_bits::NoMemory;
 use bist_endings::{DeviceRefusal, Plan, Refusal, number_of};
 use bist_host::Host;
-use bist_inputs::{give_prim, read_march_input, read_memory_input};
+use bist_inputs::{read_march_input, read_memory_input};
 use fault_core::Prim;
 use march_core::March;
 use memory_desc::Memory;
@@ -63,16 +64,26 @@ fn aggressor_place(text: &str) -> Option<Option<NamedPlace>>
     Some(Some(place))
 }
 
-/// What the words say, where they have the shape of `benchfault`.
-pub fn fault_shape(words: &[&str]) -> Option<FaultShape>
+/// What the words say beside their texts, if they do.
+fn fault_shape(words: &[&str]) -> Option<FaultShape>
+    requires { HasForm bench_fault_form words.now }
     ensures { MatchOption result ((shape : FaultShape) → IsFaultShape words.now shape → ⊥) (λ shape. IsFaultShape words.now shape) }
 {
-    if !has_form(words, "benchfault", 6, 1, 3) {
-        return None;
-    }
     let aggressor = aggressor_place(words[4])?;
     let victim = place_of(words[5])?;
     Some(FaultShape { aggressor, victim })
+}
+
+/// What the words say, which are refused where they don't.
+fn own_words(words: &[&str]) -> Result<FaultShape, Refusal>
+    requires { HasForm bench_fault_form words.now }
+    ensures answer { SaysOwn (IsFaultShape words.now) result }
+    ensures own { IfErr result IsOwnRefusal }
+{
+    match fault_shape(words) {
+        Some(shape) => Ok(shape),
+        None => Err(Refusal::Usage),
+    }
 }
 
 fn is_within(place: NamedPlace, memory: &Memory) -> bool
@@ -167,6 +178,28 @@ fn plan_fault(
     }
 }
 
+/// The checks of the boxes and the places, and the run.
+fn plant_fault(
+    alloc: Global,
+    march: &March,
+    memory: &Memory,
+    prim: &Prim,
+    shape: FaultShape,
+    devices: &mut Vec<Box<dyn Device>>,
+) -> Result<Plan, Refusal>
+    requires short { IsShort march.now memory.now }
+    requires given { is_some shape.aggressor ≡ has_aggressor prim.now }
+    ensures own { IfErr result IsOwnRefusal }
+    ensures answer { PlantsFault march.now memory.now prim.now shape (map (λ b. told b) devices.old.items) (map (λ b. told b) devices.new.items) (plain result) }
+    ensures outputs { IfOk result (λ plan. (done_of plan).outputs ≡ []) }
+{
+    has_box(devices)?;
+    fit_places(shape, memory)?;
+    fits_room(devices, memory)?;
+    let planted = planted_for(prim, shape, memory);
+    plan_fault(alloc, march, memory, &planted, devices)
+}
+
 /// The checks behind the inputs, and the run.
 fn test_fault(
     alloc: Global,
@@ -182,11 +215,28 @@ fn test_fault(
 {
     fit_aggressor(shape.aggressor.is_some(), prim)?;
     fit_length(march, memory)?;
-    has_box(devices)?;
-    fit_places(shape, memory)?;
-    fits_room(devices, memory)?;
-    let planted = planted_for(prim, shape, memory);
-    plan_fault(alloc, march, memory, &planted, devices)
+    plant_fault(alloc, march, memory, prim, shape, devices)
+}
+
+/// Runs the self-test, with the instance in the places that the words say.
+#[tactic(auto, using(crate::proofs::Causes::own_cause))]
+fn run_fault<H: Host>(
+    alloc: Global,
+    words: &[&str],
+    shape: FaultShape,
+    host: &mut H,
+    devices: &mut Vec<Box<dyn Device>>,
+) -> Result<Plan, Refusal>
+    requires { HasForm bench_fault_form words.now }
+    ensures kept { OnlyReads (H.state host.old) (H.state host.new) }
+    ensures outputs { IfOk result (λ plan. NamesWords words.now (done_of plan).outputs) }
+    ensures answer { RunsFault (H.state host.old).files (map (λ b. told b) devices.old.items) (map (λ b. told b) devices.new.items) words.now shape (plain result) }
+    ensures cause { HasCause (H.state host.old) (H.state host.new) result }
+{
+    let march = read_march_input(host, words, 1)?;
+    let memory = read_memory_input(host, words, 2)?;
+    let prim = give_word(words, 3)?;
+    test_fault(alloc, &march, &memory, &prim, shape, devices)
 }
 
 /// Runs the self-test of a memory by a march against the first box, in which an instance of a primitive is planted.
@@ -194,18 +244,15 @@ fn test_fault(
 pub fn decide_fault<H: Host>(
     alloc: Global,
     words: &[&str],
-    shape: FaultShape,
     host: &mut H,
     devices: &mut Vec<Box<dyn Device>>,
 ) -> Result<Plan, Refusal>
-    requires { IsFaultShape words.now shape }
+    requires { HasForm bench_fault_form words.now }
     ensures kept { OnlyReads (H.state host.old) (H.state host.new) }
     ensures outputs { IfOk result (λ plan. NamesWords words.now (done_of plan).outputs) }
-    ensures answer { DecidesFault (H.state host.old).files (map (λ b. told b) devices.old.items) (map (λ b. told b) devices.new.items) words.now shape (plain result) }
+    ensures answer { DecidesFault (H.state host.old).files (map (λ b. told b) devices.old.items) (map (λ b. told b) devices.new.items) words.now (plain result) }
     ensures cause { HasCause (H.state host.old) (H.state host.new) result }
 {
-    let march = read_march_input(host, words, 1)?;
-    let memory = read_memory_input(host, words, 2)?;
-    let prim = give_prim(words[3].as_bytes())?;
-    test_fault(alloc, &march, &memory, &prim, shape, devices)
+    let shape = own_words(words)?;
+    run_fault(alloc, words, shape, host, devices)
 }

@@ -8,10 +8,11 @@ ghost use Rattle.bist_endings.specs.Ending.{plain, done_of};
 ghost use Rattle.bist_endings.specs.Conclude.{NamesWords};
 ghost use Rattle.bist_inputs.specs.Inputs.{HasCause, IsOwnRefusal};
 ghost use Rattle.self_test.specs.WrongPort.{wrong_port};
-ghost use Rattle.bist_app.specs.Forms.{HasForm, bench_file_form};
+ghost use Rattle.bist_app.specs.Shared.{FirstHasRoom, HasPorts, LeavesFirst};
+ghost use Rattle.bist_app.specs.Forms.{HasForm};
 ghost use Rattle.self_test.specs.Refusals.{IsShort};
-ghost use Rattle.bist_app.specs.Bench.{FirstHasRoom, LeavesFirst, ready};
-ghost use Rattle.bist_app.specs.BenchFile.{HasPorts, IsFileRun, LeavesBenchFile, TestsFile, DecidesFileRun, DecidesBenchFile, zero_registers};
+ghost use Rattle.bist_app.specs.Bench.{ready};
+ghost use Rattle.bist_app.specs.BenchFile.{IsFileRun, LeavesBenchFile, TestsFile, DecidesFileRun, DecidesBenchFile, zero_registers, bench_file_form};
 
 use crate::benching::end_plan;
 use crate::boxes::{fits_room, has_box, take_first};
@@ -29,7 +30,7 @@ use verilog_cycle::Design;
 use word_device::Device;
 
 /// Refuses ports that aren't those of a self-test of the memory.
-#[tactic(auto, unfolding(crate::specs::BenchFile::HasPorts))]
+#[tactic(auto, unfolding(crate::specs::Shared::HasPorts))]
 fn fit_ports(design: &Design, memory: &Memory) -> Result<(), Refusal>
     ensures answer { HasPorts memory.now design.now.tree result }
     ensures own { IfErr result IsOwnRefusal }

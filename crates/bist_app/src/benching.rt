@@ -12,7 +12,8 @@ ghost use Rattle.self_test.specs.SelfTest.{SelfTest};
 ghost use Rattle.word_device.specs.Ports.{shape_of as memory_shape};
 ghost use Rattle.bist_endings.specs.Ending.{done_of};
 ghost use Rattle.self_test.specs.Refusals.{IsShort};
-ghost use Rattle.bist_app.specs.Bench.{FirstHasRoom, done_text, seen_text, bench_line, benched_done, AreWords, IsRun, ready};
+ghost use Rattle.bist_app.specs.Shared.{FirstHasRoom};
+ghost use Rattle.bist_app.specs.Bench.{done_text, seen_text, bench_line, benched_done, AreWords, IsRun, ready};
 
 use crate::boxes::take_first;
 use bench::{BenchEnd, Seen, bench};

@@ -5,7 +5,8 @@ ghost use Rattle.word_device.specs.declared.device.DeviceFault.{DeviceFault};
 ghost use Rattle.word_device.specs.Ports.{shape_of as memory_shape};
 ghost use Rattle.word_device.specs.Boxes.{after_fit, after_fill, IsShape};
 ghost use Rattle.bist_inputs.specs.Inputs.{IsOwnRefusal};
-ghost use Rattle.bist_app.specs.Bench.{HasBox, FirstHasRoom, FitsRoom, ready};
+ghost use Rattle.bist_app.specs.Shared.{FirstHasRoom, FitsRoom, HasBox};
+ghost use Rattle.bist_app.specs.Bench.{ready};
 
 use bist_bits::NoMemory;
 use bist_endings::{DeviceRefusal, Refusal};
@@ -13,7 +14,7 @@ use memory_desc::Memory;
 use word_device::{Device, DeviceFault, Shape, shape_of};
 
 /// Refuses an empty list.
-#[tactic(auto, unfolding(crate::specs::Bench::HasBox))]
+#[tactic(auto, unfolding(crate::specs::Shared::HasBox))]
 pub fn has_box(devices: &[Box<dyn Device>]) -> Result<(), Refusal>
     ensures answer { HasBox (map (λ b. told b) devices.now) result }
     ensures own { IfErr result IsOwnRefusal }
@@ -33,7 +34,7 @@ pub fn room_of_box(device: &Box<dyn Device>) -> u32
 }
 
 /// Refuses a first box with room for fewer words than the memory has.
-#[tactic(auto, unfolding(crate::specs::Bench::FitsRoom))]
+#[tactic(auto, unfolding(crate::specs::Shared::FitsRoom))]
 pub fn fits_room(devices: &[Box<dyn Device>], memory: &Memory) -> Result<(), Refusal>
     requires some { 0 < length devices.now }
     ensures answer { FitsRoom memory.now (map (λ b. told b) devices.now) result }

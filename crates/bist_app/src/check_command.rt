@@ -10,8 +10,8 @@ ghost use Rattle.port_check.specs.Refusals.{Refuses};
 ghost use Rattle.bist_endings.specs.Ending.{plain, done_of};
 ghost use Rattle.bist_endings.specs.Conclude.{NamesWords};
 ghost use Rattle.bist_inputs.specs.Inputs.{HasCause, IsOwnRefusal};
-ghost use Rattle.bist_app.specs.Forms.{HasForm, check_form};
-ghost use Rattle.bist_app.specs.Check.{is_amiss, at_text, check_line, check_done, ChecksRun, DecidesRun, DecidesCheck};
+ghost use Rattle.bist_app.specs.Forms.{HasForm};
+ghost use Rattle.bist_app.specs.Check.{is_amiss, at_text, check_line, check_done, ChecksRun, DecidesRun, DecidesCheck, check_form};
 
 use bist_endings::{Plan, Refusal, VerilogRefusal, numbered, push_number};
 use bist_host::Host;

@@ -1,59 +1,121 @@
-ghost use Rattle.std.specs.Prelude.{MatchOption};
-ghost use Rattle.bist_app.specs.Run.{HasShape, HasNoShape};
+//! The table of the commands: which there are, the name and the form of each, and the function that decides it.
 
-use crate::benchfault_command::{FaultShape, fault_shape};
+ghost use Rattle.std.specs.Prelude.{◌≡◌, ◌↔◌, IsTrue, IfOk, MatchOption, codes, map};
+ghost use Rattle.bist_host.specs.Files.{OnlyReads};
+ghost use Rattle.bist_endings.specs.Ending.{plain, done_of};
+ghost use Rattle.bist_endings.specs.Conclude.{NamesWords};
+ghost use Rattle.bist_endings.specs.Words.{word};
+ghost use Rattle.bist_inputs.specs.Inputs.{HasCause};
+ghost use Rattle.bist_app.specs.Run.{command_named, IsFormed, HasNoForm, Decides};
+
+use crate::bench_command::decide_bench;
+use crate::benchall_command::decide_bench_all;
+use crate::benchfault_command::decide_fault;
+use crate::benchfile_command::decide_benchfile;
+use crate::check_command::decide_check;
+use crate::compile::decide_compile;
 use crate::forms::has_form;
-use crate::make::make_number;
-use crate::sim::{SimShape, sim_shape};
+use crate::judge::decide_judge;
+use crate::make::decide_make;
+use crate::sim::decide_sim;
+use crate::vectors::decide_vectors;
+use bist_endings::{Plan, Refusal};
+use bist_host::Host;
+use std::alloc::Global;
+use word_device::Device;
 
 /// What the words ask for.
 #[derive(Clone, Copy)]
 pub enum Command {
-    Sim(SimShape),
+    Sim,
     Judge,
     Vectors,
     Compile,
+    Make,
     Bench,
-    BenchFault(FaultShape),
     BenchFile,
+    BenchFault,
     BenchAll,
     Check,
-    Make(u16),
 }
 
-/// The command whose shape the words have.
-pub fn command_of(words: &[&str]) -> Option<Command>
-    ensures { MatchOption result (HasNoShape words.now) (λ command. HasShape words.now command) }
+/// The command of a name.
+fn command_named(name: &str) -> Option<Command>
+    ensures { result ≡ command_named name.now }
 {
-    if let Some(shape) = sim_shape(words) {
-        return Some(Command::Sim(shape));
+    match name {
+        "sim" => Some(Command::Sim),
+        "judge" => Some(Command::Judge),
+        "vectors" => Some(Command::Vectors),
+        "compile" => Some(Command::Compile),
+        "make" => Some(Command::Make),
+        "bench" => Some(Command::Bench),
+        "benchfile" => Some(Command::BenchFile),
+        "benchfault" => Some(Command::BenchFault),
+        "benchall" => Some(Command::BenchAll),
+        "check" => Some(Command::Check),
+        _ => None,
     }
-    if has_form(words, "judge", 4, 1, 4) {
-        return Some(Command::Judge);
+}
+
+/// Whether the words have the form of a command.
+fn is_formed(words: &[&str], command: Command) -> bool
+    ensures { IsTrue result ↔ IsFormed words.now command }
+{
+    match command {
+        Command::Sim => has_form(words, "sim", 8, 1, 2),
+        Command::Judge => has_form(words, "judge", 4, 1, 4),
+        Command::Vectors => has_form(words, "vectors", 4, 1, 4),
+        Command::Compile => has_form(words, "compile", 6, 1, 6),
+        Command::Make => has_form(words, "make", 7, 2, 7),
+        Command::Bench => has_form(words, "bench", 3, 1, 3),
+        Command::BenchFile => has_form(words, "benchfile", 4, 1, 4),
+        Command::BenchFault => has_form(words, "benchfault", 6, 1, 3),
+        Command::BenchAll => has_form(words, "benchall", 3, 1, 3),
+        Command::Check => has_form(words, "check", 4, 1, 4),
     }
-    if has_form(words, "vectors", 4, 1, 4) {
-        return Some(Command::Vectors);
+}
+
+/// The command whose form the words have.
+#[tactic(auto, using(crate::proofs::Shapes::none_named, crate::proofs::Shapes::none_formed))]
+fn command_of(words: &[&str]) -> Option<Command>
+    ensures { MatchOption result (HasNoForm words.now) (λ command. IsFormed words.now command) }
+{
+    if words.is_empty() {
+        return None;
     }
-    if has_form(words, "compile", 6, 1, 6) {
-        return Some(Command::Compile);
+    let command = command_named(words[0])?;
+    if !is_formed(words, command) {
+        return None;
     }
-    if has_form(words, "bench", 3, 1, 3) {
-        return Some(Command::Bench);
+    Some(command)
+}
+
+/// What the command leaves, or why it is refused.
+#[tactic(auto, using(crate::proofs::Causes::own_cause))]
+pub fn decide<H: Host>(
+    alloc: Global,
+    words: &[&str],
+    host: &mut H,
+    devices: &mut Vec<Box<dyn Device>>,
+) -> Result<Plan, Refusal>
+    ensures kept { OnlyReads (H.state host.old) (H.state host.new) }
+    ensures outputs { IfOk result (λ plan. NamesWords words.now (done_of plan).outputs) }
+    ensures answer { Decides (H.state host.old).files (map (λ b. told b) devices.old.items) (map (λ b. told b) devices.new.items) words.now (plain result) }
+    ensures cause { HasCause (H.state host.old) (H.state host.new) result }
+    ensures make { word words.now 0 ≡ codes "make" → (H.state host.new).read_faults ≡ (H.state host.old).read_faults }
+{
+    match command_of(words) {
+        None => Err(Refusal::Usage),
+        Some(Command::Sim) => decide_sim(alloc, words, host),
+        Some(Command::Judge) => decide_judge(alloc, words, host),
+        Some(Command::Vectors) => decide_vectors(alloc, words, host),
+        Some(Command::Compile) => decide_compile(alloc, words, host),
+        Some(Command::Make) => decide_make(alloc, words),
+        Some(Command::Bench) => decide_bench(alloc, words, host, devices),
+        Some(Command::BenchFile) => decide_benchfile(alloc, words, host, devices),
+        Some(Command::BenchFault) => decide_fault(alloc, words, host, devices),
+        Some(Command::BenchAll) => decide_bench_all(alloc, words, host, devices),
+        Some(Command::Check) => decide_check(alloc, words, host),
     }
-    if let Some(shape) = fault_shape(words) {
-        return Some(Command::BenchFault(shape));
-    }
-    if has_form(words, "benchfile", 4, 1, 4) {
-        return Some(Command::BenchFile);
-    }
-    if has_form(words, "benchall", 3, 1, 3) {
-        return Some(Command::BenchAll);
-    }
-    if has_form(words, "check", 4, 1, 4) {
-        return Some(Command::Check);
-    }
-    if let Some(number) = make_number(words) {
-        return Some(Command::Make(number));
-    }
-    None
 }

@@ -7,8 +7,8 @@ ghost use Rattle.self_test.specs.SelfTest.{SelfTest};
 ghost use Rattle.bist_endings.specs.Ending.{plain, done_of, written_of};
 ghost use Rattle.bist_endings.specs.Conclude.{NamesWords};
 ghost use Rattle.bist_inputs.specs.Inputs.{HasCause, IsOwnRefusal};
-ghost use Rattle.bist_app.specs.Forms.{HasForm, compile_form};
-ghost use Rattle.bist_app.specs.Compile.{IsSelfTestText, IsCompiled, LeavesCompile, DecidesCompile};
+ghost use Rattle.bist_app.specs.Forms.{HasForm};
+ghost use Rattle.bist_app.specs.Compile.{IsSelfTestText, IsCompiled, LeavesCompile, DecidesCompile, compile_form};
 
 use crate::reporting::report_list;
 use bist_bits::NoMemory;

@@ -3,8 +3,8 @@ ghost use Rattle.bist_host.specs.Files.{OnlyReads};
 ghost use Rattle.bist_endings.specs.Ending.{plain, done_of, written_of};
 ghost use Rattle.bist_inputs.specs.Inputs.{HasCause, IsOwnRefusal};
 ghost use Rattle.bist_endings.specs.Conclude.{NamesWords};
-ghost use Rattle.bist_app.specs.Forms.{HasForm, judge_form};
-ghost use Rattle.bist_app.specs.Judge.{IsJudged, LeavesJudge, DecidesJudge};
+ghost use Rattle.bist_app.specs.Forms.{HasForm};
+ghost use Rattle.bist_app.specs.Judge.{IsJudged, LeavesJudge, DecidesJudge, judge_form};
 
 use crate::reporting::report_list;
 use bist_bits::NoMemory;

@@ -10,10 +10,11 @@ ghost use Rattle.dynamic_core.specs.Items.{ReadsItems};
 ghost use Rattle.bist_endings.specs.Ending.{plain, done_of, written_of};
 ghost use Rattle.bist_endings.specs.Conclude.{NamesWords};
 ghost use Rattle.bist_inputs.specs.Inputs.{IsOwnRefusal};
-ghost use Rattle.bist_app.specs.Make.{IsMakeShape, made_outputs, sizes_text, covered_text, made_line, IsMadeOf, IsMade, LeavesMake};
+ghost use Rattle.bist_app.specs.Make.{IsMakeShape, made_outputs, sizes_text, covered_text, made_line, IsMadeOf, IsMade, LeavesMake, DecidesMake, make_form};
+ghost use Rattle.bist_app.specs.Forms.{HasForm};
+ghost use Rattle.bist_endings.specs.Then.{SaysOwn};
 
 use crate::compile::module_text;
-use crate::forms::has_form;
 use crate::reporting::report_list;
 use bist_bits::NoMemory;
 use bist_endings::{Output, Plan, Refusal, number_of};
@@ -27,18 +28,16 @@ use std::alloc::Global;
 /// The greatest number: a memory has at most 65,536 words, which is two more.
 const MOST: usize = 65_534;
 
-/// The number, where the words have the shape of `make`.
-pub fn make_number(words: &[&str]) -> Option<u16>
-    ensures { MatchOption result ((number : ℕ) → IsMakeShape words.now number → ⊥) (λ number. IsMakeShape words.now number) }
+/// The number that the words say, which are refused where they don't.
+fn own_words(words: &[&str]) -> Result<u16, Refusal>
+    requires { HasForm make_form words.now }
+    ensures answer { SaysOwn (IsMakeShape words.now) result }
+    ensures own { IfErr result IsOwnRefusal }
 {
-    if !has_form(words, "make", 7, 2, 7) {
-        return None;
+    match number_of(words[1]) {
+        Some(number) if number <= MOST => Ok(number as u16),
+        _ => Err(Refusal::Usage),
     }
-    let number = number_of(words[1])?;
-    if number > MOST {
-        return None;
-    }
-    Some(number as u16)
 }
 
 /// The memory's text.
@@ -172,8 +171,9 @@ fn made(alloc: Global, number: u16) -> Result<Plan, NoMemory>
 
 /// Makes the inputs of a number and compiles them.
 #[tactic(auto, unfolding(crate::specs::Make::LeavesMake))]
-pub fn decide_make(alloc: Global, words: &[&str], number: u16) -> Result<Plan, Refusal>
-    requires { IsMakeShape words.now number }
+fn plan_make(alloc: Global, words: &[&str], number: u16) -> Result<Plan, Refusal>
+    requires form { HasForm make_form words.now }
+    requires most { number ≤ 65534 }
     ensures own { IfErr result IsOwnRefusal }
     ensures answer { LeavesMake number (plain result) }
     ensures outputs { IfOk result (λ plan. NamesWords words.now (done_of plan).outputs) }
@@ -183,4 +183,15 @@ pub fn decide_make(alloc: Global, words: &[&str], number: u16) -> Result<Plan, R
         Ok(plan) => Ok(plan),
         Err(NoMemory) => Err(Refusal::NoMemory),
     }
+}
+
+/// Makes the inputs of the number that the words say, and compiles them.
+pub fn decide_make(alloc: Global, words: &[&str]) -> Result<Plan, Refusal>
+    requires { HasForm make_form words.now }
+    ensures own { IfErr result IsOwnRefusal }
+    ensures answer { DecidesMake words.now (plain result) }
+    ensures outputs { IfOk result (λ plan. NamesWords words.now (done_of plan).outputs) }
+{
+    let number = own_words(words)?;
+    plan_make(alloc, words, number)
 }

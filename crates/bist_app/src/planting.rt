@@ -9,7 +9,8 @@ ghost use Rattle.word_device.specs.Boxes.{after_plant, FitsBox};
 ghost use Rattle.word_device.specs.Runs.{SomeWrong, run_word};
 ghost use Rattle.bist_endings.specs.Ending.{done_of};
 ghost use Rattle.self_test.specs.Refusals.{IsShort};
-ghost use Rattle.bist_app.specs.Bench.{FirstHasRoom, IsRun, benched_chip};
+ghost use Rattle.bist_app.specs.Shared.{FirstHasRoom};
+ghost use Rattle.bist_app.specs.Bench.{IsRun, benched_chip};
 ghost use Rattle.bist_app.specs.BenchFault.{ready_planted};
 
 use crate::benching::{run_plan, self_test_design};

@@ -5,13 +5,15 @@ ghost use Rattle.fault_core.specs.Primitive.{has_aggressor};
 ghost use Rattle.fault_core.specs.Cells.{FitsPlace};
 ghost use Rattle.bist_app.specs.declared.sim.SimShape.{SimShape};
 ghost use Rattle.bist_endings.specs.Ending.{plain, done_of};
-ghost use Rattle.bist_inputs.specs.Inputs.{HasCause, IsOwnRefusal};
+ghost use Rattle.bist_inputs.specs.Inputs.{GivesPrim, HasCause, IsOwnRefusal};
 ghost use Rattle.bist_endings.specs.Conclude.{NamesWords};
 ghost use Rattle.bist_endings.specs.Words.{word};
-ghost use Rattle.bist_app.specs.Sim.{IsBit, IsLetter, IsAggressorWord, IsSimShape, FitsAggressor, places_of, content_of, directions_of_letters, FirstDiffers, caught_line, sim_line, LeavesSim, DecidesSim};
+ghost use Rattle.bist_app.specs.Shared.{FitsAggressor};
+ghost use Rattle.bist_app.specs.Sim.{IsBit, IsLetter, IsAggressorWord, IsSimShape, places_of, content_of, directions_of_letters, FirstDiffers, caught_line, sim_line, LeavesSim, RunsSim, DecidesSim, sim_form};
+ghost use Rattle.bist_app.specs.Forms.{HasForm};
+ghost use Rattle.bist_endings.specs.Then.{SaysOwn};
 
 use crate::directions::{direction_word, fit_directions};
-use crate::forms::has_form;
 use array_sim::{Instance, simulate};
 use bist_endings::{Misfit, Plan, Refusal, number_of, push_number};
 use bist_host::Host;
@@ -28,13 +30,11 @@ pub struct SimShape {
     pub victim: usize,
 }
 
-/// What the words say, where they have the shape of `sim`.
-pub fn sim_shape(words: &[&str]) -> Option<SimShape>
+/// What the words say beside their texts, if they do.
+fn sim_shape(words: &[&str]) -> Option<SimShape>
+    requires { HasForm sim_form words.now }
     ensures { MatchOption result ((shape : SimShape) → IsSimShape words.now shape → ⊥) (λ shape. IsSimShape words.now shape) }
 {
-    if !has_form(words, "sim", 8, 1, 2) {
-        return None;
-    }
     let content = words[4];
     let letters = words[7];
     let size = number_of(words[3])?;
@@ -51,6 +51,18 @@ pub fn sim_shape(words: &[&str]) -> Option<SimShape>
         aggressor,
         victim,
     })
+}
+
+/// What the words say, which are refused where they don't.
+fn own_words(words: &[&str]) -> Result<SimShape, Refusal>
+    requires { HasForm sim_form words.now }
+    ensures answer { SaysOwn (IsSimShape words.now) result }
+    ensures own { IfErr result IsOwnRefusal }
+{
+    match sim_shape(words) {
+        Some(shape) => Ok(shape),
+        None => Err(Refusal::Usage),
+    }
 }
 
 /// The aggressor's cell that a word names, or none.
@@ -109,8 +121,17 @@ fn line_of(alloc: Global, miss: Option<Miss>) -> Result<Vec<u8>, AllocError>
     }
 }
 
+/// The primitive of a word.
+pub fn give_word(words: &[&str], position: usize) -> Result<Prim, Refusal>
+    requires { position < length words.now }
+    ensures answer { GivesPrim (word words.now position) result }
+    ensures own { IfErr result IsOwnRefusal }
+{
+    give_prim(words[position].as_bytes())
+}
+
 /// Refuses an aggressor for a primitive of one cell, and none for one of two cells.
-#[tactic(auto, unfolding(crate::specs::Sim::FitsAggressor))]
+#[tactic(auto, unfolding(crate::specs::Shared::FitsAggressor))]
 pub fn fit_aggressor(given: bool, prim: &Prim) -> Result<(), Refusal>
     ensures answer { FitsAggressor given prim.now result }
     ensures own { IfErr result IsOwnRefusal }
@@ -178,6 +199,7 @@ fn plan_sim(
 
 /// Where the instance stands, which fits the primitive.
 fn places_for(shape: SimShape, words: &[&str], prim: &Prim) -> Places
+    requires form { HasForm sim_form words.now }
     requires shape { IsSimShape words.now shape }
     requires given { is_some shape.aggressor ≡ has_aggressor prim.now }
     ensures value { result ≡ places_of shape }
@@ -190,22 +212,23 @@ fn places_for(shape: SimShape, words: &[&str], prim: &Prim) -> Places
     }
 }
 
-/// Runs one array.
+/// Runs one array, of which the words say this.
 #[tactic(auto, using(crate::proofs::Causes::own_cause))]
-pub fn decide_sim<H: Host>(
+fn run_sim<H: Host>(
     alloc: Global,
     words: &[&str],
     shape: SimShape,
     host: &mut H,
 ) -> Result<Plan, Refusal>
-    requires { IsSimShape words.now shape }
+    requires form { HasForm sim_form words.now }
+    requires shape { IsSimShape words.now shape }
     ensures kept { OnlyReads (H.state host.old) (H.state host.new) }
     ensures outputs { IfOk result (λ plan. NamesWords words.now (done_of plan).outputs) }
-    ensures answer { DecidesSim (H.state host.old).files words.now shape (plain result) }
+    ensures answer { RunsSim (H.state host.old).files words.now shape (plain result) }
     ensures cause { HasCause (H.state host.old) (H.state host.new) result }
 {
     let march = read_march_input(host, words, 1)?;
-    let prim = give_prim(words[2].as_bytes())?;
+    let prim = give_word(words, 2)?;
     fit_aggressor(shape.aggressor.is_some(), &prim)?;
     fit_directions(words[7].as_bytes(), &march)?;
     let places = places_for(shape, words, &prim);
@@ -217,4 +240,17 @@ pub fn decide_sim<H: Host>(
         words[4].as_bytes(),
         words[7].as_bytes(),
     )
+}
+
+/// Runs one array.
+#[tactic(auto, using(crate::proofs::Causes::own_cause))]
+pub fn decide_sim<H: Host>(alloc: Global, words: &[&str], host: &mut H) -> Result<Plan, Refusal>
+    requires { HasForm sim_form words.now }
+    ensures kept { OnlyReads (H.state host.old) (H.state host.new) }
+    ensures outputs { IfOk result (λ plan. NamesWords words.now (done_of plan).outputs) }
+    ensures answer { DecidesSim (H.state host.old).files words.now (plain result) }
+    ensures cause { HasCause (H.state host.old) (H.state host.new) result }
+{
+    let shape = own_words(words)?;
+    run_sim(alloc, words, shape, host)
 }

@@ -6,9 +6,10 @@ ghost use Rattle.word_march.specs.Commands.{port_ops, command_count};
 ghost use Rattle.bist_endings.specs.Ending.{plain, done_of, written_of};
 ghost use Rattle.bist_inputs.specs.Inputs.{HasCause, IsOwnRefusal};
 ghost use Rattle.bist_endings.specs.Conclude.{NamesWords};
-ghost use Rattle.bist_app.specs.Forms.{HasForm, vectors_form};
+ghost use Rattle.bist_app.specs.Shared.{FitsLength};
+ghost use Rattle.bist_app.specs.Forms.{HasForm};
 ghost use Rattle.self_test.specs.Refusals.{IsShort};
-ghost use Rattle.bist_app.specs.Vectors.{FitsLength, kind_text, command_line, command_lines, vectors_line, vectors_done, LeavesVectors, DecidesVectors};
+ghost use Rattle.bist_app.specs.Vectors.{kind_text, command_line, command_lines, vectors_line, vectors_done, LeavesVectors, DecidesVectors, vectors_form};
 
 use bist_bits::NoMemory;
 use bist_endings::{Output, Plan, Refusal, numbered};
@@ -25,7 +26,7 @@ use word_march::{PortOp, port_ops};
 const OUT: usize = 3;
 
 /// Refuses a test that takes too many cycles.
-#[tactic(auto, unfolding(crate::specs::Vectors::FitsLength))]
+#[tactic(auto, unfolding(crate::specs::Shared::FitsLength))]
 pub fn fit_length(march: &March, memory: &Memory) -> Result<(), Refusal>
     ensures answer { FitsLength march.now memory.now result }
     ensures own { IfErr result IsOwnRefusal }

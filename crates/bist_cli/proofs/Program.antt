@@ -2,7 +2,7 @@
 use Rattle.std.proofs.Common.{◌≡◌, ℕ, [], ◌∷◌, subst}
 use Rattle.bist_host.specs.Files.{HostState}
 use Rattle.bist_endings.specs.Words.{Words}
-use Rattle.bist_app.specs.Bench.{Boxes}
+use Rattle.bist_app.specs.Shared.{Boxes}
 use Rattle.bist_app.specs.Run.{Runs}
 use Rattle.bist_cli.specs.Program.{own_box, RunsAlone}
 

@@ -3,7 +3,7 @@ use Rattle.std.specs.Prelude.{◌≡◌, ℕ, List, [], ◌∷◌, None, map}
 use Rattle.bist_host.specs.Files.{HostState}
 use Rattle.word_device.specs.Boxes.{Told, TellsChip}
 use Rattle.bist_endings.specs.Words.{Words}
-use Rattle.bist_app.specs.Bench.{Boxes}
+use Rattle.bist_app.specs.Shared.{Boxes}
 use Rattle.bist_app.specs.Run.{Runs}
 
 -- the program's own box: a memory with room for 65,536 words, which has no shape yet

@@ -3,3 +3,4 @@ mod Names
 mod Said
 mod Writes
 pub mod OneOutcome
+pub mod Settling

@@ -5,9 +5,10 @@ use Rattle.verilog_tree.specs.Grammar.{Style}
 use Rattle.verilog_tree.specs.Plain.{ModuleTree}
 use Rattle.bist_endings.specs.declared.ending.Refusal.{Refusal}
 use Rattle.bist_endings.specs.Words.{Words, word}
+use Rattle.bist_endings.proofs.Settling.{NeverUsage}
 use Rattle.bist_inputs.specs.Inputs.{GivesBytes}
 use Rattle.bist_inputs.specs.Designs.{GivesTree, GivesRunnable, InputModule}
-use Rattle.bist_inputs.proofs.Usage.{NeverUsage, turned, bytes_never}
+use Rattle.bist_inputs.proofs.Usage.{turned, bytes_never}
 
 tree_never : (style : Style) (bytes : List ℕ) → NeverUsage (GivesTree style bytes)
 unfolding GivesTree

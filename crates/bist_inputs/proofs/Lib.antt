@@ -4,3 +4,4 @@ pub mod OneInput
 pub mod Designing
 pub mod OneDesign
 pub mod DesignUsage
+pub mod Settled

@@ -6,12 +6,9 @@ use Rattle.dynamic_core.specs.declared.item.Item.{Item}
 use Rattle.memory_desc.specs.Descriptions.{Description}
 use Rattle.bist_endings.specs.declared.ending.Refusal.{Refusal}
 use Rattle.bist_endings.specs.Words.{Words, word}
+use Rattle.bist_endings.proofs.Settling.{NeverUsage}
 use Rattle.bist_inputs.specs.Inputs.{GivesBytes, GivesMarch, InputMarch, GivesPrim, GivesList, InputList}
 use Rattle.bist_inputs.specs.Memories.{GivesMemory, InputMemory}
-
--- a check that never answers usage
-abbrev pub NeverUsage : {A : Type 0} → (Result A Refusal → Type 0) → Type 0
-NeverUsage check = check (Err Refusal.Usage) → ⊥
 
 -- the refusal of a check that stops the checks behind it
 pub turned : {A B : Type 0} (check : Result A Refusal → Type 0) (outcome : Result B Refusal) (e : Refusal) → outcome ≡ Err Refusal.Usage → outcome ≡ Err e → check (Err e) → check (Err Refusal.Usage)

@@ -1,11 +1,14 @@
-use Rattle.bist_app.proofs.Statuses.{usage_has_no_shape}
+use Rattle.bist_app.proofs.Statuses.{usage_has_no_shape, no_shape_ends}
 use Rattle.bist_app.proofs.Conformance.{leaves_conformance}
 use Rattle.bist_app.proofs.Headline.{leaves_compilation}
-use Rattle.bist_app.proofs.OneFiles.{same_files}
+use Rattle.bist_app.proofs.OneAnswer.{same_files}
 use Rattle.bist_app.proofs.top.run.Goals as goal
 
 pub returns-clause-usage : goal.returns-clause-usage
 returns-clause-usage g c = usage_has_no_shape _ _ _ _ _ _ c.decide_and_end.ensures.answer
+
+pub returns-clause-no_shape : goal.returns-clause-no_shape
+returns-clause-no_shape g c = no_shape_ends _ _ _ _ _ _ c.decide_and_end.ensures.answer
 
 pub returns-clause-one_files : goal.returns-clause-one_files
 returns-clause-one_files g c = same_files (g.H.Host.state c.args.host.now).files _ c.args.words.now

@@ -1,18 +1,15 @@
 -- What is said of a judged list is one line and one status alone.
-use Rattle.std.proofs.Common.{◌≡◌, ◌<◌, ℕ, zero, suc, Bool, true, false, List, [], ◌∷◌, Option, Ok, Err, refl, sym, ◌∙◌, ap, arith, subst, length, slice_index_or}
-use Rattle.std.specs.List.{AllByRecursion}
-use Rattle.march_core.specs.March.{MarchElement}
+use Rattle.std.proofs.Common.{ℕ, Bool, List, Option, [], ap, arith, false, length, refl, slice_index_or, subst, suc, sym, true, zero, ◌<◌, ◌∙◌, ◌∷◌, ◌≡◌}
+use Rattle.bist_app.specs.Reported.{Reports, SomeEscapes}
+use Rattle.bist_endings.specs.Ending.{found_status}
+use Rattle.bist_endings.specs.OneOutcome.{Answer}
 use Rattle.dynamic_core.specs.declared.item.Item.{Item}
+use Rattle.march_core.specs.March.{MarchElement}
 use Rattle.memory_desc.specs.Descriptions.{Description}
+use Rattle.report.proofs.OneReport.{detects_one}
 use Rattle.report.specs.Items.{DetectsItem}
 use Rattle.report.specs.Report.{total_line}
-use Rattle.report.proofs.OneReport.{detects_one}
-use Rattle.bist_endings.specs.declared.ending.Refusal.{Refusal}
-use Rattle.bist_endings.specs.Ending.{found_status}
-use Rattle.bist_endings.specs.OneOutcome.{Answer, HasOneAnswer}
-use Rattle.bist_app.specs.Reported.{SomeEscapes, Reports}
-use Rattle.bist_app.specs.Judge.{LeavesJudge}
-use Rattle.bist_app.specs.Compile.{LeavesCompile}
+use Rattle.std.specs.List.{AllByRecursion}
 
 all_hold : {A : Type 0} (P : A → Type 0) (xs : List A) (x : A) (k : ℕ) → AllByRecursion P xs → k < length xs → slice_index_or xs k x ≡ x → P x
 all_hold P [] x k h below is = absurd (omega (arith, below))
@@ -32,19 +29,3 @@ reports_one march memory items b c bytes other line said h i =
     let status = ap found_status (found_one march items b c h.found i.found) in
     let lines : line ≡ said = h.last ∙ ap (total_line (length items)) (detects_one march items h.covered i.covered h.detects i.detects) ∙ sym i.last in
     λ j. record { status = status j; line = lines j }
-
-pub judge_one : (march : List MarchElement) (items : List Item) → HasOneAnswer (Unit {0}) (LeavesJudge march items)
-unfolding LeavesJudge
-judge_one march items (Ok d) (Ok e) t f g r s = reports_one march _ items d.found e.found f.bytes g.bytes d.line e.line f.reports g.reports
-judge_one march items (Ok d) (Err Refusal.NoMemory) t f g r s = absurd s
-judge_one march items (Ok d) (Err other) t f g r s = absurd g
-judge_one march items (Err Refusal.NoMemory) outcome t f g r s = absurd r
-judge_one march items (Err other) outcome t f g r s = absurd f
-
-pub compile_one : (march : List MarchElement) (m : Description) (items : List Item) → HasOneAnswer (Unit {0}) (LeavesCompile march m items)
-unfolding LeavesCompile
-compile_one march m items (Ok d) (Ok e) t f g r s = reports_one march _ items d.found e.found f.bytes g.bytes d.line e.line f.reports g.reports
-compile_one march m items (Ok d) (Err Refusal.NoMemory) t f g r s = absurd s
-compile_one march m items (Ok d) (Err other) t f g r s = absurd g
-compile_one march m items (Err Refusal.NoMemory) outcome t f g r s = absurd r
-compile_one march m items (Err other) outcome t f g r s = absurd f

@@ -4,10 +4,10 @@ use Rattle.fault_core.specs.declared.cells.Places.{Places}
 use Rattle.fault_core.specs.Primitive.{Primitive}
 use Rattle.bist_endings.specs.Ending.{Done}
 use Rattle.bist_endings.specs.declared.ending.Refusal.{Refusal}
-use Rattle.bist_inputs.specs.Inputs.{GivesPrim}
-use Rattle.bist_app.specs.Sim.{FitsAggressor, FitsDirections, LeavesSim}
+use Rattle.bist_app.specs.Shared.{FitsAggressor}
+use Rattle.bist_app.specs.Sim.{FitsDirections, LeavesSim}
 use Rattle.bist_app.proofs.Refusing.{passed_on}
-use Rattle.bist_app.proofs.sim.decide_sim.Goals as goal
+use Rattle.bist_app.proofs.sim.run_sim.Goals as goal
 
 -- the same places and bytes under other names
 told : (march : List MarchElement) (prim : Primitive) (places places' : Places) (digits digits' letters letters' : List ℕ) (outcome : Result Done Refusal)
@@ -29,7 +29,7 @@ returns-in_err-prim-clause-answer g c = (
   c.in_ok-march.ensures.answer,
   (
     Err c.in_err-prim.field-0.0,
-    subst (λ b. GivesPrim b (Err c.in_err-prim.field-0.0)) c.as_bytes.ensures.value c.in_err-prim.ensures.answer,
+    c.in_err-prim.ensures.answer,
     passed_on c.from_residual-in_err-prim.result c.in_err-prim.field-0.0 c.from_residual-in_err-prim.ensures,
   ),
 )
@@ -40,7 +40,7 @@ returns-in_err-fit_aggressor-clause-answer g c = (
   c.in_ok-march.ensures.answer,
   (
     Ok c.in_ok-prim.prim,
-    subst (λ b. GivesPrim b (Ok c.in_ok-prim.prim)) c.as_bytes.ensures.value c.in_ok-prim.ensures.answer,
+    c.in_ok-prim.ensures.answer,
     (
       Err c.in_err-fit_aggressor.field-0.0,
       subst (λ b. FitsAggressor b c.in_ok-prim.prim (Err c.in_err-fit_aggressor.field-0.0)) c.is_some.ensures c.in_err-fit_aggressor.ensures.answer,
@@ -55,13 +55,13 @@ returns-in_err-fit_directions-clause-answer g c = (
   c.in_ok-march.ensures.answer,
   (
     Ok c.in_ok-prim.prim,
-    subst (λ b. GivesPrim b (Ok c.in_ok-prim.prim)) c.as_bytes.ensures.value c.in_ok-prim.ensures.answer,
+    c.in_ok-prim.ensures.answer,
     (
       Ok c.in_ok-fit_aggressor.field-0,
       subst (λ b. FitsAggressor b c.in_ok-prim.prim (Ok c.in_ok-fit_aggressor.field-0)) c.is_some.ensures c.in_ok-fit_aggressor.ensures.answer,
       (
         Err c.in_err-fit_directions.field-0.0,
-        subst (λ b. FitsDirections b c.in_ok-march.march (Err c.in_err-fit_directions.field-0.0)) c.as_bytes-2.ensures.value c.in_err-fit_directions.ensures.answer,
+        subst (λ b. FitsDirections b c.in_ok-march.march (Err c.in_err-fit_directions.field-0.0)) c.as_bytes.ensures.value c.in_err-fit_directions.ensures.answer,
         passed_on c.from_residual-in_err-fit_directions.result c.in_err-fit_directions.field-0.0 c.from_residual-in_err-fit_directions.ensures,
       ),
     ),
@@ -74,14 +74,14 @@ returns-clause-answer g c = (
   c.in_ok-march.ensures.answer,
   (
     Ok c.in_ok-prim.prim,
-    subst (λ b. GivesPrim b (Ok c.in_ok-prim.prim)) c.as_bytes.ensures.value c.in_ok-prim.ensures.answer,
+    c.in_ok-prim.ensures.answer,
     (
       Ok c.in_ok-fit_aggressor.field-0,
       subst (λ b. FitsAggressor b c.in_ok-prim.prim (Ok c.in_ok-fit_aggressor.field-0)) c.is_some.ensures c.in_ok-fit_aggressor.ensures.answer,
       (
         Ok c.in_ok-fit_directions.field-0,
-        subst (λ b. FitsDirections b c.in_ok-march.march (Ok c.in_ok-fit_directions.field-0)) c.as_bytes-2.ensures.value c.in_ok-fit_directions.ensures.answer,
-        told c.in_ok-march.march c.in_ok-prim.prim _ _ _ _ _ _ _ c.places_for-places.ensures.value c.as_bytes-3.ensures.value c.as_bytes-4.ensures.value c.plan_sim.ensures.answer,
+        subst (λ b. FitsDirections b c.in_ok-march.march (Ok c.in_ok-fit_directions.field-0)) c.as_bytes.ensures.value c.in_ok-fit_directions.ensures.answer,
+        told c.in_ok-march.march c.in_ok-prim.prim _ _ _ _ _ _ _ c.places_for-places.ensures.value c.as_bytes-2.ensures.value c.as_bytes-3.ensures.value c.plan_sim.ensures.answer,
       ),
     ),
   ),

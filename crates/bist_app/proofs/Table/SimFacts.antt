@@ -1,0 +1,89 @@
+-- What is known of `sim`.
+use Rattle.std.proofs.Common.{ℕ, Bool, Err, List, None, Ok, Option, Some, ap, is_some, length, refl, sym, ◌∙◌, ◌≡◌}
+use Rattle.array_sim.proofs.Differing.{one_first}
+use Rattle.array_sim.specs.Differing.{after_step, is_wrong_at}
+use Rattle.bist_app.proofs.Facts.{Facts, with_left}
+use Rattle.bist_app.proofs.OwnWords.{no_number, number_one}
+use Rattle.bist_app.proofs.SharedFacts.{aggressor_settles}
+use Rattle.bist_app.specs.Shared.{FitsAggressor}
+use Rattle.bist_app.specs.Sim.{DecidesSim, FirstDiffers, FitsDirections, IsAggressorWord, IsSimShape, IsSimulated, LeavesSim, RunsSim, content_of, directions_of_letters, places_of, sim_done, sim_row}
+use Rattle.bist_app.specs.declared.sim.SimShape.{SimShape}
+use Rattle.bist_endings.proofs.Settling.{Concludes, IsTold, NeverUsage, leaves_conclude, outcome_settles, own_said, own_settles, then_concludes}
+use Rattle.bist_endings.specs.Ending.{Done}
+use Rattle.bist_endings.specs.OneOutcome.{HasOneOutcome, answer_of}
+use Rattle.bist_endings.specs.Then.{SaysOwn}
+use Rattle.bist_endings.specs.Words.{Words, word}
+use Rattle.bist_endings.specs.declared.ending.Misfit.{Misfit}
+use Rattle.bist_endings.specs.declared.ending.Refusal.{Refusal}
+use Rattle.bist_host.specs.Files.{Files}
+use Rattle.bist_inputs.proofs.Settled.{march_settles, prim_settles}
+use Rattle.bist_inputs.specs.Inputs.{GivesPrim, InputMarch}
+use Rattle.fault_core.specs.Cells.{close_of}
+use Rattle.fault_core.specs.Primitive.{Primitive}
+use Rattle.fault_core.specs.declared.cells.Places.{Places}
+use Rattle.march_core.specs.March.{MarchElement}
+use Rattle.march_core.specs.Visits.{Direction, visits}
+use Rattle.march_core.specs.declared.visit.Miss.{Miss}
+
+aggressor_one : (text : List ℕ) (size size' victim victim' : ℕ) (c d : Option ℕ) → IsAggressorWord text size victim c → IsAggressorWord text size' victim' d → c ≡ d
+aggressor_one text size size' victim victim' None None h i = refl
+aggressor_one text size size' victim victim' None (Some d) h i = absurd (no_number text d h i.0)
+aggressor_one text size size' victim victim' (Some c) None h i = absurd (no_number text c i h.0)
+aggressor_one text size size' victim victim' (Some c) (Some d) h i = ap Some (number_one text c d h.0 i.0)
+
+shape_one : (words : Words) (s t : SimShape) → IsSimShape words s → IsSimShape words t → s ≡ t
+shape_one words s t h i =
+    let size = number_one (word words 3) s.size t.size h.size i.size in
+    let victim = number_one (word words 6) s.victim t.victim h.victim i.victim in
+    let aggressor = aggressor_one (word words 5) s.size t.size s.victim t.victim s.aggressor t.aggressor h.aggressor i.aggressor in
+    λ j. record { size = size j; aggressor = aggressor j; victim = victim j }
+
+directions_never : (letters : List ℕ) (march : List MarchElement) → NeverUsage (FitsDirections letters march)
+unfolding FitsDirections
+directions_never letters march h = h
+
+directions_one : (letters : List ℕ) (march : List MarchElement) → HasOneOutcome (FitsDirections letters march)
+unfolding FitsDirections
+directions_one letters march (Ok u) (Ok v) f g r s = refl
+directions_one letters march (Ok u) (Err (Refusal.Misfit Misfit.Directions)) f g r s = absurd (g f)
+directions_one letters march (Ok u) (Err other) f g r s = absurd g
+directions_one letters march (Err (Refusal.Misfit Misfit.Directions)) (Ok v) f g r s = absurd (f g)
+directions_one letters march (Err (Refusal.Misfit Misfit.Directions)) (Err (Refusal.Misfit Misfit.Directions)) f g r s = refl
+directions_one letters march (Err (Refusal.Misfit Misfit.Directions)) (Err other) f g r s = absurd g
+directions_one letters march (Err other) outcome f g r s = absurd f
+
+one_read : (march : List MarchElement) (ds : List Direction) (prim : Primitive) (at : Places) (content : List Bool) (m k : Option Miss)
+    → FirstDiffers march ds prim at content m → FirstDiffers march ds prim at content k → m ≡ k
+one_read march ds prim at content None None f g = refl
+one_read march ds prim at content None (Some k) f g = absurd (f (g.visit, g.differs))
+one_read march ds prim at content (Some m) None f g = absurd (g (f.visit, f.differs))
+one_read march ds prim at content (Some m) (Some k) f g =
+    ap Some (one_first (after_step prim at) (is_wrong_at prim at) (close_of prim at content) (visits march ds (length content)) m k f g)
+
+line_one : (march : List MarchElement) (prim : Primitive) (at : Places) (digits letters : List ℕ) (d e : Done) → IsSimulated march prim at digits letters d
+    → IsSimulated march prim at digits letters e → d ≡ e
+line_one march prim at digits letters d e (m, f, is) (k, g, js) =
+    is ∙ ap sim_done (one_read march (directions_of_letters letters) prim at (content_of digits) m k f g) ∙ sym js
+
+leaves : {Says Told : Type 0} (march : List MarchElement) (prim : Primitive) (at : Places) (digits letters : List ℕ)
+    → Concludes Says Told (Unit {0}) (λ outputs. outputs) (LeavesSim march prim at digits letters)
+unfolding LeavesSim
+leaves march prim at digits letters =
+    leaves_conclude (IsSimulated march prim at digits letters) (λ told tells d e f g. ap (λ (done : Done). answer_of (Ok done)) (line_one march prim at digits letters d e f g))
+    (λ told d e f g. ap (λ (done : Done). done.outputs) (line_one march prim at digits letters d e f g))
+
+concludes : (files : Option Files) (words : Words) → Concludes ((shape : SimShape) × IsSimShape words shape) (IsTold files) (Unit {0}) (λ outputs. outputs) (DecidesSim files words)
+concludes files words =
+    then_concludes (SaysOwn (IsSimShape words)) (RunsSim files words) (own_settles (IsSimShape words) (shape_one words)) (λ shape _.
+    then_concludes (InputMarch files words 1) _ (march_settles files words 1) (λ march _.
+    then_concludes (GivesPrim (word words 2)) _ (prim_settles (word words 2)) (λ prim _.
+    then_concludes (FitsAggressor (is_some shape.aggressor) prim) _ (aggressor_settles (is_some shape.aggressor) prim) (λ _ _.
+    then_concludes (FitsDirections (word words 7) march) _
+    (outcome_settles (FitsDirections (word words 7) march) (directions_never (word words 7) march) (directions_one (word words 7) march)) (λ _ _.
+    leaves march prim (places_of shape) (word words 4) (word words 7))))))
+
+pub sim_facts : Facts sim_row
+sim_facts = record {
+  concludes = λ files boxes words. with_left (DecidesSim files words) (λ left _. left ≡ boxes) (concludes files words);
+  said = λ files boxes left words r h. own_said (IsSimShape words) (RunsSim files words) r h.0;
+}
