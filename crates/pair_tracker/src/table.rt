@@ -92,7 +92,15 @@ impl Table {
     }
 
     /// Where an element leads from a pair, if this table leads there.
-    fn row_behind(&self, prim: &Prim, is_below: bool, march: &March, i: usize, a: bool, v: bool) -> Row
+    fn row_behind(
+        &self,
+        prim: &Prim,
+        is_below: bool,
+        march: &March,
+        i: usize,
+        a: bool,
+        v: bool,
+    ) -> Row
         requires there { i < length march.now }
         requires within { i < 64 }
         ensures { (start q : Pair) (word : ℕ) → word_in self.now start (record { a = a; v = v }) ≡ Some word → IsLeastOf (Leads (machine_of prim.now) is_below march.now i (i + 1) (record { a = a; v = v }) q) (word_of result q) }
@@ -104,7 +112,13 @@ impl Table {
     }
 
     /// The table of one element behind this one: of its starts only those count to which this one leads.
-    pub(crate) fn element_behind(&self, prim: &Prim, is_below: bool, march: &March, i: usize) -> Table
+    pub(crate) fn element_behind(
+        &self,
+        prim: &Prim,
+        is_below: bool,
+        march: &March,
+        i: usize,
+    ) -> Table
         requires there { i < length march.now }
         requires within { i < 64 }
         ensures { AreLeastBehind (machine_of prim.now) is_below march.now i (i + 1) (word_in self.now) (word_in result) }

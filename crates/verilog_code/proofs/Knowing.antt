@@ -37,13 +37,13 @@ pub known_put : {A : Type 0} (z : A) (worth : List A → Code → A) → ((bits 
     (k bits p : ℕ) (x : A) (ss : List Step) (vs : List A) → p < k → AreReading ss → Known z worth k bits ss vs → Known z worth k (bit_or bits (2 ^ (p % 64))) ss (put vs p x)
 known_put z worth rests k bits p x [] vs lt r h = tt
 known_put z worth rests k bits p x (s ∷ ss) vs lt r h = (
-    λ apart.
-    let other : k ≢ p = λ e. absurd (omega (arith, lt, e)) in
-    put_there vs p k x z other
-    ∙ h.0 (fewer bits (2 ^ (p % 64)) s.reads apart)
-    ∙ rests s.reads s.code.value r.0 vs (put vs p x) (λ q one. sym (put_there vs p q x z (λ e. no_bit bits s.reads (p % 64) apart (ap (λ (j : ℕ). bit_at s.reads (j % 64)) (sym e) ∙ one)))),
-    known_put z worth rests (k + 1) bits p x ss vs (omega (arith, lt)) r.2 h.1,
-  )
+  λ apart.
+      let other : k ≢ p = λ e. absurd (omega (arith, lt, e)) in
+      put_there vs p k x z other
+      ∙ h.0 (fewer bits (2 ^ (p % 64)) s.reads apart)
+      ∙ rests s.reads s.code.value r.0 vs (put vs p x) (λ q one. sym (put_there vs p q x z (λ e. no_bit bits s.reads (p % 64) apart (ap (λ (j : ℕ). bit_at s.reads (j % 64)) (sym e) ∙ one)))),
+  known_put z worth rests (k + 1) bits p x ss vs (omega (arith, lt)) r.2 h.1,
+)
 
 -- where all bits are set, nothing is known
 pub known_nothing : {A : Type 0} (z : A) (worth : List A → Code → A) (k : ℕ) (ss : List Step) (vs : List A) → AreReading ss → Known z worth k (2 ^ 64 - 1) ss vs

@@ -127,7 +127,11 @@ pub fn compute(
 
 /// Gives the registers, the first of the values, what they become at an edge: all of them are worked out before one is
 /// written. The result is the bits of the registers that change.
-pub fn step_registers(values: &mut Vec<Option<u64>>, next: &mut Vec<Option<u64>>, blocks: &[Vec<Action>]) -> u64
+pub fn step_registers(
+    values: &mut Vec<Option<u64>>,
+    next: &mut Vec<Option<u64>>,
+    blocks: &[Vec<Action>],
+) -> u64
     requires { length next.old.items ≤ length values.old.items }
     ensures items { values.new.items ≡ put_all 0 (open_run_blocks (map (λ b. map open_action b.items) blocks.now) values.old.items (put_all 0 (take (length next.old.items) values.old.items) next.old.items)) values.old.items }
     ensures len { length next.new.items ≡ length next.old.items }

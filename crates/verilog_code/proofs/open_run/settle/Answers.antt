@@ -20,21 +20,21 @@ loop-i-preserved c =
     let lt : first + i < first + (i + 1) = omega arith in
     let p = parted_steps (Some 0) open_meaning first i c.loop-i.changed steps d vs c.loop-i-test.true c.index-steps-i.is inv.reading inv.known in
     elim c.if-changed-step-ne0.branch [
-    | then-changed-step-ne0 w ↦
-      let worth = w.open_value-x.ensures ∙ ap (λ l. open_meaning l w.deref.result.now) w.deref-then-changed-step-ne0.ensures.value ∙ ap (open_meaning vs) w.deref.ensures in
-      record {
-        value = one_settled open_meaning (λ s. s.code.value) steps first i d w.open_value-x.result vs c.if-changed-step-ne0.values.items ys c.loop-i-test.true c.index-steps-i.is (ap (λ v. v.items) w.values-is ∙ w.renew-changed.ensures.items) worth inv.value;
-        room = ap (λ v. length v.items) w.values-is ∙ w.renew-changed.ensures.len ∙ inv.room;
-        reading = p.reading;
-        known = subst (λ v. Known (Some 0) open_meaning (first + (i + 1)) c.if-changed-step-ne0.changed rest v.items) (sym w.values-is)
-            (subst (λ (b : ℕ). Known (Some 0) open_meaning (first + (i + 1)) b rest w.renew-changed.new.values.items) (sym w.changed-is) (w.renew-changed.ensures.known (first + (i + 1)) rest lt p.reading p.known));
-      }
-    | else-changed-step-ne0 w ↦
-      record {
-        value = ap (λ v. settled open_meaning (first + (i + 1)) (map (λ s. s.code.value) rest) v.items) w.values-is ∙ one_skipped (Some 0) open_meaning steps first i d vs ys c.loop-i-test.true c.index-steps-i.is (p.here w.if-changed-step-ne0.false) inv.value;
-        room = ap (λ v. length v.items) w.values-is ∙ inv.room;
-        reading = p.reading;
-        known = subst (λ v. Known (Some 0) open_meaning (first + (i + 1)) c.if-changed-step-ne0.changed rest v.items) (sym w.values-is)
-            (subst (λ (b : ℕ). Known (Some 0) open_meaning (first + (i + 1)) b rest vs) (sym w.changed-is) p.known);
-      }
+      | then-changed-step-ne0 w ↦
+          let worth = w.open_value-x.ensures ∙ ap (λ l. open_meaning l w.deref.result.now) w.deref-then-changed-step-ne0.ensures.value ∙ ap (open_meaning vs) w.deref.ensures in
+          record {
+            value = one_settled open_meaning (λ s. s.code.value) steps first i d w.open_value-x.result vs c.if-changed-step-ne0.values.items ys c.loop-i-test.true c.index-steps-i.is (ap (λ v. v.items) w.values-is ∙ w.renew-changed.ensures.items) worth inv.value;
+            room = ap (λ v. length v.items) w.values-is ∙ w.renew-changed.ensures.len ∙ inv.room;
+            reading = p.reading;
+            known = subst (λ v. Known (Some 0) open_meaning (first + (i + 1)) c.if-changed-step-ne0.changed rest v.items) (sym w.values-is)
+                (subst (λ (b : ℕ). Known (Some 0) open_meaning (first + (i + 1)) b rest w.renew-changed.new.values.items) (sym w.changed-is) (w.renew-changed.ensures.known (first + (i + 1)) rest lt p.reading p.known));
+          }
+      | else-changed-step-ne0 w ↦
+          record {
+            value = ap (λ v. settled open_meaning (first + (i + 1)) (map (λ s. s.code.value) rest) v.items) w.values-is ∙ one_skipped (Some 0) open_meaning steps first i d vs ys c.loop-i-test.true c.index-steps-i.is (p.here w.if-changed-step-ne0.false) inv.value;
+            room = ap (λ v. length v.items) w.values-is ∙ inv.room;
+            reading = p.reading;
+            known = subst (λ v. Known (Some 0) open_meaning (first + (i + 1)) c.if-changed-step-ne0.changed rest v.items) (sym w.values-is)
+                (subst (λ (b : ℕ). Known (Some 0) open_meaning (first + (i + 1)) b rest vs) (sym w.changed-is) p.known);
+          }
     ]
