@@ -1,5 +1,5 @@
 -- What the answer of the top call comes to for `check`.
-use Rattle.std.proofs.Common.{◌≡◌, ◌≤◌, ◌∙◌, inl, inr, sym, subst, ap, arith, codes, ℕ, List, [], Option, Some, None, Ok, Err}
+use Rattle.std.proofs.Common.{◌≡◌, ◌∙◌, sym, subst, ap, arith, ℕ, List, [], Option, Some, None, Ok, Err}
 use Rattle.bist_host.specs.Files.{Files, HostState, Says}
 use Rattle.march_core.specs.March.{MarchElement}
 use Rattle.march_syntax.specs.Answers.{Reads as ReadsMarch}
@@ -12,10 +12,9 @@ use Rattle.port_check.specs.declared.answer.PortAnswer.{PortAnswer}
 use Rattle.port_check.specs.Answers.{Told}
 use Rattle.port_check.specs.Compared.{Issues}
 use Rattle.port_check.proofs.Checking.{told_of}
-use Rattle.bist_endings.specs.declared.concluding.WriteStop.{WriteStop}
 use Rattle.bist_endings.specs.Words.{Words, word}
 use Rattle.bist_endings.specs.Ending.{Done, found_status}
-use Rattle.bist_endings.specs.Conclude.{WritesInOrder, DoneEnds}
+use Rattle.bist_endings.specs.Conclude.{WritesInOrder}
 use Rattle.bist_inputs.specs.Designs.{CanRun}
 use Rattle.bist_inputs.proofs.OneDesign.{Spelled, input_spells, input_can_run}
 use Rattle.bist_app.specs.Shared.{Boxes, HasPorts}

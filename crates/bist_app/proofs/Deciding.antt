@@ -35,8 +35,7 @@ decided_and_ended words boxes left old between new r n kept decides cause reads 
     let told : Option Files → Option (List ℕ) → ℕ → HostState = λ f s w. record { files = f; said = s; read_faults = old.read_faults; write_faults = w } in
     let unread : Ends words (plain r) (told between.files between.said between.write_faults) new n = whatever_reads words (plain r) between new old.read_faults n ends in
     let files = subst (λ f. Ends words (plain r) (told f between.said between.write_faults) new n) kept.files unread in
-    let said = subst (λ s. Ends words (plain r) (told old.files s between.write_faults) new n) kept.said files in
-    (
+    let said = subst (λ s. Ends words (plain r) (told old.files s between.write_faults) new n) kept.said files in (
       plain r,
       decides,
       plain_cause old.files (Rose old.read_faults new.read_faults) r (subst (λ c. HasReadCause old.files (Rose old.read_faults c) r) (sym reads) cause),

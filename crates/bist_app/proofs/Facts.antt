@@ -1,5 +1,5 @@
 -- What is known of a command's row, and how it is put together beside the boxes.
-use Rattle.std.proofs.Common.{ℕ, Err, List, Ok, Option, Result, inl, inr, ◌≡◌, ◌⊎◌}
+use Rattle.std.proofs.Common.{Err, List, Ok, Option, Result, inl, inr, ◌≡◌, ◌⊎◌}
 use Rattle.bist_app.specs.Forms.{Row}
 use Rattle.bist_app.specs.Shared.{Before, Boxes}
 use Rattle.bist_endings.proofs.Settling.{Concludes, IsTold, Settles, narrows, then_concludes}

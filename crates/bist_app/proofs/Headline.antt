@@ -1,5 +1,5 @@
 -- What the answer of the top call comes to for `compile`.
-use Rattle.std.proofs.Common.{ap, ◌≡◌, ◌≢◌, ◌<◌, ◌≤◌, inl, inr, sym, ◌∙◌, subst, arith, codes, ℕ, List, [], ◌∷◌, Option, Some, None, Ok, Err}
+use Rattle.std.proofs.Common.{ap, ◌≡◌, ◌≢◌, ◌<◌, sym, ◌∙◌, subst, arith, ℕ, List, [], ◌∷◌, Option, Some, None, Ok, Err}
 use Rattle.bist_host.specs.Files.{Files, HostState, WritesFile, Says}
 use Rattle.march_core.specs.March.{MarchElement}
 use Rattle.march_syntax.specs.Answers.{Reads as ReadsMarch}
@@ -7,11 +7,9 @@ use Rattle.memory_desc.specs.Descriptions.{Description, IsMemory}
 use Rattle.memory_desc.specs.Table.{Reads as ReadsMemory}
 use Rattle.dynamic_core.specs.declared.item.Item.{Item}
 use Rattle.dynamic_core.specs.Items.{ReadsItems}
-use Rattle.bist_endings.specs.declared.ending.Refusal.{Refusal}
-use Rattle.bist_endings.specs.declared.concluding.WriteStop.{WriteStop}
 use Rattle.bist_endings.specs.Words.{Words, word}
-use Rattle.bist_endings.specs.Ending.{Done, status_of}
-use Rattle.bist_endings.specs.Conclude.{WritesInOrder, RefusalEnds, DoneEnds}
+use Rattle.bist_endings.specs.Ending.{Done}
+use Rattle.bist_endings.specs.Conclude.{WritesInOrder}
 use Rattle.bist_inputs.specs.Inputs.{InputMarch, InputList, GivesMarch, GivesList}
 use Rattle.bist_inputs.specs.Memories.{InputMemory, GivesMemory}
 use Rattle.bist_app.specs.Shared.{Boxes}

@@ -1,5 +1,5 @@
 -- Over files that are told, words have one settled answer and the same settled files; and words that say something are not refused.
-use Rattle.std.proofs.Common.{ℕ, Err, None, Ok, Option, Result, Some, ap, inl, inr, subst, sym, ◌∙◌, ◌≡◌}
+use Rattle.std.proofs.Common.{Err, None, Ok, Option, Result, Some, ap, inl, inr, subst, sym, ◌∙◌, ◌≡◌}
 use Rattle.bist_app.proofs.Facts.{SomeLeft}
 use Rattle.bist_app.proofs.OneCommand.{command_one}
 use Rattle.bist_app.proofs.Table.{facts_of}

@@ -1,5 +1,5 @@
 -- Words that have the form of no command.
-use Rattle.std.proofs.Common.{ℕ, None, Option, Some, subst, ◌≡◌}
+use Rattle.std.proofs.Common.{None, Option, Some, subst, ◌≡◌}
 use Rattle.bist_app.proofs.OneCommand.{by_name, only_named}
 use Rattle.bist_app.specs.Run.{HasNoForm, IsFormed, command_named}
 use Rattle.bist_app.specs.declared.commands.Command.{Command}

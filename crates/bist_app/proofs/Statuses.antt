@@ -1,5 +1,5 @@
 -- Which status comes from what.
-use Rattle.std.proofs.Common.{◌≡◌, ◌⊎◌, inl, inr, List, ℕ, Bool, true, false, Option, Some, None, Result, Ok, Err, ◌∙◌, ap, refl, subst, ◌<◌, ◌≤◌, arith}
+use Rattle.std.proofs.Common.{◌≡◌, ◌⊎◌, inl, inr, ℕ, Bool, true, false, Option, Some, None, Result, Ok, Err, ◌∙◌, ap, refl, subst, ◌<◌, ◌≤◌, arith}
 use Rattle.bist_host.specs.Files.{Files, HostState, ReadsRose, WritesRose}
 use Rattle.bist_endings.specs.declared.ending.Refusal.{Refusal}
 use Rattle.bist_endings.specs.declared.concluding.WriteStop.{WriteStop}

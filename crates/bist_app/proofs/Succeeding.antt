@@ -1,5 +1,5 @@
 -- A run that ends with 0 or 1 over told files: what its command decides is done, the files are written and the line is said.
-use Rattle.std.proofs.Common.{◌≡◌, ◌<◌, ◌≤◌, inl, inr, subst, arith, ℕ, Some, None, Ok, Err}
+use Rattle.std.proofs.Common.{◌≡◌, ◌≤◌, inl, inr, subst, arith, ℕ, Some, None, Ok, Err}
 use Rattle.bist_host.specs.Files.{Files, HostState, Says}
 use Rattle.bist_endings.specs.declared.ending.Refusal.{Refusal}
 use Rattle.bist_endings.specs.declared.concluding.WriteStop.{WriteStop}

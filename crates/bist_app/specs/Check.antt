@@ -1,6 +1,6 @@
 -- Trusted. The command `check VERILOG MARCH MEMORY`: whether the module of a file issues the commands of a march, whatever its registers hold at first and
 -- whatever words return. Its checks in their order, and what it leaves.
-use Rattle.std.specs.Prelude.{◌≡◌, ◌++◌, ℕ, Bool, true, false, List, [], Option, Result, Ok, Err, codes, decimal}
+use Rattle.std.specs.Prelude.{◌≡◌, ◌++◌, ℕ, Bool, true, false, List, [], Option, Result, codes, decimal}
 use Rattle.bist_host.specs.Files.{Files}
 use Rattle.verilog_tree.specs.Plain.{ModuleTree}
 use Rattle.verilog_tree.specs.Grammar.{ByPrecedence}

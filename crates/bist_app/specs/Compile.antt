@@ -2,7 +2,7 @@
 -- what the program is for: the written bytes spell one module, which tests the described memory by the march whatever its
 -- registers hold at first and whatever words return; and the report says of each item of the list whether the march detects it in
 -- arrays of every size, or gives its least escape.
-use Rattle.std.specs.Prelude.{◌≡◌, ℕ, List, [], ◌∷◌, Option, Some, Result, Ok, Err, codes, drop}
+use Rattle.std.specs.Prelude.{◌≡◌, ℕ, List, [], ◌∷◌, Option, Some, Result, codes, drop}
 use Rattle.bist_host.specs.Files.{Files}
 use Rattle.march_core.specs.March.{MarchElement}
 use Rattle.dynamic_core.specs.declared.item.Item.{Item}

@@ -1,6 +1,6 @@
 -- Trusted. The command `make NUMBER MARCH MEMORY FAULTS VERILOG REPORT`: its shape, and what it leaves. It reads no file: a number makes a
 -- large march, memory and list, which are written, compiled and counted.
-use Rattle.std.specs.Prelude.{◌≡◌, ◌≤◌, ◌++◌, ℕ, List, [], ◌∷◌, Some, Result, Ok, Err, length, codes, decimal, take, drop}
+use Rattle.std.specs.Prelude.{◌≡◌, ◌≤◌, ◌++◌, ℕ, List, [], ◌∷◌, Some, Result, Ok, length, codes, decimal, take, drop}
 use Rattle.march_core.specs.March.{MarchElement, all_ops}
 use Rattle.march_syntax.specs.Answers.{Reads as ReadsMarch}
 use Rattle.memory_desc.specs.Descriptions.{Description, IsMemory}

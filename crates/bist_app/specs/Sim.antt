@@ -4,7 +4,7 @@ use Rattle.bist_host.specs.Files.{Files}
 use Rattle.march_core.specs.March.{MarchElement}
 use Rattle.march_core.specs.Visits.{Direction, Upward, Downward, is_direction, visits}
 use Rattle.fault_core.specs.declared.cells.Places.{Places}
-use Rattle.fault_core.specs.Primitive.{Primitive, has_aggressor}
+use Rattle.fault_core.specs.Primitive.{Primitive}
 use Rattle.fault_core.specs.Cells.{close_of}
 use Rattle.march_core.specs.declared.visit.Miss.{Miss}
 use Rattle.array_sim.specs.Detection.{IsCaught}

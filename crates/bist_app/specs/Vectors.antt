@@ -1,5 +1,5 @@
 -- Trusted. The command `vectors MARCH MEMORY OUT`: its shape, its checks in their order, and what it leaves.
-use Rattle.std.specs.Prelude.{◌≡◌, ◌++◌, ℕ, Bool, true, false, List, [], ◌∷◌, Result, Ok, Err, Option, codes, decimal}
+use Rattle.std.specs.Prelude.{◌≡◌, ◌++◌, ℕ, Bool, true, false, List, [], ◌∷◌, Result, Option, codes, decimal}
 use Rattle.std.specs.List.{flat_map}
 use Rattle.bist_host.specs.Files.{Files}
 use Rattle.bist_text.specs.Numbers.{word_text}

@@ -11,7 +11,7 @@ use Rattle.bist_endings.proofs.Settling.{Concludes, IsTold, leaves_conclude, nar
 use Rattle.bist_endings.specs.Ending.{Done, found_status}
 use Rattle.bist_endings.specs.OneOutcome.{Answer, answer_of}
 use Rattle.bist_endings.specs.Then.{OrNoMemory}
-use Rattle.bist_endings.specs.Words.{Words, word}
+use Rattle.bist_endings.specs.Words.{Words}
 use Rattle.bist_host.specs.Files.{Files}
 use Rattle.bist_inputs.proofs.Settled.{march_settles, memory_settles}
 use Rattle.bist_inputs.specs.Inputs.{InputMarch}

@@ -1,5 +1,5 @@
 -- What is known of `benchfault`.
-use Rattle.std.proofs.Common.{ℕ, Err, List, Ok, Option, Some, [], is_some, refl, sym, ◌∙◌, ◌∷◌, ◌≡◌}
+use Rattle.std.proofs.Common.{Err, List, Ok, Option, Some, [], is_some, refl, sym, ◌∙◌, ◌∷◌, ◌≡◌}
 use Rattle.bist_app.proofs.Table.BenchFacts.{benched_one}
 use Rattle.bist_app.proofs.Facts.{Facts, SomeLeft, before_conclude, before_said, with_left}
 use Rattle.bist_app.proofs.PlaceWords.{aggressor_place_one, place_one}

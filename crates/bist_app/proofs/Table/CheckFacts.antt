@@ -17,7 +17,7 @@ use Rattle.bist_inputs.specs.Memories.{InputMemory}
 use Rattle.march_core.specs.March.{MarchElement}
 use Rattle.memory_desc.specs.Descriptions.{Description}
 use Rattle.port_check.proofs.Checking.{only_answer}
-use Rattle.port_check.specs.Answers.{SameAnswer, Told}
+use Rattle.port_check.specs.Answers.{SameAnswer}
 use Rattle.port_check.specs.declared.answer.PortAnswer.{PortAnswer}
 use Rattle.verilog_tree.specs.Grammar.{ByPrecedence}
 use Rattle.verilog_tree.specs.Plain.{ModuleTree}

@@ -1,5 +1,5 @@
 -- What is known of `compile`.
-use Rattle.std.proofs.Common.{ℕ, List, Option, Some, [], ap, drop, inr, sym, ◌∙◌, ◌∷◌, ◌≡◌}
+use Rattle.std.proofs.Common.{List, Option, Some, [], ap, drop, inr, sym, ◌∙◌, ◌∷◌, ◌≡◌}
 use Rattle.bist_app.proofs.Facts.{Facts, with_left}
 use Rattle.bist_app.proofs.OneReported.{reports_one}
 use Rattle.bist_app.specs.Compile.{DecidesCompile, IsCompiled, LeavesCompile, compile_row}

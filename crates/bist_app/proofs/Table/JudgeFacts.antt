@@ -1,5 +1,5 @@
 -- What is known of `judge`.
-use Rattle.std.proofs.Common.{ℕ, List, None, Option, [], ap, inr, sym, ◌∙◌, ◌∷◌, ◌≡◌}
+use Rattle.std.proofs.Common.{List, None, Option, [], ap, inr, sym, ◌∙◌, ◌∷◌, ◌≡◌}
 use Rattle.bist_app.proofs.Facts.{Facts, with_left}
 use Rattle.bist_app.proofs.OneReported.{reports_one}
 use Rattle.bist_app.specs.Judge.{DecidesJudge, IsJudged, LeavesJudge, judge_row}

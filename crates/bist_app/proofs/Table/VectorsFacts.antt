@@ -1,5 +1,5 @@
 -- What is known of `vectors`.
-use Rattle.std.proofs.Common.{ℕ, List, Ok, Option, ap, inr, sym, ◌∙◌, ◌≡◌}
+use Rattle.std.proofs.Common.{List, Ok, Option, ap, inr, sym, ◌∙◌, ◌≡◌}
 use Rattle.bist_app.proofs.Facts.{Facts, with_left}
 use Rattle.bist_app.proofs.SharedFacts.{length_settles}
 use Rattle.bist_app.specs.Shared.{FitsLength}
