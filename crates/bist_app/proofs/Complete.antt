@@ -1,6 +1,7 @@
 -- Where neither count rose and there was memory, the answer is that of the told files.
 use Rattle.std.proofs.Common.{◌≡◌, inl, inr, refl, subst, ℕ, Option, Some, None, Ok, Err, IfSome, ◌∙◌}
 use Rattle.bist_host.specs.Files.{Files, HostState, ReadsRose, WritesRose}
+use Rattle.bist_endings.specs.declared.ending.InputRefusal.{InputRefusal}
 use Rattle.bist_endings.specs.declared.ending.Refusal.{Refusal}
 use Rattle.bist_endings.specs.declared.concluding.WriteStop.{WriteStop}
 use Rattle.bist_endings.specs.Words.{Words}
@@ -14,6 +15,8 @@ use Rattle.bist_app.specs.Run.{Runs, Decides}
 
 is_settled : (files : Option Files) (rr : Type 0) (e : Refusal) → (rr → ⊥) → (status_of e ≡ 9 → ⊥) → HasReadCause {A = Done} files rr (Err e) → IsSettledRefusal e
 is_settled files rr (Refusal.ReadFailed p) quiet nine c = quiet c
+is_settled files rr (Refusal.Unit u (InputRefusal.ReadFailed p)) quiet nine c = quiet c
+is_settled files rr (Refusal.Unit u other) quiet nine c = tt
 is_settled files rr Refusal.NoMemory quiet nine c = nine refl
 is_settled files rr other quiet nine c = tt
 

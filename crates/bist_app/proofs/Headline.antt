@@ -10,8 +10,8 @@ use Rattle.dynamic_core.specs.Items.{ReadsItems}
 use Rattle.bist_endings.specs.Words.{Words, word}
 use Rattle.bist_endings.specs.Ending.{Done}
 use Rattle.bist_endings.specs.Conclude.{WritesInOrder}
-use Rattle.bist_inputs.specs.Inputs.{InputMarch, InputList, GivesMarch, GivesList}
-use Rattle.bist_inputs.specs.Memories.{InputMemory, GivesMemory}
+use Rattle.bist_inputs.specs.Inputs.{FileMarch, InputMarch, InputList, GivesMarch, GivesList}
+use Rattle.bist_inputs.specs.Memories.{FileMemory, InputMemory, GivesMemory}
 use Rattle.bist_app.specs.Shared.{Boxes}
 use Rattle.bist_app.specs.Compile.{IsCompiled, LeavesCompile, DecidesCompile, compile_form}
 use Rattle.bist_app.specs.Headline.{InputHas, IsCompilation, LeavesCompilation}
@@ -24,12 +24,12 @@ use Rattle.bist_app.specs.Run.{command_named, Runs}
 -- ---- the inputs
 
 pub march_read : (files : Files) (words : Words) (position : ℕ) (march : List MarchElement) → InputMarch (Some files) words position (Ok march) → InputHas files (word words position) (λ bytes. ReadsMarch bytes (Ok march))
-unfolding InputMarch GivesMarch
+unfolding FileMarch GivesMarch
 march_read files words position march (Ok bytes, gives, reads) = (bytes, gives.0, (gives.1, reads))
 march_read files words position march (Err e, gives, same) = absurd (not_refused same)
 
 pub memory_read : (files : Files) (words : Words) (position : ℕ) (d : Description) → InputMemory (Some files) words position (Ok d) → IsMemory d × InputHas files (word words position) (λ bytes. ReadsMemory bytes (Ok d))
-unfolding InputMemory GivesMemory
+unfolding FileMemory GivesMemory
 memory_read files words position d (Ok bytes, gives, reads) = (reads.1, (bytes, gives.0, (gives.1, reads.0)))
 memory_read files words position d (Err e, gives, same) = absurd (not_refused same)
 

@@ -30,3 +30,9 @@ pub mod OwnWords
 pub mod Table
 pub mod Deciding
 pub mod Succeeding
+pub mod ReadUnits
+pub mod TakenNames
+pub mod ChipTexts
+pub mod ChipChecks
+pub mod OneChip
+pub mod TestedChip

@@ -5,6 +5,9 @@ use Rattle.bist_endings.specs.declared.ending.Refusal.{Refusal}
 use Rattle.bist_endings.specs.declared.ending.Plan.{Plan}
 use Rattle.bist_endings.specs.Ending.{plain}
 
+pub stopped : {A : Type 0} (r : Result A Refusal) (e : Refusal) → IsErr r × IsErrAnd r (λ x. x ≡ e) → r ≡ Err e
+stopped (Err x) e h = ap Err h.1
+stopped (Ok value) e h = absurd h.1
+
 pub passed_on : (r : Result Plan Refusal) (e : Refusal) → IsErr r × IsErrAnd r (λ x. x ≡ e) → plain r ≡ Err e
-passed_on (Err x) e h = ap Err h.1
-passed_on (Ok plan) e h = absurd h.1
+passed_on r e h = ap plain (stopped r e h)

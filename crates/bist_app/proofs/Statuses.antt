@@ -1,6 +1,7 @@
 -- Which status comes from what.
 use Rattle.std.proofs.Common.{◌≡◌, ◌⊎◌, inl, inr, ℕ, Bool, true, false, Option, Some, None, Result, Ok, Err, ◌∙◌, ap, refl, subst, ◌<◌, ◌≤◌, arith}
 use Rattle.bist_host.specs.Files.{Files, HostState, ReadsRose, WritesRose}
+use Rattle.bist_endings.specs.declared.ending.InputRefusal.{InputRefusal}
 use Rattle.bist_endings.specs.declared.ending.Refusal.{Refusal}
 use Rattle.bist_endings.specs.declared.concluding.WriteStop.{WriteStop}
 use Rattle.bist_endings.specs.Words.{Words}
@@ -48,14 +49,17 @@ failed_writes done old new (Err WriteStop.NoMemory) n h k = absurd (omega (arith
 -- no refusal has the status of a failed write
 not_eight : (e : Refusal) (n : ℕ) → n ≡ status_of e → n ≡ 8 → ⊥
 not_eight Refusal.Usage n h k = omega arith
+not_eight (Refusal.Unit u (InputRefusal.March f)) n h k = omega arith
 not_eight other n h k = omega arith
 
 two_is_usage : (e : Refusal) (n : ℕ) → n ≡ status_of e → n ≡ 2 → e ≡ Refusal.Usage
 two_is_usage Refusal.Usage n h k = refl
+two_is_usage (Refusal.Unit u (InputRefusal.March f)) n h k = absurd (omega arith)
 two_is_usage other n h k = absurd (omega arith)
 
 read_cause : (files : Option Files) (rr : Type 0) (e : Refusal) (n : ℕ) → n ≡ status_of e → n ≡ 7 → HasReadCause {A = Done} files rr (Err e) → rr
 read_cause files rr (Refusal.ReadFailed p) n h k c = c
+read_cause files rr (Refusal.Unit u (InputRefusal.ReadFailed p)) n h k c = c
 read_cause files rr other n h k c = absurd (omega arith)
 
 -- how a refusal's status comes: its own, or 9
@@ -82,6 +86,9 @@ silent_cause : (rr : Type 0) (e : Refusal) (n : ℕ) → n ≡ status_of e → (
 silent_cause rr (Refusal.TooLarge p) n h k c = c
 silent_cause rr (Refusal.ReadFailed p) n h k c = c
 silent_cause rr (Refusal.Absent p) n h k c = c
+silent_cause rr (Refusal.Unit u (InputRefusal.TooLarge p)) n h k c = c
+silent_cause rr (Refusal.Unit u (InputRefusal.ReadFailed p)) n h k c = c
+silent_cause rr (Refusal.Unit u (InputRefusal.Absent p)) n h k c = c
 silent_cause rr other n h k c = absurd (omega arith)
 
 -- over files that aren't told, a file is absent or too large only where the count of reads rose

@@ -1,6 +1,7 @@
 -- A run that ends with 0 or 1 over told files: what its command decides is done, the files are written and the line is said.
 use Rattle.std.proofs.Common.{◌≡◌, ◌≤◌, inl, inr, subst, arith, ℕ, Some, None, Ok, Err}
 use Rattle.bist_host.specs.Files.{Files, HostState, Says}
+use Rattle.bist_endings.specs.declared.ending.InputRefusal.{InputRefusal}
 use Rattle.bist_endings.specs.declared.ending.Refusal.{Refusal}
 use Rattle.bist_endings.specs.declared.concluding.WriteStop.{WriteStop}
 use Rattle.bist_endings.specs.Words.{Words, word}
@@ -27,6 +28,7 @@ nine_high = omega arith
 
 status_high : (e : Refusal) → 2 ≤ status_of e
 status_high Refusal.Usage = omega arith
+status_high (Refusal.Unit u (InputRefusal.March f)) = omega arith
 status_high other = omega arith
 
 refused_high : (e : Refusal) (old new : HostState) (n : ℕ) → RefusalEnds e old new n → n ≤ 1 → ⊥

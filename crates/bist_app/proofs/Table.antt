@@ -9,11 +9,13 @@ pub mod BenchFileFacts
 pub mod BenchFaultFacts
 pub mod BenchAllFacts
 pub mod CheckFacts
+pub mod ChipFacts
 use Rattle.bist_app.proofs.Table.BenchAllFacts.{bench_all_facts}
 use Rattle.bist_app.proofs.Table.BenchFacts.{bench_facts}
 use Rattle.bist_app.proofs.Table.BenchFaultFacts.{bench_fault_facts}
 use Rattle.bist_app.proofs.Table.BenchFileFacts.{bench_file_facts}
 use Rattle.bist_app.proofs.Table.CheckFacts.{check_facts}
+use Rattle.bist_app.proofs.Table.ChipFacts.{chip_facts}
 use Rattle.bist_app.proofs.Table.CompileFacts.{compile_facts}
 use Rattle.bist_app.proofs.Facts.{Facts}
 use Rattle.bist_app.proofs.Table.JudgeFacts.{judge_facts}
@@ -34,3 +36,4 @@ facts_of Command.BenchFile = bench_file_facts
 facts_of Command.BenchFault = bench_fault_facts
 facts_of Command.BenchAll = bench_all_facts
 facts_of Command.Check = check_facts
+facts_of Command.Chip = chip_facts

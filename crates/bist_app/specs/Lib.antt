@@ -9,6 +9,10 @@ pub mod BenchFile
 pub mod BenchFault
 pub mod BenchAll
 pub mod Check
+pub mod Chip
+pub mod UnitTables
+pub mod ChipParts
+pub mod TestedChip
 pub mod BenchedBoxes
 pub mod Compile
 pub mod Headline

@@ -19,6 +19,7 @@ use Rattle.bist_app.specs.BenchFile.{bench_file_row}
 use Rattle.bist_app.specs.BenchFault.{bench_fault_row}
 use Rattle.bist_app.specs.BenchAll.{bench_all_row}
 use Rattle.bist_app.specs.Check.{check_row}
+use Rattle.bist_app.specs.Chip.{chip_row}
 
 -- the table of the commands
 abbrev pub row_of : Command → Row
@@ -32,6 +33,7 @@ row_of Command.BenchFile = bench_file_row
 row_of Command.BenchFault = bench_fault_row
 row_of Command.BenchAll = bench_all_row
 row_of Command.Check = check_row
+row_of Command.Chip = chip_row
 
 -- for private contracts alone: the command of a name
 abbrev pub command_named : List ℕ → Option Command
@@ -46,6 +48,7 @@ command_named text =
     if bytes_eq text (codes "benchfault") then Some Command.BenchFault else
     if bytes_eq text (codes "benchall") then Some Command.BenchAll else
     if bytes_eq text (codes "check") then Some Command.Check else
+    if bytes_eq text (codes "chip") then Some Command.Chip else
     None
 
 -- the words have the form of this command

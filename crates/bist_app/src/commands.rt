@@ -13,6 +13,7 @@ use crate::benchall_command::decide_bench_all;
 use crate::benchfault_command::decide_fault;
 use crate::benchfile_command::decide_benchfile;
 use crate::check_command::decide_check;
+use crate::chip::decide_chip;
 use crate::compile::decide_compile;
 use crate::forms::has_form;
 use crate::judge::decide_judge;
@@ -37,6 +38,7 @@ pub enum Command {
     BenchFault,
     BenchAll,
     Check,
+    Chip,
 }
 
 /// The command of a name.
@@ -54,6 +56,7 @@ fn command_named(name: &str) -> Option<Command>
         "benchfault" => Some(Command::BenchFault),
         "benchall" => Some(Command::BenchAll),
         "check" => Some(Command::Check),
+        "chip" => Some(Command::Chip),
         _ => None,
     }
 }
@@ -73,6 +76,7 @@ fn is_formed(words: &[&str], command: Command) -> bool
         Command::BenchFault => has_form(words, "benchfault", 6, 1, 3),
         Command::BenchAll => has_form(words, "benchall", 3, 1, 3),
         Command::Check => has_form(words, "check", 4, 1, 4),
+        Command::Chip => has_form(words, "chip", 3, 1, 3),
     }
 }
 
@@ -117,5 +121,6 @@ pub fn decide<H: Host>(
         Some(Command::BenchFault) => decide_fault(alloc, words, host, devices),
         Some(Command::BenchAll) => decide_bench_all(alloc, words, host, devices),
         Some(Command::Check) => decide_check(alloc, words, host),
+        Some(Command::Chip) => decide_chip(alloc, words, host),
     }
 }

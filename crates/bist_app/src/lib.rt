@@ -9,6 +9,7 @@ mod benching;
 mod benching_all;
 mod boxes;
 mod check_command;
+mod chip;
 mod commands;
 mod compile;
 mod directions;
@@ -19,6 +20,7 @@ mod planting;
 mod reporting;
 mod sim;
 mod top;
+mod units;
 mod vectors;
 
 pub use bist_endings::Ended;

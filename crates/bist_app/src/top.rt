@@ -5,6 +5,7 @@ ghost use Rattle.bist_app.specs.Answer.{IsComplete, RunHasOneAnswer, HaveSameFil
 ghost use Rattle.bist_app.specs.Conformance.{LeavesConformance};
 ghost use Rattle.bist_app.specs.Headline.{LeavesCompilation};
 ghost use Rattle.bist_app.specs.Run.{Runs, HasNoShape};
+ghost use Rattle.bist_app.specs.TestedChip.{LeavesTestedChip};
 
 use crate::commands::decide;
 use bist_endings::{Ended, conclude};
@@ -47,6 +48,9 @@ pub fn run<H: Host>(
 
     // What `check` tells where it ends with 0 or 1.
     ensures conformance { LeavesConformance words.now (H.state host.old) (H.state host.new) result.status }
+
+    // What `chip` leaves where it ends with 0.
+    ensures tested_chip { LeavesTestedChip words.now (H.state host.old) (H.state host.new) result.status }
 
     ensures one_answer { RunHasOneAnswer (H.state host.old).files (map (λ b. told b) devices.old.items) words.now }
     ensures one_files { HaveSameFiles (H.state host.old).files (map (λ b. told b) devices.old.items) words.now }

@@ -8,7 +8,11 @@ use Rattle.memory_desc.specs.declared.fault.MemoryFault.{MemoryFault}
 use Rattle.arrayvec.specs.ArrayString.{ArrayString}
 use Rattle.verilog_tree.specs.declared.fault.TreeFault.{TreeFault}
 use Rattle.verilog_tree.specs.declared.fault.ReadFault.{ReadFault}
+use Rattle.chip_desc.specs.declared.fault.ChipField.{ChipField}
+use Rattle.chip_desc.specs.declared.fault.ChipFault.{ChipFault}
 use Rattle.bist_endings.specs.declared.ending.Refusal.{Refusal}
+use Rattle.bist_endings.specs.declared.ending.InputRefusal.{InputRefusal}
+use Rattle.bist_endings.specs.declared.ending.ChipRefusal.{ChipRefusal}
 use Rattle.bist_endings.specs.declared.ending.DeviceRefusal.{DeviceRefusal}
 use Rattle.bist_endings.specs.declared.ending.VerilogRefusal.{VerilogRefusal}
 use Rattle.bist_endings.specs.declared.ending.Misfit.{Misfit}
@@ -36,6 +40,13 @@ abbrev pub plain : Result Plan Refusal → Result Done Refusal
 plain (Ok plan) = Ok (done_of plan)
 plain (Err refusal) = Err refusal
 
+abbrev pub input_status : InputRefusal → ℕ
+input_status (InputRefusal.March fault) = 3
+input_status (InputRefusal.Memory fault) = 4
+input_status (InputRefusal.TooLarge position) = 6
+input_status (InputRefusal.ReadFailed position) = 7
+input_status (InputRefusal.Absent position) = 10
+
 abbrev pub status_of : Refusal → ℕ
 status_of Refusal.Usage = 2
 status_of (Refusal.March fault) = 3
@@ -49,6 +60,8 @@ status_of (Refusal.Device refusal) = 11
 status_of (Refusal.TooLong number) = 12
 status_of (Refusal.Misfit misfit) = 13
 status_of (Refusal.Verilog refusal) = 14
+status_of (Refusal.Chip refusal) = 15
+status_of (Refusal.Unit unit refusal) = input_status refusal
 
 abbrev pub found_status : Bool → ℕ
 found_status false = 0
@@ -152,17 +165,53 @@ verilog_text (VerilogRefusal.Read fault) = read_fault_text fault
 verilog_text (VerilogRefusal.Tree fault) = tree_fault_text fault
 verilog_text (VerilogRefusal.WrongPort name) = codes "B2 " ++ name.bytes
 
+-- a part of a chip file that is missing
+abbrev pub chip_field_text : ChipField → List ℕ
+chip_field_text ChipField.Name = codes "name"
+chip_field_text ChipField.Budget = codes "budget"
+chip_field_text ChipField.Unit = codes "unit"
+
+-- why a file describes no chip: its code, line and byte, or field
+abbrev pub chip_fault_text : ChipFault → List ℕ
+chip_fault_text (ChipFault.Unexpected line byte) = codes "C1 line " ++ decimal line ++ codes " byte " ++ decimal byte
+chip_fault_text ChipFault.Truncated = codes "C2"
+chip_fault_text (ChipFault.Repeated line) = codes "C3 line " ++ decimal line
+chip_fault_text (ChipFault.Missing field) = codes "C4 " ++ chip_field_text field
+chip_fault_text (ChipFault.OutOfRange line) = codes "C5 line " ++ decimal line
+chip_fault_text ChipFault.TooManyUnits = codes "C6"
+chip_fault_text ChipFault.OtherVersion = codes "C7"
+chip_fault_text (ChipFault.TooHeavy line) = codes "C9 line " ++ decimal line
+
+-- why a chip isn't tested
+abbrev pub chip_text : ChipRefusal → List ℕ
+chip_text (ChipRefusal.File fault) = chip_fault_text fault
+chip_text (ChipRefusal.SameName unit) = codes "C8 unit " ++ decimal unit
+
+-- why an input is refused
+abbrev pub input_line : InputRefusal → List ℕ
+input_line (InputRefusal.March fault) = codes "march " ++ march_fault_text fault ++ codes "\n"
+input_line (InputRefusal.Memory fault) = codes "memory " ++ memory_fault_text fault ++ codes "\n"
+input_line (InputRefusal.TooLarge position) = numbered_line (codes "too large ") position
+input_line (InputRefusal.ReadFailed position) = numbered_line (codes "read failed ") position
+input_line (InputRefusal.Absent position) = numbered_line (codes "absent ") position
+
+-- which unit of a chip an input is of, before the line of the input
+abbrev pub unit_text : ℕ → List ℕ
+unit_text unit = codes "unit " ++ decimal unit ++ codes " "
+
 abbrev pub refusal_line : Refusal → List ℕ
 refusal_line Refusal.Usage = codes "usage\n"
-refusal_line (Refusal.March fault) = codes "march " ++ march_fault_text fault ++ codes "\n"
-refusal_line (Refusal.Memory fault) = codes "memory " ++ memory_fault_text fault ++ codes "\n"
+refusal_line (Refusal.March fault) = input_line (InputRefusal.March fault)
+refusal_line (Refusal.Memory fault) = input_line (InputRefusal.Memory fault)
 refusal_line (Refusal.Fault fault) = codes "fault " ++ fault_text fault ++ codes "\n"
-refusal_line (Refusal.TooLarge position) = numbered_line (codes "too large ") position
-refusal_line (Refusal.ReadFailed position) = numbered_line (codes "read failed ") position
-refusal_line (Refusal.Absent position) = numbered_line (codes "absent ") position
+refusal_line (Refusal.TooLarge position) = input_line (InputRefusal.TooLarge position)
+refusal_line (Refusal.ReadFailed position) = input_line (InputRefusal.ReadFailed position)
+refusal_line (Refusal.Absent position) = input_line (InputRefusal.Absent position)
 refusal_line (Refusal.TooLong number) = numbered_line (codes "too long ") number
 refusal_line (Refusal.Misfit Misfit.Aggressor) = codes "misfit aggressor\n"
 refusal_line (Refusal.Misfit Misfit.Directions) = codes "misfit directions\n"
 refusal_line (Refusal.Device refusal) = codes "device " ++ device_text refusal ++ codes "\n"
 refusal_line (Refusal.Verilog refusal) = codes "verilog " ++ verilog_text refusal ++ codes "\n"
+refusal_line (Refusal.Chip refusal) = codes "chip " ++ chip_text refusal ++ codes "\n"
+refusal_line (Refusal.Unit unit refusal) = unit_text unit ++ input_line refusal
 refusal_line Refusal.NoMemory = no_memory_line

@@ -2,13 +2,20 @@
 use Rattle.std.specs.Prelude.{◌≡◌, ◌⊎◌, ℕ, List, Result, Ok, Err}
 use Rattle.verilog_tree.specs.declared.fault.TreeFault.{TreeFault}
 use Rattle.bist_endings.specs.declared.ending.Refusal.{Refusal}
+use Rattle.bist_endings.specs.declared.ending.InputRefusal.{InputRefusal}
 use Rattle.bist_endings.specs.declared.ending.VerilogRefusal.{VerilogRefusal}
 use Rattle.bist_endings.specs.Ending.{Done, status_of, found_status, refusal_line}
+
+-- not a refusal of an input that the host's faults choose
+abbrev pub IsSettledInput : InputRefusal → Type 0
+IsSettledInput (InputRefusal.ReadFailed p) = ⊥
+IsSettledInput other = Unit {0}
 
 -- not a refusal that the memory or the host's faults choose
 abbrev pub IsSettledRefusal : Refusal → Type 0
 IsSettledRefusal Refusal.NoMemory = ⊥
 IsSettledRefusal (Refusal.ReadFailed p) = ⊥
+IsSettledRefusal (Refusal.Unit unit refusal) = IsSettledInput refusal
 IsSettledRefusal other = Unit {0}
 
 -- not an outcome that the memory or the host's faults choose

@@ -1,9 +1,10 @@
 ghost use Rattle.std.specs.Prelude.{◌≡◌, ◌≤◌, ◌<◌, length, map, IfOk, codes};
 ghost use Rattle.bist_host.specs.Files.{OnlyWrites, OnlySays, WritesRose, SaysPrefix};
-ghost use Rattle.bist_endings.specs.Ending.{plain, written_of, status_of, refusal_line, numbered_line, done_of, no_memory_line, write_failed_line};
+ghost use Rattle.bist_endings.specs.Ending.{plain, written_of, input_status, status_of, refusal_line, numbered_line, done_of, no_memory_line, write_failed_line};
 ghost use Rattle.bist_endings.specs.Conclude.{NamesWords, WritesInOrder, HasWriteCause, SaysLine, RefusalEnds, SaysDone, DoneEnds, Ends};
 
-use crate::ending::{Ended, Misfit, Output, Plan, Refusal};
+use crate::chip_lines::{chip_line, unit_line};
+use crate::ending::{Ended, InputRefusal, Misfit, Output, Plan, Refusal};
 use crate::lines::{device_line, fault_line, march_line, numbered};
 use crate::memory_lines::memory_line;
 use crate::verilog_lines::verilog_line;
@@ -71,7 +72,21 @@ fn line_of_refusal(alloc: Global, refusal: Refusal) -> Result<Vec<u8>, AllocErro
         Refusal::Misfit(Misfit::Directions) => Vec::from_slice(alloc, b"misfit directions\n"),
         Refusal::Device(refusal) => device_line(alloc, refusal),
         Refusal::Verilog(refusal) => verilog_line(alloc, refusal),
+        Refusal::Chip(refusal) => chip_line(alloc, refusal),
+        Refusal::Unit { unit, refusal } => unit_line(alloc, unit, refusal),
         Refusal::NoMemory => Vec::from_slice(alloc, b"no memory\n"),
+    }
+}
+
+fn input_status(refusal: InputRefusal) -> u8
+    ensures { result ≡ input_status refusal }
+{
+    match refusal {
+        InputRefusal::March(_) => 3,
+        InputRefusal::Memory(_) => 4,
+        InputRefusal::TooLarge { .. } => 6,
+        InputRefusal::ReadFailed { .. } => 7,
+        InputRefusal::Absent { .. } => 10,
     }
 }
 
@@ -91,6 +106,8 @@ fn status(refusal: &Refusal) -> u8
         Refusal::TooLong { .. } => 12,
         Refusal::Misfit(_) => 13,
         Refusal::Verilog(_) => 14,
+        Refusal::Chip(_) => 15,
+        Refusal::Unit { refusal, .. } => input_status(*refusal),
     }
 }
 

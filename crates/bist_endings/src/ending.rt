@@ -1,3 +1,4 @@
+use chip_desc::ChipFault;
 use fault_syntax::FaultFault;
 use march_core::MarchFault;
 use memory_desc::MemoryFault;
@@ -40,6 +41,25 @@ pub enum VerilogRefusal {
     WrongPort { name: Name },
 }
 
+/// Why a chip isn't tested.
+#[derive(Clone, Copy)]
+pub enum ChipRefusal {
+    /// C1 to C7 and C9: the file describes no chip.
+    File(ChipFault),
+    /// C8: the memory of this unit has the name of an earlier one, or its module that of the chip.
+    SameName { unit: usize },
+}
+
+/// Why an input is refused. A position is that of what names its file.
+#[derive(Clone, Copy)]
+pub enum InputRefusal {
+    March(MarchFault),
+    Memory(MemoryFault),
+    TooLarge { position: usize },
+    ReadFailed { position: usize },
+    Absent { position: usize },
+}
+
 /// Why a command is refused. A position is that of a file's word, the command itself being 0.
 #[derive(Drop)]
 pub enum Refusal {
@@ -60,6 +80,9 @@ pub enum Refusal {
     TooLong { cycles: u64 },
     /// The file is no module that can be run beside the memory.
     Verilog(VerilogRefusal),
+    Chip(ChipRefusal),
+    /// An input of this unit of a chip is refused. The name of the march has position 1, and that of the memory 2.
+    Unit { unit: usize, refusal: InputRefusal },
     NoMemory,
 }
 

@@ -2,6 +2,7 @@
 //! and how a decided command ends, with its files written, its line said and its status.
 #![tactic(auto)]
 
+mod chip_lines;
 mod concluding;
 mod ending;
 mod lines;
@@ -10,6 +11,8 @@ mod verilog_lines;
 mod words;
 
 pub use concluding::conclude;
-pub use ending::{DeviceRefusal, Ended, Misfit, Output, Plan, Refusal, VerilogRefusal};
+pub use ending::{
+    ChipRefusal, DeviceRefusal, Ended, InputRefusal, Misfit, Output, Plan, Refusal, VerilogRefusal,
+};
 pub use lines::{numbered, push_number};
 pub use words::{are_plain, number_of};

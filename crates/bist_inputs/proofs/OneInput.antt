@@ -16,8 +16,8 @@ use Rattle.bist_endings.specs.declared.ending.Refusal.{Refusal}
 use Rattle.bist_endings.specs.Words.{Words, word}
 use Rattle.bist_endings.specs.OneOutcome.{HasOneOutcome}
 use Rattle.bist_endings.proofs.OneOutcome.{then_one}
-use Rattle.bist_inputs.specs.Inputs.{GivesBytes, GivesMarch, InputMarch, GivesPrim, GivesList, InputList, input_limit}
-use Rattle.bist_inputs.specs.Memories.{GivesMemory, InputMemory}
+use Rattle.bist_inputs.specs.Inputs.{GivesBytes, GivesMarch, FileMarch, InputMarch, GivesPrim, GivesList, InputList, input_limit}
+use Rattle.bist_inputs.specs.Memories.{GivesMemory, FileMemory, InputMemory}
 
 same_bytes : (o : Option (List ℕ)) (b c : List ℕ) → o ≡ Some b → o ≡ Some c → (let r : Result (List ℕ) Refusal = Ok b in r) ≡ Ok c
 same_bytes o b c h i = cc
@@ -80,9 +80,12 @@ march_one bytes (Err (Refusal.March d)) (Err (Refusal.March e)) f g r s = march_
 march_one bytes (Err (Refusal.March d)) (Err other) f g r s = absurd g
 march_one bytes (Err other) outcome f g r s = absurd f
 
+pub file_march_one : (files : Files) (name : List ℕ) (position : ℕ) → HasOneOutcome (FileMarch (Some files) name position)
+unfolding FileMarch
+file_march_one files name position = then_one (GivesBytes (Some files) name position) GivesMarch (bytes_one files name position) march_one
+
 pub input_march_one : (files : Files) (words : Words) (position : ℕ) → HasOneOutcome (InputMarch (Some files) words position)
-unfolding InputMarch
-input_march_one files words position = then_one (GivesBytes (Some files) (word words position) position) GivesMarch (bytes_one files (word words position) position) march_one
+input_march_one files words position = file_march_one files (word words position) position
 
 memory_alike : (q r : Result Description MemoryFault) (m n : Description) → q ≡ Ok m → r ≡ Ok n → q ≡ r → (let x : Result Description Refusal = Ok m in x) ≡ Ok n
 memory_alike q r m n x y h = cc
@@ -103,9 +106,12 @@ memory_one bytes (Err (Refusal.Memory d)) (Err (Refusal.Memory e)) f g r s = mem
 memory_one bytes (Err (Refusal.Memory d)) (Err other) f g r s = absurd g
 memory_one bytes (Err other) outcome f g r s = absurd f
 
+pub file_memory_one : (files : Files) (name : List ℕ) (position : ℕ) → HasOneOutcome (FileMemory (Some files) name position)
+unfolding FileMemory
+file_memory_one files name position = then_one (GivesBytes (Some files) name position) GivesMemory (bytes_one files name position) memory_one
+
 pub input_memory_one : (files : Files) (words : Words) (position : ℕ) → HasOneOutcome (InputMemory (Some files) words position)
-unfolding InputMemory
-input_memory_one files words position = then_one (GivesBytes (Some files) (word words position) position) GivesMemory (bytes_one files (word words position) position) memory_one
+input_memory_one files words position = file_memory_one files (word words position) position
 
 prim_alike : (q r : Result Primitive FaultFault) (m n : Primitive) → q ≡ Ok m → r ≡ Ok n → q ≡ r → (let x : Result Primitive Refusal = Ok m in x) ≡ Ok n
 prim_alike q r m n x y h = cc

@@ -5,6 +5,7 @@ use Rattle.march_core.specs.March.{MarchElement}
 use Rattle.fault_core.specs.Primitive.{Primitive}
 use Rattle.dynamic_core.specs.declared.item.Item.{Item}
 use Rattle.memory_desc.specs.Descriptions.{Description}
+use Rattle.chip_desc.specs.Chips.{ChipDescription}
 use Rattle.verilog_tree.specs.Grammar.{Style}
 use Rattle.verilog_tree.specs.Plain.{ModuleTree}
 use Rattle.bist_endings.specs.Words.{Words}
@@ -13,10 +14,12 @@ use Rattle.bist_endings.proofs.Settling.{IsTold, Settles, told_settles, outcome_
 use Rattle.bist_inputs.specs.Inputs.{InputMarch, GivesPrim, InputList}
 use Rattle.bist_inputs.specs.Memories.{InputMemory}
 use Rattle.bist_inputs.specs.Designs.{InputModule}
+use Rattle.bist_inputs.specs.Chips.{InputChip}
 use Rattle.bist_inputs.proofs.Usage.{input_march_never, prim_never, input_list_never, input_memory_never}
 use Rattle.bist_inputs.proofs.DesignUsage.{input_module_never}
 use Rattle.bist_inputs.proofs.OneInput.{input_march_one, prim_one, input_list_one, input_memory_one}
 use Rattle.bist_inputs.proofs.OneDesign.{input_module_one}
+use Rattle.bist_inputs.proofs.OneChip.{input_chip_one, input_chip_never}
 
 pub march_settles : {Says : Type 0} (files : Option Files) (words : Words) (position : ℕ) → Settles (List MarchElement) Says (IsTold files) (InputMarch files words position)
 march_settles files words position =
@@ -36,3 +39,7 @@ module_settles style files words position =
 
 pub prim_settles : {Says Told : Type 0} (text : List ℕ) → Settles Primitive Says Told (GivesPrim text)
 prim_settles text = outcome_settles (GivesPrim text) (prim_never text) (prim_one text)
+
+pub chip_settles : {Says : Type 0} (files : Option Files) (words : Words) (position : ℕ) → Settles ChipDescription Says (IsTold files) (InputChip files words position)
+chip_settles files words position =
+    told_settles files (λ f. InputChip f words position) (input_chip_never files words position) (λ f. outcome_value _ (input_chip_one f words position))

@@ -7,8 +7,8 @@ use Rattle.memory_desc.specs.Descriptions.{Description}
 use Rattle.bist_endings.specs.declared.ending.Refusal.{Refusal}
 use Rattle.bist_endings.specs.Words.{Words, word}
 use Rattle.bist_endings.proofs.Settling.{NeverUsage}
-use Rattle.bist_inputs.specs.Inputs.{GivesBytes, GivesMarch, InputMarch, GivesPrim, GivesList, InputList}
-use Rattle.bist_inputs.specs.Memories.{GivesMemory, InputMemory}
+use Rattle.bist_inputs.specs.Inputs.{GivesBytes, GivesMarch, FileMarch, InputMarch, GivesPrim, GivesList, InputList}
+use Rattle.bist_inputs.specs.Memories.{GivesMemory, FileMemory, InputMemory}
 
 -- the refusal of a check that stops the checks behind it
 pub turned : {A B : Type 0} (check : Result A Refusal → Type 0) (outcome : Result B Refusal) (e : Refusal) → outcome ≡ Err Refusal.Usage → outcome ≡ Err e → check (Err e) → check (Err Refusal.Usage)
@@ -22,11 +22,14 @@ march_never : (bytes : List ℕ) → NeverUsage (GivesMarch bytes)
 unfolding GivesMarch
 march_never bytes h = h
 
+pub file_march_never : (files : Option Files) (name : List ℕ) (position : ℕ) → NeverUsage (FileMarch files name position)
+unfolding FileMarch
+file_march_never files name position (Ok bytes, read, march) = march_never bytes march
+file_march_never files name position (Err e, read, is) =
+    bytes_never files name position (turned (GivesBytes files name position) (let x : Result (List MarchElement) Refusal = Err Refusal.Usage in x) e refl is read)
+
 pub input_march_never : (files : Option Files) (words : Words) (position : ℕ) → NeverUsage (InputMarch files words position)
-unfolding InputMarch
-input_march_never files words position (Ok bytes, read, march) = march_never bytes march
-input_march_never files words position (Err e, read, is) =
-    bytes_never files (word words position) position (turned (GivesBytes files (word words position) position) (let x : Result (List MarchElement) Refusal = Err Refusal.Usage in x) e refl is read)
+input_march_never files words position = file_march_never files (word words position) position
 
 pub prim_never : (text : List ℕ) → NeverUsage (GivesPrim text)
 unfolding GivesPrim
@@ -46,8 +49,11 @@ memory_never : (bytes : List ℕ) → NeverUsage (GivesMemory bytes)
 unfolding GivesMemory
 memory_never bytes h = h
 
+pub file_memory_never : (files : Option Files) (name : List ℕ) (position : ℕ) → NeverUsage (FileMemory files name position)
+unfolding FileMemory
+file_memory_never files name position (Ok bytes, read, memory) = memory_never bytes memory
+file_memory_never files name position (Err e, read, is) =
+    bytes_never files name position (turned (GivesBytes files name position) (let x : Result Description Refusal = Err Refusal.Usage in x) e refl is read)
+
 pub input_memory_never : (files : Option Files) (words : Words) (position : ℕ) → NeverUsage (InputMemory files words position)
-unfolding InputMemory
-input_memory_never files words position (Ok bytes, read, memory) = memory_never bytes memory
-input_memory_never files words position (Err e, read, is) =
-    bytes_never files (word words position) position (turned (GivesBytes files (word words position) position) (let x : Result Description Refusal = Err Refusal.Usage in x) e refl is read)
+input_memory_never files words position = file_memory_never files (word words position) position

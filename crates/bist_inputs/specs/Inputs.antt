@@ -7,6 +7,7 @@ use Rattle.fault_core.specs.Primitive.{Primitive}
 use Rattle.fault_syntax.specs.Answers.{ReadsPrim}
 use Rattle.dynamic_core.specs.declared.item.Item.{Item}
 use Rattle.dynamic_core.specs.Items.{ReadsItems}
+use Rattle.bist_endings.specs.declared.ending.InputRefusal.{InputRefusal}
 use Rattle.bist_endings.specs.declared.ending.Refusal.{Refusal}
 use Rattle.bist_endings.specs.Then.{Then}
 use Rattle.bist_endings.specs.Words.{Words, word}
@@ -28,10 +29,18 @@ GivesBytes files name position (Err Refusal.NoMemory) = Unit {0}
 GivesBytes files name position (Err other) = ⊥
 
 -- a read fault comes only where the count of reads rose, and over files that aren't told so do the other faults of a file
+abbrev pub HasInputCause : Option Files → Type 0 → InputRefusal → Type 0
+HasInputCause files rose (InputRefusal.ReadFailed p) = rose
+HasInputCause None rose (InputRefusal.Absent p) = rose
+HasInputCause None rose (InputRefusal.TooLarge p) = rose
+HasInputCause files rose other = Unit {0}
+
+-- the same of what a command answers
 abbrev pub HasReadCause : {A : Type 0} → Option Files → Type 0 → Result A Refusal → Type 0
-HasReadCause files rose (Err (Refusal.ReadFailed p)) = rose
-HasReadCause None rose (Err (Refusal.Absent p)) = rose
-HasReadCause None rose (Err (Refusal.TooLarge p)) = rose
+HasReadCause files rose (Err (Refusal.ReadFailed p)) = HasInputCause files rose (InputRefusal.ReadFailed p)
+HasReadCause files rose (Err (Refusal.Absent p)) = HasInputCause files rose (InputRefusal.Absent p)
+HasReadCause files rose (Err (Refusal.TooLarge p)) = HasInputCause files rose (InputRefusal.TooLarge p)
+HasReadCause files rose (Err (Refusal.Unit unit refusal)) = HasInputCause files rose refusal
 HasReadCause files rose other = Unit {0}
 
 -- the same between what a host tells before and after
@@ -43,6 +52,7 @@ abbrev pub IsOwnRefusal : Refusal → Type 0
 IsOwnRefusal (Refusal.ReadFailed p) = ⊥
 IsOwnRefusal (Refusal.Absent p) = ⊥
 IsOwnRefusal (Refusal.TooLarge p) = ⊥
+IsOwnRefusal (Refusal.Unit unit refusal) = ⊥
 IsOwnRefusal other = Unit {0}
 
 -- the accepted march whose text the bytes are, or why they are none
@@ -51,9 +61,13 @@ GivesMarch bytes (Ok march) = ReadsMarch bytes (Ok march)
 GivesMarch bytes (Err (Refusal.March fault)) = ReadsMarch bytes (Err fault)
 GivesMarch bytes (Err other) = ⊥
 
+-- the march of the file of this name
+unfoldable pub FileMarch : Option Files → List ℕ → ℕ → Result (List MarchElement) Refusal → Type 0
+FileMarch files name position = Then (GivesBytes files name position) GivesMarch
+
 -- the march of the file that a word names
-unfoldable pub InputMarch : Option Files → Words → ℕ → Result (List MarchElement) Refusal → Type 0
-InputMarch files words position = Then (GivesBytes files (word words position) position) GivesMarch
+abbrev pub InputMarch : Option Files → Words → ℕ → Result (List MarchElement) Refusal → Type 0
+InputMarch files words position = FileMarch files (word words position) position
 
 -- the primitive whose text the word is, or why it is none
 unfoldable pub GivesPrim : List ℕ → Result Primitive Refusal → Type 0

@@ -1,3 +1,4 @@
 pub mod Inputs
 pub mod Memories
+pub mod Chips
 pub mod Designs

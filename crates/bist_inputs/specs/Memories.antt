@@ -14,6 +14,10 @@ GivesMemory bytes (Ok d) = Reads bytes (Ok d) × IsMemory d
 GivesMemory bytes (Err (Refusal.Memory fault)) = Reads bytes (Err fault)
 GivesMemory bytes (Err other) = ⊥
 
+-- the memory of the file of this name
+unfoldable pub FileMemory : Option Files → List ℕ → ℕ → Result Description Refusal → Type 0
+FileMemory files name position = Then (GivesBytes files name position) GivesMemory
+
 -- the memory of the file that a word names
-unfoldable pub InputMemory : Option Files → Words → ℕ → Result Description Refusal → Type 0
-InputMemory files words position = Then (GivesBytes files (word words position) position) GivesMemory
+abbrev pub InputMemory : Option Files → Words → ℕ → Result Description Refusal → Type 0
+InputMemory files words position = FileMemory files (word words position) position

@@ -2,11 +2,13 @@
 //! module, or the refusal of the first check that does not pass.
 #![tactic(auto)]
 
+mod chips;
 mod designs;
 mod inputs;
 mod memories;
 mod texts;
 
+pub use chips::{read_chip_input, read_unit_march, read_unit_memory};
 pub use designs::{Style, read_design_input};
 pub use inputs::read_march_input;
 pub use memories::read_memory_input;

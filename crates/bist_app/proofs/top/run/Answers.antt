@@ -2,6 +2,7 @@ use Rattle.bist_app.proofs.Statuses.{usage_has_no_shape, no_shape_ends}
 use Rattle.bist_app.proofs.Conformance.{leaves_conformance}
 use Rattle.bist_app.proofs.Headline.{leaves_compilation}
 use Rattle.bist_app.proofs.OneAnswer.{same_files}
+use Rattle.bist_app.proofs.TestedChip.{leaves_tested_chip}
 use Rattle.bist_app.proofs.top.run.Goals as goal
 
 pub returns-clause-usage : goal.returns-clause-usage
@@ -21,4 +22,9 @@ returns-clause-compilation g c =
 pub returns-clause-conformance : goal.returns-clause-conformance
 returns-clause-conformance g c =
     leaves_conformance c.args.words.now _ _ (g.H.Host.state c.args.host.now) (g.H.Host.state c.decide_and_end.new.host)
+    c.decide_and_end.result.status c.decide_and_end.ensures.answer
+
+pub returns-clause-tested_chip : goal.returns-clause-tested_chip
+returns-clause-tested_chip g c =
+    leaves_tested_chip c.args.words.now _ _ (g.H.Host.state c.args.host.now) (g.H.Host.state c.decide_and_end.new.host)
     c.decide_and_end.result.status c.decide_and_end.ensures.answer

@@ -1,0 +1,136 @@
+-- What the answer of the top call comes to for `chip`.
+use Rattle.std.proofs.Common.{◌≡◌, ◌≢◌, ◌≤◌, ◌∙◌, inl, inr, sym, subst, ap, refl, arith, ℕ, suc, List, [], ◌∷◌, Option, Some, None, Result, Ok, Err}
+use Rattle.std.specs.Prelude.{IfSome}
+use Rattle.bist_host.specs.Files.{Files, HostState, WritesFile, Says}
+use Rattle.march_core.specs.March.{MarchElement}
+use Rattle.march_syntax.specs.Answers.{Reads as ReadsMarch}
+use Rattle.memory_desc.specs.Descriptions.{Description, IsMemory}
+use Rattle.memory_desc.specs.Table.{Reads as ReadsMemory}
+use Rattle.chip_desc.specs.Chips.{ChipDescription, UnitDescription, IsChip}
+use Rattle.chip_desc.specs.ChipTable.{Reads as ReadsChip}
+use Rattle.chip_rtl.specs.ChipTest.{TestUnit}
+use Rattle.bist_endings.specs.declared.ending.Refusal.{Refusal}
+use Rattle.bist_endings.specs.Words.{Words, word}
+use Rattle.bist_endings.specs.Ending.{Done, Written, found_status}
+use Rattle.bist_endings.specs.Conclude.{WritesInOrder}
+use Rattle.bist_inputs.specs.Inputs.{FileMarch, GivesMarch}
+use Rattle.bist_inputs.specs.Memories.{FileMemory, GivesMemory}
+use Rattle.bist_inputs.specs.Chips.{GivesChip, InputChip, UnitMarch, UnitMemory}
+use Rattle.bist_app.specs.Forms.{HasForm}
+use Rattle.bist_app.specs.Headline.{InputHas}
+use Rattle.bist_app.specs.Chip.{GivesUnit, GivesUnits, IsChipTested, LeavesChip, TestsUnits, DecidesChip, chip_form}
+use Rattle.bist_app.specs.TestedChip.{IsUnitOf, AreUnitsOf, IsTestedChip, LeavesTestedChip}
+use Rattle.bist_app.specs.Run.{command_named, Runs}
+use Rattle.bist_app.specs.Shared.{Boxes}
+use Rattle.bist_app.specs.declared.commands.Command.{Command}
+use Rattle.bist_app.proofs.Complete.{if_told}
+use Rattle.bist_app.proofs.Succeeding.{Succeeds, not_refused, succeeds}
+
+same_value : {A E : Type 0} {one other : A} → (let r : Result A E = Ok one in r) ≡ Ok other → one ≡ other
+same_value same = cc
+
+-- ---- the inputs
+
+unit_march_read : (files : Files) (unit : ℕ) (name : List ℕ) (march : List MarchElement) → UnitMarch (Some files) unit name (Ok march) → InputHas files name (λ bytes. ReadsMarch bytes (Ok march))
+unfolding UnitMarch FileMarch GivesMarch
+unit_march_read files unit name march (Ok own, (Ok bytes, gives, reads), same) =
+    (bytes, gives.0, (gives.1, subst (λ (m : List MarchElement). ReadsMarch bytes (Ok m)) (sym (same_value same)) reads))
+unit_march_read files unit name march (Ok own, (Err e, gives, stops), same) = absurd (not_refused stops)
+unit_march_read files unit name march (Err e, file, same) = absurd (not_refused same)
+
+unit_memory_read : (files : Files) (unit : ℕ) (name : List ℕ) (d : Description) → UnitMemory (Some files) unit name (Ok d)
+    → IsMemory d × InputHas files name (λ bytes. ReadsMemory bytes (Ok d))
+unfolding UnitMemory FileMemory GivesMemory
+unit_memory_read files unit name d (Ok own, (Ok bytes, gives, reads), same) =
+    let is = sym (same_value same) in
+    (subst IsMemory is reads.1, (bytes, gives.0, (gives.1, subst (λ (m : Description). ReadsMemory bytes (Ok m)) is reads.0)))
+unit_memory_read files unit name d (Ok own, (Err e, gives, stops), same) = absurd (not_refused stops)
+unit_memory_read files unit name d (Err e, file, same) = absurd (not_refused same)
+
+unit_of : (files : Files) (number : ℕ) (d : UnitDescription) (u : TestUnit) → GivesUnit (Some files) number d (Ok u) → IsUnitOf files d u
+unfolding GivesUnit
+unit_of files number d u (Ok march, f, (Ok memory, g, same)) =
+    let m = unit_memory_read files number d.memory memory g in
+    subst (IsUnitOf files d) (sym (same_value same)) (record { march_text = unit_march_read files number d.march march f; memory_text = m.1; is_memory = m.0; weight = refl })
+unit_of files number d u (Ok march, f, (Err e, g, same)) = absurd (not_refused same)
+unit_of files number d u (Err e, f, same) = absurd (not_refused same)
+
+units_of : (files : Files) (number : ℕ) (ds : List UnitDescription) (us : List TestUnit) → GivesUnits (Some files) number ds (Ok us) → AreUnitsOf files ds us
+unfolding GivesUnits
+units_of files number [] us same = subst (AreUnitsOf files []) (sym (same_value same)) tt
+units_of files number (d ∷ ds) us (Ok first, f, (Ok rest, g, same)) =
+    subst (AreUnitsOf files (d ∷ ds)) (sym (same_value same)) (unit_of files number d first f, units_of files (suc number) ds rest g)
+units_of files number (d ∷ ds) us (Ok first, f, (Err e, g, same)) = absurd (not_refused same)
+units_of files number (d ∷ ds) us (Err e, f, same) = absurd (not_refused same)
+
+chip_read : (files : Files) (words : Words) (chip : ChipDescription) → InputChip (Some files) words 1 (Ok chip) → IsChip chip × InputHas files (word words 1) (λ bytes. ReadsChip bytes (Ok chip))
+unfolding InputChip GivesChip
+chip_read files words chip (Ok bytes, gives, reads) = (reads.1, (bytes, gives.0, (gives.1, reads.0)))
+chip_read files words chip (Err e, gives, same) = absurd (not_refused same)
+
+-- the chip and its units that were read, and what is left of them
+record Inputs (files : Files) (words : Words) (done : Done) : Type 0 where
+  chip : ChipDescription
+  is_chip : IsChip chip
+  chip_text : InputHas files (word words 1) (λ bytes. ReadsChip bytes (Ok chip))
+  units : List TestUnit
+  unit_texts : AreUnitsOf files chip.units units
+  tested : IsChipTested chip.name units chip.budget done
+
+inputs : (files : Files) (words : Words) (done : Done) → DecidesChip (Some files) words (Ok done) → Inputs files words done
+unfolding LeavesChip
+inputs files words done (Err e, first, same) = absurd (not_refused same)
+inputs files words done (Ok chip, first, (Err e, second, same)) = absurd (not_refused same)
+inputs files words done (Ok chip, first, (Ok us, second, (Err e, own, same))) = absurd (not_refused same)
+inputs files words done (Ok chip, first, (Ok us, second, (Ok _, own, tested))) =
+    let c = chip_read files words chip first in
+    record { chip = chip; is_chip = c.0; chip_text = c.1; units = us; unit_texts = units_of files 0 chip.units us second; tested = tested }
+
+-- ---- the write
+
+record WritesOne (files : Files) (told : Option Files) (one : List ℕ) (text : List ℕ) : Type 0 where
+  after : Files
+  is_told : told ≡ Some after
+  is_written : after one ≡ Some text
+  others : (name : List ℕ) → name ≢ one → after name ≡ files name
+
+one_written : (files : Files) (last told : Option Files) (one text : List ℕ) → WritesFile (Some files) last one text → told ≡ last → WritesOne files told one text
+one_written files None told one text w same = absurd w.1
+one_written files (Some last) told one text w same = record { after = last; is_told = same; is_written = w.0; others = w.1 }
+
+written : (words : Words) (files : Files) (told : Option Files) (text : List ℕ) → WritesInOrder words ((record { position = 2; bytes = text }) ∷ []) (Some files) told (Ok tt)
+    → WritesOne files told (word words 2) text
+written words files told text (last, w, same) = one_written files last told (word words 2) text w same
+
+-- ---- the whole
+
+tested_chip : (words : Words) (files : Files) (old new : HostState) (n : ℕ) → Succeeds Command.Chip words files old new n
+    → (n ≡ 0) × ((files' : Files) × (new.files ≡ Some files') × IsTestedChip words files files' old.said new.said)
+tested_chip words files old new n s =
+    let i = inputs files words s.done s.decides.0 in
+    let t = i.tested in
+    let outputs : s.done.outputs ≡ (record { position = 2; bytes = t.text }) ∷ [] = ap (λ (d : Done). d.outputs) t.done_is in
+    let w = written words files new.files t.text (subst (λ outs. WritesInOrder words outs (Some files) new.files (Ok tt)) outputs s.writes) in (
+      s.status ∙ ap (λ (d : Done). found_status d.found) t.done_is,
+      (
+        w.after,
+        w.is_told,
+        record {
+          shape = s.form;
+          chip = i.chip;
+          is_chip = i.is_chip;
+          chip_text = i.chip_text;
+          units = i.units;
+          unit_texts = i.unit_texts;
+          text = t.text;
+          is_written = w.is_written;
+          file = t.file;
+          says = subst (λ (d : Done). Says old.said new.said d.line) t.done_is s.says;
+          others = w.others;
+        },
+      ),
+    )
+
+pub leaves_tested_chip : (words : Words) (boxes left : Boxes) (old new : HostState) (n : ℕ) → Runs words boxes left old new n → LeavesTestedChip words old new n
+leaves_tested_chip words boxes left old new n runs =
+    if_told old.files _ (λ files told name low. tested_chip words files old new n (succeeds Command.Chip words boxes left files old new n (ap command_named name) low told runs))

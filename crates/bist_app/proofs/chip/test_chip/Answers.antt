@@ -1,0 +1,30 @@
+use Rattle.std.proofs.Common.{Ok, Err, [], refl, subst}
+use Rattle.bist_app.specs.Chip.{GivesUnits}
+use Rattle.bist_app.proofs.Refusing.{passed_on}
+use Rattle.bist_app.proofs.ChipChecks.{few_lines, units_read}
+use Rattle.bist_app.proofs.chip.test_chip.Goals as goal
+
+pub read_units-requires-clause-few : goal.read_units-requires-clause-few
+read_units-requires-clause-few g c = few_lines c.args.chip.now c.units.result.now c.units.ensures.value c.units.ensures.chip
+
+pub read_units-requires-clause-counted : goal.read_units-requires-clause-counted
+read_units-requires-clause-counted g c = ([], c.no_units-table.ensures, refl)
+
+pub test_table-requires : goal.test_table-requires
+test_table-requires g c =
+    let r = units_read (g.H.Host.state c.args.host.now).files c.args.chip.now c.units.result.now c.no_units-table.result c.read_units.new.table c.units.ensures.value c.units.ensures.chip
+    c.no_units-table.ensures c.in_ok-read_units.ensures.answer in
+    (r.units, r.has_read)
+
+pub returns-in_err-read_units-clause-answer : goal.returns-in_err-read_units-clause-answer
+returns-in_err-read_units-clause-answer g c = (
+  Err c.in_err-read_units.field-0.0,
+  subst (λ ds. GivesUnits (g.H.Host.state c.args.host.now).files 0 ds (Err c.in_err-read_units.field-0.0)) c.units.ensures.value c.in_err-read_units.ensures.answer,
+  passed_on c.from_residual.result c.in_err-read_units.field-0.0 c.from_residual.ensures,
+)
+
+pub returns-clause-answer : goal.returns-clause-answer
+returns-clause-answer g c =
+    let r = units_read (g.H.Host.state c.args.host.now).files c.args.chip.now c.units.result.now c.no_units-table.result c.read_units.new.table c.units.ensures.value c.units.ensures.chip
+    c.no_units-table.ensures c.in_ok-read_units.ensures.answer in
+    (Ok r.units, r.gives, c.test_table.ensures.answer r.units r.has_read)

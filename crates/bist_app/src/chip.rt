@@ -1,0 +1,207 @@
+//! The command `chip`: several memories of one chip, each tested by a march, within a power budget.
+
+ghost use Rattle.std.specs.Prelude.{◌≡◌, ◌<◌, ◌≤◌, ◌++◌, ◌∷◌, ◌↔◌, [], ℕ, List, IfOk, IfErr, IsTrue, OnOk, MatchResult, length, map, suc, decimal};
+ghost use Rattle.bist_host.specs.Files.{OnlyReads};
+ghost use Rattle.chip_plan.specs.Groups.{FirstFit, last_group, end_of};
+ghost use Rattle.chip_rtl.specs.ChipTest.{TestUnit, lengths};
+ghost use Rattle.chip_rtl.specs.ChipLaws.{memories, weights};
+ghost use Rattle.bist_endings.specs.Ending.{plain, done_of, written_of};
+ghost use Rattle.bist_endings.specs.Conclude.{NamesWords};
+ghost use Rattle.bist_inputs.specs.Inputs.{HasCause, IsOwnRefusal};
+ghost use Rattle.bist_app.specs.Forms.{HasForm};
+ghost use Rattle.bist_app.specs.Chip.{IsEarlier, HasTakenName, HasOwnNames, chip_line, LeavesChip, TestsNamed, TestsUnits, DecidesChip, chip_form};
+ghost use Rattle.bist_app.specs.UnitTables.{IsTableOf};
+ghost use Rattle.bist_app.specs.ChipParts.{IsRead, IsReady, PutsSelfTest, PutSelfTests, CanStart, MakesFile, TestsTable};
+
+use crate::units::{UnitTable, no_units, read_units};
+use bist_bits::NoMemory;
+use bist_endings::{ChipRefusal, Output, Plan, Refusal};
+use bist_host::Host;
+use bist_inputs::read_chip_input;
+use bist_text::{put, put_decimal};
+use chip_desc::ChipDesc;
+use chip_plan::{end_of, first_fit, last_group};
+use chip_rtl::{end_chip, module_of};
+use march_core::March;
+use memory_desc::Memory;
+use rtl_gen::generate;
+use std::alloc::Global;
+use verilog_emit::emit;
+
+/// The word that names the file of the chip's modules.
+const VERILOG: usize = 2;
+
+/// Whether one of these memories has this name.
+fn is_earlier(memories: &[Memory], unit: usize, name: &str) -> bool
+    requires { unit ≤ length memories.now }
+    ensures { IsTrue result ↔ IsEarlier memories.now unit name.now }
+{
+    for before in 0..unit {
+        if memories[before].name() == name {
+            return true;
+        }
+    }
+    false
+}
+
+/// Whether the memory of a unit has the name of an earlier one, or its module that of the chip.
+fn has_taken_name(chip: &str, memories: &[Memory], unit: usize) -> bool
+    requires { unit < length memories.now }
+    ensures { IsTrue result ↔ HasTakenName chip.now memories.now unit }
+{
+    let memory = &memories[unit];
+    if module_of(memory).as_str() == chip {
+        return true;
+    }
+    is_earlier(memories, unit, memory.name())
+}
+
+/// Refuses the first memory whose name is taken.
+fn check_names(chip: &str, memories: &[Memory]) -> Result<(), Refusal>
+    ensures answer { HasOwnNames chip.now memories.now result }
+    ensures own { IfErr result IsOwnRefusal }
+{
+    for unit in 0..memories.len() {
+        if has_taken_name(chip, memories, unit) {
+            return Err(Refusal::Chip(ChipRefusal::SameName { unit }));
+        }
+    }
+    Ok(())
+}
+
+/// Appends the text of the self-test module of a march and a memory.
+fn put_self_test(
+    alloc: Global,
+    out: &mut Vec<u8>,
+    march: &March,
+    memory: &Memory,
+) -> Result<(), NoMemory>
+    ensures { OnOk result (PutsSelfTest march.now memory.now out.old.items out.new.items) }
+{
+    let module = generate(alloc, march, memory)?;
+    let text = emit(alloc, &module)?;
+    put(out, &text)
+}
+
+/// The texts of the self-test modules of the units, one behind another.
+fn self_tests(alloc: Global, table: &UnitTable) -> Result<Vec<u8>, NoMemory>
+    requires { (us : List TestUnit) × IsTableOf table.now us }
+    ensures { IfOk result (λ out. PutSelfTests table.now (length table.now.memories.items) out.items) }
+{
+    let marches = table.marches.as_slice();
+    let memories = table.memories.as_slice();
+    let mut out = Vec::new(alloc);
+    for unit in 0..memories.len() {
+        put_self_test(alloc, &mut out, &marches[unit], &memories[unit])?;
+    }
+    Ok(out)
+}
+
+/// The text of a chip: the modules of its units in their order, and the top that tests them in these groups.
+fn chip_text(
+    alloc: Global,
+    chip: &ChipDesc,
+    groups: &[u8],
+    table: &UnitTable,
+) -> Result<Vec<u8>, NoMemory>
+    requires { (us : List TestUnit) × IsReady chip.now table.now us × FirstFit chip.now.budget [] (weights us) groups.now }
+    ensures { IfOk result (λ text. MakesFile chip.now table.now groups.now text.items) }
+{
+    let mut text = self_tests(alloc, table)?;
+    end_chip(&mut text, alloc, chip.name(), groups, &table.memories)?;
+    Ok(text)
+}
+
+/// Appends a text and a number.
+fn put_number(line: &mut Vec<u8>, text: &[u8], number: u64) -> Result<(), NoMemory>
+    ensures { OnOk result (line.new.items ≡ line.old.items ++ (text.now ++ decimal number)) }
+{
+    put(line, text)?;
+    put_decimal(line, number)
+}
+
+/// The line of a chip.
+fn chip_line(alloc: Global, groups: &[u8], lengths: &[u64]) -> Result<Vec<u8>, NoMemory>
+    requires { CanStart groups.now lengths.now }
+    ensures { IfOk result (λ line. line.items ≡ chip_line (length groups.now) (suc (last_group groups.now)) (end_of groups.now lengths.now)) }
+{
+    let mut line = Vec::new(alloc);
+    put_number(&mut line, b"chip units ", groups.len() as u64)?;
+    put_number(&mut line, b" groups ", u64::from(last_group(groups)) + 1)?;
+    put_number(&mut line, b" done ", end_of(groups, lengths))?;
+    put(&mut line, b"\n")?;
+    Ok(line)
+}
+
+/// The file of a chip.
+fn chip_output(alloc: Global, text: Vec<u8>) -> Result<Vec<Output>, NoMemory>
+    ensures { IfOk result (λ outputs. map written_of outputs.items ≡ (record { position = 2; bytes = text.items }) ∷ []) }
+{
+    let output = Output {
+        position: VERILOG,
+        bytes: text,
+    };
+    Vec::from_array(alloc, [output]).map_err(|_| NoMemory)
+}
+
+/// The file and the line of a chip.
+fn tested(alloc: Global, chip: &ChipDesc, table: &UnitTable) -> Result<Plan, NoMemory>
+    requires { (us : List TestUnit) × IsReady chip.now table.now us }
+    ensures { IfOk result (λ plan. TestsTable chip.now table.now (done_of plan)) }
+{
+    let groups = first_fit(&table.weights, chip.budget());
+    let text = chip_text(alloc, chip, &groups, table)?;
+    let line = chip_line(alloc, &groups, &table.lengths)?;
+    let outputs = chip_output(alloc, text)?;
+    Ok(Plan {
+        found: false,
+        outputs,
+        line,
+    })
+}
+
+/// The plan of a chip's test, or want of memory.
+#[tactic(auto, unfolding(crate::specs::Chip::LeavesChip))]
+fn plan_chip(alloc: Global, chip: &ChipDesc, table: &UnitTable) -> Result<Plan, Refusal>
+    requires { (us : List TestUnit) × IsReady chip.now table.now us }
+    ensures answer { (us : List TestUnit) → IsReady chip.now table.now us → LeavesChip chip.now.name us chip.now.budget (plain result) }
+    ensures own { IfErr result IsOwnRefusal }
+{
+    match tested(alloc, chip, table) {
+        Ok(plan) => Ok(plan),
+        Err(NoMemory) => Err(Refusal::NoMemory),
+    }
+}
+
+/// Tests the units that were read, where each has a name of its own.
+fn test_table(alloc: Global, chip: &ChipDesc, table: &UnitTable) -> Result<Plan, Refusal>
+    requires { (us : List TestUnit) × IsRead chip.now table.now us }
+    ensures answer { (us : List TestUnit) → IsRead chip.now table.now us → TestsNamed chip.now us (plain result) }
+    ensures own { IfErr result IsOwnRefusal }
+{
+    check_names(chip.name(), &table.memories)?;
+    plan_chip(alloc, chip, table)
+}
+
+/// Reads the units of a chip, and tests them.
+fn test_chip<H: Host>(alloc: Global, host: &mut H, chip: &ChipDesc) -> Result<Plan, Refusal>
+    ensures kept { OnlyReads (H.state host.old) (H.state host.new) }
+    ensures answer { TestsUnits (H.state host.old).files chip.now (plain result) }
+    ensures cause { HasCause (H.state host.old) (H.state host.new) result }
+{
+    let mut table = no_units(alloc);
+    read_units(host, chip.units(), 0, &mut table)?;
+    test_table(alloc, chip, &table)
+}
+
+/// Tests the memories of a chip, each by its march, within the chip's budget.
+pub fn decide_chip<H: Host>(alloc: Global, words: &[&str], host: &mut H) -> Result<Plan, Refusal>
+    requires { HasForm chip_form words.now }
+    ensures kept { OnlyReads (H.state host.old) (H.state host.new) }
+    ensures outputs { IfOk result (λ plan. NamesWords words.now (done_of plan).outputs) }
+    ensures answer { DecidesChip (H.state host.old).files words.now (plain result) }
+    ensures cause { HasCause (H.state host.old) (H.state host.new) result }
+{
+    let chip = read_chip_input(host, words, 1)?;
+    test_chip(alloc, host, &chip)
+}
