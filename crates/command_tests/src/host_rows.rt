@@ -1,5 +1,6 @@
 //! Commands over a host whose calls fail, over one with too large a file, and over real files.
 
+use crate::chip_rows::{CHIP, ONE_FILES};
 use crate::rows::{MATS, PLAIN, Row, host_of, is_left, run_alone};
 use bist_app::run;
 use bist_host::{FailHost, Host, RealHost};
@@ -11,7 +12,7 @@ use word_device::Device;
 const SIM: &str = "sim m <0w1/0/-> 2 00 none 0 uud";
 
 /// Which calls of the host fail, and how the command ends.
-static FAILING: [(&[u64], Row); 3] = [
+static FAILING: [(&[u64], Row); 8] = [
     (
         &[1],
         Row {
@@ -38,6 +39,56 @@ static FAILING: [(&[u64], Row); 3] = [
             command: "judge m l r",
             files: &[("m", MATS), ("l", b"one")],
             said: b"write failed 3\n",
+            status: 8,
+            ..PLAIN
+        },
+    ),
+    (
+        &[1],
+        Row {
+            command: CHIP,
+            files: ONE_FILES,
+            said: b"read failed 1\n",
+            status: 7,
+            ..PLAIN
+        },
+    ),
+    (
+        &[2],
+        Row {
+            command: CHIP,
+            files: ONE_FILES,
+            said: b"unit 0 read failed 1\n",
+            status: 7,
+            ..PLAIN
+        },
+    ),
+    (
+        &[3],
+        Row {
+            command: CHIP,
+            files: ONE_FILES,
+            said: b"unit 0 read failed 2\n",
+            status: 7,
+            ..PLAIN
+        },
+    ),
+    (
+        &[4],
+        Row {
+            command: CHIP,
+            files: ONE_FILES,
+            said: b"write failed 2\n",
+            status: 8,
+            ..PLAIN
+        },
+    ),
+    (
+        &[5],
+        Row {
+            command: CHIP,
+            files: ONE_FILES,
+            said: b"",
             status: 8,
             ..PLAIN
         },

@@ -10,6 +10,8 @@ mod bench_rows;
 #[cfg(test)]
 mod check_rows;
 #[cfg(test)]
+mod chip_rows;
+#[cfg(test)]
 mod compile_rows;
 #[cfg(test)]
 mod file_rows;
