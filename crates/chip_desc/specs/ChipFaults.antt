@@ -1,4 +1,4 @@
--- Public. Why the lines of a text are none of a chip file: the first steps of the table.
+-- Trusted. Why the lines of a text are none of a chip file: the first steps of the table.
 use Rattle.std.specs.Prelude.{◌≡◌, ◌⊎◌, ◌==◌, ℕ, Bool, true, false, MatchBool, [], ◌∷◌, List, Option, Some, None, length}
 use Rattle.std.specs.Str.Parse.{digits_value}
 use Rattle.bist_text.specs.Grammar.{IsUnexpected, IsTruncated}

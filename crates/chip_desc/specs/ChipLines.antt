@@ -1,4 +1,4 @@
--- Public. The lines of a chip file, and what they say. Blanks, comments, numbers and names are those of memory descriptions.
+-- Trusted. The lines of a chip file, and what they say. Blanks, comments, numbers and names are those of memory descriptions.
 use Rattle.std.specs.Prelude.{◌≡◌, ℕ, ◌==◌, ◌&&◌, Bool, true, false, Option, Some, None, List, [], ◌∷◌, ◌++◌, codes}
 use Rattle.std.specs.Str.Parse.{digits_value}
 use Rattle.bist_text.specs.Grammar.{word}

@@ -1,4 +1,4 @@
--- Public. The refusals of a chip file whose lines are all of the table, in their order, and the chip that it describes.
+-- Trusted. The refusals of a chip file whose lines are all of the table, in their order, and the chip that it describes.
 use Rattle.std.specs.Prelude.{◌≡◌, ◌⊎◌, ℕ, ◌==◌, ◌||◌, ◌&&◌, Bool, true, false, not, nat_lt, if◌then◌else◌, List, [], ◌∷◌, ◌++◌, length, Option, Some, None, Result, Ok, Err, find}
 use Rattle.std.specs.Str.Parse.{digits_value}
 use Rattle.bist_text.specs.Lines.{text_lines}

@@ -1,4 +1,4 @@
--- Public. A chip, as contracts see it: several memories, each with the file of its march, that are tested within a budget.
+-- Trusted. A chip, as contracts see it: several memories, each with the file of its march, that are tested within a budget.
 use Rattle.std.specs.Prelude.{ℕ, ◌≡◌, ◌≤◌, ◌&&◌, ◌==◌, nat_le, not, Bool, true, List, length, map, All}
 use Rattle.std.specs.List.{list_all}
 use Rattle.memory_desc.specs.Names.{IsName}

@@ -1,4 +1,4 @@
--- Public. What the file is that a test of several memories is written to.
+-- Trusted. What the file is that a test of several memories is written to.
 use Rattle.std.specs.Prelude.{◌≡◌, ℕ, true, List, [], ◌∷◌, map}
 use Rattle.verilog_tree.specs.Plain.{ModuleTree}
 use Rattle.verilog_tree.specs.Spells.{all_limits}
