@@ -7,7 +7,7 @@ import fnmatch
 TITLE = """# What has to be trusted
 
 A proof is worth as much as the statement that it proves. This page has each definition that a clause of the top call `run`
-stands on, whole, with its comment, in four parts; nothing else of the repository's definitions has to be read in order to know
+stands on, whole, with its comment, in five parts; nothing else of the repository's definitions has to be read in order to know
 what is promised, and no code. `H.state` in a clause is what a host tells: its files, what was said and the counts of its
 faults; `told` is what a box tells (the traits `Host` and `Device`); in a Rust type a `Prim` stands for its `Primitive`, a
 `DynPrim` for its `DynamicPrimitive`, a `Scramble` for its `Scrambling`, a `Name` for its bytes, and the page shows what each is
@@ -173,7 +173,6 @@ another than the rule of the ports wants.
             "verilog_code/*",
             "verilog_cycle/*",
             "port_check/*",
-            "chip_*/*",
         ),
     ),
     Part(
@@ -211,6 +210,34 @@ directions.
             "coverage/*",
             "dynamic_prover/*",
             "report/*",
+        ),
+    ),
+    Part(
+        "Several memories",
+        """
+What the command `chip` promises: which chip a file describes (its name, the budget, and of each unit the weight and two files),
+in which groups its units are tested and when each group starts, what a chip is and does, and what its test is.
+
+A chip is some modules and a top that places them (`ChipTree`). Each port of a placed module is linked to a net of the top, and a
+link to an output counts as an assign to that net; the registers of all placed modules change at once (`Together`). `ChipTest`
+says that exactly one environment settles a cycle, and what stands in each cycle of each history with one reset: nothing of a unit
+before the start of its group, from there on the rule of the ports over the words of its own memory, `done`, and that the weights
+of the enabled units are within the budget. `ChipFile` says that bytes spell such a chip and no other. `TestedChip` is what the
+top call promises, without the order of its checks; the checks in their order are `Chip`.
+""",
+        (
+            "chip_desc/Chips",
+            "chip_desc/*",
+            "chip_plan/*",
+            "chip_rtl/ChipTree",
+            "chip_rtl/Together",
+            "chip_rtl/Tops",
+            "chip_rtl/ChipTest",
+            "chip_rtl/ChipGrammar",
+            "chip_rtl/*",
+            "bist_inputs/Chips",
+            "bist_app/Chip",
+            "bist_app/TestedChip",
         ),
     ),
     Part(
