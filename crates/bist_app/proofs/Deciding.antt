@@ -14,10 +14,9 @@ use Rattle.bist_app.specs.Run.{Decides, Runs}
 plain_cause : (files : Option Files) (rose : Type 0) (r : Result Plan Refusal) → HasReadCause files rose r → HasReadCause files rose (plain r)
 plain_cause files rose (Ok plan) c = tt
 plain_cause files rose (Err (Refusal.ReadFailed p)) c = c
-plain_cause None rose (Err (Refusal.Absent p)) c = c
-plain_cause None rose (Err (Refusal.TooLarge p)) c = c
-plain_cause (Some f) rose (Err (Refusal.Absent p)) c = tt
-plain_cause (Some f) rose (Err (Refusal.TooLarge p)) c = tt
+plain_cause files rose (Err (Refusal.Absent p)) c = c
+plain_cause files rose (Err (Refusal.TooLarge p)) c = c
+plain_cause files rose (Err (Refusal.Unit u e)) c = c
 plain_cause files rose (Err other) c = tt
 
 -- how it ends doesn't depend on the count of reads

@@ -1,9 +1,9 @@
 -- Trusted. What `chip` comes to where it ends with status 0: the answer of the top call, without the order of its checks.
 use Rattle.std.specs.Prelude.{◌≡◌, ◌≢◌, ◌≤◌, ℕ, suc, List, [], ◌∷◌, length, Option, Some, Ok, IfSome, codes}
 use Rattle.bist_host.specs.Files.{Files, HostState, Says}
-use Rattle.march_syntax.specs.Answers.{Reads as ReadsMarch}
+use Rattle.march_syntax.specs.Answers.{SpellsMarch}
 use Rattle.memory_desc.specs.Descriptions.{IsMemory}
-use Rattle.memory_desc.specs.Table.{Reads as ReadsMemory}
+use Rattle.memory_desc.specs.Described.{SpellsMemory}
 use Rattle.chip_desc.specs.Chips.{ChipDescription, UnitDescription, IsChip}
 use Rattle.chip_desc.specs.ChipTable.{Reads as ReadsChip}
 use Rattle.chip_plan.specs.Groups.{last_group, end_of}
@@ -16,8 +16,8 @@ use Rattle.bist_app.specs.Headline.{InputHas}
 
 -- the files that a unit names were read as its march and its memory
 pub record IsUnitOf (files : Files) (d : UnitDescription) (u : TestUnit) : Type 0 where
-  pub march_text : InputHas files d.march (λ bytes. ReadsMarch bytes (Ok u.march))
-  pub memory_text : InputHas files d.memory (λ bytes. ReadsMemory bytes (Ok u.memory))
+  pub march_text : InputHas files d.march (λ bytes. SpellsMarch bytes u.march)
+  pub memory_text : InputHas files d.memory (λ bytes. SpellsMemory bytes u.memory)
   pub is_memory : IsMemory u.memory
   pub weight : u.weight ≡ d.weight
 

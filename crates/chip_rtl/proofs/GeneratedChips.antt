@@ -19,6 +19,7 @@ plans_are_written name us budget groups ms p tested fit named differ =
       groups = groups;
       spelt = (h, top_is_legal name us budget groups ms p tested differ);
       only = λ other k. one_text (printed_chip c) other c k h;
+      modules = tested;
       named = refl;
       ports = refl;
       fitted = p.fitted;

@@ -15,13 +15,14 @@ use Rattle.chip_rtl.specs.ChipGrammar.{ChipText, ChipSpells}
 use Rattle.chip_rtl.specs.PrintedTop.{printed_chip, printed_units}
 use Rattle.chip_rtl.specs.TopFits.{AllFit}
 
--- The bytes spell one chip and no other. It has this name and the ports of these memories, and tests them within the
--- budget, in the groups of the first fit.
+-- The bytes spell one chip and no other. Its modules are self-tests of these units, one for each in their order; it has this
+-- name and the ports of their memories, and tests them within the budget, in the groups of the first fit.
 pub record ChipFile (b name : List ℕ) (us : List TestUnit) (budget : ℕ) : Type 0 where
   pub chip : ChipTree
   pub groups : List ℕ
   pub spelt : ChipSpells b chip
   pub only : (other : ChipTree) → ChipText all_limits b other → other ≡ chip
+  pub modules : AllTested chip.units us
   pub named : chip.top.name ≡ name
   pub ports : chip.top.ports ≡ top_ports (memories us)
   pub fitted : FirstFit budget [] (weights us) groups
