@@ -66,7 +66,7 @@ def place(chip: Chip) -> None:
 
 
 def check_with_program(path) -> None:
-    """Hands on a refusal of the program, where it has the command."""
+    """Hands on a refusal of the program."""
     with tempfile.TemporaryDirectory() as folder:
         status, said = common.run("chip", path, pathlib.Path(folder) / "chip.v")
     if status > 2 or status < 0:
