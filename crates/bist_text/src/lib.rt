@@ -3,6 +3,7 @@
 #![tactic(auto)]
 
 mod byte_set;
+pub mod byte_sets;
 mod cursors;
 mod identifiers;
 mod keywords;

@@ -8,7 +8,8 @@ ghost use Rattle.bist_text.specs.Numbers.{IsNumber};
 ghost use Rattle.memory_desc.specs.Names.{is_name_byte};
 ghost use Rattle.chip_desc.specs.inner.Heard.{behind_key, digits_in, behind_weight, march_in, memory_in};
 
-use crate::byte_sets::{BLANKS, DIGITS, FILE_BYTES, LETTERS, NAME_BYTES};
+use crate::file_bytes::FILE_BYTES;
+use bist_text::byte_sets::{BLANKS, DIGITS, LETTERS, NAME_BYTES};
 use bist_text::{Cursor, decimal};
 
 /// A cursor in front of what stands behind the first word.

@@ -1,10 +1,10 @@
 //! Chip files: which memories are tested on one chip, each by which march, and within which budget.
 #![tactic(auto)]
 
-mod byte_sets;
 mod chip;
 mod content;
 mod fault;
+mod file_bytes;
 mod line_place;
 mod line_reader;
 mod lines;

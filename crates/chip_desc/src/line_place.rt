@@ -3,7 +3,8 @@ ghost use Rattle.bist_text.specs.Keywords.{word_of};
 ghost use Rattle.chip_desc.specs.Chips.{is_file_byte};
 ghost use Rattle.chip_desc.specs.inner.LineMachine.{step, value, argument_begun, begun, ended, number_ended, keys_of, spelling};
 
-use crate::byte_sets::{BLANKS, FILE_BYTES, NAME_BYTES, NAME_STARTS};
+use crate::file_bytes::FILE_BYTES;
+use bist_text::byte_sets::{BLANKS, NAME_BYTES, NAME_STARTS};
 use bist_text::{Keyword, Letters, Spelled, first_letter, next_letter};
 
 /// The kinds of content lines, by their first word.

@@ -15,7 +15,7 @@ ghost use Rattle.bist_text.specs.Numbers.{IsNumber};
 ghost use Rattle.bist_text.specs.LineGrammar.{tail};
 ghost use Rattle.bist_text.specs.inner.LineGrammar.{after};
 
-use crate::byte_sets::{BLANKS, DIGITS, HEX_DIGITS, LETTERS, NAME_BYTES};
+use bist_text::byte_sets::{BLANKS, DIGITS, HEX_DIGITS, LETTERS, NAME_BYTES};
 use crate::line_place::{Key, Place, Version};
 use crate::line_reader::read_line;
 use arrayvec::ArrayVec;

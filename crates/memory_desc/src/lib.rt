@@ -2,7 +2,6 @@
 #![tactic(auto)]
 
 mod building;
-mod byte_sets;
 mod content;
 mod fault;
 mod line_place;

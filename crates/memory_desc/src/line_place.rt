@@ -2,7 +2,7 @@ ghost use Rattle.std.specs.Prelude.{◌≡◌, ◌≤◌, ◌<◌, ◌&&◌, nat
 ghost use Rattle.bist_text.specs.Keywords.{word_of};
 ghost use Rattle.memory_desc.specs.inner.LinePlaces.{step, value, argument_begun, begun, ended, is_digit_of, most_digits, keys_of, spelling, at_start, row_ended, term_ended, word_ended};
 
-use crate::byte_sets::{BLANKS, NAME_BYTES, NAME_STARTS};
+use bist_text::byte_sets::{BLANKS, NAME_BYTES, NAME_STARTS};
 use bist_text::{Keyword, Letters, Spelled, first_letter, next_letter};
 
 /// The kinds of content lines, by their first word.

@@ -1,6 +1,6 @@
-//! Sets of the bytes of a description's lines.
+//! Sets of bytes that lines of texts are made of.
 
-use bist_text::ByteSet;
+use crate::byte_set::ByteSet;
 
 /// Space, tab and carriage return.
 pub const BLANKS: ByteSet = ByteSet {
@@ -8,23 +8,25 @@ pub const BLANKS: ByteSet = ByteSet {
     high: 0,
 };
 
-/// The letters of first words: the small ones.
+/// The small letters.
 pub const LETTERS: ByteSet = ByteSet {
     low: 0x07ff_fffe_0000_0000_0000_0000_0000_0000,
     high: 0,
 };
 
+/// The decimal digits.
 pub const DIGITS: ByteSet = ByteSet {
     low: 0x03ff_0000_0000_0000,
     high: 0,
 };
 
+/// The hexadecimal digits, with small and large letters.
 pub const HEX_DIGITS: ByteSet = ByteSet {
     low: 0x7e_0000_007e_03ff_0000_0000_0000,
     high: 0,
 };
 
-/// What a name begins with: letters and `_`.
+/// What an identifier begins with: letters and `_`.
 pub const NAME_STARTS: ByteSet = ByteSet {
     low: 0x07ff_fffe_87ff_fffe_0000_0000_0000_0000,
     high: 0,
