@@ -102,11 +102,11 @@ what `check` promises, the second clause of its kind.
     Part(
         "What a module is",
         """
-The rules that a module keeps, when its wires form a loop and when one environment settles a cycle; and which bytes spell
-which module: letters and tokens, the grammar in full parentheses and by precedence, and the limits of the reader. At the end
-stands what a module means where some values are left open, and what a controller issues (`Issues`), of which `check` speaks: a
-number that stands in the open run stands in every history, and the answer is the first cycle and port where it has none, or
-another than the rule of the ports wants.
+The rules that a module keeps, when its wires form a loop and when one environment settles a cycle; which text a module has, as
+it is written; and which bytes spell which module, as they are read: the grammar in full parentheses and by precedence, and the
+limits of the reader. At the end stands what a module means where some values are left open, and what a controller issues
+(`Issues`), of which `check` speaks: a number that stands in the open run stands in every history, and the answer is the first
+cycle and port where it has none, or another than the rule of the ports wants.
 
 - **Names** (`Names.antt`): the declarations of a module are its ports, then its `wire` and `reg` items, in order; `lookup`
   finds the first of a name. Its kind is input, wire (also a plain output) or register (also `output reg`).
@@ -132,6 +132,12 @@ another than the rule of the ports wants.
   `digits`, `behind_mark`), so that it is the longest at its place. `Lexed tokens bytes`: the bytes are these tokens in order,
   with white space before, between and behind them. White space (`gap`) is spaces, tabs, line feeds, form feeds and carriage
   returns, `//` to the line's end or the file's, and `/*` to the next `*/`.
+- **The text of a module** (`Written.antt`): for each form of its tree the tokens that it is written with, with parentheses round
+  each operator and `begin` and `end` round each body. `expression_tokens x K tokens`: the tokens are those of `x`, and then what
+  K says; so for each part. There is no text of a concatenation without parts, a `case` without arms, an arm without labels, a
+  width of 0 or a module without ports. **`IsTextOf bytes module`**: the bytes are the module's tokens, with white space between
+  them. The headline speaks of this text; what follows is what the reader takes, which has further texts of a module (more
+  parentheses, a body without `begin`, `wire a, b;`), and limits.
 - **Grammar** (`Grammar.antt`): a derivation is a datum with one constructor for each alternative of the grammar (braces, `if`
   with and without `else`, blocks, a default with or without its colon, a declaration of several names). `file style limit
   derivation tokens` says that the tokens are those of the derivation; each rule stands as a line of the grammar above its
@@ -161,6 +167,7 @@ another than the rule of the ports wants.
             "verilog_tree/declared.tokens",
             "verilog_tree/Tokens",
             "verilog_tree/Pieces",
+            "verilog_emit/Written",
             "verilog_tree/Free",
             "verilog_tree/Parenthesised",
             "verilog_tree/Grammar",

@@ -18,7 +18,7 @@ use Rattle.verilog_cycle.specs.Nets.{valued}
 use Rattle.verilog_cycle.specs.Design.{inputs_of, names, Fit}
 use Rattle.self_test.specs.Pins.{reset_leads}
 use Rattle.self_test.proofs.Places.{or_true, and_true, nothing_left}
-use Rattle.bench.specs.Cycles.{input_values}
+use Rattle.bench.specs.inner.Cycles.{input_values}
 
 -- ---- the inputs by recursion on the ports
 

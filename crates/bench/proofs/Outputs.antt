@@ -16,7 +16,7 @@ use Rattle.verilog_cycle.specs.Design.{outputs_of}
 use Rattle.bench.specs.declared.cycle.Outputs.{Outputs}
 use Rattle.self_test.specs.declared.pins.Pins.{Pins}
 use Rattle.self_test.specs.Pins.{output_names, ArePins}
-use Rattle.bench.specs.Cycles.{AreWithin, outputs_at}
+use Rattle.bench.specs.inner.Cycles.{AreWithin, outputs_at}
 use Rattle.self_test.proofs.Places.{or_true, and_true, nothing_left, place_within, value_there}
 use Rattle.bench.proofs.Inputs.{or_false, Alone, behind}
 

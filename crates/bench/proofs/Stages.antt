@@ -33,7 +33,7 @@ use Rattle.bench.specs.declared.cycle.CycleEnd.{CycleEnd}
 use Rattle.bench.specs.declared.run.Watch.{Watch}
 use Rattle.bench.specs.Joint.{Between, Turn, Joint, at_first, word_in, ports_in, first_done}
 use Rattle.bench.specs.Endings.{IsFirstSeen, Shows, Runs}
-use Rattle.bench.specs.Cycles.{Turned, IsFirstSeenBefore, seen_by, done_by, watched_by, unwatched, FirstWatched, Controls, Stage}
+use Rattle.bench.specs.inner.Cycles.{Turned, IsFirstSeenBefore, seen_by, done_by, watched_by, unwatched, FirstWatched, Controls, Stage}
 
 -- ---- registers by their list
 

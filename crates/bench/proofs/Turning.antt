@@ -19,7 +19,7 @@ use Rattle.bench.specs.declared.cycle.Outputs.{Outputs}
 use Rattle.word_device.specs.Joint.{command_on}
 use Rattle.self_test.specs.declared.pins.Pins.{Pins}
 use Rattle.self_test.specs.Pins.{ArePins}
-use Rattle.bench.specs.Cycles.{input_values, outputs_at, Turned}
+use Rattle.bench.specs.inner.Cycles.{input_values, outputs_at, Turned}
 use Rattle.bench.proofs.Inputs.{given, given_there, bit_of, AreGiven}
 use Rattle.bench.proofs.Outputs.{shown, width_there}
 

@@ -34,7 +34,8 @@ pub record Shows (march : List MarchElement) (d : Description) (es : List Env) (
   pub first : IsFirstSeen march d (word_in es) seen
 
 -- a run of the module from these registers, joined with a box that tells this: what is seen, and what registers and box are then
-pub record Runs (mo : ModuleTree) (march : List MarchElement) (d : Description) (registers now : List ℕ) (before after : Tells) (failed : Bool) (done_in : Option ℕ) (seen : Option Seen) : Type 0 where
+pub record Runs (mo : ModuleTree) (march : List MarchElement) (d : Description) (registers now : List ℕ) (before after : Tells)
+    (failed : Bool) (done_in : Option ℕ) (seen : Option Seen) : Type 0 where
   pub cycles : List Env
   pub left : Between
   pub joint : Joint mo d 0 cycles (at_first (valued (names (registers_of mo)) registers) before) left

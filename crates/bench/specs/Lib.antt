@@ -1,4 +1,4 @@
 pub mod Joint
 pub mod Endings
-pub mod Cycles
 pub mod Laws
+pub mod inner

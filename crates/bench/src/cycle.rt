@@ -6,7 +6,7 @@ ghost use Rattle.self_test.specs.Pins.{ArePins};
 ghost use Rattle.self_test.specs.WrongPort.{ArePorts};
 ghost use Rattle.word_device.specs.Ports.{shape_of as memory_shape};
 ghost use Rattle.word_device.specs.Boxes.{Answers, after_cycle};
-ghost use Rattle.bench.specs.Cycles.{AreWithin, Turned, input_values, outputs_at};
+ghost use Rattle.bench.specs.inner.Cycles.{AreWithin, Turned, input_values, outputs_at};
 
 use bist_bits::all_ones;
 use memory_desc::Memory;

@@ -10,7 +10,7 @@ ghost use Rattle.self_test.specs.SelfTest.{SelfTest};
 ghost use Rattle.word_device.specs.Boxes.{IsTold};
 ghost use Rattle.bench.specs.Endings.{Runs};
 ghost use Rattle.bench.specs.Laws.{EndsSelfTest};
-ghost use Rattle.bench.specs.Cycles.{seen_by, done_by, watched_by, FirstWatched, Stage};
+ghost use Rattle.bench.specs.inner.Cycles.{seen_by, done_by, watched_by, FirstWatched, Stage};
 
 use crate::cycle::{CycleEnd, turn};
 use crate::ending::{BenchEnd, BenchRefused, Seen};

@@ -1,5 +1,5 @@
 -- Trusted. The command `compile MARCH MEMORY FAULTS VERILOG REPORT`: its shape, its checks in their order, and what it leaves. This is
--- what the program is for: the written bytes spell one module, which tests the described memory by the march whatever its
+-- what the program is for: the written bytes are a text of one module, which tests the described memory by the march whatever its
 -- registers hold at first and whatever words return; and the report says of each item of the list whether the march detects it in
 -- arrays of every size, or gives its least escape.
 use Rattle.std.specs.Prelude.{◌≡◌, ℕ, List, [], ◌∷◌, Option, Some, Result, codes, drop}
@@ -9,6 +9,7 @@ use Rattle.dynamic_core.specs.declared.item.Item.{Item}
 use Rattle.memory_desc.specs.Descriptions.{Description}
 use Rattle.verilog_tree.specs.Plain.{ModuleTree}
 use Rattle.verilog_tree.specs.Spells.{Spells}
+use Rattle.verilog_emit.specs.Written.{IsTextOf}
 use Rattle.self_test.specs.SelfTest.{SelfTest}
 use Rattle.bist_endings.specs.declared.ending.Refusal.{Refusal}
 use Rattle.bist_endings.specs.Ending.{Done}
@@ -19,9 +20,12 @@ use Rattle.bist_inputs.specs.Memories.{InputMemory}
 use Rattle.bist_app.specs.Reported.{Reports}
 use Rattle.bist_app.specs.Forms.{Form, Row}
 
--- the bytes spell a module and no other, which is a self-test of the memory by the march
+-- The bytes are a text of a module and of no other, and spell it and no other, as the reader of modules takes them. It is a self-test of
+-- the memory by the march.
 pub record IsSelfTestText (march : List MarchElement) (d : Description) (text : List ℕ) : Type 0 where
   pub tree : ModuleTree
+  pub is_text : IsTextOf text tree
+  pub one_tree : (other : ModuleTree) → IsTextOf text other → other ≡ tree
   pub spells : Spells text tree
   pub no_other : (other : ModuleTree) → Spells text other → other ≡ tree
   pub self_test : SelfTest tree march d

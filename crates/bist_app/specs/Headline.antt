@@ -8,7 +8,7 @@ use Rattle.memory_desc.specs.Described.{SpellsMemory}
 use Rattle.dynamic_core.specs.declared.item.Item.{Item}
 use Rattle.dynamic_core.specs.Items.{SpellsItems}
 use Rattle.verilog_tree.specs.Plain.{ModuleTree}
-use Rattle.verilog_tree.specs.Spells.{Spells}
+use Rattle.verilog_emit.specs.Written.{IsTextOf}
 use Rattle.self_test.specs.SelfTest.{SelfTest}
 use Rattle.report.specs.Report.{IsMixedReport, DetectsOf, total_line}
 use Rattle.bist_endings.specs.Words.{Words, word}
@@ -26,8 +26,9 @@ FileHas files name P = (bytes : List ℕ) × (files name ≡ Some bytes) × P by
 abbrev pub InputHas : Files → List ℕ → (List ℕ → Type 0) → Type 0
 InputHas files name P = FileHas files name (λ bytes. (length bytes ≤ input_limit) × P bytes)
 
--- The files MARCH, MEMORY and FAULTS were read as a march, a memory and a list. Now the bytes of VERILOG spell a module and no other, which
--- is a self-test of that memory by that march, and those of REPORT are the report of the list. Some item isn't detected exactly where the
+-- The files MARCH, MEMORY and FAULTS were read as a march, a memory and a list. Now the bytes of VERILOG are a text of a module and of no
+-- other: its tokens, with parentheses round each operator, begin and end round each body, and white space between them. The module is a
+-- self-test of that memory by that march, and the bytes of REPORT are the report of the list. Some item isn't detected exactly where the
 -- status is 1. How many there are and how many are detected was said, and all other files are as before.
 pub record IsCompilation (words : Words) (files files' : Files) (said said' : Option (List ℕ)) (status : ℕ) : Type 0 where
   pub shape : HasForm compile_form words
@@ -40,7 +41,7 @@ pub record IsCompilation (words : Words) (files files' : Files) (said said' : Op
   pub list_text : InputHas files (word words 3) (λ bytes. SpellsItems bytes items)
   pub tree : ModuleTree
   pub self_test : SelfTest tree march memory
-  pub module_text : FileHas files' (word words 4) (λ bytes. Spells bytes tree × ((other : ModuleTree) → Spells bytes other → other ≡ tree))
+  pub module_text : FileHas files' (word words 4) (λ bytes. IsTextOf bytes tree × ((other : ModuleTree) → IsTextOf bytes other → other ≡ tree))
   pub report_text : FileHas files' (word words 5) (λ bytes. IsMixedReport bytes march (Some memory) items)
   pub escapes : Bool
   pub found : SomeEscapes march items escapes

@@ -59,7 +59,8 @@ RefusesLoop (Err refusal) = TellsLoop refusal
 -- the same, but for the names of a loop of wires: two settled outcomes have the same status and the same line, or both tell a loop
 abbrev pub HasOneAnswerButNames : Type 0 → (Result Done Refusal → Type 0) → Type 0
 HasOneAnswerButNames Tells checks =
-    (r s : Result Done Refusal) → (AreDone r s → Tells) → checks r → checks s → IsSettled r → IsSettled s → (answer_of r ≡ answer_of s) ⊎ (RefusesLoop r × RefusesLoop s)
+    (r s : Result Done Refusal) → (AreDone r s → Tells) → checks r → checks s → IsSettled r → IsSettled s
+    → (answer_of r ≡ answer_of s) ⊎ (RefusesLoop r × RefusesLoop s)
 
 -- what two refusals say: the same status and the same line, or a loop both
 abbrev pub SayAlike : Refusal → Refusal → Type 0

@@ -3,7 +3,8 @@ use Rattle.std.proofs.Common.{◌≡◌, ◌≢◌, ◌<◌, ◌+◌, ℕ, suc, 
 use Rattle.std.proofs.lemmas.Grind.{common_steps}
 use Rattle.std.proofs.lemmas.List.{map-set}
 use Rattle.std.proofs.lemmas.Slice.Eq.{bytes_eq-Decides}
-use Rattle.bist_host.specs.MemHost.{NamedFile, file_of, IsPlaceOf}
+use Rattle.bist_host.specs.MemHost.{NamedFile, file_of}
+use Rattle.bist_host.specs.inner.MemHost.{IsPlaceOf}
 use Rattle.bist_host.specs.MemFile.{named_file, named_files}
 use Rattle.bist_host.specs.declared.mem_host.MemFile.{MemFile}
 use Rattle.bist_host.specs.Files.{WritesFile}

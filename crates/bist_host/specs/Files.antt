@@ -109,17 +109,6 @@ SayRefused old new bytes Absent before now = ⊥
 SayRefused old new bytes TooLarge before now = ⊥
 SayRefused old new bytes ReadFailed before now = ⊥
 
--- a fault that a read may answer
-abbrev pub IsReadFault : HostFault → Type 0
-IsReadFault WriteFailed = ⊥
-IsReadFault other = Unit {0}
-
--- a fault that a write may answer
-abbrev pub IsWriteFault : HostFault → Type 0
-IsWriteFault WriteFailed = Unit {0}
-IsWriteFault NoMemory = Unit {0}
-IsWriteFault other = ⊥
-
 abbrev pub IsNoMemory : HostFault → Type 0
 IsNoMemory NoMemory = Unit {0}
 IsNoMemory other = ⊥

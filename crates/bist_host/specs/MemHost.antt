@@ -1,5 +1,5 @@
 -- Public. What a host in memory holds: its files, and the bytes that were said.
-use Rattle.std.specs.Prelude.{◌≡◌, ℕ, Some, None, List, [], ◌∷◌, if◌then◌else◌, take, slice_get, IsSomeAnd}
+use Rattle.std.specs.Prelude.{ℕ, Some, None, List, [], ◌∷◌, if◌then◌else◌}
 use Rattle.std.specs.Str.{bytes_eq}
 use Rattle.bist_host.specs.Files.{Files}
 
@@ -19,7 +19,3 @@ file_of (f ∷ fs) name = if bytes_eq f.name name then Some f.bytes else file_of
 -- the files by name
 abbrev pub files_of : MemContent → Files
 files_of m = file_of m.listed
-
--- the first file of that name stands at this place
-abbrev pub IsPlaceOf : List NamedFile → List ℕ → ℕ → Type 0
-IsPlaceOf files name i = (file_of (take i files) name ≡ None) × IsSomeAnd (slice_get files i) (λ f. f.name ≡ name)

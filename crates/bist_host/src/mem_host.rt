@@ -1,6 +1,7 @@
 ghost use Rattle.std.specs.Prelude.{◌≡◌, Some, None, OnOk, OnErr, IfErr, MatchOption, MatchResult, []};
 ghost use Rattle.bist_host.specs.Files.{WritesFile};
-ghost use Rattle.bist_host.specs.MemHost.{file_of, IsPlaceOf};
+ghost use Rattle.bist_host.specs.MemHost.{file_of};
+ghost use Rattle.bist_host.specs.inner.MemHost.{IsPlaceOf};
 ghost use Rattle.bist_host.specs.MemFile.{named_files};
 
 use crate::host::{Host, HostFault};

@@ -1,7 +1,8 @@
 ghost use Rattle.std.specs.Prelude.{◌≡◌, ◌≢◌, ◌<◌, ◌≤◌, None, Err, IfOk, IfErr, IfSome, IsOk, IsTrue, MatchResult, length};
 ghost use Rattle.std.specs.Io.KnownBytes.{Appends, Consumes, IsAtEnd};
 ghost use Rattle.bist_host.specs.declared.host.HostFault.{HostFault};
-ghost use Rattle.bist_host.specs.Files.{IsReadFault, IsWriteFault, ReadGives, ReadRefused, WritesFile, WriteRefused, Says, SayRefused};
+ghost use Rattle.bist_host.specs.Files.{ReadGives, ReadRefused, WritesFile, WriteRefused, Says, SayRefused};
+ghost use Rattle.bist_host.specs.inner.Files.{IsReadFault, IsWriteFault};
 
 use crate::host::{Host, HostFault};
 use std::alloc::{AllocError, Global};

@@ -45,7 +45,9 @@ top_items l [] K = K
 top_items l (i ∷ is) K = top_item l i (top_items l is K)
 
 abbrev pub top : Limit → TopFile → List Token → Type 0
-top l f = keyword (codes "module") (name f.name (sign Open (inside l 0 (λ e. port f.port (ports f.ports (sign Close (sign Semicolon (top_items l f.items (keyword (codes "endmodule") no_token)))))))))
+top l f =
+    keyword (codes "module") (name f.name (sign Open (inside l 0 (λ e. port f.port (ports f.ports (sign Close
+    (sign Semicolon (top_items l f.items (keyword (codes "endmodule") no_token)))))))))
 
 -- the items, and the placed modules, each in their order
 abbrev pub own_tree : List TopItem → List ModuleItem

@@ -31,7 +31,8 @@ module _ {V P : Type 0} (Line : List ℕ → Option V → Type 0) (Brings : Opti
   abbrev pub SpellsLines : List ℕ → List P → Type 0
   SpellsLines bytes ps = BringBy (text_lines bytes) ps × (length ps ≤ 1024)
 
-module _ {V P : Type 0} (Line : List ℕ → Option V → Type 0) (Brings : Option V → List P → Type 0) (written : PrimParts → V) (Refuses : ℕ → PrimParts → FaultFault → Type 0) where
+module _ {V P : Type 0} (Line : List ℕ → Option V → Type 0) (Brings : Option V → List P → Type 0)
+    (written : PrimParts → V) (Refuses : ℕ → PrimParts → FaultFault → Type 0) where
   -- why a line is refused behind others that brought these primitives
   abbrev pub IsRefusedBehind : List P → TextLine → FaultFault → Type 0
   IsRefusedBehind held l (TooManyPrimitives line) =

@@ -18,7 +18,8 @@ use Rattle.memory_desc.specs.Table.{Reads}
 use Rattle.scrambler.proofs.Identity.{identity_is_identity}
 use Rattle.memory_desc.proofs.Parts.{width_small}
 use Rattle.memory_desc.proofs.ReadBack.{read_back}
-use Rattle.made_inputs.specs.MadeMemory.{IsMadeMemory, head, tail, written}
+use Rattle.made_inputs.specs.MadeMemory.{IsMadeMemory}
+use Rattle.made_inputs.specs.inner.MadeMemory.{head, tail, written}
 
 -- ---- the backgrounds
 

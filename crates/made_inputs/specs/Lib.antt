@@ -1,3 +1,4 @@
 pub mod MadeMarch
 pub mod MadeMemory
 pub mod MadeList
+pub mod inner

@@ -1,5 +1,5 @@
 -- Trusted. The memory of a number.
-use Rattle.std.specs.Prelude.{◌≡◌, ℕ, ◌+◌, ◌++◌, List, codes, decimal}
+use Rattle.std.specs.Prelude.{◌≡◌, ℕ, ◌+◌, codes}
 use Rattle.bist_bits.specs.Width.{IsWidthOf}
 use Rattle.scrambler.specs.Scrambling.{identity}
 use Rattle.backgrounds.specs.Backgrounds.{IsLogSet}
@@ -18,13 +18,3 @@ pub record IsMadeMemory (number : ℕ) (d : Description) : Type 0 where
   pub width : IsWidthOf (number + 1) d.scramble.width
   pub unscrambled : d.scramble ≡ identity d.scramble.width
   pub backgrounds : IsLogSet 64 d.backgrounds
-
--- For private contracts alone: its text.
-abbrev pub head : List ℕ
-head = codes "memory 1\nname made\nwords "
-
-abbrev pub tail : List ℕ
-tail = codes "\nbits 64\nbackgrounds 0000000000000000 aaaaaaaaaaaaaaaa cccccccccccccccc f0f0f0f0f0f0f0f0 ff00ff00ff00ff00 ffff0000ffff0000 ffffffff00000000\n"
-
-abbrev pub written : ℕ → List ℕ
-written number = head ++ (decimal (number + 2) ++ tail)

@@ -1,7 +1,8 @@
 //! The memory of a number.
 
 ghost use Rattle.std.specs.Prelude.{◌≡◌, ◌≤◌, IfOk};
-ghost use Rattle.made_inputs.specs.MadeMemory.{IsMadeMemory, written};
+ghost use Rattle.made_inputs.specs.MadeMemory.{IsMadeMemory};
+ghost use Rattle.made_inputs.specs.inner.MadeMemory.{written};
 
 use bist_bits::NoMemory;
 use bist_text::{put, put_decimal};

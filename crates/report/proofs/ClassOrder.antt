@@ -1,10 +1,14 @@
--- The numbers of the classes are their places in the order of the report.
-use Rattle.std.proofs.Common.{◌≡◌, ◌↔◌, ◌+◌, ℕ, zero, suc, Some, List, [], ◌∷◌, refl, ap, sym, ◌∙◌, arith}
+-- The numbers of the classes are their places in the order of the report, and classes of one number have one name.
+use Rattle.std.proofs.Common.{◌≡◌, ◌↔◌, ◌+◌, ◌==◌, ℕ, zero, suc, Option, Some, None, List, [], ◌∷◌, if◌then◌else◌, refl, ap, sym, ◌∙◌, arith}
+use Rattle.std.proofs.lemmas.Bool.Decides.{Decides-eqb, same_from_decides}
+use Rattle.std.proofs.lemmas.Slice.Eq.{bytes_eq-Decides}
+use Rattle.std.specs.Bool.{Decides}
 use Rattle.std.specs.Prelude.{slice_get}
+use Rattle.std.specs.Str.{bytes_eq}
 use Rattle.fault_core.specs.declared.table.Class.TheVariants.{SF, TF, WDF, RDF, DRDF, IRF, CFst, CFds, CFtr, CFwd, CFrd, CFdr, CFir, DRF}
 use Rattle.report.specs.declared.class_lines.ItemClass.{ItemClass}
 use Rattle.report.specs.declared.class_lines.ItemClass.TheVariants.{Static, DynOne, DynTwo}
-use Rattle.report.specs.Report.{class_order, class_number}
+use Rattle.report.specs.Report.{class_text, class_order, class_number}
 
 at_its_number : (c : ItemClass) → slice_get class_order (class_number c) ≡ Some c
 at_its_number (Static SF) = refl
@@ -47,3 +51,44 @@ one_place c i = (
   λ there. omega (arith, numbered 0 class_order in_order i c there),
   λ is. ap (slice_get class_order) is ∙ at_its_number c,
 )
+
+-- ---- the names
+
+-- the class of this name among these
+abbrev named : List ℕ → List ItemClass → Option ItemClass
+named w [] = None
+named w (c ∷ cs) = if bytes_eq w (class_text c) then Some c else named w cs
+
+by_its_name : (c : ItemClass) → named (class_text c) class_order ≡ Some c
+by_its_name (Static SF) = refl
+by_its_name (Static TF) = refl
+by_its_name (Static WDF) = refl
+by_its_name (Static RDF) = refl
+by_its_name (Static DRDF) = refl
+by_its_name (Static IRF) = refl
+by_its_name (Static CFst) = refl
+by_its_name (Static CFds) = refl
+by_its_name (Static CFtr) = refl
+by_its_name (Static CFwd) = refl
+by_its_name (Static CFrd) = refl
+by_its_name (Static CFdr) = refl
+by_its_name (Static CFir) = refl
+by_its_name (Static DRF) = refl
+by_its_name DynOne = refl
+by_its_name DynTwo = refl
+
+same_class : (c d : ItemClass) (o : Option ItemClass) → o ≡ Some c → o ≡ Some d → c ≡ d
+same_class c d o e f = cc
+
+-- two classes have one name exactly where they have one number
+pub one_name : (c d : ItemClass) → (class_number c == class_number d) ≡ bytes_eq (class_text c) (class_text d)
+one_name c d = same_from_decides (class_number c == class_number d) (bytes_eq (class_text c) (class_text d)) numbers (bytes_eq-Decides (class_text c) (class_text d))
+  where
+    named_so : class_text c ≡ class_text d → class_number c ≡ class_number d
+    named_so e = ap class_number (same_class c d (named (class_text c) class_order) (by_its_name c) (ap (λ w. named w class_order) e ∙ by_its_name d))
+
+    numbered_so : class_number c ≡ class_number d → class_text c ≡ class_text d
+    numbered_so e = ap class_text (same_class c d (slice_get class_order (class_number c)) (at_its_number c) (ap (slice_get class_order) e ∙ at_its_number d))
+
+    numbers : Decides (class_number c == class_number d) (class_text c ≡ class_text d)
+    numbers = let n = Decides-eqb (class_number c) (class_number d) in (λ t. numbered_so (n.0 t), λ e. n.1 (named_so e))

@@ -1,7 +1,8 @@
 -- Trusted. The report of verdicts: the march, the memory where there is one, one line for each item of the list, one for each class that
 -- occurs, and the total. Every line ends with a line feed.
-use Rattle.std.specs.Prelude.{◌≡◌, ◌-◌, ◌+◌, ◌++◌, ◌&&◌, ◌==◌, ◌⊎◌, ℕ, zero, suc, Bool, true, false, if◌then◌else◌, Option, Some, None, List, [], ◌∷◌, length, filter, count_by, map, take, codes, decimal}
+use Rattle.std.specs.Prelude.{◌≡◌, ◌-◌, ◌+◌, ◌++◌, ◌&&◌, ◌⊎◌, ℕ, zero, suc, Bool, true, false, if◌then◌else◌, Option, Some, None, List, [], ◌∷◌, length, filter, count_by, map, take, codes, decimal}
 use Rattle.std.specs.List.{flat_map}
+use Rattle.std.specs.Str.{bytes_eq}
 use Rattle.fault_core.specs.declared.table.Class.TheVariants.{SF, TF, WDF, RDF, DRDF, IRF, CFst, CFds, CFtr, CFwd, CFrd, CFdr, CFir, DRF}
 use Rattle.fault_core.specs.Classes.{class_by_parts}
 use Rattle.fault_syntax.specs.Names.{class_text as list_text}
@@ -62,9 +63,9 @@ abbrev pub item_class : Item → ItemClass
 item_class (Plain p) = Static (class_by_parts p)
 item_class (Dyn p) = if has_aggressor p then DynTwo else DynOne
 
--- whether an item is of this class
+-- whether an item is of this class: its own has the same name
 abbrev pub is_in_class : ItemClass → Item → Bool
-is_in_class c item = class_number (item_class item) == class_number c
+is_in_class c item = bytes_eq (class_text (item_class item)) (class_text c)
 
 -- an item in its printed form
 abbrev pub printed_item : Item → List ℕ

@@ -103,6 +103,7 @@ fn judged_class(judged: &JudgedItem) -> ItemClass
     }
 }
 
+#[tactic(auto, using(crate::proofs::ClassOrder::one_name))]
 fn is_of_class(judged: &JudgedItem, class: ItemClass) -> bool
     ensures { result ≡ is_in_class class (item_of judged.now) }
 {

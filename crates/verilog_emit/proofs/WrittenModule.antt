@@ -1,4 +1,4 @@
--- What is printed of a module that fits spells it.
+-- What is printed of a module that fits spells it, and is its text.
 use Rattle.std.proofs.Common.{◌≡◌, ℕ, ◌-◌, ◌≤◌, ◌&&◌, nat_lt, nat_le, Bool, true, false, List, [], ◌∷◌, ◌++◌, Some, None, refl, sym, append_assoc, append-nil, codes, arith, if◌then◌else◌}
 use Rattle.std.specs.Prelude.{decimal}
 use Rattle.std.proofs.lemmas.Bool.{leb-true, le-leb}
@@ -17,6 +17,8 @@ use Rattle.verilog_emit.specs.Printed.{expression_text, statements_text, range_t
 use Rattle.verilog_emit.proofs.Derivations.{derive, derive_stmts, derive_range, derive_item, derive_items, derive_port, derive_ports, derive_file, same_file}
 use Rattle.verilog_emit.proofs.Numerals.{numbered, zeroed}
 use Rattle.verilog_emit.proofs.Pieces.{Spelt, both, grouped, blank, line_feed, is_apart, mark, reserved, named, opened}
+use Rattle.verilog_emit.specs.Written.{module_tokens, IsTextOf}
+use Rattle.verilog_emit.proofs.TreeTexts.{module_alike}
 use Rattle.verilog_emit.proofs.WrittenExpressions.{L, plain, expression_spelt}
 use Rattle.verilog_emit.proofs.WrittenStatements.{block, ended, statements_spelt}
 
@@ -228,7 +230,11 @@ told_as K J b f h = record { tokens = h.tokens; lexed = h.lexed; kept = h.kept; 
 abbrev pub Module : P.ModuleTree → (List Token → Type 0) → List Token → Type 0
 Module mo K ts = (f : File) × module_of Parenthesised L f K ts × (file_tree f ≡ mo)
 
-spelt : (n : List ℕ) (ps : List P.ModulePort) (is : List P.ModuleItem) (K : List Token → Type 0) (r : List ℕ) → fits (record { name = n; ports = ps; items = is }) ≡ true → Spelt K r → Spelt (Module (record { name = n; ports = ps; items = is }) K) (printed (record { name = n; ports = ps; items = is }) ++ r)
+-- the same, told by a derivation and by the tree
+abbrev pub Told : P.ModuleTree → (List Token → Type 0) → List Token → Type 0
+Told mo K ts = Module mo K ts × module_tokens mo K ts
+
+spelt : (n : List ℕ) (ps : List P.ModulePort) (is : List P.ModuleItem) (K : List Token → Type 0) (r : List ℕ) → fits (record { name = n; ports = ps; items = is }) ≡ true → Spelt K r → Spelt (Told (record { name = n; ports = ps; items = is }) K) (printed (record { name = n; ports = ps; items = is }) ++ r)
 spelt n [] is K r f h = absurd (no_ports (items_formed is) (is_name n) (items_fit 64 is) f)
   where
     no_ports : (a b c : Bool) → (false && true && a && b && true && c) ≡ true → ⊥
@@ -239,14 +245,25 @@ spelt n (p ∷ ps) is K r f h =
     let f1 : ((ports_formed (p ∷ ps) && items_formed is) ≡ true) × (is_name n ≡ true) = both (ports_formed (p ∷ ps) && items_formed is) (is_name n) f2.0 in
     let f0 : (ports_formed (p ∷ ps) ≡ true) × (items_formed is ≡ true) = both (ports_formed (p ∷ ps)) (items_formed is) f1.0 in
     let m : P.ModuleTree = record { name = n; ports = p ∷ ps; items = is } in
-    told_as (module_of Parenthesised L (derive_file n p ps is) K) (Module m K) (printed m ++ r) (λ ts k. (derive_file n p ps is, k, same_file n p ps is f0.0 f0.1)) (module_spelt n p ps is K r f1.1 f0.0 f2.1 f0.1 f3.1 h)
+    let same : file_tree (derive_file n p ps is) ≡ m = same_file n p ps is f0.0 f0.1 in
+    told_as (module_of Parenthesised L (derive_file n p ps is) K) (Told m K) (printed m ++ r)
+    (λ ts k. ((derive_file n p ps is, k, same), (module_alike L n p ps is).written same K K (λ us x. x) ts k))
+    (module_spelt n p ps is K r f1.1 f0.0 f2.1 f0.1 f3.1 h)
 
 -- what is printed of a module that fits spells it, before anything
 pub spelt_before : (mo : P.ModuleTree) (K : List Token → Type 0) (r : List ℕ) → fits mo ≡ true → Spelt K r → Spelt (Module mo K) (printed mo ++ r)
-spelt_before mo K r f h = spelt mo.name mo.ports mo.items K r f h
+spelt_before mo K r f h = told_as (Told mo K) (Module mo K) (printed mo ++ r) (λ ts k. k.0) (spelt mo.name mo.ports mo.items K r f h)
 
 -- what is printed of a module that fits spells it
 pub printed_spells : (mo : P.ModuleTree) → fits mo ≡ true → Spells (printed mo) mo
 printed_spells mo f =
     let h = grouped (Module mo no_token) (printed mo) (printed mo ++ []) (sym (append-nil (printed mo))) (spelt_before mo no_token [] f nothing_spelt) in
     (h.tokens, h.lexed, h.kept, h.meant)
+
+-- what is printed of a module that fits is its text
+pub printed_text : (mo : P.ModuleTree) → fits mo ≡ true → IsTextOf (printed mo) mo
+printed_text mo f =
+    let J : List Token → Type 0 = λ rest. rest ≡ [] in
+    let e : Spelt J [] = record { tokens = []; lexed = tt; kept = refl; meant = refl } in
+    let h = grouped (Told mo J) (printed mo) (printed mo ++ []) (sym (append-nil (printed mo))) (spelt mo.name mo.ports mo.items J [] f e) in
+    (h.tokens, h.lexed, h.meant.1)

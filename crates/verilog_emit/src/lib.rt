@@ -1,4 +1,5 @@
-//! The printer of modules in a subset of Verilog, IEEE 1364-2005. `specs/Printed.antt` is the layout.
+//! The printer of modules in a subset of Verilog, IEEE 1364-2005. `specs/Printed.antt` is the layout, and
+//! `specs/Written.antt` says of bytes which module they are a text of.
 #![tactic(auto)]
 
 ghost use Rattle.std.specs.Prelude.{◌≡◌, ◌++◌, codes, map, true, OnOk, IfOk};
@@ -6,6 +7,7 @@ ghost use Rattle.verilog_tree.specs.Fits.{fits, items_fit};
 ghost use Rattle.verilog_tree.specs.Plain.{ModuleTree, plain_module, plain_item, plain_port};
 ghost use Rattle.verilog_tree.specs.Spells.{Spells};
 ghost use Rattle.verilog_emit.specs.Printed.{line, items_text, ports_text, printed};
+ghost use Rattle.verilog_emit.specs.Written.{IsTextOf};
 
 use bist_bits::NoMemory;
 use std::alloc::Global;
@@ -31,12 +33,14 @@ fn put_module(out: &mut Vec<u8>, module: &Module) -> Result<(), NoMemory>
     put_line(out, 0, b"endmodule")
 }
 
-/// The text of a module that fits: the bytes are its layout, and spell it and no other.
+/// The text of a module that fits: the bytes are its layout, they spell it and no other, and are a text of it and of no other.
 pub fn emit(alloc: Global, module: &Module) -> Result<Vec<u8>, NoMemory>
     requires { fits (plain_module «module».now) ≡ true }
     ensures form { IfOk result (λ out. out.items ≡ printed (plain_module «module».now)) }
     ensures spells { IfOk result (λ out. Spells out.items (plain_module «module».now)) }
     ensures no_other { IfOk result (λ out. (other : ModuleTree) → Spells out.items other → other ≡ plain_module «module».now) }
+    ensures text { IfOk result (λ out. IsTextOf out.items (plain_module «module».now)) }
+    ensures one_text { IfOk result (λ out. (other : ModuleTree) → IsTextOf out.items other → other ≡ plain_module «module».now) }
 {
     let mut out = Vec::new(alloc);
     put_module(&mut out, module)?;

@@ -1,4 +1,4 @@
--- Inner. For proofs and private contracts alone, beside LineRest: for proofs and private contracts alone: what may still follow where a reader of a line stands, in the pieces of the grammar.
+-- Inner. For proofs and private contracts alone, beside LineRest: what may still follow where a reader of a line stands, in the pieces of the grammar.
 use Rattle.std.specs.Prelude.{◌≡◌, ℕ, true, Option, Some, List, [], ◌∷◌, ◌++◌, codes}
 use Rattle.std.specs.List.{list_all}
 use Rattle.bist_text.specs.Grammar.{word}

@@ -1,5 +1,5 @@
 -- Inner. For proofs and private contracts alone, beside Printed: the layout of a module's text. Every line ends with a line feed, and each depth is two blanks.
-use Rattle.std.specs.Prelude.{ℕ, ◌+◌, ◌-◌, List, ◌++◌, codes}
+use Rattle.std.specs.Prelude.{ℕ, ◌+◌, List, ◌++◌, codes}
 use Rattle.verilog_tree.specs.Plain.{Statements}
 use Rattle.verilog_emit.specs.Printed.{line, unless_empty, statements_text}
 

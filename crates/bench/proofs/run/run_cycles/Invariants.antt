@@ -1,7 +1,7 @@
 use Rattle.std.proofs.Common.{◌≡◌, Some}
 use Rattle.verilog_cycle.specs.Design.{with_registers}
 use Rattle.word_device.specs.Ports.{shape_of as memory_shape}
-use Rattle.bench.specs.Cycles.{Stage}
+use Rattle.bench.specs.inner.Cycles.{Stage}
 use Rattle.bench.proofs.run.run_cycles.Given as goal
 
 abbrev pub invariant-loop-cycle : goal.invariant-loop-cycle

@@ -1,6 +1,6 @@
 use Rattle.std.proofs.Common.{string_bytes, subst, sym, ap, List}
 use Rattle.bist_host.specs.declared.mem_host.MemFile.{MemFile}
-use Rattle.bist_host.specs.MemHost.{IsPlaceOf}
+use Rattle.bist_host.specs.inner.MemHost.{IsPlaceOf}
 use Rattle.bist_host.specs.MemFile.{named_files}
 use Rattle.bist_host.proofs.FilesKept.{file_replaced}
 use Rattle.bist_host.proofs.mem_host.put_file.Goals as goal

@@ -2,7 +2,8 @@ use Rattle.std.proofs.Common.{◌≡◌, List, ℕ, Result, Ok, Err, sym, ◌∙
 use Rattle.memory_desc.specs.Descriptions.{Description}
 use Rattle.memory_desc.specs.Table.{Reads}
 use Rattle.memory_desc.specs.declared.fault.MemoryFault.{MemoryFault}
-use Rattle.made_inputs.specs.MadeMemory.{IsMadeMemory, written}
+use Rattle.made_inputs.specs.MadeMemory.{IsMadeMemory}
+use Rattle.made_inputs.specs.inner.MadeMemory.{written}
 use Rattle.made_inputs.proofs.MemoryLaws.{has_memory}
 use Rattle.made_inputs.proofs.made_memory.memory_of.Goals as goal
 

@@ -1,4 +1,4 @@
--- Inner. Proof help, and nothing that a clause of `bench` claims: one cycle of a design and a box, and the run so far.
+-- Inner. One cycle of a design and a box, and the run so far.
 use Rattle.std.specs.Prelude.{◌≡◌, ◌+◌, ◌<◌, ◌≤◌, ◌==◌, ◌%◌, ◌^◌, ℕ, suc, Bool, true, false, if◌then◌else◌, List, [], ◌∷◌, length, map, Option, Some, None, slice_get, slice_index, codes}
 use Rattle.verilog_tree.specs.Plain.{ModuleTree}
 use Rattle.verilog_tree.specs.Meaning.{Env, next}
