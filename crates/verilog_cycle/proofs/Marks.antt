@@ -8,8 +8,8 @@ use Rattle.std.proofs.lemmas.Bool.{cases_lt}
 use Rattle.std.proofs.lemmas.Bool.Decides.{eqb_tells}
 use Rattle.verilog_code.specs.Places.{put}
 use Rattle.verilog_code.proofs.Putting.{length_put, put_here, put_there}
-use Rattle.verilog_cycle.specs.inner.Graph.{is_in, needed, LeadsTo, Within, Good, Marked, FirstMissing, from_first}
-use Rattle.verilog_cycle.proofs.Walk.{same, or_true, in_left, in_right, in_parts, in_at, no_end, all_more, place_moves}
+use Rattle.verilog_cycle.specs.inner.Graph.{is_in, needed, LeadsTo, Marked, FirstMissing, from_first}
+use Rattle.verilog_cycle.proofs.Walk.{same, or_true, in_left, in_parts, in_at, no_end, all_more, place_moves}
 
 -- a number of a list with one more is one of the list, or that
 one_behind : (a : List ℕ) (m q : ℕ) → is_in (a ++ m ∷ []) q ≡ true → (is_in a q ≡ true) ⊎ (q ≡ m)
