@@ -1,6 +1,8 @@
 //! Expressions over numbered values, in the form that runs fast: a leaf is read without a call, and a choice by a
 //! whole value or by one bit is one node, of which only the chosen side is worked out.
-ghost use Rattle.std.specs.Prelude.{◌≡◌, ◌+◌, ◌-◌, ◌%◌, ◌^◌, nat_eq, bit_and};
+ghost use Rattle.std.specs.Prelude.{◌≡◌, ◌+◌, ◌-◌, ◌%◌, ◌^◌, cond, if◌then◌else◌, nat_eq, bit_and};
+ghost use Rattle.verilog_tree.specs.Meaning.{infixed};
+ghost use Rattle.verilog_tree.specs.declared.tree.BinOp.TheVariants as B;
 ghost use Rattle.verilog_code.specs.Code.{at, lowered, raised, odd, meaning};
 
 /// An expression. A number stands for the place of a value, a `u64` beside an operator for the ones of its width.
@@ -113,20 +115,45 @@ fn quick(x: &Code, values: &[u64]) -> u64
     }
 }
 
-// The same. It stands apart so that `value` is a loop that saves no registers.
+// The first where the condition isn't 0, and else the second.
+#[inline]
+#[cycle(code_value)]
+fn chosen(condition: u64, a: &Code, b: &Code, values: &[u64]) -> u64
+    ensures { result ≡ cond (nat_eq condition 0) (meaning values.now b.now) (meaning values.now a.now) }
+{
+    if condition != 0 {
+        value(a, values)
+    } else {
+        value(b, values)
+    }
+}
+
+// Whether neither is 0. The second is worked out only where the first isn't.
+#[inline]
+#[cycle(code_value)]
+fn are_both_true(a: &Code, b: &Code, values: &[u64]) -> bool
+    ensures { (if result then 1 else 0) ≡ infixed B.LogAnd 1 (meaning values.now a.now) (meaning values.now b.now) }
+{
+    quick(a, values) != 0 && quick(b, values) != 0
+}
+
+// Whether one isn't 0. The second is worked out only where the first is.
+#[inline]
+#[cycle(code_value)]
+fn is_one_true(a: &Code, b: &Code, values: &[u64]) -> bool
+    ensures { (if result then 1 else 0) ≡ infixed B.LogOr 1 (meaning values.now a.now) (meaning values.now b.now) }
+{
+    quick(a, values) != 0 || quick(b, values) != 0
+}
+
+// The value, where the expression is an operator's. It stands apart so that `value` is a loop that saves no registers.
 #[inline(never)]
 #[cycle(code_value)]
 fn operated(x: &Code, values: &[u64]) -> u64
     ensures { result ≡ meaning values.now x.now }
 {
     match x {
-        Code::Choose(c, a, b) => {
-            if quick(c, values) != 0 {
-                value(a, values)
-            } else {
-                value(b, values)
-            }
-        }
+        Code::Choose(c, a, b) => chosen(quick(c, values), a, b, values),
         Code::Not(a) => (quick(a, values) == 0) as u64,
         Code::Invert(ones, a) => (*ones).saturating_sub(quick(a, values)),
         Code::AllOnes(ones, a) => (quick(a, values) == *ones) as u64,
@@ -142,27 +169,17 @@ fn operated(x: &Code, values: &[u64]) -> u64
         Code::Ne(a, b) => (quick(a, values) != quick(b, values)) as u64,
         Code::Lt(a, b) => (quick(a, values) < quick(b, values)) as u64,
         Code::Le(a, b) => (quick(a, values) <= quick(b, values)) as u64,
-        Code::LogAnd(a, b) => (quick(a, values) != 0 && quick(b, values) != 0) as u64,
-        Code::LogOr(a, b) => (quick(a, values) != 0 || quick(b, values) != 0) as u64,
+        Code::LogAnd(a, b) => are_both_true(a, b, values) as u64,
+        Code::LogOr(a, b) => is_one_true(a, b, values) as u64,
         Code::Shl(ones, a, b) => raised(quick(a, values), quick(b, values)) & *ones,
         Code::Shr(a, b) => lowered(quick(a, values), quick(b, values)),
         Code::Concat(low, a, b) => raised(quick(a, values), *low).wrapping_add(quick(b, values)),
         Code::Lit(v) => *v,
         Code::Net(place) => at(values, *place),
         Code::Part(place, low, ones) => lowered(at(values, *place), *low as u64) & *ones,
-        Code::PickNet(place, a, b) => {
-            if at(values, *place) != 0 {
-                value(a, values)
-            } else {
-                value(b, values)
-            }
-        }
+        Code::PickNet(place, a, b) => chosen(at(values, *place), a, b, values),
         Code::PickBit(place, bit, a, b) => {
-            if lowered(at(values, *place), *bit as u64) & 1 != 0 {
-                value(a, values)
-            } else {
-                value(b, values)
-            }
+            chosen(lowered(at(values, *place), *bit as u64) & 1, a, b, values)
         }
     }
 }

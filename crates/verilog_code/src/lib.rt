@@ -11,6 +11,7 @@ pub mod action;
 pub mod code;
 pub mod open_action;
 pub mod open_code;
+pub(crate) mod open_operators;
 pub mod open_run;
 pub mod run;
 pub mod step;

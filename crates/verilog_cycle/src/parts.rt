@@ -7,7 +7,7 @@ ghost use Rattle.verilog_tree.specs.Rules.{first_break};
 ghost use Rattle.verilog_tree.specs.Seen.{declaration};
 ghost use Rattle.verilog_cycle.specs.Seen.{plain_names};
 ghost use Rattle.verilog_cycle.specs.Design.{registers_of, inputs_of, AreNets};
-ghost use Rattle.verilog_cycle.specs.Parts.{ArePartsOf};
+ghost use Rattle.verilog_cycle.specs.inner.Parts.{ArePartsOf};
 
 use crate::nets::{inputs, registers};
 use crate::program::{Cells, Program};

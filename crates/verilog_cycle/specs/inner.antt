@@ -1,0 +1,7 @@
+pub mod Fitting
+pub mod Graph
+pub mod Numbering
+pub mod Parts
+pub mod Program
+pub mod Scope
+pub mod Tabled
