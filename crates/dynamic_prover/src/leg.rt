@@ -3,8 +3,8 @@ ghost use Rattle.march_core.specs.March.{element_at};
 ghost use Rattle.march_core.specs.Visits.{allows};
 ghost use Rattle.march_core.specs.Addresses.{direction_of};
 ghost use Rattle.dynamic_prover.specs.declared.own_cells.OwnCells.{OwnCells};
-ghost use Rattle.dynamic_prover.specs.Own.{own_run};
-ghost use Rattle.dynamic_prover.specs.Legs.{end_from, ends_on, second_end, sweep_end, leg_end, IsLeg, AreLegs};
+ghost use Rattle.dynamic_prover.specs.inner.Own.{own_run};
+ghost use Rattle.dynamic_prover.specs.inner.Legs.{end_from, ends_on, second_end, sweep_end, leg_end, IsLeg, AreLegs};
 
 use crate::own_cells::{OwnCells, own_cells, run_ops};
 use crate::shape::Shape;

@@ -1,4 +1,4 @@
-use Rattle.dynamic_prover.specs.Own.{own_run}
+use Rattle.dynamic_prover.specs.inner.Own.{own_run}
 use Rattle.dynamic_prover.proofs.Tables.{eight}
 use Rattle.dynamic_prover.proofs.leg.ends_of.Goals as goal
 

@@ -1,6 +1,6 @@
 use Rattle.std.proofs.Common.{List, ◌+◌, length, ap, sym, subst, arith, take, length-append}
 use Rattle.dynamic_prover.specs.declared.leg.Leg.{Leg}
-use Rattle.dynamic_prover.specs.Legs.{AreLegs}
+use Rattle.dynamic_prover.specs.inner.Legs.{AreLegs}
 use Rattle.dynamic_prover.proofs.Tables.{legs_more}
 use Rattle.dynamic_prover.proofs.leg.legs_of.Goals as goal
 

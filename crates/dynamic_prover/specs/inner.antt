@@ -1,0 +1,6 @@
+pub mod Own
+pub mod Shapes
+pub mod Ways
+pub mod Legs
+pub mod Rows
+pub mod Spots
