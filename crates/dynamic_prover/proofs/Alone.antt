@@ -9,7 +9,7 @@ use Rattle.dynamic_core.specs.Primitive.{DynamicSense, DynamicPrimitive}
 use Rattle.dynamic_core.specs.Dynamic.{Held, held_as, dyn_step, dyn_answer}
 use Rattle.dynamic_core.specs.Detecting.{FitsDynAgg, FitsDyn}
 use Rattle.dynamic_prover.specs.declared.own_cells.OwnCells.{OwnCells}
-use Rattle.dynamic_prover.specs.Own.{own_as, own_step, own_answer, two_places}
+use Rattle.dynamic_prover.specs.inner.Own.{own_as, own_step, own_answer, two_places}
 use Rattle.dynamic_prover.proofs.Own.{About, about, step_seen, answer_seen}
 
 pub two_fit : (p : DynamicPrimitive) → FitsDyn p (two_places p) 2

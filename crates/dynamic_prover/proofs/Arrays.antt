@@ -14,9 +14,9 @@ use Rattle.dynamic_core.specs.Detecting.{FitsDynAgg, FitsDyn}
 use Rattle.dynamic_prover.specs.declared.own_cells.OwnCells.{OwnCells}
 use Rattle.dynamic_prover.specs.declared.shape.Shape.{Shape}
 use Rattle.dynamic_prover.specs.declared.spot.Spot.{Spot}
-use Rattle.dynamic_prover.specs.Own.{own_as}
-use Rattle.dynamic_prover.specs.Shapes.{is_some_cell, shape_as, shape_of}
-use Rattle.dynamic_prover.specs.Spots.{spot_as, one_cell_spots, two_cell_spots, spots_of, shape_at, content_from}
+use Rattle.dynamic_prover.specs.inner.Own.{own_as}
+use Rattle.dynamic_prover.specs.inner.Shapes.{is_some_cell, shape_as, shape_of}
+use Rattle.dynamic_prover.specs.inner.Spots.{spot_as, one_cell_spots, two_cell_spots, spots_of, shape_at, content_from}
 use Rattle.dynamic_prover.proofs.Sized.{beside_of, own_start}
 use Rattle.dynamic_prover.proofs.Ordered.{PlacesBelow, length-content, cell-content, victim_bit, aggressor_bit}
 use Rattle.dynamic_prover.proofs.Listed.{IsIn, in_at, all_in}

@@ -10,8 +10,8 @@ use Rattle.cell_machine.specs.declared.pair.Side.{Side}
 use Rattle.cell_machine.specs.declared.pair.Side.TheVariants.{A, V}
 use Rattle.dynamic_core.specs.Primitive.{DynamicPrimitive}
 use Rattle.dynamic_prover.specs.declared.own_cells.OwnCells.{OwnCells}
-use Rattle.dynamic_prover.specs.Own.{own_run}
-use Rattle.dynamic_prover.specs.Shapes.{is_some_cell, shape_as, shape_of, in_direction, other_cells, tags_of, passed, tags_run}
+use Rattle.dynamic_prover.specs.inner.Own.{own_run}
+use Rattle.dynamic_prover.specs.inner.Shapes.{is_some_cell, shape_as, shape_of, in_direction, other_cells, tags_of, passed, tags_run}
 use Rattle.dynamic_prover.proofs.Passing.{side_at, side_at-aggressor, side_at-victim, side_at-elsewhere, DoesSame}
 use Rattle.dynamic_prover.proofs.Crossing.{other_side, crossing}
 

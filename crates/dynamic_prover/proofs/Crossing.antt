@@ -12,8 +12,8 @@ use Rattle.cell_machine.specs.declared.pair.Side.TheVariants.{A, V}
 use Rattle.cell_machine.specs.Pairs.{bit_on}
 use Rattle.dynamic_core.specs.Primitive.{DynamicPrimitive, left_by}
 use Rattle.dynamic_prover.specs.declared.own_cells.OwnCells.{OwnCells}
-use Rattle.dynamic_prover.specs.Own.{OwnActor, own_actor_of, own_holds, same_side, own_matches, own_arms, pair_where, own_where, reply_where, own_step, own_answer, own_run}
-use Rattle.dynamic_prover.specs.Shapes.{passed}
+use Rattle.dynamic_prover.specs.inner.Own.{OwnActor, own_actor_of, own_holds, same_side, own_matches, own_arms, pair_where, own_where, reply_where, own_step, own_answer, own_run}
+use Rattle.dynamic_prover.specs.inner.Shapes.{passed}
 
 abbrev pub other_side : Side → Side
 other_side A = V

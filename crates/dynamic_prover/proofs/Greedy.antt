@@ -12,8 +12,8 @@ use Rattle.dynamic_core.specs.inner.Detecting.{ending_of}
 use Rattle.dynamic_core.proofs.Differing.{missed}
 use Rattle.dynamic_prover.specs.declared.own_cells.OwnCells.{OwnCells}
 use Rattle.dynamic_prover.specs.declared.shape.Shape.{Shape}
-use Rattle.dynamic_prover.specs.Shapes.{shape_of, element_run, end_in, shape_run}
-use Rattle.dynamic_prover.specs.Ways.{Leading, holds_at, ways_at, can_pass, least_ways, led_by}
+use Rattle.dynamic_prover.specs.inner.Shapes.{shape_of, element_run, end_in, shape_run}
+use Rattle.dynamic_prover.specs.inner.Ways.{Leading, holds_at, ways_at, can_pass, least_ways, led_by}
 use Rattle.dynamic_prover.proofs.Passing.{Shows}
 use Rattle.dynamic_prover.proofs.Sized.{beside_of, own_start, shown}
 

@@ -19,13 +19,13 @@ use Rattle.dynamic_prover.specs.declared.own_cells.OwnCells.{OwnCells}
 use Rattle.dynamic_prover.specs.declared.shape.Shape.{Shape}
 use Rattle.dynamic_prover.specs.declared.spot.Spot.{Spot}
 use Rattle.dynamic_prover.specs.declared.escape.DynEscape.{DynEscape}
-use Rattle.dynamic_prover.specs.Own.{own_as}
-use Rattle.dynamic_prover.specs.Shapes.{shape_of, end_in}
-use Rattle.dynamic_prover.specs.Ways.{least_ways, ways_word}
+use Rattle.dynamic_prover.specs.inner.Own.{own_as}
+use Rattle.dynamic_prover.specs.inner.Shapes.{shape_of, end_in}
+use Rattle.dynamic_prover.specs.inner.Ways.{least_ways, ways_word}
 use Rattle.dynamic_prover.specs.Escapes.{DynArray, places_of_array, PassesDyn, address_number, digits_of, order_of_array, IsInOrder, array_of, LeastDyn, digit_of}
 use Rattle.dynamic_prover.specs.Verdicts.{IsDynVerdict}
 use Rattle.dynamic_prover.specs.declared.escape.DynVerdict.TheVariants.{Escape}
-use Rattle.dynamic_prover.specs.Spots.{spots_of, shape_at, content_from, Candidate, candidate_at, candidates_of, passes_by, IsMadeOf, NonePasses, IsFirstOf, bit_at}
+use Rattle.dynamic_prover.specs.inner.Spots.{spots_of, shape_at, content_from, Candidate, candidate_at, candidates_of, passes_by, IsMadeOf, NonePasses, IsFirstOf, bit_at}
 use Rattle.dynamic_prover.proofs.Sized.{beside_of, own_start}
 use Rattle.dynamic_prover.proofs.Greedy.{IsNotAfter, Foretells, foretold}
 use Rattle.dynamic_prover.proofs.Wording.{IsFitting, fitting_word, word_least}

@@ -7,6 +7,7 @@ pub mod Greedy
 pub mod Wording
 pub mod Alone
 pub mod Tables
+pub mod OpTables
 pub mod Rows
 pub mod Searching
 pub mod Ordered

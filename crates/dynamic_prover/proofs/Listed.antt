@@ -5,7 +5,7 @@ use Rattle.cell_machine.specs.declared.pair.Pair.{Pair}
 use Rattle.cell_machine.specs.Pairs.{pair_of}
 use Rattle.dynamic_prover.specs.declared.spot.Spot.{Spot}
 use Rattle.dynamic_prover.specs.Escapes.{address_number, digits_of}
-use Rattle.dynamic_prover.specs.Spots.{spots_of, two_cell_spots, alone, aggressor_first, victim_first, starts_of, content_from, Candidate, candidate_at, candidates_at, candidates_of}
+use Rattle.dynamic_prover.specs.inner.Spots.{spots_of, two_cell_spots, alone, aggressor_first, victim_first, starts_of, content_from, Candidate, candidate_at, candidates_at, candidates_of}
 use Rattle.dynamic_prover.proofs.Ordered.{is_before}
 
 -- a value stands in a list

@@ -7,7 +7,7 @@ use Rattle.std.proofs.lemmas.Bool.Decides.{nat_tests}
 use Rattle.fault_core.specs.Cells.{cell}
 use Rattle.cell_machine.specs.declared.pair.Pair.{Pair}
 use Rattle.dynamic_prover.specs.Escapes.{digit_of, digits_of, IsInOrder}
-use Rattle.dynamic_prover.specs.Spots.{is_place, bit_at, content_from}
+use Rattle.dynamic_prover.specs.inner.Spots.{is_place, bit_at, content_from}
 
 pub in_order_on : (xs ys zs : List ℕ) → IsInOrder xs ys → IsInOrder ys zs → IsInOrder xs zs
 in_order_on [] ys zs h k = tt

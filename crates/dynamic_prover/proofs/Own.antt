@@ -19,7 +19,7 @@ use Rattle.dynamic_core.specs.Primitive.{TwoActs, DynamicSense, DynamicPrimitive
 use Rattle.dynamic_core.specs.Dynamic.{actor_on, agg_actor, actor_or, actor_of, agg_state_holds, all_states_hold, Held, held_as, matches_of, arms_of, set_where, dyn_cells, dyn_step, dyn_answer}
 use Rattle.dynamic_core.specs.Detecting.{FitsDynAgg, FitsDyn}
 use Rattle.dynamic_prover.specs.declared.own_cells.OwnCells.{OwnCells}
-use Rattle.dynamic_prover.specs.Own.{own_as, OwnActor, own_actor_on, own_agg_actor, own_actor_or, own_actor_of, own_agg_holds, own_holds, same_side, own_matches, own_arms, pair_where, own_step, own_answer}
+use Rattle.dynamic_prover.specs.inner.Own.{own_as, OwnActor, own_actor_on, own_agg_actor, own_actor_or, own_actor_of, own_agg_holds, own_holds, same_side, own_matches, own_arms, pair_where, own_step, own_answer}
 
 -- how an array looks from the two cells at a and v
 abbrev pub own_of : ℕ → ℕ → Held → OwnCells

@@ -26,8 +26,8 @@ use Rattle.dynamic_core.specs.inner.Dynamic.{Ending, Differs, Ends, dyn_run}
 use Rattle.dynamic_core.proofs.Runs.{then_run, run_append}
 use Rattle.dynamic_prover.specs.declared.own_cells.OwnCells.{OwnCells}
 use Rattle.dynamic_prover.specs.declared.shape.Shape.{Shape}
-use Rattle.dynamic_prover.specs.Own.{own_as, own_step, own_answer, own_run, disarmed}
-use Rattle.dynamic_prover.specs.Shapes.{passed, tags_run, tags_of, in_direction, shape_run}
+use Rattle.dynamic_prover.specs.inner.Own.{own_as, own_step, own_answer, own_run, disarmed}
+use Rattle.dynamic_prover.specs.inner.Shapes.{passed, tags_run, tags_of, in_direction, shape_run}
 use Rattle.dynamic_prover.proofs.Own.{own_of, About, answer_seen, step_seen, others_stay, plain_others, plain_held, other_answer, other_step, length-dyn_step, length-plain_cells}
 
 -- a run of the two cells is what the run of the array shows of them

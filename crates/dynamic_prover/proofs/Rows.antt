@@ -10,9 +10,9 @@ use Rattle.dynamic_prover.specs.declared.leg.Leg.TheVariants.{Pause}
 use Rattle.dynamic_prover.specs.declared.row.Row.{Row}
 use Rattle.march_core.specs.Addresses.{direction_of}
 use Rattle.pair_tracker.specs.Tracking.{weight_in}
-use Rattle.dynamic_prover.specs.Ways.{holds_at, ways_at, can_pass, least_ways, ways_word}
-use Rattle.dynamic_prover.specs.Legs.{leg_end}
-use Rattle.dynamic_prover.specs.Rows.{can_from, AreRows, is_way_up}
+use Rattle.dynamic_prover.specs.inner.Ways.{holds_at, ways_at, can_pass, least_ways, ways_word}
+use Rattle.dynamic_prover.specs.inner.Legs.{leg_end}
+use Rattle.dynamic_prover.specs.inner.Rows.{can_from, AreRows, is_way_up}
 use Rattle.dynamic_prover.proofs.Wording.{word_below}
 
 pub rows_begin : (shape : Shape) (legs : List Leg) (row : Row) → ((q : OwnCells) → can_from row q ≡ true) → length legs ≤ 64 → AreRows shape legs (length legs) (replicate 65 row)

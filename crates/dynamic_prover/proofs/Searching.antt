@@ -11,12 +11,12 @@ use Rattle.dynamic_prover.specs.declared.leg.Leg.{Leg}
 use Rattle.dynamic_prover.specs.declared.row.Row.{Row}
 use Rattle.dynamic_prover.specs.declared.spot.Spot.{Spot}
 use Rattle.dynamic_prover.specs.declared.escape.DynEscape.{DynEscape}
-use Rattle.dynamic_prover.specs.Own.{own_as}
-use Rattle.dynamic_prover.specs.Shapes.{end_in}
-use Rattle.dynamic_prover.specs.Ways.{can_pass, ways_word}
-use Rattle.dynamic_prover.specs.Legs.{leg_end, AreLegs}
-use Rattle.dynamic_prover.specs.Rows.{can_from, AreRows}
-use Rattle.dynamic_prover.specs.Spots.{shape_at, starts_of, Candidate, candidate_at, candidates_at, candidates_of, passes_by, IsMadeOf, NonePasses, IsFirstOf}
+use Rattle.dynamic_prover.specs.inner.Own.{own_as}
+use Rattle.dynamic_prover.specs.inner.Shapes.{end_in}
+use Rattle.dynamic_prover.specs.inner.Ways.{can_pass, ways_word}
+use Rattle.dynamic_prover.specs.inner.Legs.{leg_end, AreLegs}
+use Rattle.dynamic_prover.specs.inner.Rows.{can_from, AreRows}
+use Rattle.dynamic_prover.specs.inner.Spots.{shape_at, starts_of, Candidate, candidate_at, candidates_at, candidates_of, passes_by, IsMadeOf, NonePasses, IsFirstOf}
 use Rattle.dynamic_prover.proofs.Rows.{blank_row}
 use Rattle.dynamic_prover.proofs.Tables.{can_by_legs, ways_by_legs}
 

@@ -10,7 +10,7 @@ use Rattle.dynamic_core.specs.inner.Dynamic.{dyn_run}
 use Rattle.dynamic_core.specs.Detecting.{FitsDynAgg, FitsDyn}
 use Rattle.dynamic_core.specs.inner.Detecting.{ending_of}
 use Rattle.dynamic_prover.specs.declared.own_cells.OwnCells.{OwnCells}
-use Rattle.dynamic_prover.specs.Shapes.{shape_of, shape_run}
+use Rattle.dynamic_prover.specs.inner.Shapes.{shape_of, shape_run}
 use Rattle.dynamic_prover.proofs.Own.{own_of, About, about}
 use Rattle.dynamic_prover.proofs.Passing.{Shows, DoesSame, march_visit}
 use Rattle.dynamic_prover.proofs.Blocks.{over_pair, over_victim}

@@ -15,11 +15,11 @@ use Rattle.dynamic_prover.specs.declared.shape.Shape.{Shape}
 use Rattle.dynamic_prover.specs.declared.leg.SweepLeg.{SweepLeg}
 use Rattle.dynamic_prover.specs.declared.leg.Leg.{Leg}
 use Rattle.dynamic_prover.specs.declared.leg.Leg.TheVariants.{Pause, Sweep}
-use Rattle.dynamic_prover.specs.Own.{own_as, own_run, disarmed}
-use Rattle.dynamic_prover.specs.Shapes.{in_direction, other_cells, one_more, tags_of, passed, tags_run, end_in}
-use Rattle.dynamic_prover.specs.Ways.{holds_at, ways_at, can_pass, least_ways}
-use Rattle.dynamic_prover.specs.Rows.{can_from}
-use Rattle.dynamic_prover.specs.Legs.{passed_where, end_from, ends_on, second_end, sweep_end, leg_end, IsLeg, AreLegs}
+use Rattle.dynamic_prover.specs.inner.Own.{own_as, own_run, disarmed}
+use Rattle.dynamic_prover.specs.inner.Shapes.{in_direction, other_cells, one_more, tags_of, passed, tags_run, end_in}
+use Rattle.dynamic_prover.specs.inner.Ways.{holds_at, ways_at, can_pass, least_ways}
+use Rattle.dynamic_prover.specs.inner.Rows.{can_from}
+use Rattle.dynamic_prover.specs.inner.Legs.{passed_where, end_from, ends_on, second_end, sweep_end, leg_end, IsLeg, AreLegs}
 
 -- a table of eight, by the contents of the two cells
 pub eight : (f : OwnCells → Option OwnCells) (x0 x1 x2 x3 x4 x5 x6 x7 : Option OwnCells)

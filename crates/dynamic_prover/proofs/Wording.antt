@@ -8,7 +8,7 @@ use Rattle.march_core.specs.Visits.{Direction, Upward, Downward, allows, is_dire
 use Rattle.pair_tracker.specs.Legs.{directions_between}
 use Rattle.pair_tracker.specs.Tracking.{weight_in, IsSpanWord}
 use Rattle.pair_tracker.proofs.Words.{span_below, span_fits, span_join, IsSplit, span_split, directions_join, span_one, directions_one, one_split, directions_from_first, span_from_rest, rest_from_span}
-use Rattle.dynamic_prover.specs.Ways.{ways_word}
+use Rattle.dynamic_prover.specs.inner.Ways.{ways_word}
 use Rattle.dynamic_prover.proofs.Greedy.{IsNotAfter}
 
 record IsWordOf (ds : List Direction) (i j word : ℕ) : Type 0 where

@@ -1,8 +1,3 @@
-pub mod Own
-pub mod Shapes
-pub mod Ways
-pub mod Legs
-pub mod Rows
-pub mod Spots
 pub mod Escapes
 pub mod Verdicts
+pub mod inner

@@ -1,11 +1,11 @@
 ghost use Rattle.std.specs.Prelude.{ℕ, ◌≡◌, ◌≤◌, false, true, length, MatchOption};
 ghost use Rattle.march_core.specs.March.{IsMarch};
 ghost use Rattle.dynamic_core.specs.Primitive.{has_aggressor};
-ghost use Rattle.dynamic_prover.specs.Shapes.{end_in};
-ghost use Rattle.dynamic_prover.specs.Ways.{least_ways, ways_word};
-ghost use Rattle.dynamic_prover.specs.Legs.{leg_end};
-ghost use Rattle.dynamic_prover.specs.Rows.{AreRows};
-ghost use Rattle.dynamic_prover.specs.Spots.{shape_at, spots_of, candidate_at, candidates_at, candidates_of, passes_by, IsMadeOf, FindsFirst};
+ghost use Rattle.dynamic_prover.specs.inner.Shapes.{end_in};
+ghost use Rattle.dynamic_prover.specs.inner.Ways.{least_ways, ways_word};
+ghost use Rattle.dynamic_prover.specs.inner.Legs.{leg_end};
+ghost use Rattle.dynamic_prover.specs.inner.Rows.{AreRows};
+ghost use Rattle.dynamic_prover.specs.inner.Spots.{shape_at, spots_of, candidate_at, candidates_at, candidates_of, passes_by, IsMadeOf, FindsFirst};
 ghost use Rattle.dynamic_prover.specs.Verdicts.{IsDynVerdict, IsDynVerdictAt};
 
 use crate::escape::{DynEscape, DynVerdict};

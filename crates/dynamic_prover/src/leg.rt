@@ -3,15 +3,18 @@ ghost use Rattle.march_core.specs.March.{element_at};
 ghost use Rattle.march_core.specs.Visits.{allows};
 ghost use Rattle.march_core.specs.Addresses.{direction_of};
 ghost use Rattle.dynamic_prover.specs.declared.own_cells.OwnCells.{OwnCells};
-ghost use Rattle.dynamic_prover.specs.Own.{own_run};
-ghost use Rattle.dynamic_prover.specs.Legs.{end_from, ends_on, second_end, sweep_end, leg_end, IsLeg, AreLegs};
+ghost use Rattle.cell_machine.specs.declared.pair.Side.TheVariants.{A, V};
+ghost use Rattle.dynamic_core.specs.Primitive.{DynamicPrimitive};
+ghost use Rattle.dynamic_prover.specs.inner.OpTables.{IsOpTable};
+ghost use Rattle.dynamic_prover.specs.inner.Legs.{end_from, ends_on, second_end, sweep_end, leg_end, IsLeg, AreLegs};
 
-use crate::own_cells::{OwnCells, own_cells, run_ops};
+use crate::op_table::OpTable;
+use crate::own_cells::OwnCells;
 use crate::shape::Shape;
 use arrayvec::ArrayVec;
 use cell_machine::Side;
 use dynamic_core::DynPrim;
-use march_core::{March, Op, Order};
+use march_core::{March, Order};
 
 /// Where the operations of an element lead on each of the two cells, by the number of their contents. None
 /// where a read differs.
@@ -34,23 +37,6 @@ impl Default for Leg {
     fn default() -> Self {
         Leg::Pause
     }
-}
-
-/// Where operations on one of the two cells lead from each of their contents.
-fn ends_of(prim: &DynPrim, on: Side, ops: &[Op]) -> [Option<OwnCells>; 8]
-    ensures ends { (q : OwnCells) → end_from result q ≡ own_run prim.now q on ops.now }
-    ensures each { length result ≡ 8 }
-{
-    [
-        run_ops(prim, own_cells(false, false, false), on, ops),
-        run_ops(prim, own_cells(false, false, true), on, ops),
-        run_ops(prim, own_cells(false, true, false), on, ops),
-        run_ops(prim, own_cells(false, true, true), on, ops),
-        run_ops(prim, own_cells(true, false, false), on, ops),
-        run_ops(prim, own_cells(true, false, true), on, ops),
-        run_ops(prim, own_cells(true, true, false), on, ops),
-        run_ops(prim, own_cells(true, true, true), on, ops),
-    ]
 }
 
 /// Whether an order leaves a direction open.
@@ -119,10 +105,10 @@ impl Leg {
     }
 }
 
-/// The table of an element.
-fn leg_of(march: &March, prim: &DynPrim, element: usize) -> Leg
+/// The table of an element, by those of single operations on each of the two cells.
+fn leg_of(march: &March, on_aggressor: &OpTable, on_victim: &OpTable, element: usize) -> Leg
     requires { element < length march.now }
-    ensures { IsLeg prim.now (element_at march.now element) result }
+    ensures { (p : DynamicPrimitive) → IsOpTable p A on_aggressor.now → IsOpTable p V on_victim.now → IsLeg p (element_at march.now element) result }
 {
     if march.is_pause(element) {
         return Leg::Pause;
@@ -130,8 +116,8 @@ fn leg_of(march: &March, prim: &DynPrim, element: usize) -> Leg
     let ops = march.ops(element);
     Leg::Sweep(SweepLeg {
         order: march.order(element),
-        on_aggressor: ends_of(prim, Side::A, ops),
-        on_victim: ends_of(prim, Side::V, ops),
+        on_aggressor: on_aggressor.ends(ops),
+        on_victim: on_victim.ends(ops),
     })
 }
 
@@ -140,9 +126,11 @@ pub(crate) fn legs_of(march: &March, prim: &DynPrim) -> ArrayVec<Leg, 64>
     ensures legs { AreLegs prim.now march.now result.items }
     ensures few { length result.items ≤ 64 }
 {
+    let on_aggressor = OpTable::new(prim, Side::A);
+    let on_victim = OpTable::new(prim, Side::V);
     let mut legs = ArrayVec::new();
     for element in 0..march.len() {
-        legs.push(leg_of(march, prim, element));
+        legs.push(leg_of(march, &on_aggressor, &on_victim, element));
     }
     legs
 }

@@ -4,6 +4,7 @@
 mod escape;
 mod judging;
 mod leg;
+mod op_table;
 mod own_cells;
 mod row;
 mod shape;

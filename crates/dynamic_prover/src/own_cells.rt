@@ -1,8 +1,8 @@
 ghost use Rattle.std.specs.Prelude.{◌≡◌, ◌<◌};
 ghost use Rattle.cell_machine.specs.Pairs.{pair_of};
 ghost use Rattle.cell_machine.specs.Seen.{place_of};
-ghost use Rattle.dynamic_prover.specs.Own.{own_as, own_step, own_answer, own_run, disarmed, two_places};
-ghost use Rattle.dynamic_prover.specs.Legs.{own_number, passed_where};
+ghost use Rattle.dynamic_prover.specs.inner.Own.{own_as, own_step, own_answer, own_run, disarmed, two_places};
+ghost use Rattle.dynamic_prover.specs.inner.Legs.{own_number, passed_where};
 
 use array_sim::act_of;
 use cell_machine::{Pair, Side};

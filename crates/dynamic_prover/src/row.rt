@@ -3,9 +3,9 @@ ghost use Rattle.march_core.specs.Visits.{Upward, Downward};
 ghost use Rattle.march_core.specs.Addresses.{direction_of};
 ghost use Rattle.pair_tracker.specs.Tracking.{weight_in};
 ghost use Rattle.dynamic_prover.specs.declared.own_cells.OwnCells.{OwnCells};
-ghost use Rattle.dynamic_prover.specs.Ways.{holds_at, least_ways, ways_word};
-ghost use Rattle.dynamic_prover.specs.Legs.{leg_end};
-ghost use Rattle.dynamic_prover.specs.Rows.{can_from, AreRows, is_way_up};
+ghost use Rattle.dynamic_prover.specs.inner.Ways.{holds_at, least_ways, ways_word};
+ghost use Rattle.dynamic_prover.specs.inner.Legs.{leg_end};
+ghost use Rattle.dynamic_prover.specs.inner.Rows.{can_from, AreRows, is_way_up};
 
 use crate::leg::Leg;
 use crate::own_cells::{OwnCells, own_cells};

@@ -1,6 +1,6 @@
 ghost use Rattle.std.specs.Prelude.{◌≡◌};
 ghost use Rattle.march_core.specs.Addresses.{direction_of};
-ghost use Rattle.dynamic_prover.specs.Shapes.{turned, in_direction};
+ghost use Rattle.dynamic_prover.specs.inner.Shapes.{turned, in_direction};
 
 use cell_machine::Side;
 

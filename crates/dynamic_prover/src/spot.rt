@@ -1,6 +1,6 @@
 ghost use Rattle.std.specs.Prelude.{◌≡◌};
-ghost use Rattle.dynamic_prover.specs.Shapes.{shape_of};
-ghost use Rattle.dynamic_prover.specs.Spots.{is_last_of, spots_of, shape_at, starts_of, bit_at, content_from};
+ghost use Rattle.dynamic_prover.specs.inner.Shapes.{shape_of};
+ghost use Rattle.dynamic_prover.specs.inner.Spots.{is_last_of, spots_of, shape_at, starts_of, bit_at, content_from};
 ghost use Rattle.dynamic_core.specs.Primitive.{has_aggressor};
 
 use crate::shape::Shape;

@@ -14,9 +14,26 @@ pub passed : (o : Option MemoryFault) → Ok tt ≡ checked o → o ≡ None
 passed None e = refl
 passed (Some fault) e = (let z : ⊥ = cc in absurd z)
 
--- ---- the last steps, where no check refused
+pub not_refused : (fault : MemoryFault) → ◌≡◌ {A = Result (Unit {0}) MemoryFault} (Ok tt) (Err fault) → ⊥
+not_refused fault e = cc
+
+pub stopped : (o : Option MemoryFault) (fault : MemoryFault) → Err fault ≡ checked o → o ≡ Some fault
+stopped None fault e = (let z : ⊥ = cc in absurd z)
+stopped (Some other) fault e = cc
+
+-- ---- the steps, where no earlier check refused
 
 module _ (ss : List Statement) (width : ℕ) (r : Result Description MemoryFault) where
+  pub builds_unscrambled : (fault : MemoryFault) → unscramblable ss ≡ Some fault → r ≡ Err fault → Builds ss width r
+  builds_unscrambled fault e h = rw e h
+
+  pub builds_narrower : (fault : MemoryFault) → unscramblable ss ≡ None → too_wide ss width (bits_said ss) ≡ Some fault → r ≡ Err fault → Builds ss width r
+  builds_narrower fault e f h = rw (e, f) h
+
+  pub builds_singular : (fault : MemoryFault) → unscramblable ss ≡ None → too_wide ss width (bits_said ss) ≡ None → Scrambles ss width (Err fault) → r ≡ Err fault
+      → Builds ss width r
+  builds_singular fault e f s h = rw (e, f) (Err fault, s, h)
+
   pub builds_untested : (fault : MemoryFault) (scrambling : Scrambling) → unscramblable ss ≡ None → too_wide ss width (bits_said ss) ≡ None
       → Scrambles ss width (Ok scrambling) → StatesBackgrounds ss (Err fault) → r ≡ Err fault → Builds ss width r
   builds_untested fault scrambling e f s t h = rw (e, f) (Ok scrambling, s, (Err fault, t, h))

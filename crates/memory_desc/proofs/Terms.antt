@@ -4,7 +4,6 @@ use Rattle.std.proofs.Math.Path.{ap₂}
 use Rattle.std.proofs.lemmas.Bool.{eq-eqb, ne_eqb}
 use Rattle.std.proofs.lemmas.Nat.Bits.{shr_and_one}
 use Rattle.std.specs.Int.{bit_at}
-use Rattle.scrambler.specs.Scrambling.{row}
 use Rattle.memory_desc.specs.Printed.{index_terms, joined, row_terms}
 use Rattle.memory_desc.specs.inner.Printed.{is_none, separator, term_after}
 

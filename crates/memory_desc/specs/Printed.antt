@@ -1,5 +1,5 @@
 -- Trusted. The printed form of a memory.
-use Rattle.std.specs.Prelude.{ℕ, zero, suc, ◌+◌, ◌==◌, ◌&&◌, Bool, true, false, if◌then◌else◌, List, [], ◌∷◌, ◌++◌, codes, decimal}
+use Rattle.std.specs.Prelude.{ℕ, zero, suc, ◌==◌, ◌&&◌, Bool, true, false, if◌then◌else◌, List, [], ◌∷◌, ◌++◌, codes, decimal}
 use Rattle.std.specs.Int.{bit_at}
 use Rattle.bist_text.specs.Numbers.{word_text}
 use Rattle.scrambler.specs.Scrambling.{Scrambling, row, is_identity}

@@ -1,5 +1,6 @@
 ghost use Rattle.std.specs.Prelude.{◌≡◌, ◌≤◌, ◌<◌, ◌&&◌, nat_lt, map, IsTrue};
 ghost use Rattle.bist_text.specs.Keywords.{word_of};
+ghost use Rattle.memory_desc.specs.declared.line_place.Place.TheVariants.{Named, Wanted, Number, Name as InName, RowNumber, Term, TermNumber, Hex, HexEnd};
 ghost use Rattle.memory_desc.specs.inner.LinePlaces.{step, value, argument_begun, begun, ended, is_digit_of, most_digits, keys_of, spelling, at_start, row_ended, term_ended, word_ended};
 
 use bist_text::byte_sets::{BLANKS, NAME_BYTES, NAME_STARTS};
@@ -70,8 +71,118 @@ fn is_digit_of(key: Key, count: u8, byte: u8) -> bool
     }
 }
 
+/// A byte behind a first word.
+#[tactic(auto, using(bist_text::proofs::Behind::blanks_have))]
+fn after_word(key: Key, byte: u8) -> Option<Place>
+    ensures { result ≡ step (Named key) byte }
+{
+    if BLANKS.contains(byte) {
+        Some(Place::Wanted(key))
+    } else {
+        None
+    }
+}
+
+/// A byte behind a first word and a blank.
+#[tactic(auto, using(bist_text::proofs::Behind::blanks_have))]
+fn before_argument(key: Key, byte: u8) -> Option<Place>
+    ensures { result ≡ step (Wanted key) byte }
+{
+    if BLANKS.contains(byte) {
+        Some(Place::Wanted(key))
+    } else {
+        argument(key, byte)
+    }
+}
+
+/// A byte in the number of a line of a kind, or in its word.
+fn in_number(key: Key, count: u8, byte: u8) -> Option<Place>
+    ensures { result ≡ step (Number key count) byte }
+{
+    if is_digit_of(key, count, byte) {
+        Some(Place::Number(key, count + 1))
+    } else if count == 0 {
+        None
+    } else {
+        end(key, byte)
+    }
+}
+
+/// A byte in a name.
+#[tactic(auto, using(crate::proofs::Behind::names_have))]
+fn in_name(byte: u8) -> Option<Place>
+    ensures { result ≡ step InName byte }
+{
+    if NAME_BYTES.contains(byte) {
+        Some(Place::Name)
+    } else {
+        end(Key::Name, byte)
+    }
+}
+
+/// A byte in a row's number.
+fn in_row_number(count: u8, byte: u8) -> Option<Place>
+    ensures { result ≡ step (RowNumber count) byte }
+{
+    if byte.is_ascii_digit() && count < 9 {
+        Some(Place::RowNumber(count + 1))
+    } else if count == 0 {
+        None
+    } else {
+        row_end(byte)
+    }
+}
+
+/// A byte before a term.
+fn before_term(byte: u8) -> Option<Place>
+    ensures { result ≡ step Term byte }
+{
+    match byte {
+        b' ' | b'\t' | b'\r' => Some(Place::Term),
+        b'p' => Some(Place::TermNumber(0)),
+        b'0' | b'1' => Some(Place::TermEnd),
+        _ => None,
+    }
+}
+
+/// A byte in a term's number.
+fn in_term_number(count: u8, byte: u8) -> Option<Place>
+    ensures { result ≡ step (TermNumber count) byte }
+{
+    if byte.is_ascii_digit() && count < 9 {
+        Some(Place::TermNumber(count + 1))
+    } else if count == 0 {
+        None
+    } else {
+        term_end(byte)
+    }
+}
+
+/// A byte in a background.
+fn in_word(count: u8, byte: u8) -> Option<Place>
+    ensures { result ≡ step (Hex count) byte }
+{
+    if byte.is_ascii_hexdigit() && count < 16 {
+        Some(Place::Hex(count + 1))
+    } else if count == 0 {
+        None
+    } else {
+        word_end(byte)
+    }
+}
+
+/// A byte behind a background and a blank.
+fn before_word(byte: u8) -> Option<Place>
+    ensures { result ≡ step HexEnd byte }
+{
+    if byte.is_ascii_hexdigit() {
+        Some(Place::Hex(1))
+    } else {
+        word_end(byte)
+    }
+}
+
 /// The place behind one more byte; None where the line can't go on so.
-#[tactic(auto, using(bist_text::proofs::Behind::blanks_have, crate::proofs::Behind::names_have))]
 pub fn place_after(place: Place, byte: u8) -> Option<Place>
     ensures { result ≡ step place byte }
 {
@@ -82,76 +193,20 @@ pub fn place_after(place: Place, byte: u8) -> Option<Place>
         Place::Letters(version, letters) => {
             spelled(version, next_letter(keys_of(version), letters, byte))
         }
-        Place::Named(key) => {
-            if BLANKS.contains(byte) {
-                Some(Place::Wanted(key))
-            } else {
-                None
-            }
-        }
-        Place::Wanted(key) => {
-            if BLANKS.contains(byte) {
-                Some(Place::Wanted(key))
-            } else {
-                argument(key, byte)
-            }
-        }
-        Place::Number(key, count) => {
-            if is_digit_of(key, count, byte) {
-                Some(Place::Number(key, count + 1))
-            } else if count == 0 {
-                None
-            } else {
-                end(key, byte)
-            }
-        }
-        Place::Name => {
-            if NAME_BYTES.contains(byte) {
-                Some(Place::Name)
-            } else {
-                end(Key::Name, byte)
-            }
-        }
-        Place::End(key) => end(key, byte),
-        Place::RowNumber(count) => {
-            if byte.is_ascii_digit() && count < 9 {
-                Some(Place::RowNumber(count + 1))
-            } else if count == 0 {
-                None
-            } else {
-                row_end(byte)
-            }
-        }
+        Place::Named(key) => after_word(key, byte),
+        Place::Wanted(key) => before_argument(key, byte),
+        Place::Number(key, count) => in_number(key, count, byte),
+        Place::Name => in_name(byte),
+        Place::RowNumber(count) => in_row_number(count, byte),
         Place::RowEnd => row_end(byte),
-        Place::Term => match byte {
-            b' ' | b'\t' | b'\r' => Some(Place::Term),
-            b'p' => Some(Place::TermNumber(0)),
-            b'0' | b'1' => Some(Place::TermEnd),
-            _ => None,
-        },
-        Place::TermNumber(count) => {
-            if byte.is_ascii_digit() && count < 9 {
-                Some(Place::TermNumber(count + 1))
-            } else if count == 0 {
-                None
-            } else {
-                term_end(byte)
-            }
-        }
+        Place::Term => before_term(byte),
+        Place::TermNumber(count) => in_term_number(count, byte),
         Place::TermEnd => term_end(byte),
         Place::LetterL => (byte == b'o').then_some(Place::LetterO),
         Place::LetterO => (byte == b'g').then_some(Place::End(Key::Backgrounds)),
-        Place::Hex(count) => {
-            if byte.is_ascii_hexdigit() && count < 16 {
-                Some(Place::Hex(count + 1))
-            } else if count == 0 {
-                None
-            } else {
-                word_end(byte)
-            }
-        }
-        Place::HexEnd if byte.is_ascii_hexdigit() => Some(Place::Hex(1)),
-        Place::HexEnd => word_end(byte),
+        Place::Hex(count) => in_word(count, byte),
+        Place::HexEnd => before_word(byte),
+        Place::End(key) => end(key, byte),
     }
 }
 

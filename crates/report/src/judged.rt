@@ -1,6 +1,8 @@
-ghost use Rattle.std.specs.Prelude.{◌≡◌, ◌++◌, ◌∷◌, [], IfOk, OnOk};
+ghost use Rattle.std.specs.Prelude.{◌≡◌, ◌++◌, ◌∷◌, [], IfOk, OnOk, IfSome, Contains};
+ghost use Rattle.std.specs.List.{AllByRecursion};
 ghost use Rattle.report.specs.Items.{AreJudged, IsJudged, item_of};
 
+use crate::same::is_of_item;
 use bist_bits::NoMemory;
 use coverage::{Verdict, judge};
 use dynamic_core::{DynPrim, Item};
@@ -16,14 +18,44 @@ pub enum JudgedItem {
     Dyn(DynPrim, DynVerdict),
 }
 
-/// Judges one item more.
-fn judge_next(judged: &mut Vec<JudgedItem>, march: &March, item: &Item) -> Result<(), NoMemory>
-    ensures { OnOk result ((j : JudgedItem) × (judged.new.items ≡ judged.old.items ++ j ∷ []) × (item_of j ≡ item.now) × IsJudged march.now j) }
+/// What was said before of an item.
+fn find_judged(judged: &[JudgedItem], item: &Item) -> Option<JudgedItem>
+    ensures { IfSome result (λ j. (item_of j ≡ item.now) × Contains judged.now j) }
 {
-    let next = match item {
+    for known in judged {
+        if is_of_item(known, item) {
+            return Some(*known);
+        }
+    }
+    None
+}
+
+fn judge_item(march: &March, item: &Item) -> JudgedItem
+    ensures item { item_of result ≡ item.now }
+    ensures judged { IsJudged march.now result }
+{
+    match item {
         Item::Plain(prim) => JudgedItem::Plain(*prim, judge(march, prim)),
         Item::Dyn(prim) => JudgedItem::Dyn(*prim, judge_dyn(march, prim)),
-    };
+    }
+}
+
+/// An item with its verdict: of one that was judged before it is the same.
+fn judge_once(judged: &[JudgedItem], march: &March, item: &Item) -> JudgedItem
+    ensures item { item_of result ≡ item.now }
+    ensures judged { AllByRecursion (IsJudged march.now) judged.now → IsJudged march.now result }
+{
+    match find_judged(judged, item) {
+        Some(known) => known,
+        None => judge_item(march, item),
+    }
+}
+
+/// Judges one item more.
+fn judge_next(judged: &mut Vec<JudgedItem>, march: &March, item: &Item) -> Result<(), NoMemory>
+    ensures { OnOk result ((j : JudgedItem) × (judged.new.items ≡ judged.old.items ++ j ∷ []) × (item_of j ≡ item.now) × (AllByRecursion (IsJudged march.now) judged.old.items → IsJudged march.now j)) }
+{
+    let next = judge_once(judged, march, item);
     match judged.push(next) {
         Ok(()) => Ok(()),
         Err(_) => Err(NoMemory),

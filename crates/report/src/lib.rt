@@ -7,6 +7,7 @@ mod judged_lines;
 mod laws;
 mod memory_line;
 mod one_text;
+mod same;
 mod total;
 mod verdicts;
 mod write;

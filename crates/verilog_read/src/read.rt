@@ -11,6 +11,8 @@ ghost use Rattle.verilog_read.specs.inner.Told.{Takes, Moves, Scanned, Reads, Gi
 ghost use Rattle.verilog_text.specs.Expected.{most_of, taken, takes_literals};
 ghost use Rattle.verilog_text.specs.Refusals.{Says, SaysIn, IsFirst, IsFirstIn};
 ghost use Rattle.verilog_read.specs.inner.Holding.{token_of};
+ghost use Rattle.verilog_read.specs.declared.lexer.Scanner.TheVariants.{InGap};
+ghost use Rattle.verilog_tree.specs.declared.tokens.Within.TheVariants.{Between};
 ghost use Rattle.verilog_read.specs.inner.Frames.{styled};
 ghost use Rattle.verilog_read.specs.inner.Lexemes.{tokens_of, lexer_of, ends_of};
 ghost use Rattle.verilog_text.specs.Lexing.{last};
@@ -21,7 +23,7 @@ use crate::fault::ParseFault;
 use crate::items::step;
 use crate::lexemes::Lexeme;
 use crate::lexer::{LexFault, Read, Scanner, last, lex};
-use crate::places::{ItemSpot, Outer, Place, Style};
+use crate::places::{ItemSpot, Outer, Place, Style, blank_module};
 use crate::takes::{is_live, takes, takes_number};
 use crate::words::expected_at;
 use std::alloc::Global;
@@ -177,12 +179,12 @@ fn step_byte(
     }
 }
 
-/// The module, where a text may end.
-fn value(outer: Outer, place: Place) -> Result<Module, ReadFault>
-    ensures { Gives (value_answer (value (state_of place outer))) result }
+/// The module, where a text may end. It is taken out.
+fn value(alloc: Global, outer: &mut Outer, place: &Place) -> Result<Module, ReadFault>
+    ensures { Gives (value_answer (value (state_of place.now outer.old))) result }
 {
     match place {
-        Place::InItem(ItemSpot::Ended) => Ok(outer.tree),
+        Place::InItem(ItemSpot::Ended) => { Ok(mem::replace(&mut outer.tree, blank_module(alloc))) }
         _ => Err(ReadFault::Truncated),
     }
 }
@@ -190,17 +192,15 @@ fn value(outer: Outer, place: Place) -> Result<Module, ReadFault>
 /// The text ends with a token that began at byte `start`.
 fn end_token(
     alloc: Global,
-    outer: Outer,
-    place: Place,
+    outer: &mut Outer,
+    place: &mut Place,
     token: &Lexeme,
     start: usize,
 ) -> Result<Module, ReadFault>
-    ensures { Gives (last_answer (take_token (state_of place outer) (token_of token.now)) start) result }
+    ensures { Gives (last_answer (take_token (state_of place.old outer.old) (token_of token.now)) start) result }
 {
-    let mut outer = outer;
-    let mut place = place;
-    match take(alloc, &mut outer, &mut place, token) {
-        Ok(()) => value(outer, place),
+    match take(alloc, outer, place, token) {
+        Ok(()) => value(alloc, outer, place),
         Err(ByteFault::TooDeep) => Err(ReadFault::TooDeep { byte: start }),
         Err(ByteFault::NoMemory) => Err(ReadFault::NoMemory),
         Err(_) => Err(ReadFault::Truncated),
@@ -210,16 +210,16 @@ fn end_token(
 /// The text ends.
 fn finish(
     alloc: Global,
-    outer: Outer,
-    place: Place,
+    outer: &mut Outer,
+    place: &mut Place,
     lexer: Scanner,
     start: usize,
 ) -> Result<Module, ReadFault>
-    ensures { Gives (end_answer (state_of place outer) (last (lexer_of lexer)) start) result }
+    ensures { Gives (end_answer (state_of place.old outer.old) (last (lexer_of lexer)) start) result }
 {
     match last(lexer) {
         Some(Some(token)) => end_token(alloc, outer, place, &token, start),
-        Some(None) => value(outer, place),
+        Some(None) => value(alloc, outer, place),
         None => Err(ReadFault::Truncated),
     }
 }
@@ -261,15 +261,27 @@ fn scan_bytes(
     Ok(start)
 }
 
+/// Reads the bytes, and the text ends.
+fn scan_all(
+    alloc: Global,
+    outer: &mut Outer,
+    place: &mut Place,
+    bytes: &[u8],
+) -> Result<Module, ReadFault>
+    ensures { Gives (run bytes.now (both_of place.old outer.old (InGap Between)) 0 0) result }
+{
+    let mut lexer = Scanner::InGap(Within::Between);
+    let start = scan_bytes(alloc, outer, place, &mut lexer, bytes)?;
+    finish(alloc, outer, place, lexer, start)
+}
+
 /// Reads a text from its first byte to its end.
 fn scan_text(alloc: Global, style: Style, bytes: &[u8]) -> Result<Module, ReadFault>
     ensures { Gives (answer (styled style) bytes.now) result }
 {
     let mut outer = Outer::new(alloc, style);
     let mut place = Place::InItem(ItemSpot::Begin);
-    let mut lexer = Scanner::InGap(Within::Between);
-    let start = scan_bytes(alloc, &mut outer, &mut place, &mut lexer, bytes)?;
-    finish(alloc, outer, place, lexer, start)
+    scan_all(alloc, &mut outer, &mut place, bytes)
 }
 
 /// Reads the text of a module. The first byte at which one of L1, L3, L4 and L5 stands decides.

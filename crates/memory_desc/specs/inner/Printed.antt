@@ -1,5 +1,5 @@
 -- Inner. For proofs and private contracts alone, beside Printed: the printed form of a memory.
-use Rattle.std.specs.Prelude.{ℕ, ◌+◌, Bool, true, false, List, [], ◌∷◌, ◌++◌, codes}
+use Rattle.std.specs.Prelude.{ℕ, Bool, true, false, List, [], ◌∷◌, ◌++◌, codes}
 
 abbrev pub is_none : List (List ℕ) → Bool
 is_none [] = true

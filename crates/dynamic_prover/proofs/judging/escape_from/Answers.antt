@@ -1,9 +1,9 @@
 use Rattle.std.proofs.Common.{refl, sym, ap, ◌∙◌}
 use Rattle.dynamic_prover.specs.declared.own_cells.OwnCells.{OwnCells}
 use Rattle.dynamic_prover.specs.declared.shape.Shape.{Shape}
-use Rattle.dynamic_prover.specs.Ways.{can_pass, least_ways, ways_word}
-use Rattle.dynamic_prover.specs.Legs.{leg_end}
-use Rattle.dynamic_prover.specs.Spots.{shape_at}
+use Rattle.dynamic_prover.specs.inner.Ways.{can_pass, least_ways, ways_word}
+use Rattle.dynamic_prover.specs.inner.Legs.{leg_end}
+use Rattle.dynamic_prover.specs.inner.Spots.{shape_at}
 use Rattle.dynamic_prover.proofs.Searching.{first_tells}
 use Rattle.dynamic_prover.proofs.judging.escape_from.Goals as goal
 

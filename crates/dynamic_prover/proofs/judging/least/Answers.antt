@@ -2,9 +2,9 @@ use Rattle.std.proofs.Common.{List, None, refl, get_or, subst, sym}
 use Rattle.std.proofs.lemmas.List.{take_all}
 use Rattle.dynamic_prover.specs.declared.spot.Spot.{Spot}
 use Rattle.dynamic_prover.specs.declared.leg.Leg.{Leg}
-use Rattle.dynamic_prover.specs.Shapes.{end_in}
-use Rattle.dynamic_prover.specs.Legs.{leg_end, AreLegs}
-use Rattle.dynamic_prover.specs.Spots.{spot_as, candidates_at, candidates_of, NonePasses, IsFirstOf}
+use Rattle.dynamic_prover.specs.inner.Shapes.{end_in}
+use Rattle.dynamic_prover.specs.inner.Legs.{leg_end, AreLegs}
+use Rattle.dynamic_prover.specs.inner.Spots.{spot_as, candidates_at, candidates_of, NonePasses, IsFirstOf}
 use Rattle.dynamic_prover.proofs.Searching.{none_at_more, found_among}
 use Rattle.dynamic_prover.proofs.judging.least.Goals as goal
 

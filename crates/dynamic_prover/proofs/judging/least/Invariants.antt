@@ -1,6 +1,6 @@
 use Rattle.std.proofs.Common.{take}
-use Rattle.dynamic_prover.specs.Shapes.{end_in}
-use Rattle.dynamic_prover.specs.Spots.{candidates_of, NonePasses}
+use Rattle.dynamic_prover.specs.inner.Shapes.{end_in}
+use Rattle.dynamic_prover.specs.inner.Spots.{candidates_of, NonePasses}
 use Rattle.dynamic_prover.proofs.judging.least.Given as goal
 
 abbrev pub invariant-loop-spot : goal.invariant-loop-spot

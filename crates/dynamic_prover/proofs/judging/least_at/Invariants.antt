@@ -1,6 +1,6 @@
 use Rattle.std.proofs.Common.{map, take}
-use Rattle.dynamic_prover.specs.Legs.{leg_end}
-use Rattle.dynamic_prover.specs.Spots.{candidate_at, NonePasses}
+use Rattle.dynamic_prover.specs.inner.Legs.{leg_end}
+use Rattle.dynamic_prover.specs.inner.Spots.{candidate_at, NonePasses}
 use Rattle.dynamic_prover.proofs.judging.least_at.Given as goal
 
 abbrev pub invariant-loop-pair : goal.invariant-loop-pair

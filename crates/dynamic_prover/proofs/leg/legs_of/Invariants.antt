@@ -1,5 +1,5 @@
 use Rattle.std.proofs.Common.{◌≡◌, length, take}
-use Rattle.dynamic_prover.specs.Legs.{AreLegs}
+use Rattle.dynamic_prover.specs.inner.Legs.{AreLegs}
 use Rattle.dynamic_prover.proofs.leg.legs_of.Given as goal
 
 abbrev pub invariant-loop-element : goal.invariant-loop-element

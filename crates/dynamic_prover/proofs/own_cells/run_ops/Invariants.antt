@@ -1,5 +1,5 @@
 use Rattle.std.proofs.Common.{◌≡◌, drop}
-use Rattle.dynamic_prover.specs.Own.{own_run}
+use Rattle.dynamic_prover.specs.inner.Own.{own_run}
 use Rattle.dynamic_prover.proofs.own_cells.run_ops.Given as goal
 
 abbrev pub invariant-loop-op : goal.invariant-loop-op

@@ -1,6 +1,6 @@
 use Rattle.std.proofs.Common.{◌≡◌, ◌+◌, drop}
-use Rattle.dynamic_prover.specs.Ways.{least_ways, ways_word}
-use Rattle.dynamic_prover.specs.Legs.{leg_end}
+use Rattle.dynamic_prover.specs.inner.Ways.{least_ways, ways_word}
+use Rattle.dynamic_prover.specs.inner.Legs.{leg_end}
 use Rattle.dynamic_prover.proofs.row.least_word.Given as goal
 
 abbrev pub invariant-loop-i : goal.invariant-loop-i

@@ -1,5 +1,5 @@
 use Rattle.std.proofs.Common.{◌≡◌, ◌≤◌, length}
-use Rattle.dynamic_prover.specs.Rows.{AreRows}
+use Rattle.dynamic_prover.specs.inner.Rows.{AreRows}
 use Rattle.dynamic_prover.proofs.row.rows_of.Given as goal
 
 abbrev pub invariant-loop-i : goal.invariant-loop-i

@@ -16,7 +16,7 @@ loop-item-preserved c =
     let more : take (c.loop-item.item-index + 1) c.args.items.now ≡ taken ++ item_of j ∷ [] =
     take_more c.args.items.now c.loop-item.item-index c.item-item.result c.loop-item-test.true ∙ ap (λ i. taken ++ i ∷ []) (sym c.item-item.is ∙ sym judged.2) in
     subst (λ items. AreJudged march items c.judge_next.new.judged.items) (sym more)
-    (subst (AreJudged march (taken ++ item_of j ∷ [])) (sym judged.1) (one_judged march taken held j c.loop-item.invariant judged.3))
+    (subst (AreJudged march (taken ++ item_of j ∷ [])) (sym judged.1) (one_judged march taken held j c.loop-item.invariant (judged.3 c.loop-item.invariant.each)))
 
 pub loop-item-init : goal.loop-item-init
 loop-item-init c = subst (AreJudged c.args.march.now []) (sym c.new-judged.ensures.items) (record { each = tt; in_order = refl })

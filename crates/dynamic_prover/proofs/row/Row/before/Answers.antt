@@ -1,8 +1,8 @@
 use Rattle.std.specs.Prelude.{◌||◌}
 use Rattle.march_core.specs.Visits.{Upward, Downward}
-use Rattle.dynamic_prover.specs.Ways.{holds_at}
-use Rattle.dynamic_prover.specs.Legs.{leg_end}
-use Rattle.dynamic_prover.specs.Rows.{can_from}
+use Rattle.dynamic_prover.specs.inner.Ways.{holds_at}
+use Rattle.dynamic_prover.specs.inner.Legs.{leg_end}
+use Rattle.dynamic_prover.specs.inner.Rows.{can_from}
 use Rattle.dynamic_prover.proofs.Tables.{eight_bits}
 use Rattle.dynamic_prover.proofs.row.Row.before.Goals as goal
 

@@ -11,8 +11,8 @@ use Rattle.dynamic_prover.specs.declared.shape.Shape.{Shape}
 use Rattle.dynamic_prover.specs.declared.leg.SweepLeg.{SweepLeg}
 use Rattle.dynamic_prover.specs.declared.leg.Leg.{Leg}
 use Rattle.dynamic_prover.specs.declared.leg.Leg.TheVariants.{Pause, Sweep}
-use Rattle.dynamic_prover.specs.Own.{disarmed}
-use Rattle.dynamic_prover.specs.Shapes.{in_direction, end_in}
+use Rattle.dynamic_prover.specs.inner.Own.{disarmed}
+use Rattle.dynamic_prover.specs.inner.Shapes.{in_direction, end_in}
 
 abbrev pub bit_number : Bool → ℕ
 bit_number true = 1

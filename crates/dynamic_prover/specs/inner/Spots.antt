@@ -7,9 +7,9 @@ use Rattle.dynamic_core.specs.Primitive.{DynamicPrimitive}
 use Rattle.dynamic_prover.specs.declared.shape.Shape.{Shape}
 use Rattle.dynamic_prover.specs.declared.spot.Spot.{Spot}
 use Rattle.dynamic_prover.specs.declared.escape.DynEscape.{DynEscape}
-use Rattle.dynamic_prover.specs.Own.{own_as}
-use Rattle.dynamic_prover.specs.Shapes.{shape_of}
-use Rattle.dynamic_prover.specs.Ways.{Leading, can_pass, least_ways, ways_word}
+use Rattle.dynamic_prover.specs.inner.Own.{own_as}
+use Rattle.dynamic_prover.specs.inner.Shapes.{shape_of}
+use Rattle.dynamic_prover.specs.inner.Ways.{Leading, can_pass, least_ways, ways_word}
 
 abbrev pub spot_as : ℕ → Option ℕ → ℕ → Spot
 spot_as size agg vic = record { size = size; agg = agg; vic = vic }

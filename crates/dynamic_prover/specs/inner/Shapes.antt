@@ -10,7 +10,7 @@ use Rattle.cell_machine.specs.declared.pair.Side.TheVariants.{A, V}
 use Rattle.dynamic_core.specs.Primitive.{DynamicPrimitive}
 use Rattle.dynamic_prover.specs.declared.own_cells.OwnCells.{OwnCells}
 use Rattle.dynamic_prover.specs.declared.shape.Shape.{Shape}
-use Rattle.dynamic_prover.specs.Own.{own_run, disarmed}
+use Rattle.dynamic_prover.specs.inner.Own.{own_run, disarmed}
 
 abbrev pub is_some_cell : ℕ → Bool
 is_some_cell zero = false

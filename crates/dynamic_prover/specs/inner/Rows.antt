@@ -5,8 +5,8 @@ use Rattle.dynamic_prover.specs.declared.own_cells.OwnCells.{OwnCells}
 use Rattle.dynamic_prover.specs.declared.shape.Shape.{Shape}
 use Rattle.dynamic_prover.specs.declared.leg.Leg.{Leg}
 use Rattle.dynamic_prover.specs.declared.row.Row.{Row}
-use Rattle.dynamic_prover.specs.Ways.{holds_at, can_pass}
-use Rattle.dynamic_prover.specs.Legs.{own_number, leg_end}
+use Rattle.dynamic_prover.specs.inner.Ways.{holds_at, can_pass}
+use Rattle.dynamic_prover.specs.inner.Legs.{own_number, leg_end}
 
 abbrev pub can_from : Row → OwnCells → Bool
 can_from row q = slice_index_or row.can (own_number q) false

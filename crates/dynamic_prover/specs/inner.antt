@@ -1,0 +1,7 @@
+pub mod Own
+pub mod Shapes
+pub mod Ways
+pub mod Legs
+pub mod OpTables
+pub mod Rows
+pub mod Spots
