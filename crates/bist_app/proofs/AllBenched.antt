@@ -6,12 +6,10 @@ use Rattle.march_core.specs.March.{MarchElement}
 use Rattle.memory_desc.specs.Descriptions.{Description}
 use Rattle.verilog_tree.specs.Names.{Declaration}
 use Rattle.verilog_cycle.specs.Design.{Fit}
-use Rattle.word_device.specs.Ports.{Chip, shape_of}
-use Rattle.word_device.specs.Boxes.{Tells, TellsChip, TellsScript, TellsNothing, Told}
+use Rattle.word_device.specs.Boxes.{Tells, Told}
 use Rattle.word_device.specs.Runs.{AllRight, IsPlain, PassesAlone, run_word}
 use Rattle.bench.specs.declared.ending.Seen.{Seen}
 use Rattle.bench.specs.Endings.{IsFirstRead}
-use Rattle.bench.specs.Laws.{IsSeenOf}
 use Rattle.bist_bits.specs.declared.NoMemory.{NoMemory}
 use Rattle.bist_endings.specs.declared.ending.Plan.{Plan}
 use Rattle.bist_endings.specs.Ending.{done_of}
@@ -19,7 +17,7 @@ use Rattle.bist_app.specs.Shared.{Boxes, FirstHasRoom}
 use Rattle.bist_app.specs.Bench.{ready, benched_chip, IsSeen}
 use Rattle.bist_app.specs.BenchAll.{HaveRoom, IsBoxSeen, failing_of, all_done, IsAllBenched, AreGone}
 use Rattle.bist_app.specs.BenchedBoxes.{IsEnd, GoesOn, CountsFailing}
-use Rattle.bist_app.proofs.Benched.{blank_filled}
+use Rattle.bist_app.proofs.Benched.{seen_by}
 
 -- ---- what is seen of one box
 
@@ -35,17 +33,13 @@ none_seen march d words None right h = refl
 none_seen march d words (Some s) right h = let w = h.2.wrong in absurd (w.differs (right h.0 w.command w.is_command w.is_read))
 
 box_seen : (march : List MarchElement) (d : Description) (tells : Tells) (failed : Bool) → AllRight march d (run_word march d (benched_chip d None))
-    → (end : IsEnd march d (ready d tells) failed) → IsBoxSeen march d tells end.seen
-box_seen march d tells failed right end = record {
-  is_seen = by tells end.is_seen;
-  passes = λ chip is. none_seen march d (run_word march d (benched_chip d None)) end.seen right
-      (subst (λ (t : Tells). IsSeen march d None t end.seen) is (by tells end.is_seen));
-}
-  where
-    by : (t : Tells) → IsSeenOf march d (ready d t) end.seen → IsSeen march d None t end.seen
-    by (TellsChip c) h = subst (λ (x : Chip). IsFirstRead march d (run_word march d x) end.seen) (blank_filled (shape_of d)) h
-    by (TellsScript s) h = h refl
-    by TellsNothing h = end.read
+    → (end : IsEnd march d (ready d None tells) failed) → IsBoxSeen march d tells end.seen
+box_seen march d tells failed right end =
+    let seen = seen_by march d None tells end.seen end.read end.is_seen in
+    record {
+      is_seen = seen;
+      passes = λ chip is. none_seen march d (run_word march d (benched_chip d None)) end.seen right (subst (λ (t : Tells). IsSeen march d None t end.seen) is seen);
+    }
 
 -- ---- the boxes one after another
 
@@ -69,18 +63,18 @@ goes_box march d boxes left box failing seen is on later h =
 
 pub goes_more : {B : Type 0} (f : B → Told) (march : List MarchElement) (d : Description) (boxes : Boxes) (now next : List B) (tells : Tells) (failing : ℕ) (failed : Bool)
     → AllRight march d (run_word march d (benched_chip d None)) → 0 < length now → next ≡ drop 1 now
-    → ((b : B) (rest : List B) → now ≡ b ∷ rest → tells ≡ ready d (f b).tells) → IsEnd march d tells failed
+    → ((b : B) (rest : List B) → now ≡ b ∷ rest → tells ≡ ready d None (f b).tells) → IsEnd march d tells failed
     → GoesOn march d boxes (map f now) failing → GoesOn march d boxes (map f next) (more_failing failing failed)
 goes_more f march d boxes [] next tells failing failed right some gone told end on = absurd (omega (arith, some))
 goes_more {B} f march d boxes (b ∷ rest) next tells failing failed right some gone told end on =
-    let here : IsEnd march d (ready d (f b).tells) failed = subst (λ (t : Tells). IsEnd march d t failed) (told b rest refl) end in
+    let here : IsEnd march d (ready d None (f b).tells) failed = subst (λ (t : Tells). IsEnd march d t failed) (told b rest refl) end in
     let left = goes_box march d boxes (map f rest) (f b) failing here.seen (box_seen march d (f b).tells failed right here) on in
     let counted = subst (λ (x : Bool). GoesOn march d boxes (map f rest) (more_failing failing x)) (sym here.fail) left in
     subst (λ (xs : List B). GoesOn march d boxes (map f xs) (more_failing failing failed)) (sym gone) counted
 
 pub goes_failed : {B : Type 0} (f : B → Told) (march : List MarchElement) (d : Description) (boxes : Boxes) (now next : List B) (tells : Tells) (failing : ℕ) (failed : Bool)
     → failed ≡ true → AllRight march d (run_word march d (benched_chip d None)) → 0 < length now → next ≡ drop 1 now
-    → ((b : B) (rest : List B) → now ≡ b ∷ rest → tells ≡ ready d (f b).tells) → IsEnd march d tells failed
+    → ((b : B) (rest : List B) → now ≡ b ∷ rest → tells ≡ ready d None (f b).tells) → IsEnd march d tells failed
     → GoesOn march d boxes (map f now) failing → GoesOn march d boxes (map f next) (failing + 1)
 goes_failed f march d boxes now next tells failing failed is right some gone told end on =
     subst (λ (x : Bool). GoesOn march d boxes (map f next) (more_failing failing x)) is
@@ -88,7 +82,7 @@ goes_failed f march d boxes now next tells failing failed is right some gone tol
 
 pub goes_passed : {B : Type 0} (f : B → Told) (march : List MarchElement) (d : Description) (boxes : Boxes) (now next : List B) (tells : Tells) (failing : ℕ) (failed : Bool)
     → failed ≡ false → AllRight march d (run_word march d (benched_chip d None)) → 0 < length now → next ≡ drop 1 now
-    → ((b : B) (rest : List B) → now ≡ b ∷ rest → tells ≡ ready d (f b).tells) → IsEnd march d tells failed
+    → ((b : B) (rest : List B) → now ≡ b ∷ rest → tells ≡ ready d None (f b).tells) → IsEnd march d tells failed
     → GoesOn march d boxes (map f now) failing → GoesOn march d boxes (map f next) failing
 goes_passed f march d boxes now next tells failing failed is right some gone told end on =
     subst (λ (x : Bool). GoesOn march d boxes (map f next) (more_failing failing x)) is

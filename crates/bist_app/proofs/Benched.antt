@@ -1,19 +1,32 @@
 -- What a run against the first box leaves.
-use Rattle.std.proofs.Common.{◌≡◌, ◌<◌, ◌*◌, ◌+◌, ◌%◌, ◌/◌, ◌^◌, ◌∙◌, ℕ, zero, suc, false, List, [], ◌∷◌, length, map, replicate, Option, None, is_some, Ok, bit_xor, refl, ap, ap₂, subst, arith}
+use Rattle.std.proofs.Common.{◌≡◌, ◌<◌, ◌*◌, ◌+◌, ◌%◌, ◌/◌, ◌^◌, ◌∙◌, ℕ, zero, suc, false, List, [], ◌∷◌, length, map, replicate, Option, None, Some, is_some, Bool, Result, Ok, Err, IfOk, IfErr, bit_xor, refl, sym, ap, ap₂, subst, arith}
 use Rattle.std.specs.List.{range_with_len}
 use Rattle.std.proofs.lemmas.List.{length-replicate}
 use Rattle.std.proofs.Math.Nat.{one-le-pow, mod-eq_of_lt}
 use Rattle.march_core.specs.March.{MarchElement}
 use Rattle.memory_desc.specs.Descriptions.{Description}
 use Rattle.word_device.specs.declared.shape.Shape.{Shape}
-use Rattle.word_device.specs.Ports.{Chip, shape_of}
+use Rattle.word_device.specs.declared.device.Planted.{Planted}
+use Rattle.word_device.specs.Chips.{closed_words}
+use Rattle.word_device.specs.Ports.{Chip, shape_of, planted_chip}
 use Rattle.word_device.specs.Boxes.{Tells, TellsChip, TellsScript, TellsNothing, Told, pattern, filled_chip, blank}
 use Rattle.word_device.specs.Runs.{AllRight, IsPlain, PassesAlone, run_word}
 use Rattle.bench.specs.declared.ending.Seen.{Seen}
-use Rattle.bench.specs.Endings.{IsFirstRead}
-use Rattle.bench.specs.Laws.{IsSeenOf}
-use Rattle.bist_endings.specs.Ending.{Done}
-use Rattle.bist_app.specs.Bench.{ready, benched_chip, IsSeen, IsRun, IsBenched, IsSoundBenched, LeavesBench}
+use Rattle.bench.specs.Endings.{IsFirstRead, Runs}
+use Rattle.bench.specs.Laws.{EndsSelfTest, IsSeenOf, IsWrongRead}
+use Rattle.self_test.specs.SelfTest.{SelfTest}
+use Rattle.verilog_tree.specs.Plain.{ModuleTree}
+use Rattle.std.proofs.lemmas.Result.{IfOk-weaker}
+use Rattle.bist_bits.specs.declared.NoMemory.{NoMemory}
+use Rattle.bist_endings.specs.declared.ending.Plan.{Plan}
+use Rattle.bist_endings.specs.declared.ending.Refusal.{Refusal}
+use Rattle.bist_endings.specs.Ending.{Done, done_of, plain}
+use Rattle.bist_endings.specs.Then.{OrNoMemory}
+use Rattle.bist_inputs.specs.Inputs.{IsOwnRefusal}
+use Rattle.bist_app.specs.declared.benching.RunEnd.{RunEnd}
+use Rattle.bist_app.specs.Bench.{ready, benched_chip, benched_done, IsSeen, IsRun, IsBenched, IsSoundBenched, LeavesBench}
+use Rattle.bist_app.specs.BenchFile.{IsFileRun, LeavesBenchFile, RunsBeside, zero_registers}
+use Rattle.bist_app.specs.BenchedBoxes.{EndsRun}
 use Rattle.bist_app.proofs.Table.BenchFacts.{first_one}
 
 -- the number 0 stands for words of 0
@@ -29,19 +42,84 @@ zero_words bits k (suc n) = ap₂ (λ x xs. x ∷ xs) (zero_pattern bits k) (zer
 pub blank_filled : (shape : Shape) → filled_chip 0 shape (blank shape) ≡ blank shape
 blank_filled shape = ap (λ (words : List ℕ). record (blank shape) { words = words }) (zero_words shape.bits 0 shape.words)
 
-seen_of : (march : List MarchElement) (d : Description) (tells : Tells) (done : Done) → IsRun march d (ready d tells) done → IsBenched march d None tells done
-seen_of march d tells done r = record {
+pub planted_filled : (i : Planted) (shape : Shape) → filled_chip 0 shape (planted_chip i (blank shape)) ≡ planted_chip i (blank shape)
+planted_filled i shape = ap (λ (words : List ℕ). record (planted_chip i (blank shape)) { words = closed_words i words }) (zero_words shape.bits 0 shape.words)
+
+-- what is seen beside a box that is ready, by what it told before
+pub seen_by : (march : List MarchElement) (d : Description) (planted : Option Planted) (tells : Tells) (seen : Option Seen) → IsWrongRead march d seen
+    → IsSeenOf march d (ready d planted tells) seen → IsSeen march d planted tells seen
+seen_by march d None (TellsChip c) seen read h = subst (λ (x : Chip). IsFirstRead march d (run_word march d x) seen) (blank_filled (shape_of d)) h
+seen_by march d (Some i) (TellsChip c) seen read h = subst (λ (x : Chip). IsFirstRead march d (run_word march d x) seen) (planted_filled i (shape_of d)) h
+seen_by march d None (TellsScript s) seen read h = h refl
+seen_by march d (Some i) (TellsScript s) seen read h = h refl
+seen_by march d planted TellsNothing seen read h = read
+
+-- ---- a run
+
+run_is : (mo : ModuleTree) (march : List MarchElement) (d : Description) (registers : List ℕ) (tells : Tells) (end : RunEnd) (done : Done) → registers ≡ zero_registers mo
+    → EndsRun mo march d registers tells end → (SelfTest mo march d → EndsSelfTest march d tells end.fail end.done_cycle end.first)
+    → done ≡ benched_done d.bits end.fail end.done_cycle end.first → RunsBeside mo march d tells done
+run_is mo march d registers tells end done hold run test is = record {
+  file_run = record {
+    now = run.now;
+    after = run.after;
+    failed = end.fail;
+    done_in = end.done_cycle;
+    seen = end.first;
+    runs = subst (λ (rs : List ℕ). Runs mo march d rs run.now tells run.after end.fail end.done_cycle end.first) hold run.runs;
+    done_is = is;
+  };
+  self_test = λ t. let h = test t in record {
+    seen = end.first;
+    is_seen = h.is_seen;
+    read = h.ends.read;
+    done_is = is ∙ ap₂ (λ (b : Bool) (o : Option ℕ). benched_done d.bits b o end.first) h.ends.fail h.ends.done;
+  };
+}
+
+-- the plan of a run
+pub plan_is : (mo : ModuleTree) (march : List MarchElement) (d : Description) (registers : List ℕ) (tells : Tells) (end : RunEnd) (bits : ℕ) (r : Result Plan NoMemory)
+    → registers ≡ zero_registers mo → EndsRun mo march d registers tells end → (SelfTest mo march d → EndsSelfTest march d tells end.fail end.done_cycle end.first)
+    → bits ≡ d.bits → IfOk r (λ plan. done_of plan ≡ benched_done bits end.fail end.done_cycle end.first) → IfOk r (λ plan. RunsBeside mo march d tells (done_of plan))
+plan_is mo march d registers tells end bits (Ok plan) hold run test same is =
+    run_is mo march d registers tells end (done_of plan) hold run test (is ∙ ap (λ n. benched_done n end.fail end.done_cycle end.first) same)
+plan_is mo march d registers tells end bits (Err e) hold run test same is = tt
+
+benched_of : (march : List MarchElement) (d : Description) (planted : Option Planted) (tells : Tells) (done : Done) → IsRun march d (ready d planted tells) done
+    → IsBenched march d planted tells done
+benched_of march d planted tells done r = record {
   seen = r.seen;
-  is_seen = by tells r.is_seen;
+  is_seen = seen_by march d planted tells r.seen r.read r.is_seen;
   found = ap (λ (x : Done). x.found) r.done_is;
   line = ap (λ (x : Done). x.line) r.done_is;
   outputs = ap (λ (x : Done). x.outputs) r.done_is;
 }
-  where
-    by : (t : Tells) → IsSeenOf march d (ready d t) r.seen → IsSeen march d None t r.seen
-    by (TellsChip c) h = subst (λ (x : Chip). IsFirstRead march d (run_word march d x) r.seen) (blank_filled (shape_of d)) h
-    by (TellsScript s) h = h refl
-    by TellsNothing h = r.read
+
+pub tested : {B : Type 0} (tells : B → Tells) (items : List B) (mo : ModuleTree) (march : List MarchElement) (d : Description) (planted : Option Planted) (r : Result Plan Refusal)
+    → SelfTest mo march d → IfOk r (λ plan. (b : B) (rest : List B) → items ≡ b ∷ rest → RunsBeside mo march d (ready d planted (tells b)) (done_of plan))
+    → IfOk r (λ plan. (b : B) (rest : List B) → items ≡ b ∷ rest → IsBenched march d planted (tells b) (done_of plan))
+tested tells items mo march d planted (Ok plan) test h = λ b rest e. benched_of march d planted (tells b) (done_of plan) ((h b rest e).self_test test)
+tested tells items mo march d planted (Err e) test h = tt
+
+-- ---- what commands leave
+
+-- a plan, or want of memory
+pub or_no_memory : (P : Done → Type 0) (r : Result Plan Refusal) → IfErr r (λ e. e ≡ Refusal.NoMemory) → IfOk r (λ plan. P (done_of plan)) → OrNoMemory P (plain r)
+or_no_memory P (Ok plan) wants h = h
+or_no_memory P (Err e) wants h = subst (λ (x : Refusal). OrNoMemory P (Err x)) (sym wants) tt
+
+-- want of memory is no refusal of a file's reading
+pub wants_own : {A : Type 0} (r : Result A Refusal) → IfErr r (λ e. e ≡ Refusal.NoMemory) → IfErr r (λ e. IsOwnRefusal e)
+wants_own (Ok a) wants = tt
+wants_own (Err e) wants = subst (λ (x : Refusal). IsOwnRefusal x) (sym wants) tt
+
+pub file_benched : {B : Type 0} (f : B → Told) (items : List B) (mo : ModuleTree) (march : List MarchElement) (d : Description) (r : Result Plan Refusal) → 0 < length items
+    → IfErr r (λ e. e ≡ Refusal.NoMemory) → IfOk r (λ plan. (b : B) (rest : List B) → items ≡ b ∷ rest → RunsBeside mo march d (ready d None (f b).tells) (done_of plan))
+    → LeavesBenchFile mo march d (map f items) (plain r)
+unfolding LeavesBenchFile
+file_benched f [] mo march d r some wants h = absurd (omega (arith, some))
+file_benched f (b ∷ items) mo march d r some wants h =
+    or_no_memory (IsFileRun mo march d (ready d None (f b).tells)) r wants (IfOk-weaker r _ _ (λ plan k. (k b items refl).file_run) h)
 
 -- a memory with nothing planted
 plain_chip : (d : Description) → IsPlain d (benched_chip d None)
@@ -56,13 +134,11 @@ none_found march d tells done chip passes r is =
     let seen = subst (λ (t : Tells). IsSeen march d None t r.seen) is r.is_seen in
     r.found ∙ none_seen march d (run_word march d (benched_chip d None)) r.seen (passes (benched_chip d None) (plain_chip d)) seen
 
-sound_of : (march : List MarchElement) (d : Description) (tells : Tells) (done : Done) → PassesAlone march d → IsRun march d (ready d tells) done → IsSoundBenched march d tells done
-sound_of march d tells done passes r =
-    let b = seen_of march d tells done r in
-    record { benched = b; passes = λ chip is. none_found march d tells done chip passes b is }
-
-pub benched : {B : Type 0} (f : B → Told) (items : List B) (march : List MarchElement) (d : Description) (done : Done) → 0 < length items → PassesAlone march d
-    → ((b : B) (rest : List B) → items ≡ b ∷ rest → IsRun march d (ready d (f b).tells) done) → LeavesBench march d (map f items) (Ok done)
+pub benched : {B : Type 0} (f : B → Told) (items : List B) (march : List MarchElement) (d : Description) (r : Result Plan Refusal) → 0 < length items → PassesAlone march d
+    → IfErr r (λ e. e ≡ Refusal.NoMemory) → IfOk r (λ plan. (b : B) (rest : List B) → items ≡ b ∷ rest → IsBenched march d None (f b).tells (done_of plan))
+    → LeavesBench march d (map f items) (plain r)
 unfolding LeavesBench
-benched f [] march d done some passes h = absurd (omega (arith, some))
-benched f (b ∷ items) march d done some passes h = sound_of march d (f b).tells done passes (h b items refl)
+benched f [] march d r some passes wants h = absurd (omega (arith, some))
+benched {B} f (b ∷ items) march d r some passes wants h =
+    or_no_memory (IsSoundBenched march d (f b).tells) r wants
+    (IfOk-weaker r _ _ (λ plan k. let run = k b items refl in record { benched = run; passes = λ chip is. none_found march d (f b).tells (done_of plan) chip passes run is }) h)

@@ -12,25 +12,25 @@ use Rattle.bist_endings.specs.declared.ending.Refusal.{Refusal}
 use Rattle.bist_endings.specs.declared.ending.VerilogRefusal.{VerilogRefusal}
 use Rattle.bist_endings.specs.declared.ending.Plan.{Plan}
 use Rattle.bist_endings.specs.Ending.{Done, done_of, plain}
-use Rattle.bist_app.specs.Shared.{FitsLength, HasPorts}
+use Rattle.bist_app.specs.Shared.{HasPorts}
+use Rattle.bist_app.proofs.SharedFacts.{too_long as length_refused}
 use Rattle.bist_app.specs.Check.{LeavesCheck, ChecksRun, check_done}
 
 answered : (mo : ModuleTree) (march : List MarchElement) (d : Description) (answer : PortAnswer) (done : Done) → Refuses march d mo.ports None
     → IsAnswer mo march d answer → done ≡ check_done answer → ChecksRun mo march d (Ok done)
-unfolding FitsLength HasPorts LeavesCheck
+unfolding HasPorts LeavesCheck
 answered mo march d answer done passes is same = (Ok tt, passes.0, (Ok tt, passes.1, record { answer = answer; is_answer = is; done_is = same }))
 
 pub wanting : (mo : ModuleTree) (march : List MarchElement) (d : Description) → Refuses march d mo.ports None → ChecksRun mo march d (Err Refusal.NoMemory)
-unfolding FitsLength HasPorts LeavesCheck
+unfolding HasPorts LeavesCheck
 wanting mo march d passes = (Ok tt, passes.0, (Ok tt, passes.1, tt))
 
 pub too_long : (mo : ModuleTree) (march : List MarchElement) (d : Description) (number : ℕ) → Refuses march d mo.ports (Some (CheckFault.TooLong number)) → ChecksRun mo march d (Err (Refusal.TooLong number))
-unfolding FitsLength
-too_long mo march d number h = (Err (Refusal.TooLong number), h, refl)
+too_long mo march d number h = (Err (Refusal.TooLong number), length_refused march d number h, refl)
 
 pub wrong_ports : (mo : ModuleTree) (march : List MarchElement) (d : Description) (name : ArrayString) → Refuses march d mo.ports (Some (CheckFault.WrongPorts name))
     → ChecksRun mo march d (Err (Refusal.Verilog (VerilogRefusal.WrongPort name)))
-unfolding FitsLength HasPorts
+unfolding HasPorts
 wrong_ports mo march d name h = (Ok tt, h.0, (Err (Refusal.Verilog (VerilogRefusal.WrongPort name)), h.1, refl))
 
 -- the plan of an answer, or want of memory

@@ -1,54 +1,28 @@
 -- What is known of the checks that several commands make.
 use Rattle.std.proofs.Common.{ℕ, Bool, Err, List, None, Ok, Option, Result, Some, [], ap, ap₂, arith, codes, inl, refl, sym, ◌++◌, ◌∙◌, ◌∷◌, ◌≡◌}
 use Rattle.bist_app.specs.Shared.{Boxes, FitsAggressor, FitsLength, FitsRoom, HasBox, HasPorts}
-use Rattle.bist_endings.proofs.Settling.{NeverUsage, Settles, outcome_settles}
+use Rattle.bist_endings.proofs.Settling.{NeverUsage, Settles, outcome_settles, where_settles}
 use Rattle.bist_endings.specs.OneOutcome.{HasOneOutcome, HasOneValue}
 use Rattle.bist_endings.specs.declared.ending.DeviceRefusal.{DeviceRefusal}
 use Rattle.bist_endings.specs.declared.ending.Misfit.{Misfit}
 use Rattle.bist_endings.specs.declared.ending.Refusal.{Refusal}
 use Rattle.bist_endings.specs.declared.ending.VerilogRefusal.{VerilogRefusal}
-use Rattle.fault_core.specs.Primitive.{Primitive}
+use Rattle.fault_core.specs.Primitive.{Primitive, has_aggressor}
 use Rattle.march_core.specs.March.{MarchElement}
 use Rattle.memory_desc.specs.Descriptions.{Description}
+use Rattle.self_test.specs.Refusals.{IsShort, IsTooLong}
 use Rattle.self_test.specs.WrongPort.{wrong_port}
+use Rattle.word_march.specs.Commands.{cycle_count}
 use Rattle.verilog_tree.specs.Plain.{ModuleTree}
 
-aggressor_never : (given : Bool) (prim : Primitive) → NeverUsage (FitsAggressor given prim)
-unfolding FitsAggressor
-aggressor_never given prim h = h
-
-aggressor_one : (given : Bool) (prim : Primitive) → HasOneOutcome (FitsAggressor given prim)
-unfolding FitsAggressor
-aggressor_one given prim (Ok u) (Ok v) f g r s = refl
-aggressor_one given prim (Ok u) (Err (Refusal.Misfit Misfit.Aggressor)) f g r s = absurd (g f)
-aggressor_one given prim (Ok u) (Err other) f g r s = absurd g
-aggressor_one given prim (Err (Refusal.Misfit Misfit.Aggressor)) (Ok v) f g r s = absurd (f g)
-aggressor_one given prim (Err (Refusal.Misfit Misfit.Aggressor)) (Err (Refusal.Misfit Misfit.Aggressor)) f g r s = refl
-aggressor_one given prim (Err (Refusal.Misfit Misfit.Aggressor)) (Err other) f g r s = absurd g
-aggressor_one given prim (Err other) outcome f g r s = absurd f
-
 pub aggressor_settles : {Says Told : Type 0} (given : Bool) (prim : Primitive) → Settles (Unit {0}) Says Told (FitsAggressor given prim)
-aggressor_settles given prim = outcome_settles (FitsAggressor given prim) (aggressor_never given prim) (aggressor_one given prim)
+aggressor_settles given prim = where_settles (given ≡ has_aggressor prim) (Refusal.Misfit Misfit.Aggressor) (λ is. cc)
 
-length_never : (march : List MarchElement) (d : Description) → NeverUsage (FitsLength march d)
-unfolding FitsLength
-length_never march d h = h
-
-same_length : (n k l : ℕ) → n ≡ l → k ≡ l → (let r : Result (Unit {0}) Refusal = Err (Refusal.TooLong n) in r) ≡ Err (Refusal.TooLong k)
-same_length n k l h i = cc
-
-length_one : (march : List MarchElement) (d : Description) → HasOneOutcome (FitsLength march d)
-unfolding FitsLength
-length_one march d (Ok u) (Ok v) f g r s = refl
-length_one march d (Ok u) (Err (Refusal.TooLong n)) f g r s = absurd (omega (arith, f, g.1))
-length_one march d (Ok u) (Err other) f g r s = absurd g
-length_one march d (Err (Refusal.TooLong n)) (Ok v) f g r s = absurd (omega (arith, g, f.1))
-length_one march d (Err (Refusal.TooLong n)) (Err (Refusal.TooLong k)) f g r s = same_length n k _ f.0 g.0
-length_one march d (Err (Refusal.TooLong n)) (Err other) f g r s = absurd g
-length_one march d (Err other) outcome f g r s = absurd f
+pub too_long : (march : List MarchElement) (d : Description) (cycles : ℕ) → IsTooLong march d cycles → FitsLength march d (Err (Refusal.TooLong cycles))
+too_long march d cycles h = (λ short. omega (arith, short, h.1), ap (λ (n : ℕ). Refusal.TooLong n) h.0)
 
 pub length_settles : {Says Told : Type 0} (march : List MarchElement) (d : Description) → Settles (Unit {0}) Says Told (FitsLength march d)
-length_settles march d = outcome_settles (FitsLength march d) (length_never march d) (length_one march d)
+length_settles march d = where_settles (IsShort march d) (Refusal.TooLong (cycle_count march d)) (λ is. cc)
 
 ports_never : (d : Description) (mo : ModuleTree) → NeverUsage (HasPorts d mo)
 unfolding HasPorts

@@ -1,12 +1,14 @@
 -- Trusted. The command `bench MARCH MEMORY`: the self-test module against the first box. Its shape, its checks in their order, and what it leaves.
-use Rattle.std.specs.Prelude.{◌≡◌, ◌^◌, ◌<◌, ◌++◌, ℕ, Bool, true, false, List, [], ◌∷◌, Option, Some, None, Result, codes, decimal, is_some}
+use Rattle.std.specs.Prelude.{◌≡◌, ◌^◌, ◌<◌, ◌++◌, ℕ, Bool, true, false, List, [], ◌∷◌, Option, Some, None, Result, codes, decimal, is_some, IfSome}
 use Rattle.bist_host.specs.Files.{Files}
 use Rattle.bist_text.specs.Numbers.{word_text}
 use Rattle.march_core.specs.March.{MarchElement}
+use Rattle.fault_core.specs.Primitive.{has_aggressor}
 use Rattle.memory_desc.specs.Descriptions.{Description}
+use Rattle.word_device.specs.Chips.{FitsMemory}
 use Rattle.word_device.specs.declared.device.Planted.{Planted}
 use Rattle.word_device.specs.Ports.{Chip, shape_of, planted_chip}
-use Rattle.word_device.specs.Boxes.{Tells, TellsChip, TellsScript, TellsNothing, blank, after_fit, after_fill}
+use Rattle.word_device.specs.Boxes.{Tells, TellsChip, TellsScript, TellsNothing, blank, after_fit, after_plant, after_fill}
 use Rattle.word_device.specs.Runs.{run_word}
 use Rattle.bench.specs.declared.ending.Seen.{Seen}
 use Rattle.bench.specs.Endings.{IsFirstRead}
@@ -20,9 +22,18 @@ use Rattle.bist_app.specs.Forms.{Form, Row}
 use Rattle.bist_app.specs.Shared.{Boxes, FirstTells, FitsLength, HasBox, FitsRoom, LeavesFirst, Before}
 use Rattle.bist_endings.specs.Then.{OrNoMemory}
 
--- what a box tells that is fitted with the memory's shape and filled with zeros
-abbrev pub ready : Description → Tells → Tells
-ready d tells = after_fill (Some (shape_of d)) 0 (after_fit (shape_of d) tells)
+-- what a box tells in which this instance is planted, or nothing
+abbrev pub after_planting : Option Planted → Tells → Tells
+after_planting None tells = tells
+after_planting (Some i) tells = after_plant i tells
+
+-- what a box tells that is fitted with the memory's shape, planted, and filled with zeros
+abbrev pub ready : Description → Option Planted → Tells → Tells
+ready d planted tells = after_fill (Some (shape_of d)) 0 (after_planting planted (after_fit (shape_of d) tells))
+
+-- for private contracts alone: the instance, if there is one, can stand in a memory of this shape
+abbrev pub CanPlant : Description → Option Planted → Type 0
+CanPlant d planted = IfSome planted (λ i. FitsMemory i d.words d.bits × (is_some i.agg ≡ has_aggressor i.prim))
 
 -- ---- what is seen of the run
 

@@ -1,6 +1,6 @@
 -- Trusted. The command `benchfault MARCH MEMORY PRIM AGG VIC`: the self-test module against the first box, in which an instance of a primitive is
 -- planted. Its shape, its checks in their order, and what it leaves.
-use Rattle.std.specs.Prelude.{◌≡◌, ◌≢◌, ◌<◌, ◌^◌, ◌++◌, ℕ, List, [], ◌∷◌, Option, Some, None, Result, Ok, Err, IsTrue, codes, decimal, is_some}
+use Rattle.std.specs.Prelude.{◌≡◌, ◌≢◌, ◌<◌, ◌^◌, ◌++◌, ℕ, List, [], ◌∷◌, Option, Some, None, Result, IsTrue, codes, decimal, is_some}
 use Rattle.bist_host.specs.Files.{Files}
 use Rattle.march_core.specs.March.{MarchElement}
 use Rattle.fault_core.specs.Primitive.{Primitive}
@@ -8,8 +8,8 @@ use Rattle.array_sim.specs.Detection.{Detects}
 use Rattle.memory_desc.specs.Descriptions.{Description}
 use Rattle.word_device.specs.declared.device.Place.{Place}
 use Rattle.word_device.specs.declared.device.Planted.{Planted}
-use Rattle.word_device.specs.Ports.{Chip, shape_of}
-use Rattle.word_device.specs.Boxes.{Tells, TellsChip, after_fit, after_plant, after_fill}
+use Rattle.word_device.specs.Ports.{Chip}
+use Rattle.word_device.specs.Boxes.{Tells, TellsChip}
 use Rattle.bist_endings.specs.declared.ending.Refusal.{Refusal}
 use Rattle.bist_endings.specs.declared.ending.DeviceRefusal.{DeviceRefusal}
 use Rattle.bist_endings.specs.Ending.{Done}
@@ -21,7 +21,7 @@ use Rattle.bist_app.specs.declared.benchfault_command.FaultShape.{FaultShape}
 use Rattle.bist_app.specs.Forms.{Form, Row}
 use Rattle.bist_app.specs.Shared.{Boxes, FirstTells, FitsAggressor, FitsLength, HasBox, FitsRoom, LeavesFirst, Before}
 use Rattle.bist_app.specs.Bench.{IsBenched}
-use Rattle.bist_endings.specs.Then.{OrNoMemory, SaysOwn}
+use Rattle.bist_endings.specs.Then.{OrNoMemory, PassesWhere, SaysOwn}
 
 -- ---- the words
 
@@ -54,10 +54,8 @@ abbrev pub ArePlaces : Description → FaultShape → Type 0
 ArePlaces d shape = IsWithin d shape.victim × IsApart d shape.victim shape.aggressor
 
 -- the places are in the memory, and in two words
-unfoldable pub FitsPlaces : Description → FaultShape → Result (Unit {0}) Refusal → Type 0
-FitsPlaces d shape (Ok _) = ArePlaces d shape
-FitsPlaces d shape (Err (Refusal.Device DeviceRefusal.BadPlace)) = ArePlaces d shape → ⊥
-FitsPlaces d shape (Err other) = ⊥
+abbrev pub FitsPlaces : Description → FaultShape → Result (Unit {0}) Refusal → Type 0
+FitsPlaces d shape = PassesWhere (ArePlaces d shape) (Refusal.Device DeviceRefusal.BadPlace)
 
 -- the instance that the words name
 abbrev pub place_in : NamedPlace → Place
@@ -69,10 +67,6 @@ aggressor_in (Some place) = Some (place_in place)
 
 abbrev pub planted_of : Primitive → FaultShape → Planted
 planted_of prim shape = record { prim = prim; agg = aggressor_in shape.aggressor; vic = place_in shape.victim }
-
--- what a box tells that is fitted with the memory's shape, planted with the instance, and filled with zeros
-abbrev pub ready_planted : Description → Planted → Tells → Tells
-ready_planted d planted tells = after_fill (Some (shape_of d)) 0 (after_plant planted (after_fit (shape_of d) tells))
 
 -- ---- what the command leaves
 

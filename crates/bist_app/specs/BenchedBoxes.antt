@@ -4,9 +4,18 @@ use Rattle.march_core.specs.March.{MarchElement}
 use Rattle.memory_desc.specs.Descriptions.{Description}
 use Rattle.word_device.specs.Boxes.{Tells}
 use Rattle.bench.specs.declared.ending.Seen.{Seen}
+use Rattle.bench.specs.Endings.{Runs}
 use Rattle.bench.specs.Laws.{IsWrongRead, IsSeenOf}
+use Rattle.verilog_tree.specs.Plain.{ModuleTree}
+use Rattle.bist_app.specs.declared.benching.RunEnd.{RunEnd}
 use Rattle.bist_app.specs.Shared.{Boxes}
 use Rattle.bist_app.specs.BenchAll.{AreSeen, failing_of}
+
+-- a run of a module with these registers, beside a box that tells this at its beginning, ended so
+pub record EndsRun (mo : ModuleTree) (march : List MarchElement) (d : Description) (registers : List ℕ) (tells : Tells) (end : RunEnd) : Type 0 where
+  pub now : List ℕ
+  pub after : Tells
+  pub runs : Runs mo march d registers now tells after end.fail end.done_cycle end.first
 
 -- a run beside a box that tells this at its beginning ended with `fail`, or without
 pub record IsEnd (march : List MarchElement) (d : Description) (tells : Tells) (failed : Bool) : Type 0 where

@@ -4,7 +4,8 @@ use Rattle.march_core.specs.March.{MarchElement}
 use Rattle.fault_core.specs.Primitive.{Primitive, has_aggressor}
 use Rattle.memory_desc.specs.Descriptions.{Description}
 use Rattle.verilog_tree.specs.Plain.{ModuleTree}
-use Rattle.self_test.specs.Refusals.{IsShort, IsTooLong}
+use Rattle.word_march.specs.Commands.{cycle_count}
+use Rattle.self_test.specs.Refusals.{IsShort}
 use Rattle.self_test.specs.WrongPort.{wrong_port}
 use Rattle.word_device.specs.Boxes.{Told, TellsNothing}
 use Rattle.bist_endings.specs.declared.ending.Refusal.{Refusal}
@@ -12,6 +13,7 @@ use Rattle.bist_endings.specs.declared.ending.DeviceRefusal.{DeviceRefusal}
 use Rattle.bist_endings.specs.declared.ending.Misfit.{Misfit}
 use Rattle.bist_endings.specs.declared.ending.VerilogRefusal.{VerilogRefusal}
 use Rattle.bist_endings.specs.Ending.{Done}
+use Rattle.bist_endings.specs.Then.{PassesWhere}
 
 -- the boxes that the program is given, as they tell
 abbrev pub Boxes : Type 0
@@ -25,16 +27,12 @@ FirstTells (box ∷ boxes) = box.tells ≢ TellsNothing
 -- ---- the checks
 
 -- an aggressor is given exactly for a primitive of two cells
-unfoldable pub FitsAggressor : Bool → Primitive → Result (Unit {0}) Refusal → Type 0
-FitsAggressor given prim (Ok _) = given ≡ has_aggressor prim
-FitsAggressor given prim (Err (Refusal.Misfit Misfit.Aggressor)) = given ≢ has_aggressor prim
-FitsAggressor given prim (Err other) = ⊥
+abbrev pub FitsAggressor : Bool → Primitive → Result (Unit {0}) Refusal → Type 0
+FitsAggressor given prim = PassesWhere (given ≡ has_aggressor prim) (Refusal.Misfit Misfit.Aggressor)
 
 -- the test isn't too long
-unfoldable pub FitsLength : List MarchElement → Description → Result (Unit {0}) Refusal → Type 0
-FitsLength march d (Ok _) = IsShort march d
-FitsLength march d (Err (Refusal.TooLong number)) = IsTooLong march d number
-FitsLength march d (Err other) = ⊥
+abbrev pub FitsLength : List MarchElement → Description → Result (Unit {0}) Refusal → Type 0
+FitsLength march d = PassesWhere (IsShort march d) (Refusal.TooLong (cycle_count march d))
 
 -- the ports are those of a self-test of the memory, in any order, or the first wrong one is named
 unfoldable pub HasPorts : Description → ModuleTree → Result (Unit {0}) Refusal → Type 0

@@ -1,5 +1,5 @@
 -- Trusted. The command `sim MARCH PRIM SIZE CONTENT AGG VIC DIRS`: its shape, its checks in their order, and what it leaves.
-use Rattle.std.specs.Prelude.{◌≡◌, ◌≢◌, ◌<◌, ◌≤◌, ◌⊎◌, ◌++◌, ◌==◌, ℕ, Bool, List, [], map, All, Option, Some, None, Result, Ok, Err, length, codes, decimal, is_some, IsTrue, if◌then◌else◌}
+use Rattle.std.specs.Prelude.{◌≡◌, ◌≢◌, ◌<◌, ◌≤◌, ◌⊎◌, ◌++◌, ◌==◌, ℕ, Bool, List, [], map, All, Option, Some, None, Result, length, codes, decimal, is_some, IsTrue, if◌then◌else◌}
 use Rattle.bist_host.specs.Files.{Files}
 use Rattle.march_core.specs.March.{MarchElement}
 use Rattle.march_core.specs.Visits.{Direction, Upward, Downward, is_direction, visits}
@@ -13,7 +13,7 @@ use Rattle.bist_endings.specs.declared.ending.Refusal.{Refusal}
 use Rattle.bist_endings.specs.declared.ending.Misfit.{Misfit}
 use Rattle.bist_app.specs.declared.sim.SimShape.{SimShape}
 use Rattle.bist_endings.specs.Ending.{Done}
-use Rattle.bist_endings.specs.Then.{Then, OrNoMemory, SaysOwn}
+use Rattle.bist_endings.specs.Then.{Then, OrNoMemory, PassesWhere, SaysOwn}
 use Rattle.bist_endings.specs.Words.{Words, word, IsNumber}
 use Rattle.bist_inputs.specs.Inputs.{InputMarch, GivesPrim}
 use Rattle.bist_app.specs.Forms.{Form, Row}
@@ -62,10 +62,8 @@ abbrev pub directions_of_letters : List ℕ → List Direction
 directions_of_letters letters = map letter_direction letters
 
 -- there is a letter for each element, which agrees with a fixed order
-unfoldable pub FitsDirections : List ℕ → List MarchElement → Result (Unit {0}) Refusal → Type 0
-FitsDirections letters march (Ok _) = IsTrue (is_direction march (directions_of_letters letters))
-FitsDirections letters march (Err (Refusal.Misfit Misfit.Directions)) = IsTrue (is_direction march (directions_of_letters letters)) → ⊥
-FitsDirections letters march (Err other) = ⊥
+abbrev pub FitsDirections : List ℕ → List MarchElement → Result (Unit {0}) Refusal → Type 0
+FitsDirections letters march = PassesWhere (IsTrue (is_direction march (directions_of_letters letters))) (Refusal.Misfit Misfit.Directions)
 
 -- the first read that differs in a run on this content, or none where none does
 abbrev pub FirstDiffers : List MarchElement → List Direction → Primitive → Places → List Bool → Option Miss → Type 0

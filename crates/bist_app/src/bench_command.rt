@@ -10,10 +10,9 @@ ghost use Rattle.bist_app.specs.Forms.{HasForm};
 ghost use Rattle.self_test.specs.Refusals.{IsShort};
 ghost use Rattle.bist_app.specs.Bench.{LeavesBench, TestsBench, DecidesBench, bench_form};
 
-use crate::benching::bench_first;
+use crate::benching::test_beside;
 use crate::boxes::{fits_room, has_box};
 use crate::vectors::fit_length;
-use bist_bits::NoMemory;
 use bist_endings::{Plan, Refusal};
 use bist_host::Host;
 use bist_inputs::{read_march_input, read_memory_input};
@@ -23,7 +22,6 @@ use std::alloc::Global;
 use word_device::{Device, unplanted_passes};
 
 /// The plan of the run, or want of memory.
-#[tactic(auto, using(crate::proofs::Benched::benched), unfolding(crate::specs::Bench::LeavesBench))]
 fn plan_bench(
     alloc: Global,
     march: &March,
@@ -39,11 +37,7 @@ fn plan_bench(
     ensures outputs { IfOk result (λ plan. (done_of plan).outputs ≡ []) }
 {
     unplanted_passes(march, memory);
-    match bench_first(alloc, march, memory, devices) {
-        Ok(Some(plan)) => Ok(plan),
-        Ok(None) => Err(Refusal::NoMemory),
-        Err(NoMemory) => Err(Refusal::NoMemory),
-    }
+    test_beside(alloc, march, memory, &None, devices)
 }
 
 /// The checks behind the inputs, and the run.

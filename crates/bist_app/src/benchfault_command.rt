@@ -3,7 +3,9 @@
 ghost use Rattle.std.specs.Prelude.{◌≡◌, ◌≤◌, ◌<◌, ◌↔◌, [], Some, IfOk, IfErr, IsTrue, MatchOption, Option, is_some, map, vec_len};
 ghost use Rattle.bist_host.specs.Files.{OnlyReads};
 ghost use Rattle.fault_core.specs.Primitive.{has_aggressor};
+ghost use Rattle.array_sim.specs.Detection.{Detects};
 ghost use Rattle.word_device.specs.Chips.{FitsMemory};
+ghost use Rattle.word_device.specs.Runs.{SomeWrong, run_word};
 ghost use Rattle.bist_endings.specs.Ending.{plain, done_of};
 ghost use Rattle.bist_endings.specs.Conclude.{NamesWords};
 ghost use Rattle.bist_inputs.specs.Inputs.{HasCause, IsOwnRefusal};
@@ -11,15 +13,15 @@ ghost use Rattle.bist_app.specs.declared.benchfault_command.NamedPlace.{NamedPla
 ghost use Rattle.bist_app.specs.declared.benchfault_command.FaultShape.{FaultShape};
 ghost use Rattle.self_test.specs.Refusals.{IsShort};
 ghost use Rattle.bist_app.specs.Shared.{FirstHasRoom, LeavesFirst};
+ghost use Rattle.bist_app.specs.Bench.{CanPlant, benched_chip};
 ghost use Rattle.bist_app.specs.BenchFault.{IsPlaceWord, IsAggressorPlace, IsFaultShape, IsWithin, IsApart, ArePlaces, FitsPlaces, place_in, aggressor_in, planted_of, LeavesFault, PlantsFault, TestsFault, RunsFault, DecidesFault, bench_fault_form};
 ghost use Rattle.bist_app.specs.Forms.{HasForm};
 ghost use Rattle.bist_endings.specs.Then.{SaysOwn};
 
+use crate::benching::test_beside;
 use crate::boxes::{fits_room, has_box};
-use crate::planting::{answers_wrong, bench_planted};
 use crate::sim::{fit_aggressor, give_word};
 use crate::vectors::fit_length;
-use bist_bits::NoMemory;
 use bist_endings::{DeviceRefusal, Plan, Refusal, number_of};
 use bist_host::Host;
 use bist_inputs::{read_march_input, read_memory_input};
@@ -27,7 +29,7 @@ use fault_core::Prim;
 use march_core::March;
 use memory_desc::Memory;
 use std::alloc::Global;
-use word_device::{Device, Place, Planted};
+use word_device::{Device, Place, Planted, closing, planted_fails};
 
 /// A bit of a word of a memory, as words name it.
 #[derive(Clone, Copy)]
@@ -102,7 +104,6 @@ fn is_apart(aggressor: Option<NamedPlace>, victim: NamedPlace, memory: &Memory) 
 }
 
 /// Refuses a place outside the memory, and two places in one word.
-#[tactic(auto, unfolding(crate::specs::BenchFault::FitsPlaces))]
 fn fit_places(shape: FaultShape, memory: &Memory) -> Result<(), Refusal>
     ensures answer { FitsPlaces memory.now shape result }
     ensures own { IfErr result IsOwnRefusal }
@@ -136,13 +137,12 @@ fn aggressor_in(aggressor: Option<NamedPlace>, victim: NamedPlace, memory: &Memo
 }
 
 /// The instance of a primitive that the words name.
-#[tactic(auto, using(crate::proofs::Faulted::planted_fits, crate::proofs::Faulted::planted_aggressor))]
+#[tactic(auto, using(crate::proofs::Faulted::can_plant))]
 fn planted_for(prim: &Prim, shape: FaultShape, memory: &Memory) -> Planted
     requires places { ArePlaces memory.now shape }
     requires given { is_some shape.aggressor ≡ has_aggressor prim.now }
     ensures value { result ≡ planted_of prim.now shape }
-    ensures fits { FitsMemory result memory.now.words memory.now.bits }
-    ensures aggressor { is_some result.agg ≡ has_aggressor result.prim }
+    ensures fits { CanPlant memory.now (Some result) }
 {
     Planted {
         prim: *prim,
@@ -151,31 +151,36 @@ fn planted_for(prim: &Prim, shape: FaultShape, memory: &Memory) -> Planted
     }
 }
 
+/// A chip in which an instance was just planted answers some read of the march wrong, where the march detects the primitive.
+fn answers_wrong(march: &March, memory: &Memory, planted: &Planted)
+    requires { FitsMemory planted.now memory.now.words memory.now.bits }
+    ensures { Detects march.now planted.now.prim → SomeWrong march.now memory.now (run_word march.now memory.now (benched_chip memory.now (Some planted.now))) }
+{
+    let _ = memory.words();
+    let _ = planted.prim.agg();
+    closing();
+    planted_fails(march, memory);
+}
+
 /// The plan of the run, or want of memory.
-#[tactic(auto, using(crate::proofs::Faulted::fault_benched), unfolding(crate::specs::BenchFault::LeavesFault))]
 fn plan_fault(
     alloc: Global,
     march: &March,
     memory: &Memory,
-    planted: &Planted,
+    planted: Planted,
     devices: &mut Vec<Box<dyn Device>>,
 ) -> Result<Plan, Refusal>
     requires short { IsShort march.now memory.now }
     requires some { 0 < vec_len devices.old }
     requires room { FirstHasRoom memory.now.words (map (λ b. told b) devices.old.items) }
-    requires fits { FitsMemory planted.now memory.now.words memory.now.bits }
-    requires aggressor { is_some planted.now.agg ≡ has_aggressor planted.now.prim }
+    requires fits { CanPlant memory.now (Some planted) }
     ensures own { IfErr result IsOwnRefusal }
-    ensures answer { LeavesFault march.now memory.now planted.now (map (λ b. told b) devices.old.items) (plain result) }
+    ensures answer { LeavesFault march.now memory.now planted (map (λ b. told b) devices.old.items) (plain result) }
     ensures left { LeavesFirst (map (λ b. told b) devices.old.items) (map (λ b. told b) devices.new.items) (plain result) }
     ensures outputs { IfOk result (λ plan. (done_of plan).outputs ≡ []) }
 {
-    answers_wrong(march, memory, planted);
-    match bench_planted(alloc, march, memory, planted, devices) {
-        Ok(Some(plan)) => Ok(plan),
-        Ok(None) => Err(Refusal::NoMemory),
-        Err(NoMemory) => Err(Refusal::NoMemory),
-    }
+    answers_wrong(march, memory, &planted);
+    test_beside(alloc, march, memory, &Some(planted), devices)
 }
 
 /// The checks of the boxes and the places, and the run.
@@ -197,7 +202,7 @@ fn plant_fault(
     fit_places(shape, memory)?;
     fits_room(devices, memory)?;
     let planted = planted_for(prim, shape, memory);
-    plan_fault(alloc, march, memory, &planted, devices)
+    plan_fault(alloc, march, memory, planted, devices)
 }
 
 /// The checks behind the inputs, and the run.

@@ -1,8 +1,7 @@
 //! The command `benchfile`: the module of a file against the first box.
 
-ghost use Rattle.std.specs.Prelude.{◌≡◌, ◌≤◌, ◌<◌, ◌∷◌, [], Some, None, IfOk, IfSome, IfErr, OnOk, OnErr, length, map, drop, vec_len};
+ghost use Rattle.std.specs.Prelude.{◌≡◌, ◌≤◌, ◌<◌, [], Some, None, IfOk, IfErr, map, vec_len};
 ghost use Rattle.bist_host.specs.Files.{OnlyReads};
-ghost use Rattle.word_device.specs.Ports.{shape_of as memory_shape};
 ghost use Rattle.verilog_cycle.specs.Design.{IsNew};
 ghost use Rattle.bist_endings.specs.Ending.{plain, done_of};
 ghost use Rattle.bist_endings.specs.Conclude.{NamesWords};
@@ -11,14 +10,11 @@ ghost use Rattle.self_test.specs.WrongPort.{wrong_port};
 ghost use Rattle.bist_app.specs.Shared.{FirstHasRoom, HasPorts, LeavesFirst};
 ghost use Rattle.bist_app.specs.Forms.{HasForm};
 ghost use Rattle.self_test.specs.Refusals.{IsShort};
-ghost use Rattle.bist_app.specs.Bench.{ready};
-ghost use Rattle.bist_app.specs.BenchFile.{IsFileRun, LeavesBenchFile, TestsFile, DecidesFileRun, DecidesBenchFile, zero_registers, bench_file_form};
+ghost use Rattle.bist_app.specs.BenchFile.{LeavesBenchFile, TestsFile, DecidesFileRun, DecidesBenchFile, zero_registers, bench_file_form};
 
-use crate::benching::end_plan;
-use crate::boxes::{fits_room, has_box, take_first};
+use crate::benching::run_beside;
+use crate::boxes::{fits_room, has_box};
 use crate::vectors::fit_length;
-use bench::{BenchEnd, bench};
-use bist_bits::NoMemory;
 use bist_endings::{Plan, Refusal, VerilogRefusal};
 use bist_host::Host;
 use bist_inputs::{Style, read_design_input, read_march_input, read_memory_input};
@@ -42,66 +38,7 @@ fn fit_ports(design: &Design, memory: &Memory) -> Result<(), Refusal>
     }
 }
 
-/// Runs a design against a box that is fitted.
-fn run_design(
-    alloc: Global,
-    design: &mut Design,
-    march: &March,
-    memory: &Memory,
-    device: Box<dyn Device>,
-) -> Result<Plan, NoMemory>
-    requires zero { design.old.registers ≡ zero_registers design.old.tree }
-    requires short { IsShort march.now memory.now }
-    requires ports { wrong_port memory.now design.old.tree.ports ≡ None }
-    requires fitted { (told device).shape ≡ Some (memory_shape memory.now) }
-    ensures run { IfOk result (λ plan. IsFileRun design.old.tree march.now memory.now (told device).tells (done_of plan)) }
-    ensures outputs { IfOk result (λ plan. (done_of plan).outputs ≡ []) }
-{
-    let bits = memory.bits();
-    match bench(design, march, memory, device) {
-        Ok(
-            BenchEnd {
-                fail,
-                done_cycle,
-                first,
-                device,
-            },
-        ) => {
-            drop(device);
-            end_plan(alloc, bits, fail, done_cycle, first)
-        }
-        Err(_) => unreachable!(),
-    }
-}
-
-/// Runs a design against the first box, which is fitted and taken. Want of memory up to there leaves the list as it was; `None` is want
-/// of memory behind it.
-fn run_first(
-    alloc: Global,
-    design: &mut Design,
-    march: &March,
-    memory: &Memory,
-    devices: &mut Vec<Box<dyn Device>>,
-) -> Result<Option<Plan>, NoMemory>
-    requires zero { design.old.registers ≡ zero_registers design.old.tree }
-    requires short { IsShort march.now memory.now }
-    requires ports { wrong_port memory.now design.old.tree.ports ≡ None }
-    requires some { 0 < vec_len devices.old }
-    requires room { FirstHasRoom memory.now.words (map (λ b. told b) devices.old.items) }
-    ensures taken { OnOk result (devices.new.items ≡ drop 1 devices.old.items) }
-    ensures kept { OnErr result (map (λ b. told b) devices.new.items ≡ map (λ b. told b) devices.old.items) }
-    ensures run { IfOk result (λ ended. IfSome ended (λ plan. (b : _) (rest : _) → devices.old.items ≡ b ∷ rest → IsFileRun design.old.tree march.now memory.now (ready memory.now (told b).tells) (done_of plan))) }
-    ensures outputs { IfOk result (λ ended. IfSome ended (λ plan. (done_of plan).outputs ≡ [])) }
-{
-    let device = take_first(devices, memory)?;
-    match run_design(alloc, design, march, memory, device) {
-        Ok(plan) => Ok(Some(plan)),
-        Err(NoMemory) => Ok(None),
-    }
-}
-
 /// The plan of the run, or want of memory.
-#[tactic(auto, using(crate::proofs::BenchedFile::benched_file), unfolding(crate::specs::BenchFile::LeavesBenchFile))]
 fn plan_benchfile(
     alloc: Global,
     design: &mut Design,
@@ -119,11 +56,7 @@ fn plan_benchfile(
     ensures left { LeavesFirst (map (λ b. told b) devices.old.items) (map (λ b. told b) devices.new.items) (plain result) }
     ensures outputs { IfOk result (λ plan. (done_of plan).outputs ≡ []) }
 {
-    match run_first(alloc, design, march, memory, devices) {
-        Ok(Some(plan)) => Ok(plan),
-        Ok(None) => Err(Refusal::NoMemory),
-        Err(NoMemory) => Err(Refusal::NoMemory),
-    }
+    run_beside(alloc, design, march, memory, &None, devices)
 }
 
 /// The checks behind the inputs, and the run.

@@ -1,6 +1,6 @@
-//! The self-test module against a box: the module is made, written, read back and run, and the line tells how it ended.
+//! A module against a box, and the line that tells how the run ended. The self-test module is made, written and read back before.
 
-ghost use Rattle.std.specs.Prelude.{◌≡◌, ◌≤◌, ◌<◌, ◌++◌, ◌∷◌, [], Some, None, IsTrue, IfOk, IfSome, OnOk, OnErr, codes, decimal, map, drop, vec_len};
+ghost use Rattle.std.specs.Prelude.{◌≡◌, ◌≤◌, ◌<◌, ◌++◌, ◌∷◌, [], Some, None, true, IsTrue, IfOk, IfErr, OnOk, codes, decimal, map, vec_len};
 ghost use Rattle.verilog_tree.specs.declared.fault.TreeFault.{TreeFault};
 ghost use Rattle.verilog_tree.specs.Plain.{ModuleTree, plain_module};
 ghost use Rattle.verilog_tree.specs.Rules.{first_break};
@@ -10,25 +10,28 @@ ghost use Rattle.verilog_tree.specs.declared.fault.ReadFault.{ReadFault};
 ghost use Rattle.verilog_cycle.specs.Design.{IsNew, NoLoop, registers_of};
 ghost use Rattle.self_test.specs.SelfTest.{SelfTest};
 ghost use Rattle.word_device.specs.Ports.{shape_of as memory_shape};
-ghost use Rattle.bist_endings.specs.Ending.{done_of};
+ghost use Rattle.bench.specs.Laws.{EndsSelfTest};
+ghost use Rattle.bist_endings.specs.Ending.{done_of, plain};
 ghost use Rattle.self_test.specs.Refusals.{IsShort};
-ghost use Rattle.bist_app.specs.Shared.{FirstHasRoom};
-ghost use Rattle.bist_app.specs.Bench.{done_text, seen_text, bench_line, benched_done, AreWords, IsRun, ready};
+ghost use Rattle.self_test.specs.WrongPort.{wrong_port};
+ghost use Rattle.bist_app.specs.Shared.{FirstHasRoom, LeavesFirst};
+ghost use Rattle.bist_app.specs.Bench.{done_text, seen_text, bench_line, benched_done, ready, AreWords, CanPlant, IsBenched};
+ghost use Rattle.bist_app.specs.BenchFile.{RunsBeside, zero_registers};
+ghost use Rattle.bist_app.specs.BenchedBoxes.{EndsRun};
 
 use crate::boxes::take_first;
+use crate::compile::module_text;
 use bench::{BenchEnd, Seen, bench};
 use bist_bits::NoMemory;
-use bist_endings::Plan;
+use bist_endings::{Plan, Refusal};
 use bist_text::{put, put_decimal, put_word};
 use march_core::March;
 use memory_desc::Memory;
-use rtl_gen::generate;
 use std::alloc::Global;
 use verilog_cycle::{Design, elaborate};
-use verilog_emit::emit;
 use verilog_read::read_module;
 use verilog_tree::{Module, ReadFault, TreeFault};
-use word_device::Device;
+use word_device::{Device, Planted};
 
 /// What is wanting where a text that spells a module isn't read: nothing but memory.
 fn want_of_text(fault: ReadFault) -> NoMemory
@@ -43,7 +46,8 @@ fn want_of_text(fault: ReadFault) -> NoMemory
 /// The module that a text spells.
 fn read_back(alloc: Global, text: &[u8]) -> Result<Module, NoMemory>
     requires { (mo : ModuleTree) × Spells text.now mo }
-    ensures { IfOk result (λ m. Spells text.now (plain_module m)) }
+    ensures spells { IfOk result (λ m. Spells text.now (plain_module m)) }
+    ensures sizes { IfOk result (λ m. formed (plain_module m) ≡ true) }
 {
     match read_module(alloc, text) {
         Ok(module) => Ok(module),
@@ -79,8 +83,7 @@ pub fn self_test_design(alloc: Global, march: &March, memory: &Memory) -> Result
     ensures test { IfOk result (λ design. SelfTest design.tree march.now memory.now) }
     ensures zero { IfOk result (λ design. design.registers ≡ map (λ _. 0) (registers_of design.tree)) }
 {
-    let written = generate(alloc, march, memory)?;
-    let text = emit(alloc, &written)?;
+    let text = module_text(alloc, march, memory)?;
     let read = read_back(alloc, &text)?;
     designed(alloc, read)
 }
@@ -122,65 +125,61 @@ fn put_seen(line: &mut Vec<u8>, bits: u8, seen: Option<Seen>) -> Result<(), NoMe
 }
 
 /// The line that tells how a run ended.
-fn end_line(
-    alloc: Global,
-    bits: u8,
-    fail: bool,
-    done_cycle: Option<u32>,
-    first: Option<Seen>,
-) -> Result<Vec<u8>, NoMemory>
+fn end_line(alloc: Global, bits: u8, end: RunEnd) -> Result<Vec<u8>, NoMemory>
     requires bits { bits ≤ 64 }
-    requires fits { AreWords bits first }
-    ensures { IfOk result (λ line. line.items ≡ bench_line bits fail done_cycle first) }
+    requires fits { AreWords bits end.first }
+    ensures { IfOk result (λ line. line.items ≡ bench_line bits end.fail end.done_cycle end.first) }
 {
     let mut line = Vec::new(alloc);
     put(
         &mut line,
-        if fail {
+        if end.fail {
             b"fail 1 done "
         } else {
             b"fail 0 done "
         },
     )?;
-    put_done(&mut line, done_cycle)?;
-    put_seen(&mut line, bits, first)?;
+    put_done(&mut line, end.done_cycle)?;
+    put_seen(&mut line, bits, end.first)?;
     put(&mut line, b"\n")?;
     Ok(line)
 }
 
 /// The plan of a run that ended so.
-pub fn end_plan(
-    alloc: Global,
-    bits: u8,
-    fail: bool,
-    done_cycle: Option<u32>,
-    first: Option<Seen>,
-) -> Result<Plan, NoMemory>
+fn end_plan(alloc: Global, bits: u8, end: RunEnd) -> Result<Plan, NoMemory>
     requires bits { bits ≤ 64 }
-    requires fits { AreWords bits first }
-    ensures { IfOk result (λ plan. done_of plan ≡ benched_done bits fail done_cycle first) }
+    requires fits { AreWords bits end.first }
+    ensures { IfOk result (λ plan. done_of plan ≡ benched_done bits end.fail end.done_cycle end.first) }
 {
-    let line = end_line(alloc, bits, fail, done_cycle, first)?;
+    let line = end_line(alloc, bits, end)?;
     Ok(Plan {
-        found: fail,
+        found: end.fail,
         outputs: Vec::new(alloc),
         line,
     })
 }
 
-/// Runs a self-test against a box that is fitted.
-pub fn run_plan(
-    alloc: Global,
+/// How a run beside a box ended.
+#[derive(Clone, Copy)]
+pub struct RunEnd {
+    pub fail: bool,
+    pub done_cycle: Option<u32>,
+    pub first: Option<Seen>,
+}
+
+/// Runs a design with the ports of a self-test against a box that is fitted, which is gone then.
+pub fn run_design(
     design: &mut Design,
     march: &March,
     memory: &Memory,
     device: Box<dyn Device>,
-) -> Result<Plan, NoMemory>
-    requires test { SelfTest design.old.tree march.now memory.now }
+) -> RunEnd
     requires short { IsShort march.now memory.now }
+    requires ports { wrong_port memory.now design.old.tree.ports ≡ None }
     requires fitted { (told device).shape ≡ Some (memory_shape memory.now) }
-    ensures run { IfOk result (λ plan. IsRun march.now memory.now (told device).tells (done_of plan)) }
-    ensures outputs { IfOk result (λ plan. (done_of plan).outputs ≡ []) }
+    ensures runs { EndsRun design.old.tree march.now memory.now design.old.registers (told device).tells result }
+    ensures test { SelfTest design.old.tree march.now memory.now → EndsSelfTest march.now memory.now (told device).tells result.fail result.done_cycle result.first }
+    ensures kept { design.new.tree ≡ design.old.tree }
 {
     match bench(design, march, memory, device) {
         Ok(
@@ -192,32 +191,84 @@ pub fn run_plan(
             },
         ) => {
             drop(device);
-            end_plan(alloc, memory.bits(), fail, done_cycle, first)
+            RunEnd {
+                fail,
+                done_cycle,
+                first,
+            }
         }
         Err(_) => unreachable!(),
     }
 }
 
-/// Runs the self-test of the memory by the march against the first box, which is fitted and taken. Want of memory up to there leaves
-/// the list as it was; `None` is want of memory behind it.
-pub fn bench_first(
+/// Runs a design from registers 0 against a box that is fitted.
+fn run_plan(
+    alloc: Global,
+    design: &mut Design,
+    march: &March,
+    memory: &Memory,
+    device: Box<dyn Device>,
+) -> Result<Plan, NoMemory>
+    requires zero { design.old.registers ≡ zero_registers design.old.tree }
+    requires short { IsShort march.now memory.now }
+    requires ports { wrong_port memory.now design.old.tree.ports ≡ None }
+    requires fitted { (told device).shape ≡ Some (memory_shape memory.now) }
+    ensures run { IfOk result (λ plan. RunsBeside design.old.tree march.now memory.now (told device).tells (done_of plan)) }
+    ensures outputs { IfOk result (λ plan. (done_of plan).outputs ≡ []) }
+{
+    let bits = memory.bits();
+    let end = run_design(design, march, memory, device);
+    end_plan(alloc, bits, end)
+}
+
+/// Runs a design from registers 0 against the first box, which is fitted, planted and taken.
+pub fn run_beside(
+    alloc: Global,
+    design: &mut Design,
+    march: &March,
+    memory: &Memory,
+    planted: &Option<Planted>,
+    devices: &mut Vec<Box<dyn Device>>,
+) -> Result<Plan, Refusal>
+    requires zero { design.old.registers ≡ zero_registers design.old.tree }
+    requires short { IsShort march.now memory.now }
+    requires ports { wrong_port memory.now design.old.tree.ports ≡ None }
+    requires some { 0 < vec_len devices.old }
+    requires room { FirstHasRoom memory.now.words (map (λ b. told b) devices.old.items) }
+    requires fits { CanPlant memory.now planted.now }
+    ensures wants { IfErr result (λ refusal. refusal ≡ Refusal.NoMemory) }
+    ensures run { IfOk result (λ plan. (b : _) (rest : _) → devices.old.items ≡ b ∷ rest → RunsBeside design.old.tree march.now memory.now (ready memory.now planted.now (told b).tells) (done_of plan)) }
+    ensures outputs { IfOk result (λ plan. (done_of plan).outputs ≡ []) }
+    ensures left { LeavesFirst (map (λ b. told b) devices.old.items) (map (λ b. told b) devices.new.items) (plain result) }
+{
+    let Ok(device) = take_first(devices, memory, planted) else {
+        return Err(Refusal::NoMemory);
+    };
+    match run_plan(alloc, design, march, memory, device) {
+        Ok(plan) => Ok(plan),
+        Err(NoMemory) => Err(Refusal::NoMemory),
+    }
+}
+
+/// Runs the self-test of the memory by the march against the first box, which is fitted, planted and taken.
+pub fn test_beside(
     alloc: Global,
     march: &March,
     memory: &Memory,
+    planted: &Option<Planted>,
     devices: &mut Vec<Box<dyn Device>>,
-) -> Result<Option<Plan>, NoMemory>
+) -> Result<Plan, Refusal>
     requires short { IsShort march.now memory.now }
     requires some { 0 < vec_len devices.old }
     requires room { FirstHasRoom memory.now.words (map (λ b. told b) devices.old.items) }
-    ensures taken { OnOk result (devices.new.items ≡ drop 1 devices.old.items) }
-    ensures kept { OnErr result (map (λ b. told b) devices.new.items ≡ map (λ b. told b) devices.old.items) }
-    ensures run { IfOk result (λ ended. IfSome ended (λ plan. (b : _) (rest : _) → devices.old.items ≡ b ∷ rest → IsRun march.now memory.now (ready memory.now (told b).tells) (done_of plan))) }
-    ensures outputs { IfOk result (λ ended. IfSome ended (λ plan. (done_of plan).outputs ≡ [])) }
+    requires fits { CanPlant memory.now planted.now }
+    ensures wants { IfErr result (λ refusal. refusal ≡ Refusal.NoMemory) }
+    ensures benched { IfOk result (λ plan. (b : _) (rest : _) → devices.old.items ≡ b ∷ rest → IsBenched march.now memory.now planted.now (told b).tells (done_of plan)) }
+    ensures outputs { IfOk result (λ plan. (done_of plan).outputs ≡ []) }
+    ensures left { LeavesFirst (map (λ b. told b) devices.old.items) (map (λ b. told b) devices.new.items) (plain result) }
 {
-    let mut design = self_test_design(alloc, march, memory)?;
-    let device = take_first(devices, memory)?;
-    match run_plan(alloc, &mut design, march, memory, device) {
-        Ok(plan) => Ok(Some(plan)),
-        Err(NoMemory) => Ok(None),
-    }
+    let Ok(mut design) = self_test_design(alloc, march, memory) else {
+        return Err(Refusal::NoMemory);
+    };
+    run_beside(alloc, &mut design, march, memory, planted, devices)
 }

@@ -11,12 +11,12 @@ ghost use Rattle.bist_app.specs.Bench.{benched_chip};
 ghost use Rattle.bist_app.specs.BenchAll.{HaveRoom, all_line, all_done, IsAllBenched, AreGone};
 ghost use Rattle.bist_app.specs.BenchedBoxes.{IsEnd, CountsFailing};
 
-use crate::benching::self_test_design;
+use crate::benching::{run_design, self_test_design};
 use crate::boxes::take_first;
-use bench::{BenchEnd, bench};
+use crate::parts::put_number;
 use bist_bits::NoMemory;
 use bist_endings::Plan;
-use bist_text::{put, put_decimal};
+use bist_text::put;
 use march_core::March;
 use memory_desc::Memory;
 use std::alloc::{AllocError, Global};
@@ -35,10 +35,8 @@ fn all_boxes_line(alloc: Global, count: usize, failing: usize) -> Result<Vec<u8>
     ensures { IfOk result (λ line. line.items ≡ all_line count failing) }
 {
     let mut line = Vec::new(alloc);
-    put(&mut line, b"boxes ")?;
-    put_decimal(&mut line, count as u64)?;
-    put(&mut line, b" failing ")?;
-    put_decimal(&mut line, failing as u64)?;
+    put_number(&mut line, b"boxes ", count as u64)?;
+    put_number(&mut line, b" failing ", failing as u64)?;
     put(&mut line, b"\n")?;
     Ok(line)
 }
@@ -71,20 +69,7 @@ fn does_fail(
     ensures end { IsEnd march.now memory.now (told device).tells result }
 {
     design.set_registers(zeros);
-    match bench(design, march, memory, device) {
-        Ok(
-            BenchEnd {
-                fail,
-                done_cycle: _,
-                first: _,
-                device,
-            },
-        ) => {
-            drop(device);
-            fail
-        }
-        Err(_) => unreachable!(),
-    }
+    run_design(design, march, memory, device).fail
 }
 
 /// Runs the self-test against each box, which is fitted and taken. The answer is beside how many it ended with `fail`. Where a box finds
@@ -110,7 +95,7 @@ fn bench_boxes(
     answers_right(march, memory);
     let mut failing = 0;
     while !devices.is_empty() {
-        let device = take_first(devices, memory)?;
+        let device = take_first(devices, memory, &None)?;
         if does_fail(design, zeros, march, memory, device) {
             failing += 1;
         }

@@ -1,4 +1,4 @@
-//! The boxes that the program is given: whether there is one with room for a memory, and the first one fitted and taken.
+//! The boxes that the program is given: whether there is one with room for a memory, and the first one fitted, planted and taken.
 
 ghost use Rattle.std.specs.Prelude.{◌≡◌, ◌≤◌, ◌<◌, ◌∷◌, Some, Ok, length, map, drop, vec_len, IsSome, IfOk, IfErr, OnOk, OnErr};
 ghost use Rattle.word_device.specs.declared.device.DeviceFault.{DeviceFault};
@@ -6,12 +6,12 @@ ghost use Rattle.word_device.specs.Ports.{shape_of as memory_shape};
 ghost use Rattle.word_device.specs.Boxes.{after_fit, after_fill, IsShape};
 ghost use Rattle.bist_inputs.specs.Inputs.{IsOwnRefusal};
 ghost use Rattle.bist_app.specs.Shared.{FirstHasRoom, FitsRoom, HasBox};
-ghost use Rattle.bist_app.specs.Bench.{ready};
+ghost use Rattle.bist_app.specs.Bench.{after_planting, ready, CanPlant};
 
 use bist_bits::NoMemory;
 use bist_endings::{DeviceRefusal, Refusal};
 use memory_desc::Memory;
-use word_device::{Device, DeviceFault, Shape, shape_of};
+use word_device::{Device, DeviceFault, Planted, Shape, shape_of};
 
 /// Refuses an empty list.
 #[tactic(auto, unfolding(crate::specs::Shared::HasBox))]
@@ -74,7 +74,7 @@ fn fit_box(device: &mut Box<dyn Device>, shape: &Shape) -> Result<(), NoMemory>
 }
 
 /// Fills a box with zeros.
-pub fn clear_box(device: &mut Box<dyn Device>)
+fn clear_box(device: &mut Box<dyn Device>)
     requires { IsSome (told device.old).shape }
     ensures { told device.new ≡ record (told device.old) { tells = after_fill (told device.old).shape 0 (told device.old).tells } }
 {
@@ -82,7 +82,7 @@ pub fn clear_box(device: &mut Box<dyn Device>)
 }
 
 /// Fits the first box with the memory's shape and takes it out of the list. Want of memory leaves the list as it was.
-pub fn fit_first(
+fn fit_first(
     devices: &mut Vec<Box<dyn Device>>,
     memory: &Memory,
 ) -> Result<Box<dyn Device>, NoMemory>
@@ -98,19 +98,34 @@ pub fn fit_first(
     Ok(devices.remove(0))
 }
 
-/// Fits the first box with the memory's shape and takes it out of the list, filled with zeros. Want of memory leaves the list as it was.
+/// Plants an instance, if there is one.
+fn plant_box(device: &mut Box<dyn Device>, memory: &Memory, planted: &Option<Planted>)
+    requires fitted { (told device.old).shape ≡ Some (memory_shape memory.now) }
+    requires fits { CanPlant memory.now planted.now }
+    ensures { told device.new ≡ record (told device.old) { tells = after_planting planted.now (told device.old).tells } }
+{
+    if let Some(planted) = planted {
+        device.plant(planted).unwrap();
+    }
+}
+
+/// Fits the first box with the memory's shape and takes it out of the list, planted with the instance, if there is one, and then filled with
+/// zeros. Want of memory leaves the list as it was.
 pub fn take_first(
     devices: &mut Vec<Box<dyn Device>>,
     memory: &Memory,
+    planted: &Option<Planted>,
 ) -> Result<Box<dyn Device>, NoMemory>
     requires some { 0 < vec_len devices.old }
     requires room { FirstHasRoom memory.now.words (map (λ b. told b) devices.old.items) }
+    requires fits { CanPlant memory.now planted.now }
     ensures taken { OnOk result (devices.new.items ≡ drop 1 devices.old.items) }
     ensures kept { OnErr result (map (λ b. told b) devices.new.items ≡ map (λ b. told b) devices.old.items) }
     ensures fitted { IfOk result (λ d. (told d).shape ≡ Some (memory_shape memory.now)) }
-    ensures tells { IfOk result (λ d. (b : _) (rest : _) → devices.old.items ≡ b ∷ rest → (told d).tells ≡ ready memory.now (told b).tells) }
+    ensures tells { IfOk result (λ d. (b : _) (rest : _) → devices.old.items ≡ b ∷ rest → (told d).tells ≡ ready memory.now planted.now (told b).tells) }
 {
     let mut device = fit_first(devices, memory)?;
+    plant_box(&mut device, memory, planted);
     clear_box(&mut device);
     Ok(device)
 }

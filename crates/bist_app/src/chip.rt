@@ -1,11 +1,11 @@
 //! The command `chip`: several memories of one chip, each tested by a march, within a power budget.
 
-ghost use Rattle.std.specs.Prelude.{◌≡◌, ◌<◌, ◌≤◌, ◌++◌, ◌∷◌, ◌↔◌, [], ℕ, List, IfOk, IfErr, IsTrue, OnOk, MatchResult, length, map, suc, decimal};
+ghost use Rattle.std.specs.Prelude.{◌≡◌, ◌<◌, ◌≤◌, ◌↔◌, [], ℕ, List, IfOk, IfErr, IsTrue, OnOk, length, suc};
 ghost use Rattle.bist_host.specs.Files.{OnlyReads};
 ghost use Rattle.chip_plan.specs.Groups.{FirstFit, last_group, end_of};
 ghost use Rattle.chip_rtl.specs.ChipTest.{TestUnit, lengths};
 ghost use Rattle.chip_rtl.specs.ChipLaws.{memories, weights};
-ghost use Rattle.bist_endings.specs.Ending.{plain, done_of, written_of};
+ghost use Rattle.bist_endings.specs.Ending.{plain, done_of};
 ghost use Rattle.bist_endings.specs.Conclude.{NamesWords};
 ghost use Rattle.bist_inputs.specs.Inputs.{HasCause, IsOwnRefusal};
 ghost use Rattle.bist_app.specs.Forms.{HasForm};
@@ -13,12 +13,13 @@ ghost use Rattle.bist_app.specs.Chip.{IsEarlier, HasTakenName, HasOwnNames, chip
 ghost use Rattle.bist_app.specs.UnitTables.{IsTableOf};
 ghost use Rattle.bist_app.specs.ChipParts.{IsRead, IsReady, PutsSelfTest, PutSelfTests, CanStart, MakesFile, TestsTable};
 
+use crate::parts::{one_output, put_number};
 use crate::units::{UnitTable, no_units, read_units};
 use bist_bits::NoMemory;
-use bist_endings::{ChipRefusal, Output, Plan, Refusal};
+use bist_endings::{ChipRefusal, Plan, Refusal};
 use bist_host::Host;
 use bist_inputs::read_chip_input;
-use bist_text::{put, put_decimal};
+use bist_text::put;
 use chip_desc::ChipDesc;
 use chip_plan::{end_of, first_fit, last_group};
 use chip_rtl::{end_chip, module_of};
@@ -112,14 +113,6 @@ fn chip_text(
     Ok(text)
 }
 
-/// Appends a text and a number.
-fn put_number(line: &mut Vec<u8>, text: &[u8], number: u64) -> Result<(), NoMemory>
-    ensures { OnOk result (line.new.items ≡ line.old.items ++ (text.now ++ decimal number)) }
-{
-    put(line, text)?;
-    put_decimal(line, number)
-}
-
 /// The line of a chip.
 fn chip_line(alloc: Global, groups: &[u8], lengths: &[u64]) -> Result<Vec<u8>, NoMemory>
     requires { CanStart groups.now lengths.now }
@@ -133,17 +126,6 @@ fn chip_line(alloc: Global, groups: &[u8], lengths: &[u64]) -> Result<Vec<u8>, N
     Ok(line)
 }
 
-/// The file of a chip.
-fn chip_output(alloc: Global, text: Vec<u8>) -> Result<Vec<Output>, NoMemory>
-    ensures { IfOk result (λ outputs. map written_of outputs.items ≡ (record { position = 2; bytes = text.items }) ∷ []) }
-{
-    let output = Output {
-        position: VERILOG,
-        bytes: text,
-    };
-    Vec::from_array(alloc, [output]).map_err(|_| NoMemory)
-}
-
 /// The file and the line of a chip.
 fn tested(alloc: Global, chip: &ChipDesc, table: &UnitTable) -> Result<Plan, NoMemory>
     requires { (us : List TestUnit) × IsReady chip.now table.now us }
@@ -152,7 +134,7 @@ fn tested(alloc: Global, chip: &ChipDesc, table: &UnitTable) -> Result<Plan, NoM
     let groups = first_fit(&table.weights, chip.budget());
     let text = chip_text(alloc, chip, &groups, table)?;
     let line = chip_line(alloc, &groups, &table.lengths)?;
-    let outputs = chip_output(alloc, text)?;
+    let outputs = one_output(alloc, VERILOG, text)?;
     Ok(Plan {
         found: false,
         outputs,

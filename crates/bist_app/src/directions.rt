@@ -38,7 +38,6 @@ pub fn direction_word(letters: &[u8]) -> u64
 }
 
 /// Refuses letters that aren't one per element, as its order allows.
-#[tactic(auto, unfolding(crate::specs::Sim::FitsDirections))]
 pub fn fit_directions(letters: &[u8], march: &March) -> Result<(), Refusal>
     requires least { 1 ≤ length letters.now }
     requires most { length letters.now ≤ 64 }

@@ -1,14 +1,15 @@
-ghost use Rattle.std.specs.Prelude.{◌≡◌, ◌≤◌, ◌∷◌, [], IfOk, IfErr, map};
+ghost use Rattle.std.specs.Prelude.{◌≡◌, ◌≤◌, IfOk, IfErr};
 ghost use Rattle.bist_host.specs.Files.{OnlyReads};
-ghost use Rattle.bist_endings.specs.Ending.{plain, done_of, written_of};
+ghost use Rattle.bist_endings.specs.Ending.{plain, done_of};
 ghost use Rattle.bist_inputs.specs.Inputs.{HasCause, IsOwnRefusal};
 ghost use Rattle.bist_endings.specs.Conclude.{NamesWords};
 ghost use Rattle.bist_app.specs.Forms.{HasForm};
 ghost use Rattle.bist_app.specs.Judge.{IsJudged, LeavesJudge, DecidesJudge, judge_form};
 
+use crate::parts::one_output;
 use crate::reporting::report_list;
 use bist_bits::NoMemory;
-use bist_endings::{Output, Plan, Refusal};
+use bist_endings::{Plan, Refusal};
 use bist_host::Host;
 use bist_inputs::{read_list_input, read_march_input};
 use dynamic_core::Item;
@@ -18,27 +19,12 @@ use std::alloc::Global;
 /// The word that names the report's file.
 const REPORT: usize = 3;
 
-/// The file of the report.
-fn report_output(alloc: Global, bytes: Vec<u8>) -> Result<Vec<Output>, NoMemory>
-    ensures { IfOk result (λ outputs. map written_of outputs.items ≡ (record { position = 3; bytes = bytes.items }) ∷ []) }
-{
-    let mut outputs = Vec::new(alloc);
-    let output = Output {
-        position: REPORT,
-        bytes,
-    };
-    match outputs.push(output) {
-        Ok(()) => Ok(outputs),
-        Err(_) => Err(NoMemory),
-    }
-}
-
 /// The report as a plan.
 fn judged(alloc: Global, march: &March, items: &[Item]) -> Result<Plan, NoMemory>
     ensures { IfOk result (λ plan. IsJudged march.now items.now (done_of plan)) }
 {
     let reported = report_list(alloc, march, None, items)?;
-    let outputs = report_output(alloc, reported.bytes)?;
+    let outputs = one_output(alloc, REPORT, reported.bytes)?;
     Ok(Plan {
         found: reported.found,
         outputs,

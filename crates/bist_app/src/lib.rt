@@ -16,7 +16,7 @@ mod directions;
 mod forms;
 mod judge;
 mod make;
-mod planting;
+mod parts;
 mod reporting;
 mod sim;
 mod top;

@@ -15,10 +15,11 @@ ghost use Rattle.bist_app.specs.Forms.{HasForm};
 ghost use Rattle.bist_endings.specs.Then.{SaysOwn};
 
 use crate::compile::module_text;
+use crate::parts::put_number;
 use crate::reporting::report_list;
 use bist_bits::NoMemory;
 use bist_endings::{Output, Plan, Refusal, number_of};
-use bist_text::{put, put_decimal};
+use bist_text::put;
 use dynamic_core::Item;
 use made_inputs::{items_of_list, list_text, march_of, march_text, memory_of};
 use march_core::March;
@@ -48,14 +49,6 @@ fn memory_text(alloc: Global, memory: &Memory) -> Result<Vec<u8>, NoMemory>
 {
     let _ = memory.words();
     print_memory(alloc, memory)
-}
-
-/// Appends a text and a number.
-fn put_number(line: &mut Vec<u8>, text: &[u8], number: u64) -> Result<(), NoMemory>
-    ensures { OnOk result (line.new.items ≡ line.old.items ++ text.now ++ decimal number) }
-{
-    put(line, text)?;
-    put_decimal(line, number)
 }
 
 /// Appends the sizes of a march and of its test.

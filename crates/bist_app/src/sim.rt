@@ -131,7 +131,6 @@ pub fn give_word(words: &[&str], position: usize) -> Result<Prim, Refusal>
 }
 
 /// Refuses an aggressor for a primitive of one cell, and none for one of two cells.
-#[tactic(auto, unfolding(crate::specs::Shared::FitsAggressor))]
 pub fn fit_aggressor(given: bool, prim: &Prim) -> Result<(), Refusal>
     ensures answer { FitsAggressor given prim.now result }
     ensures own { IfErr result IsOwnRefusal }

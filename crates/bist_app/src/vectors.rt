@@ -1,9 +1,9 @@
 //! The command `vectors`: the commands at a memory's port, a line each.
 
-ghost use Rattle.std.specs.Prelude.{◌≡◌, ◌≤◌, ◌<◌, ◌^◌, ◌++◌, ◌∷◌, [], length, map, IfOk, IfErr, OnOk};
+ghost use Rattle.std.specs.Prelude.{◌≡◌, ◌≤◌, ◌<◌, ◌^◌, ◌++◌, IfOk, IfErr, OnOk};
 ghost use Rattle.bist_host.specs.Files.{OnlyReads};
 ghost use Rattle.word_march.specs.Commands.{port_ops, command_count};
-ghost use Rattle.bist_endings.specs.Ending.{plain, done_of, written_of};
+ghost use Rattle.bist_endings.specs.Ending.{plain, done_of};
 ghost use Rattle.bist_inputs.specs.Inputs.{HasCause, IsOwnRefusal};
 ghost use Rattle.bist_endings.specs.Conclude.{NamesWords};
 ghost use Rattle.bist_app.specs.Shared.{FitsLength};
@@ -11,8 +11,9 @@ ghost use Rattle.bist_app.specs.Forms.{HasForm};
 ghost use Rattle.self_test.specs.Refusals.{IsShort};
 ghost use Rattle.bist_app.specs.Vectors.{kind_text, command_line, command_lines, vectors_line, vectors_done, LeavesVectors, DecidesVectors, vectors_form};
 
+use crate::parts::one_output;
 use bist_bits::NoMemory;
-use bist_endings::{Output, Plan, Refusal, numbered};
+use bist_endings::{Plan, Refusal, numbered};
 use bist_host::Host;
 use bist_inputs::{read_march_input, read_memory_input};
 use bist_text::{put, put_decimal, put_word};
@@ -26,7 +27,7 @@ use word_march::{PortOp, port_ops};
 const OUT: usize = 3;
 
 /// Refuses a test that takes too many cycles.
-#[tactic(auto, unfolding(crate::specs::Shared::FitsLength))]
+#[tactic(auto, using(crate::proofs::SharedFacts::too_long))]
 pub fn fit_length(march: &March, memory: &Memory) -> Result<(), Refusal>
     ensures answer { FitsLength march.now memory.now result }
     ensures own { IfErr result IsOwnRefusal }
@@ -70,21 +71,6 @@ fn put_commands(alloc: Global, march: &March, memory: &Memory) -> Result<Vec<u8>
     Ok(text)
 }
 
-/// The file of the commands.
-fn vectors_output(alloc: Global, bytes: Vec<u8>) -> Result<Vec<Output>, NoMemory>
-    ensures { IfOk result (λ outputs. map written_of outputs.items ≡ (record { position = 3; bytes = bytes.items }) ∷ []) }
-{
-    let mut outputs = Vec::new(alloc);
-    let output = Output {
-        position: OUT,
-        bytes,
-    };
-    match outputs.push(output) {
-        Ok(()) => Ok(outputs),
-        Err(_) => Err(NoMemory),
-    }
-}
-
 /// The line that tells how many commands there are.
 fn count_line(alloc: Global, march: &March, memory: &Memory) -> Result<Vec<u8>, AllocError>
     ensures { IfOk result (λ line. line.items ≡ vectors_line (command_count march.now memory.now)) }
@@ -101,7 +87,7 @@ fn planned(alloc: Global, march: &March, memory: &Memory) -> Result<Plan, NoMemo
     ensures { IfOk result (λ plan. done_of plan ≡ vectors_done march.now memory.now) }
 {
     let text = put_commands(alloc, march, memory)?;
-    let outputs = vectors_output(alloc, text)?;
+    let outputs = one_output(alloc, OUT, text)?;
     match count_line(alloc, march, memory) {
         Ok(line) => Ok(Plan {
             found: false,

@@ -1,12 +1,12 @@
 -- What is known of the checks of a command, put together once for any chain of them: none refuses words that say something, and over told
 -- files two settled outcomes have one value, or one answer and the same settled files.
-use Rattle.std.proofs.Common.{◌≡◌, ◌⊎◌, List, Option, Some, None, Result, Ok, Err, refl, sym, subst, inl, inr}
+use Rattle.std.proofs.Common.{◌≡◌, ◌∙◌, ◌⊎◌, List, Option, Some, None, Result, Ok, Err, refl, sym, ap, subst, inl, inr}
 use Rattle.bist_host.specs.Files.{Files}
 use Rattle.bist_endings.specs.declared.ending.Refusal.{Refusal}
-use Rattle.bist_endings.specs.Then.{Then, OrNoMemory, SaysOwn}
+use Rattle.bist_endings.specs.Then.{Then, OrNoMemory, PassesWhere, SaysOwn}
 use Rattle.bist_endings.specs.Ending.{Done, Written}
 use Rattle.bist_endings.specs.OneOutcome.{HasOneOutcome, HasOneValue, HasOneAnswer, HasOneAnswerButNames, answer_of}
-use Rattle.bist_endings.proofs.OneOutcome.{outcome_value, but_names, then_but_names}
+use Rattle.bist_endings.proofs.OneOutcome.{outcome_value, but_names, then_but_names, then_value}
 
 -- the files are told
 abbrev pub IsTold : Option Files → Type 0
@@ -45,6 +45,16 @@ pub told_settles : {A Says : Type 0} (files : Option Files) (check : Option File
 told_settles None check never one = record { never = λ says. never; one = λ told. absurd told }
 told_settles (Some files) check never one = record { never = λ says. never; one = λ told. one files }
 
+-- a check with one refusal
+pub where_settles : {Says Told : Type 0} (holds : Type 0) (refusal : Refusal) → (Refusal.Usage ≡ refusal → ⊥) → Settles (Unit {0}) Says Told (PassesWhere holds refusal)
+where_settles holds refusal other = outcome_settles (PassesWhere holds refusal) (λ h. other h.1) one
+  where
+    one : HasOneOutcome (PassesWhere holds refusal)
+    one (Ok u) (Ok v) f g r s = refl
+    one (Ok u) (Err e) f g r s = absurd (g.0 f)
+    one (Err e) (Ok v) f g r s = absurd (f.0 g)
+    one (Err e) (Err d) f g r s = ap (λ (x : Refusal). Err x) (f.1 ∙ sym g.1)
+
 same_own : {Own : Type 0} (o p : Own) → o ≡ p → (let x : Result Own Refusal = Ok o in x) ≡ Ok p
 same_own o p same = cc
 
@@ -63,7 +73,7 @@ own_settles {Own} {Told} says one = record { never = λ said refused. refused sa
 
 -- ---- chains
 
-then_never : {A B : Type 0} (first : Result A Refusal → Type 0) (rest : A → Result B Refusal → Type 0) → NeverUsage first
+pub then_never : {A B : Type 0} (first : Result A Refusal → Type 0) (rest : A → Result B Refusal → Type 0) → NeverUsage first
     → ((a : A) → first (Ok a) → NeverUsage (rest a)) → NeverUsage (Then first rest)
 then_never first rest never each (Ok a, f, x) = each a f x
 then_never {A} {B} first rest never each (Err e, f, x) =
@@ -77,6 +87,13 @@ then_files first rest settled one each d e (Ok a, f, x) (Ok b, g, y) =
     each b g d e (subst (λ c. rest c (Ok d)) same x) y
 then_files first rest settled one each d e (Ok a, f, x) (Err t, g, y) = absurd (never_done e t (Ok e) (Err t) refl refl y)
 then_files first rest settled one each d e (Err t, f, x) other = absurd (never_done d t (Ok d) (Err t) refl refl x)
+
+pub then_settles : {A B Says Told : Type 0} (first : Result A Refusal → Type 0) (rest : A → Result B Refusal → Type 0) → Settles A Says Told first
+    → ((a : A) → Settles B Says Told (rest a)) → Settles B Says Told (Then first rest)
+then_settles first rest check each = record {
+  never = λ says. then_never first rest (check.never says) (λ a f. (each a).never says);
+  one = λ told. then_value first rest (check.one told) (λ a f. (each a).one told);
+}
 
 pub then_concludes : {A Says Told Tells : Type 0} {settled : List Written → List Written} (first : Result A Refusal → Type 0) (rest : A → Result Done Refusal → Type 0)
     → Settles A Says Told first → ((a : A) → first (Ok a) → Concludes Says Told Tells settled (rest a)) → Concludes Says Told Tells settled (Then first rest)

@@ -20,9 +20,10 @@ use Rattle.bist_endings.specs.Ending.{tree_fault_text}
 use Rattle.bist_endings.specs.Words.{Words, word}
 use Rattle.bist_endings.specs.OneOutcome.{HasOneOutcome, HasOneValue, SayAlike, TellsLoop}
 use Rattle.bist_endings.proofs.OneOutcome.{outcome_value, then_value}
+use Rattle.bist_endings.proofs.Settling.{IsTold, NeverUsage, Settles, then_never, told_settles}
 use Rattle.bist_inputs.specs.Inputs.{GivesBytes, input_limit}
 use Rattle.bist_inputs.specs.Designs.{CanRun, Breaks, GivesTree, GivesRunnable, GivesModule, InputModule}
-use Rattle.bist_inputs.proofs.OneInput.{bytes_one}
+use Rattle.bist_inputs.proofs.OneInput.{bytes_never, bytes_one}
 
 -- ---- the text
 
@@ -128,11 +129,33 @@ runnable_one mo (Err other) outcome f g r s = absurd f
 module_one : (style : Style) (bytes : List ℕ) → HasOneValue (GivesModule style bytes)
 module_one style bytes = then_value (GivesTree style bytes) GivesRunnable (outcome_value (GivesTree style bytes) (tree_one style bytes)) (λ mo spells. runnable_one mo)
 
-pub input_module_one : (style : Style) (files : Files) (words : Words) (position : ℕ) → HasOneValue (InputModule style (Some files) words position)
+input_module_one : (style : Style) (files : Files) (words : Words) (position : ℕ) → HasOneValue (InputModule style (Some files) words position)
 unfolding InputModule
 input_module_one style files words position =
     then_value (GivesBytes (Some files) (word words position) position) (GivesModule style)
     (outcome_value (GivesBytes (Some files) (word words position) position) (bytes_one files (word words position) position)) (λ bytes read. module_one style bytes)
+
+-- ---- the words are never refused
+
+tree_never : (style : Style) (bytes : List ℕ) → NeverUsage (GivesTree style bytes)
+unfolding GivesTree
+tree_never style bytes h = h
+
+runnable_never : (mo : ModuleTree) → NeverUsage (GivesRunnable mo)
+unfolding GivesRunnable
+runnable_never mo h = h
+
+input_module_never : (style : Style) (files : Option Files) (words : Words) (position : ℕ) → NeverUsage (InputModule style files words position)
+unfolding InputModule
+input_module_never style files words position =
+    then_never (GivesBytes files (word words position) position) (GivesModule style) (bytes_never files (word words position) position) (λ bytes read.
+    then_never (GivesTree style bytes) GivesRunnable (tree_never style bytes) (λ mo spells. runnable_never mo))
+
+pub module_settles : {Says : Type 0} (style : Style) (files : Option Files) (words : Words) (position : ℕ) → Settles ModuleTree Says (IsTold files) (InputModule style files words position)
+module_settles style files words position =
+    told_settles files (λ f. InputModule style f words position) (input_module_never style files words position) (λ f. input_module_one style f words position)
+
+-- ---- what is known of the module
 
 -- a module that is given can be run
 never_ok : {A : Type 0} (a : A) (e : Refusal) (r s : Result A Refusal) → r ≡ Ok a → s ≡ Err e → r ≡ s → ⊥

@@ -15,7 +15,7 @@ use Rattle.bist_endings.specs.Words.{Words}
 use Rattle.bist_endings.specs.declared.ending.DeviceRefusal.{DeviceRefusal}
 use Rattle.bist_endings.specs.declared.ending.Refusal.{Refusal}
 use Rattle.bist_host.specs.Files.{Files}
-use Rattle.bist_inputs.proofs.Settled.{march_settles, memory_settles}
+use Rattle.bist_inputs.proofs.OneInput.{march_settles, memory_settles}
 use Rattle.bist_inputs.specs.Inputs.{InputMarch}
 use Rattle.bist_inputs.specs.Memories.{InputMemory}
 use Rattle.march_core.specs.March.{MarchElement}
@@ -71,15 +71,14 @@ leaves march d boxes =
     (f.done_is ∙ ap (λ (seen : List (Option Seen)). all_done (length boxes) (failing_of seen)) (all_seen_one march d boxes f.seen g.seen tells f.are_seen g.are_seen) ∙ sym g.done_is))
     (λ told x y f g. ap (λ (z : Done). z.outputs) f.done_is ∙ sym (ap (λ (z : Done). z.outputs) g.done_is))
 
-concludes : {Says : Type 0} (files : Option Files) (boxes : Boxes) (words : Words)
-    → Concludes Says (IsTold files) (AllTell boxes) (λ outputs. outputs) (SomeLeft (λ left. DecidesBenchAll files boxes left words))
-concludes files boxes words =
-    before_conclude boxes (InputMarch files words 1) _ (march_settles files words 1) (λ march _.
-    before_conclude boxes (InputMemory files words 2) _ (memory_settles files words 2) (λ d _.
-    before_conclude boxes (FitsLength march d) _ (length_settles march d) (λ _ _.
-    before_conclude boxes (HasBox boxes) _ (box_settles boxes) (λ _ _.
-    before_conclude boxes (FitsRooms d boxes) _ (outcome_settles (FitsRooms d boxes) (rooms_never d boxes) (rooms_one d boxes)) (λ _ _.
-    with_left (LeavesAll march d boxes) (LeavesNone boxes) (leaves march d boxes))))))
-
 pub bench_all_facts : Facts bench_all_row
-bench_all_facts = record { concludes = concludes; said = λ files boxes left words r h. inr tt }
+bench_all_facts = record {
+  concludes = λ files boxes words.
+      before_conclude boxes (InputMarch files words 1) _ (march_settles files words 1) (λ march _.
+      before_conclude boxes (InputMemory files words 2) _ (memory_settles files words 2) (λ d _.
+      before_conclude boxes (FitsLength march d) _ (length_settles march d) (λ _ _.
+      before_conclude boxes (HasBox boxes) _ (box_settles boxes) (λ _ _.
+      before_conclude boxes (FitsRooms d boxes) _ (outcome_settles (FitsRooms d boxes) (rooms_never d boxes) (rooms_one d boxes)) (λ _ _.
+      with_left (LeavesAll march d boxes) (LeavesNone boxes) (leaves march d boxes))))));
+  said = λ files boxes left words r h. inr tt;
+}

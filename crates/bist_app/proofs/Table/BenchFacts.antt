@@ -13,7 +13,7 @@ use Rattle.bist_endings.specs.OneOutcome.{Answer, answer_of}
 use Rattle.bist_endings.specs.Then.{OrNoMemory}
 use Rattle.bist_endings.specs.Words.{Words}
 use Rattle.bist_host.specs.Files.{Files}
-use Rattle.bist_inputs.proofs.Settled.{march_settles, memory_settles}
+use Rattle.bist_inputs.proofs.OneInput.{march_settles, memory_settles}
 use Rattle.bist_inputs.specs.Inputs.{InputMarch}
 use Rattle.bist_inputs.specs.Memories.{InputMemory}
 use Rattle.march_core.specs.March.{MarchElement}
@@ -75,15 +75,14 @@ leaves march d (box ∷ boxes) =
     narrows (OrNoMemory (IsSoundBenched march d box.tells)) (LeavesBench march d (box ∷ boxes)) (λ r h. h)
     (leaves_conclude (IsSoundBenched march d box.tells) (λ told tells x y f g. benched_one march d None box.tells x y tells f.benched g.benched) (λ told x y f g. f.benched.outputs ∙ sym g.benched.outputs))
 
-concludes : {Says : Type 0} (files : Option Files) (boxes : Boxes) (words : Words)
-    → Concludes Says (IsTold files) (FirstTells boxes) (λ outputs. outputs) (SomeLeft (λ left. DecidesBench files boxes left words))
-concludes files boxes words =
-    before_conclude boxes (InputMarch files words 1) _ (march_settles files words 1) (λ march _.
-    before_conclude boxes (InputMemory files words 2) _ (memory_settles files words 2) (λ d _.
-    before_conclude boxes (FitsLength march d) _ (length_settles march d) (λ _ _.
-    before_conclude boxes (HasBox boxes) _ (box_settles boxes) (λ _ _.
-    before_conclude boxes (FitsRoom d boxes) _ (room_settles d boxes) (λ _ _.
-    with_left (LeavesBench march d boxes) (LeavesFirst boxes) (leaves march d boxes))))))
-
 pub bench_facts : Facts bench_row
-bench_facts = record { concludes = concludes; said = λ files boxes left words r h. inr tt }
+bench_facts = record {
+  concludes = λ files boxes words.
+      before_conclude boxes (InputMarch files words 1) _ (march_settles files words 1) (λ march _.
+      before_conclude boxes (InputMemory files words 2) _ (memory_settles files words 2) (λ d _.
+      before_conclude boxes (FitsLength march d) _ (length_settles march d) (λ _ _.
+      before_conclude boxes (HasBox boxes) _ (box_settles boxes) (λ _ _.
+      before_conclude boxes (FitsRoom d boxes) _ (room_settles d boxes) (λ _ _.
+      with_left (LeavesBench march d boxes) (LeavesFirst boxes) (leaves march d boxes))))));
+  said = λ files boxes left words r h. inr tt;
+}

@@ -4,17 +4,16 @@ use Rattle.bist_app.proofs.Table.BenchFacts.{benched_one}
 use Rattle.bist_app.proofs.Facts.{Facts, SomeLeft, before_conclude, before_said, with_left}
 use Rattle.bist_app.proofs.PlaceWords.{aggressor_place_one, place_one}
 use Rattle.bist_app.proofs.SharedFacts.{aggressor_settles, box_settles, length_settles, room_settles}
-use Rattle.bist_app.specs.BenchFault.{DecidesFault, FitsPlaces, IsFaultBenched, IsFaultShape, LeavesFault, RunsFault, bench_fault_row, planted_of}
+use Rattle.bist_app.specs.BenchFault.{ArePlaces, DecidesFault, FitsPlaces, IsFaultBenched, IsFaultShape, LeavesFault, RunsFault, bench_fault_row, planted_of}
 use Rattle.bist_app.specs.Shared.{Boxes, FirstTells, FitsAggressor, FitsLength, FitsRoom, HasBox, LeavesFirst}
 use Rattle.bist_app.specs.declared.benchfault_command.FaultShape.{FaultShape}
-use Rattle.bist_endings.proofs.Settling.{Concludes, IsTold, NeverUsage, leaves_conclude, narrows, none_conclude, outcome_settles, own_settles}
-use Rattle.bist_endings.specs.OneOutcome.{HasOneOutcome}
+use Rattle.bist_endings.proofs.Settling.{Concludes, IsTold, leaves_conclude, narrows, none_conclude, own_settles, where_settles}
 use Rattle.bist_endings.specs.Then.{OrNoMemory, SaysOwn}
 use Rattle.bist_endings.specs.Words.{Words, word}
 use Rattle.bist_endings.specs.declared.ending.DeviceRefusal.{DeviceRefusal}
 use Rattle.bist_endings.specs.declared.ending.Refusal.{Refusal}
 use Rattle.bist_host.specs.Files.{Files}
-use Rattle.bist_inputs.proofs.Settled.{march_settles, memory_settles, prim_settles}
+use Rattle.bist_inputs.proofs.OneInput.{march_settles, memory_settles, prim_settles}
 use Rattle.bist_inputs.specs.Inputs.{GivesPrim, InputMarch}
 use Rattle.bist_inputs.specs.Memories.{InputMemory}
 use Rattle.march_core.specs.March.{MarchElement}
@@ -26,20 +25,6 @@ fault_shape_one words s t h i =
     let aggressor = aggressor_place_one (word words 4) s.aggressor t.aggressor h.aggressor i.aggressor in
     let victim = place_one (word words 5) s.victim t.victim h.victim i.victim in
     λ j. record { aggressor = aggressor j; victim = victim j }
-
-places_never : (d : Description) (shape : FaultShape) → NeverUsage (FitsPlaces d shape)
-unfolding FitsPlaces
-places_never d shape h = h
-
-places_one : (d : Description) (shape : FaultShape) → HasOneOutcome (FitsPlaces d shape)
-unfolding FitsPlaces
-places_one d shape (Ok u) (Ok v) f g rs ss = refl
-places_one d shape (Ok u) (Err (Refusal.Device DeviceRefusal.BadPlace)) f g rs ss = absurd (g f)
-places_one d shape (Ok u) (Err other) f g rs ss = absurd g
-places_one d shape (Err (Refusal.Device DeviceRefusal.BadPlace)) (Ok v) f g rs ss = absurd (f g)
-places_one d shape (Err (Refusal.Device DeviceRefusal.BadPlace)) (Err (Refusal.Device DeviceRefusal.BadPlace)) f g rs ss = refl
-places_one d shape (Err (Refusal.Device DeviceRefusal.BadPlace)) (Err other) f g rs ss = absurd g
-places_one d shape (Err other) s f g rs ss = absurd f
 
 leaves : {Says Told : Type 0} (march : List MarchElement) (d : Description) (planted : Planted) (boxes : Boxes) → Concludes Says Told (FirstTells boxes) (λ outputs. outputs) (LeavesFault march d planted boxes)
 unfolding LeavesFault
@@ -58,7 +43,7 @@ concludes files boxes words =
     before_conclude boxes (FitsAggressor (is_some shape.aggressor) prim) _ (aggressor_settles (is_some shape.aggressor) prim) (λ _ _.
     before_conclude boxes (FitsLength march d) _ (length_settles march d) (λ _ _.
     before_conclude boxes (HasBox boxes) _ (box_settles boxes) (λ _ _.
-    before_conclude boxes (FitsPlaces d shape) _ (outcome_settles (FitsPlaces d shape) (places_never d shape) (places_one d shape)) (λ _ _.
+    before_conclude boxes (FitsPlaces d shape) _ (where_settles (ArePlaces d shape) (Refusal.Device DeviceRefusal.BadPlace) (λ is. cc)) (λ _ _.
     before_conclude boxes (FitsRoom d boxes) _ (room_settles d boxes) (λ _ _.
     with_left (LeavesFault march d (planted_of prim shape) boxes) (LeavesFirst boxes) (leaves march d (planted_of prim shape) boxes))))))))))
 

@@ -17,8 +17,8 @@ use Rattle.bist_endings.specs.OneOutcome.{Answer, answer_of}
 use Rattle.bist_endings.specs.Then.{OrNoMemory}
 use Rattle.bist_endings.specs.Words.{Words}
 use Rattle.bist_host.specs.Files.{Files}
-use Rattle.bist_inputs.proofs.OneDesign.{input_can_run}
-use Rattle.bist_inputs.proofs.Settled.{march_settles, memory_settles, module_settles}
+use Rattle.bist_inputs.proofs.OneDesign.{input_can_run, module_settles}
+use Rattle.bist_inputs.proofs.OneInput.{march_settles, memory_settles}
 use Rattle.bist_inputs.specs.Designs.{CanRun, InputModule}
 use Rattle.bist_inputs.specs.Inputs.{InputMarch}
 use Rattle.bist_inputs.specs.Memories.{InputMemory}
@@ -33,7 +33,7 @@ use Rattle.word_device.specs.Joint.{returned_word}
 use Rattle.word_march.specs.Commands.{span}
 
 -- a box that tells does so when it is ready
-ready_tells : (d : Description) (tells : Tells) → tells ≢ TellsNothing → ready d tells ≢ TellsNothing
+ready_tells : (d : Description) (tells : Tells) → tells ≢ TellsNothing → ready d None tells ≢ TellsNothing
 ready_tells d (TellsChip c) n = λ e. cc
 ready_tells d (TellsScript s) n = λ e. cc
 ready_tells d TellsNothing n = n
@@ -59,21 +59,20 @@ leaves : {Says Told : Type 0} (mo : ModuleTree) (march : List MarchElement) (d :
 unfolding LeavesBenchFile
 leaves mo march d [] can ports = none_conclude (LeavesBenchFile mo march d []) (λ r h. h)
 leaves mo march d (box ∷ boxes) can ports =
-    narrows (OrNoMemory (IsFileRun mo march d (ready d box.tells))) (LeavesBenchFile mo march d (box ∷ boxes)) (λ r h. h)
-    (leaves_conclude (IsFileRun mo march d (ready d box.tells)) (λ told tells x y f g. run_one mo march d (ready d box.tells) x y can ports (ready_tells d box.tells tells) f g) (λ told x y f g. ap (λ (z : Done). z.outputs) f.done_is ∙ sym (ap (λ (z : Done). z.outputs) g.done_is)))
-
-concludes : {Says : Type 0} (files : Option Files) (boxes : Boxes) (words : Words)
-    → Concludes Says (IsTold files) (FirstTells boxes) (λ outputs. outputs) (SomeLeft (λ left. DecidesBenchFile files boxes left words))
-concludes files boxes words =
-    before_conclude boxes (InputModule Parenthesised files words 1) _ (module_settles Parenthesised files words 1) (λ mo given.
-    before_conclude boxes (InputMarch files words 2) _ (march_settles files words 2) (λ march _.
-    before_conclude boxes (InputMemory files words 3) _ (memory_settles files words 3) (λ d _.
-    before_conclude boxes (FitsLength march d) _ (length_settles march d) (λ _ _.
-    before_conclude boxes (HasPorts d mo) _ (ports_settles d mo) (λ u ports.
-    before_conclude boxes (HasBox boxes) _ (box_settles boxes) (λ _ _.
-    before_conclude boxes (FitsRoom d boxes) _ (room_settles d boxes) (λ _ _.
-    with_left (LeavesBenchFile mo march d boxes) (LeavesFirst boxes)
-    (leaves mo march d boxes (input_can_run Parenthesised files words 1 mo given) (none_wrong d mo u ports)))))))))
+    narrows (OrNoMemory (IsFileRun mo march d (ready d None box.tells))) (LeavesBenchFile mo march d (box ∷ boxes)) (λ r h. h)
+    (leaves_conclude (IsFileRun mo march d (ready d None box.tells)) (λ told tells x y f g. run_one mo march d (ready d None box.tells) x y can ports (ready_tells d box.tells tells) f g) (λ told x y f g. ap (λ (z : Done). z.outputs) f.done_is ∙ sym (ap (λ (z : Done). z.outputs) g.done_is)))
 
 pub bench_file_facts : Facts bench_file_row
-bench_file_facts = record { concludes = concludes; said = λ files boxes left words r h. inr tt }
+bench_file_facts = record {
+  concludes = λ files boxes words.
+      before_conclude boxes (InputModule Parenthesised files words 1) _ (module_settles Parenthesised files words 1) (λ mo given.
+      before_conclude boxes (InputMarch files words 2) _ (march_settles files words 2) (λ march _.
+      before_conclude boxes (InputMemory files words 3) _ (memory_settles files words 3) (λ d _.
+      before_conclude boxes (FitsLength march d) _ (length_settles march d) (λ _ _.
+      before_conclude boxes (HasPorts d mo) _ (ports_settles d mo) (λ u ports.
+      before_conclude boxes (HasBox boxes) _ (box_settles boxes) (λ _ _.
+      before_conclude boxes (FitsRoom d boxes) _ (room_settles d boxes) (λ _ _.
+      with_left (LeavesBenchFile mo march d boxes) (LeavesFirst boxes)
+      (leaves mo march d boxes (input_can_run Parenthesised files words 1 mo given) (none_wrong d mo u ports)))))))));
+  said = λ files boxes left words r h. inr tt;
+}

@@ -9,8 +9,8 @@ use Rattle.bist_endings.specs.Ending.{Done}
 use Rattle.bist_endings.specs.OneOutcome.{answer_of}
 use Rattle.bist_endings.specs.Words.{Words}
 use Rattle.bist_host.specs.Files.{Files}
-use Rattle.bist_inputs.proofs.OneDesign.{input_can_run}
-use Rattle.bist_inputs.proofs.Settled.{march_settles, memory_settles, module_settles}
+use Rattle.bist_inputs.proofs.OneDesign.{input_can_run, module_settles}
+use Rattle.bist_inputs.proofs.OneInput.{march_settles, memory_settles}
 use Rattle.bist_inputs.specs.Designs.{CanRun, InputModule}
 use Rattle.bist_inputs.specs.Inputs.{InputMarch}
 use Rattle.bist_inputs.specs.Memories.{InputMemory}
@@ -53,17 +53,14 @@ leaves mo march d can =
     leaves_conclude (IsChecked mo march d) (λ told tells x y f g. checked_one mo march d x y can f g)
     (λ told x y f g. ap (λ (z : Done). z.outputs) f.done_is ∙ sym (ap (λ (z : Done). z.outputs) g.done_is))
 
-concludes : {Says : Type 0} (files : Option Files) (words : Words) → Concludes Says (IsTold files) (Unit {0}) (λ outputs. outputs) (DecidesCheck files words)
-concludes files words =
-    then_concludes (InputModule ByPrecedence files words 1) _ (module_settles ByPrecedence files words 1) (λ mo given.
-    then_concludes (InputMarch files words 2) _ (march_settles files words 2) (λ march _.
-    then_concludes (InputMemory files words 3) _ (memory_settles files words 3) (λ d _.
-    then_concludes (FitsLength march d) _ (length_settles march d) (λ _ _.
-    then_concludes (HasPorts d mo) _ (ports_settles d mo) (λ _ _.
-    leaves mo march d (input_can_run ByPrecedence files words 1 mo given))))))
-
 pub check_facts : Facts check_row
 check_facts = record {
-  concludes = λ files boxes words. with_left (DecidesCheck files words) (λ left _. left ≡ boxes) (concludes files words);
+  concludes = λ files boxes words. with_left (DecidesCheck files words) (λ left _. left ≡ boxes)
+      (then_concludes (InputModule ByPrecedence files words 1) _ (module_settles ByPrecedence files words 1) (λ mo given.
+      then_concludes (InputMarch files words 2) _ (march_settles files words 2) (λ march _.
+      then_concludes (InputMemory files words 3) _ (memory_settles files words 3) (λ d _.
+      then_concludes (FitsLength march d) _ (length_settles march d) (λ _ _.
+      then_concludes (HasPorts d mo) _ (ports_settles d mo) (λ _ _.
+      leaves mo march d (input_can_run ByPrecedence files words 1 mo given)))))));
   said = λ files boxes left words r h. inr tt;
 }

@@ -7,7 +7,7 @@ use Rattle.bist_endings.proofs.Settling.{Concludes, IsTold, leaves_conclude, the
 use Rattle.bist_endings.specs.Ending.{Done, Written}
 use Rattle.bist_endings.specs.Words.{Words}
 use Rattle.bist_host.specs.Files.{Files}
-use Rattle.bist_inputs.proofs.Settled.{list_settles, march_settles, memory_settles}
+use Rattle.bist_inputs.proofs.OneInput.{list_settles, march_settles, memory_settles}
 use Rattle.bist_inputs.specs.Inputs.{InputList, InputMarch}
 use Rattle.bist_inputs.specs.Memories.{InputMemory}
 use Rattle.dynamic_core.specs.declared.item.Item.{Item}
@@ -21,21 +21,14 @@ files_one march m items d e f g =
     ∙ ap (λ b. (let w : List Written = (record { position = 5; bytes = b }) ∷ [] in w)) (text_one march (Some m) items f.bytes g.bytes f.reports.report g.reports.report)
     ∙ sym (ap (drop 1) g.outputs)
 
-leaves : {Says Told : Type 0} (march : List MarchElement) (m : Description) (items : List Item) → Concludes Says Told (Unit {0}) (λ outputs. drop 1 outputs) (LeavesCompile march m items)
-unfolding LeavesCompile
-leaves march m items =
-    leaves_conclude (IsCompiled march m items) (λ told tells d e f g. reports_one march _ items d.found e.found f.bytes g.bytes d.line e.line f.reports g.reports)
-    (λ told. files_one march m items)
-
-concludes : {Says : Type 0} (files : Option Files) (words : Words) → Concludes Says (IsTold files) (Unit {0}) (λ outputs. drop 1 outputs) (DecidesCompile files words)
-concludes files words =
-    then_concludes (InputMarch files words 1) _ (march_settles files words 1) (λ march _.
-    then_concludes (InputMemory files words 2) _ (memory_settles files words 2) (λ m _.
-    then_concludes (InputList files words 3) _ (list_settles files words 3) (λ items _.
-    leaves march m items)))
-
 pub compile_facts : Facts compile_row
+unfolding LeavesCompile
 compile_facts = record {
-  concludes = λ files boxes words. with_left (DecidesCompile files words) (λ left _. left ≡ boxes) (concludes files words);
+  concludes = λ files boxes words. with_left (DecidesCompile files words) (λ left _. left ≡ boxes)
+      (then_concludes (InputMarch files words 1) _ (march_settles files words 1) (λ march _.
+      then_concludes (InputMemory files words 2) _ (memory_settles files words 2) (λ m _.
+      then_concludes (InputList files words 3) _ (list_settles files words 3) (λ items _.
+      leaves_conclude (IsCompiled march m items) (λ told tells d e f g. reports_one march _ items d.found e.found f.bytes g.bytes d.line e.line f.reports g.reports)
+      (λ told. files_one march m items)))));
   said = λ files boxes left words r h. inr tt;
 }

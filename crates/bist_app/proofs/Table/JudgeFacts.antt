@@ -7,7 +7,7 @@ use Rattle.bist_endings.proofs.Settling.{Concludes, IsTold, leaves_conclude, the
 use Rattle.bist_endings.specs.Ending.{Done, Written}
 use Rattle.bist_endings.specs.Words.{Words}
 use Rattle.bist_host.specs.Files.{Files}
-use Rattle.bist_inputs.proofs.Settled.{list_settles, march_settles}
+use Rattle.bist_inputs.proofs.OneInput.{list_settles, march_settles}
 use Rattle.bist_inputs.specs.Inputs.{InputList, InputMarch}
 use Rattle.dynamic_core.specs.declared.item.Item.{Item}
 use Rattle.march_core.specs.March.{MarchElement}
@@ -17,20 +17,13 @@ files_one : (march : List MarchElement) (items : List Item) (d e : Done) → IsJ
 files_one march items d e f g =
     f.outputs ∙ ap (λ b. (let w : List Written = (record { position = 3; bytes = b }) ∷ [] in w)) (text_one march None items f.bytes g.bytes f.reports.report g.reports.report) ∙ sym g.outputs
 
-leaves : {Says Told : Type 0} (march : List MarchElement) (items : List Item) → Concludes Says Told (Unit {0}) (λ outputs. outputs) (LeavesJudge march items)
-unfolding LeavesJudge
-leaves march items =
-    leaves_conclude (IsJudged march items) (λ told tells d e f g. reports_one march _ items d.found e.found f.bytes g.bytes d.line e.line f.reports g.reports)
-    (λ told. files_one march items)
-
-concludes : {Says : Type 0} (files : Option Files) (words : Words) → Concludes Says (IsTold files) (Unit {0}) (λ outputs. outputs) (DecidesJudge files words)
-concludes files words =
-    then_concludes (InputMarch files words 1) _ (march_settles files words 1) (λ march _.
-    then_concludes (InputList files words 2) _ (list_settles files words 2) (λ items _.
-    leaves march items))
-
 pub judge_facts : Facts judge_row
+unfolding LeavesJudge
 judge_facts = record {
-  concludes = λ files boxes words. with_left (DecidesJudge files words) (λ left _. left ≡ boxes) (concludes files words);
+  concludes = λ files boxes words. with_left (DecidesJudge files words) (λ left _. left ≡ boxes)
+      (then_concludes (InputMarch files words 1) _ (march_settles files words 1) (λ march _.
+      then_concludes (InputList files words 2) _ (list_settles files words 2) (λ items _.
+      leaves_conclude (IsJudged march items) (λ told tells d e f g. reports_one march _ items d.found e.found f.bytes g.bytes d.line e.line f.reports g.reports)
+      (λ told. files_one march items))));
   said = λ files boxes left words r h. inr tt;
 }

@@ -1,5 +1,5 @@
 -- What is known of `sim`.
-use Rattle.std.proofs.Common.{ℕ, Bool, Err, List, None, Ok, Option, Some, ap, is_some, length, refl, sym, ◌∙◌, ◌≡◌}
+use Rattle.std.proofs.Common.{ℕ, Bool, Err, IsTrue, List, None, Ok, Option, Some, ap, is_some, length, refl, sym, ◌∙◌, ◌≡◌}
 use Rattle.array_sim.proofs.Differing.{one_first}
 use Rattle.array_sim.specs.Differing.{after_step, is_wrong_at}
 use Rattle.bist_app.proofs.Facts.{Facts, with_left}
@@ -8,21 +8,21 @@ use Rattle.bist_app.proofs.SharedFacts.{aggressor_settles}
 use Rattle.bist_app.specs.Shared.{FitsAggressor}
 use Rattle.bist_app.specs.Sim.{DecidesSim, FirstDiffers, FitsDirections, IsAggressorWord, IsSimShape, IsSimulated, LeavesSim, RunsSim, content_of, directions_of_letters, places_of, sim_done, sim_row}
 use Rattle.bist_app.specs.declared.sim.SimShape.{SimShape}
-use Rattle.bist_endings.proofs.Settling.{Concludes, IsTold, NeverUsage, leaves_conclude, outcome_settles, own_said, own_settles, then_concludes}
+use Rattle.bist_endings.proofs.Settling.{Concludes, IsTold, leaves_conclude, own_said, own_settles, then_concludes, where_settles}
 use Rattle.bist_endings.specs.Ending.{Done}
-use Rattle.bist_endings.specs.OneOutcome.{HasOneOutcome, answer_of}
+use Rattle.bist_endings.specs.OneOutcome.{answer_of}
 use Rattle.bist_endings.specs.Then.{SaysOwn}
 use Rattle.bist_endings.specs.Words.{Words, word}
 use Rattle.bist_endings.specs.declared.ending.Misfit.{Misfit}
 use Rattle.bist_endings.specs.declared.ending.Refusal.{Refusal}
 use Rattle.bist_host.specs.Files.{Files}
-use Rattle.bist_inputs.proofs.Settled.{march_settles, prim_settles}
+use Rattle.bist_inputs.proofs.OneInput.{march_settles, prim_settles}
 use Rattle.bist_inputs.specs.Inputs.{GivesPrim, InputMarch}
 use Rattle.fault_core.specs.Cells.{close_of}
 use Rattle.fault_core.specs.Primitive.{Primitive}
 use Rattle.fault_core.specs.declared.cells.Places.{Places}
 use Rattle.march_core.specs.March.{MarchElement}
-use Rattle.march_core.specs.Visits.{Direction, visits}
+use Rattle.march_core.specs.Visits.{Direction, is_direction, visits}
 use Rattle.march_core.specs.declared.visit.Miss.{Miss}
 
 aggressor_one : (text : List ℕ) (size size' victim victim' : ℕ) (c d : Option ℕ) → IsAggressorWord text size victim c → IsAggressorWord text size' victim' d → c ≡ d
@@ -37,20 +37,6 @@ shape_one words s t h i =
     let victim = number_one (word words 6) s.victim t.victim h.victim i.victim in
     let aggressor = aggressor_one (word words 5) s.size t.size s.victim t.victim s.aggressor t.aggressor h.aggressor i.aggressor in
     λ j. record { size = size j; aggressor = aggressor j; victim = victim j }
-
-directions_never : (letters : List ℕ) (march : List MarchElement) → NeverUsage (FitsDirections letters march)
-unfolding FitsDirections
-directions_never letters march h = h
-
-directions_one : (letters : List ℕ) (march : List MarchElement) → HasOneOutcome (FitsDirections letters march)
-unfolding FitsDirections
-directions_one letters march (Ok u) (Ok v) f g r s = refl
-directions_one letters march (Ok u) (Err (Refusal.Misfit Misfit.Directions)) f g r s = absurd (g f)
-directions_one letters march (Ok u) (Err other) f g r s = absurd g
-directions_one letters march (Err (Refusal.Misfit Misfit.Directions)) (Ok v) f g r s = absurd (f g)
-directions_one letters march (Err (Refusal.Misfit Misfit.Directions)) (Err (Refusal.Misfit Misfit.Directions)) f g r s = refl
-directions_one letters march (Err (Refusal.Misfit Misfit.Directions)) (Err other) f g r s = absurd g
-directions_one letters march (Err other) outcome f g r s = absurd f
 
 one_read : (march : List MarchElement) (ds : List Direction) (prim : Primitive) (at : Places) (content : List Bool) (m k : Option Miss)
     → FirstDiffers march ds prim at content m → FirstDiffers march ds prim at content k → m ≡ k
@@ -79,7 +65,7 @@ concludes files words =
     then_concludes (GivesPrim (word words 2)) _ (prim_settles (word words 2)) (λ prim _.
     then_concludes (FitsAggressor (is_some shape.aggressor) prim) _ (aggressor_settles (is_some shape.aggressor) prim) (λ _ _.
     then_concludes (FitsDirections (word words 7) march) _
-    (outcome_settles (FitsDirections (word words 7) march) (directions_never (word words 7) march) (directions_one (word words 7) march)) (λ _ _.
+    (where_settles (IsTrue (is_direction march (directions_of_letters (word words 7)))) (Refusal.Misfit Misfit.Directions) (λ is. cc)) (λ _ _.
     leaves march prim (places_of shape) (word words 4) (word words 7))))))
 
 pub sim_facts : Facts sim_row

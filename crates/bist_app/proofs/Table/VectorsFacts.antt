@@ -9,30 +9,20 @@ use Rattle.bist_endings.specs.Ending.{Done}
 use Rattle.bist_endings.specs.OneOutcome.{answer_of}
 use Rattle.bist_endings.specs.Words.{Words}
 use Rattle.bist_host.specs.Files.{Files}
-use Rattle.bist_inputs.proofs.Settled.{march_settles, memory_settles}
+use Rattle.bist_inputs.proofs.OneInput.{march_settles, memory_settles}
 use Rattle.bist_inputs.specs.Inputs.{InputMarch}
 use Rattle.bist_inputs.specs.Memories.{InputMemory}
 use Rattle.march_core.specs.March.{MarchElement}
 use Rattle.memory_desc.specs.Descriptions.{Description}
 
-same_line : (march : List MarchElement) (m : Description) (d e : Done) → d ≡ vectors_done march m → e ≡ vectors_done march m → d ≡ e
-same_line march m d e f g = f ∙ sym g
-
-leaves : {Says Told : Type 0} (march : List MarchElement) (d : Description) → Concludes Says Told (Unit {0}) (λ outputs. outputs) (LeavesVectors march d)
-unfolding LeavesVectors
-leaves march d =
-    leaves_conclude (λ done. done ≡ vectors_done march d) (λ told tells x y f g. ap (λ (done : Done). answer_of (Ok done)) (same_line march d x y f g))
-    (λ told x y f g. ap (λ (done : Done). done.outputs) (same_line march d x y f g))
-
-concludes : {Says : Type 0} (files : Option Files) (words : Words) → Concludes Says (IsTold files) (Unit {0}) (λ outputs. outputs) (DecidesVectors files words)
-concludes files words =
-    then_concludes (InputMarch files words 1) _ (march_settles files words 1) (λ march _.
-    then_concludes (InputMemory files words 2) _ (memory_settles files words 2) (λ d _.
-    then_concludes (FitsLength march d) _ (length_settles march d) (λ _ _.
-    leaves march d)))
-
 pub vectors_facts : Facts vectors_row
+unfolding LeavesVectors
 vectors_facts = record {
-  concludes = λ files boxes words. with_left (DecidesVectors files words) (λ left _. left ≡ boxes) (concludes files words);
+  concludes = λ files boxes words. with_left (DecidesVectors files words) (λ left _. left ≡ boxes)
+      (then_concludes (InputMarch files words 1) _ (march_settles files words 1) (λ march _.
+      then_concludes (InputMemory files words 2) _ (memory_settles files words 2) (λ d _.
+      then_concludes (FitsLength march d) _ (length_settles march d) (λ _ _.
+      leaves_conclude (λ done. done ≡ vectors_done march d) (λ told tells x y f g. ap (λ (done : Done). answer_of (Ok done)) (f ∙ sym g))
+      (λ told x y f g. ap (λ (done : Done). done.outputs) (f ∙ sym g))))));
   said = λ files boxes left words r h. inr tt;
 }

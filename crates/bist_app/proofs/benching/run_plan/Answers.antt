@@ -1,7 +1,13 @@
-use Rattle.std.proofs.lemmas.Bool.{false≢true}
-use Rattle.self_test.proofs.Wrong.{test_ports}
+use Rattle.bist_app.proofs.Benched.{plan_is}
+use Rattle.bist_app.proofs.BenchedFile.{words_low}
 use Rattle.bist_app.proofs.benching.run_plan.Goals as goal
 
-pub unreachable-requires : goal.unreachable-requires
-unreachable-requires g c =
-    false≢true (c.in-Err.ensures.ran (c.requires.short, test_ports c.args.design.now.tree c.args.march.now c.args.memory.now c.requires.test))
+pub end_plan-requires-clause-fits : goal.end_plan-requires-clause-fits
+end_plan-requires-clause-fits g c =
+    words_low c.bits-bits.result c.args.design.now.tree c.args.march.now c.args.memory.now _ _ c.run_design-end.result c.bits-bits.ensures.value c.bits-bits.ensures.memory
+    c.requires.ports c.run_design-end.ensures.runs
+
+pub returns-clause-run : goal.returns-clause-run
+returns-clause-run g c =
+    plan_is c.args.design.now.tree c.args.march.now c.args.memory.now _ _ c.run_design-end.result c.bits-bits.result c.end_plan.result c.requires.zero c.run_design-end.ensures.runs
+    c.run_design-end.ensures.test c.bits-bits.ensures.value c.end_plan.ensures

@@ -17,72 +17,51 @@ told march prim places places' digits digits' letters letters' outcome p d l h =
     (subst (λ b. LeavesSim march prim places' b letters outcome) d (subst (λ q. LeavesSim march prim q digits letters outcome) p h))
 
 pub returns-in_err-march-clause-answer : goal.returns-in_err-march-clause-answer
-returns-in_err-march-clause-answer g c = (
-  Err c.in_err-march.field-0.0,
-  c.in_err-march.ensures.answer,
-  passed_on c.from_residual.result c.in_err-march.field-0.0 c.from_residual.ensures,
-)
+returns-in_err-march-clause-answer g c = (Err c.in_err-march.field-0.0, c.in_err-march.ensures.answer, passed_on _ _ c.from_residual.ensures)
 
 pub returns-in_err-prim-clause-answer : goal.returns-in_err-prim-clause-answer
-returns-in_err-prim-clause-answer g c = (
-  Ok c.in_ok-march.march,
-  c.in_ok-march.ensures.answer,
-  (
-    Err c.in_err-prim.field-0.0,
-    c.in_err-prim.ensures.answer,
-    passed_on c.from_residual-in_err-prim.result c.in_err-prim.field-0.0 c.from_residual-in_err-prim.ensures,
-  ),
-)
+returns-in_err-prim-clause-answer g c =
+    (Ok c.in_ok-march.march, c.in_ok-march.ensures.answer, (Err c.in_err-prim.field-0.0, c.in_err-prim.ensures.answer, passed_on _ _ c.from_residual-in_err-prim.ensures))
 
 pub returns-in_err-fit_aggressor-clause-answer : goal.returns-in_err-fit_aggressor-clause-answer
-returns-in_err-fit_aggressor-clause-answer g c = (
-  Ok c.in_ok-march.march,
-  c.in_ok-march.ensures.answer,
-  (
-    Ok c.in_ok-prim.prim,
-    c.in_ok-prim.ensures.answer,
-    (
-      Err c.in_err-fit_aggressor.field-0.0,
-      subst (λ b. FitsAggressor b c.in_ok-prim.prim (Err c.in_err-fit_aggressor.field-0.0)) c.is_some.ensures c.in_err-fit_aggressor.ensures.answer,
-      passed_on c.from_residual-in_err-fit_aggressor.result c.in_err-fit_aggressor.field-0.0 c.from_residual-in_err-fit_aggressor.ensures,
-    ),
-  ),
-)
+returns-in_err-fit_aggressor-clause-answer g c =
+    let fits = subst (λ b. FitsAggressor b c.in_ok-prim.prim (Err c.in_err-fit_aggressor.field-0.0)) c.is_some.ensures c.in_err-fit_aggressor.ensures.answer in
+    (Ok c.in_ok-march.march, c.in_ok-march.ensures.answer, (Ok c.in_ok-prim.prim, c.in_ok-prim.ensures.answer, (Err c.in_err-fit_aggressor.field-0.0, fits, passed_on _ _ c.from_residual-in_err-fit_aggressor.ensures)))
 
 pub returns-in_err-fit_directions-clause-answer : goal.returns-in_err-fit_directions-clause-answer
-returns-in_err-fit_directions-clause-answer g c = (
-  Ok c.in_ok-march.march,
-  c.in_ok-march.ensures.answer,
-  (
-    Ok c.in_ok-prim.prim,
-    c.in_ok-prim.ensures.answer,
-    (
-      Ok c.in_ok-fit_aggressor.field-0,
-      subst (λ b. FitsAggressor b c.in_ok-prim.prim (Ok c.in_ok-fit_aggressor.field-0)) c.is_some.ensures c.in_ok-fit_aggressor.ensures.answer,
+returns-in_err-fit_directions-clause-answer g c =
+    let given = subst (λ b. FitsAggressor b c.in_ok-prim.prim (Ok tt)) c.is_some.ensures c.in_ok-fit_aggressor.ensures.answer in
+    let fits = subst (λ b. FitsDirections b c.in_ok-march.march (Err c.in_err-fit_directions.field-0.0)) c.as_bytes.ensures.value c.in_err-fit_directions.ensures.answer in (
+      Ok c.in_ok-march.march,
+      c.in_ok-march.ensures.answer,
       (
-        Err c.in_err-fit_directions.field-0.0,
-        subst (λ b. FitsDirections b c.in_ok-march.march (Err c.in_err-fit_directions.field-0.0)) c.as_bytes.ensures.value c.in_err-fit_directions.ensures.answer,
-        passed_on c.from_residual-in_err-fit_directions.result c.in_err-fit_directions.field-0.0 c.from_residual-in_err-fit_directions.ensures,
+        Ok c.in_ok-prim.prim,
+        c.in_ok-prim.ensures.answer,
+        (
+          Ok tt,
+          given,
+          (Err c.in_err-fit_directions.field-0.0, fits, passed_on _ _ c.from_residual-in_err-fit_directions.ensures),
+        ),
       ),
-    ),
-  ),
-)
+    )
 
 pub returns-clause-answer : goal.returns-clause-answer
-returns-clause-answer g c = (
-  Ok c.in_ok-march.march,
-  c.in_ok-march.ensures.answer,
-  (
-    Ok c.in_ok-prim.prim,
-    c.in_ok-prim.ensures.answer,
-    (
-      Ok c.in_ok-fit_aggressor.field-0,
-      subst (λ b. FitsAggressor b c.in_ok-prim.prim (Ok c.in_ok-fit_aggressor.field-0)) c.is_some.ensures c.in_ok-fit_aggressor.ensures.answer,
+returns-clause-answer g c =
+    let given = subst (λ b. FitsAggressor b c.in_ok-prim.prim (Ok tt)) c.is_some.ensures c.in_ok-fit_aggressor.ensures.answer in
+    let fits = subst (λ b. FitsDirections b c.in_ok-march.march (Ok tt)) c.as_bytes.ensures.value c.in_ok-fit_directions.ensures.answer in (
+      Ok c.in_ok-march.march,
+      c.in_ok-march.ensures.answer,
       (
-        Ok c.in_ok-fit_directions.field-0,
-        subst (λ b. FitsDirections b c.in_ok-march.march (Ok c.in_ok-fit_directions.field-0)) c.as_bytes.ensures.value c.in_ok-fit_directions.ensures.answer,
-        told c.in_ok-march.march c.in_ok-prim.prim _ _ _ _ _ _ _ c.places_for-places.ensures.value c.as_bytes-2.ensures.value c.as_bytes-3.ensures.value c.plan_sim.ensures.answer,
+        Ok c.in_ok-prim.prim,
+        c.in_ok-prim.ensures.answer,
+        (
+          Ok tt,
+          given,
+          (
+            Ok tt,
+            fits,
+            told c.in_ok-march.march c.in_ok-prim.prim _ _ _ _ _ _ _ c.places_for-places.ensures.value c.as_bytes-2.ensures.value c.as_bytes-3.ensures.value c.plan_sim.ensures.answer,
+          ),
+        ),
       ),
-    ),
-  ),
-)
+    )

@@ -1,4 +1,4 @@
-use Rattle.bist_app.proofs.planting.answers_wrong.Goals as goal
+use Rattle.bist_app.proofs.benchfault_command.answers_wrong.Goals as goal
 use Rattle.bist_app.proofs.Caught.{planted_wrong}
 
 pub returns : goal.returns

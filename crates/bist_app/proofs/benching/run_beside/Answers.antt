@@ -1,0 +1,10 @@
+use Rattle.std.proofs.Common.{subst}
+use Rattle.word_device.specs.Boxes.{Tells}
+use Rattle.bist_endings.specs.Ending.{done_of}
+use Rattle.bist_app.specs.BenchFile.{RunsBeside}
+use Rattle.bist_app.proofs.benching.run_beside.Goals as goal
+
+pub returns-in-Ok-run_plan-clause-run : goal.returns-in-Ok-run_plan-clause-run
+returns-in-Ok-run_plan-clause-run g c = λ b rest e.
+    subst (λ (x : Tells). RunsBeside c.args.design.now.tree c.args.march.now c.args.memory.now x (done_of c.in-Ok-run_plan.plan)) (c.in-Ok.ensures.tells b rest e)
+    c.in-Ok-run_plan.ensures.run
