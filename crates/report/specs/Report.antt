@@ -1,11 +1,12 @@
 -- Trusted. The report of verdicts: the march, the memory where there is one, one line for each item of the list, one for each class that
 -- occurs, and the total. Every line ends with a line feed.
-use Rattle.std.specs.Prelude.{◌≡◌, ◌-◌, ◌+◌, ◌++◌, ◌&&◌, ◌⊎◌, ℕ, zero, suc, Bool, true, false, if◌then◌else◌, Option, Some, None, List, [], ◌∷◌, length, filter, count_by, map, take, codes, decimal}
+use Rattle.std.specs.Prelude.{◌≡◌, ◌-◌, ◌+◌, ◌++◌, ◌&&◌, ◌⊎◌, ℕ, zero, suc, Bool, if◌then◌else◌, Option, Some, None, List, [], ◌∷◌, length, filter, count_by, map, take, codes, decimal}
 use Rattle.std.specs.List.{flat_map}
 use Rattle.std.specs.Str.{bytes_eq}
 use Rattle.fault_core.specs.declared.table.Class.TheVariants.{SF, TF, WDF, RDF, DRDF, IRF, CFst, CFds, CFtr, CFwd, CFrd, CFdr, CFir, DRF}
 use Rattle.fault_core.specs.Classes.{class_by_parts}
 use Rattle.fault_syntax.specs.Names.{class_text as list_text}
+use Rattle.fault_syntax.specs.PrimText.{bit_text}
 use Rattle.fault_syntax.specs.Printed.{printed as printed_prim}
 use Rattle.march_core.specs.March.{MarchElement}
 use Rattle.march_core.specs.Visits.{Direction, Upward, Downward, directions_of}
@@ -80,13 +81,9 @@ abbrev pub aggressor_text : Option ℕ → List ℕ
 aggressor_text None = codes "none"
 aggressor_text (Some a) = decimal a
 
-abbrev pub digit : Bool → List ℕ
-digit false = codes "0"
-digit true = codes "1"
-
 -- a digit for each cell, cell 0 first
 abbrev pub content_text : List Bool → List ℕ
-content_text content = flat_map digit content
+content_text content = flat_map bit_text content
 
 abbrev pub letter : Direction → List ℕ
 letter Upward = codes "u"

@@ -1,7 +1,8 @@
 ghost use Rattle.std.specs.Prelude.{◌≡◌, ◌<◌, ◌≤◌, ◌++◌, OnOk, length, take};
 ghost use Rattle.march_core.specs.Visits.{direction_at};
 ghost use Rattle.dynamic_core.specs.declared.item.Item.TheVariants.{Plain, Dyn};
-ghost use Rattle.report.specs.Report.{digit, letter, item_text, aggressor_text, content_text, directions_text, places_text, passing_text, escape_text, dyn_places_text, dyn_escape_text, judged_line, judged_lines};
+ghost use Rattle.fault_syntax.specs.PrimText.{bit_text};
+ghost use Rattle.report.specs.Report.{letter, item_text, aggressor_text, content_text, directions_text, places_text, passing_text, escape_text, dyn_places_text, dyn_escape_text, judged_line, judged_lines};
 
 use crate::class_lines::{ItemClass, class_name, dyn_class};
 use crate::judged::JudgedItem;
@@ -43,7 +44,7 @@ fn write_aggressor(out: &mut Vec<u8>, agg: Option<u8>) -> Result<(), NoMemory>
 }
 
 fn digit(bit: bool) -> &'static [u8]
-    ensures { result.now ≡ digit bit }
+    ensures { result.now ≡ bit_text bit }
 {
     if bit { b"1" } else { b"0" }
 }

@@ -33,7 +33,8 @@ derives n (p ∷ ps) is ts h =
     let r = (module_alike unlimited n p ps is).derived unbounded (λ rest. rest ≡ []) no_token (Unit {0}) none_left ts h in
     (derive_file n p ps is, r.0, r.1.0)
 
-text_spells : (b : List ℕ) (mo : ModuleTree) → IsTextOf b mo → Text Parenthesised no_limits b mo
+-- the reader's grammar derives it
+pub text_spells : (b : List ℕ) (mo : ModuleTree) → IsTextOf b mo → Text Parenthesised no_limits b mo
 text_spells b mo h = (h.0, h.1, all_kept h.0, derives mo.name mo.ports mo.items h.0 h.2)
 
 pub one_tree : (b : List ℕ) (mo other : ModuleTree) → IsTextOf b mo → IsTextOf b other → other ≡ mo

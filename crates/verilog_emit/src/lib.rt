@@ -15,10 +15,12 @@ use verilog_tree::Module;
 
 mod expressions;
 mod items;
+mod laws;
 mod statements;
 mod writing;
 
 pub use items::{put_items, put_ports};
+pub use laws::texts_are_of_one_module;
 pub use writing::{put_line, put_margin, put_name, put_name_line, put_separator};
 
 /// Appends a module.
