@@ -7,4 +7,4 @@ pub mod LexerLimits
 pub mod FrameLemmas
 pub mod FreeExpectations
 pub mod FreeGoes
-pub mod StmtSteps
+pub mod PlaceSteps

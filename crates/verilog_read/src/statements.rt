@@ -258,9 +258,8 @@ fn opened(
     }
 }
 
-/// What a token does in a statement.
-#[tactic(auto, using(crate::proofs::HoldingLemmas::expects_is))]
 /// Behind the name that is assigned.
+#[tactic(auto, using(crate::proofs::HoldingLemmas::expects_is))]
 fn behind_target(
     alloc: Global,
     outer: &mut Outer,
