@@ -13,7 +13,8 @@ use Rattle.pair_tracker.specs.Pairs.{machine_of}
 use Rattle.pair_tracker.specs.Placements.{FitsPlacement, pair_in}
 use Rattle.pair_tracker.specs.Survivors.{Survives, IsEnd, AreEnds, AreSurvivors, pair_number}
 use Rattle.pair_tracker.specs.Slots.{all_pairs, survivor_at, row_of, word_in, rows_of, IsTableOf}
-use Rattle.pair_tracker.specs.Tracking.{IsLeastOf, Leads, AreLeast, Joins, CanJoin, is_below}
+use Rattle.pair_tracker.specs.Tracking.{IsLeastOf, Leads, AreLeast, is_below}
+use Rattle.pair_tracker.specs.inner.Tracking.{Joins, CanJoin}
 use Rattle.pair_tracker.proofs.Leading.{least_same, least_there, least_joined, least_behind, can_join}
 use Rattle.pair_tracker.proofs.Joining.{at_each_pair}
 use Rattle.pair_tracker.proofs.Passing.{leg_leads, leads_leg, start_in, survives_leg, leg_survives}

@@ -6,8 +6,10 @@ use Rattle.march_core.specs.March.{MarchElement, element_at}
 use Rattle.cell_machine.specs.declared.pair.Pair.{Pair}
 use Rattle.pair_tracker.specs.Pairs.{Machine}
 use Rattle.pair_tracker.specs.Survivors.{pair_number}
-use Rattle.pair_tracker.specs.Slots.{IsOffered, lesser_sum_of, all_pairs}
-use Rattle.pair_tracker.specs.Tracking.{IsLeastOf, Leads, Joins, end_of, weight_in}
+use Rattle.pair_tracker.specs.Slots.{all_pairs}
+use Rattle.pair_tracker.specs.inner.Slots.{IsOffered, lesser_sum_of}
+use Rattle.pair_tracker.specs.Tracking.{IsLeastOf, Leads}
+use Rattle.pair_tracker.specs.inner.Tracking.{Joins, end_of, weight_in}
 use Rattle.pair_tracker.proofs.Leading.{IsOneWay, leads_one, one_leads, least_by, least_same, least_there, least_holds}
 
 -- by one of the first pairs

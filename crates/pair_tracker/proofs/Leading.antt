@@ -12,7 +12,8 @@ use Rattle.array_sim.proofs.Runs.{element_at-get}
 use Rattle.cell_machine.specs.declared.pair.Pair.{Pair}
 use Rattle.pair_tracker.specs.Legs.{elements_between, directions_between}
 use Rattle.pair_tracker.specs.Pairs.{Machine, sides_in, element_run, pair_run}
-use Rattle.pair_tracker.specs.Tracking.{IsLeastOf, weight_in, end_of, Leads, AreLeast, AreLeastBehind, Joins, CanJoin}
+use Rattle.pair_tracker.specs.Tracking.{IsLeastOf, Leads, AreLeast}
+use Rattle.pair_tracker.specs.inner.Tracking.{weight_in, end_of, AreLeastBehind, Joins, CanJoin}
 use Rattle.pair_tracker.proofs.Words.{IsSplit, span_join, span_split, span_fits, span_one, directions_join, directions_one, one_split}
 
 -- the elements in parts

@@ -4,3 +4,4 @@ pub mod Survivors
 pub mod Legs
 pub mod Tracking
 pub mod Slots
+pub mod inner

@@ -1,5 +1,5 @@
 -- Public. Only helps proofs: the slots that hold the least direction word of each start and each pair.
-use Rattle.std.specs.Prelude.{◌≡◌, ◌≤◌, ◌+◌, ◌⊎◌, ℕ, min, true, false, if◌then◌else◌, Option, Some, None, List, [], ◌∷◌, map, length}
+use Rattle.std.specs.Prelude.{◌≤◌, ℕ, true, false, if◌then◌else◌, Option, List, [], ◌∷◌, map, length}
 use Rattle.std.specs.List.{filter_map}
 use Rattle.std.specs.Option.{option_map}
 use Rattle.fault_core.specs.Primitive.{Primitive, IsPrimitive}
@@ -23,16 +23,6 @@ row_of t q =
 
 abbrev pub word_in : Table → Pair → Pair → Option ℕ
 word_in t start end = word_of (row_of t start) end
-
--- a word that was kept for this pair, or the one that is offered for this end
-abbrev pub IsOffered : Option ℕ → Option Pair → ℕ → Pair → ℕ → Type 0
-IsOffered kept end word q w = (kept ≡ Some w) ⊎ ((end ≡ Some q) × (w ≡ word))
-
--- the lesser of a word that is kept, and of another with what leads on from it
-abbrev pub lesser_sum_of : Option ℕ → ℕ → Option ℕ → Option ℕ
-lesser_sum_of kept word None = kept
-lesser_sum_of None word (Some rest) = Some (word + rest)
-lesser_sum_of (Some least) word (Some rest) = Some (min least (word + rest))
 
 -- the pairs in their order
 abbrev pub all_pairs : List Pair

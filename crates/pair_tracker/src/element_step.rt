@@ -2,7 +2,7 @@ ghost use Rattle.std.specs.Prelude.{◌≡◌, ◌<◌, ◌∷◌, [], length};
 ghost use Rattle.march_core.specs.Visits.{Upward, Downward};
 ghost use Rattle.march_core.specs.March.{element_at, sweep};
 ghost use Rattle.pair_tracker.specs.Pairs.{machine_of, ops_run, sides_run};
-ghost use Rattle.pair_tracker.specs.Tracking.{end_of};
+ghost use Rattle.pair_tracker.specs.inner.Tracking.{end_of};
 
 use array_sim::act_of;
 use cell_machine::{Pair, Side, act, pause};

@@ -2,7 +2,8 @@ ghost use Rattle.std.specs.Prelude.{◌≡◌, ◌≢◌, ◌+◌, ◌^◌, ◌<
 ghost use Rattle.std.specs.List.{filter_map};
 ghost use Rattle.cell_machine.specs.declared.pair.Pair.{Pair};
 ghost use Rattle.pair_tracker.specs.Tracking.{IsLeastOf};
-ghost use Rattle.pair_tracker.specs.Slots.{word_of, IsOffered, lesser_sum_of, survivor_at, all_pairs};
+ghost use Rattle.pair_tracker.specs.Slots.{word_of, survivor_at, all_pairs};
+ghost use Rattle.pair_tracker.specs.inner.Slots.{IsOffered, lesser_sum_of};
 
 use crate::placement::Survivor;
 use arrayvec::ArrayVec;

@@ -1,7 +1,8 @@
 ghost use Rattle.std.specs.Prelude.{◌≡◌, ◌+◌, ◌-◌, ◌^◌, ◌<◌, ℕ, length, None, Some, true};
 ghost use Rattle.cell_machine.specs.declared.pair.Pair.{Pair};
 ghost use Rattle.pair_tracker.specs.Pairs.{machine_of};
-ghost use Rattle.pair_tracker.specs.Tracking.{IsLeastOf, Leads, AreLeast, AreLeastBehind, Joins, CanJoin};
+ghost use Rattle.pair_tracker.specs.Tracking.{IsLeastOf, Leads, AreLeast};
+ghost use Rattle.pair_tracker.specs.inner.Tracking.{AreLeastBehind, Joins, CanJoin};
 ghost use Rattle.pair_tracker.specs.Slots.{word_of, row_of, word_in};
 
 use crate::element_step::ends_of;

@@ -1,5 +1,6 @@
 -- Lists that grow at their end, as the builders write them.
-use Rattle.std.proofs.Common.{◌≡◌, ℕ, suc, ◌+◌, List, [], ◌∷◌, ◌++◌, codes, ap, ◌∙◌, arith, append_assoc}
+use Rattle.std.proofs.Common.{◌≡◌, ℕ, suc, ◌+◌, List, [], ◌∷◌, ◌++◌, codes, map, ap, ◌∙◌, arith, append_assoc}
+use Rattle.std.proofs.lemmas.List.{map-append}
 use Rattle.verilog_tree.specs.Plain.{Expression, Net}
 use Rattle.rtl_layout.specs.Layout.{aged, over_at, gated}
 
@@ -13,6 +14,10 @@ named f xs ys n m x y p q h = h ∙ ap (λ k. xs ++ f k x ∷ []) p ∙ ap (λ z
 -- the same with a value that stays
 pub renamed : {A X : Type 0} (f : List ℕ → X → A) (xs ys : List A) (n m : List ℕ) (x : X) → n ≡ m → ys ≡ xs ++ f n x ∷ [] → ys ≡ xs ++ f m x ∷ []
 renamed f xs ys n m x p h = h ∙ ap (λ k. xs ++ f k x ∷ []) p
+
+-- what is pushed is told as its plain form
+pub pushed : {A B : Type 0} (f : A → B) (xs ys : List A) (x : A) (z : B) → ys ≡ xs ++ x ∷ [] → f x ≡ z → map f ys ≡ map f xs ++ z ∷ []
+pushed f xs ys x z grown is = ap (map f) grown ∙ map-append f xs (x ∷ []) ∙ ap (λ w. map f xs ++ w ∷ []) is
 
 pub gated_net : (n m : List ℕ) (x y : Expression) → n ≡ m → y ≡ Net n → x ≡ gated y → x ≡ gated (Net m)
 gated_net n m x y p q r = r ∙ ap gated (q ∙ ap Net p)

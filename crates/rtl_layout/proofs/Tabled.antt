@@ -1,6 +1,6 @@
 -- Tables as loops make them.
-use Rattle.std.proofs.Common.{◌≡◌, ℕ, ◌+◌, ◌<◌, ◌≤◌, false, cond, IfOk, List, [], ◌∷◌, ◌++◌, length, map, take, reverse, get_or, refl, append-nil, append_assoc, sym, ap, ◌∙◌, subst}
-use Rattle.std.proofs.lemmas.List.{take_more, take_all, length-map, map-append, reverse-append}
+use Rattle.std.proofs.Common.{◌≡◌, ℕ, ◌+◌, ◌-◌, ◌<◌, ◌≤◌, false, cond, IfOk, List, [], ◌∷◌, ◌++◌, length, map, take, drop, reverse, get_or, refl, append-nil, append_assoc, sym, ap, ◌∙◌, subst, arith}
+use Rattle.std.proofs.lemmas.List.{take_more, take_all, drop_more, drop_all, length-map, map-append, reverse-append}
 use Rattle.std.specs.Prelude.{Result}
 use Rattle.verilog_tree.specs.declared.tree.Expr.{Expr}
 use Rattle.verilog_tree.specs.Plain.{Expression, Net, Concatenation, NoMore, expressions, plain}
@@ -26,6 +26,29 @@ one_more f xs i d ls ms y h grown tells inv =
 -- all leaves, once the loop has ended
 pub all_of : {A : Type 0} (f : A → Expression) (xs : List A) (i : ℕ) (ls : List Expr) → length xs ≤ i → map plain ls ≡ map f (take i xs) → map plain ls ≡ map f xs
 all_of f xs i ls h inv = inv ∙ ap (map f) (take_all i xs h)
+
+-- one leaf more, where the loop goes from the last value to the first
+pub one_before : {A : Type 0} (f : A → Expression) (xs : List A) (i : ℕ) (d : A) (ls ms : List Expr) (y : Expr) → i < length xs → ms ≡ ls ++ y ∷ []
+    → plain y ≡ f (get_or xs (length xs - 1 - i) d) → map plain ls ≡ reverse (map f (drop (length xs - i) xs)) → map plain ms ≡ reverse (map f (drop (length xs - (i + 1)) xs))
+one_before f xs i d ls ms y h grown tells inv =
+    let k : ℕ = length xs - 1 - i in
+    let at : length xs - (i + 1) ≡ k = omega arith in
+    let next : k + 1 ≡ length xs - i = omega arith in
+    let within : k < length xs = omega arith in
+    let split : drop (length xs - (i + 1)) xs ≡ get_or xs k d ∷ drop (length xs - i) xs =
+    ap (λ (n : ℕ). drop n xs) at ∙ drop_more xs k d within ∙ ap (λ (n : ℕ). get_or xs k d ∷ drop n xs) next in
+    ap (map plain) grown
+    ∙ map-append plain ls (y ∷ [])
+    ∙ ap (λ l. l ++ plain y ∷ []) inv
+    ∙ ap (λ z. reverse (map f (drop (length xs - i) xs)) ++ z ∷ []) tells
+    ∙ sym (ap (λ l. reverse (map f l)) split ∙ reverse-append (f (get_or xs k d) ∷ []) (map f (drop (length xs - i) xs)))
+
+pub none_before : {A : Type 0} (f : A → Expression) (xs : List A) (ls : List Expr) → ls ≡ [] → map plain ls ≡ reverse (map f (drop (length xs - 0) xs))
+none_before f xs ls e = ap (map plain) e ∙ sym (ap (λ l. reverse (map f l)) (drop_all (length xs - 0) xs (omega arith)))
+
+pub all_before : {A : Type 0} (f : A → Expression) (xs : List A) (i : ℕ) (ls : List Expr) → length xs ≤ i → map plain ls ≡ reverse (map f (drop (length xs - i) xs))
+    → map plain ls ≡ reverse (map f xs)
+all_before f xs i ls h inv = let none : length xs - i ≡ 0 = omega arith in inv ∙ ap (λ (n : ℕ). reverse (map f (drop n xs))) none
 
 -- as many leaves as there are values
 pub as_many : {A : Type 0} (f : A → Expression) (xs ys : List A) (ls : List Expr) → map plain ls ≡ map f xs → xs ≡ ys → length ys ≡ length ls

@@ -7,3 +7,4 @@ pub mod LexerLimits
 pub mod FrameLemmas
 pub mod FreeExpectations
 pub mod FreeGoes
+pub mod PlaceSteps

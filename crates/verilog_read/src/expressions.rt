@@ -1,13 +1,15 @@
 //! What a token does in an expression.
-ghost use Rattle.std.specs.Prelude.{◌≡◌, Some};
+ghost use Rattle.std.specs.Prelude.{◌≡◌, Option, Some};
 ghost use Rattle.verilog_tree.specs.Spells.{bounded};
 ghost use Rattle.verilog_tree.specs.Plain.{plain, NoMore, Literal, Prefixed, Infixed, Conditional, AssignItem, SetTo};
 ghost use Rattle.verilog_tree.specs.Grammar.{alone};
 ghost use Rattle.verilog_tree.specs.Tokens.{Identifier};
-ghost use Rattle.verilog_text.specs.Places.{Outside, AtExpr, AtStmt, AtItem, Want, Have, InBraces, Otherwise, WantItem, WantStmt, HaveStmt, InThen, with_item};
+ghost use Rattle.verilog_text.specs.Places.{Outside, State, AtExpr, AtStmt, AtItem, Want, Have, InBraces, Otherwise, WantItem, WantStmt, HaveStmt, InThen, with_item};
 ghost use Rattle.verilog_text.specs.Steps.{want_step, inside_step, have_step, alone_step, step_expr, expects};
 ghost use Rattle.verilog_read.specs.inner.Holding.{token_of};
 ghost use Rattle.verilog_read.specs.inner.Frames.{frame, alone_of, outside_of, around_of, head_of};
+ghost use Rattle.verilog_read.specs.declared.places.Outer.{Outer};
+ghost use Rattle.verilog_read.specs.declared.places.Spot.TheVariants.{Named, Bracket, HighRead, ColonRead, LowRead};
 ghost use Rattle.verilog_read.specs.inner.Spots.{spot};
 ghost use Rattle.verilog_read.specs.inner.Answers.{Steps, Goes};
 
@@ -317,8 +319,75 @@ fn have(
     }
 }
 
+/// Behind a name: a bracket, or what comes behind the whole of it.
+fn behind_name(
+    alloc: Global,
+    outer: &mut Outer,
+    depth: u8,
+    name: Name,
+    token: &Lexeme,
+) -> Result<Place, ParseFault>
+    ensures { Goes (step_expr bounded (spot (Named depth name) (outside_of outer.old)) (token_of token.now)) result outer.new }
+{
+    match token {
+        Lexeme::Sign(Mark::OpenBracket) => Ok(Place::InExpr(Spot::Bracket(depth, name))),
+        _ => have(alloc, outer, depth, Expr::Name(name), token),
+    }
+}
+
+/// Behind an opening bracket.
+fn in_bracket(depth: u8, name: Name, token: &Lexeme) -> Result<Spot, ParseFault>
+    ensures { (o : Outside) → Steps (step_expr bounded (spot (Bracket depth name) o) (token_of token.now)) result o }
+{
+    match token {
+        Lexeme::Number(_, high) => Ok(Spot::HighRead(depth, name, high.value)),
+        _ => Err(ParseFault::Unexpected),
+    }
+}
+
+/// Behind the first number in brackets.
+fn behind_high(depth: u8, name: Name, high: u8, token: &Lexeme) -> Result<Spot, ParseFault>
+    ensures { (o : Outside) → Steps (step_expr bounded (spot (HighRead depth name high) o) (token_of token.now)) result o }
+{
+    match token {
+        Lexeme::Sign(Mark::CloseBracket) => Ok(Spot::Have(depth, Expr::Bit(name, high))),
+        Lexeme::Sign(Mark::Colon) => Ok(Spot::ColonRead(depth, name, high)),
+        _ => Err(ParseFault::Unexpected),
+    }
+}
+
+/// Behind the colon in brackets.
+fn behind_colon(depth: u8, name: Name, high: u8, token: &Lexeme) -> Result<Spot, ParseFault>
+    ensures { (o : Outside) → Steps (step_expr bounded (spot (ColonRead depth name high) o) (token_of token.now)) result o }
+{
+    match token {
+        Lexeme::Number(_, low) => Ok(Spot::LowRead(depth, name, high, low.value)),
+        _ => Err(ParseFault::Unexpected),
+    }
+}
+
+/// Behind the second number in brackets.
+fn behind_low(depth: u8, name: Name, high: u8, low: u8, token: &Lexeme) -> Result<Spot, ParseFault>
+    ensures { (o : Outside) → Steps (step_expr bounded (spot (LowRead depth name high low) o) (token_of token.now)) result o }
+{
+    if is_mark(Mark::CloseBracket, token) {
+        Ok(Spot::Have(depth, Expr::Part(name, high, low)))
+    } else {
+        Err(ParseFault::Unexpected)
+    }
+}
+
+/// The place of a step that stays in an expression.
+fn in_expr(spot: Result<Spot, ParseFault>) -> Result<Place, ParseFault>
+    ensures { (st : Option State) (w : Outer) → Steps st spot (outside_of w) → Goes st result w }
+{
+    match spot {
+        Ok(spot) => Ok(Place::InExpr(spot)),
+        Err(fault) => Err(fault),
+    }
+}
+
 /// What a token does in an expression.
-#[tactic(auto, using(crate::proofs::HoldingLemmas::expects_is))]
 pub(crate) fn step_expr(
     alloc: Global,
     outer: &mut Outer,
@@ -327,33 +396,16 @@ pub(crate) fn step_expr(
 ) -> Result<Place, ParseFault>
     ensures { Goes (step_expr bounded (spot place (outside_of outer.old)) (token_of token.now)) result outer.new }
 {
-    let next = match place {
-        Spot::Want(depth) => want(alloc, outer, depth, token)?,
-        Spot::Inside(inner, depth) => inside(alloc, outer, inner, depth, token)?,
-        Spot::Named(depth, name) => match token {
-            Lexeme::Sign(Mark::OpenBracket) => Spot::Bracket(depth, name),
-            _ => return have(alloc, outer, depth, Expr::Name(name), token),
-        },
-        Spot::Bracket(depth, name) => match token {
-            Lexeme::Number(_, high) => Spot::HighRead(depth, name, high.value),
-            _ => return Err(ParseFault::Unexpected),
-        },
-        Spot::HighRead(depth, name, high) => match token {
-            Lexeme::Sign(Mark::CloseBracket) => Spot::Have(depth, Expr::Bit(name, high)),
-            Lexeme::Sign(Mark::Colon) => Spot::ColonRead(depth, name, high),
-            _ => return Err(ParseFault::Unexpected),
-        },
-        Spot::ColonRead(depth, name, high) => match token {
-            Lexeme::Number(_, low) => Spot::LowRead(depth, name, high, low.value),
-            _ => return Err(ParseFault::Unexpected),
-        },
+    match place {
+        Spot::Want(depth) => in_expr(want(alloc, outer, depth, token)),
+        Spot::Inside(inner, depth) => in_expr(inside(alloc, outer, inner, depth, token)),
+        Spot::Named(depth, name) => behind_name(alloc, outer, depth, name, token),
+        Spot::Bracket(depth, name) => in_expr(in_bracket(depth, name, token)),
+        Spot::HighRead(depth, name, high) => in_expr(behind_high(depth, name, high, token)),
+        Spot::ColonRead(depth, name, high) => in_expr(behind_colon(depth, name, high, token)),
         Spot::LowRead(depth, name, high, low) => {
-            if !is_mark(Mark::CloseBracket, token) {
-                return Err(ParseFault::Unexpected);
-            }
-            Spot::Have(depth, Expr::Part(name, high, low))
+            in_expr(behind_low(depth, name, high, low, token))
         }
-        Spot::Have(depth, x) => return have(alloc, outer, depth, x, token),
-    };
-    Ok(Place::InExpr(next))
+        Spot::Have(depth, x) => have(alloc, outer, depth, x, token),
+    }
 }

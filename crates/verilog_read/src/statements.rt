@@ -1,14 +1,16 @@
 //! What a token does in a statement.
-ghost use Rattle.std.specs.Prelude.{◌≡◌, Some, map, codes};
+ghost use Rattle.std.specs.Prelude.{◌≡◌, Option, Some, map, codes};
 ghost use Rattle.verilog_tree.specs.Spells.{bounded};
 ghost use Rattle.verilog_tree.specs.Plain.{plain, plain_stmts, arms, AlwaysItem};
 ghost use Rattle.verilog_tree.specs.inner.Plain.{plain_arm};
 ghost use Rattle.verilog_tree.specs.Grammar.{then_all};
 ghost use Rattle.verilog_text.specs.Following.{case_of};
-ghost use Rattle.verilog_text.specs.Places.{with_item, AtStmt, WantStmt, HaveStmt, InElse, style_of};
+ghost use Rattle.verilog_text.specs.Places.{Around, State, with_item, AtStmt, WantStmt, HaveStmt, InElse, style_of};
 ghost use Rattle.verilog_text.specs.Steps.{word_step, want_stmt_step, block_step, arm_step, want_item_step, have_stmt_step, step_stmt, expects_word};
 ghost use Rattle.verilog_read.specs.inner.Holding.{token_of};
 ghost use Rattle.verilog_read.specs.inner.Frames.{alone, holder, around_of, head_of};
+ghost use Rattle.verilog_read.specs.declared.places.Outer.{Outer};
+ghost use Rattle.verilog_read.specs.declared.places.StmtSpot.TheVariants.{Target, FirstLabel, Labels, NextLabel, DefaultRead};
 ghost use Rattle.verilog_read.specs.inner.Spots.{stmt_spot};
 ghost use Rattle.verilog_read.specs.inner.Answers.{StmtSteps, Goes, opens_expr};
 
@@ -18,6 +20,7 @@ use crate::places::{Base, Holder, ItemSpot, Outer, Place, StmtSpot, Use};
 use crate::precedence::{deeper, is_mark};
 use crate::stacks::{add_item, begin, hold, is_word, release};
 use crate::trees::{case_of, condition, join, with_arm, with_label};
+use bist_bits::Bits;
 use bist_text::is_reserved;
 use std::alloc::Global;
 use verilog_tree::{Arm, Expr, Item, Mark, Name, Stmt};
@@ -255,8 +258,117 @@ fn opened(
     }
 }
 
-/// What a token does in a statement.
+/// Behind the name that is assigned.
 #[tactic(auto, using(crate::proofs::HoldingLemmas::expects_is))]
+fn behind_target(
+    alloc: Global,
+    outer: &mut Outer,
+    depth: u8,
+    name: Name,
+    token: &Lexeme,
+) -> Result<Place, ParseFault>
+    ensures { Goes (step_stmt bounded (stmt_spot (Target depth name) (around_of outer.old)) (token_of token.now)) result outer.new }
+{
+    if !is_mark(Mark::LessEquals, token) {
+        return Err(ParseFault::Unexpected);
+    }
+    Ok(begin(alloc, outer, Base::Set(name), depth))
+}
+
+/// Where the first label of a case comes.
+fn first_label(
+    alloc: Global,
+    depth: u8,
+    inner: u8,
+    x: Expr,
+    token: &Lexeme,
+) -> Result<StmtSpot, ParseFault>
+    ensures { (a : Around) → StmtSteps (step_stmt bounded (stmt_spot (FirstLabel depth inner x) a) (token_of token.now)) result a }
+{
+    match token {
+        Lexeme::Constant(label) => {
+            let labels = with_label(Vec::new(alloc), *label)?;
+            Ok(StmtSpot::Labels(depth, inner, x, Vec::new(alloc), labels))
+        }
+        _ => Err(ParseFault::Unexpected),
+    }
+}
+
+/// Where a label of an arm comes, behind those before it.
+fn next_label(
+    depth: u8,
+    inner: u8,
+    x: Expr,
+    choices: Vec<Arm>,
+    labels: Vec<Bits>,
+    token: &Lexeme,
+) -> Result<StmtSpot, ParseFault>
+    ensures { (a : Around) → StmtSteps (step_stmt bounded (stmt_spot (NextLabel depth inner x choices labels) a) (token_of token.now)) result a }
+{
+    match token {
+        Lexeme::Constant(label) => {
+            let labels = with_label(labels, *label)?;
+            Ok(StmtSpot::Labels(depth, inner, x, choices, labels))
+        }
+        _ => Err(ParseFault::Unexpected),
+    }
+}
+
+/// Behind a label of an arm.
+fn behind_label(
+    outer: &mut Outer,
+    depth: u8,
+    inner: u8,
+    x: Expr,
+    choices: Vec<Arm>,
+    labels: Vec<Bits>,
+    token: &Lexeme,
+) -> Result<StmtSpot, ParseFault>
+    ensures { StmtSteps (step_stmt bounded (stmt_spot (Labels depth inner x choices labels) (around_of outer.old)) (token_of token.now)) result (around_of outer.new) }
+{
+    match token {
+        Lexeme::Sign(Mark::Comma) => { Ok(StmtSpot::NextLabel(depth, inner, x, choices, labels)) }
+        Lexeme::Sign(Mark::Colon) => {
+            hold(outer, Holder::Labelled(depth, x, choices, labels))?;
+            Ok(StmtSpot::WantStmt(inner))
+        }
+        _ => Err(ParseFault::Unexpected),
+    }
+}
+
+/// Behind the word of a default, with or without its colon.
+fn behind_default(
+    alloc: Global,
+    outer: &mut Outer,
+    depth: u8,
+    inner: u8,
+    x: Expr,
+    choices: Vec<Arm>,
+    token: &Lexeme,
+) -> Result<StmtSpot, ParseFault>
+    ensures { StmtSteps (step_stmt bounded (stmt_spot (DefaultRead depth inner x choices) (around_of outer.old)) (token_of token.now)) result (around_of outer.new) }
+{
+    let h = Holder::Other(depth, x, choices);
+    match token {
+        Lexeme::Sign(Mark::Colon) => {
+            hold(outer, h)?;
+            Ok(StmtSpot::WantStmt(inner))
+        }
+        _ => want_held(alloc, outer, h, inner, token),
+    }
+}
+
+/// The place of a step that stays in a statement.
+fn in_stmt(spot: Result<StmtSpot, ParseFault>) -> Result<Place, ParseFault>
+    ensures { (st : Option State) (w : Outer) → StmtSteps st spot (around_of w) → Goes st result w }
+{
+    match spot {
+        Ok(spot) => Ok(Place::InStmt(spot)),
+        Err(fault) => Err(fault),
+    }
+}
+
+/// What a token does in a statement.
 pub(crate) fn step_stmt(
     alloc: Global,
     outer: &mut Outer,
@@ -265,51 +377,30 @@ pub(crate) fn step_stmt(
 ) -> Result<Place, ParseFault>
     ensures { Goes (step_stmt bounded (stmt_spot place (around_of outer.old)) (token_of token.now)) result outer.new }
 {
-    let next = match place {
-        StmtSpot::WantStmt(depth) => want_stmt(alloc, outer, depth, token)?,
-        StmtSpot::Target(depth, name) => {
-            if !is_mark(Mark::LessEquals, token) {
-                return Err(ParseFault::Unexpected);
-            }
-            return Ok(begin(alloc, outer, Base::Set(name), depth));
-        }
+    match place {
+        StmtSpot::WantStmt(depth) => in_stmt(want_stmt(alloc, outer, depth, token)),
+        StmtSpot::Target(depth, name) => behind_target(alloc, outer, depth, name, token),
         StmtSpot::IfRead(depth, inner) => {
-            return opened(alloc, outer, inner, Base::Test(depth, inner), token);
+            opened(alloc, outer, inner, Base::Test(depth, inner), token)
         }
         StmtSpot::CaseRead(depth, inner) => {
-            return opened(alloc, outer, inner, Base::Pick(depth, inner), token);
+            opened(alloc, outer, inner, Base::Pick(depth, inner), token)
         }
-        StmtSpot::FirstLabel(depth, inner, x) => match token {
-            Lexeme::Constant(label) => {
-                let labels = with_label(Vec::new(alloc), *label)?;
-                StmtSpot::Labels(depth, inner, x, Vec::new(alloc), labels)
-            }
-            _ => return Err(ParseFault::Unexpected),
-        },
-        StmtSpot::Labels(depth, inner, x, choices, labels) => match token {
-            Lexeme::Sign(Mark::Comma) => StmtSpot::NextLabel(depth, inner, x, choices, labels),
-            Lexeme::Sign(Mark::Colon) => {
-                hold(outer, Holder::Labelled(depth, x, choices, labels))?;
-                StmtSpot::WantStmt(inner)
-            }
-            _ => return Err(ParseFault::Unexpected),
-        },
-        StmtSpot::NextLabel(depth, inner, x, choices, labels) => match token {
-            Lexeme::Constant(label) => {
-                let labels = with_label(labels, *label)?;
-                StmtSpot::Labels(depth, inner, x, choices, labels)
-            }
-            _ => return Err(ParseFault::Unexpected),
-        },
-        StmtSpot::DefaultRead(depth, inner, x, choices) => match token {
-            Lexeme::Sign(Mark::Colon) => {
-                hold(outer, Holder::Other(depth, x, choices))?;
-                StmtSpot::WantStmt(inner)
-            }
-            _ => want_held(alloc, outer, Holder::Other(depth, x, choices), inner, token)?,
-        },
-        StmtSpot::Block(inner, depth, old) => in_block(alloc, outer, inner, depth, old, token)?,
-        StmtSpot::HaveStmt(depth, body) => return have_stmt(alloc, outer, depth, body, token),
-    };
-    Ok(Place::InStmt(next))
+        StmtSpot::FirstLabel(depth, inner, x) => {
+            in_stmt(first_label(alloc, depth, inner, x, token))
+        }
+        StmtSpot::Labels(depth, inner, x, choices, labels) => {
+            in_stmt(behind_label(outer, depth, inner, x, choices, labels, token))
+        }
+        StmtSpot::NextLabel(depth, inner, x, choices, labels) => {
+            in_stmt(next_label(depth, inner, x, choices, labels, token))
+        }
+        StmtSpot::DefaultRead(depth, inner, x, choices) => {
+            in_stmt(behind_default(alloc, outer, depth, inner, x, choices, token))
+        }
+        StmtSpot::Block(inner, depth, old) => {
+            in_stmt(in_block(alloc, outer, inner, depth, old, token))
+        }
+        StmtSpot::HaveStmt(depth, body) => have_stmt(alloc, outer, depth, body, token),
+    }
 }

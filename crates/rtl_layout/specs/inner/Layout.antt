@@ -1,5 +1,5 @@
 -- Inner. For proofs and private contracts alone, beside Layout: the self-test module of a plan.
-use Rattle.std.specs.Prelude.{ℕ, suc, ◌+◌, ◌-◌, Bool, List, [], ◌∷◌, ◌++◌}
+use Rattle.std.specs.Prelude.{ℕ, suc, Bool, List, [], ◌∷◌, ◌++◌}
 use Rattle.verilog_tree.specs.Plain.{Net, Statement, SetTo, ModuleItem, RegItem}
 use Rattle.rtl_layout.specs.Plan.{Plan, several}
 use Rattle.rtl_layout.specs.Layout.{back, value, aged, reads_at, over_at, value_at, gated, digit_regs, maybe, stage_regs, end_regs, feed_reads, feed_over, back_set}

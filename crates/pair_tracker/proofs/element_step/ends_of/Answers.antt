@@ -3,7 +3,7 @@ use Rattle.march_core.specs.March.{sweep, order_at}
 use Rattle.march_core.specs.Visits.{Upward, Downward}
 use Rattle.array_sim.proofs.Runs.{pause_there, sweep_there}
 use Rattle.pair_tracker.specs.Pairs.{machine_of}
-use Rattle.pair_tracker.specs.Tracking.{end_of}
+use Rattle.pair_tracker.specs.inner.Tracking.{end_of}
 use Rattle.pair_tracker.proofs.element_step.ends_of.Goals as goal
 
 pub returns-then-is_pause-clause-up : goal.returns-then-is_pause-clause-up

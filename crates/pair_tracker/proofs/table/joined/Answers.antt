@@ -1,7 +1,8 @@
 use Rattle.std.proofs.Common.{◌+◌, ℕ, false, get_or, sym, subst, ap, ◌∙◌}
 use Rattle.cell_machine.specs.declared.pair.Pair.{Pair}
 use Rattle.cell_machine.specs.Pairs.{pair_of}
-use Rattle.pair_tracker.specs.Slots.{word_of, word_in, lesser_sum_of, all_pairs}
+use Rattle.pair_tracker.specs.Slots.{word_of, word_in, all_pairs}
+use Rattle.pair_tracker.specs.inner.Slots.{lesser_sum_of}
 use Rattle.pair_tracker.specs.Tracking.{IsLeastOf}
 use Rattle.pair_tracker.specs.declared.row.Row.{Row}
 use Rattle.pair_tracker.proofs.Joining.{JoinsBy, joins_past, joins_more, joins_all, number_at}

@@ -1,5 +1,6 @@
-use Rattle.std.proofs.Common.{◌≡◌, ◌+◌, ◌-◌, ◌^◌, ◌<◌, IfOk, length, map, drop, take, sym, ap, ◌∙◌, subst, arith}
+use Rattle.std.proofs.Common.{◌≡◌, ◌+◌, ◌-◌, ◌^◌, ◌<◌, IfOk, List, length, map, drop, take, sym, ap, ◌∙◌, subst, arith}
 use Rattle.std.proofs.lemmas.List.{length-drop, length-map}
+use Rattle.verilog_tree.specs.declared.tree.Expr.{Expr}
 use Rattle.verilog_tree.specs.Plain.{Expression, plain}
 use Rattle.rtl_layout.specs.Build.{below}
 use Rattle.rtl_layout.proofs.Taken.{choice_fewer, choice_taken, halves}
@@ -20,7 +21,7 @@ returns-clause-tree t c =
     let half = c.power-half.ensures in
     let high : plain c.in_ok-high.high ≡ below c.args.name.bytes c.args.width (c.args.i - 1) (drop (c.args.start + 2 ^ (c.args.i - 1)) (map plain c.args.leaves.now.items)) =
     c.in_ok-high.ensures.tree ∙ ap (λ k. below c.args.name.bytes c.args.width (c.args.i - 1) (drop (c.args.start + k) (map plain c.args.leaves.now.items))) half in
-    let mid = c.in_ok-high.ensures.taken ∙ ap (λ k. take (c.args.start + k) c.args.leaves.now.items) half in
+    let mid = ◌∙◌ {A = List Expr} c.in_ok-high.ensures.taken (ap (λ k. take (c.args.start + k) c.args.leaves.now.items) half) in
     subst (λ (v : Expression). IfOk c.choose.result (λ x. plain x ≡ v))
     (choice_taken c.args.name.bytes c.args.width c.args.i c.args.start c.args.leaves.now.items _ c.bit.result c.in_ok-high.high c.in_ok-low.low (omega arith) many c.bit.ensures high mid c.in_ok-low.ensures.tree)
     c.choose.ensures

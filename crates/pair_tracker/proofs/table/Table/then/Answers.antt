@@ -2,7 +2,8 @@ use Rattle.std.proofs.Common.{true, false}
 use Rattle.cell_machine.specs.declared.pair.Pair.{Pair}
 use Rattle.cell_machine.specs.Pairs.{pair_of}
 use Rattle.pair_tracker.specs.Slots.{word_in}
-use Rattle.pair_tracker.specs.Tracking.{IsLeastOf, Joins}
+use Rattle.pair_tracker.specs.Tracking.{IsLeastOf}
+use Rattle.pair_tracker.specs.inner.Tracking.{Joins}
 use Rattle.pair_tracker.specs.declared.table.Table.{Table}
 use Rattle.pair_tracker.proofs.Joining.{at_each_pair}
 use Rattle.pair_tracker.proofs.table.Table.then.Goals as goal
