@@ -1,4 +1,4 @@
-use Rattle.std.proofs.Common.{◌≡◌, ◌+◌, ◌≤◌, length, map}
+use Rattle.bist_app.proofs.Common.{◌≡◌, ◌+◌, ◌≤◌, length, map}
 use Rattle.bist_app.specs.BenchAll.{AreGone, HaveRoom}
 use Rattle.bist_app.specs.BenchedBoxes.{GoesOn}
 use Rattle.bist_app.proofs.benching_all.bench_boxes.Given as goal
