@@ -6,7 +6,7 @@ use Rattle.verilog_tree.specs.Names.{Declaration}
 use Rattle.verilog_cycle.specs.Design.{Fit}
 use Rattle.bist_app.specs.Bench.{ready, benched_chip, IsSeen}
 use Rattle.bist_app.specs.BenchAll.{HaveRoom, IsBoxSeen, failing_of, all_done, IsAllBenched, AreGone}
-use Rattle.bist_app.specs.BenchedBoxes.{IsEnd, GoesOn, CountsFailing, more_failing}
+use Rattle.bist_app.specs.inner.BenchedBoxes.{IsEnd, GoesOn, CountsFailing, more_failing}
 use Rattle.bist_app.proofs.Benched.{seen_by}
 
 -- ---- what is seen of one box

@@ -5,7 +5,7 @@ use Rattle.self_test.specs.WrongPort.{wrong_port, ArePorts}
 use Rattle.self_test.proofs.Wrong.{none_exactly}
 use Rattle.bench.proofs.OneRun.{AreLow, seen_low}
 use Rattle.bist_app.specs.Bench.{AreWords}
-use Rattle.bist_app.specs.BenchedBoxes.{EndsRun}
+use Rattle.bist_app.specs.inner.BenchedBoxes.{EndsRun}
 use Rattle.bist_app.specs.declared.benching.RunEnd.{RunEnd}
 
 same_option : (o : Option (List ℕ)) → option_map (λ n. n) o ≡ o

@@ -5,8 +5,8 @@ use Rattle.std.proofs.lemmas.List.{length-map}
 use Rattle.chip_desc.specs.declared.chip.ChipUnit.{ChipUnit}
 use Rattle.bist_app.specs.declared.units.UnitTable.{UnitTable}
 use Rattle.bist_app.specs.Chip.{GivesUnit, GivesUnits, HasOwnNames, LeavesChip, TestsUnits, DecidesChip, chip_form}
-use Rattle.bist_app.specs.UnitTables.{IsTableOf, AppendsUnits}
-use Rattle.bist_app.specs.ChipParts.{IsRead, IsReady}
+use Rattle.bist_app.specs.inner.UnitTables.{IsTableOf, AppendsUnits}
+use Rattle.bist_app.specs.inner.ChipParts.{IsRead, IsReady}
 
 not_refused : {A E : Type 0} {value : A} {error : E} → Ok value ≡ Err error → ⊥
 not_refused same = cc

@@ -18,8 +18,8 @@ use Rattle.chip_rtl.specs.ChipFile.{IsPlanOf, EndsFile}
 use Rattle.chip_rtl.proofs.Whole.{counted}
 use Rattle.bist_app.specs.declared.units.UnitTable.{UnitTable}
 use Rattle.bist_app.specs.Chip.{IsChipTested, chip_line}
-use Rattle.bist_app.specs.UnitTables.{IsTableOf}
-use Rattle.bist_app.specs.ChipParts.{IsRead, PutsSelfTest, AreSelfTests, PutSelfTests, CanStart, IsReady, MakesFile}
+use Rattle.bist_app.specs.inner.UnitTables.{IsTableOf}
+use Rattle.bist_app.specs.inner.ChipParts.{IsRead, PutsSelfTest, AreSelfTests, PutSelfTests, CanStart, IsReady, MakesFile}
 use Rattle.bist_app.proofs.TakenNames.{all_differ}
 
 -- ---- texts, one behind another

@@ -5,7 +5,7 @@ use Rattle.std.proofs.lemmas.List.Elements.{All-append}
 use Rattle.chip_desc.specs.declared.chip.ChipUnit.{ChipUnit}
 use Rattle.bist_app.specs.declared.units.UnitTable.{UnitTable}
 use Rattle.bist_app.specs.Chip.{GivesUnit, GivesUnits}
-use Rattle.bist_app.specs.UnitTables.{IsTableOf, HasUnits, HasRoom, Grows, AppendsUnit, AppendsUnits}
+use Rattle.bist_app.specs.inner.UnitTables.{IsTableOf, HasUnits, HasRoom, Grows, AppendsUnit, AppendsUnits}
 
 -- ---- the table
 

@@ -7,7 +7,7 @@ ghost use Rattle.bist_endings.specs.Conclude.{NamesWords};
 ghost use Rattle.bist_inputs.specs.Inputs.{HasCause, IsOwnRefusal};
 ghost use Rattle.bist_app.specs.Forms.{HasForm};
 ghost use Rattle.bist_app.specs.BenchAll.{HaveRoom, FitsRooms, TestsAll, DecidesBenchAll, bench_all_form};
-ghost use Rattle.bist_app.specs.BenchedBoxes.{SmallRoom};
+ghost use Rattle.bist_app.specs.inner.BenchedBoxes.{SmallRoom};
 
 use crate::benching_all::bench_all;
 use crate::boxes::{has_box, room_of_box};

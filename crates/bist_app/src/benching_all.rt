@@ -10,7 +10,7 @@ ghost use Rattle.bist_inputs.specs.Inputs.{IsOwnRefusal};
 ghost use Rattle.self_test.specs.Refusals.{IsShort};
 ghost use Rattle.bist_app.specs.Bench.{benched_chip};
 ghost use Rattle.bist_app.specs.BenchAll.{HaveRoom, LeavesAll, LeavesNone, all_line, all_done, AreGone};
-ghost use Rattle.bist_app.specs.BenchedBoxes.{IsEnd, CountsFailing, more_failing};
+ghost use Rattle.bist_app.specs.inner.BenchedBoxes.{IsEnd, CountsFailing, more_failing};
 
 use crate::benching::{run_design, self_test_design};
 use crate::boxes::take_first;

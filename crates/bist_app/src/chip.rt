@@ -10,8 +10,8 @@ ghost use Rattle.bist_endings.specs.Conclude.{NamesWords};
 ghost use Rattle.bist_inputs.specs.Inputs.{HasCause, IsOwnRefusal};
 ghost use Rattle.bist_app.specs.Forms.{HasForm};
 ghost use Rattle.bist_app.specs.Chip.{IsEarlier, HasTakenName, HasOwnNames, chip_line, LeavesChip, TestsNamed, TestsUnits, DecidesChip, chip_form};
-ghost use Rattle.bist_app.specs.UnitTables.{IsTableOf};
-ghost use Rattle.bist_app.specs.ChipParts.{IsRead, IsReady, PutsSelfTest, PutSelfTests, CanStart, MakesFile};
+ghost use Rattle.bist_app.specs.inner.UnitTables.{IsTableOf};
+ghost use Rattle.bist_app.specs.inner.ChipParts.{IsRead, IsReady, PutsSelfTest, PutSelfTests, CanStart, MakesFile};
 
 use crate::parts::{one_output, put_number};
 use crate::units::{UnitTable, no_units, read_units};

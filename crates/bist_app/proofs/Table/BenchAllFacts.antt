@@ -5,7 +5,7 @@ use Rattle.bist_app.proofs.Facts.{Facts, before_conclude, with_left}
 use Rattle.bist_app.proofs.SharedFacts.{box_settles, length_settles}
 use Rattle.bist_app.proofs.SmallRooms.{small_room}
 use Rattle.bist_app.specs.BenchAll.{AllTell, AreSeen, FitsRooms, HaveRoom, IsAllBenched, LeavesAll, LeavesNone, all_done, bench_all_row, failing_of}
-use Rattle.bist_app.specs.BenchedBoxes.{SmallRoom}
+use Rattle.bist_app.specs.inner.BenchedBoxes.{SmallRoom}
 use Rattle.bist_endings.specs.declared.ending.DeviceRefusal.{DeviceRefusal}
 
 room_or_small : (words : ℕ) (boxes : Boxes) (room : ℕ) → HaveRoom words boxes → SmallRoom words boxes room → ⊥

@@ -1,5 +1,5 @@
 use Rattle.bist_app.proofs.Common.{rules, ◌≡◌, ◌∙◌, ◌<◌, length, arith, subst, sym}
-use Rattle.bist_app.specs.BenchedBoxes.{GoesOn}
+use Rattle.bist_app.specs.inner.BenchedBoxes.{GoesOn}
 use Rattle.bist_app.proofs.AllBenched.{few_more, goes_more, boxes_counted, one_gone, one_less, first_has_room, rest_have_room}
 use Rattle.bist_app.proofs.benching_all.bench_boxes.Goals as goal
 

@@ -1,6 +1,6 @@
 use Rattle.bist_app.proofs.Common.{◌≡◌, length, suc, sym, subst, last_group, end_of}
 use Rattle.bist_app.specs.Chip.{LeavesChip, chip_line}
-use Rattle.bist_app.specs.ChipParts.{CanStart, MakesFile}
+use Rattle.bist_app.specs.inner.ChipParts.{CanStart, MakesFile}
 use Rattle.bist_app.proofs.ChipTexts.{light_weights, starts, tests_table}
 use Rattle.bist_app.proofs.chip.plan_chip.Goals as goal
 

@@ -14,7 +14,7 @@ use Rattle.chip_rtl.specs.PrintedTop.{printed_units}
 use Rattle.chip_rtl.specs.TopFits.{AllFit}
 use Rattle.chip_rtl.specs.ChipFile.{ChipFile}
 use Rattle.bist_app.specs.declared.units.UnitTable.{UnitTable}
-use Rattle.bist_app.specs.UnitTables.{IsTableOf}
+use Rattle.bist_app.specs.inner.UnitTables.{IsTableOf}
 use Rattle.bist_app.specs.Chip.{HasTakenName}
 
 -- the table has the units of the chip
