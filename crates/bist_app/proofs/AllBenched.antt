@@ -1,22 +1,12 @@
 -- What the runs against a list of boxes leave.
-use Rattle.std.proofs.Common.{◌≡◌, ◌+◌, ◌<◌, ◌∙◌, ℕ, zero, suc, Bool, true, false, List, [], ◌∷◌, length, map, drop, replicate, Option, Some, None, is_some, Result, Ok, Err, IfOk, refl, sym, ap, subst, arith}
+use Rattle.bist_app.proofs.Common.{◌≡◌, ◌+◌, ◌<◌, ◌≤◌, ◌∙◌, ℕ, zero, suc, Bool, true, false, List, [], ◌∷◌, length, map, drop, replicate, Option, Some, None, is_some, Result, Ok, Err, IfOk, refl, sym, ap, subst, arith, MarchElement, Description, Tells, Told, AllRight, IsPlain, PassesAlone, run_word, Seen, IsFirstRead, Plan, Done, Boxes, FirstHasRoom}
 use Rattle.std.proofs.lemmas.List.{length-replicate, length-map, drop_all}
 use Rattle.std.proofs.Math.Nat.{one-le-pow}
-use Rattle.march_core.specs.March.{MarchElement}
-use Rattle.memory_desc.specs.Descriptions.{Description}
 use Rattle.verilog_tree.specs.Names.{Declaration}
 use Rattle.verilog_cycle.specs.Design.{Fit}
-use Rattle.word_device.specs.Boxes.{Tells, Told}
-use Rattle.word_device.specs.Runs.{AllRight, IsPlain, PassesAlone, run_word}
-use Rattle.bench.specs.declared.ending.Seen.{Seen}
-use Rattle.bench.specs.Endings.{IsFirstRead}
-use Rattle.bist_bits.specs.declared.NoMemory.{NoMemory}
-use Rattle.bist_endings.specs.declared.ending.Plan.{Plan}
-use Rattle.bist_endings.specs.Ending.{done_of}
-use Rattle.bist_app.specs.Shared.{Boxes, FirstHasRoom}
 use Rattle.bist_app.specs.Bench.{ready, benched_chip, IsSeen}
 use Rattle.bist_app.specs.BenchAll.{HaveRoom, IsBoxSeen, failing_of, all_done, IsAllBenched, AreGone}
-use Rattle.bist_app.specs.BenchedBoxes.{IsEnd, GoesOn, CountsFailing}
+use Rattle.bist_app.specs.inner.BenchedBoxes.{IsEnd, GoesOn, CountsFailing, more_failing}
 use Rattle.bist_app.proofs.Benched.{seen_by}
 
 -- ---- what is seen of one box
@@ -46,11 +36,6 @@ box_seen march d tells failed right end =
 pub goes_first : (march : List MarchElement) (d : Description) (boxes : Boxes) → GoesOn march d boxes boxes 0
 goes_first march d boxes later h = (later, h, omega arith)
 
--- one box more, which failed or didn't
-abbrev pub more_failing : ℕ → Bool → ℕ
-more_failing failing false = failing
-more_failing failing true = failing + 1
-
 failing_more : (failing : ℕ) (seen : Option Seen) (later : List (Option Seen)) → failing + failing_of (seen ∷ later) ≡ more_failing failing (is_some seen) + failing_of later
 failing_more failing None later = refl
 failing_more failing (Some s) later = omega arith
@@ -72,21 +57,9 @@ goes_more {B} f march d boxes (b ∷ rest) next tells failing failed right some 
     let counted = subst (λ (x : Bool). GoesOn march d boxes (map f rest) (more_failing failing x)) (sym here.fail) left in
     subst (λ (xs : List B). GoesOn march d boxes (map f xs) (more_failing failing failed)) (sym gone) counted
 
-pub goes_failed : {B : Type 0} (f : B → Told) (march : List MarchElement) (d : Description) (boxes : Boxes) (now next : List B) (tells : Tells) (failing : ℕ) (failed : Bool)
-    → failed ≡ true → AllRight march d (run_word march d (benched_chip d None)) → 0 < length now → next ≡ drop 1 now
-    → ((b : B) (rest : List B) → now ≡ b ∷ rest → tells ≡ ready d None (f b).tells) → IsEnd march d tells failed
-    → GoesOn march d boxes (map f now) failing → GoesOn march d boxes (map f next) (failing + 1)
-goes_failed f march d boxes now next tells failing failed is right some gone told end on =
-    subst (λ (x : Bool). GoesOn march d boxes (map f next) (more_failing failing x)) is
-    (goes_more f march d boxes now next tells failing failed right some gone told end on)
-
-pub goes_passed : {B : Type 0} (f : B → Told) (march : List MarchElement) (d : Description) (boxes : Boxes) (now next : List B) (tells : Tells) (failing : ℕ) (failed : Bool)
-    → failed ≡ false → AllRight march d (run_word march d (benched_chip d None)) → 0 < length now → next ≡ drop 1 now
-    → ((b : B) (rest : List B) → now ≡ b ∷ rest → tells ≡ ready d None (f b).tells) → IsEnd march d tells failed
-    → GoesOn march d boxes (map f now) failing → GoesOn march d boxes (map f next) failing
-goes_passed f march d boxes now next tells failing failed is right some gone told end on =
-    subst (λ (x : Bool). GoesOn march d boxes (map f next) (more_failing failing x)) is
-    (goes_more f march d boxes now next tells failing failed right some gone told end on)
+pub few_more : (failing : ℕ) (failed : Bool) → more_failing failing failed ≤ failing + 1
+few_more failing false = omega arith
+few_more failing true = omega arith
 
 all_counted : (march : List MarchElement) (d : Description) (boxes : Boxes) (failing : ℕ) → GoesOn march d boxes [] failing → CountsFailing march d boxes failing
 all_counted march d boxes failing on =
@@ -99,16 +72,14 @@ pub boxes_counted : {B : Type 0} (f : B → Told) (march : List MarchElement) (d
 boxes_counted f march d items [] failing on none = all_counted march d (map f items) failing on
 boxes_counted f march d items (b ∷ now) failing on none = absurd (omega (arith, none))
 
--- the plan of so many runs of which so many failed
-pub boxes_benched : {B : Type 0} (f : B → Told) (march : List MarchElement) (d : Description) (items : List B) (failing count : ℕ) (r : Result Plan NoMemory)
-    → CountsFailing march d (map f items) failing → count ≡ length items
-    → IfOk r (λ plan. done_of plan ≡ all_done count failing) → IfOk r (λ plan. IsAllBenched march d (map f items) (done_of plan))
-boxes_benched f march d items failing count (Ok plan) (seen, are, fails) counted is = record {
+-- so many runs of which so many failed
+pub boxes_benched : {B : Type 0} (f : B → Told) (march : List MarchElement) (d : Description) (items : List B) (failing count : ℕ) (done : Done) → CountsFailing march d (map f items) failing
+    → count ≡ length items → done ≡ all_done count failing → IsAllBenched march d (map f items) done
+boxes_benched f march d items failing count done (seen, are, fails) counted is = record {
   seen = seen;
   are_seen = are;
   done_is = is ∙ ap (λ n. all_done n failing) (counted ∙ sym (length-map items f)) ∙ ap (all_done (length (map f items))) fails;
 }
-boxes_benched f march d items failing count (Err e) on counted is = tt
 
 -- as many boxes as there are told ones
 pub some_stay : {B : Type 0} (f : B → Told) (now next : List B) → 0 < length now → map f next ≡ map f now → 0 < length next

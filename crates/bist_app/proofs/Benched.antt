@@ -1,32 +1,17 @@
 -- What a run against the first box leaves.
-use Rattle.std.proofs.Common.{◌≡◌, ◌<◌, ◌*◌, ◌+◌, ◌%◌, ◌/◌, ◌^◌, ◌∙◌, ℕ, zero, suc, false, List, [], ◌∷◌, length, map, replicate, Option, None, Some, is_some, Bool, Result, Ok, Err, IfOk, IfErr, bit_xor, refl, sym, ap, ap₂, subst, arith}
+use Rattle.bist_app.proofs.Common.{◌≡◌, ◌<◌, ◌*◌, ◌+◌, ◌%◌, ◌/◌, ◌^◌, ◌∙◌, ℕ, zero, suc, false, List, [], ◌∷◌, length, map, replicate, Option, None, Some, is_some, Bool, Result, Ok, Err, IfOk, IfErr, bit_xor, refl, sym, ap, ap₂, subst, arith, MarchElement, Description, Planted, Chip, shape_of, planted_chip, Tells, TellsChip, TellsScript, TellsNothing, Told, pattern, filled_chip, blank, AllRight, IsPlain, PassesAlone, run_word, Seen, IsFirstRead, EndsSelfTest, IsSeenOf, IsWrongRead, SelfTest, ModuleTree, Plan, Refusal, Done, done_of, plain, OrNoMemory, IsOwnRefusal}
 use Rattle.std.specs.List.{range_with_len}
 use Rattle.std.proofs.lemmas.List.{length-replicate}
 use Rattle.std.proofs.Math.Nat.{one-le-pow, mod-eq_of_lt}
-use Rattle.march_core.specs.March.{MarchElement}
-use Rattle.memory_desc.specs.Descriptions.{Description}
 use Rattle.word_device.specs.declared.shape.Shape.{Shape}
-use Rattle.word_device.specs.declared.device.Planted.{Planted}
 use Rattle.word_device.specs.Chips.{closed_words}
-use Rattle.word_device.specs.Ports.{Chip, shape_of, planted_chip}
-use Rattle.word_device.specs.Boxes.{Tells, TellsChip, TellsScript, TellsNothing, Told, pattern, filled_chip, blank}
-use Rattle.word_device.specs.Runs.{AllRight, IsPlain, PassesAlone, run_word}
-use Rattle.bench.specs.declared.ending.Seen.{Seen}
-use Rattle.bench.specs.Endings.{IsFirstRead, Runs}
-use Rattle.bench.specs.Laws.{EndsSelfTest, IsSeenOf, IsWrongRead}
-use Rattle.self_test.specs.SelfTest.{SelfTest}
-use Rattle.verilog_tree.specs.Plain.{ModuleTree}
+use Rattle.bench.specs.Endings.{Runs}
 use Rattle.std.proofs.lemmas.Result.{IfOk-weaker}
 use Rattle.bist_bits.specs.declared.NoMemory.{NoMemory}
-use Rattle.bist_endings.specs.declared.ending.Plan.{Plan}
-use Rattle.bist_endings.specs.declared.ending.Refusal.{Refusal}
-use Rattle.bist_endings.specs.Ending.{Done, done_of, plain}
-use Rattle.bist_endings.specs.Then.{OrNoMemory}
-use Rattle.bist_inputs.specs.Inputs.{IsOwnRefusal}
 use Rattle.bist_app.specs.declared.benching.RunEnd.{RunEnd}
 use Rattle.bist_app.specs.Bench.{ready, benched_chip, benched_done, IsSeen, IsRun, IsBenched, IsSoundBenched, LeavesBench}
 use Rattle.bist_app.specs.BenchFile.{IsFileRun, LeavesBenchFile, RunsBeside, zero_registers}
-use Rattle.bist_app.specs.BenchedBoxes.{EndsRun}
+use Rattle.bist_app.specs.inner.BenchedBoxes.{EndsRun}
 use Rattle.bist_app.proofs.Table.BenchFacts.{first_one}
 
 -- the number 0 stands for words of 0

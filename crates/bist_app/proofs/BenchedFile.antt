@@ -1,16 +1,11 @@
 -- The words that are seen of a run of any module with the ports of a self-test.
-use Rattle.std.proofs.Common.{◌≡◌, ℕ, List, Option, Some, None, refl, sym, subst}
+use Rattle.bist_app.proofs.Common.{◌≡◌, ℕ, List, Option, Some, None, refl, sym, subst, ModuleTree, ModulePort, MarchElement, Description, IsMemory, Tells, Seen}
 use Rattle.std.specs.Option.{option_map}
-use Rattle.verilog_tree.specs.Plain.{ModuleTree, ModulePort}
-use Rattle.march_core.specs.March.{MarchElement}
-use Rattle.memory_desc.specs.Descriptions.{Description, IsMemory}
 use Rattle.self_test.specs.WrongPort.{wrong_port, ArePorts}
 use Rattle.self_test.proofs.Wrong.{none_exactly}
-use Rattle.word_device.specs.Boxes.{Tells}
-use Rattle.bench.specs.declared.ending.Seen.{Seen}
 use Rattle.bench.proofs.OneRun.{AreLow, seen_low}
 use Rattle.bist_app.specs.Bench.{AreWords}
-use Rattle.bist_app.specs.BenchedBoxes.{EndsRun}
+use Rattle.bist_app.specs.inner.BenchedBoxes.{EndsRun}
 use Rattle.bist_app.specs.declared.benching.RunEnd.{RunEnd}
 
 same_option : (o : Option (List ℕ)) → option_map (λ n. n) o ≡ o

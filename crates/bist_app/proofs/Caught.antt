@@ -1,15 +1,8 @@
 -- A chip in which an instance of a detected primitive was just planted.
-use Rattle.std.proofs.Common.{◌<◌, ◌∙◌, List, Some, refl, sym, subst}
+use Rattle.bist_app.proofs.Common.{◌<◌, ◌∙◌, List, Some, refl, sym, subst, MarchElement, IsPrimitive, Description, IsMemory, Planted, shape_of, blank, HasDetected, FailsAlone, Closes, SomeWrong, run_word}
 use Rattle.std.proofs.lemmas.List.{length-replicate}
-use Rattle.march_core.specs.March.{MarchElement}
-use Rattle.fault_core.specs.Primitive.{IsPrimitive}
 use Rattle.array_sim.specs.Detection.{Detects}
-use Rattle.memory_desc.specs.Descriptions.{Description, IsMemory}
-use Rattle.word_device.specs.declared.device.Planted.{Planted}
 use Rattle.word_device.specs.Chips.{FitsMemory}
-use Rattle.word_device.specs.Ports.{shape_of}
-use Rattle.word_device.specs.Boxes.{blank}
-use Rattle.word_device.specs.Runs.{HasDetected, FailsAlone, Closes, SomeWrong, run_word}
 use Rattle.bist_app.specs.Bench.{benched_chip}
 
 has_detected : (march : List MarchElement) (d : Description) (i : Planted) → IsMemory d → IsPrimitive i.prim → FitsMemory i d.words d.bits → Closes

@@ -1,18 +1,11 @@
 -- What the check of a module's open run leaves.
-use Rattle.std.proofs.Common.{◌≡◌, ℕ, List, Some, None, Result, Ok, Err, IfOk, IfErr, refl, sym, subst}
+use Rattle.bist_app.proofs.Common.{◌≡◌, ℕ, List, Some, None, Result, Ok, Err, IfOk, IfErr, refl, sym, subst, ModuleTree, MarchElement, Description, Refusal, Plan, Done, done_of, plain, HasPorts}
 use Rattle.arrayvec.specs.ArrayString.{ArrayString}
-use Rattle.verilog_tree.specs.Plain.{ModuleTree}
-use Rattle.march_core.specs.March.{MarchElement}
-use Rattle.memory_desc.specs.Descriptions.{Description}
 use Rattle.port_check.specs.declared.answer.CheckFault.{CheckFault}
 use Rattle.port_check.specs.declared.answer.PortAnswer.{PortAnswer}
 use Rattle.port_check.specs.Answers.{IsAnswer}
 use Rattle.port_check.specs.Refusals.{Refuses}
-use Rattle.bist_endings.specs.declared.ending.Refusal.{Refusal}
 use Rattle.bist_endings.specs.declared.ending.VerilogRefusal.{VerilogRefusal}
-use Rattle.bist_endings.specs.declared.ending.Plan.{Plan}
-use Rattle.bist_endings.specs.Ending.{Done, done_of, plain}
-use Rattle.bist_app.specs.Shared.{HasPorts}
 use Rattle.bist_app.proofs.SharedFacts.{too_long as length_refused}
 use Rattle.bist_app.specs.Check.{LeavesCheck, ChecksRun, check_done}
 

@@ -1,26 +1,12 @@
 -- The checks of a chip and of its units, one behind another.
-use Rattle.std.proofs.Common.{◌≡◌, ◌∙◌, ◌≤◌, ◌<◌, ◌+◌, ◌∷◌, [], ℕ, zero, suc, All, List, length, map, get_or, Option, Some, Result, Ok, Err, IfOk, refl, sym, ap, subst, arith}
+use Rattle.bist_app.proofs.Common.{◌≡◌, ◌∙◌, ◌≤◌, ◌<◌, ◌+◌, ◌∷◌, [], ℕ, zero, suc, All, List, length, map, Option, Result, Ok, Err, IfOk, refl, sym, ap, subst, arith, Files, Description, IsMemory, ChipDescription, UnitDescription, IsChip, unit_of, TestUnit, memories, weights, Refusal, Plan, Done, done_of, plain, Words, NamesWords, GivesMemory, FileMemory, UnitMemory, HasForm}
 use Rattle.std.proofs.Math.Path.{ap₂}
 use Rattle.std.proofs.lemmas.List.{length-map}
-use Rattle.bist_host.specs.Files.{Files}
-use Rattle.memory_desc.specs.Descriptions.{Description, IsMemory}
-use Rattle.chip_desc.specs.Chips.{ChipDescription, UnitDescription, IsChip, unit_of}
 use Rattle.chip_desc.specs.declared.chip.ChipUnit.{ChipUnit}
-use Rattle.chip_rtl.specs.ChipTest.{TestUnit}
-use Rattle.chip_rtl.specs.ChipLaws.{memories, weights}
-use Rattle.bist_endings.specs.declared.ending.Refusal.{Refusal}
-use Rattle.bist_endings.specs.declared.ending.Plan.{Plan}
-use Rattle.bist_endings.specs.Ending.{Done, done_of, plain}
-use Rattle.bist_endings.specs.Words.{Words}
-use Rattle.bist_endings.specs.Conclude.{NamesWords}
-use Rattle.bist_inputs.specs.Inputs.{GivesBytes}
-use Rattle.bist_inputs.specs.Memories.{GivesMemory, FileMemory}
-use Rattle.bist_inputs.specs.Chips.{InputChip, UnitMemory}
 use Rattle.bist_app.specs.declared.units.UnitTable.{UnitTable}
-use Rattle.bist_app.specs.Forms.{HasForm}
-use Rattle.bist_app.specs.Chip.{GivesUnit, GivesUnits, HasOwnNames, LeavesChip, TestsNamed, TestsUnits, DecidesChip, chip_form}
-use Rattle.bist_app.specs.UnitTables.{IsTableOf, AppendsUnits}
-use Rattle.bist_app.specs.ChipParts.{IsRead, IsReady}
+use Rattle.bist_app.specs.Chip.{GivesUnit, GivesUnits, HasOwnNames, LeavesChip, TestsUnits, DecidesChip, chip_form}
+use Rattle.bist_app.specs.inner.UnitTables.{IsTableOf, AppendsUnits}
+use Rattle.bist_app.specs.inner.ChipParts.{IsRead, IsReady}
 
 not_refused : {A E : Type 0} {value : A} {error : E} → Ok value ≡ Err error → ⊥
 not_refused same = cc

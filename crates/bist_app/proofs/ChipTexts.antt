@@ -1,5 +1,5 @@
 -- The text of a chip's self-tests, and its file.
-use Rattle.std.proofs.Common.{◌≡◌, ◌∙◌, ◌≤◌, ◌<◌, ◌+◌, ◌++◌, ◌&&◌, ◌∷◌, [], ℕ, zero, suc, ◌⊎◌, inl, inr, Bool, true, false, not, All, List, length, map, take, get_or, Option, Some, None, Result, Ok, Err, OnOk, slice_get, slice_index_or, Contains, nat_le, refl, sym, ap, subst, arith, append-nil, append_assoc, add-one}
+use Rattle.bist_app.proofs.Common.{◌≡◌, ◌∙◌, ◌≤◌, ◌<◌, ◌+◌, ◌++◌, ◌&&◌, ◌∷◌, [], ℕ, zero, suc, ◌⊎◌, inl, inr, true, false, not, All, List, length, map, take, get_or, Some, slice_get, Contains, refl, sym, ap, subst, arith, append-nil, append_assoc, add-one, MarchElement, Description, ModuleTree, SelfTest, ChipDescription, Seat, IsFirstRoom, FirstFit, last_group, end_of, TestUnit, lengths, AllTested, IsPlan, memories, weights, Written}
 use Rattle.std.proofs.Math.Path.{ap₂}
 use Rattle.std.proofs.Math.Seq.{take-suc}
 use Rattle.std.proofs.lemmas.Bool.{le-leb}
@@ -7,28 +7,19 @@ use Rattle.std.proofs.lemmas.List.{length-map, take_all}
 use Rattle.std.specs.Option.{option_map}
 use Rattle.std.proofs.lemmas.List.Elements.{All-map}
 use Rattle.std.proofs.lemmas.Option.{slice_get-get_or, slice_get-map, slice_get_within, get_or_from_slice_get}
-use Rattle.march_core.specs.March.{MarchElement}
 use Rattle.memory_desc.specs.Names.{IsName}
-use Rattle.memory_desc.specs.Descriptions.{Description, IsMemory}
-use Rattle.verilog_tree.specs.Plain.{ModuleTree}
 use Rattle.verilog_tree.specs.Words.{is_name}
 use Rattle.verilog_tree.specs.Fits.{fits}
 use Rattle.verilog_emit.specs.Printed.{printed}
-use Rattle.self_test.specs.SelfTest.{SelfTest, module_name}
-use Rattle.chip_desc.specs.Chips.{ChipDescription, IsChip, IsUnit}
-use Rattle.chip_plan.specs.Groups.{Seat, IsFirstRoom, FirstFit, last_group, end_of}
 use Rattle.chip_plan.proofs.Filling.{few_groups as numbered, none_left_out}
-use Rattle.chip_rtl.specs.ChipTest.{TestUnit, lengths}
-use Rattle.chip_rtl.specs.ChipLaws.{AllTested, IsPlan, memories, weights}
 use Rattle.chip_rtl.specs.PrintedTop.{printed_units}
 use Rattle.chip_rtl.specs.TopFits.{AllFit}
-use Rattle.chip_rtl.specs.ChipFile.{ChipFile, IsPlanOf, EndsFile}
+use Rattle.chip_rtl.specs.ChipFile.{IsPlanOf, EndsFile}
 use Rattle.chip_rtl.proofs.Whole.{counted}
-use Rattle.bist_endings.specs.Ending.{Written}
 use Rattle.bist_app.specs.declared.units.UnitTable.{UnitTable}
-use Rattle.bist_app.specs.Chip.{chip_line}
-use Rattle.bist_app.specs.UnitTables.{IsTableOf}
-use Rattle.bist_app.specs.ChipParts.{IsRead, IsReady, PutsSelfTest, AreSelfTests, PutSelfTests, CanStart, MakesFile, TestsTable}
+use Rattle.bist_app.specs.Chip.{IsChipTested, chip_line}
+use Rattle.bist_app.specs.inner.UnitTables.{IsTableOf}
+use Rattle.bist_app.specs.inner.ChipParts.{IsRead, PutsSelfTest, AreSelfTests, PutSelfTests, CanStart, IsReady, MakesFile}
 use Rattle.bist_app.proofs.TakenNames.{all_differ}
 
 -- ---- texts, one behind another
@@ -203,7 +194,8 @@ starts chip t us budget ws groups ls b w l r f = subst (CanStart groups) (sym l)
 
 pub tests_table : (chip : ChipDescription) (t : UnitTable) (budget : ℕ) (ws groups ls text line : List ℕ) (outputs : List Written) → budget ≡ chip.budget → ws ≡ t.weights.items → ls ≡ t.lengths.items
     → FirstFit budget [] ws groups → MakesFile chip t groups text → line ≡ chip_line (length groups) (suc (last_group groups)) (end_of groups ls)
-    → outputs ≡ (record { position = 2; bytes = text }) ∷ [] → TestsTable chip t (record { found = false; outputs = outputs; line = line })
+    → outputs ≡ (record { position = 2; bytes = text }) ∷ [] → (us : List TestUnit) → IsReady chip t us
+    → IsChipTested chip.name us chip.budget (record { found = false; outputs = outputs; line = line })
 tests_table chip t budget ws groups ls text line outputs b w l f makes said out us ready =
     let r = ready.has_read in
     let fit = fitted_units chip t us budget ws groups b w r f in

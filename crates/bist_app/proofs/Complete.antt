@@ -1,17 +1,6 @@
 -- Where neither count rose and there was memory, the answer is that of the told files.
-use Rattle.std.proofs.Common.{◌≡◌, inl, inr, refl, subst, ℕ, Option, Some, None, Ok, Err, IfSome, ◌∙◌}
-use Rattle.bist_host.specs.Files.{Files, HostState, ReadsRose, WritesRose}
-use Rattle.bist_endings.specs.declared.ending.InputRefusal.{InputRefusal}
-use Rattle.bist_endings.specs.declared.ending.Refusal.{Refusal}
-use Rattle.bist_endings.specs.declared.concluding.WriteStop.{WriteStop}
-use Rattle.bist_endings.specs.Words.{Words}
-use Rattle.bist_endings.specs.Ending.{Done, status_of}
-use Rattle.bist_inputs.specs.Inputs.{HasReadCause}
-use Rattle.bist_endings.specs.OneOutcome.{IsSettledRefusal}
-use Rattle.bist_endings.specs.Conclude.{WritesInOrder}
-use Rattle.bist_app.specs.Shared.{Boxes}
+use Rattle.bist_app.proofs.Common.{◌≡◌, inl, inr, refl, subst, ℕ, Option, Some, None, Ok, Err, IfSome, ◌∙◌, Files, HostState, ReadsRose, WritesRose, InputRefusal, Refusal, WriteStop, Words, Done, status_of, HasReadCause, IsSettledRefusal, WritesInOrder, Boxes, Runs, Decides}
 use Rattle.bist_app.specs.Answer.{Answers, IsComplete}
-use Rattle.bist_app.specs.Run.{Runs, Decides}
 
 is_settled : (files : Option Files) (rr : Type 0) (e : Refusal) → (rr → ⊥) → (status_of e ≡ 9 → ⊥) → HasReadCause {A = Done} files rr (Err e) → IsSettledRefusal e
 is_settled files rr (Refusal.ReadFailed p) quiet nine c = quiet c

@@ -1,32 +1,20 @@
 -- What the answer of the top call comes to for `check`.
-use Rattle.std.proofs.Common.{◌≡◌, ◌∙◌, sym, subst, ap, arith, ℕ, List, [], Option, Some, None, Ok, Err}
-use Rattle.bist_host.specs.Files.{Files, HostState, Says}
-use Rattle.march_core.specs.March.{MarchElement}
+use Rattle.bist_app.proofs.Common.{◌≡◌, ◌∙◌, sym, subst, ap, arith, ℕ, List, [], Option, Some, None, Ok, Err, Files, HostState, Says, MarchElement, Description, IsMemory, ModuleTree, Words, word, Done, found_status, WritesInOrder, CanRun, Boxes, HasPorts, HasForm, command_named, Runs, Command}
 use Rattle.march_syntax.specs.Answers.{Reads as ReadsMarch}
-use Rattle.memory_desc.specs.Descriptions.{Description, IsMemory}
 use Rattle.memory_desc.specs.Table.{Reads as ReadsMemory}
-use Rattle.verilog_tree.specs.Plain.{ModuleTree}
 use Rattle.verilog_tree.specs.Grammar.{ByPrecedence}
 use Rattle.self_test.specs.WrongPort.{wrong_port}
 use Rattle.port_check.specs.declared.answer.PortAnswer.{PortAnswer}
 use Rattle.port_check.specs.Answers.{Told}
 use Rattle.port_check.specs.Compared.{Issues}
 use Rattle.port_check.proofs.Checking.{told_of}
-use Rattle.bist_endings.specs.Words.{Words, word}
-use Rattle.bist_endings.specs.Ending.{Done, found_status}
-use Rattle.bist_endings.specs.Conclude.{WritesInOrder}
-use Rattle.bist_inputs.specs.Designs.{CanRun}
 use Rattle.bist_inputs.proofs.OneDesign.{Spelled, input_spells, input_can_run}
-use Rattle.bist_app.specs.Shared.{Boxes, HasPorts}
 use Rattle.bist_app.specs.Check.{IsChecked, LeavesCheck, DecidesCheck, is_amiss, check_form}
 use Rattle.bist_app.specs.Conformance.{IsConformance, LeavesConformance}
 use Rattle.bist_app.specs.Headline.{InputHas}
-use Rattle.bist_app.specs.Forms.{HasForm}
-use Rattle.bist_app.specs.Run.{command_named, Runs}
 use Rattle.bist_app.proofs.Headline.{march_read, memory_read}
 use Rattle.bist_app.proofs.Complete.{if_told}
 use Rattle.bist_app.proofs.Succeeding.{Succeeds, succeeds, not_refused}
-use Rattle.bist_app.specs.declared.commands.Command.{Command}
 
 -- the module, the march and the memory that were read, and what is left of them
 record Inputs (files : Files) (words : Words) (done : Done) : Type 0 where

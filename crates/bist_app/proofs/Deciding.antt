@@ -1,15 +1,5 @@
 -- A run is what was decided and how that ended: to decide only reads.
-use Rattle.std.proofs.Common.{◌≡◌, ℕ, List, Option, Some, None, Result, Ok, Err, sym, subst}
-use Rattle.bist_host.specs.Files.{Files, HostState, OnlyReads, Rose}
-use Rattle.bist_endings.specs.declared.ending.Refusal.{Refusal}
-use Rattle.bist_endings.specs.declared.ending.Plan.{Plan}
-use Rattle.bist_endings.specs.declared.concluding.WriteStop.{WriteStop}
-use Rattle.bist_endings.specs.Ending.{Done, plain}
-use Rattle.bist_endings.specs.Words.{Words}
-use Rattle.bist_endings.specs.Conclude.{Ends}
-use Rattle.bist_inputs.specs.Inputs.{HasReadCause, HasCause}
-use Rattle.bist_app.specs.Shared.{Boxes}
-use Rattle.bist_app.specs.Run.{Decides, Runs}
+use Rattle.bist_app.proofs.Common.{◌≡◌, ℕ, List, Option, Result, Ok, Err, sym, subst, Files, HostState, OnlyReads, Rose, Refusal, Plan, WriteStop, Done, plain, Words, Ends, HasReadCause, HasCause, Boxes, Decides, Runs}
 
 plain_cause : (files : Option Files) (rose : Type 0) (r : Result Plan Refusal) → HasReadCause files rose r → HasReadCause files rose (plain r)
 plain_cause files rose (Ok plan) c = tt

@@ -1,13 +1,5 @@
 -- What is known of a command's row, and how it is put together beside the boxes.
-use Rattle.std.proofs.Common.{Err, List, Ok, Option, Result, inl, inr, ◌≡◌, ◌⊎◌}
-use Rattle.bist_app.specs.Forms.{Row}
-use Rattle.bist_app.specs.Shared.{Before, Boxes}
-use Rattle.bist_endings.proofs.Settling.{Concludes, IsTold, Settles, narrows, then_concludes}
-use Rattle.bist_endings.specs.Ending.{Done, Written}
-use Rattle.bist_endings.specs.Then.{SaysOwn, Then}
-use Rattle.bist_endings.specs.Words.{Words}
-use Rattle.bist_endings.specs.declared.ending.Refusal.{Refusal}
-use Rattle.bist_host.specs.Files.{Files}
+use Rattle.bist_app.proofs.Common.{Err, List, Ok, Option, Result, inl, inr, ◌≡◌, ◌⊎◌, Form, Row, reads_files, Before, Boxes, Concludes, IsTold, Settles, narrows, then_concludes, Done, Written, SaysOwn, Then, Words, Refusal, Files}
 
 -- an outcome that is allowed with some boxes left
 abbrev pub SomeLeft : (Boxes → Result Done Refusal → Type 0) → Result Done Refusal → Type 0
@@ -19,6 +11,20 @@ pub record Facts (row : Row) : Type 0 where
       → Concludes (row.says words) (IsTold files) (row.called_tell boxes) row.settled (SomeLeft (λ left. row.decides files boxes left words))
   pub said : (files : Option Files) (boxes left : Boxes) (words : Words) (r : Result Done Refusal) → row.decides files boxes left words r
       → ((r ≡ Err Refusal.Usage) × (row.says words → ⊥)) ⊎ row.says words
+
+-- what is left of the boxes beside
+pub with_left : {Says Told Tells : Type 0} {settled : List Written → List Written} (checks : Result Done Refusal → Type 0) (leaves : Boxes → Result Done Refusal → Type 0)
+    → Concludes Says Told Tells settled checks → Concludes Says Told Tells settled (SomeLeft (λ left outcome. checks outcome × leaves left outcome))
+with_left checks leaves c = narrows checks (SomeLeft (λ left outcome. checks outcome × leaves left outcome)) (λ r h. h.1.0) c
+
+-- of a command that only reads files
+pub files_facts : (form : Form) (decides : Option Files → Words → Result Done Refusal → Type 0) (settled : List Written → List Written)
+    → ((files : Option Files) (words : Words) → Concludes (Unit {0}) (IsTold files) (Unit {0}) settled (decides files words))
+    → Facts (record (reads_files form decides) { settled = settled })
+files_facts form decides settled concludes = record {
+  concludes = λ files boxes words. with_left (decides files words) (λ left _. left ≡ boxes) (concludes files words);
+  said = λ files boxes left words r h. inr tt;
+}
 
 -- ---- checks before any box is called
 
@@ -34,11 +40,6 @@ pub before_conclude : {A Says Told Tells : Type 0} {settled : List Written → L
 before_conclude boxes first rest check each =
     narrows (Then first (λ a. SomeLeft (rest a))) (SomeLeft (λ left. Before boxes left first (λ a. rest a left))) (λ r h. apart boxes h.0 first rest r h.1)
     (then_concludes first (λ a. SomeLeft (rest a)) check each)
-
--- what is left of the boxes beside
-pub with_left : {Says Told Tells : Type 0} {settled : List Written → List Written} (checks : Result Done Refusal → Type 0) (leaves : Boxes → Result Done Refusal → Type 0)
-    → Concludes Says Told Tells settled checks → Concludes Says Told Tells settled (SomeLeft (λ left outcome. checks outcome × leaves left outcome))
-with_left checks leaves c = narrows checks (SomeLeft (λ left outcome. checks outcome × leaves left outcome)) (λ r h. h.1.0) c
 
 pub before_said : {Own : Type 0} (boxes left : Boxes) (says : Own → Type 0) (rest : Own → Result Done Refusal → Type 0) (r : Result Done Refusal)
     → Before boxes left (SaysOwn says) rest r → ((r ≡ Err Refusal.Usage) × (((own : Own) × says own) → ⊥)) ⊎ ((own : Own) × says own)

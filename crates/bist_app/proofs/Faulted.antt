@@ -1,22 +1,10 @@
 -- What a run against the first box leaves, where an instance is planted.
-use Rattle.std.proofs.Common.{◌≡◌, ◌<◌, ◌∙◌, ℕ, true, List, [], ◌∷◌, length, map, Option, Some, None, is_some, Result, Ok, Err, IfOk, IfErr, refl, subst, arith}
+use Rattle.bist_app.proofs.Common.{◌≡◌, ◌<◌, ◌∙◌, ℕ, true, List, [], ◌∷◌, length, map, Option, Some, None, is_some, Result, IfOk, IfErr, refl, subst, arith, MarchElement, Primitive, has_aggressor, Description, Planted, Chip, Tells, TellsChip, Told, SomeWrong, run_word, Seen, IsFirstRead, Plan, Refusal, Done, done_of, plain}
 use Rattle.std.specs.Prelude.{IsTrue}
 use Rattle.std.proofs.lemmas.Result.{IfOk-weaker}
-use Rattle.march_core.specs.March.{MarchElement}
 use Rattle.fault_core.specs.declared.primitive.Sense.{Sense}
-use Rattle.fault_core.specs.Primitive.{Primitive, has_aggressor}
 use Rattle.array_sim.specs.Detection.{Detects}
-use Rattle.memory_desc.specs.Descriptions.{Description}
-use Rattle.word_device.specs.declared.device.Planted.{Planted}
 use Rattle.word_device.specs.Chips.{FitsAggPlace}
-use Rattle.word_device.specs.Ports.{Chip}
-use Rattle.word_device.specs.Boxes.{Tells, TellsChip, Told}
-use Rattle.word_device.specs.Runs.{SomeWrong, run_word}
-use Rattle.bench.specs.declared.ending.Seen.{Seen}
-use Rattle.bench.specs.Endings.{IsFirstRead}
-use Rattle.bist_endings.specs.declared.ending.Plan.{Plan}
-use Rattle.bist_endings.specs.declared.ending.Refusal.{Refusal}
-use Rattle.bist_endings.specs.Ending.{Done, done_of, plain}
 use Rattle.bist_app.specs.declared.benchfault_command.NamedPlace.{NamedPlace}
 use Rattle.bist_app.specs.declared.benchfault_command.FaultShape.{FaultShape}
 use Rattle.bist_app.specs.Bench.{benched_chip, CanPlant, IsSeen, IsBenched}

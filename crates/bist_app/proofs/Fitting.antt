@@ -1,5 +1,5 @@
 -- A box that has room is refused a shape for want of memory alone.
-use Rattle.std.proofs.Common.{◌≡◌, ◌≢◌, ◌≤◌, ◌<◌, ◌↔◌, ℕ, Result, Err, refl, arith}
+use Rattle.bist_app.proofs.Common.{◌≡◌, ◌≢◌, ◌≤◌, ◌<◌, ◌↔◌, ℕ, Result, Err, refl, arith}
 use Rattle.word_device.specs.declared.device.DeviceFault.{DeviceFault}
 
 pub want_of_fitted : {A : Type 0} (fault : DeviceFault) (room words : ℕ) → ((let r : Result A DeviceFault = Err fault in r) ≡ Err DeviceFault.TooBig ↔ (room < words))

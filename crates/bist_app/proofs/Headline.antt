@@ -1,25 +1,12 @@
 -- What the answer of the top call comes to for `compile`.
-use Rattle.std.proofs.Common.{ap, ◌≡◌, ◌≢◌, ◌<◌, sym, ◌∙◌, subst, arith, ℕ, List, [], ◌∷◌, Option, Some, None, Ok, Err}
-use Rattle.bist_host.specs.Files.{Files, HostState, WritesFile, Says}
-use Rattle.march_core.specs.March.{MarchElement}
+use Rattle.bist_app.proofs.Common.{ap, ◌≡◌, ◌≢◌, ◌<◌, sym, ◌∙◌, subst, arith, ℕ, List, [], ◌∷◌, Option, Some, None, Ok, Err, Files, HostState, WritesFile, Says, MarchElement, Description, IsMemory, Item, Words, word, Done, WritesInOrder, FileMarch, InputMarch, InputList, GivesMarch, GivesList, FileMemory, InputMemory, GivesMemory, Boxes, HasForm, Command, command_named, Runs}
 use Rattle.march_syntax.specs.Answers.{Reads as ReadsMarch}
-use Rattle.memory_desc.specs.Descriptions.{Description, IsMemory}
 use Rattle.memory_desc.specs.Table.{Reads as ReadsMemory}
-use Rattle.dynamic_core.specs.declared.item.Item.{Item}
 use Rattle.dynamic_core.specs.Items.{ReadsItems}
-use Rattle.bist_endings.specs.Words.{Words, word}
-use Rattle.bist_endings.specs.Ending.{Done}
-use Rattle.bist_endings.specs.Conclude.{WritesInOrder}
-use Rattle.bist_inputs.specs.Inputs.{FileMarch, InputMarch, InputList, GivesMarch, GivesList}
-use Rattle.bist_inputs.specs.Memories.{FileMemory, InputMemory, GivesMemory}
-use Rattle.bist_app.specs.Shared.{Boxes}
 use Rattle.bist_app.specs.Compile.{IsCompiled, LeavesCompile, DecidesCompile, compile_form}
 use Rattle.bist_app.specs.Headline.{InputHas, IsCompilation, LeavesCompilation}
-use Rattle.bist_app.specs.Forms.{HasForm}
 use Rattle.bist_app.proofs.Complete.{if_told}
 use Rattle.bist_app.proofs.Succeeding.{Succeeds, succeeds, not_refused}
-use Rattle.bist_app.specs.declared.commands.Command.{Command}
-use Rattle.bist_app.specs.Run.{command_named, Runs}
 
 -- ---- the inputs
 

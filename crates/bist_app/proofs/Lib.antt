@@ -1,3 +1,4 @@
+pub mod Common
 mod Causes
 pub mod Refusing
 pub mod Listed

@@ -1,5 +1,5 @@
 -- The files of a plan.
-use Rattle.std.proofs.Common.{◌≡◌, Result, Ok, Err, IfOk, MatchResult, IsErrAnd, List, [], ◌∷◌, Vec, Global, map, ap, ◌∙◌, sym, subst}
+use Rattle.bist_app.proofs.Common.{◌≡◌, Result, Ok, Err, IfOk, MatchResult, IsErrAnd, List, [], ◌∷◌, Vec, Global, map, ap, ◌∙◌, sym, subst}
 
 -- what a call gives stays behind `map_err`
 pub behind : {T E F : Type 0} (r : Result T E) (s : Result T F) (P : T → Type 0) (Q : E → F → Type 0) → MatchResult r (λ x. s ≡ Ok x) (λ e. IsErrAnd s (Q e)) → IfOk r P → IfOk s P

@@ -1,5 +1,5 @@
 -- The lines of commands, one after another.
-use Rattle.std.proofs.Common.{◌≡◌, ℕ, suc, List, [], ◌∷◌, ◌++◌, All, sym, ◌∙◌, ap, arith, append-nil}
+use Rattle.bist_app.proofs.Common.{◌≡◌, ℕ, suc, List, [], ◌∷◌, ◌++◌, All, sym, ◌∙◌, ap, arith, append-nil}
 use Rattle.std.proofs.lemmas.List.Concat.{flat_map-cons}
 use Rattle.std.proofs.lemmas.Grind.{flat_map-append}
 use Rattle.word_march.specs.declared.operations.PortOp.{PortOp}

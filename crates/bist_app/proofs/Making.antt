@@ -1,13 +1,9 @@
 -- What is made is written to files that the words name.
-use Rattle.std.proofs.Common.{◌≡◌, ◌++◌, ◌∙◌, ℕ, List, ap, sym, subst, arith, length, codes, append_assoc}
+use Rattle.bist_app.proofs.Common.{◌≡◌, ◌++◌, ◌∙◌, ℕ, List, ap, sym, subst, arith, length, codes, append_assoc, Done, Words, NamesWords, HasForm}
 use Rattle.std.specs.Prelude.{decimal}
 use Rattle.memory_desc.specs.Printed.{printed}
 use Rattle.made_inputs.specs.MadeMarch.{made_march, line_of}
 use Rattle.made_inputs.specs.MadeList.{made_text}
-use Rattle.bist_endings.specs.Ending.{Done}
-use Rattle.bist_endings.specs.Words.{Words}
-use Rattle.bist_endings.specs.Conclude.{NamesWords}
-use Rattle.bist_app.specs.Forms.{HasForm}
 use Rattle.bist_app.specs.Make.{make_form, IsMade, made_outputs, sizes_text}
 
 are_named : (words : Words) (march memory listed text bytes : List ℕ) → length words ≡ 7 → NamesWords words (made_outputs march memory listed text bytes)

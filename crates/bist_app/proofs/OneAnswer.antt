@@ -1,17 +1,9 @@
 -- Over files that are told, words have one settled answer and the same settled files; and words that say something are not refused.
-use Rattle.std.proofs.Common.{Err, None, Ok, Option, Result, Some, ap, inl, inr, subst, sym, ◌∙◌, ◌≡◌}
+use Rattle.bist_app.proofs.Common.{Err, None, Ok, Option, Result, Some, ap, inl, inr, subst, sym, ◌∙◌, ◌≡◌, Decides, DecidesCommand, HasShape, row_of, Boxes, Command, Done, AreDone, HasOneAnswerButNames, answer_of, Words, Refusal, Files}
 use Rattle.bist_app.proofs.Facts.{SomeLeft}
 use Rattle.bist_app.proofs.OneCommand.{command_one}
 use Rattle.bist_app.proofs.Table.{facts_of}
 use Rattle.bist_app.specs.Answer.{CalledTell, HaveSameFiles, RunHasOneAnswer}
-use Rattle.bist_app.specs.Run.{Decides, DecidesCommand, HasShape, row_of}
-use Rattle.bist_app.specs.Shared.{Boxes}
-use Rattle.bist_app.specs.declared.commands.Command.{Command}
-use Rattle.bist_endings.specs.Ending.{Done}
-use Rattle.bist_endings.specs.OneOutcome.{AreDone, HasOneAnswerButNames, answer_of}
-use Rattle.bist_endings.specs.Words.{Words}
-use Rattle.bist_endings.specs.declared.ending.Refusal.{Refusal}
-use Rattle.bist_host.specs.Files.{Files}
 
 decides_answer : (files : Files) (boxes : Boxes) (words : Words)
     → HasOneAnswerButNames ((command : Command) → HasShape words command → CalledTell command boxes) (λ outcome. (left : Boxes) × Decides (Some files) boxes left words outcome)

@@ -1,21 +1,7 @@
 -- Over told files the units of a chip are read in one way, their names are refused in one way, and their test is told in one way; no
 -- check of a chip refuses the words.
-use Rattle.std.proofs.Common.{◌≡◌, ◌∙◌, ◌<◌, ◌⊎◌, inl, inr, ℕ, zero, suc, List, [], ◌∷◌, length, Option, Result, Ok, Err, refl, sym, ap, arith}
-use Rattle.std.proofs.Math.Path.{ap₂}
-use Rattle.bist_host.specs.Files.{Files}
-use Rattle.march_core.specs.March.{MarchElement}
-use Rattle.memory_desc.specs.Descriptions.{Description}
-use Rattle.chip_desc.specs.Chips.{UnitDescription}
-use Rattle.chip_plan.specs.Groups.{last_group, end_of}
-use Rattle.chip_rtl.specs.ChipTest.{TestUnit, lengths}
-use Rattle.chip_rtl.specs.ChipLaws.{weights}
+use Rattle.bist_app.proofs.Common.{◌≡◌, ◌∙◌, ◌<◌, ◌⊎◌, inl, inr, ℕ, zero, suc, List, [], ◌∷◌, length, Option, Result, Ok, Err, refl, sym, ap, arith, Files, Description, UnitDescription, last_group, end_of, TestUnit, lengths, weights, Refusal, Done, HasOneOutcome, Answer, answer_of, IsTold, Settles, outcome_settles, then_settles, UnitMarch, UnitMemory, unit_march_settles, unit_memory_settles}
 use Rattle.bist_endings.specs.declared.ending.ChipRefusal.{ChipRefusal}
-use Rattle.bist_endings.specs.declared.ending.Refusal.{Refusal}
-use Rattle.bist_endings.specs.Ending.{Done}
-use Rattle.bist_endings.specs.OneOutcome.{HasOneOutcome, Answer, answer_of}
-use Rattle.bist_endings.proofs.Settling.{IsTold, Settles, outcome_settles, then_settles}
-use Rattle.bist_inputs.specs.Chips.{UnitMarch, UnitMemory}
-use Rattle.bist_inputs.proofs.OneInput.{unit_march_settles, unit_memory_settles}
 use Rattle.bist_app.specs.Chip.{GivesUnit, GivesUnits, HasTakenName, HasOwnNames, IsChipTested, chip_line}
 use Rattle.bist_app.proofs.ChipTexts.{fit_one}
 

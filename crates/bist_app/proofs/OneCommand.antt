@@ -1,8 +1,5 @@
 -- Words have the form of one command alone: the names tell the commands apart.
-use Rattle.std.proofs.Common.{Option, Some, ap, refl, ◌∙◌, ◌≡◌}
-use Rattle.bist_app.specs.Run.{IsFormed, command_named, row_of}
-use Rattle.bist_app.specs.declared.commands.Command.{Command}
-use Rattle.bist_endings.specs.Words.{Words, word}
+use Rattle.bist_app.proofs.Common.{Option, Some, ap, refl, ◌∙◌, ◌≡◌, IsFormed, command_named, row_of, Command, Words, word}
 
 -- each command is the one of its name
 named : (c : Command) → command_named (row_of c).form.name ≡ Some c

@@ -1,11 +1,6 @@
 -- What is said of a judged list is one line and one status alone.
-use Rattle.std.proofs.Common.{ℕ, Bool, List, Option, [], ap, arith, false, length, refl, slice_index_or, subst, suc, sym, true, zero, ◌<◌, ◌∙◌, ◌∷◌, ◌≡◌}
+use Rattle.bist_app.proofs.Common.{ℕ, Bool, List, Option, [], ap, arith, false, length, refl, slice_index_or, subst, suc, sym, true, zero, ◌<◌, ◌∙◌, ◌∷◌, ◌≡◌, found_status, Answer, Item, MarchElement, Description}
 use Rattle.bist_app.specs.Reported.{Reports, SomeEscapes}
-use Rattle.bist_endings.specs.Ending.{found_status}
-use Rattle.bist_endings.specs.OneOutcome.{Answer}
-use Rattle.dynamic_core.specs.declared.item.Item.{Item}
-use Rattle.march_core.specs.March.{MarchElement}
-use Rattle.memory_desc.specs.Descriptions.{Description}
 use Rattle.report.proofs.OneReport.{detects_one}
 use Rattle.report.specs.Items.{DetectsItem}
 use Rattle.report.specs.Report.{total_line}

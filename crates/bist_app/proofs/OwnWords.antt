@@ -1,6 +1,5 @@
 -- A word says one number.
-use Rattle.std.proofs.Common.{lit<, ◌^◌, ℕ, List, arith, codes, subst, sym, ◌<◌, ◌∙◌, ◌≡◌}
-use Rattle.bist_endings.specs.Words.{IsNumber}
+use Rattle.bist_app.proofs.Common.{lit<, ◌^◌, ℕ, List, arith, codes, subst, sym, ◌<◌, ◌∙◌, ◌≡◌, IsNumber}
 use Rattle.std.proofs.lemmas.Fmt.{decimal_injective, decimal_is_IsNumeral}
 use Rattle.std.specs.Str.Parse.{AllDigits}
 

@@ -1,12 +1,8 @@
 -- A self-test that is written, read back and elaborated is the same self-test.
-use Rattle.std.proofs.Common.{map, ◌≡◌, ◌∙◌, ℕ, List, Option, Some, None, Result, Ok, Err, sym, ap, subst, refl}
+use Rattle.bist_app.proofs.Common.{map, ◌≡◌, ◌∙◌, ℕ, List, Option, Some, None, Result, Ok, Err, sym, ap, subst, refl, ModuleTree, MarchElement, Description, SelfTest}
 use Rattle.std.specs.Prelude.{IfOk, MatchResult}
 use Rattle.verilog_cycle.specs.Design.{DesignView, IsNew, registers_of}
-use Rattle.verilog_tree.specs.Plain.{ModuleTree}
 use Rattle.verilog_tree.specs.Spells.{Spells}
-use Rattle.march_core.specs.March.{MarchElement}
-use Rattle.memory_desc.specs.Descriptions.{Description}
-use Rattle.self_test.specs.SelfTest.{SelfTest}
 use Rattle.verilog_tree.specs.declared.fault.ReadFault.{ReadFault}
 use Rattle.verilog_tree.specs.declared.fault.TreeFault.{TreeFault}
 use Rattle.verilog_tree.specs.declared.fault.TreeFault.TheVariants as T

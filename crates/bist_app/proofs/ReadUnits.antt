@@ -1,20 +1,11 @@
 -- The units of a chip, read one after another into their table.
-use Rattle.std.proofs.Common.{◌≡◌, ◌∙◌, ◌≤◌, ◌<◌, ◌+◌, ◌++◌, ◌∷◌, [], ℕ, zero, suc, All, List, length, map, Option, Some, None, Result, Ok, Err, refl, sym, ap, subst, arith, append-nil, append_assoc, add-one, get_or, take, drop, ◌-◌}
+use Rattle.bist_app.proofs.Common.{◌≡◌, ◌∙◌, ◌≤◌, ◌<◌, ◌+◌, ◌++◌, ◌∷◌, [], ℕ, zero, suc, All, List, length, map, Option, Some, None, Result, Ok, Err, refl, sym, ap, subst, arith, append-nil, append_assoc, add-one, get_or, take, drop, ◌-◌, Files, MarchElement, Description, UnitDescription, unit_of, TestUnit, test_length, lengths, memories, weights, Refusal, FileMarch, UnitMarch, UnitMemory}
 use Rattle.std.proofs.lemmas.List.{map-append, length-map, length-append, take_all}
 use Rattle.std.proofs.lemmas.List.Elements.{All-append}
-use Rattle.bist_host.specs.Files.{Files}
-use Rattle.march_core.specs.March.{MarchElement}
-use Rattle.memory_desc.specs.Descriptions.{Description}
-use Rattle.chip_desc.specs.Chips.{UnitDescription, unit_of}
 use Rattle.chip_desc.specs.declared.chip.ChipUnit.{ChipUnit}
-use Rattle.chip_rtl.specs.ChipTest.{TestUnit, test_length, lengths}
-use Rattle.chip_rtl.specs.ChipLaws.{memories, weights}
-use Rattle.bist_endings.specs.declared.ending.Refusal.{Refusal}
-use Rattle.bist_inputs.specs.Inputs.{FileMarch}
-use Rattle.bist_inputs.specs.Chips.{UnitMarch, UnitMemory}
 use Rattle.bist_app.specs.declared.units.UnitTable.{UnitTable}
 use Rattle.bist_app.specs.Chip.{GivesUnit, GivesUnits}
-use Rattle.bist_app.specs.UnitTables.{IsTableOf, HasUnits, HasRoom, Grows, AppendsUnit, AppendsUnits}
+use Rattle.bist_app.specs.inner.UnitTables.{IsTableOf, HasUnits, HasRoom, Grows, AppendsUnit, AppendsUnits}
 
 -- ---- the table
 

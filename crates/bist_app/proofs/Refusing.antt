@@ -1,9 +1,6 @@
 -- A refusal that is passed on.
-use Rattle.std.proofs.Common.{◌≡◌, Result, Ok, Err, ap}
+use Rattle.bist_app.proofs.Common.{◌≡◌, Result, Ok, Err, ap, Refusal, Plan, plain}
 use Rattle.std.specs.Result.{IsErr, IsErrAnd}
-use Rattle.bist_endings.specs.declared.ending.Refusal.{Refusal}
-use Rattle.bist_endings.specs.declared.ending.Plan.{Plan}
-use Rattle.bist_endings.specs.Ending.{plain}
 
 pub stopped : {A : Type 0} (r : Result A Refusal) (e : Refusal) → IsErr r × IsErrAnd r (λ x. x ≡ e) → r ≡ Err e
 stopped (Err x) e h = ap Err h.1

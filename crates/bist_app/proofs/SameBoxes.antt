@@ -1,13 +1,6 @@
 -- The same boxes under another name.
-use Rattle.std.proofs.Common.{◌≡◌, List, [], ◌∷◌, Result, map, drop, ap, subst}
-use Rattle.memory_desc.specs.Descriptions.{Description}
-use Rattle.march_core.specs.March.{MarchElement}
-use Rattle.word_device.specs.declared.device.Planted.{Planted}
-use Rattle.word_device.specs.Boxes.{Told}
-use Rattle.bist_endings.specs.Ending.{Done}
-use Rattle.bist_app.specs.Shared.{Boxes, FitsRoom, HasBox}
+use Rattle.bist_app.proofs.Common.{◌≡◌, List, [], ◌∷◌, Result, map, drop, ap, subst, Description, MarchElement, Planted, Told, Done, Boxes, FitsRoom, HasBox, Refusal}
 use Rattle.bist_app.specs.BenchFault.{LeavesFault}
-use Rattle.bist_endings.specs.declared.ending.Refusal.{Refusal}
 use Rattle.bist_app.specs.BenchAll.{FitsRooms}
 
 pub has_box : {A : Type 0} (f : A → Told) (xs ys : List A) (r : Result (Unit {0}) Refusal) → xs ≡ ys → HasBox (map f xs) r → HasBox (map f ys) r

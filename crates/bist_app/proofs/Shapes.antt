@@ -1,9 +1,6 @@
 -- Words that have the form of no command.
-use Rattle.std.proofs.Common.{None, Option, Some, subst, ◌≡◌}
+use Rattle.bist_app.proofs.Common.{None, Option, Some, subst, ◌≡◌, HasNoForm, IsFormed, command_named, Command, Words, word}
 use Rattle.bist_app.proofs.OneCommand.{by_name, only_named}
-use Rattle.bist_app.specs.Run.{HasNoForm, IsFormed, command_named}
-use Rattle.bist_app.specs.declared.commands.Command.{Command}
-use Rattle.bist_endings.specs.Words.{Words, word}
 
 -- words whose first is no command's name
 pub none_named : (words : Words) → command_named (word words 0) ≡ None → HasNoForm words

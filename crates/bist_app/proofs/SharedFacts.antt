@@ -1,19 +1,11 @@
 -- What is known of the checks that several commands make.
-use Rattle.std.proofs.Common.{ℕ, Bool, Err, List, None, Ok, Option, Result, Some, [], ap, ap₂, arith, codes, inl, refl, sym, ◌++◌, ◌∙◌, ◌∷◌, ◌≡◌}
-use Rattle.bist_app.specs.Shared.{Boxes, FitsAggressor, FitsLength, FitsRoom, HasBox, HasPorts}
-use Rattle.bist_endings.proofs.Settling.{NeverUsage, Settles, outcome_settles, where_settles}
-use Rattle.bist_endings.specs.OneOutcome.{HasOneOutcome, HasOneValue}
+use Rattle.bist_app.proofs.Common.{ℕ, Bool, Err, List, None, Ok, Option, Result, Some, [], ap, ap₂, arith, codes, inl, refl, sym, ◌++◌, ◌∙◌, ◌∷◌, ◌≡◌, Boxes, FitsAggressor, FitsLength, FitsRoom, HasBox, HasPorts, NeverUsage, Settles, outcome_settles, where_settles, HasOneOutcome, HasOneValue, Refusal, Primitive, has_aggressor, MarchElement, Description, ModuleTree}
 use Rattle.bist_endings.specs.declared.ending.DeviceRefusal.{DeviceRefusal}
 use Rattle.bist_endings.specs.declared.ending.Misfit.{Misfit}
-use Rattle.bist_endings.specs.declared.ending.Refusal.{Refusal}
 use Rattle.bist_endings.specs.declared.ending.VerilogRefusal.{VerilogRefusal}
-use Rattle.fault_core.specs.Primitive.{Primitive, has_aggressor}
-use Rattle.march_core.specs.March.{MarchElement}
-use Rattle.memory_desc.specs.Descriptions.{Description}
 use Rattle.self_test.specs.Refusals.{IsShort, IsTooLong}
 use Rattle.self_test.specs.WrongPort.{wrong_port}
 use Rattle.word_march.specs.Commands.{cycle_count}
-use Rattle.verilog_tree.specs.Plain.{ModuleTree}
 
 pub aggressor_settles : {Says Told : Type 0} (given : Bool) (prim : Primitive) → Settles (Unit {0}) Says Told (FitsAggressor given prim)
 aggressor_settles given prim = where_settles (given ≡ has_aggressor prim) (Refusal.Misfit Misfit.Aggressor) (λ is. cc)

@@ -1,9 +1,7 @@
 -- The first box without room, box by box and by those before it.
-use Rattle.std.proofs.Common.{◌≡◌, ◌<◌, ◌++◌, ℕ, [], ◌∷◌, inl, inr, refl, sym, ap, subst}
-use Rattle.word_device.specs.Boxes.{Told}
-use Rattle.bist_app.specs.Shared.{Boxes}
+use Rattle.bist_app.proofs.Common.{◌≡◌, ◌<◌, ◌++◌, ℕ, [], ◌∷◌, inl, inr, refl, sym, ap, subst, Told, Boxes}
 use Rattle.bist_app.specs.BenchAll.{HaveRoom, FirstSmall}
-use Rattle.bist_app.specs.BenchedBoxes.{SmallRoom}
+use Rattle.bist_app.specs.inner.BenchedBoxes.{SmallRoom}
 
 pub first_small : (words : ℕ) (boxes : Boxes) (room : ℕ) → SmallRoom words boxes room → FirstSmall words boxes room
 first_small words [] room h = absurd h

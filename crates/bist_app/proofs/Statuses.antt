@@ -1,16 +1,5 @@
 -- Which status comes from what.
-use Rattle.std.proofs.Common.{◌≡◌, ◌⊎◌, inl, inr, ℕ, Bool, true, false, Option, Some, None, Result, Ok, Err, ◌∙◌, ap, refl, subst, ◌<◌, ◌≤◌, arith}
-use Rattle.bist_host.specs.Files.{Files, HostState, ReadsRose, WritesRose}
-use Rattle.bist_endings.specs.declared.ending.InputRefusal.{InputRefusal}
-use Rattle.bist_endings.specs.declared.ending.Refusal.{Refusal}
-use Rattle.bist_endings.specs.declared.concluding.WriteStop.{WriteStop}
-use Rattle.bist_endings.specs.Words.{Words}
-use Rattle.bist_endings.specs.Ending.{Done, status_of, found_status}
-use Rattle.bist_inputs.specs.Inputs.{HasReadCause}
-use Rattle.bist_endings.specs.Conclude.{RefusalEnds, SaysAfterWrites}
-use Rattle.bist_app.specs.Shared.{Boxes}
-use Rattle.bist_app.specs.Run.{row_of, Runs, Decides, HasNoShape}
-use Rattle.bist_app.specs.declared.commands.Command.{Command}
+use Rattle.bist_app.proofs.Common.{◌≡◌, ◌⊎◌, inl, inr, ℕ, Bool, true, false, Option, Some, None, Result, Ok, Err, ◌∙◌, ap, refl, subst, ◌<◌, ◌≤◌, arith, Files, HostState, ReadsRose, WritesRose, InputRefusal, Refusal, WriteStop, Words, Done, status_of, found_status, HasReadCause, RefusalEnds, SaysAfterWrites, Boxes, row_of, Runs, Decides, HasNoShape, Command}
 use Rattle.bist_app.proofs.OneCommand.{command_one}
 use Rattle.bist_app.proofs.OneAnswer.{never_usage}
 use Rattle.bist_app.proofs.Table.{facts_of}

@@ -1,15 +1,5 @@
 -- A run that ends with 0 or 1 over told files: what its command decides is done, the files are written and the line is said.
-use Rattle.std.proofs.Common.{◌≡◌, ◌≤◌, inl, inr, subst, arith, ℕ, Some, None, Ok, Err}
-use Rattle.bist_host.specs.Files.{Files, HostState, Says}
-use Rattle.bist_endings.specs.declared.ending.InputRefusal.{InputRefusal}
-use Rattle.bist_endings.specs.declared.ending.Refusal.{Refusal}
-use Rattle.bist_endings.specs.declared.concluding.WriteStop.{WriteStop}
-use Rattle.bist_endings.specs.Words.{Words, word}
-use Rattle.bist_endings.specs.Ending.{Done, status_of, found_status}
-use Rattle.bist_endings.specs.Conclude.{WritesInOrder, RefusalEnds}
-use Rattle.bist_app.specs.declared.commands.Command.{Command}
-use Rattle.bist_app.specs.Shared.{Boxes}
-use Rattle.bist_app.specs.Run.{command_named, IsFormed, DecidesCommand, Runs}
+use Rattle.bist_app.proofs.Common.{◌≡◌, ◌≤◌, inl, inr, subst, arith, ℕ, Some, None, Ok, Err, Files, HostState, Says, InputRefusal, Refusal, WriteStop, Words, word, Done, status_of, found_status, WritesInOrder, RefusalEnds, Command, Boxes, command_named, IsFormed, DecidesCommand, Runs}
 use Rattle.bist_app.proofs.OneCommand.{only_named}
 
 -- ---- what can't be

@@ -22,8 +22,7 @@ use Rattle.bist_app.proofs.Table.JudgeFacts.{judge_facts}
 use Rattle.bist_app.proofs.Table.MakeFacts.{make_facts}
 use Rattle.bist_app.proofs.Table.SimFacts.{sim_facts}
 use Rattle.bist_app.proofs.Table.VectorsFacts.{vectors_facts}
-use Rattle.bist_app.specs.Run.{row_of}
-use Rattle.bist_app.specs.declared.commands.Command.{Command}
+use Rattle.bist_app.proofs.Common.{row_of, Command}
 
 pub facts_of : (command : Command) → Facts (row_of command)
 facts_of Command.Sim = sim_facts

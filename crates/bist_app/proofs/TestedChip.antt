@@ -1,28 +1,11 @@
 -- What the answer of the top call comes to for `chip`.
-use Rattle.std.proofs.Common.{◌≡◌, ◌≢◌, ◌≤◌, ◌∙◌, inl, inr, sym, subst, ap, refl, arith, ℕ, suc, List, [], ◌∷◌, Option, Some, None, Result, Ok, Err}
-use Rattle.std.specs.Prelude.{IfSome}
-use Rattle.bist_host.specs.Files.{Files, HostState, WritesFile, Says}
-use Rattle.march_core.specs.March.{MarchElement}
+use Rattle.bist_app.proofs.Common.{◌≡◌, ◌≢◌, ◌∙◌, sym, subst, ap, refl, ℕ, suc, List, [], ◌∷◌, Option, Some, None, Result, Ok, Err, Files, HostState, WritesFile, Says, MarchElement, Description, IsMemory, ChipDescription, UnitDescription, IsChip, TestUnit, Words, word, Done, found_status, WritesInOrder, FileMarch, GivesMarch, FileMemory, GivesMemory, GivesChip, InputChip, UnitMarch, UnitMemory, command_named, Runs, Boxes, Command}
 use Rattle.march_syntax.specs.Answers.{Reads as ReadsMarch}
-use Rattle.memory_desc.specs.Descriptions.{Description, IsMemory}
 use Rattle.memory_desc.specs.Table.{Reads as ReadsMemory}
-use Rattle.chip_desc.specs.Chips.{ChipDescription, UnitDescription, IsChip}
 use Rattle.chip_desc.specs.ChipTable.{Reads as ReadsChip}
-use Rattle.chip_rtl.specs.ChipTest.{TestUnit}
-use Rattle.bist_endings.specs.declared.ending.Refusal.{Refusal}
-use Rattle.bist_endings.specs.Words.{Words, word}
-use Rattle.bist_endings.specs.Ending.{Done, Written, found_status}
-use Rattle.bist_endings.specs.Conclude.{WritesInOrder}
-use Rattle.bist_inputs.specs.Inputs.{FileMarch, GivesMarch}
-use Rattle.bist_inputs.specs.Memories.{FileMemory, GivesMemory}
-use Rattle.bist_inputs.specs.Chips.{GivesChip, InputChip, UnitMarch, UnitMemory}
-use Rattle.bist_app.specs.Forms.{HasForm}
 use Rattle.bist_app.specs.Headline.{InputHas}
-use Rattle.bist_app.specs.Chip.{GivesUnit, GivesUnits, IsChipTested, LeavesChip, TestsUnits, DecidesChip, chip_form}
+use Rattle.bist_app.specs.Chip.{GivesUnit, GivesUnits, IsChipTested, LeavesChip, DecidesChip}
 use Rattle.bist_app.specs.TestedChip.{IsUnitOf, AreUnitsOf, IsTestedChip, LeavesTestedChip}
-use Rattle.bist_app.specs.Run.{command_named, Runs}
-use Rattle.bist_app.specs.Shared.{Boxes}
-use Rattle.bist_app.specs.declared.commands.Command.{Command}
 use Rattle.bist_app.proofs.Complete.{if_told}
 use Rattle.bist_app.proofs.Succeeding.{Succeeds, not_refused, succeeds}
 

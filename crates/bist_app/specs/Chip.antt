@@ -15,7 +15,7 @@ use Rattle.bist_endings.specs.Ending.{Done}
 use Rattle.bist_endings.specs.Then.{Then, OrNoMemory}
 use Rattle.bist_endings.specs.Words.{Words}
 use Rattle.bist_inputs.specs.Chips.{InputChip, UnitMarch, UnitMemory}
-use Rattle.bist_app.specs.Forms.{Form, Row}
+use Rattle.bist_app.specs.Forms.{Form, Row, reads_files}
 
 -- ---- the units
 
@@ -89,10 +89,4 @@ abbrev pub chip_form : Form
 chip_form = record { name = codes "chip"; count = 3; first = 1; last = 3 }
 
 abbrev pub chip_row : Row
-chip_row = record {
-  form = chip_form;
-  says = λ words. Unit {0};
-  decides = λ files boxes left words outcome. DecidesChip files words outcome × (left ≡ boxes);
-  called_tell = λ boxes. Unit {0};
-  settled = λ outputs. [];
-}
+chip_row = record (reads_files chip_form DecidesChip) { settled = λ outputs. [] }

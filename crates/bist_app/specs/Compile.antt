@@ -18,7 +18,7 @@ use Rattle.bist_endings.specs.Words.{Words}
 use Rattle.bist_inputs.specs.Inputs.{InputMarch, InputList}
 use Rattle.bist_inputs.specs.Memories.{InputMemory}
 use Rattle.bist_app.specs.Reported.{Reports}
-use Rattle.bist_app.specs.Forms.{Form, Row}
+use Rattle.bist_app.specs.Forms.{Form, Row, reads_files}
 
 -- The bytes are a text of a module and of no other, and spell it and no other, as the reader of modules takes them. It is a self-test of
 -- the memory by the march.
@@ -57,10 +57,4 @@ compile_form = record { name = codes "compile"; count = 6; first = 1; last = 6 }
 
 -- the text of the module is left open
 abbrev pub compile_row : Row
-compile_row = record {
-  form = compile_form;
-  says = λ words. Unit {0};
-  decides = λ files boxes left words outcome. DecidesCompile files words outcome × (left ≡ boxes);
-  called_tell = λ boxes. Unit {0};
-  settled = λ outputs. drop 1 outputs;
-}
+compile_row = record (reads_files compile_form DecidesCompile) { settled = λ outputs. drop 1 outputs }

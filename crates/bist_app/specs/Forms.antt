@@ -34,3 +34,13 @@ pub record Row : Type 1 where
   pub decides : Option Files → Boxes → Boxes → Words → Result Done Refusal → Type 0
   pub called_tell : Boxes → Type 0
   pub settled : List Written → List Written
+
+-- a command that only reads files: all its words name files, it calls no box, and the inputs determine what it writes
+abbrev pub reads_files : Form → (Option Files → Words → Result Done Refusal → Type 0) → Row
+reads_files form decides = record {
+  form = form;
+  says = λ words. Unit {0};
+  decides = λ files boxes left words outcome. decides files words outcome × (left ≡ boxes);
+  called_tell = λ boxes. Unit {0};
+  settled = λ outputs. outputs;
+}

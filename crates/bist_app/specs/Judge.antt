@@ -9,7 +9,7 @@ use Rattle.bist_endings.specs.Then.{Then, OrNoMemory}
 use Rattle.bist_endings.specs.Words.{Words}
 use Rattle.bist_inputs.specs.Inputs.{InputMarch, InputList}
 use Rattle.bist_app.specs.Reported.{Reports}
-use Rattle.bist_app.specs.Forms.{Form, Row}
+use Rattle.bist_app.specs.Forms.{Form, Row, reads_files}
 
 -- the report in the file that the third word names, and its last line
 pub record IsJudged (march : List MarchElement) (items : List Item) (done : Done) : Type 0 where
@@ -33,10 +33,4 @@ abbrev pub judge_form : Form
 judge_form = record { name = codes "judge"; count = 4; first = 1; last = 4 }
 
 abbrev pub judge_row : Row
-judge_row = record {
-  form = judge_form;
-  says = λ words. Unit {0};
-  decides = λ files boxes left words outcome. DecidesJudge files words outcome × (left ≡ boxes);
-  called_tell = λ boxes. Unit {0};
-  settled = λ outputs. outputs;
-}
+judge_row = reads_files judge_form DecidesJudge

@@ -10,14 +10,11 @@ pub mod BenchFault
 pub mod BenchAll
 pub mod Check
 pub mod Chip
-pub mod UnitTables
-pub mod ChipParts
 pub mod TestedChip
-pub mod BenchedBoxes
 pub mod Compile
 pub mod Headline
 pub mod Conformance
 pub mod Make
-pub mod LetterBits
 pub mod Run
 pub mod Answer
+pub mod inner

@@ -6,14 +6,12 @@ ghost use Rattle.bist_endings.specs.Ending.{plain, done_of};
 ghost use Rattle.bist_endings.specs.Conclude.{NamesWords};
 ghost use Rattle.bist_inputs.specs.Inputs.{HasCause, IsOwnRefusal};
 ghost use Rattle.bist_app.specs.Forms.{HasForm};
-ghost use Rattle.self_test.specs.Refusals.{IsShort};
-ghost use Rattle.bist_app.specs.BenchAll.{HaveRoom, FitsRooms, LeavesAll, TestsAll, DecidesBenchAll, LeavesNone, bench_all_form};
-ghost use Rattle.bist_app.specs.BenchedBoxes.{SmallRoom};
+ghost use Rattle.bist_app.specs.BenchAll.{HaveRoom, FitsRooms, TestsAll, DecidesBenchAll, bench_all_form};
+ghost use Rattle.bist_app.specs.inner.BenchedBoxes.{SmallRoom};
 
 use crate::benching_all::bench_all;
 use crate::boxes::{has_box, room_of_box};
 use crate::vectors::fit_length;
-use bist_bits::NoMemory;
 use bist_endings::{DeviceRefusal, Plan, Refusal};
 use bist_host::Host;
 use bist_inputs::{read_march_input, read_memory_input};
@@ -53,27 +51,6 @@ fn fit_rooms(devices: &[Box<dyn Device>], memory: &Memory) -> Result<(), Refusal
     }
 }
 
-/// The plan of the runs, or want of memory.
-#[tactic(auto, unfolding(crate::specs::BenchAll::LeavesAll))]
-fn plan_all(
-    alloc: Global,
-    march: &March,
-    memory: &Memory,
-    devices: &mut Vec<Box<dyn Device>>,
-) -> Result<Plan, Refusal>
-    requires short { IsShort march.now memory.now }
-    requires rooms { HaveRoom memory.now.words (map (λ b. told b) devices.old.items) }
-    ensures own { IfErr result IsOwnRefusal }
-    ensures answer { LeavesAll march.now memory.now (map (λ b. told b) devices.old.items) (plain result) }
-    ensures left { LeavesNone (map (λ b. told b) devices.old.items) (map (λ b. told b) devices.new.items) (plain result) }
-    ensures outputs { IfOk result (λ plan. (done_of plan).outputs ≡ []) }
-{
-    match bench_all(alloc, march, memory, devices) {
-        Ok(plan) => Ok(plan),
-        Err(NoMemory) => Err(Refusal::NoMemory),
-    }
-}
-
 /// The checks behind the inputs, and the runs.
 fn test_all(
     alloc: Global,
@@ -88,7 +65,7 @@ fn test_all(
     fit_length(march, memory)?;
     has_box(devices)?;
     fit_rooms(devices, memory)?;
-    plan_all(alloc, march, memory, devices)
+    bench_all(alloc, march, memory, devices)
 }
 
 /// Runs the self-test of a memory by a march against each box.

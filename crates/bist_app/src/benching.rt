@@ -17,7 +17,7 @@ ghost use Rattle.self_test.specs.WrongPort.{wrong_port};
 ghost use Rattle.bist_app.specs.Shared.{FirstHasRoom, LeavesFirst};
 ghost use Rattle.bist_app.specs.Bench.{done_text, seen_text, bench_line, benched_done, ready, AreWords, CanPlant, IsBenched};
 ghost use Rattle.bist_app.specs.BenchFile.{RunsBeside, zero_registers};
-ghost use Rattle.bist_app.specs.BenchedBoxes.{EndsRun};
+ghost use Rattle.bist_app.specs.inner.BenchedBoxes.{EndsRun};
 
 use crate::boxes::take_first;
 use crate::compile::module_text;

@@ -1,21 +1,22 @@
 //! The self-test module against each box of a list: the module is made, written and read back once, and the line counts the boxes that fail.
 
-ghost use Rattle.std.specs.Prelude.{◌≡◌, ◌⊎◌, ◌≤◌, ◌<◌, ◌++◌, ◌∷◌, [], None, Some, IfOk, OnOk, OnErr, codes, decimal, length, map, drop, replicate};
+ghost use Rattle.std.specs.Prelude.{◌≡◌, ◌⊎◌, ◌≤◌, ◌<◌, ◌++◌, ◌∷◌, [], None, Some, IfErr, IfOk, OnOk, OnErr, codes, decimal, length, map, drop, replicate};
 ghost use Rattle.verilog_cycle.specs.Design.{Fit, registers_of};
 ghost use Rattle.self_test.specs.SelfTest.{SelfTest};
 ghost use Rattle.word_device.specs.Ports.{shape_of as memory_shape};
 ghost use Rattle.word_device.specs.Runs.{AllRight, run_word};
-ghost use Rattle.bist_endings.specs.Ending.{done_of};
+ghost use Rattle.bist_endings.specs.Ending.{done_of, plain};
+ghost use Rattle.bist_inputs.specs.Inputs.{IsOwnRefusal};
 ghost use Rattle.self_test.specs.Refusals.{IsShort};
 ghost use Rattle.bist_app.specs.Bench.{benched_chip};
-ghost use Rattle.bist_app.specs.BenchAll.{HaveRoom, all_line, all_done, IsAllBenched, AreGone};
-ghost use Rattle.bist_app.specs.BenchedBoxes.{IsEnd, CountsFailing};
+ghost use Rattle.bist_app.specs.BenchAll.{HaveRoom, LeavesAll, LeavesNone, all_line, all_done, AreGone};
+ghost use Rattle.bist_app.specs.inner.BenchedBoxes.{IsEnd, CountsFailing, more_failing};
 
 use crate::benching::{run_design, self_test_design};
 use crate::boxes::take_first;
 use crate::parts::put_number;
 use bist_bits::NoMemory;
-use bist_endings::Plan;
+use bist_endings::{Plan, Refusal};
 use bist_text::put;
 use march_core::March;
 use memory_desc::Memory;
@@ -72,6 +73,14 @@ fn does_fail(
     run_design(design, march, memory, device).fail
 }
 
+/// How many boxes failed, with one more that failed or didn't.
+fn more_failing(failing: usize, failed: bool) -> usize
+    requires { failing < 18446744073709551615 }
+    ensures { result ≡ more_failing failing failed }
+{
+    if failed { failing + 1 } else { failing }
+}
+
 /// Runs the self-test against each box, which is fitted and taken. The answer is beside how many it ended with `fail`. Where a box finds
 /// no memory to be fitted, it and those behind it stay.
 fn bench_boxes(
@@ -96,9 +105,8 @@ fn bench_boxes(
     let mut failing = 0;
     while !devices.is_empty() {
         let device = take_first(devices, memory, &None)?;
-        if does_fail(design, zeros, march, memory, device) {
-            failing += 1;
-        }
+        let failed = does_fail(design, zeros, march, memory, device);
+        failing = more_failing(failing, failed);
     }
     Ok(failing)
 }
@@ -113,22 +121,25 @@ fn zeros_for(alloc: Global, design: &Design) -> Result<Vec<u64>, NoMemory>
     }
 }
 
-/// Runs the self-test of the memory by the march against each box, which is fitted and taken.
+/// The plan of the runs of the self-test against each box, which is fitted and taken.
+#[tactic(auto, unfolding(crate::specs::BenchAll::LeavesAll))]
 pub fn bench_all(
     alloc: Global,
     march: &March,
     memory: &Memory,
     devices: &mut Vec<Box<dyn Device>>,
-) -> Result<Plan, NoMemory>
+) -> Result<Plan, Refusal>
     requires short { IsShort march.now memory.now }
     requires rooms { HaveRoom memory.now.words (map (λ b. told b) devices.old.items) }
-    ensures none_left { OnOk result (devices.new.items ≡ []) }
-    ensures gone { OnErr result (AreGone (map (λ b. told b) devices.old.items) (map (λ b. told b) devices.new.items)) }
-    ensures benched { IfOk result (λ plan. IsAllBenched march.now memory.now (map (λ b. told b) devices.old.items) (done_of plan)) }
+    ensures own { IfErr result IsOwnRefusal }
+    ensures answer { LeavesAll march.now memory.now (map (λ b. told b) devices.old.items) (plain result) }
+    ensures left { LeavesNone (map (λ b. told b) devices.old.items) (map (λ b. told b) devices.new.items) (plain result) }
+    ensures outputs { IfOk result (λ plan. (done_of plan).outputs ≡ []) }
 {
     let mut design = self_test_design(alloc, march, memory)?;
     let zeros = zeros_for(alloc, &design)?;
     let count = devices.len();
     let failing = bench_boxes(count, &mut design, &zeros, march, memory, devices)?;
-    all_plan(alloc, count, failing)
+    let plan = all_plan(alloc, count, failing)?;
+    Ok(plan)
 }

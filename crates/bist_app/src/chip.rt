@@ -10,8 +10,8 @@ ghost use Rattle.bist_endings.specs.Conclude.{NamesWords};
 ghost use Rattle.bist_inputs.specs.Inputs.{HasCause, IsOwnRefusal};
 ghost use Rattle.bist_app.specs.Forms.{HasForm};
 ghost use Rattle.bist_app.specs.Chip.{IsEarlier, HasTakenName, HasOwnNames, chip_line, LeavesChip, TestsNamed, TestsUnits, DecidesChip, chip_form};
-ghost use Rattle.bist_app.specs.UnitTables.{IsTableOf};
-ghost use Rattle.bist_app.specs.ChipParts.{IsRead, IsReady, PutsSelfTest, PutSelfTests, CanStart, MakesFile, TestsTable};
+ghost use Rattle.bist_app.specs.inner.UnitTables.{IsTableOf};
+ghost use Rattle.bist_app.specs.inner.ChipParts.{IsRead, IsReady, PutsSelfTest, PutSelfTests, CanStart, MakesFile};
 
 use crate::parts::{one_output, put_number};
 use crate::units::{UnitTable, no_units, read_units};
@@ -127,9 +127,11 @@ fn chip_line(alloc: Global, groups: &[u8], lengths: &[u64]) -> Result<Vec<u8>, N
 }
 
 /// The file and the line of a chip.
-fn tested(alloc: Global, chip: &ChipDesc, table: &UnitTable) -> Result<Plan, NoMemory>
+#[tactic(auto, unfolding(crate::specs::Chip::LeavesChip))]
+fn plan_chip(alloc: Global, chip: &ChipDesc, table: &UnitTable) -> Result<Plan, Refusal>
     requires { (us : List TestUnit) × IsReady chip.now table.now us }
-    ensures { IfOk result (λ plan. TestsTable chip.now table.now (done_of plan)) }
+    ensures answer { (us : List TestUnit) → IsReady chip.now table.now us → LeavesChip chip.now.name us chip.now.budget (plain result) }
+    ensures own { IfErr result IsOwnRefusal }
 {
     let groups = first_fit(&table.weights, chip.budget());
     let text = chip_text(alloc, chip, &groups, table)?;
@@ -140,19 +142,6 @@ fn tested(alloc: Global, chip: &ChipDesc, table: &UnitTable) -> Result<Plan, NoM
         outputs,
         line,
     })
-}
-
-/// The plan of a chip's test, or want of memory.
-#[tactic(auto, unfolding(crate::specs::Chip::LeavesChip))]
-fn plan_chip(alloc: Global, chip: &ChipDesc, table: &UnitTable) -> Result<Plan, Refusal>
-    requires { (us : List TestUnit) × IsReady chip.now table.now us }
-    ensures answer { (us : List TestUnit) → IsReady chip.now table.now us → LeavesChip chip.now.name us chip.now.budget (plain result) }
-    ensures own { IfErr result IsOwnRefusal }
-{
-    match tested(alloc, chip, table) {
-        Ok(plan) => Ok(plan),
-        Err(NoMemory) => Err(Refusal::NoMemory),
-    }
 }
 
 /// Tests the units that were read, where each has a name of its own.

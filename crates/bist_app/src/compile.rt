@@ -8,7 +8,7 @@ ghost use Rattle.bist_endings.specs.Ending.{plain, done_of, written_of};
 ghost use Rattle.bist_endings.specs.Conclude.{NamesWords};
 ghost use Rattle.bist_inputs.specs.Inputs.{HasCause, IsOwnRefusal};
 ghost use Rattle.bist_app.specs.Forms.{HasForm};
-ghost use Rattle.bist_app.specs.Compile.{IsSelfTestText, IsCompiled, LeavesCompile, DecidesCompile, compile_form};
+ghost use Rattle.bist_app.specs.Compile.{IsSelfTestText, LeavesCompile, DecidesCompile, compile_form};
 
 use crate::reporting::report_list;
 use bist_bits::NoMemory;
@@ -53,8 +53,15 @@ fn compile_outputs(alloc: Global, text: Vec<u8>, report: Vec<u8>) -> Result<Vec<
 }
 
 /// The module and the report as a plan.
-fn compiled(alloc: Global, march: &March, memory: &Memory, items: &[Item]) -> Result<Plan, NoMemory>
-    ensures { IfOk result (λ plan. IsCompiled march.now memory.now items.now (done_of plan)) }
+#[tactic(auto, unfolding(crate::specs::Compile::LeavesCompile))]
+fn plan_compile(
+    alloc: Global,
+    march: &March,
+    memory: &Memory,
+    items: &[Item],
+) -> Result<Plan, Refusal>
+    ensures own { IfErr result IsOwnRefusal }
+    ensures answer { LeavesCompile march.now memory.now items.now (plain result) }
 {
     let text = module_text(alloc, march, memory)?;
     let reported = report_list(alloc, march, Some(memory), items)?;
@@ -66,26 +73,8 @@ fn compiled(alloc: Global, march: &March, memory: &Memory, items: &[Item]) -> Re
     })
 }
 
-/// The plan, or want of memory.
-#[tactic(auto, unfolding(crate::specs::Compile::LeavesCompile))]
-fn plan_compile(
-    alloc: Global,
-    march: &March,
-    memory: &Memory,
-    items: &[Item],
-) -> Result<Plan, Refusal>
-    ensures own { IfErr result IsOwnRefusal }
-    ensures answer { LeavesCompile march.now memory.now items.now (plain result) }
-    ensures outputs { IfOk result (λ plan. IsCompiled march.now memory.now items.now (done_of plan)) }
-{
-    match compiled(alloc, march, memory, items) {
-        Ok(plan) => Ok(plan),
-        Err(NoMemory) => Err(Refusal::NoMemory),
-    }
-}
-
 /// Compiles a self-test and judges the items of a list.
-#[tactic(auto, using(crate::proofs::Causes::own_cause))]
+#[tactic(auto, using(crate::proofs::Causes::own_cause), unfolding(crate::specs::Compile::LeavesCompile))]
 pub fn decide_compile<H: Host>(alloc: Global, words: &[&str], host: &mut H) -> Result<Plan, Refusal>
     requires { HasForm compile_form words.now }
     ensures kept { OnlyReads (H.state host.old) (H.state host.new) }

@@ -2,7 +2,7 @@ ghost use Rattle.std.specs.Prelude.{◌≡◌, ◌<◌, ◌≤◌, ◌-◌, ◌%
 ghost use Rattle.march_core.specs.Visits.{directions_of, is_direction, FitsWord};
 ghost use Rattle.bist_inputs.specs.Inputs.{IsOwnRefusal};
 ghost use Rattle.bist_app.specs.Sim.{directions_of_letters, FitsDirections};
-ghost use Rattle.bist_app.specs.LetterBits.{HasBits};
+ghost use Rattle.bist_app.specs.inner.LetterBits.{HasBits};
 
 use bist_endings::{Misfit, Refusal};
 use march_core::March;

@@ -8,7 +8,6 @@ ghost use Rattle.bist_app.specs.Judge.{IsJudged, LeavesJudge, DecidesJudge, judg
 
 use crate::parts::one_output;
 use crate::reporting::report_list;
-use bist_bits::NoMemory;
 use bist_endings::{Plan, Refusal};
 use bist_host::Host;
 use bist_inputs::{read_list_input, read_march_input};
@@ -20,8 +19,11 @@ use std::alloc::Global;
 const REPORT: usize = 3;
 
 /// The report as a plan.
-fn judged(alloc: Global, march: &March, items: &[Item]) -> Result<Plan, NoMemory>
-    ensures { IfOk result (λ plan. IsJudged march.now items.now (done_of plan)) }
+#[tactic(auto, unfolding(crate::specs::Judge::LeavesJudge))]
+fn plan_judge(alloc: Global, march: &March, items: &[Item]) -> Result<Plan, Refusal>
+    ensures own { IfErr result IsOwnRefusal }
+    ensures answer { LeavesJudge march.now items.now (plain result) }
+    ensures outputs { IfOk result (λ plan. IsJudged march.now items.now (done_of plan)) }
 {
     let reported = report_list(alloc, march, None, items)?;
     let outputs = one_output(alloc, REPORT, reported.bytes)?;
@@ -30,19 +32,6 @@ fn judged(alloc: Global, march: &March, items: &[Item]) -> Result<Plan, NoMemory
         outputs,
         line: reported.line,
     })
-}
-
-/// The plan, or want of memory.
-#[tactic(auto, unfolding(crate::specs::Judge::LeavesJudge))]
-fn plan_judge(alloc: Global, march: &March, items: &[Item]) -> Result<Plan, Refusal>
-    ensures own { IfErr result IsOwnRefusal }
-    ensures answer { LeavesJudge march.now items.now (plain result) }
-    ensures outputs { IfOk result (λ plan. IsJudged march.now items.now (done_of plan)) }
-{
-    match judged(alloc, march, items) {
-        Ok(plan) => Ok(plan),
-        Err(NoMemory) => Err(Refusal::NoMemory),
-    }
 }
 
 /// Judges the items of a list.

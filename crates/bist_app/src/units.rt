@@ -6,7 +6,7 @@ ghost use Rattle.word_march.specs.Commands.{span};
 ghost use Rattle.chip_desc.specs.Chips.{unit_of};
 ghost use Rattle.chip_rtl.specs.ChipTest.{TestUnit};
 ghost use Rattle.bist_inputs.specs.Inputs.{HasCause};
-ghost use Rattle.bist_app.specs.UnitTables.{IsTableOf, HasUnits, HasRoom, AppendsUnit, AppendsUnits};
+ghost use Rattle.bist_app.specs.inner.UnitTables.{IsTableOf, HasUnits, HasRoom, AppendsUnit, AppendsUnits};
 
 use arrayvec::ArrayVec;
 use bist_endings::Refusal;

@@ -83,8 +83,11 @@ fn count_line(alloc: Global, march: &March, memory: &Memory) -> Result<Vec<u8>, 
 }
 
 /// The commands as a plan.
-fn planned(alloc: Global, march: &March, memory: &Memory) -> Result<Plan, NoMemory>
-    ensures { IfOk result (λ plan. done_of plan ≡ vectors_done march.now memory.now) }
+#[tactic(auto, unfolding(crate::specs::Vectors::LeavesVectors))]
+fn plan_vectors(alloc: Global, march: &March, memory: &Memory) -> Result<Plan, Refusal>
+    ensures own { IfErr result IsOwnRefusal }
+    ensures answer { LeavesVectors march.now memory.now (plain result) }
+    ensures outputs { IfOk result (λ plan. done_of plan ≡ vectors_done march.now memory.now) }
 {
     let text = put_commands(alloc, march, memory)?;
     let outputs = one_output(alloc, OUT, text)?;
@@ -94,20 +97,7 @@ fn planned(alloc: Global, march: &March, memory: &Memory) -> Result<Plan, NoMemo
             outputs,
             line,
         }),
-        Err(AllocError) => Err(NoMemory),
-    }
-}
-
-/// The plan, or want of memory.
-#[tactic(auto, unfolding(crate::specs::Vectors::LeavesVectors))]
-fn plan_vectors(alloc: Global, march: &March, memory: &Memory) -> Result<Plan, Refusal>
-    ensures own { IfErr result IsOwnRefusal }
-    ensures answer { LeavesVectors march.now memory.now (plain result) }
-    ensures outputs { IfOk result (λ plan. done_of plan ≡ vectors_done march.now memory.now) }
-{
-    match planned(alloc, march, memory) {
-        Ok(plan) => Ok(plan),
-        Err(NoMemory) => Err(Refusal::NoMemory),
+        Err(AllocError) => Err(Refusal::NoMemory),
     }
 }
 

@@ -1,3 +1,6 @@
+ghost use Rattle.std.specs.Prelude.{◌≡◌};
+
+use bist_bits::NoMemory;
 use chip_desc::ChipFault;
 use fault_syntax::FaultFault;
 use march_core::MarchFault;
@@ -84,6 +87,16 @@ pub enum Refusal {
     /// An input of this unit of a chip is refused. The name of the march has position 1, and that of the memory 2.
     Unit { unit: usize, refusal: InputRefusal },
     NoMemory,
+}
+
+impl From<NoMemory> for Refusal {
+    ghost use Rattle.bist_endings.specs.declared.ending.Refusal.TheVariants as R;
+
+    ghost from_gives = { λ _ e. e ≡ R.NoMemory };
+
+    fn from(_: NoMemory) -> Refusal {
+        Refusal::NoMemory
+    }
 }
 
 /// Bytes for the file that a word names.

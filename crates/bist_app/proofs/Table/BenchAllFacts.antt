@@ -1,25 +1,12 @@
 -- What is known of `benchall`: a run of all boxes has one answer, where each tells its chip or its script.
-use Rattle.std.proofs.Common.{ℕ, Err, List, None, Ok, Option, Result, [], ap, ap₂, arith, inl, inr, length, refl, sym, ◌∙◌, ◌∷◌, ◌≡◌}
-use Rattle.bench.specs.declared.ending.Seen.{Seen}
+use Rattle.bist_app.proofs.Common.{ℕ, Err, List, None, Ok, Option, Result, [], ap, ap₂, arith, inl, inr, length, refl, sym, ◌∙◌, ◌∷◌, ◌≡◌, Seen, Boxes, FitsLength, HasBox, Concludes, NeverUsage, leaves_conclude, outcome_settles, Done, HasOneOutcome, answer_of, Refusal, march_settles, memory_settles, InputMarch, InputMemory, MarchElement, Description}
 use Rattle.bist_app.proofs.Table.BenchFacts.{one_seen}
-use Rattle.bist_app.proofs.Facts.{Facts, SomeLeft, before_conclude, with_left}
+use Rattle.bist_app.proofs.Facts.{Facts, before_conclude, with_left}
 use Rattle.bist_app.proofs.SharedFacts.{box_settles, length_settles}
 use Rattle.bist_app.proofs.SmallRooms.{small_room}
-use Rattle.bist_app.specs.BenchAll.{AllTell, AreSeen, DecidesBenchAll, FitsRooms, HaveRoom, IsAllBenched, LeavesAll, LeavesNone, all_done, bench_all_row, failing_of}
-use Rattle.bist_app.specs.BenchedBoxes.{SmallRoom}
-use Rattle.bist_app.specs.Shared.{Boxes, FitsLength, HasBox}
-use Rattle.bist_endings.proofs.Settling.{Concludes, IsTold, NeverUsage, leaves_conclude, outcome_settles}
-use Rattle.bist_endings.specs.Ending.{Done}
-use Rattle.bist_endings.specs.OneOutcome.{HasOneOutcome, answer_of}
-use Rattle.bist_endings.specs.Words.{Words}
+use Rattle.bist_app.specs.BenchAll.{AllTell, AreSeen, FitsRooms, HaveRoom, IsAllBenched, LeavesAll, LeavesNone, all_done, bench_all_row, failing_of}
+use Rattle.bist_app.specs.inner.BenchedBoxes.{SmallRoom}
 use Rattle.bist_endings.specs.declared.ending.DeviceRefusal.{DeviceRefusal}
-use Rattle.bist_endings.specs.declared.ending.Refusal.{Refusal}
-use Rattle.bist_host.specs.Files.{Files}
-use Rattle.bist_inputs.proofs.OneInput.{march_settles, memory_settles}
-use Rattle.bist_inputs.specs.Inputs.{InputMarch}
-use Rattle.bist_inputs.specs.Memories.{InputMemory}
-use Rattle.march_core.specs.March.{MarchElement}
-use Rattle.memory_desc.specs.Descriptions.{Description}
 
 room_or_small : (words : ℕ) (boxes : Boxes) (room : ℕ) → HaveRoom words boxes → SmallRoom words boxes room → ⊥
 room_or_small words [] room h g = g

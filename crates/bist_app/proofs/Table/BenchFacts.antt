@@ -1,27 +1,9 @@
 -- What is known of `bench`: a run against the first box has one answer, where the box tells its chip or its script.
-use Rattle.std.proofs.Common.{ℕ, List, None, Ok, Option, Some, [], ap, ap₂, arith, inl, inr, is_some, refl, slice_get, subst, sym, ◌+◌, ◌<◌, ◌∙◌, ◌∷◌, ◌≡◌, ◌≢◌}
-use Rattle.bench.specs.Endings.{IsFirstRead}
-use Rattle.bench.specs.Laws.{done_at, script_word}
-use Rattle.bench.specs.declared.ending.Seen.{Seen}
-use Rattle.bist_app.proofs.Facts.{Facts, SomeLeft, before_conclude, with_left}
+use Rattle.bist_app.proofs.Common.{ℕ, List, None, Ok, Option, Some, [], ap, ap₂, arith, inl, inr, is_some, refl, slice_get, subst, sym, ◌+◌, ◌<◌, ◌∙◌, ◌∷◌, ◌≡◌, ◌≢◌, IsFirstRead, done_at, script_word, Seen, Boxes, FirstTells, FitsLength, FitsRoom, HasBox, LeavesFirst, Concludes, leaves_conclude, narrows, none_conclude, Done, found_status, Answer, answer_of, OrNoMemory, march_settles, memory_settles, InputMarch, InputMemory, MarchElement, Description, Tells, TellsChip, TellsNothing, TellsScript, IsFirstWrong, run_word, Planted}
+use Rattle.bist_app.proofs.Facts.{Facts, before_conclude, with_left}
 use Rattle.bist_app.proofs.SharedFacts.{box_settles, length_settles, room_settles}
-use Rattle.bist_app.specs.Bench.{DecidesBench, IsBenched, IsSeen, IsSoundBenched, LeavesBench, bench_line, bench_row, benched_chip}
-use Rattle.bist_app.specs.Shared.{Boxes, FirstTells, FitsLength, FitsRoom, HasBox, LeavesFirst}
-use Rattle.bist_endings.proofs.Settling.{Concludes, IsTold, leaves_conclude, narrows, none_conclude}
-use Rattle.bist_endings.specs.Ending.{Done, found_status}
-use Rattle.bist_endings.specs.OneOutcome.{Answer, answer_of}
-use Rattle.bist_endings.specs.Then.{OrNoMemory}
-use Rattle.bist_endings.specs.Words.{Words}
-use Rattle.bist_host.specs.Files.{Files}
-use Rattle.bist_inputs.proofs.OneInput.{march_settles, memory_settles}
-use Rattle.bist_inputs.specs.Inputs.{InputMarch}
-use Rattle.bist_inputs.specs.Memories.{InputMemory}
-use Rattle.march_core.specs.March.{MarchElement}
-use Rattle.memory_desc.specs.Descriptions.{Description}
+use Rattle.bist_app.specs.Bench.{IsBenched, IsSeen, IsSoundBenched, LeavesBench, bench_line, bench_row, benched_chip}
 use Rattle.std.proofs.lemmas.Bool.{cases_lt}
-use Rattle.word_device.specs.Boxes.{Tells, TellsChip, TellsNothing, TellsScript}
-use Rattle.word_device.specs.Runs.{IsFirstWrong, run_word}
-use Rattle.word_device.specs.declared.device.Planted.{Planted}
 use Rattle.word_march.specs.Commands.{port_ops}
 use Rattle.word_march.specs.PortRule.{cycle_of}
 use Rattle.word_march.specs.declared.operations.PortOp.{PortOp}

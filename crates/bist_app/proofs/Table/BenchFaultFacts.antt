@@ -1,24 +1,12 @@
 -- What is known of `benchfault`.
-use Rattle.std.proofs.Common.{Err, List, Ok, Option, Some, [], is_some, refl, sym, ◌∙◌, ◌∷◌, ◌≡◌}
+use Rattle.bist_app.proofs.Common.{List, Some, [], is_some, sym, ◌∙◌, ◌∷◌, ◌≡◌, Boxes, FirstTells, FitsAggressor, FitsLength, FitsRoom, HasBox, LeavesFirst, Concludes, leaves_conclude, narrows, none_conclude, own_settles, where_settles, OrNoMemory, SaysOwn, Words, word, Refusal, march_settles, memory_settles, prim_settles, GivesPrim, InputMarch, InputMemory, MarchElement, Description, Planted}
 use Rattle.bist_app.proofs.Table.BenchFacts.{benched_one}
-use Rattle.bist_app.proofs.Facts.{Facts, SomeLeft, before_conclude, before_said, with_left}
+use Rattle.bist_app.proofs.Facts.{Facts, before_conclude, before_said, with_left}
 use Rattle.bist_app.proofs.PlaceWords.{aggressor_place_one, place_one}
 use Rattle.bist_app.proofs.SharedFacts.{aggressor_settles, box_settles, length_settles, room_settles}
-use Rattle.bist_app.specs.BenchFault.{ArePlaces, DecidesFault, FitsPlaces, IsFaultBenched, IsFaultShape, LeavesFault, RunsFault, bench_fault_row, planted_of}
-use Rattle.bist_app.specs.Shared.{Boxes, FirstTells, FitsAggressor, FitsLength, FitsRoom, HasBox, LeavesFirst}
+use Rattle.bist_app.specs.BenchFault.{ArePlaces, FitsPlaces, IsFaultBenched, IsFaultShape, LeavesFault, RunsFault, bench_fault_row, planted_of}
 use Rattle.bist_app.specs.declared.benchfault_command.FaultShape.{FaultShape}
-use Rattle.bist_endings.proofs.Settling.{Concludes, IsTold, leaves_conclude, narrows, none_conclude, own_settles, where_settles}
-use Rattle.bist_endings.specs.Then.{OrNoMemory, SaysOwn}
-use Rattle.bist_endings.specs.Words.{Words, word}
 use Rattle.bist_endings.specs.declared.ending.DeviceRefusal.{DeviceRefusal}
-use Rattle.bist_endings.specs.declared.ending.Refusal.{Refusal}
-use Rattle.bist_host.specs.Files.{Files}
-use Rattle.bist_inputs.proofs.OneInput.{march_settles, memory_settles, prim_settles}
-use Rattle.bist_inputs.specs.Inputs.{GivesPrim, InputMarch}
-use Rattle.bist_inputs.specs.Memories.{InputMemory}
-use Rattle.march_core.specs.March.{MarchElement}
-use Rattle.memory_desc.specs.Descriptions.{Description}
-use Rattle.word_device.specs.declared.device.Planted.{Planted}
 
 fault_shape_one : (words : Words) (s t : FaultShape) → IsFaultShape words s → IsFaultShape words t → s ≡ t
 fault_shape_one words s t h i =
@@ -33,22 +21,18 @@ leaves march d planted (box ∷ boxes) =
     narrows (OrNoMemory (IsFaultBenched march d planted box.tells)) (LeavesFault march d planted (box ∷ boxes)) (λ r h. h)
     (leaves_conclude (IsFaultBenched march d planted box.tells) (λ told tells x y f g. benched_one march d (Some planted) box.tells x y tells f.benched g.benched) (λ told x y f g. f.benched.outputs ∙ sym g.benched.outputs))
 
-concludes : (files : Option Files) (boxes : Boxes) (words : Words)
-    → Concludes ((shape : FaultShape) × IsFaultShape words shape) (IsTold files) (FirstTells boxes) (λ outputs. outputs) (SomeLeft (λ left. DecidesFault files boxes left words))
-concludes files boxes words =
-    before_conclude boxes (SaysOwn (IsFaultShape words)) (λ shape left. RunsFault files boxes left words shape) (own_settles (IsFaultShape words) (fault_shape_one words)) (λ shape _.
-    before_conclude boxes (InputMarch files words 1) _ (march_settles files words 1) (λ march _.
-    before_conclude boxes (InputMemory files words 2) _ (memory_settles files words 2) (λ d _.
-    before_conclude boxes (GivesPrim (word words 3)) _ (prim_settles (word words 3)) (λ prim _.
-    before_conclude boxes (FitsAggressor (is_some shape.aggressor) prim) _ (aggressor_settles (is_some shape.aggressor) prim) (λ _ _.
-    before_conclude boxes (FitsLength march d) _ (length_settles march d) (λ _ _.
-    before_conclude boxes (HasBox boxes) _ (box_settles boxes) (λ _ _.
-    before_conclude boxes (FitsPlaces d shape) _ (where_settles (ArePlaces d shape) (Refusal.Device DeviceRefusal.BadPlace) (λ is. cc)) (λ _ _.
-    before_conclude boxes (FitsRoom d boxes) _ (room_settles d boxes) (λ _ _.
-    with_left (LeavesFault march d (planted_of prim shape) boxes) (LeavesFirst boxes) (leaves march d (planted_of prim shape) boxes))))))))))
-
 pub bench_fault_facts : Facts bench_fault_row
 bench_fault_facts = record {
-  concludes = concludes;
+  concludes = λ files boxes words.
+      before_conclude boxes (SaysOwn (IsFaultShape words)) (λ shape left. RunsFault files boxes left words shape) (own_settles (IsFaultShape words) (fault_shape_one words)) (λ shape _.
+      before_conclude boxes (InputMarch files words 1) _ (march_settles files words 1) (λ march _.
+      before_conclude boxes (InputMemory files words 2) _ (memory_settles files words 2) (λ d _.
+      before_conclude boxes (GivesPrim (word words 3)) _ (prim_settles (word words 3)) (λ prim _.
+      before_conclude boxes (FitsAggressor (is_some shape.aggressor) prim) _ (aggressor_settles (is_some shape.aggressor) prim) (λ _ _.
+      before_conclude boxes (FitsLength march d) _ (length_settles march d) (λ _ _.
+      before_conclude boxes (HasBox boxes) _ (box_settles boxes) (λ _ _.
+      before_conclude boxes (FitsPlaces d shape) _ (where_settles (ArePlaces d shape) (Refusal.Device DeviceRefusal.BadPlace) (λ is. cc)) (λ _ _.
+      before_conclude boxes (FitsRoom d boxes) _ (room_settles d boxes) (λ _ _.
+      with_left (LeavesFault march d (planted_of prim shape) boxes) (LeavesFirst boxes) (leaves march d (planted_of prim shape) boxes))))))))));
   said = λ files boxes left words r h. before_said boxes left (IsFaultShape words) (λ shape. RunsFault files boxes left words shape) r h;
 }

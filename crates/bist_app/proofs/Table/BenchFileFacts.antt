@@ -1,34 +1,17 @@
 -- What is known of `benchfile`: a run of a file's module against the first box has one answer, where the box tells its chip or its script.
-use Rattle.std.proofs.Common.{ℕ, Bool, List, None, Ok, Option, [], ap, ap₂, inr, subst, sym, ◌+◌, ◌∙◌, ◌∷◌, ◌≡◌, ◌≢◌}
+use Rattle.bist_app.proofs.Common.{ℕ, Bool, List, None, Ok, Option, [], ap, ap₂, inr, subst, sym, ◌+◌, ◌∙◌, ◌∷◌, ◌≡◌, ◌≢◌, IsFirstSeen, Seen, Boxes, FirstTells, FitsLength, FitsRoom, HasBox, HasPorts, LeavesFirst, Concludes, leaves_conclude, narrows, none_conclude, Done, Answer, answer_of, OrNoMemory, march_settles, memory_settles, CanRun, InputModule, InputMarch, InputMemory, MarchElement, Description, ModuleTree, Tells, TellsChip, TellsNothing, TellsScript}
 use Rattle.bench.proofs.OneRun.{same_cycles}
-use Rattle.bench.specs.Endings.{IsFirstSeen}
 use Rattle.bench.specs.Joint.{first_done, ports_in, word_in}
-use Rattle.bench.specs.declared.ending.Seen.{Seen}
 use Rattle.bist_app.proofs.Table.BenchFacts.{first_one}
 use Rattle.bist_app.proofs.BenchedFile.{are_ports}
-use Rattle.bist_app.proofs.Facts.{Facts, SomeLeft, before_conclude, with_left}
+use Rattle.bist_app.proofs.Facts.{Facts, before_conclude, with_left}
 use Rattle.bist_app.proofs.SharedFacts.{box_settles, length_settles, none_wrong, ports_settles, room_settles}
 use Rattle.bist_app.specs.Bench.{benched_done, ready}
-use Rattle.bist_app.specs.BenchFile.{DecidesBenchFile, IsFileRun, LeavesBenchFile, bench_file_row, zero_registers}
-use Rattle.bist_app.specs.Shared.{Boxes, FirstTells, FitsLength, FitsRoom, HasBox, HasPorts, LeavesFirst}
-use Rattle.bist_endings.proofs.Settling.{Concludes, IsTold, leaves_conclude, narrows, none_conclude}
-use Rattle.bist_endings.specs.Ending.{Done}
-use Rattle.bist_endings.specs.OneOutcome.{Answer, answer_of}
-use Rattle.bist_endings.specs.Then.{OrNoMemory}
-use Rattle.bist_endings.specs.Words.{Words}
-use Rattle.bist_host.specs.Files.{Files}
+use Rattle.bist_app.specs.BenchFile.{IsFileRun, LeavesBenchFile, bench_file_row, zero_registers}
 use Rattle.bist_inputs.proofs.OneDesign.{input_can_run, module_settles}
-use Rattle.bist_inputs.proofs.OneInput.{march_settles, memory_settles}
-use Rattle.bist_inputs.specs.Designs.{CanRun, InputModule}
-use Rattle.bist_inputs.specs.Inputs.{InputMarch}
-use Rattle.bist_inputs.specs.Memories.{InputMemory}
-use Rattle.march_core.specs.March.{MarchElement}
-use Rattle.memory_desc.specs.Descriptions.{Description}
 use Rattle.self_test.specs.WrongPort.{wrong_port}
 use Rattle.verilog_tree.specs.Grammar.{Parenthesised}
 use Rattle.verilog_tree.specs.Meaning.{Env}
-use Rattle.verilog_tree.specs.Plain.{ModuleTree}
-use Rattle.word_device.specs.Boxes.{Tells, TellsChip, TellsNothing, TellsScript}
 use Rattle.word_device.specs.Joint.{returned_word}
 use Rattle.word_march.specs.Commands.{span}
 

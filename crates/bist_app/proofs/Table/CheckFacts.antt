@@ -1,26 +1,13 @@
 -- What is known of `check`.
-use Rattle.std.proofs.Common.{ℕ, List, Ok, Option, ap, codes, decimal, inr, sym, ◌++◌, ◌∙◌, ◌≡◌}
-use Rattle.bist_app.proofs.Facts.{Facts, with_left}
+use Rattle.bist_app.proofs.Common.{ℕ, List, Ok, ap, codes, decimal, sym, ◌++◌, ◌∙◌, ◌≡◌, FitsLength, HasPorts, Concludes, leaves_conclude, then_concludes, Done, answer_of, march_settles, memory_settles, CanRun, InputModule, InputMarch, InputMemory, MarchElement, Description, ModuleTree}
+use Rattle.bist_app.proofs.Facts.{Facts, files_facts}
 use Rattle.bist_app.proofs.SharedFacts.{length_settles, ports_settles}
-use Rattle.bist_app.specs.Check.{DecidesCheck, IsChecked, LeavesCheck, at_text, check_done, check_row}
-use Rattle.bist_app.specs.Shared.{FitsLength, HasPorts}
-use Rattle.bist_endings.proofs.Settling.{Concludes, IsTold, leaves_conclude, then_concludes}
-use Rattle.bist_endings.specs.Ending.{Done}
-use Rattle.bist_endings.specs.OneOutcome.{answer_of}
-use Rattle.bist_endings.specs.Words.{Words}
-use Rattle.bist_host.specs.Files.{Files}
+use Rattle.bist_app.specs.Check.{DecidesCheck, IsChecked, LeavesCheck, at_text, check_done, check_form, check_row}
 use Rattle.bist_inputs.proofs.OneDesign.{input_can_run, module_settles}
-use Rattle.bist_inputs.proofs.OneInput.{march_settles, memory_settles}
-use Rattle.bist_inputs.specs.Designs.{CanRun, InputModule}
-use Rattle.bist_inputs.specs.Inputs.{InputMarch}
-use Rattle.bist_inputs.specs.Memories.{InputMemory}
-use Rattle.march_core.specs.March.{MarchElement}
-use Rattle.memory_desc.specs.Descriptions.{Description}
 use Rattle.port_check.proofs.Checking.{only_answer}
 use Rattle.port_check.specs.Answers.{SameAnswer}
 use Rattle.port_check.specs.declared.answer.PortAnswer.{PortAnswer}
 use Rattle.verilog_tree.specs.Grammar.{ByPrecedence}
-use Rattle.verilog_tree.specs.Plain.{ModuleTree}
 
 -- the same answer is said in the same way
 same_said : (a b : PortAnswer) → SameAnswer a b → answer_of (Ok (check_done a)) ≡ answer_of (Ok (check_done b))
@@ -54,13 +41,10 @@ leaves mo march d can =
     (λ told x y f g. ap (λ (z : Done). z.outputs) f.done_is ∙ sym (ap (λ (z : Done). z.outputs) g.done_is))
 
 pub check_facts : Facts check_row
-check_facts = record {
-  concludes = λ files boxes words. with_left (DecidesCheck files words) (λ left _. left ≡ boxes)
-      (then_concludes (InputModule ByPrecedence files words 1) _ (module_settles ByPrecedence files words 1) (λ mo given.
-      then_concludes (InputMarch files words 2) _ (march_settles files words 2) (λ march _.
-      then_concludes (InputMemory files words 3) _ (memory_settles files words 3) (λ d _.
-      then_concludes (FitsLength march d) _ (length_settles march d) (λ _ _.
-      then_concludes (HasPorts d mo) _ (ports_settles d mo) (λ _ _.
-      leaves mo march d (input_can_run ByPrecedence files words 1 mo given)))))));
-  said = λ files boxes left words r h. inr tt;
-}
+check_facts = files_facts check_form DecidesCheck (λ outputs. outputs) (λ files words.
+    then_concludes (InputModule ByPrecedence files words 1) _ (module_settles ByPrecedence files words 1) (λ mo given.
+    then_concludes (InputMarch files words 2) _ (march_settles files words 2) (λ march _.
+    then_concludes (InputMemory files words 3) _ (memory_settles files words 3) (λ d _.
+    then_concludes (FitsLength march d) _ (length_settles march d) (λ _ _.
+    then_concludes (HasPorts d mo) _ (ports_settles d mo) (λ _ _.
+    leaves mo march d (input_can_run ByPrecedence files words 1 mo given)))))))

@@ -1,16 +1,8 @@
 -- What is known of `judge`.
-use Rattle.std.proofs.Common.{List, None, Option, [], ap, inr, sym, ◌∙◌, ◌∷◌, ◌≡◌}
-use Rattle.bist_app.proofs.Facts.{Facts, with_left}
+use Rattle.bist_app.proofs.Common.{List, None, [], ap, sym, ◌∙◌, ◌∷◌, ◌≡◌, leaves_conclude, then_concludes, Done, Written, list_settles, march_settles, InputList, InputMarch, Item, MarchElement}
+use Rattle.bist_app.proofs.Facts.{Facts, files_facts}
 use Rattle.bist_app.proofs.OneReported.{reports_one}
-use Rattle.bist_app.specs.Judge.{DecidesJudge, IsJudged, LeavesJudge, judge_row}
-use Rattle.bist_endings.proofs.Settling.{Concludes, IsTold, leaves_conclude, then_concludes}
-use Rattle.bist_endings.specs.Ending.{Done, Written}
-use Rattle.bist_endings.specs.Words.{Words}
-use Rattle.bist_host.specs.Files.{Files}
-use Rattle.bist_inputs.proofs.OneInput.{list_settles, march_settles}
-use Rattle.bist_inputs.specs.Inputs.{InputList, InputMarch}
-use Rattle.dynamic_core.specs.declared.item.Item.{Item}
-use Rattle.march_core.specs.March.{MarchElement}
+use Rattle.bist_app.specs.Judge.{DecidesJudge, IsJudged, LeavesJudge, judge_form, judge_row}
 use Rattle.report.proofs.OneReport.{text_one}
 
 files_one : (march : List MarchElement) (items : List Item) (d e : Done) → IsJudged march items d → IsJudged march items e → d.outputs ≡ e.outputs
@@ -19,11 +11,8 @@ files_one march items d e f g =
 
 pub judge_facts : Facts judge_row
 unfolding LeavesJudge
-judge_facts = record {
-  concludes = λ files boxes words. with_left (DecidesJudge files words) (λ left _. left ≡ boxes)
-      (then_concludes (InputMarch files words 1) _ (march_settles files words 1) (λ march _.
-      then_concludes (InputList files words 2) _ (list_settles files words 2) (λ items _.
-      leaves_conclude (IsJudged march items) (λ told tells d e f g. reports_one march _ items d.found e.found f.bytes g.bytes d.line e.line f.reports g.reports)
-      (λ told. files_one march items))));
-  said = λ files boxes left words r h. inr tt;
-}
+judge_facts = files_facts judge_form DecidesJudge (λ outputs. outputs) (λ files words.
+    then_concludes (InputMarch files words 1) _ (march_settles files words 1) (λ march _.
+    then_concludes (InputList files words 2) _ (list_settles files words 2) (λ items _.
+    leaves_conclude (IsJudged march items) (λ told tells d e f g. reports_one march _ items d.found e.found f.bytes g.bytes d.line e.line f.reports g.reports)
+    (λ told. files_one march items))))

@@ -1,22 +1,14 @@
 -- What is known of `make`.
-use Rattle.std.proofs.Common.{take, drop, ℕ, List, Ok, Some, [], ap, ap₂, arith, length, subst, sym, ◌*◌, ◌++◌, ◌+◌, ◌-◌, ◌∙◌, ◌∷◌, ◌≡◌}
+use Rattle.bist_app.proofs.Common.{take, drop, ℕ, List, Ok, Some, [], ap, ap₂, arith, length, subst, sym, ◌*◌, ◌++◌, ◌+◌, ◌-◌, ◌∙◌, ◌∷◌, ◌≡◌, Concludes, leaves_conclude, own_said, own_settles, then_concludes, Done, Written, found_status, Answer, answer_of, SaysOwn, word, Item, MarchElement, all_ops, Description}
 use Rattle.backgrounds.specs.Backgrounds.{IsLogSet, IsLogarithm}
 use Rattle.bist_app.proofs.Facts.{Facts, with_left}
 use Rattle.bist_app.proofs.OneReported.{found_one}
 use Rattle.bist_app.proofs.OwnWords.{number_one}
 use Rattle.bist_app.specs.Make.{DecidesMake, IsMade, IsMadeOf, IsMakeShape, LeavesMake, made_line, make_row}
-use Rattle.bist_endings.proofs.Settling.{Concludes, leaves_conclude, own_said, own_settles, then_concludes}
-use Rattle.bist_endings.specs.Ending.{Done, Written, found_status}
-use Rattle.bist_endings.specs.OneOutcome.{Answer, answer_of}
-use Rattle.bist_endings.specs.Then.{SaysOwn}
-use Rattle.bist_endings.specs.Words.{Words, word}
-use Rattle.dynamic_core.specs.declared.item.Item.{Item}
 use Rattle.made_inputs.specs.MadeList.{made_items, made_text}
 use Rattle.made_inputs.specs.MadeMarch.{line_of, made_march}
 use Rattle.made_inputs.specs.MadeMemory.{IsMadeMemory}
-use Rattle.march_core.specs.March.{MarchElement, all_ops}
 use Rattle.memory_desc.proofs.Determined.{log_set_one, width_one}
-use Rattle.memory_desc.specs.Descriptions.{Description}
 use Rattle.memory_desc.specs.Printed.{printed}
 use Rattle.report.proofs.OneReport.{detects_one, text_one}
 use Rattle.report.specs.Report.{IsMixedReport}
@@ -100,12 +92,9 @@ leaves : {Says Told : Type 0} (number : ℕ) → Concludes Says Told (Unit {0}) 
 unfolding LeavesMake
 leaves number = leaves_conclude (IsMade number) (λ told tells d e f g. line_one number d e f g) (λ told. files_one number)
 
-concludes : {Told : Type 0} (words : Words) → Concludes ((number : ℕ) × IsMakeShape words number) Told (Unit {0}) (λ outputs. take 3 outputs ++ drop 4 outputs) (DecidesMake words)
-concludes words =
-    then_concludes (SaysOwn (IsMakeShape words)) LeavesMake (own_settles (IsMakeShape words) (λ m n h i. number_one (word words 1) m n h.says i.says)) (λ number _. leaves number)
-
 pub make_facts : Facts make_row
 make_facts = record {
-  concludes = λ files boxes words. with_left (DecidesMake words) (λ left _. left ≡ boxes) (concludes words);
+  concludes = λ files boxes words. with_left (DecidesMake words) (λ left _. left ≡ boxes)
+      (then_concludes (SaysOwn (IsMakeShape words)) LeavesMake (own_settles (IsMakeShape words) (λ m n h i. number_one (word words 1) m n h.says i.says)) (λ number _. leaves number));
   said = λ files boxes left words r h. own_said (IsMakeShape words) LeavesMake r h.0;
 }

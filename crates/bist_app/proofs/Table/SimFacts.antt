@@ -1,27 +1,15 @@
 -- What is known of `sim`.
-use Rattle.std.proofs.Common.{ℕ, Bool, Err, IsTrue, List, None, Ok, Option, Some, ap, is_some, length, refl, sym, ◌∙◌, ◌≡◌}
+use Rattle.bist_app.proofs.Common.{ℕ, Bool, IsTrue, List, None, Ok, Option, Some, ap, is_some, length, refl, sym, ◌∙◌, ◌≡◌, FitsAggressor, Concludes, leaves_conclude, own_said, own_settles, then_concludes, where_settles, Done, answer_of, SaysOwn, Words, word, Refusal, march_settles, prim_settles, GivesPrim, InputMarch, Primitive, MarchElement}
 use Rattle.array_sim.proofs.Differing.{one_first}
 use Rattle.array_sim.specs.Differing.{after_step, is_wrong_at}
 use Rattle.bist_app.proofs.Facts.{Facts, with_left}
 use Rattle.bist_app.proofs.OwnWords.{no_number, number_one}
 use Rattle.bist_app.proofs.SharedFacts.{aggressor_settles}
-use Rattle.bist_app.specs.Shared.{FitsAggressor}
 use Rattle.bist_app.specs.Sim.{DecidesSim, FirstDiffers, FitsDirections, IsAggressorWord, IsSimShape, IsSimulated, LeavesSim, RunsSim, content_of, directions_of_letters, places_of, sim_done, sim_row}
 use Rattle.bist_app.specs.declared.sim.SimShape.{SimShape}
-use Rattle.bist_endings.proofs.Settling.{Concludes, IsTold, leaves_conclude, own_said, own_settles, then_concludes, where_settles}
-use Rattle.bist_endings.specs.Ending.{Done}
-use Rattle.bist_endings.specs.OneOutcome.{answer_of}
-use Rattle.bist_endings.specs.Then.{SaysOwn}
-use Rattle.bist_endings.specs.Words.{Words, word}
 use Rattle.bist_endings.specs.declared.ending.Misfit.{Misfit}
-use Rattle.bist_endings.specs.declared.ending.Refusal.{Refusal}
-use Rattle.bist_host.specs.Files.{Files}
-use Rattle.bist_inputs.proofs.OneInput.{march_settles, prim_settles}
-use Rattle.bist_inputs.specs.Inputs.{GivesPrim, InputMarch}
 use Rattle.fault_core.specs.Cells.{close_of}
-use Rattle.fault_core.specs.Primitive.{Primitive}
 use Rattle.fault_core.specs.declared.cells.Places.{Places}
-use Rattle.march_core.specs.March.{MarchElement}
 use Rattle.march_core.specs.Visits.{Direction, is_direction, visits}
 use Rattle.march_core.specs.declared.visit.Miss.{Miss}
 
@@ -58,18 +46,15 @@ leaves march prim at digits letters =
     leaves_conclude (IsSimulated march prim at digits letters) (λ told tells d e f g. ap (λ (done : Done). answer_of (Ok done)) (line_one march prim at digits letters d e f g))
     (λ told d e f g. ap (λ (done : Done). done.outputs) (line_one march prim at digits letters d e f g))
 
-concludes : (files : Option Files) (words : Words) → Concludes ((shape : SimShape) × IsSimShape words shape) (IsTold files) (Unit {0}) (λ outputs. outputs) (DecidesSim files words)
-concludes files words =
-    then_concludes (SaysOwn (IsSimShape words)) (RunsSim files words) (own_settles (IsSimShape words) (shape_one words)) (λ shape _.
-    then_concludes (InputMarch files words 1) _ (march_settles files words 1) (λ march _.
-    then_concludes (GivesPrim (word words 2)) _ (prim_settles (word words 2)) (λ prim _.
-    then_concludes (FitsAggressor (is_some shape.aggressor) prim) _ (aggressor_settles (is_some shape.aggressor) prim) (λ _ _.
-    then_concludes (FitsDirections (word words 7) march) _
-    (where_settles (IsTrue (is_direction march (directions_of_letters (word words 7)))) (Refusal.Misfit Misfit.Directions) (λ is. cc)) (λ _ _.
-    leaves march prim (places_of shape) (word words 4) (word words 7))))))
-
 pub sim_facts : Facts sim_row
 sim_facts = record {
-  concludes = λ files boxes words. with_left (DecidesSim files words) (λ left _. left ≡ boxes) (concludes files words);
+  concludes = λ files boxes words. with_left (DecidesSim files words) (λ left _. left ≡ boxes)
+      (then_concludes (SaysOwn (IsSimShape words)) (RunsSim files words) (own_settles (IsSimShape words) (shape_one words)) (λ shape _.
+      then_concludes (InputMarch files words 1) _ (march_settles files words 1) (λ march _.
+      then_concludes (GivesPrim (word words 2)) _ (prim_settles (word words 2)) (λ prim _.
+      then_concludes (FitsAggressor (is_some shape.aggressor) prim) _ (aggressor_settles (is_some shape.aggressor) prim) (λ _ _.
+      then_concludes (FitsDirections (word words 7) march) _
+      (where_settles (IsTrue (is_direction march (directions_of_letters (word words 7)))) (Refusal.Misfit Misfit.Directions) (λ is. cc)) (λ _ _.
+      leaves march prim (places_of shape) (word words 4) (word words 7)))))));
   said = λ files boxes left words r h. own_said (IsSimShape words) (RunsSim files words) r h.0;
 }

@@ -1,4 +1,4 @@
-use Rattle.std.proofs.Common.{ℕ, ◌<◌, subst}
+use Rattle.bist_app.proofs.Common.{ℕ, ◌<◌, subst}
 use Rattle.bist_app.proofs.Benched.{benched}
 use Rattle.bist_app.proofs.bench_command.plan_bench.Goals as goal
 

@@ -1,4 +1,4 @@
-use Rattle.std.proofs.Common.{length}
+use Rattle.bist_app.proofs.Common.{length}
 use Rattle.bist_app.proofs.benchall_command.+small_room.Given as goal
 
 abbrev pub decreases-small_room : goal.decreases-small_room

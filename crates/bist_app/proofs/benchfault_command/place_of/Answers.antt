@@ -1,4 +1,4 @@
-use Rattle.std.proofs.Common.{Some, None}
+use Rattle.bist_app.proofs.Common.{Some, None}
 use Rattle.bist_app.proofs.PlaceWords.{split_place, rejected, none_found}
 use Rattle.bist_app.proofs.benchfault_command.place_of.Goals as goal
 

@@ -1,4 +1,4 @@
-use Rattle.std.proofs.Common.{ℕ, ◌<◌, subst}
+use Rattle.bist_app.proofs.Common.{ℕ, ◌<◌, subst}
 use Rattle.bist_app.proofs.Faulted.{fault_benched}
 use Rattle.bist_app.proofs.benchfault_command.plan_fault.Goals as goal
 

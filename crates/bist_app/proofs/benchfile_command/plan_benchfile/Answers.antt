@@ -1,4 +1,4 @@
-use Rattle.std.proofs.Common.{ℕ, ◌<◌, subst}
+use Rattle.bist_app.proofs.Common.{ℕ, ◌<◌, subst}
 use Rattle.bist_app.proofs.Benched.{file_benched}
 use Rattle.bist_app.proofs.benchfile_command.plan_benchfile.Goals as goal
 

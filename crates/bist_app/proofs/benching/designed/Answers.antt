@@ -1,4 +1,4 @@
-use Rattle.verilog_tree.specs.Plain.{plain_module}
+use Rattle.bist_app.proofs.Common.{plain_module}
 use Rattle.bist_app.proofs.ReadBack.{want_of_elaborated}
 use Rattle.bist_app.proofs.benching.designed.Goals as goal
 

@@ -1,5 +1,4 @@
-use Rattle.std.proofs.Common.{◌≡◌}
-use Rattle.verilog_tree.specs.Plain.{plain_module}
+use Rattle.bist_app.proofs.Common.{◌≡◌, plain_module}
 use Rattle.bist_app.proofs.ReadBack.{want_of_read}
 use Rattle.bist_app.proofs.benching.read_back.Goals as goal
 

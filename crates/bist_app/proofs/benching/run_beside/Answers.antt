@@ -1,6 +1,4 @@
-use Rattle.std.proofs.Common.{subst}
-use Rattle.word_device.specs.Boxes.{Tells}
-use Rattle.bist_endings.specs.Ending.{done_of}
+use Rattle.bist_app.proofs.Common.{subst, Tells, done_of}
 use Rattle.bist_app.specs.BenchFile.{RunsBeside}
 use Rattle.bist_app.proofs.benching.run_beside.Goals as goal
 

@@ -1,5 +1,4 @@
-use Rattle.std.proofs.Common.{List, ℕ, sym, subst}
-use Rattle.verilog_tree.specs.Plain.{plain_module}
+use Rattle.bist_app.proofs.Common.{List, ℕ, sym, subst, plain_module}
 use Rattle.verilog_tree.specs.Spells.{Spells}
 use Rattle.bist_app.proofs.ReadBack.{read_test, new_tests, new_zero}
 use Rattle.bist_app.proofs.benching.self_test_design.Goals as goal

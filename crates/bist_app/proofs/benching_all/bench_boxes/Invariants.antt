@@ -1,6 +1,6 @@
-use Rattle.std.proofs.Common.{◌≡◌, ◌+◌, ◌≤◌, length, map}
+use Rattle.bist_app.proofs.Common.{◌≡◌, ◌+◌, ◌≤◌, length, map}
 use Rattle.bist_app.specs.BenchAll.{AreGone, HaveRoom}
-use Rattle.bist_app.specs.BenchedBoxes.{GoesOn}
+use Rattle.bist_app.specs.inner.BenchedBoxes.{GoesOn}
 use Rattle.bist_app.proofs.benching_all.bench_boxes.Given as goal
 
 -- the boxes that are gone were benched, and so many of them failed

@@ -1,6 +1,4 @@
-use Rattle.std.proofs.Common.{ap, sym, subst}
-use Rattle.verilog_tree.specs.Plain.{ModuleTree}
-use Rattle.self_test.specs.SelfTest.{SelfTest}
+use Rattle.bist_app.proofs.Common.{ap, sym, subst, ModuleTree, SelfTest}
 use Rattle.self_test.proofs.Wrong.{test_ports}
 use Rattle.bist_app.proofs.benching_all.does_fail.Goals as goal
 

@@ -1,4 +1,4 @@
-use Rattle.std.proofs.Common.{Some, subst}
+use Rattle.bist_app.proofs.Common.{Some, subst}
 use Rattle.port_check.specs.declared.answer.CheckFault.{CheckFault}
 use Rattle.port_check.specs.Refusals.{Refuses}
 use Rattle.bist_app.proofs.Checked.{too_long, wrong_ports, wanting}

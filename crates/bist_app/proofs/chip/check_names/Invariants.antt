@@ -1,4 +1,4 @@
-use Rattle.std.proofs.Common.{ℕ, ◌<◌}
+use Rattle.bist_app.proofs.Common.{ℕ, ◌<◌}
 use Rattle.bist_app.specs.Chip.{HasTakenName}
 use Rattle.bist_app.proofs.chip.check_names.Given as goal
 

@@ -1,4 +1,4 @@
-use Rattle.std.proofs.Common.{◌≡◌, ◌≤◌, true, length, sym, subst}
+use Rattle.bist_app.proofs.Common.{◌≡◌, ◌≤◌, true, length, sym, subst}
 use Rattle.verilog_tree.specs.Words.{is_name}
 use Rattle.chip_rtl.specs.ChipFile.{IsPlanOf}
 use Rattle.bist_app.proofs.ChipTexts.{legal_name, plan_of, makes_file}

@@ -1,16 +1,11 @@
-use Rattle.std.proofs.Common.{Ok, Err, subst}
-use Rattle.bist_endings.specs.Ending.{plain}
+use Rattle.bist_app.proofs.Common.{Ok, Err, subst, plain}
 use Rattle.bist_app.specs.Chip.{TestsUnits}
 use Rattle.bist_app.proofs.Refusing.{passed_on}
 use Rattle.bist_app.proofs.ChipChecks.{named_plan}
 use Rattle.bist_app.proofs.chip.decide_chip.Goals as goal
 
 pub returns-in_err-chip-clause-answer : goal.returns-in_err-chip-clause-answer
-returns-in_err-chip-clause-answer g c = (
-  Err c.in_err-chip.field-0.0,
-  c.in_err-chip.ensures.answer,
-  passed_on c.from_residual.result c.in_err-chip.field-0.0 c.from_residual.ensures,
-)
+returns-in_err-chip-clause-answer g c = (Err c.in_err-chip.field-0.0, c.in_err-chip.ensures.answer, passed_on _ _ c.from_residual.ensures)
 
 pub returns-clause-answer : goal.returns-clause-answer
 returns-clause-answer g c = (

@@ -1,4 +1,4 @@
-use Rattle.std.proofs.Common.{◌∙◌}
+use Rattle.bist_app.proofs.Common.{◌∙◌}
 use Rattle.bist_app.proofs.TakenNames.{taken_by_chip, taken_if_earlier}
 use Rattle.bist_app.proofs.chip.has_taken_name.Goals as goal
 

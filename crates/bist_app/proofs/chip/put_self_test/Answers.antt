@@ -1,5 +1,4 @@
-use Rattle.std.proofs.Common.{◌++◌, ◌∙◌, ap}
-use Rattle.verilog_tree.specs.Plain.{plain_module}
+use Rattle.bist_app.proofs.Common.{◌++◌, ◌∙◌, ap, plain_module}
 use Rattle.chip_rtl.proofs.EndedFiles.{where_ok}
 use Rattle.bist_app.proofs.chip.put_self_test.Goals as goal
 

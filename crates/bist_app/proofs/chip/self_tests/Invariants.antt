@@ -1,4 +1,4 @@
-use Rattle.bist_app.specs.ChipParts.{PutSelfTests}
+use Rattle.bist_app.specs.inner.ChipParts.{PutSelfTests}
 use Rattle.bist_app.proofs.chip.self_tests.Given as goal
 
 abbrev pub invariant-loop-unit : goal.invariant-loop-unit

@@ -1,4 +1,4 @@
-use Rattle.std.proofs.Common.{Ok, Err, [], refl, subst}
+use Rattle.bist_app.proofs.Common.{Ok, Err, [], refl, subst}
 use Rattle.bist_app.specs.Chip.{GivesUnits}
 use Rattle.bist_app.proofs.Refusing.{passed_on}
 use Rattle.bist_app.proofs.ChipChecks.{few_lines, units_read}
@@ -20,7 +20,7 @@ pub returns-in_err-read_units-clause-answer : goal.returns-in_err-read_units-cla
 returns-in_err-read_units-clause-answer g c = (
   Err c.in_err-read_units.field-0.0,
   subst (λ ds. GivesUnits (g.H.Host.state c.args.host.now).files 0 ds (Err c.in_err-read_units.field-0.0)) c.units.ensures.value c.in_err-read_units.ensures.answer,
-  passed_on c.from_residual.result c.in_err-read_units.field-0.0 c.from_residual.ensures,
+  passed_on _ _ c.from_residual.ensures,
 )
 
 pub returns-clause-answer : goal.returns-clause-answer

@@ -1,4 +1,4 @@
-use Rattle.std.proofs.Common.{Ok, Err}
+use Rattle.bist_app.proofs.Common.{Ok, Err}
 use Rattle.bist_app.proofs.Refusing.{passed_on}
 use Rattle.bist_app.proofs.ChipChecks.{ready, names_checked}
 use Rattle.bist_app.proofs.chip.test_table.Goals as goal
@@ -13,7 +13,7 @@ pub returns-in_err-check_names-clause-answer : goal.returns-in_err-check_names-c
 returns-in_err-check_names-clause-answer c = λ us read. (
   Err c.in_err-check_names.field-0.0,
   names_checked c.args.chip.now c.args.table.now us c.name.result.now c.deref.result.now (Err c.in_err-check_names.field-0.0) c.name.ensures.value c.deref.ensures.value read c.in_err-check_names.ensures.answer,
-  passed_on c.from_residual.result c.in_err-check_names.field-0.0 c.from_residual.ensures,
+  passed_on _ _ c.from_residual.ensures,
 )
 
 pub returns-clause-answer : goal.returns-clause-answer

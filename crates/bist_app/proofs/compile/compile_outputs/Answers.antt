@@ -1,4 +1,4 @@
-use Rattle.bist_endings.specs.Ending.{written_of}
+use Rattle.bist_app.proofs.Common.{written_of}
 use Rattle.bist_app.proofs.Listed.{behind, mapped}
 use Rattle.bist_app.proofs.compile.compile_outputs.Goals as goal
 

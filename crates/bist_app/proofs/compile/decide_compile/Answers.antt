@@ -1,7 +1,4 @@
-use Rattle.std.proofs.Common.{Ok, Err, ◌∙◌, subst}
-use Rattle.bist_endings.specs.Ending.{plain}
-use Rattle.bist_inputs.specs.Inputs.{InputList}
-use Rattle.bist_inputs.specs.Memories.{InputMemory}
+use Rattle.bist_app.proofs.Common.{Ok, Err, ◌∙◌, subst, plain, InputList, InputMemory}
 use Rattle.bist_app.specs.Compile.{LeavesCompile}
 use Rattle.bist_app.proofs.Refusing.{passed_on}
 use Rattle.bist_app.proofs.compile.decide_compile.Goals as goal

@@ -1,4 +1,4 @@
-use Rattle.verilog_tree.specs.Plain.{plain_module}
+use Rattle.bist_app.proofs.Common.{plain_module}
 use Rattle.bist_app.proofs.compile.module_text.Goals as goal
 
 pub returns : goal.returns

@@ -1,4 +1,4 @@
-use Rattle.std.proofs.Common.{◌-◌, length, arith}
+use Rattle.bist_app.proofs.Common.{◌-◌, length, arith}
 use Rattle.std.proofs.lemmas.Nat.{one_shl}
 use Rattle.bist_app.proofs.DirectionWord.{word_fits, word_directions, word_rest}
 use Rattle.bist_app.proofs.directions.direction_word.Goals as goal

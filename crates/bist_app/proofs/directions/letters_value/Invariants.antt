@@ -1,4 +1,4 @@
-use Rattle.bist_app.specs.LetterBits.{HasBits}
+use Rattle.bist_app.specs.inner.LetterBits.{HasBits}
 use Rattle.bist_app.proofs.directions.letters_value.Given as goal
 
 abbrev pub invariant-loop-letter : goal.invariant-loop-letter

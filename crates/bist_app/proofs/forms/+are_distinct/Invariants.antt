@@ -1,4 +1,4 @@
-use Rattle.std.proofs.Common.{length}
+use Rattle.bist_app.proofs.Common.{length}
 use Rattle.bist_app.proofs.forms.+are_distinct.Given as goal
 
 -- what is left to compare

@@ -1,5 +1,4 @@
-use Rattle.std.proofs.Common.{◌≡◌, IfOk, subst, map}
-use Rattle.bist_endings.specs.Ending.{written_of}
+use Rattle.bist_app.proofs.Common.{◌≡◌, IfOk, subst, map, written_of}
 use Rattle.bist_app.proofs.Listed.{behind, mapped, five}
 use Rattle.bist_app.proofs.make.outputs_of.Goals as goal
 

@@ -1,5 +1,4 @@
-use Rattle.std.proofs.Common.{ℕ, ◌++◌, ap, ◌∙◌, length}
-use Rattle.march_core.specs.March.{all_ops}
+use Rattle.bist_app.proofs.Common.{ℕ, ◌++◌, ap, ◌∙◌, length, all_ops}
 use Rattle.bist_app.specs.Make.{sizes_text, covered_text}
 use Rattle.bist_app.proofs.make.summary.Goals as goal
 

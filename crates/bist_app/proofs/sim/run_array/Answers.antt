@@ -1,10 +1,8 @@
-use Rattle.std.proofs.Common.{◌≡◌, Option, Some, None, List, Bool, length, refl, subst, ◌↔◌}
+use Rattle.bist_app.proofs.Common.{◌≡◌, Option, Some, None, List, Bool, length, refl, subst, ◌↔◌, MarchElement, Primitive}
 use Rattle.std.specs.Option.{IsSome, IfSome}
-use Rattle.march_core.specs.March.{MarchElement}
 use Rattle.march_core.specs.Visits.{Direction, visits, directions_of}
 use Rattle.march_core.specs.declared.visit.Miss.{Miss}
 use Rattle.fault_core.specs.declared.cells.Places.{Places}
-use Rattle.fault_core.specs.Primitive.{Primitive}
 use Rattle.fault_core.specs.Cells.{close_of}
 use Rattle.array_sim.specs.Detection.{IsCaught}
 use Rattle.array_sim.specs.Differing.{IsFirstMiss}

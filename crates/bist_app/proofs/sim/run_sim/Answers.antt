@@ -1,10 +1,5 @@
-use Rattle.std.proofs.Common.{◌≡◌, ℕ, List, Result, Ok, Err, subst}
-use Rattle.march_core.specs.March.{MarchElement}
+use Rattle.bist_app.proofs.Common.{◌≡◌, ℕ, List, Result, Ok, Err, subst, MarchElement, Primitive, Done, Refusal, FitsAggressor}
 use Rattle.fault_core.specs.declared.cells.Places.{Places}
-use Rattle.fault_core.specs.Primitive.{Primitive}
-use Rattle.bist_endings.specs.Ending.{Done}
-use Rattle.bist_endings.specs.declared.ending.Refusal.{Refusal}
-use Rattle.bist_app.specs.Shared.{FitsAggressor}
 use Rattle.bist_app.specs.Sim.{FitsDirections, LeavesSim}
 use Rattle.bist_app.proofs.Refusing.{passed_on}
 use Rattle.bist_app.proofs.sim.run_sim.Goals as goal

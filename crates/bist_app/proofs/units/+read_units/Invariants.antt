@@ -1,4 +1,4 @@
-use Rattle.std.proofs.Common.{length}
+use Rattle.bist_app.proofs.Common.{length}
 use Rattle.bist_app.proofs.units.+read_units.Given as goal
 
 abbrev pub decreases-read_units : goal.decreases-read_units

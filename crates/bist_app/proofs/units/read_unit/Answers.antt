@@ -1,4 +1,4 @@
-use Rattle.chip_desc.specs.Chips.{unit_of}
+use Rattle.bist_app.proofs.Common.{unit_of}
 use Rattle.bist_app.proofs.Refusing.{stopped}
 use Rattle.bist_app.proofs.ReadUnits.{unit_read, memory_refused, unit_stops}
 use Rattle.bist_app.proofs.units.read_unit.Goals as goal

@@ -13,10 +13,9 @@ use Rattle.chip_rtl.specs.ChipLaws.{AllTested, memories, weights}
 use Rattle.chip_rtl.specs.PrintedTop.{printed_units}
 use Rattle.chip_rtl.specs.TopFits.{AllFit}
 use Rattle.chip_rtl.specs.ChipFile.{ChipFile}
-use Rattle.bist_endings.specs.Ending.{Done}
 use Rattle.bist_app.specs.declared.units.UnitTable.{UnitTable}
-use Rattle.bist_app.specs.UnitTables.{IsTableOf}
-use Rattle.bist_app.specs.Chip.{HasTakenName, IsChipTested}
+use Rattle.bist_app.specs.inner.UnitTables.{IsTableOf}
+use Rattle.bist_app.specs.Chip.{HasTakenName}
 
 -- the table has the units of the chip
 pub record IsRead (chip : ChipDescription) (t : UnitTable) (us : List TestUnit) : Type 0 where
@@ -60,7 +59,3 @@ pub record CanStart (groups lengths : List ℕ) : Type 0 where
 -- in the groups of the first fit, the text is the chip's file
 abbrev pub MakesFile : ChipDescription → UnitTable → List ℕ → List ℕ → Type 0
 MakesFile chip t groups text = (us : List TestUnit) → IsReady chip t us → FirstFit chip.budget [] (weights us) groups → ChipFile text chip.name us chip.budget
-
--- the units of the table are tested
-abbrev pub TestsTable : ChipDescription → UnitTable → Done → Type 0
-TestsTable chip t done = (us : List TestUnit) → IsReady chip t us → IsChipTested chip.name us chip.budget done

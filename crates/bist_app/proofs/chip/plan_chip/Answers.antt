@@ -1,9 +1,8 @@
-use Rattle.std.proofs.Common.{◌≡◌, length, suc, sym, subst}
-use Rattle.chip_plan.specs.Groups.{last_group, end_of}
-use Rattle.bist_app.specs.Chip.{chip_line}
-use Rattle.bist_app.specs.ChipParts.{CanStart, MakesFile}
+use Rattle.bist_app.proofs.Common.{◌≡◌, length, suc, sym, subst, last_group, end_of}
+use Rattle.bist_app.specs.Chip.{LeavesChip, chip_line}
+use Rattle.bist_app.specs.inner.ChipParts.{CanStart, MakesFile}
 use Rattle.bist_app.proofs.ChipTexts.{light_weights, starts, tests_table}
-use Rattle.bist_app.proofs.chip.tested.Goals as goal
+use Rattle.bist_app.proofs.chip.plan_chip.Goals as goal
 
 pub first_fit-groups-requires-clause-light : goal.first_fit-groups-requires-clause-light
 first_fit-groups-requires-clause-light c =
@@ -15,8 +14,9 @@ chip_line-requires c =
     (starts c.args.chip.now c.args.table.now c.requires.0 c.budget.result c.deref.result.now c.first_fit-groups.result.items c.deref-4.result.now c.budget.ensures.value c.deref.ensures.0
     c.deref-4.ensures.0 c.requires.1.has_read c.first_fit-groups.ensures)
 
-pub returns : goal.returns
-returns c =
+pub returns-clause-answer : goal.returns-clause-answer
+unfolding LeavesChip
+returns-clause-answer c =
     tests_table c.args.chip.now c.args.table.now c.budget.result c.deref.result.now c.first_fit-groups.result.items c.deref-4.result.now c.in_ok-text.text.items c.in_ok-line.line.items _
     c.budget.ensures.value c.deref.ensures.0 c.deref-4.ensures.0 c.first_fit-groups.ensures
     (subst (λ gs. MakesFile c.args.chip.now c.args.table.now gs c.in_ok-text.text.items) c.deref-2.ensures.0 c.in_ok-text.ensures)

@@ -1,0 +1,4 @@
+pub mod BenchedBoxes
+pub mod ChipParts
+pub mod LetterBits
+pub mod UnitTables
