@@ -1,9 +1,6 @@
 -- What the runs against a list of boxes leave.
-use Rattle.bist_app.proofs.Common.{◌≡◌, ◌+◌, ◌<◌, ◌≤◌, ◌∙◌, ℕ, zero, suc, Bool, true, false, List, [], ◌∷◌, length, map, drop, replicate, Option, Some, None, is_some, Result, Ok, Err, IfOk, refl, sym, ap, subst, arith, MarchElement, Description, Tells, Told, AllRight, IsPlain, PassesAlone, run_word, Seen, IsFirstRead, Plan, Done, Boxes, FirstHasRoom}
-use Rattle.std.proofs.lemmas.List.{length-replicate, length-map, drop_all}
-use Rattle.std.proofs.Math.Nat.{one-le-pow}
+use Rattle.bist_app.proofs.Common.{◌≡◌, ◌+◌, ◌<◌, ◌≤◌, ◌∙◌, ℕ, zero, suc, Bool, true, false, List, [], ◌∷◌, length, map, drop, replicate, Option, Some, None, is_some, Result, Ok, Err, IfOk, refl, sym, ap, subst, arith, MarchElement, Description, Tells, Told, AllRight, IsPlain, PassesAlone, run_word, Seen, IsFirstRead, Plan, Done, Boxes, FirstHasRoom, length-replicate, length-map, drop_all, one-le-pow, Fit}
 use Rattle.verilog_tree.specs.Names.{Declaration}
-use Rattle.verilog_cycle.specs.Design.{Fit}
 use Rattle.bist_app.specs.Bench.{ready, benched_chip, IsSeen}
 use Rattle.bist_app.specs.BenchAll.{HaveRoom, IsBoxSeen, failing_of, all_done, IsAllBenched, AreGone}
 use Rattle.bist_app.specs.inner.BenchedBoxes.{IsEnd, GoesOn, CountsFailing, more_failing}

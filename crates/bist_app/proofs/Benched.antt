@@ -1,12 +1,7 @@
 -- What a run against the first box leaves.
-use Rattle.bist_app.proofs.Common.{◌≡◌, ◌<◌, ◌*◌, ◌+◌, ◌%◌, ◌/◌, ◌^◌, ◌∙◌, ℕ, zero, suc, false, List, [], ◌∷◌, length, map, replicate, Option, None, Some, is_some, Bool, Result, Ok, Err, IfOk, IfErr, bit_xor, refl, sym, ap, ap₂, subst, arith, MarchElement, Description, Planted, Chip, shape_of, planted_chip, Tells, TellsChip, TellsScript, TellsNothing, Told, pattern, filled_chip, blank, AllRight, IsPlain, PassesAlone, run_word, Seen, IsFirstRead, EndsSelfTest, IsSeenOf, IsWrongRead, SelfTest, ModuleTree, Plan, Refusal, Done, done_of, plain, OrNoMemory, IsOwnRefusal}
-use Rattle.std.specs.List.{range_with_len}
-use Rattle.std.proofs.lemmas.List.{length-replicate}
-use Rattle.std.proofs.Math.Nat.{one-le-pow, mod-eq_of_lt}
+use Rattle.bist_app.proofs.Common.{◌≡◌, ◌<◌, ◌*◌, ◌+◌, ◌%◌, ◌/◌, ◌^◌, ◌∙◌, ℕ, zero, suc, false, List, [], ◌∷◌, length, map, replicate, Option, None, Some, is_some, Bool, Result, Ok, Err, IfOk, IfErr, bit_xor, refl, sym, ap, ap₂, subst, arith, MarchElement, Description, Planted, Chip, shape_of, planted_chip, Tells, TellsChip, TellsScript, TellsNothing, Told, pattern, filled_chip, blank, AllRight, IsPlain, PassesAlone, run_word, Seen, IsFirstRead, EndsSelfTest, IsSeenOf, IsWrongRead, SelfTest, ModuleTree, Plan, Refusal, Done, done_of, plain, OrNoMemory, IsOwnRefusal, range_with_len, length-replicate, one-le-pow, mod-eq_of_lt, closed_words, IfOk-weaker}
 use Rattle.word_device.specs.declared.shape.Shape.{Shape}
-use Rattle.word_device.specs.Chips.{closed_words}
 use Rattle.bench.specs.Endings.{Runs}
-use Rattle.std.proofs.lemmas.Result.{IfOk-weaker}
 use Rattle.bist_bits.specs.declared.NoMemory.{NoMemory}
 use Rattle.bist_app.specs.declared.benching.RunEnd.{RunEnd}
 use Rattle.bist_app.specs.Bench.{ready, benched_chip, benched_done, IsSeen, IsRun, IsBenched, IsSoundBenched, LeavesBench}

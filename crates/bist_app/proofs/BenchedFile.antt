@@ -1,7 +1,5 @@
 -- The words that are seen of a run of any module with the ports of a self-test.
-use Rattle.bist_app.proofs.Common.{◌≡◌, ℕ, List, Option, Some, None, refl, sym, subst, ModuleTree, ModulePort, MarchElement, Description, IsMemory, Tells, Seen}
-use Rattle.std.specs.Option.{option_map}
-use Rattle.self_test.specs.WrongPort.{wrong_port, ArePorts}
+use Rattle.bist_app.proofs.Common.{◌≡◌, ℕ, List, Option, Some, None, refl, sym, subst, ModuleTree, ModulePort, MarchElement, Description, IsMemory, Tells, Seen, option_map, wrong_port, ArePorts}
 use Rattle.self_test.proofs.Wrong.{none_exactly}
 use Rattle.bench.proofs.OneRun.{AreLow, seen_low}
 use Rattle.bist_app.specs.Bench.{AreWords}

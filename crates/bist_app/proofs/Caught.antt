@@ -1,8 +1,6 @@
 -- A chip in which an instance of a detected primitive was just planted.
-use Rattle.bist_app.proofs.Common.{◌<◌, ◌∙◌, List, Some, refl, sym, subst, MarchElement, IsPrimitive, Description, IsMemory, Planted, shape_of, blank, HasDetected, FailsAlone, Closes, SomeWrong, run_word}
-use Rattle.std.proofs.lemmas.List.{length-replicate}
+use Rattle.bist_app.proofs.Common.{◌<◌, ◌∙◌, List, Some, refl, sym, subst, MarchElement, IsPrimitive, Description, IsMemory, Planted, shape_of, blank, HasDetected, FailsAlone, Closes, SomeWrong, run_word, length-replicate, FitsMemory}
 use Rattle.array_sim.specs.Detection.{Detects}
-use Rattle.word_device.specs.Chips.{FitsMemory}
 use Rattle.bist_app.specs.Bench.{benched_chip}
 
 has_detected : (march : List MarchElement) (d : Description) (i : Planted) → IsMemory d → IsPrimitive i.prim → FitsMemory i d.words d.bits → Closes

@@ -1,8 +1,7 @@
 -- What the check of a module's open run leaves.
-use Rattle.bist_app.proofs.Common.{◌≡◌, ℕ, List, Some, None, Result, Ok, Err, IfOk, IfErr, refl, sym, subst, ModuleTree, MarchElement, Description, Refusal, Plan, Done, done_of, plain, HasPorts}
+use Rattle.bist_app.proofs.Common.{◌≡◌, ℕ, List, Some, None, Result, Ok, Err, IfOk, IfErr, refl, sym, subst, ModuleTree, MarchElement, Description, Refusal, Plan, Done, done_of, plain, HasPorts, PortAnswer}
 use Rattle.arrayvec.specs.ArrayString.{ArrayString}
 use Rattle.port_check.specs.declared.answer.CheckFault.{CheckFault}
-use Rattle.port_check.specs.declared.answer.PortAnswer.{PortAnswer}
 use Rattle.port_check.specs.Answers.{IsAnswer}
 use Rattle.port_check.specs.Refusals.{Refuses}
 use Rattle.bist_endings.specs.declared.ending.VerilogRefusal.{VerilogRefusal}

@@ -1,7 +1,6 @@
 -- The checks of a chip and of its units, one behind another.
-use Rattle.bist_app.proofs.Common.{◌≡◌, ◌∙◌, ◌≤◌, ◌<◌, ◌+◌, ◌∷◌, [], ℕ, zero, suc, All, List, length, map, Option, Result, Ok, Err, IfOk, refl, sym, ap, subst, arith, Files, Description, IsMemory, ChipDescription, UnitDescription, IsChip, unit_of, TestUnit, memories, weights, Refusal, Plan, Done, done_of, plain, Words, NamesWords, GivesMemory, FileMemory, UnitMemory, HasForm}
+use Rattle.bist_app.proofs.Common.{◌≡◌, ◌∙◌, ◌≤◌, ◌<◌, ◌+◌, ◌∷◌, [], ℕ, zero, suc, All, List, length, map, Option, Result, Ok, Err, IfOk, refl, sym, ap, subst, arith, Files, Description, IsMemory, ChipDescription, UnitDescription, IsChip, unit_of, TestUnit, memories, weights, Refusal, Plan, Done, done_of, plain, Words, NamesWords, GivesMemory, FileMemory, UnitMemory, HasForm, length-map}
 use Rattle.std.proofs.Math.Path.{ap₂}
-use Rattle.std.proofs.lemmas.List.{length-map}
 use Rattle.chip_desc.specs.declared.chip.ChipUnit.{ChipUnit}
 use Rattle.bist_app.specs.declared.units.UnitTable.{UnitTable}
 use Rattle.bist_app.specs.Chip.{GivesUnit, GivesUnits, HasOwnNames, LeavesChip, TestsUnits, DecidesChip, chip_form}

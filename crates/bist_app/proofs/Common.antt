@@ -1,4 +1,4 @@
--- The names that most proofs of commands cite, passed on from one place. Declares nothing.
+-- The names that several proofs cite, passed on from one place. Declares nothing.
 pub use Rattle.std.proofs.Common.{All, Bool, Contains, Err, Global, IfErr, IfOk, IfSome, IsErrAnd, IsTrue, List, MatchResult, None, Ok, Option, Result, Some, Vec, [], add-one, ap, append-nil, append_assoc, ap₂, arith, below_more, bit_xor, codes, cond, decimal, drop, false, get_or, if◌then◌else◌, inl, inr, is_some, length, lit<, map, nat_lt, not, refl, replicate, rules, slice_get, slice_index_or, subst, suc, sym, take, true, zero, ℕ, ◌%◌, ◌&&◌, ◌*◌, ◌++◌, ◌+◌, ◌-◌, ◌/◌, ◌<◌, ◌==◌, ◌^◌, ◌↔◌, ◌∙◌, ◌∷◌, ◌≡◌, ◌≢◌, ◌≤◌, ◌⊎◌}
 pub use Rattle.bist_host.specs.Files.{Files, HostState, OnlyReads, ReadsRose, Rose, Says, WritesFile, WritesRose}
 pub use Rattle.march_core.specs.March.{MarchElement, all_ops}
@@ -41,3 +41,21 @@ unfoldable pub use Rattle.bist_app.specs.Shared.{FitsRoom, HasBox, HasPorts}
 pub use Rattle.bist_app.specs.Forms.{Form, HasForm, Row, reads_files}
 pub use Rattle.bist_app.specs.Run.{Decides, DecidesCommand, HasNoForm, HasNoShape, HasShape, IsFormed, Runs, command_named, row_of}
 pub use Rattle.bist_app.specs.declared.commands.Command.{Command}
+pub use Rattle.word_march.specs.Commands.{command_count, cycle_count, port_ops, span}
+pub use Rattle.std.proofs.lemmas.List.{append_cancel_right, drop_all, ext_get_or, get_or-map, length-append, length-map, length-replicate, map-append, take_all}
+pub use Rattle.self_test.specs.WrongPort.{ArePorts, wrong_port}
+pub use Rattle.march_core.specs.Visits.{Direction, Downward, FitsWord, Upward, directions_of, is_direction, is_down_at, visits}
+unfoldable pub use Rattle.march_core.specs.Visits.{direction_at}
+pub use Rattle.std.specs.Option.{IsSome, option_copied, option_map}
+pub use Rattle.std.specs.Prelude.{MatchOption}
+pub use Rattle.std.specs.List.{AllByRecursion, range_with_len}
+pub use Rattle.report.proofs.OneReport.{detects_one, text_one}
+pub use Rattle.report.specs.Report.{DetectsOf, IsMixedReport, total_line}
+pub use Rattle.verilog_cycle.specs.Design.{DesignView, Elaborates, Fit, IsNew, NoLoop, Refused, registers_of}
+pub use Rattle.verilog_tree.specs.Grammar.{ByPrecedence, Parenthesised}
+pub use Rattle.word_device.specs.Chips.{FitsAggPlace, FitsMemory}
+unfoldable pub use Rattle.word_device.specs.Chips.{closed_words}
+pub use Rattle.bist_inputs.proofs.OneDesign.{Spelled, input_can_run, input_spells, module_settles}
+pub use Rattle.std.proofs.Math.Nat.{div-div-eq-div-mul, div-one, mod-eq_of_lt, mul-div_cancel, mul-lt-mul_of_pos_right, mul-mod_left, one-le-pow}
+pub use Rattle.std.proofs.lemmas.Result.{IfOk-weaker, on_ok_weaker}
+pub use Rattle.port_check.specs.declared.answer.PortAnswer.{PortAnswer}

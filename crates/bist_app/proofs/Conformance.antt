@@ -1,14 +1,10 @@
 -- What the answer of the top call comes to for `check`.
-use Rattle.bist_app.proofs.Common.{◌≡◌, ◌∙◌, sym, subst, ap, arith, ℕ, List, [], Option, Some, None, Ok, Err, Files, HostState, Says, MarchElement, Description, IsMemory, ModuleTree, Words, word, Done, found_status, WritesInOrder, CanRun, Boxes, HasPorts, HasForm, command_named, Runs, Command}
+use Rattle.bist_app.proofs.Common.{◌≡◌, ◌∙◌, sym, subst, ap, arith, ℕ, List, [], Option, Some, None, Ok, Err, Files, HostState, Says, MarchElement, Description, IsMemory, ModuleTree, Words, word, Done, found_status, WritesInOrder, CanRun, Boxes, HasPorts, HasForm, command_named, Runs, Command, ByPrecedence, wrong_port, PortAnswer, Spelled, input_spells, input_can_run}
 use Rattle.march_syntax.specs.Answers.{Reads as ReadsMarch}
 use Rattle.memory_desc.specs.Table.{Reads as ReadsMemory}
-use Rattle.verilog_tree.specs.Grammar.{ByPrecedence}
-use Rattle.self_test.specs.WrongPort.{wrong_port}
-use Rattle.port_check.specs.declared.answer.PortAnswer.{PortAnswer}
 use Rattle.port_check.specs.Answers.{Told}
 use Rattle.port_check.specs.Compared.{Issues}
 use Rattle.port_check.proofs.Checking.{told_of}
-use Rattle.bist_inputs.proofs.OneDesign.{Spelled, input_spells, input_can_run}
 use Rattle.bist_app.specs.Check.{IsChecked, LeavesCheck, DecidesCheck, is_amiss, check_form}
 use Rattle.bist_app.specs.Conformance.{IsConformance, LeavesConformance}
 use Rattle.bist_app.specs.Headline.{InputHas}

@@ -1,10 +1,7 @@
 -- The direction word of letters: their number, moved up to bit 63.
-use Rattle.bist_app.proofs.Common.{◌≡◌, ℕ, ◌+◌, ◌-◌, ◌*◌, ◌/◌, ◌%◌, ◌^◌, ◌<◌, ◌≤◌, ◌==◌, true, false, List, length, get_or, refl, ap, sym, ◌∙◌, subst, arith, if◌then◌else◌, ◌≢◌, IsTrue, below_more, [], ◌∷◌, MarchElement}
-use Rattle.std.proofs.Math.Nat.{div-div-eq-div-mul, mul-mod_left, mul-div_cancel, mul-lt-mul_of_pos_right, div-one}
+use Rattle.bist_app.proofs.Common.{◌≡◌, ℕ, ◌+◌, ◌-◌, ◌*◌, ◌/◌, ◌%◌, ◌^◌, ◌<◌, ◌≤◌, ◌==◌, true, false, List, length, get_or, refl, ap, sym, ◌∙◌, subst, arith, if◌then◌else◌, ◌≢◌, IsTrue, below_more, [], ◌∷◌, MarchElement, div-div-eq-div-mul, mul-mod_left, mul-div_cancel, mul-lt-mul_of_pos_right, div-one, ext_get_or, get_or-map, length-map, Direction, Upward, Downward, directions_of, direction_at, is_down_at, is_direction, FitsWord}
 use Rattle.std.proofs.lemmas.Nat.{pow-add, pow_pos, div-mul-add, mod-mul-add}
-use Rattle.std.proofs.lemmas.List.{ext_get_or, get_or-map, length-map}
 use Rattle.std.proofs.lemmas.List.FromFn.{get_or-map-range_with_len, length-map-range_with_len}
-use Rattle.march_core.specs.Visits.{Direction, Upward, Downward, directions_of, direction_at, is_down_at, is_direction, FitsWord}
 use Rattle.bist_app.specs.inner.LetterBits.{HasBits}
 use Rattle.bist_app.specs.Sim.{letter_direction, directions_of_letters}
 

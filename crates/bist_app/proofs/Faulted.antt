@@ -1,10 +1,7 @@
 -- What a run against the first box leaves, where an instance is planted.
-use Rattle.bist_app.proofs.Common.{◌≡◌, ◌<◌, ◌∙◌, ℕ, true, List, [], ◌∷◌, length, map, Option, Some, None, is_some, Result, IfOk, IfErr, refl, subst, arith, MarchElement, Primitive, has_aggressor, Description, Planted, Chip, Tells, TellsChip, Told, SomeWrong, run_word, Seen, IsFirstRead, Plan, Refusal, Done, done_of, plain}
-use Rattle.std.specs.Prelude.{IsTrue}
-use Rattle.std.proofs.lemmas.Result.{IfOk-weaker}
+use Rattle.bist_app.proofs.Common.{◌≡◌, ◌<◌, ◌∙◌, ℕ, true, List, [], ◌∷◌, length, map, Option, Some, None, is_some, Result, IfOk, IfErr, refl, subst, arith, MarchElement, Primitive, has_aggressor, Description, Planted, Chip, Tells, TellsChip, Told, SomeWrong, run_word, Seen, IsFirstRead, Plan, Refusal, Done, done_of, plain, IsTrue, IfOk-weaker, FitsAggPlace}
 use Rattle.fault_core.specs.declared.primitive.Sense.{Sense}
 use Rattle.array_sim.specs.Detection.{Detects}
-use Rattle.word_device.specs.Chips.{FitsAggPlace}
 use Rattle.bist_app.specs.declared.benchfault_command.NamedPlace.{NamedPlace}
 use Rattle.bist_app.specs.declared.benchfault_command.FaultShape.{FaultShape}
 use Rattle.bist_app.specs.Bench.{benched_chip, CanPlant, IsSeen, IsBenched}

@@ -1,12 +1,9 @@
 -- What the verdicts tell of the list.
-use Rattle.bist_app.proofs.Common.{◌≡◌, ◌+◌, ◌≤◌, ℕ, suc, Bool, true, false, cond, nat_lt, List, [], ◌∷◌, length, map, refl, ap, sym, subst, ◌∙◌, arith, Option, MarchElement, Description, Item}
-use Rattle.std.specs.List.{AllByRecursion}
-use Rattle.std.proofs.lemmas.List.{length-map}
+use Rattle.bist_app.proofs.Common.{◌≡◌, ◌+◌, ◌≤◌, ℕ, suc, Bool, true, false, cond, nat_lt, List, [], ◌∷◌, length, map, refl, ap, sym, subst, ◌∙◌, arith, Option, MarchElement, Description, Item, AllByRecursion, length-map, IsMixedReport, DetectsOf, total_line}
 use Rattle.std.proofs.lemmas.List.Sums.{count_by-le-length, sum_by-cons}
 use Rattle.std.proofs.lemmas.Bool.Decides.{nat_tests}
 use Rattle.report.specs.declared.judged.JudgedItem.{JudgedItem}
 use Rattle.report.specs.Items.{DetectsItem, IsJudged, AreJudged, item_of, is_covered, covered_count}
-use Rattle.report.specs.Report.{IsMixedReport, DetectsOf, total_line}
 use Rattle.report.proofs.Counts.{TellsDetects, tells, counted}
 use Rattle.bist_app.specs.Reported.{SomeEscapes, Reports}
 

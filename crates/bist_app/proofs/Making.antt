@@ -1,6 +1,5 @@
 -- What is made is written to files that the words name.
-use Rattle.bist_app.proofs.Common.{◌≡◌, ◌++◌, ◌∙◌, ℕ, List, ap, sym, subst, arith, length, codes, append_assoc, Done, Words, NamesWords, HasForm}
-use Rattle.std.specs.Prelude.{decimal}
+use Rattle.bist_app.proofs.Common.{◌≡◌, ◌++◌, ◌∙◌, ℕ, List, ap, sym, subst, arith, length, codes, append_assoc, Done, Words, NamesWords, HasForm, decimal}
 use Rattle.memory_desc.specs.Printed.{printed}
 use Rattle.made_inputs.specs.MadeMarch.{made_march, line_of}
 use Rattle.made_inputs.specs.MadeList.{made_text}

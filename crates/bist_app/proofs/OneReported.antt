@@ -1,10 +1,7 @@
 -- What is said of a judged list is one line and one status alone.
-use Rattle.bist_app.proofs.Common.{ℕ, Bool, List, Option, [], ap, arith, false, length, refl, slice_index_or, subst, suc, sym, true, zero, ◌<◌, ◌∙◌, ◌∷◌, ◌≡◌, found_status, Answer, Item, MarchElement, Description}
+use Rattle.bist_app.proofs.Common.{ℕ, Bool, List, Option, [], ap, arith, false, length, refl, slice_index_or, subst, suc, sym, true, zero, ◌<◌, ◌∙◌, ◌∷◌, ◌≡◌, found_status, Answer, Item, MarchElement, Description, detects_one, total_line, AllByRecursion}
 use Rattle.bist_app.specs.Reported.{Reports, SomeEscapes}
-use Rattle.report.proofs.OneReport.{detects_one}
 use Rattle.report.specs.Items.{DetectsItem}
-use Rattle.report.specs.Report.{total_line}
-use Rattle.std.specs.List.{AllByRecursion}
 
 all_hold : {A : Type 0} (P : A → Type 0) (xs : List A) (x : A) (k : ℕ) → AllByRecursion P xs → k < length xs → slice_index_or xs k x ≡ x → P x
 all_hold P [] x k h below is = absurd (omega (arith, below))

@@ -1,6 +1,5 @@
 -- A text of two numbers, joined by a full stop, names one place.
-use Rattle.bist_app.proofs.Common.{◌≡◌, ◌≢◌, ◌<◌, ◌^◌, ◌++◌, ◌∙◌, ℕ, List, [], ◌∷◌, Option, Some, None, refl, sym, ap, subst, arith, lit<, codes, decimal, get_or, length, append_assoc, IsNumber}
-use Rattle.std.specs.Prelude.{MatchOption}
+use Rattle.bist_app.proofs.Common.{◌≡◌, ◌≢◌, ◌<◌, ◌^◌, ◌++◌, ◌∙◌, ℕ, List, [], ◌∷◌, Option, Some, None, refl, sym, ap, subst, arith, lit<, codes, decimal, get_or, length, append_assoc, IsNumber, MatchOption}
 use Rattle.std.specs.Borrow.{Bor}
 use Rattle.std.specs.Char.{digit_value}
 use Rattle.std.specs.Str.Parse.{AllDigits}

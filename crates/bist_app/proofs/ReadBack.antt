@@ -1,13 +1,10 @@
 -- A self-test that is written, read back and elaborated is the same self-test.
-use Rattle.bist_app.proofs.Common.{map, ◌≡◌, ◌∙◌, ℕ, List, Option, Some, None, Result, Ok, Err, sym, ap, subst, refl, ModuleTree, MarchElement, Description, SelfTest}
-use Rattle.std.specs.Prelude.{IfOk, MatchResult}
-use Rattle.verilog_cycle.specs.Design.{DesignView, IsNew, registers_of}
+use Rattle.bist_app.proofs.Common.{map, ◌≡◌, ◌∙◌, ℕ, List, Option, Some, None, Result, Ok, Err, sym, ap, subst, refl, ModuleTree, MarchElement, Description, SelfTest, IfOk, MatchResult, DesignView, IsNew, registers_of, NoLoop, Refused, Elaborates}
 use Rattle.verilog_tree.specs.Spells.{Spells}
 use Rattle.verilog_tree.specs.declared.fault.ReadFault.{ReadFault}
 use Rattle.verilog_tree.specs.declared.fault.TreeFault.{TreeFault}
 use Rattle.verilog_tree.specs.declared.fault.TreeFault.TheVariants as T
 use Rattle.verilog_tree.specs.Rules.{Break, first_break}
-use Rattle.verilog_cycle.specs.Design.{NoLoop, Refused, Elaborates}
 use Rattle.verilog_cycle.specs.Seen.{plain_names}
 use Rattle.bist_app.specs.Compile.{IsSelfTestText}
 

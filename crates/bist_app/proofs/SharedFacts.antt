@@ -1,11 +1,9 @@
 -- What is known of the checks that several commands make.
-use Rattle.bist_app.proofs.Common.{ℕ, Bool, Err, List, None, Ok, Option, Result, Some, [], ap, ap₂, arith, codes, inl, refl, sym, ◌++◌, ◌∙◌, ◌∷◌, ◌≡◌, Boxes, FitsAggressor, FitsLength, FitsRoom, HasBox, HasPorts, NeverUsage, Settles, outcome_settles, where_settles, HasOneOutcome, HasOneValue, Refusal, Primitive, has_aggressor, MarchElement, Description, ModuleTree}
+use Rattle.bist_app.proofs.Common.{ℕ, Bool, Err, List, None, Ok, Option, Result, Some, [], ap, ap₂, arith, codes, inl, refl, sym, ◌++◌, ◌∙◌, ◌∷◌, ◌≡◌, Boxes, FitsAggressor, FitsLength, FitsRoom, HasBox, HasPorts, NeverUsage, Settles, outcome_settles, where_settles, HasOneOutcome, HasOneValue, Refusal, Primitive, has_aggressor, MarchElement, Description, ModuleTree, wrong_port, cycle_count}
 use Rattle.bist_endings.specs.declared.ending.DeviceRefusal.{DeviceRefusal}
 use Rattle.bist_endings.specs.declared.ending.Misfit.{Misfit}
 use Rattle.bist_endings.specs.declared.ending.VerilogRefusal.{VerilogRefusal}
 use Rattle.self_test.specs.Refusals.{IsShort, IsTooLong}
-use Rattle.self_test.specs.WrongPort.{wrong_port}
-use Rattle.word_march.specs.Commands.{cycle_count}
 
 pub aggressor_settles : {Says Told : Type 0} (given : Bool) (prim : Primitive) → Settles (Unit {0}) Says Told (FitsAggressor given prim)
 aggressor_settles given prim = where_settles (given ≡ has_aggressor prim) (Refusal.Misfit Misfit.Aggressor) (λ is. cc)

@@ -1,10 +1,8 @@
 -- The names of a chip's memories: which are taken, and that all modules' names differ where none is.
-use Rattle.bist_app.proofs.Common.{◌≡◌, ◌<◌, ◌≤◌, ◌∙◌, ◌↔◌, ◌⊎◌, inl, inr, IsTrue, Bool, true, false, ℕ, zero, suc, ◌+◌, List, [], ◌∷◌, length, map, Option, Some, None, Ok, Err, slice_get, get_or, refl, sym, ap, subst, arith, codes, Description, module_name, TestUnit, memories, Refusal}
+use Rattle.bist_app.proofs.Common.{◌≡◌, ◌<◌, ◌≤◌, ◌∙◌, ◌↔◌, ◌⊎◌, inl, inr, IsTrue, Bool, true, false, ℕ, zero, suc, ◌+◌, List, [], ◌∷◌, length, map, Option, Some, None, Ok, Err, slice_get, get_or, refl, sym, ap, subst, arith, codes, Description, module_name, TestUnit, memories, Refusal, append_cancel_right, option_map}
 use Rattle.std.specs.Str.{bytes_eq}
 use Rattle.std.proofs.lemmas.Slice.Eq.{bytes_eq-Decides}
 use Rattle.std.proofs.lemmas.Option.{slice_get-get_or, slice_get-map, slice_get_within}
-use Rattle.std.proofs.lemmas.List.{append_cancel_right}
-use Rattle.std.specs.Option.{option_map}
 use Rattle.chip_rtl.specs.Together.{Differ}
 use Rattle.bist_endings.specs.declared.ending.ChipRefusal.{ChipRefusal}
 use Rattle.bist_app.specs.Chip.{IsEarlier, HasTakenName, HasOwnNames}

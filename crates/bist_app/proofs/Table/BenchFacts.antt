@@ -1,10 +1,9 @@
 -- What is known of `bench`: a run against the first box has one answer, where the box tells its chip or its script.
-use Rattle.bist_app.proofs.Common.{ℕ, List, None, Ok, Option, Some, [], ap, ap₂, arith, inl, inr, is_some, refl, slice_get, subst, sym, ◌+◌, ◌<◌, ◌∙◌, ◌∷◌, ◌≡◌, ◌≢◌, IsFirstRead, done_at, script_word, Seen, Boxes, FirstTells, FitsLength, FitsRoom, HasBox, LeavesFirst, Concludes, leaves_conclude, narrows, none_conclude, Done, found_status, Answer, answer_of, OrNoMemory, march_settles, memory_settles, InputMarch, InputMemory, MarchElement, Description, Tells, TellsChip, TellsNothing, TellsScript, IsFirstWrong, run_word, Planted}
+use Rattle.bist_app.proofs.Common.{ℕ, List, None, Ok, Option, Some, [], ap, ap₂, arith, inl, inr, is_some, refl, slice_get, subst, sym, ◌+◌, ◌<◌, ◌∙◌, ◌∷◌, ◌≡◌, ◌≢◌, IsFirstRead, done_at, script_word, Seen, Boxes, FirstTells, FitsLength, FitsRoom, HasBox, LeavesFirst, Concludes, leaves_conclude, narrows, none_conclude, Done, found_status, Answer, answer_of, OrNoMemory, march_settles, memory_settles, InputMarch, InputMemory, MarchElement, Description, Tells, TellsChip, TellsNothing, TellsScript, IsFirstWrong, run_word, Planted, port_ops}
 use Rattle.bist_app.proofs.Facts.{Facts, before_conclude, with_left}
 use Rattle.bist_app.proofs.SharedFacts.{box_settles, length_settles, room_settles}
 use Rattle.bist_app.specs.Bench.{IsBenched, IsSeen, IsSoundBenched, LeavesBench, bench_line, bench_row, benched_chip}
 use Rattle.std.proofs.lemmas.Bool.{cases_lt}
-use Rattle.word_march.specs.Commands.{port_ops}
 use Rattle.word_march.specs.PortRule.{cycle_of}
 use Rattle.word_march.specs.declared.operations.PortOp.{PortOp}
 

@@ -1,5 +1,5 @@
 -- What is known of `benchfile`: a run of a file's module against the first box has one answer, where the box tells its chip or its script.
-use Rattle.bist_app.proofs.Common.{ℕ, Bool, List, None, Ok, Option, [], ap, ap₂, inr, subst, sym, ◌+◌, ◌∙◌, ◌∷◌, ◌≡◌, ◌≢◌, IsFirstSeen, Seen, Boxes, FirstTells, FitsLength, FitsRoom, HasBox, HasPorts, LeavesFirst, Concludes, leaves_conclude, narrows, none_conclude, Done, Answer, answer_of, OrNoMemory, march_settles, memory_settles, CanRun, InputModule, InputMarch, InputMemory, MarchElement, Description, ModuleTree, Tells, TellsChip, TellsNothing, TellsScript}
+use Rattle.bist_app.proofs.Common.{ℕ, Bool, List, None, Ok, Option, [], ap, ap₂, inr, subst, sym, ◌+◌, ◌∙◌, ◌∷◌, ◌≡◌, ◌≢◌, IsFirstSeen, Seen, Boxes, FirstTells, FitsLength, FitsRoom, HasBox, HasPorts, LeavesFirst, Concludes, leaves_conclude, narrows, none_conclude, Done, Answer, answer_of, OrNoMemory, march_settles, memory_settles, CanRun, InputModule, InputMarch, InputMemory, MarchElement, Description, ModuleTree, Tells, TellsChip, TellsNothing, TellsScript, input_can_run, module_settles, wrong_port, Parenthesised, span}
 use Rattle.bench.proofs.OneRun.{same_cycles}
 use Rattle.bench.specs.Joint.{first_done, ports_in, word_in}
 use Rattle.bist_app.proofs.Table.BenchFacts.{first_one}
@@ -8,12 +8,8 @@ use Rattle.bist_app.proofs.Facts.{Facts, before_conclude, with_left}
 use Rattle.bist_app.proofs.SharedFacts.{box_settles, length_settles, none_wrong, ports_settles, room_settles}
 use Rattle.bist_app.specs.Bench.{benched_done, ready}
 use Rattle.bist_app.specs.BenchFile.{IsFileRun, LeavesBenchFile, bench_file_row, zero_registers}
-use Rattle.bist_inputs.proofs.OneDesign.{input_can_run, module_settles}
-use Rattle.self_test.specs.WrongPort.{wrong_port}
-use Rattle.verilog_tree.specs.Grammar.{Parenthesised}
 use Rattle.verilog_tree.specs.Meaning.{Env}
 use Rattle.word_device.specs.Joint.{returned_word}
-use Rattle.word_march.specs.Commands.{span}
 
 -- a box that tells does so when it is ready
 ready_tells : (d : Description) (tells : Tells) → tells ≢ TellsNothing → ready d None tells ≢ TellsNothing

@@ -1,13 +1,10 @@
 -- What is known of `check`.
-use Rattle.bist_app.proofs.Common.{ℕ, List, Ok, ap, codes, decimal, sym, ◌++◌, ◌∙◌, ◌≡◌, FitsLength, HasPorts, Concludes, leaves_conclude, then_concludes, Done, answer_of, march_settles, memory_settles, CanRun, InputModule, InputMarch, InputMemory, MarchElement, Description, ModuleTree}
+use Rattle.bist_app.proofs.Common.{ℕ, List, Ok, ap, codes, decimal, sym, ◌++◌, ◌∙◌, ◌≡◌, FitsLength, HasPorts, Concludes, leaves_conclude, then_concludes, Done, answer_of, march_settles, memory_settles, CanRun, InputModule, InputMarch, InputMemory, MarchElement, Description, ModuleTree, input_can_run, module_settles, PortAnswer, ByPrecedence}
 use Rattle.bist_app.proofs.Facts.{Facts, files_facts}
 use Rattle.bist_app.proofs.SharedFacts.{length_settles, ports_settles}
 use Rattle.bist_app.specs.Check.{DecidesCheck, IsChecked, LeavesCheck, at_text, check_done, check_form, check_row}
-use Rattle.bist_inputs.proofs.OneDesign.{input_can_run, module_settles}
 use Rattle.port_check.proofs.Checking.{only_answer}
 use Rattle.port_check.specs.Answers.{SameAnswer}
-use Rattle.port_check.specs.declared.answer.PortAnswer.{PortAnswer}
-use Rattle.verilog_tree.specs.Grammar.{ByPrecedence}
 
 -- the same answer is said in the same way
 same_said : (a b : PortAnswer) → SameAnswer a b → answer_of (Ok (check_done a)) ≡ answer_of (Ok (check_done b))

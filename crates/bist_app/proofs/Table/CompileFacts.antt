@@ -1,9 +1,8 @@
 -- What is known of `compile`.
-use Rattle.bist_app.proofs.Common.{List, Some, [], ap, drop, sym, ◌∙◌, ◌∷◌, ◌≡◌, leaves_conclude, then_concludes, Done, Written, list_settles, march_settles, memory_settles, InputList, InputMarch, InputMemory, Item, MarchElement, Description}
+use Rattle.bist_app.proofs.Common.{List, Some, [], ap, drop, sym, ◌∙◌, ◌∷◌, ◌≡◌, leaves_conclude, then_concludes, Done, Written, list_settles, march_settles, memory_settles, InputList, InputMarch, InputMemory, Item, MarchElement, Description, text_one}
 use Rattle.bist_app.proofs.Facts.{Facts, files_facts}
 use Rattle.bist_app.proofs.OneReported.{reports_one}
 use Rattle.bist_app.specs.Compile.{DecidesCompile, IsCompiled, LeavesCompile, compile_form, compile_row}
-use Rattle.report.proofs.OneReport.{text_one}
 
 files_one : (march : List MarchElement) (m : Description) (items : List Item) (d e : Done) → IsCompiled march m items d → IsCompiled march m items e → drop 1 d.outputs ≡ drop 1 e.outputs
 files_one march m items d e f g =

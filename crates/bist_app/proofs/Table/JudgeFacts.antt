@@ -1,9 +1,8 @@
 -- What is known of `judge`.
-use Rattle.bist_app.proofs.Common.{List, None, [], ap, sym, ◌∙◌, ◌∷◌, ◌≡◌, leaves_conclude, then_concludes, Done, Written, list_settles, march_settles, InputList, InputMarch, Item, MarchElement}
+use Rattle.bist_app.proofs.Common.{List, None, [], ap, sym, ◌∙◌, ◌∷◌, ◌≡◌, leaves_conclude, then_concludes, Done, Written, list_settles, march_settles, InputList, InputMarch, Item, MarchElement, text_one}
 use Rattle.bist_app.proofs.Facts.{Facts, files_facts}
 use Rattle.bist_app.proofs.OneReported.{reports_one}
 use Rattle.bist_app.specs.Judge.{DecidesJudge, IsJudged, LeavesJudge, judge_form, judge_row}
-use Rattle.report.proofs.OneReport.{text_one}
 
 files_one : (march : List MarchElement) (items : List Item) (d e : Done) → IsJudged march items d → IsJudged march items e → d.outputs ≡ e.outputs
 files_one march items d e f g =

@@ -1,5 +1,5 @@
 -- What is known of `make`.
-use Rattle.bist_app.proofs.Common.{take, drop, ℕ, List, Ok, Some, [], ap, ap₂, arith, length, subst, sym, ◌*◌, ◌++◌, ◌+◌, ◌-◌, ◌∙◌, ◌∷◌, ◌≡◌, Concludes, leaves_conclude, own_said, own_settles, then_concludes, Done, Written, found_status, Answer, answer_of, SaysOwn, word, Item, MarchElement, all_ops, Description}
+use Rattle.bist_app.proofs.Common.{take, drop, ℕ, List, Ok, Some, [], ap, ap₂, arith, length, subst, sym, ◌*◌, ◌++◌, ◌+◌, ◌-◌, ◌∙◌, ◌∷◌, ◌≡◌, Concludes, leaves_conclude, own_said, own_settles, then_concludes, Done, Written, found_status, Answer, answer_of, SaysOwn, word, Item, MarchElement, all_ops, Description, detects_one, text_one, IsMixedReport, command_count}
 use Rattle.backgrounds.specs.Backgrounds.{IsLogSet, IsLogarithm}
 use Rattle.bist_app.proofs.Facts.{Facts, with_left}
 use Rattle.bist_app.proofs.OneReported.{found_one}
@@ -10,11 +10,8 @@ use Rattle.made_inputs.specs.MadeMarch.{line_of, made_march}
 use Rattle.made_inputs.specs.MadeMemory.{IsMadeMemory}
 use Rattle.memory_desc.proofs.Determined.{log_set_one, width_one}
 use Rattle.memory_desc.specs.Printed.{printed}
-use Rattle.report.proofs.OneReport.{detects_one, text_one}
-use Rattle.report.specs.Report.{IsMixedReport}
 use Rattle.scrambler.specs.Scrambling.{identity}
 use Rattle.word_march.proofs.Count.{command_count_is}
-use Rattle.word_march.specs.Commands.{command_count}
 
 log_one : (bits m n : ℕ) → IsLogarithm bits m → IsLogarithm bits n → m ≡ n
 log_one bits m n p q = let low = p.least n q.enough in let high = q.least m p.enough in omega (arith, low, high)

@@ -1,5 +1,5 @@
 -- What is known of `sim`.
-use Rattle.bist_app.proofs.Common.{ℕ, Bool, IsTrue, List, None, Ok, Option, Some, ap, is_some, length, refl, sym, ◌∙◌, ◌≡◌, FitsAggressor, Concludes, leaves_conclude, own_said, own_settles, then_concludes, where_settles, Done, answer_of, SaysOwn, Words, word, Refusal, march_settles, prim_settles, GivesPrim, InputMarch, Primitive, MarchElement}
+use Rattle.bist_app.proofs.Common.{ℕ, Bool, IsTrue, List, None, Ok, Option, Some, ap, is_some, length, refl, sym, ◌∙◌, ◌≡◌, FitsAggressor, Concludes, leaves_conclude, own_said, own_settles, then_concludes, where_settles, Done, answer_of, SaysOwn, Words, word, Refusal, march_settles, prim_settles, GivesPrim, InputMarch, Primitive, MarchElement, Direction, is_direction, visits}
 use Rattle.array_sim.proofs.Differing.{one_first}
 use Rattle.array_sim.specs.Differing.{after_step, is_wrong_at}
 use Rattle.bist_app.proofs.Facts.{Facts, with_left}
@@ -10,7 +10,6 @@ use Rattle.bist_app.specs.declared.sim.SimShape.{SimShape}
 use Rattle.bist_endings.specs.declared.ending.Misfit.{Misfit}
 use Rattle.fault_core.specs.Cells.{close_of}
 use Rattle.fault_core.specs.declared.cells.Places.{Places}
-use Rattle.march_core.specs.Visits.{Direction, is_direction, visits}
 use Rattle.march_core.specs.declared.visit.Miss.{Miss}
 
 aggressor_one : (text : List ℕ) (size size' victim victim' : ℕ) (c d : Option ℕ) → IsAggressorWord text size victim c → IsAggressorWord text size' victim' d → c ≡ d

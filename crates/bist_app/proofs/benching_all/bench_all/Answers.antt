@@ -1,5 +1,4 @@
-use Rattle.bist_app.proofs.Common.{◌∙◌, subst, sym}
-use Rattle.verilog_cycle.specs.Design.{registers_of}
+use Rattle.bist_app.proofs.Common.{◌∙◌, subst, sym, registers_of}
 use Rattle.bist_app.specs.BenchAll.{LeavesAll, LeavesNone}
 use Rattle.bist_app.proofs.AllBenched.{all_gone, zeros_for_registers, boxes_benched}
 use Rattle.bist_app.proofs.Refusing.{passed_on}

@@ -1,5 +1,4 @@
-use Rattle.bist_app.proofs.Common.{◌≡◌, ◌∙◌, length, refl, sym, true, false, IsTrue}
-use Rattle.march_core.specs.Visits.{is_direction, FitsWord}
+use Rattle.bist_app.proofs.Common.{◌≡◌, ◌∙◌, length, refl, sym, true, false, IsTrue, is_direction, FitsWord}
 use Rattle.bist_app.specs.Sim.{directions_of_letters}
 use Rattle.bist_app.proofs.DirectionWord.{letters_differ, fits_from_letters, letters_from_fits}
 use Rattle.bist_app.proofs.directions.fit_directions.Goals as goal

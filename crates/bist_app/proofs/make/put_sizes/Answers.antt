@@ -1,4 +1,4 @@
-use Rattle.std.proofs.lemmas.Result.{on_ok_weaker}
+use Rattle.bist_app.proofs.Common.{on_ok_weaker}
 use Rattle.bist_app.proofs.Making.{sizes_joined}
 use Rattle.bist_app.proofs.make.put_sizes.Goals as goal
 

@@ -1,5 +1,4 @@
-use Rattle.bist_app.proofs.Common.{ap, length, nat_lt}
-use Rattle.std.specs.Option.{option_copied}
+use Rattle.bist_app.proofs.Common.{ap, length, nat_lt, option_copied}
 use Rattle.bist_app.proofs.Judging.{reports_of, covered_of}
 use Rattle.bist_app.proofs.reporting.report_of.Goals as goal
 

@@ -1,6 +1,4 @@
-use Rattle.bist_app.proofs.Common.{◌≡◌, Option, Some, None, List, Bool, length, refl, subst, ◌↔◌, MarchElement, Primitive}
-use Rattle.std.specs.Option.{IsSome, IfSome}
-use Rattle.march_core.specs.Visits.{Direction, visits, directions_of}
+use Rattle.bist_app.proofs.Common.{◌≡◌, Option, Some, None, List, Bool, length, refl, subst, ◌↔◌, MarchElement, Primitive, IsSome, IfSome, Direction, visits, directions_of}
 use Rattle.march_core.specs.declared.visit.Miss.{Miss}
 use Rattle.fault_core.specs.declared.cells.Places.{Places}
 use Rattle.fault_core.specs.Cells.{close_of}

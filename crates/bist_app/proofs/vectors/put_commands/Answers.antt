@@ -1,6 +1,5 @@
-use Rattle.bist_app.proofs.Common.{ℕ, ◌<◌, ◌≤◌, ◌^◌, All, List, [], ◌∷◌, ◌++◌, sym, ◌∙◌, ap, subst, append_assoc, append-nil}
+use Rattle.bist_app.proofs.Common.{ℕ, ◌<◌, ◌≤◌, ◌^◌, All, List, [], ◌∷◌, ◌++◌, sym, ◌∙◌, ap, subst, append_assoc, append-nil, port_ops}
 use Rattle.word_march.specs.declared.operations.PortOp.{PortOp}
-use Rattle.word_march.specs.Commands.{port_ops}
 use Rattle.bist_app.specs.Vectors.{command_lines}
 use Rattle.bist_app.proofs.Listing.{lines_more, next_fits}
 use Rattle.bist_app.proofs.vectors.put_commands.Goals as goal

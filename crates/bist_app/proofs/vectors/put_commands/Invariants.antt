@@ -1,5 +1,4 @@
-use Rattle.bist_app.proofs.Common.{◌≡◌, ◌++◌}
-use Rattle.word_march.specs.Commands.{port_ops}
+use Rattle.bist_app.proofs.Common.{◌≡◌, ◌++◌, port_ops}
 use Rattle.bist_app.specs.Vectors.{command_lines}
 use Rattle.bist_app.proofs.vectors.put_commands.Given as goal
 
