@@ -35,7 +35,7 @@ derives n (p ∷ ps) is ts h =
 
 -- the reader's grammar derives it
 pub text_spells : (b : List ℕ) (mo : ModuleTree) → IsTextOf b mo → Text Parenthesised no_limits b mo
-text_spells b mo h = (h.0, h.1, all_kept h.0, derives mo.name mo.ports mo.items h.0 h.2)
+text_spells b mo h = (h.0, h.1, all_kept h.0, derives mo.name mo.ports mo.items h.0 h.3)
 
 pub one_tree : (b : List ℕ) (mo other : ModuleTree) → IsTextOf b mo → IsTextOf b other → other ≡ mo
 one_tree b mo other h k = one_text no_limits Parenthesised b other mo (text_spells b other k) (text_spells b mo h)

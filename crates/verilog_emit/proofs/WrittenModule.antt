@@ -1,6 +1,7 @@
 -- What is printed of a module that fits spells it, and is its text.
 use Rattle.std.proofs.Common.{◌≡◌, ℕ, ◌-◌, ◌≤◌, ◌&&◌, nat_lt, nat_le, Bool, true, false, List, [], ◌∷◌, ◌++◌, Some, None, refl, sym, append_assoc, append-nil, codes, arith, if◌then◌else◌}
 use Rattle.std.specs.Prelude.{decimal}
+use Rattle.std.specs.List.{list_all}
 use Rattle.std.proofs.lemmas.Bool.{leb-true, le-leb}
 use Rattle.verilog_tree.specs.declared.tokens.Mark.TheVariants.{Open, Close, OpenBracket, CloseBracket, Comma, Semicolon, Colon, At, Equals}
 use Rattle.verilog_tree.specs.declared.tree.Dir.TheVariants.{Input, Output, OutputReg}
@@ -10,14 +11,14 @@ use Rattle.verilog_tree.specs.Formed.{is_width, item_formed, items_formed, ports
 use Rattle.verilog_tree.specs.Grammar.{sign, keyword, name, number, zero_number, range, item, items, direction, port, ports, no_token, module_of, inside, stmt, Parenthesised, BeginEnd, File, file_tree}
 use Rattle.verilog_tree.specs.Parenthesised.{expr}
 use Rattle.verilog_tree.specs.Plain as P
-use Rattle.verilog_tree.specs.Spells.{Spells}
-use Rattle.verilog_tree.specs.Tokens.{Token}
+use Rattle.verilog_tree.specs.Spells.{all_limits, keeps, all_keep, Spells}
+use Rattle.verilog_tree.specs.Tokens.{Token, Identifier, Number, Based, Unused, Sign}
 use Rattle.verilog_tree.specs.Words.{is_name}
 use Rattle.verilog_emit.specs.Printed.{expression_text, statements_text, range_text, direction_text, port_text, ports_text, comma, item_text, items_text, printed}
 use Rattle.verilog_emit.proofs.Derivations.{derive, derive_stmts, derive_range, derive_item, derive_items, derive_port, derive_ports, derive_file, same_file}
 use Rattle.verilog_emit.proofs.Numerals.{numbered, zeroed}
 use Rattle.verilog_emit.proofs.Pieces.{Spelt, both, grouped, blank, line_feed, is_apart, mark, reserved, named, opened}
-use Rattle.verilog_emit.specs.Written.{module_tokens, IsTextOf}
+use Rattle.verilog_emit.specs.Written.{module_tokens, IsTextOf, is_whole}
 use Rattle.verilog_emit.proofs.TreeTexts.{module_alike}
 use Rattle.verilog_emit.proofs.WrittenExpressions.{L, plain, expression_spelt}
 use Rattle.verilog_emit.proofs.WrittenStatements.{block, ended, statements_spelt}
@@ -260,10 +261,22 @@ printed_spells mo f =
     let h = grouped (Module mo no_token) (printed mo) (printed mo ++ []) (sym (append-nil (printed mo))) (spelt_before mo no_token [] f nothing_spelt) in
     (h.tokens, h.lexed, h.kept, h.meant)
 
+-- tokens within the limits have whole literals
+all_whole : (ts : List Token) → all_keep all_limits ts ≡ true → list_all is_whole ts ≡ true
+all_whole [] h = refl
+all_whole (t ∷ ts) h = let g = both (keeps all_limits t) (all_keep all_limits ts) h in rw (whole t g.0) (all_whole ts g.1)
+  where
+    whole : (t : Token) → keeps all_limits t ≡ true → is_whole t ≡ true
+    whole (Identifier w) h = refl
+    whole (Number long n) h = refl
+    whole (Based x) h = h
+    whole Unused h = refl
+    whole (Sign m) h = refl
+
 -- what is printed of a module that fits is its text
 pub printed_text : (mo : P.ModuleTree) → fits mo ≡ true → IsTextOf (printed mo) mo
 printed_text mo f =
     let J : List Token → Type 0 = λ rest. rest ≡ [] in
     let e : Spelt J [] = record { tokens = []; lexed = tt; kept = refl; meant = refl } in
     let h = grouped (Told mo J) (printed mo) (printed mo ++ []) (sym (append-nil (printed mo))) (spelt mo.name mo.ports mo.items J [] f e) in
-    (h.tokens, h.lexed, h.meant.1)
+    (h.tokens, h.lexed, all_whole h.tokens h.kept, h.meant.1)

@@ -1,12 +1,14 @@
 -- Trusted. What text a module has: for each form of its tree the tokens that it is written with, in full parentheses.
-use Rattle.std.specs.Prelude.{◌≡◌, ℕ, zero, suc, List, [], ◌∷◌, codes}
+use Rattle.std.specs.Prelude.{◌≡◌, ℕ, zero, suc, Bool, true, List, [], ◌∷◌, codes}
+use Rattle.std.specs.List.{list_all}
 use Rattle.bist_bits.specs.Vector.{Vector}
 use Rattle.verilog_tree.specs.declared.tokens.Mark.TheVariants.{Open, Close, OpenBracket, CloseBracket, OpenBrace, CloseBrace, Comma, Semicolon, Colon, At, Question, Equals, LessEquals}
 use Rattle.verilog_tree.specs.declared.tree.Dir.{Dir}
 use Rattle.verilog_tree.specs.declared.tree.Dir.TheVariants.{Input, Output, OutputReg}
+use Rattle.verilog_tree.specs.Formed.{is_literal}
 use Rattle.verilog_tree.specs.Pieces.{sign, keyword, name, number, zero_number, literal, unary_mark, binary_mark}
 use Rattle.verilog_tree.specs.Plain.{Expression, Net, BitSelect, PartSelect, Literal, Concatenation, Prefixed, Infixed, Conditional, Expressions, NoMore, Followed, Statement, SetTo, IfElse, CaseOf, Statements, Done, Then, Arms, NoArm, ArmOf, ModuleItem, WireItem, RegItem, AssignItem, AlwaysItem, ModulePort, ModuleTree}
-use Rattle.verilog_tree.specs.Tokens.{Token, Lexed}
+use Rattle.verilog_tree.specs.Tokens.{Token, Based, Lexed}
 
 -- Each relation takes a part of a tree and what may follow it, K, and says which lists of tokens are the part's and then K's.
 
@@ -62,11 +64,11 @@ abbrev mutual
   statements_tokens Done K = K
   statements_tokens (Then s ss) K = statement_tokens s (statements_tokens ss K)
 
--- the range of a width: none where it is 1, and [w - 1:0] above
+-- the range of a width: none where it is 1, and one from the width less 1 down to 0 above
 abbrev pub width_tokens : ℕ → (List Token → Type 0) → List Token → Type 0
 width_tokens zero K = λ ts. ⊥
 width_tokens (suc zero) K = K
-width_tokens (suc (suc w)) K = sign OpenBracket (number (suc w) (sign Colon (zero_number (sign CloseBracket K))))
+width_tokens (suc (suc k)) K = sign OpenBracket (number (suc k) (sign Colon (zero_number (sign CloseBracket K))))
 
 abbrev pub item_tokens : ModuleItem → (List Token → Type 0) → List Token → Type 0
 item_tokens (WireItem n w) K = keyword (codes "wire") (width_tokens w (name n (sign Semicolon K)))
@@ -95,6 +97,12 @@ module_tokens mo K =
     keyword (codes "module") (name mo.name (sign Open (ports_tokens mo.ports (sign Close
     (sign Semicolon (items_tokens mo.items (keyword (codes "endmodule") K)))))))
 
--- The bytes are a text of this module: its tokens with white space between them, and nothing else.
+-- whether a literal has a width from 1 to 64 and a value that it holds: of another, Verilog would drop bits
+abbrev pub is_whole : Token → Bool
+is_whole (Based x) = is_literal x
+is_whole other = true
+
+-- The bytes are a text of this module: its tokens and no others, with white space anywhere before, between and behind them, and each
+-- literal is whole.
 abbrev pub IsTextOf : List ℕ → ModuleTree → Type 0
-IsTextOf b mo = (ts : List Token) × Lexed ts b × module_tokens mo (λ rest. rest ≡ []) ts
+IsTextOf b mo = (ts : List Token) × Lexed ts b × (list_all is_whole ts ≡ true) × module_tokens mo (λ rest. rest ≡ []) ts
