@@ -9,7 +9,7 @@ pub const BLANKS: ByteSet = ByteSet {
 };
 
 /// The small letters.
-pub const LETTERS: ByteSet = ByteSet {
+pub const SMALL_LETTERS: ByteSet = ByteSet {
     low: 0x07ff_fffe_0000_0000_0000_0000_0000_0000,
     high: 0,
 };

@@ -9,7 +9,7 @@ ghost use Rattle.memory_desc.specs.Names.{is_name_byte};
 ghost use Rattle.chip_desc.specs.inner.Heard.{behind_key, digits_in, behind_weight, march_in, memory_in};
 
 use crate::file_bytes::FILE_BYTES;
-use bist_text::byte_sets::{BLANKS, DIGITS, LETTERS, NAME_BYTES};
+use bist_text::byte_sets::{BLANKS, DIGITS, NAME_BYTES, SMALL_LETTERS};
 use bist_text::{Cursor, decimal};
 
 /// A cursor in front of what stands behind the first word.
@@ -18,7 +18,7 @@ fn behind_key(text: &[u8]) -> Cursor<'_>
 {
     let mut cursor = Cursor::new(text);
     cursor.skip(BLANKS);
-    cursor.skip(LETTERS);
+    cursor.skip(SMALL_LETTERS);
     cursor.skip(BLANKS);
     cursor
 }

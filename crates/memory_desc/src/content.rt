@@ -15,10 +15,10 @@ ghost use Rattle.bist_text.specs.Numbers.{IsNumber};
 ghost use Rattle.bist_text.specs.LineGrammar.{tail};
 ghost use Rattle.bist_text.specs.inner.LineGrammar.{after};
 
-use bist_text::byte_sets::{BLANKS, DIGITS, HEX_DIGITS, LETTERS, NAME_BYTES};
 use crate::line_place::{Key, Place, Version};
 use crate::line_reader::read_line;
 use arrayvec::ArrayVec;
+use bist_text::byte_sets::{BLANKS, DIGITS, HEX_DIGITS, NAME_BYTES, SMALL_LETTERS};
 use bist_text::{Cursor, decimal, hex};
 
 /// What a content line speaks of. No two lines of a description speak of the same.
@@ -72,7 +72,7 @@ fn behind_key(text: &[u8]) -> Cursor<'_>
 {
     let mut cursor = Cursor::new(text);
     cursor.skip(BLANKS);
-    cursor.skip(LETTERS);
+    cursor.skip(SMALL_LETTERS);
     cursor.skip(BLANKS);
     cursor
 }

@@ -21,7 +21,7 @@ pub fn open_at(values: &[Option<u64>], place: usize) -> Option<u64>
     }
 }
 
-// The first where the condition isn't 0, and else the second.
+// The first where the condition isn't 0, and the second where it is; where it is open, what both are.
 #[inline]
 #[cycle(open_code)]
 fn chosen(condition: Option<u64>, a: &Code, b: &Code, values: &[Option<u64>]) -> Option<u64>
