@@ -1,5 +1,5 @@
 -- What the runs against a list of boxes leave.
-use Rattle.bist_app.proofs.Common.{◌≡◌, ◌+◌, ◌<◌, ◌≤◌, ◌∙◌, ℕ, zero, suc, Bool, true, false, List, [], ◌∷◌, length, map, drop, replicate, Option, Some, None, is_some, Result, Ok, Err, IfOk, refl, sym, ap, subst, arith, MarchElement, Description, Tells, Told, AllRight, IsPlain, PassesAlone, run_word, Seen, IsFirstRead, Plan, Done, Boxes, FirstHasRoom, length-replicate, length-map, drop_all, one-le-pow, Fit}
+use Rattle.bist_app.proofs.Common.{◌≡◌, ◌+◌, ◌<◌, ◌≤◌, ◌∙◌, ℕ, zero, suc, Bool, true, false, List, [], ◌∷◌, length, map, drop, replicate, Option, Some, None, is_some, refl, sym, ap, subst, arith, MarchElement, Description, Tells, Told, AllRight, IsPlain, PassesAlone, run_word, Seen, IsFirstRead, Done, Boxes, FirstHasRoom, length-replicate, length-map, drop_all, one-le-pow, Fit}
 use Rattle.verilog_tree.specs.Names.{Declaration}
 use Rattle.bist_app.specs.Bench.{ready, benched_chip, IsSeen}
 use Rattle.bist_app.specs.BenchAll.{HaveRoom, IsBoxSeen, failing_of, all_done, IsAllBenched, AreGone}

@@ -5,7 +5,8 @@ use Rattle.bench.specs.Endings.{Runs}
 use Rattle.bist_bits.specs.declared.NoMemory.{NoMemory}
 use Rattle.bist_app.specs.declared.benching.RunEnd.{RunEnd}
 use Rattle.bist_app.specs.Bench.{ready, benched_chip, benched_done, IsSeen, IsRun, IsBenched, IsSoundBenched, LeavesBench}
-use Rattle.bist_app.specs.BenchFile.{IsFileRun, LeavesBenchFile, RunsBeside, zero_registers}
+use Rattle.bist_app.specs.BenchFile.{IsFileRun, LeavesBenchFile, zero_registers}
+use Rattle.bist_app.specs.inner.RunsBeside.{RunsBeside}
 use Rattle.bist_app.specs.inner.BenchedBoxes.{EndsRun}
 use Rattle.bist_app.proofs.Table.BenchFacts.{first_one}
 

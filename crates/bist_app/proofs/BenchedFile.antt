@@ -2,7 +2,7 @@
 use Rattle.bist_app.proofs.Common.{◌≡◌, ℕ, List, Option, Some, None, refl, sym, subst, ModuleTree, ModulePort, MarchElement, Description, IsMemory, Tells, Seen, option_map, wrong_port, ArePorts}
 use Rattle.self_test.proofs.Wrong.{none_exactly}
 use Rattle.bench.proofs.OneRun.{AreLow, seen_low}
-use Rattle.bist_app.specs.Bench.{AreWords}
+use Rattle.bist_app.specs.inner.RunsBeside.{AreWords}
 use Rattle.bist_app.specs.inner.BenchedBoxes.{EndsRun}
 use Rattle.bist_app.specs.declared.benching.RunEnd.{RunEnd}
 

@@ -1,5 +1,5 @@
 -- The text of a chip's self-tests, and its file.
-use Rattle.bist_app.proofs.Common.{◌≡◌, ◌∙◌, ◌≤◌, ◌<◌, ◌+◌, ◌++◌, ◌&&◌, ◌∷◌, [], ℕ, zero, suc, ◌⊎◌, inl, inr, true, false, not, All, List, length, map, take, get_or, Some, slice_get, Contains, refl, sym, ap, subst, arith, append-nil, append_assoc, add-one, MarchElement, Description, ModuleTree, SelfTest, ChipDescription, Seat, IsFirstRoom, FirstFit, last_group, end_of, TestUnit, lengths, AllTested, IsPlan, memories, weights, Written, length-map, take_all, option_map}
+use Rattle.bist_app.proofs.Common.{◌≡◌, ◌∙◌, ◌≤◌, ◌<◌, ◌+◌, ◌++◌, ◌&&◌, ◌∷◌, [], ℕ, zero, suc, ◌⊎◌, inl, inr, true, false, not, All, List, length, map, take, get_or, Some, slice_get, Contains, refl, sym, ap, subst, arith, append-nil, append_assoc, add-one, MarchElement, Description, ModuleTree, SelfTest, ChipDescription, Seat, IsFirstRoom, FirstFit, last_group, end_of, TestUnit, lengths, AllTested, IsPlan, weights, Written, length-map, take_all, option_map}
 use Rattle.std.proofs.Math.Path.{ap₂}
 use Rattle.std.proofs.Math.Seq.{take-suc}
 use Rattle.std.proofs.lemmas.Bool.{le-leb}

@@ -36,9 +36,10 @@ pub use Rattle.chip_desc.specs.Chips.{ChipDescription, IsChip, UnitDescription, 
 pub use Rattle.chip_rtl.specs.ChipTest.{TestUnit, lengths, test_length}
 pub use Rattle.chip_rtl.specs.ChipLaws.{AllTested, IsPlan, memories, weights}
 pub use Rattle.chip_plan.specs.Groups.{FirstFit, IsFirstRoom, Seat, end_of, last_group}
-pub use Rattle.bist_app.specs.Shared.{Before, Boxes, FirstHasRoom, FirstTells, FitsAggressor, FitsLength, LeavesFirst}
+pub use Rattle.bist_app.specs.Shared.{Before, Boxes, FirstTells, FitsAggressor, FitsLength, LeavesFirst}
+pub use Rattle.bist_app.specs.inner.RunsBeside.{FirstHasRoom}
 unfoldable pub use Rattle.bist_app.specs.Shared.{FitsRoom, HasBox, HasPorts}
-pub use Rattle.bist_app.specs.Forms.{Form, HasForm, Row, reads_files}
+pub use Rattle.bist_app.specs.Forms.{Form, HasForm, Row, without_boxes}
 pub use Rattle.bist_app.specs.Run.{Decides, DecidesCommand, HasNoForm, HasNoShape, HasShape, IsFormed, Runs, command_named, row_of}
 pub use Rattle.bist_app.specs.declared.commands.Command.{Command}
 pub use Rattle.word_march.specs.Commands.{command_count, cycle_count, port_ops, span}

@@ -1,5 +1,5 @@
 -- What is known of a command's row, and how it is put together beside the boxes.
-use Rattle.bist_app.proofs.Common.{Err, List, Ok, Option, Result, inl, inr, ◌≡◌, ◌⊎◌, Form, Row, reads_files, Before, Boxes, Concludes, IsTold, Settles, narrows, then_concludes, Done, Written, SaysOwn, Then, Words, Refusal, Files}
+use Rattle.bist_app.proofs.Common.{Err, List, Ok, Option, Result, inl, inr, ◌≡◌, ◌⊎◌, Form, Row, without_boxes, Before, Boxes, Concludes, IsTold, Settles, narrows, then_concludes, Done, Written, SaysOwn, Then, Words, Refusal, Files}
 
 -- an outcome that is allowed with some boxes left
 abbrev pub SomeLeft : (Boxes → Result Done Refusal → Type 0) → Result Done Refusal → Type 0
@@ -20,7 +20,7 @@ with_left checks leaves c = narrows checks (SomeLeft (λ left outcome. checks ou
 -- of a command that only reads files
 pub files_facts : (form : Form) (decides : Option Files → Words → Result Done Refusal → Type 0) (settled : List Written → List Written)
     → ((files : Option Files) (words : Words) → Concludes (Unit {0}) (IsTold files) (Unit {0}) settled (decides files words))
-    → Facts (record (reads_files form decides) { settled = settled })
+    → Facts (record (without_boxes form decides) { settled = settled })
 files_facts form decides settled concludes = record {
   concludes = λ files boxes words. with_left (decides files words) (λ left _. left ≡ boxes) (concludes files words);
   said = λ files boxes left words r h. inr tt;

@@ -4,7 +4,8 @@ use Rattle.fault_core.specs.declared.primitive.Sense.{Sense}
 use Rattle.array_sim.specs.Detection.{Detects}
 use Rattle.bist_app.specs.declared.benchfault_command.NamedPlace.{NamedPlace}
 use Rattle.bist_app.specs.declared.benchfault_command.FaultShape.{FaultShape}
-use Rattle.bist_app.specs.Bench.{benched_chip, CanPlant, IsSeen, IsBenched}
+use Rattle.bist_app.specs.Bench.{benched_chip, IsSeen, IsBenched}
+use Rattle.bist_app.specs.inner.RunsBeside.{CanPlant}
 use Rattle.bist_app.specs.BenchFault.{IsApart, ArePlaces, aggressor_in, place_in, planted_of, IsFaultBenched, LeavesFault}
 use Rattle.bist_app.proofs.Benched.{or_no_memory}
 

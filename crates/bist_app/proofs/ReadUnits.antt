@@ -1,5 +1,5 @@
 -- The units of a chip, read one after another into their table.
-use Rattle.bist_app.proofs.Common.{◌≡◌, ◌∙◌, ◌≤◌, ◌<◌, ◌+◌, ◌++◌, ◌∷◌, [], ℕ, zero, suc, All, List, length, map, Option, Some, None, Result, Ok, Err, refl, sym, ap, subst, arith, append-nil, append_assoc, add-one, get_or, take, drop, ◌-◌, Files, MarchElement, Description, UnitDescription, unit_of, TestUnit, test_length, lengths, memories, weights, Refusal, FileMarch, UnitMarch, UnitMemory, map-append, length-map, length-append, take_all}
+use Rattle.bist_app.proofs.Common.{◌≡◌, ◌∙◌, ◌≤◌, ◌<◌, ◌+◌, ◌++◌, ◌∷◌, [], ℕ, zero, suc, All, List, length, map, Option, Some, None, Result, Ok, Err, refl, sym, ap, subst, arith, append-nil, append_assoc, add-one, get_or, take, drop, ◌-◌, Files, MarchElement, Description, UnitDescription, unit_of, TestUnit, test_length, lengths, Refusal, FileMarch, UnitMarch, UnitMemory, map-append, length-map, length-append, take_all}
 use Rattle.std.proofs.lemmas.List.Elements.{All-append}
 use Rattle.chip_desc.specs.declared.chip.ChipUnit.{ChipUnit}
 use Rattle.bist_app.specs.declared.units.UnitTable.{UnitTable}

@@ -1,11 +1,9 @@
 -- Trusted. The command `bench MARCH MEMORY`: the self-test module against the first box. Its shape, its checks in their order, and what it leaves.
-use Rattle.std.specs.Prelude.{◌≡◌, ◌^◌, ◌<◌, ◌++◌, ℕ, Bool, true, false, List, [], ◌∷◌, Option, Some, None, Result, codes, decimal, is_some, IfSome}
+use Rattle.std.specs.Prelude.{◌≡◌, ◌++◌, ℕ, Bool, true, false, List, [], ◌∷◌, Option, Some, None, Result, codes, decimal, is_some}
 use Rattle.bist_host.specs.Files.{Files}
 use Rattle.bist_text.specs.Numbers.{word_text}
 use Rattle.march_core.specs.March.{MarchElement}
-use Rattle.fault_core.specs.Primitive.{has_aggressor}
 use Rattle.memory_desc.specs.Descriptions.{Description}
-use Rattle.word_device.specs.Chips.{FitsMemory}
 use Rattle.word_device.specs.declared.device.Planted.{Planted}
 use Rattle.word_device.specs.Ports.{Chip, shape_of, planted_chip}
 use Rattle.word_device.specs.Boxes.{Tells, TellsChip, TellsScript, TellsNothing, blank, after_fit, after_plant, after_fill}
@@ -30,10 +28,6 @@ after_planting (Some i) tells = after_plant i tells
 -- what a box tells that is fitted with the memory's shape, planted, and filled with zeros
 abbrev pub ready : Description → Option Planted → Tells → Tells
 ready d planted tells = after_fill (Some (shape_of d)) 0 (after_planting planted (after_fit (shape_of d) tells))
-
--- for private contracts alone: the instance, if there is one, can stand in a memory of this shape
-abbrev pub CanPlant : Description → Option Planted → Type 0
-CanPlant d planted = IfSome planted (λ i. FitsMemory i d.words d.bits × (is_some i.agg ≡ has_aggressor i.prim))
 
 -- ---- what is seen of the run
 
@@ -60,11 +54,6 @@ abbrev pub seen_text : ℕ → Option Seen → List ℕ
 seen_text bits None = []
 seen_text bits (Some seen) =
     codes " cycle " ++ decimal seen.cycle ++ codes " expected " ++ word_text bits seen.expected ++ codes " returned " ++ word_text bits seen.returned
-
--- the words that are seen have no more bits than the memory's
-abbrev pub AreWords : ℕ → Option Seen → Type 0
-AreWords bits None = Unit {0}
-AreWords bits (Some seen) = (seen.expected < 2 ^ bits) × (seen.returned < 2 ^ bits)
 
 abbrev pub fail_text : Bool → List ℕ
 fail_text false = codes "fail 0 done "

@@ -7,7 +7,6 @@ use Rattle.verilog_tree.specs.Grammar.{Parenthesised}
 use Rattle.verilog_cycle.specs.Design.{registers_of}
 use Rattle.march_core.specs.March.{MarchElement}
 use Rattle.memory_desc.specs.Descriptions.{Description}
-use Rattle.self_test.specs.SelfTest.{SelfTest}
 use Rattle.word_device.specs.Boxes.{Tells}
 use Rattle.bench.specs.declared.ending.Seen.{Seen}
 use Rattle.bench.specs.Endings.{Runs}
@@ -19,7 +18,7 @@ use Rattle.bist_inputs.specs.Memories.{InputMemory}
 use Rattle.bist_inputs.specs.Designs.{InputModule}
 use Rattle.bist_app.specs.Forms.{Form, Row}
 use Rattle.bist_app.specs.Shared.{Boxes, FirstTells, FitsLength, HasPorts, HasBox, FitsRoom, LeavesFirst, Before}
-use Rattle.bist_app.specs.Bench.{ready, benched_done, IsRun}
+use Rattle.bist_app.specs.Bench.{ready, benched_done}
 use Rattle.bist_endings.specs.Then.{OrNoMemory}
 
 -- each register of the module at 0
@@ -36,11 +35,6 @@ pub record IsFileRun (mo : ModuleTree) (march : List MarchElement) (d : Descript
   pub seen : Option Seen
   pub runs : Runs mo march d (zero_registers mo) now tells after failed done_in seen
   pub done_is : done ≡ benched_done d.bits failed done_in seen
-
--- for private contracts alone: this is left, and of a self-test what a run of one leaves
-pub record RunsBeside (mo : ModuleTree) (march : List MarchElement) (d : Description) (tells : Tells) (done : Done) : Type 0 where
-  pub file_run : IsFileRun mo march d tells done
-  pub self_test : SelfTest mo march d → IsRun march d tells done
 
 unfoldable pub LeavesBenchFile : ModuleTree → List MarchElement → Description → Boxes → Result Done Refusal → Type 0
 LeavesBenchFile mo march d [] result = ⊥

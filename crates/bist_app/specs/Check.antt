@@ -15,7 +15,7 @@ use Rattle.bist_endings.specs.Words.{Words}
 use Rattle.bist_inputs.specs.Inputs.{InputMarch}
 use Rattle.bist_inputs.specs.Memories.{InputMemory}
 use Rattle.bist_inputs.specs.Designs.{InputModule}
-use Rattle.bist_app.specs.Forms.{Form, Row, reads_files}
+use Rattle.bist_app.specs.Forms.{Form, Row, without_boxes}
 use Rattle.bist_app.specs.Shared.{FitsLength, HasPorts}
 
 -- some port isn't seen to be as the rule of the ports wants it
@@ -69,4 +69,4 @@ abbrev pub check_form : Form
 check_form = record { name = codes "check"; count = 4; first = 1; last = 4 }
 
 abbrev pub check_row : Row
-check_row = reads_files check_form DecidesCheck
+check_row = without_boxes check_form DecidesCheck

@@ -15,7 +15,7 @@ use Rattle.bist_endings.specs.Ending.{Done}
 use Rattle.bist_endings.specs.Then.{Then, OrNoMemory}
 use Rattle.bist_endings.specs.Words.{Words}
 use Rattle.bist_inputs.specs.Chips.{InputChip, UnitMarch, UnitMemory}
-use Rattle.bist_app.specs.Forms.{Form, Row, reads_files}
+use Rattle.bist_app.specs.Forms.{Form, Row, without_boxes}
 
 -- ---- the units
 
@@ -89,4 +89,4 @@ abbrev pub chip_form : Form
 chip_form = record { name = codes "chip"; count = 3; first = 1; last = 3 }
 
 abbrev pub chip_row : Row
-chip_row = record (reads_files chip_form DecidesChip) { settled = λ outputs. [] }
+chip_row = record (without_boxes chip_form DecidesChip) { settled = λ outputs. [] }

@@ -18,7 +18,7 @@ use Rattle.bist_endings.specs.Words.{Words}
 use Rattle.bist_inputs.specs.Inputs.{InputMarch, InputList}
 use Rattle.bist_inputs.specs.Memories.{InputMemory}
 use Rattle.bist_app.specs.Reported.{Reports}
-use Rattle.bist_app.specs.Forms.{Form, Row, reads_files}
+use Rattle.bist_app.specs.Forms.{Form, Row, without_boxes}
 
 -- The bytes are a text of a module and of no other, and spell it and no other, as the reader of modules takes them. It is a self-test of
 -- the memory by the march.
@@ -57,4 +57,4 @@ compile_form = record { name = codes "compile"; count = 6; first = 1; last = 6 }
 
 -- the text of the module is left open
 abbrev pub compile_row : Row
-compile_row = record (reads_files compile_form DecidesCompile) { settled = λ outputs. drop 1 outputs }
+compile_row = record (without_boxes compile_form DecidesCompile) { settled = λ outputs. drop 1 outputs }

@@ -35,9 +35,9 @@ pub record Row : Type 1 where
   pub called_tell : Boxes → Type 0
   pub settled : List Written → List Written
 
--- a command that only reads files: all its words name files, it calls no box, and the inputs determine what it writes
-abbrev pub reads_files : Form → (Option Files → Words → Result Done Refusal → Type 0) → Row
-reads_files form decides = record {
+-- a command that calls no box; unless it says otherwise, all its words name files, and the inputs determine the bytes of all that it writes
+abbrev pub without_boxes : Form → (Option Files → Words → Result Done Refusal → Type 0) → Row
+without_boxes form decides = record {
   form = form;
   says = λ words. Unit {0};
   decides = λ files boxes left words outcome. decides files words outcome × (left ≡ boxes);

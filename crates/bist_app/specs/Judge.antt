@@ -9,7 +9,7 @@ use Rattle.bist_endings.specs.Then.{Then, OrNoMemory}
 use Rattle.bist_endings.specs.Words.{Words}
 use Rattle.bist_inputs.specs.Inputs.{InputMarch, InputList}
 use Rattle.bist_app.specs.Reported.{Reports}
-use Rattle.bist_app.specs.Forms.{Form, Row, reads_files}
+use Rattle.bist_app.specs.Forms.{Form, Row, without_boxes}
 
 -- the report in the file that the third word names, and its last line
 pub record IsJudged (march : List MarchElement) (items : List Item) (done : Done) : Type 0 where
@@ -33,4 +33,4 @@ abbrev pub judge_form : Form
 judge_form = record { name = codes "judge"; count = 4; first = 1; last = 4 }
 
 abbrev pub judge_row : Row
-judge_row = reads_files judge_form DecidesJudge
+judge_row = without_boxes judge_form DecidesJudge

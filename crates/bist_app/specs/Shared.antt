@@ -1,5 +1,5 @@
 -- Trusted. What several commands have in common: the boxes, the checks that more than one command makes, and what a run beside the first box leaves.
-use Rattle.std.specs.Prelude.{◌≡◌, ◌≢◌, ◌<◌, ◌≤◌, ◌⊎◌, ℕ, Bool, List, [], ◌∷◌, Some, None, Result, Ok, Err, MatchResult, drop}
+use Rattle.std.specs.Prelude.{◌≡◌, ◌≢◌, ◌<◌, ◌≤◌, ◌⊎◌, Bool, List, [], ◌∷◌, Some, None, Result, Ok, Err, MatchResult, drop}
 use Rattle.march_core.specs.March.{MarchElement}
 use Rattle.fault_core.specs.Primitive.{Primitive, has_aggressor}
 use Rattle.memory_desc.specs.Descriptions.{Description}
@@ -46,11 +46,6 @@ HasBox [] (Err (Refusal.Device DeviceRefusal.NoBox)) = Unit {0}
 HasBox [] other = ⊥
 HasBox (box ∷ boxes) (Ok _) = Unit {0}
 HasBox (box ∷ boxes) (Err other) = ⊥
-
--- for private contracts alone: the first, where there is one, has room for so many words
-abbrev pub FirstHasRoom : ℕ → Boxes → Type 0
-FirstHasRoom words [] = Unit {0}
-FirstHasRoom words (box ∷ boxes) = words ≤ box.room
 
 -- the first has room for the memory's words
 unfoldable pub FitsRoom : Description → Boxes → Result (Unit {0}) Refusal → Type 0

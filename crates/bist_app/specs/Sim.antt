@@ -16,7 +16,7 @@ use Rattle.bist_endings.specs.Ending.{Done}
 use Rattle.bist_endings.specs.Then.{Then, OrNoMemory, PassesWhere, SaysOwn}
 use Rattle.bist_endings.specs.Words.{Words, word, IsNumber}
 use Rattle.bist_inputs.specs.Inputs.{InputMarch, GivesPrim}
-use Rattle.bist_app.specs.Forms.{Form, Row, reads_files}
+use Rattle.bist_app.specs.Forms.{Form, Row, without_boxes}
 use Rattle.bist_app.specs.Shared.{FitsAggressor}
 
 -- a digit 0 or 1
@@ -110,4 +110,4 @@ abbrev pub sim_form : Form
 sim_form = record { name = codes "sim"; count = 8; first = 1; last = 2 }
 
 abbrev pub sim_row : Row
-sim_row = record (reads_files sim_form DecidesSim) { says = λ words. (shape : SimShape) × IsSimShape words shape }
+sim_row = record (without_boxes sim_form DecidesSim) { says = λ words. (shape : SimShape) × IsSimShape words shape }

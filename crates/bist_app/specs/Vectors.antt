@@ -13,7 +13,7 @@ use Rattle.bist_endings.specs.Then.{Then, OrNoMemory}
 use Rattle.bist_endings.specs.Words.{Words}
 use Rattle.bist_inputs.specs.Inputs.{InputMarch}
 use Rattle.bist_inputs.specs.Memories.{InputMemory}
-use Rattle.bist_app.specs.Forms.{Form, Row, reads_files}
+use Rattle.bist_app.specs.Forms.{Form, Row, without_boxes}
 use Rattle.bist_app.specs.Shared.{FitsLength}
 
 abbrev pub kind_text : Bool → List ℕ
@@ -55,4 +55,4 @@ abbrev pub vectors_form : Form
 vectors_form = record { name = codes "vectors"; count = 4; first = 1; last = 4 }
 
 abbrev pub vectors_row : Row
-vectors_row = reads_files vectors_form DecidesVectors
+vectors_row = without_boxes vectors_form DecidesVectors

@@ -1,4 +1,5 @@
 pub mod BenchedBoxes
 pub mod ChipParts
 pub mod LetterBits
+pub mod RunsBeside
 pub mod UnitTables

@@ -14,9 +14,10 @@ ghost use Rattle.bench.specs.Laws.{EndsSelfTest};
 ghost use Rattle.bist_endings.specs.Ending.{done_of, plain};
 ghost use Rattle.self_test.specs.Refusals.{IsShort};
 ghost use Rattle.self_test.specs.WrongPort.{wrong_port};
-ghost use Rattle.bist_app.specs.Shared.{FirstHasRoom, LeavesFirst};
-ghost use Rattle.bist_app.specs.Bench.{done_text, seen_text, bench_line, benched_done, ready, AreWords, CanPlant, IsBenched};
-ghost use Rattle.bist_app.specs.BenchFile.{RunsBeside, zero_registers};
+ghost use Rattle.bist_app.specs.Shared.{LeavesFirst};
+ghost use Rattle.bist_app.specs.Bench.{done_text, seen_text, bench_line, benched_done, ready, IsBenched};
+ghost use Rattle.bist_app.specs.BenchFile.{zero_registers};
+ghost use Rattle.bist_app.specs.inner.RunsBeside.{FirstHasRoom, AreWords, CanPlant, RunsBeside};
 ghost use Rattle.bist_app.specs.inner.BenchedBoxes.{EndsRun};
 
 use crate::boxes::take_first;

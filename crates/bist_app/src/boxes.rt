@@ -5,8 +5,9 @@ ghost use Rattle.word_device.specs.declared.device.DeviceFault.{DeviceFault};
 ghost use Rattle.word_device.specs.Ports.{shape_of as memory_shape};
 ghost use Rattle.word_device.specs.Boxes.{after_fit, after_fill, IsShape};
 ghost use Rattle.bist_inputs.specs.Inputs.{IsOwnRefusal};
-ghost use Rattle.bist_app.specs.Shared.{FirstHasRoom, FitsRoom, HasBox};
-ghost use Rattle.bist_app.specs.Bench.{after_planting, ready, CanPlant};
+ghost use Rattle.bist_app.specs.Shared.{FitsRoom, HasBox};
+ghost use Rattle.bist_app.specs.Bench.{after_planting, ready};
+ghost use Rattle.bist_app.specs.inner.RunsBeside.{FirstHasRoom, CanPlant};
 
 use bist_bits::NoMemory;
 use bist_endings::{DeviceRefusal, Refusal};

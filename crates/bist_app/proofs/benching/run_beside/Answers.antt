@@ -1,5 +1,5 @@
 use Rattle.bist_app.proofs.Common.{subst, Tells, done_of}
-use Rattle.bist_app.specs.BenchFile.{RunsBeside}
+use Rattle.bist_app.specs.inner.RunsBeside.{RunsBeside}
 use Rattle.bist_app.proofs.benching.run_beside.Goals as goal
 
 pub returns-in-Ok-run_plan-clause-run : goal.returns-in-Ok-run_plan-clause-run
