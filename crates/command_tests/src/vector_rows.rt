@@ -127,29 +127,8 @@ const TOO_MANY_IN_ALL: &[u8] = b"^(w0,w0,w0,w0,w0,w0,w0,w0,w0,w0,w0,w0,w0,w0,w0,
 ^(w0,w0,w0,w0,w0,w0,w0,w0,w0,w0,w0,w0,w0,w0,w0,w0);
 ^(w0)";
 
-static REFUSED: [Row; 25] = [
-    Row {
-        command: "vectors m d o",
-        files: &[
-            ("m", MATS),
-            ("d", b"memory 1\nname n\nwords 999999999\nbits 1\n"),
-        ],
-        said: b"memory D5 line 3\n",
-        status: 4,
-        made: &[("o", Held::Nothing)],
-        ..PLAIN
-    },
-    Row {
-        command: "vectors m d o",
-        files: &[
-            ("m", MATS),
-            ("d", b"memory 1\nname n\nwords 1000000000\nbits 1\n"),
-        ],
-        said: b"memory D1 line 3 byte 15\n",
-        status: 4,
-        made: &[("o", Held::Nothing)],
-        ..PLAIN
-    },
+/// Marches that are refused.
+static REFUSED_MARCHES: [Row; 5] = [
     Row {
         command: "vectors m d o",
         files: &[("m", b"{}"), ("d", b"")],
@@ -196,6 +175,29 @@ static REFUSED: [Row; 25] = [
         made: &[("o", Held::Nothing)],
         ..PLAIN
     },
+];
+
+#[test]
+fn refused_marches(rt: HostRuntime) {
+    assert_eq!(rt;
+        right_rows(rt.alloc(), &REFUSED_MARCHES),
+        REFUSED_MARCHES.len()
+    );
+}
+
+/// Descriptions with a line that is refused.
+static REFUSED_LINES: [Row; 6] = [
+    Row {
+        command: "vectors m d o",
+        files: &[
+            ("m", MATS),
+            ("d", b"memory 1\nname n\nwords 1000000000\nbits 1\n"),
+        ],
+        said: b"memory D1 line 3 byte 15\n",
+        status: 4,
+        made: &[("o", Held::Nothing)],
+        ..PLAIN
+    },
     Row {
         command: "vectors m d o",
         files: &[("m", MATS), ("d", b"")],
@@ -228,6 +230,26 @@ static REFUSED: [Row; 25] = [
         made: &[("o", Held::Nothing)],
         ..PLAIN
     },
+    Row {
+        command: "vectors m d o",
+        files: &[
+            ("m", MATS),
+            ("d", b"memory 1\nname n\nwords 2\nbits 1\nlatency 1\n"),
+        ],
+        said: b"memory D1 line 5 byte 0\n",
+        status: 4,
+        made: &[("o", Held::Nothing)],
+        ..PLAIN
+    },
+];
+
+#[test]
+fn refused_lines(rt: HostRuntime) {
+    assert_eq!(rt; right_rows(rt.alloc(), &REFUSED_LINES), REFUSED_LINES.len());
+}
+
+/// Descriptions that want a line.
+static WANTED_LINES: [Row; 4] = [
     Row {
         command: "vectors m d o",
         files: &[("m", MATS), ("d", b"memory 1\n")],
@@ -266,6 +288,26 @@ static REFUSED: [Row; 25] = [
         made: &[("o", Held::Nothing)],
         ..PLAIN
     },
+];
+
+#[test]
+fn wanted_lines(rt: HostRuntime) {
+    assert_eq!(rt; right_rows(rt.alloc(), &WANTED_LINES), WANTED_LINES.len());
+}
+
+/// Descriptions with a number that is refused.
+static REFUSED_NUMBERS: [Row; 4] = [
+    Row {
+        command: "vectors m d o",
+        files: &[
+            ("m", MATS),
+            ("d", b"memory 1\nname n\nwords 999999999\nbits 1\n"),
+        ],
+        said: b"memory D5 line 3\n",
+        status: 4,
+        made: &[("o", Held::Nothing)],
+        ..PLAIN
+    },
     Row {
         command: "vectors m d o",
         files: &[("m", MATS), ("d", b"memory 1\nname n\nwords 1\nbits 1\n")],
@@ -274,6 +316,43 @@ static REFUSED: [Row; 25] = [
         made: &[("o", Held::Nothing)],
         ..PLAIN
     },
+    Row {
+        command: "vectors m d o",
+        files: &[
+            ("m", MATS),
+            ("d", b"memory 2\nname n\nwords 2\nbits 1\nlatency 5\n"),
+        ],
+        said: b"memory D5 line 5\n",
+        status: 4,
+        made: &[("o", Held::Nothing)],
+        ..PLAIN
+    },
+    Row {
+        command: "vectors m d o",
+        files: &[
+            ("m", b"{any(w0);del;any(r0)}"),
+            (
+                "d",
+                b"memory 2\nname n\nwords 65536\nbits 64\nlatency 3\npause 155353\n",
+            ),
+        ],
+        said: b"memory D5 line 6\n",
+        status: 4,
+        made: &[("o", Held::Nothing)],
+        ..PLAIN
+    },
+];
+
+#[test]
+fn refused_numbers(rt: HostRuntime) {
+    assert_eq!(rt;
+        right_rows(rt.alloc(), &REFUSED_NUMBERS),
+        REFUSED_NUMBERS.len()
+    );
+}
+
+/// Descriptions with a scrambling, or backgrounds, that are refused.
+static REFUSED_ORDERS: [Row; 4] = [
     Row {
         command: "vectors m d o",
         files: &[
@@ -330,42 +409,18 @@ static REFUSED: [Row; 25] = [
         made: &[("o", Held::Nothing)],
         ..PLAIN
     },
-    Row {
-        command: "vectors m d o",
-        files: &[
-            ("m", MATS),
-            ("d", b"memory 2\nname n\nwords 2\nbits 1\nlatency 5\n"),
-        ],
-        said: b"memory D5 line 5\n",
-        status: 4,
-        made: &[("o", Held::Nothing)],
-        ..PLAIN
-    },
-    Row {
-        command: "vectors m d o",
-        files: &[
-            ("m", MATS),
-            ("d", b"memory 1\nname n\nwords 2\nbits 1\nlatency 1\n"),
-        ],
-        said: b"memory D1 line 5 byte 0\n",
-        status: 4,
-        made: &[("o", Held::Nothing)],
-        ..PLAIN
-    },
-    Row {
-        command: "vectors m d o",
-        files: &[
-            ("m", b"{any(w0);del;any(r0)}"),
-            (
-                "d",
-                b"memory 2\nname n\nwords 65536\nbits 64\nlatency 3\npause 155353\n",
-            ),
-        ],
-        said: b"memory D5 line 6\n",
-        status: 4,
-        made: &[("o", Held::Nothing)],
-        ..PLAIN
-    },
+];
+
+#[test]
+fn refused_orders(rt: HostRuntime) {
+    assert_eq!(rt;
+        right_rows(rt.alloc(), &REFUSED_ORDERS),
+        REFUSED_ORDERS.len()
+    );
+}
+
+/// Vectors that are too many.
+static TOO_LONG: [Row; 2] = [
     Row {
         command: "vectors m d o",
         files: &[
@@ -394,6 +449,6 @@ static REFUSED: [Row; 25] = [
 ];
 
 #[test]
-fn refused_vectors(rt: HostRuntime) {
-    assert_eq!(rt; right_rows(rt.alloc(), &REFUSED), REFUSED.len());
+fn too_long_vectors(rt: HostRuntime) {
+    assert_eq!(rt; right_rows(rt.alloc(), &TOO_LONG), TOO_LONG.len());
 }
