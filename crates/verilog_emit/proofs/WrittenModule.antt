@@ -18,7 +18,7 @@ use Rattle.verilog_emit.specs.Printed.{expression_text, statements_text, range_t
 use Rattle.verilog_emit.proofs.Derivations.{derive, derive_stmts, derive_range, derive_item, derive_items, derive_port, derive_ports, derive_file, same_file}
 use Rattle.verilog_emit.proofs.Numerals.{numbered, zeroed}
 use Rattle.verilog_emit.proofs.Pieces.{Spelt, both, grouped, blank, line_feed, is_apart, mark, reserved, named, opened}
-use Rattle.verilog_emit.specs.Written.{module_tokens, IsTextOf, is_whole}
+use Rattle.verilog_emit.specs.Written.{module_tokens, IsTextOf, is_sized}
 use Rattle.verilog_emit.proofs.TreeTexts.{module_alike}
 use Rattle.verilog_emit.proofs.WrittenExpressions.{L, plain, expression_spelt}
 use Rattle.verilog_emit.proofs.WrittenStatements.{block, ended, statements_spelt}
@@ -261,17 +261,17 @@ printed_spells mo f =
     let h = grouped (Module mo no_token) (printed mo) (printed mo ++ []) (sym (append-nil (printed mo))) (spelt_before mo no_token [] f nothing_spelt) in
     (h.tokens, h.lexed, h.kept, h.meant)
 
--- tokens within the limits have whole literals
-all_whole : (ts : List Token) → all_keep all_limits ts ≡ true → list_all is_whole ts ≡ true
-all_whole [] h = refl
-all_whole (t ∷ ts) h = let g = both (keeps all_limits t) (all_keep all_limits ts) h in rw (whole t g.0) (all_whole ts g.1)
+-- tokens within the limits have their sizes
+all_sized : (ts : List Token) → all_keep all_limits ts ≡ true → list_all is_sized ts ≡ true
+all_sized [] h = refl
+all_sized (t ∷ ts) h = let g = both (keeps all_limits t) (all_keep all_limits ts) h in rw (sized t g.0) (all_sized ts g.1)
   where
-    whole : (t : Token) → keeps all_limits t ≡ true → is_whole t ≡ true
-    whole (Identifier w) h = refl
-    whole (Number long n) h = refl
-    whole (Based x) h = h
-    whole Unused h = refl
-    whole (Sign m) h = refl
+    sized : (t : Token) → keeps all_limits t ≡ true → is_sized t ≡ true
+    sized (Identifier w) h = refl
+    sized (Number long n) h = h
+    sized (Based x) h = h
+    sized Unused h = refl
+    sized (Sign m) h = refl
 
 -- what is printed of a module that fits is its text
 pub printed_text : (mo : P.ModuleTree) → fits mo ≡ true → IsTextOf (printed mo) mo
@@ -279,4 +279,4 @@ printed_text mo f =
     let J : List Token → Type 0 = λ rest. rest ≡ [] in
     let e : Spelt J [] = record { tokens = []; lexed = tt; kept = refl; meant = refl } in
     let h = grouped (Told mo J) (printed mo) (printed mo ++ []) (sym (append-nil (printed mo))) (spelt mo.name mo.ports mo.items J [] f e) in
-    (h.tokens, h.lexed, all_whole h.tokens h.kept, h.meant.1)
+    (h.tokens, h.lexed, all_sized h.tokens h.kept, h.meant.1)

@@ -5,10 +5,10 @@ use Rattle.bist_bits.specs.Vector.{Vector}
 use Rattle.verilog_tree.specs.declared.tokens.Mark.TheVariants.{Open, Close, OpenBracket, CloseBracket, OpenBrace, CloseBrace, Comma, Semicolon, Colon, At, Question, Equals, LessEquals}
 use Rattle.verilog_tree.specs.declared.tree.Dir.{Dir}
 use Rattle.verilog_tree.specs.declared.tree.Dir.TheVariants.{Input, Output, OutputReg}
-use Rattle.verilog_tree.specs.Formed.{is_literal}
+use Rattle.verilog_tree.specs.Formed.{is_place, is_literal}
 use Rattle.verilog_tree.specs.Pieces.{sign, keyword, name, number, zero_number, literal, unary_mark, binary_mark}
 use Rattle.verilog_tree.specs.Plain.{Expression, Net, BitSelect, PartSelect, Literal, Concatenation, Prefixed, Infixed, Conditional, Expressions, NoMore, Followed, Statement, SetTo, IfElse, CaseOf, Statements, Done, Then, Arms, NoArm, ArmOf, ModuleItem, WireItem, RegItem, AssignItem, AlwaysItem, ModulePort, ModuleTree}
-use Rattle.verilog_tree.specs.Tokens.{Token, Based, Lexed}
+use Rattle.verilog_tree.specs.Tokens.{Token, Number, Based, Lexed}
 
 -- Each relation takes a part of a tree and what may follow it, K, and says which lists of tokens are the part's and then K's.
 
@@ -97,12 +97,12 @@ module_tokens mo K =
     keyword (codes "module") (name mo.name (sign Open (ports_tokens mo.ports (sign Close
     (sign Semicolon (items_tokens mo.items (keyword (codes "endmodule") K)))))))
 
--- whether a literal has a width from 1 to 64 and a value that it holds: of another, Verilog would drop bits
-abbrev pub is_whole : Token → Bool
-is_whole (Based x) = is_literal x
-is_whole other = true
+-- whether a number is at most 63, and a literal has a width from 1 to 64 and a value that it holds: of another, Verilog would drop bits
+abbrev pub is_sized : Token → Bool
+is_sized (Number long n) = is_place n
+is_sized (Based x) = is_literal x
+is_sized other = true
 
--- The bytes are a text of this module: its tokens and no others, with white space anywhere before, between and behind them, and each
--- literal is whole.
+-- The bytes are a text of this module: its tokens and no others, each of such a size, with white space before, between and behind them.
 abbrev pub IsTextOf : List ℕ → ModuleTree → Type 0
-IsTextOf b mo = (ts : List Token) × Lexed ts b × (list_all is_whole ts ≡ true) × module_tokens mo (λ rest. rest ≡ []) ts
+IsTextOf b mo = (ts : List Token) × Lexed ts b × (list_all is_sized ts ≡ true) × module_tokens mo (λ rest. rest ≡ []) ts

@@ -1,4 +1,4 @@
--- What a text spells within all limits has the sizes of a formed module.
+-- What a text spells within the limits of numbers has the sizes of a formed module.
 use Rattle.std.proofs.Common.{◌≡◌, ℕ, ◌+◌, Bool, true, false, nat_le, List, [], ◌∷◌, ◌++◌, Option, Some, None, refl, subst, arith, codes, zero, suc}
 use Rattle.std.proofs.lemmas.Bool.{and_parts, and_from, le-leb, leb-true}
 use Rattle.bist_bits.specs.Vector.{Vector}
@@ -13,12 +13,12 @@ use Rattle.verilog_tree.specs.Grammar.{Expr, Stmt, BeginEnd, If, IfElse, Case, A
 use Rattle.verilog_tree.specs.Parenthesised as Y
 use Rattle.verilog_tree.specs.Free as T
 use Rattle.verilog_tree.specs.Plain as P
-use Rattle.verilog_tree.specs.Spells.{all_limits, keeps, all_keep, Text, bounded}
-use Rattle.verilog_tree.specs.Tokens.{Token, Identifier, Number, Based, Sign}
+use Rattle.verilog_tree.specs.Spells.{all_limits, small_numbers, keeps, all_keep, Text, bounded}
+use Rattle.verilog_tree.specs.Tokens.{Token, Identifier, Number, Based, Unused, Sign}
 
--- tokens within all limits follow
-abbrev Kept : (List Token → Type 0) → Type 0
-Kept K = (ts : List Token) × (all_keep all_limits ts ≡ true) × K ts
+-- tokens within the limits of numbers follow
+abbrev pub Kept : (List Token → Type 0) → Type 0
+Kept K = (ts : List Token) × (all_keep small_numbers ts ≡ true) × K ts
 
 held : (b : Bool) (P : Type 0) → when b P → P
 held true P h = h
@@ -29,7 +29,7 @@ held false P h = absurd h
 sign_on : (m : Mark) {K : List Token → Type 0} → Kept (sign m K) → Kept K
 sign_on m {K} h = go h.0 h.1 h.2
   where
-    go : (ts : List Token) → all_keep all_limits ts ≡ true → sign m K ts → Kept K
+    go : (ts : List Token) → all_keep small_numbers ts ≡ true → sign m K ts → Kept K
     go [] k s = absurd s
     go (Sign n ∷ ts) k s = (ts, k, held (is_sign m n) (K ts) s)
     go (t ∷ ts) k s = absurd s
@@ -37,41 +37,41 @@ sign_on m {K} h = go h.0 h.1 h.2
 keyword_on : {w : List ℕ} {K : List Token → Type 0} → Kept (keyword w K) → Kept K
 keyword_on {w} {K} h = go h.0 h.1 h.2
   where
-    go : (ts : List Token) → all_keep all_limits ts ≡ true → keyword w K ts → Kept K
+    go : (ts : List Token) → all_keep small_numbers ts ≡ true → keyword w K ts → Kept K
     go [] k s = absurd s
-    go (Identifier v ∷ ts) k s = (ts, (and_parts (keeps all_limits (Identifier v)) (all_keep all_limits ts) k).1, held _ (K ts) s)
+    go (Identifier v ∷ ts) k s = (ts, (and_parts (keeps small_numbers (Identifier v)) (all_keep small_numbers ts) k).1, held _ (K ts) s)
     go (t ∷ ts) k s = absurd s
 
 name_on : {w : List ℕ} {K : List Token → Type 0} → Kept (name w K) → Kept K
 name_on {w} {K} h = go h.0 h.1 h.2
   where
-    go : (ts : List Token) → all_keep all_limits ts ≡ true → name w K ts → Kept K
+    go : (ts : List Token) → all_keep small_numbers ts ≡ true → name w K ts → Kept K
     go [] k s = absurd s
-    go (Identifier v ∷ ts) k s = (ts, (and_parts (keeps all_limits (Identifier v)) (all_keep all_limits ts) k).1, s.2)
+    go (Identifier v ∷ ts) k s = (ts, (and_parts (keeps small_numbers (Identifier v)) (all_keep small_numbers ts) k).1, s.2)
     go (t ∷ ts) k s = absurd s
 
 number_on : {n : ℕ} {K : List Token → Type 0} → Kept (number n K) → (is_place n ≡ true) × Kept K
 number_on {n} {K} h = go h.0 h.1 h.2
   where
-    go : (ts : List Token) → all_keep all_limits ts ≡ true → number n K ts → (is_place n ≡ true) × Kept K
+    go : (ts : List Token) → all_keep small_numbers ts ≡ true → number n K ts → (is_place n ≡ true) × Kept K
     go [] k s = absurd s
-    go (Number l m ∷ ts) k s = let p = and_parts (is_place m) (all_keep all_limits ts) k in (subst (λ x. is_place x ≡ true) s.0 p.0, (ts, p.1, s.1))
+    go (Number l m ∷ ts) k s = let p = and_parts (is_place m) (all_keep small_numbers ts) k in (subst (λ x. is_place x ≡ true) s.0 p.0, (ts, p.1, s.1))
     go (t ∷ ts) k s = absurd s
 
 zero_on : {K : List Token → Type 0} → Kept (zero_number K) → Kept K
 zero_on {K} h = go h.0 h.1 h.2
   where
-    go : (ts : List Token) → all_keep all_limits ts ≡ true → zero_number K ts → Kept K
+    go : (ts : List Token) → all_keep small_numbers ts ≡ true → zero_number K ts → Kept K
     go [] k s = absurd s
-    go (Number l m ∷ ts) k s = (ts, (and_parts (is_place m) (all_keep all_limits ts) k).1, held (is_zero l m) (K ts) s)
+    go (Number l m ∷ ts) k s = (ts, (and_parts (is_place m) (all_keep small_numbers ts) k).1, held (is_zero l m) (K ts) s)
     go (t ∷ ts) k s = absurd s
 
 literal_on : {x : Vector} {K : List Token → Type 0} → Kept (literal x K) → (is_literal x ≡ true) × Kept K
 literal_on {x} {K} h = go h.0 h.1 h.2
   where
-    go : (ts : List Token) → all_keep all_limits ts ≡ true → literal x K ts → (is_literal x ≡ true) × Kept K
+    go : (ts : List Token) → all_keep small_numbers ts ≡ true → literal x K ts → (is_literal x ≡ true) × Kept K
     go [] k s = absurd s
-    go (Based y ∷ ts) k s = let p = and_parts (is_literal y) (all_keep all_limits ts) k in (subst (λ z. is_literal z ≡ true) s.0 p.0, (ts, p.1, s.1))
+    go (Based y ∷ ts) k s = let p = and_parts (is_literal y) (all_keep small_numbers ts) k in (subst (λ z. is_literal z ≡ true) s.0 p.0, (ts, p.1, s.1))
     go (t ∷ ts) k s = absurd s
 
 inside_on : (l : Limit) (d : ℕ) {K : ℕ → List Token → Type 0} → Kept (inside l d K) → (e : ℕ) × Kept (K e)
@@ -265,7 +265,7 @@ ports_on : (ps : List Port) (K : List Token → Type 0) → Kept (ports ps K) �
 ports_on [] K h = (refl, h)
 ports_on (p ∷ ps) K h = let a = port_on p _ (sign_on Comma h) in let b = ports_on ps K a.1 in (and_from (is_width (range_width p.range)) (ports_formed (ports_tree ps)) a.0 b.0, b.1)
 
-file_on : (style : Style) (l : Limit) (f : File) → Kept (file style l f) → formed (file_tree f) ≡ true
+pub file_on : (style : Style) (l : Limit) (f : File) → Kept (file style l f) → formed (file_tree f) ≡ true
 file_on style l f h =
     let e = inside_on l 0 (sign_on Open (name_on (keyword_on h))) in
     let a = port_on f.port _ e.1 in
@@ -273,5 +273,17 @@ file_on style l f h =
     let c = items_on style l f.items _ (sign_on Semicolon (sign_on Close b.1)) in
     and_from _ (items_formed (items_tree f.items)) (and_from (is_width (range_width f.port.range)) (ports_formed (ports_tree f.ports)) a.0 b.0) c.0
 
+-- all limits are those of numbers too
+small_of_all : (ts : List Token) → all_keep all_limits ts ≡ true → all_keep small_numbers ts ≡ true
+small_of_all [] k = refl
+small_of_all (t ∷ ts) k = let a = and_parts (keeps all_limits t) (all_keep all_limits ts) k in and_from (keeps small_numbers t) (all_keep small_numbers ts) (go t a.0) (small_of_all ts a.1)
+  where
+    go : (t : Token) → keeps all_limits t ≡ true → keeps small_numbers t ≡ true
+    go (Identifier v) k = refl
+    go (Number l n) k = k
+    go (Based x) k = k
+    go Unused k = refl
+    go (Sign m) k = refl
+
 pub spelled_formed : (style : Style) (b : List ℕ) (mo : P.ModuleTree) → Text style all_limits b mo → formed mo ≡ true
-spelled_formed style b mo h = subst (λ x. formed x ≡ true) h.3.2 (file_on style bounded h.3.0 (h.0, h.2, h.3.1))
+spelled_formed style b mo h = subst (λ x. formed x ≡ true) h.3.2 (file_on style bounded h.3.0 (h.0, small_of_all h.0 h.2, h.3.1))

@@ -1,6 +1,6 @@
 -- Public. What may still follow where a reader of a module stands, and the module that the whole then is.
-use Rattle.std.specs.Prelude.{ℕ, ◌+◌, List, [], ◌∷◌, ◌++◌}
-use Rattle.verilog_tree.specs.Grammar.{name, ports, items, alone, Style}
+use Rattle.std.specs.Prelude.{ℕ, List, [], ◌∷◌, ◌++◌}
+use Rattle.verilog_tree.specs.Grammar.{alone, Style}
 use Rattle.verilog_tree.specs.Plain as P
 use Rattle.verilog_text.specs.Places.{Head, with_item, AsReg, Use, AsWire, AsPort}
 
