@@ -228,7 +228,8 @@ What the command `chip` promises: which chip a file describes (its name, the bud
 in which groups its units are tested and when each group starts, what a chip is and does, and what its test is.
 
 A chip is some modules and a top that places them (`ChipTree`). Each port of a placed module is linked to a net of the top, and a
-link to an output counts as an assign to that net; the registers of all placed modules change at once (`Together`). `ChipTest`
+link to an output counts as an assign to that net; so the top keeps the rules of a module and has no loop of wires, whatever the
+placed modules put out (`IsChip`). The registers of all placed modules change at once (`Together`). `ChipTest`
 says that exactly one environment settles a cycle, and what stands in each cycle of each history with one reset: nothing of a unit
 before the start of its group, from there on the rule of the ports over the words of its own memory, `done`, and that the weights
 of the enabled units are within the budget. `ChipFile` says that bytes spell such a chip and no other. `TestedChip` is what the
