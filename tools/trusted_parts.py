@@ -232,8 +232,9 @@ link to an output counts as an assign to that net; so the top keeps the rules of
 placed modules put out (`IsChip`). The registers of all placed modules change at once (`Together`). `ChipTest`
 says that exactly one environment settles a cycle, and what stands in each cycle of each history with one reset: nothing of a unit
 before the start of its group, from there on the rule of the ports over the words of its own memory, `done`, and that the weights
-of the enabled units are within the budget. `ChipFile` says that bytes spell such a chip and no other. `TestedChip` is what the
-top call promises, without the order of its checks; the checks in their order are `Chip`.
+of the enabled units are within the budget. In the text of a chip the placed modules stand behind the wires and assigns of its
+top (`ChipGrammar`). `ChipFile` says that bytes spell such a chip and no other. `TestedChip` is what the top call promises,
+without the order of its checks; the checks in their order are `Chip`.
 """,
         (
             "chip_desc/Chips",

@@ -1,5 +1,5 @@
 -- No list of tokens is two chips, since none is two modules.
-use Rattle.std.proofs.Common.{◌≡◌, ℕ, Bool, true, false, cond, List, [], ◌∷◌, ◌++◌, drop, Option, Some, None, codes, refl, sym, ap, arith, ◌∙◌, subst, append_assoc, append-nil}
+use Rattle.std.proofs.Common.{◌≡◌, ℕ, Bool, true, false, cond, List, [], ◌∷◌, ◌++◌, map, drop, Option, Some, None, codes, refl, sym, ap, arith, ◌∙◌, subst, append_assoc, append-nil}
 use Rattle.std.proofs.lemmas.Slice.Eq.{bytes_eq-Decides}
 use Rattle.std.specs.Str.{bytes_eq}
 use Rattle.bist_text.specs.Machine.{Holds}
@@ -9,10 +9,10 @@ use Rattle.verilog_tree.specs.declared.tokens.Mark.TheVariants.{Open, Close, Com
 use Rattle.verilog_tree.specs.declared.tokens.Mark.{Mark}
 use Rattle.verilog_tree.specs.declared.tree.Dir.TheVariants.{Input}
 use Rattle.verilog_tree.specs.Tokens.{mark_text, Token, Identifier, Number, Based, Unused, Sign}
-use Rattle.verilog_tree.specs.Grammar.{Limit, Parenthesised, Item, Wires, Regs, Drives, Always, File, is_sign, sign, keyword, name, inside, deeper, item, item_tree, range, names, expr, port, ports, port_tree, ports_tree, no_token, file_tree}
+use Rattle.verilog_tree.specs.Grammar.{Limit, Parenthesised, Item, Wires, Regs, Drives, Always, File, is_sign, sign, keyword, name, inside, deeper, item, item_tree, items_tree, range, names, expr, port, ports, port_tree, ports_tree, no_token, file_tree}
 use Rattle.verilog_tree.specs.Spells.{Derives, bounded}
 use Rattle.chip_rtl.specs.ChipTree.{LinkTree, PlacedTree, TopTree}
-use Rattle.chip_rtl.specs.ChipGrammar.{TopItem, Own, Places, TopFile, link, links, own_item, top_item, top_items, top, own_tree, placed_tree, top_tree, ChipTokens}
+use Rattle.chip_rtl.specs.ChipGrammar.{PlacedModule, TopFile, link, links, own_item, own_items, placed, all_placed, top, placed_tree, top_tree, ChipTokens}
 use Rattle.chip_rtl.proofs.Cuts.{Free, Cut, joined, nothing, never, sign_cut, keyword_cut, name_cut, o, by_when, no_more}
 use Rattle.chip_rtl.proofs.CutGrammar.{Harmless, e, rg, ns, pt, pts, fl}
 
@@ -220,23 +220,29 @@ module _ (bad : Token → Bool) (safe : Harmless bad) where
     links_cut d [] = nothing L bad
     links_cut d (x ∷ xs) = jj _ _ (s Comma refl) (jj _ _ (link_cut d x) (links_cut d xs))
 
-    item_cut : (i : TopItem) → Cut bad (top_item L i)
-    item_cut (Own (Wires r w ws)) = jj _ _ (body_cut (Wires r w ws)) semi
-    item_cut (Own (Drives w x)) = jj _ _ (body_cut (Drives w x)) semi
-    item_cut (Own (Regs r w ws)) = never L bad
-    item_cut (Own (Always c x)) = never L bad
-    item_cut (Places m w x xs) = jj _ _ (n m) (jj _ _ (n w) (jj _ _ (s Open refl) (o L bad 0 _ (λ q. jj _ _ (link_cut q x) (jj _ _ (links_cut q xs) (jj _ _ (s Close refl) semi))))))
+    own_cut : (i : Item) → Cut bad (own_item L i)
+    own_cut (Wires r w ws) = jj _ _ (body_cut (Wires r w ws)) semi
+    own_cut (Drives w x) = jj _ _ (body_cut (Drives w x)) semi
+    own_cut (Regs r w ws) = never L bad
+    own_cut (Always c x) = never L bad
 
-    items_cut : (is : List TopItem) → Cut bad (top_items L is)
-    items_cut [] = nothing L bad
-    items_cut (i ∷ is) = jj _ _ (item_cut i) (items_cut is)
+    owns_cut : (is : List Item) → Cut bad (own_items L is)
+    owns_cut [] = nothing L bad
+    owns_cut (i ∷ is) = jj _ _ (own_cut i) (owns_cut is)
+
+    place_cut : (p : PlacedModule) → Cut bad (placed L p)
+    place_cut p = jj _ _ (n p.unit) (jj _ _ (n p.name) (jj _ _ (s Open refl) (o L bad 0 _ (λ q. jj _ _ (link_cut q p.link) (jj _ _ (links_cut q p.links) (jj _ _ (s Close refl) semi))))))
+
+    places_cut : (ps : List PlacedModule) → Cut bad (all_placed L ps)
+    places_cut [] = nothing L bad
+    places_cut (p ∷ ps) = jj _ _ (place_cut p) (places_cut ps)
 
     -- a top up to its last word
     abbrev top_body : TopFile → (List Token → Type 0) → List Token → Type 0
-    top_body f K = keyword (codes "module") (name f.name (sign Open (inside L 0 (λ q. port f.port (ports f.ports (sign Close (sign Semicolon (top_items L f.items K))))))))
+    top_body f K = keyword (codes "module") (name f.name (sign Open (inside L 0 (λ q. port f.port (ports f.ports (sign Close (sign Semicolon (own_items L f.items (all_placed L f.placed K)))))))))
 
     top_cut : (f : TopFile) → Cut bad (top_body f)
-    top_cut f = jj _ _ (k (codes "module") refl) (jj _ _ (n f.name) (jj _ _ (s Open refl) (o L bad 0 _ (λ q. jj _ _ (pt L bad safe f.port) (jj _ _ (pts L bad safe f.ports) (jj _ _ (s Close refl) (jj _ _ semi (items_cut f.items))))))))
+    top_cut f = jj _ _ (k (codes "module") refl) (jj _ _ (n f.name) (jj _ _ (s Open refl) (o L bad 0 _ (λ q. jj _ _ (pt L bad safe f.port) (jj _ _ (pts L bad safe f.ports) (jj _ _ (s Close refl) (jj _ _ semi (jj _ _ (owns_cut f.items) (places_cut f.placed)))))))))
 
 -- ---- what an item begins with
 
@@ -345,63 +351,69 @@ module _ (one_file : (ts : List Token) (m n : ModuleTree) → Derives Parenthesi
 
   -- ---- placed modules
 
-  one_placed : (m m' n n' : List ℕ) (x y : LinkTree) (xs ys : List LinkTree) (K J : List Token → Type 0) (ts : List Token) → top_item L (Places m n x xs) K ts → top_item L (Places m' n' y ys) J ts
-      → (m ≡ m') × (n ≡ n') × (x ≡ y) × (xs ≡ ys) × Both K J
-  one_placed m m' n n' x y xs ys K J ts g h =
-      let k1 : ℕ → List Token → Type 0 = λ d. link L d x (links L d xs (sign Close (sign Semicolon K))) in
-      let j1 : ℕ → List Token → Type 0 = λ d. link L d y (links L d ys (sign Close (sign Semicolon J))) in
-      let a = name_same m m' (name n (sign Open (inside L 0 k1))) (name n' (sign Open (inside L 0 j1))) ts g h in
-      let b = name_same n n' (sign Open (inside L 0 k1)) (sign Open (inside L 0 j1)) a.1.rest a.1.one a.1.other in
+  same_placed : (p q : PlacedModule) → p.unit ≡ q.unit → p.name ≡ q.name → p.link ≡ q.link → p.links ≡ q.links → placed_tree p ≡ placed_tree q
+  same_placed p q a b c d = rw (a, b, c, d) refl
+
+  one_placed : (p q : PlacedModule) (K J : List Token → Type 0) (ts : List Token) → placed L p K ts → placed L q J ts → (placed_tree p ≡ placed_tree q) × Both K J
+  one_placed p q K J ts g h =
+      let k1 : ℕ → List Token → Type 0 = λ d. link L d p.link (links L d p.links (sign Close (sign Semicolon K))) in
+      let j1 : ℕ → List Token → Type 0 = λ d. link L d q.link (links L d q.links (sign Close (sign Semicolon J))) in
+      let a = name_same p.unit q.unit (name p.name (sign Open (inside L 0 k1))) (name q.name (sign Open (inside L 0 j1))) ts g h in
+      let b = name_same p.name q.name (sign Open (inside L 0 k1)) (sign Open (inside L 0 j1)) a.1.rest a.1.one a.1.other in
       let c = sign_same Open (inside L 0 k1) (inside L 0 j1) b.1.rest b.1.one b.1.other in
       let i = inside_same 0 k1 j1 c.rest c.one c.other in
-      let u = link_same i.0 x y (links L i.0 xs (sign Close (sign Semicolon K))) (links L i.0 ys (sign Close (sign Semicolon J))) c.rest i.1 i.2 in
-      let v = links_same i.0 xs ys (sign Semicolon K) (sign Semicolon J) u.1.rest u.1.one u.1.other in
+      let u = link_same i.0 p.link q.link (links L i.0 p.links (sign Close (sign Semicolon K))) (links L i.0 q.links (sign Close (sign Semicolon J))) c.rest i.1 i.2 in
+      let v = links_same i.0 p.links q.links (sign Semicolon K) (sign Semicolon J) u.1.rest u.1.one u.1.other in
       let z = sign_same Semicolon K J v.1.rest v.1.one v.1.other in
-      (a.0, b.0, u.0, v.0, z)
-
-  -- ---- items
-
-  abbrev Same : List TopItem → List TopItem → Type 0
-  Same is js = (own_tree is ≡ own_tree js) × (placed_tree is ≡ placed_tree js)
+      (same_placed p q a.0 b.0 u.0 v.0, z)
 
   last_begins : (ts : List Token) → last ts → Begins 0 ts
   unfolding kind
   last_begins ts h = keyword_begins (codes "endmodule") 0 no_token ts refl h
 
-  one_items : (is js : List TopItem) (ts : List Token) → top_items L is last ts → top_items L js last ts → Same is js
-  one_items [] [] ts g h = (refl, refl)
-  one_items [] (Own j ∷ js) ts g h = absurd (zero_one (clash 0 1 ts (last_begins ts g) (own_begins j (top_items L js last) ts h)))
-  one_items [] (Places m n x xs ∷ js) ts g h = absurd (zero_two (clash 0 2 ts (last_begins ts g) (name_begins m _ ts h)))
-  one_items (Own i ∷ is) [] ts g h = absurd (zero_one (clash 0 1 ts (last_begins ts h) (own_begins i (top_items L is last) ts g)))
-  one_items (Places m n x xs ∷ is) [] ts g h = absurd (zero_two (clash 0 2 ts (last_begins ts h) (name_begins m _ ts g)))
-  one_items (Own i ∷ is) (Places m n x xs ∷ js) ts g h = absurd (one_two (clash 1 2 ts (own_begins i (top_items L is last) ts g) (name_begins m _ ts h)))
-  one_items (Places m n x xs ∷ is) (Own j ∷ js) ts g h = absurd (one_two (clash 1 2 ts (own_begins j (top_items L js last) ts h) (name_begins m _ ts g)))
-  one_items (Own i ∷ is) (Own j ∷ js) ts g h =
-      let a = one_own i j (top_items L is last) (top_items L js last) ts g h in
-      let r = one_items is js a.1.rest a.1.one a.1.other in
-      (ap (λ l. l ++ own_tree is) a.0 ∙ ap (λ l. item_tree j ++ l) r.0, r.1)
-  one_items (Places m n x xs ∷ is) (Places m' n' y ys ∷ js) ts g h =
-      let a = one_placed m m' n n' x y xs ys (top_items L is last) (top_items L js last) ts g h in
-      let r = one_items is js a.4.rest a.4.one a.4.other in
-      (r.0, same_placed m m' n n' x y xs ys a.0 a.1 a.2 a.3 ∙ ap (λ l. record { unit = m'; name = n'; links = y ∷ ys } ∷ l) r.1)
-    where
-      same_placed : (m m' n n' : List ℕ) (x y : LinkTree) (xs ys : List LinkTree) → m ≡ m' → n ≡ n' → x ≡ y → xs ≡ ys → (let p : PlacedTree = record { unit = m; name = n; links = x ∷ xs } in p ∷ placed_tree is) ≡ (let q : PlacedTree = record { unit = m'; name = n'; links = y ∷ ys } in q ∷ placed_tree is)
-      same_placed m m' n n' x y xs ys a b c d = rw (a, b, c, d) refl
+  one_places : (ps qs : List PlacedModule) (ts : List Token) → all_placed L ps last ts → all_placed L qs last ts → map placed_tree ps ≡ map placed_tree qs
+  one_places [] [] ts g h = refl
+  one_places [] (q ∷ qs) ts g h = absurd (zero_two (clash 0 2 ts (last_begins ts g) (name_begins q.unit _ ts h)))
+  one_places (p ∷ ps) [] ts g h = absurd (zero_two (clash 0 2 ts (last_begins ts h) (name_begins p.unit _ ts g)))
+  one_places (p ∷ ps) (q ∷ qs) ts g h =
+      let a = one_placed p q (all_placed L ps last) (all_placed L qs last) ts g h in
+      ap (λ (t : PlacedTree). t ∷ map placed_tree ps) a.0 ∙ ap (λ (l : List PlacedTree). placed_tree q ∷ l) (one_places ps qs a.1.rest a.1.one a.1.other)
+
+  -- ---- items of its own, one behind another
+
+  -- what stands behind them begins with no word of theirs
+  no_own : (ps : List PlacedModule) (ts : List Token) → all_placed L ps last ts → Begins 1 ts → ⊥
+  no_own [] ts h b = zero_one (clash 0 1 ts (last_begins ts h) b)
+  no_own (p ∷ ps) ts h b = one_two (clash 1 2 ts b (name_begins p.unit _ ts h))
+
+  one_owns : (is js : List Item) (ps qs : List PlacedModule) (ts : List Token) → own_items L is (all_placed L ps last) ts → own_items L js (all_placed L qs last) ts
+      → (items_tree is ≡ items_tree js) × Both (all_placed L ps last) (all_placed L qs last)
+  one_owns [] [] ps qs ts g h = (refl, record { rest = ts; one = g; other = h })
+  one_owns [] (j ∷ js) ps qs ts g h = absurd (no_own ps ts g (own_begins j (own_items L js (all_placed L qs last)) ts h))
+  one_owns (i ∷ is) [] ps qs ts g h = absurd (no_own qs ts h (own_begins i (own_items L is (all_placed L ps last)) ts g))
+  one_owns (i ∷ is) (j ∷ js) ps qs ts g h =
+      let a = one_own i j (own_items L is (all_placed L ps last)) (own_items L js (all_placed L qs last)) ts g h in
+      let r = one_owns is js ps qs a.1.rest a.1.one a.1.other in
+      (ap (λ l. l ++ items_tree is) a.0 ∙ ap (λ l. item_tree j ++ l) r.0, r.1)
 
   -- ---- tops
 
+  -- what stands behind the head of a top
+  abbrev behind_head : TopFile → List Token → Type 0
+  behind_head f = own_items L f.items (all_placed L f.placed last)
+
   one_top : (f g : TopFile) (ts : List Token) → top L f ts → top L g ts → top_tree f ≡ top_tree g
   one_top f g ts a b =
-      let p = (head_cut is_semi semi_harmless f).cut (sign Semicolon (top_items L f.items last)) ts a in
-      let q = (head_cut is_semi semi_harmless g).cut (sign Semicolon (top_items L g.items last)) ts b in
-      let c = stops_of (top_items L f.items last) p.behind p.next in
-      let d = stops_of (top_items L g.items last) q.behind q.next in
+      let p = (head_cut is_semi semi_harmless f).cut (sign Semicolon (behind_head f)) ts a in
+      let q = (head_cut is_semi semi_harmless g).cut (sign Semicolon (behind_head g)) ts b in
+      let c = stops_of (behind_head f) p.behind p.next in
+      let d = stops_of (behind_head g) q.behind q.next in
       let same = split_first is_semi p.own q.own (Sign c.mark) (Sign d.mark) c.rest d.rest p.free q.free c.last d.last (ap (λ x. p.own ++ x) (sym c.is) ∙ sym p.is ∙ q.is ∙ ap (λ x. q.own ++ x) d.is) in
       let h = one_head f g p.own p.alone (subst (λ x. head g no_token x) (sym same.0) q.alone) in
-      let i = one_items f.items g.items c.rest c.next (subst (λ x. top_items L g.items last x) (sym same.2) d.next) in
-      same_top (ap (λ (m : ModuleTree). m.name) h) (ap (λ (m : ModuleTree). m.ports) h) i.0 i.1
+      let i = one_owns f.items g.items f.placed g.placed c.rest c.next (subst (λ x. behind_head g x) (sym same.2) d.next) in
+      same_top (ap (λ (m : ModuleTree). m.name) h) (ap (λ (m : ModuleTree). m.ports) h) i.0 (one_places f.placed g.placed i.1.rest i.1.one i.1.other)
     where
-      same_top : f.name ≡ g.name → port_tree f.port ∷ ports_tree f.ports ≡ port_tree g.port ∷ ports_tree g.ports → own_tree f.items ≡ own_tree g.items → placed_tree f.items ≡ placed_tree g.items → top_tree f ≡ top_tree g
+      same_top : f.name ≡ g.name → port_tree f.port ∷ ports_tree f.ports ≡ port_tree g.port ∷ ports_tree g.ports → items_tree f.items ≡ items_tree g.items → map placed_tree f.placed ≡ map placed_tree g.placed → top_tree f ≡ top_tree g
       same_top a b c d = rw (a, b, c, d) refl
 
   -- ---- modules one behind another

@@ -9,18 +9,19 @@ use Rattle.verilog_tree.specs.Spells.{all_limits}
 use Rattle.verilog_tree.specs.Tokens.{Token}
 use Rattle.verilog_tree.specs.Words.{is_name}
 use Rattle.verilog_emit.specs.Printed.{items_text, printed}
+use Rattle.verilog_emit.proofs.Derivations.{derive_items}
 use Rattle.verilog_emit.proofs.Pieces.{Spelt, grouped}
 use Rattle.verilog_emit.proofs.WrittenExpressions.{L}
 use Rattle.verilog_emit.proofs.WrittenModule.{head, head_text, head_spelt, end_spelt, nothing_spelt, Module, told_as, spelt_before}
 use Rattle.chip_rtl.specs.ChipTree.{PlacedTree, TopTree}
-use Rattle.chip_rtl.specs.ChipGrammar.{top_items, top, ChipTokens, ChipText}
+use Rattle.chip_rtl.specs.ChipGrammar.{own_items, all_placed, top, ChipTokens, ChipText}
 use Rattle.chip_rtl.proofs.Cuts.{Cut, joined, sign_cut, keyword_cut}
 use Rattle.chip_rtl.proofs.CutGrammar.{Harmless, file_body, fl}
 use Rattle.chip_rtl.proofs.OneText.{one_text}
 use Rattle.chip_rtl.specs.PrintedTop.{placed_texts, printed_top, printed_units, printed_chip}
 use Rattle.chip_rtl.specs.TopFits.{all_own, placed_fit, TopFits, AllFit}
 use Rattle.chip_rtl.specs.PrintedLaws.{EndsChips}
-use Rattle.chip_rtl.proofs.TopDerived.{derive_placed, derive_own, derive_top, same_top}
+use Rattle.chip_rtl.proofs.TopDerived.{derive_placed, derive_top, same_top}
 use Rattle.chip_rtl.proofs.WrittenTop.{placed_spelt, owns_spelt}
 
 -- ---- the tokens of a module are a list of their own
@@ -59,10 +60,10 @@ top_spelt : (n : List ℕ) (p : P.ModulePort) (ps : List P.ModulePort) (is : Lis
 top_spelt n p ps is pl f m1 f1 m2 f2 o g =
     let e : List ℕ = codes "endmodule" ++ (10 ∷ []) in
     let E : List Token → Type 0 = keyword (codes "endmodule") no_token in
-    let K1 : List Token → Type 0 = top_items L (derive_own is (derive_placed pl)) E in
+    let K1 : List Token → Type 0 = own_items L (derive_items is) (all_placed L (derive_placed pl) E) in
     grouped (head n p ps K1) (printed_top (record { name = n; ports = p ∷ ps; items = is; placed = pl })) (head_text n (p ∷ ps) ++ (items_text is ++ (placed_texts pl ++ (e ++ [])))) (top_bytes (head_text n (p ∷ ps)) (items_text is) (placed_texts pl) e)
     (head_spelt n p ps K1 (items_text is ++ (placed_texts pl ++ (e ++ []))) f m1 f1
-    (owns_spelt is (derive_placed pl) E (placed_texts pl ++ (e ++ [])) o f2 m2
+    (owns_spelt is (all_placed L (derive_placed pl) E) (placed_texts pl ++ (e ++ [])) o f2 m2
     (placed_spelt pl E (e ++ []) g (end_spelt no_token [] nothing_spelt))))
 
 no_ports : false ≡ true → ⊥

@@ -8,15 +8,15 @@ use Rattle.verilog_tree.specs.Plain as P
 use Rattle.verilog_tree.specs.Tokens.{Token}
 use Rattle.verilog_tree.specs.Words.{is_name}
 use Rattle.verilog_emit.specs.Printed.{item_text, items_text}
-use Rattle.verilog_emit.proofs.Derivations.{derive_item}
+use Rattle.verilog_emit.proofs.Derivations.{derive_item, derive_items}
 use Rattle.verilog_emit.proofs.Pieces.{Spelt, both, grouped, blank, line_feed, named, opened}
 use Rattle.verilog_emit.proofs.WrittenExpressions.{L, plain}
 use Rattle.verilog_emit.proofs.WrittenModule.{item_spelt, in_margin}
 use Rattle.chip_rtl.specs.ChipTree.{LinkTree, PlacedTree}
-use Rattle.chip_rtl.specs.ChipGrammar.{TopItem, link, links, own_item, top_item, top_items}
+use Rattle.chip_rtl.specs.ChipGrammar.{link, links, own_item, own_items, placed, all_placed}
 use Rattle.chip_rtl.specs.PrintedTop.{link_text, links_text, placed_text, placed_texts}
 use Rattle.chip_rtl.specs.TopFits.{is_own, all_own, has_link, links_fit, placed_fit}
-use Rattle.chip_rtl.proofs.TopDerived.{place, derive_placed, derive_own, placed_parts}
+use Rattle.chip_rtl.proofs.TopDerived.{place, derive_placed, placed_parts}
 
 -- ---- links
 
@@ -64,7 +64,7 @@ placed_bytes m n x l r = grouping (codes "  ") m (codes " ") n (codes "(") x l (
     grouping s m b n o x l c e r = simp append_assoc
 
 place_spelt : (m n : List ℕ) (ls : List LinkTree) (K : List Token → Type 0) (r : List ℕ) → is_name m ≡ true → is_name n ≡ true → has_link ls ≡ true → links_fit ls ≡ true → Spelt K r
-    → Spelt (top_item L (place m n ls) K) (placed_text (record { unit = m; name = n; links = ls }) ++ r)
+    → Spelt (placed L (place m n ls) K) (placed_text (record { unit = m; name = n; links = ls }) ++ r)
 place_spelt m n [] K r f g l i h = cc
 place_spelt m n (x ∷ xs) K r f g l i h =
     let e = link_parts x xs i in
@@ -73,7 +73,7 @@ place_spelt m n (x ∷ xs) K r f g l i h =
     let K1 : List Token → Type 0 = name n (sign Open (inside L 0 K2)) in
     let b2 : List ℕ = codes ");" ++ (10 ∷ r) in
     let b1 : List ℕ = link_text x ++ (links_text false xs ++ b2) in
-    let T : List Token → Type 0 = top_item L (place m n (x ∷ xs)) K in
+    let T : List Token → Type 0 = placed L (place m n (x ∷ xs)) K in
     grouped T (placed_text (record { unit = m; name = n; links = x ∷ xs }) ++ r) (codes "  " ++ (m ++ (32 ∷ (n ++ (codes "(" ++ b1))))) (placed_bytes m n (link_text x) (links_text false xs) r)
     (in_margin T (m ++ (32 ∷ (n ++ (codes "(" ++ b1))))
     (named m K1 (32 ∷ (n ++ (codes "(" ++ b1))) f refl
@@ -86,12 +86,12 @@ place_spelt m n (x ∷ xs) K r f g l i h =
     (plain Close (sign Semicolon K) (codes ";" ++ (10 ∷ r)) (λ c. refl)
     (plain Semicolon K (10 ∷ r) (λ c. refl) (line_feed K r h)))))))))))
 
-pub placed_spelt : (pl : List PlacedTree) (K : List Token → Type 0) (r : List ℕ) → placed_fit pl ≡ true → Spelt K r → Spelt (top_items L (derive_placed pl) K) (placed_texts pl ++ r)
+pub placed_spelt : (pl : List PlacedTree) (K : List Token → Type 0) (r : List ℕ) → placed_fit pl ≡ true → Spelt K r → Spelt (all_placed L (derive_placed pl) K) (placed_texts pl ++ r)
 placed_spelt [] K r f h = h
 placed_spelt (p ∷ ps) K r f h =
     let e = placed_parts p ps f in
-    grouped (top_items L (derive_placed (p ∷ ps)) K) (placed_texts (p ∷ ps) ++ r) (placed_text p ++ (placed_texts ps ++ r)) (append_assoc (placed_text p) (placed_texts ps) r)
-    (place_spelt p.unit p.name p.links (top_items L (derive_placed ps) K) (placed_texts ps ++ r) e.0.0 e.0.1 e.0.2 e.0.3 (placed_spelt ps K r e.1 h))
+    grouped (all_placed L (derive_placed (p ∷ ps)) K) (placed_texts (p ∷ ps) ++ r) (placed_text p ++ (placed_texts ps ++ r)) (append_assoc (placed_text p) (placed_texts ps) r)
+    (place_spelt p.unit p.name p.links (all_placed L (derive_placed ps) K) (placed_texts ps ++ r) e.0.0 e.0.1 e.0.2 e.0.3 (placed_spelt ps K r e.1 h))
 
 -- ---- items
 
@@ -101,11 +101,11 @@ own_spelt (P.RegItem n w) K r o f m h = cc
 own_spelt (P.AssignItem n x) K r o f m h = item_spelt (P.AssignItem n x) K r f m h
 own_spelt (P.AlwaysItem c ss) K r o f m h = cc
 
-pub owns_spelt : (is : List P.ModuleItem) (rest : List TopItem) (K : List Token → Type 0) (r : List ℕ) → all_own is ≡ true → items_fit 64 is ≡ true → items_formed is ≡ true → Spelt (top_items L rest K) r → Spelt (top_items L (derive_own is rest) K) (items_text is ++ r)
-owns_spelt [] rest K r o f m h = h
-owns_spelt (i ∷ is) rest K r o f m h =
+pub owns_spelt : (is : List P.ModuleItem) (K : List Token → Type 0) (r : List ℕ) → all_own is ≡ true → items_fit 64 is ≡ true → items_formed is ≡ true → Spelt K r → Spelt (own_items L (derive_items is) K) (items_text is ++ r)
+owns_spelt [] K r o f m h = h
+owns_spelt (i ∷ is) K r o f m h =
     let a = both (is_own i) (all_own is) o in
     let g = both (item_fits 64 i) (items_fit 64 is) f in
     let n = both (item_formed i) (items_formed is) m in
-    grouped (top_items L (derive_own (i ∷ is) rest) K) (items_text (i ∷ is) ++ r) (item_text i ++ (items_text is ++ r)) (append_assoc (item_text i) (items_text is) r)
-    (own_spelt i (top_items L (derive_own is rest) K) (items_text is ++ r) a.0 g.0 n.0 (owns_spelt is rest K r a.1 g.1 n.1 h))
+    grouped (own_items L (derive_items (i ∷ is)) K) (items_text (i ∷ is) ++ r) (item_text i ++ (items_text is ++ r)) (append_assoc (item_text i) (items_text is) r)
+    (own_spelt i (own_items L (derive_items is) K) (items_text is ++ r) a.0 g.0 n.0 (owns_spelt is K r a.1 g.1 n.1 h))
