@@ -1,12 +1,14 @@
 -- Numbers and literals as they are printed are the tokens that they are meant to be.
 use Rattle.std.proofs.Common.{◌≡◌, ℕ, zero, suc, ◌+◌, ◌-◌, ◌*◌, ◌/◌, ◌%◌, ◌^◌, ◌==◌, ◌<◌, ◌≤◌, ◌&&◌, ◌||◌, not, nat_lt, nat_le, Bool, true, false, List, [], ◌∷◌, ◌++◌, refl, inl, subst, sym, ◌∙◌, ap, append_assoc, arith, ltb-true, leb-true}
 use Rattle.std.specs.Prelude.{decimal}
+use Rattle.std.specs.List.{list_all}
 use Rattle.std.specs.Fmt.{digit_glyph}
 use Rattle.std.proofs.Math.Nat.{pow-suc}
 use Rattle.std.proofs.lemmas.Bool.Decides.{nat_tests}
 use Rattle.std.proofs.lemmas.Fmt.{decimal_digit, decimal_step}
 use Rattle.bist_bits.specs.Vector.{Vector}
 use Rattle.bist_text.specs.Grammar.{when}
+use Rattle.bist_text.proofs.Pieces.{at_byte}
 use Rattle.bist_text.specs.Numbers.{hex_digits}
 use Rattle.verilog_tree.specs.declared.tokens.Base.TheVariants.{Hexadecimal}
 use Rattle.verilog_tree.specs.Formed.{is_width, is_place, is_literal}
@@ -15,6 +17,7 @@ use Rattle.verilog_tree.specs.Tokens as T
 use Rattle.bist_text.specs.Identifiers.{is_digit, begins_identifier, in_identifier}
 use Rattle.verilog_tree.specs.Words.{is_digit_of, digit_value}
 use Rattle.verilog_emit.specs.Printed.{literal_text}
+use Rattle.verilog_emit.specs.Written.{is_no_slash}
 use Rattle.bist_text.proofs.Powers.{word_digits}
 use Rattle.verilog_emit.proofs.Pieces.{Spelt, both, refused, no_letter, is_apart, grouped}
 
@@ -97,12 +100,34 @@ first_digit n l = go (nat_le 10 n) refl
         let tens : n / 10 < 10 = omega arith in
         (48 + n / 10, (48 + n % 10) ∷ [], decimal_step n large (omega arith) ∙ ap (λ (x : List ℕ). x ++ ((48 + n % 10) ∷ [])) (decimal_digit (n / 10) tens), (digit (n / 10) tens).1)
 
+one_bare : (c : ℕ) (r : List ℕ) → is_no_slash c ≡ true → list_all is_no_slash r ≡ true → list_all is_no_slash (c ∷ r) ≡ true
+one_bare c r e h = rw e h
+
+digit_bare : (c : ℕ) → is_digit c ≡ true → is_no_slash c ≡ true
+digit_bare c e = at_byte (λ x. is_digit x ≡ true → is_no_slash x ≡ true) c 47 (λ h. cc) (λ n h. rw n refl) e
+
+digits_bare : (n : ℕ) (r : List ℕ) → n < 100 → list_all is_no_slash r ≡ true → list_all is_no_slash (decimal n ++ r) ≡ true
+digits_bare n r l h = go (nat_le 10 n) refl
+  where
+    go : (b : Bool) → nat_le 10 n ≡ b → list_all is_no_slash (decimal n ++ r) ≡ true
+    go false f =
+        let small : n < 10 = grind arith in
+        subst (λ (x : List ℕ). list_all is_no_slash (x ++ r) ≡ true) (sym (decimal_digit n small)) (one_bare (48 + n) r (digit_bare (48 + n) (digit n small).1) h)
+    go true f =
+        let large : 10 ≤ n = leb-true 10 n f in
+        let tens : n / 10 < 10 = omega arith in
+        let text : decimal n ≡ (48 + n / 10) ∷ (48 + n % 10) ∷ [] = decimal_step n large (omega arith) ∙ ap (λ (x : List ℕ). x ++ ((48 + n % 10) ∷ [])) (decimal_digit (n / 10) tens) in
+        subst (λ (x : List ℕ). list_all is_no_slash (x ++ r) ≡ true) (sym text)
+        (one_bare (48 + n / 10) ((48 + n % 10) ∷ r) (digit_bare (48 + n / 10) (digit (n / 10) tens).1)
+        (one_bare (48 + n % 10) r (digit_bare (48 + n % 10) (digit (n % 10) (omega arith)).1) h))
+
 -- a number of a select or a range
 pub numbered : (n : ℕ) (K : List T.Token → Type 0) (r : List ℕ) → is_place n ≡ true → is_apart r ≡ true → Spelt K r → Spelt (number n K) (decimal n ++ r)
 numbered n K r i p h = record {
   tokens = T.Number (nat_le 10 n) n ∷ h.tokens;
   lexed = begins (decimal n ++ r) (digits_begin n (T.Number (nat_le 10 n) n) (T.Lexed h.tokens) r (omega (arith, leb-true n 63 i)) (apart_ends r p) (refl, refl, not_quoted (T.Lexed h.tokens) r p h.lexed));
   kept = rw i h.kept;
+  bare = digits_bare n r (omega (arith, leb-true n 63 i)) h.bare;
   meant = (refl, h.meant);
 }
   where
@@ -116,6 +141,7 @@ zeroed K r p h = record {
   tokens = T.Number false 0 ∷ h.tokens;
   lexed = inl (digits_end false 0 (T.behind_number (T.Number false 0) (T.Lexed h.tokens)) r (apart_ends r p) (refl, refl, not_quoted (T.Lexed h.tokens) r p h.lexed));
   kept = h.kept;
+  bare = h.bare;
   meant = h.meant;
 }
 
@@ -174,6 +200,16 @@ not_asked : (K : List ℕ → Type 0) (r : List ℕ) → is_apart r ≡ true →
 not_asked K [] p h = h
 not_asked K (c ∷ r) p h = subst (λ t. T.whether t ⊥ (K (c ∷ r))) (sym (refused (c == 63) (both (not (in_identifier c) && not (c == 39)) (not (c == 63)) p).1)) h
 
+glyph_bare : (d : ℕ) → d < 16 → is_no_slash (digit_glyph false d) ≡ true
+glyph_bare d l = at_byte (λ x. is_digit_of Hexadecimal x ≡ true → is_no_slash x ≡ true) (digit_glyph false d) 47 (λ h. cc) (λ n h. rw n refl) (hex_digit d l).0
+
+hex_bare : (n value : ℕ) (r : List ℕ) → list_all is_no_slash r ≡ true → list_all is_no_slash (hex_digits n value ++ r) ≡ true
+hex_bare zero value r h = h
+hex_bare (suc n) value r h =
+    let g : ℕ = digit_glyph false (value % 16) in
+    subst (λ (x : List ℕ). list_all is_no_slash x ≡ true) (sym (append_assoc (hex_digits n (value / 16)) (g ∷ []) r))
+    (hex_bare n (value / 16) (g ∷ r) (one_bare g r (glyph_bare (value % 16) (omega arith)) h))
+
 -- ---- literals
 
 pub narrow : (x : Vector) → is_literal x ≡ true → x.width < 100
@@ -185,6 +221,7 @@ constant x K r i p h = grouped (literal x K) (literal_text x ++ r) (decimal x.wi
   tokens = T.Based x ∷ h.tokens;
   lexed = begins (decimal x.width ++ (39 ∷ 104 ∷ (hex_digits ((x.width + 3) / 4) x.value ++ r))) (digits_begin x.width (T.Based x) (T.Lexed h.tokens) (39 ∷ 104 ∷ (hex_digits ((x.width + 3) / 4) x.value ++ r)) (omega (arith, at_most)) refl written);
   kept = rw i h.kept;
+  bare = digits_bare x.width (39 ∷ 104 ∷ (hex_digits ((x.width + 3) / 4) x.value ++ r)) (narrow x i) (hex_bare ((x.width + 3) / 4) x.value r h.bare);
   meant = (refl, h.meant);
 })
   where

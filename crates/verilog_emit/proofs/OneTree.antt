@@ -39,7 +39,7 @@ derives n (p ∷ ps) is ts h =
 
 -- the reader's grammar derives it
 pub text_spells : (b : List ℕ) (mo : ModuleTree) → IsTextOf b mo → Text Parenthesised no_limits b mo
-text_spells b mo h = (h.0, h.1, all_kept h.0, derives mo.name mo.ports mo.items h.0 h.3)
+text_spells b mo h = (h.0, h.2, all_kept h.0, derives mo.name mo.ports mo.items h.0 h.4)
 
 pub one_tree : (b : List ℕ) (mo other : ModuleTree) → IsTextOf b mo → IsTextOf b other → other ≡ mo
 one_tree b mo other h k = one_text no_limits Parenthesised b other mo (text_spells b other k) (text_spells b mo h)
@@ -58,5 +58,5 @@ small_kept (t ∷ ts) h = let g = both (is_sized t) (list_all is_sized ts) h in 
 
 pub text_formed : (b : List ℕ) (mo : ModuleTree) → IsTextOf b mo → formed mo ≡ true
 text_formed b mo h =
-    let d = derives mo.name mo.ports mo.items h.0 h.3 in
-    subst (λ x. formed x ≡ true) d.2 (file_on Parenthesised unlimited d.0 (h.0, small_kept h.0 h.2, d.1))
+    let d = derives mo.name mo.ports mo.items h.0 h.4 in
+    subst (λ x. formed x ≡ true) d.2 (file_on Parenthesised unlimited d.0 (h.0, small_kept h.0 h.3, d.1))

@@ -209,7 +209,7 @@ end_spelt K r h = reserved (codes "endmodule") K (10 ∷ r) refl refl (line_feed
 
 -- the end of the text
 pub nothing_spelt : Spelt no_token []
-nothing_spelt = record { tokens = []; lexed = tt; kept = refl; meant = tt }
+nothing_spelt = record { tokens = []; lexed = tt; kept = refl; bare = refl; meant = tt }
 
 module_bytes : (h i e r : List ℕ) → (h ++ i ++ e) ++ r ≡ h ++ (i ++ (e ++ r))
 module_bytes h i e r = simp append_assoc
@@ -225,7 +225,7 @@ module_spelt n p ps is K r f m1 f1 m2 f2 h =
 
 -- what else the tokens are
 pub told_as : (K J : List Token → Type 0) (b : List ℕ) → ((ts : List Token) → K ts → J ts) → Spelt K b → Spelt J b
-told_as K J b f h = record { tokens = h.tokens; lexed = h.lexed; kept = h.kept; meant = f h.tokens h.meant }
+told_as K J b f h = record { tokens = h.tokens; lexed = h.lexed; kept = h.kept; bare = h.bare; meant = f h.tokens h.meant }
 
 -- the tokens of a module, and behind it K
 abbrev pub Module : P.ModuleTree → (List Token → Type 0) → List Token → Type 0
@@ -267,7 +267,7 @@ all_sized [] h = refl
 all_sized (t ∷ ts) h = let g = both (keeps all_limits t) (all_keep all_limits ts) h in rw (sized t g.0) (all_sized ts g.1)
   where
     sized : (t : Token) → keeps all_limits t ≡ true → is_sized t ≡ true
-    sized (Identifier w) h = refl
+    sized (Identifier w) h = h
     sized (Number long n) h = h
     sized (Based x) h = h
     sized Unused h = refl
@@ -277,6 +277,6 @@ all_sized (t ∷ ts) h = let g = both (keeps all_limits t) (all_keep all_limits 
 pub printed_text : (mo : P.ModuleTree) → fits mo ≡ true → IsTextOf (printed mo) mo
 printed_text mo f =
     let J : List Token → Type 0 = λ rest. rest ≡ [] in
-    let e : Spelt J [] = record { tokens = []; lexed = tt; kept = refl; meant = refl } in
+    let e : Spelt J [] = record { tokens = []; lexed = tt; kept = refl; bare = refl; meant = refl } in
     let h = grouped (Told mo J) (printed mo) (printed mo ++ []) (sym (append-nil (printed mo))) (spelt mo.name mo.ports mo.items J [] f e) in
-    (h.tokens, h.lexed, all_sized h.tokens h.kept, h.meant.1)
+    (h.tokens, h.bare, h.lexed, all_sized h.tokens h.kept, h.meant.1)

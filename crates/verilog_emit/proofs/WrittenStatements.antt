@@ -75,7 +75,7 @@ arm_spelt depth e j (x ∷ xs) ss b K r s l m h =
 
 -- what always holds may stand before what follows
 no_condition : (K : List Token → Type 0) (r : List ℕ) → Spelt K r → Spelt (λ us. (false ≡ false) × K us) r
-no_condition K r h = record { tokens = h.tokens; lexed = h.lexed; kept = h.kept; meant = (refl, h.meant) }
+no_condition K r h = record { tokens = h.tokens; lexed = h.lexed; kept = h.kept; bare = h.bare; meant = (refl, h.meant) }
 
 -- the room inside of if and its parenthesis, or of case and its own
 record Room (d k : ℕ) : Type 0 where

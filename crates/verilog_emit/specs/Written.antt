@@ -1,5 +1,5 @@
 -- Trusted. What text a module has: for each form of its tree the tokens that it is written with, in full parentheses.
-use Rattle.std.specs.Prelude.{◌≡◌, ℕ, zero, suc, Bool, true, List, [], ◌∷◌, codes}
+use Rattle.std.specs.Prelude.{◌≡◌, ℕ, zero, suc, Bool, true, not, ◌==◌, nat_le, List, [], ◌∷◌, length, codes}
 use Rattle.std.specs.List.{list_all}
 use Rattle.bist_bits.specs.Vector.{Vector}
 use Rattle.verilog_tree.specs.declared.tokens.Mark.TheVariants.{Open, Close, OpenBracket, CloseBracket, OpenBrace, CloseBrace, Comma, Semicolon, Colon, At, Question, Equals, LessEquals}
@@ -8,7 +8,7 @@ use Rattle.verilog_tree.specs.declared.tree.Dir.TheVariants.{Input, Output, Outp
 use Rattle.verilog_tree.specs.Formed.{is_place, is_literal}
 use Rattle.verilog_tree.specs.Pieces.{sign, keyword, name, number, zero_number, literal, unary_mark, binary_mark}
 use Rattle.verilog_tree.specs.Plain.{Expression, Net, BitSelect, PartSelect, Literal, Concatenation, Prefixed, Infixed, Conditional, Expressions, NoMore, Followed, Statement, SetTo, IfElse, CaseOf, Statements, Done, Then, Arms, NoArm, ArmOf, ModuleItem, WireItem, RegItem, AssignItem, AlwaysItem, ModulePort, ModuleTree}
-use Rattle.verilog_tree.specs.Tokens.{Token, Number, Based, Lexed}
+use Rattle.verilog_tree.specs.Tokens.{Token, Identifier, Number, Based, Lexed}
 
 -- Each relation takes a part of a tree and what may follow it, K, and says which lists of tokens are the part's and then K's.
 
@@ -97,12 +97,19 @@ module_tokens mo K =
     keyword (codes "module") (name mo.name (sign Open (ports_tokens mo.ports (sign Close
     (sign Semicolon (items_tokens mo.items (keyword (codes "endmodule") K)))))))
 
--- whether a number is at most 63, and a literal has a width from 1 to 64 and a value that it holds: of another, Verilog would drop bits
+-- whether a name has at most 64 bytes, a number is at most 63, and a literal has a width from 1 to 64 and a value that it holds: of
+-- another, Verilog would drop bits
 abbrev pub is_sized : Token → Bool
+is_sized (Identifier w) = nat_le (length w) 64
 is_sized (Number long n) = is_place n
 is_sized (Based x) = is_literal x
 is_sized other = true
 
--- The bytes are a text of this module: its tokens and no others, each of such a size, with white space before, between and behind them.
+-- whether a byte is no /, with which alone a comment begins: to some tools that make gates, a comment is a command
+abbrev pub is_no_slash : ℕ → Bool
+is_no_slash c = not (c == 47)
+
+-- The bytes are a text of this module: its tokens and no others, each of such a size, with white space before, between and behind them,
+-- and no comment.
 abbrev pub IsTextOf : List ℕ → ModuleTree → Type 0
-IsTextOf b mo = (ts : List Token) × Lexed ts b × (list_all is_sized ts ≡ true) × module_tokens mo (λ rest. rest ≡ []) ts
+IsTextOf b mo = (ts : List Token) × (list_all is_no_slash b ≡ true) × Lexed ts b × (list_all is_sized ts ≡ true) × module_tokens mo (λ rest. rest ≡ []) ts
