@@ -136,8 +136,9 @@ cycle and port where it has none, or another than the rule of the ports wants.
   each operator and `begin` and `end` round each body. `expression_tokens x K tokens`: the tokens are those of `x`, and then what
   K says; so for each part. There is no text of a concatenation without parts, a `case` without arms, an arm without labels, a
   width of 0 or a module without ports. **`IsTextOf bytes module`**: the bytes are the module's tokens, with white space before,
-  between and behind them, no number is above 63, and each literal has a width from 1 to 64 and a value that it holds (of `2'd7`
-  Verilog would take 3); so the module is formed (`sized` of `texts_are_of_one_module`).
+  between and behind them and no comments (to some tools that make gates, a comment is a command), no name has more than 64
+  bytes, no number is above 63, and each literal has a width from 1 to 64 and a value that it holds (of `2'd7` Verilog would take 3);
+  so the module is formed (`sized` of `texts_are_of_one_module`).
   The headline speaks of this text; what follows is what the reader takes, which has further texts of a module (more parentheses,
   a body without `begin`, `wire a, b;`), and limits.
 - **Grammar** (`Grammar.antt`): a derivation is a datum with one constructor for each alternative of the grammar (braces, `if`

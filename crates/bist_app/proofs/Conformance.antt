@@ -1,13 +1,13 @@
 -- What the answer of the top call comes to for `check`.
 use Rattle.bist_app.proofs.Common.{◌≡◌, ◌∙◌, sym, subst, ap, arith, ℕ, List, [], Option, Some, None, Ok, Err, Files, HostState, Says, MarchElement, Description, IsMemory, ModuleTree, Words, word, Done, found_status, WritesInOrder, CanRun, Boxes, HasPorts, HasForm, command_named, Runs, Command, ByPrecedence, wrong_port, PortAnswer, Spelled, input_spells, input_can_run}
-use Rattle.march_syntax.specs.Answers.{Reads as ReadsMarch}
-use Rattle.memory_desc.specs.Table.{Reads as ReadsMemory}
+use Rattle.march_syntax.specs.Answers.{SpellsMarch}
+use Rattle.memory_desc.specs.Described.{SpellsMemory}
 use Rattle.port_check.specs.Answers.{Told}
 use Rattle.port_check.specs.Compared.{Issues}
 use Rattle.port_check.proofs.Checking.{told_of}
 use Rattle.bist_app.specs.Check.{IsChecked, LeavesCheck, DecidesCheck, is_amiss, check_form}
 use Rattle.bist_app.specs.Conformance.{IsConformance, LeavesConformance}
-use Rattle.bist_app.specs.Headline.{InputHas}
+use Rattle.bist_app.specs.Headline.{Only, InputHas}
 use Rattle.bist_app.proofs.Headline.{march_read, memory_read}
 use Rattle.bist_app.proofs.Complete.{if_told}
 use Rattle.bist_app.proofs.Succeeding.{Succeeds, succeeds, not_refused}
@@ -19,8 +19,8 @@ record Inputs (files : Files) (words : Words) (done : Done) : Type 0 where
   memory : Description
   is_memory : IsMemory memory
   module_text : Spelled ByPrecedence files (word words 1) tree
-  march_text : InputHas files (word words 2) (λ bytes. ReadsMarch bytes (Ok march))
-  memory_text : InputHas files (word words 3) (λ bytes. ReadsMemory bytes (Ok memory))
+  march_text : InputHas files (word words 2) (λ bytes. Only (SpellsMarch bytes) march)
+  memory_text : InputHas files (word words 3) (λ bytes. Only (SpellsMemory bytes) memory)
   can_run : CanRun tree
   ports : wrong_port memory tree.ports ≡ None
   checked : IsChecked tree march memory done

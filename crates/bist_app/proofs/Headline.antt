@@ -1,28 +1,36 @@
 -- What the answer of the top call comes to for `compile`.
-use Rattle.bist_app.proofs.Common.{ap, ◌≡◌, ◌≢◌, ◌<◌, sym, ◌∙◌, subst, arith, ℕ, List, [], ◌∷◌, Option, Some, None, Ok, Err, Files, HostState, WritesFile, Says, MarchElement, Description, IsMemory, Item, Words, word, Done, WritesInOrder, FileMarch, InputMarch, InputList, GivesMarch, GivesList, FileMemory, InputMemory, GivesMemory, Boxes, HasForm, Command, command_named, Runs}
-use Rattle.march_syntax.specs.Answers.{Reads as ReadsMarch}
+use Rattle.bist_app.proofs.Common.{ap, ◌≡◌, ◌≢◌, ◌<◌, sym, ◌∙◌, subst, arith, ℕ, List, [], ◌∷◌, Option, Some, None, Result, Ok, Err, Files, HostState, WritesFile, Says, MarchElement, Description, IsMemory, Item, Words, word, Done, WritesInOrder, FileMarch, InputMarch, InputList, GivesMarch, GivesList, FileMemory, InputMemory, GivesMemory, Boxes, HasForm, Command, command_named, Runs}
+use Rattle.march_syntax.specs.Answers.{SpellsMarch, Reads as ReadsMarch}
+use Rattle.march_syntax.proofs.OneOutcome.{reads_one as one_march}
+use Rattle.memory_desc.specs.Described.{SpellsMemory}
 use Rattle.memory_desc.specs.Table.{Reads as ReadsMemory}
-use Rattle.dynamic_core.specs.Items.{ReadsItems}
+use Rattle.memory_desc.proofs.OneOutcome.{reads_one as one_memory}
+use Rattle.dynamic_core.specs.Items.{SpellsItems, ReadsItems}
+use Rattle.dynamic_core.proofs.ListExact.{list_one}
 use Rattle.bist_app.specs.Compile.{IsCompiled, LeavesCompile, DecidesCompile, compile_form}
-use Rattle.bist_app.specs.Headline.{InputHas, IsCompilation, LeavesCompilation}
+use Rattle.bist_app.specs.Headline.{Only, InputHas, IsCompilation, LeavesCompilation}
 use Rattle.bist_app.proofs.Complete.{if_told}
-use Rattle.bist_app.proofs.Succeeding.{Succeeds, succeeds, not_refused}
+use Rattle.bist_app.proofs.Succeeding.{Succeeds, succeeds, not_refused, same_value}
 
 -- ---- the inputs
 
-pub march_read : (files : Files) (words : Words) (position : ℕ) (march : List MarchElement) → InputMarch (Some files) words position (Ok march) → InputHas files (word words position) (λ bytes. ReadsMarch bytes (Ok march))
+-- what is read in one way alone
+pub only_read : {A E : Type 0} (Reads : Result A E → Type 0) (a : A) → ((q r : Result A E) → Reads q → Reads r → q ≡ r) → Reads (Ok a) → Only (λ x. Reads (Ok x)) a
+only_read Reads a one reads = (reads, λ other also. same_value (one (Ok other) (Ok a) also reads))
+
+pub march_read : (files : Files) (words : Words) (position : ℕ) (march : List MarchElement) → InputMarch (Some files) words position (Ok march) → InputHas files (word words position) (λ bytes. Only (SpellsMarch bytes) march)
 unfolding FileMarch GivesMarch
-march_read files words position march (Ok bytes, gives, reads) = (bytes, gives.0, (gives.1, reads))
+march_read files words position march (Ok bytes, gives, reads) = (bytes, gives.0, (gives.1, only_read (ReadsMarch bytes) march (one_march bytes) reads))
 march_read files words position march (Err e, gives, same) = absurd (not_refused same)
 
-pub memory_read : (files : Files) (words : Words) (position : ℕ) (d : Description) → InputMemory (Some files) words position (Ok d) → IsMemory d × InputHas files (word words position) (λ bytes. ReadsMemory bytes (Ok d))
+pub memory_read : (files : Files) (words : Words) (position : ℕ) (d : Description) → InputMemory (Some files) words position (Ok d) → IsMemory d × InputHas files (word words position) (λ bytes. Only (SpellsMemory bytes) d)
 unfolding FileMemory GivesMemory
-memory_read files words position d (Ok bytes, gives, reads) = (reads.1, (bytes, gives.0, (gives.1, reads.0)))
+memory_read files words position d (Ok bytes, gives, reads) = (reads.1, (bytes, gives.0, (gives.1, only_read (ReadsMemory bytes) d (one_memory bytes) reads.0)))
 memory_read files words position d (Err e, gives, same) = absurd (not_refused same)
 
-list_read : (files : Files) (words : Words) (items : List Item) → InputList (Some files) words 3 (Ok items) → InputHas files (word words 3) (λ bytes. ReadsItems bytes (Ok items))
+list_read : (files : Files) (words : Words) (items : List Item) → InputList (Some files) words 3 (Ok items) → InputHas files (word words 3) (λ bytes. Only (SpellsItems bytes) items)
 unfolding InputList GivesList
-list_read files words items (Ok bytes, gives, reads) = (bytes, gives.0, (gives.1, reads))
+list_read files words items (Ok bytes, gives, reads) = (bytes, gives.0, (gives.1, only_read (ReadsItems bytes) items (list_one bytes) reads))
 list_read files words items (Err e, gives, same) = absurd (not_refused same)
 
 -- the march, the memory and the list that were read, and what is left of them
@@ -31,9 +39,9 @@ record Inputs (files : Files) (words : Words) (done : Done) : Type 0 where
   memory : Description
   is_memory : IsMemory memory
   items : List Item
-  march_text : InputHas files (word words 1) (λ bytes. ReadsMarch bytes (Ok march))
-  memory_text : InputHas files (word words 2) (λ bytes. ReadsMemory bytes (Ok memory))
-  list_text : InputHas files (word words 3) (λ bytes. ReadsItems bytes (Ok items))
+  march_text : InputHas files (word words 1) (λ bytes. Only (SpellsMarch bytes) march)
+  memory_text : InputHas files (word words 2) (λ bytes. Only (SpellsMemory bytes) memory)
+  list_text : InputHas files (word words 3) (λ bytes. Only (SpellsItems bytes) items)
   compiled : IsCompiled march memory items done
 
 inputs : (files : Files) (words : Words) (done : Done) → DecidesCompile (Some files) words (Ok done) → Inputs files words done

@@ -1,11 +1,14 @@
 -- A run that ends with 0 or 1 over told files: what its command decides is done, the files are written and the line is said.
-use Rattle.bist_app.proofs.Common.{◌≡◌, ◌≤◌, inl, inr, subst, arith, ℕ, Some, None, Ok, Err, Files, HostState, Says, InputRefusal, Refusal, WriteStop, Words, word, Done, status_of, found_status, WritesInOrder, RefusalEnds, Command, Boxes, command_named, IsFormed, DecidesCommand, Runs}
+use Rattle.bist_app.proofs.Common.{◌≡◌, ◌≤◌, inl, inr, subst, arith, ℕ, Some, None, Result, Ok, Err, Files, HostState, Says, InputRefusal, Refusal, WriteStop, Words, word, Done, status_of, found_status, WritesInOrder, RefusalEnds, Command, Boxes, command_named, IsFormed, DecidesCommand, Runs}
 use Rattle.bist_app.proofs.OneCommand.{only_named}
 
 -- ---- what can't be
 
 pub not_refused : {A E : Type 0} {value : A} {error : E} → Ok value ≡ Err error → ⊥
 not_refused same = cc
+
+pub same_value : {A E : Type 0} {one other : A} → (let r : Result A E = Ok one in r) ≡ Ok other → one ≡ other
+same_value same = cc
 
 pub too_high : (n k : ℕ) → n ≡ k → 2 ≤ k → n ≤ 1 → ⊥
 too_high n k is high low = omega (arith, is, high, low)

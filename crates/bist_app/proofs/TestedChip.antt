@@ -1,32 +1,34 @@
 -- What the answer of the top call comes to for `chip`.
-use Rattle.bist_app.proofs.Common.{◌≡◌, ◌≢◌, ◌∙◌, sym, subst, ap, refl, ℕ, suc, List, [], ◌∷◌, Option, Some, None, Result, Ok, Err, Files, HostState, WritesFile, Says, MarchElement, Description, IsMemory, ChipDescription, UnitDescription, IsChip, TestUnit, Words, word, Done, found_status, WritesInOrder, FileMarch, GivesMarch, FileMemory, GivesMemory, GivesChip, InputChip, UnitMarch, UnitMemory, command_named, Runs, Boxes, Command}
-use Rattle.march_syntax.specs.Answers.{Reads as ReadsMarch}
+use Rattle.bist_app.proofs.Common.{◌≡◌, ◌≢◌, ◌∙◌, sym, subst, ap, refl, ℕ, suc, List, [], ◌∷◌, Option, Some, None, Ok, Err, Files, HostState, WritesFile, Says, MarchElement, Description, IsMemory, ChipDescription, UnitDescription, IsChip, TestUnit, Words, word, Done, found_status, WritesInOrder, FileMarch, GivesMarch, FileMemory, GivesMemory, GivesChip, InputChip, UnitMarch, UnitMemory, command_named, Runs, Boxes, Command}
+use Rattle.march_syntax.specs.Answers.{SpellsMarch, Reads as ReadsMarch}
+use Rattle.march_syntax.proofs.OneOutcome.{reads_one as one_march}
+use Rattle.memory_desc.specs.Described.{SpellsMemory}
 use Rattle.memory_desc.specs.Table.{Reads as ReadsMemory}
+use Rattle.memory_desc.proofs.OneOutcome.{reads_one as one_memory}
 use Rattle.chip_desc.specs.ChipTable.{Reads as ReadsChip}
-use Rattle.bist_app.specs.Headline.{InputHas}
+use Rattle.chip_desc.proofs.OneText.{reads_one as one_chip}
+use Rattle.bist_app.specs.Headline.{Only, InputHas}
 use Rattle.bist_app.specs.Chip.{GivesUnit, GivesUnits, IsChipTested, LeavesChip, DecidesChip}
 use Rattle.bist_app.specs.TestedChip.{IsUnitOf, AreUnitsOf, IsTestedChip, LeavesTestedChip}
 use Rattle.bist_app.proofs.Complete.{if_told}
-use Rattle.bist_app.proofs.Succeeding.{Succeeds, not_refused, succeeds}
-
-same_value : {A E : Type 0} {one other : A} → (let r : Result A E = Ok one in r) ≡ Ok other → one ≡ other
-same_value same = cc
+use Rattle.bist_app.proofs.Headline.{only_read}
+use Rattle.bist_app.proofs.Succeeding.{Succeeds, not_refused, same_value, succeeds}
 
 -- ---- the inputs
 
-unit_march_read : (files : Files) (unit : ℕ) (name : List ℕ) (march : List MarchElement) → UnitMarch (Some files) unit name (Ok march) → InputHas files name (λ bytes. ReadsMarch bytes (Ok march))
+unit_march_read : (files : Files) (unit : ℕ) (name : List ℕ) (march : List MarchElement) → UnitMarch (Some files) unit name (Ok march) → InputHas files name (λ bytes. Only (SpellsMarch bytes) march)
 unfolding UnitMarch FileMarch GivesMarch
 unit_march_read files unit name march (Ok own, (Ok bytes, gives, reads), same) =
-    (bytes, gives.0, (gives.1, subst (λ (m : List MarchElement). ReadsMarch bytes (Ok m)) (sym (same_value same)) reads))
+    (bytes, gives.0, (gives.1, only_read (ReadsMarch bytes) march (one_march bytes) (subst (λ (m : List MarchElement). ReadsMarch bytes (Ok m)) (sym (same_value same)) reads)))
 unit_march_read files unit name march (Ok own, (Err e, gives, stops), same) = absurd (not_refused stops)
 unit_march_read files unit name march (Err e, file, same) = absurd (not_refused same)
 
 unit_memory_read : (files : Files) (unit : ℕ) (name : List ℕ) (d : Description) → UnitMemory (Some files) unit name (Ok d)
-    → IsMemory d × InputHas files name (λ bytes. ReadsMemory bytes (Ok d))
+    → IsMemory d × InputHas files name (λ bytes. Only (SpellsMemory bytes) d)
 unfolding UnitMemory FileMemory GivesMemory
 unit_memory_read files unit name d (Ok own, (Ok bytes, gives, reads), same) =
     let is = sym (same_value same) in
-    (subst IsMemory is reads.1, (bytes, gives.0, (gives.1, subst (λ (m : Description). ReadsMemory bytes (Ok m)) is reads.0)))
+    (subst IsMemory is reads.1, (bytes, gives.0, (gives.1, only_read (ReadsMemory bytes) d (one_memory bytes) (subst (λ (m : Description). ReadsMemory bytes (Ok m)) is reads.0))))
 unit_memory_read files unit name d (Ok own, (Err e, gives, stops), same) = absurd (not_refused stops)
 unit_memory_read files unit name d (Err e, file, same) = absurd (not_refused same)
 
@@ -46,16 +48,16 @@ units_of files number (d ∷ ds) us (Ok first, f, (Ok rest, g, same)) =
 units_of files number (d ∷ ds) us (Ok first, f, (Err e, g, same)) = absurd (not_refused same)
 units_of files number (d ∷ ds) us (Err e, f, same) = absurd (not_refused same)
 
-chip_read : (files : Files) (words : Words) (chip : ChipDescription) → InputChip (Some files) words 1 (Ok chip) → IsChip chip × InputHas files (word words 1) (λ bytes. ReadsChip bytes (Ok chip))
+chip_read : (files : Files) (words : Words) (chip : ChipDescription) → InputChip (Some files) words 1 (Ok chip) → IsChip chip × InputHas files (word words 1) (λ bytes. Only (λ c. ReadsChip bytes (Ok c)) chip)
 unfolding InputChip GivesChip
-chip_read files words chip (Ok bytes, gives, reads) = (reads.1, (bytes, gives.0, (gives.1, reads.0)))
+chip_read files words chip (Ok bytes, gives, reads) = (reads.1, (bytes, gives.0, (gives.1, only_read (ReadsChip bytes) chip (one_chip bytes) reads.0)))
 chip_read files words chip (Err e, gives, same) = absurd (not_refused same)
 
 -- the chip and its units that were read, and what is left of them
 record Inputs (files : Files) (words : Words) (done : Done) : Type 0 where
   chip : ChipDescription
   is_chip : IsChip chip
-  chip_text : InputHas files (word words 1) (λ bytes. ReadsChip bytes (Ok chip))
+  chip_text : InputHas files (word words 1) (λ bytes. Only (λ c. ReadsChip bytes (Ok c)) chip)
   units : List TestUnit
   unit_texts : AreUnitsOf files chip.units units
   tested : IsChipTested chip.name units chip.budget done

@@ -15,11 +15,11 @@ use Rattle.bist_endings.specs.Words.{Words, word}
 use Rattle.bist_endings.specs.Ending.{found_status}
 use Rattle.bist_inputs.specs.Designs.{CanRun}
 use Rattle.bist_app.specs.Forms.{HasForm}
-use Rattle.bist_app.specs.Headline.{InputHas}
+use Rattle.bist_app.specs.Headline.{InputHas, Only}
 use Rattle.bist_app.specs.Check.{check_form, is_amiss, check_line}
 
 -- The bytes of VERILOG spell a module and no other, which can be run and has the ports of a self-test; MARCH and MEMORY were read as a march
--- and a memory. With status 0 the module issues the commands of the march, whatever its registers hold at first and whatever words return.
+-- and a memory, and spell no others. With status 0 the module issues the commands of the march, whatever its registers hold at first and whatever words return.
 -- The answer of its open run was said, and what it tells of every history holds: with a number that differs, that this number is there.
 pub record IsConformance (words : Words) (files : Files) (said said' : Option (List ℕ)) (status : ℕ) : Type 0 where
   pub shape : HasForm check_form words
@@ -27,9 +27,9 @@ pub record IsConformance (words : Words) (files : Files) (said said' : Option (L
   pub march : List MarchElement
   pub memory : Description
   pub is_memory : IsMemory memory
-  pub module_text : InputHas files (word words 1) (λ bytes. FreelySpells bytes tree × ((other : ModuleTree) → FreelySpells bytes other → other ≡ tree))
-  pub march_text : InputHas files (word words 2) (λ bytes. SpellsMarch bytes march)
-  pub memory_text : InputHas files (word words 3) (λ bytes. SpellsMemory bytes memory)
+  pub module_text : InputHas files (word words 1) (λ bytes. Only (FreelySpells bytes) tree)
+  pub march_text : InputHas files (word words 2) (λ bytes. Only (SpellsMarch bytes) march)
+  pub memory_text : InputHas files (word words 3) (λ bytes. Only (SpellsMemory bytes) memory)
   pub can_run : CanRun tree
   pub ports : wrong_port memory tree.ports ≡ None
   pub issues : status ≡ 0 → Issues tree march memory

@@ -18,6 +18,10 @@ use Rattle.bist_app.specs.Forms.{HasForm}
 use Rattle.bist_app.specs.Reported.{SomeEscapes}
 use Rattle.bist_app.specs.Compile.{compile_form}
 
+-- this holds of x, and of nothing else
+abbrev pub Only : {A : Type 0} → (A → Type 0) → A → Type 0
+Only {A} P x = P x × ((other : A) → P other → other ≡ x)
+
 -- the file of this name is there, and this holds of its bytes
 abbrev pub FileHas : Files → List ℕ → (List ℕ → Type 0) → Type 0
 FileHas files name P = (bytes : List ℕ) × (files name ≡ Some bytes) × P bytes
@@ -26,23 +30,23 @@ FileHas files name P = (bytes : List ℕ) × (files name ≡ Some bytes) × P by
 abbrev pub InputHas : Files → List ℕ → (List ℕ → Type 0) → Type 0
 InputHas files name P = FileHas files name (λ bytes. (length bytes ≤ input_limit) × P bytes)
 
--- The files MARCH, MEMORY and FAULTS were read as a march, a memory and a list. Now the bytes of VERILOG are a text of a module and of no
--- other: its tokens, with parentheses round each operator, begin and end round each body, white space between them, and literals that
--- hold their values. (By the whole grammar of the reader they spell no other module either: the clause answer says that.) The module is
--- a self-test of that memory by that march, and the bytes of REPORT are the report of the list. Some item isn't detected exactly where
--- the status is 1. How many there are and how many are detected was said, and all other files are as before.
+-- The files MARCH, MEMORY and FAULTS were read as a march, a memory and a list, and spell no others. Now the bytes of VERILOG are a text of a
+-- module and of no other: its tokens, with parentheses round each operator, begin and end round each body, white space between them and no
+-- comments, and literals that hold their values. (By the whole grammar of the reader they spell no other module either: the clause answer
+-- says that.) The module is a self-test of that memory by that march, and the bytes of REPORT are the report of the list. Some item isn't
+-- detected exactly where the status is 1. How many there are and how many are detected was said, and all other files are as before.
 pub record IsCompilation (words : Words) (files files' : Files) (said said' : Option (List ℕ)) (status : ℕ) : Type 0 where
   pub shape : HasForm compile_form words
   pub march : List MarchElement
   pub memory : Description
   pub is_memory : IsMemory memory
   pub items : List Item
-  pub march_text : InputHas files (word words 1) (λ bytes. SpellsMarch bytes march)
-  pub memory_text : InputHas files (word words 2) (λ bytes. SpellsMemory bytes memory)
-  pub list_text : InputHas files (word words 3) (λ bytes. SpellsItems bytes items)
+  pub march_text : InputHas files (word words 1) (λ bytes. Only (SpellsMarch bytes) march)
+  pub memory_text : InputHas files (word words 2) (λ bytes. Only (SpellsMemory bytes) memory)
+  pub list_text : InputHas files (word words 3) (λ bytes. Only (SpellsItems bytes) items)
   pub tree : ModuleTree
   pub self_test : SelfTest tree march memory
-  pub module_text : FileHas files' (word words 4) (λ bytes. IsTextOf bytes tree × ((other : ModuleTree) → IsTextOf bytes other → other ≡ tree))
+  pub module_text : FileHas files' (word words 4) (λ bytes. Only (IsTextOf bytes) tree)
   pub report_text : FileHas files' (word words 5) (λ bytes. IsMixedReport bytes march (Some memory) items)
   pub escapes : Bool
   pub found : SomeEscapes march items escapes

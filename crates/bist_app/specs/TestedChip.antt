@@ -12,12 +12,12 @@ use Rattle.chip_rtl.specs.ChipFile.{ChipFile}
 use Rattle.bist_endings.specs.Words.{Words, word}
 use Rattle.bist_app.specs.Forms.{HasForm}
 use Rattle.bist_app.specs.Chip.{chip_line, chip_form}
-use Rattle.bist_app.specs.Headline.{InputHas}
+use Rattle.bist_app.specs.Headline.{InputHas, Only}
 
--- the files that a unit names were read as its march and its memory
+-- the files that a unit names were read as its march and its memory, and spell no others
 pub record IsUnitOf (files : Files) (d : UnitDescription) (u : TestUnit) : Type 0 where
-  pub march_text : InputHas files d.march (λ bytes. SpellsMarch bytes u.march)
-  pub memory_text : InputHas files d.memory (λ bytes. SpellsMemory bytes u.memory)
+  pub march_text : InputHas files d.march (λ bytes. Only (SpellsMarch bytes) u.march)
+  pub memory_text : InputHas files d.memory (λ bytes. Only (SpellsMemory bytes) u.memory)
   pub is_memory : IsMemory u.memory
   pub weight : u.weight ≡ d.weight
 
@@ -36,7 +36,7 @@ pub record IsTestedChip (words : Words) (files files' : Files) (said said' : Opt
   pub shape : HasForm chip_form words
   pub chip : ChipDescription
   pub is_chip : IsChip chip
-  pub chip_text : InputHas files (word words 1) (λ bytes. ReadsChip bytes (Ok chip))
+  pub chip_text : InputHas files (word words 1) (λ bytes. Only (λ c. ReadsChip bytes (Ok c)) chip)
   pub units : List TestUnit
   pub unit_texts : AreUnitsOf files chip.units units
   pub text : List ℕ
