@@ -4,20 +4,22 @@ use Rattle.std.proofs.lemmas.List.{length-take-le}
 use Rattle.verilog_tree.specs.Plain as P
 use Rattle.verilog_tree.specs.Plain.{Expression}
 use Rattle.verilog_tree.specs.declared.tokens.Mark.{Mark}
-use Rattle.verilog_tree.specs.declared.tokens.Mark.TheVariants.{OpenBracket, Close, Semicolon, Colon, Comma, CloseBrace, Question, Plus, Minus, Ampersand, Bar, Caret, TwoEquals, BangEquals, Less, LessEquals, Greater, GreaterEquals, TwoAmpersands, TwoBars, TwoLess, TwoGreater}
+use Rattle.verilog_tree.specs.declared.tokens.Mark.TheVariants.{Open, OpenBrace, Bang, Tilde, OpenBracket, Close, Semicolon, Colon, Comma, CloseBrace, Question, Plus, Minus, Ampersand, Bar, Caret, TwoEquals, BangEquals, Less, LessEquals, Greater, GreaterEquals, TwoAmpersands, TwoBars, TwoLess, TwoGreater}
 use Rattle.verilog_tree.specs.declared.tree.UnOp.{UnOp}
 use Rattle.verilog_read.specs.declared.precedence.Nest.{Nest}
 use Rattle.verilog_read.specs.declared.precedence.Nest.TheVariants as N
 use Rattle.verilog_tree.specs.Grammar.{unlimited, is_sign}
 use Rattle.verilog_tree.specs.Free.{signed}
-use Rattle.verilog_text.specs.Flat.{Left, settle_all}
+use Rattle.verilog_text.specs.Flat.{one_more, Left, settle_all}
+use Rattle.verilog_text.specs.declared.count.Count.{Count}
+use Rattle.verilog_text.specs.declared.count.Count.TheVariants.{Together, Apart}
 use Rattle.verilog_tree.specs.Tokens.{Sign}
 use Rattle.verilog_text.specs.Places as Q
-use Rattle.verilog_text.specs.Places.{Alone, AsDriver, AsCondition, AsSubject, AsValue, Only, InRound, InList, IfTrue, IfFalse, Linked, Named, AtExpr, State}
+use Rattle.verilog_text.specs.Places.{Alone, AsDriver, AsCondition, AsSubject, AsValue, Only, InRound, InList, IfTrue, IfFalse, Linked, Named, WantOperand, WantPrim, AtExpr, State}
 use Rattle.verilog_read.specs.inner.Holding.{nest, nests_of}
 use Rattle.verilog_text.specs.Expected.{is_step, taken}
-use Rattle.verilog_text.specs.Steps.{only_where, alone_step, parts_step, close_step, have_step}
-use Rattle.verilog_read.specs.inner.Ends.{ends, splits, closes, goes_on, ends_choice}
+use Rattle.verilog_text.specs.Steps.{in_room, only_where, alone_step, parts_step, close_step, have_step}
+use Rattle.verilog_read.specs.inner.Ends.{ends, splits, closes, goes_on, ends_choice, may, opens, starts}
 use Rattle.verilog_read.proofs.FrameLemmas.{last_split}
 use Rattle.verilog_read.proofs.HoldingLemmas.{nests_push}
 
@@ -31,41 +33,62 @@ ends_is p x (AsCondition r q a) m = where_is (is_sign Close m) _
 ends_is p x (AsSubject r q a) m = where_is (is_sign Close m) _
 ends_is p x (AsValue n a) m = where_is (is_sign Semicolon m) _
 
-splits_is : (p n r : ℕ) (old : P.Expressions) (x : Expression) (ws : List Left) (u : Option UnOp) (o : Q.Nest) (m : Mark) → is_step (parts_step p n r old x ws u o m) ≡ splits m
-splits_is p n r old x ws u o Comma = refl
-splits_is p n r old x ws u o CloseBrace = refl
-splits_is p n r old x ws u o m = refl
+splits_is : (p : ℕ) (c : Count) (r : ℕ) (old : P.Expressions) (x : Expression) (n : Count) (ws : List Left) (u : Option UnOp) (o : Q.Nest) (m : Mark) → is_step (parts_step p c r old x n ws u o m) ≡ splits m
+splits_is p c r old x n ws u o Comma = refl
+splits_is p c r old x n ws u o CloseBrace = refl
+splits_is p c r old x n ws u o m = refl
 
-pub closes_is : (p n : ℕ) (x : Expression) (o : Q.Nest) (m : Mark) → is_step (close_step p n x o (Sign m)) ≡ closes o m
-closes_is p n x (Only b) m = ends_is p x b m
-closes_is p n x (InRound r ws u o) m = where_is (is_sign Close m) _
-closes_is p n x (InList r old ws u o) m = splits_is p n r old x ws u o m
-closes_is p n x (IfTrue c o) m = where_is (is_sign Colon m) _
-closes_is p n x (IfFalse c y o) m = closes_is p n (P.Conditional c y x) o m
+pub closes_is : (p : ℕ) (c : Count) (x : Expression) (o : Q.Nest) (m : Mark) → is_step (close_step p c x o (Sign m)) ≡ closes o m
+closes_is p c x (Only b) m = ends_is p x b m
+closes_is p c x (InRound r n ws u o) m = where_is (is_sign Close m) _
+closes_is p c x (InList r old n ws u o) m = splits_is p c r old x n ws u o m
+closes_is p c x (IfTrue y o) m = where_is (is_sign Colon m) _
+closes_is p c x (IfFalse y z o) m = closes_is p c (P.Conditional y z x) o m
 
-pub linked_takes : (p n : ℕ) (x : Expression) (ws : List Left) (u : Option UnOp) (o : Q.Nest) (m : Mark) → is_step (have_step unlimited p x (Linked n ws u o) (Sign m)) ≡ goes_on o m
-linked_takes p n x ws u o Plus = refl
-linked_takes p n x ws u o Minus = refl
-linked_takes p n x ws u o Ampersand = refl
-linked_takes p n x ws u o Bar = refl
-linked_takes p n x ws u o Caret = refl
-linked_takes p n x ws u o TwoEquals = refl
-linked_takes p n x ws u o BangEquals = refl
-linked_takes p n x ws u o Less = refl
-linked_takes p n x ws u o LessEquals = refl
-linked_takes p n x ws u o Greater = refl
-linked_takes p n x ws u o GreaterEquals = refl
-linked_takes p n x ws u o TwoAmpersands = refl
-linked_takes p n x ws u o TwoBars = refl
-linked_takes p n x ws u o TwoLess = refl
-linked_takes p n x ws u o TwoGreater = refl
-linked_takes p n x ws u o Question = refl
+may_is : (n : Count) (f : Count → State) → is_step (in_room (one_more unlimited n) f) ≡ may n
+may_is (Together n) f = refl
+may_is (Apart true) f = refl
+may_is (Apart false) f = refl
+
+pub linked_takes : (p : ℕ) (n : Count) (x : Expression) (ws : List Left) (u : Option UnOp) (o : Q.Nest) (m : Mark) → is_step (have_step unlimited p x (Linked n ws u o) (Sign m)) ≡ goes_on n o m
+linked_takes p n x ws u o Plus = may_is n _
+linked_takes p n x ws u o Minus = may_is n _
+linked_takes p n x ws u o Ampersand = may_is n _
+linked_takes p n x ws u o Bar = may_is n _
+linked_takes p n x ws u o Caret = may_is n _
+linked_takes p n x ws u o TwoEquals = may_is n _
+linked_takes p n x ws u o BangEquals = may_is n _
+linked_takes p n x ws u o Less = may_is n _
+linked_takes p n x ws u o LessEquals = may_is n _
+linked_takes p n x ws u o Greater = may_is n _
+linked_takes p n x ws u o GreaterEquals = may_is n _
+linked_takes p n x ws u o TwoAmpersands = may_is n _
+linked_takes p n x ws u o TwoBars = may_is n _
+linked_takes p n x ws u o TwoLess = may_is n _
+linked_takes p n x ws u o TwoGreater = may_is n _
+linked_takes p n x ws u o Question = may_is n _
 linked_takes p n x ws u o m = closes_is p n (settle_all ws (signed u x)) o m
 
 -- behind a name a select may come, too
-pub named_takes : (p n : ℕ) (w : List ℕ) (ws : List Left) (u : Option UnOp) (o : Q.Nest) (m : Mark) → taken (AtExpr (Named p w (Linked n ws u o))) (Sign m) ≡ (is_sign OpenBracket m || goes_on o m)
+pub named_takes : (p : ℕ) (n : Count) (w : List ℕ) (ws : List Left) (u : Option UnOp) (o : Q.Nest) (m : Mark) → taken (AtExpr (Named p w (Linked n ws u o))) (Sign m) ≡ (is_sign OpenBracket m || goes_on n o m)
 named_takes p n w ws u o OpenBracket = refl
 named_takes p n w ws u o m = linked_takes p n (P.Net w) ws u o m
+
+-- where an operand is wanted
+pub operand_is : (p : ℕ) (n : Count) (ws : List Left) (o : Q.Nest) (m : Mark) → taken (AtExpr (WantOperand p n ws o)) (Sign m) ≡ starts n m
+operand_is p n ws o Bang = may_is n _
+operand_is p n ws o Tilde = may_is n _
+operand_is p n ws o Ampersand = may_is n _
+operand_is p n ws o Bar = may_is n _
+operand_is p n ws o Caret = may_is n _
+operand_is p n ws o Open = refl
+operand_is p n ws o OpenBrace = refl
+operand_is p n ws o m = refl
+
+pub prim_is : (p : ℕ) (n : Count) (ws : List Left) (u : Option UnOp) (o : Q.Nest) (m : Mark) → taken (AtExpr (WantPrim p n ws u o)) (Sign m) ≡ opens m
+prim_is p n ws u o Open = refl
+prim_is p n ws u o OpenBrace = refl
+prim_is p n ws u o m = refl
 
 nests_last : (ns : List Nest) (n : Nest) (b : Alone) → 1 ≤ length ns → n ≡ get_or ns (length ns - 1) n → nests_of ns b ≡ nest n (nests_of (take (length ns - 1) ns) b)
 nests_last ns n b h e = ap (λ x. nests_of x b) (last_split ns n h e) ∙ nests_push (take (length ns - 1) ns) n b
@@ -77,8 +100,8 @@ innermost_takes ns n b m r h e f = f ∙ ap (λ o. closes o m) (sym (nests_last 
 choice_ends : (n : Nest) (o : Q.Nest) (m : Mark) → ends_choice n ≡ true → closes (nest n o) m ≡ closes o m
 choice_ends (N.IfFalse c x) o m h = refl
 choice_ends (N.IfTrue c) o m h = cc
-choice_ends (N.Round r ls u) o m h = cc
-choice_ends (N.List r xs ls u) o m h = cc
+choice_ends (N.Round r n ls u) o m h = cc
+choice_ends (N.List r xs n ls u) o m h = cc
 
 pub others_take : (ns : List Nest) (n : Nest) (b : Alone) (m : Mark) → 1 ≤ length ns → n ≡ get_or ns (length ns - 1) n → ends_choice n ≡ true → closes (nests_of (take (length ns - 1) ns) b) m ≡ closes (nests_of ns b) m
 others_take ns n b m h e t = sym (choice_ends n (nests_of (take (length ns - 1) ns) b) m t) ∙ ap (λ o. closes o m) (sym (nests_last ns n b h e))

@@ -1,29 +1,22 @@
--- Frames and holders that are pushed, and tests of tokens.
+-- Holders that are pushed, and tests of tokens.
 use Rattle.std.proofs.Common.{◌≡◌, ℕ, suc, ◌-◌, ◌<◌, ◌≤◌, ◌∙◌, arith, sym, subst, length, take, drop, get_or, drop-cons, Bool, true, false, List, [], ◌∷◌, ◌++◌, refl, ap, map}
 use Rattle.std.proofs.lemmas.List.{take-append-drop}
 use Rattle.std.proofs.Math.ListN.{drop_of_length-le}
 use Rattle.bist_text.specs.ReservedWords.{is_among, reserved_words}
-use Rattle.verilog_tree.specs.declared.tokens.Mark.{Mark}
 use Rattle.verilog_tree.specs.declared.tree.Arm.{Arm}
 use Rattle.verilog_tree.specs.declared.tree.Stmt.{Stmt}
-use Rattle.verilog_tree.specs.Grammar.{Limit, unlimited, then_all}
-use Rattle.verilog_tree.specs.Plain.{Expression, arms, ArmOf, NoArm, plain_stmt, plain_stmts, Then}
+use Rattle.verilog_tree.specs.Grammar.{then_all}
+use Rattle.verilog_tree.specs.Plain.{arms, ArmOf, NoArm, plain_stmt, plain_stmts, Then}
 use Rattle.verilog_tree.specs.inner.Plain.{plain_arm}
 use Rattle.verilog_tree.specs.Tokens.{Token, Identifier, Number, Based, Unused, Sign}
-use Rattle.verilog_read.specs.declared.places.Frame.{Frame}
 use Rattle.verilog_read.specs.declared.places.Holder.{Holder}
 use Rattle.verilog_read.specs.declared.words.Expected.{Expected}
 use Rattle.verilog_read.specs.inner.WordSets.{ExpectsBehind}
 use Rattle.verilog_read.specs.inner.Answers.{name_unless, a_name, found}
-use Rattle.verilog_read.specs.inner.Frames.{frame, stack, holder, holders}
-use Rattle.verilog_text.specs.Places.{Around, style_of, Alone, AsDriver, AsCondition, AsSubject, AsValue, based, Outside, State, more_arms}
-use Rattle.verilog_text.specs.Steps.{have_step, alone_step, unless, takes_name}
-use Rattle.verilog_text.specs.Expected.{is_step}
+use Rattle.verilog_read.specs.inner.Frames.{holder, holders}
+use Rattle.verilog_text.specs.Places.{Around, style_of, State, more_arms}
+use Rattle.verilog_text.specs.Steps.{unless, takes_name}
 use Rattle.verilog_read.specs.declared.places.Holder.TheVariants as H
-
-pub stack_push : (fs : List Frame) (f : Frame) (o : Outside) → stack (fs ++ f ∷ []) o ≡ frame f (stack fs o)
-stack_push [] f o = refl
-stack_push (g ∷ fs) f o = stack_push fs f (frame g o)
 
 pub holders_push : (hs : List Holder) (h : Holder) (a : Around) → holders (hs ++ h ∷ []) a ≡ holder h (holders hs a)
 holders_push [] h a = refl
@@ -46,16 +39,6 @@ style_held (H.Else r c s ∷ hs) a = style_held hs (holder (H.Else r c s) a)
 style_held (H.Labelled r x bs ls ∷ hs) a = style_held hs (holder (H.Labelled r x bs ls) a)
 style_held (H.Other r x bs ∷ hs) a = style_held hs (holder (H.Other r x bs) a)
 
--- behind an expression that stands in no other
-pub have_based : (l : Limit) (p : ℕ) (x : Expression) (b : Alone) (t : Token) → have_step l p x (based b) t ≡ alone_step p x b t
-have_based l p x (AsDriver h n) t = refl
-have_based l p x (AsCondition r q a) t = refl
-have_based l p x (AsSubject r q a) t = refl
-have_based l p x (AsValue n a) t = refl
-
-pub based_takes : (b : Alone) (m : Mark) (r : Bool) → ((p : ℕ) (x : Expression) → r ≡ is_step (alone_step p x b (Sign m))) → (p : ℕ) (x : Expression) → r ≡ is_step (have_step unlimited p x (based b) (Sign m))
-based_takes b m r h = λ p x. h p x ∙ ap is_step (sym (have_based unlimited p x b (Sign m)))
-
 found_is : (b : Bool) (n : List ℕ) (f : List ℕ → State) → unless b (f n) ≡ found (name_unless b n) f
 found_is true n f = refl
 found_is false n f = refl
@@ -76,15 +59,8 @@ last_split xs x h e =
     let ends : drop (suc (length xs - 1)) xs ≡ [] = drop_of_length-le xs {i = suc (length xs - 1)} (omega arith) in
     sym (take-append-drop (length xs - 1) xs) ∙ ap (λ r. take (length xs - 1) xs ++ r) (drop-cons xs (length xs - 1) x within ∙ ap (λ y. y ∷ drop (suc (length xs - 1)) xs) (sym e) ∙ ap (λ r. x ∷ r) ends)
 
-pub stack_last : (fs : List Frame) (f : Frame) (o : Outside) → 1 ≤ length fs → f ≡ get_or fs (length fs - 1) f → stack fs o ≡ frame f (stack (take (length fs - 1) fs) o)
-stack_last fs f o h e = ap (λ x. stack x o) (last_split fs f h e) ∙ stack_push (take (length fs - 1) fs) f o
-
 pub holders_last : (hs : List Holder) (x : Holder) (a : Around) → 1 ≤ length hs → x ≡ get_or hs (length hs - 1) x → holders hs a ≡ holder x (holders (take (length hs - 1) hs) a)
 holders_last hs x a h e = ap (λ y. holders y a) (last_split hs x h e) ∙ holders_push (take (length hs - 1) hs) x a
 
 pub expects_last : (e f : Expected) (a b : Around) → e ≡ f → a ≡ b → ExpectsBehind f b → ExpectsBehind e a
 expects_last e f a b p q x = subst (λ (y : Expected). ExpectsBehind y a) (sym p) (subst (λ (z : Around). ExpectsBehind f z) (sym q) x)
-
-pub empty_takes : (fs : List Frame) (b : Alone) (m : Mark) (r : Bool) → length fs < 1 → ((p : ℕ) (x : Expression) → r ≡ is_step (alone_step p x b (Sign m))) → (p : ℕ) (x : Expression) → r ≡ is_step (have_step unlimited p x (stack fs (based b)) (Sign m))
-empty_takes [] b m r h f = based_takes b m r f
-empty_takes (g ∷ fs) b m r h f = absurd (omega (arith, h))

@@ -20,12 +20,12 @@ told b = record { alternative = false; words = W.Nothing; names = b; literals = 
 expects_of : (s : FreeSpot) (c : Chain) (o : Q.Nest) → Expects (told (begins s)) (AtExpr (standing s c o))
 expects_of (S.Operand r) c o = record { reserved = refl; names = refl; literals = refl }
 expects_of (S.Prim r) c o = record { reserved = refl; names = refl; literals = refl }
-expects_of (S.Named r n) c o = record { reserved = refl; names = refl; literals = sym (have_literal r (P.Net n.bytes) (Linked c.operators (lefts_of c.lefts.items) c.mark o) (record { width = 1; value = 0 })) }
+expects_of (S.Named r n) c o = record { reserved = refl; names = refl; literals = sym (have_literal r (P.Net n.bytes) (Linked c.count (lefts_of c.lefts.items) c.mark o) (record { width = 1; value = 0 })) }
 expects_of (S.Bracket r n) c o = record { reserved = refl; names = refl; literals = refl }
 expects_of (S.HighRead r n h) c o = record { reserved = refl; names = refl; literals = refl }
 expects_of (S.ColonRead r n h) c o = record { reserved = refl; names = refl; literals = refl }
 expects_of (S.LowRead r n h l) c o = record { reserved = refl; names = refl; literals = refl }
-expects_of (S.Have r x) c o = record { reserved = refl; names = refl; literals = sym (have_literal r (P.plain x) (Linked c.operators (lefts_of c.lefts.items) c.mark o) (record { width = 1; value = 0 })) }
+expects_of (S.Have r x) c o = record { reserved = refl; names = refl; literals = sym (have_literal r (P.plain x) (Linked c.count (lefts_of c.lefts.items) c.mark o) (record { width = 1; value = 0 })) }
 
 pub free_expects : (e : Expected) (s : FreeSpot) (b : Bool) → e ≡ told b → b ≡ begins s → (c : Chain) (o : Q.Nest) → Expects e (AtExpr (standing s c o))
 free_expects e s b p q c o = subst (λ (y : Expected). Expects y (AtExpr (standing s c o))) (sym p) (subst (λ (t : Bool). Expects (told t) (AtExpr (standing s c o))) (sym q) (expects_of s c o))

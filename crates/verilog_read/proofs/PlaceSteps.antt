@@ -2,22 +2,16 @@
 use Rattle.std.proofs.Common.{◌≡◌, Result, subst, sym}
 use Rattle.verilog_tree.specs.Spells.{bounded}
 use Rattle.verilog_tree.specs.Tokens.{Token}
-use Rattle.verilog_text.specs.Places.{Around, Outside}
-use Rattle.verilog_text.specs.Steps.{step_stmt, step_expr}
+use Rattle.verilog_text.specs.Places.{Around}
+use Rattle.verilog_text.specs.Steps.{step_stmt}
 use Rattle.verilog_read.specs.declared.fault.ParseFault.{ParseFault}
 use Rattle.verilog_read.specs.declared.places.Outer.{Outer}
 use Rattle.verilog_read.specs.declared.places.Place.{Place}
-use Rattle.verilog_read.specs.declared.places.Spot.{Spot}
 use Rattle.verilog_read.specs.declared.places.StmtSpot.{StmtSpot}
-use Rattle.verilog_read.specs.inner.Spots.{spot, stmt_spot}
+use Rattle.verilog_read.specs.inner.Spots.{stmt_spot}
 use Rattle.verilog_read.specs.inner.Answers.{Goes}
 
 -- in a statement
 pub stmt_stepped : (p q : StmtSpot) (a : Around) (t : Token) (r : Result Place ParseFault) (w : Outer) → p ≡ q → Goes (step_stmt bounded (stmt_spot q a) t) r w
     → Goes (step_stmt bounded (stmt_spot p a) t) r w
 stmt_stepped p q a t r w is h = subst (λ x. Goes (step_stmt bounded (stmt_spot x a) t) r w) (sym is) h
-
--- in an expression
-pub expr_stepped : (p q : Spot) (o : Outside) (t : Token) (r : Result Place ParseFault) (w : Outer) → p ≡ q → Goes (step_expr bounded (spot q o) t) r w
-    → Goes (step_expr bounded (spot p o) t) r w
-expr_stepped p q o t r w is h = subst (λ x. Goes (step_expr bounded (spot x o) t) r w) (sym is) h

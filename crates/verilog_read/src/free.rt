@@ -36,17 +36,10 @@ fn in_operand(
     chain: Chain,
     token: &Lexeme,
 ) -> Result<Place, ParseFault>
-    ensures { Goes (operand_step bounded depth chain.operators (lefts_of chain.lefts.items) (nests_of outer.old.nests.items (alone_of outer.old)) (token_of token.now)) result outer.new }
+    ensures { Goes (operand_step bounded depth chain.count (lefts_of chain.lefts.items) (nests_of outer.old.nests.items (alone_of outer.old)) (token_of token.now)) result outer.new }
 {
-    let operators = chain.operators;
-    let next = operand(
-        alloc,
-        &mut outer.nests,
-        depth,
-        operators,
-        chain.lefts,
-        token,
-    );
+    let count = chain.count;
+    let next = operand(alloc, &mut outer.nests, depth, count, chain.lefts, token);
     entered(outer, next)
 }
 
@@ -58,7 +51,7 @@ fn in_prim(
     chain: Chain,
     token: &Lexeme,
 ) -> Result<Place, ParseFault>
-    ensures { Goes (prim_step bounded depth chain.operators (lefts_of chain.lefts.items) chain.mark (nests_of outer.old.nests.items (alone_of outer.old)) (token_of token.now)) result outer.new }
+    ensures { Goes (prim_step bounded depth chain.count (lefts_of chain.lefts.items) chain.mark (nests_of outer.old.nests.items (alone_of outer.old)) (token_of token.now)) result outer.new }
 {
     let next = prim(alloc, &mut outer.nests, depth, chain, token);
     entered(outer, next)
@@ -73,7 +66,7 @@ fn have_free(
     chain: Chain,
     token: &Lexeme,
 ) -> Result<Place, ParseFault>
-    ensures { Goes (have_step bounded depth (plain x) (Linked chain.operators (lefts_of chain.lefts.items) chain.mark (nests_of outer.old.nests.items (alone_of outer.old))) (token_of token.now)) result outer.new }
+    ensures { Goes (have_step bounded depth (plain x) (Linked chain.count (lefts_of chain.lefts.items) chain.mark (nests_of outer.old.nests.items (alone_of outer.old))) (token_of token.now)) result outer.new }
 {
     match have(alloc, &mut outer.nests, depth, x, chain, token) {
         Ok(Closed::Inner(place)) => Ok(Place::InFree(place)),

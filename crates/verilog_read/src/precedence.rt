@@ -2,15 +2,15 @@
 ghost use Rattle.std.specs.Prelude.{◌≡◌, ℕ, ◌+◌, ◌<◌, length, Some, IfSome, IfOk, IfErr, OnOk, [], ◌∷◌, map};
 ghost use Rattle.verilog_tree.specs.Plain.{plain, Literal, expressions, Followed, NoMore};
 ghost use Rattle.verilog_tree.specs.Free.{signed};
-ghost use Rattle.verilog_text.specs.Flat.{settle_all, linked};
+ghost use Rattle.verilog_text.specs.Flat.{one_more, in_parens, in_braces, behind, settle_all, linked};
 ghost use Rattle.verilog_tree.specs.Spells.{bounded};
 ghost use Rattle.verilog_tree.specs.Grammar.{deeper};
 ghost use Rattle.verilog_tree.specs.Tokens.{Token, Sign};
 ghost use Rattle.verilog_text.specs.Places as Q;
 ghost use Rattle.verilog_text.specs.Places.{InRound, IfTrue, Alone, AtExpr, WantOperand, WantPrim, Named, Have, Linked, more_parts};
-ghost use Rattle.verilog_text.specs.Steps.{unary_of, infix_of, one_more, prim_step, operand_step, close_step, have_step};
+ghost use Rattle.verilog_text.specs.Steps.{in_room, unary_of, infix_of, prim_step, operand_step, close_step, have_step};
 ghost use Rattle.verilog_read.specs.inner.Waiting.{lefts_of};
-ghost use Rattle.verilog_read.specs.inner.Holding.{token_of, nest, nests_of, counted, is_expected, IsList, FreeSteps, Closes, PoppedNest};
+ghost use Rattle.verilog_read.specs.inner.Holding.{token_of, nest, nests_of, is_expected, IsList, FreeSteps, Closes, PoppedNest};
 
 use crate::fault::ParseFault;
 use crate::lexemes::Lexeme;
@@ -19,13 +19,14 @@ use crate::trees::{conditional, prefixed};
 use bist_bits::Bits;
 use bist_text::is_reserved;
 use std::alloc::Global;
+use verilog_text::Count;
 use verilog_tree::{BinOp, Expr, Mark, Name, UnOp};
 
-/// The operands that are read one behind another: how many operators the whole expression has so far, those that wait
-/// for an operand, and the mark before the operand that is read.
+/// The operands that are read one behind another: how many operators are counted so far, those that wait for an operand,
+/// and the mark before the operand that is read.
 #[derive(Drop)]
 pub struct Chain {
-    pub operators: u16,
+    pub count: Count,
     pub lefts: Vec<Left>,
     pub mark: Option<UnOp>,
 }
@@ -33,8 +34,8 @@ pub struct Chain {
 /// What such operands stand in.
 #[derive(Drop)]
 pub enum Nest {
-    Round(u8, Vec<Left>, Option<UnOp>),
-    List(u8, Vec<Expr>, Vec<Left>, Option<UnOp>),
+    Round(u8, Count, Vec<Left>, Option<UnOp>),
+    List(u8, Vec<Expr>, Count, Vec<Left>, Option<UnOp>),
     IfTrue(Expr),
     IfFalse(Expr, Expr),
 }
@@ -108,13 +109,49 @@ pub(crate) fn deeper(depth: u8) -> Option<u8>
 }
 
 /// One operator more, where one more may be.
-fn counted(operators: u16) -> Option<u16>
-    ensures { result ≡ counted operators }
+fn one_more(count: Count) -> Option<Count>
+    ensures { result ≡ one_more bounded count }
 {
-    if operators < 256 {
-        Some(operators + 1)
-    } else {
-        None
+    match count {
+        Count::Together(operators) => {
+            if operators < 256 {
+                Some(Count::Together(operators + 1))
+            } else {
+                None
+            }
+        }
+        Count::Apart(true) => Some(Count::Apart(false)),
+        Count::Apart(false) => None,
+    }
+}
+
+/// Inside of a parenthesis.
+fn in_parens(count: Count) -> Count
+    ensures { result ≡ in_parens count }
+{
+    match count {
+        Count::Together(operators) => Count::Together(operators),
+        Count::Apart(_) => Count::Apart(true),
+    }
+}
+
+/// Inside of braces.
+fn in_braces(count: Count) -> Count
+    ensures { result ≡ in_braces count }
+{
+    match count {
+        Count::Together(operators) => Count::Together(operators),
+        Count::Apart(_) => Count::Apart(false),
+    }
+}
+
+/// Behind either, by what was counted before it and inside.
+fn behind(before: Count, inside: Count) -> Count
+    ensures { result ≡ behind before inside }
+{
+    match before {
+        Count::Together(_) => inside,
+        Count::Apart(may) => Count::Apart(may),
     }
 }
 
@@ -162,15 +199,15 @@ fn begun(
     nests: &mut Vec<Nest>,
     outer: Nest,
     depth: u8,
-    operators: u16,
+    count: Count,
 ) -> Result<FreePlace, ParseFault>
-    ensures { (b : Alone) → FreeSteps (Some (AtExpr (WantOperand depth operators [] (nest outer (nests_of nests.old.items b))))) result (nests_of nests.new.items b) }
+    ensures { (b : Alone) → FreeSteps (Some (AtExpr (WantOperand depth count [] (nest outer (nests_of nests.old.items b))))) result (nests_of nests.new.items b) }
 {
     push(nests, outer)?;
     Ok(FreePlace {
         spot: FreeSpot::Operand(depth),
         chain: Chain {
-            operators,
+            count,
             lefts: Vec::new(alloc),
             mark: None,
         },
@@ -183,15 +220,15 @@ fn opened_round(
     depth: u8,
     chain: Chain,
 ) -> Result<FreePlace, ParseFault>
-    ensures { (b : Alone) → FreeSteps (prim_step bounded depth chain.operators (lefts_of chain.lefts.items) chain.mark (nests_of nests.old.items b) (Sign Mark.Open)) result (nests_of nests.new.items b) }
+    ensures { (b : Alone) → FreeSteps (prim_step bounded depth chain.count (lefts_of chain.lefts.items) chain.mark (nests_of nests.old.items b) (Sign Mark.Open)) result (nests_of nests.new.items b) }
 {
     match deeper(depth) {
         Some(inner) => begun(
             alloc,
             nests,
-            Nest::Round(depth, chain.lefts, chain.mark),
+            Nest::Round(depth, chain.count, chain.lefts, chain.mark),
             inner,
-            chain.operators,
+            in_parens(chain.count),
         ),
         None => Err(ParseFault::Unexpected),
     }
@@ -205,7 +242,7 @@ pub(crate) fn prim(
     chain: Chain,
     token: &Lexeme,
 ) -> Result<FreePlace, ParseFault>
-    ensures { (b : Alone) → FreeSteps (prim_step bounded depth chain.operators (lefts_of chain.lefts.items) chain.mark (nests_of nests.old.items b) (token_of token.now)) result (nests_of nests.new.items b) }
+    ensures { (b : Alone) → FreeSteps (prim_step bounded depth chain.count (lefts_of chain.lefts.items) chain.mark (nests_of nests.old.items b) (token_of token.now)) result (nests_of nests.new.items b) }
 {
     match token {
         Lexeme::Word(name) => {
@@ -225,8 +262,14 @@ pub(crate) fn prim(
         Lexeme::Sign(Mark::Open) => opened_round(alloc, nests, depth, chain),
         Lexeme::Sign(Mark::OpenBrace) => match deeper(depth) {
             Some(inner) => {
-                let outer = Nest::List(depth, Vec::new(alloc), chain.lefts, chain.mark);
-                begun(alloc, nests, outer, inner, chain.operators)
+                let outer = Nest::List(
+                    depth,
+                    Vec::new(alloc),
+                    chain.count,
+                    chain.lefts,
+                    chain.mark,
+                );
+                begun(alloc, nests, outer, inner, in_braces(chain.count))
             }
             None => Err(ParseFault::Unexpected),
         },
@@ -239,19 +282,19 @@ pub(crate) fn operand(
     alloc: Global,
     nests: &mut Vec<Nest>,
     depth: u8,
-    operators: u16,
+    count: Count,
     lefts: Vec<Left>,
     token: &Lexeme,
 ) -> Result<FreePlace, ParseFault>
-    ensures { (b : Alone) → FreeSteps (operand_step bounded depth operators (lefts_of lefts.items) (nests_of nests.old.items b) (token_of token.now)) result (nests_of nests.new.items b) }
+    ensures { (b : Alone) → FreeSteps (operand_step bounded depth count (lefts_of lefts.items) (nests_of nests.old.items b) (token_of token.now)) result (nests_of nests.new.items b) }
 {
     if let Lexeme::Sign(mark) = token {
         if let Some(op) = unary_of(*mark) {
-            return match counted(operators) {
+            return match one_more(count) {
                 Some(more) => Ok(FreePlace {
                     spot: FreeSpot::Prim(depth),
                     chain: Chain {
-                        operators: more,
+                        count: more,
                         lefts,
                         mark: Some(op),
                     },
@@ -265,7 +308,7 @@ pub(crate) fn operand(
         nests,
         depth,
         Chain {
-            operators,
+            count,
             lefts,
             mark: None,
         },
@@ -288,13 +331,14 @@ pub(crate) fn is_mark(mark: Mark, token: &Lexeme) -> bool
 #[tactic(auto, using(crate::proofs::HoldingLemmas::expects_is))]
 fn in_round(
     depth: u8,
-    operators: u16,
+    before: Count,
+    inside: Count,
     lefts: Vec<Left>,
     mark: Option<UnOp>,
     x: Expr,
     token: &Lexeme,
 ) -> Result<Closed, ParseFault>
-    ensures { (p : ℕ) (b : Alone) (o : Q.Nest) → Closes (close_step p operators (plain x) (InRound depth (lefts_of lefts.items) mark o) (token_of token.now)) result p b o (token_of token.now) }
+    ensures { (p : ℕ) (b : Alone) (o : Q.Nest) → Closes (close_step p inside (plain x) (InRound depth before (lefts_of lefts.items) mark o) (token_of token.now)) result p b o (token_of token.now) }
 {
     if !is_mark(Mark::Close, token) {
         return Err(ParseFault::Unexpected);
@@ -302,7 +346,7 @@ fn in_round(
     Ok(Closed::Inner(FreePlace {
         spot: FreeSpot::Have(depth, x),
         chain: Chain {
-            operators,
+            count: behind(before, inside),
             lefts,
             mark,
         },
@@ -315,27 +359,27 @@ fn in_list(
     nests: &mut Vec<Nest>,
     inner: u8,
     outer: Nest,
-    operators: u16,
+    count: Count,
     x: Expr,
     token: &Lexeme,
 ) -> Result<Closed, ParseFault>
-    ensures { (b : Alone) → IsList outer → Closes (close_step inner operators (plain x) (nest outer (nests_of nests.old.items b)) (token_of token.now)) result inner b (nests_of nests.new.items b) (token_of token.now) }
+    ensures { (b : Alone) → IsList outer → Closes (close_step inner count (plain x) (nest outer (nests_of nests.old.items b)) (token_of token.now)) result inner b (nests_of nests.new.items b) (token_of token.now) }
 {
-    let Nest::List(depth, parts, lefts, mark) = outer else {
+    let Nest::List(depth, parts, before, lefts, mark) = outer else {
         return Err(ParseFault::Unexpected);
     };
     match token {
         Lexeme::Sign(Mark::Comma) => {
             let parts = with_part(parts, x)?;
-            let outer = Nest::List(depth, parts, lefts, mark);
-            Ok(Closed::Inner(begun(alloc, nests, outer, inner, operators)?))
+            let outer = Nest::List(depth, parts, before, lefts, mark);
+            Ok(Closed::Inner(begun(alloc, nests, outer, inner, count)?))
         }
         Lexeme::Sign(Mark::CloseBrace) => {
             let parts = with_part(parts, x)?;
             Ok(Closed::Inner(FreePlace {
                 spot: FreeSpot::Have(depth, Expr::Concat(parts)),
                 chain: Chain {
-                    operators,
+                    count: behind(before, count),
                     lefts,
                     mark,
                 },
@@ -351,17 +395,17 @@ fn in_choice(
     alloc: Global,
     nests: &mut Vec<Nest>,
     depth: u8,
-    operators: u16,
+    count: Count,
     c: Expr,
     x: Expr,
     token: &Lexeme,
 ) -> Result<Closed, ParseFault>
-    ensures { (b : Alone) → Closes (close_step depth operators (plain x) (IfTrue (plain c) (nests_of nests.old.items b)) (token_of token.now)) result depth b (nests_of nests.new.items b) (token_of token.now) }
+    ensures { (b : Alone) → Closes (close_step depth count (plain x) (IfTrue (plain c) (nests_of nests.old.items b)) (token_of token.now)) result depth b (nests_of nests.new.items b) (token_of token.now) }
 {
     if !is_mark(Mark::Colon, token) {
         return Err(ParseFault::Unexpected);
     }
-    Ok(Closed::Inner(begun(alloc, nests, Nest::IfFalse(c, x), depth, operators)?))
+    Ok(Closed::Inner(begun(alloc, nests, Nest::IfFalse(c, x), depth, count)?))
 }
 
 /// What a token does behind a whole expression: each choice whose last part it was ends with it.
@@ -369,25 +413,25 @@ fn close(
     alloc: Global,
     nests: &mut Vec<Nest>,
     depth: u8,
-    operators: u16,
+    count: Count,
     x: Expr,
     token: &Lexeme,
 ) -> Result<Closed, ParseFault>
-    ensures { (b : Alone) → Closes (close_step depth operators (plain x) (nests_of nests.old.items b) (token_of token.now)) result depth b (nests_of nests.new.items b) (token_of token.now) }
+    ensures { (b : Alone) → Closes (close_step depth count (plain x) (nests_of nests.old.items b) (token_of token.now)) result depth b (nests_of nests.new.items b) (token_of token.now) }
 {
     let mut last = x;
     while let Some(inner) = pop(nests) {
         match inner {
             Nest::IfFalse(c, yes) => last = conditional(alloc, c, yes, last)?,
-            Nest::Round(r, lefts, mark) => {
-                return in_round(r, operators, lefts, mark, last, token);
+            Nest::Round(r, before, lefts, mark) => {
+                return in_round(r, before, count, lefts, mark, last, token);
             }
-            Nest::List(r, parts, lefts, mark) => {
-                let outer = Nest::List(r, parts, lefts, mark);
-                return in_list(alloc, nests, depth, outer, operators, last, token);
+            Nest::List(r, parts, before, lefts, mark) => {
+                let outer = Nest::List(r, parts, before, lefts, mark);
+                return in_list(alloc, nests, depth, outer, count, last, token);
             }
             Nest::IfTrue(c) => {
-                return in_choice(alloc, nests, depth, operators, c, last, token);
+                return in_choice(alloc, nests, depth, count, c, last, token);
             }
         }
     }
@@ -398,21 +442,21 @@ fn close(
 fn joined_by(
     alloc: Global,
     depth: u8,
-    operators: u16,
+    count: Count,
     op: BinOp,
     lefts: Vec<Left>,
     x: Expr,
 ) -> Result<Closed, ParseFault>
-    ensures { (b : Alone) (o : Q.Nest) (t : Token) → Closes (one_more bounded operators (λ j. WantOperand depth j (linked op (lefts_of lefts.items) (plain x)) o)) result depth b o t }
+    ensures { (b : Alone) (o : Q.Nest) (t : Token) → Closes (in_room (one_more bounded count) (λ j. AtExpr (WantOperand depth j (linked op (lefts_of lefts.items) (plain x)) o))) result depth b o t }
 {
-    match counted(operators) {
+    match one_more(count) {
         Some(more) => {
             let mut lefts = lefts;
             link(alloc, op, &mut lefts, x)?;
             Ok(Closed::Inner(FreePlace {
                 spot: FreeSpot::Operand(depth),
                 chain: Chain {
-                    operators: more,
+                    count: more,
                     lefts,
                     mark: None,
                 },
@@ -427,13 +471,13 @@ fn asked(
     alloc: Global,
     nests: &mut Vec<Nest>,
     depth: u8,
-    operators: u16,
+    count: Count,
     lefts: Vec<Left>,
     x: Expr,
 ) -> Result<FreePlace, ParseFault>
-    ensures { (b : Alone) → FreeSteps (one_more bounded operators (λ j. WantOperand depth j [] (IfTrue (settle_all (lefts_of lefts.items) (plain x)) (nests_of nests.old.items b)))) result (nests_of nests.new.items b) }
+    ensures { (b : Alone) → FreeSteps (in_room (one_more bounded count) (λ j. AtExpr (WantOperand depth j [] (IfTrue (settle_all (lefts_of lefts.items) (plain x)) (nests_of nests.old.items b))))) result (nests_of nests.new.items b) }
 {
-    match counted(operators) {
+    match one_more(count) {
         Some(more) => {
             let mut lefts = lefts;
             let c = settle_all(alloc, &mut lefts, x)?;
@@ -453,19 +497,19 @@ pub(crate) fn have(
     chain: Chain,
     token: &Lexeme,
 ) -> Result<Closed, ParseFault>
-    ensures { (b : Alone) → Closes (have_step bounded depth (plain x) (Linked chain.operators (lefts_of chain.lefts.items) chain.mark (nests_of nests.old.items b)) (token_of token.now)) result depth b (nests_of nests.new.items b) (token_of token.now) }
+    ensures { (b : Alone) → Closes (have_step bounded depth (plain x) (Linked chain.count (lefts_of chain.lefts.items) chain.mark (nests_of nests.old.items b)) (token_of token.now)) result depth b (nests_of nests.new.items b) (token_of token.now) }
 {
-    let operators = chain.operators;
+    let count = chain.count;
     let x = signed(alloc, chain.mark, x)?;
     if let Lexeme::Sign(mark) = token {
         if let Some(op) = infix_of(*mark) {
-            return joined_by(alloc, depth, operators, op, chain.lefts, x);
+            return joined_by(alloc, depth, count, op, chain.lefts, x);
         }
         if *mark == Mark::Question {
-            return Ok(Closed::Inner(asked(alloc, nests, depth, operators, chain.lefts, x)?));
+            return Ok(Closed::Inner(asked(alloc, nests, depth, count, chain.lefts, x)?));
         }
     }
     let mut lefts = chain.lefts;
     let whole = settle_all(alloc, &mut lefts, x)?;
-    close(alloc, nests, depth, operators, whole, token)
+    close(alloc, nests, depth, count, whole, token)
 }

@@ -3,33 +3,19 @@ ghost use Rattle.std.specs.Prelude.{◌≡◌, ◌<◌, length, IfSome, Some, On
 ghost use Rattle.verilog_tree.specs.Plain.{plain_item};
 ghost use Rattle.verilog_text.specs.Places.{AtExpr, with_item, style_of, begin_expr};
 ghost use Rattle.verilog_text.specs.Steps.{is_word};
+ghost use Rattle.verilog_text.specs.Flat.{none_yet};
 ghost use Rattle.verilog_read.specs.inner.Holding.{token_of};
-ghost use Rattle.verilog_read.specs.inner.Frames.{styled, frame, holder, alone, base_of, outside_of, around_of, head_of};
+ghost use Rattle.verilog_read.specs.inner.Frames.{styled, holder, alone, around_of, head_of};
 ghost use Rattle.verilog_read.specs.inner.Spots.{state_of};
-ghost use Rattle.verilog_read.specs.inner.Answers.{Popped, Released};
+ghost use Rattle.verilog_read.specs.inner.Answers.{Released};
 
 use crate::fault::ParseFault;
 use crate::lexemes::Lexeme;
-use crate::places::{Base, Frame, Holder, Outer, Place, Spot, Style};
+use crate::places::{Base, Holder, Outer, Place, Style};
 use crate::precedence::{Chain, FreePlace, FreeSpot};
 use std::alloc::Global;
+use verilog_text::Count;
 use verilog_tree::Item;
-
-#[tactic(auto, using(crate::proofs::FrameLemmas::stack_push))]
-pub(crate) fn push(outer: &mut Outer, f: Frame) -> Result<(), ParseFault>
-    ensures pushed { OnOk result (outside_of outer.new ≡ frame f (outside_of outer.old)) }
-    ensures fault { IfErr result (λ e. e ≡ ParseFault.NoMemory) }
-{
-    outer.frames.push(f)?;
-    Ok(())
-}
-
-#[tactic(auto, using(crate::proofs::FrameLemmas::stack_push))]
-pub(crate) fn pop(outer: &mut Outer) -> Option<Frame>
-    ensures { Popped (outside_of outer.old) result (outside_of outer.new) (base_of outer.new) }
-{
-    outer.frames.pop()
-}
 
 #[tactic(auto, using(crate::proofs::FrameLemmas::holders_push))]
 pub(crate) fn hold(outer: &mut Outer, h: Holder) -> Result<(), ParseFault>
@@ -48,6 +34,16 @@ pub(crate) fn release(outer: &mut Outer) -> Option<Holder>
     outer.holders.pop()
 }
 
+/// No operator is read yet.
+fn none_yet(style: Style) -> Count
+    ensures { result ≡ none_yet (styled style) }
+{
+    match style {
+        Style::Parenthesised => Count::Apart(false),
+        Style::ByPrecedence => Count::Together(0),
+    }
+}
+
 /// An expression begins, which stands in no other.
 #[tactic(auto, using(crate::proofs::FrameLemmas::style_held))]
 pub(crate) fn begin(alloc: Global, outer: &mut Outer, whole: Base, depth: u8) -> Place
@@ -55,23 +51,15 @@ pub(crate) fn begin(alloc: Global, outer: &mut Outer, whole: Base, depth: u8) ->
     ensures same { style_of (around_of outer.old) ≡ styled outer.old.style }
 {
     outer.base = whole;
-    match outer.style {
-        Style::Parenthesised => {
-            outer.frames.clear();
-            Place::InExpr(Spot::Want(depth))
-        }
-        Style::ByPrecedence => {
-            outer.nests.clear();
-            Place::InFree(FreePlace {
-                spot: FreeSpot::Operand(depth),
-                chain: Chain {
-                    operators: 0,
-                    lefts: Vec::new(alloc),
-                    mark: None,
-                },
-            })
-        }
-    }
+    outer.nests.clear();
+    Place::InFree(FreePlace {
+        spot: FreeSpot::Operand(depth),
+        chain: Chain {
+            count: none_yet(outer.style),
+            lefts: Vec::new(alloc),
+            mark: None,
+        },
+    })
 }
 
 pub(crate) fn add_item(outer: &mut Outer, item: Item) -> Result<(), ParseFault>

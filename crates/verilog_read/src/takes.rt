@@ -2,77 +2,34 @@
 ghost use Rattle.std.specs.Prelude.{◌≡◌, ℕ, false};
 ghost use Rattle.verilog_tree.specs.Plain.{Expression};
 ghost use Rattle.verilog_tree.specs.Tokens.{Number, Sign};
-ghost use Rattle.verilog_tree.specs.Grammar.{unlimited, is_sign};
+ghost use Rattle.verilog_tree.specs.Grammar.{is_sign};
 ghost use Rattle.verilog_text.specs.Places as Q;
-ghost use Rattle.verilog_read.specs.inner.Ends.{ends_choice, closes, links, goes_on};
+ghost use Rattle.verilog_read.specs.inner.Ends.{ends_choice, closes, links, goes_on, may, prefixes, opens, starts};
 ghost use Rattle.verilog_read.specs.inner.Holding.{token_of, nest, standing, nests_of};
 ghost use Rattle.verilog_read.specs.declared.precedence.Chain.{Chain};
 ghost use Rattle.verilog_text.specs.Expected.{is_step, taken, live, longer_marks, some_taken};
 ghost use Rattle.verilog_read.specs.inner.Lexemes.{lexer_of};
-ghost use Rattle.verilog_read.specs.inner.Frames.{frame, alone_of, outside_of, around_of};
-ghost use Rattle.verilog_text.specs.Places.{Outside, AtExpr, AtStmt, AtItem};
-ghost use Rattle.verilog_read.specs.inner.Spots.{spot, stmt_spot, item_spot, state_of};
-ghost use Rattle.verilog_text.specs.Steps.{alone_step, have_step};
+ghost use Rattle.verilog_read.specs.inner.Frames.{alone_of, around_of};
+ghost use Rattle.verilog_text.specs.Places.{AtExpr, AtStmt, AtItem};
+ghost use Rattle.verilog_read.specs.inner.Spots.{stmt_spot, item_spot, state_of};
+ghost use Rattle.verilog_text.specs.Steps.{alone_step};
 
 use crate::lexemes::Lexeme;
 use crate::lexer::Scanner;
-use crate::places::{Base, Frame, ItemSpot, Outer, Place, Spot, StmtSpot, Use};
+use crate::places::{Base, ItemSpot, Outer, Place, StmtSpot, Use};
 use crate::precedence::{FreePlace, FreeSpot, Nest};
 use crate::words::expected_at;
 use bist_text::is_reserved;
+use verilog_text::Count;
 use verilog_tree::Mark;
 
-/// Whether a mark may come behind a whole expression that stands in this.
-fn frame_takes(inner: &Frame, mark: Mark) -> bool
-    ensures { (p : ℕ) (x : Expression) (o : Outside) → result ≡ is_step (have_step unlimited p x (frame inner.now o) (Sign mark)) }
-{
-    match inner {
-        Frame::Braces(_, _) => matches!(mark, Mark::Comma | Mark::CloseBrace),
-        Frame::Paren(_) => matches!(
-            mark,
-            Mark::Close
-                | Mark::Question
-                | Mark::Plus
-                | Mark::Minus
-                | Mark::Ampersand
-                | Mark::Bar
-                | Mark::Caret
-                | Mark::TwoEquals
-                | Mark::BangEquals
-                | Mark::Less
-                | Mark::LessEquals
-                | Mark::Greater
-                | Mark::GreaterEquals
-                | Mark::TwoAmpersands
-                | Mark::TwoBars
-                | Mark::TwoLess
-                | Mark::TwoGreater
-        ),
-        Frame::Prefix(_, _) | Frame::Right(_, _, _) | Frame::No(_, _, _) => {
-            matches!(mark, Mark::Close)
-        }
-        Frame::Yes(_, _) => matches!(mark, Mark::Colon),
-    }
-}
-
-/// The same where it stands in no frame.
+/// Whether a mark may come behind an expression that stands in no other.
 fn base_takes(outer: &Outer, mark: Mark) -> bool
     ensures { (p : ℕ) (x : Expression) → result ≡ is_step (alone_step p x (alone_of outer.now) (Sign mark)) }
 {
     match &outer.base {
         Base::Drive(_) | Base::Set(_) => matches!(mark, Mark::Semicolon),
         Base::Test(_, _) | Base::Pick(_, _) => matches!(mark, Mark::Close),
-    }
-}
-
-/// Whether a mark may come behind a whole expression.
-#[tactic(auto, using(crate::proofs::FrameLemmas::based_takes))]
-fn have_takes(outer: &Outer, mark: Mark) -> bool
-    ensures { (p : ℕ) (x : Expression) → result ≡ is_step (have_step unlimited p x (outside_of outer.now) (Sign mark)) }
-{
-    match outer.frames.as_slice() {
-        [] => base_takes(outer, mark),
-        [.., innermost] => frame_takes(innermost, mark),
     }
 }
 
@@ -88,8 +45,8 @@ fn nest_takes(inner: &Nest, mark: Mark) -> bool
     ensures { (o : Q.Nest) → ends_choice inner.now ≡ false → result ≡ closes (nest inner.now o) mark }
 {
     match inner {
-        Nest::Round(_, _, _) => matches!(mark, Mark::Close),
-        Nest::List(_, _, _, _) => matches!(mark, Mark::Comma | Mark::CloseBrace),
+        Nest::Round(_, _, _, _) => matches!(mark, Mark::Close),
+        Nest::List(_, _, _, _, _) => matches!(mark, Mark::Comma | Mark::CloseBrace),
         Nest::IfTrue(_) => matches!(mark, Mark::Colon),
         Nest::IfFalse(_, _) => false,
     }
@@ -135,11 +92,52 @@ fn links(mark: Mark) -> bool
     )
 }
 
-/// Whether a mark may come behind an operand.
-fn operand_takes(outer: &Outer, mark: Mark) -> bool
-    ensures { result ≡ goes_on (nests_of outer.now.nests.items (alone_of outer.now)) mark }
+/// Whether one operator more may be, if there were no limit.
+fn may_link(count: Count) -> bool
+    ensures { result ≡ may count }
 {
-    links(mark) || nests_take(outer.nests.as_slice(), outer, mark)
+    match count {
+        Count::Together(_) => true,
+        Count::Apart(may) => may,
+    }
+}
+
+/// Whether a mark may come behind an operand.
+fn operand_takes(count: Count, outer: &Outer, mark: Mark) -> bool
+    ensures { result ≡ goes_on count (nests_of outer.now.nests.items (alone_of outer.now)) mark }
+{
+    if links(mark) {
+        may_link(count)
+    } else {
+        nests_take(outer.nests.as_slice(), outer, mark)
+    }
+}
+
+/// Whether a mark may stand before an operand.
+fn prefixes(mark: Mark) -> bool
+    ensures { result ≡ prefixes mark }
+{
+    matches!(
+        mark,
+        Mark::Bang | Mark::Tilde | Mark::Ampersand | Mark::Bar | Mark::Caret
+    )
+}
+
+/// Whether an operand may begin with a mark.
+fn opens(mark: Mark) -> bool
+    ensures { result ≡ opens mark }
+{
+    matches!(mark, Mark::Open | Mark::OpenBrace)
+}
+
+fn starts(count: Count, mark: Mark) -> bool
+    ensures { result ≡ starts count mark }
+{
+    if prefixes(mark) {
+        may_link(count)
+    } else {
+        opens(mark)
+    }
 }
 
 fn opens_select(mark: Mark) -> bool
@@ -148,50 +146,18 @@ fn opens_select(mark: Mark) -> bool
     matches!(mark, Mark::OpenBracket)
 }
 
-#[tactic(auto, using(crate::proofs::Ends::named_takes, crate::proofs::Ends::linked_takes))]
-fn free_takes(place: &FreeSpot, outer: &Outer, mark: Mark) -> bool
-    ensures { (c : Chain) → result ≡ taken (AtExpr (standing place.now c (nests_of outer.now.nests.items (alone_of outer.now)))) (Sign mark) }
+#[tactic(auto, using(crate::proofs::Ends::named_takes, crate::proofs::Ends::linked_takes, crate::proofs::Ends::operand_is, crate::proofs::Ends::prim_is))]
+fn free_takes(place: &FreeSpot, count: Count, outer: &Outer, mark: Mark) -> bool
+    ensures { (c : Chain) → c.count ≡ count → result ≡ taken (AtExpr (standing place.now c (nests_of outer.now.nests.items (alone_of outer.now)))) (Sign mark) }
 {
     match place {
-        FreeSpot::Operand(_) => matches!(
-            mark,
-            Mark::Open
-                | Mark::OpenBrace
-                | Mark::Bang
-                | Mark::Tilde
-                | Mark::Ampersand
-                | Mark::Bar
-                | Mark::Caret
-        ),
-        FreeSpot::Prim(_) => matches!(mark, Mark::Open | Mark::OpenBrace),
-        FreeSpot::Named(_, _) => opens_select(mark) || operand_takes(outer, mark),
+        FreeSpot::Operand(_) => starts(count, mark),
+        FreeSpot::Prim(_) => opens(mark),
+        FreeSpot::Named(_, _) => opens_select(mark) || operand_takes(count, outer, mark),
         FreeSpot::Bracket(_, _) | FreeSpot::ColonRead(_, _, _) => false,
         FreeSpot::HighRead(_, _, _) => matches!(mark, Mark::CloseBracket | Mark::Colon),
         FreeSpot::LowRead(_, _, _, _) => matches!(mark, Mark::CloseBracket),
-        FreeSpot::Have(_, _) => operand_takes(outer, mark),
-    }
-}
-
-fn expr_takes(place: &Spot, outer: &Outer, mark: Mark) -> bool
-    ensures { result ≡ taken (AtExpr (spot place.now (outside_of outer.now))) (Sign mark) }
-{
-    match place {
-        Spot::Want(_) => matches!(mark, Mark::Open | Mark::OpenBrace),
-        Spot::Inside(_, _) => matches!(
-            mark,
-            Mark::Open
-                | Mark::OpenBrace
-                | Mark::Bang
-                | Mark::Tilde
-                | Mark::Ampersand
-                | Mark::Bar
-                | Mark::Caret
-        ),
-        Spot::Named(_, _) => matches!(mark, Mark::OpenBracket) || have_takes(outer, mark),
-        Spot::Bracket(_, _) | Spot::ColonRead(_, _, _) => false,
-        Spot::HighRead(_, _, _) => matches!(mark, Mark::CloseBracket | Mark::Colon),
-        Spot::LowRead(_, _, _, _) => matches!(mark, Mark::CloseBracket),
-        Spot::Have(_, _) => have_takes(outer, mark),
+        FreeSpot::Have(_, _) => operand_takes(count, outer, mark),
     }
 }
 
@@ -232,8 +198,7 @@ fn takes_mark(place: &Place, outer: &Outer, mark: Mark) -> bool
     ensures { result ≡ taken (state_of place.now outer.now) (Sign mark) }
 {
     match place {
-        Place::InExpr(spot) => expr_takes(spot, outer, mark),
-        Place::InFree(free) => free_takes(&free.spot, outer, mark),
+        Place::InFree(free) => free_takes(&free.spot, free.chain.count, outer, mark),
         Place::InStmt(spot) => stmt_takes(spot, outer, mark),
         Place::InItem(spot) => item_takes(spot, outer, mark),
     }
@@ -245,7 +210,6 @@ pub(crate) fn takes_number(place: &Place, outer: &Outer, long: bool, value: u8) 
     ensures { result ≡ taken (state_of place.now outer.now) (Number long value) }
 {
     match place {
-        Place::InExpr(Spot::Bracket(_, _) | Spot::ColonRead(_, _, _)) => true,
         Place::InFree(
             FreePlace {
                 spot: FreeSpot::Bracket(_, _) | FreeSpot::ColonRead(_, _, _),

@@ -3,14 +3,14 @@ ghost use Rattle.std.specs.Prelude.{◌≡◌, ℕ, List, false, map};
 ghost use Rattle.bist_text.specs.ReservedWords.{is_among};
 ghost use Rattle.verilog_text.specs.Expected.{some_begins};
 ghost use Rattle.verilog_text.specs.Places.{Nest, Head, InAlways, AtExpr, AtStmt, AtItem};
-ghost use Rattle.verilog_read.specs.inner.Frames.{holders, outside_of, around_of};
-ghost use Rattle.verilog_read.specs.inner.Spots.{spot, stmt_spot, item_spot, state_of};
+ghost use Rattle.verilog_read.specs.inner.Frames.{holders, around_of};
+ghost use Rattle.verilog_read.specs.inner.Spots.{stmt_spot, item_spot, state_of};
 ghost use Rattle.verilog_read.specs.inner.Holding.{standing};
 ghost use Rattle.verilog_read.specs.declared.precedence.Chain.{Chain};
 ghost use Rattle.verilog_read.specs.inner.WordSets.{words_of, Expects, ExpectsBehind};
 ghost use Rattle.verilog_read.specs.inner.Ends.{begins};
 
-use crate::places::{Holder, ItemSpot, Outer, Place, Spot, StmtSpot};
+use crate::places::{Holder, ItemSpot, Outer, Place, StmtSpot};
 use crate::precedence::FreeSpot;
 
 /// Reserved words that may come at one place.
@@ -137,16 +137,6 @@ fn expected_behind(waiting: &[Holder]) -> Expected
     }
 }
 
-#[tactic(auto, using(verilog_text::proofs::Expectations::have_literal))]
-fn expected_in_expr(place: &Spot, outer: &Outer) -> Expected
-    ensures { Expects result (AtExpr (spot place.now (outside_of outer.now))) }
-{
-    match place {
-        Spot::Want(_) | Spot::Inside(_, _) => plain(WordSet::Nothing, true, true),
-        _ => plain(WordSet::Nothing, false, false),
-    }
-}
-
 /// Whether an operand may begin.
 fn begins(place: &FreeSpot) -> bool
     ensures { result ≡ begins place.now }
@@ -202,7 +192,6 @@ pub(crate) fn expected_at(place: &Place, outer: &Outer) -> Expected
     ensures { Expects result (state_of place.now outer.now) }
 {
     match place {
-        Place::InExpr(spot) => expected_in_expr(spot, outer),
         Place::InFree(free) => expected_in_free(&free.spot),
         Place::InStmt(spot) => expected_in_stmt(spot, outer),
         Place::InItem(spot) => expected_in_item(spot, outer),

@@ -1,5 +1,5 @@
 -- Each state of the reader goes on to a module, by tokens that keep all limits, and by bytes that are those tokens.
-use Rattle.std.proofs.Common.{◌≡◌, ℕ, ◌+◌, Bool, true, false, List, [], ◌∷◌, ◌++◌, Option, Some, None, refl, sym, subst, inl, codes}
+use Rattle.std.proofs.Common.{◌≡◌, ℕ, ◌+◌, Bool, true, false, List, [], ◌∷◌, ◌++◌, Option, Some, None, refl, sym, subst, codes}
 use Rattle.std.proofs.lemmas.Bool.{and_parts, and_from}
 use Rattle.bist_bits.specs.Vector.{Vector}
 use Rattle.bist_text.specs.Grammar.{are_bytes}
@@ -14,7 +14,7 @@ use Rattle.verilog_tree.specs.Parenthesised as Y
 use Rattle.verilog_tree.specs.Free as T
 use Rattle.verilog_tree.specs.Free.{signed}
 use Rattle.verilog_text.specs.Flat as F
-use Rattle.verilog_text.specs.Flat.{settle_all}
+use Rattle.verilog_text.specs.Flat.{settle_all, Count, behind}
 use Rattle.verilog_text.proofs.Nesting.{lift}
 use Rattle.verilog_text.proofs.Counting.{none_is_few}
 use Rattle.verilog_tree.specs.Plain as P
@@ -23,8 +23,8 @@ use Rattle.verilog_tree.specs.Tokens.{Token, Identifier, Number, Based, Sign, Le
 use Rattle.verilog_text.specs.inner.Following.{items_behind, wires, regs, after_items, AfterStmt, after_stmt, AfterExpr, after_expr, UseTail, after_name, name_read, rest, case_ends, AfterAlone, after_alone, AfterNest, after_nest}
 use Rattle.verilog_text.specs.Following.{with_ports, new_head, case_of}
 use Rattle.verilog_text.specs.Lexing.{InGap}
-use Rattle.verilog_text.specs.Places.{Head, with_item, Around, Outside, ExprPlace, StmtPlace, Use, ItemPlace, State, more_parts, more_arms, InAlways, InBlock, InThen, InElse, InArm, InDefault, Driving, Condition, Subject, Setting, InBraces, InParens, Operand, Second, Chosen, Otherwise, Want, Inside, Named, Bracket, HighRead, ColonRead, LowRead, Have, WantStmt, Target, IfRead, CaseRead, FirstLabel, Labels, NextLabel, DefaultRead, Block, HaveStmt, AsWire, AsReg, AsPort, Begin, HeadName, HeadOpen, WantPort, InputRead, OutputRead, WantRange, WantHigh, WantColon, WantZero, WantBracket, WantName, NameRead, PortsRead, WantItem, AssignRead, DriveRead, AlwaysRead, AtRead, ClockOpen, EdgeRead, ClockRead, Ended, AtExpr, AtStmt, AtItem, style_of, Alone, AsDriver, AsCondition, AsSubject, AsValue, Nest, Only, InRound, InList, IfTrue, IfFalse, Linked, WantOperand, WantPrim}
-use Rattle.verilog_text.specs.inner.Places.{Closed, Whole}
+use Rattle.verilog_text.specs.Places.{Head, with_item, Around, Outside, ExprPlace, StmtPlace, Use, ItemPlace, State, more_parts, more_arms, InAlways, InBlock, InThen, InElse, InArm, InDefault, Named, Bracket, HighRead, ColonRead, LowRead, Have, WantStmt, Target, IfRead, CaseRead, FirstLabel, Labels, NextLabel, DefaultRead, Block, HaveStmt, AsWire, AsReg, AsPort, Begin, HeadName, HeadOpen, WantPort, InputRead, OutputRead, WantRange, WantHigh, WantColon, WantZero, WantBracket, WantName, NameRead, PortsRead, WantItem, AssignRead, DriveRead, AlwaysRead, AtRead, ClockOpen, EdgeRead, ClockRead, Ended, AtExpr, AtStmt, AtItem, style_of, Alone, AsDriver, AsCondition, AsSubject, AsValue, Nest, Only, InRound, InList, IfTrue, IfFalse, Linked, WantOperand, WantPrim}
+use Rattle.verilog_text.specs.inner.Places.{Whole}
 use Rattle.verilog_text.proofs.LexingOn.{lexing, lexed_on}
 
 -- some bytes are tokens within all limits of which P holds, with some module
@@ -103,7 +103,7 @@ module _ (limit : Limit) where
   abbrev Whole_expr : Outside → ℕ → P.Expression → List Token → P.ModuleTree → Type 0
   Whole_expr o p e ts v = (t : AfterExpr o) × after_expr limit o t p e v ts
 
-  abbrev Nest_end : Nest → ℕ → ℕ → P.Expression → List Token → P.ModuleTree → Type 0
+  abbrev Nest_end : Nest → ℕ → Count → P.Expression → List Token → P.ModuleTree → Type 0
   Nest_end o p n e ts v = (k : AfterNest o) × after_nest limit o k p n e v ts
 
   abbrev Alone_end : Alone → ℕ → P.Expression → List Token → P.ModuleTree → Type 0
@@ -117,30 +117,18 @@ module _ (limit : Limit) where
   ends_alone (AsValue n x) p e = add (codes "; ") (Sign Semicolon ∷ []) (AtEnd x p (alone (P.SetTo n e)) false) (Alone_end (AsValue n x) p e) refl refl refl (ends_stmt x p (alone (P.SetTo n e)) false) (λ ts v h. h)
 
   -- the same of an expression by precedence
-  ends_nest : (o : Nest) (p n : ℕ) (e : P.Expression) → Alive (Nest_end o p n e)
-  ends_nest (Only b) p n e = ends_alone b p e
-  ends_nest (InRound r ws u o) p n e = add (codes ") ") (Sign Close ∷ []) (Nest_end o r n (settle_all ws (signed u e))) (Nest_end (InRound r ws u o) p n e) refl refl refl (ends_nest o r n (settle_all ws (signed u e))) (λ ts v h. ((F.End, h.0), h.1))
-  ends_nest (InList r old ws u o) p n e = add (codes "} ") (Sign CloseBrace ∷ []) (Nest_end o r n (settle_all ws (signed u (P.Concatenation (more_parts old (P.Followed e P.NoMore)))))) (Nest_end (InList r old ws u o) p n e) refl refl refl (ends_nest o r n (settle_all ws (signed u (P.Concatenation (more_parts old (P.Followed e P.NoMore)))))) (λ ts v h. ((F.NoFlat, F.End, h.0), h.1))
-  ends_nest (IfTrue c o) p n e = add (codes ": a ") (Sign Colon ∷ word a ∷ []) (Nest_end o p n (P.Conditional c e (P.Net a))) (Nest_end (IfTrue c o) p n e) refl refl refl (ends_nest o p n (P.Conditional c e (P.Net a))) (λ ts v h. ((F.FlatOf (F.OperandOf None (F.Name a)) F.End, h.0), (refl, refl, h.1)))
-  ends_nest (IfFalse c x o) p n e = ends_nest o p n (P.Conditional c x e)
+  ends_nest : (o : Nest) (p : ℕ) (m : Count) (e : P.Expression) → Alive (Nest_end o p m e)
+  ends_nest (Only b) p m e = ends_alone b p e
+  ends_nest (InRound r n ws u o) p m e = add (codes ") ") (Sign Close ∷ []) (Nest_end o r (behind n m) (settle_all ws (signed u e))) (Nest_end (InRound r n ws u o) p m e) refl refl refl (ends_nest o r (behind n m) (settle_all ws (signed u e))) (λ ts v h. ((F.End, h.0), h.1))
+  ends_nest (InList r old n ws u o) p m e = add (codes "} ") (Sign CloseBrace ∷ []) (Nest_end o r (behind n m) (settle_all ws (signed u (P.Concatenation (more_parts old (P.Followed e P.NoMore)))))) (Nest_end (InList r old n ws u o) p m e) refl refl refl (ends_nest o r (behind n m) (settle_all ws (signed u (P.Concatenation (more_parts old (P.Followed e P.NoMore)))))) (λ ts v h. ((F.NoFlat, F.End, h.0), h.1))
+  ends_nest (IfTrue c o) p m e = add (codes ": a ") (Sign Colon ∷ word a ∷ []) (Nest_end o p m (P.Conditional c e (P.Net a))) (Nest_end (IfTrue c o) p m e) refl refl refl (ends_nest o p m (P.Conditional c e (P.Net a))) (λ ts v h. ((F.FlatOf (F.OperandOf None (F.Name a)) F.End, h.0), (refl, refl, h.1)))
+  ends_nest (IfFalse c x o) p m e = ends_nest o p m (P.Conditional c x e)
 
   -- a mark, and the end of all that a whole expression stands in
   ends_expr : (o : Outside) (p : ℕ) (e : P.Expression) → Alive (Whole_expr o p e)
-  ends_expr (Driving h n) p e = ends_alone (AsDriver h n) p e
-  ends_expr (Condition r q x) p e = ends_alone (AsCondition r q x) p e
-  ends_expr (Subject r q x) p e = ends_alone (AsSubject r q x) p e
-  ends_expr (Setting n x) p e = ends_alone (AsValue n x) p e
-  ends_expr (InBraces r old o) p e = add (codes "} ") (Sign CloseBrace ∷ []) (Whole_expr o r (P.Concatenation (more_parts old (P.Followed e P.NoMore)))) (Whole_expr (InBraces r old o) p e) refl refl refl (ends_expr o r (P.Concatenation (more_parts old (P.Followed e P.NoMore)))) (λ ts v h. ((Y.NoExpr, h.0), h.1))
-  ends_expr (InParens r o) p e = add (codes ") ") (Sign Close ∷ []) (Whole_expr o r e) (Whole_expr (InParens r o) p e) refl refl refl (ends_expr o r e) (λ ts v h. ((Closed, h.0), h.1))
-  ends_expr (Operand r u o) p e = add (codes ") ") (Sign Close ∷ []) (Whole_expr o r (P.Prefixed u e)) (Whole_expr (Operand r u o) p e) refl refl refl (ends_expr o r (P.Prefixed u e)) (λ ts v h. h)
-  ends_expr (Second r b x o) p e = add (codes ") ") (Sign Close ∷ []) (Whole_expr o r (P.Infixed b x e)) (Whole_expr (Second r b x o) p e) refl refl refl (ends_expr o r (P.Infixed b x e)) (λ ts v h. h)
-  ends_expr (Chosen r c o) p e = add (codes ": a ) ") (Sign Colon ∷ word a ∷ Sign Close ∷ []) (Whole_expr o r (P.Conditional c e (P.Net a))) (Whole_expr (Chosen r c o) p e) refl refl refl (ends_expr o r (P.Conditional c e (P.Net a))) (λ ts v h. ((Y.Name a, h.0), (refl, refl, h.1)))
-  ends_expr (Otherwise r c x o) p e = add (codes ") ") (Sign Close ∷ []) (Whole_expr o r (P.Conditional c x e)) (Whole_expr (Otherwise r c x o) p e) refl refl refl (ends_expr o r (P.Conditional c x e)) (λ ts v h. h)
   ends_expr (Linked n ws u o) p e = just (Nest_end o p n (settle_all ws (signed u e))) (Whole_expr (Linked n ws u o) p e) (ends_nest o p n (settle_all ws (signed u e))) (λ ts v h. ((F.End, h.0), h.1))
 
   in_expr : (p : ExprPlace) → Alive (rest limit (AtExpr p))
-  in_expr (Want p o) = add (codes "a ") (word a ∷ []) (Whole_expr o p (P.Net a)) (rest limit (AtExpr (Want p o))) refl refl refl (ends_expr o p (P.Net a)) (λ ts v h. (Y.Name a, h.0, (refl, refl, h.1)))
-  in_expr (Inside q r o) = add (codes "a ") (word a ∷ []) (Whole_expr (InParens r o) q (P.Net a)) (rest limit (AtExpr (Inside q r o))) refl refl refl (ends_expr (InParens r o) q (P.Net a)) (λ ts v h. inl (Y.Name a, h.0, (refl, refl, h.1)))
   in_expr (Named p n o) = just (Whole_expr o p (P.Net n)) (rest limit (AtExpr (Named p n o))) (ends_expr o p (P.Net n)) (λ ts v h. (Whole, h.0, h.1))
   in_expr (Bracket p n o) = add (codes "0 ] ") (Number false 0 ∷ Sign CloseBracket ∷ []) (Whole_expr o p (P.BitSelect n 0)) (rest limit (AtExpr (Bracket p n o))) refl refl refl (ends_expr o p (P.BitSelect n 0)) (λ ts v h. (0, None, h.0, (refl, h.1)))
   in_expr (HighRead p n i o) = add (codes "] ") (Sign CloseBracket ∷ []) (Whole_expr o p (P.BitSelect n i)) (rest limit (AtExpr (HighRead p n i o))) refl refl refl (ends_expr o p (P.BitSelect n i)) (λ ts v h. (None, h.0, h.1))
@@ -207,8 +195,8 @@ module _ (limit : Limit) where
   in_item (NameRead u w) r = ends_read u w
   in_item (PortsRead h) r = add (codes "; ") (Sign Semicolon ∷ []) (λ ts v. after_items limit h [] v ts) (rest limit (AtItem (PortsRead h))) refl refl refl (ends_items h) (λ ts v k. ([], k))
   in_item (WantItem h) r = just (λ ts v. after_items limit h [] v ts) (rest limit (AtItem (WantItem h))) (ends_items h) (λ ts v k. ([], k))
-  in_item (AssignRead h) r = add (codes "a = a ") (word a ∷ Sign Equals ∷ word a ∷ []) (Whole_expr (Driving h a) 0 (P.Net a)) (rest limit (AtItem (AssignRead h))) refl refl refl (ends_expr (Driving h a) 0 (P.Net a)) (λ ts v k. (a, named h.style, k.0, (refl, refl, reads_a h.style 0 (λ w. after_alone limit (AsDriver h a) k.0 0 w v) ts k.1)))
-  in_item (DriveRead h n) r = add (codes "= a ") (Sign Equals ∷ word a ∷ []) (Whole_expr (Driving h n) 0 (P.Net a)) (rest limit (AtItem (DriveRead h n))) refl refl refl (ends_expr (Driving h n) 0 (P.Net a)) (λ ts v k. (named h.style, k.0, reads_a h.style 0 (λ w. after_alone limit (AsDriver h n) k.0 0 w v) ts k.1))
+  in_item (AssignRead h) r = add (codes "a = a ") (word a ∷ Sign Equals ∷ word a ∷ []) (Alone_end (AsDriver h a) 0 (P.Net a)) (rest limit (AtItem (AssignRead h))) refl refl refl (ends_alone (AsDriver h a) 0 (P.Net a)) (λ ts v k. (a, named h.style, k.0, (refl, refl, reads_a h.style 0 (λ w. after_alone limit (AsDriver h a) k.0 0 w v) ts k.1)))
+  in_item (DriveRead h n) r = add (codes "= a ") (Sign Equals ∷ word a ∷ []) (Alone_end (AsDriver h n) 0 (P.Net a)) (rest limit (AtItem (DriveRead h n))) refl refl refl (ends_alone (AsDriver h n) 0 (P.Net a)) (λ ts v k. (named h.style, k.0, reads_a h.style 0 (λ w. after_alone limit (AsDriver h n) k.0 0 w v) ts k.1))
   in_item (AlwaysRead h) r = add (codes "@ ( posedge a ) a <= a ; ") (Sign At ∷ Sign Open ∷ word (codes "posedge") ∷ word a ∷ Sign Close ∷ word a ∷ Sign LessEquals ∷ word a ∷ Sign Semicolon ∷ []) (AtEnd (InAlways h a) 0 (is_set a) false) (rest limit (AtItem (AlwaysRead h))) refl refl refl (ends_stmt (InAlways h a) 0 (is_set a) false) (λ ts v k. (a, set h.style, k.0, in_room 0 r.0 _ r.1 (refl, refl, reads_set h.style 0 (λ w. after_stmt limit (InAlways h a) k.0 0 w false v) ts k.1)))
   in_item (AtRead h) r = add (codes "( posedge a ) a <= a ; ") (Sign Open ∷ word (codes "posedge") ∷ word a ∷ Sign Close ∷ word a ∷ Sign LessEquals ∷ word a ∷ Sign Semicolon ∷ []) (AtEnd (InAlways h a) 0 (is_set a) false) (rest limit (AtItem (AtRead h))) refl refl refl (ends_stmt (InAlways h a) 0 (is_set a) false) (λ ts v k. (a, set h.style, k.0, in_room 0 r.0 _ r.1 (refl, refl, reads_set h.style 0 (λ w. after_stmt limit (InAlways h a) k.0 0 w false v) ts k.1)))
   in_item (ClockOpen h) r = add (codes "posedge a ) a <= a ; ") (word (codes "posedge") ∷ word a ∷ Sign Close ∷ word a ∷ Sign LessEquals ∷ word a ∷ Sign Semicolon ∷ []) (AtEnd (InAlways h a) 0 (is_set a) false) (rest limit (AtItem (ClockOpen h))) refl refl refl (ends_stmt (InAlways h a) 0 (is_set a) false) (λ ts v k. (a, set h.style, k.0, (refl, refl, reads_set h.style 0 (λ w. after_stmt limit (InAlways h a) k.0 0 w false v) ts k.1)))

@@ -1,5 +1,5 @@
 -- Operators that are counted one after another are those of the tree.
-use Rattle.std.proofs.Common.{◌≡◌, ℕ, ◌+◌, ◌≤◌, Bool, true, false, nat_le, List, [], ◌∷◌, Option, Some, None, refl, ◌↔◌, ap, ◌∙◌, arith, if◌then◌else◌}
+use Rattle.std.proofs.Common.{◌≡◌, ℕ, ◌+◌, ◌≤◌, Bool, true, false, nat_le, List, [], ◌∷◌, Option, Some, None, refl, sym, ◌↔◌, ap, ◌∙◌, arith, if◌then◌else◌}
 use Rattle.std.proofs.lemmas.Bool.{le-leb, leb-true}
 use Rattle.bist_text.proofs.Piece.{Piece}
 use Rattle.bist_text.specs.Machine.{Holds}
@@ -11,7 +11,7 @@ use Rattle.verilog_tree.specs.declared.tree.UnOp.{UnOp}
 use Rattle.verilog_tree.specs.Pieces.{Limit, deeper, few_in, few, sign, inside, unary_mark, binary_mark}
 use Rattle.verilog_tree.specs.Free.{height, operators, all_operators, signed}
 use Rattle.verilog_text.specs.Flat as F
-use Rattle.verilog_text.specs.Flat.{Left, joined as combined, settle, settle_all, linked}
+use Rattle.verilog_text.specs.Flat.{Count, Together, Left, joined as combined, settle, settle_all, linked}
 use Rattle.verilog_text.proofs.Uncounted as U
 use Rattle.verilog_text.proofs.TokenPieces.{s, n, i, l}
 
@@ -153,15 +153,19 @@ module _ (limit : Limit) where
   before F f b K L g ts = (λ h. let p : (x : few limit b ≡ true) × F L ts = f.pull (few limit b ≡ true) (λ x. L) ts (f.map K (λ r. (x : few limit b ≡ true) × L r) (λ r k. (g r).0 k) ts h) in (p.0, p.1), λ h. f.map L K (λ r k. (g r).1 (h.0, k)) ts h.1)
 
   -- one counted form behind another
-  behind : (A : (ℕ → List Token → Type 0) → List Token → Type 0) (F : (List Token → Type 0) → List Token → Type 0) → Piece F → (a b : ℕ) → a ≤ b → (B : ℕ → List Token → Type 0) (L : List Token → Type 0) → Same (A B) (Few a (F (B a))) → (few limit a ≡ true → Same (B a) (Few b L)) → Same (A B) (Few b (F L))
+  behind : (A : (Count → List Token → Type 0) → List Token → Type 0) (F : (List Token → Type 0) → List Token → Type 0) → Piece F → (a b : ℕ) → a ≤ b → (B : Count → List Token → Type 0) (L : List Token → Type 0) → Same (A B) (Few a (F (B (Together a)))) → (few limit a ≡ true → Same (B (Together a)) (Few b L)) → Same (A B) (Few b (F L))
   behind A F f a b m B L g k ts = (
-    λ h. let p = (g ts).0 h in (before F f b (B a) L (k p.0) ts).0 p.1,
-    λ h. let e = fewer a b m h.0 in (g ts).1 (e, (before F f b (B a) L (k e) ts).1 h),
+    λ h. let p = (g ts).0 h in (before F f b (B (Together a)) L (k p.0) ts).0 p.1,
+    λ h. let e = fewer a b m h.0 in (g ts).1 (e, (before F f b (B (Together a)) L (k e) ts).1 h),
   )
 
   -- behind one operator more
-  one : (n b : ℕ) → n + 1 ≤ b → (K : ℕ → List Token → Type 0) (L : List Token → Type 0) → (few limit (n + 1) ≡ true → Same (K (n + 1)) (Few b L)) → Same (F.counted limit n K) (Few b L)
-  one n b m K L g ts = (λ h. (g h.0 ts).0 h.1, λ h. let e = fewer (n + 1) b m h.0 in (e, (g e ts).1 h))
+  one : (n b : ℕ) → n + 1 ≤ b → (K : Count → List Token → Type 0) (L : List Token → Type 0) → (few limit (n + 1) ≡ true → Same (K (Together (n + 1))) (Few b L)) → Same (F.counted limit (Together n) K) (Few b L)
+  one n b m K L g ts = go (few limit (n + 1)) refl
+    where
+      go : (t : Bool) → few limit (n + 1) ≡ t → Holds (if t then Some (Together (n + 1)) else None) (λ j. K j ts) ↔ Few b L ts
+      go true e = g e ts
+      go false e = (λ h. absurd h, λ h. let k : true ≡ false = sym (fewer (n + 1) b m h.0) ∙ e in cc)
 
   -- nothing between
   here : (n : ℕ) (K : List Token → Type 0) → few limit n ≡ true → Same K (Few n K)
@@ -173,38 +177,38 @@ module _ (limit : Limit) where
   opened z (Some c) A B g us = g c us
 
   mutual
-    pub counted_flat : (d : ℕ) (x : F.Flat) (n : ℕ) → few limit n ≡ true → (K : ℕ → List Token → Type 0) → Same (F.flat limit d x n K) (Few (past x n) (U.flat limit d x (K (past x n))))
-    counted_flat d (F.FlatOf x t) n e K = behind (F.operand limit d x n) (U.operand limit d x) (U.first limit d x) (past_operand x n) (past (F.FlatOf x t) n) (more_tail t (past_operand x n)) (λ m. F.tail limit d t m K) (U.tail limit d t (K (past (F.FlatOf x t) n))) (counted_operand d x n e (λ m. F.tail limit d t m K)) (λ f. counted_tail d t (past_operand x n) f K)
+    pub counted_flat : (d : ℕ) (x : F.Flat) (n : ℕ) → few limit n ≡ true → (K : Count → List Token → Type 0) → Same (F.flat limit d x (Together n) K) (Few (past x n) (U.flat limit d x (K (Together (past x n)))))
+    counted_flat d (F.FlatOf x t) n e K = behind (F.operand limit d x (Together n)) (U.operand limit d x) (U.first limit d x) (past_operand x n) (past (F.FlatOf x t) n) (more_tail t (past_operand x n)) (λ m. F.tail limit d t m K) (U.tail limit d t (K (Together (past (F.FlatOf x t) n)))) (counted_operand d x n e (λ m. F.tail limit d t m K)) (λ f. counted_tail d t (past_operand x n) f K)
 
-    counted_tail : (d : ℕ) (t : F.Tail) (n : ℕ) → few limit n ≡ true → (K : ℕ → List Token → Type 0) → Same (F.tail limit d t n K) (Few (past_tail t n) (U.tail limit d t (K (past_tail t n))))
-    counted_tail d F.End n e K = here n (K n) e
+    counted_tail : (d : ℕ) (t : F.Tail) (n : ℕ) → few limit n ≡ true → (K : Count → List Token → Type 0) → Same (F.tail limit d t (Together n) K) (Few (past_tail t n) (U.tail limit d t (K (Together (past_tail t n)))))
+    counted_tail d F.End n e K = here n (K (Together n)) e
     counted_tail d (F.Link b x t) n e K =
         let a = past_operand x (n + 1) in
         let z = past_tail (F.Link b x t) n in
-        one n z (let p = more_operand x (n + 1) in let q = more_tail t a in omega arith) (λ m. sign (binary_mark b) (F.operand limit d x m (λ j. F.tail limit d t j K))) (U.tail limit d (F.Link b x t) (K z)) (λ f. before (sign (binary_mark b)) (s (binary_mark b)) z (F.operand limit d x (n + 1) (λ j. F.tail limit d t j K)) (U.operand limit d x (U.tail limit d t (K z))) (behind (F.operand limit d x (n + 1)) (U.operand limit d x) (U.first limit d x) a z (more_tail t a) (λ j. F.tail limit d t j K) (U.tail limit d t (K z)) (counted_operand d x (n + 1) f (λ j. F.tail limit d t j K)) (λ g. counted_tail d t a g K)))
+        one n z (let p = more_operand x (n + 1) in let q = more_tail t a in omega arith) (λ m. sign (binary_mark b) (F.operand limit d x m (λ j. F.tail limit d t j K))) (U.tail limit d (F.Link b x t) (K (Together z))) (λ f. before (sign (binary_mark b)) (s (binary_mark b)) z (F.operand limit d x (Together (n + 1)) (λ j. F.tail limit d t j K)) (U.operand limit d x (U.tail limit d t (K (Together z)))) (behind (F.operand limit d x (Together (n + 1))) (U.operand limit d x) (U.first limit d x) a z (more_tail t a) (λ j. F.tail limit d t j K) (U.tail limit d t (K (Together z))) (counted_operand d x (n + 1) f (λ j. F.tail limit d t j K)) (λ g. counted_tail d t a g K)))
     counted_tail d (F.Ask x y) n e K =
         let a = past x (n + 1) in
         let z = past_tail (F.Ask x y) n in
-        one n z (let p = more x (n + 1) in let q = more y a in omega arith) (λ m. sign Question (F.flat limit d x m (λ j. sign Colon (F.flat limit d y j K)))) (U.tail limit d (F.Ask x y) (K z)) (λ f. before (sign Question) (s Question) z (F.flat limit d x (n + 1) (λ j. sign Colon (F.flat limit d y j K))) (U.flat limit d x (sign Colon (U.flat limit d y (K z)))) (behind (F.flat limit d x (n + 1)) (U.flat limit d x) (U.whole limit d x) a z (more y a) (λ j. sign Colon (F.flat limit d y j K)) (sign Colon (U.flat limit d y (K z))) (counted_flat d x (n + 1) f (λ j. sign Colon (F.flat limit d y j K))) (λ g. before (sign Colon) (s Colon) z (F.flat limit d y a K) (U.flat limit d y (K z)) (counted_flat d y a g K))))
+        one n z (let p = more x (n + 1) in let q = more y a in omega arith) (λ m. sign Question (F.flat limit d x m (λ j. sign Colon (F.flat limit d y j K)))) (U.tail limit d (F.Ask x y) (K (Together z))) (λ f. before (sign Question) (s Question) z (F.flat limit d x (Together (n + 1)) (λ j. sign Colon (F.flat limit d y j K))) (U.flat limit d x (sign Colon (U.flat limit d y (K (Together z))))) (behind (F.flat limit d x (Together (n + 1))) (U.flat limit d x) (U.whole limit d x) a z (more y a) (λ j. sign Colon (F.flat limit d y j K)) (sign Colon (U.flat limit d y (K (Together z)))) (counted_flat d x (n + 1) f (λ j. sign Colon (F.flat limit d y j K))) (λ g. before (sign Colon) (s Colon) z (F.flat limit d y (Together a) K) (U.flat limit d y (K (Together z))) (counted_flat d y a g K))))
 
-    counted_operand : (d : ℕ) (x : F.Operand) (n : ℕ) → few limit n ≡ true → (K : ℕ → List Token → Type 0) → Same (F.operand limit d x n K) (Few (past_operand x n) (U.operand limit d x (K (past_operand x n))))
+    counted_operand : (d : ℕ) (x : F.Operand) (n : ℕ) → few limit n ≡ true → (K : Count → List Token → Type 0) → Same (F.operand limit d x (Together n) K) (Few (past_operand x n) (U.operand limit d x (K (Together (past_operand x n)))))
     counted_operand d (F.OperandOf None p) n e K = counted_prim d p n e K
-    counted_operand d (F.OperandOf (Some u) p) n e K = let z = past_prim p (n + 1) in one n z (more_prim p (n + 1)) (λ m. sign (unary_mark u) (F.prim limit d p m K)) (sign (unary_mark u) (U.prim limit d p (K z))) (λ f. before (sign (unary_mark u)) (s (unary_mark u)) z (F.prim limit d p (n + 1) K) (U.prim limit d p (K z)) (counted_prim d p (n + 1) f K))
+    counted_operand d (F.OperandOf (Some u) p) n e K = let z = past_prim p (n + 1) in one n z (more_prim p (n + 1)) (λ m. sign (unary_mark u) (F.prim limit d p m K)) (sign (unary_mark u) (U.prim limit d p (K (Together z)))) (λ f. before (sign (unary_mark u)) (s (unary_mark u)) z (F.prim limit d p (Together (n + 1)) K) (U.prim limit d p (K (Together z))) (counted_prim d p (n + 1) f K))
 
-    counted_prim : (d : ℕ) (p : F.Prim) (n : ℕ) → few limit n ≡ true → (K : ℕ → List Token → Type 0) → Same (F.prim limit d p n K) (Few (past_prim p n) (U.prim limit d p (K (past_prim p n))))
-    counted_prim d (F.Name w) n e K = here n (U.prim limit d (F.Name w) (K n)) e
-    counted_prim d (F.Select w i) n e K = here n (U.prim limit d (F.Select w i) (K n)) e
-    counted_prim d (F.Range w h i) n e K = here n (U.prim limit d (F.Range w h i) (K n)) e
-    counted_prim d (F.Constant x) n e K = here n (U.prim limit d (F.Constant x) (K n)) e
+    counted_prim : (d : ℕ) (p : F.Prim) (n : ℕ) → few limit n ≡ true → (K : Count → List Token → Type 0) → Same (F.prim limit d p (Together n) K) (Few (past_prim p n) (U.prim limit d p (K (Together (past_prim p n)))))
+    counted_prim d (F.Name w) n e K = here n (U.prim limit d (F.Name w) (K (Together n))) e
+    counted_prim d (F.Select w i) n e K = here n (U.prim limit d (F.Select w i) (K (Together n))) e
+    counted_prim d (F.Range w h i) n e K = here n (U.prim limit d (F.Range w h i) (K (Together n))) e
+    counted_prim d (F.Constant x) n e K = here n (U.prim limit d (F.Constant x) (K (Together n))) e
     counted_prim d (F.Braces x xs) n e K =
         let z = past_prim (F.Braces x xs) n in
-        before (sign OpenBrace) (s OpenBrace) z (inside limit d (λ c. F.flat limit c x n (λ m. F.flats limit c xs m (λ j. sign CloseBrace (K j))))) (inside limit d (λ c. U.flat limit c x (U.flats limit c xs (sign CloseBrace (K z))))) (λ us. opened z (deeper limit d) (λ c. F.flat limit c x n (λ m. F.flats limit c xs m (λ j. sign CloseBrace (K j)))) (λ c. U.flat limit c x (U.flats limit c xs (sign CloseBrace (K z)))) (λ c. behind (F.flat limit c x n) (U.flat limit c x) (U.whole limit c x) (past x n) z (more_all xs (past x n)) (λ m. F.flats limit c xs m (λ j. sign CloseBrace (K j))) (U.flats limit c xs (sign CloseBrace (K z))) (counted_flat c x n e (λ m. F.flats limit c xs m (λ j. sign CloseBrace (K j)))) (λ f. counted_all c xs (past x n) f (λ j. sign CloseBrace (K j)))) us)
+        before (sign OpenBrace) (s OpenBrace) z (inside limit d (λ c. F.flat limit c x (Together n) (λ m. F.flats limit c xs m (λ j. sign CloseBrace (K j))))) (inside limit d (λ c. U.flat limit c x (U.flats limit c xs (sign CloseBrace (K (Together z)))))) (λ us. opened z (deeper limit d) (λ c. F.flat limit c x (Together n) (λ m. F.flats limit c xs m (λ j. sign CloseBrace (K j)))) (λ c. U.flat limit c x (U.flats limit c xs (sign CloseBrace (K (Together z))))) (λ c. behind (F.flat limit c x (Together n)) (U.flat limit c x) (U.whole limit c x) (past x n) z (more_all xs (past x n)) (λ m. F.flats limit c xs m (λ j. sign CloseBrace (K j))) (U.flats limit c xs (sign CloseBrace (K (Together z)))) (counted_flat c x n e (λ m. F.flats limit c xs m (λ j. sign CloseBrace (K j)))) (λ f. counted_all c xs (past x n) f (λ j. sign CloseBrace (K j)))) us)
     counted_prim d (F.Parens x) n e K =
         let z = past x n in
-        before (sign Open) (s Open) z (inside limit d (λ c. F.flat limit c x n (λ m. sign Close (K m)))) (inside limit d (λ c. U.flat limit c x (sign Close (K z)))) (λ us. opened z (deeper limit d) (λ c. F.flat limit c x n (λ m. sign Close (K m))) (λ c. U.flat limit c x (sign Close (K z))) (λ c. counted_flat c x n e (λ m. sign Close (K m))) us)
+        before (sign Open) (s Open) z (inside limit d (λ c. F.flat limit c x (Together n) (λ m. sign Close (K m)))) (inside limit d (λ c. U.flat limit c x (sign Close (K (Together z))))) (λ us. opened z (deeper limit d) (λ c. F.flat limit c x (Together n) (λ m. sign Close (K m))) (λ c. U.flat limit c x (sign Close (K (Together z)))) (λ c. counted_flat c x n e (λ m. sign Close (K m))) us)
 
-    counted_all : (d : ℕ) (xs : F.Flats) (n : ℕ) → few limit n ≡ true → (K : ℕ → List Token → Type 0) → Same (F.flats limit d xs n K) (Few (past_all xs n) (U.flats limit d xs (K (past_all xs n))))
-    counted_all d F.NoFlat n e K = here n (K n) e
+    counted_all : (d : ℕ) (xs : F.Flats) (n : ℕ) → few limit n ≡ true → (K : Count → List Token → Type 0) → Same (F.flats limit d xs (Together n) K) (Few (past_all xs n) (U.flats limit d xs (K (Together (past_all xs n)))))
+    counted_all d F.NoFlat n e K = here n (K (Together n)) e
     counted_all d (F.AndFlat x xs) n e K =
         let z = past_all xs (past x n) in
-        before (sign Comma) (s Comma) z (F.flat limit d x n (λ m. F.flats limit d xs m K)) (U.flat limit d x (U.flats limit d xs (K z))) (behind (F.flat limit d x n) (U.flat limit d x) (U.whole limit d x) (past x n) z (more_all xs (past x n)) (λ m. F.flats limit d xs m K) (U.flats limit d xs (K z)) (counted_flat d x n e (λ m. F.flats limit d xs m K)) (λ f. counted_all d xs (past x n) f K))
+        before (sign Comma) (s Comma) z (F.flat limit d x (Together n) (λ m. F.flats limit d xs m K)) (U.flat limit d x (U.flats limit d xs (K (Together z)))) (behind (F.flat limit d x (Together n)) (U.flat limit d x) (U.whole limit d x) (past x n) z (more_all xs (past x n)) (λ m. F.flats limit d xs m K) (U.flats limit d xs (K (Together z))) (counted_flat d x n e (λ m. F.flats limit d xs m K)) (λ f. counted_all d xs (past x n) f K))

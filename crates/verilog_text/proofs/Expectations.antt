@@ -11,11 +11,11 @@ use Rattle.verilog_tree.specs.declared.tokens.Mark.{Mark}
 use Rattle.verilog_tree.specs.declared.tokens.Mark.TheVariants.{Close, Semicolon, Colon}
 use Rattle.verilog_tree.specs.declared.tree.UnOp.{UnOp}
 use Rattle.verilog_tree.specs.Free.{signed}
-use Rattle.verilog_text.specs.Flat.{Left, settle_all}
+use Rattle.verilog_text.specs.Flat.{Left, settle_all, Count, behind}
 use Rattle.verilog_text.specs.inner.Expected.{NoNumber, numbers, taken_as, literals_behind}
 use Rattle.verilog_text.specs.Expected.{item_words, statement_words, else_behind, words_behind, with_else, words, names_behind, takes_names, is_step, taken, takes_literals}
-use Rattle.verilog_text.specs.Places.{Head, with_item, Around, Outside, ExprPlace, StmtPlace, Use, ItemPlace, State, InAlways, InBlock, InThen, InElse, InArm, InDefault, InBraces, InParens, Want, Inside, Named, Bracket, ColonRead, Have, WantStmt, DefaultRead, Block, HaveStmt, AsWire, AsReg, AsPort, Begin, HeadName, WantPort, InputRead, OutputRead, WantRange, WantHigh, WantZero, WantName, NameRead, WantItem, AssignRead, ClockOpen, EdgeRead, AtExpr, AtStmt, AtItem, Nest, Only, InRound, InList, IfTrue, IfFalse, AsDriver, AsCondition, AsSubject, AsValue, Linked, WantOperand, WantPrim, FirstLabel, AtExpr, AtStmt, AtItem}
-use Rattle.verilog_text.specs.Steps.{step, only_where, unless, target_step, want_step, have_step, want_stmt_step, block_step, have_stmt_step, want_item_step, range_step, name_step, to_expr, expects, close_step, prim_step}
+use Rattle.verilog_text.specs.Places.{Head, with_item, Around, Outside, ExprPlace, StmtPlace, Use, ItemPlace, State, InAlways, InBlock, InThen, InElse, InArm, InDefault, Named, Bracket, ColonRead, Have, WantStmt, DefaultRead, Block, HaveStmt, AsWire, AsReg, AsPort, Begin, HeadName, WantPort, InputRead, OutputRead, WantRange, WantHigh, WantZero, WantName, NameRead, WantItem, AssignRead, ClockOpen, EdgeRead, AtExpr, AtStmt, AtItem, Nest, Only, InRound, InList, IfTrue, IfFalse, AsDriver, AsCondition, AsSubject, AsValue, Linked, WantOperand, WantPrim, FirstLabel}
+use Rattle.verilog_text.specs.Steps.{step, only_where, unless, target_step, have_step, want_stmt_step, block_step, have_stmt_step, want_item_step, range_step, name_step, to_expr, expects, close_step, prim_step}
 
 -- ---- words
 
@@ -40,17 +40,10 @@ only_is : (t : Bool) (s : State) → is_step (only_where t (Some s)) ≡ ((t || 
 only_is true s = refl
 only_is false s = refl
 
-prim_is : (p n : ℕ) (ws : List Left) (u : Option UnOp) (o : Nest) (v : List ℕ) → Law (prim_step unlimited p n ws u o (Identifier v)) v [] true
+prim_is : (p : ℕ) (n : Count) (ws : List Left) (u : Option UnOp) (o : Nest) (v : List ℕ) → Law (prim_step unlimited p n ws u o (Identifier v)) v [] true
 prim_is p n ws u o v = go (is_among v reserved_words)
   where
     go : (t : Bool) → is_step (if t then None else to_expr (Named p v (Linked n ws u o))) ≡ (false || (true && not t))
-    go true = refl
-    go false = refl
-
-want_is : (p : ℕ) (o : Outside) (v : List ℕ) → Law (want_step unlimited p o (Identifier v)) v [] true
-want_is p o v = go (is_among v reserved_words)
-  where
-    go : (t : Bool) → is_step (if t then None else to_expr (Named p v o)) ≡ (false || (true && not t))
     go true = refl
     go false = refl
 
@@ -63,22 +56,19 @@ expects_none m s (Sign n) f = cc
 expects_none m s t f = refl
 
 -- behind a whole expression by precedence only marks come
-shut : (p n : ℕ) (x : P.Expression) (o : Nest) (t : Token) → no_mark t ≡ true → is_step (close_step p n x o t) ≡ false
-shut p n x (Only (AsDriver h w)) t f = expects_none Semicolon (AtItem (WantItem (with_item h (P.AssignItem w x)))) t f
-shut p n x (Only (AsCondition r q a)) t f = expects_none Close (AtStmt (WantStmt q (InThen r x a))) t f
-shut p n x (Only (AsSubject r q a)) t f = expects_none Close (AtStmt (FirstLabel r q x P.NoArm a)) t f
-shut p n x (Only (AsValue w a)) t f = expects_none Semicolon (AtStmt (HaveStmt p (alone (P.SetTo w x)) a)) t f
-shut p n x (InRound r ws u o) t f = expects_none Close (AtExpr (Have r x (Linked n ws u o))) t f
-shut p n x (InList r old ws u o) (Sign m) f = cc
-shut p n x (InList r old ws u o) t f = refl
-shut p n x (IfTrue c o) t f = expects_none Colon (AtExpr (WantOperand p n [] (IfFalse c x o))) t f
-shut p n x (IfFalse c y o) t f = shut p n (P.Conditional c y x) o t f
+shut : (p : ℕ) (m : Count) (x : P.Expression) (o : Nest) (t : Token) → no_mark t ≡ true → is_step (close_step p m x o t) ≡ false
+shut p m x (Only (AsDriver h w)) t f = expects_none Semicolon (AtItem (WantItem (with_item h (P.AssignItem w x)))) t f
+shut p m x (Only (AsCondition r q a)) t f = expects_none Close (AtStmt (WantStmt q (InThen r x a))) t f
+shut p m x (Only (AsSubject r q a)) t f = expects_none Close (AtStmt (FirstLabel r q x P.NoArm a)) t f
+shut p m x (Only (AsValue w a)) t f = expects_none Semicolon (AtStmt (HaveStmt p (alone (P.SetTo w x)) a)) t f
+shut p m x (InRound r n ws u o) t f = expects_none Close (AtExpr (Have r x (Linked (behind n m) ws u o))) t f
+shut p m x (InList r old n ws u o) (Sign y) f = cc
+shut p m x (InList r old n ws u o) t f = refl
+shut p m x (IfTrue c o) t f = expects_none Colon (AtExpr (WantOperand p m [] (IfFalse c x o))) t f
+shut p m x (IfFalse c y o) t f = shut p m (P.Conditional c y x) o t f
 
 have_is : (p : ℕ) (x : P.Expression) (o : Outside) (v : List ℕ) → is_step (have_step unlimited p x o (Identifier v)) ≡ false
-have_is p x (InBraces r old o) v = refl
-have_is p x (InParens r o) v = refl
 have_is p x (Linked c ws u o) v = shut p c (settle_all ws (signed u x)) o (Identifier v) refl
-have_is p x o v = refl
 
 item_is : (h : Head) (v : List ℕ) → Law (want_item_step h (Identifier v)) v item_words false
 item_is h v = link (bytes_eq v (codes "wire")) _ _ _ _ refl (link (bytes_eq v (codes "reg")) _ _ _ _ refl (link (bytes_eq v (codes "assign")) _ _ _ _ refl (link (bytes_eq v (codes "always")) _ _ _ _ refl (link (bytes_eq v (codes "endmodule")) _ _ _ _ refl refl))))
@@ -112,8 +102,6 @@ name_is (AsReg h) w v = refl
 name_is (AsPort d h) w v = refl
 
 expr_word : (p : ExprPlace) (v : List ℕ) → Law (step unlimited (AtExpr p) (Identifier v)) v [] (takes_names (AtExpr p))
-expr_word (Want p o) v = want_is p o v
-expr_word (Inside q r o) v = want_is q (InParens r o) v
 expr_word (Named p n o) v = have_is p (P.Net n) o v
 expr_word (Have p x o) v = have_is p x o v
 expr_word (WantOperand p n ws o) v = prim_is p n ws None o v
@@ -151,10 +139,7 @@ word_taken (AtItem p) v = item_word p v
 -- ---- literals, numbers and what no rule uses
 
 pub have_literal : (p : ℕ) (x : P.Expression) (o : Outside) (y : Vector) → is_step (have_step unlimited p x o (Based y)) ≡ false
-have_literal p x (InBraces r old o) y = refl
-have_literal p x (InParens r o) y = refl
 have_literal p x (Linked c ws u o) y = shut p c (settle_all ws (signed u x)) o (Based y) refl
-have_literal p x o y = refl
 
 behind_literal : (a : Around) (q : ℕ) (s : P.Statements) (x y : Vector) → is_step (have_stmt_step unlimited a q s (Based x)) ≡ is_step (have_stmt_step unlimited a q s (Based y))
 behind_literal (InThen r c a) q s x y = behind_literal a r (alone (P.IfElse c s P.Done)) x y
@@ -179,10 +164,7 @@ pub literals_alike : (s : State) (x : Vector) → taken s (Based x) ≡ takes_li
 literals_alike s x = literal_taken s x (record { width = 1; value = 0 })
 
 have_query : (p : ℕ) (x : P.Expression) (o : Outside) → is_step (have_step unlimited p x o Unused) ≡ false
-have_query p x (InBraces r old o) = refl
-have_query p x (InParens r o) = refl
 have_query p x (Linked c ws u o) = shut p c (settle_all ws (signed u x)) o Unused refl
-have_query p x o = refl
 
 behind_query : (a : Around) (q : ℕ) (s : P.Statements) → is_step (have_stmt_step unlimited a q s Unused) ≡ false
 behind_query (InThen r c a) q s = behind_query a r (alone (P.IfElse c s P.Done))
@@ -203,10 +185,7 @@ no_query (AtItem (NameRead u w)) = name_query u w
 no_query (AtItem p) = refl
 
 have_number : (p : ℕ) (x : P.Expression) (o : Outside) (l : Bool) (n : ℕ) → is_step (have_step unlimited p x o (Number l n)) ≡ false
-have_number p x (InBraces r old o) l n = refl
-have_number p x (InParens r o) l n = refl
 have_number p x (Linked c ws u o) l n = shut p c (settle_all ws (signed u x)) o (Number l n) refl
-have_number p x o l n = refl
 
 behind_number : (a : Around) (q : ℕ) (s : P.Statements) (l : Bool) (n : ℕ) → is_step (have_stmt_step unlimited a q s (Number l n)) ≡ false
 behind_number (InThen r c a) q s l n = behind_number a r (alone (P.IfElse c s P.Done)) l n

@@ -8,8 +8,12 @@ use Rattle.verilog_tree.specs.Plain as P
 use Rattle.verilog_tree.specs.Spells.{Limits, Text, Derives, no_limits, Spells, FreelySpells}
 use Rattle.verilog_tree.specs.Tokens.{Token}
 use Rattle.verilog_text.specs.Operators.{expression_few, statement_few, statements_few, arms_few, item_few, items_few, few_operators}
-use Rattle.verilog_text.proofs.AsPrims as A
-use Rattle.verilog_text.proofs.AsPrims.{as_prim, whole, same_prim, counted, prim_too}
+use Rattle.verilog_text.specs.Flat.{Apart}
+use Rattle.bist_text.proofs.Pieces.{same}
+use Rattle.verilog_text.proofs.Forgetting as A
+use Rattle.verilog_text.proofs.Forgetting.{counted, nested_tree}
+use Rattle.verilog_text.proofs.FullTexts.{as_prim, only, same_prim, alike}
+use Rattle.verilog_text.proofs.Nesting.{nested}
 use Rattle.verilog_text.proofs.TokenPieces as Q
 use Rattle.verilog_text.proofs.Firsts.{without_limits}
 use Rattle.verilog_text.proofs.ReadingLaws.{one_text}
@@ -17,7 +21,7 @@ use Rattle.verilog_text.proofs.ReadingLaws.{one_text}
 -- ---- the derivation
 
 abbrev freed : Expr → Expr
-freed (Full x) = Free (whole (as_prim x))
+freed (Full x) = Free (nested (only (as_prim x)))
 freed (Free x) = Free x
 
 abbrev mutual
@@ -59,7 +63,7 @@ free_file f = record { name = f.name; port = f.port; ports = f.ports; items = fr
 -- ---- its tree
 
 same_expr : (x : Expr) → expr_tree (freed x) ≡ expr_tree x
-same_expr (Full x) = same_prim x
+same_expr (Full x) = nested_tree (only (as_prim x)) ∙ same_prim x
 same_expr (Free x) = refl
 
 mutual
@@ -137,7 +141,7 @@ module _ (most : Option ℕ) where
     W = counted limit most
 
     expr_too : (d : ℕ) (x : Expr) (K L : List Token → Type 0) → ((r : List Token) → K r → L r) → expression_few most (expr_tree x) ≡ true → (ts : List Token) → expr Parenthesised limit d x K ts → expr ByPrecedence W d (freed x) L ts
-    expr_too d (Full x) K L f e ts h = (subst (λ t. expression_few most t ≡ true) (sym (same_prim x)) e, prim_too limit most d x K L f ts h)
+    expr_too d (Full x) K L f e ts h = (subst (λ t. expression_few most t ≡ true) (sym (same_expr (Full x))) e, A.freely limit most d (only (as_prim x)) (Apart false) (λ n. K) L (λ m. f) ts ((alike limit d x false K (λ n. K) (λ us. same) ts).0 h))
     expr_too d (Free x) K L f e ts h = absurd h
 
     -- if or case, a parenthesis, an expression, and what stands behind it

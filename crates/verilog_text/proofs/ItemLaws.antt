@@ -2,26 +2,25 @@
 use Rattle.std.proofs.Common.{◌≡◌, ℕ, ◌+◌, Bool, true, false, List, [], ◌∷◌, ◌++◌, Option, Some, None, refl, ◌↔◌, subst, sym, ap, ◌∙◌, codes, append_assoc, append-nil}
 use Rattle.std.specs.Str.{bytes_eq}
 use Rattle.bist_bits.specs.Vector.{Vector}
-use Rattle.bist_text.proofs.Pieces.{also, neither, same, never}
+use Rattle.bist_text.proofs.Pieces.{also, same, never, holds_never}
 use Rattle.bist_text.specs.Grammar.{when}
 use Rattle.bist_text.specs.inner.Lexed.{Parses}
 use Rattle.bist_text.specs.Machine.{Holds}
 use Rattle.bist_text.specs.ReservedWords.{is_among, reserved_words}
 use Rattle.verilog_tree.specs.Grammar.{Limit, Item, Port, File, is_sign, sign, keyword, name, number, is_zero, zero_number, deeper, inside, literals, ends_in_if, colon_if, range, names, wire_if, output_of, direction, port, ports, then_all, alone, range_width, ports_tree, Expr, Stmt, Stmts, Arm, Arms, Default, expr, stmt, stmts, arm, arms, default, expr_tree, stmt_tree, stmts_tree, arm_tree, arms_tree, default_tree, IfElse, NoStmt, AndStmt, ArmOf, NoArm, AndArm, NoDefault, ItsDefault, Wires, Style}
-use Rattle.verilog_tree.specs.Parenthesised as Y
 use Rattle.verilog_tree.specs.Free.{signed}
 use Rattle.verilog_text.specs.Flat as F
-use Rattle.verilog_text.specs.Flat.{Left, settle_all}
+use Rattle.verilog_text.specs.Flat.{Left, settle_all, Count, one_more, behind}
 use Rattle.verilog_tree.specs.Plain as P
 use Rattle.verilog_tree.specs.Tokens.{Token, Identifier, Number, Sign}
 use Rattle.verilog_tree.specs.declared.tokens.Mark.TheVariants.{Open, Close, OpenBracket, CloseBracket, CloseBrace, Comma, Semicolon, Colon, Equals, At}
 use Rattle.verilog_tree.specs.declared.tokens.Mark.{Mark}
 use Rattle.verilog_tree.specs.declared.tree.Dir.TheVariants.{Input, Output, OutputReg}
 use Rattle.verilog_tree.specs.declared.tree.Dir.{Dir}
-use Rattle.verilog_text.specs.inner.Following.{AfterStmt, items_behind, after_items, else_part, after_stmt, turn, AfterExpr, after_expr, place, in_bracket, rest_expr, case_ends, rest_stmt, UseTail, wires, regs, after_ports, after_name, name_read, rest_item, rest, AfterAlone, after_alone, AfterNest, after_nest}
+use Rattle.verilog_text.specs.inner.Following.{AfterStmt, items_behind, after_items, else_part, after_stmt, AfterExpr, after_expr, place, in_bracket, rest_expr, case_ends, rest_stmt, UseTail, wires, regs, after_ports, after_name, name_read, rest_item, rest, AfterAlone, after_alone, AfterNest, after_nest}
 use Rattle.verilog_text.specs.Following.{case_of, with_ports, declare, new_head}
-use Rattle.verilog_text.specs.Places.{Head, with_item, Around, Outside, more_parts, more_arms, ExprPlace, StmtPlace, Use, ItemPlace, State, InAlways, InBlock, InThen, InElse, InArm, InDefault, Driving, InBraces, InParens, Want, Inside, Named, Bracket, HighRead, ColonRead, LowRead, Have, WantStmt, Target, IfRead, CaseRead, FirstLabel, Labels, NextLabel, DefaultRead, Block, HaveStmt, AsWire, AsReg, AsPort, Begin, HeadName, HeadOpen, WantPort, InputRead, OutputRead, WantRange, WantHigh, WantColon, WantZero, WantBracket, WantName, NameRead, PortsRead, WantItem, AssignRead, DriveRead, AlwaysRead, AtRead, ClockOpen, EdgeRead, ClockRead, Ended, AtExpr, AtStmt, AtItem, style_of, AsDriver, begin_expr, Alone, Nest, Only, InRound, InList, IfTrue, IfFalse, Linked, WantOperand, WantPrim}
-use Rattle.verilog_text.specs.inner.Places.{Turn, Place, Closed, Infix, Asked, Whole, One, Two}
+use Rattle.verilog_text.specs.Places.{Head, with_item, Around, Outside, more_parts, more_arms, ExprPlace, StmtPlace, Use, ItemPlace, State, InAlways, InBlock, InThen, InElse, InArm, InDefault, Named, Bracket, HighRead, ColonRead, LowRead, Have, WantStmt, Target, IfRead, CaseRead, FirstLabel, Labels, NextLabel, DefaultRead, Block, HaveStmt, AsWire, AsReg, AsPort, Begin, HeadName, HeadOpen, WantPort, InputRead, OutputRead, WantRange, WantHigh, WantColon, WantZero, WantBracket, WantName, NameRead, PortsRead, WantItem, AssignRead, DriveRead, AlwaysRead, AtRead, ClockOpen, EdgeRead, ClockRead, Ended, AtExpr, AtStmt, AtItem, style_of, AsDriver, begin_expr, Alone, Nest, Only, InRound, InList, IfTrue, IfFalse, Linked, WantOperand, WantPrim}
+use Rattle.verilog_text.specs.inner.Places.{Place, Two, Whole, One}
 use Rattle.verilog_text.specs.Steps.{in_room, only_where, is_word, unless, takes_name, takes_number, takes_zero, opens, declared, range_step, port_step, input_step, output_step, list_step, name_step, step_item, step, value_item, value}
 use Rattle.verilog_text.proofs.ExprLaws.{expr_laws}
 use Rattle.verilog_text.proofs.MarkLaws.{expects_goes}
@@ -240,8 +239,8 @@ module _ (limit : Limit) where
   item_laws (NameRead u w) t ts v = name_read_goes u w t ts v
   item_laws (PortsRead h) t ts v = expects_goes limit Semicolon (AtItem (WantItem h)) (λ is. after_items limit h is v) t ts v same
   item_laws (WantItem h) t ts v = want_item_goes limit h t ts v
-  item_laws (AssignRead h) t ts v = also (λ k. (k.0, (k.1, k.2), k.3), λ k. (k.0, k.1.0, k.1.1, k.2)) (takes_name_goes (λ n. AtItem (DriveRead h n)) (λ n (x : Expr × List Item). sign Equals (expr h.style limit 0 x.0 (after_expr limit (Driving h n) x.1 0 (expr_tree x.0) v))) t ts v (λ n. (λ k. (k.0.0, k.0.1, k.1), λ k. ((k.0, k.1), k.2))))
-  item_laws (DriveRead h n) t ts v = also (λ k. ((k.0, k.1), k.2), λ k. (k.0.0, k.0.1, k.1)) (expects_goes limit Equals (AtExpr (begin_expr h.style 0 (AsDriver h n))) (λ (x : Expr × List Item). expr h.style limit 0 x.0 (after_expr limit (Driving h n) x.1 0 (expr_tree x.0) v)) t ts v (also (λ k. (k.0.0, k.0.1, k.1), λ k. ((k.0, k.1), k.2)) (begins limit h.style 0 (AsDriver h n) ts v)))
+  item_laws (AssignRead h) t ts v = also (λ k. (k.0, (k.1, k.2), k.3), λ k. (k.0, k.1.0, k.1.1, k.2)) (takes_name_goes (λ n. AtItem (DriveRead h n)) (λ n (x : Expr × List Item). sign Equals (expr h.style limit 0 x.0 (after_alone limit (AsDriver h n) x.1 0 (expr_tree x.0) v))) t ts v (λ n. (λ k. (k.0.0, k.0.1, k.1), λ k. ((k.0, k.1), k.2))))
+  item_laws (DriveRead h n) t ts v = also (λ k. ((k.0, k.1), k.2), λ k. (k.0.0, k.0.1, k.1)) (expects_goes limit Equals (AtExpr (begin_expr h.style 0 (AsDriver h n))) (λ (x : Expr × List Item). expr h.style limit 0 x.0 (after_alone limit (AsDriver h n) x.1 0 (expr_tree x.0) v)) t ts v (also (λ k. (k.0.0, k.0.1, k.1), λ k. ((k.0, k.1), k.2)) (begins limit h.style 0 (AsDriver h n) ts v)))
   item_laws (AlwaysRead h) t ts v = also (λ k. ((k.0, k.1, k.2), k.3), λ k. (k.0.0, k.0.1, k.0.2, k.1)) (expects_goes limit At (AtItem (AtRead h)) (λ (x : List ℕ × Stmt × List Item). sign Open (inside limit 0 (λ q. keyword (codes "posedge") (name x.0 (clocked h x.0 x.1 x.2 v))))) t ts v (λ k. (k.0.0, k.0.1, k.0.2, k.1), λ k. ((k.0, k.1, k.2), k.3)))
   item_laws (AtRead h) t ts v = also (λ k. ((k.0, k.1, k.2), k.3), λ k. (k.0.0, k.0.1, k.0.2, k.1)) (opens_goes 0 (AtItem (ClockOpen h)) (λ (x : List ℕ × Stmt × List Item). keyword (codes "posedge") (name x.0 (clocked h x.0 x.1 x.2 v))) t ts v (λ k. (k.0.0, k.0.1, k.0.2, k.1), λ k. ((k.0, k.1, k.2), k.3)))
   item_laws (ClockOpen h) t ts v = also (λ k. ((k.0, k.1, k.2), k.3), λ k. (k.0.0, k.0.1, k.0.2, k.1)) (expects_word_goes limit (codes "posedge") (AtItem (EdgeRead h)) (λ (x : List ℕ × Stmt × List Item). name x.0 (clocked h x.0 x.1 x.2 v)) t ts v (λ k. (k.0.0, k.0.1, k.0.2, k.1), λ k. ((k.0, k.1, k.2), k.3)))
@@ -255,10 +254,6 @@ module _ (limit : Limit) where
   parse_goes (AtItem p) t ts v = item_laws p t ts v
 
   -- nothing but a module ends with the tokens
-  expr_more : (p : ℕ) (x : Y.Expr) (K : List Token → Type 0) → Y.expr limit p x K [] → ⊥
-  expr_more p (Y.Name n) K h = h
-  expr_more p x K h = h
-
   stmt_more : (y : Style) (q : ℕ) (x : Stmt) (K : List Token → Type 0) → stmt y limit q x K [] → ⊥
   stmt_more y q (IfElse c a b) K h = h
   stmt_more y q x K h = h
@@ -296,48 +291,34 @@ module _ (limit : Limit) where
   alone_more (AsDriver h n) x p e v k = k
   alone_more b x p e v k = k
 
-  nest_more : (o : Nest) (x : AfterNest o) (p n : ℕ) (e : P.Expression) (v : P.ModuleTree) → after_nest limit o x p n e v [] → ⊥
-  nest_more (Only b) x p n e v k = alone_more b x p e v k
-  nest_more (InRound r ws u o) x p n e v k = k
-  nest_more (InList r old ws u o) x p n e v k = go x.0 k
+  nest_more : (o : Nest) (x : AfterNest o) (p : ℕ) (m : Count) (e : P.Expression) (v : P.ModuleTree) → after_nest limit o x p m e v [] → ⊥
+  nest_more (Only b) x p m e v k = alone_more b x p e v k
+  nest_more (InRound r n ws u o) x p m e v k = k
+  nest_more (InList r old n ws u o) x p m e v k = go x.0 k
     where
-      go : (xs : F.Flats) → F.flats limit p xs n (λ m. sign CloseBrace (F.tail limit r x.1 m (λ j. after_nest limit o x.2 r j (F.tail_tree ws (signed u (P.Concatenation (more_parts old (P.Followed e (F.flats_tree xs))))) x.1) v))) [] → ⊥
+      go : (xs : F.Flats) → F.flats limit p xs m (λ i. sign CloseBrace (F.tail limit r x.1 (behind n i) (λ j. after_nest limit o x.2 r j (F.tail_tree ws (signed u (P.Concatenation (more_parts old (P.Followed e (F.flats_tree xs))))) x.1) v))) [] → ⊥
       go F.NoFlat z = z
       go (F.AndFlat y xs) z = z
-  nest_more (IfTrue c o) x p n e v k = k
-  nest_more (IfFalse c y o) x p n e v k = nest_more o x p n (P.Conditional c y e) v k
+  nest_more (IfTrue c o) x p m e v k = k
+  nest_more (IfFalse c y o) x p m e v k = nest_more o x p m (P.Conditional c y e) v k
 
-  tail_more : (p n : ℕ) (ws : List Left) (e : P.Expression) (o : Nest) (t : F.Tail) (x : AfterNest o) (v : P.ModuleTree) → F.tail limit p t n (λ m. after_nest limit o x p m (F.tail_tree ws e t) v) [] → ⊥
+  tail_more : (p : ℕ) (n : Count) (ws : List Left) (e : P.Expression) (o : Nest) (t : F.Tail) (x : AfterNest o) (v : P.ModuleTree) → F.tail limit p t n (λ m. after_nest limit o x p m (F.tail_tree ws e t) v) [] → ⊥
   tail_more p n ws e o F.End x v k = nest_more o x p n (settle_all ws e) v k
-  tail_more p n ws e o (F.Link b y t) x v k = k.1
-  tail_more p n ws e o (F.Ask y z) x v k = k.1
+  tail_more p n ws e o (F.Link b y t) x v k = holds_never (one_more limit n) _ (λ j h. h) k
+  tail_more p n ws e o (F.Ask y z) x v k = holds_never (one_more limit n) _ (λ j h. h) k
 
-  prim_more : (p : ℕ) (x : F.Prim) (n : ℕ) (K : ℕ → List Token → Type 0) → F.prim limit p x n K [] → ⊥
+  prim_more : (p : ℕ) (x : F.Prim) (n : Count) (K : Count → List Token → Type 0) → F.prim limit p x n K [] → ⊥
   prim_more p (F.Name w) n K k = k
   prim_more p x n K k = k
 
-  operand_more : (p : ℕ) (x : F.Operand) (n : ℕ) (K : ℕ → List Token → Type 0) → F.operand limit p x n K [] → ⊥
+  operand_more : (p : ℕ) (x : F.Operand) (n : Count) (K : Count → List Token → Type 0) → F.operand limit p x n K [] → ⊥
   operand_more p (F.OperandOf None y) n K k = prim_more p y n K k
-  operand_more p (F.OperandOf (Some u) y) n K k = k.1
+  operand_more p (F.OperandOf (Some u) y) n K k = holds_never (one_more limit n) _ (λ j h. h) k
 
   after_expr_more : (o : Outside) (x : AfterExpr o) (p : ℕ) (e : P.Expression) (v : P.ModuleTree) → after_expr limit o x p e v [] → ⊥
-  after_expr_more (InBraces r old o) x p e v k = go x.0 k
-    where
-      go : (xs : Y.Exprs) → Y.exprs limit p xs (sign CloseBrace (after_expr limit o x.1 r (P.Concatenation (more_parts old (P.Followed e (Y.exprs_tree xs)))) v)) [] → ⊥
-      go Y.NoExpr z = z
-      go (Y.AndExpr y xs) z = z
-  after_expr_more (InParens r o) x p e v k = go x.0 k
-    where
-      go : (u : Turn) → turn limit p u e (λ w. after_expr limit o x.1 r w v) [] → ⊥
-      go Closed z = z
-      go (Infix b y) z = z
-      go (Asked y z) w = w
   after_expr_more (Linked n ws u o) x p e v k = tail_more p n ws (signed u e) o x.0 x.1 v k
-  after_expr_more o x p e v k = k
 
   expr_ends : (p : ExprPlace) (v : P.ModuleTree) → rest_expr limit p [] v → ⊥
-  expr_ends (Want p o) v k = expr_more p k.0 (after_expr limit o k.1 p (Y.expr_tree k.0) v) k.2
-  expr_ends (Inside q r o) v k = neither (λ h. expr_more q h.0 (after_expr limit (InParens r o) h.1 q (Y.expr_tree h.0) v) h.2) (λ h. h.3) k
   expr_ends (Named p n o) v k = go k.0 k.2
     where
       go : (i : Place) → place n i (λ e. after_expr limit o k.1 p e v) [] → ⊥

@@ -3,10 +3,11 @@ pub mod Grouping
 pub mod TokenPieces
 pub mod Uncounted
 pub mod Alike
-pub mod AsPrims
 pub mod Nesting
 pub mod Counting
 pub mod SameTexts
+pub mod FullTexts
+pub mod Forgetting
 pub mod Marks
 pub mod MarkLaws
 pub mod FreeLaws

@@ -7,14 +7,14 @@ use Rattle.verilog_tree.specs.declared.tokens.Mark.TheVariants.{Open, OpenBrace,
 use Rattle.verilog_tree.specs.declared.tree.UnOp.{UnOp}
 use Rattle.verilog_tree.specs.declared.tree.BinOp.{BinOp}
 use Rattle.verilog_tree.specs.Free.{signed}
-use Rattle.verilog_text.specs.Flat.{Left, settle_all, linked}
+use Rattle.verilog_text.specs.Flat.{Left, settle_all, linked, Count, Together, Apart, one_more}
 use Rattle.verilog_tree.specs.Grammar.{Limit, unlimited, deeper_in, few, deeper, then_all, alone}
 use Rattle.verilog_tree.specs.Plain as P
 use Rattle.verilog_tree.specs.Tokens.{Token, Identifier, Sign}
 use Rattle.verilog_text.specs.Expected.{is_step, taken}
 use Rattle.verilog_text.specs.inner.Following.{rest}
-use Rattle.verilog_text.specs.Places.{Around, Outside, ExprPlace, StmtPlace, ItemPlace, State, InBlock, InThen, InElse, InDefault, InParens, Want, Inside, WantStmt, IfRead, CaseRead, DefaultRead, Block, HaveStmt, HeadOpen, AtRead, AtExpr, AtStmt, AtItem, Nest, IfTrue, Linked, WantOperand, WantPrim, Named, Have, InBraces}
-use Rattle.verilog_text.specs.Steps.{in_room, want_step, unary_of, unary_step, inside_step, step_expr, word_step, want_stmt_step, block_step, have_stmt_step, step_stmt, opens, step_item, step, is_word, only_where, one_more, ask_step, link_step, have_step, prim_step, sign_step, operand_step, infix_of}
+use Rattle.verilog_text.specs.Places.{Around, Outside, ExprPlace, StmtPlace, ItemPlace, State, InBlock, InThen, InElse, InDefault, WantStmt, IfRead, CaseRead, DefaultRead, Block, HaveStmt, HeadOpen, AtRead, AtExpr, AtStmt, AtItem, Nest, IfTrue, Linked, WantOperand, WantPrim, Named, Have}
+use Rattle.verilog_text.specs.Steps.{in_room, unary_of, step_expr, word_step, want_stmt_step, block_step, have_stmt_step, step_stmt, opens, step_item, step, is_word, ask_step, link_step, have_step, prim_step, sign_step, operand_step, infix_of}
 use Rattle.verilog_text.proofs.ItemLaws.{parse_goes}
 
 -- of two steps, the first is there only where the second is
@@ -36,48 +36,38 @@ module _ (limit wider : Limit) (more : (d e : ℕ) → deeper limit d ≡ Some e
       go None k e = cc
       go (Some x) k e = ap (λ o. in_room o f) (more d x k) ∙ e
 
-  want : (p : ℕ) (o : Outside) (t : Token) → Within (want_step limit p o t) (want_step wider p o t)
-  want p o (Sign Open) = room p _
-  want p o (Sign OpenBrace) = room p _
-  want p o (Sign m) = same _
-  want p o t = same _
-
-  crowd : (n : ℕ) (s s' : Option State) → Within s s' → Within (only_where (few limit n) s) (only_where (few wider n) s')
-  crowd n s s' f q e = go (few limit n) refl e
+  counted : (n : Count) (f : Count → State) → Within (in_room (one_more limit n) f) (in_room (one_more wider n) f)
+  counted (Apart true) f q e = e
+  counted (Apart false) f q e = cc
+  counted (Together n) f q e = go (few limit (n + 1)) refl e
     where
-      go : (b : Bool) → few limit n ≡ b → only_where b s ≡ Some q → only_where (few wider n) s' ≡ Some q
-      go true k e = ap (λ b. only_where b s') (fewer n k) ∙ f q e
+      go : (b : Bool) → few limit (n + 1) ≡ b → in_room (if b then Some (Together (n + 1)) else None) f ≡ Some q → in_room (one_more wider (Together n)) f ≡ Some q
+      go true k e = ap (λ b. in_room (if b then Some (Together (n + 1)) else None) f) (fewer (n + 1) k) ∙ e
       go false k e = cc
 
-  counted : (n : ℕ) (f : ℕ → ExprPlace) → Within (one_more limit n f) (one_more wider n f)
-  counted n f = crowd (n + 1) _ _ (same _)
-
-  ask : (p n : ℕ) (ws : List Left) (e : P.Expression) (o : Nest) (m : Mark) → Within (ask_step limit p n ws e o m) (ask_step wider p n ws e o m)
-  ask p n ws e o Question = counted n (λ j. WantOperand p j [] (IfTrue (settle_all ws e) o))
+  ask : (p : ℕ) (n : Count) (ws : List Left) (e : P.Expression) (o : Nest) (m : Mark) → Within (ask_step limit p n ws e o m) (ask_step wider p n ws e o m)
+  ask p n ws e o Question = counted n (λ j. AtExpr (WantOperand p j [] (IfTrue (settle_all ws e) o)))
   ask p n ws e o m = same _
 
-  join : (b : Option BinOp) (p n : ℕ) (ws : List Left) (e : P.Expression) (o : Nest) (m : Mark) → Within (link_step limit b p n ws e o m) (link_step wider b p n ws e o m)
+  join : (b : Option BinOp) (p : ℕ) (n : Count) (ws : List Left) (e : P.Expression) (o : Nest) (m : Mark) → Within (link_step limit b p n ws e o m) (link_step wider b p n ws e o m)
   join None p n ws e o m = ask p n ws e o m
-  join (Some b) p n ws e o m = counted n (λ j. WantOperand p j (linked b ws e) o)
+  join (Some b) p n ws e o m = counted n (λ j. AtExpr (WantOperand p j (linked b ws e) o))
 
   have : (p : ℕ) (e : P.Expression) (o : Outside) (t : Token) → Within (have_step limit p e o t) (have_step wider p e o t)
   have p e (Linked n ws u o) (Sign m) = join (infix_of m) p n ws (signed u e) o m
   have p e (Linked n ws u o) t = same _
-  have p e (InBraces r old o) (Sign m) = same _
-  have p e (InParens r o) (Sign m) = same _
-  have p e o t = same _
 
-  prim : (p n : ℕ) (ws : List Left) (u : Option UnOp) (o : Nest) (t : Token) → Within (prim_step limit p n ws u o t) (prim_step wider p n ws u o t)
+  prim : (p : ℕ) (n : Count) (ws : List Left) (u : Option UnOp) (o : Nest) (t : Token) → Within (prim_step limit p n ws u o t) (prim_step wider p n ws u o t)
   prim p n ws u o (Sign Open) = room p _
   prim p n ws u o (Sign OpenBrace) = room p _
   prim p n ws u o (Sign m) = same _
   prim p n ws u o t = same _
 
-  marked : (v : Option UnOp) (p n : ℕ) (ws : List Left) (o : Nest) (m : Mark) → Within (sign_step limit v p n ws o m) (sign_step wider v p n ws o m)
+  marked : (v : Option UnOp) (p : ℕ) (n : Count) (ws : List Left) (o : Nest) (m : Mark) → Within (sign_step limit v p n ws o m) (sign_step wider v p n ws o m)
   marked None p n ws o m = prim p n ws None o (Sign m)
-  marked (Some u) p n ws o m = counted n (λ j. WantPrim p j ws (Some u) o)
+  marked (Some u) p n ws o m = counted n (λ j. AtExpr (WantPrim p j ws (Some u) o))
 
-  operand : (p n : ℕ) (ws : List Left) (o : Nest) (t : Token) → Within (operand_step limit p n ws o t) (operand_step wider p n ws o t)
+  operand : (p : ℕ) (n : Count) (ws : List Left) (o : Nest) (t : Token) → Within (operand_step limit p n ws o t) (operand_step wider p n ws o t)
   operand p n ws o (Sign m) = marked (unary_of m) p n ws o m
   operand p n ws o t = prim p n ws None o t
 
@@ -86,17 +76,7 @@ module _ (limit wider : Limit) (more : (d e : ℕ) → deeper limit d ≡ Some e
   named p n o (Sign m) = have p (P.Net n) o (Sign m)
   named p n o t = have p (P.Net n) o t
 
-  unary : (u : Option UnOp) (q r : ℕ) (o : Outside) (m : Mark) → Within (unary_step limit u q r o m) (unary_step wider u q r o m)
-  unary None q r o m = want q (InParens r o) (Sign m)
-  unary (Some u) q r o m = same _
-
-  inner : (q r : ℕ) (o : Outside) (t : Token) → Within (inside_step limit q r o t) (inside_step wider q r o t)
-  inner q r o (Sign m) = unary (unary_of m) q r o m
-  inner q r o t = want q (InParens r o) t
-
   expression : (p : ExprPlace) (t : Token) → Within (step_expr limit p t) (step_expr wider p t)
-  expression (Want p o) t = want p o t
-  expression (Inside q r o) t = inner q r o t
   expression (Named p n o) t = named p n o t
   expression (Have p e o) t = have p e o t
   expression (WantOperand p n ws o) t = operand p n ws o t

@@ -13,15 +13,15 @@ use Rattle.verilog_tree.specs.declared.tree.BinOp.{BinOp}
 use Rattle.verilog_tree.specs.declared.tree.UnOp.{UnOp}
 use Rattle.verilog_tree.specs.Grammar.{Limit, unlimited, deeper_in, deeper, few, is_sign, then_all, alone}
 use Rattle.verilog_tree.specs.Free.{signed}
-use Rattle.verilog_text.specs.Flat.{Left, settle_all, linked}
+use Rattle.verilog_text.specs.Flat.{Left, settle_all, linked, Count, Together, Apart, one_more, in_parens, in_braces}
 use Rattle.verilog_tree.specs.Spells.{bounded}
 use Rattle.verilog_tree.specs.Plain as P
 use Rattle.verilog_tree.specs.Tokens.{Token, Identifier, Sign}
 use Rattle.verilog_text.specs.Expected.{is_step, taken}
 use Rattle.verilog_text.specs.inner.Following.{rest}
 use Rattle.verilog_text.specs.Openings.{Opening, Parenthesis, Brace, BlockWord, IfWord, CaseWord, Operator, opening_token, limit_of}
-use Rattle.verilog_text.specs.Places.{Around, Outside, ExprPlace, StmtPlace, ItemPlace, State, InBlock, InThen, InElse, InDefault, InParens, Want, Inside, WantStmt, IfRead, CaseRead, DefaultRead, Block, HaveStmt, HeadOpen, AtRead, AtExpr, AtStmt, AtItem, Nest, InRound, InList, IfTrue, Linked, InBraces, WantOperand, WantPrim, Named, Have}
-use Rattle.verilog_text.specs.Steps.{in_room, want_step, unary_of, unary_step, inside_step, step_expr, word_step, want_stmt_step, block_step, have_stmt_step, step_stmt, step_item, step, is_word, target_step, one_more, ask_step, link_step, have_step, prim_step, sign_step, operand_step, infix_of}
+use Rattle.verilog_text.specs.Places.{Around, Outside, ExprPlace, StmtPlace, ItemPlace, State, InBlock, InThen, InElse, InDefault, WantStmt, IfRead, CaseRead, DefaultRead, Block, HaveStmt, HeadOpen, AtRead, AtExpr, AtStmt, AtItem, Nest, InRound, InList, IfTrue, Linked, WantOperand, WantPrim, Named, Have}
+use Rattle.verilog_text.specs.Steps.{in_room, unary_of, step_expr, word_step, want_stmt_step, block_step, have_stmt_step, step_stmt, step_item, step, is_word, target_step, ask_step, link_step, have_step, prim_step, sign_step, operand_step, infix_of}
 use Rattle.verilog_text.proofs.ItemLaws.{parse_goes}
 use Rattle.verilog_text.proofs.Limits.{wider_step, no_limit}
 
@@ -104,8 +104,10 @@ simply : (o : Opening) (d : ℕ) (f : ℕ → State) → (limit_of o).openings �
 simply o d f n h e = (o, refl, λ ts v k. subst (λ (m : Option State). Holds m (λ z. rest (limit_of o) z ts v)) (ap (λ w. in_room (deeper_in w d) f) n ∙ e) k)
 
 -- an operator more
-counted : (n : ℕ) (f : ℕ → ExprPlace) (m : Mark) → Blocks (λ l. one_more l n f) (Sign m)
-counted n f m h e = (Operator m, refl, λ ts v k. subst (λ (s : Option State). Holds s (λ z. rest (limit_of (Operator m)) z ts v)) e k)
+counted : (n : Count) (f : Count → State) (m : Mark) → Blocks (λ l. in_room (one_more l n) f) (Sign m)
+counted (Apart true) f m h e = cc
+counted (Apart false) f m h e = cc
+counted (Together n) f m h e = (Operator m, refl, λ ts v k. subst (λ (s : Option State). Holds s (λ z. rest (limit_of (Operator m)) z ts v)) e k)
 
 lt_false : (d n : ℕ) → nat_lt d n ≡ false → n ≤ d
 lt_false d n h = let k : nat_lt d n ≡ true → ⊥ = (λ e. let z : true ≡ false = sym e ∙ h in cc) in let m : d < n → ⊥ = (λ l. k (lt-ltb d n l)) in omega (arith, m)
@@ -162,48 +164,29 @@ cases q a h e = (CaseWord, refl, λ ts v k. go (deeper_in (Some 65) q) refl ts v
         opened F false k = k
     go (Some p) m (t ∷ ts) v k = k.5
 
-want : (p : ℕ) (o : Outside) (t : Token) → Blocks (λ l. want_step l p o t) t
-want p o (Sign Open) = simply Parenthesis p (λ q. AtExpr (Inside q p o)) refl
-want p o (Sign OpenBrace) = simply Brace p _ refl
-want p o (Sign m) = still _ (Sign m)
-want p o t = still _ t
-
-inner : (q r : ℕ) (o : Outside) (t : Token) → Blocks (λ l. inside_step l q r o t) t
-inner q r o (Sign m) = unary (unary_of m)
-  where
-    unary : (u : Option UnOp) → Blocks (λ l. unary_step l u q r o m) (Sign m)
-    unary None = want q (InParens r o) (Sign m)
-    unary (Some u) = still _ (Sign m)
-inner q r o t = want q (InParens r o) t
-
-ask : (p n : ℕ) (ws : List Left) (e : P.Expression) (o : Nest) (m : Mark) → Blocks (λ l. ask_step l p n ws e o m) (Sign m)
-ask p n ws e o Question = counted n (λ j. WantOperand p j [] (IfTrue (settle_all ws e) o)) Question
+ask : (p : ℕ) (n : Count) (ws : List Left) (e : P.Expression) (o : Nest) (m : Mark) → Blocks (λ l. ask_step l p n ws e o m) (Sign m)
+ask p n ws e o Question = counted n (λ j. AtExpr (WantOperand p j [] (IfTrue (settle_all ws e) o))) Question
 ask p n ws e o m = still _ (Sign m)
 
-join : (b : Option BinOp) (p n : ℕ) (ws : List Left) (e : P.Expression) (o : Nest) (m : Mark) → Blocks (λ l. link_step l b p n ws e o m) (Sign m)
+join : (b : Option BinOp) (p : ℕ) (n : Count) (ws : List Left) (e : P.Expression) (o : Nest) (m : Mark) → Blocks (λ l. link_step l b p n ws e o m) (Sign m)
 join None p n ws e o m = ask p n ws e o m
-join (Some b) p n ws e o m = counted n (λ j. WantOperand p j (linked b ws e) o) m
+join (Some b) p n ws e o m = counted n (λ j. AtExpr (WantOperand p j (linked b ws e) o)) m
 
 have : (p : ℕ) (e : P.Expression) (o : Outside) (t : Token) → Blocks (λ l. have_step l p e o t) t
 have p e (Linked n ws u o) (Sign m) = join (infix_of m) p n ws (signed u e) o m
 have p e (Linked n ws u o) t = still _ t
-have p e (InBraces r old o) (Sign m) = still _ (Sign m)
-have p e (InBraces r old o) t = still _ t
-have p e (InParens r o) (Sign m) = still _ (Sign m)
-have p e (InParens r o) t = still _ t
-have p e o t = still _ t
 
-prim : (p n : ℕ) (ws : List Left) (u : Option UnOp) (o : Nest) (t : Token) → Blocks (λ l. prim_step l p n ws u o t) t
-prim p n ws u o (Sign Open) = simply Parenthesis p (λ q. AtExpr (WantOperand q n [] (InRound p ws u o))) refl
-prim p n ws u o (Sign OpenBrace) = simply Brace p (λ q. AtExpr (WantOperand q n [] (InList p P.NoMore ws u o))) refl
+prim : (p : ℕ) (n : Count) (ws : List Left) (u : Option UnOp) (o : Nest) (t : Token) → Blocks (λ l. prim_step l p n ws u o t) t
+prim p n ws u o (Sign Open) = simply Parenthesis p (λ q. AtExpr (WantOperand q (in_parens n) [] (InRound p n ws u o))) refl
+prim p n ws u o (Sign OpenBrace) = simply Brace p (λ q. AtExpr (WantOperand q (in_braces n) [] (InList p P.NoMore n ws u o))) refl
 prim p n ws u o (Sign m) = still _ (Sign m)
 prim p n ws u o t = still _ t
 
-marked : (v : Option UnOp) (p n : ℕ) (ws : List Left) (o : Nest) (m : Mark) → Blocks (λ l. sign_step l v p n ws o m) (Sign m)
+marked : (v : Option UnOp) (p : ℕ) (n : Count) (ws : List Left) (o : Nest) (m : Mark) → Blocks (λ l. sign_step l v p n ws o m) (Sign m)
 marked None p n ws o m = prim p n ws None o (Sign m)
-marked (Some u) p n ws o m = counted n (λ j. WantPrim p j ws (Some u) o) m
+marked (Some u) p n ws o m = counted n (λ j. AtExpr (WantPrim p j ws (Some u) o)) m
 
-operand : (p n : ℕ) (ws : List Left) (o : Nest) (t : Token) → Blocks (λ l. operand_step l p n ws o t) t
+operand : (p : ℕ) (n : Count) (ws : List Left) (o : Nest) (t : Token) → Blocks (λ l. operand_step l p n ws o t) t
 operand p n ws o (Sign m) = marked (unary_of m) p n ws o m
 operand p n ws o t = prim p n ws None o t
 
@@ -213,8 +196,6 @@ named p n o (Sign m) = have p (P.Net n) o (Sign m)
 named p n o t = have p (P.Net n) o t
 
 expression : (p : ExprPlace) (t : Token) → Blocks (λ l. step_expr l p t) t
-expression (Want p o) t = want p o t
-expression (Inside q r o) t = inner q r o t
 expression (Named p n o) t = named p n o t
 expression (Have p e o) t = have p e o t
 expression (WantOperand p n ws o) t = operand p n ws o t

@@ -10,16 +10,16 @@ use Rattle.verilog_tree.specs.declared.tokens.Mark.TheVariants.{Open, Close, Ope
 use Rattle.verilog_tree.specs.declared.tree.BinOp.{BinOp}
 use Rattle.verilog_tree.specs.declared.tree.Dir.TheVariants.{Input, Output, OutputReg}
 use Rattle.verilog_tree.specs.declared.tree.UnOp.{UnOp}
-use Rattle.verilog_tree.specs.Grammar.{few, deeper, is_sign, is_zero, then_all, alone}
+use Rattle.verilog_tree.specs.Grammar.{deeper, is_sign, is_zero, then_all, alone}
 use Rattle.verilog_tree.specs.Plain as P
 use Rattle.verilog_tree.specs.Spells.{bounded}
 use Rattle.verilog_tree.specs.Free.{signed}
-use Rattle.verilog_text.specs.Flat.{Left, settle_all, linked}
+use Rattle.verilog_text.specs.Flat.{Left, settle_all, linked, Count, one_more, behind as counted_behind, in_parens, in_braces}
 use Rattle.verilog_tree.specs.Tokens.{Token, Identifier, Number, Based, Unused, Sign}
 use Rattle.verilog_text.specs.Following.{case_of, declare, new_head}
 use Rattle.verilog_text.specs.Openings.{Opening, Parenthesis, Brace, BlockWord, IfWord, CaseWord, Operator, opening_token, limit_of}
-use Rattle.verilog_text.specs.Places.{Head, with_item, Around, InAlways, InBlock, InThen, InElse, InArm, InDefault, Outside, Driving, Condition, Subject, Setting, InBraces, InParens, Operand, Second, Chosen, Otherwise, more_arms, ExprPlace, Want, Inside, Named, Bracket, HighRead, ColonRead, LowRead, Have, StmtPlace, WantStmt, Target, IfRead, CaseRead, FirstLabel, Labels, NextLabel, DefaultRead, Block, HaveStmt, Use, AsWire, AsReg, AsPort, ItemPlace, Begin, HeadName, HeadOpen, WantPort, InputRead, OutputRead, WantRange, WantHigh, WantColon, WantZero, WantBracket, WantName, NameRead, PortsRead, WantItem, AssignRead, DriveRead, AlwaysRead, AtRead, ClockOpen, EdgeRead, ClockRead, Ended, State, AtExpr, AtStmt, AtItem, style_of, begin_expr, Alone, AsDriver, AsCondition, AsSubject, AsValue, Nest, Only, InRound, InList, IfTrue, IfFalse, Linked, WantOperand, WantPrim}
-use Rattle.verilog_text.specs.Steps.{in_room, only_where, expects, expects_word, unary_of, infix_of, infix_step, paren_step, brace_step, have_step, target_step, is_word, arm_step, want_item_step, labels_step, unless, takes_name, takes_number, takes_zero, declared, range_step, list_step, name_step, want_step, unary_step, inside_step, step_expr, word_step, want_stmt_step, block_step, have_stmt_step, step_stmt, opens, step_item, step, one_more, alone_step, parts_step, close_step, ask_step, link_step, prim_step, sign_step, operand_step}
+use Rattle.verilog_text.specs.Places.{Head, with_item, Around, InAlways, InBlock, InThen, InElse, InArm, InDefault, Outside, more_arms, ExprPlace, Named, Bracket, HighRead, ColonRead, LowRead, Have, StmtPlace, WantStmt, Target, IfRead, CaseRead, FirstLabel, Labels, NextLabel, DefaultRead, Block, HaveStmt, Use, AsWire, AsReg, AsPort, ItemPlace, Begin, HeadName, HeadOpen, WantPort, InputRead, OutputRead, WantRange, WantHigh, WantColon, WantZero, WantBracket, WantName, NameRead, PortsRead, WantItem, AssignRead, DriveRead, AlwaysRead, AtRead, ClockOpen, EdgeRead, ClockRead, Ended, State, AtExpr, AtStmt, AtItem, style_of, begin_expr, Alone, AsDriver, AsCondition, AsSubject, AsValue, Nest, Only, InRound, InList, IfTrue, IfFalse, Linked, WantOperand, WantPrim}
+use Rattle.verilog_text.specs.Steps.{in_room, only_where, expects, expects_word, unary_of, infix_of, have_step, target_step, is_word, arm_step, want_item_step, labels_step, unless, takes_name, takes_number, takes_zero, declared, range_step, list_step, name_step, step_expr, word_step, want_stmt_step, block_step, have_stmt_step, step_stmt, opens, step_item, step, alone_step, parts_step, close_step, ask_step, link_step, prim_step, sign_step, operand_step}
 use Rattle.verilog_text.proofs.Alive.{HasRoom}
 
 abbrev Fits : State → Type 0
@@ -55,7 +55,7 @@ only : (t : Token) (b : Bool) (o : Option State) → Roomy t o → Roomy t (only
 only t true o h = h
 only t false o h = none t
 
-room : (t : Token) (o : Option ℕ) (f : ℕ → State) → ((q : ℕ) → Fits (f q)) → Roomy t (in_room o f)
+room : {A : Type 0} (t : Token) (o : Option A) (f : A → State) → ((q : A) → Fits (f q)) → Roomy t (in_room o f)
 room t None f h = none t
 room t (Some q) f h = to t (f q) (h q)
 
@@ -85,104 +85,55 @@ zero_number s t h = none t
 
 -- ---- expressions
 
-want : (p : ℕ) (o : Outside) (t : Token) → Roomy t (want_step bounded p o t)
-want p o (Identifier w) = either (Identifier w) (is_among w reserved_words) None (Some (AtExpr (Named p w o))) (none (Identifier w)) (to (Identifier w) (AtExpr (Named p w o)) (λ x. tt))
-want p o (Number l n) = none (Number l n)
-want p o (Based v) = to (Based v) (AtExpr (Have p (P.Literal v) o)) (λ x. tt)
-want p o Unused = none Unused
-want p o (Sign Open) = room (Sign Open) (deeper bounded p) (λ q. AtExpr (Inside q p o)) (λ q x. tt)
-want p o (Sign OpenBrace) = room (Sign OpenBrace) (deeper bounded p) (λ q. AtExpr (Want q (InBraces p P.NoMore o))) (λ q x. tt)
-want p o (Sign m) = none (Sign m)
-
-inside : (q r : ℕ) (o : Outside) (t : Token) → Roomy t (inside_step bounded q r o t)
-inside q r o (Sign m) = unary (unary_of m)
-  where
-    unary : (u : Option UnOp) → Roomy (Sign m) (unary_step bounded u q r o m)
-    unary None = want q (InParens r o) (Sign m)
-    unary (Some u) = to (Sign m) (AtExpr (Want q (Operand r u o))) (λ x. tt)
-inside q r o t = want q (InParens r o) t
-
-infixed : (t : Token) (b : Option BinOp) (q r : ℕ) (e : P.Expression) (o : Outside) → Roomy t (infix_step b q r e o)
-infixed t None q r e o = none t
-infixed t (Some b) q r e o = to t (AtExpr (Want q (Second r b e o))) (λ x. tt)
-
-paren : (q r : ℕ) (e : P.Expression) (o : Outside) (m : Mark) → Roomy (Sign m) (paren_step q r e o m)
-paren q r e o Close = to (Sign Close) (AtExpr (Have r e o)) (λ x. tt)
-paren q r e o Question = to (Sign Question) (AtExpr (Want q (Chosen r e o))) (λ x. tt)
-paren q r e o m = infixed (Sign m) (infix_of m) q r e o
-
-brace : (q r : ℕ) (old : P.Expressions) (e : P.Expression) (o : Outside) (m : Mark) → Roomy (Sign m) (brace_step q r old e o m)
-brace q r old e o Comma = to (Sign Comma) _ (λ x. tt)
-brace q r old e o CloseBrace = to (Sign CloseBrace) _ (λ x. tt)
-brace q r old e o m = none (Sign m)
-
--- an operator more
-counted : (t : Token) (n : ℕ) (f : ℕ → ExprPlace) → Roomy t (one_more bounded n f)
-counted t n f = only t (few bounded (n + 1)) (Some (AtExpr (f (n + 1)))) (to t (AtExpr (f (n + 1))) (λ x. tt))
-
 alone_room : (p : ℕ) (e : P.Expression) (b : Alone) (t : Token) → Roomy t (alone_step p e b t)
 alone_room p e (AsDriver h n) t = mark Semicolon (AtItem (WantItem (with_item h (P.AssignItem n e)))) t (item (WantItem (with_item h (P.AssignItem n e))))
 alone_room p e (AsCondition r q a) t = mark Close (AtStmt (WantStmt q (InThen r e a))) t (λ x. tt)
 alone_room p e (AsSubject r q a) t = mark Close (AtStmt (FirstLabel r q e P.NoArm a)) t (λ x. tt)
 alone_room p e (AsValue n a) t = mark Semicolon (AtStmt (HaveStmt p (alone (P.SetTo n e)) a)) t (λ x. tt)
 
-parts : (p n r : ℕ) (old : P.Expressions) (e : P.Expression) (ws : List Left) (u : Option UnOp) (o : Nest) (m : Mark) → Roomy (Sign m) (parts_step p n r old e ws u o m)
-parts p n r old e ws u o Comma = to (Sign Comma) _ (λ x. tt)
-parts p n r old e ws u o CloseBrace = to (Sign CloseBrace) _ (λ x. tt)
-parts p n r old e ws u o m = none (Sign m)
+parts : (p : ℕ) (c : Count) (r : ℕ) (old : P.Expressions) (e : P.Expression) (n : Count) (ws : List Left) (u : Option UnOp) (o : Nest) (m : Mark) → Roomy (Sign m) (parts_step p c r old e n ws u o m)
+parts p c r old e n ws u o Comma = to (Sign Comma) _ (λ x. tt)
+parts p c r old e n ws u o CloseBrace = to (Sign CloseBrace) _ (λ x. tt)
+parts p c r old e n ws u o m = none (Sign m)
 
-close : (p n : ℕ) (e : P.Expression) (o : Nest) (t : Token) → Roomy t (close_step p n e o t)
-close p n e (Only b) t = alone_room p e b t
-close p n e (InRound r ws u o) t = mark Close (AtExpr (Have r e (Linked n ws u o))) t (λ x. tt)
-close p n e (InList r old ws u o) (Sign m) = parts p n r old e ws u o m
-close p n e (InList r old ws u o) t = none t
-close p n e (IfTrue c o) t = mark Colon (AtExpr (WantOperand p n [] (IfFalse c e o))) t (λ x. tt)
-close p n e (IfFalse c y o) t = close p n (P.Conditional c y e) o t
+close : (p : ℕ) (c : Count) (e : P.Expression) (o : Nest) (t : Token) → Roomy t (close_step p c e o t)
+close p c e (Only b) t = alone_room p e b t
+close p c e (InRound r n ws u o) t = mark Close (AtExpr (Have r e (Linked (counted_behind n c) ws u o))) t (λ x. tt)
+close p c e (InList r old n ws u o) (Sign m) = parts p c r old e n ws u o m
+close p c e (InList r old n ws u o) t = none t
+close p c e (IfTrue x o) t = mark Colon (AtExpr (WantOperand p c [] (IfFalse x e o))) t (λ x. tt)
+close p c e (IfFalse x y o) t = close p c (P.Conditional x y e) o t
 
-ask : (p n : ℕ) (ws : List Left) (e : P.Expression) (o : Nest) (m : Mark) → Roomy (Sign m) (ask_step bounded p n ws e o m)
-ask p n ws e o Question = counted (Sign Question) n (λ j. WantOperand p j [] (IfTrue (settle_all ws e) o))
+ask : (p : ℕ) (n : Count) (ws : List Left) (e : P.Expression) (o : Nest) (m : Mark) → Roomy (Sign m) (ask_step bounded p n ws e o m)
+ask p n ws e o Question = room (Sign Question) (one_more bounded n) (λ j. AtExpr (WantOperand p j [] (IfTrue (settle_all ws e) o))) (λ j x. tt)
 ask p n ws e o m = close p n (settle_all ws e) o (Sign m)
 
-join : (b : Option BinOp) (p n : ℕ) (ws : List Left) (e : P.Expression) (o : Nest) (m : Mark) → Roomy (Sign m) (link_step bounded b p n ws e o m)
+join : (b : Option BinOp) (p : ℕ) (n : Count) (ws : List Left) (e : P.Expression) (o : Nest) (m : Mark) → Roomy (Sign m) (link_step bounded b p n ws e o m)
 join None p n ws e o m = ask p n ws e o m
-join (Some b) p n ws e o m = counted (Sign m) n (λ j. WantOperand p j (linked b ws e) o)
+join (Some b) p n ws e o m = room (Sign m) (one_more bounded n) (λ j. AtExpr (WantOperand p j (linked b ws e) o)) (λ j x. tt)
 
-prim : (p n : ℕ) (ws : List Left) (u : Option UnOp) (o : Nest) (t : Token) → Roomy t (prim_step bounded p n ws u o t)
+prim : (p : ℕ) (n : Count) (ws : List Left) (u : Option UnOp) (o : Nest) (t : Token) → Roomy t (prim_step bounded p n ws u o t)
 prim p n ws u o (Identifier w) = either (Identifier w) (is_among w reserved_words) None (Some (AtExpr (Named p w (Linked n ws u o)))) (none (Identifier w)) (to (Identifier w) (AtExpr (Named p w (Linked n ws u o))) (λ x. tt))
 prim p n ws u o (Number l i) = none (Number l i)
 prim p n ws u o (Based v) = to (Based v) (AtExpr (Have p (P.Literal v) (Linked n ws u o))) (λ x. tt)
 prim p n ws u o Unused = none Unused
-prim p n ws u o (Sign Open) = room (Sign Open) (deeper bounded p) (λ q. AtExpr (WantOperand q n [] (InRound p ws u o))) (λ q x. tt)
-prim p n ws u o (Sign OpenBrace) = room (Sign OpenBrace) (deeper bounded p) (λ q. AtExpr (WantOperand q n [] (InList p P.NoMore ws u o))) (λ q x. tt)
+prim p n ws u o (Sign Open) = room (Sign Open) (deeper bounded p) (λ q. AtExpr (WantOperand q (in_parens n) [] (InRound p n ws u o))) (λ q x. tt)
+prim p n ws u o (Sign OpenBrace) = room (Sign OpenBrace) (deeper bounded p) (λ q. AtExpr (WantOperand q (in_braces n) [] (InList p P.NoMore n ws u o))) (λ q x. tt)
 prim p n ws u o (Sign m) = none (Sign m)
 
-marked : (v : Option UnOp) (p n : ℕ) (ws : List Left) (o : Nest) (m : Mark) → Roomy (Sign m) (sign_step bounded v p n ws o m)
+marked : (v : Option UnOp) (p : ℕ) (n : Count) (ws : List Left) (o : Nest) (m : Mark) → Roomy (Sign m) (sign_step bounded v p n ws o m)
 marked None p n ws o m = prim p n ws None o (Sign m)
-marked (Some u) p n ws o m = counted (Sign m) n (λ j. WantPrim p j ws (Some u) o)
+marked (Some u) p n ws o m = room (Sign m) (one_more bounded n) (λ j. AtExpr (WantPrim p j ws (Some u) o)) (λ j x. tt)
 
-operand : (p n : ℕ) (ws : List Left) (o : Nest) (t : Token) → Roomy t (operand_step bounded p n ws o t)
+operand : (p : ℕ) (n : Count) (ws : List Left) (o : Nest) (t : Token) → Roomy t (operand_step bounded p n ws o t)
 operand p n ws o (Sign m) = marked (unary_of m) p n ws o m
 operand p n ws o t = prim p n ws None o t
 
 have : (p : ℕ) (e : P.Expression) (o : Outside) (t : Token) → Roomy t (have_step bounded p e o t)
-have p e (Driving h n) t = alone_room p e (AsDriver h n) t
-have p e (Condition r q a) t = alone_room p e (AsCondition r q a) t
-have p e (Subject r q a) t = alone_room p e (AsSubject r q a) t
-have p e (Setting n a) t = alone_room p e (AsValue n a) t
-have p e (InBraces r old o) (Sign m) = brace p r old e o m
-have p e (InBraces r old o) t = none t
-have p e (InParens r o) (Sign m) = paren p r e o m
-have p e (InParens r o) t = none t
-have p e (Operand r u o) t = mark Close _ t (λ x. tt)
-have p e (Second r b v o) t = mark Close _ t (λ x. tt)
-have p e (Chosen r c o) t = mark Colon _ t (λ x. tt)
-have p e (Otherwise r c v o) t = mark Close _ t (λ x. tt)
 have p e (Linked n ws u o) (Sign m) = join (infix_of m) p n ws (signed u e) o m
 have p e (Linked n ws u o) t = close p n (settle_all ws (signed u e)) o t
 
 expression : (p : ExprPlace) (t : Token) → Roomy t (step_expr bounded p t)
-expression (Want p o) t = want p o t
-expression (Inside q r o) t = inside q r o t
 expression (Named p n o) (Sign OpenBracket) = to (Sign OpenBracket) (AtExpr (Bracket p n o)) (λ x. tt)
 expression (Named p n o) (Sign m) = have p (P.Net n) o (Sign m)
 expression (Named p n o) t = have p (P.Net n) o t

@@ -35,15 +35,15 @@ all_counted x = let k = counts x 0 in omega arith
 abbrev pub Few : Limit → P.Expression → Type 0
 Few limit e = few limit (operators e) ≡ true
 
-pub same_texts : (limit : Limit) (d : ℕ) (K : P.Expression → List Token → Type 0) (ts : List Token) → ((x : T.Expr) × (Few limit (T.expr_tree x) × T.expr limit d x (K (T.expr_tree x)) ts)) ↔ ((x : F.Flat) × F.flat limit d x 0 (λ n. K (F.flat_tree x)) ts)
+pub same_texts : (limit : Limit) (d : ℕ) (K : P.Expression → List Token → Type 0) (ts : List Token) → ((x : T.Expr) × (Few limit (T.expr_tree x) × T.expr limit d x (K (T.expr_tree x)) ts)) ↔ ((x : F.Flat) × F.flat limit d x (F.Together 0) (λ n. K (F.flat_tree x)) ts)
 same_texts limit d K ts = (λ h. to h.0 h.1.0 h.1.1, λ h. from h.0 h.1)
   where
-    to : (x : T.Expr) → Few limit (T.expr_tree x) → T.expr limit d x (K (T.expr_tree x)) ts → (y : F.Flat) × F.flat limit d y 0 (λ n. K (F.flat_tree y)) ts
+    to : (x : T.Expr) → Few limit (T.expr_tree x) → T.expr limit d x (K (T.expr_tree x)) ts → (y : F.Flat) × F.flat limit d y (F.Together 0) (λ n. K (F.flat_tree y)) ts
     to x e h =
         let g = to_flat limit d K ts x h in
         (g.0, (counted_flat limit d g.0 0 (none_is_few limit) (λ n. K (F.flat_tree g.0)) ts).1 (subst (λ n. few limit n ≡ true) (sym (all_counted g.0 ∙ ap operators g.1.0)) e, g.1.1))
 
-    from : (y : F.Flat) → F.flat limit d y 0 (λ n. K (F.flat_tree y)) ts → (x : T.Expr) × (Few limit (T.expr_tree x) × T.expr limit d x (K (T.expr_tree x)) ts)
+    from : (y : F.Flat) → F.flat limit d y (F.Together 0) (λ n. K (F.flat_tree y)) ts → (x : T.Expr) × (Few limit (T.expr_tree x) × T.expr limit d x (K (T.expr_tree x)) ts)
     from y h =
         let u = (counted_flat limit d y 0 (none_is_few limit) (λ n. K (F.flat_tree y)) ts).0 h in
         let g = from_flat limit d K ts y u.1 in

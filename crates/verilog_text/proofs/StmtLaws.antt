@@ -11,9 +11,9 @@ use Rattle.verilog_tree.specs.Grammar.{Limit, Item, sign, keyword, name, literal
 use Rattle.verilog_tree.specs.Plain as P
 use Rattle.verilog_tree.specs.Tokens.{Token, Identifier, Based, Sign}
 use Rattle.verilog_tree.specs.declared.tokens.Mark.TheVariants.{Open, Close, Comma, Semicolon, Colon, LessEquals, Equals, At}
-use Rattle.verilog_text.specs.inner.Following.{AfterStmt, finished, after_items, else_part, after_stmt, after_expr, case_ends, wanted_stmt, rest_stmt, wires, regs, rest_item, rest}
+use Rattle.verilog_text.specs.inner.Following.{AfterStmt, finished, after_items, else_part, after_stmt, after_alone, case_ends, wanted_stmt, rest_stmt, wires, regs, rest_item, rest}
 use Rattle.verilog_text.specs.Following.{case_of}
-use Rattle.verilog_text.specs.Places.{Head, with_item, Around, more_arms, StmtPlace, ItemPlace, State, InAlways, InBlock, InThen, InElse, InArm, InDefault, Condition, Subject, Setting, WantStmt, Target, IfRead, CaseRead, FirstLabel, Labels, NextLabel, DefaultRead, Block, HaveStmt, AsWire, AsReg, WantRange, WantItem, AssignRead, AlwaysRead, Ended, AtExpr, AtStmt, style_of, AsCondition, AsSubject, AsValue, begin_expr}
+use Rattle.verilog_text.specs.Places.{Head, with_item, Around, more_arms, StmtPlace, ItemPlace, State, InAlways, InBlock, InThen, InElse, InArm, InDefault, WantStmt, Target, IfRead, CaseRead, FirstLabel, Labels, NextLabel, DefaultRead, Block, HaveStmt, AsWire, AsReg, WantRange, WantItem, AssignRead, AlwaysRead, Ended, AtExpr, AtStmt, style_of, AsCondition, AsSubject, AsValue, begin_expr}
 use Rattle.verilog_text.specs.Steps.{in_room, only_where, expects_word, target_step, word_step, want_stmt_step, is_word, block_step, arm_step, item_word_step, want_item_step, have_stmt_step, labels_step, step_stmt}
 use Rattle.verilog_text.proofs.MarkLaws.{expects_goes}
 use Rattle.verilog_text.proofs.Beginnings.{begins}
@@ -149,7 +149,7 @@ module _ (limit : Limit) where
           to (Assign n y) t h = absurd (reserved (codes "if") refl h.1)
           to x t h = absurd h
 
-          from : (c : Expr) (s : Stmt) (b : Option Stmt) (t : AfterStmt a) → sign Open (λ us. Holds (deeper limit p) (λ r. expr (style_of a) limit r c (after_expr limit (Condition q p a) (s, b, t) r (expr_tree c) v) us)) ts → wanted_stmt limit q a v (Identifier (codes "if") ∷ ts)
+          from : (c : Expr) (s : Stmt) (b : Option Stmt) (t : AfterStmt a) → sign Open (λ us. Holds (deeper limit p) (λ r. expr (style_of a) limit r c (after_alone limit (AsCondition q p a) (s, b, t) r (expr_tree c) v) us)) ts → wanted_stmt limit q a v (Identifier (codes "if") ∷ ts)
           from c s None t h = (If c s, t, rw e h)
           from c s (Some b) t h = (IfElse c s b, t, rw e h)
 
@@ -321,7 +321,7 @@ module _ (limit : Limit) where
   if_read_goes : (r q : ℕ) (a : Around) (t : Token) (ts : List Token) (v : P.ModuleTree) → Stmt_law (IfRead r q a) (step_stmt limit (IfRead r q a) t) t ts v
   if_read_goes r q a (Sign Open) ts v = go (deeper limit q)
     where
-      go : (w : Option ℕ) → ((x : Expr) × (s : Stmt) × (b : Option Stmt) × (t : AfterStmt a) × Holds w (λ p. expr (style_of a) limit p x (after_expr limit (Condition r q a) (s, b, t) p (expr_tree x) v) ts)) ↔ Holds (in_room w (λ p. AtExpr (begin_expr (style_of a) p (AsCondition r q a)))) (λ z. rest limit z ts v)
+      go : (w : Option ℕ) → ((x : Expr) × (s : Stmt) × (b : Option Stmt) × (t : AfterStmt a) × Holds w (λ p. expr (style_of a) limit p x (after_alone limit (AsCondition r q a) (s, b, t) p (expr_tree x) v) ts)) ↔ Holds (in_room w (λ p. AtExpr (begin_expr (style_of a) p (AsCondition r q a)))) (λ z. rest limit z ts v)
       go None = never (λ h. h.4) (λ z. z)
       go (Some p) = also (λ h. (h.0, (h.1, h.2, h.3), h.4), λ h. (h.0, h.1.0, h.1.1, h.1.2, h.2)) (begins limit (style_of a) p (AsCondition r q a) ts v)
   if_read_goes r q a (Sign m) ts v = never (λ h. h.4) (λ z. z)
@@ -330,7 +330,7 @@ module _ (limit : Limit) where
   case_read_goes : (r q : ℕ) (a : Around) (t : Token) (ts : List Token) (v : P.ModuleTree) → Stmt_law (CaseRead r q a) (step_stmt limit (CaseRead r q a) t) t ts v
   case_read_goes r q a (Sign Open) ts v = go (deeper limit q)
     where
-      go : (w : Option ℕ) → ((x : Expr) × (y : Arm) × (ys : Arms) × (d : Default) × (t : AfterStmt a) × Holds w (λ p. expr (style_of a) limit p x (after_expr limit (Subject r q a) (y, ys, d, t) p (expr_tree x) v) ts)) ↔ Holds (in_room w (λ p. AtExpr (begin_expr (style_of a) p (AsSubject r q a)))) (λ z. rest limit z ts v)
+      go : (w : Option ℕ) → ((x : Expr) × (y : Arm) × (ys : Arms) × (d : Default) × (t : AfterStmt a) × Holds w (λ p. expr (style_of a) limit p x (after_alone limit (AsSubject r q a) (y, ys, d, t) p (expr_tree x) v) ts)) ↔ Holds (in_room w (λ p. AtExpr (begin_expr (style_of a) p (AsSubject r q a)))) (λ z. rest limit z ts v)
       go None = never (λ h. h.5) (λ z. z)
       go (Some p) = also (λ h. (h.0, (h.1, h.2, h.3, h.4), h.5), λ h. (h.0, h.1.0, h.1.1, h.1.2, h.1.3, h.2)) (begins limit (style_of a) p (AsSubject r q a) ts v)
   case_read_goes r q a (Sign m) ts v = never (λ h. h.5) (λ z. z)
@@ -395,7 +395,7 @@ module _ (limit : Limit) where
 
   pub stmt_laws : (p : StmtPlace) (t : Token) (ts : List Token) (v : P.ModuleTree) → rest_stmt limit p (t ∷ ts) v ↔ Holds (step_stmt limit p t) (λ z. rest limit z ts v)
   stmt_laws (WantStmt q a) t ts v = want_stmt_goes q a t ts v
-  stmt_laws (Target q n a) t ts v = also (λ h. ((h.0, h.1), h.2), λ h. (h.0.0, h.0.1, h.1)) (expects_goes limit LessEquals (AtExpr (begin_expr (style_of a) q (AsValue n a))) (λ (x : Expr × AfterStmt a). expr (style_of a) limit q x.0 (after_expr limit (Setting n a) x.1 q (expr_tree x.0) v)) t ts v (also (λ h. (h.0.0, h.0.1, h.1), λ h. ((h.0, h.1), h.2)) (begins limit (style_of a) q (AsValue n a) ts v)))
+  stmt_laws (Target q n a) t ts v = also (λ h. ((h.0, h.1), h.2), λ h. (h.0.0, h.0.1, h.1)) (expects_goes limit LessEquals (AtExpr (begin_expr (style_of a) q (AsValue n a))) (λ (x : Expr × AfterStmt a). expr (style_of a) limit q x.0 (after_alone limit (AsValue n a) x.1 q (expr_tree x.0) v)) t ts v (also (λ h. (h.0.0, h.0.1, h.1), λ h. ((h.0, h.1), h.2)) (begins limit (style_of a) q (AsValue n a) ts v)))
   stmt_laws (IfRead r q a) t ts v = if_read_goes r q a t ts v
   stmt_laws (CaseRead r q a) t ts v = case_read_goes r q a t ts v
   stmt_laws (FirstLabel r q x as' a) t ts v = first_goes r q x as' a t ts v

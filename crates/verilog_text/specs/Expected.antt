@@ -8,7 +8,7 @@ use Rattle.verilog_tree.specs.Tokens.{Token, Number, Based, Sign}
 use Rattle.verilog_tree.specs.declared.tokens.Mark.{Mark}
 use Rattle.verilog_tree.specs.declared.tokens.Mark.TheVariants.{Equals, Bang, Less, Greater, Ampersand, Bar, TwoEquals, BangEquals, LessEquals, TwoLess, GreaterEquals, TwoGreater, TwoAmpersands, TwoBars}
 use Rattle.verilog_text.specs.Lexing.{Lexer, InGap, InWord, InNumber, Quoted, Lettered, InDigits, Marked, Whole}
-use Rattle.verilog_text.specs.Places.{Around, InAlways, InBlock, InThen, InElse, InArm, InDefault, ExprPlace, Want, Inside, WantOperand, WantPrim, StmtPlace, WantStmt, DefaultRead, Block, HaveStmt, ItemPlace, Begin, HeadName, WantPort, InputRead, OutputRead, WantRange, WantName, WantItem, AssignRead, ClockOpen, EdgeRead, State, AtExpr, AtStmt, AtItem}
+use Rattle.verilog_text.specs.Places.{Around, InAlways, InBlock, InThen, InElse, InArm, InDefault, ExprPlace, WantOperand, WantPrim, StmtPlace, WantStmt, DefaultRead, Block, HaveStmt, ItemPlace, Begin, HeadName, WantPort, InputRead, OutputRead, WantRange, WantName, WantItem, AssignRead, ClockOpen, EdgeRead, State, AtExpr, AtStmt, AtItem}
 use Rattle.verilog_text.specs.Steps.{step}
 
 -- ---- words
@@ -70,8 +70,6 @@ names_behind (InElse r c s a) = names_behind a
 names_behind _ = false
 
 abbrev pub names_expr : ExprPlace → Bool
-names_expr (Want p o) = true
-names_expr (Inside q r o) = true
 names_expr (WantOperand p n ws o) = true
 names_expr (WantPrim p n ws u o) = true
 names_expr _ = false

@@ -1,5 +1,5 @@
 -- Public. Laws, as statements that a contract can name.
-use Rattle.std.specs.Prelude.{◌≡◌, ℕ, ◌<◌, ◌⊎◌, true, List, Some, ◌↔◌}
+use Rattle.std.specs.Prelude.{◌≡◌, ℕ, ◌<◌, ◌⊎◌, true, false, List, Some, ◌↔◌}
 use Rattle.verilog_tree.specs.Formed.{formed}
 use Rattle.bist_text.specs.Machine.{read}
 use Rattle.verilog_tree.specs.Grammar.{Style}
@@ -13,13 +13,19 @@ use Rattle.verilog_tree.specs.Pieces.{Limit, few}
 use Rattle.verilog_tree.specs.Plain.{Expression, ModuleTree}
 use Rattle.verilog_tree.specs.Tokens.{Token}
 use Rattle.verilog_tree.specs.Free as T
+use Rattle.verilog_tree.specs.Parenthesised as Y
 use Rattle.verilog_tree.specs.Free.{operators}
 use Rattle.verilog_text.specs.Flat as F
 
 -- The ten rules derive these tokens, before those, with this tree and no more operators than may be, exactly where the
 -- flat form does.
 abbrev pub SameTexts : Type 0
-SameTexts = (limit : Limit) (d : ℕ) (ts us : List Token) (e : Expression) → ((x : T.Expr) × ((few limit (operators (T.expr_tree x)) ≡ true) × T.expr limit d x (λ vs. (T.expr_tree x ≡ e) × (vs ≡ us)) ts)) ↔ ((x : F.Flat) × F.flat limit d x 0 (λ n vs. (F.flat_tree x ≡ e) × (vs ≡ us)) ts)
+SameTexts = (limit : Limit) (d : ℕ) (ts us : List Token) (e : Expression) → ((x : T.Expr) × ((few limit (operators (T.expr_tree x)) ≡ true) × T.expr limit d x (λ vs. (T.expr_tree x ≡ e) × (vs ≡ us)) ts)) ↔ ((x : F.Flat) × F.flat limit d x (F.Together 0) (λ n vs. (F.flat_tree x ≡ e) × (vs ≡ us)) ts)
+
+-- In full parentheses these tokens are derived, before those, with this tree, exactly where the flat form derives them
+-- that has at most one operator in each parenthesis, and none elsewhere.
+abbrev pub FullTexts : Type 0
+FullTexts = (limit : Limit) (d : ℕ) (ts us : List Token) (e : Expression) → ((x : Y.Expr) × Y.expr limit d x (λ vs. (Y.expr_tree x ≡ e) × (vs ≡ us)) ts) ↔ ((x : F.Flat) × F.flat limit d x (F.Apart false) (λ n vs. (F.flat_tree x ≡ e) × (vs ≡ us)) ts)
 
 -- The machine reads exactly the texts within its limits, each to its one module.
 abbrev pub ReadsTexts : Type 0

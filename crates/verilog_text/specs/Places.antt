@@ -1,10 +1,9 @@
 -- Public. Where a reader of a module stands among its tokens: what is read so far, and what the part that is read stands in.
 use Rattle.std.specs.Prelude.{ℕ, List, [], ◌∷◌, ◌++◌, Option}
 use Rattle.bist_bits.specs.Vector.{Vector}
-use Rattle.verilog_tree.specs.Grammar.{Style, Parenthesised, ByPrecedence}
-use Rattle.verilog_text.specs.Flat.{Left}
+use Rattle.verilog_tree.specs.Grammar.{Style}
+use Rattle.verilog_text.specs.Flat.{Left, Count, none_yet}
 use Rattle.verilog_tree.specs.Plain as P
-use Rattle.verilog_tree.specs.declared.tree.BinOp.{BinOp}
 use Rattle.verilog_tree.specs.declared.tree.Dir.{Dir}
 use Rattle.verilog_tree.specs.declared.tree.UnOp.{UnOp}
 
@@ -43,34 +42,19 @@ pub data Alone : Type 0 where
   AsSubject : ℕ → ℕ → Around → Alone
   AsValue : List ℕ → Around → Alone
 
--- What an expression by precedence stands in, from the inside out: none other; parentheses or braces, which are
--- an operand behind operators that wait and a mark or none; or a choice, behind its ? or its :.
+-- What operands stand in, from the inside out: an expression that stands in no other; parentheses or braces, which are
+-- an operand behind operators that are counted, those of them that wait, and a mark or none; or a choice, behind its ? or
+-- its :.
 pub data Nest : Type 0 where
   Only : Alone → Nest
-  InRound : ℕ → List Left → Option UnOp → Nest → Nest
-  InList : ℕ → P.Expressions → List Left → Option UnOp → Nest → Nest
+  InRound : ℕ → Count → List Left → Option UnOp → Nest → Nest
+  InList : ℕ → P.Expressions → Count → List Left → Option UnOp → Nest → Nest
   IfTrue : P.Expression → Nest → Nest
   IfFalse : P.Expression → P.Expression → Nest → Nest
 
--- what an expression stands in; an operand, behind operators that wait and a mark or none, where so many operators are read
+-- what an operand stands in: operators that are counted, those of them that wait, a mark or none, and what is round them
 pub data Outside : Type 0 where
-  Driving : Head → List ℕ → Outside
-  Condition : ℕ → ℕ → Around → Outside
-  Subject : ℕ → ℕ → Around → Outside
-  Setting : List ℕ → Around → Outside
-  InBraces : ℕ → P.Expressions → Outside → Outside
-  InParens : ℕ → Outside → Outside
-  Operand : ℕ → UnOp → Outside → Outside
-  Second : ℕ → BinOp → P.Expression → Outside → Outside
-  Chosen : ℕ → P.Expression → Outside → Outside
-  Otherwise : ℕ → P.Expression → P.Expression → Outside → Outside
-  Linked : ℕ → List Left → Option UnOp → Nest → Outside
-
-abbrev pub based : Alone → Outside
-based (AsDriver h n) = Driving h n
-based (AsCondition r q a) = Condition r q a
-based (AsSubject r q a) = Subject r q a
-based (AsValue n a) = Setting n a
+  Linked : Count → List Left → Option UnOp → Nest → Outside
 
 abbrev pub more_parts : P.Expressions → P.Expressions → P.Expressions
 more_parts P.NoMore es = es
@@ -80,24 +64,21 @@ abbrev pub more_arms : P.Arms → P.Arms → P.Arms
 more_arms P.NoArm bs = bs
 more_arms (P.ArmOf ls s as') bs = P.ArmOf ls s (more_arms as' bs)
 
--- in an expression: where one is wanted, behind a parenthesis, behind a name and in its brackets, and behind
--- a whole one; by precedence, where an operand is wanted, and behind its mark, and how many operators are read
+-- in an expression: where an operand is wanted, and behind its mark; behind a name and in its brackets, and behind a
+-- whole operand
 pub data ExprPlace : Type 0 where
-  Want : ℕ → Outside → ExprPlace
-  Inside : ℕ → ℕ → Outside → ExprPlace
+  WantOperand : ℕ → Count → List Left → Nest → ExprPlace
+  WantPrim : ℕ → Count → List Left → Option UnOp → Nest → ExprPlace
   Named : ℕ → List ℕ → Outside → ExprPlace
   Bracket : ℕ → List ℕ → Outside → ExprPlace
   HighRead : ℕ → List ℕ → ℕ → Outside → ExprPlace
   ColonRead : ℕ → List ℕ → ℕ → Outside → ExprPlace
   LowRead : ℕ → List ℕ → ℕ → ℕ → Outside → ExprPlace
   Have : ℕ → P.Expression → Outside → ExprPlace
-  WantOperand : ℕ → ℕ → List Left → Nest → ExprPlace
-  WantPrim : ℕ → ℕ → List Left → Option UnOp → Nest → ExprPlace
 
 -- where an expression begins
 abbrev pub begin_expr : Style → ℕ → Alone → ExprPlace
-begin_expr Parenthesised q b = Want q (based b)
-begin_expr ByPrecedence q b = WantOperand q 0 [] (Only b)
+begin_expr y q b = WantOperand q (none_yet y) [] (Only b)
 
 -- in a statement: where one is wanted, behind a target, behind if and case, where a label is wanted, behind
 -- labels, behind a comma there, behind default, in a block, and behind a whole statement

@@ -3,9 +3,9 @@ use Rattle.std.specs.Prelude.{ℕ, ◌+◌, Bool, true, false, List, [], ◌∷�
 use Rattle.std.specs.Str.{bytes_eq}
 use Rattle.bist_bits.specs.Vector.{Vector}
 use Rattle.bist_text.specs.ReservedWords.{is_among, reserved_words}
-use Rattle.verilog_tree.specs.Grammar.{is_sign, is_zero, deeper, then_all, alone, Limit, few}
+use Rattle.verilog_tree.specs.Grammar.{is_sign, is_zero, deeper, then_all, alone, Limit}
 use Rattle.verilog_tree.specs.Free.{signed}
-use Rattle.verilog_text.specs.Flat.{Left, linked, settle_all}
+use Rattle.verilog_text.specs.Flat.{Left, Count, one_more, in_parens, in_braces, behind, linked, settle_all}
 use Rattle.verilog_tree.specs.Plain as P
 use Rattle.verilog_tree.specs.Tokens.{Token, Identifier, Number, Based, Unused, Sign}
 use Rattle.verilog_tree.specs.declared.tokens.Mark.TheVariants.{Open, Close, OpenBracket, CloseBracket, OpenBrace, CloseBrace, Comma, Semicolon, Colon, At, Question, Equals, LessEquals, Plus, Minus, Ampersand, Bar, Caret, Tilde, Bang, TwoEquals, BangEquals, Less, Greater, GreaterEquals, TwoAmpersands, TwoBars, TwoLess, TwoGreater}
@@ -16,7 +16,7 @@ use Rattle.verilog_tree.specs.declared.tree.Dir.TheVariants.{Input, Output, Outp
 use Rattle.verilog_tree.specs.declared.tree.UnOp.TheVariants as U
 use Rattle.verilog_tree.specs.declared.tree.UnOp.{UnOp}
 use Rattle.verilog_text.specs.Following.{case_of, declare, new_head}
-use Rattle.verilog_text.specs.Places.{Head, with_item, InArm, InAlways, InBlock, InDefault, Around, InThen, InElse, Operand, InBraces, Subject, Otherwise, Setting, Second, Chosen, InParens, Driving, Condition, Outside, more_parts, more_arms, HighRead, Want, ExprPlace, Bracket, Have, Named, Inside, LowRead, ColonRead, Block, IfRead, WantStmt, FirstLabel, CaseRead, Labels, HaveStmt, StmtPlace, DefaultRead, NextLabel, Target, AsReg, Use, AsWire, AsPort, AssignRead, WantName, HeadName, Begin, WantPort, WantRange, PortsRead, OutputRead, InputRead, WantZero, AlwaysRead, NameRead, WantColon, ClockRead, AtRead, ItemPlace, DriveRead, WantHigh, EdgeRead, HeadOpen, WantBracket, WantItem, Ended, ClockOpen, AtExpr, AtStmt, State, AtItem, style_of, Alone, AsDriver, AsCondition, AsSubject, AsValue, Nest, Only, InRound, InList, IfTrue, IfFalse, Linked, WantOperand, WantPrim, begin_expr}
+use Rattle.verilog_text.specs.Places.{Head, with_item, InArm, InAlways, InBlock, InDefault, Around, InThen, InElse, Outside, more_parts, more_arms, HighRead, ExprPlace, Bracket, Have, Named, LowRead, ColonRead, Block, IfRead, WantStmt, FirstLabel, CaseRead, Labels, HaveStmt, StmtPlace, DefaultRead, NextLabel, Target, AsReg, Use, AsWire, AsPort, AssignRead, WantName, HeadName, Begin, WantPort, WantRange, PortsRead, OutputRead, InputRead, WantZero, AlwaysRead, NameRead, WantColon, ClockRead, AtRead, ItemPlace, DriveRead, WantHigh, EdgeRead, HeadOpen, WantBracket, WantItem, Ended, ClockOpen, AtExpr, AtStmt, State, AtItem, style_of, Alone, AsDriver, AsCondition, AsSubject, AsValue, Nest, Only, InRound, InList, IfTrue, IfFalse, Linked, WantOperand, WantPrim, begin_expr}
 
 abbrev pub to_expr : ExprPlace → Option State
 to_expr p = Some (AtExpr p)
@@ -24,7 +24,7 @@ to_expr p = Some (AtExpr p)
 abbrev pub to_stmt : StmtPlace → Option State
 to_stmt p = Some (AtStmt p)
 
-abbrev pub in_room : Option ℕ → (ℕ → State) → Option State
+abbrev pub in_room : {A : Type 0} → Option A → (A → State) → Option State
 in_room None f = None
 in_room (Some q) f = Some (f q)
 
@@ -68,20 +68,6 @@ infix_of TwoLess = Some B.Shl
 infix_of TwoGreater = Some B.Shr
 infix_of _ = None
 
-abbrev pub infix_step : Option BinOp → ℕ → ℕ → P.Expression → Outside → Option State
-infix_step None q r e o = None
-infix_step (Some b) q r e o = to_expr (Want q (Second r b e o))
-
-abbrev pub paren_step : ℕ → ℕ → P.Expression → Outside → Mark → Option State
-paren_step q r e o Close = to_expr (Have r e o)
-paren_step q r e o Question = to_expr (Want q (Chosen r e o))
-paren_step q r e o m = infix_step (infix_of m) q r e o
-
-abbrev pub brace_step : ℕ → ℕ → P.Expressions → P.Expression → Outside → Mark → Option State
-brace_step q r old e o Comma = to_expr (Want q (InBraces r (more_parts old (P.Followed e P.NoMore)) o))
-brace_step q r old e o CloseBrace = to_expr (Have r (P.Concatenation (more_parts old (P.Followed e P.NoMore))) o)
-brace_step q r old e o _ = None
-
 -- behind an expression that stands in no other
 abbrev pub alone_step : ℕ → P.Expression → Alone → Token → Option State
 alone_step p e (AsDriver h n) t = expects Semicolon (AtItem (WantItem (with_item h (P.AssignItem n e)))) t
@@ -89,19 +75,19 @@ alone_step p e (AsCondition r q a) t = expects Close (AtStmt (WantStmt q (InThen
 alone_step p e (AsSubject r q a) t = expects Close (AtStmt (FirstLabel r q e P.NoArm a)) t
 alone_step p e (AsValue n a) t = expects Semicolon (AtStmt (HaveStmt p (alone (P.SetTo n e)) a)) t
 
-abbrev pub parts_step : ℕ → ℕ → ℕ → P.Expressions → P.Expression → List Left → Option UnOp → Nest → Mark → Option State
-parts_step p n r old e ws u o Comma = to_expr (WantOperand p n [] (InList r (more_parts old (P.Followed e P.NoMore)) ws u o))
-parts_step p n r old e ws u o CloseBrace = to_expr (Have r (P.Concatenation (more_parts old (P.Followed e P.NoMore))) (Linked n ws u o))
-parts_step p n r old e ws u o _ = None
+abbrev pub parts_step : ℕ → Count → ℕ → P.Expressions → P.Expression → Count → List Left → Option UnOp → Nest → Mark → Option State
+parts_step p m r old e n ws u o Comma = to_expr (WantOperand p m [] (InList r (more_parts old (P.Followed e P.NoMore)) n ws u o))
+parts_step p m r old e n ws u o CloseBrace = to_expr (Have r (P.Concatenation (more_parts old (P.Followed e P.NoMore))) (Linked (behind n m) ws u o))
+parts_step p m r old e n ws u o _ = None
 
--- behind a whole expression by precedence, with n operators read
-abbrev pub close_step : ℕ → ℕ → P.Expression → Nest → Token → Option State
-close_step p n e (Only b) t = alone_step p e b t
-close_step p n e (InRound r ws u o) t = expects Close (AtExpr (Have r e (Linked n ws u o))) t
-close_step p n e (InList r old ws u o) (Sign m) = parts_step p n r old e ws u o m
-close_step p n e (InList r old ws u o) _ = None
-close_step p n e (IfTrue c o) t = expects Colon (AtExpr (WantOperand p n [] (IfFalse c e o))) t
-close_step p n e (IfFalse c x o) t = close_step p n (P.Conditional c x e) o t
+-- behind a whole expression, with m operators counted
+abbrev pub close_step : ℕ → Count → P.Expression → Nest → Token → Option State
+close_step p m e (Only b) t = alone_step p e b t
+close_step p m e (InRound r n ws u o) t = expects Close (AtExpr (Have r e (Linked (behind n m) ws u o))) t
+close_step p m e (InList r old n ws u o) (Sign x) = parts_step p m r old e n ws u o x
+close_step p m e (InList r old n ws u o) _ = None
+close_step p m e (IfTrue c o) t = expects Colon (AtExpr (WantOperand p m [] (IfFalse c e o))) t
+close_step p m e (IfFalse c x o) t = close_step p m (P.Conditional c x e) o t
 
 -- the words that begin a statement, or a target
 abbrev pub target_step : Bool → ℕ → List ℕ → Around → Option State
@@ -184,73 +170,38 @@ value (AtItem p) = value_item p
 value _ = None
 
 module _ (limit : Limit) where
-  abbrev pub want_step : ℕ → Outside → Token → Option State
-  want_step p o (Identifier w) = if is_among w reserved_words then None else to_expr (Named p w o)
-  want_step p o (Number l n) = None
-  want_step p o (Based x) = to_expr (Have p (P.Literal x) o)
-  want_step p o Unused = None
-  want_step p o (Sign Open) = in_room (deeper limit p) (λ q. AtExpr (Inside q p o))
-  want_step p o (Sign OpenBrace) = in_room (deeper limit p) (λ q. AtExpr (Want q (InBraces p P.NoMore o)))
-  want_step p o (Sign m) = None
-
-  abbrev pub unary_step : Option UnOp → ℕ → ℕ → Outside → Mark → Option State
-  unary_step None q r o m = want_step q (InParens r o) (Sign m)
-  unary_step (Some u) q r o m = to_expr (Want q (Operand r u o))
-
-  abbrev pub inside_step : ℕ → ℕ → Outside → Token → Option State
-  inside_step q r o (Sign m) = unary_step (unary_of m) q r o m
-  inside_step q r o t = want_step q (InParens r o) t
-
-  -- one operator more
-  abbrev pub one_more : ℕ → (ℕ → ExprPlace) → Option State
-  one_more n f = only_where (few limit (n + 1)) (to_expr (f (n + 1)))
-
   -- behind an operand: an operator, a choice, or the end
-  abbrev pub ask_step : ℕ → ℕ → List Left → P.Expression → Nest → Mark → Option State
-  ask_step p n ws e o Question = one_more n (λ m. WantOperand p m [] (IfTrue (settle_all ws e) o))
+  abbrev pub ask_step : ℕ → Count → List Left → P.Expression → Nest → Mark → Option State
+  ask_step p n ws e o Question = in_room (one_more limit n) (λ m. AtExpr (WantOperand p m [] (IfTrue (settle_all ws e) o)))
   ask_step p n ws e o m = close_step p n (settle_all ws e) o (Sign m)
 
-  abbrev pub link_step : Option BinOp → ℕ → ℕ → List Left → P.Expression → Nest → Mark → Option State
-  link_step (Some b) p n ws e o m = one_more n (λ j. WantOperand p j (linked b ws e) o)
+  abbrev pub link_step : Option BinOp → ℕ → Count → List Left → P.Expression → Nest → Mark → Option State
+  link_step (Some b) p n ws e o m = in_room (one_more limit n) (λ j. AtExpr (WantOperand p j (linked b ws e) o))
   link_step None p n ws e o m = ask_step p n ws e o m
 
   abbrev pub have_step : ℕ → P.Expression → Outside → Token → Option State
-  have_step p e (Driving h n) t = alone_step p e (AsDriver h n) t
-  have_step p e (Condition r q a) t = alone_step p e (AsCondition r q a) t
-  have_step p e (Subject r q a) t = alone_step p e (AsSubject r q a) t
-  have_step p e (Setting n a) t = alone_step p e (AsValue n a) t
-  have_step p e (InBraces r old o) (Sign m) = brace_step p r old e o m
-  have_step p e (InBraces r old o) _ = None
-  have_step p e (InParens r o) (Sign m) = paren_step p r e o m
-  have_step p e (InParens r o) _ = None
-  have_step p e (Operand r u o) t = expects Close (AtExpr (Have r (P.Prefixed u e) o)) t
-  have_step p e (Second r b x o) t = expects Close (AtExpr (Have r (P.Infixed b x e) o)) t
-  have_step p e (Chosen r c o) t = expects Colon (AtExpr (Want p (Otherwise r c e o))) t
-  have_step p e (Otherwise r c x o) t = expects Close (AtExpr (Have r (P.Conditional c x e) o)) t
   have_step p e (Linked n ws u o) (Sign m) = link_step (infix_of m) p n ws (signed u e) o m
   have_step p e (Linked n ws u o) t = close_step p n (settle_all ws (signed u e)) o t
 
   -- where a prim is wanted, and where an operand is
-  abbrev pub prim_step : ℕ → ℕ → List Left → Option UnOp → Nest → Token → Option State
+  abbrev pub prim_step : ℕ → Count → List Left → Option UnOp → Nest → Token → Option State
   prim_step p n ws u o (Identifier w) = if is_among w reserved_words then None else to_expr (Named p w (Linked n ws u o))
   prim_step p n ws u o (Number l i) = None
   prim_step p n ws u o (Based x) = to_expr (Have p (P.Literal x) (Linked n ws u o))
   prim_step p n ws u o Unused = None
-  prim_step p n ws u o (Sign Open) = in_room (deeper limit p) (λ q. AtExpr (WantOperand q n [] (InRound p ws u o)))
-  prim_step p n ws u o (Sign OpenBrace) = in_room (deeper limit p) (λ q. AtExpr (WantOperand q n [] (InList p P.NoMore ws u o)))
+  prim_step p n ws u o (Sign Open) = in_room (deeper limit p) (λ q. AtExpr (WantOperand q (in_parens n) [] (InRound p n ws u o)))
+  prim_step p n ws u o (Sign OpenBrace) = in_room (deeper limit p) (λ q. AtExpr (WantOperand q (in_braces n) [] (InList p P.NoMore n ws u o)))
   prim_step p n ws u o (Sign m) = None
 
-  abbrev pub sign_step : Option UnOp → ℕ → ℕ → List Left → Nest → Mark → Option State
+  abbrev pub sign_step : Option UnOp → ℕ → Count → List Left → Nest → Mark → Option State
   sign_step None p n ws o m = prim_step p n ws None o (Sign m)
-  sign_step (Some u) p n ws o m = one_more n (λ j. WantPrim p j ws (Some u) o)
+  sign_step (Some u) p n ws o m = in_room (one_more limit n) (λ j. AtExpr (WantPrim p j ws (Some u) o))
 
-  abbrev pub operand_step : ℕ → ℕ → List Left → Nest → Token → Option State
+  abbrev pub operand_step : ℕ → Count → List Left → Nest → Token → Option State
   operand_step p n ws o (Sign m) = sign_step (unary_of m) p n ws o m
   operand_step p n ws o t = prim_step p n ws None o t
 
   abbrev pub step_expr : ExprPlace → Token → Option State
-  step_expr (Want p o) t = want_step p o t
-  step_expr (Inside q r o) t = inside_step q r o t
   step_expr (Named p n o) (Sign OpenBracket) = to_expr (Bracket p n o)
   step_expr (Named p n o) t = have_step p (P.Net n) o t
   step_expr (Bracket p n o) (Number l h) = to_expr (HighRead p n h o)

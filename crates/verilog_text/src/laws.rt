@@ -1,9 +1,15 @@
 //! Laws of the machine, each the contract of a function that does nothing.
-ghost use Rattle.verilog_text.specs.Laws.{SameTexts, ReadsTexts, OneModule, FinishesExactly, ToldFaultsStand, ToldFaultsAreFirst, NoneStandsInATextThatIsRead, SpelledIsFormed, SpellsNothingElse, SpellsItFreely};
+ghost use Rattle.verilog_text.specs.Laws.{SameTexts, FullTexts, ReadsTexts, OneModule, FinishesExactly, ToldFaultsStand, ToldFaultsAreFirst, NoneStandsInATextThatIsRead, SpelledIsFormed, SpellsNothingElse, SpellsItFreely};
 
 /// The ten rules of operators that bind by precedence and the flat form derive the same tokens, with the same trees.
 pub fn same_texts()
     ensures { SameTexts }
+{}
+
+/// Full parentheses and the flat form with at most one operator in each parenthesis derive the same tokens, with the
+/// same trees.
+pub fn full_texts()
+    ensures { FullTexts }
 {}
 
 /// The machine reads exactly the texts of either style within its limits, each to its one module.

@@ -10,7 +10,9 @@
 //! The code is in `verilog_read`, which does what the machine does.
 #![tactic(auto)]
 
+mod count;
 mod fault;
 pub mod laws;
 
+pub use count::Count;
 pub use fault::ByteFault;

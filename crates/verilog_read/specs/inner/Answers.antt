@@ -6,30 +6,16 @@ use Rattle.verilog_read.specs.inner.Holding.{is_expected}
 use Rattle.verilog_tree.specs.Tokens.{Token, Identifier, Number}
 use Rattle.verilog_tree.specs.declared.tokens.Mark.TheVariants.{Open}
 use Rattle.arrayvec.specs.ArrayString.{ArrayString}
-use Rattle.verilog_read.specs.inner.Frames.{frame, holder}
-use Rattle.verilog_text.specs.Places.{Head, Around, InAlways, Outside, Alone, begin_expr, State, AtExpr, AtStmt}
-use Rattle.verilog_read.specs.inner.Spots.{spot, stmt_spot, state_of}
+use Rattle.verilog_read.specs.inner.Frames.{holder}
+use Rattle.verilog_text.specs.Places.{Head, Around, InAlways, Alone, begin_expr, State, AtExpr, AtStmt}
+use Rattle.verilog_read.specs.inner.Spots.{stmt_spot, state_of}
 use Rattle.verilog_text.specs.Steps.{in_room}
-use Rattle.verilog_read.specs.declared.places.Frame.{Frame}
 use Rattle.verilog_read.specs.declared.places.Holder.{Holder}
 use Rattle.verilog_read.specs.declared.places.Outer.{Outer}
 use Rattle.verilog_read.specs.declared.fault.ParseFault.TheVariants.{Unexpected, NoMemory}
 use Rattle.verilog_read.specs.declared.fault.ParseFault.{ParseFault}
 use Rattle.verilog_read.specs.declared.places.Place.{Place}
-use Rattle.verilog_read.specs.declared.places.Spot.{Spot}
 use Rattle.verilog_read.specs.declared.places.StmtSpot.{StmtSpot}
-
--- what the code answers in an expression, by what the step is: the same place, in what now waits; or a refusal where
--- there is none; or there was no memory
-abbrev pub Steps : Option State → Result Spot ParseFault → Outside → Type 0
-Steps st (Ok s) o = st ≡ Some (AtExpr (spot s o))
-Steps st (Err Unexpected) o = st ≡ None
-Steps st (Err NoMemory) o = ⊤
-
--- the frame that was the innermost, or there was none
-abbrev pub Popped : Outside → Option Frame → Outside → Outside → Type 0
-Popped old None new whole = old ≡ whole
-Popped old (Some f) new whole = old ≡ frame f new
 
 -- the holder that was the innermost, or there was none
 abbrev pub Released : Around → Option Holder → Around → Head → List ℕ → Type 0

@@ -1,7 +1,7 @@
 -- Inner. Which marks may come behind a whole expression by precedence, and behind an operand.
-use Rattle.std.specs.Prelude.{Bool, true, false, Option, Some, None, ◌||◌}
+use Rattle.std.specs.Prelude.{Bool, true, false, Option, Some, None, if◌then◌else◌}
 use Rattle.verilog_tree.specs.declared.tokens.Mark.{Mark}
-use Rattle.verilog_tree.specs.declared.tokens.Mark.TheVariants.{Close, CloseBrace, Comma, Semicolon, Colon, Question}
+use Rattle.verilog_tree.specs.declared.tokens.Mark.TheVariants.{Open, OpenBrace, Close, CloseBrace, Comma, Semicolon, Colon, Question}
 use Rattle.verilog_tree.specs.declared.tree.BinOp.{BinOp}
 use Rattle.verilog_tree.specs.Grammar.{is_sign}
 use Rattle.verilog_read.specs.declared.precedence.Nest as N
@@ -9,7 +9,10 @@ use Rattle.verilog_read.specs.declared.precedence.Nest.TheVariants as M
 use Rattle.verilog_read.specs.declared.precedence.FreeSpot.{FreeSpot}
 use Rattle.verilog_read.specs.declared.precedence.FreeSpot.TheVariants as T
 use Rattle.verilog_text.specs.Places.{Alone, AsDriver, AsCondition, AsSubject, AsValue, Nest, Only, InRound, InList, IfTrue, IfFalse}
-use Rattle.verilog_text.specs.Steps.{infix_of}
+use Rattle.verilog_tree.specs.declared.tree.UnOp.{UnOp}
+use Rattle.verilog_text.specs.declared.count.Count.{Count}
+use Rattle.verilog_text.specs.declared.count.Count.TheVariants.{Together, Apart}
+use Rattle.verilog_text.specs.Steps.{infix_of, unary_of}
 
 abbrev pub ends : Alone → Mark → Bool
 ends (AsDriver h n) m = is_sign Semicolon m
@@ -25,8 +28,8 @@ splits _ = false
 -- a choice whose last part it is ends with it
 abbrev pub closes : Nest → Mark → Bool
 closes (Only b) m = ends b m
-closes (InRound r ws u o) m = is_sign Close m
-closes (InList r old ws u o) m = splits m
+closes (InRound r n ws u o) m = is_sign Close m
+closes (InList r old n ws u o) m = splits m
 closes (IfTrue c o) m = is_sign Colon m
 closes (IfFalse c x o) m = closes o m
 
@@ -39,8 +42,29 @@ abbrev pub links : Mark → Bool
 links Question = true
 links m = is_operator (infix_of m)
 
-abbrev pub goes_on : Nest → Mark → Bool
-goes_on o m = links m || closes o m
+-- whether one operator more may be, if there were no limit
+abbrev pub may : Count → Bool
+may (Together n) = true
+may (Apart b) = b
+
+abbrev pub goes_on : Count → Nest → Mark → Bool
+goes_on n o m = if links m then may n else closes o m
+
+abbrev pub is_prefix : Option UnOp → Bool
+is_prefix None = false
+is_prefix (Some u) = true
+
+-- a mark that may stand before an operand, one with which an operand may begin, and either
+abbrev pub prefixes : Mark → Bool
+prefixes m = is_prefix (unary_of m)
+
+abbrev pub opens : Mark → Bool
+opens Open = true
+opens OpenBrace = true
+opens _ = false
+
+abbrev pub starts : Count → Mark → Bool
+starts n m = if prefixes m then may n else opens m
 
 -- an operand may begin
 abbrev pub begins : FreeSpot → Bool

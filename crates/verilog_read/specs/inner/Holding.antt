@@ -1,5 +1,5 @@
 -- Inner. For proofs and private contracts alone: what the code holds of an expression by precedence, and what it answers to a token.
-use Rattle.std.specs.Prelude.{◌≡◌, ℕ, ◌+◌, ⊤, Bool, false, nat_le, List, [], ◌∷◌, map, Option, Some, None, Result, Ok, Err, if◌then◌else◌}
+use Rattle.std.specs.Prelude.{◌≡◌, ℕ, ⊤, Bool, false, List, [], ◌∷◌, map, Option, Some, None, Result, Ok, Err}
 use Rattle.verilog_tree.specs.Plain as P
 use Rattle.verilog_tree.specs.Tokens.{Token, Identifier, Number, Based, Unused, Sign}
 use Rattle.verilog_text.specs.Places as Q
@@ -29,8 +29,8 @@ token_of X.Unused = Unused
 token_of (X.Sign m) = Sign m
 
 abbrev pub nest : Nest → Q.Nest → Q.Nest
-nest (N.Round r ls u) o = InRound r (lefts_of ls.items) u o
-nest (N.List r xs ls u) o = InList r (P.expressions (map P.plain xs.items)) (lefts_of ls.items) u o
+nest (N.Round r n ls u) o = InRound r n (lefts_of ls.items) u o
+nest (N.List r xs n ls u) o = InList r (P.expressions (map P.plain xs.items)) n (lefts_of ls.items) u o
 nest (N.IfTrue c) o = IfTrue (P.plain c) o
 nest (N.IfFalse c x) o = IfFalse (P.plain c) (P.plain x) o
 
@@ -41,19 +41,16 @@ nests_on (n ∷ ns) o = nests_on ns (nest n o)
 abbrev pub nests_of : List Nest → Alone → Q.Nest
 nests_of ns b = nests_on ns (Only b)
 
-abbrev pub counted : ℕ → Option ℕ
-counted n = if nat_le (n + 1) 256 then Some (n + 1) else None
-
 -- the place
 abbrev pub standing : FreeSpot → Chain → Q.Nest → ExprPlace
-standing (S.Operand r) c o = WantOperand r c.operators (lefts_of c.lefts.items) o
-standing (S.Prim r) c o = WantPrim r c.operators (lefts_of c.lefts.items) c.mark o
-standing (S.Named r n) c o = Named r n.bytes (Linked c.operators (lefts_of c.lefts.items) c.mark o)
-standing (S.Bracket r n) c o = Bracket r n.bytes (Linked c.operators (lefts_of c.lefts.items) c.mark o)
-standing (S.HighRead r n h) c o = HighRead r n.bytes h (Linked c.operators (lefts_of c.lefts.items) c.mark o)
-standing (S.ColonRead r n h) c o = ColonRead r n.bytes h (Linked c.operators (lefts_of c.lefts.items) c.mark o)
-standing (S.LowRead r n h l) c o = LowRead r n.bytes h l (Linked c.operators (lefts_of c.lefts.items) c.mark o)
-standing (S.Have r e) c o = Have r (P.plain e) (Linked c.operators (lefts_of c.lefts.items) c.mark o)
+standing (S.Operand r) c o = WantOperand r c.count (lefts_of c.lefts.items) o
+standing (S.Prim r) c o = WantPrim r c.count (lefts_of c.lefts.items) c.mark o
+standing (S.Named r n) c o = Named r n.bytes (Linked c.count (lefts_of c.lefts.items) c.mark o)
+standing (S.Bracket r n) c o = Bracket r n.bytes (Linked c.count (lefts_of c.lefts.items) c.mark o)
+standing (S.HighRead r n h) c o = HighRead r n.bytes h (Linked c.count (lefts_of c.lefts.items) c.mark o)
+standing (S.ColonRead r n h) c o = ColonRead r n.bytes h (Linked c.count (lefts_of c.lefts.items) c.mark o)
+standing (S.LowRead r n h l) c o = LowRead r n.bytes h l (Linked c.count (lefts_of c.lefts.items) c.mark o)
+standing (S.Have r e) c o = Have r (P.plain e) (Linked c.count (lefts_of c.lefts.items) c.mark o)
 
 abbrev pub FreeSteps : Option State → Result FreePlace ParseFault → Q.Nest → Type 0
 FreeSteps st (Ok p) o = st ≡ Some (AtExpr (standing p.spot p.chain o))
@@ -78,5 +75,5 @@ is_expected m (Sign n) = is_sign m n
 is_expected m _ = false
 
 abbrev pub IsList : Nest → Type 0
-IsList (N.List r xs ls u) = ⊤
+IsList (N.List r xs n ls u) = ⊤
 IsList _ = ⊥

@@ -2,31 +2,19 @@
 use Rattle.std.specs.Prelude.{map}
 use Rattle.verilog_tree.specs.Plain as P
 use Rattle.verilog_tree.specs.inner.Plain as PInner
-use Rattle.verilog_read.specs.inner.Frames.{styled, head_of, around_of, alone_of, outside_of}
+use Rattle.verilog_read.specs.inner.Frames.{styled, head_of, around_of, alone_of}
 use Rattle.verilog_read.specs.inner.Holding.{standing, nests_of}
 use Rattle.verilog_text.specs.Places as Q
-use Rattle.verilog_text.specs.Places.{Head, Around, StmtPlace, WantStmt, Target, IfRead, CaseRead, FirstLabel, Labels, NextLabel, DefaultRead, Block, HaveStmt, ItemPlace, Begin, HeadName, HeadOpen, WantPort, InputRead, OutputRead, WantRange, WantHigh, WantColon, WantZero, WantBracket, WantName, NameRead, PortsRead, WantItem, AssignRead, DriveRead, AlwaysRead, AtRead, ClockOpen, EdgeRead, ClockRead, Ended, AsWire, AsReg, AsPort, Outside, ExprPlace, Want, Inside, Named, Bracket, HighRead, ColonRead, LowRead, Have, State, AtExpr, AtStmt, AtItem}
+use Rattle.verilog_text.specs.Places.{Head, Around, StmtPlace, WantStmt, Target, IfRead, CaseRead, FirstLabel, Labels, NextLabel, DefaultRead, Block, HaveStmt, ItemPlace, Begin, HeadName, HeadOpen, WantPort, InputRead, OutputRead, WantRange, WantHigh, WantColon, WantZero, WantBracket, WantName, NameRead, PortsRead, WantItem, AssignRead, DriveRead, AlwaysRead, AtRead, ClockOpen, EdgeRead, ClockRead, Ended, AsWire, AsReg, AsPort, State, AtExpr, AtStmt, AtItem}
 use Rattle.verilog_read.specs.declared.places.ItemSpot.TheVariants as I
 use Rattle.verilog_read.specs.declared.places.ItemSpot.{ItemSpot}
 use Rattle.verilog_read.specs.declared.places.Outer.{Outer}
-use Rattle.verilog_read.specs.declared.places.Place.TheVariants.{InExpr, InFree, InStmt, InItem}
+use Rattle.verilog_read.specs.declared.places.Place.TheVariants.{InFree, InStmt, InItem}
 use Rattle.verilog_read.specs.declared.places.Place.{Place}
-use Rattle.verilog_read.specs.declared.places.Spot.TheVariants as S
-use Rattle.verilog_read.specs.declared.places.Spot.{Spot}
 use Rattle.verilog_read.specs.declared.places.StmtSpot.TheVariants as T
 use Rattle.verilog_read.specs.declared.places.StmtSpot.{StmtSpot}
 use Rattle.verilog_read.specs.declared.places.Use.TheVariants as W
 use Rattle.verilog_read.specs.declared.places.Use.{Use}
-
-abbrev pub spot : Spot → Outside → ExprPlace
-spot (S.Want r) o = Want r o
-spot (S.Inside q r) o = Inside q r o
-spot (S.Named r n) o = Named r n.bytes o
-spot (S.Bracket r n) o = Bracket r n.bytes o
-spot (S.HighRead r n h) o = HighRead r n.bytes h o
-spot (S.ColonRead r n h) o = ColonRead r n.bytes h o
-spot (S.LowRead r n h l) o = LowRead r n.bytes h l o
-spot (S.Have r e) o = Have r (P.plain e) o
 
 abbrev pub stmt_spot : StmtSpot → Around → StmtPlace
 stmt_spot (T.WantStmt q) a = WantStmt q a
@@ -72,7 +60,6 @@ item_spot I.Ended w = Ended (head_of w)
 
 -- the state of the machine
 abbrev pub state_of : Place → Outer → State
-state_of (InExpr s) w = AtExpr (spot s (outside_of w))
 state_of (InFree p) w = AtExpr (standing p.spot p.chain (nests_of w.nests.items (alone_of w)))
 state_of (InStmt s) w = AtStmt (stmt_spot s (around_of w))
 state_of (InItem s) w = AtItem (item_spot s w)

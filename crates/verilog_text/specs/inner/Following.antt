@@ -1,20 +1,18 @@
 -- Inner. For proofs and private contracts alone, beside Following: what may still follow where a reader of a module stands, and the module that the whole then is.
-use Rattle.std.specs.Prelude.{◌≡◌, ℕ, ◌+◌, Bool, true, false, List, ◌∷◌, ◌++◌, ◌⊎◌, Option, Some, None, codes}
+use Rattle.std.specs.Prelude.{◌≡◌, ℕ, ◌+◌, Bool, true, false, List, ◌∷◌, ◌++◌, Option, Some, None, codes}
 use Rattle.bist_bits.specs.Vector.{Vector}
 use Rattle.bist_text.specs.Machine.{Holds}
-use Rattle.verilog_tree.specs.Grammar.{Expr, Stmt, Stmts, Arm, Arms, Default, Item, File, Port, sign, keyword, name, number, zero_number, literal, unary_mark, binary_mark, deeper, expr, literals, ends_in_if, colon_if, stmt, stmts, arm, arms, default, range, names, wire_if, output_of, port, ports, inside, items, no_token, expr_tree, then_all, alone, stmt_tree, stmts_tree, arm_tree, arms_tree, default_tree, items_tree, each, range_width, ports_tree, Limit, Style}
-use Rattle.verilog_tree.specs.Parenthesised as Y
+use Rattle.verilog_tree.specs.Grammar.{Expr, Stmt, Stmts, Arm, Arms, Default, Item, File, Port, sign, keyword, name, number, zero_number, literal, deeper, expr, literals, ends_in_if, colon_if, stmt, stmts, arm, arms, default, range, names, wire_if, output_of, port, ports, inside, items, no_token, expr_tree, then_all, alone, stmt_tree, stmts_tree, arm_tree, arms_tree, default_tree, items_tree, each, range_width, ports_tree, Limit, Style}
 use Rattle.verilog_tree.specs.Free.{signed}
 use Rattle.verilog_text.specs.Flat as F
-use Rattle.verilog_text.specs.Flat.{Left}
+use Rattle.verilog_text.specs.Flat.{Left, Count, behind}
 use Rattle.verilog_tree.specs.Plain as P
 use Rattle.verilog_tree.specs.Tokens.{Token}
-use Rattle.verilog_tree.specs.declared.tokens.Mark.TheVariants.{Open, Close, OpenBracket, CloseBracket, CloseBrace, Semicolon, Colon, At, Question, Equals, LessEquals}
+use Rattle.verilog_tree.specs.declared.tokens.Mark.TheVariants.{Open, Close, OpenBracket, CloseBracket, CloseBrace, Semicolon, Colon, At, Equals, LessEquals}
 use Rattle.verilog_tree.specs.declared.tree.Dir.TheVariants.{Input}
 use Rattle.verilog_tree.specs.declared.tree.Dir.{Dir}
-use Rattle.verilog_tree.specs.declared.tree.UnOp.{UnOp}
-use Rattle.verilog_text.specs.Places.{Head, with_item, InArm, InAlways, InBlock, InDefault, Around, InThen, InElse, Operand, InBraces, Subject, Otherwise, Setting, Second, Chosen, InParens, Driving, Condition, Outside, more_parts, more_arms, HighRead, Want, ExprPlace, Bracket, Have, Named, Inside, LowRead, ColonRead, Block, IfRead, WantStmt, FirstLabel, CaseRead, Labels, HaveStmt, StmtPlace, DefaultRead, NextLabel, Target, AsReg, Use, AsWire, AsPort, AssignRead, WantName, HeadName, Begin, WantPort, WantRange, PortsRead, OutputRead, InputRead, WantZero, AlwaysRead, NameRead, WantColon, ClockRead, AtRead, ItemPlace, DriveRead, WantHigh, EdgeRead, HeadOpen, WantBracket, WantItem, Ended, ClockOpen, AtExpr, AtStmt, State, AtItem, style_of, Alone, AsDriver, AsCondition, AsSubject, AsValue, Nest, Only, InRound, InList, IfTrue, IfFalse, Linked, WantOperand, WantPrim}
-use Rattle.verilog_text.specs.inner.Places.{Turn, Infix, Closed, Asked, Place, Two, Whole, One}
+use Rattle.verilog_text.specs.Places.{Head, with_item, InArm, InAlways, InBlock, InDefault, Around, InThen, InElse, Outside, more_parts, more_arms, HighRead, ExprPlace, Bracket, Have, Named, LowRead, ColonRead, Block, IfRead, WantStmt, FirstLabel, CaseRead, Labels, HaveStmt, StmtPlace, DefaultRead, NextLabel, Target, AsReg, Use, AsWire, AsPort, AssignRead, WantName, HeadName, Begin, WantPort, WantRange, PortsRead, OutputRead, InputRead, WantZero, AlwaysRead, NameRead, WantColon, ClockRead, AtRead, ItemPlace, DriveRead, WantHigh, EdgeRead, HeadOpen, WantBracket, WantItem, Ended, ClockOpen, AtExpr, AtStmt, State, AtItem, style_of, Alone, AsDriver, AsCondition, AsSubject, AsValue, Nest, Only, InRound, InList, IfTrue, IfFalse, Linked, WantOperand, WantPrim}
+use Rattle.verilog_text.specs.inner.Places.{Place, Two, Whole, One}
 use Rattle.verilog_text.specs.Following.{case_of, with_ports, new_head}
 
 -- what is still to be derived behind a statement
@@ -39,23 +37,13 @@ AfterAlone (AsValue n a) = AfterStmt a
 
 abbrev pub AfterNest : Nest → Type 0
 AfterNest (Only b) = AfterAlone b
-AfterNest (InRound r ws u o) = F.Tail × AfterNest o
-AfterNest (InList r old ws u o) = F.Flats × F.Tail × AfterNest o
+AfterNest (InRound r n ws u o) = F.Tail × AfterNest o
+AfterNest (InList r old n ws u o) = F.Flats × F.Tail × AfterNest o
 AfterNest (IfTrue c o) = F.Flat × AfterNest o
 AfterNest (IfFalse c x o) = AfterNest o
 
 -- what is still to be derived behind an expression
 abbrev pub AfterExpr : Outside → Type 0
-AfterExpr (Driving h n) = AfterAlone (AsDriver h n)
-AfterExpr (Condition r q a) = AfterAlone (AsCondition r q a)
-AfterExpr (Subject r q a) = AfterAlone (AsSubject r q a)
-AfterExpr (Setting n a) = AfterAlone (AsValue n a)
-AfterExpr (InBraces r old o) = Y.Exprs × AfterExpr o
-AfterExpr (InParens r o) = Turn × AfterExpr o
-AfterExpr (Operand r u o) = AfterExpr o
-AfterExpr (Second r b x o) = AfterExpr o
-AfterExpr (Chosen r c o) = Y.Expr × AfterExpr o
-AfterExpr (Otherwise r c x o) = AfterExpr o
 AfterExpr (Linked n ws u o) = F.Tail × AfterNest o
 
 abbrev pub place : List ℕ → Place → (P.Expression → List Token → Type 0) → List Token → Type 0
@@ -100,11 +88,6 @@ module _ (limit : Limit) where
   after_stmt (InArm r x as' ls a) t q s o v = arms (style_of a) limit q t.0 (default (style_of a) limit q t.1 (keyword (codes "endcase") (after_stmt a t.2 r (case_of x (more_arms as' (P.ArmOf ls s (arms_tree t.0))) (default_tree t.1)) false v)))
   after_stmt (InDefault r x as' a) t q s o v = keyword (codes "endcase") (after_stmt a t r (case_of x as' s) false v)
 
-  abbrev pub turn : ℕ → Turn → P.Expression → (P.Expression → List Token → Type 0) → List Token → Type 0
-  turn q Closed e K = sign Close (K e)
-  turn q (Infix o y) e K = sign (binary_mark o) (Y.expr limit q y (sign Close (K (P.Infixed o e (Y.expr_tree y)))))
-  turn q (Asked x y) e K = sign Question (Y.expr limit q x (sign Colon (Y.expr limit q y (sign Close (K (P.Conditional e (Y.expr_tree x) (Y.expr_tree y)))))))
-
   -- behind a subject: the first arm, the others, and the end
   abbrev pub after_subject : (a : Around) → Arm → Arms → Default → AfterStmt a → ℕ → ℕ → P.Expression → P.ModuleTree → List Token → Type 0
   after_subject a x xs d t r q e v = arm (style_of a) limit q x (arms (style_of a) limit q xs (default (style_of a) limit q d (keyword (codes "endcase") (after_stmt a t r (case_of e (arm_tree x (arms_tree xs)) (default_tree d)) false v))))
@@ -117,41 +100,22 @@ module _ (limit : Limit) where
   after_alone (AsValue n a) t p e v = sign Semicolon (after_stmt a t p (alone (P.SetTo n e)) false v)
 
   -- the same of an expression by precedence, behind n operators
-  abbrev pub after_nest : (o : Nest) → AfterNest o → ℕ → ℕ → P.Expression → P.ModuleTree → List Token → Type 0
-  after_nest (Only b) t p n e v = after_alone b t p e v
-  after_nest (InRound r ws u o) t p n e v = sign Close (F.tail limit r t.0 n (λ m. after_nest o t.1 r m (F.tail_tree ws (signed u e) t.0) v))
-  after_nest (InList r old ws u o) t p n e v = F.flats limit p t.0 n (λ m. sign CloseBrace (F.tail limit r t.1 m (λ j. after_nest o t.2 r j (F.tail_tree ws (signed u (P.Concatenation (more_parts old (P.Followed e (F.flats_tree t.0))))) t.1) v)))
-  after_nest (IfTrue c o) t p n e v = sign Colon (F.flat limit p t.0 n (λ m. after_nest o t.1 p m (P.Conditional c e (F.flat_tree t.0)) v))
-  after_nest (IfFalse c x o) t p n e v = after_nest o t p n (P.Conditional c x e) v
+  abbrev pub after_nest : (o : Nest) → AfterNest o → ℕ → Count → P.Expression → P.ModuleTree → List Token → Type 0
+  after_nest (Only b) t p m e v = after_alone b t p e v
+  after_nest (InRound r n ws u o) t p m e v = sign Close (F.tail limit r t.0 (behind n m) (λ j. after_nest o t.1 r j (F.tail_tree ws (signed u e) t.0) v))
+  after_nest (InList r old n ws u o) t p m e v = F.flats limit p t.0 m (λ j. sign CloseBrace (F.tail limit r t.1 (behind n j) (λ i. after_nest o t.2 r i (F.tail_tree ws (signed u (P.Concatenation (more_parts old (P.Followed e (F.flats_tree t.0))))) t.1) v)))
+  after_nest (IfTrue c o) t p m e v = sign Colon (F.flat limit p t.0 m (λ j. after_nest o t.1 p j (P.Conditional c e (F.flat_tree t.0)) v))
+  after_nest (IfFalse c x o) t p m e v = after_nest o t p m (P.Conditional c x e) v
 
   -- what may follow an expression, which is e, and stands with so many open
   abbrev pub after_expr : (o : Outside) → AfterExpr o → ℕ → P.Expression → P.ModuleTree → List Token → Type 0
-  after_expr (Driving h n) t p e v = after_alone (AsDriver h n) t p e v
-  after_expr (Condition r q a) t p e v = after_alone (AsCondition r q a) t p e v
-  after_expr (Subject r q a) t p e v = after_alone (AsSubject r q a) t p e v
-  after_expr (Setting n a) t p e v = after_alone (AsValue n a) t p e v
-  after_expr (InBraces r old o) t p e v = Y.exprs limit p t.0 (sign CloseBrace (after_expr o t.1 r (P.Concatenation (more_parts old (P.Followed e (Y.exprs_tree t.0)))) v))
-  after_expr (InParens r o) t p e v = turn p t.0 e (λ w. after_expr o t.1 r w v)
-  after_expr (Operand r u o) t p e v = sign Close (after_expr o t r (P.Prefixed u e) v)
-  after_expr (Second r b x o) t p e v = sign Close (after_expr o t r (P.Infixed b x e) v)
-  after_expr (Chosen r c o) t p e v = sign Colon (Y.expr limit p t.0 (sign Close (after_expr o t.1 r (P.Conditional c e (Y.expr_tree t.0)) v)))
-  after_expr (Otherwise r c x o) t p e v = sign Close (after_expr o t r (P.Conditional c x e) v)
   after_expr (Linked n ws u o) t p e v = F.tail limit p t.0 n (λ m. after_nest o t.1 p m (F.tail_tree ws (signed u e) t.0) v)
 
   -- an expression by precedence comes
-  abbrev pub wanted_operand : ℕ → ℕ → List Left → (o : Nest) → P.ModuleTree → List Token → Type 0
+  abbrev pub wanted_operand : ℕ → Count → List Left → (o : Nest) → P.ModuleTree → List Token → Type 0
   wanted_operand p n ws o v ts = (x : F.Operand) × (t : F.Tail) × (k : AfterNest o) × F.operand limit p x n (λ m. F.tail limit p t m (λ j. after_nest o k p j (F.tail_tree ws (F.operand_tree x) t) v)) ts
 
-  -- an expression comes, and what is behind it
-  abbrev pub wanted : ℕ → (o : Outside) → P.ModuleTree → List Token → Type 0
-  wanted p o v ts = (x : Y.Expr) × (t : AfterExpr o) × Y.expr limit p x (after_expr o t p (Y.expr_tree x) v) ts
-
-  abbrev pub prefixed : ℕ → ℕ → (o : Outside) → P.ModuleTree → List Token → Type 0
-  prefixed q r o v ts = (u : UnOp) × (x : Y.Expr) × (t : AfterExpr o) × sign (unary_mark u) (Y.expr limit q x (sign Close (after_expr o t r (P.Prefixed u (Y.expr_tree x)) v))) ts
-
   abbrev pub rest_expr : ExprPlace → List Token → P.ModuleTree → Type 0
-  rest_expr (Want p o) ts v = wanted p o v ts
-  rest_expr (Inside q r o) ts v = wanted q (InParens r o) v ts ⊎ prefixed q r o v ts
   rest_expr (Named p n o) ts v = (i : Place) × (t : AfterExpr o) × place n i (λ e. after_expr o t p e v) ts
   rest_expr (Bracket p n o) ts v = (h : ℕ) × (l : Option ℕ) × (t : AfterExpr o) × number h (in_bracket n l h (λ e. after_expr o t p e v)) ts
   rest_expr (HighRead p n h o) ts v = (l : Option ℕ) × (t : AfterExpr o) × in_bracket n l h (λ e. after_expr o t p e v) ts
@@ -170,9 +134,9 @@ module _ (limit : Limit) where
 
   abbrev pub rest_stmt : StmtPlace → List Token → P.ModuleTree → Type 0
   rest_stmt (WantStmt q a) ts v = wanted_stmt q a v ts
-  rest_stmt (Target q n a) ts v = (x : Expr) × (t : AfterStmt a) × sign LessEquals (expr (style_of a) limit q x (after_expr (Setting n a) t q (expr_tree x) v)) ts
-  rest_stmt (IfRead r q a) ts v = (x : Expr) × (s : Stmt) × (b : Option Stmt) × (t : AfterStmt a) × sign Open (λ us. Holds (deeper limit q) (λ p. expr (style_of a) limit p x (after_expr (Condition r q a) (s, b, t) p (expr_tree x) v) us)) ts
-  rest_stmt (CaseRead r q a) ts v = (x : Expr) × (y : Arm) × (ys : Arms) × (d : Default) × (t : AfterStmt a) × sign Open (λ us. Holds (deeper limit q) (λ p. expr (style_of a) limit p x (after_expr (Subject r q a) (y, ys, d, t) p (expr_tree x) v) us)) ts
+  rest_stmt (Target q n a) ts v = (x : Expr) × (t : AfterStmt a) × sign LessEquals (expr (style_of a) limit q x (after_alone (AsValue n a) t q (expr_tree x) v)) ts
+  rest_stmt (IfRead r q a) ts v = (x : Expr) × (s : Stmt) × (b : Option Stmt) × (t : AfterStmt a) × sign Open (λ us. Holds (deeper limit q) (λ p. expr (style_of a) limit p x (after_alone (AsCondition r q a) (s, b, t) p (expr_tree x) v) us)) ts
+  rest_stmt (CaseRead r q a) ts v = (x : Expr) × (y : Arm) × (ys : Arms) × (d : Default) × (t : AfterStmt a) × sign Open (λ us. Holds (deeper limit q) (λ p. expr (style_of a) limit p x (after_alone (AsSubject r q a) (y, ys, d, t) p (expr_tree x) v) us)) ts
   rest_stmt (FirstLabel r q x as' a) ts v = (y : Arm) × (ys : Arms) × (d : Default) × (t : AfterStmt a) × arm (style_of a) limit q y (arms (style_of a) limit q ys (default (style_of a) limit q d (case_ends a t r x (more_arms as' (arm_tree y (arms_tree ys))) (default_tree d) v))) ts
   rest_stmt (Labels r q x as' ls a) ts v = (ks : List Vector) × (s : Stmt) × (ys : Arms) × (d : Default) × (t : AfterStmt a) × literals ks (sign Colon (stmt (style_of a) limit q s (after_stmt (InArm r x as' (ls ++ ks) a) (ys, d, t) q (stmt_tree s) (ends_in_if s) v))) ts
   rest_stmt (NextLabel r q x as' ls a) ts v = (l : Vector) × (ks : List Vector) × (s : Stmt) × (ys : Arms) × (d : Default) × (t : AfterStmt a) × literal l (literals ks (sign Colon (stmt (style_of a) limit q s (after_stmt (InArm r x as' (ls ++ (l ∷ ks)) a) (ys, d, t) q (stmt_tree s) (ends_in_if s) v)))) ts
@@ -212,8 +176,8 @@ module _ (limit : Limit) where
   rest_item (NameRead u w) ts v = (t : UseTail u) × name_read u t w v ts
   rest_item (PortsRead h) ts v = (is : List Item) × sign Semicolon (after_items h is v) ts
   rest_item (WantItem h) ts v = (is : List Item) × after_items h is v ts
-  rest_item (AssignRead h) ts v = (n : List ℕ) × (x : Expr) × (is : List Item) × name n (sign Equals (expr h.style limit 0 x (after_expr (Driving h n) is 0 (expr_tree x) v))) ts
-  rest_item (DriveRead h n) ts v = (x : Expr) × (is : List Item) × sign Equals (expr h.style limit 0 x (after_expr (Driving h n) is 0 (expr_tree x) v)) ts
+  rest_item (AssignRead h) ts v = (n : List ℕ) × (x : Expr) × (is : List Item) × name n (sign Equals (expr h.style limit 0 x (after_alone (AsDriver h n) is 0 (expr_tree x) v))) ts
+  rest_item (DriveRead h n) ts v = (x : Expr) × (is : List Item) × sign Equals (expr h.style limit 0 x (after_alone (AsDriver h n) is 0 (expr_tree x) v)) ts
   rest_item (AlwaysRead h) ts v = (c : List ℕ) × (s : Stmt) × (is : List Item) × sign At (sign Open (inside limit 0 (λ q. keyword (codes "posedge") (name c (sign Close (stmt h.style limit 0 s (after_stmt (InAlways h c) is 0 (stmt_tree s) (ends_in_if s) v))))))) ts
   rest_item (AtRead h) ts v = (c : List ℕ) × (s : Stmt) × (is : List Item) × sign Open (inside limit 0 (λ q. keyword (codes "posedge") (name c (sign Close (stmt h.style limit 0 s (after_stmt (InAlways h c) is 0 (stmt_tree s) (ends_in_if s) v)))))) ts
   rest_item (ClockOpen h) ts v = (c : List ℕ) × (s : Stmt) × (is : List Item) × keyword (codes "posedge") (name c (sign Close (stmt h.style limit 0 s (after_stmt (InAlways h c) is 0 (stmt_tree s) (ends_in_if s) v)))) ts

@@ -1,13 +1,5 @@
 -- Inner. For proofs and private contracts alone, beside Places: where a reader of a module stands among its tokens: what is read so far, and what the part that is read stands in.
 use Rattle.std.specs.Prelude.{ℕ}
-use Rattle.verilog_tree.specs.Parenthesised.{Expr}
-use Rattle.verilog_tree.specs.declared.tree.BinOp.{BinOp}
-
--- what stands behind an expression in parentheses
-pub data Turn : Type 0 where
-  Closed : Turn
-  Infix : BinOp → Expr → Turn
-  Asked : Expr → Expr → Turn
 
 -- behind a name: a select, or nothing of the expression
 pub data Place : Type 0 where
