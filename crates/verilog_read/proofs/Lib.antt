@@ -5,6 +5,6 @@ pub mod Contract
 pub mod Scanning
 pub mod LexerLimits
 pub mod FrameLemmas
-pub mod FreeExpectations
-pub mod FreeGoes
+pub mod ExprExpectations
+pub mod ExprGoes
 pub mod PlaceSteps

@@ -10,8 +10,8 @@ ghost use Rattle.verilog_read.specs.inner.Frames.{styled, head_of};
 ghost use Rattle.verilog_read.specs.inner.Spots.{use_of, item_spot, state_of};
 ghost use Rattle.verilog_read.specs.inner.Answers.{Goes, a_name, bytes_of, is_zero_number};
 
+use crate::expressions::step_expr;
 use crate::fault::ParseFault;
-use crate::free::step_free;
 use crate::lexemes::Lexeme;
 use crate::places::{Base, ItemSpot, Outer, Place, StmtSpot, Use};
 use crate::precedence::is_mark;
@@ -240,7 +240,7 @@ pub(crate) fn step(
     ensures { Goes (step bounded (state_of place outer.old) (token_of token.now)) result outer.new }
 {
     match place {
-        Place::InFree(place) => step_free(alloc, outer, place.spot, place.chain, token),
+        Place::InExpr(place) => step_expr(alloc, outer, place.spot, place.chain, token),
         Place::InStmt(spot) => step_stmt(alloc, outer, spot, token),
         Place::InItem(spot) => step_item(alloc, outer, &spot, token),
     }

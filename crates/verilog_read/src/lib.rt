@@ -3,13 +3,12 @@
 //!
 //! What they do is the machine of `verilog_text`, whose definitions and laws say which texts are read and which
 //! refusal is told. Here `specs/Spots.antt` and `Frames.antt` say which state of it the places and stacks of the code
-//! stand for. Expressions are read in two ways, with all their parentheses (`expressions`) and with operators that
-//! bind by precedence (`free`, `precedence`, `operators`); all else meets them where one begins and behind a whole one.
+//! stand for. One reader serves both styles of expressions (`expressions`, `precedence`, `operators`): full parentheses
+//! are precedence in which a parenthesis gives leave for one operator, so each expression carries how many more may come.
 #![tactic(auto)]
 
 mod expressions;
 mod fault;
-mod free;
 mod items;
 mod lexemes;
 mod lexer;

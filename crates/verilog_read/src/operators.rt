@@ -1,4 +1,4 @@
-//! The operators of an expression by precedence that wait for their second operand.
+//! The operators of an expression that wait for their second operand.
 ghost use Rattle.std.specs.Prelude.{◌≡◌, IfOk, IfErr};
 ghost use Rattle.verilog_tree.specs.Plain.{plain};
 ghost use Rattle.verilog_tree.specs.Free.{height};

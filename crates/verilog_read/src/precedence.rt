@@ -1,4 +1,4 @@
-//! What a token does in an expression whose operators bind by precedence.
+//! What a token does in an expression, within the expression alone.
 ghost use Rattle.std.specs.Prelude.{◌≡◌, ℕ, ◌+◌, ◌<◌, length, Some, IfSome, IfOk, IfErr, OnOk, [], ◌∷◌, map};
 ghost use Rattle.verilog_tree.specs.Plain.{plain, Literal, expressions, Followed, NoMore};
 ghost use Rattle.verilog_tree.specs.Free.{signed};
@@ -10,7 +10,7 @@ ghost use Rattle.verilog_text.specs.Places as Q;
 ghost use Rattle.verilog_text.specs.Places.{InRound, IfTrue, Alone, AtExpr, WantOperand, WantPrim, Named, Have, Linked, more_parts};
 ghost use Rattle.verilog_text.specs.Steps.{in_room, unary_of, infix_of, prim_step, operand_step, close_step, have_step};
 ghost use Rattle.verilog_read.specs.inner.Waiting.{lefts_of};
-ghost use Rattle.verilog_read.specs.inner.Holding.{token_of, nest, nests_of, is_expected, IsList, FreeSteps, Closes, PoppedNest};
+ghost use Rattle.verilog_read.specs.inner.Holding.{token_of, nest, nests_of, is_expected, IsList, ExprSteps, Closes, PoppedNest};
 
 use crate::fault::ParseFault;
 use crate::lexemes::Lexeme;
@@ -42,7 +42,7 @@ pub enum Nest {
 
 /// Where among them the parser stands.
 #[derive(Drop)]
-pub enum FreeSpot {
+pub enum ExprSpot {
     Operand(u8),
     Prim(u8),
     Named(u8, Name),
@@ -54,15 +54,15 @@ pub enum FreeSpot {
 }
 
 #[derive(Drop)]
-pub struct FreePlace {
-    pub spot: FreeSpot,
+pub struct ExprPlace {
+    pub spot: ExprSpot,
     pub chain: Chain,
 }
 
 /// Behind a token that may end an expression: a place in what it stands in, or it is whole.
 #[derive(Drop)]
 pub enum Closed {
-    Inner(FreePlace),
+    Inner(ExprPlace),
     Whole(Expr),
 }
 
@@ -200,12 +200,12 @@ fn begun(
     outer: Nest,
     depth: u8,
     count: Count,
-) -> Result<FreePlace, ParseFault>
-    ensures { (b : Alone) → FreeSteps (Some (AtExpr (WantOperand depth count [] (nest outer (nests_of nests.old.items b))))) result (nests_of nests.new.items b) }
+) -> Result<ExprPlace, ParseFault>
+    ensures { (b : Alone) → ExprSteps (Some (AtExpr (WantOperand depth count [] (nest outer (nests_of nests.old.items b))))) result (nests_of nests.new.items b) }
 {
     push(nests, outer)?;
-    Ok(FreePlace {
-        spot: FreeSpot::Operand(depth),
+    Ok(ExprPlace {
+        spot: ExprSpot::Operand(depth),
         chain: Chain {
             count,
             lefts: Vec::new(alloc),
@@ -219,8 +219,8 @@ fn opened_round(
     nests: &mut Vec<Nest>,
     depth: u8,
     chain: Chain,
-) -> Result<FreePlace, ParseFault>
-    ensures { (b : Alone) → FreeSteps (prim_step bounded depth chain.count (lefts_of chain.lefts.items) chain.mark (nests_of nests.old.items b) (Sign Mark.Open)) result (nests_of nests.new.items b) }
+) -> Result<ExprPlace, ParseFault>
+    ensures { (b : Alone) → ExprSteps (prim_step bounded depth chain.count (lefts_of chain.lefts.items) chain.mark (nests_of nests.old.items b) (Sign Mark.Open)) result (nests_of nests.new.items b) }
 {
     match deeper(depth) {
         Some(inner) => begun(
@@ -241,22 +241,22 @@ pub(crate) fn prim(
     depth: u8,
     chain: Chain,
     token: &Lexeme,
-) -> Result<FreePlace, ParseFault>
-    ensures { (b : Alone) → FreeSteps (prim_step bounded depth chain.count (lefts_of chain.lefts.items) chain.mark (nests_of nests.old.items b) (token_of token.now)) result (nests_of nests.new.items b) }
+) -> Result<ExprPlace, ParseFault>
+    ensures { (b : Alone) → ExprSteps (prim_step bounded depth chain.count (lefts_of chain.lefts.items) chain.mark (nests_of nests.old.items b) (token_of token.now)) result (nests_of nests.new.items b) }
 {
     match token {
         Lexeme::Word(name) => {
             if is_reserved(name.as_str().as_bytes()) {
                 Err(ParseFault::Unexpected)
             } else {
-                Ok(FreePlace {
-                    spot: FreeSpot::Named(depth, *name),
+                Ok(ExprPlace {
+                    spot: ExprSpot::Named(depth, *name),
                     chain,
                 })
             }
         }
-        Lexeme::Constant(bits) => Ok(FreePlace {
-            spot: FreeSpot::Have(depth, Expr::Lit(*bits)),
+        Lexeme::Constant(bits) => Ok(ExprPlace {
+            spot: ExprSpot::Have(depth, Expr::Lit(*bits)),
             chain,
         }),
         Lexeme::Sign(Mark::Open) => opened_round(alloc, nests, depth, chain),
@@ -285,14 +285,14 @@ pub(crate) fn operand(
     count: Count,
     lefts: Vec<Left>,
     token: &Lexeme,
-) -> Result<FreePlace, ParseFault>
-    ensures { (b : Alone) → FreeSteps (operand_step bounded depth count (lefts_of lefts.items) (nests_of nests.old.items b) (token_of token.now)) result (nests_of nests.new.items b) }
+) -> Result<ExprPlace, ParseFault>
+    ensures { (b : Alone) → ExprSteps (operand_step bounded depth count (lefts_of lefts.items) (nests_of nests.old.items b) (token_of token.now)) result (nests_of nests.new.items b) }
 {
     if let Lexeme::Sign(mark) = token {
         if let Some(op) = unary_of(*mark) {
             return match one_more(count) {
-                Some(more) => Ok(FreePlace {
-                    spot: FreeSpot::Prim(depth),
+                Some(more) => Ok(ExprPlace {
+                    spot: ExprSpot::Prim(depth),
                     chain: Chain {
                         count: more,
                         lefts,
@@ -343,8 +343,8 @@ fn in_round(
     if !is_mark(Mark::Close, token) {
         return Err(ParseFault::Unexpected);
     }
-    Ok(Closed::Inner(FreePlace {
-        spot: FreeSpot::Have(depth, x),
+    Ok(Closed::Inner(ExprPlace {
+        spot: ExprSpot::Have(depth, x),
         chain: Chain {
             count: behind(before, inside),
             lefts,
@@ -376,8 +376,8 @@ fn in_list(
         }
         Lexeme::Sign(Mark::CloseBrace) => {
             let parts = with_part(parts, x)?;
-            Ok(Closed::Inner(FreePlace {
-                spot: FreeSpot::Have(depth, Expr::Concat(parts)),
+            Ok(Closed::Inner(ExprPlace {
+                spot: ExprSpot::Have(depth, Expr::Concat(parts)),
                 chain: Chain {
                     count: behind(before, count),
                     lefts,
@@ -453,8 +453,8 @@ fn joined_by(
         Some(more) => {
             let mut lefts = lefts;
             link(alloc, op, &mut lefts, x)?;
-            Ok(Closed::Inner(FreePlace {
-                spot: FreeSpot::Operand(depth),
+            Ok(Closed::Inner(ExprPlace {
+                spot: ExprSpot::Operand(depth),
                 chain: Chain {
                     count: more,
                     lefts,
@@ -474,8 +474,8 @@ fn asked(
     count: Count,
     lefts: Vec<Left>,
     x: Expr,
-) -> Result<FreePlace, ParseFault>
-    ensures { (b : Alone) → FreeSteps (in_room (one_more bounded count) (λ j. AtExpr (WantOperand depth j [] (IfTrue (settle_all (lefts_of lefts.items) (plain x)) (nests_of nests.old.items b))))) result (nests_of nests.new.items b) }
+) -> Result<ExprPlace, ParseFault>
+    ensures { (b : Alone) → ExprSteps (in_room (one_more bounded count) (λ j. AtExpr (WantOperand depth j [] (IfTrue (settle_all (lefts_of lefts.items) (plain x)) (nests_of nests.old.items b))))) result (nests_of nests.new.items b) }
 {
     match one_more(count) {
         Some(more) => {

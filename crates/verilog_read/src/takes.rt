@@ -17,7 +17,7 @@ ghost use Rattle.verilog_text.specs.Steps.{alone_step};
 use crate::lexemes::Lexeme;
 use crate::lexer::Scanner;
 use crate::places::{Base, ItemSpot, Outer, Place, StmtSpot, Use};
-use crate::precedence::{FreePlace, FreeSpot, Nest};
+use crate::precedence::{ExprPlace, ExprSpot, Nest};
 use crate::words::expected_at;
 use bist_text::is_reserved;
 use verilog_text::Count;
@@ -147,17 +147,17 @@ fn opens_select(mark: Mark) -> bool
 }
 
 #[tactic(auto, using(crate::proofs::Ends::named_takes, crate::proofs::Ends::linked_takes, crate::proofs::Ends::operand_is, crate::proofs::Ends::prim_is))]
-fn free_takes(place: &FreeSpot, count: Count, outer: &Outer, mark: Mark) -> bool
+fn expr_takes(place: &ExprSpot, count: Count, outer: &Outer, mark: Mark) -> bool
     ensures { (c : Chain) → c.count ≡ count → result ≡ taken (AtExpr (standing place.now c (nests_of outer.now.nests.items (alone_of outer.now)))) (Sign mark) }
 {
     match place {
-        FreeSpot::Operand(_) => starts(count, mark),
-        FreeSpot::Prim(_) => opens(mark),
-        FreeSpot::Named(_, _) => opens_select(mark) || operand_takes(count, outer, mark),
-        FreeSpot::Bracket(_, _) | FreeSpot::ColonRead(_, _, _) => false,
-        FreeSpot::HighRead(_, _, _) => matches!(mark, Mark::CloseBracket | Mark::Colon),
-        FreeSpot::LowRead(_, _, _, _) => matches!(mark, Mark::CloseBracket),
-        FreeSpot::Have(_, _) => operand_takes(count, outer, mark),
+        ExprSpot::Operand(_) => starts(count, mark),
+        ExprSpot::Prim(_) => opens(mark),
+        ExprSpot::Named(_, _) => opens_select(mark) || operand_takes(count, outer, mark),
+        ExprSpot::Bracket(_, _) | ExprSpot::ColonRead(_, _, _) => false,
+        ExprSpot::HighRead(_, _, _) => matches!(mark, Mark::CloseBracket | Mark::Colon),
+        ExprSpot::LowRead(_, _, _, _) => matches!(mark, Mark::CloseBracket),
+        ExprSpot::Have(_, _) => operand_takes(count, outer, mark),
     }
 }
 
@@ -198,7 +198,7 @@ fn takes_mark(place: &Place, outer: &Outer, mark: Mark) -> bool
     ensures { result ≡ taken (state_of place.now outer.now) (Sign mark) }
 {
     match place {
-        Place::InFree(free) => free_takes(&free.spot, free.chain.count, outer, mark),
+        Place::InExpr(place) => expr_takes(&place.spot, place.chain.count, outer, mark),
         Place::InStmt(spot) => stmt_takes(spot, outer, mark),
         Place::InItem(spot) => item_takes(spot, outer, mark),
     }
@@ -210,9 +210,9 @@ pub(crate) fn takes_number(place: &Place, outer: &Outer, long: bool, value: u8) 
     ensures { result ≡ taken (state_of place.now outer.now) (Number long value) }
 {
     match place {
-        Place::InFree(
-            FreePlace {
-                spot: FreeSpot::Bracket(_, _) | FreeSpot::ColonRead(_, _, _),
+        Place::InExpr(
+            ExprPlace {
+                spot: ExprSpot::Bracket(_, _) | ExprSpot::ColonRead(_, _, _),
                 ..
             },
         ) => true,

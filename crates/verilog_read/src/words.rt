@@ -11,7 +11,7 @@ ghost use Rattle.verilog_read.specs.inner.WordSets.{words_of, Expects, ExpectsBe
 ghost use Rattle.verilog_read.specs.inner.Ends.{begins};
 
 use crate::places::{Holder, ItemSpot, Outer, Place, StmtSpot};
-use crate::precedence::FreeSpot;
+use crate::precedence::ExprSpot;
 
 /// Reserved words that may come at one place.
 #[derive(Clone, Copy)]
@@ -138,13 +138,13 @@ fn expected_behind(waiting: &[Holder]) -> Expected
 }
 
 /// Whether an operand may begin.
-fn begins(place: &FreeSpot) -> bool
+fn begins(place: &ExprSpot) -> bool
     ensures { result ≡ begins place.now }
 {
-    matches!(place, FreeSpot::Operand(_) | FreeSpot::Prim(_))
+    matches!(place, ExprSpot::Operand(_) | ExprSpot::Prim(_))
 }
 
-fn expected_in_free(place: &FreeSpot) -> Expected
+fn expected_in_expr(place: &ExprSpot) -> Expected
     ensures { (c : Chain) (o : Nest) → Expects result (AtExpr (standing place.now c o)) }
 {
     let begins = begins(place);
@@ -192,7 +192,7 @@ pub(crate) fn expected_at(place: &Place, outer: &Outer) -> Expected
     ensures { Expects result (state_of place.now outer.now) }
 {
     match place {
-        Place::InFree(free) => expected_in_free(&free.spot),
+        Place::InExpr(place) => expected_in_expr(&place.spot),
         Place::InStmt(spot) => expected_in_stmt(spot, outer),
         Place::InItem(spot) => expected_in_item(spot, outer),
     }

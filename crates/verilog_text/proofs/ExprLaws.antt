@@ -11,7 +11,7 @@ use Rattle.verilog_text.specs.inner.Following.{AfterExpr, after_expr, place, in_
 use Rattle.verilog_text.specs.Places.{Outside, Linked, ExprPlace, WantOperand, WantPrim, Named, Bracket, HighRead, ColonRead, LowRead, Have, AtExpr}
 use Rattle.verilog_text.specs.inner.Places.{Place, Whole, One, Two}
 use Rattle.verilog_text.proofs.MarkLaws.{Law, expects_goes}
-use Rattle.verilog_text.proofs.FreeLaws.{no_close, linked_goes, operand_goes, prim_goes}
+use Rattle.verilog_text.proofs.OperandLaws.{no_close, linked_goes, operand_goes, prim_goes}
 
 module _ (limit : Limit) where
   pub have_goes : (p : ℕ) (e : P.Expression) (o : Outside) (t : Token) (ts : List Token) (v : P.ModuleTree) → Law limit (Have p e o) t ts v

@@ -10,7 +10,7 @@ pub mod FullTexts
 pub mod Forgetting
 pub mod Marks
 pub mod MarkLaws
-pub mod FreeLaws
+pub mod OperandLaws
 pub mod ExprLaws
 pub mod Beginnings
 pub mod StmtLaws

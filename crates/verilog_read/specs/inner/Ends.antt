@@ -6,8 +6,8 @@ use Rattle.verilog_tree.specs.declared.tree.BinOp.{BinOp}
 use Rattle.verilog_tree.specs.Grammar.{is_sign}
 use Rattle.verilog_read.specs.declared.precedence.Nest as N
 use Rattle.verilog_read.specs.declared.precedence.Nest.TheVariants as M
-use Rattle.verilog_read.specs.declared.precedence.FreeSpot.{FreeSpot}
-use Rattle.verilog_read.specs.declared.precedence.FreeSpot.TheVariants as T
+use Rattle.verilog_read.specs.declared.precedence.ExprSpot.{ExprSpot}
+use Rattle.verilog_read.specs.declared.precedence.ExprSpot.TheVariants as T
 use Rattle.verilog_text.specs.Places.{Alone, AsDriver, AsCondition, AsSubject, AsValue, Nest, Only, InRound, InList, IfTrue, IfFalse}
 use Rattle.verilog_tree.specs.declared.tree.UnOp.{UnOp}
 use Rattle.verilog_text.specs.declared.count.Count.{Count}
@@ -67,7 +67,7 @@ abbrev pub starts : Count → Mark → Bool
 starts n m = if prefixes m then may n else opens m
 
 -- an operand may begin
-abbrev pub begins : FreeSpot → Bool
+abbrev pub begins : ExprSpot → Bool
 begins (T.Operand r) = true
 begins (T.Prim r) = true
 begins _ = false

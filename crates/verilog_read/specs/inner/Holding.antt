@@ -5,7 +5,7 @@ use Rattle.verilog_tree.specs.Tokens.{Token, Identifier, Number, Based, Unused, 
 use Rattle.verilog_text.specs.Places as Q
 use Rattle.verilog_tree.specs.Grammar.{is_sign}
 use Rattle.verilog_tree.specs.declared.tokens.Mark.{Mark}
-use Rattle.verilog_text.specs.Places.{Alone, ExprPlace, State, AtExpr, WantOperand, WantPrim, Named, Bracket, HighRead, ColonRead, LowRead, Have, Linked, Only, InRound, InList, IfTrue, IfFalse}
+use Rattle.verilog_text.specs.Places.{Alone, State, AtExpr, WantOperand, WantPrim, Named, Bracket, HighRead, ColonRead, LowRead, Have, Linked, Only, InRound, InList, IfTrue, IfFalse}
 use Rattle.verilog_text.specs.Steps.{alone_step}
 use Rattle.verilog_read.specs.inner.Waiting.{lefts_of}
 use Rattle.verilog_read.specs.declared.lexemes.Lexeme.{Lexeme}
@@ -15,9 +15,9 @@ use Rattle.verilog_read.specs.declared.fault.ParseFault.TheVariants.{Unexpected,
 use Rattle.verilog_read.specs.declared.precedence.Chain.{Chain}
 use Rattle.verilog_read.specs.declared.precedence.Nest.{Nest}
 use Rattle.verilog_read.specs.declared.precedence.Nest.TheVariants as N
-use Rattle.verilog_read.specs.declared.precedence.FreeSpot.{FreeSpot}
-use Rattle.verilog_read.specs.declared.precedence.FreeSpot.TheVariants as S
-use Rattle.verilog_read.specs.declared.precedence.FreePlace.{FreePlace}
+use Rattle.verilog_read.specs.declared.precedence.ExprSpot.{ExprSpot}
+use Rattle.verilog_read.specs.declared.precedence.ExprSpot.TheVariants as S
+use Rattle.verilog_read.specs.declared.precedence.ExprPlace.{ExprPlace}
 use Rattle.verilog_read.specs.declared.precedence.Closed.{Closed}
 use Rattle.verilog_read.specs.declared.precedence.Closed.TheVariants as C
 
@@ -42,7 +42,7 @@ abbrev pub nests_of : List Nest → Alone → Q.Nest
 nests_of ns b = nests_on ns (Only b)
 
 -- the place
-abbrev pub standing : FreeSpot → Chain → Q.Nest → ExprPlace
+abbrev pub standing : ExprSpot → Chain → Q.Nest → Q.ExprPlace
 standing (S.Operand r) c o = WantOperand r c.count (lefts_of c.lefts.items) o
 standing (S.Prim r) c o = WantPrim r c.count (lefts_of c.lefts.items) c.mark o
 standing (S.Named r n) c o = Named r n.bytes (Linked c.count (lefts_of c.lefts.items) c.mark o)
@@ -52,10 +52,10 @@ standing (S.ColonRead r n h) c o = ColonRead r n.bytes h (Linked c.count (lefts_
 standing (S.LowRead r n h l) c o = LowRead r n.bytes h l (Linked c.count (lefts_of c.lefts.items) c.mark o)
 standing (S.Have r e) c o = Have r (P.plain e) (Linked c.count (lefts_of c.lefts.items) c.mark o)
 
-abbrev pub FreeSteps : Option State → Result FreePlace ParseFault → Q.Nest → Type 0
-FreeSteps st (Ok p) o = st ≡ Some (AtExpr (standing p.spot p.chain o))
-FreeSteps st (Err Unexpected) o = st ≡ None
-FreeSteps st (Err NoMemory) o = ⊤
+abbrev pub ExprSteps : Option State → Result ExprPlace ParseFault → Q.Nest → Type 0
+ExprSteps st (Ok p) o = st ≡ Some (AtExpr (standing p.spot p.chain o))
+ExprSteps st (Err Unexpected) o = st ≡ None
+ExprSteps st (Err NoMemory) o = ⊤
 
 -- a place, or the expression is whole and the token comes behind it
 abbrev pub Closes : Option State → Result Closed ParseFault → ℕ → Alone → Q.Nest → Token → Type 0

@@ -9,7 +9,7 @@ use Rattle.verilog_text.specs.Places.{Head, Around, StmtPlace, WantStmt, Target,
 use Rattle.verilog_read.specs.declared.places.ItemSpot.TheVariants as I
 use Rattle.verilog_read.specs.declared.places.ItemSpot.{ItemSpot}
 use Rattle.verilog_read.specs.declared.places.Outer.{Outer}
-use Rattle.verilog_read.specs.declared.places.Place.TheVariants.{InFree, InStmt, InItem}
+use Rattle.verilog_read.specs.declared.places.Place.TheVariants.{InExpr, InStmt, InItem}
 use Rattle.verilog_read.specs.declared.places.Place.{Place}
 use Rattle.verilog_read.specs.declared.places.StmtSpot.TheVariants as T
 use Rattle.verilog_read.specs.declared.places.StmtSpot.{StmtSpot}
@@ -60,6 +60,6 @@ item_spot I.Ended w = Ended (head_of w)
 
 -- the state of the machine
 abbrev pub state_of : Place → Outer → State
-state_of (InFree p) w = AtExpr (standing p.spot p.chain (nests_of w.nests.items (alone_of w)))
+state_of (InExpr p) w = AtExpr (standing p.spot p.chain (nests_of w.nests.items (alone_of w)))
 state_of (InStmt s) w = AtStmt (stmt_spot s (around_of w))
 state_of (InItem s) w = AtItem (item_spot s w)

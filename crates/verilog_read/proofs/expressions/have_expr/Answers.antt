@@ -2,8 +2,8 @@ use Rattle.std.proofs.Common.{◌≡◌, Ok, Err}
 use Rattle.verilog_read.specs.inner.Frames.{alone_of}
 use Rattle.verilog_read.specs.inner.Holding.{token_of, nests_of}
 use Rattle.verilog_read.specs.declared.precedence.Closed.TheVariants as C
-use Rattle.verilog_read.proofs.FreeGoes.{refused_goes, whole_goes}
-use Rattle.verilog_read.proofs.free.have_free.Goals as goal
+use Rattle.verilog_read.proofs.ExprGoes.{refused_goes, whole_goes}
+use Rattle.verilog_read.proofs.expressions.have_expr.Goals as goal
 
 pub returns-in-Ok-Whole : goal.returns-in-Ok-Whole
 returns-in-Ok-Whole c =

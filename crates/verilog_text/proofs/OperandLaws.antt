@@ -1,4 +1,4 @@
--- What may follow in an expression by precedence, by the next token.
+-- What may follow in an expression, however its operators are counted, by the next token.
 use Rattle.std.proofs.Common.{◌≡◌, ℕ, Bool, true, false, List, [], ◌∷◌, Option, Some, None, refl, ◌↔◌, subst, sym, ◌∙◌, if◌then◌else◌}
 use Rattle.bist_bits.specs.Vector.{Vector}
 use Rattle.bist_text.proofs.Pieces.{also, same, never, holds_never}
