@@ -1,28 +1,25 @@
 -- The chip that statements describe is within the limits, and is what the reader makes.
 use Rattle.std.proofs.Common.{◌≡◌, ◌∙◌, ◌≤◌, ◌+◌, ℕ, Bool, true, false, cond, List, [], ◌∷◌, ◌++◌, length, map, Option, Some, None, Ok, Err, refl, sym, ap, subst, arith}
 use Rattle.std.specs.Prelude.{All, nat_lt}
-use Rattle.std.specs.List.{find, take_while}
-use Rattle.std.specs.Str.Parse.{digits_value}
+use Rattle.std.specs.List.{find}
 use Rattle.std.proofs.lemmas.Bool.{or_parts, ltb-false}
 use Rattle.std.proofs.lemmas.List.{length-append}
-use Rattle.bist_text.specs.declared.text_lines.Line.{Line}
 use Rattle.bist_text.specs.Lines.{TextLine}
-use Rattle.bist_text.specs.Numbers.{IsNumber}
 use Rattle.bist_text.specs.ReservedWords.{is_among, reserved_words}
-use Rattle.memory_desc.specs.Names.{is_name_byte, IsName}
+use Rattle.memory_desc.specs.Names.{IsName}
 use Rattle.chip_desc.specs.Chips.{ChipDescription, UnitDescription, described_as, unit_of, IsChip, IsUnit}
-use Rattle.chip_desc.specs.ChipLines.{name, budget, kind_of, is_formed, Statement}
+use Rattle.chip_desc.specs.ChipLines.{Content, name, budget, kind_of, is_formed, Statement, stated}
 use Rattle.chip_desc.specs.ChipTable.{is_key, first_of, is_heavier, is_out_of_range, is_outside, missing, unless_there, repeated, out_of_range, too_many, too_heavy, content_of, name_in, budget_in, name_said, budget_said, unit_in, units_said, first_refusal, refusal, described}
-use Rattle.chip_desc.specs.inner.Heard.{behind_key, by_statements, checked, content_in, digits_in, said, statements, StandsAt}
+use Rattle.chip_desc.specs.inner.Heard.{by_statements, checked, said, statements}
 use Rattle.chip_desc.specs.inner.Seeking.{heavier_than}
 use Rattle.chip_desc.specs.declared.chip.ChipUnit.{ChipUnit}
 use Rattle.chip_desc.specs.declared.fault.ChipField.{ChipField}
 use Rattle.chip_desc.specs.declared.fault.ChipField.TheVariants.{Name as NameField, Budget as BudgetField, Unit as UnitField}
 use Rattle.chip_desc.specs.declared.fault.ChipFault.{ChipFault}
 use Rattle.chip_desc.specs.declared.fault.ChipFault.TheVariants.{Missing, TooManyUnits}
-use Rattle.chip_desc.specs.declared.line_place.Key.{Key}
-use Rattle.chip_desc.specs.declared.line_place.Key.TheVariants.{Chip, Name, Budget, Unit as OfUnit}
-use Rattle.chip_desc.proofs.Contents.{content_is, formed_said, number_is}
+use Rattle.chip_desc.specs.declared.content.Key.{Key}
+use Rattle.chip_desc.specs.declared.content.Key.TheVariants.{Chip, Name, Budget, Unit as OfUnit}
+use Rattle.chip_desc.proofs.LineReads.{formed_said}
 use Rattle.chip_desc.proofs.LineChecking.{unchecked, refused}
 use Rattle.chip_desc.proofs.UnitLines.{all_units, find_past, none_at, some_unit, unit_key}
 
@@ -52,58 +49,50 @@ key_is Budget Budget e = refl
 key_is OfUnit OfUnit e = refl
 key_is k l e = (let z : ⊥ = cc in absurd z)
 
--- the statement of a line of a kind
-record IsStated (k : Key) (ss : List Statement) (l : Line) : Type 0 where
-  pub statement : Statement
-  pub found : first_of k ss ≡ Some statement
-  pub says : said l.text.now ≡ Some statement.content
-  pub kind : kind_of statement.content ≡ k
-
-stated_at : (k : Key) (ss : List Statement) (l : Line) → StandsAt (Some l) (first_of k ss) → IsStated k ss l
-stated_at k ss l h = go (first_of k ss) refl h
-  where
-    go : (o : Option Statement) → first_of k ss ≡ o → StandsAt (Some l) o → IsStated k ss l
-    go None e h = absurd h
-    go (Some s) e h = record { statement = s; found = e; says = h.1; kind = key_is k (kind_of s.content) (find_sat (λ s. is_key k (kind_of s.content)) ss s e) }
+-- the statement of a kind that is found
+kind_found : (k : Key) (ss : List Statement) (s : Statement) → first_of k ss ≡ Some s → kind_of s.content ≡ k
+kind_found k ss s e = key_is k (kind_of s.content) (find_sat (λ s. is_key k (kind_of s.content)) ss s e)
 
 -- a field whose line is there isn't missing
-pub not_missing : (k : Key) (field : ChipField) (ss : List Statement) (l : Line) → StandsAt (Some l) (first_of k ss) → missing k field ss ≡ None
-not_missing k field ss l h = ap (unless_there (Missing field)) (stated_at k ss l h).found
+pub not_missing : (k : Key) (field : ChipField) (ss : List Statement) (s : Statement) → first_of k ss ≡ Some s → missing k field ss ≡ None
+not_missing k field ss s e = ap (unless_there (Missing field)) e
 
--- what the line of a kind says is what is read of it
-stated_is : (k : Key) (ss : List Statement) (l : Line) (s : IsStated k ss l) → content_in k l.text.now ≡ s.statement.content
-stated_is k ss l s = content_is l.text.now s.statement.content k s.says s.kind
+in_range : (k : Key) (ss : List Statement) (s : Statement) → first_of k ss ≡ Some s → out_of_range ss ≡ None → is_out_of_range s.content ≡ false
+in_range k ss s e r = found_passes (λ s. is_key k (kind_of s.content)) (λ s. is_out_of_range s.content) ss s e (none_at _ (find (λ s. is_out_of_range s.content) ss) r)
 
-in_range : (k : Key) (ss : List Statement) (l : Line) → IsStated k ss l → out_of_range ss ≡ None → is_out_of_range (content_in k l.text.now) ≡ false
-in_range k ss l s r =
-    ap is_out_of_range (stated_is k ss l s)
-    ∙ found_passes (λ s. is_key k (kind_of s.content)) (λ s. is_out_of_range s.content) ss s.statement s.found (none_at _ (find (λ s. is_out_of_range s.content) ss) r)
+-- what is found in the lines of a text was said by one of them, and so is formed
+formed_found : (p : Statement → Bool) (ls : List TextLine) (s : Statement) → find p (statements ls) ≡ Some s → is_formed s.content ≡ true
+formed_found p [] s e = (let z : ⊥ = cc in absurd z)
+formed_found p (l ∷ ls) s e = go (said l.text) refl e (λ e. formed_found p ls s e)
+  where
+    at : (c : Content) → said l.text ≡ Some c → (t : Bool) → cond t (Some (record { line = l.number; content = c })) (find p (statements ls)) ≡ Some s
+        → (find p (statements ls) ≡ Some s → is_formed s.content ≡ true) → is_formed s.content ≡ true
+    at c k true e again = (let same : (let x : Statement = record { line = l.number; content = c } in x) ≡ s = cc in ap (λ s. is_formed s.content) (sym same) ∙ formed_said l.text c k)
+    at c k false e again = again e
+
+    go : (v : Option Content) → said l.text ≡ v → find p (stated l.number v ++ statements ls) ≡ Some s → (find p (statements ls) ≡ Some s → is_formed s.content ≡ true) → is_formed s.content ≡ true
+    go None k e again = again e
+    go (Some c) k e again = at c k (p (record { line = l.number; content = c })) e again
 
 -- ---- the name and the budget
 
-pub name_given : (ss : List Statement) (l : Line) (r : List ℕ) → StandsAt (Some l) (first_of Name ss) → out_of_range ss ≡ None → r ≡ take_while is_name_byte (behind_key l.text.now)
-    → (r ≡ name_said ss) × IsName r
-name_given ss l r h o e =
-    let s = stated_at Name ss l h in
-    let n : List ℕ = take_while is_name_byte (behind_key l.text.now) in
-    let is : name n ≡ s.statement.content = stated_is Name ss l s in
-    let inside = or_parts (nat_lt 48 (length n)) (is_among n reserved_words) (in_range Name ss l s o) in
-    let formed : is_formed (name n) ≡ true = ap is_formed is ∙ formed_said l.text.now s.statement.content s.says in
-    let named : IsName n = record { identifier = formed; short = ltb-false 48 (length n) inside.0; free = inside.1 } in
-    (e ∙ ap (λ c. name_in (Some c)) is ∙ sym (ap (λ o. name_in (content_of o)) s.found), subst IsName (sym e) named)
+is_a_name : (c : Content) → kind_of c ≡ Name → is_formed c ≡ true → is_out_of_range c ≡ false → IsName (name_in (Some c))
+is_a_name (name n) k f o =
+    let inside = or_parts (nat_lt 48 (length n)) (is_among n reserved_words) o in
+    record { identifier = f; short = ltb-false 48 (length n) inside.0; free = inside.1 }
+is_a_name c k f o = (let z : ⊥ = cc in absurd z)
 
-pub budget_given : (ss : List Statement) (l : Line) (n : ℕ) → StandsAt (Some l) (first_of Budget ss) → (IsNumber 10 9 (digits_in l.text.now) → n ≡ digits_value 10 (digits_in l.text.now)) → n ≡ budget_said ss
-budget_given ss l n h f =
-    let s = stated_at Budget ss l h in
-    let is : budget (digits_in l.text.now) ≡ s.statement.content = stated_is Budget ss l s in
-    number_is l.text.now (budget (digits_in l.text.now)) (digits_in l.text.now) n (s.says ∙ ap Some (sym is)) refl f
-    ∙ ap (λ c. budget_in (Some c)) is ∙ sym (ap (λ o. budget_in (content_of o)) s.found)
+is_inside : (c : Content) → kind_of c ≡ Budget → is_out_of_range c ≡ false → is_outside (budget_in (Some c)) ≡ false
+is_inside (budget n) k o = o
+is_inside c k o = (let z : ⊥ = cc in absurd z)
 
-budget_inside : (ss : List Statement) (l : Line) → StandsAt (Some l) (first_of Budget ss) → out_of_range ss ≡ None → is_outside (budget_said ss) ≡ false
-budget_inside ss l h o =
-    let s = stated_at Budget ss l h in
-    let is : budget (digits_in l.text.now) ≡ s.statement.content = stated_is Budget ss l s in
-    ap is_outside (ap (λ o. budget_in (content_of o)) s.found ∙ ap (λ c. budget_in (Some c)) (sym is)) ∙ in_range Budget ss l s o
+module _ (ls : List TextLine) (s : Statement) (r : out_of_range (statements ls) ≡ None) where
+  pub named : first_of Name (statements ls) ≡ Some s → IsName (name_in (Some s.content))
+  named e =
+      is_a_name s.content (kind_found Name (statements ls) s e) (formed_found (λ s. is_key Name (kind_of s.content)) ls s e) (in_range Name (statements ls) s e r)
+
+  pub budget_inside : first_of Budget (statements ls) ≡ Some s → is_outside (budget_in (Some s.content)) ≡ false
+  budget_inside e = is_inside s.content (kind_found Budget (statements ls) s e) (in_range Budget (statements ls) s e r)
 
 -- ---- the units
 
@@ -128,18 +117,17 @@ few_said ss e = go (nat_lt 16 (length (units_said ss))) refl e
 
 -- ---- the whole
 
-pub is_chip : (ls : List TextLine) (bl ul : Line) (n : List ℕ) (most : ℕ) (us : List ChipUnit) → IsName n → StandsAt (Some bl) (first_of Budget (statements ls)) → StandsAt (Some ul) (first_of OfUnit (statements ls))
-    → out_of_range (statements ls) ≡ None → most ≡ budget_said (statements ls) → too_many (statements ls) ≡ None → map unit_of us ≡ units_said (statements ls) → heavier_than most (statements ls) ≡ None
+pub is_chip : (ls : List TextLine) (b u : Statement) (n : List ℕ) (most : ℕ) (us : List ChipUnit) → IsName n → first_of Budget (statements ls) ≡ Some b → first_of OfUnit (statements ls) ≡ Some u
+    → out_of_range (statements ls) ≡ None → most ≡ budget_in (Some b.content) → too_many (statements ls) ≡ None → map unit_of us ≡ units_said (statements ls) → heavier_than most (statements ls) ≡ None
     → IsChip (described_as n most us)
-is_chip ls bl ul n most us named b u o m few same light =
+is_chip ls b u n most us named be ue o m few same light =
     let ss = statements ls in
-    let p = or_parts (nat_lt most 1) (nat_lt 1000000 most) (ap is_outside m ∙ budget_inside ss bl b o) in
-    let s = stated_at OfUnit ss ul u in
+    let p = or_parts (nat_lt most 1) (nat_lt 1000000 most) (ap is_outside m ∙ budget_inside ls b o be) in
     record {
       name = named;
       some = ltb-false most 1 p.0;
       small = ltb-false 1000000 most p.1;
-      any = subst (λ (us : List UnitDescription). 1 ≤ length us) (sym same) (some_units ss s.statement s.found);
+      any = subst (λ (us : List UnitDescription). 1 ≤ length us) (sym same) (some_units ss u ue);
       few = subst (λ (us : List UnitDescription). length us ≤ 16) (sym same) (few_said ss few);
       units = subst (λ (us : List UnitDescription). All (λ u. IsUnit most u) us) (sym same)
           (all_units ls most (none_at _ (find (λ s. is_out_of_range s.content) ss) o) (none_at _ (find (λ s. is_heavier most s.content) ss) light));
@@ -153,14 +141,16 @@ last_one : (o : Option ChipFault) → first_refusal (o ∷ []) ≡ o
 last_one None = refl
 last_one (Some f) = refl
 
+budget_given : (ss : List Statement) (b : Statement) (n : ℕ) → first_of Budget ss ≡ Some b → n ≡ budget_in (Some b.content) → n ≡ budget_said ss
+budget_given ss b n e m = m ∙ sym (ap (λ o. budget_in (content_of o)) e)
+
 -- The checks before the last are passed.
-pub comes_to : (ss : List Statement) (n : ℕ) (nl bl ul : Line) → Ok tt ≡ checked (repeated ss) → StandsAt (Some nl) (first_of Name ss) → StandsAt (Some bl) (first_of Budget ss)
-    → StandsAt (Some ul) (first_of OfUnit ss) → Ok tt ≡ checked (out_of_range ss) → too_many ss ≡ None
-    → (IsNumber 10 9 (digits_in bl.text.now) → n ≡ digits_value 10 (digits_in bl.text.now)) → refusal ss ≡ heavier_than n ss
-comes_to ss n nl bl ul a b c d e f g =
-    behind _ _ (unchecked (repeated ss) tt (sym a)) ∙ behind _ _ (not_missing Name NameField ss nl b) ∙ behind _ _ (not_missing Budget BudgetField ss bl c)
-    ∙ behind _ _ (not_missing OfUnit UnitField ss ul d) ∙ behind _ _ (unchecked (out_of_range ss) tt (sym e)) ∙ behind _ _ f ∙ last_one (too_heavy ss)
-    ∙ ap (λ n. heavier_than n ss) (sym (budget_given ss bl n c g))
+pub comes_to : (ss : List Statement) (n : ℕ) (a b u : Statement) → Ok tt ≡ checked (repeated ss) → first_of Name ss ≡ Some a → first_of Budget ss ≡ Some b
+    → first_of OfUnit ss ≡ Some u → Ok tt ≡ checked (out_of_range ss) → too_many ss ≡ None → n ≡ budget_in (Some b.content) → refusal ss ≡ heavier_than n ss
+comes_to ss n a b u r ae be ue o t m =
+    behind _ _ (unchecked (repeated ss) tt (sym r)) ∙ behind _ _ (not_missing Name NameField ss a ae) ∙ behind _ _ (not_missing Budget BudgetField ss b be)
+    ∙ behind _ _ (not_missing OfUnit UnitField ss u ue) ∙ behind _ _ (unchecked (out_of_range ss) tt (sym o)) ∙ behind _ _ t ∙ last_one (too_heavy ss)
+    ∙ ap (λ n. heavier_than n ss) (sym (budget_given ss b n be m))
 
 pub is_refused : (ss : List Statement) (n : ℕ) (f : ChipFault) → refusal ss ≡ heavier_than n ss → Err f ≡ checked (heavier_than n ss) → Err f ≡ by_statements (refusal ss) ss
 is_refused ss n f e h = sym (ap (λ o. by_statements o ss) (e ∙ refused (heavier_than n ss) f (sym h)))
@@ -168,8 +158,8 @@ is_refused ss n f e h = sym (ap (λ o. by_statements o ss) (e ∙ refused (heavi
 pub is_described : (ss : List Statement) (d : ChipDescription) (n : ℕ) → refusal ss ≡ heavier_than n ss → Ok tt ≡ checked (heavier_than n ss) → d ≡ described ss → Ok d ≡ by_statements (refusal ss) ss
 is_described ss d n e h k = ap Ok k ∙ sym (ap (λ o. by_statements o ss) (e ∙ unchecked (heavier_than n ss) tt (sym h)))
 
-pub parts_same : (ss : List Statement) (d : ChipDescription) (n : List ℕ) (most : ℕ) (us : List ChipUnit) → d ≡ described_as n most us → n ≡ name_said ss → most ≡ budget_said ss
-    → map unit_of us ≡ units_said ss → d ≡ described ss
-parts_same ss d n most us e a b c =
-    e ∙ ap (λ n. described_as n most us) a ∙ ap (λ most. described_as (name_said ss) most us) b
-    ∙ ap (λ (us : List UnitDescription). (let d : ChipDescription = record { name = name_said ss; budget = budget_said ss; units = us } in d)) c
+pub parts_same : (ss : List Statement) (d : ChipDescription) (a b : Statement) (n : List ℕ) (most : ℕ) (us : List ChipUnit) → d ≡ described_as n most us → first_of Name ss ≡ Some a
+    → n ≡ name_in (Some a.content) → first_of Budget ss ≡ Some b → most ≡ budget_in (Some b.content) → map unit_of us ≡ units_said ss → d ≡ described ss
+parts_same ss d a b n most us e ae ne be me ue =
+    e ∙ ap (λ n. described_as n most us) (ne ∙ sym (ap (λ o. name_in (content_of o)) ae)) ∙ ap (λ most. described_as (name_said ss) most us) (budget_given ss b most be me)
+    ∙ ap (λ (us : List UnitDescription). (let d : ChipDescription = record { name = name_said ss; budget = budget_said ss; units = us } in d)) ue

@@ -1,10 +1,6 @@
-pub mod FileBytes
-pub mod KindLines
-pub mod ContentLines
+pub mod ArgumentLaws
 pub mod LineReads
 pub mod OneText
-pub mod Contents
-pub mod Searching
 pub mod LineChecking
 pub mod UnitLines
 pub mod Described

@@ -1,31 +1,8 @@
 -- The check of a text's lines, line by line.
-use Rattle.std.proofs.Common.{◌≡◌, ◌∙◌, ◌==◌, ℕ, if◌then◌else◌, Bool, true, false, List, [], ◌∷◌, Option, Some, None, Result, Ok, Err, refl, sym, ap}
-use Rattle.std.specs.Str.Parse.{digits_value}
+use Rattle.std.proofs.Common.{◌≡◌, ◌∙◌, Bool, true, false, List, [], ◌∷◌, Option, Some, None, Result, Ok, Err, refl, sym, ap}
 use Rattle.bist_text.specs.Lines.{TextLine}
-use Rattle.bist_text.specs.Machine.{Outcome, read, unexpected, truncated}
-use Rattle.bist_text.specs.Numbers.{IsNumber}
-use Rattle.chip_desc.specs.ChipLines.{version}
-use Rattle.chip_desc.specs.inner.Heard.{answer, checked, digits_in, heard, later_refusal, first_lines_refusal, line_refusal, lines_refusal, opening, or_later, turned}
+use Rattle.chip_desc.specs.inner.Heard.{checked, later_refusal, first_lines_refusal, line_refusal, lines_refusal, opening, or_later, turned}
 use Rattle.chip_desc.specs.declared.fault.ChipFault.{ChipFault}
-use Rattle.chip_desc.specs.declared.fault.ChipFault.TheVariants.{OtherVersion}
-use Rattle.chip_desc.specs.declared.line_place.Key.{Key}
-use Rattle.chip_desc.specs.declared.line_reader.LineFault.{LineFault}
-use Rattle.chip_desc.proofs.Contents.{number_is}
-use Rattle.chip_desc.proofs.LineReads.{opens_version, says, version_heard}
-
--- ---- a `chip` line
-
-answer_read : (o : Outcome (Option Key)) (k : Option Key) → answer o ≡ Ok k → o ≡ read k
-answer_read (read j) k e = (let z : j ≡ k = cc in ap read z)
-answer_read (unexpected i) k e = (let z : ⊥ = cc in absurd z)
-answer_read truncated k e = (let z : ⊥ = cc in absurd z)
-
-pub version_opens : (l : TextLine) (r : Result (Option Key) LineFault) (k : Key) (n : ℕ) → r ≡ answer (heard false l.text) → r ≡ Ok (Some k)
-    → (IsNumber 10 9 (digits_in l.text) → n ≡ digits_value 10 (digits_in l.text)) → (b : Bool) → (n == 1) ≡ b → (if b then Ok true else Err OtherVersion) ≡ opening l
-version_opens l r k n a e f b t =
-    let v = version_heard l.text k (answer_read (heard false l.text) (Some k) (sym a ∙ e)) in
-    let value : n ≡ digits_value 10 v.0 = number_is l.text (version v.0) v.0 n (says l.text (Some (version v.0)) v.1) refl f in
-    sym (opens_version l v.0 v.1 ∙ ap (λ m. if m == 1 then Ok true else Err OtherVersion) (sym value) ∙ ap (λ b. if b then Ok true else Err OtherVersion) t)
 
 -- ---- line by line
 

@@ -2,17 +2,16 @@
 use Rattle.std.proofs.Common.{◌≡◌, ◌↔◌, ℕ, ◌==◌, Bool, true, false, if◌then◌else◌, List, [], ◌∷◌, ◌++◌, Option, Some, None, Result, Ok, Err, refl, inl, inr, sym, ap, subst, ◌∙◌}
 use Rattle.std.proofs.Math.Path.{ap₂}
 use Rattle.std.specs.Prelude.{MatchBool}
-use Rattle.std.specs.Str.Parse.{digits_value}
 use Rattle.bist_text.specs.Lines.{TextLine, text_lines}
 use Rattle.bist_text.specs.Machine.{Outcome, read, unexpected, truncated}
+use Rattle.keyed_lines.specs.Lines.{answer}
 use Rattle.chip_desc.specs.Chips.{ChipDescription}
 use Rattle.chip_desc.specs.ChipFaults.{AreRefused, IsLaterFault}
-use Rattle.chip_desc.specs.ChipLines.{Content, version, kind_of, ContentText, LineText, Statement, stated, Say, is_version_one, are_of_version_one, AreStatements}
+use Rattle.chip_desc.specs.ChipLines.{Content, version, ContentText, LineText, Statement, stated, Say, is_version_one, are_of_version_one, AreStatements}
 use Rattle.chip_desc.specs.ChipTable.{Reads, refusal, described}
-use Rattle.chip_desc.specs.inner.Heard.{answer, by_lines, by_statements, checked_by, first_lines_refusal, heard, later_refusal, line_refusal, opened_by, opening, or_later, reading, said, statements, turned}
+use Rattle.chip_desc.specs.inner.Heard.{by_lines, by_statements, checked_by, first_lines_refusal, heard, later_refusal, line_refusal, opened_by, opening, or_later, reading, said, statements, turned}
 use Rattle.chip_desc.specs.declared.fault.ChipFault.{ChipFault}
 use Rattle.chip_desc.specs.declared.fault.ChipFault.TheVariants.{Truncated, OtherVersion}
-use Rattle.chip_desc.specs.declared.line_place.Key.{Key}
 use Rattle.chip_desc.proofs.LineReads.{fault_heard, heard_fault, hears, hears_none, line_said, none_heard, opens_blank, opens_refused, opens_version, says, version_heard}
 
 -- ---- statements
@@ -24,17 +23,17 @@ say_is (l ∷ ls) ss h =
 
 -- ---- lines behind a `chip` line
 
-read_unrefused : (l : TextLine) (k : Option Key) → heard true l.text ≡ read k → line_refusal l ≡ None
+read_unrefused : (l : TextLine) (k : Option Content) → heard true l.text ≡ read k → line_refusal l ≡ None
 read_unrefused l k e = ap (λ o. checked_by l (answer o)) e
 
 line_unrefused : (l : TextLine) (v : Option Content) → LineText l.text v → line_refusal l ≡ None
 line_unrefused l None h = read_unrefused l None (hears_none true l.text h)
-line_unrefused l (Some c) h = read_unrefused l (Some (kind_of c)) (hears true c l.text refl h)
+line_unrefused l (Some c) h = read_unrefused l (Some c) (hears true c l.text refl h)
 
 unrefused_said : (l : TextLine) → line_refusal l ≡ None → LineText l.text (said l.text)
 unrefused_said l e = go (heard true l.text) refl e
   where
-    go : (o : Outcome (Option Key)) → heard true l.text ≡ o → checked_by l (answer o) ≡ None → LineText l.text (said l.text)
+    go : (o : Outcome (Option Content)) → heard true l.text ≡ o → checked_by l (answer o) ≡ None → LineText l.text (said l.text)
     go (read k) h e = line_said l.text k h
     go (unexpected i) h e = (let z : ⊥ = cc in absurd z)
     go truncated h e = (let z : ⊥ = cc in absurd z)
@@ -81,7 +80,7 @@ lines_heard (l ∷ ls) f h = elim h [
   | inl a ↦ ap (λ o. turned o (later_refusal ls) (first_lines_refusal ls)) (opens_blank l a.0) ∙ lines_heard ls f a.1
   | inr x ↦ elim x [
     | inl a ↦ ap (λ o. turned o (later_refusal ls) (first_lines_refusal ls)) (opens_refused l f a)
-    | inr a ↦ version_turned (digits_value 10 a.0 == 1) (opening l) (later_refusal ls) (first_lines_refusal ls) (opens_version l a.0 a.1) ∙ go (digits_value 10 a.0 == 1) a.2
+    | inr a ↦ version_turned (a.0 == 1) (opening l) (later_refusal ls) (first_lines_refusal ls) (opens_version l a.0 a.1) ∙ go (a.0 == 1) a.2
   ]
 ]
   where
@@ -100,14 +99,14 @@ heard_lines (l ∷ ls) f e = go (heard false l.text) refl (λ g. heard_lines ls 
     by_version true e = heard_later ls f e
     by_version false e = sym (some_same OtherVersion f e)
 
-    at : (o : Outcome (Option Key)) → heard false l.text ≡ o → turned (opened_by l (answer o)) (later_refusal ls) (first_lines_refusal ls) ≡ Some f
+    at : (o : Outcome (Option Content)) → heard false l.text ≡ o → turned (opened_by l (answer o)) (later_refusal ls) (first_lines_refusal ls) ≡ Some f
     at o h = ap (λ o. turned (opened_by l (answer o)) (later_refusal ls) (first_lines_refusal ls)) (sym h) ∙ e
 
-    go : (o : Outcome (Option Key)) → heard false l.text ≡ o → (first_lines_refusal ls ≡ Some f → AreRefused ls f) → AreRefused (l ∷ ls) f
+    go : (o : Outcome (Option Content)) → heard false l.text ≡ o → (first_lines_refusal ls ≡ Some f → AreRefused ls f) → AreRefused (l ∷ ls) f
     go (read None) h again = inl (none_heard false l.text h, again (at (read None) h))
     go (read (Some k)) h again =
         let v = version_heard l.text k h in
-        inr (inr (v.0, v.1, by_version (digits_value 10 v.0 == 1) (sym (version_turned (digits_value 10 v.0 == 1) (opening l) (later_refusal ls) (first_lines_refusal ls) (opens_version l v.0 v.1)) ∙ e)))
+        inr (inr (v.0, v.1, by_version (v.0 == 1) (sym (version_turned (v.0 == 1) (opening l) (later_refusal ls) (first_lines_refusal ls) (opens_version l v.0 v.1)) ∙ e)))
     go (unexpected i) h again = inr (inl (heard_fault false l f (ap (λ o. checked_by l (answer o)) h ∙ at (unexpected i) h)))
     go truncated h again = inr (inl (heard_fault false l f (ap (λ o. checked_by l (answer o)) h ∙ at truncated h)))
 
@@ -116,21 +115,21 @@ lines_say : (ls : List TextLine) → first_lines_refusal ls ≡ None → Say ls 
 lines_say [] e = (let z : ⊥ = cc in absurd z)
 lines_say (l ∷ ls) e = go (heard false l.text) refl (λ g. lines_say ls g)
   where
-    at : (o : Outcome (Option Key)) → heard false l.text ≡ o → turned (opened_by l (answer o)) (later_refusal ls) (first_lines_refusal ls) ≡ None
+    at : (o : Outcome (Option Content)) → heard false l.text ≡ o → turned (opened_by l (answer o)) (later_refusal ls) (first_lines_refusal ls) ≡ None
     at o h = ap (λ o. turned (opened_by l (answer o)) (later_refusal ls) (first_lines_refusal ls)) (sym h) ∙ e
 
     Whole : Type 0
     Whole = Say (l ∷ ls) (statements (l ∷ ls)) × (are_of_version_one (statements (l ∷ ls)) ≡ true)
 
-    one : (ds : List ℕ) → ContentText l.text (version ds) → (b : Bool) → (digits_value 10 ds == 1) ≡ b → (if b then later_refusal ls else Some OtherVersion) ≡ None → Whole
-    one ds t true e h =
-        let s : said l.text ≡ Some (version ds) = says l.text (Some (version ds)) t in (
+    one : (n : ℕ) → ContentText l.text (version n) → (b : Bool) → (n == 1) ≡ b → (if b then later_refusal ls else Some OtherVersion) ≡ None → Whole
+    one n t true e h =
+        let s : said l.text ≡ Some (version n) = says l.text (Some (version n)) t in (
           (said l.text, statements ls, subst (LineText l.text) (sym s) t, later_says ls h, refl),
           ap (λ v. are_of_version_one (stated l.number v ++ statements ls)) s ∙ e,
         )
-    one ds t false e h = (let z : ⊥ = cc in absurd z)
+    one n t false e h = (let z : ⊥ = cc in absurd z)
 
-    go : (o : Outcome (Option Key)) → heard false l.text ≡ o → (first_lines_refusal ls ≡ None → Say ls (statements ls) × (are_of_version_one (statements ls) ≡ true)) → Whole
+    go : (o : Outcome (Option Content)) → heard false l.text ≡ o → (first_lines_refusal ls ≡ None → Say ls (statements ls) × (are_of_version_one (statements ls) ≡ true)) → Whole
     go (read None) h again =
         let t = none_heard false l.text h in
         let s : said l.text ≡ None = says l.text None t in
@@ -140,7 +139,7 @@ lines_say (l ∷ ls) e = go (heard false l.text) refl (λ g. lines_say ls g)
         )
     go (read (Some k)) h again =
         let v = version_heard l.text k h in
-        one v.0 v.1 (digits_value 10 v.0 == 1) refl (sym (version_turned (digits_value 10 v.0 == 1) (opening l) (later_refusal ls) (first_lines_refusal ls) (opens_version l v.0 v.1)) ∙ e)
+        one v.0 v.1 (v.0 == 1) refl (sym (version_turned (v.0 == 1) (opening l) (later_refusal ls) (first_lines_refusal ls) (opens_version l v.0 v.1)) ∙ e)
     go (unexpected i) h again = (let w = at (unexpected i) h in let z : ⊥ = cc in absurd z)
     go truncated h again = (let w = at truncated h in let z : ⊥ = cc in absurd z)
 
@@ -149,7 +148,7 @@ say_lines [] ss h v = (let n : are_of_version_one ss ≡ false = ap are_of_versi
 say_lines (l ∷ ls) ss h v = go h.0 h.1 h.2 h.3 h.4 (λ w. say_lines ls h.1 h.3 w)
   where
     first : (c : Content) → ContentText l.text c → is_version_one c ≡ true → opening l ≡ Ok true
-    first (version ds) t e = opens_version l ds t ∙ ap (λ (b : Bool). if b then Ok true else Err OtherVersion) e
+    first (version n) t e = opens_version l n t ∙ ap (λ (b : Bool). if b then Ok true else Err OtherVersion) e
     first c t e = (let z : ⊥ = cc in absurd z)
 
     go : (u : Option Content) (more : List Statement) → LineText l.text u → Say ls more → ss ≡ stated l.number u ++ more

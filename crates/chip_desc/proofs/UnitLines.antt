@@ -1,44 +1,59 @@
 -- The units of the lines of a text.
-use Rattle.std.proofs.Common.{◌≡◌, ◌∙◌, ◌≤◌, ◌&&◌, ◌||◌, ℕ, Bool, true, false, cond, List, [], ◌∷◌, ◌++◌, length, Option, Some, None, refl, sym, ap, arith}
-use Rattle.std.specs.Prelude.{All, nat_lt}
-use Rattle.std.specs.List.{find}
-use Rattle.std.specs.Str.Parse.{digits_value}
-use Rattle.std.proofs.lemmas.Bool.{and_parts, or_parts, ltb-false}
+use Rattle.std.proofs.Common.{◌≡◌, ◌∙◌, ◌≤◌, ◌<◌, ◌+◌, ◌&&◌, ◌||◌, ◌==◌, not, zero, suc, ℕ, Bool, true, false, cond, if◌then◌else◌, List, [], ◌∷◌, ◌++◌, length, map, Option, Some, None, refl, sym, ap, arith}
+use Rattle.std.specs.Prelude.{All, nat_lt, nat_le}
+use Rattle.std.specs.List.{find, list_all}
+use Rattle.std.specs.Option.{option_map}
+use Rattle.std.specs.Str.{IsAscii}
+use Rattle.std.proofs.lemmas.Bool.{and_parts, or_parts, ltb-false, leb-true, lt-ltb}
+use Rattle.std.proofs.lemmas.List.{length-append, length-map}
 use Rattle.std.proofs.lemmas.List.Elements.{All-cons, All-nil}
 use Rattle.bist_text.specs.Lines.{TextLine}
-use Rattle.bist_text.specs.Numbers.{IsNumber}
-use Rattle.memory_desc.specs.LineText.{is_number}
-use Rattle.chip_desc.specs.Chips.{is_file, IsUnit}
+use Rattle.chip_desc.specs.Chips.{is_file_byte, is_file, IsFile, IsUnit, UnitDescription, unit_of}
 use Rattle.chip_desc.specs.ChipLines.{Content, version, name, budget, unit, kind_of, is_formed, Statement, stated}
-use Rattle.chip_desc.specs.ChipTable.{at_line, is_key, is_heavier, is_out_of_range, is_outside, unit_in, units_said}
-use Rattle.chip_desc.specs.inner.Heard.{content_in, digits_in, march_in, memory_in, said, statements}
+use Rattle.chip_desc.specs.ChipTable.{at_line, is_key, is_heavier, is_out_of_range, is_outside, out_of_range, too_many, unit_in, units_said}
+use Rattle.chip_desc.specs.inner.Heard.{plain_unit, said, statements}
+use Rattle.chip_desc.specs.inner.Seeking.{unit_said}
+use Rattle.chip_desc.specs.declared.chip.ChipUnit.{ChipUnit}
+use Rattle.chip_desc.specs.declared.content.UnitLine.{UnitLine}
 use Rattle.chip_desc.specs.declared.fault.ChipFault.{ChipFault}
-use Rattle.chip_desc.specs.declared.line_place.Key.TheVariants.{Unit as OfUnit}
-use Rattle.chip_desc.proofs.Contents.{content_is, formed_said, number_is}
+use Rattle.chip_desc.specs.declared.fault.ChipFault.TheVariants.{TooManyUnits}
+use Rattle.chip_desc.specs.declared.content.Key.TheVariants.{Unit as OfUnit}
+use Rattle.chip_desc.proofs.LineReads.{formed_said}
+
+-- ---- names of files
+
+file_byte_low : (c : ℕ) → is_file_byte c ≡ true → c < 128
+file_byte_low c h =
+    let p = and_parts (nat_le 33 c && nat_le c 126) (not (c == 35)) h in
+    let l = leb-true c 126 (and_parts (nat_le 33 c) (nat_le c 126) p.0).1 in
+    omega arith
+
+bytes_ascii : (b : List ℕ) → list_all is_file_byte b ≡ true → IsAscii b
+bytes_ascii [] h i = omega arith
+bytes_ascii (c ∷ b) h zero = file_byte_low c (and_parts (is_file_byte c) (list_all is_file_byte b) h).0
+bytes_ascii (c ∷ b) h (suc i) = bytes_ascii b (and_parts (is_file_byte c) (list_all is_file_byte b) h).1 i
+
+pub file_ascii : (b : List ℕ) → is_file b ≡ true → IsAscii b
+file_ascii b h = bytes_ascii b (and_parts (list_all is_file_byte b) (nat_le 1 (length b)) h).0
 
 -- ---- a unit's line
 
-pub one_said : (b : List ℕ) (c d : Content) → said b ≡ Some c → said b ≡ Some d → c ≡ d
-one_said b c d h k = cc
+unit_is : (c : Content) (u : UnitDescription) → unit_said (Some c) ≡ Some u → c ≡ unit u.weight u.march u.memory
+unit_is (unit n m f) u e = (let z : (let v : UnitDescription = record { weight = n; march = m; memory = f } in v) ≡ u = cc in ap (λ (u : UnitDescription). unit u.weight u.march u.memory) z)
+unit_is c u e = (let z : ⊥ = cc in absurd z)
 
-module _ (b : List ℕ) (c : Content) (h : said b ≡ Some c) (e : kind_of c ≡ OfUnit) where
-  formed : is_formed (content_in OfUnit b) ≡ true
-  formed = ap is_formed (content_is b c OfUnit h e) ∙ formed_said b c h
+-- the content of a line that says a unit
+pub content_is : (v : Option Content) (u : UnitDescription) → unit_said v ≡ Some u → v ≡ Some (unit u.weight u.march u.memory)
+content_is None u e = (let z : ⊥ = cc in absurd z)
+content_is (Some c) u e = ap Some (unit_is c u e)
 
-  pub march_named : is_file (march_in b) ≡ true
-  march_named = (and_parts (is_number (digits_in b)) (is_file (march_in b)) (and_parts (is_number (digits_in b) && is_file (march_in b)) (is_file (memory_in b)) formed).0).1
-
-  pub memory_named : is_file (memory_in b) ≡ true
-  memory_named = (and_parts (is_number (digits_in b) && is_file (march_in b)) (is_file (memory_in b)) formed).1
-
-  pub unit_read : (n : ℕ) (m f : List ℕ) → (IsNumber 10 9 (digits_in b) → n ≡ digits_value 10 (digits_in b)) → m ≡ march_in b → f ≡ memory_in b
-      → unit_in c ≡ (record { weight = n; march = m; memory = f }) ∷ []
-  unit_read n m f v x y =
-      let w = content_is b c OfUnit h e in
-      ap unit_in (sym w) ∙ sym
-      (ap (λ n. (record { weight = n; march = m; memory = f }) ∷ []) (number_is b (content_in OfUnit b) (digits_in b) n (h ∙ ap Some (sym w)) refl v)
-      ∙ ap (λ m. (record { weight = digits_value 10 (digits_in b); march = m; memory = f }) ∷ []) x
-      ∙ ap (λ f. (record { weight = digits_value 10 (digits_in b); march = march_in b; memory = f }) ∷ []) y)
+-- the units of a line that says none
+pub no_unit : (v : Option Content) (n : ℕ) → unit_said v ≡ None → units_said (stated n v) ≡ []
+no_unit None n e = refl
+no_unit (Some (version m)) n e = refl
+no_unit (Some (name b)) n e = refl
+no_unit (Some (budget m)) n e = refl
+no_unit (Some (unit w m f)) n e = (let z : ⊥ = cc in absurd z)
 
 -- ---- line by line
 
@@ -58,27 +73,26 @@ find_past p s ss e = go (p s) refl e
     go false h e = (h, e)
 
 pub unit_key : (c : Content) → is_key OfUnit (kind_of c) ≡ true → kind_of c ≡ OfUnit
-unit_key (unit ds m f) e = refl
+unit_key (unit n m f) e = refl
 unit_key c e = (let z : ⊥ = cc in absurd z)
 
 pub some_unit : (c : Content) → kind_of c ≡ OfUnit → 1 ≤ length (unit_in c)
-some_unit (unit ds m f) e = omega arith
+some_unit (unit n m f) e = omega arith
 some_unit c e = (let z : ⊥ = cc in absurd z)
 
 -- ---- all units are within the limits
 
-is_unit : (most : ℕ) (ds m f : List ℕ) → is_formed (unit ds m f) ≡ true → is_out_of_range (unit ds m f) ≡ false → is_heavier most (unit ds m f) ≡ false
-    → IsUnit most (record { weight = digits_value 10 ds; march = m; memory = f })
-is_unit most ds m f formed inside light =
-    let p = and_parts (is_number ds && is_file m) (is_file f) formed in
-    let q = and_parts (is_number ds) (is_file m) p.0 in
-    let r = or_parts (is_outside (digits_value 10 ds) || nat_lt 255 (length m)) (nat_lt 255 (length f)) inside in
-    let s = or_parts (is_outside (digits_value 10 ds)) (nat_lt 255 (length m)) r.0 in
-    let t = or_parts (nat_lt (digits_value 10 ds) 1) (nat_lt 1000000 (digits_value 10 ds)) s.0 in
+is_unit : (most n : ℕ) (m f : List ℕ) → is_formed (unit n m f) ≡ true → is_out_of_range (unit n m f) ≡ false → is_heavier most (unit n m f) ≡ false
+    → IsUnit most (record { weight = n; march = m; memory = f })
+is_unit most n m f formed inside light =
+    let p = and_parts (is_file m) (is_file f) formed in
+    let r = or_parts (is_outside n || nat_lt 255 (length m)) (nat_lt 255 (length f)) inside in
+    let s = or_parts (is_outside n) (nat_lt 255 (length m)) r.0 in
+    let t = or_parts (nat_lt n 1) (nat_lt 1000000 n) s.0 in
     record {
-      some = ltb-false (digits_value 10 ds) 1 t.0;
-      within = ltb-false most (digits_value 10 ds) light;
-      march = record { bytes = q.1; short = ltb-false 255 (length m) s.1 };
+      some = ltb-false n 1 t.0;
+      within = ltb-false most n light;
+      march = record { bytes = p.0; short = ltb-false 255 (length m) s.1 };
       memory = record { bytes = p.1; short = ltb-false 255 (length f) r.1 };
     }
 
@@ -89,10 +103,10 @@ all_units (l ∷ ls) most e h = go (said l.text) refl e h (λ e h. all_units ls 
   where
     one : (c : Content) → is_formed c ≡ true → is_out_of_range c ≡ false → is_heavier most c ≡ false → All (λ u. IsUnit most u) (units_said (statements ls))
         → All (λ u. IsUnit most u) (unit_in c ++ units_said (statements ls))
-    one (unit ds m f) formed inside light a = All-cons (λ u. IsUnit most u) (record { weight = digits_value 10 ds; march = m; memory = f }) (units_said (statements ls)) (is_unit most ds m f formed inside light) a
-    one (version ds) formed inside light a = a
+    one (unit n m f) formed inside light a = All-cons (λ u. IsUnit most u) (record { weight = n; march = m; memory = f }) (units_said (statements ls)) (is_unit most n m f formed inside light) a
+    one (version n) formed inside light a = a
     one (name b) formed inside light a = a
-    one (budget ds) formed inside light a = a
+    one (budget n) formed inside light a = a
 
     go : (v : Option Content) → said l.text ≡ v → find is_out (stated l.number v ++ statements ls) ≡ None → find (λ s. is_heavier most s.content) (stated l.number v ++ statements ls) ≡ None
         → (find is_out (statements ls) ≡ None → find (λ s. is_heavier most s.content) (statements ls) ≡ None → All (λ u. IsUnit most u) (units_said (statements ls)))
@@ -103,3 +117,32 @@ all_units (l ∷ ls) most e h = go (said l.text) refl e h (λ e h. all_units ls 
         let p = find_past is_out x (statements ls) e in
         let q = find_past (λ s. is_heavier most s.content) x (statements ls) h in
         one c (formed_said l.text c k) p.0 q.0 (again p.1 q.1)
+
+-- ---- the units that the loop takes
+
+unit_ranged : (c : Content) (u : UnitDescription) → c ≡ unit u.weight u.march u.memory → is_formed c ≡ true → is_out_of_range c ≡ false → IsFile u.march × IsFile u.memory
+unit_ranged c u e f o =
+    let p = and_parts (is_file u.march) (is_file u.memory) (sym (ap is_formed e) ∙ f) in
+    let r = or_parts (is_outside u.weight || nat_lt 255 (length u.march)) (nat_lt 255 (length u.memory)) (sym (ap is_out_of_range e) ∙ o) in
+    let s = or_parts (is_outside u.weight) (nat_lt 255 (length u.march)) r.0 in
+    (record { bytes = p.0; short = ltb-false 255 (length u.march) s.1 }, record { bytes = p.1; short = ltb-false 255 (length u.memory) r.1 })
+
+module _ {before left : List TextLine} {l : TextLine} (step : before ≡ l ∷ left) (o : Option UnitLine) (u : UnitLine) (s : option_map plain_unit o ≡ unit_said (said l.text)) (e : o ≡ Some u) where
+  says_unit : said l.text ≡ Some (unit u.weight u.march.now u.memory.now)
+  says_unit = content_is (said l.text) (plain_unit u) (sym s ∙ ap (option_map plain_unit) e)
+
+  pub unit_fits : out_of_range (statements before) ≡ None → IsFile u.march.now × IsFile u.memory.now
+  unit_fits r =
+      let c = unit u.weight u.march.now u.memory.now in
+      let none : find is_out (statements (l ∷ left)) ≡ None = none_at _ (find is_out (statements (l ∷ left))) (ap (λ ls. out_of_range (statements ls)) (sym step) ∙ r) in
+      let here : find is_out ((record { line = l.number; content = c }) ∷ statements left) ≡ None = ap (λ v. find is_out (stated l.number v ++ statements left)) (sym says_unit) ∙ none in
+      unit_ranged c (plain_unit u) refl (formed_said l.text c says_unit) (find_past is_out (record { line = l.number; content = c }) (statements left) here).0
+
+  pub one_too_many : (us : List ChipUnit) (ss : List Statement) → length us ≡ 16 → map unit_of us ++ units_said (statements before) ≡ units_said ss → too_many ss ≡ Some TooManyUnits
+  one_too_many us ss n t =
+      let more : units_said (statements before) ≡ (plain_unit u) ∷ units_said (statements left) =
+      ap (λ ls. units_said (statements ls)) step ∙ ap (λ v. units_said (stated l.number v ++ statements left)) says_unit in
+      let all : length (units_said ss) ≡ length (map unit_of us) + suc (length (units_said (statements left))) =
+      ap length (sym t) ∙ length-append (map unit_of us) (units_said (statements before)) ∙ ap (λ xs. length (map unit_of us) + length xs) more in
+      let same : length (map unit_of us) ≡ length us = length-map us unit_of in
+      ap (λ b. if b then Some TooManyUnits else None) (lt-ltb 16 (length (units_said ss)) (omega arith))

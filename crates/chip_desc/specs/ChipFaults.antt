@@ -1,13 +1,12 @@
 -- Trusted. Why the lines of a text are none of a chip file: the first steps of the table.
 use Rattle.std.specs.Prelude.{◌≡◌, ◌⊎◌, ◌==◌, ℕ, Bool, true, false, MatchBool, [], ◌∷◌, List, Option, Some, None, length}
-use Rattle.std.specs.Str.Parse.{digits_value}
 use Rattle.bist_text.specs.Grammar.{IsUnexpected, IsTruncated}
 use Rattle.bist_text.specs.Lines.{TextLine}
 use Rattle.chip_desc.specs.ChipLines.{Content, version, kind_of, ContentText, LineText}
 use Rattle.chip_desc.specs.declared.fault.ChipFault.{ChipFault}
 use Rattle.chip_desc.specs.declared.fault.ChipFault.TheVariants.{Unexpected, Truncated, OtherVersion}
-use Rattle.chip_desc.specs.declared.line_place.Key.{Key}
-use Rattle.chip_desc.specs.declared.line_place.Key.TheVariants.{Chip}
+use Rattle.chip_desc.specs.declared.content.Key.{Key}
+use Rattle.chip_desc.specs.declared.content.Key.TheVariants.{Chip}
 use Rattle.bist_text.specs.LineGrammar.{tail}
 
 -- the kinds of content lines that may stand: a `chip` line alone before there was one, and behind it any
@@ -17,8 +16,8 @@ may_stand false Chip = true
 may_stand false key = false
 
 -- a line without content, or a content line of a kind that may stand
-abbrev pub LineOf : Bool → List ℕ → Option Key → Type 0
-LineOf opened b v = ((v ≡ None) × tail b) ⊎ ((c : Content) × (may_stand opened (kind_of c) ≡ true) × (v ≡ Some (kind_of c)) × ContentText b c)
+abbrev pub LineOf : Bool → List ℕ → Option Content → Type 0
+LineOf opened b v = ((v ≡ None) × tail b) ⊎ ((c : Content) × (may_stand opened (kind_of c) ≡ true) × (v ≡ Some c) × ContentText b c)
 
 -- why a line is none of these: of a line that ended too early and has a line feed, that is the byte that can't stand there
 abbrev pub IsLineFault : Bool → TextLine → ChipFault → Type 0
@@ -38,4 +37,4 @@ AreRefused [] fault = fault ≡ Truncated
 AreRefused (l ∷ ls) fault =
     (LineText l.text None × AreRefused ls fault)
     ⊎ IsLineFault false l fault
-    ⊎ ((ds : List ℕ) × ContentText l.text (version ds) × MatchBool (digits_value 10 ds == 1) (IsLaterFault ls fault) (fault ≡ OtherVersion))
+    ⊎ ((n : ℕ) × ContentText l.text (version n) × MatchBool (n == 1) (IsLaterFault ls fault) (fault ≡ OtherVersion))

@@ -1,41 +1,40 @@
 -- Trusted. The lines of a chip file, and what they say. Blanks, comments, numbers and names are those of memory descriptions.
 use Rattle.std.specs.Prelude.{◌≡◌, ℕ, ◌==◌, ◌&&◌, Bool, true, false, Option, Some, None, List, [], ◌∷◌, ◌++◌, codes}
-use Rattle.std.specs.Str.Parse.{digits_value}
 use Rattle.bist_text.specs.Grammar.{word}
+use Rattle.bist_text.specs.Identifiers.{is_identifier}
 use Rattle.bist_text.specs.Lines.{TextLine, text_lines}
-use Rattle.memory_desc.specs.Names.{is_identifier}
-use Rattle.memory_desc.specs.LineText.{is_number}
+use Rattle.keyed_lines.specs.Numbers.{number}
 use Rattle.chip_desc.specs.Chips.{is_file}
-use Rattle.chip_desc.specs.declared.line_place.Key.{Key}
-use Rattle.chip_desc.specs.declared.line_place.Key.TheVariants.{Chip, Name, Budget, Unit as OfUnit}
+use Rattle.chip_desc.specs.declared.content.Key.{Key}
+use Rattle.chip_desc.specs.declared.content.Key.TheVariants.{Chip, Name, Budget, Unit as OfUnit}
 use Rattle.bist_text.specs.LineGrammar.{space, gap, tail}
 
--- what a content line says; numbers are kept as their digits
+-- what a content line says
 pub data Content : Type 0 where
-  version : List ℕ → Content
+  version : ℕ → Content
   name : List ℕ → Content
-  budget : List ℕ → Content
-  unit : List ℕ → List ℕ → List ℕ → Content
+  budget : ℕ → Content
+  unit : ℕ → List ℕ → List ℕ → Content
 
 abbrev pub kind_of : Content → Key
-kind_of (version ds) = Chip
+kind_of (version n) = Chip
 kind_of (name b) = Name
-kind_of (budget ds) = Budget
-kind_of (unit ds march memory) = OfUnit
+kind_of (budget n) = Budget
+kind_of (unit weight march memory) = OfUnit
 
--- the digits are digits, a name is an identifier, and files have names
+-- a name is an identifier, and files have names
 abbrev pub is_formed : Content → Bool
-is_formed (version ds) = is_number ds
+is_formed (version n) = true
 is_formed (name b) = is_identifier b
-is_formed (budget ds) = is_number ds
-is_formed (unit ds march memory) = is_number ds && is_file march && is_file memory
+is_formed (budget n) = true
+is_formed (unit weight march memory) = is_file march && is_file memory
 
 -- what stands behind a line's first word
 abbrev pub argument : Content → (List ℕ → Type 0) → List ℕ → Type 0
-argument (version ds) K b = word ds K b
+argument (version n) K b = number n K b
 argument (name n) K b = word n K b
-argument (budget ds) K b = word ds K b
-argument (unit ds march memory) K b = word ds (gap (word march (gap (word memory K)))) b
+argument (budget n) K b = number n K b
+argument (unit weight march memory) K b = number weight (gap (word march (gap (word memory K)))) b
 
 abbrev pub key_text : Key → List ℕ
 key_text Chip = codes "chip"
@@ -70,7 +69,7 @@ Say (l ∷ ls) ss = (v : Option Content) × (more : List Statement) × LineText 
 
 -- the version is 1
 abbrev pub is_version_one : Content → Bool
-is_version_one (version ds) = digits_value 10 ds == 1
+is_version_one (version n) = n == 1
 is_version_one c = false
 
 -- the first statement gives the version 1

@@ -1,6 +1,5 @@
 -- Trusted. The refusals of a chip file whose lines are all of the table, in their order, and the chip that it describes.
 use Rattle.std.specs.Prelude.{◌≡◌, ◌⊎◌, ℕ, ◌==◌, ◌||◌, ◌&&◌, Bool, true, false, not, nat_lt, if◌then◌else◌, List, [], ◌∷◌, ◌++◌, length, Option, Some, None, Result, Ok, Err, find}
-use Rattle.std.specs.Str.Parse.{digits_value}
 use Rattle.bist_text.specs.Lines.{text_lines}
 use Rattle.bist_text.specs.ReservedWords.{is_among, reserved_words}
 use Rattle.chip_desc.specs.Chips.{ChipDescription, UnitDescription}
@@ -10,8 +9,8 @@ use Rattle.chip_desc.specs.declared.fault.ChipField.{ChipField}
 use Rattle.chip_desc.specs.declared.fault.ChipField.TheVariants.{Name as NameField, Budget as BudgetField, Unit as UnitField}
 use Rattle.chip_desc.specs.declared.fault.ChipFault.{ChipFault}
 use Rattle.chip_desc.specs.declared.fault.ChipFault.TheVariants.{Repeated, Missing, OutOfRange, TooManyUnits, TooHeavy}
-use Rattle.chip_desc.specs.declared.line_place.Key.{Key}
-use Rattle.chip_desc.specs.declared.line_place.Key.TheVariants.{Chip, Name, Budget, Unit as OfUnit}
+use Rattle.chip_desc.specs.declared.content.Key.{Key}
+use Rattle.chip_desc.specs.declared.content.Key.TheVariants.{Chip, Name, Budget, Unit as OfUnit}
 
 abbrev pub is_key : Key → Key → Bool
 is_key Chip Chip = true
@@ -57,8 +56,8 @@ is_outside n = nat_lt n 1 || nat_lt 1000000 n
 
 abbrev pub is_out_of_range : Content → Bool
 is_out_of_range (name b) = nat_lt 48 (length b) || is_among b reserved_words
-is_out_of_range (budget ds) = is_outside (digits_value 10 ds)
-is_out_of_range (unit ds march memory) = is_outside (digits_value 10 ds) || nat_lt 255 (length march) || nat_lt 255 (length memory)
+is_out_of_range (budget n) = is_outside n
+is_out_of_range (unit weight march memory) = is_outside weight || nat_lt 255 (length march) || nat_lt 255 (length memory)
 is_out_of_range other = false
 
 abbrev pub out_of_range : List Statement → Option ChipFault
@@ -75,7 +74,7 @@ name_in (Some (name b)) = b
 name_in other = []
 
 abbrev pub budget_in : Option Content → ℕ
-budget_in (Some (budget ds)) = digits_value 10 ds
+budget_in (Some (budget n)) = n
 budget_in other = 0
 
 abbrev pub name_said : List Statement → List ℕ
@@ -85,7 +84,7 @@ abbrev pub budget_said : List Statement → ℕ
 budget_said ss = budget_in (content_of (first_of Budget ss))
 
 abbrev pub unit_in : Content → List UnitDescription
-unit_in (unit ds march memory) = (record { weight = digits_value 10 ds; march = march; memory = memory }) ∷ []
+unit_in (unit weight march memory) = (record { weight = weight; march = march; memory = memory }) ∷ []
 unit_in other = []
 
 -- the units, in the order of their lines
@@ -101,7 +100,7 @@ too_many ss = if nat_lt 16 (length (units_said ss)) then Some TooManyUnits else 
 -- ---- C9: a weight above the budget
 
 abbrev pub is_heavier : ℕ → Content → Bool
-is_heavier most (unit ds march memory) = nat_lt most (digits_value 10 ds)
+is_heavier most (unit weight march memory) = nat_lt most weight
 is_heavier most other = false
 
 abbrev pub too_heavy : List Statement → Option ChipFault

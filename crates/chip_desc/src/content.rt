@@ -1,65 +1,52 @@
-//! What a content line says, once it is known to be one.
+//! What a line of a chip file says.
 
 ghost use Rattle.std.specs.Prelude.{◌≡◌};
-ghost use Rattle.std.specs.List.{take_while};
-ghost use Rattle.std.specs.Str.Parse.{digits_value};
-ghost use Rattle.bist_text.specs.Cursors.{left_of};
-ghost use Rattle.bist_text.specs.Numbers.{IsNumber};
-ghost use Rattle.memory_desc.specs.Names.{is_name_byte};
-ghost use Rattle.chip_desc.specs.inner.Heard.{behind_key, digits_in, behind_weight, march_in, memory_in};
+ghost use Rattle.chip_desc.specs.ChipLines.{kind_of};
+ghost use Rattle.chip_desc.specs.inner.Heard.{plain_content};
 
-use crate::file_bytes::FILE_BYTES;
-use bist_text::byte_sets::{BLANKS, DIGITS, NAME_BYTES, SMALL_LETTERS};
-use bist_text::{Cursor, decimal};
-
-/// A cursor in front of what stands behind the first word.
-fn behind_key(text: &[u8]) -> Cursor<'_>
-    ensures { left_of result ≡ behind_key text.now }
-{
-    let mut cursor = Cursor::new(text);
-    cursor.skip(BLANKS);
-    cursor.skip(SMALL_LETTERS);
-    cursor.skip(BLANKS);
-    cursor
+/// The kinds of content lines, by their first word.
+#[derive(Clone, Copy, PartialEq)]
+pub enum Key {
+    Chip,
+    Name,
+    Budget,
+    Unit,
 }
 
-/// A cursor in front of the name of the march's file.
-fn behind_weight(text: &[u8]) -> Cursor<'_>
-    ensures { left_of result ≡ behind_weight text.now }
-{
-    let mut cursor = behind_key(text);
-    cursor.skip(DIGITS);
-    cursor.skip(BLANKS);
-    cursor
+/// What a `unit` line says.
+#[derive(Clone, Copy)]
+pub struct UnitLine<'a> {
+    pub weight: u32,
+    /// The name of the file of the march.
+    pub march: &'a [u8],
+    /// The name of the file of the memory's description.
+    pub memory: &'a [u8],
 }
 
-/// The number of a `chip`, `budget` or `unit` line.
-pub fn number_of(text: &[u8]) -> u32
-    ensures { IsNumber 10 9 (digits_in text.now) → result ≡ digits_value 10 (digits_in text.now) }
-{
-    decimal(behind_key(text).take_while(DIGITS)).unwrap_or(0)
+/// What a content line says.
+#[derive(Clone, Copy)]
+pub enum Content<'a> {
+    Version(u32),
+    Name(&'a [u8]),
+    Budget(u32),
+    Unit(UnitLine<'a>),
 }
 
-/// The name of a `name` line.
-pub fn name_of(text: &[u8]) -> &[u8]
-    ensures { result.now ≡ take_while is_name_byte (behind_key text.now) }
-{
-    behind_key(text).take_while(NAME_BYTES)
+/// A content line: its number, from 1, and what it says.
+#[derive(Clone, Copy)]
+pub struct Statement<'a> {
+    pub line: usize,
+    pub content: Content<'a>,
 }
 
-/// The name of the march's file of a `unit` line.
-pub fn march_of(text: &[u8]) -> &[u8]
-    ensures { result.now ≡ march_in text.now }
+/// The kind of a content line.
+pub fn kind_of(content: &Content<'_>) -> Key
+    ensures { result ≡ kind_of (plain_content content.now) }
 {
-    behind_weight(text).take_while(FILE_BYTES)
-}
-
-/// The name of the memory's file of a `unit` line.
-pub fn memory_of(text: &[u8]) -> &[u8]
-    ensures { result.now ≡ memory_in text.now }
-{
-    let mut cursor = behind_weight(text);
-    cursor.skip(FILE_BYTES);
-    cursor.skip(BLANKS);
-    cursor.take_while(FILE_BYTES)
+    match content {
+        Content::Version(_) => Key::Chip,
+        Content::Name(_) => Key::Name,
+        Content::Budget(_) => Key::Budget,
+        Content::Unit(_) => Key::Unit,
+    }
 }

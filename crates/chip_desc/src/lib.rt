@@ -4,8 +4,6 @@
 mod chip;
 mod content;
 mod fault;
-mod file_bytes;
-mod line_place;
 mod line_reader;
 mod lines;
 mod read;

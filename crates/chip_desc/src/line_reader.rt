@@ -1,39 +1,114 @@
 //! The reader of one line.
 
-ghost use Rattle.std.specs.Prelude.{◌≡◌, true};
-ghost use Rattle.bist_text.specs.Machine.{scan};
-ghost use Rattle.chip_desc.specs.inner.LineMachine.{step, value};
-ghost use Rattle.chip_desc.specs.inner.Heard.{answer, heard, kind_heard};
+ghost use Rattle.std.specs.Prelude.{◌≡◌, true, Some, MatchResult, map};
+ghost use Rattle.bist_text.specs.Keywords.{word_of};
+ghost use Rattle.keyed_lines.specs.Reading.{took, stuck};
+ghost use Rattle.keyed_lines.specs.Lines.{answer, keyed_of};
+ghost use Rattle.chip_desc.specs.inner.Heard.{argument_of, heard, keys_of, plain_content, plain_line_content, said, plain_said};
 
-use crate::line_place::{Key, Place, kind_at, place_after};
+use crate::content::{Content, Key, UnitLine};
+use bist_text::Keyword;
+use keyed_lines::{Class, LineFault, Read, blanks, end, fault_at, gap, key, number, word};
 
-/// Why a line is none of a chip file.
-#[derive(Clone, Copy)]
-pub enum LineFault {
-    /// The line up to and with this byte can't go on to a line of a chip file.
-    Unexpected(usize),
-    /// The line could go on to one.
-    Truncated,
-}
+/// The first words.
+static KEYS: [Keyword<Key>; 4] = [
+    Keyword("chip", Key::Chip),
+    Keyword("name", Key::Name),
+    Keyword("budget", Key::Budget),
+    Keyword("unit", Key::Unit),
+];
 
-/// Goes over a line once, and answers the kind of a content line, or none of a line without content. Before there was a
-/// `chip` line only one may stand.
-pub fn read_line(text: &[u8], opened: bool) -> Result<Option<Key>, LineFault>
-    ensures { result ≡ answer (heard opened text.now) }
+/// The first words that may stand; `chip` alone before there was a `chip` line.
+fn keys_of(opened: bool) -> &'static [Keyword<Key>]
+    ensures { map word_of result.now ≡ keys_of opened }
 {
-    let mut place = Place::Begin(opened);
-    for (i, byte) in text.iter().enumerate() {
-        let Some(next) = place_after(place, *byte) else {
-            return Err(LineFault::Unexpected(i));
-        };
-        place = next;
-    }
-    kind_at(place).ok_or(LineFault::Truncated)
+    if opened { &KEYS } else { &KEYS[..1] }
 }
 
-/// The kind of a line that is a content line.
-pub fn kind_of(text: &[u8]) -> Option<Key>
-    ensures { result ≡ kind_heard (heard true text.now) }
+fn version<'a>(text: &'a [u8]) -> Read<'a, Content<'a>>
+    ensures { MatchResult result (λ r. argument_of Key.Chip text.now ≡ took (Some (plain_content r.0)) r.1.now) (λ left. argument_of Key.Chip text.now ≡ stuck left.now) }
+{
+    let (number, text) = number(text)?;
+    let ((), text) = end(text)?;
+    Ok((Content::Version(number), text))
+}
+
+fn name<'a>(text: &'a [u8]) -> Read<'a, Content<'a>>
+    ensures { MatchResult result (λ r. argument_of Key.Name text.now ≡ took (Some (plain_content r.0)) r.1.now) (λ left. argument_of Key.Name text.now ≡ stuck left.now) }
+{
+    let (name, text) = word(text, Class::Name)?;
+    let ((), text) = end(text)?;
+    Ok((Content::Name(name), text))
+}
+
+fn budget<'a>(text: &'a [u8]) -> Read<'a, Content<'a>>
+    ensures { MatchResult result (λ r. argument_of Key.Budget text.now ≡ took (Some (plain_content r.0)) r.1.now) (λ left. argument_of Key.Budget text.now ≡ stuck left.now) }
+{
+    let (most, text) = number(text)?;
+    let ((), text) = end(text)?;
+    Ok((Content::Budget(most), text))
+}
+
+fn unit<'a>(text: &'a [u8]) -> Read<'a, Content<'a>>
+    ensures { MatchResult result (λ r. argument_of Key.Unit text.now ≡ took (Some (plain_content r.0)) r.1.now) (λ left. argument_of Key.Unit text.now ≡ stuck left.now) }
+{
+    let (weight, text) = number(text)?;
+    let ((), text) = gap(text)?;
+    let (march, text) = word(text, Class::File)?;
+    let ((), text) = gap(text)?;
+    let (memory, text) = word(text, Class::File)?;
+    let ((), text) = end(text)?;
+    let line = UnitLine {
+        weight,
+        march,
+        memory,
+    };
+    Ok((Content::Unit(line), text))
+}
+
+/// What stands behind a first word and blanks.
+fn argument<'a>(text: &'a [u8], key: Key) -> Read<'a, Content<'a>>
+    ensures { MatchResult result (λ r. argument_of key text.now ≡ took (Some (plain_content r.0)) r.1.now) (λ left. argument_of key text.now ≡ stuck left.now) }
+{
+    match key {
+        Key::Chip => version(text),
+        Key::Name => name(text),
+        Key::Budget => budget(text),
+        Key::Unit => unit(text),
+    }
+}
+
+/// A content line.
+fn keyed<'a>(text: &'a [u8], opened: bool) -> Read<'a, Content<'a>>
+    ensures { MatchResult result (λ r. keyed_of (keys_of opened) argument_of text.now ≡ took (Some (plain_content r.0)) r.1.now) (λ left. keyed_of (keys_of opened) argument_of text.now ≡ stuck left.now) }
+{
+    let (key, text) = key(text, keys_of(opened))?;
+    let ((), text) = gap(text)?;
+    argument(text, key)
+}
+
+/// What a line says, or None where it has no content. Before there was a `chip` line only one may stand.
+pub fn read_line<'a>(text: &'a [u8], opened: bool) -> Result<Option<Content<'a>>, LineFault>
+    ensures { plain_said result ≡ answer (heard opened text.now) }
+{
+    let content = blanks(text);
+    match content {
+        [] => Ok(None),
+        [first, _rest @ ..] => {
+            if *first == b'#' {
+                return Ok(None);
+            }
+            match keyed(content, opened) {
+                Ok((content, _)) => Ok(Some(content)),
+                Err(left) => Err(fault_at(text, left)),
+            }
+        }
+    }
+}
+
+/// What a line says that is one of the table; None of another.
+pub fn said<'a>(text: &'a [u8]) -> Option<Content<'a>>
+    ensures { plain_line_content result ≡ said text.now }
 {
     read_line(text, true).unwrap_or(None)
 }

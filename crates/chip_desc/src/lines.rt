@@ -2,12 +2,14 @@
 
 ghost use Rattle.std.specs.Prelude.{◌≡◌, false};
 ghost use Rattle.bist_text.specs.Lines.{plain_line, text_lines};
-ghost use Rattle.chip_desc.specs.inner.Heard.{checked, line_refusal, lines_refusal, opening, refusal_at};
+ghost use Rattle.chip_desc.specs.ChipLines.{is_version_one};
+ghost use Rattle.chip_desc.specs.inner.Heard.{checked, line_refusal, lines_refusal, opening, plain_content, refusal_at};
 
-use crate::content::number_of;
+use crate::content::Content;
 use crate::fault::ChipFault;
-use crate::line_reader::{LineFault, read_line};
+use crate::line_reader::read_line;
 use bist_text::{Line, Lines};
+use keyed_lines::LineFault;
 
 /// A line's refusal. Where a line feed ends the line, it is the byte that can't stand there.
 fn refused(line: &Line<'_>, fault: LineFault) -> ChipFault
@@ -26,13 +28,23 @@ fn refused(line: &Line<'_>, fault: LineFault) -> ChipFault
     }
 }
 
+/// Whether a line gives the version 1.
+fn is_version_one(content: &Content<'_>) -> bool
+    ensures { result ≡ is_version_one (plain_content content.now) }
+{
+    match content {
+        Content::Version(number) => *number == 1,
+        Content::Name(_) | Content::Budget(_) | Content::Unit(_) => false,
+    }
+}
+
 /// Whether a line is the `chip` line, where it may only be one or have no content.
 fn opening(line: &Line<'_>) -> Result<bool, ChipFault>
     ensures { result ≡ opening (plain_line line.now) }
 {
     match read_line(line.text, false) {
         Ok(None) => Ok(false),
-        Ok(Some(_)) if number_of(line.text) == 1 => Ok(true),
+        Ok(Some(content)) if is_version_one(&content) => Ok(true),
         Ok(Some(_)) => Err(ChipFault::OtherVersion),
         Err(fault) => Err(refused(line, fault)),
     }

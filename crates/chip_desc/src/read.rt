@@ -1,17 +1,16 @@
 //! The reader of chip files.
 
-ghost use Rattle.std.specs.Prelude.{◌≡◌, ◌↔◌, ◌≤◌, ◌<◌, ◌^◌, ℕ, List, None, Ok, Err, Result, length};
+ghost use Rattle.std.specs.Prelude.{◌≡◌, ◌↔◌, ℕ, Some, Ok, Err, Result};
 ghost use Rattle.bist_text.specs.Lines.{text_lines};
 ghost use Rattle.memory_desc.specs.Names.{IsName};
 ghost use Rattle.chip_desc.specs.Chips.{ChipDescription, IsChip};
-ghost use Rattle.chip_desc.specs.ChipTable.{Reads, refusal, described};
-ghost use Rattle.chip_desc.specs.inner.Heard.{by_statements, statements, reading};
+ghost use Rattle.chip_desc.specs.ChipTable.{Reads, refusal, name_in, budget_in};
+ghost use Rattle.chip_desc.specs.inner.Heard.{by_statements, plain_content, statements, reading};
 ghost use Rattle.chip_desc.specs.declared.fault.ChipFault.{ChipFault};
 
 use crate::chip::ChipDesc;
-use crate::content::{name_of, number_of};
+use crate::content::{Content, Key};
 use crate::fault::{ChipFault, ChipField};
-use crate::line_place::Key;
 use crate::lines::check_lines;
 use crate::search::{check_ranges, check_repeats, check_weights, field};
 use crate::units::units_of;
@@ -29,6 +28,26 @@ fn name_from(bytes: &[u8]) -> ArrayString<48>
     ArrayString::from(text).unwrap()
 }
 
+/// The name that a `name` line gives.
+fn name_of<'a>(content: &Content<'a>) -> &'a [u8]
+    ensures { result.now ≡ name_in (Some (plain_content content.now)) }
+{
+    match content {
+        Content::Name(name) => name,
+        Content::Version(_) | Content::Budget(_) | Content::Unit(_) => &[],
+    }
+}
+
+/// The budget that a `budget` line gives.
+fn budget_of(content: &Content<'_>) -> u32
+    ensures { result ≡ budget_in (Some (plain_content content.now)) }
+{
+    match content {
+        Content::Budget(most) => *most,
+        Content::Version(_) | Content::Name(_) | Content::Unit(_) => 0,
+    }
+}
+
 /// The chip that the statements of a text describe.
 fn described(bytes: &[u8]) -> Result<ChipDesc, ChipFault>
     ensures { result ≡ by_statements (refusal (statements (text_lines bytes.now))) (statements (text_lines bytes.now)) }
@@ -39,9 +58,10 @@ fn described(bytes: &[u8]) -> Result<ChipDesc, ChipFault>
     field(bytes, Key::Unit, ChipField::Unit)?;
     check_ranges(bytes)?;
     let units = units_of(bytes)?;
-    let budget = number_of(budget_line.text);
+    let budget = budget_of(&budget_line.content);
     check_weights(bytes, budget)?;
-    Ok(ChipDesc::new(name_from(name_of(name_line.text)), budget, units))
+    let name = name_from(name_of(&name_line.content));
+    Ok(ChipDesc::new(name, budget, units))
 }
 
 /// Reads a chip file. The first refusal decides, in the order of the table. It takes no memory.

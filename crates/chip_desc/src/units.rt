@@ -1,18 +1,16 @@
 //! The units of a text whose lines are all lines of a chip file.
 
-ghost use Rattle.std.specs.Prelude.{◌≡◌, ◌≤◌, ◌∷◌, [], length, false, true, None, Some, Ok, Err, MatchResult};
+ghost use Rattle.std.specs.Prelude.{◌≡◌, ◌≤◌, length, false, true, None, Ok, Err, MatchResult, option_map};
 ghost use Rattle.bist_text.specs.Lines.{text_lines};
 ghost use Rattle.chip_desc.specs.Chips.{is_file, unit_of};
-ghost use Rattle.chip_desc.specs.ChipLines.{Content, kind_of};
-ghost use Rattle.chip_desc.specs.ChipTable.{is_out_of_range, out_of_range, unit_in};
-ghost use Rattle.chip_desc.specs.inner.Heard.{said, statements};
-ghost use Rattle.chip_desc.specs.inner.Seeking.{GivesUnits};
+ghost use Rattle.chip_desc.specs.ChipTable.{out_of_range};
+ghost use Rattle.chip_desc.specs.inner.Heard.{plain_unit, said, statements};
+ghost use Rattle.chip_desc.specs.inner.Seeking.{GivesUnits, unit_said};
 
 use crate::chip::ChipUnit;
-use crate::content::{march_of, memory_of, number_of};
+use crate::content::{Content, UnitLine};
 use crate::fault::ChipFault;
-use crate::line_place::Key;
-use crate::search::is_of;
+use crate::line_reader::said;
 use arrayvec::{ArrayString, ArrayVec};
 use bist_text::Lines;
 use std::str;
@@ -29,15 +27,28 @@ fn file_from(bytes: &[u8]) -> ArrayString<255>
     ArrayString::from(text).unwrap()
 }
 
-/// The unit of a `unit` line whose weight and names are within their ranges.
-fn unit_from(text: &[u8]) -> ChipUnit
-    requires { (c : Content) × (said text.now ≡ Some c) × (kind_of c ≡ Key.Unit) × (is_out_of_range c ≡ false) }
-    ensures { (c : Content) → said text.now ≡ Some c → unit_in c ≡ unit_of result ∷ [] }
+/// The unit of a line whose names are within their ranges.
+fn unit_from(line: &UnitLine<'_>) -> ChipUnit
+    requires march { is_file line.now.march.now ≡ true }
+    requires march_short { length line.now.march.now ≤ 255 }
+    requires memory { is_file line.now.memory.now ≡ true }
+    requires memory_short { length line.now.memory.now ≤ 255 }
+    ensures { unit_of result ≡ plain_unit line.now }
 {
     ChipUnit {
-        weight: number_of(text),
-        march: file_from(march_of(text)),
-        memory: file_from(memory_of(text)),
+        weight: line.weight,
+        march: file_from(line.march),
+        memory: file_from(line.memory),
+    }
+}
+
+/// What a `unit` line says.
+fn unit_in<'a>(text: &'a [u8]) -> Option<UnitLine<'a>>
+    ensures { option_map plain_unit result ≡ unit_said (said text.now) }
+{
+    match said(text)? {
+        Content::Unit(unit) => Some(unit),
+        Content::Version(_) | Content::Name(_) | Content::Budget(_) => None,
     }
 }
 
@@ -48,13 +59,13 @@ pub fn units_of(bytes: &[u8]) -> Result<ArrayVec<ChipUnit, 16>, ChipFault>
 {
     let mut units = ArrayVec::new();
     for line in Lines::new(bytes) {
-        if !is_of(line.text, Key::Unit) {
+        let Some(unit) = unit_in(line.text) else {
             continue;
-        }
+        };
         if units.is_full() {
             return Err(ChipFault::TooManyUnits);
         }
-        units.push(unit_from(line.text));
+        units.push(unit_from(&unit));
     }
     Ok(units)
 }

@@ -1,76 +1,85 @@
 -- Inner. For proofs and private contracts alone: what the reader hears in a text, as functions of its bytes.
-use Rattle.std.specs.Prelude.{◌≡◌, ℕ, ◌==◌, Bool, true, false, if◌then◌else◌, List, [], ◌∷◌, ◌++◌, length, Option, Some, None, Result, Ok, Err}
-use Rattle.std.specs.List.{take_while}
-use Rattle.std.specs.Str.Parse.{digits_value}
-use Rattle.bist_text.specs.declared.text_lines.Line.{Line}
-use Rattle.bist_text.specs.Grammar.{is_blank}
+use Rattle.std.specs.Prelude.{ℕ, Bool, true, false, if◌then◌else◌, List, [], ◌∷◌, ◌++◌, length, Option, Some, None, Result, Ok, Err, option_map}
+use Rattle.bist_text.specs.Keywords.{Word}
+use Rattle.bist_text.specs.inner.Keywords.{all_words}
 use Rattle.bist_text.specs.Lines.{TextLine, text_lines}
-use Rattle.bist_text.specs.Machine.{Outcome, read, unexpected, truncated, scan}
-use Rattle.memory_desc.specs.Names.{is_digit, is_name_byte}
-use Rattle.chip_desc.specs.Chips.{ChipDescription, is_file_byte}
-use Rattle.chip_desc.specs.ChipLines.{Content, version, name, budget, unit, Statement, stated}
+use Rattle.bist_text.specs.Machine.{Outcome, read}
+use Rattle.keyed_lines.specs.Reading.{Read, onward, outcome}
+use Rattle.keyed_lines.specs.Parts.{gap_of, fits_of, word_of, number_of, ends_with}
+use Rattle.keyed_lines.specs.Lines.{line_of, answer}
+use Rattle.keyed_lines.specs.declared.parts.Class.TheVariants.{Name as NameWord, File}
+use Rattle.keyed_lines.specs.declared.lines.LineFault.{LineFault}
+use Rattle.keyed_lines.specs.declared.lines.LineFault.TheVariants.{Unexpected as UnexpectedByte, Truncated as TruncatedLine}
+use Rattle.chip_desc.specs.Chips.{ChipDescription, UnitDescription}
+use Rattle.chip_desc.specs.ChipLines.{Content, version, name, budget, unit, key_text, Statement, stated, is_version_one}
 use Rattle.chip_desc.specs.ChipTable.{refusal, described}
-use Rattle.chip_desc.specs.inner.LineMachine.{step, value}
+use Rattle.chip_desc.specs.declared.content.Content.{Content as ReadContent}
+use Rattle.chip_desc.specs.declared.content.Content.TheVariants as C
+use Rattle.chip_desc.specs.declared.content.Key.{Key}
+use Rattle.chip_desc.specs.declared.content.Statement.{Statement as ReadStatement}
+use Rattle.chip_desc.specs.declared.content.UnitLine.{UnitLine}
+use Rattle.chip_desc.specs.declared.content.Key.TheVariants.{Chip, Name, Budget, Unit as OfUnit}
 use Rattle.chip_desc.specs.declared.fault.ChipFault.{ChipFault}
 use Rattle.chip_desc.specs.declared.fault.ChipFault.TheVariants.{Unexpected, Truncated, OtherVersion}
-use Rattle.chip_desc.specs.declared.line_place.Key.{Key}
-use Rattle.chip_desc.specs.declared.line_place.Key.TheVariants.{Chip, Name, Budget, Unit as OfUnit}
-use Rattle.chip_desc.specs.declared.line_place.Place.TheVariants.{Begin}
-use Rattle.chip_desc.specs.declared.line_reader.LineFault.{LineFault}
-use Rattle.chip_desc.specs.declared.line_reader.LineFault.TheVariants.{Unexpected as UnexpectedByte, Truncated as TruncatedLine}
-use Rattle.bist_text.specs.inner.LineGrammar.{after, is_small}
 
 -- ---- a line
 
-abbrev pub heard : Bool → List ℕ → Outcome (Option Key)
-heard opened b = scan step value b (Begin opened) 0
+-- the first words that may stand
+abbrev pub keys_in : Bool → List Key
+keys_in false = Chip ∷ []
+keys_in true = Chip ∷ Name ∷ Budget ∷ OfUnit ∷ []
 
--- behind the first word and its blanks
-abbrev pub behind_key : List ℕ → List ℕ
-behind_key b = after is_blank (after is_small (after is_blank b))
+abbrev pub keys_of : Bool → List (Word Key)
+keys_of opened = all_words (λ k. key_text k ∷ []) (keys_in opened)
 
-abbrev pub digits_in : List ℕ → List ℕ
-digits_in b = take_while is_digit (behind_key b)
+abbrev pub file_of : List ℕ → Read (List ℕ)
+file_of b = word_of (fits_of File) b
 
-abbrev pub behind_weight : List ℕ → List ℕ
-behind_weight b = after is_blank (after is_digit (behind_key b))
+-- what stands behind a first word and blanks
+abbrev pub argument_of : Key → List ℕ → Read (Option Content)
+argument_of Chip b = onward (number_of b) (λ n x. ends_with (Some (version n)) x)
+argument_of Name b = onward (word_of (fits_of NameWord) b) (λ n x. ends_with (Some (name n)) x)
+argument_of Budget b = onward (number_of b) (λ n x. ends_with (Some (budget n)) x)
+argument_of OfUnit b =
+    onward (number_of b) (λ w x. onward (gap_of x) (λ _ x. onward (file_of x) (λ m x. onward (gap_of x) (λ _ x. onward (file_of x) (λ d x. ends_with (Some (unit w m d)) x)))))
 
-abbrev pub march_in : List ℕ → List ℕ
-march_in b = take_while is_file_byte (behind_weight b)
+abbrev pub heard : Bool → List ℕ → Outcome (Option Content)
+heard opened b = outcome b (line_of (keys_of opened) argument_of b)
 
-abbrev pub memory_in : List ℕ → List ℕ
-memory_in b = take_while is_file_byte (after is_blank (after is_file_byte (behind_weight b)))
-
-abbrev pub content_in : Key → List ℕ → Content
-content_in Chip b = version (digits_in b)
-content_in Name b = name (take_while is_name_byte (behind_key b))
-content_in Budget b = budget (digits_in b)
-content_in OfUnit b = unit (digits_in b) (march_in b) (memory_in b)
-
--- the kind of a content line
-abbrev pub kind_heard : Outcome (Option Key) → Option Key
-kind_heard (read k) = k
-kind_heard other = None
-
-abbrev pub content_heard : Option Key → List ℕ → Option Content
-content_heard None b = None
-content_heard (Some k) b = Some (content_in k b)
+abbrev pub said_in : Outcome (Option Content) → Option Content
+said_in (read v) = v
+said_in other = None
 
 -- what a line says
 abbrev pub said : List ℕ → Option Content
-said b = content_heard (kind_heard (heard true b)) b
+said b = said_in (heard true b)
 
 abbrev pub statements : List TextLine → List Statement
 statements [] = []
 statements (l ∷ ls) = stated l.number (said l.text) ++ statements ls
 
--- ---- the first steps of the table
+-- ---- what the code has of it
 
--- the answer is this outcome
-abbrev pub answer : Outcome (Option Key) → Result (Option Key) LineFault
-answer (read k) = Ok k
-answer (unexpected i) = Err (UnexpectedByte i)
-answer truncated = Err TruncatedLine
+abbrev pub plain_unit : UnitLine → UnitDescription
+plain_unit u = record { weight = u.weight; march = u.march.now; memory = u.memory.now }
+
+abbrev pub plain_content : ReadContent → Content
+plain_content (C.Version n) = version n
+plain_content (C.Name b) = name b.now
+plain_content (C.Budget n) = budget n
+plain_content (C.Unit u) = unit u.weight u.march.now u.memory.now
+
+abbrev pub plain_statement : ReadStatement → Statement
+plain_statement s = record { line = s.line; content = plain_content s.content }
+
+abbrev pub plain_line_content : Option ReadContent → Option Content
+plain_line_content v = option_map plain_content v
+
+abbrev pub plain_said : Result (Option ReadContent) LineFault → Result (Option Content) LineFault
+plain_said (Ok v) = Ok (plain_line_content v)
+plain_said (Err f) = Err f
+
+-- ---- the first steps of the table
 
 -- the refusal of a text at a line
 abbrev pub refusal_at : TextLine → LineFault → ChipFault
@@ -78,16 +87,16 @@ refusal_at l (UnexpectedByte i) = Unexpected l.number i
 refusal_at l TruncatedLine = if l.ended then Unexpected l.number (length l.text) else Truncated
 
 -- of a line that may only be a `chip` line, whether it is one
-abbrev pub opened_by : TextLine → Result (Option Key) LineFault → Result Bool ChipFault
+abbrev pub opened_by : TextLine → Result (Option Content) LineFault → Result Bool ChipFault
 opened_by l (Ok None) = Ok false
-opened_by l (Ok (Some k)) = if digits_value 10 (digits_in l.text) == 1 then Ok true else Err OtherVersion
+opened_by l (Ok (Some c)) = if is_version_one c then Ok true else Err OtherVersion
 opened_by l (Err fault) = Err (refusal_at l fault)
 
 abbrev pub opening : TextLine → Result Bool ChipFault
 opening l = opened_by l (answer (heard false l.text))
 
-abbrev pub checked_by : TextLine → Result (Option Key) LineFault → Option ChipFault
-checked_by l (Ok k) = None
+abbrev pub checked_by : TextLine → Result (Option Content) LineFault → Option ChipFault
+checked_by l (Ok v) = None
 checked_by l (Err fault) = Some (refusal_at l fault)
 
 abbrev pub line_refusal : TextLine → Option ChipFault
@@ -122,12 +131,6 @@ lines_refusal false ls = first_lines_refusal ls
 abbrev pub checked : Option ChipFault → Result (Unit {0}) ChipFault
 checked None = Ok tt
 checked (Some fault) = Err fault
-
--- the line of a statement
-abbrev pub StandsAt : Option Line → Option Statement → Type 0
-StandsAt None None = Unit {0}
-StandsAt (Some l) (Some s) = (l.number ≡ s.line) × (said l.text.now ≡ Some s.content)
-StandsAt other s = ⊥
 
 abbrev pub by_statements : Option ChipFault → List Statement → Result ChipDescription ChipFault
 by_statements None ss = Ok (described ss)

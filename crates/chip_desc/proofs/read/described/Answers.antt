@@ -3,49 +3,46 @@ use Rattle.std.proofs.lemmas.Result.{err_from_is_err_and}
 use Rattle.bist_text.specs.Lines.{text_lines}
 use Rattle.memory_desc.specs.Names.{IsName}
 use Rattle.chip_desc.specs.ChipTable.{out_of_range}
-use Rattle.chip_desc.specs.inner.Heard.{statements}
+use Rattle.chip_desc.specs.inner.Heard.{statements, plain_statement}
 use Rattle.chip_desc.specs.inner.Seeking.{heavier_than}
-use Rattle.chip_desc.proofs.Described.{name_given, budget_given, is_chip, comes_to, is_refused, is_described, parts_same}
+use Rattle.chip_desc.proofs.Described.{named, is_chip, comes_to, is_refused, is_described, parts_same}
 use Rattle.chip_desc.proofs.LineChecking.{unchecked}
 use Rattle.chip_desc.proofs.read.described.Goals as goal
 
 pub returns-in_err-check_weights : goal.returns-in_err-check_weights
 returns-in_err-check_weights c =
     let ss = statements (text_lines c.args.bytes.now) in
-    let n = c.number_of-budget.result in
+    let n = c.budget_of-budget.result in
     let p = err_from_is_err_and c.from_residual-in_err-check_weights.result c.from_residual-in_err-check_weights.ensures.1 in
     p.1 ∙ ap Err p.2
     ∙ is_refused ss n _
-    (comes_to ss n c.in_ok-name_line.name_line c.in_ok-budget_line.budget_line c.in_ok-field.field-0 c.in_ok-check_repeats.ensures c.in_ok-name_line.ensures
-    c.in_ok-budget_line.ensures c.in_ok-field.ensures c.in_ok-check_ranges.ensures c.in_ok-units.ensures.0 c.number_of-budget.ensures)
+    (comes_to ss n (plain_statement c.in_ok-name_line.name_line) (plain_statement c.in_ok-budget_line.budget_line) (plain_statement c.in_ok-field.field-0) c.in_ok-check_repeats.ensures
+    c.in_ok-name_line.ensures c.in_ok-budget_line.ensures c.in_ok-field.ensures c.in_ok-check_ranges.ensures c.in_ok-units.ensures.0 c.budget_of-budget.ensures)
     c.in_err-check_weights.ensures
 
-pub name_from-requires : goal.name_from-requires
-name_from-requires c =
-    let ss = statements (text_lines c.args.bytes.now) in
-    (name_given ss c.in_ok-name_line.name_line c.name_of.result.now c.in_ok-name_line.ensures (unchecked (out_of_range ss) tt (sym c.in_ok-check_ranges.ensures)) c.name_of.ensures).1
+pub name_from-name-requires : goal.name_from-name-requires
+name_from-name-requires c =
+    let ls = text_lines c.args.bytes.now in
+    subst IsName (sym c.name_of.ensures) (named ls (plain_statement c.in_ok-name_line.name_line) (unchecked (out_of_range (statements ls)) tt (sym c.in_ok-check_ranges.ensures)) c.in_ok-name_line.ensures)
 
 pub new-requires : goal.new-requires
 new-requires c =
     let ls = text_lines c.args.bytes.now in
     let ss = statements ls in
-    let n = c.number_of-budget.result in
+    let n = c.budget_of-budget.result in
     let inside = unchecked (out_of_range ss) tt (sym c.in_ok-check_ranges.ensures) in
-    let named = (name_given ss c.in_ok-name_line.name_line c.name_of.result.now c.in_ok-name_line.ensures inside c.name_of.ensures).1 in
-    is_chip ls c.in_ok-budget_line.budget_line c.in_ok-field.field-0 c.name_from.result.bytes n c.in_ok-units.units.items
-    (subst IsName (sym c.name_from.ensures) named) c.in_ok-budget_line.ensures c.in_ok-field.ensures inside
-    (budget_given ss c.in_ok-budget_line.budget_line n c.in_ok-budget_line.ensures c.number_of-budget.ensures) c.in_ok-units.ensures.0 c.in_ok-units.ensures.1
+    is_chip ls (plain_statement c.in_ok-budget_line.budget_line) (plain_statement c.in_ok-field.field-0) c.name_from-name.result.bytes n c.in_ok-units.units.items
+    (subst IsName (sym (c.name_from-name.ensures ∙ c.name_of.ensures)) (named ls (plain_statement c.in_ok-name_line.name_line) inside c.in_ok-name_line.ensures))
+    c.in_ok-budget_line.ensures c.in_ok-field.ensures inside c.budget_of-budget.ensures c.in_ok-units.ensures.0 c.in_ok-units.ensures.1
     (unchecked (heavier_than n ss) tt (sym c.in_ok-check_weights.ensures))
 
 pub returns : goal.returns
 returns c =
     let ss = statements (text_lines c.args.bytes.now) in
-    let n = c.number_of-budget.result in
-    let inside = unchecked (out_of_range ss) tt (sym c.in_ok-check_ranges.ensures) in
-    let named = (name_given ss c.in_ok-name_line.name_line c.name_of.result.now c.in_ok-name_line.ensures inside c.name_of.ensures).0 in
+    let n = c.budget_of-budget.result in
     is_described ss c.new.result n
-    (comes_to ss n c.in_ok-name_line.name_line c.in_ok-budget_line.budget_line c.in_ok-field.field-0 c.in_ok-check_repeats.ensures c.in_ok-name_line.ensures
-    c.in_ok-budget_line.ensures c.in_ok-field.ensures c.in_ok-check_ranges.ensures c.in_ok-units.ensures.0 c.number_of-budget.ensures)
+    (comes_to ss n (plain_statement c.in_ok-name_line.name_line) (plain_statement c.in_ok-budget_line.budget_line) (plain_statement c.in_ok-field.field-0) c.in_ok-check_repeats.ensures
+    c.in_ok-name_line.ensures c.in_ok-budget_line.ensures c.in_ok-field.ensures c.in_ok-check_ranges.ensures c.in_ok-units.ensures.0 c.budget_of-budget.ensures)
     c.in_ok-check_weights.ensures
-    (parts_same ss c.new.result c.name_from.result.bytes n c.in_ok-units.units.items c.new.ensures (c.name_from.ensures ∙ named)
-    (budget_given ss c.in_ok-budget_line.budget_line n c.in_ok-budget_line.ensures c.number_of-budget.ensures) c.in_ok-units.ensures.1)
+    (parts_same ss c.new.result (plain_statement c.in_ok-name_line.name_line) (plain_statement c.in_ok-budget_line.budget_line) c.name_from-name.result.bytes n c.in_ok-units.units.items c.new.ensures
+    c.in_ok-name_line.ensures (c.name_from-name.ensures ∙ c.name_of.ensures) c.in_ok-budget_line.ensures c.budget_of-budget.ensures c.in_ok-units.ensures.1)

@@ -1,5 +1,5 @@
 use Rattle.std.proofs.lemmas.Str.{IsUtf8-from_ascii}
-use Rattle.chip_desc.proofs.FileBytes.{file_ascii}
+use Rattle.chip_desc.proofs.UnitLines.{file_ascii}
 use Rattle.chip_desc.proofs.units.file_from.Goals as goal
 
 pub unreachable-requires : goal.unreachable-requires

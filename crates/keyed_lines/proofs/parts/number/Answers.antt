@@ -1,0 +1,11 @@
+use Rattle.std.proofs.Common.{ap, ◌∙◌, sym}
+use Rattle.std.specs.Str.Parse.{digits_value}
+use Rattle.keyed_lines.specs.Reading.{took, onward}
+use Rattle.keyed_lines.proofs.Numbers.{number_value}
+use Rattle.keyed_lines.proofs.parts.number.Goals as goal
+
+pub returns : goal.returns
+returns c =
+    ap (λ r. onward r (λ ds x. took (digits_value 10 ds) x)) c.in_ok-digits.ensures
+    ∙ ap (λ n. took n c.in_ok-digits.text.now)
+    (sym (number_value c.args.text.now c.in_ok-digits.digits.now c.in_ok-digits.text.now c.decimal.result c.unwrap_or-value.result c.in_ok-digits.ensures c.decimal.ensures c.unwrap_or-value.ensures))

@@ -1,0 +1,140 @@
+//! Readers of the parts of a line.
+
+ghost use Rattle.std.specs.Prelude.{◌≡◌, ◌≤◌, MatchResult, length};
+ghost use Rattle.bist_text.specs.Grammar.{is_blank};
+ghost use Rattle.keyed_lines.specs.Reading.{took, stuck};
+ghost use Rattle.keyed_lines.specs.Parts.{spaced, gap_of, byte_of, end_of, fits_of, word_of, number_of, length_of};
+
+use bist_text::byte_sets::BLANKS;
+use bist_text::{begins_identifier, decimal, in_identifier};
+
+/// What a reader makes of what is left of a line: a value and what is then left; or what is left where the line can't go on
+/// so, which is nothing where it ended too early.
+pub type Read<'a, T> = Result<(T, &'a [u8]), &'a [u8]>;
+
+/// Which words stand in lines.
+#[derive(Clone, Copy)]
+pub enum Class {
+    /// One to nine decimal digits.
+    Number,
+    /// One to sixteen hexadecimal digits.
+    Word,
+    /// A simple identifier.
+    Name,
+    /// The name of a file: printable bytes but `#`.
+    File,
+}
+
+impl Class {
+    /// Whether a byte may stand behind so many bytes of a word.
+    fn fits(self, count: usize, byte: u8) -> bool
+        ensures { result ≡ fits_of self count byte }
+    {
+        match self {
+            Class::Number => byte.is_ascii_digit() && count < 9,
+            Class::Word => byte.is_ascii_hexdigit() && count < 16,
+            Class::Name if count == 0 => begins_identifier(byte),
+            Class::Name => in_identifier(byte),
+            Class::File => 33 <= byte && byte <= 126 && byte != b'#',
+        }
+    }
+}
+
+/// What stands behind the blanks.
+#[tactic(auto, using(bist_text::proofs::Behind::blanks_have, crate::proofs::Steps::blank_on, crate::proofs::Steps::blank_stop, crate::proofs::Steps::blank_end))]
+pub fn blanks(text: &[u8]) -> &[u8]
+    ensures { result.now ≡ spaced text.now }
+{
+    for (i, byte) in text.iter().enumerate() {
+        if !BLANKS.contains(*byte) {
+            return &text[i..];
+        }
+    }
+    &[]
+}
+
+/// One or more blanks.
+#[tactic(auto, using(bist_text::proofs::Behind::blanks_have, crate::proofs::Steps::gap_took))]
+pub fn gap(text: &[u8]) -> Read<'_, ()>
+    ensures { MatchResult result (λ r. gap_of text.now ≡ took r.0 r.1.now) (λ left. gap_of text.now ≡ stuck left.now) }
+{
+    match text {
+        [] => Err(text),
+        [first, rest @ ..] => {
+            if BLANKS.contains(*first) {
+                Ok(((), blanks(rest)))
+            } else {
+                Err(text)
+            }
+        }
+    }
+}
+
+/// A byte.
+pub fn byte(text: &[u8], wanted: u8) -> Read<'_, ()>
+    ensures { MatchResult result (λ r. byte_of wanted text.now ≡ took r.0 r.1.now) (λ left. byte_of wanted text.now ≡ stuck left.now) }
+{
+    match text {
+        [] => Err(text),
+        [first, rest @ ..] => {
+            if *first == wanted {
+                Ok(((), rest))
+            } else {
+                Err(text)
+            }
+        }
+    }
+}
+
+/// The end of a line: blanks and a comment.
+pub fn end(text: &[u8]) -> Read<'_, ()>
+    ensures { MatchResult result (λ r. end_of text.now ≡ took r.0 r.1.now) (λ left. end_of text.now ≡ stuck left.now) }
+{
+    let text = blanks(text);
+    match text {
+        [] => Ok(((), text)),
+        [first, _rest @ ..] => {
+            if *first == b'#' {
+                Ok(((), &[]))
+            } else {
+                Err(text)
+            }
+        }
+    }
+}
+
+/// How many bytes from the front on a word of a class can have.
+#[tactic(auto, using(crate::proofs::Steps::fit_on, crate::proofs::Steps::fit_stop, crate::proofs::Steps::fit_end))]
+fn fit_len(text: &[u8], class: Class) -> usize
+    ensures value { result ≡ length_of (fits_of class) 0 text.now }
+    ensures within { result ≤ length text.now }
+{
+    for (i, byte) in text.iter().enumerate() {
+        if !class.fits(i, *byte) {
+            return i;
+        }
+    }
+    text.len()
+}
+
+/// A word of a class.
+#[tactic(auto, using(crate::proofs::Steps::word_none, crate::proofs::Steps::word_some))]
+pub fn word(text: &[u8], class: Class) -> Read<'_, &[u8]>
+    ensures { MatchResult result (λ r. word_of (fits_of class) text.now ≡ took r.0.now r.1.now) (λ left. word_of (fits_of class) text.now ≡ stuck left.now) }
+{
+    let count = fit_len(text, class);
+    if count == 0 {
+        Err(text)
+    } else {
+        Ok((&text[..count], &text[count..]))
+    }
+}
+
+/// A number of one to nine digits.
+pub fn number(text: &[u8]) -> Read<'_, u32>
+    ensures { MatchResult result (λ r. number_of text.now ≡ took r.0 r.1.now) (λ left. number_of text.now ≡ stuck left.now) }
+{
+    let (digits, text) = word(text, Class::Number)?;
+    let value = decimal(digits).unwrap_or(0);
+    Ok((value, text))
+}
