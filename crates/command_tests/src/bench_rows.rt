@@ -1,381 +1,160 @@
 //! Worked examples of the commands that clock the module of a memory against boxes.
 
-use crate::compile_rows::FIVE;
-use crate::rows::{MARCH_C, MARCH_SS, PLAIN, RETENTION, Row, SIXTEEN, Sort, right_rows};
-use memory_desc::read_memory;
-use std::test::Fail;
-use word_device::{ArrayDevice, Device, PortCmd, shape_of};
+use crate::rows::first_wrong;
 
-pub const EIGHT: &[u8] = b"memory 1\nname buf8\nwords 8\nbits 8\n";
+static BENCH: &[u8] = br"# BOXES
 
-const INVERTED: &[u8] = b"memory 2\nname buf8\nwords 8\nbits 8\nlatency 3\npolarity ff\n";
+m = $c
+d = $16
+boxes sound 65536 sound 16
+> bench m d
+0+1 fail 0 done 162
 
-const SLOW_EIGHT: &[u8] = b"memory 2\nname buf8\nwords 8\nbits 8\nlatency 3\n";
+boxes zeros 65536
+> bench m d
+1 fail 1 done 162 cycle 50 expected 1 returned 0
 
-const SLOW: &[u8] = b"memory 2\nname buf0\nwords 16\nbits 1\nlatency 3\n";
+boxes ones 65536
+> bench m d
+1 fail 1 done 162 cycle 18 expected 0 returned 1
 
-const LARGE: &[u8] = b"memory 1\nname large_one\nwords 65536\nbits 64\n";
+boxes count 65536
+> bench m d
+1 fail 1 done 162 cycle 18 expected 0 returned 1
 
-const RETAINING: &[u8] = b"memory 2\nname buf0\nwords 16\nbits 1\npause 4\n";
+boxes no_fit 65536
+> bench m d
+9+1 no memory
 
-const TWO_RETAINING: &[u8] = b"memory 2\nname two\nwords 2\nbits 1\npause 5\n";
+boxes sound 8
+> bench m d
+11+1 device V1 words 16 room 8
 
-const BENCH: &str = "bench m d";
+boxes sound 15 sound 16
+> bench m d
+11+2 device V1 words 16 room 15
 
-static BOXES: [Row; 13] = [
-    Row {
-        command: BENCH,
-        files: &[("m", MARCH_C), ("d", SIXTEEN)],
-        boxes: &[(Sort::Sound, 65_536), (Sort::Sound, 16)],
-        said: b"fail 0 done 162\n",
-        status: 0,
-        left: 1,
-        ..PLAIN
-    },
-    Row {
-        command: BENCH,
-        files: &[("m", MARCH_C), ("d", SIXTEEN)],
-        boxes: &[(Sort::Zeros, 65_536)],
-        said: b"fail 1 done 162 cycle 50 expected 1 returned 0\n",
-        status: 1,
-        ..PLAIN
-    },
-    Row {
-        command: BENCH,
-        files: &[("m", MARCH_C), ("d", SIXTEEN)],
-        boxes: &[(Sort::Ones, 65_536)],
-        said: b"fail 1 done 162 cycle 18 expected 0 returned 1\n",
-        status: 1,
-        ..PLAIN
-    },
-    Row {
-        command: BENCH,
-        files: &[("m", MARCH_C), ("d", SIXTEEN)],
-        boxes: &[(Sort::Count, 65_536)],
-        said: b"fail 1 done 162 cycle 18 expected 0 returned 1\n",
-        status: 1,
-        ..PLAIN
-    },
-    Row {
-        command: BENCH,
-        files: &[("m", MARCH_C), ("d", SIXTEEN)],
-        boxes: &[(Sort::NoFit, 65_536)],
-        said: b"no memory\n",
-        status: 9,
-        left: 1,
-        ..PLAIN
-    },
-    Row {
-        command: BENCH,
-        files: &[("m", MARCH_C), ("d", SIXTEEN)],
-        boxes: &[(Sort::Sound, 8)],
-        said: b"device V1 words 16 room 8\n",
-        status: 11,
-        left: 1,
-        ..PLAIN
-    },
-    Row {
-        command: BENCH,
-        files: &[("m", MARCH_C), ("d", SIXTEEN)],
-        boxes: &[(Sort::Sound, 15), (Sort::Sound, 16)],
-        said: b"device V1 words 16 room 15\n",
-        status: 11,
-        left: 2,
-        ..PLAIN
-    },
-    Row {
-        command: BENCH,
-        files: &[("m", MARCH_C), ("d", SIXTEEN)],
-        said: b"device V4\n",
-        status: 11,
-        ..PLAIN
-    },
-    Row {
-        command: BENCH,
-        files: &[("m", MARCH_C), ("d", SLOW)],
-        boxes: &[(Sort::Sound, 65_536)],
-        said: b"fail 0 done 164\n",
-        status: 0,
-        ..PLAIN
-    },
-    Row {
-        command: BENCH,
-        files: &[("m", MARCH_C), ("d", SLOW)],
-        boxes: &[(Sort::Zeros, 65_536)],
-        said: b"fail 1 done 164 cycle 52 expected 1 returned 0\n",
-        status: 1,
-        ..PLAIN
-    },
-    Row {
-        command: BENCH,
-        files: &[("m", MARCH_C), ("d", LARGE)],
-        boxes: &[(Sort::Sound, 65_536)],
-        said: b"too long 4587523\n",
-        status: 12,
-        left: 1,
-        ..PLAIN
-    },
-    Row {
-        command: BENCH,
-        files: &[("m", MARCH_SS), ("d", LARGE)],
-        boxes: &[(Sort::Sound, 65_536)],
-        said: b"too long 10092547\n",
-        status: 12,
-        left: 1,
-        ..PLAIN
-    },
-    Row {
-        command: BENCH,
-        files: &[("m", MARCH_C), ("d", FIVE)],
-        boxes: &[(Sort::Sound, 65_536)],
-        said: b"fail 0 done 52\n",
-        status: 0,
-        ..PLAIN
-    },
-];
+boxes
+> bench m d
+11 device V4
 
-#[test]
-fn benched_boxes(rt: HostRuntime) {
-    assert_eq!(rt; right_rows(rt.alloc(), &BOXES), BOXES.len());
-}
+d = memory 2\nname buf0\nwords 16\nbits 1\nlatency 3\n
+boxes sound 65536
+> bench m d
+0 fail 0 done 164
 
-static FAULTS: [Row; 18] = [
-    Row {
-        command: "benchfault m d <0w0/1/-> none 999999999.0",
-        files: &[("m", MARCH_C), ("d", EIGHT)],
-        boxes: &[(Sort::Sound, 65_536)],
-        said: b"device V2\n",
-        status: 11,
-        left: 1,
-        ..PLAIN
-    },
-    Row {
-        command: "benchfault m d <0w0/1/-> none 1000000000.0",
-        files: &[("m", MARCH_C), ("d", EIGHT)],
-        boxes: &[(Sort::Sound, 65_536)],
-        said: b"usage\n",
-        status: 2,
-        left: 1,
-        ..PLAIN
-    },
-    Row {
-        command: "benchfault m d <0w0/1/-> none 3.0",
-        files: &[("m", MARCH_C), ("d", SIXTEEN)],
-        boxes: &[(Sort::Sound, 65_536)],
-        said: b"fail 1 done 162 cycle 24 expected 0 returned 1\n",
-        status: 1,
-        ..PLAIN
-    },
-    Row {
-        command: "benchfault m d <1w1/0/-> none 3.0",
-        files: &[("m", MARCH_C), ("d", SIXTEEN)],
-        boxes: &[(Sort::Sound, 65_536)],
-        said: b"fail 0 done 162\n",
-        status: 0,
-        ..PLAIN
-    },
-    Row {
-        command: "benchfault m d <0;0/1/-> none 3.0",
-        files: &[("m", MARCH_C), ("d", SIXTEEN)],
-        boxes: &[(Sort::Sound, 65_536)],
-        said: b"misfit aggressor\n",
-        status: 13,
-        left: 1,
-        ..PLAIN
-    },
-    Row {
-        command: "benchfault m d <0w0/1/-> 2.0 3.0",
-        files: &[("m", MARCH_C), ("d", LARGE)],
-        said: b"misfit aggressor\n",
-        status: 13,
-        ..PLAIN
-    },
-    Row {
-        command: "benchfault m d <0w1;0/1/-> 6.3 1.5",
-        files: &[("m", MARCH_C), ("d", EIGHT)],
-        boxes: &[(Sort::Sound, 65_536)],
-        said: b"fail 1 done 322 cycle 54 expected 00 returned 20\n",
-        status: 1,
-        ..PLAIN
-    },
-    Row {
-        command: "benchfault m d <0w1;0/1/-> 6.3 6.5",
-        files: &[("m", MARCH_C), ("d", EIGHT)],
-        boxes: &[(Sort::Sound, 65_536)],
-        said: b"device V2\n",
-        status: 11,
-        left: 1,
-        ..PLAIN
-    },
-    Row {
-        command: "benchfault m d <0w1;0/1/-> 6.3 8.5",
-        files: &[("m", MARCH_C), ("d", EIGHT)],
-        boxes: &[(Sort::Sound, 7)],
-        said: b"device V2\n",
-        status: 11,
-        left: 1,
-        ..PLAIN
-    },
-    Row {
-        command: "benchfault m d <0w1;0/1/-> 6.8 1.5",
-        files: &[("m", MARCH_C), ("d", EIGHT)],
-        boxes: &[(Sort::Sound, 8)],
-        said: b"device V2\n",
-        status: 11,
-        left: 1,
-        ..PLAIN
-    },
-    Row {
-        command: "benchfault m d <0w1;0/1/-> 6.3 1.5",
-        files: &[("m", MARCH_C), ("d", EIGHT)],
-        boxes: &[(Sort::Sound, 7)],
-        said: b"device V1 words 8 room 7\n",
-        status: 11,
-        left: 1,
-        ..PLAIN
-    },
-    Row {
-        command: "benchfault m d <0w1;0/1/-> 6.3 1.5",
-        files: &[("m", MARCH_C), ("d", INVERTED)],
-        boxes: &[(Sort::Sound, 65_536)],
-        said: b"fail 1 done 324 cycle 56 expected ff returned df\n",
-        status: 1,
-        ..PLAIN
-    },
-    Row {
-        command: "benchfault m d <0t/1/-> none 5.0",
-        files: &[("m", RETENTION), ("d", RETAINING)],
-        boxes: &[(Sort::Sound, 65_536)],
-        said: b"fail 1 done 38 cycle 27 expected 0 returned 1\n",
-        status: 1,
-        ..PLAIN
-    },
-    Row {
-        command: "benchfault m d <1t/0/-> none 5.0",
-        files: &[("m", RETENTION), ("d", RETAINING)],
-        boxes: &[(Sort::Sound, 65_536)],
-        said: b"fail 0 done 38\n",
-        status: 0,
-        ..PLAIN
-    },
-    Row {
-        command: "benchfault m d <0w0/1/-> none 3.00",
-        files: &[("m", MARCH_C), ("d", SIXTEEN)],
-        boxes: &[(Sort::Sound, 65_536)],
-        said: b"usage\n",
-        status: 2,
-        left: 1,
-        ..PLAIN
-    },
-    Row {
-        command: "benchfault m d <0w0/1/-> none 3",
-        files: &[("m", MARCH_C), ("d", SIXTEEN)],
-        boxes: &[(Sort::Sound, 65_536)],
-        said: b"usage\n",
-        status: 2,
-        left: 1,
-        ..PLAIN
-    },
-    Row {
-        command: "benchfault m d <0w1;0/1/-> 6.3 1.5",
-        files: &[("m", MARCH_C), ("d", SLOW_EIGHT)],
-        boxes: &[(Sort::Sound, 65_536)],
-        said: b"fail 1 done 324 cycle 56 expected 00 returned 20\n",
-        status: 1,
-        ..PLAIN
-    },
-    Row {
-        command: "benchfault m d <0t/1/-> none 1.0",
-        files: &[("m", RETENTION), ("d", TWO_RETAINING)],
-        boxes: &[(Sort::Sound, 65_536)],
-        said: b"fail 1 done 11 cycle 10 expected 0 returned 1\n",
-        status: 1,
-        ..PLAIN
-    },
-];
+boxes zeros 65536
+> bench m d
+1 fail 1 done 164 cycle 52 expected 1 returned 0
+
+d = memory 1\nname large_one\nwords 65536\nbits 64\n
+boxes sound 65536
+> bench m d
+12+1 too long 4587523
+
+m = $ss
+> bench m d
+12+1 too long 10092547
+
+m = $c
+d = memory 1\nname buf0\nwords 5\nbits 1\n
+> bench m d
+0 fail 0 done 52
+
+# FAULTS
+
+d = memory 1\nname buf8\nwords 8\nbits 8\n
+> benchfault m d <0w0/1/-> none 999999999.0
+11+1 device V2
+> benchfault m d <0w0/1/-> none 1000000000.0
+2+1 usage
+
+d = $16
+> benchfault m d <0w0/1/-> none 3.0
+1 fail 1 done 162 cycle 24 expected 0 returned 1
+> benchfault m d <1w1/0/-> none 3.0
+0 fail 0 done 162
+> benchfault m d <0;0/1/-> none 3.0
+13+1 misfit aggressor
+
+d = memory 1\nname large_one\nwords 65536\nbits 64\n
+boxes
+> benchfault m d <0w0/1/-> 2.0 3.0
+13 misfit aggressor
+
+d = memory 1\nname buf8\nwords 8\nbits 8\n
+boxes sound 65536
+> benchfault m d <0w1;0/1/-> 6.3 1.5
+1 fail 1 done 322 cycle 54 expected 00 returned 20
+> benchfault m d <0w1;0/1/-> 6.3 6.5
+11+1 device V2
+
+boxes sound 7
+> benchfault m d <0w1;0/1/-> 6.3 8.5
+11+1 device V2
+
+boxes sound 8
+> benchfault m d <0w1;0/1/-> 6.8 1.5
+11+1 device V2
+
+boxes sound 7
+> benchfault m d <0w1;0/1/-> 6.3 1.5
+11+1 device V1 words 8 room 7
+
+d = memory 2\nname buf8\nwords 8\nbits 8\nlatency 3\npolarity ff\n
+boxes sound 65536
+> benchfault m d <0w1;0/1/-> 6.3 1.5
+1 fail 1 done 324 cycle 56 expected ff returned df
+
+m = $retention
+d = memory 2\nname buf0\nwords 16\nbits 1\npause 4\n
+> benchfault m d <0t/1/-> none 5.0
+1 fail 1 done 38 cycle 27 expected 0 returned 1
+> benchfault m d <1t/0/-> none 5.0
+0 fail 0 done 38
+
+m = $c
+d = $16
+> benchfault m d <0w0/1/-> none 3.00
+2+1 usage
+> benchfault m d <0w0/1/-> none 3
+2+1 usage
+
+d = memory 2\nname buf8\nwords 8\nbits 8\nlatency 3\n
+> benchfault m d <0w1;0/1/-> 6.3 1.5
+1 fail 1 done 324 cycle 56 expected 00 returned 20
+
+m = $retention
+d = memory 2\nname two\nwords 2\nbits 1\npause 5\n
+> benchfault m d <0t/1/-> none 1.0
+1 fail 1 done 11 cycle 10 expected 0 returned 1
+
+# ALL
+
+m = $c
+d = $16
+boxes sound 65536 zeros 65536 count 65536
+> benchall m d
+1 boxes 3 failing 2
+
+boxes sound 65536 zeros 8 count 65536
+> benchall m d
+11+3 device V1 words 16 room 8
+
+boxes sound 65536 no_fit 65536 count 65536
+> benchall m d
+9+2 no memory
+
+boxes sound 65536 sound 16
+> benchall m d
+0 boxes 2 failing 0
+
+boxes
+> benchall m d
+11 device V4
+";
 
 #[test]
-fn planted_faults(rt: HostRuntime) {
-    assert_eq!(rt; right_rows(rt.alloc(), &FAULTS), FAULTS.len());
-}
-
-const BENCH_ALL: &str = "benchall m d";
-
-static ALL: [Row; 5] = [
-    Row {
-        command: BENCH_ALL,
-        files: &[("m", MARCH_C), ("d", SIXTEEN)],
-        boxes: &[
-            (Sort::Sound, 65_536),
-            (Sort::Zeros, 65_536),
-            (Sort::Count, 65_536),
-        ],
-        said: b"boxes 3 failing 2\n",
-        status: 1,
-        ..PLAIN
-    },
-    Row {
-        command: BENCH_ALL,
-        files: &[("m", MARCH_C), ("d", SIXTEEN)],
-        boxes: &[
-            (Sort::Sound, 65_536),
-            (Sort::Zeros, 8),
-            (Sort::Count, 65_536),
-        ],
-        said: b"device V1 words 16 room 8\n",
-        status: 11,
-        left: 3,
-        ..PLAIN
-    },
-    Row {
-        command: BENCH_ALL,
-        files: &[("m", MARCH_C), ("d", SIXTEEN)],
-        boxes: &[
-            (Sort::Sound, 65_536),
-            (Sort::NoFit, 65_536),
-            (Sort::Count, 65_536),
-        ],
-        said: b"no memory\n",
-        status: 9,
-        left: 2,
-        ..PLAIN
-    },
-    Row {
-        command: BENCH_ALL,
-        files: &[("m", MARCH_C), ("d", SIXTEEN)],
-        boxes: &[(Sort::Sound, 65_536), (Sort::Sound, 16)],
-        said: b"boxes 2 failing 0\n",
-        status: 0,
-        ..PLAIN
-    },
-    Row {
-        command: BENCH_ALL,
-        files: &[("m", MARCH_C), ("d", SIXTEEN)],
-        said: b"device V4\n",
-        status: 11,
-        ..PLAIN
-    },
-];
-
-#[test]
-fn lists_of_boxes(rt: HostRuntime) {
-    assert_eq!(rt; right_rows(rt.alloc(), &ALL), ALL.len());
-}
-
-#[test]
-fn the_words_of_a_number(rt: HostRuntime) -> Result<(), Fail> {
-    let memory = read_memory(b"memory 1\nname wide\nwords 2\nbits 64\n")?;
-    let mut device = ArrayDevice::new(rt.alloc(), 2);
-    device.fit(&shape_of(&memory))?;
-    device.fill(0x1_0000_0001);
-    let first = PortCmd {
-        en: true,
-        we: false,
-        addr: 0,
-        wdata: 0,
-    };
-    assert_eq!(rt; device.cycle(&first), 0x1_0000_0000);
-    let second = PortCmd { addr: 1, ..first };
-    assert_eq!(rt; device.cycle(&second), 0x3_0000_0000);
-    Ok(())
+fn boxes(rt: HostRuntime) {
+    assert_eq!(rt; first_wrong(rt.alloc(), BENCH), None);
 }

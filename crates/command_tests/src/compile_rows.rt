@@ -1,148 +1,50 @@
 //! Worked examples of `compile`.
 
-use crate::host_rows::failing_host;
-use crate::rows::{File, Held, MARCH_C, PLAIN, Row, SIXTEEN, host_of, right_rows, run_alone};
-use bist_host::MemHost;
-use std::alloc::Global;
+use crate::rows::first_wrong;
 
-const COMPILE: &str = "compile m d l v r";
+static COMPILE: &[u8] = br"# COMPILED
 
-const INPUTS: &[File] = &[("m", MARCH_C), ("d", SIXTEEN), ("l", b"SF")];
+m = $c
+d = $16
+l = SF
+> compile m d l v r
+0 total 2 covered 2 escapes 0
+r ==
+| march {any(w0);up(r0,w1);up(r1,w0);down(r0,w1);down(r1,w0);any(r0)}
+| memory buf0 words 16 bits 1 backgrounds 1 commands 160
+| covered <0/1/-> SF
+| covered <1/0/-> SF
+| class SF 2 covered 2
+| total 2 covered 2 escapes 0
+v begins module buf0_bist(\n  input clk,\n  input reset,\n  input rdata,\n
+v ends endmodule\n
 
-const COMPILED_REPORT: &[u8] = b"march {any(w0);up(r0,w1);up(r1,w0);down(r0,w1);down(r1,w0);any(r0)}
-memory buf0 words 16 bits 1 backgrounds 1 commands 160
-covered <0/1/-> SF
-covered <1/0/-> SF
-class SF 2 covered 2
-total 2 covered 2 escapes 0
+d = memory 1\nname buf0\nwords 5\nbits 1\n
+l = <0w0/1/->
+> compile m d l v r
+1 total 1 covered 0 escapes 1
+r ==
+| march {any(w0);up(r0,w1);up(r1,w0);down(r0,w1);down(r1,w0);any(r0)}
+| memory buf0 words 5 bits 1 backgrounds 1 commands 50
+| escape <0w0/1/-> WDF aggressor none victim 0 content 10 directions uuuddu
+| class WDF 1 covered 0
+| total 1 covered 0 escapes 1
+v begins
+
+d = $16
+l = <1w0r0/1/1>\n<r0w1/0/->\n
+> compile m d l v r
+1 total 2 covered 1 escapes 1
+r ==
+| march {any(w0);up(r0,w1);up(r1,w0);down(r0,w1);down(r1,w0);any(r0)}
+| memory buf0 words 16 bits 1 backgrounds 1 commands 160
+| escape <1w0r0/1/1> DYN1 cells 2 aggressor none victim 0 content 00 directions uuuddd
+| covered <0r0w1/0/-> DYN1
+| class DYN1 2 covered 1
+| total 2 covered 1 escapes 1
 ";
-
-/// A memory whose number of words is no power of two, and the report's line on it.
-pub const FIVE: &[u8] = b"memory 1\nname buf0\nwords 5\nbits 1\n";
-
-const FIVE_REPORT: &[u8] = b"march {any(w0);up(r0,w1);up(r1,w0);down(r0,w1);down(r1,w0);any(r0)}
-memory buf0 words 5 bits 1 backgrounds 1 commands 50
-escape <0w0/1/-> WDF aggressor none victim 0 content 10 directions uuuddu
-class WDF 1 covered 0
-total 1 covered 0 escapes 1
-";
-
-const DYNAMIC_REPORT: &[u8] = b"march {any(w0);up(r0,w1);up(r1,w0);down(r0,w1);down(r1,w0);any(r0)}
-memory buf0 words 16 bits 1 backgrounds 1 commands 160
-escape <1w0r0/1/1> DYN1 cells 2 aggressor none victim 0 content 00 directions uuuddd
-covered <0r0w1/0/-> DYN1
-class DYN1 2 covered 1
-total 2 covered 1 escapes 1
-";
-
-static COMPILED: [Row; 3] = [
-    Row {
-        command: COMPILE,
-        files: INPUTS,
-        said: b"total 2 covered 2 escapes 0\n",
-        status: 0,
-        made: &[
-            ("r", Held::Bytes(COMPILED_REPORT)),
-            (
-                "v",
-                Held::Between(
-                    b"module buf0_bist(\n  input clk,\n  input reset,\n  input rdata,\n",
-                    b"endmodule\n",
-                ),
-            ),
-        ],
-        ..PLAIN
-    },
-    Row {
-        command: COMPILE,
-        files: &[("m", MARCH_C), ("d", FIVE), ("l", b"<0w0/1/->")],
-        said: b"total 1 covered 0 escapes 1\n",
-        status: 1,
-        made: &[
-            ("r", Held::Bytes(FIVE_REPORT)),
-            ("v", Held::Between(b"", b"")),
-        ],
-        ..PLAIN
-    },
-    Row {
-        command: COMPILE,
-        files: &[
-            ("m", MARCH_C),
-            ("d", SIXTEEN),
-            ("l", b"<1w0r0/1/1>\n<r0w1/0/->\n"),
-        ],
-        said: b"total 2 covered 1 escapes 1\n",
-        status: 1,
-        made: &[("r", Held::Bytes(DYNAMIC_REPORT))],
-        ..PLAIN
-    },
-];
 
 #[test]
 fn compilations(rt: HostRuntime) {
-    assert_eq!(rt; right_rows(rt.alloc(), &COMPILED), COMPILED.len());
-}
-
-/// Which calls of the host fail, the status, what is said, and how many bytes of the module and of the report are
-/// there, in halves of the whole.
-type Failing = (&'static [u64], u8, &'static [u8], usize, usize);
-
-static FAILING: [Failing; 7] = [
-    (&[1], 7, b"read failed 1\n", 0, 0),
-    (&[2], 7, b"read failed 2\n", 0, 0),
-    (&[3], 7, b"read failed 3\n", 0, 0),
-    (&[1, 2], 7, b"", 0, 0),
-    (&[4], 8, b"write failed 4\n", 1, 0),
-    (&[5], 8, b"write failed 5\n", 2, 1),
-    (&[6], 8, b"", 2, 2),
-];
-
-/// Whether the file has so many halves of the whole one.
-fn has_halves(host: &MemHost, name: &str, whole: &[u8], halves: usize) -> bool {
-    match host.get(name) {
-        None => halves == 0,
-        Some(bytes) if halves == 1 => bytes == &whole[..whole.len() / 2],
-        Some(bytes) => halves == 2 && bytes == whole,
-    }
-}
-
-/// The host after a compilation that ends with 0. `None` is another status, or want of memory.
-pub fn compiled(alloc: Global) -> Option<MemHost> {
-    let mut host = host_of(alloc, INPUTS)?;
-    match run_alone(alloc, COMPILE, &mut host) {
-        Ok(0) => Some(host),
-        _ => None,
-    }
-}
-
-/// Whether what was said, and made of the module and of the report, is what the row says.
-fn is_cut(host: &MemHost, row: &Failing, module: &[u8]) -> bool {
-    let (_, _, said, module_halves, report_halves) = *row;
-    host.said() == said
-        && has_halves(host, "v", module, module_halves)
-        && has_halves(host, "r", COMPILED_REPORT, report_halves)
-}
-
-/// Whether a compilation with failing calls ends as the row says. `None` is want of memory.
-fn fails_so(alloc: Global, row: &Failing, module: &[u8]) -> Option<bool> {
-    let mut host = failing_host(alloc, INPUTS, row.0)?;
-    let status = run_alone(alloc, COMPILE, &mut host).ok()?;
-    Some(status == row.1 && is_cut(host.inner(), row, module))
-}
-
-/// How many compilations with failing calls are right before the first that isn't.
-fn right_failures(alloc: Global, rows: &[Failing], module: &[u8]) -> usize {
-    for (i, row) in rows.iter().enumerate() {
-        if fails_so(alloc, row, module) != Some(true) {
-            return i;
-        }
-    }
-    rows.len()
-}
-
-#[test]
-fn compilations_with_failing_calls(rt: HostRuntime) {
-    let whole = compiled(rt.alloc()).expect(&rt, "a compilation");
-    let module = whole.get("v").expect(&rt, "a module");
-    assert_eq!(rt; right_failures(rt.alloc(), &FAILING, module), FAILING.len());
+    assert_eq!(rt; first_wrong(rt.alloc(), COMPILE), None);
 }

@@ -1,6 +1,6 @@
-//! Tests of the commands: worked examples over hosts in memory and over real files. They stand above the program's
-//! library, since a crate that has tests is proved once more with them. The rows stand in statics, and small functions
-//! walk them, since the proof of a long test costs more than theirs.
+//! Tests of the commands: worked examples as text, over hosts in memory, and a few that rows can't say. They stand above
+//! the program's library, since a crate that has tests is proved once more with them. `rows.rt` tells the form of a row
+//! and reads it: text costs no proof a row.
 #![tactic(auto)]
 
 #[cfg(test)]
@@ -16,12 +16,18 @@ mod compile_rows;
 #[cfg(test)]
 mod file_rows;
 #[cfg(test)]
+mod half_files;
+#[cfg(test)]
 mod host_rows;
+#[cfg(test)]
+mod hosts;
 #[cfg(test)]
 mod judge_rows;
 #[cfg(test)]
 mod make_rows;
 #[cfg(test)]
 mod rows;
+#[cfg(test)]
+mod single_tests;
 #[cfg(test)]
 mod vector_rows;
