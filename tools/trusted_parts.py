@@ -132,15 +132,13 @@ cycle and port where it has none, or another than the rule of the ports wants.
   `digits`, `behind_mark`), so that it is the longest at its place. `Lexed tokens bytes`: the bytes are these tokens in order,
   with white space before, between and behind them. White space (`gap`) is spaces, tabs, line feeds, form feeds and carriage
   returns, `//` to the line's end or the file's, and `/*` to the next `*/`.
-- **The text of a module** (`Written.antt`): for each form of its tree the tokens that it is written with, with parentheses round
-  each operator and `begin` and `end` round each body. `expression_tokens x K tokens`: the tokens are those of `x`, and then what
-  K says; so for each part. There is no text of a concatenation without parts, a `case` without arms, an arm without labels, a
-  width of 0 or a module without ports. **`IsTextOf bytes module`**: the bytes are the module's tokens, with white space before,
-  between and behind them and no comments (to some tools that make gates, a comment is a command), no name has more than 64
-  bytes, no number is above 63, and each literal has a width from 1 to 64 and a value that it holds (of `2'd7` Verilog would take 3);
-  so the module is formed (`sized` of `texts_are_of_one_module`).
-  The headline speaks of this text; what follows is what the reader takes, which has further texts of a module (more parentheses,
-  a body without `begin`, `wire a, b;`), and limits.
+- **The text of a module** (`Printed.antt`, `Written.antt`): its layout, byte for byte: a line for each port, declaration, `assign`
+  and statement, two blanks for each depth, parentheses round each operator, `begin` and `end` round each body, and literals in
+  hexadecimal. **`IsTextOf bytes module`**: the module fits (of `2'd7` Verilog would take 3, and a reserved word is no name), and the
+  bytes are its layout. So there is one text of a module; each of its bytes is a line feed, a blank or another printable one, and no
+  `/`, so it has no comment (`plain` of `texts_are_of_one_module`); and by the grammar of the reader, its limits aside, it spells that
+  module and no other (`derived`, `no_other`). The headline speaks of this text; what follows is what the reader takes, which has
+  further texts of a module (other white space, more parentheses, a body without `begin`, `wire a, b;`), and limits.
 - **Grammar** (`Grammar.antt`): a derivation is a datum with one constructor for each alternative of the grammar (braces, `if`
   with and without `else`, blocks, a default with or without its colon, a declaration of several names). `file style limit
   derivation tokens` says that the tokens are those of the derivation; each rule stands as a line of the grammar above its
@@ -170,6 +168,8 @@ cycle and port where it has none, or another than the rule of the ports wants.
             "verilog_tree/declared.tokens",
             "verilog_tree/Tokens",
             "verilog_tree/Pieces",
+            "verilog_tree/Fits",
+            "verilog_emit/Printed",
             "verilog_emit/Written",
             "verilog_tree/Free",
             "verilog_tree/Parenthesised",
@@ -233,9 +233,10 @@ link to an output counts as an assign to that net; so the top keeps the rules of
 placed modules put out (`IsChip`). The registers of all placed modules change at once (`Together`). `ChipTest`
 says that exactly one environment settles a cycle, and what stands in each cycle of each history with one reset: nothing of a unit
 before the start of its group, from there on the rule of the ports over the words of its own memory, `done`, and that the weights
-of the enabled units are within the budget. In the text of a chip the placed modules stand behind the wires and assigns of its
-top (`ChipGrammar`). `ChipFile` says that bytes spell such a chip and no other. `TestedChip` is what the top call promises,
-without the order of its checks; the checks in their order are `Chip`.
+of the enabled units are within the budget. Of the ports of a placed module `clk` alone is linked to the top's `clk` (`Linked`). The
+text of a chip is its layout (`PrintedTop`): the texts of its modules one behind another, then that of its top, in which the placed
+modules stand behind the wires and assigns. `ChipFile` says that bytes are the text of such a chip and of no other. `TestedChip` is
+what the top call promises, without the order of its checks; the checks in their order are `Chip`.
 """,
         (
             "chip_desc/Chips",

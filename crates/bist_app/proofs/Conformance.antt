@@ -2,6 +2,10 @@
 use Rattle.bist_app.proofs.Common.{◌≡◌, ◌∙◌, sym, subst, ap, arith, ℕ, List, [], Option, Some, None, Ok, Err, Files, HostState, Says, MarchElement, Description, IsMemory, ModuleTree, Words, word, Done, found_status, WritesInOrder, CanRun, Boxes, HasPorts, HasForm, command_named, Runs, Command, ByPrecedence, wrong_port, PortAnswer, Spelled, input_spells, input_can_run}
 use Rattle.march_syntax.specs.Answers.{SpellsMarch}
 use Rattle.memory_desc.specs.Described.{SpellsMemory}
+use Rattle.verilog_tree.specs.Names.{number}
+use Rattle.verilog_tree.proofs.Settling.{one_settles}
+use Rattle.verilog_cycle.specs.Design.{places}
+use Rattle.verilog_cycle.proofs.Settled.{places_fall}
 use Rattle.port_check.specs.Answers.{Told}
 use Rattle.port_check.specs.Compared.{Issues}
 use Rattle.port_check.proofs.Checking.{told_of}
@@ -70,6 +74,8 @@ conforming words files said said' n done shape i is says =
       memory_text = i.memory_text;
       can_run = i.can_run;
       ports = i.ports;
+      settles = one_settles i.tree i.can_run.sizes i.can_run.legal (number (places i.tree i.can_run.wires))
+          (places_fall i.tree i.can_run.sizes i.can_run.legal i.can_run.wires i.can_run.in_order);
       issues = λ zero. issues_of i.tree i.march i.memory c.answer (sym status ∙ zero) told;
       answer = c.answer;
       is_answer = c.is_answer;

@@ -1,5 +1,5 @@
 -- Trusted. The command `compile MARCH MEMORY FAULTS VERILOG REPORT`: its shape, its checks in their order, and what it leaves. This is
--- what the program is for: the written bytes are a text of one module, which tests the described memory by the march whatever its
+-- what the program is for: the written bytes are the text of one module, which tests the described memory by the march whatever its
 -- registers hold at first and whatever words return; and the report says of each item of the list whether the march detects it in
 -- arrays of every size, or gives its least escape.
 use Rattle.std.specs.Prelude.{◌≡◌, ℕ, List, [], ◌∷◌, Option, Some, Result, codes, drop}
@@ -20,7 +20,7 @@ use Rattle.bist_inputs.specs.Memories.{InputMemory}
 use Rattle.bist_app.specs.Reported.{Reports}
 use Rattle.bist_app.specs.Forms.{Form, Row, without_boxes}
 
--- The bytes are a text of a module and of no other, and spell it and no other, as the reader of modules takes them. It is a self-test of
+-- The bytes are the text of a module and of no other, and spell it and no other, as the reader of modules takes them. It is a self-test of
 -- the memory by the march.
 pub record IsSelfTestText (march : List MarchElement) (d : Description) (text : List ℕ) : Type 0 where
   pub tree : ModuleTree

@@ -6,7 +6,9 @@ use Rattle.march_syntax.specs.Answers.{SpellsMarch}
 use Rattle.memory_desc.specs.Descriptions.{Description, IsMemory}
 use Rattle.memory_desc.specs.Described.{SpellsMemory}
 use Rattle.verilog_tree.specs.Plain.{ModuleTree}
+use Rattle.verilog_tree.specs.Meaning.{Env}
 use Rattle.verilog_tree.specs.Spells.{FreelySpells}
+use Rattle.verilog_tree.specs.Wires.{Starts, OneSettles}
 use Rattle.self_test.specs.WrongPort.{wrong_port}
 use Rattle.port_check.specs.declared.answer.PortAnswer.{PortAnswer}
 use Rattle.port_check.specs.Answers.{IsAnswer, Told}
@@ -21,6 +23,7 @@ use Rattle.bist_app.specs.Check.{check_form, is_amiss, check_line}
 -- The bytes of VERILOG spell a module and no other, which can be run and has the ports of a self-test; MARCH and MEMORY were read as a march
 -- and a memory, and spell no others. With status 0 the module issues the commands of the march, whatever its registers hold at first and whatever words return.
 -- The answer of its open run was said, and what it tells of every history holds: with a number that differs, that this number is there.
+-- In each cycle, whatever the registers and the inputs hold within their widths, exactly one environment settles: there are histories to speak of.
 pub record IsConformance (words : Words) (files : Files) (said said' : Option (List ℕ)) (status : ℕ) : Type 0 where
   pub shape : HasForm check_form words
   pub tree : ModuleTree
@@ -32,6 +35,7 @@ pub record IsConformance (words : Words) (files : Files) (said said' : Option (L
   pub memory_text : InputHas files (word words 3) (λ bytes. Only (SpellsMemory bytes) memory)
   pub can_run : CanRun tree
   pub ports : wrong_port memory tree.ports ≡ None
+  pub settles : (regs ins : Env) → Starts tree regs ins → OneSettles tree regs ins
   pub issues : status ≡ 0 → Issues tree march memory
   pub answer : PortAnswer
   pub is_answer : IsAnswer tree march memory answer

@@ -30,11 +30,11 @@ FileHas files name P = (bytes : List ℕ) × (files name ≡ Some bytes) × P by
 abbrev pub InputHas : Files → List ℕ → (List ℕ → Type 0) → Type 0
 InputHas files name P = FileHas files name (λ bytes. (length bytes ≤ input_limit) × P bytes)
 
--- The files MARCH, MEMORY and FAULTS were read as a march, a memory and a list, and spell no others. Now the bytes of VERILOG are a text of a
--- module and of no other: its tokens, with parentheses round each operator, begin and end round each body, white space between them and no
--- comments, and literals that hold their values. (By the whole grammar of the reader they spell no other module either: the clause answer
--- says that.) The module is a self-test of that memory by that march, and the bytes of REPORT are the report of the list. Some item isn't
--- detected exactly where the status is 1. How many there are and how many are detected was said, and all other files are as before.
+-- The files MARCH, MEMORY and FAULTS were read as a march, a memory and a list, and spell no others. Now the bytes of VERILOG are the text of a
+-- module and of no other: its layout, with parentheses round each operator and begin and end round each body, where its names are legal and its
+-- literals hold their values. (By the grammar of the reader they spell no other module either: the clause answer says that.) The module is a
+-- self-test of that memory by that march, and the bytes of REPORT are the report of the list. Some item isn't detected exactly where the
+-- status is 1. How many there are and how many are detected was said, and all other files are as before.
 pub record IsCompilation (words : Words) (files files' : Files) (said said' : Option (List ℕ)) (status : ℕ) : Type 0 where
   pub shape : HasForm compile_form words
   pub march : List MarchElement

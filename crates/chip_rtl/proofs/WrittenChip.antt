@@ -1,5 +1,6 @@
 -- The printed texts of modules that fit, and behind them that of a top that fits, spell the chip.
-use Rattle.std.proofs.Common.{◌≡◌, ℕ, Bool, true, false, List, [], ◌∷◌, ◌++◌, codes, refl, append_assoc, append-nil}
+use Rattle.std.proofs.Common.{◌≡◌, ℕ, Bool, true, false, List, [], ◌∷◌, ◌++◌, codes, refl, sym, subst, append_assoc, append-nil}
+use Rattle.std.specs.List.{list_all}
 use Rattle.verilog_tree.specs.declared.tokens.Mark.TheVariants.{Semicolon}
 use Rattle.verilog_tree.specs.Fits.{items_fit, ports_fit, fits}
 use Rattle.verilog_tree.specs.Formed.{items_formed, ports_formed}
@@ -9,11 +10,13 @@ use Rattle.verilog_tree.specs.Spells.{all_limits}
 use Rattle.verilog_tree.specs.Tokens.{Token}
 use Rattle.verilog_tree.specs.Words.{is_name}
 use Rattle.verilog_emit.specs.Printed.{items_text, printed}
+use Rattle.verilog_emit.specs.Written.{is_text_byte}
 use Rattle.verilog_emit.proofs.Derivations.{derive_items}
 use Rattle.verilog_emit.proofs.Pieces.{Spelt, grouped}
 use Rattle.verilog_emit.proofs.WrittenExpressions.{L}
 use Rattle.verilog_emit.proofs.WrittenModule.{head, head_text, head_spelt, end_spelt, nothing_spelt, Module, told_as, spelt_before}
-use Rattle.chip_rtl.specs.ChipTree.{PlacedTree, TopTree}
+use Rattle.chip_rtl.specs.ChipFile.{IsChipTextOf}
+use Rattle.chip_rtl.specs.ChipTree.{PlacedTree, TopTree, ChipTree}
 use Rattle.chip_rtl.specs.ChipGrammar.{own_items, all_placed, top, ChipTokens, ChipText}
 use Rattle.chip_rtl.proofs.Cuts.{Cut, joined, sign_cut, keyword_cut}
 use Rattle.chip_rtl.proofs.CutGrammar.{Harmless, file_body, fl}
@@ -97,6 +100,17 @@ pub chip_spelt : (ms : List P.ModuleTree) (t : TopTree) → AllFit ms → TopFit
 chip_spelt ms t f g =
     let h = units_spelt ms t (printed_top t) f (top_of_parts t.name t.ports t.items t.placed g) in
     (h.tokens, h.lexed, h.kept, h.meant)
+
+-- the text of a chip is one by the grammar, and of no other chip
+pub text_derived : (b : List ℕ) (c : ChipTree) → IsChipTextOf b c → ChipText all_limits b c
+text_derived b c h = subst (λ (x : List ℕ). ChipText all_limits x c) (sym h.2) (chip_spelt c.units c.top h.0 h.1)
+
+pub no_other_chip : (b : List ℕ) (c other : ChipTree) → IsChipTextOf b c → ChipText all_limits b other → other ≡ c
+no_other_chip b c other h k = one_text b other c k (text_derived b c h)
+
+pub text_bytes : (b : List ℕ) (c : ChipTree) → IsChipTextOf b c → list_all is_text_byte b ≡ true
+text_bytes b c h =
+    subst (λ (x : List ℕ). list_all is_text_byte x ≡ true) (sym h.2) (units_spelt c.units c.top (printed_top c.top) h.0 (top_of_parts c.top.name c.top.ports c.top.items c.top.placed h.1)).bare
 
 pub ends_chips : (t : TopTree) → TopFits t → EndsChips (printed_top t) t
 ends_chips t g us f =

@@ -1,7 +1,6 @@
 -- Trusted. What the file is that a test of several memories is written to.
 use Rattle.std.specs.Prelude.{◌≡◌, ℕ, true, List, [], ◌∷◌, map}
 use Rattle.verilog_tree.specs.Plain.{ModuleTree}
-use Rattle.verilog_tree.specs.Spells.{all_limits}
 use Rattle.verilog_tree.specs.Words.{is_name}
 use Rattle.memory_desc.specs.Descriptions.{Description}
 use Rattle.self_test.specs.SelfTest.{module_name}
@@ -9,19 +8,24 @@ use Rattle.chip_plan.specs.Groups.{FirstFit}
 use Rattle.chip_rtl.specs.ChipTree.{ChipTree}
 use Rattle.chip_rtl.specs.ChipTest.{TestUnit, ChipTest}
 use Rattle.chip_rtl.specs.ChipLaws.{AllTested, IsPlan, memories, weights, chip_of}
-use Rattle.chip_rtl.specs.Together.{Differ}
+use Rattle.chip_rtl.specs.Together.{Differ, IsChip}
 use Rattle.chip_rtl.specs.Tops.{top_ports}
-use Rattle.chip_rtl.specs.ChipGrammar.{ChipText, ChipSpells}
 use Rattle.chip_rtl.specs.PrintedTop.{printed_chip, printed_units}
-use Rattle.chip_rtl.specs.TopFits.{AllFit}
+use Rattle.chip_rtl.specs.TopFits.{TopFits, AllFit}
 
--- The bytes spell one chip and no other. Its modules are self-tests of these units, one for each in their order; it has this
--- name and the ports of their memories, and tests them within the budget, in the groups of the first fit.
+-- The bytes are the text of this chip: they are its layout, and its modules and its top fit, so that they are no other's.
+abbrev pub IsChipTextOf : List ℕ → ChipTree → Type 0
+IsChipTextOf bytes c = AllFit c.units × TopFits c.top × (bytes ≡ printed_chip c)
+
+-- The bytes are the text of one chip and of no other, which keeps its rules. Its modules are self-tests of these units, one for
+-- each in their order; it has this name and the ports of their memories, and tests them within the budget, in the groups of the
+-- first fit.
 pub record ChipFile (b name : List ℕ) (us : List TestUnit) (budget : ℕ) : Type 0 where
   pub chip : ChipTree
   pub groups : List ℕ
-  pub spelt : ChipSpells b chip
-  pub only : (other : ChipTree) → ChipText all_limits b other → other ≡ chip
+  pub text : IsChipTextOf b chip
+  pub only : (other : ChipTree) → IsChipTextOf b other → other ≡ chip
+  pub legal : IsChip chip
   pub modules : AllTested chip.units us
   pub named : chip.top.name ≡ name
   pub ports : chip.top.ports ≡ top_ports (memories us)

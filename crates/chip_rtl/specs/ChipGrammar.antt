@@ -1,12 +1,11 @@
--- Trusted. The grammar of a chip's text: modules one behind another, then a top that places them.
+-- Public. The grammar of a chip's text: modules one behind another, then a top that places them.
 use Rattle.std.specs.Prelude.{◌≡◌, ℕ, true, List, [], ◌∷◌, ◌++◌, map, codes}
 use Rattle.verilog_tree.specs.declared.tokens.Mark.TheVariants.{Open, Close, Comma, Semicolon, FullStop}
 use Rattle.verilog_tree.specs.Plain.{ModuleTree}
 use Rattle.verilog_tree.specs.Tokens.{Token, Lexed}
 use Rattle.verilog_tree.specs.Grammar.{Item, Wires, Regs, Drives, Always, Port, Limit, Parenthesised, sign, keyword, name, inside, item, items_tree, port, ports, port_tree, ports_tree, no_token}
-use Rattle.verilog_tree.specs.Spells.{Limits, all_keep, all_limits, Derives}
+use Rattle.verilog_tree.specs.Spells.{Limits, all_keep, Derives}
 use Rattle.chip_rtl.specs.ChipTree.{LinkTree, PlacedTree, TopTree, ChipTree}
-use Rattle.chip_rtl.specs.Together.{IsChip}
 
 -- a derivation of placed: the name of the module, the name that it is placed under, a link, and further ones
 pub record PlacedModule : Type 0 where
@@ -72,7 +71,3 @@ ChipTokens l (m ∷ ms) t ts = (us : List Token) × (rest : List Token) × (ts �
 -- The bytes are tokens, which keep the limits and derive the modules and the top.
 abbrev pub ChipText : Limits → List ℕ → ChipTree → Type 0
 ChipText l b c = (ts : List Token) × Lexed ts b × (all_keep l ts ≡ true) × ChipTokens l.counts c.units c.top ts
-
--- The bytes spell the chip, which keeps its rules.
-abbrev pub ChipSpells : List ℕ → ChipTree → Type 0
-ChipSpells b c = ChipText all_limits b c × IsChip c

@@ -75,6 +75,24 @@ fn a_loop(rt: HostRuntime) {
 }
 
 #[test]
+fn a_write_is_answered_by_zero(rt: HostRuntime) -> Result<(), Fail> {
+    let memory = read_memory(b"memory 2\nname wide\nwords 2\nbits 8\npause 65535\n")?;
+    let mut device = ArrayDevice::new(rt.alloc(), 2);
+    device.fit(&shape_of(&memory))?;
+    device.fill(0x7e7e);
+    let write = PortCmd {
+        en: true,
+        we: true,
+        addr: 1,
+        wdata: 0xa5,
+    };
+    assert_eq!(rt; device.cycle(&write), 0);
+    let read = PortCmd { we: false, ..write };
+    assert_eq!(rt; device.cycle(&read), 0xa5);
+    Ok(())
+}
+
+#[test]
 fn the_words_of_a_number(rt: HostRuntime) -> Result<(), Fail> {
     let memory = read_memory(b"memory 1\nname wide\nwords 2\nbits 64\n")?;
     let mut device = ArrayDevice::new(rt.alloc(), 2);

@@ -55,6 +55,23 @@ fn lines_that_are_refused(rt: HostRuntime) {
     assert!(rt; are_no_chips(&LINES));
 }
 
+// the bytes of a file's name go from ! to ~
+static BEHIND_THE_LAST_BYTE: [(&str, ChipFault); 2] = [
+    (
+        "chip 1\nunit 3 \x7f m\n",
+        ChipFault::Unexpected { line: 2, byte: 7 },
+    ),
+    (
+        "chip 1\nunit 3 ~\x7f m\n",
+        ChipFault::Unexpected { line: 2, byte: 8 },
+    ),
+];
+
+#[test]
+fn file_names_that_are_refused(rt: HostRuntime) {
+    assert!(rt; are_no_chips(&BEHIND_THE_LAST_BYTE));
+}
+
 static CHIPS: [(&str, ChipFault); 15] = [
     ("chip 1\nname c\nchip 2\n", ChipFault::Repeated { line: 3 }),
     (
@@ -139,14 +156,14 @@ fn are_units(units: &[ChipUnit]) -> bool {
         [first, second, third] => {
             is_unit(first, 3, "c.m", "m16")
                 && is_unit(second, 3, "c.m", "../a=\"b\"")
-                && is_unit(third, 2, "mats.m", "t2")
+                && is_unit(third, 2, "!mats~", "~t2!")
         }
         _ => false,
     }
 }
 
 static CHIP: &str =
-    "# a chip\n chip\t1\r\nunit 3 c.m m16# shared\n\nbudget 5\nunit 000003 c.m  ../a=\"b\" \nname ram_bist\nunit 2 mats.m t2";
+    "# a chip\n chip\t1\r\nunit 3 c.m m16# shared\n\nbudget 5\nunit 000003 c.m  ../a=\"b\" \nname ram_bist\nunit 2 !mats~ ~t2!";
 
 #[test]
 fn a_chip_is_read(rt: HostRuntime) {

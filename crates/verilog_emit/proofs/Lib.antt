@@ -3,7 +3,6 @@ pub mod Derivations
 pub mod OneTree
 pub mod Numerals
 pub mod Pieces
-pub mod TreeTexts
 pub mod WrittenExpressions
 pub mod WrittenStatements
 pub mod WrittenModule

@@ -8,7 +8,6 @@ use Rattle.std.proofs.lemmas.Bool.Decides.{nat_tests}
 use Rattle.std.proofs.lemmas.Fmt.{decimal_digit, decimal_step}
 use Rattle.bist_bits.specs.Vector.{Vector}
 use Rattle.bist_text.specs.Grammar.{when}
-use Rattle.bist_text.proofs.Pieces.{at_byte}
 use Rattle.bist_text.specs.Numbers.{hex_digits}
 use Rattle.verilog_tree.specs.declared.tokens.Base.TheVariants.{Hexadecimal}
 use Rattle.verilog_tree.specs.Formed.{is_width, is_place, is_literal}
@@ -17,7 +16,7 @@ use Rattle.verilog_tree.specs.Tokens as T
 use Rattle.bist_text.specs.Identifiers.{is_digit, begins_identifier, in_identifier}
 use Rattle.verilog_tree.specs.Words.{is_digit_of, digit_value}
 use Rattle.verilog_emit.specs.Printed.{literal_text}
-use Rattle.verilog_emit.specs.Written.{is_no_slash}
+use Rattle.verilog_emit.specs.Written.{is_text_byte}
 use Rattle.bist_text.proofs.Powers.{word_digits}
 use Rattle.verilog_emit.proofs.Pieces.{Spelt, both, refused, no_letter, is_apart, grouped}
 
@@ -100,24 +99,24 @@ first_digit n l = go (nat_le 10 n) refl
         let tens : n / 10 < 10 = omega arith in
         (48 + n / 10, (48 + n % 10) ∷ [], decimal_step n large (omega arith) ∙ ap (λ (x : List ℕ). x ++ ((48 + n % 10) ∷ [])) (decimal_digit (n / 10) tens), (digit (n / 10) tens).1)
 
-one_bare : (c : ℕ) (r : List ℕ) → is_no_slash c ≡ true → list_all is_no_slash r ≡ true → list_all is_no_slash (c ∷ r) ≡ true
+one_bare : (c : ℕ) (r : List ℕ) → is_text_byte c ≡ true → list_all is_text_byte r ≡ true → list_all is_text_byte (c ∷ r) ≡ true
 one_bare c r e h = rw e h
 
-digit_bare : (c : ℕ) → is_digit c ≡ true → is_no_slash c ≡ true
-digit_bare c e = at_byte (λ x. is_digit x ≡ true → is_no_slash x ≡ true) c 47 (λ h. cc) (λ n h. rw n refl) e
+digit_bare : (c : ℕ) → is_digit c ≡ true → is_text_byte c ≡ true
+digit_bare c e = grind (arith, nat_tests)
 
-digits_bare : (n : ℕ) (r : List ℕ) → n < 100 → list_all is_no_slash r ≡ true → list_all is_no_slash (decimal n ++ r) ≡ true
+digits_bare : (n : ℕ) (r : List ℕ) → n < 100 → list_all is_text_byte r ≡ true → list_all is_text_byte (decimal n ++ r) ≡ true
 digits_bare n r l h = go (nat_le 10 n) refl
   where
-    go : (b : Bool) → nat_le 10 n ≡ b → list_all is_no_slash (decimal n ++ r) ≡ true
+    go : (b : Bool) → nat_le 10 n ≡ b → list_all is_text_byte (decimal n ++ r) ≡ true
     go false f =
         let small : n < 10 = grind arith in
-        subst (λ (x : List ℕ). list_all is_no_slash (x ++ r) ≡ true) (sym (decimal_digit n small)) (one_bare (48 + n) r (digit_bare (48 + n) (digit n small).1) h)
+        subst (λ (x : List ℕ). list_all is_text_byte (x ++ r) ≡ true) (sym (decimal_digit n small)) (one_bare (48 + n) r (digit_bare (48 + n) (digit n small).1) h)
     go true f =
         let large : 10 ≤ n = leb-true 10 n f in
         let tens : n / 10 < 10 = omega arith in
         let text : decimal n ≡ (48 + n / 10) ∷ (48 + n % 10) ∷ [] = decimal_step n large (omega arith) ∙ ap (λ (x : List ℕ). x ++ ((48 + n % 10) ∷ [])) (decimal_digit (n / 10) tens) in
-        subst (λ (x : List ℕ). list_all is_no_slash (x ++ r) ≡ true) (sym text)
+        subst (λ (x : List ℕ). list_all is_text_byte (x ++ r) ≡ true) (sym text)
         (one_bare (48 + n / 10) ((48 + n % 10) ∷ r) (digit_bare (48 + n / 10) (digit (n / 10) tens).1)
         (one_bare (48 + n % 10) r (digit_bare (48 + n % 10) (digit (n % 10) (omega arith)).1) h))
 
@@ -200,14 +199,17 @@ not_asked : (K : List ℕ → Type 0) (r : List ℕ) → is_apart r ≡ true →
 not_asked K [] p h = h
 not_asked K (c ∷ r) p h = subst (λ t. T.whether t ⊥ (K (c ∷ r))) (sym (refused (c == 63) (both (not (in_identifier c) && not (c == 39)) (not (c == 63)) p).1)) h
 
-glyph_bare : (d : ℕ) → d < 16 → is_no_slash (digit_glyph false d) ≡ true
-glyph_bare d l = at_byte (λ x. is_digit_of Hexadecimal x ≡ true → is_no_slash x ≡ true) (digit_glyph false d) 47 (λ h. cc) (λ n h. rw n refl) (hex_digit d l).0
+glyph_bare : (d : ℕ) → d < 16 → is_text_byte (digit_glyph false d) ≡ true
+glyph_bare d l = of_hex (digit_glyph false d) (hex_digit d l).0
+  where
+    of_hex : (c : ℕ) → is_digit_of Hexadecimal c ≡ true → is_text_byte c ≡ true
+    of_hex c e = grind (arith, nat_tests)
 
-hex_bare : (n value : ℕ) (r : List ℕ) → list_all is_no_slash r ≡ true → list_all is_no_slash (hex_digits n value ++ r) ≡ true
+hex_bare : (n value : ℕ) (r : List ℕ) → list_all is_text_byte r ≡ true → list_all is_text_byte (hex_digits n value ++ r) ≡ true
 hex_bare zero value r h = h
 hex_bare (suc n) value r h =
     let g : ℕ = digit_glyph false (value % 16) in
-    subst (λ (x : List ℕ). list_all is_no_slash x ≡ true) (sym (append_assoc (hex_digits n (value / 16)) (g ∷ []) r))
+    subst (λ (x : List ℕ). list_all is_text_byte x ≡ true) (sym (append_assoc (hex_digits n (value / 16)) (g ∷ []) r))
     (hex_bare n (value / 16) (g ∷ r) (one_bare g r (glyph_bare (value % 16) (omega arith)) h))
 
 -- ---- literals

@@ -3,10 +3,10 @@ use Rattle.std.proofs.Common.{◌≡◌, ℕ, zero, suc, ◌+◌, ◌-◌, ◌==
 use Rattle.std.specs.List.{list_all}
 use Rattle.std.specs.Str.{bytes_eq}
 use Rattle.std.proofs.lemmas.Bool.{lt-ltb}
+use Rattle.std.proofs.lemmas.Bool.Decides.{nat_tests}
 use Rattle.std.proofs.lemmas.Slice.Eq.{bytes_eq-Decides}
 use Rattle.bist_text.specs.Grammar.{when}
 use Rattle.bist_text.specs.Machine.{Holds}
-use Rattle.bist_text.proofs.Pieces.{at_byte}
 use Rattle.bist_text.specs.ReservedWords.{is_among, reserved_words}
 use Rattle.verilog_tree.specs.declared.tokens.Mark.{Mark}
 use Rattle.verilog_tree.specs.declared.tokens.Mark.TheVariants.{LessEquals, TwoEquals, BangEquals, GreaterEquals, TwoAmpersands, TwoBars, TwoLess, TwoGreater}
@@ -16,14 +16,14 @@ use Rattle.verilog_tree.specs.Tokens.{Token, Identifier, Sign, run, whether, Sta
 use Rattle.bist_text.specs.Identifiers.{begins_identifier, in_identifier, is_identifier}
 use Rattle.verilog_tree.specs.Words.{is_name}
 use Rattle.verilog_emit.specs.Printed.{margin}
-use Rattle.verilog_emit.specs.Written.{is_no_slash}
+use Rattle.verilog_emit.specs.Written.{is_text_byte}
 
--- the bytes are tokens within the limits and no comments, and K holds of the tokens
+-- the bytes are those of a text and tokens within the limits, and K holds of the tokens
 pub record Spelt (K : List Token → Type 0) (b : List ℕ) : Type 0 where
   pub tokens : List Token
   pub lexed : Lexed tokens b
   pub kept : all_keep all_limits tokens ≡ true
-  pub bare : list_all is_no_slash b ≡ true
+  pub bare : list_all is_text_byte b ≡ true
   pub meant : K tokens
 
 pub both : (a b : Bool) → (a && b) ≡ true → (a ≡ true) × (b ≡ true)
@@ -86,7 +86,7 @@ lexed_mark m us r a h = inl (mark_on m (Lexed us) r a h)
 same_bytes : (w : List ℕ) → bytes_eq w w ≡ true
 same_bytes w = (bytes_eq-Decides w w).1 refl
 
-mark_bare : (m : Mark) (r : List ℕ) → list_all is_no_slash r ≡ true → list_all is_no_slash (mark_text m ++ r) ≡ true
+mark_bare : (m : Mark) (r : List ℕ) → list_all is_text_byte r ≡ true → list_all is_text_byte (mark_text m ++ r) ≡ true
 mark_bare LessEquals r h = h
 mark_bare m r h = h
 
@@ -119,16 +119,16 @@ lexed_word : (w : List ℕ) (us : List Token) (r : List ℕ) → is_identifier w
 lexed_word [] us r i p h = cc
 lexed_word (c ∷ w) us r i p h = let q : (begins_identifier c ≡ true) × (list_all in_identifier w ≡ true) = both (begins_identifier c) (list_all in_identifier w) i in inl (subst (λ (s : Start). begun s c (Identifier (c ∷ w)) (Lexed us) (w ++ r)) (sym (word_start c q.0)) (run_on w (c ∷ []) (λ v b. (v ≡ c ∷ w) × Lexed us b) r q.1 p (refl, h)))
 
-no_slash_in_words : (c : ℕ) → in_identifier c ≡ true → is_no_slash c ≡ true
-no_slash_in_words c e = at_byte (λ x. in_identifier x ≡ true → is_no_slash x ≡ true) c 47 (λ h. cc) (λ n h. rw n refl) e
+bare_in_words : (c : ℕ) → in_identifier c ≡ true → is_text_byte c ≡ true
+bare_in_words c e = grind (arith, nat_tests)
 
-rest_bare : (w r : List ℕ) → list_all in_identifier w ≡ true → list_all is_no_slash r ≡ true → list_all is_no_slash (w ++ r) ≡ true
+rest_bare : (w r : List ℕ) → list_all in_identifier w ≡ true → list_all is_text_byte r ≡ true → list_all is_text_byte (w ++ r) ≡ true
 rest_bare [] r a h = h
-rest_bare (c ∷ w) r a h = let q = both (in_identifier c) (list_all in_identifier w) a in rw (no_slash_in_words c q.0) (rest_bare w r q.1 h)
+rest_bare (c ∷ w) r a h = let q = both (in_identifier c) (list_all in_identifier w) a in rw (bare_in_words c q.0) (rest_bare w r q.1 h)
 
-word_bare : (w r : List ℕ) → is_identifier w ≡ true → list_all is_no_slash r ≡ true → list_all is_no_slash (w ++ r) ≡ true
+word_bare : (w r : List ℕ) → is_identifier w ≡ true → list_all is_text_byte r ≡ true → list_all is_text_byte (w ++ r) ≡ true
 word_bare [] r i h = cc
-word_bare (c ∷ w) r i h = let q = both (begins_identifier c) (list_all in_identifier w) i in rw (no_slash_in_words c (rw q.0 refl)) (rest_bare w r q.1 h)
+word_bare (c ∷ w) r i h = let q = both (begins_identifier c) (list_all in_identifier w) i in rw (bare_in_words c (rw q.0 refl)) (rest_bare w r q.1 h)
 
 -- a reserved word: none has more than 64 bytes
 pub reserved : (w : List ℕ) (K : List Token → Type 0) (r : List ℕ) → (is_identifier w && nat_le (length w) 64) ≡ true → is_apart r ≡ true → Spelt K r → Spelt (keyword w K) (w ++ r)

@@ -1,8 +1,9 @@
--- What is printed of a module that fits spells it, and is its text.
-use Rattle.std.proofs.Common.{◌≡◌, ℕ, ◌-◌, ◌≤◌, ◌&&◌, nat_lt, nat_le, Bool, true, false, List, [], ◌∷◌, ◌++◌, Some, None, refl, sym, append_assoc, append-nil, codes, arith, if◌then◌else◌}
+-- What is printed of a module that fits spells it, and of which bytes it is.
+use Rattle.std.proofs.Common.{◌≡◌, ◌==◌, ◌||◌, ℕ, ◌-◌, ◌≤◌, ◌&&◌, nat_lt, nat_le, Bool, true, false, List, [], ◌∷◌, ◌++◌, Some, None, refl, sym, subst, append_assoc, append-nil, codes, arith, if◌then◌else◌}
 use Rattle.std.specs.Prelude.{decimal}
 use Rattle.std.specs.List.{list_all}
 use Rattle.std.proofs.lemmas.Bool.{leb-true, le-leb}
+use Rattle.std.proofs.lemmas.Bool.Decides.{nat_tests}
 use Rattle.verilog_tree.specs.declared.tokens.Mark.TheVariants.{Open, Close, OpenBracket, CloseBracket, Comma, Semicolon, Colon, At, Equals}
 use Rattle.verilog_tree.specs.declared.tree.Dir.TheVariants.{Input, Output, OutputReg}
 use Rattle.verilog_tree.specs.declared.tree.Dir.{Dir}
@@ -11,15 +12,14 @@ use Rattle.verilog_tree.specs.Formed.{is_width, item_formed, items_formed, ports
 use Rattle.verilog_tree.specs.Grammar.{sign, keyword, name, number, zero_number, range, item, items, direction, port, ports, no_token, module_of, inside, stmt, Parenthesised, BeginEnd, File, file_tree}
 use Rattle.verilog_tree.specs.Parenthesised.{expr}
 use Rattle.verilog_tree.specs.Plain as P
-use Rattle.verilog_tree.specs.Spells.{all_limits, keeps, all_keep, Spells}
-use Rattle.verilog_tree.specs.Tokens.{Token, Identifier, Number, Based, Unused, Sign}
+use Rattle.verilog_tree.specs.Spells.{Spells}
+use Rattle.verilog_tree.specs.Tokens.{Token, is_space}
 use Rattle.verilog_tree.specs.Words.{is_name}
 use Rattle.verilog_emit.specs.Printed.{expression_text, statements_text, range_text, direction_text, port_text, ports_text, comma, item_text, items_text, printed}
 use Rattle.verilog_emit.proofs.Derivations.{derive, derive_stmts, derive_range, derive_item, derive_items, derive_port, derive_ports, derive_file, same_file}
 use Rattle.verilog_emit.proofs.Numerals.{numbered, zeroed}
 use Rattle.verilog_emit.proofs.Pieces.{Spelt, both, grouped, blank, line_feed, is_apart, mark, reserved, named, opened}
-use Rattle.verilog_emit.specs.Written.{module_tokens, IsTextOf, is_sized}
-use Rattle.verilog_emit.proofs.TreeTexts.{module_alike}
+use Rattle.verilog_emit.specs.Written.{IsTextOf, is_text_byte}
 use Rattle.verilog_emit.proofs.WrittenExpressions.{L, plain, expression_spelt}
 use Rattle.verilog_emit.proofs.WrittenStatements.{block, ended, statements_spelt}
 
@@ -231,11 +231,7 @@ told_as K J b f h = record { tokens = h.tokens; lexed = h.lexed; kept = h.kept; 
 abbrev pub Module : P.ModuleTree → (List Token → Type 0) → List Token → Type 0
 Module mo K ts = (f : File) × module_of Parenthesised L f K ts × (file_tree f ≡ mo)
 
--- the same, told by a derivation and by the tree
-abbrev pub Told : P.ModuleTree → (List Token → Type 0) → List Token → Type 0
-Told mo K ts = Module mo K ts × module_tokens mo K ts
-
-spelt : (n : List ℕ) (ps : List P.ModulePort) (is : List P.ModuleItem) (K : List Token → Type 0) (r : List ℕ) → fits (record { name = n; ports = ps; items = is }) ≡ true → Spelt K r → Spelt (Told (record { name = n; ports = ps; items = is }) K) (printed (record { name = n; ports = ps; items = is }) ++ r)
+spelt : (n : List ℕ) (ps : List P.ModulePort) (is : List P.ModuleItem) (K : List Token → Type 0) (r : List ℕ) → fits (record { name = n; ports = ps; items = is }) ≡ true → Spelt K r → Spelt (Module (record { name = n; ports = ps; items = is }) K) (printed (record { name = n; ports = ps; items = is }) ++ r)
 spelt n [] is K r f h = absurd (no_ports (items_formed is) (is_name n) (items_fit 64 is) f)
   where
     no_ports : (a b c : Bool) → (false && true && a && b && true && c) ≡ true → ⊥
@@ -247,36 +243,25 @@ spelt n (p ∷ ps) is K r f h =
     let f0 : (ports_formed (p ∷ ps) ≡ true) × (items_formed is ≡ true) = both (ports_formed (p ∷ ps)) (items_formed is) f1.0 in
     let m : P.ModuleTree = record { name = n; ports = p ∷ ps; items = is } in
     let same : file_tree (derive_file n p ps is) ≡ m = same_file n p ps is f0.0 f0.1 in
-    told_as (module_of Parenthesised L (derive_file n p ps is) K) (Told m K) (printed m ++ r)
-    (λ ts k. ((derive_file n p ps is, k, same), (module_alike L n p ps is).written same K K (λ us x. x) ts k))
+    told_as (module_of Parenthesised L (derive_file n p ps is) K) (Module m K) (printed m ++ r)
+    (λ ts k. (derive_file n p ps is, k, same))
     (module_spelt n p ps is K r f1.1 f0.0 f2.1 f0.1 f3.1 h)
 
 -- what is printed of a module that fits spells it, before anything
 pub spelt_before : (mo : P.ModuleTree) (K : List Token → Type 0) (r : List ℕ) → fits mo ≡ true → Spelt K r → Spelt (Module mo K) (printed mo ++ r)
-spelt_before mo K r f h = told_as (Told mo K) (Module mo K) (printed mo ++ r) (λ ts k. k.0) (spelt mo.name mo.ports mo.items K r f h)
+spelt_before mo K r f h = spelt mo.name mo.ports mo.items K r f h
+
+alone_spelt : (mo : P.ModuleTree) → fits mo ≡ true → Spelt (Module mo no_token) (printed mo)
+alone_spelt mo f = grouped (Module mo no_token) (printed mo) (printed mo ++ []) (sym (append-nil (printed mo))) (spelt_before mo no_token [] f nothing_spelt)
 
 -- what is printed of a module that fits spells it
 pub printed_spells : (mo : P.ModuleTree) → fits mo ≡ true → Spells (printed mo) mo
-printed_spells mo f =
-    let h = grouped (Module mo no_token) (printed mo) (printed mo ++ []) (sym (append-nil (printed mo))) (spelt_before mo no_token [] f nothing_spelt) in
-    (h.tokens, h.lexed, h.kept, h.meant)
+printed_spells mo f = let h = alone_spelt mo f in (h.tokens, h.lexed, h.kept, h.meant)
 
--- tokens within the limits have their sizes
-all_sized : (ts : List Token) → all_keep all_limits ts ≡ true → list_all is_sized ts ≡ true
-all_sized [] h = refl
-all_sized (t ∷ ts) h = let g = both (keeps all_limits t) (all_keep all_limits ts) h in rw (sized t g.0) (all_sized ts g.1)
-  where
-    sized : (t : Token) → keeps all_limits t ≡ true → is_sized t ≡ true
-    sized (Identifier w) h = h
-    sized (Number long n) h = h
-    sized (Based x) h = h
-    sized Unused h = refl
-    sized (Sign m) h = refl
+-- of white space a text has blanks and line feeds alone
+pub text_spaces : (c : ℕ) → is_text_byte c ≡ true → is_space c ≡ true → ((c == 32) || (c == 10)) ≡ true
+text_spaces c e f = grind (arith, nat_tests)
 
--- what is printed of a module that fits is its text
-pub printed_text : (mo : P.ModuleTree) → fits mo ≡ true → IsTextOf (printed mo) mo
-printed_text mo f =
-    let J : List Token → Type 0 = λ rest. rest ≡ [] in
-    let e : Spelt J [] = record { tokens = []; lexed = tt; kept = refl; bare = refl; meant = refl } in
-    let h = grouped (Told mo J) (printed mo) (printed mo ++ []) (sym (append-nil (printed mo))) (spelt mo.name mo.ports mo.items J [] f e) in
-    (h.tokens, h.bare, h.lexed, all_sized h.tokens h.kept, h.meant.1)
+-- each byte of a text is one that can stand there
+pub text_bytes : (b : List ℕ) (mo : P.ModuleTree) → IsTextOf b mo → list_all is_text_byte b ≡ true
+text_bytes b mo h = subst (λ (x : List ℕ). list_all is_text_byte x ≡ true) (sym h.1) (alone_spelt mo h.0).bare

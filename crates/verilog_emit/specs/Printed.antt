@@ -1,4 +1,4 @@
--- Public. The layout of a module's text. Every line ends with a line feed, and each depth is two blanks.
+-- Trusted. The layout of a module's text. Every line ends with a line feed, and each depth is two blanks.
 use Rattle.std.specs.Prelude.{ℕ, zero, suc, ◌+◌, ◌-◌, Bool, true, false, nat_lt, if◌then◌else◌, List, [], ◌∷◌, ◌++◌, codes, decimal}
 use Rattle.bist_bits.specs.Vector.{Vector}
 use Rattle.bist_text.specs.Numbers.{word_text}

@@ -35,7 +35,7 @@ fn put_module(out: &mut Vec<u8>, module: &Module) -> Result<(), NoMemory>
     put_line(out, 0, b"endmodule")
 }
 
-/// The text of a module that fits: the bytes are its layout, they spell it and no other, and are a text of it and of no other.
+/// The text of a module that fits: the bytes are its layout, they spell it and no other, and are the text of it and of no other.
 pub fn emit(alloc: Global, module: &Module) -> Result<Vec<u8>, NoMemory>
     requires { fits (plain_module «module».now) ≡ true }
     ensures form { IfOk result (λ out. out.items ≡ printed (plain_module «module».now)) }

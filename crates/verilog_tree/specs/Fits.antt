@@ -1,4 +1,4 @@
--- Public. Which modules can be written as text.
+-- Trusted. Which modules can be written as text.
 use Rattle.std.specs.Prelude.{ℕ, ◌-◌, Bool, true, nat_lt, ◌&&◌, List, [], ◌∷◌}
 use Rattle.verilog_tree.specs.Plain.{Expression, Net, BitSelect, PartSelect, Literal, Concatenation, Prefixed, Infixed, Conditional, Expressions, NoMore, Followed, Statement, SetTo, IfElse, CaseOf, Statements, Done, Then, Arms, NoArm, ArmOf, ModuleItem, WireItem, RegItem, AssignItem, AlwaysItem, ModulePort, ModuleTree}
 use Rattle.verilog_tree.specs.Words.{is_name}

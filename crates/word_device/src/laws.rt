@@ -1,3 +1,6 @@
+ghost use Rattle.memory_desc.specs.Descriptions.{Description, IsMemory};
+ghost use Rattle.word_device.specs.declared.shape.Shape.{Shape};
+ghost use Rattle.word_device.specs.Boxes.{IsShape};
 ghost use Rattle.word_device.specs.Runs.{Closes, FailsPlanted, FailsAlone, FailsFresh, PassesPlain, PassesAlone};
 ghost use Rattle.word_device.specs.Joint.{JointFails, JointPasses, JointEnds, SameWords, SameFirst};
 
@@ -55,4 +58,9 @@ pub fn first_differs(march: &March, memory: &Memory)
     ensures words { SameWords march.now memory.now }
     ensures ends { JointEnds march.now memory.now }
     ensures first { SameFirst march.now memory.now }
+{}
+
+/// The pauses that shapes have are those that memories have: a memory with the pause of any shape is one.
+pub fn pauses_are_those_of_memories()
+    ensures { (shape : Shape) (memory : Description) → IsShape shape → IsMemory memory → IsMemory (record memory { pause = shape.pause }) }
 {}

@@ -24,8 +24,8 @@ pub use constant::ConstDevice;
 pub use counting::CountDevice;
 pub use device::{Device, DeviceFault, Place, Planted, PortCmd};
 pub use laws::{
-    closing, first_differs, freshly_planted_fails, joint_fails, joint_passes, planted_fails,
-    unplanted_passes,
+    closing, first_differs, freshly_planted_fails, joint_fails, joint_passes,
+    pauses_are_those_of_memories, planted_fails, unplanted_passes,
 };
 pub use no_fit::NoFitDevice;
 pub use shape::{Shape, shape_of};

@@ -18,4 +18,4 @@ end_chip-requires-clause-planned c =
 pub returns : goal.returns
 returns c =
     makes_file c.args.chip.now c.args.table.now c.args.groups.now c.in_ok-text.text.items c.end_chip.new.out.items c.name.result.now c.deref.result.now
-    c.name.ensures.value c.deref.ensures.value c.in_ok-text.ensures c.in_ok-end_chip.ensures
+    c.name.ensures.value c.deref.ensures.value c.in_ok-text.ensures c.in_ok-end_chip.ensures.ok

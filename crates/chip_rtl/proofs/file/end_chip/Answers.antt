@@ -13,8 +13,8 @@ pub emit_top-requires : goal.emit_top-requires
 emit_top-requires c =
     planned_top c.args.memories.now c.args.groups.now c.args.name.now (plain_top c.in_ok-top.top) c.requires.planned c.requires.named c.in_ok-top.ensures.top
 
-pub returns : goal.returns
-returns c =
+pub returns-clause-ok : goal.returns-clause-ok
+returns-clause-ok c =
     where_ok c.put.result
     (file_ended c.args.out.now.items c.put.new.out.items c.args.name.now c.args.groups.now c.args.memories.now (plain_top c.in_ok-top.top) c.deref.result.now
     c.requires.named c.in_ok-top.ensures.top (c.deref.ensures.value ∙ c.in_ok-text.ensures.form))
