@@ -1,14 +1,17 @@
 pub mod Built
 pub mod Choice
+pub mod Clear
 pub mod Counter
 pub mod Declared
 pub mod Forms
 pub mod History
 pub mod Joined
 pub mod Legal
+pub mod Numbers
 pub mod Outputs
 pub mod Ranked
 pub mod Resets
+pub mod Sets
 pub mod Stages
 pub mod Step
 pub mod Tabled

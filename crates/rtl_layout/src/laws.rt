@@ -11,6 +11,7 @@ ghost use Rattle.rtl_layout.specs.Plan.{Plan};
 ghost use Rattle.rtl_layout.specs.Build.{pick, leaf};
 ghost use Rattle.rtl_layout.specs.Layout.{self_test};
 ghost use Rattle.rtl_layout.specs.Shows.{Ready, Sized, AnswersAlways};
+ghost use Rattle.rtl_layout.specs.Numbers.{NumbersAlways};
 
 /// A choice among leaves gives the leaf whose number the name holds.
 pub fn choice_gives_its_leaf()
@@ -28,4 +29,9 @@ pub fn module_breaks_no_rule()
 /// In every history after a reset the ports answer for the controller.
 pub fn module_is_a_controller()
     ensures { (p : Plan) → Ready p → AnswersAlways p }
+{}
+
+/// In the open run after a reset each output has a number, where `rdata` has one whenever it is compared.
+pub fn open_run_shows_numbers()
+    ensures { (p : Plan) → Ready p → Sized p → NumbersAlways p }
 {}

@@ -1,5 +1,7 @@
--- What the block of the generator's module sets: after the reset each clear register has a number, and keeps one.
-use Rattle.std.proofs.Common.{◌≡◌, ℕ, zero, suc, Bool, true, false, cond, nat_lt, ◌/◌, List, [], ◌∷◌, ◌++◌, Option, Some, refl, sym, ap, ◌∙◌, subst, inl, inr, ◌⊎◌, append-nil}
+-- What the block of the module sets in an open cycle: after the reset each clear register has a number, and keeps one.
+use Rattle.std.proofs.lemmas.Slice.Eq.{bytes_eq-Decides}
+use Rattle.std.specs.Str.{bytes_eq}
+use Rattle.std.proofs.Common.{arith, ◌≡◌, ℕ, zero, suc, Bool, true, false, cond, nat_lt, ◌/◌, List, [], ◌∷◌, ◌++◌, Option, Some, refl, sym, ap, ◌∙◌, subst, inl, inr, ◌⊎◌, append-nil}
 use Rattle.verilog_tree.specs.declared.names.Kind.TheVariants as K
 use Rattle.verilog_tree.specs.declared.tree.BinOp.TheVariants as B
 use Rattle.verilog_tree.specs.Plain.{Expression, Net, Literal, Infixed, Conditional, Statement, SetTo, IfElse, CaseOf, statements, ModuleItem}
@@ -14,7 +16,8 @@ use Rattle.rtl_layout.specs.Plan.{Plan, several}
 use Rattle.rtl_layout.specs.Shows.{Ready}
 use Rattle.rtl_layout.specs.Layout as L
 use Rattle.rtl_layout.proofs.Ranked.{Under, word_under}
-use Rattle.generated_check.proofs.Clear.{clear, taint, uses_clear, not_true}
+use Rattle.rtl_layout.proofs.Stages.{Ageless, later}
+use Rattle.rtl_layout.proofs.Clear.{clear, taint, uses_clear, not_true}
 
 -- ---- statements that set clear names by clear names, and to a literal at the reset
 
@@ -105,9 +108,12 @@ value_low zero = refl
 value_low (suc i) = refl
 
 module _ (p : Plan) (ready : Ready p) where
+  want_under : Under taint 1 (L.want_next p)
+  want_under = (refl, tt, word_under p ready taint 1 (L.back_at (several p) p.delay) (L.value_at p.delay) (back_low (several p) p.delay) (value_low p.delay))
+
   ends_pure : PureSets (L.end_sets p)
   ends_pure = (
-    (λ c. ((refl, tt, word_under p ready taint 1 (L.back_at (several p) p.delay) (L.value_at p.delay) (back_low (several p) p.delay) (value_low p.delay)), refl)),
+    (λ c. not_true c),
     (
       (λ c. not_true c),
       tt,
@@ -282,3 +288,51 @@ module _ (p : Plan) (ready : Ready p) (o : OpenEnv) where
   pub registers_kept : AreKnown clear o → RegistersKnown (L.self_test p) clear (open_next (L.self_test p) o)
   registers_kept all n d q k c =
       subst Known (sym (next_is p o n)) (known_last n (open_sets (w p) o (statements (L.sets_all p))) (o n) (sets_known (w p) o all n c (L.sets_all p) (all_pure p ready)) (all n c))
+
+  -- ---- the ends, which aren't clear
+
+  -- each of these statements that sets the name sets it to a number
+  abbrev SetsNumber : List ℕ → List Statement → Type 0
+  SetsNumber n [] = Unit {0}
+  SetsNumber n (SetTo k x ∷ ss) = (bytes_eq n k ≡ true → Known (open_value (w p) o x)) × SetsNumber n ss
+  SetsNumber n (IfElse c a b ∷ ss) = ⊥
+  SetsNumber n (CaseOf x as' d ∷ ss) = ⊥
+
+  numbers_set : (n : List ℕ) (ss : List Statement) → SetsNumber n ss → SetsKnown n (open_sets (w p) o (statements ss))
+  numbers_set n [] h = tt
+  numbers_set n (SetTo k x ∷ ss) h = ((λ e. h.0 ((bytes_eq-Decides n k).1 e)), numbers_set n ss h.1)
+  numbers_set n (IfElse c a b ∷ ss) h = absurd h
+  numbers_set n (CaseOf x as' d ∷ ss) h = absurd h
+
+  unlike : {P : Type 0} (t : Bool) → t ≡ false → t ≡ true → P
+  unlike t f h = cc
+
+  -- the ages set no name but theirs
+  ages_set_none : (n : List ℕ) (many : Bool) (k i m : ℕ) → Ageless i n → (ss : List Statement) → SetsNumber n ss → SetsNumber n (L.stage_sets many k i m ++ ss)
+  ages_set_none n many k i zero f ss h = ((λ c. unlike _ (f.no_reads i (omega arith)) c), ((λ c. unlike _ (f.no_over i (omega arith)) c), h))
+  ages_set_none n true k i (suc m) f ss h =
+      ((λ c. unlike _ (f.no_reads i (omega arith)) c), ((λ c. unlike _ (f.no_over i (omega arith)) c), ((λ c. unlike _ (f.no_value i (omega arith)) c), ((λ c. unlike _ (f.no_back i (omega arith)) c), ages_set_none n true k (suc i) m (later i n f) ss h))))
+  ages_set_none n false k i (suc m) f ss h =
+      ((λ c. unlike _ (f.no_reads i (omega arith)) c), ((λ c. unlike _ (f.no_over i (omega arith)) c), ((λ c. unlike _ (f.no_value i (omega arith)) c), ages_set_none n false k (suc i) m (later i n f) ss h)))
+
+  -- a name that is set, and to numbers alone, has a number behind the edge
+  set_to_number : (n : List ℕ) → SetsNumber n (L.sets_all p) → IsSet n (L.sets_all p) → Known (open_next (L.self_test p) o n)
+  set_to_number n h s =
+      subst Known (sym (next_is p o n)) (known_given n (open_sets (w p) o (statements (L.sets_all p))) (o n) (numbers_set n (L.sets_all p) h) (set_given (w p) o n (L.sets_all p) (all_pure p ready) s))
+
+  -- what stands behind the digits
+  abbrev Behind : List Statement
+  Behind = L.stage_sets (several p) p.back_width 0 p.delay ++ L.end_sets p
+
+  pub want_kept : AreKnown clear o → Known (open_next (L.self_test p) o L.want)
+  want_kept all =
+      let value = known_value (w p) o (L.want_next p) (λ m u. all m (uses_clear (L.want_next p) m (want_under p ready) u)) in
+      let behind = ages_set_none L.want (several p) p.back_width 0 p.delay (record { no_reads = λ j l. refl; no_over = λ j l. refl; no_value = λ j l. refl; no_back = λ j l. refl }) (L.end_sets p) ((λ c. value), ((λ c. not_true c), tt)) in
+      set_to_number L.want ((λ c. not_true c), ((λ c. not_true c), ((λ c. not_true c), ((λ c. not_true c), ((λ c. not_true c), behind)))))
+      (behind_digits p L.want (set_behind L.want (L.stage_sets (several p) p.back_width 0 p.delay) (L.end_sets p) (inl refl)))
+
+  pub bad_set : Known (open_value (w p) o (L.bad_next p)) → Known (open_next (L.self_test p) o L.bad)
+  bad_set value =
+      let behind = ages_set_none L.bad (several p) p.back_width 0 p.delay (record { no_reads = λ j l. refl; no_over = λ j l. refl; no_value = λ j l. refl; no_back = λ j l. refl }) (L.end_sets p) ((λ c. not_true c), ((λ c. value), tt)) in
+      set_to_number L.bad ((λ c. not_true c), ((λ c. not_true c), ((λ c. not_true c), ((λ c. not_true c), ((λ c. not_true c), behind)))))
+      (behind_digits p L.bad (set_behind L.bad (L.stage_sets (several p) p.back_width 0 p.delay) (L.end_sets p) (inr (inl refl))))

@@ -1,4 +1,4 @@
--- Names of the generator's module to which nothing leads that is left open: all but those to which the returned word leads.
+-- Names of the module to which nothing leads that is left open: all but `want`, which no reset sets, and those to which the returned word leads.
 use Rattle.std.proofs.Common.{◌≡◌, ℕ, zero, suc, ◌-◌, ◌<◌, Bool, true, false, cond, not, ◌||◌, List, [], ◌∷◌, ◌++◌, length, refl, sym, subst, arith, inl, inr}
 use Rattle.std.specs.Str.{bytes_eq}
 use Rattle.verilog_tree.specs.declared.names.Kind.TheVariants as K
@@ -12,11 +12,11 @@ use Rattle.rtl_layout.specs.Plan.{Plan, several}
 use Rattle.rtl_layout.specs.Shows.{Ready}
 use Rattle.rtl_layout.specs.Layout as L
 use Rattle.rtl_layout.proofs.Ranked.{Under, under_uses, element_under, operation_under, word_under, visited_under, address_under}
-use Rattle.port_check.specs.OpenRun.{open_inputs}
+use Rattle.verilog_open.specs.Open.{OpenEnv}
 
--- not `rdata`, nor what it leads to
+-- not `rdata` nor `want`, nor what they lead to
 abbrev pub clear : List ℕ → Bool
-clear n = not (bytes_eq n L.rdata || (bytes_eq n L.bad || bytes_eq n L.fail))
+clear n = not (bytes_eq n L.rdata || (bytes_eq n L.want || (bytes_eq n L.bad || bytes_eq n L.fail)))
 
 -- a rank that is low where a name is clear
 abbrev pub taint : List ℕ → ℕ
@@ -117,21 +117,21 @@ not_input_register : {P : Type 0} → K.Register ≡ K.Input → P
 not_input_register h = cc
 
 -- no item declares an input
-no_inputs : (P : Declaration → Type 0) → ((d : Declaration) → (d.kind ≡ K.Input → ⊥) → P d) → (is : List ModuleItem) → Each P (item_declarations is)
+pub no_inputs : (P : Declaration → Type 0) → ((d : Declaration) → (d.kind ≡ K.Input → ⊥) → P d) → (is : List ModuleItem) → Each P (item_declarations is)
 no_inputs P all [] = tt
 no_inputs P all (WireItem n k ∷ is) = (all (record { name = n; kind = K.Wire; width = k }) (λ e. not_input e), no_inputs P all is)
 no_inputs P all (RegItem n k ∷ is) = (all (record { name = n; kind = K.Register; width = k }) (λ e. not_input_register e), no_inputs P all is)
 no_inputs P all (AssignItem n x ∷ is) = no_inputs P all is
 no_inputs P all (AlwaysItem c ss ∷ is) = no_inputs P all is
 
-abbrev IsKnownInput : ℕ → Declaration → Type 0
-IsKnownInput t d = d.kind ≡ K.Input → is_clk d.name ≡ false → clear d.name ≡ true → Known (open_inputs t d.name)
+abbrev IsKnownInput : OpenEnv → Declaration → Type 0
+IsKnownInput ins d = d.kind ≡ K.Input → is_clk d.name ≡ false → clear d.name ≡ true → Known (ins d.name)
 
-all_known : (p : Plan) (t : ℕ) → Each (IsKnownInput t) (declarations (L.ports p) (L.items p))
-all_known p t = (
+all_known : (p : Plan) (ins : OpenEnv) → Known (ins L.reset) → Each (IsKnownInput ins) (declarations (L.ports p) (L.items p))
+all_known p ins known = (
   (λ e k c. true_not k),
   (
-    (λ e k c. tt),
+    (λ e k c. known),
     (
       (λ e k c. not_true c),
       (
@@ -146,7 +146,7 @@ all_known p t = (
                 (λ e k c. not_input e),
                 (
                   (λ e k c. not_input e),
-                  no_inputs (IsKnownInput t) (λ d no e k c. absurd (no e)) (L.items p),
+                  no_inputs (IsKnownInput ins) (λ d no e k c. absurd (no e)) (L.items p),
                 ),
               ),
             ),
@@ -160,7 +160,7 @@ all_known p t = (
     true_not : {P : Type 0} → true ≡ false → P
     true_not h = cc
 
-pub inputs_known : (p : Plan) (t : ℕ) → InputsKnown (L.self_test p) clear (open_inputs t)
-inputs_known p t n d q i z c =
-    let g = found (IsKnownInput t) (declarations (L.ports p) (L.items p)) n d (all_known p t) q in
-    subst (λ (m : List ℕ). Known (open_inputs t m)) (sym g.1) (g.0 i (subst (λ (m : List ℕ). is_clk m ≡ false) g.1 z) (subst (λ (m : List ℕ). clear m ≡ true) g.1 c))
+pub inputs_known : (p : Plan) (ins : OpenEnv) → Known (ins L.reset) → InputsKnown (L.self_test p) clear ins
+inputs_known p ins known n d q i z c =
+    let g = found (IsKnownInput ins) (declarations (L.ports p) (L.items p)) n d (all_known p ins known) q in
+    subst (λ (m : List ℕ). Known (ins m)) (sym g.1) (g.0 i (subst (λ (m : List ℕ). is_clk m ≡ false) g.1 z) (subst (λ (m : List ℕ). clear m ≡ true) g.1 c))
