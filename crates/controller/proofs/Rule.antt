@@ -2,7 +2,6 @@
 use Rattle.std.proofs.Common.{◌≡◌, ◌≢◌, ℕ, suc, ◌+◌, ◌<◌, ◌≤◌, Bool, true, false, IsTrue, List, slice_get, Some, None, refl, ◌∙◌, ap, arith}
 use Rattle.std.proofs.lemmas.Option.{slice_get_within}
 use Rattle.word_march.specs.declared.operations.PortOp.{PortOp}
-use Rattle.word_march.specs.PortRule.{Carries}
 use Rattle.march_core.specs.March.{MarchElement, is_pause, IsMarch}
 use Rattle.memory_desc.specs.Descriptions.{Description, IsMemory}
 use Rattle.word_march.specs.Commands.{slots, port_ops, command_count, command_at, span}

@@ -31,7 +31,7 @@ use Rattle.rtl_layout.specs.Numbers.{machine_at, one_reset, inputs_with, Tell}
 use Rattle.rtl_layout.proofs.Forms.{is_formed}
 use Rattle.rtl_layout.proofs.Whole.{legal}
 use Rattle.rtl_layout.proofs.Ranked.{rank, rank_falls}
-use Rattle.rtl_layout.proofs.Numbers.{beside, stands_in, numbers_always}
+use Rattle.rtl_layout.proofs.Numbers.{history_with, stands_in, numbers_always}
 use Rattle.rtl_gen.specs.inner.Planned.{Plans}
 use Rattle.rtl_gen.proofs.Mirror.{seen, place, starts_seen, step_seen}
 use Rattle.rtl_gen.proofs.Runs.{self_tested}
@@ -67,11 +67,11 @@ abbrev or_zero : Option ℕ → ℕ
 or_zero None = 0
 or_zero (Some w) = w
 
-same_reset : (t : ℕ) → reset_at t ≡ one_reset t
+pub same_reset : (t : ℕ) → reset_at t ≡ one_reset t
 same_reset zero = refl
 same_reset (suc t) = refl
 
-abbrev words_from : (ℕ → ℕ) → ℕ → ℕ → List ℕ
+abbrev pub words_from : (ℕ → ℕ) → ℕ → ℕ → List ℕ
 words_from word t zero = []
 words_from word t (suc n) = word t ∷ words_from word (suc t) n
 
@@ -80,7 +80,7 @@ word_in word t zero k h = absurd (omega arith)
 word_in word t (suc n) zero h = let at : t ≡ t + 0 = omega arith in ap word at
 word_in word t (suc n) (suc k) h = let on : suc t + k ≡ t + suc k = omega arith in word_in word (suc t) n k (omega arith) ∙ ap word on
 
-are_inputs : (word : ℕ → ℕ) (t n : ℕ) → AreInputs t (words_from word t n) (inputs_from (inputs_with word) t n)
+pub are_inputs : (word : ℕ → ℕ) (t n : ℕ) → AreInputs t (words_from word t n) (inputs_from (inputs_with word) t n)
 are_inputs word t zero = tt
 are_inputs word t (suc n) = (sym (same_reset t), refl, are_inputs word (suc t) n)
 
@@ -91,7 +91,7 @@ is_its_bit zero h = refl
 is_its_bit (suc zero) h = refl
 is_its_bit (suc (suc v)) h = absurd (omega (arith, h))
 
-known_is : (o : Option ℕ) (v : ℕ) → Known o → Allows o v → o ≡ Some v
+pub known_is : (o : Option ℕ) (v : ℕ) → Known o → Allows o v → o ≡ Some v
 known_is None v k a = absurd k
 known_is (Some w) v k a = ap (λ x. Some x) a
 
@@ -140,7 +140,7 @@ module _ (march : List MarchElement) (d : Description) (p : Plan) (pl : Plans ma
 
     module _ (run : ℕ → OpenEnv) (r : IsOpenRunOf (L.self_test p) (inputs_at words) run) (k : ℕ) where
       abbrev last : Env
-      last = (beside p is_plan.ready is_plan.sized word (inputs_at words) run tell r (suc k)).last
+      last = (history_with p is_plan.ready is_plan.sized word tell.within (suc k)).last
 
       number : (name : List ℕ) → Known (run (suc k) name) → run (suc k) name ≡ Some (last name)
       number name known = known_is (run (suc k) name) (last name) known (stands_in p is_plan.ready is_plan.sized word (inputs_at words) run tell r (suc k) name)
@@ -151,7 +151,7 @@ module _ (march : List MarchElement) (d : Description) (p : Plan) (pl : Plans ma
       shown : HasNumbers (run (suc k)) (port_values last)
       shown =
           let all = numbers_always p is_plan.ready is_plan.sized word (inputs_at words) run tell r in
-          let fits = (beside p is_plan.ready is_plan.sized word (inputs_at words) run tell r (suc k)).fits in
+          let fits = (history_with p is_plan.ready is_plan.sized word tell.within (suc k)).fits in
           record {
             en = one_bit L.en (fits L.en) (all.command k).0;
             we = one_bit L.we (fits L.we) (all.command k).1;
@@ -163,7 +163,7 @@ module _ (march : List MarchElement) (d : Description) (p : Plan) (pl : Plans ma
 
       ruled : (returned : ℕ → ℕ) → ((t w : ℕ) → words t ≡ Some w → returned t ≡ w) → PortRule march d returned (suc k) (port_values last)
       ruled returned agree =
-          let b = beside p is_plan.ready is_plan.sized word (inputs_at words) run tell r (suc k) in
+          let b = history_with p is_plan.ready is_plan.sized word tell.within (suc k) in
           let meets = (self_tested march d p pl is_plan m n).meets (λ x. 0) (words_from word 0 (suc (suc k))) (inputs_from (inputs_with word) 0 (suc (suc k))) b.cycles
           (are_inputs word 0 (suc (suc k))) b.history (suc k) last b.at in
           rule_of march d (slice_index (words_from word 0 (suc (suc k)))) returned (suc k) last

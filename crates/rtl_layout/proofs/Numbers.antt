@@ -121,16 +121,9 @@ module _ (p : Plan) (ready : Ready p) (sized : Sized p) where
   bad_declared : lookup (declarations (L.ports p) (L.items p)) L.bad ≡ Some (record { name = L.bad; kind = K.Register; width = 1 })
   bad_declared = lookup_behind L.bad (several p) p.back_width 0 p.delay ageless_bad (L.items_after p)
 
-  module _ (words : ℕ → ℕ) (ins run : ℕ → OpenEnv) (tell : Tell p words ins) (r : IsOpenRunOf (L.self_test p) ins run) where
-    held : (t : ℕ) (n : List ℕ) (k : ℕ) → lookup (declarations (L.ports p) (L.items p)) n ≡ Some (record { name = n; kind = K.Register; width = k }) → run t n ≡ open_registers (L.self_test p) run t n
-    held t n k h =
-        source_of (L.self_test p) forms lawful rank (rank_falls p ready) (open_registers (L.self_test p) run t) (ins t) (run t) (r t) n
-        ∙ ap (λ d. by_source ws (open_registers (L.self_test p) run t) (ins t) (run t) d (driver (L.items p) n) n) h
+  -- ---- a history with these words
 
-    known : (t : ℕ) → AreKnown clear (run (suc t))
-    known = known_after ins run r tell.resets
-
-    -- ---- a history that goes beside the run
+  module _ (words : ℕ → ℕ) (within : (t : ℕ) → words t < 2 ^ p.bits) where
 
     abbrev IsNarrow : ℕ → Declaration → Type 0
     IsNarrow t d = d.kind ≡ K.Input → is_clk d.name ≡ false → inputs_with words t d.name < 2 ^ d.width
@@ -141,7 +134,7 @@ module _ (p : Plan) (ready : Ready p) (sized : Sized p) where
       (
         (λ e k. reset_low t),
         (
-          (λ e k. tell.within t),
+          (λ e k. within t),
           (
             (λ e k. not_input e),
             (
@@ -175,8 +168,20 @@ module _ (p : Plan) (ready : Ready p) (sized : Sized p) where
         reset_low zero = omega arith
         reset_low (suc t) = omega arith
 
-    pub beside : (t : ℕ) → Lasts (L.self_test p) (inputs_with words) 0 t (λ n. 0)
-    beside t = lasts (L.self_test p) forms lawful rank (rank_falls p ready) (inputs_with words) narrow t 0 (λ n. 0) (λ n. pow_pos (ws n))
+    pub history_with : (t : ℕ) → Lasts (L.self_test p) (inputs_with words) 0 t (λ n. 0)
+    history_with t = lasts (L.self_test p) forms lawful rank (rank_falls p ready) (inputs_with words) narrow t 0 (λ n. 0) (λ n. pow_pos (ws n))
+
+  module _ (words : ℕ → ℕ) (ins run : ℕ → OpenEnv) (tell : Tell p words ins) (r : IsOpenRunOf (L.self_test p) ins run) where
+    held : (t : ℕ) (n : List ℕ) (k : ℕ) → lookup (declarations (L.ports p) (L.items p)) n ≡ Some (record { name = n; kind = K.Register; width = k }) → run t n ≡ open_registers (L.self_test p) run t n
+    held t n k h =
+        source_of (L.self_test p) forms lawful rank (rank_falls p ready) (open_registers (L.self_test p) run t) (ins t) (run t) (r t) n
+        ∙ ap (λ d. by_source ws (open_registers (L.self_test p) run t) (ins t) (run t) d (driver (L.items p) n) n) h
+
+    known : (t : ℕ) → AreKnown clear (run (suc t))
+    known = known_after ins run r tell.resets
+
+    abbrev beside : (t : ℕ) → Lasts (L.self_test p) (inputs_with words) 0 t (λ n. 0)
+    beside t = history_with words tell.within t
 
     -- a number of the run stands in it
     pub stands_in : (t : ℕ) → AllowsEnv (run t) (beside t).last
