@@ -1,5 +1,5 @@
 -- Names of the generator's module to which nothing leads that is left open: all but those to which the returned word leads.
-use Rattle.std.proofs.Common.{◌≡◌, ℕ, zero, suc, ◌-◌, ◌<◌, Bool, true, false, cond, not, ◌||◌, List, [], ◌∷◌, ◌++◌, length, refl, sym, subst, arith, inl, inr}
+use Rattle.std.proofs.Common.{◌≡◌, ℕ, zero, suc, ◌<◌, Bool, true, false, cond, not, ◌||◌, List, [], ◌∷◌, ◌++◌, refl, sym, subst, arith, inl, inr}
 use Rattle.std.specs.Str.{bytes_eq}
 use Rattle.verilog_tree.specs.declared.names.Kind.TheVariants as K
 use Rattle.verilog_tree.specs.Plain.{Expression, ModuleItem, WireItem, RegItem, AssignItem, AlwaysItem}
@@ -8,15 +8,15 @@ use Rattle.verilog_tree.specs.Meaning.{bit}
 use Rattle.verilog_tree.specs.Wires.{Uses}
 use Rattle.verilog_tree.proofs.Clean.{Each, found}
 use Rattle.verilog_open.specs.Known.{Known, AreClear, InputsKnown}
-use Rattle.rtl_layout.specs.Plan.{Plan, several}
+use Rattle.rtl_layout.specs.Plan.{Plan, several, is_single}
 use Rattle.rtl_layout.specs.Shows.{Ready}
 use Rattle.rtl_layout.specs.Layout as L
-use Rattle.rtl_layout.proofs.Ranked.{Under, under_uses, element_under, operation_under, word_under, visited_under, address_under}
+use Rattle.rtl_layout.proofs.Ranked.{Under, under_uses, element_under, row_under, next_under, in_row_under, pattern_under, visited_under, address_under}
 use Rattle.port_check.specs.OpenRun.{open_inputs}
 
--- not `rdata`, nor what it leads to
+-- not `rdata`, nor what it leads to, nor the word to compare it with, which the reset leaves open
 abbrev pub clear : List ℕ → Bool
-clear n = not (bytes_eq n L.rdata || (bytes_eq n L.bad || bytes_eq n L.fail))
+clear n = not (bytes_eq n L.rdata || (bytes_eq n L.want || (bytes_eq n L.bad || bytes_eq n L.fail)))
 
 -- a rank that is low where a name is clear
 abbrev pub taint : List ℕ → ℕ
@@ -50,60 +50,41 @@ stages_pure many w i zero rest h = h
 stages_pure true w i (suc n) rest h = stages_pure true w (suc i) n rest h
 stages_pure false w i (suc n) rest h = stages_pure false w (suc i) n rest h
 
+also : {A B : Type 0} → A → B → A × B
+also a b = (a, b)
+
 pub not_true : {P : Type 0} → false ≡ true → P
 not_true h = cc
 
 module _ (p : Plan) (ready : Ready p) where
   after_pure : Pure (L.items_after p)
-  after_pure = (
-    (λ c. operation_under p ready taint 1 (λ o. o.write) refl refl),
-    (
-      (λ c. operation_under p ready taint 1 (λ o. o.bit) refl refl),
-      (
-        (λ c. element_under p ready taint 1 1 (λ x. bit x.down) refl),
-        (
-          (λ c. element_under p ready taint 1 1 (λ x. bit x.pause) refl),
-          (
-            (λ c. (refl, element_under p ready taint 1 p.oper_width (λ x. length x.operations - 1) refl)),
-            (
-              (λ c. (refl, (refl, tt, tt))),
-              (
-                (λ c. (refl, tt)),
-                (
-                  (λ c. (refl, tt)),
-                  (
-                    (λ c. (refl, tt, refl)),
-                    (
-                      (λ c. (refl, (tt, visited_under p ready taint 1 refl), visited_under p ready taint 1 refl)),
-                      (
-                        (λ c. (refl, tt, refl)),
-                        (
-                          (λ c. refl),
-                          (
-                            (λ c. address_under p ready taint 1 refl),
-                            (
-                              (λ c. word_under p ready taint 1 L.back L.value refl refl),
-                              (
-                                (λ c. (refl, tt, refl)),
-                                (
-                                  (λ c. not_true c),
-                                  tt,
-                                ),
-                              ),
-                            ),
-                          ),
-                        ),
-                      ),
-                    ),
-                  ),
-                ),
-              ),
-            ),
-          ),
-        ),
-      ),
-    ),
-  )
+  after_pure =
+      also (λ c. row_under p ready taint 1 L.writes_at refl)
+      (also (λ c. row_under p ready taint 1 L.one_behind refl)
+      (also (λ c. row_under p ready taint 1 L.ends_behind refl)
+      (also (λ c. in_row_under p ready taint 1 L.writes refl refl)
+      (also (λ c. element_under p ready taint 1 1 (λ x. bit x.down) refl)
+      (also (λ c. element_under p ready taint 1 1 (λ x. bit x.pause) refl)
+      (also (λ c. in_row_under p ready taint 1 L.ones refl refl)
+      (also (λ c. element_under p ready taint 1 1 (λ x. bit (L.begins_one x)) refl)
+      (also (λ c. next_under p ready taint 1 (λ x. bit (L.begins_one x)) refl)
+      (also (λ c. in_row_under p ready taint 1 L.ends refl refl)
+      (also (λ c. element_under p ready taint 1 1 (λ x. bit (is_single x)) refl)
+      (also (λ c. next_under p ready taint 1 (λ x. bit (is_single x)) refl)
+      (also (λ c. next_under p ready taint 1 (λ x. bit x.pause) refl)
+      (also (λ c. (refl, tt))
+      (also (λ c. (refl, tt))
+      (also (λ c. (refl, tt, refl))
+      (also (λ c. (refl, (tt, visited_under p ready taint 1 refl), visited_under p ready taint 1 refl))
+      (also (λ c. pattern_under p ready taint 1 L.back refl)
+      (also (λ c. (refl, refl, refl))
+      (also (λ c. (refl, tt, refl))
+      (also (λ c. refl)
+      (also (λ c. address_under p ready taint 1 refl)
+      (also (λ c. refl)
+      (also (λ c. (refl, tt, refl))
+      (also (λ c. not_true c)
+      tt))))))))))))))))))))))))
 
   pub items_clear : AreClear clear (L.items p)
   items_clear = pure_clear (L.items p) (stages_pure (several p) p.back_width 0 p.delay (L.items_after p) after_pure)

@@ -41,7 +41,7 @@ module _ (p : Plan) (ready : Ready p) (f : formed (L.self_test p) ≡ true) (leg
   quiet v = subst (λ (c : Option ℕ). Known (open_choice c (Some 0) v)) (sym (reset_is 0)) tt
 
   pub en_known : Known (run 0 L.en)
-  en_known = subst Known (sym equal.1.1.1.1.1.1.1.1.1.1.0) (quiet (run 0 L.live))
+  en_known = subst Known (sym equal.1.1.1.1.1.1.1.1.1.1.1.1.1.1.1.1.1.1.1.0) (quiet (run 0 L.live))
 
   pub done_known : Known (run 0 L.done)
-  done_known = subst Known (sym equal.1.1.1.1.1.1.1.1.1.1.1.1.1.1.0) (quiet (run 0 (L.over_at (suc p.delay))))
+  done_known = subst Known (sym equal.1.1.1.1.1.1.1.1.1.1.1.1.1.1.1.1.1.1.1.1.1.1.1.0) (quiet (run 0 (L.over_at (suc p.delay))))

@@ -13,8 +13,11 @@ use Rattle.rtl_layout.specs.Build.{lit, one_more, in_halves}
 use Rattle.rtl_layout.specs.Plan.{Plan, several}
 use Rattle.rtl_layout.specs.Shows.{Ready}
 use Rattle.rtl_layout.specs.Layout as L
-use Rattle.rtl_layout.proofs.Ranked.{Under, word_under}
+use Rattle.rtl_layout.proofs.Ranked.{Under}
 use Rattle.generated_check.proofs.Clear.{clear, taint, uses_clear, not_true}
+
+also : {A B : Type 0} → A → B → A × B
+also a b = (a, b)
 
 -- ---- statements that set clear names by clear names, and to a literal at the reset
 
@@ -95,42 +98,21 @@ ages_pure false k (suc i) (suc n) rest h =
 more_under : (r : List ℕ) (k : ℕ) → nat_lt (taint r) 1 ≡ true → Under taint 1 (one_more r k)
 more_under r k h = elim (nat_lt k 9) as (λ t. Under taint 1 (cond t (Infixed B.Add (Net r) (lit k 1)) (in_halves r k (k / 2)))) [ true ↦ (h, tt) | false ↦ ((h, (h, tt), h), ((h, tt), tt)) ]
 
-back_low : (many : Bool) (i : ℕ) → nat_lt (taint (L.back_at many i)) 1 ≡ true
-back_low many zero = refl
-back_low true (suc i) = refl
-back_low false (suc i) = refl
-
-value_low : (i : ℕ) → nat_lt (taint (L.value_at i)) 1 ≡ true
-value_low zero = refl
-value_low (suc i) = refl
-
-module _ (p : Plan) (ready : Ready p) where
+module _ (p : Plan) where
   ends_pure : PureSets (L.end_sets p)
-  ends_pure = (
-    (λ c. ((refl, tt, word_under p ready taint 1 (L.back_at (several p) p.delay) (L.value_at p.delay) (back_low (several p) p.delay) (value_low p.delay)), refl)),
-    (
-      (λ c. not_true c),
-      tt,
-    ),
-  )
+  ends_pure = ((λ c. not_true c), ((λ c. not_true c), tt))
 
   all_pure : PureSets (L.sets_all p)
-  all_pure = (
-    (λ c. ((refl, tt, (refl, (refl, tt, more_under L.oper p.oper_width refl), refl)), refl)),
-    (
-      (λ c. ((refl, tt, (refl, (refl, (refl, tt, more_under L.visit p.visit_width refl), refl), refl)), refl)),
-      (
-        (λ c. ((refl, tt, (refl, (refl, (refl, (refl, tt, more_under L.element p.element_width refl), refl), refl), refl)), refl)),
-        (
-          (λ c. ((refl, tt, (refl, (refl, (refl, (refl, (refl, tt, more_under L.back p.back_width refl), refl), refl), refl), refl)), refl)),
-          (
-            (λ c. ((refl, tt, (refl, (refl, (refl, (refl, (refl, tt, refl), refl), refl), refl), refl)), refl)),
-            ages_pure (several p) p.back_width 0 p.delay (L.end_sets p) ends_pure,
-          ),
-        ),
-      ),
-    ),
-  )
+  all_pure =
+      also (λ c. ((refl, tt, (refl, (refl, tt, more_under L.oper p.oper_width refl), refl)), refl))
+      (also (λ c. ((refl, tt, (refl, (refl, (refl, tt, more_under L.visit p.visit_width refl), refl), refl)), refl))
+      (also (λ c. ((refl, tt, (refl, (refl, (refl, (refl, tt, more_under L.element p.element_width refl), refl), refl), refl)), refl))
+      (also (λ c. ((refl, tt, (refl, (refl, (refl, (refl, (refl, tt, more_under L.back p.back_width refl), refl), refl), refl), refl)), refl))
+      (also (λ c. ((refl, tt, (refl, (refl, (refl, (refl, (refl, tt, refl), refl), refl), refl), refl)), refl))
+      (also (λ c. ((refl, tt, (refl, (refl, (refl, refl, refl), refl), refl)), refl))
+      (also (λ c. ((refl, tt, (refl, (refl, (refl, (refl, tt, tt), (refl, (refl, tt, tt))), refl), refl)), refl))
+      (also (λ c. ((refl, tt, (refl, (refl, (refl, refl, refl), refl), refl)), refl))
+      (ages_pure (several p) p.back_width 0 p.delay (L.end_sets p) ends_pure))))))))
 
 -- ---- each register is set
 
@@ -181,91 +163,53 @@ wire_no_register h = cc
 
 module _ (p : Plan) where
   behind_digits : (m : List ℕ) → IsSet m (L.stage_sets (several p) p.back_width 0 p.delay ++ L.end_sets p) → IsSet m (L.sets_all p)
-  behind_digits m s = inr (inr (inr (inr (inr s))))
+  behind_digits m s = inr (inr (inr (inr (inr (inr (inr (inr s)))))))
 
   ends_set : ((m : List ℕ) → IsSet m (L.end_sets p) → IsSet m (L.sets_all p)) → Each (IsSetRegister p) (item_declarations (L.items_after p))
-  ends_set up = (
-    (λ e. up L.want (inl refl)),
-    (
-      (λ e. up L.bad (inr (inl refl))),
-      (
-        (λ e. wire_no_register e),
-        (
-          (λ e. wire_no_register e),
-          (
-            (λ e. wire_no_register e),
-            (
-              (λ e. wire_no_register e),
-              (
-                (λ e. wire_no_register e),
-                (
-                  (λ e. wire_no_register e),
-                  (
-                    (λ e. wire_no_register e),
-                    (
-                      (λ e. wire_no_register e),
-                      (
-                        (λ e. wire_no_register e),
-                        (
-                          (λ e. wire_no_register e),
-                          tt,
-                        ),
-                      ),
-                    ),
-                  ),
-                ),
-              ),
-            ),
-          ),
-        ),
-      ),
-    ),
-  )
+  ends_set up =
+      also (λ e. up L.want (inl refl))
+      (also (λ e. up L.bad (inr (inl refl)))
+      (also (λ e. wire_no_register e)
+      (also (λ e. wire_no_register e)
+      (also (λ e. wire_no_register e)
+      (also (λ e. wire_no_register e)
+      (also (λ e. wire_no_register e)
+      (also (λ e. wire_no_register e)
+      (also (λ e. wire_no_register e)
+      (also (λ e. wire_no_register e)
+      (also (λ e. wire_no_register e)
+      (also (λ e. wire_no_register e)
+      (also (λ e. wire_no_register e)
+      (also (λ e. wire_no_register e)
+      (also (λ e. wire_no_register e)
+      (also (λ e. wire_no_register e)
+      (also (λ e. wire_no_register e)
+      (also (λ e. wire_no_register e)
+      (also (λ e. wire_no_register e)
+      (also (λ e. wire_no_register e)
+      (also (λ e. wire_no_register e)
+      tt))))))))))))))))))))
 
   all_set : Each (IsSetRegister p) (declarations (L.ports p) (L.items p))
-  all_set = (
-    (λ e. input_no_register e),
-    (
-      (λ e. input_no_register e),
-      (
-        (λ e. input_no_register e),
-        (
-          (λ e. wire_no_register e),
-          (
-            (λ e. wire_no_register e),
-            (
-              (λ e. wire_no_register e),
-              (
-                (λ e. wire_no_register e),
-                (
-                  (λ e. wire_no_register e),
-                  (
-                    (λ e. wire_no_register e),
-                    (
-                      (λ e. inl refl),
-                      (
-                        (λ e. inr (inl refl)),
-                        (
-                          (λ e. inr (inr (inl refl))),
-                          (
-                            (λ e. inr (inr (inr (inl refl)))),
-                            (
-                              (λ e. inr (inr (inr (inr (inl refl))))),
-                              ages_each (IsSetRegister p) (λ m. IsSet m (L.sets_all p)) (λ n k q e. q) (several p) p.back_width 0 p.delay (L.end_sets p) (L.items_after p) behind_digits ends_set,
-                            ),
-                          ),
-                        ),
-                      ),
-                    ),
-                  ),
-                ),
-              ),
-            ),
-          ),
-        ),
-      ),
-    ),
-  )
+  all_set =
+      also (λ e. input_no_register e)
+      (also (λ e. input_no_register e)
+      (also (λ e. input_no_register e)
+      (also (λ e. wire_no_register e)
+      (also (λ e. wire_no_register e)
+      (also (λ e. wire_no_register e)
+      (also (λ e. wire_no_register e)
+      (also (λ e. wire_no_register e)
+      (also (λ e. wire_no_register e)
+      (also (λ e. inl refl)
+      (also (λ e. inr (inl refl))
+      (also (λ e. inr (inr (inl refl)))
+      (also (λ e. inr (inr (inr (inl refl))))
+      (also (λ e. inr (inr (inr (inr (inl refl)))))
+      (also (λ e. inr (inr (inr (inr (inr (inl refl))))))
+      (also (λ e. inr (inr (inr (inr (inr (inr (inl refl)))))))
+      (also (λ e. inr (inr (inr (inr (inr (inr (inr (inl refl))))))))
+      (ages_each (IsSetRegister p) (λ m. IsSet m (L.sets_all p)) (λ n k q e. q) (several p) p.back_width 0 p.delay (L.end_sets p) (L.items_after p) behind_digits ends_set)))))))))))))))))
 
 -- ---- the registers behind an edge
 
@@ -275,10 +219,10 @@ module _ (p : Plan) (ready : Ready p) (o : OpenEnv) where
   registers_restarted now n d q k c =
       let g = found (IsSetRegister p) (declarations (L.ports p) (L.items p)) n d (all_set p) q in
       subst Known (sym (next_is p o n)) (known_given n (open_sets (w p) o (statements (L.sets_all p))) (o n)
-      (sets_restarted (w p) o now n c (L.sets_all p) (all_pure p ready))
-      (set_given (w p) o n (L.sets_all p) (all_pure p ready) (subst (λ (m : List ℕ). IsSet m (L.sets_all p)) (sym g.1) (g.0 k))))
+      (sets_restarted (w p) o now n c (L.sets_all p) (all_pure p))
+      (set_given (w p) o n (L.sets_all p) (all_pure p) (subst (λ (m : List ℕ). IsSet m (L.sets_all p)) (sym g.1) (g.0 k))))
 
   -- after a cycle whose clear names have numbers
   pub registers_kept : AreKnown clear o → RegistersKnown (L.self_test p) clear (open_next (L.self_test p) o)
   registers_kept all n d q k c =
-      subst Known (sym (next_is p o n)) (known_last n (open_sets (w p) o (statements (L.sets_all p))) (o n) (sets_known (w p) o all n c (L.sets_all p) (all_pure p ready)) (all n c))
+      subst Known (sym (next_is p o n)) (known_last n (open_sets (w p) o (statements (L.sets_all p))) (o n) (sets_known (w p) o all n c (L.sets_all p) (all_pure p)) (all n c))

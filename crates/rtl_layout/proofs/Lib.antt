@@ -2,6 +2,7 @@ pub mod Built
 pub mod Choice
 pub mod Counter
 pub mod Declared
+pub mod Few
 pub mod Forms
 pub mod History
 pub mod Joined
@@ -9,6 +10,7 @@ pub mod Legal
 pub mod Outputs
 pub mod Ranked
 pub mod Resets
+pub mod Rows
 pub mod Stages
 pub mod Step
 pub mod Tabled
