@@ -1,8 +1,7 @@
 //! Laws, each the contract of a function that does nothing.
-ghost use Rattle.std.specs.Prelude.{◌≡◌, List, true, Some};
+ghost use Rattle.std.specs.Prelude.{◌≡◌, List};
 ghost use Rattle.verilog_tree.specs.Plain.{ModuleTree};
 ghost use Rattle.verilog_tree.specs.Spells.{FreelySpells};
-ghost use Rattle.verilog_text.specs.Operators.{few_operators};
 ghost use Rattle.verilog_emit.specs.Printed.{printed};
 ghost use Rattle.march_core.specs.March.{MarchElement};
 ghost use Rattle.memory_desc.specs.Descriptions.{Description};
@@ -21,9 +20,9 @@ pub fn generated_modules_conform()
     ensures { (march : List MarchElement) (d : Description) (p : Plan) → IsPlan p → SelfTest (L.self_test p) march d → IsAnswer (L.self_test p) march d (Conforms (cycle_count march d)) × ((answer : PortAnswer) → IsAnswer (L.self_test p) march d answer → answer ≡ Conforms (cycle_count march d)) }
 {}
 
-/// The bytes that are written of it, read with operators that bind by precedence, are that module and no other, where no expression of it has
-/// more than 256 operators. (They are the layout of its text, by the clause `form` of `emit`.)
+/// The bytes that are written of it, read with operators that bind by precedence, are that module and no other. (They are the layout of its
+/// text, by the clause `form` of `emit`.)
 pub fn generated_texts_are_read()
-    ensures its_own { (p : Plan) → IsPlan p → few_operators (Some 256) (L.self_test p) ≡ true → FreelySpells (printed (L.self_test p)) (L.self_test p) }
+    ensures its_own { (p : Plan) → IsPlan p → FreelySpells (printed (L.self_test p)) (L.self_test p) }
     ensures no_other { (p : Plan) → IsPlan p → (mo : ModuleTree) → FreelySpells (printed (L.self_test p)) mo → mo ≡ L.self_test p }
 {}

@@ -8,10 +8,10 @@ use Rattle.verilog_tree.specs.Meaning.{bit}
 use Rattle.verilog_tree.specs.Wires.{Uses}
 use Rattle.verilog_tree.proofs.Clean.{Each, found}
 use Rattle.verilog_open.specs.Known.{Known, AreClear, InputsKnown}
-use Rattle.rtl_layout.specs.Plan.{Plan, several}
+use Rattle.rtl_layout.specs.Plan.{Plan, several, is_single}
 use Rattle.rtl_layout.specs.Shows.{Ready}
 use Rattle.rtl_layout.specs.Layout as L
-use Rattle.rtl_layout.proofs.Ranked.{Under, under_uses, element_under, operation_under, word_under, visited_under, address_under}
+use Rattle.rtl_layout.proofs.Ranked.{Under, under_uses, also, element_under, row_under, in_row_under, next_under, pattern_under, visited_under, address_under}
 use Rattle.verilog_open.specs.Open.{OpenEnv}
 
 -- not `rdata` nor `want`, nor what they lead to
@@ -55,55 +55,33 @@ not_true h = cc
 
 module _ (p : Plan) (ready : Ready p) where
   after_pure : Pure (L.items_after p)
-  after_pure = (
-    (λ c. operation_under p ready taint 1 (λ o. o.write) refl refl),
-    (
-      (λ c. operation_under p ready taint 1 (λ o. o.bit) refl refl),
-      (
-        (λ c. element_under p ready taint 1 1 (λ x. bit x.down) refl),
-        (
-          (λ c. element_under p ready taint 1 1 (λ x. bit x.pause) refl),
-          (
-            (λ c. (refl, element_under p ready taint 1 p.oper_width (λ x. length x.operations - 1) refl)),
-            (
-              (λ c. (refl, (refl, tt, tt))),
-              (
-                (λ c. (refl, tt)),
-                (
-                  (λ c. (refl, tt)),
-                  (
-                    (λ c. (refl, tt, refl)),
-                    (
-                      (λ c. (refl, (tt, visited_under p ready taint 1 refl), visited_under p ready taint 1 refl)),
-                      (
-                        (λ c. (refl, tt, refl)),
-                        (
-                          (λ c. refl),
-                          (
-                            (λ c. address_under p ready taint 1 refl),
-                            (
-                              (λ c. word_under p ready taint 1 L.back L.value refl refl),
-                              (
-                                (λ c. (refl, tt, refl)),
-                                (
-                                  (λ c. not_true c),
-                                  tt,
-                                ),
-                              ),
-                            ),
-                          ),
-                        ),
-                      ),
-                    ),
-                  ),
-                ),
-              ),
-            ),
-          ),
-        ),
-      ),
-    ),
-  )
+  after_pure =
+      also (λ c. row_under p ready taint 1 L.writes_at refl)
+      (also (λ c. row_under p ready taint 1 L.one_behind refl)
+      (also (λ c. row_under p ready taint 1 L.ends_behind refl)
+      (also (λ c. in_row_under p ready taint 1 L.writes refl refl)
+      (also (λ c. element_under p ready taint 1 1 (λ x. bit x.down) refl)
+      (also (λ c. element_under p ready taint 1 1 (λ x. bit x.pause) refl)
+      (also (λ c. in_row_under p ready taint 1 L.ones refl refl)
+      (also (λ c. element_under p ready taint 1 1 (λ x. bit (L.begins_one x)) refl)
+      (also (λ c. next_under p ready taint 1 (λ x. bit (L.begins_one x)) refl)
+      (also (λ c. in_row_under p ready taint 1 L.ends refl refl)
+      (also (λ c. element_under p ready taint 1 1 (λ x. bit (is_single x)) refl)
+      (also (λ c. next_under p ready taint 1 (λ x. bit (is_single x)) refl)
+      (also (λ c. next_under p ready taint 1 (λ x. bit x.pause) refl)
+      (also (λ c. (refl, tt))
+      (also (λ c. (refl, tt))
+      (also (λ c. (refl, tt, refl))
+      (also (λ c. (refl, (tt, visited_under p ready taint 1 refl), visited_under p ready taint 1 refl))
+      (also (λ c. pattern_under p ready taint 1 L.back refl)
+      (also (λ c. (refl, refl, refl))
+      (also (λ c. (refl, tt, refl))
+      (also (λ c. refl)
+      (also (λ c. address_under p ready taint 1 refl)
+      (also (λ c. refl)
+      (also (λ c. (refl, tt, refl))
+      (also (λ c. not_true c)
+      tt))))))))))))))))))))))))
 
   pub items_clear : AreClear clear (L.items p)
   items_clear = pure_clear (L.items p) (stages_pure (several p) p.back_width 0 p.delay (L.items_after p) after_pure)

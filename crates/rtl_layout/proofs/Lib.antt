@@ -3,6 +3,7 @@ pub mod Choice
 pub mod Clear
 pub mod Counter
 pub mod Declared
+pub mod Few
 pub mod Forms
 pub mod History
 pub mod Joined
@@ -11,6 +12,7 @@ pub mod Numbers
 pub mod Outputs
 pub mod Ranked
 pub mod Resets
+pub mod Rows
 pub mod Sets
 pub mod Stages
 pub mod Step

@@ -199,11 +199,11 @@ module _ (p : Plan) (ready : Ready p) (sized : Sized p) where
         let at : k ≡ k + 0 = omega arith in
         subst (λ (z : ℕ). e (L.reads_at (suc p.delay)) ≡ bit (machine_at p words z).reads) at
         (subst (λ (z : Env). z (L.reads_at (suc p.delay)) ≡ bit (machine_at p words k).reads) (same_Some x e g)
-        ((last_is p ready regs (inputs_with words (suc k)) x h.0 (machine_at p words k) sh refl).0 ∙ sh.reads_is))
+        ((last_is p ready sized regs (inputs_with words (suc k)) x h.0 (machine_at p words k) sh refl).0 ∙ sh.reads_is))
     reads_behind (suc t) k (suc m) regs e (x ∷ es) sh h g =
         let on : suc k + t ≡ k + suc t = omega arith in
         subst (λ (z : ℕ). e (L.reads_at (suc p.delay)) ≡ bit (machine_at p words z).reads) on
-        (reads_behind t (suc k) m (next (L.self_test p) x) e es (turn p ready regs (inputs_with words (suc k)) x h.0 (machine_at p words k) sh refl) h.1 g)
+        (reads_behind t (suc k) m (next (L.self_test p) x) e es (turn p ready sized regs (inputs_with words (suc k)) x h.0 (machine_at p words k) sh refl) h.1 g)
 
     -- the machine compares where the module does
     reads_are : (t : ℕ) → (beside (suc t)).last (L.reads_at (suc p.delay)) ≡ bit (machine_at p words t).reads

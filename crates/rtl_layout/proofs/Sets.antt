@@ -1,7 +1,7 @@
 -- What the block of the module sets in an open cycle: after the reset each clear register has a number, and keeps one.
 use Rattle.std.proofs.lemmas.Slice.Eq.{bytes_eq-Decides}
 use Rattle.std.specs.Str.{bytes_eq}
-use Rattle.std.proofs.Common.{arith, ◌≡◌, ℕ, zero, suc, Bool, true, false, cond, nat_lt, ◌/◌, List, [], ◌∷◌, ◌++◌, Option, Some, refl, sym, ap, ◌∙◌, subst, inl, inr, ◌⊎◌, append-nil}
+use Rattle.std.proofs.Common.{arith, ◌≡◌, ℕ, zero, suc, Bool, true, false, cond, nat_lt, nat_eq, ◌/◌, List, [], ◌∷◌, ◌++◌, Option, Some, refl, sym, ap, ◌∙◌, subst, inl, inr, ◌⊎◌, append-nil}
 use Rattle.verilog_tree.specs.declared.names.Kind.TheVariants as K
 use Rattle.verilog_tree.specs.declared.tree.BinOp.TheVariants as B
 use Rattle.verilog_tree.specs.Plain.{Expression, Net, Literal, Infixed, Conditional, Statement, SetTo, IfElse, CaseOf, statements, ModuleItem}
@@ -15,7 +15,7 @@ use Rattle.rtl_layout.specs.Build.{lit, one_more, in_halves}
 use Rattle.rtl_layout.specs.Plan.{Plan, several}
 use Rattle.rtl_layout.specs.Shows.{Ready}
 use Rattle.rtl_layout.specs.Layout as L
-use Rattle.rtl_layout.proofs.Ranked.{Under, word_under}
+use Rattle.rtl_layout.proofs.Ranked.{Under, also, pattern_under}
 use Rattle.rtl_layout.proofs.Stages.{Ageless, later}
 use Rattle.rtl_layout.proofs.Clear.{clear, taint, uses_clear, not_true}
 
@@ -109,34 +109,25 @@ value_low (suc i) = refl
 
 module _ (p : Plan) (ready : Ready p) where
   want_under : Under taint 1 (L.want_next p)
-  want_under = (refl, tt, word_under p ready taint 1 (L.back_at (several p) p.delay) (L.value_at p.delay) (back_low (several p) p.delay) (value_low p.delay))
+  want_under =
+      let table = pattern_under p ready taint 1 (L.back_at (several p) p.delay) (back_low (several p) p.delay) in
+      elim (nat_eq p.delay 0) as (λ t. Under taint 1 (cond t (Net L.word) (L.word_of (L.value_at p.delay) (L.pattern_of p (L.back_at (several p) p.delay)))))
+      [ true ↦ refl | false ↦ (value_low p.delay, table, table) ]
 
   ends_pure : PureSets (L.end_sets p)
-  ends_pure = (
-    (λ c. not_true c),
-    (
-      (λ c. not_true c),
-      tt,
-    ),
-  )
+  ends_pure = ((λ c. not_true c), ((λ c. not_true c), tt))
 
   all_pure : PureSets (L.sets_all p)
-  all_pure = (
-    (λ c. ((refl, tt, (refl, (refl, tt, more_under L.oper p.oper_width refl), refl)), refl)),
-    (
-      (λ c. ((refl, tt, (refl, (refl, (refl, tt, more_under L.visit p.visit_width refl), refl), refl)), refl)),
-      (
-        (λ c. ((refl, tt, (refl, (refl, (refl, (refl, tt, more_under L.element p.element_width refl), refl), refl), refl)), refl)),
-        (
-          (λ c. ((refl, tt, (refl, (refl, (refl, (refl, (refl, tt, more_under L.back p.back_width refl), refl), refl), refl), refl)), refl)),
-          (
-            (λ c. ((refl, tt, (refl, (refl, (refl, (refl, (refl, tt, refl), refl), refl), refl), refl)), refl)),
-            ages_pure (several p) p.back_width 0 p.delay (L.end_sets p) ends_pure,
-          ),
-        ),
-      ),
-    ),
-  )
+  all_pure =
+      also (λ c. ((refl, tt, (refl, (refl, tt, more_under L.oper p.oper_width refl), refl)), refl))
+      (also (λ c. ((refl, tt, (refl, (refl, (refl, tt, more_under L.visit p.visit_width refl), refl), refl)), refl))
+      (also (λ c. ((refl, tt, (refl, (refl, (refl, (refl, tt, more_under L.element p.element_width refl), refl), refl), refl)), refl))
+      (also (λ c. ((refl, tt, (refl, (refl, (refl, (refl, (refl, tt, more_under L.back p.back_width refl), refl), refl), refl), refl)), refl))
+      (also (λ c. ((refl, tt, (refl, (refl, (refl, (refl, (refl, tt, refl), refl), refl), refl), refl)), refl))
+      (also (λ c. ((refl, tt, (refl, (refl, (refl, refl, refl), refl), refl)), refl))
+      (also (λ c. ((refl, tt, (refl, (refl, (refl, (refl, tt, tt), (refl, (refl, tt, tt))), refl), refl)), refl))
+      (also (λ c. ((refl, tt, (refl, (refl, (refl, refl, refl), refl), refl)), refl))
+      (ages_pure (several p) p.back_width 0 p.delay (L.end_sets p) ends_pure))))))))
 
 -- ---- each register is set
 
@@ -187,91 +178,53 @@ wire_no_register h = cc
 
 module _ (p : Plan) where
   behind_digits : (m : List ℕ) → IsSet m (L.stage_sets (several p) p.back_width 0 p.delay ++ L.end_sets p) → IsSet m (L.sets_all p)
-  behind_digits m s = inr (inr (inr (inr (inr s))))
+  behind_digits m s = inr (inr (inr (inr (inr (inr (inr (inr s)))))))
 
   ends_set : ((m : List ℕ) → IsSet m (L.end_sets p) → IsSet m (L.sets_all p)) → Each (IsSetRegister p) (item_declarations (L.items_after p))
-  ends_set up = (
-    (λ e. up L.want (inl refl)),
-    (
-      (λ e. up L.bad (inr (inl refl))),
-      (
-        (λ e. wire_no_register e),
-        (
-          (λ e. wire_no_register e),
-          (
-            (λ e. wire_no_register e),
-            (
-              (λ e. wire_no_register e),
-              (
-                (λ e. wire_no_register e),
-                (
-                  (λ e. wire_no_register e),
-                  (
-                    (λ e. wire_no_register e),
-                    (
-                      (λ e. wire_no_register e),
-                      (
-                        (λ e. wire_no_register e),
-                        (
-                          (λ e. wire_no_register e),
-                          tt,
-                        ),
-                      ),
-                    ),
-                  ),
-                ),
-              ),
-            ),
-          ),
-        ),
-      ),
-    ),
-  )
+  ends_set up =
+      also (λ e. up L.want (inl refl))
+      (also (λ e. up L.bad (inr (inl refl)))
+      (also (λ e. wire_no_register e)
+      (also (λ e. wire_no_register e)
+      (also (λ e. wire_no_register e)
+      (also (λ e. wire_no_register e)
+      (also (λ e. wire_no_register e)
+      (also (λ e. wire_no_register e)
+      (also (λ e. wire_no_register e)
+      (also (λ e. wire_no_register e)
+      (also (λ e. wire_no_register e)
+      (also (λ e. wire_no_register e)
+      (also (λ e. wire_no_register e)
+      (also (λ e. wire_no_register e)
+      (also (λ e. wire_no_register e)
+      (also (λ e. wire_no_register e)
+      (also (λ e. wire_no_register e)
+      (also (λ e. wire_no_register e)
+      (also (λ e. wire_no_register e)
+      (also (λ e. wire_no_register e)
+      (also (λ e. wire_no_register e)
+      tt))))))))))))))))))))
 
   all_set : Each (IsSetRegister p) (declarations (L.ports p) (L.items p))
-  all_set = (
-    (λ e. input_no_register e),
-    (
-      (λ e. input_no_register e),
-      (
-        (λ e. input_no_register e),
-        (
-          (λ e. wire_no_register e),
-          (
-            (λ e. wire_no_register e),
-            (
-              (λ e. wire_no_register e),
-              (
-                (λ e. wire_no_register e),
-                (
-                  (λ e. wire_no_register e),
-                  (
-                    (λ e. wire_no_register e),
-                    (
-                      (λ e. inl refl),
-                      (
-                        (λ e. inr (inl refl)),
-                        (
-                          (λ e. inr (inr (inl refl))),
-                          (
-                            (λ e. inr (inr (inr (inl refl)))),
-                            (
-                              (λ e. inr (inr (inr (inr (inl refl))))),
-                              ages_each (IsSetRegister p) (λ m. IsSet m (L.sets_all p)) (λ n k q e. q) (several p) p.back_width 0 p.delay (L.end_sets p) (L.items_after p) behind_digits ends_set,
-                            ),
-                          ),
-                        ),
-                      ),
-                    ),
-                  ),
-                ),
-              ),
-            ),
-          ),
-        ),
-      ),
-    ),
-  )
+  all_set =
+      also (λ e. input_no_register e)
+      (also (λ e. input_no_register e)
+      (also (λ e. input_no_register e)
+      (also (λ e. wire_no_register e)
+      (also (λ e. wire_no_register e)
+      (also (λ e. wire_no_register e)
+      (also (λ e. wire_no_register e)
+      (also (λ e. wire_no_register e)
+      (also (λ e. wire_no_register e)
+      (also (λ e. inl refl)
+      (also (λ e. inr (inl refl))
+      (also (λ e. inr (inr (inl refl)))
+      (also (λ e. inr (inr (inr (inl refl))))
+      (also (λ e. inr (inr (inr (inr (inl refl)))))
+      (also (λ e. inr (inr (inr (inr (inr (inl refl))))))
+      (also (λ e. inr (inr (inr (inr (inr (inr (inl refl)))))))
+      (also (λ e. inr (inr (inr (inr (inr (inr (inr (inl refl))))))))
+      (ages_each (IsSetRegister p) (λ m. IsSet m (L.sets_all p)) (λ n k q e. q) (several p) p.back_width 0 p.delay (L.end_sets p) (L.items_after p) behind_digits ends_set)))))))))))))))))
 
 -- ---- the registers behind an edge
 
@@ -328,11 +281,11 @@ module _ (p : Plan) (ready : Ready p) (o : OpenEnv) where
   want_kept all =
       let value = known_value (w p) o (L.want_next p) (λ m u. all m (uses_clear (L.want_next p) m (want_under p ready) u)) in
       let behind = ages_set_none L.want (several p) p.back_width 0 p.delay (record { no_reads = λ j l. refl; no_over = λ j l. refl; no_value = λ j l. refl; no_back = λ j l. refl }) (L.end_sets p) ((λ c. value), ((λ c. not_true c), tt)) in
-      set_to_number L.want ((λ c. not_true c), ((λ c. not_true c), ((λ c. not_true c), ((λ c. not_true c), ((λ c. not_true c), behind)))))
+      set_to_number L.want ((λ c. not_true c), ((λ c. not_true c), ((λ c. not_true c), ((λ c. not_true c), ((λ c. not_true c), ((λ c. not_true c), ((λ c. not_true c), ((λ c. not_true c), behind))))))))
       (behind_digits p L.want (set_behind L.want (L.stage_sets (several p) p.back_width 0 p.delay) (L.end_sets p) (inl refl)))
 
   pub bad_set : Known (open_value (w p) o (L.bad_next p)) → Known (open_next (L.self_test p) o L.bad)
   bad_set value =
       let behind = ages_set_none L.bad (several p) p.back_width 0 p.delay (record { no_reads = λ j l. refl; no_over = λ j l. refl; no_value = λ j l. refl; no_back = λ j l. refl }) (L.end_sets p) ((λ c. not_true c), ((λ c. value), tt)) in
-      set_to_number L.bad ((λ c. not_true c), ((λ c. not_true c), ((λ c. not_true c), ((λ c. not_true c), ((λ c. not_true c), behind)))))
+      set_to_number L.bad ((λ c. not_true c), ((λ c. not_true c), ((λ c. not_true c), ((λ c. not_true c), ((λ c. not_true c), ((λ c. not_true c), ((λ c. not_true c), ((λ c. not_true c), behind))))))))
       (behind_digits p L.bad (set_behind L.bad (L.stage_sets (several p) p.back_width 0 p.delay) (L.end_sets p) (inr (inl refl))))
