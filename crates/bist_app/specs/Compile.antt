@@ -11,6 +11,8 @@ use Rattle.verilog_tree.specs.Plain.{ModuleTree}
 use Rattle.verilog_tree.specs.Spells.{Spells}
 use Rattle.verilog_emit.specs.Written.{IsTextOf}
 use Rattle.self_test.specs.SelfTest.{SelfTest}
+use Rattle.self_test.specs.Expected.{ShowsExpected}
+use Rattle.self_test.specs.Numbers.{ShowsNumbers}
 use Rattle.bist_endings.specs.declared.ending.Refusal.{Refusal}
 use Rattle.bist_endings.specs.Ending.{Done}
 use Rattle.bist_endings.specs.Then.{Then, OrNoMemory}
@@ -21,7 +23,7 @@ use Rattle.bist_app.specs.Reported.{Reports}
 use Rattle.bist_app.specs.Forms.{Form, Row, without_boxes}
 
 -- The bytes are the text of a module and of no other, and spell it and no other, as the reader of modules takes them. It is a self-test of
--- the memory by the march.
+-- the memory by the march, shows on `wdata` what each read expects, and shows numbers where its registers are open at first.
 pub record IsSelfTestText (march : List MarchElement) (d : Description) (text : List ℕ) : Type 0 where
   pub tree : ModuleTree
   pub is_text : IsTextOf text tree
@@ -29,6 +31,8 @@ pub record IsSelfTestText (march : List MarchElement) (d : Description) (text : 
   pub spells : Spells text tree
   pub no_other : (other : ModuleTree) → Spells text other → other ≡ tree
   pub self_test : SelfTest tree march d
+  pub expected : ShowsExpected tree march d
+  pub numbers : ShowsNumbers tree march d
 
 -- The file that the fourth word names has the module's text, and that of the fifth word the report of the list, whose last
 -- line is said.

@@ -10,6 +10,8 @@ use Rattle.dynamic_core.specs.Items.{SpellsItems}
 use Rattle.verilog_tree.specs.Plain.{ModuleTree}
 use Rattle.verilog_emit.specs.Written.{IsTextOf}
 use Rattle.self_test.specs.SelfTest.{SelfTest}
+use Rattle.self_test.specs.Expected.{ShowsExpected}
+use Rattle.self_test.specs.Numbers.{ShowsNumbers}
 use Rattle.report.specs.Report.{IsMixedReport, DetectsOf, total_line}
 use Rattle.bist_endings.specs.Words.{Words, word}
 use Rattle.bist_endings.specs.Ending.{found_status}
@@ -33,7 +35,8 @@ InputHas files name P = FileHas files name (λ bytes. (length bytes ≤ input_li
 -- The files MARCH, MEMORY and FAULTS were read as a march, a memory and a list, and spell no others. Now the bytes of VERILOG are the text of a
 -- module and of no other: its layout, with parentheses round each operator and begin and end round each body, where its names are legal and its
 -- literals hold their values. (By the grammar of the reader they spell no other module either: the clause answer says that.) The module is a
--- self-test of that memory by that march, and the bytes of REPORT are the report of the list. Some item isn't detected exactly where the
+-- self-test of that memory by that march; `wdata` has what a read expects in the cycle of each; and where nothing is known of its registers at
+-- first each output has a number all the same. The bytes of REPORT are the report of the list. Some item isn't detected exactly where the
 -- status is 1. How many there are and how many are detected was said, and all other files are as before.
 pub record IsCompilation (words : Words) (files files' : Files) (said said' : Option (List ℕ)) (status : ℕ) : Type 0 where
   pub shape : HasForm compile_form words
@@ -46,6 +49,8 @@ pub record IsCompilation (words : Words) (files files' : Files) (said said' : Op
   pub list_text : InputHas files (word words 3) (λ bytes. Only (SpellsItems bytes) items)
   pub tree : ModuleTree
   pub self_test : SelfTest tree march memory
+  pub expected : ShowsExpected tree march memory
+  pub numbers : ShowsNumbers tree march memory
   pub module_text : FileHas files' (word words 4) (λ bytes. Only (IsTextOf bytes) tree)
   pub report_text : FileHas files' (word words 5) (λ bytes. IsMixedReport bytes march (Some memory) items)
   pub escapes : Bool

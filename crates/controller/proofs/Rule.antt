@@ -2,7 +2,6 @@
 use Rattle.std.proofs.Common.{◌≡◌, ◌≢◌, ℕ, suc, ◌+◌, ◌<◌, ◌≤◌, Bool, true, false, IsTrue, List, slice_get, Some, None, refl, ◌∙◌, ap, arith}
 use Rattle.std.proofs.lemmas.Option.{slice_get_within}
 use Rattle.word_march.specs.declared.operations.PortOp.{PortOp}
-use Rattle.word_march.specs.PortRule.{Carries}
 use Rattle.march_core.specs.March.{MarchElement, is_pause, IsMarch}
 use Rattle.memory_desc.specs.Descriptions.{Description, IsMemory}
 use Rattle.word_march.specs.Commands.{slots, port_ops, command_count, command_at, span}
@@ -42,11 +41,19 @@ module _ (march : List MarchElement) (d : Description) (returned : ℕ → ℕ) 
     differs = r.differs;
   }
 
+-- in the cycle of a command the controller is live, and at that command
+pub commanded : (march : List MarchElement) (d : Description) (returned : ℕ → ℕ) (k : ℕ) (c : Control) → Starts march d → Turns march d c.place → Stands march d returned k c
+    → (j : ℕ) (o : PortOp) → slice_get (port_ops march d) j ≡ Some o → suc k ≡ cycle_of march d j → (live march c ≡ true) × (command_of march d c.place ≡ o)
+commanded march d returned k c s t st j o h e =
+    let at : k ≡ command_at march d j = omega arith in
+    is_command (slots march d) k c.run (is_pause (element_at march c.place.element)) (command_of march d c.place) o (now march d returned k c.run c.place t st.left)
+    (ap (slice_get (slots march d)) at ∙ s.stands j o h)
+
 pub rule : (march : List MarchElement) (d : Description) (returned : ℕ → ℕ) (k : ℕ) (c : Control)
     → Starts march d → Turns march d c.place → Stands march d returned k c → PortRule march d returned (suc k) (outputs march d c)
 rule march d returned k c s t st = record {
   reset = λ h. absurd (omega arith);
-  commands = carried;
+  commands = λ j o h e. let q = commanded march d returned k c s t st j o h e in record { enabled = q.0; write = ap (λ x. x.write) q.1; address = ap (λ x. x.addr) q.1; word = λ w. ap (λ x. x.word) q.1 };
   idle = unused (live march c) refl;
   done = (λ h. let l = st.last.late h in omega (arith, s.count), at_last c.over refl);
   fail = λ h. (λ b. differs march d returned (suc k) s (st.failed b), λ r. failing c.bad refl (missed march d returned (suc k) s r));
@@ -54,13 +61,6 @@ rule march d returned k c s t st = record {
   where
     pausing : Bool
     pausing = is_pause (element_at march c.place.element)
-
-    carried : (j : ℕ) (o : PortOp) → slice_get (port_ops march d) j ≡ Some o → suc k ≡ cycle_of march d j → Carries o (outputs march d c)
-    carried j o h e =
-        let at : k ≡ command_at march d j = omega arith in
-        let q = is_command (slots march d) k c.run (is_pause (element_at march c.place.element)) (command_of march d c.place) o (now march d returned k c.run c.place t st.left)
-        (ap (slice_get (slots march d)) at ∙ s.stands j o h) in
-        record { enabled = q.0; write = ap (λ x. x.write) q.1; address = ap (λ x. x.addr) q.1; word = λ w. ap (λ x. x.word) q.1 }
 
     unused : (b : Bool) → live march c ≡ b → ((j : ℕ) → j < command_count march d → suc k ≢ cycle_of march d j) → live march c ≡ false
     unused false e h = e

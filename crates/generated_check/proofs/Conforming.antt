@@ -1,8 +1,8 @@
 -- Of a module that the generator makes every open run conforms.
-use Rattle.std.proofs.Common.{◌≡◌, ℕ, zero, suc, ◌<◌, ◌^◌, Bool, true, false, ◌==◌, if◌then◌else◌, List, [], ◌∷◌, ◌++◌, Option, Some, None, slice_index, codes, refl, sym, ap, ◌∙◌, subst, arith}
+use Rattle.std.proofs.Common.{◌≡◌, ℕ, zero, suc, ◌<◌, ◌^◌, Bool, true, false, ◌==◌, if◌then◌else◌, List, [], ◌∷◌, ◌++◌, Option, Some, None, slice_index, codes, refl, sym, ap, ◌∙◌, subst}
 use Rattle.std.proofs.lemmas.Nat.{pow_pos}
 use Rattle.verilog_tree.specs.Formed.{formed}
-use Rattle.verilog_tree.specs.Meaning.{Env, bit, names_widths}
+use Rattle.verilog_tree.specs.Meaning.{Env, bit}
 use Rattle.march_core.specs.March.{MarchElement}
 use Rattle.memory_desc.specs.Descriptions.{Description}
 use Rattle.word_march.specs.PortRule.{PortValues}
@@ -10,6 +10,8 @@ use Rattle.self_test.specs.Ports.{port_values}
 use Rattle.self_test.specs.SelfTest.{SelfTest}
 use Rattle.verilog_open.specs.Open.{OpenEnv}
 use Rattle.verilog_open.specs.Known.{Known}
+use Rattle.verilog_open.specs.Laws.{Allows, AllowsEnv}
+use Rattle.std.proofs.lemmas.Option.{same_Some}
 use Rattle.rtl_layout.specs.Plan.{Plan}
 use Rattle.rtl_layout.specs.Shows.{IsPlan}
 use Rattle.rtl_layout.specs.Layout as L
@@ -17,28 +19,22 @@ use Rattle.rtl_layout.proofs.Forms.{is_formed}
 use Rattle.rtl_layout.proofs.Ranked.{rank, rank_falls}
 use Rattle.port_check.specs.declared.answer.PortAnswer.{PortAnswer}
 use Rattle.port_check.specs.declared.answer.PortAnswer.TheVariants as A
-use Rattle.port_check.specs.OpenRun.{IsOpenRun}
+use Rattle.port_check.specs.OpenRun.{open_inputs, IsOpenRun}
 use Rattle.word_march.specs.Commands.{cycle_count}
-use Rattle.port_check.specs.Compared.{PortValue, shows, word_port, compared, Wants}
-use Rattle.port_check.specs.Results.{IsUnknown, IsDifferent}
+use Rattle.port_check.specs.Compared.{PortValue, shows, word_port, compared, Wants, AllShown, IsRight}
+use Rattle.port_check.specs.Results.{Reaches}
 use Rattle.port_check.specs.Answers.{IsAnswer, AnswerOf}
-use Rattle.port_check.proofs.Runs.{number_shows}
+use Rattle.port_check.proofs.Runs.{the_run, is_run, each_allowed}
 use Rattle.port_check.proofs.Answers.{wants_one}
-use Rattle.generated_check.proofs.Runs.{known_after, en_known, done_known}
-use Rattle.generated_check.proofs.Histories.{lasts}
+use Rattle.rtl_layout.specs.Numbers.{one_reset, inputs_with}
+use Rattle.rtl_layout.proofs.Numbers.{known_after, quiet, history_with}
+use Rattle.verilog_open.proofs.Histories.{inputs_from}
+use Rattle.rtl_gen.proofs.Numbers.{same_reset, is_its_bit, known_is, words_from, are_inputs}
 
 -- each of these ports has a number
 abbrev AllNumbers : OpenEnv → List PortValue → Type 0
 AllNumbers o [] = Unit {0}
 AllNumbers o (p ∷ ps) = Known (o p.name) × AllNumbers o ps
-
-numbers_at : (o : OpenEnv) (before : List PortValue) (p : PortValue) (behind : List PortValue) → AllNumbers o (before ++ p ∷ behind) → Known (o p.name)
-numbers_at o [] p behind h = h.0
-numbers_at o (q ∷ before) p behind h = numbers_at o before p behind h.1
-
-unknown_absurd : {P : Type 0} (v : Option ℕ) → Known v → v ≡ None → P
-unknown_absurd None k h = absurd k
-unknown_absurd (Some n) k h = cc
 
 -- ports that are clear
 clear_numbers : (o : OpenEnv) → Known (o (codes "en")) → Known (o (codes "we")) → Known (o (codes "addr")) → Known (o (codes "wdata")) → Known (o (codes "done")) → (q : PortValues) → AllNumbers o (compared q)
@@ -66,15 +62,6 @@ abbrev AllHave : Env → List PortValue → Type 0
 AllHave e [] = Unit {0}
 AllHave e (p ∷ ps) = (e p.name ≡ p.value) × AllHave e ps
 
-have_at : (e : Env) (before : List PortValue) (p : PortValue) (behind : List PortValue) → AllHave e (before ++ p ∷ behind) → e p.name ≡ p.value
-have_at e [] p behind h = h.0
-have_at e (q ∷ before) p behind h = have_at e before p behind h.1
-
-is_its_bit : (v : ℕ) → v < 2 ^ 1 → v ≡ bit (v == 1)
-is_its_bit zero h = refl
-is_its_bit (suc zero) h = refl
-is_its_bit (suc (suc v)) h = absurd (omega (arith, h))
-
 values_have : (e : Env) → e (codes "en") < 2 ^ 1 → e (codes "we") < 2 ^ 1 → e (codes "done") < 2 ^ 1 → AllHave e (compared (port_values e))
 values_have e en we done = (is_its_bit (e (codes "en")) en, commands (port_values e).en)
   where
@@ -89,35 +76,60 @@ values_have e en we done = (is_its_bit (e (codes "en")) en, commands (port_value
     commands true = (is_its_bit (e (codes "we")) we, (refl, words (port_values e).we))
     commands false = (is_its_bit (e (codes "done")) done, tt)
 
+-- numbers that a history has are those of the run
+all_shown : (o : OpenEnv) (e : Env) → AllowsEnv o e → (ps : List PortValue) → AllNumbers o ps → AllHave e ps → AllShown o ps
+all_shown o e a [] k h = tt
+all_shown o e a (p ∷ ps) k h = (known_is (o p.name) p.value k.0 (subst (Allows (o p.name)) h.0 (a p.name)), all_shown o e a ps k.1 h.1)
+
+shown_at : (o : OpenEnv) (before : List PortValue) (p : PortValue) (behind : List PortValue) → AllShown o (before ++ p ∷ behind) → o p.name ≡ Some p.value
+shown_at o [] p behind h = h.0
+shown_at o (q ∷ before) p behind h = shown_at o before p behind h.1
+
 module _ (march : List MarchElement) (d : Description) (p : Plan) (plan : IsPlan p) (test : SelfTest (L.self_test p) march d) (run : ℕ → OpenEnv) (r : IsOpenRun (L.self_test p) run) where
   forms : formed (L.self_test p) ≡ true
   forms = is_formed p plan.ready plan.sized
 
+  resets : (t : ℕ) → open_inputs t L.reset ≡ Some (one_reset t)
+  resets t = ap (λ (x : ℕ). Some x) (same_reset t)
+
   -- each compared port has a number
   numbers : (t : ℕ) (ps : List PortValue) → Wants march d t ps → AllNumbers (run t) ps
-  numbers zero ps w = subst (AllNumbers (run 0)) (sym w.are) (idle_numbers (run 0) (en_known p plan.ready forms test.legal run r) (done_known p plan.ready forms test.legal run r) w.ports (w.meets.reset refl).0)
+  numbers zero ps w =
+      let q = quiet p plan.ready plan.sized open_inputs run r resets in
+      subst (AllNumbers (run 0)) (sym w.are) (idle_numbers (run 0) (subst Known (sym q.0) tt) (subst Known (sym q.1) tt) w.ports (w.meets.reset refl).0)
   numbers (suc t) ps w =
-      let known = known_after p plan.ready forms test.legal run r t in
+      let known = known_after p plan.ready plan.sized open_inputs run r resets t in
       subst (AllNumbers (run (suc t))) (sym w.are) (clear_numbers (run (suc t)) (known L.en refl) (known L.we refl) (known L.addr refl) (known L.wdata refl) (known L.done refl) w.ports)
 
-  never_unknown : {P : Type 0} (t : ℕ) (q : PortValue) → IsUnknown march d run t q → P
-  never_unknown t q u =
-      unknown_absurd (run t q.name) (numbers_at (run t) u.reaches.before q u.reaches.behind (numbers t (u.reaches.before ++ q ∷ u.reaches.behind) u.reaches.wants)) u.unknown
+  -- and it is the one that the rule wants, which a history has
+  right : (t : ℕ) → IsRight march d t (run t)
+  right t ps w =
+      let words : ℕ → ℕ = λ _. 0 in
+      let list = words_from words 0 (suc t) in
+      let l = history_with p plan.ready plan.sized words (λ _. pow_pos p.bits) t in
+      let meets = test.meets (λ n. 0) list (inputs_from (inputs_with words) 0 (suc t)) l.cycles (are_inputs words 0 (suc t)) l.history t l.last l.at in
+      let same = wants_one march d t ps (compared (port_values l.last)) w (record { returned = slice_index list; ports = port_values l.last; meets = meets; are = refl }) in
+      let have : AllHave l.last ps = subst (AllHave l.last) (sym same) (values_have l.last (l.fits L.en) (l.fits L.we) (l.fits L.done)) in
+      let allowed = each_allowed (L.self_test p) forms test.legal rank (rank_falls p plan.ready) run r (λ n. 0) list (inputs_from (inputs_with words) 0 (suc t)) l.cycles (are_inputs words 0 (suc t)) l.history t l.last l.at in
+      all_shown (run t) l.last allowed ps (numbers t ps w) have
 
-  -- and it is the one that the rule wants
-  never_different : {P : Type 0} (t : ℕ) (q : PortValue) (got : ℕ) → IsDifferent march d run t q got → P
-  never_different t q got u =
-      let l = lasts (L.self_test p) forms test.legal rank (rank_falls p plan.ready) t 0 (λ n. 0) (λ n. pow_pos (names_widths (L.self_test p) n)) in
-      let meets = test.meets (λ n. 0) l.words l.inputs l.cycles l.are l.history t l.last l.at in
-      let shown : l.last q.name ≡ got = number_shows (L.self_test p) forms test.legal rank (rank_falls p plan.ready) run r t q.name got u.has (λ n. 0) l.words l.inputs l.cycles l.are l.history l.last l.at in
-      let same = wants_one march d t (u.reaches.before ++ q ∷ u.reaches.behind) (compared (port_values l.last)) u.reaches.wants (record { returned = slice_index l.words; ports = port_values l.last; meets = meets; are = refl }) in
-      let have : AllHave l.last (u.reaches.before ++ q ∷ u.reaches.behind) = subst (AllHave l.last) (sym same) (values_have l.last (l.fits L.en) (l.fits L.we) (l.fits L.done)) in
-      absurd (u.differs (sym shown ∙ have_at l.last u.reaches.before q u.reaches.behind have))
+  reached : (t : ℕ) (q : PortValue) → Reaches march d run t q → run t q.name ≡ Some q.value
+  reached t q h = shown_at (run t) h.before q h.behind (right t (h.before ++ q ∷ h.behind) h.wants)
+
+  unlike : {P : Type 0} (o : Option ℕ) (v : ℕ) → o ≡ Some v → o ≡ None → P
+  unlike o v h g = let z : Some v ≡ None = sym h ∙ g in cc
 
   pub conforms : (a : PortAnswer) → AnswerOf march d run a → a ≡ A.Conforms (cycle_count march d)
   conforms (A.Conforms c) h = ap (λ (n : ℕ). A.Conforms n) h.0
-  conforms (A.Differs t port x g) h = never_different t (shows port.bytes x) g h
-  conforms (A.Unknown t port) h = never_unknown t (shows port.bytes h.0) h.1
+  conforms (A.Differs t port x g) h = absurd (h.differs (same_Some g x (sym h.has ∙ reached t (shows port.bytes x) h.reaches)))
+  conforms (A.Unknown t port) h = unlike (run t port.bytes) h.0 (reached t (shows port.bytes h.0) h.1.reaches) h.1.unknown
 
-pub generated_conform : (march : List MarchElement) (d : Description) (p : Plan) → IsPlan p → SelfTest (L.self_test p) march d → (a : PortAnswer) → IsAnswer (L.self_test p) march d a → a ≡ A.Conforms (cycle_count march d)
-generated_conform march d p plan test a h = conforms march d p plan test h.run h.is_run a h.is
+pub generated_conform : (march : List MarchElement) (d : Description) (p : Plan) → IsPlan p → SelfTest (L.self_test p) march d
+    → IsAnswer (L.self_test p) march d (A.Conforms (cycle_count march d)) × ((a : PortAnswer) → IsAnswer (L.self_test p) march d a → a ≡ A.Conforms (cycle_count march d))
+generated_conform march d p plan test =
+    let forms = is_formed p plan.ready plan.sized in
+    let run = the_run (L.self_test p) forms test.legal rank (rank_falls p plan.ready) in
+    let r = is_run (L.self_test p) forms test.legal rank (rank_falls p plan.ready) in (
+      record { run = run; is_run = r; is = (refl, λ t l. right march d p plan test run r t) },
+      λ a h. conforms march d p plan test h.run h.is_run a h.is,
+    )

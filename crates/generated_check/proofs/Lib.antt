@@ -1,5 +1,2 @@
-pub mod Clear
-pub mod Sets
-pub mod Runs
-pub mod Histories
 pub mod Conforming
+pub mod Texts

@@ -1,5 +1,8 @@
-//! A law, the contract of a function that does nothing.
+//! Laws, each the contract of a function that does nothing.
 ghost use Rattle.std.specs.Prelude.{◌≡◌, List};
+ghost use Rattle.verilog_tree.specs.Plain.{ModuleTree};
+ghost use Rattle.verilog_tree.specs.Spells.{FreelySpells};
+ghost use Rattle.verilog_emit.specs.Printed.{printed};
 ghost use Rattle.march_core.specs.March.{MarchElement};
 ghost use Rattle.memory_desc.specs.Descriptions.{Description};
 ghost use Rattle.self_test.specs.SelfTest.{SelfTest};
@@ -11,8 +14,15 @@ ghost use Rattle.port_check.specs.declared.answer.PortAnswer.TheVariants.{Confor
 ghost use Rattle.port_check.specs.Answers.{IsAnswer};
 ghost use Rattle.word_march.specs.Commands.{cycle_count};
 
-/// The module that the generator makes of a march and a memory conforms: the check of it has no other answer. (It is the layout of a plan, by
-/// the clause `layout` of `generate`, and a self-test of them, by its clause `self_test`.)
+/// The module that the generator makes of a march and a memory conforms: the check of it has this answer and no other. (It is the layout of a
+/// plan, by the clause `layout` of `generate`, and a self-test of them, by its clause `self_test`.)
 pub fn generated_modules_conform()
-    ensures { (march : List MarchElement) (d : Description) (p : Plan) → IsPlan p → SelfTest (L.self_test p) march d → (answer : PortAnswer) → IsAnswer (L.self_test p) march d answer → answer ≡ Conforms (cycle_count march d) }
+    ensures { (march : List MarchElement) (d : Description) (p : Plan) → IsPlan p → SelfTest (L.self_test p) march d → IsAnswer (L.self_test p) march d (Conforms (cycle_count march d)) × ((answer : PortAnswer) → IsAnswer (L.self_test p) march d answer → answer ≡ Conforms (cycle_count march d)) }
+{}
+
+/// The bytes that are written of it, read with operators that bind by precedence, are that module and no other. (They are the layout of its
+/// text, by the clause `form` of `emit`.)
+pub fn generated_texts_are_read()
+    ensures its_own { (p : Plan) → IsPlan p → FreelySpells (printed (L.self_test p)) (L.self_test p) }
+    ensures no_other { (p : Plan) → IsPlan p → (mo : ModuleTree) → FreelySpells (printed (L.self_test p)) mo → mo ≡ L.self_test p }
 {}

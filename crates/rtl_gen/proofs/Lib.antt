@@ -4,3 +4,4 @@ pub mod Listed
 pub mod Addressed
 pub mod Sizes
 pub mod Made
+pub mod Numbers

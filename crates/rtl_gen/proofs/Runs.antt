@@ -18,10 +18,11 @@ use Rattle.controller.specs.Standing.{Stands}
 use Rattle.controller.proofs.Turn.{turns}
 use Rattle.controller.proofs.Slots as S
 use Rattle.controller.proofs.Steps.{resets, steps}
-use Rattle.controller.proofs.Rule.{rule}
+use Rattle.controller.proofs.Rule.{rule, commanded}
 use Rattle.controller.proofs.Mirror.{answers_rule}
 use Rattle.self_test.specs.Ports.{ports, port_values}
 use Rattle.self_test.specs.SelfTest.{AreInputs, EachMeets, SelfTest}
+use Rattle.self_test.specs.Expected.{CarriesExpected, ShowsExpected}
 use Rattle.rtl_layout.specs.Plan.{Plan}
 use Rattle.rtl_layout.specs.Layout as L
 use Rattle.rtl_layout.specs.Control.{start, step, outputs, is_live, operation, here, index_at}
@@ -119,42 +120,68 @@ module _ (march : List MarchElement) (d : Description) (p : Plan) (pl : Plans ma
           let low : c.visit < d.words = subst (λ k. c.visit < k) many at.visit in
           index_below _ d.words c.visit low
 
+  -- a controller of the march stands in cycle suc k, and the ports answer for it
+  record Stood (returned : ℕ → ℕ) (k : ℕ) (e : Env) : Type 0 where
+    control : M.Control
+    stands : Stands march d returned k control
+    answers : Answers (M.outputs march d control) (port_values e)
+
   later : (returned : ℕ → ℕ) (k : ℕ) (c : C.Control) (ws : List ℕ) (is es : List Env) → Stands march d returned k (seen c) → Returns returned (suc k) ws → AreInputs (suc k) ws is → length is ≡ length es → W.AllAnswer p c is es
-      → (t u : ℕ) (e : Env) → u ≡ suc k + t → slice_get es t ≡ Some e → PortRule march d returned u (port_values e)
+      → (t u : ℕ) (e : Env) → u ≡ k + t → slice_get es t ≡ Some e → Stood returned u e
   later returned k c ws [] [] st rs ins same a zero u e q h = cc
   later returned k c ws [] [] st rs ins same a (suc t) u e q h = cc
   later returned k c ws [] (x ∷ es) st rs ins same a t u e q h = absurd (omega arith)
   later returned k c ws (i ∷ is) [] st rs ins same a t u e q h = absurd (omega arith)
   later returned k c [] (i ∷ is) (x ∷ es) st rs ins same a t u e q h = absurd ins
   later returned k c (w ∷ ws) (i ∷ is) (x ∷ es) st rs ins same a zero u e q h =
-      let at : suc k ≡ u = omega arith in
+      let at : k ≡ u = omega arith in
       let this : x ≡ e = cc in
-      subst (λ v. PortRule march d returned u (port_values v)) this
-      (subst (λ v. PortRule march d returned v (port_values x)) at
-      (answers_rule march d returned k (M.outputs march d (seen c)) (port_values x)
-      (rule march d returned k (seen c) (S.start march d m n) (turns march d (place c) m n st.place) st) (answered c x st.place a.0)))
+      subst (λ v. Stood returned u v) this
+      (subst (λ v. Stood returned v x) at (record { control = seen c; stands = st; answers = answered c x st.place a.0 }))
   later returned k c (w ∷ ws) (i ∷ is) (x ∷ es) st rs ins same a (suc t) u e q h =
       let stepped = steps march d returned k (seen c) (turns march d (place c) m n st.place) st in
       let given = subst (λ v. Stands march d returned (suc k) (M.step march d v (seen c))) (rs.0 ∙ sym ins.1) stepped in
       later returned (suc k) (step p (i L.rdata) c) ws is es (subst (Stands march d returned (suc k)) (sym (step_seen march d p pl c st.place.element (i L.rdata))) given)
       rs.1 ins.2 (omega arith) a.1 t u e (omega arith) h
 
-  meets : (regs : Env) (words : List ℕ) (is es : List Env) → AreInputs 0 words is → History (L.self_test p) regs is es → EachMeets march d (slice_index words) es
-  meets regs words [] [] ins h zero e g = cc
-  meets regs words [] [] ins h (suc t) e g = cc
-  meets regs words [] (x ∷ es) ins h t e g = absurd h
-  meets regs [] (i ∷ is) es ins h t e g = absurd ins
-  meets regs (w ∷ ws) (i ∷ is) [] ins h t e g = absurd h
-  meets regs (w ∷ ws) (i ∷ is) (x ∷ es) ins h zero e g =
+  -- what holds of the quiet ports of the reset, and of ports that answer for a controller which stands, holds in each cycle
+  in_each : (P : (ℕ → ℕ) → ℕ → Env → Type 0)
+      → ((returned : ℕ → ℕ) (e : Env) → (e L.en ≡ 0) × (e L.done ≡ 0) × (e L.fail ≡ 0) → P returned 0 e)
+      → ((returned : ℕ → ℕ) (k : ℕ) (e : Env) → Stood returned k e → P returned (suc k) e)
+      → (regs : Env) (words : List ℕ) (is es : List Env) → AreInputs 0 words is → History (L.self_test p) regs is es → (t : ℕ) (e : Env) → slice_get es t ≡ Some e → P (slice_index words) t e
+  in_each P first then regs words [] [] ins h zero e g = cc
+  in_each P first then regs words [] [] ins h (suc t) e g = cc
+  in_each P first then regs words [] (x ∷ es) ins h t e g = absurd h
+  in_each P first then regs [] (i ∷ is) es ins h t e g = absurd ins
+  in_each P first then regs (w ∷ words) (i ∷ is) [] ins h t e g = absurd h
+  in_each P first then regs (w ∷ ws) (i ∷ is) (x ∷ es) ins h zero e g =
       let this : x ≡ e = cc in
-      subst (λ v. PortRule march d (slice_index (w ∷ ws)) 0 (port_values v)) this
-      (quiet march d (slice_index (w ∷ ws)) x (always p is_plan.ready regs i x is es ins.0 (no_reset 0 ws is ins.2) h).0)
-  meets regs (w ∷ ws) (i ∷ is) (x ∷ es) ins h (suc t) e g =
+      subst (λ v. P (slice_index (w ∷ ws)) 0 v) this
+      (first (slice_index (w ∷ ws)) x (always p is_plan.ready is_plan.sized regs i x is es ins.0 (no_reset 0 ws is ins.2) h).0)
+  in_each P first then regs (w ∷ ws) (i ∷ is) (x ∷ es) ins h (suc t) e g =
       let returned = slice_index (w ∷ ws) in
-      later returned 0 (start p) ws is es
+      then returned t e (later returned 0 (start p) ws is es
       (subst (Stands march d returned 0) (sym (starts_seen march d p pl)) (resets march d returned n (S.start march d m n)))
-      (all_return (w ∷ ws)).1 ins.2 (same_length (L.self_test p) (next (L.self_test p) x) is es h.1) (always p is_plan.ready regs i x is es ins.0 (no_reset 0 ws is ins.2) h).1
-      t (suc t) e (omega arith) g
+      (all_return (w ∷ ws)).1 ins.2 (same_length (L.self_test p) (next (L.self_test p) x) is es h.1) (always p is_plan.ready is_plan.sized regs i x is es ins.0 (no_reset 0 ws is ins.2) h).1
+      t t e (omega arith) g)
+
+  rule_of : (returned : ℕ → ℕ) (k : ℕ) (e : Env) → Stood returned k e → PortRule march d returned (suc k) (port_values e)
+  rule_of returned k e s =
+      let c = s.control in
+      answers_rule march d returned k (M.outputs march d c) (port_values e)
+      (rule march d returned k c (S.start march d m n) (turns march d c.place m n s.stands.place) s.stands) s.answers
+
+  meets : (regs : Env) (words : List ℕ) (is es : List Env) → AreInputs 0 words is → History (L.self_test p) regs is es → EachMeets march d (slice_index words) es
+  meets = in_each (λ returned t e. PortRule march d returned t (port_values e)) (quiet march d) rule_of
+
+  carries : (returned : ℕ → ℕ) (k : ℕ) (e : Env) → Stood returned k e → CarriesExpected march d (suc k) (port_values e)
+  carries returned k e s j o there read at =
+      let c = s.control in
+      let q = commanded march d returned k c (S.start march d m n) (turns march d c.place m n s.stands.place) s.stands j o there at in
+      s.answers.wdata q.0 ∙ ap (λ x. x.word) q.1
+
+  pub expected : ShowsExpected (L.self_test p) march d
+  expected = in_each (λ returned t e. CarriesExpected march d t (port_values e)) (λ returned e q j o there read at. absurd (omega arith)) carries
 
   ports_seen : L.ports p ≡ ports d
   ports_seen =

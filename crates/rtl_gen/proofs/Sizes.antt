@@ -126,6 +126,13 @@ module _ (march : List MarchElement) (d : Description) (p : Plan) (pl : Plans ma
   oper_narrow : p.oper_width ≤ 16
   oper_narrow = let l = w.most_high in narrow (most - 1) p.oper_width (omega arith) w.oper
 
+  row_narrow : 2 ^ p.oper_width ≤ 64
+  row_narrow =
+      let l = w.most_high in
+      let k : p.oper_width ≤ 4 = w.oper.least 4 (omega arith) (omega arith) in
+      let g : 2 ^ p.oper_width ≤ 2 ^ 4 = pow-le-pow_right (lit< tt) k in
+      omega arith
+
   back_narrow : p.back_width ≤ 16
   back_narrow = let l = n.tested.few in narrow (length d.backgrounds - 1) p.back_width (omega arith) w.back
 
@@ -145,6 +152,7 @@ module _ (march : List MarchElement) (d : Description) (p : Plan) (pl : Plans ma
         element_narrow = omega arith;
         oper_some = w.oper.positive;
         oper_narrow = omega arith;
+        row_narrow = row_narrow;
         back_some = w.back.positive;
         back_narrow = omega arith;
         bits_some = let s = n.bits_low in let q = pl.bits in omega arith;
@@ -160,6 +168,8 @@ module _ (march : List MarchElement) (d : Description) (p : Plan) (pl : Plans ma
     ready = ready;
     sized = sized;
     few_ages = let l = n.latency_high in let e = pl.latency in omega arith;
+    few_elements = let l = m.elements_within in let e = count in omega arith;
+    few_backgrounds = let l = n.tested.few in let e = ap length pl.backgrounds in omega arith;
     element_small = element_narrow;
     oper_small = oper_narrow;
     back_small = back_narrow;

@@ -44,6 +44,11 @@ step_while_is ws e (c ∷ cs) x y =
 pub and_bit : (b : Bool) (v : ℕ) (x y : Bool) → v ≡ bit b → x ≡ y → (truth v && x) ≡ (b && y)
 and_bit b v x y h k = ap (λ u. truth u && x) h ∙ ap (λ t. t && x) (truth_bit b) ∙ ap (λ t. b && t) k
 
+-- the same where the rest need only hold behind it
+pub and_then : (b : Bool) (v : ℕ) (x y : Bool) → v ≡ bit b → (b ≡ true → x ≡ y) → (truth v && x) ≡ (b && y)
+and_then true v x y h k = and_bit true v x y h (k refl)
+and_then false v x y h k = ap (λ u. truth u && x) h
+
 pub not_equal : (k m : ℕ) → nat_eq k m ≡ false → k ≢ m
 not_equal k m h e = let t = eq-eqb k m e in cc
 

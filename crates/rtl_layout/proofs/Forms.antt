@@ -1,29 +1,32 @@
 -- The module has the sizes that a text can have, so exactly one environment settles.
-use Rattle.std.proofs.Common.{◌≡◌, ℕ, zero, suc, ◌-◌, ◌/◌, ◌^◌, ◌<◌, ◌≤◌, Bool, true, false, cond, ◌&&◌, nat_lt, List, [], ◌∷◌, ◌++◌, length, map, refl, sym, subst, arith, inl, inr}
+use Rattle.std.proofs.Common.{◌≡◌, ℕ, zero, suc, ◌-◌, ◌/◌, ◌^◌, ◌<◌, ◌≤◌, Bool, true, false, cond, ◌&&◌, nat_eq, nat_lt, List, [], ◌∷◌, ◌++◌, length, map, refl, sym, subst, arith, inl, inr}
 use Rattle.std.proofs.lemmas.Bool.{lt-ltb, le-leb}
 use Rattle.std.proofs.lemmas.Bool.Decides.{eqb_tells}
 use Rattle.std.proofs.lemmas.Nat.{pow_pos}
 use Rattle.std.specs.Prelude.{slice_index_or, nat_le}
 use Rattle.verilog_tree.specs.Plain.{Expression, Net, BitSelect, PartSelect, Concatenation, Prefixed, Infixed, Expressions, NoMore, Followed, Statement, SetTo, IfElse, CaseOf, expressions, statements, ModuleItem}
-use Rattle.verilog_tree.specs.declared.tree.UnOp.TheVariants.{AllOnes}
+use Rattle.verilog_tree.specs.declared.tree.UnOp.TheVariants.{AllOnes, Invert}
 use Rattle.verilog_tree.specs.declared.tree.BinOp.TheVariants.{Add, Sub}
 use Rattle.verilog_tree.specs.Meaning.{Env, bit}
 use Rattle.verilog_tree.specs.Formed.{is_width, is_place, has_expression, expression_formed, expressions_formed, statements_formed, item_formed, items_formed, ports_formed, formed}
 use Rattle.verilog_tree.specs.Wires.{Starts, OneSettles, Falls}
 use Rattle.verilog_tree.proofs.Settling.{one_settles}
-use Rattle.rtl_layout.specs.Build.{lit, choose, bit_of, pick, step_while, at_reset, low_more, high_more, in_halves, one_more, counter}
-use Rattle.rtl_layout.specs.declared.element.Operation.{Operation}
+use Rattle.rtl_layout.specs.Build.{lit, choose, bit_of, pick, rotated, counted, number_of, step_while, at_reset, low_more, high_more, in_halves, one_more, counter}
 use Rattle.rtl_layout.specs.declared.row.Row.{Row}
-use Rattle.rtl_layout.specs.Plan.{Element, Plan, several, port_word}
+use Rattle.rtl_layout.specs.Plan.{Element, Plan, several, port_word, is_single, limit}
 use Rattle.rtl_layout.specs.Layout as L
-use Rattle.rtl_layout.specs.Layout.{stage_regs, stage_sets, items_after, by_operation, by_element, word, feed_reads, feed_over, self_test}
-use Rattle.rtl_layout.specs.Control.{nothing, idle, element_at, background_at}
+use Rattle.rtl_layout.specs.Layout.{stage_regs, stage_sets, items_after, by_element, by_next, in_row, pattern_of, word_of, feed_reads, feed_over, self_test}
+use Rattle.rtl_layout.specs.Control.{nothing, element_at, background_at}
 use Rattle.rtl_layout.specs.Shows.{Ready, Sized, no_row}
+use Rattle.rtl_layout.proofs.Rows.{length_counted, counted_below, length_rotated, row_fits}
 use Rattle.rtl_layout.proofs.Words.{word_below}
 use Rattle.rtl_layout.proofs.Ranked.{pick_has, rank, rank_falls}
 use Rattle.rtl_layout.proofs.Choice.{double}
 use Rattle.rtl_layout.proofs.Counter.{either, half_in}
 use Rattle.rtl_layout.proofs.Whole.{legal}
+
+also : {A B : Type 0} → A → B → A × B
+also a b = (a, b)
 
 pub both : (a b : Bool) → a ≡ true → b ≡ true → (a && b) ≡ true
 both a b h k = rw (h, k) refl
@@ -97,21 +100,33 @@ counter_formed r v cs last h k a =
 -- ---- the module
 
 module _ (p : Plan) (ready : Ready p) (sized : Sized p) where
-  by_operation_formed : (f : Operation → Bool) → IsFormed (by_operation p f)
-  by_operation_formed f =
-      pick_formed L.element p.element_width (λ (x : Element). pick L.oper p.oper_width (map (λ (o : Operation). lit 1 (bit (f o))) x.operations)) nothing p.elements sized.element_narrow ready.has_element
-      (λ j g. pick_formed L.oper p.oper_width (λ (o : Operation). lit 1 (bit (f o))) idle (element_at p j).operations sized.oper_narrow (ready.has_operation j)
-      (λ i h. lit_formed 1 (bit (f (slice_index_or (element_at p j).operations i idle))) (omega arith) (omega arith) (bit_below (f (slice_index_or (element_at p j).operations i idle)))))
-
   by_element_formed : (s : ℕ) (f : Element → ℕ) → 1 ≤ s → s ≤ 64 → ((j : ℕ) → f (element_at p j) < 2 ^ s) → IsFormed (by_element p s f)
   by_element_formed s f h k a = pick_formed L.element p.element_width (λ (x : Element). lit s (f x)) nothing p.elements sized.element_narrow ready.has_element (λ j g. lit_formed s (f (element_at p j)) h k (a j))
 
-  word_formed : (k v : List ℕ) → IsFormed (word p k v)
-  word_formed k v =
-      pick_formed k p.back_width (λ b. choose (Net v) (lit p.bits (port_word p true b)) (lit p.bits (port_word p false b))) 0 p.backgrounds sized.back_narrow ready.has_background
-      (λ j g. choose_formed (Net v) (lit p.bits (port_word p true (background_at p j))) (lit p.bits (port_word p false (background_at p j))) refl
-      (lit_formed p.bits (port_word p true (background_at p j)) sized.bits_some sized.bits_narrow (word_below p sized true (background_at p j) (sized.grounds_fit j g)))
-      (lit_formed p.bits (port_word p false (background_at p j)) sized.bits_some sized.bits_narrow (word_below p sized false (background_at p j) (sized.grounds_fit j g))))
+  by_next_formed : (f : Element → Bool) → IsFormed (by_next p (λ x. bit (f x)))
+  by_next_formed f =
+      let l = length_rotated p.elements in
+      let some = ready.has_element in
+      pick_formed L.element p.element_width (λ (x : Element). lit 1 (bit (f x))) nothing (rotated p.elements) sized.element_narrow (omega arith)
+      (λ j g. lit_formed 1 (bit (f (slice_index_or (rotated p.elements) j nothing))) (omega arith) (omega arith) (bit_below (f (slice_index_or (rotated p.elements) j nothing))))
+
+  row_some : 1 ≤ L.row_width p
+  row_some = let some = pow_pos p.oper_width in omega arith
+
+  row_formed_of : (f : Element → ℕ → Bool) → IsFormed (L.flag_row p f)
+  row_formed_of f = by_element_formed (L.row_width p) (λ x. number_of (map (f x) (counted (L.row_width p)))) row_some sized.row_narrow (λ j. row_fits (f (element_at p j)) (L.row_width p))
+
+  in_row_formed : (row : List ℕ) → IsFormed (in_row p row)
+  in_row_formed row =
+      let l = length_counted (L.row_width p) in
+      let some = row_some in
+      pick_formed L.oper p.oper_width (bit_of row (L.row_width p)) 0 (counted (L.row_width p)) sized.oper_narrow (omega arith)
+      (λ j g. bit_of_formed row (L.row_width p) (slice_index_or (counted (L.row_width p)) j 0) (counted_below (L.row_width p) j 0 g) sized.row_narrow)
+
+  pattern_formed : (k : List ℕ) → IsFormed (pattern_of p k)
+  pattern_formed k =
+      pick_formed k p.back_width (λ b. lit p.bits (port_word p false b)) 0 p.backgrounds sized.back_narrow ready.has_background
+      (λ j g. lit_formed p.bits (port_word p false (background_at p j)) sized.bits_some sized.bits_narrow (word_below p sized false (background_at p j) (sized.grounds_fit j g)))
 
   visited_formed : IsFormed (L.visited p)
   visited_formed =
@@ -183,28 +198,45 @@ module _ (p : Plan) (ready : Ready p) (sized : Sized p) where
       )
   stages_formed false i (suc n) ss h = (gated_formed (feed_reads i) ((feed_formed i).0), (gated_formed (feed_over i) ((feed_formed i).1), (gated_formed (Net (L.value_at i)) refl, stages_formed false (suc i) n ss h)))
 
+  turning_formed : (r next again more : List ℕ) (first : Bool) → IsFormed (L.turning r first next again more)
+  turning_formed r next again more first =
+      reset_formed 1 (bit first) (step_while (Net L.run ∷ []) (choose (Net L.last_oper) (choose (Net L.last_visit) (Net next) (Net again)) (Net more)) (Net r)) (omega arith) (omega arith) (bit_below first) refl
+
+  visit_some : 1 ≤ p.visit_width
+  visit_some = let a = sized.addr_some in let b = sized.visit_holds in omega arith
+
+  less_below : (n k : ℕ) → 0 < n → n ≤ k → n - 2 < k
+  less_below n k h l = omega arith
+
+  last_visit_formed : IsFormed (L.last_visit_next p)
+  last_visit_formed =
+      let pause = lit_formed p.visit_width (p.pause - 2) visit_some sized.visit_narrow (less_below p.pause (2 ^ p.visit_width) ready.has_pause ready.pause_fits) in
+      let words = lit_formed p.visit_width (p.words - 2) visit_some sized.visit_narrow (less_below p.words (2 ^ p.visit_width) ready.has_word ready.words_fit) in
+      let more : IsFormed (L.visit_ends_more p) = choose_formed (Net L.pause) (lit p.visit_width (p.pause - 2)) (lit p.visit_width (p.words - 2)) refl pause words in
+      let next : IsFormed (L.visit_ends_next p) = choose_formed (Net L.pause_next) (lit 1 (bit (nat_eq p.pause 1))) (lit 1 (bit (nat_eq p.words 1))) refl
+      (lit_formed 1 (bit (nat_eq p.pause 1)) (omega arith) (omega arith) (bit_below (nat_eq p.pause 1))) (lit_formed 1 (bit (nat_eq p.words 1)) (omega arith) (omega arith) (bit_below (nat_eq p.words 1))) in
+      let first = nat_eq (limit p (element_at p 0)) 1 in
+      reset_formed 1 (bit first) (step_while (Net L.run ∷ Net L.last_oper ∷ []) (choose (Net L.last_visit) (L.visit_ends_next p) (L.visit_ends_more p)) (Net L.last_visit)) (omega arith) (omega arith) (bit_below first)
+      (step_formed (Net L.run ∷ Net L.last_oper ∷ []) (choose (Net L.last_visit) (L.visit_ends_next p) (L.visit_ends_more p)) (Net L.last_visit) (refl, (refl, tt)) (choose_formed (Net L.last_visit) (L.visit_ends_next p) (L.visit_ends_more p) refl next more) refl)
+
+  want_formed : IsFormed (L.want_next p)
+  want_formed =
+      let x = pattern_of p (L.back_at (several p) p.delay) in
+      let f : IsFormed x = pattern_formed (L.back_at (several p) p.delay) in
+      elim (nat_eq p.delay 0) as (λ t. IsFormed (cond t (Net L.word) (word_of (L.value_at p.delay) x))) [ true ↦ refl | false ↦ choose_formed (Net (L.value_at p.delay)) (Prefixed Invert x) x refl f f ]
+
   block_formed : statements_formed (statements (L.sets_all p)) ≡ true
   block_formed =
-      let z = pow_pos p.bits in
-      sets_formed (L.sets_all p) (
-        counter_formed L.oper p.oper_width (Net L.run ∷ []) L.last_oper sized.oper_some sized.oper_narrow (refl, tt),
-        (
-          counter_formed L.visit p.visit_width (Net L.run ∷ Net L.last_oper ∷ []) L.last_visit (let a = sized.addr_some in let b = sized.visit_holds in omega arith) sized.visit_narrow (refl, (refl, tt)),
-          (
-            counter_formed L.element p.element_width (Net L.run ∷ Net L.last_oper ∷ Net L.last_visit ∷ []) L.last_element sized.element_some sized.element_narrow (refl, (refl, (refl, tt))),
-            (
-              counter_formed L.back p.back_width (Net L.run ∷ Net L.last_oper ∷ Net L.last_visit ∷ Net L.last_element ∷ []) L.last_back sized.back_some sized.back_narrow (refl, (refl, (refl, (refl, tt)))),
-              (
-                refl,
-                stages_formed (several p) 0 p.delay (L.end_sets p) (
-                  reset_formed p.bits 0 (word p (L.back_at (several p) p.delay) (L.value_at p.delay)) sized.bits_some sized.bits_narrow (omega arith) (word_formed (L.back_at (several p) p.delay) (L.value_at p.delay)),
-                  (refl, tt),
-                ),
-              ),
-            ),
-          ),
-        ),
-      )
+      sets_formed (L.sets_all p)
+      (also (counter_formed L.oper p.oper_width (Net L.run ∷ []) L.last_oper sized.oper_some sized.oper_narrow (refl, tt))
+      (also (counter_formed L.visit p.visit_width (Net L.run ∷ Net L.last_oper ∷ []) L.last_visit visit_some sized.visit_narrow (refl, (refl, tt)))
+      (also (counter_formed L.element p.element_width (Net L.run ∷ Net L.last_oper ∷ Net L.last_visit ∷ []) L.last_element sized.element_some sized.element_narrow (refl, (refl, (refl, tt))))
+      (also (counter_formed L.back p.back_width (Net L.run ∷ Net L.last_oper ∷ Net L.last_visit ∷ Net L.last_element ∷ []) L.last_back sized.back_some sized.back_narrow (refl, (refl, (refl, (refl, tt)))))
+      (also refl
+      (also (turning_formed L.last_oper L.ends_next L.ends_again L.ends_more (is_single (element_at p 0)))
+      (also last_visit_formed
+      (also (turning_formed L.value L.one_next L.one_again L.one_more (L.begins_one (element_at p 0)))
+      (stages_formed (several p) 0 p.delay (L.end_sets p) (want_formed, (refl, tt)))))))))))
 
   -- ---- items
 
@@ -224,115 +256,75 @@ module _ (p : Plan) (ready : Ready p) (sized : Sized p) where
   ends_below : (n k : ℕ) → 0 < n → n ≤ k → n - 1 < k
   ends_below n k h l = omega arith
 
+  index_formed : IsFormed (L.index_of p)
+  index_formed =
+      choose_formed (Net L.down) (Infixed Sub (lit p.addr_width (p.words - 1)) (L.visited p)) (L.visited p) refl
+      (both (expression_formed (lit p.addr_width (p.words - 1))) (expression_formed (L.visited p)) (lit_formed p.addr_width (p.words - 1) sized.addr_some sized.addr_narrow (ends_below p.words (2 ^ p.addr_width) ready.has_word ready.index_fits)) visited_formed)
+      visited_formed
+
+  after_formed : Items (items_after p)
+  after_formed =
+      also (is_wide p.bits sized.bits_some sized.bits_narrow)
+      (also refl
+      (also (is_wide (L.row_width p) row_some sized.row_narrow)
+      (also (is_wide (L.row_width p) row_some sized.row_narrow)
+      (also (is_wide (L.row_width p) row_some sized.row_narrow)
+      (also refl
+      (also refl
+      (also refl
+      (also refl
+      (also refl
+      (also refl
+      (also refl
+      (also refl
+      (also refl
+      (also refl
+      (also refl
+      (also refl
+      (also refl
+      (also (is_wide p.addr_width sized.addr_some sized.addr_narrow)
+      (also (is_wide p.bits sized.bits_some sized.bits_narrow)
+      (also (is_wide p.bits sized.bits_some sized.bits_narrow)
+      (also (row_formed_of L.writes_at)
+      (also (row_formed_of L.one_behind)
+      (also (row_formed_of L.ends_behind)
+      (also (in_row_formed L.writes)
+      (also (by_element_formed 1 (λ x. bit x.down) (omega arith) (omega arith) (λ j. bit_below (element_at p j).down))
+      (also (by_element_formed 1 (λ x. bit x.pause) (omega arith) (omega arith) (λ j. bit_below (element_at p j).pause))
+      (also (in_row_formed L.ones)
+      (also (by_element_formed 1 (λ x. bit (L.begins_one x)) (omega arith) (omega arith) (λ j. bit_below (L.begins_one (element_at p j))))
+      (also (by_next_formed (λ x. L.begins_one x))
+      (also (in_row_formed L.ends)
+      (also (by_element_formed 1 (λ x. bit (is_single x)) (omega arith) (omega arith) (λ j. bit_below (is_single (element_at p j))))
+      (also (by_next_formed (λ x. is_single x))
+      (also (by_next_formed (λ x. x.pause))
+      (also (lit_formed p.element_width (length p.elements - 1) sized.element_some sized.element_narrow (ends_below (length p.elements) (2 ^ p.element_width) ready.has_element ready.elements_fit))
+      (also (lit_formed p.back_width (length p.backgrounds - 1) sized.back_some sized.back_narrow (ends_below (length p.backgrounds) (2 ^ p.back_width) ready.has_background ready.backgrounds_fit))
+      (also refl
+      (also index_formed
+      (also (pattern_formed L.back)
+      (also refl
+      (also refl
+      (also refl
+      (also address_formed
+      (also refl
+      (also refl
+      (also refl
+      (also block_formed
+      tt))))))))))))))))))))))))))))))))))))))))))))))
+
   items_are : items_formed (L.items p) ≡ true
   items_are =
-      let visit_some : 1 ≤ p.visit_width = let a = sized.addr_some in let b = sized.visit_holds in omega arith in
-      all_items (L.items p) (
-        is_wide p.oper_width sized.oper_some sized.oper_narrow,
-        (
-          is_wide p.visit_width visit_some sized.visit_narrow,
-          (
-            is_wide p.element_width sized.element_some sized.element_narrow,
-            (
-              is_wide p.back_width sized.back_some sized.back_narrow,
-              (
-                refl,
-                stage_items (several p) 0 p.delay (items_after p) (
-                  is_wide p.bits sized.bits_some sized.bits_narrow,
-                  (
-                    refl,
-                    (
-                      refl,
-                      (
-                        refl,
-                        (
-                          refl,
-                          (
-                            refl,
-                            (
-                              refl,
-                              (
-                                refl,
-                                (
-                                  refl,
-                                  (
-                                    refl,
-                                    (
-                                      refl,
-                                      (
-                                        is_wide p.addr_width sized.addr_some sized.addr_narrow,
-                                        (
-                                          by_operation_formed (λ o. o.write),
-                                          (
-                                            by_operation_formed (λ o. o.bit),
-                                            (
-                                              by_element_formed 1 (λ x. bit x.down) (omega arith) (omega arith) (λ j. bit_below (element_at p j).down),
-                                              (
-                                                by_element_formed 1 (λ x. bit x.pause) (omega arith) (omega arith) (λ j. bit_below (element_at p j).pause),
-                                                (
-                                                  by_element_formed p.oper_width (λ x. length x.operations - 1) sized.oper_some sized.oper_narrow (λ j. ends_below (length (element_at p j).operations) (2 ^ p.oper_width) (ready.has_operation j) (ready.operations_fit j)),
-                                                  (
-                                                    choose_formed (Net L.pause) (lit p.visit_width (p.pause - 1)) (lit p.visit_width (p.words - 1)) refl
-                                                        (lit_formed p.visit_width (p.pause - 1) visit_some sized.visit_narrow (ends_below p.pause (2 ^ p.visit_width) ready.has_pause ready.pause_fits))
-                                                        (lit_formed p.visit_width (p.words - 1) visit_some sized.visit_narrow (ends_below p.words (2 ^ p.visit_width) ready.has_word ready.words_fit)),
-                                                    (
-                                                      lit_formed p.element_width (length p.elements - 1) sized.element_some sized.element_narrow (ends_below (length p.elements) (2 ^ p.element_width) ready.has_element ready.elements_fit),
-                                                      (
-                                                        lit_formed p.back_width (length p.backgrounds - 1) sized.back_some sized.back_narrow (ends_below (length p.backgrounds) (2 ^ p.back_width) ready.has_background ready.backgrounds_fit),
-                                                        (
-                                                          refl,
-                                                          (
-                                                            choose_formed (Net L.down) (Infixed Sub (lit p.addr_width (p.words - 1)) (L.visited p)) (L.visited p) refl
-                                                                (both (expression_formed (lit p.addr_width (p.words - 1))) (expression_formed (L.visited p)) (lit_formed p.addr_width (p.words - 1) sized.addr_some sized.addr_narrow (ends_below p.words (2 ^ p.addr_width) ready.has_word ready.index_fits)) visited_formed) visited_formed,
-                                                            (
-                                                              refl,
-                                                              (
-                                                                refl,
-                                                                (
-                                                                  address_formed,
-                                                                  (
-                                                                    word_formed L.back L.value,
-                                                                    (
-                                                                      refl,
-                                                                      (
-                                                                        refl,
-                                                                        (
-                                                                          block_formed,
-                                                                          tt,
-                                                                        ),
-                                                                      ),
-                                                                    ),
-                                                                  ),
-                                                                ),
-                                                              ),
-                                                            ),
-                                                          ),
-                                                        ),
-                                                      ),
-                                                    ),
-                                                  ),
-                                                ),
-                                              ),
-                                            ),
-                                          ),
-                                        ),
-                                      ),
-                                    ),
-                                  ),
-                                ),
-                              ),
-                            ),
-                          ),
-                        ),
-                      ),
-                    ),
-                  ),
-                ),
-              ),
-            ),
-          ),
-        ),
-      )
+      all_items (L.items p)
+      (also (is_wide p.oper_width sized.oper_some sized.oper_narrow)
+      (also (is_wide p.visit_width visit_some sized.visit_narrow)
+      (also (is_wide p.element_width sized.element_some sized.element_narrow)
+      (also (is_wide p.back_width sized.back_some sized.back_narrow)
+      (also refl
+      (also refl
+      (also refl
+      (also refl
+      (stage_items (several p) 0 p.delay (items_after p) after_formed)))))))))
 
   pub is_formed : formed (self_test p) ≡ true
   is_formed = both (ports_formed (L.ports p)) (items_formed (L.items p)) ports_are items_are

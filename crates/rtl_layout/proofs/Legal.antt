@@ -1,5 +1,5 @@
 -- The module breaks no rule.
-use Rattle.std.proofs.Common.{◌≡◌, ℕ, zero, suc, ◌+◌, ◌-◌, ◌/◌, ◌^◌, ◌<◌, ◌≤◌, Bool, true, false, cond, List, [], ◌∷◌, ◌++◌, length, take, drop, map, Some, is_none, refl, sym, ap, ◌∙◌, subst, arith, inl, inr}
+use Rattle.std.proofs.Common.{◌≡◌, ℕ, zero, suc, ◌+◌, ◌-◌, ◌/◌, ◌^◌, ◌<◌, ◌≤◌, Bool, true, false, cond, nat_eq, List, [], ◌∷◌, ◌++◌, length, take, drop, map, Some, is_none, refl, sym, ap, ◌∙◌, subst, arith, inl, inr}
 use Rattle.std.proofs.lemmas.Bool.Decides.{eqb_tells, leb_tells}
 use Rattle.std.proofs.lemmas.List.{length-drop}
 use Rattle.std.proofs.lemmas.Nat.{pow_pos}
@@ -11,15 +11,15 @@ use Rattle.verilog_tree.specs.declared.names.Kind.TheVariants as K
 use Rattle.verilog_tree.specs.Plain.{Expression, Net, BitSelect, PartSelect, Concatenation, Infixed, Expressions, NoMore, Followed, ModuleItem, expressions}
 use Rattle.verilog_tree.specs.Names.{Declaration, declarations, item_declarations, lookup, declared_width, is_wire, is_register, is_clk, is_declared_as}
 use Rattle.verilog_tree.specs.Meaning.{bit, width, widths}
-use Rattle.rtl_layout.specs.Build.{lit, choose, bit_of, leaf, below, pick, step_while, at_reset, low_more, high_more, in_halves, one_more, counter}
-use Rattle.rtl_layout.specs.declared.element.Operation.{Operation}
+use Rattle.rtl_layout.specs.Build.{lit, choose, bit_of, leaf, below, pick, rotated, counted, number_of, step_while, at_reset, low_more, high_more, in_halves, one_more, counter}
 use Rattle.rtl_layout.specs.declared.row.Row.{Row}
-use Rattle.rtl_layout.specs.Plan.{Element, Plan, several, port_word}
+use Rattle.rtl_layout.specs.Plan.{Element, Plan, several, port_word, is_single, limit}
 use Rattle.rtl_layout.specs.Layout as L
-use Rattle.rtl_layout.specs.Layout.{stage_regs, stage_sets, aged, reads_at, over_at, value_at, back_at, feed_reads, feed_over, end_regs, wires, digit_regs, self_test, by_operation, by_element, word}
-use Rattle.rtl_layout.specs.Control.{nothing, idle, element_at}
+use Rattle.rtl_layout.specs.Layout.{stage_regs, stage_sets, aged, reads_at, over_at, value_at, back_at, feed_reads, feed_over, end_regs, wires, digit_regs, self_test, by_element, by_next, in_row, pattern_of, word_of}
+use Rattle.rtl_layout.specs.Control.{nothing, element_at}
 use Rattle.rtl_layout.specs.Shows.{Ready, Sized}
 use Rattle.rtl_layout.proofs.Choice.{leaf_map, length_map, leaf_drop, leaf_take, length_take, AllWide, below_wide}
+use Rattle.rtl_layout.proofs.Rows.{length_counted, counted_below, length_rotated}
 use Rattle.rtl_layout.proofs.Stages.{Ageless, lookup_behind, found_reads, found_over, found_value, found_back, reg}
 use Rattle.rtl_layout.proofs.Counter.{either, half_in}
 use Rattle.verilog_tree.proofs.Sound.{Known, Sound, SoundParts, GoodAssign, GoodAssigns, GoodSet, GoodSets, sets_append}
@@ -82,7 +82,7 @@ abbrev pub wide : Plan → List ℕ → ℕ
 wide p n = declared_width (lookup (names p) n)
 
 -- a name of the module, which is not its clock
-record Has (p : Plan) (n : List ℕ) (k : Kind) (v : ℕ) : Type 0 where
+pub record Has (p : Plan) (n : List ℕ) (k : Kind) (v : ℕ) : Type 0 where
   pub found : lookup (names p) n ≡ Some (record { name = n; kind = k; width = v })
   pub no_clock : is_clk n ≡ false
 
@@ -105,11 +105,17 @@ module _ (p : Plan) where
   bad_at : Has p L.bad K.Register 1
   bad_at = behind L.bad K.Register 1 (ageless L.bad (λ j. refl) (λ j. refl) (λ j. refl) (λ j. refl)) refl refl refl
 
+  writes_at : Has p L.writes K.Wire (L.row_width p)
+  writes_at = behind L.writes K.Wire (L.row_width p) (ageless L.writes (λ j. refl) (λ j. refl) (λ j. refl) (λ j. refl)) refl refl refl
+
+  ones_at : Has p L.ones K.Wire (L.row_width p)
+  ones_at = behind L.ones K.Wire (L.row_width p) (ageless L.ones (λ j. refl) (λ j. refl) (λ j. refl) (λ j. refl)) refl refl refl
+
+  ends_at : Has p L.ends K.Wire (L.row_width p)
+  ends_at = behind L.ends K.Wire (L.row_width p) (ageless L.ends (λ j. refl) (λ j. refl) (λ j. refl) (λ j. refl)) refl refl refl
+
   write_at : Has p L.write K.Wire 1
   write_at = behind L.write K.Wire 1 (ageless L.write (λ j. refl) (λ j. refl) (λ j. refl) (λ j. refl)) refl refl refl
-
-  value_is : Has p L.value K.Wire 1
-  value_is = behind L.value K.Wire 1 (ageless L.value (λ j. refl) (λ j. refl) (λ j. refl) (λ j. refl)) refl refl refl
 
   down_at : Has p L.down K.Wire 1
   down_at = behind L.down K.Wire 1 (ageless L.down (λ j. refl) (λ j. refl) (λ j. refl) (λ j. refl)) refl refl refl
@@ -117,11 +123,26 @@ module _ (p : Plan) where
   pause_at : Has p L.pause K.Wire 1
   pause_at = behind L.pause K.Wire 1 (ageless L.pause (λ j. refl) (λ j. refl) (λ j. refl) (λ j. refl)) refl refl refl
 
-  last_oper_at : Has p L.last_oper K.Wire 1
-  last_oper_at = behind L.last_oper K.Wire 1 (ageless L.last_oper (λ j. refl) (λ j. refl) (λ j. refl) (λ j. refl)) refl refl refl
+  one_more_at : Has p L.one_more K.Wire 1
+  one_more_at = behind L.one_more K.Wire 1 (ageless L.one_more (λ j. refl) (λ j. refl) (λ j. refl) (λ j. refl)) refl refl refl
 
-  last_visit_at : Has p L.last_visit K.Wire 1
-  last_visit_at = behind L.last_visit K.Wire 1 (ageless L.last_visit (λ j. refl) (λ j. refl) (λ j. refl) (λ j. refl)) refl refl refl
+  one_again_at : Has p L.one_again K.Wire 1
+  one_again_at = behind L.one_again K.Wire 1 (ageless L.one_again (λ j. refl) (λ j. refl) (λ j. refl) (λ j. refl)) refl refl refl
+
+  one_next_at : Has p L.one_next K.Wire 1
+  one_next_at = behind L.one_next K.Wire 1 (ageless L.one_next (λ j. refl) (λ j. refl) (λ j. refl) (λ j. refl)) refl refl refl
+
+  ends_more_at : Has p L.ends_more K.Wire 1
+  ends_more_at = behind L.ends_more K.Wire 1 (ageless L.ends_more (λ j. refl) (λ j. refl) (λ j. refl) (λ j. refl)) refl refl refl
+
+  ends_again_at : Has p L.ends_again K.Wire 1
+  ends_again_at = behind L.ends_again K.Wire 1 (ageless L.ends_again (λ j. refl) (λ j. refl) (λ j. refl) (λ j. refl)) refl refl refl
+
+  ends_next_at : Has p L.ends_next K.Wire 1
+  ends_next_at = behind L.ends_next K.Wire 1 (ageless L.ends_next (λ j. refl) (λ j. refl) (λ j. refl) (λ j. refl)) refl refl refl
+
+  pause_next_at : Has p L.pause_next K.Wire 1
+  pause_next_at = behind L.pause_next K.Wire 1 (ageless L.pause_next (λ j. refl) (λ j. refl) (λ j. refl) (λ j. refl)) refl refl refl
 
   last_element_at : Has p L.last_element K.Wire 1
   last_element_at = behind L.last_element K.Wire 1 (ageless L.last_element (λ j. refl) (λ j. refl) (λ j. refl) (λ j. refl)) refl refl refl
@@ -134,6 +155,12 @@ module _ (p : Plan) where
 
   index_at : Has p L.index K.Wire p.addr_width
   index_at = behind L.index K.Wire p.addr_width (ageless L.index (λ j. refl) (λ j. refl) (λ j. refl) (λ j. refl)) refl refl refl
+
+  pub pattern_at : Has p L.pattern K.Wire p.bits
+  pattern_at = behind L.pattern K.Wire p.bits (ageless L.pattern (λ j. refl) (λ j. refl) (λ j. refl) (λ j. refl)) refl refl refl
+
+  word_at : Has p L.word K.Wire p.bits
+  word_at = behind L.word K.Wire p.bits (ageless L.word (λ j. refl) (λ j. refl) (λ j. refl) (λ j. refl)) refl refl refl
 
   reset_at : Has p L.reset K.Input 1
   reset_at = here L.reset K.Input 1 refl refl
@@ -155,6 +182,15 @@ module _ (p : Plan) where
 
   run_at : Has p L.run K.Register 1
   run_at = here L.run K.Register 1 refl refl
+
+  last_oper_at : Has p L.last_oper K.Register 1
+  last_oper_at = here L.last_oper K.Register 1 refl refl
+
+  last_visit_at : Has p L.last_visit K.Register 1
+  last_visit_at = here L.last_visit K.Register 1 refl refl
+
+  value_is : Has p L.value K.Register 1
+  value_is = here L.value K.Register 1 refl refl
 
 -- ---- the expressions of the module
 
@@ -201,6 +237,17 @@ counter_fits p r v cs last h n l s =
     reset_fits p v 0 (step_while cs (choose (Net last) (lit v 0) (one_more r v)) (Net r))
     (step_fits p v cs (choose (Net last) (lit v 0) (one_more r v)) (Net r) s ((l, tt, more.0, sym more.1), refl) (net_fits h))
 
+-- a bit of a wire
+bit_fits : {p : Plan} (n : List ℕ) (v i : ℕ) → Has p n K.Wire v → i < v → Fits p 1 (bit_of n v i)
+bit_fits {p} n v i h l =
+    elim (eqb_tells v 1) [
+      | inl q ↦ subst (λ t. Fits p 1 (cond t (Net n) (BitSelect n i))) (sym q.0) (known h, ap declared_width h.found ∙ q.1)
+      | inr q ↦
+          let ne = q.1 in
+          let wide : wide p n ≡ v = ap declared_width h.found in
+          subst (λ t. Fits p 1 (cond t (Net n) (BitSelect n i))) (sym q.0) ((known h, omega arith, omega arith), refl)
+    ]
+
 good : (p : Plan) {n : List ℕ} {v : ℕ} {x : Expression} → Has p n K.Wire v → Fits p v x → GoodAssign (wide p) (names p) n x
 good p h f = record { sound = f.0; wide = ap declared_width h.found ∙ sym f.1; there = ap is_none h.found; wire = ap (is_declared_as (λ d. is_wire d.kind)) h.found }
 
@@ -222,15 +269,24 @@ module _ (p : Plan) (ready : Ready p) (sized : Sized p) where
   by_element_fits s f =
       pick_sound w (names p) L.element p.element_width (known (element_is p)) refl sized.element_some s (λ (x : Element). lit s (f x)) nothing p.elements ready.has_element (λ j g. (tt, refl))
 
-  by_operation_fits : (f : Operation → Bool) → Fits p 1 (by_operation p f)
-  by_operation_fits f =
-      pick_sound w (names p) L.element p.element_width (known (element_is p)) refl sized.element_some 1
-      (λ (x : Element). pick L.oper p.oper_width (map (λ (o : Operation). lit 1 (bit (f o))) x.operations)) nothing p.elements ready.has_element
-      (λ j g. pick_sound w (names p) L.oper p.oper_width (known (oper_at p)) refl sized.oper_some 1 (λ (o : Operation). lit 1 (bit (f o))) idle (element_at p j).operations (ready.has_operation j) (λ i h. (tt, refl)))
+  by_next_fits : (f : Element → ℕ) → Fits p 1 (by_next p f)
+  by_next_fits f =
+      let l = length_rotated p.elements in
+      let some = ready.has_element in
+      pick_sound w (names p) L.element p.element_width (known (element_is p)) refl sized.element_some 1 (λ (x : Element). lit 1 (f x)) nothing (rotated p.elements) (omega arith) (λ j g. (tt, refl))
 
-  word_fits : (k v : List ℕ) → Known (names p) k → w k ≡ p.back_width → Known (names p) v → Fits p p.bits (word p k v)
-  word_fits k v h e g =
-      pick_sound w (names p) k p.back_width h e sized.back_some p.bits (λ b. choose (Net v) (lit p.bits (port_word p true b)) (lit p.bits (port_word p false b))) 0 p.backgrounds ready.has_background (λ j l. ((g, tt, tt, refl), refl))
+  in_row_fits : (row : List ℕ) → Has p row K.Wire (L.row_width p) → Fits p 1 (in_row p row)
+  in_row_fits row h =
+      let l = length_counted (L.row_width p) in
+      let some = pow_pos p.oper_width in
+      pick_sound w (names p) L.oper p.oper_width (known (oper_at p)) refl sized.oper_some 1 (bit_of row (L.row_width p)) 0 (counted (L.row_width p)) (omega arith)
+      (λ j g. bit_fits row (L.row_width p) (slice_index_or (counted (L.row_width p)) j 0) h (counted_below (L.row_width p) j 0 g))
+
+  pattern_fits : (k : List ℕ) → Known (names p) k → w k ≡ p.back_width → Fits p p.bits (pattern_of p k)
+  pattern_fits k h e = pick_sound w (names p) k p.back_width h e sized.back_some p.bits (λ b. lit p.bits (port_word p false b)) 0 p.backgrounds ready.has_background (λ j l. (tt, refl))
+
+  word_fits : (v : List ℕ) (x : Expression) → Known (names p) v → Fits p p.bits x → Fits p p.bits (word_of v x)
+  word_fits v x h f = ((h, f.0, f.0, refl), f.1)
 
   visited_fits : Fits p p.addr_width (L.visited p)
   visited_fits =
@@ -313,6 +369,24 @@ module _ (p : Plan) (ready : Ready p) (sized : Sized p) where
 
   -- ---- the block
 
+  turning_good : (r next again more : List ℕ) (first : Bool) → Has p r K.Register 1 → Has p next K.Wire 1 → Has p again K.Wire 1 → Has p more K.Wire 1 → GoodSet w (names p) r (L.turning r first next again more)
+  turning_good r next again more first h n a m =
+      let ends = choose (Net L.last_oper) (choose (Net L.last_visit) (Net next) (Net again)) (Net more) in
+      let same : w next ≡ w again = ap declared_width n.found ∙ sym (ap declared_width a.found) in
+      let other : w next ≡ w more = ap declared_width n.found ∙ sym (ap declared_width m.found) in
+      good_set p h
+      (reset_fits p 1 (bit first) (step_while (Net L.run ∷ []) ends (Net r))
+      (step_fits p 1 (Net L.run ∷ []) ends (Net r) (known (run_at p), tt)
+      ((known (last_oper_at p), (known (last_visit_at p), known n, known a, same), known m, other), ap declared_width n.found) (net_fits h)))
+
+  last_visit_good : GoodSet w (names p) L.last_visit (L.last_visit_next p)
+  last_visit_good =
+      let ends = choose (Net L.last_visit) (L.visit_ends_next p) (L.visit_ends_more p) in
+      good_set p (last_visit_at p)
+      (reset_fits p 1 (bit (nat_eq (limit p (element_at p 0)) 1)) (step_while (Net L.run ∷ Net L.last_oper ∷ []) ends (Net L.last_visit))
+      (step_fits p 1 (Net L.run ∷ Net L.last_oper ∷ []) ends (Net L.last_visit) (known (run_at p), (known (last_oper_at p), tt))
+      ((known (last_visit_at p), (known (pause_next_at p), tt, tt, refl), (known (visit_at p), (known (pause_at p), tt, tt, refl), refl), refl), refl) (net_fits (last_visit_at p))))
+
   digits_good : GoodSets w (names p) (L.digit_sets p)
   digits_good =
       let run = known (run_at p) in
@@ -327,15 +401,24 @@ module _ (p : Plan) (ready : Ready p) (sized : Sized p) where
       (also (good_set p (run_at p)
       (reset_fits p 1 1 (step_while (Net L.run ∷ Net L.last_oper ∷ Net L.last_visit ∷ Net L.last_element ∷ Net L.last_back ∷ []) (lit 1 0) (Net L.run))
       (step_fits p 1 (Net L.run ∷ Net L.last_oper ∷ Net L.last_visit ∷ Net L.last_element ∷ Net L.last_back ∷ []) (lit 1 0) (Net L.run) (run, (oper, (visit, (element, (back, tt))))) (tt, refl) (net_fits (run_at p)))))
-      tt))))
+      (also (turning_good L.last_oper L.ends_next L.ends_again L.ends_more (is_single (element_at p 0)) (last_oper_at p) (ends_next_at p) (ends_again_at p) (ends_more_at p))
+      (also last_visit_good
+      (also (turning_good L.value L.one_next L.one_again L.one_more (L.begins_one (element_at p 0)) (value_is p) (one_next_at p) (one_again_at p) (one_more_at p))
+      tt)))))))
+
+  want_good : GoodSet w (names p) L.want (L.want_next p)
+  want_good =
+      let b = back_fits (several p) refl p.delay (omega arith) in
+      let v = value_fits p.delay (omega arith) in
+      let aged = word_of (value_at p.delay) (pattern_of p (back_at (several p) p.delay)) in
+      let fits : Fits p p.bits aged = word_fits (value_at p.delay) (pattern_of p (back_at (several p) p.delay)) v.0 (pattern_fits (back_at (several p) p.delay) b.0 b.1) in
+      good_set p (want_at p) (elim (nat_eq p.delay 0) as (λ t. Fits p p.bits (cond t (Net L.word) aged)) [ true ↦ net_fits (word_at p) | false ↦ fits ])
 
   ends_good : GoodSets w (names p) (L.end_sets p)
   ends_good =
-      let b = back_fits (several p) refl p.delay (omega arith) in
-      let v = value_fits p.delay (omega arith) in
       let cs = Net (reads_at (suc p.delay)) ∷ Infixed Ne (Net L.rdata) (Net L.want) ∷ [] in
       let sound : AllSound p cs = (known (reads_has p.delay (omega arith)), ((known (rdata_at p), known (want_at p), sym (ap declared_width (want_at p).found)), tt)) in
-      also (good_set p (want_at p) (reset_fits p p.bits 0 (word p (back_at (several p) p.delay) (value_at p.delay)) (word_fits (back_at (several p) p.delay) (value_at p.delay) b.0 b.1 v.0)))
+      also want_good
       (also (good_set p (bad_at p) (reset_fits p 1 0 (step_while cs (lit 1 1) (Net L.bad)) (step_fits p 1 cs (lit 1 1) (Net L.bad) sound (tt, refl) (net_fits (bad_at p)))))
       tt)
 
@@ -345,26 +428,37 @@ module _ (p : Plan) (ready : Ready p) (sized : Sized p) where
 
   -- ---- the assigns
 
+  row_fits : (f : Element → ℕ → Bool) → Fits p (L.row_width p) (L.flag_row p f)
+  row_fits f = by_element_fits (L.row_width p) (λ x. number_of (map (f x) (counted (L.row_width p))))
+
   pub assigns_good : GoodAssigns w (names p) [] (L.wire_assigns p ++ L.port_assigns p)
   assigns_good =
-      let last = by_element_fits p.oper_width (λ x. length x.operations - 1) in
       let pause = known (pause_at p) in
       let run = net_fits (run_at p) in
       let v = visited_fits in
-      also_new (good p (write_at p) (by_operation_fits (λ o. o.write))) refl
-      (also_new (good p (value_is p) (by_operation_fits (λ o. o.bit))) refl
+      also_new (good p (writes_at p) (row_fits L.writes_at)) refl
+      (also_new (good p (ones_at p) (row_fits L.one_behind)) refl
+      (also_new (good p (ends_at p) (row_fits L.ends_behind)) refl
+      (also_new (good p (write_at p) (in_row_fits L.writes (writes_at p))) refl
       (also_new (good p (down_at p) (by_element_fits 1 (λ x. bit x.down))) refl
       (also_new (good p (pause_at p) (by_element_fits 1 (λ x. bit x.pause))) refl
-      (also_new (good p (last_oper_at p) ((known (oper_at p), last.0, sym last.1), refl)) refl
-      (also_new (good p (last_visit_at p) ((known (visit_at p), (pause, tt, tt, refl), refl), refl)) refl
+      (also_new (good p (one_more_at p) (in_row_fits L.ones (ones_at p))) refl
+      (also_new (good p (one_again_at p) (by_element_fits 1 (λ x. bit (L.begins_one x)))) refl
+      (also_new (good p (one_next_at p) (by_next_fits (λ x. bit (L.begins_one x)))) refl
+      (also_new (good p (ends_more_at p) (in_row_fits L.ends (ends_at p))) refl
+      (also_new (good p (ends_again_at p) (by_element_fits 1 (λ x. bit (is_single x)))) refl
+      (also_new (good p (ends_next_at p) (by_next_fits (λ x. bit (is_single x)))) refl
+      (also_new (good p (pause_next_at p) (by_next_fits (λ x. bit x.pause))) refl
       (also_new (good p (last_element_at p) ((known (element_is p), tt, refl), refl)) refl
       (also_new (good p (last_back_at p) ((known (back_is p), tt, refl), refl)) refl
       (also_new (good p (live_at p) ((pause, tt, run.0, sym run.1), refl)) refl
       (also_new (good p (index_at p) ((known (down_at p), (tt, v.0, sym v.1), v.0, sym v.1), refl)) refl
+      (also_new (good p (pattern_at p) (pattern_fits L.back (known (back_is p)) refl)) refl
+      (also_new (good p (word_at p) (word_fits L.value (Net L.pattern) (known (value_is p)) (net_fits (pattern_at p)))) refl
       (also_new (good p (here p L.en K.Wire 1 refl refl) (reset_fits p 1 0 (Net L.live) (net_fits (live_at p)))) refl
       (also_new (good p (here p L.we K.Wire 1 refl refl) (net_fits (write_at p))) refl
       (also_new (good p (here p L.addr K.Wire p.addr_width refl refl) address_fits) refl
-      (also_new (good p (here p L.wdata K.Wire p.bits refl refl) (word_fits L.back L.value (known (back_is p)) refl (known (value_is p)))) refl
+      (also_new (good p (here p L.wdata K.Wire p.bits refl refl) (net_fits (word_at p))) refl
       (also_new (good p (here p L.done K.Wire 1 refl refl) (reset_fits p 1 0 (Net (over_at (suc p.delay))) (net_fits (over_has p.delay (omega arith))))) refl
       (also_new (good p (here p L.fail K.Wire 1 refl refl) (reset_fits p 1 0 (Net L.bad) (net_fits (bad_at p)))) refl
-      tt)))))))))))))))
+      tt))))))))))))))))))))))))

@@ -7,13 +7,12 @@ use Rattle.verilog_tree.specs.Plain.{Expressions, NoMore, Followed, Net, PartSel
 use Rattle.verilog_tree.specs.Meaning.{Env, value, widths, joined, names_widths, Settles}
 use Rattle.rtl_layout.specs.declared.row.Row.{Row}
 use Rattle.rtl_layout.specs.Plan.{Plan}
-use Rattle.rtl_layout.specs.Layout.{reset, index, visit, down, back, row_bit, address_bits, address, visited, self_test}
-use Rattle.rtl_layout.specs.Layout as L
+use Rattle.rtl_layout.specs.Layout.{reset, index, visit, down, row_bit, address_bits, address, visited, self_test}
 use Rattle.rtl_layout.specs.Control.{Control, here, operation, outputs, index_at, address_bit, address_of, logical}
-use Rattle.rtl_layout.specs.Shows.{Ready, Answers}
+use Rattle.rtl_layout.specs.Shows.{Ready, Sized, Answers}
 use Rattle.rtl_layout.specs.inner.Shows.{Shows}
 use Rattle.rtl_layout.proofs.Counter.{by_bit, on_zero}
-use Rattle.rtl_layout.proofs.Step.{word_is, is_back, is_value, is_write, is_live_here, is_visit, is_down, last_is}
+use Rattle.rtl_layout.proofs.Step.{word_for, is_back, is_value, is_write, is_live_here, is_visit, is_down, last_is}
 use Rattle.rtl_layout.proofs.Turn as T
 
 -- ---- the address
@@ -57,17 +56,17 @@ live_awake : (t r : Bool) → cond t false r ≡ true → t ≡ false
 live_awake true r h = cc
 live_awake false r h = refl
 
-module _ (p : Plan) (ready : Ready p) (regs ins e : Env) (s : Settles (self_test p) regs ins e) (c : Control) (sh : Shows p c regs) where
+module _ (p : Plan) (ready : Ready p) (sized : Sized p) (regs ins e : Env) (s : Settles (self_test p) regs ins e) (c : Control) (sh : Shows p c regs) where
   abbrev ws : List ℕ → ℕ
   ws = names_widths (self_test p)
 
   index_here : c.visit < p.words → e index ≡ index_at p (here p c) c.visit
   index_here h =
       let fits = ready.index_fits in
-      let held = is_visit p ready regs ins e s c sh in
+      let held = is_visit p ready sized regs ins e s c sh in
       let v : value ws e (visited p) ≡ c.visit = visited_is p ws e ready.addr_some (omega arith) ∙ held in
       T.index_is p regs ins e s
-      ∙ by_bit (here p c).down (e down) _ _ (is_down p ready regs ins e s c sh)
+      ∙ by_bit (here p c).down (e down) _ _ (is_down p ready sized regs ins e s c sh)
       ∙ ap (λ k. cond (here p c).down ((p.words - 1 + 2 ^ p.addr_width - k) % 2 ^ p.addr_width) k) v
       ∙ ap (λ k. cond (here p c).down k c.visit) (from_the_top p.words c.visit (2 ^ p.addr_width) h fits)
 
@@ -75,13 +74,13 @@ module _ (p : Plan) (ready : Ready p) (regs ins e : Env) (s : Settles (self_test
   answers z =
       let r : e reset ≡ 0 = T.reset_in p regs ins e s ∙ z in
       record {
-        en_is = T.en_is p regs ins e s ∙ on_zero (e reset) _ _ r ∙ is_live_here p ready regs ins e s c sh;
-        we_is = T.we_is p regs ins e s ∙ is_write p ready regs ins e s c sh;
+        en_is = T.en_is p regs ins e s ∙ on_zero (e reset) _ _ r ∙ is_live_here p ready sized regs ins e s c sh;
+        we_is = T.we_is p regs ins e s ∙ is_write p ready sized regs ins e s c sh;
         addr_is = λ h.
             let awake = live_awake (here p c).pause c.run h in
             let inside : c.visit < p.words = subst (λ t. c.visit < cond t p.pause p.words) awake sh.visit_in in
             T.addr_is p regs ins e s ∙ address_is p ws e ∙ ap (logical p) (index_here inside);
-        wdata_is = T.wdata_is p regs ins e s ∙ word_is p ready ws e back L.value c.back (operation p c).bit (is_back p ready regs ins e s c sh) sh.back_in (is_value p ready regs ins e s c sh);
-        done_is = T.done_is p regs ins e s ∙ on_zero (e reset) _ _ r ∙ (last_is p ready regs ins e s c sh z).1 ∙ sh.over_is;
+        wdata_is = T.wdata_is p regs ins e s ∙ word_for p ready sized regs ins e s c sh c.back (operation p c).bit (is_back p ready sized regs ins e s c sh) sh.back_in (is_value p ready sized regs ins e s c sh);
+        done_is = T.done_is p regs ins e s ∙ on_zero (e reset) _ _ r ∙ (last_is p ready sized regs ins e s c sh z).1 ∙ sh.over_is;
         fail_is = T.fail_is p regs ins e s ∙ on_zero (e reset) _ _ r ∙ T.bad_held p regs ins e s ∙ sh.bad_is;
       }

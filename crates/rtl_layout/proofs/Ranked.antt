@@ -6,18 +6,18 @@ use Rattle.std.proofs.lemmas.List.{length-drop}
 use Rattle.std.proofs.lemmas.Nat.{pow_pos}
 use Rattle.std.specs.Prelude.{slice_index_or}
 use Rattle.std.specs.Str.{bytes_eq}
-use Rattle.verilog_tree.specs.Plain.{Expression, Net, BitSelect, PartSelect, Literal, Concatenation, Prefixed, Infixed, Conditional, Expressions, NoMore, Followed, ModuleItem, WireItem, RegItem, AssignItem, AlwaysItem}
+use Rattle.verilog_tree.specs.Plain.{Expression, Net, BitSelect, PartSelect, Literal, Concatenation, Prefixed, Infixed, Conditional, Expressions, NoMore, Followed, statements, ModuleItem, WireItem, RegItem, AssignItem, AlwaysItem}
 use Rattle.verilog_tree.specs.Meaning.{bit}
 use Rattle.verilog_tree.specs.Wires.{Uses, UsesAny, Leads, Falls}
-use Rattle.rtl_layout.specs.Build.{lit, choose, bit_of, leaf, below, pick}
-use Rattle.rtl_layout.specs.declared.element.Operation.{Operation}
+use Rattle.rtl_layout.specs.Build.{lit, choose, bit_of, leaf, below, pick, rotated, counted, number_of}
 use Rattle.rtl_layout.specs.declared.row.Row.{Row}
-use Rattle.rtl_layout.specs.Plan.{Element, Plan, several, port_word}
+use Rattle.rtl_layout.specs.Plan.{Element, Plan, several, port_word, is_single}
 use Rattle.rtl_layout.specs.Layout as L
-use Rattle.rtl_layout.specs.Layout.{stage_regs, items_after, by_operation, by_element, word}
-use Rattle.rtl_layout.specs.Control.{nothing, idle, element_at}
+use Rattle.rtl_layout.specs.Layout.{stage_regs, items_after, row_width, by_element, by_next, flag_row, in_row, pattern_of}
+use Rattle.rtl_layout.specs.Control.{nothing}
 use Rattle.rtl_layout.specs.Shows.{Ready}
 use Rattle.rtl_layout.proofs.Choice.{leaf_map, length_map, leaf_drop, leaf_take, length_take}
+use Rattle.rtl_layout.proofs.Rows.{length_counted, length_rotated}
 
 -- What holds of all leaves, and of a choice where it holds of both sides, holds of the whole. The number
 -- counts the choices above a leaf.
@@ -99,15 +99,15 @@ stages_ranked rank many w i zero rest h = h
 stages_ranked rank true w i (suc n) rest h = stages_ranked rank true w (suc i) n rest h
 stages_ranked rank false w i (suc n) rest h = stages_ranked rank false w (suc i) n rest h
 
--- registers and inputs have 0, wires 1 or 2, ports 3
+-- registers and inputs have 0, tables 1, what they lead to 2, ports 3
 abbrev level : List (List ℕ) → ℕ → ℕ → List ℕ → ℕ
 level [] k other n = other
 level (m ∷ ms) k other n = cond (bytes_eq n m) k (level ms k other n)
 
 abbrev pub rank : List ℕ → ℕ
 rank n =
-    level (L.write ∷ L.value ∷ L.down ∷ L.pause ∷ L.last_oper ∷ L.last_element ∷ L.last_back ∷ []) 1
-    (level (L.last_visit ∷ L.live ∷ L.index ∷ []) 2
+    level (L.writes ∷ L.ones ∷ L.ends ∷ L.down ∷ L.pause ∷ L.one_again ∷ L.one_next ∷ L.ends_again ∷ L.ends_next ∷ L.pause_next ∷ L.last_element ∷ L.last_back ∷ L.pattern ∷ []) 1
+    (level (L.write ∷ L.one_more ∷ L.ends_more ∷ L.live ∷ L.index ∷ L.word ∷ []) 2
     (level (L.en ∷ L.we ∷ L.addr ∷ L.wdata ∷ L.done ∷ L.fail ∷ []) 3 0 n) n) n
 
 bit_under : (r : List ℕ → ℕ) (k : ℕ) (n : List ℕ) (v i : ℕ) → nat_lt (r n) k ≡ true → Under r k (bit_of n v i)
@@ -121,14 +121,23 @@ module _ (p : Plan) (ready : Ready p) (r : List ℕ → ℕ) (k : ℕ) where
   pub element_under : (s : ℕ) (f : Element → ℕ) → nat_lt (r L.element) k ≡ true → Under r k (by_element p s f)
   element_under s f h = pick_under r k L.element p.element_width (λ (x : Element). lit s (f x)) nothing p.elements h ready.has_element (λ j g. tt)
 
-  pub operation_under : (f : Operation → Bool) → nat_lt (r L.element) k ≡ true → nat_lt (r L.oper) k ≡ true → Under r k (by_operation p f)
-  operation_under f h g =
-      pick_under r k L.element p.element_width (λ (x : Element). pick L.oper p.oper_width (map (λ (o : Operation). lit 1 (bit (f o))) x.operations)) nothing p.elements h ready.has_element
-      (λ j l. pick_under r k L.oper p.oper_width (λ (o : Operation). lit 1 (bit (f o))) idle (element_at p j).operations g (ready.has_operation j) (λ i m. tt))
+  pub row_under : (f : Element → ℕ → Bool) → nat_lt (r L.element) k ≡ true → Under r k (flag_row p f)
+  row_under f = element_under (row_width p) (λ x. number_of (map (f x) (counted (row_width p))))
 
-  pub word_under : (b v : List ℕ) → nat_lt (r b) k ≡ true → nat_lt (r v) k ≡ true → Under r k (word p b v)
-  word_under b v h g =
-      pick_under r k b p.back_width (λ w. choose (Net v) (lit p.bits (port_word p true w)) (lit p.bits (port_word p false w))) 0 p.backgrounds h ready.has_background (λ j l. (g, tt, tt))
+  pub next_under : (f : Element → ℕ) → nat_lt (r L.element) k ≡ true → Under r k (by_next p f)
+  next_under f h =
+      let l = length_rotated p.elements in
+      let some = ready.has_element in
+      pick_under r k L.element p.element_width (λ (x : Element). lit 1 (f x)) nothing (rotated p.elements) h (omega arith) (λ j g. tt)
+
+  pub in_row_under : (row : List ℕ) → nat_lt (r L.oper) k ≡ true → nat_lt (r row) k ≡ true → Under r k (in_row p row)
+  in_row_under row h g =
+      let l = length_counted (row_width p) in
+      let some = pow_pos p.oper_width in
+      pick_under r k L.oper p.oper_width (bit_of row (row_width p)) 0 (counted (row_width p)) h (omega arith) (λ j m. bit_under r k row (row_width p) (slice_index_or (counted (row_width p)) j 0) g)
+
+  pub pattern_under : (b : List ℕ) → nat_lt (r b) k ≡ true → Under r k (pattern_of p b)
+  pattern_under b h = pick_under r k b p.back_width (λ w. lit p.bits (port_word p false w)) 0 p.backgrounds h ready.has_background (λ j l. tt)
 
   pub visited_under : nat_lt (r L.visit) k ≡ true → Under r k (L.visited p)
   visited_under h = elim (eqb_tells p.addr_width p.visit_width) [
@@ -143,54 +152,38 @@ module _ (p : Plan) (ready : Ready p) (r : List ℕ → ℕ) (k : ℕ) where
   pub address_under : nat_lt (r L.index) k ≡ true → Under r k (L.address p)
   address_under i = elim p.straight as (λ t. Under r k (cond t (Net L.index) (Concatenation (L.address_bits p p.rows NoMore)))) [ true ↦ i | false ↦ rows_under p.rows NoMore i tt ]
 
+pub also : {A B : Type 0} → A → B → A × B
+also a b = (a, b)
+
 module _ (p : Plan) (ready : Ready p) where
+  wires_ranked : Ranked rank (L.wire_assigns p ++ (L.port_assigns p ++ AlwaysItem L.clk (statements (L.sets_all p)) ∷ []))
+  wires_ranked =
+      also (row_under p ready rank 1 L.writes_at refl)
+      (also (row_under p ready rank 1 L.one_behind refl)
+      (also (row_under p ready rank 1 L.ends_behind refl)
+      (also (in_row_under p ready rank 2 L.writes refl refl)
+      (also (element_under p ready rank 1 1 (λ x. bit x.down) refl)
+      (also (element_under p ready rank 1 1 (λ x. bit x.pause) refl)
+      (also (in_row_under p ready rank 2 L.ones refl refl)
+      (also (element_under p ready rank 1 1 (λ x. bit (L.begins_one x)) refl)
+      (also (next_under p ready rank 1 (λ x. bit (L.begins_one x)) refl)
+      (also (in_row_under p ready rank 2 L.ends refl refl)
+      (also (element_under p ready rank 1 1 (λ x. bit (is_single x)) refl)
+      (also (next_under p ready rank 1 (λ x. bit (is_single x)) refl)
+      (also (next_under p ready rank 1 (λ x. bit x.pause) refl)
+      (also (refl, tt)
+      (also (refl, tt)
+      (also (refl, tt, refl)
+      (also (refl, (tt, visited_under p ready rank 2 refl), visited_under p ready rank 2 refl)
+      (also (pattern_under p ready rank 1 L.back refl)
+      (also (refl, refl, refl)
+      (also (refl, tt, refl)
+      (also refl
+      (also (address_under p ready rank 3 refl)
+      (also refl
+      (also (refl, tt, refl)
+      (also (refl, tt, refl)
+      tt))))))))))))))))))))))))
+
   pub rank_falls : Falls rank (L.items p)
-  rank_falls = falls rank (L.items p) (stages_ranked rank (several p) p.back_width 0 p.delay (items_after p) (
-    operation_under p ready rank 1 (λ o. o.write) refl refl,
-    (
-      operation_under p ready rank 1 (λ o. o.bit) refl refl,
-      (
-        element_under p ready rank 1 1 (λ x. bit x.down) refl,
-        (
-          element_under p ready rank 1 1 (λ x. bit x.pause) refl,
-          (
-            (refl, element_under p ready rank 1 p.oper_width (λ x. length x.operations - 1) refl),
-            (
-              (refl, (refl, tt, tt)),
-              (
-                (refl, tt),
-                (
-                  (refl, tt),
-                  (
-                    (refl, tt, refl),
-                    (
-                      (refl, (tt, visited_under p ready rank 2 refl), visited_under p ready rank 2 refl),
-                      (
-                        (refl, tt, refl),
-                        (
-                          refl,
-                          (
-                            address_under p ready rank 3 refl,
-                            (
-                              word_under p ready rank 3 L.back L.value refl refl,
-                              (
-                                (refl, tt, refl),
-                                (
-                                  (refl, tt, refl),
-                                  tt,
-                                ),
-                              ),
-                            ),
-                          ),
-                        ),
-                      ),
-                    ),
-                  ),
-                ),
-              ),
-            ),
-          ),
-        ),
-      ),
-    ),
-  ))
+  rank_falls = falls rank (L.items p) (stages_ranked rank (several p) p.back_width 0 p.delay (items_after p) wires_ranked)

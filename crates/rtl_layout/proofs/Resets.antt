@@ -2,16 +2,16 @@
 use Rattle.std.proofs.Common.{◌≡◌, ℕ, zero, suc, ◌<◌, Bool, true, false, cond, List, ◌++◌, length, refl, ap, ◌∙◌, arith}
 use Rattle.std.proofs.lemmas.Bool.{ltb-false}
 use Rattle.verilog_tree.specs.Plain.{statements}
-use Rattle.verilog_tree.specs.Meaning.{Env, names_widths, Settles, sets, last_set, next}
-use Rattle.rtl_layout.specs.Plan.{Plan, several}
+use Rattle.verilog_tree.specs.Meaning.{Env, bit, names_widths, Settles, sets, last_set, next}
+use Rattle.rtl_layout.specs.Plan.{Plan, several, limit}
 use Rattle.rtl_layout.specs.Layout.{reset, back, reads_at, over_at, end_sets, self_test, en, done, fail}
 use Rattle.rtl_layout.specs.Layout as L
-use Rattle.rtl_layout.specs.Control.{start, quiet, here}
+use Rattle.rtl_layout.specs.Control.{start, quiet, here, element_at}
 use Rattle.rtl_layout.specs.Shows.{Ready}
 use Rattle.rtl_layout.specs.inner.Shows.{BacksIn, Shows}
 use Rattle.rtl_layout.proofs.Counter.{on_one}
 use Rattle.rtl_layout.proofs.Stages.{ages_reset, last_resets}
-use Rattle.rtl_layout.proofs.Step.{ages_shown}
+use Rattle.rtl_layout.proofs.Step.{ages_shown, first_last, begins}
 use Rattle.rtl_layout.proofs.Turn as T
 
 length_quiet : (n : ℕ) → length (quiet n) ≡ n
@@ -46,12 +46,15 @@ module _ (p : Plan) (ready : Ready p) (regs ins e : Env) (s : Settles (self_test
     element_is = T.next_element p e ∙ on_one (e reset) _ _ is_reset;
     back_is = back_zero;
     run_is = T.next_run p e ∙ on_one (e reset) _ _ is_reset;
+    last_oper_is = T.next_last_oper p e ∙ on_one (e reset) _ _ is_reset ∙ ap bit (first_last (length (element_at p 0).operations) (ready.has_operation 0));
+    last_visit_is = T.next_last_visit p e ∙ on_one (e reset) _ _ is_reset ∙ ap bit (first_last (limit p (element_at p 0)) (limit_some (element_at p 0).pause));
+    value_is = T.next_value p e ∙ on_one (e reset) _ _ is_reset ∙ ap bit (begins p ready 0);
     stages_are = ages_shown (several p) (length p.backgrounds) 0 (quiet p.delay) _ (next (self_test p) e)
         (ages_reset (names_widths (self_test p)) e p.back_width (end_sets p) (T.ends_clear p e) is_reset (several p) 0 p.delay)
         (backs_quiet (length p.backgrounds) p.delay ready.has_background) (λ h. ltb-false 1 (length p.backgrounds) h) (λ h. back_zero) lefts;
     reads_is = last_zero.0;
     over_is = last_zero.1;
-    want_is = T.next_want p e ∙ on_one (e reset) _ _ is_reset;
+    want_is = λ h. cc;
     bad_is = T.next_bad p e ∙ on_one (e reset) _ _ is_reset;
     stages_count = length_quiet p.delay;
     backs_in = backs_quiet (length p.backgrounds) p.delay ready.has_background;

@@ -41,7 +41,7 @@ passed_one t a old h = rw h refl
 passed : (t u : Bool) (a b old : ℕ) → t ≡ false → u ≡ false → cond u b (cond t a old) ≡ old
 passed t u a b old h k = rw (h, k) refl
 
-later : (i : ℕ) (n : List ℕ) → Ageless i n → Ageless (suc i) n
+pub later : (i : ℕ) (n : List ℕ) → Ageless i n → Ageless (suc i) n
 later i n f = record {
   no_reads = λ j l. f.no_reads j (omega arith);
   no_over = λ j l. f.no_over j (omega arith);

@@ -1,10 +1,11 @@
 -- Tables as loops make them.
-use Rattle.std.proofs.Common.{◌≡◌, ℕ, ◌+◌, ◌-◌, ◌<◌, ◌≤◌, false, cond, IfOk, List, [], ◌∷◌, ◌++◌, length, map, take, drop, reverse, get_or, refl, append-nil, append_assoc, sym, ap, ◌∙◌, subst, arith}
-use Rattle.std.proofs.lemmas.List.{take_more, take_all, drop_more, drop_all, length-map, map-append, reverse-append}
+use Rattle.std.proofs.Common.{◌≡◌, ℕ, suc, ◌+◌, ◌-◌, ◌<◌, ◌≤◌, false, cond, IfOk, List, [], ◌∷◌, ◌++◌, length, map, take, drop, reverse, get_or, refl, append-nil, append_assoc, sym, ap, ◌∙◌, subst, arith}
+use Rattle.std.proofs.lemmas.List.{length-drop, take_more, take_all, drop_more, drop_all, length-map, map-append, reverse-append}
 use Rattle.std.specs.Prelude.{Result}
 use Rattle.verilog_tree.specs.declared.tree.Expr.{Expr}
 use Rattle.verilog_tree.specs.Plain.{Expression, Net, Concatenation, NoMore, expressions, plain}
-use Rattle.rtl_layout.specs.Build.{pick}
+use Rattle.rtl_layout.proofs.Rows.{length_counted}
+use Rattle.rtl_layout.specs.Build.{pick, rotated, counted}
 use Rattle.rtl_layout.specs.declared.row.Row.{Row}
 use Rattle.rtl_layout.specs.Plan.{Plan}
 use Rattle.rtl_layout.specs.Layout.{index, row_bit, address_bits, address}
@@ -73,3 +74,32 @@ address_written p bits h is =
     ∙ ap (λ l. Concatenation (expressions l)) (sym (append-nil (reverse (map (row_bit p.addr_width) p.rows))))
     ∙ ap Concatenation (sym (address_listed p p.rows []))
     ∙ sym (ap (λ t. cond t (Net index) (Concatenation (address_bits p p.rows NoMore))) h)
+
+-- one bit of a row more
+pub one_bit : (f : ℕ → Expression) (i : ℕ) (ls ms : List Expr) (y : Expr) → ms ≡ ls ++ y ∷ [] → plain y ≡ f i → map plain ls ≡ map f (counted i) → map plain ms ≡ map f (counted (i + 1))
+one_bit f i ls ms y grown tells inv =
+    let up : suc i ≡ i + 1 = omega arith in
+    ap (map plain) grown
+    ∙ map-append plain ls (y ∷ [])
+    ∙ ap (λ l. l ++ plain y ∷ []) inv
+    ∙ ap (λ z. map f (counted i) ++ z ∷ []) tells
+    ∙ sym (map-append f (counted i) (i ∷ []))
+    ∙ ap (λ (n : ℕ). map f (counted n)) up
+
+-- what stands behind the first, and the first, is the list moved on by one
+pub rotated_leaves : {A : Type 0} (f : A → Expression) (xs : List A) (d : A) (x : A) (ls ms : List Expr) (y : Expr) → 0 < length xs → x ≡ get_or xs 0 d → ms ≡ ls ++ y ∷ [] → plain y ≡ f x
+    → map plain ls ≡ map f (drop 1 xs) → map plain ms ≡ map f (rotated xs)
+rotated_leaves f [] d x ls ms y h is grown tells inv = absurd (omega arith)
+rotated_leaves f (z ∷ xs) d x ls ms y h is grown tells inv =
+    ap (map plain) grown
+    ∙ map-append plain ls (y ∷ [])
+    ∙ ap (λ l. l ++ plain y ∷ []) inv
+    ∙ ap (λ v. map f xs ++ v ∷ []) (tells ∙ ap f is)
+    ∙ sym (map-append f xs (z ∷ []))
+
+pub bits_count : (f : ℕ → Expression) (i : ℕ) (ls : List Expr) → map plain ls ≡ map f (counted i) → length ls ≡ i
+bits_count f i ls told = sym (length-map ls plain) ∙ ap length told ∙ length-map (counted i) f ∙ length_counted i
+
+-- a slice from 1 on
+pub behind_first : {A : Type 0} (xs : List A) → take (length xs - 1) (drop 1 xs) ≡ drop 1 xs
+behind_first xs = let l = length-drop 1 xs in take_all (length xs - 1) (drop 1 xs) (omega arith)

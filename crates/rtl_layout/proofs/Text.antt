@@ -1,25 +1,33 @@
 -- The module can be written as text: its names are legal, and it nests at most 64 deep.
-use Rattle.std.proofs.Common.{◌≡◌, ℕ, zero, suc, ◌+◌, ◌-◌, ◌<◌, ◌≤◌, Bool, true, false, cond, ◌&&◌, nat_lt, List, [], ◌∷◌, ◌++◌, length, map, refl, sym, subst, arith, inl, inr}
+use Rattle.std.proofs.Common.{◌≡◌, ℕ, zero, suc, ◌+◌, ◌-◌, ◌<◌, ◌≤◌, Bool, true, false, cond, ◌&&◌, nat_eq, nat_lt, List, [], ◌∷◌, ◌++◌, length, map, refl, sym, subst, arith, inl, inr}
 use Rattle.std.proofs.lemmas.Bool.{lt-ltb, ltb-true, and_parts}
 use Rattle.std.proofs.lemmas.Bool.Decides.{eqb_tells}
 use Rattle.std.specs.Prelude.{slice_index_or}
 use Rattle.verilog_tree.specs.Plain.{Expression, Net, BitSelect, PartSelect, Literal, Concatenation, Prefixed, Infixed, Conditional, Expressions, NoMore, Followed, Statement, SetTo, IfElse, CaseOf, statements, ModuleItem}
+use Rattle.verilog_tree.specs.declared.tree.UnOp.TheVariants.{Invert}
 use Rattle.verilog_tree.specs.declared.tree.BinOp.TheVariants.{Ne}
 use Rattle.verilog_tree.specs.Words.{is_name}
 use Rattle.verilog_tree.specs.Formed.{formed}
 use Rattle.verilog_tree.specs.Fits.{expression_fits, expressions_fit, statements_fit, item_fits, items_fit, ports_fit, fits}
 use Rattle.verilog_tree.specs.Meaning.{bit}
-use Rattle.rtl_layout.specs.Build.{lit, choose, bit_of, pick, step_while, at_reset}
-use Rattle.rtl_layout.specs.declared.element.Operation.{Operation}
+use Rattle.rtl_layout.specs.Build.{lit, choose, bit_of, pick, rotated, counted, number_of, step_while, at_reset}
 use Rattle.rtl_layout.specs.declared.row.Row.{Row}
-use Rattle.rtl_layout.specs.Plan.{Element, Plan, several, port_word}
+use Rattle.rtl_layout.specs.Plan.{Element, Plan, several, port_word, is_single}
 use Rattle.rtl_layout.specs.Layout as L
-use Rattle.rtl_layout.specs.Layout.{stage_regs, stage_sets, items_after, by_operation, by_element, word, feed_reads, feed_over, self_test, reads_at, over_at, value_at, back_at, aged}
-use Rattle.rtl_layout.specs.Control.{nothing, idle, element_at}
+use Rattle.rtl_layout.specs.Layout.{stage_regs, stage_sets, items_after, by_element, by_next, in_row, pattern_of, word_of, feed_reads, feed_over, self_test, reads_at, over_at, value_at, back_at, aged}
+use Rattle.rtl_layout.specs.Control.{nothing}
 use Rattle.rtl_layout.specs.Shows.{Ready, Sized}
 use Rattle.rtl_layout.proofs.Ranked.{pick_has}
+use Rattle.std.proofs.lemmas.Nat.{pow_pos}
+use Rattle.rtl_layout.proofs.Rows.{length_counted, length_rotated}
 use Rattle.rtl_layout.proofs.Counter.{either}
 use Rattle.rtl_layout.proofs.Forms.{both, is_formed}
+
+also : {A B : Type 0} → A → B → A × B
+also a b = (a, b)
+
+also_new : {A B C : Type 0} → A → B → C → A × B × C
+also_new a b c = (a, b, c)
 
 -- more openings may be open
 mutual
@@ -100,17 +108,27 @@ module _ (p : Plan) (ready : Ready p) (sized : Sized p) (few : p.delay < 4) (ele
   by_element_fits : (s : ℕ) (f : Element → ℕ) → Fit 63 (by_element p s f)
   by_element_fits s f = more (0 + p.element_width) 63 (omega arith) (by_element p s f) (pick_fits 0 L.element p.element_width (λ (x : Element). lit s (f x)) nothing p.elements refl ready.has_element (λ j g. refl))
 
-  by_operation_fits : (f : Operation → Bool) → Fit 64 (by_operation p f)
-  by_operation_fits f =
-      more (0 + p.oper_width + p.element_width) 64 (omega arith) (by_operation p f)
-      (pick_fits (0 + p.oper_width) L.element p.element_width (λ (x : Element). pick L.oper p.oper_width (map (λ (o : Operation). lit 1 (bit (f o))) x.operations)) nothing p.elements refl ready.has_element
-      (λ j g. pick_fits 0 L.oper p.oper_width (λ (o : Operation). lit 1 (bit (f o))) idle (element_at p j).operations refl (ready.has_operation j) (λ i h. refl)))
+  row_fits : (f : Element → ℕ → Bool) → Fit 64 (L.flag_row p f)
+  row_fits f = more 63 64 (omega arith) (L.flag_row p f) (by_element_fits (L.row_width p) (λ x. number_of (map (f x) (counted (L.row_width p)))))
 
-  word_fits : (k v : List ℕ) → is_name k ≡ true → is_name v ≡ true → Fit 62 (word p k v)
-  word_fits k v h g =
-      more (1 + p.back_width) 62 (omega arith) (word p k v)
-      (pick_fits 1 k p.back_width (λ b. choose (Net v) (lit p.bits (port_word p true b)) (lit p.bits (port_word p false b))) 0 p.backgrounds h ready.has_background
-      (λ j l. choose_fits 0 (Net v) (lit p.bits (port_word p true (slice_index_or p.backgrounds j 0))) (lit p.bits (port_word p false (slice_index_or p.backgrounds j 0))) g refl refl))
+  flag_fits : (f : Element → ℕ) → Fit 64 (by_element p 1 f)
+  flag_fits f = more 63 64 (omega arith) (by_element p 1 f) (by_element_fits 1 f)
+
+  by_next_fits : (f : Element → ℕ) → Fit 64 (by_next p f)
+  by_next_fits f =
+      let l = length_rotated p.elements in
+      let some = ready.has_element in
+      more (0 + p.element_width) 64 (omega arith) (by_next p f) (pick_fits 0 L.element p.element_width (λ (x : Element). lit 1 (f x)) nothing (rotated p.elements) refl (omega arith) (λ j g. refl))
+
+  in_row_fits : (row : List ℕ) → is_name row ≡ true → Fit 64 (in_row p row)
+  in_row_fits row h =
+      let l = length_counted (L.row_width p) in
+      let some = pow_pos p.oper_width in
+      more (0 + p.oper_width) 64 (omega arith) (in_row p row)
+      (pick_fits 0 L.oper p.oper_width (bit_of row (L.row_width p)) 0 (counted (L.row_width p)) refl (omega arith) (λ j g. bit_of_fits 0 row (L.row_width p) (slice_index_or (counted (L.row_width p)) j 0) h))
+
+  pattern_fits : (j : ℕ) → 16 ≤ j → (k : List ℕ) → is_name k ≡ true → Fit j (pattern_of p k)
+  pattern_fits j l k h = more (0 + p.back_width) j (omega arith) (pattern_of p k) (pick_fits 0 k p.back_width (λ b. lit p.bits (port_word p false b)) 0 p.backgrounds h ready.has_background (λ j l. refl))
 
   visited_fits : (k : ℕ) → Fit k (L.visited p)
   visited_fits k = elim (eqb_tells p.addr_width p.visit_width) [
@@ -190,34 +208,30 @@ module _ (p : Plan) (ready : Ready p) (sized : Sized p) (few : p.delay < 4) (ele
   abbrev next_fits : List ℕ → ℕ → List Expression → List ℕ → Expression → Type 0
   next_fits r w cs last x = Fit 63 (at_reset (lit w 0) (step_while cs (choose (Net last) (lit w 0) x) (Net r)))
 
+  want_fits : Fit 63 (L.want_next p)
+  want_fits =
+      let x = pattern_of p (back_at (several p) p.delay) in
+      let k = back_fits (several p) p.delay few in
+      let aged : Fit 63 (word_of (value_at p.delay) x) =
+      choose_fits 62 (Net (value_at p.delay)) (Prefixed Invert x) x (value_fits p.delay few) (pattern_fits 61 (omega arith) (back_at (several p) p.delay) k) (pattern_fits 62 (omega arith) (back_at (several p) p.delay) k) in
+      elim (nat_eq p.delay 0) as (λ t. Fit 63 (cond t (Net L.word) (word_of (value_at p.delay) x))) [ true ↦ refl | false ↦ aged ]
+
   block_fits : statements_fit 63 (statements (L.sets_all p)) ≡ true
   block_fits =
       let inner = choose (Infixed Ne (Net L.rdata) (Net L.want)) (lit 1 1) (Net L.bad) in
-      sets_fit (L.sets_all p) (
-        refl,
-        either (next_fits L.oper p.oper_width (Net L.run ∷ []) L.last_oper) L.oper p.oper_width (λ k. refl) (λ k. refl),
-        (
-          refl,
-          either (next_fits L.visit p.visit_width (Net L.run ∷ Net L.last_oper ∷ []) L.last_visit) L.visit p.visit_width (λ k. refl) (λ k. refl),
-          (
-            refl,
-            either (next_fits L.element p.element_width (Net L.run ∷ Net L.last_oper ∷ Net L.last_visit ∷ []) L.last_element) L.element p.element_width (λ k. refl) (λ k. refl),
-            (
-              refl,
-              either (next_fits L.back p.back_width (Net L.run ∷ Net L.last_oper ∷ Net L.last_visit ∷ Net L.last_element ∷ []) L.last_back) L.back p.back_width (λ k. refl) (λ k. refl),
-              (
-                refl,
-                refl,
-                stages_fit (several p) 0 p.delay (omega arith) (L.end_sets p) (
-                  refl,
-                  gated_fits p.bits 0 (word p (back_at (several p) p.delay) (value_at p.delay)) (word_fits (back_at (several p) p.delay) (value_at p.delay) (back_fits (several p) p.delay few) (value_fits p.delay few)),
-                  (refl, gated_fits 1 0 (choose (Net (reads_at (suc p.delay))) inner (Net L.bad)) (choose_fits 61 (Net (reads_at (suc p.delay))) inner (Net L.bad) (reads_name p.delay few) refl refl), tt),
-                ),
-              ),
-            ),
-          ),
-        ),
-      )
+      sets_fit (L.sets_all p)
+      (also_new refl (either (next_fits L.oper p.oper_width (Net L.run ∷ []) L.last_oper) L.oper p.oper_width (λ k. refl) (λ k. refl))
+      (also_new refl (either (next_fits L.visit p.visit_width (Net L.run ∷ Net L.last_oper ∷ []) L.last_visit) L.visit p.visit_width (λ k. refl) (λ k. refl))
+      (also_new refl (either (next_fits L.element p.element_width (Net L.run ∷ Net L.last_oper ∷ Net L.last_visit ∷ []) L.last_element) L.element p.element_width (λ k. refl) (λ k. refl))
+      (also_new refl (either (next_fits L.back p.back_width (Net L.run ∷ Net L.last_oper ∷ Net L.last_visit ∷ Net L.last_element ∷ []) L.last_back) L.back p.back_width (λ k. refl) (λ k. refl))
+      (also_new refl refl
+      (also_new refl refl
+      (also_new refl refl
+      (also_new refl refl
+      (stages_fit (several p) 0 p.delay (omega arith) (L.end_sets p)
+      (also_new refl want_fits
+      (also_new refl (gated_fits 1 0 (choose (Net (reads_at (suc p.delay))) inner (Net L.bad)) (choose_fits 61 (Net (reads_at (suc p.delay))) inner (Net L.bad) (reads_name p.delay few) refl refl))
+      tt)))))))))))
 
   abbrev ItemsFit : List ModuleItem → Type 0
   ItemsFit [] = Unit {0}
@@ -232,110 +246,69 @@ module _ (p : Plan) (ready : Ready p) (sized : Sized p) (few : p.delay < 4) (ele
   stage_items_fit true i (suc n) l rest h = (reads_name i (omega arith), (over_name i (omega arith), (value_name i (omega arith), (back_name i (omega arith), stage_items_fit true (suc i) n (omega arith) rest h))))
   stage_items_fit false i (suc n) l rest h = (reads_name i (omega arith), (over_name i (omega arith), (value_name i (omega arith), stage_items_fit false (suc i) n (omega arith) rest h)))
 
+  after_fit : ItemsFit (items_after p)
+  after_fit =
+      also refl
+      (also refl
+      (also refl
+      (also refl
+      (also refl
+      (also refl
+      (also refl
+      (also refl
+      (also refl
+      (also refl
+      (also refl
+      (also refl
+      (also refl
+      (also refl
+      (also refl
+      (also refl
+      (also refl
+      (also refl
+      (also refl
+      (also refl
+      (also refl
+      (also (row_fits L.writes_at)
+      (also (row_fits L.one_behind)
+      (also (row_fits L.ends_behind)
+      (also (in_row_fits L.writes refl)
+      (also (flag_fits (λ x. bit x.down))
+      (also (flag_fits (λ x. bit x.pause))
+      (also (in_row_fits L.ones refl)
+      (also (flag_fits (λ x. bit (L.begins_one x)))
+      (also (by_next_fits (λ x. bit (L.begins_one x)))
+      (also (in_row_fits L.ends refl)
+      (also (flag_fits (λ x. bit (is_single x)))
+      (also (by_next_fits (λ x. bit (is_single x)))
+      (also (by_next_fits (λ x. bit x.pause))
+      (also refl
+      (also refl
+      (also refl
+      (also (both (expression_fits 62 (L.visited p)) (expression_fits 63 (L.visited p)) (visited_fits 62) (visited_fits 63))
+      (also (pattern_fits 64 (omega arith) L.back refl)
+      (also refl
+      (also refl
+      (also refl
+      (also address_fits
+      (also refl
+      (also (over_name p.delay few)
+      (also refl
+      (also block_fits
+      tt))))))))))))))))))))))))))))))))))))))))))))))
+
   items_are_fit : items_fit 64 (L.items p) ≡ true
-  items_are_fit = all_fit (L.items p) (
-    refl,
-    (
-      refl,
-      (
-        refl,
-        (
-          refl,
-          (
-            refl,
-            stage_items_fit (several p) 0 p.delay (omega arith) (items_after p) (
-              refl,
-              (
-                refl,
-                (
-                  refl,
-                  (
-                    refl,
-                    (
-                      refl,
-                      (
-                        refl,
-                        (
-                          refl,
-                          (
-                            refl,
-                            (
-                              refl,
-                              (
-                                refl,
-                                (
-                                  refl,
-                                  (
-                                    refl,
-                                    (
-                                      by_operation_fits (λ o. o.write),
-                                      (
-                                        by_operation_fits (λ o. o.bit),
-                                        (
-                                          more 63 64 (omega arith) (by_element p 1 (λ x. bit x.down)) (by_element_fits 1 (λ x. bit x.down)),
-                                          (
-                                            more 63 64 (omega arith) (by_element p 1 (λ x. bit x.pause)) (by_element_fits 1 (λ x. bit x.pause)),
-                                            (
-                                              by_element_fits p.oper_width (λ x. length x.operations - 1),
-                                              (
-                                                refl,
-                                                (
-                                                  refl,
-                                                  (
-                                                    refl,
-                                                    (
-                                                      refl,
-                                                      (
-                                                        both (expression_fits 62 (L.visited p)) (expression_fits 63 (L.visited p)) (visited_fits 62) (visited_fits 63),
-                                                        (
-                                                          refl,
-                                                          (
-                                                            refl,
-                                                            (
-                                                              address_fits,
-                                                              (
-                                                                more 62 64 (omega arith) (word p L.back L.value) (word_fits L.back L.value refl refl),
-                                                                (
-                                                                  over_name p.delay few,
-                                                                  (
-                                                                    refl,
-                                                                    (
-                                                                      block_fits,
-                                                                      tt,
-                                                                    ),
-                                                                  ),
-                                                                ),
-                                                              ),
-                                                            ),
-                                                          ),
-                                                        ),
-                                                      ),
-                                                    ),
-                                                  ),
-                                                ),
-                                              ),
-                                            ),
-                                          ),
-                                        ),
-                                      ),
-                                    ),
-                                  ),
-                                ),
-                              ),
-                            ),
-                          ),
-                        ),
-                      ),
-                    ),
-                  ),
-                ),
-              ),
-            ),
-          ),
-        ),
-      ),
-    ),
-  )
+  items_are_fit =
+      all_fit (L.items p)
+      (also refl
+      (also refl
+      (also refl
+      (also refl
+      (also refl
+      (also refl
+      (also refl
+      (also refl
+      (stage_items_fit (several p) 0 p.delay (omega arith) (items_after p) after_fit)))))))))
 
   pub all_fits : is_name p.name ≡ true → fits (self_test p) ≡ true
   all_fits n =

@@ -1,10 +1,10 @@
 -- One cycle of the module is one step of the controller.
 use Rattle.std.proofs.Common.{◌≡◌, ℕ, suc, ◌+◌, ◌-◌, ◌%◌, ◌^◌, cond, nat_eq, List, ◌++◌, length, refl, ap, ◌∙◌, append-nil}
-use Rattle.verilog_tree.specs.Plain.{statements}
+use Rattle.verilog_tree.specs.Plain.{Net, statements}
 use Rattle.verilog_tree.specs.Names.{item_declarations}
 use Rattle.verilog_tree.specs.Meaning.{Env, bit, truth, value, names_widths, AllGiven, Equations, Settles, sets, last_set, next}
-use Rattle.rtl_layout.specs.Plan.{Plan, several}
-use Rattle.rtl_layout.specs.Layout.{reset, rdata, en, we, addr, wdata, done, fail, oper, visit, element, back, run, want, bad, write, down, pause, last_oper, last_visit, last_element, last_back, live, index, reads_at, over_at, value_at, back_at, aged, by_operation, by_element, word, items_after, stage_regs, stage_sets, end_sets, sets_all, self_test}
+use Rattle.rtl_layout.specs.Plan.{Plan, several, is_single}
+use Rattle.rtl_layout.specs.Layout.{reset, rdata, en, we, addr, wdata, done, fail, oper, visit, element, back, run, want, bad, writes, ones, ends, write, down, pause, one_more, one_again, one_next, ends_more, ends_again, ends_next, pause_next, last_oper, last_visit, last_element, last_back, live, index, pattern, word, over_at, by_element, by_next, flag_row, in_row, items_after, stage_regs, stage_sets, end_sets, sets_all, self_test}
 use Rattle.rtl_layout.specs.Layout as L
 use Rattle.rtl_layout.proofs.Stages.{given_behind, equations_behind, blocks_behind, Ageless, sets_behind, Clear}
 
@@ -35,6 +35,15 @@ module _ (p : Plan) (e : Env) where
 
   pub next_run : next (self_test p) e run ≡ value ws e L.run_next
   next_run = next_is run ∙ behind run (record { no_reads = λ j l. refl; no_over = λ j l. refl; no_value = λ j l. refl; no_back = λ j l. refl }) _
+
+  pub next_last_oper : next (self_test p) e last_oper ≡ value ws e (L.last_oper_next p)
+  next_last_oper = next_is last_oper ∙ behind last_oper (record { no_reads = λ j l. refl; no_over = λ j l. refl; no_value = λ j l. refl; no_back = λ j l. refl }) _
+
+  pub next_last_visit : next (self_test p) e last_visit ≡ value ws e (L.last_visit_next p)
+  next_last_visit = next_is last_visit ∙ behind last_visit (record { no_reads = λ j l. refl; no_over = λ j l. refl; no_value = λ j l. refl; no_back = λ j l. refl }) _
+
+  pub next_value : next (self_test p) e L.value ≡ value ws e (L.value_next p)
+  next_value = next_is L.value ∙ behind L.value (record { no_reads = λ j l. refl; no_over = λ j l. refl; no_value = λ j l. refl; no_back = λ j l. refl }) _
 
   pub next_want : next (self_test p) e want ≡ value ws e (L.want_next p)
   next_want = next_is want ∙ behind want (record { no_reads = λ j l. refl; no_over = λ j l. refl; no_value = λ j l. refl; no_back = λ j l. refl }) _
@@ -75,8 +84,17 @@ module _ (p : Plan) (regs ins e : Env) (s : Settles (self_test p) regs ins e) wh
   pub run_held : e run ≡ regs run
   run_held = s.given.1.1.1.1.1.1.1.1.1.1.1.1.1.0
 
+  pub last_oper_held : e last_oper ≡ regs last_oper
+  last_oper_held = s.given.1.1.1.1.1.1.1.1.1.1.1.1.1.1.0
+
+  pub last_visit_held : e last_visit ≡ regs last_visit
+  last_visit_held = s.given.1.1.1.1.1.1.1.1.1.1.1.1.1.1.1.0
+
+  pub value_held : e L.value ≡ regs L.value
+  value_held = s.given.1.1.1.1.1.1.1.1.1.1.1.1.1.1.1.1.0
+
   pub ages_given : AgesGiven p regs ins e p.delay
-  ages_given = s.given.1.1.1.1.1.1.1.1.1.1.1.1.1.1
+  ages_given = s.given.1.1.1.1.1.1.1.1.1.1.1.1.1.1.1.1.1
 
   after_given : AllGiven regs ins e (item_declarations (items_after p))
   after_given = given_behind regs ins e (several p) p.back_width 0 p.delay (items_after p) ages_given
@@ -90,50 +108,77 @@ module _ (p : Plan) (regs ins e : Env) (s : Settles (self_test p) regs ins e) wh
   equal : Equations w e (items_after p)
   equal = equations_behind w e (several p) p.back_width 0 p.delay (items_after p) s.equations
 
-  pub write_is : e write ≡ value w e (by_operation p (λ o. o.write))
-  write_is = equal.0
+  pub writes_is : e writes ≡ value w e (flag_row p L.writes_at)
+  writes_is = equal.0
 
-  pub value_is : e L.value ≡ value w e (by_operation p (λ o. o.bit))
-  value_is = equal.1.0
+  pub ones_is : e ones ≡ value w e (flag_row p L.one_behind)
+  ones_is = equal.1.0
+
+  pub ends_is : e ends ≡ value w e (flag_row p L.ends_behind)
+  ends_is = equal.1.1.0
+
+  pub write_is : e write ≡ value w e (in_row p writes)
+  write_is = equal.1.1.1.0
 
   pub down_is : e down ≡ value w e (by_element p 1 (λ x. bit x.down))
-  down_is = equal.1.1.0
+  down_is = equal.1.1.1.1.0
 
   pub pause_is : e pause ≡ value w e (by_element p 1 (λ x. bit x.pause))
-  pause_is = equal.1.1.1.0
+  pause_is = equal.1.1.1.1.1.0
 
-  pub last_oper_is : e last_oper ≡ bit (nat_eq (e oper) (value w e (by_element p p.oper_width (λ x. length x.operations - 1))))
-  last_oper_is = equal.1.1.1.1.0
+  pub one_more_is : e one_more ≡ value w e (in_row p ones)
+  one_more_is = equal.1.1.1.1.1.1.0
 
-  pub last_visit_is : e last_visit ≡ bit (nat_eq (e visit) (cond (truth (e pause)) (p.pause - 1) (p.words - 1)))
-  last_visit_is = equal.1.1.1.1.1.0
+  pub one_again_is : e one_again ≡ value w e (by_element p 1 (λ x. bit (L.begins_one x)))
+  one_again_is = equal.1.1.1.1.1.1.1.0
+
+  pub one_next_is : e one_next ≡ value w e (by_next p (λ x. bit (L.begins_one x)))
+  one_next_is = equal.1.1.1.1.1.1.1.1.0
+
+  pub ends_more_is : e ends_more ≡ value w e (in_row p ends)
+  ends_more_is = equal.1.1.1.1.1.1.1.1.1.0
+
+  pub ends_again_is : e ends_again ≡ value w e (by_element p 1 (λ x. bit (is_single x)))
+  ends_again_is = equal.1.1.1.1.1.1.1.1.1.1.0
+
+  pub ends_next_is : e ends_next ≡ value w e (by_next p (λ x. bit (is_single x)))
+  ends_next_is = equal.1.1.1.1.1.1.1.1.1.1.1.0
+
+  pub pause_next_is : e pause_next ≡ value w e (by_next p (λ x. bit x.pause))
+  pause_next_is = equal.1.1.1.1.1.1.1.1.1.1.1.1.0
 
   pub last_element_is : e last_element ≡ bit (nat_eq (e element) (length p.elements - 1))
-  last_element_is = equal.1.1.1.1.1.1.0
+  last_element_is = equal.1.1.1.1.1.1.1.1.1.1.1.1.1.0
 
   pub last_back_is : e last_back ≡ bit (nat_eq (e back) (length p.backgrounds - 1))
-  last_back_is = equal.1.1.1.1.1.1.1.0
+  last_back_is = equal.1.1.1.1.1.1.1.1.1.1.1.1.1.1.0
 
   pub live_is : e live ≡ cond (truth (e pause)) 0 (e run)
-  live_is = equal.1.1.1.1.1.1.1.1.0
+  live_is = equal.1.1.1.1.1.1.1.1.1.1.1.1.1.1.1.0
 
   pub index_is : e index ≡ cond (truth (e down)) ((p.words - 1 + 2 ^ p.addr_width - value w e (L.visited p)) % 2 ^ p.addr_width) (value w e (L.visited p))
-  index_is = equal.1.1.1.1.1.1.1.1.1.0
+  index_is = equal.1.1.1.1.1.1.1.1.1.1.1.1.1.1.1.1.0
+
+  pub pattern_is : e pattern ≡ value w e (L.pattern_of p back)
+  pattern_is = equal.1.1.1.1.1.1.1.1.1.1.1.1.1.1.1.1.1.0
+
+  pub word_is : e word ≡ value w e (L.word_of L.value (Net pattern))
+  word_is = equal.1.1.1.1.1.1.1.1.1.1.1.1.1.1.1.1.1.1.0
 
   pub en_is : e en ≡ cond (truth (e reset)) 0 (e live)
-  en_is = equal.1.1.1.1.1.1.1.1.1.1.0
+  en_is = equal.1.1.1.1.1.1.1.1.1.1.1.1.1.1.1.1.1.1.1.0
 
   pub we_is : e we ≡ e write
-  we_is = equal.1.1.1.1.1.1.1.1.1.1.1.0
+  we_is = equal.1.1.1.1.1.1.1.1.1.1.1.1.1.1.1.1.1.1.1.1.0
 
   pub addr_is : e addr ≡ value w e (L.address p)
-  addr_is = equal.1.1.1.1.1.1.1.1.1.1.1.1.0
+  addr_is = equal.1.1.1.1.1.1.1.1.1.1.1.1.1.1.1.1.1.1.1.1.1.0
 
-  pub wdata_is : e wdata ≡ value w e (word p back L.value)
-  wdata_is = equal.1.1.1.1.1.1.1.1.1.1.1.1.1.0
+  pub wdata_is : e wdata ≡ e word
+  wdata_is = equal.1.1.1.1.1.1.1.1.1.1.1.1.1.1.1.1.1.1.1.1.1.1.0
 
   pub done_is : e done ≡ cond (truth (e reset)) 0 (e (over_at (suc p.delay)))
-  done_is = equal.1.1.1.1.1.1.1.1.1.1.1.1.1.1.0
+  done_is = equal.1.1.1.1.1.1.1.1.1.1.1.1.1.1.1.1.1.1.1.1.1.1.1.0
 
   pub fail_is : e fail ≡ cond (truth (e reset)) 0 (e bad)
-  fail_is = equal.1.1.1.1.1.1.1.1.1.1.1.1.1.1.1.0
+  fail_is = equal.1.1.1.1.1.1.1.1.1.1.1.1.1.1.1.1.1.1.1.1.1.1.1.1.0

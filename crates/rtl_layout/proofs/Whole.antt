@@ -73,6 +73,9 @@ driven : (is : List ModuleItem) (ds : List Declaration) → Driven is ds → und
 driven is [] h = refl
 driven is (d ∷ ds) h = ap (λ t. cond t (Some (Undriven d.name)) (undriven is ds)) h.0 ∙ driven is ds h.1
 
+also : {A B : Type 0} → A → B → A × B
+also a b = (a, b)
+
 module _ (p : Plan) (ready : Ready p) (sized : Sized p) where
   abbrev assigns : List ModuleItem
   assigns = L.wire_assigns p ++ L.port_assigns p
@@ -85,7 +88,7 @@ module _ (p : Plan) (ready : Ready p) (sized : Sized p) where
   in_order = ap (λ l. digit_regs p ++ l) (append_assoc (stage_regs (several p) p.back_width 0 p.delay) (end_regs p ++ wires p) (assigns ++ block))
 
   declares : Declares (declared p)
-  declares = (refl, (refl, (refl, (refl, (refl, stages_declare (several p) p.back_width 0 p.delay (end_regs p ++ wires p) (refl, (refl, (refl, (refl, (refl, (refl, (refl, (refl, (refl, (refl, (refl, (refl, tt)))))))))))))))))
+  declares = (refl, (refl, (refl, (refl, (refl, (refl, (refl, (refl, stages_declare (several p) p.back_width 0 p.delay (end_regs p ++ wires p) (refl, (refl, (refl, (refl, (refl, (refl, (refl, (refl, (refl, (refl, (refl, (refl, (refl, (refl, (refl, (refl, (refl, (refl, (refl, (refl, (refl, tt)))))))))))))))))))))))))))))
 
   after : (n : List ℕ) → Ageless 0 n → lookup (item_declarations (stage_regs (several p) p.back_width 0 p.delay ++ (end_regs p ++ wires p))) n ≡ lookup (item_declarations (end_regs p ++ wires p)) n
   after n f = lookup_behind n (several p) p.back_width 0 p.delay f (end_regs p ++ wires p)
@@ -95,50 +98,26 @@ module _ (p : Plan) (ready : Ready p) (sized : Sized p) where
   once n a b c d = after n (ageless n a b c d)
 
   pub apart : Apart (names p)
-  apart = (
-    once L.clk (λ j. refl) (λ j. refl) (λ j. refl) (λ j. refl),
-    (
-      once L.reset (λ j. refl) (λ j. refl) (λ j. refl) (λ j. refl),
-      (
-        once L.rdata (λ j. refl) (λ j. refl) (λ j. refl) (λ j. refl),
-        (
-          once L.en (λ j. refl) (λ j. refl) (λ j. refl) (λ j. refl),
-          (
-            once L.we (λ j. refl) (λ j. refl) (λ j. refl) (λ j. refl),
-            (
-              once L.addr (λ j. refl) (λ j. refl) (λ j. refl) (λ j. refl),
-              (
-                once L.wdata (λ j. refl) (λ j. refl) (λ j. refl) (λ j. refl),
-                (
-                  once L.done (λ j. refl) (λ j. refl) (λ j. refl) (λ j. refl),
-                  (
-                    once L.fail (λ j. refl) (λ j. refl) (λ j. refl) (λ j. refl),
-                    (
-                      once L.oper (λ j. refl) (λ j. refl) (λ j. refl) (λ j. refl),
-                      (
-                        once L.visit (λ j. refl) (λ j. refl) (λ j. refl) (λ j. refl),
-                        (
-                          once L.element (λ j. refl) (λ j. refl) (λ j. refl) (λ j. refl),
-                          (
-                            once L.back (λ j. refl) (λ j. refl) (λ j. refl) (λ j. refl),
-                            (
-                              once L.run (λ j. refl) (λ j. refl) (λ j. refl) (λ j. refl),
-                              stages_apart (several p) p.back_width 0 p.delay (end_regs p ++ wires p) (record { no_reads = λ j. refl; no_over = λ j. refl; no_value = λ j. refl; no_back = λ j. refl })
-                                  (refl, (refl, (refl, (refl, (refl, (refl, (refl, (refl, (refl, (refl, (refl, (refl, tt)))))))))))),
-                            ),
-                          ),
-                        ),
-                      ),
-                    ),
-                  ),
-                ),
-              ),
-            ),
-          ),
-        ),
-      ),
-    ),
-  )
+  apart =
+      also (once L.clk (λ j. refl) (λ j. refl) (λ j. refl) (λ j. refl))
+      (also (once L.reset (λ j. refl) (λ j. refl) (λ j. refl) (λ j. refl))
+      (also (once L.rdata (λ j. refl) (λ j. refl) (λ j. refl) (λ j. refl))
+      (also (once L.en (λ j. refl) (λ j. refl) (λ j. refl) (λ j. refl))
+      (also (once L.we (λ j. refl) (λ j. refl) (λ j. refl) (λ j. refl))
+      (also (once L.addr (λ j. refl) (λ j. refl) (λ j. refl) (λ j. refl))
+      (also (once L.wdata (λ j. refl) (λ j. refl) (λ j. refl) (λ j. refl))
+      (also (once L.done (λ j. refl) (λ j. refl) (λ j. refl) (λ j. refl))
+      (also (once L.fail (λ j. refl) (λ j. refl) (λ j. refl) (λ j. refl))
+      (also (once L.oper (λ j. refl) (λ j. refl) (λ j. refl) (λ j. refl))
+      (also (once L.visit (λ j. refl) (λ j. refl) (λ j. refl) (λ j. refl))
+      (also (once L.element (λ j. refl) (λ j. refl) (λ j. refl) (λ j. refl))
+      (also (once L.back (λ j. refl) (λ j. refl) (λ j. refl) (λ j. refl))
+      (also (once L.run (λ j. refl) (λ j. refl) (λ j. refl) (λ j. refl))
+      (also (once L.last_oper (λ j. refl) (λ j. refl) (λ j. refl) (λ j. refl))
+      (also (once L.last_visit (λ j. refl) (λ j. refl) (λ j. refl) (λ j. refl))
+      (also (once L.value (λ j. refl) (λ j. refl) (λ j. refl) (λ j. refl))
+      (stages_apart (several p) p.back_width 0 p.delay (end_regs p ++ wires p) (record { no_reads = λ j. refl; no_over = λ j. refl; no_value = λ j. refl; no_back = λ j. refl })
+      (refl, (refl, (refl, (refl, (refl, (refl, (refl, (refl, (refl, (refl, (refl, (refl, (refl, (refl, (refl, (refl, (refl, (refl, (refl, (refl, (refl, tt))))))))))))))))))))))))))))))))))))))
 
   pub all_names : declarations (L.ports p) (L.items p) ≡ names p
   all_names = ap (λ l. declarations (L.ports p) l) (sym in_order) ∙ declarations_more (L.ports p) (declared p) (assigns ++ block) ∙ append-nil (names p)
@@ -167,31 +146,30 @@ module _ (p : Plan) (ready : Ready p) (sized : Sized p) where
   wires_driven : undriven (L.items p) (item_declarations (L.items p)) ≡ None
   wires_driven =
       stages_driven (L.items p) (several p) p.back_width 0 p.delay (items_after p)
-      ∙ driven (L.items p) (item_declarations (items_after p)) (
-        refl,
-        (
-          refl,
-          (
-            is_driven L.write refl,
-            (
-              is_driven L.value refl,
-              (
-                is_driven L.down refl,
-                (
-                  is_driven L.pause refl,
-                  (
-                    is_driven L.last_oper refl,
-                    (
-                      is_driven L.last_visit refl,
-                      (is_driven L.last_element refl, (is_driven L.last_back refl, (is_driven L.live refl, (is_driven L.index refl, tt)))),
-                    ),
-                  ),
-                ),
-              ),
-            ),
-          ),
-        ),
-      )
+      ∙ driven (L.items p) (item_declarations (items_after p)) (refl, (refl, all_driven))
+    where
+      all_driven : Driven (L.items p) (item_declarations (wires p))
+      all_driven =
+          also (is_driven L.writes refl)
+          (also (is_driven L.ones refl)
+          (also (is_driven L.ends refl)
+          (also (is_driven L.write refl)
+          (also (is_driven L.down refl)
+          (also (is_driven L.pause refl)
+          (also (is_driven L.one_more refl)
+          (also (is_driven L.one_again refl)
+          (also (is_driven L.one_next refl)
+          (also (is_driven L.ends_more refl)
+          (also (is_driven L.ends_again refl)
+          (also (is_driven L.ends_next refl)
+          (also (is_driven L.pause_next refl)
+          (also (is_driven L.last_element refl)
+          (also (is_driven L.last_back refl)
+          (also (is_driven L.live refl)
+          (also (is_driven L.index refl)
+          (also (is_driven L.pattern refl)
+          (also (is_driven L.word refl)
+          tt))))))))))))))))))
 
   none_5 : (a b c d e : Option Break) → a ≡ None → b ≡ None → c ≡ None → d ≡ None → e ≡ None → first_of (a ∷ b ∷ c ∷ d ∷ e ∷ []) ≡ None
   none_5 a b c d e p q r s t = rw (p, q, r, s, t) refl

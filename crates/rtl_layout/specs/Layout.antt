@@ -1,14 +1,15 @@
 -- Public. The self-test module of a plan.
-use Rattle.std.specs.Prelude.{ℕ, zero, suc, ◌+◌, ◌-◌, Bool, true, false, cond, List, [], ◌∷◌, ◌++◌, map, length, codes}
-use Rattle.verilog_tree.specs.declared.tree.UnOp.TheVariants.{Not, Parity}
+use Rattle.std.specs.Prelude.{ℕ, zero, suc, ◌+◌, ◌-◌, ◌^◌, Bool, true, false, cond, nat_eq, nat_le, List, [], ◌∷◌, ◌++◌, map, length, slice_index_or, codes}
+use Rattle.verilog_tree.specs.declared.tree.UnOp.TheVariants.{Not, Invert, Parity}
 use Rattle.verilog_tree.specs.declared.tree.BinOp.TheVariants.{Sub, And, Xor, Eq, Ne}
 use Rattle.verilog_tree.specs.declared.tree.Dir.TheVariants.{Input, Output}
 use Rattle.verilog_tree.specs.Plain.{Expression, Net, Concatenation, Prefixed, Infixed, Expressions, NoMore, Followed, Statement, SetTo, statements, ModuleItem, WireItem, RegItem, AssignItem, AlwaysItem, ModulePort, ModuleTree}
 use Rattle.verilog_tree.specs.Meaning.{bit}
-use Rattle.rtl_layout.specs.Build.{lit, choose, low_bits, pick, step_while, at_reset, counter}
+use Rattle.rtl_layout.specs.Build.{lit, choose, low_bits, pick, rotated, counted, number_of, bit_in, step_while, at_reset, counter}
 use Rattle.rtl_layout.specs.declared.element.Operation.{Operation}
 use Rattle.rtl_layout.specs.declared.row.Row.{Row}
-use Rattle.rtl_layout.specs.Plan.{Element, Plan, port_word, several}
+use Rattle.rtl_layout.specs.Plan.{Element, Plan, port_word, several, is_single, limit}
+use Rattle.rtl_layout.specs.Control.{idle, element_at}
 
 abbrev pub clk : List ℕ
 clk = codes "clk"
@@ -58,6 +59,15 @@ want = codes "want"
 abbrev pub bad : List ℕ
 bad = codes "bad"
 
+abbrev pub writes : List ℕ
+writes = codes "writes"
+
+abbrev pub ones : List ℕ
+ones = codes "ones"
+
+abbrev pub ends : List ℕ
+ends = codes "ends"
+
 abbrev pub write : List ℕ
 write = codes "write"
 
@@ -69,6 +79,27 @@ down = codes "down"
 
 abbrev pub pause : List ℕ
 pause = codes "pause"
+
+abbrev pub one_more : List ℕ
+one_more = codes "one_more"
+
+abbrev pub one_again : List ℕ
+one_again = codes "one_again"
+
+abbrev pub one_next : List ℕ
+one_next = codes "one_next"
+
+abbrev pub ends_more : List ℕ
+ends_more = codes "ends_more"
+
+abbrev pub ends_again : List ℕ
+ends_again = codes "ends_again"
+
+abbrev pub ends_next : List ℕ
+ends_next = codes "ends_next"
+
+abbrev pub pause_next : List ℕ
+pause_next = codes "pause_next"
 
 abbrev pub last_oper : List ℕ
 last_oper = codes "last_oper"
@@ -87,6 +118,12 @@ live = codes "live"
 
 abbrev pub index : List ℕ
 index = codes "index"
+
+abbrev pub pattern : List ℕ
+pattern = codes "pattern"
+
+abbrev pub word : List ℕ
+word = codes "word"
 
 -- what was commanded i cycles ago has the number i
 abbrev pub aged : List ℕ → ℕ → List ℕ
@@ -109,15 +146,50 @@ back_at many (suc i) = cond many (aged back (suc i)) back
 
 -- ---- tables over the march
 
-abbrev pub by_operation : Plan → (Operation → Bool) → Expression
-by_operation p f = pick element p.element_width (map (λ (x : Element). pick oper p.oper_width (map (λ (o : Operation). lit 1 (bit (f o))) x.operations)) p.elements)
-
 abbrev pub by_element : Plan → ℕ → (Element → ℕ) → Expression
 by_element p s f = pick element p.element_width (map (λ (x : Element). lit s (f x)) p.elements)
 
--- the word of the background and the value that these names hold
-abbrev pub word : Plan → List ℕ → List ℕ → Expression
-word p k v = pick k p.back_width (map (λ b. choose (Net v) (lit p.bits (port_word p true b)) (lit p.bits (port_word p false b))) p.backgrounds)
+-- the same of the next element, which is the first behind the last
+abbrev pub by_next : Plan → (Element → ℕ) → Expression
+by_next p f = pick element p.element_width (map (λ (x : Element). lit 1 (f x)) (rotated p.elements))
+
+-- a bit for each number that an operation can have
+abbrev pub row_width : Plan → ℕ
+row_width p = 2 ^ p.oper_width
+
+-- what the element has at each of these numbers, at 0 in the lowest bit
+abbrev pub flag_row : Plan → (Element → ℕ → Bool) → Expression
+flag_row p f = by_element p (row_width p) (λ x. number_of (map (f x) (counted (row_width p))))
+
+-- the operation of a number, and behind the last the last
+abbrev pub operation_in : Element → ℕ → Operation
+operation_in x i = slice_index_or x.operations i (slice_index_or x.operations (length x.operations - 1) idle)
+
+-- whether it writes; whether the bit of the one behind it is 1, and whether that is the last
+abbrev pub writes_at : Element → ℕ → Bool
+writes_at x i = (operation_in x i).write
+
+abbrev pub one_behind : Element → ℕ → Bool
+one_behind x i = (operation_in x (i + 1)).bit
+
+abbrev pub ends_behind : Element → ℕ → Bool
+ends_behind x i = nat_le (length x.operations) (i + 2)
+
+-- whether the bit of the first operation is 1
+abbrev pub begins_one : Element → Bool
+begins_one x = (operation_in x 0).bit
+
+-- the operation's bit in such a row
+abbrev pub in_row : Plan → List ℕ → Expression
+in_row p row = bit_in row oper p.oper_width
+
+-- the word of the value 0 of the background that a name holds
+abbrev pub pattern_of : Plan → List ℕ → Expression
+pattern_of p k = pick k p.back_width (map (λ b. lit p.bits (port_word p false b)) p.backgrounds)
+
+-- a word, or its complement where a value is 1
+abbrev pub word_of : List ℕ → Expression → Expression
+word_of v x = choose (Net v) (Prefixed Invert x) x
 
 abbrev pub gated : Expression → Expression
 gated x = at_reset (lit 1 0) x
@@ -125,7 +197,9 @@ gated x = at_reset (lit 1 0) x
 -- ---- registers
 
 abbrev pub digit_regs : Plan → List ModuleItem
-digit_regs p = RegItem oper p.oper_width ∷ RegItem visit p.visit_width ∷ RegItem element p.element_width ∷ RegItem back p.back_width ∷ RegItem run 1 ∷ []
+digit_regs p =
+    RegItem oper p.oper_width ∷ RegItem visit p.visit_width ∷ RegItem element p.element_width ∷ RegItem back p.back_width ∷ RegItem run 1
+    ∷ RegItem last_oper 1 ∷ RegItem last_visit 1 ∷ RegItem value 1 ∷ []
 
 abbrev pub maybe : {A : Type 0} → Bool → A → List A
 maybe b x = cond b (x ∷ []) []
@@ -143,14 +217,20 @@ end_regs p = RegItem want p.bits ∷ RegItem bad 1 ∷ []
 abbrev pub wire : List ℕ → ℕ → ModuleItem
 wire n w = WireItem n w
 
-abbrev pub flag_wires : List ModuleItem
-flag_wires = wire write 1 ∷ wire value 1 ∷ wire down 1 ∷ wire pause 1 ∷ []
+abbrev pub flag_wires : ℕ → List ModuleItem
+flag_wires row = wire writes row ∷ wire ones row ∷ wire ends row ∷ wire write 1 ∷ wire down 1 ∷ wire pause 1 ∷ []
+
+abbrev pub next_wires : List ModuleItem
+next_wires = wire one_more 1 ∷ wire one_again 1 ∷ wire one_next 1 ∷ wire ends_more 1 ∷ wire ends_again 1 ∷ wire ends_next 1 ∷ wire pause_next 1 ∷ []
 
 abbrev pub last_wires : List ModuleItem
-last_wires = wire last_oper 1 ∷ wire last_visit 1 ∷ wire last_element 1 ∷ wire last_back 1 ∷ []
+last_wires = wire last_element 1 ∷ wire last_back 1 ∷ []
+
+abbrev pub command_wires : Plan → List ModuleItem
+command_wires p = wire live 1 ∷ wire index p.addr_width ∷ wire pattern p.bits ∷ wire word p.bits ∷ []
 
 abbrev pub wires : Plan → List ModuleItem
-wires p = flag_wires ++ (last_wires ++ (wire live 1 ∷ wire index p.addr_width ∷ []))
+wires p = flag_wires (row_width p) ++ (next_wires ++ (last_wires ++ command_wires p))
 
 -- ---- what they are assigned and set to
 
@@ -169,11 +249,13 @@ address_bits p (r ∷ rs) xs = address_bits p rs (Followed (row_bit p.addr_width
 abbrev pub address : Plan → Expression
 address p = cond p.straight (Net index) (Concatenation (address_bits p p.rows NoMore))
 
-abbrev pub is_last_oper : Plan → Expression
-is_last_oper p = Infixed Eq (Net oper) (by_element p p.oper_width (λ x. length x.operations - 1))
+-- whether the visit behind this is the last
+abbrev pub visit_ends_more : Plan → Expression
+visit_ends_more p = Infixed Eq (Net visit) (choose (Net pause) (lit p.visit_width (p.pause - 2)) (lit p.visit_width (p.words - 2)))
 
-abbrev pub is_last_visit : Plan → Expression
-is_last_visit p = Infixed Eq (Net visit) (choose (Net pause) (lit p.visit_width (p.pause - 1)) (lit p.visit_width (p.words - 1)))
+-- whether the next element is visited once
+abbrev pub visit_ends_next : Plan → Expression
+visit_ends_next p = choose (Net pause_next) (lit 1 (bit (nat_eq p.pause 1))) (lit 1 (bit (nat_eq p.words 1)))
 
 abbrev pub is_last_element : Plan → Expression
 is_last_element p = Infixed Eq (Net element) (lit p.element_width (length p.elements - 1))
@@ -187,28 +269,36 @@ is_live = choose (Net pause) (lit 1 0) (Net run)
 abbrev pub index_of : Plan → Expression
 index_of p = choose (Net down) (Infixed Sub (lit p.addr_width (p.words - 1)) (visited p)) (visited p)
 
+-- what the element has at each number of an operation
+abbrev pub row_assigns : Plan → List ModuleItem
+row_assigns p = AssignItem writes (flag_row p writes_at) ∷ AssignItem ones (flag_row p one_behind) ∷ AssignItem ends (flag_row p ends_behind) ∷ []
+
 -- what stands at this place of the march
 abbrev pub flag_assigns : Plan → List ModuleItem
-flag_assigns p =
-    AssignItem write (by_operation p (λ o. o.write)) ∷ AssignItem value (by_operation p (λ o. o.bit))
-    ∷ AssignItem down (by_element p 1 (λ x. bit x.down)) ∷ AssignItem pause (by_element p 1 (λ x. bit x.pause)) ∷ []
+flag_assigns p = AssignItem write (in_row p writes) ∷ AssignItem down (by_element p 1 (λ x. bit x.down)) ∷ AssignItem pause (by_element p 1 (λ x. bit x.pause)) ∷ []
+
+-- what stands at the places that can come next: one operation more, this element's first, and the next one's
+abbrev pub next_assigns : Plan → List ModuleItem
+next_assigns p =
+    AssignItem one_more (in_row p ones) ∷ AssignItem one_again (by_element p 1 (λ x. bit (begins_one x))) ∷ AssignItem one_next (by_next p (λ x. bit (begins_one x)))
+    ∷ AssignItem ends_more (in_row p ends) ∷ AssignItem ends_again (by_element p 1 (λ x. bit (is_single x))) ∷ AssignItem ends_next (by_next p (λ x. bit (is_single x)))
+    ∷ AssignItem pause_next (by_next p (λ x. bit x.pause)) ∷ []
 
 -- what ends at this place of the march
 abbrev pub last_assigns : Plan → List ModuleItem
-last_assigns p =
-    AssignItem last_oper (is_last_oper p) ∷ AssignItem last_visit (is_last_visit p) ∷ AssignItem last_element (is_last_element p)
-    ∷ AssignItem last_back (is_last_back p) ∷ []
+last_assigns p = AssignItem last_element (is_last_element p) ∷ AssignItem last_back (is_last_back p) ∷ []
 
 -- the command
 abbrev pub command_assigns : Plan → List ModuleItem
-command_assigns p = AssignItem live is_live ∷ AssignItem index (index_of p) ∷ []
+command_assigns p =
+    AssignItem live is_live ∷ AssignItem index (index_of p) ∷ AssignItem pattern (pattern_of p back) ∷ AssignItem word (word_of value (Net pattern)) ∷ []
 
 abbrev pub wire_assigns : Plan → List ModuleItem
-wire_assigns p = flag_assigns p ++ (last_assigns p ++ command_assigns p)
+wire_assigns p = row_assigns p ++ (flag_assigns p ++ (next_assigns p ++ (last_assigns p ++ command_assigns p)))
 
 -- its ports
 abbrev pub command_outputs : Plan → List ModuleItem
-command_outputs p = AssignItem en (gated (Net live)) ∷ AssignItem we (Net write) ∷ AssignItem addr (address p) ∷ AssignItem wdata (word p back value) ∷ []
+command_outputs p = AssignItem en (gated (Net live)) ∷ AssignItem we (Net write) ∷ AssignItem addr (address p) ∷ AssignItem wdata (Net word) ∷ []
 
 -- the ports of the end, of a module of so many ages with a value
 abbrev pub end_outputs : ℕ → List ModuleItem
@@ -232,8 +322,28 @@ back_next p = counter back p.back_width (Net run ∷ Net last_oper ∷ Net last_
 abbrev pub run_next : Expression
 run_next = at_reset (lit 1 1) (step_while (Net run ∷ Net last_oper ∷ Net last_visit ∷ Net last_element ∷ Net last_back ∷ []) (lit 1 0) (Net run))
 
+-- what the next operation has: the first of all, one more, this element's first or the next one's
+abbrev pub turning : List ℕ → Bool → List ℕ → List ℕ → List ℕ → Expression
+turning r first next again more =
+    at_reset (lit 1 (bit first)) (step_while (Net run ∷ []) (choose (Net last_oper) (choose (Net last_visit) (Net next) (Net again)) (Net more)) (Net r))
+
+-- whether the next operation is the last, and whether its bit is 1
+abbrev pub last_oper_next : Plan → Expression
+last_oper_next p = turning last_oper (is_single (element_at p 0)) ends_next ends_again ends_more
+
+abbrev pub value_next : Plan → Expression
+value_next p = turning value (begins_one (element_at p 0)) one_next one_again one_more
+
+-- whether the next visit is the last
+abbrev pub last_visit_next : Plan → Expression
+last_visit_next p =
+    at_reset (lit 1 (bit (nat_eq (limit p (element_at p 0)) 1)))
+    (step_while (Net run ∷ Net last_oper ∷ []) (choose (Net last_visit) (visit_ends_next p) (visit_ends_more p)) (Net last_visit))
+
 abbrev pub digit_sets : Plan → List Statement
-digit_sets p = SetTo oper (oper_next p) ∷ SetTo visit (visit_next p) ∷ SetTo element (element_next p) ∷ SetTo back (back_next p) ∷ SetTo run run_next ∷ []
+digit_sets p =
+    SetTo oper (oper_next p) ∷ SetTo visit (visit_next p) ∷ SetTo element (element_next p) ∷ SetTo back (back_next p) ∷ SetTo run run_next
+    ∷ SetTo last_oper (last_oper_next p) ∷ SetTo last_visit (last_visit_next p) ∷ SetTo value (value_next p) ∷ []
 
 abbrev pub feed_reads : ℕ → Expression
 feed_reads zero = choose (Net write) (lit 1 0) (Net live)
@@ -254,8 +364,9 @@ stage_sets many w i (suc n) =
     SetTo (reads_at (suc i)) (gated (feed_reads i)) ∷ SetTo (over_at (suc i)) (gated (feed_over i)) ∷ SetTo (value_at (suc i)) (gated (Net (value_at i)))
     ∷ (maybe many (back_set w i) ++ stage_sets many w (suc i) n)
 
+-- the word that the read of the last age expects
 abbrev pub want_next : Plan → Expression
-want_next p = at_reset (lit p.bits 0) (word p (back_at (several p) p.delay) (value_at p.delay))
+want_next p = cond (nat_eq p.delay 0) (Net word) (word_of (value_at p.delay) (pattern_of p (back_at (several p) p.delay)))
 
 -- of a module of so many ages with a value
 abbrev pub bad_after : ℕ → Expression

@@ -1,5 +1,5 @@
 -- Public. What a self-test module is made from, as plain numbers and tables.
-use Rattle.std.specs.Prelude.{ℕ, ◌-◌, ◌^◌, Bool, cond, nat_lt, List, length, bit_xor}
+use Rattle.std.specs.Prelude.{ℕ, ◌-◌, ◌^◌, Bool, cond, nat_eq, nat_lt, List, length, bit_xor}
 use Rattle.rtl_layout.specs.declared.element.Operation.{Operation}
 use Rattle.rtl_layout.specs.declared.row.Row.{Row}
 
@@ -36,6 +36,10 @@ port_word p v b = bit_xor (cond v (2 ^ p.bits - 1 - b) b) p.polarity
 -- whether there are several backgrounds
 abbrev pub several : Plan → Bool
 several p = nat_lt 1 (length p.backgrounds)
+
+-- whether an element has one operation
+abbrev pub is_single : Element → Bool
+is_single x = nat_eq (length x.operations) 1
 
 -- how often an element is visited
 abbrev pub limit : Plan → Element → ℕ

@@ -47,6 +47,8 @@ pub record Sized (p : Plan) : Type 0 where
   pub element_narrow : p.element_width ≤ 64
   pub oper_some : 1 ≤ p.oper_width
   pub oper_narrow : p.oper_width ≤ 64
+  -- a row has a bit for each number of an operation
+  pub row_narrow : 2 ^ p.oper_width ≤ 64
   pub back_some : 1 ≤ p.back_width
   pub back_narrow : p.back_width ≤ 64
   pub bits_some : 1 ≤ p.bits
@@ -78,6 +80,8 @@ pub record IsPlan (p : Plan) : Type 0 where
   pub ready : Ready p
   pub sized : Sized p
   pub few_ages : p.delay ≤ 3
+  pub few_elements : length p.elements ≤ 64
+  pub few_backgrounds : length p.backgrounds ≤ 8
   pub element_small : p.element_width ≤ 16
   pub oper_small : p.oper_width ≤ 16
   pub back_small : p.back_width ≤ 16

@@ -1,12 +1,13 @@
 //! The assigned wires.
 ghost use Rattle.std.specs.Prelude.{◌≡◌, ◌≤◌, IfOk, OnOk, map, ◌++◌, ◌∷◌, []};
-ghost use Rattle.verilog_tree.specs.Plain.{plain, plain_item, AssignItem};
+ghost use Rattle.verilog_tree.specs.Plain.{plain, plain_item, Net, AssignItem};
 ghost use Rattle.rtl_layout.specs.Layout as L;
+ghost use Rattle.rtl_layout.specs.inner.Layout as LInner;
 ghost use Rattle.rtl_layout.specs.Seen.{seen};
 
-use crate::flags::{ElementFlag, OperationFlag};
+use crate::flags::{ElementFlag, RowFlag};
 use crate::plan::Plan;
-use crate::tables::{by_element, by_operation, last_operation};
+use crate::tables::{by_element, by_next, flag_row, in_row, pattern, word_of};
 use crate::trees::{binary, choose, flag, literal, low, name, net};
 use std::alloc::{AllocError, Global};
 use verilog_tree::{BinOp, Expr, Item, Name};
@@ -17,22 +18,6 @@ pub fn assign(items: &mut Vec<Item>, target: Name, value: Expr) -> Result<(), Al
 {
     items.push(Item::Assign(target, value))?;
     Ok(())
-}
-
-fn last_oper(alloc: Global, plan: &Plan) -> Result<Expr, AllocError>
-    ensures { IfOk result (λ x. plain x ≡ L.is_last_oper (seen plan.now)) }
-{
-    let last = last_operation(alloc, plan)?;
-    binary(alloc, BinOp::Eq, net(name("oper")), last)
-}
-
-fn last_visit(alloc: Global, plan: &Plan) -> Result<Expr, AllocError>
-    ensures { IfOk result (λ x. plain x ≡ L.is_last_visit (seen plan.now)) }
-{
-    let pause = literal(plan.visit_width, u64::from(plan.pause - 1));
-    let words = literal(plan.visit_width, u64::from(plan.words - 1));
-    let last = choose(alloc, net(name("pause")), pause, words)?;
-    binary(alloc, BinOp::Eq, net(name("visit")), last)
 }
 
 fn last_element(alloc: Global, plan: &Plan) -> Result<Expr, AllocError>
@@ -72,14 +57,37 @@ fn index(alloc: Global, plan: &Plan) -> Result<Expr, AllocError>
     choose(alloc, net(name("down")), downward, visited(plan))
 }
 
+// The word of the background and the value.
+fn word(alloc: Global) -> Result<Expr, AllocError>
+    ensures { IfOk result (λ x. plain x ≡ L.word_of L.value (Net L.pattern)) }
+{
+    word_of(
+        alloc,
+        name("value"),
+        net(name("pattern")),
+        net(name("pattern")),
+    )
+}
+
+// What the element has at each number of an operation.
+fn assign_rows(items: &mut Vec<Item>, alloc: Global, plan: &Plan) -> Result<(), AllocError>
+    ensures { OnOk result (map plain_item items.new.items ≡ map plain_item items.old.items ++ L.row_assigns (seen plan.now)) }
+{
+    let writes = flag_row(alloc, plan, RowFlag::Write)?;
+    assign(items, name("writes"), writes)?;
+    let ones = flag_row(alloc, plan, RowFlag::OneBehind)?;
+    assign(items, name("ones"), ones)?;
+    let ends = flag_row(alloc, plan, RowFlag::EndsBehind)?;
+    assign(items, name("ends"), ends)?;
+    Ok(())
+}
+
 // What stands at this place of the march.
 fn assign_flags(items: &mut Vec<Item>, alloc: Global, plan: &Plan) -> Result<(), AllocError>
     ensures { OnOk result (map plain_item items.new.items ≡ map plain_item items.old.items ++ L.flag_assigns (seen plan.now)) }
 {
-    let write = by_operation(alloc, plan, OperationFlag::Write)?;
+    let write = in_row(alloc, plan, name("writes"))?;
     assign(items, name("write"), write)?;
-    let value = by_operation(alloc, plan, OperationFlag::Value)?;
-    assign(items, name("value"), value)?;
     let down = by_element(alloc, plan, ElementFlag::Down)?;
     assign(items, name("down"), down)?;
     let pause = by_element(alloc, plan, ElementFlag::Pause)?;
@@ -87,14 +95,38 @@ fn assign_flags(items: &mut Vec<Item>, alloc: Global, plan: &Plan) -> Result<(),
     Ok(())
 }
 
+// What the next operation has.
+fn assign_ones(items: &mut Vec<Item>, alloc: Global, plan: &Plan) -> Result<(), AllocError>
+    ensures { OnOk result (map plain_item items.new.items ≡ map plain_item items.old.items ++ LInner.one_assigns (seen plan.now)) }
+{
+    let more = in_row(alloc, plan, name("ones"))?;
+    assign(items, name("one_more"), more)?;
+    let again = by_element(alloc, plan, ElementFlag::One)?;
+    assign(items, name("one_again"), again)?;
+    let next = by_next(alloc, plan, ElementFlag::One)?;
+    assign(items, name("one_next"), next)?;
+    Ok(())
+}
+
+// Whether it is the last, and whether the next element is a pause.
+fn assign_ends(items: &mut Vec<Item>, alloc: Global, plan: &Plan) -> Result<(), AllocError>
+    ensures { OnOk result (map plain_item items.new.items ≡ map plain_item items.old.items ++ LInner.end_assigns (seen plan.now)) }
+{
+    let more = in_row(alloc, plan, name("ends"))?;
+    assign(items, name("ends_more"), more)?;
+    let again = by_element(alloc, plan, ElementFlag::Single)?;
+    assign(items, name("ends_again"), again)?;
+    let next = by_next(alloc, plan, ElementFlag::Single)?;
+    assign(items, name("ends_next"), next)?;
+    let pause = by_next(alloc, plan, ElementFlag::Pause)?;
+    assign(items, name("pause_next"), pause)?;
+    Ok(())
+}
+
 // What ends at this place of the march.
 fn assign_lasts(items: &mut Vec<Item>, alloc: Global, plan: &Plan) -> Result<(), AllocError>
     ensures { OnOk result (map plain_item items.new.items ≡ map plain_item items.old.items ++ L.last_assigns (seen plan.now)) }
 {
-    let oper = last_oper(alloc, plan)?;
-    assign(items, name("last_oper"), oper)?;
-    let visit = last_visit(alloc, plan)?;
-    assign(items, name("last_visit"), visit)?;
     let element = last_element(alloc, plan)?;
     assign(items, name("last_element"), element)?;
     let back = last_back(alloc, plan)?;
@@ -110,6 +142,10 @@ fn assign_command(items: &mut Vec<Item>, alloc: Global, plan: &Plan) -> Result<(
     assign(items, name("live"), live)?;
     let index = index(alloc, plan)?;
     assign(items, name("index"), index)?;
+    let pattern = pattern(alloc, plan, name("back"))?;
+    assign(items, name("pattern"), pattern)?;
+    let word = word(alloc)?;
+    assign(items, name("word"), word)?;
     Ok(())
 }
 
@@ -117,7 +153,10 @@ fn assign_command(items: &mut Vec<Item>, alloc: Global, plan: &Plan) -> Result<(
 pub fn assign_wires(items: &mut Vec<Item>, alloc: Global, plan: &Plan) -> Result<(), AllocError>
     ensures { OnOk result (map plain_item items.new.items ≡ map plain_item items.old.items ++ L.wire_assigns (seen plan.now)) }
 {
+    assign_rows(items, alloc, plan)?;
     assign_flags(items, alloc, plan)?;
+    assign_ones(items, alloc, plan)?;
+    assign_ends(items, alloc, plan)?;
     assign_lasts(items, alloc, plan)?;
     assign_command(items, alloc, plan)?;
     Ok(())

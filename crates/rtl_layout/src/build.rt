@@ -11,8 +11,8 @@ use crate::assigns::assign_wires;
 use crate::digits::{set, set_digits};
 use crate::plan::Plan;
 use crate::ports::{assign_ports, ports};
-use crate::tables::word;
-use crate::trees::{after_reset, binary, choose, flag, gate, literal, name, net};
+use crate::tables::{pattern, row_width, word_of};
+use crate::trees::{binary, choose, flag, gate, name, net};
 use std::alloc::{AllocError, Global};
 use verilog_tree::{BinOp, Decl, Expr, Item, Module, Name, Stmt};
 
@@ -30,6 +30,9 @@ fn declare_digits(items: &mut Vec<Item>, plan: &Plan) -> Result<(), AllocError>
     declare(items, name("element"), plan.element_width)?;
     declare(items, name("back"), plan.back_width)?;
     declare(items, name("run"), 1)?;
+    declare(items, name("last_oper"), 1)?;
+    declare(items, name("last_visit"), 1)?;
+    declare(items, name("value"), 1)?;
     Ok(())
 }
 
@@ -51,23 +54,46 @@ fn declare_wire(items: &mut Vec<Item>, name: Name, width: u8) -> Result<(), Allo
     Ok(())
 }
 
-fn declare_flags(items: &mut Vec<Item>) -> Result<(), AllocError>
-    ensures { OnOk result (map plain_item items.new.items ≡ map plain_item items.old.items ++ L.flag_wires) }
+fn declare_flags(items: &mut Vec<Item>, row: u8) -> Result<(), AllocError>
+    ensures { OnOk result (map plain_item items.new.items ≡ map plain_item items.old.items ++ L.flag_wires row) }
 {
+    declare_wire(items, name("writes"), row)?;
+    declare_wire(items, name("ones"), row)?;
+    declare_wire(items, name("ends"), row)?;
     declare_wire(items, name("write"), 1)?;
-    declare_wire(items, name("value"), 1)?;
     declare_wire(items, name("down"), 1)?;
     declare_wire(items, name("pause"), 1)?;
+    Ok(())
+}
+
+fn declare_nexts(items: &mut Vec<Item>) -> Result<(), AllocError>
+    ensures { OnOk result (map plain_item items.new.items ≡ map plain_item items.old.items ++ L.next_wires) }
+{
+    declare_wire(items, name("one_more"), 1)?;
+    declare_wire(items, name("one_again"), 1)?;
+    declare_wire(items, name("one_next"), 1)?;
+    declare_wire(items, name("ends_more"), 1)?;
+    declare_wire(items, name("ends_again"), 1)?;
+    declare_wire(items, name("ends_next"), 1)?;
+    declare_wire(items, name("pause_next"), 1)?;
     Ok(())
 }
 
 fn declare_lasts(items: &mut Vec<Item>) -> Result<(), AllocError>
     ensures { OnOk result (map plain_item items.new.items ≡ map plain_item items.old.items ++ L.last_wires) }
 {
-    declare_wire(items, name("last_oper"), 1)?;
-    declare_wire(items, name("last_visit"), 1)?;
     declare_wire(items, name("last_element"), 1)?;
     declare_wire(items, name("last_back"), 1)?;
+    Ok(())
+}
+
+fn declare_command(items: &mut Vec<Item>, plan: &Plan) -> Result<(), AllocError>
+    ensures { OnOk result (map plain_item items.new.items ≡ map plain_item items.old.items ++ L.command_wires (seen plan.now)) }
+{
+    declare_wire(items, name("live"), 1)?;
+    declare_wire(items, name("index"), plan.addr_width)?;
+    declare_wire(items, name("pattern"), plan.bits)?;
+    declare_wire(items, name("word"), plan.bits)?;
     Ok(())
 }
 
@@ -75,10 +101,10 @@ fn declare_lasts(items: &mut Vec<Item>) -> Result<(), AllocError>
 fn declare_wires(items: &mut Vec<Item>, plan: &Plan) -> Result<(), AllocError>
     ensures { OnOk result (map plain_item items.new.items ≡ map plain_item items.old.items ++ L.wires (seen plan.now)) }
 {
-    declare_flags(items)?;
+    declare_flags(items, row_width(plan))?;
+    declare_nexts(items)?;
     declare_lasts(items)?;
-    declare_wire(items, name("live"), 1)?;
-    declare_wire(items, name("index"), plan.addr_width)?;
+    declare_command(items, plan)?;
     Ok(())
 }
 
@@ -86,9 +112,13 @@ fn declare_wires(items: &mut Vec<Item>, plan: &Plan) -> Result<(), AllocError>
 fn want_next(alloc: Global, plan: &Plan) -> Result<Expr, AllocError>
     ensures { IfOk result (λ x. plain x ≡ L.want_next (seen plan.now)) }
 {
+    if plan.delay == 0 {
+        return Ok(net(name("word")));
+    }
     let back = back_at(is_several(plan), plan.delay);
-    let word = word(alloc, plan, back, value_at(plan.delay))?;
-    after_reset(alloc, literal(plan.bits, 0), word)
+    let word = pattern(alloc, plan, back)?;
+    let double = pattern(alloc, plan, back)?;
+    word_of(alloc, value_at(plan.delay), word, double)
 }
 
 // Whether some word was wrong.

@@ -3,12 +3,17 @@ ghost use Rattle.std.specs.Prelude.{◌≡◌, ℕ, ◌≤◌, IfOk, OnOk, lengt
 ghost use Rattle.verilog_tree.specs.Plain.{plain, plain_stmt, Net, SetTo};
 ghost use Rattle.rtl_layout.specs.Build.{counter};
 ghost use Rattle.rtl_layout.specs.Layout as L;
+ghost use Rattle.rtl_layout.specs.Plan.{limit};
+ghost use Rattle.rtl_layout.specs.inner.Layout as LInner;
 ghost use Rattle.rtl_layout.specs.Seen.{seen};
 
+use crate::element::Element;
+use crate::flags::ElementFlag;
 use crate::plan::Plan;
-use crate::trees::{after_reset, counting, flag, name, while_all};
+use crate::tables::of_element;
+use crate::trees::{after_reset, binary, choose, counting, flag, literal, name, net, while_all};
 use std::alloc::{AllocError, Global};
-use verilog_tree::{Expr, Name, Stmt};
+use verilog_tree::{BinOp, Expr, Name, Stmt};
 
 /// One register's next value more.
 pub fn set(block: &mut Vec<Stmt>, register: Name, value: Expr) -> Result<(), AllocError>
@@ -128,6 +133,114 @@ fn run_next(alloc: Global) -> Result<Expr, AllocError>
     after_reset(alloc, flag(true), run)
 }
 
+// What the next operation has: one more, this element's first or the next one's.
+fn turning(
+    alloc: Global,
+    register: Name,
+    first: bool,
+    next: Name,
+    again: Name,
+    more: Name,
+) -> Result<Expr, AllocError>
+    ensures { IfOk result (λ x. plain x ≡ L.turning register.bytes first next.bytes again.bytes more.bytes) }
+{
+    let turned = choose(alloc, net(name("last_visit")), net(next), net(again))?;
+    let stepped = choose(alloc, net(name("last_oper")), turned, net(more))?;
+    let running = while_all(alloc, &[name("run")], stepped, register)?;
+    after_reset(alloc, flag(first), running)
+}
+
+// Whether the next operation is the last of its element.
+fn last_oper_next(alloc: Global, plan: &Plan) -> Result<Expr, AllocError>
+    ensures { IfOk result (λ x. plain x ≡ L.last_oper_next (seen plan.now)) }
+{
+    turning(
+        alloc,
+        name("last_oper"),
+        of_element(&plan.elements[0], ElementFlag::Single),
+        name("ends_next"),
+        name("ends_again"),
+        name("ends_more"),
+    )
+}
+
+// Whether its bit is 1.
+fn value_next(alloc: Global, plan: &Plan) -> Result<Expr, AllocError>
+    ensures { IfOk result (λ x. plain x ≡ L.value_next (seen plan.now)) }
+{
+    turning(
+        alloc,
+        name("value"),
+        of_element(&plan.elements[0], ElementFlag::One),
+        name("one_next"),
+        name("one_again"),
+        name("one_more"),
+    )
+}
+
+// How often an element is visited.
+fn limit(plan: &Plan, element: &Element) -> u32
+    ensures { result ≡ limit (seen plan.now) element.now }
+{
+    if element.is_pause() {
+        plan.pause
+    } else {
+        plan.words
+    }
+}
+
+// Whether the visit behind this is the last.
+fn visit_ends_more(alloc: Global, plan: &Plan) -> Result<Expr, AllocError>
+    ensures { IfOk result (λ x. plain x ≡ L.visit_ends_more (seen plan.now)) }
+{
+    let pause = literal(plan.visit_width, u64::from(plan.pause.saturating_sub(2)));
+    let words = literal(plan.visit_width, u64::from(plan.words.saturating_sub(2)));
+    let last = choose(alloc, net(name("pause")), pause, words)?;
+    binary(alloc, BinOp::Eq, net(name("visit")), last)
+}
+
+// Whether the next element is visited once.
+fn visit_ends_next(alloc: Global, plan: &Plan) -> Result<Expr, AllocError>
+    ensures { IfOk result (λ x. plain x ≡ L.visit_ends_next (seen plan.now)) }
+{
+    choose(
+        alloc,
+        net(name("pause_next")),
+        flag(plan.pause == 1),
+        flag(plan.words == 1),
+    )
+}
+
+// Whether the next visit is the last of its element.
+fn last_visit_next(alloc: Global, plan: &Plan) -> Result<Expr, AllocError>
+    ensures { IfOk result (λ x. plain x ≡ L.last_visit_next (seen plan.now)) }
+{
+    let next = visit_ends_next(alloc, plan)?;
+    let more = visit_ends_more(alloc, plan)?;
+    let ends = choose(alloc, net(name("last_visit")), next, more)?;
+    let stepped = while_all(
+        alloc,
+        &[name("run"), name("last_oper")],
+        ends,
+        name("last_visit"),
+    )?;
+    let first = limit(plan, &plan.elements[0]);
+    after_reset(alloc, flag(first == 1), stepped)
+}
+
+// What the next operation and visit have.
+fn set_place(block: &mut Vec<Stmt>, alloc: Global, plan: &Plan) -> Result<(), AllocError>
+    ensures { OnOk result (map plain_stmt block.new.items ≡ map plain_stmt block.old.items ++ LInner.place_sets (seen plan.now)) }
+{
+    let oper = last_oper_next(alloc, plan)?;
+    set(block, name("last_oper"), oper)?;
+    let visit = last_visit_next(alloc, plan)?;
+    set(block, name("last_visit"), visit)?;
+    let value = value_next(alloc, plan)?;
+    set(block, name("value"), value)?;
+    Ok(())
+}
+
 /// The place in the march, and whether the run goes on.
 pub fn set_digits(block: &mut Vec<Stmt>, alloc: Global, plan: &Plan) -> Result<(), AllocError>
     ensures { OnOk result (map plain_stmt block.new.items ≡ map plain_stmt block.old.items ++ L.digit_sets (seen plan.now)) }
@@ -136,5 +249,6 @@ pub fn set_digits(block: &mut Vec<Stmt>, alloc: Global, plan: &Plan) -> Result<(
     set_outer(block, alloc, plan.element_width, plan.back_width)?;
     let run = run_next(alloc)?;
     set(block, name("run"), run)?;
+    set_place(block, alloc, plan)?;
     Ok(())
 }

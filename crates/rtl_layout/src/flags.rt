@@ -1,15 +1,19 @@
 //! What the tables over the march tell.
 
-/// Of an operation: whether it writes, or the bit that it writes or expects.
+/// Of an element at a number of an operation: whether that writes, or of the one behind it whether its bit is 1 and
+/// whether it is the last.
 #[derive(Clone, Copy)]
-pub enum OperationFlag {
+pub enum RowFlag {
     Write,
-    Value,
+    OneBehind,
+    EndsBehind,
 }
 
-/// Of an element: whether it goes downward, or is a pause.
+/// Of an element: whether it goes downward, is a pause, has one operation, or begins with the bit 1.
 #[derive(Clone, Copy)]
 pub enum ElementFlag {
     Down,
     Pause,
+    Single,
+    One,
 }

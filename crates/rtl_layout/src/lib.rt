@@ -16,6 +16,8 @@ mod trees;
 
 pub use build::module;
 pub use element::{Element, Operation};
-pub use laws::{choice_gives_its_leaf, module_breaks_no_rule, module_is_a_controller};
+pub use laws::{
+    choice_gives_its_leaf, module_breaks_no_rule, module_is_a_controller, open_run_shows_numbers,
+};
 pub use plan::Plan;
 pub use row::Row;

@@ -9,7 +9,6 @@ use crate::ages::aged;
 use crate::assigns::assign;
 use crate::plan::Plan;
 use crate::row::Row;
-use crate::tables::word;
 use crate::trees::{binary, concat, flag, gate, literal, name, net, unary};
 use std::alloc::{AllocError, Global};
 use verilog_tree::{BinOp, Dir, Expr, Item, Name, Port, UnOp};
@@ -103,8 +102,7 @@ fn assign_command(items: &mut Vec<Item>, alloc: Global, plan: &Plan) -> Result<(
     assign(items, name("we"), net(name("write")))?;
     let addr = address(alloc, plan)?;
     assign(items, name("addr"), addr)?;
-    let wdata = word(alloc, plan, name("back"), name("value"))?;
-    assign(items, name("wdata"), wdata)?;
+    assign(items, name("wdata"), net(name("word")))?;
     Ok(())
 }
 

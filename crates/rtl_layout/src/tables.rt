@@ -1,86 +1,134 @@
-//! Tables over the march, and the words of the backgrounds.
-ghost use Rattle.std.specs.Prelude.{◌≡◌, ℕ, ◌<◌, ◌≤◌, ◌^◌, ◌-◌, true, false, IfOk, length, map, slice_index, slice_index_or};
-ghost use Rattle.verilog_tree.specs.Plain.{plain, Net};
+//! Tables over the march, and the patterns of the backgrounds.
+ghost use Rattle.std.specs.Prelude.{◌≡◌, ℕ, ◌<◌, ◌≤◌, ◌^◌, ◌-◌, false, IfOk, length, map, slice_index, slice_index_or};
+ghost use Rattle.verilog_tree.specs.Plain.{plain, Net, Prefixed};
+ghost use Rattle.verilog_tree.specs.declared.tree.UnOp.TheVariants.{Invert};
 ghost use Rattle.verilog_tree.specs.Meaning.{bit};
-ghost use Rattle.rtl_layout.specs.Build.{lit, choose, pick};
+ghost use Rattle.rtl_layout.specs.Build.{lit, choose, counted, number_of};
 ghost use Rattle.rtl_layout.specs.Control.{nothing};
-ghost use Rattle.rtl_layout.specs.inner.Flags.{operation_flag, element_flag};
+ghost use Rattle.rtl_layout.specs.inner.Flags.{row_flag, element_flag};
 ghost use Rattle.rtl_layout.specs.Layout as L;
 ghost use Rattle.rtl_layout.specs.Plan.{port_word};
 ghost use Rattle.rtl_layout.specs.Seen.{seen};
 
 use crate::element::{Element, Operation};
-use crate::flags::{ElementFlag, OperationFlag};
+use crate::flags::{ElementFlag, RowFlag};
 use crate::plan::Plan;
-use crate::trees::{choose, flag, literal, name, net, pick_leaf};
+use crate::trees::{bit, choose, flag, literal, name, net, pick_leaf, unary};
 use bist_bits::all_ones;
 use std::alloc::{AllocError, Global};
-use verilog_tree::{Expr, Name};
+use verilog_tree::{Expr, Name, UnOp};
 
-fn of_operation(operation: Operation, flag: OperationFlag) -> bool
-    ensures { result ≡ operation_flag flag operation }
+// The operation of a number, and behind the last the last.
+fn operation_in(element: &Element, i: usize) -> Operation
+    requires { 0 < length element.now.operations }
+    ensures { result ≡ L.operation_in element.now i }
 {
-    match flag {
-        OperationFlag::Write => operation.write,
-        OperationFlag::Value => operation.bit,
+    let operations = element.operations();
+    if i < operations.len() {
+        operations[i]
+    } else {
+        operations[operations.len() - 1]
     }
 }
 
-fn of_element(element: &Element, flag: ElementFlag) -> bool
+fn at_number(element: &Element, i: usize, flag: RowFlag) -> bool
+    requires some { 0 < length element.now.operations }
+    requires small { i < 64 }
+    ensures { result ≡ row_flag flag element.now i }
+{
+    match flag {
+        RowFlag::Write => operation_in(element, i).write,
+        RowFlag::OneBehind => operation_in(element, i + 1).bit,
+        RowFlag::EndsBehind => element.operations().len() <= i + 2,
+    }
+}
+
+/// A flag of an element.
+pub fn of_element(element: &Element, flag: ElementFlag) -> bool
+    requires { 0 < length element.now.operations }
     ensures { result ≡ element_flag flag element.now }
 {
     match flag {
         ElementFlag::Down => element.is_down(),
         ElementFlag::Pause => element.is_pause(),
+        ElementFlag::Single => element.operations().len() == 1,
+        ElementFlag::One => operation_in(element, 0).bit,
     }
 }
 
-// The flags of an element's operations.
-fn operations_table(
-    alloc: Global,
-    width: u8,
-    element: &Element,
-    which: OperationFlag,
-) -> Result<Expr, AllocError>
-    requires some { 0 < length element.now.operations }
-    requires fits { length element.now.operations ≤ 2 ^ width }
-    requires narrow { width ≤ 16 }
-    ensures { IfOk result (λ x. plain x ≡ pick L.oper width (map (λ o. lit 1 (bit (operation_flag which o))) element.now.operations)) }
+fn one_if(flag: bool) -> u64
+    ensures { result ≡ bit flag }
 {
-    let operations = element.operations();
-    let mut leaves = Vec::new(alloc);
-    for operation in operations {
-        leaves.push(flag(of_operation(*operation, which)))?;
-    }
-    pick_leaf(alloc, name("oper"), width, &mut leaves)
+    u64::from(flag)
 }
 
-// The operations of an element are chosen by their numbers.
-fn operation_leaves(
+// What an element has at each of these numbers, at 0 in the lowest bit.
+fn row_number(element: &Element, width: u8, which: RowFlag) -> u64
+    requires some { 0 < length element.now.operations }
+    requires narrow { width ≤ 64 }
+    ensures { result ≡ number_of (map (row_flag which element.now) (counted width)) }
+{
+    let mut row = 0;
+    for i in 0..width {
+        row += one_if(at_number(element, usize::from(i), which)) << i;
+    }
+    row
+}
+
+// The same as a literal.
+fn row_literal(element: &Element, width: u8, which: RowFlag) -> Expr
+    requires some { 0 < length element.now.operations }
+    requires positive { 1 ≤ width }
+    requires narrow { width ≤ 64 }
+    ensures { plain result ≡ lit width (number_of (map (row_flag which element.now) (counted width))) }
+{
+    literal(width, row_number(element, width, which))
+}
+
+fn row_leaves(
     alloc: Global,
     width: u8,
     elements: &[Element],
-    which: OperationFlag,
+    which: RowFlag,
 ) -> Result<Vec<Expr>, AllocError>
     requires some { (k : ℕ) → 0 < length (slice_index_or elements.now k nothing).operations }
-    requires fits { (k : ℕ) → length (slice_index_or elements.now k nothing).operations ≤ 2 ^ width }
-    requires narrow { width ≤ 16 }
-    ensures { IfOk result (λ v. map plain v.items ≡ map (λ x. pick L.oper width (map (λ o. lit 1 (bit (operation_flag which o))) x.operations)) elements.now) }
+    requires positive { 1 ≤ width }
+    requires narrow { width ≤ 64 }
+    ensures { IfOk result (λ v. map plain v.items ≡ map (λ x. lit width (number_of (map (row_flag which x) (counted width)))) elements.now) }
 {
     let mut leaves = Vec::new(alloc);
     for element in elements {
-        leaves.push(operations_table(alloc, width, element, which)?)?;
+        leaves.push(row_literal(element, width, which))?;
     }
     Ok(leaves)
 }
 
-/// A flag of the operation at this place of the march.
-pub fn by_operation(alloc: Global, plan: &Plan, which: OperationFlag) -> Result<Expr, AllocError>
-    ensures { IfOk result (λ x. plain x ≡ L.by_operation (seen plan.now) (operation_flag which)) }
+/// How many bits a row has.
+pub fn row_width(plan: &Plan) -> u8
+    ensures { result ≡ L.row_width (seen plan.now) }
+{
+    1 << plan.oper_width
+}
+
+/// What the element at this place of the march has at each number of an operation.
+pub fn flag_row(alloc: Global, plan: &Plan, which: RowFlag) -> Result<Expr, AllocError>
+    ensures { IfOk result (λ x. plain x ≡ L.flag_row (seen plan.now) (row_flag which)) }
 {
     let elements = plan.elements.as_slice();
-    let mut leaves = operation_leaves(alloc, plan.oper_width, elements, which)?;
+    let mut leaves = row_leaves(alloc, row_width(plan), elements, which)?;
     pick_leaf(alloc, name("element"), plan.element_width, &mut leaves)
+}
+
+/// The bit of the operation at this place in a row.
+pub fn in_row(alloc: Global, plan: &Plan, row: Name) -> Result<Expr, AllocError>
+    ensures { IfOk result (λ x. plain x ≡ L.in_row (seen plan.now) row.bytes) }
+{
+    let width = row_width(plan);
+    let mut leaves = Vec::new(alloc);
+    for i in 0..width {
+        leaves.push(bit(row, width, i))?;
+    }
+    pick_leaf(alloc, name("oper"), plan.oper_width, &mut leaves)
 }
 
 fn element_leaves(
@@ -88,6 +136,7 @@ fn element_leaves(
     elements: &[Element],
     which: ElementFlag,
 ) -> Result<Vec<Expr>, AllocError>
+    requires { (k : ℕ) → 0 < length (slice_index_or elements.now k nothing).operations }
     ensures { IfOk result (λ v. map plain v.items ≡ map (λ x. lit 1 (bit (element_flag which x))) elements.now) }
 {
     let mut leaves = Vec::new(alloc);
@@ -106,38 +155,13 @@ pub fn by_element(alloc: Global, plan: &Plan, which: ElementFlag) -> Result<Expr
     pick_leaf(alloc, name("element"), plan.element_width, &mut leaves)
 }
 
-// The number of an element's last operation.
-fn last_number(width: u8, element: &Element) -> Expr
-    requires positive { 1 ≤ width }
-    requires narrow { width ≤ 16 }
-    requires some { 0 < length element.now.operations }
-    requires fits { length element.now.operations ≤ 2 ^ width }
-    ensures { plain result ≡ lit width (length element.now.operations - 1) }
-{
-    let operations = element.operations();
-    literal(width, operations.len() as u64 - 1)
-}
-
-fn last_leaves(alloc: Global, width: u8, elements: &[Element]) -> Result<Vec<Expr>, AllocError>
-    requires some { (k : ℕ) → 0 < length (slice_index_or elements.now k nothing).operations }
-    requires fits { (k : ℕ) → length (slice_index_or elements.now k nothing).operations ≤ 2 ^ width }
-    requires positive { 1 ≤ width }
-    requires narrow { width ≤ 16 }
-    ensures { IfOk result (λ v. map plain v.items ≡ map (λ x. lit width (length x.operations - 1)) elements.now) }
-{
-    let mut leaves = Vec::new(alloc);
-    for element in elements {
-        leaves.push(last_number(width, element))?;
-    }
-    Ok(leaves)
-}
-
-/// The number of the last operation of the element at this place of the march.
-pub fn last_operation(alloc: Global, plan: &Plan) -> Result<Expr, AllocError>
-    ensures { IfOk result (λ x. plain x ≡ L.by_element (seen plan.now) plan.now.oper_width (λ x. length x.operations - 1)) }
+/// A flag of the element behind it, which is the first behind the last.
+pub fn by_next(alloc: Global, plan: &Plan, which: ElementFlag) -> Result<Expr, AllocError>
+    ensures { IfOk result (λ x. plain x ≡ L.by_next (seen plan.now) (λ x. bit (element_flag which x))) }
 {
     let elements = plan.elements.as_slice();
-    let mut leaves = last_leaves(alloc, plan.oper_width, elements)?;
+    let mut leaves = element_leaves(alloc, &elements[1..], which)?;
+    leaves.push(flag(of_element(&elements[0], which)))?;
     pick_leaf(alloc, name("element"), plan.element_width, &mut leaves)
 }
 
@@ -163,42 +187,30 @@ fn word_literal(plan: &Plan, bit: bool, background: u64) -> Expr
     literal(plan.bits, word)
 }
 
-// A background's words, chosen by a value.
-fn background_words(
-    alloc: Global,
-    plan: &Plan,
-    value: Name,
-    background: u64,
-) -> Result<Expr, AllocError>
-    requires { background < 2 ^ plan.now.bits }
-    ensures { IfOk result (λ x. plain x ≡ choose (Net value.bytes) (lit plan.now.bits (port_word (seen plan.now) true background)) (lit plan.now.bits (port_word (seen plan.now) false background))) }
-{
-    let one = word_literal(plan, true, background);
-    let zero = word_literal(plan, false, background);
-    choose(alloc, net(value), one, zero)
-}
-
-fn word_leaves(
-    alloc: Global,
-    plan: &Plan,
-    value: Name,
-    backgrounds: &[u64],
-) -> Result<Vec<Expr>, AllocError>
+fn pattern_leaves(alloc: Global, plan: &Plan, backgrounds: &[u64]) -> Result<Vec<Expr>, AllocError>
     requires { (k : ℕ) → k < length backgrounds.now → slice_index backgrounds.now k < 2 ^ plan.now.bits }
-    ensures { IfOk result (λ v. map plain v.items ≡ map (λ b. choose (Net value.bytes) (lit plan.now.bits (port_word (seen plan.now) true b)) (lit plan.now.bits (port_word (seen plan.now) false b))) backgrounds.now) }
+    ensures { IfOk result (λ v. map plain v.items ≡ map (λ b. lit plan.now.bits (port_word (seen plan.now) false b)) backgrounds.now) }
 {
     let mut leaves = Vec::new(alloc);
     for background in backgrounds {
-        leaves.push(background_words(alloc, plan, value, *background)?)?;
+        leaves.push(word_literal(plan, false, *background))?;
     }
     Ok(leaves)
 }
 
-/// The word of the background and the value that two names hold.
-pub fn word(alloc: Global, plan: &Plan, back: Name, value: Name) -> Result<Expr, AllocError>
-    ensures { IfOk result (λ x. plain x ≡ L.word (seen plan.now) back.bytes value.bytes) }
+/// The word of the value 0 of the background that a name holds.
+pub fn pattern(alloc: Global, plan: &Plan, back: Name) -> Result<Expr, AllocError>
+    ensures { IfOk result (λ x. plain x ≡ L.pattern_of (seen plan.now) back.bytes) }
 {
     let backgrounds = plan.backgrounds.as_slice();
-    let mut leaves = word_leaves(alloc, plan, value, backgrounds)?;
+    let mut leaves = pattern_leaves(alloc, plan, backgrounds)?;
     pick_leaf(alloc, back, plan.back_width, &mut leaves)
+}
+
+/// A word, or the complement of its double where a value is 1.
+pub fn word_of(alloc: Global, value: Name, word: Expr, double: Expr) -> Result<Expr, AllocError>
+    ensures { IfOk result (λ x. plain x ≡ choose (Net value.bytes) (Prefixed Invert (plain double)) (plain word)) }
+{
+    let complement = unary(alloc, UnOp::Invert, double)?;
+    choose(alloc, net(value), complement, word)
 }

@@ -1,3 +1,5 @@
+pub mod Expected
+pub mod Numbers
 pub mod Pins
 pub mod Ports
 pub mod Refusals

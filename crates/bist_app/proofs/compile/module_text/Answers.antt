@@ -9,4 +9,6 @@ returns c = record {
   spells = c.in_ok-text.ensures.spells;
   no_other = c.in_ok-text.ensures.no_other;
   self_test = c.in_ok-tree.ensures.self_test;
+  expected = c.in_ok-tree.ensures.expected;
+  numbers = c.in_ok-tree.ensures.numbers;
 }

@@ -1,4 +1,4 @@
-use Rattle.std.proofs.Common.{[], ◌∷◌, ◌++◌, map}
+use Rattle.std.proofs.Common.{[], ◌∷◌, map}
 use Rattle.verilog_tree.specs.Plain.{WireItem, plain_item}
 use Rattle.rtl_layout.specs.Layout as L
 use Rattle.rtl_layout.proofs.Joined.{join, renamed}
@@ -6,16 +6,8 @@ use Rattle.rtl_layout.proofs.build.declare_lasts.Goals as goal
 
 pub returns : goal.returns
 returns c =
-    join (map plain_item c.args.items.now.items) _ _ (WireItem L.last_oper 1 ∷ []) (WireItem L.last_visit 1 ∷ [] ++ (WireItem L.last_element 1 ∷ [] ++ (WireItem L.last_back 1 ∷ [])))
+    join (map plain_item c.args.items.now.items) _ _ (WireItem L.last_element 1 ∷ []) (WireItem L.last_back 1 ∷ [])
     (renamed WireItem _ _ _ _ _ c.name.ensures c.in_ok-declare_wire.ensures)
     (
-    join (map plain_item c.declare_wire.new.items.items) _ _ (WireItem L.last_visit 1 ∷ []) (WireItem L.last_element 1 ∷ [] ++ (WireItem L.last_back 1 ∷ []))
-    (renamed WireItem _ _ _ _ _ c.name-2.ensures c.in_ok-declare_wire-2.ensures)
-    (
-    join (map plain_item c.declare_wire-2.new.items.items) _ _ (WireItem L.last_element 1 ∷ []) (WireItem L.last_back 1 ∷ [])
-    (renamed WireItem _ _ _ _ _ c.name-3.ensures c.in_ok-declare_wire-3.ensures)
-    (
-    renamed WireItem _ _ _ _ _ c.name-4.ensures c.in_ok-declare_wire-4.ensures
-    )
-    )
+    renamed WireItem _ _ _ _ _ c.name-2.ensures c.in_ok-declare_wire-2.ensures
     )

@@ -1,0 +1,5 @@
+use Rattle.rtl_layout.proofs.Numbers.{numbers_always}
+use Rattle.rtl_layout.proofs.laws.open_run_shows_numbers.Goals as goal
+
+pub returns : goal.returns
+returns c = numbers_always
