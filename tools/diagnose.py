@@ -204,7 +204,7 @@ def file_of(words: list[str], said: str) -> list[str]:
 
 
 def memory_file(named: dict) -> common.Memory:
-    return common.parse_memory(common.read_text(named["MEMORY"]))
+    return common.parse_memory(common.read_described(named["MEMORY"]))
 
 
 def device(words: list[str], said: str) -> list[str]:
@@ -290,13 +290,17 @@ def no_primitives(words: list[str]) -> list[str]:
 
 def lines(words: list[str], said: str, status: int) -> list[str]:
     """What is said of a refusal; nothing where the call is not one that can be explained."""
+    return list(map(common.visible, told_lines(words, said, status)))
+
+
+def told_lines(words: list[str], said: str, status: int) -> list[str]:
     try:
         if status <= 1:
             return no_primitives(words) if said.startswith("total 0 ") else []
         if status == 2:
             return usage(words)
         if words[0] == "chip" and said.startswith("unit "):
-            return lines(*diagnose_chips.unit_call(words[1], said), status)
+            return told_lines(*diagnose_chips.unit_call(words[1], said), status)
         if status in (3, 4, 5, 14, 15):
             return refused_text(words, said)
         if status in (6, 7, 8, 10) and said:
