@@ -2,6 +2,8 @@
 them."""
 from __future__ import annotations
 
+import shutil
+
 from selftest_cases import FILES, REPORT
 
 LOOSE = "memory 1\nname s # was\rname {name}\nwords 4 # was\rwords 8\nbits 1\n"
@@ -23,6 +25,7 @@ FILES.update(
         "mark.report": REPORT.replace("TF 2", "<script>alert(1)</script> 2"),
         "shape.report": REPORT.replace("\ncovered", "\nmemory <b>x words 4 bits 1 backgrounds 1 commands 40\ncovered", 1),
         "long.report": LONG,
+        "quoted\nname.v": FILES["free.v"],
         "sum.report": REPORT.replace("total 2", "total " + "9" * 5000),
     }
 )
@@ -44,4 +47,61 @@ CALLS = [
     ("", ["tools/report", "shape.report", "--html", "m.html"], 2, "", "report: shape.report:2: the line is none"),
     ("", ["tools/report", "long.report", "--html", "m.html"], 2, "", "report: long.report:3: the line is none"),
     ("", ["tools/report", "sum.report", "--json"], 2, "", "report: sum.report:5: the last line is no total"),
+    ("yosys", ["tools/plain", "plain.v", "free.v", "--top", "t; shell touch harmed"], 2, "", "plain: what --top names is"),
+    ("yosys", ["tools/plain", "plain.v", 'a"; shell touch harmed; ".v'], 2, "", "plain: a\"; shell"),
+    ("yosys", ["tools/plain", "plain.v", "quoted\nname.v"], 2, "", "plain: 'quoted\\x0aname.v': a name for Yosys has"),
+    ("yosys", ["tools/plain", "plain.v", "latch.v"], 1, "", "plain: a latch is outside the subset (q, latch.v:2.3-2.28)"),
+    ("yosys", ["tools/formal", "free.v", "no.v", "c.m", "s.mem"], 1, "", "formal: yosys refuses it: no.v:1: ERROR: syntax error"),
 ]
+
+
+# ---- controllers that must not pass: edits of one_hot.v, which conforms, each with what they make of it
+
+SUB = "module sub(input i, output o); assign o = i; endmodule\n"
+HELD = ("state[4:0] != 5'b00000", "state[4:0] != 5'b00000 && !hold")
+OPEN_CONTROLLERS = [
+    ("a register that nothing sets", [HELD, ("reg failed;", "reg failed, hold;")]),
+    ("a register that is only cleared", [HELD, ("reg failed;", "reg failed, hold;\n always @(posedge clk) if (state[1]) hold <= 0;")]),
+    ("an initial value alone", [HELD, ("reg failed;", "reg failed; reg hold = 0;")]),
+    ("an initial block", [HELD, ("reg failed;", "reg failed; reg hold; initial hold = 0;")]),
+    ("a mistyped name", [HELD]),
+    ("an open input", [HELD, ("reg failed;", "reg failed; wire hold; sub it(.o(hold));"), ("module one_hot", SUB + "module one_hot")]),
+    ("an x", [HELD, ("reg failed;", "reg failed; wire hold; assign hold = 1'bx;")]),
+    ("a table with initial values", [HELD, ("reg failed;", "reg failed; reg t [0:1]; initial begin t[0] = 0; t[1] = 0; end wire hold = t[second];")]),
+]
+TWO_DRIVERS = [
+    ("done = 1'b0", [("reg failed;", "reg failed; assign done = 1'b0;")]),
+    ("a second register", [("reg failed;", "reg failed; always @(posedge clk) second <= 1'b0;")]),
+    ("a second assign", [("reg failed;", "reg failed; assign en = reset;")]),
+]
+
+
+def controller(bench, edits: list[tuple[str, str]]) -> None:
+    """Writes the edited controller, its true module behind a comment that names another."""
+    text = (bench.folder / "examples" / "foreign" / "one_hot.v").read_text()
+    for old, new in edits:
+        text = text.replace(old, new, 1)
+    (bench.folder / "edited.v").write_text("// module elsewhere\n" + text)
+
+
+def controllers(bench) -> None:
+    """What nothing drives stays open in `tools/plain` and `tools/formal`, and two drivers are refused."""
+    if not shutil.which("yosys"):
+        print("yosys is not installed, so no edited controller is judged")
+        return
+    judged = ["examples/mats_plus.m", "examples/foreign/four.mem"]
+    controller(bench, [])
+    bench.look(["tools/formal", "edited.v", *judged], 0, "each port is in each cycle as it has to be", "")
+    for what, edits in OPEN_CONTROLLERS:
+        controller(bench, edits)
+        plain = bench.run(["tools/plain", "edited.plain.v", "edited.v"])
+        said = bench.run(["./vidlakost", "check", "edited.plain.v", *judged]).stdout
+        bench.is_so(plain.returncode == 0 and said == "unknown cycle 1 port en\n", f"{what}: check says {said!r} {plain.stderr!r}")
+        done = bench.run(["tools/formal", "edited.v", *judged])
+        bench.is_so(done.returncode == 1 and done.stdout == "differs in cycle 1\n", f"{what}: tools/formal says {done.stdout!r}")
+    for what, edits in TWO_DRIVERS:
+        controller(bench, edits)
+        for words in (["tools/plain", "edited.plain.v", "edited.v"], ["tools/formal", "edited.v", *judged]):
+            done = bench.run(words)
+            refused = "two drivers" in done.stderr or "multiple conflicting drivers" in done.stderr
+            bench.is_so(done.returncode == 1 and refused, f"{what}: {words[0]} says {done.stdout!r} {done.stderr!r}")
