@@ -172,6 +172,41 @@ def ranged(width: int) -> str:
     return f"[{width - 1}:0] " if width > 1 else ""
 
 
+# ---- files that are written
+
+
+def refuse_inputs(target: str | None, inputs: list[tuple[str, str]]) -> None:
+    """Refuses to write over a file that is read."""
+    for what, name in inputs if target else []:
+        one = os.path.exists(target) and os.path.exists(name) and os.path.samefile(target, name)
+        if one or os.path.realpath(target) == os.path.realpath(name):
+            raise ToolError(f"{shown(target)} is {what}")
+
+
+def write_whole(target, text: str) -> None:
+    """Writes a text to a file, so that a full disk or a kill leaves what stood there. A device is written as it is."""
+    path = pathlib.Path(target)
+    if path.exists() and not path.is_file() or path.is_symlink():
+        path.write_text(text, encoding="utf-8")
+        return
+    mode = path.stat().st_mode & 0o777 if path.exists() else None
+    if mode is not None and not os.access(path, os.W_OK):
+        raise ToolError(f"{path}: Permission denied")
+    beside, name = tempfile.mkstemp(prefix=".vidlakost-", dir=path.parent)
+    try:
+        with open(beside, "w", encoding="utf-8", newline="") as file:
+            file.write(text)
+            file.flush()
+            os.fsync(beside)
+        umask = os.umask(0)
+        os.umask(umask)
+        os.chmod(name, 0o666 & ~umask if mode is None else mode)
+        os.replace(name, path)
+    except BaseException:
+        os.unlink(name)
+        raise
+
+
 # ---- the program
 
 FORMATS = ROOT / "docs" / "FORMATS.md"

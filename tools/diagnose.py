@@ -50,6 +50,27 @@ def words_by_name(words: list[str]) -> dict:
     return dict(zip(common.form_of(words[0])[1:], words[1:])) if words else {}
 
 
+def is_there_still(word: str) -> bool:
+    """Whether a text can be read a second time: what came by a pipe or a device is gone, and to open it again may wait for
+    ever."""
+    return os.path.isfile(word)
+
+
+def once(word: str, said: str) -> list[str]:
+    """What is said of a text that could be read only once."""
+    meant = next((when for form, when in meanings() if re.fullmatch(form, said)), "the program refuses it")
+    return [f"{word}: error: {meant}", "  the text came by a pipe or a device, so its place is not shown"]
+
+
+def meanings():
+    """The pattern of each refusal of the tables of FORMATS, and when it comes."""
+    for line in common.lines_of(common.read_text(common.FORMATS)):
+        cells = [cell.strip() for cell in re.split(r"(?<!\\)\|", line)[1:-1]]
+        form = re.fullmatch(r"`((?:march|memory|fault|verilog|chip) [A-Z][0-9]+)\b.*`", cells[0]) if len(cells) >= 2 else None
+        if form:
+            yield f"{form[1]}\\b.*", cells[1].replace("`", "").replace("\\|", "|")
+
+
 def refused_text(words: list[str], said: str) -> list[str]:
     """A refusal of a march, a memory, a list, a primitive, a module or a chip file."""
     kind, code, *rest = said.split(" ", 2)
@@ -61,6 +82,8 @@ def refused_text(words: list[str], said: str) -> list[str]:
     values = values_of(code, rest[0] if rest else "")
     if subject == "PRIM":
         return diagnose_texts.fault("PRIM", named["PRIM"].encode("utf-8", "replace"), code, values, True).lines()
+    if not is_there_still(named[subject]):
+        return once(named[subject], said)
     text = pathlib.Path(named[subject]).read_bytes()
     if kind == "march":
         return diagnose_texts.march(named[subject], text, code, values).lines()
@@ -209,6 +232,8 @@ def memory_file(named: dict) -> common.Memory:
 
 def device(words: list[str], said: str) -> list[str]:
     named = words_by_name(words)
+    if not is_there_still(named.get("MEMORY", "")):
+        return []
     if said != "device V2" or "VIC" not in named:
         return [
             f"{CONSOLE}: error: "
@@ -239,6 +264,8 @@ def misfit(words: list[str], said: str) -> list[str]:
         two = common.read_primitive(named["PRIM"]).aggressor is not None
         cells, wanted = ("two cells", "the cell of its aggressor") if two else ("one cell", "none")
         return [f"AGG: error: {named['PRIM']} has {cells}, so AGG is {wanted}, and not '{named['AGG']}'"]
+    if not is_there_still(named["MARCH"]):
+        return []
     elements = common.elements_of(common.read_text(named["MARCH"]))
     directions = named["DIRS"]
     lines = [f"DIRS: error: '{directions}' has {len(directions)} letters, and {named['MARCH']} has {len(elements)} elements"]
@@ -260,6 +287,8 @@ def misfit(words: list[str], said: str) -> list[str]:
 
 def too_long(words: list[str], said: str) -> list[str]:
     named = words_by_name(words)
+    if not is_there_still(named["MEMORY"]) or not is_there_still(named["MARCH"]):
+        return [f"{named['MEMORY']}: error: the test takes {thousands(said.split(' ')[2])} cycles, and at most 2,000,000 are run"]
     memory, elements = memory_file(named), common.elements_of(common.read_text(named["MARCH"]))
     one = sum(map(memory.cycles_of, elements))
     most = (2000000 - memory.latency - 2) // one if one <= 2000000 else 0
@@ -299,6 +328,8 @@ def told_lines(words: list[str], said: str, status: int) -> list[str]:
             return no_primitives(words) if said.startswith("total 0 ") else []
         if status == 2:
             return usage(words)
+        if words[0] == "chip" and said.startswith("unit ") and not is_there_still(words[1]):
+            return once(words[1], said.split(" ", 2)[2])
         if words[0] == "chip" and said.startswith("unit "):
             return told_lines(*diagnose_chips.unit_call(words[1], said), status)
         if status in (3, 4, 5, 14, 15):

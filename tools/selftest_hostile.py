@@ -2,7 +2,11 @@
 them."""
 from __future__ import annotations
 
+import os
 import shutil
+import signal
+import subprocess
+import time
 
 from selftest_cases import FILES, REPORT
 
@@ -105,3 +109,104 @@ def controllers(bench) -> None:
             done = bench.run(words)
             refused = "two drivers" in done.stderr or "multiple conflicting drivers" in done.stderr
             bench.is_so(done.returncode == 1 and refused, f"{what}: {words[0]} says {done.stdout!r} {done.stderr!r}")
+
+
+# ---- the launcher
+
+# a stand-in for the program: it leaves a file beside its output, as one that is killed does, and waits
+WAITING = """#!/usr/bin/env bash
+touch ".vidlakost-$(date +%s%N)"
+echo $$ >pid
+sleep 60 &
+wait
+"""
+SILENT = "#!/bin/sh\nexit 1\n"
+OLDER = ".vidlakost-1000000000000000000"
+
+
+def program(bench, name: str, text: str) -> str:
+    path = bench.folder / name
+    path.write_text(text)
+    path.chmod(0o755)
+    return str(path)
+
+
+def is_alive(pid: int) -> bool:
+    try:
+        os.kill(pid, 0)
+    except OSError:
+        return False
+    return True
+
+
+def killed_launcher(bench) -> None:
+    """A signal to the launcher ends the program, and what that left beside its files is removed, but for what others left."""
+    folder = bench.folder / "signals"
+    folder.mkdir()
+    (folder / OLDER).write_text("")
+    environment = {**bench.environment, "VIDLAKOST_PROGRAM": program(bench, "waiting", WAITING)}
+    for number in (signal.SIGTERM, signal.SIGINT, signal.SIGHUP):
+        (folder / "pid").unlink() if (folder / "pid").exists() else None
+        started = subprocess.Popen(["../vidlakost", "judge", "m", "l", "r"], cwd=folder, env=environment)
+        while not (folder / "pid").exists() or not (folder / "pid").read_text().strip():
+            time.sleep(0.05)
+        started.send_signal(number)
+        status, pid = started.wait(20), int((folder / "pid").read_text())
+        left = sorted(os.listdir(folder))
+        bench.is_so(status == -number, f"the launcher ends with {status} by {number}")
+        bench.is_so(not is_alive(pid), f"the program goes on after {number}")
+        bench.is_so(left == [OLDER, "pid"], f"after {number} there are {left}")
+
+
+def launcher(bench) -> None:
+    """What the launcher does beside its calls: programs that are none, pipes, options, words that name one file."""
+    silent = program(bench, "silent", SILENT)
+    for explain in ("0", "1"):
+        told = f"vidlakost: the program {silent} ended with status 1 and without an answer"
+        bench.look(["./vidlakost", "sim", "c.m"], 125, "", told, VIDLAKOST_PROGRAM=silent, VIDLAKOST_EXPLAIN=explain)
+    bench.look(["./vidlakost", "sim"], 125, "", "vidlakost: VIDLAKOST_PROGRAM names", VIDLAKOST_PROGRAM=str(bench.folder))
+    for words in (["--stale", "--help"], ["--stale", "help"]):
+        bench.look(["./vidlakost", *words], 0, "To begin with:", "")
+    bench.look(["./vidlakost", "--stael", "judge"], 2, "", "vidlakost: there is no option '--stael'")
+    broken = "set -o pipefail; ./vidlakost vectors examples/c.m examples/cache.mem /dev/stdout | head -n 1"
+    bench.look(["bash", "-c", broken], 8, "w 512 00000000", "vidlakost: error: the line of the answer could not be written")
+    (bench.folder / "numbers").mkdir()
+    bench.look(["bash", "-c", "cd numbers && ../vidlakost make 1 ./1 b c d e"], 1, "made elements 6", "")
+    bench.look(["./vidlakost", "judge", *map(str, range(3000))], 2, "usage", "vidlakost: error: judge takes 3 words")
+    begun = time.monotonic()
+    bench.run(["./vidlakost", "judge", *map(str, range(3000))])
+    bench.is_so(time.monotonic() - begun < 5, "3,000 words take more than five seconds")
+    once = "came by a pipe or a device, so its place is not shown"
+    for call in ("judge <(cat wrong.m) tf.list out", "bench c.m <(cat range.mem)", "check <(cat token.v) c.m s.mem"):
+        done = bench.run(["timeout", "20", "bash", "-c", f"./vidlakost {call}"])
+        bench.is_so(done.returncode in (3, 4, 14) and once in done.stderr, f"{call}: {done.returncode} {done.stderr!r}")
+    (bench.folder / "c.link").symlink_to("c.m")
+    for other in ("./c.m", "c.link"):
+        bench.look(["./vidlakost", "chip", "two.chip", other], 2, "", f"vidlakost: 'c.m' and '{other}' are one file")
+    for other in ("c.m", "c.link", "./s.mem"):
+        bench.look(["tools/schedule", "two.chip", "--svg", other], 2, "", f"schedule: '{other}' is a file of the chip file")
+
+
+def warnings(bench) -> None:
+    """What other tools may read otherwise is told of a module and of a chip that are taken."""
+    text = (bench.folder / "examples" / "foreign" / "one_hot.v").read_text()
+    judged = ["examples/mats_plus.m", "examples/foreign/four.mem"]
+    for comment, column, why in (
+        ("// was \r wire", 8, "a carriage return that no line feed follows"),
+        ("// was \f wire", 8, "a form feed"),
+        ("// `ifdef", 4, "a back quote"),
+        ("/* a \0 */", 6, "a control byte"),
+        ("// a \\", 6, "a backslash that ends a line"),
+        ("/* synopsys translate_off */", 4, "a comment that tools which make gates obey"),
+        ("// full_case", 4, "a comment that tools which make gates obey"),
+        ("// pragma", 4, "a comment that tools which make gates obey"),
+    ):
+        (bench.folder / "warned.v").write_bytes(f"{comment}\n{text}".encode())
+        told = f"warned.v:1:{column}: warning: {why}"
+        bench.look(["./vidlakost", "check", "warned.v", *judged], 0, "conforms 43", told)
+        bench.look(["./vidlakost", "check", "warned.v", *judged], 0, "conforms 43", "", VIDLAKOST_EXPLAIN="0")
+    (bench.folder / "warned.v").write_bytes(text.replace("\n", "\r\n").encode())
+    bench.look(["./vidlakost", "check", "warned.v", *judged], 0, "conforms 43", "")
+    for name, why in (("logic", "SystemVerilog reserves 'logic'"), ("wdata_1", "'wdata_1' is also a port")):
+        (bench.folder / "named.chip").write_text(FILES["two.chip"].replace("name both", f"name {name}"))
+        bench.look(["./vidlakost", "chip", "named.chip", "named.v"], 0, "chip units 2", f"named.chip:2: warning: {why}")
