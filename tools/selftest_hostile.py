@@ -210,3 +210,33 @@ def warnings(bench) -> None:
     for name, why in (("logic", "SystemVerilog reserves 'logic'"), ("wdata_1", "'wdata_1' is also a port")):
         (bench.folder / "named.chip").write_text(FILES["two.chip"].replace("name both", f"name {name}"))
         bench.look(["./vidlakost", "chip", "named.chip", "named.v"], 0, "chip units 2", f"named.chip:2: warning: {why}")
+
+
+# ---- testbenches
+
+
+def testbenches(bench) -> None:
+    """A right controller with `always @*` passes in each version of the language, commands that can't be read end the run, and
+    Verilator has nothing to say of the assertions and of a chip."""
+    folder = bench.folder / "benches"
+    folder.mkdir()
+    text = (bench.folder / "examples" / "foreign" / "one_hot.v").read_text().replace("module one_hot", "module four_bist", 1)
+    text = text.replace("output en,", "output reg en,", 1).replace("assign en =", "always @* en =", 1)
+    (folder / "four_bist.v").write_text(text)
+    for option in ([], ["--sv"], ["--assert"]):
+        bench.look(["tools/testbench", "examples/mats_plus.m", "examples/foreign/four.mem", "benches", *option], 0, "benches/", "")
+    bench.look(["tools/testbench", "two.chip", "benches", "--chip"], 0, "benches/both_tb.v", "")
+    bench.look(["./vidlakost", "chip", "two.chip", "benches/both.v"], 0, "chip units 2", "")
+    if shutil.which("iverilog"):
+        for version, file in (("2005", "four_tb.v"), ("2012", "four_tb.v"), ("2012", "four_tb.sv")):
+            call = f"cd benches && iverilog -g{version} -o tb {file} four_bist.v && vvp -n tb"
+            bench.look(["bash", "-c", call], 0, "fail 0 done 42\n", "")
+            bench.is_so("differs" not in bench.run(["bash", "-c", call]).stdout, f"a right controller alarms: {version} {file}")
+        bench.look(["bash", "-c", "cd benches && iverilog -g2005 -o tb both_tb.v both.v && vvp -n tb"], 0, "fail 00 done 123\n", "")
+        for spoil in ("rm four_commands.hex", "echo 0 >four_commands.hex"):
+            call = f"cd benches && {spoil}; iverilog -g2005 -o tb four_tb.v four_bist.v && vvp -n tb"
+            bench.look(["bash", "-c", call], 1, "the commands could not be read", "")
+    if shutil.which("verilator"):
+        linted = "cd benches && verilator --lint-only -Wall"
+        bench.look(["bash", "-c", f"{linted} --assert --top-module four_bist four_rule.sv four_bist.v"], 0, "", "")
+        bench.look(["bash", "-c", f"{linted} -Wno-DECLFILENAME both.v"], 0, "", "")
