@@ -72,6 +72,11 @@ def words_of(doc: str, allowed: dict | None = None, least: int = 0, most: int | 
 def start(main) -> None:
     """Runs a tool and ends with its status; each failure is a line on standard error."""
     name = pathlib.Path(sys.argv[0]).name
+    if sys.stdout is None:
+        tell(f"{name}: standard output is closed")
+        sys.exit(8)
+    # what came as bytes that are no text, as the name of a folder, goes out as it came
+    sys.stdout.reconfigure(encoding="utf-8", errors="surrogateescape")
     try:
         status = main() or 0
         sys.stdout.flush()
@@ -91,8 +96,11 @@ def start(main) -> None:
         tell(f"{name}: a file is not UTF-8: {error.reason} at byte {error.start}")
         sys.exit(2)
     except OSError as error:
-        tell(f"{name}: {error.filename or 'a file'}: {error.strerror or error}")
-        sys.exit(2)
+        tell(f"{name}: {error.filename or 'what was written'}: {error.strerror or error}")
+        leave(2)
+    except MemoryError:
+        tell(f"{name}: there was no memory")
+        leave(9)
     except RecursionError:
         tell(f"{name}: an input is nested too deeply")
         sys.exit(2)
@@ -100,8 +108,16 @@ def start(main) -> None:
         sys.exit(130)
 
 
+def leave(status: int) -> None:
+    """Ends with this status, whether or not what is still to be written can be."""
+    os.dup2(os.open(os.devnull, os.O_WRONLY), 1)
+    os._exit(status)
+
+
 def tell(line: str) -> None:
     """Says something on standard error; of what a terminal would obey only the number is shown."""
+    if sys.stderr is None:
+        return
     try:
         print("\n".join(map(visible, line.split("\n"))), file=sys.stderr, flush=True)
     except (BrokenPipeError, OSError):

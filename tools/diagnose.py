@@ -85,16 +85,42 @@ def refused_text(words: list[str], said: str) -> list[str]:
     if not is_there_still(named[subject]):
         return once(named[subject], said)
     text = pathlib.Path(named[subject]).read_bytes()
-    if kind == "march":
-        return diagnose_texts.march(named[subject], text, code, values).lines()
-    if kind == "memory":
-        return diagnose_texts.memory(named[subject], text, code, values).lines()
-    if kind == "fault":
-        return diagnose_texts.fault(named[subject], text, code, values, False).lines()
-    if kind == "chip":
-        return diagnose_chips.chip(named[subject], text, code, values).lines()
-    Trier.reader = words[0]
-    return diagnose_verilog.verilog(named[subject], text, code, values, named.get("MEMORY")).lines()
+    if kind == "verilog":
+        Trier.reader = words[0]
+        found = diagnose_verilog.verilog(named[subject], text, code, values, named.get("MEMORY"))
+    elif kind == "fault":
+        found = diagnose_texts.fault(named[subject], text, code, values, False)
+    else:
+        tell = {"march": diagnose_texts.march, "memory": diagnose_texts.memory, "chip": diagnose_chips.chip}[kind]
+        found = tell(named[subject], text, code, values)
+    return [*found.lines(), *(f"  {note}" for note in another_kind(subject, kind, text))]
+
+
+# how a text of each kind begins
+BEGINS = {
+    "a march": rb"\s*(?:\{\s*)?(?:any|up|down|del|[v^*])\b\s*[(;}]",
+    "a memory description": rb"(?:\s|#[^\n]*\n)*memory\b",
+    "a chip file": rb"(?:\s|#[^\n]*\n)*chip\b",
+    "a module of Verilog": rb"(?:\s|//[^\n]*\n|/\*.*?\*/)*module\b",
+    "a list of primitives": rb"(?:\s|#[^\n]*\n)*(?:<|(?:SF|TF|WDF|D?RDF|IRF|CF[a-z]{2}|DRF|one|two|all|dyn[12])\b)",
+}
+KINDS = {
+    "march": "a march",
+    "memory": "a memory description",
+    "chip": "a chip file",
+    "verilog": "a module of Verilog",
+    "fault": "a list of primitives",
+}
+
+
+def another_kind(subject: str, kind: str, text: bytes):
+    """What is said of a text that begins with a byte-order mark, or as one of another kind does."""
+    if text.startswith((b"\xef\xbb\xbf", b"\xff\xfe", b"\xfe\xff")):
+        yield "the file begins with a byte-order mark: save it as plain UTF-8, without one"
+    elif not re.match(BEGINS[KINDS[kind]], text, re.DOTALL):
+        other = next((what for what, begin in BEGINS.items() if re.match(begin, text, re.DOTALL)), None)
+        if other:
+            yield f"the file looks like {other}, and {subject} is to be {KINDS[kind]}: have two words changed places?"
 
 
 # ---- the words of a call
