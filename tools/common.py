@@ -208,7 +208,10 @@ def write_whole(target, text: str) -> None:
     mode = path.stat().st_mode & 0o777 if path.exists() else None
     if mode is not None and not os.access(path, os.W_OK):
         raise ToolError(f"{path}: Permission denied")
-    beside, name = tempfile.mkstemp(prefix=".vidlakost-", dir=path.parent)
+    try:
+        beside, name = tempfile.mkstemp(prefix=".vidlakost-", dir=path.parent)
+    except OSError as error:
+        raise OSError(error.errno, error.strerror, str(path)) from error
     try:
         with open(beside, "w", encoding="utf-8", newline="") as file:
             file.write(text)

@@ -12,9 +12,10 @@ COMMENT = re.compile(rb"//[^\n]*|/\*.*?\*/", re.DOTALL)
 # what may stand in a comment, or as a blank, and why another tool may go another way
 IN_TEXT = [
     (rb"\r(?!\n)", "a carriage return that no line feed follows: some tools end a line, and a comment with it, there"),
+    (rb"\f", "a form feed: some tools end a line, and a comment with it, there"),
 ]
 IN_COMMENT = [
-    (rb"[\x0b\x0c]", "a form feed or a vertical tab in a comment: some tools end a line, and the comment with it, there"),
+    (rb"\x0b", "a vertical tab in a comment: some tools end a line, and the comment with it, there"),
     (rb"[\x00-\x08\x0e-\x1f\x7f]", "a control byte in a comment: some tools end the text, or the comment, there"),
     (rb"`", "a back quote in a comment: some tools obey a directive there"),
     (rb"\\\r?(?:\n|\Z)", "a backslash that ends a line of a comment: to some tools the next line is the comment's too"),

@@ -336,7 +336,7 @@ CALLS = [
     ("", ["tools/report", "a.report", "--json"], 0, '"schema": "vidlakost-report-1"', ""),
     ("", ["tools/report", "a.report", "--html", "a.html"], 0, "", ""),
     ("", ["tools/report", "a.report"], 2, "", "report: one of --json and --html FILE"),
-    ("", ["tools/report", "a.report", "--html", "./a.report"], 2, "", "report: 'a.report' is the report itself"),
+    ("", ["tools/report", "a.report", "--html", "./a.report"], 2, "", "report: './a.report' is the report itself"),
     ("", ["tools/report", "a.report", "--html", "no/where"], 2, "", "report: no/where: No such file"),
     ("", ["tools/report", "tf.list", "--json"], 2, "", "report: tf.list:1"),
     ("", ["tools/compare", "tf.list", "c.m", "examples/mats_plus.m"], 0, "TF    <1w0/1/->        c\n", ""),
