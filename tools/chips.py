@@ -78,12 +78,12 @@ def read_chip(path) -> Chip:
     check_with_program(path)
     said: dict[str, str] = {}
     units = []
-    for count, line in enumerate(common.read_text(path).split("\n"), 1):
-        words = line.split("#")[0].split()
+    for count, line in enumerate(common.lines_of(common.read_described(path)), 1):
+        words = common.words_in(line)
         form = " ".join(words)
         if re.fullmatch(r"(chip|name|budget) \S+", form):
             said[words[0]] = words[1]
-        elif re.fullmatch(r"unit \d{1,9} \S+ \S+", form):
+        elif re.fullmatch(r"unit [0-9]{1,9} \S+ \S+", form):
             elements = common.march_of(words[2])[1]
             units.append(Unit(int(words[1]), words[2], words[3], elements, common.read_memory(words[3])))
         elif form:
@@ -91,7 +91,7 @@ def read_chip(path) -> Chip:
     for word in ("name", "budget"):
         if word not in said:
             raise common.ToolError(f"{path}: the line '{word}' is missing")
-    chip = Chip(said["name"], common.number(said["budget"], "budget", 1), units)
+    chip = Chip(common.identifier(said["name"], "the name of a chip"), common.number(said["budget"], "budget", 1), units)
     heavy = next((number for number, unit in enumerate(units) if not 1 <= unit.weight <= chip.budget), None)
     if not units or heavy is not None:
         raise common.ToolError(f"{path}: there is no unit" if not units else f"{path}: unit {heavy} is above the budget")

@@ -72,6 +72,11 @@ def words_of(doc: str, allowed: dict | None = None, least: int = 0, most: int | 
 def start(main) -> None:
     """Runs a tool and ends with its status; each failure is a line on standard error."""
     name = pathlib.Path(sys.argv[0]).name
+    if sys.stdout is None:
+        tell(f"{name}: standard output is closed")
+        sys.exit(8)
+    # what came as bytes that are no text, as the name of a folder, goes out as it came
+    sys.stdout.reconfigure(encoding="utf-8", errors="surrogateescape")
     try:
         status = main() or 0
         sys.stdout.flush()
@@ -91,8 +96,11 @@ def start(main) -> None:
         tell(f"{name}: a file is not UTF-8: {error.reason} at byte {error.start}")
         sys.exit(2)
     except OSError as error:
-        tell(f"{name}: {error.filename or 'a file'}: {error.strerror or error}")
-        sys.exit(2)
+        tell(f"{name}: {error.filename or 'what was written'}: {error.strerror or error}")
+        leave(2)
+    except MemoryError:
+        tell(f"{name}: there was no memory")
+        leave(9)
     except RecursionError:
         tell(f"{name}: an input is nested too deeply")
         sys.exit(2)
@@ -100,9 +108,18 @@ def start(main) -> None:
         sys.exit(130)
 
 
+def leave(status: int) -> None:
+    """Ends with this status, whether or not what is still to be written can be."""
+    os.dup2(os.open(os.devnull, os.O_WRONLY), 1)
+    os._exit(status)
+
+
 def tell(line: str) -> None:
+    """Says something on standard error; of what a terminal would obey only the number is shown."""
+    if sys.stderr is None:
+        return
     try:
-        print(line, file=sys.stderr, flush=True)
+        print("\n".join(map(visible, line.split("\n"))), file=sys.stderr, flush=True)
     except (BrokenPipeError, OSError):
         pass
 
@@ -117,20 +134,96 @@ def explain(words: list[str], said: str, status: int) -> None:
 
 
 def read_text(path) -> str:
-    """A file's text; a folder, a missing file and bytes that are no text are told by `start`."""
-    return pathlib.Path(path).read_text(encoding="utf-8")
+    """A file's text, byte for byte: a carriage return in it stays one. A folder, a missing file and bytes that are no text
+    are told by `start`."""
+    return pathlib.Path(path).read_bytes().decode("utf-8")
+
+
+def read_described(path) -> str:
+    """The same of a text whose comments may hold any bytes, as those of memories and chips."""
+    return pathlib.Path(path).read_bytes().decode("utf-8", "replace")
+
+
+def lines_of(text: str) -> list[str]:
+    """The lines of a text, as the program counts them: a line feed ends one, and nothing else does."""
+    lines = text.split("\n")
+    return lines[:-1] if lines[-1] == "" else lines
+
+
+# what of a text separates words: a space, a tab or a carriage return
+BLANKS = " \t\r"
+
+
+def words_in(line: str) -> list[str]:
+    """The words of a line before its comment."""
+    return [word for word in re.split("[ \t\r]+", line.split("#")[0]) if word]
 
 
 def number(text: str, what: str, least: int = 0) -> int:
     """A decimal number among the words of a call."""
-    if not re.fullmatch(r"\d{1,9}", text) or int(text) < least:
-        raise ToolError(f"{what} is a number from {least} on, and not '{text}'")
+    if not re.fullmatch("[0-9]{1,9}", text) or int(text) < least:
+        raise ToolError(f"{what} is a number from {least} on, and not {shown(text)}")
     return int(text)
+
+
+def identifier(name: str, what: str = "the name") -> str:
+    """A name that is about to become a part of a path or of a Verilog text: a plain one, whatever was read."""
+    if not re.fullmatch("[A-Za-z_][A-Za-z0-9_$]{0,63}", name):
+        raise ToolError(f"{what} is a simple identifier of Verilog of at most 64 bytes, and not {shown(name)}")
+    return name
+
+
+def shown(text: str) -> str:
+    """A text in quotes with what a terminal would obey made visible."""
+    return "'" + visible(text) + "'"
+
+
+def visible(text: str) -> str:
+    """A text without what a terminal would obey: each such character as its number."""
+    return "".join(letter if letter.isprintable() else f"\\x{ord(letter):02x}" for letter in text)
 
 
 def ranged(width: int) -> str:
     """The range of a name of so many bits, in Verilog."""
     return f"[{width - 1}:0] " if width > 1 else ""
+
+
+# ---- files that are written
+
+
+def refuse_inputs(target: str | None, inputs: list[tuple[str, str]]) -> None:
+    """Refuses to write over a file that is read."""
+    for what, name in inputs if target else []:
+        one = os.path.exists(target) and os.path.exists(name) and os.path.samefile(target, name)
+        if one or os.path.realpath(target) == os.path.realpath(name):
+            raise ToolError(f"{shown(target)} is {what}")
+
+
+def write_whole(target, text: str) -> None:
+    """Writes a text to a file, so that a full disk or a kill leaves what stood there. A device is written as it is."""
+    path = pathlib.Path(target)
+    if path.exists() and not path.is_file() or path.is_symlink():
+        path.write_text(text, encoding="utf-8")
+        return
+    mode = path.stat().st_mode & 0o777 if path.exists() else None
+    if mode is not None and not os.access(path, os.W_OK):
+        raise ToolError(f"{path}: Permission denied")
+    try:
+        beside, name = tempfile.mkstemp(prefix=".vidlakost-", dir=path.parent)
+    except OSError as error:
+        raise OSError(error.errno, error.strerror, str(path)) from error
+    try:
+        with open(beside, "w", encoding="utf-8", newline="") as file:
+            file.write(text)
+            file.flush()
+            os.fsync(beside)
+        umask = os.umask(0)
+        os.umask(umask)
+        os.chmod(name, 0o666 & ~umask if mode is None else mode)
+        os.replace(name, path)
+    except BaseException:
+        os.unlink(name)
+        raise
 
 
 # ---- the program
@@ -234,7 +327,7 @@ def vectors_of(march, memory) -> list[str]:
     with tempfile.TemporaryDirectory() as folder:
         path = pathlib.Path(folder) / "vectors"
         ask("vectors", march, memory, path)
-        return path.read_text().splitlines()
+        return lines_of(read_text(path))
 
 
 # ---- marches
@@ -273,11 +366,13 @@ ORDERS = {
 def elements_of(march: str) -> list[Element]:
     """The elements of the text of an accepted march."""
     elements = []
-    for part in "".join(march.split()).strip("{}").split(";"):
+    for part in re.sub(f"[{BLANKS}\n]", "", march).strip("{}").split(";"):
         match = re.fullmatch(r"([^()]+)(?:\(([rw][01](?:,[rw][01])*)\))?", part)
         if match is None or match[1] not in ORDERS or (match[1] == "del") != (match[2] is None):
-            raise ToolError(f"'{part}' is no element of a march")
+            raise ToolError(f"{shown(part[:64])} is no element of a march")
         elements.append(Element(part, ORDERS[match[1]], match[2].split(",") if match[2] else []))
+    if len(elements) > 64 or any(len(element.operations) > 16 for element in elements):
+        raise ToolError("a march has at most 64 elements of at most 16 operations")
     return elements
 
 
@@ -294,7 +389,7 @@ def march_of(path) -> tuple[str, list[Element]]:
         with tempfile.TemporaryDirectory() as folder:
             report = pathlib.Path(folder) / "report"
             ask("judge", path, empty, report)
-            return report.read_text().splitlines()[0][len("march ") :]
+            return lines_of(read_text(report))[0][len("march ") :]
 
     printed = with_text("", first_line)
     return printed, elements_of(printed)
@@ -315,6 +410,17 @@ class Memory:
     pause: int
     rows: list | None
     backgrounds: list[int]
+
+    def __post_init__(self) -> None:
+        """What goes into paths and into texts of Verilog is looked at here, whatever was read."""
+        identifier(self.name, "the name of a memory")
+        limits = ((self.words, 2, 65536), (self.bits, 1, 64), (self.latency, 1, 4), (self.pause, 1, 65535))
+        words = (self.polarity, *self.backgrounds)
+        rows = all(max(bits, default=0) < self.width for bits, _ in self.rows or [])
+        if not all(least <= value <= most for value, least, most in limits) or any(word >> self.bits for word in words):
+            raise ToolError(f"the description of {self.name} has a number out of its range")
+        if not 1 <= len(self.backgrounds) <= 8 or not rows or self.rows is not None and len(self.rows) != self.width:
+            raise ToolError(f"the description of {self.name} has rows or backgrounds that are none")
 
     @property
     def width(self) -> int:
@@ -376,10 +482,10 @@ def logarithmic(bits: int) -> list[int]:
 def statements(text: str) -> list[tuple[int, str, str]]:
     """Of each line of a description that says something its number, its first word and the rest."""
     found = []
-    for count, line in enumerate(text.split("\n"), 1):
-        parts = line.split("#")[0].split(None, 1)
-        if parts:
-            found.append((count, parts[0], parts[1].strip() if len(parts) > 1 else ""))
+    for count, line in enumerate(lines_of(text), 1):
+        words = words_in(line)
+        if words:
+            found.append((count, words[0], " ".join(words[1:])))
     return found
 
 
@@ -418,7 +524,7 @@ def read_memory(path) -> Memory:
             raise Refused(["bench", "MARCH", str(path)], said, status)
 
     with_text("any(w0)", is_refused)
-    return parse_memory(read_text(path))
+    return parse_memory(read_described(path))
 
 
 # ---- primitives
@@ -472,7 +578,7 @@ def read_primitive(text: str) -> Primitive:
 
 def place_of(text: str) -> tuple[int, int]:
     """A cell of `benchfault`: the physical index of its word, and its bit."""
-    match = re.fullmatch(r"(\d{1,9})\.(\d{1,9})", text)
+    match = re.fullmatch(r"([0-9]{1,9})\.([0-9]{1,9})", text)
     if match is None:
         raise ToolError(f"a cell is a word's physical index, a full stop and a bit, as 6.3, and not '{text}'")
     return int(match[1]), int(match[2])
@@ -572,15 +678,19 @@ class Array:
 # ---- reports
 
 
+# what the parts of its lines are made of, and how long they may be
+ITEM = r"(?P<primitive><[01wrt;]{1,24}/[01]/[-01]>) (?P<kind>[A-Za-z0-9]{1,8})"
+COUNT = "[0-9]{1,9}"
 ESCAPE = re.compile(
-    r"escape (?P<primitive>\S+) (?P<kind>\S+) (?:cells (?P<cells>\d) )?aggressor (?P<aggressor>none|\d) "
-    r"victim (?P<victim>\d) content (?P<content>[01]+) directions (?P<directions>[ud]+)"
+    rf"escape {ITEM} (?:cells (?P<cells>[2-5]) )?aggressor (?P<aggressor>none|[0-4]) "
+    "victim (?P<victim>[0-4]) content (?P<content>[01]{2,5}) directions (?P<directions>[ud]{1,64})"
 )
-COVERED = re.compile(r"covered (?P<primitive>\S+) (?P<kind>\S+)")
-CLASS = re.compile(r"class (?P<kind>\S+) (?P<count>\d+) covered (?P<covered>\d+)")
-TOTAL = re.compile(r"total (?P<count>\d+) covered (?P<covered>\d+) escapes (?P<escapes>\d+)")
+COVERED = re.compile(f"covered {ITEM}")
+CLASS = re.compile(rf"class (?P<kind>[A-Za-z0-9]{{1,8}}) (?P<count>{COUNT}) covered (?P<covered>{COUNT})")
+TOTAL = re.compile(rf"total (?P<count>{COUNT}) covered (?P<covered>{COUNT}) escapes (?P<escapes>{COUNT})")
 SHAPE = re.compile(
-    r"memory (?P<name>\S+) words (?P<words>\d+) bits (?P<bits>\d+) backgrounds (?P<backgrounds>\d+) commands (?P<commands>\d+)"
+    rf"memory (?P<name>[A-Za-z_][A-Za-z0-9_$]{{0,63}}) words (?P<words>{COUNT}) bits (?P<bits>{COUNT}) "
+    rf"backgrounds (?P<backgrounds>{COUNT}) commands (?P<commands>{COUNT})"
 )
 
 
@@ -686,14 +796,12 @@ def check_escape(verdict: Verdict, elements: list[Element]) -> str | None:
 
 def read_report(path) -> Report:
     """The report of a file, line by line; what is none is refused with the line that shows it."""
-    lines = read_text(path).split("\n")
-    if lines[-1:] == [""]:
-        lines.pop()
+    lines = lines_of(read_text(path))
 
     def refuse(count, why):
         raise ToolError(f"{path}:{count}: {why}; this is no report of `judge` or `compile`")
 
-    if not lines or not lines[0].startswith("march "):
+    if not lines or not re.fullmatch(r"march [{}();,a-z0-9]+", lines[0]):
         refuse(1, "the first line is no march")
     try:
         elements = elements_of(lines[0][len("march ") :])

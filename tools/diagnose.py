@@ -50,6 +50,27 @@ def words_by_name(words: list[str]) -> dict:
     return dict(zip(common.form_of(words[0])[1:], words[1:])) if words else {}
 
 
+def is_there_still(word: str) -> bool:
+    """Whether a text can be read a second time: what came by a pipe or a device is gone, and to open it again may wait for
+    ever."""
+    return os.path.isfile(word)
+
+
+def once(word: str, said: str) -> list[str]:
+    """What is said of a text that could be read only once."""
+    meant = next((when for form, when in meanings() if re.fullmatch(form, said)), "the program refuses it")
+    return [f"{word}: error: {meant}", "  the text came by a pipe or a device, so its place is not shown"]
+
+
+def meanings():
+    """The pattern of each refusal of the tables of FORMATS, and when it comes."""
+    for line in common.lines_of(common.read_text(common.FORMATS)):
+        cells = [cell.strip() for cell in re.split(r"(?<!\\)\|", line)[1:-1]]
+        form = re.fullmatch(r"`((?:march|memory|fault|verilog|chip) [A-Z][0-9]+)\b.*`", cells[0]) if len(cells) >= 2 else None
+        if form:
+            yield f"{form[1]}\\b.*", cells[1].replace("`", "").replace("\\|", "|")
+
+
 def refused_text(words: list[str], said: str) -> list[str]:
     """A refusal of a march, a memory, a list, a primitive, a module or a chip file."""
     kind, code, *rest = said.split(" ", 2)
@@ -61,17 +82,45 @@ def refused_text(words: list[str], said: str) -> list[str]:
     values = values_of(code, rest[0] if rest else "")
     if subject == "PRIM":
         return diagnose_texts.fault("PRIM", named["PRIM"].encode("utf-8", "replace"), code, values, True).lines()
+    if not is_there_still(named[subject]):
+        return once(named[subject], said)
     text = pathlib.Path(named[subject]).read_bytes()
-    if kind == "march":
-        return diagnose_texts.march(named[subject], text, code, values).lines()
-    if kind == "memory":
-        return diagnose_texts.memory(named[subject], text, code, values).lines()
-    if kind == "fault":
-        return diagnose_texts.fault(named[subject], text, code, values, False).lines()
-    if kind == "chip":
-        return diagnose_chips.chip(named[subject], text, code, values).lines()
-    Trier.reader = words[0]
-    return diagnose_verilog.verilog(named[subject], text, code, values, named.get("MEMORY")).lines()
+    if kind == "verilog":
+        Trier.reader = words[0]
+        found = diagnose_verilog.verilog(named[subject], text, code, values, named.get("MEMORY"))
+    elif kind == "fault":
+        found = diagnose_texts.fault(named[subject], text, code, values, False)
+    else:
+        tell = {"march": diagnose_texts.march, "memory": diagnose_texts.memory, "chip": diagnose_chips.chip}[kind]
+        found = tell(named[subject], text, code, values)
+    return [*found.lines(), *(f"  {note}" for note in another_kind(subject, kind, text))]
+
+
+# how a text of each kind begins
+BEGINS = {
+    "a march": rb"\s*(?:\{\s*)?(?:any|up|down|del|[v^*])\b\s*[(;}]",
+    "a memory description": rb"(?:\s|#[^\n]*\n)*memory\b",
+    "a chip file": rb"(?:\s|#[^\n]*\n)*chip\b",
+    "a module of Verilog": rb"(?:\s|//[^\n]*\n|/\*.*?\*/)*module\b",
+    "a list of primitives": rb"(?:\s|#[^\n]*\n)*(?:<|(?:SF|TF|WDF|D?RDF|IRF|CF[a-z]{2}|DRF|one|two|all|dyn[12])\b)",
+}
+KINDS = {
+    "march": "a march",
+    "memory": "a memory description",
+    "chip": "a chip file",
+    "verilog": "a module of Verilog",
+    "fault": "a list of primitives",
+}
+
+
+def another_kind(subject: str, kind: str, text: bytes):
+    """What is said of a text that begins with a byte-order mark, or as one of another kind does."""
+    if text.startswith((b"\xef\xbb\xbf", b"\xff\xfe", b"\xfe\xff")):
+        yield "the file begins with a byte-order mark: save it as plain UTF-8, without one"
+    elif not re.match(BEGINS[KINDS[kind]], text, re.DOTALL):
+        other = next((what for what, begin in BEGINS.items() if re.match(begin, text, re.DOTALL)), None)
+        if other:
+            yield f"the file looks like {other}, and {subject} is to be {KINDS[kind]}: have two words changed places?"
 
 
 # ---- the words of a call
@@ -204,11 +253,13 @@ def file_of(words: list[str], said: str) -> list[str]:
 
 
 def memory_file(named: dict) -> common.Memory:
-    return common.parse_memory(common.read_text(named["MEMORY"]))
+    return common.parse_memory(common.read_described(named["MEMORY"]))
 
 
 def device(words: list[str], said: str) -> list[str]:
     named = words_by_name(words)
+    if not is_there_still(named.get("MEMORY", "")):
+        return []
     if said != "device V2" or "VIC" not in named:
         return [
             f"{CONSOLE}: error: "
@@ -239,6 +290,8 @@ def misfit(words: list[str], said: str) -> list[str]:
         two = common.read_primitive(named["PRIM"]).aggressor is not None
         cells, wanted = ("two cells", "the cell of its aggressor") if two else ("one cell", "none")
         return [f"AGG: error: {named['PRIM']} has {cells}, so AGG is {wanted}, and not '{named['AGG']}'"]
+    if not is_there_still(named["MARCH"]):
+        return []
     elements = common.elements_of(common.read_text(named["MARCH"]))
     directions = named["DIRS"]
     lines = [f"DIRS: error: '{directions}' has {len(directions)} letters, and {named['MARCH']} has {len(elements)} elements"]
@@ -260,6 +313,8 @@ def misfit(words: list[str], said: str) -> list[str]:
 
 def too_long(words: list[str], said: str) -> list[str]:
     named = words_by_name(words)
+    if not is_there_still(named["MEMORY"]) or not is_there_still(named["MARCH"]):
+        return [f"{named['MEMORY']}: error: the test takes {thousands(said.split(' ')[2])} cycles, and at most 2,000,000 are run"]
     memory, elements = memory_file(named), common.elements_of(common.read_text(named["MARCH"]))
     one = sum(map(memory.cycles_of, elements))
     most = (2000000 - memory.latency - 2) // one if one <= 2000000 else 0
@@ -290,13 +345,19 @@ def no_primitives(words: list[str]) -> list[str]:
 
 def lines(words: list[str], said: str, status: int) -> list[str]:
     """What is said of a refusal; nothing where the call is not one that can be explained."""
+    return list(map(common.visible, told_lines(words, said, status)))
+
+
+def told_lines(words: list[str], said: str, status: int) -> list[str]:
     try:
         if status <= 1:
             return no_primitives(words) if said.startswith("total 0 ") else []
         if status == 2:
             return usage(words)
+        if words[0] == "chip" and said.startswith("unit ") and not is_there_still(words[1]):
+            return once(words[1], said.split(" ", 2)[2])
         if words[0] == "chip" and said.startswith("unit "):
-            return lines(*diagnose_chips.unit_call(words[1], said), status)
+            return told_lines(*diagnose_chips.unit_call(words[1], said), status)
         if status in (3, 4, 5, 14, 15):
             return refused_text(words, said)
         if status in (6, 7, 8, 10) and said:

@@ -75,7 +75,7 @@ def units(description: Description) -> list[tuple[int, str, str]]:
 def same_name(description: Description, number: int) -> Finding:
     """C8: the memory of a unit has an earlier one's name, or its module has the chip's."""
     rows = units(description)
-    names = [common.parse_memory(common.read_text(memory)).name for _, _, memory in rows[: number + 1]]
+    names = [common.parse_memory(common.read_described(memory)).name for _, _, memory in rows[: number + 1]]
     line, _, memory = rows[number]
     if names[number] in names[:number]:
         why = f"its memory has the name of unit {names.index(names[number])}, '{names[number]}'"
@@ -89,6 +89,6 @@ def unit_call(chip_file: str, said: str) -> tuple[list[str], str]:
     match = re.fullmatch(r"unit (\d+) (.*)", said)
     if match is None:
         raise ValueError(said)
-    text = common.read_text(chip_file)
+    text = common.read_described(chip_file)
     _, march, memory = units(Description(chip_file, text.encode()))[int(match[1])]
     return ["bench", march, memory], match[2]

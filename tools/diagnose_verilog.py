@@ -13,7 +13,7 @@ WORDS = ("module input output wire reg assign always begin end if else case defa
 LEXEME = re.compile(
     r"(?:\s|//[^\n]*|/\*.*?\*/)+|(?P<literal>\d+'[bodhBODH][0-9a-fA-F_]+)|(?P<number>\d+)|(?P<name>[A-Za-z_][\w$]*)|"
     r"(?P<mark><=|>=|==|!=|&&|\|\||<<|>>|~&|~\||~\^|\^~|.)",
-    re.DOTALL,
+    re.DOTALL | re.ASCII,
 )
 # operators of two operands, from the loosest to the tightest, for modules without all their parentheses
 LEVELS = ["||", "&&", "|", "^", "&", "== !=", "< <= > >=", "<< >>", "+ -"]
@@ -363,7 +363,7 @@ def verilog(name: str, text: bytes, code: str, values: dict, memory_file: str | 
     if code == "L2":
         return early("verilog", name, text, "the module")
     if code == "B2":
-        return port(name, text, values["name"], common.parse_memory(common.read_text(memory_file)))
+        return port(name, text, values["name"], common.parse_memory(common.read_described(memory_file)))
     if code[0] == "N":
         return rule(name, text, code, values)
     at = int(values["byte"])

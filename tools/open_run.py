@@ -403,7 +403,7 @@ def line_of(module: Module, elements: list[common.Element], memory: common.Memor
 
 def read_module(path) -> Module:
     """The module of a file that the program accepts."""
-    reader = Reader(common.read_text(path))
+    reader = Reader(common.read_described(path))
     try:
         module = reader.module()
     except (ValueError, KeyError, IndexError) as error:
@@ -416,5 +416,5 @@ def read_module(path) -> Module:
 
 def told(verilog, march, memory) -> str:
     """The line of `check VERILOG MARCH MEMORY`, by this model."""
-    elements, described = common.elements_of(common.read_text(march)), common.parse_memory(common.read_text(memory))
+    elements, described = common.elements_of(common.read_text(march)), common.parse_memory(common.read_described(memory))
     return line_of(read_module(verilog), elements, described)

@@ -66,9 +66,10 @@ module {name}_rule(
   wire ends_element = ends_visit && visit == last_visit;
   wire ends_run = ends_element && element == 6'd{last_element};
   wire command = run && !paused;
-  wire writes = does(element, operation) >> 1;
-  wire value = does(element, operation);
-  wire [15:0] place = goes_down(element) ? 16'd{last_word} - visit : visit;
+  wire [1:0] action = does(element, operation);
+  wire writes = action[1];
+  wire value = action[0];
+  wire [{last_bit}:0] place = goes_down(element) ? {width}'d{last_word} - visit[{last_bit}:0] : visit[{last_bit}:0];
   wire {index}address;
 {rows}
   wire {word}expected = background_word(background) ^ {{{bits}{{value}}}} ^ {bits}'h{polarity:x};
@@ -159,6 +160,8 @@ def rule(elements: list[common.Element], memory: common.Memory) -> str:
         ),
         last_rest=memory.pause - 1,
         last_word=memory.words - 1,
+        width=memory.width,
+        last_bit=memory.width - 1,
         last_element=len(elements) - 1,
         rows="\n".join(rows),
         last_background=len(memory.backgrounds) - 1,

@@ -6,17 +6,18 @@ ghost use Rattle.bist_host.specs.inner.Files.{IsReadFault, IsWriteFault};
 
 use crate::host::{Host, HostFault};
 use std::alloc::{AllocError, Global};
-use std::fs::{self, File, Metadata, OpenFile, OpenOptions, Permissions};
+use std::fs::{self, Metadata, OpenFile, OpenOptions, Permissions};
 use std::io::{self, Error, ErrorKind, Read, Write};
-use std::os::unix::fs::MetadataExt;
+use std::os::unix::fs::{MetadataExt, OpenOptionsExt, PermissionsExt};
 use std::rt::{Clock, Files};
 
 /// Real files and standard output, the trusted edge. It tells the contracts nothing of them, and counts each answer
 /// other than `Ok` and `NoMemory`. It takes different names for different files.
 ///
-/// A regular file is written beside its place and renamed to it where it is whole, so that a run that is killed, or
-/// finds the disk full, leaves the old file. It keeps its permissions. What is no regular file, as a device, a pipe or a
-/// link, and a file that has other names too, is written where it is.
+/// A regular file is written beside its place, handed to the disk, and renamed to it where it is whole, so that a run that
+/// is killed, or finds the disk full, and a power cut leave the old file. Of its permissions no more is kept than who may
+/// read, write and run it, and of a group that isn't kept no more than others may. What is no regular file, as a device,
+/// a pipe or a link, and a file that has other names too, is written where it is.
 #[derive(Drop)]
 pub struct RealHost<R: Files + Print + AllocGlobal + Clock + Drop> {
     rt: R,
@@ -123,7 +124,7 @@ fn write_bytes<R: Files + AllocGlobal + Clock>(
     match fs::symlink_metadata(rt, name) {
         Ok(there) => {
             if is_replaceable(&there) {
-                return replace_file(rt, name, there.permissions(), bytes);
+                return replace_file(rt, name, &there, bytes);
             }
             write_in_place(rt, name, bytes)
         }
@@ -143,7 +144,7 @@ fn write_in_place<R: Files>(rt: &R, name: &str, bytes: &[u8]) -> Result<(), Host
 {
     match fs::create(rt, name) {
         Ok(mut file) => {
-            if write_whole(&mut file, bytes) {
+            if write_whole(&mut file, bytes) && is_handed_on(&file) {
                 return Ok(());
             }
             Err(HostFault::WriteFailed)
@@ -152,17 +153,26 @@ fn write_in_place<R: Files>(rt: &R, name: &str, bytes: &[u8]) -> Result<(), Host
     }
 }
 
+/// Hands what was written to the disk, where the file is one that a disk holds: a quota, or a disk behind a network, may
+/// refuse it only then.
+fn is_handed_on<F: OpenFile>(file: &F) -> bool {
+    match file.metadata() {
+        Ok(there) => !there.is_file() || file.sync_all().is_ok(),
+        Err(_) => false,
+    }
+}
+
 /// Replaces a regular file that may be written; to rename over it would not ask for that.
 fn replace_file<R: Files + AllocGlobal + Clock>(
     rt: &R,
     name: &str,
-    kept: Permissions,
+    old: &Metadata,
     bytes: &[u8],
 ) -> Result<(), HostFault>
     ensures { IfErr result IsWriteFault }
 {
     match OpenOptions::new().write(true).open(rt, name) {
-        Ok(_) => write_beside(rt, name, Some(kept), bytes),
+        Ok(_) => write_beside(rt, name, Some(old), bytes),
         Err(error) => Err(write_fault(&error)),
     }
 }
@@ -171,15 +181,15 @@ fn replace_file<R: Files + AllocGlobal + Clock>(
 fn write_beside<R: Files + AllocGlobal + Clock>(
     rt: &R,
     name: &str,
-    kept: Option<Permissions>,
+    old: Option<&Metadata>,
     bytes: &[u8],
 ) -> Result<(), HostFault>
     ensures { IfErr result IsWriteFault }
 {
     let beside = name_beside(rt, name)?;
-    match File::create_new(rt, beside.as_str()) {
+    match create_beside(rt, beside.as_str(), old.is_some()) {
         Ok(mut file) => {
-            if fill_new(&mut file, kept, bytes) && fs::rename(rt, beside.as_str(), name).is_ok() {
+            if fill_new(&mut file, old, bytes) && fs::rename(rt, beside.as_str(), name).is_ok() {
                 return Ok(());
             }
             let _ = fs::remove_file(rt, beside.as_str());
@@ -189,16 +199,49 @@ fn write_beside<R: Files + AllocGlobal + Clock>(
     }
 }
 
-/// Gives a new file its permissions, where some are kept, and then its bytes.
-fn fill_new<F: Write + OpenFile>(file: &mut F, kept: Option<Permissions>, bytes: &[u8]) -> bool
+/// Creates a file that isn't there yet: where it will take over permissions, for its owner alone until it has them.
+fn create_beside<R: Files>(rt: &R, beside: &str, is_narrow: bool) -> io::Result<R::File> {
+    let mode = if is_narrow { 0o600 } else { 0o666 };
+    OpenOptions::new()
+        .write(true)
+        .create_new(true)
+        .mode(mode)
+        .open(rt, beside)
+}
+
+/// Gives a new file the permissions of the one that it replaces, if it does, then its bytes, and hands them to the disk.
+fn fill_new<F: Write + OpenFile>(file: &mut F, old: Option<&Metadata>, bytes: &[u8]) -> bool
     ensures { IsTrue result → Appends (F.contents file.old) (F.contents file.new) bytes.now }
 {
-    if let Some(permissions) = kept {
-        if file.set_permissions(permissions).is_err() {
+    if let Some(old) = old {
+        if !takes_permissions(file, old) {
             return false;
         }
     }
-    write_whole(file, bytes)
+    write_whole(file, bytes) && file.sync_all().is_ok()
+}
+
+/// Gives a new file what it may keep of an old one's permissions, or answers false.
+fn takes_permissions<F: OpenFile>(file: &F, old: &Metadata) -> bool {
+    match file.metadata() {
+        Ok(new) => {
+            let mode = kept_mode(old.mode(), old.gid() == new.gid());
+            file.set_permissions(Permissions::from_mode(mode)).is_ok()
+        }
+        Err(_) => false,
+    }
+}
+
+/// Who may read, write and run a file; where the group is another, neither it nor others may what one of them may not.
+#[tactic(auto, using(std::proofs::lemmas::Nat::and_le_r))]
+fn kept_mode(mode: u32, is_same_group: bool) -> u32
+    ensures only_these { result ≤ 0o777 }
+{
+    if is_same_group {
+        return mode & 0o777;
+    }
+    let shared = (mode >> 3) & mode & 0o007;
+    (mode & 0o700) + shared * 0o011
 }
 
 /// A name in the folder of this one, made from the time, so that it can hardly be a word of the call.

@@ -1,0 +1,84 @@
+"""What other tools may read otherwise than the program does, though the standard is on its side: bytes in a module's
+comments that some obey or end a line at, and names of a chip that SystemVerilog reserves."""
+from __future__ import annotations
+
+import pathlib
+import re
+
+import common
+from finding import place
+
+COMMENT = re.compile(rb"//[^\n]*|/\*.*?\*/", re.DOTALL)
+# what may stand in a comment, or as a blank, and why another tool may go another way
+IN_TEXT = [
+    (rb"\r(?!\n)", "a carriage return that no line feed follows: some tools end a line, and a comment with it, there"),
+    (rb"\f", "a form feed: some tools end a line, and a comment with it, there"),
+]
+IN_COMMENT = [
+    (rb"\x0b", "a vertical tab in a comment: some tools end a line, and the comment with it, there"),
+    (rb"[\x00-\x08\x0e-\x1f\x7f]", "a control byte in a comment: some tools end the text, or the comment, there"),
+    (rb"`", "a back quote in a comment: some tools obey a directive there"),
+    (rb"\\\r?(?:\n|\Z)", "a backslash that ends a line of a comment: to some tools the next line is the comment's too"),
+    (
+        rb"\b(?:(?:translate|synthesis)_o(?:n|ff)|full_case|parallel_case|synopsys|pragma|synthesis[ \t]+\w+)\b",
+        "a comment that tools which make gates obey",
+    ),
+]
+RESERVED = set(
+    """accept_on alias always_comb always_ff always_latch assert assume before bind bins binsof bit break byte chandle checker
+    class clocking const constraint context continue cover covergroup coverpoint cross dist do endchecker endclass endclocking
+    endgroup endinterface endpackage endprogram endproperty endsequence enum eventually expect export extends extern final
+    first_match foreach forkjoin global iff ignore_bins illegal_bins implements implies import inside int interconnect
+    interface intersect join_any join_none let local logic longint matches modport nettype new nexttime null package packed
+    priority program property protected pure rand randc randcase randsequence ref reject_on restrict return s_always
+    s_eventually s_nexttime s_until s_until_with sequence shortint shortreal soft solve static string strong struct super
+    sync_accept_on sync_reject_on tagged this throughout timeprecision timeunit type typedef union unique unique0 until
+    until_with untyped var virtual void wait_order weak wildcard with within""".split()
+)
+
+
+def places_in(text: bytes):
+    """Of each kind the first byte, and what it is."""
+    for pattern, why in IN_TEXT:
+        found = re.search(pattern, text)
+        if found:
+            yield found.start(), why
+    comments = [(match.start(), match[0] + text[match.end() : match.end() + 1]) for match in COMMENT.finditer(text)]
+    for pattern, why in IN_COMMENT:
+        hits = (begin + found.start() for begin, comment in comments for found in [re.search(pattern, comment)] if found)
+        first = next(hits, None)
+        if first is not None:
+            yield first, why
+
+
+def of_module(name: str, text: bytes) -> list[str]:
+    """The warnings of a module that is read."""
+    lines = []
+    for at, why in sorted(places_in(text)):
+        row, column = place(text, at)
+        lines.append(f"{name}:{row}:{column}: warning: {why}")
+    return [*lines, "  what is found of this module need not hold in a tool that does so"] if lines else []
+
+
+def of_chip(name: str, text: str) -> list[str]:
+    """The warnings of a chip file: its name, as the name of a module, beside the words and ports that are taken."""
+    said = [(line, rest) for line, word, rest in common.statements(text) if word == "name"]
+    units = sum(word == "unit" for _, word, _ in common.statements(text))
+    ports = {"clk", "reset", "done", "fail"} | {
+        f"{port}_{unit}" for port in ("rdata", "en", "we", "addr", "wdata") for unit in range(units)
+    }
+    for line, chip in said:
+        if chip in RESERVED:
+            return [f"{name}:{line}: warning: SystemVerilog reserves '{chip}': a tool that reads it refuses the chip's module"]
+        if chip in ports:
+            return [f"{name}:{line}: warning: '{chip}' is also a port of the chip's module, which some tools refuse"]
+    return []
+
+
+def warnings_of(words: list[str]) -> list[str]:
+    """What is said of a call that is done."""
+    if words[:1] in (["check"], ["benchfile"]) and len(words) == 4:
+        return of_module(words[1], pathlib.Path(words[1]).read_bytes())
+    if words[:1] == ["chip"] and len(words) == 3:
+        return of_chip(words[1], common.read_described(words[1]))
+    return []

@@ -1,0 +1,242 @@
+"""Inputs of somebody who means harm, and what the launcher and the tools have to do of each; `tools/selftest` goes through
+them."""
+from __future__ import annotations
+
+import os
+import shutil
+import signal
+import subprocess
+import time
+
+from selftest_cases import FILES, REPORT
+
+LOOSE = "memory 1\nname s # was\rname {name}\nwords 4 # was\rwords 8\nbits 1\n"
+LONG = REPORT.replace("content 00", "content " + "01" * 4000)
+
+FILES.update(
+    {
+        # what stands behind a lone carriage return is the comment's
+        "loose.mem": LOOSE.format(name="other"),
+        "path.mem": LOOSE.format(name="../../outside"),
+        "task.mem": LOOSE.format(name="$system"),
+        "loose.chip": "chip 1\nname both # was\rname ../other\nbudget 3 # was\rbudget 1\nunit 2 c.m loose.mem\n",
+        "loose.pins": "macro ram # was\rmacro ../ram\nclk ck\nwrite we\naddr a\nwdata d\nrdata q\n",
+        "named.pins": "macro ../ram\nclk ck\nwrite we\naddr a\nwdata d\nrdata q\n",
+        "tied.pins": 'macro ram\nclk ck\nwrite we\naddr a\nwdata d\nrdata q\ntie t 1\'b0);initial$system("x");//\n',
+        "latin.mem": b"memory 1 # \xe9\nname s\nwords 4\nbits 1\n",
+        # a report that nobody's program wrote
+        "bell.report": REPORT.replace(" TF\nescape", " \x1b[2J\nescape"),
+        "mark.report": REPORT.replace("TF 2", "<script>alert(1)</script> 2"),
+        "shape.report": REPORT.replace("\ncovered", "\nmemory <b>x words 4 bits 1 backgrounds 1 commands 40\ncovered", 1),
+        "long.report": LONG,
+        "quoted\nname.v": FILES["free.v"],
+        "sum.report": REPORT.replace("total 2", "total " + "9" * 5000),
+    }
+)
+
+# a tool that a call needs, its words, its status, a part of its output, and the beginning of standard error
+CALLS = [
+    ("", ["tools/summary", "c.m", "loose.mem"], 0, "\ns           4 ", ""),
+    ("", ["tools/summary", "c.m", "latin.mem"], 0, "\ns           4 ", ""),
+    ("", ["tools/testbench", "c.m", "path.mem", "harm"], 0, "harm/s_tb.v\n", ""),
+    ("", ["tools/testbench", "c.m", "task.mem", "harm"], 0, "harm/s_tb.v\n", ""),
+    ("", ["tools/schedule", "loose.chip"], 0, "   0  s            2      0       0      42\ngroups 1 done 42\n", ""),
+    ("", ["tools/testbench", "loose.chip", "harm", "--chip"], 0, "harm/both_tb.v\n", ""),
+    ("", ["tools/collar", "s.mem", "--macro", "loose.pins", "harm"], 0, "harm/ram.v\n", ""),
+    ("", ["tools/collar", "s.mem", "--macro", "named.pins", "harm"], 2, "", "collar: named.pins:1: the name of a pin"),
+    ("", ["tools/collar", "s.mem", "--macro", "tied.pins", "harm"], 2, "", "collar: tied.pins:7: what an input is tied to"),
+    ("", ["tools/trace", "bell.report"], 2, "", "trace: bell.report:2: the line is none of a report's"),
+    ("", ["tools/replay", "bell.report"], 2, "", "replay: bell.report:2: the line is none of a report's"),
+    ("", ["tools/report", "mark.report", "--html", "m.html"], 2, "", "report: mark.report:4: the line is none of a report's"),
+    ("", ["tools/report", "shape.report", "--html", "m.html"], 2, "", "report: shape.report:2: the line is none"),
+    ("", ["tools/report", "long.report", "--html", "m.html"], 2, "", "report: long.report:3: the line is none"),
+    ("", ["tools/report", "sum.report", "--json"], 2, "", "report: sum.report:5: the last line is no total"),
+    ("yosys", ["tools/plain", "plain.v", "free.v", "--top", "t; shell touch harmed"], 2, "", "plain: what --top names is"),
+    ("yosys", ["tools/plain", "plain.v", 'a"; shell touch harmed; ".v'], 2, "", "plain: a\"; shell"),
+    ("yosys", ["tools/plain", "plain.v", "quoted\nname.v"], 2, "", "plain: 'quoted\\x0aname.v': a name for Yosys has"),
+    ("yosys", ["tools/plain", "plain.v", "latch.v"], 1, "", "plain: a latch is outside the subset (q, latch.v:2.3-2.28)"),
+    ("yosys", ["tools/formal", "free.v", "no.v", "c.m", "s.mem"], 1, "", "formal: yosys refuses it: no.v:1: ERROR: syntax error"),
+]
+
+
+# ---- controllers that must not pass: edits of one_hot.v, which conforms, each with what they make of it
+
+SUB = "module sub(input i, output o); assign o = i; endmodule\n"
+HELD = ("state[4:0] != 5'b00000", "state[4:0] != 5'b00000 && !hold")
+OPEN_CONTROLLERS = [
+    ("a register that nothing sets", [HELD, ("reg failed;", "reg failed, hold;")]),
+    ("a register that is only cleared", [HELD, ("reg failed;", "reg failed, hold;\n always @(posedge clk) if (state[1]) hold <= 0;")]),
+    ("an initial value alone", [HELD, ("reg failed;", "reg failed; reg hold = 0;")]),
+    ("an initial block", [HELD, ("reg failed;", "reg failed; reg hold; initial hold = 0;")]),
+    ("a mistyped name", [HELD]),
+    ("an open input", [HELD, ("reg failed;", "reg failed; wire hold; sub it(.o(hold));"), ("module one_hot", SUB + "module one_hot")]),
+    ("an x", [HELD, ("reg failed;", "reg failed; wire hold; assign hold = 1'bx;")]),
+    ("a table with initial values", [HELD, ("reg failed;", "reg failed; reg t [0:1]; initial begin t[0] = 0; t[1] = 0; end wire hold = t[second];")]),
+]
+TWO_DRIVERS = [
+    ("done = 1'b0", [("reg failed;", "reg failed; assign done = 1'b0;")]),
+    ("a second register", [("reg failed;", "reg failed; always @(posedge clk) second <= 1'b0;")]),
+    ("a second assign", [("reg failed;", "reg failed; assign en = reset;")]),
+]
+
+
+def controller(bench, edits: list[tuple[str, str]]) -> None:
+    """Writes the edited controller, its true module behind a comment that names another."""
+    text = (bench.folder / "examples" / "foreign" / "one_hot.v").read_text()
+    for old, new in edits:
+        text = text.replace(old, new, 1)
+    (bench.folder / "edited.v").write_text("// module elsewhere\n" + text)
+
+
+def controllers(bench) -> None:
+    """What nothing drives stays open in `tools/plain` and `tools/formal`, and two drivers are refused."""
+    if not shutil.which("yosys"):
+        print("yosys is not installed, so no edited controller is judged")
+        return
+    judged = ["examples/mats_plus.m", "examples/foreign/four.mem"]
+    controller(bench, [])
+    bench.look(["tools/formal", "edited.v", *judged], 0, "each port is in each cycle as it has to be", "")
+    for what, edits in OPEN_CONTROLLERS:
+        controller(bench, edits)
+        plain = bench.run(["tools/plain", "edited.plain.v", "edited.v"])
+        said = bench.run(["./vidlakost", "check", "edited.plain.v", *judged]).stdout
+        bench.is_so(plain.returncode == 0 and said == "unknown cycle 1 port en\n", f"{what}: check says {said!r} {plain.stderr!r}")
+        done = bench.run(["tools/formal", "edited.v", *judged])
+        bench.is_so(done.returncode == 1 and done.stdout == "differs in cycle 1\n", f"{what}: tools/formal says {done.stdout!r}")
+    for what, edits in TWO_DRIVERS:
+        controller(bench, edits)
+        for words in (["tools/plain", "edited.plain.v", "edited.v"], ["tools/formal", "edited.v", *judged]):
+            done = bench.run(words)
+            refused = "two drivers" in done.stderr or "multiple conflicting drivers" in done.stderr
+            bench.is_so(done.returncode == 1 and refused, f"{what}: {words[0]} says {done.stdout!r} {done.stderr!r}")
+
+
+# ---- the launcher
+
+# a stand-in for the program: it leaves a file beside its output, as one that is killed does, and waits
+WAITING = """#!/usr/bin/env bash
+touch ".vidlakost-$(date +%s%N)"
+echo $$ >pid
+sleep 60 &
+wait
+"""
+SILENT = "#!/bin/sh\nexit 1\n"
+OLDER = ".vidlakost-1000000000000000000"
+
+
+def program(bench, name: str, text: str) -> str:
+    path = bench.folder / name
+    path.write_text(text)
+    path.chmod(0o755)
+    return str(path)
+
+
+def is_alive(pid: int) -> bool:
+    try:
+        os.kill(pid, 0)
+    except OSError:
+        return False
+    return True
+
+
+def killed_launcher(bench) -> None:
+    """A signal to the launcher ends the program, and what that left beside its files is removed, but for what others left."""
+    folder = bench.folder / "signals"
+    folder.mkdir()
+    (folder / OLDER).write_text("")
+    environment = {**bench.environment, "VIDLAKOST_PROGRAM": program(bench, "waiting", WAITING)}
+    for number in (signal.SIGTERM, signal.SIGINT, signal.SIGHUP):
+        (folder / "pid").unlink() if (folder / "pid").exists() else None
+        started = subprocess.Popen(["../vidlakost", "judge", "m", "l", "r"], cwd=folder, env=environment)
+        while not (folder / "pid").exists() or not (folder / "pid").read_text().strip():
+            time.sleep(0.05)
+        started.send_signal(number)
+        status, pid = started.wait(20), int((folder / "pid").read_text())
+        left = sorted(os.listdir(folder))
+        bench.is_so(status == -number, f"the launcher ends with {status} by {number}")
+        bench.is_so(not is_alive(pid), f"the program goes on after {number}")
+        bench.is_so(left == [OLDER, "pid"], f"after {number} there are {left}")
+
+
+def launcher(bench) -> None:
+    """What the launcher does beside its calls: programs that are none, pipes, options, words that name one file."""
+    silent = program(bench, "silent", SILENT)
+    for explain in ("0", "1"):
+        told = f"vidlakost: the program {silent} ended with status 1 and without an answer"
+        bench.look(["./vidlakost", "sim", "c.m"], 125, "", told, VIDLAKOST_PROGRAM=silent, VIDLAKOST_EXPLAIN=explain)
+    bench.look(["./vidlakost", "sim"], 125, "", "vidlakost: VIDLAKOST_PROGRAM names", VIDLAKOST_PROGRAM=str(bench.folder))
+    for words in (["--stale", "--help"], ["--stale", "help"]):
+        bench.look(["./vidlakost", *words], 0, "To begin with:", "")
+    bench.look(["./vidlakost", "--stael", "judge"], 2, "", "vidlakost: there is no option '--stael'")
+    broken = "set -o pipefail; ./vidlakost vectors examples/c.m examples/cache.mem /dev/stdout | head -n 1"
+    bench.look(["bash", "-c", broken], 8, "w 512 00000000", "vidlakost: error: the line of the answer could not be written")
+    (bench.folder / "numbers").mkdir()
+    bench.look(["bash", "-c", "cd numbers && ../vidlakost make 1 ./1 b c d e"], 1, "made elements 6", "")
+    bench.look(["./vidlakost", "judge", *map(str, range(3000))], 2, "usage", "vidlakost: error: judge takes 3 words")
+    begun = time.monotonic()
+    bench.run(["./vidlakost", "judge", *map(str, range(3000))])
+    bench.is_so(time.monotonic() - begun < 5, "3,000 words take more than five seconds")
+    once = "came by a pipe or a device, so its place is not shown"
+    for call in ("judge <(cat wrong.m) tf.list out", "bench c.m <(cat range.mem)", "check <(cat token.v) c.m s.mem"):
+        done = bench.run(["timeout", "20", "bash", "-c", f"./vidlakost {call}"])
+        bench.is_so(done.returncode in (3, 4, 14) and once in done.stderr, f"{call}: {done.returncode} {done.stderr!r}")
+    (bench.folder / "c.link").symlink_to("c.m")
+    for other in ("./c.m", "c.link"):
+        bench.look(["./vidlakost", "chip", "two.chip", other], 2, "", f"vidlakost: 'c.m' and '{other}' are one file")
+    for other in ("c.m", "c.link", "./s.mem"):
+        bench.look(["tools/schedule", "two.chip", "--svg", other], 2, "", f"schedule: '{other}' is a file of the chip file")
+
+
+def warnings(bench) -> None:
+    """What other tools may read otherwise is told of a module and of a chip that are taken."""
+    text = (bench.folder / "examples" / "foreign" / "one_hot.v").read_text()
+    judged = ["examples/mats_plus.m", "examples/foreign/four.mem"]
+    for comment, column, why in (
+        ("// was \r wire", 8, "a carriage return that no line feed follows"),
+        ("// was \f wire", 8, "a form feed"),
+        ("// `ifdef", 4, "a back quote"),
+        ("/* a \0 */", 6, "a control byte"),
+        ("// a \\", 6, "a backslash that ends a line"),
+        ("/* synopsys translate_off */", 4, "a comment that tools which make gates obey"),
+        ("// full_case", 4, "a comment that tools which make gates obey"),
+        ("// pragma", 4, "a comment that tools which make gates obey"),
+    ):
+        (bench.folder / "warned.v").write_bytes(f"{comment}\n{text}".encode())
+        told = f"warned.v:1:{column}: warning: {why}"
+        bench.look(["./vidlakost", "check", "warned.v", *judged], 0, "conforms 43", told)
+        bench.look(["./vidlakost", "check", "warned.v", *judged], 0, "conforms 43", "", VIDLAKOST_EXPLAIN="0")
+    (bench.folder / "warned.v").write_bytes(text.replace("\n", "\r\n").encode())
+    bench.look(["./vidlakost", "check", "warned.v", *judged], 0, "conforms 43", "")
+    for name, why in (("logic", "SystemVerilog reserves 'logic'"), ("wdata_1", "'wdata_1' is also a port")):
+        (bench.folder / "named.chip").write_text(FILES["two.chip"].replace("name both", f"name {name}"))
+        bench.look(["./vidlakost", "chip", "named.chip", "named.v"], 0, "chip units 2", f"named.chip:2: warning: {why}")
+
+
+# ---- testbenches
+
+
+def testbenches(bench) -> None:
+    """A right controller with `always @*` passes in each version of the language, commands that can't be read end the run, and
+    Verilator has nothing to say of the assertions and of a chip."""
+    folder = bench.folder / "benches"
+    folder.mkdir()
+    text = (bench.folder / "examples" / "foreign" / "one_hot.v").read_text().replace("module one_hot", "module four_bist", 1)
+    text = text.replace("output en,", "output reg en,", 1).replace("assign en =", "always @* en =", 1)
+    (folder / "four_bist.v").write_text(text)
+    for option in ([], ["--sv"], ["--assert"]):
+        bench.look(["tools/testbench", "examples/mats_plus.m", "examples/foreign/four.mem", "benches", *option], 0, "benches/", "")
+    bench.look(["tools/testbench", "two.chip", "benches", "--chip"], 0, "benches/both_tb.v", "")
+    bench.look(["./vidlakost", "chip", "two.chip", "benches/both.v"], 0, "chip units 2", "")
+    if shutil.which("iverilog"):
+        for version, file in (("2005", "four_tb.v"), ("2012", "four_tb.v"), ("2012", "four_tb.sv")):
+            call = f"cd benches && iverilog -g{version} -o tb {file} four_bist.v && vvp -n tb"
+            bench.look(["bash", "-c", call], 0, "fail 0 done 42\n", "")
+            bench.is_so("differs" not in bench.run(["bash", "-c", call]).stdout, f"a right controller alarms: {version} {file}")
+        bench.look(["bash", "-c", "cd benches && iverilog -g2005 -o tb both_tb.v both.v && vvp -n tb"], 0, "fail 00 done 123\n", "")
+        for spoil in ("rm four_commands.hex", "echo 0 >four_commands.hex"):
+            call = f"cd benches && {spoil}; iverilog -g2005 -o tb four_tb.v four_bist.v && vvp -n tb"
+            bench.look(["bash", "-c", call], 1, "the commands could not be read", "")
+    if shutil.which("verilator"):
+        linted = "cd benches && verilator --lint-only -Wall"
+        bench.look(["bash", "-c", f"{linted} --assert --top-module four_bist four_rule.sv four_bist.v"], 0, "", "")
+        bench.look(["bash", "-c", f"{linted} -Wno-DECLFILENAME both.v"], 0, "", "")

@@ -1,0 +1,192 @@
+"""What the tools that ask Yosys share: names that its scripts can carry, what it says, and signals with two drivers."""
+from __future__ import annotations
+
+import dataclasses
+import json
+import pathlib
+import re
+import shutil
+import subprocess
+
+import common
+
+
+
+def want() -> None:
+    if shutil.which("yosys") is None:
+        raise common.ToolError("yosys is not on the PATH")
+
+
+def quoted(path) -> str:
+    """A file's name as a script carries it. What a script would read as more than a name is refused."""
+    name = str(path)
+    if not re.fullmatch(r"[\w./ +=,@%:-]+", name) or not name.isprintable():
+        raise common.ToolError(f"{common.shown(name)}: a name for Yosys has letters, digits, blanks and ./_+=,@%:- alone")
+    return f'"./{name}"' if name[0] in "-+" else f'"{name}"'
+
+
+def top_of(options: dict) -> str:
+    """What `hierarchy` is told of the top."""
+    if "--top" not in options:
+        return "-auto-top"
+    return f"-top {common.identifier(options['--top'], 'what --top names')}"
+
+
+def sources_of(files: list[str]) -> str:
+    """The sources as a script carries them; each has to be a file that is there, and may be a text of any bytes."""
+    for file in files:
+        pathlib.Path(file).read_bytes()
+    return " ".join(map(quoted, files))
+
+
+def run(script: str, folder: pathlib.Path, *flags: str) -> list[str]:
+    """The lines that Yosys says of a script; where it fails its error is told, with the warnings before it."""
+    file = folder / "script.ys"
+    file.write_text(script)
+    words = ["yosys", *flags, "-s", str(file)]
+    done = subprocess.run(words, stdin=subprocess.DEVNULL, stdout=subprocess.PIPE, stderr=subprocess.STDOUT, check=False)
+    lines = common.lines_of(done.stdout.decode("utf-8", "replace"))
+    if done.returncode:
+        errors = [line for line in lines if "ERROR" in line] or lines[-1:] or ["no reason is given"]
+        raise common.ToolError("\n".join([f"yosys refuses it: {errors[0]}", *warnings_in(lines)]), 1)
+    return lines
+
+
+def warnings_in(lines: list[str]) -> list[str]:
+    """The warnings among the lines, each with the indented lines behind it."""
+    found: list[str] = []
+    inside = False
+    for line in lines:
+        # Yosys' own names, of what it makes of a memory, say nothing to whoever wrote the sources
+        inside = "Warning: " in line and not re.search(r"Wire [^ ]+\.\$", line) or inside and line.startswith("    ")
+        if inside and line not in found:
+            found.append(line)
+    return found
+
+
+# ---- signals with two drivers
+
+
+def parts_of(signal: str) -> list[str]:
+    """The parts of a signal as RTLIL writes it: `\\a`, `\\a [3]`, `\\a [3:0]`, a constant, or several in braces."""
+    return re.findall(r"[\\$][^ ]+(?: \[[0-9:]+\])?|[0-9]+'[^ ]+", signal.strip().strip("{}"))
+
+
+def bits_of(part: str, widths: dict) -> list:
+    """The bits of a part; none of a constant."""
+    if part[0] not in "\\$":
+        return []
+    name, _, at = part.partition(" ")
+    if not at:
+        return [(name, bit) for bit in range(widths.get(name, 1))]
+    high, _, low = at[1:-1].partition(":")
+    return [(name, bit) for bit in range(int(low or high), int(high) + 1)]
+
+
+def left_of(line: str) -> str:
+    """The left side of a connection."""
+    body = line[len("connect ") :]
+    if body.startswith("{"):
+        return body[: body.index("}") + 1]
+    found = re.match(r"[^ ]+(?: \[[0-9:]+\])?", body)
+    return found[0] if found else ""
+
+
+def driven_twice(rtlil: str) -> str | None:
+    """A signal with two `assign`s, also where both are constants, which Yosys' `check` does not see."""
+    widths: dict[str, int] = {}
+    places: dict[str, str] = {}
+    driven: set = set()
+    depth, place = 0, ""
+    for line in map(str.strip, common.lines_of(rtlil)):
+        depth += line.startswith(("cell ", "process ", "switch ", "memory ")) - (line == "end")
+        if line.startswith("attribute \\src "):
+            place = line.split('"')[1]
+        found = re.fullmatch(r"wire (?:.* )?([\\$][^ ]+)", line)
+        if found:
+            width = re.search(r" width ([0-9]+) ", line)
+            widths[found[1]], places[found[1]] = int(width[1]) if width else 1, place
+        if depth > 0 or not line.startswith("connect "):
+            continue
+        for bit in [bit for part in parts_of(left_of(line)) for bit in bits_of(part, widths)]:
+            if bit in driven:
+                return f"{bit[0].lstrip(chr(92))} ({places.get(bit[0], 'no place')}) has two drivers"
+            driven.add(bit)
+    return None
+
+
+def driven_constant(module: dict) -> str | None:
+    """A cell whose output is tied to a constant."""
+    for cell in module["cells"].values():
+        for pin, bits in cell["connections"].items():
+            outward = cell.get("port_directions", {}).get(pin) == "output"
+            if outward and any(bit in ("0", "1", "x", "z") for bit in bits):
+                return f"what is driven at {cell['attributes'].get('src', 'no place')} is a constant elsewhere"
+    return None
+
+
+# ---- sources without initial values
+
+
+def without_initial(rtlil: str) -> tuple[str, bool]:
+    """The modules without what their `initial` blocks and initial values say, and whether they said anything. Of a register
+    that nothing else sets Yosys makes a constant where it reads them."""
+    kept: list[str] = []
+    process: list[str] | None = None
+    had = False
+    for line in common.lines_of(rtlil):
+        if line.startswith("  process "):
+            process = []
+        if process is None:
+            kept.append(line)
+            continue
+        process.append(line)
+        if line == "  end":
+            if any(part.strip() == "sync init" for part in process):
+                had = True
+                process = [part for part in process if not part.strip().startswith(("update ", "memwr "))]
+            kept += process
+            process = None
+    return "\n".join(kept) + "\n", had
+
+
+# what nothing drives is open: it may have any number in any cycle
+OPEN = "setundef -undriven -anyseq\n"
+
+
+@dataclasses.dataclass
+class Sources:
+    """What is read: the script that reads it without initial values and opens what nothing drives, the top's name and its
+    parts before anything is made simpler, and what there is to warn of."""
+
+    script: str
+    top: str
+    module: dict
+    warnings: list[str]
+
+
+def read(files: list[str], options: dict, folder: pathlib.Path) -> Sources:
+    """The sources; a signal with two drivers is refused."""
+    raw, plain, first, parts = (folder / name for name in ("raw.il", "plain.il", "first.il", "first.json"))
+    said = run(
+        f"read_verilog -sv {sources_of(files)}\nhierarchy -check {top_of(options)}\nwrite_rtlil {quoted(raw)}\n", folder, "-q"
+    )
+    text, had = without_initial(raw.read_bytes().decode("utf-8", "surrogateescape"))
+    plain.write_bytes(text.encode("utf-8", "surrogateescape"))
+    begin = f"read_rtlil {quoted(plain)}\nproc -noopt\nflatten\n"
+    said += run(f"{begin}write_rtlil {quoted(first)}\nwrite_json {quoted(parts)}\ncheck\n", folder, "-q")
+    name, module = top_module(parts)
+    twice = driven_twice(first.read_bytes().decode("utf-8", "replace")) or driven_constant(module)
+    if twice:
+        raise common.ToolError(twice, 1)
+    warnings = warnings_in(said)
+    if had or any(cell["type"].startswith("$meminit") for cell in module["cells"].values()):
+        warnings.append("initial values are left out")
+    script = f"{begin}delete t:$meminit*\nsetattr -unset init w:*\n{OPEN}check -assert\n"
+    return Sources(script, name, module, warnings)
+
+
+def top_module(path: pathlib.Path) -> tuple[str, dict]:
+    """The name of the top and what it is made of."""
+    modules = json.loads(path.read_bytes().decode("utf-8", "replace"))["modules"]
+    return next((name, module) for name, module in modules.items() if "top" in module["attributes"])
