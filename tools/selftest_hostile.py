@@ -176,6 +176,12 @@ def launcher(bench) -> None:
     begun = time.monotonic()
     bench.run(["./vidlakost", "judge", *map(str, range(3000))])
     bench.is_so(time.monotonic() - begun < 5, "3,000 words take more than five seconds")
+    (bench.folder / "many.chip").write_text("unit 1 c.m s.mem\n" * 60000)
+    begun = time.monotonic()
+    bench.look(["./vidlakost", "chip", "many.chip", "many.v"], 15, "chip C1", "many.chip:1:1: error: the first line")
+    bench.is_so(time.monotonic() - begun < 10, "a chip file of 60,000 units takes more than ten seconds")
+    for words in (["judge", "", "tf.list", "r"], ["judge", "c.m", "tf.list", ""], ["chip", "", "r"]):
+        bench.look(["./vidlakost", *words], 2, "usage", "vidlakost: error: ")
     once = "came by a pipe or a device, so its place is not shown"
     for call in ("judge <(cat wrong.m) tf.list out", "bench c.m <(cat range.mem)", "check <(cat token.v) c.m s.mem"):
         done = bench.run(["timeout", "20", "bash", "-c", f"./vidlakost {call}"])
