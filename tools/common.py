@@ -8,6 +8,7 @@ import dataclasses
 import os
 import pathlib
 import re
+import signal
 import subprocess
 import sys
 import tempfile
@@ -75,6 +76,9 @@ def start(main) -> None:
     if sys.stdout is None:
         tell(f"{name}: standard output is closed")
         sys.exit(8)
+    for number in (signal.SIGTERM, signal.SIGHUP):
+        if signal.getsignal(number) == signal.SIG_DFL:
+            signal.signal(number, stop)
     # what came as bytes that are no text, as the name of a folder, goes out as it came
     sys.stdout.reconfigure(encoding="utf-8", errors="surrogateescape")
     try:
@@ -106,6 +110,11 @@ def start(main) -> None:
         sys.exit(2)
     except KeyboardInterrupt:
         sys.exit(130)
+
+
+def stop(number: int, frame: object) -> None:
+    """Ends a tool by a signal, so that what it began ends with it, and its own files are removed."""
+    raise SystemExit(128 + number)
 
 
 def leave(status: int) -> None:
@@ -842,6 +851,8 @@ def take_line(report: Report, line: str, is_second: bool) -> str | None:
         report.classes[kind["kind"]] = (int(kind["count"]), int(kind["covered"]))
     elif verdict and not report.classes:
         report.verdicts.append(verdict)
+        if len(report.verdicts) > 1024:
+            return "this is the 1,025th primitive, and a list has at most 1,024"
         try:
             return None if verdict.covered else check_escape(verdict, report.elements)
         except ToolError as error:

@@ -30,6 +30,7 @@ FILES.update(
         "shape.report": REPORT.replace("\ncovered", "\nmemory <b>x words 4 bits 1 backgrounds 1 commands 40\ncovered", 1),
         "long.report": LONG,
         "quoted\nname.v": FILES["free.v"],
+        "many.report": REPORT.replace("covered <0w1/0/-> TF\n", "covered <0w1/0/-> TF\n" * 1100),
         "sum.report": REPORT.replace("total 2", "total " + "9" * 5000),
     }
 )
@@ -50,6 +51,7 @@ CALLS = [
     ("", ["tools/report", "mark.report", "--html", "m.html"], 2, "", "report: mark.report:4: the line is none of a report's"),
     ("", ["tools/report", "shape.report", "--html", "m.html"], 2, "", "report: shape.report:2: the line is none"),
     ("", ["tools/report", "long.report", "--html", "m.html"], 2, "", "report: long.report:3: the line is none"),
+    ("", ["tools/trace", "many.report"], 2, "", "trace: many.report:1026: this is the 1,025th primitive"),
     ("", ["tools/report", "sum.report", "--json"], 2, "", "report: sum.report:5: the last line is no total"),
     ("yosys", ["tools/plain", "plain.v", "free.v", "--top", "t; shell touch harmed"], 2, "", "plain: what --top names is"),
     ("yosys", ["tools/plain", "plain.v", 'a"; shell touch harmed; ".v'], 2, "", "plain: a\"; shell"),
@@ -63,15 +65,20 @@ CALLS = [
 
 SUB = "module sub(input i, output o); assign o = i; endmodule\n"
 HELD = ("state[4:0] != 5'b00000", "state[4:0] != 5'b00000 && !hold")
+TABLE = "reg t [0:1]; initial begin t[0] = 0; t[1] = 0; end wire hold = t[second];"
+# what is declared in front of `hold`, or what holds it
+OPEN = {
+    "a register that nothing sets": "reg hold;",
+    "a register that is only cleared": "reg hold; always @(posedge clk) if (state[1]) hold <= 0;",
+    "an initial value alone": "reg hold = 0;",
+    "an initial block": "reg hold; initial hold = 0;",
+    "a mistyped name": "",
+    "an open input": "wire hold; sub it(.o(hold));",
+    "an x": "wire hold; assign hold = 1'bx;",
+    "a table with initial values": TABLE,
+}
 OPEN_CONTROLLERS = [
-    ("a register that nothing sets", [HELD, ("reg failed;", "reg failed, hold;")]),
-    ("a register that is only cleared", [HELD, ("reg failed;", "reg failed, hold;\n always @(posedge clk) if (state[1]) hold <= 0;")]),
-    ("an initial value alone", [HELD, ("reg failed;", "reg failed; reg hold = 0;")]),
-    ("an initial block", [HELD, ("reg failed;", "reg failed; reg hold; initial hold = 0;")]),
-    ("a mistyped name", [HELD]),
-    ("an open input", [HELD, ("reg failed;", "reg failed; wire hold; sub it(.o(hold));"), ("module one_hot", SUB + "module one_hot")]),
-    ("an x", [HELD, ("reg failed;", "reg failed; wire hold; assign hold = 1'bx;")]),
-    ("a table with initial values", [HELD, ("reg failed;", "reg failed; reg t [0:1]; initial begin t[0] = 0; t[1] = 0; end wire hold = t[second];")]),
+    (what, [HELD, ("reg failed;", f"reg failed; {more}"), ("module one_hot", SUB + "module one_hot")]) for what, more in OPEN.items()
 ]
 TWO_DRIVERS = [
     ("done = 1'b0", [("reg failed;", "reg failed; assign done = 1'b0;")]),
@@ -100,9 +107,11 @@ def controllers(bench) -> None:
         controller(bench, edits)
         plain = bench.run(["tools/plain", "edited.plain.v", "edited.v"])
         said = bench.run(["./vidlakost", "check", "edited.plain.v", *judged]).stdout
-        bench.is_so(plain.returncode == 0 and said == "unknown cycle 1 port en\n", f"{what}: check says {said!r} {plain.stderr!r}")
+        is_open = plain.returncode == 0 and said == "unknown cycle 1 port en\n"
+        bench.is_so(is_open, f"{what}: check says {said!r} {plain.stderr!r}")
         done = bench.run(["tools/formal", "edited.v", *judged])
-        bench.is_so(done.returncode == 1 and done.stdout == "differs in cycle 1\n", f"{what}: tools/formal says {done.stdout!r}")
+        differs = done.returncode == 1 and done.stdout == "differs in cycle 1\n"
+        bench.is_so(differs, f"{what}: tools/formal says {done.stdout!r}")
     for what, edits in TWO_DRIVERS:
         controller(bench, edits)
         for words in (["tools/plain", "edited.plain.v", "edited.v"], ["tools/formal", "edited.v", *judged]):
@@ -165,6 +174,9 @@ def launcher(bench) -> None:
         told = f"vidlakost: the program {silent} ended with status 1 and without an answer"
         bench.look(["./vidlakost", "sim", "c.m"], 125, "", told, VIDLAKOST_PROGRAM=silent, VIDLAKOST_EXPLAIN=explain)
     bench.look(["./vidlakost", "sim"], 125, "", "vidlakost: VIDLAKOST_PROGRAM names", VIDLAKOST_PROGRAM=str(bench.folder))
+    slow = program(bench, "slow", "#!/bin/sh\nsleep 11\necho conforms 3\n")
+    long = "vidlakost: still running: a test takes at most 2,000,000 cycles"
+    bench.look(["./vidlakost", "check", "c.m", "c.m", "s.mem"], 0, "conforms 3", long, VIDLAKOST_PROGRAM=slow)
     for words in (["--stale", "--help"], ["--stale", "help"]):
         bench.look(["./vidlakost", *words], 0, "To begin with:", "")
     bench.look(["./vidlakost", "--stael", "judge"], 2, "", "vidlakost: there is no option '--stael'")
