@@ -1,16 +1,14 @@
 -- In the open run of a plan's module each output has the number that the rule of the ports says.
-use Rattle.std.proofs.Common.{◌≡◌, ◌≢◌, ℕ, zero, suc, ◌+◌, ◌^◌, ◌<◌, ◌≤◌, ◌==◌, Bool, true, false, cond, List, [], ◌∷◌, Option, Some, None, refl, sym, ap, ◌∙◌, subst, arith, slice_get, zero-add}
+use Rattle.std.proofs.Common.{◌≡◌, ◌≢◌, ℕ, zero, suc, ◌+◌, ◌^◌, ◌<◌, ◌==◌, Bool, true, false, cond, List, [], ◌∷◌, Option, Some, None, refl, sym, ap, ◌∙◌, subst, arith, slice_get, zero-add}
 use Rattle.std.specs.Prelude.{slice_index}
 use Rattle.std.specs.Str.{bytes_eq}
 use Rattle.std.proofs.lemmas.Nat.{pow_pos}
-use Rattle.std.proofs.lemmas.Slice.Eq.{bytes_eq-Decides}
 use Rattle.verilog_tree.specs.Meaning.{Env, bit}
 use Rattle.march_core.specs.March.{MarchElement, IsMarch}
 use Rattle.memory_desc.specs.Descriptions.{Description, IsMemory}
 use Rattle.word_march.specs.declared.operations.PortOp.{PortOp}
 use Rattle.word_march.specs.Commands.{port_ops}
 use Rattle.word_march.specs.PortRule.{PortRule, SomeReadDiffers, cycle_of}
-use Rattle.controller.specs.Machine as M
 use Rattle.controller.specs.Standing.{Stands}
 use Rattle.controller.proofs.Turn.{turns}
 use Rattle.controller.proofs.Slots as S
@@ -21,7 +19,7 @@ use Rattle.self_test.specs.SelfTest.{reset_at, AreInputs}
 use Rattle.self_test.specs.Numbers.{AnswerReads, inputs_at, HasNumbers, CycleHasNumbers, ShowsNumbers}
 use Rattle.verilog_open.specs.Open.{OpenEnv, IsOpenRunOf}
 use Rattle.verilog_open.specs.Known.{Known}
-use Rattle.verilog_open.specs.Laws.{Allows, AllowsEnv}
+use Rattle.verilog_open.specs.Laws.{Allows}
 use Rattle.verilog_open.proofs.Settling.{one_open_settles}
 use Rattle.verilog_open.proofs.Histories.{inputs_from}
 use Rattle.rtl_layout.specs.Plan.{Plan}

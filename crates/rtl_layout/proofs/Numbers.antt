@@ -1,17 +1,17 @@
 -- In the open run of the module each output has a number, where `rdata` has one whenever it is compared.
-use Rattle.std.proofs.Common.{◌≡◌, ℕ, zero, suc, ◌+◌, ◌^◌, ◌<◌, Bool, true, false, cond, List, [], ◌∷◌, ◌++◌, Option, Some, None, refl, sym, ap, ◌∙◌, subst, arith, slice_get, zero-add, inl, inr}
+use Rattle.std.proofs.Common.{◌≡◌, ℕ, zero, suc, ◌+◌, ◌^◌, ◌<◌, Bool, true, false, cond, List, [], ◌∷◌, ◌++◌, Option, Some, None, refl, sym, ap, ◌∙◌, subst, arith, slice_get, zero-add}
 use Rattle.std.proofs.lemmas.Option.{same_Some}
 use Rattle.std.proofs.lemmas.Nat.{pow_pos}
 use Rattle.verilog_tree.specs.declared.names.Kind.TheVariants as K
 use Rattle.verilog_tree.specs.declared.tree.BinOp.TheVariants.{Ne}
 use Rattle.verilog_tree.specs.Plain.{Expression, Net, ModuleItem}
-use Rattle.verilog_tree.specs.Names.{Declaration, declarations, item_declarations, lookup, is_clk}
+use Rattle.verilog_tree.specs.Names.{Declaration, declarations, lookup, is_clk}
 use Rattle.verilog_tree.specs.Formed.{formed}
 use Rattle.verilog_tree.specs.Meaning.{Env, History, bit, truth, next, names_widths}
 use Rattle.verilog_tree.specs.Rules.{first_break}
-use Rattle.verilog_tree.specs.Wires.{driver, Falls}
-use Rattle.verilog_tree.proofs.Clean.{Each, found}
-use Rattle.verilog_open.specs.Open.{OpenEnv, open_infixed, open_choice, open_value, open_next, open_registers, IsOpenRunOf}
+use Rattle.verilog_tree.specs.Wires.{driver}
+use Rattle.verilog_tree.proofs.Clean.{found}
+use Rattle.verilog_open.specs.Open.{OpenEnv, open_infixed, open_choice, open_value, open_registers, IsOpenRunOf}
 use Rattle.verilog_open.specs.Known.{Known, AreKnown, RegistersKnown}
 use Rattle.verilog_open.specs.Laws.{Allows, AllowsEnv}
 use Rattle.verilog_open.proofs.Known.{clear_are_known}
@@ -20,11 +20,10 @@ use Rattle.verilog_open.proofs.Runs.{each_allowed}
 use Rattle.verilog_open.proofs.Histories.{inputs_from, inputs_at, Lasts, lasts}
 use Rattle.rtl_layout.specs.Plan.{Plan, several}
 use Rattle.rtl_layout.specs.Layout as L
-use Rattle.rtl_layout.specs.Control.{Control, start, step}
 use Rattle.rtl_layout.specs.Shows.{Ready, Sized}
 use Rattle.rtl_layout.specs.inner.Shows.{Shows}
-use Rattle.rtl_layout.specs.Numbers.{machine_at, one_reset, inputs_with, Tell, AllNumbers, NumbersAlways}
-use Rattle.rtl_layout.proofs.Clear.{clear, items_clear, inputs_known, not_true, no_inputs}
+use Rattle.rtl_layout.specs.Numbers.{machine_at, one_reset, inputs_with, Tell, NumbersAlways}
+use Rattle.rtl_layout.proofs.Clear.{clear, items_clear, inputs_known, no_inputs}
 use Rattle.rtl_layout.proofs.Sets.{registers_restarted, registers_kept, want_kept, bad_set}
 use Rattle.rtl_layout.proofs.Stages.{Ageless, lookup_behind}
 use Rattle.rtl_layout.proofs.Step.{turn, last_is}
@@ -124,7 +123,6 @@ module _ (p : Plan) (ready : Ready p) (sized : Sized p) where
   -- ---- a history with these words
 
   module _ (words : ℕ → ℕ) (within : (t : ℕ) → words t < 2 ^ p.bits) where
-
     abbrev IsNarrow : ℕ → Declaration → Type 0
     IsNarrow t d = d.kind ≡ K.Input → is_clk d.name ≡ false → inputs_with words t d.name < 2 ^ d.width
 

@@ -8,7 +8,6 @@ use Rattle.verilog_open.specs.Laws.{AllowsEnv}
 use Rattle.rtl_layout.specs.Plan.{Plan}
 use Rattle.rtl_layout.specs.Layout.{reset, rdata, en, we, addr, wdata, done, fail, self_test}
 use Rattle.rtl_layout.specs.Control.{Control, start, step}
-use Rattle.rtl_layout.specs.Shows.{Ready, Sized}
 
 -- the machine of cycle t+1, where these words stand on `rdata`, by cycle
 abbrev pub machine_at : Plan → (ℕ → ℕ) → ℕ → Control
