@@ -3,6 +3,7 @@
 The cells are those of osu018 (0.18 micrometres), which come with qflow; nothing is placed. What the mapper and the
 buffers choose hangs on the order in which they meet equal logic, so a figure scatters by up to a tenth: a module is
 mapped three times, with other names inside, and a figure is the middle one of the three."""
+import hashlib
 import os
 import re
 import shutil
@@ -65,12 +66,18 @@ def begin_project(folder: str) -> None:
     open(os.path.join(folder, "project_vars.sh"), "w").close()
 
 
+def renamed(text: str, seed: int) -> str:
+    """A module with other names inside, so that tools meet them in another order."""
+    names = set(re.findall(r"\b(?:reg|wire)\s+(?:\[[^]]*\]\s*)?(\w+)\s*;", text))
+    new = {name: f"n{hashlib.sha256(f'{seed} {name}'.encode()).hexdigest()[:8]}_{name}" for name in names}
+    return re.sub(r"\w+", lambda found: new.get(found.group(), found.group()), text)
+
+
 def write_source(module: str, seed: int, path: str) -> None:
     """The module as it is, or with other names inside, which change the order of the mapper's choices."""
-    if seed == 0:
-        shutil.copy(module, path)
-        return
-    run("yosys", "-q", "-p", f"read_verilog {module}; proc; rename -scramble-name -seed {seed}; write_verilog -noattr {path}")
+    with open(module) as source, open(path, "w") as copy:
+        text = source.read()
+        copy.write(renamed(text, seed) if seed else text)
 
 
 def megahertz_by_opensta(folder: str, netlist: str, top: str) -> int:
@@ -97,7 +104,7 @@ def mapped_once(module: str, top: str, seed: int, folder: str) -> Figures:
         with open(os.path.join(folder, "log", "sta.log")) as file:
             vesta = re.search(r"zero margin\) = ([\d.]+)", file.read())
     except OSError:
-        raise SystemExit(f"qflow made no netlist of {module}; it says:\n{said}")
+        raise SystemExit(f"qflow made no netlist of {module}; it ends with:\n{said[-400:]}")
     if vesta is None:
         raise SystemExit(f"vesta finds no path in {netlist}")
     areas = cell_areas()
