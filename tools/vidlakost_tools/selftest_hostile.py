@@ -8,7 +8,7 @@ import signal
 import subprocess
 import time
 
-from selftest_cases import FILES, REPORT
+from vidlakost_tools.selftest_cases import FILES, REPORT
 
 LOOSE = "memory 1\nname s # was\rname {name}\nwords 4 # was\rwords 8\nbits 1\n"
 LONG = REPORT.replace("content 00", "content " + "01" * 4000)
