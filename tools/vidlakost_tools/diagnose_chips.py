@@ -3,9 +3,10 @@ from __future__ import annotations
 
 import re
 
-import common
-from diagnose_texts import Description, early, repeated, unexpected
-from finding import Finding, at_of, thousands
+from vidlakost_tools.diagnose_texts import Description, early, repeated, unexpected
+from vidlakost_tools.finding import Finding, at_of, thousands
+from vidlakost_tools.memory import parse_memory
+from vidlakost_tools.text import read_described
 
 KEYWORDS = "chip name budget unit".split()
 FIELDS = {
@@ -75,7 +76,7 @@ def units(description: Description) -> list[tuple[int, str, str]]:
 def same_name(description: Description, number: int) -> Finding:
     """C8: the memory of a unit has an earlier one's name, or its module has the chip's."""
     rows = units(description)
-    names = [common.parse_memory(common.read_described(memory)).name for _, _, memory in rows[: number + 1]]
+    names = [parse_memory(read_described(memory)).name for _, _, memory in rows[: number + 1]]
     line, _, memory = rows[number]
     if names[number] in names[:number]:
         why = f"its memory has the name of unit {names.index(names[number])}, '{names[number]}'"
@@ -89,6 +90,6 @@ def unit_call(chip_file: str, said: str) -> tuple[list[str], str]:
     match = re.fullmatch(r"unit (\d+) (.*)", said)
     if match is None:
         raise ValueError(said)
-    text = common.read_described(chip_file)
+    text = read_described(chip_file)
     _, march, memory = units(Description(chip_file, text.encode()))[int(match[1])]
     return ["bench", march, memory], match[2]

@@ -2,7 +2,9 @@
 any other is compared. It is written from the description, as a designer would write one, with counters and tables."""
 from __future__ import annotations
 
-import common
+from vidlakost_tools.march import Element
+from vidlakost_tools.memory import Memory
+from vidlakost_tools.verilog import ranged
 
 RULE = """// The rule of the ports of a self-test of {name}, for the march {march}.
 // In each cycle from the first with reset on: while reset is 1, en, done and fail are 0; from the cycle behind it on the
@@ -126,7 +128,7 @@ def arms(pairs) -> str:
     return "".join(f"      {label}: {value};\n" for label, value in pairs)
 
 
-def rule(elements: list[common.Element], memory: common.Memory) -> str:
+def rule(elements: list[Element], memory: Memory) -> str:
     """The text of the assertions."""
     numbered = list(enumerate(elements))
     operations = [
@@ -142,8 +144,8 @@ def rule(elements: list[common.Element], memory: common.Memory) -> str:
     return RULE.format(
         name=memory.name,
         march=";".join(element.text for element in elements),
-        word=common.ranged(memory.bits),
-        index=common.ranged(memory.width),
+        word=ranged(memory.bits),
+        index=ranged(memory.width),
         latency=memory.latency,
         bits=memory.bits,
         polarity=memory.polarity,

@@ -6,7 +6,11 @@ import pathlib
 import re
 import tempfile
 
-import common
+from vidlakost_tools.march import Element, march_of
+from vidlakost_tools.memory import Memory, read_memory
+from vidlakost_tools.program import run
+from vidlakost_tools.text import lines_of, read_described, words_in
+from vidlakost_tools.tool import Refused, ToolError, identifier, number_of
 
 
 @dataclasses.dataclass
@@ -16,8 +20,8 @@ class Unit:
     weight: int
     march: str
     memory_file: str
-    elements: list[common.Element]
-    memory: common.Memory
+    elements: list[Element]
+    memory: Memory
     group: int = 0
     start: int = 0
 
@@ -68,9 +72,9 @@ def place(chip: Chip) -> None:
 def check_with_program(path) -> None:
     """Hands on a refusal of the program."""
     with tempfile.TemporaryDirectory() as folder:
-        status, said = common.run("chip", path, pathlib.Path(folder) / "chip.v")
+        status, said = run("chip", path, pathlib.Path(folder) / "chip.v")
     if status > 2 or status < 0:
-        raise common.Refused(["chip", str(path), "chip.v"], said, status)
+        raise Refused(["chip", str(path), "chip.v"], said, status)
 
 
 def read_chip(path) -> Chip:
@@ -78,22 +82,22 @@ def read_chip(path) -> Chip:
     check_with_program(path)
     said: dict[str, str] = {}
     units = []
-    for count, line in enumerate(common.lines_of(common.read_described(path)), 1):
-        words = common.words_in(line)
+    for count, line in enumerate(lines_of(read_described(path)), 1):
+        words = words_in(line)
         form = " ".join(words)
         if re.fullmatch(r"(chip|name|budget) \S+", form):
             said[words[0]] = words[1]
         elif re.fullmatch(r"unit [0-9]{1,9} \S+ \S+", form):
-            elements = common.march_of(words[2])[1]
-            units.append(Unit(int(words[1]), words[2], words[3], elements, common.read_memory(words[3])))
+            elements = march_of(words[2])[1]
+            units.append(Unit(int(words[1]), words[2], words[3], elements, read_memory(words[3])))
         elif form:
-            raise common.ToolError(f"{path}:{count}: this is no line of a chip file")
+            raise ToolError(f"{path}:{count}: this is no line of a chip file")
     for word in ("name", "budget"):
         if word not in said:
-            raise common.ToolError(f"{path}: the line '{word}' is missing")
-    chip = Chip(common.identifier(said["name"], "the name of a chip"), common.number(said["budget"], "budget", 1), units)
+            raise ToolError(f"{path}: the line '{word}' is missing")
+    chip = Chip(identifier(said["name"], "the name of a chip"), number_of(said["budget"], "budget", 1), units)
     heavy = next((number for number, unit in enumerate(units) if not 1 <= unit.weight <= chip.budget), None)
     if not units or heavy is not None:
-        raise common.ToolError(f"{path}: there is no unit" if not units else f"{path}: unit {heavy} is above the budget")
+        raise ToolError(f"{path}: there is no unit" if not units else f"{path}: unit {heavy} is above the budget")
     place(chip)
     return chip

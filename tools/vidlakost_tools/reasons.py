@@ -1,10 +1,12 @@
 """Why an escape of a report escapes: what the march lacks, or what hides the fault, from a run of the plain model."""
 from __future__ import annotations
 
-import common
+from vidlakost_tools.faults import Step
+from vidlakost_tools.march import Element
+from vidlakost_tools.report import Verdict
 
 
-def meets_alone(verdict: common.Verdict, steps: list[common.Step]) -> bool:
+def meets_alone(verdict: Verdict, steps: list[Step]) -> bool:
     """Whether the first operation of a primitive comes at its own cell in its state, whatever the other cell holds."""
     array = verdict.array()
     state, operation = array.senses[array.actor].state, array.operations[0]
@@ -16,7 +18,7 @@ def meets_alone(verdict: common.Verdict, steps: list[common.Step]) -> bool:
     return False
 
 
-def why_never(verdict: common.Verdict, elements: list[common.Element], steps: list[common.Step]) -> str:
+def why_never(verdict: Verdict, elements: list[Element], steps: list[Step]) -> str:
     """What the march lacks where a primitive never acts."""
     array = verdict.array()
     operations = array.operations
@@ -40,12 +42,12 @@ def where(element: int | None) -> str:
     return "before the march" if element is None else f"in element {element}"
 
 
-def later(steps: list[common.Step], place: int, victim: int) -> common.Step | None:
+def later(steps: list[Step], place: int, victim: int) -> Step | None:
     """The next operation on the victim."""
     return next((step for step in steps[place + 1 :] if step.cell == victim), None)
 
 
-def hidden(verdict: common.Verdict, steps: list[common.Step]) -> list[str]:
+def hidden(verdict: Verdict, steps: list[Step]) -> list[str]:
     """Of each time that a primitive acts why no read shows it."""
     found = []
     for place, step in enumerate(steps):
@@ -62,7 +64,7 @@ def hidden(verdict: common.Verdict, steps: list[common.Step]) -> list[str]:
     return list(dict.fromkeys(found))
 
 
-def reason(verdict: common.Verdict, elements: list[common.Element]) -> tuple[str, list[common.Step]]:
+def reason(verdict: Verdict, elements: list[Element]) -> tuple[str, list[Step]]:
     """Why an escape escapes, and its steps."""
     steps = list(verdict.array().march(elements, verdict.directions))
     if steps[-1].differs:

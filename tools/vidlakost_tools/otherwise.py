@@ -5,8 +5,8 @@ from __future__ import annotations
 import pathlib
 import re
 
-import common
-from finding import place
+from vidlakost_tools.finding import place
+from vidlakost_tools.text import read_described, statements
 
 COMMENT = re.compile(rb"//[^\n]*|/\*.*?\*/", re.DOTALL)
 # what may stand in a comment, or as a blank, and why another tool may go another way
@@ -62,8 +62,8 @@ def of_module(name: str, text: bytes) -> list[str]:
 
 def of_chip(name: str, text: str) -> list[str]:
     """The warnings of a chip file: its name, as the name of a module, beside the words and ports that are taken."""
-    said = [(line, rest) for line, word, rest in common.statements(text) if word == "name"]
-    units = sum(word == "unit" for _, word, _ in common.statements(text))
+    said = [(line, rest) for line, word, rest in statements(text) if word == "name"]
+    units = sum(word == "unit" for _, word, _ in statements(text))
     ports = {"clk", "reset", "done", "fail"} | {
         f"{port}_{unit}" for port in ("rdata", "en", "we", "addr", "wdata") for unit in range(units)
     }
@@ -80,5 +80,5 @@ def warnings_of(words: list[str]) -> list[str]:
     if words[:1] in (["check"], ["benchfile"]) and len(words) == 4:
         return of_module(words[1], pathlib.Path(words[1]).read_bytes())
     if words[:1] == ["chip"] and len(words) == 3:
-        return of_chip(words[1], common.read_described(words[1]))
+        return of_chip(words[1], read_described(words[1]))
     return []

@@ -6,8 +6,11 @@ from __future__ import annotations
 import dataclasses
 import sys
 
-import common
-from diagnose_verilog import LEVELS, LEXEME
+from vidlakost_tools.march import Element, elements_of
+from vidlakost_tools.memory import Memory, parse_memory
+from vidlakost_tools.text import read_described, read_text
+from vidlakost_tools.tool import ToolError
+from vidlakost_tools.verilog import LEVELS, LEXEME
 
 PREFIXES = ("~", "!", "&", "|", "^")
 # the ports that have a number or none in each cycle; `fail` is not looked at
@@ -333,7 +336,7 @@ def order_of(module: Module) -> list[str]:
         if name not in module.assigns or order.get(name):
             return
         if name in order:
-            raise common.ToolError(f"'{name}' stands in a loop of wires")
+            raise ToolError(f"'{name}' stands in a loop of wires")
         order[name] = False
         for read in sorted(module.reads[name]):
             place(read)
@@ -363,7 +366,7 @@ def cycles_of(module: Module):
 # ---- what the ports have to be
 
 
-def commands_of(elements: list[common.Element], memory: common.Memory):
+def commands_of(elements: list[Element], memory: Memory):
     """Of each cycle behind the reset, to the last of the march, its command: whether it writes, address and word; None in
     a pause."""
     ones = (1 << memory.bits) - 1
@@ -388,7 +391,7 @@ def compared(command, done: bool) -> list[tuple[str, int]]:
     return [*ports, ("done", int(done))]
 
 
-def line_of(module: Module, elements: list[common.Element], memory: common.Memory) -> str:
+def line_of(module: Module, elements: list[Element], memory: Memory) -> str:
     """What `check` says of a module."""
     commands = [None, *commands_of(elements, memory), *[None] * (memory.latency + 1)]
     last = len(commands) - 1
@@ -403,18 +406,18 @@ def line_of(module: Module, elements: list[common.Element], memory: common.Memor
 
 def read_module(path) -> Module:
     """The module of a file that the program accepts."""
-    reader = Reader(common.read_described(path))
+    reader = Reader(read_described(path))
     try:
         module = reader.module()
     except (ValueError, KeyError, IndexError) as error:
-        raise common.ToolError(f"{path}:{reader.line()}: this is no module of the subset: {error}") from error
+        raise ToolError(f"{path}:{reader.line()}: this is no module of the subset: {error}") from error
     missing = [port for port in ("reset", "rdata", *PORTS) if port not in module.widths]
     if missing:
-        raise common.ToolError(f"{path} has no port '{missing[0]}'")
+        raise ToolError(f"{path} has no port '{missing[0]}'")
     return module
 
 
 def told(verilog, march, memory) -> str:
     """The line of `check VERILOG MARCH MEMORY`, by this model."""
-    elements, described = common.elements_of(common.read_text(march)), common.parse_memory(common.read_described(memory))
+    elements, described = elements_of(read_text(march)), parse_memory(read_described(memory))
     return line_of(read_module(verilog), elements, described)

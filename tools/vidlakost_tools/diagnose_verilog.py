@@ -5,28 +5,15 @@ import dataclasses
 import re
 import sys
 
-import common
-from diagnose_texts import early, unexpected
-from finding import Finding, listed
+from vidlakost_tools.diagnose_texts import early, unexpected
+from vidlakost_tools.finding import Finding, listed
+from vidlakost_tools.memory import Memory, parse_memory
+from vidlakost_tools.text import read_described
+from vidlakost_tools.verilog import LEVELS, LEXEME, RANK, Token
 
 WORDS = ("module input output wire reg assign always begin end if else case default endcase endmodule posedge").split()
-LEXEME = re.compile(
-    r"(?:\s|//[^\n]*|/\*.*?\*/)+|(?P<literal>\d+'[bodhBODH][0-9a-fA-F_]+)|(?P<number>\d+)|(?P<name>[A-Za-z_][\w$]*)|"
-    r"(?P<mark><=|>=|==|!=|&&|\|\||<<|>>|~&|~\||~\^|\^~|.)",
-    re.DOTALL | re.ASCII,
-)
-# operators of two operands, from the loosest to the tightest, for modules without all their parentheses
-LEVELS = ["||", "&&", "|", "^", "&", "== !=", "< <= > >=", "<< >>", "+ -"]
-RANK = {mark: rank for rank, level in enumerate(LEVELS) for mark in level.split()}
 ONE_BIT = {"==", "!=", "<", "<=", ">", ">=", "&&", "||"}
 FREE = {"&&", "||", "<<", ">>"}
-
-
-@dataclasses.dataclass
-class Token:
-    kind: str
-    text: str
-    at: int
 
 
 @dataclasses.dataclass
@@ -312,7 +299,7 @@ def loop(name: str, text: bytes, module: Module, names: list[str]) -> Finding:
     )
 
 
-def wanted_ports(memory: common.Memory) -> dict[str, tuple[str, int]]:
+def wanted_ports(memory: Memory) -> dict[str, tuple[str, int]]:
     """The ports of the self-test of a memory."""
     return {
         "clk": ("input", 1),
@@ -331,7 +318,7 @@ def bits(width: int) -> str:
     return "1 bit" if width == 1 else f"{width} bits"
 
 
-def port(name: str, text: bytes, what: str, memory: common.Memory) -> Finding:
+def port(name: str, text: bytes, what: str, memory: Memory) -> Finding:
     """The port that is not as the self-test of a memory has it."""
     module, wanted = Module(text), wanted_ports(memory)
     if what not in wanted:
@@ -363,7 +350,7 @@ def verilog(name: str, text: bytes, code: str, values: dict, memory_file: str | 
     if code == "L2":
         return early("verilog", name, text, "the module")
     if code == "B2":
-        return port(name, text, values["name"], common.parse_memory(common.read_described(memory_file)))
+        return port(name, text, values["name"], parse_memory(read_described(memory_file)))
     if code[0] == "N":
         return rule(name, text, code, values)
     at = int(values["byte"])

@@ -1,4 +1,4 @@
-"""Inputs of somebody who means harm, and what the launcher and the tools have to do of each; `tools/selftest` goes through
+"""Inputs of somebody who means harm, and what the launcher and the tools have to do of each; `vidlakost selftest` goes through
 them."""
 from __future__ import annotations
 
@@ -8,7 +8,7 @@ import signal
 import subprocess
 import time
 
-from selftest_cases import FILES, REPORT
+from vidlakost_tools.selftest_cases import FILES, REPORT
 
 LOOSE = "memory 1\nname s # was\rname {name}\nwords 4 # was\rwords 8\nbits 1\n"
 LONG = REPORT.replace("content 00", "content " + "01" * 4000)

@@ -6,11 +6,15 @@ import os
 import pathlib
 import re
 
-import common
-import diagnose_chips
-import diagnose_texts
-import diagnose_verilog
-from finding import Trier, close_to, listed, thousands
+from vidlakost_tools import diagnose_chips, diagnose_texts, diagnose_verilog
+from vidlakost_tools.faults import place_of, read_primitive
+from vidlakost_tools.finding import Trier, close_to, listed, thousands
+from vidlakost_tools.march import elements_of
+from vidlakost_tools.memory import Memory, parse_memory
+from vidlakost_tools.program import FORMATS, commands, form_of
+from vidlakost_tools.tasks import tools
+from vidlakost_tools.text import lines_of, read_described, read_text, visible
+from vidlakost_tools.tool import ToolError
 
 # the word of a call whose text a refusal speaks of
 SUBJECTS = {
@@ -47,7 +51,7 @@ def values_of(code: str, rest: str) -> dict:
 
 def words_by_name(words: list[str]) -> dict:
     """The words of a call by their names in the command's form."""
-    return dict(zip(common.form_of(words[0])[1:], words[1:])) if words else {}
+    return dict(zip(form_of(words[0])[1:], words[1:])) if words else {}
 
 
 def is_there_still(word: str) -> bool:
@@ -64,7 +68,7 @@ def once(word: str, said: str) -> list[str]:
 
 def meanings():
     """The pattern of each refusal of the tables of FORMATS, and when it comes."""
-    for line in common.lines_of(common.read_text(common.FORMATS)):
+    for line in lines_of(read_text(FORMATS)):
         cells = [cell.strip() for cell in re.split(r"(?<!\\)\|", line)[1:-1]]
         form = re.fullmatch(r"`((?:march|memory|fault|verilog|chip) [A-Z][0-9]+)\b.*`", cells[0]) if len(cells) >= 2 else None
         if form:
@@ -170,15 +174,15 @@ def wrong_cell(name: str, word: str, named: dict, size: int | None) -> str | Non
 
 def usage(words: list[str]) -> list[str]:
     """What is wrong with the words of a call."""
-    names = [command.name for command in common.commands()]
+    names = [command.name for command in commands()]
     if not words or words[0] not in names:
-        meant = close_to(words[0], names) if words else None
+        meant = close_to(words[0], [*names, *tools()]) if words else None
         what = f"'{words[0]}' is no command" if words else "there is no command"
         return [
             f"{CONSOLE}: error: {what}" + (f"; did you mean '{meant}'?" if meant else ""),
             f"  the commands are {listed(names, 'and')}",
         ]
-    form = common.form_of(words[0])
+    form = form_of(words[0])
     line = [f"  usage: {CONSOLE} {' '.join(form)}"]
     if len(words) != len(form):
         few = len(words) < len(form)
@@ -252,8 +256,8 @@ def file_of(words: list[str], said: str) -> list[str]:
 # ---- cells, directions and cycles
 
 
-def memory_file(named: dict) -> common.Memory:
-    return common.parse_memory(common.read_described(named["MEMORY"]))
+def memory_file(named: dict) -> Memory:
+    return parse_memory(read_described(named["MEMORY"]))
 
 
 def device(words: list[str], said: str) -> list[str]:
@@ -273,7 +277,7 @@ def device(words: list[str], said: str) -> list[str]:
     for name in ("AGG", "VIC"):
         if named[name] == "none":
             continue
-        word, bit = common.place_of(named[name])
+        word, bit = place_of(named[name])
         if word >= memory.words:
             return [
                 f"{name}: error: {named[name]} is outside {memory.name}: "
@@ -287,12 +291,12 @@ def device(words: list[str], said: str) -> list[str]:
 def misfit(words: list[str], said: str) -> list[str]:
     named = words_by_name(words)
     if said == "misfit aggressor":
-        two = common.read_primitive(named["PRIM"]).aggressor is not None
+        two = read_primitive(named["PRIM"]).aggressor is not None
         cells, wanted = ("two cells", "the cell of its aggressor") if two else ("one cell", "none")
         return [f"AGG: error: {named['PRIM']} has {cells}, so AGG is {wanted}, and not '{named['AGG']}'"]
     if not is_there_still(named["MARCH"]):
         return []
-    elements = common.elements_of(common.read_text(named["MARCH"]))
+    elements = elements_of(read_text(named["MARCH"]))
     directions = named["DIRS"]
     lines = [f"DIRS: error: '{directions}' has {len(directions)} letters, and {named['MARCH']} has {len(elements)} elements"]
     shown = [
@@ -315,7 +319,7 @@ def too_long(words: list[str], said: str) -> list[str]:
     named = words_by_name(words)
     if not is_there_still(named["MEMORY"]) or not is_there_still(named["MARCH"]):
         return [f"{named['MEMORY']}: error: the test takes {thousands(said.split(' ')[2])} cycles, and at most 2,000,000 are run"]
-    memory, elements = memory_file(named), common.elements_of(common.read_text(named["MARCH"]))
+    memory, elements = memory_file(named), elements_of(read_text(named["MARCH"]))
     one = sum(map(memory.cycles_of, elements))
     most = (2000000 - memory.latency - 2) // one if one <= 2000000 else 0
     cure = (
@@ -345,7 +349,7 @@ def no_primitives(words: list[str]) -> list[str]:
 
 def lines(words: list[str], said: str, status: int) -> list[str]:
     """What is said of a refusal; nothing where the call is not one that can be explained."""
-    return list(map(common.visible, told_lines(words, said, status)))
+    return list(map(visible, told_lines(words, said, status)))
 
 
 def told_lines(words: list[str], said: str, status: int) -> list[str]:
@@ -370,6 +374,6 @@ def told_lines(words: list[str], said: str, status: int) -> list[str]:
             9: [f"{CONSOLE}: error: there was no memory"],
             16: not_text(words),
         }.get(status, [])
-    except (OSError, IndexError, ValueError, KeyError, StopIteration, TypeError, common.ToolError):
+    except (OSError, IndexError, ValueError, KeyError, StopIteration, TypeError, ToolError):
         # a file that changed meanwhile, or words that are no command's
         return []

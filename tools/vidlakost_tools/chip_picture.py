@@ -1,14 +1,15 @@
-"""A picture of the groups of a chip in time: `tools/schedule` draws it for any chip file, `tools/pictures` for the guide."""
+"""A picture of the groups of a chip in time: `vidlakost schedule` draws it for any chip file, `vidlakost pictures` for the guide."""
 from __future__ import annotations
 
-import chips
-from drawing import INK, SOFT, document, line, text
+from vidlakost_tools import chip
+from vidlakost_tools.chip import Chip
+from vidlakost_tools.drawing import INK, SOFT, document, line, text
 
 LEFT, TOP, WIDE, HIGH = 60, 44, 760, 220
 FILLS = ["#cfe5dc", "#dde3f2", "#f4e3cf", "#ead9ea"]
 
 
-def block(chip: chips.Chip, number: int, below: int) -> list[str]:
+def block(chip: Chip, number: int, below: int) -> list[str]:
     """A unit from its start to its end, on those of its group that stand below it."""
     unit = chip.units[number]
     across, up = WIDE / chip.done, HIGH / chip.budget
@@ -21,7 +22,7 @@ def block(chip: chips.Chip, number: int, below: int) -> list[str]:
     return [box, *([text(x + (4 if inside else wide + 4), y + high / 2 + 4, label, 11)] if high > 12 else [])]
 
 
-def picture(chip: chips.Chip) -> str:
+def picture(chip: Chip) -> str:
     """Time to the right, weights upward; the dashed line is the budget."""
     made = [text(LEFT, 20, f"{chip.name}: {len(chip.units)} memories in {chip.groups} groups", 12, more=' font-weight="bold"')]
     for group in range(chip.groups):

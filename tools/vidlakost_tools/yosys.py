@@ -8,20 +8,20 @@ import re
 import shutil
 import subprocess
 
-import common
-
+from vidlakost_tools.text import lines_of, shown
+from vidlakost_tools.tool import ToolError, identifier
 
 
 def want() -> None:
     if shutil.which("yosys") is None:
-        raise common.ToolError("yosys is not on the PATH")
+        raise ToolError("yosys is not on the PATH")
 
 
 def quoted(path) -> str:
     """A file's name as a script carries it. What a script would read as more than a name is refused."""
     name = str(path)
     if not re.fullmatch(r"[\w./ +=,@%:-]+", name) or not name.isprintable():
-        raise common.ToolError(f"{common.shown(name)}: a name for Yosys has letters, digits, blanks and ./_+=,@%:- alone")
+        raise ToolError(f"{shown(name)}: a name for Yosys has letters, digits, blanks and ./_+=,@%:- alone")
     return f'"./{name}"' if name[0] in "-+" else f'"{name}"'
 
 
@@ -29,7 +29,7 @@ def top_of(options: dict) -> str:
     """What `hierarchy` is told of the top."""
     if "--top" not in options:
         return "-auto-top"
-    return f"-top {common.identifier(options['--top'], 'what --top names')}"
+    return f"-top {identifier(options['--top'], 'what --top names')}"
 
 
 def sources_of(files: list[str]) -> str:
@@ -45,10 +45,10 @@ def run(script: str, folder: pathlib.Path, *flags: str) -> list[str]:
     file.write_text(script)
     words = ["yosys", *flags, "-s", str(file)]
     done = subprocess.run(words, stdin=subprocess.DEVNULL, stdout=subprocess.PIPE, stderr=subprocess.STDOUT, check=False)
-    lines = common.lines_of(done.stdout.decode("utf-8", "replace"))
+    lines = lines_of(done.stdout.decode("utf-8", "replace"))
     if done.returncode:
         errors = [line for line in lines if "ERROR" in line] or lines[-1:] or ["no reason is given"]
-        raise common.ToolError("\n".join([f"yosys refuses it: {errors[0]}", *warnings_in(lines)]), 1)
+        raise ToolError("\n".join([f"yosys refuses it: {errors[0]}", *warnings_in(lines)]), 1)
     return lines
 
 
@@ -98,7 +98,7 @@ def driven_twice(rtlil: str) -> str | None:
     places: dict[str, str] = {}
     driven: set = set()
     depth, place = 0, ""
-    for line in map(str.strip, common.lines_of(rtlil)):
+    for line in map(str.strip, lines_of(rtlil)):
         depth += line.startswith(("cell ", "process ", "switch ", "memory ")) - (line == "end")
         if line.startswith("attribute \\src "):
             place = line.split('"')[1]
@@ -134,7 +134,7 @@ def without_initial(rtlil: str) -> tuple[str, bool]:
     kept: list[str] = []
     process: list[str] | None = None
     had = False
-    for line in common.lines_of(rtlil):
+    for line in lines_of(rtlil):
         if line.startswith("  process "):
             process = []
         if process is None:
@@ -178,7 +178,7 @@ def read(files: list[str], options: dict, folder: pathlib.Path) -> Sources:
     name, module = top_module(parts)
     twice = driven_twice(first.read_bytes().decode("utf-8", "replace")) or driven_constant(module)
     if twice:
-        raise common.ToolError(twice, 1)
+        raise ToolError(twice, 1)
     warnings = warnings_in(said)
     if had or any(cell["type"].startswith("$meminit") for cell in module["cells"].values()):
         warnings.append("initial values are left out")

@@ -9,7 +9,7 @@ import re
 import subprocess
 import tempfile
 
-import common
+from vidlakost_tools.program import quick_program
 
 
 @dataclasses.dataclass
@@ -156,7 +156,7 @@ class Trier:
 
     def __init__(self, kind: str, is_word: bool = False):
         self.kind, self.is_word = kind, is_word
-        self.program = common.quick_program()
+        self.program = quick_program()
 
     def refusal(self, folder: pathlib.Path, text: bytes) -> str:
         """The program's line for a text; `absent` where the text is accepted, since the next one is missing."""

@@ -3,8 +3,8 @@ from __future__ import annotations
 
 import re
 
-import common
-from finding import (
+from vidlakost_tools.faults import Primitive, read_primitive
+from vidlakost_tools.finding import (
     CLASSES,
     GROUPS,
     Finding,
@@ -18,6 +18,8 @@ from finding import (
     word_at,
     word_start,
 )
+from vidlakost_tools.memory import terms_of
+from vidlakost_tools.text import statements
 
 # ---- marches
 
@@ -136,7 +138,7 @@ def fault(name: str, text: bytes, code: str, values: dict, is_word: bool) -> Fin
     at = line_start(text, line) + len(body) - len(body.lstrip())
     if code == "F5":
         return Finding(name, text, at, "with this line the list has more than 1,024 primitives")
-    primitive = common.read_primitive(body)
+    primitive = read_primitive(body)
     if code == "F4":
         return Finding(name, text, at, too_many_operations(primitive, is_word))
     return Finding(name, text, at, f"this is no fault: {why_no_fault(primitive)}")
@@ -152,7 +154,7 @@ def no_item(name: str, text: bytes, at: int, is_word: bool) -> Finding:
     return found
 
 
-def too_many_operations(primitive: common.Primitive, is_word: bool) -> str:
+def too_many_operations(primitive: Primitive, is_word: bool) -> str:
     count = len(primitive.operations)
     parted = primitive.aggressor is not None and bool(primitive.aggressor.operations) and bool(primitive.victim.operations)
     if count == 2 and parted:
@@ -162,7 +164,7 @@ def too_many_operations(primitive: common.Primitive, is_word: bool) -> str:
     return f"the primitive has {count} operations; it has at most one, or two in one part"
 
 
-def why_no_fault(primitive: common.Primitive) -> str:
+def why_no_fault(primitive: Primitive) -> str:
     """Why a primitive describes no fault."""
     left = 0
     for part in filter(None, (primitive.aggressor, primitive.victim)):
@@ -200,7 +202,7 @@ class Description:
 
     def __init__(self, name: str, text: bytes):
         self.name, self.text = name, text
-        self.statements = common.statements(text.decode("utf-8", "replace"))
+        self.statements = statements(text.decode("utf-8", "replace"))
 
     def said(self, word: str) -> str | None:
         return next((rest for _, kind, rest in self.statements if kind == word), None)
@@ -231,7 +233,7 @@ class Description:
     def rows(self) -> dict:
         """Of each row of the scrambling its line and its terms."""
         split = [(line, rest.split("=")) for line, word, rest in self.statements if word == "scramble"]
-        return {int(parts[0].strip()[1:]): (line, common.terms(parts[1])) for line, parts in split if len(parts) == 2}
+        return {int(parts[0].strip()[1:]): (line, terms_of(parts[1])) for line, parts in split if len(parts) == 2}
 
 
 def memory(name: str, text: bytes, code: str, values: dict) -> Finding:

@@ -1,0 +1,115 @@
+"""The program: which one answers, its commands as docs/FORMATS.md tells them, and calls of it."""
+from __future__ import annotations
+
+import dataclasses
+import os
+import pathlib
+import re
+import subprocess
+import tempfile
+
+from vidlakost_tools.text import lines_of, read_text
+from vidlakost_tools.tool import Refused, ToolError
+
+ROOT = pathlib.Path(__file__).resolve().parent.parent.parent
+PROGRAM = os.environ.get("VIDLAKOST", str(ROOT / "vidlakost"))
+FORMATS = ROOT / "docs" / "FORMATS.md"
+
+
+@dataclasses.dataclass
+class Command:
+    """A command of the program as FORMATS tells it: its words, an example, and what it does."""
+
+    form: list[str]
+    example: str
+    does: str
+
+    @property
+    def name(self) -> str:
+        return self.form[0]
+
+
+def commands() -> list[Command]:
+    """The commands, from docs/FORMATS.md."""
+    sections = re.findall(
+        r"^## The command `\w+`\n\n```\n([^\n]*)\n([^\n]*)\n```\n\n(.*?)(?=^## )", read_text(FORMATS), re.MULTILINE | re.DOTALL
+    )
+    return [Command(form.split(), example, does.strip()) for form, example, does in sections]
+
+
+def form_of(name: str) -> list[str]:
+    """The words of a command; none where there is no such command."""
+    return next((command.form for command in commands() if command.name == name), [])
+
+
+def written(name: str) -> list[int]:
+    """The places of the words that a command writes, as FORMATS tells it; `make` writes all but its number."""
+    command = next((command for command in commands() if command.name == name), None)
+    if command is None:
+        return []
+    if name == "make":
+        return list(range(2, len(command.form)))
+    told = [word in ("REPORT", "OUT") or f"to the file {word}" in command.does for word in command.form]
+    return [place for place, is_told in enumerate(told) if is_told]
+
+
+def version() -> tuple[str, str, str]:
+    """The version, the date and the commit of this checkout, or of the release that this is."""
+    release = ROOT / "RELEASE"
+    if release.exists():
+        first, second, *_ = release.read_text().splitlines()
+        commit, date = second.split(" ", 1)[1].split(", ")
+        return first.split(" ")[1], date, commit
+    form = ["git", "-C", str(ROOT), "log", "-1", "--format=%cs %h"]
+    said = subprocess.run(form, stdout=subprocess.PIPE, stderr=subprocess.DEVNULL, text=True, check=False).stdout.split()
+    date, commit = said if len(said) == 2 else ("0000-00-00", "none")
+    changed = subprocess.run(
+        [*form[:3], "status", "--porcelain"], stdout=subprocess.PIPE, stderr=subprocess.DEVNULL, text=True, check=False
+    ).stdout
+    return f"{date.replace('-', '.')}-{commit}{'-changed' if changed.strip() else ''}", date, commit
+
+
+def quick_program() -> str | None:
+    """A program that answers in milliseconds: the one that is named, or the proved one that the launcher takes."""
+    named = os.environ.get("VIDLAKOST_PROGRAM") or os.environ.get("VIDLAKOST")
+    if named:
+        return named
+    done = subprocess.run([PROGRAM, "--program"], stdout=subprocess.PIPE, stderr=subprocess.DEVNULL, text=True, check=False)
+    return done.stdout.strip() or None
+
+
+def run(*words) -> tuple[int, str]:
+    """The program's status and its line for these words."""
+    quiet = {**os.environ, "VIDLAKOST_EXPLAIN": "0"}
+    try:
+        done = subprocess.run(
+            [PROGRAM, *map(str, words)], stdout=subprocess.PIPE, stdin=subprocess.DEVNULL, env=quiet, check=False
+        )
+    except OSError as error:
+        raise ToolError(f"the program {PROGRAM} can't be run: {error.strerror}", 125) from error
+    said = done.stdout.decode("utf-8", "replace")
+    return done.returncode, said[:-1] if said.endswith("\n") else said
+
+
+def ask(*words) -> str:
+    """The line of a call that is done; a refusal is handed on."""
+    status, said = run(*words)
+    if status > 1 or status < 0:
+        raise Refused([str(word) for word in words], said, status)
+    return said
+
+
+def with_text(text: str, use):
+    """What `use` answers of a file that holds the text for as long as the call takes."""
+    with tempfile.TemporaryDirectory() as folder:
+        path = pathlib.Path(folder) / "text"
+        path.write_text(text, encoding="utf-8")
+        return use(path)
+
+
+def vectors_of(march, memory) -> list[str]:
+    """The lines of `vectors`; a march or a memory that is refused is told."""
+    with tempfile.TemporaryDirectory() as folder:
+        path = pathlib.Path(folder) / "vectors"
+        ask("vectors", march, memory, path)
+        return lines_of(read_text(path))

@@ -1,0 +1,185 @@
+"""How a tool starts and ends, its words, and the files that it writes.
+
+A tool calls `start(main)` once. What goes wrong in it (a file that is missing, words that are wrong, an input that the
+program refuses, a reader that closes the pipe) becomes a line on standard error and a status there, and nowhere else."""
+from __future__ import annotations
+
+import os
+import pathlib
+import re
+import signal
+import sys
+import tempfile
+
+from vidlakost_tools.text import shown, visible
+
+
+class ToolError(Exception):
+    """What a tool says of wrong words or files, and the status that it ends with."""
+
+    def __init__(self, message: str, status: int = 2):
+        super().__init__(message)
+        self.status = status
+
+
+class Refused(ToolError):
+    """A refusal of the program, handed on with its status."""
+
+    def __init__(self, words: list[str], said: str, status: int):
+        super().__init__(said or f"the program ends with {status}", status)
+        self.words, self.said = words, said
+
+
+def usage_of(doc: str) -> str:
+    """The lines of a tool's description that tell its words."""
+    found = re.search(r"^usage:.*?(?=\n\n|\Z)", doc, re.MULTILINE | re.DOTALL)
+    return found[0] if found else doc
+
+
+def words_of(doc: str, allowed: dict | None = None, least: int = 0, most: int | None = None):
+    """The words of the call and its options. `allowed` gives of each option how many words it takes, a list where it
+    may come many times; `--help` prints the description."""
+    allowed, plain, options = allowed or {}, [], {}
+    rest = list(sys.argv[1:])
+    if "--help" in rest or rest == ["-h"]:
+        print(doc.strip())
+        raise SystemExit(0)
+    while rest:
+        word = rest.pop(0)
+        if not word.startswith("--"):
+            plain.append(word)
+            continue
+        if word not in allowed:
+            raise ToolError(f"there is no option {word}\n{usage_of(doc)}")
+        count = allowed[word] if isinstance(allowed[word], int) else 1
+        if len(rest) < count:
+            raise ToolError(f"{word} needs a word behind it\n{usage_of(doc)}")
+        given = [rest.pop(0) for _ in range(count)]
+        if isinstance(allowed[word], int):
+            options[word] = given[0] if count == 1 else given or True
+        else:
+            options.setdefault(word, []).extend(given)
+    if len(plain) < least or most is not None and len(plain) > most:
+        raise ToolError(f"{'too few' if len(plain) < least else 'too many'} words\n{usage_of(doc)}")
+    return plain, options
+
+
+def start(main) -> None:
+    """Runs a tool and ends with its status; each failure is a line on standard error."""
+    name = pathlib.Path(sys.argv[0]).name
+    if sys.stdout is None:
+        tell(f"{name}: standard output is closed")
+        sys.exit(8)
+    for number in (signal.SIGTERM, signal.SIGHUP):
+        if signal.getsignal(number) == signal.SIG_DFL:
+            signal.signal(number, stop)
+    # what came as bytes that are no text, as the name of a folder, goes out as it came
+    sys.stdout.reconfigure(encoding="utf-8", errors="surrogateescape")
+    try:
+        status = main() or 0
+        sys.stdout.flush()
+        sys.exit(status)
+    except Refused as error:
+        tell(f"{name}: {error}")
+        explain(error.words, error.said, error.status)
+        sys.exit(error.status)
+    except ToolError as error:
+        tell(f"{name}: {error}")
+        sys.exit(error.status)
+    except BrokenPipeError:
+        # nobody reads any more, which is no failure of the tool; nothing more may be written at exit
+        os.dup2(os.open(os.devnull, os.O_WRONLY), 1)
+        os._exit(141)
+    except UnicodeDecodeError as error:
+        tell(f"{name}: a file is not UTF-8: {error.reason} at byte {error.start}")
+        sys.exit(2)
+    except OSError as error:
+        tell(f"{name}: {error.filename or 'what was written'}: {error.strerror or error}")
+        leave(2)
+    except MemoryError:
+        tell(f"{name}: there was no memory")
+        leave(9)
+    except RecursionError:
+        tell(f"{name}: an input is nested too deeply")
+        sys.exit(2)
+    except KeyboardInterrupt:
+        sys.exit(130)
+
+
+def stop(number: int, frame: object) -> None:
+    """Ends a tool by a signal, so that what it began ends with it, and its own files are removed."""
+    raise SystemExit(128 + number)
+
+
+def leave(status: int) -> None:
+    """Ends with this status, whether or not what is still to be written can be."""
+    os.dup2(os.open(os.devnull, os.O_WRONLY), 1)
+    os._exit(status)
+
+
+def tell(line: str) -> None:
+    """Says something on standard error; of what a terminal would obey only the number is shown."""
+    if sys.stderr is None:
+        return
+    try:
+        print("\n".join(map(visible, line.split("\n"))), file=sys.stderr, flush=True)
+    except (BrokenPipeError, OSError):
+        pass
+
+
+def explain(words: list[str], said: str, status: int) -> None:
+    """The explanation of a refusal on standard error, unless VIDLAKOST_EXPLAIN=0 asks for silence."""
+    if os.environ.get("VIDLAKOST_EXPLAIN") != "0":
+        from vidlakost_tools import diagnose
+
+        for line in diagnose.lines(words, said, status):
+            tell(line)
+
+
+def number_of(text: str, what: str, least: int = 0) -> int:
+    """A decimal number among the words of a call."""
+    if not re.fullmatch("[0-9]{1,9}", text) or int(text) < least:
+        raise ToolError(f"{what} is a number from {least} on, and not {shown(text)}")
+    return int(text)
+
+
+def identifier(name: str, what: str = "the name") -> str:
+    """A name that is about to become a part of a path or of a Verilog text: a plain one, whatever was read."""
+    if not re.fullmatch("[A-Za-z_][A-Za-z0-9_$]{0,63}", name):
+        raise ToolError(f"{what} is a simple identifier of Verilog of at most 64 bytes, and not {shown(name)}")
+    return name
+
+
+def refuse_inputs(target: str | None, inputs: list[tuple[str, str]]) -> None:
+    """Refuses to write over a file that is read."""
+    for what, name in inputs if target else []:
+        one = os.path.exists(target) and os.path.exists(name) and os.path.samefile(target, name)
+        if one or os.path.realpath(target) == os.path.realpath(name):
+            raise ToolError(f"{shown(target)} is {what}")
+
+
+def write_whole(target, text: str) -> None:
+    """Writes a text to a file, so that a full disk or a kill leaves what stood there. A device is written as it is."""
+    path = pathlib.Path(target)
+    if path.exists() and not path.is_file() or path.is_symlink():
+        path.write_text(text, encoding="utf-8")
+        return
+    mode = path.stat().st_mode & 0o777 if path.exists() else None
+    if mode is not None and not os.access(path, os.W_OK):
+        raise ToolError(f"{path}: Permission denied")
+    try:
+        beside, name = tempfile.mkstemp(prefix=".vidlakost-", dir=path.parent)
+    except OSError as error:
+        raise OSError(error.errno, error.strerror, str(path)) from error
+    try:
+        with open(beside, "w", encoding="utf-8", newline="") as file:
+            file.write(text)
+            file.flush()
+            os.fsync(beside)
+        umask = os.umask(0)
+        os.umask(umask)
+        os.chmod(name, 0o666 & ~umask if mode is None else mode)
+        os.replace(name, path)
+    except BaseException:
+        os.unlink(name)
+        raise
