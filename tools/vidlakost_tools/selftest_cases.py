@@ -498,6 +498,8 @@ CALLS = [
     ("", ["tools/gallery", "x"], 2, "", "gallery: too many words"),
     ("", ["tools/interop", "x"], 2, "", "interop: too many words"),
     ("", ["tools/release", "x"], 2, "", "release: too many words"),
+    ("", ["tools/trusted"], 0, "# The headline, and all that it stands on", ""),
+    ("", ["tools/trusted", "--others"], 0, "# What the other clauses of the top call stand on", ""),
     ("", ["tools/trusted", "bist_app::run", "compilation"], 0, "crates/array_sim/specs/Detection.antt", ""),
     ("", ["tools/trusted", "bist_app::run", "compilation", "--dot"], 0, "digraph {", ""),
     ("", ["tools/trusted", "bist_app::walk"], 2, "", "trusted: no public call bist_app::walk has clauses"),

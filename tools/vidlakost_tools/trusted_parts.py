@@ -1,34 +1,53 @@
-"""The parts of docs/TRUSTED.md: which files stand in which, in which order, and what is said above them."""
+"""The parts of the pages of the trusted definitions: which files stand in which, in which order, and what is said above them."""
 from __future__ import annotations
 
 import dataclasses
 import fnmatch
 
-TITLE = """# What has to be trusted
-
-A proof is worth as much as the statement that it proves. This page has each definition that a clause of the top call `run`
-stands on, whole, with its comment, in five parts; nothing else of the repository's definitions has to be read in order to know
-what is promised, and no code. `H.state` in a clause is what a host tells: its files, what was said and the counts of its
-faults; `told` is what a box tells (the traits `Host` and `Device`); in a Rust type a `Prim` stands for its `Primitive`, a
-`DynPrim` for its `DynamicPrimitive`, a `Scramble` for its `Scrambling`, a `Name` for its bytes, and the page shows what each is
-seen as. The page is made from the sources by `tools/trusted`, and the gate compares it, so it can't be other than what is proved.
-
-*How to read it.* `Name : A → B → Type 0` declares a relation or a statement about an A and a B; the lines below say what it
+SIGNS = """*How to read it.* `Name : A → B → Type 0` declares a relation or a statement about an A and a B; the lines below say what it
 means, case by case. `(x : A) × P x` is "some x with P", `(x : A) → P x` is "for every x, P", `A ⊎ B` is "A or B", `A × B` is "A
 and B", `A → ⊥` is "not A", `a ≡ b` is equality; a `record` holds where all its fields do. Numbers are natural, without bound;
 `List`, `Option` (`Some`, `None`) and `Result` (`Ok`, `Err`) are as in Rust, and texts are lists of bytes (`codes "en"`). What is
 taken from the kit's library (numbers, lists, texts of digits) is not shown.
+"""
 
-*Where to begin.* The clause below is the headline. Read `Headline.antt` at the end of the first part, and then from the
-beginning what it names. The counts say how much of each part the headline stands on; the rest is what other clauses of `run` say
-of other commands and other statuses.
+HEADLINE_TITLE = """# The headline, and all that it stands on
+
+A proof is worth as much as the statement that it proves. This page has each definition that the headline stands on, whole, with
+its comment; nothing else of the repository's definitions has to be read in order to know what it promises, and no code.
+`H.state` in the clause is what a host tells: its files, what was said and the counts of its faults; in a Rust type a `Prim`
+stands for its `Primitive`, a `DynPrim` for its `DynamicPrimitive`, a `Scramble` for its `Scrambling`, a `Name` for its bytes, and
+the page shows what each is seen as.
+
+""" + SIGNS + """
+*Where to begin.* The clause below is the headline. Read `Headline.antt` at the end of the first part, then from the beginning
+what it names. The first part takes an hour; the parts behind it say what its words rest on.
+"""
+
+OTHERS_TITLE = """# What the other clauses of the top call stand on
+
+Each definition that a clause of `run` stands on and the headline doesn't: those of the other commands and statuses. The page of
+the headline has the others. `told` in a clause is what a box tells (the trait `Device`).
+
+""" + SIGNS
+
+INDEX_TITLE = """# What has to be trusted
+
+Each definition that a clause of the top call `run` stands on: a mark of its text (the first ten digits of its SHA-256, comment and
+all), its name, and what of the repository's definitions it names itself. So a definition that changes is one line of a
+difference here, and the gate compares this page with the sources. Lines of a definition are not told, since one that grows would
+move all below it. `tools/trusted` prints the definitions of the headline whole, in the order in which to read them, and
+`tools/trusted --others` those of the other clauses; a release has both as pages.
 """
 
 
 @dataclasses.dataclass(frozen=True)
 class Part:
+    """A part of the pages: what is said above its definitions on the page of the headline, and on that of the others."""
+
     title: str
     words: str
+    further: str
     files: tuple[str, ...]
 
     def has(self, crate: str, file: str) -> bool:
@@ -44,8 +63,7 @@ PARTS = (
         """
 What a march does to cells, what a fault is and when a march detects it, for static faults and for those of two operations;
 what a march is on the words of a memory, and which commands it gives at the port; what a module of the Verilog subset means in
-a cycle and from cycle to cycle; the rule of the ports; what a self-test is; and last the headline, which puts them together, and
-what `check` promises, the second clause of its kind.
+a cycle and from cycle to cycle; the rule of the ports; what a self-test is; and last the headline, which puts them together.
 
 - **Marches.** An element is a pause, or an order and operations. A direction stands for each element, as its order allows; the
   visits are one list of steps: for each element in order a pause, or for each address in the element's direction each of its
@@ -71,6 +89,7 @@ what `check` promises, the second clause of its kind.
   the text, every condition and value taken in `e`; a register gets the value of its last pair, or keeps its own.
 - **History**: one environment a cycle; each settles with the registers that the cycle before leaves.
 """,
+        "What `check` promises (`Conformance.antt`), the second clause of its kind.",
         (
             "march_core/declared.operation",
             "march_core/Operation",
@@ -103,10 +122,7 @@ what `check` promises, the second clause of its kind.
         "What a module is",
         """
 The rules that a module keeps, when its wires form a loop and when one environment settles a cycle; which text a module has, as
-it is written; and which bytes spell which module, as they are read: the grammar in full parentheses and by precedence, and the
-limits of the reader. At the end stands what a module means where some values are left open, and what a controller issues
-(`Issues`), of which `check` speaks: a number that stands in the open run stands in every history, and the answer is the first
-cycle and port where it has none, or another than the rule of the ports wants.
+it is written; and what a module means where some values are left open.
 
 - **Names** (`Names.antt`): the declarations of a module are its ports, then its `wire` and `reg` items, in order; `lookup`
   finds the first of a name. Its kind is input, wire (also a plain output) or register (also `output reg`).
@@ -117,12 +133,26 @@ cycle and port where it has none, or another than the rule of the ports wants.
   mention of a name not declared before), N2, N6, N3, N5, N4, N10, each at its first place. N3 (`item_widths`) tries the parts
   of an expression from left to right, then the expression; the expression of an assignment, then its target; the subject of a
   `case`, then arm by arm the labels and the body.
-- `Refuses break result`: Ok exactly where there is no break, else the fault that tells it. Want of memory tells nothing.
 - **Loops** (`Wires.antt`): `Leads items n m`: `n` is assigned an expression that uses `m`. `IsLoop module names`: each name
   leads to the next, and the last to the first. `Falls rank items`: a number for each name that falls along `Leads`.
 - **Formed** (`Formed.antt`): widths from 1 to 64, places at most 63, a module has a port, a concatenation a part, a `case` an
   arm, an arm a label, and each literal's value is within its width (which `Bits` sees to). **Fits** (`Fits.antt`): formed,
   the names legal, and the emitted text nests at most 64 deep.
+- **The text of a module** (`Printed.antt`, `Written.antt`): its layout, byte for byte: a line for each port, declaration, `assign`
+  and statement, two blanks for each depth, parentheses round each operator, `begin` and `end` round each body, and literals in
+  hexadecimal. **`IsTextOf bytes module`**: the module fits (of `2'd7` Verilog would take 3, and a reserved word is no name), and the
+  bytes are its layout. So there is one text of a module; each of its bytes is a line feed, a blank or another printable one, and no
+  `/`, so it has no comment (`plain` of `texts_are_of_one_module`); and by the grammar of the reader, its limits aside, it spells that
+  module and no other (`derived`, `no_other`).
+""",
+        """
+Which bytes spell which module, as they are read: the grammar in full parentheses and by precedence, and the limits of the
+reader, which takes further texts of a module than its layout (other white space, more parentheses, a body without `begin`,
+`wire a, b;`). At the end stands what a controller issues (`Issues`), of which `check` speaks: a number that stands in the open
+run stands in every history, and the answer is the first cycle and port where it has none, or another than the rule of the ports
+wants.
+
+- `Refuses break result`: Ok exactly where there is no break, else the fault that tells it. Want of memory tells nothing.
 - **Words** (`Words.antt`): a simple identifier begins with a letter or `_` and goes on with letters, digits, `_`, `$`; a name
   is one that isn't among the 124 reserved words (`bist_text/specs/ReservedWords`) and has at most 64 bytes.
 - **Tokens** (`Tokens.antt`): an identifier with its bytes; a number, by whether it has more than one digit, and its value; a
@@ -132,13 +162,6 @@ cycle and port where it has none, or another than the rule of the ports wants.
   `digits`, `behind_mark`), so that it is the longest at its place. `Lexed tokens bytes`: the bytes are these tokens in order,
   with white space before, between and behind them. White space (`gap`) is spaces, tabs, line feeds, form feeds and carriage
   returns, `//` to the line's end or the file's, and `/*` to the next `*/`.
-- **The text of a module** (`Printed.antt`, `Written.antt`): its layout, byte for byte: a line for each port, declaration, `assign`
-  and statement, two blanks for each depth, parentheses round each operator, `begin` and `end` round each body, and literals in
-  hexadecimal. **`IsTextOf bytes module`**: the module fits (of `2'd7` Verilog would take 3, and a reserved word is no name), and the
-  bytes are its layout. So there is one text of a module; each of its bytes is a line feed, a blank or another printable one, and no
-  `/`, so it has no comment (`plain` of `texts_are_of_one_module`); and by the grammar of the reader, its limits aside, it spells that
-  module and no other (`derived`, `no_other`). The headline speaks of this text; what follows is what the reader takes, which has
-  further texts of a module (other white space, more parentheses, a body without `begin`, `wire a, b;`), and limits.
 - **Grammar** (`Grammar.antt`): a derivation is a datum with one constructor for each alternative of the grammar (braces, `if`
   with and without `else`, blocks, a default with or without its colon, a declaration of several names). `file style limit
   derivation tokens` says that the tokens are those of the derivation; each rule stands as a line of the grammar above its
@@ -193,14 +216,16 @@ word for each data value. Which bytes are a march, a memory, a primitive and a l
 says of each primitive.
 
 A grammar is a relation between bytes and the value that they write, built of pieces that take what may follow them, and reads
-like the grammar in [FORMATS.md](FORMATS.md). A text *continues* where some bytes behind it make it one of the grammar; the
-first byte with which it doesn't is unexpected, and a text that continues and is none is truncated. A march is refused first
-where its bytes are none, then by a limit, then by its first wrong read. A list goes line by line, and the first line that is
-refused decides. The headline cites what bytes spell (`SpellsMarch`, `SpellsMemory`, `SpellsItems`); what a refused text is
-called stands in the relations `Reads`, whose accepted side is that. A memory's lines are its *statements*: `AreOfMemory` says
-which memory they describe, and a table of steps on the list of statements which refusal comes first. The report has a line for
-each primitive, by what the march makes of it, lines of the classes, and the total; the order of escapes is placement, content,
-directions.
+like the grammar in [FORMATS.md](FORMATS.md). The headline cites what bytes spell (`SpellsMarch`, `SpellsMemory`, `SpellsItems`). A
+memory's lines are its *statements*: `AreOfMemory` says which memory they describe. The report has a line for each primitive, by
+what the march makes of it, lines of the classes, and the total; the order of escapes is placement, content, directions.
+""",
+        """
+What a refused text is called. A text *continues* where some bytes behind it make it one of the grammar; the first byte with which
+it doesn't is unexpected, and a text that continues and is none is truncated. A march is refused first where its bytes are none,
+then by a limit, then by its first wrong read. A list goes line by line, and the first line that is refused decides. All this
+stands in the relations `Reads`, whose accepted side is what bytes spell; for a memory a table of steps on the list of statements
+says which refusal comes first.
 """,
         (
             "bist_bits/*",
@@ -208,6 +233,7 @@ directions.
             "backgrounds/*",
             "memory_desc/Descriptions",
             "bist_text/*",
+            "keyed_lines/*",
             "march_core/*",
             "march_syntax/*",
             "memory_desc/*",
@@ -224,6 +250,7 @@ directions.
     ),
     Part(
         "Several memories",
+        "",
         """
 What the command `chip` promises: which chip a file describes (its name, the budget, and of each unit the weight and two files),
 in which groups its units are tested and when each group starts, what a chip is and does, and what its test is.
@@ -254,11 +281,13 @@ what the top call promises, without the order of its checks; the checks in their
         ),
     ),
     Part(
-        "What stands after each status",
+        "What stands after a call",
         """
-The words of a call, what each file gives, which check refuses first and with which line, and what stands afterwards of the
-files, of what was said and of the boxes, command by command; and for the commands that clock a module, what a box is and what
-is told of its run.
+The words of a call, what each file gives, and the two lists of numbers that a generated text shows beside its march.
+""",
+        """
+Which check refuses first and with which line, and what stands afterwards of the files, of what was said and of the boxes, command
+by command; and for the commands that clock a module, what a box is and what is told of its run.
 
 `Then` puts checks in their order: the first that refuses decides. Each command is its checks and what it leaves (`Decides..`,
 `Leaves..`); `Ends` says of each way to end what stands of the files, of what was said and of the counts of faults. A host may
