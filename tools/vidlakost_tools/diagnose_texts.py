@@ -2,6 +2,7 @@
 from __future__ import annotations
 
 import re
+from typing import Mapping
 
 from vidlakost_tools.faults import Primitive, read_primitive
 from vidlakost_tools.finding import (
@@ -18,34 +19,27 @@ from vidlakost_tools.finding import (
     word_at,
     word_start,
 )
-from vidlakost_tools.memory import terms_of
+from vidlakost_tools.march import read_elements
+from vidlakost_tools.memory import Row, rows_of
 from vidlakost_tools.text import statements
 
 # ---- marches
 
 MARCH_WORDS = "up down any del w0 w1 r0 r1".split()
-TOKEN = re.compile("|".join(re.escape(word) for word in (*MARCH_WORDS, *"^v*⇑↑⇓↓⇕↕")).encode())
 
 
-def visits(text: bytes) -> list[tuple[int, list[tuple[int, str]]]]:
-    """Of each element of a text of the grammar its byte, and its operations with their bytes."""
-    found: list = []
-    for match in TOKEN.finditer(text):
-        word = match[0].decode()
-        if re.fullmatch("[rw][01]", word):
-            found[-1][1].append((match.start(), word))
-        else:
-            found.append((match.start(), []))
-    return found
-
-
-def march(name: str, text: bytes, code: str, values: dict) -> Finding:
+def march(name: str, text: bytes, code: str, values: Mapping[str, str]) -> Finding:
     """What is wrong with a march."""
     if code == "M1":
         return unexpected("march", name, text, int(values["byte"]), MARCH_WORDS)
     if code == "M2":
         return early("march", name, text, "the march")
-    elements = visits(text)
+    said = text.decode("utf-8")
+    # the byte of each element, and of its operations
+    elements = [
+        (len(said[: it.at].encode()), [(len(said[:at].encode()), word) for at, word in zip(it.places, it.operations)])
+        for it in read_elements(said)
+    ]
     operations = [(number, at, word) for number, (_, inside) in enumerate(elements) for at, word in inside]
     if code == "M3":
         return Finding(
@@ -127,11 +121,11 @@ OLD_NAMES = {
 }
 
 
-def fault(name: str, text: bytes, code: str, values: dict, is_word: bool) -> Finding:
+def fault(name: str, text: bytes, code: str, values: Mapping[str, str], is_word: bool) -> Finding:
     """What is wrong with a list, or with a primitive among the words of a call."""
     line = int(values["line"])
     if code == "F1":
-        return no_item(name, text, at_of(values, text), is_word)
+        return no_item(name, text, at_of(values, text) or 0, is_word)
     if code == "F2":
         return early("list", name, text, "the primitive" if is_word else "the last line", is_word)
     body = text.split(b"\n")[line - 1].split(b"#")[0].decode("utf-8", "replace")
@@ -230,13 +224,11 @@ class Description:
     def found(self, at: int | None, message: str, *notes: str) -> Finding:
         return Finding(self.name, self.text, at, message, list(notes))
 
-    def rows(self) -> dict:
-        """Of each row of the scrambling its line and its terms."""
-        split = [(line, rest.split("=")) for line, word, rest in self.statements if word == "scramble"]
-        return {int(parts[0].strip()[1:]): (line, terms_of(parts[1])) for line, parts in split if len(parts) == 2}
+    def rows(self) -> dict[int, tuple[int, Row]]:
+        return rows_of(self.statements)
 
 
-def memory(name: str, text: bytes, code: str, values: dict) -> Finding:
+def memory(name: str, text: bytes, code: str, values: Mapping[str, str]) -> Finding:
     """What is wrong with a memory description."""
     description = Description(name, text)
     if code == "D2":
@@ -256,8 +248,8 @@ def memory(name: str, text: bytes, code: str, values: dict) -> Finding:
     return {"D7": no_power, "D8": no_solid, "D9": too_many, "D11": other_version}[code](description)
 
 
-def unexpected_statement(description: Description, values: dict) -> Finding:
-    line, at = int(values["line"]), at_of(values, description.text)
+def unexpected_statement(description: Description, values: Mapping[str, str]) -> Finding:
+    line, at = int(values["line"]), at_of(values, description.text) or 0
     word = description.statement(line)[0]
     if word in ("latency", "polarity", "pause") and description.number("memory") == 1:
         return description.found(
