@@ -4,6 +4,7 @@ from __future__ import annotations
 
 import hashlib
 import re
+from typing import Tuple
 
 from vidlakost_tools.spec_graph import Clause, Definition, Graph, Key
 from vidlakost_tools.tool import ToolError
@@ -11,7 +12,7 @@ from vidlakost_tools.trusted_parts import HEADLINE_TITLE, INDEX_TITLE, OTHERS_TI
 
 RUN = "bist_app::run"
 HEADLINE = "compilation"
-File = tuple[str, str]
+File = Tuple[str, str]
 
 
 # ---- what stands on what
