@@ -1,0 +1,100 @@
+"""The page as one file that works by itself: its texts, styles and scripts in one, and each answer that it may want."""
+from __future__ import annotations
+
+import base64
+import hashlib
+import html
+import json
+import pathlib
+import re
+
+from vidlakost_tools.explorer import answers
+from vidlakost_tools.text import read_text
+
+PAGE = pathlib.Path(__file__).resolve().parent / "page"
+# the files of the page, in the order in which it names them
+STYLES, SCRIPTS = ["page.css"], ["dom.js", "coverage.js", "player.js", "memory.js", "page.js"]
+MOST_MARCHES = 4
+# how many steps are kept in all: what escapes beyond them is kept without its steps
+MOST_STEPS = 60000
+POLICY = "default-src 'none'; img-src data:; base-uri 'none'; form-action 'none'; require-trusted-types-for 'script'"
+
+
+def files() -> dict:
+    """The files that are served, by name, each with its type."""
+    made = {"": ("text/html", (PAGE / "index.html").read_bytes())}
+    made.update({name: ("text/css", (PAGE / name).read_bytes()) for name in STYLES})
+    made.update({name: ("text/javascript", (PAGE / name).read_bytes()) for name in SCRIPTS})
+    return made
+
+
+def digest(text: str) -> str:
+    return f"'sha256-{base64.b64encode(hashlib.sha256(text.encode()).digest()).decode()}'"
+
+
+def whole(kept: dict) -> str:
+    """The page with everything in it, under a policy that lets nothing else run."""
+    page = read_text(PAGE / "index.html")
+    style = "\n".join(read_text(PAGE / name) for name in STYLES)
+    script = "\n".join(read_text(PAGE / name) for name in SCRIPTS)
+    policy = f"{POLICY}; style-src {digest(style)}; script-src {digest(script)}"
+    head = f'<meta http-equiv="Content-Security-Policy" content="{html.escape(policy)}">\n<style>{style}</style>'
+    data = json.dumps(kept, separators=(",", ":")).replace("<", "\\u003c")
+    page = re.sub(r'\n *<link rel="stylesheet"[^>]*>', lambda _: "\n" + head, page, count=1)
+    page = re.sub(r"\n *<script [^>]*></script>", "", page)
+    parts = f'<script type="application/json" id="kept">{data}</script>\n<script>{script}</script>\n</body>'
+    return page.replace("</body>", parts)
+
+
+def traces(march: str, report: dict, left: int) -> tuple[dict, int]:
+    """The escapes of a report by their primitives, and how many steps may still be kept."""
+    found: dict = {}
+    for verdict in report["verdicts"]:
+        primitive = verdict["primitive"]
+        if verdict["covered"] or primitive in found:
+            continue
+        traced = answers.trace({"march": march, "primitive": primitive})
+        traced.pop("report", None)
+        left -= len(traced["steps"])
+        found[primitive] = traced if left >= 0 else {**traced, "steps": []}
+    return found, left
+
+
+def texts_in(question: dict, name: str) -> list[str]:
+    """The texts of the marches of a question."""
+    found = question.get(name)
+    if not isinstance(found, list) or not 1 <= len(found) <= MOST_MARCHES:
+        raise answers.Wrong(f"{name} are one to {MOST_MARCHES} texts")
+    return [answers.text_in({"march": text}, "march") for text in found]
+
+
+class Keeper:
+    """What makes the file, with what the page began with."""
+
+    def __init__(self, beginning: answers.Beginning):
+        self.beginning = beginning
+
+    def answer(self, question: dict) -> dict:
+        """The page as a file; a march or the list that is refused is told, and a memory that is refused is left out."""
+        marches, faults = texts_in(question, "marches"), answers.text_in(question, "list")
+        memory, place = answers.text_in(question, "memory"), question.get("place")
+        if not isinstance(place, int) or not 0 <= place < len(marches):
+            raise answers.Wrong("place is that of a march")
+        judged, traced, left = [], [], MOST_STEPS
+        for march in marches:
+            answer = answers.judge({"march": march, "list": faults})
+            if "refused" in answer:
+                return answer
+            found, left = traces(march, answer["report"], left)
+            judged.append(answer)
+            traced.append(found)
+        kept = {
+            "begin": {**self.beginning.told, "march": marches[0], "list": faults, "memory": memory},
+            "marches": marches,
+            "judged": judged,
+            "traced": traced,
+            "place": place,
+            "memory": answers.memory({"march": marches[place], "memory": memory}),
+            "files": answers.files({"march": marches[place], "memory": memory, "list": faults}),
+        }
+        return {"page": whole(kept)}
