@@ -185,12 +185,14 @@ def complete(question: dict) -> dict:
         raise Wrong("kind is march, list or memory")
     before, after = (text_in(question, name).encode("utf-8") for name in ("before", "after"))
     found, whole = Trier(kind).fitting(before + after, len(before))
-    named = SHOWN.get(kind, {})
-    begun = 0 if whole else len(before) - word_start(before + after, len(before))
+    begun = "" if whole else before[word_start(before + after, len(before)) :].decode("utf-8", "replace")
+    # no word stands for these: they are told by what they are
+    named = {**SHOWN.get(kind, {}), "a hexadecimal word": "a hexadecimal word"}
+    words = [word for word in found if word not in named]
     return {
-        "words": [word for word in found if word not in named and word != "a hexadecimal word"],
-        "notes": [named.get(word, word) for word in found if word in named or word == "a hexadecimal word"],
-        "begun": len(before[len(before) - begun :].decode("utf-8", "replace")),
+        "words": [word for word in words if word.startswith(begun)] or words,
+        "notes": [named[word] for word in found if word in named],
+        "begun": len(begun),
         "whole": whole,
     }
 

@@ -144,9 +144,10 @@ class Handler(http.server.BaseHTTPRequestHandler):
         origin, site = self.only("Origin"), self.only("Sec-Fetch-Site")
         if origin not in (None, f"http://{self.server.host}"):
             raise Refusal(403, "another page asks")
-        _, _, rest = self.path.partition("/")
-        token, _, name = rest.partition("/")
-        if not hmac.compare_digest(token.encode("latin-1", "replace"), self.server.token.encode()):
+        before, _, rest = self.path.partition("/")
+        token, slash, name = rest.partition("/")
+        known = hmac.compare_digest(token.encode("latin-1", "replace"), self.server.token.encode())
+        if not known or before or not slash:
             raise Refusal(404, "there is no such page")
         opens = name == "" and self.only("Sec-Fetch-Mode") in (None, "navigate")
         if site not in (None, "same-origin") and not opens:
