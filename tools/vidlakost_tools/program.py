@@ -108,6 +108,8 @@ def is_proved(program: str | None, named: bool) -> bool:
 def run(*words) -> tuple[int, str]:
     """The program's status and its line for these words."""
     quiet = {**os.environ, "VIDLAKOST_EXPLAIN": "0"}
+    # that answers are unproved is told once a tool
+    os.environ.setdefault("VIDLAKOST_UNPROVED", "told")
     try:
         done = subprocess.run(
             [PROGRAM, *map(str, words)],
