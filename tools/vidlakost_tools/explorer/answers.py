@@ -220,27 +220,27 @@ def shown_steps(steps: list[Step]) -> list[dict]:
     return made
 
 
-def replayed(verdict: Verdict, elements: list[Element]) -> dict:
-    """Why an escape escapes, and its steps, in the plain model of the definition."""
+def replayed(verdict: Verdict, elements: list[Element], march: pathlib.Path) -> dict:
+    """Why an escape escapes, and its steps, in the plain model of the definition; and what `sim` says of it, which takes no
+    dynamic primitives."""
     why, steps = reasons.reason(verdict, elements)
-    return {"why": why, "steps": shown_steps(steps)}
+    made: dict = {"why": why, "steps": shown_steps(steps)}
+    if not verdict.is_dynamic:
+        words = verdict.words(march)
+        made["sim"] = {"words": ["sim", "MARCH", *words[2:]], "said": ask(*words)}
+    return made
 
 
 @refusable
 def trace(folder: Folder, question: dict) -> dict:
-    """The verdict on one primitive, and of an escape its steps and what `sim` says of it."""
+    """The verdict on one primitive, and of an escape what it does."""
     march = folder.put("march", text_in(question, "march"))
     primitive = text_in(question, "primitive")
     if not re.fullmatch(r"<[01wrt;]{1,24}/[01]/[-01]>", primitive):
         raise Wrong("primitive is none of a report's")
     report = judged(march, folder.put("list", primitive + "\n"))
-    made = {"report": shown_report(report)}
-    for verdict in report.escapes:
-        made.update(replayed(verdict, report.elements))
-        if not verdict.is_dynamic:
-            words = verdict.words(march)
-            made["sim"] = {"words": ["sim", "MARCH", *words[2:]], "said": ask(*words)}
-    return made
+    found = {"report": shown_report(report)}
+    return {**found, **replayed(report.escapes[0], report.elements, march)} if report.escapes else found
 
 
 # ---- a memory

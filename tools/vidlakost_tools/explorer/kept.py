@@ -9,7 +9,9 @@ import pathlib
 import re
 
 from vidlakost_tools.explorer import answers
+from vidlakost_tools.report import Report, judged
 from vidlakost_tools.text import read_text
+from vidlakost_tools.tool import Refused
 
 PAGE = pathlib.Path(__file__).resolve().parent / "page"
 # the files of the page, in the order in which it names them
@@ -46,17 +48,14 @@ def whole(kept: dict) -> str:
     return page.replace("</body>", parts)
 
 
-def traces(march: str, report: dict, left: int) -> tuple[dict, int]:
+def traces(report: Report, march: pathlib.Path, left: int) -> tuple[dict, int]:
     """The escapes of a report by their primitives, and how many steps may still be kept."""
     found: dict = {}
-    for verdict in report["verdicts"]:
-        primitive = verdict["primitive"]
-        if verdict["covered"] or primitive in found:
-            continue
-        traced = answers.trace({"march": march, "primitive": primitive})
-        traced.pop("report", None)
-        left -= len(traced["steps"])
-        found[primitive] = traced if left >= 0 else {**traced, "steps": []}
+    for verdict in report.escapes:
+        if verdict.primitive not in found:
+            traced = answers.replayed(verdict, report.elements, march)
+            left -= len(traced["steps"])
+            found[verdict.primitive] = traced if left >= 0 else {**traced, "steps": []}
     return found, left
 
 
@@ -75,26 +74,32 @@ class Keeper:
         self.beginning = beginning
 
     def answer(self, question: dict) -> dict:
-        """The page as a file; a march or the list that is refused is told, and a memory that is refused is left out."""
+        """The page as a file; a march or the list that is refused is told, and a memory that is refused is kept so."""
         marches, faults = texts_in(question, "marches"), answers.text_in(question, "list")
         memory, place = answers.text_in(question, "memory"), question.get("place")
         if not isinstance(place, int) or not 0 <= place < len(marches):
             raise answers.Wrong("place is that of a march")
-        judged, traced, left = [], [], MOST_STEPS
-        for march in marches:
-            answer = answers.judge({"march": march, "list": faults})
-            if "refused" in answer:
-                return answer
-            found, left = traces(march, answer["report"], left)
-            judged.append(answer)
-            traced.append(found)
-        kept = {
-            "begin": {**self.beginning.told, "march": marches[0], "list": faults, "memory": memory},
+        told = self.beginning.told
+        # where the program lies is nobody's concern to whom the file is given
+        program = {**told["program"], "path": ""}
+        kept: dict = {
+            "begin": {**told, "program": program, "march": marches[0], "list": faults, "memory": memory},
             "marches": marches,
-            "judged": judged,
-            "traced": traced,
+            "judged": [],
+            "traced": [],
             "place": place,
-            "memory": answers.memory({"march": marches[place], "memory": memory}),
-            "files": answers.files({"march": marches[place], "memory": memory, "list": faults}),
         }
+        left = MOST_STEPS
+        for march in marches:
+            with answers.Folder() as folder:
+                path = folder.put("march", march)
+                try:
+                    report = judged(path, folder.put("list", faults))
+                except Refused as error:
+                    return {"refused": folder.refusal(error)}
+                found, left = traces(report, path, left)
+            kept["judged"].append({"report": answers.shown_report(report)})
+            kept["traced"].append(found)
+        kept["memory"] = answers.memory({"march": marches[place], "memory": memory})
+        kept["files"] = answers.files({"march": marches[place], "memory": memory, "list": faults})
         return {"page": whole(kept)}

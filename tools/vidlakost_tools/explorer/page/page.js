@@ -198,13 +198,16 @@ const askWhy = settled(0, async (signal) => {
 
 const askMemory = settled(250, async (signal) => {
   const card = memoryCard();
-  const told = await ask("memory", { march: card.field.value, memory: byId("memory-text").value }, signal);
+  const memory = byId("memory-text").value;
+  let told = await ask("memory", { march: card.field.value, memory }, signal);
+  const ofMarch = told.refused !== undefined && told.refused.what === "march";
+  if (ofMarch && card.report !== null) told = await ask("memory", { march: card.report.march, memory }, signal);
   const refused = told.refused || null;
-  const ofMarch = refused !== null && refused.what === "march";
-  showRefusal(byId("memory-said"), byId("memory-text"), ofMarch ? null : refused);
-  if (ofMarch) byId("memory-said").textContent = `March ${card.letter} is refused, so its test is not known.`;
+  const ofMemory = refused !== null && refused.what !== "march";
+  showRefusal(byId("memory-said"), byId("memory-text"), ofMemory ? refused : null);
+  if (ofMarch) byId("memory-said").append(make("div", { class: "soft" }, `March ${card.letter} is refused${refused === null ? ", and this is the test by the one before the mistake" : ""}.`));
   state.memoryTold = refused === null ? told : null;
-  for (const id of ["save-module", "save-report"]) byId(id).disabled = refused !== null;
+  for (const id of ["save-module", "save-report"]) byId(id).disabled = refused !== null || ofMarch;
   if (refused !== null) {
     clearMemory();
     return;
@@ -258,7 +261,7 @@ function listenToMemory() {
 function showProgram({ proved, quick, path }) {
   const badge = byId("program");
   badge.classList.toggle("unproved", !proved);
-  badge.textContent = proved ? "answers are proved" : quick ? "unproved: nothing beside this program says that it was proved" : "unproved: answered from the sources, each in about a minute";
+  badge.textContent = proved ? "answers are proved" : quick ? "unproved: nothing beside this program says that it was proved" : "unproved: answered from the sources, without their proofs";
   badge.title = path;
 }
 
