@@ -37,9 +37,9 @@ def words(y: float, wide: float, values: list[str]) -> list[str]:
     for cycle, value in enumerate(values):
         x = LEFT + cycle * wide
         fill = "#ffffff" if value else "#eeeeee"
-        made.append(
-            f'<path d="M{x + 3} {y}H{x + wide - 3}L{x + wide} {y + HIGH / 2:g}L{x + wide - 3} {y + HIGH}H{x + 3}L{x} {y + HIGH / 2:g}z" fill="{fill}" stroke="{INK if value else "#bbbbbb"}"/>'
-        )
+        right, middle, low = x + wide, y + HIGH / 2, y + HIGH
+        path = f"M{x + 3} {y}H{right - 3}L{right} {middle:g}L{right - 3} {low}H{x + 3}L{x} {middle:g}z"
+        made.append(f'<path d="{path}" fill="{fill}" stroke="{INK if value else "#bbbbbb"}"/>')
         if value:
             made.append(text(x + wide / 2, y + HIGH - 5, value, 11, "middle", more=' font-family="monospace"'))
     return made
@@ -86,8 +86,8 @@ def first_read(given: list, latency: int, wide: float) -> list[str]:
 
 
 def first_cycles(elements: list[Element], memory: Memory, told: list[str]) -> list:
-    """The command of each of the first cycles, from the first lines of `vectors`: None in the reset, in a pause, and behind
-    the end."""
+    """The command of each of the first cycles, from the first lines of `vectors`: None in the reset, in a pause, and
+    behind the end."""
     given: list = [None]
     commands = iter(told)
     for element in itertools.chain.from_iterable(itertools.repeat(elements, len(memory.backgrounds))):
@@ -103,9 +103,13 @@ def first_cycles(elements: list[Element], memory: Memory, told: list[str]) -> li
 def picture(march: str, memory: Memory, told: list[str]) -> str:
     """The first cycles of a march, from its printed form and the first lines of `vectors`."""
     given = first_cycles(elements_of(march), memory, told)
-    wide = max(LEAST, round(12 + DIGIT * max((len(word) for command in given if command for word in command), default=1)))
+    wide = max(
+        LEAST,
+        round(12 + DIGIT * max((len(word) for command in given if command for word in command), default=1)),
+    )
     shown = march if len(march) <= 60 else march[:57] + "..."
-    title = f"The first {COUNT} cycles of {shown} on {memory.words} words of {memory.bits} bits, latency {memory.latency}"
+    on = f"{memory.words} words of {memory.bits} bits, latency {memory.latency}"
+    title = f"The first {COUNT} cycles of {shown} on {on}"
     rows = signals(given, memory.latency)
     made = [text(LEFT, 16, title, 12, more=' font-weight="bold"')]
     for cycle in range(COUNT + 1):

@@ -1,6 +1,6 @@
-"""The page of `vidlakost explore` as somebody uses it: typed, ticked, clicked and led by keys in Chromium without a screen, and
-a page of elsewhere that asks it. Run by `tools/selftest` with the address of a server; it prints a line for each look, which
-begins with `ok` or `wrong`."""
+"""The page of `vidlakost explore` as somebody uses it: typed, ticked, clicked and led by keys in Chromium without a
+screen, and a page of elsewhere that asks it. Run by `tools/selftest` with the address of a server; it prints a line for
+each look, which begins with `ok` or `wrong`."""
 from __future__ import annotations
 
 import contextlib
@@ -11,6 +11,7 @@ import tempfile
 import threading
 import time
 import traceback
+from typing import Any, Callable
 
 from selenium import webdriver
 from selenium.webdriver.chrome.options import Options
@@ -26,8 +27,9 @@ REBOUND = "rebound.example"
 ELSEWHERE = """<!DOCTYPE html><title>elsewhere</title><iframe id="frame"></iframe><script>
 window.heard = {};
 async function attempt(address) {
-  const asked = { method: "POST", headers: { "Content-Type": "application/json" }, body: '{"march":"any(w0)","list":"TF"}' };
-  for (const [name, options] of [["cors", asked], ["simple", { method: "POST", mode: "no-cors", body: asked.body }], ["get", {}]]) {
+  const [method, body] = ["POST", '{"march":"any(w0)","list":"TF"}'];
+  const asked = { method, headers: { "Content-Type": "application/json" }, body };
+  for (const [name, options] of [["cors", asked], ["simple", { method, mode: "no-cors", body }], ["get", {}]]) {
     try {
       const answer = await fetch(address + (name === "get" ? "" : "judge"), options);
       heard[name] = answer.type + " " + answer.status + " " + (await answer.text()).slice(0, 40);
@@ -49,14 +51,20 @@ class Looker:
     def __init__(self, folder: pathlib.Path, address: str):
         self.folder, self.address, self.wrong = folder, address, 0
         options = Options()
-        for word in ("--headless=new", "--no-sandbox", "--disable-gpu", "--disable-dev-shm-usage", "--window-size=1400,1300"):
+        for word in (
+            "--headless=new",
+            "--no-sandbox",
+            "--disable-gpu",
+            "--disable-dev-shm-usage",
+            "--window-size=1400,1300",
+        ):
             options.add_argument(word)
         options.add_argument(f"--host-resolver-rules=MAP {REBOUND} 127.0.0.1")
         options.add_experimental_option("prefs", {"download.default_directory": str(folder)})
         options.set_capability("goog:loggingPrefs", {"browser": "ALL"})
         self.browser = webdriver.Chrome(service=Service("chromedriver"), options=options)
 
-    def look(self, what: str, holds) -> None:
+    def look(self, what: str, holds: Callable[[], object]) -> None:
         """Waits until something holds."""
         until, found = time.monotonic() + SECONDS, None
         while time.monotonic() < until:
@@ -69,7 +77,7 @@ class Looker:
         self.wrong += 1
         print(f"wrong {what}: {found!r}", flush=True)
 
-    def by_id(self, name: str):
+    def by_id(self, name: str) -> Any:
         return self.browser.find_element(By.ID, name)
 
     def text(self, name: str) -> str:
@@ -87,7 +95,7 @@ class Looker:
     def keys(self, *keys: str) -> None:
         self.browser.switch_to.active_element.send_keys(*keys)
 
-    def square(self, march: str, primitive: str):
+    def square(self, march: str, primitive: str) -> Any:
         return self.all(f"#coverage [data-march='{march}'][data-primitive='{primitive}']")[0]
 
     def saved(self, name: str) -> str:
@@ -109,12 +117,18 @@ def typed(it: Looker) -> None:
     it.look("the march of the call is judged", lambda: "32 of 50 covered" in it.text("cards"))
     it.look("the page says which program answers", lambda: "proved" in it.text("program"))
     it.write("march-A", MARCH.replace("up(r0", "upp(r0"))
-    it.look("a mistake is told at its place", lambda: "line 1, column 10" in it.text("said-A") and "did you mean 'up'?" in it.text("said-A"))
+    it.look(
+        "a mistake is told at its place",
+        lambda: "line 1, column 10" in it.text("said-A") and "did you mean 'up'?" in it.text("said-A"),
+    )
     it.look("what could stand there is told", lambda: "up, down, any or del" in it.text("said-A"))
     it.look("a field with a mistake says so", lambda: it.by_id("march-A").get_attribute("aria-invalid") == "true")
     it.all("#said-A button")[0].click()
     it.keys(Keys.ARROW_RIGHT, Keys.ARROW_RIGHT, Keys.ARROW_RIGHT, Keys.BACKSPACE)
-    it.look("a mended march is judged", lambda: it.by_id("march-A").get_attribute("value") == MARCH and it.text("said-A") == "")
+    it.look(
+        "a mended march is judged",
+        lambda: it.by_id("march-A").get_attribute("value") == MARCH and it.text("said-A") == "",
+    )
     it.look("its length is told", lambda: "10n long" in it.text("cards"))
     it.write("march-A", "{any(w0);d")
     it.look("words are offered", lambda: [word.text for word in it.all(".words button")] == ["down", "del"])
@@ -133,7 +147,15 @@ def ticked(it: Looker) -> None:
     it.look("a class is ticked off", lambda: "34 of 80" in it.text("cards"))
     it.by_id("by-text").click()
     it.write("list", "TF\nwdf\n")
-    it.look("a mistake in the list is told", lambda: "line 2, column 1" in it.text("list-said") and "did you mean 'WDF'" in it.text("list-said"))
+    it.look(
+        "a mistake in the list is told",
+        lambda: "line 2, column 1" in it.text("list-said") and "did you mean 'WDF'" in it.text("list-said"),
+    )
+    it.write("list", "CFd")
+    it.look(
+        "words of the list are offered",
+        lambda: [word.text for word in it.all("#list-words button")] == ["CFds", "CFdr"],
+    )
     it.write("list", "TF\n<0w0/1/->\n")
     it.look("a list as text is judged", lambda: "2 of 3 covered" in it.text("cards") and it.text("list-said") == "")
     it.by_id("static").click()
@@ -143,26 +165,41 @@ def ticked(it: Looker) -> None:
 def changed(it: Looker) -> None:
     """What changes is marked."""
     it.write("march-A", MARCH.replace("up(r0,w1)", "up(r0,r0,w0,w1)"))
-    it.look("what is newly covered is marked", lambda: it.square("A", "<0r0/1/0>").get_attribute("class") == "square covered gained")
+    it.look(
+        "what is newly covered is marked",
+        lambda: it.square("A", "<0r0/1/0>").get_attribute("class") == "square covered gained",
+    )
     it.look("the change is told", lambda: "1 more" in it.text("summary"))
     it.write("march-A", MARCH)
-    it.look("what is no longer covered is marked", lambda: it.square("A", "<0r0/1/0>").get_attribute("class") == "square lost")
+    it.look(
+        "what is no longer covered is marked",
+        lambda: it.square("A", "<0r0/1/0>").get_attribute("class") == "square lost",
+    )
 
 
 def stepped(it: Looker) -> None:
     """An escape, step by step to its end, and a primitive that is covered."""
     it.square("A", "<0r0/1/0>").click()
-    it.look("why it escapes is told", lambda: "and r1" not in it.text("why") and "Escapes from march A" in it.text("why"))
+    it.look(
+        "why it escapes is told",
+        lambda: "and r1" not in it.text("why") and "Escapes from march A" in it.text("why"),
+    )
     it.look("the program is asked as well", lambda: "The program says passes" in it.text("why"))
     it.look("the player has the focus", lambda: it.browser.switch_to.active_element.get_attribute("id") == "player")
     count = int(it.all("#player input")[0].get_attribute("max"))
     for _ in range(count):
         it.keys(Keys.ARROW_RIGHT)
-    it.look("it is stepped to its end", lambda: f"Step {count} of {count}." in it.text("player") and "as expected" in it.text("player"))
+    it.look(
+        "it is stepped to its end",
+        lambda: f"Step {count} of {count}." in it.text("player") and "as expected" in it.text("player"),
+    )
     it.keys(Keys.HOME)
     it.look("it is stepped back", lambda: f"Step 0 of {count}." in it.text("player"))
     it.all("#player .player button")[4].click()
-    it.look("it is led to where the fault acts", lambda: "The fault acts on cell" in it.text("player") and len(it.all("#why .struck")) == 1)
+    it.look(
+        "it is led to where the fault acts",
+        lambda: "The fault acts on cell" in it.text("player") and len(it.all("#why .struck")) == 1,
+    )
     it.square("A", "<0w1/0/->").click()
     it.look("a covered one is told", lambda: "Covered by march A" in it.text("why"))
     it.browser.execute_script("arguments[0].focus()", it.square("A", "<0w1/0/->"))
@@ -198,7 +235,10 @@ def remembered(it: Looker) -> None:
     it.write("memory-text", "memory 1\nname little # one\nwords 4\nbits 8\n")
     it.look("the text is in the form", lambda: it.by_id("memory-name").get_attribute("value") == "little")
     it.write("memory-latency", "2")
-    it.look("a line of version 2 makes it one", lambda: it.by_id("memory-text").get_attribute("value").startswith("memory 2\nname little # one\n"))
+    it.look(
+        "a line of version 2 makes it one",
+        lambda: it.by_id("memory-text").get_attribute("value").startswith("memory 2\nname little # one\n"),
+    )
     it.look("latency counts", lambda: "164" in it.text("figures"))
     it.by_id("save-module").click()
     it.look("a module is saved", lambda: it.saved("little_bist.v").startswith("module little_bist("))
@@ -218,7 +258,8 @@ def remembered(it: Looker) -> None:
 
 def named(it: Looker) -> None:
     """What a screen reader needs, and both schemes of colours."""
-    nameless = [node.get_attribute("outerHTML")[:80] for node in it.all("button, input, select, textarea") if not node.accessible_name]
+    used = it.all("button, input, select, textarea")
+    nameless = [node.get_attribute("outerHTML")[:80] for node in used if not node.accessible_name]
     it.look("everything that is used has a name", lambda: nameless == [] or nameless)
     papers = []
     for scheme in ("light", "dark"):
@@ -235,8 +276,14 @@ def marked_up(it: Looker) -> None:
     it.look("a march with markup is refused", lambda: "can't stand here" in it.text("said-A"))
     it.write("memory-text", MARKUP.replace("\n", " "))
     it.look("a memory with markup is refused", lambda: "line 1, column 1" in it.text("memory-said"))
-    it.look("markup is shown as text", lambda: "<img src=x" in it.all("#said-A pre")[0].text or "onerror" in it.by_id("march-A").get_attribute("value"))
-    it.look("and is nothing else", lambda: it.browser.title == "Vidlakost: try a march" and len(it.all("script, img")) <= before)
+    it.look(
+        "markup is shown as text",
+        lambda: "<img" in it.all("#said-A pre")[0].text,
+    )
+    it.look(
+        "and is nothing else",
+        lambda: it.browser.title == "Vidlakost: try a march" and len(it.all("script, img")) <= before,
+    )
     it.write("march-A", MARCH)
     it.write("memory-text", "memory 1\nname little\nwords 4\nbits 8\n")
     it.look("the page goes on", lambda: "32 of 50" in it.text("cards") and "163" in it.text("figures"))
@@ -248,16 +295,22 @@ def kept(it: Looker) -> None:
     it.look("the page is saved", lambda: it.saved("march.html").startswith("<!DOCTYPE html>"))
     it.look("the page was quiet", lambda: it.complaints() == [] or it.complaints())
     it.browser.get((it.folder / "march.html").as_uri())
-    it.look("the file has the verdicts", lambda: "A covers 32 of 50 in 10n · B covers 48 of 50 in 22n" in it.text("summary"))
+    it.look(
+        "the file has the verdicts",
+        lambda: "A covers 32 of 50 in 10n · B covers 48 of 50 in 22n" in it.text("summary"),
+    )
     it.square("A", "<0r0/1/0>").click()
-    it.look("the file plays an escape", lambda: "Escapes from march A" in it.text("why") and "Step 0 of" in it.text("player"))
+    it.look(
+        "the file plays an escape",
+        lambda: "Escapes from march A" in it.text("why") and "Step 0 of" in it.text("player"),
+    )
     it.look("the file has the memory", lambda: "163" in it.text("figures") and len(it.all("#cycles img")) == 1)
     it.look("the file takes no other march", lambda: it.by_id("march-A").get_attribute("readonly") is not None)
     it.look("the file is quiet", lambda: it.complaints() == [])
 
 
 def elsewhere(it: Looker) -> None:
-    """A page of another origin, even one that knows the address, gets nothing; nor does a name that is bound to it anew."""
+    """A page of another origin, even one that knows the address, gets nothing; nor does a name bound to it anew."""
 
     class Page(http.server.BaseHTTPRequestHandler):
         def do_GET(self) -> None:
@@ -275,13 +328,19 @@ def elsewhere(it: Looker) -> None:
     it.browser.execute_script("attempt(arguments[0])", it.address)
     it.look("another page was heard out", lambda: it.browser.execute_script("return Object.keys(heard).length") == 4)
     heard = it.browser.execute_script("return heard")
-    it.look("another page gets nothing", lambda: {**heard, "simple": ""} == {"cors": "refused", "simple": "", "get": "refused", "script": "refused"} or heard)
+    it.look(
+        "another page gets nothing",
+        lambda: [heard[name] for name in ("cors", "get", "script")] == ["refused"] * 3 or heard,
+    )
     it.look("nor by a simple request", lambda: heard["simple"] in ("refused", "opaque 0 "))
     it.browser.switch_to.frame(it.by_id("frame"))
     it.look("it is in no frame", lambda: it.all("#march-A") == [])
     it.browser.switch_to.default_content()
     it.browser.get(it.address.replace("127.0.0.1", REBOUND))
-    it.look("a name that is bound to it is refused", lambda: "this is not the host that was asked" in it.browser.page_source)
+    it.look(
+        "a name that is bound to it is refused",
+        lambda: "this is not the host that was asked" in it.browser.page_source,
+    )
     server.shutdown()
 
 

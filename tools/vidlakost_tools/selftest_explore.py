@@ -1,5 +1,5 @@
-"""The server of `vidlakost explore` asked by plain HTTP, as its page asks it, as others on the machine may ask it, and as a
-page of elsewhere in the same browser does; then its page in a browser. `tools/selftest` goes through them."""
+"""The server of `vidlakost explore` asked by plain HTTP, as its page asks it, as others on the machine may ask it, and as
+a page of elsewhere in the same browser does; then its page in a browser. `tools/selftest` goes through them."""
 from __future__ import annotations
 
 import contextlib
@@ -11,7 +11,13 @@ import socket
 import subprocess
 import sys
 import time
+from typing import Any, Iterator
 
+from vidlakost_tools import cycles_picture
+from vidlakost_tools.explorer import answers, kept, server
+from vidlakost_tools.faults import Array, read_primitive
+from vidlakost_tools.march import elements_of
+from vidlakost_tools.memory import parse_memory
 from vidlakost_tools.program import ROOT
 
 MARCH = "{any(w0);up(r0,w1);up(r1,w0);down(r0,w1);down(r1,w0);any(r0)}"
@@ -25,9 +31,9 @@ INTERPRETERS = [sys.executable, "/usr/bin/python3"]
 class Served:
     """A server that runs, and requests to it."""
 
-    def __init__(self, process: subprocess.Popen):
+    def __init__(self, process: subprocess.Popen[str]):
         self.process = process
-        self.address = process.stdout.readline().strip()
+        self.address = process.stdout.readline().strip() if process.stdout else ""
         self.host, self.token = self.address[len("http://") : -1].split("/")
         self.port = int(self.host.split(":")[1])
 
@@ -44,17 +50,18 @@ class Served:
                     answered += piece
         return answered
 
-    def request(self, name: str, body: bytes | None = None, **changed) -> tuple[int, bytes]:
-        """The status and the body of an answer to a request as the page makes it, with some of its headers changed (None:
-        left out)."""
+    def request(self, name: str, body: bytes | None = None, **changed: Any) -> tuple[int, bytes]:
+        """The status and the body of an answer to a request as the page makes it, with some of its headers changed
+        (None: left out)."""
         headers: dict = {"Host": self.host}
         if body is not None:
             headers.update({"Origin": f"http://{self.host}", "Content-Type": JSON, "Content-Length": len(body)})
-        headers.update({key.replace("_", "-"): value for key, value in changed.items() if key not in ("path", "method")})
+        headers.update({key: value for key, value in changed.items() if key not in ("path", "method")})
         path = changed.get("path", f"/{self.token}/{name}")
         lines = [f"{changed.get('method', 'GET' if body is None else 'POST')} {path} HTTP/1.1"]
         lines += [f"{key}: {value}" for key, value in headers.items() if value is not None]
-        head, _, rest = self.send("\r\n".join([*lines, "", ""]).encode("latin-1") + (body or b"")).partition(b"\r\n\r\n")
+        request = "\r\n".join([*lines, "", ""]).encode("latin-1") + (body or b"")
+        head, _, rest = self.send(request).partition(b"\r\n\r\n")
         parts = head.split(b" ", 2)
         return int(parts[1]) if len(parts) == 3 else 0, rest
 
@@ -64,7 +71,7 @@ class Served:
 
 
 @contextlib.contextmanager
-def serving(bench, *words: str):
+def serving(bench: Any, *words: str) -> Iterator[Served]:
     """A server with these words, which Ctrl-C ends."""
     process = subprocess.Popen(
         ["tools/explore", *words],
@@ -83,10 +90,50 @@ def serving(bench, *words: str):
         bench.is_so((process.returncode, said) == (0, ""), f"explore ends with {process.returncode} and says {said!r}")
 
 
+# ---- the parts by themselves
+
+
+def units(bench: Any) -> None:
+    """Parts of the page's program, with answers found by hand."""
+    told = list(answers.apart("TF and WDF of the victim, while the aggressor is in a state"))
+    wanted = [f"{name} of the victim, while the aggressor is in a state" for name in ("TF", "WDF")]
+    bench.is_so(told == wanted, f"what a row says of two classes is {told}")
+    bench.is_so(answers.in_words()["CFir"] == "IRF of the victim, while the aggressor is in a state", "CFir in words")
+    bench.is_so(answers.shortened("a" * 500) == "a" * 200 + "..." + "a" * 200, "a long line is not shortened")
+    steps = Array(read_primitive("<0w0/1/->"), None, 0, "01").march(elements_of("{up(w0,r0);del;down(r1)}"), "uud")
+    places = [(step["element"], step["place"], step["cell"]) for step in answers.shown_steps(list(steps))]
+    bench.is_so(places == [(None, 0, None), (0, 0, 0), (0, 1, 0)], f"the places of steps are {places}")
+    memory = parse_memory("memory 2\nname s\nwords 2\nbits 1\npause 2\nbackgrounds 0 1\n")
+    first = cycles_picture.first_cycles(
+        elements_of("{any(w0);del;any(r0)}"),
+        memory,
+        "w 0 0,w 1 0,r 0 0,r 1 0,w 0 1,w 1 1".split(","),
+    )
+    reads = [command and command[0] for command in first]
+    bench.is_so(
+        reads == [None, "w", "w", None, None, "r", "r", "w", "w", None, None, None],
+        f"the first cycles are {first}",
+    )
+    one, other = socket.socketpair()
+    with one, other:
+        reader = server.Reader(one)
+        reader.allow(0.2, 3)
+        other.sendall(b"four")
+        bench.is_so(reader.read(10) == b"fou", "more is read than may be")
+        with contextlib.suppress(socket.timeout):
+            bench.is_so(not reader.read(1), "a fourth byte is read of three")
+    page = kept.whole({"text": "</script><b>"})
+    bench.is_so(
+        page.count("</script>") == 2 and "<b>" not in page.split("<script", 1)[1],
+        "a text ends the script of a kept page",
+    )
+    bench.is_so("src=" not in page.split("<style>")[0] and "href=\"page" not in page, "a kept page names other files")
+
+
 # ---- what the page asks
 
 
-def questions(bench, served: Served) -> None:
+def questions(bench: Any, served: Served) -> None:
     """Each question, with an answer that is known."""
     begin = served.ask("begin", {})
     bench.is_so(begin.get("march") == MARCH + "\n", f"explore begins with {begin.get('march')!r}")
@@ -112,17 +159,20 @@ def questions(bench, served: Served) -> None:
     bench.is_so(files["module"].startswith("module s_bist("), f"the module is {files['module'][:40]!r}")
     page = served.ask("keep", {"marches": [MARCH], "list": "TF\n", "memory": MEMORY, "place": 0})["page"]
     bench.is_so(bench.environment["VIDLAKOST_PROGRAM"] not in page, "a kept page tells where the program lies")
-    bench.is_so('id="kept"' in page and "page.css" not in page and "page.js" not in page, "a page is kept without its parts")
+    bench.is_so(
+        'id="kept"' in page and "page.css" not in page and "page.js" not in page,
+        "a page is kept without its parts",
+    )
 
 
 # ---- what is refused
 
 
-def strangers(bench, served: Served) -> None:
+def strangers(bench: Any, served: Served) -> None:
     """Requests of those who don't know the token, of other pages, and of names that were bound to this address."""
     question = json.dumps({"march": MARCH, "list": "TF\n"}).encode()
     elsewhere = "http://elsewhere.example"
-    rows = [
+    rows: list[tuple[int, dict]] = [
         (404, {"path": "/"}),
         (404, {"path": "/begin"}),
         (404, {"path": f"/{'A' * len(served.token)}/"}),
@@ -152,7 +202,7 @@ def strangers(bench, served: Served) -> None:
     for status, changed in rows:
         got, body = served.request("", **changed)
         bench.is_so(got == status and b"<" not in body, f"explore answers {changed} with {got} {body[:80]!r}")
-    asked = [
+    asked: list[tuple[int, dict]] = [
         (403, {"Origin": elsewhere}),
         (403, {"Origin": "null"}),
         (403, {"Origin": None}),
@@ -172,9 +222,17 @@ def strangers(bench, served: Served) -> None:
         bench.is_so(got == status, f"explore answers a question with {changed} by {got} {body[:80]!r}")
 
 
-def wrong_questions(bench, served: Served) -> None:
+def wrong_questions(bench: Any, served: Served) -> None:
     """Questions that no page asks."""
-    bodies = [b"", b"[]", b"1", b"{", b"[" * 100000, b'{"march": 1, "list": "TF"}', b'{"march": "\\ud800", "list": "TF"}']
+    bodies = [
+        b"",
+        b"[]",
+        b"1",
+        b"{",
+        b"[" * 100000,
+        b'{"march": 1, "list": "TF"}',
+        b'{"march": "\\ud800", "list": "TF"}',
+    ]
     for body in bodies:
         got, said = served.request("judge", body)
         bench.is_so(got == 400, f"explore answers {body[:40]!r} with {got} {said[:80]!r}")
@@ -189,11 +247,14 @@ def wrong_questions(bench, served: Served) -> None:
         bench.is_so(got == 400, f"explore answers {name} {question} with {got} {said[:80]!r}")
     told = served.ask("judge", {"march": MARKUP, "list": "TF\n"})
     bench.is_so("refused" in told, f"a march with markup is told as {told}")
-    page = served.ask("keep", {"marches": [MARCH], "list": "TF # </script><script>x</script>\n", "memory": MEMORY, "place": 0})
+    page = served.ask(
+        "keep",
+        {"marches": [MARCH], "list": "TF # </script><script>x</script>\n", "memory": MEMORY, "place": 0},
+    )
     bench.is_so("</script><script>x" not in page["page"], "a list with markup ends the script of a kept page")
 
 
-def headers(bench, served: Served) -> None:
+def headers(bench: Any, served: Served) -> None:
     """What a browser is told of each answer, also of one that is refused."""
     for request in (f"GET /{served.token}/ HTTP/1.1\r\nHost: {served.host}\r\n\r\n", "GET / HTTP/1.1\r\n\r\n"):
         head = served.send(request.encode()).split(b"\r\n\r\n")[0].decode().lower()
@@ -202,9 +263,10 @@ def headers(bench, served: Served) -> None:
         bench.is_so("unsafe" not in head and "access-control" not in head, f"explore answers {request!r} with {head}")
 
 
-def refused_of(held: list) -> int:
+def refused_of(held: list[socket.socket]) -> int:
     """How many of some connections are refused within a while."""
-    refused, until = set(), time.monotonic() + 15
+    refused: set[int] = set()
+    until = time.monotonic() + 15
     while len(refused) <= 500 and time.monotonic() < until:
         for place, connection in enumerate(held):
             with contextlib.suppress(OSError):
@@ -214,14 +276,17 @@ def refused_of(held: list) -> int:
     return len(refused)
 
 
-def floods(bench, served: Served) -> None:
+def floods(bench: Any, served: Served) -> None:
     """A body of 2 MiB, a slow body, and a thousand connections at once; the page is answered afterwards."""
     got, _ = served.request("judge", b" " * (2 << 20))
     bench.is_so(got in (0, 413), f"explore answers a body of 2 MiB with {got}")
     begun = time.monotonic()
     head = f"POST /{served.token}/judge HTTP/1.1\r\nHost: {served.host}\r\nOrigin: http://{served.host}\r\n"
     said = served.send(f"{head}Content-Type: {JSON}\r\nContent-Length: 50\r\n\r\n{{".encode())
-    bench.is_so(b" 408 " in said[:20] and time.monotonic() - begun < 15, f"explore answers a slow body with {said[:40]!r}")
+    bench.is_so(
+        b" 408 " in said[:20] and time.monotonic() - begun < 15,
+        f"explore answers a slow body with {said[:40]!r}",
+    )
     held = [socket.socket() for _ in range(1000)]
     for connection in held:
         connection.settimeout(5)
@@ -235,7 +300,7 @@ def floods(bench, served: Served) -> None:
     bench.is_so("classes" in served.ask("begin", {}), "explore does not answer after a thousand connections")
 
 
-def ended(bench) -> None:
+def ended(bench: Any) -> None:
     """A port that is taken, a file that is missing, one that is no text, and SIGTERM."""
     bench.look(["tools/explore", "missing.m"], 2, "", "explore: missing.m: No such file")
     bench.look(["tools/explore", "bytes.m"], 2, "", "explore: a file is not UTF-8")
@@ -245,10 +310,13 @@ def ended(bench) -> None:
     bench.look(["tools/explore", "c.m", "tf.list", "s.mem", "c.m"], 2, "", "explore: too many words")
     with serving(bench) as served:
         taken = bench.run(["tools/explore", "--port", str(served.port)])
-        bench.is_so(taken.returncode == 2 and "in use" in taken.stderr, f"a port that is taken is told as {taken.stderr!r}")
+        bench.is_so(
+            taken.returncode == 2 and "in use" in taken.stderr,
+            f"a port that is taken is told as {taken.stderr!r}",
+        )
 
 
-def by_http(bench) -> None:
+def by_http(bench: Any) -> None:
     """Everything that needs no browser."""
     ended(bench)
     with serving(bench, "c.m") as served:
@@ -269,11 +337,11 @@ def interpreter() -> str | None:
     return None
 
 
-def in_browser(bench) -> None:
+def in_browser(bench: Any) -> None:
     """The page as somebody uses it, in Chromium without a screen."""
     python = interpreter() if shutil.which("chromium") and shutil.which("chromedriver") else None
     if python is None:
-        print("chromium, chromium-driver or python3-selenium is not installed, so the page of explore is not tried in a browser")
+        print("chromium, chromium-driver or python3-selenium is not installed, so the page of explore is tried in no browser")
         return
     with serving(bench, "c.m") as served:
         done = subprocess.run(
@@ -289,7 +357,10 @@ def in_browser(bench) -> None:
     lines = done.stdout.splitlines()
     for line in lines:
         bench.is_so(line.startswith("ok "), f"explore in a browser: {line}")
-    bench.is_so(done.returncode == 0 and len(lines) > 20, f"the browser's run ends with {done.returncode}: {done.stdout[-600:]}")
+    bench.is_so(
+        done.returncode == 0 and len(lines) > 20,
+        f"the browser's run ends with {done.returncode}: {done.stdout[-600:]}",
+    )
 
 
-PARTS = [by_http, in_browser]
+PARTS = [units, by_http, in_browser]

@@ -1,15 +1,17 @@
-"""What the page asks, each time answered by the program: verdicts, what could stand at a place, an escape step by step, a
-memory, and the files to save.
+"""What the page asks, each time answered by the program: verdicts, what could stand at a place, an escape step by step,
+a memory, and the files to save.
 
 A question is an object of JSON and so is its answer. A text that the program refuses is no failure: its answer is
 `refused`, with the place and the words of the launcher's explanation."""
 from __future__ import annotations
 
+import dataclasses
 import itertools
 import os
 import pathlib
 import re
 import tempfile
+from typing import Callable, Iterable
 
 from vidlakost_tools import cycles_picture, diagnose, reasons
 from vidlakost_tools.faults import Step
@@ -23,6 +25,7 @@ from vidlakost_tools.tool import Refused, ToolError
 
 # how long a call of a program may take that answers in milliseconds
 SECONDS = 10.0
+LONGEST_LINE = 400
 DYNAMIC = ["DYN1", "DYN2"]
 # what stands for the classes in a list, where it isn't the name itself
 WORDS = {"DYN1": "dyn1", "DYN2": "dyn2"}
@@ -48,6 +51,10 @@ def text_in(question: dict, name: str) -> str:
     return text
 
 
+def shortened(line: str) -> str:
+    return line if len(line) <= LONGEST_LINE else f"{line[: LONGEST_LINE // 2]}...{line[-LONGEST_LINE // 2 :]}"
+
+
 class Folder:
     """A folder of one question, in which each text has the name of what it is."""
 
@@ -68,18 +75,25 @@ class Folder:
 
     def refusal(self, error: Refused) -> dict:
         """A refusal at its place, as the launcher explains it."""
-        lines = [line.replace(f"{self.path}{os.sep}", "") for line in diagnose.lines(error.words, error.said, error.status)]
+        told = diagnose.lines(error.words, error.said, error.status)
+        # a word may be as long as the text
+        lines = [shortened(line.replace(f"{self.path}{os.sep}", "")) for line in told]
         found = re.match(r"(\w+)(?::(\d+):(\d+))?: (?:error|warning): (.*)", lines[0]) if lines else None
         made: dict = {"said": error.said, "status": error.status}
         if found is None:
             return {**made, "what": error.said.split(" ")[0], "message": error.said, "notes": lines}
         made.update(what=found[1], message=found[4], notes=[line.strip() for line in lines[1:]])
         if found[2]:
-            made.update(line=int(found[2]), column=int(found[3]), shown=lines[1:3], notes=[line.strip() for line in lines[3:]])
+            made.update(
+                line=int(found[2]),
+                column=int(found[3]),
+                shown=lines[1:3],
+                notes=[line.strip() for line in lines[3:]],
+            )
         return made
 
 
-def refusable(answer):
+def refusable(answer: Callable[[Folder, dict], dict]) -> Callable[[dict], dict]:
     """The answer of a question whose texts may be refused."""
 
     def asked(question: dict) -> dict:
@@ -107,7 +121,7 @@ def in_words() -> dict:
     return found
 
 
-def apart(means: str):
+def apart(means: str) -> Iterable[str]:
     """What a row says of each of its classes, in their order: as 'TF and WDF of the victim' of two."""
     listed = re.fullmatch(r"((?:[A-Z]+, )*[A-Z]+) and ([A-Z]+) (.*)", means)
     parts = [*listed[1].split(", "), listed[2]] if listed else []
@@ -141,14 +155,18 @@ def classes() -> list[dict]:
 
 
 class Beginning:
-    """What does not change while a page is open: which program answers, the gallery and the classes; and the texts that the
-    page begins with."""
+    """What does not change while a page is open: which program answers, the gallery and the classes; and the texts that
+    the page begins with."""
 
     def __init__(self, march: str | None, faults: str | None, memory: str | None):
         named = bool(os.environ.get("VIDLAKOST_PROGRAM") or os.environ.get("VIDLAKOST"))
         program = settle(SECONDS)
-        self.told = {
-            "program": {"path": program or "the kit's rt try", "proved": is_proved(program, named), "quick": program is not None},
+        self.told: dict = {
+            "program": {
+                "path": program or "the kit's rt try",
+                "proved": is_proved(program, named),
+                "quick": program is not None,
+            },
             "version": version()[0],
             "gallery": gallery(),
             "classes": classes(),
@@ -166,7 +184,7 @@ class Beginning:
 
 def shown_report(report: Report) -> dict:
     """A report in the schema of `report --json`, with the elements of its march."""
-    elements = [{"text": element.text, "order": element.order, "operations": element.operations} for element in report.elements]
+    elements = [dataclasses.asdict(element) for element in report.elements]
     return {**report.as_object(), "elements": elements}
 
 
@@ -204,11 +222,11 @@ def shown_steps(steps: list[Step]) -> list[dict]:
     """The steps of a run; `place` is that of the operation in its element."""
     made: list[dict] = []
     for before, step in zip([None, *steps], steps):
-        same = before is not None and step.cell is not None and (before.element, before.cell) == (step.element, step.cell)
+        visit = None if before is None or before.cell is None else (before.element, before.cell)
         made.append(
             {
                 "element": step.element,
-                "place": made[-1]["place"] + 1 if same else 0,
+                "place": made[-1]["place"] + 1 if visit == (step.element, step.cell) else 0,
                 "operation": step.operation,
                 "cell": step.cell,
                 "cells": step.cells,
@@ -221,8 +239,8 @@ def shown_steps(steps: list[Step]) -> list[dict]:
 
 
 def replayed(verdict: Verdict, elements: list[Element], march: pathlib.Path) -> dict:
-    """Why an escape escapes, and its steps, in the plain model of the definition; and what `sim` says of it, which takes no
-    dynamic primitives."""
+    """Why an escape escapes, and its steps, in the plain model of the definition; and what `sim` says of it, which takes
+    no dynamic primitives."""
     why, steps = reasons.reason(verdict, elements)
     made: dict = {"why": why, "steps": shown_steps(steps)}
     if not verdict.is_dynamic:

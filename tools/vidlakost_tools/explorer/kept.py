@@ -81,7 +81,7 @@ class Keeper:
             raise answers.Wrong("place is that of a march")
         told = self.beginning.told
         # where the program lies is nobody's concern to whom the file is given
-        program = {**told["program"], "path": ""}
+        program: dict = {**told["program"], "path": ""}
         kept: dict = {
             "begin": {**told, "program": program, "march": marches[0], "list": faults, "memory": memory},
             "marches": marches,

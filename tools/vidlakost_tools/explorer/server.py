@@ -13,8 +13,10 @@ import json
 import secrets
 import socket
 import socketserver
+import sys
 import threading
 import time
+from typing import Any, Callable
 
 from vidlakost_tools.explorer.answers import Wrong
 from vidlakost_tools.tool import ToolError, tell
@@ -58,7 +60,7 @@ class Reader(io.RawIOBase):
     def readable(self) -> bool:
         return True
 
-    def readinto(self, buffer) -> int:
+    def readinto(self, buffer: Any) -> int:
         rest = self.until - time.monotonic()
         if rest <= 0 or self.left <= 0:
             raise socket.timeout("too slow, or too much")
@@ -87,7 +89,7 @@ class Explorer(socketserver.ThreadingMixIn, socketserver.TCPServer):
     def address(self) -> str:
         return f"http://{self.host}/{self.token}/"
 
-    def process_request(self, request, client_address) -> None:
+    def process_request(self, request: Any, client_address: Any) -> None:
         """A thread for a connection, where one is free."""
         if self.slots.acquire(blocking=False):
             super().process_request(request, client_address)
@@ -99,16 +101,14 @@ class Explorer(socketserver.ThreadingMixIn, socketserver.TCPServer):
             pass
         self.shutdown_request(request)
 
-    def process_request_thread(self, request, client_address) -> None:
+    def process_request_thread(self, request: Any, client_address: Any) -> None:
         try:
             super().process_request_thread(request, client_address)
         finally:
             self.slots.release()
 
-    def handle_error(self, request, client_address) -> None:
+    def handle_error(self, request: Any, client_address: Any) -> None:
         """A connection that broke is nobody's concern, and a failure of ours is told in a line."""
-        import sys
-
         error = sys.exc_info()[1]
         if not isinstance(error, OSError):
             tell(f"explore: a request failed: {type(error).__name__}: {error}")
@@ -132,7 +132,7 @@ class Handler(http.server.BaseHTTPRequestHandler):
 
     def only(self, name: str) -> str | None:
         """The value of a header that stands at most once."""
-        values = self.headers.get_all(name, [])
+        values: list[str] = self.headers.get_all(name) or []
         if len(values) > 1:
             raise Refusal(400, f"{name} stands twice")
         return values[0] if values else None
@@ -160,7 +160,7 @@ class Handler(http.server.BaseHTTPRequestHandler):
     def do_POST(self) -> None:
         self.attempt(self.question)
 
-    def attempt(self, answer) -> None:
+    def attempt(self, answer: Callable[[], tuple[int, str, bytes]]) -> None:
         """Sends an answer, or why there is none."""
         try:
             status, kind, content = answer()
@@ -188,7 +188,8 @@ class Handler(http.server.BaseHTTPRequestHandler):
         name = self.named()
         if name not in self.server.pages:
             raise Refusal(404, "there is no such page")
-        return (200, *self.server.pages[name])
+        kind, content = self.server.pages[name]
+        return 200, kind, content
 
     def question(self) -> tuple[int, str, bytes]:
         name = self.named()

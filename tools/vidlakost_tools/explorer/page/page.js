@@ -22,6 +22,7 @@ function buildClasses() {
   byId("everything").addEventListener("click", () => tickAll(() => true));
   for (const id of ["by-classes", "by-text"]) byId(id).addEventListener("change", () => showMode());
   byId("list").addEventListener("input", judgeAll);
+  completion(byId("list"), byId("list-words"), "list");
   byId("save-list").addEventListener("click", () => save("faults.list", listText()));
 }
 
@@ -249,6 +250,7 @@ function listenToMemory() {
   buildMemoryForm(askMemory);
   byId("memory-text").value = state.begin.memory;
   byId("memory-text").addEventListener("input", () => askMemory());
+  completion(byId("memory-text"), byId("memory-words-offered"), "memory");
   byId("memory-march").addEventListener("change", () => askMemory());
   byId("clock").addEventListener("input", () => state.memoryTold && showFigures(state.memoryTold));
   byId("save-memory").addEventListener("click", () => save(`${state.memoryTold ? state.memoryTold.memory.name : "memory"}.mem`, byId("memory-text").value));
