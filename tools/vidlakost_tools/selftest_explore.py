@@ -1,5 +1,5 @@
-"""The server of `vidlakost explore` asked by plain HTTP, as its page asks it, as others on the machine may ask it, and as
-a page of elsewhere in the same browser does; then its page in a browser. `tools/selftest` goes through them."""
+"""The server of `vidlakost explore` asked by plain HTTP, as its page asks it, as others on the machine may ask it, and
+as a page of elsewhere in the same browser does; then its page in a browser. `tools/selftest` goes through them."""
 from __future__ import annotations
 
 import contextlib
@@ -341,7 +341,7 @@ def in_browser(bench: Any) -> None:
     """The page as somebody uses it, in Chromium without a screen."""
     python = interpreter() if shutil.which("chromium") and shutil.which("chromedriver") else None
     if python is None:
-        print("chromium, chromium-driver or python3-selenium is not installed, so the page of explore is tried in no browser")
+        print("chromium, chromium-driver or python3-selenium is missing, so the page of explore is tried in no browser")
         return
     with serving(bench, "c.m") as served:
         done = subprocess.run(

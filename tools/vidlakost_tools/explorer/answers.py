@@ -239,8 +239,8 @@ def shown_steps(steps: list[Step]) -> list[dict]:
 
 
 def replayed(verdict: Verdict, elements: list[Element], march: pathlib.Path) -> dict:
-    """Why an escape escapes, and its steps, in the plain model of the definition; and what `sim` says of it, which takes
-    no dynamic primitives."""
+    """Why an escape escapes, and its steps, in the plain model of the definition; and what `sim` says of it, which
+    takes no dynamic primitives."""
     why, steps = reasons.reason(verdict, elements)
     made: dict = {"why": why, "steps": shown_steps(steps)}
     if not verdict.is_dynamic:

@@ -39,7 +39,8 @@ function squareOf(card, state, choose, isChosen) {
 function rowOf(card, states, isAlone, choose, isChosen) {
   const squares = states.map((state) => squareOf(card, state, choose, isChosen));
   const count = `${states.filter((state) => state.verdict.covered).length}/${states.length}`;
-  return make("div", { class: card.isStale ? "row stale" : "row", role: "group", "aria-label": `march ${card.letter}, ${count}` },
+  const label = `march ${card.letter}, ${count}`;
+  return make("div", { class: card.isStale ? "row stale" : "row", role: "group", "aria-label": label },
     ...(isAlone ? [] : [make("span", { class: "letter" }, card.letter)]),
     make("div", { class: "squares" }, ...squares),
     make("span", { class: "count" }, count));
@@ -65,7 +66,8 @@ function showCoverage(cards, classes, choose, isChosen) {
 function summaryOf({ card, gained, lost }) {
   const { covered, primitives } = card.report.total;
   const change = [gained ? `${gained} more` : "", lost ? `${lost} fewer` : ""].filter(Boolean).join(", ");
-  return `${card.letter} covers ${covered} of ${primitives} in ${card.report.length}${change ? ` (${change} than before)` : ""}`;
+  const against = change ? ` (${change} than before)` : "";
+  return `${card.letter} covers ${covered} of ${primitives} in ${card.report.length}${against}`;
 }
 
 /** One square is reached by Tab: that which had the focus, or the first. */
@@ -89,7 +91,8 @@ function squareBy(key, square) {
   if (key === "Home") return inRow[0];
   if (key === "End") return inRow[inRow.length - 1];
   const other = rows[row + (key === "ArrowDown" ? 1 : key === "ArrowUp" ? -1 : 0)];
-  return other && other !== square.parentElement ? other.children[Math.min(place, other.children.length - 1)] : undefined;
+  if (!other || other === square.parentElement) return undefined;
+  return other.children[Math.min(place, other.children.length - 1)];
 }
 
 /** Leads from square to square by keys. */

@@ -21,9 +21,14 @@ function withLine(text, name, value) {
   const comment = at >= 0 && lines[at].includes("#") ? ` ${lines[at].slice(lines[at].indexOf("#"))}` : "";
   if (value === "" && at >= 0) lines.splice(at, 1);
   else if (at >= 0) lines[at] = `${name} ${value}${comment}`;
-  else if (value !== "") lines.splice(lines.findLastIndex(isOf(name === "backgrounds" ? "none" : "bits")) + 1 || lines.length, 0, `${name} ${value}`);
+  else if (value !== "") {
+    const behind = name === "backgrounds" ? -1 : lines.findIndex(isOf("bits"));
+    lines.splice(behind >= 0 ? behind + 1 : lines.length, 0, `${name} ${value}`);
+  }
   const version = lines.findIndex(isOf("memory"));
-  if (VERSION_2.includes(name) && version >= 0) lines[version] = lines[version].replace(/memory([ \t]+)1\b/, "memory$12");
+  if (VERSION_2.includes(name) && version >= 0) {
+    lines[version] = lines[version].replace(/memory([ \t]+)1\b/, (_, blanks) => `memory${blanks}2`);
+  }
   return lines.join("\n") + "\n";
 }
 
@@ -64,13 +69,15 @@ function showFigures(told) {
     ["cycles", told.cycles.toLocaleString("en"), "large"],
     [`time at ${megahertz} MHz`, megahertz > 0 ? timeOf(told.cycles, megahertz) : "no clock", "large"],
   ];
-  byId("figures").replaceChildren(...rows.flatMap(([name, value, kind]) => [make("dt", {}, name), make("dd", kind ? { class: kind } : {}, value)]));
+  byId("figures").replaceChildren(...rows.flatMap(([name, value, kind]) =>
+    [make("dt", {}, name), make("dd", kind ? { class: kind } : {}, value)]));
 }
 
 /** The picture of the first cycles, which the server draws from what `vectors` writes. */
 function showCycles(told) {
   if (told.picture === null) {
-    byId("cycles").replaceChildren(make("p", { class: "soft" }, "The test is longer than the 2,000,000 cycles of which the program lists the commands, so that there is no picture."));
+    byId("cycles").replaceChildren(make("p", { class: "soft" },
+      "The program lists the commands of at most 2,000,000 cycles, and this test is longer: there is no picture."));
     return;
   }
   const commands = told.first.map((command, cycle) => `${cycle + 1}: ${command}`).join("; ");

@@ -8,7 +8,8 @@ const state = { cards: [], begin: null, ticks: new Map(), chosen: null, memoryTo
 
 function listText() {
   if (byId("by-text").checked) return byId("list").value;
-  return state.begin.classes.filter(({ name }) => state.ticks.get(name).checked).map(({ word }) => `${word}\n`).join("");
+  const ticked = state.begin.classes.filter(({ name }) => state.ticks.get(name).checked);
+  return ticked.map(({ word }) => `${word}\n`).join("");
 }
 
 function buildClasses() {
@@ -57,10 +58,13 @@ function addCard(text) {
   card.field.value = text;
   card.figures = make("p", { class: "figures" });
   card.said = make("div", { class: "said", id: `said-${letter}`, role: "status" });
-  card.words = make("div", { class: "words", role: "group", "aria-label": "what could stand at the cursor (Ctrl and space)" });
+  card.words = make("div", { class: "words", role: "group",
+    "aria-label": "what could stand at the cursor (Ctrl and space)" });
   card.gallery = galleryOf(card);
-  card.remove = make("button", { type: "button", "aria-label": `remove march ${letter}`, click: () => removeCard(card) }, "Remove");
-  card.save = make("button", { type: "button", "aria-label": `save march ${letter}`, click: () => save(`march_${letter}.m`, card.field.value) }, "Save");
+  card.remove = make("button", { type: "button", "aria-label": `remove march ${letter}`,
+    click: () => removeCard(card) }, "Remove");
+  card.save = make("button", { type: "button", "aria-label": `save march ${letter}`,
+    click: () => save(`march_${letter}.m`, card.field.value) }, "Save");
   card.node = make("div", { class: "card" },
     make("div", { class: "title" }, make("span", { class: "letter" }, letter), card.gallery,
       make("span", { class: "buttons" }, card.save, card.remove)),
@@ -80,7 +84,8 @@ function addCard(text) {
 }
 
 function galleryOf(card) {
-  const options = state.begin.gallery.map(({ name, length }, place) => make("option", { value: String(place) }, `${name}, ${length}`));
+  const options = state.begin.gallery.map(({ name, length }, place) =>
+    make("option", { value: String(place) }, `${name}, ${length}`));
   const select = make("select", { "aria-label": `begin march ${card.letter} from one of the gallery` },
     make("option", { value: "" }, "begin from the gallery"), ...options);
   select.addEventListener("change", () => {
@@ -143,7 +148,9 @@ async function judgeCard(card, signal) {
 function take(card, report, list) {
   const key = `${report.march}\n${list}`;
   if (card.key === key) return;
-  if (card.report !== null) card.before = new Map(card.report.verdicts.map((verdict) => [verdict.primitive, verdict.covered]));
+  if (card.report !== null) {
+    card.before = new Map(card.report.verdicts.map((verdict) => [verdict.primitive, verdict.covered]));
+  }
   [card.key, card.report] = [key, report];
   if (state.chosen !== null && state.chosen.card === card) askWhy();
 }
@@ -206,7 +213,10 @@ const askMemory = settled(250, async (signal) => {
   const refused = told.refused || null;
   const ofMemory = refused !== null && refused.what !== "march";
   showRefusal(byId("memory-said"), byId("memory-text"), ofMemory ? refused : null);
-  if (ofMarch) byId("memory-said").append(make("div", { class: "soft" }, `March ${card.letter} is refused${refused === null ? ", and this is the test by the one before the mistake" : ""}.`));
+  if (ofMarch) {
+    const by = refused === null ? ", and this is the test by the one before the mistake" : "";
+    byId("memory-said").append(make("div", { class: "soft" }, `March ${card.letter} is refused${by}.`));
+  }
   state.memoryTold = refused === null ? told : null;
   for (const id of ["save-module", "save-report"]) byId(id).disabled = refused !== null || ofMarch;
   if (refused !== null) {
@@ -221,7 +231,8 @@ const askMemory = settled(250, async (signal) => {
 /** Saves the module or the report of `compile`. */
 async function saveCompiled(what) {
   try {
-    const told = await ask("files", { march: memoryCard().field.value, memory: byId("memory-text").value, list: listText() });
+    const question = { march: memoryCard().field.value, memory: byId("memory-text").value, list: listText() };
+    const told = await ask("files", question);
     if (told.refused) throw new Error(`the ${told.refused.what} is refused: ${told.refused.message}`);
     save(what === "module" ? `${told.name}_bist.v` : `${told.name}.report`, told[what]);
     trouble("");
@@ -232,12 +243,9 @@ async function saveCompiled(what) {
 
 async function savePage() {
   try {
-    if (kept !== null) {
-      save("march.html", `<!DOCTYPE html>\n${document.documentElement.outerHTML}`);
-      return;
-    }
     const marches = state.cards.map((card) => card.field.value);
-    const told = await ask("keep", { marches, list: listText(), memory: byId("memory-text").value, place: state.cards.indexOf(memoryCard()) });
+    const place = state.cards.indexOf(memoryCard());
+    const told = await ask("keep", { marches, list: listText(), memory: byId("memory-text").value, place });
     if (told.refused) throw new Error(`the ${told.refused.what} is refused: ${told.refused.message}`);
     save("march.html", told.page);
     trouble("");
@@ -253,7 +261,9 @@ function listenToMemory() {
   completion(byId("memory-text"), byId("memory-words-offered"), "memory");
   byId("memory-march").addEventListener("change", () => askMemory());
   byId("clock").addEventListener("input", () => state.memoryTold && showFigures(state.memoryTold));
-  byId("save-memory").addEventListener("click", () => save(`${state.memoryTold ? state.memoryTold.memory.name : "memory"}.mem`, byId("memory-text").value));
+  byId("save-memory").addEventListener("click", () => {
+    save(`${state.memoryTold ? state.memoryTold.memory.name : "memory"}.mem`, byId("memory-text").value);
+  });
   byId("save-module").addEventListener("click", () => saveCompiled("module"));
   byId("save-report").addEventListener("click", () => saveCompiled("report"));
 }
@@ -263,14 +273,16 @@ function listenToMemory() {
 function showProgram({ proved, quick, path }) {
   const badge = byId("program");
   badge.classList.toggle("unproved", !proved);
-  badge.textContent = proved ? "answers are proved" : quick ? "unproved: nothing beside this program says that it was proved" : "unproved: answered from the sources, without their proofs";
+  const unproved = quick ? "nothing beside this program says that it was proved" : "answered from the sources, without their proofs";
+  badge.textContent = proved ? "answered by the proved program" : `unproved: ${unproved}`;
   badge.title = path;
 }
 
 /** A page that is a file shows what it keeps, and takes no other texts. */
 function freeze() {
   for (const field of document.querySelectorAll("textarea, #memory-form input")) field.readOnly = true;
-  for (const field of document.querySelectorAll("select, #classes input, [name=mode], #static, #everything, #save-page")) field.disabled = true;
+  const taken = "select, #classes input, [name=mode], #static, #everything, #save-page";
+  for (const field of document.querySelectorAll(taken)) field.disabled = true;
   byId("program").textContent += ", kept in this file";
 }
 

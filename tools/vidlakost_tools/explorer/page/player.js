@@ -7,7 +7,8 @@ function showCovered(into, title, means, card) {
     make("h3", { tabindex: "-1" }, title),
     make("p", { class: "soft small" }, means),
     make("p", { class: "verdict is-covered" }, `Covered by march ${card.letter}.`),
-    make("p", {}, "In every array, wherever the fault is, from every content and in every choice of directions, some read of this march differs."));
+    make("p", {}, "In every array, wherever the fault is, from every content and in every choice of directions, some read of ",
+      "this march differs."));
 }
 
 const ORDERS = { u: "up", d: "down" };
@@ -59,7 +60,8 @@ function tableOf(steps) {
     const place = step.element === null ? "start" : `element ${step.element}`;
     const cell = step.cell === null ? "" : `cell ${step.cell}`;
     const answer = step.answer === null ? "" : `reads ${step.answer}`;
-    return `${place.padEnd(11)} ${step.operation.padEnd(4)} ${cell.padEnd(7)} ${step.cells} ${step.acts ? "*" : " "} ${answer}`.trimEnd();
+    const mark = step.acts ? "*" : " ";
+    return `${place.padEnd(11)} ${step.operation.padEnd(4)} ${cell.padEnd(7)} ${step.cells} ${mark} ${answer}`.trimEnd();
   });
   return lines.join("\n");
 }
@@ -69,30 +71,35 @@ function playerOf(told, verdict) {
   const { steps, report: { elements } } = told;
   const scene = make("div", {});
   const words = make("p", { class: "step", role: "status" });
-  const slider = make("input", { type: "range", min: "0", max: String(steps.length - 1), value: "0", "aria-label": "step",
+  const end = steps.length - 1;
+  const slider = make("input", { type: "range", min: "0", max: String(end), value: "0", "aria-label": "step",
     input: () => show(Number(slider.value)) });
   const acting = steps.findIndex((step) => step.acts);
   let at = 0;
   function show(place) {
-    at = Math.max(0, Math.min(steps.length - 1, place));
+    at = Math.max(0, Math.min(end, place));
     const step = steps[at];
     const { done, acts } = wordsOf(step, verdict.escape);
     scene.replaceChildren(marchAt(elements, step), cellsAt(verdict.escape, step));
-    words.replaceChildren(make("b", {}, `Step ${at} of ${steps.length - 1}. `), done, make("span", { class: "acts" }, acts));
+    words.replaceChildren(make("b", {}, `Step ${at} of ${end}. `), done, make("span", { class: "acts" }, acts));
     slider.value = String(at);
     slider.setAttribute("aria-valuetext", done + acts);
-    [first.disabled, back.disabled, forward.disabled, last.disabled] = [at === 0, at === 0, at === steps.length - 1, at === steps.length - 1];
+    first.disabled = back.disabled = at === 0;
+    forward.disabled = last.disabled = at === end;
   }
-  const button = (label, sign, to) => make("button", { type: "button", "aria-label": label, title: label, click: () => show(to()) }, sign);
+  const button = (label, sign, to) =>
+    make("button", { type: "button", "aria-label": label, title: label, click: () => show(to()) }, sign);
   const first = button("first step (Home)", "\u00ab", () => 0);
   const back = button("step back (left arrow)", "\u2039", () => at - 1);
   const forward = button("step forward (right arrow)", "\u203a", () => at + 1);
-  const last = button("last step (End)", "\u00bb", () => steps.length - 1);
-  const toActing = make("button", { type: "button", disabled: acting < 0, title: "where the fault first acts", click: () => show(acting) }, "acts here");
-  const player = make("div", { id: "player", tabindex: "0", role: "group", "aria-label": "The escape, step by step: arrows, Home and End" },
+  const last = button("last step (End)", "\u00bb", () => end);
+  const toActing = make("button", { type: "button", disabled: acting < 0, title: "where the fault first acts",
+    click: () => show(acting) }, "acts here");
+  const label = "The escape, step by step: arrows, Home and End";
+  const player = make("div", { id: "player", tabindex: "0", role: "group", "aria-label": label },
     scene, words, make("div", { class: "player" }, first, back, slider, forward, last, toActing));
   player.addEventListener("keydown", (event) => {
-    const to = { ArrowLeft: at - 1, ArrowRight: at + 1, Home: 0, End: steps.length - 1 }[event.key];
+    const to = { ArrowLeft: at - 1, ArrowRight: at + 1, Home: 0, End: end }[event.key];
     if (to === undefined || event.ctrlKey || event.altKey || event.metaKey) return;
     event.preventDefault();
     show(to);
@@ -116,9 +123,12 @@ function showEscape(into, title, means, card, verdict, told) {
   }
   into.append(playerOf(told, verdict));
   if (told.sim) {
-    into.append(make("p", { class: "small" }, "The program says ", make("b", {}, told.sim.said), " of ", make("code", {}, told.sim.words.join(" "))));
+    into.append(make("p", { class: "small" }, "The program says ", make("b", {}, told.sim.said), " of ",
+      make("code", {}, told.sim.words.join(" "))));
   } else {
-    into.append(make("p", { class: "soft small" }, "Replayed by the definition: the program has no call for two operations."));
+    into.append(make("p", { class: "soft small" },
+      "Replayed by the definition: the program has no call for two operations."));
   }
-  into.append(make("details", {}, make("summary", {}, "All steps"), make("pre", { tabindex: "0" }, tableOf(told.steps))));
+  into.append(make("details", {}, make("summary", {}, "All steps"),
+    make("pre", { tabindex: "0" }, tableOf(told.steps))));
 }
