@@ -5,6 +5,7 @@ from __future__ import annotations
 import contextlib
 import json
 import os
+import pathlib
 import shutil
 import signal
 import socket
@@ -300,25 +301,42 @@ def floods(bench: Any, served: Served) -> None:
     bench.is_so("classes" in served.ask("begin", {}), "explore does not answer after a thousand connections")
 
 
-def ended(bench: Any) -> None:
-    """A port that is taken, a file that is missing, one that is no text, and SIGTERM."""
+def words_of_all() -> str:
+    """The words of all calls that run, as everybody on the machine can read them."""
+    told = []
+    for path in pathlib.Path("/proc").glob("[0-9]*/cmdline"):
+        with contextlib.suppress(OSError):
+            told.append(path.read_text("utf-8", "replace"))
+    return "\n".join(told)
+
+
+def begun(bench: Any) -> None:
+    """Words and files that are wrong, a port that is taken, and a browser that is opened."""
     bench.look(["tools/explore", "missing.m"], 2, "", "explore: missing.m: No such file")
     bench.look(["tools/explore", "bytes.m"], 2, "", "explore: a file is not UTF-8")
     bench.look(["tools/explore", "large.m"], 2, "", "explore: 'large.m' has more than 1,048,576 bytes")
     bench.look(["tools/explore", "--port", "x"], 2, "", "explore: --port is a number")
     bench.look(["tools/explore", "--port", "65536"], 2, "", "explore: --port is at most 65535")
     bench.look(["tools/explore", "c.m", "tf.list", "s.mem", "c.m"], 2, "", "explore: too many words")
-    with serving(bench) as served:
+    script = 'ls -l "${1#file://}" >opening; cat "${1#file://}" >>opening; mv opening opened\n'
+    (bench.folder / "browser").write_text(script)
+    bench.environment["BROWSER"] = "sh browser %s"
+    with serving(bench, "--open") as served:
+        until, opened = time.monotonic() + 10, bench.folder / "opened"
+        while time.monotonic() < until and not opened.exists():
+            time.sleep(0.05)
+        told = opened.read_text() if opened.exists() else ""
+        bench.is_so(told.startswith("-rw-------") and served.address in told, f"the browser is given {told!r}")
+        bench.is_so(served.token not in words_of_all(), "the words of a call tell the token")
         taken = bench.run(["tools/explore", "--port", str(served.port)])
-        bench.is_so(
-            taken.returncode == 2 and "in use" in taken.stderr,
-            f"a port that is taken is told as {taken.stderr!r}",
-        )
+        said = f"explore: port {served.port} can't be had: Address already in use\n"
+        bench.is_so((taken.returncode, taken.stderr) == (2, said), f"a port that is taken is told as {taken.stderr!r}")
+    del bench.environment["BROWSER"]
 
 
 def by_http(bench: Any) -> None:
     """Everything that needs no browser."""
-    ended(bench)
+    begun(bench)
     with serving(bench, "c.m") as served:
         for part in (questions, strangers, wrong_questions, headers, floods):
             part(bench, served)

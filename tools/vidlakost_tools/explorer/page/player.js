@@ -99,6 +99,7 @@ function playerOf(told, verdict) {
   const player = make("div", { id: "player", tabindex: "0", role: "group", "aria-label": label },
     scene, words, make("div", { class: "player" }, first, back, slider, forward, last, toActing));
   player.addEventListener("keydown", (event) => {
+    if (event.key === "Escape") byId("coverage").querySelector("[aria-current=true]")?.focus();
     const to = { ArrowLeft: at - 1, ArrowRight: at + 1, Home: 0, End: end }[event.key];
     if (to === undefined || event.ctrlKey || event.altKey || event.metaKey) return;
     event.preventDefault();
