@@ -92,6 +92,8 @@ function galleryOf(card) {
     if (select.value === "") return;
     // blanks behind the elements, so that a long march breaks there
     card.field.value = state.begin.gallery[Number(select.value)].text.replace(/;\s*/g, "; ");
+    // another march is no change of the last one
+    [card.report, card.key] = [null, ""];
     changed(card);
   });
   return select;
@@ -148,7 +150,8 @@ async function judgeCard(card, signal) {
 function take(card, report, list) {
   const key = `${report.march}\n${list}`;
   if (card.key === key) return;
-  if (card.report !== null) {
+  if (card.report === null) card.before = null;
+  else {
     card.before = new Map(card.report.verdicts.map((verdict) => [verdict.primitive, verdict.covered]));
   }
   [card.key, card.report] = [key, report];
