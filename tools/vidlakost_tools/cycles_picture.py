@@ -2,6 +2,7 @@
 from __future__ import annotations
 
 import itertools
+from typing import List, Optional
 
 from vidlakost_tools.drawing import INK, SOFT, document, line, text
 from vidlakost_tools.march import Element, elements_of
@@ -10,13 +11,15 @@ from vidlakost_tools.memory import Memory
 COUNT, LEFT, TOP, HIGH, STEP = 12, 70, 40, 18, 34
 GREEN = "#1b7f5c"
 NUMBERS = {1: "one cycle", 2: "two cycles", 3: "three cycles", 4: "four cycles"}
+# the parts of a line of `vectors`; None where no command is given
+Command = Optional[List[str]]
 # the least width of a cycle, and what a digit takes
 LEAST, DIGIT = 62, 6.8
 
 
 def wave(y: float, wide: float, bits: list[int]) -> str:
     """A signal of one bit, cycle by cycle."""
-    points: list = []
+    points: list[tuple[float, float]] = []
     for cycle, bit in enumerate(bits):
         level = y + (0 if bit else HIGH)
         points += [(LEFT + cycle * wide, level), (LEFT + (cycle + 1) * wide, level)]
@@ -24,7 +27,7 @@ def wave(y: float, wide: float, bits: list[int]) -> str:
 
 
 def clock(y: float, wide: float) -> str:
-    points: list = []
+    points: list[tuple[float, float]] = []
     for cycle in range(COUNT):
         x = LEFT + cycle * wide
         points += [(x, y + HIGH), (x, y), (x + wide / 2, y), (x + wide / 2, y + HIGH), (x + wide, y + HIGH)]
@@ -45,7 +48,7 @@ def words(y: float, wide: float, values: list[str]) -> list[str]:
     return made
 
 
-def signals(given: list, latency: int) -> list[tuple]:
+def signals(given: list[Command], latency: int) -> list[tuple[str, list[int] | list[str] | None]]:
     """The ports, each with its value in each cycle; the clock has none."""
     answers = [given[cycle - latency] if cycle >= latency else None for cycle in range(COUNT)]
     return [
@@ -61,7 +64,7 @@ def signals(given: list, latency: int) -> list[tuple]:
     ]
 
 
-def first_read(given: list, latency: int, wide: float) -> list[str]:
+def first_read(given: list[Command], latency: int, wide: float) -> list[str]:
     """The way from the first read to its word, where both are in the picture."""
     reads = [cycle for cycle, command in enumerate(given) if command and command[0] == "r" and cycle + latency < COUNT]
     if not reads:
@@ -85,16 +88,16 @@ def first_read(given: list, latency: int, wide: float) -> list[str]:
     ]
 
 
-def first_cycles(elements: list[Element], memory: Memory, told: list[str]) -> list:
+def first_cycles(elements: list[Element], memory: Memory, told: list[str]) -> list[Command]:
     """The command of each of the first cycles, from the first lines of `vectors`: None in the reset, in a pause, and
     behind the end."""
-    given: list = [None]
+    given: list[Command] = [None]
     commands = iter(told)
     for element in itertools.chain.from_iterable(itertools.repeat(elements, len(memory.backgrounds))):
         if element.is_pause:
             given += [None] * min(memory.pause, COUNT)
         else:
-            given += [tuple(command.split()) for command in itertools.islice(commands, memory.cycles_of(element))]
+            given += [command.split() for command in itertools.islice(commands, memory.cycles_of(element))]
         if len(given) >= COUNT:
             break
     return [*given, *[None] * COUNT][:COUNT]
@@ -123,9 +126,9 @@ def picture(march: str, memory: Memory, told: list[str]) -> str:
         if values is None:
             made.append(clock(y, wide))
         elif isinstance(values[0], int):
-            made.append(wave(y, wide, values))
+            made.append(wave(y, wide, [int(value) for value in values]))
         else:
-            made += words(y, wide, values)
+            made += words(y, wide, [str(value) for value in values])
     made += first_read(given, memory.latency, wide)
     made.append(
         text(

@@ -50,7 +50,7 @@ class Looker:
 
     def __init__(self, folder: pathlib.Path, address: str):
         self.folder, self.address, self.wrong = folder, address, 0
-        options = Options()
+        options: Any = Options()
         for word in (
             "--headless=new",
             "--no-sandbox",
@@ -62,7 +62,7 @@ class Looker:
         options.add_argument(f"--host-resolver-rules=MAP {REBOUND} 127.0.0.1")
         options.add_experimental_option("prefs", {"download.default_directory": str(folder)})
         options.set_capability("goog:loggingPrefs", {"browser": "ALL"})
-        self.browser = webdriver.Chrome(service=Service("chromedriver"), options=options)
+        self.browser: Any = webdriver.Chrome(service=Service("chromedriver"), options=options)
 
     def look(self, what: str, holds: Callable[[], object]) -> None:
         """Waits until something holds."""
@@ -81,9 +81,9 @@ class Looker:
         return self.browser.find_element(By.ID, name)
 
     def text(self, name: str) -> str:
-        return self.by_id(name).text
+        return str(self.by_id(name).text)
 
-    def all(self, selector: str) -> list:
+    def all(self, selector: str) -> Any:
         return self.browser.find_elements(By.CSS_SELECTOR, selector)
 
     def write(self, name: str, text: str) -> None:
@@ -107,7 +107,7 @@ class Looker:
         time.sleep(0.2)
         return path.read_text(encoding="utf-8") if path.exists() else ""
 
-    def complaints(self) -> list:
+    def complaints(self) -> Any:
         """What the browser's console says."""
         return [entry["message"] for entry in self.browser.get_log("browser")]
 

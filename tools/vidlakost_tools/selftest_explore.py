@@ -14,12 +14,8 @@ import sys
 import time
 from typing import Any, Iterator
 
-from vidlakost_tools import cycles_picture
-from vidlakost_tools.explorer import answers, kept, server
-from vidlakost_tools.faults import Array, read_primitive
-from vidlakost_tools.march import elements_of
-from vidlakost_tools.memory import parse_memory
 from vidlakost_tools.program import ROOT
+from vidlakost_tools.selftest_bench import Bench
 
 MARCH = "{any(w0);up(r0,w1);up(r1,w0);down(r0,w1);down(r1,w0);any(r0)}"
 MEMORY = "memory 1\nname s\nwords 4\nbits 1\n"
@@ -54,7 +50,7 @@ class Served:
     def request(self, name: str, body: bytes | None = None, **changed: Any) -> tuple[int, bytes]:
         """The status and the body of an answer to a request as the page makes it, with some of its headers changed
         (None: left out)."""
-        headers: dict = {"Host": self.host}
+        headers: dict[str, Any] = {"Host": self.host}
         if body is not None:
             headers.update({"Origin": f"http://{self.host}", "Content-Type": JSON, "Content-Length": len(body)})
         headers.update({key: value for key, value in changed.items() if key not in ("path", "method")})
@@ -66,13 +62,13 @@ class Served:
         parts = head.split(b" ", 2)
         return int(parts[1]) if len(parts) == 3 else 0, rest
 
-    def ask(self, name: str, question: object) -> dict:
+    def ask(self, name: str, question: object) -> dict[str, Any]:
         status, body = self.request(name, json.dumps(question).encode())
-        return json.loads(body) if status == 200 else {"status": status}
+        return dict(json.loads(body)) if status == 200 else {"status": status}
 
 
 @contextlib.contextmanager
-def serving(bench: Any, *words: str) -> Iterator[Served]:
+def serving(bench: Bench, *words: str) -> Iterator[Served]:
     """A server with these words, which Ctrl-C ends."""
     process = subprocess.Popen(
         ["tools/explore", *words],
@@ -91,50 +87,10 @@ def serving(bench: Any, *words: str) -> Iterator[Served]:
         bench.is_so((process.returncode, said) == (0, ""), f"explore ends with {process.returncode} and says {said!r}")
 
 
-# ---- the parts by themselves
-
-
-def units(bench: Any) -> None:
-    """Parts of the page's program, with answers found by hand."""
-    told = list(answers.apart("TF and WDF of the victim, while the aggressor is in a state"))
-    wanted = [f"{name} of the victim, while the aggressor is in a state" for name in ("TF", "WDF")]
-    bench.is_so(told == wanted, f"what a row says of two classes is {told}")
-    bench.is_so(answers.in_words()["CFir"] == "IRF of the victim, while the aggressor is in a state", "CFir in words")
-    bench.is_so(answers.shortened("a" * 500) == "a" * 200 + "..." + "a" * 200, "a long line is not shortened")
-    steps = Array(read_primitive("<0w0/1/->"), None, 0, "01").march(elements_of("{up(w0,r0);del;down(r1)}"), "uud")
-    places = [(step["element"], step["place"], step["cell"]) for step in answers.shown_steps(list(steps))]
-    bench.is_so(places == [(None, 0, None), (0, 0, 0), (0, 1, 0)], f"the places of steps are {places}")
-    memory = parse_memory("memory 2\nname s\nwords 2\nbits 1\npause 2\nbackgrounds 0 1\n")
-    first = cycles_picture.first_cycles(
-        elements_of("{any(w0);del;any(r0)}"),
-        memory,
-        "w 0 0,w 1 0,r 0 0,r 1 0,w 0 1,w 1 1".split(","),
-    )
-    reads = [command and command[0] for command in first]
-    bench.is_so(
-        reads == [None, "w", "w", None, None, "r", "r", "w", "w", None, None, None],
-        f"the first cycles are {first}",
-    )
-    one, other = socket.socketpair()
-    with one, other:
-        reader = server.Reader(one)
-        reader.allow(0.2, 3)
-        other.sendall(b"four")
-        bench.is_so(reader.read(10) == b"fou", "more is read than may be")
-        with contextlib.suppress(socket.timeout):
-            bench.is_so(not reader.read(1), "a fourth byte is read of three")
-    page = kept.whole({"text": "</script><b>"})
-    bench.is_so(
-        page.count("</script>") == 2 and "<b>" not in page.split("<script", 1)[1],
-        "a text ends the script of a kept page",
-    )
-    bench.is_so("src=" not in page.split("<style>")[0] and "href=\"page" not in page, "a kept page names other files")
-
-
 # ---- what the page asks
 
 
-def questions(bench: Any, served: Served) -> None:
+def questions(bench: Bench, served: Served) -> None:
     """Each question, with an answer that is known."""
     begin = served.ask("begin", {})
     bench.is_so(begin.get("march") == MARCH + "\n", f"explore begins with {begin.get('march')!r}")
@@ -169,11 +125,11 @@ def questions(bench: Any, served: Served) -> None:
 # ---- what is refused
 
 
-def strangers(bench: Any, served: Served) -> None:
+def strangers(bench: Bench, served: Served) -> None:
     """Requests of those who don't know the token, of other pages, and of names that were bound to this address."""
     question = json.dumps({"march": MARCH, "list": "TF\n"}).encode()
     elsewhere = "http://elsewhere.example"
-    rows: list[tuple[int, dict]] = [
+    rows: list[tuple[int, dict[str, Any]]] = [
         (404, {"path": "/"}),
         (404, {"path": "/begin"}),
         (404, {"path": f"/{'A' * len(served.token)}/"}),
@@ -203,7 +159,7 @@ def strangers(bench: Any, served: Served) -> None:
     for status, changed in rows:
         got, body = served.request("", **changed)
         bench.is_so(got == status and b"<" not in body, f"explore answers {changed} with {got} {body[:80]!r}")
-    asked: list[tuple[int, dict]] = [
+    asked: list[tuple[int, dict[str, Any]]] = [
         (403, {"Origin": elsewhere}),
         (403, {"Origin": "null"}),
         (403, {"Origin": None}),
@@ -223,7 +179,7 @@ def strangers(bench: Any, served: Served) -> None:
         bench.is_so(got == status, f"explore answers a question with {changed} by {got} {body[:80]!r}")
 
 
-def wrong_questions(bench: Any, served: Served) -> None:
+def wrong_questions(bench: Bench, served: Served) -> None:
     """Questions that no page asks."""
     bodies = [
         b"",
@@ -255,7 +211,7 @@ def wrong_questions(bench: Any, served: Served) -> None:
     bench.is_so("</script><script>x" not in page["page"], "a list with markup ends the script of a kept page")
 
 
-def headers(bench: Any, served: Served) -> None:
+def headers(bench: Bench, served: Served) -> None:
     """What a browser is told of each answer, also of one that is refused."""
     for request in (f"GET /{served.token}/ HTTP/1.1\r\nHost: {served.host}\r\n\r\n", "GET / HTTP/1.1\r\n\r\n"):
         head = served.send(request.encode()).split(b"\r\n\r\n")[0].decode().lower()
@@ -277,7 +233,7 @@ def refused_of(held: list[socket.socket]) -> int:
     return len(refused)
 
 
-def floods(bench: Any, served: Served) -> None:
+def floods(bench: Bench, served: Served) -> None:
     """A body of 2 MiB, a slow body, and a thousand connections at once; the page is answered afterwards."""
     got, _ = served.request("judge", b" " * (2 << 20))
     bench.is_so(got in (0, 413), f"explore answers a body of 2 MiB with {got}")
@@ -310,7 +266,7 @@ def words_of_all() -> str:
     return "\n".join(told)
 
 
-def begun(bench: Any) -> None:
+def begun(bench: Bench) -> None:
     """Words and files that are wrong, a port that is taken, and a browser that is opened."""
     bench.look(["tools/explore", "missing.m"], 2, "", "explore: missing.m: No such file")
     bench.look(["tools/explore", "bytes.m"], 2, "", "explore: a file is not UTF-8")
@@ -334,7 +290,7 @@ def begun(bench: Any) -> None:
     del bench.environment["BROWSER"]
 
 
-def by_http(bench: Any) -> None:
+def by_http(bench: Bench) -> None:
     """Everything that needs no browser."""
     begun(bench)
     with serving(bench, "c.m") as served:
@@ -355,7 +311,7 @@ def interpreter() -> str | None:
     return None
 
 
-def in_browser(bench: Any) -> None:
+def in_browser(bench: Bench) -> None:
     """The page as somebody uses it, in Chromium without a screen."""
     python = interpreter() if shutil.which("chromium") and shutil.which("chromedriver") else None
     if python is None:
@@ -381,4 +337,4 @@ def in_browser(bench: Any) -> None:
     )
 
 
-PARTS = [units, by_http, in_browser]
+PARTS = [by_http, in_browser]

@@ -11,7 +11,7 @@ import os
 import pathlib
 import re
 import tempfile
-from typing import Callable, Iterable
+from typing import Any, Callable, Dict, Iterable
 
 from vidlakost_tools import cycles_picture, diagnose, reasons
 from vidlakost_tools.faults import Step
@@ -22,6 +22,9 @@ from vidlakost_tools.program import FORMATS, ROOT, ask, is_proved, run, settle, 
 from vidlakost_tools.report import Report, Verdict, judged, read_report
 from vidlakost_tools.text import lines_of, read_text
 from vidlakost_tools.tool import Refused, ToolError
+
+# an object of JSON
+Object = Dict[str, Any]
 
 # how long a call of a program may take that answers in milliseconds
 SECONDS = 10.0
@@ -39,7 +42,7 @@ class Wrong(Exception):
     """A question that the page doesn't ask."""
 
 
-def text_in(question: dict, name: str) -> str:
+def text_in(question: Object, name: str) -> str:
     """A text of a question."""
     text = question.get(name)
     if not isinstance(text, str):
@@ -73,13 +76,13 @@ class Folder:
         path.write_bytes(text.encode("utf-8"))
         return path
 
-    def refusal(self, error: Refused) -> dict:
+    def refusal(self, error: Refused) -> Object:
         """A refusal at its place, as the launcher explains it."""
         told = diagnose.lines(error.words, error.said, error.status)
         # a word may be as long as the text
         lines = [shortened(line.replace(f"{self.path}{os.sep}", "")) for line in told]
         found = re.match(r"(\w+)(?::(\d+):(\d+))?: (?:error|warning): (.*)", lines[0]) if lines else None
-        made: dict = {"said": error.said, "status": error.status}
+        made: Object = {"said": error.said, "status": error.status}
         if found is None:
             return {**made, "what": error.said.split(" ")[0], "message": error.said, "notes": lines}
         made.update(what=found[1], message=found[4], notes=[line.strip() for line in lines[1:]])
@@ -93,10 +96,10 @@ class Folder:
         return made
 
 
-def refusable(answer: Callable[[Folder, dict], dict]) -> Callable[[dict], dict]:
+def refusable(answer: Callable[[Folder, Object], Object]) -> Callable[[Object], Object]:
     """The answer of a question whose texts may be refused."""
 
-    def asked(question: dict) -> dict:
+    def asked(question: Object) -> Object:
         with Folder() as folder:
             try:
                 return answer(folder, question)
@@ -109,9 +112,9 @@ def refusable(answer: Callable[[Folder, dict], dict]) -> Callable[[dict], dict]:
 # ---- what the page begins with
 
 
-def in_words() -> dict:
+def in_words() -> Object:
     """The classes in words, from the tables of FORMATS."""
-    found: dict = {"DYN1": "two operations, one cell", "DYN2": "two operations, two cells"}
+    found: Object = {"DYN1": "two operations, one cell", "DYN2": "two operations, two cells"}
     inside = False
     for line in lines_of(read_text(FORMATS)):
         inside = line.startswith("| Class | In words") or inside and line.startswith("|")
@@ -128,7 +131,7 @@ def apart(means: str) -> Iterable[str]:
     return [f"{part} {listed[3]}" for part in parts] if listed else itertools.repeat(means)
 
 
-def gallery() -> list[dict]:
+def gallery() -> list[Object]:
     """The marches of the gallery."""
     made = []
     for line in lines_of(read_text(MARCHES / "index")):
@@ -139,7 +142,7 @@ def gallery() -> list[dict]:
     return made
 
 
-def classes() -> list[dict]:
+def classes() -> list[Object]:
     """The classes, each with its primitives as the program lists them and what stands for it in a list."""
     report = with_text("any(w0)", lambda march: with_text(EVERY, lambda faults: judged(march, faults)))
     words = in_words()
@@ -161,7 +164,7 @@ class Beginning:
     def __init__(self, march: str | None, faults: str | None, memory: str | None):
         named = bool(os.environ.get("VIDLAKOST_PROGRAM") or os.environ.get("VIDLAKOST"))
         program = settle(SECONDS)
-        self.told: dict = {
+        self.told: Object = {
             "program": {
                 "path": program or "the kit's rt try",
                 "proved": is_proved(program, named),
@@ -175,28 +178,28 @@ class Beginning:
             "memory": FIRST_MEMORY if memory is None else memory,
         }
 
-    def answer(self, _: dict) -> dict:
+    def answer(self, _: Object) -> Object:
         return self.told
 
 
 # ---- verdicts
 
 
-def shown_report(report: Report) -> dict:
+def shown_report(report: Report) -> Object:
     """A report in the schema of `report --json`, with the elements of its march."""
     elements = [dataclasses.asdict(element) for element in report.elements]
     return {**report.as_object(), "elements": elements}
 
 
 @refusable
-def judge(folder: Folder, question: dict) -> dict:
+def judge(folder: Folder, question: Object) -> Object:
     """The verdicts of a list on a march."""
     march = folder.put("march", text_in(question, "march"))
     faults = folder.put("list", text_in(question, "list"))
     return {"report": shown_report(judged(march, faults))}
 
 
-def complete(question: dict) -> dict:
+def complete(question: Object) -> Object:
     """What could stand between two parts of a text, and how many letters before it the word that it completes has."""
     kind = text_in(question, "kind")
     if kind not in ("march", "list", "memory"):
@@ -218,9 +221,9 @@ def complete(question: dict) -> dict:
 # ---- an escape, step by step
 
 
-def shown_steps(steps: list[Step]) -> list[dict]:
+def shown_steps(steps: list[Step]) -> list[Object]:
     """The steps of a run; `place` is that of the operation in its element."""
-    made: list[dict] = []
+    made: list[Object] = []
     for before, step in zip([None, *steps], steps):
         visit = None if before is None or before.cell is None else (before.element, before.cell)
         made.append(
@@ -238,11 +241,11 @@ def shown_steps(steps: list[Step]) -> list[dict]:
     return made
 
 
-def replayed(verdict: Verdict, elements: list[Element], march: pathlib.Path) -> dict:
+def replayed(verdict: Verdict, elements: list[Element], march: pathlib.Path) -> Object:
     """Why an escape escapes, and its steps, in the plain model of the definition; and what `sim` says of it, which
     takes no dynamic primitives."""
     why, steps = reasons.reason(verdict, elements)
-    made: dict = {"why": why, "steps": shown_steps(steps)}
+    made: Object = {"why": why, "steps": shown_steps(steps)}
     if not verdict.is_dynamic:
         words = verdict.words(march)
         made["sim"] = {"words": ["sim", "MARCH", *words[2:]], "said": ask(*words)}
@@ -250,7 +253,7 @@ def replayed(verdict: Verdict, elements: list[Element], march: pathlib.Path) -> 
 
 
 @refusable
-def trace(folder: Folder, question: dict) -> dict:
+def trace(folder: Folder, question: Object) -> Object:
     """The verdict on one primitive, and of an escape what it does."""
     march = folder.put("march", text_in(question, "march"))
     primitive = text_in(question, "primitive")
@@ -276,7 +279,7 @@ def first_commands(march: pathlib.Path, memory: pathlib.Path, to: pathlib.Path) 
 
 
 @refusable
-def memory(folder: Folder, question: dict) -> dict:
+def memory(folder: Folder, question: Object) -> Object:
     """A memory under a march: its values, the length of the test, and the picture of the first cycles."""
     march = folder.put("march", text_in(question, "march"))
     described = folder.put("memory", text_in(question, "memory"))
@@ -306,7 +309,7 @@ def memory(folder: Folder, question: dict) -> dict:
 
 
 @refusable
-def files(folder: Folder, question: dict) -> dict:
+def files(folder: Folder, question: Object) -> Object:
     """The module and the report of `compile`."""
     names = [folder.put(name, text_in(question, name)) for name in ("march", "memory", "list")]
     said = ask("compile", *names, folder.path / "module", folder.path / "report")

@@ -9,6 +9,8 @@ import pathlib
 import re
 
 from vidlakost_tools.explorer import answers
+from vidlakost_tools.explorer.answers import Object
+from vidlakost_tools.explorer.server import Page
 from vidlakost_tools.report import Report, judged
 from vidlakost_tools.text import read_text
 from vidlakost_tools.tool import Refused
@@ -22,7 +24,7 @@ MOST_STEPS = 60000
 POLICY = "default-src 'none'; img-src data:; base-uri 'none'; form-action 'none'; require-trusted-types-for 'script'"
 
 
-def files() -> dict:
+def files() -> dict[str, Page]:
     """The files that are served, by name, each with its type."""
     made = {"": ("text/html", (PAGE / "index.html").read_bytes())}
     made.update({name: ("text/css", (PAGE / name).read_bytes()) for name in STYLES})
@@ -34,7 +36,7 @@ def digest(text: str) -> str:
     return f"'sha256-{base64.b64encode(hashlib.sha256(text.encode()).digest()).decode()}'"
 
 
-def whole(kept: dict) -> str:
+def whole(kept: Object) -> str:
     """The page with everything in it, under a policy that lets nothing else run."""
     page = read_text(PAGE / "index.html")
     style = "\n".join(read_text(PAGE / name) for name in STYLES)
@@ -48,9 +50,9 @@ def whole(kept: dict) -> str:
     return page.replace("</body>", parts)
 
 
-def traces(report: Report, march: pathlib.Path, left: int) -> tuple[dict, int]:
+def traces(report: Report, march: pathlib.Path, left: int) -> tuple[Object, int]:
     """The escapes of a report by their primitives, and how many steps may still be kept."""
-    found: dict = {}
+    found: Object = {}
     for verdict in report.escapes:
         if verdict.primitive not in found:
             traced = answers.replayed(verdict, report.elements, march)
@@ -59,7 +61,7 @@ def traces(report: Report, march: pathlib.Path, left: int) -> tuple[dict, int]:
     return found, left
 
 
-def texts_in(question: dict, name: str) -> list[str]:
+def texts_in(question: Object, name: str) -> list[str]:
     """The texts of the marches of a question."""
     found = question.get(name)
     if not isinstance(found, list) or not 1 <= len(found) <= MOST_MARCHES:
@@ -73,7 +75,7 @@ class Keeper:
     def __init__(self, beginning: answers.Beginning):
         self.beginning = beginning
 
-    def answer(self, question: dict) -> dict:
+    def answer(self, question: Object) -> Object:
         """The page as a file; a march or the list that is refused is told, and a memory that is refused is kept so."""
         marches, faults = texts_in(question, "marches"), answers.text_in(question, "list")
         memory, place = answers.text_in(question, "memory"), question.get("place")
@@ -81,8 +83,8 @@ class Keeper:
             raise answers.Wrong("place is that of a march")
         told = self.beginning.told
         # where the program lies is nobody's concern to whom the file is given
-        program: dict = {**told["program"], "path": ""}
-        kept: dict = {
+        program: Object = {**told["program"], "path": ""}
+        kept: Object = {
             "begin": {**told, "program": program, "march": marches[0], "list": faults, "memory": memory},
             "marches": marches,
             "judged": [],

@@ -16,9 +16,9 @@ import socketserver
 import sys
 import threading
 import time
-from typing import Any, Callable
+from typing import Any, Callable, Tuple
 
-from vidlakost_tools.explorer.answers import Wrong
+from vidlakost_tools.explorer.answers import Object, Wrong
 from vidlakost_tools.tool import ToolError, tell
 
 CONNECTIONS, CALLS = 32, 2
@@ -37,6 +37,10 @@ HEADERS = {
     "X-Content-Type-Options": "nosniff",
     "X-Frame-Options": "DENY",
 }
+
+# the type and the bytes of a file of the page
+Page = Tuple[str, bytes]
+Answer = Callable[[Object], Object]
 
 
 class Refusal(Exception):
@@ -77,7 +81,7 @@ class Explorer(socketserver.ThreadingMixIn, socketserver.TCPServer):
     allow_reuse_address = True
     request_queue_size = 64
 
-    def __init__(self, port: int, pages: dict, questions: dict):
+    def __init__(self, port: int, pages: dict[str, Page], questions: dict[str, Answer]):
         self.pages, self.questions = pages, questions
         self.token = secrets.token_urlsafe(32)
         self.slots = threading.BoundedSemaphore(CONNECTIONS)
@@ -210,7 +214,7 @@ class Handler(http.server.BaseHTTPRequestHandler):
         finally:
             self.server.calls.release()
 
-    def asked(self) -> dict:
+    def asked(self) -> Object:
         """The object that a question sends."""
         if self.only("Content-Type") != "application/json" or self.only("Transfer-Encoding") is not None:
             raise Refusal(415, "a question is an object of JSON")
