@@ -2,6 +2,7 @@
 from __future__ import annotations
 
 import dataclasses
+import hashlib
 import os
 import pathlib
 import re
@@ -16,6 +17,8 @@ ROOT = pathlib.Path(__file__).resolve().parent.parent.parent
 PROGRAM = os.environ.get("VIDLAKOST", str(ROOT / "vidlakost"))
 FORMATS = ROOT / "docs" / "FORMATS.md"
 Answer = TypeVar("Answer")
+# how long a call may take; without a bound where nothing is said
+SECONDS: float | None = None
 
 
 @dataclasses.dataclass
@@ -80,6 +83,30 @@ def quick_program() -> str | None:
     return done.stdout.strip() or None
 
 
+def settle(seconds: float) -> str | None:
+    """For a tool that asks many times: looks up once which program answers at once (None: there is none, and the launcher
+    answers unproved), asks it without the launcher from now on, and bounds the time of each call."""
+    global PROGRAM, SECONDS
+    quick = quick_program()
+    if quick:
+        PROGRAM = os.environ["VIDLAKOST_PROGRAM"] = quick
+        SECONDS = seconds
+    return quick
+
+
+def is_proved(program: str | None, named: bool) -> bool:
+    """Whether a program is known to be proved: the launcher takes no other by itself; one that was named has beside it the
+    file `kit` that its proof left, with its checksum, or is a release's own."""
+    if program is None or not named:
+        return program is not None
+    path = pathlib.Path(program)
+    if (ROOT / "RELEASE").exists() and path.resolve() == (ROOT / "libexec" / "vidlakost").resolve():
+        return True
+    kept = path.with_name("kit")
+    checksum = lines_of(read_text(kept))[:1] if kept.is_file() else []
+    return path.is_file() and checksum == [hashlib.sha256(path.read_bytes()).hexdigest()]
+
+
 def run(*words: object) -> tuple[int, str]:
     """The program's status and its line for these words."""
     quiet = {**os.environ, "VIDLAKOST_EXPLAIN": "0"}
@@ -87,8 +114,15 @@ def run(*words: object) -> tuple[int, str]:
     os.environ.setdefault("VIDLAKOST_UNPROVED", "told")
     try:
         done = subprocess.run(
-            [PROGRAM, *map(str, words)], stdout=subprocess.PIPE, stdin=subprocess.DEVNULL, env=quiet, check=False
+            [PROGRAM, *map(str, words)],
+            stdout=subprocess.PIPE,
+            stdin=subprocess.DEVNULL,
+            env=quiet,
+            timeout=SECONDS,
+            check=False,
         )
+    except subprocess.TimeoutExpired as error:
+        raise ToolError(f"the program took longer than {SECONDS:g} seconds, and was ended", 124) from error
     except OSError as error:
         raise ToolError(f"the program {PROGRAM} can't be run: {error.strerror}", 125) from error
     said = done.stdout.decode("utf-8", "replace")

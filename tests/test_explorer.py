@@ -1,0 +1,79 @@
+"""The parts of the page of `explore`, with answers found by hand."""
+from __future__ import annotations
+
+import socket
+import unittest
+
+from vidlakost_tools import cycles_picture
+from vidlakost_tools.explorer import answers, kept, server
+from vidlakost_tools.faults import Array, read_primitive
+from vidlakost_tools.march import elements_of
+from vidlakost_tools.memory import parse_memory
+
+
+class Words(unittest.TestCase):
+    def test_what_a_row_says_of_several_classes_is_said_of_each(self) -> None:
+        told = list(answers.apart("TF and WDF of the victim, while the aggressor is in a state"))
+        self.assertEqual(told, [f"{name} of the victim, while the aggressor is in a state" for name in ("TF", "WDF")])
+        self.assertEqual(answers.in_words()["CFir"], "IRF of the victim, while the aggressor is in a state")
+        self.assertEqual(answers.in_words()["DRF"], "data retention fault: the cell loses a state in a pause")
+
+    def test_a_long_line_is_shortened(self) -> None:
+        self.assertEqual(answers.shortened("a" * 400), "a" * 400)
+        self.assertEqual(answers.shortened("a" * 500), "a" * 200 + "..." + "a" * 200)
+
+    def test_a_text_is_one_of_unicode(self) -> None:
+        self.assertEqual(answers.text_in({"march": "⇑(w0)"}, "march"), "⇑(w0)")
+        for wrong in (1, None, ["x"], "\ud800"):
+            with self.assertRaises(answers.Wrong):
+                answers.text_in({"march": wrong}, "march")
+
+
+class Steps(unittest.TestCase):
+    def test_the_place_of_an_operation_is_that_in_its_element(self) -> None:
+        array = Array(read_primitive("<0w0/1/->"), None, 1, "10")
+        steps = answers.shown_steps(list(array.march(elements_of("{up(w0,w1);del;up(r1)}"), "uuu")))
+        places = [(step["element"], step["place"], step["cell"]) for step in steps]
+        written = [(0, 0, 0), (0, 1, 0), (0, 0, 1), (0, 1, 1)]
+        self.assertEqual(places, [(None, 0, None), *written, (1, 0, None), (2, 0, 0), (2, 0, 1)])
+        self.assertEqual([step["acts"] for step in steps], [False, False, False, True, False, False, False, False])
+
+    def test_pauses_stand_among_the_first_cycles(self) -> None:
+        memory = parse_memory("memory 2\nname s\nwords 2\nbits 1\npause 2\nbackgrounds 0 1\n")
+        told = "w 0 0,w 1 0,r 0 0,r 1 0,w 0 1,w 1 1".split(",")
+        given = cycles_picture.first_cycles(elements_of("{any(w0);del;any(r0)}"), memory, told)
+        kinds = [command[0] if command else None for command in given]
+        self.assertEqual(kinds, [None, "w", "w", None, None, "r", "r", "w", "w", None, None, None])
+
+
+class Bounds(unittest.TestCase):
+    def test_no_more_is_read_than_may_be(self) -> None:
+        one, other = socket.socketpair()
+        with one, other:
+            reader = server.Reader(one)
+            reader.allow(5.0, 3)
+            other.sendall(b"four")
+            self.assertEqual(reader.read(10), b"fou")
+            with self.assertRaises(socket.timeout):
+                reader.read(1)
+
+    def test_nothing_is_waited_for_longer_than_may_be(self) -> None:
+        one, other = socket.socketpair()
+        with one, other:
+            reader = server.Reader(one)
+            reader.allow(0.05, 3)
+            with self.assertRaises(socket.timeout):
+                reader.read(1)
+
+
+class Kept(unittest.TestCase):
+    def test_a_page_stands_by_itself(self) -> None:
+        page = kept.whole({"text": "</script><b>"})
+        self.assertEqual(page.count("</script>"), 2)
+        self.assertNotIn("<b>", page.split('id="kept"')[1].split("</script>")[0])
+        self.assertNotIn("page.css", page)
+        self.assertNotIn("src=", page.split("<style>")[0])
+
+
+if __name__ == "__main__":
+    unittest.main()

@@ -1,0 +1,1 @@
+"""The page on which marches are tried: what it asks and how it is served."""

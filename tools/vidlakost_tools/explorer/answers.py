@@ -1,0 +1,321 @@
+"""What the page asks, each time answered by the program: verdicts, what could stand at a place, an escape step by step,
+a memory, and the files to save.
+
+A question is an object of JSON and so is its answer. A text that the program refuses is no failure: its answer is
+`refused`, with the place and the words of the launcher's explanation."""
+from __future__ import annotations
+
+import dataclasses
+import itertools
+import os
+import pathlib
+import re
+import tempfile
+from typing import Any, Callable, Dict, Iterable
+
+from vidlakost_tools import cycles_picture, diagnose, reasons
+from vidlakost_tools.faults import Step
+from vidlakost_tools.finding import CLASSES, SHOWN, Trier, word_start
+from vidlakost_tools.march import Element, elements_of, length_of, march_of
+from vidlakost_tools.memory import read_memory
+from vidlakost_tools.program import FORMATS, ROOT, ask, is_proved, run, settle, version, with_text
+from vidlakost_tools.report import Report, Verdict, judged, read_report
+from vidlakost_tools.text import lines_of, read_text
+from vidlakost_tools.tool import Refused, ToolError
+
+# an object of JSON
+Object = Dict[str, Any]
+
+# how long a call of a program may take that answers in milliseconds
+SECONDS = 10.0
+LONGEST_LINE = 400
+DYNAMIC = ["DYN1", "DYN2"]
+# what stands for the classes in a list, where it isn't the name itself
+WORDS = {"DYN1": "dyn1", "DYN2": "dyn2"}
+EVERY = "all\nDRF\ndyn1\ndyn2\n"
+MARCHES = ROOT / "examples" / "marches"
+FIRST_MARCH = "{any(w0);up(r0,w1);down(r1,w0)}"
+FIRST_MEMORY = "memory 2\nname buffer\nwords 16\nbits 8\nlatency 1\nbackgrounds log\n"
+
+
+class Wrong(Exception):
+    """A question that the page doesn't ask."""
+
+
+def text_in(question: Object, name: str) -> str:
+    """A text of a question."""
+    text = question.get(name)
+    if not isinstance(text, str):
+        raise Wrong(f"{name} is no text")
+    try:
+        text.encode("utf-8")
+    except UnicodeEncodeError as error:
+        raise Wrong(f"{name} is no text of Unicode") from error
+    return text
+
+
+def shortened(line: str) -> str:
+    return line if len(line) <= LONGEST_LINE else f"{line[: LONGEST_LINE // 2]}...{line[-LONGEST_LINE // 2 :]}"
+
+
+class Folder:
+    """A folder of one question, in which each text has the name of what it is."""
+
+    def __init__(self) -> None:
+        self.held = tempfile.TemporaryDirectory(prefix="vidlakost-explore-")
+        self.path = pathlib.Path(self.held.name)
+
+    def __enter__(self) -> Folder:
+        return self
+
+    def __exit__(self, *ended: object) -> None:
+        self.held.cleanup()
+
+    def put(self, name: str, text: str) -> pathlib.Path:
+        path = self.path / name
+        path.write_bytes(text.encode("utf-8"))
+        return path
+
+    def refusal(self, error: Refused) -> Object:
+        """A refusal at its place, as the launcher explains it."""
+        told = diagnose.lines(error.words, error.said, error.status)
+        # a word may be as long as the text
+        lines = [shortened(line.replace(f"{self.path}{os.sep}", "")) for line in told]
+        found = re.match(r"(\w+)(?::(\d+):(\d+))?: (?:error|warning): (.*)", lines[0]) if lines else None
+        made: Object = {"said": error.said, "status": error.status}
+        if found is None:
+            return {**made, "what": error.said.split(" ")[0], "message": error.said, "notes": lines}
+        made.update(what=found[1], message=found[4], notes=[line.strip() for line in lines[1:]])
+        if found[2]:
+            made.update(
+                line=int(found[2]),
+                column=int(found[3]),
+                shown=lines[1:3],
+                notes=[line.strip() for line in lines[3:]],
+            )
+        return made
+
+
+def refusable(answer: Callable[[Folder, Object], Object]) -> Callable[[Object], Object]:
+    """The answer of a question whose texts may be refused."""
+
+    def asked(question: Object) -> Object:
+        with Folder() as folder:
+            try:
+                return answer(folder, question)
+            except Refused as error:
+                return {"refused": folder.refusal(error)}
+
+    return asked
+
+
+# ---- what the page begins with
+
+
+def in_words() -> Object:
+    """The classes in words, from the tables of FORMATS."""
+    found: Object = {"DYN1": "two operations, one cell", "DYN2": "two operations, two cells"}
+    inside = False
+    for line in lines_of(read_text(FORMATS)):
+        inside = line.startswith("| Class | In words") or inside and line.startswith("|")
+        row = re.fullmatch(r"\| ([A-Z][A-Za-z, ]*) \| ([^|]*) \|", line) if inside else None
+        if row and row[1] != "Class":
+            found.update(zip(row[1].split(", "), apart(row[2])))
+    return found
+
+
+def apart(means: str) -> Iterable[str]:
+    """What a row says of each of its classes, in their order: as 'TF and WDF of the victim' of two."""
+    listed = re.fullmatch(r"((?:[A-Z]+, )*[A-Z]+) and ([A-Z]+) (.*)", means)
+    parts = [*listed[1].split(", "), listed[2]] if listed else []
+    return [f"{part} {listed[3]}" for part in parts] if listed else itertools.repeat(means)
+
+
+def gallery() -> list[Object]:
+    """The marches of the gallery."""
+    made = []
+    for line in lines_of(read_text(MARCHES / "index")):
+        if line and not line.startswith("#"):
+            file, name, length, source, purpose = (part.strip() for part in line.split("|"))
+            text = read_text(MARCHES / file).strip()
+            made.append({"name": name, "length": length, "source": source, "purpose": purpose, "text": text})
+    return made
+
+
+def classes() -> list[Object]:
+    """The classes, each with its primitives as the program lists them and what stands for it in a list."""
+    report = with_text("any(w0)", lambda march: with_text(EVERY, lambda faults: judged(march, faults)))
+    words = in_words()
+    return [
+        {
+            "name": name,
+            "word": WORDS.get(name, name),
+            "means": words.get(name, ""),
+            "primitives": [verdict.primitive for verdict in report.verdicts if verdict.kind == name],
+        }
+        for name in [*CLASSES, *DYNAMIC]
+    ]
+
+
+class Beginning:
+    """What does not change while a page is open: which program answers, the gallery and the classes; and the texts that
+    the page begins with."""
+
+    def __init__(self, march: str | None, faults: str | None, memory: str | None):
+        named = bool(os.environ.get("VIDLAKOST_PROGRAM") or os.environ.get("VIDLAKOST"))
+        program = settle(SECONDS)
+        self.told: Object = {
+            "program": {
+                "path": program or "the kit's rt try",
+                "proved": is_proved(program, named),
+                "quick": program is not None,
+            },
+            "version": version()[0],
+            "gallery": gallery(),
+            "classes": classes(),
+            "march": FIRST_MARCH if march is None else march,
+            "list": faults,
+            "memory": FIRST_MEMORY if memory is None else memory,
+        }
+
+    def answer(self, _: Object) -> Object:
+        return self.told
+
+
+# ---- verdicts
+
+
+def shown_report(report: Report) -> Object:
+    """A report in the schema of `report --json`, with the elements of its march."""
+    elements = [dataclasses.asdict(element) for element in report.elements]
+    return {**report.as_object(), "elements": elements}
+
+
+@refusable
+def judge(folder: Folder, question: Object) -> Object:
+    """The verdicts of a list on a march."""
+    march = folder.put("march", text_in(question, "march"))
+    faults = folder.put("list", text_in(question, "list"))
+    return {"report": shown_report(judged(march, faults))}
+
+
+def complete(question: Object) -> Object:
+    """What could stand between two parts of a text, and how many letters before it the word that it completes has."""
+    kind = text_in(question, "kind")
+    if kind not in ("march", "list", "memory"):
+        raise Wrong("kind is march, list or memory")
+    before, after = (text_in(question, name).encode("utf-8") for name in ("before", "after"))
+    found, whole = Trier(kind).fitting(before + after, len(before))
+    begun = "" if whole else before[word_start(before + after, len(before)) :].decode("utf-8", "replace")
+    # no word stands for these: they are told by what they are
+    named = {**SHOWN.get(kind, {}), "a hexadecimal word": "a hexadecimal word"}
+    words = [word for word in found if word not in named]
+    return {
+        "words": [word for word in words if word.startswith(begun)] or words,
+        "notes": [named[word] for word in found if word in named],
+        "begun": len(begun),
+        "whole": whole,
+    }
+
+
+# ---- an escape, step by step
+
+
+def shown_steps(steps: list[Step]) -> list[Object]:
+    """The steps of a run; `place` is that of the operation in its element."""
+    made: list[Object] = []
+    for before, step in zip([None, *steps], steps):
+        visit = None if before is None or before.cell is None else (before.element, before.cell)
+        made.append(
+            {
+                "element": step.element,
+                "place": made[-1]["place"] + 1 if visit == (step.element, step.cell) else 0,
+                "operation": step.operation,
+                "cell": step.cell,
+                "cells": step.cells,
+                "answer": step.answer,
+                "acts": step.acts,
+                "differs": step.differs,
+            }
+        )
+    return made
+
+
+def replayed(verdict: Verdict, elements: list[Element], march: pathlib.Path) -> Object:
+    """Why an escape escapes, and its steps, in the plain model of the definition; and what `sim` says of it, which
+    takes no dynamic primitives."""
+    why, steps = reasons.reason(verdict, elements)
+    made: Object = {"why": why, "steps": shown_steps(steps)}
+    if not verdict.is_dynamic:
+        words = verdict.words(march)
+        made["sim"] = {"words": ["sim", "MARCH", *words[2:]], "said": ask(*words)}
+    return made
+
+
+@refusable
+def trace(folder: Folder, question: Object) -> Object:
+    """The verdict on one primitive, and of an escape what it does."""
+    march = folder.put("march", text_in(question, "march"))
+    primitive = text_in(question, "primitive")
+    if not re.fullmatch(r"<[01wrt;]{1,24}/[01]/[-01]>", primitive):
+        raise Wrong("primitive is none of a report's")
+    report = judged(march, folder.put("list", primitive + "\n"))
+    found = {"report": shown_report(report)}
+    return {**found, **replayed(report.escapes[0], report.elements, march)} if report.escapes else found
+
+
+# ---- a memory
+
+
+def first_commands(march: pathlib.Path, memory: pathlib.Path, to: pathlib.Path) -> list[str] | None:
+    """The first commands of a test; None of one that is longer than `vectors` writes."""
+    status, said = run("vectors", march, memory, to)
+    if status == 12:
+        return None
+    if status > 1 or status < 0:
+        raise Refused(["vectors", str(march), str(memory), str(to)], said, status)
+    with open(to, encoding="ascii") as file:
+        return [line.rstrip("\n") for line in itertools.islice(file, cycles_picture.COUNT)]
+
+
+@refusable
+def memory(folder: Folder, question: Object) -> Object:
+    """A memory under a march: its values, the length of the test, and the picture of the first cycles."""
+    march = folder.put("march", text_in(question, "march"))
+    described = folder.put("memory", text_in(question, "memory"))
+    held = read_memory(described)
+    printed, elements = march_of(march)
+    ask("compile", march, described, folder.put("list", ""), folder.path / "module", folder.path / "report")
+    told = read_report(folder.path / "report").memory or {}
+    first = first_commands(march, described, folder.path / "vectors")
+    return {
+        "memory": {
+            "name": held.name,
+            "words": held.words,
+            "bits": held.bits,
+            "latency": held.latency,
+            "polarity": held.digits(held.polarity),
+            "pause": held.pause,
+            "backgrounds": " ".join(map(held.digits, held.backgrounds)),
+            "scrambled": held.rows is not None,
+        },
+        "march": printed,
+        "length": length_of(elements),
+        "commands": told["commands"],
+        "cycles": held.cycles(elements),
+        "first": first,
+        "picture": None if first is None else cycles_picture.picture(printed, held, first),
+    }
+
+
+@refusable
+def files(folder: Folder, question: Object) -> Object:
+    """The module and the report of `compile`."""
+    names = [folder.put(name, text_in(question, name)) for name in ("march", "memory", "list")]
+    said = ask("compile", *names, folder.path / "module", folder.path / "report")
+    return {
+        "said": said,
+        "name": read_memory(names[1]).name,
+        "module": read_text(folder.path / "module"),
+        "report": read_text(folder.path / "report"),
+    }

@@ -1,0 +1,107 @@
+"""The page as one file that works by itself: its texts, styles and scripts in one, and each answer that it may want."""
+from __future__ import annotations
+
+import base64
+import hashlib
+import html
+import json
+import pathlib
+import re
+
+from vidlakost_tools.explorer import answers
+from vidlakost_tools.explorer.answers import Object
+from vidlakost_tools.explorer.server import Page
+from vidlakost_tools.report import Report, judged
+from vidlakost_tools.text import read_text
+from vidlakost_tools.tool import Refused
+
+PAGE = pathlib.Path(__file__).resolve().parent / "page"
+# the files of the page, in the order in which it names them
+STYLES, SCRIPTS = ["page.css"], ["dom.js", "coverage.js", "player.js", "memory.js", "page.js"]
+MOST_MARCHES = 4
+# how many steps are kept in all: what escapes beyond them is kept without its steps
+MOST_STEPS = 60000
+POLICY = "default-src 'none'; img-src data:; base-uri 'none'; form-action 'none'; require-trusted-types-for 'script'"
+
+
+def files() -> dict[str, Page]:
+    """The files that are served, by name, each with its type."""
+    made = {"": ("text/html", (PAGE / "index.html").read_bytes())}
+    made.update({name: ("text/css", (PAGE / name).read_bytes()) for name in STYLES})
+    made.update({name: ("text/javascript", (PAGE / name).read_bytes()) for name in SCRIPTS})
+    return made
+
+
+def digest(text: str) -> str:
+    return f"'sha256-{base64.b64encode(hashlib.sha256(text.encode()).digest()).decode()}'"
+
+
+def whole(kept: Object) -> str:
+    """The page with everything in it, under a policy that lets nothing else run."""
+    page = read_text(PAGE / "index.html")
+    style = "\n".join(read_text(PAGE / name) for name in STYLES)
+    script = "\n".join(read_text(PAGE / name) for name in SCRIPTS)
+    policy = f"{POLICY}; style-src {digest(style)}; script-src {digest(script)}"
+    head = f'<meta http-equiv="Content-Security-Policy" content="{html.escape(policy)}">\n<style>{style}</style>'
+    data = json.dumps(kept, separators=(",", ":")).replace("<", "\\u003c")
+    page = re.sub(r'\n *<link rel="stylesheet"[^>]*>', lambda _: "\n" + head, page, count=1)
+    page = re.sub(r"\n *<script [^>]*></script>", "", page)
+    parts = f'<script type="application/json" id="kept">{data}</script>\n<script>{script}</script>\n</body>'
+    return page.replace("</body>", parts)
+
+
+def traces(report: Report, march: pathlib.Path, left: int) -> tuple[Object, int]:
+    """The escapes of a report by their primitives, and how many steps may still be kept."""
+    found: Object = {}
+    for verdict in report.escapes:
+        if verdict.primitive not in found:
+            traced = answers.replayed(verdict, report.elements, march)
+            left -= len(traced["steps"])
+            found[verdict.primitive] = traced if left >= 0 else {**traced, "steps": []}
+    return found, left
+
+
+def texts_in(question: Object, name: str) -> list[str]:
+    """The texts of the marches of a question."""
+    found = question.get(name)
+    if not isinstance(found, list) or not 1 <= len(found) <= MOST_MARCHES:
+        raise answers.Wrong(f"{name} are one to {MOST_MARCHES} texts")
+    return [answers.text_in({"march": text}, "march") for text in found]
+
+
+class Keeper:
+    """What makes the file, with what the page began with."""
+
+    def __init__(self, beginning: answers.Beginning):
+        self.beginning = beginning
+
+    def answer(self, question: Object) -> Object:
+        """The page as a file; a march or the list that is refused is told, and a memory that is refused is kept so."""
+        marches, faults = texts_in(question, "marches"), answers.text_in(question, "list")
+        memory, place = answers.text_in(question, "memory"), question.get("place")
+        if not isinstance(place, int) or not 0 <= place < len(marches):
+            raise answers.Wrong("place is that of a march")
+        told = self.beginning.told
+        # where the program lies is nobody's concern to whom the file is given
+        program: Object = {**told["program"], "path": ""}
+        kept: Object = {
+            "begin": {**told, "program": program, "march": marches[0], "list": faults, "memory": memory},
+            "marches": marches,
+            "judged": [],
+            "traced": [],
+            "place": place,
+        }
+        left = MOST_STEPS
+        for march in marches:
+            with answers.Folder() as folder:
+                path = folder.put("march", march)
+                try:
+                    report = judged(path, folder.put("list", faults))
+                except Refused as error:
+                    return {"refused": folder.refusal(error)}
+                found, left = traces(report, path, left)
+            kept["judged"].append({"report": answers.shown_report(report)})
+            kept["traced"].append(found)
+        kept["memory"] = answers.memory({"march": marches[place], "memory": memory})
+        kept["files"] = answers.files({"march": marches[place], "memory": memory, "list": faults})
+        return {"page": whole(kept)}

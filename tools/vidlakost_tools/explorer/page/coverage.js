@@ -1,0 +1,110 @@
+"use strict";
+// The squares: class by class, a row for each march, what changed against the last state marked.
+
+/** What one march covers, against what it covered before: the squares by class, and how many were won and lost. */
+function statesOf(card) {
+  const before = card.before;
+  const classes = new Map();
+  let [gained, lost] = [0, 0];
+  for (const verdict of card.report.verdicts) {
+    const had = before === null ? undefined : before.get(verdict.primitive);
+    const mark = had === undefined || had === verdict.covered ? "" : verdict.covered ? "gained" : "lost";
+    gained += mark === "gained";
+    lost += mark === "lost";
+    if (!classes.has(verdict.class)) classes.set(verdict.class, []);
+    classes.get(verdict.class).push({ verdict, mark });
+  }
+  return { classes, gained, lost };
+}
+
+/** A square, as a button that chooses it. */
+function squareOf(card, state, choose, isChosen) {
+  const { verdict, mark } = state;
+  const told = `${verdict.primitive} ${verdict.covered ? "covered" : "escapes"}`;
+  const changed = mark === "" ? "" : mark === "gained" ? ", newly covered" : ", no longer covered";
+  return make("button", {
+    type: "button",
+    class: ["square", verdict.covered ? "covered" : "", mark].filter(Boolean).join(" "),
+    title: told + changed,
+    "aria-label": `${card.letter}: ${told}${changed}`,
+    "aria-current": isChosen(card, verdict) ? "true" : undefined,
+    tabindex: "-1",
+    "data-march": card.letter,
+    "data-primitive": verdict.primitive,
+    click: (event) => choose(card, verdict, event.currentTarget),
+  });
+}
+
+/** The row of a march in a class; its letter and its count stand there where it is not alone. */
+function rowOf(card, states, isAlone, choose, isChosen) {
+  const squares = states.map((state) => squareOf(card, state, choose, isChosen));
+  const count = `${states.filter((state) => state.verdict.covered).length}/${states.length}`;
+  const label = `march ${card.letter}, ${count}`;
+  return make("div", { class: card.isStale ? "row stale" : "row", role: "group", "aria-label": label },
+    ...(isAlone ? [] : [make("span", { class: "letter" }, card.letter)]),
+    make("div", { class: "squares" }, ...squares),
+    make("span", { class: "count" }, count));
+}
+
+/** All squares of the marches that have a verdict. */
+function showCoverage(cards, classes, choose, isChosen) {
+  const into = byId("coverage");
+  const focused = into.contains(document.activeElement) ? document.activeElement.dataset : null;
+  const judged = cards.filter((card) => card.report !== null).map((card) => ({ card, ...statesOf(card) }));
+  into.replaceChildren();
+  for (const { name, means } of classes) {
+    const found = judged.filter((it) => it.classes.has(name));
+    if (found.length === 0) continue;
+    const rows = found.map(({ card, classes: of }) => rowOf(card, of.get(name), judged.length === 1, choose, isChosen));
+    into.append(make("div", { class: "class", role: "group", "aria-label": `${name}: ${means}` },
+      make("h3", { title: means }, name), make("div", { class: "rows" }, ...rows)));
+  }
+  byId("summary").textContent = judged.map(summaryOf).join(" · ");
+  keepFocus(into, focused);
+}
+
+function summaryOf({ card, gained, lost }) {
+  const { covered, primitives } = card.report.total;
+  const change = [gained ? `${gained} more` : "", lost ? `${lost} fewer` : ""].filter(Boolean).join(", ");
+  const against = change ? ` (${change} than before)` : "";
+  return `${card.letter} covers ${covered} of ${primitives} in ${card.report.length}${against}`;
+}
+
+/** One square is reached by Tab: that which had the focus, or the first. */
+function keepFocus(into, focused) {
+  const squares = [...into.querySelectorAll("button.square")];
+  const same = focused && squares.find((square) =>
+    square.dataset.march === focused.march && square.dataset.primitive === focused.primitive);
+  const first = same || into.querySelector("[aria-current=true]") || squares[0];
+  if (first) first.tabIndex = 0;
+  if (same) same.focus();
+}
+
+/** The square to which a key leads from another: along a row, to another row, to the first or the last. */
+function squareBy(key, square) {
+  const rows = [...byId("coverage").querySelectorAll(".squares")];
+  const row = rows.indexOf(square.parentElement);
+  const inRow = [...square.parentElement.children];
+  const place = inRow.indexOf(square);
+  if (key === "ArrowRight") return inRow[place + 1] || (rows[row + 1] && rows[row + 1].firstElementChild);
+  if (key === "ArrowLeft") return inRow[place - 1] || (rows[row - 1] && rows[row - 1].lastElementChild);
+  if (key === "Home") return inRow[0];
+  if (key === "End") return inRow[inRow.length - 1];
+  const other = rows[row + (key === "ArrowDown" ? 1 : key === "ArrowUp" ? -1 : 0)];
+  if (!other || other === square.parentElement) return undefined;
+  return other.children[Math.min(place, other.children.length - 1)];
+}
+
+/** Leads from square to square by keys. */
+function listenToSquares() {
+  byId("coverage").addEventListener("keydown", (event) => {
+    const square = event.target.closest("button.square");
+    if (square === null || event.ctrlKey || event.altKey || event.metaKey) return;
+    const next = squareBy(event.key, square);
+    if (!next) return;
+    event.preventDefault();
+    square.tabIndex = -1;
+    next.tabIndex = 0;
+    next.focus();
+  });
+}

@@ -1,0 +1,135 @@
+"use strict";
+// One primitive: covered, or an escape, which is played step by step.
+
+/** What is shown of a primitive that is covered. */
+function showCovered(into, title, means, card) {
+  into.replaceChildren(
+    make("h3", { tabindex: "-1" }, title),
+    make("p", { class: "soft small" }, means),
+    make("p", { class: "verdict is-covered" }, `Covered by march ${card.letter}.`),
+    make("p", {}, "In every array, wherever the fault is, from every content and in every choice of directions, some read of ",
+      "this march differs."));
+}
+
+const ORDERS = { u: "up", d: "down" };
+
+/** The march with the operation of a step marked. */
+function marchAt(elements, step) {
+  const parts = [];
+  elements.forEach((element, count) => {
+    const here = step.element === count;
+    const operations = element.operations.flatMap((operation, place) => [
+      place === 0 ? "" : ",",
+      make("span", here && step.place === place ? { class: "now" } : {}, operation),
+    ]);
+    const inside = element.order === "del"
+      ? [make("span", here ? { class: "now" } : {}, "del")]
+      : [element.text.split("(")[0], "(", ...operations, ")"];
+    parts.push(make("span", here ? { class: "here" } : {}, ...inside), count + 1 < elements.length ? "; " : "");
+  });
+  return make("div", { class: "march", "aria-hidden": "true" }, ...parts);
+}
+
+/** The cells behind a step. */
+function cellsAt(escape, step) {
+  const cells = [...step.cells].map((held, cell) => {
+    const role = cell === escape.victim ? "victim" : cell === escape.aggressor ? "aggressor" : "";
+    const classes = ["cell", step.cell === cell ? "visited" : "", step.acts && cell === escape.victim ? "struck" : ""];
+    return make("div", { class: classes.filter(Boolean).join(" ") },
+      make("div", { class: "held" }, held), `cell ${cell}`, make("b", {}, role || "\u00a0"));
+  });
+  return make("div", { class: "cells", "aria-hidden": "true" }, ...cells);
+}
+
+/** A step in words. */
+function wordsOf(step, escape) {
+  const cells = `the cells hold ${[...step.cells].join(" ")}`;
+  const direction = step.element === null ? "" : ORDERS[escape.directions[step.element]];
+  let done = "Before the march";
+  if (step.operation === "del") done = `Element ${step.element}: a pause`;
+  else if (step.element !== null) {
+    done = `Element ${step.element}, going ${direction}: ${step.operation} on cell ${step.cell}`;
+    if (step.answer !== null) done += ` reads ${step.answer}, ${step.differs ? "which differs" : "as expected"}`;
+  }
+  return { done: `${done}; ${cells}.`, acts: step.acts ? ` The fault acts on cell ${escape.victim}.` : "" };
+}
+
+/** All steps as a table of text. */
+function tableOf(steps) {
+  const lines = steps.map((step) => {
+    const place = step.element === null ? "start" : `element ${step.element}`;
+    const cell = step.cell === null ? "" : `cell ${step.cell}`;
+    const answer = step.answer === null ? "" : `reads ${step.answer}`;
+    const mark = step.acts ? "*" : " ";
+    return `${place.padEnd(11)} ${step.operation.padEnd(4)} ${cell.padEnd(7)} ${step.cells} ${mark} ${answer}`.trimEnd();
+  });
+  return lines.join("\n");
+}
+
+/** The part that changes with the step, and the keys that lead through the steps. */
+function playerOf(told, verdict) {
+  const { steps, report: { elements } } = told;
+  const scene = make("div", {});
+  const words = make("p", { class: "step", role: "status" });
+  const end = steps.length - 1;
+  const slider = make("input", { type: "range", min: "0", max: String(end), value: "0", "aria-label": "step",
+    input: () => show(Number(slider.value)) });
+  const acting = steps.findIndex((step) => step.acts);
+  let at = 0;
+  function show(place) {
+    at = Math.max(0, Math.min(end, place));
+    const step = steps[at];
+    const { done, acts } = wordsOf(step, verdict.escape);
+    scene.replaceChildren(marchAt(elements, step), cellsAt(verdict.escape, step));
+    words.replaceChildren(make("b", {}, `Step ${at} of ${end}. `), done, make("span", { class: "acts" }, acts));
+    slider.value = String(at);
+    slider.setAttribute("aria-valuetext", done + acts);
+    first.disabled = back.disabled = at === 0;
+    forward.disabled = last.disabled = at === end;
+  }
+  const button = (label, sign, to) =>
+    make("button", { type: "button", "aria-label": label, title: label, click: () => show(to()) }, sign);
+  const first = button("first step (Home)", "\u00ab", () => 0);
+  const back = button("step back (left arrow)", "\u2039", () => at - 1);
+  const forward = button("step forward (right arrow)", "\u203a", () => at + 1);
+  const last = button("last step (End)", "\u00bb", () => end);
+  const toActing = make("button", { type: "button", disabled: acting < 0, title: "where the fault first acts",
+    click: () => show(acting) }, "acts here");
+  const label = "The escape, step by step: arrows, Home and End";
+  const player = make("div", { id: "player", tabindex: "0", role: "group", "aria-label": label },
+    scene, words, make("div", { class: "player" }, first, back, slider, forward, last, toActing));
+  player.addEventListener("keydown", (event) => {
+    if (event.key === "Escape") byId("coverage").querySelector("[aria-current=true]")?.focus();
+    const to = { ArrowLeft: at - 1, ArrowRight: at + 1, Home: 0, End: end }[event.key];
+    if (to === undefined || event.ctrlKey || event.altKey || event.metaKey) return;
+    event.preventDefault();
+    show(to);
+  });
+  show(0);
+  return player;
+}
+
+/** What is shown of an escape. */
+function showEscape(into, title, means, card, verdict, told) {
+  const { escape } = verdict;
+  const array = `${escape.cells} cells that hold ${[...escape.content].join(" ")} at first; directions ${escape.directions}`;
+  into.replaceChildren(
+    make("h3", { tabindex: "-1" }, title),
+    make("p", { class: "soft small" }, means),
+    make("p", { class: "verdict is-escape" }, `Escapes from march ${card.letter}: ${told.why || ""}.`),
+    make("p", { class: "small" }, `The least array in which the march passes: ${array}.`));
+  if (told.steps.length === 0) {
+    into.append(make("p", { class: "soft" }, "This file does not keep its steps."));
+    return;
+  }
+  into.append(playerOf(told, verdict));
+  if (told.sim) {
+    into.append(make("p", { class: "small" }, "The program says ", make("b", {}, told.sim.said), " of ",
+      make("code", {}, told.sim.words.join(" "))));
+  } else {
+    into.append(make("p", { class: "soft small" },
+      "Replayed by the definition: the program has no call for two operations."));
+  }
+  into.append(make("details", {}, make("summary", {}, "All steps"),
+    make("pre", { tabindex: "0" }, tableOf(told.steps))));
+}

@@ -1,0 +1,237 @@
+"""A server on the loopback address for one page and its questions, which trusts nobody who can't name its token.
+
+Who asks has to know the token, which is a part of the address; has to say by `Host` that he means this very address,
+which a page of a name that was bound to it anew can't; and, where he asks something, by `Origin` that it is this page
+that asks. No path is looked up in the file system: the answers are those of a table. Each connection has one request,
+whose head and body are bounded in bytes and in time, and there are only so many at once."""
+from __future__ import annotations
+
+import hmac
+import http.server
+import io
+import json
+import secrets
+import socket
+import socketserver
+import sys
+import threading
+import time
+from typing import Any, Callable, Tuple
+
+from vidlakost_tools.explorer.answers import Object, Wrong
+from vidlakost_tools.tool import ToolError, tell
+
+CONNECTIONS, CALLS = 32, 2
+HEAD_SECONDS, BODY_SECONDS, WAIT_SECONDS = 3.0, 10.0, 20.0
+HEAD_BYTES, BODY_BYTES = 16384, 1 << 20
+CONTENT_POLICY = (
+    "default-src 'none'; script-src 'self'; style-src 'self'; img-src data:; connect-src 'self'; base-uri 'none'; "
+    "form-action 'none'; frame-ancestors 'none'; require-trusted-types-for 'script'"
+)
+HEADERS = {
+    "Content-Security-Policy": CONTENT_POLICY,
+    "Cache-Control": "no-store",
+    "Cross-Origin-Opener-Policy": "same-origin",
+    "Cross-Origin-Resource-Policy": "same-origin",
+    "Referrer-Policy": "no-referrer",
+    "X-Content-Type-Options": "nosniff",
+    "X-Frame-Options": "DENY",
+}
+
+# the type and the bytes of a file of the page
+Page = Tuple[str, bytes]
+Answer = Callable[[Object], Object]
+
+
+class Refusal(Exception):
+    """A request that is not answered, with the status and the words that it gets."""
+
+    def __init__(self, status: int, message: str):
+        super().__init__(message)
+        self.status, self.message = status, message
+
+
+class Reader(io.RawIOBase):
+    """What a connection sends, up to a number of bytes and until a moment."""
+
+    def __init__(self, connection: socket.socket):
+        self.connection = connection
+        self.allow(HEAD_SECONDS, HEAD_BYTES)
+
+    def allow(self, seconds: float, size: int) -> None:
+        self.until, self.left = time.monotonic() + seconds, size
+
+    def readable(self) -> bool:
+        return True
+
+    def readinto(self, buffer: Any) -> int:
+        rest = self.until - time.monotonic()
+        if rest <= 0 or self.left <= 0:
+            raise socket.timeout("too slow, or too much")
+        self.connection.settimeout(rest)
+        got = self.connection.recv_into(memoryview(buffer)[: self.left])
+        self.left -= got
+        return got
+
+
+class Explorer(socketserver.ThreadingMixIn, socketserver.TCPServer):
+    """The server: the files of the page by name, each with its type, and what answers a question by its name."""
+
+    daemon_threads, block_on_close = True, False
+    allow_reuse_address = True
+    request_queue_size = 64
+
+    def __init__(self, port: int, pages: dict[str, Page], questions: dict[str, Answer]):
+        self.pages, self.questions = pages, questions
+        self.token = secrets.token_urlsafe(32)
+        self.slots = threading.BoundedSemaphore(CONNECTIONS)
+        self.calls = threading.BoundedSemaphore(CALLS)
+        super().__init__(("127.0.0.1", port), Handler)
+        self.host = f"127.0.0.1:{self.server_address[1]}"
+
+    @property
+    def address(self) -> str:
+        return f"http://{self.host}/{self.token}/"
+
+    def process_request(self, request: Any, client_address: Any) -> None:
+        """A thread for a connection, where one is free."""
+        if self.slots.acquire(blocking=False):
+            super().process_request(request, client_address)
+            return
+        request.settimeout(0)
+        try:
+            request.send(b"HTTP/1.0 503 Service Unavailable\r\nContent-Length: 0\r\n\r\n")
+        except OSError:
+            pass
+        self.shutdown_request(request)
+
+    def process_request_thread(self, request: Any, client_address: Any) -> None:
+        try:
+            super().process_request_thread(request, client_address)
+        finally:
+            self.slots.release()
+
+    def handle_error(self, request: Any, client_address: Any) -> None:
+        """A connection that broke is nobody's concern, and a failure of ours is told in a line."""
+        error = sys.exc_info()[1]
+        if not isinstance(error, OSError):
+            tell(f"explore: a request failed: {type(error).__name__}: {error}")
+
+
+class Handler(http.server.BaseHTTPRequestHandler):
+    """One request."""
+
+    server: Explorer
+
+    def setup(self) -> None:
+        super().setup()
+        self.reader = Reader(self.connection)
+        self.rfile = io.BufferedReader(self.reader, 4096)
+
+    def version_string(self) -> str:
+        return "vidlakost"
+
+    def log_message(self, *_: object) -> None:
+        """Nothing is written of requests: their paths hold the token."""
+
+    def only(self, name: str) -> str | None:
+        """The value of a header that stands at most once."""
+        values: list[str] = self.headers.get_all(name) or []
+        if len(values) > 1:
+            raise Refusal(400, f"{name} stands twice")
+        return values[0] if values else None
+
+    def named(self) -> str:
+        """What the path names behind the token, of a request that comes from this page or opens it."""
+        if self.only("Host") != self.server.host:
+            raise Refusal(421, "this is not the host that was asked")
+        origin, site = self.only("Origin"), self.only("Sec-Fetch-Site")
+        if origin not in (None, f"http://{self.server.host}"):
+            raise Refusal(403, "another page asks")
+        before, _, rest = self.path.partition("/")
+        token, slash, name = rest.partition("/")
+        known = hmac.compare_digest(token.encode("latin-1", "replace"), self.server.token.encode())
+        if not known or before or not slash:
+            raise Refusal(404, "there is no such page")
+        opens = name == "" and self.only("Sec-Fetch-Mode") in (None, "navigate")
+        if site not in (None, "same-origin") and not opens:
+            raise Refusal(403, "another page asks")
+        return name
+
+    def do_GET(self) -> None:
+        self.attempt(self.page)
+
+    def do_POST(self) -> None:
+        self.attempt(self.question)
+
+    def attempt(self, answer: Callable[[], tuple[int, str, bytes]]) -> None:
+        """Sends an answer, or why there is none."""
+        try:
+            status, kind, content = answer()
+        except Refusal as error:
+            status, kind, content = error.status, "text/plain", error.message.encode()
+        self.reply(status, kind, content)
+
+    def reply(self, status: int, kind: str, content: bytes) -> None:
+        self.connection.settimeout(BODY_SECONDS)
+        self.send_response(status)
+        for name, value in HEADERS.items():
+            self.send_header(name, value)
+        self.send_header("Content-Type", f"{kind}; charset=utf-8")
+        self.send_header("Content-Length", str(len(content)))
+        self.end_headers()
+        self.wfile.write(content)
+
+    def send_error(self, code: int, message: str | None = None, explain: str | None = None) -> None:
+        """What the library refuses, without its page."""
+        self.request_version = "HTTP/1.0"
+        self.close_connection = True
+        self.reply(int(code), "text/plain", b"this request is none of the page's")
+
+    def page(self) -> tuple[int, str, bytes]:
+        name = self.named()
+        if name not in self.server.pages:
+            raise Refusal(404, "there is no such page")
+        kind, content = self.server.pages[name]
+        return 200, kind, content
+
+    def question(self) -> tuple[int, str, bytes]:
+        name = self.named()
+        if self.only("Origin") is None:
+            raise Refusal(403, "no page asks")
+        answer = self.server.questions.get(name)
+        if answer is None:
+            raise Refusal(404, "there is no such question")
+        asked = self.asked()
+        if not self.server.calls.acquire(timeout=WAIT_SECONDS):
+            raise Refusal(503, "too much is asked at once")
+        try:
+            return 200, "application/json", json.dumps(answer(asked)).encode()
+        except Wrong as error:
+            raise Refusal(400, str(error)) from error
+        except ToolError as error:
+            return 200, "application/json", json.dumps({"failed": str(error)}).encode()
+        finally:
+            self.server.calls.release()
+
+    def asked(self) -> Object:
+        """The object that a question sends."""
+        if self.only("Content-Type") != "application/json" or self.only("Transfer-Encoding") is not None:
+            raise Refusal(415, "a question is an object of JSON")
+        length = self.only("Content-Length") or ""
+        if not (length.isascii() and length.isdigit() and len(length) < 10):
+            raise Refusal(411, "a question tells its length")
+        if int(length) > BODY_BYTES:
+            raise Refusal(413, f"a question has at most {BODY_BYTES:,} bytes")
+        self.reader.allow(BODY_SECONDS, int(length) + 1)
+        try:
+            body = self.rfile.read(int(length))
+        except socket.timeout as error:
+            raise Refusal(408, "the question came too slowly") from error
+        try:
+            asked = json.loads(body)
+        except (ValueError, RecursionError) as error:
+            raise Refusal(400, "a question is an object of JSON") from error
+        if len(body) != int(length) or not isinstance(asked, dict):
+            raise Refusal(400, "a question is an object of JSON")
+        return asked
