@@ -6,15 +6,14 @@ from __future__ import annotations
 import dataclasses
 import pathlib
 import re
-import shutil
-import subprocess
 import tempfile
 
 from vidlakost_tools import clock_tree, yosys
 from vidlakost_tools.audit_pins import Pins
-from vidlakost_tools.text import lines_of, read_described, shown
-from vidlakost_tools.tool import ToolError, identifier
+from vidlakost_tools.text import shown
+from vidlakost_tools.tool import ToolError
 from vidlakost_tools.verilog import ranged
+from vidlakost_tools.vhdl import verilog_of
 from vidlakost_tools.words import Drive, NotWords, Writer
 
 # Two flip-flops with the same input are not one: before the first edge they may differ. So flip-flops are neither merged
@@ -58,38 +57,6 @@ class Plain:
 
     def place(self, name: str) -> str:
         return self.places.get(name, name)
-
-
-# ---- VHDL
-
-
-def is_vhdl(file: str) -> bool:
-    return pathlib.Path(file).suffix.lower() in (".vhd", ".vhdl")
-
-
-def verilog_of(files: list[str], options: dict, folder: pathlib.Path) -> tuple[list[str], dict]:
-    """The files with GHDL's Verilog in place of those in VHDL; the top is then its last entity, or the one that is named."""
-    vhdl = [file for file in files if is_vhdl(file)]
-    if not vhdl:
-        return files, options
-    if shutil.which("ghdl") is None:
-        raise ToolError(f"{vhdl[0]} is VHDL, and ghdl, which makes Verilog of it, is not on the PATH")
-    texts = [read_described(file) for file in vhdl]
-    entities = [name for text in texts for name in re.findall(r"^\s*entity\s+(\w+)\s+is", text, re.MULTILINE | re.IGNORECASE)]
-    if not entities:
-        raise ToolError(f"{vhdl[-1]} has no entity")
-    top = identifier(options.get("--top", entities[-1]), "the top")
-    names = [str(pathlib.Path(file).resolve()) for file in vhdl]
-    words = ["ghdl", "--synth", "--std=08", f"--workdir={folder}", "--out=verilog", *names, "-e", top]
-    done = subprocess.run(
-        words, stdin=subprocess.DEVNULL, stdout=subprocess.PIPE, stderr=subprocess.PIPE, cwd=folder, check=False
-    )
-    if done.returncode:
-        said = lines_of(done.stderr.decode("utf-8", "replace"))
-        raise ToolError("\n".join([f"ghdl refuses it: {said[0] if said else 'no reason is given'}", *said[1:8]]), 1)
-    made = folder / "vhdl.v"
-    made.write_bytes(done.stdout)
-    return [*(file for file in files if file not in vhdl), str(made)], {**options, "--top": top.lower()}
 
 
 # ---- the module

@@ -53,7 +53,7 @@ class Found:
             return f"fail is exact to cycle {self.cycle}; the limit of time ended the look at it there"
         case = "all answers are right"
         if self.answer is not None:
-            case = f"bit {self.bit} of the answer of cycle {self.answer} is wrong"
+            case = f"bit {self.bit} of the answer of cycle {self.answer} is {'' if self.wanted else 'still '}wrong"
         if self.got == "open":
             return f"fail is unknown in cycle {self.cycle} where {case}: it has to be {self.wanted}"
         return f"fail is {self.got} in cycle {self.cycle} though {case}"
@@ -208,7 +208,24 @@ def run_apart(machine: Machine, plan: Plan, clock: Clock) -> Found:
 def look_at(machine: Machine, plan: Plan, limit: float) -> Found:
     """What is found of `fail`."""
     clock = Clock(limit)
-    return run_joined(machine, plan, clock) or run_apart(machine, plan, clock)
+    found = run_joined(machine, plan, clock) or run_apart(machine, plan, clock)
+    return run_one(machine, plan, found) or found if found.got == "open" else found
+
+
+def run_one(machine: Machine, plan: Plan, found: Found) -> Found | None:
+    """The one history in which that bit alone is wrong, where `fail` has a wrong number in it."""
+    state, want = [(0, 0)] * len(machine.registers), 0
+    for cycle in range(plan.cycles + 3):
+        rdata = [(0, 0)] * plan.bits
+        if cycle in plan.answers:
+            word = plan.answers[cycle] ^ (1 << found.bit if cycle == found.answer else 0)
+            rdata = [(word >> bit & 1, 1 - (word >> bit & 1)) for bit in range(plan.bits)]
+        state, (fail,) = machine.step(state, [*rdata, (1, 0) if cycle == 0 else (0, 1)], 1)
+        if cycle >= plan.first and fail == ((0, 1) if want else (1, 0)):
+            case = {"answer": found.answer, "bit": found.bit}
+            return Found("differs", cycle, want, str(fail[0]), **case)
+        want |= cycle == found.answer
+    return None
 
 
 def words_of(plan: Plan, found: Found) -> dict[int, list[tuple[int, int]]]:

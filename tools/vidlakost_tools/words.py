@@ -86,12 +86,23 @@ class Writer:
         self.names = {bit: name for name, net in self.nets() for bit in net["bits"] if isinstance(bit, int)}
         self.whole = {tuple(net["bits"]): name for name, net in self.nets()}
         self.pins = pins
+        self.hint_names()
         self.input_ports()
 
     def nets(self) -> list[tuple[str, dict]]:
         """The named nets, those of the top last, so that their names win."""
         found = [(name, net) for name, net in self.module["netnames"].items() if not net["hide_name"]]
         return sorted(found, key=lambda pair: (-pair[0].count("."), -len(pair[0])))
+
+    def hint_names(self) -> None:
+        """A register behind whose output stands the choice of an asynchronous reset has the name of what that gives."""
+        for cell in self.module["cells"].values():
+            if cell["type"] in CHOICES:
+                pins = cell["connections"]
+                for pin in "AB":
+                    for bit, result in zip(pins[pin], pins["Y"]):
+                        if result in self.names:
+                            self.names.setdefault(bit, self.names[result])
 
     # ports
 
