@@ -7,6 +7,7 @@ import itertools
 
 from vidlakost_tools import open_run
 from vidlakost_tools.front_end import Plain
+from vidlakost_tools.program import with_text
 from vidlakost_tools.words import Drive
 
 MOST = 8
@@ -23,8 +24,8 @@ class Late:
 
 def late(plain: Plain, first: int) -> Late | None:
     """The late start of a module, the first command of the march being due in a cycle; None where it has none."""
-    run = open_run.cycles_of(open_run.Reader(plain.text()).module())
-    cycles = list(itertools.islice(run, first + MOST + 2))
+    run = with_text(plain.text(), open_run.read_module)
+    cycles = list(itertools.islice(open_run.cycles_of(run), first + MOST + 2))
     begin = next((cycle for cycle, found in enumerate(cycles) if cycle >= first and found["en"] == 1), None)
     if begin is None or begin - first > MOST:
         return None
