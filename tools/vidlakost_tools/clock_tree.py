@@ -213,15 +213,29 @@ def clock_of(tree: Tree, registers: dict[str, Edge], pins: Pins | None) -> str |
 
 def refuse_read(tree: Tree, holders: set[str]) -> None:
     """What holds the enable of a clock may gate that clock and nothing else."""
+    live = live_cells(tree)
     held = {bit: holder for holder in holders for bit in tree.pin(tree.cells[holder], "Q")}
-    for name, cell in tree.cells.items():
-        for pin, bits in cell["connections"].items():
+    for name in live:
+        for pin, bits in tree.cells[name]["connections"].items():
             found = [bit for bit in bits if bit in held]
             if found and pin not in ("Q", "Y") and name not in tree.gates:
                 tree.refuse(tree.cells[held[found[0]]], "a latch or a flip-flop of the other edge that is read outside of a gate")
     for said in tree.module["ports"].values():
         if said["direction"] == "output" and set(said["bits"]) & set(held):
             raise ToolError("a latch of a clock gate is an output of the module", 1)
+
+
+def live_cells(tree: Tree) -> set[str]:
+    """The cells on which an output or a memory hangs."""
+    todo = [bit for said in tree.module["ports"].values() if said["direction"] == "output" for bit in said["bits"]]
+    found = {name for name, cell in tree.cells.items() if cell["type"].startswith("$mem")}
+    todo += [bit for name in found for bits in tree.cells[name]["connections"].values() for bit in bits]
+    while todo:
+        name = tree.drivers.get(todo.pop())
+        if name is not None and name not in found:
+            found.add(name)
+            todo += [bit for bits in tree.cells[name]["connections"].values() for bit in bits]
+    return found
 
 
 def rewrite(tree: Tree, registers: dict[str, Edge], holders: set[str]) -> None:

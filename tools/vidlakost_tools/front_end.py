@@ -68,7 +68,8 @@ def plain_of(files: list[str], options: dict, pins: Pins | None = None, tries: t
     with tempfile.TemporaryDirectory() as name:
         folder = pathlib.Path(name)
         named, chosen = verilog_of(files, options, folder)
-        sources = yosys.read(named, chosen, folder)
+        sources = sources_of(named, chosen, folder)
+        refuse_calls(sources.warnings)
         pins = pins.complete(sources.module["ports"]) if pins else None
         if pins is None:
             refuse_names(sources.module["ports"])
@@ -85,6 +86,29 @@ def plain_of(files: list[str], options: dict, pins: Pins | None = None, tries: t
             raise ToolError(told, 1)
         plain.warnings = [*sources.warnings, *clock.warnings]
         return plain
+
+
+def sources_of(files: list[str], options: dict, folder: pathlib.Path) -> yosys.Sources:
+    """The sources as Yosys reads them; a module or a cell that is missing, or stands twice, is told by its name."""
+    try:
+        return yosys.read(files, options, folder)
+    except ToolError as error:
+        missing = re.search(r"Module `\\(\S+)' referenced in module `\\(\S+)'", str(error))
+        twice = re.search(r"Re-definition of (?:cell/)?module [`]?\\?([^'!]+)", str(error))
+        if missing:
+            where = "the files" + (", and no cell with a function for each output in the libraries" if "--liberty" in options else "")
+            raise ToolError(f"{missing[2]} has a part {missing[1]}, which is no module of {where}", 1) from error
+        if twice:
+            raise ToolError(f"{twice[1]} stands twice, in the files or in the libraries", 1) from error
+        raise
+
+
+def refuse_calls(warnings: list[str]) -> None:
+    """Refuses a call of the system, as $time, of which Yosys makes a wire that nothing drives."""
+    for warning in warnings:
+        found = re.match(r"(.*?):? ?Warning: Identifier `\\?(\$\w+)' is implicitly declared", warning)
+        if found:
+            raise ToolError(f"{found[1]}: {found[2]} is a call for simulations, and no logic", 1)
 
 
 def refuse_names(ports: dict) -> None:

@@ -174,14 +174,15 @@ class Writer:
         self.used.add(found)
         return found
 
-    def name_of(self, bits: list) -> str:
+    def name_of(self, bits: list, chosen: str | None = None) -> str:
         """A name for what a cell drives: the sources' one, where there is one."""
-        whole = self.whole.get(tuple(bits)) or self.names.get(bits[0])
+        whole = chosen or self.whole.get(tuple(bits)) or self.names.get(bits[0])
         name = self.fresh(whole or "n")
         if whole:
             where = self.module["netnames"][whole]["attributes"].get("src")
             line = re.match(r"(.*/)?([^/|]*?):(\d+)", where) if where else None
-            self.places[name] = whole + (f" ({line[2]}:{line[3]})" if line else "")
+            told = re.sub(r"\$func\$.*", "", whole)
+            self.places[name] = told + (f" ({line[2]}:{line[3]})" if line else "")
         return name
 
     def told(self) -> list[str]:
@@ -216,8 +217,10 @@ class Writer:
         """A bit that nothing drives, or an `x`."""
         if bit == self.clock:
             raise ToolError("the clock is read as data, which is outside the subset", 1)
-        name = self.fresh(self.names.get(bit, "open"))
-        self.places[name] = f"{self.names[bit]}, which nothing drives," if bit in self.names else "an x"
+        names = [name for name, net in self.nets() if bit in net["bits"]] if isinstance(bit, int) else []
+        inner = [name for name in names if name not in self.module["ports"]] or names
+        name = self.name_of([bit], inner[-1]) if inner else self.fresh("open")
+        self.places.setdefault(name, "an x")
         self.opens.append(name)
         if isinstance(bit, int):
             self.at[bit] = Bit(name, 0, 1)

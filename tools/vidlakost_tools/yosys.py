@@ -104,7 +104,9 @@ def driven_twice(rtlil: str) -> str | None:
     driven: set = set()
     depth, place = 0, ""
     for line in map(str.strip, lines_of(rtlil)):
-        depth += line.startswith(("cell ", "process ", "switch ", "memory ")) - (line == "end")
+        if line.startswith("module "):
+            depth, driven = 0, set()
+        depth += line.startswith(("cell ", "process ", "switch ")) - (line == "end")
         if line.startswith("attribute \\src "):
             place = line.split('"')[1]
         found = re.fullmatch(r"wire (?:.* )?([\\$][^ ]+)", line)
