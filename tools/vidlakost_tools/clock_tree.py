@@ -296,7 +296,7 @@ def resets_of(tree: Tree) -> list[str]:
     warnings = []
     for cell in tree.cells.values():
         for pin in ("ARST", "SET", "CLR", "R", "S"):
-            bits = cell["connections"].get(pin, []) if re.search(r"dff|DFF", cell["type"]) else []
+            bits = cell["connections"].get(pin, []) if re.match(r"\$(adff|dffsr)|\$_DFF", cell["type"]) else []
             if any(is_mixed(tree, bit) for bit in bits):
                 what = f"{place_of(tree.module, cell)}: its asynchronous reset is made by gates from registers"
                 warnings.append(f"{what}, where a short pulse may reset it; such pulses are not seen")

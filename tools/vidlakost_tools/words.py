@@ -1,6 +1,7 @@
 """The cells of a module, as Yosys writes them in JSON, as operators of the subset with their widths and the sources' names."""
 from __future__ import annotations
 
+import collections
 import dataclasses
 import re
 
@@ -81,9 +82,12 @@ class Writer:
         self.opens: list[str] = []
         self.places: dict[str, str] = {}
         self.used: set[str] = set(RESERVED)
+        self.counts: collections.Counter = collections.Counter()
         self.read: list[str] = []
         self.results: list[tuple[str, list]] = []
         self.names = {bit: name for name, net in self.nets() for bit in net["bits"] if isinstance(bit, int)}
+        ports = module["ports"]
+        self.inner = {bit: name for name, net in self.nets() if name not in ports for bit in net["bits"] if isinstance(bit, int)}
         self.whole = {tuple(net["bits"]): name for name, net in self.nets()}
         self.pins = pins
         self.hint_names()
@@ -167,10 +171,10 @@ class Writer:
     def fresh(self, wanted: str) -> str:
         name = re.sub(r"\W", "_", wanted, flags=re.ASCII).strip("_")[:50] or "n"
         name = name if name[0].isalpha() or name[0] == "_" else f"n{name}"
-        found, count = name, 0
+        found = name
         while found in self.used:
-            count += 1
-            found = f"{name}_{count}"
+            self.counts[name] += 1
+            found = f"{name}_{self.counts[name]}"
         self.used.add(found)
         return found
 
@@ -217,9 +221,8 @@ class Writer:
         """A bit that nothing drives, or an `x`."""
         if bit == self.clock:
             raise ToolError("the clock is read as data, which is outside the subset", 1)
-        names = [name for name, net in self.nets() if bit in net["bits"]] if isinstance(bit, int) else []
-        inner = [name for name in names if name not in self.module["ports"]] or names
-        name = self.name_of([bit], inner[-1]) if inner else self.fresh("open")
+        inner = self.inner.get(bit) or self.names.get(bit)
+        name = self.name_of([bit], inner) if inner else self.fresh("open")
         self.places.setdefault(name, "an x")
         self.opens.append(name)
         if isinstance(bit, int):

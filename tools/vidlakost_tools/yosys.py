@@ -203,7 +203,7 @@ class Sources:
 def read(files: list[str], options: dict, folder: pathlib.Path) -> Sources:
     """The sources; a signal with two drivers is refused."""
     raw, plain, first, parts = (folder / name for name in ("raw.il", "plain.il", "first.il", "first.json"))
-    reading = f"{libraries_of(options)}read_verilog -sv {sources_of(files)}\nhierarchy -check {top_of(options)}\n"
+    reading = f"{libraries_of(options)}read_verilog -sv -icells {sources_of(files)}\nhierarchy -check {top_of(options)}\n"
     said = run(f"{reading}write_rtlil {quoted(raw)}\n", folder, "-q")
     text, had = without_initial(raw.read_bytes().decode("utf-8", "surrogateescape"))
     plain.write_bytes(text.encode("utf-8", "surrogateescape"))
