@@ -40,7 +40,8 @@ def told(tool: str, files: list[pathlib.Path]) -> tuple[int, str]:
 
 def compare(number: int, chance: random.Random) -> int:
     """Both say the same of each module, and the first cycle that differs is the same where `audit` knows it."""
-    wrong, said_of = 0, collections.Counter()
+    wrong = 0
+    said_of: collections.Counter = collections.Counter()
     with tempfile.TemporaryDirectory() as name:
         folder = pathlib.Path(name)
         files = [folder / word for word in ("module.v", "march", "memory")]

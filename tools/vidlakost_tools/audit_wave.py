@@ -30,11 +30,11 @@ def shown(pairs: list[tuple[int, int]]) -> str:
     return "".join("1" if one else "0" if zero else "x" for one, zero in reversed(pairs))
 
 
-def due_in(command: object, cycle: int, end: int, memory: Memory) -> dict[str, str]:
+def due_in(command: tuple[bool, int, int] | None, cycle: int, end: int, memory: Memory) -> dict[str, str]:
     """The ports that are due in a cycle; x where nothing is."""
     ports = {"en": str(int(command is not None)), "done": str(int(cycle >= end))}
     widths = {"we": 1, "addr": memory.width, "wdata": memory.bits}
-    numbers: dict[str, object] = {}
+    numbers: dict[str, int] = {}
     if command is not None:
         writes, address, word = command
         numbers = {"we": int(writes), "addr": address, **({"wdata": word} if writes else {})}

@@ -95,7 +95,7 @@ class Tree:
 
     def path(self, bit: object, register: dict, depth: int = 0) -> Path:
         """The path of a clock to an input."""
-        if bit in self.inputs:
+        if isinstance(bit, int) and bit in self.inputs:
             return Path(bit, False)
         cell = self.cells.get(self.drivers.get(bit, ""))
         if cell is None or depth > 64:
@@ -104,7 +104,7 @@ class Tree:
             path = self.path(cell["connections"]["A"][0], register, depth + 1)
             return dataclasses.replace(path, is_inverted=path.is_inverted ^ (cell["type"] in INVERTERS))
         if cell["type"] in GATES and all(len(cell["connections"][pin]) == 1 for pin in "ABY"):
-            for one, other in ("AB", "BA"):
+            for one, other in (("A", "B"), ("B", "A")):
                 if self.constant(cell["connections"][other][0]) == "1":
                     return self.path(cell["connections"][one][0], register, depth + 1)
             return self.gated(self.drivers[bit], register, depth)
@@ -126,14 +126,15 @@ class Tree:
                 bit = self.past_choices(data, path) if LATCH.match(kind) else data
                 return dataclasses.replace(path, enables=[*path.enables, bit], holders=[*path.holders, holder])
         self.refuse(
-            register, f"its clock is gated at {place_of(self.module, self.cells[name])} by what no latch holds while it is high"
+            register,
+            f"its clock is gated at {place_of(self.module, self.cells[name])} by what no latch holds while it is high",
         )
         raise AssertionError
 
     def holds_while_high(self, holder: dict, clock: Path, register: dict, depth: int) -> bool:
         """Whether a latch is open while a clock is low, or a flip-flop takes what it holds when the clock falls."""
         latch, plain = LATCH.match(holder["type"]), PLAIN.match(holder["type"])
-        letter = (latch or plain).groups()[0]
+        letter = latch[1] if latch else plain[1] if plain else None
         pin, parameter = ("EN", "EN_POLARITY") if latch else ("CLK", "CLK_POLARITY")
         path = self.path(self.pin(holder, pin, pin[0])[0], register, depth + 1)
         level = self.level(holder, parameter, letter)
@@ -177,11 +178,13 @@ def settled(sources: yosys.Sources, pins: Pins | None, folder: pathlib.Path) -> 
     port = clock_of(tree, registers, pins)
     refuse_cells(sources.module, holders)
     refuse_read(tree, holders)
-    wanted = not (pins and pins.clock() and pins.clock().is_low)
+    pin = pins.clock() if pins else None
+    wanted = not (pin and pin.is_low)
     for name, edge in registers.items():
         if edge.rises != wanted:
             falling = "falling" if wanted else "rising"
-            hint = "" if len({other.rises for other in registers.values()}) > 1 else f"; 'clk ~{port}' in a file of pins says so"
+            is_one = len({other.rises for other in registers.values()}) == 1
+            hint = f"; 'clk ~{port}' in a file of pins says so" if is_one and wanted else ""
             tree.refuse(tree.cells[name], f"it takes at the {falling} edge of {port}{hint}")
     clock = Clock(port, resets_of(tree))
     if all(edge.rises and not edge.path.enables and not edge.path.is_inverted for edge in registers.values()):
@@ -195,7 +198,8 @@ def settled(sources: yosys.Sources, pins: Pins | None, folder: pathlib.Path) -> 
 
 def clock_of(tree: Tree, registers: dict[str, Edge], pins: Pins | None) -> str | None:
     """The one input on which all registers stand."""
-    told = pins.clock().name if pins and pins.clock() else None
+    pin = pins.clock() if pins else None
+    told = pin.name if pin else None
     first = None
     for name, edge in registers.items():
         port = tree.inputs[edge.path.root]
@@ -219,7 +223,8 @@ def refuse_read(tree: Tree, holders: set[str]) -> None:
         for pin, bits in tree.cells[name]["connections"].items():
             found = [bit for bit in bits if bit in held]
             if found and pin not in ("Q", "Y") and name not in tree.gates:
-                tree.refuse(tree.cells[held[found[0]]], "a latch or a flip-flop of the other edge that is read outside of a gate")
+                why = "a latch or a flip-flop of the other edge that is read outside of a gate"
+                tree.refuse(tree.cells[held[found[0]]], why)
     for said in tree.module["ports"].values():
         if said["direction"] == "output" and set(said["bits"]) & set(held):
             raise ToolError("a latch of a clock gate is an output of the module", 1)
@@ -274,10 +279,10 @@ def both(first: object, second: object, result: int) -> dict:
     }
 
 
-def set_kind(cell: dict, fine: object, enable: object) -> None:
+def set_kind(cell: dict, fine: re.Match | None, enable: object) -> None:
     """The kind of a flip-flop at the rising edge, with or without an enable."""
     if fine:
-        family, _, rest = FINE.match(cell["type"]).groups()
+        family, _, rest = fine.groups()
         kinds = f"{family}E" if enable is not None else family
         cell["type"] = f"$_{kinds}_P{rest}{'P' if enable is not None else ''}_"
     else:

@@ -96,7 +96,8 @@ def sources_of(files: list[str], options: dict, folder: pathlib.Path) -> yosys.S
         missing = re.search(r"Module `\\(\S+)' referenced in module `\\(\S+)'", str(error))
         twice = re.search(r"Re-definition of (?:cell/)?module [`]?\\?([^'!]+)", str(error))
         if missing:
-            where = "the files" + (", and no cell with a function for each output in the libraries" if "--liberty" in options else "")
+            cells = ", and no cell with a function for each output in the libraries" if "--liberty" in options else ""
+            where = f"the files{cells}"
             raise ToolError(f"{missing[2]} has a part {missing[1]}, which is no module of {where}", 1) from error
         if twice:
             raise ToolError(f"{twice[1]} stands twice, in the files or in the libraries", 1) from error

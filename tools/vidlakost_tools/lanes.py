@@ -52,12 +52,13 @@ class Found:
         if self.kind == "limit":
             return f"fail is exact to cycle {self.cycle}; the limit of time ended the look at it there"
         case = "all answers are right"
-        if self.answer is not None:
-            case = f"bit {self.bit} of the answer of cycle {self.answer} is {'' if self.wanted else 'still '}wrong"
+        if self.answer is not None and self.wanted:
+            case = f"bit {self.bit} of the answer of cycle {self.answer} is wrong"
+        elif self.answer is not None:
+            case = f"no answer before that of cycle {self.answer} is wrong"
         if self.got == "open":
             return f"fail is unknown in cycle {self.cycle} where {case}: it has to be {self.wanted}"
         return f"fail is {self.got} in cycle {self.cycle} though {case}"
-
 
     def short(self) -> str:
         """The finding, as the last line has it."""
@@ -222,8 +223,7 @@ def run_one(machine: Machine, plan: Plan, found: Found) -> Found | None:
             rdata = [(word >> bit & 1, 1 - (word >> bit & 1)) for bit in range(plan.bits)]
         state, (fail,) = machine.step(state, [*rdata, (1, 0) if cycle == 0 else (0, 1)], 1)
         if cycle >= plan.first and fail == ((0, 1) if want else (1, 0)):
-            case = {"answer": found.answer, "bit": found.bit}
-            return Found("differs", cycle, want, str(fail[0]), **case)
+            return Found("differs", cycle, int(want), str(fail[0]), found.answer, found.bit)
         want |= cycle == found.answer
     return None
 

@@ -71,7 +71,8 @@ class Search:
     def reasons(self, port: str, bit: object, cycle: int) -> list[str]:
         """What a bit of a port hangs on in a cycle, the shortest ways first."""
         todo: collections.deque = collections.deque([(cycle, bit, (port,))])
-        seen, found = set(), {}
+        seen: set = set()
+        found: dict[str, tuple] = {}
         while todo and len(found) < 4:
             here, bit, way = todo.popleft()
             if (here, bit) in seen:

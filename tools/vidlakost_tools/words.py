@@ -87,7 +87,8 @@ class Writer:
         self.results: list[tuple[str, list]] = []
         self.names = {bit: name for name, net in self.nets() for bit in net["bits"] if isinstance(bit, int)}
         ports = module["ports"]
-        self.inner = {bit: name for name, net in self.nets() if name not in ports for bit in net["bits"] if isinstance(bit, int)}
+        within = [(name, net) for name, net in self.nets() if name not in ports]
+        self.inner = {bit: name for name, net in within for bit in net["bits"] if isinstance(bit, int)}
         self.whole = {tuple(net["bits"]): name for name, net in self.nets()}
         self.pins = pins
         self.hint_names()
@@ -117,7 +118,7 @@ class Writer:
                 raise ToolError(f"the port {port} goes both ways, which the subset has not", 1)
         self.used |= set(ports) | (self.pins.names() if self.pins else set())
         if self.pins:
-            self.pinned_inputs()
+            self.pinned_inputs(self.pins)
             return
         self.used.add("clk")
         for port, said in ports.items():
@@ -136,12 +137,12 @@ class Writer:
         for index, bit in enumerate(bits):
             self.at[bit] = Bit(name, index, len(bits))
 
-    def pinned_inputs(self) -> None:
+    def pinned_inputs(self, pins: Pins) -> None:
         """The ports of the rule in place of the pins; a pin that is active low has an inverter behind its port."""
-        widths = self.pins.widths(self.module["ports"])
+        widths = pins.widths(self.module["ports"])
         self.ports += [(way, port, self.fitting(port, width)) for way, port, width in widths]
         self.used |= {port for _, port, _ in widths}
-        for port, pin in self.pins.inputs():
+        for port, pin in pins.inputs():
             bits = self.module["ports"][pin.name]["bits"]
             if pin.is_low and port != "clk":
                 name = self.fresh(pin.name)
@@ -150,7 +151,7 @@ class Writer:
                 self.take(name, bits)
             else:
                 self.take(port, bits)
-        for name, value in self.pins.ties.items():
+        for name, value in pins.ties.items():
             bits = self.module["ports"][name]["bits"]
             self.constants.update({bit: str(value >> index & 1) for index, bit in enumerate(bits)})
 
