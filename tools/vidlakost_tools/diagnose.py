@@ -98,7 +98,12 @@ def refused_text(words: list[str], said: str) -> list[str]:
     else:
         tell = {"march": diagnose_texts.march, "memory": diagnose_texts.memory, "chip": diagnose_chips.chip}[kind]
         found = tell(named[subject], text, code, values)
-    return [*found.lines(), *(f"  {note}" for note in another_kind(subject, kind, text))]
+    return [*found.lines(), *(f"  {note}" for note in [*another_kind(subject, kind, text), *other_reader(words[0])])]
+
+
+def other_reader(command: str) -> list[str]:
+    """The tool that takes what the subset has not; it asks `check` of modules of its own making, whose refusal it tells."""
+    return ["`vidlakost audit` takes a controller in any Verilog, and with other names of its ports"] if command == "check" else []
 
 
 # how a text of each kind begins

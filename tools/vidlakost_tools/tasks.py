@@ -16,7 +16,7 @@ TASKS = {
     "A module beside its memory": [
         "vectors", "benchfault", "benchall", "testbench", "locate", "turn", "collar", "summary",
     ],
-    "Modules of others": ["check", "benchfile", "plain", "formal", "foreign"],
+    "Modules of others": ["audit", "check", "benchfile", "plain", "formal", "foreign"],
     "Chips": ["chip", "schedule"],
     "Handing it on": ["release", "make"],
     "What the repository itself uses": INNER,

@@ -40,6 +40,11 @@ def sources_of(files: list[str]) -> str:
     return " ".join(map(quoted, files))
 
 
+def libraries_of(options: dict) -> str:
+    """The script that reads the libraries of cells that `--liberty` names."""
+    return "".join(f"read_liberty -ignore_miss_func {sources_of([file])}\n" for file in options.get("--liberty", []))
+
+
 def run(script: str, folder: pathlib.Path, *flags: str) -> list[str]:
     """The lines that Yosys says of a script; where it fails its error is told, with the warnings before it."""
     file = folder / "script.ys"
@@ -121,7 +126,9 @@ def driven_twice(rtlil: str) -> str | None:
     driven: set[tuple[str, int]] = set()
     depth, place = 0, ""
     for line in map(str.strip, lines_of(rtlil)):
-        depth += line.startswith(("cell ", "process ", "switch ", "memory ")) - (line == "end")
+        if line.startswith("module "):
+            depth, driven = 0, set()
+        depth += line.startswith(("cell ", "process ", "switch ")) - (line == "end")
         if line.startswith("attribute \\src "):
             place = line.split('"')[1]
         found = re.fullmatch(r"wire (?:.* )?([\\$][^ ]+)", line)
@@ -152,9 +159,11 @@ def driven_constant(module: Mapping[str, Any]) -> str | None:
 
 def without_initial(rtlil: str) -> tuple[str, bool]:
     """The modules without what their `initial` blocks and initial values say, and whether they said anything. Of a register
-    that nothing else sets Yosys makes a constant where it reads them."""
+    that nothing else sets Yosys makes a constant where it reads them. What a memory holds at first is left to
+    `written_contents`: which of its bits are said is written as the number that it is."""
     kept: list[str] = []
     process: list[str] | None = None
+    enables: dict[str, str] = {}
     had = False
     for line in lines_of(rtlil):
         if line.startswith("  process "):
@@ -165,11 +174,37 @@ def without_initial(rtlil: str) -> tuple[str, bool]:
         process.append(line)
         if line == "  end":
             if any(part.strip() == "sync init" for part in process):
-                had = True
-                process = [part for part in process if not part.strip().startswith(("update ", "memwr "))]
+                enables.update(enables_of(process))
+                rest = [part for part in process if not part.strip().startswith(("update ", "memwr "))]
+                had |= sum("$memwr$" not in part for part in process if part not in rest) > 0
+                process = rest
             kept += process
             process = None
-    return "\n".join(kept) + "\n", had
+    return "\n".join(map(lambda line: told_enable(line, enables), kept)) + "\n", had
+
+
+def enables_of(process: list[str]) -> dict[str, str]:
+    """The constants in a process of `initial` that say which bits of a memory it sets."""
+    words = [part.split() for part in process]
+    constants = {part[1]: part[2] for part in words if len(part) == 3 and part[0] == "assign" and "'" in part[2]}
+    updates = [part for part in words if len(part) == 3 and part[0] == "update" and part[1].startswith("$memwr$")]
+    return {part[1]: constants[part[2]] for part in updates if part[2] in constants}
+
+
+def told_enable(line: str, enables: dict[str, str]) -> str:
+    """A line of a cell, with the constant where it names one of them."""
+    words = line.split()
+    return f"    connect \\EN {enables[words[2]]}" if words[:2] == ["connect", "\\EN"] and words[2] in enables else line
+
+
+def written_contents(module: dict) -> str:
+    """A script that takes away what the memories hold at first that are written; what is only read keeps it."""
+    cells = [(cell["type"], cell["parameters"].get("MEMID", "")) for cell in module["cells"].values()]
+    written = {name for kind, name in cells if re.match(r"\$memwr|\$mem(_v2)?$", kind)}
+    dropped = sorted({name for kind, name in cells if kind.startswith("$meminit") and name in written})
+    if not all(re.fullmatch(r"\\[\w.]+", name) for name in dropped):
+        return "delete t:$meminit*\n"
+    return "".join(f"delete t:$meminit* r:MEMID=\\{name} %i\n" for name in dropped)
 
 
 # what nothing drives is open: it may have any number in any cycle
@@ -190,21 +225,21 @@ class Sources:
 def read(files: list[str], options: Mapping[str, Any], folder: pathlib.Path) -> Sources:
     """The sources; a signal with two drivers is refused."""
     raw, plain, first, parts = (folder / name for name in ("raw.il", "plain.il", "first.il", "first.json"))
-    said = run(
-        f"read_verilog -sv {sources_of(files)}\nhierarchy -check {top_of(options)}\nwrite_rtlil {quoted(raw)}\n", folder, "-q"
-    )
+    reading = f"{libraries_of(options)}read_verilog -sv -icells {sources_of(files)}\nhierarchy -check {top_of(options)}\n"
+    said = run(f"{reading}write_rtlil {quoted(raw)}\n", folder, "-q")
     text, had = without_initial(raw.read_bytes().decode("utf-8", "surrogateescape"))
     plain.write_bytes(text.encode("utf-8", "surrogateescape"))
-    begin = f"read_rtlil {quoted(plain)}\nproc -noopt\nflatten\n"
+    begin = f"read_rtlil {quoted(plain)}\nproc -noopt -norom\nflatten\n"
     said += run(f"{begin}write_rtlil {quoted(first)}\nwrite_json {quoted(parts)}\ncheck\n", folder, "-q")
     name, module = top_module(parts)
     twice = driven_twice(first.read_bytes().decode("utf-8", "replace")) or driven_constant(module)
     if twice:
         raise ToolError(twice, 1)
     warnings = warnings_in(said)
-    if had or any(cell["type"].startswith("$meminit") for cell in module["cells"].values()):
+    dropped = written_contents(module)
+    if had or dropped:
         warnings.append("initial values are left out")
-    script = f"{begin}delete t:$meminit*\nsetattr -unset init w:*\n{OPEN}check -assert\n"
+    script = f"{begin}{dropped}setattr -unset init w:*\n{OPEN}check -assert\n"
     return Sources(script, name, module, warnings)
 
 

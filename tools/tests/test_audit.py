@@ -1,0 +1,174 @@
+"""Parts of `audit` by themselves, without any program: `cd tools && python3 -m unittest tests.test_audit`."""
+from __future__ import annotations
+
+import unittest
+
+from vidlakost_tools import audit_pins, clock_tree, lanes
+from vidlakost_tools.audit_pins import Pin, Pins
+from vidlakost_tools.audit_wave import code_of, shown
+from vidlakost_tools.tool import ToolError
+from vidlakost_tools.vhdl import literal_of, with_defaults
+from vidlakost_tools.words import NotWords, Writer
+
+
+def port(way: str, *bits: int) -> dict:
+    return {"direction": way, "bits": list(bits)}
+
+
+def net(*bits: int) -> dict:
+    return {"hide_name": 0, "bits": list(bits), "attributes": {}}
+
+
+def cell(kind: str, parameters: dict | None = None, **pins: list) -> dict:
+    return {"type": kind, "parameters": parameters or {}, "attributes": {}, "connections": pins}
+
+
+def module(cells: dict, **ports: dict) -> dict:
+    return {"ports": ports, "cells": cells, "netnames": {name: net(*said["bits"]) for name, said in ports.items()}}
+
+
+def value_of(kind: str, width: int, parameters: dict | None = None, **pins: list) -> str:
+    """The expression of one cell whose operands are the bits of the inputs a (2 to 5) and b (6 to 9)."""
+    made = cell(kind, parameters, Y=list(range(20, 20 + width)), **pins)
+    writer = Writer(module({"one": made}, a=port("input", 2, 3, 4, 5), b=port("input", 6, 7, 8, 9)), None, None)
+    return writer.cells()[0][0].value
+
+
+A, B = [2, 3, 4, 5], [6, 7, 8, 9]
+SIGNED = {"A_SIGNED": "1", "B_SIGNED": "1"}
+
+
+class Words(unittest.TestCase):
+    def test_sums_are_extended(self) -> None:
+        self.assertEqual(value_of("$add", 5, A=A, B=B), "({1'b0, a} + {1'b0, b})")
+        self.assertEqual(value_of("$sub", 5, SIGNED, A=A, B=B), "({a[3], a} - {b[3], b})")
+
+    def test_signed_comparison_turns_the_highest_bits(self) -> None:
+        self.assertEqual(value_of("$lt", 1, SIGNED, A=A, B=B), "({(~a[3]), a[2:0]} < {(~b[3]), b[2:0]})")
+
+    def test_one_sign_is_none(self) -> None:
+        self.assertEqual(value_of("$lt", 1, {"A_SIGNED": "1"}, A=A[:2], B=B), "({2'b00, a[1:0]} < b)")
+
+    def test_answer_of_one_bit_is_padded(self) -> None:
+        self.assertEqual(value_of("$eq", 3, A=A, B=B), "{2'b00, (a == b)}")
+
+    def test_part_that_may_lie_outside_is_left(self) -> None:
+        self.assertEqual(value_of("$shiftx", 1, A=A, B=B[:2]), "shifted[0]")
+        with self.assertRaises(NotWords):
+            value_of("$shiftx", 1, A=A, B=B[:3])
+
+    def test_constants_and_parts(self) -> None:
+        value = value_of("$and", 4, A=["1", 3, 4, "0"], B=[9, 8, 7, 6])
+        self.assertEqual(value, "({1'b0, a[2:1], 1'b1} & {b[0], b[1], b[2], b[3]})")
+
+    def test_what_nothing_drives_is_open(self) -> None:
+        made = cell("$not", A=[50], Y=[20])
+        writer = Writer(module({"one": made}, a=port("input", 2)), None, None)
+        self.assertEqual(writer.cells()[0][0].value, "(~open)")
+        self.assertEqual(writer.opens, ["open"])
+
+    def test_two_x_are_two_numbers(self) -> None:
+        self.assertEqual(value_of("$xor", 1, A=["x"], B=["x"]), "(open ^ open_1)")
+
+    def test_clock_is_no_data(self) -> None:
+        made = cell("$and", A=[2], B=[3], Y=[20])
+        with self.assertRaises(ToolError):
+            Writer(module({"one": made}, ck=port("input", 2), a=port("input", 3)), None, "ck").cells()
+
+
+GATE = {
+    "held": cell("$dlatch", {"EN_POLARITY": "0"}, EN=[2], D=[3], Q=[10]),
+    "gate": cell("$and", A=[2], B=[10], Y=[11]),
+    "state": cell("$dff", {"CLK_POLARITY": "1"}, CLK=[11], D=[4], Q=[12]),
+}
+
+
+class Clocks(unittest.TestCase):
+    def tree(self, **changed: dict) -> clock_tree.Tree:
+        ports = {"ck": port("input", 2), "on": port("input", 3), "d": port("input", 4), "q": port("output", 12)}
+        return clock_tree.Tree(module({**{name: dict(it) for name, it in GATE.items()}, **changed}, **ports))
+
+    def test_gated_clock_is_an_enable(self) -> None:
+        path = clock_tree.edges_of(self.tree())["state"].path
+        self.assertEqual((path.root, path.enables, path.holders), (2, [3], ["held"]))
+
+    def test_latch_of_the_wrong_level_gates_nothing(self) -> None:
+        wrong = cell("$dlatch", {"EN_POLARITY": "1"}, EN=[2], D=[3], Q=[10])
+        with self.assertRaisesRegex(ToolError, "by what no latch holds"):
+            clock_tree.edges_of(self.tree(held=wrong))
+
+    def test_clock_gated_by_a_plain_signal_is_refused(self) -> None:
+        with self.assertRaisesRegex(ToolError, "by what no latch holds"):
+            clock_tree.edges_of(self.tree(gate=cell("$and", A=[2], B=[3], Y=[11])))
+
+    def test_latch_that_is_read_is_refused(self) -> None:
+        tree = self.tree(other=cell("$not", A=[10], Y=[12]))
+        with self.assertRaisesRegex(ToolError, "read outside of a gate"):
+            clock_tree.refuse_read(tree, {"held"})
+
+    def test_two_inverters_are_none(self) -> None:
+        one, two = cell("$not", A=[2], Y=[20]), cell("$_NOT_", A=[20], Y=[11])
+        edge = clock_tree.edges_of(self.tree(gate=one, two=two))["state"]
+        self.assertEqual((edge.path.root, edge.rises), (2, True))
+
+
+class PinsFile(unittest.TestCase):
+    def told(self, *lines: str) -> Pins:
+        pins = Pins("p")
+        for line in lines:
+            self.assertIsNone(audit_pins.take_line(pins, line.split()), line)
+        return pins
+
+    def test_lines(self) -> None:
+        pins = self.told("reset ~rst_n", "tie mode 2'b10", "open busy")
+        self.assertEqual((pins.pins, pins.ties, pins.opens), ([("reset", Pin("rst_n", True))], {"mode": 2}, ["busy"]))
+
+    def test_wrong_lines(self) -> None:
+        for line in ("tie a", "tie a x", "clok c", "en ~~c", "open ~c", "en a b", "tie a 1'b2"):
+            self.assertIsNotNone(audit_pins.take_line(Pins("p"), line.split()), line)
+
+    def test_each_pin_is_told(self) -> None:
+        ports = {name: port("input", 2) for name in ("clk", "reset", "rdata")}
+        ports.update({name: port("output", 3) for name in ("en", "we", "addr", "wdata", "done", "fail")})
+        self.assertEqual(len(self.told().complete(ports).pins), 9)
+        for extra, said in (({"start": port("input", 9)}, "tie start 0"), ({"busy": port("output", 9)}, "open busy")):
+            with self.assertRaisesRegex(ToolError, said):
+                self.told().complete({**ports, **extra})
+        with self.assertRaisesRegex(ToolError, "two lines"):
+            self.told("tie en 0", "en en").complete(ports)
+        with self.assertRaisesRegex(ToolError, "has to be an input"):
+            self.told("tie busy 0").complete({**ports, "busy": port("output", 9)})
+
+
+class Lanes(unittest.TestCase):
+    def test_lanes_begin_where_the_first_is(self) -> None:
+        self.assertEqual(lanes.spread(0b1, 3, 0b11), 0b11001)
+        self.assertEqual(lanes.spread(0b11000, 3, 0b11), 0)
+
+    def test_lanes_laid_together_keep_what_both_say(self) -> None:
+        self.assertEqual(lanes.lay(0b11000, 3, 0b11, False), 0b11110)
+        self.assertEqual(lanes.lay(0b11010, 3, 0b11, True), 0b11010)
+
+    def test_lane_of_a_bit_is_wrong(self) -> None:
+        self.assertEqual(lanes.given(1, 0b100), (1, 0b100))
+        self.assertEqual(lanes.given(0, 0b100), (0b100, 1))
+
+
+class Texts(unittest.TestCase):
+    def test_default_of_a_case_comes_back(self) -> None:
+        verilog = "case (s)\n  2'b10: y <= b;\n  2'b01: y <= a;\nendcase"
+        vhdl = "with s select y <=\n  wrap_b when \"10\",\n  wrap_a when \"01\",\n  wrap_c when others;"
+        self.assertIn("default: y <= c;", with_defaults(verilog, vhdl))
+        self.assertNotIn("default", with_defaults(verilog, vhdl.replace("wrap_c", "f(c)")))
+
+    def test_literals(self) -> None:
+        found = [literal_of(text) for text in ('"010"', "'1'", "wrap_a", "n1_o", "a and b")]
+        self.assertEqual(found, ["3'b010", "1'b1", "a", "n1_o", None])
+
+    def test_waveform(self) -> None:
+        self.assertEqual(shown([(1, 0), (0, 1), (0, 0)]), "x01")
+        self.assertEqual(len({code_of(number) for number in range(20000)}), 20000)
+
+
+if __name__ == "__main__":
+    unittest.main()

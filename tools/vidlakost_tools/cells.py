@@ -1,0 +1,47 @@
+"""Of cells that Yosys makes of the sources: where they stand there, and which are refused before a pass makes something
+else of them."""
+from __future__ import annotations
+
+import re
+
+from vidlakost_tools.tool import ToolError
+
+REFUSED = [
+    (r"\$a?dlatch|\$dlatchsr|\$sr$|\$ff$|\$_DLATCH|\$_SR_|\$_FF_", "a latch"),
+    (r"\$aldff|\$_ALDFF", "an asynchronous load"),
+    (r"\$tribuf|\$_TBUF_", "a tri-state driver"),
+]
+HINTS = {
+    "a latch": "set the signal in every branch, or give it a default first; a latch is taken where it gates the clock alone",
+    "an asynchronous load": "an asynchronous reset loads a constant",
+    "a tri-state driver": "a multiplexer says which driver is taken",
+}
+
+
+def place_of(module: dict, cell: dict) -> str:
+    """The signal that a cell drives, and where it stands in the sources."""
+    driven = {bit for pin, bits in cell["connections"].items() if pin in ("Q", "Y", "RD_DATA") for bit in bits}
+    names = [name for name, net in module["netnames"].items() if not net["hide_name"] and driven & set(net["bits"])]
+    nets = [module["netnames"][name]["attributes"].get("src") for name in names]
+    where = cell["attributes"].get("src") or next(filter(None, nets), None)
+    return ", ".join([*names[:1], *([short(where)] if where else [])])
+
+
+def short(source: str) -> str:
+    """A place of the sources without the columns."""
+    first = source.split("|")[0]
+    return re.sub(r":(\d+)(\.\d+.*)?$", r":\1", re.sub(r"^.*/", "", first))
+
+
+def is_refused(kind: str) -> bool:
+    return any(re.match(pattern, kind) for pattern, _ in REFUSED)
+
+
+def refuse_cells(module: dict, taken: set[str]) -> None:
+    """Refuses what later passes would make something else of, as a flip-flop of a latch; not those that are taken."""
+    for name, cell in module["cells"].items():
+        if name in taken:
+            continue
+        what = next((what for pattern, what in REFUSED if re.match(pattern, cell["type"])), None)
+        if what:
+            raise ToolError(f"{place_of(module, cell) or 'a cell'}: {what} is outside the subset; {HINTS[what]}", 1)

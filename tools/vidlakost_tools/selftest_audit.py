@@ -1,0 +1,50 @@
+"""The rows of tools/selftest for `audit`, and what it needs of files."""
+from __future__ import annotations
+
+from vidlakost_tools.program import ROOT
+from vidlakost_tools.text import read_text
+
+FOLDER = "examples/foreign/"
+PORTS = (
+    "input clk, input reset, input rdata, output en, output we, output [1:0] addr, output wdata,\n"
+    "  output done, output fail);\n"
+)
+NAMES = "other_names.v"
+FILES = {
+    "no_clear.v": f"module no_clear({PORTS}  assign en = later;\nendmodule\n",
+    NAMES: "module other_names(input ck, input rst_n, input q, output cen, output wen, output [1:0] a, output d,\n"
+    "  output ready, output error);\n  reg r;\n  always @(posedge ck) r <= q & rst_n;\n"
+    "  assign {cen, wen, a, d, ready, error} = {7{r}};\nendmodule\n",
+    "twice.pins": "clk ck\nreset ~rst_n\nen ck\n",
+    "unsaid.pins": "clk ck\nreset ~rst_n\n",
+    "word.pins": "clok ck\n",
+    "simulated.v": f"module simulated({PORTS}  assign en = $time;\nendmodule\n",
+}
+
+
+def rows() -> list[tuple]:
+    """Each line of the table as a call."""
+    found = []
+    for line in read_text(ROOT / FOLDER / "styles" / "answers").splitlines():
+        if line.startswith("#"):
+            continue
+        call, _, told = line.partition(" : ")
+        status, *words = call.split()
+        files = [word if word.startswith("--") else FOLDER + word for word in words]
+        found.append(("ghdl" if ".vhd" in call else "yosys", ["tools/audit", *files], int(status), f"audit: {told}\n", ""))
+    return found
+
+
+CALLS = [
+    ("yosys", ["tools/audit", "latch.v", "c.m", "s.mem"], 1, "audit: refused", "audit: "),
+    ("yosys", ["tools/audit", "no_clear.v", "c.m", "s.mem"], 1, "en hangs on later", "audit: "),
+    ("yosys", ["tools/audit", NAMES, "c.m", "s.mem"], 1, "", "audit: a self-test of s has the ports"),
+    ("yosys", ["tools/audit", "simulated.v", "c.m", "s.mem"], 1, "", "audit: simulated.v:3: $time is a call"),
+    ("yosys", ["tools/audit", NAMES, "c.m", "s.mem", "--pins", "twice.pins"], 2, "", "audit: twice.pins: the pin 'ck'"),
+    ("yosys", ["tools/audit", NAMES, "c.m", "s.mem", "--pins", "unsaid.pins"], 2, "", "audit: unsaid.pins: the input q"),
+    ("", ["tools/audit", NAMES, "c.m", "s.mem", "--pins", "word.pins"], 2, "", "audit: word.pins:1: there is no line"),
+    ("", ["tools/audit", NAMES, "c.m"], 2, "", "audit: too few words"),
+    ("", ["tools/audit", NAMES, "wrong.m", "s.mem"], 3, "", "audit: march M8"),
+    ("", ["tools/audit", NAMES, "c.m", "s.mem", "--vcd", "c.m"], 2, "", "audit: 'c.m' is the march"),
+    *rows(),
+]

@@ -1,0 +1,70 @@
+"""VHDL as Verilog, made by GHDL."""
+from __future__ import annotations
+
+import pathlib
+import re
+import shutil
+import subprocess
+
+from vidlakost_tools.text import lines_of, read_described
+from vidlakost_tools.tool import ToolError, identifier
+
+
+def is_vhdl(file: str) -> bool:
+    return pathlib.Path(file).suffix.lower() in (".vhd", ".vhdl")
+
+
+def verilog_of(files: list[str], options: dict, folder: pathlib.Path) -> tuple[list[str], dict]:
+    """The files with GHDL's Verilog in place of those in VHDL; the top is then its last entity, or the one that is named."""
+    vhdl = [file for file in files if is_vhdl(file)]
+    if not vhdl:
+        return files, options
+    if shutil.which("ghdl") is None:
+        raise ToolError(f"{vhdl[0]} is VHDL, and ghdl, which makes Verilog of it, is not on the PATH")
+    texts = [read_described(file) for file in vhdl]
+    entities = [name for text in texts for name in re.findall(r"^\s*entity\s+(\w+)\s+is", text, re.MULTILINE | re.IGNORECASE)]
+    if not entities:
+        raise ToolError(f"{vhdl[-1]} has no entity")
+    top = identifier(options.get("--top", entities[-1]), "the top")
+    names = [str(pathlib.Path(file).resolve()) for file in vhdl]
+    made = folder / "vhdl.v"
+    made.write_text(with_defaults(synthesized("verilog", names, top, folder), synthesized("vhdl", names, top, folder)))
+    return [*(file for file in files if file not in vhdl), str(made)], {**options, "--top": top.lower()}
+
+
+def synthesized(form: str, names: list[str], top: str, folder: pathlib.Path) -> str:
+    """What GHDL makes of an entity, as a text of one of its forms."""
+    words = ["ghdl", "--synth", "--std=08", f"--workdir={folder}", f"--out={form}", *names, "-e", top]
+    done = subprocess.run(
+        words, stdin=subprocess.DEVNULL, stdout=subprocess.PIPE, stderr=subprocess.PIPE, cwd=folder, check=False
+    )
+    if done.returncode:
+        said = lines_of(done.stderr.decode("utf-8", "replace"))
+        raise ToolError("\n".join([f"ghdl refuses it: {said[0] if said else 'no reason is given'}", *said[1:8]]), 1)
+    return done.stdout.decode("utf-8", "replace")
+
+
+def literal_of(value: str) -> str | None:
+    """A value of GHDL's VHDL in its Verilog; None of one that is more than a constant or a name."""
+    if re.fullmatch(r"\"[01X]+\"|'[01X]'", value):
+        return f"{len(value) - 2}'b{value[1:-1].lower()}"
+    return value[len("wrap_") :] if re.fullmatch(r"wrap_\w+", value) else value if re.fullmatch(r"\w+", value) else None
+
+
+def with_defaults(verilog: str, vhdl: str) -> str:
+    """GHDL's Verilog, in whose `case` some versions leave out what stands behind `when others`, with it. Where it can't be
+    read, the signal is a latch, which is refused."""
+    others = {}
+    for name, body in re.findall(r"^\s*with \w+ select (\w+) <=(.*?);", vhdl, re.MULTILINE | re.DOTALL):
+        last = re.search(r"(\S+) when others\s*$", body)
+        value = literal_of(last[1]) if last else None
+        if value is not None:
+            others[name] = value
+
+    def whole(match: re.Match) -> str:
+        target = re.search(r": (\w+) <=", match[0])
+        if "default:" in match[0] or target is None or target[1] not in others:
+            return match[0]
+        return match[0][: -len("endcase")] + f"  default: {target[1]} <= {others[target[1]]};\n    endcase"
+
+    return re.sub(r"\bcase \(.*?\bendcase", whole, verilog, flags=re.DOTALL)
