@@ -35,6 +35,7 @@ module {name}_{kind}_tb;
 {links}{body}
   task told(input integer number);
     begin
+      if (test !== 1'b1) $fatal(1, "{name}: test is %b while start is 1", test);
       if (state !== 4'h3 && state !== 4'hf) $fatal(1, "{name}: the state is %b", state);
       if (number == 0) first = {{whose, when_read, wanted, got}};
       else if (first !== {{whose, when_read, wanted, got}}) $fatal(1, "{name}: the second run found something else");

@@ -281,9 +281,9 @@ def inside(target: Target, clock: str, reset_n: str) -> str:
     lines = [f"  wire {ranged(width)}{name};" for name, width in wires]
     behind = [*target.choice(), *target.ports(), *(Port("", name) for name in ("test", "done", "fail", "seen")), *target.result()]
     lines += [
-        f"  {target.name}_cross cross(.clock({clock}), .reset_n({reset_n}), .want(want),",
+        f"  {target.name}_cross crossing(.clock({clock}), .reset_n({reset_n}), .want(want),",
         f"    {links(names)});",
-        f"  {target.name}_access access(.clk(clk), .start(start), {links(behind)});",
+        f"  {target.name}_access tested(.clk(clk), .start(start), {links(behind)});",
     ]
     return "\n".join(lines) + "\n"
 
