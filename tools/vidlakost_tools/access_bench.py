@@ -1,7 +1,7 @@
 """The testbenches of what `tools/access` writes: a sound memory, or one with a bit that is stuck, started and read."""
 from __future__ import annotations
 
-from vidlakost_tools.access_block import Port, Target, links, model_links, ranged, zero
+from vidlakost_tools.access_block import Port, Target, extended, links, model_links, ranged, zero
 
 TOP = """// Starts the self-test of {name} {how} and reads what it found, with two runs one after another.
 //   +planted +address=A +bit=B +value=V{unit}   a bit of a word is stuck at V (0 where nothing is said of a number)
@@ -113,7 +113,7 @@ def access_bench(target: Target) -> str:
         name=target.name,
         most=most(target) + 100,
         any=f"fail != {zero(target.count)}",
-        whose="unit" if target.is_chip else "4'd0",
+        whose=extended("unit", target.unit_bits, 4) if target.is_chip else "4'd0",
         none=zero(target.count),
     )
     return testbench(target, "access", "by a signal of another clock", 5, declared, link, body)

@@ -6,6 +6,7 @@ import dataclasses
 
 from vidlakost_tools.chip import Chip
 from vidlakost_tools.memory import Memory
+from vidlakost_tools.text import read_described, statements
 from vidlakost_tools.verilog import ranged
 
 SIGNALS = ("rdata", "en", "we", "addr", "wdata")
@@ -58,17 +59,28 @@ class Target:
     def count(self) -> int:
         return len(self.units)
 
+    @property
+    def unit_bits(self) -> int:
+        """The bits of the number of a unit."""
+        return max(1, (self.count - 1).bit_length())
+
     def ports(self) -> list[Port]:
         return [port for unit in self.units for port in unit.ports()]
 
     def result(self) -> list[Port]:
         """What is kept of the first failure."""
         kept = [Port("output", "cycle", 32), Port("output", "expected", self.word), Port("output", "returned", self.word)]
-        return kept + ([Port("output", "unit", 4)] if self.is_chip else [])
+        return kept + ([Port("output", "unit", self.unit_bits)] if self.is_chip else [])
 
     def choice(self) -> list[Port]:
         """Of a chip the units whose failures are not kept."""
         return [Port("input", "ignore", self.count)] if self.is_chip else []
+
+
+def is_chip_file(path: str) -> bool:
+    """Whether a file begins as a chip file does."""
+    said = statements(read_described(path))
+    return bool(said) and said[0][1] == "chip"
 
 
 def of_memory(memory: Memory, done: int | None) -> Target:
@@ -141,7 +153,8 @@ def capture(target: Target) -> list[str]:
         ("returned", target.word, chosen(target, lambda number: returned_of(target, number))),
     ]
     if target.is_chip:
-        values.append(("unit", 4, chosen(target, lambda number: f"4'd{number}")))
+        bits = target.unit_bits
+        values.append(("unit", bits, chosen(target, lambda number: f"{bits}'d{number}")))
         clear, hit = [f"      failed <= {zero(target.count)};"], f"rises != {zero(target.count)}"
         move = ["      failed <= fail;"]
     else:

@@ -53,7 +53,7 @@ def registers(target: Target) -> list[Register]:
         Field("fail", 2, 1, f"(has_failed != {zero(target.count)})", "a read was wrong"),
         Field("seen", 3, 1, "is_seen", "CYCLE, EXPECTED and RETURNED stand"),
     ]
-    unit = [Register("UNIT", 0x0C, [Field("unit", 0, 4, "(is_seen ? unit : 4'd0)", "whose failure it is")])]
+    unit = [Register("UNIT", 0x0C, [Field("unit", 0, target.unit_bits, f"(is_seen ? unit : {zero(target.unit_bits)})", "whose failure it is")])]
     ignore = Field("ignore", 0, target.count, "ignore", "a bit for each unit whose failures are not kept; it stays while START is 1")
     return [
         Register("CONTROL", 0x00, [Field("start", 0, 1, "want", "1 starts a test and keeps what it found; 0 ends it")], True),
@@ -102,7 +102,7 @@ def block(target: Target) -> str:
         inside(target, "pclk", "presetn").rstrip("\n"),
         f"  assign unused = &{{1'b0, pwdata[31:{used}]}};",
         "  assign access_phase = psel & penable;",
-        "  assign pready = 1'b1;",
+        "  assign pready = access_phase;",
         "  assign prdata = value;",
         "  assign pslverr = access_phase & (!is_there | (pwrite & !writable));",
         "  wire writable;",

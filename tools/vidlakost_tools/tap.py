@@ -4,7 +4,7 @@ from __future__ import annotations
 import dataclasses
 
 from vidlakost_tools.access_bench import most, testbench
-from vidlakost_tools.access_block import Port, Target, header, inside, links, model_links, zero
+from vidlakost_tools.access_block import Port, Target, extended, header, inside, links, model_links, zero
 
 IDCODE = 0x10000A01
 
@@ -252,7 +252,7 @@ def bench(target: Target) -> str:
         failing=at["failing" if target.is_chip else "fail"],
         wanted=at["expected"],
         got=at["returned"],
-        whose=f"heard{at['unit']}" if target.is_chip else "4'd0",
+        whose=extended(f"heard{at['unit']}", target.unit_bits, 4) if target.is_chip else "4'd0",
         digits="%h",
     )
     return testbench(target, "tap", "by JTAG", 5, declared, link, body)
