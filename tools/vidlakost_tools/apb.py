@@ -60,7 +60,7 @@ def registers(target: Target) -> list[Register]:
         Register("STATUS", 0x04, state),
         Register("FAIL", 0x08, [Field("fail", 0, target.count, "has_failed", "a bit for each unit, the first one's lowest")]),
         *(unit if target.is_chip else []),
-        *parts_of("CYCLE", "cycle", 32, 0x10, "of the first failure the cycle, as tools/locate takes it"),
+        *parts_of("CYCLE", "cycle", 32, 0x10, "of the first failure the cycle, as vidlakost locate takes it"),
         *parts_of("EXPECTED", "expected", target.word, 0x14, "the word that the march expects"),
         *parts_of("RETURNED", "returned", target.word, 0x1C, "the word that returned"),
         *([Register("IGNORE", 0x24, [ignore], True)] if target.is_chip else []),
@@ -157,7 +157,7 @@ def table(target: Target) -> str:
             "All other bits are read as 0, and a write to them is without effect. Behind presetn all fields are 0.",
             "",
             "To test: write 1 to CONTROL, read STATUS until `done` is 1, read the rest, and write 0 to CONTROL. What was found is",
-            "kept while START is 1. A test that is not done in the cycles of `tools/summary` does not end: its clock does not run,",
+            "kept while START is 1. A test that is not done in the cycles of `vidlakost summary` does not end: its clock does not run,",
             "or the module is another. A 0 behind a 1 ends a test at once, and a 1 behind that begins anew, however fast they come.",
             "",
         ]

@@ -2,14 +2,14 @@
 from __future__ import annotations
 
 import dataclasses
+import os
 import pathlib
-import re
 import tempfile
 
 from vidlakost_tools.march import Element, march_of
 from vidlakost_tools.memory import Memory, read_memory
 from vidlakost_tools.program import run
-from vidlakost_tools.text import lines_of, read_described, words_in
+from vidlakost_tools.text import read_described, statements
 from vidlakost_tools.tool import Refused, ToolError, identifier, number_of
 
 
@@ -69,7 +69,7 @@ def place(chip: Chip) -> None:
         start += max(unit.length for unit in members) - 1
 
 
-def check_with_program(path) -> None:
+def check_with_program(path: str | os.PathLike[str]) -> None:
     """Hands on a refusal of the program."""
     with tempfile.TemporaryDirectory() as folder:
         status, said = run("chip", path, pathlib.Path(folder) / "chip.v")
@@ -77,21 +77,26 @@ def check_with_program(path) -> None:
         raise Refused(["chip", str(path), "chip.v"], said, status)
 
 
-def read_chip(path) -> Chip:
+def units_of(said: list[tuple[int, str, str]]) -> list[tuple[int, str, str, str]]:
+    """Of each unit its line, its weight, its march and its memory."""
+    rows = [(line, rest.split(" ")) for line, word, rest in said if word == "unit"]
+    return [(line, parts[0], parts[1], parts[2]) for line, parts in rows if len(parts) == 3]
+
+
+def read_chip(path: str | os.PathLike[str]) -> Chip:
     """The chip of a file, its units in their groups."""
     check_with_program(path)
-    said: dict[str, str] = {}
-    units = []
-    for count, line in enumerate(lines_of(read_described(path)), 1):
-        words = words_in(line)
-        form = " ".join(words)
-        if re.fullmatch(r"(chip|name|budget) \S+", form):
-            said[words[0]] = words[1]
-        elif re.fullmatch(r"unit [0-9]{1,9} \S+ \S+", form):
-            elements = march_of(words[2])[1]
-            units.append(Unit(int(words[1]), words[2], words[3], elements, read_memory(words[3])))
-        elif form:
-            raise ToolError(f"{path}:{count}: this is no line of a chip file")
+    lines = statements(read_described(path))
+    said = {word: rest for _, word, rest in lines if word in ("chip", "name", "budget") and " " not in rest}
+    rows = units_of(lines)
+    known = {line for line, *_ in rows} | {line for line, word, rest in lines if said.get(word) == rest}
+    for line, _, _ in lines:
+        if line not in known:
+            raise ToolError(f"{path}:{line}: this is no line of a chip file")
+    units = [
+        Unit(number_of(weight, "a weight"), march, memory, march_of(march)[1], read_memory(memory))
+        for _, weight, march, memory in rows
+    ]
     for word in ("name", "budget"):
         if word not in said:
             raise ToolError(f"{path}: the line '{word}' is missing")

@@ -1,4 +1,4 @@
-"""A picture of the groups of a chip in time: `tools/schedule` draws it for any chip file, `tools/pictures` for the guide."""
+"""A picture of the groups of a chip in time: `vidlakost schedule` draws it for any chip file, `vidlakost pictures` for the guide."""
 from __future__ import annotations
 
 from vidlakost_tools import chip

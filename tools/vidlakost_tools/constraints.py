@@ -1,4 +1,4 @@
-"""Timing constraints of what `tools/access` writes: one file for the test, one for normal use."""
+"""Timing constraints of what `vidlakost access` writes: one file for the test, one for normal use."""
 from __future__ import annotations
 
 import dataclasses

@@ -12,6 +12,7 @@ from vidlakost_tools.finding import Trier, close_to, listed, thousands
 from vidlakost_tools.march import elements_of
 from vidlakost_tools.memory import Memory, parse_memory
 from vidlakost_tools.program import FORMATS, commands, form_of
+from vidlakost_tools.tasks import tools
 from vidlakost_tools.text import lines_of, read_described, read_text, visible
 from vidlakost_tools.tool import ToolError
 
@@ -175,7 +176,7 @@ def usage(words: list[str]) -> list[str]:
     """What is wrong with the words of a call."""
     names = [command.name for command in commands()]
     if not words or words[0] not in names:
-        meant = close_to(words[0], names) if words else None
+        meant = close_to(words[0], [*names, *tools()]) if words else None
         what = f"'{words[0]}' is no command" if words else "there is no command"
         return [
             f"{CONSOLE}: error: {what}" + (f"; did you mean '{meant}'?" if meant else ""),

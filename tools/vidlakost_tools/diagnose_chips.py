@@ -3,10 +3,11 @@ from __future__ import annotations
 
 import re
 
+from vidlakost_tools.chip import units_of
 from vidlakost_tools.diagnose_texts import Description, early, repeated, unexpected
 from vidlakost_tools.finding import Finding, at_of, thousands
 from vidlakost_tools.memory import parse_memory
-from vidlakost_tools.text import read_described
+from vidlakost_tools.text import read_described, statements
 
 KEYWORDS = "chip name budget unit".split()
 FIELDS = {
@@ -67,17 +68,11 @@ def too_heavy(description: Description, line: int) -> Finding:
     )
 
 
-def units(description: Description) -> list[tuple[int, str, str]]:
-    """Of each unit its line, its march and its memory."""
-    rows = [(line, rest.split()) for line, word, rest in description.statements if word == "unit"]
-    return [(line, parts[1], parts[2]) for line, parts in rows if len(parts) == 3]
-
-
 def same_name(description: Description, number: int) -> Finding:
     """C8: the memory of a unit has an earlier one's name, or its module has the chip's."""
-    rows = units(description)
-    names = [parse_memory(read_described(memory)).name for _, _, memory in rows[: number + 1]]
-    line, _, memory = rows[number]
+    rows = units_of(description.statements)
+    names = [parse_memory(read_described(memory)).name for *_, memory in rows[: number + 1]]
+    line, _, _, memory = rows[number]
     if names[number] in names[:number]:
         why = f"its memory has the name of unit {names.index(names[number])}, '{names[number]}'"
     else:
@@ -91,5 +86,5 @@ def unit_call(chip_file: str, said: str) -> tuple[list[str], str]:
     if match is None:
         raise ValueError(said)
     text = read_described(chip_file)
-    _, march, memory = units(Description(chip_file, text.encode()))[int(match[1])]
+    _, _, march, memory = units_of(statements(text))[int(match[1])]
     return ["bench", march, memory], match[2]

@@ -18,25 +18,13 @@ from vidlakost_tools.finding import (
     word_at,
     word_start,
 )
-from vidlakost_tools.memory import terms_of
+from vidlakost_tools.march import read_elements
+from vidlakost_tools.memory import Row, rows_of
 from vidlakost_tools.text import statements
 
 # ---- marches
 
 MARCH_WORDS = "up down any del w0 w1 r0 r1".split()
-TOKEN = re.compile("|".join(re.escape(word) for word in (*MARCH_WORDS, *"^v*⇑↑⇓↓⇕↕")).encode())
-
-
-def visits(text: bytes) -> list[tuple[int, list[tuple[int, str]]]]:
-    """Of each element of a text of the grammar its byte, and its operations with their bytes."""
-    found: list = []
-    for match in TOKEN.finditer(text):
-        word = match[0].decode()
-        if re.fullmatch("[rw][01]", word):
-            found[-1][1].append((match.start(), word))
-        else:
-            found.append((match.start(), []))
-    return found
 
 
 def march(name: str, text: bytes, code: str, values: dict) -> Finding:
@@ -45,7 +33,12 @@ def march(name: str, text: bytes, code: str, values: dict) -> Finding:
         return unexpected("march", name, text, int(values["byte"]), MARCH_WORDS)
     if code == "M2":
         return early("march", name, text, "the march")
-    elements = visits(text)
+    said = text.decode("utf-8")
+    # the byte of each element, and of its operations
+    elements = [
+        (len(said[: it.at].encode()), [(len(said[:at].encode()), word) for at, word in zip(it.places, it.operations)])
+        for it in read_elements(said)
+    ]
     operations = [(number, at, word) for number, (_, inside) in enumerate(elements) for at, word in inside]
     if code == "M3":
         return Finding(
@@ -230,10 +223,8 @@ class Description:
     def found(self, at: int | None, message: str, *notes: str) -> Finding:
         return Finding(self.name, self.text, at, message, list(notes))
 
-    def rows(self) -> dict:
-        """Of each row of the scrambling its line and its terms."""
-        split = [(line, rest.split("=")) for line, word, rest in self.statements if word == "scramble"]
-        return {int(parts[0].strip()[1:]): (line, terms_of(parts[1])) for line, parts in split if len(parts) == 2}
+    def rows(self) -> dict[int, tuple[int, Row]]:
+        return rows_of(self.statements)
 
 
 def memory(name: str, text: bytes, code: str, values: dict) -> Finding:

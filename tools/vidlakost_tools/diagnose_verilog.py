@@ -3,13 +3,23 @@ from __future__ import annotations
 
 import dataclasses
 import re
-import sys
 
 from vidlakost_tools.diagnose_texts import early, unexpected
 from vidlakost_tools.finding import Finding, listed
 from vidlakost_tools.memory import Memory, parse_memory
 from vidlakost_tools.text import read_described
-from vidlakost_tools.verilog import LEVELS, LEXEME, RANK, Token
+from vidlakost_tools.verilog import (
+    Assign,
+    Block,
+    Declared,
+    Expression,
+    If,
+    Item,
+    Reader,
+    Set,
+    Statement,
+    Token,
+)
 
 WORDS = ("module input output wire reg assign always begin end if else case default endcase endmodule posedge").split()
 ONE_BIT = {"==", "!=", "<", "<=", ">", ">=", "&&", "||"}
@@ -32,123 +42,60 @@ class Event:
     kind: str
     name: str
     at: int
-    detail: tuple = ()
+    detail: tuple[object, ...] = ()
 
 
-class Module:
-    """A module of the grammar, as the list of its events in the order of its text."""
+class Events:
+    """What happens in a module, in the order of its text."""
 
     def __init__(self, text: bytes):
-        source = text.decode("latin-1")
-        self.tokens = [Token(match.lastgroup, match[0], match.start()) for match in LEXEME.finditer(source) if match.lastgroup]
-        self.here, self.block = 0, 0
+        module = Reader(text.decode("latin-1")).module()
+        self.block = 0
         self.names: dict[str, Name] = {}
-        self.ports: dict[str, Name] = {}
         self.events: list[Event] = []
-        # an expression takes a dozen calls for each of its 64 openings at most
-        sys.setrecursionlimit(max(sys.getrecursionlimit(), 20000))
-        self.module()
+        for declared in module.ports:
+            self.declare(declared)
+        self.ports = dict(self.names)
+        for item in module.items:
+            self.item(item)
 
-    # the tokens
-
-    def peek(self) -> str:
-        return self.tokens[self.here].text if self.here < len(self.tokens) else ""
-
-    def take(self) -> Token:
-        self.here += 1
-        return self.tokens[self.here - 1]
-
-    def skip(self, *texts: str) -> bool:
-        """Takes the next token where it is one of these."""
-        if self.peek() in texts:
-            self.here += 1
-            return True
-        return False
-
-    def note(self, kind: str, token: Token, *detail) -> None:
+    def note(self, kind: str, token: Token, *detail: object) -> None:
         self.events.append(Event(kind, token.text, token.at, detail))
 
-    # the parts of a module
+    def declare(self, declared: Declared) -> None:
+        token = declared.token
+        self.note("twice" if token.text in self.names else "declared", token, declared.kind)
+        self.names.setdefault(token.text, Name(declared.kind, declared.width, token.at))
 
-    def range(self) -> int:
-        if not self.skip("["):
-            return 1
-        high = int(self.take().text)
-        self.here += 3
-        return high + 1
-
-    def declare(self, kind: str, width: int) -> None:
-        token = self.take()
-        self.note("twice" if token.text in self.names else "declared", token, kind)
-        self.names.setdefault(token.text, Name(kind, width, token.at))
-
-    def module(self) -> None:
-        self.here = 3
-        while self.peek() not in (")", ""):
-            kind = self.take().text
-            if self.peek() in ("wire", "reg"):
-                kind = "reg" if self.take().text == "reg" else kind
-            self.declare(kind, self.range())
-            self.skip(",")
-        self.ports = dict(self.names)
-        self.here += 2
-        while self.peek() not in ("endmodule", ""):
-            self.item()
-
-    def item(self) -> None:
-        kind = self.take().text
-        if kind in ("wire", "reg"):
-            width = self.range()
-            self.declare(kind, width)
-            while self.skip(","):
-                self.declare(kind, width)
-            self.skip(";")
-        elif kind == "assign":
-            target = self.take()
-            self.skip("=")
-            self.note("assign", target)
-            self.equal(target.at, self.width_of(target), self.expression())
-            self.skip(";")
-        elif kind == "always":
-            self.block += 1
-            self.here += 3
-            self.note("clock", self.take())
-            self.skip(")")
-            self.statement()
-
-    def statement(self) -> None:
-        if self.skip("begin"):
-            while not self.skip("end") and self.peek():
-                self.statement()
-        elif self.skip("if"):
-            self.skip("(")
-            self.expression()
-            self.skip(")")
-            self.statement()
-            if self.skip("else"):
-                self.statement()
-        elif self.skip("case"):
-            self.cases()
+    def item(self, item: Item) -> None:
+        if isinstance(item, Declared):
+            self.declare(item)
+        elif isinstance(item, Assign):
+            self.note("assign", item.target)
+            self.equal(item.target.at, self.width_of(item.target), self.width(item.value))
         else:
-            target = self.take()
-            self.skip("<=")
-            self.note("set", target, self.block)
-            self.equal(target.at, self.width_of(target), self.expression())
-            self.skip(";")
+            self.block += 1
+            self.note("clock", item.clock)
+            self.statement(item.body)
 
-    def cases(self) -> None:
-        self.skip("(")
-        subject = self.expression()
-        self.skip(")")
-        while not self.skip("endcase") and self.peek():
-            if self.skip("default"):
-                self.skip(":")
-            else:
-                while not self.skip(":"):
-                    at = self.tokens[self.here].at
-                    self.equal(at, subject, self.expression())
-                    self.skip(",")
-            self.statement()
+    def statement(self, statement: Statement) -> None:
+        if isinstance(statement, Set):
+            self.note("set", statement.target, self.block)
+            self.equal(statement.target.at, self.width_of(statement.target), self.width(statement.value))
+        elif isinstance(statement, Block):
+            for part in statement.parts:
+                self.statement(part)
+        elif isinstance(statement, If):
+            self.width(statement.condition)
+            self.statement(statement.then)
+            if statement.otherwise is not None:
+                self.statement(statement.otherwise)
+        else:
+            subject = self.width(statement.subject)
+            for labels, body in statement.arms:
+                for label in labels:
+                    self.equal(label.start, subject, self.width(label))
+                self.statement(body)
 
     # expressions, each with its width (None: unknown)
 
@@ -161,69 +108,47 @@ class Module:
         if left and right and left != right:
             self.events.append(Event("width", "", at, (left, right)))
 
-    def expression(self, rank: int = -1) -> int | None:
-        if rank == -1:
-            condition = self.expression(0)
-            if not self.skip("?"):
-                return condition
-            at = self.tokens[self.here].at
-            first = self.expression()
-            self.skip(":")
-            self.equal(at, first, self.expression())
-            return first
-        if rank == len(LEVELS):
-            return self.unary()
-        left = self.expression(rank + 1)
-        while RANK.get(self.peek()) == rank:
-            mark = self.take()
-            right = self.expression(rank + 1)
-            if mark.text not in FREE:
-                self.equal(mark.at, left, right)
-            left = 1 if mark.text in ONE_BIT else left or right if mark.text not in FREE else left
-        return left
+    def width(self, it: Expression) -> int | None:
+        if it.kind == "literal":
+            return it.width
+        if it.kind == "name":
+            return self.selected(it)
+        widths = [self.width(operand) for operand in it.operands]
+        if it.kind == "prefix":
+            return widths[0] if it.token.text == "~" else 1
+        if it.kind == "join":
+            return self.joined(it, widths)
+        left, right = widths[-2:]
+        if it.kind == "choice":
+            self.equal(it.operands[1].start, left, right)
+            return left
+        if it.token.text in FREE:
+            return 1 if it.token.text in ONE_BIT else left
+        self.equal(it.token.at, left, right)
+        return 1 if it.token.text in ONE_BIT else left or right
 
-    def unary(self) -> int | None:
-        if self.peek() in ("~", "!", "&", "|", "^", "~&", "~|", "~^", "^~"):
-            mark = self.take().text
-            width = self.unary()
-            return width if mark == "~" else 1
-        if self.skip("("):
-            width = self.expression()
-            self.skip(")")
-            return width
-        if self.peek() == "{":
-            return self.joined()
-        token = self.take()
-        if token.kind == "literal":
-            return int(token.text.split("'")[0])
-        return self.selected(token) if token.kind == "name" else None
-
-    def joined(self) -> int | None:
-        at, parts = self.take().at, []
-        while not self.skip("}") and self.peek():
-            parts.append(self.expression())
-            self.skip(",")
-        total = sum(parts) if all(parts) else None
-        if total and total > 64:
-            self.events.append(Event("width", "", at, (64, total)))
+    def joined(self, it: Expression, widths: list[int | None]) -> int | None:
+        known = [width for width in widths if width]
+        total = sum(known)
+        if len(known) < len(widths):
+            return None
+        if total > 64:
+            self.events.append(Event("width", "", it.start, (64, total)))
         return total
 
-    def selected(self, name: Token) -> int | None:
-        width = self.width_of(name)
-        if not self.skip("["):
+    def selected(self, it: Expression) -> int | None:
+        width = self.width_of(it.token)
+        if it.bits is None:
             return width
-        high = low = int(self.take().text)
-        if self.skip(":"):
-            low = int(self.take().text)
-        self.skip("]")
+        high, low = it.bits
         if width and (high >= width or low > high or width == 1):
-            self.note("select", name, width, high, low)
+            self.note("select", it.token, width, high, low)
         return high - low + 1
 
 
 def rule(name: str, text: bytes, code: str, values: dict) -> Finding:
     """The place of a broken rule, and what is wrong there."""
-    module = Module(text)
+    module = Events(text)
     what = values.get("name", "")
     if code == "N7":
         return loop(name, text, module, values["names"].split())
@@ -234,7 +159,7 @@ def rule(name: str, text: bytes, code: str, values: dict) -> Finding:
     return Finding(name, text, None, f"the module breaks rule {code} {what}".rstrip())
 
 
-def broken(module: Module, event: Event, code: str, what: str, values: dict) -> str | None:
+def broken(module: Events, event: Event, code: str, what: str, values: dict) -> str | None:
     """What is wrong with an event, where it is the one that breaks the rule."""
     if code == "N3":
         widths = (int(values["x"]), int(values["y"]))
@@ -270,12 +195,12 @@ def broken(module: Module, event: Event, code: str, what: str, values: dict) -> 
     return None
 
 
-def first_of(module: Module, event: Event) -> Event:
+def first_of(module: Events, event: Event) -> Event:
     """The first event of this kind with this name."""
     return next(it for it in module.events if it.kind == event.kind and it.name == event.name)
 
 
-def clock(module: Module, event: Event, what: str) -> str | None:
+def clock(module: Events, event: Event, what: str) -> str | None:
     declared = module.names.get("clk")
     is_input = declared is not None and declared.kind == "input" and declared.width == 1
     if event.kind == "clock" and (what != "clk" or not is_input):
@@ -287,7 +212,7 @@ def clock(module: Module, event: Event, what: str) -> str | None:
     return None
 
 
-def loop(name: str, text: bytes, module: Module, names: list[str]) -> Finding:
+def loop(name: str, text: bytes, module: Events, names: list[str]) -> Finding:
     places = [next((event.at for event in module.events if event.kind == "assign" and event.name == it), None) for it in names]
     circle = " -> ".join([*names, names[0]])
     return Finding(
@@ -320,7 +245,7 @@ def bits(width: int) -> str:
 
 def port(name: str, text: bytes, what: str, memory: Memory) -> Finding:
     """The port that is not as the self-test of a memory has it."""
-    module, wanted = Module(text), wanted_ports(memory)
+    module, wanted = Events(text), wanted_ports(memory)
     if what not in wanted:
         return Finding(
             name,

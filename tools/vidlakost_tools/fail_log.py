@@ -73,7 +73,7 @@ def block(memory: Memory, depth: int) -> str:
     return header(about, f"{memory.name}_log", ports, ("count", "more")) + "\n".join(lines) + "\n"
 
 
-BENCH = """// Runs the self-test of {name} and prints its log, as `tools/bitmap` reads it.
+BENCH = """// Runs the self-test of {name} and prints its log, as `vidlakost bitmap` reads it.
 //   +planted +address=A +bit=B +value=V   a bit of a word is stuck at V (0 where nothing is said of a number)
 module {name}_log_tb;
   reg clk = 1'b0;

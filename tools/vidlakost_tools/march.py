@@ -13,11 +13,14 @@ from vidlakost_tools.tool import ToolError
 
 @dataclasses.dataclass
 class Element:
-    """An element of a printed march: its text, its order (`del` for a pause) and its operations."""
+    """An element of a march: its text without blanks, its order (`del` for a pause), its operations, and where it and they
+    begin in the text, in characters."""
 
     text: str
     order: str
     operations: list[str]
+    at: int = 0
+    places: list[int] = dataclasses.field(default_factory=list)
 
     @property
     def is_pause(self) -> bool:
@@ -25,30 +28,38 @@ class Element:
 
 
 ORDERS = {
-    "up": "up",
-    "^": "up",
-    "⇑": "up",
-    "↑": "up",
-    "down": "down",
-    "v": "down",
-    "⇓": "down",
-    "↓": "down",
-    "any": "any",
-    "*": "any",
-    "⇕": "any",
-    "↕": "any",
+    **dict.fromkeys(("up", "^", "⇑", "↑"), "up"),
+    **dict.fromkeys(("down", "v", "⇓", "↓"), "down"),
+    **dict.fromkeys(("any", "*", "⇕", "↕"), "any"),
     "del": "del",
 }
+OPERATION = re.compile("[rw][01]")
+
+
+def read_elements(march: str) -> list[Element]:
+    """The elements of a text of the grammar, however many."""
+    opening = re.match(rf"[{BLANKS}\n]*\{{?[{BLANKS}\n]*", march)
+    at = opening.end() if opening else 0
+    body = march[at:].rstrip(f"{BLANKS}\n}}")
+    elements = []
+    for part in body.split(";") if body else []:
+        bare = re.sub(f"[{BLANKS}\n]", "", part)
+        match = re.fullmatch(r"([^(){}]+)(?:\(([rw][01](?:,[rw][01])*)\))?", bare)
+        if match is None or match[1] not in ORDERS or (match[1] == "del") != (match[2] is None):
+            raise ToolError(f"{shown(bare[:64])} is no element of a march")
+        begin = at + len(part) - len(part.lstrip(f"{BLANKS}\n"))
+        operations = list(OPERATION.finditer(part))
+        places = [at + operation.start() for operation in operations]
+        elements.append(Element(bare, ORDERS[match[1]], [operation[0] for operation in operations], begin, places))
+        at += len(part) + 1
+    return elements
 
 
 def elements_of(march: str) -> list[Element]:
     """The elements of the text of an accepted march."""
-    elements = []
-    for part in re.sub(f"[{BLANKS}\n]", "", march).strip("{}").split(";"):
-        match = re.fullmatch(r"([^()]+)(?:\(([rw][01](?:,[rw][01])*)\))?", part)
-        if match is None or match[1] not in ORDERS or (match[1] == "del") != (match[2] is None):
-            raise ToolError(f"{shown(part[:64])} is no element of a march")
-        elements.append(Element(part, ORDERS[match[1]], match[2].split(",") if match[2] else []))
+    elements = read_elements(march)
+    if not elements:
+        raise ToolError("a march has an element")
     if len(elements) > 64 or any(len(element.operations) > 16 for element in elements):
         raise ToolError("a march has at most 64 elements of at most 16 operations")
     return elements

@@ -2,6 +2,7 @@
 from __future__ import annotations
 
 import dataclasses
+from typing import List, Tuple
 
 from vidlakost_tools.march import Element
 from vidlakost_tools.program import run, with_text
@@ -19,7 +20,7 @@ class Memory:
     latency: int
     polarity: int
     pause: int
-    rows: list | None
+    rows: list[Row] | None
     backgrounds: list[int]
 
     def __post_init__(self) -> None:
@@ -37,7 +38,7 @@ class Memory:
     def width(self) -> int:
         return max(1, (self.words - 1).bit_length())
 
-    def row(self, i: int):
+    def row(self, i: int) -> Row:
         """The index bits and the constant of bit i of an address."""
         return ([i], 0) if self.rows is None else self.rows[i]
 
@@ -46,7 +47,7 @@ class Memory:
         rows = (self.row(i) for i in range(self.width))
         return sum((sum(index >> bit & 1 for bit in bits) + constant & 1) << i for i, (bits, constant) in enumerate(rows))
 
-    def way_back(self) -> list:
+    def way_back(self) -> list[Row]:
         """For each bit of an index the address bits whose exclusive or it is, and its constant."""
         rows = []
         for i in range(self.width):
@@ -73,9 +74,14 @@ class Memory:
         return f"{word:0{(self.bits + 3) // 4}x}"
 
 
-def terms_of(text: str):
-    """The index bits and the constant of an exclusive or; equal terms cancel."""
-    bits, constant = set(), 0
+# the index bits and the constant of an exclusive or
+Row = Tuple[List[int], int]
+
+
+def terms_of(text: str) -> Row:
+    """An exclusive or; equal terms cancel."""
+    bits: set[int] = set()
+    constant = 0
     for term in (part.strip() for part in text.split("^")):
         if term.startswith("p"):
             bits ^= {int(term[1:])}
@@ -90,16 +96,17 @@ def logarithmic(bits: int) -> list[int]:
     return [0] + [sum(1 << i for i in range(bits) if i >> plane & 1) for plane in planes]
 
 
+def rows_of(said: list[tuple[int, str, str]]) -> dict[int, tuple[int, Row]]:
+    """Of each row of the scrambling its line and its terms."""
+    split = [(line, rest.split("=")) for line, word, rest in said if word == "scramble"]
+    return {int(parts[0].strip()[1:]): (line, terms_of(parts[1])) for line, parts in split if len(parts) == 2}
+
+
 def parse_memory(text: str) -> Memory:
     """The memory of a text that the program accepts."""
     said = {"latency": "1", "polarity": "0", "pause": "1", "backgrounds": "log"}
-    rows = {}
-    for _, word, rest in statements(text):
-        if word == "scramble":
-            row, body = rest.split("=")
-            rows[int(row.strip()[1:])] = terms_of(body)
-        else:
-            said[word] = rest
+    said.update({word: rest for _, word, rest in statements(text)})
+    rows = rows_of(statements(text))
     bits = int(said["bits"])
     log = said["backgrounds"] == "log"
     backgrounds = logarithmic(bits) if log else [int(word, 16) for word in said["backgrounds"].split()]
@@ -110,7 +117,7 @@ def parse_memory(text: str) -> Memory:
         int(said["latency"]),
         int(said["polarity"], 16),
         int(said["pause"]),
-        [rows[i] for i in sorted(rows)] or None,
+        [rows[i][1] for i in sorted(rows)] or None,
         backgrounds,
     )
 

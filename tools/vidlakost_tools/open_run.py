@@ -1,23 +1,25 @@
 """A plain model of `check`, by the definitions: one run of a controller in which every register of the first cycle and every
-word that returns is left open, and the first port in it that is not as the rule of the ports wants it. It shares nothing
-with the program, and takes modules that the program accepts; a number that is left open is None here."""
+word that returns is left open, and the first port in it that is not as the rule of the ports wants it. It judges the program:
+it shares nothing with it, and of the tools only the readers of a march, a memory and a module, whose meaning is told here
+alone. It takes modules that the program accepts; a number that is left open is None."""
 from __future__ import annotations
 
 import dataclasses
-import sys
+import os
+from typing import Callable, Iterator, List, Mapping, Optional, Tuple
 
 from vidlakost_tools.march import Element, elements_of
 from vidlakost_tools.memory import Memory, parse_memory
 from vidlakost_tools.text import read_described, read_text
 from vidlakost_tools.tool import ToolError
-from vidlakost_tools.verilog import LEVELS, LEXEME
+from vidlakost_tools.verilog import Assign, Block, Case, Declared, Expression, If, Item, Reader, Set, Statement, Unread
 
-PREFIXES = ("~", "!", "&", "|", "^")
 # the ports that have a number or none in each cycle; `fail` is not looked at
 PORTS = ("en", "we", "addr", "wdata", "done")
-
-
-# ---- the text of a module
+# the number of each name in a cycle, None where it is left open; what an expression is for them, and what a statement sets
+Numbers = Mapping[str, Optional[int]]
+Number = Callable[[Numbers], Optional[int]]
+Sets = Callable[[Numbers], List[Tuple[str, Optional[int]]]]
 
 
 @dataclasses.dataclass
@@ -25,222 +27,113 @@ class Value:
     """An expression: its width, and what it is for the numbers of names."""
 
     width: int
-    of: object
+    of: Number
 
 
 @dataclasses.dataclass
-class Module:
-    """A module of the grammar: the width of each name, the inputs, the registers, an expression for each wire and plain
-    output, and the statements of all blocks in their order, as functions of the numbers of names."""
+class Run:
+    """A module to be run: the width of each name, the inputs, the registers, an expression for each wire and plain output,
+    with the names that it reads, and the statements of all blocks in their order, as functions of the numbers of names."""
 
     widths: dict[str, int] = dataclasses.field(default_factory=dict)
     inputs: list[str] = dataclasses.field(default_factory=list)
     registers: list[str] = dataclasses.field(default_factory=list)
     assigns: dict[str, Value] = dataclasses.field(default_factory=dict)
     reads: dict[str, set[str]] = dataclasses.field(default_factory=dict)
-    blocks: list = dataclasses.field(default_factory=list)
+    blocks: list[Sets] = dataclasses.field(default_factory=list)
 
+    def declare(self, declared: Declared) -> None:
+        self.widths[declared.token.text] = declared.width
+        if declared.kind in ("input", "reg"):
+            (self.inputs if declared.kind == "input" else self.registers).append(declared.token.text)
 
-class Reader:
-    """Reads a module; operators bind by precedence where no parentheses say otherwise."""
-
-    def __init__(self, text: str):
-        matches = [match for match in LEXEME.finditer(text) if match.lastgroup]
-        self.tokens = [match[0] for match in matches] + [""]
-        self.text, self.places = text, [match.start() for match in matches] + [len(text)]
-        self.here, self.read, self.used = 0, Module(), set()
-        sys.setrecursionlimit(max(sys.getrecursionlimit(), 20000))
-
-    def take(self, *wanted: str) -> str:
-        token = self.tokens[self.here]
-        if wanted and token not in wanted:
-            raise ValueError(f"'{token}' stands where {' or '.join(wanted)} has to")
-        self.here += 1
-        return token
-
-    def line(self) -> int:
-        """The line of the next token."""
-        return self.text.count("\n", 0, self.places[min(self.here, len(self.places) - 1)]) + 1
-
-    def skip(self, token: str) -> bool:
-        found = self.tokens[self.here] == token
-        self.here += found
-        return found
-
-    def number(self) -> int:
-        return int(self.take())
-
-    def range(self) -> int:
-        if not self.skip("["):
-            return 1
-        high = self.number()
-        for token in (":", "0", "]"):
-            self.take(token)
-        return high + 1
-
-    def declare(self, width: int, *places: list) -> None:
-        name = self.take()
-        self.read.widths[name] = width
-        for place in places:
-            place.append(name)
-
-    def module(self) -> Module:
-        self.take("module")
-        self.take()
-        self.take("(")
-        while not self.skip(")"):
-            is_input, is_register = self.take("input", "output") == "input", False
-            if self.tokens[self.here] in ("wire", "reg"):
-                is_register = self.take() == "reg"
-            places = [self.read.inputs] if is_input else [self.read.registers] if is_register else []
-            self.declare(self.range(), *places)
-            self.skip(",")
-        self.take(";")
-        while not self.skip("endmodule"):
-            self.item()
-        return self.read
-
-    def item(self) -> None:
-        kind = self.take("wire", "reg", "assign", "always")
-        if kind in ("wire", "reg"):
-            width = self.range()
-            places = [self.read.registers] if kind == "reg" else []
-            self.declare(width, *places)
-            while self.skip(","):
-                self.declare(width, *places)
-        elif kind == "assign":
-            name, self.used = self.take(), set()
-            self.take("=")
-            self.read.assigns[name] = self.expression()
-            self.read.reads[name] = set(self.used)
+    def take(self, item: Item) -> None:
+        if isinstance(item, Declared):
+            self.declare(item)
+        elif isinstance(item, Assign):
+            self.assigns[item.target.text] = self.value(item.value)
+            self.reads[item.target.text] = set(names_in(item.value))
         else:
-            for token in ("@", "(", "posedge", "clk", ")"):
-                self.take(token)
-            self.read.blocks.append(self.statement())
-            return
-        self.take(";")
+            self.blocks.append(self.sets(item.body)[0])
 
-    # statements: what they set, as a list of names with numbers, and the names that they may set
+    # statements: what they set, and the names that they may set
 
-    def statement(self):
-        if self.skip("begin"):
-            parts = []
-            while not self.skip("end"):
-                parts.append(self.statement())
-            return joined_statements(parts)
-        if self.skip("if"):
-            return self.choice_of_statements()
-        if self.skip("case"):
-            return self.cases()
-        name = self.take()
-        self.take("<=")
-        value = self.expression().of
-        self.take(";")
-        return (lambda env: [(name, value(env))]), {name}
+    def sets(self, statement: Statement | None) -> tuple[Sets, set[str]]:
+        if statement is None:
+            return (lambda env: []), set()
+        if isinstance(statement, Set):
+            name, value = statement.target.text, self.value(statement.value).of
+            return (lambda env: [(name, value(env))]), {name}
+        if isinstance(statement, Block):
+            parts = [self.sets(part) for part in statement.parts]
+            return (lambda env: [pair for part, _ in parts for pair in part(env)]), set().union(*(names for _, names in parts))
+        if isinstance(statement, If):
+            return self.choice_of_statements(statement)
+        return self.cases(statement)
 
-    def in_parentheses(self) -> Value:
-        self.take("(")
-        value = self.expression()
-        self.take(")")
-        return value
+    def choice_of_statements(self, statement: If) -> tuple[Sets, set[str]]:
+        condition = self.value(statement.condition).of
+        (first, names), (other, others) = self.sets(statement.then), self.sets(statement.otherwise)
+        may = names | others
 
-    def choice_of_statements(self):
-        condition = self.in_parentheses().of
-        first, names = self.statement()
-        other, others = self.statement() if self.skip("else") else NONE
-        names = names | others
-
-        def sets(env, taken):
+        def sets(env: Numbers) -> list[tuple[str, int | None]]:
+            taken = condition(env)
             if taken is None:
-                return [(name, None) for name in names]
+                return [(name, None) for name in may]
             return first(env) if taken else other(env)
 
-        return (lambda env: sets(env, condition(env))), names
+        return sets, may
 
-    def cases(self):
-        subject, arms, (default, names) = self.in_parentheses().of, [], NONE
-        while not self.skip("endcase"):
-            if self.skip("default"):
-                self.skip(":")
-                default, more = self.statement()
-            else:
-                labels = {self.literal(self.take()).of({})}
-                while self.skip(","):
-                    labels.add(self.literal(self.take()).of({}))
-                self.take(":")
-                body, more = self.statement()
-                arms.append((labels, body))
-            names = names | more
+    def cases(self, statement: Case) -> tuple[Sets, set[str]]:
+        subject = self.value(statement.subject).of
+        arms = [({label.value for label in labels}, *self.sets(body)) for labels, body in statement.arms]
+        may = set().union(*(names for _, _, names in arms))
+        default = next((body for labels, body, _ in arms if not labels), self.sets(None)[0])
 
-        def sets(env, value):
-            if value is None:
-                return [(name, None) for name in names]
-            return next((body for labels, body in arms if value in labels), default)(env)
+        def sets(env: Numbers) -> list[tuple[str, int | None]]:
+            number = subject(env)
+            if number is None:
+                return [(name, None) for name in may]
+            return next((body for labels, body, _ in arms if number in labels), default)(env)
 
-        return (lambda env: sets(env, subject(env))), names
+        return sets, may
 
     # expressions
 
-    def expression(self) -> Value:
-        condition = self.infix(0)
-        if not self.skip("?"):
-            return condition
-        first = self.expression()
-        self.take(":")
-        return choice(condition, first, self.expression())
+    def value(self, it: Expression) -> Value:
+        if it.kind == "literal":
+            return Value(it.width, lambda env: it.value)
+        if it.kind == "name":
+            return self.named(it)
+        operands = [self.value(operand) for operand in it.operands]
+        if it.kind == "prefix":
+            return prefix(it.token.text, *operands)
+        if it.kind == "infix":
+            return infix(it.token.text, *operands)
+        return choice(*operands) if it.kind == "choice" else concatenation(operands)
 
-    def infix(self, level: int) -> Value:
-        if level == len(LEVELS):
-            return self.prefix()
-        left, marks = self.infix(level + 1), LEVELS[level].split()
-        while self.tokens[self.here] in marks:
-            mark = self.take()
-            left = infix(mark, left, self.infix(level + 1))
-        return left
-
-    def prefix(self) -> Value:
-        if self.tokens[self.here] in PREFIXES:
-            mark = self.take()
-            return prefix(mark, self.prefix())
-        if self.tokens[self.here] == "(":
-            return self.in_parentheses()
-        if self.skip("{"):
-            parts = [self.expression()]
-            while self.skip(","):
-                parts.append(self.expression())
-            self.take("}")
-            return concatenation(parts)
-        token = self.take()
-        return self.literal(token) if "'" in token else self.named(token)
-
-    def literal(self, token: str) -> Value:
-        size, digits = token.split("'")
-        number = int(digits[1:].replace("_", ""), {"b": 2, "o": 8, "d": 10, "h": 16}[digits[0].lower()])
-        return Value(int(size), lambda env: number)
-
-    def named(self, name: str) -> Value:
-        if name not in self.read.widths:
-            raise ValueError(f"'{name}' is not declared")
-        self.used.add(name)
-        if not self.skip("["):
-            return Value(self.read.widths[name], lambda env: env[name])
-        high = low = self.number()
-        if self.skip(":"):
-            low = self.number()
-        self.take("]")
+    def named(self, it: Expression) -> Value:
+        name = it.token.text
+        if name not in self.widths:
+            raise Unread(f"'{name}' is not declared", it.token.at)
+        if it.bits is None:
+            return Value(self.widths[name], lambda env: env[name])
+        high, low = it.bits
         kept = (1 << high + 1 - low) - 1
-        return Value(high + 1 - low, lambda env: None if env[name] is None else env[name] >> low & kept)
+
+        def value(env: Numbers) -> int | None:
+            number = env[name]
+            return None if number is None else number >> low & kept
+
+        return Value(high + 1 - low, value)
 
 
-# a statement that sets nothing
-NONE = (lambda env: [], set())
-
-
-def joined_statements(parts):
-    def sets(env):
-        return [pair for part, _ in parts for pair in part(env)]
-
-    return sets, set().union(*(names for _, names in parts))
+def names_in(it: Expression) -> Iterator[str]:
+    """The names that an expression reads."""
+    if it.kind == "name":
+        yield it.token.text
+    for operand in it.operands:
+        yield from names_in(operand)
 
 
 # ---- what expressions are, where some numbers are left open
@@ -328,7 +221,7 @@ def concatenation(parts: list[Value]) -> Value:
 # ---- the run
 
 
-def order_of(module: Module) -> list[str]:
+def order_of(module: Run) -> list[str]:
     """The wires and plain outputs, each behind those that it reads."""
     order: dict[str, bool] = {}
 
@@ -348,7 +241,7 @@ def order_of(module: Module) -> list[str]:
     return list(order)
 
 
-def cycles_of(module: Module):
+def cycles_of(module: Run):
     """Of each cycle the numbers of all names, `reset` being 1 in the first alone."""
     order, registers = order_of(module), dict.fromkeys(module.registers)
     reset = 1
@@ -358,7 +251,7 @@ def cycles_of(module: Module):
             env[name] = module.assigns[name].of(env)
         yield env
         registers = {name: env[name] for name in registers}
-        for sets, _ in module.blocks:
+        for sets in module.blocks:
             registers.update(sets(env))
         reset = 0
 
@@ -391,7 +284,7 @@ def compared(command, done: bool) -> list[tuple[str, int]]:
     return [*ports, ("done", int(done))]
 
 
-def line_of(module: Module, elements: list[Element], memory: Memory) -> str:
+def line_of(module: Run, elements: list[Element], memory: Memory) -> str:
     """What `check` says of a module."""
     commands = [None, *commands_of(elements, memory), *[None] * (memory.latency + 1)]
     last = len(commands) - 1
@@ -404,17 +297,22 @@ def line_of(module: Module, elements: list[Element], memory: Memory) -> str:
     return f"conforms {len(commands)}"
 
 
-def read_module(path) -> Module:
+def read_module(path: str | os.PathLike[str]) -> Run:
     """The module of a file that the program accepts."""
-    reader = Reader(read_described(path))
+    text, run = read_described(path), Run()
     try:
-        module = reader.module()
-    except (ValueError, KeyError, IndexError) as error:
-        raise ToolError(f"{path}:{reader.line()}: this is no module of the subset: {error}") from error
-    missing = [port for port in ("reset", "rdata", *PORTS) if port not in module.widths]
+        module = Reader(text).module()
+        for declared in module.ports:
+            run.declare(declared)
+        for item in module.items:
+            run.take(item)
+    except (Unread, KeyError) as error:
+        line = text.count("\n", 0, getattr(error, "at", len(text))) + 1
+        raise ToolError(f"{path}:{line}: this is no module of the subset: {error}") from error
+    missing = [port for port in ("reset", "rdata", *PORTS) if port not in run.widths]
     if missing:
         raise ToolError(f"{path} has no port '{missing[0]}'")
-    return module
+    return run
 
 
 def told(verilog, march, memory) -> str:

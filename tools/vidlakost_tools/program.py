@@ -81,6 +81,8 @@ def quick_program() -> str | None:
 def run(*words) -> tuple[int, str]:
     """The program's status and its line for these words."""
     quiet = {**os.environ, "VIDLAKOST_EXPLAIN": "0"}
+    # that answers are unproved is told once a tool
+    os.environ.setdefault("VIDLAKOST_UNPROVED", "told")
     try:
         done = subprocess.run(
             [PROGRAM, *map(str, words)], stdout=subprocess.PIPE, stdin=subprocess.DEVNULL, env=quiet, check=False

@@ -1,4 +1,4 @@
-"""The files and the calls of tools/selftest, each with what it has to say."""
+"""The files and the calls of vidlakost selftest, each with what it has to say."""
 
 MARCHES = [
     "{any(w0);up(r0,w1);down(r1,w0)}",
@@ -266,9 +266,12 @@ REFUSALS = [
     (["-h"], 0, "To begin with:", ""),
     (["help", "judge"], 0, "usage: vidlakost judge MARCH FAULTS REPORT", ""),
     (["judge", "--help"], 0, "usage: vidlakost judge MARCH FAULTS REPORT", ""),
-    (["help", "jduge"], 2, "", "explain: 'jduge' is no command; did you mean 'judge'?"),
+    (["help", "jduge"], 2, "", "explain: 'jduge' is no command and no tool; did you mean 'judge'?"),
     (["--version"], 0, "vidlakost ", ""),
-    ([], 2, "", "To begin with:"),
+    (["trace", "--nothing"], 2, "", "trace: there is no option --nothing"),
+    (["trcae", "report.txt"], 2, "usage", "vidlakost: error: 'trcae' is no command; did you mean 'trace'?"),
+    (["--stale", "turn", "--help"], 0, "usage: vidlakost turn FILE", ""),
+    ([], 2, "", "usage: vidlakost NAME WORD.."),
 ]
 # the same of the command check
 CHECKS = [
@@ -500,7 +503,7 @@ CALLS = [
     ("", ["tools/trusted", "bist_app::walk"], 2, "", "trusted: no public call bist_app::walk has clauses"),
     ("", ["tools/trusted", "bist_app::run", "compiled"], 2, "", "trusted: no public call bist_app::run has a clause compiled"),
     ("", ["tools/trusted", "a", "b", "c"], 2, "", "trusted: too many words"),
-    ("", ["tools/unproved"], 2, "usage: tools/unproved", ""),
+    ("", ["tools/unproved"], 2, "usage: vidlakost unproved", ""),
 ]
 PIPED = [
     "tools/explain",

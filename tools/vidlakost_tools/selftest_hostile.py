@@ -1,4 +1,4 @@
-"""Inputs of somebody who means harm, and what the launcher and the tools have to do of each; `tools/selftest` goes through
+"""Inputs of somebody who means harm, and what the launcher and the tools have to do of each; `vidlakost selftest` goes through
 them."""
 from __future__ import annotations
 

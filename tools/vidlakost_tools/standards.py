@@ -6,7 +6,7 @@ from vidlakost_tools.access_block import Target
 from vidlakost_tools.tap import IDCODE, Part, length, parts
 
 SVF = """! Starts the self-test of {name}, waits, and compares: it ends without a word where nothing is found, and the scan that is
-! told as different has all that `tools/locate --tdr` wants.
+! told as different has all that `vidlakost locate --tdr` wants.
 ! The test takes {cycles} cycles of clk, which is to be {clock}.
 TRST OFF;
 ENDIR IDLE;

@@ -52,6 +52,27 @@ def run(script: str, folder: pathlib.Path, *flags: str) -> list[str]:
     return lines
 
 
+@dataclasses.dataclass
+class Gates:
+    """What a module becomes: cells, flip-flops among them, and the depth of its longest path."""
+
+    cells: int
+    flip_flops: int
+    depth: int
+
+
+def gates_of(module: pathlib.Path, library: str) -> Gates:
+    """The gates of the module of a file, of a library of `abc -g`."""
+    script = f"read_verilog {quoted(module)}; synth -flatten; abc -g {library}; opt_clean; stat; ltp -noff"
+    done = subprocess.run(["yosys", "-p", script], stdout=subprocess.PIPE, stderr=subprocess.STDOUT, text=True, check=False)
+    counted = re.search(r".*Number of cells:\s+(\d+)(.*)", done.stdout, re.DOTALL)
+    depth = re.search(r"length=(\d+)", done.stdout)
+    if done.returncode or counted is None or depth is None:
+        raise ToolError(f"yosys fails: {done.stdout.strip().splitlines()[-1]}", 1)
+    flops = sum(int(count) for count in re.findall(r"\$_S?DFF\S*\s+(\d+)", counted[2]))
+    return Gates(int(counted[1]), flops, int(depth[1]))
+
+
 def warnings_in(lines: list[str]) -> list[str]:
     """The warnings among the lines, each with the indented lines behind it."""
     found: list[str] = []

@@ -1,0 +1,66 @@
+"""The commands of the program and the tools beside them, by task, a line each."""
+from __future__ import annotations
+
+import os
+import re
+
+from vidlakost_tools.program import ROOT, commands
+from vidlakost_tools.text import read_text
+
+TOOLS = ROOT / "tools"
+# what the repository itself uses
+INNER = ["selftest", "guide", "gallery", "pictures", "interop", "manual", "trusted", "unproved"]
+TASKS = {
+    "To begin with": ["judge", "compile", "bench", "explain"],
+    "Marches and their escapes": ["sim", "replay", "trace", "report", "compare"],
+    "A module beside its memory": [
+        "vectors", "benchfault", "benchall", "testbench", "locate", "turn", "collar", "summary",
+    ],
+    "Modules of others": ["check", "benchfile", "plain", "formal", "foreign"],
+    "Chips": ["chip", "schedule"],
+    "Handing it on": ["release", "make"],
+    "What the repository itself uses": INNER,
+}
+# the commands in a line; of a tool its own first sentence says it
+SHORT = {
+    "judge": "which primitives of a list a march covers, with an escape for each that it doesn't",
+    "compile": "the self-test module of a march and a memory, and that verdict",
+    "bench": "that module, clocked beside a sound memory",
+    "sim": "a march on one array with one instance of a primitive",
+    "vectors": "what a self-test does at the memory's port, command by command",
+    "benchfault": "the module beside a memory with one planted fault",
+    "benchall": "the module beside each memory that the program has",
+    "check": "whether a module issues the march on the memory, in every run at once",
+    "benchfile": "a module of yours, clocked beside a memory",
+    "chip": "one test of several memories, under a budget of power",
+    "make": "a large input, written and compiled",
+}
+
+
+def tools() -> list[str]:
+    """The tools that are here."""
+    names = sorted(path.name for path in TOOLS.iterdir() if path.is_file() and os.access(path, os.X_OK))
+    return [name for name in names if re.fullmatch("[a-z]+", name)]
+
+
+def doc_of(tool: str) -> str:
+    """The description at the head of a tool."""
+    found = re.search(r'^"""(.*?)"""', read_text(TOOLS / tool), re.MULTILINE | re.DOTALL)
+    return found[1] if found else ""
+
+
+def line_of(name: str) -> str:
+    """What a command or a tool is for, in a line."""
+    if name in SHORT:
+        return SHORT[name]
+    first = " ".join(doc_of(name).split("\n\n")[0].split()) if name in tools() else ""
+    return first[:1].lower() + first[1:].rstrip(".") if first[1:2].islower() or first[1:2] == " " else first.rstrip(".")
+
+
+def by_task() -> list[tuple[str, list[str]]]:
+    """The names of all commands and tools that are here; what no task names comes last."""
+    known = [*(command.name for command in commands()), *tools()]
+    listed = [(title, [name for name in names if name in known]) for title, names in TASKS.items()]
+    named = {name for _, names in listed for name in names}
+    rest = [name for name in known if name not in named]
+    return [(title, names) for title, names in [*listed[:-1], ("Further", rest), listed[-1]] if names]
