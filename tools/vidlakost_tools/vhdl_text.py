@@ -296,7 +296,7 @@ def rows(elements: list[Element], memory: Memory, commands: list[str]):
     """Of each cycle the ports en, we, addr, wdata, done and fail as they have to be, and the word on rdata; - is open."""
     width, bits = memory.width, memory.bits
     idle = f"0-{'-' * width}{'-' * bits}"
-    issued = [f"0-{'-' * width}{'-' * bits}"]
+    issued = [idle]
     told = iter(commands)
     for _ in memory.backgrounds:
         for element in elements:
@@ -310,7 +310,11 @@ def rows(elements: list[Element], memory: Memory, commands: list[str]):
     for cycle in range(last + 1):
         asked = issued[cycle - memory.latency] if 0 < cycle - memory.latency < len(issued) else idle
         answer = asked[-bits:] if asked.startswith("10") else "-" * bits
-        yield f"{issued[cycle] if cycle < len(issued) else idle}{int(cycle == last)}0{answer}"
+        ports = issued[cycle] if cycle < len(issued) else idle
+        if ports.startswith("10"):
+            # the rule of the ports leaves wdata open in a read
+            ports = ports[: 2 + width] + "-" * bits
+        yield f"{ports}{int(cycle == last)}0{answer}"
 
 
 BENCH = """-- Compares the ports of {name} in each cycle with {file}, a line a cycle: en, we, addr, wdata, done, fail, and the word on
