@@ -6,7 +6,9 @@ import dataclasses
 
 from vidlakost_tools.chip import Chip
 from vidlakost_tools.memory import Memory
+from vidlakost_tools.otherwise import RESERVED
 from vidlakost_tools.text import read_described, statements
+from vidlakost_tools.tool import ToolError
 from vidlakost_tools.verilog import ranged
 
 SIGNALS = ("rdata", "en", "we", "addr", "wdata")
@@ -87,7 +89,13 @@ def of_memory(memory: Memory, done: int | None) -> Target:
     return Target(memory.name, f"{memory.name}_bist", [Unit(memory, "")], False, done)
 
 
+# classes that every source of SystemVerilog has
+BUILT_IN = {"process", "mailbox", "semaphore"}
+
+
 def of_chip(chip: Chip) -> Target:
+    if chip.name in RESERVED | BUILT_IN:
+        raise ToolError(f"'{chip.name}' is a word of SystemVerilog, so most simulators refuse the chip's module: give it another name")
     units = [Unit(unit.memory, f"_{number}", unit.start) for number, unit in enumerate(chip.units)]
     return Target(chip.name, chip.name, units, True, chip.done)
 

@@ -2,6 +2,8 @@
 1687), and procedures in PDL."""
 from __future__ import annotations
 
+import re
+
 from vidlakost_tools.access_block import Target
 from vidlakost_tools.tap import IDCODE, Part, length, parts
 
@@ -170,3 +172,11 @@ iProc end_bist {{ }} {{
 
 def pdl(target: Target) -> str:
     return PDL.format(name=target.name, cycles=target.done, turns=target.done + 16)
+
+
+DESCRIPTIONS = (bsdl, icl, pdl)
+
+
+def has_plain_name(target: Target) -> bool:
+    """Whether the name is one in BSDL too, which has the identifiers of VHDL."""
+    return re.fullmatch("[A-Za-z](_?[A-Za-z0-9])*", target.name) is not None

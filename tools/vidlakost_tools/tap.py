@@ -289,8 +289,8 @@ def board(target: Target) -> str:
     )
 
 
-SOCKET = r"""// A model of NAME_board behind OpenOCD's driver remote_bitbang: VNAME_board PORT [UNIT ADDRESS BIT VALUE].
-#include "VNAME_board.h"
+SOCKET = r"""// A model of NAME_board behind OpenOCD's driver remote_bitbang: Vboard PORT [UNIT ADDRESS BIT VALUE].
+#include "Vboard.h"
 #include "verilated.h"
 #include <arpa/inet.h>
 #include <cstdlib>
@@ -310,7 +310,7 @@ static int listen_at(int port) {
 
 int main(int count, char **words) {
   if (count != 2 && count != 6) return 2;
-  VNAME_board board;
+  Vboard board;
   board.planted = count == 6;
   if (count == 6) {
     board.at_unit = atoi(words[2]);
@@ -353,7 +353,7 @@ adapter driver remote_bitbang
 remote_bitbang port 9877
 remote_bitbang host localhost
 transport select jtag
-jtag newtap {name} tap -irlen 4 -expected-id 0x{identity:08x}
+jtag newtap bist tap -irlen 4 -expected-id 0x{identity:08x}
 gdb_port disabled
 tcl_port disabled
 telnet_port disabled
