@@ -62,6 +62,13 @@ class Target:
         return len(self.units)
 
     @property
+    def length(self) -> int:
+        """The cycle of `done`, where the march is known."""
+        if self.done is None:
+            raise ToolError(f"how long the test of {self.name} takes is not known without its march")
+        return self.done
+
+    @property
     def unit_bits(self) -> int:
         """The bits of the number of a unit."""
         return max(1, (self.count - 1).bit_length())

@@ -71,9 +71,8 @@ APB = """// The self-test of {name} behind an APB3 bus; {name}_apb.md tells the 
 // address that has no register, and a write to one that is only read, end with pslverr at 1 and change nothing."""
 
 
-def block(target: Target) -> str:
-    """The module NAME_apb."""
-    bus = [
+def bus() -> list[Port]:
+    return [
         Port("input", "pclk"),
         Port("input", "presetn"),
         Port("input", "psel"),
@@ -85,7 +84,11 @@ def block(target: Target) -> str:
         Port("output", "pready"),
         Port("output", "pslverr"),
     ]
-    ports = [*bus, Port("input", "clk"), *target.ports(), Port("output", "test")]
+
+
+def block(target: Target) -> str:
+    """The module NAME_apb."""
+    ports = [*bus(), Port("input", "clk"), *target.ports(), Port("output", "test")]
     table = registers(target)
     held = [f"  reg {Port('', 'ignore', target.count).declared().strip()};"] if target.is_chip else []
     reset = [f"      ignore <= {zero(target.count)};"] if target.is_chip else []
@@ -275,8 +278,6 @@ def bench(target: Target) -> str:
   wire pready;
   wire pslverr;
 """
-    names = "pclk presetn psel penable pwrite paddr pwdata prdata pready pslverr".split()
-    bus = [Port("", name) for name in names]
-    link = f"  {target.name}_apb dut({links(bus)},\n    .clk(clk), {links(target.ports())}, .test(test));\n"
+    link = f"  {target.name}_apb dut({links(bus())},\n    .clk(clk), {links(target.ports())}, .test(test));\n"
     body = BODY.format(name=target.name, most=most(target), last=target.count - 1, words=words)
     return testbench(target, "apb", "by an APB3 bus", 5, declared, link, body)

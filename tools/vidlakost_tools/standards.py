@@ -36,14 +36,14 @@ def svf(target: Target, mhz: float | None) -> str:
     clock = "at least as fast as TCK" if mhz is None else f"of at least {mhz:g} MHz"
     return SVF.format(
         name=target.name,
-        cycles=target.done,
+        cycles=target.length,
         clock=clock,
         identity=IDCODE,
         length=size,
         zeros="0" * digits,
         start=f"{1:0{digits}X}",
-        turns=16 if mhz else target.done + 16,
-        seconds="" if mhz is None else f" {(target.done + 16) / mhz / 1e6:.3E} SEC",
+        turns=16 if mhz else target.length + 16,
+        seconds="" if mhz is None else f" {(target.length + 16) / mhz / 1e6:.3E} SEC",
         wanted=f"{3:0{digits}X}",
         mask=f"{mask:0{digits}X}",
     )
@@ -171,7 +171,7 @@ iProc end_bist {{ }} {{
 
 
 def pdl(target: Target) -> str:
-    return PDL.format(name=target.name, cycles=target.done, turns=target.done + 16)
+    return PDL.format(name=target.name, cycles=target.length, turns=target.length + 16)
 
 
 DESCRIPTIONS = (bsdl, icl, pdl)
