@@ -18,6 +18,7 @@ TASKS = {
     ],
     "Modules of others": ["audit", "check", "benchfile", "plain", "formal", "foreign"],
     "Chips": ["chip", "schedule"],
+    "Start, watch, diagnose": ["access", "sdc", "bitmap", "share", "vhdl"],
     "Handing it on": ["release", "make"],
     "What the repository itself uses": INNER,
 }

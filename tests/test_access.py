@@ -1,0 +1,108 @@
+"""What stands round a self-test, as texts: ports, the register of the TAP, and which read a cycle is."""
+from __future__ import annotations
+
+import pathlib
+import tempfile
+import unittest
+
+from vidlakost_tools import access_block, tap, tester, vhdl_text
+from vidlakost_tools.access_block import Target, Unit
+from vidlakost_tools.fail_log import read_log
+from vidlakost_tools.march import elements_of
+from vidlakost_tools.memory import Memory
+from vidlakost_tools.reads import read_of
+from vidlakost_tools.tool import ToolError
+from vidlakost_tools.verilog import Reader
+
+MARCH = "{any(w0);up(r0,w1);del;down(r1)}"
+
+
+def memory(**changed) -> Memory:
+    given = dict(name="m", words=4, bits=4, latency=2, polarity=5, pause=3, rows=None, backgrounds=[0, 0xA])
+    return Memory(**{**given, **changed})
+
+
+class Reads(unittest.TestCase):
+    def test_the_first_read_of_the_second_element(self) -> None:
+        # four writes in the cycles 1 to 4, the read in cycle 5, its answer two later; the port has what is stored inverted
+        read = read_of(elements_of(MARCH), memory(), 7)
+        self.assertEqual((read.background, read.element, read.operation, read.index, read.expected), (0, 1, 0, 0, 5))
+
+    def test_downward_behind_a_pause(self) -> None:
+        # 4 + 8 + 3 cycles before it
+        read = read_of(elements_of(MARCH), memory(), 16 + 2)
+        self.assertEqual((read.element, read.index, read.expected), (3, 3, 0xA))
+
+    def test_the_second_background(self) -> None:
+        read = read_of(elements_of(MARCH), memory(), 19 + 5 + 2)
+        self.assertEqual((read.background, read.element, read.expected), (1, 1, 0xF))
+
+    def test_where_no_answer_stands(self) -> None:
+        for cycle in (0, 1, 6, 8, 13 + 2, 38 + 2 + 1):
+            with self.assertRaises(ToolError):
+                read_of(elements_of(MARCH), memory(), cycle)
+
+
+class Register(unittest.TestCase):
+    def setUp(self) -> None:
+        self.target = access_block.of_memory(memory(), 41)
+
+    def test_the_parts_of_a_memory(self) -> None:
+        found = [(part.name, part.low, part.width) for part in tap.parts(self.target)]
+        state = [("start", 0, 1), ("done", 1, 1), ("fail", 2, 1), ("seen", 3, 1)]
+        self.assertEqual(found, [*state, ("cycle", 4, 32), ("expected", 36, 4), ("returned", 40, 4)])
+
+    def test_the_parts_of_a_chip(self) -> None:
+        units = [Unit(memory(name=name, bits=bits, backgrounds=[0]), f"_{number}") for number, (name, bits) in enumerate((("a", 4), ("b", 9), ("c", 4)))]
+        found = [(part.name, part.low, part.width) for part in tap.parts(Target("x", "x", units, True))][4:]
+        wanted = [("cycle", 4, 32), ("expected", 36, 9), ("returned", 45, 9), ("unit", 54, 2), ("failing", 56, 3), ("ignore", 59, 3)]
+        self.assertEqual(found, wanted)
+
+    def test_a_failure(self) -> None:
+        lines = tester.of_register(self.target, [elements_of(MARCH)], "4500000007f", 2)
+        self.assertEqual(lines[:2], ["done", "cycle 7 expected 5 returned 4"])
+        self.assertEqual(lines[-4:], ["index 0 row 0", "address 0", "bits 0", "columns 0"])
+
+    def test_what_can_be_no_register(self) -> None:
+        for text in ("", "x", "2", "b", "100000000000", "5500000007f", "4400000007f", "4500000008f"):
+            with self.assertRaises(ToolError, msg=text):
+                tester.of_register(self.target, [elements_of(MARCH)], text, 1)
+
+
+class Bits(unittest.TestCase):
+    def test_the_units_of_the_bits_of_fail(self) -> None:
+        self.assertEqual(tester.failing_units("0110", 4), [1, 2])
+        for text in ("", "0000", "011", "01100", "0120"):
+            with self.assertRaises(ToolError):
+                tester.failing_units(text, 4)
+
+
+class Logs(unittest.TestCase):
+    def read(self, text: str):
+        with tempfile.TemporaryDirectory() as folder:
+            path = pathlib.Path(folder) / "log"
+            path.write_text(text)
+            return read_log(str(path), memory())
+
+    def test_entries_and_more(self) -> None:
+        entries, more = self.read("note\ncycle 7 returned 4\nread cycle 9 expected 5 returned D\nmore\n")
+        self.assertEqual(([(entry.cycle, entry.word) for entry in entries], more), ([(7, 4), (9, 13)], True))
+
+    def test_what_is_no_log(self) -> None:
+        for text in ("", "fail 1\n", "cycle 7 returned 14\n", "cycle x returned 4\n"):
+            with self.assertRaises(ToolError):
+                self.read(text)
+
+
+class Vhdl(unittest.TestCase):
+    def test_names(self) -> None:
+        names = vhdl_text.Names(["In", "in", "addr", "a$", "x_", "process"])
+        self.assertEqual([names.of(name) for name in ("In", "addr", "a$", "x_", "process")], ["\\In\\", "addr", "\\a$\\", "\\x_\\", "\\process\\"])
+
+    def test_an_assign(self) -> None:
+        text = vhdl_text.vhdl(Reader("module m(input [1:0] a, output b);\n  assign b = (a[1] ? 1'h1 : (a == 2'h1));\nendmodule\n").module())
+        self.assertIn('  v_b <= choose(v_a(1 downto 1), unsigned\'("1"), equal(v_a, unsigned\'("01")));', text)
+
+
+if __name__ == "__main__":
+    unittest.main()

@@ -1,0 +1,119 @@
+"""The testbenches of what `vidlakost access` writes: a sound memory, or one with a bit that is stuck, started and read."""
+from __future__ import annotations
+
+from vidlakost_tools.access_block import Port, Target, extended, links, model_links, ranged, zero
+
+TOP = """// Starts the self-test of {name} {how} and reads what it found, with two runs one after another.
+//   +planted +address=A +bit=B +value=V{unit}   a bit of a word is stuck at V (0 where nothing is said of a number)
+// It ends with a failure where the test does not end, or the second run finds something else.
+module {name}_{kind}_tb;
+  reg clk = 1'b0;
+  initial forever #{half} clk = ~clk;
+{declared}
+  wire test;
+  reg planted = 1'b0;
+  reg [3:0] at_unit = 4'd0;
+  reg [15:0] at_address = 16'd0;
+  reg [5:0] at_bit = 6'd0;
+  reg at_value = 1'b0;
+  integer waited;
+  integer round;
+  reg [3:0] state;
+  reg {fails}failing;
+  reg [31:0] when_read;
+  reg {word}wanted;
+  reg {word}got;
+  reg [3:0] whose;
+  reg [{top}:0] first;
+  initial begin
+    planted = $test$plusargs("planted") != 0;
+    if ($value$plusargs("unit=%d", at_unit) == 0) at_unit = 4'd0;
+    if ($value$plusargs("address=%d", at_address) == 0) at_address = 16'd0;
+    if ($value$plusargs("bit=%d", at_bit) == 0) at_bit = 6'd0;
+    if ($value$plusargs("value=%d", at_value) == 0) at_value = 1'b0;
+  end
+{links}{body}
+  task told(input integer number);
+    begin
+      if (test !== 1'b1) $fatal(1, "{name}: test is %b while start is 1", test);
+      if (state !== 4'h3 && state !== 4'hf) $fatal(1, "{name}: the state is %b", state);
+      if (number == 0) first = {{whose, when_read, wanted, got}};
+      else if (first !== {{whose, when_read, wanted, got}}) $fatal(1, "{name}: the second run found something else");
+      if (number == 0)
+        if (state[3]) $display("fail %b{unit_form} cycle %0d expected %h returned %h", failing{unit_value}, when_read, wanted, got);
+        else $display("fail %b", failing);
+    end
+  endtask
+endmodule
+"""
+
+
+def testbench(target: Target, kind: str, how: str, half: int, declared: str, link: str, body: str) -> str:
+    """A testbench; `body` has the task and the block that start the test and read what it found."""
+    return TOP.format(
+        name=target.name,
+        kind=kind,
+        how=how,
+        half=half,
+        declared=declared + "".join(f"  wire {ranged(port.width)}{port.name};\n" for port in target.ports()).rstrip("\n"),
+        fails=ranged(target.count),
+        word=ranged(target.word),
+        top=35 + 2 * target.word,
+        links=link + model_links(target),
+        body=body,
+        unit=" +unit=U" if target.is_chip else "",
+        unit_form=" unit %0d" if target.is_chip else "",
+        unit_value=", whose" if target.is_chip else "",
+    )
+
+
+def most(target: Target) -> int:
+    """How many cycles a test may take: no march has more than 256 operations and 64 pauses."""
+    if target.done is not None:
+        return target.done + 100
+    it = target.units[0].memory
+    return len(it.backgrounds) * (256 * it.words + 64 * it.pause) + 100
+
+
+ACCESS_BODY = """
+  initial begin
+    repeat (4) @(posedge clk);
+    for (round = 0; round < 2; round = round + 1) begin
+      #1 start = 1'b1;
+      waited = 0;
+      while (done !== 1'b1) begin
+        @(posedge clk);
+        waited = waited + 1;
+        if (waited > {most}) $fatal(1, "{name}: done did not come");
+      end
+      @(negedge clk);
+      state = {{seen, {any}, done, test}};
+      failing = fail;
+      when_read = cycle;
+      wanted = expected;
+      got = returned;
+      whose = {whose};
+      told(round);
+      #3 start = 1'b0;
+      repeat (8) @(posedge clk);
+      if (done !== 1'b0 || seen !== 1'b0 || fail !== {none}) $fatal(1, "{name}: the state stays when start falls");
+    end
+    $finish;
+  end
+"""
+
+
+def access_bench(target: Target) -> str:
+    """The testbench of NAME_access."""
+    state = [Port("", "done"), Port("", "fail", target.count), Port("", "seen"), *target.result()]
+    declared = "  reg start = 1'b0;\n" + "".join(f"  wire {ranged(port.width)}{port.name};\n" for port in state)
+    choice = f", .ignore({zero(target.count)})" if target.is_chip else ""
+    link = f"  {target.name}_access dut(.clk(clk), .start(start){choice}, {links(target.ports())}, .test(test), {links(state)});\n"
+    body = ACCESS_BODY.format(
+        name=target.name,
+        most=most(target) + 100,
+        any=f"fail != {zero(target.count)}",
+        whose=extended("unit", target.unit_bits, 4) if target.is_chip else "4'd0",
+        none=zero(target.count),
+    )
+    return testbench(target, "access", "by a signal of another clock", 5, declared, link, body)

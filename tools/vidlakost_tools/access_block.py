@@ -1,0 +1,375 @@
+"""What stands round a self-test so that a tester starts it and reads what it found: a start that is synchronised, the state,
+and the cycle and the words of the first failure."""
+from __future__ import annotations
+
+import dataclasses
+
+from vidlakost_tools.chip import Chip
+from vidlakost_tools.memory import Memory
+from vidlakost_tools.otherwise import RESERVED
+from vidlakost_tools.text import read_described, statements
+from vidlakost_tools.tool import ToolError
+from vidlakost_tools.verilog import ranged
+
+SIGNALS = ("rdata", "en", "we", "addr", "wdata")
+
+
+@dataclasses.dataclass
+class Port:
+    """A port of a module of Verilog."""
+
+    direction: str
+    name: str
+    width: int = 1
+
+    def declared(self) -> str:
+        return f"{self.direction} {ranged(self.width)}{self.name}"
+
+
+@dataclasses.dataclass
+class Unit:
+    """A memory, and what stands behind the names of its ports."""
+
+    memory: Memory
+    suffix: str
+    start: int = 0
+
+    def ports(self) -> list[Port]:
+        """The ports of the self-test towards the memory."""
+        it, word = self.memory, self.memory.bits
+        widths = {"rdata": word, "en": 1, "we": 1, "addr": it.width, "wdata": word}
+        return [Port("input" if name == "rdata" else "output", name + self.suffix, widths[name]) for name in SIGNALS]
+
+
+@dataclasses.dataclass
+class Target:
+    """What is tested: one memory, or the memories of a chip, the module of the self-test, and the cycle of `done` where the
+    march is known."""
+
+    name: str
+    top: str
+    units: list[Unit]
+    is_chip: bool
+    done: int | None = None
+
+    @property
+    def word(self) -> int:
+        """The bits of the widest word."""
+        return max(unit.memory.bits for unit in self.units)
+
+    @property
+    def count(self) -> int:
+        return len(self.units)
+
+    @property
+    def length(self) -> int:
+        """The cycle of `done`, where the march is known."""
+        if self.done is None:
+            raise ToolError(f"how long the test of {self.name} takes is not known without its march")
+        return self.done
+
+    @property
+    def unit_bits(self) -> int:
+        """The bits of the number of a unit."""
+        return max(1, (self.count - 1).bit_length())
+
+    def ports(self) -> list[Port]:
+        return [port for unit in self.units for port in unit.ports()]
+
+    def result(self) -> list[Port]:
+        """What is kept of the first failure."""
+        kept = [Port("output", "cycle", 32), Port("output", "expected", self.word), Port("output", "returned", self.word)]
+        return kept + ([Port("output", "unit", self.unit_bits)] if self.is_chip else [])
+
+    def choice(self) -> list[Port]:
+        """Of a chip the units whose failures are not kept."""
+        return [Port("input", "ignore", self.count)] if self.is_chip else []
+
+
+def is_chip_file(path: str) -> bool:
+    """Whether a file begins as a chip file does."""
+    said = statements(read_described(path))
+    return bool(said) and said[0][1] == "chip"
+
+
+def of_memory(memory: Memory, done: int | None) -> Target:
+    return Target(memory.name, f"{memory.name}_bist", [Unit(memory, "")], False, done)
+
+
+# classes that every source of SystemVerilog has
+BUILT_IN = {"process", "mailbox", "semaphore"}
+
+
+def of_chip(chip: Chip) -> Target:
+    if chip.name in RESERVED | BUILT_IN:
+        raise ToolError(f"'{chip.name}' is a word of SystemVerilog, so most simulators refuse the chip's module: give it another name")
+    units = [Unit(unit.memory, f"_{number}", unit.start) for number, unit in enumerate(chip.units)]
+    return Target(chip.name, chip.name, units, True, chip.done)
+
+
+def header(about: str, name: str, ports: list[Port], registers: tuple = ()) -> str:
+    """The comment, the name and the ports of a module."""
+    lines = [port.declared().replace("output ", "output reg ", 1) if port.name in registers else port.declared() for port in ports]
+    return f"{about}\nmodule {name}(\n  " + ",\n  ".join(lines) + "\n);\n"
+
+
+def links(ports: list[Port]) -> str:
+    """The same names on both sides of an instance."""
+    return ", ".join(f".{port.name}({port.name})" for port in ports)
+
+
+def zero(width: int) -> str:
+    return f"{width}'d0"
+
+
+def extended(name: str, width: int, to: int) -> str:
+    """A word with zeros in front."""
+    return f"{{{to - width}'d0, {name}}}" if to > width else name
+
+
+# ---- start, state and first failure
+
+
+def pipeline(unit: Unit) -> tuple[list[str], list[str]]:
+    """The declarations and the assignments of the words of a unit: what returned in the cycle before, and what the write
+    data were when the read of that answer was commanded."""
+    word, suffix = ranged(unit.memory.bits), unit.suffix
+    names = [f"want{suffix}_{count}" for count in range(1, unit.memory.latency + 2)]
+    declared = [f"  reg {word}{name};" for name in (f"answer{suffix}", *names)]
+    sources = [f"wdata{suffix}", *names[:-1]]
+    moved = [f"    {name} <= {source};" for name, source in zip(names, sources)]
+    return declared, [f"    answer{suffix} <= rdata{suffix};", *moved]
+
+
+def chosen(target: Target, value) -> str:
+    """What `value` answers of the first unit whose bit of `rises` is 1."""
+    if not target.is_chip:
+        return value(0)
+    parts = [f"rises[{number}] ? {value(number)} : " for number in range(target.count - 1)] if target.count > 1 else []
+    return "".join(parts) + value(target.count - 1)
+
+
+def expected_of(target: Target, number: int) -> str:
+    unit = target.units[number]
+    return extended(f"want{unit.suffix}_{unit.memory.latency + 1}", unit.memory.bits, target.word)
+
+
+def returned_of(target: Target, number: int) -> str:
+    unit = target.units[number]
+    return extended(f"answer{unit.suffix}", unit.memory.bits, target.word)
+
+
+def capture(target: Target) -> list[str]:
+    """The registers of the first failure: they are written once, and hold until `test` falls."""
+    values = [
+        ("seen", 1, "1'b1"),
+        ("cycle", 32, "count"),
+        ("expected", target.word, chosen(target, lambda number: expected_of(target, number))),
+        ("returned", target.word, chosen(target, lambda number: returned_of(target, number))),
+    ]
+    if target.is_chip:
+        bits = target.unit_bits
+        values.append(("unit", bits, chosen(target, lambda number: f"{bits}'d{number}")))
+        clear, hit = [f"      failed <= {zero(target.count)};"], f"rises != {zero(target.count)}"
+        move = ["      failed <= fail;"]
+    else:
+        clear, hit, move = [], "fail", []
+    return [
+        "  always @(posedge clk)",
+        "    if (!test) begin",
+        "      count <= 32'd0;",
+        "      done <= 1'b0;",
+        *clear,
+        *(f"      {name} <= {zero(width)};" for name, width, _ in values),
+        "    end else begin",
+        "      count <= over ? count : count + 32'd1;",
+        "      done <= over;",
+        *move,
+        f"      if ({hit} && !seen) begin",
+        *(f"        {name} <= {value};" for name, _, value in values),
+        "      end",
+        "    end",
+    ]
+
+
+ACCESS = """// The self-test of {name}, its start and its state, and of the first failure the cycle and the words.
+//   start      of any clock: the test runs while it is 1, and what was found is kept until it falls
+//   test       1 while the self-test has the {what}; 0 in normal use
+//   done       the test is over; seen, fail and the words stand by then
+//   fail       {fail}
+//   cycle      in which the wrong word stood on rdata; the last cycle of the reset is 0"""
+
+
+def access(target: Target) -> str:
+    """The module NAME_access."""
+    fail = "a bit for each unit, the first one's lowest" if target.is_chip else "a read was wrong"
+    about = ACCESS.format(name=target.name, what="memories" if target.is_chip else "memory", fail=fail)
+    if target.is_chip:
+        about += "\n//   unit       whose failure it is\n//   ignore     a bit for each unit whose failures are not kept; it stays as it is while start is 1"
+    state = [Port("output", "test"), Port("output", "done"), Port("output", "fail", target.count), Port("output", "seen")]
+    ports = [Port("input", "clk"), Port("input", "start"), *target.choice(), *target.ports(), *state, *target.result()]
+    kept = ("done", "seen", *(port.name for port in target.result()))
+    declared, moved = [], []
+    for unit in target.units:
+        more = pipeline(unit)
+        declared += more[0]
+        moved += more[1]
+    reset = "!test"
+    lines = [
+        "  // start comes of another clock",
+        "  reg start_1;",
+        "  reg start_2;",
+        "  reg [31:0] count;",
+        "  wire over;",
+        *declared,
+        *([f"  reg {ranged(target.count)}failed;", f"  wire {ranged(target.count)}rises;"] if target.is_chip else []),
+        "  assign test = start_2;",
+        *(["  assign rises = fail & ~failed & ~ignore;"] if target.is_chip else []),
+        f"  {target.top} self_test(.clk(clk), .reset({reset}), {links(target.ports())},",
+        "    .done(over), .fail(fail));",
+        "  always @(posedge clk) begin",
+        "    start_1 <= start;",
+        "    start_2 <= start_1;",
+        *moved,
+        "  end",
+        *capture(target),
+        "endmodule",
+    ]
+    return header(about, f"{target.name}_access", ports, kept) + "\n".join(lines) + "\n"
+
+
+# ---- from one clock to the other
+
+CROSS = """// Between the clock of a bus and that of the memories of {name}: a start goes over when the one before it has arrived,
+// and the state comes back behind two registers, `done` behind three, so that no `done` is seen before what it stands for.
+module {name}_cross(
+  input clock,
+  input reset_n,
+  input want,
+  input test,
+  input done,
+  input {fails}fail,
+  input seen,
+  output reg start,
+  output has_test,
+  output is_done,
+  output {fails}has_failed,
+  output is_seen
+);
+  reg test_1;
+  reg test_2;
+  reg done_1;
+  reg done_2;
+  reg done_3;
+  reg {fails}fail_1;
+  reg {fails}fail_2;
+  reg seen_1;
+  reg seen_2;
+  assign has_test = want & start & test_2;
+  assign is_done = has_test & done_3;
+  assign has_failed = has_test ? fail_2 : {zero};
+  assign is_seen = has_test & seen_2;
+  always @(posedge clock or negedge reset_n)
+    if (!reset_n) start <= 1'b0;
+    else if (test_2 == start) start <= want;
+  always @(posedge clock) begin
+    test_1 <= test;
+    test_2 <= test_1;
+    done_1 <= done;
+    done_2 <= done_1;
+    done_3 <= done_2;
+    fail_1 <= fail;
+    fail_2 <= fail_1;
+    seen_1 <= seen;
+    seen_2 <= seen_1;
+  end
+endmodule
+"""
+
+
+def cross(target: Target) -> str:
+    """The module NAME_cross."""
+    return CROSS.format(name=target.name, fails=ranged(target.count), zero=zero(target.count))
+
+
+def inside(target: Target, clock: str, reset_n: str) -> str:
+    """The declarations and the two modules that each bus has behind it."""
+    wires = [
+        ("done", 1),
+        ("fail", target.count),
+        ("seen", 1),
+        ("start", 1),
+        ("has_test", 1),
+        ("is_done", 1),
+        ("has_failed", target.count),
+        ("is_seen", 1),
+        *((port.name, port.width) for port in target.result()),
+    ]
+    names = [Port("", name) for name in ("test", "done", "fail", "seen", "start", "has_test", "is_done", "has_failed", "is_seen")]
+    lines = [f"  wire {ranged(width)}{name};" for name, width in wires]
+    behind = [*target.choice(), *target.ports(), *(Port("", name) for name in ("test", "done", "fail", "seen")), *target.result()]
+    lines += [
+        f"  {target.name}_cross crossing(.clock({clock}), .reset_n({reset_n}), .want(want),",
+        f"    {links(names)});",
+        f"  {target.name}_access tested(.clk(clk), .start(start), {links(behind)});",
+    ]
+    return "\n".join(lines) + "\n"
+
+
+# ---- memories for the testbenches
+
+MODEL = """// Memories for the testbenches of {name}, not for a chip. Where `planted` is 1, one bit of one word{unit} is stuck.
+module {name}_model(
+  input clk,
+  {ports},
+  input planted,
+  input [3:0] at_unit,
+  input [15:0] at_address,
+  input [5:0] at_bit,
+  input at_value
+);
+{parts}endmodule
+"""
+PART = """  reg {word}words{s} [0:{last}];
+  reg {word}answers{s} [1:{latency}];
+  wire {word}stuck{s};
+  wire {word}read{s};
+  assign stuck{s} = (planted && at_unit == 4'd{number} && at_address == {address}) ? {one} << at_bit : {zero};
+  assign read{s} = (words{s}[addr{s}] & ~stuck{s}) | (at_value ? stuck{s} : {zero});
+  assign rdata{s} = answers{s}[{latency}];
+  always @(posedge clk) begin : memory{s}
+    integer i;
+    if (en{s} && we{s}) words{s}[addr{s}] <= wdata{s};
+    answers{s}[1] <= (en{s} && !we{s}) ? read{s} : {{{bits}{{1'bx}}}};
+    for (i = 1; i < {latency}; i = i + 1) answers{s}[i + 1] <= answers{s}[i];
+  end
+"""
+
+
+def model(target: Target) -> str:
+    """The module NAME_model: memories as wide and as late as those of the target."""
+    parts = []
+    for number, unit in enumerate(target.units):
+        it = unit.memory
+        parts.append(
+            PART.format(
+                s=unit.suffix,
+                number=number,
+                word=ranged(it.bits),
+                last=(1 << it.width) - 1,
+                latency=it.latency,
+                address=extended(f"addr{unit.suffix}", it.width, 16),
+                one=f"{it.bits}'d1",
+                zero=zero(it.bits),
+                bits=it.bits,
+            )
+        )
+    turned = [Port("output" if port.direction == "input" else "input", port.name, port.width) for port in target.ports()]
+    ports = ",\n  ".join(port.declared() for port in turned)
+    return MODEL.format(name=target.name, ports=ports, parts="".join(parts), unit=" of one unit" if target.is_chip else "")
+
+
+def model_links(target: Target) -> str:
+    """An instance of the model."""
+    names = [Port("", name) for name in ("planted", "at_unit", "at_address", "at_bit", "at_value")]
+    return f"  {target.name}_model memories(.clk(clk), {links(target.ports())},\n    {links(names)});\n"

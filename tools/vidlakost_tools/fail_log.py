@@ -1,0 +1,170 @@
+"""A log of wrong reads: a comparator beside a self-test, with a small queue of cycles and words, and the text of such a log."""
+from __future__ import annotations
+
+import dataclasses
+import re
+
+from vidlakost_tools.access_bench import most
+from vidlakost_tools.access_block import Port, Target, header, links, model_links
+from vidlakost_tools.memory import Memory
+from vidlakost_tools.text import lines_of, read_text
+from vidlakost_tools.tool import ToolError
+from vidlakost_tools.verilog import ranged
+
+LOG = """// The first {depth} wrong reads of the self-test of {name}: a comparator beside it. In the cycle of a read `wdata` has the word
+// that it expects, which has to stand on rdata {latency} cycles later.
+//   test       as that of {name}_access; 0 clears the log
+//   pick       which entry stands on cycle and word, the first one is 0
+//   count      how many entries there are
+//   more       wrong reads came when the log was full"""
+
+
+def block(memory: Memory, depth: int) -> str:
+    """The module NAME_log."""
+    size = max(1, (depth - 1).bit_length())
+    counts = depth.bit_length()
+    ports = [
+        Port("input", "clk"),
+        Port("input", "test"),
+        Port("input", "en"),
+        Port("input", "we"),
+        Port("input", "wdata", memory.bits),
+        Port("input", "rdata", memory.bits),
+        Port("input", "pick", size),
+        Port("output", "count", counts),
+        Port("output", "more"),
+        Port("output", "cycle", 32),
+        Port("output", "word", memory.bits),
+    ]
+    stages = range(1, memory.latency + 1)
+    moved = []
+    for stage in stages:
+        before = ("en & ~we", "wdata") if stage == 1 else (f"reads_{stage - 1}", f"want_{stage - 1}")
+        moved += [f"    reads_{stage} <= test & {before[0]};", f"    want_{stage} <= {before[1]};"]
+    word = ranged(memory.bits)
+    place = f"count[{size - 1}:0]" if counts > 1 else "count"
+    lines = [
+        "  reg [31:0] now;",
+        *(f"  reg reads_{stage};\n  reg {word}want_{stage};" for stage in stages),
+        f"  reg [31:0] cycles [0:{(1 << size) - 1}];",
+        f"  reg {word}words [0:{(1 << size) - 1}];",
+        "  wire differs;",
+        f"  assign differs = reads_{memory.latency} & (rdata != want_{memory.latency});",
+        "  assign cycle = cycles[pick];",
+        "  assign word = words[pick];",
+        "  always @(posedge clk) begin",
+        *moved,
+        "    now <= test ? now + 32'd1 : 32'd1;",
+        "    if (!test) begin",
+        f"      count <= {counts}'d0;",
+        "      more <= 1'b0;",
+        "    end else if (differs) begin",
+        f"      if (count == {counts}'d{depth}) more <= 1'b1;",
+        "      else begin",
+        f"        cycles[{place}] <= now;",
+        f"        words[{place}] <= rdata;",
+        f"        count <= count + {counts}'d1;",
+        "      end",
+        "    end",
+        "  end",
+        "endmodule",
+    ]
+    about = LOG.format(name=memory.name, depth=depth, latency=memory.latency)
+    return header(about, f"{memory.name}_log", ports, ("count", "more")) + "\n".join(lines) + "\n"
+
+
+BENCH = """// Runs the self-test of {name} and prints its log, as `vidlakost bitmap` reads it.
+//   +planted +address=A +bit=B +value=V   a bit of a word is stuck at V (0 where nothing is said of a number)
+module {name}_log_tb;
+  reg clk = 1'b0;
+  initial forever #5 clk = ~clk;
+  reg test = 1'b0;
+  wire done;
+  wire fail;
+{wires}  reg planted = 1'b0;
+  reg [3:0] at_unit = 4'd0;
+  reg [15:0] at_address = 16'd0;
+  reg [5:0] at_bit = 6'd0;
+  reg at_value = 1'b0;
+  reg {size}pick = {size_bits}'d0;
+  wire {counts}count;
+  wire more;
+  wire [31:0] cycle;
+  wire {word}word;
+  integer waited;
+  {name}_bist dut(.clk(clk), .reset(!test), {ports}, .done(done), .fail(fail));
+  {name}_log log(.clk(clk), .test(test), .en(en), .we(we), .wdata(wdata), .rdata(rdata), .pick(pick), .count(count),
+    .more(more), .cycle(cycle), .word(word));
+{model}
+  initial begin
+    planted = $test$plusargs("planted") != 0;
+    if ($value$plusargs("address=%d", at_address) == 0) at_address = 16'd0;
+    if ($value$plusargs("bit=%d", at_bit) == 0) at_bit = 6'd0;
+    if ($value$plusargs("value=%d", at_value) == 0) at_value = 1'b0;
+    repeat (4) @(negedge clk);
+    test = 1'b1;
+    waited = 0;
+    while (done !== 1'b1) begin
+      @(negedge clk);
+      waited = waited + 1;
+      if (waited > {most}) $fatal(1, "{name}: done did not come");
+    end
+    @(negedge clk);
+    if (fail !== (count != {counts_bits}'d0)) $fatal(1, "{name}: fail is %b, and the log has %0d entries", fail, count);
+    for (waited = 0; waited < {{{pad}'d0, count}}; waited = waited + 1) begin
+      pick = waited[{size_top}:0];
+      #1 $display("cycle %0d returned %h", cycle, word);
+    end
+    if (more) $display("more");
+    $display("fail %b", fail);
+    $finish;
+  end
+endmodule
+"""
+
+
+def bench(target: Target, depth: int) -> str:
+    """The testbench of NAME_log."""
+    memory = target.units[0].memory
+    size, counts = max(1, (depth - 1).bit_length()), depth.bit_length()
+    return BENCH.format(
+        name=memory.name,
+        wires="".join(f"  wire {ranged(port.width)}{port.name};\n" for port in target.ports()),
+        size=ranged(size),
+        size_bits=size,
+        size_top=size - 1,
+        counts=ranged(counts),
+        counts_bits=counts,
+        pad=32 - counts,
+        word=ranged(memory.bits),
+        ports=links(target.ports()),
+        model=model_links(target),
+        most=most(target),
+    )
+
+
+# ---- the text of a log
+
+
+@dataclasses.dataclass
+class Entry:
+    cycle: int
+    word: int
+
+
+def read_log(path: str, memory: Memory) -> tuple[list[Entry], bool]:
+    """The entries of a log, and whether more came. A line has `cycle C` and `returned W`; other lines are left."""
+    entries, more = [], False
+    for count, line in enumerate(lines_of(read_text(path)), 1):
+        match = re.search(r"\bcycle ([0-9]{1,10})\b.*\breturned ([0-9a-fA-F]{1,16})\b", line)
+        if match:
+            word = int(match[2], 16)
+            if word >> memory.bits:
+                raise ToolError(f"{path}:{count}: {match[2]} is no word of {memory.bits} bits")
+            entries.append(Entry(int(match[1]), word))
+        elif re.search(r"\bcycle\b", line):
+            raise ToolError(f"{path}:{count}: an entry is 'cycle C returned W'; the word is hexadecimal")
+        more = more or line.strip() == "more"
+    if not entries:
+        raise ToolError(f"{path}: no line has 'cycle C returned W'")
+    return entries, more

@@ -1,0 +1,155 @@
+"""What `vidlakost selftest` asks of the tools that start a test from outside and tell what it found."""
+from __future__ import annotations
+
+import re
+import shutil
+import subprocess
+import time
+
+MARCH = "{any(w0);up(r0,w1);up(r1,w0);down(r0,w1);down(r1,w0);any(r0)}"
+LATE = (
+    "memory 2\nname late\nwords 8\nbits 5\nlatency 4\npolarity 15\npause 7\nscramble a0 = p0 ^ p1\nscramble a1 = p1\n"
+    "scramble a2 = p2 ^ 1\nbackgrounds 0 0a\n"
+)
+FILES = {
+    "access.m": MARCH + "\n",
+    "late.mem": LATE,
+    "odd.mem": "memory 1\nname odd$\nwords 4\nbits 1\n",
+    "pair.chip": "chip 1\nname pair\nbudget 3\nunit 2 access.m late.mem\nunit 2 access.m odd.mem\n",
+    "cross.chip": "chip 1\nname cross\nbudget 3\nunit 2 access.m late.mem\n",
+    "late_model.v": LATE,
+    "a.vhd": "module a(input clk, output b);\n  assign b = 1'h0;\nendmodule\n",
+    "wrong.log": "cycle 20 returned 0x1g\n",
+    "none.log": "fail 1\n",
+    "right.log": "cycle 13 returned 15\n",
+    "two.log": "module a(input clk);\nendmodule\nmodule b(input clk);\nendmodule\n",
+    "judged.report": "march {any(w0);up(r0)}\ncovered <0/1/-> SF\nclass SF 1 covered 1\ntotal 1 covered 1 escapes 0\n",
+}
+CALLS = [
+    ("", ["tools/access", "late.mem", "acc", "--apb", "--jtag", "--march", "access.m"], 0, "acc/late_tap.v", ""),
+    ("", ["tools/access", "pair.chip", "acc2", "--apb", "--log", "4"], 0, "acc2/late_log.v", ""),
+    ("", ["tools/access", "odd.mem", "acc3", "--jtag", "--march", "access.m"], 0, "acc3/odd$.svf", "access: odd$ is no name in BSDL"),
+    ("", ["tools/access", "late.mem", "acc", "--jtag"], 2, "", "access: --jtag of one memory wants --march MARCH"),
+    ("", ["tools/access", "pair.chip", "acc2", "--march", "access.m"], 2, "", "access: --march is of one memory"),
+    ("", ["tools/access", "cross.chip", "acc4"], 2, "", "access: 'cross' is a word of SystemVerilog"),
+    ("", ["tools/access", "late.mem", "acc", "--log", "65"], 2, "", "access: --log is 1 to 64, and not 65"),
+    ("", ["tools/access", "late.mem", "acc", "--log", "0"], 2, "", "access: --log is a number from 1 on"),
+    ("", ["tools/access", "late.mem", "acc", "--jtag", "--march", "access.m", "--mhz", "0"], 2, "", "access: --mhz is a clock"),
+    ("", ["tools/access", "missing.mem", "acc"], 2, "", "access: missing.mem: No such file"),
+    ("", ["tools/sdc", "late.mem", "acc", "--mhz", "100", "--falling"], 0, "acc/late_normal.sdc", ""),
+    ("", ["tools/sdc", "late.mem", "acc"], 2, "", "sdc: --mhz is wanted"),
+    ("", ["tools/sdc", "late.mem", "acc", "--mhz", "1e3"], 2, "", "sdc: --mhz is a number above 0"),
+    ("", ["tools/sdc", "late.mem", "acc", "--mhz", "1", "--share", "1"], 2, "", "sdc: --share is below 1"),
+    ("", ["tools/locate", "pair.chip", "--chip", "20", "011", "1", "2"], 2, "", "locate: FAILBITS has 2 digits"),
+    ("", ["tools/locate", "pair.chip", "--chip", "20", "00"], 2, "", "locate: FAILBITS has 2 digits"),
+    ("", ["tools/locate", "pair.chip", "--chip", "9999", "01"], 2, "", "locate: in cycle 9999 no answer of a failing unit"),
+    ("", ["tools/locate", "pair.chip", "--chip", "--tdr", "3"], 0, "no wrong read was seen", ""),
+    ("", ["tools/locate", "pair.chip", "--chip", "--tdr", "1"], 0, "not done: the test still runs", ""),
+    ("", ["tools/locate", "pair.chip", "--chip", "--tdr", "2"], 2, "", "locate: start is 0 there"),
+    ("", ["tools/locate", "pair.chip", "--chip", "--tdr", "b"], 2, "", "locate: the bits of the state disagree"),
+    ("", ["tools/locate", "access.m", "late.mem", "--tdr", "f" * 30], 2, "", "locate: the register is hexadecimal"),
+    ("", ["tools/locate", "access.m", "late.mem", "--tdr", "zz"], 2, "", "locate: the register is hexadecimal"),
+    ("", ["tools/locate", "access.m", "late.mem", "14", "--at", "done"], 2, "", "locate: behind --at stands fail alone"),
+    ("", ["tools/bitmap", "wrong.log", "access.m", "late.mem"], 2, "", "bitmap: wrong.log:1: an entry is 'cycle C returned W'"),
+    ("", ["tools/bitmap", "none.log", "access.m", "late.mem"], 2, "", "bitmap: none.log: no line has"),
+    ("", ["tools/bitmap", "right.log", "access.m", "late.mem"], 2, "", "bitmap: in cycle 13 15 is the word that the march expects"),
+    ("", ["tools/bitmap", "right.log", "access.m", "late.mem", "--mux", "3"], 2, "", "bitmap: --mux 3 does not divide the 8 words"),
+    ("", ["tools/bitmap", "right.log", "pair.chip", "--unit", "2"], 2, "", "bitmap: --unit is 0 to 1, and not 2"),
+    ("", ["tools/bitmap", "right.log", "access.m", "late.mem", "--csv", "late.mem"], 2, "", "bitmap: 'late.mem' is what is read"),
+    ("", ["tools/collar", "eight.mem", "--macro", "ram.pins", "bus", "--through", "jtag"], 2, "", "collar: ram.pins: s has latency 1"),
+    ("", ["tools/collar", "latency.mem", "--macro", "ram.pins", "bus", "--through", "apb"], 0, "bus/s_collar.v", ""),
+    ("", ["tools/collar", "latency.mem", "--macro", "ram.pins", "bus", "--through", "usb"], 2, "", "collar: --through is one of"),
+    ("", ["tools/access", "late_model.v", "."], 2, "", "access: 'late_model.v' is what is read"),
+    ("", ["tools/vhdl", "a.vhd", "."], 2, "", "vhdl: 'a.vhd' is what is read"),
+    ("", ["tools/share", "late.mem", "3", "acc"], 0, "acc/late_share.v", ""),
+    ("", ["tools/share", "late.mem", "17", "acc"], 2, "", "share: N is 2 to 16, and not 17"),
+    ("", ["tools/vhdl", "two.log", "acc"], 2, "", "vhdl: two.log:3: this is no module of the subset: more stands behind"),
+    ("", ["tools/vhdl", "access.m", "acc"], 2, "", "vhdl: access.m:1: this is no module of the subset"),
+    ("", ["tools/vhdl", "two.log", "acc", "access.m"], 2, "", "vhdl: a march and a memory stand together"),
+    ("", ["tools/report", "--all", "judged.report", "--csv"], 2, "", "report: judged.report: this report is of `judge`"),
+    ("", ["tools/report", "--all", "judged.report"], 2, "", "report: --all is with --csv or with --html FILE"),
+    ("", ["tools/report", "--tester", "pair.chip", "--html", "pair.html"], 0, "", ""),
+]
+# what is planted: an address of late, a bit, the value at which it is stuck, and the index of the address
+PLANTED = [(3, 0, 1, 6), (4, 4, 0, 0), (1, 2, 1, 5)]
+
+
+def compiled(bench, folder: str) -> None:
+    """A folder with the self-test of late and what stands round it."""
+    (bench.folder / folder).mkdir(exist_ok=True)
+    bench.run(["./vidlakost", "compile", "access.m", "late.mem", "empty.list", f"{folder}/late_bist.v", "late.report"])
+    bench.run(["tools/access", "late.mem", folder, "--apb", "--jtag", "--log", "3", "--march", "access.m"])
+    bench.run(["tools/share", "late.mem", "2", folder])
+
+
+def found(bench, folder: str, simulate: str) -> None:
+    """Each testbench finds nothing in a sound memory, and of a planted fault the index and the bit."""
+    for kind in ("access", "apb", "tap", "log"):
+        more = {"apb": "late_apb.v late_cross.v late_access.v", "tap": "late_tap.v late_cross.v late_access.v"}
+        files = more.get(kind, f"late_{kind}.v")
+        call = simulate.format(top=f"late_{kind}_tb", files=f"late_{kind}_tb.sv {files} late_model.v late_bist.v")
+        done = bench.run(["bash", "-c", f"cd {folder} && {call}"])
+        bench.is_so("fail 0\n" in done.stdout and not done.returncode, f"{kind}: {done.stdout}{done.stderr}")
+        for address, bit, value, index in PLANTED:
+            plus = f"+planted +address={address} +bit={bit} +value={value}"
+            told = bench.run(["bash", "-c", f"cd {folder} && ./run {plus}"]).stdout
+            if kind == "log":
+                (bench.folder / "late.log").write_text(told)
+                said = bench.run(["tools/bitmap", "late.log", "access.m", "late.mem"]).stdout
+            else:
+                match = re.search(r"cycle \d+ expected \w+ returned \w+", told)
+                said = bench.run(["tools/locate", "access.m", "late.mem", "--line", match[0] if match else ""]).stdout
+            holds = f"index {index}" in said and re.search(rf"bits? {bit}\b", said) is not None
+            bench.is_so(holds, f"{kind} {plus}: {told}{said}")
+
+
+def in_icarus(bench) -> None:
+    """The testbenches of `access`, `share` in Icarus, which has no warning."""
+    if not shutil.which("iverilog"):
+        print("iverilog is not installed, so what access writes is not run")
+        return
+    compiled(bench, "icarus")
+    found(bench, "icarus", "iverilog -g2012 -Wall -o tb {files} && printf 'exec vvp -n tb \"$@\"' >run && chmod +x run && ./run")
+    files = "late_share_tb.sv late_share.v late_share_model.v late_bist.v"
+    done = bench.run(["bash", "-c", f"cd icarus && iverilog -g2012 -Wall -o tb {files} && vvp -n tb +planted +unit=1 +value=1"])
+    bench.is_so(done.stdout == "fail 10\n" and not done.stderr, f"share: {done.stdout}{done.stderr}")
+
+
+def in_ghdl(bench) -> None:
+    """A module in VHDL is in each cycle as the commands say."""
+    if not shutil.which("ghdl"):
+        print("ghdl is not installed, so no module is run in VHDL")
+        return
+    compiled(bench, "vhdl")
+    bench.run(["tools/vhdl", "vhdl/late_bist.v", "vhdl", "access.m", "late.mem"])
+    call = "cd vhdl && ghdl -a late_bist.vhd late_bist_tb.vhd && ghdl -e late_bist_tb && ghdl -r late_bist_tb"
+    for more, told in (("", "fail 0 done"), (" -gplant=13", "fail 1 done")):
+        done = bench.run(["bash", "-c", call + more])
+        bench.is_so(told in done.stdout and not done.returncode, f"vhdl: {done.stdout}{done.stderr}")
+
+
+def in_openocd(bench) -> None:
+    """OpenOCD plays the SVF to a model of the TAP, sound and with a planted fault, whose place the register tells."""
+    if not all(map(shutil.which, ("openocd", "verilator", "make"))):
+        print("openocd or verilator is not installed, so no SVF is played")
+        return
+    compiled(bench, "board")
+    files = "late_board.v late_tap.v late_cross.v late_access.v late_model.v late_bist.v late_socket.cpp"
+    build = f"verilator --cc --exe --build -Wall --prefix Vboard --top-module late_board --Mdir built {files}"
+    done = bench.run(["bash", "-c", f"cd board && {build}"])
+    bench.is_so(not done.returncode and "Warning" not in done.stdout + done.stderr, f"board: {done.stdout}{done.stderr}")
+    for planted, wanted in (([], "0 errors"), (["0", "3", "0", "1"], "READ = ")):
+        model = subprocess.Popen(["built/Vboard", "9877", *planted], cwd=bench.folder / "board")
+        time.sleep(0.5)
+        call = "timeout 60 openocd -f late.cfg -c 'svf late.svf' -c shutdown 2>&1"
+        said = bench.run(["bash", "-c", f"cd board && {call}"]).stdout
+        model.terminate()
+        model.wait()
+        bench.is_so(wanted in said, f"openocd: {said}")
+        match = re.search("READ = (0x[0-9a-f]+)", said)
+        if match:
+            told = bench.run(["tools/locate", "access.m", "late.mem", "--tdr", match[1]]).stdout
+            bench.is_so("index 6 " in told and "bits 0\n" in told, f"openocd: {told}")
+
+
+PARTS = (in_icarus, in_ghdl, in_openocd)

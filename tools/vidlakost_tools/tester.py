@@ -1,0 +1,141 @@
+"""What a tester brings back, as a read of a memory: a cycle and the bits of `fail`, or the register of the TAP."""
+from __future__ import annotations
+
+import re
+
+from vidlakost_tools import access_block
+from vidlakost_tools.access_block import Target
+from vidlakost_tools.chip import Chip
+from vidlakost_tools.march import Element
+from vidlakost_tools.memory import Memory
+from vidlakost_tools.reads import Read, read_of
+from vidlakost_tools.tap import length, parts
+from vidlakost_tools.text import shown
+from vidlakost_tools.tool import ToolError
+
+
+def word_of(text: str, bits: int, what: str) -> int:
+    """A hexadecimal word."""
+    if not re.fullmatch(r"(0[xX])?[0-9a-fA-F]{1,80}", text) or int(text, 16) >> bits:
+        raise ToolError(f"{what} is hexadecimal and has at most {bits} bits, and is not {shown(text)}")
+    return int(text, 16)
+
+
+def told(read: Read, elements: list[Element], memory: Memory, mux: int):
+    """A read in words."""
+    element = elements[read.element]
+    yield f"background {read.background} {memory.digits(memory.backgrounds[read.background])}"
+    yield f"element {read.element} {element.text}"
+    yield f"operation {read.operation} {element.operations[read.operation]}"
+    yield f"index {read.index} row {read.index // mux}"
+    yield f"address {memory.address_of(read.index)}"
+
+
+def bits_told(read: Read, memory: Memory, returned: int, mux: int):
+    """The bits of a word that are not as they are expected, and their columns."""
+    wrong = [bit for bit in range(memory.bits) if (read.expected ^ returned) >> bit & 1]
+    if not wrong:
+        raise ToolError(f"{memory.digits(returned)} is the word that the march expects there: another march, memory or cycle?")
+    yield f"bits {' '.join(map(str, wrong))}"
+    yield f"columns {' '.join(str(bit * mux + read.index % mux) for bit in wrong)}"
+
+
+def check_expected(read: Read, memory: Memory, expected: int) -> None:
+    if expected != read.expected:
+        raise ToolError(
+            f"the expected word is {memory.digits(expected)}, and this march expects {memory.digits(read.expected)} there: "
+            "another march, memory or cycle?"
+        )
+
+
+def failing_units(bits: str, count: int) -> list[int]:
+    """The units of the bits of `fail`, that of the first unit last."""
+    if not re.fullmatch(f"[01]{{{count}}}", bits) or "1" not in bits:
+        raise ToolError(f"FAILBITS has {count} digits 0 and 1, that of unit 0 last, and one of them is 1; it is {shown(bits)}")
+    return [number for number in range(count) if bits[count - 1 - number] == "1"]
+
+
+def at_cycle(chip: Chip, cycle: int, units: list[int]) -> list[tuple[int, Read]]:
+    """The failing units that have an answer in this cycle of the chip, and the read."""
+    found, why = [], ""
+    for number in units:
+        unit = chip.units[number]
+        try:
+            found.append((number, read_of(unit.elements, unit.memory, cycle - unit.start)))
+        except ToolError:
+            why += f"; unit {number} answers from cycle {unit.start + 1 + unit.memory.latency} to {unit.done - 1}"
+    if not found:
+        raise ToolError(f"in cycle {cycle} no answer of a failing unit stands on rdata{why}")
+    return found
+
+
+def in_chip(chip: Chip, cycle: int, units: list[int], words: list[str], mux: int):
+    """The reads of the failing units in a cycle of the chip, in words."""
+    found = at_cycle(chip, cycle, units)
+    if words and len(found) > 1:
+        names = ", ".join(str(number) for number, _ in found)
+        raise ToolError(f"the units {names} fail and answer in cycle {cycle}: whose are the words? Give the bit of one of them")
+    for number, read in found:
+        unit = chip.units[number]
+        yield f"unit {number} {unit.memory.name}, cycle {cycle - unit.start} of its test"
+        yield from of_read(read, unit.elements, unit.memory, words, mux)
+
+
+def of_read(read: Read, elements: list[Element], memory: Memory, words: list[str], mux: int):
+    """A read in words, with the bits that differ where the two words are there."""
+    lines = list(told(read, elements, memory, mux))
+    if words:
+        check_expected(read, memory, word_of(words[0], memory.bits, "EXPECTED"))
+        lines += bits_told(read, memory, word_of(words[1], memory.bits, "RETURNED"), mux)
+    return lines
+
+
+# ---- the register of the TAP
+
+
+def register_of(target: Target, text: str) -> dict[str, int]:
+    """The parts of the register."""
+    value = word_of(text, length(target), "the register")
+    return {part.name: value >> part.low & (1 << part.width) - 1 for part in parts(target)}
+
+
+def state_lines(found: dict[str, int], target: Target):
+    """The state of a test in words; a register that can't be one is refused."""
+    if not found["start"]:
+        raise ToolError("start is 0 there: no test runs, and what was found is gone. Keep start at 1 in the scan that reads")
+    if found["seen"] and not found["fail"] or target.is_chip and bool(found["failing"]) != bool(found["fail"]):
+        raise ToolError("the bits of the state disagree: is the register turned round, or shifted by a bit?")
+    yield "done" if found["done"] else "not done: the test still runs, or its clock does not"
+    if target.is_chip and found["failing"]:
+        yield "fail " + " ".join(f"{number} {unit.memory.name}" for number, unit in enumerate(target.units) if found["failing"] >> number & 1)
+    if not found["seen"]:
+        yield "fail, and its cycle is not kept" if found["fail"] else "no wrong read was seen"
+
+
+def of_register(target: Target, marches: list[list[Element]], text: str, mux: int) -> list[str]:
+    """What the register says."""
+    found = register_of(target, text)
+    lines = list(state_lines(found, target))
+    if not found["seen"]:
+        return lines
+    number = found.get("unit", 0)
+    if number >= target.count:
+        raise ToolError(f"the unit is {number}, and there are {target.count}")
+    unit = target.units[number]
+    read = read_of(marches[number], unit.memory, found["cycle"] - unit.start)
+    for word in ("expected", "returned"):
+        if found[word] >> unit.memory.bits:
+            raise ToolError(f"the word {found[word]:x} has more than the {unit.memory.bits} bits of {unit.memory.name}")
+    words = [f"{found['expected']:x}", f"{found['returned']:x}"]
+    if target.is_chip:
+        lines.append(f"unit {number} {unit.memory.name}, cycle {found['cycle'] - unit.start} of its test")
+    lines.append(f"cycle {found['cycle']} expected {unit.memory.digits(found['expected'])} returned {unit.memory.digits(found['returned'])}")
+    return [*lines, *of_read(read, marches[number], unit.memory, words, mux)]
+
+
+def chip_register(chip: Chip, text: str, mux: int) -> list[str]:
+    return of_register(access_block.of_chip(chip), [unit.elements for unit in chip.units], text, mux)
+
+
+def memory_register(elements: list[Element], memory: Memory, text: str, mux: int) -> list[str]:
+    return of_register(access_block.of_memory(memory, None), [elements], text, mux)
