@@ -110,8 +110,8 @@ function showRefusal(into, field, refused) {
   if (refused.line) {
     into.append(" ", make("button", { type: "button", click: () => goTo(field, refused) }, "Go there"));
   }
+  for (const note of refused.notes) into.append(" ", make("span", { class: "soft" }, note));
   if (refused.shown) into.append(make("pre", { "aria-hidden": "true" }, aroundCaret(refused.shown)));
-  for (const note of refused.notes) into.append(make("div", { class: "soft" }, note));
 }
 
 /** Of a line and its caret the part round the caret. */
