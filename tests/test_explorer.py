@@ -1,7 +1,9 @@
 """The parts of the page of `explore`, with answers found by hand."""
 from __future__ import annotations
 
+import pathlib
 import socket
+import tempfile
 import unittest
 
 from vidlakost_tools import cycles_picture
@@ -9,6 +11,7 @@ from vidlakost_tools.explorer import answers, kept, server
 from vidlakost_tools.faults import Array, read_primitive
 from vidlakost_tools.march import elements_of
 from vidlakost_tools.memory import parse_memory
+from vidlakost_tools.program import is_proved
 
 
 class Words(unittest.TestCase):
@@ -64,6 +67,22 @@ class Bounds(unittest.TestCase):
             reader.allow(0.05, 3)
             with self.assertRaises(socket.timeout):
                 reader.read(1)
+
+
+class Proved(unittest.TestCase):
+    def test_a_named_program_has_its_proof_beside_it(self) -> None:
+        with tempfile.TemporaryDirectory() as name:
+            program, kit = pathlib.Path(name) / "program", pathlib.Path(name) / "kit"
+            program.write_bytes(b"abc")
+            self.assertFalse(is_proved(str(program), True))
+            kit.write_text("ba7816bf8f01cfea414140de5dae2223b00361a396177a9cb410ff61f20015ad\na kit\n")
+            self.assertTrue(is_proved(str(program), True))
+            program.write_bytes(b"abd")
+            self.assertFalse(is_proved(str(program), True))
+
+    def test_the_launcher_takes_no_other_by_itself(self) -> None:
+        self.assertTrue(is_proved("program", False))
+        self.assertFalse(is_proved(None, False))
 
 
 class Kept(unittest.TestCase):

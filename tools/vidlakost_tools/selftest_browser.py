@@ -136,7 +136,7 @@ def typed(it: Looker) -> None:
     it.browser.switch_to.active_element.send_keys(Keys.ENTER)
     it.look("a word is completed", lambda: it.by_id("march-A").get_attribute("value") == "{any(w0);down")
     it.write("march-A", MARCH)
-    it.look("it is judged again", lambda: "32 of 50 covered" in it.text("cards"))
+    it.look("it is judged again", lambda: "32 of 50 covered" in it.text("cards") and it.text("said-A") == "")
 
 
 def ticked(it: Looker) -> None:

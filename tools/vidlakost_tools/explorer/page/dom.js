@@ -31,23 +31,31 @@ function save(name, text) {
 /** What a page that was saved as a file has of the answers; null on a page that asks. */
 const kept = byId("kept") === null ? null : JSON.parse(byId("kept").textContent);
 
-/** The answer of a question; `signal` gives it up. */
-async function ask(name, question, signal) {
+/** The answer of a question; `signal` gives it up. A server that is too busy is asked a few times more. */
+async function ask(name, question, signal, left = 10) {
   if (kept !== null) return keptAnswer(name, question);
-  const answer = await fetch(name, {
-    method: "POST",
-    headers: { "Content-Type": "application/json" },
-    body: JSON.stringify(question),
-    signal,
-  });
-  if (answer.status === 503) {
-    await new Promise((resolve) => setTimeout(resolve, 500));
-    if (!signal || !signal.aborted) return ask(name, question, signal);
+  const answer = await send(name, question, signal, left > 0);
+  if (answer === null) {
+    await new Promise((resolve) => setTimeout(resolve, 400));
+    return ask(name, question, signal, left - 1);
   }
+  if (answer.status === 503) throw new Error("The server is asked too much at once; try again.");
   if (!answer.ok) throw new Error(await answer.text());
   const told = await answer.json();
   if (told.failed !== undefined) throw new Error(told.failed);
   return told;
+}
+
+/** What the server answers; null where it is busy, or hangs up, and may be asked again. */
+async function send(name, question, signal, again) {
+  const headers = { "Content-Type": "application/json" };
+  try {
+    const answer = await fetch(name, { method: "POST", headers, body: JSON.stringify(question), signal });
+    return answer.status === 503 && again ? null : answer;
+  } catch (error) {
+    if (error.name === "AbortError" || !again) throw error;
+    return null;
+  }
 }
 
 /** The same from what the file has. */
@@ -99,11 +107,11 @@ function showRefusal(into, field, refused) {
   if (!refused) return;
   const place = refused.line ? `line ${refused.line}, column ${refused.column}: ` : "";
   into.append(make("span", { class: "wrong" }, place + refused.message));
-  if (refused.shown) into.append(make("pre", { "aria-hidden": "true" }, aroundCaret(refused.shown)));
-  for (const note of refused.notes) into.append(make("div", {}, note));
   if (refused.line) {
-    into.append(make("button", { type: "button", click: () => goTo(field, refused) }, "Go there"));
+    into.append(" ", make("button", { type: "button", click: () => goTo(field, refused) }, "Go there"));
   }
+  for (const note of refused.notes) into.append(" ", make("span", { class: "soft" }, note));
+  if (refused.shown) into.append(make("pre", { "aria-hidden": "true" }, aroundCaret(refused.shown)));
 }
 
 /** Of a line and its caret the part round the caret. */
