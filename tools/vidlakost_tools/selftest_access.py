@@ -152,4 +152,64 @@ def in_openocd(bench) -> None:
             bench.is_so("index 6 " in told and "bits 0\n" in told, f"openocd: {told}")
 
 
-PARTS = (in_icarus, in_ghdl, in_openocd)
+# a library of four cells, of which each takes a tenth of a nanosecond
+TABLES = "".join(f' {name}(scalar) {{ values("0.1"); }}' for name in ("cell_rise", "cell_fall", "rise_transition", "fall_transition"))
+CHECKS = "".join(f' {name}(scalar) {{ values("0.1"); }}' for name in ("rise_constraint", "fall_constraint"))
+
+
+def gate(name: str, pins: str, function: str) -> str:
+    """A gate of the library."""
+    made = "".join(f" pin({pin}) {{ direction : input; capacitance : 0.01; }}" for pin in pins)
+    timing = "".join(f' timing() {{ related_pin : "{pin}"; timing_sense : non_unate;{TABLES} }}' for pin in pins)
+    return f'cell({name}) {{ area : 1;{made} pin(Y) {{ direction : output; function : "{function}";{timing} }} }}'
+
+
+def library() -> str:
+    kinds = "".join(f' timing() {{ related_pin : "C"; timing_type : {kind}_rising;{CHECKS} }}' for kind in ("setup", "hold"))
+    flop = (
+        'cell(DFF) { area : 4; ff(IQ, IQN) { clocked_on : "C"; next_state : "D"; } '
+        f"pin(D) {{ direction : input; capacitance : 0.01;{kinds} }} pin(C) {{ direction : input; clock : true; capacitance : 0.01; }} "
+        'pin(Q) { direction : output; function : "IQ"; '
+        f'timing() {{ related_pin : "C"; timing_type : rising_edge; timing_sense : non_unate;{TABLES} }} }} }}'
+    )
+    cells = [gate("INV", "A", "!A"), gate("NAND", "AB", "!(A&B)"), gate("BUF", "A", "A"), flop]
+    units = 'delay_model : table_lookup; time_unit : "1ns"; voltage_unit : "1V"; current_unit : "1mA"; capacitive_load_unit(1, pf);'
+    units += "".join(f" {side}_threshold_pct_{way} : 50;" for side in ("input", "output") for way in ("rise", "fall"))
+    units += "".join(f" slew_{side}_threshold_pct_{way} : {at};" for side, at in (("lower", 20), ("upper", 80)) for way in ("rise", "fall"))
+    return "\n".join([f"library(few) {{ {units}", *cells, "}", ""])
+
+
+CELLS = """module \\$_NOT_ (input A, output Y); INV _TECHMAP_REPLACE_(.A(A), .Y(Y)); endmodule
+module \\$_NAND_ (input A, input B, output Y); NAND _TECHMAP_REPLACE_(.A(A), .B(B), .Y(Y)); endmodule
+"""
+STA = """read_liberty few.lib
+read_verilog gates.v
+link_design late_access
+read_sdc late_test.sdc
+check_setup -verbose
+puts "the checks are done"
+"""
+
+
+def in_opensta(bench) -> None:
+    """OpenSTA reads the constraints, and in the file for the test it finds nothing that is not constrained."""
+    if not all(map(shutil.which, ("sta", "yosys"))):
+        print("sta or yosys is not installed, so no constraints are read")
+        return
+    compiled(bench, "timing")
+    bench.run(["tools/sdc", "late.mem", "timing", "--mhz", "50"])
+    (bench.folder / "timing" / "few.lib").write_text(library())
+    (bench.folder / "timing" / "read.tcl").write_text(STA)
+    (bench.folder / "timing" / "cells.v").write_text(CELLS)
+    script = (
+        "read_verilog late_access.v late_bist.v; synth -flatten -top late_access; dfflibmap -liberty few.lib; "
+        "abc -g NAND; techmap -map cells.v; iopadmap -bits -outpad BUF A:Y; splitnets; clean; write_verilog -noattr gates.v"
+    )
+    done = bench.run(["bash", "-c", f"cd timing && yosys -q -p '{script}' >/dev/null && sta -no_splash -exit read.tcl 2>&1"])
+    bench.is_so(done.stdout == "the checks are done\n", f"sta: {done.stdout}{done.stderr}")
+    call = "sed -i /set_output_delay/d late_test.sdc && sta -no_splash -exit read.tcl 2>&1"
+    told = bench.run(["bash", "-c", f"cd timing && {call}"]).stdout
+    bench.is_so("unconstrained endpoints" in told, f"sta without output delays: {told}")
+
+
+PARTS = (in_icarus, in_ghdl, in_openocd, in_opensta)
