@@ -94,7 +94,7 @@ def microseconds(none: Timed, whole: Timed, cycles: int) -> float:
 
 def ours(name: str, latency: int, folder: pathlib.Path) -> float:
     runs = [best(6, CYCLE_BENCH, folder / f"{name}.v", cycles, latency) for cycles in (0, CYCLES)]
-    return microseconds(*runs, CYCLES)
+    return microseconds(runs[0], runs[1], CYCLES)
 
 
 def icarus(name: str, words: int, latency: int, folder: pathlib.Path) -> float:
@@ -104,7 +104,7 @@ def icarus(name: str, words: int, latency: int, folder: pathlib.Path) -> float:
         (bench,) = write(folder, **{"bench.v": ICARUS % values})
         timed("iverilog", "-g2005", "-o", folder / "bench", bench, folder / f"{name}.v")
         runs.append(best(3, folder / "bench"))
-    return microseconds(*runs, few)
+    return microseconds(runs[0], runs[1], few)
 
 
 def verilator(name: str, latency: int, folder: pathlib.Path) -> tuple[float, float]:
@@ -113,7 +113,7 @@ def verilator(name: str, latency: int, folder: pathlib.Path) -> tuple[float, flo
     build = ["verilator", "--cc", "--exe", "--build", "-O3", "-CFLAGS", "-O3", "-Wno-fatal", "--top-module", f"{name}_bist"]
     built = timed(*build, "--Mdir", folder / f"{name}_made", folder / f"{name}.v", main)
     runs = [best(6, folder / f"{name}_made" / f"V{name}_bist", cycles) for cycles in (0, CYCLES)]
-    return microseconds(*runs, CYCLES), built.seconds
+    return microseconds(runs[0], runs[1], CYCLES), built.seconds
 
 
 def clock(folder: pathlib.Path) -> list[Figure]:

@@ -6,25 +6,30 @@ import shutil
 import subprocess
 import time
 
+from vidlakost_tools.selftest_bench import Bench
+from vidlakost_tools.selftest_cases import FILES
+
 MARCH = "{any(w0);up(r0,w1);up(r1,w0);down(r0,w1);down(r1,w0);any(r0)}"
 LATE = (
     "memory 2\nname late\nwords 8\nbits 5\nlatency 4\npolarity 15\npause 7\nscramble a0 = p0 ^ p1\nscramble a1 = p1\n"
     "scramble a2 = p2 ^ 1\nbackgrounds 0 0a\n"
 )
-FILES = {
-    "access.m": MARCH + "\n",
-    "late.mem": LATE,
-    "odd.mem": "memory 1\nname odd$\nwords 4\nbits 1\n",
-    "pair.chip": "chip 1\nname pair\nbudget 3\nunit 2 access.m late.mem\nunit 2 access.m odd.mem\n",
-    "cross.chip": "chip 1\nname cross\nbudget 3\nunit 2 access.m late.mem\n",
-    "late_model.v": LATE,
-    "a.vhd": "module a(input clk, output b);\n  assign b = 1'h0;\nendmodule\n",
-    "wrong.log": "cycle 20 returned 0x1g\n",
-    "none.log": "fail 1\n",
-    "right.log": "cycle 13 returned 15\n",
-    "two.log": "module a(input clk);\nendmodule\nmodule b(input clk);\nendmodule\n",
-    "judged.report": "march {any(w0);up(r0)}\ncovered <0/1/-> SF\nclass SF 1 covered 1\ntotal 1 covered 1 escapes 0\n",
-}
+FILES.update(
+    {
+        "access.m": MARCH + "\n",
+        "late.mem": LATE,
+        "odd.mem": "memory 1\nname odd$\nwords 4\nbits 1\n",
+        "pair.chip": "chip 1\nname pair\nbudget 3\nunit 2 access.m late.mem\nunit 2 access.m odd.mem\n",
+        "cross.chip": "chip 1\nname cross\nbudget 3\nunit 2 access.m late.mem\n",
+        "late_model.v": LATE,
+        "a.vhd": "module a(input clk, output b);\n  assign b = 1'h0;\nendmodule\n",
+        "wrong.log": "cycle 20 returned 0x1g\n",
+        "none.log": "fail 1\n",
+        "right.log": "cycle 13 returned 15\n",
+        "two.log": "module a(input clk);\nendmodule\nmodule b(input clk);\nendmodule\n",
+        "judged.report": "march {any(w0);up(r0)}\ncovered <0/1/-> SF\nclass SF 1 covered 1\ntotal 1 covered 1 escapes 0\n",
+    }
+)
 CALLS = [
     ("", ["tools/access", "late.mem", "acc", "--apb", "--jtag", "--march", "access.m"], 0, "acc/late_tap.v", ""),
     ("", ["tools/access", "pair.chip", "acc2", "--apb", "--log", "4"], 0, "acc2/late_log.v", ""),
@@ -74,7 +79,7 @@ CALLS = [
 PLANTED = [(3, 0, 1, 6), (4, 4, 0, 0), (1, 2, 1, 5)]
 
 
-def compiled(bench, folder: str) -> None:
+def compiled(bench: Bench, folder: str) -> None:
     """A folder with the self-test of late and what stands round it."""
     (bench.folder / folder).mkdir(exist_ok=True)
     bench.run(["./vidlakost", "compile", "access.m", "late.mem", "empty.list", f"{folder}/late_bist.v", "late.report"])
@@ -82,7 +87,7 @@ def compiled(bench, folder: str) -> None:
     bench.run(["tools/share", "late.mem", "2", folder])
 
 
-def found(bench, folder: str, simulate: str) -> None:
+def found(bench: Bench, folder: str, simulate: str) -> None:
     """Each testbench finds nothing in a sound memory, and of a planted fault the index and the bit."""
     for kind in ("access", "apb", "tap", "log"):
         more = {"apb": "late_apb.v late_cross.v late_access.v", "tap": "late_tap.v late_cross.v late_access.v"}
@@ -103,7 +108,7 @@ def found(bench, folder: str, simulate: str) -> None:
             bench.is_so(holds, f"{kind} {plus}: {told}{said}")
 
 
-def in_icarus(bench) -> None:
+def in_icarus(bench: Bench) -> None:
     """The testbenches of `access`, `share` in Icarus, which has no warning."""
     if not shutil.which("iverilog"):
         print("iverilog is not installed, so what access writes is not run")
@@ -115,7 +120,7 @@ def in_icarus(bench) -> None:
     bench.is_so(done.stdout == "fail 10\n" and not done.stderr, f"share: {done.stdout}{done.stderr}")
 
 
-def in_ghdl(bench) -> None:
+def in_ghdl(bench: Bench) -> None:
     """A module in VHDL is in each cycle as the commands say."""
     if not shutil.which("ghdl"):
         print("ghdl is not installed, so no module is run in VHDL")
@@ -128,7 +133,7 @@ def in_ghdl(bench) -> None:
         bench.is_so(told in done.stdout and not done.returncode, f"vhdl: {done.stdout}{done.stderr}")
 
 
-def in_openocd(bench) -> None:
+def in_openocd(bench: Bench) -> None:
     """OpenOCD plays the SVF to a model of the TAP, sound and with a planted fault, whose place the register tells."""
     if not all(map(shutil.which, ("openocd", "verilator", "make"))):
         print("openocd or verilator is not installed, so no SVF is played")
@@ -191,7 +196,7 @@ puts "the checks are done"
 """
 
 
-def in_opensta(bench) -> None:
+def in_opensta(bench: Bench) -> None:
     """OpenSTA reads the constraints, and in the file for the test it finds nothing that is not constrained."""
     if not all(map(shutil.which, ("sta", "yosys"))):
         print("sta or yosys is not installed, so no constraints are read")

@@ -7,8 +7,9 @@ import pathlib
 import re
 import shutil
 import subprocess
+from typing import Any, Mapping
 
-from vidlakost_tools.text import lines_of, shown
+from vidlakost_tools.text import Path, lines_of, shown
 from vidlakost_tools.tool import ToolError, identifier
 
 
@@ -17,7 +18,7 @@ def want() -> None:
         raise ToolError("yosys is not on the PATH")
 
 
-def quoted(path) -> str:
+def quoted(path: Path) -> str:
     """A file's name as a script carries it. What a script would read as more than a name is refused."""
     name = str(path)
     if not re.fullmatch(r"[\w./ +=,@%:-]+", name) or not name.isprintable():
@@ -25,7 +26,7 @@ def quoted(path) -> str:
     return f'"./{name}"' if name[0] in "-+" else f'"{name}"'
 
 
-def top_of(options: dict) -> str:
+def top_of(options: Mapping[str, Any]) -> str:
     """What `hierarchy` is told of the top."""
     if "--top" not in options:
         return "-auto-top"
@@ -93,7 +94,7 @@ def parts_of(signal: str) -> list[str]:
     return re.findall(r"[\\$][^ ]+(?: \[[0-9:]+\])?|[0-9]+'[^ ]+", signal.strip().strip("{}"))
 
 
-def bits_of(part: str, widths: dict) -> list:
+def bits_of(part: str, widths: Mapping[str, int]) -> list[tuple[str, int]]:
     """The bits of a part; none of a constant."""
     if part[0] not in "\\$":
         return []
@@ -117,7 +118,7 @@ def driven_twice(rtlil: str) -> str | None:
     """A signal with two `assign`s, also where both are constants, which Yosys' `check` does not see."""
     widths: dict[str, int] = {}
     places: dict[str, str] = {}
-    driven: set = set()
+    driven: set[tuple[str, int]] = set()
     depth, place = 0, ""
     for line in map(str.strip, lines_of(rtlil)):
         depth += line.startswith(("cell ", "process ", "switch ", "memory ")) - (line == "end")
@@ -136,7 +137,7 @@ def driven_twice(rtlil: str) -> str | None:
     return None
 
 
-def driven_constant(module: dict) -> str | None:
+def driven_constant(module: Mapping[str, Any]) -> str | None:
     """A cell whose output is tied to a constant."""
     for cell in module["cells"].values():
         for pin, bits in cell["connections"].items():
@@ -182,11 +183,11 @@ class Sources:
 
     script: str
     top: str
-    module: dict
+    module: dict[str, Any]
     warnings: list[str]
 
 
-def read(files: list[str], options: dict, folder: pathlib.Path) -> Sources:
+def read(files: list[str], options: Mapping[str, Any], folder: pathlib.Path) -> Sources:
     """The sources; a signal with two drivers is refused."""
     raw, plain, first, parts = (folder / name for name in ("raw.il", "plain.il", "first.il", "first.json"))
     said = run(
@@ -207,7 +208,7 @@ def read(files: list[str], options: dict, folder: pathlib.Path) -> Sources:
     return Sources(script, name, module, warnings)
 
 
-def top_module(path: pathlib.Path) -> tuple[str, dict]:
+def top_module(path: pathlib.Path) -> tuple[str, dict[str, Any]]:
     """The name of the top and what it is made of."""
     modules = json.loads(path.read_bytes().decode("utf-8", "replace"))["modules"]
     return next((name, module) for name, module in modules.items() if "top" in module["attributes"])
