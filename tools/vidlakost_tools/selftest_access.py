@@ -143,7 +143,8 @@ def in_openocd(bench: Bench) -> None:
     build = f"verilator --cc --exe --build -Wall --prefix Vboard --top-module late_board --Mdir built {files}"
     done = bench.run(["bash", "-c", f"cd board && {build}"])
     bench.is_so(not done.returncode and "Warning" not in done.stdout + done.stderr, f"board: {done.stdout}{done.stderr}")
-    for planted, wanted in (([], "0 errors"), (["0", "3", "0", "1"], "READ = ")):
+    trials: list[tuple[list[str], str]] = [([], "0 errors"), (["0", "3", "0", "1"], "READ = ")]
+    for planted, wanted in trials:
         model = subprocess.Popen(["built/Vboard", "9877", *planted], cwd=bench.folder / "board")
         time.sleep(0.5)
         call = "timeout 60 openocd -f late.cfg -c 'svf late.svf' -c shutdown 2>&1"

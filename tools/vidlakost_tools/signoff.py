@@ -5,6 +5,7 @@ import csv
 import dataclasses
 import html
 import io
+from typing import Iterator
 
 from vidlakost_tools import access_block, apb, tap
 from vidlakost_tools.access_block import Target
@@ -48,11 +49,11 @@ def rows_of(reports: list[str], memories: list[str]) -> list[Row]:
         report = read_report(name)
         if report.memory is None:
             raise ToolError(f"{name}: this report is of `judge` and tells no memory; --all wants reports of `compile`")
-        memory = known.get(report.memory["name"])
+        memory = known.get(str(report.memory["name"]))
         if memory and (memory.words, memory.bits) != (report.memory["words"], report.memory["bits"]):
             raise ToolError(f"{name}: {memory.name} has another size in its description")
         rows.append(Row(report, memory))
-    unused = set(known) - {row.report.memory["name"] for row in rows if row.report.memory}
+    unused = set(known) - {str(row.report.memory["name"]) for row in rows if row.report.memory}
     if unused:
         raise ToolError(f"no report is of {', '.join(sorted(unused))}")
     return rows
@@ -71,7 +72,8 @@ def cells_of(row: Row, heads: list[str], mhz: float) -> list[str]:
     shape, (count, covered, _) = row.report.memory or {}, row.report.total
     told = {key: str(shape[key]) for key in ("words", "bits", "backgrounds", "commands")}
     told.update({kind: f"{good}/{of}" for kind, (of, good) in row.report.classes.items()})
-    told.update(memory=shape["name"], march=row.report.march, length=length_of(row.report.elements), total=f"{covered}/{count}")
+    told.update(memory=str(shape["name"]), march=row.report.march)
+    told.update(length=length_of(row.report.elements), total=f"{covered}/{count}")
     if row.cycles is not None:
         told.update(cycles=str(row.cycles), ms=f"{row.cycles / mhz / 1000:.3f}")
     return [told.get(head, "") for head in heads]
@@ -125,7 +127,7 @@ def tested(words: list[str]) -> tuple[Target, list[tuple[str, list[Element], Mem
     return access_block.of_memory(memory, memory.cycles(elements) - 1), [(words[0], elements, memory, 0)]
 
 
-def holds(elements: list[Element], memory: Memory, start: int):
+def holds(elements: list[Element], memory: Memory, start: int) -> Iterator[str]:
     """The first and the last cycle of each pause, in which the clock may be stopped."""
     cycle = start + 1
     for _ in memory.backgrounds:
@@ -141,10 +143,10 @@ def tester_page(words: list[str], mhz: float) -> str:
     target, units = tested(words)
     done = target.done or 0
     what = f"{words[0]} --chip" if target.is_chip else " ".join(words)
-    rows = [
-        [str(number), memory.name, str(memory.words), str(memory.bits), march, str(start), ", ".join(holds(elements, memory, start)) or "none"]
-        for number, (march, elements, memory, start) in enumerate(units)
-    ]
+    rows = []
+    for number, (march, elements, memory, start) in enumerate(units):
+        pauses = ", ".join(holds(elements, memory, start)) or "none"
+        rows.append([str(number), memory.name, str(memory.words), str(memory.bits), march, str(start), pauses])
     registers = [[f"0x{it.at:02x}", it.name, field.name, field.about] for it in apb.registers(target) for field in it.fields]
     parts = [[part.bits, part.name, "written" if part.writable else ""] for part in tap.parts(target)]
     sound = "3 in the lowest digit of the register, 0x3 in STATUS"

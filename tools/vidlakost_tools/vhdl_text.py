@@ -2,6 +2,7 @@
 from __future__ import annotations
 
 import re
+from typing import Iterator
 
 from vidlakost_tools.march import Element
 from vidlakost_tools.memory import Memory
@@ -292,7 +293,7 @@ def vhdl(module: Module) -> str:
 # ---- the cycles of a test, as lines of bits
 
 
-def rows(elements: list[Element], memory: Memory, commands: list[str]):
+def rows(elements: list[Element], memory: Memory, commands: list[str]) -> Iterator[str]:
     """Of each cycle the ports en, we, addr, wdata, done and fail as they have to be, and the word on rdata; - is open."""
     width, bits = memory.width, memory.bits
     idle = f"0-{'-' * width}{'-' * bits}"
