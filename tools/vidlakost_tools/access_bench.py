@@ -1,4 +1,5 @@
-"""The testbenches of what `vidlakost access` writes: a sound memory, or one with a bit that is stuck, started and read."""
+"""The testbenches of what `vidlakost access` writes: a sound memory, or one with a bit that is stuck, started and
+read."""
 from __future__ import annotations
 
 from vidlakost_tools.access_block import Port, Target, extended, links, model_links, zero

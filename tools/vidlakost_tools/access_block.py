@@ -1,5 +1,5 @@
-"""What stands round a self-test so that a tester starts it and reads what it found: a start that is synchronised, the state,
-and the cycle and the words of the first failure."""
+"""What stands round a self-test so that a tester starts it and reads what it found: a start that is synchronised, the
+state, and the cycle and the words of the first failure."""
 from __future__ import annotations
 
 import dataclasses
@@ -44,8 +44,8 @@ class Unit:
 
 @dataclasses.dataclass
 class Target:
-    """What is tested: one memory, or the memories of a chip, the module of the self-test, and the cycle of `done` where the
-    march is known."""
+    """What is tested: one memory, or the memories of a chip, the module of the self-test, and the cycle of `done` where
+    the march is known."""
 
     name: str
     top: str
@@ -136,8 +136,8 @@ def extended(name: str, width: int, to: int) -> str:
 
 
 def pipeline(unit: Unit) -> tuple[list[str], list[str]]:
-    """The declarations and the assignments of the words of a unit: what returned in the cycle before, and what the write
-    data were when the read of that answer was commanded."""
+    """The declarations and the assignments of the words of a unit: what returned in the cycle before, and what the
+    write data were when the read of that answer was commanded."""
     word, suffix = ranged(unit.memory.bits), unit.suffix
     names = [f"want{suffix}_{count}" for count in range(1, unit.memory.latency + 2)]
     declared = [f"  reg {word}{name};" for name in (f"answer{suffix}", *names)]
@@ -249,8 +249,9 @@ def access(target: Target) -> str:
 
 # ---- from one clock to the other
 
-CROSS = """// Between the clock of a bus and that of the memories of {name}: a start goes over when the one before it has arrived,
-// and the state comes back behind two registers, `done` behind three, so that no `done` is seen before what it stands for.
+CROSS = """// Between the clock of a bus and that of the memories of {name}: a start goes over when the one before it
+// has arrived, and the state comes back behind two registers, `done` behind three, so that no `done` is seen before
+// what it stands for.
 module {name}_cross(
   input clock,
   input reset_n,
@@ -328,7 +329,8 @@ def inside(target: Target, clock: str, reset_n: str) -> str:
 
 # ---- memories for the testbenches
 
-MODEL = """// Memories for the testbenches of {name}, not for a chip. Where `planted` is 1, one bit of one word{unit} is stuck.
+MODEL = """// Memories for the testbenches of {name}, not for a chip. Where `planted` is 1, one bit of one word{unit} is
+// stuck.
 module {name}_model(
   input clk,
   {ports},

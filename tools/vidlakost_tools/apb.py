@@ -67,8 +67,9 @@ def registers(target: Target) -> list[Register]:
     ]
 
 
-APB = """// The self-test of {name} behind an APB3 bus; {name}_apb.md tells the registers. There are no wait states. A transfer to an
-// address that has no register, and a write to one that is only read, end with pslverr at 1 and change nothing."""
+APB = """// The self-test of {name} behind an APB3 bus; {name}_apb.md tells the registers. There are no wait states. A
+// transfer to an address that has no register, and a write to one that is only read, end with pslverr at 1 and change
+// nothing."""
 
 
 def bus() -> list[Port]:

@@ -6,9 +6,9 @@ from vidlakost_tools.access_block import Port, Target, Unit, header, model, mode
 from vidlakost_tools.memory import Memory
 from vidlakost_tools.verilog import ranged
 
-SHARE = """// One self-test of {name} for {count} equal memories, which do the same in step. Memory 0 is compared by the controller itself, each
-// other by a comparator beside it: in the cycle of a read wdata has the word that it expects, which has to stand on its rdata
-// {latency} cycles later. The bit of memory 0 is the lowest of fail."""
+SHARE = """// One self-test of {name} for {count} equal memories, which do the same in step. Memory 0 is compared by the
+// controller itself, each other by a comparator beside it: in the cycle of a read wdata has the word that it expects,
+// which has to stand on its rdata {latency} cycles later. The bit of memory 0 is the lowest of fail."""
 
 
 def target_of(memory: Memory, count: int) -> Target:

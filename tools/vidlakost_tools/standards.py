@@ -1,5 +1,5 @@
-"""What tells a tester of the TAP, in the forms of the standards: a run in SVF, the TAP in BSDL, its register in ICL (IEEE
-1687), and procedures in PDL."""
+"""What tells a tester of the TAP, in the forms of the standards: a run in SVF, the TAP in BSDL, its register in ICL
+(IEEE 1687), and procedures in PDL."""
 from __future__ import annotations
 
 import re
@@ -7,9 +7,9 @@ import re
 from vidlakost_tools.access_block import Target
 from vidlakost_tools.tap import IDCODE, Part, length, parts
 
-SVF = """! Starts the self-test of {name}, waits, and compares: it ends without a word where nothing is found, and the scan that is
-! told as different has all that `vidlakost locate --tdr` wants.
-! The test takes {cycles} cycles of clk, which is to be {clock}.
+SVF = """! Starts the self-test of {name}, waits, and compares: it ends without a word where nothing is found, and the
+! scan that is told as different has all that `vidlakost locate --tdr` wants. The test takes {cycles} cycles of clk,
+! which is to be {clock}.
 TRST OFF;
 ENDIR IDLE;
 ENDDR IDLE;

@@ -1,4 +1,5 @@
-"""A module of the subset as VHDL-93, and a testbench that compares its ports in each cycle with the commands of a march."""
+"""A module of the subset as VHDL-93, and a testbench that compares its ports in each cycle with the commands of a
+march."""
 from __future__ import annotations
 
 import re
@@ -294,7 +295,8 @@ def vhdl(module: Module) -> str:
 
 
 def rows(elements: list[Element], memory: Memory, commands: list[str]) -> Iterator[str]:
-    """Of each cycle the ports en, we, addr, wdata, done and fail as they have to be, and the word on rdata; - is open."""
+    """Of each cycle the ports en, we, addr, wdata, done and fail as they have to be, and the word on rdata; - is
+    open."""
     width, bits = memory.width, memory.bits
     idle = f"0-{'-' * width}{'-' * bits}"
     issued = [idle]
@@ -318,8 +320,9 @@ def rows(elements: list[Element], memory: Memory, commands: list[str]) -> Iterat
         yield f"{ports}{int(cycle == last)}0{answer}"
 
 
-BENCH = """-- Compares the ports of {name} in each cycle with {file}, a line a cycle: en, we, addr, wdata, done, fail, and the word on
--- rdata, where - is open. With the generic plant the lowest bit of rdata is wrong in that cycle, and fail has to rise behind it.
+BENCH = """-- Compares the ports of {name} in each cycle with {file}, a line a cycle: en, we, addr, wdata, done, fail,
+-- and the word on rdata, where - is open. With the generic plant the lowest bit of rdata is wrong in that cycle, and
+-- fail has to rise behind it.
 library ieee;
 use ieee.std_logic_1164.all;
 use std.textio.all;
