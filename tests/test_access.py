@@ -27,7 +27,8 @@ def plain(name: str, bits: int) -> Memory:
 
 class Reads(unittest.TestCase):
     def test_the_first_read_of_the_second_element(self) -> None:
-        # four writes in the cycles 1 to 4, the read in cycle 5, its answer two later; the port has what is stored inverted
+        # four writes in the cycles 1 to 4, the read in cycle 5, its answer two later; the port has the stored bits
+        # inverted where the polarity is 1
         read = read_of(elements_of(MARCH), memory(), 7)
         self.assertEqual((read.background, read.element, read.operation, read.index, read.expected), (0, 1, 0, 0, 5))
 

@@ -80,7 +80,8 @@ class Target:
     def result(self) -> list[Port]:
         """What is kept of the first failure."""
         words = [Port("output", name, self.word) for name in ("expected", "returned")]
-        return [Port("output", "cycle", 32), *words] + ([Port("output", "unit", self.unit_bits)] if self.is_chip else [])
+        unit = [Port("output", "unit", self.unit_bits)] if self.is_chip else []
+        return [Port("output", "cycle", 32), *words, *unit]
 
     def choice(self) -> list[Port]:
         """Of a chip the units whose failures are not kept."""

@@ -32,7 +32,8 @@ def svf(target: Target, mhz: float | None) -> str:
     """A run that compares the state and the bits of `fail`."""
     size = length(target)
     digits = (size + 3) // 4
-    mask = sum((1 << part.width) - 1 << part.low for part in parts(target) if part.name in ("start", "done", "fail", "seen", "failing"))
+    compared = ("start", "done", "fail", "seen", "failing")
+    mask = sum((1 << part.width) - 1 << part.low for part in parts(target) if part.name in compared)
     clock = "at least as fast as TCK" if mhz is None else f"of at least {mhz:g} MHz"
     return SVF.format(
         name=target.name,
@@ -97,14 +98,19 @@ def bits_of(part: Part) -> str:
     return f"[{part.low + part.width - 1}:{part.low}]" if part.width > 1 else f"[{part.low}]"
 
 
+def span(width: int) -> str:
+    """The range of a port of so many bits."""
+    return f"[{width - 1}:0]" if width > 1 else ""
+
+
 def icl(target: Target) -> str:
     """The register as a module of ICL, and the TAP that reaches it by its instruction."""
     told = parts(target)
     ports = [
-        f"  DataInPort {part.name}_now{f'[{part.width - 1}:0]' if part.width > 1 else ''};" for part in told if not part.writable
+        f"  DataInPort {part.name}_now{span(part.width)};" for part in told if not part.writable
     ]
     outs = [
-        f"  DataOutPort {part.name}_held{f'[{part.width - 1}:0]' if part.width > 1 else ''} {{ Source data{bits_of(part)}; }}"
+        f"  DataOutPort {part.name}_held{span(part.width)} {{ Source data{bits_of(part)}; }}"
         for part in told
         if part.writable
     ]
@@ -112,8 +118,12 @@ def icl(target: Target) -> str:
     size = length(target)
     lines = [
         f"Module {target.name}_register {{",
-        *(f"  {kind} {name};" for kind, name in (("TCKPort", "tck"), ("SelectPort", "sel"), ("CaptureEnPort", "capture"))),
-        *(f"  {kind} {name};" for kind, name in (("ShiftEnPort", "shift"), ("UpdateEnPort", "update"), ("ScanInPort", "si"))),
+        "  TCKPort tck;",
+        "  SelectPort sel;",
+        "  CaptureEnPort capture;",
+        "  ShiftEnPort shift;",
+        "  UpdateEnPort update;",
+        "  ScanInPort si;",
         "  ResetPort reset_n { ActivePolarity 0; }",
         "  ScanOutPort so { Source data[0]; }",
         *ports,

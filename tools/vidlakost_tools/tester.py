@@ -105,7 +105,8 @@ def register_of(target: Target, text: str) -> dict[str, int]:
 def state_lines(found: dict[str, int], target: Target) -> Iterator[str]:
     """The state of a test in words; a register that can't be one is refused."""
     if not found["start"]:
-        raise ToolError("start is 0 there: no test runs, and what was found is gone. Keep start at 1 in the scan that reads")
+        why = "no test runs, and what was found is gone. Keep start at 1 in the scan that reads"
+        raise ToolError(f"start is 0 there: {why}")
     if found["seen"] and not found["fail"] or target.is_chip and bool(found["failing"]) != bool(found["fail"]):
         raise ToolError("the bits of the state disagree: is the register turned round, or shifted by a bit?")
     yield "done" if found["done"] else "not done: the test still runs, or its clock does not"
