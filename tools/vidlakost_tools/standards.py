@@ -107,14 +107,16 @@ def icl(target: Target) -> str:
     """The register as a module of ICL, and the TAP that reaches it by its instruction."""
     told = parts(target)
     ports = [
-        f"  DataInPort {part.name}_now{span(part.width)};" for part in told if not part.writable
+        f"  DataInPort {part.name}_now{span(part.width)};" for part in told if part.name != "ignore"
     ]
     outs = [
         f"  DataOutPort {part.name}_held{span(part.width)} {{ Source data{bits_of(part)}; }}"
         for part in told
         if part.writable
     ]
-    captured = ", ".join(f"data{bits_of(part)}" if part.writable else f"{part.name}_now" for part in reversed(told))
+    # of start it is captured whether it has arrived
+    sources = [f"data{bits_of(part)}" if part.name == "ignore" else f"{part.name}_now" for part in reversed(told)]
+    captured = ", ".join(sources)
     size = length(target)
     lines = [
         f"Module {target.name}_register {{",
