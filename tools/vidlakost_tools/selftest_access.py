@@ -3,6 +3,7 @@ from __future__ import annotations
 
 import re
 import shutil
+import socket
 import subprocess
 import time
 
@@ -133,6 +134,13 @@ def in_ghdl(bench: Bench) -> None:
         bench.is_so(told in done.stdout and not done.returncode, f"vhdl: {done.stdout}{done.stderr}")
 
 
+def free_port() -> int:
+    """A port of this machine that nobody listens at."""
+    with socket.socket() as listener:
+        listener.bind(("127.0.0.1", 0))
+        return int(listener.getsockname()[1])
+
+
 def in_openocd(bench: Bench) -> None:
     """OpenOCD plays the SVF to a model of the TAP, sound and with a planted fault, whose place the register tells."""
     if not all(map(shutil.which, ("openocd", "verilator", "make"))):
@@ -144,8 +152,11 @@ def in_openocd(bench: Bench) -> None:
     done = bench.run(["bash", "-c", f"cd board && {build}"])
     bench.is_so(not done.returncode and "Warning" not in done.stdout + done.stderr, f"board: {done.stdout}{done.stderr}")
     trials: list[tuple[list[str], str]] = [([], "0 errors"), (["0", "3", "0", "1"], "READ = ")]
+    config = bench.folder / "board" / "late.cfg"
     for planted, wanted in trials:
-        model = subprocess.Popen(["built/Vboard", "9877", *planted], cwd=bench.folder / "board")
+        port = free_port()
+        config.write_text(re.sub(r"port \d+\n", f"port {port}\n", config.read_text(), count=1))
+        model = subprocess.Popen(["built/Vboard", str(port), *planted], cwd=bench.folder / "board")
         time.sleep(0.5)
         call = "timeout 60 openocd -f late.cfg -c 'svf late.svf' -c shutdown 2>&1"
         said = bench.run(["bash", "-c", f"cd board && {call}"]).stdout
