@@ -7,7 +7,7 @@ import unittest
 
 from vidlakost_tools import access_block, tap, tester, vhdl_text
 from vidlakost_tools.access_block import Target, Unit
-from vidlakost_tools.fail_log import read_log
+from vidlakost_tools.fail_log import Entry, read_log
 from vidlakost_tools.march import elements_of
 from vidlakost_tools.memory import Memory
 from vidlakost_tools.reads import read_of
@@ -17,14 +17,18 @@ from vidlakost_tools.verilog import Reader
 MARCH = "{any(w0);up(r0,w1);del;down(r1)}"
 
 
-def memory(**changed) -> Memory:
-    given = dict(name="m", words=4, bits=4, latency=2, polarity=5, pause=3, rows=None, backgrounds=[0, 0xA])
-    return Memory(**{**given, **changed})
+def memory() -> Memory:
+    return Memory("m", words=4, bits=4, latency=2, polarity=5, pause=3, rows=None, backgrounds=[0, 0xA])
+
+
+def plain(name: str, bits: int) -> Memory:
+    return Memory(name, words=4, bits=bits, latency=1, polarity=0, pause=1, rows=None, backgrounds=[0])
 
 
 class Reads(unittest.TestCase):
     def test_the_first_read_of_the_second_element(self) -> None:
-        # four writes in the cycles 1 to 4, the read in cycle 5, its answer two later; the port has what is stored inverted
+        # four writes in the cycles 1 to 4, the read in cycle 5, its answer two later; the port has the stored bits
+        # inverted where the polarity is 1
         read = read_of(elements_of(MARCH), memory(), 7)
         self.assertEqual((read.background, read.element, read.operation, read.index, read.expected), (0, 1, 0, 0, 5))
 
@@ -53,10 +57,10 @@ class Register(unittest.TestCase):
         self.assertEqual(found, [*state, ("cycle", 4, 32), ("expected", 36, 4), ("returned", 40, 4)])
 
     def test_the_parts_of_a_chip(self) -> None:
-        units = [Unit(memory(name=name, bits=bits, backgrounds=[0]), f"_{number}") for number, (name, bits) in enumerate((("a", 4), ("b", 9), ("c", 4)))]
+        units = [Unit(plain(f"m{number}", bits), f"_{number}") for number, bits in enumerate((4, 9, 4))]
         found = [(part.name, part.low, part.width) for part in tap.parts(Target("x", "x", units, True))][4:]
-        wanted = [("cycle", 4, 32), ("expected", 36, 9), ("returned", 45, 9), ("unit", 54, 2), ("failing", 56, 3), ("ignore", 59, 3)]
-        self.assertEqual(found, wanted)
+        words = [("cycle", 4, 32), ("expected", 36, 9), ("returned", 45, 9)]
+        self.assertEqual(found, [*words, ("unit", 54, 2), ("failing", 56, 3), ("ignore", 59, 3)])
 
     def test_a_failure(self) -> None:
         lines = tester.of_register(self.target, [elements_of(MARCH)], "4500000007f", 2)
@@ -78,7 +82,7 @@ class Bits(unittest.TestCase):
 
 
 class Logs(unittest.TestCase):
-    def read(self, text: str):
+    def read(self, text: str) -> tuple[list[Entry], bool]:
         with tempfile.TemporaryDirectory() as folder:
             path = pathlib.Path(folder) / "log"
             path.write_text(text)
@@ -97,10 +101,12 @@ class Logs(unittest.TestCase):
 class Vhdl(unittest.TestCase):
     def test_names(self) -> None:
         names = vhdl_text.Names(["In", "in", "addr", "a$", "x_", "process"])
-        self.assertEqual([names.of(name) for name in ("In", "addr", "a$", "x_", "process")], ["\\In\\", "addr", "\\a$\\", "\\x_\\", "\\process\\"])
+        found = [names.of(name) for name in ("In", "addr", "a$", "x_", "process")]
+        self.assertEqual(found, ["\\In\\", "addr", "\\a$\\", "\\x_\\", "\\process\\"])
 
     def test_an_assign(self) -> None:
-        text = vhdl_text.vhdl(Reader("module m(input [1:0] a, output b);\n  assign b = (a[1] ? 1'h1 : (a == 2'h1));\nendmodule\n").module())
+        source = "module m(input [1:0] a, output b);\n  assign b = (a[1] ? 1'h1 : (a == 2'h1));\nendmodule\n"
+        text = vhdl_text.vhdl(Reader(source).module())
         self.assertIn('  v_b <= choose(v_a(1 downto 1), unsigned\'("1"), equal(v_a, unsigned\'("01")));', text)
 
 

@@ -1,8 +1,9 @@
-"""What stands round a self-test so that a tester starts it and reads what it found: a start that is synchronised, the state,
-and the cycle and the words of the first failure."""
+"""What stands round a self-test so that a tester starts it and reads what it found: a start that is synchronised, the
+state, and the cycle and the words of the first failure."""
 from __future__ import annotations
 
 import dataclasses
+from typing import Callable
 
 from vidlakost_tools.chip import Chip
 from vidlakost_tools.memory import Memory
@@ -43,8 +44,8 @@ class Unit:
 
 @dataclasses.dataclass
 class Target:
-    """What is tested: one memory, or the memories of a chip, the module of the self-test, and the cycle of `done` where the
-    march is known."""
+    """What is tested: one memory, or the memories of a chip, the module of the self-test, and the cycle of `done` where
+    the march is known."""
 
     name: str
     top: str
@@ -78,8 +79,9 @@ class Target:
 
     def result(self) -> list[Port]:
         """What is kept of the first failure."""
-        kept = [Port("output", "cycle", 32), Port("output", "expected", self.word), Port("output", "returned", self.word)]
-        return kept + ([Port("output", "unit", self.unit_bits)] if self.is_chip else [])
+        words = [Port("output", name, self.word) for name in ("expected", "returned")]
+        unit = [Port("output", "unit", self.unit_bits)] if self.is_chip else []
+        return [Port("output", "cycle", 32), *words, *unit]
 
     def choice(self) -> list[Port]:
         """Of a chip the units whose failures are not kept."""
@@ -102,14 +104,18 @@ BUILT_IN = {"process", "mailbox", "semaphore"}
 
 def of_chip(chip: Chip) -> Target:
     if chip.name in RESERVED | BUILT_IN:
-        raise ToolError(f"'{chip.name}' is a word of SystemVerilog, so most simulators refuse the chip's module: give it another name")
+        why = "is a word of SystemVerilog, so most simulators refuse the chip's module: give it another name"
+        raise ToolError(f"'{chip.name}' {why}")
     units = [Unit(unit.memory, f"_{number}", unit.start) for number, unit in enumerate(chip.units)]
     return Target(chip.name, chip.name, units, True, chip.done)
 
 
-def header(about: str, name: str, ports: list[Port], registers: tuple = ()) -> str:
+def header(about: str, name: str, ports: list[Port], registers: tuple[str, ...] = ()) -> str:
     """The comment, the name and the ports of a module."""
-    lines = [port.declared().replace("output ", "output reg ", 1) if port.name in registers else port.declared() for port in ports]
+    lines = []
+    for port in ports:
+        kept = port.name in registers
+        lines.append(port.declared().replace("output ", "output reg ", 1) if kept else port.declared())
     return f"{about}\nmodule {name}(\n  " + ",\n  ".join(lines) + "\n);\n"
 
 
@@ -131,8 +137,8 @@ def extended(name: str, width: int, to: int) -> str:
 
 
 def pipeline(unit: Unit) -> tuple[list[str], list[str]]:
-    """The declarations and the assignments of the words of a unit: what returned in the cycle before, and what the write
-    data were when the read of that answer was commanded."""
+    """The declarations and the assignments of the words of a unit: what returned in the cycle before, and what the
+    write data were when the read of that answer was commanded."""
     word, suffix = ranged(unit.memory.bits), unit.suffix
     names = [f"want{suffix}_{count}" for count in range(1, unit.memory.latency + 2)]
     declared = [f"  reg {word}{name};" for name in (f"answer{suffix}", *names)]
@@ -141,7 +147,7 @@ def pipeline(unit: Unit) -> tuple[list[str], list[str]]:
     return declared, [f"    answer{suffix} <= rdata{suffix};", *moved]
 
 
-def chosen(target: Target, value) -> str:
+def chosen(target: Target, value: Callable[[int], str]) -> str:
     """What `value` answers of the first unit whose bit of `rises` is 1."""
     if not target.is_chip:
         return value(0)
@@ -205,8 +211,12 @@ def access(target: Target) -> str:
     fail = "a bit for each unit, the first one's lowest" if target.is_chip else "a read was wrong"
     about = ACCESS.format(name=target.name, what="memories" if target.is_chip else "memory", fail=fail)
     if target.is_chip:
-        about += "\n//   unit       whose failure it is\n//   ignore     a bit for each unit whose failures are not kept; it stays as it is while start is 1"
-    state = [Port("output", "test"), Port("output", "done"), Port("output", "fail", target.count), Port("output", "seen")]
+        about += (
+            "\n//   unit       whose failure it is"
+            "\n//   ignore     a bit for each unit whose failures are not kept; it stays as it is while start is 1"
+        )
+    state = [Port("output", name) for name in ("test", "done", "fail", "seen")]
+    state[2].width = target.count
     ports = [Port("input", "clk"), Port("input", "start"), *target.choice(), *target.ports(), *state, *target.result()]
     kept = ("done", "seen", *(port.name for port in target.result()))
     declared, moved = [], []
@@ -240,8 +250,9 @@ def access(target: Target) -> str:
 
 # ---- from one clock to the other
 
-CROSS = """// Between the clock of a bus and that of the memories of {name}: a start goes over when the one before it has arrived,
-// and the state comes back behind two registers, `done` behind three, so that no `done` is seen before what it stands for.
+CROSS = """// Between the clock of a bus and that of the memories of {name}: a start goes over when the one before it
+// has arrived, and the state comes back behind two registers, `done` behind three, so that no `done` is seen before
+// what it stands for.
 module {name}_cross(
   input clock,
   input reset_n,
@@ -305,9 +316,10 @@ def inside(target: Target, clock: str, reset_n: str) -> str:
         ("is_seen", 1),
         *((port.name, port.width) for port in target.result()),
     ]
-    names = [Port("", name) for name in ("test", "done", "fail", "seen", "start", "has_test", "is_done", "has_failed", "is_seen")]
+    found = ["test", "done", "fail", "seen"]
+    names = [Port("", name) for name in (*found, "start", "has_test", "is_done", "has_failed", "is_seen")]
     lines = [f"  wire {ranged(width)}{name};" for name, width in wires]
-    behind = [*target.choice(), *target.ports(), *(Port("", name) for name in ("test", "done", "fail", "seen")), *target.result()]
+    behind = [*target.choice(), *target.ports(), *(Port("", name) for name in found), *target.result()]
     lines += [
         f"  {target.name}_cross crossing(.clock({clock}), .reset_n({reset_n}), .want(want),",
         f"    {links(names)});",
@@ -318,7 +330,8 @@ def inside(target: Target, clock: str, reset_n: str) -> str:
 
 # ---- memories for the testbenches
 
-MODEL = """// Memories for the testbenches of {name}, not for a chip. Where `planted` is 1, one bit of one word{unit} is stuck.
+MODEL = """// Memories for the testbenches of {name}, not for a chip. Where `planted` is 1, one bit of one word{unit} is
+// stuck.
 module {name}_model(
   input clk,
   {ports},
@@ -364,9 +377,11 @@ def model(target: Target) -> str:
                 bits=it.bits,
             )
         )
-    turned = [Port("output" if port.direction == "input" else "input", port.name, port.width) for port in target.ports()]
+    ways = {"input": "output", "output": "input"}
+    turned = [Port(ways[port.direction], port.name, port.width) for port in target.ports()]
     ports = ",\n  ".join(port.declared() for port in turned)
-    return MODEL.format(name=target.name, ports=ports, parts="".join(parts), unit=" of one unit" if target.is_chip else "")
+    which = " of one unit" if target.is_chip else ""
+    return MODEL.format(name=target.name, ports=ports, parts="".join(parts), unit=which)
 
 
 def model_links(target: Target) -> str:

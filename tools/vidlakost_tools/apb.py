@@ -41,7 +41,11 @@ def parts_of(name: str, source: str, width: int, at: int, about: str) -> list[Re
     low = Field(f"{name.lower()}_low", 0, 32, f"(is_seen ? {source}[31:0] : 32'd0)", f"{about}, its lower 32 bits")
     high_bits = f"{source}[{width - 1}:32]" if width > 33 else f"{source}[32]"
     high = Field(
-        f"{name.lower()}_high", 0, width - 32, f"(is_seen ? {high_bits} : {zero(width - 32)})", f"{about}, its upper bits"
+        f"{name.lower()}_high",
+        0,
+        width - 32,
+        f"(is_seen ? {high_bits} : {zero(width - 32)})",
+        f"{about}, its upper bits",
     )
     return [Register(f"{name}_LOW", at, [low]), Register(f"{name}_HIGH", at + 4, [high])]
 
@@ -53,13 +57,17 @@ def registers(target: Target) -> list[Register]:
         Field("fail", 2, 1, f"(has_failed != {zero(target.count)})", "a read was wrong"),
         Field("seen", 3, 1, "is_seen", "CYCLE, EXPECTED and RETURNED stand"),
     ]
-    unit = [Register("UNIT", 0x0C, [Field("unit", 0, target.unit_bits, f"(is_seen ? unit : {zero(target.unit_bits)})", "whose failure it is")])]
-    ignore = Field("ignore", 0, target.count, "ignore", "a bit for each unit whose failures are not kept; it stays while START is 1")
+    bits = target.unit_bits
+    whose = Field("unit", 0, bits, f"(is_seen ? unit : {zero(bits)})", "whose failure it is")
+    loose = "a bit for each unit whose failures are not kept; it stays while START is 1"
+    ignore = Field("ignore", 0, target.count, "ignore", loose)
+    begin = Field("start", 0, 1, "want", "1 starts a test and keeps what it found; 0 ends it")
+    failing = Field("fail", 0, target.count, "has_failed", "a bit for each unit, the first one's lowest")
     return [
-        Register("CONTROL", 0x00, [Field("start", 0, 1, "want", "1 starts a test and keeps what it found; 0 ends it")], True),
+        Register("CONTROL", 0x00, [begin], True),
         Register("STATUS", 0x04, state),
-        Register("FAIL", 0x08, [Field("fail", 0, target.count, "has_failed", "a bit for each unit, the first one's lowest")]),
-        *(unit if target.is_chip else []),
+        Register("FAIL", 0x08, [failing]),
+        *([Register("UNIT", 0x0C, [whose])] if target.is_chip else []),
         *parts_of("CYCLE", "cycle", 32, 0x10, "of the first failure the cycle, as vidlakost locate takes it"),
         *parts_of("EXPECTED", "expected", target.word, 0x14, "the word that the march expects"),
         *parts_of("RETURNED", "returned", target.word, 0x1C, "the word that returned"),
@@ -67,8 +75,9 @@ def registers(target: Target) -> list[Register]:
     ]
 
 
-APB = """// The self-test of {name} behind an APB3 bus; {name}_apb.md tells the registers. There are no wait states. A transfer to an
-// address that has no register, and a write to one that is only read, end with pslverr at 1 and change nothing."""
+APB = """// The self-test of {name} behind an APB3 bus; {name}_apb.md tells the registers. There are no wait states. A
+// transfer to an address that has no register, and a write to one that is only read, end with pslverr at 1 and change
+// nothing."""
 
 
 def bus() -> list[Port]:
@@ -159,9 +168,10 @@ def table(target: Target) -> str:
             "",
             "All other bits are read as 0, and a write to them is without effect. Behind presetn all fields are 0.",
             "",
-            "To test: write 1 to CONTROL, read STATUS until `done` is 1, read the rest, and write 0 to CONTROL. What was found is",
-            "kept while START is 1. A test that is not done in the cycles of `vidlakost summary` does not end: its clock does not run,",
-            "or the module is another. A 0 behind a 1 ends a test at once, and a 1 behind that begins anew, however fast they come.",
+            "To test: write 1 to CONTROL, read STATUS until `done` is 1, read the rest, and write 0 to CONTROL. What",
+            "was found is kept while START is 1. A test that is not done in the cycles of `vidlakost summary` does not",
+            "end: its clock does not run, or the module is another. A 0 behind a 1 ends a test at once, and a 1 behind",
+            "that begins anew, however fast they come.",
             "",
         ]
     )

@@ -32,8 +32,8 @@ def through(text: str, memory: Memory, way: str, pins: list[str]) -> str:
     begin = text.index(f"  {memory.name}_bist bist(")
     end = text.index(";\n", begin) + 2
     placed = (
-        f"  {memory.name}_{kind} bist({links(bus)},\n    .clk(clk), .rdata(s_rdata), .en(s_en), .we(s_we), .addr(s_addr),"
-        " .wdata(s_wdata), .test(test));\n"
+        f"  {memory.name}_{kind} bist({links(bus)},\n    .clk(clk), .rdata(s_rdata), .en(s_en), .we(s_we),"
+        " .addr(s_addr), .wdata(s_wdata), .test(test));\n"
     )
     text = text[:begin] + placed + text[end:]
     ports = "".join(f"  {port.declared()},\n" for port in [Port("input", "clk"), *bus])

@@ -1,4 +1,5 @@
-"""A log of wrong reads: a comparator beside a self-test, with a small queue of cycles and words, and the text of such a log."""
+"""A log of wrong reads: a comparator beside a self-test, with a small queue of cycles and words, and the text of such a
+log."""
 from __future__ import annotations
 
 import dataclasses
@@ -11,8 +12,8 @@ from vidlakost_tools.text import lines_of, read_text
 from vidlakost_tools.tool import ToolError
 from vidlakost_tools.verilog import ranged
 
-LOG = """// The first {depth} wrong reads of the self-test of {name}: a comparator beside it. In the cycle of a read `wdata` has the word
-// that it expects, which has to stand on rdata {latency} cycles later.
+LOG = """// The first {depth} wrong reads of the self-test of {name}: a comparator beside it. In the cycle of a read
+// `wdata` has the word that it expects, which has to stand on rdata {latency} cycles later.
 //   test       as that of {name}_access; 0 clears the log
 //   pick       which entry stands on cycle and word, the first one is 0
 //   count      how many entries there are

@@ -1,4 +1,5 @@
-"""Which read a cycle of a test belongs to: its background, element, operation and index, and the word that it expects."""
+"""Which read a cycle of a test belongs to: its background, element, operation and index, and the word that it
+expects."""
 from __future__ import annotations
 
 import dataclasses

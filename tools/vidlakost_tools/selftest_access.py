@@ -3,28 +3,34 @@ from __future__ import annotations
 
 import re
 import shutil
+import socket
 import subprocess
 import time
+
+from vidlakost_tools.selftest_bench import Bench
+from vidlakost_tools.selftest_cases import FILES
 
 MARCH = "{any(w0);up(r0,w1);up(r1,w0);down(r0,w1);down(r1,w0);any(r0)}"
 LATE = (
     "memory 2\nname late\nwords 8\nbits 5\nlatency 4\npolarity 15\npause 7\nscramble a0 = p0 ^ p1\nscramble a1 = p1\n"
     "scramble a2 = p2 ^ 1\nbackgrounds 0 0a\n"
 )
-FILES = {
-    "access.m": MARCH + "\n",
-    "late.mem": LATE,
-    "odd.mem": "memory 1\nname odd$\nwords 4\nbits 1\n",
-    "pair.chip": "chip 1\nname pair\nbudget 3\nunit 2 access.m late.mem\nunit 2 access.m odd.mem\n",
-    "cross.chip": "chip 1\nname cross\nbudget 3\nunit 2 access.m late.mem\n",
-    "late_model.v": LATE,
-    "a.vhd": "module a(input clk, output b);\n  assign b = 1'h0;\nendmodule\n",
-    "wrong.log": "cycle 20 returned 0x1g\n",
-    "none.log": "fail 1\n",
-    "right.log": "cycle 13 returned 15\n",
-    "two.log": "module a(input clk);\nendmodule\nmodule b(input clk);\nendmodule\n",
-    "judged.report": "march {any(w0);up(r0)}\ncovered <0/1/-> SF\nclass SF 1 covered 1\ntotal 1 covered 1 escapes 0\n",
-}
+FILES.update(
+    {
+        "access.m": MARCH + "\n",
+        "late.mem": LATE,
+        "odd.mem": "memory 1\nname odd$\nwords 4\nbits 1\n",
+        "pair.chip": "chip 1\nname pair\nbudget 3\nunit 2 access.m late.mem\nunit 2 access.m odd.mem\n",
+        "cross.chip": "chip 1\nname cross\nbudget 3\nunit 2 access.m late.mem\n",
+        "late_model.v": LATE,
+        "a.vhd": "module a(input clk, output b);\n  assign b = 1'h0;\nendmodule\n",
+        "wrong.log": "cycle 20 returned 0x1g\n",
+        "none.log": "fail 1\n",
+        "right.log": "cycle 13 returned 15\n",
+        "two.log": "module a(input clk);\nendmodule\nmodule b(input clk);\nendmodule\n",
+        "judged.report": "march {any(w0);up(r0)}\ncovered <0/1/-> SF\nclass SF 1 covered 1\ntotal 1 covered 1 escapes 0\n",
+    }
+)
 CALLS = [
     ("", ["tools/access", "late.mem", "acc", "--apb", "--jtag", "--march", "access.m"], 0, "acc/late_tap.v", ""),
     ("", ["tools/access", "pair.chip", "acc2", "--apb", "--log", "4"], 0, "acc2/late_log.v", ""),
@@ -74,7 +80,7 @@ CALLS = [
 PLANTED = [(3, 0, 1, 6), (4, 4, 0, 0), (1, 2, 1, 5)]
 
 
-def compiled(bench, folder: str) -> None:
+def compiled(bench: Bench, folder: str) -> None:
     """A folder with the self-test of late and what stands round it."""
     (bench.folder / folder).mkdir(exist_ok=True)
     bench.run(["./vidlakost", "compile", "access.m", "late.mem", "empty.list", f"{folder}/late_bist.v", "late.report"])
@@ -82,7 +88,7 @@ def compiled(bench, folder: str) -> None:
     bench.run(["tools/share", "late.mem", "2", folder])
 
 
-def found(bench, folder: str, simulate: str) -> None:
+def found(bench: Bench, folder: str, simulate: str) -> None:
     """Each testbench finds nothing in a sound memory, and of a planted fault the index and the bit."""
     for kind in ("access", "apb", "tap", "log"):
         more = {"apb": "late_apb.v late_cross.v late_access.v", "tap": "late_tap.v late_cross.v late_access.v"}
@@ -103,7 +109,7 @@ def found(bench, folder: str, simulate: str) -> None:
             bench.is_so(holds, f"{kind} {plus}: {told}{said}")
 
 
-def in_icarus(bench) -> None:
+def in_icarus(bench: Bench) -> None:
     """The testbenches of `access`, `share` in Icarus, which has no warning."""
     if not shutil.which("iverilog"):
         print("iverilog is not installed, so what access writes is not run")
@@ -115,7 +121,7 @@ def in_icarus(bench) -> None:
     bench.is_so(done.stdout == "fail 10\n" and not done.stderr, f"share: {done.stdout}{done.stderr}")
 
 
-def in_ghdl(bench) -> None:
+def in_ghdl(bench: Bench) -> None:
     """A module in VHDL is in each cycle as the commands say."""
     if not shutil.which("ghdl"):
         print("ghdl is not installed, so no module is run in VHDL")
@@ -128,7 +134,14 @@ def in_ghdl(bench) -> None:
         bench.is_so(told in done.stdout and not done.returncode, f"vhdl: {done.stdout}{done.stderr}")
 
 
-def in_openocd(bench) -> None:
+def free_port() -> int:
+    """A port of this machine that nobody listens at."""
+    with socket.socket() as listener:
+        listener.bind(("127.0.0.1", 0))
+        return int(listener.getsockname()[1])
+
+
+def in_openocd(bench: Bench) -> None:
     """OpenOCD plays the SVF to a model of the TAP, sound and with a planted fault, whose place the register tells."""
     if not all(map(shutil.which, ("openocd", "verilator", "make"))):
         print("openocd or verilator is not installed, so no SVF is played")
@@ -138,8 +151,12 @@ def in_openocd(bench) -> None:
     build = f"verilator --cc --exe --build -Wall --prefix Vboard --top-module late_board --Mdir built {files}"
     done = bench.run(["bash", "-c", f"cd board && {build}"])
     bench.is_so(not done.returncode and "Warning" not in done.stdout + done.stderr, f"board: {done.stdout}{done.stderr}")
-    for planted, wanted in (([], "0 errors"), (["0", "3", "0", "1"], "READ = ")):
-        model = subprocess.Popen(["built/Vboard", "9877", *planted], cwd=bench.folder / "board")
+    trials: list[tuple[list[str], str]] = [([], "0 errors"), (["0", "3", "0", "1"], "READ = ")]
+    config = bench.folder / "board" / "late.cfg"
+    for planted, wanted in trials:
+        port = free_port()
+        config.write_text(re.sub(r"port \d+\n", f"port {port}\n", config.read_text(), count=1))
+        model = subprocess.Popen(["built/Vboard", str(port), *planted], cwd=bench.folder / "board")
         time.sleep(0.5)
         call = "timeout 60 openocd -f late.cfg -c 'svf late.svf' -c shutdown 2>&1"
         said = bench.run(["bash", "-c", f"cd board && {call}"]).stdout
@@ -152,4 +169,64 @@ def in_openocd(bench) -> None:
             bench.is_so("index 6 " in told and "bits 0\n" in told, f"openocd: {told}")
 
 
-PARTS = (in_icarus, in_ghdl, in_openocd)
+# a library of four cells, of which each takes a tenth of a nanosecond
+TABLES = "".join(f' {name}(scalar) {{ values("0.1"); }}' for name in ("cell_rise", "cell_fall", "rise_transition", "fall_transition"))
+CHECKS = "".join(f' {name}(scalar) {{ values("0.1"); }}' for name in ("rise_constraint", "fall_constraint"))
+
+
+def gate(name: str, pins: str, function: str) -> str:
+    """A gate of the library."""
+    made = "".join(f" pin({pin}) {{ direction : input; capacitance : 0.01; }}" for pin in pins)
+    timing = "".join(f' timing() {{ related_pin : "{pin}"; timing_sense : non_unate;{TABLES} }}' for pin in pins)
+    return f'cell({name}) {{ area : 1;{made} pin(Y) {{ direction : output; function : "{function}";{timing} }} }}'
+
+
+def library() -> str:
+    kinds = "".join(f' timing() {{ related_pin : "C"; timing_type : {kind}_rising;{CHECKS} }}' for kind in ("setup", "hold"))
+    flop = (
+        'cell(DFF) { area : 4; ff(IQ, IQN) { clocked_on : "C"; next_state : "D"; } '
+        f"pin(D) {{ direction : input; capacitance : 0.01;{kinds} }} pin(C) {{ direction : input; clock : true; capacitance : 0.01; }} "
+        'pin(Q) { direction : output; function : "IQ"; '
+        f'timing() {{ related_pin : "C"; timing_type : rising_edge; timing_sense : non_unate;{TABLES} }} }} }}'
+    )
+    cells = [gate("INV", "A", "!A"), gate("NAND", "AB", "!(A&B)"), gate("BUF", "A", "A"), flop]
+    units = 'delay_model : table_lookup; time_unit : "1ns"; voltage_unit : "1V"; current_unit : "1mA"; capacitive_load_unit(1, pf);'
+    units += "".join(f" {side}_threshold_pct_{way} : 50;" for side in ("input", "output") for way in ("rise", "fall"))
+    units += "".join(f" slew_{side}_threshold_pct_{way} : {at};" for side, at in (("lower", 20), ("upper", 80)) for way in ("rise", "fall"))
+    return "\n".join([f"library(few) {{ {units}", *cells, "}", ""])
+
+
+CELLS = """module \\$_NOT_ (input A, output Y); INV _TECHMAP_REPLACE_(.A(A), .Y(Y)); endmodule
+module \\$_NAND_ (input A, input B, output Y); NAND _TECHMAP_REPLACE_(.A(A), .B(B), .Y(Y)); endmodule
+"""
+STA = """read_liberty few.lib
+read_verilog gates.v
+link_design late_access
+read_sdc late_test.sdc
+check_setup -verbose
+puts "the checks are done"
+"""
+
+
+def in_opensta(bench: Bench) -> None:
+    """OpenSTA reads the constraints, and in the file for the test it finds nothing that is not constrained."""
+    if not all(map(shutil.which, ("sta", "yosys"))):
+        print("sta or yosys is not installed, so no constraints are read")
+        return
+    compiled(bench, "timing")
+    bench.run(["tools/sdc", "late.mem", "timing", "--mhz", "50"])
+    (bench.folder / "timing" / "few.lib").write_text(library())
+    (bench.folder / "timing" / "read.tcl").write_text(STA)
+    (bench.folder / "timing" / "cells.v").write_text(CELLS)
+    script = (
+        "read_verilog late_access.v late_bist.v; synth -flatten -top late_access; dfflibmap -liberty few.lib; "
+        "abc -g NAND; techmap -map cells.v; iopadmap -bits -outpad BUF A:Y; splitnets; clean; write_verilog -noattr gates.v"
+    )
+    done = bench.run(["bash", "-c", f"cd timing && yosys -q -p '{script}' >/dev/null && sta -no_splash -exit read.tcl 2>&1"])
+    bench.is_so(done.stdout == "the checks are done\n", f"sta: {done.stdout}{done.stderr}")
+    call = "sed -i /set_output_delay/d late_test.sdc && sta -no_splash -exit read.tcl 2>&1"
+    told = bench.run(["bash", "-c", f"cd timing && {call}"]).stdout
+    bench.is_so("unconstrained endpoints" in told, f"sta without output delays: {told}")
+
+
+PARTS = (in_icarus, in_ghdl, in_openocd, in_opensta)

@@ -6,14 +6,15 @@ from vidlakost_tools.access_block import Port, Target, Unit, header, model, mode
 from vidlakost_tools.memory import Memory
 from vidlakost_tools.verilog import ranged
 
-SHARE = """// One self-test of {name} for {count} equal memories, which do the same in step. Memory 0 is compared by the controller itself, each
-// other by a comparator beside it: in the cycle of a read wdata has the word that it expects, which has to stand on its rdata
-// {latency} cycles later. The bit of memory 0 is the lowest of fail."""
+SHARE = """// One self-test of {name} for {count} equal memories, which do the same in step. Memory 0 is compared by the
+// controller itself, each other by a comparator beside it: in the cycle of a read wdata has the word that it expects,
+// which has to stand on its rdata {latency} cycles later. The bit of memory 0 is the lowest of fail."""
 
 
 def target_of(memory: Memory, count: int) -> Target:
     """The memories of a testbench."""
-    return Target(f"{memory.name}_share", f"{memory.name}_bist", [Unit(memory, f"_{number}") for number in range(count)], True)
+    units = [Unit(memory, f"_{number}") for number in range(count)]
+    return Target(f"{memory.name}_share", f"{memory.name}_bist", units, True)
 
 
 def block(memory: Memory, count: int) -> str:

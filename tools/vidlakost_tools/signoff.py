@@ -5,6 +5,7 @@ import csv
 import dataclasses
 import html
 import io
+from typing import Iterator
 
 from vidlakost_tools import access_block, apb, tap
 from vidlakost_tools.access_block import Target
@@ -15,16 +16,16 @@ from vidlakost_tools.report import Report, read_report
 from vidlakost_tools.tool import ToolError
 
 FOOT = (
-    "A verdict holds for arrays of every size, from every content and in every choice of directions, and speaks of unlinked faults "
-    "of one and two cells, static or of two operations, and of losses over a pause. No verdict speaks of coupling inside one word, "
-    "linked faults, neighbourhoods, address decoder faults, stuck-open cells, or faults of the port, of the sense amplifiers or of "
-    "write masks. Nothing here speaks of timing."
+    "A verdict holds for arrays of every size, from every content and in every choice of directions, and speaks of "
+    "unlinked faults of one and two cells, static or of two operations, and of losses over a pause. No verdict "
+    "speaks of coupling inside one word, linked faults, neighbourhoods, address decoder faults, stuck-open cells, "
+    "or faults of the port, of the sense amplifiers or of write masks. Nothing here speaks of timing."
 )
 STYLE = (
-    "body { font-family: sans-serif; color: #222; margin: 2em auto; max-width: 76em; padding: 0 1em; line-height: 1.4 } "
-    "table { border-collapse: collapse; margin: 1em 0 } "
-    "th, td { padding: .25em .7em; border-bottom: 1px solid #ddd; text-align: left; vertical-align: top } "
-    "td.number { text-align: right } pre { background: #f5f5f5; padding: .7em }"
+    "body { font-family: sans-serif; color: #222; margin: 2em auto; max-width: 76em; padding: 0 1em; line-height: "
+    "1.4 } table { border-collapse: collapse; margin: 1em 0 } th, td { padding: .25em .7em; border-bottom: 1px "
+    "solid #ddd; text-align: left; vertical-align: top } td.number { text-align: right } pre { background: #f5f5f5; "
+    "padding: .7em }"
 )
 
 
@@ -48,11 +49,11 @@ def rows_of(reports: list[str], memories: list[str]) -> list[Row]:
         report = read_report(name)
         if report.memory is None:
             raise ToolError(f"{name}: this report is of `judge` and tells no memory; --all wants reports of `compile`")
-        memory = known.get(report.memory["name"])
+        memory = known.get(str(report.memory["name"]))
         if memory and (memory.words, memory.bits) != (report.memory["words"], report.memory["bits"]):
             raise ToolError(f"{name}: {memory.name} has another size in its description")
         rows.append(Row(report, memory))
-    unused = set(known) - {row.report.memory["name"] for row in rows if row.report.memory}
+    unused = set(known) - {str(row.report.memory["name"]) for row in rows if row.report.memory}
     if unused:
         raise ToolError(f"no report is of {', '.join(sorted(unused))}")
     return rows
@@ -71,7 +72,8 @@ def cells_of(row: Row, heads: list[str], mhz: float) -> list[str]:
     shape, (count, covered, _) = row.report.memory or {}, row.report.total
     told = {key: str(shape[key]) for key in ("words", "bits", "backgrounds", "commands")}
     told.update({kind: f"{good}/{of}" for kind, (of, good) in row.report.classes.items()})
-    told.update(memory=shape["name"], march=row.report.march, length=length_of(row.report.elements), total=f"{covered}/{count}")
+    told.update(memory=str(shape["name"]), march=row.report.march)
+    told.update(length=length_of(row.report.elements), total=f"{covered}/{count}")
     if row.cycles is not None:
         told.update(cycles=str(row.cycles), ms=f"{row.cycles / mhz / 1000:.3f}")
     return [told.get(head, "") for head in heads]
@@ -105,11 +107,12 @@ def sign_off(rows: list[Row], mhz: float) -> str:
     if all(row.cycles is not None for row in rows):
         cycles = [row.cycles or 0 for row in rows]
         body.append(
-            f"<p>One after another {sum(cycles):,} cycles, {sum(cycles) / mhz / 1000:.3f} ms at {mhz:g} MHz; all at once "
-            f"{max(cycles):,} cycles.</p>"
+            f"<p>One after another {sum(cycles):,} cycles, {sum(cycles) / mhz / 1000:.3f} ms at {mhz:g} MHz; "
+            f"all at once {max(cycles):,} cycles.</p>"
         )
     else:
-        body.append("<p>Cycles stand where the memory's description was given, which tells its latency and its pauses.</p>")
+        why = "which tells its latency and its pauses"
+        body.append(f"<p>Cycles stand where the memory's description was given, {why}.</p>")
     return document(f"Self-test of {len(rows)} memories", [*body, f"<p>{FOOT}</p>"])
 
 
@@ -125,7 +128,7 @@ def tested(words: list[str]) -> tuple[Target, list[tuple[str, list[Element], Mem
     return access_block.of_memory(memory, memory.cycles(elements) - 1), [(words[0], elements, memory, 0)]
 
 
-def holds(elements: list[Element], memory: Memory, start: int):
+def holds(elements: list[Element], memory: Memory, start: int) -> Iterator[str]:
     """The first and the last cycle of each pause, in which the clock may be stopped."""
     cycle = start + 1
     for _ in memory.backgrounds:
@@ -141,18 +144,20 @@ def tester_page(words: list[str], mhz: float) -> str:
     target, units = tested(words)
     done = target.done or 0
     what = f"{words[0]} --chip" if target.is_chip else " ".join(words)
-    rows = [
-        [str(number), memory.name, str(memory.words), str(memory.bits), march, str(start), ", ".join(holds(elements, memory, start)) or "none"]
-        for number, (march, elements, memory, start) in enumerate(units)
+    rows = []
+    for number, (march, elements, memory, start) in enumerate(units):
+        pauses = ", ".join(holds(elements, memory, start)) or "none"
+        rows.append([str(number), memory.name, str(memory.words), str(memory.bits), march, str(start), pauses])
+    registers = [
+        [f"0x{it.at:02x}", it.name, field.name, field.about] for it in apb.registers(target) for field in it.fields
     ]
-    registers = [[f"0x{it.at:02x}", it.name, field.name, field.about] for it in apb.registers(target) for field in it.fields]
     parts = [[part.bits, part.name, "written" if part.writable else ""] for part in tap.parts(target)]
     sound = "3 in the lowest digit of the register, 0x3 in STATUS"
     body = [
         "<h2>Start and wait</h2>",
-        f"<p>Write 1 to start. The test takes {done:,} cycles of clk, {done / mhz / 1000:.3f} ms at {mhz:g} MHz, and some more for "
-        "the start to arrive. Read until done is 1; where it does not come in that time the test does not end, which is a failure. "
-        "Keep start at 1 in each scan that reads: what was found is gone when it falls.</p>",
+        f"<p>Write 1 to start. The test takes {done:,} cycles of clk, {done / mhz / 1000:.3f} ms at {mhz:g} MHz, "
+        "and some more for the start to arrive. Read until done is 1; where it does not come in that time the test does "
+        "not end, which is a failure. Keep start at 1 in each scan that reads: what was found is gone when it falls.</p>",
         "<h2>Pass</h2>",
         f"<p>{sound}. Anything else is a failure.</p>",
         "<h2>What is tested, and where the clock may be stopped</h2>",

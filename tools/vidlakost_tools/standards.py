@@ -1,5 +1,5 @@
-"""What tells a tester of the TAP, in the forms of the standards: a run in SVF, the TAP in BSDL, its register in ICL (IEEE
-1687), and procedures in PDL."""
+"""What tells a tester of the TAP, in the forms of the standards: a run in SVF, the TAP in BSDL, its register in ICL
+(IEEE 1687), and procedures in PDL."""
 from __future__ import annotations
 
 import re
@@ -7,9 +7,9 @@ import re
 from vidlakost_tools.access_block import Target
 from vidlakost_tools.tap import IDCODE, Part, length, parts
 
-SVF = """! Starts the self-test of {name}, waits, and compares: it ends without a word where nothing is found, and the scan that is
-! told as different has all that `vidlakost locate --tdr` wants.
-! The test takes {cycles} cycles of clk, which is to be {clock}.
+SVF = """! Starts the self-test of {name}, waits, and compares: it ends without a word where nothing is found, and the
+! scan that is told as different has all that `vidlakost locate --tdr` wants. The test takes {cycles} cycles of clk,
+! which is to be {clock}.
 TRST OFF;
 ENDIR IDLE;
 ENDDR IDLE;
@@ -32,7 +32,8 @@ def svf(target: Target, mhz: float | None) -> str:
     """A run that compares the state and the bits of `fail`."""
     size = length(target)
     digits = (size + 3) // 4
-    mask = sum((1 << part.width) - 1 << part.low for part in parts(target) if part.name in ("start", "done", "fail", "seen", "failing"))
+    compared = ("start", "done", "fail", "seen", "failing")
+    mask = sum((1 << part.width) - 1 << part.low for part in parts(target) if part.name in compared)
     clock = "at least as fast as TCK" if mhz is None else f"of at least {mhz:g} MHz"
     return SVF.format(
         name=target.name,
@@ -97,23 +98,34 @@ def bits_of(part: Part) -> str:
     return f"[{part.low + part.width - 1}:{part.low}]" if part.width > 1 else f"[{part.low}]"
 
 
+def span(width: int) -> str:
+    """The range of a port of so many bits."""
+    return f"[{width - 1}:0]" if width > 1 else ""
+
+
 def icl(target: Target) -> str:
     """The register as a module of ICL, and the TAP that reaches it by its instruction."""
     told = parts(target)
     ports = [
-        f"  DataInPort {part.name}_now{f'[{part.width - 1}:0]' if part.width > 1 else ''};" for part in told if not part.writable
+        f"  DataInPort {part.name}_now{span(part.width)};" for part in told if part.name != "ignore"
     ]
     outs = [
-        f"  DataOutPort {part.name}_held{f'[{part.width - 1}:0]' if part.width > 1 else ''} {{ Source data{bits_of(part)}; }}"
+        f"  DataOutPort {part.name}_held{span(part.width)} {{ Source data{bits_of(part)}; }}"
         for part in told
         if part.writable
     ]
-    captured = ", ".join(f"data{bits_of(part)}" if part.writable else f"{part.name}_now" for part in reversed(told))
+    # of start it is captured whether it has arrived
+    sources = [f"data{bits_of(part)}" if part.name == "ignore" else f"{part.name}_now" for part in reversed(told)]
+    captured = ", ".join(sources)
     size = length(target)
     lines = [
         f"Module {target.name}_register {{",
-        *(f"  {kind} {name};" for kind, name in (("TCKPort", "tck"), ("SelectPort", "sel"), ("CaptureEnPort", "capture"))),
-        *(f"  {kind} {name};" for kind, name in (("ShiftEnPort", "shift"), ("UpdateEnPort", "update"), ("ScanInPort", "si"))),
+        "  TCKPort tck;",
+        "  SelectPort sel;",
+        "  CaptureEnPort capture;",
+        "  ShiftEnPort shift;",
+        "  UpdateEnPort update;",
+        "  ScanInPort si;",
         "  ResetPort reset_n { ActivePolarity 0; }",
         "  ScanOutPort so { Source data[0]; }",
         *ports,

@@ -1,4 +1,5 @@
-"""The self-test behind a TAP of IEEE 1149.1: the block and its testbench, and what tells a tester of it: SVF, BSDL, ICL, PDL."""
+"""The self-test behind a TAP of IEEE 1149.1: the block and its testbench, and what tells a tester of it: SVF, BSDL,
+ICL, PDL."""
 from __future__ import annotations
 
 import dataclasses
@@ -11,7 +12,8 @@ IDCODE = 0x10000A01
 
 @dataclasses.dataclass
 class Part:
-    """A part of the register of the instruction BIST, from its lowest bit on: what is captured, and whether an update writes it."""
+    """A part of the register of the instruction BIST, from its lowest bit on: what is captured, and whether an update
+    writes it."""
 
     name: str
     low: int
@@ -25,9 +27,11 @@ class Part:
 
 
 def parts(target: Target) -> list[Part]:
-    """The register: a digit of state, the cycle, the two words; of a chip the unit, its fails, and which are not kept."""
+    """The register: a digit of state, the cycle, the two words; of a chip the unit, its fails, and which are not
+    kept."""
     fail = f"(has_failed != {zero(target.count)})"
-    given = [("start", 1, "has_test", True), ("done", 1, "is_done", False), ("fail", 1, fail, False), ("seen", 1, "is_seen", False)]
+    given = [("start", 1, "has_test", True), ("done", 1, "is_done", False)]
+    given += [("fail", 1, fail, False), ("seen", 1, "is_seen", False)]
     given += [(name, width, f"(is_seen ? {name} : {zero(width)})", False) for name, width in kept(target)]
     if target.is_chip:
         given += [("failing", target.count, "has_failed", False), ("ignore", target.count, "ignore", True)]
@@ -140,7 +144,8 @@ def pins() -> list[Port]:
 
 def block(target: Target) -> str:
     """The module NAME_tap."""
-    table = "\n".join(f"//   {part.bits:12} {part.name}{', written' if part.writable else ''}" for part in parts(target))
+    ways = {True: ", written", False: ""}
+    table = "\n".join(f"//   {part.bits:12} {part.name}{ways[part.writable]}" for part in parts(target))
     about = TAP.format(name=target.name, length=length(target), table=table)
     ports = [*pins(), Port("input", "clk"), *target.ports(), Port("output", "test")]
     ignore = parts(target)[-1]

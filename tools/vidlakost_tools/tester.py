@@ -2,6 +2,7 @@
 from __future__ import annotations
 
 import re
+from typing import Iterator
 
 from vidlakost_tools import access_block
 from vidlakost_tools.access_block import Target
@@ -21,7 +22,7 @@ def word_of(text: str, bits: int, what: str) -> int:
     return int(text, 16)
 
 
-def told(read: Read, elements: list[Element], memory: Memory, mux: int):
+def told(read: Read, elements: list[Element], memory: Memory, mux: int) -> Iterator[str]:
     """A read in words."""
     element = elements[read.element]
     yield f"background {read.background} {memory.digits(memory.backgrounds[read.background])}"
@@ -31,11 +32,12 @@ def told(read: Read, elements: list[Element], memory: Memory, mux: int):
     yield f"address {memory.address_of(read.index)}"
 
 
-def bits_told(read: Read, memory: Memory, returned: int, mux: int):
+def bits_told(read: Read, memory: Memory, returned: int, mux: int) -> Iterator[str]:
     """The bits of a word that are not as they are expected, and their columns."""
     wrong = [bit for bit in range(memory.bits) if (read.expected ^ returned) >> bit & 1]
     if not wrong:
-        raise ToolError(f"{memory.digits(returned)} is the word that the march expects there: another march, memory or cycle?")
+        word = memory.digits(returned)
+        raise ToolError(f"{word} is the word that the march expects there: another march, memory or cycle?")
     yield f"bits {' '.join(map(str, wrong))}"
     yield f"columns {' '.join(str(bit * mux + read.index % mux) for bit in wrong)}"
 
@@ -43,15 +45,16 @@ def bits_told(read: Read, memory: Memory, returned: int, mux: int):
 def check_expected(read: Read, memory: Memory, expected: int) -> None:
     if expected != read.expected:
         raise ToolError(
-            f"the expected word is {memory.digits(expected)}, and this march expects {memory.digits(read.expected)} there: "
-            "another march, memory or cycle?"
+            f"the expected word is {memory.digits(expected)}, and this march expects {memory.digits(read.expected)} "
+            "there: another march, memory or cycle?"
         )
 
 
 def failing_units(bits: str, count: int) -> list[int]:
     """The units of the bits of `fail`, that of the first unit last."""
     if not re.fullmatch(f"[01]{{{count}}}", bits) or "1" not in bits:
-        raise ToolError(f"FAILBITS has {count} digits 0 and 1, that of unit 0 last, and one of them is 1; it is {shown(bits)}")
+        form = f"FAILBITS has {count} digits 0 and 1, that of unit 0 last, and one of them is 1"
+        raise ToolError(f"{form}; it is {shown(bits)}")
     return [number for number in range(count) if bits[count - 1 - number] == "1"]
 
 
@@ -69,19 +72,19 @@ def at_cycle(chip: Chip, cycle: int, units: list[int]) -> list[tuple[int, Read]]
     return found
 
 
-def in_chip(chip: Chip, cycle: int, units: list[int], words: list[str], mux: int):
+def in_chip(chip: Chip, cycle: int, units: list[int], words: list[str], mux: int) -> Iterator[str]:
     """The reads of the failing units in a cycle of the chip, in words."""
     found = at_cycle(chip, cycle, units)
     if words and len(found) > 1:
         names = ", ".join(str(number) for number, _ in found)
-        raise ToolError(f"the units {names} fail and answer in cycle {cycle}: whose are the words? Give the bit of one of them")
+        raise ToolError(f"the units {names} fail and answer in cycle {cycle}: whose are the words? Give one bit alone")
     for number, read in found:
         unit = chip.units[number]
         yield f"unit {number} {unit.memory.name}, cycle {cycle - unit.start} of its test"
         yield from of_read(read, unit.elements, unit.memory, words, mux)
 
 
-def of_read(read: Read, elements: list[Element], memory: Memory, words: list[str], mux: int):
+def of_read(read: Read, elements: list[Element], memory: Memory, words: list[str], mux: int) -> list[str]:
     """A read in words, with the bits that differ where the two words are there."""
     lines = list(told(read, elements, memory, mux))
     if words:
@@ -99,15 +102,17 @@ def register_of(target: Target, text: str) -> dict[str, int]:
     return {part.name: value >> part.low & (1 << part.width) - 1 for part in parts(target)}
 
 
-def state_lines(found: dict[str, int], target: Target):
+def state_lines(found: dict[str, int], target: Target) -> Iterator[str]:
     """The state of a test in words; a register that can't be one is refused."""
     if not found["start"]:
-        raise ToolError("start is 0 there: no test runs, and what was found is gone. Keep start at 1 in the scan that reads")
+        why = "no test runs, and what was found is gone. Keep start at 1 in the scan that reads"
+        raise ToolError(f"start is 0 there: {why}")
     if found["seen"] and not found["fail"] or target.is_chip and bool(found["failing"]) != bool(found["fail"]):
         raise ToolError("the bits of the state disagree: is the register turned round, or shifted by a bit?")
     yield "done" if found["done"] else "not done: the test still runs, or its clock does not"
     if target.is_chip and found["failing"]:
-        yield "fail " + " ".join(f"{number} {unit.memory.name}" for number, unit in enumerate(target.units) if found["failing"] >> number & 1)
+        failing = [number for number in range(target.count) if found["failing"] >> number & 1]
+        yield "fail " + ", ".join(f"{number} {target.units[number].memory.name}" for number in failing)
     if not found["seen"]:
         yield "fail, and its cycle is not kept" if found["fail"] else "no wrong read was seen"
 
@@ -129,7 +134,8 @@ def of_register(target: Target, marches: list[list[Element]], text: str, mux: in
     words = [f"{found['expected']:x}", f"{found['returned']:x}"]
     if target.is_chip:
         lines.append(f"unit {number} {unit.memory.name}, cycle {found['cycle'] - unit.start} of its test")
-    lines.append(f"cycle {found['cycle']} expected {unit.memory.digits(found['expected'])} returned {unit.memory.digits(found['returned'])}")
+    told = [unit.memory.digits(found[word]) for word in ("expected", "returned")]
+    lines.append(f"cycle {found['cycle']} expected {told[0]} returned {told[1]}")
     return [*lines, *of_read(read, marches[number], unit.memory, words, mux)]
 
 

@@ -1,7 +1,9 @@
-"""A module of the subset as VHDL-93, and a testbench that compares its ports in each cycle with the commands of a march."""
+"""A module of the subset as VHDL-93, and a testbench that compares its ports in each cycle with the commands of a
+march."""
 from __future__ import annotations
 
 import re
+from typing import Iterator
 
 from vidlakost_tools.march import Element
 from vidlakost_tools.memory import Memory
@@ -9,11 +11,14 @@ from vidlakost_tools.tool import ToolError
 from vidlakost_tools.verilog import Always, Assign, Block, Case, Declared, Expression, If, Module, Set, Statement
 
 RESERVED = set(
-    "abs access after alias all and architecture array assert attribute begin block body buffer bus case component configuration "
-    "constant disconnect downto else elsif end entity exit file for function generate generic group guarded if impure in inertial "
-    "inout is label library linkage literal loop map mod nand new next nor not null of on open or others out package port "
-    "postponed procedure process pure range record register reject rem report return rol ror select severity shared signal sla "
-    "sll sra srl subtype then to transport type unaffected units until use variable wait when while with xnor xor".split()
+    (
+        "abs access after alias all and architecture array assert attribute begin block body buffer bus case "
+        "component configuration constant disconnect downto else elsif end entity exit file for function generate "
+        "generic group guarded if impure in inertial inout is label library linkage literal loop map mod nand new "
+        "next nor not null of on open or others out package port postponed procedure process pure range record "
+        "register reject rem report return rol ror select severity shared signal sla sll sra srl subtype then to "
+        "transport type unaffected units until use variable wait when while with xnor xor"
+    ).split()
 )
 # what the architecture itself names
 OWN = set("ieee std_logic std_logic_vector unsigned work rtl std truth is_known known choose same is_true".split())
@@ -202,7 +207,8 @@ def statement(it: Statement, names: Names, margin: str) -> list[str]:
     if isinstance(it, Block):
         return [line for part in it.parts for line in statement(part, names, margin)] or [f"{margin}null;"]
     if isinstance(it, If):
-        lines = [f"{margin}if is_true({expression(it.condition, names)}) then", *statement(it.then, names, margin + "  ")]
+        lines = [f"{margin}if is_true({expression(it.condition, names)}) then"]
+        lines += statement(it.then, names, margin + "  ")
         if it.otherwise is not None:
             lines += [f"{margin}else", *statement(it.otherwise, names, margin + "  ")]
         return [*lines, f"{margin}end if;"]
@@ -231,7 +237,8 @@ def kind_of(port: Declared) -> str:
 
 def port_lines(module: Module, names: Names, margin: str) -> str:
     lines = [
-        f"{margin}{names.of(port.token.text)} : {'in' if port.kind == 'input' else 'out'} {kind_of(port)}" for port in module.ports
+        f"{margin}{names.of(port.token.text)} : {'in' if port.kind == 'input' else 'out'} {kind_of(port)}"
+        for port in module.ports
     ]
     return ";\n".join(lines)
 
@@ -251,7 +258,8 @@ def item(it: Declared | Assign | Always, names: Names) -> list[str]:
     if isinstance(it, Always):
         clock = names.of(it.clock.text)
         body = statement(it.body, names, "      ")
-        return [f"  process ({clock})", "  begin", f"    if rising_edge({clock}) then", *body, "    end if;", "  end process;"]
+        head = [f"  process ({clock})", "  begin", f"    if rising_edge({clock}) then"]
+        return [*head, *body, "    end if;", "  end process;"]
     return []
 
 
@@ -292,8 +300,9 @@ def vhdl(module: Module) -> str:
 # ---- the cycles of a test, as lines of bits
 
 
-def rows(elements: list[Element], memory: Memory, commands: list[str]):
-    """Of each cycle the ports en, we, addr, wdata, done and fail as they have to be, and the word on rdata; - is open."""
+def rows(elements: list[Element], memory: Memory, commands: list[str]) -> Iterator[str]:
+    """Of each cycle the ports en, we, addr, wdata, done and fail as they have to be, and the word on rdata; - is
+    open."""
     width, bits = memory.width, memory.bits
     idle = f"0-{'-' * width}{'-' * bits}"
     issued = [idle]
@@ -317,8 +326,9 @@ def rows(elements: list[Element], memory: Memory, commands: list[str]):
         yield f"{ports}{int(cycle == last)}0{answer}"
 
 
-BENCH = """-- Compares the ports of {name} in each cycle with {file}, a line a cycle: en, we, addr, wdata, done, fail, and the word on
--- rdata, where - is open. With the generic plant the lowest bit of rdata is wrong in that cycle, and fail has to rise behind it.
+BENCH = """-- Compares the ports of {name} in each cycle with {file}, a line a cycle: en, we, addr, wdata, done, fail,
+-- and the word on rdata, where - is open. With the generic plant the lowest bit of rdata is wrong in that cycle, and
+-- fail has to rise behind it.
 library ieee;
 use ieee.std_logic_1164.all;
 use std.textio.all;
@@ -384,7 +394,11 @@ begin
       cycle := cycle + 1;
     end loop;
     assert wrong = 0 report "the ports are not as the march's commands say" severity failure;
-    if fails then report "fail 1 done " & integer'image(cycle - 1); else report "fail 0 done " & integer'image(cycle - 1); end if;
+    if fails then
+      report "fail 1 done " & integer'image(cycle - 1);
+    else
+      report "fail 0 done " & integer'image(cycle - 1);
+    end if;
     wait;
   end process;
 end test;
@@ -395,7 +409,8 @@ def vector_compare(name: str, width: int, first: int) -> str:
     """The comparison of a port whose highest bit is character `first` of a line."""
     if width == 1:
         return f'      compare({name}, {first}, "{name}");\n'
-    return f'      for i in 0 to {width - 1} loop\n        compare({name}(i), {first + width - 1} - i, "{name}");\n      end loop;\n'
+    each = f'        compare({name}(i), {first + width - 1} - i, "{name}");\n'
+    return f"      for i in 0 to {width - 1} loop\n{each}      end loop;\n"
 
 
 def bench(module: Module, memory: Memory) -> str:
@@ -408,10 +423,14 @@ def bench(module: Module, memory: Memory) -> str:
         raise ToolError(f"the ports of {module.name} are not as wide as those of {memory.name}")
     done = 3 + memory.width + memory.bits
     answer = done + 2
-    bit = "      if wanted({at}) = '1' then {to} <= '1'; elsif wanted({at}) = '0' then {to} <= '0'; else {to} <= 'X'; end if;\n"
+    bit = (
+        "      if wanted({at}) = '1' then {to} <= '1'; elsif wanted({at}) = '0' then {to} <= '0';\n"
+        "      else {to} <= 'X'; end if;\n"
+    )
     wide = memory.bits > 1
     drive = "".join(
-        bit.format(at=answer + memory.bits - 1 - number, to=f"rdata({number})" if wide else "rdata") for number in range(memory.bits)
+        bit.format(at=answer + memory.bits - 1 - number, to=f"rdata({number})" if wide else "rdata")
+        for number in range(memory.bits)
     )
     lowest = answer + memory.bits - 1
     low = "rdata(0)" if wide else "rdata"
