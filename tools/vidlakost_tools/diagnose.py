@@ -5,6 +5,7 @@ from __future__ import annotations
 import os
 import pathlib
 import re
+from typing import Iterator, Mapping
 
 from vidlakost_tools import diagnose_chips, diagnose_texts, diagnose_verilog
 from vidlakost_tools.faults import place_of, read_primitive
@@ -36,7 +37,7 @@ FIELDS = [
 CONSOLE = "vidlakost"
 
 
-def values_of(code: str, rest: str) -> dict:
+def values_of(code: str, rest: str) -> dict[str, str]:
     """What a refusal carries, by name."""
     if code == "N3":
         return dict(zip(("x", "y"), rest.split()))
@@ -49,7 +50,7 @@ def values_of(code: str, rest: str) -> dict:
     return {"name": rest} if rest else {}
 
 
-def words_by_name(words: list[str]) -> dict:
+def words_by_name(words: list[str]) -> dict[str, str]:
     """The words of a call by their names in the command's form."""
     return dict(zip(form_of(words[0])[1:], words[1:])) if words else {}
 
@@ -66,7 +67,7 @@ def once(word: str, said: str) -> list[str]:
     return [f"{word}: error: {meant}", "  the text came by a pipe or a device, so its place is not shown"]
 
 
-def meanings():
+def meanings() -> Iterator[tuple[str, str]]:
     """The pattern of each refusal of the tables of FORMATS, and when it comes."""
     for line in lines_of(read_text(FORMATS)):
         cells = [cell.strip() for cell in re.split(r"(?<!\\)\|", line)[1:-1]]
@@ -122,7 +123,7 @@ KINDS = {
 }
 
 
-def another_kind(subject: str, kind: str, text: bytes):
+def another_kind(subject: str, kind: str, text: bytes) -> Iterator[str]:
     """What is said of a text that begins with a byte-order mark, or as one of another kind does."""
     if text.startswith((b"\xef\xbb\xbf", b"\xff\xfe", b"\xfe\xff")):
         yield "the file begins with a byte-order mark: save it as plain UTF-8, without one"
@@ -135,7 +136,7 @@ def another_kind(subject: str, kind: str, text: bytes):
 # ---- the words of a call
 
 
-def wrong_word(name: str, word: str, named: dict) -> str | None:
+def wrong_word(name: str, word: str, named: Mapping[str, str]) -> str | None:
     """What is wrong with one word of a command, by itself."""
     if not word:
         return f"{name} is empty"
@@ -159,7 +160,7 @@ def wrong_word(name: str, word: str, named: dict) -> str | None:
     return None
 
 
-def wrong_cell(name: str, word: str, named: dict, size: int | None) -> str | None:
+def wrong_cell(name: str, word: str, named: Mapping[str, str], size: int | None) -> str | None:
     if word == "none" and name == "AGG":
         return None
     number = r"(?:0|[1-9]\d{0,8})"
@@ -261,7 +262,7 @@ def file_of(words: list[str], said: str) -> list[str]:
 # ---- cells, directions and cycles
 
 
-def memory_file(named: dict) -> Memory:
+def memory_file(named: Mapping[str, str]) -> Memory:
     return parse_memory(read_described(named["MEMORY"]))
 
 

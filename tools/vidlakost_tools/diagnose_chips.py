@@ -2,6 +2,7 @@
 from __future__ import annotations
 
 import re
+from typing import Mapping
 
 from vidlakost_tools.chip import units_of
 from vidlakost_tools.diagnose_texts import Description, early, repeated, unexpected
@@ -18,7 +19,7 @@ FIELDS = {
 MOST, LONGEST_NAME, LONGEST_FILE = 1_000_000, 48, 255
 
 
-def chip(name: str, text: bytes, code: str, values: dict) -> Finding:
+def chip(name: str, text: bytes, code: str, values: Mapping[str, str]) -> Finding:
     """What is wrong with a chip file."""
     description = Description(name, text)
     if code == "C2":
@@ -28,7 +29,7 @@ def chip(name: str, text: bytes, code: str, values: dict) -> Finding:
         line = int(values["line"])
         if description.statements[0][0] == line and description.statement(line)[0] != "chip":
             return description.found(description.at(line), "the first line that says anything has to be 'chip 1'")
-        return unexpected("chip", name, text, at_of(values, text), KEYWORDS)
+        return unexpected("chip", name, text, at_of(values, text) or 0, KEYWORDS)
     if code == "C3":
         return repeated(description, int(values["line"]))
     if code == "C4":

@@ -2,6 +2,7 @@
 from __future__ import annotations
 
 import re
+from typing import Mapping
 
 from vidlakost_tools.faults import Primitive, read_primitive
 from vidlakost_tools.finding import (
@@ -27,7 +28,7 @@ from vidlakost_tools.text import statements
 MARCH_WORDS = "up down any del w0 w1 r0 r1".split()
 
 
-def march(name: str, text: bytes, code: str, values: dict) -> Finding:
+def march(name: str, text: bytes, code: str, values: Mapping[str, str]) -> Finding:
     """What is wrong with a march."""
     if code == "M1":
         return unexpected("march", name, text, int(values["byte"]), MARCH_WORDS)
@@ -120,11 +121,11 @@ OLD_NAMES = {
 }
 
 
-def fault(name: str, text: bytes, code: str, values: dict, is_word: bool) -> Finding:
+def fault(name: str, text: bytes, code: str, values: Mapping[str, str], is_word: bool) -> Finding:
     """What is wrong with a list, or with a primitive among the words of a call."""
     line = int(values["line"])
     if code == "F1":
-        return no_item(name, text, at_of(values, text), is_word)
+        return no_item(name, text, at_of(values, text) or 0, is_word)
     if code == "F2":
         return early("list", name, text, "the primitive" if is_word else "the last line", is_word)
     body = text.split(b"\n")[line - 1].split(b"#")[0].decode("utf-8", "replace")
@@ -227,7 +228,7 @@ class Description:
         return rows_of(self.statements)
 
 
-def memory(name: str, text: bytes, code: str, values: dict) -> Finding:
+def memory(name: str, text: bytes, code: str, values: Mapping[str, str]) -> Finding:
     """What is wrong with a memory description."""
     description = Description(name, text)
     if code == "D2":
@@ -247,8 +248,8 @@ def memory(name: str, text: bytes, code: str, values: dict) -> Finding:
     return {"D7": no_power, "D8": no_solid, "D9": too_many, "D11": other_version}[code](description)
 
 
-def unexpected_statement(description: Description, values: dict) -> Finding:
-    line, at = int(values["line"]), at_of(values, description.text)
+def unexpected_statement(description: Description, values: Mapping[str, str]) -> Finding:
+    line, at = int(values["line"]), at_of(values, description.text) or 0
     word = description.statement(line)[0]
     if word in ("latency", "polarity", "pause") and description.number("memory") == 1:
         return description.found(

@@ -3,6 +3,7 @@ from __future__ import annotations
 
 import dataclasses
 import re
+from typing import Any, Mapping, Tuple
 
 from vidlakost_tools.diagnose_texts import early, unexpected
 from vidlakost_tools.finding import Finding, listed
@@ -42,7 +43,7 @@ class Event:
     kind: str
     name: str
     at: int
-    detail: tuple[object, ...] = ()
+    detail: Tuple[Any, ...] = ()
 
 
 class Events:
@@ -146,7 +147,7 @@ class Events:
         return high - low + 1
 
 
-def rule(name: str, text: bytes, code: str, values: dict) -> Finding:
+def rule(name: str, text: bytes, code: str, values: Mapping[str, str]) -> Finding:
     """The place of a broken rule, and what is wrong there."""
     module = Events(text)
     what = values.get("name", "")
@@ -159,7 +160,7 @@ def rule(name: str, text: bytes, code: str, values: dict) -> Finding:
     return Finding(name, text, None, f"the module breaks rule {code} {what}".rstrip())
 
 
-def broken(module: Events, event: Event, code: str, what: str, values: dict) -> str | None:
+def broken(module: Events, event: Event, code: str, what: str, values: Mapping[str, str]) -> str | None:
     """What is wrong with an event, where it is the one that breaks the rule."""
     if code == "N3":
         widths = (int(values["x"]), int(values["y"]))
@@ -268,13 +269,13 @@ def port(name: str, text: bytes, what: str, memory: Memory) -> Finding:
     )
 
 
-def verilog(name: str, text: bytes, code: str, values: dict, memory_file: str | None) -> Finding:
+def verilog(name: str, text: bytes, code: str, values: Mapping[str, str], memory_file: str | None) -> Finding:
     """What is wrong with a module."""
     if code == "L1":
         return unexpected("verilog", name, text, int(values["byte"]), WORDS)
     if code == "L2":
         return early("verilog", name, text, "the module")
-    if code == "B2":
+    if code == "B2" and memory_file is not None:
         return port(name, text, values["name"], parse_memory(read_described(memory_file)))
     if code[0] == "N":
         return rule(name, text, code, values)

@@ -16,7 +16,7 @@ def text(x: float, y: float, words: str, size: int = 11, anchor: str = "start", 
     return f"<text {place}{more}>{html.escape(words, quote=False)}</text>"
 
 
-def line(points: list, stroke: str = INK, width: float = 1.3, more: str = "") -> str:
+def line(points: list[tuple[float, float]], stroke: str = INK, width: float = 1.3, more: str = "") -> str:
     """A line through some points."""
     path = " ".join(f"{x:g},{y:g}" for x, y in points)
     return f'<polyline points="{path}" fill="none" stroke="{stroke}" stroke-width="{width:g}"{more}/>'

@@ -3,6 +3,7 @@ from __future__ import annotations
 
 import dataclasses
 import re
+from typing import Iterator
 
 from vidlakost_tools.march import Element
 from vidlakost_tools.tool import ToolError
@@ -95,6 +96,12 @@ class Array:
         self.operations = primitive.operations
         self.armed = False
 
+    def own_cell(self) -> int:
+        """The cell of the operations of a primitive that has some."""
+        if self.actor is None:
+            raise ToolError("the primitive has no operation")
+        return self.actor
+
     def holds(self) -> bool:
         return all(self.cells[cell] == part.state for cell, part in self.senses.items())
 
@@ -131,7 +138,7 @@ class Array:
         self.armed = first and self.cells[cell] == plain
         return answer, self.close() or acts
 
-    def march(self, elements: list[Element], directions: str):
+    def march(self, elements: list[Element], directions: str) -> Iterator[Step]:
         """The steps of a march, to the first read that differs."""
         yield Step(None, "", None, *self._behind(None, self.close()))
         for count, (element, direction) in enumerate(zip(elements, directions)):
@@ -146,5 +153,5 @@ class Array:
                     if step.differs:
                         return
 
-    def _behind(self, answer, acts):
+    def _behind(self, answer: int | None, acts: bool) -> tuple[str, int | None, bool]:
         return self.shown(), answer, acts

@@ -8,6 +8,7 @@ import pathlib
 import re
 import subprocess
 import tempfile
+from typing import Mapping
 
 from vidlakost_tools.program import quick_program
 
@@ -56,14 +57,14 @@ def line_start(text: bytes, line: int) -> int:
     return sum(len(part) + 1 for part in text.split(b"\n")[: line - 1])
 
 
-def at_of(values: dict, text: bytes) -> int | None:
+def at_of(values: Mapping[str, str], text: bytes) -> int | None:
     """The byte that the values of a refusal name."""
     if "line" in values:
         return line_start(text, int(values["line"])) + int(values.get("byte", 0))
     return int(values["byte"]) if "byte" in values else None
 
 
-def thousands(number) -> str:
+def thousands(number: int | str) -> str:
     return f"{int(number):,}"
 
 
@@ -74,7 +75,7 @@ def listed(words: list[str], last: str = "or") -> str:
 
 def close_to(word: str, names: list[str]) -> str | None:
     """The name that was probably meant."""
-    folded = {}
+    folded: dict[str, str] = {}
     for name in names:
         folded.setdefault(name.lower(), name)
     if word.lower() in folded:
@@ -175,7 +176,7 @@ class Trier:
                 "chip": ["chip", file, "/dev/null"],
             }[self.kind]
         done = subprocess.run(
-            [self.program, *map(str, words)],
+            [str(self.program), *map(str, words)],
             stdin=subprocess.DEVNULL,
             stdout=subprocess.PIPE,
             env={"VIDLAKOST_EXPLAIN": "0", "PATH": "/usr/bin:/bin"},
@@ -190,7 +191,8 @@ class Trier:
         match = re.fullmatch(r"\w+ [MFDLC]1(?: line (?P<line>\d+))? byte (?P<byte>\d+)", self.refusal(folder, text))
         if match is None:
             return True
-        return at_of({key: value for key, value in match.groupdict().items() if value}, text) >= len(text)
+        at = at_of({key: value for key, value in match.groupdict().items() if value}, text)
+        return at is None or at >= len(text)
 
     def whole_before(self, folder: pathlib.Path, text: bytes, at: int) -> bool:
         """Whether a word that ends at a byte is whole, so that what follows it is to blame and not the word."""

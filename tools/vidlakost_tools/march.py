@@ -7,7 +7,7 @@ import re
 import tempfile
 
 from vidlakost_tools.program import ask, with_text
-from vidlakost_tools.text import BLANKS, lines_of, read_text, shown
+from vidlakost_tools.text import BLANKS, Path, lines_of, read_text, shown
 from vidlakost_tools.tool import ToolError
 
 
@@ -71,10 +71,10 @@ def length_of(elements: list[Element]) -> str:
     return f"{sum(len(element.operations) for element in elements)}n" + (f"+{pauses}D" if pauses else "")
 
 
-def march_of(path) -> tuple[str, list[Element]]:
+def march_of(path: Path) -> tuple[str, list[Element]]:
     """The printed form and the elements of the march in a file, which the program has to accept."""
 
-    def first_line(empty):
+    def first_line(empty: pathlib.Path) -> str:
         with tempfile.TemporaryDirectory() as folder:
             report = pathlib.Path(folder) / "report"
             ask("judge", path, empty, report)

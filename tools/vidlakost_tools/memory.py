@@ -2,11 +2,12 @@
 from __future__ import annotations
 
 import dataclasses
+import pathlib
 from typing import List, Tuple
 
 from vidlakost_tools.march import Element
 from vidlakost_tools.program import run, with_text
-from vidlakost_tools.text import read_described, statements
+from vidlakost_tools.text import Path, read_described, statements
 from vidlakost_tools.tool import Refused, ToolError, identifier
 
 
@@ -122,11 +123,11 @@ def parse_memory(text: str) -> Memory:
     )
 
 
-def read_memory(path) -> Memory:
+def read_memory(path: Path) -> Memory:
     """The memory of a file, which the program has to accept: `benchfault` is asked to plant a fault outside of it, which
     it refuses last, before it runs anything."""
 
-    def is_refused(march):
+    def is_refused(march: pathlib.Path) -> None:
         status, said = run("benchfault", march, path, "<0/1/->", "none", "999999999.0")
         if status not in (11, 12):
             raise Refused(["bench", "MARCH", str(path)], said, status)

@@ -5,12 +5,11 @@ alone. It takes modules that the program accepts; a number that is left open is 
 from __future__ import annotations
 
 import dataclasses
-import os
-from typing import Callable, Iterator, List, Mapping, Optional, Tuple
+from typing import Callable, Dict, Iterator, List, Mapping, Optional, Tuple
 
 from vidlakost_tools.march import Element, elements_of
 from vidlakost_tools.memory import Memory, parse_memory
-from vidlakost_tools.text import read_described, read_text
+from vidlakost_tools.text import Path, read_described, read_text
 from vidlakost_tools.tool import ToolError
 from vidlakost_tools.verilog import Assign, Block, Case, Declared, Expression, If, Item, Reader, Set, Statement, Unread
 
@@ -20,6 +19,8 @@ PORTS = ("en", "we", "addr", "wdata", "done")
 Numbers = Mapping[str, Optional[int]]
 Number = Callable[[Numbers], Optional[int]]
 Sets = Callable[[Numbers], List[Tuple[str, Optional[int]]]]
+# whether a command writes, its address and its word
+Command = Tuple[bool, int, int]
 
 
 @dataclasses.dataclass
@@ -141,7 +142,7 @@ def names_in(it: Expression) -> Iterator[str]:
 
 def prefix(mark: str, x: Value) -> Value:
     ones = (1 << x.width) - 1
-    of = {
+    of: Callable[[int], int] = {
         "~": lambda a: ones - a,
         "!": lambda a: int(a == 0),
         "&": lambda a: int(a == ones),
@@ -149,7 +150,7 @@ def prefix(mark: str, x: Value) -> Value:
         "^": lambda a: bin(a).count("1") % 2,
     }[mark]
 
-    def value(env):
+    def value(env: Numbers) -> int | None:
         a = x.of(env)
         return None if a is None else of(a)
 
@@ -158,6 +159,7 @@ def prefix(mark: str, x: Value) -> Value:
 
 def infix(mark: str, x: Value, y: Value) -> Value:
     width, ones = x.width, (1 << x.width) - 1
+    of: Callable[[int, int], int]
     of, result = {
         "+": (lambda a, b: a + b & ones, width),
         "-": (lambda a, b: a - b & ones, width),
@@ -176,7 +178,7 @@ def infix(mark: str, x: Value, y: Value) -> Value:
         "||": (lambda a, b: int(a != 0 or b != 0), 1),
     }[mark]
 
-    def alone(a):
+    def alone(a: int) -> int | None:
         """What one operand gives, whatever the other is."""
         if mark in ("&", "&&") and a == 0:
             return 0
@@ -184,7 +186,7 @@ def infix(mark: str, x: Value, y: Value) -> Value:
             return 1
         return ones if mark == "|" and a == ones else None
 
-    def value(env):
+    def value(env: Numbers) -> int | None:
         a, b = x.of(env), y.of(env)
         if a is None or b is None:
             known = b if a is None else a
@@ -195,7 +197,7 @@ def infix(mark: str, x: Value, y: Value) -> Value:
 
 
 def choice(condition: Value, x: Value, y: Value) -> Value:
-    def value(env):
+    def value(env: Numbers) -> int | None:
         taken = condition.of(env)
         if taken is None:
             a = x.of(env)
@@ -206,7 +208,7 @@ def choice(condition: Value, x: Value, y: Value) -> Value:
 
 
 def concatenation(parts: list[Value]) -> Value:
-    def value(env):
+    def value(env: Numbers) -> int | None:
         number = 0
         for part in parts:
             a = part.of(env)
@@ -225,7 +227,7 @@ def order_of(module: Run) -> list[str]:
     """The wires and plain outputs, each behind those that it reads."""
     order: dict[str, bool] = {}
 
-    def place(name):
+    def place(name: str) -> None:
         if name not in module.assigns or order.get(name):
             return
         if name in order:
@@ -241,12 +243,13 @@ def order_of(module: Run) -> list[str]:
     return list(order)
 
 
-def cycles_of(module: Run):
+def cycles_of(module: Run) -> Iterator[Dict[str, Optional[int]]]:
     """Of each cycle the numbers of all names, `reset` being 1 in the first alone."""
-    order, registers = order_of(module), dict.fromkeys(module.registers)
+    order = order_of(module)
+    registers: Dict[str, Optional[int]] = {name: None for name in module.registers}
     reset = 1
     while True:
-        env = {**dict.fromkeys(module.inputs), **registers, "reset": reset}
+        env: Dict[str, Optional[int]] = {**{name: None for name in module.inputs}, **registers, "reset": reset}
         for name in order:
             env[name] = module.assigns[name].of(env)
         yield env
@@ -259,7 +262,7 @@ def cycles_of(module: Run):
 # ---- what the ports have to be
 
 
-def commands_of(elements: list[Element], memory: Memory):
+def commands_of(elements: list[Element], memory: Memory) -> Iterator[Optional[Command]]:
     """Of each cycle behind the reset, to the last of the march, its command: whether it writes, address and word; None in
     a pause."""
     ones = (1 << memory.bits) - 1
@@ -275,7 +278,7 @@ def commands_of(elements: list[Element], memory: Memory):
                     yield operation[0] == "w", memory.address_of(index), word ^ memory.polarity
 
 
-def compared(command, done: bool) -> list[tuple[str, int]]:
+def compared(command: Optional[Command], done: bool) -> list[tuple[str, int]]:
     """The ports that are compared in a cycle, in their order, with what they have to be."""
     ports = [("en", int(command is not None))]
     if command is not None:
@@ -297,7 +300,7 @@ def line_of(module: Run, elements: list[Element], memory: Memory) -> str:
     return f"conforms {len(commands)}"
 
 
-def read_module(path: str | os.PathLike[str]) -> Run:
+def read_module(path: Path) -> Run:
     """The module of a file that the program accepts."""
     text, run = read_described(path), Run()
     try:
@@ -315,7 +318,7 @@ def read_module(path: str | os.PathLike[str]) -> Run:
     return run
 
 
-def told(verilog, march, memory) -> str:
+def told(verilog: Path, march: Path, memory: Path) -> str:
     """The line of `check VERILOG MARCH MEMORY`, by this model."""
     elements, described = elements_of(read_text(march)), parse_memory(read_described(memory))
     return line_of(read_module(verilog), elements, described)

@@ -4,6 +4,7 @@ from __future__ import annotations
 
 import pathlib
 import re
+from typing import Iterator
 
 from vidlakost_tools.finding import place
 from vidlakost_tools.text import read_described, statements
@@ -37,7 +38,7 @@ RESERVED = set(
 )
 
 
-def places_in(text: bytes):
+def places_in(text: bytes) -> Iterator[tuple[int, str]]:
     """Of each kind the first byte, and what it is."""
     for pattern, why in IN_TEXT:
         found = re.search(pattern, text)

@@ -7,13 +7,15 @@ import pathlib
 import re
 import subprocess
 import tempfile
+from typing import Callable, TypeVar
 
-from vidlakost_tools.text import lines_of, read_text
+from vidlakost_tools.text import Path, lines_of, read_text
 from vidlakost_tools.tool import Refused, ToolError
 
 ROOT = pathlib.Path(__file__).resolve().parent.parent.parent
 PROGRAM = os.environ.get("VIDLAKOST", str(ROOT / "vidlakost"))
 FORMATS = ROOT / "docs" / "FORMATS.md"
+Answer = TypeVar("Answer")
 
 
 @dataclasses.dataclass
@@ -78,7 +80,7 @@ def quick_program() -> str | None:
     return done.stdout.strip() or None
 
 
-def run(*words) -> tuple[int, str]:
+def run(*words: object) -> tuple[int, str]:
     """The program's status and its line for these words."""
     quiet = {**os.environ, "VIDLAKOST_EXPLAIN": "0"}
     # that answers are unproved is told once a tool
@@ -93,7 +95,7 @@ def run(*words) -> tuple[int, str]:
     return done.returncode, said[:-1] if said.endswith("\n") else said
 
 
-def ask(*words) -> str:
+def ask(*words: object) -> str:
     """The line of a call that is done; a refusal is handed on."""
     status, said = run(*words)
     if status > 1 or status < 0:
@@ -101,7 +103,7 @@ def ask(*words) -> str:
     return said
 
 
-def with_text(text: str, use):
+def with_text(text: str, use: Callable[[pathlib.Path], Answer]) -> Answer:
     """What `use` answers of a file that holds the text for as long as the call takes."""
     with tempfile.TemporaryDirectory() as folder:
         path = pathlib.Path(folder) / "text"
@@ -109,7 +111,7 @@ def with_text(text: str, use):
         return use(path)
 
 
-def vectors_of(march, memory) -> list[str]:
+def vectors_of(march: Path, memory: Path) -> list[str]:
     """The lines of `vectors`; a march or a memory that is refused is told."""
     with tempfile.TemporaryDirectory() as folder:
         path = pathlib.Path(folder) / "vectors"

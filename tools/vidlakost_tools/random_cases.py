@@ -41,4 +41,4 @@ def changed(text: str, chance: random.Random) -> str:
         [match for match in re.finditer(r"\d+'h[0-9a-f]+|\b\w+\b", text) if match[0] in names or match[0][0].isdigit()]
     )
     other = chance.choice(names) if match[0] in names else "3'h2" if "'" in match[0] else str(chance.randint(0, 5))
-    return text[: match.start()] + other + text[match.end() :]
+    return f"{text[: match.start()]}{other}{text[match.end() :]}"

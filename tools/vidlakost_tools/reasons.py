@@ -9,11 +9,12 @@ from vidlakost_tools.report import Verdict
 def meets_alone(verdict: Verdict, steps: list[Step]) -> bool:
     """Whether the first operation of a primitive comes at its own cell in its state, whatever the other cell holds."""
     array = verdict.array()
-    state, operation = array.senses[array.actor].state, array.operations[0]
+    actor = array.own_cell()
+    state, operation = array.senses[actor].state, array.operations[0]
     for before, step in zip(steps, steps[1:]):
-        held = before.cells[array.actor]
+        held = before.cells[actor]
         done = f"r{held}" if step.operation[:1] == "r" else step.operation
-        if step.cell == array.actor and int(held) == state and done == operation:
+        if step.cell == actor and int(held) == state and done == operation:
             return True
     return False
 
@@ -27,7 +28,7 @@ def why_never(verdict: Verdict, elements: list[Element], steps: list[Step]) -> s
     if "t" in operations:
         pauses = any(element.is_pause for element in elements)
         return f"in no pause the cell holds {array.primitive.victim.state}" if pauses else "the march has no pause"
-    state = array.senses[array.actor].state
+    state = array.senses[array.own_cell()].state
     actor = "the aggressor" if array.actor != array.victim else "the victim" if array.primitive.aggressor else "the cell"
     if not meets_alone(verdict, steps):
         return f"no {operations[0]} comes at {actor} while it holds {state}"

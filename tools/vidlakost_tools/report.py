@@ -5,11 +5,12 @@ import dataclasses
 import pathlib
 import re
 import tempfile
+from typing import NoReturn
 
 from vidlakost_tools.faults import Array, read_primitive
 from vidlakost_tools.march import Element, elements_of, length_of
 from vidlakost_tools.program import ask
-from vidlakost_tools.text import lines_of, read_text
+from vidlakost_tools.text import Path, lines_of, read_text
 from vidlakost_tools.tool import ToolError
 
 # what the parts of its lines are made of, and how long they may be
@@ -51,8 +52,8 @@ class Verdict:
         """The array of an escape."""
         return Array(read_primitive(self.primitive), self.aggressor, self.victim, self.content)
 
-    def as_object(self) -> dict:
-        made = {"primitive": self.primitive, "class": self.kind, "covered": self.covered}
+    def as_object(self) -> dict[str, object]:
+        made: dict[str, object] = {"primitive": self.primitive, "class": self.kind, "covered": self.covered}
         if not self.covered:
             made["escape"] = {
                 "cells": len(self.content),
@@ -63,7 +64,7 @@ class Verdict:
             }
         return made
 
-    def words(self, march) -> list[str]:
+    def words(self, march: Path) -> list[str]:
         """The call of `sim` that replays an escape of a static primitive."""
         aggressor = "none" if self.aggressor is None else str(self.aggressor)
         return [
@@ -84,18 +85,18 @@ class Report:
 
     march: str
     elements: list[Element]
-    memory: dict | None
+    memory: dict[str, str | int] | None
     verdicts: list[Verdict]
-    classes: dict
+    classes: dict[str, tuple[int, int]]
     total: tuple[int, int, int]
 
     @property
     def escapes(self) -> list[Verdict]:
         return [verdict for verdict in self.verdicts if not verdict.covered]
 
-    def as_object(self) -> dict:
+    def as_object(self) -> dict[str, object]:
         """The report in the schema of `tools/report --json`."""
-        made: dict = {"schema": "vidlakost-report-1", "march": self.march, "length": length_of(self.elements)}
+        made: dict[str, object] = {"schema": "vidlakost-report-1", "march": self.march, "length": length_of(self.elements)}
         if self.memory:
             made["memory"] = self.memory
         made["verdicts"] = [verdict.as_object() for verdict in self.verdicts]
@@ -128,11 +129,11 @@ def check_escape(verdict: Verdict, elements: list[Element]) -> str | None:
     return None
 
 
-def read_report(path) -> Report:
+def read_report(path: Path) -> Report:
     """The report of a file, line by line; what is none is refused with the line that shows it."""
     lines = lines_of(read_text(path))
 
-    def refuse(count, why):
+    def refuse(count: int, why: object) -> NoReturn:
         raise ToolError(f"{path}:{count}: {why}; this is no report of `judge` or `compile`")
 
     if not lines or not re.fullmatch(r"march [{}();,a-z0-9]+", lines[0]):
@@ -144,7 +145,7 @@ def read_report(path) -> Report:
     total = TOTAL.fullmatch(lines[-1])
     if total is None:
         refuse(len(lines), "the last line is no total")
-    report = Report(lines[0][len("march ") :], elements, None, [], {}, tuple(map(int, total.groups())))
+    report = Report(lines[0][len("march ") :], elements, None, [], {}, (int(total[1]), int(total[2]), int(total[3])))
     for count, line in enumerate(lines[1:-1], 2):
         why = take_line(report, line, count == 2)
         if why:
@@ -159,7 +160,7 @@ def read_report(path) -> Report:
     return report
 
 
-def judged(march, faults) -> Report:
+def judged(march: Path, faults: Path) -> Report:
     """What `judge` reports of a march and a list."""
     with tempfile.TemporaryDirectory() as folder:
         path = pathlib.Path(folder) / "report"

@@ -2,6 +2,8 @@
 any other is compared. It is written from the description, as a designer would write one, with counters and tables."""
 from __future__ import annotations
 
+from typing import Iterable
+
 from vidlakost_tools.march import Element
 from vidlakost_tools.memory import Memory
 from vidlakost_tools.verilog import ranged
@@ -124,7 +126,7 @@ bind `CONTROLLER {name}_rule rule(.*);
 """
 
 
-def arms(pairs) -> str:
+def arms(pairs: Iterable[tuple[object, str]]) -> str:
     return "".join(f"      {label}: {value};\n" for label, value in pairs)
 
 

@@ -1,4 +1,8 @@
 """The files and the calls of vidlakost selftest, each with what it has to say."""
+from __future__ import annotations
+
+from typing import Dict, List, Tuple
+
 from vidlakost_tools import selftest_audit
 
 MARCHES = [
@@ -43,7 +47,8 @@ REPORT = (
 )
 PINS = "macro ram\nclk ck\nen ~ce\nwe ~wen\naddr a\nwdata d\nrdata q\nregisters out 1\n"
 
-FILES = {
+# a lone byte that is no text is one of \udc80 to \udcff
+FILES: Dict[str, str] = {
     "c.m": MARCHES[1] + "\n",
     "early.m": "{any(w0);up(r0,",
     "stray.m": "{any(w0); upp(r0)}\n",
@@ -52,7 +57,7 @@ FILES = {
     "none.m": "{}",
     "many.m": "{any(w0)" + ";up(r0)" * 64 + "}",
     "long.m": "{any(" + ",".join(["w0"] * 17) + ")}",
-    "bytes.m": b"\xff\xfe",
+    "bytes.m": "\udcff\udcfe",
     "tf.list": "TF\n",
     "lower.list": "tf\n",
     "old.list": "# stuck\nSAF\n",
@@ -77,7 +82,7 @@ FILES = {
     "nine.mem": "memory 1\nname s\nwords 4\nbits 2\nbackgrounds 0 1 2 3 0 1 2 3 0\n",
     "huge.mem": "memory 1\nname s\nwords 65536\nbits 64\n",
     "blank.mem": "\n",
-    "large.m": b" " * 1048577,
+    "large.m": " " * 1048577,
     "unknown.v": PORTS + "  assign en = x;\nendmodule\n",
     "wide.v": PORTS + "  assign addr = (2'h1 + 3'h1);\nendmodule\n",
     "token.v": PORTS + "  wir x;\nendmodule\n",
@@ -123,7 +128,7 @@ FILES.update(
 WHOLE = "stray.m:1:11: error: 'upp' can't stand here; did you mean 'up'?\n  {any(w0); upp(r0)}\n            ^\n  here could stand up, down, any or del\n"
 
 # words of the program, its status, a part of its line, and the beginning of standard error
-REFUSALS = [
+REFUSALS: List[Tuple[List[str], int, str, str]] = [
     (
         ["judge", "stray.m", "tf.list", "out"],
         3,
@@ -275,7 +280,7 @@ REFUSALS = [
     ([], 2, "", "usage: vidlakost NAME WORD.."),
 ]
 # the same of the command check
-CHECKS = [
+CHECKS: List[Tuple[List[str], int, str, str]] = [
     (["check", "examples/foreign/one_hot.v", "examples/mats_plus.m", "examples/foreign/four.mem"], 0, "conforms 43", ""),
     (
         ["check", "examples/foreign/not_reset.v", "examples/c.m", "examples/foreign/six.mem"],
@@ -303,7 +308,7 @@ CHECKS = [
 TEST = ["tools/testbench", "c.m", "eight.mem", "tb"]
 CHIP_TEST = ["tools/testbench", "two.chip", "chiptb"]
 # a tool that a call needs, its words, its status, a part of its output, and the beginning of standard error
-CALLS = [
+CALLS: List[Tuple[str, List[str], int, str, str]] = [
     ("", ["tools/explain", "M8"], 0, "march M8 element E operation O", ""),
     ("", ["tools/explain", "march", "M8"], 0, "march M8", ""),
     ("", ["tools/explain", "CFds"], 0, "disturb coupling fault", ""),

@@ -7,7 +7,9 @@ import shutil
 import signal
 import subprocess
 import time
+from typing import List, Tuple
 
+from vidlakost_tools.selftest_bench import Bench
 from vidlakost_tools.selftest_cases import FILES, REPORT
 
 LOOSE = "memory 1\nname s # was\rname {name}\nwords 4 # was\rwords 8\nbits 1\n"
@@ -23,7 +25,7 @@ FILES.update(
         "loose.pins": "macro ram # was\rmacro ../ram\nclk ck\nwrite we\naddr a\nwdata d\nrdata q\n",
         "named.pins": "macro ../ram\nclk ck\nwrite we\naddr a\nwdata d\nrdata q\n",
         "tied.pins": 'macro ram\nclk ck\nwrite we\naddr a\nwdata d\nrdata q\ntie t 1\'b0);initial$system("x");//\n',
-        "latin.mem": b"memory 1 # \xe9\nname s\nwords 4\nbits 1\n",
+        "latin.mem": "memory 1 # \udce9\nname s\nwords 4\nbits 1\n",
         # a report that nobody's program wrote
         "bell.report": REPORT.replace(" TF\nescape", " \x1b[2J\nescape"),
         "mark.report": REPORT.replace("TF 2", "<script>alert(1)</script> 2"),
@@ -36,7 +38,7 @@ FILES.update(
 )
 
 # a tool that a call needs, its words, its status, a part of its output, and the beginning of standard error
-CALLS = [
+CALLS: List[Tuple[str, List[str], int, str, str]] = [
     ("", ["tools/summary", "c.m", "loose.mem"], 0, "\ns           4 ", ""),
     ("", ["tools/summary", "c.m", "latin.mem"], 0, "\ns           4 ", ""),
     ("", ["tools/testbench", "c.m", "path.mem", "harm"], 0, "harm/s_tb.v\n", ""),
@@ -87,7 +89,7 @@ TWO_DRIVERS = [
 ]
 
 
-def controller(bench, edits: list[tuple[str, str]]) -> None:
+def controller(bench: Bench, edits: list[tuple[str, str]]) -> None:
     """Writes the edited controller, its true module behind a comment that names another."""
     text = (bench.folder / "examples" / "foreign" / "one_hot.v").read_text()
     for old, new in edits:
@@ -95,7 +97,7 @@ def controller(bench, edits: list[tuple[str, str]]) -> None:
     (bench.folder / "edited.v").write_text("// module elsewhere\n" + text)
 
 
-def controllers(bench) -> None:
+def controllers(bench: Bench) -> None:
     """What nothing drives stays open in `tools/plain` and `tools/formal`, and two drivers are refused."""
     if not shutil.which("yosys"):
         print("yosys is not installed, so no edited controller is judged")
@@ -133,7 +135,7 @@ SILENT = "#!/bin/sh\nexit 1\n"
 OLDER = ".vidlakost-1000000000000000000"
 
 
-def program(bench, name: str, text: str) -> str:
+def program(bench: Bench, name: str, text: str) -> str:
     path = bench.folder / name
     path.write_text(text)
     path.chmod(0o755)
@@ -148,7 +150,7 @@ def is_alive(pid: int) -> bool:
     return True
 
 
-def killed_launcher(bench) -> None:
+def killed_launcher(bench: Bench) -> None:
     """A signal to the launcher ends the program, and what that left beside its files is removed, but for what others left."""
     folder = bench.folder / "signals"
     folder.mkdir()
@@ -167,7 +169,7 @@ def killed_launcher(bench) -> None:
         bench.is_so(left == [OLDER, "pid"], f"after {number} there are {left}")
 
 
-def launcher(bench) -> None:
+def launcher(bench: Bench) -> None:
     """What the launcher does beside its calls: programs that are none, pipes, options, words that name one file."""
     silent = program(bench, "silent", SILENT)
     for explain in ("0", "1"):
@@ -205,7 +207,7 @@ def launcher(bench) -> None:
         bench.look(["tools/schedule", "two.chip", "--svg", other], 2, "", f"schedule: '{other}' is a file of the chip file")
 
 
-def warnings(bench) -> None:
+def warnings(bench: Bench) -> None:
     """What other tools may read otherwise is told of a module and of a chip that are taken."""
     text = (bench.folder / "examples" / "foreign" / "one_hot.v").read_text()
     judged = ["examples/mats_plus.m", "examples/foreign/four.mem"]
@@ -233,7 +235,7 @@ def warnings(bench) -> None:
 # ---- testbenches
 
 
-def testbenches(bench) -> None:
+def testbenches(bench: Bench) -> None:
     """A right controller with `always @*` passes in each version of the language, commands that can't be read end the run, and
     Verilator has nothing to say of the assertions and of a chip."""
     folder = bench.folder / "benches"
@@ -241,7 +243,8 @@ def testbenches(bench) -> None:
     text = (bench.folder / "examples" / "foreign" / "one_hot.v").read_text().replace("module one_hot", "module four_bist", 1)
     text = text.replace("output en,", "output reg en,", 1).replace("assign en =", "always @* en =", 1)
     (folder / "four_bist.v").write_text(text)
-    for option in ([], ["--sv"], ["--assert"]):
+    options: List[List[str]] = [[], ["--sv"], ["--assert"]]
+    for option in options:
         bench.look(["tools/testbench", "examples/mats_plus.m", "examples/foreign/four.mem", "benches", *option], 0, "benches/", "")
     bench.look(["tools/testbench", "two.chip", "benches", "--chip"], 0, "benches/both_tb.v", "")
     bench.look(["./vidlakost", "chip", "two.chip", "benches/both.v"], 0, "chip units 2", "")

@@ -183,6 +183,8 @@ class SpecReader:
             self.comment = []
             return
         found = HEAD.match(line)
+        if found is None:
+            raise ValueError(f"{self.spec.path}:{number}: this line begins no definition")
         kind = "block" if is_block(line) else found[1] or "definition"
         name = found[2]
         self.current = Definition(

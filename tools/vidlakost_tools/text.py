@@ -1,17 +1,22 @@
 """Texts as the program reads them: bytes, lines that end with a line feed alone, and words before a comment."""
 from __future__ import annotations
 
+import os
 import pathlib
 import re
+from typing import Union
+
+# the name of a file
+Path = Union[str, "os.PathLike[str]"]
 
 
-def read_text(path) -> str:
+def read_text(path: Path) -> str:
     """A file's text, byte for byte: a carriage return in it stays one. A folder, a missing file and bytes that are no text
     are told by `start`."""
     return pathlib.Path(path).read_bytes().decode("utf-8")
 
 
-def read_described(path) -> str:
+def read_described(path: Path) -> str:
     """The same of a text whose comments may hold any bytes, as those of memories and chips."""
     return pathlib.Path(path).read_bytes().decode("utf-8", "replace")
 

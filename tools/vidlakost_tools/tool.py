@@ -4,14 +4,16 @@ A tool calls `start(main)` once. What goes wrong in it (a file that is missing, 
 program refuses, a reader that closes the pipe) becomes a line on standard error and a status there, and nowhere else."""
 from __future__ import annotations
 
+import io
 import os
 import pathlib
 import re
 import signal
 import sys
 import tempfile
+from typing import Any, Callable, Mapping
 
-from vidlakost_tools.text import shown, visible
+from vidlakost_tools.text import Path, shown, visible
 
 
 class ToolError(Exception):
@@ -30,16 +32,20 @@ class Refused(ToolError):
         self.words, self.said = words, said
 
 
-def usage_of(doc: str) -> str:
+def usage_of(doc: str | None) -> str:
     """The lines of a tool's description that tell its words."""
-    found = re.search(r"^usage:.*?(?=\n\n|\Z)", doc, re.MULTILINE | re.DOTALL)
-    return found[0] if found else doc
+    found = re.search(r"^usage:.*?(?=\n\n|\Z)", doc or "", re.MULTILINE | re.DOTALL)
+    return found[0] if found else doc or ""
 
 
-def words_of(doc: str, allowed: dict | None = None, least: int = 0, most: int | None = None):
+def words_of(
+    doc: str | None, allowed: Mapping[str, int | list[str]] | None = None, least: int = 0, most: int | None = None
+) -> tuple[list[str], dict[str, Any]]:
     """The words of the call and its options. `allowed` gives of each option how many words it takes, a list where it
     may come many times; `--help` prints the description."""
-    allowed, plain, options = allowed or {}, [], {}
+    doc, allowed = doc or "", allowed or {}
+    plain: list[str] = []
+    options: dict[str, Any] = {}
     rest = list(sys.argv[1:])
     if "--help" in rest or rest == ["-h"]:
         print(doc.strip())
@@ -51,11 +57,12 @@ def words_of(doc: str, allowed: dict | None = None, least: int = 0, most: int | 
             continue
         if word not in allowed:
             raise ToolError(f"there is no option {word}\n{usage_of(doc)}")
-        count = allowed[word] if isinstance(allowed[word], int) else 1
+        told = allowed[word]
+        count = told if isinstance(told, int) else 1
         if len(rest) < count:
             raise ToolError(f"{word} needs a word behind it\n{usage_of(doc)}")
         given = [rest.pop(0) for _ in range(count)]
-        if isinstance(allowed[word], int):
+        if isinstance(told, int):
             options[word] = given[0] if count == 1 else given or True
         else:
             options.setdefault(word, []).extend(given)
@@ -64,7 +71,7 @@ def words_of(doc: str, allowed: dict | None = None, least: int = 0, most: int | 
     return plain, options
 
 
-def start(main) -> None:
+def start(main: Callable[[], int | None]) -> None:
     """Runs a tool and ends with its status; each failure is a line on standard error."""
     name = pathlib.Path(sys.argv[0]).name
     if sys.stdout is None:
@@ -74,7 +81,8 @@ def start(main) -> None:
         if signal.getsignal(number) == signal.SIG_DFL:
             signal.signal(number, stop)
     # what came as bytes that are no text, as the name of a folder, goes out as it came
-    sys.stdout.reconfigure(encoding="utf-8", errors="surrogateescape")
+    if isinstance(sys.stdout, io.TextIOWrapper):
+        sys.stdout.reconfigure(encoding="utf-8", errors="surrogateescape")
     try:
         status = main() or 0
         sys.stdout.flush()
@@ -152,13 +160,15 @@ def identifier(name: str, what: str = "the name") -> str:
 
 def refuse_inputs(target: str | None, inputs: list[tuple[str, str]]) -> None:
     """Refuses to write over a file that is read."""
-    for what, name in inputs if target else []:
+    if target is None:
+        return
+    for what, name in inputs:
         one = os.path.exists(target) and os.path.exists(name) and os.path.samefile(target, name)
         if one or os.path.realpath(target) == os.path.realpath(name):
             raise ToolError(f"{shown(target)} is {what}")
 
 
-def write_whole(target, text: str) -> None:
+def write_whole(target: Path, text: str) -> None:
     """Writes a text to a file, so that a full disk or a kill leaves what stood there. A device is written as it is."""
     path = pathlib.Path(target)
     if path.exists() and not path.is_file() or path.is_symlink():

@@ -7,8 +7,9 @@ import pathlib
 import re
 import shutil
 import subprocess
+from typing import Any, Mapping
 
-from vidlakost_tools.text import lines_of, shown
+from vidlakost_tools.text import Path, lines_of, shown
 from vidlakost_tools.tool import ToolError, identifier
 
 
@@ -17,7 +18,7 @@ def want() -> None:
         raise ToolError("yosys is not on the PATH")
 
 
-def quoted(path) -> str:
+def quoted(path: Path) -> str:
     """A file's name as a script carries it. What a script would read as more than a name is refused."""
     name = str(path)
     if not re.fullmatch(r"[\w./ +=,@%:-]+", name) or not name.isprintable():
@@ -25,7 +26,7 @@ def quoted(path) -> str:
     return f'"./{name}"' if name[0] in "-+" else f'"{name}"'
 
 
-def top_of(options: dict) -> str:
+def top_of(options: Mapping[str, Any]) -> str:
     """What `hierarchy` is told of the top."""
     if "--top" not in options:
         return "-auto-top"
@@ -57,6 +58,27 @@ def run(script: str, folder: pathlib.Path, *flags: str) -> list[str]:
     return lines
 
 
+@dataclasses.dataclass
+class Gates:
+    """What a module becomes: cells, flip-flops among them, and the depth of its longest path."""
+
+    cells: int
+    flip_flops: int
+    depth: int
+
+
+def gates_of(module: pathlib.Path, library: str) -> Gates:
+    """The gates of the module of a file, of a library of `abc -g`."""
+    script = f"read_verilog {quoted(module)}; synth -flatten; abc -g {library}; opt_clean; stat; ltp -noff"
+    done = subprocess.run(["yosys", "-p", script], stdout=subprocess.PIPE, stderr=subprocess.STDOUT, text=True, check=False)
+    counted = re.search(r".*Number of cells:\s+(\d+)(.*)", done.stdout, re.DOTALL)
+    depth = re.search(r"length=(\d+)", done.stdout)
+    if done.returncode or counted is None or depth is None:
+        raise ToolError(f"yosys fails: {done.stdout.strip().splitlines()[-1]}", 1)
+    flops = sum(int(count) for count in re.findall(r"\$_S?DFF\S*\s+(\d+)", counted[2]))
+    return Gates(int(counted[1]), flops, int(depth[1]))
+
+
 def warnings_in(lines: list[str]) -> list[str]:
     """The warnings among the lines, each with the indented lines behind it."""
     found: list[str] = []
@@ -77,7 +99,7 @@ def parts_of(signal: str) -> list[str]:
     return re.findall(r"[\\$][^ ]+(?: \[[0-9:]+\])?|[0-9]+'[^ ]+", signal.strip().strip("{}"))
 
 
-def bits_of(part: str, widths: dict) -> list:
+def bits_of(part: str, widths: Mapping[str, int]) -> list[tuple[str, int]]:
     """The bits of a part; none of a constant."""
     if part[0] not in "\\$":
         return []
@@ -101,7 +123,7 @@ def driven_twice(rtlil: str) -> str | None:
     """A signal with two `assign`s, also where both are constants, which Yosys' `check` does not see."""
     widths: dict[str, int] = {}
     places: dict[str, str] = {}
-    driven: set = set()
+    driven: set[tuple[str, int]] = set()
     depth, place = 0, ""
     for line in map(str.strip, lines_of(rtlil)):
         if line.startswith("module "):
@@ -122,7 +144,7 @@ def driven_twice(rtlil: str) -> str | None:
     return None
 
 
-def driven_constant(module: dict) -> str | None:
+def driven_constant(module: Mapping[str, Any]) -> str | None:
     """A cell whose output is tied to a constant."""
     for cell in module["cells"].values():
         for pin, bits in cell["connections"].items():
@@ -196,11 +218,11 @@ class Sources:
 
     script: str
     top: str
-    module: dict
+    module: dict[str, Any]
     warnings: list[str]
 
 
-def read(files: list[str], options: dict, folder: pathlib.Path) -> Sources:
+def read(files: list[str], options: Mapping[str, Any], folder: pathlib.Path) -> Sources:
     """The sources; a signal with two drivers is refused."""
     raw, plain, first, parts = (folder / name for name in ("raw.il", "plain.il", "first.il", "first.json"))
     reading = f"{libraries_of(options)}read_verilog -sv -icells {sources_of(files)}\nhierarchy -check {top_of(options)}\n"
@@ -221,7 +243,7 @@ def read(files: list[str], options: dict, folder: pathlib.Path) -> Sources:
     return Sources(script, name, module, warnings)
 
 
-def top_module(path: pathlib.Path) -> tuple[str, dict]:
+def top_module(path: pathlib.Path) -> tuple[str, dict[str, Any]]:
     """The name of the top and what it is made of."""
     modules = json.loads(path.read_bytes().decode("utf-8", "replace"))["modules"]
     return next((name, module) for name, module in modules.items() if "top" in module["attributes"])

@@ -1,4 +1,4 @@
-"""Parts of `audit` by themselves, without any program: `cd tools && python3 -m unittest tests.test_audit`."""
+"""Parts of `audit` by themselves, without any program: `PYTHONPATH=tools python3 -m unittest discover tests`."""
 from __future__ import annotations
 
 import unittest

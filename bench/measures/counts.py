@@ -1,0 +1,77 @@
+"""The comparisons with other judges, by their last line: how many were compared, and how many differ."""
+from __future__ import annotations
+
+import pathlib
+import re
+import sys
+
+from measures.parts import ROOT, Figure, Skipped, python, timed
+
+
+def counted(*words: str) -> list[Figure]:
+    """Runs a comparison. Its last line tells numbers with what they count, and its status whether something differs."""
+    path, *rest = words
+    call = python(ROOT / path, *rest)
+    lines = call.said.splitlines() or [""]
+    if call.status == 125:
+        raise Skipped(lines[-1])
+    if call.status:
+        raise SystemExit(f"{' '.join(words)} ends with {call.status}: {call.said[-2000:]}")
+    found = re.findall(r"(\d[\d,]*) ([a-z][a-z -]*)", lines[-1])
+    title = f"`{'vidlakost ' + path[6:] if path.startswith('tools/') else path}{''.join(' ' + word for word in rest)}`"
+    return [Figure(title, int(number.replace(",", "")), unit.strip()) for number, unit in found]
+
+
+def brute(folder: pathlib.Path) -> list[Figure]:
+    """Verdicts beside a plain model of every small array."""
+    return counted("bench/brute")
+
+
+def memories(folder: pathlib.Path) -> list[Figure]:
+    """Refusals of random descriptions, and commands, beside a plain model."""
+    return counted("bench/memories")
+
+
+def modules(folder: pathlib.Path) -> list[Figure]:
+    """Random modules in the cycle simulator beside Icarus, and in `check` beside its plain model."""
+    return [*counted("bench/modules"), *counted("bench/modules", "--open", "1", "1000")]
+
+
+def faults(folder: pathlib.Path) -> list[Figure]:
+    """Calls that fail, kills and full disks, and what stands afterwards."""
+    call = timed(sys.executable, ROOT / "bench" / "faults")
+    print(call.said)
+    if call.status:
+        raise SystemExit(f"bench/faults ends with {call.status}")
+    wrong = call.said.splitlines()[-1]
+    found = re.search(r"(\d+)", wrong)
+    return [Figure("`bench/faults`, files lost or answers that are wrong", int(found[1]) if found else 0, "")]
+
+
+def interop(folder: pathlib.Path) -> list[Figure]:
+    """Modules and chips in Icarus, Verilator and Yosys."""
+    return counted("tools/interop")
+
+
+def foreign(folder: pathlib.Path) -> list[Figure]:
+    """`check` beside its plain model, on the modules of random marches and memories, as they are and changed."""
+    return counted("tools/foreign", "--random", "700")
+
+
+def formal(folder: pathlib.Path) -> list[Figure]:
+    """Modules of small memories before Yosys' bounded model checker, and modules that are made wrong."""
+    return [*counted("tools/formal", "--random", "300"), *counted("tools/formal", "--wrong")]
+
+
+def selftest(folder: pathlib.Path) -> list[Figure]:
+    """Right, wrong and hostile input for the launcher and the tools."""
+    return counted("tools/selftest")
+
+
+def first(folder: pathlib.Path) -> list[Figure]:
+    """README's first command in a fresh clone, on two processors."""
+    call = timed(ROOT / "bench" / "first", "--answer")
+    found = re.search(r"^([\d.]+) seconds", call.said, re.MULTILINE)
+    if call.status or found is None:
+        raise SystemExit(f"bench/first ends with {call.status}: {call.said}")
+    return [Figure("the first answer of a fresh clone", float(found[1]), "s")]

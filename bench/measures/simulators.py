@@ -1,0 +1,153 @@
+"""Self-test modules beside Icarus and Verilator: the cycle simulator alone, and the closed loop with a memory."""
+from __future__ import annotations
+
+import pathlib
+import re
+import shutil
+import sys
+
+from measures.parts import CYCLE_BENCH, PROGRAM, ROOT, C, Figure, Timed, asked, best, memory_text, timed, want, write
+
+CYCLES = 2_000_000
+SCRAMBLED = "".join(f"scramble a{bit} = p{bit} ^ p{bit + 1}\n" for bit in range(13)) + "scramble a13 = p13 ^ 1\n"
+STORED = "latency 2\npolarity aaaaaaaaaaaaaaaa\npause 1000\n"
+# name, march, memory, words, cycles to answer
+MODULES = [
+    ("march_c", C, memory_text("march_c", 24000, 64), 24000, 1),
+    (
+        "pausing",
+        "{any(w0);del;up(r0,w1);del;up(r1,w0);down(r0,w1);down(r1,w0);any(r0)}",
+        memory_text("pausing", 16384, 64, STORED + SCRAMBLED),
+        16384,
+        2,
+    ),
+]
+TOLD = {"march_c": "March C-, 24,000 words of 64 bits", "pausing": "pauses, scrambled addresses and a polarity"}
+ICARUS = """module bench;
+  reg clk = 0, reset = 1;
+  reg [63:0] memory [0:%(last)d];
+  reg [63:0] answers [0:%(latency)d];
+  wire en, we, done, fail;
+  wire [63:0] wdata;
+  wire [%(top)d:0] addr;
+  reg failed = 0;
+  integer cycle, place;
+  %(name)s_bist dut(.clk(clk), .reset(reset), .rdata(answers[0]), .en(en), .we(we), .addr(addr), .wdata(wdata),
+    .done(done), .fail(fail));
+  initial begin
+    for (place = 0; place <= %(last)d; place = place + 1) memory[place] = 0;
+    for (place = 0; place <= %(latency)d; place = place + 1) answers[place] = 0;
+    for (cycle = 0; cycle < %(cycles)d; cycle = cycle + 1) begin
+      #1 failed = failed | fail;
+      if (en & we) memory[addr] = wdata;
+      answers[%(latency)d] = en & ~we ? memory[addr] : 64'd0;
+      #1 clk = 1;
+      #1 for (place = 0; place < %(latency)d; place = place + 1) answers[place] = answers[place + 1];
+      reset = 0;
+      clk = 0;
+    end
+    $display("failed %%0d", failed);
+  end
+endmodule
+"""
+VERILATOR = """#include "V%(name)s_bist.h"
+#include <cstdio>
+#include <cstdlib>
+#include <vector>
+int main(int, char **words) {
+  V%(name)s_bist dut;
+  std::vector<uint64_t> memory(65536);
+  uint64_t answers[%(latency)d + 1] = {0};
+  bool failed = false;
+  long cycles = atol(words[1]);
+  dut.clk = 0;
+  dut.reset = 1;
+  for (long cycle = 0; cycle < cycles; cycle++) {
+    dut.rdata = answers[0];
+    dut.eval();
+    failed |= dut.fail;
+    if (dut.en && dut.we) memory[dut.addr] = dut.wdata;
+    answers[%(latency)d] = dut.en && !dut.we ? memory[dut.addr] : 0;
+    dut.clk = 1;
+    dut.eval();
+    for (int place = 0; place < %(latency)d; place++) answers[place] = answers[place + 1];
+    dut.reset = 0;
+    dut.clk = 0;
+  }
+  dut.eval();
+  printf("failed %%d\\n", failed);
+}
+"""
+
+
+def has_verilator() -> bool:
+    """Whether a Verilator is here that makes a whole program of a testbench."""
+    return shutil.which("verilator") is not None and bool(re.search(r"Verilator [5-9]", timed("verilator", "--version").said))
+
+
+def microseconds(none: Timed, whole: Timed, cycles: int) -> float:
+    """The time of a cycle: a run of no cycles is taken off. A module that fails is not measured."""
+    if not re.search(r"failed (?:0|false)|not done", whole.said):
+        raise SystemExit(f"a module fails, or does not run: {whole.said}")
+    return max(whole.seconds - none.seconds, 1e-9) / cycles * 1e6
+
+
+def ours(name: str, latency: int, folder: pathlib.Path) -> float:
+    runs = [best(6, CYCLE_BENCH, folder / f"{name}.v", cycles, latency) for cycles in (0, CYCLES)]
+    return microseconds(runs[0], runs[1], CYCLES)
+
+
+def icarus(name: str, words: int, latency: int, folder: pathlib.Path) -> float:
+    runs, few = [], CYCLES // 20
+    for cycles in (0, few):
+        values = {"name": name, "last": words - 1, "latency": latency, "cycles": cycles, "top": (words - 1).bit_length() - 1}
+        (bench,) = write(folder, **{"bench.v": ICARUS % values})
+        timed("iverilog", "-g2005", "-o", folder / "bench", bench, folder / f"{name}.v")
+        runs.append(best(3, folder / "bench"))
+    return microseconds(runs[0], runs[1], few)
+
+
+def verilator(name: str, latency: int, folder: pathlib.Path) -> tuple[float, float]:
+    """The time of a cycle, and of building."""
+    (main,) = write(folder, **{f"{name}.cpp": VERILATOR % {"name": name, "latency": latency}})
+    build = ["verilator", "--cc", "--exe", "--build", "-O3", "-CFLAGS", "-O3", "-Wno-fatal", "--top-module", f"{name}_bist"]
+    built = timed(*build, "--Mdir", folder / f"{name}_made", folder / f"{name}.v", main)
+    runs = [best(6, folder / f"{name}_made" / f"V{name}_bist", cycles) for cycles in (0, CYCLES)]
+    return microseconds(runs[0], runs[1], CYCLES), built.seconds
+
+
+def clock(folder: pathlib.Path) -> list[Figure]:
+    """The cycle simulator on two self-test modules, with a memory that answers what was written, from reset on."""
+    want(CYCLE_BENCH)
+    made = []
+    for name, march, memory, words, latency in MODULES:
+        files = write(folder, march=march, memory=memory, none="")
+        asked("compile", *files, folder / f"{name}.v", folder / "report")
+        each = ours(name, latency, folder)
+        if shutil.which("iverilog"):
+            made.append(Figure(f"a cycle of {TOLD[name]}", each, "microseconds", "Icarus", icarus(name, words, latency, folder)))
+        if shutil.which("verilator"):
+            compiled, building = verilator(name, latency, folder)
+            made.append(Figure(f"a cycle of {TOLD[name]}", each, "microseconds", "Verilator", compiled))
+            made.append(Figure(f"Verilator compiles {TOLD[name]}", building, "s"))
+    return made
+
+
+def closed_loop(folder: pathlib.Path) -> list[Figure]:
+    """`bench` on 1,680,000 commands, beside simulators that run the module and the memory of `vidlakost testbench`."""
+    march, memory, none = write(folder, march=C, memory=memory_text("wide", 24000, 64), none="")
+    loop = best(6, PROGRAM, "bench", march, memory).seconds
+    asked("compile", march, memory, none, folder / "wide_bist.v", folder / "report")
+    timed(sys.executable, ROOT / "tools" / "testbench", march, memory, folder)
+    files = ["wide_tb.v", "wide_bist.v"]
+    made = []
+    if shutil.which("iverilog"):
+        timed("iverilog", "-g2005", "-o", "tb", *files, folder=folder)
+        made.append(Figure("`bench`, 1,680,000 commands", loop, "s", "Icarus", timed("vvp", "-n", "tb", folder=folder).seconds))
+    if has_verilator():
+        build = ["verilator", "--binary", "-O3", "-Wno-fatal", "-Wno-lint", "--top-module", "wide_tb", "--Mdir", "built"]
+        built = timed(*build, *files, folder=folder).seconds
+        run = timed("./built/Vwide_tb", folder=folder).seconds
+        made.append(Figure("`bench`, 1,680,000 commands", loop, "s", "Verilator", run))
+        made.append(Figure("Verilator compiles that testbench", built, "s"))
+    return made or [Figure("`bench`, 1,680,000 commands", loop, "s")]
