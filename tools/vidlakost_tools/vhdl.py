@@ -5,6 +5,7 @@ import pathlib
 import re
 import shutil
 import subprocess
+from typing import Any
 
 from vidlakost_tools.text import lines_of, read_described
 from vidlakost_tools.tool import ToolError, identifier
@@ -14,7 +15,7 @@ def is_vhdl(file: str) -> bool:
     return pathlib.Path(file).suffix.lower() in (".vhd", ".vhdl")
 
 
-def verilog_of(files: list[str], options: dict, folder: pathlib.Path) -> tuple[list[str], dict]:
+def verilog_of(files: list[str], options: dict[str, Any], folder: pathlib.Path) -> tuple[list[str], dict[str, Any]]:
     """The files with GHDL's Verilog in place of those in VHDL; the top is then its last entity, or the one that is named."""
     vhdl = [file for file in files if is_vhdl(file)]
     if not vhdl:
@@ -61,7 +62,7 @@ def with_defaults(verilog: str, vhdl: str) -> str:
         if value is not None:
             others[name] = value
 
-    def whole(match: re.Match) -> str:
+    def whole(match: re.Match[str]) -> str:
         target = re.search(r": (\w+) <=", match[0])
         if "default:" in match[0] or target is None or target[1] not in others:
             return match[0]
