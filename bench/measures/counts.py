@@ -19,7 +19,7 @@ def counted(*words: str) -> list[Figure]:
         raise SystemExit(f"{' '.join(words)} ends with {call.status}: {call.said[-2000:]}")
     found = re.findall(r"(\d[\d,]*) ([a-z][a-z -]*)", lines[-1])
     title = f"`{'vidlakost ' + path[6:] if path.startswith('tools/') else path}{''.join(' ' + word for word in rest)}`"
-    return [Figure(title, int(number.replace(",", "")), unit.strip()) for number, unit in found]
+    return [Figure(title, int(number.replace(",", "")), re.sub(" and$", "", unit.strip())) for number, unit in found]
 
 
 def brute(folder: pathlib.Path) -> list[Figure]:

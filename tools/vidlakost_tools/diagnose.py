@@ -312,7 +312,7 @@ def misfit(words: list[str], said: str) -> list[str]:
     for place, (element, letter) in enumerate(zip(elements, directions)):
         wants = {"up": "u", "down": "d", "del": "u"}.get(element.order, letter)
         if letter != wants:
-            shown[place] += f"   a pause has u" if element.is_pause else f"   this element goes {element.order}: {wants}"
+            shown[place] += "   a pause has u" if element.is_pause else f"   this element goes {element.order}: {wants}"
             lines[0] = (
                 f"DIRS: error: letter {place} is '{letter}', and does not agree with element {place}"
                 if len(directions) == len(elements)
