@@ -152,8 +152,8 @@ USUAL = {
 }
 
 
-def proposed(ports: dict[str, Any], memory: Memory) -> list[str]:
-    """Lines of a file of pins for these ports: a guess, to be looked at."""
+def proposed(ports: dict[str, Any], memory: Memory, clock: str | None) -> list[str]:
+    """Lines of a file of pins for these ports, of which one is the clock: a guess, to be looked at."""
     widths = {"rdata": memory.bits, "wdata": memory.bits, "addr": memory.width}
     left, lines = dict(ports), []
     for port in (*INPUTS, *OUTPUTS):
@@ -162,6 +162,7 @@ def proposed(ports: dict[str, Any], memory: Memory) -> list[str]:
             name for name, said in left.items() if said["direction"] == way and len(said["bits"]) == widths.get(port, 1)
         ]
         found = next((name for name in fitting if is_usual(name, port)), None)
+        found = clock if port == "clk" and clock in left else found
         if found:
             del left[found]
         is_low = found is not None and re.search(r"(_n|_b|cen|wen|csn)$", found) is not None

@@ -35,7 +35,8 @@ TRIES = (WORDS, f"{WORDS}{RARE}{OPEN_X}{SIMPLER}", *ALL_GATES)
 
 @dataclasses.dataclass
 class Plain:
-    """A module of the subset: its ports, and what drives each name; of a name the signal of the sources with its place."""
+    """A module of the subset: its ports, and what drives each name; of a name the signal of the sources with its place;
+    the pin that is its clock."""
 
     name: str
     ports: list[tuple[str, str, int]]
@@ -44,6 +45,7 @@ class Plain:
     registers: list[Drive]
     opens: list[str]
     places: dict[str, str]
+    clock: str | None
     warnings: list[str] = dataclasses.field(default_factory=list)
 
     def text(self) -> str:
@@ -131,4 +133,5 @@ def written(name: str, module: dict[str, Any], pins: Pins | None, clock: clock_t
         registers,
         writer.opens,
         writer.places,
+        clock.port,
     )
