@@ -28,9 +28,11 @@ def verilog_of(files: list[str], options: dict[str, Any], folder: pathlib.Path) 
         raise ToolError(f"{vhdl[-1]} has no entity")
     top = identifier(options.get("--top", entities[-1]), "the top")
     names = [str(pathlib.Path(file).resolve()) for file in vhdl]
+    text = with_defaults(synthesized("verilog", names, top, folder), synthesized("vhdl", names, top, folder))
+    modules = [name for name in re.findall(r"^module (\w+)", text, re.MULTILINE) if name.lower() == top.lower()]
     made = folder / "vhdl.v"
-    made.write_text(with_defaults(synthesized("verilog", names, top, folder), synthesized("vhdl", names, top, folder)))
-    return [*(file for file in files if file not in vhdl), str(made)], {**options, "--top": top.lower()}
+    made.write_text(text, encoding="utf-8")
+    return [*(file for file in files if file not in vhdl), str(made)], {**options, "--top": (modules or [top])[-1]}
 
 
 def synthesized(form: str, names: list[str], top: str, folder: pathlib.Path) -> str:
