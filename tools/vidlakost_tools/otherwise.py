@@ -8,8 +8,8 @@ from typing import Iterator
 
 from vidlakost_tools.finding import place
 from vidlakost_tools.text import read_described, statements
+from vidlakost_tools.verilog import COMMENT
 
-COMMENT = re.compile(rb"//[^\n]*|/\*.*?\*/", re.DOTALL)
 # what may stand in a comment, or as a blank, and why another tool may go another way
 IN_TEXT = [
     (rb"\r(?!\n)", "a carriage return that no line feed follows: some tools end a line, and a comment with it, there"),
@@ -44,7 +44,8 @@ def places_in(text: bytes) -> Iterator[tuple[int, str]]:
         found = re.search(pattern, text)
         if found:
             yield found.start(), why
-    comments = [(match.start(), match[0] + text[match.end() : match.end() + 1]) for match in COMMENT.finditer(text)]
+    found_comments = re.finditer(COMMENT.encode(), text, re.DOTALL)
+    comments = [(match.start(), match[0] + text[match.end() : match.end() + 1]) for match in found_comments]
     for pattern, why in IN_COMMENT:
         hits = (begin + found.start() for begin, comment in comments for found in [re.search(pattern, comment)] if found)
         first = next(hits, None)

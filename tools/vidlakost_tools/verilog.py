@@ -6,8 +6,10 @@ import re
 import sys
 from typing import Union
 
+COMMENT = r"//[^\n]*|/\*.*?\*/"
 LEXEME = re.compile(
-    r"(?:\s|//[^\n]*|/\*.*?\*/)+|(?P<literal>\d+'[bodhBODH][0-9a-fA-F_]+)|(?P<number>\d+)|(?P<name>[A-Za-z_][\w$]*)|"
+    rf"(?:\s|{COMMENT})+|"
+    r"(?P<literal>\d+'[bodhBODH][0-9a-fA-F_]+)|(?P<number>\d+)|(?P<name>[A-Za-z_][\w$]*)|"
     r"(?P<mark><=|>=|==|!=|&&|\|\||<<|>>|~&|~\||~\^|\^~|.)",
     re.DOTALL | re.ASCII,
 )
