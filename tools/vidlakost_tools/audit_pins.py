@@ -4,6 +4,7 @@ from __future__ import annotations
 
 import dataclasses
 import re
+from typing import Any
 
 from vidlakost_tools.memory import Memory
 from vidlakost_tools.text import lines_of, read_described, words_in
@@ -44,7 +45,7 @@ class Pins:
     def clock(self) -> Pin | None:
         return next((pin for port, pin in self.pins if port == "clk"), None)
 
-    def complete(self, ports: dict) -> Pins:
+    def complete(self, ports: dict[str, Any]) -> Pins:
         """With each port that has no line at the pin of its own name; every pin of the module has to be told."""
         told = [pin.name for _, pin in self.pins] + [*self.ties, *self.opens]
         twice = next((name for name in told if told.count(name) > 1), None)
@@ -57,7 +58,7 @@ class Pins:
         whole.refuse_directions(ports)
         return whole
 
-    def refuse_missing(self, ports: dict) -> None:
+    def refuse_missing(self, ports: dict[str, Any]) -> None:
         told = {pin.name for _, pin in self.pins} | set(self.ties) | set(self.opens)
         for name in sorted(told - set(ports)):
             raise ToolError(f"{self.file}: the module has no pin '{name}'; its pins are {', '.join(ports)}")
@@ -74,7 +75,7 @@ class Pins:
         if double or given.count("clk") > 1:
             raise ToolError(f"{self.file}: '{double or 'clk'}' stands once")
 
-    def refuse_directions(self, ports: dict) -> None:
+    def refuse_directions(self, ports: dict[str, Any]) -> None:
         wanted = [(pin.name, "input") for _, pin in self.inputs()] + [(pin.name, "output") for _, pin in self.outputs()]
         wanted += [(name, "input") for name in self.ties] + [(name, "output") for name in self.opens]
         for name, way in wanted:
@@ -84,7 +85,7 @@ class Pins:
             if value >> len(ports[name]["bits"]):
                 raise ToolError(f"{self.file}: {name} has {len(ports[name]['bits'])} bits, and {value} does not fit")
 
-    def widths(self, ports: dict) -> list[tuple[str, str, int]]:
+    def widths(self, ports: dict[str, Any]) -> list[tuple[str, str, int]]:
         """The ports of the rule, each with its way and the width of its pin."""
         found: dict[str, tuple[str, str, int]] = {}
         for port, pin in self.pins:
@@ -151,8 +152,8 @@ USUAL = {
 }
 
 
-def proposed(ports: dict, memory: Memory) -> list[str]:
-    """Lines of a file of pins for these ports: a guess, to be looked at."""
+def proposed(ports: dict[str, Any], memory: Memory, clock: str | None) -> list[str]:
+    """Lines of a file of pins for these ports, of which one is the clock: a guess, to be looked at."""
     widths = {"rdata": memory.bits, "wdata": memory.bits, "addr": memory.width}
     left, lines = dict(ports), []
     for port in (*INPUTS, *OUTPUTS):
@@ -161,6 +162,7 @@ def proposed(ports: dict, memory: Memory) -> list[str]:
             name for name, said in left.items() if said["direction"] == way and len(said["bits"]) == widths.get(port, 1)
         ]
         found = next((name for name in fitting if is_usual(name, port)), None)
+        found = clock if port == "clk" and clock in left else found
         if found:
             del left[found]
         is_low = found is not None and re.search(r"(_n|_b|cen|wen|csn)$", found) is not None

@@ -8,6 +8,7 @@ import re
 import subprocess
 import sys
 import tempfile
+from typing import Any
 
 from vidlakost_tools.program import ROOT, ask, run
 from vidlakost_tools.random_cases import changed, random_case
@@ -41,7 +42,7 @@ def told(tool: str, files: list[pathlib.Path]) -> tuple[int, str]:
 def compare(number: int, chance: random.Random) -> int:
     """Both say the same of each module, and the first cycle that differs is the same where `audit` knows it."""
     wrong = 0
-    said_of: collections.Counter = collections.Counter()
+    said_of: collections.Counter[str] = collections.Counter()
     with tempfile.TemporaryDirectory() as name:
         folder = pathlib.Path(name)
         files = [folder / word for word in ("module.v", "march", "memory")]

@@ -2,6 +2,7 @@
 from __future__ import annotations
 
 import pathlib
+from typing import Any, Iterator
 
 from vidlakost_tools.front_end import Plain
 from vidlakost_tools.gates import Machine, gates_of
@@ -43,11 +44,11 @@ def due_in(command: tuple[bool, int, int] | None, cycle: int, end: int, memory: 
     return ports
 
 
-def runs_of(plain: Plain, commands: list, memory: Memory, last: int):
+def runs_of(plain: Plain, commands: list[Any], memory: Memory, last: int) -> Iterator[tuple[int, dict[str, str]]]:
     """Of each cycle the words of all registers and ports, and of the ports that are due, by their names."""
     module = gates_of(plain)
     machine = Machine(module, PORTS)
-    names: dict[str, list] = {}
+    names: dict[str, list[tuple[int, Any]]] = {}
     for bit in machine.registers:
         name, index, _ = machine.names().get(bit, (None, 0, 0))
         if name:
@@ -66,7 +67,7 @@ def runs_of(plain: Plain, commands: list, memory: Memory, last: int):
         yield cycle, {"clk": "", "reset": str(int(cycle == 0)), **words, **{f"due.{port}": word for port, word in due.items()}}
 
 
-def write_wave(file: str, plain: Plain, commands: list, memory: Memory, cycle: int) -> None:
+def write_wave(file: str, plain: Plain, commands: list[Any], memory: Memory, cycle: int) -> None:
     """Writes the cycles round the one that was found, and a save file at it."""
     lines: list[str] = []
     codes: dict[str, str] = {}

@@ -3,6 +3,7 @@ else of them."""
 from __future__ import annotations
 
 import re
+from typing import Any
 
 from vidlakost_tools.tool import ToolError
 
@@ -18,7 +19,7 @@ HINTS = {
 }
 
 
-def place_of(module: dict, cell: dict) -> str:
+def place_of(module: dict[str, Any], cell: dict[str, Any]) -> str:
     """The signal that a cell drives, and where it stands in the sources."""
     driven = {bit for pin, bits in cell["connections"].items() if pin in ("Q", "Y", "RD_DATA") for bit in bits}
     names = [name for name, net in module["netnames"].items() if not net["hide_name"] and driven & set(net["bits"])]
@@ -37,7 +38,7 @@ def is_refused(kind: str) -> bool:
     return any(re.match(pattern, kind) for pattern, _ in REFUSED)
 
 
-def refuse_cells(module: dict, taken: set[str]) -> None:
+def refuse_cells(module: dict[str, Any], taken: set[str]) -> None:
     """Refuses what later passes would make something else of, as a flip-flop of a latch; not those that are taken."""
     for name, cell in module["cells"].items():
         if name in taken:

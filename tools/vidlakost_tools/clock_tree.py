@@ -6,6 +6,7 @@ import dataclasses
 import json
 import pathlib
 import re
+from typing import Any
 
 from vidlakost_tools import yosys
 from vidlakost_tools.audit_pins import Pins
@@ -45,7 +46,7 @@ class Path:
 class Tree:
     """The clocks of a module before anything in it is made simpler."""
 
-    def __init__(self, module: dict):
+    def __init__(self, module: dict[str, Any]):
         self.module, self.cells = module, module["cells"]
         self.inputs = {said["bits"][0]: port for port, said in module["ports"].items() if said["direction"] == "input"}
         self.drivers = {
@@ -57,13 +58,13 @@ class Tree:
         }
         self.gates: set[str] = set()
 
-    def refuse(self, cell: dict, why: str) -> None:
+    def refuse(self, cell: dict[str, Any], why: str) -> None:
         raise ToolError(f"{place_of(self.module, cell) or 'a register'}: {why}", 1)
 
-    def pin(self, cell: dict, *names: str) -> list:
+    def pin(self, cell: dict[str, Any], *names: str) -> list[Any]:
         return next((cell["connections"][name] for name in names if name in cell["connections"]), [])
 
-    def level(self, cell: dict, parameter: str, letter: str | None) -> int:
+    def level(self, cell: dict[str, Any], parameter: str, letter: str | None) -> int:
         """A polarity: of a fine cell its letter, of another its parameter."""
         return int(letter == "P") if letter else int(cell["parameters"].get(parameter, "1"), 2)
 
@@ -93,7 +94,7 @@ class Tree:
             bit = pins["B" if chosen.is_inverted != clock.is_inverted else "A"][pins["Y"].index(bit)]
         return bit
 
-    def path(self, bit: object, register: dict, depth: int = 0) -> Path:
+    def path(self, bit: object, register: dict[str, Any], depth: int = 0) -> Path:
         """The path of a clock to an input."""
         if isinstance(bit, int) and bit in self.inputs:
             return Path(bit, False)
@@ -111,7 +112,7 @@ class Tree:
         self.refuse(register, f"its clock is made by a cell {cell['type']} ({place_of(self.module, cell)}), and is no input")
         raise AssertionError
 
-    def gated(self, name: str, register: dict, depth: int) -> Path:
+    def gated(self, name: str, register: dict[str, Any], depth: int) -> Path:
         """The path through a clock gate: one of its operands is held while the other, a clock, is high."""
         pins = self.cells[name]["connections"]
         for clock, enable in ((pins["A"][0], pins["B"][0]), (pins["B"][0], pins["A"][0])):
@@ -131,7 +132,7 @@ class Tree:
         )
         raise AssertionError
 
-    def holds_while_high(self, holder: dict, clock: Path, register: dict, depth: int) -> bool:
+    def holds_while_high(self, holder: dict[str, Any], clock: Path, register: dict[str, Any], depth: int) -> bool:
         """Whether a latch is open while a clock is low, or a flip-flop takes what it holds when the clock falls."""
         latch, plain = LATCH.match(holder["type"]), PLAIN.match(holder["type"])
         letter = latch[1] if latch else plain[1] if plain else None
@@ -268,7 +269,7 @@ def rewrite(tree: Tree, registers: dict[str, Edge], holders: set[str]) -> None:
         del tree.cells[holder]
 
 
-def both(first: object, second: object, result: int) -> dict:
+def both(first: object, second: object, result: int) -> dict[str, Any]:
     return {
         "hide_name": 1,
         "type": "$_AND_",
@@ -279,7 +280,7 @@ def both(first: object, second: object, result: int) -> dict:
     }
 
 
-def set_kind(cell: dict, fine: re.Match | None, enable: object) -> None:
+def set_kind(cell: dict[str, Any], fine: re.Match[str] | None, enable: object) -> None:
     """The kind of a flip-flop at the rising edge, with or without an enable."""
     if fine:
         family, _, rest = fine.groups()

@@ -7,6 +7,7 @@ import dataclasses
 import pathlib
 import re
 import tempfile
+from typing import Any
 
 from vidlakost_tools import clock_tree, yosys
 from vidlakost_tools.audit_pins import Pins
@@ -34,7 +35,8 @@ TRIES = (WORDS, f"{WORDS}{RARE}{OPEN_X}{SIMPLER}", *ALL_GATES)
 
 @dataclasses.dataclass
 class Plain:
-    """A module of the subset: its ports, and what drives each name; of a name the signal of the sources with its place."""
+    """A module of the subset: its ports, and what drives each name; of a name the signal of the sources with its place;
+    the pin that is its clock."""
 
     name: str
     ports: list[tuple[str, str, int]]
@@ -43,6 +45,7 @@ class Plain:
     registers: list[Drive]
     opens: list[str]
     places: dict[str, str]
+    clock: str | None
     warnings: list[str] = dataclasses.field(default_factory=list)
 
     def text(self) -> str:
@@ -62,7 +65,7 @@ class Plain:
 # ---- the module
 
 
-def plain_of(files: list[str], options: dict, pins: Pins | None = None, tries: tuple[str, ...] = TRIES) -> Plain:
+def plain_of(files: list[str], options: dict[str, Any], pins: Pins | None = None, tries: tuple[str, ...] = TRIES) -> Plain:
     """The module of the sources, with the ports of the pins where these are told; the first of the tries that gives one."""
     yosys.want()
     with tempfile.TemporaryDirectory() as name:
@@ -88,7 +91,7 @@ def plain_of(files: list[str], options: dict, pins: Pins | None = None, tries: t
         return plain
 
 
-def sources_of(files: list[str], options: dict, folder: pathlib.Path) -> yosys.Sources:
+def sources_of(files: list[str], options: dict[str, Any], folder: pathlib.Path) -> yosys.Sources:
     """The sources as Yosys reads them; a module or a cell that is missing, or stands twice, is told by its name."""
     try:
         return yosys.read(files, options, folder)
@@ -112,13 +115,13 @@ def refuse_calls(warnings: list[str]) -> None:
             raise ToolError(f"{found[1]}: {found[2]} is a call for simulations, and no logic", 1)
 
 
-def refuse_names(ports: dict) -> None:
+def refuse_names(ports: dict[str, Any]) -> None:
     for port in ports:
         if not re.fullmatch(r"[A-Za-z_][\w$]{0,63}", port, re.ASCII):
             raise ToolError(f"the port {shown(port)} is no simple identifier", 1)
 
 
-def written(name: str, module: dict, pins: Pins | None, clock: clock_tree.Clock) -> Plain:
+def written(name: str, module: dict[str, Any], pins: Pins | None, clock: clock_tree.Clock) -> Plain:
     writer = Writer(module, pins, clock.port)
     wires, registers = writer.cells()
     outputs = writer.outputs()
@@ -130,4 +133,5 @@ def written(name: str, module: dict, pins: Pins | None, clock: clock_tree.Clock)
         registers,
         writer.opens,
         writer.places,
+        clock.port,
     )

@@ -4,6 +4,7 @@ from __future__ import annotations
 
 import pathlib
 import tempfile
+from typing import Any, Callable
 
 from vidlakost_tools import yosys
 from vidlakost_tools.front_end import OPEN_X, SIMPLER, Plain
@@ -12,7 +13,7 @@ from vidlakost_tools.tool import ToolError
 BINARY = {"$_AND_": "and", "$_OR_": "or", "$_XOR_": "xor", "$_NAND_": "nand", "$_NOR_": "nor", "$_XNOR_": "xnor"}
 
 
-def gates_of(plain: Plain) -> dict:
+def gates_of(plain: Plain) -> dict[str, Any]:
     """The module as gates, made by Yosys of the text that `check` reads."""
     with tempfile.TemporaryDirectory() as name:
         folder = pathlib.Path(name)
@@ -30,7 +31,7 @@ def gates_of(plain: Plain) -> dict:
 class Machine:
     """The gates on which some ports hang, as a function of their registers and inputs."""
 
-    def __init__(self, module: dict, ports_wanted: tuple[str, ...]):
+    def __init__(self, module: dict[str, Any], ports_wanted: tuple[str, ...]):
         self.module = module
         ports = module["ports"]
         self.words = ports["rdata"]["bits"]
@@ -46,13 +47,13 @@ class Machine:
         self.order, self.registers = self.cone()
         self.step = self.compiled(self.results)
 
-    def operands(self, cell: dict) -> list:
+    def operands(self, cell: dict[str, Any]) -> list[Any]:
         return [bits[0] for pin, bits in cell["connections"].items() if pin not in ("Y", "Q", "C")]
 
-    def is_register(self, cell: dict) -> bool:
-        return cell["type"] == "$_DFF_P_"
+    def is_register(self, cell: dict[str, Any]) -> bool:
+        return bool(cell["type"] == "$_DFF_P_")
 
-    def cone(self) -> tuple[list, list]:
+    def cone(self) -> tuple[list[Any], list[Any]]:
         """The gates' outputs, each behind its operands, and the registers, on which the ports hang in any cycle."""
         registers, order, done = [], [], set()
         roots = list(self.results)
@@ -82,7 +83,7 @@ class Machine:
         known = bit in self.known
         return (f"a{bit}", f"b{bit}") if known else ("0", "0")
 
-    def gate(self, cell: dict) -> tuple[str, str]:
+    def gate(self, cell: dict[str, Any]) -> tuple[str, str]:
         kind, pins = cell["type"], cell["connections"]
         a1, a0 = self.pair(pins["A"][0])
         if kind in ("$_NOT_", "$_BUF_"):
@@ -100,9 +101,9 @@ class Machine:
         }[BINARY[kind].replace("xn", "x").replace("nand", "and").replace("nor", "or")]
         return (zero, one) if BINARY[kind] in ("nand", "nor", "xnor") else (one, zero)
 
-    def names(self) -> dict:
+    def names(self) -> dict[object, tuple[str, int, int]]:
         """Of each bit of a port or of a register its name and its place in it."""
-        found: dict = {}
+        found: dict[object, tuple[str, int, int]] = {}
         for name, net in self.module["netnames"].items():
             if not net["hide_name"]:
                 found.update({bit: (name, index, len(net["bits"])) for index, bit in enumerate(net["bits"])})
@@ -111,7 +112,7 @@ class Machine:
                 found.update({bit: (name, index, len(said["bits"])) for index, bit in enumerate(said["bits"])})
         return found
 
-    def compiled(self, results: list):
+    def compiled(self, results: list[Any]) -> Callable[..., Any]:
         """A function of the registers, the inputs and all lanes to the registers behind the edge and the results."""
         self.known = {*self.order, *self.registers, *self.inputs}
         lines = ["def step(state, inputs, full):"]
@@ -124,6 +125,7 @@ class Machine:
         after = [self.pair(self.driver[bit]["connections"]["D"][0]) for bit in self.registers]
         told = ["[" + "".join(f"({one}, {zero}), " for one, zero in pairs) + "]" for pairs in (after, map(self.pair, results))]
         lines.append(f"  return {told[0]}, {told[1]}")
-        made: dict = {}
+        made: dict[str, Any] = {}
         exec("\n".join(lines), made)  # names and marks of this module alone, made from numbers of bits
-        return made["step"]
+        step: Callable[..., Any] = made["step"]
+        return step

@@ -10,6 +10,7 @@ from __future__ import annotations
 
 import dataclasses
 import time
+from typing import Any, Iterator
 
 from vidlakost_tools.gates import Machine
 from vidlakost_tools.tool import tell
@@ -150,7 +151,7 @@ def found_at(fail: tuple[int, int], cycle: int, want: int, lane: int, slots: dic
     return found
 
 
-def run_slice(machine: Machine, plan: Plan, answers: list[int], start: tuple[int, list], clock: Clock) -> Found:
+def run_slice(machine: Machine, plan: Plan, answers: list[int], start: tuple[int, list[Any]], clock: Clock) -> Found:
     """A lane for each bit of each of some answers to the end of the test, from the state of lane 0 at the first of them."""
     bits = plan.bits
     place = {cycle: count * bits for count, cycle in enumerate(answers)}
@@ -183,7 +184,7 @@ def run_slice(machine: Machine, plan: Plan, answers: list[int], start: tuple[int
     return Found("exact", cycle - 1)
 
 
-def states_at(machine: Machine, plan: Plan, cycles: list[int]):
+def states_at(machine: Machine, plan: Plan, cycles: list[int]) -> Iterator[tuple[int, list[Any]]]:
     """Of lane 0 the state at the begin of each of these cycles."""
     state, wanted = [(0, 0)] * len(machine.registers), set(cycles)
     for cycle in range(max(cycles) + 1):

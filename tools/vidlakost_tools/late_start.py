@@ -4,6 +4,7 @@ from __future__ import annotations
 
 import dataclasses
 import itertools
+from typing import Any
 
 from vidlakost_tools import open_run
 from vidlakost_tools.front_end import Plain
@@ -36,7 +37,7 @@ def late(plain: Plain, first: int) -> Late | None:
     return Late(delay, started(plain, cycles[delay + 1]), in_reset)
 
 
-def started(plain: Plain, at: dict) -> Plain:
+def started(plain: Plain, at: dict[str, Any]) -> Plain:
     """The module whose reset sets each register to what it holds in a cycle; what is open there stays as it is."""
 
     def reset(register: Drive) -> Drive:

@@ -1,6 +1,8 @@
 """The rows of tools/selftest for `audit`, and what it needs of files."""
 from __future__ import annotations
 
+from typing import List, Tuple
+
 from vidlakost_tools.program import ROOT
 from vidlakost_tools.text import read_text
 
@@ -22,7 +24,7 @@ FILES = {
 }
 
 
-def rows() -> list[tuple]:
+def rows() -> list[tuple[str, list[str], int, str, str]]:
     """Each line of the table as a call."""
     found = []
     for line in read_text(ROOT / FOLDER / "styles" / "answers").splitlines():
@@ -35,7 +37,7 @@ def rows() -> list[tuple]:
     return found
 
 
-CALLS = [
+CALLS: List[Tuple[str, List[str], int, str, str]] = [
     ("yosys", ["tools/audit", "latch.v", "c.m", "s.mem"], 1, "audit: refused", "audit: "),
     ("yosys", ["tools/audit", "no_clear.v", "c.m", "s.mem"], 1, "en hangs on later", "audit: "),
     ("yosys", ["tools/audit", NAMES, "c.m", "s.mem"], 1, "", "audit: a self-test of s has the ports"),

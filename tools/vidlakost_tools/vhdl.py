@@ -5,6 +5,7 @@ import pathlib
 import re
 import shutil
 import subprocess
+from typing import Any
 
 from vidlakost_tools.text import lines_of, read_described
 from vidlakost_tools.tool import ToolError, identifier
@@ -14,7 +15,7 @@ def is_vhdl(file: str) -> bool:
     return pathlib.Path(file).suffix.lower() in (".vhd", ".vhdl")
 
 
-def verilog_of(files: list[str], options: dict, folder: pathlib.Path) -> tuple[list[str], dict]:
+def verilog_of(files: list[str], options: dict[str, Any], folder: pathlib.Path) -> tuple[list[str], dict[str, Any]]:
     """The files with GHDL's Verilog in place of those in VHDL; the top is then its last entity, or the one that is named."""
     vhdl = [file for file in files if is_vhdl(file)]
     if not vhdl:
@@ -27,9 +28,11 @@ def verilog_of(files: list[str], options: dict, folder: pathlib.Path) -> tuple[l
         raise ToolError(f"{vhdl[-1]} has no entity")
     top = identifier(options.get("--top", entities[-1]), "the top")
     names = [str(pathlib.Path(file).resolve()) for file in vhdl]
+    text = with_defaults(synthesized("verilog", names, top, folder), synthesized("vhdl", names, top, folder))
+    modules = [name for name in re.findall(r"^module (\w+)", text, re.MULTILINE) if name.lower() == top.lower()]
     made = folder / "vhdl.v"
-    made.write_text(with_defaults(synthesized("verilog", names, top, folder), synthesized("vhdl", names, top, folder)))
-    return [*(file for file in files if file not in vhdl), str(made)], {**options, "--top": top.lower()}
+    made.write_text(text, encoding="utf-8")
+    return [*(file for file in files if file not in vhdl), str(made)], {**options, "--top": (modules or [top])[-1]}
 
 
 def synthesized(form: str, names: list[str], top: str, folder: pathlib.Path) -> str:
@@ -61,7 +64,7 @@ def with_defaults(verilog: str, vhdl: str) -> str:
         if value is not None:
             others[name] = value
 
-    def whole(match: re.Match) -> str:
+    def whole(match: re.Match[str]) -> str:
         target = re.search(r": (\w+) <=", match[0])
         if "default:" in match[0] or target is None or target[1] not in others:
             return match[0]

@@ -4,6 +4,7 @@ from __future__ import annotations
 
 import collections
 import dataclasses
+from typing import Any
 
 from vidlakost_tools.front_end import Plain
 from vidlakost_tools.gates import Machine
@@ -16,8 +17,8 @@ KEPT = 8_000_000
 class Values:
     """Of a cycle the bits that are open, and those that are 1."""
 
-    opens: set
-    ones: set
+    opens: set[Any]
+    ones: set[Any]
 
 
 def values_of(machine: Machine, words: dict[int, list[tuple[int, int]]], last: int) -> dict[int, Values]:
@@ -26,7 +27,7 @@ def values_of(machine: Machine, words: dict[int, list[tuple[int, int]]], last: i
     step = machine.compiled(bits)
     state = [(0, 0)] * len(machine.registers)
     nothing = [(0, 0)] * len(machine.words)
-    kept: collections.deque = collections.deque(maxlen=max(256, KEPT // max(1, len(bits))))
+    kept: collections.deque[Any] = collections.deque(maxlen=max(256, KEPT // max(1, len(bits))))
     for cycle in range(last + 1):
         state, told = step(state, [*words.get(cycle, nothing), (1, 0) if cycle == 0 else (0, 1)], 1)
         pairs = list(zip(bits, told))
@@ -52,7 +53,7 @@ class Search:
         told = self.plain.places.get(name, name).split(" (")[0]
         return told if width == 1 else f"{told}[{index}]"
 
-    def operands(self, bit: object, cycle: int) -> list:
+    def operands(self, bit: object, cycle: int) -> list[Any]:
         """The open bits on which a gate's output hangs."""
         cell = self.machine.driver[bit]
         pins = cell["connections"]
@@ -70,9 +71,9 @@ class Search:
 
     def reasons(self, port: str, bit: object, cycle: int) -> list[str]:
         """What a bit of a port hangs on in a cycle, the shortest ways first."""
-        todo: collections.deque = collections.deque([(cycle, bit, (port,))])
-        seen: set = set()
-        found: dict[str, tuple] = {}
+        todo: collections.deque[Any] = collections.deque([(cycle, bit, (port,))])
+        seen: set[Any] = set()
+        found: dict[str, tuple[Any, ...]] = {}
         while todo and len(found) < 4:
             here, bit, way = todo.popleft()
             if (here, bit) in seen:

@@ -4,6 +4,7 @@ from __future__ import annotations
 import collections
 import dataclasses
 import re
+from typing import Any
 
 from vidlakost_tools.audit_pins import Pins
 from vidlakost_tools.tool import ToolError
@@ -61,7 +62,7 @@ class Bit:
     width: int
 
 
-def chunks(bits: list, width: int = WIDEST) -> list[list]:
+def chunks(bits: list[Any], width: int = WIDEST) -> list[list[Any]]:
     return [bits[first : first + width] for first in range(0, len(bits), width)]
 
 
@@ -73,28 +74,28 @@ def literal(text: str) -> str:
 class Writer:
     """Writes the cells of a module; each bit has a place in a name, a constant, or is open."""
 
-    def __init__(self, module: dict, pins: Pins | None, clock: str | None):
+    def __init__(self, module: dict[str, Any], pins: Pins | None, clock: str | None):
         self.module, self.clock = module, module["ports"][clock]["bits"][0] if clock else None
-        self.at: dict = {}
-        self.constants: dict = {}
+        self.at: dict[object, Any] = {}
+        self.constants: dict[object, str] = {}
         self.ports: list[tuple[str, str, int]] = []
         self.helpers: list[Drive] = []
         self.opens: list[str] = []
         self.places: dict[str, str] = {}
         self.used: set[str] = set(RESERVED)
-        self.counts: collections.Counter = collections.Counter()
+        self.counts: collections.Counter[str] = collections.Counter()
         self.read: list[str] = []
-        self.results: list[tuple[str, list]] = []
-        self.names = {bit: name for name, net in self.nets() for bit in net["bits"] if isinstance(bit, int)}
+        self.results: list[tuple[str, list[Any]]] = []
+        self.names: dict[object, str] = {bit: name for name, net in self.nets() for bit in net["bits"] if isinstance(bit, int)}
         ports = module["ports"]
         within = [(name, net) for name, net in self.nets() if name not in ports]
-        self.inner = {bit: name for name, net in within for bit in net["bits"] if isinstance(bit, int)}
+        self.inner: dict[object, str] = {bit: name for name, net in within for bit in net["bits"] if isinstance(bit, int)}
         self.whole = {tuple(net["bits"]): name for name, net in self.nets()}
         self.pins = pins
         self.hint_names()
         self.input_ports()
 
-    def nets(self) -> list[tuple[str, dict]]:
+    def nets(self) -> list[tuple[str, dict[str, Any]]]:
         """The named nets, those of the top last, so that their names win."""
         found = [(name, net) for name, net in self.module["netnames"].items() if not net["hide_name"]]
         return sorted(found, key=lambda pair: (-pair[0].count("."), -len(pair[0])))
@@ -133,7 +134,7 @@ class Writer:
             raise ToolError(f"the port {port} has {width} bits, and a word of the subset at most {WIDEST}", 1)
         return width
 
-    def take(self, name: str, bits: list) -> None:
+    def take(self, name: str, bits: list[Any]) -> None:
         for index, bit in enumerate(bits):
             self.at[bit] = Bit(name, index, len(bits))
 
@@ -179,7 +180,7 @@ class Writer:
         self.used.add(found)
         return found
 
-    def name_of(self, bits: list, chosen: str | None = None) -> str:
+    def name_of(self, bits: list[Any], chosen: str | None = None) -> str:
         """A name for what a cell drives: the sources' one, where there is one."""
         whole = chosen or self.whole.get(tuple(bits)) or self.names.get(bits[0])
         name = self.fresh(whole or "n")
@@ -197,9 +198,9 @@ class Writer:
 
     # signals
 
-    def pieces(self, bits: list):
+    def pieces(self, bits: list[Any]) -> list[Any]:
         """The bits, the lowest first, as constants and as parts of names."""
-        pieces: list = []
+        pieces: list[Any] = []
         for bit in bits:
             bit = self.constants.get(bit, bit)
             if bit in ("0", "1"):
@@ -218,7 +219,7 @@ class Writer:
                 pieces.append([place, place.index])
         return pieces
 
-    def open_bit(self, bit) -> None:
+    def open_bit(self, bit: object) -> None:
         """A bit that nothing drives, or an `x`."""
         if bit == self.clock:
             raise ToolError("the clock is read as data, which is outside the subset", 1)
@@ -229,7 +230,7 @@ class Writer:
         if isinstance(bit, int):
             self.at[bit] = Bit(name, 0, 1)
 
-    def signal(self, bits: list) -> str:
+    def signal(self, bits: list[Any]) -> str:
         texts = []
         for piece in self.pieces(bits):
             if isinstance(piece, str):
@@ -267,7 +268,7 @@ class Writer:
             into += self.drives(cell)
         return wires, registers
 
-    def declare(self, cell: dict) -> None:
+    def declare(self, cell: dict[str, Any]) -> None:
         """Names what a cell drives."""
         pin = next((pin for pin in ("Q", "Y") if pin in cell["connections"]), None)
         if pin is None:
@@ -282,7 +283,7 @@ class Writer:
             cell["parts"].append((name, first * WIDEST, len(bits)))
             self.take(name, bits)
 
-    def drives(self, cell: dict) -> list[Drive]:
+    def drives(self, cell: dict[str, Any]) -> list[Drive]:
         self.told()
         found = []
         for name, first, width in cell["parts"]:
@@ -291,17 +292,17 @@ class Writer:
             self.told()
         return found
 
-    def operand(self, cell: dict, pin: str, width: int, signed: bool | None = None) -> list:
+    def operand(self, cell: dict[str, Any], pin: str, width: int, signed: bool | None = None) -> list[Any]:
         """An operand, extended to a width."""
         bits = cell["connections"][pin]
         extend = self.signed(cell, pin) if signed is None else signed
-        return bits[:width] + [bits[-1] if extend else "0"] * (width - len(bits))
+        return [*bits[:width], *[bits[-1] if extend else "0"] * (width - len(bits))]
 
     @staticmethod
-    def signed(cell: dict, pin: str) -> bool:
+    def signed(cell: dict[str, Any], pin: str) -> bool:
         return int(cell["parameters"].get(f"{pin}_SIGNED", "0"), 2) == 1
 
-    def value(self, cell: dict, first: int, width: int) -> tuple[str, list[list[str]]]:
+    def value(self, cell: dict[str, Any], first: int, width: int) -> tuple[str, list[list[str]]]:
         """The part of what a cell drives that begins at a bit, and its names where they stand in groups."""
         kind, pins = cell["type"], cell["connections"]
         part = slice(first, first + width)
@@ -325,10 +326,10 @@ class Writer:
             return COMPOUND[kind].format(**{pin: self.signal(pins[pin]) for pin in "ABCD" if pin in pins}), []
         return self.whole_value(cell, width), []
 
-    def both(self, cell: dict) -> bool:
+    def both(self, cell: dict[str, Any]) -> bool:
         return self.signed(cell, "A") and self.signed(cell, "B")
 
-    def choice(self, cell: dict, part: slice) -> tuple[str, list[list[str]]]:
+    def choice(self, cell: dict[str, Any], part: slice) -> tuple[str, list[list[str]]]:
         texts, groups = {}, []
         self.told()
         for pin in "SBA":
@@ -338,7 +339,7 @@ class Writer:
         text = f"({texts['S']} ? {texts['B']} : {texts['A']})"
         return f"(~{text})" if cell["type"] == "$_NMUX_" else text, groups
 
-    def whole_value(self, cell: dict, width: int) -> str:
+    def whole_value(self, cell: dict[str, Any], width: int) -> str:
         """What a cell drives whose bits hang on all of its operands."""
         kind, pins = cell["type"], cell["connections"]
         if len(cell["parts"]) > 1:
@@ -356,7 +357,7 @@ class Writer:
     def padded(text: str, width: int) -> str:
         return text if width == 1 else "{" + literal("0" * (width - 1)) + ", " + text + "}"
 
-    def truth(self, cell: dict) -> str:
+    def truth(self, cell: dict[str, Any]) -> str:
         """A cell that answers one bit."""
         kind, pins = cell["type"], cell["connections"]
         if kind in EQUAL:
@@ -373,7 +374,7 @@ class Writer:
             return f"({self.reduced('|', pins['A'])} {mark} {self.reduced('|', pins['B'])})"
         raise NotWords(f"a cell {kind} is outside the subset")
 
-    def reduced(self, mark: str, bits: list) -> str:
+    def reduced(self, mark: str, bits: list[Any]) -> str:
         parts = [self.signal(part) if len(part) == 1 else f"({mark}{self.signal(part)})" for part in chunks(bits)]
         return self.joined(mark, parts)
 
@@ -384,13 +385,13 @@ class Writer:
             text = f"({text} {mark} {part})"
         return text
 
-    def equal(self, cell: dict) -> str:
+    def equal(self, cell: dict[str, Any]) -> str:
         width = max(len(cell["connections"][pin]) for pin in "AB")
         mark, join = EQUAL[cell["type"]]
         sides = [chunks(self.operand(cell, pin, width, self.both(cell))) for pin in "AB"]
         return self.joined(join, [f"({self.signal(a)} {mark} {self.signal(b)})" for a, b in zip(*sides)])
 
-    def ordered(self, cell: dict) -> str:
+    def ordered(self, cell: dict[str, Any]) -> str:
         width = max(len(cell["connections"][pin]) for pin in "AB")
         if width > WIDEST:
             raise NotWords(f"a comparison of {width} bits is wider than the words of the subset")
@@ -404,7 +405,7 @@ class Writer:
             texts.append("{" + low + "}" if self.both(cell) else self.signal(bits))
         return f"({texts[0]} {ORDERS[cell['type']]} {texts[1]})"
 
-    def shift(self, cell: dict, width: int) -> str:
+    def shift(self, cell: dict[str, Any], width: int) -> str:
         """A shift by an unsigned number; one that may go beyond the word is left to the gates where an `x` comes in."""
         kind, pins = cell["type"], cell["connections"]
         by = list(pins["B"])

@@ -40,7 +40,7 @@ def sources_of(files: list[str]) -> str:
     return " ".join(map(quoted, files))
 
 
-def libraries_of(options: dict) -> str:
+def libraries_of(options: Mapping[str, Any]) -> str:
     """The script that reads the libraries of cells that `--liberty` names."""
     return "".join(f"read_liberty -ignore_miss_func {sources_of([file])}\n" for file in options.get("--liberty", []))
 
@@ -197,7 +197,7 @@ def told_enable(line: str, enables: dict[str, str]) -> str:
     return f"    connect \\EN {enables[words[2]]}" if words[:2] == ["connect", "\\EN"] and words[2] in enables else line
 
 
-def written_contents(module: dict) -> str:
+def written_contents(module: dict[str, Any]) -> str:
     """A script that takes away what the memories hold at first that are written; what is only read keeps it."""
     cells = [(cell["type"], cell["parameters"].get("MEMID", "")) for cell in module["cells"].values()]
     written = {name for kind, name in cells if re.match(r"\$memwr|\$mem(_v2)?$", kind)}

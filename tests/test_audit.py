@@ -1,7 +1,8 @@
-"""Parts of `audit` by themselves, without any program: `cd tools && python3 -m unittest tests.test_audit`."""
+"""Parts of `audit` by themselves, without any program: `PYTHONPATH=tools python3 -m unittest discover tests`."""
 from __future__ import annotations
 
 import unittest
+from typing import Any
 
 from vidlakost_tools import audit_pins, clock_tree, lanes
 from vidlakost_tools.audit_pins import Pin, Pins
@@ -11,23 +12,23 @@ from vidlakost_tools.vhdl import literal_of, with_defaults
 from vidlakost_tools.words import NotWords, Writer
 
 
-def port(way: str, *bits: int) -> dict:
+def port(way: str, *bits: int) -> dict[str, Any]:
     return {"direction": way, "bits": list(bits)}
 
 
-def net(*bits: int) -> dict:
+def net(*bits: int) -> dict[str, Any]:
     return {"hide_name": 0, "bits": list(bits), "attributes": {}}
 
 
-def cell(kind: str, parameters: dict | None = None, **pins: list) -> dict:
+def cell(kind: str, parameters: dict[str, Any] | None = None, **pins: list[Any]) -> dict[str, Any]:
     return {"type": kind, "parameters": parameters or {}, "attributes": {}, "connections": pins}
 
 
-def module(cells: dict, **ports: dict) -> dict:
+def module(cells: dict[str, Any], **ports: dict[str, Any]) -> dict[str, Any]:
     return {"ports": ports, "cells": cells, "netnames": {name: net(*said["bits"]) for name, said in ports.items()}}
 
 
-def value_of(kind: str, width: int, parameters: dict | None = None, **pins: list) -> str:
+def value_of(kind: str, width: int, parameters: dict[str, Any] | None = None, **pins: list[Any]) -> str:
     """The expression of one cell whose operands are the bits of the inputs a (2 to 5) and b (6 to 9)."""
     made = cell(kind, parameters, Y=list(range(20, 20 + width)), **pins)
     writer = Writer(module({"one": made}, a=port("input", 2, 3, 4, 5), b=port("input", 6, 7, 8, 9)), None, None)
@@ -84,7 +85,7 @@ GATE = {
 
 
 class Clocks(unittest.TestCase):
-    def tree(self, **changed: dict) -> clock_tree.Tree:
+    def tree(self, **changed: dict[str, Any]) -> clock_tree.Tree:
         ports = {"ck": port("input", 2), "on": port("input", 3), "d": port("input", 4), "q": port("output", 12)}
         return clock_tree.Tree(module({**{name: dict(it) for name, it in GATE.items()}, **changed}, **ports))
 
