@@ -170,13 +170,21 @@ fn without(files: Vec<File>, alloc: Global, name: &[u8]) -> Result<Vec<File>, Al
     Ok(kept)
 }
 
+/// The words of a line.
+fn words_of<'a>(alloc: Global, rest: &'a [u8]) -> Option<Vec<&'a str>> {
+    let line = str::from_utf8(rest).ok()?;
+    if line.is_empty() {
+        return Some(Vec::new(alloc));
+    }
+    line.split(' ').collect(alloc).ok()
+}
+
 /// The numbers of a line.
-fn numbers(alloc: Global, mut rest: &[u8]) -> Option<Vec<u64>> {
+fn numbers(alloc: Global, rest: &[u8]) -> Option<Vec<u64>> {
+    let words = words_of(alloc, rest)?;
     let mut numbers = Vec::new(alloc);
-    while !rest.is_empty() {
-        let (first, behind) = cut(rest);
-        numbers.push(u64::from(decimal(first)?)).ok()?;
-        rest = behind;
+    for word in &words {
+        numbers.push(u64::from(decimal(word.as_bytes())?)).ok()?;
     }
     Some(numbers)
 }
@@ -192,15 +200,19 @@ fn sort_of(name: &[u8]) -> Option<Sort> {
     }
 }
 
-/// The boxes of a line.
-fn boxes(alloc: Global, mut rest: &[u8]) -> Option<Vec<(Sort, u32)>> {
+/// The boxes of a line: a sort and a room each.
+fn boxes(alloc: Global, rest: &[u8]) -> Option<Vec<(Sort, u32)>> {
+    let words = words_of(alloc, rest)?;
     let mut boxes = Vec::new(alloc);
-    while !rest.is_empty() {
-        let (sort, behind) = cut(rest);
-        let (room, behind) = cut(behind);
-        let sort = sort_of(sort)?;
-        boxes.push((sort, decimal(room)?)).ok()?;
-        rest = behind;
+    let mut begun = None;
+    for word in &words {
+        match begun {
+            None => begun = Some(sort_of(word.as_bytes())?),
+            Some(sort) => {
+                boxes.push((sort, decimal(word.as_bytes())?)).ok()?;
+                begun = None;
+            }
+        }
     }
     Some(boxes)
 }
