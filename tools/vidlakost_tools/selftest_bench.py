@@ -5,7 +5,6 @@ import os
 import pathlib
 import subprocess
 
-from vidlakost_tools import selftest_access as access
 from vidlakost_tools.program import ROOT
 from vidlakost_tools.selftest_cases import FILES
 
@@ -17,8 +16,8 @@ class Bench:
         self.folder, self.wrong, self.count = folder, 0, 0
         kept = {key: value for key, value in os.environ.items() if not key.startswith("VIDLAKOST")}
         self.environment = {**kept, "VIDLAKOST_PROGRAM": program}
-        for name, text in {**FILES, **access.FILES}.items():
-            (folder / name).write_bytes(text if isinstance(text, bytes) else text.encode("utf-8", "surrogateescape"))
+        for name, text in FILES.items():
+            (folder / name).write_bytes(text.encode("utf-8", "surrogateescape"))
         for name in ("examples", "tools"):
             (folder / name).symlink_to(ROOT / name)
         (folder / "vidlakost").symlink_to(ROOT / "vidlakost")
