@@ -154,6 +154,24 @@ class Lanes(unittest.TestCase):
         self.assertEqual(lanes.given(1, 0b100), (1, 0b100))
         self.assertEqual(lanes.given(0, 0b100), (0b100, 1))
 
+    def test_fail_that_rises_behind_right_answers_is_found_apart(self) -> None:
+        class Late:
+            """A machine whose `fail` is 1 behind the wrong answer of cycle 2, and from cycle 5 on in any case."""
+
+            registers: list[Any] = []
+            words = [0]
+            cycle = -1
+
+            def step(self, state: Any, _: Any, full: int) -> Any:
+                self.cycle += 1
+                ones = full if self.cycle >= 5 else 1 if self.cycle >= 3 else 0
+                return state, [(ones, full & ~ones)]
+
+        plan = lanes.Plan({2: 0}, 6, 1)
+        start: tuple[int, list[Any]] = (0, [])
+        found = lanes.run_slice(Late(), plan, [2], start, lanes.Clock(60))  # type: ignore[arg-type]
+        self.assertEqual((found.kind, found.cycle, found.got, found.answer), ("differs", 5, "1", None))
+
 
 class Texts(unittest.TestCase):
     def test_default_of_a_case_comes_back(self) -> None:

@@ -64,7 +64,7 @@ class Found:
     def short(self) -> str:
         """The finding, as the last line has it."""
         if self.kind == "exact":
-            return "fail is exact"
+            return "fail is exact" if self.cycle < 0 else f"fail is exact to cycle {self.cycle}"
         return f"fail is not known behind cycle {self.cycle}" if self.kind == "limit" else self.line()
 
 
@@ -117,7 +117,8 @@ def run_joined(machine: Machine, plan: Plan, clock: Clock) -> Found | None:
             lane = (bad & -bad).bit_length() - 1
             if 1 <= lane <= bits:
                 return None
-            return found_at(fail, cycle, want, lane, slots, bits)
+            slot, bit = divmod(lane - 1 - bits, bits)
+            return found_at(fail, cycle, want, lane, (slots[slot], bit) if lane else None)
         want |= wrong
         quiet = quiet + 1 if cycle >= plan.cycles and state == before else 0
         cycle += 1
@@ -142,24 +143,28 @@ def lay(lanes: int, base: int, word: int, joined: bool) -> int:
     return lanes & ~(word << 1) | (kept & lanes >> 1 if joined else kept) << 1
 
 
-def found_at(fail: tuple[int, int], cycle: int, want: int, lane: int, slots: dict[int, int], bits: int) -> Found:
+def found_at(fail: tuple[int, int], cycle: int, want: int, lane: int, wrong: tuple[int, int] | None) -> Found:
+    """What `fail` is in a lane, whose first wrong answer and bit these are."""
     got = "1" if fail[0] >> lane & 1 else "0" if fail[1] >> lane & 1 else "open"
     found = Found("unknown" if got == "open" else "differs", cycle, want >> lane & 1, got)
-    if lane:
-        slot, found.bit = divmod(lane - 1 - bits, bits)
-        found.answer = slots[slot]
+    if wrong:
+        found.answer, found.bit = wrong
     return found
 
 
 def run_slice(machine: Machine, plan: Plan, answers: list[int], start: tuple[int, list[Any]], clock: Clock) -> Found:
-    """A lane for each bit of each of some answers to the end of the test, from the state of lane 0 at the first of them."""
+    """A lane for each bit of each of some answers, and behind them one in which all are right, from the state of lane 0 at
+    the first of them."""
     bits = plan.bits
     place = {cycle: count * bits for count, cycle in enumerate(answers)}
-    full = (1 << len(answers) * bits) - 1
+    right = len(answers) * bits
+    full = (2 << right) - 1
     cycle, single = start
     state = [(full if one & 1 else 0, full if zero & 1 else 0) for one, zero in single]
     want, word = 0, (1 << bits) - 1
-    while cycle < plan.cycles + 3:
+    quiet = 0
+    while cycle < plan.cycles + BEHIND and quiet < 2:
+        before = state
         rdata = [(0, 0)] * bits
         wrong = 0
         if cycle in plan.answers:
@@ -175,13 +180,14 @@ def run_slice(machine: Machine, plan: Plan, answers: list[int], start: tuple[int
         bad = compare(fail, full, want) if cycle >= plan.first else 0
         if bad:
             lane = (bad & -bad).bit_length() - 1
-            found = found_at(fail, cycle, want, lane + 1 + bits, dict(enumerate(answers)), bits)
-            return found
+            slot, bit = divmod(lane, bits)
+            return found_at(fail, cycle, want, lane, (answers[slot], bit) if lane < right else None)
         want |= wrong
         cycle += 1
         if cycle % 32 == 0 and clock.is_over(cycle, plan.cycles):
             return Found("limit", start[0])
-    return Found("exact", cycle - 1)
+        quiet = quiet + 1 if cycle > plan.cycles and state == before else 0
+    return Found("exact", -1 if quiet else cycle - 1)
 
 
 def states_at(machine: Machine, plan: Plan, cycles: list[int]) -> Iterator[tuple[int, list[Any]]]:
@@ -200,11 +206,13 @@ def run_apart(machine: Machine, plan: Plan, clock: Clock) -> Found:
     answers = sorted(plan.answers)
     size = max(1, SLICE // plan.bits)
     parts = [answers[first : first + size] for first in range(0, len(answers), size)]
+    until = -1
     for part, start in zip(parts, states_at(machine, plan, [part[0] for part in parts])):
         found = run_slice(machine, plan, part, start, clock)
         if found.kind != "exact":
             return found
-    return Found("exact", plan.cycles + 2, lanes=len(answers) * plan.bits)
+        until = max(until, found.cycle)
+    return Found("exact", until, lanes=len(answers) * plan.bits)
 
 
 def look_at(machine: Machine, plan: Plan, limit: float) -> Found:

@@ -13,6 +13,7 @@ PORTS = (
 )
 NAMES = "other_names.v"
 FILES = {
+    "asks.v": "`ifdef YOSYS\nmodule t(input clk);\nendmodule\n`endif\n",
     "no_clear.v": f"module no_clear({PORTS}  assign en = later;\nendmodule\n",
     NAMES: "module other_names(input ck, input rst_n, input q, output cen, output wen, output [1:0] a, output d,\n"
     "  output ready, output error);\n  reg r;\n  always @(posedge ck) r <= q & rst_n;\n"
@@ -38,6 +39,7 @@ def rows() -> list[tuple[str, list[str], int, str, str]]:
 
 
 CALLS: List[Tuple[str, List[str], int, str, str]] = [
+    ("yosys", ["tools/audit", "asks.v", "c.m", "s.mem"], 1, "audit: refused", "audit: 'asks.v':1: it asks whether Yosys"),
     ("yosys", ["tools/audit", "latch.v", "c.m", "s.mem"], 1, "audit: refused", "audit: "),
     ("yosys", ["tools/audit", "no_clear.v", "c.m", "s.mem"], 1, "en hangs on later", "audit: "),
     ("yosys", ["tools/audit", NAMES, "c.m", "s.mem"], 1, "", "audit: a self-test of s has the ports"),

@@ -58,7 +58,7 @@ CALLS: List[Tuple[str, List[str], int, str, str]] = [
     ("yosys", ["tools/plain", "plain.v", "free.v", "--top", "t; shell touch harmed"], 2, "", "plain: what --top names is"),
     ("yosys", ["tools/plain", "plain.v", 'a"; shell touch harmed; ".v'], 2, "", "plain: a\"; shell"),
     ("yosys", ["tools/plain", "plain.v", "quoted\nname.v"], 2, "", "plain: 'quoted\\x0aname.v': a name for Yosys has"),
-    ("yosys", ["tools/plain", "plain.v", "latch.v"], 1, "", "plain: a latch is outside the subset (q, latch.v:2.3-2.28)"),
+    ("yosys", ["tools/plain", "plain.v", "latch.v"], 1, "", "plain: q, latch.v:2: a latch is outside the subset"),
     ("yosys", ["tools/formal", "free.v", "no.v", "c.m", "s.mem"], 1, "", "formal: yosys refuses it: no.v:1: ERROR: syntax error"),
 ]
 
@@ -77,7 +77,7 @@ OPEN = {
     "a mistyped name": "",
     "an open input": "wire hold; sub it(.o(hold));",
     "an x": "wire hold; assign hold = 1'bx;",
-    "a table with initial values": TABLE,
+    "a table that is written": TABLE.replace("end wire", "end always @(posedge clk) if (state[1] && second) t[0] <= 0; wire"),
 }
 OPEN_CONTROLLERS = [
     (what, [HELD, ("reg failed;", f"reg failed; {more}"), ("module one_hot", SUB + "module one_hot")]) for what, more in OPEN.items()

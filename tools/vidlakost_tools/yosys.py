@@ -222,8 +222,23 @@ class Sources:
     warnings: list[str]
 
 
+def asked(files: list[str]) -> list[str]:
+    """What there is to warn of in sources that say something else to a simulator; those that ask for Yosys are refused, since
+    what is found would hold of no other tool's reading."""
+    warnings = []
+    for file in files:
+        for number, line in enumerate(lines_of(pathlib.Path(file).read_bytes().decode("utf-8", "replace")), 1):
+            for name in re.findall(r"`(?:ifdef|ifndef|elsif)\s+(YOSYS|SYNTHESIS)\b", line):
+                if name == "YOSYS":
+                    why = "it asks whether Yosys reads it, and any other tool reads something else"
+                    raise ToolError(f"{shown(file)}:{number}: {why}", 1)
+                warnings.append(f"{shown(file)}:{number}: it is read as with SYNTHESIS; a simulator may read something else")
+    return warnings
+
+
 def read(files: list[str], options: Mapping[str, Any], folder: pathlib.Path) -> Sources:
     """The sources; a signal with two drivers is refused."""
+    asks = asked(files)
     raw, plain, first, parts = (folder / name for name in ("raw.il", "plain.il", "first.il", "first.json"))
     reading = f"{libraries_of(options)}read_verilog -sv -icells {sources_of(files)}\nhierarchy -check {top_of(options)}\n"
     said = run(f"{reading}write_rtlil {quoted(raw)}\n", folder, "-q")
@@ -235,7 +250,7 @@ def read(files: list[str], options: Mapping[str, Any], folder: pathlib.Path) -> 
     twice = driven_twice(first.read_bytes().decode("utf-8", "replace")) or driven_constant(module)
     if twice:
         raise ToolError(twice, 1)
-    warnings = warnings_in(said)
+    warnings = [*asks, *warnings_in(said)]
     dropped = written_contents(module)
     if had or dropped:
         warnings.append("initial values are left out")
