@@ -13,7 +13,7 @@ HEAD = """# What was measured
 
 Nothing on this page is proved. `bench/run --all --markdown` makes it, and `bench/run NAME --markdown` one section anew; the
 last line of a section tells when. Times are those of one machine, the best of several calls. A ratio is what stands beside
-ours, by ours: above 1 the other takes so many times as much.
+ours, by ours: above 1 the other takes so many times as much; of megahertz it is so many times as fast.
 """
 
 
