@@ -3,6 +3,17 @@
 //! In a background `b` the data value 0 stands for the word `b`, and 1 for its complement. A set of
 //! backgrounds separates two bit positions where they differ in some word of it; the logarithmic set
 //! separates every two. No call of this crate takes memory.
+//!
+//! ```
+//! use backgrounds::{log_set, separates, word_of};
+//!
+//! let set = log_set(5);
+//! assert!(rt; set.as_slice() == [0x00, 0x0a, 0x0c, 0x10].as_slice());
+//! assert!(rt; separates(&set, 0, 4));
+//! assert!(rt; word_of(0x0a, true, 5) == 0x15);
+//! ```
+//!
+//! It never sees a memory.
 #![tactic(auto)]
 
 ghost use Rattle.std.specs.Prelude.{◌≡◌, ◌≢◌, ℕ, ◌^◌, ◌<◌, ◌≤◌, ◌↔◌, IsTrue, Any};

@@ -1,4 +1,17 @@
 //! The program's top call: the words of the command line, the files that they name, and how it ends.
+//!
+//! ```
+//! use bist_app::run;
+//! use bist_host::MemHost;
+//!
+//! let mut host = MemHost::new(rt.alloc());
+//! host.put("c.m", b"{any(w0);any(r0)}")?;
+//! host.put("list", b"SF\n")?;
+//! let ended = run(rt.alloc(), &["judge", "c.m", "list", "out"], &mut host, &mut Vec::new(rt.alloc()));
+//! assert!(rt; ended.status == 1 && host.said() == b"total 2 covered 1 escapes 1\n".as_slice());
+//! ```
+//!
+//! It never touches a real file.
 #![tactic(auto)]
 
 mod bench_command;

@@ -2,6 +2,17 @@
 //!
 //! A vector is a width and an unsigned value below two to that width. Bit 0 is the lowest. No call of
 //! this crate takes memory.
+//!
+//! ```
+//! use bist_bits::{Bits, concat, select, width_of};
+//!
+//! let joined = concat(&Bits::new(2, 0b10), &Bits::new(1, 0b1));
+//! assert!(rt; joined == Bits::new(3, 0b101));
+//! assert!(rt; select(&joined, 2, 1).value() == 0b10);
+//! assert!(rt; width_of(8) == 4);
+//! ```
+//!
+//! It never takes memory.
 #![tactic(auto)]
 
 ghost use Rattle.std.specs.Prelude.{◌≡◌, ℕ, ◌+◌, ◌-◌, ◌%◌, ◌^◌, ◌<◌, ◌≤◌, ◌↔◌, IsTrue, IsSome, IfSome, count_ones};

@@ -1,5 +1,17 @@
 //! Reading and writing texts byte by byte: sets of bytes, cursors, lines and numbers, and in `specs/` what a
 //! grammar is, and when a reader answers exactly as its grammar says.
+//!
+//! ```
+//! use bist_text::{ByteSet, Cursor, decimal};
+//!
+//! let blank = ByteSet { low: 1 << 32, high: 0 };
+//! let mut cursor = Cursor::new(b"  x");
+//! cursor.skip(blank);
+//! assert!(rt; cursor.place() == 2 && cursor.peek() == Some(b'x'));
+//! assert!(rt; decimal(b"0042") == Some(42));
+//! ```
+//!
+//! It never knows a particular grammar.
 #![tactic(auto)]
 
 mod byte_set;

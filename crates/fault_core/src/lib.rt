@@ -1,4 +1,14 @@
 //! Static fault primitives, and their meaning on a list of cells.
+//!
+//! ```
+//! use fault_core::{Act, Class, Prim, Sense, class_of};
+//!
+//! let act = Some(Act::Write(true));
+//! let stays_low = Prim::new(None, Sense { state: false, act }, false, None)?;
+//! assert!(rt; class_of(&stays_low) == Class::TF);
+//! ```
+//!
+//! It never knows marches.
 #![tactic(auto)]
 
 mod cells;

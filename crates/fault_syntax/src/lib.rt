@@ -1,4 +1,15 @@
 //! The texts of fault primitives and of the lines of fault lists: how they are read, and how a primitive is printed.
+//!
+//! ```
+//! use fault_syntax::{FaultFault, print_prim, read_prim};
+//!
+//! let prim = read_prim(b"<0w1;0/1/->")?;
+//! assert!(rt; prim.is_two_cell());
+//! assert!(rt; print_prim(&prim).as_str() == "<0w1;0/1/->");
+//! assert!(rt; read_prim(b"<0w1/1/->").err().is_some());
+//! ```
+//!
+//! It never judges.
 #![tactic(auto)]
 
 mod fault;

@@ -1,4 +1,16 @@
 //! March tests: lists of elements, each an order and the operations that are applied to one cell.
+//!
+//! ```
+//! use march_core::{MarchBuilder, MarchFault, Op, Order};
+//!
+//! let mut builder = MarchBuilder::new();
+//! builder.element(Order::Any)?;
+//! builder.op(Op::R1)?;
+//! let fault = builder.finish().err();
+//! assert!(rt; fault == Some(MarchFault::ReadBeforeWrite { element: 0, op: 0 }));
+//! ```
+//!
+//! It never reads text.
 #![tactic(auto)]
 
 mod builder;

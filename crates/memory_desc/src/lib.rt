@@ -1,4 +1,15 @@
 //! Memory descriptions: what a self-test has to know of a memory.
+//!
+//! ```
+//! use memory_desc::{Field, MemoryFault, read_memory};
+//!
+//! let memory = read_memory(b"memory 1\nname buffer\nwords 16\nbits 1\n")?;
+//! assert!(rt; memory.words() == 16 && memory.address_bits() == 4 && memory.latency() == 1);
+//! let fault = read_memory(b"memory 1\nname buffer\nbits 1\n").err();
+//! assert!(rt; fault == Some(MemoryFault::Missing { field: Field::Words }));
+//! ```
+//!
+//! It never judges a march.
 #![tactic(auto)]
 
 mod building;

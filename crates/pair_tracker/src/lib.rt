@@ -1,5 +1,18 @@
 //! Two cells followed through a march, over all choices of direction at once: one table for each element, and the
 //! tables one behind the other.
+//!
+//! ```
+//! use fault_syntax::read_prim;
+//! use march_syntax::read_march;
+//! use pair_tracker::{Placement, survivors};
+//!
+//! let march = read_march(b"{any(w0);up(r0,w1);down(r1,w0)}")?;
+//! let stays_high = read_prim(b"<1w0/1/->")?;
+//! let ends = survivors(&march, &stays_high, Placement::Alone, [false, false]);
+//! assert!(rt; ends.len() == 1);
+//! ```
+//!
+//! It never walks the choices of direction one by one.
 #![tactic(auto)]
 
 mod element_step;

@@ -1,4 +1,17 @@
 //! The verdicts on a list of static and dynamic primitives, and their report as text.
+//!
+//! ```
+//! use dynamic_core::read_items;
+//! use march_syntax::read_march;
+//! use report::{count_covered, judge_items, total_text};
+//!
+//! let march = read_march(b"{any(w0);up(r0,w1);down(r1,w0)}")?;
+//! let judged = judge_items(rt.alloc(), &march, &read_items(rt.alloc(), b"TF\n")?)?;
+//! let total = total_text(rt.alloc(), judged.len(), count_covered(&judged))?;
+//! assert!(rt; total.as_slice() == b"total 2 covered 1 escapes 1\n".as_slice());
+//! ```
+//!
+//! It never decides by itself what is covered.
 #![tactic(auto)]
 
 mod class_lines;

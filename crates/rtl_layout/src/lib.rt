@@ -1,4 +1,14 @@
 //! The layout of a self-test module, made from a plan: a march and a memory as plain numbers and tables.
+//!
+//! ```
+//! use rtl_layout::{Element, Operation};
+//!
+//! let mut element = Element::new(true, false);
+//! element.push(Operation { write: true, bit: false });
+//! assert!(rt; element.is_down() && !element.is_pause() && element.operations().len() == 1);
+//! ```
+//!
+//! It never knows marches or memories.
 #![tactic(auto)]
 
 mod ages;

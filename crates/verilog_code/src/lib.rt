@@ -5,6 +5,15 @@
 //! some names are left open. One code serves both. Names, widths and modules are unknown here: a place is an index.
 //!
 //! A net is worked out again only where something that it reads has changed (`step`, `run`).
+//!
+//! ```
+//! use verilog_code::code::{Code, value};
+//!
+//! let chosen = Code::PickNet(0, Box::new(rt.alloc(), Code::Net(1))?, Box::new(rt.alloc(), Code::Lit(9))?);
+//! assert!(rt; value(&chosen, &[1, 5]) == 5 && value(&chosen, &[0, 5]) == 9);
+//! ```
+//!
+//! It knows no names, widths or modules, and takes no memory.
 #![tactic(auto)]
 
 pub mod action;

@@ -1,5 +1,16 @@
 //! The printer of modules in a subset of Verilog, IEEE 1364-2005. `specs/Printed.antt` is the layout, and
 //! `specs/Written.antt` says of bytes which module they are a text of.
+//!
+//! ```
+//! use verilog_emit::emit;
+//! use verilog_read::read_module;
+//!
+//! let module = read_module(rt.alloc(), b"module m(input a,output y);assign y=(!a);endmodule")?;
+//! let text = emit(rt.alloc(), &module)?;
+//! assert!(rt; text.starts_with(b"module m(\n  input a,\n  output y\n);\n"));
+//! ```
+//!
+//! It never reads text.
 #![tactic(auto)]
 
 ghost use Rattle.std.specs.Prelude.{◌≡◌, ◌++◌, codes, map, true, OnOk, IfOk};

@@ -5,6 +5,16 @@
 //! refusal is told. Here `specs/Spots.antt` and `Frames.antt` say which state of it the places and stacks of the code
 //! stand for. One reader serves both styles of expressions (`expressions`, `precedence`, `operators`): full parentheses
 //! are precedence in which a parenthesis gives leave for one operator, so each expression carries how many more may come.
+//!
+//! ```
+//! use verilog_read::{read_free, read_module};
+//!
+//! let text = b"module m(input a,input b,output y);assign y=a&b|a;endmodule";
+//! assert!(rt; read_module(rt.alloc(), text).is_err());
+//! assert!(rt; read_free(rt.alloc(), text)?.items.len() == 1);
+//! ```
+//!
+//! It never checks the rules of a module, and recurses no deeper than 64.
 #![tactic(auto)]
 
 mod expressions;

@@ -4,6 +4,17 @@
 //! box is what it holds. Of such a tree the definitions say which bytes spell it (`Spells.antt`), which rule
 //! it breaks first (`Rules.antt`), what its names are worth in a cycle and after an edge of the clock
 //! (`Meaning.antt`), and when its wires form a loop (`Wires.antt`). Values are unsigned and two-valued.
+//!
+//! ```
+//! use arrayvec::ArrayString;
+//! use verilog_tree::{BinOp, UnOp, binary_width, is_name, unary_width};
+//!
+//! assert!(rt; unary_width(UnOp::Parity, 4) == 1);
+//! assert!(rt; binary_width(BinOp::Shl, 4) == 4 && binary_width(BinOp::Lt, 4) == 1);
+//! assert!(rt; !is_name(&ArrayString::from("wire")?));
+//! ```
+//!
+//! It never reads, prints or simulates.
 #![tactic(auto)]
 
 pub mod examples;

@@ -4,6 +4,19 @@
 //! bit over a pause, which is some cycles in which nothing is enabled. In `specs/`: what a box tells (its chip, a script of answers, or
 //! nothing) and what each call makes of that; a chip beside the cycles of a march, and beside the ports of a self-test. Only `fit` takes
 //! memory.
+//!
+//! ```
+//! use memory_desc::read_memory;
+//! use word_device::{ArrayDevice, Device, PortCmd, shape_of};
+//!
+//! let memory = read_memory(b"memory 1\nname two\nwords 2\nbits 4\n")?;
+//! let mut device = ArrayDevice::new(rt.alloc(), 16);
+//! device.fit(&shape_of(&memory))?;
+//! device.cycle(&PortCmd { en: true, we: true, addr: 1, wdata: 5 });
+//! assert!(rt; device.cycle(&PortCmd { en: true, we: false, addr: 1, wdata: 0 }) == 5);
+//! ```
+//!
+//! It never sees Verilog.
 #![tactic(auto)]
 
 mod array;

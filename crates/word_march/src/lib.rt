@@ -2,6 +2,20 @@
 //!
 //! In `specs/`: the lists of operations and commands, the cycles in which the commands stand, and the rule that the ports
 //! of a self-test follow in each cycle. No call of this crate takes memory.
+//!
+//! ```
+//! use march_syntax::read_march;
+//! use memory_desc::read_memory;
+//! use word_march::{PortOp, cycle_count, port_ops};
+//!
+//! let march = read_march(b"{any(w1);down(r1)}")?;
+//! let memory = read_memory(b"memory 1\nname four\nwords 4\nbits 1\n")?;
+//! let first = port_ops(&march, &memory).next();
+//! assert!(rt; first == Some(PortOp { write: true, addr: 0, word: 1 }));
+//! assert!(rt; cycle_count(&march, &memory) == 11);
+//! ```
+//!
+//! It never sees registers.
 #![tactic(auto)]
 
 mod counts;
