@@ -8,7 +8,6 @@ import re
 import subprocess
 import sys
 import tempfile
-from typing import Any
 
 from vidlakost_tools.program import ROOT, ask, run
 from vidlakost_tools.random_cases import changed, random_case

@@ -1,7 +1,6 @@
 """A picture of the groups of a chip in time: `vidlakost schedule` draws it for any chip file, `vidlakost pictures` for the guide."""
 from __future__ import annotations
 
-from vidlakost_tools import chip
 from vidlakost_tools.chip import Chip
 from vidlakost_tools.drawing import INK, SOFT, document, line, text
 

@@ -16,12 +16,12 @@ from typing import Any, Callable, Dict, Iterable
 from vidlakost_tools import cycles_picture, diagnose, reasons
 from vidlakost_tools.faults import Step
 from vidlakost_tools.finding import CLASSES, SHOWN, Trier, word_start
-from vidlakost_tools.march import Element, elements_of, length_of, march_of
+from vidlakost_tools.march import Element, length_of, march_of
 from vidlakost_tools.memory import read_memory
 from vidlakost_tools.program import FORMATS, ROOT, ask, is_proved, run, settle, version, with_text
 from vidlakost_tools.report import Report, Verdict, judged, read_report
 from vidlakost_tools.text import lines_of, read_text
-from vidlakost_tools.tool import Refused, ToolError
+from vidlakost_tools.tool import Refused
 
 # an object of JSON
 Object = Dict[str, Any]
