@@ -8,8 +8,9 @@ from vidlakost_tools import audit_pins, clock_tree, lanes
 from vidlakost_tools.audit_pins import Pin, Pins
 from vidlakost_tools.audit_wave import code_of, shown
 from vidlakost_tools.tool import ToolError
-from vidlakost_tools.vhdl import literal_of, with_defaults
+from vidlakost_tools.vhdl import literal_of, placed, with_defaults
 from vidlakost_tools.words import NotWords, Writer
+from vidlakost_tools.yosys import blanked
 
 
 def port(way: str, *bits: int) -> dict[str, Any]:
@@ -179,6 +180,16 @@ class Texts(unittest.TestCase):
         vhdl = "with s select y <=\n  wrap_b when \"10\",\n  wrap_a when \"01\",\n  wrap_c when others;"
         self.assertIn("default: y <= c;", with_defaults(verilog, vhdl))
         self.assertNotIn("default", with_defaults(verilog, vhdl.replace("wrap_c", "f(c)")))
+
+    def test_places_of_vhdl(self) -> None:
+        made = "  wire bad;\n  reg n7_q;\n  wire n8_o;\n  assign bad = n7_q;\n"
+        text = placed(made, {"a.vhd": "-- bad : no\nsignal go, Bad : std_logic;\n", "no name.vhd": "signal n8_o : bit;"})
+        self.assertIn('`line 2 "a.vhd" 0\n  reg n7_q;\n`line 3 "vhdl.v" 0\n  wire n8_o;', text)
+        self.assertNotIn("no name", text)
+
+    def test_what_is_in_comments_asks_nothing(self) -> None:
+        self.assertEqual(blanked('a /* YOSYS\n*/ b "YOSYS" c // YOSYS\nd').split(), ["a", "b", "c", "d"])
+        self.assertIn('"x.vh"', blanked('`include "x.vh" // "y.vh"', but_texts=True))
 
     def test_literals(self) -> None:
         found = [literal_of(text) for text in ('"010"', "'1'", "wrap_a", "n1_o", "a and b")]

@@ -14,6 +14,8 @@ PORTS = (
 NAMES = "other_names.v"
 FILES = {
     "asks.v": "`ifdef YOSYS\nmodule t(input clk);\nendmodule\n`endif\n",
+    "includes.v": "`include \"inner.vh\"\n",
+    "inner.vh": "`ifdef // of no\n YOSYS\nmodule t(input clk);\nendmodule\n`endif\n",
     "no_clear.v": f"module no_clear({PORTS}  assign en = later;\nendmodule\n",
     NAMES: "module other_names(input ck, input rst_n, input q, output cen, output wen, output [1:0] a, output d,\n"
     "  output ready, output error);\n  reg r;\n  always @(posedge ck) r <= q & rst_n;\n"
@@ -40,6 +42,7 @@ def rows() -> list[tuple[str, list[str], int, str, str]]:
 
 CALLS: List[Tuple[str, List[str], int, str, str]] = [
     ("yosys", ["tools/audit", "asks.v", "c.m", "s.mem"], 1, "audit: refused", "audit: 'asks.v':1: it asks whether Yosys"),
+    ("yosys", ["tools/audit", "includes.v", "c.m", "s.mem"], 1, "audit: refused", "audit: 'inner.vh':2: it asks whether"),
     ("yosys", ["tools/audit", "latch.v", "c.m", "s.mem"], 1, "audit: refused", "audit: "),
     ("yosys", ["tools/audit", "no_clear.v", "c.m", "s.mem"], 1, "en hangs on later", "audit: "),
     ("yosys", ["tools/audit", NAMES, "c.m", "s.mem"], 1, "", "audit: a self-test of s has the ports"),

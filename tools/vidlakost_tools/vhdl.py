@@ -29,6 +29,7 @@ def verilog_of(files: list[str], options: dict[str, Any], folder: pathlib.Path) 
     top = identifier(options.get("--top", entities[-1]), "the top")
     names = [str(pathlib.Path(file).resolve()) for file in vhdl]
     text = with_defaults(synthesized("verilog", names, top, folder), synthesized("vhdl", names, top, folder))
+    text = placed(text, dict(zip(vhdl, texts)))
     modules = [name for name in re.findall(r"^module (\w+)", text, re.MULTILINE) if name.lower() == top.lower()]
     made = folder / "vhdl.v"
     made.write_text(text, encoding="utf-8")
@@ -45,6 +46,32 @@ def synthesized(form: str, names: list[str], top: str, folder: pathlib.Path) -> 
         said = lines_of(done.stderr.decode("utf-8", "replace"))
         raise ToolError("\n".join([f"ghdl refuses it: {said[0] if said else 'no reason is given'}", *said[1:8]]), 1)
     return done.stdout.decode("utf-8", "replace")
+
+
+def declared_at(texts: dict[str, str]) -> dict[str, tuple[str, int]]:
+    """Where VHDL declares each name first, as a signal, a variable or a port: its file and its line."""
+    found: dict[str, tuple[str, int]] = {}
+    for file, text in texts.items():
+        for number, line in enumerate(lines_of(re.sub(r"--[^\n]*", "", text)), 1):
+            for names in re.findall(r"([\w ,]+?)\s*:(?!=)", line):
+                for name in re.findall(r"\w+", names):
+                    found.setdefault(name.lower(), (file, number))
+    return found
+
+
+def placed(verilog: str, texts: dict[str, str]) -> str:
+    """GHDL's Verilog whose declarations have the places of the sources, where a name of the sources has stayed, or is that
+    of the register behind it; a file whose name `line` can't carry has none."""
+    places = declared_at({file: text for file, text in texts.items() if re.fullmatch(r'[^\s"\\]+', file)})
+    for name, register in re.findall(r"^\s*assign (\w+) = (n\d+_q);", verilog, re.MULTILINE):
+        if name.lower() in places:
+            places.setdefault(register, places[name.lower()])
+    lines: list[str] = []
+    for number, line in enumerate(lines_of(verilog), 1):
+        declares = re.fullmatch(r"\s*(?:wire|reg) (?:\[\d+:\d+\] )?(\w+)(?: = .*)?;", line)
+        place = places.get(declares[1].lower()) if declares else None
+        lines += [f'`line {place[1]} "{place[0]}" 0', line, f'`line {number + 1} "vhdl.v" 0'] if place else [line]
+    return "\n".join([*lines, ""])
 
 
 def literal_of(value: str) -> str | None:

@@ -222,17 +222,49 @@ class Sources:
     warnings: list[str]
 
 
+# a text or a comment, in which a word means nothing to the preprocessor
+SAID = re.compile(r'"(?:\\.|[^"\\\n])*"|//[^\n]*|/\*.*?\*/', re.DOTALL)
+ASKED = re.compile(r"\b(YOSYS|SYNTHESIS)\b")
+INCLUDED = re.compile(r"`include\s*(\S*)")
+
+
+def blanked(text: str, but_texts: bool = False) -> str:
+    """A source with blanks for its comments, and for what stands in quotes unless that is kept."""
+
+    def blank(match: re.Match[str]) -> str:
+        return match[0] if but_texts and match[0].startswith('"') else re.sub(r"[^\n]", " ", match[0])
+
+    return SAID.sub(blank, text)
+
+
+def with_included(files: list[str]) -> list[tuple[str, str]]:
+    """The sources and what they include, as Yosys finds it: from here, or from the folder of who includes it."""
+    found: dict[str, str] = {}
+    waiting = list(files)
+    while waiting:
+        file = waiting.pop(0)
+        if file in found:
+            continue
+        found[file] = pathlib.Path(file).read_bytes().decode("utf-8", "replace")
+        for match in INCLUDED.finditer(blanked(found[file], but_texts=True)):
+            name = match[1].strip('"')
+            if match[1] != f'"{name}"':
+                raise ToolError(f"{shown(file)}: it includes {shown(match[1])}, which is no name in quotes", 1)
+            places = [pathlib.Path(name), pathlib.Path(file).parent / name]
+            waiting += [str(place) for place in places if place.is_file()][:1]
+    return list(found.items())
+
+
 def asked(files: list[str]) -> list[str]:
     """What there is to warn of in sources that say something else to a simulator; those that ask for Yosys are refused, since
     what is found would hold of no other tool's reading."""
     warnings = []
-    for file in files:
-        for number, line in enumerate(lines_of(pathlib.Path(file).read_bytes().decode("utf-8", "replace")), 1):
-            for name in re.findall(r"`(?:ifdef|ifndef|elsif)\s+(YOSYS|SYNTHESIS)\b", line):
-                if name == "YOSYS":
-                    why = "it asks whether Yosys reads it, and any other tool reads something else"
-                    raise ToolError(f"{shown(file)}:{number}: {why}", 1)
-                warnings.append(f"{shown(file)}:{number}: it is read as with SYNTHESIS; a simulator may read something else")
+    for file, text in with_included(files):
+        for match in ASKED.finditer(blanked(text)):
+            place = f"{shown(file)}:{text.count(chr(10), 0, match.start()) + 1}"
+            if match[1] == "YOSYS":
+                raise ToolError(f"{place}: it asks whether Yosys reads it, and any other tool reads something else", 1)
+            warnings.append(f"{place}: it is read as with SYNTHESIS; a simulator may read something else")
     return warnings
 
 
