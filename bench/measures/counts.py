@@ -63,6 +63,11 @@ def formal(folder: pathlib.Path) -> list[Figure]:
     return [*counted("tools/formal", "--random", "300"), *counted("tools/formal", "--wrong")]
 
 
+def audit(folder: pathlib.Path) -> list[Figure]:
+    """`audit` beside Yosys' bounded model checker, on modules whose `fail` is damaged in a random place."""
+    return counted("tools/audit", "--random", "300")
+
+
 def selftest(folder: pathlib.Path) -> list[Figure]:
     """Right, wrong and hostile input for the launcher and the tools."""
     return counted("tools/selftest")
