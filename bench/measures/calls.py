@@ -153,5 +153,5 @@ def verilog(folder: pathlib.Path) -> list[Figure]:
             raise SystemExit(f"{CYCLE_BENCH} does not refuse a text without its end")
         plain, free = (max(call.seconds - start, 1e-9) * 1e3 for call in calls)
         made.append(Figure(f"a module of {size >> 10} KiB is read", plain, "ms", "by precedence", free))
-        made.append(Figure(f"a module of {size >> 10} KiB, memory", calls[0].held, "MiB"))
+        made.append(Figure(f"a module of {size >> 10} KiB is read", calls[0].held, "MiB"))
     return made

@@ -12,27 +12,53 @@ PAGE = ROOT / "docs" / "MEASURED.md"
 HEAD = """# What was measured
 
 Nothing on this page is proved. `bench/run --all --markdown` makes it, and `bench/run NAME --markdown` one section anew; the
-last line of a section tells when. Times are those of one machine, the best of several calls. A ratio is what stands beside
-ours, by ours: above 1 the other takes so many times as much; of megahertz it is so many times as fast.
+last line of a section tells when, at which commit and where. Times are the best of several calls. A ratio is what stands
+beside ours, by ours: above 1 the other takes so many times as much; of megahertz it is so many times as fast.
 """
 
 
-def row(figure: Figure) -> str:
-    beside = f"{figure.peer} {short(figure.beside)}" if figure.peer else ""
-    what = figure.what.replace("|", "\\|")
-    return f"| {what} | {short(figure.number)} {figure.unit}".rstrip() + f" | {beside} | {figure.ratio} |"
+def here(figure: Figure) -> str:
+    return f"{short(figure.number)} {figure.unit}".rstrip()
+
+
+def row(what: str, figures: list[Figure], compares: bool) -> str:
+    """A row: all that was measured of one thing, and what stands beside it."""
+    cells = [what.replace("|", "\\|"), ", ".join(map(here, figures))]
+    if compares:
+        beside = [figure for figure in figures if figure.peer]
+        cells.append(f"{beside[0].peer} {', '.join(short(figure.beside) for figure in beside)}" if beside else "")
+        cells.append(", ".join(figure.ratio for figure in beside))
+    return f"| {' | '.join(cells)} |"
+
+
+def rows(figures: list[Figure]) -> list[list[Figure]]:
+    """Figures of one thing that follow one another, beside one peer, stand in one row."""
+    found: list[list[Figure]] = []
+    for figure in figures:
+        before = found[-1][0] if found else None
+        if before and before.what == figure.what and figure.peer in ("", before.peer):
+            found[-1].append(figure)
+        else:
+            found.append([figure])
+    return found
+
+
+def table(figures: list[Figure]) -> list[str]:
+    """The rows; without a peer there are no columns for it."""
+    compares = any(figure.peer for figure in figures)
+    head = ["What", "Here", "Beside it", "Ratio"][: 4 if compares else 2]
+    lines = [row(group[0].what, group, compares) for group in rows(figures)]
+    return [f"| {' | '.join(head)} |", "|---" * len(head) + "|", *lines]
 
 
 def measured() -> str:
     """When and where figures were measured."""
     _, date, commit = version()
-    busy = os.getloadavg()[0]
-    return f"Measured on {date} at {commit}, on {os.cpu_count()} processors of {platform.machine()} (load {busy:.1f})."
+    return f"{date}, {commit}, {os.cpu_count()} processors of {platform.machine()}, load {os.getloadavg()[0]:.1f}."
 
 
 def section(name: str, line: str, figures: list[Figure], ending: str) -> str:
-    table = ["| What | Here | Beside it | Ratio |", "|---|---|---|---|", *map(row, figures)]
-    return "\n".join([f"## `{name}`", "", line, "", *table, "", ending, ""])
+    return "\n".join([f"## `{name}`", "", line, "", *table(figures), "", ending, ""])
 
 
 def sections() -> dict[str, str]:

@@ -90,7 +90,7 @@ def of_call(what: str, call: Timed) -> list[Figure]:
     """The figures of a call of the program; one that is refused is no figure."""
     if call.status > 1 or call.status < 0:
         raise SystemExit(f"{what}: the program ends with {call.status} and says {call.said}")
-    held = [Figure(f"{what}, memory", call.held, "MiB")] if call.held else []
+    held = [Figure(what, call.held, "MiB")] if call.held else []
     return [Figure(what, call.seconds, "s"), *held]
 
 
