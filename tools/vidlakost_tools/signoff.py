@@ -12,6 +12,7 @@ from vidlakost_tools.access_block import Target
 from vidlakost_tools.chip import read_chip
 from vidlakost_tools.march import Element, length_of, march_of
 from vidlakost_tools.memory import Memory, read_memory
+from vidlakost_tools.reads import spans
 from vidlakost_tools.report import Report, read_report
 from vidlakost_tools.tool import ToolError
 
@@ -130,13 +131,10 @@ def tested(words: list[str]) -> tuple[Target, list[tuple[str, list[Element], Mem
 
 def holds(elements: list[Element], memory: Memory, start: int) -> Iterator[str]:
     """The first and the last cycle of each pause, in which the clock may be stopped."""
-    cycle = start + 1
-    for _ in memory.backgrounds:
-        for element in elements:
-            last = cycle + memory.cycles_of(element) - 1
-            if element.is_pause:
-                yield f"{cycle} to {last}" if last > cycle else str(cycle)
-            cycle = last + 1
+    for span in spans(elements, memory):
+        if span.element.is_pause:
+            first, last = start + span.first, start + span.last
+            yield f"{first} to {last}" if last > first else str(first)
 
 
 def tester_page(words: list[str], mhz: float) -> str:

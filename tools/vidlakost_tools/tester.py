@@ -9,7 +9,7 @@ from vidlakost_tools.access_block import Target
 from vidlakost_tools.chip import Chip
 from vidlakost_tools.march import Element
 from vidlakost_tools.memory import Memory
-from vidlakost_tools.reads import Read, read_of
+from vidlakost_tools.reads import Read, read_of, visit_lines
 from vidlakost_tools.tap import length, parts
 from vidlakost_tools.text import shown
 from vidlakost_tools.tool import ToolError
@@ -22,14 +22,10 @@ def word_of(text: str, bits: int, what: str) -> int:
     return int(text, 16)
 
 
-def told(read: Read, elements: list[Element], memory: Memory, mux: int) -> Iterator[str]:
-    """A read in words."""
-    element = elements[read.element]
-    yield f"background {read.background} {memory.digits(memory.backgrounds[read.background])}"
-    yield f"element {read.element} {element.text}"
-    yield f"operation {read.operation} {element.operations[read.operation]}"
-    yield f"index {read.index} row {read.index // mux}"
-    yield f"address {memory.address_of(read.index)}"
+def told(read: Read, elements: list[Element], memory: Memory, mux: int) -> list[str]:
+    """A read in words, with the row of its word in the array."""
+    lines = visit_lines(read, elements[read.element], memory)
+    return [f"{line} row {read.index // mux}" if line.startswith("index ") else line for line in lines]
 
 
 def bits_told(read: Read, memory: Memory, returned: int, mux: int) -> Iterator[str]:
@@ -86,7 +82,7 @@ def in_chip(chip: Chip, cycle: int, units: list[int], words: list[str], mux: int
 
 def of_read(read: Read, elements: list[Element], memory: Memory, words: list[str], mux: int) -> list[str]:
     """A read in words, with the bits that differ where the two words are there."""
-    lines = list(told(read, elements, memory, mux))
+    lines = told(read, elements, memory, mux)
     if words:
         check_expected(read, memory, word_of(words[0], memory.bits, "EXPECTED"))
         lines += bits_told(read, memory, word_of(words[1], memory.bits, "RETURNED"), mux)
