@@ -9,7 +9,7 @@ use Rattle.dynamic_prover.specs.declared.leg.Leg.{Leg}
 use Rattle.dynamic_prover.specs.declared.leg.Leg.TheVariants.{Pause}
 use Rattle.dynamic_prover.specs.declared.row.Row.{Row}
 use Rattle.march_core.specs.Addresses.{direction_of}
-use Rattle.pair_tracker.specs.inner.Tracking.{weight_in}
+use Rattle.pair_tracker.specs.Tracking.{weight_in}
 use Rattle.dynamic_prover.specs.inner.Ways.{holds_at, ways_at, can_pass, least_ways, ways_word}
 use Rattle.dynamic_prover.specs.inner.Legs.{leg_end}
 use Rattle.dynamic_prover.specs.inner.Rows.{can_from, AreRows, is_way_up}

@@ -6,8 +6,7 @@ use Rattle.std.specs.List.{range_with_len}
 use Rattle.march_core.specs.March.{MarchElement, order_of}
 use Rattle.march_core.specs.Visits.{Direction, Upward, Downward, allows, is_direction, direction_at, directions_of, FitsWord}
 use Rattle.pair_tracker.specs.Legs.{directions_between}
-use Rattle.pair_tracker.specs.Tracking.{IsSpanWord}
-use Rattle.pair_tracker.specs.inner.Tracking.{weight_in}
+use Rattle.pair_tracker.specs.Tracking.{IsSpanWord, weight_in}
 use Rattle.pair_tracker.proofs.Words.{span_below, span_fits, span_join, IsSplit, span_split, directions_join, span_one, directions_one, one_split, directions_from_first, span_from_rest, rest_from_span}
 use Rattle.dynamic_prover.specs.inner.Ways.{ways_word}
 use Rattle.dynamic_prover.proofs.Greedy.{IsNotAfter}

@@ -1,7 +1,7 @@
 ghost use Rattle.std.specs.Prelude.{◌≡◌, ◌-◌, ◌^◌, ◌<◌, ◌≤◌, ◌||◌, length, not, true};
 ghost use Rattle.march_core.specs.Visits.{Upward, Downward};
 ghost use Rattle.march_core.specs.Addresses.{direction_of};
-ghost use Rattle.pair_tracker.specs.inner.Tracking.{weight_in};
+ghost use Rattle.pair_tracker.specs.Tracking.{weight_in};
 ghost use Rattle.dynamic_prover.specs.declared.own_cells.OwnCells.{OwnCells};
 ghost use Rattle.dynamic_prover.specs.inner.Ways.{holds_at, least_ways, ways_word};
 ghost use Rattle.dynamic_prover.specs.inner.Legs.{leg_end};

@@ -2,7 +2,7 @@
 use Rattle.std.specs.Prelude.{◌+◌, ◌-◌, ◌^◌, ℕ, Bool, true, false, ◌||◌, if◌then◌else◌, Option, Some, None, List, [], ◌∷◌}
 use Rattle.std.specs.Option.{option_and_then}
 use Rattle.march_core.specs.Visits.{Direction, Upward, Downward}
-use Rattle.pair_tracker.specs.inner.Tracking.{weight_in}
+use Rattle.pair_tracker.specs.Tracking.{weight_in}
 use Rattle.dynamic_prover.specs.declared.own_cells.OwnCells.{OwnCells}
 
 -- where an element of some kind leads from the two cells in a direction, if it leads anywhere
