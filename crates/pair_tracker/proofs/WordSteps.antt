@@ -65,13 +65,19 @@ length-ways {S} wanted lead (e ∷ es) q = go (holds_at (λ r. can_reach wanted 
     go false up None h = omega arith
     go false up (Some r) h = omega (arith, h r)
 
+-- where there is a word, the end is reached, and it is that of the first directions
+pub word_said : (b : Bool) (w word : ℕ) → Some word ≡ cond b (Some w) None → (b ≡ true) × (word ≡ w)
+word_said true w word e = (refl, cc)
+word_said false w word e = cc
+
 -- a word leaves room for the bit before it
 pub word_room : {S E : Type 0} (wanted : S → Bool) (lead : Leading S E) (i : ℕ) (es : List E) (o : Option S) (word weight : ℕ) → i + 1 + length es ≤ 64
     → Some word ≡ word_behind (word_by wanted lead (i + 1) es) o → weight ≡ 2 ^ (63 - i) → weight + word < 2 ^ 64
 word_room wanted lead i es None word weight h e is = cc
 word_room wanted lead i es (Some q) word weight h e is =
     let ways : List Direction = ways_to wanted lead es q in
-    let some : word ≡ ways_word (i + 1) ways = said (can_reach wanted lead es q) (ways_word (i + 1) ways) e in
+    let some = word_said (can_reach wanted lead es q) (ways_word (i + 1) ways) word e in
+    let is_word_of : word ≡ ways_word (i + 1) ways = some.1 in
     let count : length ways ≤ length es = length-ways wanted lead es q in
     let below : ways_word (i + 1) ways < 2 ^ (64 - (i + 1)) =
     span_below (i + 1) (i + 1 + length ways) (ways_word (i + 1) ways) (omega arith) (omega arith) (is_word ways (i + 1) (i + 1 + length ways) refl (omega arith)).span in
@@ -81,7 +87,3 @@ word_room wanted lead i es (Some q) word weight h e is =
     let most : 2 ^ (64 - i) ≤ 2 ^ 64 = pow_mono {i = 64 - i} {j = 64} (omega arith) in
     let twice : 2 ^ (64 - i) ≡ 2 ^ (63 - i) * 2 = ap (λ k. 2 ^ k) double ∙ pow-suc 2 (63 - i) in
     omega arith
-  where
-    said : (b : Bool) (w : ℕ) → Some word ≡ cond b (Some w) None → word ≡ w
-    said true w e = cc
-    said false w e = cc
