@@ -10,7 +10,7 @@ use Rattle.pair_tracker.specs.Legs.{elements_between, directions_between}
 use Rattle.pair_tracker.specs.Pairs.{Machine, sides_in, element_run, pair_run}
 use Rattle.pair_tracker.specs.Survivors.{IsLeastOf}
 use Rattle.pair_tracker.specs.Tracking.{end_of, LeadsTo}
-use Rattle.pair_tracker.specs.Ways.{can_reach, ways_to, led_by, ways_word, word_by}
+use Rattle.pair_tracker.specs.Ways.{can_reach, ways_to, led_by, ways_word}
 use Rattle.pair_tracker.specs.Reached.{word_to}
 use Rattle.pair_tracker.proofs.Reaching.{Ends, ways_lead, ways_least}
 use Rattle.pair_tracker.proofs.Wording.{IsWordOf, is_word, word_again, words_ordered, fits_length}
@@ -94,13 +94,6 @@ least_words wanted m below march i j start ij within most = go (can_reach wanted
 pub least_same : (P Q : ℕ → Type 0) → ((w : ℕ) → P w → Q w) → ((w : ℕ) → Q w → P w) → (o : Option ℕ) → IsLeastOf P o → IsLeastOf Q o
 least_same P Q f g None none = λ w q. none w (g w q)
 least_same P Q f g (Some u) (is, least) = (f u is, λ w q. least w (g w q))
-
--- past the last element
-pub word_past : (wanted : Pair → Bool) (m : Machine) (below : Bool) (march : List MarchElement) (i j : ℕ) (start : Pair) → j ≤ i
-    → word_to wanted m below march i j start ≡ cond (wanted start) (Some 0) None
-word_past wanted m below march i j start past =
-    let none : j - i ≡ 0 = omega arith in
-    ap (λ n. word_by wanted (end_of m below) i (take n (drop i march)) start) none
 
 -- one element and the rest
 pub first_between : (march : List MarchElement) (i j : ℕ) → i < j → j ≤ length march → elements_between march i j ≡ element_at march i ∷ elements_between march (i + 1) j
