@@ -12,8 +12,7 @@ use Rattle.array_sim.proofs.Differing.{differs_unless, all_right}
 use Rattle.cell_machine.specs.Pairs.{pair_close}
 use Rattle.pair_tracker.specs.Placements.{places_in}
 use Rattle.pair_tracker.specs.Pairs.{machine_of}
-use Rattle.pair_tracker.specs.Tracking.{IsSpanWord}
-use Rattle.pair_tracker.specs.inner.Tracking.{weight_in}
+use Rattle.pair_tracker.specs.Tracking.{IsSpanWord, weight_in}
 use Rattle.pair_tracker.proofs.Words.{span_none, span_more, span_fits, directions_more, rest_from_span}
 use Rattle.escape_array.specs.declared.escape.EscapeArray.{EscapeArray}
 use Rattle.escape_array.specs.Escapes.{IsEscape, IsLeastEscape, places_of_escape}

@@ -1,9 +1,9 @@
 -- The first directions that lead to the end: at each element upward, unless no way on from there does.
-use Rattle.std.proofs.Common.{◌≡◌, ℕ, Bool, true, false, cond, ◌&&◌, ◌||◌, Option, Some, None, List, [], ◌∷◌, length, refl, ap, sym, subst, ◌∙◌}
+use Rattle.std.proofs.Common.{◌≡◌, ℕ, Bool, true, false, cond, ◌&&◌, Option, Some, None, List, [], ◌∷◌, length, refl, ap, sym, ◌∙◌}
 use Rattle.std.specs.Option.{option_and_then, IsSome}
 use Rattle.fault_core.specs.declared.cells.Places.{Places}
 use Rattle.march_core.specs.March.{MarchElement, IsMarch, order_of}
-use Rattle.march_core.specs.Visits.{Direction, Upward, Downward, allows, is_direction}
+use Rattle.march_core.specs.Visits.{Direction, allows, is_direction}
 use Rattle.dynamic_core.specs.Primitive.{DynamicPrimitive}
 use Rattle.dynamic_core.specs.Dynamic.{Held}
 use Rattle.dynamic_core.specs.inner.Dynamic.{Ending, Differs, Ends, miss_of}
@@ -13,84 +13,11 @@ use Rattle.dynamic_core.proofs.Differing.{missed}
 use Rattle.dynamic_prover.specs.declared.own_cells.OwnCells.{OwnCells}
 use Rattle.dynamic_prover.specs.declared.shape.Shape.{Shape}
 use Rattle.dynamic_prover.specs.inner.Shapes.{shape_of, element_run, end_in, shape_run}
-use Rattle.dynamic_prover.specs.inner.Ways.{Leading, holds_at, ways_at, can_pass, least_ways, led_by}
+use Rattle.pair_tracker.specs.Ways.{led_by, IsNotAfter}
+use Rattle.pair_tracker.proofs.Reaching.{ways_lead, ways_least}
+use Rattle.dynamic_prover.specs.inner.Ways.{any_end, can_pass, least_ways}
 use Rattle.dynamic_prover.proofs.Passing.{Shows}
 use Rattle.dynamic_prover.proofs.Sized.{beside_of, own_start, shown}
-
--- directions in their order: upward before downward, the first element first
-abbrev pub IsNotAfter : List Direction → List Direction → Type 0
-IsNotAfter [] ys = Unit {0}
-IsNotAfter (x ∷ xs) [] = ⊥
-IsNotAfter (Upward ∷ xs) (Upward ∷ ys) = IsNotAfter xs ys
-IsNotAfter (Upward ∷ xs) (Downward ∷ ys) = Unit {0}
-IsNotAfter (Downward ∷ xs) (Upward ∷ ys) = ⊥
-IsNotAfter (Downward ∷ xs) (Downward ∷ ys) = IsNotAfter xs ys
-
--- the way on by these directions, from where an element leads upward and where it leads downward
-abbrev onward : (OwnCells → List Direction → Option OwnCells) → Option OwnCells → Option OwnCells → List Direction → Option OwnCells
-onward h up down [] = None
-onward h up down (Upward ∷ ds) = option_and_then (λ r. h r ds) up
-onward h up down (Downward ∷ ds) = option_and_then (λ r. h r ds) down
-
-abbrev pick : (OwnCells → Bool) → (OwnCells → List Direction) → Option OwnCells → Option OwnCells → List Direction
-pick f g up down = cond (holds_at f up) (Upward ∷ ways_at g up) (Downward ∷ ways_at g down)
-
--- what is picked leads on
-picked : (f : OwnCells → Bool) (g : OwnCells → List Direction) (h : OwnCells → List Direction → Option OwnCells)
-    → ((r : OwnCells) → f r ≡ true → (z : OwnCells) × (h r (g r) ≡ Some z))
-    → (up down : Option OwnCells) → (holds_at f up || holds_at f down) ≡ true → (z : OwnCells) × (onward h up down (pick f g up down) ≡ Some z)
-picked f g h ih None None e = cc
-picked f g h ih None (Some s) e = ih s e
-picked f g h ih (Some r) down e = go (f r) refl
-  where
-    Goal : Bool → Type 0
-    Goal b = (z : OwnCells) × (onward h (Some r) down (cond b (Upward ∷ g r) (Downward ∷ ways_at g down)) ≡ Some z)
-
-    other : (w : Option OwnCells) → holds_at f w ≡ true → (z : OwnCells) × (option_and_then (λ r. h r (ways_at g w)) w ≡ Some z)
-    other None e = cc
-    other (Some s) e = ih s e
-
-    go : (b : Bool) → f r ≡ b → Goal (f r)
-    go true t = subst Goal (sym t) (ih r t)
-    go false t = subst Goal (sym t) (other down (ap (λ b. b || holds_at f down) (sym t) ∙ e))
-
--- no way that leads on is before it
-not_before : (f : OwnCells → Bool) (g : OwnCells → List Direction) (h : OwnCells → List Direction → Option OwnCells)
-    → ((r : OwnCells) (ds : List Direction) (z : OwnCells) → h r ds ≡ Some z → (f r ≡ true) × IsNotAfter (g r) ds)
-    → (up down : Option OwnCells) (ds : List Direction) (z : OwnCells) → onward h up down ds ≡ Some z
-    → ((holds_at f up || holds_at f down) ≡ true) × IsNotAfter (pick f g up down) ds
-not_before f g h ih up down [] z e = cc
-not_before f g h ih None down (Upward ∷ ds) z e = cc
-not_before f g h ih (Some r) down (Upward ∷ ds) z e =
-    let t = ih r ds z e in
-    subst (λ b. ((b || holds_at f down) ≡ true) × IsNotAfter (cond b (Upward ∷ g r) (Downward ∷ ways_at g down)) (Upward ∷ ds)) (sym t.0) (refl, t.1)
-not_before f g h ih up None (Downward ∷ ds) z e = cc
-not_before f g h ih up (Some s) (Downward ∷ ds) z e =
-    let t = ih s ds z e in
-    elim (holds_at f up) as (λ b. ((b || f s) ≡ true) × IsNotAfter (cond b (Upward ∷ ways_at g up) (Downward ∷ g s)) (Downward ∷ ds))
-    [ true ↦ (refl, tt) | false ↦ (t.0, t.1) ]
-
-led_onward : {E : Type 0} (lead : Leading E) (e : E) (es : List E) (q : OwnCells) (ds : List Direction)
-    → led_by lead (e ∷ es) q ds ≡ onward (λ r ds. led_by lead es r ds) (lead e q Upward) (lead e q Downward) ds
-led_onward lead e es q [] = refl
-led_onward lead e es q (Upward ∷ ds) = refl
-led_onward lead e es q (Downward ∷ ds) = refl
-
-pub ways_lead : {E : Type 0} (lead : Leading E) (es : List E) (q : OwnCells) → can_pass lead es q ≡ true
-    → (z : OwnCells) × (led_by lead es q (least_ways lead es q) ≡ Some z)
-ways_lead lead [] q e = (q, refl)
-ways_lead lead (x ∷ es) q e =
-    let t = picked (λ r. can_pass lead es r) (λ r. least_ways lead es r) (λ r ds. led_by lead es r ds) (λ r t. ways_lead lead es r t)
-    (lead x q Upward) (lead x q Downward) e in
-    (t.0, led_onward lead x es q (least_ways lead (x ∷ es) q) ∙ t.1)
-
-pub ways_least : {E : Type 0} (lead : Leading E) (es : List E) (q : OwnCells) (ds : List Direction) (z : OwnCells) → led_by lead es q ds ≡ Some z
-    → (can_pass lead es q ≡ true) × IsNotAfter (least_ways lead es q) ds
-ways_least lead [] q [] z e = (refl, tt)
-ways_least lead [] q (d ∷ ds) z e = cc
-ways_least lead (x ∷ es) q ds z e =
-    not_before (λ r. can_pass lead es r) (λ r. least_ways lead es r) (λ r ds. led_by lead es r ds) (λ r ds z t. ways_least lead es r ds z t)
-    (lead x q Upward) (lead x q Downward) ds z (sym (led_onward lead x es q ds) ∙ e)
 
 -- the run in directions that the orders leave open
 fitting_is : (p : DynamicPrimitive) (shape : Shape) (es : List MarchElement) (q : OwnCells) (ds : List Direction)
@@ -145,7 +72,7 @@ foretold march p at n content is_march fits size =
     record {
       some = λ e.
           let ways : List Direction = least_ways (end_in p shape) march q in
-          let w = ways_lead (end_in p shape) march q e in
+          let w = ways_lead any_end (end_in p shape) march q e in
           let t = holds_if (is_direction march ways) (shape_run p shape q march ways) w.0 (sym (fitting_is p shape march q ways) ∙ w.1) in (
             t.0,
             λ caught. ends_pass a at.vic (shape_run p shape q march ways) w.0 (ending_of march ways p at content) (λ g. length g.cells ≡ n)
@@ -154,5 +81,5 @@ foretold march p at n content is_march fits size =
       only = λ ds d not.
           let z = pass_ends a at.vic (shape_run p shape q march ds) (ending_of march ds p at content) (λ g. length g.cells ≡ n)
           (shown p at n fits march ds content is_march size) (λ some. not ((missed march ds p at content).0 some)) in
-          ways_least (end_in p shape) march q ds z.0 (fitting_is p shape march q ds ∙ ap (λ b. cond b (shape_run p shape q march ds) None) d ∙ z.1);
+          ways_least any_end (end_in p shape) march q ds (z.0, fitting_is p shape march q ds ∙ ap (λ b. cond b (shape_run p shape q march ds) None) d ∙ z.1, refl);
     }

@@ -21,13 +21,14 @@ use Rattle.dynamic_prover.specs.declared.spot.Spot.{Spot}
 use Rattle.dynamic_prover.specs.declared.escape.DynEscape.{DynEscape}
 use Rattle.dynamic_prover.specs.inner.Own.{own_as}
 use Rattle.dynamic_prover.specs.inner.Shapes.{shape_of, end_in}
-use Rattle.dynamic_prover.specs.inner.Ways.{least_ways, ways_word}
+use Rattle.pair_tracker.specs.Ways.{ways_word, IsNotAfter}
+use Rattle.dynamic_prover.specs.inner.Ways.{least_ways}
 use Rattle.dynamic_prover.specs.Escapes.{DynArray, places_of_array, PassesDyn, address_number, digits_of, order_of_array, IsInOrder, array_of, LeastDyn, digit_of}
 use Rattle.dynamic_prover.specs.Verdicts.{IsDynVerdict}
 use Rattle.dynamic_prover.specs.declared.escape.DynVerdict.TheVariants.{Escape}
 use Rattle.dynamic_prover.specs.inner.Spots.{spots_of, shape_at, content_from, Candidate, candidate_at, candidates_of, passes_by, IsMadeOf, NonePasses, IsFirstOf, bit_at}
 use Rattle.dynamic_prover.proofs.Sized.{beside_of, own_start}
-use Rattle.dynamic_prover.proofs.Greedy.{IsNotAfter, Foretells, foretold}
+use Rattle.dynamic_prover.proofs.Greedy.{Foretells, foretold}
 use Rattle.dynamic_prover.proofs.Wording.{IsFitting, fitting_word, word_least}
 use Rattle.dynamic_prover.proofs.Ordered.{in_order_on, before_in_order, length-content, take-content, blank-content, not_before, no_less}
 use Rattle.dynamic_prover.proofs.Listed.{IsIn, all_in, in_split, in_middle, in_candidates, IsListed, listed, order_of, before_behind, start_listed, start_off}

@@ -8,7 +8,6 @@ pub mod Wording
 pub mod Alone
 pub mod Tables
 pub mod OpTables
-pub mod Rows
 pub mod Searching
 pub mod Ordered
 pub mod Listed

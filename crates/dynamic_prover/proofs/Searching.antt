@@ -1,29 +1,19 @@
 -- The search among the small arrays, one after another.
-use Rattle.std.proofs.Common.{◌≡◌, ◌+◌, ◌<◌, ℕ, true, false, List, [], ◌∷◌, ◌++◌, length, map, take, drop, get_or, refl, ap, sym, subst, ◌∙◌, append_assoc, append-nil, arith}
+use Rattle.std.proofs.Common.{◌≡◌, ◌+◌, ◌<◌, ℕ, true, false, List, [], ◌∷◌, ◌++◌, length, map, take, drop, get_or, refl, ap, sym, subst, ◌∙◌, append_assoc, append-nil}
 use Rattle.std.specs.List.{AllByRecursion}
 use Rattle.std.proofs.lemmas.List.{take_more, drop_more, map-append, take-append-drop}
 use Rattle.cell_machine.specs.declared.pair.Pair.{Pair}
 use Rattle.march_core.specs.March.{MarchElement}
 use Rattle.dynamic_core.specs.Primitive.{DynamicPrimitive}
-use Rattle.dynamic_prover.specs.declared.own_cells.OwnCells.{OwnCells}
-use Rattle.dynamic_prover.specs.declared.shape.Shape.{Shape}
 use Rattle.dynamic_prover.specs.declared.leg.Leg.{Leg}
-use Rattle.dynamic_prover.specs.declared.row.Row.{Row}
 use Rattle.dynamic_prover.specs.declared.spot.Spot.{Spot}
 use Rattle.dynamic_prover.specs.declared.escape.DynEscape.{DynEscape}
 use Rattle.dynamic_prover.specs.inner.Own.{own_as}
 use Rattle.dynamic_prover.specs.inner.Shapes.{end_in}
-use Rattle.dynamic_prover.specs.inner.Ways.{can_pass, ways_word}
+use Rattle.pair_tracker.specs.Ways.{ways_word}
 use Rattle.dynamic_prover.specs.inner.Legs.{leg_end, AreLegs}
-use Rattle.dynamic_prover.specs.inner.Rows.{can_from, AreRows}
 use Rattle.dynamic_prover.specs.inner.Spots.{shape_at, starts_of, Candidate, candidate_at, candidates_at, candidates_of, passes_by, IsMadeOf, NonePasses, IsFirstOf}
-use Rattle.dynamic_prover.proofs.Rows.{blank_row}
 use Rattle.dynamic_prover.proofs.Tables.{can_by_legs, ways_by_legs}
-
--- what the first row says of a start
-pub first_tells : (shape : Shape) (legs : List Leg) (rows : List Row) (q : OwnCells) → AreRows shape legs 0 rows
-    → can_from (get_or rows 0 blank_row) q ≡ can_pass (leg_end shape) legs q
-first_tells shape legs rows q told = told 0 blank_row (omega arith) (omega arith) q
 
 all_append : {X : Type 0} (P : X → Type 0) (xs ys : List X) → AllByRecursion P xs → AllByRecursion P ys → AllByRecursion P (xs ++ ys)
 all_append P [] ys h k = k

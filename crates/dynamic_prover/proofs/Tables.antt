@@ -1,5 +1,5 @@
 -- The tables lead where the elements of the march lead.
-use Rattle.std.proofs.Common.{◌≡◌, ◌+◌, ◌<◌, ℕ, Bool, true, false, cond, ◌||◌, Option, Some, None, List, [], ◌∷◌, ◌++◌, length, take, refl, ap, sym, subst, ◌∙◌, arith}
+use Rattle.std.proofs.Common.{◌≡◌, ◌+◌, ◌<◌, ℕ, Bool, true, false, cond, ◌||◌, Option, Some, None, List, [], ◌∷◌, ◌++◌, length, take, get_or, refl, ap, sym, subst, ◌∙◌, arith}
 use Rattle.std.specs.Option.{option_and_then, option_map}
 use Rattle.std.proofs.lemmas.List.{take_more}
 use Rattle.march_core.specs.declared.operation.Op.{Op}
@@ -17,9 +17,9 @@ use Rattle.dynamic_prover.specs.declared.leg.Leg.{Leg}
 use Rattle.dynamic_prover.specs.declared.leg.Leg.TheVariants.{Pause, Sweep}
 use Rattle.dynamic_prover.specs.inner.Own.{own_as, own_run, disarmed}
 use Rattle.dynamic_prover.specs.inner.Shapes.{in_direction, other_cells, one_more, tags_of, passed, tags_run, end_in}
-use Rattle.dynamic_prover.specs.inner.Ways.{holds_at, ways_at, can_pass, least_ways}
-use Rattle.dynamic_prover.specs.inner.Rows.{can_from}
-use Rattle.dynamic_prover.specs.inner.Legs.{passed_where, end_from, ends_on, second_end, sweep_end, leg_end, IsLeg, AreLegs}
+use Rattle.pair_tracker.specs.Ways.{holds_at, ways_at}
+use Rattle.dynamic_prover.specs.inner.Ways.{can_pass, least_ways}
+use Rattle.dynamic_prover.specs.inner.Legs.{own_number, passed_where, end_from, ends_on, second_end, sweep_end, leg_end, IsLeg, AreLegs}
 
 -- a table of eight, by the contents of the two cells
 pub eight : (f : OwnCells → Option OwnCells) (x0 x1 x2 x3 x4 x5 x6 x7 : Option OwnCells)
@@ -40,23 +40,28 @@ eight f x0 x1 x2 x3 x4 x5 x6 x7 e0 e1 e2 e3 e4 e5 e6 e7 q = go q.pair.a q.pair.v
     go true true false = e6
     go true true true = e7
 
-pub eight_bits : (f : OwnCells → Bool) (x0 x1 x2 x3 x4 x5 x6 x7 : Bool)
-    → x0 ≡ f (own_as (pair_of false false) false) → x1 ≡ f (own_as (pair_of false false) true)
-    → x2 ≡ f (own_as (pair_of false true) false) → x3 ≡ f (own_as (pair_of false true) true)
-    → x4 ≡ f (own_as (pair_of true false) false) → x5 ≡ f (own_as (pair_of true false) true)
-    → x6 ≡ f (own_as (pair_of true true) false) → x7 ≡ f (own_as (pair_of true true) true)
-    → (q : OwnCells) → can_from (record { can = x0 ∷ x1 ∷ x2 ∷ x3 ∷ x4 ∷ x5 ∷ x6 ∷ x7 ∷ [] }) q ≡ f q
-eight_bits f x0 x1 x2 x3 x4 x5 x6 x7 e0 e1 e2 e3 e4 e5 e6 e7 q = go q.pair.a q.pair.v q.armed
+-- the number tells the contents
+pub same_own : (q r : OwnCells) → own_number q ≡ own_number r → q ≡ r
+same_own q r e =
+    let ends : List (Option OwnCells) =
+    Some (own_as (pair_of false false) false) ∷ Some (own_as (pair_of false false) true) ∷ Some (own_as (pair_of false true) false) ∷ Some (own_as (pair_of false true) true)
+    ∷ Some (own_as (pair_of true false) false) ∷ Some (own_as (pair_of true false) true) ∷ Some (own_as (pair_of true true) false) ∷ Some (own_as (pair_of true true) true) ∷ [] in
+    let itself : (x : OwnCells) → end_from ends x ≡ Some x = λ x. eight Some _ _ _ _ _ _ _ _ refl refl refl refl refl refl refl refl x in
+    let same : ◌≡◌ {A = Option OwnCells} (Some q) (Some r) = sym (itself q) ∙ ap (λ k. get_or ends k None) e ∙ itself r in
+    cc
+
+pub own_below : (q : OwnCells) → own_number q < 8
+own_below q = go q.pair.a q.pair.v q.armed
   where
-    go : (a v armed : Bool) → can_from (record { can = x0 ∷ x1 ∷ x2 ∷ x3 ∷ x4 ∷ x5 ∷ x6 ∷ x7 ∷ [] }) (own_as (pair_of a v) armed) ≡ f (own_as (pair_of a v) armed)
-    go false false false = e0
-    go false false true = e1
-    go false true false = e2
-    go false true true = e3
-    go true false false = e4
-    go true false true = e5
-    go true true false = e6
-    go true true true = e7
+    go : (a v armed : Bool) → own_number (own_as (pair_of a v) armed) < 8
+    go false false false = omega arith
+    go false false true = omega arith
+    go false true false = omega arith
+    go false true true = omega arith
+    go true false false = omega arith
+    go true false true = omega arith
+    go true true false = omega arith
+    go true true true = omega arith
 
 -- what a table of some operations says
 pub record TellsEnds (p : DynamicPrimitive) (ops : List Op) (leg : SweepLeg) : Type 0 where

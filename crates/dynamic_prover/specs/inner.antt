@@ -3,5 +3,5 @@ pub mod Shapes
 pub mod Ways
 pub mod Legs
 pub mod OpTables
-pub mod Rows
+pub mod DeadEnds
 pub mod Spots

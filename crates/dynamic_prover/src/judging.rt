@@ -2,57 +2,55 @@ ghost use Rattle.std.specs.Prelude.{ℕ, ◌≡◌, ◌≤◌, false, true, leng
 ghost use Rattle.march_core.specs.March.{IsMarch};
 ghost use Rattle.dynamic_core.specs.Primitive.{has_aggressor};
 ghost use Rattle.dynamic_prover.specs.inner.Shapes.{end_in};
-ghost use Rattle.dynamic_prover.specs.inner.Ways.{least_ways, ways_word};
 ghost use Rattle.dynamic_prover.specs.inner.Legs.{leg_end};
-ghost use Rattle.dynamic_prover.specs.inner.Rows.{AreRows};
+ghost use Rattle.dynamic_prover.specs.inner.DeadEnds.{AreDeadEnds};
 ghost use Rattle.dynamic_prover.specs.inner.Spots.{shape_at, spots_of, candidate_at, candidates_at, candidates_of, passes_by, IsMadeOf, FindsFirst};
 ghost use Rattle.dynamic_prover.specs.Verdicts.{IsDynVerdict, IsDynVerdictAt};
 
 use crate::escape::{DynEscape, DynVerdict};
 use crate::leg::{Leg, legs_of};
 use crate::own_cells::own_cells;
-use crate::row::{Row, least_word, rows_of};
+use crate::search::word_from;
 use crate::spot::{Spot, spots_of};
 use cell_machine::Pair;
 use dynamic_core::DynPrim;
 use march_core::March;
+use pair_tracker::DeadEnds;
 
 /// The escape in an array with these places and this content of its instance's cells, where it can pass.
 fn escape_from(
     prim: &DynPrim,
     legs: &[Leg],
-    rows: &[Row],
     spot: Spot,
     pair: Pair,
+    dead_ends: &mut DeadEnds,
 ) -> Option<DynEscape>
     requires few { length legs.now ≤ 64 }
-    requires rows { AreRows (shape_at spot) legs.now 0 rows.now }
-    requires each { length rows.now ≡ 65 }
-    ensures { MatchOption result (passes_by leg_end legs.now (candidate_at spot pair) ≡ false)
+    requires dead { AreDeadEnds (shape_at spot) legs.now dead_ends.old }
+    ensures escape { MatchOption result (passes_by leg_end legs.now (candidate_at spot pair) ≡ false)
         (λ e. (passes_by leg_end legs.now (candidate_at spot pair) ≡ true) × IsMadeOf leg_end legs.now prim.now (candidate_at spot pair) e) }
+    ensures dead { AreDeadEnds (shape_at spot) legs.now dead_ends.new }
 {
     let start = own_cells(pair.a, pair.v, false);
-    if !rows[0].can_from(start) {
-        return None;
-    }
+    let directions = word_from(legs, spot.shape(), dead_ends, 0, Some(start))?;
     Some(DynEscape {
         prim: *prim,
         size: spot.size,
         agg: spot.agg,
         vic: spot.vic,
         content: spot.content(pair),
-        directions: least_word(legs, rows, spot.shape(), start),
+        directions,
     })
 }
 
-/// The least escape in an array with these places.
+/// The least escape in an array with these places. The contents share what is found out of dead ends.
 fn least_at(prim: &DynPrim, legs: &[Leg], spot: Spot) -> Option<DynEscape>
     requires { length legs.now ≤ 64 }
     ensures { FindsFirst leg_end legs.now prim.now (candidates_at spot) result }
 {
-    let rows = rows_of(legs, spot.shape());
+    let mut dead_ends = DeadEnds::unknown();
     for pair in spot.starts() {
-        if let Some(escape) = escape_from(prim, legs, &rows, spot, *pair) {
+        if let Some(escape) = escape_from(prim, legs, spot, *pair, &mut dead_ends) {
             return Some(escape);
         }
     }

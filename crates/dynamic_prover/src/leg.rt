@@ -1,6 +1,5 @@
 ghost use Rattle.std.specs.Prelude.{◌≡◌, ◌<◌, ◌≤◌, length};
 ghost use Rattle.march_core.specs.March.{element_at};
-ghost use Rattle.march_core.specs.Visits.{allows};
 ghost use Rattle.march_core.specs.Addresses.{direction_of};
 ghost use Rattle.dynamic_prover.specs.declared.own_cells.OwnCells.{OwnCells};
 ghost use Rattle.cell_machine.specs.declared.pair.Side.TheVariants.{A, V};
@@ -15,6 +14,7 @@ use arrayvec::ArrayVec;
 use cell_machine::Side;
 use dynamic_core::DynPrim;
 use march_core::{March, Order};
+use pair_tracker::does_allow;
 
 /// Where the operations of an element lead on each of the two cells, by the number of their contents. None
 /// where a read differs.
@@ -36,17 +36,6 @@ pub(crate) enum Leg {
 impl Default for Leg {
     fn default() -> Self {
         Leg::Pause
-    }
-}
-
-/// Whether an order leaves a direction open.
-fn does_allow(order: Order, is_down: bool) -> bool
-    ensures { result ≡ allows order (direction_of is_down) }
-{
-    match order {
-        Order::Up => !is_down,
-        Order::Down => is_down,
-        Order::Any => true,
     }
 }
 

@@ -20,7 +20,7 @@ mod judging;
 mod leg;
 mod op_table;
 mod own_cells;
-mod row;
+mod search;
 mod shape;
 mod spot;
 

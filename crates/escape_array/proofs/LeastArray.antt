@@ -13,12 +13,13 @@ use Rattle.cell_machine.specs.declared.pair.Pair.{Pair}
 use Rattle.cell_machine.specs.Pairs.{pair_of}
 use Rattle.pair_tracker.specs.declared.placement.Placement.{Placement}
 use Rattle.pair_tracker.specs.declared.placement.Placement.TheVariants.{Alone, Below, Above}
+use Rattle.pair_tracker.specs.Legs.{Leg, SumsUp}
 use Rattle.pair_tracker.specs.Placements.{places_in, FitsPlacement, pair_in}
-use Rattle.pair_tracker.specs.Survivors.{pair_number}
-use Rattle.pair_tracker.proofs.Joining.{same_number}
+use Rattle.pair_tracker.specs.Survivors.{pair_number, LetsThrough, IsLeastWord}
+use Rattle.pair_tracker.proofs.Numbers.{same_number}
 use Rattle.escape_array.specs.declared.escape.EscapeArray.{EscapeArray}
 use Rattle.escape_array.specs.Escapes.{IsEscape, IsLeastEscape, IsNoGreater, places_of_escape, placement_number, content_number}
-use Rattle.escape_array.specs.inner.Searching.{LetsThrough, IsLeastWord, NoneBefore, IsLeastIn}
+use Rattle.escape_array.specs.inner.Searching.{NoneBefore, IsLeastIn}
 
 -- two cells hold one of four contents
 content_below : (content : List Bool) → length content ≡ 2 → content_number content < 4
@@ -48,6 +49,14 @@ same_content (a ∷ b ∷ []) [] h k e = cc
 same_content (a ∷ b ∷ []) (c ∷ []) h k e = cc
 same_content (a ∷ b ∷ []) (c ∷ d ∷ x ∷ rest) h k e = absurd (omega arith)
 same_content (a ∷ b ∷ []) (c ∷ d ∷ []) h k e = same_bits a b c d e
+
+-- the least word of a summary of the whole march
+pub least_of_whole : (march : List MarchElement) (p : Primitive) (placement : Placement) (n : ℕ) (leg : Leg) (content : List Bool) (result : Option ℕ)
+    → SumsUp march p placement 0 n leg → IsLeastWord leg.march leg.prim leg.placement content result → IsLeastWord march p placement content result
+least_of_whole march p placement n leg content result sums least =
+    subst (λ place. IsLeastWord march p place content result) sums.placement_is
+    (subst (λ q. IsLeastWord march q leg.placement content result) sums.prim_is
+    (subst (λ m. IsLeastWord m leg.prim leg.placement content result) sums.march_is least))
 
 -- nothing before the next content, where this one is not let through
 pub none_so_far : (march : List MarchElement) (p : Primitive) (placement : Placement) (number : ℕ) (content : List Bool) → length content ≡ 2

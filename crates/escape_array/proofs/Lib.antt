@@ -1,3 +1,2 @@
-pub mod LeastWords
 pub mod LeastArray
 pub mod Replaying

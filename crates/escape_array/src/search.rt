@@ -2,12 +2,12 @@ ghost use Rattle.std.specs.Prelude.{◌≡◌, ◌<◌, None, MatchOption, lengt
 ghost use Rattle.pair_tracker.specs.Placements.{FitsPlacement, places_in};
 ghost use Rattle.escape_array.specs.declared.escape.EscapeArray.{EscapeArray};
 ghost use Rattle.escape_array.specs.Escapes.{IsEscape, IsLeastEscape, content_number, places_of_escape};
-ghost use Rattle.escape_array.specs.inner.Searching.{IsLeastWord, NoneBefore, IsLeastIn, lesser_of, least_of};
+ghost use Rattle.escape_array.specs.inner.Searching.{NoneBefore, IsLeastIn};
 
 use crate::escape::EscapeArray;
 use fault_core::Prim;
 use march_core::March;
-use pair_tracker::{Placement, Summary, Survivor};
+use pair_tracker::{DeadEnds, Placement, Summary};
 
 /// The least escape of a primitive, by placement, content and direction word in this order, and None exactly
 /// where the march catches it in every array of two cells.
@@ -25,15 +25,16 @@ pub fn least(march: &March, prim: &Prim) -> Option<EscapeArray>
     }
 }
 
-/// The least escape in one placement. The contents share the tables of the elements.
+/// The least escape in one placement. The contents share what is found out of dead ends.
 fn least_in(march: &March, prim: &Prim, placement: Placement) -> Option<EscapeArray>
     requires { FitsPlacement prim.now placement }
     ensures { MatchOption result (NoneBefore march.now prim.now placement 4) (λ e. IsLeastIn march.now prim.now placement e) }
 {
     let whole = Summary::whole(march, prim, placement);
+    let mut dead_ends = DeadEnds::unknown();
     for number in 0..4 {
         let content = content_of(number);
-        if let Some(directions) = least_word(&whole, content) {
+        if let Some(directions) = whole.least_word(content, &mut dead_ends) {
             return Some(escape_at(*prim, placement, content, directions));
         }
     }
@@ -67,35 +68,5 @@ fn escape_at(prim: Prim, placement: Placement, content: [bool; 2], directions: u
         vic,
         content,
         directions,
-    }
-}
-
-/// The least direction word of a whole march in which no read differs.
-fn least_word(whole: &Summary<'_>, content: [bool; 2]) -> Option<u64>
-    requires first { whole.now.first ≡ 0 }
-    requires last { whole.now.end ≡ length whole.now.march }
-    ensures { IsLeastWord whole.now.march whole.now.prim whole.now.placement content result }
-{
-    let found = whole.survivors(content);
-    least_directions(found.as_slice())
-}
-
-/// The least direction word of these survivors.
-fn least_directions(found: &[Survivor]) -> Option<u64>
-    ensures { result ≡ least_of None found.now }
-{
-    let mut least = None;
-    for survivor in found {
-        least = Some(lesser(least, survivor.directions));
-    }
-    least
-}
-
-fn lesser(held: Option<u64>, word: u64) -> u64
-    ensures { result ≡ lesser_of held word }
-{
-    match held {
-        None => word,
-        Some(held) => held.min(word),
     }
 }

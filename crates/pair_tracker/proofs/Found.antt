@@ -7,11 +7,7 @@ use Rattle.cell_machine.specs.declared.pair.Pair.{Pair}
 use Rattle.cell_machine.specs.Pairs.{pair_of}
 use Rattle.pair_tracker.specs.declared.placement.Survivor.{Survivor}
 use Rattle.pair_tracker.specs.Survivors.{pair_number}
-use Rattle.pair_tracker.specs.Slots.{all_pairs}
-
--- a pair with its word, where it has one
-abbrev pub with_word : (Pair → Option ℕ) → Pair → Option Survivor
-with_word words q = option_map (λ word. record { pair = q; directions = word }) (words q)
+use Rattle.pair_tracker.specs.Reached.{all_pairs, with_word}
 
 pub each_found : (P : Survivor → Type 0) (words : Pair → Option ℕ) (qs : List Pair)
     → ((q : Pair) (word : ℕ) → words q ≡ Some word → P (record { pair = q; directions = word })) → AllByRecursion P (filter_map (with_word words) qs)

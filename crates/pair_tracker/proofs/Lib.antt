@@ -2,8 +2,11 @@ pub mod Words
 pub mod Sides
 pub mod Projection
 pub mod Machines
-pub mod Leading
-pub mod Joining
+pub mod Reaching
+pub mod Wording
+pub mod WordSteps
+pub mod LeastWords
+pub mod Numbers
 pub mod Passing
 pub mod Found
 pub mod Ends

@@ -8,7 +8,7 @@ use Rattle.std.specs.List.{range_with_len}
 use Rattle.march_core.specs.Visits.{Direction, Upward, Downward, direction_at, directions_of}
 use Rattle.pair_tracker.specs.Legs.{directions_between}
 use Rattle.pair_tracker.specs.Tracking.{IsSpanWord}
-use Rattle.pair_tracker.specs.inner.Tracking.{weight_in}
+use Rattle.pair_tracker.specs.Tracking.{weight_in}
 
 -- one behind another
 pub span_below : (i j word : ℕ) → i ≤ j → j ≤ 64 → IsSpanWord i j word → word < 2 ^ (64 - i)

@@ -3,5 +3,5 @@ pub mod Placements
 pub mod Survivors
 pub mod Legs
 pub mod Tracking
-pub mod Slots
-pub mod inner
+pub mod Ways
+pub mod Reached

@@ -1,5 +1,5 @@
 -- Public. What a march lets through on an array of two cells, over all choices of direction.
-use Rattle.std.specs.Prelude.{◌≡◌, ◌<◌, ◌≤◌, ◌+◌, ◌*◌, ◌^◌, ℕ, Bool, List, length, map, if◌then◌else◌, Contains}
+use Rattle.std.specs.Prelude.{◌≡◌, ◌<◌, ◌≤◌, ◌+◌, ◌*◌, ◌^◌, ℕ, Bool, Option, Some, None, List, length, map, if◌then◌else◌, Contains}
 use Rattle.std.specs.List.{AllByRecursion}
 use Rattle.std.specs.List.Sorted.{IsStrictlyIncreasing}
 use Rattle.fault_core.specs.Primitive.{Primitive}
@@ -36,3 +36,16 @@ pub record AreEnds (Leads : Pair → ℕ → Type 0) (found : List Survivor) : T
 -- the final pairs that a march lets through from this content
 abbrev pub AreSurvivors : List MarchElement → Primitive → Placement → List Bool → List Survivor → Type 0
 AreSurvivors march p placement content found = AreEnds (λ final word. Survives march p placement content word final) found
+
+-- the least number of which this holds, where there is one
+abbrev pub IsLeastOf : (ℕ → Type 0) → Option ℕ → Type 0
+IsLeastOf P None = (word : ℕ) → P word → ⊥
+IsLeastOf P (Some least) = P least × ((word : ℕ) → P word → least ≤ word)
+
+-- the march lets this content through in the directions of this word
+abbrev pub LetsThrough : List MarchElement → Primitive → Placement → List Bool → ℕ → Type 0
+LetsThrough march p placement content word = (final : Pair) × Survives march p placement content word final
+
+-- the least word in which the content is let through, where there is one
+abbrev pub IsLeastWord : List MarchElement → Primitive → Placement → List Bool → Option ℕ → Type 0
+IsLeastWord march p placement content least = IsLeastOf (λ word. LetsThrough march p placement content word) least

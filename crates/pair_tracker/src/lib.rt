@@ -1,5 +1,5 @@
-//! Two cells followed through a march, over all choices of direction at once: one table for each element, and the
-//! tables one behind the other.
+//! Two cells followed through a march, over all choices of direction: the pairs that they can end in, each with the
+//! first choice that leads there.
 //!
 //! ```
 //! use fault_syntax::read_prim;
@@ -17,11 +17,12 @@
 
 mod element_step;
 mod placement;
-mod row;
+mod search;
 mod summary;
-mod table;
 mod tracker;
 
+pub use element_step::does_allow;
 pub use placement::{Placement, Survivor};
+pub use search::{DeadEnds, weight_of};
 pub use summary::Summary;
 pub use tracker::survivors;

@@ -1,12 +1,15 @@
 ghost use Rattle.std.specs.Prelude.{◌≡◌, ◌+◌, ◌<◌, length};
 ghost use Rattle.fault_core.specs.Primitive.{IsPrimitive};
+ghost use Rattle.march_core.specs.March.{IsMarch};
 ghost use Rattle.pair_tracker.specs.Placements.{FitsPlacement, pair_in};
 ghost use Rattle.pair_tracker.specs.Tracking.{is_below};
-ghost use Rattle.pair_tracker.specs.Survivors.{AreSurvivors};
+ghost use Rattle.pair_tracker.specs.Survivors.{AreSurvivors, IsLeastWord};
 ghost use Rattle.pair_tracker.specs.Legs.{SumsUp, AreLegEnds, ends_from};
+ghost use Rattle.pair_tracker.specs.Pairs.{machine_of};
+ghost use Rattle.pair_tracker.specs.Reached.{is_wanted, word_to, AreDeadEnds, KnowsOf};
 
 use crate::placement::{Placement, Survivor};
-use crate::table::Table;
+use crate::search::{DeadEnds, Search, word_from};
 use arrayvec::ArrayVec;
 use cell_machine::{Pair, close};
 use fault_core::Prim;
@@ -23,19 +26,26 @@ pub struct Summary<'a> {
     placement: Placement,
     first: usize,
     end: usize,
-    table: Table,
 }
 
 impl<'a> Model for Summary<'a> {
     ghost use Rattle.pair_tracker.specs.Legs.{Leg};
-    ghost use Rattle.pair_tracker.specs.Slots.{rows_of, IsTableOf};
+    ghost use Rattle.pair_tracker.specs.Reached.{rows_of, IsSpan};
 
     ghost Value = { Leg };
 
-    ghost view = { λ s. record { march = s.march.now; prim = s.prim; placement = s.placement; first = s.first; end = s.end; rows = rows_of s.table } };
+    ghost view = { λ s. record { march = s.march.now; prim = s.prim; placement = s.placement; first = s.first; end = s.end; rows = rows_of s.march.now s.prim s.placement s.first s.end } };
 
-    ghost invariant = { λ s. IsTableOf s.march.now s.prim s.placement s.first s.end s.table };
+    ghost invariant = { λ s. IsSpan s.march.now s.prim s.placement s.first s.end };
 }
+
+/// The pairs in their order: the aggressor's bit first, 0 before 1.
+const PAIRS: [Pair; 4] = [
+    Pair { a: false, v: false },
+    Pair { a: false, v: true },
+    Pair { a: true, v: false },
+    Pair { a: true, v: true },
+];
 
 /// The two cells of a content as a pair.
 fn start_of(placement: Placement, content: [bool; 2]) -> Pair
@@ -54,13 +64,20 @@ fn start_of(placement: Placement, content: [bool; 2]) -> Pair
     }
 }
 
-/// Whether there is an aggressor, and it has the lower address.
-fn has_lower_aggressor(prim: &Prim, placement: Placement) -> bool
-    requires { FitsPlacement prim.now placement }
-    ensures value { result ≡ is_below placement }
+/// Whether the cell beside the victim has the lower address.
+fn is_below(placement: Placement) -> bool
+    ensures { result ≡ is_below placement }
+{
+    placement == Placement::Below
+}
+
+/// Says as facts what every march and every primitive in its placement is.
+fn recall(march: &March, prim: &Prim)
+    ensures march { IsMarch march.now }
     ensures primitive { IsPrimitive prim.now }
 {
-    prim.agg().is_some() && placement == Placement::Below
+    let _elements = march.len();
+    let _aggressor = prim.agg();
 }
 
 impl<'a> Summary<'a> {
@@ -70,36 +87,28 @@ impl<'a> Summary<'a> {
         requires fits { FitsPlacement prim.now placement }
         ensures { SumsUp march.now prim.now placement i (i + 1) result }
     {
-        let _elements = march.len();
-        let is_below = has_lower_aggressor(prim, placement);
+        recall(march, prim);
         Summary {
             march,
             prim: *prim,
             placement,
             first: i,
             end: i + 1,
-            table: Table::of_element(prim, is_below, march, i),
         }
     }
 
-    /// The summary of a whole march: the tables of its elements, one behind the other.
+    /// The summary of a whole march.
     pub fn whole(march: &'a March, prim: &Prim, placement: Placement) -> Summary<'a>
         requires { FitsPlacement prim.now placement }
         ensures { SumsUp march.now prim.now placement 0 (length march.now) result }
     {
-        let count = march.len();
-        let is_below = has_lower_aggressor(prim, placement);
-        let mut table = Table::of_element(prim, is_below, march, 0);
-        for i in 1..count {
-            table = table.then(&table.element_behind(prim, is_below, march, i));
-        }
+        recall(march, prim);
         Summary {
             march,
             prim: *prim,
             placement,
             first: 0,
-            end: count,
-            table,
+            end: march.len(),
         }
     }
 
@@ -117,8 +126,23 @@ impl<'a> Summary<'a> {
             placement: self.placement,
             first: self.first,
             end: next.end,
-            table: self.table.then(&next.table),
         }
+    }
+
+    /// The least direction word that leads from a start to an end, or to any.
+    fn word(&self, start: Pair, wanted: Option<Pair>, dead_ends: &mut DeadEnds) -> Option<u64>
+        requires { AreDeadEnds (is_wanted wanted) (machine_of self.now.prim) (is_below self.now.placement) self.now.march self.now.end dead_ends.old }
+        ensures word { result ≡ word_to (is_wanted wanted) (machine_of self.now.prim) (is_below self.now.placement) self.now.march self.now.first self.now.end start }
+        ensures dead { AreDeadEnds (is_wanted wanted) (machine_of self.now.prim) (is_below self.now.placement) self.now.march self.now.end dead_ends.new }
+    {
+        let search = Search {
+            march: self.march,
+            prim: &self.prim,
+            is_below: is_below(self.placement),
+            end: self.end,
+            wanted,
+        };
+        word_from(&search, dead_ends, self.first, Some(start))
     }
 
     /// The final pairs that the elements lead to from this start with no read that differs: each once, with the least
@@ -128,7 +152,15 @@ impl<'a> Summary<'a> {
         ensures value { result.items ≡ ends_from self.now start }
         ensures ends { AreLegEnds self.now.march self.now.prim self.now.placement self.now.first self.now.end start result.items }
     {
-        self.table.row(start).survivors()
+        recall(self.march, &self.prim);
+        let mut found = ArrayVec::new();
+        for pair in PAIRS {
+            let mut dead_ends = DeadEnds::unknown();
+            if let Some(directions) = self.word(start, Some(pair), &mut dead_ends) {
+                found.push(Survivor { pair, directions });
+            }
+        }
+        found
     }
 
     /// The ends of a whole march from a content, which is closed first. The content is that of cell 0 and then of
@@ -138,8 +170,19 @@ impl<'a> Summary<'a> {
         requires last { self.now.end ≡ length self.now.march }
         ensures { AreSurvivors self.now.march self.now.prim self.now.placement content result.items }
     {
-        let open = start_of(self.placement, content);
-        let start = close(&self.prim, open);
-        self.table.row(start).survivors()
+        self.ends(close(&self.prim, start_of(self.placement, content)))
+    }
+
+    /// The least direction word in which a whole march lets a content through, whichever the end. Searches from other
+    /// contents share what is found out of dead ends.
+    pub fn least_word(&self, content: [bool; 2], dead_ends: &mut DeadEnds) -> Option<u64>
+        requires first { self.now.first ≡ 0 }
+        requires last { self.now.end ≡ length self.now.march }
+        requires dead { KnowsOf self.now dead_ends.old }
+        ensures word { IsLeastWord self.now.march self.now.prim self.now.placement content result }
+        ensures dead { KnowsOf self.now dead_ends.new }
+    {
+        let start = close(&self.prim, start_of(self.placement, content));
+        self.word(start, None, dead_ends)
     }
 }

@@ -9,7 +9,9 @@ use Rattle.dynamic_prover.specs.declared.spot.Spot.{Spot}
 use Rattle.dynamic_prover.specs.declared.escape.DynEscape.{DynEscape}
 use Rattle.dynamic_prover.specs.inner.Own.{own_as}
 use Rattle.dynamic_prover.specs.inner.Shapes.{shape_of}
-use Rattle.dynamic_prover.specs.inner.Ways.{Leading, can_pass, least_ways, ways_word}
+use Rattle.pair_tracker.specs.Ways.{Leading, ways_word}
+use Rattle.dynamic_prover.specs.declared.own_cells.OwnCells.{OwnCells}
+use Rattle.dynamic_prover.specs.inner.Ways.{can_pass, least_ways}
 
 abbrev pub spot_as : ℕ → Option ℕ → ℕ → Spot
 spot_as size agg vic = record { size = size; agg = agg; vic = vic }
@@ -78,11 +80,11 @@ abbrev pub candidates_of : List Spot → List Candidate
 candidates_of spots = flat_map candidates_at spots
 
 -- whether a candidate can pass, by where the elements lead in its shape
-abbrev pub passes_by : {E : Type 0} → (Shape → Leading E) → List E → Candidate → Bool
+abbrev pub passes_by : {E : Type 0} → (Shape → Leading OwnCells E) → List E → Candidate → Bool
 passes_by lead es c = can_pass (lead (shape_at c.spot)) es (own_as c.pair false)
 
 -- an escape that is a candidate, with its least direction word
-pub record IsMadeOf {E : Type 0} (lead : Shape → Leading E) (es : List E) (p : DynamicPrimitive) (c : Candidate) (e : DynEscape) : Type 0 where
+pub record IsMadeOf {E : Type 0} (lead : Shape → Leading OwnCells E) (es : List E) (p : DynamicPrimitive) (c : Candidate) (e : DynEscape) : Type 0 where
   pub prim : e.prim ≡ p
   pub size : e.size ≡ c.spot.size
   pub agg : e.agg ≡ c.spot.agg
@@ -91,11 +93,11 @@ pub record IsMadeOf {E : Type 0} (lead : Shape → Leading E) (es : List E) (p :
   pub directions : e.directions ≡ ways_word 0 (least_ways (lead (shape_at c.spot)) es (own_as c.pair false))
 
 -- no candidate of these can pass
-abbrev pub NonePasses : {E : Type 0} → (Shape → Leading E) → List E → List Candidate → Type 0
+abbrev pub NonePasses : {E : Type 0} → (Shape → Leading OwnCells E) → List E → List Candidate → Type 0
 NonePasses lead es cs = AllByRecursion (λ c. passes_by lead es c ≡ false) cs
 
 -- the first candidate that can pass
-pub record IsFirstOf {E : Type 0} (lead : Shape → Leading E) (es : List E) (p : DynamicPrimitive) (cs : List Candidate) (e : DynEscape) : Type 0 where
+pub record IsFirstOf {E : Type 0} (lead : Shape → Leading OwnCells E) (es : List E) (p : DynamicPrimitive) (cs : List Candidate) (e : DynEscape) : Type 0 where
   pub before : List Candidate
   pub found : Candidate
   pub behind : List Candidate
@@ -105,6 +107,6 @@ pub record IsFirstOf {E : Type 0} (lead : Shape → Leading E) (es : List E) (p 
   pub made : IsMadeOf lead es p found e
 
 -- what a search among these candidates says
-abbrev pub FindsFirst : {E : Type 0} → (Shape → Leading E) → List E → DynamicPrimitive → List Candidate → Option DynEscape → Type 0
+abbrev pub FindsFirst : {E : Type 0} → (Shape → Leading OwnCells E) → List E → DynamicPrimitive → List Candidate → Option DynEscape → Type 0
 FindsFirst lead es p cs None = NonePasses lead es cs
 FindsFirst lead es p cs (Some e) = IsFirstOf lead es p cs e

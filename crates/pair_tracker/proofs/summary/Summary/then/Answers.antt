@@ -1,40 +1,33 @@
-use Rattle.std.proofs.Common.{◌≡◌, ◌∙◌, ap, sym, subst}
+use Rattle.std.proofs.Common.{◌≡◌, ◌≤◌, ◌∙◌, length, ap, sym, subst, arith}
 use Rattle.pair_tracker.specs.Legs.{Leg, SumsUp}
-use Rattle.pair_tracker.specs.Slots.{rows_of}
-use Rattle.pair_tracker.proofs.Ends.{IsNext, joinable, joined_table, table_sums_up}
+use Rattle.pair_tracker.specs.Reached.{rows_of, IsSpan}
+use Rattle.pair_tracker.proofs.Ends.{sums_up}
 use Rattle.pair_tracker.proofs.summary.Summary.then.Goals as goal
-
--- the other summary is of the elements behind, as the fields say it
-behind : (mine other self next : Leg) → mine ≡ self → other ≡ next → next.march ≡ self.march → next.prim ≡ self.prim → next.placement ≡ self.placement
-    → next.first ≡ self.end → IsNext mine.march other.march mine.prim other.prim mine.placement other.placement mine.end other.first
-behind mine other self next m o march prim placement first = record {
-  same_march = ap (λ (leg : Leg). leg.march) o ∙ march ∙ sym (ap (λ (leg : Leg). leg.march) m);
-  same_prim = ap (λ (leg : Leg). leg.prim) o ∙ prim ∙ sym (ap (λ (leg : Leg). leg.prim) m);
-  same_placement = ap (λ (leg : Leg). leg.placement) o ∙ placement ∙ sym (ap (λ (leg : Leg). leg.placement) m);
-  next_first = ap (λ (leg : Leg). leg.first) o ∙ first ∙ sym (ap (λ (leg : Leg). leg.end) m);
-}
-
-pub then-requires : goal.then-requires
-then-requires c =
-    joinable _ _ _ _ _ _ c.self.inside.first _ _ c.next.inside.end c.self.inside.table c.next.inside.table
-    (behind _ _ _ _ c.self.view_is c.next.view_is c.requires.march c.requires.prim c.requires.placement c.requires.behind) c.self.invariant c.next.invariant
-
-pub invariant_of-result : goal.invariant_of-result
-invariant_of-result c =
-    joined_table _ _ _ _ _ _ c.self.inside.first _ _ c.next.inside.end c.self.inside.table c.next.inside.table c.then.result
-    (behind _ _ _ _ c.self.view_is c.next.view_is c.requires.march c.requires.prim c.requires.placement c.requires.behind) c.self.invariant c.next.invariant
-    c.then.ensures
 
 pub returns : goal.returns
 returns c =
+    let a = c.self.inside in
+    let b = c.next.inside in
+    let behind : b.first ≡ a.end = ap (λ (leg : Leg). leg.first) c.next.view_is ∙ c.requires.behind ∙ ap (λ (leg : Leg). leg.end) (sym c.self.view_is) in
+    let march = ap (λ (leg : Leg). leg.march) c.next.view_is ∙ c.requires.march ∙ ap (λ (leg : Leg). leg.march) (sym c.self.view_is) in
+    let within : b.end ≤ length a.march.now = subst (λ m. b.end ≤ length m) march c.next.invariant.within in
+    let first : a.first ≤ a.end = c.self.invariant.ordered in
+    let second : b.first ≤ b.end = c.next.invariant.ordered in
+    let is : IsSpan a.march.now a.prim a.placement a.first b.end = record {
+      is_march = c.self.invariant.is_march;
+      primitive = c.self.invariant.primitive;
+      fits = c.self.invariant.fits;
+      ordered = omega arith;
+      within = within;
+    } in
     let whole : Leg = record {
-      march = c.self.inside.march.now;
-      prim = c.self.inside.prim;
-      placement = c.self.inside.placement;
-      first = c.self.inside.first;
-      end = c.next.inside.end;
-      rows = rows_of c.then.result;
+      march = a.march.now;
+      prim = a.prim;
+      placement = a.placement;
+      first = a.first;
+      end = b.end;
+      rows = rows_of a.march.now a.prim a.placement a.first b.end;
     } in
     subst (λ (leg : Leg). SumsUp leg.march leg.prim leg.placement leg.first c.args.next.now.end whole) c.self.view_is
     (subst (λ (leg : Leg). SumsUp whole.march whole.prim whole.placement whole.first leg.end whole) c.next.view_is
-    (table_sums_up c.self.inside.march.now c.self.inside.prim c.self.inside.placement c.self.inside.first c.next.inside.end c.then.result (invariant_of-result c)))
+    (sums_up a.march.now a.prim a.placement a.first b.end is))
