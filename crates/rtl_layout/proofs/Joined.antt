@@ -29,12 +29,13 @@ pub from_nothing : {A : Type 0} (none xs as' : List A) → none ≡ [] → xs �
 from_nothing none xs as' p q = q ∙ ap (λ l. l ++ as') p
 
 -- the items in their nesting
-pub nested : {A : Type 0} (v1 v2 v3 v4 d s e w a o q : List A) → v1 ≡ (d ++ (s ++ e)) ++ w → v2 ≡ v1 ++ a → v3 ≡ v2 ++ o → v4 ≡ v3 ++ q
-    → v4 ≡ d ++ (s ++ (e ++ (w ++ (a ++ (o ++ q)))))
-nested v1 v2 v3 v4 d s e w a o q h1 h2 h3 h4 =
+pub nested : {A : Type 0} (v1 v2 v3 v4 d n s e w a o q : List A) → v1 ≡ (d ++ (n ++ (s ++ e))) ++ w → v2 ≡ v1 ++ a → v3 ≡ v2 ++ o → v4 ≡ v3 ++ q
+    → v4 ≡ d ++ (n ++ (s ++ (e ++ (w ++ (a ++ (o ++ q))))))
+nested v1 v2 v3 v4 d n s e w a o q h1 h2 h3 h4 =
     h4 ∙ ap (λ l. l ++ q) (h3 ∙ ap (λ l. l ++ o) (h2 ∙ ap (λ l. l ++ a) h1))
-    ∙ append_assoc (((d ++ (s ++ e)) ++ w) ++ a) o q
-    ∙ append_assoc ((d ++ (s ++ e)) ++ w) a (o ++ q)
-    ∙ append_assoc (d ++ (s ++ e)) w (a ++ (o ++ q))
-    ∙ append_assoc d (s ++ e) (w ++ (a ++ (o ++ q)))
-    ∙ ap (λ l. d ++ l) (append_assoc s e (w ++ (a ++ (o ++ q))))
+    ∙ append_assoc (((d ++ (n ++ (s ++ e))) ++ w) ++ a) o q
+    ∙ append_assoc ((d ++ (n ++ (s ++ e))) ++ w) a (o ++ q)
+    ∙ append_assoc (d ++ (n ++ (s ++ e))) w (a ++ (o ++ q))
+    ∙ append_assoc d (n ++ (s ++ e)) (w ++ (a ++ (o ++ q)))
+    ∙ ap (λ l. d ++ l) (append_assoc n (s ++ e) (w ++ (a ++ (o ++ q))))
+    ∙ ap (λ l. d ++ (n ++ l)) (append_assoc s e (w ++ (a ++ (o ++ q))))

@@ -7,7 +7,7 @@ ghost use Rattle.rtl_layout.specs.Seen.{seen};
 
 use crate::flags::{ElementFlag, RowFlag};
 use crate::plan::Plan;
-use crate::tables::{by_element, by_next, flag_row, in_row, pattern, word_of};
+use crate::tables::{by_element, by_next, flag_row, has_several_bits, in_row, pattern, word_of};
 use crate::trees::{binary, choose, flag, literal, low, name, net};
 use std::alloc::{AllocError, Global};
 use verilog_tree::{BinOp, Expr, Item, Name};
@@ -69,13 +69,35 @@ fn word(alloc: Global) -> Result<Expr, AllocError>
     )
 }
 
+// Whether the bits of its operations are 1, or of those behind them where a register holds the operation's bit.
+fn ones_row(alloc: Global, plan: &Plan) -> Result<Expr, AllocError>
+    ensures { IfOk result (λ x. plain x ≡ L.flag_row (seen plan.now) (L.ones_row (seen plan.now))) }
+{
+    if has_several_bits(plan) {
+        flag_row(alloc, plan, RowFlag::OneBehind)
+    } else {
+        flag_row(alloc, plan, RowFlag::One)
+    }
+}
+
+// Whether the operation's bit is 1.
+fn value_now(alloc: Global, plan: &Plan) -> Result<Expr, AllocError>
+    ensures { IfOk result (λ x. plain x ≡ L.value_now (seen plan.now)) }
+{
+    if has_several_bits(plan) {
+        Ok(net(name("one")))
+    } else {
+        in_row(alloc, plan, name("ones"))
+    }
+}
+
 // What the element has at each number of an operation.
 fn assign_rows(items: &mut Vec<Item>, alloc: Global, plan: &Plan) -> Result<(), AllocError>
     ensures { OnOk result (map plain_item items.new.items ≡ map plain_item items.old.items ++ L.row_assigns (seen plan.now)) }
 {
     let writes = flag_row(alloc, plan, RowFlag::Write)?;
     assign(items, name("writes"), writes)?;
-    let ones = flag_row(alloc, plan, RowFlag::OneBehind)?;
+    let ones = ones_row(alloc, plan)?;
     assign(items, name("ones"), ones)?;
     let ends = flag_row(alloc, plan, RowFlag::EndsBehind)?;
     assign(items, name("ends"), ends)?;
@@ -88,6 +110,8 @@ fn assign_flags(items: &mut Vec<Item>, alloc: Global, plan: &Plan) -> Result<(),
 {
     let write = in_row(alloc, plan, name("writes"))?;
     assign(items, name("write"), write)?;
+    let value = value_now(alloc, plan)?;
+    assign(items, name("value"), value)?;
     let down = by_element(alloc, plan, ElementFlag::Down)?;
     assign(items, name("down"), down)?;
     let pause = by_element(alloc, plan, ElementFlag::Pause)?;
@@ -95,20 +119,7 @@ fn assign_flags(items: &mut Vec<Item>, alloc: Global, plan: &Plan) -> Result<(),
     Ok(())
 }
 
-// What the next operation has.
-fn assign_ones(items: &mut Vec<Item>, alloc: Global, plan: &Plan) -> Result<(), AllocError>
-    ensures { OnOk result (map plain_item items.new.items ≡ map plain_item items.old.items ++ LInner.one_assigns (seen plan.now)) }
-{
-    let more = in_row(alloc, plan, name("ones"))?;
-    assign(items, name("one_more"), more)?;
-    let again = by_element(alloc, plan, ElementFlag::One)?;
-    assign(items, name("one_again"), again)?;
-    let next = by_next(alloc, plan, ElementFlag::One)?;
-    assign(items, name("one_next"), next)?;
-    Ok(())
-}
-
-// Whether it is the last, and whether the next element is a pause.
+// Whether the next operation is the last of its element, and whether the next element is a pause.
 fn assign_ends(items: &mut Vec<Item>, alloc: Global, plan: &Plan) -> Result<(), AllocError>
     ensures { OnOk result (map plain_item items.new.items ≡ map plain_item items.old.items ++ LInner.end_assigns (seen plan.now)) }
 {
@@ -155,7 +166,6 @@ pub fn assign_wires(items: &mut Vec<Item>, alloc: Global, plan: &Plan) -> Result
 {
     assign_rows(items, alloc, plan)?;
     assign_flags(items, alloc, plan)?;
-    assign_ones(items, alloc, plan)?;
     assign_ends(items, alloc, plan)?;
     assign_lasts(items, alloc, plan)?;
     assign_command(items, alloc, plan)?;

@@ -3,14 +3,14 @@ ghost use Rattle.std.specs.Prelude.{◌≡◌, ℕ, ◌≤◌, IfOk, OnOk, lengt
 ghost use Rattle.verilog_tree.specs.Plain.{plain, plain_stmt, Net, SetTo};
 ghost use Rattle.rtl_layout.specs.Build.{counter};
 ghost use Rattle.rtl_layout.specs.Layout as L;
-ghost use Rattle.rtl_layout.specs.Plan.{limit};
+ghost use Rattle.rtl_layout.specs.Plan.{limit, several_bits};
 ghost use Rattle.rtl_layout.specs.inner.Layout as LInner;
 ghost use Rattle.rtl_layout.specs.Seen.{seen};
 
 use crate::element::Element;
 use crate::flags::ElementFlag;
 use crate::plan::Plan;
-use crate::tables::of_element;
+use crate::tables::{by_element, by_next, has_several_bits, in_row, of_element};
 use crate::trees::{after_reset, binary, choose, counting, flag, literal, name, net, while_all};
 use std::alloc::{AllocError, Global};
 use verilog_tree::{BinOp, Expr, Name, Stmt};
@@ -138,14 +138,14 @@ fn turning(
     alloc: Global,
     register: Name,
     first: bool,
-    next: Name,
-    again: Name,
-    more: Name,
+    next: Expr,
+    again: Expr,
+    more: Expr,
 ) -> Result<Expr, AllocError>
-    ensures { IfOk result (λ x. plain x ≡ L.turning register.bytes first next.bytes again.bytes more.bytes) }
+    ensures { IfOk result (λ x. plain x ≡ L.turning register.bytes first (plain next) (plain again) (plain more)) }
 {
-    let turned = choose(alloc, net(name("last_visit")), net(next), net(again))?;
-    let stepped = choose(alloc, net(name("last_oper")), turned, net(more))?;
+    let turned = choose(alloc, net(name("last_visit")), next, again)?;
+    let stepped = choose(alloc, net(name("last_oper")), turned, more)?;
     let running = while_all(alloc, &[name("run")], stepped, register)?;
     after_reset(alloc, flag(first), running)
 }
@@ -158,24 +158,32 @@ fn last_oper_next(alloc: Global, plan: &Plan) -> Result<Expr, AllocError>
         alloc,
         name("last_oper"),
         of_element(&plan.elements[0], ElementFlag::Single),
-        name("ends_next"),
-        name("ends_again"),
-        name("ends_more"),
+        net(name("ends_next")),
+        net(name("ends_again")),
+        net(name("ends_more")),
     )
 }
 
 // Whether its bit is 1.
-fn value_next(alloc: Global, plan: &Plan) -> Result<Expr, AllocError>
-    ensures { IfOk result (λ x. plain x ≡ L.value_next (seen plan.now)) }
+fn one_next(alloc: Global, plan: &Plan) -> Result<Expr, AllocError>
+    ensures { IfOk result (λ x. plain x ≡ L.one_next (seen plan.now)) }
 {
-    turning(
-        alloc,
-        name("value"),
-        of_element(&plan.elements[0], ElementFlag::One),
-        name("one_next"),
-        name("one_again"),
-        name("one_more"),
-    )
+    let next = by_next(alloc, plan, ElementFlag::BeginsOne)?;
+    let again = by_element(alloc, plan, ElementFlag::BeginsOne)?;
+    let more = in_row(alloc, plan, name("ones"))?;
+    let first = of_element(&plan.elements[0], ElementFlag::BeginsOne);
+    turning(alloc, name("one"), first, next, again, more)
+}
+
+/// The bit of the operation, where a register holds it.
+pub fn set_one(block: &mut Vec<Stmt>, alloc: Global, plan: &Plan) -> Result<(), AllocError>
+    ensures { OnOk result (map plain_stmt block.new.items ≡ map plain_stmt block.old.items ++ L.one_set (seen plan.now) (several_bits (seen plan.now))) }
+{
+    if has_several_bits(plan) {
+        let one = one_next(alloc, plan)?;
+        set(block, name("one"), one)?;
+    }
+    Ok(())
 }
 
 // How often an element is visited.
@@ -236,8 +244,6 @@ fn set_place(block: &mut Vec<Stmt>, alloc: Global, plan: &Plan) -> Result<(), Al
     set(block, name("last_oper"), oper)?;
     let visit = last_visit_next(alloc, plan)?;
     set(block, name("last_visit"), visit)?;
-    let value = value_next(alloc, plan)?;
-    set(block, name("value"), value)?;
     Ok(())
 }
 
