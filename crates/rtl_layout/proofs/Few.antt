@@ -91,7 +91,7 @@ module _ (p : Plan) (plan : IsPlan p) where
       let m = length_counted (L.row_width p) in
       let some = pow_pos p.oper_width in
       let q = pick_few L.oper p.oper_width (bit_of row (L.row_width p)) 0 (counted (L.row_width p)) (omega arith) (λ j g. bit_of_none row (L.row_width p) (slice_index_or (counted (L.row_width p)) j 0)) in
-      let l = plan.sized.row_narrow in
+      let l = plan.ready.sized.row_narrow in
       omega arith
 
   in_row_few : (row : List ℕ) → Few (in_row p row)
@@ -125,8 +125,8 @@ module _ (p : Plan) (plan : IsPlan p) where
   address_few : Few (L.address p)
   address_few =
       let q = rows_count p.rows NoMore in
-      let l = plan.sized.rows_full in
-      let n = plan.sized.addr_narrow in
+      let l = plan.ready.sized.rows_full in
+      let n = plan.ready.sized.addr_narrow in
       elim p.straight as (λ t. Few (cond t (Net L.index) (Concatenation (L.address_bits p p.rows NoMore))))
       [ true ↦ refl | false ↦ few_of (Concatenation (L.address_bits p p.rows NoMore)) (omega arith) ]
 
