@@ -1,6 +1,8 @@
 //! The assigned wires.
-ghost use Rattle.std.specs.Prelude.{◌≡◌, ◌≤◌, IfOk, OnOk, map, ◌++◌, ◌∷◌, []};
-ghost use Rattle.verilog_tree.specs.Plain.{plain, plain_item, Net, AssignItem};
+ghost use Rattle.std.specs.Prelude.{◌≡◌, ◌<◌, ◌≤◌, ◌-◌, ◌^◌, IfOk, OnOk, map, ◌++◌, ◌∷◌, []};
+ghost use Rattle.verilog_tree.specs.Plain.{plain, plain_item, Net, Infixed, AssignItem};
+ghost use Rattle.verilog_tree.specs.declared.tree.BinOp.TheVariants.{Eq};
+ghost use Rattle.rtl_layout.specs.Build.{lit};
 ghost use Rattle.rtl_layout.specs.Layout as L;
 ghost use Rattle.rtl_layout.specs.inner.Layout as LInner;
 ghost use Rattle.rtl_layout.specs.Seen.{seen};
@@ -20,20 +22,15 @@ pub fn assign(items: &mut Vec<Item>, target: Name, value: Expr) -> Result<(), Al
     Ok(())
 }
 
-fn last_element(alloc: Global, plan: &Plan) -> Result<Expr, AllocError>
-    ensures { IfOk result (λ x. plain x ≡ L.is_last_element (seen plan.now)) }
+// Whether a digit is at the last of so many.
+fn is_last(alloc: Global, digit: Name, width: u8, count: usize) -> Result<Expr, AllocError>
+    requires some { 0 < count }
+    requires positive { 1 ≤ width }
+    requires narrow { width ≤ 64 }
+    requires fits { count ≤ 2 ^ width }
+    ensures { IfOk result (λ x. plain x ≡ Infixed Eq (Net digit.bytes) (lit width (count - 1))) }
 {
-    let count = plan.elements.len();
-    let last = literal(plan.element_width, count as u64 - 1);
-    binary(alloc, BinOp::Eq, net(name("element")), last)
-}
-
-fn last_back(alloc: Global, plan: &Plan) -> Result<Expr, AllocError>
-    ensures { IfOk result (λ x. plain x ≡ L.is_last_back (seen plan.now)) }
-{
-    let count = plan.backgrounds.len();
-    let last = literal(plan.back_width, count as u64 - 1);
-    binary(alloc, BinOp::Eq, net(name("back")), last)
+    binary(alloc, BinOp::Eq, net(digit), literal(width, count as u64 - 1))
 }
 
 fn live(alloc: Global) -> Result<Expr, AllocError>
@@ -138,9 +135,19 @@ fn assign_ends(items: &mut Vec<Item>, alloc: Global, plan: &Plan) -> Result<(), 
 fn assign_lasts(items: &mut Vec<Item>, alloc: Global, plan: &Plan) -> Result<(), AllocError>
     ensures { OnOk result (map plain_item items.new.items ≡ map plain_item items.old.items ++ L.last_assigns (seen plan.now)) }
 {
-    let element = last_element(alloc, plan)?;
+    let element = is_last(
+        alloc,
+        name("element"),
+        plan.element_width,
+        plan.elements.len(),
+    )?;
     assign(items, name("last_element"), element)?;
-    let back = last_back(alloc, plan)?;
+    let back = is_last(
+        alloc,
+        name("back"),
+        plan.back_width,
+        plan.backgrounds.len(),
+    )?;
     assign(items, name("last_back"), back)?;
     Ok(())
 }

@@ -3,7 +3,7 @@ use Rattle.std.specs.Prelude.{ℕ, suc, Bool, List, [], ◌∷◌, ◌++◌}
 use Rattle.verilog_tree.specs.Plain.{Net, Statement, SetTo, ModuleItem, RegItem, AssignItem}
 use Rattle.verilog_tree.specs.Meaning.{bit}
 use Rattle.rtl_layout.specs.Plan.{Plan, several, several_bits, is_single}
-use Rattle.rtl_layout.specs.Layout.{ends, ends_more, ends_again, ends_next, pause_next, in_row, by_element, by_next, last_oper, last_visit, last_oper_next, last_visit_next, back, value, aged, reads_at, over_at, value_at, gated, digit_regs, maybe, one_reg, stage_regs, end_regs, feed_reads, feed_over, back_set}
+use Rattle.rtl_layout.specs.Layout.{ends, ends_more, ends_again, ends_next, pause_next, in_row, by_element, by_next, oper, visit, element, oper_next, visit_next, element_next, back_next, last_oper, last_visit, last_oper_next, last_visit_next, back, value, aged, reads_at, over_at, value_at, gated, digit_regs, maybe, one_reg, stage_regs, end_regs, feed_reads, feed_over, back_set}
 
 -- ---- registers
 
@@ -22,6 +22,13 @@ abbrev pub end_assigns : Plan → List ModuleItem
 end_assigns p =
     AssignItem ends_more (in_row p ends) ∷ AssignItem ends_again (by_element p 1 (λ x. bit (is_single x))) ∷ AssignItem ends_next (by_next p (λ x. bit (is_single x)))
     ∷ AssignItem pause_next (by_next p (λ x. bit x.pause)) ∷ []
+
+-- the digits: the operation and the visit, the element and the background
+abbrev pub inner_sets : Plan → List Statement
+inner_sets p = SetTo oper (oper_next p) ∷ SetTo visit (visit_next p) ∷ []
+
+abbrev pub outer_sets : Plan → List Statement
+outer_sets p = SetTo element (element_next p) ∷ SetTo back (back_next p) ∷ []
 
 -- what the next operation and visit have
 abbrev pub place_sets : Plan → List Statement
