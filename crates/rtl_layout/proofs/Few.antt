@@ -9,7 +9,7 @@ use Rattle.verilog_tree.specs.Free.{operators, all_operators}
 use Rattle.verilog_tree.specs.Plain.{Expression, Net, BitSelect, PartSelect, Concatenation, Expressions, NoMore, Followed, Statement, SetTo, IfElse, CaseOf, statements, ModuleItem}
 use Rattle.verilog_tree.specs.Meaning.{bit}
 use Rattle.verilog_text.specs.Operators.{expression_few, statements_few, item_few, items_few, few_operators}
-use Rattle.rtl_layout.specs.Build.{lit, choose, bit_of, leaf, below, pick, rotated, counted, number_of, step_while, at_reset}
+use Rattle.rtl_layout.specs.Build.{lit, choose, bit_of, leaf, below, pick, rotated, counted, number_of}
 use Rattle.rtl_layout.specs.declared.row.Row.{Row}
 use Rattle.rtl_layout.specs.Plan.{Element, Plan, several, several_bits, port_word, is_single}
 use Rattle.rtl_layout.specs.Layout as L

@@ -1,11 +1,11 @@
 -- The module has the sizes that a text can have, so exactly one environment settles.
-use Rattle.std.proofs.Common.{◌≡◌, ℕ, zero, suc, ◌-◌, ◌/◌, ◌^◌, ◌<◌, ◌≤◌, Bool, true, false, cond, ◌&&◌, nat_eq, nat_lt, List, [], ◌∷◌, ◌++◌, length, map, refl, sym, subst, arith, inl, inr}
+use Rattle.std.proofs.Common.{◌≡◌, ℕ, zero, suc, ◌-◌, ◌^◌, ◌<◌, ◌≤◌, Bool, true, false, cond, ◌&&◌, nat_eq, nat_lt, List, [], ◌∷◌, ◌++◌, length, map, refl, sym, subst, arith, inl, inr}
 use Rattle.std.proofs.lemmas.Bool.{lt-ltb, le-leb}
 use Rattle.std.proofs.lemmas.Bool.Decides.{eqb_tells}
 use Rattle.std.proofs.lemmas.Nat.{pow_pos}
 use Rattle.std.specs.Prelude.{slice_index_or, nat_le}
-use Rattle.verilog_tree.specs.Plain.{Expression, Net, BitSelect, PartSelect, Concatenation, Prefixed, Infixed, Expressions, NoMore, Followed, Statement, SetTo, IfElse, CaseOf, expressions, statements, ModuleItem}
-use Rattle.verilog_tree.specs.declared.tree.UnOp.TheVariants.{AllOnes, Invert}
+use Rattle.verilog_tree.specs.Plain.{Expression, Net, BitSelect, PartSelect, Concatenation, Prefixed, Infixed, Expressions, NoMore, Followed, Statement, SetTo, IfElse, CaseOf, statements, ModuleItem}
+use Rattle.verilog_tree.specs.declared.tree.UnOp.TheVariants.{Invert}
 use Rattle.verilog_tree.specs.declared.tree.BinOp.TheVariants.{Add, Sub}
 use Rattle.verilog_tree.specs.Meaning.{Env, bit}
 use Rattle.verilog_tree.specs.Formed.{is_width, is_place, has_expression, expression_formed, expressions_formed, statements_formed, item_formed, items_formed, ports_formed, formed}
@@ -214,9 +214,11 @@ module _ (p : Plan) (ready : Ready p) (sized : Sized p) where
       elim (nat_eq p.delay 0) as (λ t. IsFormed (cond t (Net L.word) (word_of (L.value_at p.delay) x))) [ true ↦ refl | false ↦ choose_formed (Net (L.value_at p.delay)) (Prefixed Invert x) x refl f f ]
 
   one_set_formed : (wide : Bool) (ss : List Statement) → SetsFormed ss → SetsFormed (L.one_set p wide ++ ss)
-  one_set_formed true ss h =
-      (turning_formed L.one (by_next p (λ x. bit (L.begins_one x))) (by_element p 1 (λ x. bit (L.begins_one x))) (in_row p L.ones) (L.begins_one (element_at p 0))
-      (by_next_formed (λ x. L.begins_one x)) (by_element_formed 1 (λ x. bit (L.begins_one x)) (omega arith) (omega arith) (λ j. bit_below (L.begins_one (element_at p j)))) (in_row_formed L.ones), h)
+  one_set_formed true ss h = (
+    turning_formed L.one (by_next p (λ x. bit (L.begins_one x))) (by_element p 1 (λ x. bit (L.begins_one x))) (in_row p L.ones) (L.begins_one (element_at p 0))
+        (by_next_formed (λ x. L.begins_one x)) (by_element_formed 1 (λ x. bit (L.begins_one x)) (omega arith) (omega arith) (λ j. bit_below (L.begins_one (element_at p j)))) (in_row_formed L.ones),
+    h,
+  )
   one_set_formed false ss h = h
 
   block_formed : statements_formed (statements (L.sets_all p)) ≡ true

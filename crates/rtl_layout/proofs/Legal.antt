@@ -1,5 +1,5 @@
 -- The module breaks no rule.
-use Rattle.std.proofs.Common.{◌≡◌, ℕ, zero, suc, ◌+◌, ◌-◌, ◌/◌, ◌^◌, ◌<◌, ◌≤◌, Bool, true, false, cond, nat_eq, List, [], ◌∷◌, ◌++◌, length, take, drop, map, Some, is_none, refl, sym, ap, ◌∙◌, subst, arith, inl, inr}
+use Rattle.std.proofs.Common.{◌≡◌, ℕ, zero, suc, ◌+◌, ◌-◌, ◌^◌, ◌<◌, ◌≤◌, Bool, true, false, cond, nat_eq, List, [], ◌∷◌, ◌++◌, length, take, drop, map, Some, is_none, refl, sym, ap, ◌∙◌, subst, arith, inl, inr}
 use Rattle.std.proofs.lemmas.Bool.Decides.{eqb_tells, leb_tells}
 use Rattle.std.proofs.lemmas.List.{length-drop}
 use Rattle.std.proofs.lemmas.Nat.{pow_pos}
@@ -8,7 +8,7 @@ use Rattle.std.specs.Str.{bytes_eq}
 use Rattle.verilog_tree.specs.declared.tree.BinOp.TheVariants.{Add, Ne}
 use Rattle.verilog_tree.specs.declared.names.Kind.{Kind}
 use Rattle.verilog_tree.specs.declared.names.Kind.TheVariants as K
-use Rattle.verilog_tree.specs.Plain.{Expression, Net, BitSelect, PartSelect, Concatenation, Infixed, Expressions, NoMore, Followed, ModuleItem, expressions}
+use Rattle.verilog_tree.specs.Plain.{Expression, Net, BitSelect, PartSelect, Concatenation, Infixed, Expressions, NoMore, Followed, ModuleItem}
 use Rattle.verilog_tree.specs.Names.{Declaration, declarations, item_declarations, lookup, declared_width, is_wire, is_register, is_clk, is_declared_as}
 use Rattle.verilog_tree.specs.Meaning.{bit, width, widths}
 use Rattle.rtl_layout.specs.Build.{lit, choose, bit_of, leaf, below, pick, rotated, counted, number_of, step_while, at_reset, counter}
@@ -390,9 +390,11 @@ module _ (p : Plan) (ready : Ready p) (sized : Sized p) where
       tt))))))
 
   one_good : (wide : Bool) → several_bits p ≡ wide → GoodSets w (names p) (L.one_set p wide)
-  one_good true h =
-      (turning_good L.one (by_next p (λ x. bit (L.begins_one x))) (by_element p 1 (λ x. bit (L.begins_one x))) (in_row p L.ones) (L.begins_one (element_at p 0))
-      (one_at p h) (by_next_fits (λ x. bit (L.begins_one x))) (by_element_fits 1 (λ x. bit (L.begins_one x))) (in_row_fits L.ones (ones_at p)), tt)
+  one_good true h = (
+    turning_good L.one (by_next p (λ x. bit (L.begins_one x))) (by_element p 1 (λ x. bit (L.begins_one x))) (in_row p L.ones) (L.begins_one (element_at p 0))
+        (one_at p h) (by_next_fits (λ x. bit (L.begins_one x))) (by_element_fits 1 (λ x. bit (L.begins_one x))) (in_row_fits L.ones (ones_at p)),
+    tt,
+  )
   one_good false h = tt
 
   want_good : GoodSet w (names p) L.want (L.want_next p)

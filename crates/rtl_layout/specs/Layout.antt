@@ -285,7 +285,7 @@ value_now p = cond (several_bits p) (Net one) (in_row p ones)
 
 -- what stands at this place of the march
 abbrev pub flag_assigns : Plan → List ModuleItem
-flag_assigns p = 
+flag_assigns p =
     AssignItem write (in_row p writes) ∷ AssignItem value (value_now p) ∷ AssignItem down (by_element p 1 (λ x. bit x.down)) ∷ AssignItem pause (by_element p 1 (λ x. bit x.pause)) ∷ []
 
 -- whether the operations that can come next are the last of their elements: one more, this element's first, and the next one's

@@ -30,7 +30,12 @@ fn is_last(alloc: Global, digit: Name, width: u8, count: usize) -> Result<Expr, 
     requires fits { count ≤ 2 ^ width }
     ensures { IfOk result (λ x. plain x ≡ Infixed Eq (Net digit.bytes) (lit width (count - 1))) }
 {
-    binary(alloc, BinOp::Eq, net(digit), literal(width, count as u64 - 1))
+    binary(
+        alloc,
+        BinOp::Eq,
+        net(digit),
+        literal(width, count as u64 - 1),
+    )
 }
 
 fn live(alloc: Global) -> Result<Expr, AllocError>
@@ -142,12 +147,7 @@ fn assign_lasts(items: &mut Vec<Item>, alloc: Global, plan: &Plan) -> Result<(),
         plan.elements.len(),
     )?;
     assign(items, name("last_element"), element)?;
-    let back = is_last(
-        alloc,
-        name("back"),
-        plan.back_width,
-        plan.backgrounds.len(),
-    )?;
+    let back = is_last(alloc, name("back"), plan.back_width, plan.backgrounds.len())?;
     assign(items, name("last_back"), back)?;
     Ok(())
 }

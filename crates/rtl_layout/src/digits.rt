@@ -47,7 +47,14 @@ fn set_inner(block: &mut Vec<Stmt>, alloc: Global, plan: &Plan) -> Result<(), Al
 {
     let run = name("run");
     let last_oper = name("last_oper");
-    set_counter(block, alloc, name("oper"), plan.oper_width, &[run], last_oper)?;
+    set_counter(
+        block,
+        alloc,
+        name("oper"),
+        plan.oper_width,
+        &[run],
+        last_oper,
+    )?;
     set_counter(
         block,
         alloc,
