@@ -1,10 +1,12 @@
 """A module's way through standard cells: qflow maps it for delay and buffers its fan-outs, vesta and OpenSTA time it.
 
 The cells are those of osu018 (0.18 micrometres), which come with qflow; nothing is placed. What the mapper and the
-buffers choose hangs on the order in which they meet equal logic, so a figure scatters by up to a tenth: a module is
-mapped three times, with other names inside, and a figure is the middle one of the three."""
-import hashlib
+buffers choose hangs on the order in which they meet equal logic, so a figure scatters by a fifth and more: a module is
+mapped seven times, with its lines in other orders that mean the same, and a figure is the middle one of the seven."""
+import concurrent.futures
+import itertools
 import os
+import random
 import re
 import shutil
 import statistics
@@ -14,7 +16,7 @@ from typing import Dict, List, NamedTuple, Optional
 TECHNOLOGY = "/usr/share/qflow/tech/osu018"
 LIBRARY = os.path.join(TECHNOLOGY, "osu018_stdcells.lib")
 SCRIPTS = "/usr/lib/qflow/scripts"
-SEEDS = (0, 1, 2)
+ORDERS = range(7)
 PERIOD = 5  # nanoseconds; the slack against it tells the longest path
 
 TIMING = """read_liberty {library}
@@ -66,18 +68,24 @@ def begin_project(folder: str) -> None:
     open(os.path.join(folder, "project_vars.sh"), "w").close()
 
 
-def renamed(text: str, seed: int) -> str:
-    """A module with other names inside, so that tools meet them in another order."""
-    names = set(re.findall(r"\b(?:reg|wire)\s+(?:\[[^]]*\]\s*)?(\w+)\s*;", text))
-    new = {name: f"n{hashlib.sha256(f'{seed} {name}'.encode()).hexdigest()[:8]}_{name}" for name in names}
-    return re.sub(r"\w+", lambda found: new.get(found.group(), found.group()), text)
+def kind_of(line: str) -> Optional[str]:
+    """What a line is whose neighbours of the same kind can stand in any order: a declaration, or an assignment."""
+    found = re.match(r"\s*(?:(reg|wire|assign)\b|\w+ <=).*;$", line)
+    return (found[1] or "sets") if found else None
 
 
-def write_source(module: str, seed: int, path: str) -> None:
-    """The module as it is, or with other names inside, which change the order of the mapper's choices."""
-    with open(module) as source, open(path, "w") as copy:
-        text = source.read()
-        copy.write(renamed(text, seed) if seed else text)
+def reordered(text: str, order: int) -> str:
+    """A module in the order of a number, in which tools meet its lines; 0 is the order in which they stand."""
+    if not order:
+        return text
+    lines: List[str] = []
+    shuffle = random.Random(order).shuffle
+    for kind, group in itertools.groupby(re.sub(r"; (?=reg\b|\w+ <=)", ";\n", text).split("\n"), kind_of):
+        same = list(group)
+        if kind:
+            shuffle(same)
+        lines += same
+    return "\n".join(lines)
 
 
 def megahertz_by_opensta(folder: str, netlist: str, top: str) -> int:
@@ -90,31 +98,49 @@ def megahertz_by_opensta(folder: str, netlist: str, top: str) -> int:
     return round(1000 / (PERIOD - float(slack.group(1))))
 
 
-def mapped_once(module: str, top: str, seed: int, folder: str) -> Figures:
-    """One run of the flow, in an empty folder."""
+def netlist_of(module: str, top: str, order: int, folder: str) -> str:
+    """The file of cells that a module becomes, in an empty folder."""
     begin_project(folder)
     source = os.path.join(folder, "source", f"{top}.v")
-    write_source(module, seed, source)
+    with open(module) as text, open(source, "w") as copy:
+        copy.write(reordered(text.read(), order))
     said = run(os.path.join(SCRIPTS, "synthesize.sh"), folder, top, source, folder=folder)
-    said += run(os.path.join(SCRIPTS, "vesta.sh"), folder, top, folder=folder)
     netlist = os.path.join(folder, "synthesis", f"{top}.rtlnopwr.v")
-    try:
-        with open(netlist) as file:
-            cells = re.findall(r"^\s*(\w+) \w+ \(", file.read(), re.M)
-        with open(os.path.join(folder, "log", "sta.log")) as file:
-            vesta = re.search(r"zero margin\) = ([\d.]+)", file.read())
-    except OSError:
+    if not os.path.exists(netlist):
         raise SystemExit(f"qflow made no netlist of {module}; it ends with:\n{said[-400:]}")
-    if vesta is None:
-        raise SystemExit(f"vesta finds no path in {netlist}")
+    return netlist
+
+
+def area_of(netlist: str) -> int:
+    with open(netlist) as file:
+        cells = re.findall(r"^\s*(\w+) \w+ \(", file.read(), re.M)
     areas = cell_areas()
-    area = sum(areas.get(cell, 0.0) for cell in cells)
-    return Figures(round(area), round(float(vesta.group(1))), megahertz_by_opensta(folder, netlist, top))
+    return round(sum(areas.get(cell, 0.0) for cell in cells))
+
+
+def megahertz_by_vesta(folder: str, top: str) -> int:
+    said = run(os.path.join(SCRIPTS, "vesta.sh"), folder, top, folder=folder)
+    log = os.path.join(folder, "log", "sta.log")
+    if os.path.exists(log):
+        with open(log) as file:
+            said = file.read()
+    found = re.search(r"zero margin\) = ([\d.]+)", said)
+    if found is None:
+        raise SystemExit(f"vesta finds no path in {folder}; it ends with:\n{said[-400:]}")
+    return round(float(found[1]))
+
+
+def mapped_once(module: str, top: str, order: int, folder: str) -> Figures:
+    """One run of the flow, in an empty folder."""
+    netlist = netlist_of(module, top, order, folder)
+    return Figures(area_of(netlist), megahertz_by_vesta(folder, top), megahertz_by_opensta(folder, netlist, top))
 
 
 def mapped(module: str, top: str, folder: str) -> Figures:
     """The middle figures of the runs of a module, in folders below this one."""
-    runs = [mapped_once(module, top, seed, os.path.join(os.path.realpath(folder), f"flow_{top}_{seed}")) for seed in SEEDS]
-    for seed in SEEDS:
-        shutil.rmtree(os.path.join(os.path.realpath(folder), f"flow_{top}_{seed}"))
+    places = [os.path.join(os.path.realpath(folder), f"flow_{top}_{order}") for order in ORDERS]
+    with concurrent.futures.ThreadPoolExecutor(os.cpu_count()) as pool:
+        runs = list(pool.map(lambda order: mapped_once(module, top, order, places[order]), ORDERS))
+    for place in places:
+        shutil.rmtree(place)
     return Figures(*(round(statistics.median(figures)) for figures in zip(*runs)))

@@ -87,7 +87,7 @@ shown_at o (q ∷ before) p behind h = shown_at o before p behind h.1
 
 module _ (march : List MarchElement) (d : Description) (p : Plan) (plan : IsPlan p) (test : SelfTest (L.self_test p) march d) (run : ℕ → OpenEnv) (r : IsOpenRun (L.self_test p) run) where
   forms : formed (L.self_test p) ≡ true
-  forms = is_formed p plan.ready plan.sized
+  forms = is_formed p plan.ready plan.ready.sized
 
   resets : (t : ℕ) → open_inputs t L.reset ≡ Some (one_reset t)
   resets t = ap (λ (x : ℕ). Some x) (same_reset t)
@@ -95,10 +95,10 @@ module _ (march : List MarchElement) (d : Description) (p : Plan) (plan : IsPlan
   -- each compared port has a number
   numbers : (t : ℕ) (ps : List PortValue) → Wants march d t ps → AllNumbers (run t) ps
   numbers zero ps w =
-      let q = quiet p plan.ready plan.sized open_inputs run r resets in
+      let q = quiet p plan.ready plan.ready.sized open_inputs run r resets in
       subst (AllNumbers (run 0)) (sym w.are) (idle_numbers (run 0) (subst Known (sym q.0) tt) (subst Known (sym q.1) tt) w.ports (w.meets.reset refl).0)
   numbers (suc t) ps w =
-      let known = known_after p plan.ready plan.sized open_inputs run r resets t in
+      let known = known_after p plan.ready plan.ready.sized open_inputs run r resets t in
       subst (AllNumbers (run (suc t))) (sym w.are) (clear_numbers (run (suc t)) (known L.en refl) (known L.we refl) (known L.addr refl) (known L.wdata refl) (known L.done refl) w.ports)
 
   -- and it is the one that the rule wants, which a history has
@@ -106,7 +106,7 @@ module _ (march : List MarchElement) (d : Description) (p : Plan) (plan : IsPlan
   right t ps w =
       let words : ℕ → ℕ = λ _. 0 in
       let list = words_from words 0 (suc t) in
-      let l = history_with p plan.ready plan.sized words (λ _. pow_pos p.bits) t in
+      let l = history_with p plan.ready plan.ready.sized words (λ _. pow_pos p.bits) t in
       let meets = test.meets (λ n. 0) list (inputs_from (inputs_with words) 0 (suc t)) l.cycles (are_inputs words 0 (suc t)) l.history t l.last l.at in
       let same = wants_one march d t ps (compared (port_values l.last)) w (record { returned = slice_index list; ports = port_values l.last; meets = meets; are = refl }) in
       let have : AllHave l.last ps = subst (AllHave l.last) (sym same) (values_have l.last (l.fits L.en) (l.fits L.we) (l.fits L.done)) in
@@ -127,7 +127,7 @@ module _ (march : List MarchElement) (d : Description) (p : Plan) (plan : IsPlan
 pub generated_conform : (march : List MarchElement) (d : Description) (p : Plan) → IsPlan p → SelfTest (L.self_test p) march d
     → IsAnswer (L.self_test p) march d (A.Conforms (cycle_count march d)) × ((a : PortAnswer) → IsAnswer (L.self_test p) march d a → a ≡ A.Conforms (cycle_count march d))
 generated_conform march d p plan test =
-    let forms = is_formed p plan.ready plan.sized in
+    let forms = is_formed p plan.ready plan.ready.sized in
     let run = the_run (L.self_test p) forms test.legal rank (rank_falls p plan.ready) in
     let r = is_run (L.self_test p) forms test.legal rank (rank_falls p plan.ready) in (
       record { run = run; is_run = r; is = (refl, λ t l. right march d p plan test run r t) },

@@ -14,7 +14,7 @@ use Rattle.rtl_layout.proofs.Few.{operators_few}
 
 module _ (p : Plan) (plan : IsPlan p) where
   fitting : fits (L.self_test p) ≡ true
-  fitting = all_fits p plan.ready plan.sized (let l = plan.few_ages in omega arith) plan.element_small plan.oper_small plan.back_small plan.name
+  fitting = all_fits p plan.ready plan.ready.sized (let l = plan.few_ages in omega arith) plan.element_small plan.oper_small plan.back_small plan.name
 
   pub reads_itself : FreelySpells (printed (L.self_test p)) (L.self_test p)
   reads_itself = freely_too (Some 256) all_limits (printed (L.self_test p)) (L.self_test p) (operators_few p plan) (printed_spells (L.self_test p) fitting)

@@ -138,18 +138,18 @@ module _ (march : List MarchElement) (d : Description) (p : Plan) (pl : Plans ma
 
     module _ (run : ℕ → OpenEnv) (r : IsOpenRunOf (L.self_test p) (inputs_at words) run) (k : ℕ) where
       abbrev last : Env
-      last = (history_with p is_plan.ready is_plan.sized word tell.within (suc k)).last
+      last = (history_with p is_plan.ready is_plan.ready.sized word tell.within (suc k)).last
 
       number : (name : List ℕ) → Known (run (suc k) name) → run (suc k) name ≡ Some (last name)
-      number name known = known_is (run (suc k) name) (last name) known (stands_in p is_plan.ready is_plan.sized word (inputs_at words) run tell r (suc k) name)
+      number name known = known_is (run (suc k) name) (last name) known (stands_in p is_plan.ready is_plan.ready.sized word (inputs_at words) run tell r (suc k) name)
 
       one_bit : (name : List ℕ) → last name < 2 ^ 1 → Known (run (suc k) name) → run (suc k) name ≡ Some (bit (last name == 1))
       one_bit name small known = number name known ∙ ap (λ x. Some x) (is_its_bit (last name) small)
 
       shown : HasNumbers (run (suc k)) (port_values last)
       shown =
-          let all = numbers_always p is_plan.ready is_plan.sized word (inputs_at words) run tell r in
-          let fits = (history_with p is_plan.ready is_plan.sized word tell.within (suc k)).fits in
+          let all = numbers_always p is_plan.ready is_plan.ready.sized word (inputs_at words) run tell r in
+          let fits = (history_with p is_plan.ready is_plan.ready.sized word tell.within (suc k)).fits in
           record {
             en = one_bit L.en (fits L.en) (all.command k).0;
             we = one_bit L.we (fits L.we) (all.command k).1;
@@ -161,7 +161,7 @@ module _ (march : List MarchElement) (d : Description) (p : Plan) (pl : Plans ma
 
       ruled : (returned : ℕ → ℕ) → ((t w : ℕ) → words t ≡ Some w → returned t ≡ w) → PortRule march d returned (suc k) (port_values last)
       ruled returned agree =
-          let b = history_with p is_plan.ready is_plan.sized word tell.within (suc k) in
+          let b = history_with p is_plan.ready is_plan.ready.sized word tell.within (suc k) in
           let meets = (self_tested march d p pl is_plan m n).meets (λ x. 0) (words_from word 0 (suc (suc k))) (inputs_from (inputs_with word) 0 (suc (suc k))) b.cycles
           (are_inputs word 0 (suc (suc k))) b.history (suc k) last b.at in
           rule_of march d (slice_index (words_from word 0 (suc (suc k)))) returned (suc k) last
@@ -172,7 +172,7 @@ module _ (march : List MarchElement) (d : Description) (p : Plan) (pl : Plans ma
 
     cycle : (run : ℕ → OpenEnv) → IsOpenRunOf (L.self_test p) (inputs_at words) run → (t : ℕ) → CycleHasNumbers march d words t (run t)
     cycle run r zero = record {
-      reset = λ h. (numbers_always p is_plan.ready is_plan.sized word (inputs_at words) run tell r).quiet;
+      reset = λ h. (numbers_always p is_plan.ready is_plan.ready.sized word (inputs_at words) run tell r).quiet;
       later = λ h. absurd (omega arith);
     }
     cycle run r (suc k) = record {
@@ -182,6 +182,6 @@ module _ (march : List MarchElement) (d : Description) (p : Plan) (pl : Plans ma
 
   pub numbered : ShowsNumbers (L.self_test p) march d
   numbered = record {
-    settles = one_open_settles (L.self_test p) (is_formed p is_plan.ready is_plan.sized) (legal p is_plan.ready is_plan.sized) rank (rank_falls p is_plan.ready);
+    settles = one_open_settles (L.self_test p) (is_formed p is_plan.ready is_plan.ready.sized) (legal p is_plan.ready is_plan.ready.sized) rank (rank_falls p is_plan.ready);
     numbers = cycle;
   }

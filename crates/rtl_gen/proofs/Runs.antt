@@ -157,12 +157,12 @@ module _ (march : List MarchElement) (d : Description) (p : Plan) (pl : Plans ma
   in_each P first then regs (w ∷ ws) (i ∷ is) (x ∷ es) ins h zero e g =
       let this : x ≡ e = cc in
       subst (λ v. P (slice_index (w ∷ ws)) 0 v) this
-      (first (slice_index (w ∷ ws)) x (always p is_plan.ready is_plan.sized regs i x is es ins.0 (no_reset 0 ws is ins.2) h).0)
+      (first (slice_index (w ∷ ws)) x (always p is_plan.ready is_plan.ready.sized regs i x is es ins.0 (no_reset 0 ws is ins.2) h).0)
   in_each P first then regs (w ∷ ws) (i ∷ is) (x ∷ es) ins h (suc t) e g =
       let returned = slice_index (w ∷ ws) in
       then returned t e (later returned 0 (start p) ws is es
       (subst (Stands march d returned 0) (sym (starts_seen march d p pl)) (resets march d returned n (S.start march d m n)))
-      (all_return (w ∷ ws)).1 ins.2 (same_length (L.self_test p) (next (L.self_test p) x) is es h.1) (always p is_plan.ready is_plan.sized regs i x is es ins.0 (no_reset 0 ws is ins.2) h).1
+      (all_return (w ∷ ws)).1 ins.2 (same_length (L.self_test p) (next (L.self_test p) x) is es h.1) (always p is_plan.ready is_plan.ready.sized regs i x is es ins.0 (no_reset 0 ws is ins.2) h).1
       t t e (omega arith) g)
 
   rule_of : (returned : ℕ → ℕ) (k : ℕ) (e : Env) → Stood returned k e → PortRule march d returned (suc k) (port_values e)
@@ -192,8 +192,8 @@ module _ (march : List MarchElement) (d : Description) (p : Plan) (pl : Plans ma
   self_tested = record {
     name = pl.name;
     ports = ports_seen;
-    legal = legal p is_plan.ready is_plan.sized;
+    legal = legal p is_plan.ready is_plan.ready.sized;
     no_loop = no_loop (L.self_test p) rank (rank_falls p is_plan.ready);
-    settles = settles_once p is_plan.ready is_plan.sized;
+    settles = settles_once p is_plan.ready is_plan.ready.sized;
     meets = meets;
   }

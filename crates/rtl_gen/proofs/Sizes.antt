@@ -84,22 +84,6 @@ module _ (march : List MarchElement) (d : Description) (p : Plan) (pl : Plans ma
       let b : d.words ≤ 2 ^ p.addr_width = subst (λ k. d.words ≤ 2 ^ k) (sym pl.address_width) a in
       subst (λ k. k ≤ 2 ^ p.addr_width) (sym pl.words) b
 
-  ready : Ready p
-  ready = record {
-    has_element = let s = march_some march m in let c = count in omega arith;
-    has_background = let s = n.tested.some in let c = ap length pl.backgrounds in omega arith;
-    has_operation = some;
-    has_word = let s = n.words_low in let e = pl.words in omega arith;
-    has_pause = let s = w.pause_low in omega arith;
-    elements_fit = let h = w.element.holds in let c = count in omega arith;
-    backgrounds_fit = let h = w.back.holds in let c = ap length pl.backgrounds in omega arith;
-    words_fit = let a = address_wide in let g : 2 ^ p.addr_width ≤ 2 ^ p.visit_width = pow-le-pow_right (lit< tt) w.visit_holds in omega arith;
-    pause_fits = let h = w.pause_holds in let s = w.pause_low in omega arith;
-    operations_fit = few;
-    index_fits = address_wide;
-    addr_some = let s = n.address.positive in let e = pl.address_width in omega arith;
-  }
-
   full : length p.rows ≡ p.addr_width
   full = ap length w.rows ∙ length-rows d.scramble 0 d.scramble.width ∙ sym pl.address_width
 
@@ -144,7 +128,7 @@ module _ (march : List MarchElement) (d : Description) (p : Plan) (pl : Plans ma
       let v = w.visit_narrow in
       let a = w.visit_holds in
       record {
-        addr_some = ready.addr_some;
+        addr_some = let s = n.address.positive in let e = pl.address_width in omega arith;
         addr_narrow = omega arith;
         visit_holds = w.visit_holds;
         visit_narrow = omega arith;
@@ -163,10 +147,25 @@ module _ (march : List MarchElement) (d : Description) (p : Plan) (pl : Plans ma
         polarity_fits = polarity;
       }
 
+  ready : Ready p
+  ready = record {
+    sized = sized;
+    has_element = let s = march_some march m in let c = count in omega arith;
+    has_background = let s = n.tested.some in let c = ap length pl.backgrounds in omega arith;
+    has_operation = some;
+    has_word = let s = n.words_low in let e = pl.words in omega arith;
+    has_pause = let s = w.pause_low in omega arith;
+    elements_fit = let h = w.element.holds in let c = count in omega arith;
+    backgrounds_fit = let h = w.back.holds in let c = ap length pl.backgrounds in omega arith;
+    words_fit = let a = address_wide in let g : 2 ^ p.addr_width ≤ 2 ^ p.visit_width = pow-le-pow_right (lit< tt) w.visit_holds in omega arith;
+    pause_fits = let h = w.pause_holds in let s = w.pause_low in omega arith;
+    operations_fit = few;
+    index_fits = address_wide;
+  }
+
   pub is_plan : IsPlan p
   is_plan = record {
     ready = ready;
-    sized = sized;
     few_ages = let l = n.latency_high in let e = pl.latency in omega arith;
     few_elements = let l = m.elements_within in let e = count in omega arith;
     few_backgrounds = let l = n.tested.few in let e = ap length pl.backgrounds in omega arith;

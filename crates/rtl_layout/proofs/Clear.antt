@@ -8,10 +8,10 @@ use Rattle.verilog_tree.specs.Meaning.{bit}
 use Rattle.verilog_tree.specs.Wires.{Uses}
 use Rattle.verilog_tree.proofs.Clean.{Each, found}
 use Rattle.verilog_open.specs.Known.{Known, AreClear, InputsKnown}
-use Rattle.rtl_layout.specs.Plan.{Plan, several, is_single}
+use Rattle.rtl_layout.specs.Plan.{Plan, several, several_bits, is_single}
 use Rattle.rtl_layout.specs.Shows.{Ready}
 use Rattle.rtl_layout.specs.Layout as L
-use Rattle.rtl_layout.proofs.Ranked.{Under, under_uses, also, element_under, row_under, in_row_under, next_under, pattern_under, visited_under, address_under}
+use Rattle.rtl_layout.proofs.Ranked.{Under, under_uses, also, element_under, row_under, in_row_under, value_under, next_under, pattern_under, visited_under, address_under}
 use Rattle.verilog_open.specs.Open.{OpenEnv}
 
 -- not `rdata` nor `want`, nor what they lead to
@@ -45,6 +45,10 @@ pure_clear (AssignItem k x ∷ is) h n m l c =
     elim l [ inl v ↦ uses_clear x m (h.0 (subst (λ (j : List ℕ). clear j ≡ true) v.0 c)) v.1 | inr v ↦ pure_clear is h.1 n m v c ]
 pure_clear (AlwaysItem k v ∷ is) h n m l c = pure_clear is h n m l c
 
+one_pure : (wide : Bool) (rest : List ModuleItem) → Pure rest → Pure (L.one_reg wide ++ rest)
+one_pure true rest h = h
+one_pure false rest h = h
+
 stages_pure : (many : Bool) (w i n : ℕ) (rest : List ModuleItem) → Pure rest → Pure (L.stage_regs many w i n ++ rest)
 stages_pure many w i zero rest h = h
 stages_pure true w i (suc n) rest h = stages_pure true w (suc i) n rest h
@@ -57,14 +61,12 @@ module _ (p : Plan) (ready : Ready p) where
   after_pure : Pure (L.items_after p)
   after_pure =
       also (λ c. row_under p ready taint 1 L.writes_at refl)
-      (also (λ c. row_under p ready taint 1 L.one_behind refl)
+      (also (λ c. row_under p ready taint 1 (L.ones_row p) refl)
       (also (λ c. row_under p ready taint 1 L.ends_behind refl)
       (also (λ c. in_row_under p ready taint 1 L.writes refl refl)
+      (also (λ c. value_under p ready taint 1 refl refl refl)
       (also (λ c. element_under p ready taint 1 1 (λ x. bit x.down) refl)
       (also (λ c. element_under p ready taint 1 1 (λ x. bit x.pause) refl)
-      (also (λ c. in_row_under p ready taint 1 L.ones refl refl)
-      (also (λ c. element_under p ready taint 1 1 (λ x. bit (L.begins_one x)) refl)
-      (also (λ c. next_under p ready taint 1 (λ x. bit (L.begins_one x)) refl)
       (also (λ c. in_row_under p ready taint 1 L.ends refl refl)
       (also (λ c. element_under p ready taint 1 1 (λ x. bit (is_single x)) refl)
       (also (λ c. next_under p ready taint 1 (λ x. bit (is_single x)) refl)
@@ -81,10 +83,10 @@ module _ (p : Plan) (ready : Ready p) where
       (also (λ c. refl)
       (also (λ c. (refl, tt, refl))
       (also (λ c. not_true c)
-      tt))))))))))))))))))))))))
+      tt))))))))))))))))))))))
 
   pub items_clear : AreClear clear (L.items p)
-  items_clear = pure_clear (L.items p) (stages_pure (several p) p.back_width 0 p.delay (L.items_after p) after_pure)
+  items_clear = pure_clear (L.items p) (one_pure (several_bits p) (L.stage_regs (several p) p.back_width 0 p.delay ++ L.items_after p) (stages_pure (several p) p.back_width 0 p.delay (L.items_after p) after_pure))
 
 -- ---- inputs
 

@@ -9,15 +9,14 @@ use Rattle.verilog_tree.specs.Free.{operators, all_operators}
 use Rattle.verilog_tree.specs.Plain.{Expression, Net, BitSelect, PartSelect, Concatenation, Expressions, NoMore, Followed, Statement, SetTo, IfElse, CaseOf, statements, ModuleItem}
 use Rattle.verilog_tree.specs.Meaning.{bit}
 use Rattle.verilog_text.specs.Operators.{expression_few, statements_few, item_few, items_few, few_operators}
-use Rattle.rtl_layout.specs.Build.{lit, choose, bit_of, leaf, below, pick, rotated, counted, number_of, step_while, at_reset}
+use Rattle.rtl_layout.specs.Build.{lit, choose, bit_of, leaf, below, pick, rotated, counted, number_of}
 use Rattle.rtl_layout.specs.declared.row.Row.{Row}
-use Rattle.rtl_layout.specs.Plan.{Element, Plan, several, port_word, is_single}
+use Rattle.rtl_layout.specs.Plan.{Element, Plan, several, several_bits, port_word, is_single}
 use Rattle.rtl_layout.specs.Layout as L
 use Rattle.rtl_layout.specs.Layout.{stage_regs, stage_sets, items_after, by_element, by_next, in_row, pattern_of, word_of, feed_reads, feed_over, value_at, back_at, self_test}
 use Rattle.rtl_layout.specs.Control.{nothing}
 use Rattle.rtl_layout.specs.Shows.{IsPlan}
 use Rattle.rtl_layout.proofs.Choice.{leaf_map, length_map, leaf_drop, leaf_take, length_take}
-use Rattle.rtl_layout.proofs.Counter.{either}
 use Rattle.rtl_layout.proofs.Rows.{length_counted, length_rotated}
 use Rattle.rtl_layout.proofs.Forms.{both}
 
@@ -64,30 +63,42 @@ few_of : (x : Expression) → operators x ≤ 256 → Few x
 few_of x h = le-leb (operators x) 256 h
 
 module _ (p : Plan) (plan : IsPlan p) where
-  by_element_few : (s : ℕ) (f : Element → ℕ) → Few (by_element p s f)
-  by_element_few s f =
+  by_element_count : (s : ℕ) (f : Element → ℕ) → operators (by_element p s f) < 64
+  by_element_count s f =
       let q = pick_few L.element p.element_width (λ (x : Element). lit s (f x)) nothing p.elements plan.ready.has_element (λ j g. refl) in
       let l = plan.few_elements in
-      few_of (by_element p s f) (omega arith)
+      omega arith
+
+  by_element_few : (s : ℕ) (f : Element → ℕ) → Few (by_element p s f)
+  by_element_few s f = let q = by_element_count s f in few_of (by_element p s f) (omega arith)
 
   row_few : (f : Element → ℕ → Bool) → Few (L.flag_row p f)
   row_few f = by_element_few (L.row_width p) (λ x. number_of (map (f x) (counted (L.row_width p))))
 
-  by_next_few : (f : Element → ℕ) → Few (by_next p f)
-  by_next_few f =
+  by_next_count : (f : Element → ℕ) → operators (by_next p f) < 64
+  by_next_count f =
       let m = length_rotated p.elements in
       let some = plan.ready.has_element in
       let q = pick_few L.element p.element_width (λ (x : Element). lit 1 (f x)) nothing (rotated p.elements) (omega arith) (λ j g. refl) in
       let l = plan.few_elements in
-      few_of (by_next p f) (omega arith)
+      omega arith
 
-  in_row_few : (row : List ℕ) → Few (in_row p row)
-  in_row_few row =
+  by_next_few : (f : Element → ℕ) → Few (by_next p f)
+  by_next_few f = let q = by_next_count f in few_of (by_next p f) (omega arith)
+
+  in_row_count : (row : List ℕ) → operators (in_row p row) < 64
+  in_row_count row =
       let m = length_counted (L.row_width p) in
       let some = pow_pos p.oper_width in
       let q = pick_few L.oper p.oper_width (bit_of row (L.row_width p)) 0 (counted (L.row_width p)) (omega arith) (λ j g. bit_of_none row (L.row_width p) (slice_index_or (counted (L.row_width p)) j 0)) in
-      let l = plan.sized.row_narrow in
-      few_of (in_row p row) (omega arith)
+      let l = plan.ready.sized.row_narrow in
+      omega arith
+
+  in_row_few : (row : List ℕ) → Few (in_row p row)
+  in_row_few row = let q = in_row_count row in few_of (in_row p row) (omega arith)
+
+  value_few : Few (L.value_now p)
+  value_few = elim (several_bits p) as (λ t. Few (cond t (Net L.one) (in_row p L.ones))) [ true ↦ refl | false ↦ in_row_few L.ones ]
 
   pattern_count : (k : List ℕ) → operators (pattern_of p k) < 8
   pattern_count k =
@@ -114,8 +125,8 @@ module _ (p : Plan) (plan : IsPlan p) where
   address_few : Few (L.address p)
   address_few =
       let q = rows_count p.rows NoMore in
-      let l = plan.sized.rows_full in
-      let n = plan.sized.addr_narrow in
+      let l = plan.ready.sized.rows_full in
+      let n = plan.ready.sized.addr_narrow in
       elim p.straight as (λ t. Few (cond t (Net L.index) (Concatenation (L.address_bits p p.rows NoMore))))
       [ true ↦ refl | false ↦ few_of (Concatenation (L.address_bits p p.rows NoMore)) (omega arith) ]
 
@@ -147,22 +158,29 @@ module _ (p : Plan) (plan : IsPlan p) where
   stages_few true i (suc n) ss h = ((feeds_few i).0, ((feeds_few i).1, (refl, (refl, stages_few true (suc i) n ss h))))
   stages_few false i (suc n) ss h = ((feeds_few i).0, ((feeds_few i).1, (refl, stages_few false (suc i) n ss h)))
 
-  -- a counter whose next number is x
-  abbrev next_few : List ℕ → ℕ → List Expression → List ℕ → Expression → Type 0
-  next_few r w cs last x = Few (at_reset (lit w 0) (step_while cs (choose (Net last) (lit w 0) x) (Net r)))
+  -- three tables in one expression
+  one_few : Few (L.one_next p)
+  one_few =
+      let a = by_next_count (λ x. bit (L.begins_one x)) in
+      let b = by_element_count 1 (λ x. bit (L.begins_one x)) in
+      let c = in_row_count L.ones in
+      few_of (L.one_next p) (omega arith)
+
+  one_set_few : (wide : Bool) (ss : List Statement) → SetsFew ss → SetsFew (L.one_set p wide ++ ss)
+  one_set_few true ss h = (one_few, h)
+  one_set_few false ss h = h
 
   block_few : statements_few (Some 256) (statements (L.sets_all p)) ≡ true
   block_few =
       sets_few (L.sets_all p)
-      (also (either (next_few L.oper p.oper_width (Net L.run ∷ []) L.last_oper) L.oper p.oper_width (λ k. refl) (λ k. refl))
-      (also (either (next_few L.visit p.visit_width (Net L.run ∷ Net L.last_oper ∷ []) L.last_visit) L.visit p.visit_width (λ k. refl) (λ k. refl))
-      (also (either (next_few L.element p.element_width (Net L.run ∷ Net L.last_oper ∷ Net L.last_visit ∷ []) L.last_element) L.element p.element_width (λ k. refl) (λ k. refl))
-      (also (either (next_few L.back p.back_width (Net L.run ∷ Net L.last_oper ∷ Net L.last_visit ∷ Net L.last_element ∷ []) L.last_back) L.back p.back_width (λ k. refl) (λ k. refl))
       (also refl
       (also refl
       (also refl
       (also refl
-      (stages_few (several p) 0 p.delay (L.end_sets p) (want_few, (refl, tt)))))))))))
+      (also refl
+      (also refl
+      (also refl
+      (one_set_few (several_bits p) (stage_sets (several p) p.back_width 0 p.delay ++ L.end_sets p) (stages_few (several p) 0 p.delay (L.end_sets p) (want_few, (refl, tt)))))))))))
 
   abbrev ItemsFew : List ModuleItem → Type 0
   ItemsFew [] = Unit {0}
@@ -171,6 +189,10 @@ module _ (p : Plan) (plan : IsPlan p) where
   all_few : (is : List ModuleItem) → ItemsFew is → items_few (Some 256) is ≡ true
   all_few [] h = refl
   all_few (i ∷ is) h = both (item_few (Some 256) i) (items_few (Some 256) is) h.0 (all_few is h.1)
+
+  one_item_few : (wide : Bool) (rest : List ModuleItem) → ItemsFew rest → ItemsFew (L.one_reg wide ++ rest)
+  one_item_few true rest h = (refl, h)
+  one_item_few false rest h = h
 
   stage_items_few : (many : Bool) (i n : ℕ) (rest : List ModuleItem) → ItemsFew rest → ItemsFew (stage_regs many p.back_width i n ++ rest)
   stage_items_few many i zero rest h = (refl, (refl, h))
@@ -198,17 +220,13 @@ module _ (p : Plan) (plan : IsPlan p) where
       (also refl
       (also refl
       (also refl
-      (also refl
-      (also refl
       (also (row_few L.writes_at)
-      (also (row_few L.one_behind)
+      (also (row_few (L.ones_row p))
       (also (row_few L.ends_behind)
       (also (in_row_few L.writes)
+      (also value_few
       (also (by_element_few 1 (λ x. bit x.down))
       (also (by_element_few 1 (λ x. bit x.pause))
-      (also (in_row_few L.ones)
-      (also (by_element_few 1 (λ x. bit (L.begins_one x)))
-      (also (by_next_few (λ x. bit (L.begins_one x)))
       (also (in_row_few L.ends)
       (also (by_element_few 1 (λ x. bit (is_single x)))
       (also (by_next_few (λ x. bit (is_single x)))
@@ -226,7 +244,7 @@ module _ (p : Plan) (plan : IsPlan p) where
       (also refl
       (also refl
       (also block_few
-      tt))))))))))))))))))))))))))))))))))))))))))))))
+      tt))))))))))))))))))))))))))))))))))))))))))
 
   pub operators_few : few_operators (Some 256) (self_test p) ≡ true
   operators_few =
@@ -238,5 +256,4 @@ module _ (p : Plan) (plan : IsPlan p) where
       (also refl
       (also refl
       (also refl
-      (also refl
-      (stage_items_few (several p) 0 p.delay (items_after p) after_few)))))))))
+      (one_item_few (several_bits p) (stage_regs (several p) p.back_width 0 p.delay ++ items_after p) (stage_items_few (several p) 0 p.delay (items_after p) after_few)))))))))

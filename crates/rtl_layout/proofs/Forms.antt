@@ -1,19 +1,19 @@
 -- The module has the sizes that a text can have, so exactly one environment settles.
-use Rattle.std.proofs.Common.{◌≡◌, ℕ, zero, suc, ◌-◌, ◌/◌, ◌^◌, ◌<◌, ◌≤◌, Bool, true, false, cond, ◌&&◌, nat_eq, nat_lt, List, [], ◌∷◌, ◌++◌, length, map, refl, sym, subst, arith, inl, inr}
+use Rattle.std.proofs.Common.{◌≡◌, ℕ, zero, suc, ◌-◌, ◌^◌, ◌<◌, ◌≤◌, Bool, true, false, cond, ◌&&◌, nat_eq, nat_lt, List, [], ◌∷◌, ◌++◌, length, map, refl, sym, subst, arith, inl, inr}
 use Rattle.std.proofs.lemmas.Bool.{lt-ltb, le-leb}
 use Rattle.std.proofs.lemmas.Bool.Decides.{eqb_tells}
 use Rattle.std.proofs.lemmas.Nat.{pow_pos}
 use Rattle.std.specs.Prelude.{slice_index_or, nat_le}
-use Rattle.verilog_tree.specs.Plain.{Expression, Net, BitSelect, PartSelect, Concatenation, Prefixed, Infixed, Expressions, NoMore, Followed, Statement, SetTo, IfElse, CaseOf, expressions, statements, ModuleItem}
-use Rattle.verilog_tree.specs.declared.tree.UnOp.TheVariants.{AllOnes, Invert}
+use Rattle.verilog_tree.specs.Plain.{Expression, Net, BitSelect, PartSelect, Concatenation, Prefixed, Infixed, Expressions, NoMore, Followed, Statement, SetTo, IfElse, CaseOf, statements, ModuleItem}
+use Rattle.verilog_tree.specs.declared.tree.UnOp.TheVariants.{Invert}
 use Rattle.verilog_tree.specs.declared.tree.BinOp.TheVariants.{Add, Sub}
 use Rattle.verilog_tree.specs.Meaning.{Env, bit}
 use Rattle.verilog_tree.specs.Formed.{is_width, is_place, has_expression, expression_formed, expressions_formed, statements_formed, item_formed, items_formed, ports_formed, formed}
 use Rattle.verilog_tree.specs.Wires.{Starts, OneSettles, Falls}
 use Rattle.verilog_tree.proofs.Settling.{one_settles}
-use Rattle.rtl_layout.specs.Build.{lit, choose, bit_of, pick, rotated, counted, number_of, step_while, at_reset, low_more, high_more, in_halves, one_more, counter}
+use Rattle.rtl_layout.specs.Build.{lit, choose, bit_of, pick, rotated, counted, number_of, step_while, at_reset, counter}
 use Rattle.rtl_layout.specs.declared.row.Row.{Row}
-use Rattle.rtl_layout.specs.Plan.{Element, Plan, several, port_word, is_single, limit}
+use Rattle.rtl_layout.specs.Plan.{Element, Plan, several, several_bits, port_word, is_single, limit}
 use Rattle.rtl_layout.specs.Layout as L
 use Rattle.rtl_layout.specs.Layout.{stage_regs, stage_sets, items_after, by_element, by_next, in_row, pattern_of, word_of, feed_reads, feed_over, self_test}
 use Rattle.rtl_layout.specs.Control.{nothing, element_at, background_at}
@@ -22,7 +22,6 @@ use Rattle.rtl_layout.proofs.Rows.{length_counted, counted_below, length_rotated
 use Rattle.rtl_layout.proofs.Words.{word_below}
 use Rattle.rtl_layout.proofs.Ranked.{pick_has, rank, rank_falls}
 use Rattle.rtl_layout.proofs.Choice.{double}
-use Rattle.rtl_layout.proofs.Counter.{either, half_in}
 use Rattle.rtl_layout.proofs.Whole.{legal}
 
 also : {A B : Type 0} → A → B → A × B
@@ -76,26 +75,13 @@ sum_formed x v f h k = both (expression_formed x) (expression_formed (lit v 1)) 
     one_below zero h = absurd (omega arith)
     one_below (suc v) h = omega (arith, double v, pow_pos v)
 
-part_formed : (r : List ℕ) (h l : ℕ) → h ≤ 63 → l ≤ 63 → IsFormed (PartSelect r h l)
-part_formed r h l s t = both (is_place h) (is_place l) (le-leb h 63 s) (le-leb l 63 t)
-
-in_halves_formed : (r : List ℕ) (v l : ℕ) → v ≤ 64 → 1 ≤ l → l < v → IsFormed (in_halves r v l)
-in_halves_formed r v l n some less =
-    let low = part_formed r (l - 1) 0 (omega arith) (omega arith) in
-    let high = part_formed r (v - 1) l (omega arith) (omega arith) in
-    let above = choose_formed (Prefixed AllOnes (PartSelect r (l - 1) 0)) (Infixed Add (PartSelect r (v - 1) l) (lit (v - l) 1)) (PartSelect r (v - 1) l) low (sum_formed (PartSelect r (v - 1) l) (v - l) high (omega arith) (omega arith)) high in
-    let below = sum_formed (PartSelect r (l - 1) 0) l low some (omega arith) in
-    both (expression_formed (high_more r v l)) (expressions_formed (expressions (low_more r l ∷ []))) above (both (expression_formed (low_more r l)) true below refl)
-
-one_more_formed : (r : List ℕ) (v : ℕ) → 1 ≤ v → v ≤ 64 → IsFormed (one_more r v)
-one_more_formed r v h k = either IsFormed r v (λ s. sum_formed (Net r) v refl h k) (λ s. let i = half_in v s in in_halves_formed r v (v / 2) k i.0 i.1)
-
 counter_formed : (r : List ℕ) (v : ℕ) (cs : List Expression) (last : List ℕ) → 1 ≤ v → v ≤ 64 → AllFormed cs → IsFormed (counter r v cs last)
 counter_formed r v cs last h k a =
     let z = pow_pos v in
-    reset_formed v 0 (step_while cs (choose (Net last) (lit v 0) (one_more r v)) (Net r)) h k (omega arith)
-    (step_formed cs (choose (Net last) (lit v 0) (one_more r v)) (Net r) a
-    (choose_formed (Net last) (lit v 0) (one_more r v) refl (lit_formed v 0 h k (omega arith)) (one_more_formed r v h k)) refl)
+    let more = Infixed Add (Net r) (lit v 1) in
+    reset_formed v 0 (step_while cs (choose (Net last) (lit v 0) more) (Net r)) h k (omega arith)
+    (step_formed cs (choose (Net last) (lit v 0) more) (Net r) a
+    (choose_formed (Net last) (lit v 0) more refl (lit_formed v 0 h k (omega arith)) (sum_formed (Net r) v refl h k)) refl)
 
 -- ---- the module
 
@@ -198,9 +184,11 @@ module _ (p : Plan) (ready : Ready p) (sized : Sized p) where
       )
   stages_formed false i (suc n) ss h = (gated_formed (feed_reads i) ((feed_formed i).0), (gated_formed (feed_over i) ((feed_formed i).1), (gated_formed (Net (L.value_at i)) refl, stages_formed false (suc i) n ss h)))
 
-  turning_formed : (r next again more : List ℕ) (first : Bool) → IsFormed (L.turning r first next again more)
-  turning_formed r next again more first =
-      reset_formed 1 (bit first) (step_while (Net L.run ∷ []) (choose (Net L.last_oper) (choose (Net L.last_visit) (Net next) (Net again)) (Net more)) (Net r)) (omega arith) (omega arith) (bit_below first) refl
+  turning_formed : (r : List ℕ) (next again more : Expression) (first : Bool) → IsFormed next → IsFormed again → IsFormed more → IsFormed (L.turning r first next again more)
+  turning_formed r next again more first n a m =
+      let ends = choose (Net L.last_oper) (choose (Net L.last_visit) next again) more in
+      reset_formed 1 (bit first) (step_while (Net L.run ∷ []) ends (Net r)) (omega arith) (omega arith) (bit_below first)
+      (step_formed (Net L.run ∷ []) ends (Net r) (refl, tt) (choose_formed (Net L.last_oper) (choose (Net L.last_visit) next again) more refl (choose_formed (Net L.last_visit) next again refl n a) m) refl)
 
   visit_some : 1 ≤ p.visit_width
   visit_some = let a = sized.addr_some in let b = sized.visit_holds in omega arith
@@ -225,6 +213,14 @@ module _ (p : Plan) (ready : Ready p) (sized : Sized p) where
       let f : IsFormed x = pattern_formed (L.back_at (several p) p.delay) in
       elim (nat_eq p.delay 0) as (λ t. IsFormed (cond t (Net L.word) (word_of (L.value_at p.delay) x))) [ true ↦ refl | false ↦ choose_formed (Net (L.value_at p.delay)) (Prefixed Invert x) x refl f f ]
 
+  one_set_formed : (wide : Bool) (ss : List Statement) → SetsFormed ss → SetsFormed (L.one_set p wide ++ ss)
+  one_set_formed true ss h = (
+    turning_formed L.one (by_next p (λ x. bit (L.begins_one x))) (by_element p 1 (λ x. bit (L.begins_one x))) (in_row p L.ones) (L.begins_one (element_at p 0))
+        (by_next_formed (λ x. L.begins_one x)) (by_element_formed 1 (λ x. bit (L.begins_one x)) (omega arith) (omega arith) (λ j. bit_below (L.begins_one (element_at p j)))) (in_row_formed L.ones),
+    h,
+  )
+  one_set_formed false ss h = h
+
   block_formed : statements_formed (statements (L.sets_all p)) ≡ true
   block_formed =
       sets_formed (L.sets_all p)
@@ -233,9 +229,9 @@ module _ (p : Plan) (ready : Ready p) (sized : Sized p) where
       (also (counter_formed L.element p.element_width (Net L.run ∷ Net L.last_oper ∷ Net L.last_visit ∷ []) L.last_element sized.element_some sized.element_narrow (refl, (refl, (refl, tt))))
       (also (counter_formed L.back p.back_width (Net L.run ∷ Net L.last_oper ∷ Net L.last_visit ∷ Net L.last_element ∷ []) L.last_back sized.back_some sized.back_narrow (refl, (refl, (refl, (refl, tt)))))
       (also refl
-      (also (turning_formed L.last_oper L.ends_next L.ends_again L.ends_more (is_single (element_at p 0)))
+      (also (turning_formed L.last_oper (Net L.ends_next) (Net L.ends_again) (Net L.ends_more) (is_single (element_at p 0)) refl refl refl)
       (also last_visit_formed
-      (also (turning_formed L.value L.one_next L.one_again L.one_more (L.begins_one (element_at p 0)))
+      (one_set_formed (several_bits p) (stage_sets (several p) p.back_width 0 p.delay ++ L.end_sets p)
       (stages_formed (several p) 0 p.delay (L.end_sets p) (want_formed, (refl, tt)))))))))))
 
   -- ---- items
@@ -247,6 +243,13 @@ module _ (p : Plan) (ready : Ready p) (sized : Sized p) where
   all_items : (is : List ModuleItem) → Items is → items_formed is ≡ true
   all_items [] h = refl
   all_items (i ∷ is) h = both (item_formed i) (items_formed is) h.0 (all_items is h.1)
+
+  one_item : (wide : Bool) (rest : List ModuleItem) → Items rest → Items (L.one_reg wide ++ rest)
+  one_item true rest h = (refl, h)
+  one_item false rest h = h
+
+  value_formed : IsFormed (L.value_now p)
+  value_formed = elim (several_bits p) as (λ t. IsFormed (cond t (Net L.one) (in_row p L.ones))) [ true ↦ refl | false ↦ in_row_formed L.ones ]
 
   stage_items : (many : Bool) (i n : ℕ) (rest : List ModuleItem) → Items rest → Items (stage_regs many p.back_width i n ++ rest)
   stage_items many i zero rest h = (refl, (refl, h))
@@ -280,20 +283,16 @@ module _ (p : Plan) (ready : Ready p) (sized : Sized p) where
       (also refl
       (also refl
       (also refl
-      (also refl
-      (also refl
       (also (is_wide p.addr_width sized.addr_some sized.addr_narrow)
       (also (is_wide p.bits sized.bits_some sized.bits_narrow)
       (also (is_wide p.bits sized.bits_some sized.bits_narrow)
       (also (row_formed_of L.writes_at)
-      (also (row_formed_of L.one_behind)
+      (also (row_formed_of (L.ones_row p))
       (also (row_formed_of L.ends_behind)
       (also (in_row_formed L.writes)
+      (also value_formed
       (also (by_element_formed 1 (λ x. bit x.down) (omega arith) (omega arith) (λ j. bit_below (element_at p j).down))
       (also (by_element_formed 1 (λ x. bit x.pause) (omega arith) (omega arith) (λ j. bit_below (element_at p j).pause))
-      (also (in_row_formed L.ones)
-      (also (by_element_formed 1 (λ x. bit (L.begins_one x)) (omega arith) (omega arith) (λ j. bit_below (L.begins_one (element_at p j))))
-      (also (by_next_formed (λ x. L.begins_one x))
       (also (in_row_formed L.ends)
       (also (by_element_formed 1 (λ x. bit (is_single x)) (omega arith) (omega arith) (λ j. bit_below (is_single (element_at p j))))
       (also (by_next_formed (λ x. is_single x))
@@ -311,7 +310,7 @@ module _ (p : Plan) (ready : Ready p) (sized : Sized p) where
       (also refl
       (also refl
       (also block_formed
-      tt))))))))))))))))))))))))))))))))))))))))))))))
+      tt))))))))))))))))))))))))))))))))))))))))))
 
   items_are : items_formed (L.items p) ≡ true
   items_are =
@@ -323,8 +322,7 @@ module _ (p : Plan) (ready : Ready p) (sized : Sized p) where
       (also refl
       (also refl
       (also refl
-      (also refl
-      (stage_items (several p) 0 p.delay (items_after p) after_formed)))))))))
+      (one_item (several_bits p) (stage_regs (several p) p.back_width 0 p.delay ++ items_after p) (stage_items (several p) 0 p.delay (items_after p) after_formed)))))))))
 
   pub is_formed : formed (self_test p) ≡ true
   is_formed = both (ports_formed (L.ports p)) (items_formed (L.items p)) ports_are items_are

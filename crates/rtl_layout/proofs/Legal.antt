@@ -1,27 +1,26 @@
 -- The module breaks no rule.
-use Rattle.std.proofs.Common.{◌≡◌, ℕ, zero, suc, ◌+◌, ◌-◌, ◌/◌, ◌^◌, ◌<◌, ◌≤◌, Bool, true, false, cond, nat_eq, List, [], ◌∷◌, ◌++◌, length, take, drop, map, Some, is_none, refl, sym, ap, ◌∙◌, subst, arith, inl, inr}
+use Rattle.std.proofs.Common.{◌≡◌, ℕ, zero, suc, ◌+◌, ◌-◌, ◌^◌, ◌<◌, ◌≤◌, Bool, true, false, cond, nat_eq, List, [], ◌∷◌, ◌++◌, length, take, drop, map, Some, is_none, refl, sym, ap, ◌∙◌, subst, arith, inl, inr}
 use Rattle.std.proofs.lemmas.Bool.Decides.{eqb_tells, leb_tells}
 use Rattle.std.proofs.lemmas.List.{length-drop}
 use Rattle.std.proofs.lemmas.Nat.{pow_pos}
 use Rattle.std.specs.Prelude.{slice_index_or}
 use Rattle.std.specs.Str.{bytes_eq}
-use Rattle.verilog_tree.specs.declared.tree.BinOp.TheVariants.{Ne}
+use Rattle.verilog_tree.specs.declared.tree.BinOp.TheVariants.{Add, Ne}
 use Rattle.verilog_tree.specs.declared.names.Kind.{Kind}
 use Rattle.verilog_tree.specs.declared.names.Kind.TheVariants as K
-use Rattle.verilog_tree.specs.Plain.{Expression, Net, BitSelect, PartSelect, Concatenation, Infixed, Expressions, NoMore, Followed, ModuleItem, expressions}
+use Rattle.verilog_tree.specs.Plain.{Expression, Net, BitSelect, PartSelect, Concatenation, Infixed, Expressions, NoMore, Followed, ModuleItem}
 use Rattle.verilog_tree.specs.Names.{Declaration, declarations, item_declarations, lookup, declared_width, is_wire, is_register, is_clk, is_declared_as}
 use Rattle.verilog_tree.specs.Meaning.{bit, width, widths}
-use Rattle.rtl_layout.specs.Build.{lit, choose, bit_of, leaf, below, pick, rotated, counted, number_of, step_while, at_reset, low_more, high_more, in_halves, one_more, counter}
+use Rattle.rtl_layout.specs.Build.{lit, choose, bit_of, leaf, below, pick, rotated, counted, number_of, step_while, at_reset, counter}
 use Rattle.rtl_layout.specs.declared.row.Row.{Row}
-use Rattle.rtl_layout.specs.Plan.{Element, Plan, several, port_word, is_single, limit}
+use Rattle.rtl_layout.specs.Plan.{Element, Plan, several, several_bits, port_word, is_single, limit}
 use Rattle.rtl_layout.specs.Layout as L
 use Rattle.rtl_layout.specs.Layout.{stage_regs, stage_sets, aged, reads_at, over_at, value_at, back_at, feed_reads, feed_over, end_regs, wires, digit_regs, self_test, by_element, by_next, in_row, pattern_of, word_of}
 use Rattle.rtl_layout.specs.Control.{nothing, element_at}
 use Rattle.rtl_layout.specs.Shows.{Ready, Sized}
 use Rattle.rtl_layout.proofs.Choice.{leaf_map, length_map, leaf_drop, leaf_take, length_take, AllWide, below_wide}
 use Rattle.rtl_layout.proofs.Rows.{length_counted, counted_below, length_rotated}
-use Rattle.rtl_layout.proofs.Stages.{Ageless, lookup_behind, found_reads, found_over, found_value, found_back, reg}
-use Rattle.rtl_layout.proofs.Counter.{either, half_in}
+use Rattle.rtl_layout.proofs.Stages.{Ageless, lookup_behind_one, lookup_behind, found_reads, found_over, found_value, found_back, reg}
 use Rattle.verilog_tree.proofs.Sound.{Known, Sound, SoundParts, GoodAssign, GoodAssigns, GoodSet, GoodSets, sets_append}
 
 -- ---- choices
@@ -73,7 +72,7 @@ module _ (w : List ℕ → ℕ) (ds : List Declaration) (n : List ℕ) (k : ℕ)
 
 -- what is declared
 abbrev pub declared : Plan → List ModuleItem
-declared p = digit_regs p ++ (stage_regs (several p) p.back_width 0 p.delay ++ (end_regs p ++ wires p))
+declared p = digit_regs p ++ (L.one_reg (several_bits p) ++ (stage_regs (several p) p.back_width 0 p.delay ++ (end_regs p ++ wires p)))
 
 abbrev pub names : Plan → List Declaration
 names p = declarations (L.ports p) (declared p)
@@ -94,73 +93,76 @@ module _ (p : Plan) where
   here : (n : List ℕ) (k : Kind) (v : ℕ) → lookup (names p) n ≡ Some (record { name = n; kind = k; width = v }) → is_clk n ≡ false → Has p n k v
   here n k v h c = record { found = h; no_clock = c }
 
+  -- behind the digits and the operation's bit
+  abbrev Ages : List ModuleItem
+  Ages = stage_regs (several p) p.back_width 0 p.delay ++ (end_regs p ++ wires p)
+
+  -- of the ages, or behind them
+  of_ages : (n : List ℕ) (k : Kind) (v : ℕ) → lookup (item_declarations Ages) n ≡ Some (record { name = n; kind = k; width = v }) → bytes_eq n L.one ≡ false → is_clk n ≡ false
+      → lookup (names p) n ≡ lookup (item_declarations (L.one_reg (several_bits p) ++ Ages)) n → Has p n k v
+  of_ages n k v h o c e = record { found = e ∙ lookup_behind_one n (several_bits p) o Ages ∙ h; no_clock = c }
+
   -- behind the registers of the ages
-  behind : (n : List ℕ) (k : Kind) (v : ℕ) → Ageless 0 n → lookup (item_declarations (end_regs p ++ wires p)) n ≡ Some (record { name = n; kind = k; width = v }) → is_clk n ≡ false
-      → lookup (names p) n ≡ lookup (item_declarations (stage_regs (several p) p.back_width 0 p.delay ++ (end_regs p ++ wires p))) n → Has p n k v
-  behind n k v f h c e = record { found = e ∙ lookup_behind n (several p) p.back_width 0 p.delay f (end_regs p ++ wires p) ∙ h; no_clock = c }
+  behind : (n : List ℕ) (k : Kind) (v : ℕ) → Ageless 0 n → lookup (item_declarations (end_regs p ++ wires p)) n ≡ Some (record { name = n; kind = k; width = v }) → bytes_eq n L.one ≡ false → is_clk n ≡ false
+      → lookup (names p) n ≡ lookup (item_declarations (L.one_reg (several_bits p) ++ Ages)) n → Has p n k v
+  behind n k v f h = of_ages n k v (lookup_behind n (several p) p.back_width 0 p.delay f (end_regs p ++ wires p) ∙ h)
+
+  one_at : several_bits p ≡ true → Has p L.one K.Register 1
+  one_at h = here L.one K.Register 1 (ap (λ t. lookup (item_declarations (L.one_reg t ++ Ages)) L.one) h) refl
 
   want_at : Has p L.want K.Register p.bits
-  want_at = behind L.want K.Register p.bits (ageless L.want (λ j. refl) (λ j. refl) (λ j. refl) (λ j. refl)) refl refl refl
+  want_at = behind L.want K.Register p.bits (ageless L.want (λ j. refl) (λ j. refl) (λ j. refl) (λ j. refl)) refl refl refl refl
 
   bad_at : Has p L.bad K.Register 1
-  bad_at = behind L.bad K.Register 1 (ageless L.bad (λ j. refl) (λ j. refl) (λ j. refl) (λ j. refl)) refl refl refl
+  bad_at = behind L.bad K.Register 1 (ageless L.bad (λ j. refl) (λ j. refl) (λ j. refl) (λ j. refl)) refl refl refl refl
 
   writes_at : Has p L.writes K.Wire (L.row_width p)
-  writes_at = behind L.writes K.Wire (L.row_width p) (ageless L.writes (λ j. refl) (λ j. refl) (λ j. refl) (λ j. refl)) refl refl refl
+  writes_at = behind L.writes K.Wire (L.row_width p) (ageless L.writes (λ j. refl) (λ j. refl) (λ j. refl) (λ j. refl)) refl refl refl refl
 
   ones_at : Has p L.ones K.Wire (L.row_width p)
-  ones_at = behind L.ones K.Wire (L.row_width p) (ageless L.ones (λ j. refl) (λ j. refl) (λ j. refl) (λ j. refl)) refl refl refl
+  ones_at = behind L.ones K.Wire (L.row_width p) (ageless L.ones (λ j. refl) (λ j. refl) (λ j. refl) (λ j. refl)) refl refl refl refl
 
   ends_at : Has p L.ends K.Wire (L.row_width p)
-  ends_at = behind L.ends K.Wire (L.row_width p) (ageless L.ends (λ j. refl) (λ j. refl) (λ j. refl) (λ j. refl)) refl refl refl
+  ends_at = behind L.ends K.Wire (L.row_width p) (ageless L.ends (λ j. refl) (λ j. refl) (λ j. refl) (λ j. refl)) refl refl refl refl
 
   write_at : Has p L.write K.Wire 1
-  write_at = behind L.write K.Wire 1 (ageless L.write (λ j. refl) (λ j. refl) (λ j. refl) (λ j. refl)) refl refl refl
+  write_at = behind L.write K.Wire 1 (ageless L.write (λ j. refl) (λ j. refl) (λ j. refl) (λ j. refl)) refl refl refl refl
 
   down_at : Has p L.down K.Wire 1
-  down_at = behind L.down K.Wire 1 (ageless L.down (λ j. refl) (λ j. refl) (λ j. refl) (λ j. refl)) refl refl refl
+  down_at = behind L.down K.Wire 1 (ageless L.down (λ j. refl) (λ j. refl) (λ j. refl) (λ j. refl)) refl refl refl refl
 
   pause_at : Has p L.pause K.Wire 1
-  pause_at = behind L.pause K.Wire 1 (ageless L.pause (λ j. refl) (λ j. refl) (λ j. refl) (λ j. refl)) refl refl refl
-
-  one_more_at : Has p L.one_more K.Wire 1
-  one_more_at = behind L.one_more K.Wire 1 (ageless L.one_more (λ j. refl) (λ j. refl) (λ j. refl) (λ j. refl)) refl refl refl
-
-  one_again_at : Has p L.one_again K.Wire 1
-  one_again_at = behind L.one_again K.Wire 1 (ageless L.one_again (λ j. refl) (λ j. refl) (λ j. refl) (λ j. refl)) refl refl refl
-
-  one_next_at : Has p L.one_next K.Wire 1
-  one_next_at = behind L.one_next K.Wire 1 (ageless L.one_next (λ j. refl) (λ j. refl) (λ j. refl) (λ j. refl)) refl refl refl
+  pause_at = behind L.pause K.Wire 1 (ageless L.pause (λ j. refl) (λ j. refl) (λ j. refl) (λ j. refl)) refl refl refl refl
 
   ends_more_at : Has p L.ends_more K.Wire 1
-  ends_more_at = behind L.ends_more K.Wire 1 (ageless L.ends_more (λ j. refl) (λ j. refl) (λ j. refl) (λ j. refl)) refl refl refl
+  ends_more_at = behind L.ends_more K.Wire 1 (ageless L.ends_more (λ j. refl) (λ j. refl) (λ j. refl) (λ j. refl)) refl refl refl refl
 
   ends_again_at : Has p L.ends_again K.Wire 1
-  ends_again_at = behind L.ends_again K.Wire 1 (ageless L.ends_again (λ j. refl) (λ j. refl) (λ j. refl) (λ j. refl)) refl refl refl
+  ends_again_at = behind L.ends_again K.Wire 1 (ageless L.ends_again (λ j. refl) (λ j. refl) (λ j. refl) (λ j. refl)) refl refl refl refl
 
   ends_next_at : Has p L.ends_next K.Wire 1
-  ends_next_at = behind L.ends_next K.Wire 1 (ageless L.ends_next (λ j. refl) (λ j. refl) (λ j. refl) (λ j. refl)) refl refl refl
+  ends_next_at = behind L.ends_next K.Wire 1 (ageless L.ends_next (λ j. refl) (λ j. refl) (λ j. refl) (λ j. refl)) refl refl refl refl
 
   pause_next_at : Has p L.pause_next K.Wire 1
-  pause_next_at = behind L.pause_next K.Wire 1 (ageless L.pause_next (λ j. refl) (λ j. refl) (λ j. refl) (λ j. refl)) refl refl refl
+  pause_next_at = behind L.pause_next K.Wire 1 (ageless L.pause_next (λ j. refl) (λ j. refl) (λ j. refl) (λ j. refl)) refl refl refl refl
 
   last_element_at : Has p L.last_element K.Wire 1
-  last_element_at = behind L.last_element K.Wire 1 (ageless L.last_element (λ j. refl) (λ j. refl) (λ j. refl) (λ j. refl)) refl refl refl
+  last_element_at = behind L.last_element K.Wire 1 (ageless L.last_element (λ j. refl) (λ j. refl) (λ j. refl) (λ j. refl)) refl refl refl refl
 
   last_back_at : Has p L.last_back K.Wire 1
-  last_back_at = behind L.last_back K.Wire 1 (ageless L.last_back (λ j. refl) (λ j. refl) (λ j. refl) (λ j. refl)) refl refl refl
+  last_back_at = behind L.last_back K.Wire 1 (ageless L.last_back (λ j. refl) (λ j. refl) (λ j. refl) (λ j. refl)) refl refl refl refl
 
   live_at : Has p L.live K.Wire 1
-  live_at = behind L.live K.Wire 1 (ageless L.live (λ j. refl) (λ j. refl) (λ j. refl) (λ j. refl)) refl refl refl
+  live_at = behind L.live K.Wire 1 (ageless L.live (λ j. refl) (λ j. refl) (λ j. refl) (λ j. refl)) refl refl refl refl
 
   index_at : Has p L.index K.Wire p.addr_width
-  index_at = behind L.index K.Wire p.addr_width (ageless L.index (λ j. refl) (λ j. refl) (λ j. refl) (λ j. refl)) refl refl refl
+  index_at = behind L.index K.Wire p.addr_width (ageless L.index (λ j. refl) (λ j. refl) (λ j. refl) (λ j. refl)) refl refl refl refl
 
   pub pattern_at : Has p L.pattern K.Wire p.bits
-  pattern_at = behind L.pattern K.Wire p.bits (ageless L.pattern (λ j. refl) (λ j. refl) (λ j. refl) (λ j. refl)) refl refl refl
+  pattern_at = behind L.pattern K.Wire p.bits (ageless L.pattern (λ j. refl) (λ j. refl) (λ j. refl) (λ j. refl)) refl refl refl refl
 
   word_at : Has p L.word K.Wire p.bits
-  word_at = behind L.word K.Wire p.bits (ageless L.word (λ j. refl) (λ j. refl) (λ j. refl) (λ j. refl)) refl refl refl
+  word_at = behind L.word K.Wire p.bits (ageless L.word (λ j. refl) (λ j. refl) (λ j. refl) (λ j. refl)) refl refl refl refl
 
   reset_at : Has p L.reset K.Input 1
   reset_at = here L.reset K.Input 1 refl refl
@@ -189,8 +191,8 @@ module _ (p : Plan) where
   last_visit_at : Has p L.last_visit K.Register 1
   last_visit_at = here L.last_visit K.Register 1 refl refl
 
-  value_is : Has p L.value K.Register 1
-  value_is = here L.value K.Register 1 refl refl
+  value_is : Has p L.value K.Wire 1
+  value_is = behind L.value K.Wire 1 (ageless L.value (λ j. refl) (λ j. refl) (λ j. refl) (λ j. refl)) refl refl refl refl
 
 -- ---- the expressions of the module
 
@@ -215,27 +217,11 @@ net_fits h = (known h, ap declared_width h.found)
 reset_fits : (p : Plan) (v a : ℕ) (x : Expression) → Fits p v x → Fits p v (at_reset (lit v a) x)
 reset_fits p v a x h = ((known (reset_at p), tt, h.0, sym h.1), refl)
 
-in_halves_fits : (p : Plan) (r : List ℕ) (v l : ℕ) → Has p r K.Register v → v ≤ 64 → 1 ≤ l → l < v → Fits p v (in_halves r v l)
-in_halves_fits p r v l h s some less =
-    let n = known h in
-    let w : wide p r ≡ v = ap declared_width h.found in
-    let low : Sound (wide p) (names p) (PartSelect r (l - 1) 0) = (n, omega arith, omega arith, omega arith) in
-    let high : Sound (wide p) (names p) (PartSelect r (v - 1) l) = (n, omega arith, omega arith, omega arith) in
-    let low_wide : l - 1 + 1 - 0 ≡ l = omega arith in
-    let high_wide : v - 1 + 1 - l ≡ v - l = omega arith in
-    let all : widths (wide p) (expressions (high_more r v l ∷ low_more r l ∷ [])) ≡ v = (let m : v - 1 + 1 - l + (l - 1 + 1 - 0 + 0) ≡ v = omega arith in m) in
-    ((((low, (high, tt, high_wide), high, refl), ((low, tt, low_wide), tt)), omega arith), all)
-
-one_more_fits : (p : Plan) (r : List ℕ) (v : ℕ) → Has p r K.Register v → v ≤ 64 → Fits p v (one_more r v)
-one_more_fits p r v h s =
-    either (λ x. Fits p v x) r v (λ k. let net = net_fits h in ((net.0, tt, net.1), net.1))
-    (λ k. let i = half_in v k in in_halves_fits p r v (v / 2) h s i.0 i.1)
-
-counter_fits : (p : Plan) (r : List ℕ) (v : ℕ) (cs : List Expression) (last : List ℕ) → Has p r K.Register v → v ≤ 64 → Known (names p) last → AllSound p cs → Fits p v (counter r v cs last)
-counter_fits p r v cs last h n l s =
-    let more = one_more_fits p r v h n in
-    reset_fits p v 0 (step_while cs (choose (Net last) (lit v 0) (one_more r v)) (Net r))
-    (step_fits p v cs (choose (Net last) (lit v 0) (one_more r v)) (Net r) s ((l, tt, more.0, sym more.1), refl) (net_fits h))
+counter_fits : (p : Plan) (r : List ℕ) (v : ℕ) (cs : List Expression) (last : List ℕ) → Has p r K.Register v → Known (names p) last → AllSound p cs → Fits p v (counter r v cs last)
+counter_fits p r v cs last h l s =
+    let net = net_fits h in
+    reset_fits p v 0 (step_while cs (choose (Net last) (lit v 0) (Infixed Add (Net r) (lit v 1))) (Net r))
+    (step_fits p v cs (choose (Net last) (lit v 0) (Infixed Add (Net r) (lit v 1))) (Net r) s ((l, tt, (net.0, tt, net.1), sym net.1), refl) net)
 
 -- a bit of a wire
 bit_fits : {p : Plan} (n : List ℕ) (v i : ℕ) → Has p n K.Wire v → i < v → Fits p 1 (bit_of n v i)
@@ -319,19 +305,19 @@ module _ (p : Plan) (ready : Ready p) (sized : Sized p) where
   -- ---- the ages
 
   reads_has : (j : ℕ) → j ≤ p.delay → Has p (reads_at (suc j)) K.Register 1
-  reads_has j h = here p (reads_at (suc j)) K.Register 1 (found_reads (several p) p.back_width 0 p.delay (end_regs p ++ wires p) j (omega arith) (omega arith)) refl
+  reads_has j h = of_ages p (reads_at (suc j)) K.Register 1 (found_reads (several p) p.back_width 0 p.delay (end_regs p ++ wires p) j (omega arith) (omega arith)) refl refl refl
 
   over_has : (j : ℕ) → j ≤ p.delay → Has p (over_at (suc j)) K.Register 1
-  over_has j h = here p (over_at (suc j)) K.Register 1 (found_over (several p) p.back_width 0 p.delay (end_regs p ++ wires p) j (omega arith) (omega arith)) refl
+  over_has j h = of_ages p (over_at (suc j)) K.Register 1 (found_over (several p) p.back_width 0 p.delay (end_regs p ++ wires p) j (omega arith) (omega arith)) refl refl refl
 
   value_has : (j : ℕ) → j < p.delay → Has p (value_at (suc j)) K.Register 1
-  value_has j h = here p (value_at (suc j)) K.Register 1 (found_value (several p) p.back_width 0 p.delay (end_regs p ++ wires p) j (omega arith) (omega arith)) refl
+  value_has j h = of_ages p (value_at (suc j)) K.Register 1 (found_value (several p) p.back_width 0 p.delay (end_regs p ++ wires p) j (omega arith) (omega arith)) refl refl refl
 
   back_has : several p ≡ true → (j : ℕ) → j < p.delay → Has p (aged L.back (suc j)) K.Register p.back_width
   back_has q j h =
-      here p (aged L.back (suc j)) K.Register p.back_width
+      of_ages p (aged L.back (suc j)) K.Register p.back_width
       (subst (λ t. lookup (item_declarations (stage_regs t p.back_width 0 p.delay ++ (end_regs p ++ wires p))) (aged L.back (suc j)) ≡ Some (reg (aged L.back (suc j)) p.back_width)) (sym q)
-      (found_back p.back_width 0 p.delay (end_regs p ++ wires p) j (omega arith) (omega arith))) refl
+      (found_back p.back_width 0 p.delay (end_regs p ++ wires p) j (omega arith) (omega arith))) refl refl refl
 
   feed_reads_fits : (i : ℕ) → i ≤ p.delay → Fits p 1 (feed_reads i)
   feed_reads_fits zero h = let live = net_fits (live_at p) in ((known (write_at p), tt, live.0, sym live.1), refl)
@@ -369,15 +355,13 @@ module _ (p : Plan) (ready : Ready p) (sized : Sized p) where
 
   -- ---- the block
 
-  turning_good : (r next again more : List ℕ) (first : Bool) → Has p r K.Register 1 → Has p next K.Wire 1 → Has p again K.Wire 1 → Has p more K.Wire 1 → GoodSet w (names p) r (L.turning r first next again more)
+  turning_good : (r : List ℕ) (next again more : Expression) (first : Bool) → Has p r K.Register 1 → Fits p 1 next → Fits p 1 again → Fits p 1 more → GoodSet w (names p) r (L.turning r first next again more)
   turning_good r next again more first h n a m =
-      let ends = choose (Net L.last_oper) (choose (Net L.last_visit) (Net next) (Net again)) (Net more) in
-      let same : w next ≡ w again = ap declared_width n.found ∙ sym (ap declared_width a.found) in
-      let other : w next ≡ w more = ap declared_width n.found ∙ sym (ap declared_width m.found) in
+      let ends = choose (Net L.last_oper) (choose (Net L.last_visit) next again) more in
       good_set p h
       (reset_fits p 1 (bit first) (step_while (Net L.run ∷ []) ends (Net r))
       (step_fits p 1 (Net L.run ∷ []) ends (Net r) (known (run_at p), tt)
-      ((known (last_oper_at p), (known (last_visit_at p), known n, known a, same), known m, other), ap declared_width n.found) (net_fits h)))
+      ((known (last_oper_at p), (known (last_visit_at p), n.0, a.0, n.1 ∙ sym a.1), m.0, n.1 ∙ sym m.1), n.1) (net_fits h)))
 
   last_visit_good : GoodSet w (names p) L.last_visit (L.last_visit_next p)
   last_visit_good =
@@ -394,17 +378,24 @@ module _ (p : Plan) (ready : Ready p) (sized : Sized p) where
       let visit = known (last_visit_at p) in
       let element = known (last_element_at p) in
       let back = known (last_back_at p) in
-      also (good_set p (oper_at p) (counter_fits p L.oper p.oper_width (Net L.run ∷ []) L.last_oper (oper_at p) sized.oper_narrow oper (run, tt)))
-      (also (good_set p (visit_at p) (counter_fits p L.visit p.visit_width (Net L.run ∷ Net L.last_oper ∷ []) L.last_visit (visit_at p) sized.visit_narrow visit (run, (oper, tt))))
-      (also (good_set p (element_is p) (counter_fits p L.element p.element_width (Net L.run ∷ Net L.last_oper ∷ Net L.last_visit ∷ []) L.last_element (element_is p) sized.element_narrow element (run, (oper, (visit, tt)))))
-      (also (good_set p (back_is p) (counter_fits p L.back p.back_width (Net L.run ∷ Net L.last_oper ∷ Net L.last_visit ∷ Net L.last_element ∷ []) L.last_back (back_is p) sized.back_narrow back (run, (oper, (visit, (element, tt))))))
+      also (good_set p (oper_at p) (counter_fits p L.oper p.oper_width (Net L.run ∷ []) L.last_oper (oper_at p) oper (run, tt)))
+      (also (good_set p (visit_at p) (counter_fits p L.visit p.visit_width (Net L.run ∷ Net L.last_oper ∷ []) L.last_visit (visit_at p) visit (run, (oper, tt))))
+      (also (good_set p (element_is p) (counter_fits p L.element p.element_width (Net L.run ∷ Net L.last_oper ∷ Net L.last_visit ∷ []) L.last_element (element_is p) element (run, (oper, (visit, tt)))))
+      (also (good_set p (back_is p) (counter_fits p L.back p.back_width (Net L.run ∷ Net L.last_oper ∷ Net L.last_visit ∷ Net L.last_element ∷ []) L.last_back (back_is p) back (run, (oper, (visit, (element, tt))))))
       (also (good_set p (run_at p)
       (reset_fits p 1 1 (step_while (Net L.run ∷ Net L.last_oper ∷ Net L.last_visit ∷ Net L.last_element ∷ Net L.last_back ∷ []) (lit 1 0) (Net L.run))
       (step_fits p 1 (Net L.run ∷ Net L.last_oper ∷ Net L.last_visit ∷ Net L.last_element ∷ Net L.last_back ∷ []) (lit 1 0) (Net L.run) (run, (oper, (visit, (element, (back, tt))))) (tt, refl) (net_fits (run_at p)))))
-      (also (turning_good L.last_oper L.ends_next L.ends_again L.ends_more (is_single (element_at p 0)) (last_oper_at p) (ends_next_at p) (ends_again_at p) (ends_more_at p))
+      (also (turning_good L.last_oper (Net L.ends_next) (Net L.ends_again) (Net L.ends_more) (is_single (element_at p 0)) (last_oper_at p) (net_fits (ends_next_at p)) (net_fits (ends_again_at p)) (net_fits (ends_more_at p)))
       (also last_visit_good
-      (also (turning_good L.value L.one_next L.one_again L.one_more (L.begins_one (element_at p 0)) (value_is p) (one_next_at p) (one_again_at p) (one_more_at p))
-      tt)))))))
+      tt))))))
+
+  one_good : (wide : Bool) → several_bits p ≡ wide → GoodSets w (names p) (L.one_set p wide)
+  one_good true h = (
+    turning_good L.one (by_next p (λ x. bit (L.begins_one x))) (by_element p 1 (λ x. bit (L.begins_one x))) (in_row p L.ones) (L.begins_one (element_at p 0))
+        (one_at p h) (by_next_fits (λ x. bit (L.begins_one x))) (by_element_fits 1 (λ x. bit (L.begins_one x))) (in_row_fits L.ones (ones_at p)),
+    tt,
+  )
+  one_good false h = tt
 
   want_good : GoodSet w (names p) L.want (L.want_next p)
   want_good =
@@ -423,13 +414,18 @@ module _ (p : Plan) (ready : Ready p) (sized : Sized p) where
       tt)
 
   pub block_good : GoodSets w (names p) (L.sets_all p)
-  block_good = sets_append w (names p) (L.digit_sets p) (stage_sets (several p) p.back_width 0 p.delay ++ L.end_sets p) digits_good
-      (sets_append w (names p) (stage_sets (several p) p.back_width 0 p.delay) (L.end_sets p) (stages_good (several p) refl 0 p.delay (omega arith)) ends_good)
+  block_good = sets_append w (names p) (L.digit_sets p) (L.one_set p (several_bits p) ++ (stage_sets (several p) p.back_width 0 p.delay ++ L.end_sets p)) digits_good
+      (sets_append w (names p) (L.one_set p (several_bits p)) (stage_sets (several p) p.back_width 0 p.delay ++ L.end_sets p) (one_good (several_bits p) refl)
+      (sets_append w (names p) (stage_sets (several p) p.back_width 0 p.delay) (L.end_sets p) (stages_good (several p) refl 0 p.delay (omega arith)) ends_good))
 
   -- ---- the assigns
 
   row_fits : (f : Element → ℕ → Bool) → Fits p (L.row_width p) (L.flag_row p f)
   row_fits f = by_element_fits (L.row_width p) (λ x. number_of (map (f x) (counted (L.row_width p))))
+
+  value_now_fits : (wide : Bool) → several_bits p ≡ wide → Fits p 1 (cond wide (Net L.one) (in_row p L.ones))
+  value_now_fits true h = net_fits (one_at p h)
+  value_now_fits false h = in_row_fits L.ones (ones_at p)
 
   pub assigns_good : GoodAssigns w (names p) [] (L.wire_assigns p ++ L.port_assigns p)
   assigns_good =
@@ -437,14 +433,12 @@ module _ (p : Plan) (ready : Ready p) (sized : Sized p) where
       let run = net_fits (run_at p) in
       let v = visited_fits in
       also_new (good p (writes_at p) (row_fits L.writes_at)) refl
-      (also_new (good p (ones_at p) (row_fits L.one_behind)) refl
+      (also_new (good p (ones_at p) (row_fits (L.ones_row p))) refl
       (also_new (good p (ends_at p) (row_fits L.ends_behind)) refl
       (also_new (good p (write_at p) (in_row_fits L.writes (writes_at p))) refl
+      (also_new (good p (value_is p) (value_now_fits (several_bits p) refl)) refl
       (also_new (good p (down_at p) (by_element_fits 1 (λ x. bit x.down))) refl
       (also_new (good p (pause_at p) (by_element_fits 1 (λ x. bit x.pause))) refl
-      (also_new (good p (one_more_at p) (in_row_fits L.ones (ones_at p))) refl
-      (also_new (good p (one_again_at p) (by_element_fits 1 (λ x. bit (L.begins_one x)))) refl
-      (also_new (good p (one_next_at p) (by_next_fits (λ x. bit (L.begins_one x)))) refl
       (also_new (good p (ends_more_at p) (in_row_fits L.ends (ends_at p))) refl
       (also_new (good p (ends_again_at p) (by_element_fits 1 (λ x. bit (is_single x)))) refl
       (also_new (good p (ends_next_at p) (by_next_fits (λ x. bit (is_single x)))) refl
@@ -461,4 +455,4 @@ module _ (p : Plan) (ready : Ready p) (sized : Sized p) where
       (also_new (good p (here p L.wdata K.Wire p.bits refl refl) (net_fits (word_at p))) refl
       (also_new (good p (here p L.done K.Wire 1 refl refl) (reset_fits p 1 0 (Net (over_at (suc p.delay))) (net_fits (over_has p.delay (omega arith))))) refl
       (also_new (good p (here p L.fail K.Wire 1 refl refl) (reset_fits p 1 0 (Net L.bad) (net_fits (bad_at p)))) refl
-      tt))))))))))))))))))))))))
+      tt))))))))))))))))))))))

@@ -18,14 +18,14 @@ use Rattle.verilog_open.proofs.Known.{clear_are_known}
 use Rattle.verilog_open.proofs.Settling.{by_source, source_of, open_equation_of}
 use Rattle.verilog_open.proofs.Runs.{each_allowed}
 use Rattle.verilog_open.proofs.Histories.{inputs_from, inputs_at, Lasts, lasts}
-use Rattle.rtl_layout.specs.Plan.{Plan, several}
+use Rattle.rtl_layout.specs.Plan.{Plan, several, several_bits}
 use Rattle.rtl_layout.specs.Layout as L
 use Rattle.rtl_layout.specs.Shows.{Ready, Sized}
 use Rattle.rtl_layout.specs.inner.Shows.{Shows}
 use Rattle.rtl_layout.specs.Numbers.{machine_at, one_reset, inputs_with, Tell, NumbersAlways}
 use Rattle.rtl_layout.proofs.Clear.{clear, items_clear, inputs_known, no_inputs}
 use Rattle.rtl_layout.proofs.Sets.{registers_restarted, registers_kept, want_kept, bad_set}
-use Rattle.rtl_layout.proofs.Stages.{Ageless, lookup_behind}
+use Rattle.rtl_layout.proofs.Stages.{Ageless, lookup_behind_one, lookup_behind}
 use Rattle.rtl_layout.proofs.Step.{turn, last_is}
 use Rattle.rtl_layout.proofs.Resets.{starts}
 use Rattle.rtl_layout.proofs.Ranked.{rank, rank_falls}
@@ -66,6 +66,10 @@ driver_behind n many w i zero rest = refl
 driver_behind n true w i (suc k) rest = driver_behind n true w (suc i) k rest
 driver_behind n false w i (suc k) rest = driver_behind n false w (suc i) k rest
 
+driver_behind_one : (n : List ℕ) (wide : Bool) (rest : List ModuleItem) → driver (L.one_reg wide ++ rest) n ≡ driver rest n
+driver_behind_one n true rest = refl
+driver_behind_one n false rest = refl
+
 module _ (p : Plan) (ready : Ready p) (sized : Sized p) where
   forms : formed (L.self_test p) ≡ true
   forms = is_formed p ready sized
@@ -76,8 +80,11 @@ module _ (p : Plan) (ready : Ready p) (sized : Sized p) where
   abbrev ws : List ℕ → ℕ
   ws = names_widths (L.self_test p)
 
-  driven : (n : List ℕ) (x : Expression) → driver (L.items_after p) n ≡ Some x → driver (L.stage_regs (several p) p.back_width 0 p.delay ++ L.items_after p) n ≡ Some x
-  driven n x h = driver_behind n (several p) p.back_width 0 p.delay (L.items_after p) ∙ h
+  abbrev Ages : List ModuleItem
+  Ages = L.stage_regs (several p) p.back_width 0 p.delay ++ L.items_after p
+
+  driven : (n : List ℕ) (x : Expression) → driver (L.items_after p) n ≡ Some x → driver (L.one_reg (several_bits p) ++ Ages) n ≡ Some x
+  driven n x h = driver_behind_one n (several_bits p) Ages ∙ driver_behind n (several p) p.back_width 0 p.delay (L.items_after p) ∙ h
 
   -- ---- the clear names
 
@@ -115,10 +122,10 @@ module _ (p : Plan) (ready : Ready p) (sized : Sized p) where
   ageless_bad = record { no_reads = λ j l. refl; no_over = λ j l. refl; no_value = λ j l. refl; no_back = λ j l. refl }
 
   want_declared : lookup (declarations (L.ports p) (L.items p)) L.want ≡ Some (record { name = L.want; kind = K.Register; width = p.bits })
-  want_declared = lookup_behind L.want (several p) p.back_width 0 p.delay ageless_want (L.items_after p)
+  want_declared = lookup_behind_one L.want (several_bits p) refl Ages ∙ lookup_behind L.want (several p) p.back_width 0 p.delay ageless_want (L.items_after p)
 
   bad_declared : lookup (declarations (L.ports p) (L.items p)) L.bad ≡ Some (record { name = L.bad; kind = K.Register; width = 1 })
-  bad_declared = lookup_behind L.bad (several p) p.back_width 0 p.delay ageless_bad (L.items_after p)
+  bad_declared = lookup_behind_one L.bad (several_bits p) refl Ages ∙ lookup_behind L.bad (several p) p.back_width 0 p.delay ageless_bad (L.items_after p)
 
   -- ---- a history with these words
 

@@ -64,7 +64,7 @@ module _ (p : Plan) (ready : Ready p) (sized : Sized p) (regs ins e : Env) (s : 
   index_here h =
       let fits = ready.index_fits in
       let held = is_visit p ready sized regs ins e s c sh in
-      let v : value ws e (visited p) ≡ c.visit = visited_is p ws e ready.addr_some (omega arith) ∙ held in
+      let v : value ws e (visited p) ≡ c.visit = visited_is p ws e sized.addr_some (omega arith) ∙ held in
       T.index_is p regs ins e s
       ∙ by_bit (here p c).down (e down) _ _ (is_down p ready sized regs ins e s c sh)
       ∙ ap (λ k. cond (here p c).down ((p.words - 1 + 2 ^ p.addr_width - k) % 2 ^ p.addr_width) k) v

@@ -11,7 +11,7 @@ use Rattle.verilog_tree.specs.Meaning.{bit}
 use Rattle.verilog_tree.specs.Wires.{Uses, UsesAny, Leads, Falls}
 use Rattle.rtl_layout.specs.Build.{lit, choose, bit_of, leaf, below, pick, rotated, counted, number_of}
 use Rattle.rtl_layout.specs.declared.row.Row.{Row}
-use Rattle.rtl_layout.specs.Plan.{Element, Plan, several, port_word, is_single}
+use Rattle.rtl_layout.specs.Plan.{Element, Plan, several, several_bits, port_word, is_single}
 use Rattle.rtl_layout.specs.Layout as L
 use Rattle.rtl_layout.specs.Layout.{stage_regs, items_after, row_width, by_element, by_next, flag_row, in_row, pattern_of}
 use Rattle.rtl_layout.specs.Control.{nothing}
@@ -94,21 +94,26 @@ falls rank (RegItem k v ∷ is) h n m l = falls rank is h n m l
 falls rank (AssignItem k x ∷ is) h n m l = elim l [ inl v ↦ rw v.0 (under_uses rank (rank k) m x h.0 v.1) | inr v ↦ falls rank is h.1 n m v ]
 falls rank (AlwaysItem c ss ∷ is) h n m l = falls rank is h n m l
 
+one_ranked : (rank : List ℕ → ℕ) (wide : Bool) (rest : List ModuleItem) → Ranked rank rest → Ranked rank (L.one_reg wide ++ rest)
+one_ranked rank true rest h = h
+one_ranked rank false rest h = h
+
 stages_ranked : (rank : List ℕ → ℕ) (many : Bool) (w i n : ℕ) (rest : List ModuleItem) → Ranked rank rest → Ranked rank (stage_regs many w i n ++ rest)
 stages_ranked rank many w i zero rest h = h
 stages_ranked rank true w i (suc n) rest h = stages_ranked rank true w (suc i) n rest h
 stages_ranked rank false w i (suc n) rest h = stages_ranked rank false w (suc i) n rest h
 
--- registers and inputs have 0, tables 1, what they lead to 2, ports 3
+-- registers and inputs have 0, tables 1, what they lead to 2, the word 3, ports 4
 abbrev level : List (List ℕ) → ℕ → ℕ → List ℕ → ℕ
 level [] k other n = other
 level (m ∷ ms) k other n = cond (bytes_eq n m) k (level ms k other n)
 
 abbrev pub rank : List ℕ → ℕ
 rank n =
-    level (L.writes ∷ L.ones ∷ L.ends ∷ L.down ∷ L.pause ∷ L.one_again ∷ L.one_next ∷ L.ends_again ∷ L.ends_next ∷ L.pause_next ∷ L.last_element ∷ L.last_back ∷ L.pattern ∷ []) 1
-    (level (L.write ∷ L.one_more ∷ L.ends_more ∷ L.live ∷ L.index ∷ L.word ∷ []) 2
-    (level (L.en ∷ L.we ∷ L.addr ∷ L.wdata ∷ L.done ∷ L.fail ∷ []) 3 0 n) n) n
+    level (L.writes ∷ L.ones ∷ L.ends ∷ L.down ∷ L.pause ∷ L.ends_again ∷ L.ends_next ∷ L.pause_next ∷ L.last_element ∷ L.last_back ∷ L.pattern ∷ []) 1
+    (level (L.write ∷ L.value ∷ L.ends_more ∷ L.live ∷ L.index ∷ []) 2
+    (level (L.word ∷ []) 3
+    (level (L.en ∷ L.we ∷ L.addr ∷ L.wdata ∷ L.done ∷ L.fail ∷ []) 4 0 n) n) n) n
 
 bit_under : (r : List ℕ → ℕ) (k : ℕ) (n : List ℕ) (v i : ℕ) → nat_lt (r n) k ≡ true → Under r k (bit_of n v i)
 bit_under r k n v i h = elim (eqb_tells v 1) [ inl q ↦ subst (λ t. Under r k (cond t (Net n) (BitSelect n i))) (sym q.0) h | inr q ↦ subst (λ t. Under r k (cond t (Net n) (BitSelect n i))) (sym q.0) h ]
@@ -136,6 +141,9 @@ module _ (p : Plan) (ready : Ready p) (r : List ℕ → ℕ) (k : ℕ) where
       let some = pow_pos p.oper_width in
       pick_under r k L.oper p.oper_width (bit_of row (row_width p)) 0 (counted (row_width p)) h (omega arith) (λ j m. bit_under r k row (row_width p) (slice_index_or (counted (row_width p)) j 0) g)
 
+  pub value_under : nat_lt (r L.one) k ≡ true → nat_lt (r L.oper) k ≡ true → nat_lt (r L.ones) k ≡ true → Under r k (L.value_now p)
+  value_under o h g = elim (several_bits p) as (λ t. Under r k (cond t (Net L.one) (in_row p L.ones))) [ true ↦ o | false ↦ in_row_under L.ones h g ]
+
   pub pattern_under : (b : List ℕ) → nat_lt (r b) k ≡ true → Under r k (pattern_of p b)
   pattern_under b h = pick_under r k b p.back_width (λ w. lit p.bits (port_word p false w)) 0 p.backgrounds h ready.has_background (λ j l. tt)
 
@@ -159,14 +167,12 @@ module _ (p : Plan) (ready : Ready p) where
   wires_ranked : Ranked rank (L.wire_assigns p ++ (L.port_assigns p ++ AlwaysItem L.clk (statements (L.sets_all p)) ∷ []))
   wires_ranked =
       also (row_under p ready rank 1 L.writes_at refl)
-      (also (row_under p ready rank 1 L.one_behind refl)
+      (also (row_under p ready rank 1 (L.ones_row p) refl)
       (also (row_under p ready rank 1 L.ends_behind refl)
       (also (in_row_under p ready rank 2 L.writes refl refl)
+      (also (value_under p ready rank 2 refl refl refl)
       (also (element_under p ready rank 1 1 (λ x. bit x.down) refl)
       (also (element_under p ready rank 1 1 (λ x. bit x.pause) refl)
-      (also (in_row_under p ready rank 2 L.ones refl refl)
-      (also (element_under p ready rank 1 1 (λ x. bit (L.begins_one x)) refl)
-      (also (next_under p ready rank 1 (λ x. bit (L.begins_one x)) refl)
       (also (in_row_under p ready rank 2 L.ends refl refl)
       (also (element_under p ready rank 1 1 (λ x. bit (is_single x)) refl)
       (also (next_under p ready rank 1 (λ x. bit (is_single x)) refl)
@@ -179,11 +185,11 @@ module _ (p : Plan) (ready : Ready p) where
       (also (refl, refl, refl)
       (also (refl, tt, refl)
       (also refl
-      (also (address_under p ready rank 3 refl)
+      (also (address_under p ready rank 4 refl)
       (also refl
       (also (refl, tt, refl)
       (also (refl, tt, refl)
-      tt))))))))))))))))))))))))
+      tt))))))))))))))))))))))
 
   pub rank_falls : Falls rank (L.items p)
-  rank_falls = falls rank (L.items p) (stages_ranked rank (several p) p.back_width 0 p.delay (items_after p) wires_ranked)
+  rank_falls = falls rank (L.items p) (one_ranked rank (several_bits p) (stage_regs (several p) p.back_width 0 p.delay ++ items_after p) (stages_ranked rank (several p) p.back_width 0 p.delay (items_after p) wires_ranked))

@@ -27,7 +27,7 @@ module _ (p : Plan) (ready : Ready p) (regs ins e : Env) (s : Settles (self_test
   is_reset = T.reset_in p regs ins e s ∙ z
 
   lefts : (n : List ℕ) → (old : ℕ) × (next (self_test p) e n ≡ last_set n (sets (names_widths (self_test p)) e (statements (L.stage_sets (several p) p.back_width 0 p.delay ++ end_sets p))) old)
-  lefts n = (_, T.next_is p e n)
+  lefts n = T.next_left p e n
 
   last_zero : (next (self_test p) e (reads_at (suc p.delay)) ≡ 0) × (next (self_test p) e (over_at (suc p.delay)) ≡ 0)
   last_zero =
@@ -48,7 +48,7 @@ module _ (p : Plan) (ready : Ready p) (regs ins e : Env) (s : Settles (self_test
     run_is = T.next_run p e ∙ on_one (e reset) _ _ is_reset;
     last_oper_is = T.next_last_oper p e ∙ on_one (e reset) _ _ is_reset ∙ ap bit (first_last (length (element_at p 0).operations) (ready.has_operation 0));
     last_visit_is = T.next_last_visit p e ∙ on_one (e reset) _ _ is_reset ∙ ap bit (first_last (limit p (element_at p 0)) (limit_some (element_at p 0).pause));
-    value_is = T.next_value p e ∙ on_one (e reset) _ _ is_reset ∙ ap bit (begins p ready 0);
+    one_is = λ h. T.next_one p e h ∙ on_one (e reset) _ _ is_reset ∙ ap bit (begins p ready 0);
     stages_are = ages_shown (several p) (length p.backgrounds) 0 (quiet p.delay) _ (next (self_test p) e)
         (ages_reset (names_widths (self_test p)) e p.back_width (end_sets p) (T.ends_clear p e) is_reset (several p) 0 p.delay)
         (backs_quiet (length p.backgrounds) p.delay ready.has_background) (λ h. ltb-false 1 (length p.backgrounds) h) (λ h. back_zero) lefts;

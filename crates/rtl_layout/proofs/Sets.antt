@@ -1,21 +1,20 @@
 -- What the block of the module sets in an open cycle: after the reset each clear register has a number, and keeps one.
 use Rattle.std.proofs.lemmas.Slice.Eq.{bytes_eq-Decides}
 use Rattle.std.specs.Str.{bytes_eq}
-use Rattle.std.proofs.Common.{arith, ◌≡◌, ℕ, zero, suc, Bool, true, false, cond, nat_lt, nat_eq, ◌/◌, List, [], ◌∷◌, ◌++◌, Option, Some, refl, sym, ap, ◌∙◌, subst, inl, inr, ◌⊎◌, append-nil}
+use Rattle.std.proofs.Common.{arith, ◌≡◌, ℕ, zero, suc, Bool, true, false, cond, nat_lt, nat_eq, List, [], ◌∷◌, ◌++◌, Option, Some, refl, sym, ap, ◌∙◌, subst, inl, inr, ◌⊎◌, append-nil}
 use Rattle.verilog_tree.specs.declared.names.Kind.TheVariants as K
-use Rattle.verilog_tree.specs.declared.tree.BinOp.TheVariants as B
-use Rattle.verilog_tree.specs.Plain.{Expression, Net, Literal, Infixed, Conditional, Statement, SetTo, IfElse, CaseOf, statements, ModuleItem}
+use Rattle.verilog_tree.specs.Plain.{Expression, Net, Literal, Conditional, Statement, SetTo, IfElse, CaseOf, statements, ModuleItem}
 use Rattle.verilog_tree.specs.Names.{Declaration, declarations, item_declarations}
 use Rattle.verilog_tree.specs.Meaning.{names_widths, last_set}
 use Rattle.verilog_tree.proofs.Clean.{Each, found}
 use Rattle.verilog_open.specs.Open.{OpenEnv, open_choice, open_value, open_sets, open_block_sets, open_next}
 use Rattle.verilog_open.specs.Known.{Known, AreKnown, RegistersKnown, SetsKnown, IsGiven}
 use Rattle.verilog_open.proofs.Known.{known_value, known_last, known_given}
-use Rattle.rtl_layout.specs.Build.{lit, one_more, in_halves}
-use Rattle.rtl_layout.specs.Plan.{Plan, several}
+use Rattle.verilog_tree.specs.Meaning.{bit}
+use Rattle.rtl_layout.specs.Plan.{Plan, several, several_bits}
 use Rattle.rtl_layout.specs.Shows.{Ready}
 use Rattle.rtl_layout.specs.Layout as L
-use Rattle.rtl_layout.proofs.Ranked.{Under, also, pattern_under}
+use Rattle.rtl_layout.proofs.Ranked.{Under, also, element_under, next_under, in_row_under, pattern_under}
 use Rattle.rtl_layout.proofs.Stages.{Ageless, later}
 use Rattle.rtl_layout.proofs.Clear.{clear, taint, uses_clear, not_true}
 
@@ -72,13 +71,18 @@ blocks_behind w o many k i zero rest = refl
 blocks_behind w o true k i (suc n) rest = blocks_behind w o true k (suc i) n rest
 blocks_behind w o false k i (suc n) rest = blocks_behind w o false k (suc i) n rest
 
+one_blocks_none : (w : List ℕ → ℕ) (o : OpenEnv) (wide : Bool) (rest : List ModuleItem) → open_block_sets w o (L.one_reg wide ++ rest) ≡ open_block_sets w o rest
+one_blocks_none w o true rest = refl
+one_blocks_none w o false rest = refl
+
 module _ (p : Plan) where
   abbrev w : List ℕ → ℕ
   w = names_widths (L.self_test p)
 
   next_is : (o : OpenEnv) (n : List ℕ) → open_next (L.self_test p) o n ≡ last_set n (open_sets w o (statements (L.sets_all p))) (o n)
   next_is o n =
-      ap (λ l. last_set n l (o n)) (blocks_behind w o (several p) p.back_width 0 p.delay (L.items_after p) ∙ append-nil (open_sets w o (statements (L.sets_all p))))
+      ap (λ l. last_set n l (o n))
+      (one_blocks_none w o (several_bits p) (L.stage_regs (several p) p.back_width 0 p.delay ++ L.items_after p) ∙ blocks_behind w o (several p) p.back_width 0 p.delay (L.items_after p) ∙ append-nil (open_sets w o (statements (L.sets_all p))))
 
 -- the ages take what is clear
 ages_pure : (many : Bool) (k i n : ℕ) (rest : List Statement) → PureSets rest → PureSets (L.stage_sets many k i n ++ rest)
@@ -94,9 +98,6 @@ ages_pure false k (suc i) (suc n) rest h =
     ((λ c. ((refl, tt, refl), refl)), ((λ c. ((refl, tt, refl), refl)), ((λ c. ((refl, tt, refl), refl)), ages_pure false k (suc (suc i)) n rest h)))
 
 -- ---- the digits and the ends
-
-more_under : (r : List ℕ) (k : ℕ) → nat_lt (taint r) 1 ≡ true → Under taint 1 (one_more r k)
-more_under r k h = elim (nat_lt k 9) as (λ t. Under taint 1 (cond t (Infixed B.Add (Net r) (lit k 1)) (in_halves r k (k / 2)))) [ true ↦ (h, tt) | false ↦ ((h, (h, tt), h), ((h, tt), tt)) ]
 
 back_low : (many : Bool) (i : ℕ) → nat_lt (taint (L.back_at many i)) 1 ≡ true
 back_low many zero = refl
@@ -117,17 +118,24 @@ module _ (p : Plan) (ready : Ready p) where
   ends_pure : PureSets (L.end_sets p)
   ends_pure = ((λ c. not_true c), ((λ c. not_true c), tt))
 
+  one_set_pure : (wide : Bool) (rest : List Statement) → PureSets rest → PureSets (L.one_set p wide ++ rest)
+  one_set_pure true rest h =
+      let next = next_under p ready taint 1 (λ x. bit (L.begins_one x)) refl in
+      let again = element_under p ready taint 1 1 (λ x. bit (L.begins_one x)) refl in
+      let more = in_row_under p ready taint 1 L.ones refl refl in
+      ((λ c. ((refl, tt, (refl, (refl, (refl, next, again), more), refl)), refl)), h)
+  one_set_pure false rest h = h
+
   all_pure : PureSets (L.sets_all p)
   all_pure =
-      also (λ c. ((refl, tt, (refl, (refl, tt, more_under L.oper p.oper_width refl), refl)), refl))
-      (also (λ c. ((refl, tt, (refl, (refl, (refl, tt, more_under L.visit p.visit_width refl), refl), refl)), refl))
-      (also (λ c. ((refl, tt, (refl, (refl, (refl, (refl, tt, more_under L.element p.element_width refl), refl), refl), refl)), refl))
-      (also (λ c. ((refl, tt, (refl, (refl, (refl, (refl, (refl, tt, more_under L.back p.back_width refl), refl), refl), refl), refl)), refl))
+      also (λ c. ((refl, tt, (refl, (refl, tt, (refl, tt)), refl)), refl))
+      (also (λ c. ((refl, tt, (refl, (refl, (refl, tt, (refl, tt)), refl), refl)), refl))
+      (also (λ c. ((refl, tt, (refl, (refl, (refl, (refl, tt, (refl, tt)), refl), refl), refl)), refl))
+      (also (λ c. ((refl, tt, (refl, (refl, (refl, (refl, (refl, tt, (refl, tt)), refl), refl), refl), refl)), refl))
       (also (λ c. ((refl, tt, (refl, (refl, (refl, (refl, (refl, tt, refl), refl), refl), refl), refl)), refl))
       (also (λ c. ((refl, tt, (refl, (refl, (refl, refl, refl), refl), refl)), refl))
       (also (λ c. ((refl, tt, (refl, (refl, (refl, (refl, tt, tt), (refl, (refl, tt, tt))), refl), refl)), refl))
-      (also (λ c. ((refl, tt, (refl, (refl, (refl, refl, refl), refl), refl)), refl))
-      (ages_pure (several p) p.back_width 0 p.delay (L.end_sets p) ends_pure))))))))
+      (one_set_pure (several_bits p) (L.stage_sets (several p) p.back_width 0 p.delay ++ L.end_sets p) (ages_pure (several p) p.back_width 0 p.delay (L.end_sets p) ends_pure))))))))
 
 -- ---- each register is set
 
@@ -177,8 +185,16 @@ wire_no_register : {P : Type 0} → K.Wire ≡ K.Register → P
 wire_no_register h = cc
 
 module _ (p : Plan) where
-  behind_digits : (m : List ℕ) → IsSet m (L.stage_sets (several p) p.back_width 0 p.delay ++ L.end_sets p) → IsSet m (L.sets_all p)
-  behind_digits m s = inr (inr (inr (inr (inr (inr (inr (inr s)))))))
+  -- what stands behind the digits and the operation's bit
+  abbrev Behind : List Statement
+  Behind = L.stage_sets (several p) p.back_width 0 p.delay ++ L.end_sets p
+
+  behind_digits : (m : List ℕ) → IsSet m Behind → IsSet m (L.sets_all p)
+  behind_digits m s = inr (inr (inr (inr (inr (inr (inr (set_behind m (L.one_set p (several_bits p)) Behind s)))))))
+
+  one_each : (wide : Bool) → several_bits p ≡ wide → (rest : List ModuleItem) → Each (IsSetRegister p) (item_declarations rest) → Each (IsSetRegister p) (item_declarations (L.one_reg wide ++ rest))
+  one_each true h rest e = ((λ k. inr (inr (inr (inr (inr (inr (inr (subst (λ (t : Bool). IsSet L.one (L.one_set p t ++ Behind)) (sym h) (inl refl))))))))), e)
+  one_each false h rest e = e
 
   ends_set : ((m : List ℕ) → IsSet m (L.end_sets p) → IsSet m (L.sets_all p)) → Each (IsSetRegister p) (item_declarations (L.items_after p))
   ends_set up =
@@ -201,9 +217,7 @@ module _ (p : Plan) where
       (also (λ e. wire_no_register e)
       (also (λ e. wire_no_register e)
       (also (λ e. wire_no_register e)
-      (also (λ e. wire_no_register e)
-      (also (λ e. wire_no_register e)
-      tt))))))))))))))))))))
+      tt))))))))))))))))))
 
   all_set : Each (IsSetRegister p) (declarations (L.ports p) (L.items p))
   all_set =
@@ -223,7 +237,7 @@ module _ (p : Plan) where
       (also (λ e. inr (inr (inr (inr (inl refl)))))
       (also (λ e. inr (inr (inr (inr (inr (inl refl))))))
       (also (λ e. inr (inr (inr (inr (inr (inr (inl refl)))))))
-      (also (λ e. inr (inr (inr (inr (inr (inr (inr (inl refl))))))))
+      (one_each (several_bits p) refl (L.stage_regs (several p) p.back_width 0 p.delay ++ L.items_after p)
       (ages_each (IsSetRegister p) (λ m. IsSet m (L.sets_all p)) (λ n k q e. q) (several p) p.back_width 0 p.delay (L.end_sets p) (L.items_after p) behind_digits ends_set)))))))))))))))))
 
 -- ---- the registers behind an edge
@@ -273,19 +287,19 @@ module _ (p : Plan) (ready : Ready p) (o : OpenEnv) where
   set_to_number n h s =
       subst Known (sym (next_is p o n)) (known_given n (open_sets (w p) o (statements (L.sets_all p))) (o n) (numbers_set n (L.sets_all p) h) (set_given (w p) o n (L.sets_all p) (all_pure p ready) s))
 
-  -- what stands behind the digits
-  abbrev Behind : List Statement
-  Behind = L.stage_sets (several p) p.back_width 0 p.delay ++ L.end_sets p
+  one_set_none : (n : List ℕ) (wide : Bool) → bytes_eq n L.one ≡ false → (ss : List Statement) → SetsNumber n ss → SetsNumber n (L.one_set p wide ++ ss)
+  one_set_none n true f ss h = ((λ c. unlike _ f c), h)
+  one_set_none n false f ss h = h
 
   pub want_kept : AreKnown clear o → Known (open_next (L.self_test p) o L.want)
   want_kept all =
       let value = known_value (w p) o (L.want_next p) (λ m u. all m (uses_clear (L.want_next p) m (want_under p ready) u)) in
       let behind = ages_set_none L.want (several p) p.back_width 0 p.delay (record { no_reads = λ j l. refl; no_over = λ j l. refl; no_value = λ j l. refl; no_back = λ j l. refl }) (L.end_sets p) ((λ c. value), ((λ c. not_true c), tt)) in
-      set_to_number L.want ((λ c. not_true c), ((λ c. not_true c), ((λ c. not_true c), ((λ c. not_true c), ((λ c. not_true c), ((λ c. not_true c), ((λ c. not_true c), ((λ c. not_true c), behind))))))))
+      set_to_number L.want ((λ c. not_true c), ((λ c. not_true c), ((λ c. not_true c), ((λ c. not_true c), ((λ c. not_true c), ((λ c. not_true c), ((λ c. not_true c), one_set_none L.want (several_bits p) refl (Behind p) behind)))))))
       (behind_digits p L.want (set_behind L.want (L.stage_sets (several p) p.back_width 0 p.delay) (L.end_sets p) (inl refl)))
 
   pub bad_set : Known (open_value (w p) o (L.bad_next p)) → Known (open_next (L.self_test p) o L.bad)
   bad_set value =
       let behind = ages_set_none L.bad (several p) p.back_width 0 p.delay (record { no_reads = λ j l. refl; no_over = λ j l. refl; no_value = λ j l. refl; no_back = λ j l. refl }) (L.end_sets p) ((λ c. not_true c), ((λ c. value), tt)) in
-      set_to_number L.bad ((λ c. not_true c), ((λ c. not_true c), ((λ c. not_true c), ((λ c. not_true c), ((λ c. not_true c), ((λ c. not_true c), ((λ c. not_true c), ((λ c. not_true c), behind))))))))
+      set_to_number L.bad ((λ c. not_true c), ((λ c. not_true c), ((λ c. not_true c), ((λ c. not_true c), ((λ c. not_true c), ((λ c. not_true c), ((λ c. not_true c), one_set_none L.bad (several_bits p) refl (Behind p) behind)))))))
       (behind_digits p L.bad (set_behind L.bad (L.stage_sets (several p) p.back_width 0 p.delay) (L.end_sets p) (inr (inl refl))))

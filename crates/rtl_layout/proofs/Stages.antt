@@ -1,4 +1,4 @@
--- The registers of the ages: what passes them by, and what they take.
+-- The register of the operation's bit and those of the ages: what passes them by, and what the ages take.
 use Rattle.std.proofs.Common.{◌≡◌, ◌≢◌, Option, Some, ℕ, zero, suc, ◌+◌, ◌<◌, ◌≤◌, Bool, true, false, cond, List, [], ◌∷◌, ◌++◌, length, refl, sym, ap, ◌∙◌, subst, arith, codes}
 use Rattle.std.specs.Str.{bytes_eq}
 use Rattle.verilog_tree.specs.Plain.{Statement, statements, ModuleItem}
@@ -7,9 +7,42 @@ use Rattle.verilog_tree.specs.declared.names.Kind.TheVariants as K
 use Rattle.verilog_tree.specs.Meaning.{Env, bit, truth, value, AllGiven, Equations, block_sets, sets, last_set}
 use Rattle.std.proofs.lemmas.Slice.Eq.{bytes_eq-Decides}
 use Rattle.verilog_tree.proofs.Clean.{same_bytes}
-use Rattle.rtl_layout.specs.Layout.{reads_at, over_at, value_at, back_at, aged, back, stage_regs, stage_sets, feed_reads, feed_over, reset}
+use Rattle.rtl_layout.specs.Layout.{reads_at, over_at, value_at, back_at, aged, back, one, one_reg, one_set, digit_sets, stage_regs, stage_sets, feed_reads, feed_over, reset}
+use Rattle.rtl_layout.specs.Plan.{Plan}
 use Rattle.rtl_layout.specs.Control.{Stage, oldest, younger, quiet}
 use Rattle.rtl_layout.specs.inner.Shows.{ShowsStage, ShowsStages}
+
+-- ---- what stands behind the register of the operation's bit, where there is one
+
+pub given_behind_one : (regs ins e : Env) (wide : Bool) (rest : List ModuleItem) → AllGiven regs ins e (item_declarations (one_reg wide ++ rest)) → AllGiven regs ins e (item_declarations rest)
+given_behind_one regs ins e true rest h = h.1
+given_behind_one regs ins e false rest h = h
+
+pub equations_behind_one : (ws : List ℕ → ℕ) (e : Env) (wide : Bool) (rest : List ModuleItem) → Equations ws e (one_reg wide ++ rest) → Equations ws e rest
+equations_behind_one ws e true rest h = h
+equations_behind_one ws e false rest h = h
+
+pub blocks_behind_one : (ws : List ℕ → ℕ) (e : Env) (wide : Bool) (rest : List ModuleItem) → block_sets ws e (one_reg wide ++ rest) ≡ block_sets ws e rest
+blocks_behind_one ws e true rest = refl
+blocks_behind_one ws e false rest = refl
+
+passed_one : (t : Bool) (a old : ℕ) → t ≡ false → cond t a old ≡ old
+passed_one t a old h = rw h refl
+
+pub sets_behind_one : (ws : List ℕ → ℕ) (e : Env) (n : List ℕ) (p : Plan) (wide : Bool) → bytes_eq n one ≡ false → (ss : List Statement) (old : ℕ)
+    → last_set n (sets ws e (statements (one_set p wide ++ ss))) old ≡ last_set n (sets ws e (statements ss)) old
+sets_behind_one ws e n p true h ss old = ap (λ v. last_set n (sets ws e (statements ss)) v) (passed_one (bytes_eq n one) _ old h)
+sets_behind_one ws e n p false h ss old = refl
+
+-- what the digits and it leave behind, whatever the name
+pub left_behind_one : (ws : List ℕ → ℕ) (e : Env) (n : List ℕ) (p : Plan) (wide : Bool) (ss : List Statement) (v old : ℕ) → v ≡ last_set n (sets ws e (statements (digit_sets p ++ (one_set p wide ++ ss)))) old
+    → (left : ℕ) × (v ≡ last_set n (sets ws e (statements ss)) left)
+left_behind_one ws e n p true ss v old h = (_, h)
+left_behind_one ws e n p false ss v old h = (_, h)
+
+pub lookup_behind_one : (n : List ℕ) (wide : Bool) → bytes_eq n one ≡ false → (rest : List ModuleItem) → lookup (item_declarations (one_reg wide ++ rest)) n ≡ lookup (item_declarations rest) n
+lookup_behind_one n true h rest = ap (λ t. cond t (Some (record { name = one; kind = K.Register; width = 1 })) (lookup (item_declarations rest) n)) h
+lookup_behind_one n false h rest = refl
 
 -- ---- what stands behind the declarations of the ages
 
@@ -34,9 +67,6 @@ pub record Ageless (i : ℕ) (n : List ℕ) : Type 0 where
   pub no_over : (j : ℕ) → i ≤ j → bytes_eq n (over_at (suc j)) ≡ false
   pub no_value : (j : ℕ) → i ≤ j → bytes_eq n (value_at (suc j)) ≡ false
   pub no_back : (j : ℕ) → i ≤ j → bytes_eq n (aged back (suc j)) ≡ false
-
-passed_one : (t : Bool) (a old : ℕ) → t ≡ false → cond t a old ≡ old
-passed_one t a old h = rw h refl
 
 passed : (t u : Bool) (a b old : ℕ) → t ≡ false → u ≡ false → cond u b (cond t a old) ≡ old
 passed t u a b old h k = rw (h, k) refl

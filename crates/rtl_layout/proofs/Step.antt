@@ -9,8 +9,8 @@ use Rattle.verilog_tree.specs.Names.{declared_width, width_of}
 use Rattle.verilog_tree.specs.Meaning.{Env, bit, truth, value, width, names_widths, Settles, sets, last_set, next}
 use Rattle.rtl_layout.specs.Build.{lit, choose, rotated, counted, number_of}
 use Rattle.rtl_layout.specs.declared.element.Operation.{Operation}
-use Rattle.rtl_layout.specs.Plan.{Element, Plan, several, port_word, limit, is_single}
-use Rattle.rtl_layout.specs.Layout.{reset, rdata, oper, visit, element, back, run, want, bad, writes, ones, ends, write, down, pause, one_more, one_again, one_next, ends_more, ends_again, ends_next, pause_next, last_oper, last_visit, last_element, last_back, live, pattern, word, reads_at, over_at, value_at, back_at, aged, row_width, by_element, by_next, flag_row, in_row, pattern_of, word_of, end_sets, self_test, feed_reads, feed_over}
+use Rattle.rtl_layout.specs.Plan.{Element, Plan, several, several_bits, port_word, limit, is_single}
+use Rattle.rtl_layout.specs.Layout.{reset, rdata, oper, visit, element, back, run, want, bad, writes, ones, ends, write, down, pause, one, ends_more, ends_again, ends_next, pause_next, last_oper, last_visit, last_element, last_back, live, pattern, word, reads_at, over_at, value_at, back_at, aged, row_width, by_element, by_next, flag_row, in_row, pattern_of, word_of, end_sets, self_test, feed_reads, feed_over}
 use Rattle.rtl_layout.specs.Layout as L
 use Rattle.rtl_layout.specs.Control.{Stage, Control, nothing, idle, element_at, background_at, operation_at, word_at, here, operation, is_live, now, ends_oper, ends_visit, ends_element, ends_back, turned, all, step, oldest, younger}
 use Rattle.rtl_layout.specs.Shows.{Ready, Sized}
@@ -217,7 +217,14 @@ module _ (p : Plan) (ready : Ready p) (sized : Sized p) (regs ins e : Env) (s : 
       ∙ ap (λ (o : Operation). bit o.write) operation_told
 
   pub is_value : e L.value ≡ bit (operation p c).bit
-  is_value = T.value_held p regs ins e s ∙ sh.value_is
+  is_value = T.value_is p regs ins e s ∙ held_or_told (several_bits p) refl
+    where
+      held_or_told : (t : Bool) → several_bits p ≡ t → value ws e (cond t (Net one) (in_row p ones)) ≡ bit (operation p c).bit
+      held_or_told true h = T.one_held p regs ins e s h ∙ sh.one_is h
+      held_or_told false h =
+          row_tells ones (L.ones_row p) (T.ones_is p regs ins e s)
+          ∙ ap (λ t. bit (cond t L.one_behind L.one_at (here p c) c.oper)) h
+          ∙ ap (λ (o : Operation). bit o.bit) operation_told
 
   pub is_down : e down ≡ bit (here p c).down
   is_down = T.down_is p regs ins e s ∙ element_tells 1 (λ x. bit x.down)
@@ -247,17 +254,19 @@ module _ (p : Plan) (ready : Ready p) (sized : Sized p) (regs ins e : Env) (s : 
   abbrev bit_at : ℕ → ℕ → Bool
   bit_at k o = (operation_at p k o).bit
 
-  is_one_more : ends_oper p c ≡ false → e one_more ≡ bit (bit_at c.element (c.oper + 1))
-  is_one_more h =
+  is_one_more : several_bits p ≡ true → ends_oper p c ≡ false → value ws e (in_row p ones) ≡ bit (bit_at c.element (c.oper + 1))
+  is_one_more wide h =
       let ne = not_equal c.oper (length (here p c).operations - 1) h in
       let l = sh.oper_in in
-      T.one_more_is p regs ins e s ∙ row_tells ones L.one_behind (T.ones_is p regs ins e s) ∙ ap (λ (o : Operation). bit o.bit) (any_default (here p c).operations (c.oper + 1) _ idle (omega arith))
+      row_tells ones (L.ones_row p) (T.ones_is p regs ins e s)
+      ∙ ap (λ t. bit (cond t L.one_behind L.one_at (here p c) c.oper)) wide
+      ∙ ap (λ (o : Operation). bit o.bit) (any_default (here p c).operations (c.oper + 1) _ idle (omega arith))
 
-  is_one_again : e one_again ≡ bit (bit_at c.element 0)
-  is_one_again = T.one_again_is p regs ins e s ∙ element_tells 1 (λ x. bit (L.begins_one x)) ∙ ap bit (begins p ready c.element)
+  is_one_again : value ws e (by_element p 1 (λ x. bit (L.begins_one x))) ≡ bit (bit_at c.element 0)
+  is_one_again = element_tells 1 (λ x. bit (L.begins_one x)) ∙ ap bit (begins p ready c.element)
 
-  is_one_next : e one_next ≡ bit (bit_at (turned (ends_element p c) c.element) 0)
-  is_one_next = T.one_next_is p regs ins e s ∙ next_tells (λ x. bit (L.begins_one x)) ∙ ap bit (begins p ready (turned (ends_element p c) c.element))
+  is_one_next : value ws e (by_next p (λ x. bit (L.begins_one x))) ≡ bit (bit_at (turned (ends_element p c) c.element) 0)
+  is_one_next = next_tells (λ x. bit (L.begins_one x)) ∙ ap bit (begins p ready (turned (ends_element p c) c.element))
 
   is_pause_next : e pause_next ≡ bit next_element.pause
   is_pause_next = T.pause_next_is p regs ins e s ∙ next_tells (λ x. bit x.pause)
@@ -360,31 +369,32 @@ module _ (p : Plan) (ready : Ready p) (sized : Sized p) (regs ins e : Env) (s : 
         ∙ ap (λ t. cond t (turned (ends_back p c) c.back) c.back) hold_4
 
     -- what the next operation has
-    turns : (r next again more : List ℕ) (first : Bool) (a b m h : ℕ) → e next ≡ a → e again ≡ b → e more ≡ m → e r ≡ h
+    turns : (r : List ℕ) (next again more : Expression) (first : Bool) (a b m h : ℕ) → value ws e next ≡ a → value ws e again ≡ b → value ws e more ≡ m → e r ≡ h
         → value ws e (L.turning r first next again more) ≡ cond (all (c.run ∷ [])) (cond (ends_oper p c) (cond (ends_visit p c) a b) m) h
     turns r next again more first a b m h na aa ma ra =
         let t = ends_oper p c in
         let u = ends_visit p c in
         on_zero (e reset) _ _ no_reset
-        ∙ step_while_is ws e (Net run ∷ []) (choose (Net last_oper) (choose (Net last_visit) (Net next) (Net again)) (Net more)) (Net r)
-        ∙ ap (λ b. cond b (cond (truth (e last_oper)) (cond (truth (e last_visit)) (e next) (e again)) (e more)) (e r)) hold_1
+        ∙ step_while_is ws e (Net run ∷ []) (choose (Net last_oper) (choose (Net last_visit) next again) more) (Net r)
+        ∙ ap (λ b. cond b (cond (truth (e last_oper)) (cond (truth (e last_visit)) (value ws e next) (value ws e again)) (value ws e more)) (e r)) hold_1
         ∙ ap (λ v. cond (all (c.run ∷ [])) v (e r))
         (by_bit t (e last_oper) _ _ is_last_oper
-        ∙ ap (λ v. cond t v (e more)) (by_bit u (e last_visit) (e next) (e again) is_last_visit ∙ ap (λ v. cond u v (e again)) na ∙ ap (λ v. cond u a v) aa)
+        ∙ ap (λ v. cond t v (value ws e more)) (by_bit u (e last_visit) (value ws e next) (value ws e again) is_last_visit ∙ ap (λ v. cond u v (value ws e again)) na ∙ ap (λ v. cond u a v) aa)
         ∙ ap (λ v. cond t (cond u a b) v) ma)
         ∙ ap (λ v. cond (all (c.run ∷ [])) (cond t (cond u a b) m) v) ra
 
     last_oper_goes : next (self_test p) e last_oper ≡ bit (ends_oper p (step p (ins rdata) c))
     last_oper_goes =
         T.next_last_oper p e
-        ∙ turns last_oper ends_next ends_again ends_more (is_single (element_at p 0)) _ _ _ _ is_ends_next is_ends_again is_ends_more is_last_oper
+        ∙ turns last_oper (Net ends_next) (Net ends_again) (Net ends_more) (is_single (element_at p 0)) _ _ _ _ is_ends_next is_ends_again is_ends_more is_last_oper
         ∙ oper_ends (λ k. length (element_at p k).operations) ready.has_operation c.run (ends_oper p c) (ends_visit p c) c.oper c.element (turned (ends_element p c) c.element) sh.oper_in refl
 
-    value_goes : next (self_test p) e L.value ≡ bit (operation p (step p (ins rdata) c)).bit
-    value_goes =
-        T.next_value p e
-        ∙ turns L.value one_next one_again one_more (L.begins_one (element_at p 0)) _ _ (e one_more) _ is_one_next is_one_again refl is_value
-        ∙ operation_turns bit_at c.run (ends_oper p c) (ends_visit p c) c.oper c.element (turned (ends_element p c) c.element) (e one_more) is_one_more
+    one_goes : several_bits p ≡ true → next (self_test p) e one ≡ bit (operation p (step p (ins rdata) c)).bit
+    one_goes wide =
+        T.next_one p e wide
+        ∙ turns one (by_next p (λ x. bit (L.begins_one x))) (by_element p 1 (λ x. bit (L.begins_one x))) (in_row p ones) (L.begins_one (element_at p 0)) _ _ (value ws e (in_row p ones)) _
+        is_one_next is_one_again refl (T.one_held p regs ins e s wide ∙ sh.one_is wide)
+        ∙ operation_turns bit_at c.run (ends_oper p c) (ends_visit p c) c.oper c.element (turned (ends_element p c) c.element) (value ws e (in_row p ones)) (is_one_more wide)
 
     last_visit_goes : next (self_test p) e last_visit ≡ bit (ends_visit p (step p (ins rdata) c))
     last_visit_goes =
@@ -456,7 +466,7 @@ module _ (p : Plan) (ready : Ready p) (sized : Sized p) (regs ins e : Env) (s : 
     Lefts k = (n : List ℕ) → (old : ℕ) × (next (self_test p) e n ≡ last_set n (sets ws e (statements (L.stage_sets (several p) p.back_width 0 k ++ end_sets p))) old)
 
     lefts : Lefts p.delay
-    lefts n = (_, T.next_is p e n)
+    lefts n = T.next_left p e n
 
     last_goes : (next (self_test p) e (reads_at (suc p.delay)) ≡ bit (oldest (now p c) c.stages).reads) × (next (self_test p) e (over_at (suc p.delay)) ≡ bit (oldest (now p c) c.stages).over)
     last_goes =
@@ -488,7 +498,7 @@ module _ (p : Plan) (ready : Ready p) (sized : Sized p) (regs ins e : Env) (s : 
       run_is = run_goes;
       last_oper_is = last_oper_goes;
       last_visit_is = last_visit_goes;
-      value_is = value_goes;
+      one_is = one_goes;
       stages_are = ages_go;
       reads_is = last_goes.0;
       over_is = last_goes.1;

@@ -10,17 +10,16 @@ use Rattle.verilog_tree.specs.Words.{is_name}
 use Rattle.verilog_tree.specs.Formed.{formed}
 use Rattle.verilog_tree.specs.Fits.{expression_fits, expressions_fit, statements_fit, item_fits, items_fit, ports_fit, fits}
 use Rattle.verilog_tree.specs.Meaning.{bit}
-use Rattle.rtl_layout.specs.Build.{lit, choose, bit_of, pick, rotated, counted, number_of, step_while, at_reset}
+use Rattle.rtl_layout.specs.Build.{lit, choose, bit_of, pick, rotated, counted, number_of, at_reset}
 use Rattle.rtl_layout.specs.declared.row.Row.{Row}
-use Rattle.rtl_layout.specs.Plan.{Element, Plan, several, port_word, is_single}
+use Rattle.rtl_layout.specs.Plan.{Element, Plan, several, several_bits, port_word, is_single}
 use Rattle.rtl_layout.specs.Layout as L
 use Rattle.rtl_layout.specs.Layout.{stage_regs, stage_sets, items_after, by_element, by_next, in_row, pattern_of, word_of, feed_reads, feed_over, self_test, reads_at, over_at, value_at, back_at, aged}
-use Rattle.rtl_layout.specs.Control.{nothing}
+use Rattle.rtl_layout.specs.Control.{nothing, element_at}
 use Rattle.rtl_layout.specs.Shows.{Ready, Sized}
 use Rattle.rtl_layout.proofs.Ranked.{pick_has}
 use Rattle.std.proofs.lemmas.Nat.{pow_pos}
 use Rattle.rtl_layout.proofs.Rows.{length_counted, length_rotated}
-use Rattle.rtl_layout.proofs.Counter.{either}
 use Rattle.rtl_layout.proofs.Forms.{both, is_formed}
 
 also : {A B : Type 0} → A → B → A × B
@@ -111,21 +110,24 @@ module _ (p : Plan) (ready : Ready p) (sized : Sized p) (few : p.delay < 4) (ele
   row_fits : (f : Element → ℕ → Bool) → Fit 64 (L.flag_row p f)
   row_fits f = more 63 64 (omega arith) (L.flag_row p f) (by_element_fits (L.row_width p) (λ x. number_of (map (f x) (counted (L.row_width p)))))
 
-  flag_fits : (f : Element → ℕ) → Fit 64 (by_element p 1 f)
-  flag_fits f = more 63 64 (omega arith) (by_element p 1 f) (by_element_fits 1 f)
+  flag_fits : (k : ℕ) → 16 ≤ k → (f : Element → ℕ) → Fit k (by_element p 1 f)
+  flag_fits k l f = more (0 + p.element_width) k (omega arith) (by_element p 1 f) (pick_fits 0 L.element p.element_width (λ (x : Element). lit 1 (f x)) nothing p.elements refl ready.has_element (λ j g. refl))
 
-  by_next_fits : (f : Element → ℕ) → Fit 64 (by_next p f)
-  by_next_fits f =
-      let l = length_rotated p.elements in
+  by_next_fits : (k : ℕ) → 16 ≤ k → (f : Element → ℕ) → Fit k (by_next p f)
+  by_next_fits k l f =
+      let m = length_rotated p.elements in
       let some = ready.has_element in
-      more (0 + p.element_width) 64 (omega arith) (by_next p f) (pick_fits 0 L.element p.element_width (λ (x : Element). lit 1 (f x)) nothing (rotated p.elements) refl (omega arith) (λ j g. refl))
+      more (0 + p.element_width) k (omega arith) (by_next p f) (pick_fits 0 L.element p.element_width (λ (x : Element). lit 1 (f x)) nothing (rotated p.elements) refl (omega arith) (λ j g. refl))
 
-  in_row_fits : (row : List ℕ) → is_name row ≡ true → Fit 64 (in_row p row)
-  in_row_fits row h =
-      let l = length_counted (L.row_width p) in
+  in_row_fits : (k : ℕ) → 16 ≤ k → (row : List ℕ) → is_name row ≡ true → Fit k (in_row p row)
+  in_row_fits k l row h =
+      let m = length_counted (L.row_width p) in
       let some = pow_pos p.oper_width in
-      more (0 + p.oper_width) 64 (omega arith) (in_row p row)
+      more (0 + p.oper_width) k (omega arith) (in_row p row)
       (pick_fits 0 L.oper p.oper_width (bit_of row (L.row_width p)) 0 (counted (L.row_width p)) refl (omega arith) (λ j g. bit_of_fits 0 row (L.row_width p) (slice_index_or (counted (L.row_width p)) j 0) h))
+
+  value_now_fits : Fit 64 (L.value_now p)
+  value_now_fits = elim (several_bits p) as (λ t. Fit 64 (cond t (Net L.one) (in_row p L.ones))) [ true ↦ refl | false ↦ in_row_fits 64 (omega arith) L.ones refl ]
 
   pattern_fits : (j : ℕ) → 16 ≤ j → (k : List ℕ) → is_name k ≡ true → Fit j (pattern_of p k)
   pattern_fits j l k h = more (0 + p.back_width) j (omega arith) (pattern_of p k) (pick_fits 0 k p.back_width (λ b. lit p.bits (port_word p false b)) 0 p.backgrounds h ready.has_background (λ j l. refl))
@@ -204,9 +206,22 @@ module _ (p : Plan) (ready : Ready p) (sized : Sized p) (few : p.delay < 4) (ele
     ),
   )
 
-  -- a counter whose next number is x
-  abbrev next_fits : List ℕ → ℕ → List Expression → List ℕ → Expression → Type 0
-  next_fits r w cs last x = Fit 63 (at_reset (lit w 0) (step_while cs (choose (Net last) (lit w 0) x) (Net r)))
+  -- three tables in one expression
+  one_fits : Fit 63 (L.one_next p)
+  one_fits =
+      let next = by_next p (λ x. bit (L.begins_one x)) in
+      let again = by_element p 1 (λ x. bit (L.begins_one x)) in
+      let first = choose (Net L.last_visit) next again in
+      let ends = choose (Net L.last_oper) first (in_row p L.ones) in
+      gated_fits 1 (bit (L.begins_one (element_at p 0))) (choose (Net L.run) ends (Net L.one))
+      (choose_fits 61 (Net L.run) ends (Net L.one) refl
+      (choose_fits 60 (Net L.last_oper) first (in_row p L.ones) refl
+      (choose_fits 59 (Net L.last_visit) next again refl (by_next_fits 59 (omega arith) (λ x. bit (L.begins_one x))) (flag_fits 59 (omega arith) (λ x. bit (L.begins_one x))))
+      (in_row_fits 60 (omega arith) L.ones refl)) refl)
+
+  one_set_fits : (wide : Bool) (ss : List Statement) → SetsFit ss → SetsFit (L.one_set p wide ++ ss)
+  one_set_fits true ss h = (refl, one_fits, h)
+  one_set_fits false ss h = h
 
   want_fits : Fit 63 (L.want_next p)
   want_fits =
@@ -220,14 +235,14 @@ module _ (p : Plan) (ready : Ready p) (sized : Sized p) (few : p.delay < 4) (ele
   block_fits =
       let inner = choose (Infixed Ne (Net L.rdata) (Net L.want)) (lit 1 1) (Net L.bad) in
       sets_fit (L.sets_all p)
-      (also_new refl (either (next_fits L.oper p.oper_width (Net L.run ∷ []) L.last_oper) L.oper p.oper_width (λ k. refl) (λ k. refl))
-      (also_new refl (either (next_fits L.visit p.visit_width (Net L.run ∷ Net L.last_oper ∷ []) L.last_visit) L.visit p.visit_width (λ k. refl) (λ k. refl))
-      (also_new refl (either (next_fits L.element p.element_width (Net L.run ∷ Net L.last_oper ∷ Net L.last_visit ∷ []) L.last_element) L.element p.element_width (λ k. refl) (λ k. refl))
-      (also_new refl (either (next_fits L.back p.back_width (Net L.run ∷ Net L.last_oper ∷ Net L.last_visit ∷ Net L.last_element ∷ []) L.last_back) L.back p.back_width (λ k. refl) (λ k. refl))
       (also_new refl refl
       (also_new refl refl
       (also_new refl refl
       (also_new refl refl
+      (also_new refl refl
+      (also_new refl refl
+      (also_new refl refl
+      (one_set_fits (several_bits p) (stage_sets (several p) p.back_width 0 p.delay ++ L.end_sets p)
       (stages_fit (several p) 0 p.delay (omega arith) (L.end_sets p)
       (also_new refl want_fits
       (also_new refl (gated_fits 1 0 (choose (Net (reads_at (suc p.delay))) inner (Net L.bad)) (choose_fits 61 (Net (reads_at (suc p.delay))) inner (Net L.bad) (reads_name p.delay few) refl refl))
@@ -240,6 +255,10 @@ module _ (p : Plan) (ready : Ready p) (sized : Sized p) (few : p.delay < 4) (ele
   all_fit : (is : List ModuleItem) → ItemsFit is → items_fit 64 is ≡ true
   all_fit [] h = refl
   all_fit (i ∷ is) h = both (item_fits 64 i) (items_fit 64 is) h.0 (all_fit is h.1)
+
+  one_item_fits : (wide : Bool) (rest : List ModuleItem) → ItemsFit rest → ItemsFit (L.one_reg wide ++ rest)
+  one_item_fits true rest h = (refl, h)
+  one_item_fits false rest h = h
 
   stage_items_fit : (many : Bool) (i n : ℕ) → i + n < 4 → (rest : List ModuleItem) → ItemsFit rest → ItemsFit (stage_regs many p.back_width i n ++ rest)
   stage_items_fit many i zero l rest h = (reads_name i (omega arith), (over_name i (omega arith), h))
@@ -267,21 +286,17 @@ module _ (p : Plan) (ready : Ready p) (sized : Sized p) (few : p.delay < 4) (ele
       (also refl
       (also refl
       (also refl
-      (also refl
-      (also refl
       (also (row_fits L.writes_at)
-      (also (row_fits L.one_behind)
+      (also (row_fits (L.ones_row p))
       (also (row_fits L.ends_behind)
-      (also (in_row_fits L.writes refl)
-      (also (flag_fits (λ x. bit x.down))
-      (also (flag_fits (λ x. bit x.pause))
-      (also (in_row_fits L.ones refl)
-      (also (flag_fits (λ x. bit (L.begins_one x)))
-      (also (by_next_fits (λ x. bit (L.begins_one x)))
-      (also (in_row_fits L.ends refl)
-      (also (flag_fits (λ x. bit (is_single x)))
-      (also (by_next_fits (λ x. bit (is_single x)))
-      (also (by_next_fits (λ x. bit x.pause))
+      (also (in_row_fits 64 (omega arith) L.writes refl)
+      (also value_now_fits
+      (also (flag_fits 64 (omega arith) (λ x. bit x.down))
+      (also (flag_fits 64 (omega arith) (λ x. bit x.pause))
+      (also (in_row_fits 64 (omega arith) L.ends refl)
+      (also (flag_fits 64 (omega arith) (λ x. bit (is_single x)))
+      (also (by_next_fits 64 (omega arith) (λ x. bit (is_single x)))
+      (also (by_next_fits 64 (omega arith) (λ x. bit x.pause))
       (also refl
       (also refl
       (also refl
@@ -295,7 +310,7 @@ module _ (p : Plan) (ready : Ready p) (sized : Sized p) (few : p.delay < 4) (ele
       (also (over_name p.delay few)
       (also refl
       (also block_fits
-      tt))))))))))))))))))))))))))))))))))))))))))))))
+      tt))))))))))))))))))))))))))))))))))))))))))
 
   items_are_fit : items_fit 64 (L.items p) ≡ true
   items_are_fit =
@@ -307,8 +322,7 @@ module _ (p : Plan) (ready : Ready p) (sized : Sized p) (few : p.delay < 4) (ele
       (also refl
       (also refl
       (also refl
-      (also refl
-      (stage_items_fit (several p) 0 p.delay (omega arith) (items_after p) after_fit)))))))))
+      (one_item_fits (several_bits p) (stage_regs (several p) p.back_width 0 p.delay ++ items_after p) (stage_items_fit (several p) 0 p.delay (omega arith) (items_after p) after_fit)))))))))
 
   pub all_fits : is_name p.name ≡ true → fits (self_test p) ≡ true
   all_fits n =

@@ -6,15 +6,19 @@ use Rattle.verilog_tree.specs.Plain.{statements, ModuleItem, AlwaysItem}
 use Rattle.verilog_tree.specs.Names.{Declaration, declarations, item_declarations, port_declarations, lookup, width_of, is_wire, may_be_clock, is_declared_as}
 use Rattle.verilog_tree.specs.Rules.{Break, Undriven, first_of, item_break, items_break, is_assigned, is_set, undriven, port_twice, port_clock, first_break}
 use Rattle.verilog_tree.proofs.Clean.{declarations_more}
-use Rattle.rtl_layout.specs.Plan.{Plan, several}
+use Rattle.rtl_layout.specs.Plan.{Plan, several, several_bits}
 use Rattle.rtl_layout.specs.Layout as L
 use Rattle.rtl_layout.specs.Layout.{stage_regs, aged, reads_at, over_at, value_at, end_regs, wires, digit_regs, items_after, self_test}
 use Rattle.rtl_layout.specs.Shows.{Ready, Sized}
-use Rattle.rtl_layout.proofs.Stages.{Ageless, lookup_behind, reads_ageless, over_ageless, value_ageless, back_ageless}
+use Rattle.rtl_layout.proofs.Stages.{Ageless, lookup_behind_one, lookup_behind, reads_ageless, over_ageless, value_ageless, back_ageless}
 use Rattle.verilog_tree.proofs.Sound.{GoodSets, good_block, Declares, declares_pass, declares_only, assigns_pass, Apart, fresh_of, two_none}
 use Rattle.rtl_layout.proofs.Legal.{declared, names, wide, ageless, block_good, assigns_good}
 
 -- ---- the ages among declarations
+
+one_declares : (wide : Bool) (rest : List ModuleItem) → Declares rest → Declares (L.one_reg wide ++ rest)
+one_declares true rest d = (refl, d)
+one_declares false rest d = d
 
 stages_declare : (many : Bool) (w i n : ℕ) (rest : List ModuleItem) → Declares rest → Declares (stage_regs many w i n ++ rest)
 stages_declare many w i zero rest d = (refl, (refl, d))
@@ -27,6 +31,10 @@ record Ages (rest : List ModuleItem) : Type 0 where
   no_over : (j : ℕ) → lookup (item_declarations rest) (over_at (suc j)) ≡ None
   no_value : (j : ℕ) → lookup (item_declarations rest) (value_at (suc j)) ≡ None
   no_back : (j : ℕ) → lookup (item_declarations rest) (aged L.back (suc j)) ≡ None
+
+one_apart : (wide : Bool) (rest : List ModuleItem) → lookup (item_declarations rest) L.one ≡ None → Apart (item_declarations rest) → Apart (item_declarations (L.one_reg wide ++ rest))
+one_apart true rest n h = (n, h)
+one_apart false rest n h = h
 
 stages_apart : (many : Bool) (w i n : ℕ) (rest : List ModuleItem) → Ages rest → Apart (item_declarations rest) → Apart (item_declarations (stage_regs many w i n ++ rest))
 stages_apart many w i zero rest a h = (a.no_reads i, (a.no_over i, h))
@@ -53,6 +61,14 @@ stages_apart false w i (suc n) rest a h = (
     ),
   ),
 )
+
+one_assigns : (wide : Bool) (rest : List ModuleItem) (m : List ℕ) → is_assigned (L.one_reg wide ++ rest) m ≡ is_assigned rest m
+one_assigns true rest m = refl
+one_assigns false rest m = refl
+
+one_driven : (is : List ModuleItem) (wide : Bool) (rest : List ModuleItem) → undriven is (item_declarations (L.one_reg wide ++ rest)) ≡ undriven is (item_declarations rest)
+one_driven is true rest = refl
+one_driven is false rest = refl
 
 stages_assign : (many : Bool) (w i n : ℕ) (rest : List ModuleItem) (m : List ℕ) → is_assigned (stage_regs many w i n ++ rest) m ≡ is_assigned rest m
 stages_assign many w i zero rest m = refl
@@ -83,41 +99,48 @@ module _ (p : Plan) (ready : Ready p) (sized : Sized p) where
   abbrev block : List ModuleItem
   block = AlwaysItem L.clk (statements (L.sets_all p)) ∷ []
 
+  -- the registers of the ages and what is declared behind them
+  abbrev Behind : List ModuleItem
+  Behind = stage_regs (several p) p.back_width 0 p.delay ++ (end_regs p ++ wires p)
+
   -- the items, with all declarations first
   pub in_order : declared p ++ (assigns ++ block) ≡ L.items p
-  in_order = ap (λ l. digit_regs p ++ l) (append_assoc (stage_regs (several p) p.back_width 0 p.delay) (end_regs p ++ wires p) (assigns ++ block))
+  in_order =
+      ap (λ l. digit_regs p ++ l)
+      (append_assoc (L.one_reg (several_bits p)) Behind (assigns ++ block)
+      ∙ ap (λ l. L.one_reg (several_bits p) ++ l) (append_assoc (stage_regs (several p) p.back_width 0 p.delay) (end_regs p ++ wires p) (assigns ++ block)))
 
   declares : Declares (declared p)
-  declares = (refl, (refl, (refl, (refl, (refl, (refl, (refl, (refl, stages_declare (several p) p.back_width 0 p.delay (end_regs p ++ wires p) (refl, (refl, (refl, (refl, (refl, (refl, (refl, (refl, (refl, (refl, (refl, (refl, (refl, (refl, (refl, (refl, (refl, (refl, (refl, (refl, (refl, tt)))))))))))))))))))))))))))))
+  declares = (refl, (refl, (refl, (refl, (refl, (refl, (refl, one_declares (several_bits p) Behind (stages_declare (several p) p.back_width 0 p.delay (end_regs p ++ wires p) (refl, (refl, (refl, (refl, (refl, (refl, (refl, (refl, (refl, (refl, (refl, (refl, (refl, (refl, (refl, (refl, (refl, (refl, (refl, tt)))))))))))))))))))))))))))
 
-  after : (n : List ℕ) → Ageless 0 n → lookup (item_declarations (stage_regs (several p) p.back_width 0 p.delay ++ (end_regs p ++ wires p))) n ≡ lookup (item_declarations (end_regs p ++ wires p)) n
+  after : (n : List ℕ) → Ageless 0 n → lookup (item_declarations Behind) n ≡ lookup (item_declarations (end_regs p ++ wires p)) n
   after n f = lookup_behind n (several p) p.back_width 0 p.delay f (end_regs p ++ wires p)
 
-  once : (n : List ℕ) → ((j : ℕ) → bytes_eq n (reads_at (suc j)) ≡ false) → ((j : ℕ) → bytes_eq n (over_at (suc j)) ≡ false) → ((j : ℕ) → bytes_eq n (value_at (suc j)) ≡ false) → ((j : ℕ) → bytes_eq n (aged L.back (suc j)) ≡ false)
-      → lookup (item_declarations (stage_regs (several p) p.back_width 0 p.delay ++ (end_regs p ++ wires p))) n ≡ lookup (item_declarations (end_regs p ++ wires p)) n
-  once n a b c d = after n (ageless n a b c d)
+  once : (n : List ℕ) → bytes_eq n L.one ≡ false → ((j : ℕ) → bytes_eq n (reads_at (suc j)) ≡ false) → ((j : ℕ) → bytes_eq n (over_at (suc j)) ≡ false) → ((j : ℕ) → bytes_eq n (value_at (suc j)) ≡ false) → ((j : ℕ) → bytes_eq n (aged L.back (suc j)) ≡ false)
+      → lookup (item_declarations (L.one_reg (several_bits p) ++ Behind)) n ≡ lookup (item_declarations (end_regs p ++ wires p)) n
+  once n o a b c d = lookup_behind_one n (several_bits p) o Behind ∙ after n (ageless n a b c d)
 
   pub apart : Apart (names p)
   apart =
-      also (once L.clk (λ j. refl) (λ j. refl) (λ j. refl) (λ j. refl))
-      (also (once L.reset (λ j. refl) (λ j. refl) (λ j. refl) (λ j. refl))
-      (also (once L.rdata (λ j. refl) (λ j. refl) (λ j. refl) (λ j. refl))
-      (also (once L.en (λ j. refl) (λ j. refl) (λ j. refl) (λ j. refl))
-      (also (once L.we (λ j. refl) (λ j. refl) (λ j. refl) (λ j. refl))
-      (also (once L.addr (λ j. refl) (λ j. refl) (λ j. refl) (λ j. refl))
-      (also (once L.wdata (λ j. refl) (λ j. refl) (λ j. refl) (λ j. refl))
-      (also (once L.done (λ j. refl) (λ j. refl) (λ j. refl) (λ j. refl))
-      (also (once L.fail (λ j. refl) (λ j. refl) (λ j. refl) (λ j. refl))
-      (also (once L.oper (λ j. refl) (λ j. refl) (λ j. refl) (λ j. refl))
-      (also (once L.visit (λ j. refl) (λ j. refl) (λ j. refl) (λ j. refl))
-      (also (once L.element (λ j. refl) (λ j. refl) (λ j. refl) (λ j. refl))
-      (also (once L.back (λ j. refl) (λ j. refl) (λ j. refl) (λ j. refl))
-      (also (once L.run (λ j. refl) (λ j. refl) (λ j. refl) (λ j. refl))
-      (also (once L.last_oper (λ j. refl) (λ j. refl) (λ j. refl) (λ j. refl))
-      (also (once L.last_visit (λ j. refl) (λ j. refl) (λ j. refl) (λ j. refl))
-      (also (once L.value (λ j. refl) (λ j. refl) (λ j. refl) (λ j. refl))
+      also (once L.clk refl (λ j. refl) (λ j. refl) (λ j. refl) (λ j. refl))
+      (also (once L.reset refl (λ j. refl) (λ j. refl) (λ j. refl) (λ j. refl))
+      (also (once L.rdata refl (λ j. refl) (λ j. refl) (λ j. refl) (λ j. refl))
+      (also (once L.en refl (λ j. refl) (λ j. refl) (λ j. refl) (λ j. refl))
+      (also (once L.we refl (λ j. refl) (λ j. refl) (λ j. refl) (λ j. refl))
+      (also (once L.addr refl (λ j. refl) (λ j. refl) (λ j. refl) (λ j. refl))
+      (also (once L.wdata refl (λ j. refl) (λ j. refl) (λ j. refl) (λ j. refl))
+      (also (once L.done refl (λ j. refl) (λ j. refl) (λ j. refl) (λ j. refl))
+      (also (once L.fail refl (λ j. refl) (λ j. refl) (λ j. refl) (λ j. refl))
+      (also (once L.oper refl (λ j. refl) (λ j. refl) (λ j. refl) (λ j. refl))
+      (also (once L.visit refl (λ j. refl) (λ j. refl) (λ j. refl) (λ j. refl))
+      (also (once L.element refl (λ j. refl) (λ j. refl) (λ j. refl) (λ j. refl))
+      (also (once L.back refl (λ j. refl) (λ j. refl) (λ j. refl) (λ j. refl))
+      (also (once L.run refl (λ j. refl) (λ j. refl) (λ j. refl) (λ j. refl))
+      (also (once L.last_oper refl (λ j. refl) (λ j. refl) (λ j. refl) (λ j. refl))
+      (also (once L.last_visit refl (λ j. refl) (λ j. refl) (λ j. refl) (λ j. refl))
+      (one_apart (several_bits p) Behind (after L.one (ageless L.one (λ j. refl) (λ j. refl) (λ j. refl) (λ j. refl)))
       (stages_apart (several p) p.back_width 0 p.delay (end_regs p ++ wires p) (record { no_reads = λ j. refl; no_over = λ j. refl; no_value = λ j. refl; no_back = λ j. refl })
-      (refl, (refl, (refl, (refl, (refl, (refl, (refl, (refl, (refl, (refl, (refl, (refl, (refl, (refl, (refl, (refl, (refl, (refl, (refl, (refl, (refl, tt))))))))))))))))))))))))))))))))))))))
+      (refl, (refl, (refl, (refl, (refl, (refl, (refl, (refl, (refl, (refl, (refl, (refl, (refl, (refl, (refl, (refl, (refl, (refl, (refl, tt))))))))))))))))))))))))))))))))))))
 
   pub all_names : declarations (L.ports p) (L.items p) ≡ names p
   all_names = ap (λ l. declarations (L.ports p) l) (sym in_order) ∙ declarations_more (L.ports p) (declared p) (assigns ++ block) ∙ append-nil (names p)
@@ -137,7 +160,7 @@ module _ (p : Plan) (ready : Ready p) (sized : Sized p) where
       (assigns_pass (wide p) (L.ports p) (names p) block ends (declared p) assigns [] refl (λ n. (declares_only (declared p) declares n).0) (λ n. (declares_only (declared p) declares n).1) (assigns_good p ready sized)))
 
   is_driven : (n : List ℕ) → is_assigned (items_after p) n ≡ true → not (is_assigned (L.items p) n) ≡ false
-  is_driven n h = ap not (stages_assign (several p) p.back_width 0 p.delay (items_after p) n ∙ h)
+  is_driven n h = ap not (one_assigns (several_bits p) (stage_regs (several p) p.back_width 0 p.delay ++ items_after p) n ∙ stages_assign (several p) p.back_width 0 p.delay (items_after p) n ∙ h)
 
   ports_driven : undriven (L.items p) (port_declarations (L.ports p)) ≡ None
   ports_driven = driven (L.items p) (port_declarations (L.ports p))
@@ -145,7 +168,8 @@ module _ (p : Plan) (ready : Ready p) (sized : Sized p) where
 
   wires_driven : undriven (L.items p) (item_declarations (L.items p)) ≡ None
   wires_driven =
-      stages_driven (L.items p) (several p) p.back_width 0 p.delay (items_after p)
+      one_driven (L.items p) (several_bits p) (stage_regs (several p) p.back_width 0 p.delay ++ items_after p)
+      ∙ stages_driven (L.items p) (several p) p.back_width 0 p.delay (items_after p)
       ∙ driven (L.items p) (item_declarations (items_after p)) (refl, (refl, all_driven))
     where
       all_driven : Driven (L.items p) (item_declarations (wires p))
@@ -154,11 +178,9 @@ module _ (p : Plan) (ready : Ready p) (sized : Sized p) where
           (also (is_driven L.ones refl)
           (also (is_driven L.ends refl)
           (also (is_driven L.write refl)
+          (also (is_driven L.value refl)
           (also (is_driven L.down refl)
           (also (is_driven L.pause refl)
-          (also (is_driven L.one_more refl)
-          (also (is_driven L.one_again refl)
-          (also (is_driven L.one_next refl)
           (also (is_driven L.ends_more refl)
           (also (is_driven L.ends_again refl)
           (also (is_driven L.ends_next refl)
@@ -169,7 +191,7 @@ module _ (p : Plan) (ready : Ready p) (sized : Sized p) where
           (also (is_driven L.index refl)
           (also (is_driven L.pattern refl)
           (also (is_driven L.word refl)
-          tt))))))))))))))))))
+          tt))))))))))))))))
 
   none_5 : (a b c d e : Option Break) → a ≡ None → b ≡ None → c ≡ None → d ≡ None → e ≡ None → first_of (a ∷ b ∷ c ∷ d ∷ e ∷ []) ≡ None
   none_5 a b c d e p q r s t = rw (p, q, r, s, t) refl

@@ -37,6 +37,10 @@ port_word p v b = bit_xor (cond v (2 ^ p.bits - 1 - b) b) p.polarity
 abbrev pub several : Plan → Bool
 several p = nat_lt 1 (length p.backgrounds)
 
+-- whether a word has several bits
+abbrev pub several_bits : Plan → Bool
+several_bits p = nat_lt 1 p.bits
+
 -- whether an element has one operation
 abbrev pub is_single : Element → Bool
 is_single x = nat_eq (length x.operations) 1

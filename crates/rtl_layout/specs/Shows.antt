@@ -7,37 +7,13 @@ use Rattle.rtl_layout.specs.Plan.{Plan}
 use Rattle.rtl_layout.specs.Layout.{reset, rdata, self_test, en, we, addr, wdata, done, fail}
 use Rattle.rtl_layout.specs.Control.{Control, Ports, start, step, outputs, logical, element_at, background_at}
 
--- the numbers of a plan fit
-pub record Ready (p : Plan) : Type 0 where
-  pub has_element : 0 < length p.elements
-  pub has_background : 0 < length p.backgrounds
-  pub has_operation : (k : ℕ) → 0 < length (element_at p k).operations
-  pub has_word : 0 < p.words
-  pub has_pause : 0 < p.pause
-  pub elements_fit : length p.elements ≤ 2 ^ p.element_width
-  pub backgrounds_fit : length p.backgrounds ≤ 2 ^ p.back_width
-  pub words_fit : p.words ≤ 2 ^ p.visit_width
-  pub pause_fits : p.pause ≤ 2 ^ p.visit_width
-  pub operations_fit : (k : ℕ) → length (element_at p k).operations ≤ 2 ^ p.oper_width
-  pub index_fits : p.words ≤ 2 ^ p.addr_width
-  pub addr_some : 1 ≤ p.addr_width
-
--- The ports answer for the controller: the address where a command goes out.
-pub record Answers (p : Plan) (q : Ports) (e : Env) : Type 0 where
-  pub en_is : e en ≡ bit q.en
-  pub we_is : e we ≡ bit q.we
-  pub addr_is : q.en ≡ true → e addr ≡ logical p q.index
-  pub wdata_is : e wdata ≡ q.wdata
-  pub done_is : e done ≡ bit q.done
-  pub fail_is : e fail ≡ bit q.fail
-
 abbrev pub no_row : Row
 no_row = record { mask = 0; flip = false }
 
 abbrev pub mask_at : Plan → ℕ → ℕ
 mask_at p j = (slice_index_or p.rows j no_row).mask
 
--- the widths of a plan are those of its module
+-- the widths of a plan are those that a module can have, and its words fit
 pub record Sized (p : Plan) : Type 0 where
   pub addr_some : 1 ≤ p.addr_width
   pub addr_narrow : p.addr_width ≤ 64
@@ -57,6 +33,30 @@ pub record Sized (p : Plan) : Type 0 where
   pub masks_fit : (j : ℕ) → j < length p.rows → mask_at p j < 2 ^ p.addr_width
   pub grounds_fit : (j : ℕ) → j < length p.backgrounds → background_at p j < 2 ^ p.bits
   pub polarity_fits : p.polarity < 2 ^ p.bits
+
+-- the numbers of a plan fit, and its widths are those of its module
+pub record Ready (p : Plan) : Type 0 where
+  pub sized : Sized p
+  pub has_element : 0 < length p.elements
+  pub has_background : 0 < length p.backgrounds
+  pub has_operation : (k : ℕ) → 0 < length (element_at p k).operations
+  pub has_word : 0 < p.words
+  pub has_pause : 0 < p.pause
+  pub elements_fit : length p.elements ≤ 2 ^ p.element_width
+  pub backgrounds_fit : length p.backgrounds ≤ 2 ^ p.back_width
+  pub words_fit : p.words ≤ 2 ^ p.visit_width
+  pub pause_fits : p.pause ≤ 2 ^ p.visit_width
+  pub operations_fit : (k : ℕ) → length (element_at p k).operations ≤ 2 ^ p.oper_width
+  pub index_fits : p.words ≤ 2 ^ p.addr_width
+
+-- The ports answer for the controller: the address where a command goes out.
+pub record Answers (p : Plan) (q : Ports) (e : Env) : Type 0 where
+  pub en_is : e en ≡ bit q.en
+  pub we_is : e we ≡ bit q.we
+  pub addr_is : q.en ≡ true → e addr ≡ logical p q.index
+  pub wdata_is : e wdata ≡ q.wdata
+  pub done_is : e done ≡ bit q.done
+  pub fail_is : e fail ≡ bit q.fail
 
 abbrev pub NoReset : List Env → Type 0
 NoReset [] = Unit {0}
@@ -78,7 +78,6 @@ AnswersAlways p =
 -- A plan of a module that can be written: at most four ages, which have a digit each, and names that are legal.
 pub record IsPlan (p : Plan) : Type 0 where
   pub ready : Ready p
-  pub sized : Sized p
   pub few_ages : p.delay ≤ 3
   pub few_elements : length p.elements ≤ 64
   pub few_backgrounds : length p.backgrounds ≤ 8

@@ -103,43 +103,27 @@ pub fn back_at(many: bool, age: u8) -> Name
     }
 }
 
-// Whether a read was commanded `age` cycles ago.
-fn feed_reads(alloc: Global, age: u8) -> Result<Expr, AllocError>
-    requires { age ≤ 4 }
-    ensures { IfOk result (λ x. plain x ≡ L.feed_reads age) }
-{
-    if age == 0 {
-        choose(alloc, net(name("write")), flag(false), net(name("live")))
-    } else {
-        Ok(net(aged("reads", age)))
-    }
-}
-
-// Whether the run was over `age` cycles ago.
-fn feed_over(alloc: Global, age: u8) -> Result<Expr, AllocError>
-    requires { age ≤ 4 }
-    ensures { IfOk result (λ x. plain x ≡ L.feed_over age) }
-{
-    if age == 0 {
-        unary(alloc, UnOp::Not, net(name("run")))
-    } else {
-        Ok(net(aged("over", age)))
-    }
-}
-
+// Whether a read was commanded `age` cycles ago, and 0 in a cycle with reset.
 fn gated_reads(alloc: Global, age: u8) -> Result<Expr, AllocError>
     requires { age ≤ 4 }
     ensures { IfOk result (λ x. plain x ≡ L.gated (L.feed_reads age)) }
 {
-    let reads = feed_reads(alloc, age)?;
+    if age > 0 {
+        return gate(alloc, net(aged("reads", age)));
+    }
+    let reads = choose(alloc, net(name("write")), flag(false), net(name("live")))?;
     gate(alloc, reads)
 }
 
+// Whether the run was over `age` cycles ago, and 0 in a cycle with reset.
 fn gated_over(alloc: Global, age: u8) -> Result<Expr, AllocError>
     requires { age ≤ 4 }
     ensures { IfOk result (λ x. plain x ≡ L.gated (L.feed_over age)) }
 {
-    let over = feed_over(alloc, age)?;
+    if age > 0 {
+        return gate(alloc, net(aged("over", age)));
+    }
+    let over = unary(alloc, UnOp::Not, net(name("run")))?;
     gate(alloc, over)
 }
 

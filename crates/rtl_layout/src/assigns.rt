@@ -1,13 +1,15 @@
 //! The assigned wires.
-ghost use Rattle.std.specs.Prelude.{◌≡◌, ◌≤◌, IfOk, OnOk, map, ◌++◌, ◌∷◌, []};
-ghost use Rattle.verilog_tree.specs.Plain.{plain, plain_item, Net, AssignItem};
+ghost use Rattle.std.specs.Prelude.{◌≡◌, ◌<◌, ◌≤◌, ◌-◌, ◌^◌, IfOk, OnOk, map, ◌++◌, ◌∷◌, []};
+ghost use Rattle.verilog_tree.specs.Plain.{plain, plain_item, Net, Infixed, AssignItem};
+ghost use Rattle.verilog_tree.specs.declared.tree.BinOp.TheVariants.{Eq};
+ghost use Rattle.rtl_layout.specs.Build.{lit};
 ghost use Rattle.rtl_layout.specs.Layout as L;
 ghost use Rattle.rtl_layout.specs.inner.Layout as LInner;
 ghost use Rattle.rtl_layout.specs.Seen.{seen};
 
 use crate::flags::{ElementFlag, RowFlag};
 use crate::plan::Plan;
-use crate::tables::{by_element, by_next, flag_row, in_row, pattern, word_of};
+use crate::tables::{by_element, by_next, flag_row, has_several_bits, in_row, pattern, word_of};
 use crate::trees::{binary, choose, flag, literal, low, name, net};
 use std::alloc::{AllocError, Global};
 use verilog_tree::{BinOp, Expr, Item, Name};
@@ -20,20 +22,20 @@ pub fn assign(items: &mut Vec<Item>, target: Name, value: Expr) -> Result<(), Al
     Ok(())
 }
 
-fn last_element(alloc: Global, plan: &Plan) -> Result<Expr, AllocError>
-    ensures { IfOk result (λ x. plain x ≡ L.is_last_element (seen plan.now)) }
+// Whether a digit is at the last of so many.
+fn is_last(alloc: Global, digit: Name, width: u8, count: usize) -> Result<Expr, AllocError>
+    requires some { 0 < count }
+    requires positive { 1 ≤ width }
+    requires narrow { width ≤ 64 }
+    requires fits { count ≤ 2 ^ width }
+    ensures { IfOk result (λ x. plain x ≡ Infixed Eq (Net digit.bytes) (lit width (count - 1))) }
 {
-    let count = plan.elements.len();
-    let last = literal(plan.element_width, count as u64 - 1);
-    binary(alloc, BinOp::Eq, net(name("element")), last)
-}
-
-fn last_back(alloc: Global, plan: &Plan) -> Result<Expr, AllocError>
-    ensures { IfOk result (λ x. plain x ≡ L.is_last_back (seen plan.now)) }
-{
-    let count = plan.backgrounds.len();
-    let last = literal(plan.back_width, count as u64 - 1);
-    binary(alloc, BinOp::Eq, net(name("back")), last)
+    binary(
+        alloc,
+        BinOp::Eq,
+        net(digit),
+        literal(width, count as u64 - 1),
+    )
 }
 
 fn live(alloc: Global) -> Result<Expr, AllocError>
@@ -69,13 +71,35 @@ fn word(alloc: Global) -> Result<Expr, AllocError>
     )
 }
 
+// Whether the bits of its operations are 1, or of those behind them where a register holds the operation's bit.
+fn ones_row(alloc: Global, plan: &Plan) -> Result<Expr, AllocError>
+    ensures { IfOk result (λ x. plain x ≡ L.flag_row (seen plan.now) (L.ones_row (seen plan.now))) }
+{
+    if has_several_bits(plan) {
+        flag_row(alloc, plan, RowFlag::OneBehind)
+    } else {
+        flag_row(alloc, plan, RowFlag::One)
+    }
+}
+
+// Whether the operation's bit is 1.
+fn value_now(alloc: Global, plan: &Plan) -> Result<Expr, AllocError>
+    ensures { IfOk result (λ x. plain x ≡ L.value_now (seen plan.now)) }
+{
+    if has_several_bits(plan) {
+        Ok(net(name("one")))
+    } else {
+        in_row(alloc, plan, name("ones"))
+    }
+}
+
 // What the element has at each number of an operation.
 fn assign_rows(items: &mut Vec<Item>, alloc: Global, plan: &Plan) -> Result<(), AllocError>
     ensures { OnOk result (map plain_item items.new.items ≡ map plain_item items.old.items ++ L.row_assigns (seen plan.now)) }
 {
     let writes = flag_row(alloc, plan, RowFlag::Write)?;
     assign(items, name("writes"), writes)?;
-    let ones = flag_row(alloc, plan, RowFlag::OneBehind)?;
+    let ones = ones_row(alloc, plan)?;
     assign(items, name("ones"), ones)?;
     let ends = flag_row(alloc, plan, RowFlag::EndsBehind)?;
     assign(items, name("ends"), ends)?;
@@ -88,6 +112,8 @@ fn assign_flags(items: &mut Vec<Item>, alloc: Global, plan: &Plan) -> Result<(),
 {
     let write = in_row(alloc, plan, name("writes"))?;
     assign(items, name("write"), write)?;
+    let value = value_now(alloc, plan)?;
+    assign(items, name("value"), value)?;
     let down = by_element(alloc, plan, ElementFlag::Down)?;
     assign(items, name("down"), down)?;
     let pause = by_element(alloc, plan, ElementFlag::Pause)?;
@@ -95,20 +121,7 @@ fn assign_flags(items: &mut Vec<Item>, alloc: Global, plan: &Plan) -> Result<(),
     Ok(())
 }
 
-// What the next operation has.
-fn assign_ones(items: &mut Vec<Item>, alloc: Global, plan: &Plan) -> Result<(), AllocError>
-    ensures { OnOk result (map plain_item items.new.items ≡ map plain_item items.old.items ++ LInner.one_assigns (seen plan.now)) }
-{
-    let more = in_row(alloc, plan, name("ones"))?;
-    assign(items, name("one_more"), more)?;
-    let again = by_element(alloc, plan, ElementFlag::One)?;
-    assign(items, name("one_again"), again)?;
-    let next = by_next(alloc, plan, ElementFlag::One)?;
-    assign(items, name("one_next"), next)?;
-    Ok(())
-}
-
-// Whether it is the last, and whether the next element is a pause.
+// Whether the next operation is the last of its element, and whether the next element is a pause.
 fn assign_ends(items: &mut Vec<Item>, alloc: Global, plan: &Plan) -> Result<(), AllocError>
     ensures { OnOk result (map plain_item items.new.items ≡ map plain_item items.old.items ++ LInner.end_assigns (seen plan.now)) }
 {
@@ -127,9 +140,14 @@ fn assign_ends(items: &mut Vec<Item>, alloc: Global, plan: &Plan) -> Result<(), 
 fn assign_lasts(items: &mut Vec<Item>, alloc: Global, plan: &Plan) -> Result<(), AllocError>
     ensures { OnOk result (map plain_item items.new.items ≡ map plain_item items.old.items ++ L.last_assigns (seen plan.now)) }
 {
-    let element = last_element(alloc, plan)?;
+    let element = is_last(
+        alloc,
+        name("element"),
+        plan.element_width,
+        plan.elements.len(),
+    )?;
     assign(items, name("last_element"), element)?;
-    let back = last_back(alloc, plan)?;
+    let back = is_last(alloc, name("back"), plan.back_width, plan.backgrounds.len())?;
     assign(items, name("last_back"), back)?;
     Ok(())
 }
@@ -155,7 +173,6 @@ pub fn assign_wires(items: &mut Vec<Item>, alloc: Global, plan: &Plan) -> Result
 {
     assign_rows(items, alloc, plan)?;
     assign_flags(items, alloc, plan)?;
-    assign_ones(items, alloc, plan)?;
     assign_ends(items, alloc, plan)?;
     assign_lasts(items, alloc, plan)?;
     assign_command(items, alloc, plan)?;

@@ -3,15 +3,15 @@ ghost use Rattle.std.specs.Prelude.{◌≡◌, ◌≤◌, IfOk, OnOk, map, ◌++
 ghost use Rattle.verilog_tree.specs.Plain.{plain, plain_item, plain_stmt, plain_module, statements, SetTo, AlwaysItem};
 ghost use Rattle.rtl_layout.specs.Layout as L;
 ghost use Rattle.rtl_layout.specs.inner.Layout as LInner;
-ghost use Rattle.rtl_layout.specs.Plan.{several};
+ghost use Rattle.rtl_layout.specs.Plan.{several, several_bits};
 ghost use Rattle.rtl_layout.specs.Seen.{seen};
 
 use crate::ages::{aged, back_at, declare, declare_ages, set_ages, value_at};
 use crate::assigns::assign_wires;
-use crate::digits::{set, set_digits};
+use crate::digits::{set, set_digits, set_one};
 use crate::plan::Plan;
 use crate::ports::{assign_ports, ports};
-use crate::tables::{pattern, row_width, word_of};
+use crate::tables::{has_several_bits, pattern, row_width, word_of};
 use crate::trees::{binary, choose, flag, gate, name, net};
 use std::alloc::{AllocError, Global};
 use verilog_tree::{BinOp, Decl, Expr, Item, Module, Name, Stmt};
@@ -32,7 +32,15 @@ fn declare_digits(items: &mut Vec<Item>, plan: &Plan) -> Result<(), AllocError>
     declare(items, name("run"), 1)?;
     declare(items, name("last_oper"), 1)?;
     declare(items, name("last_visit"), 1)?;
-    declare(items, name("value"), 1)?;
+    Ok(())
+}
+
+fn declare_one(items: &mut Vec<Item>, plan: &Plan) -> Result<(), AllocError>
+    ensures { OnOk result (map plain_item items.new.items ≡ map plain_item items.old.items ++ L.one_reg (several_bits (seen plan.now))) }
+{
+    if has_several_bits(plan) {
+        declare(items, name("one"), 1)?;
+    }
     Ok(())
 }
 
@@ -41,6 +49,7 @@ fn declare_registers(items: &mut Vec<Item>, plan: &Plan) -> Result<(), AllocErro
     ensures { OnOk result (map plain_item items.new.items ≡ map plain_item items.old.items ++ LInner.registers (seen plan.now)) }
 {
     declare_digits(items, plan)?;
+    declare_one(items, plan)?;
     declare_ages(items, is_several(plan), plan.back_width, plan.delay)?;
     declare(items, name("want"), plan.bits)?;
     declare(items, name("bad"), 1)?;
@@ -61,6 +70,7 @@ fn declare_flags(items: &mut Vec<Item>, row: u8) -> Result<(), AllocError>
     declare_wire(items, name("ones"), row)?;
     declare_wire(items, name("ends"), row)?;
     declare_wire(items, name("write"), 1)?;
+    declare_wire(items, name("value"), 1)?;
     declare_wire(items, name("down"), 1)?;
     declare_wire(items, name("pause"), 1)?;
     Ok(())
@@ -69,9 +79,6 @@ fn declare_flags(items: &mut Vec<Item>, row: u8) -> Result<(), AllocError>
 fn declare_nexts(items: &mut Vec<Item>) -> Result<(), AllocError>
     ensures { OnOk result (map plain_item items.new.items ≡ map plain_item items.old.items ++ L.next_wires) }
 {
-    declare_wire(items, name("one_more"), 1)?;
-    declare_wire(items, name("one_again"), 1)?;
-    declare_wire(items, name("one_next"), 1)?;
     declare_wire(items, name("ends_more"), 1)?;
     declare_wire(items, name("ends_again"), 1)?;
     declare_wire(items, name("ends_next"), 1)?;
@@ -149,6 +156,7 @@ fn block(alloc: Global, plan: &Plan) -> Result<Vec<Stmt>, AllocError>
 {
     let mut block = Vec::new(alloc);
     set_digits(&mut block, alloc, plan)?;
+    set_one(&mut block, alloc, plan)?;
     let many = is_several(plan);
     set_ages(&mut block, alloc, many, plan.back_width, plan.delay)?;
     set_ends(&mut block, alloc, plan)?;

@@ -3,14 +3,14 @@ ghost use Rattle.std.specs.Prelude.{◌≡◌, ℕ, ◌≤◌, IfOk, OnOk, lengt
 ghost use Rattle.verilog_tree.specs.Plain.{plain, plain_stmt, Net, SetTo};
 ghost use Rattle.rtl_layout.specs.Build.{counter};
 ghost use Rattle.rtl_layout.specs.Layout as L;
-ghost use Rattle.rtl_layout.specs.Plan.{limit};
+ghost use Rattle.rtl_layout.specs.Plan.{limit, several_bits};
 ghost use Rattle.rtl_layout.specs.inner.Layout as LInner;
 ghost use Rattle.rtl_layout.specs.Seen.{seen};
 
 use crate::element::Element;
 use crate::flags::ElementFlag;
 use crate::plan::Plan;
-use crate::tables::of_element;
+use crate::tables::{by_element, by_next, has_several_bits, in_row, of_element};
 use crate::trees::{after_reset, binary, choose, counting, flag, literal, name, net, while_all};
 use std::alloc::{AllocError, Global};
 use verilog_tree::{BinOp, Expr, Name, Stmt};
@@ -23,94 +23,73 @@ pub fn set(block: &mut Vec<Stmt>, register: Name, value: Expr) -> Result<(), All
     Ok(())
 }
 
-fn oper_next(alloc: Global, width: u8) -> Result<Expr, AllocError>
-    requires some { 1 ≤ width }
+// A digit, which goes on where all the named conditions hold.
+fn set_counter(
+    block: &mut Vec<Stmt>,
+    alloc: Global,
+    register: Name,
+    width: u8,
+    conditions: &[Name],
+    last: Name,
+) -> Result<(), AllocError>
+    requires positive { 1 ≤ width }
     requires narrow { width ≤ 64 }
-    ensures { IfOk result (λ x. plain x ≡ counter L.oper width (Net L.run ∷ []) L.last_oper) }
+    ensures { OnOk result (map plain_stmt block.new.items ≡ map plain_stmt block.old.items ++ SetTo register.bytes (counter register.bytes width (map (λ c. Net c.bytes) conditions.now) last.bytes) ∷ []) }
 {
-    counting(
-        alloc,
-        name("oper"),
-        width,
-        &[name("run")],
-        name("last_oper"),
-    )
-}
-
-fn visit_next(alloc: Global, width: u8) -> Result<Expr, AllocError>
-    requires some { 1 ≤ width }
-    requires narrow { width ≤ 64 }
-    ensures { IfOk result (λ x. plain x ≡ counter L.visit width (Net L.run ∷ Net L.last_oper ∷ []) L.last_visit) }
-{
-    counting(
-        alloc,
-        name("visit"),
-        width,
-        &[name("run"), name("last_oper")],
-        name("last_visit"),
-    )
-}
-
-// `oper` and `visit`.
-fn set_inner(block: &mut Vec<Stmt>, alloc: Global, oper: u8, visit: u8) -> Result<(), AllocError>
-    requires oper_some { 1 ≤ oper }
-    requires oper_narrow { oper ≤ 64 }
-    requires visit_some { 1 ≤ visit }
-    requires visit_narrow { visit ≤ 64 }
-    ensures { OnOk result (map plain_stmt block.new.items ≡ map plain_stmt block.old.items ++ SetTo L.oper (counter L.oper oper (Net L.run ∷ []) L.last_oper) ∷ SetTo L.visit (counter L.visit visit (Net L.run ∷ Net L.last_oper ∷ []) L.last_visit) ∷ []) }
-{
-    let first = oper_next(alloc, oper)?;
-    set(block, name("oper"), first)?;
-    let second = visit_next(alloc, visit)?;
-    set(block, name("visit"), second)?;
+    let next = counting(alloc, register, width, conditions, last)?;
+    set(block, register, next)?;
     Ok(())
 }
 
-fn element_next(alloc: Global, width: u8) -> Result<Expr, AllocError>
-    requires some { 1 ≤ width }
-    requires narrow { width ≤ 64 }
-    ensures { IfOk result (λ x. plain x ≡ counter L.element width (Net L.run ∷ Net L.last_oper ∷ Net L.last_visit ∷ []) L.last_element) }
+// `oper` and `visit`.
+fn set_inner(block: &mut Vec<Stmt>, alloc: Global, plan: &Plan) -> Result<(), AllocError>
+    ensures { OnOk result (map plain_stmt block.new.items ≡ map plain_stmt block.old.items ++ LInner.inner_sets (seen plan.now)) }
 {
-    counting(
+    let run = name("run");
+    let last_oper = name("last_oper");
+    set_counter(
+        block,
         alloc,
-        name("element"),
-        width,
-        &[name("run"), name("last_oper"), name("last_visit")],
-        name("last_element"),
-    )
-}
-
-fn back_next(alloc: Global, width: u8) -> Result<Expr, AllocError>
-    requires some { 1 ≤ width }
-    requires narrow { width ≤ 64 }
-    ensures { IfOk result (λ x. plain x ≡ counter L.back width (Net L.run ∷ Net L.last_oper ∷ Net L.last_visit ∷ Net L.last_element ∷ []) L.last_back) }
-{
-    counting(
+        name("oper"),
+        plan.oper_width,
+        &[run],
+        last_oper,
+    )?;
+    set_counter(
+        block,
         alloc,
-        name("back"),
-        width,
-        &[
-            name("run"),
-            name("last_oper"),
-            name("last_visit"),
-            name("last_element"),
-        ],
-        name("last_back"),
-    )
+        name("visit"),
+        plan.visit_width,
+        &[run, last_oper],
+        name("last_visit"),
+    )?;
+    Ok(())
 }
 
 // `element` and `back`.
-fn set_outer(block: &mut Vec<Stmt>, alloc: Global, element: u8, back: u8) -> Result<(), AllocError>
-    requires element_some { 1 ≤ element }
-    requires element_narrow { element ≤ 64 }
-    requires back_some { 1 ≤ back }
-    requires back_narrow { back ≤ 64 }
-    ensures { OnOk result (map plain_stmt block.new.items ≡ map plain_stmt block.old.items ++ SetTo L.element (counter L.element element (Net L.run ∷ Net L.last_oper ∷ Net L.last_visit ∷ []) L.last_element) ∷ SetTo L.back (counter L.back back (Net L.run ∷ Net L.last_oper ∷ Net L.last_visit ∷ Net L.last_element ∷ []) L.last_back) ∷ []) }
+fn set_outer(block: &mut Vec<Stmt>, alloc: Global, plan: &Plan) -> Result<(), AllocError>
+    ensures { OnOk result (map plain_stmt block.new.items ≡ map plain_stmt block.old.items ++ LInner.outer_sets (seen plan.now)) }
 {
-    let first = element_next(alloc, element)?;
-    set(block, name("element"), first)?;
-    let second = back_next(alloc, back)?;
-    set(block, name("back"), second)?;
+    let run = name("run");
+    let last_oper = name("last_oper");
+    let last_visit = name("last_visit");
+    let last_element = name("last_element");
+    set_counter(
+        block,
+        alloc,
+        name("element"),
+        plan.element_width,
+        &[run, last_oper, last_visit],
+        last_element,
+    )?;
+    set_counter(
+        block,
+        alloc,
+        name("back"),
+        plan.back_width,
+        &[run, last_oper, last_visit, last_element],
+        name("last_back"),
+    )?;
     Ok(())
 }
 
@@ -138,14 +117,14 @@ fn turning(
     alloc: Global,
     register: Name,
     first: bool,
-    next: Name,
-    again: Name,
-    more: Name,
+    next: Expr,
+    again: Expr,
+    more: Expr,
 ) -> Result<Expr, AllocError>
-    ensures { IfOk result (λ x. plain x ≡ L.turning register.bytes first next.bytes again.bytes more.bytes) }
+    ensures { IfOk result (λ x. plain x ≡ L.turning register.bytes first (plain next) (plain again) (plain more)) }
 {
-    let turned = choose(alloc, net(name("last_visit")), net(next), net(again))?;
-    let stepped = choose(alloc, net(name("last_oper")), turned, net(more))?;
+    let turned = choose(alloc, net(name("last_visit")), next, again)?;
+    let stepped = choose(alloc, net(name("last_oper")), turned, more)?;
     let running = while_all(alloc, &[name("run")], stepped, register)?;
     after_reset(alloc, flag(first), running)
 }
@@ -158,24 +137,32 @@ fn last_oper_next(alloc: Global, plan: &Plan) -> Result<Expr, AllocError>
         alloc,
         name("last_oper"),
         of_element(&plan.elements[0], ElementFlag::Single),
-        name("ends_next"),
-        name("ends_again"),
-        name("ends_more"),
+        net(name("ends_next")),
+        net(name("ends_again")),
+        net(name("ends_more")),
     )
 }
 
 // Whether its bit is 1.
-fn value_next(alloc: Global, plan: &Plan) -> Result<Expr, AllocError>
-    ensures { IfOk result (λ x. plain x ≡ L.value_next (seen plan.now)) }
+fn one_next(alloc: Global, plan: &Plan) -> Result<Expr, AllocError>
+    ensures { IfOk result (λ x. plain x ≡ L.one_next (seen plan.now)) }
 {
-    turning(
-        alloc,
-        name("value"),
-        of_element(&plan.elements[0], ElementFlag::One),
-        name("one_next"),
-        name("one_again"),
-        name("one_more"),
-    )
+    let next = by_next(alloc, plan, ElementFlag::BeginsOne)?;
+    let again = by_element(alloc, plan, ElementFlag::BeginsOne)?;
+    let more = in_row(alloc, plan, name("ones"))?;
+    let first = of_element(&plan.elements[0], ElementFlag::BeginsOne);
+    turning(alloc, name("one"), first, next, again, more)
+}
+
+/// The bit of the operation, where a register holds it.
+pub fn set_one(block: &mut Vec<Stmt>, alloc: Global, plan: &Plan) -> Result<(), AllocError>
+    ensures { OnOk result (map plain_stmt block.new.items ≡ map plain_stmt block.old.items ++ L.one_set (seen plan.now) (several_bits (seen plan.now))) }
+{
+    if has_several_bits(plan) {
+        let one = one_next(alloc, plan)?;
+        set(block, name("one"), one)?;
+    }
+    Ok(())
 }
 
 // How often an element is visited.
@@ -236,8 +223,6 @@ fn set_place(block: &mut Vec<Stmt>, alloc: Global, plan: &Plan) -> Result<(), Al
     set(block, name("last_oper"), oper)?;
     let visit = last_visit_next(alloc, plan)?;
     set(block, name("last_visit"), visit)?;
-    let value = value_next(alloc, plan)?;
-    set(block, name("value"), value)?;
     Ok(())
 }
 
@@ -245,8 +230,8 @@ fn set_place(block: &mut Vec<Stmt>, alloc: Global, plan: &Plan) -> Result<(), Al
 pub fn set_digits(block: &mut Vec<Stmt>, alloc: Global, plan: &Plan) -> Result<(), AllocError>
     ensures { OnOk result (map plain_stmt block.new.items ≡ map plain_stmt block.old.items ++ L.digit_sets (seen plan.now)) }
 {
-    set_inner(block, alloc, plan.oper_width, plan.visit_width)?;
-    set_outer(block, alloc, plan.element_width, plan.back_width)?;
+    set_inner(block, alloc, plan)?;
+    set_outer(block, alloc, plan)?;
     let run = run_next(alloc)?;
     set(block, name("run"), run)?;
     set_place(block, alloc, plan)?;

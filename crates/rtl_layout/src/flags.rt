@@ -1,10 +1,11 @@
 //! What the tables over the march tell.
 
-/// Of an element at a number of an operation: whether that writes, or of the one behind it whether its bit is 1 and
-/// whether it is the last.
+/// Of an element at a number of an operation: whether that writes or its bit is 1, and of the one behind it whether its
+/// bit is 1 or it is the last.
 #[derive(Clone, Copy)]
 pub enum RowFlag {
     Write,
+    One,
     OneBehind,
     EndsBehind,
 }
@@ -15,5 +16,5 @@ pub enum ElementFlag {
     Down,
     Pause,
     Single,
-    One,
+    BeginsOne,
 }

@@ -7,7 +7,7 @@ ghost use Rattle.rtl_layout.specs.Build.{lit, choose, counted, number_of};
 ghost use Rattle.rtl_layout.specs.Control.{nothing};
 ghost use Rattle.rtl_layout.specs.inner.Flags.{row_flag, element_flag};
 ghost use Rattle.rtl_layout.specs.Layout as L;
-ghost use Rattle.rtl_layout.specs.Plan.{port_word};
+ghost use Rattle.rtl_layout.specs.Plan.{port_word, several_bits};
 ghost use Rattle.rtl_layout.specs.Seen.{seen};
 
 use crate::element::{Element, Operation};
@@ -38,6 +38,7 @@ fn at_number(element: &Element, i: usize, flag: RowFlag) -> bool
 {
     match flag {
         RowFlag::Write => operation_in(element, i).write,
+        RowFlag::One => operation_in(element, i).bit,
         RowFlag::OneBehind => operation_in(element, i + 1).bit,
         RowFlag::EndsBehind => element.operations().len() <= i + 2,
     }
@@ -52,7 +53,7 @@ pub fn of_element(element: &Element, flag: ElementFlag) -> bool
         ElementFlag::Down => element.is_down(),
         ElementFlag::Pause => element.is_pause(),
         ElementFlag::Single => element.operations().len() == 1,
-        ElementFlag::One => operation_in(element, 0).bit,
+        ElementFlag::BeginsOne => operation_in(element, 0).bit,
     }
 }
 
@@ -101,6 +102,13 @@ fn row_leaves(
         leaves.push(row_literal(element, width, which))?;
     }
     Ok(leaves)
+}
+
+/// Whether a word has several bits.
+pub fn has_several_bits(plan: &Plan) -> bool
+    ensures { result ≡ several_bits (seen plan.now) }
+{
+    plan.bits > 1
 }
 
 /// How many bits a row has.

@@ -3,7 +3,7 @@ ghost use Rattle.std.specs.Prelude.{◌≡◌, ℕ, ◌+◌, ◌^◌, ◌<◌, �
 ghost use Rattle.verilog_tree.specs.Plain.{plain, expressions, Net, PartSelect, Concatenation, Prefixed, Infixed, Conditional};
 ghost use Rattle.verilog_tree.specs.Meaning.{bit};
 ghost use Rattle.rtl_layout.specs.Layout.{gated};
-ghost use Rattle.rtl_layout.specs.Build.{lit, bit_of, low_bits, below, pick, low_more, high_more, in_halves, one_more, counter, at_reset, step_while};
+ghost use Rattle.rtl_layout.specs.Build.{lit, bit_of, low_bits, below, pick, counter, at_reset, step_while};
 
 use arrayvec::ArrayString;
 use bist_bits::Bits;
@@ -190,72 +190,6 @@ pub fn gate(alloc: Global, later: Expr) -> Result<Expr, AllocError>
     after_reset(alloc, flag(false), later)
 }
 
-// The bits of a name from a high place to a low one.
-fn part(name: Name, high: u8, low: u8) -> Expr
-    ensures { plain result ≡ PartSelect name.bytes high low }
-{
-    Expr::Part(name, high, low)
-}
-
-// The `low` lowest bits of a register, one more.
-#[tactic(auto, using(crate::proofs::Taken::one_below))]
-fn low_more(alloc: Global, register: Name, low: u8) -> Result<Expr, AllocError>
-    requires some { 1 ≤ low }
-    requires narrow { low ≤ 64 }
-    ensures { IfOk result (λ x. plain x ≡ low_more register.bytes low) }
-{
-    binary(
-        alloc,
-        BinOp::Add,
-        part(register, low - 1, 0),
-        literal(low, 1),
-    )
-}
-
-// The other bits, one more where the lowest are all ones.
-#[tactic(auto, using(crate::proofs::Taken::one_below))]
-fn high_more(alloc: Global, register: Name, width: u8, low: u8) -> Result<Expr, AllocError>
-    requires some { 1 ≤ low }
-    requires less { low < width }
-    requires narrow { width ≤ 64 }
-    ensures { IfOk result (λ x. plain x ≡ high_more register.bytes width low) }
-{
-    let carry = unary(alloc, UnOp::AllOnes, part(register, low - 1, 0))?;
-    let more = binary(
-        alloc,
-        BinOp::Add,
-        part(register, width - 1, low),
-        literal(width - low, 1),
-    )?;
-    choose(alloc, carry, more, part(register, width - 1, low))
-}
-
-// One more than a register holds, its `low` lowest bits and the others each by themselves.
-fn in_halves(alloc: Global, register: Name, width: u8, low: u8) -> Result<Expr, AllocError>
-    requires some { 1 ≤ low }
-    requires less { low < width }
-    requires narrow { width ≤ 64 }
-    ensures { IfOk result (λ x. plain x ≡ in_halves register.bytes width low) }
-{
-    let mut parts = Vec::new(alloc);
-    parts.push(high_more(alloc, register, width, low)?)?;
-    parts.push(low_more(alloc, register, low)?)?;
-    Ok(concat(parts))
-}
-
-// One more than a register holds: no carry runs through more than half of a wide one.
-#[tactic(auto, using(crate::proofs::Taken::one_below))]
-fn one_more(alloc: Global, register: Name, width: u8) -> Result<Expr, AllocError>
-    requires positive { 1 ≤ width }
-    requires narrow { width ≤ 64 }
-    ensures { IfOk result (λ x. plain x ≡ one_more register.bytes width) }
-{
-    if width < 9 {
-        return binary(alloc, BinOp::Add, net(register), literal(width, 1));
-    }
-    in_halves(alloc, register, width, width / 2)
-}
-
 /// The next value of a register that counts up where all conditions hold, and from its last value to 0.
 #[tactic(auto, using(crate::proofs::Taken::one_below))]
 pub fn counting(
@@ -269,7 +203,7 @@ pub fn counting(
     requires narrow { width ≤ 64 }
     ensures { IfOk result (λ x. plain x ≡ counter register.bytes width (map (λ c. Net c.bytes) conditions.now) last.bytes) }
 {
-    let more = one_more(alloc, register, width)?;
+    let more = binary(alloc, BinOp::Add, net(register), literal(width, 1))?;
     let turned = choose(alloc, net(last), literal(width, 0), more)?;
     let stepped = while_all(alloc, conditions, turned, register)?;
     after_reset(alloc, literal(width, 0), stepped)

@@ -2,8 +2,8 @@
 use Rattle.std.specs.Prelude.{ℕ, suc, Bool, List, [], ◌∷◌, ◌++◌}
 use Rattle.verilog_tree.specs.Plain.{Net, Statement, SetTo, ModuleItem, RegItem, AssignItem}
 use Rattle.verilog_tree.specs.Meaning.{bit}
-use Rattle.rtl_layout.specs.Plan.{Plan, several, is_single}
-use Rattle.rtl_layout.specs.Layout.{ones, ends, one_more, one_again, one_next, ends_more, ends_again, ends_next, pause_next, in_row, by_element, by_next, begins_one, last_oper, last_visit, last_oper_next, last_visit_next, value_next, back, value, aged, reads_at, over_at, value_at, gated, digit_regs, maybe, stage_regs, end_regs, feed_reads, feed_over, back_set}
+use Rattle.rtl_layout.specs.Plan.{Plan, several, several_bits, is_single}
+use Rattle.rtl_layout.specs.Layout.{ends, ends_more, ends_again, ends_next, pause_next, in_row, by_element, by_next, oper, visit, element, oper_next, visit_next, element_next, back_next, last_oper, last_visit, last_oper_next, last_visit_next, back, value, aged, reads_at, over_at, value_at, gated, digit_regs, maybe, one_reg, stage_regs, end_regs, feed_reads, feed_over, back_set}
 
 -- ---- registers
 
@@ -13,23 +13,26 @@ age_regs many w i = RegItem (reads_at i) 1 ∷ RegItem (over_at i) 1 ∷ RegItem
 
 -- all registers
 abbrev pub registers : Plan → List ModuleItem
-registers p = digit_regs p ++ (stage_regs (several p) p.back_width 0 p.delay ++ end_regs p)
+registers p = digit_regs p ++ (one_reg (several_bits p) ++ (stage_regs (several p) p.back_width 0 p.delay ++ end_regs p))
 
 -- ---- what they are assigned and set to
 
--- whether the bit of the next operation is 1
-abbrev pub one_assigns : Plan → List ModuleItem
-one_assigns p = AssignItem one_more (in_row p ones) ∷ AssignItem one_again (by_element p 1 (λ x. bit (begins_one x))) ∷ AssignItem one_next (by_next p (λ x. bit (begins_one x))) ∷ []
-
--- whether it is the last, and whether the next element is a pause
+-- whether the next operation is the last of its element, and whether the next element is a pause
 abbrev pub end_assigns : Plan → List ModuleItem
 end_assigns p =
     AssignItem ends_more (in_row p ends) ∷ AssignItem ends_again (by_element p 1 (λ x. bit (is_single x))) ∷ AssignItem ends_next (by_next p (λ x. bit (is_single x)))
     ∷ AssignItem pause_next (by_next p (λ x. bit x.pause)) ∷ []
 
+-- the digits: the operation and the visit, the element and the background
+abbrev pub inner_sets : Plan → List Statement
+inner_sets p = SetTo oper (oper_next p) ∷ SetTo visit (visit_next p) ∷ []
+
+abbrev pub outer_sets : Plan → List Statement
+outer_sets p = SetTo element (element_next p) ∷ SetTo back (back_next p) ∷ []
+
 -- what the next operation and visit have
 abbrev pub place_sets : Plan → List Statement
-place_sets p = SetTo last_oper (last_oper_next p) ∷ SetTo last_visit (last_visit_next p) ∷ SetTo value (value_next p) ∷ []
+place_sets p = SetTo last_oper (last_oper_next p) ∷ SetTo last_visit (last_visit_next p) ∷ []
 
 -- what age suc i takes from age i
 abbrev pub end_age_sets : ℕ → List Statement

@@ -1,8 +1,8 @@
 -- Inner. For proofs and private contracts alone, beside Shows: when registers show a controller, and ports answer for it.
 use Rattle.std.specs.Prelude.{◌≡◌, ℕ, suc, ◌<◌, Bool, true, List, [], ◌∷◌, length}
 use Rattle.verilog_tree.specs.Meaning.{Env, bit}
-use Rattle.rtl_layout.specs.Plan.{Plan, several, limit}
-use Rattle.rtl_layout.specs.Layout.{reads_at, over_at, value_at, back_at, oper, visit, element, back, run, last_oper, last_visit, value, want, bad}
+use Rattle.rtl_layout.specs.Plan.{Plan, several, several_bits, limit}
+use Rattle.rtl_layout.specs.Layout.{reads_at, over_at, value_at, back_at, oper, visit, element, back, run, last_oper, last_visit, one, want, bad}
 use Rattle.rtl_layout.specs.Control.{Stage, Control, here, operation, ends_oper, ends_visit}
 
 pub record ShowsStage (many : Bool) (i : ℕ) (s : Stage) (regs : Env) : Type 0 where
@@ -27,7 +27,7 @@ pub record Shows (p : Plan) (c : Control) (regs : Env) : Type 0 where
   pub run_is : regs run ≡ bit c.run
   pub last_oper_is : regs last_oper ≡ bit (ends_oper p c)
   pub last_visit_is : regs last_visit ≡ bit (ends_visit p c)
-  pub value_is : regs value ≡ bit (operation p c).bit
+  pub one_is : several_bits p ≡ true → regs one ≡ bit (operation p c).bit
   pub stages_are : ShowsStages (several p) 0 c.stages regs
   pub reads_is : regs (reads_at (suc p.delay)) ≡ bit c.reads
   pub over_is : regs (over_at (suc p.delay)) ≡ bit c.over

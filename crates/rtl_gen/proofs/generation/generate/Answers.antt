@@ -13,7 +13,7 @@ use Rattle.rtl_gen.proofs.generation.generate.Goals as goal
 pub returns-in-Ok-clause-fits : goal.returns-in-Ok-clause-fits
 returns-in-Ok-clause-fits c =
     let p = c.plan-plan.result.is_plan in
-    ap fits c.in-Ok.ensures ∙ all_fits (seen c.plan-plan.result) p.ready p.sized (let l = p.few_ages in omega arith) p.element_small p.oper_small p.back_small p.name
+    ap fits c.in-Ok.ensures ∙ all_fits (seen c.plan-plan.result) p.ready p.ready.sized (let l = p.few_ages in omega arith) p.element_small p.oper_small p.back_small p.name
 
 pub returns-in-Ok-clause-self_test : goal.returns-in-Ok-clause-self_test
 returns-in-Ok-clause-self_test c =

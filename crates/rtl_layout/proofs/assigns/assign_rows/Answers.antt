@@ -8,10 +8,10 @@ use Rattle.rtl_layout.proofs.assigns.assign_rows.Goals as goal
 pub returns : goal.returns
 returns c =
     let p = seen c.args.plan.now in
-    join (map plain_item c.args.items.now.items) _ _ (AssignItem L.writes (L.flag_row p L.writes_at) ∷ []) (AssignItem L.ones (L.flag_row p L.one_behind) ∷ [] ++ (AssignItem L.ends (L.flag_row p L.ends_behind) ∷ []))
+    join (map plain_item c.args.items.now.items) _ _ (AssignItem L.writes (L.flag_row p L.writes_at) ∷ []) (AssignItem L.ones (L.flag_row p (L.ones_row p)) ∷ [] ++ (AssignItem L.ends (L.flag_row p L.ends_behind) ∷ []))
     (named AssignItem _ _ _ _ _ _ c.name.ensures c.in_ok-writes.ensures c.in_ok-assign.ensures)
     (
-    join (map plain_item c.assign.new.items.items) _ _ (AssignItem L.ones (L.flag_row p L.one_behind) ∷ []) (AssignItem L.ends (L.flag_row p L.ends_behind) ∷ [])
+    join (map plain_item c.assign.new.items.items) _ _ (AssignItem L.ones (L.flag_row p (L.ones_row p)) ∷ []) (AssignItem L.ends (L.flag_row p L.ends_behind) ∷ [])
     (named AssignItem _ _ _ _ _ _ c.name-2.ensures c.in_ok-ones.ensures c.in_ok-assign-2.ensures)
     (
     named AssignItem _ _ _ _ _ _ c.name-3.ensures c.in_ok-ends.ensures c.in_ok-assign-3.ensures

@@ -9,23 +9,19 @@ use Rattle.rtl_layout.proofs.assigns.assign_wires.Goals as goal
 pub returns : goal.returns
 returns c =
     let p = seen c.args.plan.now in
-    join (map plain_item c.args.items.now.items) _ _ (L.row_assigns p) (L.flag_assigns p ++ (LInner.one_assigns p ++ (LInner.end_assigns p ++ (L.last_assigns p ++ (L.command_assigns p)))))
+    join (map plain_item c.args.items.now.items) _ _ (L.row_assigns p) (L.flag_assigns p ++ (LInner.end_assigns p ++ (L.last_assigns p ++ (L.command_assigns p))))
     (c.in_ok-assign_rows.ensures)
     (
-    join (map plain_item c.assign_rows.new.items.items) _ _ (L.flag_assigns p) (LInner.one_assigns p ++ (LInner.end_assigns p ++ (L.last_assigns p ++ (L.command_assigns p))))
+    join (map plain_item c.assign_rows.new.items.items) _ _ (L.flag_assigns p) (LInner.end_assigns p ++ (L.last_assigns p ++ (L.command_assigns p)))
     (c.in_ok-assign_flags.ensures)
     (
-    join (map plain_item c.assign_flags.new.items.items) _ _ (LInner.one_assigns p) (LInner.end_assigns p ++ (L.last_assigns p ++ (L.command_assigns p)))
-    (c.in_ok-assign_ones.ensures)
-    (
-    join (map plain_item c.assign_ones.new.items.items) _ _ (LInner.end_assigns p) (L.last_assigns p ++ (L.command_assigns p))
+    join (map plain_item c.assign_flags.new.items.items) _ _ (LInner.end_assigns p) (L.last_assigns p ++ (L.command_assigns p))
     (c.in_ok-assign_ends.ensures)
     (
     join (map plain_item c.assign_ends.new.items.items) _ _ (L.last_assigns p) (L.command_assigns p)
     (c.in_ok-assign_lasts.ensures)
     (
     c.in_ok-assign_command.ensures
-    )
     )
     )
     )

@@ -6,28 +6,16 @@ use Rattle.rtl_layout.proofs.build.declare_nexts.Goals as goal
 
 pub returns : goal.returns
 returns c =
-    join (map plain_item c.args.items.now.items) _ _ (WireItem L.one_more 1 ∷ []) (WireItem L.one_again 1 ∷ [] ++ (WireItem L.one_next 1 ∷ [] ++ (WireItem L.ends_more 1 ∷ [] ++ (WireItem L.ends_again 1 ∷ [] ++ (WireItem L.ends_next 1 ∷ [] ++ (WireItem L.pause_next 1 ∷ []))))))
+    join (map plain_item c.args.items.now.items) _ _ (WireItem L.ends_more 1 ∷ []) (WireItem L.ends_again 1 ∷ [] ++ (WireItem L.ends_next 1 ∷ [] ++ (WireItem L.pause_next 1 ∷ [])))
     (renamed WireItem _ _ _ _ _ c.name.ensures c.in_ok-declare_wire.ensures)
     (
-    join (map plain_item c.declare_wire.new.items.items) _ _ (WireItem L.one_again 1 ∷ []) (WireItem L.one_next 1 ∷ [] ++ (WireItem L.ends_more 1 ∷ [] ++ (WireItem L.ends_again 1 ∷ [] ++ (WireItem L.ends_next 1 ∷ [] ++ (WireItem L.pause_next 1 ∷ [])))))
+    join (map plain_item c.declare_wire.new.items.items) _ _ (WireItem L.ends_again 1 ∷ []) (WireItem L.ends_next 1 ∷ [] ++ (WireItem L.pause_next 1 ∷ []))
     (renamed WireItem _ _ _ _ _ c.name-2.ensures c.in_ok-declare_wire-2.ensures)
     (
-    join (map plain_item c.declare_wire-2.new.items.items) _ _ (WireItem L.one_next 1 ∷ []) (WireItem L.ends_more 1 ∷ [] ++ (WireItem L.ends_again 1 ∷ [] ++ (WireItem L.ends_next 1 ∷ [] ++ (WireItem L.pause_next 1 ∷ []))))
+    join (map plain_item c.declare_wire-2.new.items.items) _ _ (WireItem L.ends_next 1 ∷ []) (WireItem L.pause_next 1 ∷ [])
     (renamed WireItem _ _ _ _ _ c.name-3.ensures c.in_ok-declare_wire-3.ensures)
     (
-    join (map plain_item c.declare_wire-3.new.items.items) _ _ (WireItem L.ends_more 1 ∷ []) (WireItem L.ends_again 1 ∷ [] ++ (WireItem L.ends_next 1 ∷ [] ++ (WireItem L.pause_next 1 ∷ [])))
-    (renamed WireItem _ _ _ _ _ c.name-4.ensures c.in_ok-declare_wire-4.ensures)
-    (
-    join (map plain_item c.declare_wire-4.new.items.items) _ _ (WireItem L.ends_again 1 ∷ []) (WireItem L.ends_next 1 ∷ [] ++ (WireItem L.pause_next 1 ∷ []))
-    (renamed WireItem _ _ _ _ _ c.name-5.ensures c.in_ok-declare_wire-5.ensures)
-    (
-    join (map plain_item c.declare_wire-5.new.items.items) _ _ (WireItem L.ends_next 1 ∷ []) (WireItem L.pause_next 1 ∷ [])
-    (renamed WireItem _ _ _ _ _ c.name-6.ensures c.in_ok-declare_wire-6.ensures)
-    (
-    renamed WireItem _ _ _ _ _ c.name-7.ensures c.in_ok-declare_wire-7.ensures
-    )
-    )
-    )
+    renamed WireItem _ _ _ _ _ c.name-4.ensures c.in_ok-declare_wire-4.ensures
     )
     )
     )

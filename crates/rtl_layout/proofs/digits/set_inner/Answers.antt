@@ -1,14 +1,13 @@
-use Rattle.std.proofs.Common.{[], ◌∷◌, map}
-use Rattle.verilog_tree.specs.Plain.{Net, SetTo, plain_stmt}
-use Rattle.rtl_layout.specs.Build.{counter}
+use Rattle.std.proofs.Common.{[], ◌∷◌, map, refl}
+use Rattle.verilog_tree.specs.Plain.{SetTo, plain_stmt}
 use Rattle.rtl_layout.specs.Layout as L
-use Rattle.rtl_layout.proofs.Joined.{join, named}
+use Rattle.rtl_layout.specs.Seen.{seen}
+use Rattle.rtl_layout.proofs.Joined.{join, counter_set, nets}
 use Rattle.rtl_layout.proofs.digits.set_inner.Goals as goal
 
 pub returns : goal.returns
 returns c =
-    join (map plain_stmt c.args.block.now.items) _ _
-    (SetTo L.oper (counter L.oper c.args.oper (Net L.run ∷ []) L.last_oper) ∷ [])
-    (SetTo L.visit (counter L.visit c.args.visit (Net L.run ∷ Net L.last_oper ∷ []) L.last_visit) ∷ [])
-    (named SetTo _ _ _ _ _ _ c.name.ensures c.in_ok-first.ensures c.in_ok-set.ensures)
-    (named SetTo _ _ _ _ _ _ c.name-2.ensures c.in_ok-second.ensures c.in_ok-set-2.ensures)
+    let p = seen c.args.plan.now in
+    join (map plain_stmt c.args.block.now.items) _ _ (SetTo L.oper (L.oper_next p) ∷ []) (SetTo L.visit (L.visit_next p) ∷ [])
+    (counter_set _ _ _ _ _ _ _ _ _ c.name.ensures (nets _ _ [] [] c.name-run.ensures refl) c.name-last_oper.ensures c.in_ok-set_counter.ensures)
+    (counter_set _ _ _ _ _ _ _ _ _ c.name-2.ensures (nets _ _ _ _ c.name-run.ensures (nets _ _ [] [] c.name-last_oper.ensures refl)) c.name-3.ensures c.in_ok-set_counter-2.ensures)
