@@ -14,3 +14,4 @@ pub mod LinePieces
 pub mod LineStops
 pub mod RunPieces
 pub mod Behind
+pub mod keyed

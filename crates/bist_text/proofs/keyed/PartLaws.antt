@@ -14,9 +14,9 @@ use Rattle.bist_text.proofs.Bytes.{are_bytes-append}
 use Rattle.bist_text.proofs.KeywordLaws.{spell_law, spell_ends, spell_alive}
 use Rattle.bist_text.proofs.LinePieces.{at_bool, when_true, when_false, when_holds, space_on, space_off, gap_on, gap_off, tail_blank, tail_other}
 use Rattle.bist_text.proofs.Pieces.{back, same, many_none}
-use Rattle.keyed_lines.specs.Reading.{Read, took, stuck, onward}
-use Rattle.keyed_lines.specs.Parts.{spaced, gap_of, byte_of, comment_of, end_of, Class, later, all_fit, is_word, front_of, behind_of, word_of, by_letter, key_from, no_letters, key_of, by_byte}
-use Rattle.keyed_lines.proofs.Told.{Behind, Never, AtEnd, Told, told_alive, told_iff, told_from, end_iff}
+use Rattle.bist_text.specs.keyed.Reading.{Read, took, stuck, onward}
+use Rattle.bist_text.specs.keyed.Parts.{spaced, gap_of, byte_of, comment_of, end_of, Class, later, all_fit, is_word, front_of, behind_of, word_of, by_letter, key_from, no_letters, key_of, by_byte}
+use Rattle.bist_text.proofs.keyed.Told.{Behind, Never, AtEnd, Told, told_alive, told_iff, told_from, end_iff}
 
 -- a reader is right of each text of at most n bytes
 abbrev pub Hears : {V : Type 0} → ℕ → (List ℕ → V → Type 0) → (List ℕ → Read V) → Type 0

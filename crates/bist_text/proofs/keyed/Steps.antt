@@ -5,8 +5,8 @@ use Rattle.bist_text.specs.Grammar.{is_blank}
 use Rattle.bist_text.specs.declared.keywords.Letters.{Letters}
 use Rattle.bist_text.specs.declared.keywords.Spelled.{Spelled}
 use Rattle.bist_text.specs.Keywords.{Word, spell}
-use Rattle.keyed_lines.specs.Reading.{Read, took, stuck}
-use Rattle.keyed_lines.specs.Parts.{spaced, gap_of, Class, later, front_of, behind_of, word_of, length_of, by_letter, key_from}
+use Rattle.bist_text.specs.keyed.Reading.{Read, took, stuck}
+use Rattle.bist_text.specs.keyed.Parts.{spaced, gap_of, Class, later, front_of, behind_of, word_of, length_of, by_letter, key_from}
 
 at_head : (b : List ℕ) (i : ℕ) → i < length b → drop i b ≡ get_or b i 0 ∷ drop (i + 1) b
 at_head b i l = (let e : suc i ≡ i + 1 = omega arith in drop-cons b i 0 l ∙ ap (λ (k : ℕ). get_or b i 0 ∷ drop k b) e)

@@ -6,8 +6,8 @@ use Rattle.std.specs.Prelude.{nat_lt}
 use Rattle.bist_text.specs.Grammar.{word}
 use Rattle.bist_text.specs.Identifiers.{begins_identifier, in_identifier, is_identifier}
 use Rattle.bist_text.proofs.LineStops.{is_run, run_parts, run_of}
-use Rattle.keyed_lines.specs.Parts.{Class, later, all_fit, is_word, up_to, all_of, begun_by}
-use Rattle.keyed_lines.proofs.PartLaws.{Words}
+use Rattle.bist_text.specs.keyed.Parts.{Class, later, all_fit, is_word, up_to, all_of, begun_by}
+use Rattle.bist_text.proofs.keyed.PartLaws.{Words}
 
 pub all_of_is : (p : ℕ → Bool) (w : List ℕ) → all_fit (all_of p) w ≡ list_all p w
 all_of_is p [] = refl

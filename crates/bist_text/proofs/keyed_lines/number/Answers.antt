@@ -1,8 +1,8 @@
 use Rattle.std.proofs.Common.{ap, ◌∙◌, sym}
 use Rattle.std.specs.Str.Parse.{digits_value}
-use Rattle.keyed_lines.specs.Reading.{took, onward}
-use Rattle.keyed_lines.proofs.Numbers.{number_value}
-use Rattle.keyed_lines.proofs.parts.number.Goals as goal
+use Rattle.bist_text.specs.keyed.Reading.{took, onward}
+use Rattle.bist_text.proofs.keyed.Numbers.{number_value}
+use Rattle.bist_text.proofs.keyed_lines.number.Goals as goal
 
 pub returns : goal.returns
 returns c =

@@ -7,9 +7,9 @@ use Rattle.bist_text.specs.declared.keywords.Spelled.TheVariants.{More, Whole}
 use Rattle.bist_text.specs.Grammar.{is_blank}
 use Rattle.bist_text.specs.Keywords.{Word, spell}
 use Rattle.bist_text.specs.Identifiers.{is_digit, begins_identifier, in_identifier}
-use Rattle.keyed_lines.specs.declared.parts.Class.{Class as ClassName}
-use Rattle.keyed_lines.specs.declared.parts.Class.TheVariants.{Number, Word as HexWord, Name, File}
-use Rattle.keyed_lines.specs.Reading.{Read, took, stuck, onward}
+use Rattle.bist_text.specs.declared.keyed_lines.Class.{Class as ClassName}
+use Rattle.bist_text.specs.declared.keyed_lines.Class.TheVariants.{Number, Word as HexWord, Name, File}
+use Rattle.bist_text.specs.keyed.Reading.{Read, took, stuck, onward}
 
 -- ---- blanks, a byte, the end
 

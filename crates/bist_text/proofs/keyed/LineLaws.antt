@@ -13,14 +13,14 @@ use Rattle.bist_text.proofs.LinePieces.{when_true, when_holds, when_false, apart
 use Rattle.bist_text.proofs.LineStops.{IsPlain, plain_blank, no_tail}
 use Rattle.bist_text.proofs.Pieces.{many_none}
 use Rattle.bist_text.proofs.RunPieces.{many_map, gap_map, gap_pull, word_map, word_pull}
-use Rattle.keyed_lines.specs.Reading.{Read, took, stuck, onward, outcome}
+use Rattle.bist_text.specs.keyed.Reading.{Read, took, stuck, onward, outcome}
 use Rattle.std.specs.Str.Parse.{digits_value}
 use Rattle.bist_text.specs.Identifiers.{is_digit}
-use Rattle.keyed_lines.specs.Parts.{gap_of, Class, is_word, word_of, number_of, fits_of, by_byte, remark_of, ends_with, is_hash}
-use Rattle.keyed_lines.specs.Lines.{keyed_of, line_of}
-use Rattle.keyed_lines.specs.declared.parts.Class.TheVariants.{Number}
-use Rattle.keyed_lines.proofs.Told.{Told, told_iff, told_exact}
-use Rattle.keyed_lines.proofs.PartLaws.{Hears, fewer, Shuns, Space, space_told, Gap, gap_told, Ends, ends_told, Remark, remark_told, Words, Begun, word_told, Either, either_told, Keys, key_told}
+use Rattle.bist_text.specs.keyed.Parts.{gap_of, Class, is_word, word_of, number_of, fits_of, by_byte, remark_of, ends_with, is_hash}
+use Rattle.bist_text.specs.keyed.Lines.{keyed_of, line_of}
+use Rattle.bist_text.specs.declared.keyed_lines.Class.TheVariants.{Number}
+use Rattle.bist_text.proofs.keyed.Told.{Told, told_iff, told_exact}
+use Rattle.bist_text.proofs.keyed.PartLaws.{Hears, fewer, Shuns, Space, space_told, Gap, gap_told, Ends, ends_told, Remark, remark_told, Words, Begun, word_told, Either, either_told, Keys, key_told}
 
 remark_shuns : {V : Type 0} (p : ℕ → Bool) (v : V) → p 35 ≡ false → Shuns p (Remark v)
 remark_shuns p v n c b w e h = when_false (c == 35) (Unit {0}) (apart p c 35 e n) h.1

@@ -4,7 +4,7 @@ use Rattle.bist_text.specs.Grammar.{Continues}
 use Rattle.bist_text.specs.Machine.{Outcome, read, unexpected, truncated}
 use Rattle.bist_text.specs.inner.Machine.{Answers, IsExact}
 use Rattle.bist_text.proofs.Settled.{split_at}
-use Rattle.keyed_lines.specs.Reading.{Read, took, stuck, outcome}
+use Rattle.bist_text.specs.keyed.Reading.{Read, took, stuck, outcome}
 
 -- ---- byte by byte
 

@@ -8,9 +8,9 @@ use Rattle.std.specs.Char.{digit_value}
 use Rattle.bist_text.specs.Numbers.{IsNumber}
 use Rattle.bist_text.proofs.LinePieces.{at_bool}
 use Rattle.bist_text.proofs.LineStops.{is_run, run_parts}
-use Rattle.keyed_lines.specs.Reading.{took, stuck}
-use Rattle.keyed_lines.specs.Parts.{Class, later, all_fit, is_word, up_to, front_of, behind_of, word_of}
-use Rattle.keyed_lines.proofs.Classes.{run_is}
+use Rattle.bist_text.specs.keyed.Reading.{took, stuck}
+use Rattle.bist_text.specs.keyed.Parts.{Class, later, all_fit, is_word, up_to, front_of, behind_of, word_of}
+use Rattle.bist_text.proofs.keyed.Classes.{run_is}
 use Rattle.bist_text.specs.Identifiers.{is_digit}
 
 front_fits : (fits : Class) (b : List ℕ) → all_fit fits (front_of fits b) ≡ true

@@ -2,10 +2,10 @@
 use Rattle.std.specs.Prelude.{ℕ, ◌-◌, suc, List, [], ◌∷◌, length, Option, None, Result, Ok, Err}
 use Rattle.bist_text.specs.Keywords.{Word}
 use Rattle.bist_text.specs.Machine.{Outcome, read, unexpected, truncated}
-use Rattle.keyed_lines.specs.Reading.{Read, took, onward}
-use Rattle.keyed_lines.specs.Parts.{spaced, gap_of, key_of, by_byte, is_hash, remark_of}
-use Rattle.keyed_lines.specs.declared.lines.LineFault.{LineFault}
-use Rattle.keyed_lines.specs.declared.lines.LineFault.TheVariants.{Unexpected, Truncated}
+use Rattle.bist_text.specs.keyed.Reading.{Read, took, onward}
+use Rattle.bist_text.specs.keyed.Parts.{spaced, gap_of, key_of, by_byte, is_hash, remark_of}
+use Rattle.bist_text.specs.declared.keyed_lines.LineFault.{LineFault}
+use Rattle.bist_text.specs.declared.keyed_lines.LineFault.TheVariants.{Unexpected, Truncated}
 
 abbrev pub keyed_of : {K C : Type 0} → List (Word K) → (K → List ℕ → Read (Option C)) → List ℕ → Read (Option C)
 keyed_of words argument_of b = onward (key_of words b) (λ k x. onward (gap_of x) (λ _ x. argument_of k x))

@@ -1,12 +1,16 @@
-//! Readers of the parts of a line.
+//! Lines of a first word and what stands behind it: readers of their parts, which stop where a line can't go on.
 
-ghost use Rattle.std.specs.Prelude.{◌≡◌, ◌≤◌, MatchResult, length};
+ghost use Rattle.std.specs.Prelude.{◌≡◌, ◌≤◌, MatchResult, length, map};
 ghost use Rattle.bist_text.specs.Grammar.{is_blank};
-ghost use Rattle.keyed_lines.specs.Reading.{took, stuck};
-ghost use Rattle.keyed_lines.specs.Parts.{spaced, gap_of, byte_of, end_of, fits_of, word_of, number_of, length_of};
+ghost use Rattle.bist_text.specs.Keywords.{word_of as word_of_table};
+ghost use Rattle.bist_text.specs.keyed.Lines.{fault_of};
+ghost use Rattle.bist_text.specs.keyed.Parts.{spaced, gap_of, byte_of, end_of, fits_of, key_of, word_of, number_of, length_of};
+ghost use Rattle.bist_text.specs.keyed.Reading.{took, stuck};
 
-use bist_text::byte_sets::BLANKS;
-use bist_text::{begins_identifier, decimal, in_identifier};
+use crate::byte_sets::BLANKS;
+use crate::identifiers::{begins_identifier, in_identifier};
+use crate::keywords::{Keyword, Letters, Spelled, next_letter};
+use crate::numbers::decimal;
 
 /// What a reader makes of what is left of a line: a value and what is then left; or what is left where the line can't go on
 /// so, which is nothing where it ended too early.
@@ -41,7 +45,7 @@ impl Class {
 }
 
 /// What stands behind the blanks.
-#[tactic(auto, using(bist_text::proofs::Behind::blanks_have, crate::proofs::Steps::blank_on, crate::proofs::Steps::blank_stop, crate::proofs::Steps::blank_end))]
+#[tactic(auto, using(crate::proofs::Behind::blanks_have, crate::proofs::keyed::Steps::blank_on, crate::proofs::keyed::Steps::blank_stop, crate::proofs::keyed::Steps::blank_end))]
 pub fn blanks(text: &[u8]) -> &[u8]
     ensures { result.now ≡ spaced text.now }
 {
@@ -54,7 +58,7 @@ pub fn blanks(text: &[u8]) -> &[u8]
 }
 
 /// One or more blanks.
-#[tactic(auto, using(bist_text::proofs::Behind::blanks_have, crate::proofs::Steps::gap_took))]
+#[tactic(auto, using(crate::proofs::Behind::blanks_have, crate::proofs::keyed::Steps::gap_took))]
 pub fn gap(text: &[u8]) -> Read<'_, ()>
     ensures { MatchResult result (λ r. gap_of text.now ≡ took r.0 r.1.now) (λ left. gap_of text.now ≡ stuck left.now) }
 {
@@ -104,7 +108,7 @@ pub fn end(text: &[u8]) -> Read<'_, ()>
 }
 
 /// How many bytes from the front on a word of a class can have.
-#[tactic(auto, using(crate::proofs::Steps::fit_on, crate::proofs::Steps::fit_stop, crate::proofs::Steps::fit_end))]
+#[tactic(auto, using(crate::proofs::keyed::Steps::fit_on, crate::proofs::keyed::Steps::fit_stop, crate::proofs::keyed::Steps::fit_end))]
 fn fit_len(text: &[u8], class: Class) -> usize
     ensures value { result ≡ length_of (fits_of class) 0 text.now }
     ensures within { result ≤ length text.now }
@@ -118,7 +122,7 @@ fn fit_len(text: &[u8], class: Class) -> usize
 }
 
 /// A word of a class.
-#[tactic(auto, using(crate::proofs::Steps::word_none, crate::proofs::Steps::word_some))]
+#[tactic(auto, using(crate::proofs::keyed::Steps::word_none, crate::proofs::keyed::Steps::word_some))]
 pub fn word(text: &[u8], class: Class) -> Read<'_, &[u8]>
     ensures { MatchResult result (λ r. word_of (fits_of class) text.now ≡ took r.0.now r.1.now) (λ left. word_of (fits_of class) text.now ≡ stuck left.now) }
 {
@@ -137,4 +141,39 @@ pub fn number(text: &[u8]) -> Read<'_, u32>
     let (digits, text) = word(text, Class::Number)?;
     let value = decimal(digits).unwrap_or(0);
     Ok((value, text))
+}
+
+/// A word of a table.
+pub fn key<'a, T: Copy>(text: &'a [u8], words: &[Keyword<T>]) -> Read<'a, T>
+    ensures { MatchResult result (λ r. key_of (map word_of_table words.now) text.now ≡ took r.0 r.1.now) (λ left. key_of (map word_of_table words.now) text.now ≡ stuck left.now) }
+{
+    let mut letters = Letters { word: 0, count: 0 };
+    for (i, byte) in text.iter().enumerate() {
+        match next_letter(words, letters, *byte) {
+            None => return Err(&text[i..]),
+            Some(Spelled::Whole(value)) => return Ok((value, &text[i + 1..])),
+            Some(Spelled::More(more)) => letters = more,
+        }
+    }
+    Err(&[])
+}
+
+/// Why a text is no line of a table.
+#[derive(Clone, Copy)]
+pub enum LineFault {
+    /// The line up to and with this byte can't go on to a line of the table.
+    Unexpected(usize),
+    /// The line could go on to one.
+    Truncated,
+}
+
+/// The fault of a line of which this is left where it can't go on.
+pub fn fault_at(text: &[u8], left: &[u8]) -> LineFault
+    ensures { result ≡ fault_of text.now left.now }
+{
+    if left.is_empty() {
+        LineFault::Truncated
+    } else {
+        LineFault::Unexpected(text.len().saturating_sub(left.len()))
+    }
 }
