@@ -4,3 +4,4 @@ pub mod Classes
 pub mod Numbers
 pub mod Steps
 pub mod LineLaws
+pub mod Items

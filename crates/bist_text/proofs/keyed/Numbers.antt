@@ -9,7 +9,7 @@ use Rattle.bist_text.specs.Numbers.{IsNumber}
 use Rattle.bist_text.proofs.LinePieces.{at_bool}
 use Rattle.bist_text.proofs.LineStops.{is_run, run_parts}
 use Rattle.bist_text.specs.keyed.Reading.{took, stuck}
-use Rattle.bist_text.specs.keyed.Parts.{Class, later, all_fit, is_word, up_to, front_of, behind_of, word_of}
+use Rattle.bist_text.specs.keyed.Parts.{Class, later, all_fit, is_word, is_hex_digit, up_to, front_of, behind_of, word_of}
 use Rattle.bist_text.proofs.keyed.Classes.{run_is}
 use Rattle.bist_text.specs.Identifiers.{is_digit}
 
@@ -51,3 +51,16 @@ is_numeral ds n = let p = run_parts is_digit 9 ds n in ((p.1, ten_digits ds p.0)
 -- the value of a number that is taken
 pub number_value : (b ds x : List ℕ) (o : Option ℕ) (n : ℕ) → word_of (up_to is_digit 9) b ≡ took ds x → SomeIff o (IsNumber 10 9 ds) (digits_value 10 ds) → n ≡ unwrap_or o 0 → n ≡ digits_value 10 ds
 number_value b ds x o n h s u = some_value o (IsNumber 10 9 ds) (digits_value 10 ds) n s u (is_numeral ds ((run_is is_digit 9 ds).0 (word_formed (up_to is_digit 9) b ds x h)))
+
+sixteen_byte : (c : ℕ) → is_hex_digit c ≡ true → digit_value c < 16
+sixteen_byte c h = grind (arith, nat_tests)
+
+sixteen_digits : (ds : List ℕ) → list_all is_hex_digit ds ≡ true → AllDigits 16 ds
+sixteen_digits [] h = tt
+sixteen_digits (c ∷ cs) h = let p = and_parts (is_hex_digit c) (list_all is_hex_digit cs) h in (sixteen_byte c p.0, sixteen_digits cs p.1)
+
+-- the value of a word that is taken
+pub hex_value : (b ds x : List ℕ) (o : Option ℕ) (n : ℕ) → word_of (up_to is_hex_digit 16) b ≡ took ds x → SomeIff o (IsNumber 16 16 ds) (digits_value 16 ds) → n ≡ unwrap_or o 0 → n ≡ digits_value 16 ds
+hex_value b ds x o n h s u =
+    let p = run_parts is_hex_digit 16 ds ((run_is is_hex_digit 16 ds).0 (word_formed (up_to is_hex_digit 16) b ds x h)) in
+    some_value o (IsNumber 16 16 ds) (digits_value 16 ds) n s u ((p.1, sixteen_digits ds p.0), p.2)

@@ -1,5 +1,5 @@
 -- Public. For proofs and contracts between these crates: what readers of the parts of a line make of what is left of it.
-use Rattle.std.specs.Prelude.{ℕ, ◌==◌, ◌&&◌, Bool, true, false, if◌then◌else◌, List, [], ◌∷◌, Option, Some, None, zero, suc, ◌+◌, ◌||◌, not, nat_lt, nat_le}
+use Rattle.std.specs.Prelude.{ℕ, ◌==◌, ◌&&◌, Bool, true, false, if◌then◌else◌, List, [], ◌∷◌, length, Option, Some, None, zero, suc, ◌+◌, ◌||◌, not, nat_lt, nat_le}
 use Rattle.std.specs.Str.Parse.{digits_value}
 use Rattle.bist_text.specs.declared.keywords.Letters.{Letters}
 use Rattle.bist_text.specs.declared.keywords.Spelled.{Spelled}
@@ -131,3 +131,19 @@ key_of ws b = key_from ws no_letters b
 abbrev pub by_byte : {V : Type 0} → (ℕ → Bool) → (List ℕ → Read V) → (List ℕ → Read V) → Read V → List ℕ → Read V
 by_byte p r s o [] = o
 by_byte p r s o (c ∷ b) = if p c then r (c ∷ b) else s (c ∷ b)
+
+-- ---- items, one after another
+
+-- behind an item: the next, or nothing more
+abbrev pub by_item : {A V : Type 0} → Option A → Read V → (A → Read V) → Read V
+by_item None r f = r
+by_item (Some a) r f = f a
+
+-- at most so many
+abbrev pub items_from : {A V : Type 0} → (List ℕ → Read (Option A)) → ℕ → (List A → V) → List ℕ → Read V
+items_from next zero f b = took (f []) b
+items_from next (suc n) f b = onward (next b) (λ o x. by_item o (took (f []) x) (λ a. items_from next n (λ xs. f (a ∷ xs)) x))
+
+-- all of them; each takes a byte at least
+abbrev pub items_of : {A : Type 0} → (List ℕ → Read (Option A)) → List ℕ → Read (List A)
+items_of next b = items_from next (length b) (λ xs. xs) b
