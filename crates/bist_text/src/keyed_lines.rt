@@ -6,7 +6,7 @@ ghost use Rattle.bist_text.specs.Grammar.{is_blank};
 ghost use Rattle.bist_text.specs.Keywords.{word_of as word_of_table};
 ghost use Rattle.bist_text.specs.declared.keyed_lines.Class.TheVariants.{Number, Word as HexWord};
 ghost use Rattle.bist_text.specs.keyed.Lines.{fault_of};
-ghost use Rattle.bist_text.specs.keyed.Parts.{spaced, gap_of, byte_of, end_of, fits_of, key_of, word_of, number_of, length_of};
+ghost use Rattle.bist_text.specs.keyed.Parts.{spaced, gap_of, byte_of, comment_of, end_of, fits_of, key_of, word_of, number_of, length_of};
 ghost use Rattle.bist_text.specs.keyed.Reading.{took, stuck};
 
 use crate::byte_sets::BLANKS;
@@ -92,11 +92,10 @@ pub fn byte(text: &[u8], wanted: u8) -> Read<'_, ()>
     }
 }
 
-/// The end of a line: blanks and a comment.
-pub fn end(text: &[u8]) -> Read<'_, ()>
-    ensures { MatchResult result (λ r. end_of text.now ≡ took r.0 r.1.now) (λ left. end_of text.now ≡ stuck left.now) }
+/// Nothing, or a comment.
+pub fn comment(text: &[u8]) -> Read<'_, ()>
+    ensures { MatchResult result (λ r. comment_of text.now ≡ took r.0 r.1.now) (λ left. comment_of text.now ≡ stuck left.now) }
 {
-    let text = blanks(text);
     match text {
         [] => Ok(((), text)),
         [first, _rest @ ..] => {
@@ -107,6 +106,13 @@ pub fn end(text: &[u8]) -> Read<'_, ()>
             }
         }
     }
+}
+
+/// The end of a line: blanks and a comment.
+pub fn end(text: &[u8]) -> Read<'_, ()>
+    ensures { MatchResult result (λ r. end_of text.now ≡ took r.0 r.1.now) (λ left. end_of text.now ≡ stuck left.now) }
+{
+    comment(blanks(text))
 }
 
 /// How many bytes from the front on a word of a class can have.

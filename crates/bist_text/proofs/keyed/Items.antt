@@ -1,7 +1,8 @@
 -- Items one after another, where each takes a byte at least.
-use Rattle.std.proofs.Common.{◌≡◌, ℕ, zero, suc, ◌+◌, ◌-◌, ◌<◌, ◌≤◌, Bool, true, false, if◌then◌else◌, List, [], ◌∷◌, length, Option, Some, None, refl, sym, ap, ◌∙◌, arith, zero-le}
+use Rattle.std.proofs.Common.{◌≡◌, ℕ, zero, suc, ◌+◌, ◌-◌, ◌<◌, ◌≤◌, ◌==◌, Bool, true, false, if◌then◌else◌, List, [], ◌∷◌, length, Option, Some, None, refl, sym, ap, ◌∙◌, arith, zero-le}
+use Rattle.std.specs.Prelude.{option_map}
 use Rattle.bist_text.specs.Grammar.{is_blank}
-use Rattle.bist_text.specs.keyed.Parts.{spaced, Class, later, behind_of, by_item, items_from, items_of}
+use Rattle.bist_text.specs.keyed.Parts.{spaced, comment_of, remark_of, Class, later, front_of, behind_of, word_of, by_item, items_from, items_of, gathered}
 use Rattle.bist_text.specs.keyed.Reading.{Read, took, stuck, onward}
 use Rattle.bist_text.proofs.LinePieces.{at_bool}
 
@@ -18,6 +19,14 @@ pub unmade : {A B : Type 0} (f : A → B) (o : Read A) (x : List ℕ) → onward
 unmade f (took a y) x e = (let z : ⊥ = cc in absurd z)
 unmade f (stuck y) x e = (let here : y ≡ x = cc in ap stuck here)
 
+-- no item, and an item, with what is made of them
+pub no_item : {A V : Type 0} (v : V) (k : A → List ℕ → Read V) (b : List ℕ) → onward (remark_of None b) (λ o x. by_item o (took v x) (λ a. k a x)) ≡ remark_of v b
+no_item v k b = onward_on (comment_of b) (λ _ x. took None x) (λ o x. by_item o (took v x) (λ a. k a x))
+
+pub one_item : {A V : Type 0} (o : Read A) (v : V) (k : A → List ℕ → Read V) → onward (onward o (λ a x. took (Some a) x)) (λ o x. by_item o (took v x) (λ a. k a x)) ≡ onward o k
+one_item (took a x) v k = refl
+one_item (stuck x) v k = refl
+
 -- ---- what is left is shorter
 
 pub spaced_shorter : (b : List ℕ) → length (spaced b) ≤ length b
@@ -30,11 +39,45 @@ behind_shorter fits [] = zero-le
 behind_shorter fits (c ∷ b) =
     at_bool (λ t. length (if t then behind_of (later fits) b else c ∷ b) ≤ length (c ∷ b)) (fits 0 c) (λ e. (let l = behind_shorter (later fits) b in omega arith)) (λ e. omega arith)
 
+-- nothing is longer behind a reader
+abbrev pub Shorter : {A : Type 0} → ℕ → Read A → Type 0
+Shorter n (took a x) = length x ≤ n
+Shorter n (stuck x) = Unit {0}
+
+pub weaker : {A : Type 0} (m n : ℕ) (o : Read A) → m ≤ n → Shorter m o → Shorter n o
+weaker m n (took a x) l h = omega arith
+weaker m n (stuck x) l h = tt
+
+pub made_shorter : {A : Type 0} (fits : Class) (f : List ℕ → A) (b : List ℕ) → Shorter (length b) (onward (word_of fits b) (λ w x. took (f w) x))
+made_shorter fits f [] = tt
+made_shorter fits f (c ∷ b) =
+    at_bool (λ t. Shorter (length (c ∷ b)) (onward (if t then took (c ∷ front_of (later fits) b) (behind_of (later fits) b) else stuck (c ∷ b)) (λ w x. took (f w) x))) (fits 0 c)
+    (λ e. (let l = behind_shorter (later fits) b in omega arith)) (λ e. tt)
+
 -- an item takes a byte
 abbrev pub Shortens : {A : Type 0} → ℕ → Read (Option A) → Type 0
 Shortens n (took None x) = Unit {0}
 Shortens n (took (Some a) x) = length x < n
 Shortens n (stuck x) = Unit {0}
+
+pub longer : {A : Type 0} (m n : ℕ) (o : Read (Option A)) → m ≤ n → Shortens m o → Shortens n o
+longer m n (took None x) l h = tt
+longer m n (took (Some a) x) l h = (let small : length x < m = h in omega arith)
+longer m n (stuck x) l h = tt
+
+pub some_shortens : {A : Type 0} (m n : ℕ) (o : Read A) → Shorter m o → m < n → Shortens n (onward o (λ a x. took (Some a) x))
+some_shortens m n (took a x) h l = (let small : length x ≤ m = h in omega arith)
+some_shortens m n (stuck x) h l = tt
+
+pub remark_shortens : (A : Type 0) (n : ℕ) (b : List ℕ) → Shortens {A = A} n (remark_of None b)
+remark_shortens A n [] = tt
+remark_shortens A n (c ∷ b) = at_bool (λ t. Shortens {A = A} n (onward (if t then took tt [] else stuck (c ∷ b)) (λ _ x. took None x))) (c == 35) (λ e. tt) (λ e. tt)
+
+pub word_shortens : (fits : Class) (b : List ℕ) → Shortens (length b) (onward (word_of fits b) (λ w x. took (Some w) x))
+word_shortens fits [] = tt
+word_shortens fits (c ∷ b) =
+    at_bool (λ t. Shortens (length (c ∷ b)) (onward (if t then took (c ∷ front_of (later fits) b) (behind_of (later fits) b) else stuck (c ∷ b)) (λ w x. took (Some w) x))) (fits 0 c)
+    (λ e. (let l = behind_shorter (later fits) b in omega arith)) (λ e. tt)
 
 -- ---- items
 
@@ -105,3 +148,41 @@ module _ {A : Type 0} (next : List ℕ → Read (Option A)) (is_next : IsNext ne
 
   pub items_stuck : {V : Type 0} (f : List A → V) (b x : List ℕ) → next b ≡ stuck x → onward (items_of next b) (λ xs x. took (f xs) x) ≡ stuck x
   items_stuck f b x e = by_next f b (stuck x) e
+
+-- ---- a loop over items
+
+some_of : {A S : Type 0} (seen : A → S) (o : Option A) (s : S) → Some s ≡ option_map seen o → (a : A) × (o ≡ Some a) × (s ≡ seen a)
+some_of seen None s e = (let z : ⊥ = cc in absurd z)
+some_of seen (Some a) s e = (a, refl, (let same : s ≡ seen a = cc in same))
+
+none_of : {A S : Type 0} (seen : A → S) (o : Option A) → None ≡ option_map seen o → o ≡ None
+none_of seen None e = refl
+none_of seen (Some a) e = (let z : ⊥ = cc in absurd z)
+
+-- what a loop has of items, and how it adds one
+module _ {A S G : Type 0} (next : List ℕ → Read (Option A)) (is_next : IsNext next) (seen : A → S) (add : G → S → G) where
+  abbrev pub added : G → List A → G
+  added = gathered (λ g a. add g (seen a))
+
+  -- the whole, where this is left
+  abbrev pub Gathered : G → List ℕ → Read G
+  Gathered g b = onward (items_of next b) (λ xs x. took (added g xs) x)
+
+  -- the next is read
+  abbrev pub IsRead : List ℕ → Option S → List ℕ → Type 0
+  IsRead b n x = (o : Option A) × (next b ≡ took o x) × (n ≡ option_map seen o)
+
+  pub gather_on : {all : Read G} {n : Option S} {s : S} (b x : List ℕ) (g new : G) → Gathered g b ≡ all → IsRead b n x → n ≡ Some s → new ≡ add g s → Gathered new x ≡ all
+  gather_on b x g new h r e k =
+      let a = some_of seen r.0 _ (sym e ∙ r.2) in
+      ap (λ g. Gathered g x) (k ∙ ap (add g) a.2) ∙ sym (items_on next is_next (added g) b x a.0 (r.1 ∙ ap (λ o. took o x) a.1)) ∙ h
+
+  pub gather_smaller : {n : Option S} {s : S} (b x : List ℕ) → IsRead b n x → n ≡ Some s → length x < length b
+  gather_smaller b x r e = (let a = some_of seen r.0 _ (sym e ∙ r.2) in next_shorter next is_next b x a.0 (r.1 ∙ ap (λ o. took o x) a.1))
+
+  pub gather_end : {n : Option S} (all b x : List ℕ) (first g : G) → Gathered g b ≡ Gathered first all → IsRead b n x → n ≡ None → (xs : List A) × (items_of next all ≡ took xs x) × (g ≡ added first xs)
+  gather_end all b x first g h r e =
+      made_of (added first) (items_of next all) g x (sym h ∙ items_end next is_next (added g) b x (r.1 ∙ ap (λ o. took o x) (none_of seen r.0 (sym e ∙ r.2))))
+
+  pub gather_stuck : (all b x : List ℕ) (first g : G) → Gathered g b ≡ Gathered first all → next b ≡ stuck x → items_of next all ≡ stuck x
+  gather_stuck all b x first g h e = unmade (added first) (items_of next all) x (sym h ∙ items_stuck next is_next (added g) b x e)

@@ -19,14 +19,26 @@ use Rattle.bist_text.specs.Identifiers.{is_digit}
 use Rattle.bist_text.specs.keyed.Parts.{gap_of, Class, is_word, word_of, number_of, fits_of, by_byte, remark_of, ends_with, is_hash}
 use Rattle.bist_text.specs.keyed.Lines.{keyed_of, line_of}
 use Rattle.bist_text.specs.declared.keyed_lines.Class.TheVariants.{Number}
-use Rattle.bist_text.proofs.keyed.Told.{Told, told_iff, told_exact}
-use Rattle.bist_text.proofs.keyed.PartLaws.{Hears, fewer, Shuns, Space, space_told, Gap, gap_told, Ends, ends_told, Remark, remark_told, Words, Begun, word_told, Either, either_told, Keys, key_told}
+use Rattle.bist_text.proofs.keyed.Told.{Never, AtEnd, Told, told_iff, told_exact}
+use Rattle.bist_text.proofs.keyed.PartLaws.{Hears, fewer, Shuns, Space, space_told, Gap, gap_told, Byte, Ends, ends_told, Remark, remark_told, Words, Begun, word_told, Either, either_told, Keys, key_told}
 
-remark_shuns : {V : Type 0} (p : ℕ → Bool) (v : V) → p 35 ≡ false → Shuns p (Remark v)
+pub remark_shuns : {V : Type 0} (p : ℕ → Bool) (v : V) → p 35 ≡ false → Shuns p (Remark v)
 remark_shuns p v n c b w e h = when_false (c == 35) (Unit {0}) (apart p c 35 e n) h.1
 
-either_shuns : {V : Type 0} (p : ℕ → Bool) (G H : List ℕ → V → Type 0) → Shuns p G → Shuns p H → Shuns p (Either G H)
+pub either_shuns : {V : Type 0} (p : ℕ → Bool) (G H : List ℕ → V → Type 0) → Shuns p G → Shuns p H → Shuns p (Either G H)
 either_shuns p G H f g c b v e h = elim h [ inl a ↦ f c b v e a | inr a ↦ g c b v e a ]
+
+pub byte_shuns : {V : Type 0} (p : ℕ → Bool) (d : ℕ) (G : List ℕ → V → Type 0) → p d ≡ false → Shuns p (Byte d G)
+byte_shuns p d G n c b v e h = when_false (c == d) (G b v) (apart p c d e n) h
+
+pub byte_only : {V : Type 0} (d : ℕ) (G : List ℕ → V → Type 0) (c : ℕ) → (c == d) ≡ false → Never c (Byte d G)
+byte_only d G c e x v h = when_false (c == d) (G x v) e h
+
+pub remark_only : {V : Type 0} (v : V) (c d : ℕ) → (d == 35) ≡ false → (c == d) ≡ true → Never c (Remark v)
+remark_only v c d n e x w h = when_false (c == 35) (Unit {0}) (ap (λ (k : ℕ). k == 35) (eqb-true c d e) ∙ n) h.1
+
+pub remark_end : {V : Type 0} (v : V) (G : List ℕ → V → Type 0) → ((w : V) → G [] w → ⊥) → AtEnd (Either G (Remark v)) (took v [])
+remark_end v G n = (inr (refl, tt), λ w h. elim h [ inl a ↦ absurd (n w a) | inr a ↦ a.0 ])
 
 -- a word of a class without blanks begins with none
 pub word_shuns : {V : Type 0} (fits : Class) (p : ℕ → Bool) (G : List ℕ → List ℕ → V → Type 0) → ((c : ℕ) → fits 0 c ≡ true → p c ≡ true) → IsPlain p → Shuns is_blank (Words fits G)

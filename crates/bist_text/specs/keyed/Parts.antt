@@ -147,3 +147,8 @@ items_from next (suc n) f b = onward (next b) (λ o x. by_item o (took (f []) x)
 -- all of them; each takes a byte at least
 abbrev pub items_of : {A : Type 0} → (List ℕ → Read (Option A)) → List ℕ → Read (List A)
 items_of next b = items_from next (length b) (λ xs. xs) b
+
+-- what items come to, one after another
+abbrev pub gathered : {A G : Type 0} → (G → A → G) → G → List A → G
+gathered add g [] = g
+gathered add g (a ∷ xs) = gathered add (add g a) xs
