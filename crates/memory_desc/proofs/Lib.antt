@@ -7,6 +7,7 @@ pub mod LineReads
 pub mod LineChecking
 pub mod OneText
 pub mod NameBytes
+pub mod SeenLaws
 pub mod Stated
 pub mod Rows
 pub mod Chosen
@@ -29,8 +30,8 @@ pub mod BackValues
 pub mod ReadBack
 pub mod BackDescribed
 pub mod DescribedLaws
+pub mod LineTests
 pub mod Searches
 pub mod KeptNumbers
 pub mod Repeats
-pub mod LineTests
 pub mod OneOutcome

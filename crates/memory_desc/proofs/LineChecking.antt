@@ -26,9 +26,9 @@ module _ {all : Option MemoryFault} {version : Option Version} {before left : Li
   here : (v : Option Version) → version ≡ v → all ≡ lines_refusal v (l ∷ left)
   here v e = a ∙ ap (lines_refusal version) step ∙ ap (λ o. lines_refusal o (l ∷ left)) e
 
-  pub later_on : {r : Result (Unit {0}) MemoryFault} (n : Version) (x : Unit {0}) → version ≡ Some n → r ≡ checked (line_refusal (Some n) l) → r ≡ Ok x → all ≡ lines_refusal version left
+  pub later_on : {r : Result (Unit {0}) MemoryFault} (n : Version) (x : Unit {0}) → version ≡ Some n → r ≡ checked (line_refusal (Some n) l) → r ≡ Ok x → all ≡ later_refusal n left
   later_on n x e c k =
-      here (Some n) e ∙ ap (λ o. or_later o (later_refusal n left)) (unchecked (line_refusal (Some n) l) x (sym c ∙ k)) ∙ ap (λ o. lines_refusal o left) (sym e)
+      here (Some n) e ∙ ap (λ o. or_later o (later_refusal n left)) (unchecked (line_refusal (Some n) l) x (sym c ∙ k))
 
   pub later_stop : {r : Result (Unit {0}) MemoryFault} (n : Version) (f : MemoryFault) → version ≡ Some n → r ≡ checked (line_refusal (Some n) l) → r ≡ Err f → Err f ≡ checked all
   later_stop n f e c k = sym (ap checked (here (Some n) e ∙ ap (λ o. or_later o (later_refusal n left)) (refused (line_refusal (Some n) l) f (sym c ∙ k))))

@@ -148,9 +148,11 @@ lines_say (l ∷ ls) e = go (heard None l.text) refl (λ g. lines_say ls g)
         let s : said l.text ≡ Some (version ds) = says l.text (Some (version ds)) t in
         let more = later_says n ls h in (
           (said l.text, statements ls, subst (LineText l.text) (sym s) t, more.0, refl),
-          n,
-          subst (λ (v : Option Content). IsOfVersion (stated l.number v ++ statements ls) n) (sym s)
-              (record { first = k; tabled = and_from (is_said_in n (record { line = l.number; content = version ds })) (list_all (is_said_in n) (statements ls)) (stands n) more.1 }),
+          (
+            n,
+            subst (λ (v : Option Content). IsOfVersion (stated l.number v ++ statements ls) n) (sym s)
+                (record { first = k; tabled = and_from (is_said_in n (record { line = l.number; content = version ds })) (list_all (is_said_in n) (statements ls)) (stands n) more.1 }),
+          ),
         )
       where
         stands : (n : Version) → in_table n (kind_of (version ds)) ≡ true
@@ -163,8 +165,7 @@ lines_say (l ∷ ls) e = go (heard None l.text) refl (λ g. lines_say ls g)
         let s : said l.text ≡ None = says l.text None t in
         let w = again (at (read None) h) in (
           (said l.text, statements ls, subst (LineText l.text) (sym s) t, w.0, refl),
-          w.1.0,
-          subst (λ (v : Option Content). IsOfVersion (stated l.number v ++ statements ls) w.1.0) (sym s) w.1.1,
+          (w.1.0, subst (λ (v : Option Content). IsOfVersion (stated l.number v ++ statements ls) w.1.0) (sym s) w.1.1),
         )
     go (read (Some k)) h again =
         let v = version_heard l.text k h in

@@ -95,7 +95,7 @@ fn listed(words: WordList) -> Result<ArrayVec<u64, 8>, MemoryFault>
 /// The backgrounds of a `backgrounds` line.
 fn backgrounds_of(content: Content<'_>, bits: u8) -> Result<ArrayVec<u64, 8>, MemoryFault>
     requires { (1 ≤ bits) × (bits ≤ 64) }
-    ensures { (c : LineContent) → plain_content content ≡ seen c → kind_of c ≡ Backgrounds
+    ensures { (c : LineContent) → plain_content content.entry ≡ seen c → kind_of c ≡ Backgrounds
         → MatchResult result (λ b. SelectsBackgrounds (Some c) bits (Ok b.items)) (λ fault. SelectsBackgrounds (Some c) bits (Err fault)) }
 {
     match content {

@@ -93,6 +93,7 @@ fn is_repeat(bytes: &[u8], line: usize, subject: Subject, met: &mut RowNumbers) 
 }
 
 /// No line may speak of what an earlier one speaks of.
+#[tactic(auto, using(crate::proofs::Repeats::passing_begun))]
 pub fn check_repeats(bytes: &[u8]) -> Result<(), MemoryFault>
     ensures { result ≡ checked (repeated (statements (text_lines bytes.now))) }
 {
@@ -150,7 +151,6 @@ fn is_too_wide(content: &Content<'_>, width: u8, bits: u8) -> bool
 }
 
 /// Names, numbers of words and of bits, latencies and pauses stay within their ranges.
-#[tactic(auto, using(crate::proofs::Searches::ranges_checked))]
 pub fn check_ranges(bytes: &[u8]) -> Result<(), MemoryFault>
     ensures { result ≡ checked (out_of_range (statements (text_lines bytes.now))) }
 {
