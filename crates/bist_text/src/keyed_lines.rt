@@ -47,7 +47,7 @@ impl Class {
 }
 
 /// What stands behind the blanks.
-#[tactic(auto, using(crate::proofs::Behind::blanks_have, crate::proofs::keyed::Steps::blank_on, crate::proofs::keyed::Steps::blank_stop, crate::proofs::keyed::Steps::blank_end))]
+#[tactic(auto, using(crate::proofs::Blanks::blanks_have, crate::proofs::keyed::Steps::blank_on, crate::proofs::keyed::Steps::blank_stop, crate::proofs::keyed::Steps::blank_end))]
 pub fn blanks(text: &[u8]) -> &[u8]
     ensures { result.now ≡ spaced text.now }
 {
@@ -60,7 +60,7 @@ pub fn blanks(text: &[u8]) -> &[u8]
 }
 
 /// One or more blanks.
-#[tactic(auto, using(crate::proofs::Behind::blanks_have, crate::proofs::keyed::Steps::gap_took))]
+#[tactic(auto, using(crate::proofs::Blanks::blanks_have, crate::proofs::keyed::Steps::gap_took))]
 pub fn gap(text: &[u8]) -> Read<'_, ()>
     ensures { MatchResult result (λ r. gap_of text.now ≡ took r.0 r.1.now) (λ left. gap_of text.now ≡ stuck left.now) }
 {

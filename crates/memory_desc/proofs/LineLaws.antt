@@ -1,5 +1,5 @@
 -- Each kind of line is read as the grammar says.
-use Rattle.std.proofs.Common.{◌≡◌, ◌⊎◌, ℕ, suc, ◌≤◌, ◌==◌, ◌&&◌, Bool, true, false, List, [], ◌∷◌, codes, Option, Some, None, refl, ◌↔◌, inl, inr, sym, ap, subst, ◌∙◌, arith}
+use Rattle.std.proofs.Common.{◌≡◌, ◌⊎◌, ℕ, suc, ◌==◌, Bool, true, List, [], ◌∷◌, codes, Option, Some, None, refl, ◌↔◌, inl, inr, sym, ap, subst, ◌∙◌, arith}
 use Rattle.std.proofs.lemmas.Bool.{eqb-true, and_parts, and_from}
 use Rattle.std.specs.List.{list_all}
 use Rattle.std.specs.Prelude.{slice_get, nat_lt}
@@ -27,7 +27,7 @@ use Rattle.memory_desc.specs.declared.content.Version.{Version}
 use Rattle.memory_desc.specs.declared.content.Version.TheVariants.{One, Two}
 use Rattle.memory_desc.specs.inner.Heard.{term_of, terms_of, words_of, is_l, argument_of, keys_in, keys_of}
 use Rattle.memory_desc.proofs.TermLaws.{OneTerm, term_told, More, terms_told, more_no_digits, SaysOne, Whole, one_whole, whole_one, term_shuns}
-use Rattle.memory_desc.proofs.WordLaws.{hex_plain, hex_begun, MoreWords, all_words_told, words_no_hex, Hex, SaysHex, hex_whole, whole_hex, begins_hex, no_hex}
+use Rattle.memory_desc.proofs.WordLaws.{hex_plain, hex_begun, MoreWords, all_words_told, words_no_hex, Hex, hex_whole, whole_hex, begins_hex, no_hex}
 
 abbrev Arg : Key → List ℕ → Option Content → Type 0
 Arg = Behind kind_of is_formed (λ c. argument c tail)
@@ -189,11 +189,14 @@ row_iff x v = (from x, λ h. to h.0.content h.0.kind h.0.formed h.0.says x h.1)
         let q = when_holds (c == 97) (word i (equation (t ∷ ts) tail) x) h in
         let p = and_parts (is_number i) (list_all is_term (t ∷ ts)) f in
         let s : SaysOne (row_says i) v = record { term = t; terms = ts; formed = p.1; says = e } in
-        (when_true (c == 97) (Words (fits_of Number) (λ i. Space (Byte 61 (Space (RowTerms i)))) x v) q.0).1
-        (i, (run_is is_digit 9 i).1 p.0, word_map i (equation (t ∷ ts) tail) (λ y. space (byte 61 (space (λ z. RowTerms i z v))) y)
-        (many_map is_blank (byte 61 (space (word (term_text t) (more_terms ts tail)))) (byte 61 (space (λ z. RowTerms i z v)))
-        (byte_map 61 (space (word (term_text t) (more_terms ts tail))) (space (λ z. RowTerms i z v))
-        (many_map is_blank (word (term_text t) (more_terms ts tail)) (λ z. RowTerms i z v) (whole_one (row_says i) v s)))) x q.1)
+        (when_true (c == 97) (Words (fits_of Number) (λ i. Space (Byte 61 (Space (RowTerms i)))) x v) q.0).1 (
+          i,
+          (run_is is_digit 9 i).1 p.0,
+          word_map i (equation (t ∷ ts) tail) (λ y. space (byte 61 (space (λ z. RowTerms i z v))) y)
+              (many_map is_blank (byte 61 (space (word (term_text t) (more_terms ts tail)))) (byte 61 (space (λ z. RowTerms i z v)))
+              (byte_map 61 (space (word (term_text t) (more_terms ts tail))) (space (λ z. RowTerms i z v))
+              (many_map is_blank (word (term_text t) (more_terms ts tail)) (λ z. RowTerms i z v) (whole_one (row_says i) v s)))) x q.1,
+        )
     to c k f e x h = (let z : ⊥ = cc in absurd z)
 
 row_told : (n : ℕ) → Hears n (Arg Scramble) (argument_of Scramble)

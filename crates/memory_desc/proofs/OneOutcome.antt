@@ -1,5 +1,5 @@
 -- A text is read as one memory, or refused in one way.
-use Rattle.std.proofs.Common.{◌≡◌, ◌⊎◌, ◌↔◌, ◌∙◌, ℕ, List, Option, Some, None, Result, Ok, Err, refl, sym, ap, subst, inl, inr}
+use Rattle.std.proofs.Common.{◌≡◌, ◌⊎◌, ◌↔◌, ◌∙◌, ℕ, List, Some, None, Result, Ok, Err, refl, sym, ap, subst, inl, inr}
 use Rattle.bist_text.specs.Lines.{text_lines}
 use Rattle.memory_desc.specs.Descriptions.{Description}
 use Rattle.memory_desc.specs.Statements.{Statement}

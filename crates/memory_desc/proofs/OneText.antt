@@ -1,12 +1,12 @@
 -- The statements of a text are those that the reader hears in it, and its lines are refused as the reader refuses them.
-use Rattle.std.proofs.Common.{◌≡◌, ℕ, ◌&&◌, true, List, [], ◌∷◌, ◌++◌, Option, Some, None, Result, Ok, Err, refl, inl, inr, sym, ap, subst, ◌∙◌}
+use Rattle.std.proofs.Common.{◌≡◌, ℕ, true, List, [], ◌∷◌, ◌++◌, Option, Some, None, Result, Ok, refl, inl, inr, sym, ap, subst, ◌∙◌}
 use Rattle.std.proofs.Math.Path.{ap₂}
 use Rattle.std.proofs.lemmas.Bool.{and_parts, and_from}
 use Rattle.std.specs.List.{list_all}
 use Rattle.std.specs.Str.Parse.{digits_value}
 use Rattle.bist_text.specs.Lines.{TextLine, text_lines}
 use Rattle.bist_text.specs.Machine.{Outcome, read, unexpected, truncated}
-use Rattle.memory_desc.specs.LineFaults.{LineOf, AreRefused, IsLaterFault, IsOpeningFault}
+use Rattle.memory_desc.specs.LineFaults.{LineOf, AreRefused, IsLaterFault}
 use Rattle.memory_desc.specs.LineText.{Content, version, kind_of, in_table, ContentText, LineText}
 use Rattle.memory_desc.specs.Statements.{Statement, stated, Say, version_of, version_in, first_version, is_said_in, IsOfVersion}
 use Rattle.memory_desc.specs.Table.{AreStatements}
@@ -16,7 +16,7 @@ use Rattle.memory_desc.specs.declared.content.Version.{Version}
 use Rattle.memory_desc.specs.declared.content.Version.TheVariants.{One, Two}
 use Rattle.memory_desc.specs.declared.fault.MemoryFault.{MemoryFault}
 use Rattle.memory_desc.specs.declared.fault.MemoryFault.TheVariants.{Truncated, OtherVersion}
-use Rattle.memory_desc.proofs.LineReads.{fault_heard, heard_fault, hears, line_exact, none_heard, opened, opens_blank, opens_refused, opens_version, refused_by, says, some_same, version_heard}
+use Rattle.memory_desc.proofs.LineReads.{fault_heard, heard_fault, line_exact, none_heard, opened, opens_blank, opens_refused, opens_version, refused_by, says, some_same, version_heard}
 
 -- ---- statements
 
@@ -63,9 +63,10 @@ later_says n (l ∷ ls) e =
     let k = unrefused_line n l p.0 in
     let t = line_text (Some n) l.text k.0 k.1 in
     let s : said l.text ≡ k.0 = says l.text k.0 t in
-    let more = later_says n ls p.1 in
-    ((said l.text, statements ls, subst (LineText l.text) (sym s) t, more.0, refl),
-    subst (λ (v : Option Content). list_all (is_said_in n) (stated l.number v ++ statements ls) ≡ true) (sym s) (tabled n l.number l.text k.0 (statements ls) k.1 more.1))
+    let more = later_says n ls p.1 in (
+      (said l.text, statements ls, subst (LineText l.text) (sym s) t, more.0, refl),
+      subst (λ (v : Option Content). list_all (is_said_in n) (stated l.number v ++ statements ls) ≡ true) (sym s) (tabled n l.number l.text k.0 (statements ls) k.1 more.1),
+    )
 
 -- a line whose statement is of the version
 line_of : (n : Version) (number : ℕ) (b : List ℕ) (k : Option Content) (ss : List Statement) → LineText b k → list_all (is_said_in n) (stated number k ++ ss) ≡ true

@@ -68,14 +68,6 @@ first_repeats_none passed more ss s e f =
 
 -- ---- one line further
 
--- a line without content
-pub passing_over : {lines before left : List TextLine} {l : TextLine} {met : List ℕ} → Passing lines before met → before ≡ l ∷ left → None ≡ option_map seen (said l.text) → Passing lines left met
-passing_over {left = left} {l = l} s step e = record { passed = s.passed; parts = s.parts ∙ ap (λ ls. s.passed ++ statements ls) step ∙ ap (λ ss. s.passed ++ ss) (go (said l.text) e); none = s.none; new = s.new }
-  where
-    go : (v : Option Content) → None ≡ option_map seen v → stated l.number v ++ statements left ≡ statements left
-    go None e = refl
-    go (Some c) e = (let z : ⊥ = cc in absurd z)
-
 -- a content line, of which a test says whether it repeats one
 module _ {lines before left : List TextLine} {l : TextLine} {t : Bool} {old : List ℕ} {read : Seen} (q : Subject) (s : Passing lines before old) (step : before ≡ l ∷ left) (there : Some read ≡ option_map seen (said l.text))
     (own : q ≡ subject_of read) (tested : ((MayBeMet old q → ⊥) → is_other l.number (about q (statements lines)) ≡ false) → t ≡ is_other l.number (about q (statements lines))) where

@@ -1,5 +1,5 @@
 -- A search in what the code has of the lines finds what one in the statements finds.
-use Rattle.std.proofs.Common.{◌≡◌, ℕ, Bool, true, false, cond, is_some, ◌||◌, List, [], ◌∷◌, ◌++◌, ◌∙◌, map, Option, Some, None, Err, Ok, refl, sym, ap, subst}
+use Rattle.std.proofs.Common.{◌≡◌, ℕ, Bool, true, false, cond, is_some, ◌||◌, List, [], ◌∷◌, ◌++◌, ◌∙◌, map, Option, Some, None, Err, Ok, refl, ap}
 use Rattle.std.specs.List.{find, list_any}
 use Rattle.std.specs.Prelude.{option_map}
 use Rattle.bist_text.specs.Lines.{TextLine}
@@ -9,7 +9,7 @@ use Rattle.memory_desc.specs.Subjects.{subject, is_same}
 use Rattle.memory_desc.specs.Table.{at_line, is_row, is_out_of_range, is_too_wide}
 use Rattle.memory_desc.specs.inner.Heard.{said, statements}
 use Rattle.memory_desc.specs.inner.Seeking.{is_sought, first_sought, IsPosed}
-use Rattle.memory_desc.specs.inner.Seen.{SeenStatement, seen, subject_of, plain_content, plain_statement, seen_stated, seen_statements}
+use Rattle.memory_desc.specs.inner.Seen.{SeenStatement, seen, subject_of, plain_statement, seen_stated, seen_statements}
 use Rattle.memory_desc.specs.inner.Standing.{StandsAt, checked}
 use Rattle.memory_desc.specs.declared.content.Statement.{Statement as ReadStatement}
 use Rattle.memory_desc.specs.declared.content.Subject.TheVariants as S

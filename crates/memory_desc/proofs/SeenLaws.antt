@@ -10,7 +10,6 @@ use Rattle.std.specs.Int.{bit_at}
 use Rattle.std.specs.Int.Bits.{xor_assoc, xor_zero_l, xor_zero_r, or_zero_l, or_zero_r}
 use Rattle.std.specs.Prelude.{bit_xor, max, nat_lt}
 use Rattle.std.specs.Str.Parse.{digits_value}
-use Rattle.bist_text.proofs.LinePieces.{at_bool}
 use Rattle.memory_desc.specs.LineText.{Term, index_bit, constant}
 use Rattle.memory_desc.specs.Values.{index_bits, constant_of, word_values}
 use Rattle.memory_desc.specs.inner.Seen.{SeenWords, begun_row, no_words, plain_words, summand, with_term, with_terms, with_word, with_words}

@@ -1,11 +1,11 @@
 -- The terms of a row are read as the grammar says.
-use Rattle.std.proofs.Common.{◌≡◌, ◌⊎◌, ℕ, zero, suc, ◌+◌, ◌≤◌, ◌<◌, ◌==◌, ◌&&◌, Bool, true, false, if◌then◌else◌, List, [], ◌∷◌, length, Option, Some, None, refl, ◌↔◌, inl, inr, sym, subst, ◌∙◌, arith}
+use Rattle.std.proofs.Common.{◌≡◌, ◌⊎◌, ℕ, zero, suc, ◌≤◌, ◌==◌, true, false, if◌then◌else◌, List, [], ◌∷◌, length, Option, Some, None, refl, ◌↔◌, inl, inr, sym, subst, arith}
 use Rattle.std.proofs.lemmas.Bool.{and_parts, and_from}
 use Rattle.std.specs.List.{list_all}
 use Rattle.bist_text.specs.Grammar.{Continues, are_bytes, is_blank, byte, word}
 use Rattle.bist_text.specs.LineGrammar.{space, comment, tail}
 use Rattle.bist_text.specs.keyed.Reading.{Read, took, stuck, onward}
-use Rattle.bist_text.specs.keyed.Parts.{spaced, byte_of, remark_of, fits_of, is_word, word_of, by_byte, by_item, items_from}
+use Rattle.bist_text.specs.keyed.Parts.{spaced, byte_of, remark_of, fits_of, word_of, by_byte, by_item, items_from}
 use Rattle.bist_text.specs.declared.keyed_lines.Class.TheVariants.{Number}
 use Rattle.bist_text.proofs.LinePieces.{at_bool, when_true, when_false, when_holds, apart}
 use Rattle.bist_text.proofs.LineStops.{no_tail, no_mark}
@@ -238,7 +238,6 @@ more_told (suc n) {V} f b l =
 
     next : List ℕ → Read V
     next = λ (x : List ℕ). onward (byte_of 94 x) (λ _ x. onward (term_of (spaced x)) item)
-
 
 -- ---- all terms to the end of the line
 

@@ -1,5 +1,5 @@
 -- The readers of terms, by the first byte and one after another.
-use Rattle.std.proofs.Common.{◌≡◌, ℕ, ◌-◌, ◌≤◌, ◌<◌, ◌==◌, Option, Some, None, Bool, true, false, if◌then◌else◌, List, [], ◌∷◌, length, take, drop, refl, sym, ap, subst, ◌∙◌, arith, take_all}
+use Rattle.std.proofs.Common.{◌≡◌, ℕ, ◌-◌, ◌≤◌, ◌<◌, Option, Some, None, true, false, List, [], ◌∷◌, length, take, drop, sym, ap, ◌∙◌, arith, take_all}
 use Rattle.std.specs.Prelude.{get_or, option_map}
 use Rattle.bist_text.specs.keyed.Reading.{Read, took, stuck, onward}
 use Rattle.memory_desc.specs.LineText.{Term, Content, index_bit, constant, scramble}

@@ -1,10 +1,10 @@
 -- The words of a list are read as the grammar says.
-use Rattle.std.proofs.Common.{◌≡◌, ◌⊎◌, ℕ, zero, suc, ◌+◌, ◌≤◌, ◌<◌, ◌==◌, ◌&&◌, Bool, true, false, if◌then◌else◌, List, [], ◌∷◌, length, Option, Some, None, refl, ◌↔◌, inl, inr, sym, ap, subst, ◌∙◌, arith}
+use Rattle.std.proofs.Common.{◌≡◌, ◌⊎◌, ℕ, zero, suc, ◌≤◌, ◌==◌, ◌&&◌, true, false, if◌then◌else◌, List, [], ◌∷◌, length, Option, None, refl, ◌↔◌, inl, inr, sym, ap, subst, arith}
 use Rattle.std.proofs.lemmas.Bool.{eqb-true, and_parts, and_from}
 use Rattle.std.specs.List.{list_all}
 use Rattle.bist_text.specs.Grammar.{Continues, is_blank, word}
-use Rattle.bist_text.specs.LineGrammar.{space, gap, comment, tail}
-use Rattle.bist_text.specs.keyed.Reading.{Read, took, stuck, onward}
+use Rattle.bist_text.specs.LineGrammar.{space, comment, tail}
+use Rattle.bist_text.specs.keyed.Reading.{Read, took, onward}
 use Rattle.bist_text.specs.keyed.Parts.{spaced, remark_of, fits_of, is_word, word_of, by_byte, by_item, items_from}
 use Rattle.bist_text.specs.declared.keyed_lines.Class.TheVariants.{Word as HexWord}
 use Rattle.bist_text.proofs.LinePieces.{at_bool, when_true, when_holds, of_blank, tail_blank, tail_other, gap_on, gap_off}
@@ -169,7 +169,7 @@ words_told (suc n) {V} f (c ∷ b) l =
     (λ e. (
       words_alive f,
       inr (told_iff (Space (Either (Hex f) (Remark (f [])))) (Behind c (MoreWords f)) b (both (spaced b)) (λ x v. spaced_words f c x v e)
-      (space_told (suc n) (Either (Hex f) (Remark (f []))) both (either_shuns is_blank (Hex f) (Remark (f [])) blank_no (remark_shuns is_blank (f []) refl)) (hears (λ w. words_told n (λ ws. f (w ∷ ws)))) b (omega arith))),
+          (space_told (suc n) (Either (Hex f) (Remark (f []))) both (either_shuns is_blank (Hex f) (Remark (f [])) blank_no (remark_shuns is_blank (f []) refl)) (hears (λ w. words_told n (λ ws. f (w ∷ ws)))) b (omega arith))),
     ))
     (λ e. told_from (Remark (f [])) (MoreWords f) c b (remark_of (f []) (c ∷ b)) (words_alive f) (λ x v. unspaced_words f c x v e) (remark_told (suc n) (f []) (c ∷ b) l)))
   where

@@ -1,5 +1,5 @@
 -- The readers of words, and the loop over those of a list.
-use Rattle.std.proofs.Common.{◌≡◌, ◌<◌, ℕ, List, ◌∷◌, length, Option, Some, None, refl, sym, ap, ◌∙◌, ◌≢◌, [], Bool, true, false, if◌then◌else◌, slice_index}
+use Rattle.std.proofs.Common.{◌≡◌, ◌<◌, ℕ, List, ◌∷◌, length, Option, Some, None, refl, ap, ◌∙◌, ◌≢◌, [], Bool, true, if◌then◌else◌, slice_index}
 use Rattle.std.specs.Prelude.{option_map}
 use Rattle.std.specs.Str.Parse.{digits_value}
 use Rattle.bist_text.specs.keyed.Reading.{Read, took, stuck, onward}

@@ -14,7 +14,9 @@ use crate::content::{Content, Key, Version};
 use crate::row_reader::row;
 use crate::word_reader::backgrounds;
 use bist_text::Keyword;
-use bist_text::keyed_lines::{Class, LineFault, Read, blanks, end, fault_at, gap, hex_number, key, number, word};
+use bist_text::keyed_lines::{
+    Class, LineFault, Read, blanks, end, fault_at, gap, hex_number, key, number, word,
+};
 
 /// The first words of lines: those of a line of any version, and those that came with version 2.
 static KEYS: [Keyword<Key>; 9] = [
@@ -107,7 +109,10 @@ fn keyed<'a>(text: &'a [u8], given: Option<Version>) -> Read<'a, Content<'a>>
 }
 
 /// What a line says, or None where it has no content. Before a version is known only a `memory` line may stand.
-pub fn read_line<'a>(text: &'a [u8], given: Option<Version>) -> Result<Option<Content<'a>>, LineFault>
+pub fn read_line<'a>(
+    text: &'a [u8],
+    given: Option<Version>,
+) -> Result<Option<Content<'a>>, LineFault>
     ensures { plain_said result ≡ seen_answer (answer (heard given text.now)) }
 {
     let content = blanks(text);

@@ -70,7 +70,11 @@ pub fn statement_about<'a>(bytes: &'a [u8], wanted: Subject) -> Option<Statement
 }
 
 /// The line of a field that must be there.
-pub fn field<'a>(bytes: &'a [u8], wanted: Subject, field: Field) -> Result<Statement<'a>, MemoryFault>
+pub fn field<'a>(
+    bytes: &'a [u8],
+    wanted: Subject,
+    field: Field,
+) -> Result<Statement<'a>, MemoryFault>
     ensures { GivesField (statements (text_lines bytes.now)) wanted field result }
 {
     statement_about(bytes, wanted).ok_or(MemoryFault::Missing { field })

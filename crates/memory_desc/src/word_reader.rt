@@ -30,7 +30,7 @@ fn spaced_word(text: &[u8]) -> Read<'_, Option<u64>>
 }
 
 /// The next word; None at the end of the line.
-#[tactic(auto, using(bist_text::proofs::Behind::blanks_have))]
+#[tactic(auto, using(bist_text::proofs::Blanks::blanks_have))]
 fn next_word(text: &[u8]) -> Read<'_, Option<u64>>
     ensures { MatchResult result (λ r. (o : Option (List ℕ)) × (next_word_of text.now ≡ took o r.1.now) × (r.0 ≡ option_map (digits_value 16) o)) (λ left. next_word_of text.now ≡ stuck left.now) }
 {

@@ -3,11 +3,9 @@ use Rattle.std.proofs.Common.{◌≡◌, ℕ, suc, ◌+◌, ◌≤◌, ◌<◌, 
 use Rattle.std.proofs.lemmas.Bool.{and_parts, and_from, lt-ltb, ltb-true}
 use Rattle.std.specs.List.{list_all}
 use Rattle.std.specs.Prelude.{nat_lt}
-use Rattle.bist_text.specs.Grammar.{word}
 use Rattle.bist_text.specs.Identifiers.{begins_identifier, in_identifier, is_identifier}
 use Rattle.bist_text.proofs.LineStops.{is_run, run_parts, run_of}
 use Rattle.bist_text.specs.keyed.Parts.{Class, later, all_fit, is_word, up_to, all_of, begun_by}
-use Rattle.bist_text.proofs.keyed.PartLaws.{Words}
 
 pub all_of_is : (p : ℕ → Bool) (w : List ℕ) → all_fit (all_of p) w ≡ list_all p w
 all_of_is p [] = refl
@@ -46,8 +44,3 @@ run_is p most (c ∷ w) = (
   λ h. let r = fitting (up_to p most) p most 0 (c ∷ w) (zero_first p most) zero-le h in let few = r.1 in run_of p most (c ∷ w) r.0 (omega arith) (omega arith),
   λ h. let r = run_parts p most (c ∷ w) h in let few = r.2 in fits_all (up_to p most) p most 0 (c ∷ w) (zero_first p most) r.0 (omega arith),
 )
-
--- words of a class, where a test says the same
-pub words_as : {V : Type 0} (fits : Class) (q : List ℕ → Bool) (G : List ℕ → List ℕ → V → Type 0) → ((w : List ℕ) → (is_word fits w ≡ true) ↔ (q w ≡ true)) → (x : List ℕ) (v : V)
-    → Words fits G x v ↔ ((w : List ℕ) × (q w ≡ true) × word w (λ y. G w y v) x)
-words_as fits q G f x v = (λ h. (h.0, (f h.0).0 h.1, h.2), λ h. (h.0, (f h.0).1 h.1, h.2))

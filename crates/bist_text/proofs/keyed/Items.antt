@@ -1,5 +1,5 @@
 -- Items one after another, where each takes a byte at least.
-use Rattle.std.proofs.Common.{◌≡◌, ℕ, zero, suc, ◌+◌, ◌-◌, ◌<◌, ◌≤◌, ◌==◌, Bool, true, false, if◌then◌else◌, List, [], ◌∷◌, length, Option, Some, None, refl, sym, ap, ◌∙◌, arith, zero-le}
+use Rattle.std.proofs.Common.{◌≡◌, ℕ, zero, suc, ◌-◌, ◌<◌, ◌≤◌, ◌==◌, if◌then◌else◌, List, [], ◌∷◌, length, Option, Some, None, refl, sym, ap, ◌∙◌, arith, zero-le}
 use Rattle.std.specs.Prelude.{option_map}
 use Rattle.bist_text.specs.Grammar.{is_blank}
 use Rattle.bist_text.specs.keyed.Parts.{spaced, comment_of, remark_of, Class, later, front_of, behind_of, word_of, by_item, items_from, items_of, gathered}

@@ -1,12 +1,9 @@
 -- Steps of the loops over what is left of a line.
-use Rattle.std.proofs.Common.{◌≡◌, ℕ, suc, ◌+◌, ◌-◌, ◌<◌, ◌≤◌, Bool, true, false, if◌then◌else◌, List, [], ◌∷◌, Option, None, length, take, drop, refl, sym, ap, subst, ◌∙◌, arith, take_all, drop-cons, length-drop}
+use Rattle.std.proofs.Common.{◌≡◌, ℕ, suc, ◌+◌, ◌-◌, ◌<◌, ◌≤◌, Bool, true, false, if◌then◌else◌, List, [], ◌∷◌, length, take, drop, refl, sym, ap, subst, ◌∙◌, arith, take_all, drop-cons, length-drop}
 use Rattle.std.specs.Prelude.{get_or}
 use Rattle.bist_text.specs.Grammar.{is_blank}
-use Rattle.bist_text.specs.declared.keywords.Letters.{Letters}
-use Rattle.bist_text.specs.declared.keywords.Spelled.{Spelled}
-use Rattle.bist_text.specs.Keywords.{Word, spell}
-use Rattle.bist_text.specs.keyed.Reading.{Read, took, stuck}
-use Rattle.bist_text.specs.keyed.Parts.{spaced, gap_of, Class, later, front_of, behind_of, word_of, length_of, by_letter, key_from}
+use Rattle.bist_text.specs.keyed.Reading.{took, stuck}
+use Rattle.bist_text.specs.keyed.Parts.{spaced, gap_of, Class, later, front_of, behind_of, word_of, length_of}
 
 at_head : (b : List ℕ) (i : ℕ) → i < length b → drop i b ≡ get_or b i 0 ∷ drop (i + 1) b
 at_head b i l = (let e : suc i ≡ i + 1 = omega arith in drop-cons b i 0 l ∙ ap (λ (k : ℕ). get_or b i 0 ∷ drop k b) e)
@@ -100,15 +97,3 @@ word_some fits (c ∷ b) x y n h z p q = go (fits 0 c) refl
         ∙ ap (λ (w : List ℕ). took x w) right
 
 -- ---- first words
-
-pub key_next : {N : Type 0} (ws : List (Word N)) (q : Letters) (b : List ℕ) (i : ℕ) (s : Option (Spelled N)) (x : Read N) → i < length b → s ≡ spell ws q (get_or b i 0)
-    → key_from ws q (drop i b) ≡ x → by_letter s (get_or b i 0) (drop (i + 1) b) (λ p. key_from ws p (drop (i + 1) b)) ≡ x
-key_next ws q b i s x l e h =
-    ap (λ s. by_letter s (get_or b i 0) (drop (i + 1) b) (λ p. key_from ws p (drop (i + 1) b))) e ∙ sym (ap (key_from ws q) (at_head b i l)) ∙ h
-
-pub key_stops : {N : Type 0} (ws : List (Word N)) (q : Letters) (b : List ℕ) (i : ℕ) (x : Read N) → i < length b → None ≡ spell ws q (get_or b i 0)
-    → key_from ws q (drop i b) ≡ x → x ≡ stuck (drop i b)
-key_stops ws q b i x l e h = sym (key_next ws q b i None x l e h) ∙ ap stuck (sym (at_head b i l))
-
-pub key_ends : {N : Type 0} (ws : List (Word N)) (q : Letters) (b : List ℕ) (i : ℕ) (x : Read N) → drop i b ≡ [] → key_from ws q (drop i b) ≡ x → x ≡ stuck []
-key_ends ws q b i x e h = sym h ∙ ap (key_from ws q) e

@@ -1,13 +1,9 @@
 -- Inner. What a search in the lines of a text looks for.
 use Rattle.std.specs.Prelude.{ℕ, ◌≤◌, ◌^◌, ◌||◌, Bool, true, false, List, Option, length, max, nat_le, nat_lt, find}
 use Rattle.bist_text.specs.ReservedWords.{is_among, reserved_words}
-use Rattle.memory_desc.specs.Statements.{Statement}
 use Rattle.memory_desc.specs.Subjects.{is_same}
-use Rattle.memory_desc.specs.Table.{at_line}
 use Rattle.memory_desc.specs.inner.Seen.{Seen, SeenStatement, numbered, named, inverted, row, listed, subject_of}
 use Rattle.memory_desc.specs.declared.content.Key.TheVariants.{Words, Bits, Latency, Pause}
-use Rattle.memory_desc.specs.declared.fault.MemoryFault.{MemoryFault}
-use Rattle.memory_desc.specs.declared.fault.MemoryFault.TheVariants.{OutOfRange as OutOfRangeAt}
 use Rattle.memory_desc.specs.declared.search.Sought.{Sought}
 use Rattle.memory_desc.specs.declared.search.Sought.TheVariants.{About, OutOfRange, Row, TooWide}
 

@@ -1,5 +1,5 @@
 -- Inner. What the code has of a line's content, as a value.
-use Rattle.std.specs.Prelude.{◌≡◌, ℕ, ◌+◌, ◌%◌, ◌^◌, ◌==◌, Bool, true, false, not, if◌then◌else◌, nat_lt, List, [], ◌∷◌, ◌++◌, length, Option, Some, None, Result, Ok, Err, bit_or, bit_xor, max, option_map}
+use Rattle.std.specs.Prelude.{◌≡◌, ℕ, ◌+◌, ◌%◌, ◌^◌, ◌==◌, true, false, not, if◌then◌else◌, nat_lt, List, [], ◌∷◌, ◌++◌, length, Option, Some, None, Result, Ok, Err, bit_or, bit_xor, max, option_map}
 use Rattle.std.specs.Str.Parse.{digits_value}
 use Rattle.bist_text.specs.Lines.{TextLine}
 use Rattle.bist_text.specs.keyed.Parts.{gathered}

@@ -1,5 +1,5 @@
 -- Inner. For proofs and private contracts alone: the first steps of the table, as functions of a text's lines.
-use Rattle.std.specs.Prelude.{ℕ, List, [], ◌∷◌, length, if◌then◌else◌, Option, Some, None, Result, Ok, Err}
+use Rattle.std.specs.Prelude.{List, [], ◌∷◌, length, if◌then◌else◌, Option, Some, None, Result, Ok, Err}
 use Rattle.bist_text.specs.Lines.{TextLine}
 use Rattle.bist_text.specs.keyed.Lines.{answer}
 use Rattle.bist_text.specs.declared.keyed_lines.LineFault.{LineFault}

@@ -1,4 +1,4 @@
-use Rattle.std.proofs.Common.{◌∙◌, ap, inl, inr, refl, Err, None, sym}
+use Rattle.std.proofs.Common.{◌∙◌, ap, inl, inr, Err, None}
 use Rattle.std.proofs.lemmas.Result.{err_from_is_err_and}
 use Rattle.bist_text.specs.Lines.{text_lines}
 use Rattle.memory_desc.specs.inner.Walk.{lines_refusal}

@@ -1,6 +1,5 @@
 use Rattle.std.proofs.Common.{sym, ap, ◌∙◌}
-use Rattle.bist_text.specs.Lines.{text_lines}
-use Rattle.memory_desc.specs.inner.Seen.{plain_content, plain_line_content}
+use Rattle.memory_desc.specs.inner.Seen.{plain_line_content}
 use Rattle.memory_desc.proofs.Repeats.{passing_on, repeat_stops, repeat_ends}
 use Rattle.memory_desc.proofs.search.check_repeats.Goals as goal
 

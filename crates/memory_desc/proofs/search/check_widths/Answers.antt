@@ -1,4 +1,4 @@
-use Rattle.std.proofs.Common.{Some, None, find, sym, ap, subst, ◌∙◌}
+use Rattle.std.proofs.Common.{find, subst}
 use Rattle.bist_text.specs.Lines.{text_lines}
 use Rattle.memory_desc.specs.Table.{is_too_wide}
 use Rattle.memory_desc.specs.inner.Heard.{statements}
