@@ -13,4 +13,5 @@ pub mod KeywordLaws
 pub mod LinePieces
 pub mod LineStops
 pub mod RunPieces
-pub mod Behind
+pub mod Blanks
+pub mod keyed

@@ -1,12 +1,9 @@
 -- The pieces of a line, by the next byte.
-use Rattle.std.proofs.Common.{◌≡◌, ℕ, zero, suc, ◌+◌, ◌-◌, ◌<◌, ◌≤◌, ◌==◌, ◌&&◌, Bool, true, false, List, [], ◌∷◌, ◌∙◌, length, refl, ◌↔◌, ap, arith, zero-le}
-use Rattle.std.proofs.lemmas.Bool.{eqb-true, eq-eqb, and_parts, and_from, lt-ltb, ltb-true}
-use Rattle.std.specs.Prelude.{nat_lt}
-use Rattle.std.specs.List.{list_all}
-use Rattle.bist_text.specs.Grammar.{word, many, when, is_blank}
+use Rattle.std.proofs.Common.{◌≡◌, ℕ, ◌==◌, Bool, true, false, List, ◌∷◌, refl, ◌↔◌, ap}
+use Rattle.std.proofs.lemmas.Bool.{eqb-true}
+use Rattle.bist_text.specs.Grammar.{many, when, is_blank}
 use Rattle.bist_text.proofs.Pieces.{at_byte, also, skip, stay, same}
 use Rattle.bist_text.specs.LineGrammar.{space, gap, comment, tail}
-use Rattle.bist_text.specs.inner.LineGrammar.{Run}
 
 -- ---- tests
 
@@ -67,54 +64,3 @@ tail_other c b e = space_off comment c b e
 
 pub tail_never : (c : ℕ) (b : List ℕ) → is_blank c ≡ false → (c == 35) ≡ false → tail (c ∷ b) → ⊥
 tail_never c b e f h = when_false (c == 35) (Unit {0}) f ((tail_other c b e).0 h)
-
--- ---- runs of a class
-
-pub positive : (n : ℕ) → (n == 0) ≡ false → 1 ≤ n + 0
-positive zero e = (let z : ⊥ = cc in absurd z)
-positive (suc n) e = omega arith
-
--- no byte of the class is there, or there is no room for one
-no_byte : (p : ℕ → Bool) (most n : ℕ) (K : List ℕ → Type 0) (c : ℕ) (b : List ℕ) (m : ℕ) (ms : List ℕ) → (p c && nat_lt n most) ≡ false
-    → list_all p (m ∷ ms) ≡ true → suc (length ms) ≤ most - n → word (m ∷ ms) K (c ∷ b) → ⊥
-no_byte p most n K c b m ms e a l w =
-    let same_byte : c ≡ m = eqb-true c m (when_holds (c == m) (word ms K b) w).0 in
-    let of_class : p c ≡ true = ap p same_byte ∙ (and_parts (p m) (list_all p ms) a).0 in
-    let room : nat_lt n most ≡ true = lt-ltb n most (omega arith) in
-    let both : (p c && nat_lt n most) ≡ true = and_from (p c) (nat_lt n most) of_class room in
-    let z : ⊥ = cc in z
-
-pub run_on : (p : ℕ → Bool) (most n : ℕ) (K : List ℕ → Type 0) (c : ℕ) (b : List ℕ) → p c ≡ true → nat_lt n most ≡ true → (K (c ∷ b) → ⊥)
-    → Run p most n K (c ∷ b) ↔ Run p most (n + 1) K b
-run_on p most n K c b e room f = (
-  λ h. to h.0 h.1 h.2 h.4,
-  λ h. (
-    c ∷ h.0,
-    and_from (p c) (list_all p h.0) e h.1,
-    (let l : n < most = ltb-true n most room in let k = h.2 in omega arith),
-    (let k = h.2 in omega arith),
-    (when_true (c == c) (word h.0 K b) (eq-eqb c c refl)).1 h.4,
-  ),
-)
-  where
-    to : (more : List ℕ) → list_all p more ≡ true → length more ≤ most - n → word more K (c ∷ b) → Run p most (n + 1) K b
-    to [] a l w = absurd (f w)
-    to (m ∷ ms) a l w =
-        let parts = and_parts (p m) (list_all p ms) a in
-        (ms, parts.1, omega arith, omega arith, (when_holds (c == m) (word ms K b) w).1)
-
-pub run_off : (p : ℕ → Bool) (most n : ℕ) (K : List ℕ → Type 0) (c : ℕ) (b : List ℕ) → (p c && nat_lt n most) ≡ false → (n == 0) ≡ false
-    → Run p most n K (c ∷ b) ↔ K (c ∷ b)
-run_off p most n K c b e some = (λ h. to h.0 h.1 h.2 h.4, λ h. ([], refl, zero-le, positive n some, h))
-  where
-    to : (more : List ℕ) → list_all p more ≡ true → length more ≤ most - n → word more K (c ∷ b) → K (c ∷ b)
-    to [] a l w = w
-    to (m ∷ ms) a l w = absurd (no_byte p most n K c b m ms e a l w)
-
-pub run_none : (p : ℕ → Bool) (most n : ℕ) (K : List ℕ → Type 0) (c : ℕ) (b : List ℕ) → (p c && nat_lt n most) ≡ false → (n == 0) ≡ true
-    → Run p most n K (c ∷ b) → ⊥
-run_none p most n K c b e none h = to h.0 h.1 h.2 h.3 h.4
-  where
-    to : (more : List ℕ) → list_all p more ≡ true → length more ≤ most - n → 1 ≤ n + length more → word more K (c ∷ b) → ⊥
-    to [] a l o w = let z : n ≡ 0 = eqb-true n 0 none in omega arith
-    to (m ∷ ms) a l o w = no_byte p most n K c b m ms e a l w

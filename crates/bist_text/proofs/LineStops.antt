@@ -1,12 +1,11 @@
 -- Where pieces of a line can't begin, and runs of a class that begin.
-use Rattle.std.proofs.Common.{◌≡◌, ℕ, ◌==◌, Bool, true, false, List, [], ◌∷◌, refl, ap, ◌∙◌, ◌≤◌, length, inr, arith, ◌&&◌, ◌↔◌}
-use Rattle.std.proofs.lemmas.Bool.{eqb-true, and_parts, and_from, eq-eqb, le-leb, leb-true}
+use Rattle.std.proofs.Common.{◌≡◌, ℕ, ◌==◌, Bool, true, false, List, [], ◌∷◌, refl, ap, ◌∙◌, ◌≤◌, length, arith, ◌&&◌}
+use Rattle.std.proofs.lemmas.Bool.{eqb-true, and_parts, and_from, le-leb, leb-true}
 use Rattle.bist_text.specs.Grammar.{byte, word, is_blank}
 use Rattle.std.specs.List.{list_all}
 use Rattle.std.specs.Prelude.{nat_le}
-use Rattle.bist_text.specs.LineGrammar.{space, tail, gap, comment}
-use Rattle.bist_text.specs.inner.LineGrammar.{Run}
-use Rattle.bist_text.proofs.LinePieces.{at_bool, when_false, when_holds, apart, of_blank, space_off, tail_never, when_true}
+use Rattle.bist_text.specs.LineGrammar.{space, tail, gap}
+use Rattle.bist_text.proofs.LinePieces.{at_bool, when_false, when_holds, apart, of_blank, space_off, tail_never}
 
 -- a byte of a class that has no blank isn't a blank
 pub not_blank : (p : ℕ → Bool) (c : ℕ) → p c ≡ true → p 32 ≡ false → p 9 ≡ false → p 13 ≡ false → is_blank c ≡ false
@@ -45,32 +44,12 @@ blank_word p m ms K c b a d f h e w =
 abbrev pub Stops : (ℕ → Bool) → (List ℕ → Type 0) → Type 0
 Stops p K = (c : ℕ) (b : List ℕ) → p c ≡ true → K (c ∷ b) → ⊥
 
-pub word_stops : (p : ℕ → Bool) (d : ℕ) (w : List ℕ) (K : List ℕ → Type 0) → p d ≡ false → Stops p (word (d ∷ w) K)
-word_stops p d w K off c b on h =
-    let e : c ≡ d = eqb-true c d (when_holds (c == d) (word w K b) h).0 in
-    let k : p c ≡ p d = ap p e in
-    (let z : ⊥ = cc in z)
-
-pub comment_stops : (p : ℕ → Bool) → p 35 ≡ false → Stops p comment
-comment_stops p off c b on h = word_stops p 35 [] (λ _. Unit {0}) off c b on h
-
 pub gap_stops : (p : ℕ → Bool) (K : List ℕ → Type 0) → IsPlain p → Stops p (gap K)
 gap_stops p K off c b on h =
     (let blank : is_blank c ≡ true = (when_holds (is_blank c) (space K b) h).0 in let other = plain_blank p c off on in let z : ⊥ = cc in z)
 
 pub tail_stops : (p : ℕ → Bool) → IsPlain p → Stops p tail
 tail_stops p off c b on h = no_tail p c b off on h
-
--- a run of a class that has no blanks begins with none
-pub run_stops : (p : ℕ → Bool) (w : List ℕ) (K : List ℕ → Type 0) → IsPlain p → list_all p w ≡ true → 1 ≤ length w
-    → Stops is_blank (word w K)
-run_stops p [] K off a l = absurd (omega arith)
-run_stops p (d ∷ w) K off a l = word_stops is_blank d w K (plain_blank p d off (and_parts (p d) (list_all p w) a).0)
-
--- a gap is space
-pub space_of_gap : (K : List ℕ → Type 0) (b : List ℕ) → gap K b → space K b
-space_of_gap K [] h = absurd h
-space_of_gap K (c ∷ b) h = inr h
 
 abbrev pub is_run : (ℕ → Bool) → ℕ → List ℕ → Bool
 is_run p most ds = list_all p ds && nat_le 1 (length ds) && nat_le (length ds) most
@@ -85,31 +64,6 @@ pub run_of : (p : ℕ → Bool) (most : ℕ) (ds : List ℕ) → list_all p ds �
 run_of p most ds a l m =
     and_from (list_all p ds && nat_le 1 (length ds)) (nat_le (length ds) most)
     (and_from (list_all p ds) (nat_le 1 (length ds)) a (le-leb 1 (length ds) l)) (le-leb (length ds) most m)
-
-pub run_begins : (p : ℕ → Bool) (most : ℕ) (K : List ℕ → Type 0) (c : ℕ) (b : List ℕ) → p c ≡ true → 1 ≤ most
-    → ((ds : List ℕ) × (is_run p most ds ≡ true) × word ds K (c ∷ b)) ↔ Run p most 1 K b
-run_begins p most K c b e m = (
-  λ h. to h.0 h.1 h.2,
-  λ h. (
-    c ∷ h.0,
-    run_of p most (c ∷ h.0) (and_from (p c) (list_all p h.0) e h.1) (omega arith) (let l = h.2 in omega arith),
-    (when_true (c == c) (word h.0 K b) (eq-eqb c c refl)).1 h.4,
-  ),
-)
-  where
-    to : (ds : List ℕ) → is_run p most ds ≡ true → word ds K (c ∷ b) → Run p most 1 K b
-    to [] r w = (let parts = run_parts p most [] r in let l = parts.1 in absurd (omega arith))
-    to (d ∷ ds) r w =
-        let parts = run_parts p most (d ∷ ds) r in
-        let l = parts.2 in
-        (ds, (and_parts (p d) (list_all p ds) parts.0).1, omega arith, omega arith, (when_holds (c == d) (word ds K b) w).1)
-
-pub no_run : (p : ℕ → Bool) (most : ℕ) (ds : List ℕ) (K : List ℕ → Type 0) (c : ℕ) (b : List ℕ) → p c ≡ false → is_run p most ds ≡ true → word ds K (c ∷ b) → ⊥
-no_run p most [] K c b e r w = (let parts = run_parts p most [] r in let l = parts.1 in absurd (omega arith))
-no_run p most (d ∷ ds) K c b e r w =
-    let same_byte : c ≡ d = eqb-true c d (when_holds (c == d) (word ds K b) w).0 in
-    let of_class : p c ≡ true = ap p same_byte ∙ (and_parts (p d) (list_all p ds) (run_parts p most (d ∷ ds) r).0).0 in
-    (let z : ⊥ = cc in z)
 
 pub blank_run : (p : ℕ → Bool) (most : ℕ) (ds : List ℕ) (K : List ℕ → Type 0) (c : ℕ) (b : List ℕ) → p 32 ≡ false → p 9 ≡ false → p 13 ≡ false
     → is_run p most ds ≡ true → is_blank c ≡ true → word ds K (c ∷ b) → ⊥

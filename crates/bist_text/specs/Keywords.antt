@@ -6,7 +6,6 @@ use Rattle.bist_text.specs.declared.keywords.Keyword.{Keyword}
 use Rattle.bist_text.specs.declared.keywords.Letters.{Letters}
 use Rattle.bist_text.specs.declared.keywords.Spelled.{Spelled}
 use Rattle.bist_text.specs.declared.keywords.Spelled.TheVariants.{More, Whole}
-use Rattle.bist_text.specs.Grammar.{word}
 
 -- a word, and what it stands for
 pub record Word (N : Type 0) : Type 0 where

@@ -9,4 +9,5 @@ pub mod ReservedWords
 pub mod Keywords
 pub mod Identifiers
 pub mod LineGrammar
+pub mod keyed
 pub mod inner

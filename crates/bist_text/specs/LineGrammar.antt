@@ -1,5 +1,5 @@
 -- Trusted. The pieces of a line: blanks, a comment at its end, and runs of bytes of a class.
-use Rattle.std.specs.Prelude.{ℕ, ◌==◌, List, [], ◌∷◌, ◌-◌}
+use Rattle.std.specs.Prelude.{ℕ, ◌==◌, List, [], ◌∷◌}
 use Rattle.bist_text.specs.Grammar.{many, when, is_blank}
 
 -- any number of blanks

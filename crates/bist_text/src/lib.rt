@@ -18,6 +18,7 @@ mod byte_set;
 pub mod byte_sets;
 mod cursors;
 mod identifiers;
+pub mod keyed_lines;
 mod keywords;
 mod numbers;
 mod reserved_words;

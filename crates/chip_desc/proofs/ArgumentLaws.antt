@@ -10,14 +10,14 @@ use Rattle.bist_text.specs.LineGrammar.{gap, tail}
 use Rattle.bist_text.proofs.KeywordLaws.{IsOf}
 use Rattle.bist_text.proofs.LineStops.{IsPlain, gap_stops, tail_stops, blank_run, blank_word}
 use Rattle.bist_text.proofs.RunPieces.{gap_map, gap_pull, word_map, word_pull}
-use Rattle.keyed_lines.specs.Numbers.{is_number}
-use Rattle.keyed_lines.specs.Reading.{Read, onward}
-use Rattle.keyed_lines.specs.Parts.{gap_of, Class, fits_of, is_word, is_file_byte, word_of, ends_with}
-use Rattle.keyed_lines.specs.declared.parts.Class.TheVariants.{Number, Name as NameWord, File as FileWord}
-use Rattle.keyed_lines.proofs.Told.{Told, told_iff}
-use Rattle.keyed_lines.proofs.PartLaws.{Hears, fewer, Shuns, Gap, gap_told, Ends, ends_told, Words, Begun, word_told}
-use Rattle.keyed_lines.proofs.Classes.{run_is, name_is, all_of_is}
-use Rattle.keyed_lines.proofs.LineLaws.{Arg as Behind, OneWord as HasOneWord, one_word, one_number, valued, digit_begun, digit_later, digits_plain, begins_small, IsTable, Line as AnyLine, word_shuns}
+use Rattle.bist_text.specs.keyed.Numbers.{is_number}
+use Rattle.bist_text.specs.keyed.Reading.{Read, onward}
+use Rattle.bist_text.specs.keyed.Parts.{gap_of, Class, fits_of, is_word, is_file_byte, word_of, ends_with}
+use Rattle.bist_text.specs.declared.keyed_lines.Class.TheVariants.{Number, Name as NameWord, File as FileWord}
+use Rattle.bist_text.proofs.keyed.Told.{Told, told_iff}
+use Rattle.bist_text.proofs.keyed.PartLaws.{Hears, fewer, Shuns, Gap, gap_told, Ends, ends_told, Words, Begun, word_told}
+use Rattle.bist_text.proofs.keyed.Classes.{run_is, name_is, all_of_is}
+use Rattle.bist_text.proofs.keyed.LineLaws.{Arg as Behind, OneWord as HasOneWord, one_word, one_number, valued, digit_begun, digit_later, digits_plain, begins_small, IsTable, Line as AnyLine, word_shuns}
 use Rattle.chip_desc.specs.Chips.{is_file}
 use Rattle.chip_desc.specs.ChipFaults.{may_stand, LineOf}
 use Rattle.chip_desc.specs.ChipLines.{Content, version, name, budget, unit, kind_of, is_formed, argument, key_text}

@@ -3,10 +3,10 @@ use Rattle.std.proofs.Common.{◌≡◌, ℕ, ◌==◌, Bool, true, false, if◌
 use Rattle.bist_text.specs.Lines.{TextLine}
 use Rattle.bist_text.specs.Machine.{Outcome, read, unexpected, truncated}
 use Rattle.bist_text.specs.inner.Machine.{IsExact}
-use Rattle.keyed_lines.specs.Lines.{answer, line_of}
-use Rattle.keyed_lines.specs.declared.lines.LineFault.{LineFault}
-use Rattle.keyed_lines.proofs.Told.{told_iff, told_exact}
-use Rattle.keyed_lines.proofs.LineLaws.{Line, line_told}
+use Rattle.bist_text.specs.keyed.Lines.{answer, line_of}
+use Rattle.bist_text.specs.declared.keyed_lines.LineFault.{LineFault}
+use Rattle.bist_text.proofs.keyed.Told.{told_iff, told_exact}
+use Rattle.bist_text.proofs.keyed.LineLaws.{Line, line_told}
 use Rattle.chip_desc.specs.ChipFaults.{may_stand, LineOf, IsLineFault}
 use Rattle.chip_desc.specs.ChipLines.{Content, version, kind_of, is_formed, argument, key_text, ContentText, LineText}
 use Rattle.chip_desc.specs.inner.Heard.{argument_of, checked_by, heard, keys_in, keys_of, opened_by, opening, refusal_at, said, said_in}

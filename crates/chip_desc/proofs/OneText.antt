@@ -4,7 +4,7 @@ use Rattle.std.proofs.Math.Path.{ap₂}
 use Rattle.std.specs.Prelude.{MatchBool}
 use Rattle.bist_text.specs.Lines.{TextLine, text_lines}
 use Rattle.bist_text.specs.Machine.{Outcome, read, unexpected, truncated}
-use Rattle.keyed_lines.specs.Lines.{answer}
+use Rattle.bist_text.specs.keyed.Lines.{answer}
 use Rattle.chip_desc.specs.Chips.{ChipDescription}
 use Rattle.chip_desc.specs.ChipFaults.{AreRefused, IsLaterFault}
 use Rattle.chip_desc.specs.ChipLines.{Content, version, ContentText, LineText, Statement, stated, Say, is_version_one, are_of_version_one, AreStatements}

@@ -47,14 +47,6 @@ pub content_is : (v : Option Content) (u : UnitDescription) → unit_said v ≡ 
 content_is None u e = (let z : ⊥ = cc in absurd z)
 content_is (Some c) u e = ap Some (unit_is c u e)
 
--- the units of a line that says none
-pub no_unit : (v : Option Content) (n : ℕ) → unit_said v ≡ None → units_said (stated n v) ≡ []
-no_unit None n e = refl
-no_unit (Some (version m)) n e = refl
-no_unit (Some (name b)) n e = refl
-no_unit (Some (budget m)) n e = refl
-no_unit (Some (unit w m f)) n e = (let z : ⊥ = cc in absurd z)
-
 -- ---- line by line
 
 abbrev is_out : Statement → Bool

@@ -3,7 +3,7 @@ use Rattle.std.specs.Prelude.{◌≡◌, ℕ, ◌==◌, ◌&&◌, Bool, true, fa
 use Rattle.bist_text.specs.Grammar.{word}
 use Rattle.bist_text.specs.Identifiers.{is_identifier}
 use Rattle.bist_text.specs.Lines.{TextLine, text_lines}
-use Rattle.keyed_lines.specs.Numbers.{number}
+use Rattle.bist_text.specs.keyed.Numbers.{number}
 use Rattle.chip_desc.specs.Chips.{is_file}
 use Rattle.chip_desc.specs.declared.content.Key.{Key}
 use Rattle.chip_desc.specs.declared.content.Key.TheVariants.{Chip, Name, Budget, Unit as OfUnit}

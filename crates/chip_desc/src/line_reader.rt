@@ -2,13 +2,13 @@
 
 ghost use Rattle.std.specs.Prelude.{◌≡◌, true, Some, MatchResult, map};
 ghost use Rattle.bist_text.specs.Keywords.{word_of};
-ghost use Rattle.keyed_lines.specs.Reading.{took, stuck};
-ghost use Rattle.keyed_lines.specs.Lines.{answer, keyed_of};
+ghost use Rattle.bist_text.specs.keyed.Reading.{took, stuck};
+ghost use Rattle.bist_text.specs.keyed.Lines.{answer, keyed_of};
 ghost use Rattle.chip_desc.specs.inner.Heard.{argument_of, heard, keys_of, plain_content, plain_line_content, said, plain_said};
 
 use crate::content::{Content, Key, UnitLine};
 use bist_text::Keyword;
-use keyed_lines::{Class, LineFault, Read, blanks, end, fault_at, gap, key, number, word};
+use bist_text::keyed_lines::{Class, LineFault, Read, blanks, end, fault_at, gap, key, number, word};
 
 /// The first words.
 static KEYS: [Keyword<Key>; 4] = [

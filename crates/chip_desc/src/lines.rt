@@ -9,7 +9,7 @@ use crate::content::Content;
 use crate::fault::ChipFault;
 use crate::line_reader::read_line;
 use bist_text::{Line, Lines};
-use keyed_lines::LineFault;
+use bist_text::keyed_lines::LineFault;
 
 /// A line's refusal. Where a line feed ends the line, it is the byte that can't stand there.
 fn refused(line: &Line<'_>, fault: LineFault) -> ChipFault

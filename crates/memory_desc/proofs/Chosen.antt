@@ -7,18 +7,23 @@ use Rattle.std.proofs.lemmas.Bool.{or_parts, or_cases, or_left, or_right, leb-fa
 use Rattle.std.proofs.lemmas.List.{length-map, take_all}
 use Rattle.backgrounds.specs.Backgrounds.{IsLogSet}
 use Rattle.memory_desc.specs.Descriptions.{IsBackgrounds}
-use Rattle.memory_desc.specs.LineText.{Content, log, backgrounds, kind_of, ContentText}
-use Rattle.memory_desc.specs.inner.Standing.{StandsAt, is_log}
+use Rattle.memory_desc.specs.LineText.{Content, log, backgrounds, kind_of}
+use Rattle.memory_desc.specs.inner.Standing.{StandsAt, AreWords}
 use Rattle.memory_desc.specs.Statements.{Statement}
 use Rattle.memory_desc.specs.Subjects.{about, said}
 use Rattle.memory_desc.specs.Table.{Unless, too_many, without_solid, is_too_wide, too_wide, StatesBackgrounds, AcceptsBackgrounds, SelectsBackgrounds}
 use Rattle.memory_desc.specs.Values.{word_values, bits_said}
-use Rattle.memory_desc.specs.declared.line_place.Key.TheVariants.{Backgrounds as BackgroundsKey}
+use Rattle.memory_desc.specs.declared.content.Key.TheVariants.{Backgrounds as BackgroundsKey}
 use Rattle.memory_desc.specs.declared.content.Subject.TheVariants.{Backgrounds}
 use Rattle.memory_desc.specs.declared.fault.MemoryFault.{MemoryFault}
 use Rattle.memory_desc.specs.declared.fault.MemoryFault.TheVariants.{TooManyBackgrounds, NoSolidBackground}
-use Rattle.bist_text.specs.declared.text_lines.Line.{Line}
+use Rattle.memory_desc.specs.declared.content.Content.{Content as ReadContent}
+use Rattle.memory_desc.specs.declared.content.Content.TheVariants as R
+use Rattle.memory_desc.specs.declared.content.Statement.{Statement as ReadStatement}
+use Rattle.memory_desc.specs.declared.content.WordList.{WordList}
+use Rattle.memory_desc.specs.inner.Seen.{listed, no_words, plain_content, plain_words, seen, with_words}
 use Rattle.memory_desc.proofs.Parts.{log_set_serves}
+use Rattle.memory_desc.proofs.SeenLaws.{words_are}
 use Rattle.memory_desc.proofs.Stated.{stated, says, of_backgrounds, unstated, within}
 
 -- ---- whether one is 0
@@ -99,9 +104,18 @@ log_keeps size set h s = let b = log_set_serves size set h s in keeps set b.few 
 pub chooses_none : (size : ℕ) (set : List ℕ) → size ≤ 64 → IsLogSet size set → SelectsBackgrounds None size (Ok set)
 chooses_none size set h s = (set, s, log_keeps size set h s)
 
-pub chooses_log : (c : Content) (size : ℕ) (set : List ℕ) → is_log c ≡ true → size ≤ 64 → IsLogSet size set → SelectsBackgrounds (Some c) size (Ok set)
-chooses_log log size set e h s = (set, s, log_keeps size set h s)
-chooses_log c size set e h s = (let z : ⊥ = cc in absurd z)
+pub chooses_log : (c : Content) (size : ℕ) (set : List ℕ) → kind_of c ≡ BackgroundsKey → ((ws : List (List ℕ)) → c ≡ backgrounds ws → ⊥) → size ≤ 64 → IsLogSet size set → SelectsBackgrounds (Some c) size (Ok set)
+chooses_log log size set k e h s = (set, s, log_keeps size set h s)
+chooses_log (backgrounds ws) size set k e h s = absurd (e ws refl)
+chooses_log c size set k e h s = (let z : ⊥ = cc in absurd z)
+
+-- a content that is no list of words
+pub not_listed : (r : ReadContent) (c : Content) → ((x : WordList) → r ≡ R.Backgrounds x → ⊥) → plain_content r ≡ seen c → (ws : List (List ℕ)) → c ≡ backgrounds ws → ⊥
+not_listed r c f e ws same = go r f (e ∙ ap seen same)
+  where
+    go : (r : ReadContent) → ((x : WordList) → r ≡ R.Backgrounds x → ⊥) → plain_content r ≡ listed (with_words no_words ws) → ⊥
+    go (R.Backgrounds x) f e = f x refl
+    go r f e = cc
 
 -- a line that lists words answers this
 abbrev Lists : {A : Type 0} → (A → List ℕ) → List (List ℕ) → Result A MemoryFault → Type 0
@@ -116,10 +130,10 @@ listed_by : {A : Type 0} (items : A → List ℕ) (ws : List (List ℕ)) (size :
 listed_by items ws size (Ok b) h = (word_values ws, refl, h)
 listed_by items ws size (Err fault) h = (word_values ws, refl, h)
 
-pub chooses_listed : {A : Type 0} (items : A → List ℕ) (text : List ℕ) (c : Content) (size : ℕ) (r : Result A MemoryFault) → kind_of c ≡ BackgroundsKey → is_log c ≡ false
-    → ContentText text c → ((ws : List (List ℕ)) → ContentText text (backgrounds ws) → Lists items ws r) → Answers items (Some c) size r
-chooses_listed items text (backgrounds ws) size r k e t f = listed_by items ws size r (f ws t)
-chooses_listed items text c size r k e t f = (let z : ⊥ = cc in absurd z)
+pub chooses_listed : {A : Type 0} (items : A → List ℕ) (list : WordList) (c : Content) (size : ℕ) (r : Result A MemoryFault) → listed (plain_words list) ≡ seen c
+    → ((ws : List (List ℕ)) → AreWords ws list → Lists items ws r) → Answers items (Some c) size r
+chooses_listed items list (backgrounds ws) size r e f = listed_by items ws size r (f ws (words_are ws list (let same : plain_words list ≡ with_words no_words ws = cc in same)))
+chooses_listed items list c size r e f = (let z : ⊥ = cc in absurd z)
 
 -- ---- what is chosen serves a memory
 
@@ -148,12 +162,12 @@ chosen_serves c width size set h f r = log_serves size r.0 set h r.1 (kept r.0 s
 
 -- ---- what the statements choose
 
-pub line_answers : {A : Type 0} (items : A → List ℕ) (ss : List Statement) (size : ℕ) (l : Line) (r : Result A MemoryFault) → StandsAt (Some l) (about Backgrounds ss)
-    → ((c : Content) → ContentText l.text.now c → kind_of c ≡ BackgroundsKey → Answers items (Some c) size r) → Answers items (said Backgrounds ss) size r
+pub line_answers : {A : Type 0} (items : A → List ℕ) (ss : List Statement) (size : ℕ) (l : ReadStatement) (r : Result A MemoryFault) → StandsAt (Some l) (about Backgrounds ss)
+    → ((c : Content) → plain_content l.content ≡ seen c → kind_of c ≡ BackgroundsKey → Answers items (Some c) size r) → Answers items (said Backgrounds ss) size r
 line_answers items ss size l r h f =
     let s = stated Backgrounds ss l h in
     let c = s.statement.content in
-    subst (λ (o : Option Content). Answers items o size r) (sym (says Backgrounds ss l.text.now s).said_is) (f c s.written (of_backgrounds c s.same))
+    subst (λ (o : Option Content). Answers items o size r) (sym (says Backgrounds ss (plain_content l.content) s).said_is) (f c s.written (of_backgrounds c s.same))
 
 pub none_answers : (ss : List Statement) (size : ℕ) (set : List ℕ) → StandsAt None (about Backgrounds ss) → size ≤ 64 → IsLogSet size set
     → SelectsBackgrounds (said Backgrounds ss) size (Ok set)

@@ -1,29 +1,33 @@
 -- The name and the numbers that the statements give, each in its range.
-use Rattle.std.proofs.Common.{◌⊎◌, inl, inr, arith, ◌≡◌, ℕ, ◌-◌, ◌^◌, ◌<◌, ◌≤◌, ◌||◌, true, false, List, length, Some, None, Result, sym, ◌∙◌, ap, subst}
-use Rattle.std.specs.Prelude.{nat_lt}
+use Rattle.std.proofs.Common.{◌⊎◌, inl, inr, arith, ◌≡◌, ℕ, ◌-◌, ◌^◌, ◌<◌, ◌≤◌, ◌||◌, true, false, List, [], ◌∷◌, ◌++◌, Bool, cond, refl, length, Option, Some, None, Result, sym, ◌∙◌, ap, subst}
+use Rattle.std.specs.Prelude.{nat_lt, find}
 use Rattle.std.specs.Str.Parse.{digits_value}
 use Rattle.std.proofs.lemmas.Bool.{or_parts, ltb-false, leb-false}
 use Rattle.bist_bits.specs.Width.{IsWidthOf}
-use Rattle.bist_text.specs.declared.text_lines.Line.{Line}
+use Rattle.bist_text.specs.Lines.{TextLine}
 use Rattle.memory_desc.specs.Descriptions.{Description}
-use Rattle.memory_desc.specs.LineText.{Content, name, polarity, ContentText}
+use Rattle.memory_desc.specs.LineText.{Content, name, polarity, is_formed}
 use Rattle.memory_desc.specs.Names.{IsName}
 use Rattle.bist_text.specs.ReservedWords.{is_among, reserved_words}
-use Rattle.memory_desc.specs.inner.Standing.{is_ranged, least, most, value_in, StandsAt, digits_in}
-use Rattle.memory_desc.specs.Statements.{Statement}
-use Rattle.memory_desc.specs.Subjects.{about, said}
+use Rattle.memory_desc.specs.inner.Standing.{is_ranged, least, most, value_in, number_in_seen, polarity_in_seen, name_in_seen, StandsAt}
+use Rattle.memory_desc.specs.Statements.{Statement, stated as stated_line}
+use Rattle.memory_desc.specs.Subjects.{about, is_about, content_of, said}
 use Rattle.memory_desc.specs.Table.{missing, unless_there, repeated, out_of_range, too_wide, Builds, Describes}
 use Rattle.memory_desc.specs.Values.{name_in, polarity_in, name_said, words_said, polarity_said, latency_in, pause_in}
+use Rattle.memory_desc.specs.inner.Heard.{said as said_by, statements}
+use Rattle.memory_desc.specs.inner.Seen.{plain_content}
+use Rattle.memory_desc.specs.declared.content.Statement.{Statement as ReadStatement}
 use Rattle.memory_desc.specs.declared.content.Subject.{Subject}
 use Rattle.memory_desc.specs.declared.content.Subject.TheVariants.{Name, Words, Bits, Polarity, Latency, Pause}
 use Rattle.memory_desc.specs.declared.fault.Field.{Field}
 use Rattle.memory_desc.specs.declared.fault.Field.TheVariants.{Name as NameField, Words as WordsField, Bits as BitsField}
 use Rattle.memory_desc.specs.declared.fault.MemoryFault.{MemoryFault}
 use Rattle.memory_desc.specs.declared.fault.MemoryFault.TheVariants.{Missing}
+use Rattle.memory_desc.proofs.LineReads.{text_said}
 use Rattle.memory_desc.proofs.Stated.{stated, says, unstated, name_stated, polarity_stated, in_range, within, has_digits}
 
 -- a field whose line is there isn't missing
-pub not_missing : (q : Subject) (field : Field) (ss : List Statement) (l : Line) → StandsAt (Some l) (about q ss) → missing q field ss ≡ None
+pub not_missing : (q : Subject) (field : Field) (ss : List Statement) (l : ReadStatement) → StandsAt (Some l) (about q ss) → missing q field ss ≡ None
 not_missing q field ss l h = ap (unless_there (Missing field)) (stated q ss l h).found
 
 -- a number that is said, and its bounds
@@ -42,32 +46,32 @@ given said low high n value e f h =
     }
 
 -- the numbers that lines give, in range or not
-pub number_same : (q : Subject) (ss : List Statement) (l : Line) (n : ℕ) → is_ranged q ≡ true → StandsAt (Some l) (about q ss)
-    → ((c : Content) (ds : List ℕ) → ContentText l.text.now c → digits_in c ≡ Some ds → n ≡ digits_value 10 ds) → n ≡ value_in q (said q ss)
+pub number_same : (q : Subject) (ss : List Statement) (l : ReadStatement) (n : ℕ) → is_ranged q ≡ true → StandsAt (Some l) (about q ss)
+    → n ≡ number_in_seen (plain_content l.content) → n ≡ value_in q (said q ss)
 number_same q ss l n k h f =
     let s = stated q ss l h in
     let c = s.statement.content in
     let d = has_digits q c k s.same in
-    f c d.digits s.written d.written ∙ sym d.value ∙ sym (ap (value_in q) (says q ss l.text.now s).said_is)
+    f ∙ ap number_in_seen s.written ∙ d.read ∙ sym d.value ∙ sym (ap (value_in q) (says q ss (plain_content l.content) s).said_is)
 
-pub number_given : (q : Subject) (ss : List Statement) (l : Line) (n : ℕ) → is_ranged q ≡ true → StandsAt (Some l) (about q ss) → out_of_range ss ≡ None
-    → ((c : Content) (ds : List ℕ) → ContentText l.text.now c → digits_in c ≡ Some ds → n ≡ digits_value 10 ds) → IsGiven (value_in q (said q ss)) (least q) (most q) n
+pub number_given : (q : Subject) (ss : List Statement) (l : ReadStatement) (n : ℕ) → is_ranged q ≡ true → StandsAt (Some l) (about q ss) → out_of_range ss ≡ None
+    → n ≡ number_in_seen (plain_content l.content) → IsGiven (value_in q (said q ss)) (least q) (most q) n
 number_given q ss l n k h r f =
     let s = stated q ss l h in
     let c = s.statement.content in
     let d = has_digits q c k s.same in
-    given (value_in q (said q ss)) (least q) (most q) n (digits_value 10 d.digits) (f c d.digits s.written d.written)
-    (ap (value_in q) (says q ss l.text.now s).said_is ∙ d.value) (sym d.tested ∙ in_range ss q c r (says q ss l.text.now s).said_is)
+    given (value_in q (said q ss)) (least q) (most q) n (digits_value 10 d.digits) (f ∙ ap number_in_seen s.written ∙ d.read)
+    (ap (value_in q) (says q ss (plain_content l.content) s).said_is ∙ d.value) (sym d.tested ∙ in_range ss q c r (says q ss (plain_content l.content) s).said_is)
 
-pub polarity_same : (ss : List Statement) (l : Line) (n : ℕ) → StandsAt (Some l) (about Polarity ss)
-    → ((w : List ℕ) → ContentText l.text.now (polarity w) → n ≡ digits_value 16 w) → n ≡ polarity_said ss
-polarity_same ss l n h f = let s = polarity_stated ss l.text.now (stated Polarity ss l h) in f s.0 s.1.written ∙ sym (ap polarity_in s.1.said_is)
+pub polarity_same : (ss : List Statement) (l : ReadStatement) (n : ℕ) → StandsAt (Some l) (about Polarity ss)
+    → n ≡ polarity_in_seen (plain_content l.content) → n ≡ polarity_said ss
+polarity_same ss l n h f = let s = polarity_stated ss (plain_content l.content) (stated Polarity ss l h) in f ∙ ap polarity_in_seen s.1.written ∙ sym (ap polarity_in s.1.said_is)
 
-pub polarity_fits : (ss : List Statement) (l : Line) (n width size : ℕ) → StandsAt (Some l) (about Polarity ss) → too_wide ss width size ≡ None
-    → ((w : List ℕ) → ContentText l.text.now (polarity w) → n ≡ digits_value 16 w) → n < 2 ^ size
+pub polarity_fits : (ss : List Statement) (l : ReadStatement) (n width size : ℕ) → StandsAt (Some l) (about Polarity ss) → too_wide ss width size ≡ None
+    → n ≡ polarity_in_seen (plain_content l.content) → n < 2 ^ size
 polarity_fits ss l n width size h r f =
-    let s = polarity_stated ss l.text.now (stated Polarity ss l h) in
-    subst (λ (x : ℕ). x < 2 ^ size) (sym (f s.0 s.1.written)) (leb-false (2 ^ size) (digits_value 16 s.0) (within ss width size Polarity (polarity s.0) r s.1.said_is))
+    let s = polarity_stated ss (plain_content l.content) (stated Polarity ss l h) in
+    subst (λ (x : ℕ). x < 2 ^ size) (sym (f ∙ ap polarity_in_seen s.1.written)) (leb-false (2 ^ size) (digits_value 16 s.0) (within ss width size Polarity (polarity s.0) r s.1.said_is))
 
 -- a latency or a pause
 abbrev pub IsCycles : Subject → Type 0
@@ -95,13 +99,30 @@ number_unsaid q ss (inr e) h = (let z : ⊥ = cc in absurd z)
 pub polarity_unsaid : (ss : List Statement) → StandsAt None (about Polarity ss) → 0 ≡ polarity_said ss
 polarity_unsaid ss h = sym (ap polarity_in (unstated Polarity ss h))
 
-pub name_given : (ss : List Statement) (l : Line) (b : List ℕ) → StandsAt (Some l) (about Name ss) → out_of_range ss ≡ None
-    → ((n : List ℕ) → ContentText l.text.now (name n) → b ≡ n) → (b ≡ name_said ss) × IsName b
-name_given ss l b h r f =
-    let s = name_stated ss l.text.now (stated Name ss l h) in
-    let same : b ≡ s.0 = f s.0 s.1.written in
+-- what is found in the lines of a text was said by one of them, and so is formed
+formed_found : (p : Statement → Bool) (ls : List TextLine) (s : Statement) → find p (statements ls) ≡ Some s → is_formed s.content ≡ true
+formed_found p [] s e = (let z : ⊥ = cc in absurd z)
+formed_found p (l ∷ ls) s e = go (said_by l.text) refl e (λ e. formed_found p ls s e)
+  where
+    at : (c : Content) → said_by l.text ≡ Some c → (t : Bool) → cond t (Some (record { line = l.number; content = c })) (find p (statements ls)) ≡ Some s
+        → (find p (statements ls) ≡ Some s → is_formed s.content ≡ true) → is_formed s.content ≡ true
+    at c k true e again = (let same : (let x : Statement = record { line = l.number; content = c } in x) ≡ s = cc in ap (λ s. is_formed s.content) (sym same) ∙ (text_said l.text c k).0)
+    at c k false e again = again e
+
+    go : (v : Option Content) → said_by l.text ≡ v → find p (stated_line l.number v ++ statements ls) ≡ Some s → (find p (statements ls) ≡ Some s → is_formed s.content ≡ true) → is_formed s.content ≡ true
+    go None k e again = again e
+    go (Some c) k e again = at c k (p (record { line = l.number; content = c })) e again
+
+pub name_given : (ls : List TextLine) (l : ReadStatement) (b : List ℕ) → StandsAt (Some l) (about Name (statements ls)) → out_of_range (statements ls) ≡ None
+    → b ≡ name_in_seen (plain_content l.content) → (b ≡ name_said (statements ls)) × IsName b
+name_given ls l b h r f =
+    let ss = statements ls in
+    let at = stated Name ss l h in
+    let s = name_stated ss (plain_content l.content) at in
+    let same : b ≡ s.0 = f ∙ ap name_in_seen s.1.written in
     let parts = or_parts (nat_lt 48 (length s.0)) (is_among s.0 reserved_words) (in_range ss Name (name s.0) r s.1.said_is) in
-    let is_name : IsName s.0 = record { identifier = s.1.written.0; short = ltb-false 48 (length s.0) parts.0; free = parts.1 } in
+    let content : at.statement.content ≡ name s.0 = (let e = ap content_of at.found in let k = s.1.said_is in cc) in
+    let is_name : IsName s.0 = record { identifier = ap is_formed (sym content) ∙ formed_found (is_about Name) ls at.statement at.found; short = ltb-false 48 (length s.0) parts.0; free = parts.1 } in
     (same ∙ sym (ap name_in s.1.said_is), subst IsName (sym same) is_name)
 
 pub describes_by : (ss : List Statement) (r : Result Description MemoryFault) → repeated ss ≡ None → missing Name NameField ss ≡ None → missing Words WordsField ss ≡ None

@@ -5,7 +5,7 @@ use Rattle.std.proofs.Math.Nat.{le_antisymm}
 use Rattle.std.proofs.Math.Path.{ap₂}
 use Rattle.std.proofs.Math.Seq.{take-append_seam, take-length}
 use Rattle.std.proofs.lemmas.List.{length-append}
-use Rattle.std.proofs.lemmas.Bool.{eqb-true, cases_lt}
+use Rattle.std.proofs.lemmas.Bool.{eqb-true, eq-eqb, cases_lt}
 use Rattle.std.proofs.lemmas.Grind.{get_or_default_zero}
 use Rattle.std.proofs.lemmas.Cmp.{nat_eq_equiv}
 use Rattle.std.proofs.lemmas.List.Elements.{Contains-get_or, Contains-append_left, Contains-append_right, Contains-append_cases}
@@ -16,7 +16,15 @@ use Rattle.std.specs.List.Sorted.{IsNonDecreasing, IsBinarySearchResult, IsPermu
 use Rattle.std.specs.Ordering.{nat_cmp}
 use Rattle.std.specs.Result.{is_ok}
 use Rattle.memory_desc.specs.inner.Met.{MayHave}
-use Rattle.memory_desc.proofs.LineTests.{eqb_turns}
+use Rattle.bist_text.proofs.LinePieces.{at_bool}
+
+eqb_turns : (i j : ℕ) → (i == j) ≡ (j == i)
+eqb_turns i j =
+    at_bool (λ t. (i == j) ≡ t → (i == j) ≡ (j == i)) (i == j)
+    (λ e _. e ∙ sym (eq-eqb j i (sym (eqb-true i j e))))
+    (λ e _. at_bool (λ t. (j == i) ≡ t → (i == j) ≡ (j == i)) (j == i)
+    (λ f _. (let k : (i == j) ≡ true = eq-eqb i j (sym (eqb-true j i f)) in let z : ⊥ = cc in absurd z))
+    (λ f _. e ∙ sym f) refl) refl
 
 any_there : (n : ℕ) (xs : List ℕ) → list_any (λ y. nat_eq y n) xs ≡ true → Contains xs n
 any_there n xs h = Contains-from_any {eq = λ x y. nat_eq y x} (λ x y e. sym (eqb-true y x e)) n xs h

@@ -1,221 +1,390 @@
--- What may follow each place of a line, by the next byte.
-use Rattle.std.proofs.Common.{◌≡◌, ℕ, ◌+◌, ◌==◌, ◌&&◌, true, false, if◌then◌else◌, List, [], ◌∷◌, Option, Some, None, refl, ◌↔◌, subst, sym, ap, ◌∙◌}
-use Rattle.std.proofs.lemmas.Bool.{eqb-true, eq-eqb, and_parts, and_from}
-use Rattle.std.specs.Prelude.{nat_lt}
+-- Each kind of line is read as the grammar says.
+use Rattle.std.proofs.Common.{◌≡◌, ◌⊎◌, ℕ, suc, ◌==◌, Bool, true, List, [], ◌∷◌, codes, Option, Some, None, refl, ◌↔◌, inl, inr, sym, ap, subst, ◌∙◌, arith}
+use Rattle.std.proofs.lemmas.Bool.{eqb-true, and_parts, and_from}
 use Rattle.std.specs.List.{list_all}
-use Rattle.bist_text.specs.Grammar.{byte, word, is_blank}
-use Rattle.bist_text.specs.Machine.{Holds}
-use Rattle.bist_text.proofs.Pieces.{also, same, never}
-use Rattle.memory_desc.specs.Names.{is_digit, is_name_byte}
-use Rattle.memory_desc.specs.declared.line_place.Key.{Key}
-use Rattle.memory_desc.specs.declared.line_place.Key.TheVariants.{Name, Scramble, Backgrounds}
-use Rattle.memory_desc.specs.declared.line_place.Place.{Place}
-use Rattle.memory_desc.specs.declared.line_place.Place.TheVariants.{Remark, Named, Wanted, Number, Name as InName, RowNumber, RowEnd, Term as AtTerm, TermNumber, TermEnd, LetterL, LetterO, Hex, HexEnd, End}
-use Rattle.memory_desc.specs.LineText.{Term, Content, is_hex, is_word, is_term, is_formed, term_text, more_terms, equation, more_words, argument}
-use Rattle.memory_desc.specs.inner.LinePlaces.{step, is_digit_of, most_digits, ended, term_ended, row_ended, word_ended}
-use Rattle.memory_desc.specs.inner.LineRest.{Names, words_left, Of, Terms, HexWords, rest}
-use Rattle.memory_desc.proofs.LineRefusals.{names_plain, number_plain, no_more_terms, no_equation, no_more_words}
-use Rattle.bist_text.specs.LineGrammar.{space, gap, tail}
-use Rattle.bist_text.specs.inner.LineGrammar.{Run}
-use Rattle.bist_text.proofs.LinePieces.{at_bool, when_true, when_false, when_holds, apart, space_on, space_off, gap_on, gap_off, tail_blank, tail_other, tail_never, run_on, run_off, run_none}
-use Rattle.bist_text.proofs.LineStops.{no_tail}
+use Rattle.std.specs.Prelude.{slice_get, nat_lt}
+use Rattle.bist_text.specs.Grammar.{is_blank, byte, word}
+use Rattle.bist_text.specs.LineGrammar.{space, tail}
+use Rattle.bist_text.specs.inner.Keywords.{are_apart}
+use Rattle.bist_text.specs.keyed.Reading.{Read, took, stuck, onward}
+use Rattle.bist_text.specs.keyed.Parts.{spaced, byte_of, Class, fits_of, is_word, word_of, ends_with}
+use Rattle.bist_text.specs.declared.keyed_lines.Class.TheVariants.{Number, Word as HexWord, Name as NameWord}
+use Rattle.bist_text.proofs.KeywordLaws.{IsOf, is_at, is_passed}
+use Rattle.bist_text.proofs.LinePieces.{when_true, when_holds, when_false, apart}
+use Rattle.bist_text.proofs.LineStops.{IsPlain, no_mark, blank_run, blank_word}
+use Rattle.bist_text.proofs.Pieces.{same}
+use Rattle.bist_text.proofs.RunPieces.{many_map, many_pull, word_map, word_pull}
+use Rattle.bist_text.proofs.keyed.Told.{told_iff}
+use Rattle.bist_text.proofs.keyed.PartLaws.{Hears, fewer, Shuns, Space, space_told, Byte, byte_told, Ends, ends_told, Words, word_told, Either, either_told}
+use Rattle.bist_text.proofs.keyed.Classes.{run_is, name_is}
+use Rattle.bist_text.proofs.keyed.LineLaws.{SaysOf as Says, Arg as Behind, OneWord as HasOneWord, one_word, digit_begun, digit_later, digits_plain, begins_small, IsTable, Line as AnyLine, byte_shuns, byte_only}
+use Rattle.memory_desc.specs.LineFaults.{may_stand, LineOf}
+use Rattle.memory_desc.specs.LineText.{Term, Content, version, name, words, bits, latency, polarity, pause, scramble, log, backgrounds, is_hex, is_number, is_term, is_word as is_hex_word, is_formed, term_text, more_terms, equation, more_words, argument, kind_of, key_text}
+use Rattle.memory_desc.specs.Names.{is_digit, is_letter, is_name_byte}
+use Rattle.memory_desc.specs.declared.content.Key.{Key}
+use Rattle.memory_desc.specs.declared.content.Key.TheVariants.{Memory, Name, Words as WordsKey, Bits, Latency, Polarity, Pause, Scramble, Backgrounds}
+use Rattle.memory_desc.specs.declared.content.Version.{Version}
+use Rattle.memory_desc.specs.declared.content.Version.TheVariants.{One, Two}
+use Rattle.memory_desc.specs.inner.Heard.{term_of, terms_of, words_of, is_l, argument_of, keys_in, keys_of}
+use Rattle.memory_desc.proofs.TermLaws.{OneTerm, term_told, More, terms_told, more_no_digits, SaysOne, Whole, one_whole, whole_one, term_shuns}
+use Rattle.memory_desc.proofs.WordLaws.{hex_plain, hex_begun, MoreWords, all_words_told, words_no_hex, Hex, hex_whole, whole_hex, begins_hex, no_hex}
 
-abbrev pub Law : Place → ℕ → List ℕ → Option Key → Type 0
-Law p c b v = rest p (c ∷ b) v ↔ Holds (step p c) (λ t. rest t b v)
+abbrev Arg : Key → List ℕ → Option Content → Type 0
+Arg = Behind kind_of is_formed (λ c. argument c tail)
 
-pub second : {A B C : Type 0} → B ↔ C → (A × B) ↔ (A × C)
-second f = (λ h. (h.0, f.0 h.1), λ h. (h.0, f.1 h.1))
+abbrev SaysOf : Key → Option Content → Type 0
+SaysOf = Says kind_of is_formed (λ c. argument c tail)
 
-pub terms_iff : (P Q : List Term → List ℕ → Type 0) (b d : List ℕ) → ((ts : List Term) → P ts b ↔ Q ts d) → Terms P b ↔ Terms Q d
-terms_iff P Q b d f = (λ h. (h.0, h.1, (f h.0).0 h.2), λ h. (h.0, h.1, (f h.0).1 h.2))
+-- ---- lines of one word
 
-pub hex_iff : (P Q : List (List ℕ) → List ℕ → Type 0) (b d : List ℕ) → ((ws : List (List ℕ)) → list_all is_word ws ≡ true → P ws b ↔ Q ws d) → HexWords P b ↔ HexWords Q d
-hex_iff P Q b d f = (λ h. (h.0, h.1, (f h.0 h.1).0 h.2), λ h. (h.0, h.1, (f h.0 h.1).1 h.2))
+abbrev OneWord : Key → (List ℕ → Content) → Class → (ℕ → Bool) → Type 0
+OneWord = HasOneWord kind_of is_formed (λ c. argument c tail)
 
--- the tests that a byte can't pass together
-pub not_both : (c k j : ℕ) → (c == k) ≡ true → (k == j) ≡ false → (c == j) ≡ false
-not_both c k j e f = subst (λ (x : ℕ). (x == j) ≡ false) (sym (eqb-true c k e)) f
+-- of a number
+module _ (key : Key) (made : List ℕ → Content) (kind : (ds : List ℕ) → kind_of (made ds) ≡ key) (formed : (ds : List ℕ) → is_formed (made ds) ≡ is_number ds)
+    (there : (ds x : List ℕ) → argument (made ds) tail x ↔ word ds tail x) (only : (c : Content) → kind_of c ≡ key → (ds : List ℕ) × (c ≡ made ds)) where
+  numbered : OneWord key made (fits_of Number) is_digit
+  numbered = record {
+    kind = kind;
+    formed = λ w h. formed w ∙ (run_is is_digit 9 w).0 h;
+    into = λ w x h t. (there w x).1 t;
+    out = λ c x e f h. (let o = only c e in (
+      o.0,
+      (run_is is_digit 9 o.0).1 (sym (formed o.0) ∙ ap is_formed (sym o.1) ∙ f),
+      o.1,
+      (there o.0 x).0 (subst (λ c. argument c tail x) o.1 h),
+    ));
+    begun = digit_begun;
+    within = digit_later;
+    plain = digits_plain;
+  }
 
--- ---- behind the content
-
-pub ended_law : (key : Key) (c : ℕ) (b : List ℕ) (v : Option Key) → ((v ≡ Some key) × tail (c ∷ b)) ↔ Holds (ended key c) (λ t. rest t b v)
-ended_law key c b v =
-    at_bool (λ t. ((v ≡ Some key) × tail (c ∷ b)) ↔ Holds (if t then Some (End key) else if c == 35 then Some (Remark (Some key)) else None) (λ t. rest t b v))
-    (is_blank c)
-    (λ e. second (tail_blank c b e))
-    (λ e. at_bool (λ u. ((v ≡ Some key) × tail (c ∷ b)) ↔ Holds (if u then Some (Remark (Some key)) else None) (λ t. rest t b v)) (c == 35)
-    (λ f. (λ h. h.0, λ h. (h, (tail_other c b e).1 ((when_true (c == 35) (Unit {0}) f).1 tt))))
-    (λ f. never (λ h. tail_never c b e f h.1) (λ z. z)))
-
-pub goes_number : (key : Key) (n c : ℕ) (b : List ℕ) (v : Option Key) → Law (Number key n) c b v
-goes_number key n c b v =
-    at_bool (λ t. rest (Number key n) (c ∷ b) v ↔ Holds (if t then Some (Number key (n + 1)) else if n == 0 then None else ended key c) (λ t. rest t b v))
-    (is_digit_of key c && nat_lt n (most_digits key))
-    (λ e. let parts = and_parts (is_digit_of key c) (nat_lt n (most_digits key)) e in
-    second (run_on (is_digit_of key) (most_digits key) n tail c b parts.0 parts.1 (no_tail (is_digit_of key) c b (number_plain key) parts.0)))
-    (λ e. at_bool (λ u. rest (Number key n) (c ∷ b) v ↔ Holds (if u then None else ended key c) (λ t. rest t b v)) (n == 0)
-    (λ z. never (λ h. run_none (is_digit_of key) (most_digits key) n tail c b e z h.1) (λ x. x))
-    (λ z. also (second (run_off (is_digit_of key) (most_digits key) n tail c b e z)) (ended_law key c b v)))
-
--- ---- names
-
-names_on : (K : List ℕ → Type 0) (c : ℕ) (b : List ℕ) → is_name_byte c ≡ true → (K (c ∷ b) → ⊥) → Names K (c ∷ b) ↔ Names K b
-names_on K c b e f =
-    (λ h. to h.0 h.1 h.2, λ h. (c ∷ h.0, and_from (is_name_byte c) (list_all is_name_byte h.0) e h.1, (when_true (c == c) (word h.0 K b) (eq-eqb c c refl)).1 h.2))
+version_word : OneWord Memory version (fits_of Number) is_digit
+version_word = numbered Memory version (λ w. refl) (λ w. refl) (λ w x. same) only
   where
-    to : (more : List ℕ) → list_all is_name_byte more ≡ true → word more K (c ∷ b) → Names K b
-    to [] a w = absurd (f w)
-    to (m ∷ ms) a w = (ms, (and_parts (is_name_byte m) (list_all is_name_byte ms) a).1, (when_holds (c == m) (word ms K b) w).1)
+    only : (c : Content) → kind_of c ≡ Memory → (ds : List ℕ) × (c ≡ version ds)
+    only (version ds) e = (ds, refl)
+    only c e = (let z : ⊥ = cc in absurd z)
 
-names_off : (K : List ℕ → Type 0) (c : ℕ) (b : List ℕ) → is_name_byte c ≡ false → Names K (c ∷ b) ↔ K (c ∷ b)
-names_off K c b e = (λ h. to h.0 h.1 h.2, λ h. ([], refl, h))
+words_word : OneWord WordsKey words (fits_of Number) is_digit
+words_word = numbered WordsKey words (λ w. refl) (λ w. refl) (λ w x. same) only
   where
-    to : (more : List ℕ) → list_all is_name_byte more ≡ true → word more K (c ∷ b) → K (c ∷ b)
-    to [] a w = w
-    to (m ∷ ms) a w =
-        let same_byte : c ≡ m = eqb-true c m (when_holds (c == m) (word ms K b) w).0 in
-        let of_class : is_name_byte c ≡ true = ap is_name_byte same_byte ∙ (and_parts (is_name_byte m) (list_all is_name_byte ms) a).0 in
-        (let z : ⊥ = cc in absurd z)
+    only : (c : Content) → kind_of c ≡ WordsKey → (ds : List ℕ) × (c ≡ words ds)
+    only (words ds) e = (ds, refl)
+    only c e = (let z : ⊥ = cc in absurd z)
 
-pub goes_name : (c : ℕ) (b : List ℕ) (v : Option Key) → Law InName c b v
-goes_name c b v =
-    at_bool (λ t. rest InName (c ∷ b) v ↔ Holds (if t then Some InName else ended Name c) (λ t. rest t b v)) (is_name_byte c)
-    (λ e. second (names_on tail c b e (no_tail is_name_byte c b names_plain e)))
-    (λ e. also (second (names_off tail c b e)) (ended_law Name c b v))
-
--- ---- rows
-
-some_term : (P : Term → List Term → Type 0) (Q : List Term → Type 0) → (Q [] → ⊥) → ((t : Term) (ts : List Term) → Q (t ∷ ts) ↔ P t ts)
-    → ((ts : List Term) × (list_all is_term ts ≡ true) × Q ts) ↔ ((t : Term) × (is_term t ≡ true) × ((ts : List Term) × (list_all is_term ts ≡ true) × P t ts))
-some_term P Q none f = (λ h. to h.0 h.1 h.2, λ h. (h.0 ∷ h.2.0, and_from (is_term h.0) (list_all is_term h.2.0) h.1 h.2.1, (f h.0 h.2.0).1 h.2.2))
+bits_word : OneWord Bits bits (fits_of Number) is_digit
+bits_word = numbered Bits bits (λ w. refl) (λ w. refl) (λ w x. same) only
   where
-    to : (ts : List Term) → list_all is_term ts ≡ true → Q ts → (t : Term) × (is_term t ≡ true) × ((us : List Term) × (list_all is_term us ≡ true) × P t us)
-    to [] a q = absurd (none q)
-    to (t ∷ ts) a q = let parts = and_parts (is_term t) (list_all is_term ts) a in (t, parts.0, (ts, parts.1, (f t ts).0 q))
+    only : (c : Content) → kind_of c ≡ Bits → (ds : List ℕ) × (c ≡ bits ds)
+    only (bits ds) e = (ds, refl)
+    only c e = (let z : ⊥ = cc in absurd z)
 
--- a mark, behind blanks, that isn't there yet
-mark_blank : (k c : ℕ) (K : List ℕ → Type 0) (b : List ℕ) → is_blank c ≡ true → is_blank k ≡ false → space (byte k K) (c ∷ b) ↔ space (byte k K) b
-mark_blank k c K b e n = space_on (byte k K) c b e (when_false (c == k) (K b) (apart is_blank c k e n))
-
-mark_is : (k c : ℕ) (K : List ℕ → Type 0) (b : List ℕ) → is_blank c ≡ false → (c == k) ≡ true → space (byte k K) (c ∷ b) ↔ K b
-mark_is k c K b e f = also (space_off (byte k K) c b e) (when_true (c == k) (K b) f)
-
-mark_isnt : (k c : ℕ) (K : List ℕ → Type 0) (b : List ℕ) → is_blank c ≡ false → (c == k) ≡ false → space (byte k K) (c ∷ b) → ⊥
-mark_isnt k c K b e f h = when_false (c == k) (K b) f ((space_off (byte k K) c b e).0 h)
-
-pub row_ended_law : (c : ℕ) (b : List ℕ) (v : Option Key) → ((v ≡ Some Scramble) × Terms (λ ts. equation ts tail) (c ∷ b)) ↔ Holds (row_ended c) (λ t. rest t b v)
-row_ended_law c b v =
-    at_bool (λ t. ((v ≡ Some Scramble) × Terms (λ ts. equation ts tail) (c ∷ b)) ↔ Holds (if t then Some RowEnd else if c == 61 then Some AtTerm else None) (λ t. rest t b v))
-    (is_blank c)
-    (λ e. second (terms_iff (λ ts. equation ts tail) (λ ts. equation ts tail) (c ∷ b) b (blank e)))
-    (λ e. at_bool (λ u. ((v ≡ Some Scramble) × Terms (λ ts. equation ts tail) (c ∷ b)) ↔ Holds (if u then Some AtTerm else None) (λ t. rest t b v)) (c == 61)
-    (λ f. second (some_term (λ t ts. space (word (term_text t) (more_terms ts tail)) b) (λ ts. equation ts tail (c ∷ b)) (λ z. z)
-    (λ t ts. mark_is 61 c (space (word (term_text t) (more_terms ts tail))) b e f)))
-    (λ f. never (λ h. none e f h.1.0 h.1.2) (λ z. z)))
+latency_word : OneWord Latency latency (fits_of Number) is_digit
+latency_word = numbered Latency latency (λ w. refl) (λ w. refl) (λ w x. same) only
   where
-    blank : is_blank c ≡ true → (ts : List Term) → equation ts tail (c ∷ b) ↔ equation ts tail b
-    blank e [] = same
-    blank e (t ∷ ts) = mark_blank 61 c (space (word (term_text t) (more_terms ts tail))) b e refl
+    only : (c : Content) → kind_of c ≡ Latency → (ds : List ℕ) × (c ≡ latency ds)
+    only (latency ds) e = (ds, refl)
+    only c e = (let z : ⊥ = cc in absurd z)
 
-    none : is_blank c ≡ false → (c == 61) ≡ false → (ts : List Term) → equation ts tail (c ∷ b) → ⊥
-    none e f [] h = h
-    none e f (t ∷ ts) h = mark_isnt 61 c (space (word (term_text t) (more_terms ts tail))) b e f h
-
-pub goes_row_number : (n c : ℕ) (b : List ℕ) (v : Option Key) → Law (RowNumber n) c b v
-goes_row_number n c b v =
-    at_bool (λ t. rest (RowNumber n) (c ∷ b) v ↔ Holds (if t then Some (RowNumber (n + 1)) else if n == 0 then None else row_ended c) (λ t. rest t b v))
-    (is_digit c && nat_lt n 9)
-    (λ e. let parts = and_parts (is_digit c) (nat_lt n 9) e in
-    second (terms_iff (λ ts. Run is_digit 9 n (equation ts tail)) (λ ts. Run is_digit 9 (n + 1) (equation ts tail)) (c ∷ b) b
-    (λ ts. run_on is_digit 9 n (equation ts tail) c b parts.0 parts.1 (no_equation ts c b parts.0))))
-    (λ e. at_bool (λ u. rest (RowNumber n) (c ∷ b) v ↔ Holds (if u then None else row_ended c) (λ t. rest t b v)) (n == 0)
-    (λ z. never (λ h. run_none is_digit 9 n (equation h.1.0 tail) c b e z h.1.2) (λ x. x))
-    (λ z. also (second (terms_iff (λ ts. Run is_digit 9 n (equation ts tail)) (λ ts. equation ts tail) (c ∷ b) (c ∷ b)
-    (λ ts. run_off is_digit 9 n (equation ts tail) c b e z))) (row_ended_law c b v)))
-
-pub term_ended_law : (c : ℕ) (b : List ℕ) (v : Option Key) → ((v ≡ Some Scramble) × Terms (λ ts. more_terms ts tail) (c ∷ b)) ↔ Holds (term_ended c) (λ t. rest t b v)
-term_ended_law c b v =
-    at_bool (λ t. ((v ≡ Some Scramble) × Terms (λ ts. more_terms ts tail) (c ∷ b)) ↔ Holds (if t then Some TermEnd else if c == 94 then Some AtTerm else if c == 35 then Some (Remark (Some Scramble)) else None) (λ t. rest t b v))
-    (is_blank c)
-    (λ e. second (terms_iff (λ ts. more_terms ts tail) (λ ts. more_terms ts tail) (c ∷ b) b (blank e)))
-    (λ e. at_bool (λ u. ((v ≡ Some Scramble) × Terms (λ ts. more_terms ts tail) (c ∷ b)) ↔ Holds (if u then Some AtTerm else if c == 35 then Some (Remark (Some Scramble)) else None) (λ t. rest t b v)) (c == 94)
-    (λ f. second (some_term (λ t ts. space (word (term_text t) (more_terms ts tail)) b) (λ ts. more_terms ts tail (c ∷ b))
-    (tail_never c b e (not_both c 94 35 f refl))
-    (λ t ts. mark_is 94 c (space (word (term_text t) (more_terms ts tail))) b e f)))
-    (λ f. at_bool (λ u. ((v ≡ Some Scramble) × Terms (λ ts. more_terms ts tail) (c ∷ b)) ↔ Holds (if u then Some (Remark (Some Scramble)) else None) (λ t. rest t b v)) (c == 35)
-    (λ g. (λ h. h.0, λ h. (h, ([], refl, (tail_other c b e).1 ((when_true (c == 35) (Unit {0}) g).1 tt)))))
-    (λ g. never (λ h. none e f g h.1.0 h.1.2) (λ z. z))))
+pause_word : OneWord Pause pause (fits_of Number) is_digit
+pause_word = numbered Pause pause (λ w. refl) (λ w. refl) (λ w x. same) only
   where
-    blank : is_blank c ≡ true → (ts : List Term) → more_terms ts tail (c ∷ b) ↔ more_terms ts tail b
-    blank e [] = tail_blank c b e
-    blank e (t ∷ ts) = mark_blank 94 c (space (word (term_text t) (more_terms ts tail))) b e refl
+    only : (c : Content) → kind_of c ≡ Pause → (ds : List ℕ) × (c ≡ pause ds)
+    only (pause ds) e = (ds, refl)
+    only c e = (let z : ⊥ = cc in absurd z)
 
-    none : is_blank c ≡ false → (c == 94) ≡ false → (c == 35) ≡ false → (ts : List Term) → more_terms ts tail (c ∷ b) → ⊥
-    none e f g [] h = tail_never c b e g h
-    none e f g (t ∷ ts) h = mark_isnt 94 c (space (word (term_text t) (more_terms ts tail))) b e f h
+polarity_word : OneWord Polarity polarity (fits_of HexWord) is_hex
+polarity_word = record {
+  kind = λ w. refl;
+  formed = λ w h. (run_is is_hex 16 w).0 h;
+  into = λ w x h t. t;
+  out = out;
+  begun = hex_begun;
+  within = λ n c h. (and_parts (is_hex c) (nat_lt (suc n) 16) h).0;
+  plain = hex_plain;
+}
+  where
+    out : (c : Content) (x : List ℕ) → kind_of c ≡ Polarity → is_formed c ≡ true → argument c tail x → (w : List ℕ) × (is_word (fits_of HexWord) w ≡ true) × (c ≡ polarity w) × word w tail x
+    out (polarity w) x k f h = (w, (run_is is_hex 16 w).1 f, refl, h)
+    out c x k f h = (let z : ⊥ = cc in absurd z)
 
-pub goes_term_number : (n c : ℕ) (b : List ℕ) (v : Option Key) → Law (TermNumber n) c b v
-goes_term_number n c b v =
-    at_bool (λ t. rest (TermNumber n) (c ∷ b) v ↔ Holds (if t then Some (TermNumber (n + 1)) else if n == 0 then None else term_ended c) (λ t. rest t b v))
-    (is_digit c && nat_lt n 9)
-    (λ e. let parts = and_parts (is_digit c) (nat_lt n 9) e in
-    second (terms_iff (λ ts. Run is_digit 9 n (more_terms ts tail)) (λ ts. Run is_digit 9 (n + 1) (more_terms ts tail)) (c ∷ b) b
-    (λ ts. run_on is_digit 9 n (more_terms ts tail) c b parts.0 parts.1 (no_more_terms ts c b parts.0))))
-    (λ e. at_bool (λ u. rest (TermNumber n) (c ∷ b) v ↔ Holds (if u then None else term_ended c) (λ t. rest t b v)) (n == 0)
-    (λ z. never (λ h. run_none is_digit 9 n (more_terms h.1.0 tail) c b e z h.1.2) (λ x. x))
-    (λ z. also (second (terms_iff (λ ts. Run is_digit 9 n (more_terms ts tail)) (λ ts. more_terms ts tail) (c ∷ b) (c ∷ b)
-    (λ ts. run_off is_digit 9 n (more_terms ts tail) c b e z))) (term_ended_law c b v)))
+names_plain : IsPlain is_name_byte
+names_plain = record { space_no = refl; tab_no = refl; return_no = refl; hash_no = refl }
+
+name_word : OneWord Name name (fits_of NameWord) is_name_byte
+name_word = record {
+  kind = λ w. refl;
+  formed = λ w h. sym (name_is w) ∙ h;
+  into = λ w x h t. t;
+  out = out;
+  begun = record { first = 97; fitting = refl; small = refl };
+  within = λ n c h. h;
+  plain = names_plain;
+}
+  where
+    out : (c : Content) (x : List ℕ) → kind_of c ≡ Name → is_formed c ≡ true → argument c tail x → (w : List ℕ) × (is_word (fits_of NameWord) w ≡ true) × (c ≡ name w) × word w tail x
+    out (name w) x k f h = (w, name_is w ∙ f, refl, h)
+    out c x k f h = (let z : ⊥ = cc in absurd z)
+
+-- ---- a row
+
+byte_pull : {A : Type 0} (d : ℕ) (P : A → List ℕ → Type 0) (b : List ℕ) → byte d (λ x. (a : A) × P a x) b → (a : A) × byte d (P a) b
+byte_pull d P [] h = absurd h
+byte_pull {A} d P (c ∷ b) h = let q = when_holds (c == d) ((a : A) × P a b) h in (q.1.0, (when_true (c == d) (P q.1.0 b) q.0).1 q.1.1)
+
+byte_map : (d : ℕ) (K L : List ℕ → Type 0) → ((x : List ℕ) → K x → L x) → (b : List ℕ) → byte d K b → byte d L b
+byte_map d K L f [] h = h
+byte_map d K L f (c ∷ b) h = let q = when_holds (c == d) (K b) h in (when_true (c == d) (L b) q.0).1 (f b q.1)
+
+abbrev RowTerms : List ℕ → List ℕ → Option Content → Type 0
+RowTerms i = OneTerm (λ t. More (λ ts. Some (scramble i (t ∷ ts))))
+
+abbrev RowLeft : List ℕ → Option Content → Type 0
+RowLeft = Byte 97 (Words (fits_of Number) (λ i. Space (Byte 61 (Space (RowTerms i)))))
+
+abbrev row_says : List ℕ → List Term → Option Content
+row_says i ts = Some (scramble i ts)
+
+row_iff : (x : List ℕ) (v : Option Content) → RowLeft x v ↔ Arg Scramble x v
+row_iff x v = (from x, λ h. to h.0.content h.0.kind h.0.formed h.0.says x h.1)
+  where
+    Equation : (i : List ℕ) → SaysOne (row_says i) v → List ℕ → Type 0
+    Equation i s y = space (byte 61 (space (word (term_text s.term) (more_terms s.terms tail)))) y
+
+    pulled : (i : List ℕ) (y : List ℕ) → space (byte 61 (space (λ z. RowTerms i z v))) y → (s : SaysOne (row_says i) v) × Equation i s y
+    pulled i y h =
+        many_pull is_blank (λ (s : SaysOne (row_says i) v) z. byte 61 (space (word (term_text s.term) (more_terms s.terms tail))) z) y
+        (many_map is_blank (byte 61 (space (λ z. RowTerms i z v))) (λ z. (s : SaysOne (row_says i) v) × byte 61 (space (word (term_text s.term) (more_terms s.terms tail))) z)
+        (λ z k. byte_pull 61 (λ (s : SaysOne (row_says i) v) u. space (word (term_text s.term) (more_terms s.terms tail)) u) z
+        (byte_map 61 (space (λ z. RowTerms i z v)) (λ u. (s : SaysOne (row_says i) v) × space (word (term_text s.term) (more_terms s.terms tail)) u)
+        (λ u m. many_pull is_blank (λ (s : SaysOne (row_says i) v) w. word (term_text s.term) (more_terms s.terms tail) w) u
+        (many_map is_blank (λ w. RowTerms i w v) (Whole (row_says i) v) (one_whole (row_says i) v) u m)) z k)) y h)
+
+    from : (x : List ℕ) → RowLeft x v → Arg Scramble x v
+    from [] h = absurd h
+    from (c ∷ x) h =
+        let q = when_holds (c == 97) (Words (fits_of Number) (λ i. Space (Byte 61 (Space (RowTerms i)))) x v) h in
+        let i = q.1.0 in
+        let a = word_pull i (λ (s : SaysOne (row_says i) v) y. Equation i s y) x (word_map i (λ y. space (byte 61 (space (λ z. RowTerms i z v))) y) (λ y. (s : SaysOne (row_says i) v) × Equation i s y) (pulled i) x q.1.2) in (
+          record {
+            content = scramble i (a.0.term ∷ a.0.terms);
+            kind = refl;
+            formed = and_from (is_number i) (list_all is_term (a.0.term ∷ a.0.terms)) ((run_is is_digit 9 i).0 q.1.1) a.0.formed;
+            says = a.0.says;
+          },
+          (when_true (c == 97) (word i (equation (a.0.term ∷ a.0.terms) tail) x) q.0).1 a.1,
+        )
+
+    to : (c : Content) → kind_of c ≡ Scramble → is_formed c ≡ true → v ≡ Some c → (x : List ℕ) → argument c tail x → RowLeft x v
+    to (scramble i []) k f e [] h = absurd h
+    to (scramble i []) k f e (c ∷ x) h = absurd (no_equation i x (when_holds (c == 97) (word i (equation [] tail) x) h).1)
+      where
+        no_equation : (w x : List ℕ) → word w (equation [] tail) x → ⊥
+        no_equation [] x h = h
+        no_equation (d ∷ w) [] h = h
+        no_equation (d ∷ w) (c ∷ x) h = no_equation w x (when_holds (c == d) (word w (equation [] tail) x) h).1
+    to (scramble i (t ∷ ts)) k f e [] h = absurd h
+    to (scramble i (t ∷ ts)) k f e (c ∷ x) h =
+        let q = when_holds (c == 97) (word i (equation (t ∷ ts) tail) x) h in
+        let p = and_parts (is_number i) (list_all is_term (t ∷ ts)) f in
+        let s : SaysOne (row_says i) v = record { term = t; terms = ts; formed = p.1; says = e } in
+        (when_true (c == 97) (Words (fits_of Number) (λ i. Space (Byte 61 (Space (RowTerms i)))) x v) q.0).1 (
+          i,
+          (run_is is_digit 9 i).1 p.0,
+          word_map i (equation (t ∷ ts) tail) (λ y. space (byte 61 (space (λ z. RowTerms i z v))) y)
+              (many_map is_blank (byte 61 (space (word (term_text t) (more_terms ts tail)))) (byte 61 (space (λ z. RowTerms i z v)))
+              (byte_map 61 (space (word (term_text t) (more_terms ts tail))) (space (λ z. RowTerms i z v))
+              (many_map is_blank (word (term_text t) (more_terms ts tail)) (λ z. RowTerms i z v) (whole_one (row_says i) v s)))) x q.1,
+        )
+    to c k f e x h = (let z : ⊥ = cc in absurd z)
+
+row_told : (n : ℕ) → Hears n (Arg Scramble) (argument_of Scramble)
+row_told n b l =
+    told_iff RowLeft (Arg Scramble) b (argument_of Scramble b) row_iff
+    (fewer n (suc n) RowLeft (argument_of Scramble) (omega arith)
+    (byte_told n 97 Numbered (λ x. onward (word_of (fits_of Number) x) after_number) refl
+    (fewer n (suc n) Numbered (λ x. onward (word_of (fits_of Number) x) after_number) (omega arith)
+    (word_told n (fits_of Number) (λ i. Space (Equals i)) after_number digit_begun
+    (λ m c w x v i k. no_mark is_digit c 61 (space (λ z. RowTerms w z v)) x digits_plain (and_parts (is_digit c) _ i).0 refl k)
+    (λ i _. space_told n (Equals i) (λ x. onward (byte_of 61 x) (λ _ x. onward (term_of (spaced x)) (item i))) (byte_shuns is_blank 61 (Space (RowTerms i)) refl)
+    (fewer n (suc n) (Equals i) (λ x. onward (byte_of 61 x) (λ _ x. onward (term_of (spaced x)) (item i))) (omega arith)
+    (byte_told n 61 (Space (RowTerms i)) (λ x. onward (term_of (spaced x)) (item i)) refl
+    (space_told n (RowTerms i) (λ x. onward (term_of x) (item i)) (term_shuns (λ t. More (λ ts. Some (scramble i (t ∷ ts)))))
+    (fewer n (suc n) (RowTerms i) (λ x. onward (term_of x) (item i)) (omega arith)
+    (term_told n (λ t. More (λ ts. Some (scramble i (t ∷ ts)))) (item i) (λ t c b v. more_no_digits (λ ts. Some (scramble i (t ∷ ts))) c b v)
+    (λ t. terms_told n (λ ts. Some (scramble i (t ∷ ts))))))))))))) b l)
+  where
+    item : List ℕ → Term → List ℕ → Read (Option Content)
+    item i t x = onward (terms_of x) (λ ts x. took (Some (scramble i (t ∷ ts))) x)
+
+    after_number : List ℕ → List ℕ → Read (Option Content)
+    after_number i x = onward (byte_of 61 (spaced x)) (λ _ x. onward (term_of (spaced x)) (λ t x. item i t x))
+
+    Equals : List ℕ → List ℕ → Option Content → Type 0
+    Equals i = Byte 61 (Space (RowTerms i))
+
+    Numbered : List ℕ → Option Content → Type 0
+    Numbered = Words (fits_of Number) (λ i. Space (Equals i))
 
 -- ---- backgrounds
 
-pub word_ended_law : (c : ℕ) (b : List ℕ) (v : Option Key) → ((v ≡ Some Backgrounds) × HexWords (λ ws. more_words ws tail) (c ∷ b)) ↔ Holds (word_ended c) (λ t. rest t b v)
-word_ended_law c b v =
-    at_bool (λ t. ((v ≡ Some Backgrounds) × HexWords (λ ws. more_words ws tail) (c ∷ b)) ↔ Holds (if t then Some HexEnd else if c == 35 then Some (Remark (Some Backgrounds)) else None) (λ t. rest t b v))
-    (is_blank c)
-    (λ e. second (hex_iff (λ ws. more_words ws tail) words_left (c ∷ b) b (blank e)))
-    (λ e. at_bool (λ u. ((v ≡ Some Backgrounds) × HexWords (λ ws. more_words ws tail) (c ∷ b)) ↔ Holds (if u then Some (Remark (Some Backgrounds)) else None) (λ t. rest t b v)) (c == 35)
-    (λ g. (λ h. h.0, λ h. (h, ([], refl, (tail_other c b e).1 ((when_true (c == 35) (Unit {0}) g).1 tt)))))
-    (λ g. never (λ h. none e g h.1.0 h.1.2) (λ z. z)))
+abbrev LogLeft : List ℕ → Option Content → Type 0
+LogLeft = Byte 108 (Byte 111 (Byte 103 (Ends (Some log))))
+
+abbrev listed : List (List ℕ) → Option Content
+listed ws = Some (backgrounds ws)
+
+backgrounds_iff : (x : List ℕ) (v : Option Content) → Either LogLeft (Hex listed) x v ↔ Arg Backgrounds x v
+backgrounds_iff x v = (elim [ inl h ↦ by_log h | inr h ↦ by_words h ], λ h. to h.0.content h.0.kind h.0.formed h.0.says x h.1)
   where
-    blank : is_blank c ≡ true → (ws : List (List ℕ)) → list_all is_word ws ≡ true → more_words ws tail (c ∷ b) ↔ words_left ws b
-    blank e [] a = tail_blank c b e
-    blank e (w ∷ ws) a = gap_on (word w (more_words ws tail)) c b e
+    log_there : v ≡ Some log → SaysOf Backgrounds v
+    log_there e = record { content = log; kind = refl; formed = refl; says = e }
 
-    none : is_blank c ≡ false → (c == 35) ≡ false → (ws : List (List ℕ)) → more_words ws tail (c ∷ b) → ⊥
-    none e g [] h = tail_never c b e g h
-    none e g (w ∷ ws) h = gap_off (word w (more_words ws tail)) c b e h
+    by_log : LogLeft x v → Arg Backgrounds x v
+    by_log h = (let a = word_pull (codes "log") (λ (_ : v ≡ Some log) y. tail y) x h in (log_there a.0, a.1))
 
-pub goes_hex : (n c : ℕ) (b : List ℕ) (v : Option Key) → Law (Hex n) c b v
-goes_hex n c b v =
-    at_bool (λ t. rest (Hex n) (c ∷ b) v ↔ Holds (if t then Some (Hex (n + 1)) else if n == 0 then None else word_ended c) (λ t. rest t b v))
-    (is_hex c && nat_lt n 16)
-    (λ e. let parts = and_parts (is_hex c) (nat_lt n 16) e in
-    second (hex_iff (λ ws. Run is_hex 16 n (more_words ws tail)) (λ ws. Run is_hex 16 (n + 1) (more_words ws tail)) (c ∷ b) b
-    (λ ws _. run_on is_hex 16 n (more_words ws tail) c b parts.0 parts.1 (no_more_words ws c b parts.0))))
-    (λ e. at_bool (λ u. rest (Hex n) (c ∷ b) v ↔ Holds (if u then None else word_ended c) (λ t. rest t b v)) (n == 0)
-    (λ z. never (λ h. run_none is_hex 16 n (more_words h.1.0 tail) c b e z h.1.2) (λ x. x))
-    (λ z. also (second (hex_iff (λ ws. Run is_hex 16 n (more_words ws tail)) (λ ws. more_words ws tail) (c ∷ b) (c ∷ b)
-    (λ ws _. run_off is_hex 16 n (more_words ws tail) c b e z))) (word_ended_law c b v)))
+    by_words : Hex listed x v → Arg Backgrounds x v
+    by_words h = (let a = hex_whole listed v x h in (record { content = backgrounds (a.0.first ∷ a.0.words); kind = refl; formed = a.0.formed; says = a.0.says }, a.1))
 
-pub goes_letter_l : (c : ℕ) (b : List ℕ) (v : Option Key) → Law LetterL c b v
-goes_letter_l c b v =
-    at_bool (λ t. rest LetterL (c ∷ b) v ↔ Holds (if t then Some LetterO else None) (λ t. rest t b v)) (c == 111)
-    (λ e. second (when_true (c == 111) (word (103 ∷ []) tail b) e))
-    (λ e. never (λ h. when_false (c == 111) (word (103 ∷ []) tail b) e h.1) (λ z. z))
+    to : (c : Content) → kind_of c ≡ Backgrounds → is_formed c ≡ true → v ≡ Some c → (x : List ℕ) → argument c tail x → LogLeft x v ⊎ Hex listed x v
+    to log k f e x h = inl (word_map (codes "log") tail (λ y. Ends (Some log) y v) (λ y t. (e, t)) x h)
+    to (backgrounds []) k f e x h = absurd h
+    to (backgrounds (w ∷ ws)) k f e x h = inr (whole_hex listed v (record { first = w; words = ws; formed = f; says = e }) x h)
+    to c k f e x h = (let z : ⊥ = cc in absurd z)
 
-pub goes_letter_o : (c : ℕ) (b : List ℕ) (v : Option Key) → Law LetterO c b v
-goes_letter_o c b v =
-    at_bool (λ t. rest LetterO (c ∷ b) v ↔ Holds (if t then Some (End Backgrounds) else None) (λ t. rest t b v)) (c == 103)
-    (λ e. second (when_true (c == 103) (tail b) e))
-    (λ e. never (λ h. when_false (c == 103) (tail b) e h.1) (λ z. z))
+backgrounds_told : (n : ℕ) → Hears n (Arg Backgrounds) (argument_of Backgrounds)
+backgrounds_told n b l =
+    told_iff (Either LogLeft (Hex listed)) (Arg Backgrounds) b (argument_of Backgrounds b) backgrounds_iff
+    (either_told n is_l LogLeft (Hex listed) by_log by_words (stuck []) (byte_only 108 (Byte 111 (Byte 103 (Ends (Some log)))))
+    (λ c e. begins_hex (λ w. MoreWords (λ ws. listed (w ∷ ws))) c (ap is_hex (eqb-true c 108 e)))
+    (refl, λ w h. elim h [ inl a ↦ a | inr a ↦ no_hex (λ w. MoreWords (λ ws. listed (w ∷ ws))) w a ])
+    (fewer n (suc n) LogLeft by_log (omega arith) (byte_told n 108 (Byte 111 (Byte 103 (Ends (Some log)))) (λ x. onward (byte_of 111 x) (λ _ x. onward (byte_of 103 x) (λ _ x. ends_with (Some log) x))) refl
+    (fewer n (suc n) (Byte 111 (Byte 103 (Ends (Some log)))) (λ x. onward (byte_of 111 x) (λ _ x. onward (byte_of 103 x) (λ _ x. ends_with (Some log) x))) (omega arith)
+    (byte_told n 111 (Byte 103 (Ends (Some log))) (λ x. onward (byte_of 103 x) (λ _ x. ends_with (Some log) x)) refl
+    (fewer n (suc n) (Byte 103 (Ends (Some log))) (λ x. onward (byte_of 103 x) (λ _ x. ends_with (Some log) x)) (omega arith)
+    (byte_told n 103 (Ends (Some log)) (ends_with (Some log)) refl (ends_told n (Some log))))))))
+    (fewer n (suc n) (Hex listed) by_words (omega arith)
+    (word_told n (fits_of HexWord) (λ w. MoreWords (λ ws. listed (w ∷ ws))) (λ w x. onward (words_of x) (λ ws x. took (listed (w ∷ ws)) x)) hex_begun
+    (λ m c w x v i k. words_no_hex (λ ws. listed (w ∷ ws)) c x v (and_parts (is_hex c) _ i).0 k) (λ w _. all_words_told n (λ ws. listed (w ∷ ws)))))
+    b l)
+  where
+    by_log : List ℕ → Read (Option Content)
+    by_log x = onward (byte_of 108 x) (λ _ x. onward (byte_of 111 x) (λ _ x. onward (byte_of 103 x) (λ _ x. ends_with (Some log) x)))
 
--- ---- first words
+    by_words : List ℕ → Read (Option Content)
+    by_words x = onward (word_of (fits_of HexWord) x) (λ w x. onward (words_of x) (λ ws x. took (listed (w ∷ ws)) x))
 
-pub of_iff : (key : Key) (P Q : Content → List ℕ → Type 0) (b d : List ℕ) → ((x : Content) → is_formed x ≡ true → P x b ↔ Q x d) → Of key P b ↔ Of key Q d
-of_iff key P Q b d f = (λ h. (h.0, h.1, h.2, (f h.0 h.2).0 h.3), λ h. (h.0, h.1, h.2, (f h.0 h.2).1 h.3))
+-- ---- all kinds
 
-pub goes_named : (key : Key) (c : ℕ) (b : List ℕ) (v : Option Key) → Law (Named key) c b v
-goes_named key c b v =
-    at_bool (λ t. rest (Named key) (c ∷ b) v ↔ Holds (if t then Some (Wanted key) else None) (λ t. rest t b v)) (is_blank c)
-    (λ e. second (of_iff key (λ x. gap (argument x tail)) (λ x. space (argument x tail)) (c ∷ b) b (λ x _. gap_on (argument x tail) c b e)))
-    (λ e. never (λ h. gap_off (argument h.1.0 tail) c b e h.1.3) (λ z. z))
+-- a kind whose lines have one word
+told_word : (n : ℕ) (key : Key) (made : List ℕ → Content) (fits : Class) (p : ℕ → Bool) → OneWord key made fits p
+    → Hears n (Arg key) (λ b. onward (word_of fits b) (λ w x. ends_with (Some (made w)) x))
+told_word n key made fits p o =
+    fewer n (suc n) (Arg key) (λ b. onward (word_of fits b) (λ w x. ends_with (Some (made w)) x)) (omega arith) (one_word kind_of is_formed (λ c. argument c tail) n key made fits p o)
+
+argument_told : (n : ℕ) (key : Key) → Hears n (Arg key) (argument_of key)
+argument_told n Memory = told_word n Memory version (fits_of Number) is_digit version_word
+argument_told n Name = told_word n Name name (fits_of NameWord) is_name_byte name_word
+argument_told n WordsKey = told_word n WordsKey words (fits_of Number) is_digit words_word
+argument_told n Bits = told_word n Bits bits (fits_of Number) is_digit bits_word
+argument_told n Latency = told_word n Latency latency (fits_of Number) is_digit latency_word
+argument_told n Polarity = told_word n Polarity polarity (fits_of HexWord) is_hex polarity_word
+argument_told n Pause = told_word n Pause pause (fits_of Number) is_digit pause_word
+argument_told n Scramble = row_told n
+argument_told n Backgrounds = backgrounds_told n
+
+-- no argument begins with a blank
+argument_shuns : (key : Key) → Shuns is_blank (Arg key)
+argument_shuns key c b v e h = go h.0.content h.0.formed h.1
+  where
+    number : (w : List ℕ) → is_number w ≡ true → word w tail (c ∷ b) → ⊥
+    number w f k = blank_run is_digit 9 w tail c b refl refl refl f e k
+
+    go : (x : Content) → is_formed x ≡ true → argument x tail (c ∷ b) → ⊥
+    go (version ds) f k = number ds f k
+    go (words ds) f k = number ds f k
+    go (bits ds) f k = number ds f k
+    go (latency ds) f k = number ds f k
+    go (pause ds) f k = number ds f k
+    go (polarity w) f k = blank_run is_hex 16 w tail c b refl refl refl f e k
+    go (name []) f k = (let z : ⊥ = cc in z)
+    go (name (d ∷ ds)) f k = blank_word is_letter d ds tail c b refl refl refl (and_parts (is_letter d) (list_all is_name_byte ds) f).0 e k
+    go (scramble i ts) f k = when_false (c == 97) (word i (equation ts tail) b) (apart is_blank c 97 e refl) k
+    go log f k = when_false (c == 108) (word (codes "og") tail b) (apart is_blank c 108 e refl) k
+    go (backgrounds []) f k = k
+    go (backgrounds (w ∷ ws)) f k = blank_run is_hex 16 w (more_words ws tail) c b refl refl refl (and_parts (is_hex_word w) (list_all is_hex_word ws) f).0 e k
+
+-- ---- a line
+
+fine : (given : Option Version) → are_apart (keys_of given) ≡ true
+fine None = refl
+fine (Some One) = refl
+fine (Some Two) = refl
+
+first_key : (given : Option Version) → slice_get (keys_of given) 0 ≡ Some (record { text = key_text Memory; value = Memory })
+first_key None = refl
+first_key (Some One) = refl
+first_key (Some Two) = refl
+
+small : (k : Key) → begins_small (key_text k) ≡ true
+small Memory = refl
+small Name = refl
+small WordsKey = refl
+small Bits = refl
+small Latency = refl
+small Polarity = refl
+small Pause = refl
+small Scramble = refl
+small Backgrounds = refl
+
+pub table : (n : ℕ) (given : Option Version) → IsTable kind_of is_formed (λ c. argument c tail) key_text (keys_in given) n argument_of
+table n given = record { fine = fine given; first = Memory; begins = first_key given; small = small; shuns = argument_shuns; told = argument_told n }
+
+-- ---- the lines of the table are those of the grammar
+
+-- where a first word stands in the table of version 2
+abbrev index : Key → ℕ
+index Memory = 0
+index Name = 1
+index WordsKey = 2
+index Bits = 3
+index Latency = 6
+index Polarity = 7
+index Pause = 8
+index Scramble = 4
+index Backgrounds = 5
+
+there : (given : Option Version) (k : Key) → may_stand given k ≡ true → slice_get (keys_in given) (index k) ≡ Some k
+there None Memory e = refl
+there None k e = (let z : ⊥ = cc in absurd z)
+there (Some Two) Memory e = refl
+there (Some Two) Name e = refl
+there (Some Two) WordsKey e = refl
+there (Some Two) Bits e = refl
+there (Some Two) Latency e = refl
+there (Some Two) Polarity e = refl
+there (Some Two) Pause e = refl
+there (Some Two) Scramble e = refl
+there (Some Two) Backgrounds e = refl
+there (Some One) Memory e = refl
+there (Some One) Name e = refl
+there (Some One) WordsKey e = refl
+there (Some One) Bits e = refl
+there (Some One) Scramble e = refl
+there (Some One) Backgrounds e = refl
+there (Some One) k e = (let z : ⊥ = cc in absurd z)
+
+all_stand : (given : Option Version) → list_all (may_stand given) (keys_in given) ≡ true
+all_stand None = refl
+all_stand (Some One) = refl
+all_stand (Some Two) = refl
+
+is_of : (given : Option Version) (k : Key) → IsOf (keys_in given) k ↔ (may_stand given k ≡ true)
+is_of given k = (λ h. is_passed (may_stand given) (keys_in given) k (all_stand given) h, λ e. is_at (keys_in given) (index k) k (there given k e))
+
+pub line_is : (given : Option Version) (x : List ℕ) (v : Option Content) → AnyLine kind_of is_formed (λ c. argument c tail) key_text (keys_in given) x v ↔ LineOf given x v
+line_is given x v = (
+  λ h. elim h [ inl a ↦ inl a | inr a ↦ (let s = a.0 in inr (s.content, (is_of given (kind_of s.content)).0 s.stands, s.says, (s.formed, a.1))) ],
+  λ h. elim h [ inl a ↦ inl a | inr a ↦ inr (record { content = a.0; stands = (is_of given (kind_of a.0)).1 a.1; formed = a.3.0; says = a.2 }, a.3.1) ],
+)

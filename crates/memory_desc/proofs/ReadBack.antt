@@ -9,8 +9,8 @@ use Rattle.memory_desc.specs.Descriptions.{Description, IsMemory}
 use Rattle.memory_desc.specs.LineText.{Term, Content, version, scramble, backgrounds, ContentText, is_term, term_text}
 use Rattle.memory_desc.specs.Printed.{joined, background_texts, is_plain, version_text, printed}
 use Rattle.memory_desc.specs.Statements.{Say, is_said_in, IsOfVersion}
-use Rattle.memory_desc.specs.declared.line_place.Version.{Version}
-use Rattle.memory_desc.specs.declared.line_place.Version.TheVariants.{One, Two}
+use Rattle.memory_desc.specs.declared.content.Version.{Version}
+use Rattle.memory_desc.specs.declared.content.Version.TheVariants.{One, Two}
 use Rattle.memory_desc.specs.Values.{index_bits}
 use Rattle.memory_desc.specs.Table.{Reads, AreStatements}
 use Rattle.memory_desc.proofs.Parts.{width_small}

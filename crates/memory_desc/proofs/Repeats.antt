@@ -5,29 +5,30 @@ use Rattle.std.proofs.lemmas.List.Folds.{find-append}
 use Rattle.std.proofs.lemmas.List.{append_assoc}
 use Rattle.std.specs.List.{find}
 use Rattle.std.specs.Option.{option_or}
+use Rattle.std.specs.Prelude.{option_map}
 use Rattle.bist_text.specs.Lines.{TextLine}
-use Rattle.memory_desc.specs.LineText.{Content, ContentText, LineText}
+use Rattle.memory_desc.specs.LineText.{Content}
 use Rattle.memory_desc.specs.inner.Met.{MayHave, MayBeMet}
-use Rattle.memory_desc.specs.Statements.{Statement, stated, Say}
+use Rattle.memory_desc.specs.Statements.{Statement, stated}
+use Rattle.memory_desc.specs.inner.Heard.{said, statements}
+use Rattle.memory_desc.specs.inner.Seen.{Seen, seen, subject_of}
 use Rattle.memory_desc.specs.inner.Standing.{checked}
 use Rattle.memory_desc.specs.Subjects.{subject, is_same, is_about, about}
 use Rattle.memory_desc.specs.Table.{is_other, is_repeat, repeated, at_line}
 use Rattle.memory_desc.specs.declared.content.Subject.{Subject}
 use Rattle.memory_desc.specs.declared.content.Subject.TheVariants.{Version, Name, Words, Bits, Latency, Polarity, Pause, Row, Backgrounds}
 use Rattle.memory_desc.specs.declared.fault.MemoryFault.TheVariants.{Repeated}
+use Rattle.memory_desc.proofs.Searches.{subject_seen}
 
 -- the search has come to the lines that are left: none of the statements that it passed repeats one, or is about a subject that can't have been met
 pub record Passing (lines left : List TextLine) (met : List ℕ) : Type 0 where
-  pub goes : (ss : List Statement) → Say lines ss → (passed : List Statement) × (more : List Statement) × Say left more × (ss ≡ passed ++ more)
-      × (find (is_repeat ss) passed ≡ None) × ((q : Subject) → (MayBeMet met q → ⊥) → about q passed ≡ None)
+  pub passed : List Statement
+  pub parts : statements lines ≡ passed ++ statements left
+  pub none : find (is_repeat (statements lines)) passed ≡ None
+  pub new : (q : Subject) → (MayBeMet met q → ⊥) → about q passed ≡ None
 
--- what a line is tested for
-pub record Tested (lines : List TextLine) (l : TextLine) (before met : List ℕ) (t : Bool) : Type 0 where
-  pub content : (ss : List Statement) (c : Content) → Say lines ss → ContentText l.text c
-      → ((MayBeMet before (subject c) → ⊥) → is_repeat ss (record { line = l.number; content = c }) ≡ false) → t ≡ is_repeat ss (record { line = l.number; content = c })
-  pub none : LineText l.text None → t ≡ false
-  pub kept : (c : Content) → ContentText l.text c → MayBeMet met (subject c)
-  pub stay : (q : Subject) → MayBeMet before q → MayBeMet met q
+pub passing_begun : (lines left : List TextLine) (met : List ℕ) → lines ≡ left → Passing lines left met
+passing_begun lines left met e = record { passed = []; parts = ap statements e; none = refl; new = λ q n. refl }
 
 -- ---- subjects
 
@@ -67,69 +68,60 @@ first_repeats_none passed more ss s e f =
 
 -- ---- one line further
 
-pub passing_on : {lines before left : List TextLine} {l : TextLine} {t : Bool} {old met : List ℕ} → Passing lines before old → before ≡ l ∷ left
-    → t ≡ false → Tested lines l old met t → Passing lines left met
-passing_on {lines = lines} {left = left} {l = l} {t = t} {old = old} {met = met} whole step f u =
-    let s = subst (λ b. Passing lines b old) step whole in
-    record { goes = λ ss h. let w = s.goes ss h in go ss w.0 w.1 w.2.0 w.2.1 h w.2.2 w.2.3 w.2.4 w.3 w.4 w.5 }
-  where
-    go : (ss passed found : List Statement) (v : Option Content) (more : List Statement) → Say lines ss → LineText l.text v → Say left more → found ≡ stated l.number v ++ more
-        → ss ≡ passed ++ found → find (is_repeat ss) passed ≡ None → ((q : Subject) → (MayBeMet old q → ⊥) → about q passed ≡ None)
-        → (gone : List Statement) × (rest : List Statement) × Say left rest × (ss ≡ gone ++ rest) × (find (is_repeat ss) gone ≡ None) × ((q : Subject) → (MayBeMet met q → ⊥) → about q gone ≡ None)
-    go ss passed found None more h text m e k none new = (passed, more, m, k ∙ ap (λ r. passed ++ r) e, none, λ q n. new q (λ y. n (u.stay q y)))
-    go ss passed found (Some c) more h text m e k none new =
-        let x : Statement = record { line = l.number; content = c } in
-        let whole : ss ≡ passed ++ x ∷ more = k ∙ ap (λ r. passed ++ r) e in
-        let unlike : is_repeat ss x ≡ false = sym (u.content ss c h text (λ n. first_repeats_none passed more ss x whole (new (subject c) n))) ∙ f in (
-          passed ++ x ∷ [],
-          more,
-          m,
-          whole ∙ sym (append_assoc passed (x ∷ []) more),
-          find_behind (is_repeat ss) passed (x ∷ []) none ∙ find_other (is_repeat ss) x unlike,
-          λ q n. find_behind (is_about q) passed (x ∷ []) (new q (λ y. n (u.stay q y))) ∙ find_other (is_about q) x (apart q c n text (is_same q (subject c)) refl),
-        )
-      where
-        apart : (q : Subject) (c : Content) → (MayBeMet met q → ⊥) → ContentText l.text c → (b : Bool) → is_same q (subject c) ≡ b → is_same q (subject c) ≡ false
-        apart q c n text false e = e
-        apart q c n text true e = absurd (n (subst (MayBeMet met) (sym (same_is q (subject c) e)) (u.kept c text)))
+-- a content line, of which a test says whether it repeats one
+module _ {lines before left : List TextLine} {l : TextLine} {t : Bool} {old : List ℕ} {read : Seen} (q : Subject) (s : Passing lines before old) (step : before ≡ l ∷ left) (there : Some read ≡ option_map seen (said l.text))
+    (own : q ≡ subject_of read) (tested : ((MayBeMet old q → ⊥) → is_other l.number (about q (statements lines)) ≡ false) → t ≡ is_other l.number (about q (statements lines))) where
+  abbrev said_content : (v : Option Content) → Some read ≡ option_map seen v → (c : Content) × (v ≡ Some c) × (read ≡ seen c)
+  said_content None e = (let z : ⊥ = cc in absurd z)
+  said_content (Some c) e = (c, refl, (let same : read ≡ seen c = cc in same))
 
--- a line that repeats one is the first
-pub repeat_stops : {lines before left : List TextLine} {l : TextLine} {t : Bool} {old met : List ℕ} → Passing lines before old → before ≡ l ∷ left
-    → t ≡ true → Tested lines l old met t → (ss : List Statement) → Say lines ss → Err (Repeated l.number) ≡ checked (repeated ss)
-repeat_stops {lines = lines} {left = left} {l = l} {t = t} {old = old} whole step f u ss h =
-    let s = subst (λ b. Passing lines b old) step whole in
-    let w = s.goes ss h in go w.0 w.1 w.2.0 w.2.1 w.2.2 w.2.4 w.3 w.4 w.5
-  where
-    go : (passed found : List Statement) (v : Option Content) (more : List Statement) → LineText l.text v → found ≡ stated l.number v ++ more
-        → ss ≡ passed ++ found → find (is_repeat ss) passed ≡ None → ((q : Subject) → (MayBeMet old q → ⊥) → about q passed ≡ None) → Err (Repeated l.number) ≡ checked (repeated ss)
-    go passed found None more text e k none new = let n = u.none text in absurd (let z : true ≡ false = sym f ∙ n in cc)
-    go passed found (Some c) more text e k none new =
-        let x : Statement = record { line = l.number; content = c } in
-        let whole : ss ≡ passed ++ x ∷ more = k ∙ ap (λ r. passed ++ r) e in
-        let alike : is_repeat ss x ≡ true = sym (u.content ss c h text (λ n. first_repeats_none passed more ss x whole (new (subject c) n))) ∙ f in
-        let here : find (is_repeat ss) ss ≡ Some x = ap (find (is_repeat ss)) whole ∙ find_behind (is_repeat ss) passed (x ∷ more) none ∙ find_one (is_repeat ss) x more alike in
-        ap (λ o. checked (at_line (λ n. Repeated n) o)) (sym here)
+  abbrev content : Content
+  content = (said_content (said l.text) there).0
+
+  own_is : q ≡ subject content
+  own_is = own ∙ ap subject_of (said_content (said l.text) there).2 ∙ subject_seen content
+
+  abbrev here : Statement
+  here = record { line = l.number; content = content }
+
+  whole : statements lines ≡ s.passed ++ here ∷ statements left
+  whole = s.parts ∙ ap (λ ls. s.passed ++ statements ls) step ∙ ap (λ (v : Option Content). s.passed ++ (stated l.number v ++ statements left)) (said_content (said l.text) there).1
+
+  repeats : t ≡ is_repeat (statements lines) here
+  repeats =
+      tested (λ n. ap (λ r. is_other l.number (about r (statements lines))) own_is
+      ∙ first_repeats_none s.passed (statements left) (statements lines) here whole (s.new (subject content) (subst (λ r. MayBeMet old r → ⊥) own_is n)))
+      ∙ ap (λ r. is_other l.number (about r (statements lines))) own_is
+
+  pub passing_on : {met : List ℕ} → t ≡ false → MayBeMet met q → ((r : Subject) → MayBeMet old r → MayBeMet met r) → Passing lines left met
+  passing_on {met} f kept stay = record {
+    passed = s.passed ++ here ∷ [];
+    parts = whole ∙ sym (append_assoc s.passed (here ∷ []) (statements left));
+    none = find_behind (is_repeat (statements lines)) s.passed (here ∷ []) s.none ∙ find_other (is_repeat (statements lines)) here (sym repeats ∙ f);
+    new = λ r n. find_behind (is_about r) s.passed (here ∷ []) (s.new r (λ y. n (stay r y))) ∙ find_other (is_about r) here (apart r n (is_same r (subject content)) refl);
+  }
+    where
+      apart : (r : Subject) → (MayBeMet met r → ⊥) → (b : Bool) → is_same r (subject content) ≡ b → is_same r (subject content) ≡ false
+      apart r n false e = e
+      apart r n true e = absurd (n (subst (MayBeMet met) (own_is ∙ sym (same_is r (subject content) e)) kept))
+
+  -- a line that repeats one is the first
+  pub repeat_stops : t ≡ true → Err (Repeated l.number) ≡ checked (repeated (statements lines))
+  repeat_stops f =
+      let first : find (is_repeat (statements lines)) (statements lines) ≡ Some here =
+      ap (find (is_repeat (statements lines))) whole ∙ find_behind (is_repeat (statements lines)) s.passed (here ∷ statements left) s.none
+      ∙ find_one (is_repeat (statements lines)) here (statements left) (sym repeats ∙ f) in
+      ap (λ o. checked (at_line (λ n. Repeated n) o)) (sym first)
 
 -- no line repeats one
-pub repeat_ends : {lines before : List TextLine} {met : List ℕ} → Passing lines before met → before ≡ [] → (ss : List Statement) → Say lines ss → Ok tt ≡ checked (repeated ss)
-repeat_ends {lines = lines} {met = met} whole step ss h =
-    let s = subst (λ b. Passing lines b met) step whole in
-    let w = s.goes ss h in
-    let here : find (is_repeat ss) ss ≡ None = ap (find (is_repeat ss)) w.3 ∙ find_behind (is_repeat ss) w.0 w.1 w.4 ∙ ap (find (is_repeat ss)) w.2 in
-    ap (λ o. checked (at_line (λ n. Repeated n) o)) (sym here)
+pub repeat_ends : {lines before : List TextLine} {met : List ℕ} → Passing lines before met → before ≡ [] → Ok tt ≡ checked (repeated (statements lines))
+repeat_ends {lines = lines} s step =
+    let all : find (is_repeat (statements lines)) (statements lines) ≡ None =
+    ap (find (is_repeat (statements lines))) (s.parts ∙ ap (λ ls. s.passed ++ statements ls) step) ∙ find_behind (is_repeat (statements lines)) s.passed [] s.none in
+    ap (λ o. checked (at_line (λ n. Repeated n) o)) (sym all)
 
 -- ---- what the lines before have met
 
 pub stays_met : (old met : List ℕ) → ((n : ℕ) → MayHave old n → MayHave met n) → (q : Subject) → MayBeMet old q → MayBeMet met q
 stays_met old met f (Row i) m = f i m
 stays_met old met f q m = tt
-
-pub met_again : (met : List ℕ) {q : Subject} (c : Content) → Some q ≡ Some (subject c) → MayBeMet met q → MayBeMet met (subject c)
-met_again met {q = q} c e m = let same : q ≡ subject c = cc in subst (MayBeMet met) same m
-
-pub unmet_again : (met : List ℕ) {q : Subject} (c : Content) → Some q ≡ Some (subject c) → MayBeMet met (subject c) → MayBeMet met q
-unmet_again met {q = q} c e m = let same : subject c ≡ q = cc in subst (MayBeMet met) same m
-
--- a line without a subject has no content
-pub no_content : {r : Option Subject} {P : Type 0} (c : Content) → r ≡ None → r ≡ Some (subject c) → P
-no_content c e f = (let z : ⊥ = cc in absurd z)

@@ -12,20 +12,21 @@ use Rattle.std.specs.Prelude.{nat_le}
 use Rattle.std.specs.Str.Parse.{digits_value}
 use Rattle.scrambler.specs.Linear.{number}
 use Rattle.scrambler.proofs.Steps.{product_begun, product_more}
-use Rattle.bist_text.specs.Lines.{TextLine}
-use Rattle.bist_text.specs.declared.text_lines.Line.{Line}
-use Rattle.memory_desc.specs.LineText.{Content, Term, index_bit, constant, scramble, ContentText}
-use Rattle.memory_desc.specs.Statements.{Statement, Say}
+use Rattle.memory_desc.specs.LineText.{Content, Term, index_bit, constant, scramble}
+use Rattle.memory_desc.specs.Statements.{Statement}
 use Rattle.memory_desc.specs.Subjects.{about, said, content_of}
-use Rattle.memory_desc.specs.inner.Standing.{IsRow, StandsAt, highest_of}
+use Rattle.memory_desc.specs.inner.Standing.{row_in_seen, IsRow, StandsAt, highest_of}
 use Rattle.memory_desc.specs.Table.{is_term_too_wide, too_wide, missing, missing_row, first_refusal, unless_there}
 use Rattle.memory_desc.specs.Values.{index_bits, constant_of, terms_said, terms_in, rows_said}
+use Rattle.memory_desc.specs.inner.Seen.{plain_content}
 use Rattle.memory_desc.specs.declared.content.Row.{Row}
+use Rattle.memory_desc.specs.declared.content.Statement.{Statement as ReadStatement}
 use Rattle.memory_desc.specs.declared.content.Subject.TheVariants.{Row as BitRow}
 use Rattle.memory_desc.specs.declared.fault.Field.TheVariants.{Row as RowField}
 use Rattle.memory_desc.specs.declared.fault.MemoryFault.{MemoryFault}
 use Rattle.memory_desc.specs.declared.fault.MemoryFault.TheVariants.{Missing}
 use Rattle.memory_desc.proofs.Parts.{RowsFit, rows_begun, rows_more}
+use Rattle.memory_desc.proofs.SeenLaws.{row_is}
 use Rattle.memory_desc.proofs.Stated.{within, stated, row_stated}
 
 -- ---- terms within the width
@@ -54,11 +55,10 @@ masked names width ts e h = ap (λ (n : ℕ). bit_and n (2 ^ width - 1)) e ∙ a
 abbrev pub RowIs : List Statement → ℕ → Row → Type 0
 RowIs ss bit row = (i : List ℕ) × (ts : List Term) × (said (BitRow bit) ss ≡ Some (scramble i ts)) × IsRow i ts row
 
-pub row_given : (ss : List Statement) (bit number : ℕ) (l : Line) (row : Row) → number ≡ bit → StandsAt (Some l) (about (BitRow number) ss)
-    → ((i : List ℕ) (ts : List Term) → ContentText l.text.now (scramble i ts) → IsRow i ts row) → RowIs ss bit row
+pub row_given : (ss : List Statement) (bit number : ℕ) (l : ReadStatement) (row : Row) → number ≡ bit → StandsAt (Some l) (about (BitRow number) ss) → row ≡ row_in_seen (plain_content l.content) → RowIs ss bit row
 row_given ss bit number l row e h f =
-    let r = row_stated bit ss l.text.now (stated (BitRow bit) ss l (subst (λ (b : ℕ). StandsAt (Some l) (about (BitRow b) ss)) e h)) in
-    (r.0, r.1, r.2.said_is, f r.0 r.1 r.2.written)
+    let r = row_stated bit ss (plain_content l.content) (stated (BitRow bit) ss l (subst (λ (b : ℕ). StandsAt (Some l) (about (BitRow b) ss)) e h)) in
+    (r.0, r.1, r.2.said_is, subst (IsRow r.0 r.1) (sym (f ∙ ap row_in_seen r.2.written)) (row_is r.0 r.1))
 
 -- ---- the rows so far
 
@@ -128,17 +128,16 @@ module _ (ss : List Statement) (width size bit : ℕ) (rows : List ℕ) (constan
 -- ---- the whole matrix
 
 -- what the loop over the rows keeps
-pub record Gathered (lines : List TextLine) (width bit : ℕ) (rows : List ℕ) (constants : ℕ) : Type 0 where
+pub record Gathered (ss : List Statement) (width bit : ℕ) (rows : List ℕ) (constants : ℕ) : Type 0 where
   pub fits : RowsFit width rows constants
-  pub so_far : (ss : List Statement) (size : ℕ) → Say lines ss → too_wide ss width size ≡ None → RowsAre ss bit rows constants
+  pub so_far : (size : ℕ) → too_wide ss width size ≡ None → RowsAre ss bit rows constants
 
-pub gathered_begun : (lines : List TextLine) (width : ℕ) → Gathered lines width 0 (replicate 16 0) 0
-gathered_begun lines width = record { fits = rows_begun width; so_far = λ ss size say passed. rows_are_begun ss (replicate 16 0) }
+pub gathered_begun : (ss : List Statement) (width : ℕ) → Gathered ss width 0 (replicate 16 0) 0
+gathered_begun ss width = record { fits = rows_begun width; so_far = λ size passed. rows_are_begun ss (replicate 16 0) }
 
-pub gathered_more : (lines : List TextLine) (width bit : ℕ) (rows : List ℕ) (constants : ℕ) (row : Row) → bit < width → width ≤ 16
-    → ((ss : List Statement) → Say lines ss → RowIs ss bit row) → Gathered lines width bit rows constants
-    → Gathered lines width (bit + 1) (slice_set rows bit (bit_and row.names (2 ^ width - 1))) (bit_or constants (from_bool row.constant * 2 ^ bit % 65536))
-gathered_more lines width bit rows constants row below narrow given g = record {
+pub gathered_more : (ss : List Statement) (width bit : ℕ) (rows : List ℕ) (constants : ℕ) (row : Row) → bit < width → width ≤ 16 → RowIs ss bit row → Gathered ss width bit rows constants
+    → Gathered ss width (bit + 1) (slice_set rows bit (bit_and row.names (2 ^ width - 1))) (bit_or constants (from_bool row.constant * 2 ^ bit % 65536))
+gathered_more ss width bit rows constants row below narrow given g = record {
   fits = rows_more width rows constants bit row.names row.constant g.fits below narrow;
-  so_far = λ ss size say passed. rows_are_more ss width size bit rows constants row g.fits.count below narrow passed (given ss say) (g.so_far ss size say passed);
+  so_far = λ size passed. rows_are_more ss width size bit rows constants row g.fits.count below narrow passed given (g.so_far size passed);
 }

@@ -1,72 +1,138 @@
--- A search goes over the lines of a text, and finds a statement as a search in the list of the statements would.
-use Rattle.std.proofs.Common.{◌≡◌, ℕ, Bool, true, false, cond, is_some, ◌||◌, List, [], ◌∷◌, ◌++◌, ◌∙◌, Option, Some, None, refl, sym, ap, subst}
+-- A search in what the code has of the lines finds what one in the statements finds.
+use Rattle.std.proofs.Common.{◌≡◌, ℕ, Bool, true, false, cond, is_some, ◌||◌, List, [], ◌∷◌, ◌++◌, ◌∙◌, map, Option, Some, None, Err, Ok, refl, ap}
 use Rattle.std.specs.List.{find, list_any}
-use Rattle.bist_text.specs.Lines.{TextLine, plain_line}
-use Rattle.bist_text.specs.declared.text_lines.Line.{Line}
-use Rattle.memory_desc.specs.LineText.{Content, ContentText, LineText}
-use Rattle.memory_desc.specs.Statements.{Statement, stated, Say}
-use Rattle.memory_desc.specs.inner.Standing.{StandsAt}
+use Rattle.std.specs.Prelude.{option_map}
+use Rattle.bist_text.specs.Lines.{TextLine}
+use Rattle.memory_desc.specs.LineText.{Content, version, name, words, bits, latency, polarity, pause, scramble, log, backgrounds}
+use Rattle.memory_desc.specs.Statements.{Statement, stated}
+use Rattle.memory_desc.specs.Subjects.{subject, is_same}
+use Rattle.memory_desc.specs.Table.{at_line, is_row, is_out_of_range, is_too_wide}
+use Rattle.memory_desc.specs.inner.Heard.{said, statements}
+use Rattle.memory_desc.specs.inner.Seeking.{is_sought, first_sought, IsPosed}
+use Rattle.memory_desc.specs.inner.Seen.{SeenStatement, seen, subject_of, plain_statement, seen_stated, seen_statements}
+use Rattle.memory_desc.specs.inner.Standing.{StandsAt, checked}
+use Rattle.memory_desc.specs.declared.content.Statement.{Statement as ReadStatement}
+use Rattle.memory_desc.specs.declared.content.Subject.TheVariants as S
+use Rattle.memory_desc.specs.declared.fault.MemoryFault.TheVariants.{OutOfRange as OutOfRangeAt}
+use Rattle.memory_desc.specs.declared.search.Sought.{Sought}
+use Rattle.memory_desc.specs.declared.search.Sought.TheVariants.{About, OutOfRange, Row, TooWide}
+use Rattle.memory_desc.proofs.LineTests.{row_too_wide, words_too_wide}
+use Rattle.memory_desc.proofs.SeenLaws.{row_is}
 
--- the first statement whose content is of a kind
-abbrev pub first_of : (Content → Bool) → List Statement → Option Statement
-first_of p ss = find (λ s. p s.content) ss
+-- ---- what is sought, said of contents
 
--- the search has come to the lines that are left
-pub record Searching (p : Content → Bool) (lines left : List TextLine) : Type 0 where
-  pub goes : (ss : List Statement) → Say lines ss → (more : List Statement) × Say left more × (first_of p ss ≡ first_of p more)
+abbrev pub tests : Sought → Content → Bool
+tests (About q) c = is_same q (subject c)
+tests OutOfRange c = is_out_of_range c
+tests Row c = is_row c
+tests (TooWide width size) c = is_too_wide width size c
 
--- a test of a line answers for the line's content, and not at a line without content
-pub record IsTestOf (p : Content → Bool) (b : List ℕ) (t : Bool) : Type 0 where
-  pub content : (c : Content) → ContentText b c → t ≡ p c
-  pub none : LineText b None → t ≡ false
+pub subject_seen : (c : Content) → subject_of (seen c) ≡ subject c
+subject_seen (version ds) = refl
+subject_seen (name b) = refl
+subject_seen (words ds) = refl
+subject_seen (bits ds) = refl
+subject_seen (latency ds) = refl
+subject_seen (polarity w) = refl
+subject_seen (pause ds) = refl
+subject_seen (scramble i ts) = ap S.Row (row_is i ts).bit
+subject_seen log = refl
+subject_seen (backgrounds ws) = refl
 
-first_chosen : (p : Content → Bool) (x : Statement) (xs : List Statement) (t : Bool) → p x.content ≡ t → first_of p (x ∷ xs) ≡ cond t (Some x) (first_of p xs)
-first_chosen p x xs t e = ap (λ b. cond b (Some x) (first_of p xs)) e
+ranged : (c : Content) → is_sought OutOfRange (seen c) ≡ is_out_of_range c
+ranged (version ds) = refl
+ranged (name b) = refl
+ranged (words ds) = refl
+ranged (bits ds) = refl
+ranged (latency ds) = refl
+ranged (polarity w) = refl
+ranged (pause ds) = refl
+ranged (scramble i ts) = refl
+ranged log = refl
+ranged (backgrounds ws) = refl
 
--- one line further, which is none
-pub searching_on : {p : Content → Bool} {lines before left : List TextLine} {l : TextLine} {t : Bool} → Searching p lines before → before ≡ l ∷ left
-    → t ≡ false → IsTestOf p l.text t → Searching p lines left
-searching_on {p = p} {lines = lines} {left = left} {l = l} {t = t} whole step f u = let s = subst (Searching p lines) step whole in record { goes = λ ss h. let w = s.goes ss h in go ss w.0 w.1.0 w.1.1 w.1.2 w.1.3 w.1.4 w.2 }
+rowed : (c : Content) → is_sought Row (seen c) ≡ is_row c
+rowed (version ds) = refl
+rowed (name b) = refl
+rowed (words ds) = refl
+rowed (bits ds) = refl
+rowed (latency ds) = refl
+rowed (polarity w) = refl
+rowed (pause ds) = refl
+rowed (scramble i ts) = refl
+rowed log = refl
+rowed (backgrounds ws) = refl
+
+widened : (width size : ℕ) → IsPosed (TooWide width size) → (c : Content) → is_sought (TooWide width size) (seen c) ≡ is_too_wide width size c
+widened width size p (version ds) = refl
+widened width size p (name b) = refl
+widened width size p (words ds) = refl
+widened width size p (bits ds) = refl
+widened width size p (latency ds) = refl
+widened width size p (polarity w) = refl
+widened width size p (pause ds) = refl
+widened width size p (scramble i ts) = row_too_wide width i ts p.0
+widened width size p log = refl
+widened width size p (backgrounds ws) = words_too_wide size ws
+
+sought_seen : (q : Sought) → IsPosed q → (c : Content) → is_sought q (seen c) ≡ tests q c
+sought_seen (About q) p c = ap (is_same q) (subject_seen c)
+sought_seen OutOfRange p c = ranged c
+sought_seen Row p c = rowed c
+sought_seen (TooWide width size) p c = widened width size p c
+
+-- ---- the statements, and what the code has of them
+
+abbrev pub seen_statement : Statement → SeenStatement
+seen_statement s = record { line = s.line; content = seen s.content }
+
+seen_is : (ls : List TextLine) → seen_statements ls ≡ map seen_statement (statements ls)
+seen_is [] = refl
+seen_is (l ∷ ls) = go (said l.text) (seen_is ls)
   where
-    go : (ss found : List Statement) (v : Option Content) (more : List Statement) → LineText l.text v → Say left more → found ≡ stated l.number v ++ more
-        → first_of p ss ≡ first_of p found → (rest : List Statement) × Say left rest × (first_of p ss ≡ first_of p rest)
-    go ss found None more text m e k = (more, m, k ∙ ap (first_of p) e)
-    go ss found (Some c) more text m e k =
-        (more, m, k ∙ ap (first_of p) e ∙ first_chosen p (record { line = l.number; content = c }) more false (sym (u.content c text) ∙ f))
+    go : (v : Option Content) → seen_statements ls ≡ map seen_statement (statements ls) → seen_stated l.number (option_map seen v) ++ seen_statements ls ≡ map seen_statement (stated l.number v ++ statements ls)
+    go None e = e
+    go (Some c) e = ap (λ (ss : List SeenStatement). seen_statement (record { line = l.number; content = c }) ∷ ss) e
 
--- the line that is sought
-pub stands_found : {p : Content → Bool} {lines before left : List TextLine} {t : Bool} (line : Line) → Searching p lines before
-    → before ≡ plain_line line ∷ left → t ≡ true → IsTestOf p line.text.now t → (ss : List Statement) → Say lines ss → StandsAt (Some line) (first_of p ss)
-stands_found {p = p} {lines = lines} {left = left} {t = t} line whole step f u ss h = let s = subst (Searching p lines) step whole in let w = s.goes ss h in go w.0 w.1.0 w.1.1 w.1.2 w.1.4 w.2
+found_seen : (q : Sought) → IsPosed q → (ss : List Statement) → first_sought q (map seen_statement ss) ≡ option_map seen_statement (find (λ s. tests q s.content) ss)
+found_seen q p [] = refl
+found_seen q p (s ∷ ss) = ap (λ t. cond t (Some (seen_statement s)) (first_sought q (map seen_statement ss))) (sought_seen q p s.content) ∙ go (tests q s.content) (found_seen q p ss)
   where
-    go : (found : List Statement) (v : Option Content) (more : List Statement) → LineText line.text.now v → found ≡ stated line.number v ++ more
-        → first_of p ss ≡ first_of p found → StandsAt (Some line) (first_of p ss)
-    go found None more text e k = let no = u.none text in absurd (let z : true ≡ false = sym f ∙ no in cc)
-    go found (Some c) more text e k =
-        let x : Statement = record { line = line.number; content = c } in
-        let here : first_of p ss ≡ Some x = k ∙ ap (first_of p) e ∙ first_chosen p x more true (sym (u.content c text) ∙ f) in
-        subst (StandsAt (Some line)) (sym here) (refl, text)
+    go : (t : Bool) → first_sought q (map seen_statement ss) ≡ option_map seen_statement (find (λ s. tests q s.content) ss)
+        → cond t (Some (seen_statement s)) (first_sought q (map seen_statement ss)) ≡ option_map seen_statement (cond t (Some s) (find (λ s. tests q s.content) ss))
+    go true e = refl
+    go false e = e
 
--- there is none
-pub stands_nowhere : {p : Content → Bool} {lines before : List TextLine} → Searching p lines before → before ≡ [] → (ss : List Statement) → Say lines ss
-    → StandsAt None (first_of p ss)
-stands_nowhere {p = p} {lines = lines} whole step ss h =
-    let s = subst (Searching p lines) step whole in
-    let w = s.goes ss h in
-    subst (StandsAt None) (sym (w.2 ∙ ap (first_of p) w.1)) tt
+stands : (o : Option ReadStatement) (r : Option Statement) → option_map plain_statement o ≡ option_map seen_statement r → StandsAt o r
+stands None None e = tt
+stands None (Some s) e = (let z : ⊥ = cc in absurd z)
+stands (Some l) None e = (let z : ⊥ = cc in absurd z)
+stands (Some l) (Some s) e = (let same : plain_statement l ≡ seen_statement s = cc in (ap (λ s. s.line) same, ap (λ s. s.content) same))
 
--- ---- whether some statement is of a kind
+-- The statement that a search finds.
+pub found : (q : Sought) → IsPosed q → (ls : List TextLine) (o : Option ReadStatement) → option_map plain_statement o ≡ first_sought q (seen_statements ls) → StandsAt o (find (λ s. tests q s.content) (statements ls))
+found q p ls o e = stands o (find (λ s. tests q s.content) (statements ls)) (e ∙ ap (first_sought q) (seen_is ls) ∙ found_seen q p (statements ls))
 
-pub any_found : (q : Statement → Bool) (ss : List Statement) (r : Option Line) (b : Bool) → StandsAt r (find q ss) → b ≡ is_some r → b ≡ list_any q ss
+-- ---- what is made of it
+
+pub line_refused : (o : Option Statement) (l : ReadStatement) → StandsAt (Some l) o → Err (OutOfRangeAt l.line) ≡ checked (at_line (λ n. OutOfRangeAt n) o)
+line_refused None l h = absurd h
+line_refused (Some s) l h = ap (λ n. Err (OutOfRangeAt n)) h.0
+
+pub none_refused : (o : Option Statement) → StandsAt None o → Ok tt ≡ checked (at_line (λ n. OutOfRangeAt n) o)
+none_refused None h = refl
+none_refused (Some s) h = absurd h
+
+pub any_found : (q : Statement → Bool) (ss : List Statement) (r : Option ReadStatement) (b : Bool) → StandsAt r (find q ss) → b ≡ is_some r → b ≡ list_any q ss
 any_found q ss r b h e = e ∙ go ss r h
   where
-    first : (t : Bool) (s : Statement) (ss : List Statement) (r : Option Line) → StandsAt r (cond t (Some s) (find q ss)) → (StandsAt r (find q ss) → is_some r ≡ list_any q ss)
+    first : (t : Bool) (s : Statement) (ss : List Statement) (r : Option ReadStatement) → StandsAt r (cond t (Some s) (find q ss)) → (StandsAt r (find q ss) → is_some r ≡ list_any q ss)
         → is_some r ≡ (t || list_any q ss)
     first true s ss None h f = absurd h
     first true s ss (Some l) h f = refl
     first false s ss r h f = f h
 
-    go : (ss : List Statement) (r : Option Line) → StandsAt r (find q ss) → is_some r ≡ list_any q ss
+    go : (ss : List Statement) (r : Option ReadStatement) → StandsAt r (find q ss) → is_some r ≡ list_any q ss
     go [] None h = refl
     go [] (Some l) h = absurd h
     go (s ∷ ss) r h = first (q s) s ss r h (go ss r)

@@ -2,14 +2,15 @@
 use Rattle.std.specs.Str.Parse.{digits_value}
 use Rattle.std.proofs.Common.{◌≡◌, ℕ, ◌||◌, Bool, true, false, List, [], ◌∷◌, Option, Some, None, refl, sym, ◌∙◌, ap, subst, cond}
 use Rattle.std.specs.Prelude.{find, nat_lt}
-use Rattle.bist_text.specs.declared.text_lines.Line.{Line}
-use Rattle.memory_desc.specs.LineText.{Content, Term, name, words, bits, latency, polarity, pause, scramble, log, backgrounds, kind_of, ContentText}
+use Rattle.memory_desc.specs.LineText.{Content, Term, name, words, bits, latency, polarity, pause, scramble, log, backgrounds, kind_of}
 use Rattle.memory_desc.specs.Statements.{Statement}
 use Rattle.memory_desc.specs.Subjects.{subject, is_same, is_about, about, said, content_of}
-use Rattle.memory_desc.specs.inner.Standing.{StandsAt, digits_in, is_ranged, least, most, value_in}
+use Rattle.memory_desc.specs.inner.Standing.{StandsAt, number_in_seen, is_ranged, least, most, value_in}
 use Rattle.memory_desc.specs.Table.{at_line, is_too_wide, too_wide, is_out_of_range, out_of_range}
-use Rattle.memory_desc.specs.declared.line_place.Key.TheVariants.{Backgrounds as BackgroundsKey}
+use Rattle.memory_desc.specs.declared.content.Key.TheVariants.{Backgrounds as BackgroundsKey}
+use Rattle.memory_desc.specs.declared.content.Statement.{Statement as ReadStatement}
 use Rattle.memory_desc.specs.declared.content.Subject.{Subject}
+use Rattle.memory_desc.specs.inner.Seen.{Seen, plain_content, seen}
 use Rattle.memory_desc.specs.declared.content.Subject.TheVariants.{Name, Words, Bits, Latency, Polarity, Pause, Row, Backgrounds}
 use Rattle.memory_desc.specs.declared.fault.MemoryFault.{MemoryFault}
 use Rattle.memory_desc.specs.declared.fault.MemoryFault.TheVariants.{OutOfRange}
@@ -39,65 +40,65 @@ at_line_none : (f : ℕ → MemoryFault) (o : Option Statement) → at_line f o 
 at_line_none f None e = refl
 at_line_none f (Some s) e = (let z : ⊥ = cc in absurd z)
 
--- ---- the statement of a line
+-- ---- the statement that is read
 
--- a line stands at a statement about q
-pub record Stated (q : Subject) (ss : List Statement) (text : List ℕ) : Type 0 where
+-- a content that is read is that of the statement about q
+pub record Stated (q : Subject) (ss : List Statement) (read : Seen) : Type 0 where
   pub statement : Statement
   pub found : about q ss ≡ Some statement
   pub same : is_same q (subject statement.content) ≡ true
-  pub written : ContentText text statement.content
+  pub written : read ≡ seen statement.content
 
-stated_by : (q : Subject) (ss : List Statement) (l : Line) (o : Option Statement) → about q ss ≡ o → StandsAt (Some l) o → Stated q ss l.text.now
+stated_by : (q : Subject) (ss : List Statement) (l : ReadStatement) (o : Option Statement) → about q ss ≡ o → StandsAt (Some l) o → Stated q ss (plain_content l.content)
 stated_by q ss l None e h = absurd h
 stated_by q ss l (Some s) e h = record { statement = s; found = e; same = found_passes (is_about q) ss s e; written = h.1 }
 
-pub stated : (q : Subject) (ss : List Statement) (l : Line) → StandsAt (Some l) (about q ss) → Stated q ss l.text.now
+pub stated : (q : Subject) (ss : List Statement) (l : ReadStatement) → StandsAt (Some l) (about q ss) → Stated q ss (plain_content l.content)
 stated q ss l h = stated_by q ss l (about q ss) refl h
 
--- what is written on the line, and what the statements say of q
-pub record Says (q : Subject) (ss : List Statement) (text : List ℕ) (c : Content) : Type 0 where
+-- what is read, and what the statements say of q
+pub record Says (q : Subject) (ss : List Statement) (read : Seen) (c : Content) : Type 0 where
   pub said_is : said q ss ≡ Some c
-  pub written : ContentText text c
+  pub written : read ≡ seen c
 
-pub says : (q : Subject) (ss : List Statement) (text : List ℕ) (r : Stated q ss text) → Says q ss text r.statement.content
-says q ss text r = record { said_is = ap content_of r.found; written = r.written }
+pub says : (q : Subject) (ss : List Statement) (read : Seen) (r : Stated q ss read) → Says q ss read r.statement.content
+says q ss read r = record { said_is = ap content_of r.found; written = r.written }
 
 of_row : (bit : ℕ) (c : Content) → is_same (Row bit) (subject c) ≡ true → (i : List ℕ) × (ts : List Term) × (c ≡ scramble i ts)
 of_row bit (scramble i ts) e = (i, ts, refl)
 of_row bit c e = (let z : ⊥ = cc in absurd z)
 
-pub row_stated : (bit : ℕ) (ss : List Statement) (text : List ℕ) → Stated (Row bit) ss text → (i : List ℕ) × (ts : List Term) × Says (Row bit) ss text (scramble i ts)
-row_stated bit ss text r = let c = of_row bit r.statement.content r.same in (c.0, c.1, subst (Says (Row bit) ss text) c.2 (says (Row bit) ss text r))
+pub row_stated : (bit : ℕ) (ss : List Statement) (read : Seen) → Stated (Row bit) ss read → (i : List ℕ) × (ts : List Term) × Says (Row bit) ss read (scramble i ts)
+row_stated bit ss read r = let c = of_row bit r.statement.content r.same in (c.0, c.1, subst (Says (Row bit) ss read) c.2 (says (Row bit) ss read r))
 
 of_name : (c : Content) → is_same Name (subject c) ≡ true → (b : List ℕ) × (c ≡ name b)
 of_name (name b) e = (b, refl)
 of_name c e = (let z : ⊥ = cc in absurd z)
 
-pub name_stated : (ss : List Statement) (text : List ℕ) → Stated Name ss text → (b : List ℕ) × Says Name ss text (name b)
-name_stated ss text r = let c = of_name r.statement.content r.same in (c.0, subst (Says Name ss text) c.1 (says Name ss text r))
+pub name_stated : (ss : List Statement) (read : Seen) → Stated Name ss read → (b : List ℕ) × Says Name ss read (name b)
+name_stated ss read r = let c = of_name r.statement.content r.same in (c.0, subst (Says Name ss read) c.1 (says Name ss read r))
 
 of_polarity : (c : Content) → is_same Polarity (subject c) ≡ true → (ds : List ℕ) × (c ≡ polarity ds)
 of_polarity (polarity ds) e = (ds, refl)
 of_polarity c e = (let z : ⊥ = cc in absurd z)
 
-pub polarity_stated : (ss : List Statement) (text : List ℕ) → Stated Polarity ss text → (ds : List ℕ) × Says Polarity ss text (polarity ds)
-polarity_stated ss text r = let c = of_polarity r.statement.content r.same in (c.0, subst (Says Polarity ss text) c.1 (says Polarity ss text r))
+pub polarity_stated : (ss : List Statement) (read : Seen) → Stated Polarity ss read → (ds : List ℕ) × Says Polarity ss read (polarity ds)
+polarity_stated ss read r = let c = of_polarity r.statement.content r.same in (c.0, subst (Says Polarity ss read) c.1 (says Polarity ss read r))
 
 -- ---- numbers
 
--- the digits of a line about such a subject
+-- the digits of a content about such a subject
 pub record HasDigits (q : Subject) (c : Content) : Type 0 where
   pub digits : List ℕ
-  pub written : digits_in c ≡ Some digits
+  pub read : number_in_seen (seen c) ≡ digits_value 10 digits
   pub value : value_in q (Some c) ≡ digits_value 10 digits
   pub tested : is_out_of_range c ≡ (nat_lt (digits_value 10 digits) (least q) || nat_lt (most q) (digits_value 10 digits))
 
 pub has_digits : (q : Subject) (c : Content) → is_ranged q ≡ true → is_same q (subject c) ≡ true → HasDigits q c
-has_digits Words (words ds) h e = record { digits = ds; written = refl; value = refl; tested = refl }
-has_digits Bits (bits ds) h e = record { digits = ds; written = refl; value = refl; tested = refl }
-has_digits Latency (latency ds) h e = record { digits = ds; written = refl; value = refl; tested = refl }
-has_digits Pause (pause ds) h e = record { digits = ds; written = refl; value = refl; tested = refl }
+has_digits Words (words ds) h e = record { digits = ds; read = refl; value = refl; tested = refl }
+has_digits Bits (bits ds) h e = record { digits = ds; read = refl; value = refl; tested = refl }
+has_digits Latency (latency ds) h e = record { digits = ds; read = refl; value = refl; tested = refl }
+has_digits Pause (pause ds) h e = record { digits = ds; read = refl; value = refl; tested = refl }
 has_digits q c h e = (let z : ⊥ = cc in absurd z)
 
 -- ---- backgrounds

@@ -14,7 +14,7 @@ use Rattle.memory_desc.specs.Statements.{Statement, Say, IsOfVersion}
 use Rattle.memory_desc.specs.Subjects.{subject, about, said}
 use Rattle.memory_desc.specs.Values.{name_said, words_said, bits_said, latency_said, polarity_said, pause_said, matrix_said, AreBackgrounds}
 use Rattle.memory_desc.specs.declared.content.Subject.TheVariants.{Name, Words, Bits, Row, Backgrounds}
-use Rattle.memory_desc.specs.declared.line_place.Version.{Version}
+use Rattle.memory_desc.specs.declared.content.Version.{Version}
 
 -- the statements of a text's lines, of which the first is version 1 or 2, and each is of its version's table
 abbrev pub AreStatements : List ℕ → List Statement → Type 0

@@ -1,7 +1,6 @@
 pub mod Names
 pub mod Descriptions
 pub mod LineText
-pub mod LineRest
 pub mod Printed
 pub mod Statements
 pub mod LineFaults

@@ -3,11 +3,12 @@ use Rattle.std.specs.Prelude.{◌≡◌, ℕ, ◌||◌, ◌&&◌, nat_le, Bool, 
 use Rattle.std.specs.List.{list_all}
 use Rattle.bist_text.specs.Grammar.{byte, word}
 use Rattle.memory_desc.specs.Names.{is_digit, is_identifier}
-use Rattle.memory_desc.specs.declared.line_place.Key.{Key}
-use Rattle.memory_desc.specs.declared.line_place.Key.TheVariants.{Memory, Name, Words, Bits, Latency, Polarity, Pause, Scramble, Backgrounds}
-use Rattle.memory_desc.specs.declared.line_place.Version.{Version}
-use Rattle.memory_desc.specs.declared.line_place.Version.TheVariants.{One, Two}
+use Rattle.memory_desc.specs.declared.content.Key.{Key}
+use Rattle.memory_desc.specs.declared.content.Key.TheVariants.{Memory, Name, Words, Bits, Latency, Polarity, Pause, Scramble, Backgrounds}
+use Rattle.memory_desc.specs.declared.content.Version.{Version}
+use Rattle.memory_desc.specs.declared.content.Version.TheVariants.{One, Two}
 use Rattle.bist_text.specs.LineGrammar.{space, gap, tail}
+pub use Rattle.bist_text.specs.keyed.Numbers.{is_number}
 
 -- a term of a scrambling row: an index bit, by its digits, or a constant
 pub data Term : Type 0 where
@@ -49,10 +50,6 @@ in_table One key = true
 
 abbrev pub is_hex : ℕ → Bool
 is_hex c = is_digit c || (nat_le 65 c && nat_le c 70) || (nat_le 97 c && nat_le c 102)
-
--- one to nine decimal digits
-abbrev pub is_number : List ℕ → Bool
-is_number ds = list_all is_digit ds && nat_le 1 (length ds) && nat_le (length ds) 9
 
 -- one to sixteen hexadecimal digits
 abbrev pub is_word : List ℕ → Bool

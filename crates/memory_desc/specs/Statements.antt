@@ -3,8 +3,8 @@ use Rattle.std.specs.Prelude.{◌≡◌, ◌==◌, ℕ, Bool, true, if◌then◌
 use Rattle.std.specs.List.{list_all}
 use Rattle.std.specs.Str.Parse.{digits_value}
 use Rattle.bist_text.specs.Lines.{TextLine}
-use Rattle.memory_desc.specs.declared.line_place.Version.{Version}
-use Rattle.memory_desc.specs.declared.line_place.Version.TheVariants.{One, Two}
+use Rattle.memory_desc.specs.declared.content.Version.{Version}
+use Rattle.memory_desc.specs.declared.content.Version.TheVariants.{One, Two}
 use Rattle.memory_desc.specs.LineText.{Content, version, kind_of, in_table, ContentText, LineText}
 
 -- a content line: its number, and what it says

@@ -1,9 +1,7 @@
-pub mod ContentParts
-pub mod LineAnswers
-pub mod LinePlaces
-pub mod LineRest
+pub mod Heard
 pub mod Met
 pub mod Printed
 pub mod Seeking
+pub mod Seen
 pub mod Standing
-pub mod Statements
+pub mod Walk

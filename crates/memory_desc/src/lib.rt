@@ -15,16 +15,16 @@
 mod building;
 mod content;
 mod fault;
-mod line_place;
 mod line_reader;
 mod lines;
 mod memory;
-mod names;
 mod print;
 mod read;
 mod row_numbers;
+mod row_reader;
 mod search;
 mod timing;
+mod word_reader;
 
 pub use fault::{Field, MemoryFault};
 pub use memory::Memory;

@@ -1,38 +1,138 @@
 //! The reader of one line.
 
-ghost use Rattle.bist_text.specs.Machine.{scan};
-ghost use Rattle.memory_desc.specs.inner.LinePlaces.{step, value};
-ghost use Rattle.memory_desc.specs.inner.LineRest.{rest};
-ghost use Rattle.memory_desc.specs.inner.LineAnswers.{Gives, IsReadBy};
+ghost use Rattle.std.specs.Prelude.{◌≡◌, ℕ, List, Option, Some, MatchResult, map, option_map};
+ghost use Rattle.std.specs.Str.Parse.{digits_value};
+ghost use Rattle.bist_text.specs.Keywords.{word_of};
+ghost use Rattle.bist_text.specs.keyed.Lines.{answer, keyed_of};
+ghost use Rattle.bist_text.specs.keyed.Reading.{took, stuck};
+ghost use Rattle.memory_desc.specs.LineText.{Content as LineContent};
+ghost use Rattle.memory_desc.specs.declared.content.Key.TheVariants.{Name, Polarity};
+ghost use Rattle.memory_desc.specs.inner.Heard.{argument_of, heard, keys_of, numbered_of, said};
+ghost use Rattle.memory_desc.specs.inner.Seen.{plain_content, plain_line_content, plain_said, seen, seen_answer, Took};
 
-use crate::line_place::{Key, Place, kind_at, place_after};
+use crate::content::{Content, Key, Version};
+use crate::row_reader::row;
+use crate::word_reader::backgrounds;
+use bist_text::Keyword;
+use bist_text::keyed_lines::{
+    Class, LineFault, Read, blanks, end, fault_at, gap, hex_number, key, number, word,
+};
 
-/// Why a line is none of a description.
-#[derive(Clone, Copy)]
-pub enum LineFault {
-    /// The line up to and with this byte can't go on to a line of a description.
-    Unexpected(usize),
-    /// The line could go on to one.
-    Truncated,
-}
+/// The first words of lines: those of a line of any version, and those that came with version 2.
+static KEYS: [Keyword<Key>; 9] = [
+    Keyword("memory", Key::Memory),
+    Keyword("name", Key::Name),
+    Keyword("words", Key::Words),
+    Keyword("bits", Key::Bits),
+    Keyword("scramble", Key::Scramble),
+    Keyword("backgrounds", Key::Backgrounds),
+    Keyword("latency", Key::Latency),
+    Keyword("polarity", Key::Polarity),
+    Keyword("pause", Key::Pause),
+];
 
-/// Goes over a line once, from a place.
-fn scanned(text: &[u8], start: Place) -> Result<Option<Key>, LineFault>
-    ensures { Gives result (scan step value text.now start 0) }
+/// The first words that a version's lines may have; `memory` alone before a version is known.
+fn keys_of(given: Option<Version>) -> &'static [Keyword<Key>]
+    ensures { map word_of result.now ≡ keys_of given }
 {
-    let mut place = start;
-    for (i, byte) in text.iter().enumerate() {
-        let Some(next) = place_after(place, *byte) else {
-            return Err(LineFault::Unexpected(i));
-        };
-        place = next;
+    match given {
+        None => &KEYS[..1],
+        Some(Version::One) => &KEYS[..6],
+        Some(Version::Two) => &KEYS,
     }
-    kind_at(place).ok_or(LineFault::Truncated)
 }
 
-/// Reads a line from a place on: the kind of a content line, or none of a line without content.
-pub fn read_line(text: &[u8], start: Place) -> Result<Option<Key>, LineFault>
-    ensures { IsReadBy (rest start) text.now result }
+/// A number, to the end of the line.
+fn numbered(text: &[u8]) -> Read<'_, u32>
+    ensures { (f : List ℕ → LineContent) → MatchResult result (λ r. (ds : List ℕ) × (numbered_of f text.now ≡ took (Some (f ds)) r.1.now) × (r.0 ≡ digits_value 10 ds)) (λ left. numbered_of f text.now ≡ stuck left.now) }
 {
-    scanned(text, start)
+    let (number, text) = number(text)?;
+    let ((), text) = end(text)?;
+    Ok((number, text))
+}
+
+fn name<'a>(text: &'a [u8]) -> Read<'a, Content<'a>>
+    ensures { MatchResult result (λ r. Took (argument_of Name text.now) (plain_content r.0) r.1.now) (λ left. argument_of Name text.now ≡ stuck left.now) }
+{
+    let (name, text) = word(text, Class::Name)?;
+    let ((), text) = end(text)?;
+    Ok((Content::Name(name), text))
+}
+
+fn polarity<'a>(text: &'a [u8]) -> Read<'a, Content<'a>>
+    ensures { MatchResult result (λ r. Took (argument_of Polarity text.now) (plain_content r.0) r.1.now) (λ left. argument_of Polarity text.now ≡ stuck left.now) }
+{
+    let (word, text) = hex_number(text)?;
+    let ((), text) = end(text)?;
+    Ok((Content::Polarity(word), text))
+}
+
+/// What stands behind a first word and blanks.
+fn argument<'a>(text: &'a [u8], key: Key) -> Read<'a, Content<'a>>
+    ensures { MatchResult result (λ r. Took (argument_of key text.now) (plain_content r.0) r.1.now) (λ left. argument_of key text.now ≡ stuck left.now) }
+{
+    match key {
+        Key::Memory => {
+            let (number, text) = numbered(text)?;
+            Ok((Content::Version(number), text))
+        }
+        Key::Name => name(text),
+        Key::Words => {
+            let (number, text) = numbered(text)?;
+            Ok((Content::Words(number), text))
+        }
+        Key::Bits => {
+            let (number, text) = numbered(text)?;
+            Ok((Content::Bits(number), text))
+        }
+        Key::Latency => {
+            let (number, text) = numbered(text)?;
+            Ok((Content::Latency(number), text))
+        }
+        Key::Polarity => polarity(text),
+        Key::Pause => {
+            let (number, text) = numbered(text)?;
+            Ok((Content::Pause(number), text))
+        }
+        Key::Scramble => row(text),
+        Key::Backgrounds => backgrounds(text),
+    }
+}
+
+/// A content line.
+fn keyed<'a>(text: &'a [u8], given: Option<Version>) -> Read<'a, Content<'a>>
+    ensures { MatchResult result (λ r. Took (keyed_of (keys_of given) argument_of text.now) (plain_content r.0) r.1.now) (λ left. keyed_of (keys_of given) argument_of text.now ≡ stuck left.now) }
+{
+    let (key, text) = key(text, keys_of(given))?;
+    let ((), text) = gap(text)?;
+    argument(text, key)
+}
+
+/// What a line says, or None where it has no content. Before a version is known only a `memory` line may stand.
+pub fn read_line<'a>(
+    text: &'a [u8],
+    given: Option<Version>,
+) -> Result<Option<Content<'a>>, LineFault>
+    ensures { plain_said result ≡ seen_answer (answer (heard given text.now)) }
+{
+    let content = blanks(text);
+    match content {
+        [] => Ok(None),
+        [first, _rest @ ..] => {
+            if *first == b'#' {
+                return Ok(None);
+            }
+            match keyed(content, given) {
+                Ok((content, _)) => Ok(Some(content)),
+                Err(left) => Err(fault_at(text, left)),
+            }
+        }
+    }
+}
+
+/// What a line says that is one of a table; None of another.
+pub fn said<'a>(text: &'a [u8]) -> Option<Content<'a>>
+    ensures { plain_line_content result ≡ option_map seen (said text.now) }
+{
+    read_line(text, Some(Version::Two)).unwrap_or(None)
 }

@@ -1,17 +1,16 @@
 //! The lines of a description: each must be one of the table, and the first with content a `memory` line.
 
-ghost use Rattle.std.specs.Prelude.{◌≡◌, List, Err, OnOk, IfErr, IsOk};
+ghost use Rattle.std.specs.Prelude.{◌≡◌, None, Some};
 ghost use Rattle.bist_text.specs.Lines.{plain_line, text_lines};
-ghost use Rattle.memory_desc.specs.declared.fault.MemoryFault.{MemoryFault};
-ghost use Rattle.memory_desc.specs.inner.LineAnswers.{refusal_at, Opens, Checks};
-ghost use Rattle.memory_desc.specs.Statements.{Statement, version_of};
-ghost use Rattle.memory_desc.specs.LineFaults.{AreRefused};
-ghost use Rattle.memory_desc.specs.Table.{AreStatements};
+ghost use Rattle.memory_desc.specs.Statements.{version_of};
+ghost use Rattle.memory_desc.specs.inner.Seen.{plain_content};
+ghost use Rattle.memory_desc.specs.inner.Standing.{checked};
+ghost use Rattle.memory_desc.specs.inner.Walk.{line_refusal, lines_refusal, opening, refusal_at, version_in};
 
-use crate::content::number_of;
+use crate::content::{Content, Version};
 use crate::fault::MemoryFault;
-use crate::line_place::{Place, Version};
-use crate::line_reader::{LineFault, read_line};
+use crate::line_reader::read_line;
+use bist_text::keyed_lines::LineFault;
 use bist_text::{Line, Lines};
 
 /// A line's refusal. Where a line feed ends the line, it is the byte that can't stand there.
@@ -42,13 +41,23 @@ fn version_from(number: u32) -> Option<Version>
     }
 }
 
+/// The version that a line's content gives.
+fn version_in(content: &Content<'_>) -> Option<Version>
+    ensures { result ≡ version_in (plain_content content.now) }
+{
+    match content {
+        Content::Version(number) => version_from(*number),
+        _ => None,
+    }
+}
+
 /// The version that a line gives, where it may only be a `memory` line; None of a line without content.
 fn opening(line: &Line<'_>) -> Result<Option<Version>, MemoryFault>
-    ensures { Opens (plain_line line.now) result }
+    ensures { result ≡ opening (plain_line line.now) }
 {
-    match read_line(line.text, Place::Opening) {
+    match read_line(line.text, None) {
         Ok(None) => Ok(None),
-        Ok(Some(_)) => match version_from(number_of(line.text)) {
+        Ok(Some(content)) => match version_in(&content) {
             Some(version) => Ok(Some(version)),
             None => Err(MemoryFault::OtherVersion),
         },
@@ -58,9 +67,9 @@ fn opening(line: &Line<'_>) -> Result<Option<Version>, MemoryFault>
 
 /// A line must be one of a version's table.
 fn check_line(line: &Line<'_>, version: Version) -> Result<(), MemoryFault>
-    ensures { Checks version (plain_line line.now) result }
+    ensures { result ≡ checked (line_refusal (Some version) (plain_line line.now)) }
 {
-    match read_line(line.text, Place::Begin(version)) {
+    match read_line(line.text, Some(version)) {
         Ok(_) => Ok(()),
         Err(fault) => Err(refused(line, fault)),
     }
@@ -68,10 +77,7 @@ fn check_line(line: &Line<'_>, version: Version) -> Result<(), MemoryFault>
 
 /// The first content line must be a `memory` line of version 1 or 2, and each later one a line of its version's table.
 pub fn check_lines(bytes: &[u8]) -> Result<(), MemoryFault>
-    ensures accepted { OnOk result ((ss : List Statement) × AreStatements bytes.now ss) }
-    ensures refused { IfErr result (AreRefused (text_lines bytes.now)) }
-    ensures accepts { (ss : List Statement) → AreStatements bytes.now ss → IsOk result }
-    ensures refuses { (fault : MemoryFault) → AreRefused (text_lines bytes.now) fault → result ≡ Err fault }
+    ensures { result ≡ checked (lines_refusal None (text_lines bytes.now)) }
 {
     let mut version = None;
     for line in Lines::new(bytes) {

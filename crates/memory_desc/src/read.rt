@@ -7,21 +7,44 @@ ghost use Rattle.bist_text.specs.Lines.{text_lines};
 ghost use Rattle.memory_desc.specs.declared.fault.MemoryFault.{MemoryFault};
 ghost use Rattle.memory_desc.specs.Descriptions.{Description};
 ghost use Rattle.memory_desc.specs.Names.{IsName};
-ghost use Rattle.memory_desc.specs.Statements.{Statement, Say};
+ghost use Rattle.memory_desc.specs.Statements.{Statement};
 ghost use Rattle.memory_desc.specs.Values.{name_said, words_said, bits_said};
-ghost use Rattle.memory_desc.specs.inner.Standing.{checked};
+ghost use Rattle.memory_desc.specs.inner.Heard.{statements};
+ghost use Rattle.memory_desc.specs.inner.Seen.{plain_content};
+ghost use Rattle.memory_desc.specs.inner.Standing.{checked, name_in_seen};
 ghost use Rattle.memory_desc.specs.Table.{is_scrambled, unscramblable, out_of_range, AreStatements, Builds, Describes, Reads};
 
 use crate::building::{backgrounds_from, scramble_from};
-use crate::content::{Subject, name_of, number_of};
+use crate::content::{Content, Subject};
 use crate::fault::{Field, MemoryFault};
 use crate::lines::check_lines;
 use crate::memory::{Memory, Timing};
-use crate::names::name_from;
 use crate::search::{check_ranges, check_repeats, check_widths, field, is_scrambled};
-use crate::timing::{cycles_from, polarity_from};
+use crate::timing::{cycles_from, number_of, polarity_from};
 use arrayvec::ArrayString;
 use bist_bits::width_of;
+use std::str;
+
+/// The text of a name.
+fn name_from(bytes: &[u8]) -> ArrayString<48>
+    requires { IsName bytes.now }
+    ensures { result.bytes ≡ bytes.now }
+{
+    let Ok(text) = str::from_utf8(bytes) else {
+        unreachable!()
+    };
+    ArrayString::from(text).unwrap()
+}
+
+/// The name that a `name` line gives.
+fn name_of<'a>(content: &Content<'a>) -> &'a [u8]
+    ensures { result.now ≡ name_in_seen (plain_content content.now) }
+{
+    match content {
+        Content::Name(name) => name,
+        _ => &[],
+    }
+}
 
 /// A scrambling needs a number of words that is a power of two.
 fn check_power_of_two(scrambled: bool, words: u32) -> Result<(), MemoryFault>
@@ -42,12 +65,12 @@ fn memory_of(
     words: u32,
     bits: u8,
 ) -> Result<Memory, MemoryFault>
-    requires stated { (ss : List Statement) × Say (text_lines bytes.now) ss × (out_of_range ss ≡ None) }
+    requires ranged { out_of_range (statements (text_lines bytes.now)) ≡ None }
     requires name { IsName name.bytes }
     requires words { (2 ≤ words) × (words ≤ 65536) }
     requires bits { (1 ≤ bits) × (bits ≤ 64) }
-    ensures { (ss : List Statement) → Say (text_lines bytes.now) ss → name.bytes ≡ name_said ss → words ≡ words_said ss → bits ≡ bits_said ss
-        → (width : ℕ) × IsWidthOf (words - 1) width × Builds ss width result }
+    ensures { name.bytes ≡ name_said (statements (text_lines bytes.now)) → words ≡ words_said (statements (text_lines bytes.now))
+        → bits ≡ bits_said (statements (text_lines bytes.now)) → (width : ℕ) × IsWidthOf (words - 1) width × Builds (statements (text_lines bytes.now)) width result }
 {
     let width = width_of(u64::from(words - 1));
     let scrambled = is_scrambled(bytes);
@@ -65,22 +88,21 @@ fn memory_of(
 
 /// The memory that the statements of a text describe.
 fn described(bytes: &[u8]) -> Result<Memory, MemoryFault>
-    requires stated { (ss : List Statement) × Say (text_lines bytes.now) ss }
-    ensures { (ss : List Statement) → Say (text_lines bytes.now) ss → Describes ss result }
+    ensures { Describes (statements (text_lines bytes.now)) result }
 {
     check_repeats(bytes)?;
     let name_line = field(bytes, Subject::Name, Field::Name)?;
     let words_line = field(bytes, Subject::Words, Field::Words)?;
     let bits_line = field(bytes, Subject::Bits, Field::Bits)?;
     check_ranges(bytes)?;
-    let words = number_of(words_line.text);
-    let bits = number_of(bits_line.text);
-    let name = name_from(name_of(name_line.text));
+    let words = number_of(&words_line.content);
+    let bits = number_of(&bits_line.content);
+    let name = name_from(name_of(&name_line.content));
     memory_of(bytes, name, words, bits as u8)
 }
 
 /// Reads a memory description. The first refusal decides, in the order of the table.
-#[tactic(auto, using(crate::proofs::OneReading::statements_one))]
+#[tactic(auto, using(crate::proofs::OneText::statements_one))]
 pub fn read_memory(bytes: &[u8]) -> Result<Memory, MemoryFault>
     // What is read is the memory that the text's statements describe, and each text that describes one is read as it.
     ensures ok { (d : Description) → (result ≡ Ok d) ↔ Reads bytes.now (Ok d) }

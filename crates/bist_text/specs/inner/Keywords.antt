@@ -1,5 +1,5 @@
 -- Inner. For proofs and private contracts alone, beside Keywords: words of a table that are read letter by letter. The letters that are read are the front of a word; what may follow is.
-use Rattle.std.specs.Prelude.{◌≡◌, ℕ, ◌+◌, ◌==◌, ◌&&◌, ◌||◌, not, Bool, true, false, List, [], ◌∷◌, ◌++◌, slice_get, Some}
+use Rattle.std.specs.Prelude.{◌≡◌, ℕ, ◌==◌, ◌&&◌, ◌||◌, not, Bool, true, false, List, [], ◌∷◌, ◌++◌, slice_get, Some}
 use Rattle.bist_text.specs.declared.keywords.Spelled.{Spelled}
 use Rattle.bist_text.specs.declared.keywords.Spelled.TheVariants.{More, Whole}
 use Rattle.bist_text.specs.Grammar.{word, are_bytes}

@@ -1,5 +1,5 @@
 -- Inner. For proofs and private contracts alone, beside Machine: a reader as a machine over bytes: what may still follow in a state is a relation between texts and values.
-use Rattle.std.specs.Prelude.{◌≡◌, ℕ, ◌+◌, List, [], ◌∷◌, ◌++◌, ◌↔◌, Option, Some}
+use Rattle.std.specs.Prelude.{◌≡◌, ℕ, List, [], ◌∷◌, ◌++◌, ◌↔◌, Option, Some}
 use Rattle.bist_text.specs.Grammar.{Continues, IsUnexpected, IsTruncated}
 use Rattle.bist_text.specs.Machine.{Holds, Outcome, read, unexpected, truncated}
 

@@ -4,12 +4,12 @@ use Rattle.bist_text.specs.Keywords.{Word}
 use Rattle.bist_text.specs.inner.Keywords.{all_words}
 use Rattle.bist_text.specs.Lines.{TextLine, text_lines}
 use Rattle.bist_text.specs.Machine.{Outcome, read}
-use Rattle.keyed_lines.specs.Reading.{Read, onward, outcome}
-use Rattle.keyed_lines.specs.Parts.{gap_of, fits_of, word_of, number_of, ends_with}
-use Rattle.keyed_lines.specs.Lines.{line_of, answer}
-use Rattle.keyed_lines.specs.declared.parts.Class.TheVariants.{Name as NameWord, File}
-use Rattle.keyed_lines.specs.declared.lines.LineFault.{LineFault}
-use Rattle.keyed_lines.specs.declared.lines.LineFault.TheVariants.{Unexpected as UnexpectedByte, Truncated as TruncatedLine}
+use Rattle.bist_text.specs.keyed.Reading.{Read, onward, outcome}
+use Rattle.bist_text.specs.keyed.Parts.{gap_of, fits_of, word_of, number_of, ends_with}
+use Rattle.bist_text.specs.keyed.Lines.{line_of, answer}
+use Rattle.bist_text.specs.declared.keyed_lines.Class.TheVariants.{Name as NameWord, File}
+use Rattle.bist_text.specs.declared.keyed_lines.LineFault.{LineFault}
+use Rattle.bist_text.specs.declared.keyed_lines.LineFault.TheVariants.{Unexpected as UnexpectedByte, Truncated as TruncatedLine}
 use Rattle.chip_desc.specs.Chips.{ChipDescription, UnitDescription}
 use Rattle.chip_desc.specs.ChipLines.{Content, version, name, budget, unit, key_text, Statement, stated, is_version_one}
 use Rattle.chip_desc.specs.ChipTable.{refusal, described}

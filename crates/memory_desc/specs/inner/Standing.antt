@@ -1,31 +1,39 @@
 -- Inner. What parts of the reader answer, said of the statements of the text.
 use Rattle.std.specs.Prelude.{◌≡◌, ◌<◌, ℕ, Bool, true, false, List, [], ◌∷◌, length, take, Option, Some, None, Result, Ok, Err, bit_or, max}
 use Rattle.std.specs.Str.Parse.{digits_value}
-use Rattle.bist_text.specs.declared.text_lines.Line.{Line}
 use Rattle.scrambler.specs.declared.matrix.Matrix.{Matrix}
 use Rattle.scrambler.specs.Scrambling.{matrix_of}
-use Rattle.memory_desc.specs.LineText.{Term, index_bit, constant, Content, words, bits, latency, pause, version, log, ContentText}
+use Rattle.memory_desc.specs.LineText.{Term, index_bit, constant, Content}
 use Rattle.memory_desc.specs.Statements.{Statement}
-use Rattle.memory_desc.specs.Subjects.{subject, about}
+use Rattle.memory_desc.specs.Subjects.{about}
 use Rattle.memory_desc.specs.Values.{number_in, latency_in, pause_in, index_bits, constant_of, word_values, matrix_said}
 use Rattle.memory_desc.specs.Table.{missing, missing_row}
 use Rattle.memory_desc.specs.declared.content.Subject.{Subject}
 use Rattle.memory_desc.specs.declared.content.Subject.TheVariants.{Words as OfWords, Bits as OfBits, Latency as OfLatency, Pause as OfPause}
 use Rattle.memory_desc.specs.declared.content.Row.{Row}
-use Rattle.memory_desc.specs.declared.content.Words.{Words}
+use Rattle.memory_desc.specs.declared.content.Statement.{Statement as ReadStatement}
+use Rattle.memory_desc.specs.declared.content.WordList.{WordList}
+use Rattle.memory_desc.specs.inner.Seen.{Seen, numbered, named, inverted, row, seen, plain_content, begun_row}
 use Rattle.memory_desc.specs.declared.fault.Field.{Field}
 use Rattle.memory_desc.specs.declared.fault.MemoryFault.{MemoryFault}
 
--- ---- what a line says
+-- ---- what a content gives
 
--- the digits of a line with a number
-abbrev pub digits_in : Content → Option (List ℕ)
-digits_in (version ds) = Some ds
-digits_in (words ds) = Some ds
-digits_in (bits ds) = Some ds
-digits_in (latency ds) = Some ds
-digits_in (pause ds) = Some ds
-digits_in other = None
+abbrev pub number_in_seen : Seen → ℕ
+number_in_seen (numbered key n) = n
+number_in_seen other = 0
+
+abbrev pub polarity_in_seen : Seen → ℕ
+polarity_in_seen (inverted w) = w
+polarity_in_seen other = 0
+
+abbrev pub name_in_seen : Seen → List ℕ
+name_in_seen (named b) = b
+name_in_seen other = []
+
+abbrev pub row_in_seen : Seen → Row
+row_in_seen (row r) = r
+row_in_seen other = begun_row 0
 
 -- ---- numbers of a range
 
@@ -56,14 +64,6 @@ value_in q o = number_in o
 
 -- ---- rows and words
 
-abbrev pub is_log : Content → Bool
-is_log log = true
-is_log other = false
-
-abbrev pub subject_in : Option Content → Option Subject
-subject_in None = None
-subject_in (Some c) = Some (subject c)
-
 -- the greatest index bit that is named
 abbrev pub highest_of : List Term → ℕ
 highest_of [] = 0
@@ -83,17 +83,17 @@ union_of [] = 0
 union_of (w ∷ ws) = bit_or w (union_of ws)
 
 -- words are read: the first eight, how many there are, and each bit that some have
-pub record AreWords (ws : List (List ℕ)) (r : Words) : Type 0 where
+pub record AreWords (ws : List (List ℕ)) (r : WordList) : Type 0 where
   pub first : r.first.items ≡ take 8 (word_values ws)
   pub count : r.count ≡ length ws
   pub union : r.union ≡ union_of (word_values ws)
 
 -- ---- what the lines say
 
--- the line of a statement
-abbrev pub StandsAt : Option Line → Option Statement → Type 0
+-- a statement that is read is one of the text
+abbrev pub StandsAt : Option ReadStatement → Option Statement → Type 0
 StandsAt None None = Unit {0}
-StandsAt (Some l) (Some s) = (l.number ≡ s.line) × ContentText l.text.now s.content
+StandsAt (Some l) (Some s) = (l.line ≡ s.line) × (plain_content l.content ≡ seen s.content)
 StandsAt other s = ⊥
 
 -- a check: the refusal, where there is one
@@ -101,8 +101,8 @@ abbrev pub checked : Option MemoryFault → Result (Unit {0}) MemoryFault
 checked None = Ok tt
 checked (Some fault) = Err fault
 
--- the line of a field that must be there
-abbrev pub GivesField : List Statement → Subject → Field → Result Line MemoryFault → Type 0
+-- the statement of a field that must be there
+abbrev pub GivesField : List Statement → Subject → Field → Result ReadStatement MemoryFault → Type 0
 GivesField ss q field (Ok l) = StandsAt (Some l) (about q ss)
 GivesField ss q field (Err fault) = missing q field ss ≡ Some fault
 

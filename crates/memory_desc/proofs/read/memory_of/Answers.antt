@@ -2,7 +2,9 @@ use Rattle.std.proofs.Common.{◌≡◌, ◌-◌, ◌∙◌, ℕ, Some, None, Re
 use Rattle.std.proofs.lemmas.Result.{err_from_is_err_and}
 use Rattle.bist_bits.specs.Width.{IsWidthOf}
 use Rattle.scrambler.specs.Scrambling.{identity}
+use Rattle.bist_text.specs.Lines.{text_lines}
 use Rattle.memory_desc.specs.Descriptions.{Description}
+use Rattle.memory_desc.specs.inner.Heard.{statements}
 use Rattle.memory_desc.specs.Table.{unscramblable, too_wide, described}
 use Rattle.memory_desc.specs.declared.fault.MemoryFault.{MemoryFault}
 use Rattle.memory_desc.proofs.Built.{builds_unscrambled, builds_narrower, builds_singular, builds_memory, builds_untested, made_of, passed, stopped}
@@ -15,51 +17,52 @@ scramble_from-requires c =
     width_small (c.args.words - 1) width (omega arith) (subst (λ (n : ℕ). IsWidthOf n width) c.from.ensures c.width_of-width.ensures.width)
 
 pub returns-in_err-check_power_of_two : goal.returns-in_err-check_power_of_two
-returns-in_err-check_power_of_two c ss say name words bits =
+returns-in_err-check_power_of_two c name words bits =
+    let ss = statements (text_lines c.args.bytes.now) in
     let width = c.width_of-width.result in
     let wide = subst (λ (n : ℕ). IsWidthOf n width) c.from.ensures c.width_of-width.ensures.width in
     let r = c.from_residual in
     let p = err_from_is_err_and r.result r.ensures.1 in
     let fault = c.in_err-check_power_of_two.field-0.0 in
-    let refused = stopped (unscramblable ss) fault (c.in_err-check_power_of_two.ensures.check ss (c.is_scrambled-scrambled.ensures ss say) words) in
+    let refused = stopped (unscramblable ss) fault (c.in_err-check_power_of_two.ensures.check ss c.is_scrambled-scrambled.ensures words) in
     (width, wide, builds_unscrambled ss width r.result fault refused (p.1 ∙ ap Err p.2))
 
 pub returns-in_err-check_widths : goal.returns-in_err-check_widths
-returns-in_err-check_widths c ss say name words bits =
+returns-in_err-check_widths c name words bits =
+    let ss = statements (text_lines c.args.bytes.now) in
     let width = c.width_of-width.result in
     let wide = subst (λ (n : ℕ). IsWidthOf n width) c.from.ensures c.width_of-width.ensures.width in
-    let plain = passed (unscramblable ss) (c.in_ok-check_power_of_two.ensures.check ss (c.is_scrambled-scrambled.ensures ss say) words) in
+    let plain = passed (unscramblable ss) (c.in_ok-check_power_of_two.ensures.check ss c.is_scrambled-scrambled.ensures words) in
     let r = c.from_residual-in_err-check_widths in
     let p = err_from_is_err_and r.result r.ensures.1 in
     let fault = c.in_err-check_widths.field-0.0 in
-    let refused = stopped (too_wide ss width c.args.bits) fault (c.in_err-check_widths.ensures ss say) in
+    let refused = stopped (too_wide ss width c.args.bits) fault c.in_err-check_widths.ensures in
     let refused_said = subst (λ (n : ℕ). too_wide ss width n ≡ Some fault) bits refused in
     (width, wide, builds_narrower ss width r.result fault plain refused_said (p.1 ∙ ap Err p.2))
 
 pub returns-in_err-scramble : goal.returns-in_err-scramble
-returns-in_err-scramble c ss say name words bits =
+returns-in_err-scramble c name words bits =
+    let ss = statements (text_lines c.args.bytes.now) in
     let width = c.width_of-width.result in
     let wide = subst (λ (n : ℕ). IsWidthOf n width) c.from.ensures c.width_of-width.ensures.width in
-    let scrambled = c.is_scrambled-scrambled.ensures ss say in
+    let scrambled = c.is_scrambled-scrambled.ensures in
     let plain = passed (unscramblable ss) (c.in_ok-check_power_of_two.ensures.check ss scrambled words) in
-    let fits = passed (too_wide ss width c.args.bits) (c.in_ok-check_widths.ensures ss say) in
+    let fits = passed (too_wide ss width c.args.bits) c.in_ok-check_widths.ensures in
     let fits_said = subst (λ (n : ℕ). too_wide ss width n ≡ None) bits fits in
     let r = c.from_residual-in_err-scramble in
     let p = err_from_is_err_and r.result r.ensures.1 in
     let fault = c.in_err-scramble.field-0.0 in
-    (width, wide, builds_singular ss width r.result fault plain fits_said (c.in_err-scramble.ensures.rows ss c.args.bits say fits scrambled) (p.1 ∙ ap Err p.2))
+    (width, wide, builds_singular ss width r.result fault plain fits_said (c.in_err-scramble.ensures.rows c.args.bits fits scrambled) (p.1 ∙ ap Err p.2))
 
 pub backgrounds_from-requires-clause-fit : goal.backgrounds_from-requires-clause-fit
 backgrounds_from-requires-clause-fit c =
-    let s = c.requires.stated in
     let width = c.width_of-width.result in
-    (s.0, width, s.1, passed (too_wide s.0 width c.args.bits) (c.in_ok-check_widths.ensures s.0 s.1))
+    (width, passed (too_wide (statements (text_lines c.args.bytes.now)) width c.args.bits) c.in_ok-check_widths.ensures)
 
 pub polarity_from-polarity-requires : goal.polarity_from-polarity-requires
 polarity_from-polarity-requires c =
-    let s = c.requires.stated in
     let width = c.width_of-width.result in
-    (s.0, width, s.1, passed (too_wide s.0 width c.args.bits) (c.in_ok-check_widths.ensures s.0 s.1))
+    (width, passed (too_wide (statements (text_lines c.args.bytes.now)) width c.args.bits) c.in_ok-check_widths.ensures)
 
 pub new-requires : goal.new-requires
 new-requires c =
@@ -86,36 +89,38 @@ new-requires c =
     }
 
 pub returns-in_err-backgrounds : goal.returns-in_err-backgrounds
-returns-in_err-backgrounds c ss say name words bits =
+returns-in_err-backgrounds c name words bits =
+    let ss = statements (text_lines c.args.bytes.now) in
     let width = c.width_of-width.result in
     let wide = subst (λ (n : ℕ). IsWidthOf n width) c.from.ensures c.width_of-width.ensures.width in
-    let scrambled = c.is_scrambled-scrambled.ensures ss say in
+    let scrambled = c.is_scrambled-scrambled.ensures in
     let plain = passed (unscramblable ss) (c.in_ok-check_power_of_two.ensures.check ss scrambled words) in
-    let fits = passed (too_wide ss width c.args.bits) (c.in_ok-check_widths.ensures ss say) in
+    let fits = passed (too_wide ss width c.args.bits) c.in_ok-check_widths.ensures in
     let fits_said = subst (λ (n : ℕ). too_wide ss width n ≡ None) bits fits in
     let r = c.from_residual-in_err-backgrounds in
     let p = err_from_is_err_and r.result r.ensures.1 in (
       width,
       wide,
       builds_untested ss width r.result c.in_err-backgrounds.field-0.0 c.in_ok-scramble.scramble plain fits_said
-          (c.in_ok-scramble.ensures.rows ss c.args.bits say fits scrambled) (c.in_err-backgrounds.ensures.tests ss say bits) (p.1 ∙ ap Err p.2),
+          (c.in_ok-scramble.ensures.rows c.args.bits fits scrambled) (c.in_err-backgrounds.ensures.tests bits) (p.1 ∙ ap Err p.2),
     )
 
 pub returns : goal.returns
-returns c ss say name words bits =
+returns c name words bits =
+    let ss = statements (text_lines c.args.bytes.now) in
     let width = c.width_of-width.result in
     let wide = subst (λ (n : ℕ). IsWidthOf n width) c.from.ensures c.width_of-width.ensures.width in
-    let scrambled = c.is_scrambled-scrambled.ensures ss say in
+    let scrambled = c.is_scrambled-scrambled.ensures in
     let plain = passed (unscramblable ss) (c.in_ok-check_power_of_two.ensures.check ss scrambled words) in
-    let fits = passed (too_wide ss width c.args.bits) (c.in_ok-check_widths.ensures ss say) in
+    let fits = passed (too_wide ss width c.args.bits) c.in_ok-check_widths.ensures in
     let fits_said = subst (λ (n : ℕ). too_wide ss width n ≡ None) bits fits in
     let s = c.in_ok-scramble.scramble in
     let set = c.in_ok-backgrounds.backgrounds.items in
     let made : ◌≡◌ {A = Result Description MemoryFault} (Ok c.new.result) (Ok (described ss s set)) =
     made_of ss c.new.result c.args.name.bytes c.args.words c.args.bits c.cycles_from.result c.polarity_from-polarity.result c.cycles_from-2.result s set c.new.ensures
-    name words bits (c.cycles_from.ensures.said ss say) (c.polarity_from-polarity.ensures.said ss say) (c.cycles_from-2.ensures.said ss say) in (
+    name words bits (c.cycles_from.ensures.said) (c.polarity_from-polarity.ensures.said) (c.cycles_from-2.ensures.said) in (
       width,
       wide,
       builds_memory ss width (Ok c.new.result) c.in_ok-scramble.scramble c.in_ok-backgrounds.backgrounds.items plain fits_said
-          (c.in_ok-scramble.ensures.rows ss c.args.bits say fits scrambled) (c.in_ok-backgrounds.ensures.tests ss say bits) made,
+          (c.in_ok-scramble.ensures.rows c.args.bits fits scrambled) (c.in_ok-backgrounds.ensures.tests bits) made,
     )

@@ -1,11 +1,12 @@
+use Rattle.std.proofs.Common.{◌≡◌}
 use Rattle.bist_text.specs.Lines.{lines_left, text_lines}
-use Rattle.memory_desc.specs.inner.Seeking.{is_sought}
-use Rattle.memory_desc.proofs.Searches.{Searching}
+use Rattle.memory_desc.specs.inner.Seeking.{first_sought}
+use Rattle.memory_desc.specs.inner.Seen.{seen_statements}
 use Rattle.memory_desc.proofs.search.first_line.Given as goal
 
 abbrev pub invariant-loop-line : goal.invariant-loop-line
 invariant-loop-line l = record {
   can_next : (goal.iterator-loop-line).can_next l.line-iterator;
   is_finite : (goal.iterator-loop-line).is_finite l.line-iterator;
-  searching : Searching (is_sought l.sought) (text_lines l.bytes) (lines_left l.line-iterator);
+  found : first_sought l.sought (seen_statements (text_lines l.bytes)) ≡ first_sought l.sought (seen_statements (lines_left l.line-iterator));
 }

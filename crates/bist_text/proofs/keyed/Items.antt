@@ -1,0 +1,188 @@
+-- Items one after another, where each takes a byte at least.
+use Rattle.std.proofs.Common.{◌≡◌, ℕ, zero, suc, ◌-◌, ◌<◌, ◌≤◌, ◌==◌, if◌then◌else◌, List, [], ◌∷◌, length, Option, Some, None, refl, sym, ap, ◌∙◌, arith, zero-le}
+use Rattle.std.specs.Prelude.{option_map}
+use Rattle.bist_text.specs.Grammar.{is_blank}
+use Rattle.bist_text.specs.keyed.Parts.{spaced, comment_of, remark_of, Class, later, front_of, behind_of, word_of, by_item, items_from, items_of, gathered}
+use Rattle.bist_text.specs.keyed.Reading.{Read, took, stuck, onward}
+use Rattle.bist_text.proofs.LinePieces.{at_bool}
+
+pub onward_on : {A B C : Type 0} (o : Read A) (f : A → List ℕ → Read B) (g : B → List ℕ → Read C) → onward (onward o f) g ≡ onward o (λ a x. onward (f a x) g)
+onward_on (took a x) f g = refl
+onward_on (stuck x) f g = refl
+
+-- what is made of a value, back to the value
+pub made_of : {A B : Type 0} (f : A → B) (o : Read A) (v : B) (x : List ℕ) → onward o (λ a x. took (f a) x) ≡ took v x → (a : A) × (o ≡ took a x) × (v ≡ f a)
+made_of f (took a y) v x e = (let here : y ≡ x = cc in let there : f a ≡ v = cc in (a, ap (took a) here, sym there))
+made_of f (stuck y) v x e = (let z : ⊥ = cc in absurd z)
+
+pub unmade : {A B : Type 0} (f : A → B) (o : Read A) (x : List ℕ) → onward o (λ a x. took (f a) x) ≡ stuck x → o ≡ stuck x
+unmade f (took a y) x e = (let z : ⊥ = cc in absurd z)
+unmade f (stuck y) x e = (let here : y ≡ x = cc in ap stuck here)
+
+-- no item, and an item, with what is made of them
+pub no_item : {A V : Type 0} (v : V) (k : A → List ℕ → Read V) (b : List ℕ) → onward (remark_of None b) (λ o x. by_item o (took v x) (λ a. k a x)) ≡ remark_of v b
+no_item v k b = onward_on (comment_of b) (λ _ x. took None x) (λ o x. by_item o (took v x) (λ a. k a x))
+
+pub one_item : {A V : Type 0} (o : Read A) (v : V) (k : A → List ℕ → Read V) → onward (onward o (λ a x. took (Some a) x)) (λ o x. by_item o (took v x) (λ a. k a x)) ≡ onward o k
+one_item (took a x) v k = refl
+one_item (stuck x) v k = refl
+
+-- ---- what is left is shorter
+
+pub spaced_shorter : (b : List ℕ) → length (spaced b) ≤ length b
+spaced_shorter [] = zero-le
+spaced_shorter (c ∷ b) =
+    at_bool (λ t. length (if t then spaced b else c ∷ b) ≤ length (c ∷ b)) (is_blank c) (λ e. (let l = spaced_shorter b in omega arith)) (λ e. omega arith)
+
+pub behind_shorter : (fits : Class) (b : List ℕ) → length (behind_of fits b) ≤ length b
+behind_shorter fits [] = zero-le
+behind_shorter fits (c ∷ b) =
+    at_bool (λ t. length (if t then behind_of (later fits) b else c ∷ b) ≤ length (c ∷ b)) (fits 0 c) (λ e. (let l = behind_shorter (later fits) b in omega arith)) (λ e. omega arith)
+
+-- nothing is longer behind a reader
+abbrev pub Shorter : {A : Type 0} → ℕ → Read A → Type 0
+Shorter n (took a x) = length x ≤ n
+Shorter n (stuck x) = Unit {0}
+
+pub weaker : {A : Type 0} (m n : ℕ) (o : Read A) → m ≤ n → Shorter m o → Shorter n o
+weaker m n (took a x) l h = omega arith
+weaker m n (stuck x) l h = tt
+
+pub made_shorter : {A : Type 0} (fits : Class) (f : List ℕ → A) (b : List ℕ) → Shorter (length b) (onward (word_of fits b) (λ w x. took (f w) x))
+made_shorter fits f [] = tt
+made_shorter fits f (c ∷ b) =
+    at_bool (λ t. Shorter (length (c ∷ b)) (onward (if t then took (c ∷ front_of (later fits) b) (behind_of (later fits) b) else stuck (c ∷ b)) (λ w x. took (f w) x))) (fits 0 c)
+    (λ e. (let l = behind_shorter (later fits) b in omega arith)) (λ e. tt)
+
+-- an item takes a byte
+abbrev pub Shortens : {A : Type 0} → ℕ → Read (Option A) → Type 0
+Shortens n (took None x) = Unit {0}
+Shortens n (took (Some a) x) = length x < n
+Shortens n (stuck x) = Unit {0}
+
+pub longer : {A : Type 0} (m n : ℕ) (o : Read (Option A)) → m ≤ n → Shortens m o → Shortens n o
+longer m n (took None x) l h = tt
+longer m n (took (Some a) x) l h = (let small : length x < m = h in omega arith)
+longer m n (stuck x) l h = tt
+
+pub some_shortens : {A : Type 0} (m n : ℕ) (o : Read A) → Shorter m o → m < n → Shortens n (onward o (λ a x. took (Some a) x))
+some_shortens m n (took a x) h l = (let small : length x ≤ m = h in omega arith)
+some_shortens m n (stuck x) h l = tt
+
+pub remark_shortens : (A : Type 0) (n : ℕ) (b : List ℕ) → Shortens {A = A} n (remark_of None b)
+remark_shortens A n [] = tt
+remark_shortens A n (c ∷ b) = at_bool (λ t. Shortens {A = A} n (onward (if t then took tt [] else stuck (c ∷ b)) (λ _ x. took None x))) (c == 35) (λ e. tt) (λ e. tt)
+
+pub word_shortens : (fits : Class) (b : List ℕ) → Shortens (length b) (onward (word_of fits b) (λ w x. took (Some w) x))
+word_shortens fits [] = tt
+word_shortens fits (c ∷ b) =
+    at_bool (λ t. Shortens (length (c ∷ b)) (onward (if t then took (c ∷ front_of (later fits) b) (behind_of (later fits) b) else stuck (c ∷ b)) (λ w x. took (Some w) x))) (fits 0 c)
+    (λ e. (let l = behind_shorter (later fits) b in omega arith)) (λ e. tt)
+
+-- ---- items
+
+-- a reader of the next item: each takes a byte, and there is none in nothing
+pub record IsNext {A : Type 0} (next : List ℕ → Read (Option A)) : Type 0 where
+  pub none : next [] ≡ took None []
+  pub shorter : (b : List ℕ) → Shortens (length b) (next b)
+
+module _ {A : Type 0} (next : List ℕ → Read (Option A)) (is_next : IsNext next) where
+  -- Where there is room for xs many items xs bytes, there is room enough.
+  enough : {V : Type 0} (m n : ℕ) (f : List A → V) (b : List ℕ) → length b ≤ m → length b ≤ n → items_from next m f b ≡ items_from next n f b
+  enough zero zero f b l k = refl
+  enough zero (suc n) f [] l k = sym (ap (λ o. onward o (λ o x. by_item o (took (f []) x) (λ a. items_from next n (λ xs. f (a ∷ xs)) x))) is_next.none)
+  enough zero (suc n) f (c ∷ b) l k = absurd (omega arith)
+  enough (suc m) zero f [] l k = ap (λ o. onward o (λ o x. by_item o (took (f []) x) (λ a. items_from next m (λ xs. f (a ∷ xs)) x))) is_next.none
+  enough (suc m) zero f (c ∷ b) l k = absurd (omega arith)
+  enough {V} (suc m) (suc n) f b l k = go (next b) (is_next.shorter b) (λ a x i j. enough m n (λ xs. f (a ∷ xs)) x i j)
+    where
+      go : (o : Read (Option A)) → Shortens (length b) o
+          → ((a : A) (x : List ℕ) → length x ≤ m → length x ≤ n → items_from next m (λ xs. f (a ∷ xs)) x ≡ items_from next n (λ xs. f (a ∷ xs)) x)
+          → onward o (λ o x. by_item o (took (f []) x) (λ a. items_from next m (λ xs. f (a ∷ xs)) x)) ≡ onward o (λ o x. by_item o (took (f []) x) (λ a. items_from next n (λ xs. f (a ∷ xs)) x))
+      go (took None x) s h = refl
+      go (took (Some a) x) s h = (let small : length x < length b = s in h a x (omega arith) (omega arith))
+      go (stuck x) s h = refl
+
+  -- what is made of items is made of them all
+  made : (n : ℕ) {V : Type 0} (f : List A → V) (b : List ℕ) → items_from next n f b ≡ onward (items_from next n (λ xs. xs) b) (λ xs x. took (f xs) x)
+  made zero f b = refl
+  made (suc n) {V} f b = go (next b) (λ a x. made n (λ xs. f (a ∷ xs)) x) (λ a x. made n (λ xs. a ∷ xs) x)
+    where
+      go : (o : Read (Option A))
+          → ((a : A) (x : List ℕ) → items_from next n (λ xs. f (a ∷ xs)) x ≡ onward (items_from next n (λ xs. xs) x) (λ xs x. took (f (a ∷ xs)) x))
+          → ((a : A) (x : List ℕ) → items_from next n (λ xs. a ∷ xs) x ≡ onward (items_from next n (λ xs. xs) x) (λ xs x. took (a ∷ xs) x))
+          → onward o (λ o x. by_item o (took (f []) x) (λ a. items_from next n (λ xs. f (a ∷ xs)) x))
+          ≡ onward (onward o (λ o x. by_item o (took [] x) (λ a. items_from next n (λ xs. a ∷ xs) x))) (λ xs x. took (f xs) x)
+      go (took None x) h k = refl
+      go (took (Some a) x) h k =
+          h a x ∙ sym (ap (λ o. onward o (λ xs x. took (f xs) x)) (k a x) ∙ onward_on (items_from next n (λ xs. xs) x) (λ xs x. took (a ∷ xs) x) (λ xs x. took (f xs) x))
+      go (stuck x) h k = refl
+
+  pub items_made : {V : Type 0} (f : List A → V) (b : List ℕ) → onward (items_of next b) (λ xs x. took (f xs) x) ≡ items_from next (length b) f b
+  items_made f b = sym (made (length b) f b)
+
+  by_next : {V : Type 0} (f : List A → V) (b : List ℕ) (o : Read (Option A)) → next b ≡ o
+      → onward (items_of next b) (λ xs x. took (f xs) x) ≡ onward o (λ o x. by_item o (took (f []) x) (λ a. items_from next (length b - 1) (λ xs. f (a ∷ xs)) x))
+  by_next f b o e =
+      items_made f b ∙ enough (length b) (suc (length b - 1)) f b (omega arith) (omega arith)
+      ∙ ap (λ o. onward o (λ o x. by_item o (took (f []) x) (λ a. items_from next (length b - 1) (λ xs. f (a ∷ xs)) x))) e
+
+  pub next_shorter : (b x : List ℕ) (a : A) → next b ≡ took (Some a) x → length x < length b
+  next_shorter b x a e = go (next b) e (is_next.shorter b)
+    where
+      go : (o : Read (Option A)) → o ≡ took (Some a) x → Shortens (length b) o → length x < length b
+      go (took None y) e s = (let z : ⊥ = cc in absurd z)
+      go (took (Some d) y) e s = (let here : y ≡ x = cc in let same : length y ≡ length x = ap length here in let small : length y < length b = s in omega arith)
+      go (stuck y) e s = (let z : ⊥ = cc in absurd z)
+
+  -- one more
+  pub items_on : {V : Type 0} (f : List A → V) (b x : List ℕ) (a : A) → next b ≡ took (Some a) x
+      → onward (items_of next b) (λ xs x. took (f xs) x) ≡ onward (items_of next x) (λ xs x. took (f (a ∷ xs)) x)
+  items_on f b x a e =
+      let small = next_shorter b x a e in
+      by_next f b (took (Some a) x) e ∙ enough (length b - 1) (length x) (λ xs. f (a ∷ xs)) x (omega arith) (omega arith) ∙ sym (items_made (λ xs. f (a ∷ xs)) x)
+
+  -- no more
+  pub items_end : {V : Type 0} (f : List A → V) (b x : List ℕ) → next b ≡ took None x → onward (items_of next b) (λ xs x. took (f xs) x) ≡ took (f []) x
+  items_end f b x e = by_next f b (took None x) e
+
+  pub items_stuck : {V : Type 0} (f : List A → V) (b x : List ℕ) → next b ≡ stuck x → onward (items_of next b) (λ xs x. took (f xs) x) ≡ stuck x
+  items_stuck f b x e = by_next f b (stuck x) e
+
+-- ---- a loop over items
+
+some_of : {A S : Type 0} (seen : A → S) (o : Option A) (s : S) → Some s ≡ option_map seen o → (a : A) × (o ≡ Some a) × (s ≡ seen a)
+some_of seen None s e = (let z : ⊥ = cc in absurd z)
+some_of seen (Some a) s e = (a, refl, (let same : s ≡ seen a = cc in same))
+
+none_of : {A S : Type 0} (seen : A → S) (o : Option A) → None ≡ option_map seen o → o ≡ None
+none_of seen None e = refl
+none_of seen (Some a) e = (let z : ⊥ = cc in absurd z)
+
+-- what a loop has of items, and how it adds one
+module _ {A S G : Type 0} (next : List ℕ → Read (Option A)) (is_next : IsNext next) (seen : A → S) (add : G → S → G) where
+  abbrev pub added : G → List A → G
+  added = gathered (λ g a. add g (seen a))
+
+  -- the whole, where this is left
+  abbrev pub Gathered : G → List ℕ → Read G
+  Gathered g b = onward (items_of next b) (λ xs x. took (added g xs) x)
+
+  -- the next is read
+  abbrev pub IsRead : List ℕ → Option S → List ℕ → Type 0
+  IsRead b n x = (o : Option A) × (next b ≡ took o x) × (n ≡ option_map seen o)
+
+  pub gather_on : {all : Read G} {n : Option S} {s : S} (b x : List ℕ) (g new : G) → Gathered g b ≡ all → IsRead b n x → n ≡ Some s → new ≡ add g s → Gathered new x ≡ all
+  gather_on b x g new h r e k =
+      let a = some_of seen r.0 _ (sym e ∙ r.2) in
+      ap (λ g. Gathered g x) (k ∙ ap (add g) a.2) ∙ sym (items_on next is_next (added g) b x a.0 (r.1 ∙ ap (λ o. took o x) a.1)) ∙ h
+
+  pub gather_smaller : {n : Option S} {s : S} (b x : List ℕ) → IsRead b n x → n ≡ Some s → length x < length b
+  gather_smaller b x r e = (let a = some_of seen r.0 _ (sym e ∙ r.2) in next_shorter next is_next b x a.0 (r.1 ∙ ap (λ o. took o x) a.1))
+
+  pub gather_end : {n : Option S} (all b x : List ℕ) (first g : G) → Gathered g b ≡ Gathered first all → IsRead b n x → n ≡ None → (xs : List A) × (items_of next all ≡ took xs x) × (g ≡ added first xs)
+  gather_end all b x first g h r e =
+      made_of (added first) (items_of next all) g x (sym h ∙ items_end next is_next (added g) b x (r.1 ∙ ap (λ o. took o x) (none_of seen r.0 (sym e ∙ r.2))))
+
+  pub gather_stuck : (all b x : List ℕ) (first g : G) → Gathered g b ≡ Gathered first all → next b ≡ stuck x → items_of next all ≡ stuck x
+  gather_stuck all b x first g h e = unmade (added first) (items_of next all) x (sym h ∙ items_stuck next is_next (added g) b x e)

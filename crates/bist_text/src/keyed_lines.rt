@@ -1,0 +1,197 @@
+//! Lines of a first word and what stands behind it: readers of their parts, which stop where a line can't go on.
+
+ghost use Rattle.std.specs.Prelude.{◌≡◌, ◌≤◌, ℕ, List, MatchResult, length, map};
+ghost use Rattle.std.specs.Str.Parse.{digits_value};
+ghost use Rattle.bist_text.specs.Grammar.{is_blank};
+ghost use Rattle.bist_text.specs.Keywords.{word_of as word_of_table};
+ghost use Rattle.bist_text.specs.declared.keyed_lines.Class.TheVariants.{Number, Word as HexWord};
+ghost use Rattle.bist_text.specs.keyed.Lines.{fault_of};
+ghost use Rattle.bist_text.specs.keyed.Parts.{spaced, gap_of, byte_of, comment_of, end_of, fits_of, key_of, word_of, number_of, length_of};
+ghost use Rattle.bist_text.specs.keyed.Reading.{took, stuck};
+
+use crate::byte_sets::BLANKS;
+use crate::identifiers::{begins_identifier, in_identifier};
+use crate::keywords::{Keyword, Letters, Spelled, next_letter};
+use crate::numbers::{decimal, hex};
+
+/// What a reader makes of what is left of a line: a value and what is then left; or what is left where the line can't go on
+/// so, which is nothing where it ended too early.
+pub type Read<'a, T> = Result<(T, &'a [u8]), &'a [u8]>;
+
+/// Which words stand in lines.
+#[derive(Clone, Copy)]
+pub enum Class {
+    /// One to nine decimal digits.
+    Number,
+    /// One to sixteen hexadecimal digits.
+    Word,
+    /// A simple identifier.
+    Name,
+    /// The name of a file: printable bytes but `#`.
+    File,
+}
+
+impl Class {
+    /// Whether a byte may stand behind so many bytes of a word.
+    fn fits(self, count: usize, byte: u8) -> bool
+        ensures { result ≡ fits_of self count byte }
+    {
+        match self {
+            Class::Number => byte.is_ascii_digit() && count < 9,
+            Class::Word => byte.is_ascii_hexdigit() && count < 16,
+            Class::Name if count == 0 => begins_identifier(byte),
+            Class::Name => in_identifier(byte),
+            Class::File => 33 <= byte && byte <= 126 && byte != b'#',
+        }
+    }
+}
+
+/// What stands behind the blanks.
+#[tactic(auto, using(crate::proofs::Blanks::blanks_have, crate::proofs::keyed::Steps::blank_on, crate::proofs::keyed::Steps::blank_stop, crate::proofs::keyed::Steps::blank_end))]
+pub fn blanks(text: &[u8]) -> &[u8]
+    ensures { result.now ≡ spaced text.now }
+{
+    for (i, byte) in text.iter().enumerate() {
+        if !BLANKS.contains(*byte) {
+            return &text[i..];
+        }
+    }
+    &[]
+}
+
+/// One or more blanks.
+#[tactic(auto, using(crate::proofs::Blanks::blanks_have, crate::proofs::keyed::Steps::gap_took))]
+pub fn gap(text: &[u8]) -> Read<'_, ()>
+    ensures { MatchResult result (λ r. gap_of text.now ≡ took r.0 r.1.now) (λ left. gap_of text.now ≡ stuck left.now) }
+{
+    match text {
+        [] => Err(text),
+        [first, rest @ ..] => {
+            if BLANKS.contains(*first) {
+                Ok(((), blanks(rest)))
+            } else {
+                Err(text)
+            }
+        }
+    }
+}
+
+/// A byte.
+pub fn byte(text: &[u8], wanted: u8) -> Read<'_, ()>
+    ensures { MatchResult result (λ r. byte_of wanted text.now ≡ took r.0 r.1.now) (λ left. byte_of wanted text.now ≡ stuck left.now) }
+{
+    match text {
+        [] => Err(text),
+        [first, rest @ ..] => {
+            if *first == wanted {
+                Ok(((), rest))
+            } else {
+                Err(text)
+            }
+        }
+    }
+}
+
+/// Nothing, or a comment.
+pub fn comment(text: &[u8]) -> Read<'_, ()>
+    ensures { MatchResult result (λ r. comment_of text.now ≡ took r.0 r.1.now) (λ left. comment_of text.now ≡ stuck left.now) }
+{
+    match text {
+        [] => Ok(((), text)),
+        [first, _rest @ ..] => {
+            if *first == b'#' {
+                Ok(((), &[]))
+            } else {
+                Err(text)
+            }
+        }
+    }
+}
+
+/// The end of a line: blanks and a comment.
+pub fn end(text: &[u8]) -> Read<'_, ()>
+    ensures { MatchResult result (λ r. end_of text.now ≡ took r.0 r.1.now) (λ left. end_of text.now ≡ stuck left.now) }
+{
+    comment(blanks(text))
+}
+
+/// How many bytes from the front on a word of a class can have.
+#[tactic(auto, using(crate::proofs::keyed::Steps::fit_on, crate::proofs::keyed::Steps::fit_stop, crate::proofs::keyed::Steps::fit_end))]
+fn fit_len(text: &[u8], class: Class) -> usize
+    ensures value { result ≡ length_of (fits_of class) 0 text.now }
+    ensures within { result ≤ length text.now }
+{
+    for (i, byte) in text.iter().enumerate() {
+        if !class.fits(i, *byte) {
+            return i;
+        }
+    }
+    text.len()
+}
+
+/// A word of a class.
+#[tactic(auto, using(crate::proofs::keyed::Steps::word_none, crate::proofs::keyed::Steps::word_some))]
+pub fn word(text: &[u8], class: Class) -> Read<'_, &[u8]>
+    ensures { MatchResult result (λ r. word_of (fits_of class) text.now ≡ took r.0.now r.1.now) (λ left. word_of (fits_of class) text.now ≡ stuck left.now) }
+{
+    let count = fit_len(text, class);
+    if count == 0 {
+        Err(text)
+    } else {
+        Ok((&text[..count], &text[count..]))
+    }
+}
+
+/// A number of one to nine digits.
+pub fn number(text: &[u8]) -> Read<'_, u32>
+    ensures value { MatchResult result (λ r. number_of text.now ≡ took r.0 r.1.now) (λ left. number_of text.now ≡ stuck left.now) }
+    ensures digits { MatchResult result (λ r. (ds : List ℕ) × (word_of (fits_of Number) text.now ≡ took ds r.1.now) × (r.0 ≡ digits_value 10 ds)) (λ left. word_of (fits_of Number) text.now ≡ stuck left.now) }
+{
+    let (digits, text) = word(text, Class::Number)?;
+    let value = decimal(digits).unwrap_or(0);
+    Ok((value, text))
+}
+
+/// A number of one to sixteen hexadecimal digits.
+pub fn hex_number(text: &[u8]) -> Read<'_, u64>
+    ensures { MatchResult result (λ r. (ds : List ℕ) × (word_of (fits_of HexWord) text.now ≡ took ds r.1.now) × (r.0 ≡ digits_value 16 ds)) (λ left. word_of (fits_of HexWord) text.now ≡ stuck left.now) }
+{
+    let (digits, text) = word(text, Class::Word)?;
+    let value = hex(digits).unwrap_or(0);
+    Ok((value, text))
+}
+
+/// A word of a table.
+pub fn key<'a, T: Copy>(text: &'a [u8], words: &[Keyword<T>]) -> Read<'a, T>
+    ensures { MatchResult result (λ r. key_of (map word_of_table words.now) text.now ≡ took r.0 r.1.now) (λ left. key_of (map word_of_table words.now) text.now ≡ stuck left.now) }
+{
+    let mut letters = Letters { word: 0, count: 0 };
+    for (i, byte) in text.iter().enumerate() {
+        match next_letter(words, letters, *byte) {
+            None => return Err(&text[i..]),
+            Some(Spelled::Whole(value)) => return Ok((value, &text[i + 1..])),
+            Some(Spelled::More(more)) => letters = more,
+        }
+    }
+    Err(&[])
+}
+
+/// Why a text is no line of a table.
+#[derive(Clone, Copy)]
+pub enum LineFault {
+    /// The line up to and with this byte can't go on to a line of the table.
+    Unexpected(usize),
+    /// The line could go on to one.
+    Truncated,
+}
+
+/// The fault of a line of which this is left where it can't go on.
+pub fn fault_at(text: &[u8], left: &[u8]) -> LineFault
+    ensures { result ≡ fault_of text.now left.now }
+{
+    if left.is_empty() {
+        LineFault::Truncated
+    } else {
+        LineFault::Unexpected(text.len().saturating_sub(left.len()))
+    }
+}

@@ -1,0 +1,82 @@
+-- The readers of terms, by the first byte and one after another.
+use Rattle.std.proofs.Common.{◌≡◌, ℕ, ◌-◌, ◌≤◌, ◌<◌, Option, Some, None, true, false, List, [], ◌∷◌, length, take, drop, sym, ap, ◌∙◌, arith, take_all}
+use Rattle.std.specs.Prelude.{get_or, option_map}
+use Rattle.bist_text.specs.keyed.Reading.{Read, took, stuck, onward}
+use Rattle.memory_desc.specs.LineText.{Term, Content, index_bit, constant, scramble}
+use Rattle.bist_text.specs.keyed.Parts.{spaced, byte_of, fits_of, word_of}
+use Rattle.bist_text.specs.declared.keyed_lines.Class.TheVariants.{Number}
+use Rattle.memory_desc.specs.inner.Heard.{term_of, marked_term_of, next_term_of, terms_of, row_of}
+use Rattle.memory_desc.specs.inner.Seen.{summand, with_term, with_terms}
+use Rattle.memory_desc.specs.declared.content.Row.{Row}
+use Rattle.memory_desc.specs.declared.row_reader.Summand.{Summand}
+use Rattle.memory_desc.proofs.TermLaws.{term_next}
+use Rattle.bist_text.proofs.keyed.Items.{gather_on, gather_smaller, gather_end, gather_stuck}
+
+abbrev Rest : List ℕ → List ℕ
+Rest b = take (length b - 1) (drop 1 b)
+
+rest_is : (c : ℕ) (b : List ℕ) → Rest (c ∷ b) ≡ b
+rest_is c b = take_all (length (c ∷ b) - 1) b (omega arith)
+
+-- what a term that begins with p is read as
+index_of : (c : ℕ) (b : List ℕ) → c ≡ 112 → term_of (c ∷ b) ≡ onward (word_of (fits_of Number) (Rest (c ∷ b))) (λ ds x. took (index_bit ds) x)
+index_of c b e = ap (λ (c : ℕ). term_of (c ∷ b)) e ∙ ap (λ (x : List ℕ). onward (word_of (fits_of Number) x) (λ ds x. took (index_bit ds) x)) (sym (rest_is c b))
+
+pub index_took : (b ds x : List ℕ) → 1 ≤ length b → get_or b 0 0 ≡ 112 → word_of (fits_of Number) (Rest b) ≡ took ds x → term_of b ≡ took (index_bit ds) x
+index_took [] ds x l e h = absurd (omega arith)
+index_took (c ∷ b) ds x l e h = index_of c b e ∙ ap (λ o. onward o (λ ds x. took (index_bit ds) x)) h
+
+pub index_stuck : (b x : List ℕ) → 1 ≤ length b → get_or b 0 0 ≡ 112 → word_of (fits_of Number) (Rest b) ≡ stuck x → term_of b ≡ stuck x
+index_stuck [] x l e h = absurd (omega arith)
+index_stuck (c ∷ b) x l e h = index_of c b e ∙ ap (λ o. onward o (λ ds x. took (index_bit ds) x)) h
+
+pub zero_took : (b : List ℕ) → 1 ≤ length b → get_or b 0 0 ≡ 48 → term_of b ≡ took (constant false) (Rest b)
+zero_took [] l e = absurd (omega arith)
+zero_took (c ∷ b) l e = ap (λ (c : ℕ). term_of (c ∷ b)) e ∙ ap (λ (x : List ℕ). took (constant false) x) (sym (rest_is c b))
+
+pub one_took : (b : List ℕ) → 1 ≤ length b → get_or b 0 0 ≡ 49 → term_of b ≡ took (constant true) (Rest b)
+one_took [] l e = absurd (omega arith)
+one_took (c ∷ b) l e = ap (λ (c : ℕ). term_of (c ∷ b)) e ∙ ap (λ (x : List ℕ). took (constant true) x) (sym (rest_is c b))
+
+pub marked_took : (b x y left : List ℕ) (t : Term) → byte_of 94 b ≡ took tt x → y ≡ spaced x → term_of y ≡ took t left → marked_term_of b ≡ took (Some t) left
+marked_took b x y left t h e k =
+    ap (λ o. onward o (λ _ x. onward (term_of (spaced x)) (λ t x. took (Some t) x))) h ∙ ap (λ o. onward o (λ t x. took (Some t) x)) (ap term_of (sym e) ∙ k)
+
+-- ---- the loop over the terms of a row
+
+abbrev pub Gathered : Row → List ℕ → Read Row
+Gathered r b = onward (terms_of b) (λ ts x. took (with_terms r ts) x)
+
+-- the next is read
+abbrev IsRead : List ℕ → Option Summand → List ℕ → Type 0
+IsRead b n x = (o : Option Term) × (next_term_of b ≡ took o x) × (n ≡ option_map summand o)
+
+pub terms_on : {all : Read Row} {n : Option Summand} {s : Summand} (b x : List ℕ) (r new : Row) → Gathered r b ≡ all → IsRead b n x → n ≡ Some s → new ≡ with_term r s → Gathered new x ≡ all
+terms_on = gather_on next_term_of term_next summand with_term
+
+pub terms_smaller : {n : Option Summand} {s : Summand} (b x : List ℕ) → IsRead b n x → n ≡ Some s → length x < length b
+terms_smaller = gather_smaller next_term_of term_next summand with_term
+
+pub terms_end : {n : Option Summand} (all b x : List ℕ) (first r : Row) → Gathered r b ≡ Gathered first all → IsRead b n x → n ≡ None
+    → (ts : List Term) × (terms_of all ≡ took ts x) × (r ≡ with_terms first ts)
+terms_end = gather_end next_term_of term_next summand with_term
+
+pub terms_stuck : (all b x : List ℕ) (first r : Row) → Gathered r b ≡ Gathered first all → next_term_of b ≡ stuck x → terms_of all ≡ stuck x
+terms_stuck = gather_stuck next_term_of term_next summand with_term
+
+-- ---- the whole row
+
+pub row_took : (b x y z u v w left : List ℕ) (i : List ℕ) (t : Term) (ts : List Term) → byte_of 97 b ≡ took tt x → word_of (fits_of Number) x ≡ took i y → z ≡ spaced y → byte_of 61 z ≡ took tt u
+    → v ≡ spaced u → term_of v ≡ took t w → terms_of w ≡ took ts left → row_of b ≡ took (Some (scramble i (t ∷ ts))) left
+row_took b x y z u v w left i t ts h k e l f m n =
+    ap (λ o. onward o (λ _ x. onward (word_of (fits_of Number) x) behind_number)) h ∙ ap (λ o. onward o behind_number) k ∙ ap (λ o. onward o (λ _ x. onward (term_of (spaced x)) behind_term)) (ap (byte_of 61) (sym e) ∙ l)
+    ∙ ap (λ o. onward o behind_term) (ap term_of (sym f) ∙ m) ∙ ap (λ o. onward o (λ ts x. took (Some (scramble i (t ∷ ts))) x)) n
+  where
+    behind_term_of : List ℕ → Term → List ℕ → Read (Option Content)
+    behind_term_of = λ (i : List ℕ) (t : Term) (x : List ℕ). onward (terms_of x) (λ ts x. took (Some (scramble i (t ∷ ts))) x)
+
+    behind_term : Term → List ℕ → Read (Option Content)
+    behind_term = behind_term_of i
+
+    behind_number : List ℕ → List ℕ → Read (Option Content)
+    behind_number = λ (i x : List ℕ). onward (byte_of 61 (spaced x)) (λ _ x. onward (term_of (spaced x)) (behind_term_of i))

@@ -1,0 +1,12 @@
+use Rattle.std.proofs.Common.{Some, ap}
+use Rattle.bist_text.specs.keyed.Parts.{fits_of}
+use Rattle.bist_text.specs.declared.keyed_lines.Class.TheVariants.{Word}
+use Rattle.memory_desc.specs.LineText.{polarity}
+use Rattle.memory_desc.specs.inner.Seen.{inverted}
+use Rattle.memory_desc.proofs.WordReads.{argument_took}
+use Rattle.memory_desc.proofs.line_reader.polarity.Goals as goal
+
+pub returns : goal.returns
+returns c =
+    let w = c.in_ok-word.ensures in
+    (polarity w.0, argument_took (fits_of Word) (λ w. Some (polarity w)) c.args.text.now c.in_ok-word.text.now c.in_ok-text.text.now w.0 w.1 c.in_ok-text.ensures, ap inverted w.2)
