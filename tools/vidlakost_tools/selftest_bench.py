@@ -12,8 +12,8 @@ from vidlakost_tools.selftest_cases import FILES
 class Bench:
     """A folder with the files of the cases, and the count of what went wrong in it."""
 
-    def __init__(self, folder: pathlib.Path, program: str):
-        self.folder, self.wrong, self.count = folder, 0, 0
+    def __init__(self, folder: pathlib.Path, program: str, is_long: bool = False):
+        self.folder, self.is_long, self.wrong, self.count = folder, is_long, 0, 0
         kept = {key: value for key, value in os.environ.items() if not key.startswith("VIDLAKOST")}
         self.environment = {**kept, "VIDLAKOST_PROGRAM": program}
         for name, text in FILES.items():

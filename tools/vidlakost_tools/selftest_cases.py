@@ -307,6 +307,7 @@ CHECKS: List[Tuple[List[str], int, str, str]] = [
 
 TEST = ["tools/testbench", "c.m", "eight.mem", "tb"]
 CHIP_TEST = ["tools/testbench", "two.chip", "chiptb"]
+HUGE = ["tools/testbench", "c.m", "huge.mem", "long", "--stream", "--fault", "<0w1/0/->"]
 # a tool that a call needs, its words, its status, a part of its output, and the beginning of standard error
 CALLS: List[Tuple[str, List[str], int, str, str]] = [
     ("", ["tools/explain", "M8"], 0, "march M8 element E operation O", ""),
@@ -456,6 +457,10 @@ CALLS: List[Tuple[str, List[str], int, str, str]] = [
     ("", [*TEST, "--fault"], 2, "", "testbench: --fault needs a word behind it"),
     ("", ["tools/testbench", "wrong.m", "s.mem", "tb"], 3, "", "testbench: march M8"),
     ("", ["tools/testbench", "c.m", "huge.mem", "tb"], 12, "", "testbench: too long 4587523"),
+    ("", ["tools/testbench", "c.m", "huge.mem", "long", "--stream"], 0, "long/s_tb.v", ""),
+    ("", [*HUGE, "--victim", "65535.63"], 0, "long/s_tb.v", ""),
+    ("", [*HUGE, "--victim", "65536.0"], 11, "", "testbench: a cell of the fault lies outside"),
+    ("", [*HUGE, "--victim", "0.64"], 11, "", "testbench: a cell of the fault lies outside"),
     ("", ["tools/testbench", "c.m", "s.mem", "c.m"], 2, "", "testbench: c.m: File exists"),
     ("", ["tools/schedule", "two.chip"], 0, "   1  t            2      1      41     123\ngroups 2 done 123\n", ""),
     ("", ["tools/schedule", "two.chip", "--svg", "two.svg"], 0, "groups 2 done 123", ""),

@@ -1,0 +1,143 @@
+"""Lines of pins, literals and widths in them, and files that are written where others may stand."""
+from __future__ import annotations
+
+import contextlib
+import io
+import pathlib
+import tempfile
+import unittest
+
+from vidlakost_tools import collar_lanes, macro_pins
+from vidlakost_tools.collar_text import Names, collar
+from vidlakost_tools.files import write_own
+from vidlakost_tools.macro_pins import Macro, Word, not_tested, read_macro
+from vidlakost_tools.memory import Memory
+from vidlakost_tools.tool import ToolError
+
+PINS = ["macro ram", "clk ck", "en ~ce", "we wen 2", "addr a", "wdata d", "rdata q"]
+PORT = ["port addr b", "port rdata p", "port wdata e", "port we v 4"]
+
+
+def memory(name: str = "m", bits: int = 8, latency: int = 1) -> Memory:
+    return Memory(name, words=4, bits=bits, latency=latency, polarity=0, pause=1, rows=None, backgrounds=[0])
+
+
+def read(lines: list[str], *memories: Memory) -> Macro:
+    with tempfile.TemporaryDirectory() as folder:
+        path = pathlib.Path(folder) / "m.pins"
+        path.write_text("\n".join(lines))
+        return read_macro(str(path), Word(list(memories) or [memory()]))
+
+
+class Literals(unittest.TestCase):
+    def test_literals(self) -> None:
+        found = [macro_pins.literal(text) for text in ("4'ha", "2'b01", "3'd7", "12'o17_77", "1'B1")]
+        self.assertEqual(found, [(4, 10), (2, 1), (3, 7), (12, 1023), (1, 1)])
+
+    def test_what_is_no_literal(self) -> None:
+        for text in ("1", "1'b2", "2'd4", "0'b0", "1'bx", "2'b_1", "4'hg", "'b1", "2'sb1", "99999'h0", "2000'h0", "1'b"):
+            self.assertIsNone(macro_pins.literal(text), msg=text)
+        self.assertEqual((macro_pins.literal("3", 2), macro_pins.literal("4", 2)), ((2, 3), None))
+
+    def test_bits(self) -> None:
+        self.assertEqual(macro_pins.bits_in("15:7,5"), [5, *range(7, 16)])
+        for text in ("", "5,7", "7:8", "5,5", "9999", "3:", ":3", "a"):
+            self.assertEqual(macro_pins.bits_in(text), [], msg=text)
+
+
+class Lines(unittest.TestCase):
+    def refusal(self, lines: list[str], *memories: Memory) -> str:
+        with self.assertRaises(ToolError) as caught:
+            read(lines, *memories)
+        return str(caught.exception).split("m.pins")[1]
+
+    def test_the_order_does_not_decide(self) -> None:
+        one, other = read(PINS), read(PINS[::-1])
+        for found in (one, other):
+            found.path = ""
+            for pin in found.pins:
+                pin.line = 0
+        self.assertEqual(sorted(map(str, one.pins)), sorted(map(str, other.pins)))
+
+    def test_comments_and_carriage_returns(self) -> None:
+        self.assertEqual(read([f"{line}\r" for line in PINS] + ["# all", "tie t 1'b0 # one"]).of("tie")[0].value, "1'b0")
+
+    def test_what_is_missing(self) -> None:
+        self.assertEqual(self.refusal([]), ": no line for macro, clk, rdata, addr, wdata, we or write")
+        self.assertEqual(self.refusal([*PINS, "port clk c"]), ": no line for port rdata, port addr")
+        self.assertEqual(self.refusal([*PINS, *PORT[:3]]), ": no line for port we or port write")
+
+    def test_what_is_twice(self) -> None:
+        self.assertIn(":8: 'addr' stands once, and line 5 has it; of a macro", self.refusal([*PINS, "addr b"]))
+        self.assertIn(":8: the pin 'a' stands twice: line 5 has it", self.refusal([*PINS, "open a"]))
+        self.assertIn(":8: 'raddr' stands in place of 'addr'", self.refusal([*PINS, "raddr r", "waddr w"]))
+
+    def test_widths(self) -> None:
+        self.assertIn(":6: d has 7 bits, and a word 8", self.refusal([*PINS[:5], "wdata d 7", PINS[6]]))
+        self.assertIn(":8: a mask does not divide the word: 3 parts of 8 bits", self.refusal([*PINS, "mask m 3"]))
+        self.assertIn("the address is too narrow", self.refusal([*PINS[:4], "addr a 1", *PINS[5:]]))
+        self.assertIn(":8: q has 8 bits, and its bus 4", self.refusal(["pins q 0 3", *PINS[:6], "rdata q 8"]))
+
+    def test_two_parts(self) -> None:
+        lines = [*PINS, "high big", "low little"]
+        macro = read(lines, memory("big", 4), memory("little", 4))
+        self.assertEqual(macro.of("wdata")[0].width, 8)
+        self.assertIn("two memories make one word", self.refusal(PINS, memory("big", 4), memory("little", 4)))
+        self.assertIn(":9: low and high are little and big", self.refusal(lines, memory("big", 4), memory("other", 4)))
+        self.assertIn(":8: big has other latency", self.refusal(lines, memory("big", 4, 2), memory("little", 4)))
+
+    def test_what_is_not_tested(self) -> None:
+        word = Word([memory()])
+        more = ["tie t 3'd0", "tie u 1'b0", "open o", "pass s 1 0"]
+        self.assertEqual(not_tested(read([*PINS, *more]), word), "port t, o; pins u, s; lanes of wen")
+        self.assertEqual(not_tested(read([*PINS, *PORT, "masks"]), word), "")
+        self.assertEqual(not_tested(read([*PINS, *PORT]), word), "lanes of wen, v")
+
+
+class Texts(unittest.TestCase):
+    def test_lanes_are_numbered_for_each_port(self) -> None:
+        self.assertEqual(collar_lanes.counted(read([*PINS, *PORT, "masks"])), ([0, 0], {False: 2, True: 4}))
+
+    def test_names_that_cannot_collide(self) -> None:
+        names = Names({"s_en", "s_en_"})
+        self.assertEqual([names.of("s_en"), names.of("s_we"), names.of("s_en")], ["s_en__", "s_we", "s_en__"])
+
+    def test_ports_and_modules_that_would_collide(self) -> None:
+        for line, more in (("macro m_bist", PINS[1:]), ("macro M_COLLAR", PINS[1:]), ("out fail 1", PINS)):
+            with self.assertRaises(ToolError, msg=line):
+                collar(read([line, *more]), Word([memory()]), "bist")
+
+    def test_another_way_of_the_self_test(self) -> None:
+        text = collar(read(PINS), Word([memory()]), "open")
+        self.assertIn("input wire [1:0] bist_addr", text)
+        self.assertNotIn("m_bist", text)
+
+
+class Files(unittest.TestCase):
+    def write(self, folder: pathlib.Path) -> None:
+        with contextlib.redirect_stdout(io.StringIO()):
+            write_own(folder, {"a.v": "// made by vidlakost\n", "b.v": "// made by vidlakost\n"}, [])
+
+    def test_what_others_wrote_stays(self) -> None:
+        with tempfile.TemporaryDirectory() as name:
+            folder = pathlib.Path(name)
+            self.write(folder)
+            self.write(folder)
+            (folder / "a.v").unlink()
+            (folder / "b.v").write_text("mine\n")
+            with self.assertRaises(ToolError):
+                self.write(folder)
+            self.assertFalse((folder / "a.v").exists())
+            self.assertEqual((folder / "b.v").read_text(), "mine\n")
+
+    def test_a_link_stays(self) -> None:
+        with tempfile.TemporaryDirectory() as name:
+            folder = pathlib.Path(name)
+            (folder / "a.v").symlink_to("elsewhere")
+            with self.assertRaises(ToolError):
+                self.write(folder)
+            self.assertFalse((folder / "elsewhere").exists())
+
+
+if __name__ == "__main__":
+    unittest.main()
