@@ -32,7 +32,6 @@ const MODULE: &str = "module buf0_bist(
   reg run;
   reg last_oper;
   reg last_visit;
-  reg value;
   reg reads1;
   reg over1;
   reg want;
@@ -41,11 +40,9 @@ const MODULE: &str = "module buf0_bist(
   wire [1:0] ones;
   wire [1:0] ends;
   wire write;
+  wire value;
   wire down;
   wire pause;
-  wire one_more;
-  wire one_again;
-  wire one_next;
   wire ends_more;
   wire ends_again;
   wire ends_next;
@@ -57,14 +54,12 @@ const MODULE: &str = "module buf0_bist(
   wire pattern;
   wire word;
   assign writes = (element[2] ? (element[0] ? 2'h0 : 2'h2) : (element[1] ? (element[0] ? 2'h2 : 2'h2) : (element[0] ? 2'h2 : 2'h3)));
-  assign ones = (element[2] ? (element[0] ? 2'h0 : 2'h0) : (element[1] ? (element[0] ? 2'h3 : 2'h0) : (element[0] ? 2'h3 : 2'h0)));
+  assign ones = (element[2] ? (element[0] ? 2'h0 : 2'h1) : (element[1] ? (element[0] ? 2'h2 : 2'h1) : (element[0] ? 2'h2 : 2'h0)));
   assign ends = (element[2] ? (element[0] ? 2'h3 : 2'h3) : (element[1] ? (element[0] ? 2'h3 : 2'h3) : (element[0] ? 2'h3 : 2'h3)));
   assign write = (oper ? writes[1] : writes[0]);
+  assign value = (oper ? ones[1] : ones[0]);
   assign down = (element[2] ? (element[0] ? 1'h0 : 1'h1) : (element[1] ? (element[0] ? 1'h1 : 1'h0) : (element[0] ? 1'h0 : 1'h0)));
   assign pause = (element[2] ? (element[0] ? 1'h0 : 1'h0) : (element[1] ? (element[0] ? 1'h0 : 1'h0) : (element[0] ? 1'h0 : 1'h0)));
-  assign one_more = (oper ? ones[1] : ones[0]);
-  assign one_again = (element[2] ? (element[0] ? 1'h0 : 1'h1) : (element[1] ? (element[0] ? 1'h0 : 1'h1) : (element[0] ? 1'h0 : 1'h0)));
-  assign one_next = (element[2] ? (element[0] ? 1'h0 : 1'h0) : (element[1] ? (element[0] ? 1'h1 : 1'h0) : (element[0] ? 1'h1 : 1'h0)));
   assign ends_more = (oper ? ends[1] : ends[0]);
   assign ends_again = (element[2] ? (element[0] ? 1'h1 : 1'h0) : (element[1] ? (element[0] ? 1'h0 : 1'h0) : (element[0] ? 1'h0 : 1'h1)));
   assign ends_next = (element[2] ? (element[0] ? 1'h1 : 1'h1) : (element[1] ? (element[0] ? 1'h0 : 1'h0) : (element[0] ? 1'h0 : 1'h0)));
@@ -89,7 +84,6 @@ const MODULE: &str = "module buf0_bist(
     run <= (reset ? 1'h1 : (run ? (last_oper ? (last_visit ? (last_element ? (last_back ? 1'h0 : run) : run) : run) : run) : run));
     last_oper <= (reset ? 1'h1 : (run ? (last_oper ? (last_visit ? ends_next : ends_again) : ends_more) : last_oper));
     last_visit <= (reset ? 1'h0 : (run ? (last_oper ? (last_visit ? (pause_next ? 1'h1 : 1'h0) : (visit == (pause ? 4'h0 : 4'he))) : last_visit) : last_visit));
-    value <= (reset ? 1'h0 : (run ? (last_oper ? (last_visit ? one_next : one_again) : one_more) : value));
     reads1 <= (reset ? 1'h0 : (write ? 1'h0 : live));
     over1 <= (reset ? 1'h0 : (!run));
     want <= word;
