@@ -233,7 +233,6 @@ says which refusal comes first.
             "backgrounds/*",
             "memory_desc/Descriptions",
             "bist_text/*",
-            "keyed_lines/*",
             "march_core/*",
             "march_syntax/*",
             "memory_desc/*",

@@ -8,7 +8,9 @@ ghost use Rattle.chip_desc.specs.inner.Heard.{argument_of, heard, keys_of, plain
 
 use crate::content::{Content, Key, UnitLine};
 use bist_text::Keyword;
-use bist_text::keyed_lines::{Class, LineFault, Read, blanks, end, fault_at, gap, key, number, word};
+use bist_text::keyed_lines::{
+    Class, LineFault, Read, blanks, end, fault_at, gap, key, number, word,
+};
 
 /// The first words.
 static KEYS: [Keyword<Key>; 4] = [

@@ -8,8 +8,8 @@ ghost use Rattle.chip_desc.specs.inner.Heard.{checked, line_refusal, lines_refus
 use crate::content::Content;
 use crate::fault::ChipFault;
 use crate::line_reader::read_line;
-use bist_text::{Line, Lines};
 use bist_text::keyed_lines::LineFault;
+use bist_text::{Line, Lines};
 
 /// A line's refusal. Where a line feed ends the line, it is the byte that can't stand there.
 fn refused(line: &Line<'_>, fault: LineFault) -> ChipFault
