@@ -3,12 +3,14 @@ from __future__ import annotations
 
 import os
 import pathlib
+import re
 
 from vidlakost_tools.text import shown
 from vidlakost_tools.tool import ToolError, refuse_inputs, write_whole
 
-# what stands in the first line of a file that may be written anew
+# what stands in the first line of a file that may be written anew, and how one begins that the program wrote
 OWN = b"made by vidlakost"
+OF_PROGRAM = re.compile(rb"module \w+_bist\(\n  input clk,\n  input reset,\n  input (\[\d+:0\] )?rdata,\n  output en,\n")
 
 
 def write_files(folder: pathlib.Path, texts: dict[str, str], inputs: list[str]) -> None:
@@ -23,9 +25,10 @@ def write_files(folder: pathlib.Path, texts: dict[str, str], inputs: list[str]) 
 
 
 def is_own(path: pathlib.Path) -> bool:
-    """Whether a file was written by a tool, by its first line."""
+    """Whether a file was written by a tool or by the program, by its first lines."""
     with open(path, "rb") as file:
-        return OWN in file.readline(4096)
+        head = file.read(4096)
+    return OWN in head.split(b"\n")[0] or OF_PROGRAM.match(head) is not None
 
 
 def refuse_strangers(folder: pathlib.Path, names: list[str]) -> None:

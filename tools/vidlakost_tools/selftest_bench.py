@@ -17,6 +17,7 @@ class Bench:
         kept = {key: value for key, value in os.environ.items() if not key.startswith("VIDLAKOST")}
         self.environment = {**kept, "VIDLAKOST_PROGRAM": program}
         for name, text in FILES.items():
+            (folder / name).parent.mkdir(exist_ok=True)
             (folder / name).write_bytes(text.encode("utf-8", "surrogateescape"))
         for name in ("examples", "tools"):
             (folder / name).symlink_to(ROOT / name)

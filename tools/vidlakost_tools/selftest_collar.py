@@ -6,8 +6,11 @@ import os
 import pathlib
 import shutil
 
+from typing import List, Tuple
+
 from vidlakost_tools import random_pins
 from vidlakost_tools.selftest_bench import Bench
+from vidlakost_tools.selftest_cases import FILES
 
 MARCH = "{any(w0);up(r0,w1);up(r1,w0);down(r0,w1);down(r1,w0);any(r0)}\n"
 # how many lists are tried, and every how many in Verilator: in short, and with --long
@@ -19,6 +22,72 @@ MODELS = [
     ("sb_spram256ka", "ice40/cells_sim.v", False),
     ("cc_bram_20k", "gatemate/cells_sim.v", False),
     ("cc_bram_40k", "gatemate/cells_sim.v", False),
+]
+
+PLAIN = "macro {}\nclk ck\nen ce\nwe we\naddr a\nwdata d\nrdata q\n"
+HALF = "memory 1\nname {}\nwords 4\nbits 4\n"
+PAIR = "chip 1\nname apart\nbudget {}\n{}unit 3 c.m lo.mem\nunit 3 c.m hi.mem\n"
+FILES.update(
+    {
+        "lo.mem": HALF.format("lo"),
+        "hi.mem": HALF.format("hi"),
+        "LO.mem": HALF.format("LO"),
+        "s.pins": PLAIN.format("ram4x1"),
+        "t.pins": PLAIN.format("ram4x2"),
+        "lo.pins": PLAIN.format("both") + "low lo\nhigh hi\n",
+        "apart.chip": PAIR.format(7, "unit 4 c.m s.mem\n"),
+        "never.chip": PAIR.format(4, ""),
+        "logic.chip": "chip 1\nname logic\nbudget 3\nunit 2 c.m s.mem\n",
+        "case.list": "list 1\nname all\nbudget 9\nunit 2 c.m lo.mem\nunit 2 c.m LO.mem\n",
+        "head.list": "name all\nlist 1\n",
+        "line.list": "list 1\nname all\nbudget 3\nunits 1\n",
+        "many.list": "list 1\nname all\nbudget 3\nunit 1 c.m s.mem instances 1025\n",
+        "more.list": "list 1\nname all\nbudget 3\nunit 1 c.m s.mem instances 1000\nunit 1 c.m t.mem instances 25\n",
+        "none.list1": "list 1\nname all\nbudget 3\nunit 1 c.m s.mem instances 0\n",
+        "heavy.list": "list 1\nname all\nbudget 3\nunit 4 c.m s.mem\n",
+        "path.list": "list 1\nname ../all\nbudget 3\nunit 1 c.m s.mem\n",
+        "two.list1": "list 1\nname all\nbudget 3\nname all\nunit 1 c.m s.mem\n",
+        "clash.pins": PLAIN.format("s_bist"),
+        "hidden.v": '// module ram4x1\n/* module ram4x1 */ module other; initial $display("module ram4x1 "); endmodule\n',
+        "shown.v": "module /* a */ ram4x1(input ck, ce, we, input [1:0] a, input d, output q); endmodule\n",
+        "mine/s_collar.v": "module mine; endmodule\n",
+        "mine/both_system.v": "module mine; endmodule\n",
+    }
+)
+TOP = ["tools/top", "two.chip", "s.pins", "t.pins"]
+COLLAR = ["tools/collar", "s.mem", "--macro", "s.pins"]
+# a tool that a call needs, its words, its status, a part of its output, and the beginning of standard error
+CALLS: List[Tuple[str, List[str], int, str, str]] = [
+    ("", [*TOP, "whole"], 0, "whole/both_system.v\n", ""),
+    ("", [*TOP, "whole", "--plan"], 0, "  1  t     0     1      1     41   123\n", ""),
+    ("", [*TOP, "mine"], 2, "", "top: mine/both_system.v is there and was not written by vidlakost"),
+    ("", [*TOP, "whole", "t.pins"], 2, "", "top: whole: Is a directory"),
+    ("", ["tools/top", "two.chip", "none"], 2, "", "top: no file of pins is of s, t"),
+    ("", ["tools/top", "two.chip", "s.pins", "s.pins", "none"], 2, "", "top: s.pins: s.pins tells the pins of s too"),
+    ("", ["tools/top", "two.chip", "lo.pins", "none"], 2, "", "top: lo.pins: this file is of lo, and the memories are s, t"),
+    ("", ["tools/top", "two.chip", "c.m", "none"], 2, "", "top: c.m: a file of pins is named as its memory"),
+    ("", [*TOP, "whole", "--model", "shown.v"], 0, "whole/files.f", ""),
+    ("", ["tools/top", "two.chip", "clash.pins", "none"], 2, "", "top: clash.pins: this file is of clash"),
+    ("", ["tools/top", "apart.chip", "lo.pins", "s.pins", "none"], 2, "", "top: apart.chip: lo and hi are parts of one word, and"),
+    ("", ["tools/top", "never.chip", "lo.pins", "none"], 2, "", "top: never.chip: lo and hi are parts of one word, and stand in two"),
+    ("", ["tools/top", "logic.chip", "s.pins", "none"], 2, "", "top: logic.chip: 'logic' is a word of SystemVerilog"),
+    ("", ["tools/top", "case.list", "lo.pins", "none"], 2, "", "top: case.list: two memories have the name lo, but"),
+    ("", ["tools/top", "head.list", "s.pins", "none"], 2, "", "top: head.list:1: a list begins with 'list 1'"),
+    ("", ["tools/top", "line.list", "s.pins", "none"], 2, "", "top: line.list:4: there is no line 'units' here"),
+    ("", ["tools/top", "many.list", "s.pins", "none"], 2, "", "top: many.list:4: there are at most 1024 units"),
+    ("", ["tools/top", "more.list", "s.pins", "none"], 2, "", "top: more.list: there are at most 1024 units, and these are 1025"),
+    ("", ["tools/top", "none.list1", "s.pins", "none"], 2, "", "top: none.list1:4: instances is a number from 1 on"),
+    ("", ["tools/top", "heavy.list", "s.pins", "none"], 2, "", "top: heavy.list: s weighs more than the budget"),
+    ("", ["tools/top", "path.list", "s.pins", "none"], 2, "", "top: path.list: the name '../all' is none for a module"),
+    ("", ["tools/top", "two.list1", "s.pins", "none"], 2, "", "top: two.list1:4: the line name NAME stands once"),
+    ("", [*COLLAR, "mine"], 2, "", "collar: mine/s_collar.v is there and was not written by vidlakost"),
+    ("", [*COLLAR, "vendor", "--model", "hidden.v"], 2, "", "collar: s.pins:1: there is no module ram4x1 in /"),
+    ("", [*COLLAR, "vendor", "--model", "no such.v"], 2, "", "collar: --model: 'no such.v' is no file"),
+    ("", [*COLLAR, "vendor", "--model", "shown.v"], 0, "vendor/files.f", ""),
+    ("", [*COLLAR, "open", "--open"], 0, "open/s_collar.v\nopen/ram4x1.v\n", ""),
+    ("", [*COLLAR, "open", "--open", "--through", "apb"], 2, "", "collar: --open and --through exclude one another"),
+    ("", ["tools/collar", "s.mem", "--macro", "clash.pins", "none"], 2, "", "collar: clash.pins:1: 's_bist' is a module that stands"),
+    ("", ["tools/collar", "lo.mem", "hi.mem", "--macro", "s.pins", "none"], 2, "", "collar: s.pins: two memories make one word"),
 ]
 
 
@@ -102,4 +171,29 @@ def models(bench: Bench) -> None:
         bench.is_so(not done.returncode and "a shorted lane is found" in done.stdout, f"{name}: {done.stdout}{done.stderr}")
 
 
-PARTS = (lists, models)
+SIX = [f"examples/six/{name}.pins" for name in ("bytes", "dual", "late", "wide", "rest", "gray")]
+PLANTED = ["a wrong bit at wide_low is found", "a shorted lane at bytes is found", "a dead port at dual is found"]
+
+
+def systems(bench: Bench) -> None:
+    """A chip of six memories and a list of forty, sound and with a fault at each."""
+    calls = [("six", ["examples/six/six.chip", *SIX], PLANTED)]
+    calls += [("soc", ["examples/six/soc.list", *SIX[3::2]], ["a wrong bit at gray_39 is found"])]
+    simulators = {"iverilog": "iverilog -g2012 -Wall -Wno-timescale -o tb -c files.f && vvp -n tb"}
+    if bench.is_long:
+        build = "verilator --binary --top-module {name}_system_tb --Mdir built -f files.f >log && ! grep '^%' log"
+        simulators["verilator"] = build + " && built/V{name}_system_tb"
+    for name, words, told in calls:
+        done = bench.run(["tools/top", *words, name])
+        bench.is_so(not done.returncode, f"top: {done.stderr}")
+        for simulator, call in simulators.items():
+            if not shutil.which(simulator):
+                continue
+            done = bench.run(["bash", "-c", f"cd {name} && " + call.format(name=name)])
+            bench.is_so(f"{name}: passes" in done.stdout and not done.stderr, f"{name}: {done.stdout}{done.stderr}")
+            if name == "six" or bench.is_long:
+                done = bench.run(["bash", "-c", f"cd {name} && " + call.format(name=name) + " +planted"])
+                bench.is_so(not done.returncode and all(map(done.stdout.__contains__, told)), f"{name}: {done.stdout}{done.stderr}")
+
+
+PARTS = (lists, models, systems)

@@ -1,0 +1,341 @@
+"""The module that joins the chips that `chip` writes with the collars of their memories: one start, one bit of `fail` for each
+memory, one `done`; and its testbench."""
+from __future__ import annotations
+
+import collections
+import dataclasses
+
+from vidlakost_tools import collar_lanes
+from vidlakost_tools.access_block import Port
+from vidlakost_tools.collar_text import FOOT, HEAD, MARK, PLANTED, POWER, Names, halves, own_ports
+from vidlakost_tools.macro_pins import RESERVED, Pin
+from vidlakost_tools.soc import Part, Placed, System
+from vidlakost_tools.tool import ToolError
+from vidlakost_tools.verilog import ranged
+
+ABOUT = """{mark} top: the {count} memories of {name}, in collars, with the tests that `vidlakost chip` wrote.
+// The test runs once while test is 1; it begins when test rises, after 0 for a few cycles. fail has a bit for each memory:
+{bits}
+"""
+
+
+@dataclasses.dataclass
+class Step:
+    """A step of the test: a chip, the lanes of a collar, or a pause of a cycle; and whether it is of the second session."""
+
+    kind: str
+    number: int
+    is_second: bool
+
+
+def steps_of(system: System) -> list[Step]:
+    """The steps, one behind the other: all chips, the lanes of each collar, and both once more where a second port is told."""
+    found: list[Step] = []
+    for second in (False, True):
+        placed = [number for number, one in enumerate(system.collars) if one.macro.has_second or not second]
+        chips = sorted({part.chip for number in placed for part in system.collars[number].parts})
+        found += [Step("pause", 0, second)] if second and chips else []
+        found += [Step("chip", chip, second) for chip in chips]
+        masks = [number for number in placed if system.collars[number].macro.masks]
+        found += [Step("lanes", one, second) for one in masks if second in collar_lanes.counted(system.collars[one].macro)[1]]
+    return found
+
+
+def port_name(placed: Placed, name: str) -> str:
+    return f"{placed.name}_{name}"
+
+
+def chip_ports(system: System) -> list[tuple[str, int, str]]:
+    """The chip's pins of all collars: direction, width, name."""
+    found = []
+    for placed in system.collars:
+        for way, pin in placed.macro.chip_pins():
+            names = [(name, 1) for name in pin.bits] or [(pin.name, pin.width)]
+            found += [(way, width, port_name(placed, name)) for name, width in names]
+    return found
+
+
+def own_names(system: System) -> list[Port]:
+    scan = [Port("input", "scan_mode")] if any(placed.macro.bypass for placed in system.collars) else []
+    return [Port("input", "clk"), Port("input", "test"), *scan, Port("output", "done"), Port("output", "fail", len(system.parts))]
+
+
+def refuse_names(system: System) -> None:
+    """No two ports have one name."""
+    names = [name for _, _, name in chip_ports(system)]
+    seen = {port.name for port in own_names(system)} | {"planted"}
+    for name in names:
+        if name in seen or name in RESERVED:
+            raise ToolError(f"two ports of {system.name}_system would be '{name}', or it is reserved: rename a memory")
+        seen.add(name)
+
+
+def refuse_modules(system: System, given: list[str]) -> None:
+    """No two modules have one name; `given` are those of the vendor's files."""
+    macros = {placed.macro.name for placed in system.collars}
+    modules = [system.name_of(number) for number in range(len(system.chips))]
+    modules += [f"{system.name}_system", f"{system.name}_system_tb", *macros]
+    modules += [f"{part.name}_bist" for part in system.parts]
+    modules += [f"{name}_{what}" for name in {placed.word.name for placed in system.collars} for what in ("collar", "lanes")]
+    counts = collections.Counter(name.lower() for name in [*modules, *(set(given) - macros)])
+    twice = next((name for name in modules if counts[name.lower()] > 1), None)
+    if twice:
+        raise ToolError(f"two modules would have the name {twice}, but for small and great letters: rename one")
+
+
+class Text:
+    """The module that is being written."""
+
+    def __init__(self, system: System):
+        refuse_names(system)
+        self.system, self.steps = system, steps_of(system)
+        ports = {port.name for port in own_names(system)} | {name for _, _, name in chip_ports(system)} | {"planted"}
+        self.names = Names(ports)
+        self.bits = max(1, len(self.steps).bit_length())
+        self.lines: list[str] = []
+
+    def wire(self, name: str, width: int) -> str:
+        made = self.names.of(name)
+        self.lines.append(f"  wire {ranged(width)}{made};")
+        return made
+
+    def at(self, number: int) -> str:
+        return f"{self.names.of('step')} == {self.bits}'d{number}"
+
+    def active(self, kind: str, number: int) -> str:
+        """Whether a chip or the lanes of a collar have their turn."""
+        turns = [self.at(at) for at, step in enumerate(self.steps) if (step.kind, step.number) == (kind, number)]
+        return f"test & ({' | '.join(f'({turn})' for turn in turns)})"
+
+    def chips(self) -> None:
+        """The chips, and the nets between them and the collars."""
+        for number in range(len(self.system.chips)):
+            links, parts = [".clk(clk)"], self.system.of_chip(number)
+            self.lines.append(f"  wire {self.names.of(f'chip_{number}_on')} = {self.active('chip', number)};")
+            for part in parts:
+                memory = part.memory
+                for name, width in (("rdata", memory.bits), ("en", 1), ("we", 1), ("addr", memory.width), ("wdata", memory.bits)):
+                    links.append(f".{name}_{part.place}({self.wire(f'n_{part.name}_{name}', width)})")
+            over, bad = self.wire(f"chip_{number}_done", 1), self.wire(f"chip_{number}_fail", len(parts))
+            links += [f".reset(~{self.names.of(f'chip_{number}_on')})", f".done({over})", f".fail({bad})"]
+            instance = self.names.of(f"chip_{number}")
+            self.lines += [f"  {self.system.name_of(number)} {instance}(", "    " + ",\n    ".join(links), "  );"]
+
+    def collars(self) -> None:
+        for number, placed in enumerate(self.system.collars):
+            links = []
+            for port in own_ports(placed.macro, placed.word, "open"):
+                links.append(f".{port.name}({self.own(number, placed, port)})")
+            power: list[str] = []
+            for way, pin in placed.macro.chip_pins():
+                made = power if way == "inout" else links
+                made += [f".{name}({port_name(placed, name)})" for name in pin.names()]
+            head = [f"  {placed.word.name}_collar {self.names.of(placed.name)}("]
+            head += [f"`ifdef {POWER}", *(f"    {link}," for link in power), "`endif"] if power else []
+            head += [f"`ifdef {PLANTED}", f"    .planted(planted[{3 * number + 2}:{3 * number}]),", "`endif"]
+            self.lines += [*head, "    " + ",\n    ".join(links), "  );"]
+
+    def own(self, number: int, placed: Placed, port: Port) -> str:
+        """What a port of a collar that is no pin hangs on."""
+        if port.name in ("clk", "test", "scan_mode"):
+            return port.name
+        if port.name == "second":
+            return self.names.of("second")
+        if port.name == "lanes_go":
+            return self.active("lanes", number)
+        if port.name in ("lanes_over", "lanes_fail", "apart"):
+            return self.names.of(f"{port.name}_{number}")
+        half, name = port.name.split("_", 1)
+        part = placed.parts[[one for one, _ in halves(placed.word)].index(half)]
+        return self.names.of(f"n_{part.name}_{name}")
+
+    def found(self) -> list[str]:
+        """The bit of each memory: its test's, that of the lanes, and that of two parts that do not the same."""
+        bits = []
+        for part in self.system.parts:
+            width = len(self.system.of_chip(part.chip))
+            bit = self.names.of(f"chip_{part.chip}_fail") + (f"[{part.place}]" if width > 1 else "")
+            number = next(number for number, one in enumerate(self.system.collars) if part in one.parts)
+            placed = self.system.collars[number]
+            more = [self.names.of(f"lanes_fail_{number}")] if placed.macro.masks else []
+            more += [self.names.of(f"apart_{number}")] if len(placed.parts) > 1 else []
+            bits.append(" | ".join([bit, *more]))
+        return bits
+
+    def sequence(self) -> None:
+        """One step behind the other, and what was found until now."""
+        step, kept, now, next_on = (self.names.of(name) for name in ("step", "kept", "now", "is_over"))
+        count, last = len(self.system.parts), len(self.steps)
+        overs = {"pause": "1'b1"}
+        self.lines.append(f"  reg {next_on};")
+        self.lines += ["  always @*", f"    case ({step})"]
+        for number, one in enumerate(self.steps):
+            over = overs.get(one.kind) or self.names.of(
+                f"chip_{one.number}_done" if one.kind == "chip" else f"lanes_over_{one.number}"
+            )
+            self.lines.append(f"      {self.bits}'d{number}: {next_on} = {over};")
+        self.lines += [f"      default: {next_on} = 1'b0;", "    endcase"]
+        bits = self.found()
+        self.lines += [f"  wire {ranged(count)}{now};"]
+        self.lines += [f"  assign {now}{f'[{at}]' if count > 1 else ''} = {bit};" for at, bit in enumerate(bits)]
+        self.lines += [
+            f"  reg {ranged(count)}{kept};",
+            "  always @(posedge clk)",
+            "    if (!test) begin",
+            f"      {step} <= {self.bits}'d0;",
+            f"      {kept} <= {count}'d0;",
+            "    end else begin",
+            f"      if ({next_on}) {step} <= {step} + {self.bits}'d1;",
+            f"      {kept} <= {kept} | {now};",
+            "    end",
+            f"  assign done = test & {self.at(last)};",
+            f"  assign fail = test ? {kept} | {now} : {count}'d0;",
+        ]
+
+    def text(self) -> str:
+        system = self.system
+        self.lines.append(f"  reg {ranged(self.bits)}{self.names.of('step')};")
+        if any(step.is_second for step in self.steps):
+            first = next(number for number, step in enumerate(self.steps) if step.is_second)
+            self.lines.append(f"  wire {self.names.of('second')} = test & {self.names.of('step')} >= {self.bits}'d{first};")
+        for number, placed in enumerate(system.collars):
+            for name in (("lanes_over", "lanes_fail") if placed.macro.masks else ()) + (("apart",) if len(placed.parts) > 1 else ()):
+                self.wire(f"{name}_{number}", 1)
+        self.chips()
+        self.collars()
+        self.sequence()
+        ports = chip_ports(system)
+        power = [f"  inout wire {name}," for way, _, name in ports if way == "inout"]
+        told = [f"  {port.direction} wire {ranged(port.width)}{port.name}" for port in own_names(system)]
+        told += [f"  {way} wire {ranged(width)}{name}" for way, width, name in ports if way != "inout"]
+        head = [f"module {system.name}_system("]
+        head += [f"`ifdef {POWER}", *power, "`endif"] if power else []
+        head += [f"`ifdef {PLANTED}", f"  input wire [{3 * len(system.collars) - 1}:0] planted,", "`endif"]
+        body = "\n".join([*head, ",\n".join(told), ");", *self.lines, "endmodule"])
+        bits = "\n".join(f"//   {at} {told_of(part, system)}" for at, part in enumerate(system.parts))
+        about = ABOUT.format(mark=MARK, count=len(system.parts), name=system.name, bits=bits)
+        return f"{about}{HEAD}{body}\n{FOOT}"
+
+
+def told_of(part: Part, system: System) -> str:
+    return f"{part.name}, unit {part.place} of {system.name_of(part.chip)}"
+
+
+# ---- the testbench
+
+BENCH = """{mark} top: a testbench of {name}_system. It ends with a status: of sound memories the test passes, and with
+// +planted one fault after another stands in front of each memory, and has to be found there and nowhere else.
+`define {planted}
+{head}module {name}_system_tb;
+  reg clk = 1'b0;
+  initial forever #5 clk = ~clk;
+  reg test = 1'b0;
+  reg [{planted_top}:0] planted = {planted_width}'d0;
+  wire done;
+  wire {fails}fail;
+  integer waited;
+{declared}
+  {name}_system dut(
+{power}    .clk(clk), .test(test), .done(done), .fail(fail), .planted(planted),
+    {links}
+  );
+
+  task run(input [{planted_top}:0] what, input {fails}where);
+    begin
+      planted = what;
+      repeat (4) @(negedge clk);
+      test = 1'b1;
+      waited = 0;
+      while (done !== 1'b1) begin
+        @(negedge clk);
+        waited = waited + 1;
+        if (waited > {most}) $fatal(1, "{name}: done did not come");
+      end
+      @(negedge clk);
+      if ((fail & ~where) !== {zero} || where != {zero} && ((fail & where) == {zero} || (^fail) === 1'bx))
+        $fatal(1, "{name}: fail is %b, and a fault was planted at %b", fail, where);
+      test = 1'b0;
+    end
+  endtask
+
+  initial begin
+    repeat (4) @(negedge clk);
+    if ($test$plusargs("planted") != 0) begin
+{faults}
+    end else begin
+      run({planted_width}'d0, {zero});
+      $display("{name}: passes");
+    end
+    $finish;
+  end
+endmodule
+{foot}"""
+
+
+def chip_side(placed: Placed, way: str, pin: Pin) -> str:
+    """The chip's side of a pin: in test it is unknown, but for clocks, which stand still."""
+    name, head = port_name(placed, pin.name), ranged(pin.width)
+    if way == "output":
+        return f"  wire {head}c_{name};"
+    if pin.kind in ("clk", "clock2"):
+        return f"  wire c_{name} = 1'b0;"
+    value = pin.value or f"{pin.width}'h0" if pin.kind == "pass" else pin.idle()
+    if pin.kind == "pass" and not pin.value:
+        return f"  wire {head}c_{name} = {value};"
+    return f"  wire {head}c_{name} = test ? {{{pin.width}{{1'bx}}}} : {value};"
+
+
+def faults(system: System) -> list[tuple[int, int, str, Placed]]:
+    """What is planted, in which collar, how it is called, and the memories that tell of it."""
+    found = []
+    for number, placed in enumerate(system.collars):
+        found.append((4, number, "a wrong bit", placed))
+        found += [(2, number, "a shorted lane", placed)] if placed.macro.masks else []
+        found += [(3, number, "a dead port", placed)] if placed.macro.has_second else []
+    return found
+
+
+def most(system: System) -> int:
+    """How many cycles the test may take."""
+    sessions = 2 if any(placed.macro.has_second for placed in system.collars) else 1
+    lanes = sum(pin.width + 1 for placed in system.collars for pin in placed.macro.driven() if pin.has_lanes)
+    return sessions * sum(chip.done + 10 for chip in system.chips) + 24 * lanes + 20 * len(system.collars) + 100
+
+
+def bench(system: System) -> str:
+    """The testbench of the system."""
+    count, width = len(system.parts), 3 * len(system.collars)
+    declared, links, power = [], [], []
+    if any(placed.macro.bypass for placed in system.collars):
+        links.append(".scan_mode(1'b0)")
+    for placed in system.collars:
+        for way, pin in placed.macro.chip_pins():
+            name = port_name(placed, pin.name)
+            if way == "inout":
+                value = f"1'b{pin.value}" if pin.value else ""
+                power.append(f"    .{name}({value}),")
+                continue
+            declared.append(chip_side(placed, way, pin))
+            bits = [(port_name(placed, one), f"c_{name}[{at}]" if pin.width > 1 else f"c_{name}") for at, one in enumerate(pin.bits)]
+            links += [f".{port}({net})" for port, net in bits or [(name, f"c_{name}")]]
+    lines = []
+    for kind, number, what, placed in faults(system):
+        where = sum(1 << system.parts.index(part) for part in placed.parts)
+        lines.append(f"      run({width}'d{kind} << {3 * number}, {count}'h{where:x});")
+        lines.append(f'      $display("{system.name}: {what} at {placed.name} is found");')
+    return BENCH.format(
+        mark=MARK,
+        name=system.name,
+        planted=PLANTED,
+        head=HEAD,
+        foot=FOOT,
+        planted_top=width - 1,
+        planted_width=width,
+        fails=ranged(count),
+        declared="\n".join(declared),
+        power="\n".join([f"`ifdef {POWER}", *power, "`endif", ""]) if power else "",
+        links=",\n    ".join(links),
+        most=most(system),
+        zero=f"{count}'d0",
+        faults="\n".join(lines),
+    )
