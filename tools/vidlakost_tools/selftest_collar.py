@@ -24,6 +24,15 @@ MODELS = [
     ("cc_bram_40k", "gatemate/cells_sim.v", False),
 ]
 
+LIBRARY = """library(few) {
+  type(word) { bit_width : 4; } type(place) { bit_width : 3; }
+  cell(RAM8X4) { memory() { type : ram; address_width : 3; word_width : 4; }
+    pin(CLK) { direction : input; clock : true; } pin(CSB) { direction : input; } pin(WEB) { direction : input; }
+    bus(A) { bus_type : place; direction : input; } pin(sleep) { direction : input; }
+    bus(D) { bus_type : word; direction : input; memory_write() { address : A; clocked_on : CLK; } }
+    bus(Q) { bus_type : word; direction : output; memory_read() { address : A; }
+      timing() { related_pin : CLK; timing_type : falling_edge; } } } }
+"""
 PLAIN = "macro {}\nclk ck\nen ce\nwe we\naddr a\nwdata d\nrdata q\n"
 HALF = "memory 1\nname {}\nwords 4\nbits 4\n"
 PAIR = "chip 1\nname apart\nbudget {}\n{}unit 3 c.m lo.mem\nunit 3 c.m hi.mem\n"
@@ -52,6 +61,10 @@ FILES.update(
         "shown.v": "module /* a */ ram4x1(input ck, ce, we, input [1:0] a, input d, output q); endmodule\n",
         "mine/s_collar.v": "module mine; endmodule\n",
         "mine/both_system.v": "module mine; endmodule\n",
+        "few.lib": LIBRARY,
+        "evil.lib": LIBRARY.replace("pin(sleep)", 'pin("x\nmacro evil")'),
+        "cut.lib": LIBRARY[:200],
+        "header.v": "// module ram8x4\nmodule ram8x4(input clk, csb, web, input [2:0] addr, input [3:0] din, output [3:0] dout); endmodule\n",
     }
 )
 TOP = ["tools/top", "two.chip", "s.pins", "t.pins"]
@@ -87,6 +100,16 @@ CALLS: List[Tuple[str, List[str], int, str, str]] = [
     ("", [*COLLAR, "open", "--open"], 0, "open/s_collar.v\nopen/ram4x1.v\n", ""),
     ("", [*COLLAR, "open", "--open", "--through", "apb"], 2, "", "collar: --open and --through exclude one another"),
     ("", ["tools/collar", "s.mem", "--macro", "clash.pins", "none"], 2, "", "collar: clash.pins:1: 's_bist' is a module that stands"),
+    ("", ["tools/liberty", "few.lib", "RAM8X4", "cells"], 0, "cells/ram8x4.pins\n", "liberty: Q changes at the falling edge"),
+    ("", ["tools/liberty", "evil.lib", "RAM8X4", "cells", "--name", "evil"], 0, "cells/evil.pins", "liberty: Q changes"),
+    ("", ["tools/liberty", "cut.lib", "RAM8X4", "cells"], 2, "", "liberty: cut.lib:4: the text stops early"),
+    ("", ["tools/liberty", "few.lib", "RAM", "cells"], 2, "", "liberty: few.lib: there is no cell 'RAM'"),
+    ("", ["tools/liberty", "few.lib", "../RAM8X4", "cells"], 2, "", "liberty: '../ram8x4' is no name for a memory"),
+    ("", ["tools/liberty", "few.lib", "RAM8X4", "mine", "--name", "mine"], 0, "mine/mine.mem", "liberty: Q"),
+    ("", ["tools/liberty", "--verilog", "header.v", "ram8x4", "header"], 0, "header/ram8x4.mem", ""),
+    ("", ["tools/liberty", "--verilog", "hidden.v", "ram4x1", "header"], 2, "", "liberty: hidden.v: there is no module ram4x1"),
+    ("", ["tools/liberty", "--verilog", "latin.mem", "a", "header"], 2, "", "liberty: latin.mem: there is no module a"),
+    ("", ["tools/liberty", "s.mem", "a", "header"], 2, "", "liberty: s.mem:1: 'library' is missing"),
     ("", ["tools/collar", "lo.mem", "hi.mem", "--macro", "s.pins", "none"], 2, "", "collar: s.pins: two memories make one word"),
 ]
 
