@@ -60,6 +60,10 @@ FILES.update(
         "hidden.v": '// module ram4x1\n/* module ram4x1 */ module other; initial $display("module ram4x1 "); endmodule\n',
         "shown.v": "module /* a */ ram4x1(input ck, ce, we, input [1:0] a, input d, output q); endmodule\n",
         "mine/s_collar.v": "module mine; endmodule\n",
+        "mine/p_hold.v": "module mine; endmodule\n",
+        "hold.m": "{any(w0);del;any(r0,w1);del;del;any(r1)}\n",
+        "blind.m": "{any(w0);del;any(w1);any(r1)}\n",
+        "pause.mem": "memory 2\nname p\nwords 5\nbits 3\npause 4\n",
         "mine/both_system.v": "module mine; endmodule\n",
         "few.lib": LIBRARY,
         "evil.lib": LIBRARY.replace("pin(sleep)", 'pin("x\nmacro evil")'),
@@ -110,6 +114,11 @@ CALLS: List[Tuple[str, List[str], int, str, str]] = [
     ("", ["tools/liberty", "--verilog", "hidden.v", "ram4x1", "header"], 2, "", "liberty: hidden.v: there is no module ram4x1"),
     ("", ["tools/liberty", "--verilog", "latin.mem", "a", "header"], 2, "", "liberty: latin.mem: there is no module a"),
     ("", ["tools/liberty", "s.mem", "a", "header"], 2, "", "liberty: s.mem:1: 'library' is missing"),
+    ("", ["tools/hold", "hold.m", "pause.mem", "holds"], 0, "holds/p_hold.v\nholds/p_hold.md\nholds/p_hold_tb.sv\n", ""),
+    ("", ["tools/hold", "hold.m", "s.mem", "holds"], 0, "holds/s_hold.v", "hold: a pause of 1 cycles: words of reads"),
+    ("", ["tools/hold", "blind.m", "pause.mem", "holds"], 0, "holds/p_hold.v", "hold: no pause is followed by a read"),
+    ("", ["tools/hold", "c.m", "pause.mem", "holds"], 2, "", "hold: c.m: the march has no pause"),
+    ("", ["tools/hold", "hold.m", "pause.mem", "mine"], 2, "", "hold: mine/p_hold.v is there and was not written by vidlakost"),
     ("", ["tools/collar", "lo.mem", "hi.mem", "--macro", "s.pins", "none"], 2, "", "collar: s.pins: two memories make one word"),
 ]
 
@@ -219,4 +228,16 @@ def systems(bench: Bench) -> None:
                 bench.is_so(not done.returncode and all(map(done.stdout.__contains__, told)), f"{name}: {done.stdout}{done.stderr}")
 
 
-PARTS = (lists, models, systems)
+def holds(bench: Bench) -> None:
+    """The clock stands in each pause, and what is lost meanwhile is found."""
+    if not shutil.which("iverilog"):
+        return
+    bench.run(["tools/hold", "hold.m", "pause.mem", "held"])
+    bench.run(["./vidlakost", "compile", "hold.m", "pause.mem", "empty.list", "held/p_bist.v", "report"])
+    build = "cd held && iverilog -g2012 -Wall -Wno-timescale -o tb p_hold_tb.sv p_hold.v p_bist.v && vvp -n tb && vvp -n tb +planted"
+    done = bench.run(["bash", "-c", build])
+    told = "p: passes, and was held 9 times\np: what is lost in a hold is found\n"
+    bench.is_so(done.stdout == told and not done.stderr, f"hold: {done.stdout}{done.stderr}")
+
+
+PARTS = (lists, models, systems, holds)
