@@ -10,7 +10,9 @@ import unittest
 from vidlakost_tools import collar_lanes, macro_pins
 from vidlakost_tools.collar_text import Names, collar
 from vidlakost_tools.files import write_own
+from vidlakost_tools.hold_text import holds_of
 from vidlakost_tools.macro_pins import Macro, Word, not_tested, read_macro
+from vidlakost_tools.march import elements_of
 from vidlakost_tools.memory import Memory
 from vidlakost_tools.tool import ToolError
 
@@ -111,6 +113,13 @@ class Texts(unittest.TestCase):
         text = collar(read(PINS), Word([memory()]), "open")
         self.assertIn("input wire [1:0] bist_addr", text)
         self.assertNotIn("m_bist", text)
+
+
+class Holds(unittest.TestCase):
+    def test_where_pauses_are(self) -> None:
+        held = Memory("m", words=4, bits=4, latency=1, polarity=0, pause=3, rows=None, backgrounds=[0, 5])
+        found = [(hold.background, hold.element, hold.first, hold.last) for hold in holds_of(elements_of("any(w0);del;any(r0)"), held)]
+        self.assertEqual(found, [(0, 1, 5, 7), (1, 1, 16, 18)])
 
 
 class Files(unittest.TestCase):

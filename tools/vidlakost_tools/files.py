@@ -21,7 +21,7 @@ def write_files(folder: pathlib.Path, texts: dict[str, str], inputs: list[str]) 
     folder.mkdir(parents=True, exist_ok=True)
     for name, text in texts.items():
         write_whole(folder / name, text)
-    print("\n".join(str(folder / name) for name in texts))
+    print("\n".join(str(folder / name) for name in texts), flush=True)
 
 
 def is_own(path: pathlib.Path) -> bool:

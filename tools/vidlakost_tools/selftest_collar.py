@@ -24,6 +24,15 @@ MODELS = [
     ("cc_bram_40k", "gatemate/cells_sim.v", False),
 ]
 
+LIBRARY = """library(few) {
+  type(word) { bit_width : 4; } type(place) { bit_width : 3; }
+  cell(RAM8X4) { memory() { type : ram; address_width : 3; word_width : 4; }
+    pin(CLK) { direction : input; clock : true; } pin(CSB) { direction : input; } pin(WEB) { direction : input; }
+    bus(A) { bus_type : place; direction : input; } pin(sleep) { direction : input; }
+    bus(D) { bus_type : word; direction : input; memory_write() { address : A; clocked_on : CLK; } }
+    bus(Q) { bus_type : word; direction : output; memory_read() { address : A; }
+      timing() { related_pin : CLK; timing_type : falling_edge; } } } }
+"""
 PLAIN = "macro {}\nclk ck\nen ce\nwe we\naddr a\nwdata d\nrdata q\n"
 HALF = "memory 1\nname {}\nwords 4\nbits 4\n"
 PAIR = "chip 1\nname apart\nbudget {}\n{}unit 3 c.m lo.mem\nunit 3 c.m hi.mem\n"
@@ -51,7 +60,15 @@ FILES.update(
         "hidden.v": '// module ram4x1\n/* module ram4x1 */ module other; initial $display("module ram4x1 "); endmodule\n',
         "shown.v": "module /* a */ ram4x1(input ck, ce, we, input [1:0] a, input d, output q); endmodule\n",
         "mine/s_collar.v": "module mine; endmodule\n",
+        "mine/p_hold.v": "module mine; endmodule\n",
+        "hold.m": "{any(w0);del;any(r0,w1);del;del;any(r1)}\n",
+        "blind.m": "{any(w0);del;any(w1);any(r1)}\n",
+        "pause.mem": "memory 2\nname p\nwords 5\nbits 3\npause 4\n",
         "mine/both_system.v": "module mine; endmodule\n",
+        "few.lib": LIBRARY,
+        "evil.lib": LIBRARY.replace("pin(sleep)", 'pin("x\nmacro evil")'),
+        "cut.lib": LIBRARY[:200],
+        "header.v": "// module ram8x4\nmodule ram8x4(input clk, csb, web, input [2:0] addr, input [3:0] din, output [3:0] dout); endmodule\n",
     }
 )
 TOP = ["tools/top", "two.chip", "s.pins", "t.pins"]
@@ -87,6 +104,21 @@ CALLS: List[Tuple[str, List[str], int, str, str]] = [
     ("", [*COLLAR, "open", "--open"], 0, "open/s_collar.v\nopen/ram4x1.v\n", ""),
     ("", [*COLLAR, "open", "--open", "--through", "apb"], 2, "", "collar: --open and --through exclude one another"),
     ("", ["tools/collar", "s.mem", "--macro", "clash.pins", "none"], 2, "", "collar: clash.pins:1: 's_bist' is a module that stands"),
+    ("", ["tools/liberty", "few.lib", "RAM8X4", "cells"], 0, "cells/ram8x4.pins\n", "liberty: Q changes at the falling edge"),
+    ("", ["tools/liberty", "evil.lib", "RAM8X4", "cells", "--name", "evil"], 0, "cells/evil.pins", "liberty: Q changes"),
+    ("", ["tools/liberty", "cut.lib", "RAM8X4", "cells"], 2, "", "liberty: cut.lib:4: the text stops early"),
+    ("", ["tools/liberty", "few.lib", "RAM", "cells"], 2, "", "liberty: few.lib: there is no cell 'RAM'"),
+    ("", ["tools/liberty", "few.lib", "../RAM8X4", "cells"], 2, "", "liberty: '../ram8x4' is no name for a memory"),
+    ("", ["tools/liberty", "few.lib", "RAM8X4", "mine", "--name", "mine"], 0, "mine/mine.mem", "liberty: Q"),
+    ("", ["tools/liberty", "--verilog", "header.v", "ram8x4", "header"], 0, "header/ram8x4.mem", ""),
+    ("", ["tools/liberty", "--verilog", "hidden.v", "ram4x1", "header"], 2, "", "liberty: hidden.v: there is no module ram4x1"),
+    ("", ["tools/liberty", "--verilog", "latin.mem", "a", "header"], 2, "", "liberty: latin.mem: there is no module a"),
+    ("", ["tools/liberty", "s.mem", "a", "header"], 2, "", "liberty: s.mem:1: 'library' is missing"),
+    ("", ["tools/hold", "hold.m", "pause.mem", "holds"], 0, "holds/p_hold.v\nholds/p_hold.md\nholds/p_hold_tb.sv\n", ""),
+    ("", ["tools/hold", "hold.m", "s.mem", "holds"], 0, "holds/s_hold.v", "hold: a pause of 1 cycles: words of reads"),
+    ("", ["tools/hold", "blind.m", "pause.mem", "holds"], 0, "holds/p_hold.v", "hold: no pause is followed by a read"),
+    ("", ["tools/hold", "c.m", "pause.mem", "holds"], 2, "", "hold: c.m: the march has no pause"),
+    ("", ["tools/hold", "hold.m", "pause.mem", "mine"], 2, "", "hold: mine/p_hold.v is there and was not written by vidlakost"),
     ("", ["tools/collar", "lo.mem", "hi.mem", "--macro", "s.pins", "none"], 2, "", "collar: s.pins: two memories make one word"),
 ]
 
@@ -196,4 +228,16 @@ def systems(bench: Bench) -> None:
                 bench.is_so(not done.returncode and all(map(done.stdout.__contains__, told)), f"{name}: {done.stdout}{done.stderr}")
 
 
-PARTS = (lists, models, systems)
+def holds(bench: Bench) -> None:
+    """The clock stands in each pause, and what is lost meanwhile is found."""
+    if not shutil.which("iverilog"):
+        return
+    bench.run(["tools/hold", "hold.m", "pause.mem", "held"])
+    bench.run(["./vidlakost", "compile", "hold.m", "pause.mem", "empty.list", "held/p_bist.v", "report"])
+    build = "cd held && iverilog -g2012 -Wall -Wno-timescale -o tb p_hold_tb.sv p_hold.v p_bist.v && vvp -n tb && vvp -n tb +planted"
+    done = bench.run(["bash", "-c", build])
+    told = "p: passes, and was held 9 times\np: what is lost in a hold is found\n"
+    bench.is_so(done.stdout == told and not done.stderr, f"hold: {done.stdout}{done.stderr}")
+
+
+PARTS = (lists, models, systems, holds)

@@ -14,7 +14,7 @@ TASKS = {
     "To begin with": ["judge", "compile", "bench", "explain"],
     "Marches and their escapes": ["explore", "sim", "replay", "trace", "report", "compare"],
     "A module beside its memory": [
-        "vectors", "benchfault", "benchall", "testbench", "locate", "turn", "collar", "summary",
+        "vectors", "benchfault", "benchall", "testbench", "locate", "turn", "liberty", "collar", "hold", "summary",
     ],
     "Modules of others": ["audit", "check", "benchfile", "plain", "formal", "foreign"],
     "Chips": ["chip", "schedule", "top"],

@@ -1,0 +1,103 @@
+"""Memory cells of libraries, port lists of Verilog, and what pins are by their names."""
+from __future__ import annotations
+
+import unittest
+
+from vidlakost_tools import pin_names
+from vidlakost_tools.liberty import Found, memory_cell
+from vidlakost_tools.port_list import Ports, Sum
+from vidlakost_tools.tool import ToolError
+from vidlakost_tools.vendor import modules_in
+
+CELL = """library(l) { /* cell(ram) { } */
+  type (word) { bit_width : 8; bit_from : 7; bit_to : 0; }
+  cell(other) { ff(IQ) { x : "}"; } }
+  cell(ram) {
+    memory() { type : ram; address_width : 4; word_width : 8; }
+    bus(q) { bus_type : word; direction : output; memory_read() { address : a; }
+      pin(q[7:0]) { timing() { related_pin : "ck"; timing_type : falling_edge; cell_rise(t) { values("0.1, \\
+        0.2"); } } } }
+    bus(d) { bus_type : word; direction : input; memory_write() { address : a; clocked_on : ck; } }
+    bus(a) { direction : input; bus_type : address;
+    }
+    type(address) { base_type : array; bit_from : 0; bit_to : 3; }
+    pin(ck) { direction : input; clock : true; }
+    pin(csb) { direction : input; }
+    pin(cen) { direction : input; }
+    pin("odd\nmacro evil") { direction : input; }
+    pg_pin(vss) { pg_type : primary_ground; }
+  } }
+"""
+
+
+class Libraries(unittest.TestCase):
+    def test_a_memory_cell(self) -> None:
+        address, word, pins = memory_cell("l.lib", CELL, "ram")
+        self.assertEqual((address, word), (4, 8))
+        lines, left = pin_names.pins("ram", pins)
+        told = ["macro ram", "rdata q 8  # changes at the falling edge of ck", "wdata d 8", "addr a 4", "clk ck"]
+        self.assertEqual(lines[:6], [*told, "en ~csb  # by its name, active low"])
+        self.assertEqual((lines[6], left), ("power vss 0", 2))
+        self.assertTrue(all(line.startswith("# ") and "\n" not in line for line in lines[7:]))
+
+    def test_what_is_no_library(self) -> None:
+        for text in ("", "library", "library(l){", 'library(l){ x"', "library(l){ a b }", CELL.replace("memory()", "memories()")):
+            with self.assertRaises(ToolError, msg=text):
+                memory_cell("l.lib", text, "ram")
+        with self.assertRaises(ToolError):
+            memory_cell("l.lib", CELL, "none")
+        with self.assertRaises(ToolError):
+            memory_cell("l.lib", CELL.replace("address_width : 4", "address_width : 40"), "ram")
+        with self.assertRaises(ToolError):
+            memory_cell("l.lib", "library(l){" + "type(a){" * 100, "ram")
+
+
+class Lists(unittest.TestCase):
+    def read(self, text: str, module: str = "m") -> list[tuple[str, str, int]]:
+        return [(pin.name, pin.way, pin.width) for pin in Ports("m.v", text, module).ports()]
+
+    def test_the_new_style(self) -> None:
+        text = "module m #(parameter int W = 2*(3+1), localparam H = W/2) (input wire [W-1:0] a, b, (* keep *) output reg q = 1'b0"
+        found = [("a", "input", 8), ("b", "input", 8), ("q", "output", 1), ("r", "output", 4)]
+        self.assertEqual(self.read(text + ", output [H-1:0] r); endmodule"), found)
+
+    def test_the_old_style(self) -> None:
+        text = "module m(a, q\n`ifdef P\n, v\n`endif\n); parameter A = 3, W = A*2; inout v; input [W-1:0] a; output q; function f; input z; f = z;"
+        self.assertEqual(sorted(self.read(text + " endfunction endmodule")), [("a", "input", 6), ("q", "output", 1), ("v", "inout", 1)])
+
+    def test_what_is_not_known(self) -> None:
+        self.assertEqual(self.read("module m(input [W:0] a, input [9999:0] b); endmodule"), [("a", "input", 0), ("b", "input", 0)])
+        for text in ("", "// module m\n", '"module m"', "module m(input a); endmodule module m(input b); endmodule"):
+            with self.assertRaises(ToolError, msg=text):
+                self.read(text)
+
+    def test_sums(self) -> None:
+        found = [Sum(text.split()).value() for text in ("1 + 2 * 3", "( 8 - 1 ) // 2", "4 // 0", "1 +", ") 1", "2 3")]
+        self.assertEqual(found, [7, 3, None, None, None, None])
+
+    def test_modules_outside_of_comments(self) -> None:
+        text = '// module a\n/* module b */ module /* */ c; "module d"; endmodule macromodule e; endmodule `define module f'
+        self.assertEqual(modules_in(text), ["c", "e"])
+
+
+class Usual(unittest.TestCase):
+    def lines(self, *names: str) -> list[str]:
+        pins = [Found(name, "output" if name.lower()[-1] in "qo" else "input", 4 if len(name) == 1 else 1) for name in names]
+        return pin_names.pins("m", pins)[0][1:]
+
+    def test_ports_by_their_names(self) -> None:
+        lines = self.lines("A_ADDR", "A_DI", "A_DO", "B_ADDR", "B_DO", "A_CLK", "B_CLK")
+        told = ["addr A_ADDR", "wdata A_DI", "rdata A_DO", "port addr B_ADDR", "port rdata B_DO", "clk A_CLK", "port clk B_CLK"]
+        self.assertEqual([line.split("  #")[0] for line in lines], told)
+
+    def test_an_address_for_each_way(self) -> None:
+        lines = self.lines("WADDR", "WDATA", "RADDR", "dout", "WCLK", "RCLK")
+        self.assertEqual(lines[0].split("  #")[0], "waddr WADDR")
+        self.assertIn("clock2 RCLK", lines)
+
+    def test_names_that_mean_either(self) -> None:
+        self.assertIn("en ~CEN where it is active low, or en CEN", self.lines("A", "CEN")[1])
+
+
+if __name__ == "__main__":
+    unittest.main()

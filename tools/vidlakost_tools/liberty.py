@@ -1,0 +1,202 @@
+"""Texts of liberty form: groups, attributes, and of a memory cell its pins."""
+from __future__ import annotations
+
+import dataclasses
+import re
+from typing import Iterator
+
+from vidlakost_tools.macro_pins import WIDEST
+from vidlakost_tools.tool import ToolError
+
+# the lookahead keeps a name from taking a comment along
+TOKEN = re.compile(
+    r'\s+|\\\r?\n|/\*.*?\*/|//[^\n]*|"((?:\\.|[^"\\])*)"|((?:(?!/\*|//)[^\s(){}:;,"\\])+|[(){}:;,])', re.DOTALL
+)
+# the groups in which something stands that a description needs; the others are passed over
+READ = {"library", "type", "cell", "bus", "bundle", "pin", "memory", "memory_read", "memory_write", "timing", "pg_pin"}
+DEEPEST = 64
+
+
+@dataclasses.dataclass
+class Group:
+    """A group: its kind, its words in parentheses, its attributes, and the groups in it."""
+
+    kind: str
+    words: list[str]
+    said: dict[str, str] = dataclasses.field(default_factory=dict)
+    groups: list[Group] = dataclasses.field(default_factory=list)
+
+    def of(self, *kinds: str) -> Iterator[Group]:
+        return (group for group in self.groups if group.kind in kinds)
+
+    @property
+    def name(self) -> str:
+        return self.words[0] if self.words else ""
+
+
+class Reader:
+    """Reads groups one by one; of a library those cells alone whose name is wanted."""
+
+    def __init__(self, path: str, text: str, cell: str):
+        self.path, self.cell, self.text = path, cell, text
+        self.tokens: list[str] = []
+        self.places: list[int] = []
+        at = 0
+        while at < len(text):
+            match = TOKEN.match(text, at)
+            if match is None:
+                raise ToolError(f"{path}:{text.count(chr(10), 0, at) + 1}: this can't be read as liberty")
+            if match[1] is not None or match[2] is not None:
+                self.tokens.append(match[2] if match[2] is not None else '"' + match[1])
+                self.places.append(at)
+            at = match.end()
+        self.here = 0
+
+    def fail(self, why: str) -> ToolError:
+        at = self.places[min(self.here, len(self.places) - 1)] if self.places else 0
+        return ToolError(f"{self.path}:{self.text.count(chr(10), 0, at) + 1}: {why}")
+
+    def take(self, wanted: str | None = None) -> str:
+        if self.here >= len(self.tokens) or wanted is not None and self.tokens[self.here] != wanted:
+            raise self.fail(f"'{wanted}' is missing" if wanted else "the text stops early")
+        self.here += 1
+        return self.tokens[self.here - 1]
+
+    def peek(self) -> str:
+        return self.tokens[self.here] if self.here < len(self.tokens) else ""
+
+    def words(self) -> list[str]:
+        self.take("(")
+        found = []
+        while self.peek() != ")":
+            word = self.take()
+            if word not in (",", ":"):
+                found.append(word.lstrip('"'))
+        self.take(")")
+        return found
+
+    def skip_group(self) -> None:
+        """Passes over a group from its opening brace on."""
+        depth = 0
+        while True:
+            word = self.take()
+            depth += {"{": 1, "}": -1}.get(word, 0)
+            if depth == 0:
+                return
+
+    def value(self) -> str:
+        parts = []
+        while self.peek() not in (";", "}", ""):
+            parts.append(self.take().lstrip('"'))
+        return " ".join(parts)
+
+    def body(self, group: Group, depth: int) -> None:
+        """What stands in a group."""
+        if depth > DEEPEST:
+            raise self.fail("groups are nested too deeply")
+        self.take("{")
+        while self.peek() != "}":
+            name = self.take()
+            if name == ";":
+                continue
+            if self.peek() == ":":
+                self.take()
+                group.said[name] = self.value()
+            elif self.peek() == "(":
+                self.statement(group, name, depth)
+            else:
+                raise self.fail(f"'{name[:40]}' is no attribute and no group")
+        self.take("}")
+
+    def statement(self, group: Group, name: str, depth: int) -> None:
+        """A group, or an attribute with words in parentheses."""
+        words = self.words()
+        if self.peek() != "{":
+            group.said[name] = " ".join(words)
+            return
+        inner = Group(name, words)
+        if name not in READ or name == "cell" and inner.name != self.cell:
+            self.skip_group()
+            return
+        self.body(inner, depth + 1)
+        group.groups.append(inner)
+
+    def library(self) -> Group:
+        self.take("library")
+        found = Group("library", self.words())
+        self.body(found, 0)
+        return found
+
+
+@dataclasses.dataclass
+class Found:
+    """A pin as a library or a port list has it: its direction, its width (0: not known), whether it is a clock, which address
+    it goes with where it is a word to write or one that was read, and what else is told of it."""
+
+    name: str
+    way: str
+    width: int = 1
+    is_clock: bool = False
+    writes_at: str = ""
+    reads_at: str = ""
+    clock: str = ""
+    is_falling: bool = False
+    power: str = ""
+    low: int | None = None
+
+
+def width_of(group: Group, types: dict[str, int]) -> int:
+    """The width of a bus, by its type."""
+    return types.get(group.said.get("bus_type", ""), 0)
+
+
+def number(text: str) -> int:
+    return int(text) if re.fullmatch("[0-9]{1,9}", text) else 0
+
+
+def types_in(*groups: Group) -> dict[str, int]:
+    """The widths of the types of buses."""
+    found = {}
+    for group in groups:
+        for one in group.of("type"):
+            ends = number(one.said.get("bit_from", "x")), number(one.said.get("bit_to", "x"))
+            found[one.name] = number(one.said.get("bit_width", "")) or abs(ends[0] - ends[1]) + 1
+    return found
+
+
+def pin_of(group: Group, types: dict[str, int]) -> Found:
+    """A pin or a bus of a cell."""
+    if group.kind == "pg_pin":
+        return Found(group.name, "inout", power="0" if "ground" in group.said.get("pg_type", "") else "1")
+    inner = [group, *group.of("pin")]
+    width = width_of(group, types) if group.kind == "bus" else 1
+    found = Found(group.name, next((one.said["direction"] for one in inner if "direction" in one.said), ""), width)
+    found.is_clock = any(one.said.get("clock") == "true" for one in inner)
+    for one in inner:
+        for write in one.of("memory_write"):
+            found.writes_at, found.clock = write.said.get("address", ""), write.said.get("clocked_on", "")
+        for read in one.of("memory_read"):
+            found.reads_at = read.said.get("address", "")
+        for timing in one.of("timing"):
+            kind, pin = timing.said.get("timing_type", ""), timing.said.get("related_pin", "")
+            if kind.startswith(("setup", "rising_edge", "falling_edge")):
+                found.clock = found.clock or pin
+            found.is_falling |= kind == "falling_edge"
+    return found
+
+
+def memory_cell(path: str, text: str, cell: str) -> tuple[int, int, list[Found]]:
+    """The width of the address of a memory cell, that of its word, and its pins."""
+    library = Reader(path, text, cell).library()
+    cells = list(library.of("cell"))
+    if not cells:
+        raise ToolError(f"{path}: there is no cell '{cell}'")
+    memory = next(iter(cells[0].of("memory")), None)
+    if memory is None:
+        raise ToolError(f"{path}: the cell {cell} has no group memory()")
+    types = types_in(library, cells[0])
+    pins = [pin_of(group, types) for group in cells[0].of("bus", "pin", "pg_pin", "bundle")]
+    address, word = number(memory.said.get("address_width", "")), number(memory.said.get("word_width", ""))
+    if not 1 <= address <= 16 or not 1 <= word <= WIDEST:
+        raise ToolError(f"{path}: the cell {cell} has an address of {address} bits and a word of {word}, which no description has")
+    return address, word, pins
