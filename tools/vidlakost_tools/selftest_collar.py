@@ -63,6 +63,7 @@ FILES.update(
         "mine/s_collar.v": "module mine; endmodule\n",
         "mine/p_hold.v": "module mine; endmodule\n",
         "hold.m": "{any(w0);del;any(r0,w1);del;del;any(r1)}\n",
+        "paired.m": "{any(w0);del;del;any(r0)}\n",
         "blind.m": "{any(w0);del;any(w1);any(r1)}\n",
         "pause.mem": "memory 2\nname p\nwords 5\nbits 3\npause 4\n",
         "mine/both_system.v": "module mine; endmodule\n",
@@ -234,12 +235,13 @@ def holds(bench: Bench) -> None:
     """The clock stands in each pause, and what is lost meanwhile is found."""
     if not shutil.which("iverilog"):
         return
-    bench.run(["tools/hold", "hold.m", "pause.mem", "held"])
-    bench.run(["./vidlakost", "compile", "hold.m", "pause.mem", "empty.list", "held/p_bist.v", "report"])
     build = "cd held && iverilog -g2012 -Wall -Wno-timescale -o tb p_hold_tb.sv p_hold.v p_bist.v && vvp -n tb && vvp -n tb +planted"
-    done = bench.run(["bash", "-c", build])
-    told = "p: passes, and was held 9 times\np: what is lost in a hold is found\n"
-    bench.is_so(done.stdout == told and not done.stderr, f"hold: {done.stdout}{done.stderr}")
+    for march, count in (("hold.m", 9), ("paired.m", 6)):
+        bench.run(["tools/hold", march, "pause.mem", "held"])
+        bench.run(["./vidlakost", "compile", march, "pause.mem", "empty.list", "held/p_bist.v", "report"])
+        done = bench.run(["bash", "-c", build])
+        told = f"p: passes, and was held {count} times\np: what is lost in a hold is found\n"
+        bench.is_so(done.stdout == told and not done.stderr, f"hold of {march}: {done.stdout}{done.stderr}")
 
 
 PARTS = (lists, models, systems, holds)
