@@ -227,6 +227,9 @@ class Bench:
         """The runs with what is planted."""
         kinds = [(1, "a tied address")] + [(2, "a shorted lane")] * bool(self.macro.masks)
         kinds += [(3, "a dead port")] * self.macro.has_second
+        if len(self.word.memories) > 1:
+            low, high = (memory.name for memory in self.word.memories)
+            kinds += [(4, f"a wrong bit of {low}"), (5, f"a wrong bit of {high}"), (6, "a part out of step")]
         lines = []
         for number, what in kinds:
             lines += [f"      run(3'd{number}, 1'b1);", f'      $display("{self.word.name}: {what} is found");']
