@@ -115,7 +115,7 @@ class Texts(unittest.TestCase):
         self.assertEqual([names.of("s_en"), names.of("s_we"), names.of("s_en")], ["s_en__", "s_we", "s_en__"])
 
     def test_ports_and_modules_that_would_collide(self) -> None:
-        for line, more in (("macro m_bist", PINS[1:]), ("macro M_COLLAR", PINS[1:]), ("out fail 1", PINS)):
+        for line, more in (("macro m_bist", PINS[1:]), ("macro M_COLLAR", PINS[1:]), ("out fail 1", PINS), ("out m_collar 1", PINS)):
             with self.assertRaises(ToolError, msg=line):
                 collar(read([line, *more]), Word([memory()]), "bist")
 

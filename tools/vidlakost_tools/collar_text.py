@@ -83,6 +83,8 @@ def refuse_names(macro: Macro, word: Word, own: list[Port]) -> None:
         for name in pin.names():
             if name in taken:
                 raise macro.refuse(pin.line, f"'{name}' is a port of the collar itself, so the chip's pin can't have that name")
+            if name == f"{word.name}_collar":
+                raise macro.refuse(pin.line, f"'{name}' is the collar's own name, so the chip's pin can't have it")
             inputs |= {name} if way == "input" else set()
     for pin in macro.of("tie"):
         if literal(pin.value) is None and pin.value not in inputs:

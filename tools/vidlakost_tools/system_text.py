@@ -63,7 +63,7 @@ def own_names(system: System) -> list[Port]:
 def refuse_names(system: System) -> None:
     """No two ports have one name."""
     names = [name for _, _, name in chip_ports(system)]
-    seen = {port.name for port in own_names(system)} | {"planted"}
+    seen = {port.name for port in own_names(system)} | {"planted", f"{system.name}_system"}
     for name in names:
         if name in seen or name in RESERVED:
             raise ToolError(f"two ports of {system.name}_system would be '{name}', or it is reserved: rename a memory")
