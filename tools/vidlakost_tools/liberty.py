@@ -141,6 +141,8 @@ class Found:
     reads_at: str = ""
     clock: str = ""
     is_falling: bool = False
+    # whether it is taken at the falling edge, as no collar has it
+    is_taken_falling: bool = False
     power: str = ""
     low: int | None = None
 
@@ -175,6 +177,7 @@ def pin_of(group: Group, types: dict[str, int]) -> Found:
     for one in inner:
         for write in one.of("memory_write"):
             found.writes_at, found.clock = write.said.get("address", ""), write.said.get("clocked_on", "")
+            found.is_taken_falling |= found.clock.startswith("!") or found.clock.endswith("'")
         for read in one.of("memory_read"):
             found.reads_at = read.said.get("address", "")
         for timing in one.of("timing"):
@@ -182,6 +185,7 @@ def pin_of(group: Group, types: dict[str, int]) -> Found:
             if kind.startswith(("setup", "rising_edge", "falling_edge")):
                 found.clock = found.clock or pin
             found.is_falling |= kind == "falling_edge"
+            found.is_taken_falling |= kind == "setup_falling"
     return found
 
 

@@ -70,6 +70,7 @@ FILES.update(
         "few.lib": LIBRARY,
         "evil.lib": LIBRARY.replace("pin(sleep)", 'pin("x\nmacro evil")'),
         "cut.lib": LIBRARY[:200],
+        "down.lib": LIBRARY.replace("clocked_on : CLK", 'clocked_on : "!CLK"').replace("falling_edge", "rising_edge"),
         "header.v": "// module ram8x4\nmodule ram8x4(input clk, csb, web, input [2:0] addr, input [3:0] din, output [3:0] dout); endmodule\n",
     }
 )
@@ -109,6 +110,7 @@ CALLS: List[Tuple[str, List[str], int, str, str]] = [
     ("", ["tools/collar", "s.mem", "--macro", "clash.pins", "none"], 2, "", "collar: clash.pins:1: 's_bist' is a module that stands"),
     ("", ["tools/liberty", "few.lib", "RAM8X4", "cells"], 0, "cells/ram8x4.pins\n", "liberty: Q changes at the falling edge"),
     ("", ["tools/liberty", "evil.lib", "RAM8X4", "cells", "--name", "evil"], 0, "cells/evil.pins", "liberty: Q changes"),
+    ("", ["tools/liberty", "down.lib", "RAM8X4", "down"], 0, "down/ram8x4.pins\n", "liberty: D are taken at the falling edge"),
     ("", ["tools/liberty", "cut.lib", "RAM8X4", "cells"], 2, "", "liberty: cut.lib:4: the text stops early"),
     ("", ["tools/liberty", "few.lib", "RAM", "cells"], 2, "", "liberty: few.lib: there is no cell 'RAM'"),
     ("", ["tools/liberty", "few.lib", "../RAM8X4", "cells"], 2, "", "liberty: '../ram8x4' is no name for a memory"),
