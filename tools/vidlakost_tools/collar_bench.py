@@ -2,7 +2,7 @@
 from __future__ import annotations
 
 from vidlakost_tools.collar_lanes import spread
-from vidlakost_tools.collar_text import FOOT, HEAD, MARK, PLANTED, POWER, last_phase
+from vidlakost_tools.collar_text import FOOT, HEAD, MARK, PLANTED, POWER, has_other_lanes, last_phase
 from vidlakost_tools.macro_pins import Macro, Pin, Word
 from vidlakost_tools.verilog import ranged
 
@@ -251,6 +251,7 @@ class Bench:
         """The runs with what is planted."""
         kinds = [(1, "a tied address")] + [(2, "a shorted lane")] * bool(self.macro.masks)
         kinds += [(3, "a dead port")] * self.macro.has_second
+        kinds += [(7, "a shorted lane of the other port")] * has_other_lanes(self.macro)
         if len(self.word.memories) > 1:
             low, high = (memory.name for memory in self.word.memories)
             kinds += [(4, f"a wrong bit of {low}"), (5, f"a wrong bit of {high}"), (6, "a part out of step")]

@@ -10,13 +10,15 @@ from vidlakost_tools.selftest_bench import Bench
 from vidlakost_tools.selftest_collar import MARCH
 
 HEAD = "memory 2\nname {}\nwords 8\nbits {}\nlatency 2\nbackgrounds 0\n"
-MEMORIES = {"two": HEAD.format("two", 8), "lower": HEAD.format("lower", 3), "upper": HEAD.format("upper", 5)}
+OTHER = "port we v 2\nport addr b\nport wdata e\nport rdata p\n"
+MEMORIES = {"both": HEAD.format("both", 4), "two": HEAD.format("two", 8), "lower": HEAD.format("lower", 3), "upper": HEAD.format("upper", 5)}
 PORTS = "clk ck\nen ~ce\nwe ~we\nmask wm 4\naddr a\nwdata d\nrdata q\nmasks\nregisters out 1\n"
 PINS = {
+    "both": f"macro dual\n{PORTS}{OTHER}",
     "two": f"macro twice\n{PORTS}port clk ck2\nport en ~ce2\nport addr a2\nport rdata q2\npass sleep 1 0\nbypass\n",
     "lower": f"macro broad\n{PORTS}low lower\nhigh upper\n".replace("mask wm 4\n", "mask wm 2\n"),
 }
-OF = {"two": ["two"], "lower": ["lower", "upper"]}
+OF = {"both": ["both"], "two": ["two"], "lower": ["lower", "upper"]}
 # what is wrong, in the collar of which memory, a part of it and what stands there in place of it, and whether planting tells
 WRONG = [
     ("the chip's address is swapped at one port", "two", "t_addr : a2", "t_addr : {a2[2], a2[0], a2[1]}", False),
@@ -29,6 +31,7 @@ WRONG = [
     ("the lanes do not count", "two", "run_fail | lanes_fail", "run_fail", True),
     ("the second session is left out", "two", "phase == 3'd3", "phase == 3'd2", True),
     ("what was found is not kept", "two", "kept <= kept | ", "kept <= ", True),
+    ("the lanes of the other port are left out", "both", "phase >= 3'd2", "phase >= 3'd2 & ~phase[0]", True),
     ("the high part reads the low one", "lower", "high_rdata = returned[7:3]", "high_rdata = {2'd0, returned[2:0]}", False),
     ("the high part does not count", "lower", "low_fail | high_fail", "low_fail", True),
     ("parts out of step do not count", "lower", " | apart_kept", "", True),

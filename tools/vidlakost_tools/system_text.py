@@ -7,7 +7,7 @@ import dataclasses
 
 from vidlakost_tools import collar_lanes
 from vidlakost_tools.access_block import Port
-from vidlakost_tools.collar_text import FOOT, HEAD, MARK, PLANTED, POWER, Names, halves, own_ports
+from vidlakost_tools.collar_text import FOOT, HEAD, MARK, PLANTED, POWER, Names, halves, has_other_lanes, own_ports
 from vidlakost_tools.macro_pins import RESERVED, Pin
 from vidlakost_tools.soc import Part, Placed, System
 from vidlakost_tools.tool import ToolError
@@ -293,6 +293,7 @@ def faults(system: System) -> list[tuple[int, int, str, list[Part]]]:
         found += [(6, number, "a part out of step", parts)] if len(parts) > 1 else []
         found += [(2, number, "a shorted lane", parts)] if placed.macro.masks else []
         found += [(3, number, "a dead port", parts)] if placed.macro.has_second else []
+        found += [(7, number, "a shorted lane of the other port", parts)] if has_other_lanes(placed.macro) else []
     return found
 
 
