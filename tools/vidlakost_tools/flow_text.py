@@ -15,11 +15,13 @@ MARK = "# made by vidlakost flow"
 PLAIN = re.compile(r"[A-Za-z0-9_./+@][A-Za-z0-9_./+@-]*")
 
 HEAD = """{mark}: every step of {name}, from {chip}
-# make -j runs it, and its status is that of the whole; SIM is iverilog or verilator, LAUNCHER the command vidlakost.
+# make -j runs it, and its status is that of the whole; SIM is iverilog or verilator, LAUNCHER the command vidlakost, MORE
+# what a simulator is told besides, as a -D that a vendor's model wants.
 ROOT := {root}
 OUT := {out}
 LAUNCHER ?= vidlakost
 SIM ?= $(if $(shell command -v iverilog),iverilog,verilator)
+MORE ?=
 SHELL := /bin/bash
 
 .PHONY: all reports collars top lint synthesis clean
@@ -30,9 +32,9 @@ all: reports collars top lint synthesis
 
 # in a folder with files.f: the testbench, sound and with what it plants
 ifeq ($(SIM),verilator)
-simulate = verilator --binary --top-module $(1) --Mdir built -f files.f >built.log && built/V$(1) && built/V$(1) +planted
+simulate = verilator --binary $(MORE) --top-module $(1) --Mdir built -f files.f >built.log && built/V$(1) && built/V$(1) +planted
 else
-simulate = iverilog -g2012 -o tb -c files.f && vvp -n tb && vvp -n tb +planted
+simulate = iverilog -g2012 $(MORE) -o tb -c files.f && vvp -n tb && vvp -n tb +planted
 endif
 
 reports: {reports} reports.html{testers}
@@ -69,7 +71,7 @@ chip/passed: chip/made
 LINTED := $(shell command -v verilator)
 chip/lint.txt: chip/made
 ifneq ($(LINTED),)
-	@cd chip && verilator --lint-only -Wall -Wno-DECLFILENAME --top-module {name}_system ../lint.vlt {files} >lint.txt 2>&1 || {{ cat lint.txt; exit 1; }}
+	@cd chip && verilator --lint-only -Wall -Wno-DECLFILENAME $(MORE) --top-module {name}_system ../lint.vlt {files} >lint.txt 2>&1 || {{ cat lint.txt; exit 1; }}
 else
 	@echo "{name}: verilator is not installed, so nothing is linted" | tee $@
 endif
@@ -207,5 +209,6 @@ class Flow:
 
     def lint(self) -> str:
         """What Verilator is told of files that somebody else wrote."""
-        lines = [f'lint_off -file "{file}"' for file in self.vendors]
+        # what is no matter of style has to be named
+        lines = [f'lint_off {rule}-file "{file}"' for file in self.vendors for rule in ("", "-rule MULTIDRIVEN ")]
         return "\n".join(["// made by vidlakost flow", "`verilator_config", *lines, ""])

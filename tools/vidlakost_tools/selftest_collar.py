@@ -14,7 +14,7 @@ from vidlakost_tools.selftest_cases import FILES
 
 MARCH = "{any(w0);up(r0,w1);up(r1,w0);down(r0,w1);down(r1,w0);any(r0)}\n"
 # how many lists are tried, and every how many in Verilator: in short, and with --long
-COUNTS = {False: (10, 10), True: (40, 4)}
+COUNTS = {False: (10, 10), True: (40, 1)}
 YOSYS = pathlib.Path("/usr/share/yosys")
 # models that come with Yosys, the file of each, and whether it is tried in the short form too
 MODELS = [
@@ -260,9 +260,24 @@ def flows(bench: Bench) -> None:
         told = [f"six: {what}" for what in (*PLANTED, "passes", "every step is done")]
         is_right = not done.returncode and all(map(done.stdout.__contains__, [*told, "wide_low: a tied address is found"]))
         bench.is_so(is_right, f"flow: {done.stdout}{done.stderr}")
+    if bench.is_long and YOSYS.is_dir():
+        of_yosys(bench, make)
     bench.run(["tools/flow", "weak.chip", "s.pins", "weak"])
     done = bench.run([*make, "weak"])
     bench.is_so(done.returncode == 2 and "every step" not in done.stdout, f"flow: {done.stdout}{done.stderr}")
+
+
+def of_yosys(bench: Bench, make: list[str]) -> None:
+    """A chip of two models that come with Yosys goes through the makefile."""
+    there, short = "examples/macros", "{any(w0);up(r0,w1);any(r1)}\n"
+    units = "".join(f"unit 2 short.m {there}/{name}.mem\n" for name in ("sb_ram40_4k", "cc_bram_20k"))
+    (bench.folder / "fpga.chip").write_text(f"chip 1\nname fpga\nbudget 3\n{units}")
+    (bench.folder / "short.m").write_text(short)
+    models = [word for file in ("ice40", "gatemate") for word in ("--model", str(YOSYS / file / "cells_sim.v"))]
+    bench.run(["tools/flow", "fpga.chip", "fpga", *models])
+    done = bench.run([*make, "fpga", "MORE=-DNO_ICE40_DEFAULT_ASSIGNMENTS", "SIM=iverilog"])
+    is_right = not done.returncode and "fpga: a dead port at cc_bram_20k is found" in done.stdout
+    bench.is_so(is_right, f"flow: {done.stdout}{done.stderr}")
 
 
 def holds(bench: Bench) -> None:
