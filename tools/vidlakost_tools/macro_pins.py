@@ -356,6 +356,9 @@ def is_value(text: str) -> bool:
 def read_macro(path: str, word: Word) -> Macro:
     """The macro of a file, which holds the word."""
     macro = Lines(path).read()
+    odd = next((memory.name for memory in word.memories if "$" in memory.name), None)
+    if odd:
+        raise macro.refuse(0, f"the memory {odd} has a $ in its name, which lists of files and makefiles read otherwise")
     refuse_missing(macro)
     refuse_halves(macro, word)
     give_widths(macro, word)
