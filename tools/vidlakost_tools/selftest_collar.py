@@ -166,7 +166,8 @@ def is_right(bench: Bench, seed: int, with_verilator: bool) -> None:
         bench.run(["./vidlakost", "compile", *(f"{folder}/{word}" for word in words)])
     made = f"cd {folder}/made && "
     if shutil.which("iverilog"):
-        runs(bench, f"{made}iverilog -g2012 -Wall -Wno-timescale -o tb -c files.f", f"{made}vvp -n tb", seed)
+        for more in ("", "-DUSE_POWER_PINS "):
+            runs(bench, f"{made}iverilog -g2012 -Wall -Wno-timescale {more}-o tb -c files.f", f"{made}vvp -n tb", seed)
     if with_verilator:
         build = "verilator --binary --top-module ram_collar_tb --Mdir built -f files.f >log; grep '^%' log; true"
         runs(bench, made + build, f"{made}built/Vram_collar_tb", seed)
