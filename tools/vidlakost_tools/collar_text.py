@@ -31,13 +31,17 @@ class Names:
         self.given: dict[str, str] = {}
 
     def of(self, name: str) -> str:
+        """The name of the net that is called so here."""
         if name not in self.given:
-            found = name
-            while found in self.taken:
-                found += "_"
-            self.taken.add(found)
-            self.given[name] = found
+            self.given[name] = self.fresh(name)
         return self.given[name]
+
+    def fresh(self, name: str) -> str:
+        """A name that nothing has, as this one."""
+        while name in self.taken:
+            name += "_"
+        self.taken.add(name)
+        return name
 
 
 def halves(word: Word) -> list[tuple[str, Memory]]:

@@ -131,7 +131,7 @@ class Text:
             for way, pin in placed.macro.chip_pins():
                 made = power if way == "inout" else links
                 made += [f".{name}({port_name(placed, name)})" for name in pin.names()]
-            head = [f"  {placed.word.name}_collar {self.names.of(placed.name)}("]
+            head = [f"  {placed.word.name}_collar {self.names.fresh(placed.name)}("]
             head += [f"`ifdef {POWER}", *(f"    {link}," for link in power), "`endif"] if power else []
             head += [f"`ifdef {PLANTED}", f"    .planted(planted[{3 * number + 2}:{3 * number}]),", "`endif"]
             self.lines += [*head, "    " + ",\n    ".join(links), "  );"]
