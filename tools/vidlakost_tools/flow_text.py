@@ -71,7 +71,8 @@ chip/passed: chip/made
 LINTED := $(shell command -v verilator)
 chip/lint.txt: chip/made
 ifneq ($(LINTED),)
-	@cd chip && verilator --lint-only -Wall -Wno-DECLFILENAME $(MORE) --top-module {name}_system ../lint.vlt {files} >lint.txt 2>&1 || {{ cat lint.txt; exit 1; }}
+	@cd chip && verilator --lint-only -Wall -Wno-DECLFILENAME $(MORE) --top-module {name}_system ../lint.vlt {files} \\
+	  >lint.txt 2>&1 || {{ cat lint.txt; exit 1; }}
 else
 	@echo "{name}: verilator is not installed, so nothing is linted" | tee $@
 endif
@@ -79,7 +80,8 @@ endif
 MADE := $(shell command -v yosys)
 chip/synthesis.txt: chip/made
 ifneq ($(MADE),)
-	@cd chip && yosys -q -p "read_verilog -lib {macros}; read_verilog {modules}; synth -top {name}_system; check -assert; tee -q -o synthesis.txt stat" >synthesis.log 2>&1 || {{ tail -n 5 synthesis.log; exit 1; }}
+	@cd chip && yosys -q -p "read_verilog -lib {macros}; read_verilog {modules}; synth -top {name}_system; check -assert; \\
+	  tee -q -o synthesis.txt stat" >synthesis.log 2>&1 || {{ tail -n 5 synthesis.log; exit 1; }}
 else
 	@echo "{name}: yosys is not installed, so nothing is synthesized" | tee $@
 endif

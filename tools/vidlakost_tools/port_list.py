@@ -11,7 +11,8 @@ from vidlakost_tools.verilog import COMMENT, LEXEME
 KINDS = {"wire", "reg", "logic", "tri", "var", "signed", "supply0", "supply1", "bit"}
 WAYS = ("input", "output", "inout")
 # what the lexer has no token for: attributes, texts in quotes, directives with their word
-OTHER = re.compile(rf'{COMMENT}|\(\*.*?\*\)|"(?:\\.|[^"\\\n])*"|`(?:ifdef|ifndef|elsif|define|include|timescale)[^\n]*|`\w+', re.DOTALL)
+DIRECTIVE = r"`(?:ifdef|ifndef|elsif|define|include|timescale)[^\n]*|`\w+"
+OTHER = re.compile(rf'{COMMENT}|\(\*.*?\*\)|"(?:\\.|[^"\\\n])*"|{DIRECTIVE}', re.DOTALL)
 
 
 class Ports:
@@ -21,7 +22,8 @@ class Ports:
         self.path, self.module = path, module
         plain = OTHER.sub(" ", text)
         self.words = [match[0] for match in LEXEME.finditer(plain) if match.lastgroup]
-        starts = [at for at, word in enumerate(self.words) if word in ("module", "macromodule") and self.words[at + 1 : at + 2] == [module]]
+        heads = [at for at, word in enumerate(self.words) if word in ("module", "macromodule")]
+        starts = [at for at in heads if self.words[at + 1 : at + 2] == [module]]
         if not starts:
             raise ToolError(f"{path}: there is no module {module}")
         if len(starts) > 1:

@@ -166,7 +166,8 @@ def is_right(bench: Bench, seed: int, with_verilator: bool) -> None:
         bench.run(["./vidlakost", "compile", *(f"{folder}/{word}" for word in words)])
     made = f"cd {folder}/made && "
     if shutil.which("iverilog"):
-        runs(bench, f"{made}iverilog -g2012 -Wall -Wno-timescale -o tb -c files.f", f"{made}vvp -n tb", seed)
+        for more in ("", "-DUSE_POWER_PINS "):
+            runs(bench, f"{made}iverilog -g2012 -Wall -Wno-timescale {more}-o tb -c files.f", f"{made}vvp -n tb", seed)
     if with_verilator:
         build = "verilator --binary --top-module ram_collar_tb --Mdir built -f files.f >log; grep '^%' log; true"
         runs(bench, made + build, f"{made}built/Vram_collar_tb", seed)
@@ -248,6 +249,26 @@ def systems(bench: Bench) -> None:
                 bench.is_so(not done.returncode and all(map(done.stdout.__contains__, told)), f"{name}: {done.stdout}{done.stderr}")
 
 
+# memories whose names a chip's module could use inside
+INNER = ("step", "kept", "now", "second", "chip_0", "lanes", "planted", "test", "clk", "fail", "done")
+
+
+def odd_names(bench: Bench) -> None:
+    """Memories of names that the module of a chip uses itself stand in it all the same."""
+    units = "".join(f"unit 1 weak.m {name}.mem\n" for name in INNER)
+    (bench.folder / "inner.chip").write_text(f"chip 1\nname inner\nbudget 3\n{units}")
+    for name in INNER:
+        (bench.folder / f"{name}.mem").write_text(HALF.format(name))
+        (bench.folder / f"{name}.pins").write_text(PLAIN.format(f"ram_{name}"))
+    done = bench.run(["tools/top", "inner.chip", *(f"{name}.pins" for name in INNER), "inner"])
+    bench.is_so(not done.returncode, f"top: {done.stderr}")
+    if shutil.which("iverilog"):
+        call = "cd inner && iverilog -g2012 -Wall -Wno-timescale -o tb -c files.f && vvp -n tb && vvp -n tb +planted | tail -n 1"
+        done = bench.run(["bash", "-c", call])
+        told = "inner: passes\ninner: a wrong bit at done is found\n"
+        bench.is_so(done.stdout == told and not done.stderr, f"top: {done.stdout}{done.stderr}")
+
+
 def flows(bench: Bench) -> None:
     """The makefile of the six memories ends well, and one whose march finds no tied address doesn't."""
     if not all(map(shutil.which, ("make", "iverilog"))):
@@ -292,4 +313,4 @@ def holds(bench: Bench) -> None:
     bench.is_so(done.stdout == told and not done.stderr, f"hold: {done.stdout}{done.stderr}")
 
 
-PARTS = (lists, models, systems, flows, holds)
+PARTS = (lists, models, systems, odd_names, flows, holds)

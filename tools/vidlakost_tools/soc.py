@@ -1,5 +1,5 @@
-"""The memories of a whole chip: those of a chip file, or of a list above chip files, whose lines may stand for many equal memories;
-the chip files that test them, and the collars that they stand in."""
+"""The memories of a whole chip: those of a chip file, or of a list above chip files, whose lines may stand for many equal
+memories; the chip files that test them, and the collars that they stand in."""
 from __future__ import annotations
 
 import collections
