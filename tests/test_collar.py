@@ -74,6 +74,16 @@ class Lines(unittest.TestCase):
         self.assertIn(":8: the pin 'a' stands twice: line 5 has it", self.refusal([*PINS, "open a"]))
         self.assertIn(":8: 'raddr' stands in place of 'addr'", self.refusal([*PINS, "raddr r", "waddr w"]))
 
+    def test_parameters(self) -> None:
+        self.assertEqual(read([*PINS, "parameter P 1", "parameter Q 1"]).parameters, [("P", "1"), ("Q", "1")])
+        self.assertIn(": the parameter 'P' stands twice", self.refusal([*PINS, "parameter P 1", "parameter P 2"]))
+        self.assertIn(":5: 'a' is a parameter too", self.refusal([*PINS, "parameter a 1"]))
+
+    def test_too_many(self) -> None:
+        for line in ("parameter p{} 1", "mask p{} 1", "pins p{} 0 1023"):
+            more = [line.format(number) for number in range(2000)]
+            self.assertIn("there are at most 1024 pins, buses and parameters", self.refusal([*PINS, *more]), msg=line)
+
     def test_widths(self) -> None:
         self.assertIn(":6: d has 7 bits, and a word 8", self.refusal([*PINS[:5], "wdata d 7", PINS[6]]))
         self.assertIn(":8: a mask does not divide the word: 3 parts of 8 bits", self.refusal([*PINS, "mask m 3"]))
@@ -105,7 +115,7 @@ class Texts(unittest.TestCase):
         self.assertEqual([names.of("s_en"), names.of("s_we"), names.of("s_en")], ["s_en__", "s_we", "s_en__"])
 
     def test_ports_and_modules_that_would_collide(self) -> None:
-        for line, more in (("macro m_bist", PINS[1:]), ("macro M_COLLAR", PINS[1:]), ("out fail 1", PINS)):
+        for line, more in (("macro m_bist", PINS[1:]), ("macro M_COLLAR", PINS[1:]), ("out fail 1", PINS), ("out m_collar 1", PINS)):
             with self.assertRaises(ToolError, msg=line):
                 collar(read([line, *more]), Word([memory()]), "bist")
 

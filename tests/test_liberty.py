@@ -71,6 +71,19 @@ class Lists(unittest.TestCase):
             with self.assertRaises(ToolError, msg=text):
                 self.read(text)
 
+    def test_what_a_process_waits_for_is_no_attribute(self) -> None:
+        text = "module one(input a, output reg b); always @(*) b = a; endmodule\n"
+        self.assertEqual(self.read(text + text.replace("one", "m")), [("a", "input", 1), ("b", "output", 1)])
+
+    def test_what_does_not_end_is_read_once(self) -> None:
+        for more in ("(* x ", "/* x "):
+            self.assertEqual(self.read("module m(input a); endmodule " + more * 100000), [("a", "input", 1)])
+            self.assertEqual(modules_in("module m; endmodule " + "/* x " * 100000), ["m"])
+
+    def test_many_ports_and_a_long_body(self) -> None:
+        text = f"module m({', '.join(f'p{one}' for one in range(5000))}); {'wire w; ' * 20000} endmodule"
+        self.assertEqual(self.read(text), [])
+
     def test_sums(self) -> None:
         found = [Sum(text.split()).value() for text in ("1 + 2 * 3", "( 8 - 1 ) // 2", "4 // 0", "1 +", ") 1", "2 3")]
         self.assertEqual(found, [7, 3, None, None, None, None])

@@ -18,7 +18,8 @@ PLANTED = "VIDLAKOST_PLANTED"
 POWER = "USE_POWER_PINS"
 ABOUT = f"""{MARK} collar: the macro {{macro}} with the self-test of {{name}}, which has the macro while test is 1.
 // Where {PLANTED} is defined, as in testbenches, planted is an input: 1 ties the address, 2 shorts two lanes,
-// 3 is a dead second port, and 4 turns a bit of each word that is read.
+// 3 is a dead second port, 4 turns the lowest bit of each word that the march reads and 5 the highest one, and 6 has the two
+// parts of a word do different things.
 """
 CONTROLS = ("en", "we", "read", "write")
 
@@ -86,6 +87,8 @@ def refuse_names(macro: Macro, word: Word, own: list[Port]) -> None:
         for name in pin.names():
             if name in taken:
                 raise macro.refuse(pin.line, f"'{name}' is a port of the collar itself, so the chip's pin can't have that name")
+            if name == f"{word.name}_collar":
+                raise macro.refuse(pin.line, f"'{name}' is the collar's own name, so the chip's pin can't have it")
             inputs |= {name} if way == "input" else set()
     for pin in macro.of("tie"):
         if literal(pin.value) is None and pin.value not in inputs:
@@ -191,6 +194,7 @@ class Collar:
         """Two self-tests that do not the same in some cycle are a failure."""
         low, high = ({name: self.net(f"{half}_{name}") for name in ("en", "we", "addr")} for half in ("low", "high"))
         apart = self.names.of("apart_kept")
+        high["we"] = self.planted("p_high_we", 1, high["we"], f"{high['we']} ^ (planted == 3'd6)")
         command = f"{low['we']} != {high['we']} || {low['addr']} != {high['addr']}"
         other = f"{low['en']} != {high['en']} || ({low['en']} && ({command}))"
         self.lines += [
@@ -271,7 +275,7 @@ class Collar:
     def answers(self) -> None:
         """The words of the macro on their way to the chip and to the self-test."""
         bits, macro = self.word.bits, self.macro
-        turned = f"{{{bits - 1}'d0, planted == 3'd4}}" if bits > 1 else "(planted == 3'd4)"
+        turned = self.turned()
         heads: list[str] = []
         for second, side in ((False, "first"), (True, "second"))[: 1 + macro.has_second]:
             word = self.declared(f"{side}_word", bits)
@@ -288,6 +292,12 @@ class Collar:
             part = last if memory.bits == bits else f"{last}[{low + memory.bits - 1}:{low}]"
             self.lines.append(f"  assign {self.net(f'{half}_rdata')} = {part};")
             low += memory.bits
+
+    def turned(self) -> str:
+        """The bits of a word that are planted wrong; not while the lanes are tried, since those tell of no part alone."""
+        bits, more = self.word.bits, f" & ~{self.net('lanes_go')}" if self.macro.masks else ""
+        low, high = f"(planted == 3'd4){more}", f"(planted == 3'd5){more}"
+        return f"({low})" if bits == 1 else f"{{{high}, {low}}}" if bits == 2 else f"{{{high}, {bits - 2}'d0, {low}}}"
 
     def bypassed(self, side: str, second: bool, answer: str) -> str:
         """What the chip gets: in scan mode what a register took from the pins."""

@@ -158,6 +158,8 @@ BENCH = """{mark} hold: a testbench of {name}_hold, which resumes it after some 
   integer edges = 0;
   integer stood_at;
   integer waited;
+  // whether the memory was used since the last hold: what is lost twice in a row would be there again
+  reg used = 1'b1;
   reg {word}words [0:{last}];
   reg {word}answers [1:{latency}];
   integer i;
@@ -166,6 +168,7 @@ BENCH = """{mark} hold: a testbench of {name}_hold, which resumes it after some 
 
   always @(posedge clk_test) begin
     edges = edges + 1;
+    if (en) used = 1'b1;
     if (en && we) words[addr] <= wdata;
     answers[1] <= (en && !we) ? words[addr] : {{{bits}{{1'bx}}}};
     for (i = 1; i < {latency}; i = i + 1) answers[i + 1] <= answers[i];
@@ -182,7 +185,8 @@ BENCH = """{mark} hold: a testbench of {name}_hold, which resumes it after some 
       if (waited > {most}) $fatal(1, "{name}: done did not come");
       if (held === 1'b1) begin
         stood_at = edges;
-        if (planted) words[0] = words[0] ^ {bits}'h1;
+        if (planted && used) words[0] = words[0] ^ {bits}'h1;
+        used = 1'b0;
         repeat (20) @(negedge clk);
         if (edges != stood_at || en !== 1'b0) $fatal(1, "{name}: the clock does not stand in hold %0d", holds);
         holds = holds + 1;

@@ -13,8 +13,9 @@ from vidlakost_tools.tool import ToolError
 from vidlakost_tools.words import RESERVED as PLAIN_WORDS
 
 RESERVED = PLAIN_WORDS | SYSTEM_WORDS | BUILT_IN
-# the widest pin
+# the widest pin, and the most lines of a kind: pins, buses, parameters
 WIDEST = 1024
+MOST = 1024
 # what the self-test drives, and in which forms a line tells it
 DRIVEN = {
     "en": "en PIN [WIDTH]",
@@ -226,6 +227,8 @@ class Lines:
             words = words_in(text)
             if words:
                 self.take(line, words)
+            if max(len(self.macro.pins), len(self.buses), len(self.macro.parameters)) > MOST:
+                raise self.macro.refuse(line, f"there are at most {MOST} pins, buses and parameters")
         self.give_bits()
         return self.macro
 
@@ -369,10 +372,19 @@ def read_macro(path: str, word: Word) -> Macro:
         if name in first:
             raise macro.refuse(pin.line, f"the pin '{name}' stands twice: line {first[name]} has it")
         first[name] = pin.line
-    twice = next((name for name, _ in macro.parameters if [one for one, _ in macro.parameters].count(name) > 1), None)
-    if twice:
-        raise macro.refuse(0, f"the parameter '{twice}' stands twice")
+    refuse_parameters(macro, first)
     return macro
+
+
+def refuse_parameters(macro: Macro, pins: dict[str, int]) -> None:
+    """A module has no two parameters of one name, and none with the name of a port; `pins` has the lines of those."""
+    told: set[str] = set()
+    for name, _ in macro.parameters:
+        if name in told:
+            raise macro.refuse(0, f"the parameter '{name}' stands twice")
+        if name in pins:
+            raise macro.refuse(pins[name], f"'{name}' is a parameter too, and a module has no port of that name then")
+        told.add(name)
 
 
 def refuse_missing(macro: Macro) -> None:

@@ -10,9 +10,11 @@ from vidlakost_tools.verilog import COMMENT, LEXEME
 
 KINDS = {"wire", "reg", "logic", "tri", "var", "signed", "supply0", "supply1", "bit"}
 WAYS = ("input", "output", "inout")
-# what the lexer has no token for: attributes, texts in quotes, directives with their word
+# what the lexer has no token for: attributes, texts in quotes, directives with their word. What is begun and does not end
+# goes to the end of the text, so that no place is looked at twice; (*) is no attribute, but what a process waits for.
 DIRECTIVE = r"`(?:ifdef|ifndef|elsif|define|include|timescale)[^\n]*|`\w+"
-OTHER = re.compile(rf'{COMMENT}|\(\*.*?\*\)|"(?:\\.|[^"\\\n])*"|{DIRECTIVE}', re.DOTALL)
+ATTRIBUTE = r"\(\*(?!\s*\)).*?(?:\*\)|\Z)"
+OTHER = re.compile(rf'{COMMENT}|/\*.*|{ATTRIBUTE}|"(?:\\.|[^"\\\n])*"|{DIRECTIVE}', re.DOTALL)
 
 
 class Ports:
@@ -32,6 +34,8 @@ class Ports:
         self.end = next((at for at in range(self.here, len(self.words)) if self.words[at] == "endmodule"), len(self.words))
         self.numbers: dict[str, int] = {}
         self.found: dict[str, Found] = {}
+        # the names of ports that no declaration has told yet
+        self.missing: set[str] = set()
 
     def peek(self) -> str:
         return self.words[self.here] if self.here < self.end else ""
@@ -109,6 +113,7 @@ class Ports:
         while True:
             name = self.take()
             self.found[name] = Found(name, way, width, low=low)
+            self.missing.discard(name)
             self.until(",", *ends)
             if self.peek() != "," or self.words[self.here + 1 : self.here + 2] and self.words[self.here + 1] in WAYS:
                 return
@@ -119,14 +124,15 @@ class Ports:
         if self.peek() != "(":
             return []
         self.take()
-        names: list[str] = []
+        names: set[str] = set()
         while self.peek() != ")":
             if self.peek() in WAYS:
                 self.declaration((")",))
             else:
-                names.append(self.take())
-        names = [name for name in names if name != ","]
-        while not self.found.keys() >= set(names) and self.here < self.end:
+                names.add(self.take())
+        names.discard(",")
+        self.missing = names - self.found.keys()
+        while self.missing and self.here < self.end:
             if self.peek() in ("parameter", "localparam"):
                 self.take()
                 self.parameter()

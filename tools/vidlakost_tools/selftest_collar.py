@@ -53,6 +53,7 @@ FILES.update(
         "crowd.list": "list 1\nname all\nbudget 3\nunit 1 c.m s.mem instances 1025\n",
         "crowds.list": "list 1\nname all\nbudget 3\nunit 1 c.m s.mem instances 1000\nunit 1 c.m t.mem instances 25\n",
         "none.list1": "list 1\nname all\nbudget 3\nunit 1 c.m s.mem instances 0\n",
+        "again.list": "list 1\nname all\nbudget 3\nunit 1 c.m s.mem\nunit 1 c.m s.mem instances 2\n",
         "heavy.list": "list 1\nname all\nbudget 3\nunit 4 c.m s.mem\n",
         "path.list": "list 1\nname ../all\nbudget 3\nunit 1 c.m s.mem\n",
         "two.list1": "list 1\nname all\nbudget 3\nname all\nunit 1 c.m s.mem\n",
@@ -70,6 +71,7 @@ FILES.update(
         "weak.chip": "chip 1\nname weak\nbudget 3\nunit 2 weak.m s.mem\n",
         "mine/p_hold.v": "module mine; endmodule\n",
         "hold.m": "{any(w0);del;any(r0,w1);del;del;any(r1)}\n",
+        "paired.m": "{any(w0);del;del;any(r0)}\n",
         "blind.m": "{any(w0);del;any(w1);any(r1)}\n",
         "pause.mem": "memory 2\nname p\nwords 5\nbits 3\npause 4\n",
         "mine/both_system.v": "module mine; endmodule\n",
@@ -102,6 +104,7 @@ CALLS: List[Tuple[str, List[str], int, str, str]] = [
     ("", ["tools/top", "crowd.list", "s.pins", "none"], 2, "", "top: crowd.list:4: there are at most 1024 units"),
     ("", ["tools/top", "crowds.list", "s.pins", "none"], 2, "", "top: crowds.list: there are at most 1024 units, and these are 1025"),
     ("", ["tools/top", "none.list1", "s.pins", "none"], 2, "", "top: none.list1:4: instances is a number from 1 on"),
+    ("", ["tools/top", "again.list", "s.pins", "none"], 2, "", "top: again.list:5: the memory s stands in line 4 too"),
     ("", ["tools/top", "heavy.list", "s.pins", "none"], 2, "", "top: heavy.list: s weighs more than the budget"),
     ("", ["tools/top", "path.list", "s.pins", "none"], 2, "", "top: path.list: the name '../all' is none for a module"),
     ("", ["tools/top", "two.list1", "s.pins", "none"], 2, "", "top: two.list1:4: the line name NAME stands once"),
@@ -225,7 +228,8 @@ def models(bench: Bench) -> None:
 
 
 SIX = [f"examples/six/{name}.pins" for name in ("bytes", "dual", "late", "wide", "rest", "gray")]
-PLANTED = ["a wrong bit at wide_low is found", "a shorted lane at bytes is found", "a dead port at dual is found"]
+PLANTED = ["a wrong bit at wide_low is found", "a wrong bit at wide_high is found", "a part out of step at wide_low is found"]
+PLANTED += ["a shorted lane at bytes is found", "a dead port at dual is found"]
 
 
 def systems(bench: Bench) -> None:
@@ -305,12 +309,13 @@ def holds(bench: Bench) -> None:
     """The clock stands in each pause, and what is lost meanwhile is found."""
     if not shutil.which("iverilog"):
         return
-    bench.run(["tools/hold", "hold.m", "pause.mem", "held"])
-    bench.run(["./vidlakost", "compile", "hold.m", "pause.mem", "empty.list", "held/p_bist.v", "report"])
     build = "cd held && iverilog -g2012 -Wall -Wno-timescale -o tb p_hold_tb.sv p_hold.v p_bist.v && vvp -n tb && vvp -n tb +planted"
-    done = bench.run(["bash", "-c", build])
-    told = "p: passes, and was held 9 times\np: what is lost in a hold is found\n"
-    bench.is_so(done.stdout == told and not done.stderr, f"hold: {done.stdout}{done.stderr}")
+    for march, count in (("hold.m", 9), ("paired.m", 6)):
+        bench.run(["tools/hold", march, "pause.mem", "held"])
+        bench.run(["./vidlakost", "compile", march, "pause.mem", "empty.list", "held/p_bist.v", "report"])
+        done = bench.run(["bash", "-c", build])
+        told = f"p: passes, and was held {count} times\np: what is lost in a hold is found\n"
+        bench.is_so(done.stdout == told and not done.stderr, f"hold of {march}: {done.stdout}{done.stderr}")
 
 
 PARTS = (lists, models, systems, odd_names, flows, holds)

@@ -86,6 +86,7 @@ def read_list(path: str) -> System:
     """The memories of a list, each in as many instances as its line says."""
     said: dict[str, str] = {}
     parts: list[Part] = []
+    bases: dict[str, int] = {}
     for line, text in enumerate(lines_of(read_described(path)), 1):
         words = words_in(text)
         if not words:
@@ -101,6 +102,8 @@ def read_list(path: str) -> System:
             raise ToolError(f"{path}:{line}: there is no line {shown(words[0])} here")
         unit, count = unit_of(path, line, words[1:])
         base = unit.memory.name
+        if bases.setdefault(base, line) != line:
+            raise ToolError(f"{path}:{line}: the memory {base} stands in line {bases[base]} too: make it more instances there")
         for number in range(count or 1):
             name = base if count is None else f"{base}_{number}"
             parts.append(Part(name, unit.memory, None if count is None else number, dataclasses.replace(unit)))

@@ -64,7 +64,7 @@ def own_names(system: System) -> list[Port]:
 def refuse_names(system: System) -> None:
     """No two ports have one name."""
     names = [name for _, _, name in chip_ports(system)]
-    seen = {port.name for port in own_names(system)} | {"planted"}
+    seen = {port.name for port in own_names(system)} | {"planted", f"{system.name}_system"}
     for name in names:
         if name in seen or name in RESERVED:
             raise ToolError(f"two ports of {system.name}_system would be '{name}', or it is reserved: rename a memory")
@@ -254,8 +254,7 @@ BENCH = """{mark} top: a testbench of {name}_system. It ends with a status: of s
         if (waited > {most}) $fatal(1, "{name}: done did not come");
       end
       @(negedge clk);
-      if ((fail & ~where) !== {zero} || where != {zero} && ((fail & where) == {zero} || (^fail) === 1'bx))
-        $fatal(1, "{name}: fail is %b, and a fault was planted at %b", fail, where);
+      if (fail !== where) $fatal(1, "{name}: fail is %b, and a fault was planted at %b", fail, where);
       test = 1'b0;
     end
   endtask
@@ -287,13 +286,15 @@ def chip_side(placed: Placed, way: str, pin: Pin) -> str:
     return f"  wire {head}c_{name} = test ? {{{pin.width}{{1'bx}}}} : {value};"
 
 
-def faults(system: System) -> list[tuple[int, int, str, Placed]]:
-    """What is planted, in which collar, how it is called, and the memories that tell of it."""
+def faults(system: System) -> list[tuple[int, int, str, list[Part]]]:
+    """What is planted, in which collar, how it is called, and the memories that have to tell of it, each of them."""
     found = []
     for number, placed in enumerate(system.collars):
-        found.append((4, number, "a wrong bit", placed))
-        found += [(2, number, "a shorted lane", placed)] if placed.macro.masks else []
-        found += [(3, number, "a dead port", placed)] if placed.macro.has_second else []
+        parts = placed.parts
+        found += [(kind, number, "a wrong bit", [part]) for kind, part in zip((4, 5), parts)]
+        found += [(6, number, "a part out of step", parts)] if len(parts) > 1 else []
+        found += [(2, number, "a shorted lane", parts)] if placed.macro.masks else []
+        found += [(3, number, "a dead port", parts)] if placed.macro.has_second else []
     return found
 
 
@@ -322,10 +323,10 @@ def bench(system: System) -> str:
             bits = [(port_name(placed, one), net) for one, net in zip(pin.bits, nets)]
             links += [f".{port}({net})" for port, net in bits or [(name, f"c_{name}")]]
     lines = []
-    for kind, number, what, placed in faults(system):
-        where = sum(1 << system.parts.index(part) for part in placed.parts)
+    for kind, number, what, parts in faults(system):
+        where = sum(1 << system.parts.index(part) for part in parts)
         lines.append(f"      run({width}'d{kind} << {3 * number}, {count}'h{where:x});")
-        lines.append(f'      $display("{system.name}: {what} at {placed.name} is found");')
+        lines.append(f'      $display("{system.name}: {what} at {parts[0].name} is found");')
     return BENCH.format(
         mark=MARK,
         name=system.name,

@@ -1,0 +1,85 @@
+"""What `vidlakost selftest` does with wrong collars: a line of a right one is changed, and its testbench has to tell."""
+from __future__ import annotations
+
+import concurrent.futures
+import os
+import pathlib
+import shutil
+
+from vidlakost_tools.selftest_bench import Bench
+from vidlakost_tools.selftest_collar import MARCH
+
+HEAD = "memory 2\nname {}\nwords 8\nbits {}\nlatency 2\nbackgrounds 0\n"
+MEMORIES = {"two": HEAD.format("two", 8), "lower": HEAD.format("lower", 3), "upper": HEAD.format("upper", 5)}
+PORTS = "clk ck\nen ~ce\nwe ~we\nmask wm 4\naddr a\nwdata d\nrdata q\nmasks\nregisters out 1\n"
+PINS = {
+    "two": f"macro twice\n{PORTS}port clk ck2\nport en ~ce2\nport addr a2\nport rdata q2\npass sleep 1 0\nbypass\n",
+    "lower": f"macro broad\n{PORTS}low lower\nhigh upper\n".replace("mask wm 4\n", "mask wm 2\n"),
+}
+OF = {"two": ["two"], "lower": ["lower", "upper"]}
+# what is wrong, in the collar of which memory, a part of it and what stands there in place of it, and whether planting tells
+WRONG = [
+    ("the chip's address is swapped at one port", "two", "t_addr : a2", "t_addr : {a2[2], a2[0], a2[1]}", False),
+    ("a bit of the chip's address is open", "two", "t_addr : a;", "t_addr : {a[2], 1'b0, a[0]};", False),
+    ("scan_mode leaves the enables", "two", "scan_mode ? {1{1'b1}} : ", "", False),
+    ("scan_mode leaves the other port", "two", "q2 = scan_mode ? second_bypass : ", "q2 = ", False),
+    ("the supply is not fixed in test", "two", "test ? 1'h0 : sleep", "sleep", False),
+    ("the other clock stands in test", "two", "test ? clk : ck2", "ck2", False),
+    ("the second session reads the first port", "two", "second ? second_answer : ", "", False),
+    ("the lanes do not count", "two", "run_fail | lanes_fail", "run_fail", True),
+    ("the second session is left out", "two", "phase == 3'd3", "phase == 3'd2", True),
+    ("what was found is not kept", "two", "kept <= kept | ", "kept <= ", True),
+    ("the high part reads the low one", "lower", "high_rdata = returned[7:3]", "high_rdata = {2'd0, returned[2:0]}", False),
+    ("the high part does not count", "lower", "low_fail | high_fail", "low_fail", True),
+    ("parts out of step do not count", "lower", " | apart_kept", "", True),
+]
+
+
+def made(bench: Bench, name: str) -> pathlib.Path:
+    """The folder of a right collar with its controllers."""
+    folder = bench.folder / "wrong" / name
+    folder.mkdir(parents=True)
+    (folder / "c.m").write_text(MARCH)
+    (folder / "ram.pins").write_text(PINS[name])
+    for memory in OF[name]:
+        (folder / f"{memory}.mem").write_text(MEMORIES[memory])
+    words = [f"wrong/{name}/{memory}.mem" for memory in OF[name]]
+    bench.run(["tools/collar", *words, "--macro", f"wrong/{name}/ram.pins", f"wrong/{name}/made"])
+    for memory, word in zip(OF[name], words):
+        bench.run(["./vidlakost", "compile", f"wrong/{name}/c.m", word, "empty.list", f"wrong/{name}/made/{memory}_bist.v", "report"])
+    return folder / "made"
+
+
+def call(name: str, is_planted: bool) -> list[str]:
+    build = f"cd wrong/{name} && iverilog -g2012 -o tb -c files.f && vvp -n tb"
+    return ["bash", "-c", build + (" +planted" if is_planted else "")]
+
+
+def is_told(bench: Bench, right: pathlib.Path, number: int) -> None:
+    """A wrong collar does not pass."""
+    what, name, old, new, is_planted = WRONG[number]
+    folder = right.parent.parent / str(number)
+    shutil.copytree(right, folder)
+    collar = folder / f"{name}_collar.v"
+    text = collar.read_text(encoding="utf-8")
+    bench.is_so(old in text, f"{what}: {old!r} does not stand in the collar")
+    collar.write_text(text.replace(old, new), encoding="utf-8")
+    done = bench.run(call(str(number), is_planted))
+    bench.is_so(done.returncode == 1 and "FATAL" in done.stdout, f"{what} is not told: {done.stdout}{done.stderr}")
+
+
+def collars(bench: Bench) -> None:
+    """Right collars pass, and wrong ones do not."""
+    if not shutil.which("iverilog"):
+        print("iverilog is not installed, so no wrong collar is run")
+        return
+    right = {name: made(bench, name) for name in PINS}
+    for name in PINS:
+        for is_planted in (False, True):
+            done = bench.run(call(f"{name}/made", is_planted))
+            bench.is_so(not done.returncode, f"{name}: {done.stdout}{done.stderr}")
+    with concurrent.futures.ThreadPoolExecutor(os.cpu_count()) as workers:
+        list(workers.map(lambda number: is_told(bench, right[WRONG[number][1]], number), range(len(WRONG))))
+
+
+PARTS = (collars,)
