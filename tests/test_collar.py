@@ -14,7 +14,7 @@ from vidlakost_tools.hold_text import holds_of
 from vidlakost_tools.macro_pins import Macro, Word, not_tested, read_macro
 from vidlakost_tools.march import elements_of
 from vidlakost_tools.memory import Memory
-from vidlakost_tools.tool import ToolError
+from vidlakost_tools.tool import ToolError, write_all
 
 PINS = ["macro ram", "clk ck", "en ~ce", "we wen 2", "addr a", "wdata d", "rdata q"]
 PORT = ["port addr b", "port rdata p", "port wdata e", "port we v 4"]
@@ -133,29 +133,58 @@ class Holds(unittest.TestCase):
 
 
 class Files(unittest.TestCase):
-    def write(self, folder: pathlib.Path) -> None:
+    def setUp(self) -> None:
+        made = tempfile.TemporaryDirectory()
+        self.addCleanup(made.cleanup)
+        self.folder = pathlib.Path(made.name)
+
+    def write(self, **texts: str) -> None:
+        given = {name.replace("_", "."): text for name, text in texts.items()}
         with contextlib.redirect_stdout(io.StringIO()):
-            write_own(folder, {"a.v": "// made by vidlakost\n", "b.v": "// made by vidlakost\n"}, [])
+            write_own(self.folder, given or {"a.v": "// made by vidlakost top\n1\n", "b.v": "// made by vidlakost top\n2\n"}, [])
 
     def test_what_others_wrote_stays(self) -> None:
-        with tempfile.TemporaryDirectory() as name:
-            folder = pathlib.Path(name)
-            self.write(folder)
-            self.write(folder)
-            (folder / "a.v").unlink()
-            (folder / "b.v").write_text("mine\n")
-            with self.assertRaises(ToolError):
-                self.write(folder)
-            self.assertFalse((folder / "a.v").exists())
-            self.assertEqual((folder / "b.v").read_text(), "mine\n")
+        self.write()
+        self.write()
+        (self.folder / "a.v").unlink()
+        (self.folder / "b.v").write_text("mine\n")
+        with self.assertRaises(ToolError):
+            self.write()
+        self.assertFalse((self.folder / "a.v").exists())
+        self.assertEqual((self.folder / "b.v").read_text(), "mine\n")
+
+    def test_what_somebody_changed_stays(self) -> None:
+        self.write()
+        path = self.folder / "a.v"
+        path.write_text(path.read_text() + "more\n")
+        with self.assertRaises(ToolError):
+            self.write()
 
     def test_a_link_stays(self) -> None:
-        with tempfile.TemporaryDirectory() as name:
-            folder = pathlib.Path(name)
-            (folder / "a.v").symlink_to("elsewhere")
-            with self.assertRaises(ToolError):
-                self.write(folder)
-            self.assertFalse((folder / "elsewhere").exists())
+        (self.folder / "a.v").symlink_to("elsewhere")
+        with self.assertRaises(ToolError):
+            self.write()
+        self.assertFalse((self.folder / "elsewhere").exists())
+
+    def test_a_file_that_the_list_tells(self) -> None:
+        texts = {"c_v": "module c;\n", "files_f": "// made by vidlakost top\nc.v\n"}
+        self.write(**texts)
+        self.assertEqual((self.folder / "c.v").read_text(), "module c;\n")
+        self.write(**{**texts, "c_v": "module d;\n"})
+        (self.folder / "c.v").write_text("module mine;\n")
+        with self.assertRaises(ToolError):
+            self.write(**texts)
+
+    def test_names_that_differ_in_case(self) -> None:
+        with self.assertRaises(ToolError):
+            self.write(a_v="// made by vidlakost top\n", A_v="// made by vidlakost top\n")
+
+    def test_all_or_none(self) -> None:
+        self.write()
+        with self.assertRaises(UnicodeEncodeError):
+            write_all({self.folder / "a.v": "new\n", self.folder / "b.v": "\ud800"})
+        self.assertIn("1\n", (self.folder / "a.v").read_text())
+        self.assertEqual(sorted(path.name for path in self.folder.iterdir()), ["a.v", "b.v"])
 
 
 if __name__ == "__main__":

@@ -73,6 +73,20 @@ def selftest(folder: pathlib.Path) -> list[Figure]:
     return counted("tools/selftest")
 
 
+def gate(folder: pathlib.Path) -> list[Figure]:
+    """Every proof, test and wrong body from nothing, in minutes of a processor; the dearest crates; it takes an hour."""
+    call = timed(sys.executable, ROOT / "bench" / "gate", "--anew")
+    rows = [line.split() for line in call.said.splitlines()]
+    costs = {row[0]: [float(number) / 60 for number in row[1:]] for row in rows if re.fullmatch(r"[a-z_]+( +\d+){5}", " ".join(row))}
+    if call.status or "whole" not in costs:
+        raise SystemExit(f"bench/gate ends with {call.status}: {call.said[-2000:]}")
+    whole = costs.pop("whole")
+    parts = [Figure("the whole gate", whole[4], "minutes")]
+    parts += [Figure(f"its {kind}", cost, "minutes") for kind, cost in zip(("proofs", "tests", "wrong bodies"), whole)]
+    dearest = sorted(costs, key=lambda name: -costs[name][4])[:3]
+    return [*parts, *(Figure(f"`{name}`", costs[name][4], "minutes") for name in dearest)]
+
+
 def first(folder: pathlib.Path) -> list[Figure]:
     """README's first command in a fresh clone, on two processors."""
     call = timed(ROOT / "bench" / "first", "--answer")

@@ -5,8 +5,9 @@ from __future__ import annotations
 from vidlakost_tools.macro_pins import Macro, Pin, Word
 from vidlakost_tools.verilog import ranged
 
-ABOUT = """// Tries the lanes of {name} while go is 1: with each lane alone, and with none, it writes ones over zeros and zeros over
-// ones, and reads the word, at address 0 and at the last one. over rises when the last word has been compared."""
+ABOUT = """// Tries the lanes of {name} while go is 1: with each lane alone, and with none, it writes ones over
+// zeros and zeros over ones, and reads the word, at address 0 and at the last one. over rises when the last
+// word has been compared."""
 
 
 def spread(net: str, pin: Pin, bits: int) -> str:
@@ -43,6 +44,21 @@ def counted(macro: Macro) -> tuple[list[int], dict[bool, int]]:
     return both, last
 
 
+def chosen(pins: list[Pin], firsts: list[int], wide: int, has_two: bool) -> list[str]:
+    """Of each pin the lane whose turn it is, or all where it is another pin's."""
+    lines = []
+    for number, (pin, first) in enumerate(zip(pins, firsts)):
+        ones = f"{{{pin.width}{{1'b1}}}}"
+        within = [f"lane >= {wide}'d{first}"] if first else []
+        within += [f"lane <= {wide}'d{first + pin.width}"] if first + pin.width + 1 < 1 << wide else []
+        within += ["second" if pin.is_second else "!second"] if has_two else []
+        mine = " && ".join(within) or "1'b1"
+        offset = f"(lane - {wide}'d{first})" if first else "lane"
+        lines.append(f"  wire {ranged(pin.width)}hot_{number} = ({mine}) ? {pin.width}'d1 << {offset} : {ones};")
+        lines.append(f"  assign lanes_{number} = alone ? hot_{number} : {ones};")
+    return lines
+
+
 def lanes(macro: Macro, word: Word) -> str:
     """The module NAME_lanes."""
     pins, (firsts, last) = lane_pins(macro), counted(macro)
@@ -70,15 +86,7 @@ def lanes(macro: Macro, word: Word) -> str:
         "  wire alone = step == 3'd1 || step == 3'd4;",
         f"  wire is_last = lane == ({end});",
     ]
-    for number, (pin, first) in enumerate(zip(pins, firsts)):
-        ones = f"{{{pin.width}{{1'b1}}}}"
-        within = [f"lane >= {wide}'d{first}"] if first else []
-        within += [f"lane <= {wide}'d{first + pin.width}"] if first + pin.width + 1 < 1 << wide else []
-        within += ["second" if pin.is_second else "!second"] if has_two else []
-        mine = " && ".join(within) or "1'b1"
-        offset = f"(lane - {wide}'d{first})" if first else "lane"
-        lines.append(f"  wire {ranged(pin.width)}hot_{number} = ({mine}) ? {pin.width}'d1 << {offset} : {ones};")
-        lines.append(f"  assign lanes_{number} = alone ? hot_{number} : {ones};")
+    lines += chosen(pins, firsts, wide, has_two)
     which = " & ".join(spread(f"hot_{number}", pin, bits) for number, pin in enumerate(pins))
     lines += [
         f"  wire {ranged(bits)}which = {which};",

@@ -32,13 +32,17 @@ class Names:
         self.given: dict[str, str] = {}
 
     def of(self, name: str) -> str:
+        """The name of the net that is called so here."""
         if name not in self.given:
-            found = name
-            while found in self.taken:
-                found += "_"
-            self.taken.add(found)
-            self.given[name] = found
+            self.given[name] = self.fresh(name)
         return self.given[name]
+
+    def fresh(self, name: str) -> str:
+        """A name that nothing has, as this one."""
+        while name in self.taken:
+            name += "_"
+        self.taken.add(name)
+        return name
 
 
 def halves(word: Word) -> list[tuple[str, Memory]]:
@@ -191,7 +195,8 @@ class Collar:
         low, high = ({name: self.net(f"{half}_{name}") for name in ("en", "we", "addr")} for half in ("low", "high"))
         apart = self.names.of("apart_kept")
         high["we"] = self.planted("p_high_we", 1, high["we"], f"{high['we']} ^ (planted == 3'd6)")
-        other = f"{low['en']} != {high['en']} || ({low['en']} && ({low['we']} != {high['we']} || {low['addr']} != {high['addr']}))"
+        command = f"{low['we']} != {high['we']} || {low['addr']} != {high['addr']}"
+        other = f"{low['en']} != {high['en']} || ({low['en']} && ({command}))"
         self.lines += [
             f"  reg {apart};",
             "  always @(posedge clk)",
@@ -400,7 +405,8 @@ class Collar:
     def ports(self) -> list[str]:
         """The lines of the ports, the last without a comma."""
         macro = self.macro
-        lines = [f"`ifdef {POWER}", *(f"  inout wire {pin.name}," for pin in macro.of("power")), "`endif"] if macro.has("power") else []
+        power = [f"  inout wire {pin.name}," for pin in macro.of("power")]
+        lines = [f"`ifdef {POWER}", *power, "`endif"] if power else []
         lines += [f"`ifdef {PLANTED}", "  input wire [2:0] planted,", "`endif"]
         told = [f"  {port.direction} wire {ranged(port.width)}{port.name}" for port in self.own]
         for way, pin in macro.chip_pins():

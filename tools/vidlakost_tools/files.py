@@ -1,16 +1,20 @@
 """Several files that a tool writes to one folder."""
 from __future__ import annotations
 
+import hashlib
 import os
 import pathlib
 import re
 
-from vidlakost_tools.text import shown
-from vidlakost_tools.tool import ToolError, refuse_inputs, write_whole
+from vidlakost_tools.text import lines_of, read_described, shown
+from vidlakost_tools.tool import ToolError, refuse_inputs, write_all
 
-# what stands in the first line of a file that may be written anew, and how one begins that the program wrote
-OWN = b"made by vidlakost"
-OF_PROGRAM = re.compile(rb"module \w+_bist\(\n  input clk,\n  input reset,\n  input (\[\d+:0\] )?rdata,\n  output en,\n")
+# what stands in the first line of a file that may be written anew, and where the sum of the file is put
+OWN = re.compile(r"made by vidlakost [a-z]+")
+SUM = re.compile(r"(made by vidlakost [a-z]+) \(([0-9a-f]{16})\)")
+# where a list of files tells the sum of one that has no such line
+LISTED = re.compile(r"// ([A-Za-z0-9_.]+) \(([0-9a-f]{16})\)")
+LIST = "files.f"
 
 
 def write_files(folder: pathlib.Path, texts: dict[str, str], inputs: list[str]) -> None:
@@ -19,20 +23,40 @@ def write_files(folder: pathlib.Path, texts: dict[str, str], inputs: list[str]) 
     for name in texts:
         refuse_inputs(str(folder / name), [("what is read", given) for given in inputs])
     folder.mkdir(parents=True, exist_ok=True)
-    for name, text in texts.items():
-        write_whole(folder / name, text)
+    write_all({folder / name: text for name, text in texts.items()})
     print("\n".join(str(folder / name) for name in texts), flush=True)
 
 
+# ---- files that may be written anew where nobody changed them
+
+
+def sum_of(text: str) -> str:
+    return hashlib.sha256(text.encode("utf-8", "surrogatepass")).hexdigest()[:16]
+
+
+def summed(text: str) -> str:
+    """The text with its sum in the first line, where that says whose it is."""
+    head, line, rest = text.partition("\n")
+    return OWN.sub(lambda match: f"{match[0]} ({sum_of(text)})", head, count=1) + line + rest
+
+
 def is_own(path: pathlib.Path) -> bool:
-    """Whether a file was written by a tool or by the program, by its first lines."""
-    with open(path, "rb") as file:
-        head = file.read(4096)
-    return OWN in head.split(b"\n")[0] or OF_PROGRAM.match(head) is not None
+    """Whether a tool wrote a file, and nobody changed it since: it has its own sum, or the list beside it tells it."""
+    text = read_described(path)
+    head, line, rest = text.partition("\n")
+    found = SUM.search(head)
+    if found is not None:
+        return sum_of(SUM.sub(r"\1", head, count=1) + line + rest) == found[2]
+    listed = path.with_name(LIST)
+    if path.name == LIST or not listed.is_file() or not is_own(listed):
+        return False
+    matches = (LISTED.fullmatch(one) for one in lines_of(read_described(listed)))
+    return any(match is not None and (match[1], match[2]) == (path.name, sum_of(text)) for match in matches)
 
 
 def refuse_strangers(folder: pathlib.Path, names: list[str]) -> None:
-    """Refuses to write over a file that no tool wrote, over a link, and over two names that differ in case alone."""
+    """Refuses to write over a file that no tool wrote or somebody changed, over a link, and over two names that differ in
+    case alone."""
     lower = [name.lower() for name in names]
     twice = next((name for name in names if lower.count(name.lower()) > 1), None)
     if twice:
@@ -40,10 +64,15 @@ def refuse_strangers(folder: pathlib.Path, names: list[str]) -> None:
     for name in names:
         path = folder / name
         if os.path.lexists(path) and (path.is_symlink() or not path.is_file() or not is_own(path)):
-            raise ToolError(f"{path} is there and was not written by vidlakost, so nothing is written")
+            raise ToolError(f"{path} is there and was not written by vidlakost, or was changed since, so nothing is written")
 
 
 def write_own(folder: pathlib.Path, texts: dict[str, str], inputs: list[str]) -> None:
-    """Writes files whose first lines say that they may be written anew, all of them or none over what others wrote."""
+    """Writes files that may be written anew where nobody changed them, all of them or none. Those without a line that says
+    whose they are are told with their sums in the list beside them."""
     refuse_strangers(folder, list(texts))
-    write_files(folder, texts, inputs)
+    told = [f"// {name} ({sum_of(text)})" for name, text in texts.items() if not OWN.search(text.partition("\n")[0])]
+    if told and LIST in texts:
+        head, line, rest = texts[LIST].partition("\n")
+        texts = {**texts, LIST: "\n".join([head, *told, rest])}
+    write_files(folder, {name: summed(text) for name, text in texts.items()}, inputs)

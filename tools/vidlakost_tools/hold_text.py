@@ -47,9 +47,9 @@ def table(elements: list[Element], memory: Memory, holds: list[Hold]) -> str:
     return "\n".join([*lines, ""])
 
 
-TEXT = """{mark} hold: the self-test of {name}, whose clock is held in the last cycle of each pause of its march until resume rises.
-// clk_test is the clock of the memory too. held is 1 while the clock stands; resume may come of any clock, and counts where it
-// rises while held is 1. Keep reset at 1 for three cycles of clk.
+TEXT = """{mark} hold: the self-test of {name}, whose clock is held in the last cycle of each pause of its march until
+// resume rises. clk_test is the clock of the memory too. held is 1 while the clock stands; resume may come of any clock, and
+// counts where it rises while held is 1. Keep reset at 1 for three cycles of clk.
 {head}// put the clock gate of your library in its place
 module {name}_gate(
   input wire clk,
@@ -138,8 +138,8 @@ def text(elements: list[Element], memory: Memory, holds: list[Hold]) -> str:
     )
 
 
-BENCH = """{mark} hold: a testbench of {name}_hold, which resumes it after some cycles of each hold, looks whether its clock stood and
-// the memory was left alone, and ends with a status. With +planted a cell loses its content in each hold.
+BENCH = """{mark} hold: a testbench of {name}_hold, which resumes it after some cycles of each hold, looks whether its
+// clock stood and the memory was left alone, and ends with a status. With +planted a cell loses its content in each hold.
 {head}module {name}_hold_tb;
   reg clk = 1'b0;
   initial forever #5 clk = ~clk;

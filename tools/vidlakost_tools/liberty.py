@@ -202,5 +202,6 @@ def memory_cell(path: str, text: str, cell: str) -> tuple[int, int, list[Found]]
     pins = [pin_of(group, types) for group in cells[0].of("bus", "pin", "pg_pin", "bundle")]
     address, word = number(memory.said.get("address_width", "")), number(memory.said.get("word_width", ""))
     if not 1 <= address <= 16 or not 1 <= word <= WIDEST:
-        raise ToolError(f"{path}: the cell {cell} has an address of {address} bits and a word of {word}, which no description has")
+        told = f"has an address of {address} bits and a word of {word}, which no description has"
+        raise ToolError(f"{path}: the cell {cell} {told}")
     return address, word, pins

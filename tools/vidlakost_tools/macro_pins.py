@@ -359,6 +359,9 @@ def is_value(text: str) -> bool:
 def read_macro(path: str, word: Word) -> Macro:
     """The macro of a file, which holds the word."""
     macro = Lines(path).read()
+    odd = next((memory.name for memory in word.memories if "$" in memory.name), None)
+    if odd:
+        raise macro.refuse(0, f"the memory {odd} has a $ in its name, which lists of files and makefiles read otherwise")
     refuse_missing(macro)
     refuse_halves(macro, word)
     give_widths(macro, word)
@@ -407,7 +410,8 @@ def refuse_missing(macro: Macro) -> None:
     for second in (False, True):
         for one, other in (("we", "write"), ("addr", "raddr"), ("addr", "waddr")):
             if macro.has(one, second=second) and macro.has(other, second=second):
-                raise macro.refuse(macro.of(other, second=second)[0].line, f"'{other}' stands in place of '{one}', not beside it")
+                line = macro.of(other, second=second)[0].line
+                raise macro.refuse(line, f"'{other}' stands in place of '{one}', not beside it")
 
 
 def refuse_halves(macro: Macro, word: Word) -> None:
@@ -451,8 +455,9 @@ def refuse_shapes(macro: Macro, word: Word) -> None:
         raise macro.refuse(0, told)
     for pin in macro.pins:
         if pin.kind in ADDRESSES and len(pin.at) != memory.width:
-            few = "is too narrow: it" if len(pin.at) < memory.width else "is too wide: it"
-            raise macro.refuse(pin.line, f"the address {few} has {len(pin.at)} bits, and that of {memory.name} {memory.width}")
+            few = "narrow" if len(pin.at) < memory.width else "wide"
+            told = f"it has {len(pin.at)} bits, and that of {memory.name} {memory.width}"
+            raise macro.refuse(pin.line, f"the address is too {few}: {told}")
         if pin.kind in ("wdata", "rdata") and pin.width != word.bits:
             raise macro.refuse(pin.line, f"{pin.name} has {pin.width} bits, and a word {word.bits}")
         if pin.has_lanes and word.bits % pin.width:

@@ -12,10 +12,9 @@ KINDS = {"wire", "reg", "logic", "tri", "var", "signed", "supply0", "supply1", "
 WAYS = ("input", "output", "inout")
 # what the lexer has no token for: attributes, texts in quotes, directives with their word. What is begun and does not end
 # goes to the end of the text, so that no place is looked at twice; (*) is no attribute, but what a process waits for.
-OTHER = re.compile(
-    rf'{COMMENT}|/\*.*|\(\*(?!\s*\)).*?(?:\*\)|\Z)|"(?:\\.|[^"\\\n])*"|`(?:ifdef|ifndef|elsif|define|include|timescale)[^\n]*|`\w+',
-    re.DOTALL,
-)
+DIRECTIVE = r"`(?:ifdef|ifndef|elsif|define|include|timescale)[^\n]*|`\w+"
+ATTRIBUTE = r"\(\*(?!\s*\)).*?(?:\*\)|\Z)"
+OTHER = re.compile(rf'{COMMENT}|/\*.*|{ATTRIBUTE}|"(?:\\.|[^"\\\n])*"|{DIRECTIVE}', re.DOTALL)
 
 
 class Ports:
@@ -25,7 +24,8 @@ class Ports:
         self.path, self.module = path, module
         plain = OTHER.sub(" ", text)
         self.words = [match[0] for match in LEXEME.finditer(plain) if match.lastgroup]
-        starts = [at for at, word in enumerate(self.words) if word in ("module", "macromodule") and self.words[at + 1 : at + 2] == [module]]
+        heads = [at for at, word in enumerate(self.words) if word in ("module", "macromodule")]
+        starts = [at for at in heads if self.words[at + 1 : at + 2] == [module]]
         if not starts:
             raise ToolError(f"{path}: there is no module {module}")
         if len(starts) > 1:

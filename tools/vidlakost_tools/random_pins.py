@@ -6,6 +6,11 @@ import dataclasses
 import random
 
 
+# what an input is tied to, and what a parameter is
+VALUES = ("4'ha", "clk", "test", "1'b0")
+NUMBERS = ("12", '"SDP"', "3'b101")
+
+
 @dataclasses.dataclass
 class Case:
     """Descriptions of memories by their names, and the lines of the pins."""
@@ -37,9 +42,10 @@ class Maker:
 
     def name(self) -> str:
         """A name such as data sheets have, also one that a collar could use inside."""
-        inner = ("s_en", "t_addr", "m_a", "bist_en", "phase", "memory", "lanes", "word", "i", "place", "lane", "answer", "first_word")
+        inner = "s_en t_addr m_a bist_en phase memory lanes word i place lane answer first_word".split()
         while True:
-            found = self.chance.choice(inner) if self.maybe(0.3) else f"{self.chance.choice('ABCDQaz_')}{self.chance.randrange(99)}x"
+            plain = f"{self.chance.choice('ABCDQaz_')}{self.chance.randrange(99)}x"
+            found = self.chance.choice(inner) if self.maybe(0.3) else plain
             if found not in self.used:
                 self.used.add(found)
                 return found
@@ -105,7 +111,7 @@ class Maker:
         """Pins that no port has."""
         name = self.name()
         choices = [
-            f"tie {name} {self.chance.choice(('4' + chr(39) + 'ha', 'clk', 'test', '1' + chr(39) + 'b0'))}",
+            f"tie {name} {self.chance.choice(VALUES)}",
             f"open {name}",
             f"out {name} 3",
             f"pass {name} 2 2'b01",
@@ -114,7 +120,7 @@ class Maker:
             f"clock2 {name}",
             f"power {name}",
             f"power {name} 1",
-            f"parameter {name.upper()} {self.chance.choice(('12', chr(34) + 'SDP' + chr(34), '3' + chr(39) + 'b101'))}",
+            f"parameter {name.upper()} {self.chance.choice(NUMBERS)}",
         ]
         self.lines += [line for line in self.chance.sample(choices, self.chance.randint(0, 1))]
 

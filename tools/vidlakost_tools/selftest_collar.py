@@ -14,7 +14,7 @@ from vidlakost_tools.selftest_cases import FILES
 
 MARCH = "{any(w0);up(r0,w1);up(r1,w0);down(r0,w1);down(r1,w0);any(r0)}\n"
 # how many lists are tried, and every how many in Verilator: in short, and with --long
-COUNTS = {False: (10, 10), True: (40, 4)}
+COUNTS = {False: (10, 10), True: (40, 1)}
 YOSYS = pathlib.Path("/usr/share/yosys")
 # models that come with Yosys, the file of each, and whether it is tried in the short form too
 MODELS = [
@@ -50,8 +50,8 @@ FILES.update(
         "case.list": "list 1\nname all\nbudget 9\nunit 2 c.m lo.mem\nunit 2 c.m LO.mem\n",
         "head.list": "name all\nlist 1\n",
         "line.list": "list 1\nname all\nbudget 3\nunits 1\n",
-        "many.list": "list 1\nname all\nbudget 3\nunit 1 c.m s.mem instances 1025\n",
-        "more.list": "list 1\nname all\nbudget 3\nunit 1 c.m s.mem instances 1000\nunit 1 c.m t.mem instances 25\n",
+        "crowd.list": "list 1\nname all\nbudget 3\nunit 1 c.m s.mem instances 1025\n",
+        "crowds.list": "list 1\nname all\nbudget 3\nunit 1 c.m s.mem instances 1000\nunit 1 c.m t.mem instances 25\n",
         "none.list1": "list 1\nname all\nbudget 3\nunit 1 c.m s.mem instances 0\n",
         "again.list": "list 1\nname all\nbudget 3\nunit 1 c.m s.mem\nunit 1 c.m s.mem instances 2\n",
         "heavy.list": "list 1\nname all\nbudget 3\nunit 4 c.m s.mem\n",
@@ -61,6 +61,14 @@ FILES.update(
         "hidden.v": '// module ram4x1\n/* module ram4x1 */ module other; initial $display("module ram4x1 "); endmodule\n',
         "shown.v": "module /* a */ ram4x1(input ck, ce, we, input [1:0] a, input d, output q); endmodule\n",
         "mine/s_collar.v": "module mine; endmodule\n",
+        "mine/Makefile": "all:\n\techo mine\n",
+        "odd;name.chip": "chip 1\nname both\nbudget 3\nunit 2 c.m s.mem\nunit 2 c.m t.mem\n",
+        "chip.chip": "chip 1\nname both\nbudget 3\nunit 2 c.m chip.mem\n",
+        "chip.mem": HALF.format("chip"),
+        "cash.mem": HALF.format("a$b"),
+        "chip.pins": PLAIN.format("ram4x4"),
+        "weak.m": "{any(w0);any(r0)}\n",
+        "weak.chip": "chip 1\nname weak\nbudget 3\nunit 2 weak.m s.mem\n",
         "mine/p_hold.v": "module mine; endmodule\n",
         "hold.m": "{any(w0);del;any(r0,w1);del;del;any(r1)}\n",
         "paired.m": "{any(w0);del;del;any(r0)}\n",
@@ -90,12 +98,12 @@ CALLS: List[Tuple[str, List[str], int, str, str]] = [
     ("", ["tools/top", "two.chip", "clash.pins", "none"], 2, "", "top: clash.pins: this file is of clash"),
     ("", ["tools/top", "apart.chip", "lo.pins", "s.pins", "none"], 2, "", "top: apart.chip: lo and hi are parts of one word, and"),
     ("", ["tools/top", "never.chip", "lo.pins", "none"], 2, "", "top: never.chip: lo and hi are parts of one word, and stand in two"),
-    ("", ["tools/top", "logic.chip", "s.pins", "none"], 2, "", "top: logic.chip: 'logic' is a word of SystemVerilog"),
+    ("", ["tools/top", "logic.chip", "s.pins", "none"], 2, "", "top: logic.chip: the name 'logic' is a word of SystemVerilog"),
     ("", ["tools/top", "case.list", "lo.pins", "none"], 2, "", "top: case.list: two memories have the name lo, but"),
     ("", ["tools/top", "head.list", "s.pins", "none"], 2, "", "top: head.list:1: a list begins with 'list 1'"),
     ("", ["tools/top", "line.list", "s.pins", "none"], 2, "", "top: line.list:4: there is no line 'units' here"),
-    ("", ["tools/top", "many.list", "s.pins", "none"], 2, "", "top: many.list:4: there are at most 1024 units"),
-    ("", ["tools/top", "more.list", "s.pins", "none"], 2, "", "top: more.list: there are at most 1024 units, and these are 1025"),
+    ("", ["tools/top", "crowd.list", "s.pins", "none"], 2, "", "top: crowd.list:4: there are at most 1024 units"),
+    ("", ["tools/top", "crowds.list", "s.pins", "none"], 2, "", "top: crowds.list: there are at most 1024 units, and these are 1025"),
     ("", ["tools/top", "none.list1", "s.pins", "none"], 2, "", "top: none.list1:4: instances is a number from 1 on"),
     ("", ["tools/top", "again.list", "s.pins", "none"], 2, "", "top: again.list:5: the memory s stands in line 4 too"),
     ("", ["tools/top", "heavy.list", "s.pins", "none"], 2, "", "top: heavy.list: s weighs more than the budget"),
@@ -124,6 +132,18 @@ CALLS: List[Tuple[str, List[str], int, str, str]] = [
     ("", ["tools/hold", "blind.m", "pause.mem", "holds"], 0, "holds/p_hold.v", "hold: no pause is followed by a read"),
     ("", ["tools/hold", "c.m", "pause.mem", "holds"], 2, "", "hold: c.m: the march has no pause"),
     ("", ["tools/hold", "hold.m", "pause.mem", "mine"], 2, "", "hold: mine/p_hold.v is there and was not written by vidlakost"),
+    ("", ["tools/flow", "two.chip", "flow"], 0, "flow/Makefile\nflow/lint.vlt\nflow/faults.list\n", ""),
+    ("", ["tools/flow", "two.chip", "s.pins", "t.pins", "flow", "--list", "tf.list"], 0, "flow/Makefile\n", ""),
+    ("", ["tools/flow", "two.chip", "s.pins", "t.pins", "mine"], 2, "", "flow: mine/Makefile is there and was not written by"),
+    ("", ["tools/flow", "apart.chip", "flow"], 2, "", "flow: apart.chip: lo and hi are parts of one word"),
+    ("", ["tools/flow", "case.list", "flow"], 2, "", "flow: case.list: two memories have the name lo"),
+    ("", ["tools/flow", "examples/chip/soc.chip", "flow"], 2, "", "flow: beside the description of buffer is no file buffer.pins"),
+    ("", ["tools/flow", "two.chip", "s.pins", "t.pins", "a b"], 2, "", "flow: 'a b': a makefile takes names"),
+    ("", ["tools/flow", "two.chip", "s.pins", "t.pins", "$(touch harm)"], 2, "", "flow: '$(touch harm)': a makefile takes names"),
+    ("", ["tools/flow", "odd;name.chip", "s.pins", "t.pins", "flow"], 2, "", "flow: 'odd;name.chip': a makefile takes names"),
+    ("", ["tools/flow", "two.chip", "s.pins", "t.pins", "flow", "--list", "a`b.list"], 2, "", "flow: 'a`b.list': a makefile takes names"),
+    ("", ["tools/flow", "chip.chip", "chip.pins", "flow"], 2, "", "flow: a memory named chip would have the folder"),
+    ("", ["tools/collar", "cash.mem", "--macro", "s.pins", "none"], 2, "", "collar: s.pins: the memory a$b has a $ in its name"),
     ("", ["tools/collar", "lo.mem", "hi.mem", "--macro", "s.pins", "none"], 2, "", "collar: s.pins: two memories make one word"),
 ]
 
@@ -151,7 +171,8 @@ def is_right(bench: Bench, seed: int, with_verilator: bool) -> None:
         bench.run(["./vidlakost", "compile", *(f"{folder}/{word}" for word in words)])
     made = f"cd {folder}/made && "
     if shutil.which("iverilog"):
-        runs(bench, f"{made}iverilog -g2012 -Wall -Wno-timescale -o tb -c files.f", f"{made}vvp -n tb", seed)
+        for more in ("", "-DUSE_POWER_PINS "):
+            runs(bench, f"{made}iverilog -g2012 -Wall -Wno-timescale {more}-o tb -c files.f", f"{made}vvp -n tb", seed)
     if with_verilator:
         build = "verilator --binary --top-module ram_collar_tb --Mdir built -f files.f >log; grep '^%' log; true"
         runs(bench, made + build, f"{made}built/Vram_collar_tb", seed)
@@ -215,7 +236,7 @@ PLANTED += ["a shorted lane at bytes is found", "a dead port at dual is found"]
 
 def systems(bench: Bench) -> None:
     """A chip of six memories and a list of forty, sound and with a fault at each."""
-    calls = [("six", ["examples/six/six.chip", *SIX], PLANTED)]
+    calls = [("six", ["examples/six/six.chip", *SIX], PLANTED)] if bench.is_long else []
     calls += [("soc", ["examples/six/soc.list", *SIX[3::2]], ["a wrong bit at gray_39 is found"])]
     simulators = {"iverilog": "iverilog -g2012 -Wall -Wno-timescale -o tb -c files.f && vvp -n tb"}
     if bench.is_long:
@@ -234,6 +255,58 @@ def systems(bench: Bench) -> None:
                 bench.is_so(not done.returncode and all(map(done.stdout.__contains__, told)), f"{name}: {done.stdout}{done.stderr}")
 
 
+# memories whose names a chip's module could use inside
+INNER = ("step", "kept", "now", "second", "chip_0", "lanes", "planted", "test", "clk", "fail", "done")
+
+
+def odd_names(bench: Bench) -> None:
+    """Memories of names that the module of a chip uses itself stand in it all the same."""
+    units = "".join(f"unit 1 weak.m {name}.mem\n" for name in INNER)
+    (bench.folder / "inner.chip").write_text(f"chip 1\nname inner\nbudget 3\n{units}")
+    for name in INNER:
+        (bench.folder / f"{name}.mem").write_text(HALF.format(name))
+        (bench.folder / f"{name}.pins").write_text(PLAIN.format(f"ram_{name}"))
+    done = bench.run(["tools/top", "inner.chip", *(f"{name}.pins" for name in INNER), "inner"])
+    bench.is_so(not done.returncode, f"top: {done.stderr}")
+    if shutil.which("iverilog"):
+        call = "cd inner && iverilog -g2012 -Wall -Wno-timescale -o tb -c files.f && vvp -n tb && vvp -n tb +planted | tail -n 1"
+        done = bench.run(["bash", "-c", call])
+        told = "inner: passes\ninner: a wrong bit at done is found\n"
+        bench.is_so(done.stdout == told and not done.stderr, f"top: {done.stdout}{done.stderr}")
+
+
+def flows(bench: Bench) -> None:
+    """The makefile of the six memories ends well, and one whose march finds no tied address doesn't."""
+    if not all(map(shutil.which, ("make", "iverilog"))):
+        print("make or iverilog is not installed, so no makefile is run")
+        return
+    make = ["make", "-j4", f"LAUNCHER={bench.folder}/vidlakost", "-C"]
+    bench.run(["tools/flow", "examples/six/six.chip", "all"])
+    for more in (["SIM=iverilog"], ["SIM=verilator", "-B"])[: 1 + bench.is_long]:
+        done = bench.run([*make, "all", *more])
+        told = [f"six: {what}" for what in (*PLANTED, "passes", "every step is done")]
+        is_right = not done.returncode and all(map(done.stdout.__contains__, [*told, "wide_low: a tied address is found"]))
+        bench.is_so(is_right, f"flow: {done.stdout}{done.stderr}")
+    if bench.is_long and YOSYS.is_dir():
+        of_yosys(bench, make)
+    bench.run(["tools/flow", "weak.chip", "s.pins", "weak"])
+    done = bench.run([*make, "weak"])
+    bench.is_so(done.returncode == 2 and "every step" not in done.stdout, f"flow: {done.stdout}{done.stderr}")
+
+
+def of_yosys(bench: Bench, make: list[str]) -> None:
+    """A chip of two models that come with Yosys goes through the makefile."""
+    there, short = "examples/macros", "{any(w0);up(r0,w1);any(r1)}\n"
+    units = "".join(f"unit 2 short.m {there}/{name}.mem\n" for name in ("sb_ram40_4k", "cc_bram_20k"))
+    (bench.folder / "fpga.chip").write_text(f"chip 1\nname fpga\nbudget 3\n{units}")
+    (bench.folder / "short.m").write_text(short)
+    models = [word for file in ("ice40", "gatemate") for word in ("--model", str(YOSYS / file / "cells_sim.v"))]
+    bench.run(["tools/flow", "fpga.chip", "fpga", *models])
+    done = bench.run([*make, "fpga", "MORE=-DNO_ICE40_DEFAULT_ASSIGNMENTS", "SIM=iverilog"])
+    is_right = not done.returncode and "fpga: a dead port at cc_bram_20k is found" in done.stdout
+    bench.is_so(is_right, f"flow: {done.stdout}{done.stderr}")
+
+
 def holds(bench: Bench) -> None:
     """The clock stands in each pause, and what is lost meanwhile is found."""
     if not shutil.which("iverilog"):
@@ -247,4 +320,4 @@ def holds(bench: Bench) -> None:
         bench.is_so(done.stdout == told and not done.stderr, f"hold of {march}: {done.stdout}{done.stderr}")
 
 
-PARTS = (lists, models, systems, holds)
+PARTS = (lists, models, systems, odd_names, flows, holds)

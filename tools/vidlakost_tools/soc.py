@@ -1,5 +1,5 @@
-"""The memories of a whole chip: those of a chip file, or of a list above chip files, whose lines may stand for many equal memories;
-the chip files that test them, and the collars that they stand in."""
+"""The memories of a whole chip: those of a chip file, or of a list above chip files, whose lines may stand for many equal
+memories; the chip files that test them, and the collars that they stand in."""
 from __future__ import annotations
 
 import collections
@@ -143,8 +143,9 @@ def read_system(path: str) -> System:
     if not is_chip_file(path):
         return read_list(path)
     chip = read_chip(path)
-    if chip.name in RESERVED:
-        raise ToolError(f"{path}: '{chip.name}' is a word of SystemVerilog, so most simulators refuse the chip's module")
+    if chip.name in RESERVED or not is_name(chip.name):
+        why = "has a $" if "$" in chip.name else "is a word of SystemVerilog"
+        raise ToolError(f"{path}: the name '{chip.name}' {why}, so it is none for the chip's module in each tool")
     parts = [Part(unit.memory.name, unit.memory, None, unit, 0, number) for number, unit in enumerate(chip.units)]
     refuse_twice(path, [part.name for part in parts])
     return System(chip.name, chip.budget, parts, [chip])

@@ -7,6 +7,7 @@ import dataclasses
 
 from vidlakost_tools import collar_lanes
 from vidlakost_tools.access_block import Port
+from vidlakost_tools.collar_bench import under_power
 from vidlakost_tools.collar_text import FOOT, HEAD, MARK, PLANTED, POWER, Names, halves, has_other_lanes, own_ports
 from vidlakost_tools.macro_pins import RESERVED, Pin
 from vidlakost_tools.soc import Part, Placed, System
@@ -130,7 +131,7 @@ class Text:
             for way, pin in placed.macro.chip_pins():
                 made = power if way == "inout" else links
                 made += [f".{name}({port_name(placed, name)})" for name in pin.names()]
-            head = [f"  {placed.word.name}_collar {self.names.of(placed.name)}("]
+            head = [f"  {placed.word.name}_collar {self.names.fresh(placed.name)}("]
             head += [f"`ifdef {POWER}", *(f"    {link}," for link in power), "`endif"] if power else []
             head += [f"`ifdef {PLANTED}", f"    .planted(planted[{3 * number + 2}:{3 * number}]),", "`endif"]
             self.lines += [*head, "    " + ",\n    ".join(links), "  );"]
@@ -199,7 +200,8 @@ class Text:
             first = next(number for number, step in enumerate(self.steps) if step.is_second)
             self.lines.append(f"  wire {self.names.of('second')} = test & {self.names.of('step')} >= {self.bits}'d{first};")
         for number, placed in enumerate(system.collars):
-            for name in (("lanes_over", "lanes_fail") if placed.macro.masks else ()) + (("apart",) if len(placed.parts) > 1 else ()):
+            told = ["lanes_over", "lanes_fail"] if placed.macro.masks else []
+            for name in [*told, *(["apart"] if len(placed.parts) > 1 else [])]:
                 self.wire(f"{name}_{number}", 1)
         self.chips()
         self.collars()
@@ -307,18 +309,19 @@ def most(system: System) -> int:
 def bench(system: System) -> str:
     """The testbench of the system."""
     count, width = len(system.parts), 3 * len(system.collars)
-    declared, links, power = [], [], []
+    declared, links, power, supplies = [], [], [], []
     if any(placed.macro.bypass for placed in system.collars):
         links.append(".scan_mode(1'b0)")
     for placed in system.collars:
         for way, pin in placed.macro.chip_pins():
             name = port_name(placed, pin.name)
             if way == "inout":
-                value = f"1'b{pin.value}" if pin.value else ""
-                power.append(f"    .{name}({value}),")
+                supplies += [f"  wire c_{name} = 1'b{pin.value};"] if pin.value else []
+                power.append(f"    .{name}({f'c_{name}' if pin.value else ''}),")
                 continue
             declared.append(chip_side(placed, way, pin))
-            bits = [(port_name(placed, one), f"c_{name}[{at}]" if pin.width > 1 else f"c_{name}") for at, one in enumerate(pin.bits)]
+            nets = [f"c_{name}[{at}]" if pin.width > 1 else f"c_{name}" for at in range(len(pin.bits))]
+            bits = [(port_name(placed, one), net) for one, net in zip(pin.bits, nets)]
             links += [f".{port}({net})" for port, net in bits or [(name, f"c_{name}")]]
     lines = []
     for kind, number, what, parts in faults(system):
@@ -334,8 +337,8 @@ def bench(system: System) -> str:
         planted_top=width - 1,
         planted_width=width,
         fails=ranged(count),
-        declared="\n".join(declared),
-        power="\n".join([f"`ifdef {POWER}", *power, "`endif", ""]) if power else "",
+        declared="\n".join(declared) + "\n" + under_power(supplies),
+        power=under_power(power),
         links=",\n    ".join(links),
         most=most(system),
         zero=f"{count}'d0",

@@ -170,26 +170,44 @@ def refuse_inputs(target: str | None, inputs: list[tuple[str, str]]) -> None:
 
 def write_whole(target: Path, text: str) -> None:
     """Writes a text to a file, so that a full disk or a kill leaves what stood there. A device is written as it is."""
-    path = pathlib.Path(target)
-    if path.exists() and not path.is_file() or path.is_symlink():
-        path.write_text(text, encoding="utf-8")
-        return
+    write_all({pathlib.Path(target): text})
+
+
+def write_all(texts: Mapping[pathlib.Path, str]) -> None:
+    """Writes several files: none takes its place before the texts of all are on the disk."""
+    staged: dict[pathlib.Path, str] = {}
+    try:
+        for path, text in texts.items():
+            if path.exists() and not path.is_file() or path.is_symlink():
+                path.write_text(text, encoding="utf-8")
+            else:
+                staged[path] = beside(path, text)
+        for path in list(staged):
+            os.replace(staged[path], path)
+            del staged[path]
+    finally:
+        for name in staged.values():
+            os.unlink(name)
+
+
+def beside(path: pathlib.Path, text: str) -> str:
+    """The name of a new file beside another, which has the text and the other's permissions."""
     mode = path.stat().st_mode & 0o777 if path.exists() else None
     if mode is not None and not os.access(path, os.W_OK):
         raise ToolError(f"{path}: Permission denied")
     try:
-        beside, name = tempfile.mkstemp(prefix=".vidlakost-", dir=path.parent)
+        number, name = tempfile.mkstemp(prefix=".vidlakost-", dir=path.parent)
     except OSError as error:
         raise OSError(error.errno, error.strerror, str(path)) from error
     try:
-        with open(beside, "w", encoding="utf-8", newline="") as file:
+        with open(number, "w", encoding="utf-8", newline="") as file:
             file.write(text)
             file.flush()
-            os.fsync(beside)
+            os.fsync(number)
         umask = os.umask(0)
         os.umask(umask)
         os.chmod(name, 0o666 & ~umask if mode is None else mode)
-        os.replace(name, path)
     except BaseException:
         os.unlink(name)
         raise
+    return name

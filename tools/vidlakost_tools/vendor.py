@@ -9,7 +9,8 @@ from vidlakost_tools.tool import ToolError
 from vidlakost_tools.verilog import COMMENT
 
 # what may stand between the words of a text; a name with a backslash ends at a blank
-TOKEN = re.compile(rf'(?P<skip>{COMMENT}|/\*.*|"(?:\\.|[^"\\\n])*"|`define(?:[^\n\\]|\\.)*|`\w+)|(?P<name>\\\S+|[A-Za-z_][\w$]*)', re.DOTALL | re.ASCII)
+SKIPPED = rf'{COMMENT}|/\*.*|"(?:\\.|[^"\\\n])*"|`define(?:[^\n\\]|\\.)*|`\w+'
+TOKEN = re.compile(rf"(?P<skip>{SKIPPED})|(?P<name>\\\S+|[A-Za-z_][\w$]*)", re.DOTALL | re.ASCII)
 
 
 def named(path: str) -> str:

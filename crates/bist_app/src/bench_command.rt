@@ -12,8 +12,8 @@ ghost use Rattle.self_test.specs.Refusals.{IsShort};
 ghost use Rattle.bist_app.specs.Bench.{LeavesBench, TestsBench, DecidesBench, bench_form};
 
 use crate::benching::test_beside;
-use crate::boxes::{fits_room, has_box};
-use crate::vectors::fit_length;
+use crate::boxes::{fit_room, want_box};
+use crate::shared::fit_length;
 use bist_endings::{Plan, Refusal};
 use bist_host::Host;
 use bist_inputs::{read_march_input, read_memory_input};
@@ -53,8 +53,8 @@ fn test_bench(
     ensures outputs { IfOk result (λ plan. (done_of plan).outputs ≡ []) }
 {
     fit_length(march, memory)?;
-    has_box(devices)?;
-    fits_room(devices, memory)?;
+    want_box(devices)?;
+    fit_room(devices, memory)?;
     plan_bench(alloc, march, memory, devices)
 }
 

@@ -10,8 +10,8 @@ ghost use Rattle.bist_app.specs.BenchAll.{HaveRoom, FitsRooms, TestsAll, Decides
 ghost use Rattle.bist_app.specs.inner.BenchedBoxes.{SmallRoom};
 
 use crate::benching_all::bench_all;
-use crate::boxes::{has_box, room_of_box};
-use crate::vectors::fit_length;
+use crate::boxes::{room_of_box, want_box};
+use crate::shared::fit_length;
 use bist_endings::{DeviceRefusal, Plan, Refusal};
 use bist_host::Host;
 use bist_inputs::{read_march_input, read_memory_input};
@@ -63,7 +63,7 @@ fn test_all(
     ensures outputs { IfOk result (λ plan. (done_of plan).outputs ≡ []) }
 {
     fit_length(march, memory)?;
-    has_box(devices)?;
+    want_box(devices)?;
     fit_rooms(devices, memory)?;
     bench_all(alloc, march, memory, devices)
 }

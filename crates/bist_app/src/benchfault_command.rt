@@ -20,9 +20,9 @@ ghost use Rattle.bist_app.specs.Forms.{HasForm};
 ghost use Rattle.bist_endings.specs.Then.{SaysOwn};
 
 use crate::benching::test_beside;
-use crate::boxes::{fits_room, has_box};
+use crate::boxes::{fit_room, want_box};
+use crate::shared::fit_length;
 use crate::sim::{fit_aggressor, give_word};
-use crate::vectors::fit_length;
 use bist_endings::{DeviceRefusal, Plan, Refusal, number_of};
 use bist_host::Host;
 use bist_inputs::{read_march_input, read_memory_input};
@@ -199,9 +199,9 @@ fn plant_fault(
     ensures answer { PlantsFault march.now memory.now prim.now shape (map (λ b. told b) devices.old.items) (map (λ b. told b) devices.new.items) (plain result) }
     ensures outputs { IfOk result (λ plan. (done_of plan).outputs ≡ []) }
 {
-    has_box(devices)?;
+    want_box(devices)?;
     fit_places(shape, memory)?;
-    fits_room(devices, memory)?;
+    fit_room(devices, memory)?;
     let planted = planted_for(prim, shape, memory);
     plan_fault(alloc, march, memory, planted, devices)
 }

@@ -14,8 +14,8 @@ ghost use Rattle.self_test.specs.Refusals.{IsShort};
 ghost use Rattle.bist_app.specs.BenchFile.{LeavesBenchFile, TestsFile, DecidesFileRun, DecidesBenchFile, zero_registers, bench_file_form};
 
 use crate::benching::run_beside;
-use crate::boxes::{fits_room, has_box};
-use crate::vectors::fit_length;
+use crate::boxes::{fit_room, want_box};
+use crate::shared::fit_length;
 use bist_endings::{Plan, Refusal, VerilogRefusal};
 use bist_host::Host;
 use bist_inputs::{Style, read_design_input, read_march_input, read_memory_input};
@@ -75,8 +75,8 @@ fn test_design(
 {
     fit_length(march, memory)?;
     fit_ports(design, memory)?;
-    has_box(devices)?;
-    fits_room(devices, memory)?;
+    want_box(devices)?;
+    fit_room(devices, memory)?;
     plan_benchfile(alloc, design, march, memory, devices)
 }
 

@@ -16,7 +16,7 @@ use word_device::{Device, DeviceFault, Planted, Shape, shape_of};
 
 /// Refuses an empty list.
 #[tactic(auto, unfolding(crate::specs::Shared::HasBox))]
-pub fn has_box(devices: &[Box<dyn Device>]) -> Result<(), Refusal>
+pub fn want_box(devices: &[Box<dyn Device>]) -> Result<(), Refusal>
     ensures answer { HasBox (map (λ b. told b) devices.now) result }
     ensures own { IfErr result IsOwnRefusal }
     ensures some { IfOk result (λ _. 0 < length devices.now) }
@@ -36,7 +36,7 @@ pub fn room_of_box(device: &Box<dyn Device>) -> u32
 
 /// Refuses a first box with room for fewer words than the memory has.
 #[tactic(auto, unfolding(crate::specs::Shared::FitsRoom))]
-pub fn fits_room(devices: &[Box<dyn Device>], memory: &Memory) -> Result<(), Refusal>
+pub fn fit_room(devices: &[Box<dyn Device>], memory: &Memory) -> Result<(), Refusal>
     requires some { 0 < length devices.now }
     ensures answer { FitsRoom memory.now (map (λ b. told b) devices.now) result }
     ensures own { IfErr result IsOwnRefusal }

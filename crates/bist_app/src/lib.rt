@@ -31,6 +31,7 @@ mod judge;
 mod make;
 mod parts;
 mod reporting;
+mod shared;
 mod sim;
 mod top;
 mod units;

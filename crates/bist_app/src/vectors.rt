@@ -6,12 +6,11 @@ ghost use Rattle.word_march.specs.Commands.{port_ops, command_count};
 ghost use Rattle.bist_endings.specs.Ending.{plain, done_of};
 ghost use Rattle.bist_inputs.specs.Inputs.{HasCause, IsOwnRefusal};
 ghost use Rattle.bist_endings.specs.Conclude.{NamesWords};
-ghost use Rattle.bist_app.specs.Shared.{FitsLength};
 ghost use Rattle.bist_app.specs.Forms.{HasForm};
-ghost use Rattle.self_test.specs.Refusals.{IsShort};
 ghost use Rattle.bist_app.specs.Vectors.{kind_text, command_line, command_lines, vectors_line, vectors_done, LeavesVectors, DecidesVectors, vectors_form};
 
 use crate::parts::one_output;
+use crate::shared::fit_length;
 use bist_bits::NoMemory;
 use bist_endings::{Plan, Refusal, numbered};
 use bist_host::Host;
@@ -19,25 +18,11 @@ use bist_inputs::{read_march_input, read_memory_input};
 use bist_text::{put, put_decimal, put_word};
 use march_core::March;
 use memory_desc::Memory;
-use self_test::too_long;
 use std::alloc::{AllocError, Global};
 use word_march::{PortOp, port_ops};
 
 /// The word that names the file of the commands.
 const OUT: usize = 3;
-
-/// Refuses a test that takes too many cycles.
-#[tactic(auto, using(crate::proofs::SharedFacts::too_long))]
-pub fn fit_length(march: &March, memory: &Memory) -> Result<(), Refusal>
-    ensures answer { FitsLength march.now memory.now result }
-    ensures own { IfErr result IsOwnRefusal }
-    ensures short { IfOk result (λ _. IsShort march.now memory.now) }
-{
-    match too_long(march, memory) {
-        None => Ok(()),
-        Some(cycles) => Err(Refusal::TooLong { cycles }),
-    }
-}
 
 /// Appends whether a command writes.
 fn put_kind(out: &mut Vec<u8>, write: bool) -> Result<(), NoMemory>
