@@ -3,13 +3,14 @@ from __future__ import annotations
 
 import contextlib
 import io
+import os
 import pathlib
 import tempfile
 import unittest
 
 from vidlakost_tools import collar_lanes, macro_pins
 from vidlakost_tools.collar_text import Names, collar
-from vidlakost_tools.files import write_own
+from vidlakost_tools.files import is_own, write_own
 from vidlakost_tools.hold_text import holds_of
 from vidlakost_tools.macro_pins import Macro, Word, not_tested, read_macro
 from vidlakost_tools.march import elements_of
@@ -159,6 +160,12 @@ class Files(unittest.TestCase):
         path.write_text(path.read_text() + "more\n")
         with self.assertRaises(ToolError):
             self.write()
+
+    def test_a_pipe_is_not_read(self) -> None:
+        with tempfile.TemporaryDirectory() as name:
+            os.mkfifo(f"{name}/a.v")
+            (pathlib.Path(name) / "b.v").symlink_to("/dev/zero")
+            self.assertFalse(is_own(pathlib.Path(name) / "a.v") or is_own(pathlib.Path(name) / "b.v"))
 
     def test_a_link_stays(self) -> None:
         (self.folder / "a.v").symlink_to("elsewhere")

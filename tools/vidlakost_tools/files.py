@@ -41,7 +41,10 @@ def summed(text: str) -> str:
 
 
 def is_own(path: pathlib.Path) -> bool:
-    """Whether a tool wrote a file, and nobody changed it since: it has its own sum, or the list beside it tells it."""
+    """Whether a tool wrote a file, and nobody changed it since: it has its own sum, or the list beside it tells it.
+    A pipe or a device is nobody's, and is not read, which might not end."""
+    if not path.is_file():
+        return False
     text = read_described(path)
     head, line, rest = text.partition("\n")
     found = SUM.search(head)
