@@ -47,6 +47,8 @@ class Libraries(unittest.TestCase):
         with self.assertRaises(ToolError):
             memory_cell("l.lib", CELL, "none")
         with self.assertRaises(ToolError):
+            memory_cell("l.lib", CELL.replace("cell(other)", "cell(ram)"), "ram")
+        with self.assertRaises(ToolError):
             memory_cell("l.lib", CELL.replace("address_width : 4", "address_width : 40"), "ram")
         with self.assertRaises(ToolError):
             memory_cell("l.lib", "library(l){" + "type(a){" * 100, "ram")

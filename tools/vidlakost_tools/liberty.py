@@ -195,6 +195,8 @@ def memory_cell(path: str, text: str, cell: str) -> tuple[int, int, list[Found]]
     cells = list(library.of("cell"))
     if not cells:
         raise ToolError(f"{path}: there is no cell '{cell}'")
+    if len(cells) > 1:
+        raise ToolError(f"{path}: the cell {cell} stands {len(cells)} times")
     memory = next(iter(cells[0].of("memory")), None)
     if memory is None:
         raise ToolError(f"{path}: the cell {cell} has no group memory()")
