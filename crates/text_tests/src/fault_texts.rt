@@ -1,78 +1,135 @@
 //! Texts of primitives and of lists, and what the readers say of them.
 
-use crate::texts::{are_no_lists, are_no_prims, list_len, print_prims, repeated};
-use fault_syntax::FaultFault;
-use std::alloc::{AllocError, Global};
+use crate::answers::first_wrong;
 
-const NO_FAULT: FaultFault = FaultFault::NotAFault { line: 1 };
+static FAULTS: &[u8] = br"# REFUSED PRIMITIVES
 
-const TOO_MANY: FaultFault = FaultFault::TooManyOperations { line: 1 };
+prim F3 line 1: <0r0/0/0>
+prim F3 line 1: <1r0/0/0>
+prim F3 line 1: <0w1/0/0>
+prim F3 line 1: <0r0/1/->
+prim F4 line 1: <0w1r1/0/0>
+prim F4 line 1: <0w1;0w0/1/->
+prim F4 line 1: <r0w1/0/->
+prim F1 line 1 byte 6: <0w1/0>
+prim F1 line 1 byte 3: <0w 1/0/->
+prim F1 line 1 byte 1: <w1/0/->
+prim F1 line 1 byte 4: <0;0;0/1/->
+prim F1 line 1 byte 7: <0/1/->\n
+prim F1 line 1 byte 0: SF
+prim F2 line 1: <0w1/0
+prim F2 line 1:
 
-static REFUSED_PRIMS: [(&str, FaultFault); 15] = [
-    ("<0r0/0/0>", NO_FAULT),
-    ("<1r0/0/0>", NO_FAULT),
-    ("<0w1/0/0>", NO_FAULT),
-    ("<0r0/1/->", NO_FAULT),
-    ("<0w1r1/0/0>", TOO_MANY),
-    ("<0w1;0w0/1/->", TOO_MANY),
-    ("<r0w1/0/->", TOO_MANY),
-    ("<0w1/0>", FaultFault::Unexpected { line: 1, byte: 6 }),
-    ("<0w 1/0/->", FaultFault::Unexpected { line: 1, byte: 3 }),
-    ("<w1/0/->", FaultFault::Unexpected { line: 1, byte: 1 }),
-    ("<0;0;0/1/->", FaultFault::Unexpected { line: 1, byte: 4 }),
-    ("<0/1/->\n", FaultFault::Unexpected { line: 1, byte: 7 }),
-    ("SF", FaultFault::Unexpected { line: 1, byte: 0 }),
-    ("<0w1/0", FaultFault::Truncated { line: 1 }),
-    ("", FaultFault::Truncated { line: 1 }),
-];
+# REFUSED LISTS
 
-#[test]
-fn primitives_are_refused(rt: HostRuntime) {
-    assert!(rt; are_no_prims(&REFUSED_PRIMS));
-}
+list F2 line 1: <0w1/0
+list F1 line 1 byte 6: <0w1/0\n
+list F1 line 1 byte 7: <0w1/0 #x
+list F2 line 1: CF
+list F1 line 1 byte 2: CF\n
+list F1 line 1 byte 2: SFx
+list F1 line 1 byte 4: one two
+list F3 line 4: one\n# \n\n <0r0/0/0>
+list F4 line 2: one\n<0w1;0w0/1/->\nx
 
-static REFUSED_LISTS: [(&str, FaultFault); 9] = [
-    ("<0w1/0", FaultFault::Truncated { line: 1 }),
-    ("<0w1/0\n", FaultFault::Unexpected { line: 1, byte: 6 }),
-    ("<0w1/0 #x", FaultFault::Unexpected { line: 1, byte: 7 }),
-    ("CF", FaultFault::Truncated { line: 1 }),
-    ("CF\n", FaultFault::Unexpected { line: 1, byte: 2 }),
-    ("SFx", FaultFault::Unexpected { line: 1, byte: 2 }),
-    ("one two", FaultFault::Unexpected { line: 1, byte: 4 }),
-    ("one\n# \n\n <0r0/0/0>", FaultFault::NotAFault { line: 4 }),
-    (
-        "one\n<0w1;0w0/1/->\nx",
-        FaultFault::TooManyOperations { line: 2 },
-    ),
-];
+# A LIST HOLDS 1024 PRIMITIVES: 21 lines bring 1008
+
+list 1024: \21{all\n\}one#two\n CFst\n
+list F5 line 24: \21{all\n\}one#two\n CFst\n<0/1/->
+
+# PRINTED
+
+prim <0r0/1/1>: <r0/1/1>
+prim <0w1/0/->: \t<0 w1 / 0/ - >\s
+prim <0w1;0/1/->: <0w1 ;0/1/->
+";
 
 #[test]
-fn lists_are_refused(rt: HostRuntime) {
-    assert!(rt; are_no_lists(rt.alloc(), &REFUSED_LISTS));
+fn primitives_and_lists(rt: HostRuntime) {
+    assert_eq!(rt; first_wrong(rt.alloc(), FAULTS), None);
 }
 
-/// What is read of 21 lines `all`, which bring 1008 primitives, and of what stands behind them.
-fn long_len(alloc: Global, last: &str) -> Result<usize, FaultFault> {
-    match repeated(alloc, "", "all\n", 21, last) {
-        Ok(text) => list_len(alloc, &text),
-        Err(AllocError) => Err(FaultFault::NoMemory),
-    }
-}
+static PAUSES: &[u8] = br"# REFUSED PRIMITIVES
+
+prim F3 line 1: <0t/0/->
+prim F3 line 1: <0t/1/0>
+prim F3 line 1: <0t/1/1>
+prim F3 line 1: <0;0t/1/->
+prim F3 line 1: <0t;0/1/->
+prim F4 line 1: <0tt/1/->
+prim F4 line 1: <0tw1/0/->
+prim F4 line 1: <0w1;0t/1/->
+prim F2 line 1: <0t
+prim F1 line 1 byte 1: <t/1/->
+prim F1 line 1 byte 3: <0t0/1/->
+
+# PRINTED
+
+prim <0t/1/->: <0t/1/->
+prim <1t/0/->: <1t/0/->
+
+# LISTS HOLD THE CLASS
+
+list 2: DRF
+list 50:  DRF # a pause\nall
+list 48: all
+list 1: <0t/1/->
+
+# REFUSED LISTS
+
+list F2 line 1: DR
+list F1 line 1 byte 2: DR\n
+list F1 line 1 byte 3: DRFx
+list F4 line 2: DRF\n<0tt/1/->
+";
 
 #[test]
-fn a_list_holds_1024_primitives(rt: HostRuntime) {
-    assert!(rt; long_len(rt.alloc(), "one#two\n CFst\n") == Ok(1024));
-    let full = FaultFault::TooManyPrimitives { line: 24 };
-    assert!(rt; long_len(rt.alloc(), "one#two\n CFst\n<0/1/->") == Err(full));
+fn pauses_in_primitives(rt: HostRuntime) {
+    assert_eq!(rt; first_wrong(rt.alloc(), PAUSES), None);
 }
 
-static PRINTED: [(&str, &str); 3] = [
-    ("<r0/1/1>", "<0r0/1/1>"),
-    ("\t<0 w1 / 0/ - > ", "<0w1/0/->"),
-    ("<0w1 ;0/1/->", "<0w1;0/1/->"),
-];
+static DYNAMIC: &[u8] = br"# REFUSED
+
+items F3 line 1: <0w1r0/0/1>
+items F3 line 1: <0w1r1/1/1>
+items F3 line 1: <0w1w0/0/->
+items F3 line 1: <0w1r1/0/->
+items F3 line 1: <1r0w1/0/->
+items F3 line 1: <0tt/1/->
+items F3 line 1: <0tw1/0/->
+items F3 line 1: <0w1w1;0/0/->
+items F3 line 1: <0r0/0/0>
+items F4 line 1: <0w1;0r0/1/0>
+items F4 line 1: <0w1r1w0/1/->
+items F4 line 1: <0t;0w0/1/->
+items F4 line 1: <0w1r1;0w1/0/->
+items F2 line 1: dyn
+items F1 line 1 byte 3: dyn3
+items F1 line 1 byte 5: dyn1 x
+items F1 line 2 byte 3: dyn1\ndyn\n
+items F3 line 3: dyn1\n<0w1r1/0/0>\n<0tt/1/->
+
+# WORDS BRING PRIMITIVES
+
+items 0:
+items 30: dyn1
+items 96:  dyn2#all\n
+items 33: DRF\n<0w1r1/0/0>\ndyn1\n
+
+# A LIST HOLDS 1024 ITEMS: ten lines bring 960
+
+items 1024: \10{dyn2\n\}dyn1\ndyn1\nDRF\nDRF\n
+items F5 line 15: \10{dyn2\n\}dyn1\ndyn1\nDRF\nDRF\n<0w1r1/0/0>
+
+# PRINTED
+
+item <0r0w1/0/->: <r0w1/0/->
+item <0w1r1/0/0>: \t< 0 w1 r1 / 0/ 0 >\s
+item <1r1w0;0/1/->: <1r1w0 ;0/1/->
+item <1;0r0r0/1/0>: <1; r0 r0/1/0>
+";
 
 #[test]
-fn primitives_are_printed(rt: HostRuntime) {
-    assert!(rt; print_prims(&PRINTED));
+fn dynamic_primitives(rt: HostRuntime) {
+    assert_eq!(rt; first_wrong(rt.alloc(), DYNAMIC), None);
 }

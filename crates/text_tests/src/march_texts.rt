@@ -1,106 +1,82 @@
 //! Texts of marches, and what the reader says of them.
 
-use crate::texts::{are_no_marches, print_marches, repeated};
+use crate::answers::first_wrong;
 use march_core::MarchFault;
 use march_syntax::read_march;
-use std::alloc::{AllocError, Global};
 
-const MATS_PLUS: &str = "{any(w0);up(r0,w1);down(r1,w0)}";
+static MARCHES: &[u8] = br"# REFUSED
 
-static REFUSED: [(&str, MarchFault); 17] = [
-    ("", MarchFault::Empty),
-    ("{}", MarchFault::Empty),
-    (" \t\r\n", MarchFault::Empty),
-    ("{any(w0);up(r0,", MarchFault::Truncated),
-    ("any(w0);", MarchFault::Truncated),
-    ("{any(w2)}", MarchFault::Unexpected { byte: 6 }),
-    ("{any(w0);}", MarchFault::Unexpected { byte: 9 }),
-    ("any(w0)}", MarchFault::Unexpected { byte: 7 }),
-    ("{any(w0)};", MarchFault::Unexpected { byte: 9 }),
-    ("{}x", MarchFault::Unexpected { byte: 2 }),
-    ("any(w 0)", MarchFault::Unexpected { byte: 5 }),
-    ("#", MarchFault::Unexpected { byte: 0 }),
-    ("\u{feff}any(w0)", MarchFault::Unexpected { byte: 0 }),
-    ("\u{2192}(w0)", MarchFault::Unexpected { byte: 2 }),
-    ("\u{2208}(w0)", MarchFault::Unexpected { byte: 1 }),
-    (
-        "{up(r0,w1)}",
-        MarchFault::ReadBeforeWrite { element: 0, op: 0 },
-    ),
-    (
-        "{any(w0);up(r1)}",
-        MarchFault::WrongExpect { element: 1, op: 0 },
-    ),
-];
+march M3:
+march M3: {}
+march M3:  \t\r\n
+march M2: {any(w0);up(r0,
+march M2: any(w0);
+march M1 byte 6: {any(w2)}
+march M1 byte 9: {any(w0);}
+march M1 byte 7: any(w0)}
+march M1 byte 9: {any(w0)};
+march M1 byte 2: {}x
+march M1 byte 5: any(w 0)
+march M1 byte 0: #
+march M1 byte 0: \xef\xbb\xbfany(w0)
+march M1 byte 2: \xe2\x86\x92(w0)
+march M1 byte 1: \xe2\x88\x88(w0)
+march M7 element 0 operation 0: {up(r0,w1)}
+march M8 element 1 operation 0: {any(w0);up(r1)}
 
-#[test]
-fn texts_are_refused(rt: HostRuntime) {
-    assert!(rt; are_no_marches(&REFUSED));
-}
+# THE GRAMMAR COMES BEFORE THE LIMITS
 
-/// A first piece, one that is repeated so many times, a last one, and why the text is no march.
-type Long = (&'static str, &'static str, u32, &'static str, MarchFault);
+march M4: \64{any(w0);\}any(w0)
+march M2: \65{any(w0);\}
+march M1 byte 519: \64{any(w0);\}any(w0)!
+march M5 element 0: up(\16{w0,\}w0)
+march M5 element 0: up(r0,\15{w0,\}w0)
+march M4: up(r0)\64{;any(w0)\}
+march M4: \64{any(w0,w0,w0,w0);\}any(w0)
+march M6: \51{any(w0,w0,w0,w0,w0);\}any(w0,w0)
 
-static LONG: [Long; 8] = [
-    ("", "any(w0);", 64, "any(w0)", MarchFault::TooManyElements),
-    ("", "any(w0);", 65, "", MarchFault::Truncated),
-    (
-        "",
-        "any(w0);",
-        64,
-        "any(w0)!",
-        MarchFault::Unexpected { byte: 519 },
-    ),
-    (
-        "up(",
-        "w0,",
-        16,
-        "w0)",
-        MarchFault::TooManyOps { element: 0 },
-    ),
-    (
-        "up(r0,",
-        "w0,",
-        15,
-        "w0)",
-        MarchFault::TooManyOps { element: 0 },
-    ),
-    ("up(r0)", ";any(w0)", 64, "", MarchFault::TooManyElements),
-    (
-        "",
-        "any(w0,w0,w0,w0);",
-        64,
-        "any(w0)",
-        MarchFault::TooManyElements,
-    ),
-    (
-        "",
-        "any(w0,w0,w0,w0,w0);",
-        51,
-        "any(w0,w0)",
-        MarchFault::TooManyInAll,
-    ),
-];
+# OTHER SPELLINGS ARE PRINTED AS WORDS
 
-fn long_refusal(alloc: Global, row: &Long) -> Result<Option<MarchFault>, AllocError> {
-    let (first, piece, count, last, _) = row;
-    let text = repeated(alloc, first, piece, *count, last)?;
-    Ok(read_march(&text).err())
-}
+march {any(w0);up(r0,w1);down(r1,w0)}: {\xe2\x87\x95(w0); \xe2\x87\x91(r0,w1); \xe2\x87\x93(r1,w0)}\n
+march {any(w0);up(r0,w1);down(r1,w0)}: \xe2\x86\x95(w0);\xe2\x86\x91(r0,w1);\xe2\x86\x93(r1,w0)
+march {any(w0);up(r0,w1);down(r1,w0)}:  * ( w0 ) ;\n ^ (r0 , w1); v(r1,w0)
+march {any(w0);up(r0,w1);down(r1,w0)}: {any(w0);up(r0,w1);down(r1,w0)}
 
-/// Whether each text of pieces is no march, for its reason.
-fn are_refused(alloc: Global, rows: &[Long]) -> bool {
-    for row in rows {
-        if long_refusal(alloc, row) != Ok(Some(row.4)) {
-            return false;
-        }
-    }
-    true
-}
+# REFUSED WITH PAUSES
+
+march M3: {del}
+march M3: del
+march M3:  del ;\tdel\n
+march M2: d
+march M2: {de
+march M2: {del
+march M2: del;
+march M1 byte 3: del(w0)
+march M1 byte 3: dell
+march M1 byte 3: {dew
+march M1 byte 5: {del;}
+march M1 byte 4: del any(w0)
+march M7 element 1 operation 0: {del;up(r0)}
+march M8 element 3 operation 1: {any(w0);del;del;up(r0,r1)}
+
+# PAUSES COUNT AS ELEMENTS
+
+is_march M4: \64{del;\}del
+is_march M4: \64{del;\}any(w0)
+is_march M3: \63{del;\}del
+is_march yes: \63{del;\}any(w0)
+is_march M2: \65{del;\}
+is_march M5 element 2: \2{del;\}up(w0,w0,w0,w0,w0,w0,w0,w0,w0,w0,w0,w0,w0,w0,w0,w0,w0)
+
+# PRINTED WITH PAUSES
+
+march {any(w0);del;any(r0)}: { any(w0) ; del ;\tany(r0) }
+march {del;any(w0)}: del;*(w0)
+";
 
 #[test]
-fn the_grammar_comes_before_the_limits(rt: HostRuntime) {
-    assert!(rt; are_refused(rt.alloc(), &LONG));
+fn marches(rt: HostRuntime) {
+    assert_eq!(rt; first_wrong(rt.alloc(), MARCHES), None);
 }
 
 /// Whether each first part of the text is refused as truncated.
@@ -115,20 +91,5 @@ fn is_truncated(text: &[u8]) -> bool {
 
 #[test]
 fn a_cut_text_is_truncated(rt: HostRuntime) {
-    assert!(rt; is_truncated(MATS_PLUS.as_bytes()));
-}
-
-static SPELLINGS: [(&str, &str); 4] = [
-    (
-        "{\u{21d5}(w0); \u{21d1}(r0,w1); \u{21d3}(r1,w0)}\n",
-        MATS_PLUS,
-    ),
-    ("\u{2195}(w0);\u{2191}(r0,w1);\u{2193}(r1,w0)", MATS_PLUS),
-    (" * ( w0 ) ;\n ^ (r0 , w1); v(r1,w0)", MATS_PLUS),
-    (MATS_PLUS, MATS_PLUS),
-];
-
-#[test]
-fn other_spellings_are_printed_as_words(rt: HostRuntime) {
-    assert!(rt; print_marches(rt.alloc(), &SPELLINGS));
+    assert!(rt; is_truncated(b"{any(w0);up(r0,w1);down(r1,w0)}"));
 }

@@ -1,0 +1,130 @@
+//! Rows of worked answers as text.
+//!
+//! - `KIND ANSWER: TEXT`: what is asked, the answer, and the text that it is asked of.
+//! - `= ANSWER`: the answer of the row above, where it is long.
+//! - `| TEXT`: a further line of the text above.
+//! - `# ..`: a remark.
+//!
+//! `\n`, `\r` and `\t` are what they are in Rust, `\s` is a blank, `\xe2` the byte 226, and `\64{any(w0);\}` so many
+//! times what stands between the braces.
+
+use bist_text::{Lines, decimal, hex};
+use std::alloc::Global;
+use std::str;
+
+/// What is asked of a text, and the answer. The number is that of its line.
+#[derive(Drop)]
+pub struct Row<'a> {
+    pub number: usize,
+    pub kind: &'a [u8],
+    pub answer: Vec<u8>,
+    pub text: Vec<u8>,
+}
+
+/// The part before the first byte of this kind, and the part behind it.
+pub fn cut(line: &[u8], at: u8) -> (&[u8], &[u8]) {
+    for (i, byte) in line.iter().enumerate() {
+        if *byte == at {
+            return (&line[..i], &line[i + 1..]);
+        }
+    }
+    (line, &[])
+}
+
+/// The byte that is meant behind a backslash, and what stands behind it.
+fn meant(escape: &[u8]) -> Option<(u8, &[u8])> {
+    let (first, rest) = escape.split_first()?;
+    match first {
+        b'n' => Some((b'\n', rest)),
+        b'r' => Some((b'\r', rest)),
+        b's' => Some((b' ', rest)),
+        b't' => Some((b'\t', rest)),
+        b'x' => {
+            let (digits, rest) = rest.split_at_checked(2)?;
+            Some((u8::try_from(hex(digits)?).ok()?, rest))
+        }
+        _ => None,
+    }
+}
+
+/// Appends further copies of a piece, which stands at the end from this place on, until there are so many.
+fn repeat(alloc: Global, bytes: &mut Vec<u8>, (begin, times): (usize, u32)) -> Option<()> {
+    let (_, piece) = bytes.split_at_checked(begin)?;
+    let piece = piece.to_vec(alloc).ok()?;
+    for _ in 1..times {
+        bytes.extend_from_slice(&piece).ok()?;
+    }
+    Some(())
+}
+
+/// Appends what is meant by a text.
+fn extend(alloc: Global, bytes: &mut Vec<u8>, text: &[u8]) -> Option<()> {
+    let parts: Vec<&str> = str::from_utf8(text).ok()?.split('\\').collect(alloc).ok()?;
+    let (plain, escapes) = parts.split_first()?;
+    bytes.extend_from_slice(plain.as_bytes()).ok()?;
+    let mut piece = (0, 0);
+    for escape in escapes {
+        let escape = escape.as_bytes();
+        let rest = match escape.split_first()? {
+            (b'}', rest) => {
+                repeat(alloc, bytes, piece)?;
+                rest
+            }
+            (b'0'..=b'9', _) => {
+                let (times, rest) = cut(escape, b'{');
+                piece = (bytes.len(), decimal(times)?);
+                rest
+            }
+            _ => {
+                let (byte, rest) = meant(escape)?;
+                bytes.push(byte).ok()?;
+                rest
+            }
+        };
+        bytes.extend_from_slice(rest).ok()?;
+    }
+    Some(())
+}
+
+/// A line that begins a row.
+fn row_of(alloc: Global, number: usize, line: &[u8]) -> Option<Row<'_>> {
+    let (question, text) = cut(line, b':');
+    let (kind, answer) = cut(question, b' ');
+    let mut row = Row {
+        number,
+        kind,
+        answer: Vec::new(alloc),
+        text: Vec::new(alloc),
+    };
+    extend(alloc, &mut row.answer, answer)?;
+    if let Some((b' ', text)) = text.split_first() {
+        extend(alloc, &mut row.text, text)?;
+    }
+    Some(row)
+}
+
+/// Takes a line that isn't empty.
+fn heed<'a>(alloc: Global, rows: &mut Vec<Row<'a>>, number: usize, line: &'a [u8]) -> Option<()> {
+    let (first, rest) = cut(line, b' ');
+    match first {
+        b"#" => Some(()),
+        b"=" => extend(alloc, &mut rows.last_mut()?.answer, rest),
+        b"|" => {
+            let text = &mut rows.last_mut()?.text;
+            extend(alloc, text, rest)?;
+            text.push(b'\n').ok()
+        }
+        _ => rows.push(row_of(alloc, number, line)?).ok(),
+    }
+}
+
+/// The rows of a text, or nothing where a line can't be read.
+pub fn read_rows<'a>(alloc: Global, text: &'a [u8]) -> Option<Vec<Row<'a>>> {
+    let mut rows = Vec::new(alloc);
+    for line in Lines::new(text) {
+        if !line.text.is_empty() {
+            heed(alloc, &mut rows, line.number, line.text)?;
+        }
+    }
+    Some(rows)
+}
