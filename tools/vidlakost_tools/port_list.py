@@ -12,7 +12,7 @@ KINDS = {"wire", "reg", "logic", "tri", "var", "signed", "supply0", "supply1", "
 WAYS = ("input", "output", "inout")
 # what the lexer has no token for: attributes, texts in quotes, directives with their word
 DIRECTIVE = r"`(?:ifdef|ifndef|elsif|define|include|timescale)[^\n]*|`\w+"
-OTHER = re.compile(rf'{COMMENT}|\(\*.*?\*\)|"(?:\\.|[^"\\\n])*"|{DIRECTIVE}', re.DOTALL)
+OTHER = re.compile(rf'{COMMENT}|\(\*(?!\s*\)).*?\*\)|"(?:\\.|[^"\\\n])*"|{DIRECTIVE}', re.DOTALL)
 
 
 class Ports:
@@ -63,9 +63,9 @@ class Ports:
             texts.append(known.replace("/", "//"))
         return Sum(texts).value()
 
-    def parameter(self) -> None:
-        """A parameter and its number, behind the word `parameter`."""
-        words = self.until(",", ";", ")")
+    def parameter(self, end: str) -> None:
+        """A parameter and its number, behind the word `parameter`, to a comma or the end of all."""
+        words = self.until(",", end)
         if "=" in words:
             at = words.index("=")
             number = self.value(words[at + 1 :])
@@ -81,7 +81,7 @@ class Ports:
             if self.peek() in ("parameter", "localparam", ","):
                 self.take()
                 continue
-            self.parameter()
+            self.parameter(")")
         self.take()
 
     def range(self) -> tuple[int, int]:
@@ -101,18 +101,23 @@ class Ports:
     def declaration(self, ends: tuple[str, ...]) -> None:
         """The ports of a direction, behind that word."""
         way = self.take()
-        width, low = 1, 0
-        while self.peek() in KINDS:
-            self.take()
-        if self.peek() == "[":
-            width, low = self.range()
+        width, low = self.shape()
         while True:
             name = self.take()
             self.found[name] = Found(name, way, width, low=low)
             self.until(",", *ends)
-            if self.peek() != "," or self.words[self.here + 1 : self.here + 2] and self.words[self.here + 1] in WAYS:
+            following = self.words[self.here + 1 : self.here + 2]
+            if self.peek() != "," or following and following[0] in WAYS:
                 return
             self.take()
+            if self.peek() in KINDS or self.peek() == "[":
+                width, low = self.shape()
+
+    def shape(self) -> tuple[int, int]:
+        """The width and the lowest bit that the words of a type and a range tell."""
+        while self.peek() in KINDS:
+            self.take()
+        return self.range() if self.peek() == "[" else (1, 0)
 
     def ports(self) -> list[Found]:
         self.parameters()
@@ -124,20 +129,21 @@ class Ports:
             if self.peek() in WAYS:
                 self.declaration((")",))
             else:
-                names.append(self.take())
-        names = [name for name in names if name != ","]
+                names += [word for word in [self.take()] if word != ","]
+        if self.found:
+            return list(self.found.values())
         while not self.found.keys() >= set(names) and self.here < self.end:
             if self.peek() in ("parameter", "localparam"):
                 self.take()
-                self.parameter()
+                self.parameter(";")
                 while self.peek() == ",":
                     self.take()
-                    self.parameter()
+                    self.parameter(";")
             elif self.peek() in WAYS:
                 self.declaration((";",))
             else:
                 self.take()
-        return [pin for name, pin in self.found.items() if name in names or not names]
+        return [pin for name, pin in self.found.items() if name in names]
 
 
 class Sum:

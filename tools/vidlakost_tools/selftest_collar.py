@@ -169,7 +169,7 @@ def is_right(bench: Bench, seed: int, with_verilator: bool) -> None:
         for more in ("", "-DUSE_POWER_PINS "):
             runs(bench, f"{made}iverilog -g2012 -Wall -Wno-timescale {more}-o tb -c files.f", f"{made}vvp -n tb", seed)
     if with_verilator:
-        build = "verilator --binary --top-module ram_collar_tb --Mdir built -f files.f >log; grep '^%' log; true"
+        build = "verilator --binary -CFLAGS -O0 --top-module ram_collar_tb --Mdir built -f files.f >log; grep '^%' log; true"
         runs(bench, made + build, f"{made}built/Vram_collar_tb", seed)
         modules = " ".join(f"{name}_bist.v" for name in case.memories)
         lint = f"verilator --lint-only -Wall -Wno-DECLFILENAME --top-module ram_collar ram_collar.v {modules} sram.v"
@@ -234,7 +234,7 @@ def systems(bench: Bench) -> None:
     calls += [("soc", ["examples/six/soc.list", *SIX[3::2]], ["a wrong bit at gray_39 is found"])]
     simulators = {"iverilog": "iverilog -g2012 -Wall -Wno-timescale -o tb -c files.f && vvp -n tb"}
     if bench.is_long:
-        build = "verilator --binary --top-module {name}_system_tb --Mdir built -f files.f >log && ! grep '^%' log"
+        build = "verilator --binary -CFLAGS -O0 --top-module {name}_system_tb --Mdir built -f files.f >log && ! grep '^%' log"
         simulators["verilator"] = build + " && built/V{name}_system_tb"
     for name, words, told in calls:
         done = bench.run(["tools/top", *words, name])
