@@ -18,7 +18,7 @@ PLANTED = "VIDLAKOST_PLANTED"
 POWER = "USE_POWER_PINS"
 ABOUT = f"""{MARK} collar: the macro {{macro}} with the self-test of {{name}}, which has the macro while test is 1.
 // Where {PLANTED} is defined, as in testbenches, planted is an input: 1 ties the address, 2 shorts two lanes,
-// 3 is a dead second port, and 4 turns a bit of each word that is read.
+// 3 is a dead second port, and 4 turns the lowest bit of each word that is read, 5 the highest.
 """
 CONTROLS = ("en", "we", "read", "write")
 
@@ -271,7 +271,9 @@ class Collar:
     def answers(self) -> None:
         """The words of the macro on their way to the chip and to the self-test."""
         bits, macro = self.word.bits, self.macro
-        turned = f"{{{bits - 1}'d0, planted == 3'd4}}" if bits > 1 else "(planted == 3'd4)"
+        between = [f"{bits - 2}'d0"] if bits > 2 else []
+        ends = ", ".join(["planted == 3'd5", *between, "planted == 3'd4"])
+        turned = f"{{{ends}}}" if bits > 1 else "(planted == 3'd4)"
         heads: list[str] = []
         for second, side in ((False, "first"), (True, "second"))[: 1 + macro.has_second]:
             word = self.declared(f"{side}_word", bits)

@@ -225,7 +225,7 @@ def models(bench: Bench) -> None:
 
 
 SIX = [f"examples/six/{name}.pins" for name in ("bytes", "dual", "late", "wide", "rest", "gray")]
-PLANTED = ["a wrong bit at wide_low is found", "a shorted lane at bytes is found", "a dead port at dual is found"]
+PLANTED = ["a wrong bit at wide_low is found", "a wrong bit at wide_high is found", "a shorted lane at bytes is found", "a dead port at dual is found"]
 
 
 def systems(bench: Bench) -> None:

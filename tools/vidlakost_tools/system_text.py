@@ -287,13 +287,14 @@ def chip_side(placed: Placed, way: str, pin: Pin) -> str:
     return f"  wire {head}c_{name} = test ? {{{pin.width}{{1'bx}}}} : {value};"
 
 
-def faults(system: System) -> list[tuple[int, int, str, Placed]]:
+def faults(system: System) -> list[tuple[int, int, str, list[Part]]]:
     """What is planted, in which collar, how it is called, and the memories that tell of it."""
     found = []
     for number, placed in enumerate(system.collars):
-        found.append((4, number, "a wrong bit", placed))
-        found += [(2, number, "a shorted lane", placed)] if placed.macro.masks else []
-        found += [(3, number, "a dead port", placed)] if placed.macro.has_second else []
+        # the lowest bit of a word is in its low part, the highest in its high one
+        found += [(kind, number, "a wrong bit", [part]) for kind, part in zip((4, 5), placed.parts)]
+        found += [(2, number, "a shorted lane", placed.parts)] if placed.macro.masks else []
+        found += [(3, number, "a dead port", placed.parts)] if placed.macro.has_second else []
     return found
 
 
@@ -322,10 +323,10 @@ def bench(system: System) -> str:
             bits = [(port_name(placed, one), net) for one, net in zip(pin.bits, nets)]
             links += [f".{port}({net})" for port, net in bits or [(name, f"c_{name}")]]
     lines = []
-    for kind, number, what, placed in faults(system):
-        where = sum(1 << system.parts.index(part) for part in placed.parts)
+    for kind, number, what, parts in faults(system):
+        where = sum(1 << system.parts.index(part) for part in parts)
         lines.append(f"      run({width}'d{kind} << {3 * number}, {count}'h{where:x});")
-        lines.append(f'      $display("{system.name}: {what} at {placed.name} is found");')
+        lines.append(f'      $display("{system.name}: {what} at {parts[0].name} is found");')
     return BENCH.format(
         mark=MARK,
         name=system.name,
