@@ -63,6 +63,12 @@ class Lists(unittest.TestCase):
         found = [("a", "input", 8), ("b", "input", 8), ("q", "output", 1), ("r", "output", 4)]
         self.assertEqual(self.read(text + ", output [H-1:0] r); endmodule"), found)
 
+    def test_types_behind_commas(self) -> None:
+        text = "module m(input a, wire [3:0] b, other.way x, output logic q); always @(*) q = a; endmodule // (* *)"
+        found = [("a", "input", 1), ("b", "input", 4)]
+        self.assertEqual(self.read(text)[:2], found)
+        self.assertEqual([name for name, _, _ in self.read("module n; always @(*) x; endmodule module m(input z); endmodule")], ["z"])
+
     def test_the_old_style(self) -> None:
         text = "module m(a, q\n`ifdef P\n, v\n`endif\n); parameter A = 3, W = A*2; inout v; input [W-1:0] a; output q; function f; input z; f = z;"
         self.assertEqual(sorted(self.read(text + " endfunction endmodule")), [("a", "input", 6), ("q", "output", 1), ("v", "inout", 1)])
@@ -85,6 +91,11 @@ class Lists(unittest.TestCase):
     def test_many_ports_and_a_long_body(self) -> None:
         text = f"module m({', '.join(f'p{one}' for one in range(5000))}); {'wire w; ' * 20000} endmodule"
         self.assertEqual(self.read(text), [])
+
+    def test_what_stops_early(self) -> None:
+        for text in ("module m #(parameter A = 1; ", "module m #(", "module m(input [", "module m(a); parameter"):
+            with self.assertRaises(ToolError, msg=text):
+                self.read(text)
 
     def test_sums(self) -> None:
         found = [Sum(text.split()).value() for text in ("1 + 2 * 3", "( 8 - 1 ) // 2", "4 // 0", "1 +", ") 1", "2 3")]

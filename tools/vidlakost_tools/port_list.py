@@ -67,9 +67,9 @@ class Ports:
             texts.append(known.replace("/", "//"))
         return Sum(texts).value()
 
-    def parameter(self) -> None:
-        """A parameter and its number, behind the word `parameter`."""
-        words = self.until(",", ";", ")")
+    def parameter(self, end: str) -> None:
+        """A parameter and its number, behind the word `parameter`, to a comma or the end of all."""
+        words = self.until(",", end)
         if "=" in words:
             at = words.index("=")
             number = self.value(words[at + 1 :])
@@ -85,7 +85,7 @@ class Ports:
             if self.peek() in ("parameter", "localparam", ","):
                 self.take()
                 continue
-            self.parameter()
+            self.parameter(")")
         self.take()
 
     def range(self) -> tuple[int, int]:
@@ -105,19 +105,24 @@ class Ports:
     def declaration(self, ends: tuple[str, ...]) -> None:
         """The ports of a direction, behind that word."""
         way = self.take()
-        width, low = 1, 0
-        while self.peek() in KINDS:
-            self.take()
-        if self.peek() == "[":
-            width, low = self.range()
+        width, low = self.shape()
         while True:
             name = self.take()
             self.found[name] = Found(name, way, width, low=low)
             self.missing.discard(name)
             self.until(",", *ends)
-            if self.peek() != "," or self.words[self.here + 1 : self.here + 2] and self.words[self.here + 1] in WAYS:
+            following = self.words[self.here + 1 : self.here + 2]
+            if self.peek() != "," or following and following[0] in WAYS:
                 return
             self.take()
+            if self.peek() in KINDS or self.peek() == "[":
+                width, low = self.shape()
+
+    def shape(self) -> tuple[int, int]:
+        """The width and the lowest bit that the words of a type and a range tell."""
+        while self.peek() in KINDS:
+            self.take()
+        return self.range() if self.peek() == "[" else (1, 0)
 
     def ports(self) -> list[Found]:
         self.parameters()
@@ -131,19 +136,21 @@ class Ports:
             else:
                 names.add(self.take())
         names.discard(",")
+        if self.found:
+            return list(self.found.values())
         self.missing = names - self.found.keys()
         while self.missing and self.here < self.end:
             if self.peek() in ("parameter", "localparam"):
                 self.take()
-                self.parameter()
+                self.parameter(";")
                 while self.peek() == ",":
                     self.take()
-                    self.parameter()
+                    self.parameter(";")
             elif self.peek() in WAYS:
                 self.declaration((";",))
             else:
                 self.take()
-        return [pin for name, pin in self.found.items() if name in names or not names]
+        return [pin for name, pin in self.found.items() if name in names]
 
 
 class Sum:

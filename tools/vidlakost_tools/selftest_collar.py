@@ -46,6 +46,8 @@ FILES.update(
         "lo.pins": PLAIN.format("both") + "low lo\nhigh hi\n",
         "apart.chip": PAIR.format(7, "unit 4 c.m s.mem\n"),
         "never.chip": PAIR.format(4, ""),
+        "twice.list": "list 1\nname all\nbudget 10\nunit 3 c.m lo.mem instances 2\nunit 3 c.m hi.mem instances 2\n",
+        "light.list": "list 1\nname all\nbudget 5\nunit 3 c.m lo.mem\nunit 3 c.m hi.mem\n",
         "logic.chip": "chip 1\nname logic\nbudget 3\nunit 2 c.m s.mem\n",
         "case.list": "list 1\nname all\nbudget 9\nunit 2 c.m lo.mem\nunit 2 c.m LO.mem\n",
         "head.list": "name all\nlist 1\n",
@@ -98,6 +100,8 @@ CALLS: List[Tuple[str, List[str], int, str, str]] = [
     ("", ["tools/top", "two.chip", "clash.pins", "none"], 2, "", "top: clash.pins: this file is of clash"),
     ("", ["tools/top", "apart.chip", "lo.pins", "s.pins", "none"], 2, "", "top: apart.chip: lo and hi are parts of one word, and"),
     ("", ["tools/top", "never.chip", "lo.pins", "none"], 2, "", "top: never.chip: lo and hi are parts of one word, and stand in two"),
+    ("", ["tools/top", "twice.list", "lo.pins", "twice", "--plan"], 0, "  3  hi_1     1     1      0      0   122\n", ""),
+    ("", ["tools/top", "light.list", "lo.pins", "none"], 2, "", "top: lo and hi weigh more than the budget together"),
     ("", ["tools/top", "logic.chip", "s.pins", "none"], 2, "", "top: logic.chip: the name 'logic' is a word of SystemVerilog"),
     ("", ["tools/top", "case.list", "lo.pins", "none"], 2, "", "top: case.list: two memories have the name lo, but"),
     ("", ["tools/top", "head.list", "s.pins", "none"], 2, "", "top: head.list:1: a list begins with 'list 1'"),
@@ -174,7 +178,7 @@ def is_right(bench: Bench, seed: int, with_verilator: bool) -> None:
         for more in ("", "-DUSE_POWER_PINS "):
             runs(bench, f"{made}iverilog -g2012 -Wall -Wno-timescale {more}-o tb -c files.f", f"{made}vvp -n tb", seed)
     if with_verilator:
-        build = "verilator --binary --top-module ram_collar_tb --Mdir built -f files.f >log; grep '^%' log; true"
+        build = "verilator --binary -CFLAGS -O0 --top-module ram_collar_tb --Mdir built -f files.f >log; grep '^%' log; true"
         runs(bench, made + build, f"{made}built/Vram_collar_tb", seed)
         modules = " ".join(f"{name}_bist.v" for name in case.memories)
         lint = f"verilator --lint-only -Wall -Wno-DECLFILENAME --top-module ram_collar ram_collar.v {modules} sram.v"
@@ -240,7 +244,7 @@ def systems(bench: Bench) -> None:
     calls += [("soc", ["examples/six/soc.list", *SIX[3::2]], ["a wrong bit at gray_39 is found"])]
     simulators = {"iverilog": "iverilog -g2012 -Wall -Wno-timescale -o tb -c files.f && vvp -n tb"}
     if bench.is_long:
-        build = "verilator --binary --top-module {name}_system_tb --Mdir built -f files.f >log && ! grep '^%' log"
+        build = "verilator --binary -CFLAGS -O0 --top-module {name}_system_tb --Mdir built -f files.f >log && ! grep '^%' log"
         simulators["verilator"] = build + " && built/V{name}_system_tb"
     for name, words, told in calls:
         done = bench.run(["tools/top", *words, name])

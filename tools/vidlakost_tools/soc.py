@@ -235,27 +235,30 @@ def place_chip(system: System, path: str) -> None:
     pair = next(placed.parts for placed in system.collars if len({part.unit.group for part in placed.parts}) > 1)
     apart = f"{' and '.join(part.name for part in pair)} are parts of one word, and stand in two groups"
     found = together(system, system.collars)
-    if found is None:
+    if found is None and sum(part.unit.weight for part in pair) > system.budget:
         raise ToolError(f"{path}: {apart}: the budget has no room for both")
+    if found is None:
+        raise ToolError(f"{path}: {apart}, in each order that was tried: let some units stand in another chip file, or take a list")
     raise ToolError(f"{path}: {apart}: write the units in the order {', '.join(part.name for part in found)}")
 
 
 def place_list(system: System) -> list[list[Part]]:
-    """The memories in chips of at most sixteen, the parts of a word in one group."""
-    batches: list[list[Placed]] = [[]]
+    """The memories in chips of at most sixteen, the parts of a word in one group: a chip ends where the next collar has no
+    room in it."""
+    batch: list[Placed] = []
+    chips: list[list[Part]] = [[]]
     for placed in system.collars:
-        if sum(len(one.parts) for one in batches[-1]) + len(placed.parts) > OF_CHIP:
-            batches.append([])
-        batches[-1].append(placed)
-    chips = []
-    for number, batch in enumerate(batches):
-        order = together(system, batch)
+        tried = [*batch, placed]
+        order = together(system, tried) if sum(len(one.parts) for one in tried) <= OF_CHIP else None
         if order is None:
-            pairs = [" and ".join(part.name for part in placed.parts) for placed in batch if len(placed.parts) > 1]
-            raise ToolError(f"{' or '.join(pairs)} find no group that has room for both")
+            tried, order = [placed], together(system, [placed])
+            chips.append([])
+        if order is None:
+            raise ToolError(f"{' and '.join(part.name for part in placed.parts)} weigh more than the budget together")
+        batch, chips[-1:] = tried, [order]
+    for number, order in enumerate(chips):
         for at, part in enumerate(order):
             part.chip, part.place = number, at
-        chips.append(order)
     return chips
 
 
