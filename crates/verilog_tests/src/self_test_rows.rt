@@ -1,15 +1,14 @@
 //! Self-test modules: one printed whole, and ports that are wrong.
 
+use crate::answers::written;
 use crate::trees::port;
-use bist_bits::NoMemory;
 use march_syntax::read_march;
 use memory_desc::{Memory, MemoryFault, read_memory};
 use rtl_gen::generate;
 use self_test::wrong_port;
 use std::alloc::{AllocError, Global};
 use std::test::Fail;
-use verilog_emit::emit;
-use verilog_tree::{Dir, Module, Port, fits};
+use verilog_tree::{Dir, Module, Port};
 
 const MARCH_C: &[u8] = b"{any(w0);up(r0,w1);up(r1,w0);down(r0,w1);down(r1,w0);any(r0)}";
 
@@ -103,17 +102,10 @@ fn self_test(alloc: Global) -> Result<Module, Fail> {
     Ok(generate(alloc, &march, &memory)?)
 }
 
-fn written(alloc: Global, module: &Module) -> Result<Vec<u8>, NoMemory> {
-    if !fits(module) {
-        return Ok(Vec::new(alloc));
-    }
-    emit(alloc, module)
-}
-
 #[test]
 fn module_of_a_march_and_a_memory(rt: HostRuntime) -> Result<(), Fail> {
     let module = self_test(rt.alloc())?;
-    let text = written(rt.alloc(), &module)?;
+    let text = written(rt.alloc(), &module).ok_or("a text")?;
     assert_eq!(rt; text.as_slice(), MODULE.as_bytes());
     Ok(())
 }

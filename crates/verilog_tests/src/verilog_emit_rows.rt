@@ -1,19 +1,11 @@
 //! Modules and the text that is written of them.
 
+use crate::answers::written;
 use crate::trees::{all, boxed, declared, name, net, port};
 use bist_bits::{Bits, NoMemory};
 use std::alloc::Global;
 use std::test::Fail;
-use verilog_emit::emit;
-use verilog_tree::{Arm, BinOp, Dir, Expr, Item, Module, Port, Stmt, UnOp, fits};
-
-/// What is written of a module, where it fits.
-fn written(module: &Module, alloc: Global) -> Result<Vec<u8>, NoMemory> {
-    if !fits(module) {
-        return Ok(Vec::new(alloc));
-    }
-    emit(alloc, module)
-}
+use verilog_tree::{Arm, BinOp, Dir, Expr, Item, Module, Port, Stmt, UnOp};
 
 fn reduced(alloc: Global) -> Result<Module, NoMemory> {
     let part = boxed(alloc, Expr::Part(name("a"), 2, 1))?;
@@ -37,7 +29,7 @@ endmodule
 
 #[test]
 fn a_reduction(rt: HostRuntime) -> Result<(), Fail> {
-    let text = written(&reduced(rt.alloc())?, rt.alloc())?;
+    let text = written(rt.alloc(), &reduced(rt.alloc())?).ok_or("a text")?;
     assert_eq!(rt; text.as_slice(), REDUCTION.as_bytes());
     Ok(())
 }
@@ -172,7 +164,7 @@ endmodule
 
 #[test]
 fn each_form(rt: HostRuntime) -> Result<(), Fail> {
-    let text = written(&every_form(rt.alloc())?, rt.alloc())?;
+    let text = written(rt.alloc(), &every_form(rt.alloc())?).ok_or("a text")?;
     assert_eq!(rt; text.as_slice(), EVERY_FORM.as_bytes());
     Ok(())
 }

@@ -1,0 +1,224 @@
+//! The answers to rows on modules, as text: what is read, what a module does, or why it is refused.
+
+use crate::port_checks::port_answer;
+use bist_bits::NoMemory;
+use bist_endings::{Refusal, VerilogRefusal};
+use bist_text::{decimal, hex, put};
+use march_syntax::read_march;
+use memory_desc::read_memory;
+use rtl_gen::generate;
+use std::alloc::Global;
+use std::str;
+use text_tests::{Row, cut, read_rows, refusal_text};
+use verilog_cycle::{Design, elaborate};
+use verilog_emit::emit;
+use verilog_read::{read_free, read_module};
+use verilog_tree::{Module, ReadFault, TreeFault, check, fits, formed};
+
+fn read_refusal(alloc: Global, fault: ReadFault) -> Option<Vec<u8>> {
+    refusal_text(alloc, Refusal::Verilog(VerilogRefusal::Read(fault)))
+}
+
+fn tree_refusal(alloc: Global, fault: TreeFault) -> Option<Vec<u8>> {
+    refusal_text(alloc, Refusal::Verilog(VerilogRefusal::Tree(fault)))
+}
+
+/// What is written of a module, where it fits.
+pub(crate) fn written(alloc: Global, module: &Module) -> Option<Vec<u8>> {
+    if fits(module) {
+        emit(alloc, module).ok()
+    } else {
+        None
+    }
+}
+
+/// What is written of a module, where that is read as it is written.
+fn form(alloc: Global, module: &Module) -> Option<Vec<u8>> {
+    let form = written(alloc, module)?;
+    let again = written(alloc, &read_module(alloc, &form).ok()?)?;
+    (again.as_slice() == form.as_slice()).then_some(form)
+}
+
+/// The printed form of a module.
+fn module_answer(alloc: Global, text: &[u8]) -> Option<Vec<u8>> {
+    match read_module(alloc, text) {
+        Ok(module) => form(alloc, &module),
+        Err(fault) => read_refusal(alloc, fault),
+    }
+}
+
+/// Whether operators that bind by precedence give a module.
+fn free_answer(alloc: Global, text: &[u8]) -> Option<Vec<u8>> {
+    match read_free(alloc, text) {
+        Ok(_) => b"yes".to_vec(alloc).ok(),
+        Err(fault) => read_refusal(alloc, fault),
+    }
+}
+
+/// The design of a module, or why it has none.
+fn design_of(alloc: Global, text: &[u8]) -> Option<Result<Design, TreeFault>> {
+    let module = read_module(alloc, text).ok()?;
+    if formed(&module) {
+        Some(elaborate(alloc, module))
+    } else {
+        None
+    }
+}
+
+pub(crate) fn designed(alloc: Global, text: &[u8]) -> Option<Design> {
+    design_of(alloc, text)?.ok()
+}
+
+fn design_answer(alloc: Global, text: &[u8]) -> Option<Vec<u8>> {
+    tree_refusal(alloc, design_of(alloc, text)?.err()?)
+}
+
+/// The code of the rule that a module breaks, or `ok`.
+fn rule_answer(alloc: Global, text: &[u8]) -> Option<Vec<u8>> {
+    let module = read_module(alloc, text).ok()?;
+    if !formed(&module) {
+        return None;
+    }
+    match check(alloc, &module) {
+        Ok(()) => b"ok".to_vec(alloc).ok(),
+        Err(fault) => cut(&tree_refusal(alloc, fault)?, b' ').0.to_vec(alloc).ok(),
+    }
+}
+
+/// What the output of a module is worth where its two inputs are 1.
+fn worth(alloc: Global, text: &[u8]) -> Option<u64> {
+    let module = read_free(alloc, text).ok()?;
+    if !formed(&module) || check(alloc, &module).is_err() {
+        return None;
+    }
+    let mut design = elaborate(alloc, module).ok()?;
+    let inputs = [1, 1];
+    if !design.inputs_fit(&inputs) {
+        return None;
+    }
+    match *design.outputs(&inputs) {
+        [y] => Some(y),
+        _ => None,
+    }
+}
+
+static MEMORY: &[u8] = b"memory 1\nname buffer\nwords 1000\nbits 64\n";
+
+/// Whether the module of a march is read as it is written.
+fn is_read_back(alloc: Global, march: &[u8]) -> Option<bool> {
+    let march = read_march(march).ok()?;
+    let memory = read_memory(MEMORY).ok()?;
+    let form = written(alloc, &generate(alloc, &march, &memory).ok()?)?;
+    let again = written(alloc, &read_free(alloc, &form).ok()?)?;
+    Some(again.as_slice() == form.as_slice())
+}
+
+static PARTS: [&[u8]; 5] = [
+    b"module m(input clk,input a,input b,input c,input [3:0] d,output y,output reg q);assign y=",
+    b";always@(posedge clk)begin if(",
+    b")q<=",
+    b";case(",
+    b")1'b1:q<=a;default q<=b;endcase end endmodule",
+];
+
+/// The text that has an expression in each of the four places where one may stand.
+fn around(alloc: Global, x: &[u8]) -> Result<Vec<u8>, NoMemory> {
+    let mut text = Vec::new(alloc);
+    for part in &PARTS[..4] {
+        put(&mut text, part)?;
+        put(&mut text, x)?;
+    }
+    put(&mut text, PARTS[4])?;
+    Ok(text)
+}
+
+/// Whether the reader makes the same of both, and of the second what the reader of full parentheses makes of it.
+fn are_alike(alloc: Global, free: &[u8], whole: &[u8]) -> Option<bool> {
+    let text = around(alloc, free).ok()?;
+    let same = around(alloc, whole).ok()?;
+    let expected = written(alloc, &read_module(alloc, &same).ok()?)?;
+    let first = written(alloc, &read_free(alloc, &text).ok()?)?;
+    let second = written(alloc, &read_free(alloc, &same).ok()?)?;
+    Some(first.as_slice() == expected.as_slice() && second.as_slice() == expected.as_slice())
+}
+
+/// Hexadecimal numbers with blanks between them.
+fn numbers(alloc: Global, words: &str) -> Option<Vec<u64>> {
+    let words: Vec<&str> = words.split(' ').collect(alloc).ok()?;
+    let mut numbers = Vec::new(alloc);
+    for word in &words {
+        if !word.is_empty() {
+            numbers.push(hex(word.as_bytes())?).ok()?;
+        }
+    }
+    Some(numbers)
+}
+
+/// Whether a cycle with the inputs before the mark shows the outputs behind it.
+fn shows(alloc: Global, design: &mut Design, cycle: &str) -> Option<bool> {
+    let (inputs, outputs) = cycle.split_once('>')?;
+    let inputs = numbers(alloc, inputs)?;
+    let outputs = numbers(alloc, outputs)?;
+    if !design.inputs_fit(&inputs) {
+        return None;
+    }
+    if design.outputs(&inputs) != outputs.as_slice() {
+        return None;
+    }
+    Some(design.clock(&inputs) == outputs.as_slice())
+}
+
+/// Whether a module runs so: the values of its registers, and in each cycle the inputs, in port order without the
+/// clock, and then the values of the output ports.
+fn runs_so(alloc: Global, text: &[u8], run: &[u8]) -> Option<bool> {
+    let mut design = designed(alloc, text)?;
+    let parts: Vec<&str> = str::from_utf8(run).ok()?.split(';').collect(alloc).ok()?;
+    let (registers, cycles) = parts.split_first()?;
+    let registers = numbers(alloc, registers)?;
+    if !design.registers_fit(&registers) {
+        return None;
+    }
+    design.set_registers(&registers);
+    for cycle in cycles {
+        if !shows(alloc, &mut design, cycle)? {
+            return Some(false);
+        }
+    }
+    Some(true)
+}
+
+/// The answer to the question of a row.
+fn answer_of(alloc: Global, kind: &[u8], text: &[u8]) -> Option<Vec<u8>> {
+    match kind {
+        b"module" => module_answer(alloc, text),
+        b"free" => free_answer(alloc, text),
+        b"design" => design_answer(alloc, text),
+        b"rule" => rule_answer(alloc, text),
+        b"ports" => port_answer(alloc, text),
+        _ => None,
+    }
+}
+
+/// Whether the text of a row is answered so.
+fn is_right(alloc: Global, row: &Row<'_>) -> Option<bool> {
+    match row.kind {
+        b"read_back" => is_read_back(alloc, &row.text),
+        b"groups" => are_alike(alloc, &row.text, &row.answer),
+        b"run" => runs_so(alloc, &row.text, &row.answer),
+        b"worth" => Some(worth(alloc, &row.text)? == u64::from(decimal(&row.answer)?)),
+        kind => Some(answer_of(alloc, kind, &row.text)?.as_slice() == row.answer.as_slice()),
+    }
+}
+
+/// The number of the first row that is wrong, where one is; 0 where a line can't be read.
+pub(crate) fn first_wrong(alloc: Global, text: &[u8]) -> Option<usize> {
+    let Some(rows) = read_rows(alloc, text) else {
+        return Some(0);
+    };
+    for row in &rows {
+        if is_right(alloc, row) != Some(true) {
+            return Some(row.number);
+        }
+    }
+    None
+}

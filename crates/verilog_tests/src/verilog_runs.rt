@@ -1,0 +1,99 @@
+//! Modules, what they do cycle by cycle, and the rules that they break.
+
+use crate::answers::{designed, first_wrong};
+use std::test::Fail;
+use verilog_cycle::Design;
+
+static RUNS: &[u8] = br"# REGISTERS
+
+# Both take the value from before the edge.
+run 1 0; > 1 0; > 0 1; > 1 0: module m(input clk,output reg a,output reg b);always@(posedge clk)begin a<=b;b<=a;end endmodule
+# The last set wins, also where the first is in a branch that is taken.
+run 0; 1 > 0; 0 > 3; 0 > 2: module m(input clk,input s,output reg [1:0]q);always@(posedge clk)begin if(s)q<=2'h1;else q<=2'h2;if(s)q<=2'h3;end endmodule
+# A register that no statement sets stays.
+run 1; 0 > 1; 1 > 1; 1 > 0; 0 > 1: module m(input clk,input s,output reg q);always@(posedge clk)if(s)q<=(!q);endmodule
+# The first arm with the label, and else the default.
+run 0; 1 > 0; 2 > 5; 0 > 7; 0 > 5: module m(input clk,input [1:0]s,output reg [3:0]q);always@(posedge clk)case(s)2'h0,2'h1:q<=4'h5;2'h1:q<=4'h6;default:q<=4'h7;endcase endmodule
+# An item behind its use as an output, and two blocks.
+run 0 0; > 0; > 1; > 3; > 2; > 0: module m(input clk,output [1:0]y);reg p;reg q;assign y={p,q};always@(posedge clk)p<=q;always@(posedge clk)q<=(!p);endmodule
+# A register breaks a loop.
+run 0; > 1; > 0; > 1: module m(input clk,output y);reg q;assign y=(!q);always@(posedge clk)q<=y;endmodule
+
+# VALUES
+
+run ; f 4 > 0 0; f 3 > 8 1; 9 0 > 9 9: module m(input [3:0]a,input [3:0]b,output [3:0]y,output [3:0]z);assign y=(a<<b);assign z=(a>>b);endmodule
+run ; f 1 > 0 e; 0 1 > 1 f; 8 8 > 0 0: module m(input [3:0]a,input [3:0]b,output [3:0]y,output [3:0]z);assign y=(a+b);assign z=(a-b);endmodule
+run ; ffffffffffffffff > 0 1 0: module m(input [63:0]a,output [63:0]y,output z,output [63:0]w);assign y=(a+64'h1);assign z=(&a);assign w=(~a);endmodule
+run ; a5 > 5a 2; 0 > 0 1; 1 > 10 6: module m(input [7:0]a,output [7:0]y,output [2:0]z);assign y={a[3:0],a[7],a[6:4]};assign z={(^a),(|a),(!a)};endmodule
+run ; 3 3 > 25 3; 0 3 > 1c 1; 3 0 > 13 1; 0 0 > 25 0: module m(input [3:0]a,input [3:0]b,output [5:0]y,output [1:0]z);assign y={(a==b),(a!=b),(a<b),(a<=b),(a>b),(a>=b)};assign z={(a&&b),(a||b)};endmodule
+run ; 2 9 6 > 9 6; 4 9 6 > 9 9; 0 9 6 > 6 6: module m(input [3:0]c,input [3:0]a,input [3:0]b,output [3:0]y,output [3:0]z);assign y=(c?a:b);assign z=(c[2]?a:b);endmodule
+
+# NO DESIGN
+
+design N7 b c: module m(output y);wire b;wire c;assign y=b;assign b=c;assign c=b;endmodule
+design N7 y: module m(output y);assign y=y;endmodule
+# What `check` refuses comes first.
+design N9 z: module m(output y,output z);assign y=y;endmodule
+design N4 q: module m(input clk,output reg q);always@(posedge clk)q<=1'h0;always@(posedge clk)q<=1'h1;endmodule
+
+# RULES
+
+rule ok: module m(input clk,input [3:0]a,input [2:0]b,output [3:0]y);assign y=a;endmodule
+rule N1: module m(input clk,input [3:0]a,input [2:0]b,output [3:0]y);assign y=w;endmodule
+rule N3: module m(input clk,input [3:0]a,input [2:0]b,output [3:0]y);assign y=clk;endmodule
+rule N5: module m(input clk,input [3:0]a,input [2:0]b,output [3:0]y);assign a=a;endmodule
+rule N6: module m(input clk,input [3:0]a,input [2:0]b,output [3:0]y);assign y=a[4:1];endmodule
+rule N2: module m(input clk,input [3:0]a,input [2:0]b,output [3:0]y);assign y=a;assign y=a;endmodule
+rule N3: module m(input clk,input [3:0]a,input [2:0]b,output [3:0]y);assign y=(a+b);endmodule
+rule N4: module m(input clk,input [3:0]a,input [2:0]b,output [3:0]y);reg [3:0]r;always@(posedge clk)r<=4'h9;always@(posedge clk)r<=4'h9;assign y=r;endmodule
+rule N9: module m(input clk,input [3:0]a,input [2:0]b,output [3:0]y);endmodule
+";
+
+#[test]
+fn runs_and_rules(rt: HostRuntime) {
+    assert_eq!(rt; first_wrong(rt.alloc(), RUNS), None);
+}
+
+fn three_nets(design: &Design, first: &str, second: &str, third: &str) -> bool {
+    design.net_count() == 3
+        && design.net(0) == first
+        && design.net(1) == second
+        && design.net(2) == third
+}
+
+fn has_its_ports(design: &Design) -> bool {
+    design.inputs() == 1 && design.ports().len() == 4
+}
+
+fn has_its_register(design: &Design) -> bool {
+    if design.register_count() != 1 {
+        return false;
+    }
+    let (name, width) = design.register(0);
+    name == "q" && width == 3
+}
+
+fn takes_an_edge(design: &mut Design) -> bool {
+    if !design.inputs_fit(&[1]) {
+        return false;
+    }
+    design.edge(&[1]);
+    design.inputs_fit(&[1]) && design.outputs(&[1]) == [1, 5].as_slice()
+}
+
+fn refuses_wide_values(design: &Design) -> bool {
+    !design.inputs_fit(&[2]) && !design.registers_fit(&[8])
+}
+
+const NETS: &[u8] =
+    b"module m(input clk,input a,output y,output reg [2:0]q);wire b;wire c;assign y=c;assign c=b;assign b=a;always@(posedge clk)q<=3'h5;endmodule";
+
+#[test]
+fn nets(rt: HostRuntime) -> Result<(), Fail> {
+    let mut design = designed(rt.alloc(), NETS).ok_or("a design")?;
+    assert!(rt; three_nets(&design, "b", "c", "y"));
+    assert!(rt; has_its_ports(&design) && has_its_register(&design));
+    assert!(rt; takes_an_edge(&mut design));
+    assert!(rt; refuses_wide_values(&design));
+    Ok(())
+}
