@@ -3,10 +3,12 @@
 ghost use Rattle.std.specs.Prelude.{◌≡◌, ◌<◌, None, IfOk};
 ghost use Rattle.march_core.specs.Visits.{FitsWord};
 
+use crate::calls::failed_transition;
+use coverage::{Verdict, judge};
 use dynamic_core::{DynInstance, DynPrim, DynSense, dyn_one, dyn_two, print_dyn, simulate_dyn};
 use dynamic_prover::{DynVerdict, judge_dyn};
 use fault_core::{Act, PrimFault};
-use march_core::{March, MarchFault, Miss};
+use march_core::{March, MarchBuilder, MarchFault, Miss, Op, Order};
 use march_syntax::read_march;
 use std::test::Fail;
 
@@ -128,5 +130,32 @@ fn a_verdict_on_a_flipped_zero(rt: HostRuntime) -> Result<(), Fail> {
     let flips = DynPrim::new(None, DynSense { state, acts }, true, Some(true))?;
     let verdict = verdict_on(MARCH_C, &flips)?;
     assert!(rt; escape_of(&verdict) == Some((2, 0, DOWN_FROM_3)));
+    Ok(())
+}
+
+/// Elements of order any that write zeros, and a last one that writes a one and reads it.
+fn sixty_four_elements() -> Result<March, MarchFault> {
+    let mut builder = MarchBuilder::new();
+    for _ in 0..63 {
+        builder.element(Order::Any)?;
+        builder.op(Op::W0)?;
+    }
+    builder.element(Order::Any)?;
+    builder.op(Op::W1)?;
+    builder.op(Op::R1)?;
+    builder.finish()
+}
+
+/// Each of 2^64 choices of direction finds them, which no prover could try one by one.
+#[test]
+fn many_choices_of_direction(rt: HostRuntime) -> Result<(), Fail> {
+    let march = sixty_four_elements()?;
+    assert!(rt; matches!(judge(&march, &failed_transition(false)?), Verdict::Covered));
+    assert!(rt;
+        matches!(
+            judge_dyn(&march, &loses_a_written_one()?),
+            DynVerdict::Covered
+        )
+    );
     Ok(())
 }
