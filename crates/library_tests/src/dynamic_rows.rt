@@ -8,7 +8,7 @@ use coverage::{Verdict, judge};
 use dynamic_core::{DynInstance, DynPrim, DynSense, dyn_one, dyn_two, print_dyn, simulate_dyn};
 use dynamic_prover::{DynVerdict, judge_dyn};
 use fault_core::{Act, PrimFault};
-use march_core::{March, MarchBuilder, MarchFault, Miss, Op, Order};
+use march_core::{March, MarchFault, Miss};
 use march_syntax::read_march;
 use std::test::Fail;
 
@@ -18,6 +18,16 @@ const ENDS: &[u8] = b"{any(w0);up(w1);down(r1);up(w0);down(w1);up(r1)}";
 const MARCH_C: &[u8] = b"{any(w0);up(r0,w1);up(r1,w0);down(r0,w1);down(r1,w0);any(r0)}";
 
 const BOTH: &[u8] = b"{any(w0);any(w1,r1)}";
+
+/// Elements of order any that write zeros, and a last one that writes a one and reads it.
+const SIXTY_FOUR: &[u8] = br"{any(w0);any(w0);any(w0);any(w0);any(w0);any(w0);any(w0);any(w0);
+any(w0);any(w0);any(w0);any(w0);any(w0);any(w0);any(w0);any(w0);
+any(w0);any(w0);any(w0);any(w0);any(w0);any(w0);any(w0);any(w0);
+any(w0);any(w0);any(w0);any(w0);any(w0);any(w0);any(w0);any(w0);
+any(w0);any(w0);any(w0);any(w0);any(w0);any(w0);any(w0);any(w0);
+any(w0);any(w0);any(w0);any(w0);any(w0);any(w0);any(w0);any(w0);
+any(w0);any(w0);any(w0);any(w0);any(w0);any(w0);any(w0);any(w0);
+any(w0);any(w0);any(w0);any(w0);any(w0);any(w0);any(w0);any(w1,r1)}";
 
 /// `uududu`.
 const DOWN_AT_2_AND_4: u64 = 0b101 << 59;
@@ -133,23 +143,10 @@ fn a_verdict_on_a_flipped_zero(rt: HostRuntime) -> Result<(), Fail> {
     Ok(())
 }
 
-/// Elements of order any that write zeros, and a last one that writes a one and reads it.
-fn sixty_four_elements() -> Result<March, MarchFault> {
-    let mut builder = MarchBuilder::new();
-    for _ in 0..63 {
-        builder.element(Order::Any)?;
-        builder.op(Op::W0)?;
-    }
-    builder.element(Order::Any)?;
-    builder.op(Op::W1)?;
-    builder.op(Op::R1)?;
-    builder.finish()
-}
-
 /// Each of 2^64 choices of direction finds them, which no prover could try one by one.
 #[test]
 fn many_choices_of_direction(rt: HostRuntime) -> Result<(), Fail> {
-    let march = sixty_four_elements()?;
+    let march = read_march(SIXTY_FOUR)?;
     assert!(rt; matches!(judge(&march, &failed_transition(false)?), Verdict::Covered));
     assert!(rt;
         matches!(
