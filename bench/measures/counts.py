@@ -17,7 +17,7 @@ def counted(*words: str) -> list[Figure]:
         raise Skipped(lines[-1])
     if call.status:
         raise SystemExit(f"{' '.join(words)} ends with {call.status}: {call.said[-2000:]}")
-    found = re.findall(r"(\d[\d,]*) ([a-z][a-z -]*)", lines[-1])
+    found = re.findall(r"(\d[\d,]*) ([a-z][A-Za-z -]*)", lines[-1])
     title = f"`{'vidlakost ' + path[6:] if path.startswith('tools/') else path}{''.join(' ' + word for word in rest)}`"
     return [Figure(title, int(number.replace(",", "")), re.sub(" and$", "", unit.strip())) for number, unit in found]
 
