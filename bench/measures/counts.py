@@ -75,7 +75,10 @@ def selftest(folder: pathlib.Path) -> list[Figure]:
 
 def gate(folder: pathlib.Path) -> list[Figure]:
     """Every proof, test and wrong body from nothing, in minutes of a processor; the dearest crates; it takes an hour."""
-    call = timed(sys.executable, ROOT / "bench" / "gate", "--anew")
+    log = ROOT / "build" / "gate.log"
+    log.parent.mkdir(exist_ok=True)
+    # what it says can be read meanwhile
+    call = timed("bash", "-c", f"set -o pipefail; '{ROOT}/bench/gate' --anew 2>&1 | tee '{log}'")
     rows = [line.split() for line in call.said.splitlines()]
     costs = {row[0]: [float(number) / 60 for number in row[1:]] for row in rows if re.fullmatch(r"[a-z_]+( +\d+){5}", " ".join(row))}
     if call.status or "whole" not in costs:
