@@ -70,10 +70,24 @@ def refuse_strangers(folder: pathlib.Path, names: list[str]) -> None:
             raise ToolError(f"{path} is there and was not written by vidlakost, or was changed since, so nothing is written")
 
 
+def begins(text: str) -> str:
+    """The first file that a list names."""
+    return next((line for line in lines_of(text) if line and not line.startswith("//")), "")
+
+
+def refuse_another_list(folder: pathlib.Path, text: str) -> None:
+    """Refuses to write over the list of something else, whose testbench would then have none."""
+    path = folder / LIST
+    first = begins(read_described(path)) if path.is_file() else ""
+    if first not in ("", begins(text)):
+        raise ToolError(f"{path} is the list of {shown(first)}, so nothing is written: take a folder for each")
+
+
 def write_own(folder: pathlib.Path, texts: dict[str, str], inputs: list[str]) -> None:
     """Writes files that may be written anew where nobody changed them, all of them or none. Those without a line that says
     whose they are are told with their sums in the list beside them."""
     refuse_strangers(folder, list(texts))
+    refuse_another_list(folder, texts.get(LIST, ""))
     told = [f"// {name} ({sum_of(text)})" for name, text in texts.items() if not OWN.search(text.partition("\n")[0])]
     if told and LIST in texts:
         head, line, rest = texts[LIST].partition("\n")

@@ -9,6 +9,7 @@ import shutil
 from typing import List, Tuple
 
 from vidlakost_tools import random_pins
+from vidlakost_tools.files import summed
 from vidlakost_tools.selftest_bench import Bench
 from vidlakost_tools.selftest_cases import FILES
 
@@ -64,6 +65,7 @@ FILES.update(
         "shown.v": "module /* a */ ram4x1(input ck, ce, we, input [1:0] a, input d, output q); endmodule\n",
         "mine/s_collar.v": "module mine; endmodule\n",
         "mine/Makefile": "all:\n\techo mine\n",
+        "held/files.f": summed("// made by vidlakost collar\nt_collar_tb.sv\n"),
         "odd;name.chip": "chip 1\nname both\nbudget 3\nunit 2 c.m s.mem\nunit 2 c.m t.mem\n",
         "chip.chip": "chip 1\nname both\nbudget 3\nunit 2 c.m chip.mem\n",
         "chip.mem": HALF.format("chip"),
@@ -114,6 +116,7 @@ CALLS: List[Tuple[str, List[str], int, str, str]] = [
     ("", ["tools/top", "path.list", "s.pins", "none"], 2, "", "top: path.list: the name '../all' is none for a module"),
     ("", ["tools/top", "two.list1", "s.pins", "none"], 2, "", "top: two.list1:4: the line name NAME stands once"),
     ("", [*COLLAR, "mine"], 2, "", "collar: mine/s_collar.v is there and was not written by vidlakost"),
+    ("", [*COLLAR, "held"], 2, "", "collar: held/files.f is the list of 't_collar_tb.sv', so nothing is written"),
     ("", [*COLLAR, "vendor", "--model", "hidden.v"], 2, "", "collar: s.pins:1: there is no module ram4x1 in /"),
     ("", [*COLLAR, "vendor", "--model", "no such.v"], 2, "", "collar: --model: 'no such.v' is no file"),
     ("", [*COLLAR, "vendor", "--model", "shown.v"], 0, "vendor/files.f", ""),
