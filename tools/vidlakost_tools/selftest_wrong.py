@@ -1,4 +1,5 @@
-"""What `vidlakost selftest` does with wrong collars: a line of a right one is changed, and its testbench has to tell."""
+"""What `vidlakost selftest` does with wrong collars, and a wrong module that joins them: a line of a right one is changed, and its
+testbench has to tell."""
 from __future__ import annotations
 
 import concurrent.futures
@@ -7,7 +8,7 @@ import pathlib
 import shutil
 
 from vidlakost_tools.selftest_bench import Bench
-from vidlakost_tools.selftest_collar import MARCH
+from vidlakost_tools.selftest_collar import MARCH, SIX
 
 HEAD = "memory 2\nname {}\nwords 8\nbits {}\nlatency 2\nbackgrounds 0\n"
 OTHER = "port we v 2\nport addr b\nport wdata e\nport rdata p\n"
@@ -35,7 +36,17 @@ WRONG = [
     ("the high part reads the low one", "lower", "high_rdata = returned[7:3]", "high_rdata = {2'd0, returned[2:0]}", False),
     ("the high part does not count", "lower", "low_fail | high_fail", "low_fail", True),
     ("parts out of step do not count", "lower", " | apart_kept", "", True),
+    ("an enable hangs on the chip's pin of another memory", "six", ".cea(dual_cea)", ".cea(bytes_cen)", False),
+    ("the chip's write is never idle", "six", ".w(late_w)", ".w(1'b1)", False),
+    ("an address hangs on the chip's pin of the other port", "six", ".ab(dual_ab)", ".ab(dual_aa)", False),
+    ("an answer doesn't reach the chip", "six", ".q(rest_q)", ".q()", False),
 ]
+
+
+def made_system(bench: Bench) -> pathlib.Path:
+    """The folder of a right module that joins six collars."""
+    bench.run(["tools/top", "examples/six/six.chip", *SIX, "wrong/six/made"])
+    return bench.folder / "wrong" / "six" / "made"
 
 
 def made(bench: Bench, name: str) -> pathlib.Path:
@@ -59,25 +70,25 @@ def call(name: str, is_planted: bool) -> list[str]:
 
 
 def is_told(bench: Bench, right: pathlib.Path, number: int) -> None:
-    """A wrong collar does not pass."""
+    """What is wrong does not pass."""
     what, name, old, new, is_planted = WRONG[number]
     folder = right.parent.parent / str(number)
     shutil.copytree(right, folder)
-    collar = folder / f"{name}_collar.v"
-    text = collar.read_text(encoding="utf-8")
-    bench.is_so(old in text, f"{what}: {old!r} does not stand in the collar")
-    collar.write_text(text.replace(old, new), encoding="utf-8")
+    module = folder / ("six_system.v" if name == "six" else f"{name}_collar.v")
+    text = module.read_text(encoding="utf-8")
+    bench.is_so(old in text, f"{what}: {old!r} does not stand in the module")
+    module.write_text(text.replace(old, new), encoding="utf-8")
     done = bench.run(call(str(number), is_planted))
     bench.is_so(done.returncode == 1 and "FATAL" in done.stdout, f"{what} is not told: {done.stdout}{done.stderr}")
 
 
-def collars(bench: Bench) -> None:
-    """Right collars pass, and wrong ones do not."""
+def modules(bench: Bench) -> None:
+    """Right collars and what joins them pass, and wrong ones do not."""
     if not shutil.which("iverilog"):
         print("iverilog is not installed, so no wrong collar is run")
         return
-    right = {name: made(bench, name) for name in PINS}
-    for name in PINS:
+    right = {**{name: made(bench, name) for name in PINS}, "six": made_system(bench)}
+    for name in right:
         for is_planted in (False, True):
             done = bench.run(call(f"{name}/made", is_planted))
             bench.is_so(not done.returncode, f"{name}: {done.stdout}{done.stderr}")
@@ -85,4 +96,4 @@ def collars(bench: Bench) -> None:
         list(workers.map(lambda number: is_told(bench, right[WRONG[number][1]], number), range(len(WRONG))))
 
 
-PARTS = (collars,)
+PARTS = (modules,)

@@ -7,9 +7,9 @@ import dataclasses
 
 from vidlakost_tools import collar_lanes
 from vidlakost_tools.access_block import Port
-from vidlakost_tools.collar_bench import under_power
+from vidlakost_tools.collar_bench import Bench, shared
 from vidlakost_tools.collar_text import FOOT, HEAD, MARK, PLANTED, POWER, Names, halves, has_other_lanes, own_ports
-from vidlakost_tools.macro_pins import RESERVED, Pin
+from vidlakost_tools.macro_pins import RESERVED, Pin, bit_of
 from vidlakost_tools.soc import Part, Placed, System
 from vidlakost_tools.tool import ToolError
 from vidlakost_tools.verilog import ranged
@@ -225,8 +225,9 @@ def told_of(part: Part, system: System) -> str:
 
 # ---- the testbench
 
-BENCH = """{mark} top: a testbench of {name}_system. It ends with a status: of sound memories the test passes, and with
-// +planted one fault after another stands in front of each memory, and has to be found there and nowhere else.
+BENCH = """{mark} top: a testbench of {name}_system. It ends with a status: the chip uses each memory by its pins, before the test
+// and behind it, and of sound memories the test passes; with +planted one fault after another stands in front of each memory,
+// and has to be found there and nowhere else.
 `define {planted}
 {head}module {name}_system_tb;
   reg clk = 1'b0;
@@ -241,7 +242,7 @@ BENCH = """{mark} top: a testbench of {name}_system. It ends with a status: of s
 {power}    .clk(clk), .test(test), .done(done), .fail(fail), .planted(planted),
     {links}
   );
-
+{tasks}
   task run(input [{planted_top}:0] what, input {fails}where);
     begin
       planted = what;
@@ -264,8 +265,11 @@ BENCH = """{mark} top: a testbench of {name}_system. It ends with a status: of s
     if ($test$plusargs("planted") != 0) begin
 {faults}
     end else begin
+{uses}
       run({planted_width}'d0, {zero});
       $display("{name}: passes");
+      repeat (4) @(negedge clk);
+{again}
     end
     $finish;
   end
@@ -273,17 +277,30 @@ endmodule
 {foot}"""
 
 
-def chip_side(placed: Placed, way: str, pin: Pin) -> str:
-    """The chip's side of a pin: in test it is unknown, but for clocks, which stand still."""
-    name, head = port_name(placed, pin.name), ranged(pin.width)
-    if way == "output":
-        return f"  wire {head}c_{name};"
-    if pin.kind in ("clk", "clock2"):
-        return f"  wire c_{name} = 1'b0;"
-    value = pin.value or f"{pin.width}'h0" if pin.kind == "pass" else pin.idle()
-    if pin.kind == "pass" and not pin.value:
-        return f"  wire {head}c_{name} = {value};"
-    return f"  wire {head}c_{name} = test ? {{{pin.width}{{1'bx}}}} : {value};"
+USE = """
+  task use_{name};
+    begin
+{uses}
+    end
+  endtask
+"""
+
+
+def in_test(pin: Pin, net: str, width: int) -> str:
+    """What the chip has at an input: in test it is unknown, but for clocks, which stand still, and what is never another."""
+    is_steady = pin.kind in ("clk", "clock2") or pin.kind == "pass" and not pin.value
+    return net if is_steady else f"test ? {{{width}{{1'bx}}}} : {net}"
+
+
+def chip_side(placed: Placed, one: Bench) -> list[str]:
+    """The chip's pins of a collar, and what they hang on."""
+    found = []
+    for way, pin in placed.macro.chip_pins():
+        for at, name in enumerate(pin.names() if way != "inout" else []):
+            width = 1 if pin.bits else pin.width
+            net = bit_of(one.inside(pin), pin.width, at) if pin.bits else one.inside(pin)
+            found.append(f".{port_name(placed, name)}({in_test(pin, net, width) if way == 'input' else net})")
+    return found
 
 
 def faults(system: System) -> list[tuple[int, int, str, list[Part]]]:
@@ -309,20 +326,15 @@ def most(system: System) -> int:
 def bench(system: System) -> str:
     """The testbench of the system."""
     count, width = len(system.parts), 3 * len(system.collars)
-    declared, links, power, supplies = [], [], [], []
-    if any(placed.macro.bypass for placed in system.collars):
-        links.append(".scan_mode(1'b0)")
+    links = [".scan_mode(scan_mode)"] if any(placed.macro.bypass for placed in system.collars) else []
+    declared, power, tasks, again = shared([placed.macro for placed in system.collars]), "", "", []
     for placed in system.collars:
-        for way, pin in placed.macro.chip_pins():
-            name = port_name(placed, pin.name)
-            if way == "inout":
-                supplies += [f"  wire c_{name} = 1'b{pin.value};"] if pin.value else []
-                power.append(f"    .{name}({f'c_{name}' if pin.value else ''}),")
-                continue
-            declared.append(chip_side(placed, way, pin))
-            nets = [f"c_{name}[{at}]" if pin.width > 1 else f"c_{name}" for at in range(len(pin.bits))]
-            bits = [(port_name(placed, one), net) for one, net in zip(pin.bits, nets)]
-            links += [f".{port}({net})" for port, net in bits or [(name, f"c_{name}")]]
+        one = Bench(placed.macro, placed.word, placed.name)
+        declared += one.declared()
+        power += one.power()
+        tasks += one.tasks() + USE.format(name=placed.name, uses=one.uses())
+        links += chip_side(placed, one)
+        again.append(one.again())
     lines = []
     for kind, number, what, parts in faults(system):
         where = sum(1 << system.parts.index(part) for part in parts)
@@ -337,9 +349,12 @@ def bench(system: System) -> str:
         planted_top=width - 1,
         planted_width=width,
         fails=ranged(count),
-        declared="\n".join(declared) + "\n" + under_power(supplies),
-        power=under_power(power),
+        declared="\n".join(declared),
+        power=power,
         links=",\n    ".join(links),
+        tasks=tasks,
+        uses="\n".join(f"      use_{placed.name};" for placed in system.collars),
+        again="\n".join(again),
         most=most(system),
         zero=f"{count}'d0",
         faults="\n".join(lines),
