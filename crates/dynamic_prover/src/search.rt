@@ -1,9 +1,11 @@
 //! The least direction word in which a march can be passed: at each element upward, unless no way leads on from there.
 
-ghost use Rattle.std.specs.Prelude.{◌≡◌, ◌≤◌, drop, length};
+ghost use Rattle.std.specs.Prelude.{◌≡◌, ◌≤◌, ◌<◌, None, Some, drop, length, true};
+ghost use Rattle.pair_tracker.specs.Reached.{is_dead, StaysDead};
 ghost use Rattle.pair_tracker.specs.Ways.{word_by, word_behind};
 ghost use Rattle.dynamic_prover.specs.inner.Ways.{any_end};
-ghost use Rattle.dynamic_prover.specs.inner.Legs.{leg_end};
+ghost use Rattle.dynamic_prover.specs.inner.Legs.{leg_end, own_number};
+ghost use Rattle.dynamic_prover.specs.declared.own_cells.OwnCells.{OwnCells};
 ghost use Rattle.dynamic_prover.specs.inner.DeadEnds.{AreDeadEnds};
 
 use crate::leg::Leg;
@@ -24,6 +26,8 @@ pub(crate) fn word_from(
     requires dead { AreDeadEnds shape legs.now dead_ends.old }
     ensures word { result ≡ word_behind (word_by any_end (leg_end shape) i (drop i legs.now)) start }
     ensures dead { AreDeadEnds shape legs.now dead_ends.new }
+    ensures kept { StaysDead dead_ends.old dead_ends.new }
+    ensures noted { result ≡ None → i < length legs.now → (q : OwnCells) → start ≡ Some q → is_dead dead_ends.new i (own_number q) ≡ true }
 {
     let own = start?;
     if i >= legs.len() {

@@ -9,7 +9,7 @@
 //! assert!(rt; read_prim(b"<0w1/1/->").err().is_some());
 //! ```
 //!
-//! It never judges.
+//! It never knows marches.
 #![tactic(auto)]
 
 mod fault;

@@ -1,4 +1,4 @@
--- Public. Only helps proofs: a march on two cells alone: the aggressor's (or, for a primitive of one cell, a bystander's) and the victim's.
+-- Public. A march on two cells alone: the aggressor's (or, for a primitive of one cell, a bystander's) and the victim's.
 use Rattle.std.specs.Prelude.{Bool, true, false, if◌then◌else◌, Option, Some, None, List, [], ◌∷◌}
 use Rattle.std.specs.Option.{option_and_then}
 use Rattle.fault_core.specs.declared.primitive.Act.{Act}

@@ -1,4 +1,4 @@
--- Public. Only helps proofs: the words that a search through some elements of a march finds, what it may know beforehand, and the ends of a summary by these words.
+-- Public. The words that a search through some elements of a march finds, what is known of states that lead nowhere, and the ends of a summary by these words.
 use Rattle.std.specs.Prelude.{◌≡◌, ◌≤◌, ◌+◌, ◌*◌, ℕ, Bool, true, false, ◌&&◌, Option, Some, None, List, [], ◌∷◌, map, length, slice_index_or}
 use Rattle.std.specs.List.{filter_map}
 use Rattle.std.specs.Option.{option_map}
@@ -27,6 +27,10 @@ word_to wanted m below march i j start = word_by wanted (end_of m below) i (elem
 -- whether a state before an element is known to lead nowhere
 abbrev pub is_dead : DeadEnds → ℕ → ℕ → Bool
 is_dead dead i n = slice_index_or dead.known (8 * i + n) false
+
+-- what was known stays known
+abbrev pub StaysDead : DeadEnds → DeadEnds → Type 0
+StaysDead old new = (i n : ℕ) → is_dead old i n ≡ true → is_dead new i n ≡ true
 
 -- what is known is so
 abbrev pub AreDeadEnds : (Pair → Bool) → Machine → Bool → List MarchElement → ℕ → DeadEnds → Type 0

@@ -1,4 +1,4 @@
--- Public. Only helps proofs: the elements of a march from one to another lead from a pair to another in the directions of a word.
+-- Public. The elements of a march from one to another lead from a pair to another in the directions of a word.
 use Rattle.std.specs.Prelude.{◌≡◌, ◌<◌, ◌-◌, ◌*◌, ◌^◌, ℕ, Bool, true, false, if◌then◌else◌, Option, Some, None, List}
 use Rattle.march_core.specs.March.{MarchElement, order_of}
 use Rattle.march_core.specs.Visits.{Direction, Upward, Downward, allows, is_direction}

@@ -1,4 +1,4 @@
--- Public. Only helps proofs: elements that each lead on in one of two directions, from any state. Whether some choice of directions leads to an end that is wanted, and the first that does.
+-- Public. Elements that each lead on in one of two directions, from any state. Whether some choice of directions leads to an end that is wanted, and the first that does.
 use Rattle.std.specs.Prelude.{◌+◌, ◌-◌, ◌^◌, ℕ, Bool, false, ◌||◌, if◌then◌else◌, Option, Some, None, List, [], ◌∷◌}
 use Rattle.std.specs.Option.{option_and_then}
 use Rattle.march_core.specs.Visits.{Direction, Upward, Downward}

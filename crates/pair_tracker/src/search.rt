@@ -1,12 +1,12 @@
 //! The least direction word that leads from a pair to an end that is wanted: at each element upward, unless no
 //! choice leads on from there.
-ghost use Rattle.std.specs.Prelude.{◌≡◌, ◌⊎◌, ◌<◌, ◌≤◌, ◌^◌, ◌-◌, ℕ, false, length, true};
+ghost use Rattle.std.specs.Prelude.{◌≡◌, ◌⊎◌, ◌<◌, ◌≤◌, ◌^◌, ◌-◌, ℕ, false, length, true, None, Some};
 ghost use Rattle.march_core.specs.Addresses.{direction_of};
 ghost use Rattle.march_core.specs.March.{element_at};
 ghost use Rattle.cell_machine.specs.declared.pair.Pair.{Pair};
 ghost use Rattle.pair_tracker.specs.Pairs.{machine_of};
 ghost use Rattle.pair_tracker.specs.Survivors.{pair_number};
-ghost use Rattle.pair_tracker.specs.Reached.{is_wanted, word_to, is_dead, AreDeadEnds};
+ghost use Rattle.pair_tracker.specs.Reached.{is_wanted, word_to, is_dead, StaysDead, AreDeadEnds};
 ghost use Rattle.pair_tracker.specs.Tracking.{end_of};
 ghost use Rattle.pair_tracker.specs.Ways.{word_behind};
 
@@ -45,7 +45,9 @@ impl DeadEnds {
     pub fn insert(&mut self, element: usize, state: usize)
         requires element { element < 64 }
         requires state { state < 8 }
-        ensures { (i n : ℕ) → n < 8 → is_dead self.new i n ≡ true → (is_dead self.old i n ≡ true) ⊎ ((i ≡ element) × (n ≡ state)) }
+        ensures only { (i n : ℕ) → n < 8 → is_dead self.new i n ≡ true → (is_dead self.old i n ≡ true) ⊎ ((i ≡ element) × (n ≡ state)) }
+        ensures noted { is_dead self.new element state ≡ true }
+        ensures kept { StaysDead self.old self.new }
     {
         self.known[8 * element + state] = true;
     }
@@ -99,6 +101,8 @@ pub(crate) fn word_from(
     requires dead { AreDeadEnds (is_wanted search.now.wanted) (machine_of search.now.prim.now) search.now.is_below search.now.march.now search.now.end dead_ends.old }
     ensures word { result ≡ word_behind (word_to (is_wanted search.now.wanted) (machine_of search.now.prim.now) search.now.is_below search.now.march.now i search.now.end) start }
     ensures dead { AreDeadEnds (is_wanted search.now.wanted) (machine_of search.now.prim.now) search.now.is_below search.now.march.now search.now.end dead_ends.new }
+    ensures kept { StaysDead dead_ends.old dead_ends.new }
+    ensures noted { result ≡ None → i < search.now.end → (q : Pair) → start ≡ Some q → is_dead dead_ends.new i (pair_number q) ≡ true }
 {
     let pair = start?;
     if i >= search.end {

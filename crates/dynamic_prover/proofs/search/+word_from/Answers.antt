@@ -35,4 +35,4 @@ returns-clause-dead t c = λ i q dead.
     (λ (h : (i ≡ c.args.i) × (own_number q ≡ c.number-2.result)).
     ap (λ k. word_by any_end lead k (drop k legs) q) h.0
     ∙ ap (λ r. word_by any_end lead c.args.i (drop c.args.i legs) r) (same_own q c.in_ok-own.own (h.1 ∙ c.number-2.ensures.value)) ∙ none)
-    (c.insert.ensures i (own_number q) (own_below q) dead)
+    (c.insert.ensures.only i (own_number q) (own_below q) dead)

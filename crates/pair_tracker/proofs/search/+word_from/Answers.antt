@@ -58,4 +58,4 @@ returns-clause-dead t c = λ i q dead.
     (λ (h : (i ≡ c.args.i) × (pair_number q ≡ c.number_of-2.result)).
     ap (λ k. word_to (is_wanted s.wanted) (machine_of s.prim.now) s.is_below s.march.now k s.end q) h.0
     ∙ ap (λ r. word_to (is_wanted s.wanted) (machine_of s.prim.now) s.is_below s.march.now c.args.i s.end r) (same_number q c.in_ok-pair.pair (h.1 ∙ c.number_of-2.ensures.number)) ∙ none)
-    (let below : pair_number q < 4 = number_below q in c.insert.ensures i (pair_number q) (omega arith) dead)
+    (let below : pair_number q < 4 = number_below q in c.insert.ensures.only i (pair_number q) (omega arith) dead)
