@@ -2,7 +2,7 @@
 //! simulator compiles a module to.
 //!
 //! A value is a number (`code`, `action`, `run`), or a number or nothing (`open_code`, `open_action`, `open_run`), where
-//! some names are left open. One code serves both. Names, widths and modules are unknown here: a place is an index.
+//! some names are left open. One code serves both. Names and modules are unknown here: a place is an index.
 //!
 //! A net is worked out again only where something that it reads has changed (`step`, `run`).
 //!
@@ -13,7 +13,7 @@
 //! assert!(rt; value(&chosen, &[1, 5]) == 5 && value(&chosen, &[0, 5]) == 9);
 //! ```
 //!
-//! It knows no names, widths or modules, and takes no memory.
+//! It knows no names or modules, and of a width only its ones, where a code has them. It takes no memory.
 #![tactic(auto)]
 
 pub mod action;

@@ -1,6 +1,6 @@
 -- Public. For proofs and private contracts alone: what the actions of statements have to do.
 use Rattle.std.specs.Prelude.{◌≡◌, ℕ, ◌^◌, ◌<◌, Bool, true, false, List, [], ◌∷◌, None}
-use Rattle.verilog_tree.specs.Plain.{Statement, Statements, Arms, ModuleItem, WireItem, RegItem, AssignItem, AlwaysItem}
+use Rattle.verilog_tree.specs.Plain.{Statement, Statements, Arms, ModuleItem, AlwaysItem}
 use Rattle.verilog_tree.specs.Formed.{statement_formed, statements_formed, arms_formed}
 use Rattle.verilog_tree.specs.Meaning.{sets_of, sets, arm_sets, block_sets}
 use Rattle.verilog_tree.specs.Rules.{statement_widths, statements_widths, arms_widths}
@@ -32,16 +32,12 @@ pub record DoesArms (w : List ℕ → ℕ) (ns : List (List ℕ)) (as' : Arms) (
 -- the statements of blocks are formed, and their widths agree
 abbrev pub BlocksWide : (List ℕ → ℕ) → List ModuleItem → Type 0
 BlocksWide w [] = Unit {0}
-BlocksWide w (WireItem n k ∷ is) = BlocksWide w is
-BlocksWide w (RegItem n k ∷ is) = BlocksWide w is
-BlocksWide w (AssignItem n x ∷ is) = BlocksWide w is
 BlocksWide w (AlwaysItem c ss ∷ is) = (statements_formed ss ≡ true) × (statements_widths w ss ≡ None) × BlocksWide w is
+BlocksWide w (other ∷ is) = BlocksWide w is
 
 pub record DoesBlocks (w : List ℕ → ℕ) (ns : List (List ℕ)) (is : List ModuleItem) (bs : List (List Run)) : Type 0 where
   pub does : Narrow w → BlocksWide w is → (vs : List ℕ) → Within w ns vs → (old : List ℕ) → run_blocks bs vs old ≡ written ns (block_sets w (valued ns vs) is) old
 
 abbrev pub is_always : ModuleItem → Bool
-is_always (WireItem n k) = false
-is_always (RegItem n k) = false
-is_always (AssignItem n x) = false
 is_always (AlwaysItem c ss) = true
+is_always other = false

@@ -1,5 +1,5 @@
 //! What a design has beside its module. It is made while the module is borrowed, so that one owner alone drops a module.
-ghost use Rattle.std.specs.Prelude.{◌≡◌, IsTrue, true, None, map, IfOk};
+ghost use Rattle.std.specs.Prelude.{◌≡◌, true, None, map, IfOk};
 ghost use Rattle.verilog_tree.specs.Plain.{plain_module};
 ghost use Rattle.verilog_tree.specs.Formed.{formed};
 ghost use Rattle.verilog_tree.specs.Names.{declarations};

@@ -1,48 +1,14 @@
 //! Expressions, with parentheses round each operator.
 ghost use Rattle.std.specs.Prelude.{◌≡◌, ℕ, ◌+◌, ◌++◌, OnOk, codes, map, true};
 ghost use Rattle.verilog_tree.specs.Plain.{plain, expressions, BitSelect, PartSelect};
-ghost use Rattle.verilog_tree.specs.Grammar.{unary_mark, binary_mark};
+ghost use Rattle.verilog_tree.specs.Grammar.{binary_mark};
 ghost use Rattle.verilog_tree.specs.Tokens.{mark_text};
 ghost use Rattle.verilog_emit.specs.Printed.{expression_text, parts_text};
 
 use crate::writing::{put_literal, put_name, put_separator};
 use bist_bits::NoMemory;
 use bist_text::{put, put_decimal};
-use verilog_tree::{BinOp, Expr, Name, UnOp};
-
-fn unary_text(op: UnOp) -> &'static [u8]
-    ensures { result.now ≡ mark_text (unary_mark op) }
-{
-    match op {
-        UnOp::Not => b"!",
-        UnOp::Invert => b"~",
-        UnOp::AllOnes => b"&",
-        UnOp::AnyOne => b"|",
-        UnOp::Parity => b"^",
-    }
-}
-
-fn binary_text(op: BinOp) -> &'static [u8]
-    ensures { result.now ≡ mark_text (binary_mark op) }
-{
-    match op {
-        BinOp::Add => b"+",
-        BinOp::Sub => b"-",
-        BinOp::And => b"&",
-        BinOp::Or => b"|",
-        BinOp::Xor => b"^",
-        BinOp::Eq => b"==",
-        BinOp::Ne => b"!=",
-        BinOp::Lt => b"<",
-        BinOp::Le => b"<=",
-        BinOp::Gt => b">",
-        BinOp::Ge => b">=",
-        BinOp::LogAnd => b"&&",
-        BinOp::LogOr => b"||",
-        BinOp::Shl => b"<<",
-        BinOp::Shr => b">>",
-    }
-}
+use verilog_tree::{BinOp, Expr, Name, binary_text, unary_text};
 
 fn put_bit(out: &mut Vec<u8>, name: &Name, place: u8) -> Result<(), NoMemory>
     ensures { OnOk result (out.new.items ≡ out.old.items ++ expression_text (BitSelect name.now.bytes place)) }

@@ -14,7 +14,8 @@
 //! assert!(rt; read_free(rt.alloc(), text)?.items.len() == 1);
 //! ```
 //!
-//! It never checks the rules of a module, and recurses no deeper than 64.
+//! It never checks the rules of a module. Its reading recurses no deeper than 64; only what drops a tree that it gives
+//! up goes as deep as that tree.
 #![tactic(auto)]
 
 mod expressions;

@@ -1,37 +1,19 @@
 //! The operators of an expression that wait for their second operand.
 ghost use Rattle.std.specs.Prelude.{◌≡◌, IfOk, IfErr};
 ghost use Rattle.verilog_tree.specs.Plain.{plain};
-ghost use Rattle.verilog_tree.specs.Free.{height};
 ghost use Rattle.verilog_text.specs.Flat.{settle, settle_all, linked};
 ghost use Rattle.verilog_read.specs.inner.Waiting.{lefts_of, waiting_of};
 
 use crate::fault::ParseFault;
 use crate::trees::infixed;
 use std::alloc::Global;
-use verilog_tree::{BinOp, Expr};
+use verilog_tree::{BinOp, Expr, height};
 
 /// An operator that waits for its second operand, behind its first.
 #[derive(Drop)]
 pub struct Left {
     pub operand: Expr,
     pub operator: BinOp,
-}
-
-/// The height of an operator: those of height 1 bind most tightly.
-fn height(operator: BinOp) -> u8
-    ensures { result ≡ height operator }
-{
-    match operator {
-        BinOp::Add | BinOp::Sub => 1,
-        BinOp::Shl | BinOp::Shr => 2,
-        BinOp::Lt | BinOp::Le | BinOp::Gt | BinOp::Ge => 3,
-        BinOp::Eq | BinOp::Ne => 4,
-        BinOp::And => 5,
-        BinOp::Xor => 6,
-        BinOp::Or => 7,
-        BinOp::LogAnd => 8,
-        BinOp::LogOr => 9,
-    }
 }
 
 /// The operators that bind at least as tightly as one of this height take what is behind them.

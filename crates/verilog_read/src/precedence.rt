@@ -8,7 +8,7 @@ ghost use Rattle.verilog_tree.specs.Grammar.{deeper};
 ghost use Rattle.verilog_tree.specs.Tokens.{Token, Sign};
 ghost use Rattle.verilog_text.specs.Places as Q;
 ghost use Rattle.verilog_text.specs.Places.{InRound, IfTrue, Alone, AtExpr, WantOperand, WantPrim, Named, Have, Linked, more_parts};
-ghost use Rattle.verilog_text.specs.Steps.{in_room, unary_of, infix_of, prim_step, operand_step, close_step, have_step};
+ghost use Rattle.verilog_text.specs.Steps.{in_room, prim_step, operand_step, close_step, have_step};
 ghost use Rattle.verilog_read.specs.inner.Waiting.{lefts_of};
 ghost use Rattle.verilog_read.specs.inner.Holding.{token_of, nest, nests_of, is_expected, IsList, ExprSteps, Closes, PoppedNest};
 
@@ -20,7 +20,12 @@ use bist_bits::Bits;
 use bist_text::is_reserved;
 use std::alloc::Global;
 use verilog_text::Count;
-use verilog_tree::{BinOp, Expr, Mark, Name, UnOp};
+use verilog_tree::{BinOp, Expr, Mark, Name, UnOp, infix_of, unary_of};
+
+/// How many openings may be open at once, and how many operators an expression may have that stands in no other.
+const MOST_OPENINGS: u8 = 64;
+
+const MOST_OPERATORS: u16 = 256;
 
 /// The operands that are read one behind another: how many operators are counted so far, those that wait for an operand,
 /// and the mark before the operand that is read.
@@ -66,46 +71,14 @@ pub enum Closed {
     Whole(Expr),
 }
 
-pub(crate) fn unary_of(mark: Mark) -> Option<UnOp>
-    ensures { result ≡ unary_of mark }
-{
-    match mark {
-        Mark::Bang => Some(UnOp::Not),
-        Mark::Tilde => Some(UnOp::Invert),
-        Mark::Ampersand => Some(UnOp::AllOnes),
-        Mark::Bar => Some(UnOp::AnyOne),
-        Mark::Caret => Some(UnOp::Parity),
-        _ => None,
-    }
-}
-
-pub(crate) fn infix_of(mark: Mark) -> Option<BinOp>
-    ensures { result ≡ infix_of mark }
-{
-    match mark {
-        Mark::Plus => Some(BinOp::Add),
-        Mark::Minus => Some(BinOp::Sub),
-        Mark::Ampersand => Some(BinOp::And),
-        Mark::Bar => Some(BinOp::Or),
-        Mark::Caret => Some(BinOp::Xor),
-        Mark::TwoEquals => Some(BinOp::Eq),
-        Mark::BangEquals => Some(BinOp::Ne),
-        Mark::Less => Some(BinOp::Lt),
-        Mark::LessEquals => Some(BinOp::Le),
-        Mark::Greater => Some(BinOp::Gt),
-        Mark::GreaterEquals => Some(BinOp::Ge),
-        Mark::TwoAmpersands => Some(BinOp::LogAnd),
-        Mark::TwoBars => Some(BinOp::LogOr),
-        Mark::TwoLess => Some(BinOp::Shl),
-        Mark::TwoGreater => Some(BinOp::Shr),
-        _ => None,
-    }
-}
-
 pub(crate) fn deeper(depth: u8) -> Option<u8>
     ensures { result ≡ deeper bounded depth }
 {
-    if depth < 64 { Some(depth + 1) } else { None }
+    if depth < MOST_OPENINGS {
+        Some(depth + 1)
+    } else {
+        None
+    }
 }
 
 /// One operator more, where one more may be.
@@ -114,7 +87,7 @@ fn one_more(count: Count) -> Option<Count>
 {
     match count {
         Count::Together(operators) => {
-            if operators < 256 {
+            if operators < MOST_OPERATORS {
                 Some(Count::Together(operators + 1))
             } else {
                 None

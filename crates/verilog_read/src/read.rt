@@ -38,16 +38,21 @@ pub(crate) struct Next {
     pub fresh: bool,
 }
 
-/// How large a number may be that goes on: 63 in brackets, and else 64, as the size of a literal.
+/// The highest place of a bit, and the largest size of a literal.
+const MOST_PLACE: u8 = 63;
+
+const MOST_SIZE: u8 = 64;
+
+/// How large a number may be that goes on: a place in brackets, and else the size of a literal.
 fn most_at(place: &Place, outer: &Outer) -> u8
     ensures value { result ≡ most_of (state_of place.now outer.now) }
     ensures low { 63 ≤ result }
     ensures high { result ≤ 64 }
 {
     if takes_number(place, outer, false, 0) {
-        63
+        MOST_PLACE
     } else {
-        64
+        MOST_SIZE
     }
 }
 

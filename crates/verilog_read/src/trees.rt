@@ -9,37 +9,28 @@ ghost use Rattle.verilog_text.specs.Following.{case_of};
 use crate::fault::ParseFault;
 use bist_bits::Bits;
 use std::alloc::Global;
+use verilog_tree::build::{binary, choose, unary};
 use verilog_tree::{Arm, BinOp, Expr, Stmt, UnOp};
-
-fn boxed(alloc: Global, x: Expr) -> Result<Box<Expr>, ParseFault>
-    ensures value { IfOk result (λ y. plain y.value ≡ plain x) }
-    ensures fault { IfErr result (λ f. f ≡ ParseFault.NoMemory) }
-{
-    Ok(Box::new(alloc, x)?)
-}
 
 pub(crate) fn prefixed(alloc: Global, op: UnOp, x: Expr) -> Result<Expr, ParseFault>
     ensures value { IfOk result (λ y. plain y ≡ Prefixed op (plain x)) }
     ensures fault { IfErr result (λ f. f ≡ ParseFault.NoMemory) }
 {
-    Ok(Expr::Unary(op, boxed(alloc, x)?))
+    unary(alloc, op, x).map_err(|_| ParseFault::NoMemory)
 }
 
 pub(crate) fn infixed(alloc: Global, op: BinOp, x: Expr, y: Expr) -> Result<Expr, ParseFault>
     ensures value { IfOk result (λ z. plain z ≡ Infixed op (plain x) (plain y)) }
     ensures fault { IfErr result (λ f. f ≡ ParseFault.NoMemory) }
 {
-    let x = boxed(alloc, x)?;
-    Ok(Expr::Binary(op, x, boxed(alloc, y)?))
+    binary(alloc, op, x, y).map_err(|_| ParseFault::NoMemory)
 }
 
 pub(crate) fn conditional(alloc: Global, c: Expr, x: Expr, y: Expr) -> Result<Expr, ParseFault>
     ensures value { IfOk result (λ z. plain z ≡ Conditional (plain c) (plain x) (plain y)) }
     ensures fault { IfErr result (λ f. f ≡ ParseFault.NoMemory) }
 {
-    let c = boxed(alloc, c)?;
-    let x = boxed(alloc, x)?;
-    Ok(Expr::Choose(c, x, boxed(alloc, y)?))
+    choose(alloc, c, x, y).map_err(|_| ParseFault::NoMemory)
 }
 
 pub(crate) fn only(alloc: Global, stmt: Stmt) -> Result<Vec<Stmt>, ParseFault>

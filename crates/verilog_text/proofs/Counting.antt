@@ -9,7 +9,7 @@ use Rattle.verilog_tree.specs.declared.tokens.Mark.TheVariants.{Open, Close, Ope
 use Rattle.verilog_tree.specs.declared.tree.BinOp.{BinOp}
 use Rattle.verilog_tree.specs.declared.tree.UnOp.{UnOp}
 use Rattle.verilog_tree.specs.Pieces.{Limit, deeper, few_in, few, sign, inside, unary_mark, binary_mark}
-use Rattle.verilog_tree.specs.Free.{height, operators, all_operators, signed}
+use Rattle.verilog_tree.specs.Free.{height, operators, all_operators}
 use Rattle.verilog_text.specs.Flat as F
 use Rattle.verilog_text.specs.Flat.{Count, Together, Left, joined as combined, settle, settle_all, linked}
 use Rattle.verilog_text.proofs.Uncounted as U
@@ -76,10 +76,6 @@ waiting (w ∷ ws) = operators w.operand + waiting ws + 1
 abbrev marks : Option UnOp → ℕ
 marks None = 0
 marks (Some u) = 1
-
-signed_count : (u : Option UnOp) (e : P.Expression) → operators (signed u e) ≡ operators e + marks u
-signed_count None e = omega arith
-signed_count (Some u) e = refl
 
 abbrev count : F.Waiting → ℕ
 count w = operators w.last + waiting w.lefts

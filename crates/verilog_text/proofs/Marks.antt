@@ -1,18 +1,18 @@
 -- Marks by their texts, and the operators that they are.
-use Rattle.std.proofs.Common.{◌≡◌, ℕ, Bool, true, false, List, [], ◌∷◌, Option, Some, None, refl, ◌↔◌, subst, sym, ap, ◌∙◌}
+use Rattle.std.proofs.Common.{◌≡◌, ℕ, Bool, true, false, if◌then◌else◌, List, [], ◌∷◌, Option, Some, None, refl, ◌↔◌, subst, sym, ap, ◌∙◌}
 use Rattle.std.proofs.lemmas.Slice.Eq.{bytes_eq-Decides}
 use Rattle.std.specs.Str.{bytes_eq}
 use Rattle.bist_text.specs.Grammar.{when}
 use Rattle.bist_text.specs.Machine.{Holds}
 use Rattle.verilog_tree.specs.Grammar.{is_sign, sign, unary_mark, binary_mark}
 use Rattle.verilog_tree.specs.Tokens.{mark_text, Token, Sign, mark_of, lengthened}
-use Rattle.verilog_tree.specs.declared.tokens.Mark.TheVariants.{Open, Plus, Minus, Ampersand, Bar, Caret, Tilde, Bang, LessEquals, TwoEquals, BangEquals, Less, Greater, GreaterEquals, TwoAmpersands, TwoBars, TwoLess, TwoGreater}
+use Rattle.verilog_tree.specs.declared.tokens.Mark.TheVariants.{Open}
 use Rattle.verilog_tree.specs.declared.tokens.Mark.{Mark}
 use Rattle.verilog_tree.specs.declared.tree.BinOp.TheVariants as B
 use Rattle.verilog_tree.specs.declared.tree.BinOp.{BinOp}
 use Rattle.verilog_tree.specs.declared.tree.UnOp.TheVariants as U
 use Rattle.verilog_tree.specs.declared.tree.UnOp.{UnOp}
-use Rattle.verilog_text.specs.Steps.{infix_of, unary_of}
+use Rattle.verilog_tree.specs.Marked.{prefixes, infixes, marked, infix_of, unary_of}
 
 pub bytes_same : (v w : List ℕ) → bytes_eq v w ≡ true → v ≡ w
 bytes_same v w h = (bytes_eq-Decides v w).0 h
@@ -48,37 +48,17 @@ unary_is : (u : UnOp) → unary_of (unary_mark u) ≡ Some u
 unary_is U.Not = refl
 unary_is u = refl
 
-some_is : {O : Type 0} (mark : O → Mark) (m : Mark) (o u : O) → mark o ≡ m → Some o ≡ Some u → mark u ≡ m
-some_is mark m o u e h = let k : o ≡ u = cc in subst (λ x. mark x ≡ m) k e
+first_own : {O : Type 0} (mark : O → Mark) (x : O) (more : Option O) (m : Mark) (o : O) (t : Bool) → is_sign (mark x) m ≡ t → (more ≡ Some o → mark o ≡ m) → (if t then Some x else more) ≡ Some o → mark o ≡ m
+first_own {O} mark x more m o true e f h = let k : x ≡ o = cc in subst (λ (y : O). mark y ≡ m) k (sym (is_mark (mark x) m e))
+first_own mark x more m o false e f h = f h
 
-no_one : {O : Type 0} (mark : O → Mark) (m : Mark) (u : O) → None ≡ Some u → mark u ≡ m
-no_one mark m u h = cc
-
-pub infix_from : (m : Mark) (b : BinOp) → infix_of m ≡ Some b → binary_mark b ≡ m
-infix_from Plus b = some_is binary_mark Plus B.Add b refl
-infix_from Minus b = some_is binary_mark Minus B.Sub b refl
-infix_from Ampersand b = some_is binary_mark Ampersand B.And b refl
-infix_from Bar b = some_is binary_mark Bar B.Or b refl
-infix_from Caret b = some_is binary_mark Caret B.Xor b refl
-infix_from TwoEquals b = some_is binary_mark TwoEquals B.Eq b refl
-infix_from BangEquals b = some_is binary_mark BangEquals B.Ne b refl
-infix_from Less b = some_is binary_mark Less B.Lt b refl
-infix_from LessEquals b = some_is binary_mark LessEquals B.Le b refl
-infix_from Greater b = some_is binary_mark Greater B.Gt b refl
-infix_from GreaterEquals b = some_is binary_mark GreaterEquals B.Ge b refl
-infix_from TwoAmpersands b = some_is binary_mark TwoAmpersands B.LogAnd b refl
-infix_from TwoBars b = some_is binary_mark TwoBars B.LogOr b refl
-infix_from TwoLess b = some_is binary_mark TwoLess B.Shl b refl
-infix_from TwoGreater b = some_is binary_mark TwoGreater B.Shr b refl
-infix_from m b = no_one binary_mark m b
+-- what is found by its mark has it
+its_own : {O : Type 0} (mark : O → Mark) (os : List O) (m : Mark) (o : O) → marked mark os m ≡ Some o → mark o ≡ m
+its_own mark [] m o h = cc
+its_own mark (x ∷ xs) m o h = first_own mark x (marked mark xs m) m o (is_sign (mark x) m) refl (its_own mark xs m o) h
 
 pub unary_from : (m : Mark) (u : UnOp) → unary_of m ≡ Some u → unary_mark u ≡ m
-unary_from Bang u = some_is unary_mark Bang U.Not u refl
-unary_from Tilde u = some_is unary_mark Tilde U.Invert u refl
-unary_from Ampersand u = some_is unary_mark Ampersand U.AllOnes u refl
-unary_from Bar u = some_is unary_mark Bar U.AnyOne u refl
-unary_from Caret u = some_is unary_mark Caret U.Parity u refl
-unary_from m u = no_one unary_mark m u
+unary_from m u h = its_own unary_mark prefixes m u h
 
 -- the operator that a mark is, behind which K stands
 operator_goes : {O X : Type 0} (mark : O → Mark) (of : Mark → Option O) → ((o : O) → of (mark o) ≡ Some o) → ((m : Mark) (o : O) → of m ≡ Some o → mark o ≡ m) → (K : O → X → List Token → Type 0) (m : Mark) (ts : List Token) → ((o : O) × (x : X) × sign (mark o) (K o x) (Sign m ∷ ts)) ↔ Holds (of m) (λ o. (x : X) × K o x ts)
@@ -93,7 +73,7 @@ operator_goes {O} {X} mark of is from K m ts = (λ h. to h.0 h.1 (is_sign (mark 
     back (Some o) e h = (o, h.0, let k : is_sign (mark o) m ≡ true = subst (λ n. is_sign (mark o) n ≡ true) (from m o e) (its_mark (mark o)) in subst (λ t. when t (K o h.0 ts)) (sym k) h.1)
 
 pub infix_goes : {X : Type 0} (K : BinOp → X → List Token → Type 0) (m : Mark) (ts : List Token) → ((b : BinOp) × (x : X) × sign (binary_mark b) (K b x) (Sign m ∷ ts)) ↔ Holds (infix_of m) (λ b. (x : X) × K b x ts)
-infix_goes K m ts = operator_goes binary_mark infix_of infix_is infix_from K m ts
+infix_goes K m ts = operator_goes binary_mark infix_of infix_is (its_own binary_mark infixes) K m ts
 
 pub unary_goes : {X : Type 0} (K : UnOp → X → List Token → Type 0) (m : Mark) (ts : List Token) → ((u : UnOp) × (x : X) × sign (unary_mark u) (K u x) (Sign m ∷ ts)) ↔ Holds (unary_of m) (λ u. (x : X) × K u x ts)
-unary_goes K m ts = operator_goes unary_mark unary_of unary_is unary_from K m ts
+unary_goes K m ts = operator_goes unary_mark unary_of unary_is (its_own unary_mark prefixes) K m ts

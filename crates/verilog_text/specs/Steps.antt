@@ -6,14 +6,13 @@ use Rattle.bist_text.specs.ReservedWords.{is_among, reserved_words}
 use Rattle.verilog_tree.specs.Grammar.{is_sign, is_zero, deeper, then_all, alone, Limit}
 use Rattle.verilog_tree.specs.Free.{signed}
 use Rattle.verilog_text.specs.Flat.{Left, Count, one_more, in_parens, in_braces, behind, linked, settle_all}
+pub use Rattle.verilog_tree.specs.Marked.{unary_of, infix_of}
 use Rattle.verilog_tree.specs.Plain as P
 use Rattle.verilog_tree.specs.Tokens.{Token, Identifier, Number, Based, Unused, Sign}
-use Rattle.verilog_tree.specs.declared.tokens.Mark.TheVariants.{Open, Close, OpenBracket, CloseBracket, OpenBrace, CloseBrace, Comma, Semicolon, Colon, At, Question, Equals, LessEquals, Plus, Minus, Ampersand, Bar, Caret, Tilde, Bang, TwoEquals, BangEquals, Less, Greater, GreaterEquals, TwoAmpersands, TwoBars, TwoLess, TwoGreater}
+use Rattle.verilog_tree.specs.declared.tokens.Mark.TheVariants.{Open, Close, OpenBracket, CloseBracket, OpenBrace, CloseBrace, Comma, Semicolon, Colon, At, Question, Equals, LessEquals}
 use Rattle.verilog_tree.specs.declared.tokens.Mark.{Mark}
-use Rattle.verilog_tree.specs.declared.tree.BinOp.TheVariants as B
 use Rattle.verilog_tree.specs.declared.tree.BinOp.{BinOp}
 use Rattle.verilog_tree.specs.declared.tree.Dir.TheVariants.{Input, Output, OutputReg}
-use Rattle.verilog_tree.specs.declared.tree.UnOp.TheVariants as U
 use Rattle.verilog_tree.specs.declared.tree.UnOp.{UnOp}
 use Rattle.verilog_text.specs.Following.{case_of, declare, new_head}
 use Rattle.verilog_text.specs.Places.{Head, with_item, InArm, InAlways, InBlock, InDefault, Around, InThen, InElse, Outside, more_parts, more_arms, HighRead, ExprPlace, Bracket, Have, Named, LowRead, ColonRead, Block, IfRead, WantStmt, FirstLabel, CaseRead, Labels, HaveStmt, StmtPlace, DefaultRead, NextLabel, Target, AsReg, Use, AsWire, AsPort, AssignRead, WantName, HeadName, Begin, WantPort, WantRange, PortsRead, OutputRead, InputRead, WantZero, AlwaysRead, NameRead, WantColon, ClockRead, AtRead, ItemPlace, DriveRead, WantHigh, EdgeRead, HeadOpen, WantBracket, WantItem, Ended, ClockOpen, AtExpr, AtStmt, State, AtItem, style_of, Alone, AsDriver, AsCondition, AsSubject, AsValue, Nest, Only, InRound, InList, IfTrue, IfFalse, Linked, WantOperand, WantPrim, begin_expr}
@@ -41,32 +40,6 @@ expects m s _ = None
 abbrev pub expects_word : List ℕ → State → Token → Option State
 expects_word w s (Identifier v) = only_where (bytes_eq v w) (Some s)
 expects_word w s _ = None
-
-abbrev pub unary_of : Mark → Option UnOp
-unary_of Bang = Some U.Not
-unary_of Tilde = Some U.Invert
-unary_of Ampersand = Some U.AllOnes
-unary_of Bar = Some U.AnyOne
-unary_of Caret = Some U.Parity
-unary_of _ = None
-
-abbrev pub infix_of : Mark → Option BinOp
-infix_of Plus = Some B.Add
-infix_of Minus = Some B.Sub
-infix_of Ampersand = Some B.And
-infix_of Bar = Some B.Or
-infix_of Caret = Some B.Xor
-infix_of TwoEquals = Some B.Eq
-infix_of BangEquals = Some B.Ne
-infix_of Less = Some B.Lt
-infix_of LessEquals = Some B.Le
-infix_of Greater = Some B.Gt
-infix_of GreaterEquals = Some B.Ge
-infix_of TwoAmpersands = Some B.LogAnd
-infix_of TwoBars = Some B.LogOr
-infix_of TwoLess = Some B.Shl
-infix_of TwoGreater = Some B.Shr
-infix_of _ = None
 
 -- behind an expression that stands in no other
 abbrev pub alone_step : ℕ → P.Expression → Alone → Token → Option State

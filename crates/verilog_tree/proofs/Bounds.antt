@@ -48,16 +48,9 @@ infixed_fits B.Sub k j a b p q h = modulo_fits (a + 2 ^ k - b) k
 infixed_fits B.And k j a b p q h = omega (arith, and_le_l a b)
 infixed_fits B.Or k j a b p q h = or_lt k a b p (moved j k b (unequal_none k j h) q)
 infixed_fits B.Xor k j a b p q h = xor_lt k a b p (moved j k b (unequal_none k j h) q)
-infixed_fits B.Eq k j a b p q h = bit_below _
-infixed_fits B.Ne k j a b p q h = bit_below _
-infixed_fits B.Lt k j a b p q h = bit_below _
-infixed_fits B.Le k j a b p q h = bit_below _
-infixed_fits B.Gt k j a b p q h = bit_below _
-infixed_fits B.Ge k j a b p q h = bit_below _
-infixed_fits B.LogAnd k j a b p q h = bit_below _
-infixed_fits B.LogOr k j a b p q h = bit_below _
 infixed_fits B.Shl k j a b p q h = chosen_below (nat_lt b k) (a * 2 ^ b % 2 ^ k) 0 (2 ^ k) (modulo_fits (a * 2 ^ b) k) (pow_pos k)
 infixed_fits B.Shr k j a b p q h = chosen_below (nat_lt b k) (a / 2 ^ b) 0 (2 ^ k) (omega (arith, div-le_self a (2 ^ b))) (pow_pos k)
+infixed_fits o k j a b p q h = bit_below _
 
 pub joins : (p q a b : ℕ) → a < 2 ^ p → b < 2 ^ q → a * 2 ^ q + b < 2 ^ (p + q)
 joins p q a b h k = rw (pow-add 2 p q) (omega (arith, mul-add-lt a (2 ^ q) b (2 ^ p) h k))

@@ -2,10 +2,10 @@
 use Rattle.std.specs.Prelude.{◌≡◌, ℕ, zero, suc, ◌+◌, List, Option, Some, None}
 use Rattle.bist_bits.specs.Vector.{Vector}
 use Rattle.verilog_tree.specs.declared.tokens.Mark.TheVariants.{Open, Close, OpenBracket, CloseBracket, OpenBrace, CloseBrace, Comma, Colon, Question}
-use Rattle.verilog_tree.specs.declared.tree.BinOp.TheVariants as B
 use Rattle.verilog_tree.specs.declared.tree.BinOp.{BinOp}
 use Rattle.verilog_tree.specs.declared.tree.UnOp.{UnOp}
 use Rattle.verilog_tree.specs.Pieces.{Limit, sign, name, number, literal, inside, unary_mark, binary_mark}
+pub use Rattle.verilog_tree.specs.Operators.{height}
 use Rattle.verilog_tree.specs.Plain as P
 use Rattle.verilog_tree.specs.Tokens.{Token}
 
@@ -50,23 +50,6 @@ mutual
 --   shift = sum { ("<<" | ">>") sum }              2
 --   sum   = un { ("+" | "-") un }                  1
 --   un    = [ unary ] prim                         0
-abbrev pub height : BinOp → ℕ
-height B.LogOr = 9
-height B.LogAnd = 8
-height B.Or = 7
-height B.Xor = 6
-height B.And = 5
-height B.Eq = 4
-height B.Ne = 4
-height B.Lt = 3
-height B.Le = 3
-height B.Gt = 3
-height B.Ge = 3
-height B.Shl = 2
-height B.Shr = 2
-height B.Add = 1
-height B.Sub = 1
-
 abbrev pub lor : ℕ
 lor = 9
 

@@ -3,8 +3,10 @@ pub mod Fits
 pub mod Formed
 pub mod Free
 pub mod Grammar
+pub mod Marked
 pub mod Meaning
 pub mod Names
+pub mod Operators
 pub mod Order
 pub mod Parenthesised
 pub mod Partial

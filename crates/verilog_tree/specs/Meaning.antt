@@ -1,13 +1,10 @@
 -- Trusted. What a module means: the width and the value of an expression, the equations that settle a cycle, and
 -- the registers after a rising edge of the clock. All values are unsigned and two-valued (IEEE 1364-2005
 -- without x and z).
-use Rattle.std.specs.Prelude.{◌≡◌, ℕ, ◌+◌, ◌-◌, ◌*◌, ◌/◌, ◌%◌, ◌^◌, ◌<◌, Bool, false, cond, not, ◌&&◌, ◌||◌, nat_eq, nat_lt, nat_le, List, [], ◌∷◌, ◌++◌, bit_and, bit_or, bit_xor, count_ones}
+use Rattle.std.specs.Prelude.{◌≡◌, ℕ, ◌+◌, ◌-◌, ◌*◌, ◌/◌, ◌%◌, ◌^◌, ◌<◌, Bool, false, cond, ◌||◌, nat_eq, List, [], ◌∷◌, ◌++◌}
 use Rattle.std.specs.Str.{bytes_eq}
 use Rattle.bist_bits.specs.Vector.{Vector}
-use Rattle.verilog_tree.specs.declared.tree.UnOp.{UnOp}
-use Rattle.verilog_tree.specs.declared.tree.UnOp.TheVariants.{Not, Invert, AllOnes, AnyOne, Parity}
-use Rattle.verilog_tree.specs.declared.tree.BinOp.{BinOp}
-use Rattle.verilog_tree.specs.declared.tree.BinOp.TheVariants.{Add, Sub, And, Or, Xor, Eq, Ne, Lt, Le, Gt, Ge, LogAnd, LogOr, Shl, Shr}
+pub use Rattle.verilog_tree.specs.Operators.{bit, truth, prefixed_width, infixed_width, prefixed, infixed}
 use Rattle.verilog_tree.specs.Plain.{Expression, Net, BitSelect, PartSelect, Literal, Concatenation, Prefixed, Infixed, Conditional, Expressions, NoMore, Followed, Statement, SetTo, IfElse, CaseOf, Statements, Done, Then, Arms, NoArm, ArmOf, ModuleItem, AssignItem, AlwaysItem, ModuleTree}
 use Rattle.verilog_tree.specs.declared.names.Kind.{Kind}
 use Rattle.verilog_tree.specs.declared.names.Kind.TheVariants as K
@@ -16,29 +13,6 @@ use Rattle.verilog_tree.specs.Names.{Declaration, declarations, width_of, is_clk
 -- a number for each name
 abbrev pub Env : Type 0
 Env = List ℕ → ℕ
-
-abbrev pub bit : Bool → ℕ
-bit b = cond b 1 0
-
--- a value counts as true where it isn't 0
-abbrev pub truth : ℕ → Bool
-truth v = not (nat_eq v 0)
-
--- the width of an operator's result, by that of its operand: comparisons and the like have one bit
-abbrev pub prefixed_width : UnOp → ℕ → ℕ
-prefixed_width Invert k = k
-prefixed_width other k = 1
-
--- the same, by that of its left operand
-abbrev pub infixed_width : BinOp → ℕ → ℕ
-infixed_width Add k = k
-infixed_width Sub k = k
-infixed_width And k = k
-infixed_width Or k = k
-infixed_width Xor k = k
-infixed_width Shl k = k
-infixed_width Shr k = k
-infixed_width other k = 1
 
 -- the width of an expression, where names have the widths w
 abbrev mutual
@@ -56,32 +30,6 @@ abbrev mutual
   pub widths : (List ℕ → ℕ) → Expressions → ℕ
   widths w NoMore = 0
   widths w (Followed x xs) = width w x + widths w xs
-
--- an operand of k bits
-abbrev pub prefixed : UnOp → ℕ → ℕ → ℕ
-prefixed Not k a = bit (not (truth a))
-prefixed Invert k a = 2 ^ k - 1 - a
-prefixed AllOnes k a = bit (nat_eq a (2 ^ k - 1))
-prefixed AnyOne k a = bit (truth a)
-prefixed Parity k a = count_ones a % 2
-
--- a left operand of k bits, and a right one
-abbrev pub infixed : BinOp → ℕ → ℕ → ℕ → ℕ
-infixed Add k a b = (a + b) % 2 ^ k
-infixed Sub k a b = (a + 2 ^ k - b) % 2 ^ k
-infixed And k a b = bit_and a b
-infixed Or k a b = bit_or a b
-infixed Xor k a b = bit_xor a b
-infixed Eq k a b = bit (nat_eq a b)
-infixed Ne k a b = bit (not (nat_eq a b))
-infixed Lt k a b = bit (nat_lt a b)
-infixed Le k a b = bit (nat_le a b)
-infixed Gt k a b = bit (nat_lt b a)
-infixed Ge k a b = bit (nat_le b a)
-infixed LogAnd k a b = bit (truth a && truth b)
-infixed LogOr k a b = bit (truth a || truth b)
-infixed Shl k a b = cond (nat_lt b k) (a * 2 ^ b % 2 ^ k) 0
-infixed Shr k a b = cond (nat_lt b k) (a / 2 ^ b) 0
 
 -- the value of an expression, where names have the widths w and the values e
 abbrev mutual

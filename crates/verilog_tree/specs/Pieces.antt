@@ -1,4 +1,4 @@
--- Trusted. Pieces of the grammar: tokens, limits, and the marks of operators.
+-- Trusted. Pieces of the grammar: tokens and limits.
 use Rattle.std.specs.Prelude.{◌≡◌, ℕ, ◌+◌, ◌==◌, Bool, true, false, not, ◌&&◌, nat_lt, nat_le, List, [], ◌∷◌, Option, Some, None, if◌then◌else◌}
 use Rattle.std.specs.Str.{bytes_eq}
 use Rattle.bist_bits.specs.Vector.{Vector}
@@ -6,11 +6,7 @@ use Rattle.bist_text.specs.Grammar.{when}
 use Rattle.bist_text.specs.Machine.{Holds}
 use Rattle.bist_text.specs.ReservedWords.{is_among, reserved_words}
 use Rattle.verilog_tree.specs.declared.tokens.Mark.{Mark}
-use Rattle.verilog_tree.specs.declared.tokens.Mark.TheVariants.{LessEquals, Plus, Minus, Ampersand, Bar, Caret, Tilde, Bang, TwoEquals, BangEquals, Less, Greater, GreaterEquals, TwoAmpersands, TwoBars, TwoLess, TwoGreater}
-use Rattle.verilog_tree.specs.declared.tree.UnOp.{UnOp}
-use Rattle.verilog_tree.specs.declared.tree.UnOp.TheVariants as U
-use Rattle.verilog_tree.specs.declared.tree.BinOp.{BinOp}
-use Rattle.verilog_tree.specs.declared.tree.BinOp.TheVariants as B
+pub use Rattle.verilog_tree.specs.Operators.{unary_mark, binary_mark}
 use Rattle.verilog_tree.specs.Tokens.{mark_text, Token, Identifier, Number, Based, Sign}
 
 -- What tokens may follow is a set of lists of tokens, as it is of bytes in bist_text.
@@ -85,27 +81,3 @@ few l n = few_in l.operators n
 -- inside of an opening; K takes how many are open there
 abbrev pub inside : Limit → ℕ → (ℕ → List Token → Type 0) → List Token → Type 0
 inside l d K ts = Holds (deeper l d) (λ e. K e ts)
-
-abbrev pub unary_mark : UnOp → Mark
-unary_mark U.Not = Bang
-unary_mark U.Invert = Tilde
-unary_mark U.AllOnes = Ampersand
-unary_mark U.AnyOne = Bar
-unary_mark U.Parity = Caret
-
-abbrev pub binary_mark : BinOp → Mark
-binary_mark B.Add = Plus
-binary_mark B.Sub = Minus
-binary_mark B.And = Ampersand
-binary_mark B.Or = Bar
-binary_mark B.Xor = Caret
-binary_mark B.Eq = TwoEquals
-binary_mark B.Ne = BangEquals
-binary_mark B.Lt = Less
-binary_mark B.Le = LessEquals
-binary_mark B.Gt = Greater
-binary_mark B.Ge = GreaterEquals
-binary_mark B.LogAnd = TwoAmpersands
-binary_mark B.LogOr = TwoBars
-binary_mark B.Shl = TwoLess
-binary_mark B.Shr = TwoGreater

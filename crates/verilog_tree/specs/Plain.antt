@@ -14,7 +14,6 @@ use Rattle.verilog_tree.specs.declared.tree.Expr.TheFolds.{fold-Expr}
 use Rattle.verilog_tree.specs.declared.tree.Stmt.{Stmt}
 use Rattle.verilog_tree.specs.declared.tree.Stmt.TheOpen.{Stmt-F, Arm-F, Set, If, Case}
 use Rattle.verilog_tree.specs.declared.tree.Stmt.TheFolds.{fold-Stmt}
-use Rattle.verilog_tree.specs.declared.tree.Arm.{Arm}
 
 mutual
   -- an expression

@@ -3,12 +3,12 @@ use Rattle.std.specs.Prelude.{◌≡◌, ℕ, ◌-◌, ◌^◌, Bool, false, con
 use Rattle.std.specs.Str.{bytes_eq}
 use Rattle.bist_bits.specs.Vector.{Vector}
 use Rattle.verilog_tree.specs.declared.tree.BinOp.{BinOp}
-use Rattle.verilog_tree.specs.declared.tree.BinOp.TheVariants.{LogAnd, LogOr, Shl, Shr}
 use Rattle.verilog_tree.specs.declared.fault.TreeFault.{TreeFault}
 use Rattle.verilog_tree.specs.declared.fault.TreeFault.TheVariants as T
 use Rattle.verilog_tree.specs.Plain.{Expression, Net, BitSelect, PartSelect, Literal, Concatenation, Prefixed, Infixed, Conditional, Expressions, NoMore, Followed, Statement, SetTo, IfElse, CaseOf, Statements, Done, Then, Arms, NoArm, ArmOf, ModuleItem, WireItem, RegItem, AssignItem, AlwaysItem, ModulePort, ModuleTree}
 use Rattle.verilog_tree.specs.declared.names.Kind.{Kind}
 use Rattle.verilog_tree.specs.Names.{Declaration, port_declarations, item_declarations, declarations, lookup, is_wire, is_register, is_clk, may_be_clock, is_declared_as}
+use Rattle.verilog_tree.specs.Operators.{WidthRule, Moved, Tested, operator}
 use Rattle.verilog_tree.specs.Meaning.{width, widths, names_widths}
 
 -- a broken rule: N1, N2, N3, N4, N5, N6, N9 and N10
@@ -121,12 +121,13 @@ abbrev pub too_wide : ℕ → Option Break
 too_wide k = cond (nat_lt 64 k) (Some (Width 64 (min k (2 ^ 64 - 1)))) None
 
 -- N3 at an operator: only &&, ||, << and >> take operands of different widths
+abbrev pub ruled_widths : WidthRule → ℕ → ℕ → Option Break
+ruled_widths Moved j k = None
+ruled_widths Tested j k = None
+ruled_widths other j k = unequal j k
+
 abbrev pub infixed_widths : BinOp → ℕ → ℕ → Option Break
-infixed_widths LogAnd j k = None
-infixed_widths LogOr j k = None
-infixed_widths Shl j k = None
-infixed_widths Shr j k = None
-infixed_widths other j k = unequal j k
+infixed_widths o j k = ruled_widths (operator o).rule j k
 
 -- N3 in an expression: its parts from left to right, and then itself
 abbrev mutual

@@ -1,5 +1,5 @@
 -- Public. How the logic stores a plain module: a tree of numbers, from which it is read again.
-use Rattle.std.specs.Prelude.{◌≡◌, ℕ, zero, suc, List, [], ◌∷◌, refl}
+use Rattle.std.specs.Prelude.{◌≡◌, ℕ, zero, suc, ◌+◌, List, [], ◌∷◌, get_or, if◌then◌else◌, refl}
 use mathlib.Core.Path.{sym, ap, ◌∙◌}
 use Rattle.std.specs.Coded.{Coded, code_by, coded×, coded⊎, coded_ℕ, coded_list}
 use base.Stored.{Gv, gnil, gnum, gcons, num}
@@ -11,6 +11,10 @@ use Rattle.verilog_tree.specs.declared.tree.UnOp.{UnOp}
 use Rattle.verilog_tree.specs.declared.tree.UnOp.TheVariants as U
 use Rattle.verilog_tree.specs.declared.tree.BinOp.{BinOp}
 use Rattle.verilog_tree.specs.declared.tree.BinOp.TheVariants as B
+use Rattle.verilog_tree.specs.declared.tokens.Mark.{Mark}
+use Rattle.verilog_tree.specs.Operators.{unary_mark, binary_mark}
+use Rattle.verilog_tree.specs.Pieces.{is_sign}
+use Rattle.verilog_tree.specs.Marked.{prefixes, infixes}
 use Rattle.verilog_tree.specs.Plain.{Expression, Net, BitSelect, PartSelect, Literal, Concatenation, Prefixed, Infixed, Conditional, Expressions, NoMore, Followed, Statement, SetTo, IfElse, CaseOf, Statements, Done, Then, Arms, NoArm, ArmOf, ModuleItem, WireItem, RegItem, AssignItem, AlwaysItem, ModulePort, ModuleTree}
 
 -- a node: its kind, what it has beside its parts, and its parts
@@ -30,78 +34,30 @@ bytes_back : (ns : List ℕ) → bytes_read (bytes ns) ≡ ns
 bytes_back [] = refl
 bytes_back (n ∷ ns) = ap (λ k. n ∷ k) (bytes_back ns)
 
+-- an operator is stored as its place among all
+abbrev place : {O : Type 0} → (O → Mark) → List O → Mark → ℕ
+place mark [] m = 0
+place mark (o ∷ os) m = if is_sign (mark o) m then 0 else place mark os m + 1
+
 abbrev prefix_number : UnOp → ℕ
-prefix_number U.Not = 0
-prefix_number U.Invert = 1
-prefix_number U.AllOnes = 2
-prefix_number U.AnyOne = 3
-prefix_number U.Parity = 4
+prefix_number o = place unary_mark prefixes (unary_mark o)
 
 abbrev prefix_read : ℕ → UnOp
-prefix_read zero = U.Not
-prefix_read (suc zero) = U.Invert
-prefix_read (suc (suc zero)) = U.AllOnes
-prefix_read (suc (suc (suc zero))) = U.AnyOne
-prefix_read (suc (suc (suc (suc n)))) = U.Parity
+prefix_read n = get_or prefixes n U.Not
 
 prefix_back : (o : UnOp) → prefix_read (prefix_number o) ≡ o
 prefix_back U.Not = refl
-prefix_back U.Invert = refl
-prefix_back U.AllOnes = refl
-prefix_back U.AnyOne = refl
-prefix_back U.Parity = refl
+prefix_back o = refl
 
--- an operator of two operands, as one of five kinds and one of three of that kind
-abbrev infix_stored : BinOp → Gv
-infix_stored B.Add = gcons (gnum 0) (gnum 0)
-infix_stored B.Sub = gcons (gnum 0) (gnum 1)
-infix_stored B.Shl = gcons (gnum 0) (gnum 2)
-infix_stored B.And = gcons (gnum 1) (gnum 0)
-infix_stored B.Or = gcons (gnum 1) (gnum 1)
-infix_stored B.Xor = gcons (gnum 1) (gnum 2)
-infix_stored B.Eq = gcons (gnum 2) (gnum 0)
-infix_stored B.Ne = gcons (gnum 2) (gnum 1)
-infix_stored B.Shr = gcons (gnum 2) (gnum 2)
-infix_stored B.Lt = gcons (gnum 3) (gnum 0)
-infix_stored B.Le = gcons (gnum 3) (gnum 1)
-infix_stored B.Gt = gcons (gnum 3) (gnum 2)
-infix_stored B.Ge = gcons (gnum 4) (gnum 0)
-infix_stored B.LogAnd = gcons (gnum 4) (gnum 1)
-infix_stored B.LogOr = gcons (gnum 4) (gnum 2)
+abbrev infix_number : BinOp → ℕ
+infix_number o = place binary_mark infixes (binary_mark o)
 
-abbrev one_of : BinOp → BinOp → BinOp → ℕ → BinOp
-one_of a b c zero = a
-one_of a b c (suc zero) = b
-one_of a b c (suc (suc n)) = c
+abbrev infix_read : ℕ → BinOp
+infix_read n = get_or infixes n B.Add
 
-abbrev infix_of : ℕ → ℕ → BinOp
-infix_of zero k = one_of B.Add B.Sub B.Shl k
-infix_of (suc zero) k = one_of B.And B.Or B.Xor k
-infix_of (suc (suc zero)) k = one_of B.Eq B.Ne B.Shr k
-infix_of (suc (suc (suc zero))) k = one_of B.Lt B.Le B.Gt k
-infix_of (suc (suc (suc (suc n)))) k = one_of B.Ge B.LogAnd B.LogOr k
-
-abbrev infix_read : Gv → BinOp
-infix_read gnil = B.Add
-infix_read (gnum n) = B.Add
-infix_read (gcons a b) = infix_of (num a) (num b)
-
-infix_back : (o : BinOp) → infix_read (infix_stored o) ≡ o
+infix_back : (o : BinOp) → infix_read (infix_number o) ≡ o
 infix_back B.Add = refl
-infix_back B.Sub = refl
-infix_back B.Shl = refl
-infix_back B.And = refl
-infix_back B.Or = refl
-infix_back B.Xor = refl
-infix_back B.Eq = refl
-infix_back B.Ne = refl
-infix_back B.Shr = refl
-infix_back B.Lt = refl
-infix_back B.Le = refl
-infix_back B.Gt = refl
-infix_back B.Ge = refl
-infix_back B.LogAnd = refl
-infix_back B.LogOr = refl
+infix_back o = refl
 
 -- an expression's parts are stored as those of a concatenation
 abbrev mutual
@@ -112,7 +68,7 @@ abbrev mutual
   expression (Literal b) = node 3 (gcons (gnum b.width) (gnum b.value)) gnil
   expression (Concatenation xs) = node 4 gnil (expressions xs)
   expression (Prefixed o x) = node 5 (gnum (prefix_number o)) (gcons (expression x) gnil)
-  expression (Infixed o x y) = node 6 (infix_stored o) (gcons (expression x) (gcons (expression y) gnil))
+  expression (Infixed o x y) = node 6 (gnum (infix_number o)) (gcons (expression x) (gcons (expression y) gnil))
   expression (Conditional c x y) = node 7 gnil (gcons (expression c) (gcons (expression x) (gcons (expression y) gnil)))
 
   expressions : Expressions → Gv
@@ -145,7 +101,7 @@ node_read (suc (suc zero)) what parts = PartSelect (bytes_read (right what)) (nu
 node_read (suc (suc (suc zero))) what parts = Literal (record { width = num (left what); value = num (right what) })
 node_read (suc (suc (suc (suc zero)))) what parts = Concatenation parts
 node_read (suc (suc (suc (suc (suc zero))))) what parts = Prefixed (prefix_read (num what)) (part parts)
-node_read (suc (suc (suc (suc (suc (suc zero)))))) what parts = Infixed (infix_read what) (part parts) (part (behind parts))
+node_read (suc (suc (suc (suc (suc (suc zero)))))) what parts = Infixed (infix_read (num what)) (part parts) (part (behind parts))
 node_read (suc (suc (suc (suc (suc (suc (suc n))))))) what parts = Conditional (part parts) (part (behind parts)) (part (behind (behind parts)))
 
 abbrev mutual

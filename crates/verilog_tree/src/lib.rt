@@ -17,12 +17,14 @@
 //! It never reads, prints or simulates.
 #![tactic(auto)]
 
+pub mod build;
 pub mod examples;
 mod fault;
 pub mod laws;
 mod layout;
 mod mentions;
 mod names;
+mod operators;
 mod rules;
 mod sizes;
 mod tables;
@@ -35,10 +37,12 @@ pub use fault::{ReadFault, TreeFault};
 pub use layout::fits;
 pub use mentions::names_read;
 pub use names::{Declared, Kind, all_declared};
+pub use operators::{
+    binary_text, binary_width, height, infix_of, unary_of, unary_text, unary_width,
+};
 pub use rules::check;
 pub use sizes::formed;
 pub use tables::{Declarations, NameSet, all_declarations};
 pub use tokens::{Base, Mark, Within};
 pub use tree::{Arm, BinOp, Decl, Dir, Expr, Item, Module, Name, Port, Stmt, UnOp};
-pub use widths::{binary_width, unary_width};
 pub use words::is_name;

@@ -3,70 +3,23 @@ ghost use Rattle.std.specs.Prelude.{◌≡◌, ℕ, ◌^◌, ◌-◌, ◌+◌, m
 ghost use Rattle.verilog_tree.specs.Plain.{plain, plain_stmt, plain_stmts, plain_item, expressions, arms};
 ghost use Rattle.verilog_tree.specs.inner.Plain.{plain_arm};
 ghost use Rattle.verilog_tree.specs.Names.{width_of};
-ghost use Rattle.verilog_tree.specs.Meaning.{prefixed_width, infixed_width, width, widths};
-ghost use Rattle.verilog_tree.specs.Rules.{Refuses, unequal, too_wide, infixed_widths, expression_widths, parts_widths, assignment_widths, label_widths, statement_widths, statements_widths, arms_widths, item_widths};
+ghost use Rattle.verilog_tree.specs.Meaning.{width, widths};
+ghost use Rattle.verilog_tree.specs.Rules.{Refuses, unequal, too_wide, expression_widths, parts_widths, assignment_widths, label_widths, statement_widths, statements_widths, arms_widths, item_widths};
 ghost use Rattle.verilog_tree.specs.inner.Rules.{RefusesOr};
 
 use crate::fault::TreeFault;
+use crate::operators::{binary_width, operands, unary_width};
 use crate::tables::Declarations;
-use crate::tree::{Arm, BinOp, Expr, Item, Name, Stmt, UnOp};
+use crate::tree::{Arm, Expr, Item, Name, Stmt};
 use bist_bits::Bits;
 
-fn equal(left: u64, right: u64) -> Result<(), TreeFault>
+pub(crate) fn equal(left: u64, right: u64) -> Result<(), TreeFault>
     ensures { Refuses (unequal left right) result }
 {
     if left == right {
         Ok(())
     } else {
         Err(TreeFault::Width { left, right })
-    }
-}
-
-/// The width of an operator before an operand of this width.
-pub fn unary_width(op: UnOp, operand: u64) -> u64
-    ensures { result ≡ prefixed_width op operand }
-{
-    match op {
-        UnOp::Invert => operand,
-        UnOp::Not | UnOp::AllOnes | UnOp::AnyOne | UnOp::Parity => 1,
-    }
-}
-
-/// The width of an operator between operands, of which the left has this width.
-pub fn binary_width(op: BinOp, left: u64) -> u64
-    ensures { result ≡ infixed_width op left }
-{
-    match op {
-        BinOp::Add | BinOp::Sub | BinOp::And | BinOp::Or | BinOp::Xor | BinOp::Shl | BinOp::Shr =>
-            left,
-        BinOp::Eq
-        | BinOp::Ne
-        | BinOp::Lt
-        | BinOp::Le
-        | BinOp::Gt
-        | BinOp::Ge
-        | BinOp::LogAnd
-        | BinOp::LogOr => 1,
-    }
-}
-
-// Only `&&`, `||`, `<<` and `>>` take operands of different widths.
-fn operands(op: BinOp, left: u64, right: u64) -> Result<(), TreeFault>
-    ensures { Refuses (infixed_widths op left right) result }
-{
-    match op {
-        BinOp::LogAnd | BinOp::LogOr | BinOp::Shl | BinOp::Shr => Ok(()),
-        BinOp::Add
-        | BinOp::Sub
-        | BinOp::And
-        | BinOp::Or
-        | BinOp::Xor
-        | BinOp::Eq
-        | BinOp::Ne
-        | BinOp::Lt
-        | BinOp::Le
-        | BinOp::Gt
-        | BinOp::Ge => equal(left, right),
     }
 }
 

@@ -12,7 +12,7 @@ use Rattle.verilog_text.specs.Places.{Alone, AsDriver, AsCondition, AsSubject, A
 use Rattle.verilog_tree.specs.declared.tree.UnOp.{UnOp}
 use Rattle.verilog_text.specs.declared.count.Count.{Count}
 use Rattle.verilog_text.specs.declared.count.Count.TheVariants.{Together, Apart}
-use Rattle.verilog_text.specs.Steps.{infix_of, unary_of}
+use Rattle.verilog_tree.specs.Marked.{infix_of, unary_of}
 
 abbrev pub ends : Alone → Mark → Bool
 ends (AsDriver h n) m = is_sign Semicolon m

@@ -2,7 +2,7 @@ use Rattle.std.proofs.Common.{◌≡◌, Option, Some, sym, subst, ap}
 use Rattle.verilog_tree.specs.Plain.{plain}
 use Rattle.verilog_tree.specs.Spells.{bounded}
 use Rattle.verilog_text.specs.Places.{State}
-use Rattle.verilog_text.specs.Steps.{infix_of}
+use Rattle.verilog_tree.specs.Marked.{infix_of}
 use Rattle.verilog_read.specs.inner.Holding.{token_of, nests_of, Closes}
 use Rattle.verilog_read.specs.inner.Waiting.{lefts_of}
 use Rattle.verilog_read.proofs.HoldingLemmas.{linked_is}
