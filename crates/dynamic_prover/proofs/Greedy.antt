@@ -1,6 +1,6 @@
 -- The first directions that lead to the end: at each element upward, unless no way on from there does.
-use Rattle.std.proofs.Common.{◌≡◌, ℕ, Bool, true, false, cond, ◌&&◌, Option, Some, None, List, [], ◌∷◌, length, refl, ap, sym, ◌∙◌}
-use Rattle.std.specs.Option.{option_and_then, IsSome}
+use Rattle.std.proofs.Common.{◌≡◌, ℕ, Bool, true, cond, Option, Some, None, List, [], ◌∷◌, length, refl, ap, sym, ◌∙◌}
+use Rattle.std.specs.Option.{IsSome}
 use Rattle.fault_core.specs.declared.cells.Places.{Places}
 use Rattle.march_core.specs.March.{MarchElement, IsMarch, order_of}
 use Rattle.march_core.specs.Visits.{Direction, allows, is_direction}
@@ -14,6 +14,7 @@ use Rattle.dynamic_prover.specs.declared.own_cells.OwnCells.{OwnCells}
 use Rattle.dynamic_prover.specs.declared.shape.Shape.{Shape}
 use Rattle.dynamic_prover.specs.inner.Shapes.{shape_of, element_run, end_in, shape_run}
 use Rattle.pair_tracker.specs.Ways.{led_by, IsNotAfter}
+use Rattle.pair_tracker.proofs.LeastWords.{open_and_then, holds_if}
 use Rattle.pair_tracker.proofs.Reaching.{ways_lead, ways_least}
 use Rattle.dynamic_prover.specs.inner.Ways.{any_end, can_pass, least_ways}
 use Rattle.dynamic_prover.proofs.Passing.{Shows}
@@ -25,19 +26,9 @@ fitting_is : (p : DynamicPrimitive) (shape : Shape) (es : List MarchElement) (q 
 fitting_is p shape [] q [] = refl
 fitting_is p shape [] q (d ∷ ds) = refl
 fitting_is p shape (x ∷ es) q [] = refl
-fitting_is p shape (x ∷ es) q (d ∷ ds) = joined (allows (order_of x) d) (element_run p shape x q d) (λ r. fitting_is p shape es r ds)
-  where
-    none : (c : Bool) (o : Option OwnCells) → o ≡ None → o ≡ cond c o None
-    none true o e = refl
-    none false o e = e
-
-    joined : (b : Bool) (o : Option OwnCells)
-        → ((r : OwnCells) → led_by (end_in p shape) es r ds ≡ cond (is_direction es ds) (shape_run p shape r es ds) None)
-        → option_and_then (λ r. led_by (end_in p shape) es r ds) (cond b o None)
-        ≡ cond (b && is_direction es ds) (option_and_then (λ r. shape_run p shape r es ds) o) None
-    joined false o rest = refl
-    joined true None rest = none (is_direction es ds) None refl
-    joined true (Some r) rest = rest r
+fitting_is p shape (x ∷ es) q (d ∷ ds) =
+    open_and_then (is_direction es ds) (λ r. led_by (end_in p shape) es r ds) (λ r. shape_run p shape r es ds) (allows (order_of x) d) (element_run p shape x q d)
+    (λ r. fitting_is p shape es r ds)
 
 -- a run that shows an end passes, and one that passes shows an end
 ends_pass : (a v : ℕ) (r : Option OwnCells) (z : OwnCells) (o : Ending) (K : Held → Type 0) → Shows a v r o K → r ≡ Some z → IsSome (miss_of o) → ⊥
@@ -49,10 +40,6 @@ pass_ends : (a v : ℕ) (r : Option OwnCells) (o : Ending) (K : Held → Type 0)
 pass_ends a v None (Differs miss h) K s n = absurd (n refl)
 pass_ends a v None (Ends h) K s n = absurd s
 pass_ends a v (Some q) o K s n = (q, refl)
-
-holds_if : (b : Bool) (r : Option OwnCells) (z : OwnCells) → cond b r None ≡ Some z → (b ≡ true) × (r ≡ Some z)
-holds_if true r z e = (refl, e)
-holds_if false r z e = cc
 
 -- what is known of an array by its shape and its start
 pub record Foretells (march : List MarchElement) (p : DynamicPrimitive) (at : Places) (content : List Bool) (shape : Shape) (q : OwnCells) : Type 0 where

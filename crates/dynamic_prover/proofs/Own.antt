@@ -14,6 +14,7 @@ use Rattle.cell_machine.specs.declared.pair.Side.{Side}
 use Rattle.cell_machine.specs.declared.pair.Side.TheVariants.{A, V}
 use Rattle.cell_machine.specs.Pairs.{pair_of, with_victim, bit_on, plain_pair, plain_reply}
 use Rattle.cell_machine.specs.Seen.{pair_at, place_of}
+use Rattle.cell_machine.proofs.Projection.{length-plain_cells, cell-plain_cells_other}
 use Rattle.dynamic_core.specs.declared.stepping.Actor.{Actor}
 use Rattle.dynamic_core.specs.Primitive.{TwoActs, DynamicSense, DynamicPrimitive, left_by}
 use Rattle.dynamic_core.specs.Dynamic.{actor_on, agg_actor, actor_or, actor_of, agg_state_holds, all_states_hold, Held, held_as, matches_of, arms_of, set_where, dyn_cells, dyn_step, dyn_answer}
@@ -103,11 +104,6 @@ after_seen true cells a v bit ne within =
     ∙ ap (pair_of (cell cells a)) (get_or-set_same cells v bit false within)
 after_seen false cells a v bit ne within = refl
 
-pub length-plain_cells : (cells : List Bool) (x : ℕ) (act : Act) → length (plain_cells cells x act) ≡ length cells
-length-plain_cells cells x (Write bit) = length-set cells x bit
-length-plain_cells cells x Read = refl
-length-plain_cells cells x Pause = refl
-
 length-set_where : (hit : Bool) (cells : List Bool) (v : ℕ) (bit : Bool) → length (set_where hit cells v bit) ≡ length cells
 length-set_where true cells v bit = length-set cells v bit
 length-set_where false cells v bit = refl
@@ -167,15 +163,10 @@ other_after : (hit : Bool) (cells : List Bool) (v y : ℕ) (bit : Bool) → y �
 other_after true cells v y bit ne = get_or-set_other cells v y bit false ne
 other_after false cells v y bit ne = refl
 
-pub plain_others : (act : Act) (cells : List Bool) (x y : ℕ) → y ≢ x → cell (plain_cells cells x act) y ≡ cell cells y
-plain_others (Write bit) cells x y ne = get_or-set_other cells x y bit false ne
-plain_others Read cells x y ne = refl
-plain_others Pause cells x y ne = refl
-
 pub others_stay : (p : DynamicPrimitive) (at : Places) (h : Held) (x : ℕ) (act : Act) (y : ℕ) → y ≢ x → y ≢ at.vic → cell (dyn_step p at h x act).cells y ≡ cell h.cells y
 unfolding dyn_step dyn_cells
 others_stay p at h x act y ne off =
-    other_after (matches_of (actor_of p at) h.armed x act) (plain_cells h.cells x act) at.vic y p.after off ∙ plain_others act h.cells x y ne
+    other_after (matches_of (actor_of p at) h.armed x act) (plain_cells h.cells x act) at.vic y p.after off ∙ cell-plain_cells_other h.cells x act y ne
 
 -- an act on another cell: its plain part, and nothing is armed
 not_placed : (a v x : ℕ) (o : Side) → x ≢ a → x ≢ v → (place_of a v o == x) ≡ false
@@ -211,11 +202,11 @@ unfolding dyn_cells
 other_cells p at a n ab h x act xa xv =
     ap (λ b. set_where b (plain_cells h.cells x act) at.vic p.after) (unmatched p at a n ab h.armed x act xa xv)
 
-abbrev pub plain_held : Held → ℕ → Act → Held
-plain_held h x act = held_as (plain_cells h.cells x act) false
+abbrev pub only_plain : Held → ℕ → Act → Held
+only_plain h x act = held_as (plain_cells h.cells x act) false
 
 pub other_step : (p : DynamicPrimitive) (at : Places) (a n : ℕ) → About p at a n → (h : Held) (x : ℕ) (act : Act) → x ≢ a → x ≢ at.vic
-    → dyn_step p at h x act ≡ plain_held h x act
+    → dyn_step p at h x act ≡ only_plain h x act
 unfolding dyn_step
 other_step p at a n ab h x act xa xv =
     ap (λ c. held_as c (arms_of (actor_of p at) (all_states_hold p at h.cells) (dyn_cells p at h x act) x act)) (other_cells p at a n ab h x act xa xv)

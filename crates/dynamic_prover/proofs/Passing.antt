@@ -1,15 +1,13 @@
 -- A run on a whole array, seen from the two cells of the instance: while every read of another cell is right, a visit to another cell leaves
 -- nothing armed, and does nothing else to them.
 use Rattle.std.proofs.Common.{◌≡◌, ◌≢◌, ◌+◌, ◌<◌, ℕ, Bool, true, false, cond, ◌||◌, eqb, Option, Some, None, List, [], ◌∷◌, ◌++◌, ◌⊎◌, inl, inr, length, map, refl, ap, sym, subst, ◌∙◌, ⊎_elim}
-use Rattle.std.proofs.lemmas.List.{get_or-set_same, map-append}
+use Rattle.std.proofs.lemmas.List.{map-append}
 use Rattle.std.proofs.lemmas.Bool.{eq-eqb, ne_eqb, cases_eq}
-use Rattle.std.proofs.lemmas.Bool.Decides.{eqb_tells}
 use Rattle.std.specs.Option.{option_and_then}
 use Rattle.fault_core.specs.declared.primitive.Act.{Act}
 use Rattle.fault_core.specs.declared.cells.Places.{Places}
-use Rattle.fault_core.specs.Cells.{cell, plain_cells, plain_answer}
+use Rattle.fault_core.specs.Cells.{cell}
 use Rattle.march_core.specs.declared.operation.Op.{Op}
-use Rattle.march_core.specs.declared.operation.Op.TheVariants.{W0, W1, R0, R1}
 use Rattle.march_core.specs.March.{MarchElement, pause, sweep, all_ops}
 use Rattle.march_core.specs.inner.Scan.{after_op, is_right, scan_of}
 use Rattle.march_core.specs.Visits.{Visit, MarchStep, visiting, Direction, cell_visits, address_visits, addresses, visits_from, miss_at}
@@ -19,6 +17,8 @@ use Rattle.march_core.specs.inner.Addresses.{steps_of}
 use Rattle.cell_machine.specs.declared.pair.Side.{Side}
 use Rattle.cell_machine.specs.declared.pair.Side.TheVariants.{A, V}
 use Rattle.cell_machine.specs.Seen.{place_of}
+use Rattle.cell_machine.proofs.Projection.{length-plain_cells, cell-plain_cells_other}
+use Rattle.pair_tracker.proofs.Projection.{Agrees, agrees_off, right_first, plain_right, plain_held, scan_parts}
 use Rattle.pair_tracker.proofs.Sides.{contains, Distinct, AllBelow, addresses_distinct, addresses_below, addresses_all}
 use Rattle.dynamic_core.specs.Primitive.{DynamicPrimitive}
 use Rattle.dynamic_core.specs.Dynamic.{Held, held_as, dyn_step, dyn_answer}
@@ -28,7 +28,7 @@ use Rattle.dynamic_prover.specs.declared.own_cells.OwnCells.{OwnCells}
 use Rattle.dynamic_prover.specs.declared.shape.Shape.{Shape}
 use Rattle.dynamic_prover.specs.inner.Own.{own_as, own_step, own_answer, own_run, disarmed}
 use Rattle.dynamic_prover.specs.inner.Shapes.{passed, tags_run, tags_of, in_direction, shape_run}
-use Rattle.dynamic_prover.proofs.Own.{own_of, About, answer_seen, step_seen, others_stay, plain_others, plain_held, other_answer, other_step, length-dyn_step, length-plain_cells}
+use Rattle.dynamic_prover.proofs.Own.{own_of, About, answer_seen, step_seen, others_stay, only_plain, other_answer, other_step, length-dyn_step}
 
 -- a run of the two cells is what the run of the array shows of them
 abbrev pub Shows : ℕ → ℕ → Option OwnCells → Ending → (Held → Type 0) → Type 0
@@ -100,28 +100,6 @@ record Passes (n x : ℕ) (next : Option Bool) (before after : Held) : Type 0 wh
   others : (y : ℕ) → y ≢ x → cell after.cells y ≡ cell before.cells y
   held : (bit : Bool) → next ≡ Some bit → cell after.cells x ≡ bit
 
-right_first : (b : Bool) (r : Option (Option Bool)) (next : Option Bool) → cond b r None ≡ Some next → (b ≡ true) × (r ≡ Some next)
-right_first true r next e = (refl, e)
-right_first false r next e = cc
-
-plain_right : (op : Op) (last : Option Bool) (cells : List Bool) (x : ℕ) → is_right last op ≡ true → ((bit : Bool) → last ≡ Some bit → cell cells x ≡ bit)
-    → is_wrong_of op (plain_answer cells x (act_of op)) ≡ false
-plain_right W0 last cells x right held = refl
-plain_right W1 last cells x right held = refl
-plain_right R0 None cells x right held = cc
-plain_right R1 None cells x right held = cc
-plain_right R0 (Some true) cells x right held = cc
-plain_right R0 (Some false) cells x right held = let e : cell cells x ≡ false = held false refl in rw e refl
-plain_right R1 (Some false) cells x right held = cc
-plain_right R1 (Some true) cells x right held = let e : cell cells x ≡ true = held true refl in rw e refl
-
-plain_writes : (op : Op) (last : Option Bool) (cells : List Bool) (x : ℕ) → x < length cells → ((bit : Bool) → last ≡ Some bit → cell cells x ≡ bit)
-    → (bit : Bool) → after_op last op ≡ Some bit → cell (plain_cells cells x (act_of op)) x ≡ bit
-plain_writes W0 last cells x within held bit e = get_or-set_same cells x false false within ∙ cc
-plain_writes W1 last cells x within held bit e = get_or-set_same cells x true false within ∙ cc
-plain_writes R0 last cells x within held bit e = held bit e
-plain_writes R1 last cells x within held bit e = held bit e
-
 same_pair : (a v : ℕ) (h : Held) (cells : List Bool) → cell cells a ≡ cell h.cells a → cell cells v ≡ cell h.cells v
     → own_of a v (held_as cells false) ≡ disarmed (own_of a v h)
 same_pair a v h cells e f =
@@ -142,14 +120,14 @@ other_visit p at a n ab e k x within xa xv [] last next h size scanned held =
 other_visit p at a n ab e k x within xa xv (op ∷ ops) last next h size scanned held =
     let v : ℕ = at.vic in
     let act : Act = act_of op in
-    let after : Held = plain_held h x act in
+    let after : Held = only_plain h x act in
     let rest_steps : List MarchStep = steps_of (cell_visits e x (k + 1) ops) in
     let step : dyn_step p at h x act ≡ after = other_step p at a n ab h x act xa xv in
     let test = right_first (is_right last op) (scan_of (after_op last op) ops) next scanned in
     let inside : x < length h.cells = rw size within in
     let after_size : length after.cells ≡ n = length-plain_cells h.cells x act ∙ size in
-    let here : (bit : Bool) → after_op last op ≡ Some bit → cell after.cells x ≡ bit = λ bit is. plain_writes op last h.cells x inside held bit is in
-    let stays : (y : ℕ) → y ≢ x → cell after.cells y ≡ cell h.cells y = λ y ne. plain_others act h.cells x y ne in
+    let here : (bit : Bool) → after_op last op ≡ Some bit → cell after.cells x ≡ bit = λ bit is. plain_held op last h.cells x inside held bit is in
+    let stays : (y : ℕ) → y ≢ x → cell after.cells y ≡ cell h.cells y = λ y ne. cell-plain_cells_other h.cells x act y ne in
     let rest = other_visit p at a n ab e (k + 1) x within xa xv ops (after_op last op) next after after_size test.1 here in
     let right : is_wrong_of op (dyn_answer p at h x act) ≡ false =
     ap (is_wrong_of op) (other_answer p at a n ab h x act xa xv) ∙ plain_right op last h.cells x test.0 held in
@@ -164,26 +142,9 @@ other_visit p at a n ab e k x within xa xv (op ∷ ops) last next h size scanned
     (shows_less a v (Some (passed (op ∷ ops) (own_of a v h))) (dyn_run p at after rest_steps) (Passes n x next after) (Passes n x next h)
     (λ g left. record { size = left.size; others = λ y ne. left.others y ne ∙ stays y ne; held = left.held }) moved)
 
--- each other cell holds what its last write wrote: before its visit, or after it
-abbrev pub Agrees : ℕ → ℕ → ℕ → List ℕ → Option Bool → Option Bool → Held → Type 0
-Agrees a v n xs last next h =
-    (y : ℕ) → y < n → y ≢ a → y ≢ v → (bit : Bool) → cond (contains y xs) last next ≡ Some bit → cell h.cells y ≡ bit
-
 record Leaves (a v n : ℕ) (next : Option Bool) (h : Held) : Type 0 where
   size : length h.cells ≡ n
-  agrees : Agrees a v n [] None next h
-
-agrees_off : (a v n x : ℕ) (xs : List ℕ) (last next : Option Bool) (h after : Held) → Agrees a v n (x ∷ xs) last next h
-    → ((y : ℕ) → y < n → y ≢ a → y ≢ v → y ≢ x → cell after.cells y ≡ cell h.cells y)
-    → ((bit : Bool) → x ≢ a → x ≢ v → next ≡ Some bit → cell after.cells x ≡ bit) → contains x xs ≡ false → Agrees a v n xs last next after
-agrees_off a v n x xs last next h after agrees others here off y yn ya yv bit e =
-    ⊎_elim
-    (λ (t : (eqb y x ≡ true) × (y ≡ x)).
-    let P : ℕ → Type 0 = λ z. z ≢ a → z ≢ v → cond (contains z xs) last next ≡ Some bit → cell after.cells z ≡ bit in
-    subst P (sym t.1) (λ za zv is. here bit za zv (ap (λ b. cond b last next) (sym off) ∙ is)) ya yv e)
-    (λ (t : (eqb y x ≡ false) × (y ≢ x)).
-    others y yn ya yv t.1 ∙ agrees y yn ya yv bit (ap (λ b. cond (b || contains y xs) last next) t.0 ∙ e))
-    (eqb_tells y x)
+  agrees : Agrees a v n [] None next h.cells
 
 -- which of the two cells an address is, if it is one
 abbrev pub side_at : ℕ → ℕ → ℕ → Option Side
@@ -223,7 +184,7 @@ visits_split e x ops xs = map-append visiting (cell_visits e x 0 ops) (address_v
 
 -- the visits of an element to these addresses
 element_visit : (p : DynamicPrimitive) (at : Places) (a n : ℕ) → About p at a n → (e : ℕ) (ops : List Op) (last next : Option Bool) → scan_of last ops ≡ Some next
-    → (xs : List ℕ) (h : Held) → Distinct xs → AllBelow n xs → length h.cells ≡ n → Agrees a at.vic n xs last next h
+    → (xs : List ℕ) (h : Held) → Distinct xs → AllBelow n xs → length h.cells ≡ n → Agrees a at.vic n xs last next h.cells
     → Shows a at.vic (tags_run p (own_of a at.vic h) (map (side_at a at.vic) xs) ops) (dyn_run p at h (steps_of (address_visits e ops xs))) (Leaves a at.vic n next)
 element_visit p at a n ab e ops last next scanned [] h distinct below size agrees =
     (refl, record { size = size; agrees = λ y yn ya yv bit is. agrees y yn ya yv bit is })
@@ -245,7 +206,7 @@ element_visit p at a n ab e ops last next scanned (x ∷ xs) h distinct below si
     let all : Goal (Some s) =
     shows_parts p at a v h front behind (own_run p (own_of a v h) s ops) (λ q. tags_run p q rest ops) (Keeps a v n h) (Leaves a v n next) first
     (λ g kept. element_visit p at a n ab e ops last next scanned xs g distinct.1 below.1 kept.size
-    (agrees_off a v n x xs last next h g agrees (λ y yn ya yv ne. kept.others y ya yv) (λ bit xa xv is. absurd (own xa xv)) distinct.0)) in
+    (agrees_off a v n x xs last next h.cells g.cells agrees (λ y yn ya yv ne. kept.others y ya yv) (λ bit xa xv is. absurd (own xa xv)) distinct.0)) in
     subst Goal (sym (ap (side_at a v) w.1 ∙ side_at-placed a v s ab.apart)) all)
     (λ (w : (x ≢ a) × (x ≢ v)).
     let held : (bit : Bool) → last ≡ Some bit → cell h.cells x ≡ bit =
@@ -254,20 +215,11 @@ element_visit p at a n ab e ops last next scanned (x ∷ xs) h distinct below si
     shows_parts p at a v h front behind (Some (passed ops (own_of a v h))) (λ q. tags_run p q rest ops) (Passes n x next h) (Leaves a v n next)
     (other_visit p at a n ab e 0 x below.0 w.0 w.1 ops last next h size scanned held)
     (λ g left. element_visit p at a n ab e ops last next scanned xs g distinct.1 below.1 left.size
-    (agrees_off a v n x xs last next h g agrees (λ y yn ya yv ne. left.others y ne) (λ bit xa xv is. left.held bit is) distinct.0)) in
+    (agrees_off a v n x xs last next h.cells g.cells agrees (λ y yn ya yv ne. left.others y ne) (λ bit xa xv is. left.held bit is) distinct.0)) in
     subst Goal (sym (side_at-elsewhere a v x w.0 w.1)) all)
     (which a v x) in
     subst (λ (steps : List MarchStep). Shows a v (tags_run p (own_of a v h) (map (side_at a v) (x ∷ xs)) ops) (dyn_run p at h steps) (Leaves a v n next))
     (sym (visits_split e x ops xs)) whole
-
--- the scan of a list in two parts
-scan_parts : (last : Option Bool) (xs ys : List Op) (end : Option Bool) → scan_of last (xs ++ ys) ≡ Some end
-    → (mid : Option Bool) × (scan_of last xs ≡ Some mid) × (scan_of mid ys ≡ Some end)
-scan_parts last [] ys end e = (last, refl, e)
-scan_parts last (x ∷ xs) ys end e =
-    let t = right_first (is_right last x) (scan_of (after_op last x) (xs ++ ys)) end e in
-    let rest = scan_parts (after_op last x) xs ys end t.1 in
-    (rest.0, ap (λ b. cond b (scan_of (after_op last x) xs) None) t.0 ∙ rest.1, rest.2)
 
 -- a shape that does the same as the addresses do
 abbrev pub DoesSame : DynamicPrimitive → ℕ → ℕ → ℕ → Shape → Type 0
@@ -278,7 +230,7 @@ DoesSame p a v n shape =
 -- the steps of the elements from one on
 pub march_visit : (p : DynamicPrimitive) (at : Places) (a n : ℕ) → About p at a n → (shape : Shape) → DoesSame p a at.vic n shape
     → (es : List MarchElement) (ds : List Direction) (k : ℕ) (last end : Option Bool) (h : Held) → scan_of last (all_ops es) ≡ Some end
-    → length h.cells ≡ n → Agrees a at.vic n [] None last h
+    → length h.cells ≡ n → Agrees a at.vic n [] None last h.cells
     → Shows a at.vic (shape_run p shape (own_of a at.vic h) es ds) (dyn_run p at h (visits_from k es ds n)) (λ g. length g.cells ≡ n)
 march_visit p at a n ab shape same [] ds k last end h scanned size agrees = (refl, size)
 march_visit p at a n ab shape same (e ∷ es) [] k last end h scanned size agrees = (refl, size)
@@ -289,7 +241,7 @@ march_visit p at a n ab shape same (sweep order ops ∷ es) (d ∷ ds) k last en
     let parts = scan_parts last ops (all_ops es) end scanned in
     let mid : Option Bool = parts.0 in
     let steps : List MarchStep = steps_of (address_visits k ops (addresses d n)) in
-    let before : Agrees a v n (addresses d n) last mid h =
+    let before : Agrees a v n (addresses d n) last mid h.cells =
     λ y yn ya yv bit is. agrees y yn ya yv bit (ap (λ b. cond b last mid) (sym (addresses_all d n y yn)) ∙ is) in
     let first = subst (λ r. Shows a v r (dyn_run p at h steps) (Leaves a v n mid)) (same d (own_of a v h) ops)
     (element_visit p at a n ab k ops last mid parts.1 (addresses d n) h (addresses_distinct d n) (addresses_below d n) size before) in

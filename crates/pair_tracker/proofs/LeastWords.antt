@@ -15,29 +15,27 @@ use Rattle.pair_tracker.specs.Reached.{word_to}
 use Rattle.pair_tracker.proofs.Reaching.{Ends, ways_lead, ways_least}
 use Rattle.pair_tracker.proofs.Wording.{IsWordOf, is_word, word_again, words_ordered, fits_length}
 
+-- directions that an order leaves open, and the rest behind them
+pub open_and_then : {S : Type 0} (rest : Bool) (f g : S → Option S) (open_here : Bool) (o : Option S) → ((r : S) → f r ≡ cond rest (g r) None)
+    → option_and_then f (cond open_here o None) ≡ cond (open_here && rest) (option_and_then g o) None
+open_and_then rest f g false o h = refl
+open_and_then true f g true None h = refl
+open_and_then false f g true None h = refl
+open_and_then rest f g true (Some r) h = h r
+
+pub holds_if : {S : Type 0} (b : Bool) (r : Option S) (z : S) → cond b r None ≡ Some z → (b ≡ true) × (r ≡ Some z)
+holds_if true r z e = (refl, e)
+holds_if false r z e = cc
+
 -- the run in directions that the orders leave open
 fitting_is : (m : Machine) (below : Bool) (es : List MarchElement) (q : Pair) (ds : List Direction)
     → led_by (end_of m below) es q ds ≡ cond (is_direction es ds) (pair_run m below q es ds) None
 fitting_is m below [] q [] = refl
 fitting_is m below [] q (d ∷ ds) = refl
 fitting_is m below (x ∷ es) q [] = refl
-fitting_is m below (x ∷ es) q (d ∷ ds) = joined (allows (order_of x) d) (element_run m q x (sides_in below d)) (λ r. fitting_is m below es r ds)
-  where
-    none : (c : Bool) (o : Option Pair) → o ≡ None → o ≡ cond c o None
-    none true o e = refl
-    none false o e = e
-
-    joined : (b : Bool) (o : Option Pair)
-        → ((r : Pair) → led_by (end_of m below) es r ds ≡ cond (is_direction es ds) (pair_run m below r es ds) None)
-        → option_and_then (λ r. led_by (end_of m below) es r ds) (cond b o None)
-        ≡ cond (b && is_direction es ds) (option_and_then (λ r. pair_run m below r es ds) o) None
-    joined false o rest = refl
-    joined true None rest = none (is_direction es ds) None refl
-    joined true (Some r) rest = rest r
-
-holds_if : (b : Bool) (r : Option Pair) (z : Pair) → cond b r None ≡ Some z → (b ≡ true) × (r ≡ Some z)
-holds_if true r z e = (refl, e)
-holds_if false r z e = cc
+fitting_is m below (x ∷ es) q (d ∷ ds) =
+    open_and_then (is_direction es ds) (λ r. led_by (end_of m below) es r ds) (λ r. pair_run m below r es ds) (allows (order_of x) d) (element_run m q x (sides_in below d))
+    (λ r. fitting_is m below es r ds)
 
 pub length-between : (march : List MarchElement) (i j : ℕ) → i ≤ j → j ≤ length march → length (elements_between march i j) ≡ j - i
 length-between march i j ij within = length-take-le (j - i) (drop i march) (omega (arith, length-drop i march))

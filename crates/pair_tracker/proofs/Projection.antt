@@ -1,13 +1,12 @@
 -- A run on a whole array, seen from two of its cells: while every read of another cell is right, the two cells
 -- go through what they go through alone.
 use Rattle.std.proofs.Common.{◌≡◌, ◌≢◌, ◌+◌, ◌<◌, ℕ, Bool, true, false, cond, ◌||◌, eqb, Option, Some, None, List, [], ◌∷◌, ◌++◌, length, refl, ap, sym, subst, ◌∙◌, ⊎_elim, arith}
-use Rattle.std.proofs.lemmas.List.{get_or-set_other, get_or-set_same, map-append}
+use Rattle.std.proofs.lemmas.List.{get_or-set_same, map-append}
 use Rattle.std.specs.List.{flat_map}
 use Rattle.std.proofs.lemmas.Bool.{eq-eqb}
 use Rattle.std.proofs.lemmas.Bool.Decides.{eqb_tells}
 use Rattle.std.specs.Option.{option_and_then}
 use Rattle.fault_core.specs.declared.primitive.Act.{Act}
-use Rattle.fault_core.specs.declared.primitive.Act.TheVariants.{Write, Read, Pause}
 use Rattle.fault_core.specs.declared.cells.Places.{Places}
 use Rattle.fault_core.specs.Primitive.{Primitive}
 use Rattle.fault_core.specs.Cells.{cell, step_cells, step_answer, plain_cells, plain_answer, pause_cells}
@@ -22,6 +21,7 @@ use Rattle.array_sim.specs.inner.Run.{Outcome, run_of}
 use Rattle.array_sim.specs.Run.{act_of}
 use Rattle.march_core.specs.inner.Addresses.{steps_of}
 use Rattle.array_sim.proofs.Runs.{run_on, run_stops}
+use Rattle.cell_machine.proofs.Projection.{cell-plain_cells_other}
 use Rattle.cell_machine.specs.declared.pair.Pair.{Pair}
 use Rattle.cell_machine.specs.declared.pair.Side.{Side}
 use Rattle.cell_machine.specs.declared.pair.Side.TheVariants.{A, V}
@@ -110,12 +110,12 @@ pub record Passes (a v n x : ℕ) (IsClosed : List Bool → Type 0) (next : Opti
   pub others : (y : ℕ) → y ≢ x → cell after y ≡ cell before y
   pub held : (bit : Bool) → next ≡ Some bit → cell after x ≡ bit
 
-right_first : (b : Bool) (r : Option (Option Bool)) (next : Option Bool) → cond b r None ≡ Some next → (b ≡ true) × (r ≡ Some next)
+pub right_first : (b : Bool) (r : Option (Option Bool)) (next : Option Bool) → cond b r None ≡ Some next → (b ≡ true) × (r ≡ Some next)
 right_first true r next e = (refl, e)
 right_first false r next e = cc
 
 -- a right read is answered so by a cell that holds what was written last
-plain_right : (op : Op) (last : Option Bool) (cells : List Bool) (x : ℕ) → is_right last op ≡ true → ((bit : Bool) → last ≡ Some bit → cell cells x ≡ bit)
+pub plain_right : (op : Op) (last : Option Bool) (cells : List Bool) (x : ℕ) → is_right last op ≡ true → ((bit : Bool) → last ≡ Some bit → cell cells x ≡ bit)
     → is_wrong_of op (plain_answer cells x (act_of op)) ≡ false
 plain_right W0 last cells x right held = refl
 plain_right W1 last cells x right held = refl
@@ -126,17 +126,12 @@ plain_right R0 (Some false) cells x right held = let e : cell cells x ≡ false 
 plain_right R1 (Some false) cells x right held = cc
 plain_right R1 (Some true) cells x right held = let e : cell cells x ≡ true = held true refl in rw e refl
 
-plain_held : (op : Op) (last : Option Bool) (cells : List Bool) (x : ℕ) → x < length cells → ((bit : Bool) → last ≡ Some bit → cell cells x ≡ bit)
+pub plain_held : (op : Op) (last : Option Bool) (cells : List Bool) (x : ℕ) → x < length cells → ((bit : Bool) → last ≡ Some bit → cell cells x ≡ bit)
     → (bit : Bool) → after_op last op ≡ Some bit → cell (plain_cells cells x (act_of op)) x ≡ bit
 plain_held W0 last cells x within held bit e = get_or-set_same cells x false false within ∙ cc
 plain_held W1 last cells x within held bit e = get_or-set_same cells x true false within ∙ cc
 plain_held R0 last cells x within held bit e = held bit e
 plain_held R1 last cells x within held bit e = held bit e
-
-plain_others : (act : Act) (cells : List Bool) (x y : ℕ) → y ≢ x → cell (plain_cells cells x act) y ≡ cell cells y
-plain_others (Write bit) cells x y ne = get_or-set_other cells x y bit false ne
-plain_others Read cells x y ne = refl
-plain_others Pause cells x y ne = refl
 
 pub same_pair : (a v : ℕ) (c d : List Bool) → cell c a ≡ cell d a → cell c v ≡ cell d v → pair_at c a v ≡ pair_at d a v
 same_pair a v c d ea ev =
@@ -160,7 +155,7 @@ other_visit p at a v n m IsClosed laws e k x within xa xv (op ∷ ops) last next
     let after_size : length after ≡ n = laws.same_length cells x act ∙ size in
     let here : (bit : Bool) → after_op last op ≡ Some bit → cell after x ≡ bit =
     λ bit is. ap (λ l. cell l x) plain ∙ plain_held op last cells x inside held bit is in
-    let stays : (y : ℕ) → y ≢ x → cell after y ≡ cell cells y = λ y ne. ap (λ l. cell l y) plain ∙ plain_others act cells x y ne in
+    let stays : (y : ℕ) → y ≢ x → cell after y ≡ cell cells y = λ y ne. ap (λ l. cell l y) plain ∙ cell-plain_cells_other cells x act y ne in
     let rest = other_visit p at a v n m IsClosed laws e (k + 1) x within xa xv ops (after_op last op) next after after_size (laws.closes cells x act size) test.1 here in
     let right : is_wrong_of op (step_answer p at cells x act) ≡ false =
     ap (is_wrong_of op) (laws.other_answer cells x act xa xv) ∙ plain_right op last cells x test.0 held in
@@ -191,7 +186,7 @@ pub record Leaves (a v n : ℕ) (IsClosed : List Bool → Type 0) (next : Option
   pub agrees : Agrees a v n [] None next cells
 
 -- the address visited is off the list
-agrees_off : (a v n x : ℕ) (xs : List ℕ) (last next : Option Bool) (cells after : List Bool) → Agrees a v n (x ∷ xs) last next cells
+pub agrees_off : (a v n x : ℕ) (xs : List ℕ) (last next : Option Bool) (cells after : List Bool) → Agrees a v n (x ∷ xs) last next cells
     → ((y : ℕ) → y < n → y ≢ a → y ≢ v → y ≢ x → cell after y ≡ cell cells y)
     → ((bit : Bool) → x ≢ a → x ≢ v → next ≡ Some bit → cell after x ≡ bit) → contains x xs ≡ false → Agrees a v n xs last next after
 agrees_off a v n x xs last next cells after agrees others here off y yn ya yv bit e =

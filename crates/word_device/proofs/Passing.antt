@@ -11,6 +11,7 @@ use Rattle.march_core.specs.Runs.{upward, is_write, data_value}
 use Rattle.march_core.specs.inner.Scan.{after_op, is_right, scan_of}
 use Rattle.march_core.specs.Visits.{Visit, cell_visits, address_visits, addresses}
 use Rattle.march_core.proofs.Consistent.{consistent_scan, last_after}
+use Rattle.pair_tracker.proofs.Projection.{right_first, scan_parts}
 use Rattle.pair_tracker.proofs.Sides.{contains, Distinct, AllBelow, addresses_distinct, addresses_below, addresses_all}
 use Rattle.backgrounds.specs.Backgrounds.{word_of}
 use Rattle.memory_desc.specs.Descriptions.{Description}
@@ -85,10 +86,6 @@ visit_passed f ws x R1 last inside held = record { size = refl; others = λ y ne
 passed_on : (f : Bool → ℕ) (x : ℕ) (mid next : Option Bool) (a b c : List ℕ) → Passed f x mid a b → Passed f x next b c → Passed f x next a c
 passed_on f x mid next a b c p q = record { size = q.size ∙ p.size; others = λ y ne. q.others y ne ∙ p.others y ne; held = q.held }
 
-right_first : (b : Bool) (r : Option (Option Bool)) (next : Option Bool) → cond b r None ≡ Some next → (b ≡ true) × (r ≡ Some next)
-right_first true r next e = (refl, e)
-right_first false r next e = cc
-
 -- the visits of an element to one word
 cell_goes : (bits b e k x : ℕ) (ops : List Op) (last next : Option Bool) (ws : List ℕ) → x < length ws → scan_of last ops ≡ Some next
     → ((v : Bool) → last ≡ Some v → slice_index ws x ≡ word_of b v bits)
@@ -147,14 +144,6 @@ element_goes bits b n e ops last next scanned (x ∷ xs) ws distinct below holds
     (cell_goes bits b e 0 x ops last next ws inside scanned held)
     (λ c passed. element_goes bits b n e ops last next scanned xs c distinct.1 below.1
     (record { size = passed.size ∙ holds.size; agrees = agrees_off f n x xs last next ws c holds.agrees passed distinct.0 }))
-
-scan_parts : (last : Option Bool) (xs ys : List Op) (end : Option Bool) → scan_of last (xs ++ ys) ≡ Some end
-    → (mid : Option Bool) × (scan_of last xs ≡ Some mid) × (scan_of mid ys ≡ Some end)
-scan_parts last [] ys end e = (last, refl, e)
-scan_parts last (x ∷ xs) ys end e =
-    let h = right_first (is_right last x) (scan_of (after_op last x) (xs ++ ys)) end e in
-    let rest = scan_parts (after_op last x) xs ys end h.1 in
-    (rest.0, ap (λ b. cond b (scan_of (after_op last x) xs) None) h.0 ∙ rest.1, rest.2)
 
 abbrev IsSize : ℕ → List ℕ → Type 0
 IsSize n ws = length ws ≡ n
