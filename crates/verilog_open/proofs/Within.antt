@@ -11,7 +11,8 @@ use Rattle.verilog_tree.specs.Rules.{first_break, unequal, expression_widths, la
 use Rattle.verilog_tree.proofs.Breaks.{two, three}
 use Rattle.verilog_tree.proofs.Bounds.{value_fits, unequal_none}
 use Rattle.verilog_tree.proofs.Settling.{narrowed}
-use Rattle.verilog_open.proofs.Edges.{Blocks, module_blocks}
+use Rattle.verilog_open.proofs.Edges.{module_blocks}
+use Rattle.verilog_open.specs.Laws.{BlocksWide}
 
 -- every pair is within the width of its name
 abbrev AllFit : (List ℕ → ℕ) → List (List ℕ × ℕ) → Type 0
@@ -57,7 +58,7 @@ mutual
       let h' = three (label_widths k ls) (statements_widths w ss) (arms_widths w k as') h in
       chosen_fit w (is_label v ls) (sets w e ss) (arm_sets w e v as' d) (sets_fit w e u ss f''.1 h'.1) (arms_fit w e u v k as' d f'.1 h'.2 g)
 
-blocks_fit : (w : List ℕ → ℕ) (e : Env) → ((m : List ℕ) → e m < 2 ^ w m) → (is : List ModuleItem) → Blocks w is → AllFit w (block_sets w e is)
+blocks_fit : (w : List ℕ → ℕ) (e : Env) → ((m : List ℕ) → e m < 2 ^ w m) → (is : List ModuleItem) → BlocksWide w is → AllFit w (block_sets w e is)
 blocks_fit w e u [] b = tt
 blocks_fit w e u (WireItem n k ∷ is) b = blocks_fit w e u is b
 blocks_fit w e u (RegItem n k ∷ is) b = blocks_fit w e u is b
