@@ -79,9 +79,10 @@ a cycle and from cycle to cycle; the rule of the ports; what a self-test is; and
 - **Words.** The march runs in each background, one after another; an operation acts on the word whose index it visits, at the
   logical address of the index, with the background's word of its data value. `command_at` is the cycle of a command behind the
   first, with the pauses before it, and `PortRule` says what stands at the ports in each cycle, whatever words return.
-- **Width and value** (`Meaning.antt`: `width`, `value`): by cases on the expression, as in the table of operators: sums and
-  differences modulo two to the width, shifts that bring in zeros and give 0 from the width on, comparisons and logical
-  operators of one bit, a concatenation with its first part highest. All values are unsigned.
+- **Operators** (`Operators.antt`: `operator`, a row for each): sums and differences modulo two to the width, shifts that
+  bring in zeros and give 0 from the width on, comparisons and logical operators of one bit.
+- **Width and value** (`Meaning.antt`: `width`, `value`): by cases on the expression, a concatenation with its first part
+  highest. All values are unsigned.
 - **Settles** (`Settles module regs ins e`): `e` gives each name a number within its bits (the clock and names that aren't
   declared have none, so they get 0); each input but the clock has its value in `ins`, each register its value in `regs`; each
   assigned name has, in this same `e`, the value of its expression. These are simultaneous equations; no order is given.
@@ -111,6 +112,7 @@ a cycle and from cycle to cycle; the rule of the ports; what a self-test is; and
             "word_march/*",
             "verilog_tree/declared.tree",
             "verilog_tree/Plain",
+            "verilog_tree/Operators",
             "verilog_tree/Meaning",
             "self_test/Ports",
             "self_test/SelfTest",
@@ -170,7 +172,7 @@ wants.
   `wire a, b;` is two items, `[h:0]` gives `h + 1`.
 - **Expressions** come in two styles. In full parentheses (`Parenthesised.antt`) each operator has its own. Where operators
   bind by precedence (`Free.antt`), rule 0 is `un`, and rule k + 1 joins operands of rule k by the operators of height k + 1,
-  to the left, up to `lor`, rule 9; `height` is the table of operators, and a choice stands above them and groups to the
+  to the left, up to `lor`, rule 9; `height` is in the table of operators, and a choice stands above them and groups to the
   right. An expression that stands in no other has at most so many operators (`operators`, counted on its tree; a choice is
   one).
 - **Limits**: each rule counts how many of `(`, `{`, `begin`, `case` and `if` are open round it (`inside`, `deeper`; an `if`

@@ -22,10 +22,11 @@ use bist_inputs::read_chip_input;
 use bist_text::put;
 use chip_desc::ChipDesc;
 use chip_plan::{end_of, first_fit, last_group};
-use chip_rtl::{end_chip, module_of};
+use chip_rtl::end_chip;
 use march_core::March;
 use memory_desc::Memory;
 use rtl_gen::generate;
+use self_test::module_of;
 use std::alloc::Global;
 use verilog_emit::emit;
 

@@ -35,67 +35,34 @@ one_of zero p h i l = absurd (omega arith)
 one_of (suc n) p h zero l = (parts (p 0) (all_first n (λ i. p (suc i))) h).0
 one_of (suc n) p h (suc i) l = one_of n (λ i. p (suc i)) (parts (p 0) (all_first n (λ i. p (suc i))) h).1 i (omega arith)
 
-module _ (i : ℕ) (l : i < 17) where
-  named_by : (n : ℕ → List ℕ) → all_first 17 (λ i. is_name (n i)) ≡ true → is_name (n i) ≡ true
-  named_by n h = one_of 17 (λ i. is_name (n i)) h i l
-
-  rdata_name : is_name (rdata_of i) ≡ true
-  unfolding digits
-  rdata_name = named_by rdata_of refl
-
-  en_name : is_name (en_of i) ≡ true
-  unfolding digits
-  en_name = named_by en_of refl
-
-  we_name : is_name (we_of i) ≡ true
-  unfolding digits
-  we_name = named_by we_of refl
-
-  addr_name : is_name (addr_of i) ≡ true
-  unfolding digits
-  addr_name = named_by addr_of refl
-
-  wdata_name : is_name (wdata_of i) ≡ true
-  unfolding digits
-  wdata_name = named_by wdata_of refl
-
-  over_name : is_name (over_of i) ≡ true
-  unfolding digits
-  over_name = named_by over_of refl
-
-  bad_name : is_name (bad_of i) ≡ true
-  unfolding digits
-  bad_name = named_by bad_of refl
-
-  hold_name : is_name (hold_of i) ≡ true
-  unfolding digits
-  hold_name = named_by hold_of refl
-
-  unit_name : is_name (unit_of i) ≡ true
-  unfolding digits
-  unit_name = named_by unit_of refl
+named_by : (i : ℕ) → i < 17 → (n : ℕ → List ℕ) → all_first 17 (λ i. is_name (n i)) ≡ true → is_name (n i) ≡ true
+named_by i l n h = one_of 17 (λ i. is_name (n i)) h i l
 
 reset_name : (g : ℕ) → g < 17 → is_name (reset_net g) ≡ true
+unfolding digits
 reset_name zero l = refl
-reset_name (suc g) l = hold_name (suc g) l
+reset_name (suc g) l = named_by (suc g) l hold_of refl
 
 -- ---- ports
 
 units_named : (i : ℕ) (ds : List Description) (rest : List ModulePort) → i + length ds ≤ 17 → ports_fit rest ≡ true → ports_fit (unit_ports i ds ++ rest) ≡ true
+unfolding digits
 units_named i [] rest l h = h
 units_named i (d ∷ ds) rest l h =
     let k : i < 17 = omega arith in
-    both (is_name (rdata_of i)) _ (rdata_name i k) (both (is_name (en_of i)) _ (en_name i k) (both (is_name (we_of i)) _ (we_name i k) (both (is_name (addr_of i)) _ (addr_name i k) (both (is_name (wdata_of i)) _ (wdata_name i k) (units_named (suc i) ds rest (omega arith) h)))))
+    both (is_name (rdata_of i)) _ (named_by i k rdata_of refl) (both (is_name (en_of i)) _ (named_by i k en_of refl) (both (is_name (we_of i)) _ (named_by i k we_of refl) (both (is_name (addr_of i)) _ (named_by i k addr_of refl) (both (is_name (wdata_of i)) _ (named_by i k wdata_of refl) (units_named (suc i) ds rest (omega arith) h)))))
 
 -- ---- items
 
 wires_fit : (i : ℕ) (ds : List Description) (rest : List ModuleItem) → i + length ds ≤ 17 → items_fit 64 rest ≡ true → items_fit 64 (unit_wires i ds ++ rest) ≡ true
+unfolding digits
 wires_fit i [] rest l h = h
-wires_fit i (d ∷ ds) rest l h = let k : i < 17 = omega arith in both (is_name (over_of i)) _ (over_name i k) (both (is_name (bad_of i)) _ (bad_name i k) (wires_fit (suc i) ds rest (omega arith) h))
+wires_fit i (d ∷ ds) rest l h = let k : i < 17 = omega arith in both (is_name (over_of i)) _ (named_by i k over_of refl) (both (is_name (bad_of i)) _ (named_by i k bad_of refl) (wires_fit (suc i) ds rest (omega arith) h))
 
 holds_fit : (g k : ℕ) (rest : List ModuleItem) → g + k < 17 → items_fit 64 rest ≡ true → items_fit 64 (hold_wires g k ++ rest) ≡ true
+unfolding digits
 holds_fit g zero rest l h = h
-holds_fit g (suc k) rest l h = both (is_name (hold_of (suc g))) _ (hold_name (suc g) (omega arith)) (holds_fit (suc g) k rest (omega arith) h)
+holds_fit g (suc k) rest l h = both (is_name (hold_of (suc g))) _ (named_by (suc g) (omega arith) hold_of refl) (holds_fit (suc g) k rest (omega arith) h)
 
 -- all below a bound
 abbrev Below : ℕ → List ℕ → Type 0
@@ -115,10 +82,11 @@ members_small g i (h ∷ gs) l =
     one_more i (members g (suc i) gs) (length gs) (nat_eq h g) k m.0 m.1
 
 from_fits : (k i : ℕ) (is : List ℕ) → i < 17 → Below 17 is → length is ≤ k → expression_fits k (over_from i is) ≡ true
-from_fits k i [] l b s = over_name i l
+unfolding digits
+from_fits k i [] l b s = named_by i l over_of refl
 from_fits k i (j ∷ js) l b s =
     let z : 0 < k = omega arith in
-    both (nat_lt 0 k && is_name (over_of i)) _ (both (nat_lt 0 k) _ (lt-ltb 0 k z) (over_name i l)) (from_fits (k - 1) j js b.0 b.1 (omega arith))
+    both (nat_lt 0 k && is_name (over_of i)) _ (both (nat_lt 0 k) _ (lt-ltb 0 k z) (named_by i l over_of refl)) (from_fits (k - 1) j js b.0 b.1 (omega arith))
 
 over_fits : (k : ℕ) (is : List ℕ) → Below 17 is → length is ≤ k → expression_fits k (all_over is) ≡ true
 over_fits k [] b s = refl
@@ -128,13 +96,15 @@ group_fits : (k g : ℕ) (gs : List ℕ) → length gs ≤ 16 → 17 ≤ k → e
 group_fits k g gs l s = let m = members_small g 0 gs (omega arith) in let q = m.1 in over_fits k (members g 0 gs) m.0 (omega arith)
 
 assigns_fit : (gs : List ℕ) (g k : ℕ) (rest : List ModuleItem) → length gs ≤ 16 → g + k < 17 → items_fit 64 rest ≡ true → items_fit 64 (hold_assigns gs g k ++ rest) ≡ true
+unfolding digits
 assigns_fit gs g zero rest n l h = h
 assigns_fit gs g (suc k) rest n l h =
-    both (is_name (hold_of (suc g)) && expression_fits 63 (all_over (members g 0 gs))) _ (both (is_name (hold_of (suc g))) _ (hold_name (suc g) (omega arith)) (group_fits 63 g gs n (omega arith))) (assigns_fit gs (suc g) k rest n (omega arith) h)
+    both (is_name (hold_of (suc g)) && expression_fits 63 (all_over (members g 0 gs))) _ (both (is_name (hold_of (suc g))) _ (named_by (suc g) (omega arith) hold_of refl) (group_fits 63 g gs n (omega arith))) (assigns_fit gs (suc g) k rest n (omega arith) h)
 
 bads_fit : (n : ℕ) → n < 17 → expressions_fit 63 (bad_parts n) ≡ true
+unfolding digits
 bads_fit zero l = refl
-bads_fit (suc n) l = both (is_name (bad_of n)) _ (bad_name n (omega arith)) (bads_fit n (omega arith))
+bads_fit (suc n) l = both (is_name (bad_of n)) _ (named_by n (omega arith) bad_of refl) (bads_fit n (omega arith))
 
 own_wires : (i : ℕ) (ds : List Description) (rest : List ModuleItem) → all_own rest ≡ true → all_own (unit_wires i ds ++ rest) ≡ true
 own_wires i [] rest h = h
@@ -159,18 +129,20 @@ all_named [] h = refl
 all_named (x ∷ xs) h = both (is_name x.port && is_name x.net) (links_fit xs) (both (is_name x.port) (is_name x.net) h.0 h.1) (all_named xs h.2)
 
 unit_links_fit : (i g : ℕ) → i < 17 → g < 17 → links_fit (unit_links i g) ≡ true
+unfolding digits
 unit_links_fit i g l m =
     all_named (unit_links i g)
-    (refl, refl, (refl, reset_name g m, (refl, rdata_name i l, (refl, en_name i l, (refl, we_name i l, (refl, addr_name i l, (refl, wdata_name i l, (refl, over_name i l, (refl, bad_name i l, tt)))))))))
+    (refl, refl, (refl, reset_name g m, (refl, named_by i l rdata_of refl, (refl, named_by i l en_of refl, (refl, named_by i l we_of refl, (refl, named_by i l addr_of refl, (refl, named_by i l wdata_of refl, (refl, named_by i l over_of refl, (refl, named_by i l bad_of refl, tt)))))))))
 
 units_fit : (i n : ℕ) (ds : List Description) (gs : List ℕ) → i + length ds ≤ 17 → last_group gs < 17 → ((j : ℕ) (d : Description) → slice_get ds j ≡ Some d → is_name (module_name d.name) ≡ true) → placed_fit (placed_units i ds gs) ≡ true
+unfolding digits
 units_fit i n [] gs l m h = refl
 units_fit i n (d ∷ ds) [] l m h = refl
 units_fit i n (d ∷ ds) (g ∷ gs) l m h =
     let k : i < 17 = omega arith in
     let a : is_name (module_name d.name) ≡ true = h 0 d refl in
     both ((is_name (module_name d.name) && is_name (unit_of i) && true) && links_fit (unit_links i g)) _
-    (both (is_name (module_name d.name) && is_name (unit_of i) && true) _ (both (is_name (module_name d.name) && is_name (unit_of i)) _ (both (is_name (module_name d.name)) _ a (unit_name i k)) refl) (unit_links_fit i g k (omega arith)))
+    (both (is_name (module_name d.name) && is_name (unit_of i) && true) _ (both (is_name (module_name d.name) && is_name (unit_of i)) _ (both (is_name (module_name d.name)) _ a (named_by i k unit_of refl)) refl) (unit_links_fit i g k (omega arith)))
     (units_fit (suc i) n ds gs (omega arith) (omega arith) (λ j e q. h (suc j) e q))
 
 -- ---- the top

@@ -1,8 +1,5 @@
 //! Tops, with a line for each placed module.
 ghost use Rattle.std.specs.Prelude.{◌≡◌, ◌++◌, OnOk, IfOk, codes, map, true};
-ghost use Rattle.verilog_tree.specs.Fits.{items_fit};
-ghost use Rattle.verilog_tree.specs.Plain.{plain_item, plain_port};
-ghost use Rattle.verilog_emit.specs.Printed.{line};
 ghost use Rattle.chip_rtl.specs.TopSeen.{plain_link, plain_placed, plain_top};
 ghost use Rattle.chip_rtl.specs.PrintedTop.{link_text, links_text, placed_text, placed_texts, top_begun, printed_top};
 ghost use Rattle.chip_rtl.specs.TopFits.{TopFits};

@@ -31,5 +31,4 @@ mod top;
 pub use emit::emit_top;
 pub use file::end_chip;
 pub use generate::generate_top;
-pub use placing::module_of;
 pub use top::{Link, Placed, Top};

@@ -5,11 +5,12 @@ ghost use Rattle.memory_desc.specs.Descriptions.{IsMemory};
 ghost use Rattle.rtl_layout.specs.Seen.{seen};
 ghost use Rattle.rtl_gen.specs.inner.Planned.{Plans};
 
-use crate::tables::{backgrounds, elements, has_pause, module_name, most_ops, rows};
+use crate::tables::{backgrounds, elements, has_pause, most_ops, rows};
 use bist_bits::width_of;
 use march_core::March;
 use memory_desc::Memory;
 use rtl_layout::Plan;
+use self_test::module_of;
 
 // How many cycles a pause takes: 1 where the march has none.
 fn pause_of(march: &March, memory: &Memory) -> u32
@@ -44,7 +45,7 @@ pub fn plan(march: &March, memory: &Memory) -> Plan
     let scramble = memory.scramble();
     let count = memory.backgrounds().len();
     Plan {
-        name: module_name(memory),
+        name: module_of(memory),
         elements: elements(march),
         words: memory.words(),
         bits: memory.bits(),

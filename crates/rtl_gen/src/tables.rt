@@ -1,27 +1,14 @@
 //! The tables of a march and a memory.
 ghost use Rattle.std.specs.Prelude.{◌≡◌, ℕ, ◌<◌, ◌≤◌, false, map, length};
 ghost use Rattle.march_core.specs.March.{pause, sweep, element_at, is_pause_at, ops_at};
-ghost use Rattle.self_test.specs.SelfTest.{module_name};
 ghost use Rattle.microcode.specs.Code.{goes_down};
 ghost use Rattle.rtl_gen.specs.inner.Planned.{operation_of, element_of, row_of, rows_from};
 
-use arrayvec::{ArrayString, ArrayVec};
+use arrayvec::ArrayVec;
 use march_core::{March, Op, Order};
 use memory_desc::Memory;
 use rtl_layout::{Element, Operation, Row};
 use scrambler::Scramble;
-use verilog_tree::Name;
-
-/// The name of a memory's module.
-pub fn module_name(memory: &Memory) -> Name
-    ensures { result.bytes ≡ module_name memory.now.name }
-{
-    let _words = memory.words();
-    let mut name = ArrayString::new();
-    name.push_str(memory.name());
-    name.push_str("_bist");
-    name
-}
 
 fn operation(op: Op) -> Operation
     ensures { result ≡ operation_of op }

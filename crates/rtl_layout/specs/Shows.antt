@@ -1,4 +1,4 @@
--- Public. When registers show a controller, and ports answer for it.
+-- Public. Which plans a module can be made of, and when its ports answer for the controller.
 use Rattle.std.specs.Prelude.{◌≡◌, ℕ, ◌^◌, ◌<◌, ◌≤◌, true, false, List, [], ◌∷◌, length, slice_index_or}
 use Rattle.verilog_tree.specs.Words.{is_name}
 use Rattle.verilog_tree.specs.Meaning.{Env, bit, History}
@@ -13,7 +13,8 @@ no_row = record { mask = 0; flip = false }
 abbrev pub mask_at : Plan → ℕ → ℕ
 mask_at p j = (slice_index_or p.rows j no_row).mask
 
--- the widths of a plan are those that a module can have, and its words fit
+-- The widths of a plan are those that names can have, it has a row for each bit of the address, and its masks,
+-- backgrounds and polarity fit.
 pub record Sized (p : Plan) : Type 0 where
   pub addr_some : 1 ≤ p.addr_width
   pub addr_narrow : p.addr_width ≤ 64
@@ -34,7 +35,8 @@ pub record Sized (p : Plan) : Type 0 where
   pub grounds_fit : (j : ℕ) → j < length p.backgrounds → background_at p j < 2 ^ p.bits
   pub polarity_fits : p.polarity < 2 ^ p.bits
 
--- the numbers of a plan fit, and its widths are those of its module
+-- and it has an element, a background, an operation of each element, a word and a cycle of a pause, and no more of
+-- these than its widths count
 pub record Ready (p : Plan) : Type 0 where
   pub sized : Sized p
   pub has_element : 0 < length p.elements

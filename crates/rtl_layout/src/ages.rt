@@ -1,15 +1,15 @@
 //! The registers of what was commanded some cycles ago.
-ghost use Rattle.std.specs.Prelude.{◌≡◌, ℕ, suc, ◌+◌, ◌<◌, ◌≤◌, IfOk, OnOk, length, map, ◌++◌, ◌∷◌, []};
-ghost use Rattle.verilog_tree.specs.Plain.{plain, plain_item, plain_stmt, RegItem, SetTo};
-ghost use Rattle.rtl_layout.specs.Build.{lit, at_reset};
+ghost use Rattle.std.specs.Prelude.{◌≡◌, ◌+◌, ◌<◌, ◌≤◌, IfOk, OnOk, length, map, ◌++◌, ◌∷◌, []};
+ghost use Rattle.verilog_tree.specs.Plain.{plain, plain_item, plain_stmt};
 ghost use Rattle.rtl_layout.specs.Layout as L;
 ghost use Rattle.rtl_layout.specs.inner.Layout as LInner;
 
 use crate::digits::set;
-use crate::trees::{after_reset, choose, flag, gate, literal, name, net, unary};
+use crate::trees::{after_reset, gate};
 use arrayvec::ArrayString;
 use std::alloc::{AllocError, Global};
-use verilog_tree::{Decl, Expr, Item, Name, Stmt, UnOp};
+use verilog_tree::build::{choose, flag, literal, name, net, register, unary};
+use verilog_tree::{Expr, Item, Name, Stmt, UnOp};
 
 // The digit of an age.
 fn digit(age: u8) -> &'static str
@@ -38,25 +38,17 @@ pub fn aged(text: &str, age: u8) -> Name
     name
 }
 
-/// One register more.
-pub fn declare(items: &mut Vec<Item>, name: Name, width: u8) -> Result<(), AllocError>
-    ensures { OnOk result (map plain_item items.new.items ≡ map plain_item items.old.items ++ RegItem name.bytes width ∷ []) }
-{
-    items.push(Item::Reg(Decl { name, width }))?;
-    Ok(())
-}
-
 // The registers of an age that has a value.
 fn declare_age(items: &mut Vec<Item>, many: bool, width: u8, age: u8) -> Result<(), AllocError>
     requires some { 1 ≤ age }
     requires few { age ≤ 4 }
     ensures { OnOk result (map plain_item items.new.items ≡ map plain_item items.old.items ++ LInner.age_regs many width age) }
 {
-    declare(items, aged("reads", age), 1)?;
-    declare(items, aged("over", age), 1)?;
-    declare(items, aged("value", age), 1)?;
+    register(items, aged("reads", age), 1)?;
+    register(items, aged("over", age), 1)?;
+    register(items, aged("value", age), 1)?;
     if many {
-        declare(items, aged("back", age), width)?;
+        register(items, aged("back", age), width)?;
     }
     Ok(())
 }
@@ -74,8 +66,8 @@ pub fn declare_ages(
     for i in 0..delay {
         declare_age(items, many, width, i + 1)?;
     }
-    declare(items, aged("reads", delay + 1), 1)?;
-    declare(items, aged("over", delay + 1), 1)?;
+    register(items, aged("reads", delay + 1), 1)?;
+    register(items, aged("over", delay + 1), 1)?;
     Ok(())
 }
 

@@ -1,6 +1,6 @@
 //! The assigned wires.
-ghost use Rattle.std.specs.Prelude.{◌≡◌, ◌<◌, ◌≤◌, ◌-◌, ◌^◌, IfOk, OnOk, map, ◌++◌, ◌∷◌, []};
-ghost use Rattle.verilog_tree.specs.Plain.{plain, plain_item, Net, Infixed, AssignItem};
+ghost use Rattle.std.specs.Prelude.{◌≡◌, ◌<◌, ◌≤◌, ◌-◌, ◌^◌, IfOk, OnOk, map, ◌++◌};
+ghost use Rattle.verilog_tree.specs.Plain.{plain, plain_item, Net, Infixed};
 ghost use Rattle.verilog_tree.specs.declared.tree.BinOp.TheVariants.{Eq};
 ghost use Rattle.rtl_layout.specs.Build.{lit};
 ghost use Rattle.rtl_layout.specs.Layout as L;
@@ -10,17 +10,10 @@ ghost use Rattle.rtl_layout.specs.Seen.{seen};
 use crate::flags::{ElementFlag, RowFlag};
 use crate::plan::Plan;
 use crate::tables::{by_element, by_next, flag_row, has_several_bits, in_row, pattern, word_of};
-use crate::trees::{binary, choose, flag, literal, low, name, net};
+use crate::trees::low;
 use std::alloc::{AllocError, Global};
+use verilog_tree::build::{assign, binary, choose, flag, literal, name, net};
 use verilog_tree::{BinOp, Expr, Item, Name};
-
-/// One assignment more.
-pub fn assign(items: &mut Vec<Item>, target: Name, value: Expr) -> Result<(), AllocError>
-    ensures { OnOk result (map plain_item items.new.items ≡ map plain_item items.old.items ++ AssignItem target.bytes (plain value) ∷ []) }
-{
-    items.push(Item::Assign(target, value))?;
-    Ok(())
-}
 
 // Whether a digit is at the last of so many.
 fn is_last(alloc: Global, digit: Name, width: u8, count: usize) -> Result<Expr, AllocError>

@@ -1,20 +1,21 @@
 //! The module of a plan.
 ghost use Rattle.std.specs.Prelude.{◌≡◌, ◌≤◌, IfOk, OnOk, map, ◌++◌, ◌∷◌, []};
-ghost use Rattle.verilog_tree.specs.Plain.{plain, plain_item, plain_stmt, plain_module, statements, SetTo, AlwaysItem};
+ghost use Rattle.verilog_tree.specs.Plain.{plain, plain_item, plain_stmt, plain_module, statements, AlwaysItem};
 ghost use Rattle.rtl_layout.specs.Layout as L;
 ghost use Rattle.rtl_layout.specs.inner.Layout as LInner;
 ghost use Rattle.rtl_layout.specs.Plan.{several, several_bits};
 ghost use Rattle.rtl_layout.specs.Seen.{seen};
 
-use crate::ages::{aged, back_at, declare, declare_ages, set_ages, value_at};
+use crate::ages::{aged, back_at, declare_ages, set_ages, value_at};
 use crate::assigns::assign_wires;
 use crate::digits::{set, set_digits, set_one};
 use crate::plan::Plan;
 use crate::ports::{assign_ports, ports};
 use crate::tables::{has_several_bits, pattern, row_width, word_of};
-use crate::trees::{binary, choose, flag, gate, name, net};
+use crate::trees::gate;
 use std::alloc::{AllocError, Global};
-use verilog_tree::{BinOp, Decl, Expr, Item, Module, Name, Stmt};
+use verilog_tree::build::{binary, choose, flag, name, net, register, wire};
+use verilog_tree::{BinOp, Expr, Item, Module, Stmt};
 
 fn is_several(plan: &Plan) -> bool
     ensures { result ≡ several (seen plan.now) }
@@ -25,13 +26,13 @@ fn is_several(plan: &Plan) -> bool
 fn declare_digits(items: &mut Vec<Item>, plan: &Plan) -> Result<(), AllocError>
     ensures { OnOk result (map plain_item items.new.items ≡ map plain_item items.old.items ++ L.digit_regs (seen plan.now)) }
 {
-    declare(items, name("oper"), plan.oper_width)?;
-    declare(items, name("visit"), plan.visit_width)?;
-    declare(items, name("element"), plan.element_width)?;
-    declare(items, name("back"), plan.back_width)?;
-    declare(items, name("run"), 1)?;
-    declare(items, name("last_oper"), 1)?;
-    declare(items, name("last_visit"), 1)?;
+    register(items, name("oper"), plan.oper_width)?;
+    register(items, name("visit"), plan.visit_width)?;
+    register(items, name("element"), plan.element_width)?;
+    register(items, name("back"), plan.back_width)?;
+    register(items, name("run"), 1)?;
+    register(items, name("last_oper"), 1)?;
+    register(items, name("last_visit"), 1)?;
     Ok(())
 }
 
@@ -39,7 +40,7 @@ fn declare_one(items: &mut Vec<Item>, plan: &Plan) -> Result<(), AllocError>
     ensures { OnOk result (map plain_item items.new.items ≡ map plain_item items.old.items ++ L.one_reg (several_bits (seen plan.now))) }
 {
     if has_several_bits(plan) {
-        declare(items, name("one"), 1)?;
+        register(items, name("one"), 1)?;
     }
     Ok(())
 }
@@ -51,56 +52,49 @@ fn declare_registers(items: &mut Vec<Item>, plan: &Plan) -> Result<(), AllocErro
     declare_digits(items, plan)?;
     declare_one(items, plan)?;
     declare_ages(items, is_several(plan), plan.back_width, plan.delay)?;
-    declare(items, name("want"), plan.bits)?;
-    declare(items, name("bad"), 1)?;
-    Ok(())
-}
-
-fn declare_wire(items: &mut Vec<Item>, name: Name, width: u8) -> Result<(), AllocError>
-    ensures { OnOk result (map plain_item items.new.items ≡ map plain_item items.old.items ++ L.wire name.bytes width ∷ []) }
-{
-    items.push(Item::Wire(Decl { name, width }))?;
+    register(items, name("want"), plan.bits)?;
+    register(items, name("bad"), 1)?;
     Ok(())
 }
 
 fn declare_flags(items: &mut Vec<Item>, row: u8) -> Result<(), AllocError>
     ensures { OnOk result (map plain_item items.new.items ≡ map plain_item items.old.items ++ L.flag_wires row) }
 {
-    declare_wire(items, name("writes"), row)?;
-    declare_wire(items, name("ones"), row)?;
-    declare_wire(items, name("ends"), row)?;
-    declare_wire(items, name("write"), 1)?;
-    declare_wire(items, name("value"), 1)?;
-    declare_wire(items, name("down"), 1)?;
-    declare_wire(items, name("pause"), 1)?;
+    wire(items, name("writes"), row)?;
+    wire(items, name("ones"), row)?;
+    wire(items, name("ends"), row)?;
+    wire(items, name("write"), 1)?;
+    wire(items, name("value"), 1)?;
+    wire(items, name("down"), 1)?;
+    wire(items, name("pause"), 1)?;
     Ok(())
 }
 
 fn declare_nexts(items: &mut Vec<Item>) -> Result<(), AllocError>
     ensures { OnOk result (map plain_item items.new.items ≡ map plain_item items.old.items ++ L.next_wires) }
 {
-    declare_wire(items, name("ends_more"), 1)?;
-    declare_wire(items, name("ends_again"), 1)?;
-    declare_wire(items, name("ends_next"), 1)?;
-    declare_wire(items, name("pause_next"), 1)?;
+    wire(items, name("ends_more"), 1)?;
+    wire(items, name("ends_again"), 1)?;
+    wire(items, name("ends_next"), 1)?;
+    wire(items, name("pause_next"), 1)?;
     Ok(())
 }
 
 fn declare_lasts(items: &mut Vec<Item>) -> Result<(), AllocError>
     ensures { OnOk result (map plain_item items.new.items ≡ map plain_item items.old.items ++ L.last_wires) }
 {
-    declare_wire(items, name("last_element"), 1)?;
-    declare_wire(items, name("last_back"), 1)?;
+    wire(items, name("last_element"), 1)?;
+    wire(items, name("last_back"), 1)?;
     Ok(())
 }
 
 fn declare_command(items: &mut Vec<Item>, plan: &Plan) -> Result<(), AllocError>
     ensures { OnOk result (map plain_item items.new.items ≡ map plain_item items.old.items ++ L.command_wires (seen plan.now)) }
 {
-    declare_wire(items, name("live"), 1)?;
-    declare_wire(items, name("index"), plan.addr_width)?;
-    declare_wire(items, name("pattern"), plan.bits)?;
-    declare_wire(items, name("word"), plan.bits)?;
+    wire(items, name("live"), 1)?;
+    wire(items, name("index"), plan.addr_width)?;
+    wire(items, name("pattern"), plan.bits)?;
+    wire(items, name("word"), plan.bits)?;
     Ok(())
 }
 

@@ -1,5 +1,5 @@
 //! The statements of the four digits of the place.
-ghost use Rattle.std.specs.Prelude.{◌≡◌, ℕ, ◌≤◌, IfOk, OnOk, length, map, ◌++◌, ◌∷◌, [], List};
+ghost use Rattle.std.specs.Prelude.{◌≡◌, ◌≤◌, IfOk, OnOk, map, ◌++◌, ◌∷◌, []};
 ghost use Rattle.verilog_tree.specs.Plain.{plain, plain_stmt, Net, SetTo};
 ghost use Rattle.rtl_layout.specs.Build.{counter};
 ghost use Rattle.rtl_layout.specs.Layout as L;
@@ -11,8 +11,9 @@ use crate::element::Element;
 use crate::flags::ElementFlag;
 use crate::plan::Plan;
 use crate::tables::{by_element, by_next, has_several_bits, in_row, of_element};
-use crate::trees::{after_reset, binary, choose, counting, flag, literal, name, net, while_all};
+use crate::trees::{after_reset, counting, while_all};
 use std::alloc::{AllocError, Global};
+use verilog_tree::build::{binary, choose, flag, literal, name, net};
 use verilog_tree::{BinOp, Expr, Name, Stmt};
 
 /// One register's next value more.

@@ -1,24 +1,17 @@
 //! The ports, and what is assigned to them.
-ghost use Rattle.std.specs.Prelude.{◌≡◌, ℕ, ◌+◌, ◌-◌, ◌<◌, ◌≤◌, ◌^◌, IfOk, OnOk, map, ◌++◌, ◌∷◌, [], length, reverse, slice_index_or};
-ghost use Rattle.verilog_tree.specs.Plain.{plain, plain_item, plain_port, AssignItem};
+ghost use Rattle.std.specs.Prelude.{◌≡◌, ℕ, ◌+◌, ◌-◌, ◌<◌, ◌≤◌, ◌^◌, IfOk, OnOk, map, ◌++◌, length, reverse, slice_index_or};
+ghost use Rattle.verilog_tree.specs.Plain.{plain, plain_item, plain_port};
 ghost use Rattle.rtl_layout.specs.Layout as L;
 ghost use Rattle.rtl_layout.specs.Seen.{seen};
 ghost use Rattle.rtl_layout.specs.Shows.{no_row};
 
 use crate::ages::aged;
-use crate::assigns::assign;
 use crate::plan::Plan;
 use crate::row::Row;
-use crate::trees::{binary, concat, flag, gate, literal, name, net, unary};
+use crate::trees::gate;
 use std::alloc::{AllocError, Global};
-use verilog_tree::{BinOp, Dir, Expr, Item, Name, Port, UnOp};
-
-fn push_port(ports: &mut Vec<Port>, dir: Dir, name: Name, width: u8) -> Result<(), AllocError>
-    ensures { OnOk result (map plain_port ports.new.items ≡ map plain_port ports.old.items ++ (record { dir = dir; name = name.bytes; width = width }) ∷ []) }
-{
-    ports.push(Port { dir, name, width })?;
-    Ok(())
-}
+use verilog_tree::build::{assign, binary, concat, flag, literal, name, net, push_port, unary};
+use verilog_tree::{BinOp, Dir, Expr, Item, Port, UnOp};
 
 fn push_inputs(ports: &mut Vec<Port>, bits: u8) -> Result<(), AllocError>
     ensures { OnOk result (map plain_port ports.new.items ≡ map plain_port ports.old.items ++ L.input_ports bits) }

@@ -13,9 +13,10 @@ ghost use Rattle.rtl_layout.specs.Seen.{seen};
 use crate::element::{Element, Operation};
 use crate::flags::{ElementFlag, RowFlag};
 use crate::plan::Plan;
-use crate::trees::{bit, choose, flag, literal, name, net, pick_leaf, unary};
+use crate::trees::{bit, pick_leaf};
 use bist_bits::all_ones;
 use std::alloc::{AllocError, Global};
+use verilog_tree::build::{choose, flag, literal, name, net, unary};
 use verilog_tree::{Expr, Name, UnOp};
 
 // The operation of a number, and behind the last the last.

@@ -1,83 +1,13 @@
 //! Expressions of the module.
-ghost use Rattle.std.specs.Prelude.{◌≡◌, ℕ, ◌+◌, ◌^◌, ◌<◌, ◌≤◌, IfOk, OnOk, length, map, drop, take};
-ghost use Rattle.verilog_tree.specs.Plain.{plain, expressions, Net, PartSelect, Concatenation, Prefixed, Infixed, Conditional};
+ghost use Rattle.std.specs.Prelude.{◌≡◌, ◌+◌, ◌^◌, ◌<◌, ◌≤◌, IfOk, OnOk, length, map, drop, take};
+ghost use Rattle.verilog_tree.specs.Plain.{plain, Net};
 ghost use Rattle.verilog_tree.specs.Meaning.{bit};
 ghost use Rattle.rtl_layout.specs.Layout.{gated};
-ghost use Rattle.rtl_layout.specs.Build.{lit, bit_of, low_bits, below, pick, counter, at_reset, step_while};
+ghost use Rattle.rtl_layout.specs.Build.{bit_of, low_bits, below, pick, counter, at_reset, step_while};
 
-use arrayvec::ArrayString;
-use bist_bits::Bits;
 use std::alloc::{AllocError, Global};
-use verilog_tree::{BinOp, Expr, Name, UnOp};
-
-/// A name of at most 64 bytes.
-pub fn name(text: &str) -> Name
-    requires { length text.now ≤ 64 }
-    ensures { result.bytes ≡ text.now }
-{
-    match ArrayString::from(text) {
-        Ok(name) => name,
-        Err(_) => unreachable!(),
-    }
-}
-
-/// A whole name.
-pub fn net(name: Name) -> Expr
-    ensures { plain result ≡ Net name.bytes }
-{
-    Expr::Name(name)
-}
-
-/// A literal of `width` bits.
-pub fn literal(width: u8, value: u64) -> Expr
-    requires positive { 1 ≤ width }
-    requires narrow { width ≤ 64 }
-    requires fits { value < 2 ^ width }
-    ensures { plain result ≡ lit width value }
-{
-    Expr::Lit(Bits::new(width, value))
-}
-
-/// A literal of one bit.
-pub fn flag(value: bool) -> Expr
-    ensures { plain result ≡ lit 1 (bit value) }
-{
-    literal(1, u64::from(value))
-}
-
-/// An operator before an expression.
-pub fn unary(alloc: Global, op: UnOp, a: Expr) -> Result<Expr, AllocError>
-    ensures { IfOk result (λ x. plain x ≡ Prefixed op (plain a)) }
-{
-    let a = Box::new(alloc, a)?;
-    Ok(Expr::Unary(op, a))
-}
-
-/// An operator between two expressions.
-pub fn binary(alloc: Global, op: BinOp, a: Expr, b: Expr) -> Result<Expr, AllocError>
-    ensures { IfOk result (λ x. plain x ≡ Infixed op (plain a) (plain b)) }
-{
-    let a = Box::new(alloc, a)?;
-    let b = Box::new(alloc, b)?;
-    Ok(Expr::Binary(op, a, b))
-}
-
-/// The parts of a vector, the highest first.
-pub fn concat(parts: Vec<Expr>) -> Expr
-    ensures { plain result ≡ Concatenation (expressions (map plain parts.items)) }
-{
-    Expr::Concat(parts)
-}
-
-/// `c ? a : b`.
-pub fn choose(alloc: Global, c: Expr, a: Expr, b: Expr) -> Result<Expr, AllocError>
-    ensures { IfOk result (λ x. plain x ≡ Conditional (plain c) (plain a) (plain b)) }
-{
-    let c = Box::new(alloc, c)?;
-    let a = Box::new(alloc, a)?;
-    let b = Box::new(alloc, b)?;
-    Ok(Expr::Choose(c, a, b))
-}
+use verilog_tree::build::{binary, choose, flag, literal, name, net};
+use verilog_tree::{BinOp, Expr, Name};
 
 /// Bit `i` of a name of `width` bits.
 pub fn bit(name: Name, width: u8, i: u8) -> Expr

@@ -12,10 +12,12 @@
 //! It never builds a module.
 #![tactic(auto)]
 
+mod module_name;
 mod naming;
 mod pins;
 mod running;
 
+pub use module_name::module_of;
 pub use naming::wrong_port;
 pub use pins::{Pins, pins_of};
 pub use running::{RunFault, refusal, too_long};

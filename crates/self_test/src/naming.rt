@@ -1,22 +1,13 @@
-ghost use Rattle.std.specs.Prelude.{◌≡◌, ◌≤◌, ◌↔◌, ℕ, List, [], map, length, Some, None};
+ghost use Rattle.std.specs.Prelude.{◌≡◌, ◌↔◌, ℕ, List, [], map, Some, None};
 ghost use Rattle.std.specs.Option.{option_map};
 ghost use Rattle.std.specs.Str.{bytes_eq};
 ghost use Rattle.verilog_tree.specs.Plain.{plain_port};
 ghost use Rattle.self_test.specs.Ports.{ports};
 ghost use Rattle.self_test.specs.WrongPort.{is_input, same_direction, same_port, has_port, has_name, missing, further, wrong_port, ArePorts, IsWrongPort};
 
-use arrayvec::ArrayString;
 use memory_desc::Memory;
+use verilog_tree::build::port;
 use verilog_tree::{Dir, Name, Port};
-
-fn port(dir: Dir, text: &str, width: u8) -> Port
-    requires { length text.now ≤ 64 }
-    ensures { plain_port result ≡ record { dir = dir; name = text.now; width = width } }
-{
-    let mut name = ArrayString::new();
-    name.push_str(text);
-    Port { dir, name, width }
-}
 
 // The ports that a module for this memory has.
 fn expected(memory: &Memory) -> [Port; 9]

@@ -1,6 +1,6 @@
 //! Where the ports of a self-test stand among a module's ports, which may be in any order.
 
-ghost use Rattle.std.specs.Prelude.{◌≡◌, codes, map};
+ghost use Rattle.std.specs.Prelude.{◌≡◌, map};
 ghost use Rattle.verilog_tree.specs.Plain.{plain_port};
 ghost use Rattle.verilog_tree.specs.Names.{number};
 ghost use Rattle.self_test.specs.Pins.{output_names, reset_leads, ArePins};

@@ -4,6 +4,7 @@ use Rattle.verilog_tree.specs.Plain.{Statement, Statements, Arms, ModuleItem, Al
 use Rattle.verilog_tree.specs.Formed.{statement_formed, statements_formed, arms_formed}
 use Rattle.verilog_tree.specs.Meaning.{sets_of, sets, arm_sets, block_sets}
 use Rattle.verilog_tree.specs.Rules.{statement_widths, statements_widths, arms_widths}
+use Rattle.verilog_open.specs.Laws.{BlocksWide}
 use Rattle.verilog_code.specs.Places.{put}
 use Rattle.verilog_code.specs.Actions.{Run, BranchRun, run_all, run_branch, run_blocks}
 use Rattle.verilog_cycle.specs.Compile.{Narrow}
@@ -28,12 +29,6 @@ pub record DoesAll (w : List ℕ → ℕ) (ns : List (List ℕ)) (ss : Statement
 
 pub record DoesArms (w : List ℕ → ℕ) (ns : List (List ℕ)) (as' : Arms) (bs : List BranchRun) : Type 0 where
   pub does : Narrow w → arms_formed as' ≡ true → (k : ℕ) → arms_widths w k as' ≡ None → (vs : List ℕ) → Within w ns vs → (v : ℕ) (d : Run) (ds : List (List ℕ × ℕ)) → ((old : List ℕ) → d vs old ≡ written ns ds old) → (old : List ℕ) → run_branch v bs d vs old ≡ written ns (arm_sets w (valued ns vs) v as' ds) old
-
--- the statements of blocks are formed, and their widths agree
-abbrev pub BlocksWide : (List ℕ → ℕ) → List ModuleItem → Type 0
-BlocksWide w [] = Unit {0}
-BlocksWide w (AlwaysItem c ss ∷ is) = (statements_formed ss ≡ true) × (statements_widths w ss ≡ None) × BlocksWide w is
-BlocksWide w (other ∷ is) = BlocksWide w is
 
 pub record DoesBlocks (w : List ℕ → ℕ) (ns : List (List ℕ)) (is : List ModuleItem) (bs : List (List Run)) : Type 0 where
   pub does : Narrow w → BlocksWide w is → (vs : List ℕ) → Within w ns vs → (old : List ℕ) → run_blocks bs vs old ≡ written ns (block_sets w (valued ns vs) is) old

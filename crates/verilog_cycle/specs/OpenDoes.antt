@@ -6,7 +6,8 @@ use Rattle.verilog_tree.specs.Rules.{statement_widths, statements_widths, arms_w
 use Rattle.verilog_open.specs.Open.{unsure, targets_of, targets, arm_targets, open_sets_of, open_sets, open_arm_sets, open_block_sets}
 use Rattle.verilog_code.specs.OpenActions.{OpenValues, OpenDoing, OpenBranch, open_run_all, forget_all, forget_branches, open_run_branch, open_run_blocks}
 use Rattle.verilog_cycle.specs.Compile.{Narrow, Below, open_valued}
-use Rattle.verilog_cycle.specs.Does.{written, BlocksWide}
+use Rattle.verilog_open.specs.Laws.{BlocksWide}
+use Rattle.verilog_cycle.specs.Does.{written}
 
 -- the numbers of these names are within their widths
 abbrev pub OpenWithin : (List ℕ → ℕ) → List (List ℕ) → OpenValues → Type 0

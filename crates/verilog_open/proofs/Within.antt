@@ -3,7 +3,7 @@ use Rattle.std.proofs.Common.{◌≡◌, ℕ, ◌^◌, ◌<◌, Bool, true, fals
 use Rattle.std.specs.Str.{bytes_eq}
 use Rattle.std.proofs.lemmas.Bool.{and_parts}
 use Rattle.std.proofs.lemmas.Slice.Eq.{bytes_eq-Decides}
-use Rattle.verilog_tree.specs.Plain.{Statement, SetTo, IfElse, CaseOf, Statements, Done, Then, Arms, NoArm, ArmOf, ModuleItem, WireItem, RegItem, AssignItem, AlwaysItem, ModuleTree}
+use Rattle.verilog_tree.specs.Plain.{Statement, SetTo, IfElse, CaseOf, Statements, Done, Then, Arms, NoArm, ArmOf, ModuleItem, AlwaysItem, ModuleTree}
 use Rattle.verilog_tree.specs.Formed.{formed, expression_formed, statement_formed, statements_formed, arms_formed, has_arm, has_label, labels_formed}
 use Rattle.verilog_tree.specs.Names.{is_clk}
 use Rattle.verilog_tree.specs.Meaning.{Env, truth, width, value, names_widths, settled_width, is_label, sets_of, sets, arm_sets, block_sets, last_set, next}
@@ -11,7 +11,8 @@ use Rattle.verilog_tree.specs.Rules.{first_break, unequal, expression_widths, la
 use Rattle.verilog_tree.proofs.Breaks.{two, three}
 use Rattle.verilog_tree.proofs.Bounds.{value_fits, unequal_none}
 use Rattle.verilog_tree.proofs.Settling.{narrowed}
-use Rattle.verilog_open.proofs.Edges.{Blocks, module_blocks}
+use Rattle.verilog_open.proofs.Edges.{module_blocks}
+use Rattle.verilog_open.specs.Laws.{BlocksWide}
 
 -- every pair is within the width of its name
 abbrev AllFit : (List ℕ → ℕ) → List (List ℕ × ℕ) → Type 0
@@ -57,12 +58,10 @@ mutual
       let h' = three (label_widths k ls) (statements_widths w ss) (arms_widths w k as') h in
       chosen_fit w (is_label v ls) (sets w e ss) (arm_sets w e v as' d) (sets_fit w e u ss f''.1 h'.1) (arms_fit w e u v k as' d f'.1 h'.2 g)
 
-blocks_fit : (w : List ℕ → ℕ) (e : Env) → ((m : List ℕ) → e m < 2 ^ w m) → (is : List ModuleItem) → Blocks w is → AllFit w (block_sets w e is)
+blocks_fit : (w : List ℕ → ℕ) (e : Env) → ((m : List ℕ) → e m < 2 ^ w m) → (is : List ModuleItem) → BlocksWide w is → AllFit w (block_sets w e is)
 blocks_fit w e u [] b = tt
-blocks_fit w e u (WireItem n k ∷ is) b = blocks_fit w e u is b
-blocks_fit w e u (RegItem n k ∷ is) b = blocks_fit w e u is b
-blocks_fit w e u (AssignItem n x ∷ is) b = blocks_fit w e u is b
 blocks_fit w e u (AlwaysItem c ss ∷ is) b = all_append w (sets w e ss) (block_sets w e is) (sets_fit w e u ss b.0 b.1) (blocks_fit w e u is b.2)
+blocks_fit w e u (other ∷ is) b = blocks_fit w e u is b
 
 last_fits : (w : List ℕ → ℕ) (n : List ℕ) (ps : List (List ℕ × ℕ)) (old : ℕ) → AllFit w ps → old < 2 ^ w n → last_set n ps old < 2 ^ w n
 last_fits w n [] old a lt = lt

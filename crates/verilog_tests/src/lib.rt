@@ -13,8 +13,6 @@ mod self_test_rows;
 #[cfg(test)]
 mod trees;
 #[cfg(test)]
-mod verilog_emit_rows;
-#[cfg(test)]
 mod verilog_runs;
 #[cfg(test)]
 mod verilog_texts;

@@ -86,6 +86,9 @@ module: module t(output[3:0]y);wire x;reg[1:0]p,q;assign y=(x?4'd1:4'o17);endmod
 = module t(\n  output [3:0] y\n);\n  wire x;\n  reg [1:0] p;\n  reg [1:0] q;\n  assign y = (x ? 4'h1 : 4'hf);\nendmodule\n
 module: module f(input clk,input d,output reg q);always@(posedge clk)begin if(d)if(d)q<=1'd0;else q<=1'h1;begin case(d)1'b0,1'o1:q<=1'd0;default q<=1'd1;endcase end end endmodule
 = module f(\n  input clk,\n  input d,\n  output reg q\n);\n  always @(posedge clk) begin\n    if (d) begin\n      if (d) begin\n        q <= 1'h0;\n      end else begin\n        q <= 1'h1;\n      end\n    end\n    case (d)\n      1'h0, 1'h1: begin\n        q <= 1'h0;\n      end\n      default: begin\n        q <= 1'h1;\n      end\n    endcase\n  end\nendmodule\n
+# Each form of an item, a statement and an expression.
+module: module m2(input clk,input [7:0]d,output reg [7:0]q,output p);wire [2:0]w;reg r;assign p=(d[3]?1'h1:w[0]);assign w={d[7:6],r};always@(posedge clk)begin if((!d))begin if(r)q<=(q+8'hf);end else r<=1'h0;case(w)3'h0,3'h5:q<=d;default r<=r;endcase case(w)3'h0,3'h5:q<=d;endcase end endmodule
+= module m2(\n  input clk,\n  input [7:0] d,\n  output reg [7:0] q,\n  output p\n);\n  wire [2:0] w;\n  reg r;\n  assign p = (d[3] ? 1'h1 : w[0]);\n  assign w = {d[7:6], r};\n  always @(posedge clk) begin\n    if ((!d)) begin\n      if (r) begin\n        q <= (q + 8'h0f);\n      end\n    end else begin\n      r <= 1'h0;\n    end\n    case (w)\n      3'h0, 3'h5: begin\n        q <= d;\n      end\n      default: begin\n        r <= r;\n      end\n    endcase\n    case (w)\n      3'h0, 3'h5: begin\n        q <= d;\n      end\n    endcase\n  end\nendmodule\n
 ";
 
 #[test]

@@ -81,10 +81,8 @@ with_targets_has ns (Selected m h l ∷ ms) n = with_targets_has ns ms n
 
 pub assigned_append : (b is : List ModuleItem) (n : List ℕ) → is_assigned (b ++ is) n ≡ (is_assigned b n || is_assigned is n)
 assigned_append [] is n = refl
-assigned_append (WireItem m k ∷ b) is n = assigned_append b is n
-assigned_append (RegItem m k ∷ b) is n = assigned_append b is n
 assigned_append (AssignItem m x ∷ b) is n = ap (λ t. bytes_eq n m || t) (assigned_append b is n) ∙ sym (or_group (bytes_eq n m) (is_assigned b n) (is_assigned is n))
-assigned_append (AlwaysItem c ss ∷ b) is n = assigned_append b is n
+assigned_append (other ∷ b) is n = assigned_append b is n
 
 -- these names are what items set
 abbrev pub Set : List (List ℕ) → List ModuleItem → Type 0
@@ -94,19 +92,15 @@ assigned_more : (ns : List (List ℕ)) (b : List ModuleItem) (i : ModuleItem) �
 assigned_more ns b i h n = here i ∙ ap (λ t. t || is_assigned (i ∷ []) n) (h n) ∙ sym (assigned_append b (i ∷ []) n)
   where
     here : (i : ModuleItem) → is_among n (assigned_behind ns i) ≡ (is_among n ns || is_assigned (i ∷ []) n)
-    here (WireItem m k) = sym (or_last (is_among n ns))
-    here (RegItem m k) = sym (or_last (is_among n ns))
     here (AssignItem m x) = with_name_has ns m n ∙ ap (λ t. is_among n ns || t) (sym (or_last (bytes_eq n m)))
-    here (AlwaysItem c ss) = sym (or_last (is_among n ns))
+    here other = sym (or_last (is_among n ns))
 
 set_more : (ns : List (List ℕ)) (b : List ModuleItem) (i : ModuleItem) → Set ns b → Set (set_behind ns i) (b ++ i ∷ [])
 set_more ns b i h n = here i ∙ ap (λ t. t || is_set (i ∷ []) n) (h n) ∙ sym (set_append b (i ∷ []) n)
   where
     here : (i : ModuleItem) → is_among n (set_behind ns i) ≡ (is_among n ns || is_set (i ∷ []) n)
-    here (WireItem m k) = sym (or_last (is_among n ns))
-    here (RegItem m k) = sym (or_last (is_among n ns))
-    here (AssignItem m x) = sym (or_last (is_among n ns))
     here (AlwaysItem c ss) = with_targets_has ns (statements_mentions ss) n ∙ ap (λ t. is_among n ns || t) (sym (or_last (is_target n (statements_mentions ss))))
+    here other = sym (or_last (is_among n ns))
 
 pub all_assigned_has : (ns : List (List ℕ)) (b is : List ModuleItem) → Assigned ns b → Assigned (all_assigned ns is) (b ++ is)
 all_assigned_has ns b [] h n = h n ∙ ap (λ l. is_assigned l n) (sym (append-nil b))
@@ -114,10 +108,8 @@ all_assigned_has ns b (i ∷ is) h n = all_assigned_has (assigned_behind ns i) (
 
 -- the rules by the tables
 again_twice : (ds : List Declaration) (ns : List (List ℕ)) (b : List ModuleItem) (i : ModuleItem) → Assigned ns b → again ds (among ns) i ≡ twice ds b i
-again_twice ds ns b (WireItem n k) h = refl
-again_twice ds ns b (RegItem n k) h = refl
 again_twice ds ns b (AssignItem n x) h = ap (λ t. cond (has_kind is_wire ds n && t) (Some (Twice n)) None) (h n)
-again_twice ds ns b (AlwaysItem c ss) h = refl
+again_twice ds ns b other h = refl
 
 set_again : (ns : List (List ℕ)) (b : List ModuleItem) → Set ns b → (m : Mention) → is_target_among ns m ≡ is_set_before b m
 set_again ns b h (AsClock n) = refl

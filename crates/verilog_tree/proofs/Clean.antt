@@ -163,10 +163,8 @@ driver_at false s x o h later = later h
 
 pub driver_of : (is : List ModuleItem) (n : List ℕ) → is_assigned is n ≡ true → (x : Expression) × (driver is n ≡ Some x)
 driver_of [] n h = cc
-driver_of (WireItem m k ∷ is) n h = driver_of is n h
-driver_of (RegItem m k ∷ is) n h = driver_of is n h
 driver_of (AssignItem m x ∷ is) n h = driver_at (bytes_eq n m) (is_assigned is n) x (driver is n) h (driver_of is n)
-driver_of (AlwaysItem c ss ∷ is) n h = driver_of is n h
+driver_of (other ∷ is) n h = driver_of is n h
 
 -- the widths of an assignment are right, and its target is a wire
 abbrev pub CleanAssign : (List ℕ → ℕ) → List Declaration → List ℕ → Expression → Type 0
@@ -176,10 +174,8 @@ CleanAssign w ds n x =
 
 abbrev pub CleanItems : (List ℕ → ℕ) → List Declaration → List ModuleItem → Type 0
 CleanItems w ds [] = Unit {0}
-CleanItems w ds (WireItem n k ∷ is) = CleanItems w ds is
-CleanItems w ds (RegItem n k ∷ is) = CleanItems w ds is
 CleanItems w ds (AssignItem n x ∷ is) = CleanAssign w ds n x × CleanItems w ds is
-CleanItems w ds (AlwaysItem c ss ∷ is) = CleanItems w ds is
+CleanItems w ds (other ∷ is) = CleanItems w ds is
 
 declared_as : (test : Declaration → Bool) (o : Option Declaration) → is_declared_as test o ≡ true → (d : Declaration) × (o ≡ Some d) × (test d ≡ true)
 declared_as test None h = cc
@@ -212,22 +208,18 @@ clean_items w ps b (i ∷ is) h f =
     here i c.3 c.4 g.0 rest
   where
     here : (i : ModuleItem) → item_widths w i ≡ None → first_bad (is_wrong_target (assignable i) (declarations ps b)) NotAssignable (mentions i) ≡ None → item_formed i ≡ true → CleanItems w (declarations ps (b ++ i ∷ is)) is → CleanItems w (declarations ps (b ++ i ∷ is)) (i ∷ is)
-    here (WireItem n k) u t g rest = rest
-    here (RegItem n k) u t g rest = rest
     here (AssignItem n x) u t g rest = (
       subst (λ (l : List Declaration). CleanAssign w l n x) (sym (declarations_more ps b (AssignItem n x ∷ is)))
           (clean_assign w (declarations ps b) (item_declarations (AssignItem n x ∷ is)) n x g u (target_wire (declarations ps b) n (reads x) t)),
       rest,
     )
-    here (AlwaysItem c ss) u t g rest = rest
+    here other u t g rest = rest
 
 -- no assign names what an earlier one does
 abbrev pub Once : List ModuleItem → List ModuleItem → Type 0
 Once b [] = Unit {0}
-Once b (WireItem n k ∷ is) = Once (b ++ WireItem n k ∷ []) is
-Once b (RegItem n k ∷ is) = Once (b ++ RegItem n k ∷ []) is
 Once b (AssignItem n x ∷ is) = (is_assigned b n ≡ false) × Once (b ++ AssignItem n x ∷ []) is
-Once b (AlwaysItem c ss ∷ is) = Once (b ++ AlwaysItem c ss ∷ []) is
+Once b (other ∷ is) = Once (b ++ other ∷ []) is
 
 pub items_once : (w : List ℕ → ℕ) (ps : List ModulePort) (b is : List ModuleItem) → items_break w ps b is ≡ None → Once b is
 items_once w ps b [] h = tt
@@ -241,8 +233,6 @@ items_once w ps b (i ∷ is) h =
     second false t g e = cc
 
     here : (i : ModuleItem) → twice (declarations ps b) b i ≡ None → first_bad (is_wrong_target (assignable i) (declarations ps b)) NotAssignable (mentions i) ≡ None → Once (b ++ i ∷ []) is → Once b (i ∷ is)
-    here (WireItem n k) u t rest = rest
-    here (RegItem n k) u t rest = rest
     here (AssignItem n x) u t rest =
         (second (has_kind is_wire (declarations ps b) n) (is_assigned b n) ((not_here (has_kind is_wire (declarations ps b) n && is_assigned b n) (Twice n) None u).0) (target_wire (declarations ps b) n (reads x) t), rest)
-    here (AlwaysItem c ss) u t rest = rest
+    here other u t rest = rest

@@ -1,6 +1,6 @@
 -- What an expression reads is declared, and isn't the clock.
 use Rattle.std.proofs.Common.{◌≡◌, ℕ, Bool, true, false, cond, List, [], ◌∷◌, ◌++◌, ◌⊎◌, inl, inr, Option, Some, None, is_none, refl, sym, subst}
-use Rattle.verilog_tree.specs.Plain.{Expression, Net, BitSelect, PartSelect, Literal, Concatenation, Prefixed, Infixed, Conditional, Expressions, NoMore, Followed, ModuleItem, WireItem, RegItem, AssignItem, AlwaysItem, ModulePort, ModuleTree}
+use Rattle.verilog_tree.specs.Plain.{Expression, Net, BitSelect, PartSelect, Literal, Concatenation, Prefixed, Infixed, Conditional, Expressions, NoMore, Followed, ModuleItem, AssignItem, ModulePort, ModuleTree}
 use Rattle.verilog_tree.specs.Names.{Declaration, port_declarations, item_declarations, declarations, lookup, is_clk}
 use Rattle.verilog_tree.specs.Meaning.{names_widths}
 use Rattle.verilog_tree.specs.Rules.{Break, Mention, AsTarget, Whole, Selected, mentioned, reads, all_reads, mentions, first_bad, Unknown, Clock, is_unknown, is_wrong_clock, first_break, item_break, items_break, port_twice, port_clock, undriven}
@@ -76,11 +76,9 @@ items_read w ps b (i ∷ is) n m h l =
     here i c.0 c.7 (λ (k : Leads is n m). subst (λ (r : List ModuleItem). Read (declarations ps r) m) (one_item b i is) (items_read w ps (b ++ i ∷ []) is n m p.1 k)) l
   where
     here : (i : ModuleItem) → first_bad (is_unknown (declarations ps b)) Unknown (mentions i) ≡ None → first_bad (is_wrong_clock (declarations ps b)) Clock (mentions i) ≡ None → (Leads is n m → Read (declarations ps (b ++ i ∷ is)) m) → Leads (i ∷ is) n m → Read (declarations ps (b ++ i ∷ is)) m
-    here (WireItem k v) a c later l = later l
-    here (RegItem k v) a c later l = later l
     here (AssignItem k x) a c later (inl l) = read_here ps b (AssignItem k x ∷ is) k m x a c l.1
     here (AssignItem k x) a c later (inr l) = later l
-    here (AlwaysItem k ss) a c later l = later l
+    here other a c later l = later l
 
 -- in a module that breaks no rule
 pub reads_declared : (mo : ModuleTree) → first_break mo ≡ None → (n m : List ℕ) → Leads mo.items n m → Read (declarations mo.ports mo.items) m

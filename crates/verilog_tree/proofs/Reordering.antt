@@ -8,7 +8,7 @@ use Rattle.std.proofs.lemmas.Slice.Eq.{bytes_eq-Decides}
 use Rattle.std.specs.Str.{bytes_eq}
 use Rattle.verilog_tree.specs.declared.names.Kind.{Kind}
 use Rattle.verilog_tree.specs.declared.names.Kind.TheVariants as K
-use Rattle.verilog_tree.specs.Plain.{Statement, SetTo, IfElse, CaseOf, Statements, Done, Then, Arms, NoArm, ArmOf, ModuleItem, WireItem, RegItem, AssignItem, AlwaysItem, ModulePort, ModuleTree}
+use Rattle.verilog_tree.specs.Plain.{Statement, SetTo, IfElse, CaseOf, Statements, Done, Then, Arms, NoArm, ArmOf, ModuleItem, AssignItem, AlwaysItem, ModulePort, ModuleTree}
 use Rattle.verilog_tree.specs.Names.{Declaration, declarations, port_declarations, item_declarations, width_of, is_clk}
 use Rattle.verilog_tree.specs.Meaning.{Env, truth, is_label, value, Given, AllGiven, Equations, Settles, names_widths, sets_of, sets, arm_sets, block_sets, last_set, next, History}
 use Rattle.verilog_tree.specs.Rules.{TwoBlocks, Mention, AsClock, AsTarget, Whole, Selected, reads, statement_mentions, statements_mentions, arms_mentions, mentions, first_bad, is_target, is_set, is_set_before, item_break, items_break, first_break, port_twice, port_clock, undriven}
@@ -33,22 +33,18 @@ same_number a = grind (arith, nat_tests)
 
 none_fails : (w : List ℕ → ℕ) (e : Env) (is : List ModuleItem) → Equations w e is → sum_by (fails w e) (assignments is) ≡ 0
 none_fails w e [] h = refl
-none_fails w e (WireItem n k ∷ is) h = none_fails w e is h
-none_fails w e (RegItem n k ∷ is) h = none_fails w e is h
 none_fails w e (AssignItem n x ∷ is) h =
     let here : off (nat_eq (e n) (value w e x)) ≡ 0 = rw h.0 (ap off (same_number (value w e x))) in
     sum_by-cons (fails w e) (record { target = n; expression = x }) (assignments is)
     ∙ ap (λ j. j + sum_by (fails w e) (assignments is)) here ∙ ap (λ j. 0 + j) (none_fails w e is h.1)
-none_fails w e (AlwaysItem c ss ∷ is) h = none_fails w e is h
+none_fails w e (other ∷ is) h = none_fails w e is h
 
 all_hold : (w : List ℕ → ℕ) (e : Env) (is : List ModuleItem) → sum_by (fails w e) (assignments is) ≡ 0 → Equations w e is
 all_hold w e [] h = tt
-all_hold w e (WireItem n k ∷ is) h = all_hold w e is h
-all_hold w e (RegItem n k ∷ is) h = all_hold w e is h
 all_hold w e (AssignItem n x ∷ is) h =
     let both : off (nat_eq (e n) (value w e x)) + sum_by (fails w e) (assignments is) ≡ 0 = sym (sum_by-cons (fails w e) (record { target = n; expression = x }) (assignments is)) ∙ h in
     (holds_at (e n) (value w e x) (nat_eq (e n) (value w e x)) refl (omega (arith, both)), all_hold w e is (omega (arith, both)))
-all_hold w e (AlwaysItem c ss ∷ is) h = all_hold w e is h
+all_hold w e (other ∷ is) h = all_hold w e is h
 
 -- one more than the value of the last pair of the name, or m where it has none
 abbrev mark : List ℕ → List (List ℕ × ℕ) → ℕ → ℕ
@@ -139,10 +135,8 @@ only_here b n (Selected m i l ∷ ms) h t = only_here b n ms h t
 
 pub set_append : (b is : List ModuleItem) (n : List ℕ) → is_set (b ++ is) n ≡ (is_set b n || is_set is n)
 set_append [] is n = refl
-set_append (WireItem k v ∷ b) is n = set_append b is n
-set_append (RegItem k v ∷ b) is n = set_append b is n
-set_append (AssignItem k v ∷ b) is n = set_append b is n
 set_append (AlwaysItem k ss ∷ b) is n = or_more (is_target n (statements_mentions ss)) (is_set (b ++ is) n) (is_set b n) (is_set is n) (set_append b is n)
+set_append (other ∷ b) is n = set_append b is n
 
 -- the mark that a block leaves
 abbrev block_mark : (List ℕ → ℕ) → Env → List ℕ → Statements → ℕ
@@ -151,10 +145,8 @@ block_mark w e n ss = mark n (sets w e ss) 0
 -- each block's registers are set by none before it
 abbrev Apart : List ModuleItem → List ModuleItem → List ℕ → Type 0
 Apart b [] n = Unit {0}
-Apart b (WireItem k v ∷ is) n = Apart (b ++ WireItem k v ∷ []) is n
-Apart b (RegItem k v ∷ is) n = Apart (b ++ RegItem k v ∷ []) is n
-Apart b (AssignItem k v ∷ is) n = Apart (b ++ AssignItem k v ∷ []) is n
 Apart b (AlwaysItem k ss ∷ is) n = (is_target n (statements_mentions ss) ≡ true → is_set b n ≡ false) × Apart (b ++ AlwaysItem k ss ∷ []) is n
+Apart b (other ∷ is) n = Apart (b ++ other ∷ []) is n
 
 items_apart : (w : List ℕ → ℕ) (ps : List ModulePort) (b is : List ModuleItem) (n : List ℕ) → items_break w ps b is ≡ None → Apart b is n
 items_apart w ps b [] n h = tt
@@ -164,10 +156,8 @@ items_apart w ps b (i ∷ is) n h =
     here i c.5 (items_apart w ps (b ++ i ∷ []) is n p.1)
   where
     here : (i : ModuleItem) → first_bad (is_set_before b) TwoBlocks (mentions i) ≡ None → Apart (b ++ i ∷ []) is n → Apart b (i ∷ is) n
-    here (WireItem k v) g rest = rest
-    here (RegItem k v) g rest = rest
-    here (AssignItem k v) g rest = rest
     here (AlwaysItem k ss) g rest = (only_here b n (statements_mentions ss) g, rest)
+    here other g rest = rest
 
 not_set_more : (b : List ModuleItem) (i : ModuleItem) (n : List ℕ) (t : Bool) → is_set (i ∷ []) n ≡ false → is_set b n ≡ t → is_set (b ++ i ∷ []) n ≡ t
 not_set_more b i n t h q = set_append b (i ∷ []) n ∙ ap (λ s. is_set b n || s) h ∙ end (is_set b n) ∙ q
@@ -190,9 +180,6 @@ set_now b k ss n q = set_append b (AlwaysItem k ss ∷ []) n ∙ ap (λ t. is_se
 module _ (w : List ℕ → ℕ) (e : Env) (n : List ℕ) where
   later_leave : (b is : List ModuleItem) → Apart b is n → is_set b n ≡ true → (m : ℕ) → (mark n (block_sets w e is) m ≡ m) × (sum_by (block_mark w e n) (blocks is) ≡ 0)
   later_leave b [] a q m = (refl, refl)
-  later_leave b (WireItem k v ∷ is) a q m = later_leave (b ++ WireItem k v ∷ []) is a (set_more b (WireItem k v) n q) m
-  later_leave b (RegItem k v ∷ is) a q m = later_leave (b ++ RegItem k v ∷ []) is a (set_more b (RegItem k v) n q) m
-  later_leave b (AssignItem k v ∷ is) a q m = later_leave (b ++ AssignItem k v ∷ []) is a (set_more b (AssignItem k v) n q) m
   later_leave b (AlwaysItem k ss ∷ is) a q m =
       let none : is_target n (statements_mentions ss) ≡ false = not_target (is_target n (statements_mentions ss)) refl in
       let rest = later_leave (b ++ AlwaysItem k ss ∷ []) is a.1 (set_more b (AlwaysItem k ss) n q) m in (
@@ -203,13 +190,11 @@ module _ (w : List ℕ → ℕ) (e : Env) (n : List ℕ) where
       not_target : (t : Bool) → is_target n (statements_mentions ss) ≡ t → is_target n (statements_mentions ss) ≡ false
       not_target true g = let z = a.0 g in cc
       not_target false g = g
+  later_leave b (other ∷ is) a q m = later_leave (b ++ other ∷ []) is a (set_more b other n q) m
 
   -- the mark that the blocks leave is the sum of what each leaves
   mark_sum : (b is : List ModuleItem) → Apart b is n → is_set b n ≡ false → mark n (block_sets w e is) 0 ≡ sum_by (block_mark w e n) (blocks is)
   mark_sum b [] a q = refl
-  mark_sum b (WireItem k v ∷ is) a q = mark_sum (b ++ WireItem k v ∷ []) is a (not_set_more b (WireItem k v) n false refl q)
-  mark_sum b (RegItem k v ∷ is) a q = mark_sum (b ++ RegItem k v ∷ []) is a (not_set_more b (RegItem k v) n false refl q)
-  mark_sum b (AssignItem k v ∷ is) a q = mark_sum (b ++ AssignItem k v ∷ []) is a (not_set_more b (AssignItem k v) n false refl q)
   mark_sum b (AlwaysItem k ss ∷ is) a q =
       mark_append n (sets w e ss) (block_sets w e is) 0 ∙ by_target (is_target n (statements_mentions ss)) refl (mark_sum (b ++ AlwaysItem k ss ∷ []) is a.1) ∙ sym (sum_by-cons (block_mark w e n) ss (blocks is))
     where
@@ -223,6 +208,7 @@ module _ (w : List ℕ → ℕ) (e : Env) (n : List ℕ) where
           let r = rest (not_set_more b (AlwaysItem k ss) n false (ap (λ t. t || false) g) q) in
           let z = statements_leave w e n ss 0 g in
           ap (mark n (block_sets w e is)) z ∙ r ∙ sym (ap (λ j. j + sum_by (block_mark w e n) (blocks is)) z ∙ plus_zero (sum_by (block_mark w e n) (blocks is)))
+  mark_sum b (other ∷ is) a q = mark_sum (b ++ other ∷ []) is a (not_set_more b other n false refl q)
 
 same_widths : (one other : ModuleTree) → Reordered one other → declarations one.ports one.items ≡ declarations other.ports other.items
 same_widths one other r = ap (λ ps. port_declarations ps ++ item_declarations one.items) r.ports ∙ ap (λ l. port_declarations other.ports ++ l) r.declared

@@ -6,7 +6,7 @@ use Rattle.std.proofs.lemmas.Bool.{and_parts}
 use Rattle.std.specs.Str.{bytes_eq}
 use Rattle.verilog_tree.specs.declared.names.Kind.{Kind}
 use Rattle.verilog_tree.specs.declared.names.Kind.TheVariants as K
-use Rattle.verilog_tree.specs.Plain.{Expression, Net, BitSelect, PartSelect, Literal, Concatenation, Prefixed, Infixed, Conditional, Expressions, NoMore, Followed, ModuleItem, WireItem, RegItem, AssignItem, AlwaysItem, ModulePort, ModuleTree}
+use Rattle.verilog_tree.specs.Plain.{Expression, Net, BitSelect, PartSelect, Literal, Concatenation, Prefixed, Infixed, Conditional, Expressions, NoMore, Followed, ModuleItem, AssignItem, ModulePort, ModuleTree}
 use Rattle.verilog_tree.specs.Names.{Declaration, port_declarations, item_declarations, declarations, lookup, declared_width, is_wire, is_input, is_clk}
 use Rattle.verilog_tree.specs.Formed.{formed, has_port, ports_formed, items_formed}
 use Rattle.verilog_tree.specs.Meaning.{Env, truth, prefixed, infixed, width, widths, value, joined, Given, AllGiven, Equations, names_widths}
@@ -49,25 +49,19 @@ driven_by P false n k x y o same p later h = later h
 
 pub leads_of : (is : List ModuleItem) (n m : List ℕ) (x : Expression) → driver is n ≡ Some x → Uses m x → Leads is n m
 leads_of [] n m x h u = cc
-leads_of (WireItem k v ∷ is) n m x h u = leads_of is n m x h u
-leads_of (RegItem k v ∷ is) n m x h u = leads_of is n m x h u
 leads_of (AssignItem k y ∷ is) n m x h u =
     driven_by (λ j z. Uses m z → ((j ≡ k) × Uses m y) ⊎ Leads is j m) (bytes_eq n k) n k x y (driver is n) ((bytes_eq-Decides n k).0) (λ v. inl (refl, v)) (λ g v. inr (leads_of is n m x g v)) h u
-leads_of (AlwaysItem c v ∷ is) n m x h u = leads_of is n m x h u
+leads_of (other ∷ is) n m x h u = leads_of is n m x h u
 
 pub clean_of : (w : List ℕ → ℕ) (ds : List Declaration) (is : List ModuleItem) (n : List ℕ) (x : Expression) → CleanItems w ds is → driver is n ≡ Some x → CleanAssign w ds n x
 clean_of w ds [] n x c h = cc
-clean_of w ds (WireItem k v ∷ is) n x c h = clean_of w ds is n x c h
-clean_of w ds (RegItem k v ∷ is) n x c h = clean_of w ds is n x c h
 clean_of w ds (AssignItem k y ∷ is) n x c h = driven_by (CleanAssign w ds) (bytes_eq n k) n k x y (driver is n) ((bytes_eq-Decides n k).0) c.0 (clean_of w ds is n x c.1) h
-clean_of w ds (AlwaysItem k v ∷ is) n x c h = clean_of w ds is n x c h
+clean_of w ds (other ∷ is) n x c h = clean_of w ds is n x c h
 
 pub equation_of : (w : List ℕ → ℕ) (e : Env) (is : List ModuleItem) (n : List ℕ) (x : Expression) → Equations w e is → driver is n ≡ Some x → e n ≡ value w e x
 equation_of w e [] n x q h = cc
-equation_of w e (WireItem k v ∷ is) n x q h = equation_of w e is n x q h
-equation_of w e (RegItem k v ∷ is) n x q h = equation_of w e is n x q h
 equation_of w e (AssignItem k y ∷ is) n x q h = driven_by (λ j z. e j ≡ value w e z) (bytes_eq n k) n k x y (driver is n) ((bytes_eq-Decides n k).0) q.0 (equation_of w e is n x q.1) h
-equation_of w e (AlwaysItem k v ∷ is) n x q h = equation_of w e is n x q h
+equation_of w e (other ∷ is) n x q h = equation_of w e is n x q h
 
 -- the expression behind items that don't assign the name
 not_driven : (t s : Bool) (x : Expression) (o p : Option Expression) → (t || s) ≡ false → (s ≡ false → o ≡ p) → cond t (Some x) o ≡ p
@@ -76,10 +70,8 @@ not_driven false s x o p h later = later h
 
 pub driver_behind : (b is : List ModuleItem) (n : List ℕ) → is_assigned b n ≡ false → driver (b ++ is) n ≡ driver is n
 driver_behind [] is n h = refl
-driver_behind (WireItem k v ∷ b) is n h = driver_behind b is n h
-driver_behind (RegItem k v ∷ b) is n h = driver_behind b is n h
 driver_behind (AssignItem k y ∷ b) is n h = not_driven (bytes_eq n k) (is_assigned b n) y (driver (b ++ is) n) (driver is n) h (driver_behind b is n)
-driver_behind (AlwaysItem k v ∷ b) is n h = driver_behind b is n h
+driver_behind (other ∷ b) is n h = driver_behind b is n h
 
 -- a name's value, by what gives it
 abbrev pub by_kind : (List ℕ → ℕ) → Env → Env → Env → Kind → Option Expression → List ℕ → ℕ
@@ -232,15 +224,13 @@ module _ (ps : List ModulePort) (is : List ModuleItem) (lawful : Lawful ps is) (
 
   all_equal : (e : Env) → Settled w ds is rank falls regs ins e → (b js : List ModuleItem) → Once b js → CleanItems w ds js → b ++ js ≡ is → Equations w e js
   all_equal e s b [] o c q = tt
-  all_equal e s b (WireItem n k ∷ js) o c q = all_equal e s (b ++ WireItem n k ∷ []) js o c (append_assoc b (WireItem n k ∷ []) js ∙ q)
-  all_equal e s b (RegItem n k ∷ js) o c q = all_equal e s (b ++ RegItem n k ∷ []) js o c (append_assoc b (RegItem n k ∷ []) js ∙ q)
   all_equal e s b (AssignItem n x ∷ js) o c q =
       let here : driver is n ≡ Some x = subst (λ l. driver l n ≡ Some x) q (driver_behind b (AssignItem n x ∷ js) n o.0 ∙ ap (λ t. cond t (Some x) (driver js n)) (same_bytes n)) in
       let d = c.0.3 in (
         s n ∙ ap (λ o. by_source w regs ins e o (driver is n) n) d.1 ∙ ap (λ o. by_kind w regs ins e d.0.kind o n) here ∙ wire_value w regs ins e d.0.kind x n d.2,
         all_equal e s (b ++ AssignItem n x ∷ []) js o.1 c.1 (append_assoc b (AssignItem n x ∷ []) js ∙ q),
       )
-  all_equal e s b (AlwaysItem k ss ∷ js) o c q = all_equal e s (b ++ AlwaysItem k ss ∷ []) js o c (append_assoc b (AlwaysItem k ss ∷ []) js ∙ q)
+  all_equal e s b (other ∷ js) o c q = all_equal e s (b ++ other ∷ []) js o c (append_assoc b (other ∷ []) js ∙ q)
 
   -- what settles is settled by each name's source
   settled_of : (e : Env) → ((n : List ℕ) → e n < 2 ^ cond (is_clk n) 0 (w n)) → AllGiven regs ins e ds → Equations w e is → Settled w ds is rank falls regs ins e

@@ -1,4 +1,4 @@
--- Inner. For proofs and private contracts alone, beside Shows: when registers show a controller, and ports answer for it.
+-- Inner. For proofs and private contracts alone, beside Shows: when registers show a controller.
 use Rattle.std.specs.Prelude.{◌≡◌, ℕ, suc, ◌<◌, Bool, true, List, [], ◌∷◌, length}
 use Rattle.verilog_tree.specs.Meaning.{Env, bit}
 use Rattle.rtl_layout.specs.Plan.{Plan, several, several_bits, limit}

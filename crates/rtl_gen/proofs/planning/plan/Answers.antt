@@ -9,7 +9,7 @@ invariant_of-result c =
     record {
       is_plan = is_plan c.args.march.now d _
           (planned c.args.march.now d _ c.scramble-scramble.result.now c.words.ensures.memory c.scramble-scramble.ensures
-          c.module_name.ensures c.elements.ensures c.words.ensures.value c.bits.ensures.value c.backgrounds.ensures
+          c.module_of.ensures c.elements.ensures c.words.ensures.value c.bits.ensures.value c.backgrounds.ensures
           (ap (λ n. n - 1) c.latency.ensures.value) c.polarity.ensures.value c.pause_of-pause.ensures.pauses c.address_bits.ensures.value
           c.is_identity.ensures c.rows.ensures)
           c.most_ops-most.result
@@ -24,6 +24,6 @@ invariant_of-result c =
 pub returns-clause-plans : goal.returns-clause-plans
 returns-clause-plans c =
     planned c.args.march.now c.args.memory.now _ c.scramble-scramble.result.now c.words.ensures.memory c.scramble-scramble.ensures
-    c.module_name.ensures c.elements.ensures c.words.ensures.value c.bits.ensures.value c.backgrounds.ensures
+    c.module_of.ensures c.elements.ensures c.words.ensures.value c.bits.ensures.value c.backgrounds.ensures
     (ap (λ n. n - 1) c.latency.ensures.value) c.polarity.ensures.value c.pause_of-pause.ensures.pauses c.address_bits.ensures.value
     c.is_identity.ensures c.rows.ensures

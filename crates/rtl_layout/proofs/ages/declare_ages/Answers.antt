@@ -7,4 +7,4 @@ loop-i-preserved c = ages_turn c.args.many c.args.width c.loop-i.i c.args.delay 
 pub returns : goal.returns
 returns c =
     ages_end c.args.many c.args.width c.loop-i.i c.args.delay _ _ _ _ _ _ c.loop-i-test.false c.loop-i.auto.i-end c.aged.ensures c.aged-2.ensures
-    c.in_ok-declare.ensures c.in_ok-declare-2.ensures c.loop-i.invariant
+    c.in_ok-register.ensures c.in_ok-register-2.ensures c.loop-i.invariant

@@ -9,24 +9,24 @@ pub returns : goal.returns
 returns c =
     let p = seen c.args.plan.now in
     join (map plain_item c.args.items.now.items) _ _ (RegItem L.oper p.oper_width ∷ []) (RegItem L.visit p.visit_width ∷ [] ++ (RegItem L.element p.element_width ∷ [] ++ (RegItem L.back p.back_width ∷ [] ++ (RegItem L.run 1 ∷ [] ++ (RegItem L.last_oper 1 ∷ [] ++ (RegItem L.last_visit 1 ∷ []))))))
-    (renamed RegItem _ _ _ _ _ c.name.ensures c.in_ok-declare.ensures)
+    (renamed RegItem _ _ _ _ _ c.name.ensures c.in_ok-register.ensures)
     (
-    join (map plain_item c.declare.new.items.items) _ _ (RegItem L.visit p.visit_width ∷ []) (RegItem L.element p.element_width ∷ [] ++ (RegItem L.back p.back_width ∷ [] ++ (RegItem L.run 1 ∷ [] ++ (RegItem L.last_oper 1 ∷ [] ++ (RegItem L.last_visit 1 ∷ [])))))
-    (renamed RegItem _ _ _ _ _ c.name-2.ensures c.in_ok-declare-2.ensures)
+    join (map plain_item c.register.new.items.items) _ _ (RegItem L.visit p.visit_width ∷ []) (RegItem L.element p.element_width ∷ [] ++ (RegItem L.back p.back_width ∷ [] ++ (RegItem L.run 1 ∷ [] ++ (RegItem L.last_oper 1 ∷ [] ++ (RegItem L.last_visit 1 ∷ [])))))
+    (renamed RegItem _ _ _ _ _ c.name-2.ensures c.in_ok-register-2.ensures)
     (
-    join (map plain_item c.declare-2.new.items.items) _ _ (RegItem L.element p.element_width ∷ []) (RegItem L.back p.back_width ∷ [] ++ (RegItem L.run 1 ∷ [] ++ (RegItem L.last_oper 1 ∷ [] ++ (RegItem L.last_visit 1 ∷ []))))
-    (renamed RegItem _ _ _ _ _ c.name-3.ensures c.in_ok-declare-3.ensures)
+    join (map plain_item c.register-2.new.items.items) _ _ (RegItem L.element p.element_width ∷ []) (RegItem L.back p.back_width ∷ [] ++ (RegItem L.run 1 ∷ [] ++ (RegItem L.last_oper 1 ∷ [] ++ (RegItem L.last_visit 1 ∷ []))))
+    (renamed RegItem _ _ _ _ _ c.name-3.ensures c.in_ok-register-3.ensures)
     (
-    join (map plain_item c.declare-3.new.items.items) _ _ (RegItem L.back p.back_width ∷ []) (RegItem L.run 1 ∷ [] ++ (RegItem L.last_oper 1 ∷ [] ++ (RegItem L.last_visit 1 ∷ [])))
-    (renamed RegItem _ _ _ _ _ c.name-4.ensures c.in_ok-declare-4.ensures)
+    join (map plain_item c.register-3.new.items.items) _ _ (RegItem L.back p.back_width ∷ []) (RegItem L.run 1 ∷ [] ++ (RegItem L.last_oper 1 ∷ [] ++ (RegItem L.last_visit 1 ∷ [])))
+    (renamed RegItem _ _ _ _ _ c.name-4.ensures c.in_ok-register-4.ensures)
     (
-    join (map plain_item c.declare-4.new.items.items) _ _ (RegItem L.run 1 ∷ []) (RegItem L.last_oper 1 ∷ [] ++ (RegItem L.last_visit 1 ∷ []))
-    (renamed RegItem _ _ _ _ _ c.name-5.ensures c.in_ok-declare-5.ensures)
+    join (map plain_item c.register-4.new.items.items) _ _ (RegItem L.run 1 ∷ []) (RegItem L.last_oper 1 ∷ [] ++ (RegItem L.last_visit 1 ∷ []))
+    (renamed RegItem _ _ _ _ _ c.name-5.ensures c.in_ok-register-5.ensures)
     (
-    join (map plain_item c.declare-5.new.items.items) _ _ (RegItem L.last_oper 1 ∷ []) (RegItem L.last_visit 1 ∷ [])
-    (renamed RegItem _ _ _ _ _ c.name-6.ensures c.in_ok-declare-6.ensures)
+    join (map plain_item c.register-5.new.items.items) _ _ (RegItem L.last_oper 1 ∷ []) (RegItem L.last_visit 1 ∷ [])
+    (renamed RegItem _ _ _ _ _ c.name-6.ensures c.in_ok-register-6.ensures)
     (
-    renamed RegItem _ _ _ _ _ c.name-7.ensures c.in_ok-declare-7.ensures
+    renamed RegItem _ _ _ _ _ c.name-7.ensures c.in_ok-register-7.ensures
     )
     )
     )

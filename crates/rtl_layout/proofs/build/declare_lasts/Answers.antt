@@ -7,7 +7,7 @@ use Rattle.rtl_layout.proofs.build.declare_lasts.Goals as goal
 pub returns : goal.returns
 returns c =
     join (map plain_item c.args.items.now.items) _ _ (WireItem L.last_element 1 ∷ []) (WireItem L.last_back 1 ∷ [])
-    (renamed WireItem _ _ _ _ _ c.name.ensures c.in_ok-declare_wire.ensures)
+    (renamed WireItem _ _ _ _ _ c.name.ensures c.in_ok-wire.ensures)
     (
-    renamed WireItem _ _ _ _ _ c.name-2.ensures c.in_ok-declare_wire-2.ensures
+    renamed WireItem _ _ _ _ _ c.name-2.ensures c.in_ok-wire-2.ensures
     )

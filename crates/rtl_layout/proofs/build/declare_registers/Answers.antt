@@ -19,9 +19,9 @@ returns c =
     (c.in_ok-declare_ages.ensures ∙ ap (λ m. map plain_item c.declare_one.new.items.items ++ L.stage_regs m p.back_width 0 p.delay) c.is_several.ensures)
     (
     join (map plain_item c.declare_ages.new.items.items) _ _ (RegItem L.want p.bits ∷ []) (RegItem L.bad 1 ∷ [])
-    (renamed RegItem _ _ _ _ _ c.name.ensures c.in_ok-declare.ensures)
+    (renamed RegItem _ _ _ _ _ c.name.ensures c.in_ok-register.ensures)
     (
-    renamed RegItem _ _ _ _ _ c.name-2.ensures c.in_ok-declare-2.ensures
+    renamed RegItem _ _ _ _ _ c.name-2.ensures c.in_ok-register-2.ensures
     )
     )
     )
