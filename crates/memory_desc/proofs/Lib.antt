@@ -11,6 +11,7 @@ pub mod SeenLaws
 pub mod Stated
 pub mod Rows
 pub mod Chosen
+pub mod Checks
 pub mod Scrambles
 pub mod Built
 pub mod Fields
@@ -29,7 +30,6 @@ pub mod BackInside
 pub mod BackValues
 pub mod ReadBack
 pub mod BackDescribed
-pub mod DescribedLaws
 pub mod LineTests
 pub mod Searches
 pub mod KeptNumbers

@@ -7,7 +7,6 @@ use Rattle.memory_desc.specs.Table.{AreStatements, Describes, Reads}
 use Rattle.memory_desc.specs.inner.Heard.{statements}
 use Rattle.memory_desc.specs.inner.Walk.{first_lines_refusal}
 use Rattle.memory_desc.specs.declared.fault.MemoryFault.{MemoryFault}
-use Rattle.memory_desc.proofs.DescribedLaws.{spells, spelled}
 use Rattle.memory_desc.proofs.Determined.{describes_one}
 use Rattle.memory_desc.proofs.LineReads.{some_same}
 use Rattle.memory_desc.proofs.OneText.{are_heard, heard_lines, lines_heard, lines_say}
@@ -22,7 +21,7 @@ by_statements : (bytes : List ℕ) (r : Result Description MemoryFault) → (ss 
 by_statements bytes r h = (let a = are_heard bytes h.0 h.1 in inr (a.0, subst (λ (ss : List Statement). Describes ss r) (sym a.1) h.2))
 
 pub reads_heard : (bytes : List ℕ) (r : Result Description MemoryFault) → Reads bytes r → Hears bytes r
-reads_heard bytes (Ok d) h = by_statements bytes (Ok d) (spelled bytes d h)
+reads_heard bytes (Ok d) h = by_statements bytes (Ok d) h
 reads_heard bytes (Err f) h = elim h [ inl a ↦ inl (f, lines_heard (text_lines bytes) f a, refl) | inr s ↦ by_statements bytes (Err f) s ]
 
 pub heard_reads : (bytes : List ℕ) (r : Result Description MemoryFault) → Hears bytes r → Reads bytes r
@@ -32,7 +31,7 @@ heard_reads bytes r h = elim h [
 ]
   where
     go : (r : Result Description MemoryFault) → (ss : List Statement) × AreStatements bytes ss × Describes ss r → Reads bytes r
-    go (Ok d) s = spells bytes d s
+    go (Ok d) s = s
     go (Err f) s = inr s
 
 hears_one : (bytes : List ℕ) (r s : Result Description MemoryFault) → Hears bytes r → Hears bytes s → r ≡ s

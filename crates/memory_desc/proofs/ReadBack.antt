@@ -16,7 +16,6 @@ use Rattle.memory_desc.specs.Table.{Reads, AreStatements}
 use Rattle.memory_desc.proofs.Parts.{width_small}
 use Rattle.memory_desc.proofs.BackLines.{is_inside, numbered, Written, written_more, lines_say}
 use Rattle.memory_desc.proofs.BackDescribed.{describes_it}
-use Rattle.memory_desc.proofs.DescribedLaws.{spells}
 use Rattle.memory_desc.proofs.BackFound.{row_content, rows_from, body}
 use Rattle.memory_desc.proofs.BackInside.{decimal_inside, name_inside, row_inside, backgrounds_inside, polarity_inside, row_written, texts_from, later_of, lines_of, rows_printed, printed_lines}
 use Rattle.memory_desc.proofs.BackScrambling.{row_some}
@@ -144,4 +143,4 @@ read_back d mem =
     let some = mem.words_low in
     let small : d.scramble.width ≤ 16 = (width_small (d.words - 1) d.scramble.width (omega arith) mem.address).1 in
     let k = rows_printed d.scramble in
-    spells (printed d) d (statements d (is_plain d) k, are_statements d mem mem.full small, describes_it d mem mem.full small)
+    (statements d (is_plain d) k, are_statements d mem mem.full small, describes_it d mem mem.full small)

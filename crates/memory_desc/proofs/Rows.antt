@@ -1,5 +1,5 @@
 -- The rows of the scrambling, one after another.
-use Rattle.std.proofs.Common.{◌≡◌, ℕ, zero, suc, ◌+◌, ◌-◌, ◌*◌, ◌%◌, ◌^◌, ◌<◌, ◌≤◌, Bool, true, false, List, [], ◌∷◌, ◌++◌, length, take, slice_set, replicate, Option, Some, None, refl, sym, ◌∙◌, ap, subst, arith, bit_and, bit_or, inl, inr, add-one, lit<}
+use Rattle.std.proofs.Common.{◌≡◌, ℕ, zero, suc, ◌+◌, ◌-◌, ◌*◌, ◌%◌, ◌^◌, ◌<◌, ◌≤◌, Bool, true, false, List, [], ◌∷◌, ◌++◌, length, take, slice_set, replicate, Some, None, refl, sym, ◌∙◌, ap, subst, arith, bit_and, bit_or, inl, inr, add-one, lit<}
 use Rattle.std.proofs.Math.Pow.{pow-lt, pow_pos}
 use Rattle.std.proofs.Math.Nat.{mod-eq_of_lt}
 use Rattle.std.proofs.Math.Path.{ap₂}
@@ -12,9 +12,9 @@ use Rattle.std.specs.Prelude.{nat_le}
 use Rattle.std.specs.Str.Parse.{digits_value}
 use Rattle.scrambler.specs.Linear.{number}
 use Rattle.scrambler.proofs.Steps.{product_begun, product_more}
-use Rattle.memory_desc.specs.LineText.{Content, Term, index_bit, constant, scramble}
+use Rattle.memory_desc.specs.LineText.{Term, index_bit, constant, scramble}
 use Rattle.memory_desc.specs.Statements.{Statement}
-use Rattle.memory_desc.specs.Subjects.{about, said, content_of}
+use Rattle.memory_desc.specs.Subjects.{about, said}
 use Rattle.memory_desc.specs.inner.Standing.{row_in_seen, IsRow, StandsAt, highest_of}
 use Rattle.memory_desc.specs.Table.{is_term_too_wide, too_wide, missing, missing_row, first_refusal, unless_there}
 use Rattle.memory_desc.specs.Values.{index_bits, constant_of, terms_said, terms_in, rows_said}
@@ -25,6 +25,7 @@ use Rattle.memory_desc.specs.declared.content.Subject.TheVariants.{Row as BitRow
 use Rattle.memory_desc.specs.declared.fault.Field.TheVariants.{Row as RowField}
 use Rattle.memory_desc.specs.declared.fault.MemoryFault.{MemoryFault}
 use Rattle.memory_desc.specs.declared.fault.MemoryFault.TheVariants.{Missing}
+use Rattle.memory_desc.proofs.Checks.{there, said_there}
 use Rattle.memory_desc.proofs.Parts.{RowsFit, rows_begun, rows_more}
 use Rattle.memory_desc.proofs.SeenLaws.{row_is}
 use Rattle.memory_desc.proofs.Stated.{within, stated, row_stated}
@@ -85,10 +86,6 @@ pub row_missing : (ss : List Statement) (width bit : ℕ) (fault : MemoryFault) 
     → missing_row ss width ≡ Some fault
 row_missing ss width bit fault h l m = missing_kept ss (suc bit) width fault (ap (λ r. first_refusal r (missing (BitRow bit) (RowField bit) ss)) h ∙ m) l
 
-there_said : (fault : MemoryFault) (o : Option Statement) (c : Content) → content_of o ≡ Some c → unless_there fault o ≡ None
-there_said fault None c e = (let z : ⊥ = cc in absurd z)
-there_said fault (Some s) c e = refl
-
 -- one more row
 module _ (ss : List Statement) (width size bit : ℕ) (rows : List ℕ) (constants : ℕ) (row : Row) (count : length rows ≡ 16) (below : bit < width) (narrow : width ≤ 16)
     (passed : too_wide ss width size ≡ None) (given : RowIs ss bit row) (so_far : RowsAre ss bit rows constants) where
@@ -106,7 +103,7 @@ module _ (ss : List Statement) (width size bit : ℕ) (rows : List ℕ) (constan
 
   there_more : missing_row ss (suc bit) ≡ None
   there_more = ap (λ r. first_refusal r (missing (BitRow bit) (RowField bit) ss)) so_far.there
-      ∙ there_said (Missing (RowField bit)) (about (BitRow bit) ss) (scramble given.0 given.1) given.2
+      ∙ there (Missing (RowField bit)) (about (BitRow bit) ss) (said_there (about (BitRow bit) ss) (scramble given.0 given.1) given.2)
 
   rows_are_more_at : take (suc bit) (slice_set rows bit (bit_and row.names (2 ^ width - 1))) ≡ rows_said ss (suc bit)
   rows_are_more_at =

@@ -2,7 +2,7 @@ use Rattle.std.proofs.Common.{◌∙◌, ap, inl, inr, Err, None}
 use Rattle.std.proofs.lemmas.Result.{err_from_is_err_and}
 use Rattle.bist_text.specs.Lines.{text_lines}
 use Rattle.memory_desc.specs.inner.Walk.{lines_refusal}
-use Rattle.memory_desc.proofs.Built.{passed, stopped}
+use Rattle.memory_desc.proofs.Checks.{passed, stopped}
 use Rattle.memory_desc.proofs.OneOutcome.{Hears, reading}
 use Rattle.memory_desc.proofs.read.read_memory.Goals as goal
 use Rattle.memory_desc.proofs.read.read_memory.Goals.{After-described, After-from_residual}
