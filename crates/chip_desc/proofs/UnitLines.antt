@@ -18,7 +18,7 @@ use Rattle.chip_desc.specs.declared.content.UnitLine.{UnitLine}
 use Rattle.chip_desc.specs.declared.fault.ChipFault.{ChipFault}
 use Rattle.chip_desc.specs.declared.fault.ChipFault.TheVariants.{TooManyUnits}
 use Rattle.chip_desc.specs.declared.content.Key.TheVariants.{Unit as OfUnit}
-use Rattle.chip_desc.proofs.LineReads.{formed_said}
+use Rattle.chip_desc.proofs.OneText.{formed_said}
 
 -- ---- names of files
 

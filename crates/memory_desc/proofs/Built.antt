@@ -1,16 +1,17 @@
 -- The memory that is made where no check refused.
-use Rattle.std.proofs.Common.{◌≡◌, ◌∙◌, ℕ, ◌-◌, ◌&&◌, Bool, true, false, not, if◌then◌else◌, List, ◌∷◌, [], Option, Some, None, Ok, Err, find, refl, sym, ap, subst, inl, inr}
+use Rattle.std.proofs.Common.{◌≡◌, ◌∙◌, ℕ, ◌-◌, ◌&&◌, Bool, true, false, not, if◌then◌else◌, List, Option, Some, None, Ok, Err, find, refl, sym, ap, subst, inl, inr}
 use Rattle.std.specs.Int.{is_power_of_two}
 use Rattle.bist_bits.specs.Width.{IsWidthOf}
 use Rattle.scrambler.specs.Scrambling.{Scrambling}
 use Rattle.memory_desc.specs.Described.{AreOfMemory, is_repeat, is_out_of_range, is_too_wide, is_scrambled}
 use Rattle.memory_desc.specs.Descriptions.{Description, assembled}
-use Rattle.memory_desc.specs.inner.Standing.{checked, AreFields, GivesBackgrounds, GivesScrambling}
+use Rattle.memory_desc.specs.inner.Standing.{AreFields, GivesBackgrounds, GivesScrambling}
+use Rattle.bist_text.specs.keyed.Texts.{checked}
 use Rattle.memory_desc.specs.Statements.{Statement}
 use Rattle.memory_desc.specs.Subjects.{about, said}
-use Rattle.memory_desc.specs.Table.{missing, repeated, out_of_range, unscramblable, too_wide, unrowed, unsized, unfit, first_of, AreRefusedBy}
+use Rattle.memory_desc.specs.Table.{missing, repeated, out_of_range, unscramblable, too_wide, unrowed, unsized, unfit, AreRefusedBy}
 use Rattle.memory_desc.specs.Values.{AreBackgrounds, words_said, bits_said, latency_said, polarity_said, pause_said}
-use Rattle.memory_desc.proofs.Checks.{here, next, none_first, none_at, is_there, passed, stopped}
+use Rattle.memory_desc.proofs.Checks.{alone, here, next, none_first, none_at, is_there, passed, stopped}
 use Rattle.memory_desc.proofs.Scrambles.{invertible}
 use Rattle.memory_desc.specs.declared.content.Subject.TheVariants.{Name, Words, Bits, Backgrounds}
 use Rattle.memory_desc.specs.declared.fault.Field.TheVariants.{Name as NameField, Words as WordsField, Bits as BitsField}
@@ -57,10 +58,6 @@ module _ {ss : List Statement} {name : List ℕ} {words bits n width : ℕ} (bef
 
       fits : unfit ss width ≡ unrowed ss width
       fits = next (unscramblable ss) scramblable ∙ next (too_wide ss width (bits_said ss)) fit ∙ alone (unrowed ss width)
-        where
-          alone : (o : Option MemoryFault) → first_of (o ∷ []) ≡ o
-          alone None = refl
-          alone (Some fault) = refl
 
       pub scrambling_refused : (fault : MemoryFault) → GivesScrambling ss width (Err fault) → AreRefusedBy ss fault
       scrambling_refused fault h = elim h [

@@ -11,7 +11,8 @@ use Rattle.memory_desc.specs.LineText.{Content, log, backgrounds, kind_of}
 use Rattle.memory_desc.specs.inner.Standing.{StandsAt, AreWords, GivesBackgrounds}
 use Rattle.memory_desc.specs.Statements.{Statement}
 use Rattle.memory_desc.specs.Subjects.{about, said}
-use Rattle.memory_desc.specs.Table.{first_of, too_many, without_solid, unserved, is_too_wide, too_wide}
+use Rattle.bist_text.specs.KeyedTexts.{first_refusal}
+use Rattle.memory_desc.specs.Table.{too_many, without_solid, unserved, is_too_wide, too_wide}
 use Rattle.memory_desc.specs.Values.{word_values}
 use Rattle.memory_desc.specs.declared.content.Key.TheVariants.{Backgrounds as BackgroundsKey}
 use Rattle.memory_desc.specs.declared.content.Subject.TheVariants.{Backgrounds}
@@ -43,7 +44,7 @@ zero_found (w ∷ set) (suc k) l e = or_right (w == 0) (list_any (λ v. v == 0) 
 -- ---- words that are listed
 
 -- at most 8 words of which one is 0 are not refused
-pub served : (set : List ℕ) → length set ≤ 8 → Contains set 0 → first_of (too_many set ∷ without_solid set ∷ []) ≡ None
+pub served : (set : List ℕ) → length set ≤ 8 → Contains set 0 → first_refusal (too_many set ∷ without_solid set ∷ []) ≡ None
 served set few c = rw (le-ltb 8 (length set) few, zero_found set c.0 c.1 c.2) refl
 
 few_words : (ws : List (List ℕ)) (count : ℕ) → count ≡ length ws → count ≤ 8 → length (word_values ws) ≤ 8

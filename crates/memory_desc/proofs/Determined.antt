@@ -24,9 +24,8 @@ use Rattle.memory_desc.specs.declared.content.Subject.TheVariants.{Name, Words, 
 use Rattle.memory_desc.specs.declared.fault.Field.TheVariants.{Name as NameField, Words as WordsField, Bits as BitsField}
 use Rattle.memory_desc.specs.declared.fault.MemoryFault.{MemoryFault}
 use Rattle.memory_desc.specs.declared.fault.MemoryFault.TheVariants.{Missing, Repeated, OutOfRange, Singular, ScrambleNeedsPowerOfTwo}
-use Rattle.memory_desc.proofs.Checks.{next, at_none, there}
+use Rattle.memory_desc.proofs.Checks.{next, at_none, some_same, there}
 use Rattle.memory_desc.proofs.Chosen.{served}
-use Rattle.memory_desc.proofs.LineReads.{some_same}
 use Rattle.memory_desc.proofs.Scrambles.{invertible, no_row_missed, scrambling_one}
 
 -- ---- widths

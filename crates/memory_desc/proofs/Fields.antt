@@ -10,7 +10,8 @@ use Rattle.bist_text.specs.ReservedWords.{is_among, reserved_words}
 use Rattle.memory_desc.specs.inner.Standing.{is_ranged, least, most, value_in, number_in_seen, polarity_in_seen, name_in_seen, StandsAt}
 use Rattle.memory_desc.specs.Statements.{Statement, stated as stated_line}
 use Rattle.memory_desc.specs.Subjects.{about, is_about, content_of, said}
-use Rattle.memory_desc.specs.Table.{missing, unless_there, out_of_range, too_wide}
+use Rattle.bist_text.specs.KeyedTexts.{unless_there}
+use Rattle.memory_desc.specs.Table.{missing, out_of_range, too_wide}
 use Rattle.memory_desc.specs.Values.{name_in, polarity_in, name_said, polarity_said, latency_in, pause_in}
 use Rattle.memory_desc.specs.inner.Heard.{said as said_by, statements}
 use Rattle.memory_desc.specs.inner.Seen.{plain_content}
@@ -19,7 +20,7 @@ use Rattle.memory_desc.specs.declared.content.Subject.{Subject}
 use Rattle.memory_desc.specs.declared.content.Subject.TheVariants.{Name, Polarity, Latency, Pause}
 use Rattle.memory_desc.specs.declared.fault.Field.{Field}
 use Rattle.memory_desc.specs.declared.fault.MemoryFault.TheVariants.{Missing}
-use Rattle.memory_desc.proofs.LineReads.{text_said}
+use Rattle.memory_desc.proofs.OneText.{formed_said}
 use Rattle.memory_desc.proofs.Stated.{stated, says, unstated, name_stated, polarity_stated, in_range, within, has_digits}
 
 -- a field whose line is there isn't missing
@@ -102,7 +103,7 @@ formed_found p (l ∷ ls) s e = go (said_by l.text) refl e (λ e. formed_found p
   where
     at : (c : Content) → said_by l.text ≡ Some c → (t : Bool) → cond t (Some (record { line = l.number; content = c })) (find p (statements ls)) ≡ Some s
         → (find p (statements ls) ≡ Some s → is_formed s.content ≡ true) → is_formed s.content ≡ true
-    at c k true e again = (let same : (let x : Statement = record { line = l.number; content = c } in x) ≡ s = cc in ap (λ s. is_formed s.content) (sym same) ∙ (text_said l.text c k).0)
+    at c k true e again = (let same : (let x : Statement = record { line = l.number; content = c } in x) ≡ s = cc in ap (λ s. is_formed s.content) (sym same) ∙ formed_said l.text c k)
     at c k false e again = again e
 
     go : (v : Option Content) → said_by l.text ≡ v → find p (stated_line l.number v ++ statements ls) ≡ Some s → (find p (statements ls) ≡ Some s → is_formed s.content ≡ true) → is_formed s.content ≡ true

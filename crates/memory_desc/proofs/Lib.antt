@@ -3,8 +3,6 @@ pub mod TermReads
 pub mod WordLaws
 pub mod WordReads
 pub mod LineLaws
-pub mod LineReads
-pub mod LineChecking
 pub mod OneText
 pub mod NameBytes
 pub mod SeenLaws

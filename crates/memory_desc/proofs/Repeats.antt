@@ -12,7 +12,7 @@ use Rattle.memory_desc.specs.inner.Met.{MayHave, MayBeMet}
 use Rattle.memory_desc.specs.Statements.{Statement, stated}
 use Rattle.memory_desc.specs.inner.Heard.{said, statements}
 use Rattle.memory_desc.specs.inner.Seen.{Seen, seen, subject_of}
-use Rattle.memory_desc.specs.inner.Standing.{checked}
+use Rattle.bist_text.specs.keyed.Texts.{checked}
 use Rattle.memory_desc.specs.Subjects.{subject, is_same, is_about, about}
 use Rattle.memory_desc.specs.Table.{is_other, is_repeat, repeated, at_line}
 use Rattle.memory_desc.specs.declared.content.Subject.{Subject}

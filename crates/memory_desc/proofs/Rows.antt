@@ -16,7 +16,8 @@ use Rattle.memory_desc.specs.LineText.{Term, index_bit, constant, scramble}
 use Rattle.memory_desc.specs.Statements.{Statement}
 use Rattle.memory_desc.specs.Subjects.{about, said}
 use Rattle.memory_desc.specs.inner.Standing.{row_in_seen, IsRow, StandsAt, highest_of}
-use Rattle.memory_desc.specs.Table.{is_term_too_wide, too_wide, missing, missing_row, first_refusal, unless_there}
+use Rattle.bist_text.specs.KeyedTexts.{or_else, unless_there}
+use Rattle.memory_desc.specs.Table.{is_term_too_wide, too_wide, missing, missing_row}
 use Rattle.memory_desc.specs.Values.{index_bits, constant_of, terms_said, terms_in, rows_said}
 use Rattle.memory_desc.specs.inner.Seen.{plain_content}
 use Rattle.memory_desc.specs.declared.content.Row.{Row}
@@ -79,12 +80,12 @@ missing_kept : (ss : List Statement) (k n : ℕ) (fault : MemoryFault) → missi
 missing_kept ss k zero fault h l = let z : k ≡ 0 = omega arith in subst (λ (x : ℕ). missing_row ss x ≡ Some fault) z h
 missing_kept ss k (suc n) fault h l = elim (cases_lt n k) [
   | inl m ↦ let z : k ≡ suc n = omega arith in subst (λ (x : ℕ). missing_row ss x ≡ Some fault) z h
-  | inr m ↦ ap (λ r. first_refusal r (unless_there (Missing (RowField n)) (about (BitRow n) ss))) (missing_kept ss k n fault h m)
+  | inr m ↦ ap (λ r. or_else r (unless_there (Missing (RowField n)) (about (BitRow n) ss))) (missing_kept ss k n fault h m)
 ]
 
 pub row_missing : (ss : List Statement) (width bit : ℕ) (fault : MemoryFault) → missing_row ss bit ≡ None → bit < width → missing (BitRow bit) (RowField bit) ss ≡ Some fault
     → missing_row ss width ≡ Some fault
-row_missing ss width bit fault h l m = missing_kept ss (suc bit) width fault (ap (λ r. first_refusal r (missing (BitRow bit) (RowField bit) ss)) h ∙ m) l
+row_missing ss width bit fault h l m = missing_kept ss (suc bit) width fault (ap (λ r. or_else r (missing (BitRow bit) (RowField bit) ss)) h ∙ m) l
 
 -- one more row
 module _ (ss : List Statement) (width size bit : ℕ) (rows : List ℕ) (constants : ℕ) (row : Row) (count : length rows ≡ 16) (below : bit < width) (narrow : width ≤ 16)
@@ -102,7 +103,7 @@ module _ (ss : List Statement) (width size bit : ℕ) (rows : List ℕ) (constan
       masked row.names width given.1 (given.3.names (omega arith)) fit.names ∙ ap index_bits (sym terms_are)
 
   there_more : missing_row ss (suc bit) ≡ None
-  there_more = ap (λ r. first_refusal r (missing (BitRow bit) (RowField bit) ss)) so_far.there
+  there_more = ap (λ r. or_else r (missing (BitRow bit) (RowField bit) ss)) so_far.there
       ∙ there (Missing (RowField bit)) (about (BitRow bit) ss) (said_there (about (BitRow bit) ss) (scramble given.0 given.1) given.2)
 
   rows_are_more_at : take (suc bit) (slice_set rows bit (bit_and row.names (2 ^ width - 1))) ≡ rows_said ss (suc bit)

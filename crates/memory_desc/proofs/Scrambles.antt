@@ -7,7 +7,8 @@ use Rattle.memory_desc.specs.Described.{IsScrambling}
 use Rattle.memory_desc.specs.inner.Standing.{GivesScrambling}
 use Rattle.memory_desc.specs.Statements.{Statement}
 use Rattle.memory_desc.specs.Subjects.{about}
-use Rattle.memory_desc.specs.Table.{is_scrambled, first_refusal, missing_row, unless_there, unrowed}
+use Rattle.bist_text.specs.KeyedTexts.{or_else, unless_there}
+use Rattle.memory_desc.specs.Table.{is_scrambled, missing_row, unrowed}
 use Rattle.memory_desc.specs.Values.{matrix_said}
 use Rattle.memory_desc.proofs.Checks.{none_first, is_there, there}
 use Rattle.memory_desc.specs.declared.content.Subject.TheVariants.{Row}
@@ -28,7 +29,7 @@ rows_there ss (suc n) e i low =
 pub no_row_missing : (ss : List Statement) (width : ℕ) → ((i : ℕ) → i < width → IsSome (about (Row i) ss)) → missing_row ss width ≡ None
 no_row_missing ss zero f = refl
 no_row_missing ss (suc n) f =
-    ap (λ o. first_refusal o (unless_there (Missing (RowField n)) (about (Row n) ss))) (no_row_missing ss n (λ i low. f i (omega (arith, low))))
+    ap (λ o. or_else o (unless_there (Missing (RowField n)) (about (Row n) ss))) (no_row_missing ss n (λ i low. f i (omega (arith, low))))
     ∙ there (Missing (RowField n)) (about (Row n) ss) (f n (omega arith))
 
 module _ (ss : List Statement) (width : ℕ) where

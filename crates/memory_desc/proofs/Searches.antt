@@ -10,7 +10,8 @@ use Rattle.memory_desc.specs.Table.{at_line, is_row, is_out_of_range, is_too_wid
 use Rattle.memory_desc.specs.inner.Heard.{said, statements}
 use Rattle.memory_desc.specs.inner.Seeking.{is_sought, first_sought, IsPosed}
 use Rattle.memory_desc.specs.inner.Seen.{SeenStatement, seen, subject_of, plain_statement, seen_stated, seen_statements}
-use Rattle.memory_desc.specs.inner.Standing.{StandsAt, checked}
+use Rattle.memory_desc.specs.inner.Standing.{StandsAt}
+use Rattle.bist_text.specs.keyed.Texts.{checked}
 use Rattle.memory_desc.specs.declared.content.Statement.{Statement as ReadStatement}
 use Rattle.memory_desc.specs.declared.content.Subject.TheVariants as S
 use Rattle.memory_desc.specs.declared.fault.MemoryFault.TheVariants.{OutOfRange as OutOfRangeAt}

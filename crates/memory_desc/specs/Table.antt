@@ -3,13 +3,15 @@ use Rattle.std.specs.Prelude.{◌≡◌, ℕ, zero, suc, ◌-◌, ◌==◌, ◌&
 use Rattle.std.specs.Int.{is_power_of_two}
 use Rattle.std.specs.List.{list_any}
 use Rattle.bist_bits.specs.Width.{IsWidthOf}
+use Rattle.bist_text.specs.KeyedTexts.{AreRefused, first_refusal, or_else, unless_there}
+use Rattle.bist_text.specs.declared.keyed_lines.TextFault.{TextFault}
+use Rattle.bist_text.specs.declared.keyed_lines.TextFault.TheVariants as T
 use Rattle.bist_text.specs.Lines.{text_lines}
 use Rattle.scrambler.specs.Scrambling.{IsInvertible, IsLeastDependence}
 use Rattle.memory_desc.specs.Descriptions.{Description}
 pub use Rattle.memory_desc.specs.Described.{is_other, is_repeat, is_out_of_range, is_row, is_scrambled, is_term_too_wide, is_too_wide, described, AreStatements, AreOfMemory, SpellsMemory}
-use Rattle.memory_desc.specs.LineText.{Content, backgrounds}
-use Rattle.memory_desc.specs.LineFaults.{AreRefused}
-use Rattle.memory_desc.specs.Statements.{Statement}
+use Rattle.memory_desc.specs.LineText.{Content, backgrounds, ContentText}
+use Rattle.memory_desc.specs.Statements.{Statement, stands, version_in}
 use Rattle.memory_desc.specs.Subjects.{about, said}
 use Rattle.memory_desc.specs.Values.{words_said, bits_said, matrix_said, word_values}
 use Rattle.memory_desc.specs.declared.content.Subject.{Subject}
@@ -17,7 +19,7 @@ use Rattle.memory_desc.specs.declared.content.Subject.TheVariants.{Name, Words, 
 use Rattle.memory_desc.specs.declared.fault.Field.{Field}
 use Rattle.memory_desc.specs.declared.fault.Field.TheVariants.{Name as NameField, Words as WordsField, Bits as BitsField, Row as RowField}
 use Rattle.memory_desc.specs.declared.fault.MemoryFault.{MemoryFault}
-use Rattle.memory_desc.specs.declared.fault.MemoryFault.TheVariants.{Repeated, Missing, OutOfRange, Singular, ScrambleNeedsPowerOfTwo, NoSolidBackground, TooManyBackgrounds}
+use Rattle.memory_desc.specs.declared.fault.MemoryFault.TheVariants.{Unexpected, Truncated, OtherVersion, Repeated, Missing, OutOfRange, Singular, ScrambleNeedsPowerOfTwo, NoSolidBackground, TooManyBackgrounds}
 
 -- a refusal at a line, where there is one
 abbrev pub at_line : (ℕ → MemoryFault) → Option Statement → Option MemoryFault
@@ -30,10 +32,6 @@ abbrev pub repeated : List Statement → Option MemoryFault
 repeated ss = at_line (λ n. Repeated n) (find (is_repeat ss) ss)
 
 -- ---- D4: a field is missing
-
-abbrev pub unless_there : {A : Type 0} → MemoryFault → Option A → Option MemoryFault
-unless_there fault None = Some fault
-unless_there fault (Some x) = None
 
 abbrev pub missing : Subject → Field → List Statement → Option MemoryFault
 missing q field ss = unless_there (Missing field) (about q ss)
@@ -55,17 +53,9 @@ too_wide ss width size = at_line (λ n. OutOfRange n) (find (λ s. is_too_wide w
 
 -- ---- D4: the least row of the address that is missing, where there are rows
 
-abbrev pub first_refusal : Option MemoryFault → Option MemoryFault → Option MemoryFault
-first_refusal None r = r
-first_refusal (Some fault) r = Some fault
-
-abbrev pub first_of : List (Option MemoryFault) → Option MemoryFault
-first_of [] = None
-first_of (r ∷ rs) = first_refusal r (first_of rs)
-
 abbrev pub missing_row : List Statement → ℕ → Option MemoryFault
 missing_row ss zero = None
-missing_row ss (suc n) = first_refusal (missing_row ss n) (unless_there (Missing (RowField n)) (about (Row n) ss))
+missing_row ss (suc n) = or_else (missing_row ss n) (unless_there (Missing (RowField n)) (about (Row n) ss))
 
 abbrev pub unrowed : List Statement → ℕ → Option MemoryFault
 unrowed ss width = if is_scrambled ss then missing_row ss width else None
@@ -80,18 +70,18 @@ without_solid set = if list_any (λ w. w == 0) set then None else Some NoSolidBa
 
 -- of words that are listed; the logarithmic set is never refused
 abbrev pub unserved : Option Content → Option MemoryFault
-unserved (Some (backgrounds ws)) = first_of (too_many (word_values ws) ∷ without_solid (word_values ws) ∷ [])
+unserved (Some (backgrounds ws)) = first_refusal (too_many (word_values ws) ∷ without_solid (word_values ws) ∷ [])
 unserved other = None
 
 -- ---- the whole
 
 -- the first refusal before the sizes are known
 abbrev pub unsized : List Statement → Option MemoryFault
-unsized ss = first_of (repeated ss ∷ missing Name NameField ss ∷ missing Words WordsField ss ∷ missing Bits BitsField ss ∷ out_of_range ss ∷ [])
+unsized ss = first_refusal (repeated ss ∷ missing Name NameField ss ∷ missing Words WordsField ss ∷ missing Bits BitsField ss ∷ out_of_range ss ∷ [])
 
 -- the first behind them, up to the rows of addresses of this width
 abbrev pub unfit : List Statement → ℕ → Option MemoryFault
-unfit ss width = first_of (unscramblable ss ∷ too_wide ss width (bits_said ss) ∷ unrowed ss width ∷ [])
+unfit ss width = first_refusal (unscramblable ss ∷ too_wide ss width (bits_said ss) ∷ unrowed ss width ∷ [])
 
 -- behind them D6, that these rows depend on one another, and else D9 and D8
 abbrev pub IsLast : List Statement → ℕ → MemoryFault → Type 0
@@ -111,7 +101,14 @@ abbrev pub Describes : List Statement → Result Description MemoryFault → Typ
 Describes ss (Ok d) = AreOfMemory ss d
 Describes ss (Err fault) = AreRefusedBy ss fault
 
+-- the refusal for its lines
+abbrev pub of_lines : TextFault → MemoryFault
+of_lines (T.Unexpected line byte) = Unexpected line byte
+of_lines T.Truncated = Truncated
+of_lines T.OtherVersion = OtherVersion
+
 -- What a text is read as: a line is refused, or its statements describe a memory or are refused.
 abbrev pub Reads : List ℕ → Result Description MemoryFault → Type 0
 Reads bytes (Ok d) = SpellsMemory bytes d
-Reads bytes (Err fault) = AreRefused (text_lines bytes) fault ⊎ ((ss : List Statement) × AreStatements bytes ss × AreRefusedBy ss fault)
+Reads bytes (Err fault) =
+    ((f : TextFault) × AreRefused ContentText stands version_in (text_lines bytes) None f × (fault ≡ of_lines f)) ⊎ ((ss : List Statement) × AreStatements bytes ss × AreRefusedBy ss fault)

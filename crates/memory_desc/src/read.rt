@@ -3,6 +3,7 @@
 ghost use Rattle.std.specs.Prelude.{◌≡◌, ◌↔◌, false, List, Some, None, Ok, Err, OnOk, MatchResult};
 ghost use Rattle.std.specs.Int.{is_power_of_two};
 ghost use Rattle.bist_text.specs.Lines.{text_lines};
+ghost use Rattle.bist_text.specs.keyed.Texts.{checked};
 ghost use Rattle.memory_desc.specs.declared.fault.MemoryFault.{MemoryFault};
 ghost use Rattle.memory_desc.specs.Descriptions.{Description};
 ghost use Rattle.memory_desc.specs.Names.{IsName};
@@ -10,8 +11,8 @@ ghost use Rattle.memory_desc.specs.Statements.{Statement};
 ghost use Rattle.memory_desc.specs.Values.{words_said};
 ghost use Rattle.memory_desc.specs.inner.Heard.{statements};
 ghost use Rattle.memory_desc.specs.inner.Seen.{plain_content};
-ghost use Rattle.memory_desc.specs.inner.Standing.{checked, name_in_seen, AreFields};
-ghost use Rattle.memory_desc.specs.Table.{is_scrambled, unscramblable, unsized, AreStatements, Describes, Reads};
+ghost use Rattle.memory_desc.specs.inner.Standing.{name_in_seen, AreFields};
+ghost use Rattle.memory_desc.specs.Table.{is_scrambled, of_lines, unscramblable, unsized, AreStatements, Describes, Reads};
 
 use crate::building::{backgrounds_from, scramble_from};
 use crate::content::{Content, Subject};
@@ -22,6 +23,7 @@ use crate::search::{check_ranges, check_repeats, check_widths, field, is_scrambl
 use crate::timing::{cycles_from, number_of, polarity_from};
 use arrayvec::ArrayString;
 use bist_bits::width_of;
+use bist_text::keyed_lines::TextFault;
 use std::str;
 
 /// The text of a name.
@@ -117,6 +119,17 @@ fn described(bytes: &[u8]) -> Result<Memory, MemoryFault>
     memory_of(bytes, name_from(fields.name), fields.words, fields.bits)
 }
 
+/// The refusal of a text for its lines.
+fn of_lines(fault: TextFault) -> MemoryFault
+    ensures { result ≡ of_lines fault }
+{
+    match fault {
+        TextFault::Unexpected { line, byte } => MemoryFault::Unexpected { line, byte },
+        TextFault::Truncated => MemoryFault::Truncated,
+        TextFault::OtherVersion => MemoryFault::OtherVersion,
+    }
+}
+
 /// Reads a memory description. The first refusal decides, in the order of the table.
 #[tactic(auto, using(crate::proofs::OneText::statements_one))]
 pub fn read_memory(bytes: &[u8]) -> Result<Memory, MemoryFault>
@@ -129,6 +142,8 @@ pub fn read_memory(bytes: &[u8]) -> Result<Memory, MemoryFault>
     // A text has no two readings.
     ensures one_reading { (ss : List Statement) (ts : List Statement) → AreStatements bytes.now ss → AreStatements bytes.now ts → ss ≡ ts }
 {
-    check_lines(bytes)?;
-    described(bytes)
+    match check_lines(bytes) {
+        Ok(()) => described(bytes),
+        Err(fault) => Err(of_lines(fault)),
+    }
 }

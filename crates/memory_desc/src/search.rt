@@ -3,13 +3,14 @@
 ghost use Rattle.std.specs.Prelude.{◌≡◌, ◌≤◌, ◌||◌, nat_lt, length, false, List, None, option_map};
 ghost use Rattle.bist_text.specs.ReservedWords.{is_among, reserved_words};
 ghost use Rattle.bist_text.specs.Lines.{text_lines};
+ghost use Rattle.bist_text.specs.keyed.Texts.{checked};
 ghost use Rattle.memory_desc.specs.Subjects.{about};
 ghost use Rattle.memory_desc.specs.Table.{is_other, is_scrambled, repeated, out_of_range, too_wide};
 ghost use Rattle.memory_desc.specs.inner.Heard.{statements};
 ghost use Rattle.memory_desc.specs.inner.Met.{MayBeMet};
 ghost use Rattle.memory_desc.specs.inner.Seeking.{first_sought, is_out_of_range, is_outside, is_row, is_sought, is_too_wide, IsPosed};
 ghost use Rattle.memory_desc.specs.inner.Seen.{plain_content, plain_statement, seen_statements};
-ghost use Rattle.memory_desc.specs.inner.Standing.{StandsAt, GivesField, checked};
+ghost use Rattle.memory_desc.specs.inner.Standing.{StandsAt, GivesField};
 
 use crate::content::{Content, Statement, Subject, subject_of};
 use crate::fault::{Field, MemoryFault};

@@ -6,7 +6,9 @@ use Rattle.scrambler.specs.Scrambling.{Scrambling, IsLeastDependence, matrix_of}
 use Rattle.memory_desc.specs.Described.{IsScrambling}
 use Rattle.memory_desc.specs.Names.{IsName}
 use Rattle.memory_desc.specs.LineText.{Term, index_bit, constant, Content}
-use Rattle.memory_desc.specs.Statements.{Statement}
+use Rattle.memory_desc.specs.Statements.{Statement, version_of}
+use Rattle.memory_desc.specs.declared.content.Key.TheVariants.{Memory}
+use Rattle.memory_desc.specs.declared.content.Version.{Version}
 use Rattle.memory_desc.specs.Subjects.{about}
 use Rattle.memory_desc.specs.Values.{number_in, latency_in, pause_in, index_bits, constant_of, word_values, matrix_said, name_said, words_said, bits_said, AreBackgrounds}
 use Rattle.memory_desc.specs.Table.{is_scrambled, missing, missing_row, unrowed, unserved}
@@ -25,6 +27,10 @@ use Rattle.memory_desc.specs.declared.fault.MemoryFault.TheVariants.{Singular}
 abbrev pub number_in_seen : Seen → ℕ
 number_in_seen (numbered key n) = n
 number_in_seen other = 0
+
+abbrev pub version_in_seen : Seen → Option Version
+version_in_seen (numbered Memory n) = version_of n
+version_in_seen other = None
 
 abbrev pub polarity_in_seen : Seen → ℕ
 polarity_in_seen (inverted w) = w
@@ -98,11 +104,6 @@ abbrev pub StandsAt : Option ReadStatement → Option Statement → Type 0
 StandsAt None None = Unit {0}
 StandsAt (Some l) (Some s) = (l.line ≡ s.line) × (plain_content l.content ≡ seen s.content)
 StandsAt other s = ⊥
-
--- a check: the refusal, where there is one
-abbrev pub checked : Option MemoryFault → Result (Unit {0}) MemoryFault
-checked None = Ok tt
-checked (Some fault) = Err fault
 
 -- the statement of a field that must be there
 abbrev pub GivesField : List Statement → Subject → Field → Result ReadStatement MemoryFault → Type 0
