@@ -332,14 +332,7 @@ first_key (Some Two) = refl
 
 small : (k : Key) → begins_small (key_text k) ≡ true
 small Memory = refl
-small Name = refl
-small WordsKey = refl
-small Bits = refl
-small Latency = refl
-small Polarity = refl
-small Pause = refl
-small Scramble = refl
-small Backgrounds = refl
+small k = refl
 
 pub table : (n : ℕ) (given : Option Version) → IsTable kind_of is_formed (λ c. argument c tail) key_text (keys_in given) n argument_of
 table n given = record { fine = fine given; first = Memory; begins = first_key given; small = small; shuns = argument_shuns; told = argument_told n }
@@ -362,21 +355,11 @@ there : (given : Option Version) (k : Key) → may_stand given k ≡ true → sl
 there None Memory e = refl
 there None k e = (let z : ⊥ = cc in absurd z)
 there (Some Two) Memory e = refl
-there (Some Two) Name e = refl
-there (Some Two) WordsKey e = refl
-there (Some Two) Bits e = refl
-there (Some Two) Latency e = refl
-there (Some Two) Polarity e = refl
-there (Some Two) Pause e = refl
-there (Some Two) Scramble e = refl
-there (Some Two) Backgrounds e = refl
-there (Some One) Memory e = refl
-there (Some One) Name e = refl
-there (Some One) WordsKey e = refl
-there (Some One) Bits e = refl
-there (Some One) Scramble e = refl
-there (Some One) Backgrounds e = refl
-there (Some One) k e = (let z : ⊥ = cc in absurd z)
+there (Some Two) k e = refl
+there (Some One) Latency e = (let z : ⊥ = cc in absurd z)
+there (Some One) Polarity e = (let z : ⊥ = cc in absurd z)
+there (Some One) Pause e = (let z : ⊥ = cc in absurd z)
+there (Some One) k e = refl
 
 all_stand : (given : Option Version) → list_all (may_stand given) (keys_in given) ≡ true
 all_stand None = refl
