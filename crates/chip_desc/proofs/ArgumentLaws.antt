@@ -1,8 +1,5 @@
 -- What stands behind the first word of a line of a chip file is read as the grammar says.
-use Rattle.std.proofs.Common.{◌≡◌, ℕ, suc, Bool, true, List, [], ◌∷◌, length, Option, Some, None, refl, ◌↔◌, inl, inr, sym, ap, subst, ◌∙◌, arith}
-use Rattle.std.proofs.lemmas.Bool.{and_parts, and_from, le-leb}
-use Rattle.std.specs.List.{list_all}
-use Rattle.std.specs.Prelude.{nat_le}
+use Rattle.chip_desc.proofs.Common.{Bool, Budget, Chip, Content, ContentText, Key, LineOf, List, Name, None, Option, Some, Version, [], and_from, and_parts, ap, argument, argument_of, arith, budget, file_of, heard, inl, inr, is_file, is_formed, key_text, keys_in, keys_of, kind_of, le-leb, length, list_all, may_stand, name, nat_le, refl, stands, subst, suc, sym, true, unit, version, ℕ, ◌↔◌, ◌∙◌, ◌∷◌, ◌≡◌}
 use Rattle.std.specs.Str.Parse.{digits_value}
 use Rattle.bist_text.specs.Grammar.{is_blank, word}
 use Rattle.bist_text.specs.Identifiers.{is_digit, begins_identifier, in_identifier}
@@ -10,7 +7,6 @@ use Rattle.bist_text.specs.LineGrammar.{gap, tail}
 use Rattle.bist_text.proofs.KeywordLaws.{IsOf}
 use Rattle.bist_text.proofs.LineStops.{IsPlain, gap_stops, tail_stops, blank_run, blank_word}
 use Rattle.bist_text.proofs.RunPieces.{gap_map, gap_pull, word_map, word_pull}
-use Rattle.bist_text.specs.KeyedTexts.{LineOf}
 use Rattle.bist_text.specs.inner.Machine.{IsExact}
 use Rattle.bist_text.specs.keyed.Lines.{line_of}
 use Rattle.bist_text.specs.keyed.Numbers.{is_number}
@@ -21,12 +17,7 @@ use Rattle.bist_text.proofs.keyed.Told.{Told, told_iff, told_exact}
 use Rattle.bist_text.proofs.keyed.PartLaws.{Hears, fewer, Shuns, Gap, gap_told, Ends, ends_told, Words, Begun, word_told}
 use Rattle.bist_text.proofs.keyed.Classes.{run_is, name_is, all_of_is}
 use Rattle.bist_text.proofs.keyed.LineLaws.{Arg as Behind, OneWord as HasOneWord, one_word, one_number, valued, digit_begun, digit_later, digits_plain, begins_small, IsTable, Line as AnyLine, line_told, word_shuns}
-use Rattle.chip_desc.specs.Chips.{is_file}
-use Rattle.chip_desc.specs.ChipLines.{Content, version, name, budget, unit, kind_of, is_formed, argument, key_text, may_stand, stands, ContentText}
-use Rattle.chip_desc.specs.inner.Heard.{file_of, argument_of, heard, keys_in, keys_of}
-use Rattle.chip_desc.specs.declared.content.Version.{Version}
-use Rattle.chip_desc.specs.declared.content.Key.{Key}
-use Rattle.chip_desc.specs.declared.content.Key.TheVariants.{Chip, Name, Budget, Unit as OfUnit}
+use Rattle.chip_desc.specs.declared.content.Key.TheVariants.{Unit as OfUnit}
 
 abbrev Arg : Key → List ℕ → Option Content → Type 0
 Arg = Behind kind_of is_formed (λ c. argument c tail)

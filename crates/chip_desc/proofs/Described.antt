@@ -1,27 +1,9 @@
 -- The chip that statements describe is within the limits, and is what the reader makes.
-use Rattle.std.proofs.Common.{◌≡◌, ◌∙◌, ◌≤◌, ◌+◌, ℕ, Bool, true, false, cond, List, [], ◌∷◌, ◌++◌, length, map, Option, Some, None, Ok, Err, refl, sym, ap, subst, arith}
-use Rattle.std.specs.Prelude.{All, nat_lt}
-use Rattle.std.specs.List.{find}
-use Rattle.std.proofs.lemmas.Bool.{or_parts, ltb-false}
-use Rattle.std.proofs.lemmas.List.{length-append}
-use Rattle.bist_text.specs.Lines.{TextLine}
+use Rattle.chip_desc.proofs.Common.{All, Bool, Budget, Chip, ChipDescription, ChipFault, ChipUnit, Content, Err, IsChip, IsName, IsUnit, Key, List, Missing, Name, None, Ok, Option, Some, Statement, TextLine, TooManyUnits, UnitDescription, [], alone, ap, arith, budget, budget_in, budget_said, by_statements, checked, cond, content_of, described, described_as, false, find, first_of, heavier_than, is_formed, is_heavier, is_key, is_out_of_range, is_outside, kind_of, length, length-append, ltb-false, map, missing, name, name_in, name_said, nat_lt, next, or_parts, out_of_range, passed, refl, refusal, repeated, said, stated, statements, stopped, subst, sym, too_heavy, too_many, true, unit_in, unit_of, units_said, unless_there, ℕ, ◌++◌, ◌+◌, ◌∙◌, ◌∷◌, ◌≡◌, ◌≤◌}
 use Rattle.bist_text.specs.ReservedWords.{is_among, reserved_words}
-use Rattle.memory_desc.specs.Names.{IsName}
-use Rattle.chip_desc.specs.Chips.{ChipDescription, UnitDescription, described_as, unit_of, IsChip, IsUnit}
-use Rattle.chip_desc.specs.ChipLines.{Content, name, budget, kind_of, is_formed, Statement, stated}
-use Rattle.chip_desc.specs.ChipTable.{is_key, first_of, is_heavier, is_out_of_range, is_outside, missing, repeated, out_of_range, too_many, too_heavy, content_of, name_in, budget_in, name_said, budget_said, unit_in, units_said, refusal, described}
-use Rattle.chip_desc.specs.inner.Heard.{by_statements, said, statements}
-use Rattle.chip_desc.specs.inner.Seeking.{heavier_than}
-use Rattle.chip_desc.specs.declared.chip.ChipUnit.{ChipUnit}
 use Rattle.chip_desc.specs.declared.fault.ChipField.{ChipField}
 use Rattle.chip_desc.specs.declared.fault.ChipField.TheVariants.{Name as NameField, Budget as BudgetField, Unit as UnitField}
-use Rattle.chip_desc.specs.declared.fault.ChipFault.{ChipFault}
-use Rattle.chip_desc.specs.declared.fault.ChipFault.TheVariants.{Missing, TooManyUnits}
-use Rattle.chip_desc.specs.declared.content.Key.{Key}
-use Rattle.chip_desc.specs.declared.content.Key.TheVariants.{Chip, Name, Budget, Unit as OfUnit}
-use Rattle.bist_text.proofs.keyed.Checks.{alone, next, passed, stopped}
-use Rattle.bist_text.specs.KeyedTexts.{unless_there}
-use Rattle.bist_text.specs.keyed.Texts.{checked}
+use Rattle.chip_desc.specs.declared.content.Key.TheVariants.{Unit as OfUnit}
 use Rattle.chip_desc.proofs.OneText.{formed_said}
 use Rattle.chip_desc.proofs.UnitLines.{all_units, find_past, none_at, some_unit, unit_key}
 

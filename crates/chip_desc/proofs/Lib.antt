@@ -1,3 +1,4 @@
+pub mod Common
 pub mod ArgumentLaws
 pub mod OneText
 pub mod UnitLines

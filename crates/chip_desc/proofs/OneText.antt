@@ -1,16 +1,8 @@
 -- A text is read in one way: as what the reader hears in it.
-use Rattle.std.proofs.Common.{◌≡◌, ◌↔◌, ℕ, true, List, Option, Some, None, Result, Ok, Err, refl, inl, inr, sym, ap, ◌∙◌}
-use Rattle.bist_text.specs.Lines.{text_lines}
-use Rattle.bist_text.specs.keyed.Texts.{walk}
+use Rattle.chip_desc.proofs.Common.{AreStatements, ChipDescription, ChipFault, Content, ContentText, Err, List, None, Ok, Option, Reads, Result, Some, Statement, Version, ap, by_lines, by_statements, described, heard, inl, inr, is_formed, of_lines, reading, refl, refusal, said, stands, stated, statements, sym, text_lines, true, version_at, version_in, walk, ℕ, ◌↔◌, ◌∙◌, ◌≡◌}
 use Rattle.bist_text.specs.declared.keyed_lines.TextFault.{TextFault}
 use Rattle.bist_text.proofs.keyed.Texts as Texts
-use Rattle.chip_desc.specs.Chips.{ChipDescription}
-use Rattle.chip_desc.specs.ChipLines.{Content, ContentText, is_formed, stands, version_in, stated, Statement, AreStatements}
-use Rattle.chip_desc.specs.ChipTable.{Reads, refusal, described, of_lines}
-use Rattle.chip_desc.specs.inner.Heard.{by_lines, by_statements, heard, reading, said, statements, version_at}
-use Rattle.chip_desc.specs.declared.content.Version.{Version}
 use Rattle.chip_desc.specs.declared.content.Version.TheVariants.{One}
-use Rattle.chip_desc.specs.declared.fault.ChipFault.{ChipFault}
 use Rattle.chip_desc.proofs.ArgumentLaws.{line_exact}
 
 wide : (v : Option Version) (c : Content) → stands v c ≡ true → stands (Some One) c ≡ true

@@ -1,22 +1,7 @@
 -- The statements of a printed memory describe it.
-use Rattle.std.proofs.Common.{◌≡◌, ℕ, suc, ◌+◌, ◌-◌, ◌^◌, ◌<◌, ◌≤◌, ◌==◌, ◌||◌, ◌&&◌, Bool, true, false, if◌then◌else◌, List, ◌∷◌, ◌++◌, ◌∙◌, length, map, Option, Some, None, refl, sym, ap, subst, arith}
-use Rattle.std.specs.Prelude.{decimal, nat_lt, nat_le, find, MatchBool}
-use Rattle.std.specs.Option.{IsSome}
-use Rattle.std.specs.Int.{is_power_of_two}
-use Rattle.std.specs.Str.Parse.{digits_value}
-use Rattle.std.proofs.Math.Path.{ap₂}
-use Rattle.std.proofs.lemmas.Bool.{lt-leb, and_parts, eqb-true}
-use Rattle.bist_bits.specs.Width.{IsWidthOf}
-use Rattle.scrambler.specs.Scrambling.{Scrambling, IsFull, IsInvertible, identity, is_identity}
-use Rattle.memory_desc.specs.Descriptions.{Description, IsMemory, assembled}
-use Rattle.memory_desc.specs.LineText.{Content, name, words, bits, latency, polarity, pause, backgrounds}
-use Rattle.bist_text.specs.ReservedWords.{is_among, reserved_words}
-use Rattle.memory_desc.specs.Printed.{is_plain}
-use Rattle.memory_desc.specs.Statements.{Statement}
-use Rattle.memory_desc.specs.Subjects.{about, is_same, said}
-use Rattle.memory_desc.specs.Values.{words_said, bits_said, latency_in, polarity_in, pause_in, latency_said, polarity_said, pause_said, matrix_said, AreBackgrounds}
-use Rattle.memory_desc.specs.Described.{described, AreOfMemory, IsScrambling, is_out_of_range, is_scrambled, is_too_wide}
-use Rattle.memory_desc.specs.declared.content.Subject.{Subject}
+use Rattle.memory_desc.proofs.Common.{AreBackgrounds, AreOfMemory, Bool, Content, Description, IsFull, IsInvertible, IsMemory, IsScrambling, IsSome, IsWidthOf, List, MatchBool, None, Option, Scrambling, Some, Statement, Subject, about, and_parts, ap, ap₂, arith, assembled, backgrounds, bits, bits_said, decimal, described, digits_value, eqb-true, false, find, identity, if◌then◌else◌, is_among, is_identity, is_plain, is_power_of_two, is_same, latency, latency_in, latency_said, length, lt-leb, map, matrix_said, name, nat_le, nat_lt, pause, pause_in, pause_said, polarity, polarity_in, polarity_said, refl, reserved_words, subst, suc, sym, true, words, words_said, ℕ, ◌&&◌, ◌++◌, ◌+◌, ◌-◌, ◌<◌, ◌==◌, ◌^◌, ◌||◌, ◌∙◌, ◌∷◌, ◌≡◌, ◌≤◌}
+use Rattle.memory_desc.specs.Subjects.{said}
+use Rattle.memory_desc.specs.Described.{is_out_of_range, is_scrambled, is_too_wide}
 use Rattle.memory_desc.specs.declared.content.Subject.TheVariants.{Version, Name, Words, Bits, Latency, Polarity, Pause, Row, Backgrounds}
 use Rattle.memory_desc.proofs.BackLines.{numbered}
 use Rattle.memory_desc.proofs.BackDigits.{decimal_value}

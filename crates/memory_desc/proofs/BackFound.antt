@@ -1,17 +1,8 @@
 -- What is found among the statements of a printed memory.
-use Rattle.std.proofs.Common.{◌≡◌, ℕ, zero, suc, ◌+◌, ◌<◌, ◌≤◌, ◌==◌, Bool, true, false, not, cond, List, [], ◌∷◌, ◌++◌, ◌∙◌, Option, Some, None, refl, sym, ap, arith, inl, inr}
-use Rattle.std.specs.Prelude.{decimal, find}
-use Rattle.std.specs.Int.{bit_at}
-use Rattle.std.specs.Str.Parse.{digits_value}
-use Rattle.std.proofs.Math.Path.{ap₂}
-use Rattle.std.proofs.lemmas.Bool.{cases_lt, eq-eqb}
-use Rattle.std.proofs.lemmas.Bool.Decides.{eqb_tells}
-use Rattle.scrambler.specs.Scrambling.{Scrambling, row}
-use Rattle.memory_desc.specs.LineText.{Content, scramble, backgrounds}
-use Rattle.memory_desc.specs.Statements.{Statement}
-use Rattle.memory_desc.specs.Subjects.{subject, is_same, is_about, content_of, said}
-use Rattle.memory_desc.specs.Table.{is_other, is_repeat}
-use Rattle.memory_desc.specs.declared.content.Subject.{Subject}
+use Rattle.memory_desc.proofs.Common.{Bool, Content, List, None, Option, Scrambling, Some, Statement, Subject, [], ap, ap₂, arith, backgrounds, bit_at, cases_lt, cond, content_of, decimal, digits_value, eq-eqb, eqb_tells, false, find, inl, inr, is_about, is_other, is_same, not, refl, scramble, subject, suc, sym, true, zero, ℕ, ◌++◌, ◌+◌, ◌<◌, ◌==◌, ◌∙◌, ◌∷◌, ◌≡◌, ◌≤◌}
+use Rattle.scrambler.specs.Scrambling.{row}
+use Rattle.memory_desc.specs.Subjects.{said}
+use Rattle.memory_desc.specs.Table.{is_repeat}
 use Rattle.memory_desc.specs.declared.content.Subject.TheVariants.{Row, Backgrounds}
 use Rattle.memory_desc.proofs.Repeats.{self_same}
 use Rattle.memory_desc.proofs.BackLines.{numbered}

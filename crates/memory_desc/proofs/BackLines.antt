@@ -1,14 +1,7 @@
 -- A text of lines that each end with a line feed, and what its lines say.
-use Rattle.std.proofs.Common.{◌≡◌, ℕ, ◌+◌, Bool, true, false, not, cond, List, [], ◌∷◌, ◌++◌, ◌∙◌, length, Option, Some, None, refl, sym, ap, subst, inr, append_assoc}
-use Rattle.std.specs.Prelude.{MatchResult}
-use Rattle.std.proofs.lemmas.Bool.{and_parts}
-use Rattle.std.specs.Char.{is_newline}
-use Rattle.std.specs.List.{slice_split, onto_first, list_all}
-use Rattle.bist_text.specs.Lines.{TextLine, lines_of_parts, lines_from}
-use Rattle.memory_desc.specs.LineText.{Content, version, ContentText}
-use Rattle.memory_desc.specs.Statements.{Statement, stands, version_in, stated}
+use Rattle.memory_desc.proofs.Common.{Bool, Content, ContentText, List, MatchResult, None, Option, Say, Some, Statement, TextLine, [], and_parts, ap, append_assoc, cond, false, gives, inr, is_newline, length, lines_from, lines_of_parts, list_all, not, onto_first, refl, slice_split, stands, subst, sym, true, version, version_in, ℕ, ◌++◌, ◌+◌, ◌∙◌, ◌∷◌, ◌≡◌}
+use Rattle.memory_desc.specs.Statements.{stated}
 use Rattle.memory_desc.specs.declared.content.Version.{Version}
-use Rattle.bist_text.specs.KeyedTexts.{Say, gives}
 
 -- a line of text has no line feed
 abbrev pub is_inside : ℕ → Bool

@@ -1,23 +1,10 @@
 -- The values that the statements of a printed memory give.
-use Rattle.std.proofs.Common.{◌≡◌, ℕ, zero, suc, ◌+◌, ◌/◌, ◌^◌, ◌<◌, ◌≤◌, Bool, true, false, List, [], ◌∷◌, ◌++◌, ◌∙◌, take, map, Some, refl, sym, ap, arith}
-use Rattle.std.specs.Prelude.{decimal, nat_le, All}
-use Rattle.std.specs.Int.{bit_at, from_bool}
-use Rattle.std.specs.List.{list_any}
-use Rattle.std.specs.Option.{IsSome}
-use Rattle.std.specs.Str.Parse.{digits_value}
-use Rattle.std.proofs.Math.Path.{ap₂}
-use Rattle.std.proofs.lemmas.Bool.{lt-leb}
-use Rattle.std.proofs.lemmas.List.{take_more, take_all}
-use Rattle.std.proofs.lemmas.Nat.Bits.{bit_at-lt}
+use Rattle.memory_desc.proofs.Common.{All, Bool, Content, Description, IsFull, IsSome, List, Scrambling, Some, Statement, [], about, ap, ap₂, arith, backgrounds, bit_at, bit_at-lt, bits, constant_of, decimal, digits_value, false, from_bool, index_bits, is_row, is_term_too_wide, latency, list_any, lt-leb, map, matrix_said, name, nat_le, number-bits, pause, polarity, refl, rows_said, suc, sym, take, take_all, take_more, terms_in, terms_said, true, version, word_values, words, zero, ℕ, ◌++◌, ◌+◌, ◌/◌, ◌<◌, ◌^◌, ◌∙◌, ◌∷◌, ◌≡◌, ◌≤◌}
 use Rattle.scrambler.specs.Linear.{number}
-use Rattle.scrambler.specs.Scrambling.{Scrambling, IsFull, row}
-use Rattle.scrambler.proofs.LinearLemmas.{number_same, number-bits}
-use Rattle.memory_desc.specs.Descriptions.{Description}
-use Rattle.memory_desc.specs.LineText.{Content, version, name, words, bits, latency, polarity, pause, backgrounds}
-use Rattle.memory_desc.specs.Statements.{Statement}
-use Rattle.memory_desc.specs.Subjects.{said, about}
-use Rattle.memory_desc.specs.Values.{index_bits, constant_of, terms_in, terms_said, rows_said, matrix_said, word_values}
-use Rattle.memory_desc.specs.Table.{is_row, is_scrambled, is_too_wide, is_term_too_wide}
+use Rattle.scrambler.specs.Scrambling.{row}
+use Rattle.scrambler.proofs.LinearLemmas.{number_same}
+use Rattle.memory_desc.specs.Subjects.{said}
+use Rattle.memory_desc.specs.Table.{is_scrambled, is_too_wide}
 use Rattle.memory_desc.specs.declared.content.Subject.TheVariants.{Row}
 use Rattle.bist_text.proofs.Powers.{word_digits}
 use Rattle.memory_desc.proofs.Checks.{said_there}

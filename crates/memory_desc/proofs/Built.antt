@@ -1,22 +1,12 @@
 -- The memory that is made where no check refused.
-use Rattle.std.proofs.Common.{◌≡◌, ◌∙◌, ℕ, ◌-◌, ◌&&◌, Bool, true, false, not, if◌then◌else◌, List, Option, Some, None, Ok, Err, find, refl, sym, ap, subst, inl, inr}
-use Rattle.std.specs.Int.{is_power_of_two}
-use Rattle.bist_bits.specs.Width.{IsWidthOf}
-use Rattle.scrambler.specs.Scrambling.{Scrambling}
-use Rattle.memory_desc.specs.Described.{AreOfMemory, is_repeat, is_out_of_range, is_too_wide, is_scrambled}
-use Rattle.memory_desc.specs.Descriptions.{Description, assembled}
-use Rattle.memory_desc.specs.inner.Standing.{AreFields, GivesBackgrounds, GivesScrambling}
-use Rattle.bist_text.specs.keyed.Texts.{checked}
-use Rattle.memory_desc.specs.Statements.{Statement}
-use Rattle.memory_desc.specs.Subjects.{about, said}
-use Rattle.memory_desc.specs.Table.{missing, repeated, out_of_range, unscramblable, too_wide, unrowed, unsized, unfit, AreRefusedBy}
-use Rattle.memory_desc.specs.Values.{AreBackgrounds, words_said, bits_said, latency_said, polarity_said, pause_said}
+use Rattle.memory_desc.proofs.Common.{AreBackgrounds, AreFields, AreOfMemory, AreRefusedBy, Bool, Description, Err, GivesBackgrounds, GivesScrambling, IsWidthOf, List, MemoryFault, Missing, None, Ok, Option, Repeated, ScrambleNeedsPowerOfTwo, Scrambling, Some, Statement, about, ap, assembled, bits_said, checked, false, find, if◌then◌else◌, inl, inr, is_power_of_two, latency_said, missing, not, out_of_range, pause_said, polarity_said, refl, repeated, subst, sym, too_wide, true, unfit, unrowed, unscramblable, unsized, words_said, ℕ, ◌&&◌, ◌-◌, ◌∙◌, ◌≡◌}
+use Rattle.memory_desc.specs.Described.{is_repeat, is_out_of_range, is_too_wide, is_scrambled}
+use Rattle.memory_desc.specs.Subjects.{said}
 use Rattle.memory_desc.proofs.Checks.{alone, here, next, none_first, none_at, is_there, passed, stopped}
 use Rattle.memory_desc.proofs.Scrambles.{invertible}
 use Rattle.memory_desc.specs.declared.content.Subject.TheVariants.{Name, Words, Bits, Backgrounds}
 use Rattle.memory_desc.specs.declared.fault.Field.TheVariants.{Name as NameField, Words as WordsField, Bits as BitsField}
-use Rattle.memory_desc.specs.declared.fault.MemoryFault.{MemoryFault}
-use Rattle.memory_desc.specs.declared.fault.MemoryFault.TheVariants.{Missing, Repeated, OutOfRange, ScrambleNeedsPowerOfTwo}
+use Rattle.memory_desc.specs.declared.fault.MemoryFault.TheVariants.{OutOfRange}
 
 allowed : (fault : MemoryFault) (rows power : Bool) → (if rows && not power then Some fault else None) ≡ None → rows ≡ true → power ≡ true
 allowed fault true true e t = refl

@@ -1,11 +1,5 @@
 -- The first of some refusals, and what no refusal means.
-use Rattle.std.proofs.Common.{◌≡◌, ℕ, Option, Some, None, refl, ap}
-use Rattle.std.specs.Option.{IsSome}
-use Rattle.memory_desc.specs.LineText.{Content}
-use Rattle.memory_desc.specs.Statements.{Statement}
-use Rattle.memory_desc.specs.Subjects.{content_of}
-use Rattle.memory_desc.specs.Table.{at_line}
-use Rattle.memory_desc.specs.declared.fault.MemoryFault.{MemoryFault}
+use Rattle.memory_desc.proofs.Common.{Content, IsSome, MemoryFault, None, Option, Some, Statement, ap, at_line, content_of, refl, ℕ, ◌≡◌}
 pub use Rattle.bist_text.proofs.keyed.Checks.{alone, here, is_there, next, none_first, passed, some_same, stopped, there}
 
 pub none_at : (fault : ℕ → MemoryFault) (o : Option Statement) → at_line fault o ≡ None → o ≡ None

@@ -1,28 +1,12 @@
 -- The backgrounds that are chosen, and that they serve a memory.
-use Rattle.std.proofs.Common.{◌≡◌, ℕ, zero, suc, ◌^◌, ◌<◌, ◌≤◌, ◌==◌, true, false, List, [], ◌∷◌, length, take, get_or, slice_index, Option, Some, None, Result, Ok, Err, refl, sym, ap, ◌∙◌, subst, arith, inl, inr}
-use Rattle.std.specs.Prelude.{nat_le, All, Contains, IfOk, MatchResult}
-use Rattle.std.specs.List.{list_any}
-use Rattle.std.specs.Str.Parse.{digits_value}
-use Rattle.std.proofs.lemmas.Bool.{or_parts, or_cases, or_left, or_right, leb-false, eqb-true, eq-eqb, lt-ltb, le-ltb}
-use Rattle.std.proofs.lemmas.List.{length-map, take_all}
-use Rattle.backgrounds.specs.Backgrounds.{IsLogSet}
-use Rattle.memory_desc.specs.Descriptions.{IsBackgrounds}
-use Rattle.memory_desc.specs.LineText.{Content, log, backgrounds, kind_of}
-use Rattle.memory_desc.specs.inner.Standing.{StandsAt, AreWords, GivesBackgrounds}
-use Rattle.memory_desc.specs.Statements.{Statement}
-use Rattle.memory_desc.specs.Subjects.{about, said}
-use Rattle.bist_text.specs.KeyedTexts.{first_refusal}
-use Rattle.memory_desc.specs.Table.{too_many, without_solid, unserved, is_too_wide, too_wide}
-use Rattle.memory_desc.specs.Values.{word_values}
+use Rattle.memory_desc.proofs.Common.{All, AreWords, Contains, Content, Err, GivesBackgrounds, IfOk, IsBackgrounds, IsLogSet, List, MatchResult, MemoryFault, NoSolidBackground, None, Ok, Option, Result, Some, StandsAt, Statement, TooManyBackgrounds, WordList, [], about, ap, arith, backgrounds, digits_value, eq-eqb, eqb-true, false, first_refusal, get_or, inl, inr, kind_of, le-ltb, leb-false, length, length-map, list_any, listed, log, lt-ltb, nat_le, no_words, or_cases, or_left, or_parts, or_right, plain_content, plain_words, refl, seen, slice_index, subst, suc, sym, take, take_all, too_many, too_wide, true, unserved, with_words, without_solid, word_values, zero, ℕ, ◌<◌, ◌==◌, ◌^◌, ◌∙◌, ◌∷◌, ◌≡◌, ◌≤◌}
+use Rattle.memory_desc.specs.Subjects.{said}
+use Rattle.memory_desc.specs.Table.{is_too_wide}
 use Rattle.memory_desc.specs.declared.content.Key.TheVariants.{Backgrounds as BackgroundsKey}
 use Rattle.memory_desc.specs.declared.content.Subject.TheVariants.{Backgrounds}
-use Rattle.memory_desc.specs.declared.fault.MemoryFault.{MemoryFault}
-use Rattle.memory_desc.specs.declared.fault.MemoryFault.TheVariants.{TooManyBackgrounds, NoSolidBackground}
 use Rattle.memory_desc.specs.declared.content.Content.{Content as ReadContent}
 use Rattle.memory_desc.specs.declared.content.Content.TheVariants as R
 use Rattle.memory_desc.specs.declared.content.Statement.{Statement as ReadStatement}
-use Rattle.memory_desc.specs.declared.content.WordList.{WordList}
-use Rattle.memory_desc.specs.inner.Seen.{listed, no_words, plain_content, plain_words, seen, with_words}
 use Rattle.memory_desc.proofs.Parts.{log_set_serves}
 use Rattle.memory_desc.proofs.SeenLaws.{words_are}
 use Rattle.memory_desc.proofs.Stated.{stated, says, of_backgrounds, unstated, within}

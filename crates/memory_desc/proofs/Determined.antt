@@ -1,29 +1,13 @@
 -- A list of statements describes one memory, or is refused in one way.
-use Rattle.std.proofs.Common.{◌≡◌, ℕ, zero, suc, ◌+◌, ◌-◌, ◌*◌, ◌%◌, ◌^◌, ◌<◌, ◌≤◌, Bool, true, false, List, [], ◌∷◌, length, slice_index, Option, Some, None, Result, Ok, Err, refl, sym, ◌∙◌, ap, subst, arith, add-one, bit_xor, inl, inr, ◌⊎◌, ◌&&◌, not, if◌then◌else◌}
-use Rattle.std.proofs.Math.Path.{ap₂}
-use Rattle.std.proofs.Math.Nat.{zero-mul, one-mul}
-use Rattle.std.proofs.lemmas.Bool.{cases_lt}
-use Rattle.std.proofs.lemmas.Nat.Bits.{same_from_bits_below, bit_at-lt, bit_at_xor}
-use Rattle.std.specs.Prelude.{Contains, find}
-use Rattle.std.specs.Int.{bit_at, is_power_of_two}
-use Rattle.std.specs.Int.Bits.{xor_self, xor_assoc, xor_comm, xor_zero_l, xor_zero_r}
-use Rattle.bist_bits.specs.Width.{IsWidthOf}
-use Rattle.backgrounds.specs.Backgrounds.{IsLogarithm, IsStripe, IsLogSet}
+use Rattle.memory_desc.proofs.Common.{AreBackgrounds, AreOfMemory, AreRefusedBy, Bool, Contains, Content, DependsOn, Describes, Description, Err, IsLast, IsLeastDependence, IsLogSet, IsLogarithm, IsScrambling, IsStripe, IsWidthOf, List, MemoryFault, Missing, None, Ok, Option, Repeated, Result, ScrambleNeedsPowerOfTwo, Scrambling, Singular, Some, Statement, [], about, add-one, ap, ap₂, arith, backgrounds, bit_at, bit_at-lt, bit_at-number, bit_at_xor, bit_xor, bits_said, cases_lt, described, false, find, if◌then◌else◌, inl, inr, is_power_of_two, length, matrix_said, missing, not, number-below, one-mul, out_of_range, refl, repeated, same_from_bits_below, slice_index, subst, suc, sym, too_wide, true, two_digits, unfit, unrowed, unscramblable, unserved, unsized, word_values, words_said, xor_assoc, xor_comm, xor_self, xor_zero_l, xor_zero_r, zero, zero-mul, ℕ, ◌%◌, ◌&&◌, ◌*◌, ◌+◌, ◌-◌, ◌<◌, ◌^◌, ◌∙◌, ◌∷◌, ◌≡◌, ◌≤◌, ◌⊎◌}
 use Rattle.scrambler.specs.Linear.{number, combination}
-use Rattle.scrambler.specs.Scrambling.{Scrambling, IsLeastDependence, DependsOn, row}
-use Rattle.scrambler.proofs.LinearLemmas.{two_digits, number-below, bit_at-number}
+use Rattle.scrambler.specs.Scrambling.{row}
 use Rattle.scrambler.proofs.ScramblingLemmas.{singular}
-use Rattle.memory_desc.specs.Descriptions.{Description}
-use Rattle.memory_desc.specs.LineText.{Content, backgrounds}
-use Rattle.memory_desc.specs.Statements.{Statement}
-use Rattle.memory_desc.specs.Described.{AreOfMemory, IsScrambling, is_repeat, is_out_of_range, is_too_wide, is_scrambled, described}
-use Rattle.memory_desc.specs.Subjects.{about, said}
-use Rattle.memory_desc.specs.Values.{words_said, bits_said, matrix_said, word_values, AreBackgrounds}
-use Rattle.memory_desc.specs.Table.{repeated, missing, out_of_range, unscramblable, too_wide, unrowed, unserved, unsized, unfit, IsLast, AreRefusedBy, Describes}
+use Rattle.memory_desc.specs.Described.{is_repeat, is_out_of_range, is_too_wide, is_scrambled}
+use Rattle.memory_desc.specs.Subjects.{said}
 use Rattle.memory_desc.specs.declared.content.Subject.TheVariants.{Name, Words, Bits, Backgrounds}
 use Rattle.memory_desc.specs.declared.fault.Field.TheVariants.{Name as NameField, Words as WordsField, Bits as BitsField}
-use Rattle.memory_desc.specs.declared.fault.MemoryFault.{MemoryFault}
-use Rattle.memory_desc.specs.declared.fault.MemoryFault.TheVariants.{Missing, Repeated, OutOfRange, Singular, ScrambleNeedsPowerOfTwo}
+use Rattle.memory_desc.specs.declared.fault.MemoryFault.TheVariants.{OutOfRange}
 use Rattle.memory_desc.proofs.Checks.{next, at_none, some_same, there}
 use Rattle.memory_desc.proofs.Chosen.{served}
 use Rattle.memory_desc.proofs.Scrambles.{invertible, no_row_missed, scrambling_one}

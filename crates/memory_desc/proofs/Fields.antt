@@ -1,25 +1,11 @@
 -- The name and the numbers that the statements give, each in its range.
-use Rattle.std.proofs.Common.{◌⊎◌, inl, inr, arith, ◌≡◌, ℕ, ◌^◌, ◌<◌, ◌≤◌, ◌||◌, true, false, List, [], ◌∷◌, ◌++◌, Bool, cond, refl, length, Option, Some, None, sym, ◌∙◌, ap, subst}
-use Rattle.std.specs.Prelude.{nat_lt, find}
-use Rattle.std.specs.Str.Parse.{digits_value}
-use Rattle.std.proofs.lemmas.Bool.{or_parts, ltb-false, leb-false}
-use Rattle.bist_text.specs.Lines.{TextLine}
-use Rattle.memory_desc.specs.LineText.{Content, name, polarity, is_formed}
-use Rattle.memory_desc.specs.Names.{IsName}
-use Rattle.bist_text.specs.ReservedWords.{is_among, reserved_words}
-use Rattle.memory_desc.specs.inner.Standing.{is_ranged, least, most, value_in, number_in_seen, polarity_in_seen, name_in_seen, StandsAt}
-use Rattle.memory_desc.specs.Statements.{Statement, stated as stated_line}
-use Rattle.memory_desc.specs.Subjects.{about, is_about, content_of, said}
-use Rattle.bist_text.specs.KeyedTexts.{unless_there}
-use Rattle.memory_desc.specs.Table.{missing, out_of_range, too_wide}
-use Rattle.memory_desc.specs.Values.{name_in, polarity_in, name_said, polarity_said, latency_in, pause_in}
+use Rattle.memory_desc.proofs.Common.{Bool, Content, IsName, List, Missing, None, Option, Some, StandsAt, Statement, Subject, TextLine, [], about, ap, arith, cond, content_of, digits_value, false, find, inl, inr, is_about, is_among, is_formed, is_ranged, latency_in, least, leb-false, length, ltb-false, missing, most, name, name_in, name_in_seen, name_said, nat_lt, number_in_seen, or_parts, out_of_range, pause_in, plain_content, polarity, polarity_in, polarity_in_seen, polarity_said, refl, reserved_words, subst, sym, too_wide, true, unless_there, value_in, ℕ, ◌++◌, ◌<◌, ◌^◌, ◌||◌, ◌∙◌, ◌∷◌, ◌≡◌, ◌≤◌, ◌⊎◌}
+use Rattle.memory_desc.specs.Statements.{stated as stated_line}
+use Rattle.memory_desc.specs.Subjects.{said}
 use Rattle.memory_desc.specs.inner.Heard.{said as said_by, statements}
-use Rattle.memory_desc.specs.inner.Seen.{plain_content}
 use Rattle.memory_desc.specs.declared.content.Statement.{Statement as ReadStatement}
-use Rattle.memory_desc.specs.declared.content.Subject.{Subject}
 use Rattle.memory_desc.specs.declared.content.Subject.TheVariants.{Name, Polarity, Latency, Pause}
 use Rattle.memory_desc.specs.declared.fault.Field.{Field}
-use Rattle.memory_desc.specs.declared.fault.MemoryFault.TheVariants.{Missing}
 use Rattle.memory_desc.proofs.OneText.{formed_said}
 use Rattle.memory_desc.proofs.Stated.{stated, says, unstated, name_stated, polarity_stated, in_range, within, has_digits}
 

@@ -1,3 +1,4 @@
+pub mod Common
 pub mod TermLaws
 pub mod TermReads
 pub mod WordLaws

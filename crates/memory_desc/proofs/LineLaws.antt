@@ -1,34 +1,18 @@
 -- Each kind of line is read as the grammar says.
-use Rattle.std.proofs.Common.{◌≡◌, ◌⊎◌, ℕ, suc, ◌==◌, Bool, true, List, [], ◌∷◌, length, codes, Option, Some, None, refl, ◌↔◌, inl, inr, sym, ap, subst, ◌∙◌, arith}
-use Rattle.std.proofs.lemmas.Bool.{eqb-true, and_parts, and_from}
-use Rattle.std.specs.List.{list_all}
-use Rattle.std.specs.Prelude.{slice_get, nat_lt}
-use Rattle.bist_text.specs.Grammar.{is_blank, byte, word}
-use Rattle.bist_text.specs.LineGrammar.{space, tail}
+use Rattle.memory_desc.proofs.Common.{Bool, Byte, Class, Content, ContentText, Either, Ends, IsPlain, IsTable, LineOf, List, Memory, None, Number, One, Option, Read, Scramble, Shuns, Some, Space, Term, Two, [], and_from, and_parts, ap, apart, argument, argument_of, arith, backgrounds, begins_small, bits, blank_run, blank_word, byte, byte_of, byte_only, byte_shuns, byte_told, codes, digit_begun, digit_later, digits_plain, either_told, ends_told, ends_with, eqb-true, equation, fewer, fits_of, heard, inl, inr, is_blank, is_digit, is_formed, is_hex, is_l, is_letter, is_name_byte, is_number, is_term, key_text, keys_in, keys_of, kind_of, latency, length, line_told, list_all, log, many_map, many_pull, may_stand, more_terms, more_words, name, name_is, nat_lt, no_mark, one_word, onward, pause, polarity, refl, run_is, same, scramble, slice_get, space, space_told, spaced, stands, stuck, subst, suc, sym, tail, term_of, term_text, told_exact, told_iff, took, true, version, when_false, when_holds, when_true, word, word_map, word_of, word_pull, word_told, words, words_of, ℕ, ◌==◌, ◌↔◌, ◌∙◌, ◌∷◌, ◌≡◌, ◌⊎◌}
 use Rattle.bist_text.specs.inner.Keywords.{are_apart}
-use Rattle.bist_text.specs.keyed.Reading.{Read, took, stuck, onward}
-use Rattle.bist_text.specs.keyed.Parts.{spaced, byte_of, Class, fits_of, is_word, word_of, ends_with}
-use Rattle.bist_text.specs.declared.keyed_lines.Class.TheVariants.{Number, Word as HexWord, Name as NameWord}
+use Rattle.bist_text.specs.keyed.Parts.{is_word}
+use Rattle.bist_text.specs.declared.keyed_lines.Class.TheVariants.{Word as HexWord, Name as NameWord}
 use Rattle.bist_text.proofs.KeywordLaws.{IsOf, is_at, is_passed}
-use Rattle.bist_text.proofs.LinePieces.{when_true, when_holds, when_false, apart}
-use Rattle.bist_text.proofs.LineStops.{IsPlain, no_mark, blank_run, blank_word}
-use Rattle.bist_text.proofs.Pieces.{same}
-use Rattle.bist_text.proofs.RunPieces.{many_map, many_pull, word_map, word_pull}
-use Rattle.bist_text.proofs.keyed.Told.{told_exact, told_iff}
-use Rattle.bist_text.proofs.keyed.PartLaws.{Hears, fewer, Shuns, Space, space_told, Byte, byte_told, Ends, ends_told, Words, word_told, Either, either_told}
-use Rattle.bist_text.proofs.keyed.Classes.{run_is, name_is}
-use Rattle.bist_text.proofs.keyed.LineLaws.{line_told, SaysOf as Says, Arg as Behind, OneWord as HasOneWord, one_word, digit_begun, digit_later, digits_plain, begins_small, IsTable, Line as AnyLine, byte_shuns, byte_only}
-use Rattle.memory_desc.specs.Statements.{may_stand, stands}
-use Rattle.bist_text.specs.KeyedTexts.{LineOf}
+use Rattle.bist_text.proofs.keyed.PartLaws.{Hears, Words}
+use Rattle.bist_text.proofs.keyed.LineLaws.{SaysOf as Says, Arg as Behind, OneWord as HasOneWord, Line as AnyLine}
 use Rattle.bist_text.specs.inner.Machine.{IsExact}
 use Rattle.bist_text.specs.keyed.Lines.{line_of}
-use Rattle.memory_desc.specs.LineText.{ContentText, Term, Content, version, name, words, bits, latency, polarity, pause, scramble, log, backgrounds, is_hex, is_number, is_term, is_word as is_hex_word, is_formed, term_text, more_terms, equation, more_words, argument, kind_of, key_text}
-use Rattle.memory_desc.specs.Names.{is_digit, is_letter, is_name_byte}
+use Rattle.memory_desc.specs.LineText.{is_word as is_hex_word}
 use Rattle.memory_desc.specs.declared.content.Key.{Key}
-use Rattle.memory_desc.specs.declared.content.Key.TheVariants.{Memory, Name, Words as WordsKey, Bits, Latency, Polarity, Pause, Scramble, Backgrounds}
+use Rattle.memory_desc.specs.declared.content.Key.TheVariants.{Name, Words as WordsKey, Bits, Latency, Polarity, Pause, Backgrounds}
 use Rattle.memory_desc.specs.declared.content.Version.{Version}
-use Rattle.memory_desc.specs.declared.content.Version.TheVariants.{One, Two}
-use Rattle.memory_desc.specs.inner.Heard.{heard, term_of, terms_of, words_of, is_l, argument_of, keys_in, keys_of}
+use Rattle.memory_desc.specs.inner.Heard.{terms_of}
 use Rattle.memory_desc.proofs.TermLaws.{OneTerm, term_told, More, terms_told, more_no_digits, SaysOne, Whole, one_whole, whole_one, term_shuns}
 use Rattle.memory_desc.proofs.WordLaws.{hex_plain, hex_begun, MoreWords, all_words_told, words_no_hex, Hex, hex_whole, whole_hex, begins_hex, no_hex}
 

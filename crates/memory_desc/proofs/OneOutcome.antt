@@ -1,16 +1,9 @@
 -- A text is read as one memory, or refused in one way.
-use Rattle.std.proofs.Common.{◌≡◌, ◌⊎◌, ◌↔◌, ◌∙◌, ℕ, List, Some, None, Result, Ok, Err, refl, sym, ap, subst, inl, inr}
-use Rattle.bist_text.specs.Lines.{text_lines}
-use Rattle.bist_text.specs.keyed.Texts.{walk}
+use Rattle.memory_desc.proofs.Common.{AreStatements, ContentText, Describes, Description, Err, List, MemoryFault, None, Ok, Reads, Result, Some, Statement, ap, heard, inl, inr, of_lines, refl, stands, subst, sym, text_lines, version_at, version_in, walk, ℕ, ◌↔◌, ◌∙◌, ◌≡◌, ◌⊎◌}
 use Rattle.bist_text.specs.declared.keyed_lines.TextFault.{TextFault}
 use Rattle.bist_text.proofs.keyed.Checks.{some_same}
 use Rattle.bist_text.proofs.keyed.Texts as Texts
-use Rattle.memory_desc.specs.Descriptions.{Description}
-use Rattle.memory_desc.specs.LineText.{ContentText}
-use Rattle.memory_desc.specs.Statements.{Statement, stands, version_in}
-use Rattle.memory_desc.specs.Table.{AreStatements, Describes, Reads, of_lines}
-use Rattle.memory_desc.specs.inner.Heard.{heard, statements, version_at}
-use Rattle.memory_desc.specs.declared.fault.MemoryFault.{MemoryFault}
+use Rattle.memory_desc.specs.inner.Heard.{statements}
 use Rattle.memory_desc.proofs.Determined.{describes_one}
 use Rattle.memory_desc.proofs.LineLaws.{line_exact}
 use Rattle.memory_desc.proofs.OneText.{are_heard, heard_are}

@@ -1,14 +1,9 @@
 -- The statements of a text are those that the reader hears in it.
-use Rattle.std.proofs.Common.{◌≡◌, ◌∙◌, ℕ, true, List, Option, Some, None, refl, sym}
-use Rattle.bist_text.specs.Lines.{text_lines}
-use Rattle.bist_text.specs.keyed.Texts.{walk}
+use Rattle.memory_desc.proofs.Common.{AreStatements, Content, ContentText, List, None, Option, Some, Statement, Two, heard, is_formed, refl, stands, sym, text_lines, true, version_at, version_in, walk, ℕ, ◌∙◌, ◌≡◌}
 use Rattle.bist_text.proofs.keyed.Texts as Texts
-use Rattle.memory_desc.specs.LineText.{Content, is_formed, ContentText}
-use Rattle.memory_desc.specs.Statements.{Statement, stands, stated, version_in}
-use Rattle.memory_desc.specs.Table.{AreStatements}
-use Rattle.memory_desc.specs.inner.Heard.{heard, said, statements, version_at}
+use Rattle.memory_desc.specs.Statements.{stated}
+use Rattle.memory_desc.specs.inner.Heard.{said, statements}
 use Rattle.memory_desc.specs.declared.content.Version.{Version}
-use Rattle.memory_desc.specs.declared.content.Version.TheVariants.{Two}
 use Rattle.memory_desc.proofs.LineLaws.{line_exact}
 
 wide : (v : Option Version) (c : Content) → stands v c ≡ true → stands (Some Two) c ≡ true

@@ -1,17 +1,7 @@
 -- The printed form of a memory is read back as this memory: its lines are statements that describe exactly it.
-use Rattle.std.proofs.Common.{◌≡◌, ℕ, zero, suc, ◌+◌, ◌-◌, ◌<◌, ◌≤◌, Bool, true, false, if◌then◌else◌, List, [], ◌∷◌, ◌++◌, ◌∙◌, length, map, Some, Ok, refl, sym, ap, subst, arith, codes}
-use Rattle.std.specs.Prelude.{decimal}
-use Rattle.std.specs.Int.{bit_at}
-use Rattle.std.specs.List.{list_all}
-use Rattle.scrambler.specs.Scrambling.{Scrambling, IsFull, IsInvertible, row, is_identity}
-use Rattle.memory_desc.specs.Descriptions.{Description, IsMemory}
-use Rattle.memory_desc.specs.LineText.{Term, Content, version, name, words, bits, scramble, backgrounds, ContentText, is_term, term_text}
-use Rattle.memory_desc.specs.Printed.{joined, background_texts, is_plain, version_text, printed}
-use Rattle.memory_desc.specs.Statements.{stands, version_in}
+use Rattle.memory_desc.proofs.Common.{AreStatements, Bool, Content, ContentText, Description, IsFull, IsInvertible, IsMemory, List, Ok, One, Reads, Scrambling, Some, Term, Two, [], ap, arith, background_texts, backgrounds, bit_at, bits, codes, decimal, false, if◌then◌else◌, index_bits, is_identity, is_plain, is_term, joined, length, list_all, map, name, printed, refl, scramble, stands, subst, suc, sym, term_text, true, version, version_in, version_text, words, zero, ℕ, ◌++◌, ◌+◌, ◌-◌, ◌<◌, ◌∙◌, ◌∷◌, ◌≡◌, ◌≤◌}
+use Rattle.scrambler.specs.Scrambling.{row}
 use Rattle.memory_desc.specs.declared.content.Version.{Version}
-use Rattle.memory_desc.specs.declared.content.Version.TheVariants.{One, Two}
-use Rattle.memory_desc.specs.Values.{index_bits}
-use Rattle.memory_desc.specs.Table.{Reads, AreStatements}
 use Rattle.memory_desc.proofs.Parts.{width_small}
 use Rattle.memory_desc.proofs.BackLines.{is_inside, Written, written_more, lines_open}
 use Rattle.memory_desc.proofs.BackDescribed.{describes_it}

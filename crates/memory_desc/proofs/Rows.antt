@@ -1,31 +1,12 @@
 -- The rows of the scrambling, one after another.
-use Rattle.std.proofs.Common.{◌≡◌, ℕ, zero, suc, ◌+◌, ◌-◌, ◌*◌, ◌%◌, ◌^◌, ◌<◌, ◌≤◌, Bool, true, false, List, [], ◌∷◌, ◌++◌, length, take, slice_set, replicate, Some, None, refl, sym, ◌∙◌, ap, subst, arith, bit_and, bit_or, inl, inr, add-one, lit<}
-use Rattle.std.proofs.Math.Pow.{pow-lt, pow_pos}
-use Rattle.std.proofs.Math.Nat.{mod-eq_of_lt}
-use Rattle.std.proofs.Math.Path.{ap₂}
-use Rattle.std.proofs.Math.Seq.{take-suc-set}
-use Rattle.std.proofs.lemmas.Bool.{or_parts, leb-false, cases_lt}
-use Rattle.std.proofs.lemmas.Nat.{xor_lt, and_mask}
-use Rattle.std.specs.Int.{from_bool}
-use Rattle.std.specs.List.{list_any}
-use Rattle.std.specs.Prelude.{nat_le}
-use Rattle.std.specs.Str.Parse.{digits_value}
+use Rattle.memory_desc.proofs.Common.{Bool, IsRow, List, MemoryFault, Missing, None, Some, StandsAt, Statement, Term, [], about, add-one, and_mask, ap, ap₂, arith, bit_and, bit_or, cases_lt, constant, constant_of, digits_value, false, from_bool, highest_of, index_bit, index_bits, inl, inr, is_term_too_wide, leb-false, length, list_any, lit<, missing, missing_row, mod-eq_of_lt, nat_le, or_else, or_parts, plain_content, pow-lt, pow_pos, refl, replicate, row_in_seen, rows_said, scramble, slice_set, subst, suc, sym, take, take-suc-set, terms_in, terms_said, too_wide, true, unless_there, xor_lt, zero, ℕ, ◌%◌, ◌*◌, ◌++◌, ◌+◌, ◌-◌, ◌<◌, ◌^◌, ◌∙◌, ◌∷◌, ◌≡◌, ◌≤◌}
 use Rattle.scrambler.specs.Linear.{number}
 use Rattle.scrambler.proofs.Steps.{product_begun, product_more}
-use Rattle.memory_desc.specs.LineText.{Term, index_bit, constant, scramble}
-use Rattle.memory_desc.specs.Statements.{Statement}
-use Rattle.memory_desc.specs.Subjects.{about, said}
-use Rattle.memory_desc.specs.inner.Standing.{row_in_seen, IsRow, StandsAt, highest_of}
-use Rattle.bist_text.specs.KeyedTexts.{or_else, unless_there}
-use Rattle.memory_desc.specs.Table.{is_term_too_wide, too_wide, missing, missing_row}
-use Rattle.memory_desc.specs.Values.{index_bits, constant_of, terms_said, terms_in, rows_said}
-use Rattle.memory_desc.specs.inner.Seen.{plain_content}
+use Rattle.memory_desc.specs.Subjects.{said}
 use Rattle.memory_desc.specs.declared.content.Row.{Row}
 use Rattle.memory_desc.specs.declared.content.Statement.{Statement as ReadStatement}
 use Rattle.memory_desc.specs.declared.content.Subject.TheVariants.{Row as BitRow}
 use Rattle.memory_desc.specs.declared.fault.Field.TheVariants.{Row as RowField}
-use Rattle.memory_desc.specs.declared.fault.MemoryFault.{MemoryFault}
-use Rattle.memory_desc.specs.declared.fault.MemoryFault.TheVariants.{Missing}
 use Rattle.memory_desc.proofs.Checks.{there, said_there}
 use Rattle.memory_desc.proofs.Parts.{RowsFit, rows_begun, rows_more}
 use Rattle.memory_desc.proofs.SeenLaws.{row_is}

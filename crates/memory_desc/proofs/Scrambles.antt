@@ -1,20 +1,9 @@
 -- The scrambling of the rows, each of which is there.
-use Rattle.std.proofs.Common.{◌≡◌, ℕ, zero, suc, ◌<◌, Bool, true, false, List, Some, None, Ok, Err, refl, sym, ap, subst, ◌∙◌, arith, inl, inr}
-use Rattle.std.proofs.lemmas.Bool.{cases_lt}
-use Rattle.std.specs.Option.{IsSome}
-use Rattle.scrambler.specs.Scrambling.{Scrambling, IsInvertible, IsLeastDependence, identity}
-use Rattle.memory_desc.specs.Described.{IsScrambling}
-use Rattle.memory_desc.specs.inner.Standing.{GivesScrambling}
-use Rattle.memory_desc.specs.Statements.{Statement}
-use Rattle.memory_desc.specs.Subjects.{about}
-use Rattle.bist_text.specs.KeyedTexts.{or_else, unless_there}
-use Rattle.memory_desc.specs.Table.{is_scrambled, missing_row, unrowed}
-use Rattle.memory_desc.specs.Values.{matrix_said}
+use Rattle.memory_desc.proofs.Common.{Bool, Err, GivesScrambling, IsInvertible, IsLeastDependence, IsScrambling, IsSome, List, MemoryFault, Missing, None, Ok, Scrambling, Singular, Some, Statement, about, ap, arith, cases_lt, false, identity, inl, inr, matrix_said, missing_row, or_else, refl, subst, suc, sym, true, unless_there, unrowed, zero, ℕ, ◌<◌, ◌∙◌, ◌≡◌}
+use Rattle.memory_desc.specs.Table.{is_scrambled}
 use Rattle.memory_desc.proofs.Checks.{none_first, is_there, there}
 use Rattle.memory_desc.specs.declared.content.Subject.TheVariants.{Row}
 use Rattle.memory_desc.specs.declared.fault.Field.TheVariants.{Row as RowField}
-use Rattle.memory_desc.specs.declared.fault.MemoryFault.{MemoryFault}
-use Rattle.memory_desc.specs.declared.fault.MemoryFault.TheVariants.{Missing, Singular}
 
 rows_there : (ss : List Statement) (width : ℕ) → missing_row ss width ≡ None → (i : ℕ) → i < width → IsSome (about (Row i) ss)
 rows_there ss zero e i low = absurd (omega (arith, low))

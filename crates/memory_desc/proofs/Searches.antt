@@ -1,22 +1,13 @@
 -- A search in what the code has of the lines finds what one in the statements finds.
-use Rattle.std.proofs.Common.{◌≡◌, ℕ, Bool, true, false, cond, is_some, ◌||◌, List, [], ◌∷◌, ◌++◌, ◌∙◌, map, Option, Some, None, Err, Ok, refl, ap, subst}
-use Rattle.std.specs.List.{find, list_any}
-use Rattle.std.specs.Prelude.{option_map}
-use Rattle.bist_text.specs.Lines.{TextLine}
-use Rattle.memory_desc.specs.LineText.{Content, version, scramble, backgrounds}
-use Rattle.memory_desc.specs.Statements.{Statement, stated}
-use Rattle.memory_desc.specs.Subjects.{subject, is_same}
-use Rattle.memory_desc.specs.Table.{at_line, is_row, is_out_of_range, is_too_wide}
+use Rattle.memory_desc.proofs.Common.{About, Bool, Content, Err, IsPosed, List, None, Ok, Option, SeenStatement, Some, StandsAt, Statement, TextLine, TooWide, [], ap, at_line, backgrounds, checked, cond, false, find, first_sought, is_row, is_same, is_some, is_sought, list_any, map, option_map, plain_statement, refl, scramble, seen, seen_stated, seen_statements, subject, subject_of, subst, tests, true, version, ℕ, ◌++◌, ◌||◌, ◌∙◌, ◌∷◌, ◌≡◌}
+use Rattle.memory_desc.specs.Statements.{stated}
+use Rattle.memory_desc.specs.Table.{is_out_of_range, is_too_wide}
 use Rattle.memory_desc.specs.inner.Heard.{said, statements}
-use Rattle.memory_desc.specs.inner.Seeking.{is_sought, first_sought, tests, IsPosed}
-use Rattle.memory_desc.specs.inner.Seen.{SeenStatement, seen, subject_of, plain_statement, seen_stated, seen_statements}
-use Rattle.memory_desc.specs.inner.Standing.{StandsAt}
-use Rattle.bist_text.specs.keyed.Texts.{checked}
 use Rattle.memory_desc.specs.declared.content.Statement.{Statement as ReadStatement}
 use Rattle.memory_desc.specs.declared.content.Subject.TheVariants as S
 use Rattle.memory_desc.specs.declared.fault.MemoryFault.TheVariants.{OutOfRange as OutOfRangeAt}
 use Rattle.memory_desc.specs.declared.search.Sought.{Sought}
-use Rattle.memory_desc.specs.declared.search.Sought.TheVariants.{About, OutOfRange, Row, TooWide}
+use Rattle.memory_desc.specs.declared.search.Sought.TheVariants.{OutOfRange, Row}
 use Rattle.memory_desc.proofs.LineTests.{row_too_wide, words_too_wide}
 use Rattle.memory_desc.proofs.SeenLaws.{row_is}
 

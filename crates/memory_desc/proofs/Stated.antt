@@ -1,17 +1,10 @@
 -- What the statement about something says, where its line is known.
-use Rattle.std.specs.Str.Parse.{digits_value}
-use Rattle.std.proofs.Common.{◌≡◌, ℕ, ◌||◌, Bool, true, false, List, [], ◌∷◌, Option, Some, None, refl, sym, ◌∙◌, ap, subst, cond}
-use Rattle.std.specs.Prelude.{find, nat_lt}
-use Rattle.memory_desc.specs.LineText.{Content, Term, name, words, bits, latency, polarity, pause, scramble, log, backgrounds, kind_of}
-use Rattle.memory_desc.specs.Statements.{Statement}
-use Rattle.memory_desc.specs.Subjects.{subject, is_same, is_about, about, said, content_of}
-use Rattle.memory_desc.specs.inner.Standing.{StandsAt, number_in_seen, is_ranged, least, most, value_in}
+use Rattle.memory_desc.proofs.Common.{Bool, Content, List, None, Option, Seen, Some, StandsAt, Statement, Subject, Term, [], about, ap, backgrounds, bits, cond, content_of, digits_value, false, find, is_about, is_ranged, is_same, kind_of, latency, least, log, most, name, nat_lt, number_in_seen, out_of_range, pause, plain_content, polarity, refl, scramble, seen, subject, subst, sym, too_wide, true, value_in, words, ℕ, ◌||◌, ◌∙◌, ◌∷◌, ◌≡◌}
+use Rattle.memory_desc.specs.Subjects.{said}
 use Rattle.memory_desc.proofs.Checks.{none_at}
-use Rattle.memory_desc.specs.Table.{is_too_wide, too_wide, is_out_of_range, out_of_range}
+use Rattle.memory_desc.specs.Table.{is_too_wide, is_out_of_range}
 use Rattle.memory_desc.specs.declared.content.Key.TheVariants.{Backgrounds as BackgroundsKey}
 use Rattle.memory_desc.specs.declared.content.Statement.{Statement as ReadStatement}
-use Rattle.memory_desc.specs.declared.content.Subject.{Subject}
-use Rattle.memory_desc.specs.inner.Seen.{Seen, plain_content, seen}
 use Rattle.memory_desc.specs.declared.content.Subject.TheVariants.{Name, Words, Bits, Latency, Polarity, Pause, Row, Backgrounds}
 use Rattle.memory_desc.specs.declared.fault.MemoryFault.TheVariants.{OutOfRange}
 

@@ -1,7 +1,4 @@
-use Rattle.std.proofs.Common.{◌≡◌, None}
-use Rattle.bist_text.specs.Lines.{lines_left, text_lines}
-use Rattle.bist_text.specs.keyed.Texts.{walk}
-use Rattle.chip_desc.specs.inner.Heard.{version_at}
+use Rattle.chip_desc.proofs.Common.{None, lines_left, text_lines, version_at, walk, ◌≡◌}
 use Rattle.chip_desc.proofs.lines.check_lines.Given as goal
 
 abbrev pub invariant-loop-line : goal.invariant-loop-line

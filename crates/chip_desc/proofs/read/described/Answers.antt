@@ -1,12 +1,6 @@
-use Rattle.std.proofs.Common.{◌∙◌, Err, sym, ap, subst}
+use Rattle.chip_desc.proofs.Common.{Err, IsName, ap, heavier_than, out_of_range, passed, plain_statement, statements, subst, sym, text_lines, ◌∙◌}
 use Rattle.std.proofs.lemmas.Result.{err_from_is_err_and}
-use Rattle.bist_text.specs.Lines.{text_lines}
-use Rattle.memory_desc.specs.Names.{IsName}
-use Rattle.chip_desc.specs.ChipTable.{out_of_range}
-use Rattle.chip_desc.specs.inner.Heard.{statements, plain_statement}
-use Rattle.chip_desc.specs.inner.Seeking.{heavier_than}
 use Rattle.chip_desc.proofs.Described.{named, is_chip, comes_to, is_refused, is_described, parts_same}
-use Rattle.bist_text.proofs.keyed.Checks.{passed}
 use Rattle.chip_desc.proofs.read.described.Goals as goal
 
 pub returns-in_err-check_weights : goal.returns-in_err-check_weights

@@ -1,8 +1,4 @@
-use Rattle.std.proofs.Common.{◌≡◌, ◌∙◌, Err, None, ap, sym}
-use Rattle.bist_text.specs.Lines.{text_lines}
-use Rattle.bist_text.specs.keyed.Texts.{walk}
-use Rattle.bist_text.proofs.keyed.Checks.{passed, stopped}
-use Rattle.chip_desc.specs.inner.Heard.{by_lines, reading, statements, version_at}
+use Rattle.chip_desc.proofs.Common.{Err, None, ap, by_lines, passed, reading, statements, stopped, sym, text_lines, version_at, walk, ◌∙◌, ◌≡◌}
 use Rattle.chip_desc.proofs.OneText.{reads_ok, reads_refused}
 use Rattle.chip_desc.proofs.read.read_chip.Goals as goal
 use Rattle.chip_desc.proofs.read.read_chip.Goals.{After-described, After-of_lines}

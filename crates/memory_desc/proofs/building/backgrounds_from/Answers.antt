@@ -1,4 +1,4 @@
-use Rattle.bist_text.specs.Lines.{text_lines}
+use Rattle.memory_desc.proofs.Common.{text_lines}
 use Rattle.memory_desc.specs.inner.Heard.{statements}
 use Rattle.memory_desc.proofs.Chosen.{answer_serves, line_answers, none_answers}
 use Rattle.memory_desc.proofs.Parts.{log_set_serves}

@@ -1,5 +1,4 @@
-use Rattle.std.proofs.Common.{◌==◌, ◌∙◌, sym, ap}
-use Rattle.std.specs.List.{list_any}
+use Rattle.memory_desc.proofs.Common.{ap, list_any, sym, ◌==◌, ◌∙◌}
 use Rattle.memory_desc.proofs.Chosen.{without_solid_listed, keeps_listed, too_many_listed}
 use Rattle.memory_desc.proofs.building.listed.Goals as goal
 

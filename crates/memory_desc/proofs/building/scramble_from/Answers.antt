@@ -1,7 +1,4 @@
-use Rattle.std.proofs.Common.{◌∙◌, sym}
-use Rattle.std.proofs.lemmas.Result.{err_from_is_err_and}
-use Rattle.bist_text.specs.Lines.{text_lines}
-use Rattle.scrambler.specs.Scrambling.{matrix_of}
+use Rattle.memory_desc.proofs.Common.{err_from_is_err_and, matrix_of, sym, text_lines, ◌∙◌}
 use Rattle.memory_desc.specs.inner.Heard.{statements}
 use Rattle.memory_desc.proofs.Scrambles.{scrambled, unscrambled, row_missed, rows_depend}
 use Rattle.memory_desc.proofs.building.scramble_from.Goals as goal

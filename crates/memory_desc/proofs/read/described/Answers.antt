@@ -1,7 +1,5 @@
-use Rattle.std.proofs.Common.{sym, subst}
-use Rattle.bist_text.specs.Lines.{text_lines}
+use Rattle.memory_desc.proofs.Common.{AreFields, subst, sym, text_lines}
 use Rattle.memory_desc.specs.inner.Heard.{statements}
-use Rattle.memory_desc.specs.inner.Standing.{AreFields}
 use Rattle.memory_desc.proofs.read.described.Goals as goal
 
 pub memory_of-requires-clause-fields : goal.memory_of-requires-clause-fields

@@ -1,8 +1,4 @@
-use Rattle.std.proofs.Common.{◌-◌, ◌∙◌, ℕ, ap, sym, arith, subst}
-use Rattle.std.proofs.lemmas.Result.{err_from_is_err_and}
-use Rattle.bist_bits.specs.Width.{IsWidthOf}
-use Rattle.scrambler.specs.Scrambling.{identity}
-use Rattle.bist_text.specs.Lines.{text_lines}
+use Rattle.memory_desc.proofs.Common.{IsWidthOf, ap, arith, err_from_is_err_and, identity, subst, sym, text_lines, ℕ, ◌-◌, ◌∙◌}
 use Rattle.memory_desc.specs.inner.Heard.{statements}
 use Rattle.memory_desc.proofs.Built.{backgrounds_refused, is_memory, power_refused, ranges_passed, scrambling_refused, width_refused}
 use Rattle.memory_desc.proofs.Checks.{passed}

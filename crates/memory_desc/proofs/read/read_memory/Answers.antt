@@ -1,7 +1,4 @@
-use Rattle.std.proofs.Common.{Err, None, ap, inl, inr}
-use Rattle.bist_text.specs.Lines.{text_lines}
-use Rattle.bist_text.specs.keyed.Texts.{walk}
-use Rattle.memory_desc.specs.inner.Heard.{version_at}
+use Rattle.memory_desc.proofs.Common.{Err, None, ap, inl, inr, text_lines, version_at, walk}
 use Rattle.memory_desc.proofs.Checks.{passed, stopped}
 use Rattle.memory_desc.proofs.OneOutcome.{Hears, reading}
 use Rattle.memory_desc.proofs.read.read_memory.Goals as goal

@@ -1,7 +1,5 @@
-use Rattle.std.proofs.Common.{refl, arith, ◌∙◌}
-use Rattle.bist_text.specs.Lines.{text_lines}
+use Rattle.memory_desc.proofs.Common.{arith, missing, out_of_range, refl, repeated, text_lines, ◌∙◌}
 use Rattle.memory_desc.specs.inner.Heard.{statements}
-use Rattle.memory_desc.specs.Table.{missing, out_of_range, repeated}
 use Rattle.memory_desc.specs.declared.content.Subject.TheVariants.{Name, Words, Bits}
 use Rattle.memory_desc.specs.declared.fault.Field.TheVariants.{Name as NameField, Words as WordsField, Bits as BitsField}
 use Rattle.memory_desc.proofs.Checks.{next, passed}

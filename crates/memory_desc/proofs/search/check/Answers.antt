@@ -1,7 +1,5 @@
-use Rattle.std.proofs.Common.{find}
-use Rattle.bist_text.specs.Lines.{text_lines}
+use Rattle.memory_desc.proofs.Common.{find, tests, text_lines}
 use Rattle.memory_desc.specs.inner.Heard.{statements}
-use Rattle.memory_desc.specs.inner.Seeking.{tests}
 use Rattle.memory_desc.proofs.Searches.{found, line_refused, none_refused}
 use Rattle.memory_desc.proofs.search.check.Goals as goal
 
