@@ -5,3 +5,5 @@ pub mod Numbers
 pub mod Steps
 pub mod LineLaws
 pub mod Items
+pub mod Checks
+pub mod Texts

@@ -9,5 +9,6 @@ pub mod ReservedWords
 pub mod Keywords
 pub mod Identifiers
 pub mod LineGrammar
+pub mod KeyedTexts
 pub mod keyed
 pub mod inner

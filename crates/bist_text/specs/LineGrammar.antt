@@ -1,4 +1,4 @@
--- Trusted. The pieces of a line: blanks, a comment at its end, and runs of bytes of a class.
+-- Trusted. The pieces of a line: blanks, and a comment at its end.
 use Rattle.std.specs.Prelude.{ℕ, ◌==◌, List, [], ◌∷◌}
 use Rattle.bist_text.specs.Grammar.{many, when, is_blank}
 

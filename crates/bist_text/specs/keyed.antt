@@ -2,3 +2,4 @@ pub mod Numbers
 pub mod Reading
 pub mod Parts
 pub mod Lines
+pub mod Texts

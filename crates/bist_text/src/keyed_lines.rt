@@ -8,11 +8,14 @@ ghost use Rattle.bist_text.specs.declared.keyed_lines.Class.TheVariants.{Number,
 ghost use Rattle.bist_text.specs.keyed.Lines.{fault_of};
 ghost use Rattle.bist_text.specs.keyed.Parts.{spaced, gap_of, byte_of, comment_of, end_of, fits_of, key_of, word_of, number_of, length_of};
 ghost use Rattle.bist_text.specs.keyed.Reading.{took, stuck};
+ghost use Rattle.bist_text.specs.keyed.Texts.{refusal_at, step};
+ghost use Rattle.bist_text.specs.Lines.{plain_line};
 
 use crate::byte_sets::BLANKS;
 use crate::identifiers::{begins_identifier, in_identifier};
 use crate::keywords::{Keyword, Letters, Spelled, next_letter};
 use crate::numbers::{decimal, hex};
+use crate::text_lines::Line;
 
 /// What a reader makes of what is left of a line: a value and what is then left; or what is left where the line can't go on
 /// so, which is nothing where it ended too early.
@@ -193,5 +196,54 @@ pub fn fault_at(text: &[u8], left: &[u8]) -> LineFault
         LineFault::Truncated
     } else {
         LineFault::Unexpected(text.len().saturating_sub(left.len()))
+    }
+}
+
+/// Why the lines of a text are refused. Lines are counted from 1 and bytes from 0 within their line.
+#[derive(Clone, Copy)]
+pub enum TextFault {
+    /// The line up to and with this byte can't go on to a line that may stand.
+    Unexpected { line: usize, byte: usize },
+    /// No line gives a version, or the last line ends too early.
+    Truncated,
+    /// The version is none that is known.
+    OtherVersion,
+}
+
+/// A line's refusal. Where a line feed ends the line, it is the byte that can't stand there.
+fn refused(line: &Line<'_>, fault: LineFault) -> TextFault
+    ensures { result ≡ refusal_at (plain_line line.now) fault }
+{
+    match fault {
+        LineFault::Unexpected(byte) => TextFault::Unexpected {
+            line: line.number,
+            byte,
+        },
+        LineFault::Truncated if line.ended => TextFault::Unexpected {
+            line: line.number,
+            byte: line.text.len(),
+        },
+        LineFault::Truncated => TextFault::Truncated,
+    }
+}
+
+/// The version that is known behind a line, by the version that the line gives, where it has content.
+pub fn known_behind<V: Copy>(
+    given: Option<V>,
+    line: &Line<'_>,
+    said: Result<Option<Option<V>>, LineFault>,
+) -> Result<Option<V>, TextFault>
+    ensures { result ≡ step given (plain_line line.now) said }
+{
+    match said {
+        Err(fault) => Err(refused(line, fault)),
+        Ok(content) => match given {
+            Some(version) => Ok(Some(version)),
+            None => match content {
+                None => Ok(None),
+                Some(None) => Err(TextFault::OtherVersion),
+                Some(Some(version)) => Ok(Some(version)),
+            },
+        },
     }
 }

@@ -11,7 +11,8 @@
 //! assert!(rt; decimal(b"0042") == Some(42));
 //! ```
 //!
-//! It never knows a particular grammar.
+//! It never knows the grammar of a whole text: of Verilog it has identifiers and the reserved words, of lines blanks, comments and
+//! the classes of their words, and of texts of lines that the first with content gives a version.
 #![tactic(auto)]
 
 mod byte_set;

@@ -1,8 +1,5 @@
 -- What stands behind the first word of a line of a chip file is read as the grammar says.
-use Rattle.std.proofs.Common.{◌≡◌, ℕ, suc, Bool, true, false, List, [], ◌∷◌, length, Option, Some, refl, ◌↔◌, inl, inr, sym, ap, subst, ◌∙◌, arith}
-use Rattle.std.proofs.lemmas.Bool.{and_parts, and_from, le-leb}
-use Rattle.std.specs.List.{list_all}
-use Rattle.std.specs.Prelude.{nat_le}
+use Rattle.chip_desc.proofs.Common.{Bool, Budget, Chip, Content, ContentText, Key, LineOf, List, Name, None, Option, Some, Version, [], and_from, and_parts, ap, argument, argument_of, arith, budget, file_of, heard, inl, inr, is_file, is_formed, key_text, keys_in, keys_of, kind_of, le-leb, length, list_all, may_stand, name, nat_le, refl, stands, subst, suc, sym, true, unit, version, ℕ, ◌↔◌, ◌∙◌, ◌∷◌, ◌≡◌}
 use Rattle.std.specs.Str.Parse.{digits_value}
 use Rattle.bist_text.specs.Grammar.{is_blank, word}
 use Rattle.bist_text.specs.Identifiers.{is_digit, begins_identifier, in_identifier}
@@ -10,20 +7,17 @@ use Rattle.bist_text.specs.LineGrammar.{gap, tail}
 use Rattle.bist_text.proofs.KeywordLaws.{IsOf}
 use Rattle.bist_text.proofs.LineStops.{IsPlain, gap_stops, tail_stops, blank_run, blank_word}
 use Rattle.bist_text.proofs.RunPieces.{gap_map, gap_pull, word_map, word_pull}
+use Rattle.bist_text.specs.inner.Machine.{IsExact}
+use Rattle.bist_text.specs.keyed.Lines.{line_of}
 use Rattle.bist_text.specs.keyed.Numbers.{is_number}
 use Rattle.bist_text.specs.keyed.Reading.{Read, onward}
 use Rattle.bist_text.specs.keyed.Parts.{gap_of, Class, fits_of, is_word, is_file_byte, word_of, ends_with}
 use Rattle.bist_text.specs.declared.keyed_lines.Class.TheVariants.{Number, Name as NameWord, File as FileWord}
-use Rattle.bist_text.proofs.keyed.Told.{Told, told_iff}
+use Rattle.bist_text.proofs.keyed.Told.{Told, told_iff, told_exact}
 use Rattle.bist_text.proofs.keyed.PartLaws.{Hears, fewer, Shuns, Gap, gap_told, Ends, ends_told, Words, Begun, word_told}
 use Rattle.bist_text.proofs.keyed.Classes.{run_is, name_is, all_of_is}
-use Rattle.bist_text.proofs.keyed.LineLaws.{Arg as Behind, OneWord as HasOneWord, one_word, one_number, valued, digit_begun, digit_later, digits_plain, begins_small, IsTable, Line as AnyLine, word_shuns}
-use Rattle.chip_desc.specs.Chips.{is_file}
-use Rattle.chip_desc.specs.ChipFaults.{may_stand, LineOf}
-use Rattle.chip_desc.specs.ChipLines.{Content, version, name, budget, unit, kind_of, is_formed, argument, key_text}
-use Rattle.chip_desc.specs.inner.Heard.{file_of, argument_of, keys_in}
-use Rattle.chip_desc.specs.declared.content.Key.{Key}
-use Rattle.chip_desc.specs.declared.content.Key.TheVariants.{Chip, Name, Budget, Unit as OfUnit}
+use Rattle.bist_text.proofs.keyed.LineLaws.{Arg as Behind, OneWord as HasOneWord, one_word, one_number, valued, digit_begun, digit_later, digits_plain, begins_small, IsTable, Line as AnyLine, line_told, word_shuns}
+use Rattle.chip_desc.specs.declared.content.Key.TheVariants.{Unit as OfUnit}
 
 abbrev Arg : Key → List ℕ → Option Content → Type 0
 Arg = Behind kind_of is_formed (λ c. argument c tail)
@@ -227,22 +221,29 @@ small Name = refl
 small Budget = refl
 small OfUnit = refl
 
-pub table : (n : ℕ) (opened : Bool) → IsTable kind_of is_formed (λ c. argument c tail) key_text (keys_in opened) n argument_of
-table n false = record { fine = refl; first = Chip; begins = refl; small = small; shuns = argument_shuns; told = argument_told n }
-table n true = record { fine = refl; first = Chip; begins = refl; small = small; shuns = argument_shuns; told = argument_told n }
+pub table : (n : ℕ) (given : Option Version) → IsTable kind_of is_formed (λ c. argument c tail) key_text (keys_in given) n argument_of
+table n None = record { fine = refl; first = Chip; begins = refl; small = small; shuns = argument_shuns; told = argument_told n }
+table n (Some v) = record { fine = refl; first = Chip; begins = refl; small = small; shuns = argument_shuns; told = argument_told n }
 
 -- ---- the lines of the table are those of the grammar
 
-is_of : (opened : Bool) (k : Key) → IsOf (keys_in opened) k ↔ (may_stand opened k ≡ true)
-is_of true Chip = (λ h. refl, λ e. inl refl)
-is_of true Name = (λ h. refl, λ e. inr (inl refl))
-is_of true Budget = (λ h. refl, λ e. inr (inr (inl refl)))
-is_of true OfUnit = (λ h. refl, λ e. inr (inr (inr (inl refl))))
-is_of false Chip = (λ h. refl, λ e. inl refl)
-is_of false k = (λ h. elim h [ inl a ↦ (let z : ⊥ = cc in absurd z) | inr a ↦ absurd a ], λ e. (let z : ⊥ = cc in absurd z))
+is_of : (given : Option Version) (k : Key) → IsOf (keys_in given) k ↔ (may_stand given k ≡ true)
+is_of (Some v) Chip = (λ h. refl, λ e. inl refl)
+is_of (Some v) Name = (λ h. refl, λ e. inr (inl refl))
+is_of (Some v) Budget = (λ h. refl, λ e. inr (inr (inl refl)))
+is_of (Some v) OfUnit = (λ h. refl, λ e. inr (inr (inr (inl refl))))
+is_of None Chip = (λ h. refl, λ e. inl refl)
+is_of None k = (λ h. elim h [ inl a ↦ (let z : ⊥ = cc in absurd z) | inr a ↦ absurd a ], λ e. (let z : ⊥ = cc in absurd z))
 
-pub line_is : (opened : Bool) (x : List ℕ) (v : Option Content) → AnyLine kind_of is_formed (λ c. argument c tail) key_text (keys_in opened) x v ↔ LineOf opened x v
-line_is opened x v = (
-  λ h. elim h [ inl a ↦ inl a | inr a ↦ (let s = a.0 in inr (s.content, (is_of opened (kind_of s.content)).0 s.stands, s.says, (s.formed, a.1))) ],
-  λ h. elim h [ inl a ↦ inl a | inr a ↦ inr (record { content = a.0; stands = (is_of opened (kind_of a.0)).1 a.1; formed = a.3.0; says = a.2 }, a.3.1) ],
+line_is : (given : Option Version) (x : List ℕ) (v : Option Content) → AnyLine kind_of is_formed (λ c. argument c tail) key_text (keys_in given) x v ↔ LineOf ContentText stands given x v
+line_is given x v = (
+  λ h. elim h [ inl a ↦ inl a | inr a ↦ (let s = a.0 in inr (s.content, (is_of given (kind_of s.content)).0 s.stands, s.says, (s.formed, a.1))) ],
+  λ h. elim h [ inl a ↦ inl a | inr a ↦ inr (record { content = a.0; stands = (is_of given (kind_of a.0)).1 a.1; formed = a.3.0; says = a.2 }, a.3.1) ],
 )
+
+-- The reader of a line is exact.
+pub line_exact : (given : Option Version) (b : List ℕ) → IsExact (LineOf ContentText stands given) b (heard given b)
+line_exact given b =
+    told_exact (LineOf ContentText stands given) b (line_of (keys_of given) argument_of b)
+    (told_iff (AnyLine kind_of is_formed (λ c. argument c tail) key_text (keys_in given)) (LineOf ContentText stands given) b (line_of (keys_of given) argument_of b) (line_is given)
+    (line_told kind_of is_formed (λ c. argument c tail) key_text (keys_in given) (length b) argument_of (table (length b) given) b (omega arith)))

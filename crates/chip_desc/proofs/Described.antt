@@ -1,26 +1,10 @@
 -- The chip that statements describe is within the limits, and is what the reader makes.
-use Rattle.std.proofs.Common.{◌≡◌, ◌∙◌, ◌≤◌, ◌+◌, ℕ, Bool, true, false, cond, List, [], ◌∷◌, ◌++◌, length, map, Option, Some, None, Ok, Err, refl, sym, ap, subst, arith}
-use Rattle.std.specs.Prelude.{All, nat_lt}
-use Rattle.std.specs.List.{find}
-use Rattle.std.proofs.lemmas.Bool.{or_parts, ltb-false}
-use Rattle.std.proofs.lemmas.List.{length-append}
-use Rattle.bist_text.specs.Lines.{TextLine}
+use Rattle.chip_desc.proofs.Common.{All, Bool, Budget, Chip, ChipDescription, ChipFault, ChipUnit, Content, Err, IsChip, IsName, IsUnit, Key, List, Missing, Name, None, Ok, Option, Some, Statement, TextLine, TooManyUnits, UnitDescription, [], alone, ap, arith, budget, budget_in, budget_said, by_statements, checked, cond, content_of, described, described_as, false, find, first_of, heavier_than, is_formed, is_heavier, is_key, is_out_of_range, is_outside, kind_of, length, length-append, ltb-false, map, missing, name, name_in, name_said, nat_lt, next, or_parts, out_of_range, passed, refl, refusal, repeated, said, stated, statements, stopped, subst, sym, too_heavy, too_many, true, unit_in, unit_of, units_said, unless_there, ℕ, ◌++◌, ◌+◌, ◌∙◌, ◌∷◌, ◌≡◌, ◌≤◌}
 use Rattle.bist_text.specs.ReservedWords.{is_among, reserved_words}
-use Rattle.memory_desc.specs.Names.{IsName}
-use Rattle.chip_desc.specs.Chips.{ChipDescription, UnitDescription, described_as, unit_of, IsChip, IsUnit}
-use Rattle.chip_desc.specs.ChipLines.{Content, name, budget, kind_of, is_formed, Statement, stated}
-use Rattle.chip_desc.specs.ChipTable.{is_key, first_of, is_heavier, is_out_of_range, is_outside, missing, unless_there, repeated, out_of_range, too_many, too_heavy, content_of, name_in, budget_in, name_said, budget_said, unit_in, units_said, first_refusal, refusal, described}
-use Rattle.chip_desc.specs.inner.Heard.{by_statements, checked, said, statements}
-use Rattle.chip_desc.specs.inner.Seeking.{heavier_than}
-use Rattle.chip_desc.specs.declared.chip.ChipUnit.{ChipUnit}
 use Rattle.chip_desc.specs.declared.fault.ChipField.{ChipField}
 use Rattle.chip_desc.specs.declared.fault.ChipField.TheVariants.{Name as NameField, Budget as BudgetField, Unit as UnitField}
-use Rattle.chip_desc.specs.declared.fault.ChipFault.{ChipFault}
-use Rattle.chip_desc.specs.declared.fault.ChipFault.TheVariants.{Missing, TooManyUnits}
-use Rattle.chip_desc.specs.declared.content.Key.{Key}
-use Rattle.chip_desc.specs.declared.content.Key.TheVariants.{Chip, Name, Budget, Unit as OfUnit}
-use Rattle.chip_desc.proofs.LineReads.{formed_said}
-use Rattle.chip_desc.proofs.LineChecking.{unchecked, refused}
+use Rattle.chip_desc.specs.declared.content.Key.TheVariants.{Unit as OfUnit}
+use Rattle.chip_desc.proofs.OneText.{formed_said}
 use Rattle.chip_desc.proofs.UnitLines.{all_units, find_past, none_at, some_unit, unit_key}
 
 -- ---- the statement of a line that is found
@@ -133,14 +117,6 @@ is_chip ls b u n most us named be ue o m few same light =
           (all_units ls most (none_at _ (find (λ s. is_out_of_range s.content) ss) o) (none_at _ (find (λ s. is_heavier most s.content) ss) light));
     }
 
--- what is left of the chain
-behind : (o : Option ChipFault) (rest : List (Option ChipFault)) → o ≡ None → first_refusal (o ∷ rest) ≡ first_refusal rest
-behind o rest e = ap (λ o. first_refusal (o ∷ rest)) e
-
-last_one : (o : Option ChipFault) → first_refusal (o ∷ []) ≡ o
-last_one None = refl
-last_one (Some f) = refl
-
 budget_given : (ss : List Statement) (b : Statement) (n : ℕ) → first_of Budget ss ≡ Some b → n ≡ budget_in (Some b.content) → n ≡ budget_said ss
 budget_given ss b n e m = m ∙ sym (ap (λ o. budget_in (content_of o)) e)
 
@@ -148,15 +124,15 @@ budget_given ss b n e m = m ∙ sym (ap (λ o. budget_in (content_of o)) e)
 pub comes_to : (ss : List Statement) (n : ℕ) (a b u : Statement) → Ok tt ≡ checked (repeated ss) → first_of Name ss ≡ Some a → first_of Budget ss ≡ Some b
     → first_of OfUnit ss ≡ Some u → Ok tt ≡ checked (out_of_range ss) → too_many ss ≡ None → n ≡ budget_in (Some b.content) → refusal ss ≡ heavier_than n ss
 comes_to ss n a b u r ae be ue o t m =
-    behind _ _ (unchecked (repeated ss) tt (sym r)) ∙ behind _ _ (not_missing Name NameField ss a ae) ∙ behind _ _ (not_missing Budget BudgetField ss b be)
-    ∙ behind _ _ (not_missing OfUnit UnitField ss u ue) ∙ behind _ _ (unchecked (out_of_range ss) tt (sym o)) ∙ behind _ _ t ∙ last_one (too_heavy ss)
+    next (repeated ss) (passed (repeated ss) r) ∙ next (missing Name NameField ss) (not_missing Name NameField ss a ae) ∙ next (missing Budget BudgetField ss) (not_missing Budget BudgetField ss b be)
+    ∙ next (missing OfUnit UnitField ss) (not_missing OfUnit UnitField ss u ue) ∙ next (out_of_range ss) (passed (out_of_range ss) o) ∙ next (too_many ss) t ∙ alone (too_heavy ss)
     ∙ ap (λ n. heavier_than n ss) (sym (budget_given ss b n be m))
 
 pub is_refused : (ss : List Statement) (n : ℕ) (f : ChipFault) → refusal ss ≡ heavier_than n ss → Err f ≡ checked (heavier_than n ss) → Err f ≡ by_statements (refusal ss) ss
-is_refused ss n f e h = sym (ap (λ o. by_statements o ss) (e ∙ refused (heavier_than n ss) f (sym h)))
+is_refused ss n f e h = sym (ap (λ o. by_statements o ss) (e ∙ stopped (heavier_than n ss) f h))
 
 pub is_described : (ss : List Statement) (d : ChipDescription) (n : ℕ) → refusal ss ≡ heavier_than n ss → Ok tt ≡ checked (heavier_than n ss) → d ≡ described ss → Ok d ≡ by_statements (refusal ss) ss
-is_described ss d n e h k = ap Ok k ∙ sym (ap (λ o. by_statements o ss) (e ∙ unchecked (heavier_than n ss) tt (sym h)))
+is_described ss d n e h k = ap Ok k ∙ sym (ap (λ o. by_statements o ss) (e ∙ passed (heavier_than n ss) h))
 
 pub parts_same : (ss : List Statement) (d : ChipDescription) (a b : Statement) (n : List ℕ) (most : ℕ) (us : List ChipUnit) → d ≡ described_as n most us → first_of Name ss ≡ Some a
     → n ≡ name_in (Some a.content) → first_of Budget ss ≡ Some b → most ≡ budget_in (Some b.content) → map unit_of us ≡ units_said ss → d ≡ described ss

@@ -1,24 +1,12 @@
 -- The units of the lines of a text.
-use Rattle.std.proofs.Common.{◌≡◌, ◌∙◌, ◌≤◌, ◌<◌, ◌+◌, ◌&&◌, ◌||◌, ◌==◌, not, zero, suc, ℕ, Bool, true, false, cond, if◌then◌else◌, List, [], ◌∷◌, ◌++◌, length, map, Option, Some, None, refl, sym, ap, arith}
-use Rattle.std.specs.Prelude.{All, nat_lt, nat_le}
-use Rattle.std.specs.List.{find, list_all}
+use Rattle.chip_desc.proofs.Common.{All, Bool, ChipFault, ChipUnit, Content, IsFile, IsUnit, List, None, Option, Some, Statement, TextLine, TooManyUnits, UnitDescription, [], and_parts, ap, arith, at_line, budget, cond, false, find, if◌then◌else◌, is_file, is_formed, is_heavier, is_key, is_out_of_range, is_outside, kind_of, leb-true, length, length-append, length-map, list_all, lt-ltb, ltb-false, map, name, nat_le, nat_lt, not, or_parts, out_of_range, plain_unit, refl, said, stated, statements, suc, sym, too_many, true, unit, unit_in, unit_of, unit_said, units_said, version, zero, ℕ, ◌&&◌, ◌++◌, ◌+◌, ◌<◌, ◌==◌, ◌||◌, ◌∙◌, ◌∷◌, ◌≡◌, ◌≤◌}
 use Rattle.std.specs.Option.{option_map}
 use Rattle.std.specs.Str.{IsAscii}
-use Rattle.std.proofs.lemmas.Bool.{and_parts, or_parts, ltb-false, leb-true, lt-ltb}
-use Rattle.std.proofs.lemmas.List.{length-append, length-map}
 use Rattle.std.proofs.lemmas.List.Elements.{All-cons, All-nil}
-use Rattle.bist_text.specs.Lines.{TextLine}
-use Rattle.chip_desc.specs.Chips.{is_file_byte, is_file, IsFile, IsUnit, UnitDescription, unit_of}
-use Rattle.chip_desc.specs.ChipLines.{Content, version, name, budget, unit, kind_of, is_formed, Statement, stated}
-use Rattle.chip_desc.specs.ChipTable.{at_line, is_key, is_heavier, is_out_of_range, is_outside, out_of_range, too_many, unit_in, units_said}
-use Rattle.chip_desc.specs.inner.Heard.{plain_unit, said, statements}
-use Rattle.chip_desc.specs.inner.Seeking.{unit_said}
-use Rattle.chip_desc.specs.declared.chip.ChipUnit.{ChipUnit}
+use Rattle.chip_desc.specs.Chips.{is_file_byte}
 use Rattle.chip_desc.specs.declared.content.UnitLine.{UnitLine}
-use Rattle.chip_desc.specs.declared.fault.ChipFault.{ChipFault}
-use Rattle.chip_desc.specs.declared.fault.ChipFault.TheVariants.{TooManyUnits}
 use Rattle.chip_desc.specs.declared.content.Key.TheVariants.{Unit as OfUnit}
-use Rattle.chip_desc.proofs.LineReads.{formed_said}
+use Rattle.chip_desc.proofs.OneText.{formed_said}
 
 -- ---- names of files
 

@@ -1,12 +1,15 @@
 -- Trusted. The lines of a chip file, and what they say. Blanks, comments, numbers and names are those of memory descriptions.
-use Rattle.std.specs.Prelude.{◌≡◌, ℕ, ◌==◌, ◌&&◌, Bool, true, false, Option, Some, None, List, [], ◌∷◌, ◌++◌, codes}
+use Rattle.std.specs.Prelude.{◌≡◌, ℕ, ◌==◌, ◌&&◌, Bool, true, false, if◌then◌else◌, Option, Some, None, List, [], ◌∷◌, codes}
 use Rattle.bist_text.specs.Grammar.{word}
 use Rattle.bist_text.specs.Identifiers.{is_identifier}
-use Rattle.bist_text.specs.Lines.{TextLine, text_lines}
+use Rattle.bist_text.specs.KeyedTexts.{Say}
+use Rattle.bist_text.specs.Lines.{text_lines}
 use Rattle.bist_text.specs.keyed.Numbers.{number}
 use Rattle.chip_desc.specs.Chips.{is_file}
 use Rattle.chip_desc.specs.declared.content.Key.{Key}
 use Rattle.chip_desc.specs.declared.content.Key.TheVariants.{Chip, Name, Budget, Unit as OfUnit}
+use Rattle.chip_desc.specs.declared.content.Version.{Version}
+use Rattle.chip_desc.specs.declared.content.Version.TheVariants.{One}
 use Rattle.bist_text.specs.LineGrammar.{space, gap, tail}
 
 -- what a content line says
@@ -46,11 +49,6 @@ key_text OfUnit = codes "unit"
 abbrev pub ContentText : List ℕ → Content → Type 0
 ContentText b c = (is_formed c ≡ true) × space (word (key_text (kind_of c)) (gap (argument c tail))) b
 
--- A line: blanks and a comment alone, or a content line.
-abbrev pub LineText : List ℕ → Option Content → Type 0
-LineText b None = tail b
-LineText b (Some c) = ContentText b c
-
 -- ---- what the lines say
 
 -- a content line: its number, and what it says
@@ -62,21 +60,20 @@ abbrev pub stated : ℕ → Option Content → List Statement
 stated number None = []
 stated number (Some c) = (record { line = number; content = c }) ∷ []
 
--- each of the lines is one of a chip file, and these are their statements, in their order
-abbrev pub Say : List TextLine → List Statement → Type 0
-Say [] ss = ss ≡ []
-Say (l ∷ ls) ss = (v : Option Content) × (more : List Statement) × LineText l.text v × Say ls more × (ss ≡ stated l.number v ++ more)
+-- the kinds of content lines that may stand: a `chip` line alone before there was one, and behind it any
+abbrev pub may_stand : Option Version → Key → Bool
+may_stand (Some v) key = true
+may_stand None Chip = true
+may_stand None key = false
 
--- the version is 1
-abbrev pub is_version_one : Content → Bool
-is_version_one (version n) = n == 1
-is_version_one c = false
+abbrev pub stands : Option Version → Content → Bool
+stands given c = may_stand given (kind_of c)
 
--- the first statement gives the version 1
-abbrev pub are_of_version_one : List Statement → Bool
-are_of_version_one [] = false
-are_of_version_one (s ∷ ss) = is_version_one s.content
+-- the version 1 is the one that there is
+abbrev pub version_in : Content → Option Version
+version_in (version n) = if n == 1 then Some One else None
+version_in c = None
 
 -- The statements of a text's lines, of which the first gives the version 1.
 abbrev pub AreStatements : List ℕ → List Statement → Type 0
-AreStatements bytes ss = Say (text_lines bytes) ss × (are_of_version_one ss ≡ true)
+AreStatements bytes ss = Say ContentText stands version_in stated (text_lines bytes) None ss

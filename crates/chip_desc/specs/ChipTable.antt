@@ -1,14 +1,16 @@
 -- Trusted. The refusals of a chip file whose lines are all of the table, in their order, and the chip that it describes.
 use Rattle.std.specs.Prelude.{◌≡◌, ◌⊎◌, ℕ, ◌==◌, ◌||◌, ◌&&◌, Bool, true, false, not, nat_lt, if◌then◌else◌, List, [], ◌∷◌, ◌++◌, length, Option, Some, None, Result, Ok, Err, find}
+use Rattle.bist_text.specs.KeyedTexts.{AreRefused, first_refusal, unless_there}
 use Rattle.bist_text.specs.Lines.{text_lines}
 use Rattle.bist_text.specs.ReservedWords.{is_among, reserved_words}
 use Rattle.chip_desc.specs.Chips.{ChipDescription, UnitDescription}
-use Rattle.chip_desc.specs.ChipLines.{Content, name, budget, unit, kind_of, Statement, AreStatements}
-use Rattle.chip_desc.specs.ChipFaults.{AreRefused}
+use Rattle.chip_desc.specs.ChipLines.{Content, name, budget, unit, kind_of, ContentText, stands, version_in, Statement, AreStatements}
+use Rattle.bist_text.specs.declared.keyed_lines.TextFault.{TextFault}
+use Rattle.bist_text.specs.declared.keyed_lines.TextFault.TheVariants as T
 use Rattle.chip_desc.specs.declared.fault.ChipField.{ChipField}
 use Rattle.chip_desc.specs.declared.fault.ChipField.TheVariants.{Name as NameField, Budget as BudgetField, Unit as UnitField}
 use Rattle.chip_desc.specs.declared.fault.ChipFault.{ChipFault}
-use Rattle.chip_desc.specs.declared.fault.ChipFault.TheVariants.{Repeated, Missing, OutOfRange, TooManyUnits, TooHeavy}
+use Rattle.chip_desc.specs.declared.fault.ChipFault.TheVariants.{Unexpected, Truncated, OtherVersion, Repeated, Missing, OutOfRange, TooManyUnits, TooHeavy}
 use Rattle.chip_desc.specs.declared.content.Key.{Key}
 use Rattle.chip_desc.specs.declared.content.Key.TheVariants.{Chip, Name, Budget, Unit as OfUnit}
 
@@ -41,10 +43,6 @@ abbrev pub repeated : List Statement → Option ChipFault
 repeated ss = at_line (λ n. Repeated n) (find (is_repeat ss) ss)
 
 -- ---- C4: a field is missing
-
-abbrev pub unless_there : {A : Type 0} → ChipFault → Option A → Option ChipFault
-unless_there fault None = Some fault
-unless_there fault (Some x) = None
 
 abbrev pub missing : Key → ChipField → List Statement → Option ChipFault
 missing key field ss = unless_there (Missing field) (first_of key ss)
@@ -108,11 +106,6 @@ too_heavy ss = at_line (λ n. TooHeavy n) (find (λ s. is_heavier (budget_said s
 
 -- ---- the whole
 
-abbrev pub first_refusal : List (Option ChipFault) → Option ChipFault
-first_refusal [] = None
-first_refusal (None ∷ rest) = first_refusal rest
-first_refusal (Some fault ∷ rest) = Some fault
-
 -- the first refusal of the statements
 abbrev pub refusal : List Statement → Option ChipFault
 refusal ss =
@@ -123,7 +116,14 @@ refusal ss =
 abbrev pub described : List Statement → ChipDescription
 described ss = record { name = name_said ss; budget = budget_said ss; units = units_said ss }
 
+-- the refusal for its lines
+abbrev pub of_lines : TextFault → ChipFault
+of_lines (T.Unexpected line byte) = Unexpected line byte
+of_lines T.Truncated = Truncated
+of_lines T.OtherVersion = OtherVersion
+
 -- What a text is read as: a line is refused, or its statements are refused or describe a chip.
 abbrev pub Reads : List ℕ → Result ChipDescription ChipFault → Type 0
 Reads bytes (Ok d) = (ss : List Statement) × AreStatements bytes ss × (refusal ss ≡ None) × (d ≡ described ss)
-Reads bytes (Err fault) = AreRefused (text_lines bytes) fault ⊎ ((ss : List Statement) × AreStatements bytes ss × (refusal ss ≡ Some fault))
+Reads bytes (Err fault) =
+    ((f : TextFault) × AreRefused ContentText stands version_in (text_lines bytes) None f × (fault ≡ of_lines f)) ⊎ ((ss : List Statement) × AreStatements bytes ss × (refusal ss ≡ Some fault))

@@ -1,5 +1,4 @@
 pub mod Chips
 pub mod ChipLines
-pub mod ChipFaults
 pub mod ChipTable
 pub mod inner

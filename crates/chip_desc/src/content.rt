@@ -13,6 +13,12 @@ pub enum Key {
     Unit,
 }
 
+/// The versions of the form.
+#[derive(Clone, Copy)]
+pub enum Version {
+    One,
+}
+
 /// What a `unit` line says.
 #[derive(Clone, Copy)]
 pub struct UnitLine<'a> {

@@ -1,12 +1,12 @@
 //! The reader of one line.
 
-ghost use Rattle.std.specs.Prelude.{◌≡◌, true, Some, MatchResult, map};
+ghost use Rattle.std.specs.Prelude.{◌≡◌, Some, MatchResult, map};
 ghost use Rattle.bist_text.specs.Keywords.{word_of};
 ghost use Rattle.bist_text.specs.keyed.Reading.{took, stuck};
 ghost use Rattle.bist_text.specs.keyed.Lines.{answer, keyed_of};
 ghost use Rattle.chip_desc.specs.inner.Heard.{argument_of, heard, keys_of, plain_content, plain_line_content, said, plain_said};
 
-use crate::content::{Content, Key, UnitLine};
+use crate::content::{Content, Key, UnitLine, Version};
 use bist_text::Keyword;
 use bist_text::keyed_lines::{
     Class, LineFault, Read, blanks, end, fault_at, gap, key, number, word,
@@ -21,10 +21,13 @@ static KEYS: [Keyword<Key>; 4] = [
 ];
 
 /// The first words that may stand; `chip` alone before there was a `chip` line.
-fn keys_of(opened: bool) -> &'static [Keyword<Key>]
-    ensures { map word_of result.now ≡ keys_of opened }
+fn keys_of(given: Option<Version>) -> &'static [Keyword<Key>]
+    ensures { map word_of result.now ≡ keys_of given }
 {
-    if opened { &KEYS } else { &KEYS[..1] }
+    match given {
+        None => &KEYS[..1],
+        Some(Version::One) => &KEYS,
+    }
 }
 
 fn version<'a>(text: &'a [u8]) -> Read<'a, Content<'a>>
@@ -81,17 +84,20 @@ fn argument<'a>(text: &'a [u8], key: Key) -> Read<'a, Content<'a>>
 }
 
 /// A content line.
-fn keyed<'a>(text: &'a [u8], opened: bool) -> Read<'a, Content<'a>>
-    ensures { MatchResult result (λ r. keyed_of (keys_of opened) argument_of text.now ≡ took (Some (plain_content r.0)) r.1.now) (λ left. keyed_of (keys_of opened) argument_of text.now ≡ stuck left.now) }
+fn keyed<'a>(text: &'a [u8], given: Option<Version>) -> Read<'a, Content<'a>>
+    ensures { MatchResult result (λ r. keyed_of (keys_of given) argument_of text.now ≡ took (Some (plain_content r.0)) r.1.now) (λ left. keyed_of (keys_of given) argument_of text.now ≡ stuck left.now) }
 {
-    let (key, text) = key(text, keys_of(opened))?;
+    let (key, text) = key(text, keys_of(given))?;
     let ((), text) = gap(text)?;
     argument(text, key)
 }
 
 /// What a line says, or None where it has no content. Before there was a `chip` line only one may stand.
-pub fn read_line<'a>(text: &'a [u8], opened: bool) -> Result<Option<Content<'a>>, LineFault>
-    ensures { plain_said result ≡ answer (heard opened text.now) }
+pub fn read_line<'a>(
+    text: &'a [u8],
+    given: Option<Version>,
+) -> Result<Option<Content<'a>>, LineFault>
+    ensures { plain_said result ≡ answer (heard given text.now) }
 {
     let content = blanks(text);
     match content {
@@ -100,7 +106,7 @@ pub fn read_line<'a>(text: &'a [u8], opened: bool) -> Result<Option<Content<'a>>
             if *first == b'#' {
                 return Ok(None);
             }
-            match keyed(content, opened) {
+            match keyed(content, given) {
                 Ok((content, _)) => Ok(Some(content)),
                 Err(left) => Err(fault_at(text, left)),
             }
@@ -112,5 +118,5 @@ pub fn read_line<'a>(text: &'a [u8], opened: bool) -> Result<Option<Content<'a>>
 pub fn said<'a>(text: &'a [u8]) -> Option<Content<'a>>
     ensures { plain_line_content result ≡ said text.now }
 {
-    read_line(text, true).unwrap_or(None)
+    read_line(text, Some(Version::One)).unwrap_or(None)
 }

@@ -4,7 +4,7 @@ ghost use Rattle.std.specs.Prelude.{◌≡◌, ◌↔◌, ℕ, Some, Ok, Err, Re
 ghost use Rattle.bist_text.specs.Lines.{text_lines};
 ghost use Rattle.memory_desc.specs.Names.{IsName};
 ghost use Rattle.chip_desc.specs.Chips.{ChipDescription, IsChip};
-ghost use Rattle.chip_desc.specs.ChipTable.{Reads, refusal, name_in, budget_in};
+ghost use Rattle.chip_desc.specs.ChipTable.{Reads, of_lines, refusal, name_in, budget_in};
 ghost use Rattle.chip_desc.specs.inner.Heard.{by_statements, plain_content, statements, reading};
 ghost use Rattle.chip_desc.specs.declared.fault.ChipFault.{ChipFault};
 
@@ -15,6 +15,7 @@ use crate::lines::check_lines;
 use crate::search::{check_ranges, check_repeats, check_weights, field};
 use crate::units::units_of;
 use arrayvec::ArrayString;
+use bist_text::keyed_lines::TextFault;
 use std::str;
 
 /// The text of a name.
@@ -64,7 +65,19 @@ fn described(bytes: &[u8]) -> Result<ChipDesc, ChipFault>
     Ok(ChipDesc::new(name, budget, units))
 }
 
+/// The refusal of a text for its lines.
+fn of_lines(fault: TextFault) -> ChipFault
+    ensures { result ≡ of_lines fault }
+{
+    match fault {
+        TextFault::Unexpected { line, byte } => ChipFault::Unexpected { line, byte },
+        TextFault::Truncated => ChipFault::Truncated,
+        TextFault::OtherVersion => ChipFault::OtherVersion,
+    }
+}
+
 /// Reads a chip file. The first refusal decides, in the order of the table. It takes no memory.
+#[tactic(auto, using(crate::proofs::OneText::reads_one))]
 pub fn read_chip(bytes: &[u8]) -> Result<ChipDesc, ChipFault>
     // What is read is the chip that the text's statements describe, and each text that describes one is read as it.
     ensures ok { (d : ChipDescription) → (result ≡ Ok d) ↔ Reads bytes.now (Ok d) }
@@ -75,6 +88,8 @@ pub fn read_chip(bytes: &[u8]) -> Result<ChipDesc, ChipFault>
     // A text is read in one way.
     ensures one_reading { (q r : Result ChipDescription ChipFault) → Reads bytes.now q → Reads bytes.now r → q ≡ r }
 {
-    check_lines(bytes)?;
-    described(bytes)
+    match check_lines(bytes) {
+        Ok(()) => described(bytes),
+        Err(fault) => Err(of_lines(fault)),
+    }
 }

@@ -3,8 +3,9 @@
 ghost use Rattle.std.specs.Prelude.{◌≡◌, ◌||◌, nat_lt, length, option_map, find};
 ghost use Rattle.bist_text.specs.ReservedWords.{is_among, reserved_words};
 ghost use Rattle.bist_text.specs.Lines.{text_lines};
+ghost use Rattle.bist_text.specs.keyed.Texts.{checked};
 ghost use Rattle.chip_desc.specs.ChipTable.{first_of, is_heavier, is_out_of_range, is_outside, is_repeat, repeated, out_of_range};
-ghost use Rattle.chip_desc.specs.inner.Heard.{checked, plain_content, plain_statement, statements};
+ghost use Rattle.chip_desc.specs.inner.Heard.{plain_content, plain_statement, statements};
 ghost use Rattle.chip_desc.specs.inner.Seeking.{is_sought, heavier_than, line_of, GivesField};
 
 use crate::content::{Content, Key, Statement, UnitLine, kind_of};

@@ -1,32 +1,16 @@
 -- The statements of a printed memory describe it.
-use Rattle.std.proofs.Common.{◌≡◌, ℕ, suc, ◌+◌, ◌-◌, ◌^◌, ◌<◌, ◌≤◌, ◌==◌, ◌||◌, ◌&&◌, Bool, true, false, not, if◌then◌else◌, List, ◌∷◌, ◌++◌, ◌∙◌, length, map, Option, Some, None, Result, Ok, Err, refl, sym, ap, subst, arith}
-use Rattle.std.specs.Prelude.{decimal, nat_lt, nat_le, find, MatchBool, MatchResult}
-use Rattle.std.specs.Int.{is_power_of_two}
-use Rattle.std.specs.Str.Parse.{digits_value}
-use Rattle.std.proofs.Math.Path.{ap₂}
-use Rattle.std.proofs.lemmas.Bool.{lt-leb, and_parts, eqb-true}
-use Rattle.bist_bits.specs.Width.{IsWidthOf}
-use Rattle.scrambler.specs.Scrambling.{Scrambling, IsFull, identity, is_identity}
-use Rattle.memory_desc.specs.Descriptions.{Description, IsMemory, assembled}
-use Rattle.memory_desc.specs.LineText.{Content, name, words, bits, latency, polarity, pause, backgrounds}
-use Rattle.bist_text.specs.ReservedWords.{is_among, reserved_words}
-use Rattle.memory_desc.specs.Printed.{is_plain}
-use Rattle.memory_desc.specs.Statements.{Statement}
-use Rattle.memory_desc.specs.Subjects.{is_same, said}
-use Rattle.memory_desc.specs.Values.{words_said, bits_said, latency_in, polarity_in, pause_in, latency_said, polarity_said, pause_said, matrix_said, AreBackgrounds}
-use Rattle.memory_desc.specs.Table.{described, Describes, Builds, Scrambles, StatesBackgrounds, Inverts, Unless, out_of_range, is_out_of_range, unscramblable, is_scrambled, too_wide, is_too_wide, at_line, missing_row, without_solid}
-use Rattle.memory_desc.specs.declared.content.Subject.{Subject}
+use Rattle.memory_desc.proofs.Common.{AreBackgrounds, AreOfMemory, Bool, Content, Description, IsFull, IsInvertible, IsMemory, IsScrambling, IsSome, IsWidthOf, List, MatchBool, None, Option, Scrambling, Some, Statement, Subject, about, and_parts, ap, ap₂, arith, assembled, backgrounds, bits, bits_said, decimal, described, digits_value, eqb-true, false, find, identity, if◌then◌else◌, is_among, is_identity, is_plain, is_power_of_two, is_same, latency, latency_in, latency_said, length, lt-leb, map, matrix_said, name, nat_le, nat_lt, pause, pause_in, pause_said, polarity, polarity_in, polarity_said, refl, reserved_words, subst, suc, sym, true, words, words_said, ℕ, ◌&&◌, ◌++◌, ◌+◌, ◌-◌, ◌<◌, ◌==◌, ◌^◌, ◌||◌, ◌∙◌, ◌∷◌, ◌≡◌, ◌≤◌}
+use Rattle.memory_desc.specs.Subjects.{said}
+use Rattle.memory_desc.specs.Described.{is_out_of_range, is_scrambled, is_too_wide}
 use Rattle.memory_desc.specs.declared.content.Subject.TheVariants.{Version, Name, Words, Bits, Latency, Polarity, Pause, Row, Backgrounds}
-use Rattle.memory_desc.specs.declared.fault.MemoryFault.{MemoryFault}
-use Rattle.memory_desc.specs.declared.fault.MemoryFault.TheVariants.{OutOfRange, ScrambleNeedsPowerOfTwo}
 use Rattle.memory_desc.proofs.BackLines.{numbered}
 use Rattle.memory_desc.proofs.BackDigits.{decimal_value}
-use Rattle.memory_desc.proofs.BackFound.{Others, Distinct, not_repeated, others_head, rows_distinct, said_backgrounds, unsaid, found_none, none_found, row_content, body}
+use Rattle.memory_desc.proofs.BackFound.{Others, Distinct, no_repeat, others_head, rows_distinct, said_backgrounds, unsaid, found_none, none_found, row_content, body}
 use Rattle.memory_desc.proofs.BackInside.{rows_printed}
 use Rattle.scrambler.proofs.Identity.{identity_is_identity, identity_by_rows}
 use Rattle.memory_desc.proofs.BackTerms.{neither_too_wide}
 use Rattle.memory_desc.proofs.BackTexts.{digits_of_word}
-use Rattle.memory_desc.proofs.BackValues.{statements, later_said, word_value, some_rows, no_row_missing, matrix_is, row_within, words_are, words_within, few_enough, solid_enough}
+use Rattle.memory_desc.proofs.BackValues.{statements, later_said, word_value, some_rows, row_there, matrix_is, row_within, words_are, words_within}
 
 -- ---- the numbers
 
@@ -124,7 +108,7 @@ later_pass p d false k a b c rows set =
     (found_none q (record { line = 7; content = pause (decimal d.pause) }) (numbered 8 more) c
     (none_found p d.scramble 8 0 k (map (digits_of_word d.bits) d.backgrounds) rows set)))
 
-all_in_range : (d : Description) (plain : Bool) (k : ℕ) → IsMemory d → out_of_range (statements d plain k) ≡ None
+all_in_range : (d : Description) (plain : Bool) (k : ℕ) → IsMemory d → find (λ s. is_out_of_range s.content) (statements d plain k) ≡ None
 all_in_range d plain k mem =
     let ws = map (digits_of_word d.bits) d.backgrounds in
     let p : Statement → Bool = λ t. is_out_of_range t.content in
@@ -139,19 +123,14 @@ all_in_range d plain k mem =
     found_none p bits_line rows (in_range 1 64 d.bits (decimal d.bits) (decimal_value d.bits (small_bits d mem)) mem.bits_low mem.bits_high) from_rows in
     let from_words : find p (words_line ∷ bits_line ∷ rows) ≡ None =
     found_none p words_line (bits_line ∷ rows) (in_range 2 65536 d.words (decimal d.words) (decimal_value d.words (small_words d mem)) mem.words_low mem.words_high) from_bits in
-    let from_name : find p (name_line ∷ words_line ∷ bits_line ∷ rows) ≡ None =
-    found_none p name_line (words_line ∷ bits_line ∷ rows) (name_in_range d.name mem.name.short mem.name.free) from_words in
-    ap (at_line (λ n. OutOfRange n)) from_name
+    found_none p name_line (words_line ∷ bits_line ∷ rows) (name_in_range d.name mem.name.short mem.name.free) from_words
 
-none_too_wide : (d : Description) (plain : Bool) (k size : ℕ) → IsMemory d → d.scramble.width ≤ 16 → k ≤ d.scramble.width → size ≡ d.bits
-    → too_wide (statements d plain k) d.scramble.width size ≡ None
-none_too_wide d plain k size mem small h e =
+none_too_wide : (d : Description) (plain : Bool) (k : ℕ) → IsMemory d → d.scramble.width ≤ 16 → k ≤ d.scramble.width
+    → find (λ t. is_too_wide d.scramble.width d.bits t.content) (statements d plain k) ≡ None
+none_too_wide d plain k mem small h =
     let s = d.scramble in
-    let whole : too_wide (statements d plain k) s.width d.bits ≡ None =
-    ap (at_line (λ n. OutOfRange n))
-    (later_pass (is_too_wide s.width d.bits) d plain k refl (ap (nat_le (2 ^ d.bits)) (word_value d.bits d.polarity mem.polarity) ∙ lt-leb (2 ^ d.bits) d.polarity mem.polarity) refl
-    (λ j l. row_within s d.bits j (omega arith) small) (words_within s.width d.bits d.backgrounds mem.tested.fit)) in
-    subst (λ (size : ℕ). too_wide (statements d plain k) s.width size ≡ None) (sym e) whole
+    later_pass (is_too_wide s.width d.bits) d plain k refl (ap (nat_le (2 ^ d.bits)) (word_value d.bits d.polarity mem.polarity) ∙ lt-leb (2 ^ d.bits) d.polarity mem.polarity) refl
+    (λ j l. row_within s d.bits j (omega arith) small) (words_within s.width d.bits d.backgrounds mem.tested.fit)
 
 -- ---- the scrambling
 
@@ -165,31 +144,24 @@ power_by_rows d mem e false p =
 -- of a scrambling that is printed, or not
 pub record Given (d : Description) (plain : Bool) (k : ℕ) : Type 0 where
   few : k ≤ d.scramble.width
-  rows_allowed : unscramblable (statements d plain k) ≡ None
-  scrambles : Scrambles (statements d plain k) d.scramble.width (Ok d.scramble)
+  scramblable : is_scrambled (statements d plain k) ≡ true → is_power_of_two (words_said (statements d plain k)) ≡ true
+  scrambling : IsScrambling (statements d plain k) d.scramble.width d.scramble
 
 given_identity : (d : Description) (plain : Bool) → IsFull d.scramble → is_identity d.scramble ≡ true → Given d plain 0
-given_identity d true full e =
-    let same : d.scramble ≡ identity d.scramble.width = identity_by_rows d.scramble full.count e in
-    record { few = omega arith; rows_allowed = refl; scrambles = ap (λ (s : Scrambling). Ok s) same }
-given_identity d false full e =
-    let same : d.scramble ≡ identity d.scramble.width = identity_by_rows d.scramble full.count e in
-    record { few = omega arith; rows_allowed = refl; scrambles = ap (λ (s : Scrambling). Ok s) same }
+given_identity d true full e = record { few = omega arith; scramblable = λ h. (let f : false ≡ true = h in let z : ⊥ = cc in absurd z); scrambling = identity_by_rows d.scramble full.count e }
+given_identity d false full e = record { few = omega arith; scramblable = λ h. (let f : false ≡ true = h in let z : ⊥ = cc in absurd z); scrambling = identity_by_rows d.scramble full.count e }
 
 given_rows : (d : Description) (plain : Bool) → IsMemory d → IsFull d.scramble → d.scramble.width ≤ 16 → is_identity d.scramble ≡ false → Given d plain d.scramble.width
 given_rows d plain mem full small e =
     let s = d.scramble in
     let ss = statements d plain s.width in
-    let some : is_scrambled ss ≡ true = some_rows d plain s.width mem.address.positive in
-    let power : is_power_of_two (words_said ss) ≡ true = ap is_power_of_two (words_are_said d s.width mem plain) ∙ power_by_rows d mem e (is_power_of_two d.words) refl in
-    let r : Result Scrambling MemoryFault = Ok s in
+    let same : matrix_said ss s.width ≡ s = matrix_is d plain full small in
     record {
       few = omega arith;
-      rows_allowed = ap₂ (λ (a b : Bool). if a && not b then Some ScrambleNeedsPowerOfTwo else None) some power;
-      scrambles =
-          subst (λ (b : Bool). MatchBool b (Unless (missing_row ss s.width) r (Inverts (matrix_said ss s.width) r)) (r ≡ Ok (identity s.width))) (sym some)
-          (subst (λ (o : Option MemoryFault). Unless o r (Inverts (matrix_said ss s.width) r)) (sym (no_row_missing d plain s.width s.width (omega arith) small))
-          (subst (λ (m : Scrambling). Inverts m r) (sym (matrix_is d plain full small)) (mem.invertible, refl)));
+      scramblable = λ _. ap is_power_of_two (words_are_said d s.width mem plain) ∙ power_by_rows d mem e (is_power_of_two d.words) refl;
+      scrambling =
+          subst (λ (b : Bool). MatchBool b (((i : ℕ) → i < s.width → IsSome (about (Row i) ss)) × IsInvertible (matrix_said ss s.width) × (s ≡ matrix_said ss s.width)) (s ≡ identity s.width))
+          (sym (some_rows d plain s.width mem.address.positive)) (λ i h. row_there d plain s.width i h small, subst IsInvertible (sym same) mem.invertible, sym same);
     }
 
 given_by_test : (d : Description) (plain : Bool) → IsMemory d → IsFull d.scramble → d.scramble.width ≤ 16 → (t : Bool) → is_identity d.scramble ≡ t
@@ -199,22 +171,11 @@ given_by_test d plain mem full small false e = given_rows d plain mem full small
 
 -- ---- the whole
 
-tests_are : (d : Description) (plain : Bool) (k : ℕ) → IsMemory d → StatesBackgrounds (statements d plain k) (Ok d.backgrounds)
-tests_are d plain k mem =
-    let ss = statements d plain k in
-    let set = d.backgrounds in
-    let r : Result (List ℕ) MemoryFault = Ok set in (
-      set,
-      subst (λ (o : Option Content). AreBackgrounds o (bits_said ss) set) (sym (backgrounds_are_said d k mem plain)) (sym (words_are d.bits set mem.tested.fit)),
-      subst (λ (o : Option MemoryFault). Unless o r (Unless (without_solid set) r (r ≡ Ok set))) (sym (few_enough set mem.tested.few))
-          (subst (λ (o : Option MemoryFault). Unless o r (r ≡ Ok set)) (sym (solid_enough set mem.tested.solid)) refl),
-    )
-
-described_as : List ℕ → Scrambling → List ℕ → ℕ → ℕ → ℕ → ℕ → ℕ → Result Description MemoryFault
-described_as n s set w b l p z = Ok (assembled n w b l p z s set)
+described_as : List ℕ → Scrambling → List ℕ → ℕ → ℕ → ℕ → ℕ → ℕ → Description
+described_as n s set w b l p z = assembled n w b l p z s set
 
 same_description : (d : Description) (plain : Bool) (k : ℕ) → IsMemory d → IsEnough d plain
-    → described_as d.name d.scramble d.backgrounds d.words d.bits d.latency d.polarity d.pause ≡ Ok (described (statements d plain k) d.scramble d.backgrounds)
+    → described_as d.name d.scramble d.backgrounds d.words d.bits d.latency d.polarity d.pause ≡ described (statements d plain k) d.scramble d.backgrounds
 unfolding described_as
 same_description d plain k mem enough =
     let at = described_as d.name d.scramble d.backgrounds in
@@ -223,42 +184,30 @@ same_description d plain k mem enough =
     ∙ ap₂ (λ (l p : ℕ). at (words_said ss) (bits_said ss) l p d.pause) (sym (latency_is_said d k mem plain enough)) (sym (polarity_is_said d k mem plain enough))
     ∙ ap (λ (z : ℕ). at (words_said ss) (bits_said ss) (latency_said ss) (polarity_said ss) z) (sym (pause_is_said d k mem plain enough))
 
--- what is left once no line is refused
-abbrev Tested : List Statement → Result Description MemoryFault → Scrambling → Type 0
-Tested ss r s =
-    (tests : Result (List ℕ) MemoryFault) × StatesBackgrounds ss tests × MatchResult tests
-    (λ set. r ≡ Ok (described ss s set))
-    (λ fault. r ≡ Err fault)
-
-abbrev Scrambled : List Statement → ℕ → Result Description MemoryFault → Type 0
-Scrambled ss width r =
-    (scrambling : Result Scrambling MemoryFault) × Scrambles ss width scrambling × MatchResult scrambling (Tested ss r) (λ fault. r ≡ Err fault)
-
-builds_it : (d : Description) (plain : Bool) (k : ℕ) → IsMemory d → IsEnough d plain → d.scramble.width ≤ 16 → Given d plain k → Builds (statements d plain k) d.scramble.width (Ok d)
+describes_with : (d : Description) (plain : Bool) (k : ℕ) → IsMemory d → IsEnough d plain → d.scramble.width ≤ 16 → Given d plain k → AreOfMemory (statements d plain k) d
 unfolding described_as
-builds_it d plain k mem enough small given =
-    let ss = statements d plain k in
-    let w = d.scramble.width in
-    let r : Result Description MemoryFault = Ok d in
-    subst (λ (o : Option MemoryFault). Unless o r (Unless (too_wide ss w (bits_said ss)) r (Scrambled ss w r))) (sym given.rows_allowed)
-    (subst (λ (o : Option MemoryFault). Unless o r (Scrambled ss w r)) (sym (none_too_wide d plain k (bits_said ss) mem small given.few (bits_are_said d k mem plain)))
-    (Ok d.scramble, given.scrambles, (Ok d.backgrounds, tests_are d plain k mem, same_description d plain k mem enough)))
-
--- what is left once each statement is in range
-abbrev Wide : List Statement → Result Description MemoryFault → Type 0
-Wide ss r = (width : ℕ) × IsWidthOf (words_said ss - 1) width × Builds ss width r
-
-pub describes_with : (d : Description) (plain : Bool) (k : ℕ) → IsMemory d → IsEnough d plain → d.scramble.width ≤ 16 → Given d plain k → Describes (statements d plain k) (Ok d)
 describes_with d plain k mem enough small given =
     let ss = statements d plain k in
-    let r : Result Description MemoryFault = Ok d in
     let few = given.few in
-    subst (λ (o : Option MemoryFault). Unless o r (Unless (out_of_range ss) r (Wide ss r))) (sym (not_repeated ss (all_distinct d plain k (omega arith))))
-    (subst (λ (o : Option MemoryFault). Unless o r (Wide ss r)) (sym (all_in_range d plain k mem)) (
-      d.scramble.width,
-      subst (λ (n : ℕ). IsWidthOf (n - 1) d.scramble.width) (sym (words_are_said d k mem plain)) mem.address,
-      builds_it d plain k mem enough small given,
-    ))
+    record {
+      once = no_repeat ss (all_distinct d plain k (omega arith));
+      has_name = refl;
+      has_words = refl;
+      has_bits = refl;
+      in_range = all_in_range d plain k mem;
+      width = d.scramble.width;
+      addresses = subst (λ (n : ℕ). IsWidthOf (n - 1) d.scramble.width) (sym (words_are_said d k mem plain)) mem.address;
+      fit = subst (λ (size : ℕ). find (λ t. is_too_wide d.scramble.width size t.content) ss ≡ None) (sym (bits_are_said d k mem plain)) (none_too_wide d plain k mem small few);
+      scramblable = given.scramblable;
+      scrambling = d.scramble;
+      is_scrambling = given.scrambling;
+      set = d.backgrounds;
+      are_backgrounds =
+          subst (λ (o : Option Content). AreBackgrounds o (bits_said ss) d.backgrounds) (sym (backgrounds_are_said d k mem plain)) (sym (words_are d.bits d.backgrounds mem.tested.fit));
+      few = mem.tested.few;
+      solid = mem.tested.solid;
+      described_as = same_description d plain k mem enough;
+    }
 
 enough_by_test : (d : Description) → IsEnough d (is_plain d)
 enough_by_test d e =
@@ -266,6 +215,6 @@ enough_by_test d e =
     let inner = and_parts (d.latency == 1) (d.polarity == 0) outer.0 in
     (eqb-true d.latency 1 inner.0, eqb-true d.polarity 0 inner.1, eqb-true d.pause 1 outer.1)
 
-pub describes_it : (d : Description) → IsMemory d → IsFull d.scramble → d.scramble.width ≤ 16 → Describes (statements d (is_plain d) (rows_printed d.scramble)) (Ok d)
+pub describes_it : (d : Description) → IsMemory d → IsFull d.scramble → d.scramble.width ≤ 16 → AreOfMemory (statements d (is_plain d) (rows_printed d.scramble)) d
 describes_it d mem full small =
     describes_with d (is_plain d) (rows_printed d.scramble) mem (enough_by_test d) small (given_by_test d (is_plain d) mem full small (is_identity d.scramble) refl)

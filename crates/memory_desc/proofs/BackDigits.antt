@@ -1,19 +1,10 @@
 -- Numbers as they are printed are numbers as they are read.
-use Rattle.std.proofs.Common.{◌≡◌, ℕ, zero, suc, ◌/◌, ◌%◌, ◌^◌, ◌<◌, ◌≤◌, true, false, List, [], ◌∷◌, ◌∙◌, length, refl, sym, arith, lit<, length-append}
-use Rattle.std.specs.Prelude.{decimal, nat_le}
-use Rattle.std.specs.List.{list_all}
-use Rattle.std.specs.Char.{digit_value}
+use Rattle.memory_desc.proofs.Common.{AllDigits, List, [], and_from, arith, decimal, digit_value, digits_value, false, hex_digits, is_digit, is_hex, is_number, le-leb, length, length-append, list_all, list_all-append, lit<, nat_le, pow-suc, refl, suc, sym, true, zero, ℕ, ◌%◌, ◌/◌, ◌<◌, ◌^◌, ◌∙◌, ◌∷◌, ◌≡◌, ◌≤◌}
 use Rattle.std.specs.Fmt.{digit_glyph}
-use Rattle.std.specs.Str.Parse.{digits_value, AllDigits}
-use Rattle.std.proofs.Math.Nat.{pow-suc}
-use Rattle.std.proofs.lemmas.Bool.{and_from, le-leb}
 use Rattle.std.proofs.lemmas.Fmt.{decimal_is_IsNumeral, length-decimal-le, decimal_nonempty}
 use Rattle.std.proofs.lemmas.Int.Digits.{digits_value_push}
-use Rattle.std.proofs.lemmas.List.Folds.{list_all-append}
 use Rattle.std.proofs.lemmas.Str.Parse.{digit_from_value}
-use Rattle.bist_text.specs.Numbers.{hex_digits}
-use Rattle.memory_desc.specs.Names.{is_digit}
-use Rattle.memory_desc.specs.LineText.{is_hex, is_number, is_word}
+use Rattle.memory_desc.specs.LineText.{is_word}
 
 -- ---- decimal
 

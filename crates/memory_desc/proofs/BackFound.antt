@@ -1,20 +1,9 @@
 -- What is found among the statements of a printed memory.
-use Rattle.std.proofs.Common.{◌≡◌, ℕ, zero, suc, ◌+◌, ◌<◌, ◌≤◌, ◌==◌, Bool, true, false, not, cond, List, [], ◌∷◌, ◌++◌, ◌∙◌, Option, Some, None, refl, sym, ap, arith, inl, inr}
-use Rattle.std.specs.Prelude.{decimal, find}
-use Rattle.std.specs.Int.{bit_at}
-use Rattle.std.specs.Str.Parse.{digits_value}
-use Rattle.std.proofs.Math.Path.{ap₂}
-use Rattle.std.proofs.lemmas.Bool.{cases_lt, eq-eqb}
-use Rattle.std.proofs.lemmas.Bool.Decides.{eqb_tells}
-use Rattle.scrambler.specs.Scrambling.{Scrambling, row}
-use Rattle.memory_desc.specs.LineText.{Content, scramble, backgrounds}
-use Rattle.memory_desc.specs.Statements.{Statement}
-use Rattle.memory_desc.specs.Subjects.{subject, is_same, is_about, content_of, said}
-use Rattle.memory_desc.specs.Table.{is_other, is_repeat, repeated, at_line, unless_there}
-use Rattle.memory_desc.specs.declared.content.Subject.{Subject}
+use Rattle.memory_desc.proofs.Common.{Bool, Content, List, None, Option, Scrambling, Some, Statement, Subject, [], ap, ap₂, arith, backgrounds, bit_at, cases_lt, cond, content_of, decimal, digits_value, eq-eqb, eqb_tells, false, find, inl, inr, is_about, is_other, is_same, not, refl, scramble, subject, suc, sym, true, zero, ℕ, ◌++◌, ◌+◌, ◌<◌, ◌==◌, ◌∙◌, ◌∷◌, ◌≡◌, ◌≤◌}
+use Rattle.scrambler.specs.Scrambling.{row}
+use Rattle.memory_desc.specs.Subjects.{said}
+use Rattle.memory_desc.specs.Table.{is_repeat}
 use Rattle.memory_desc.specs.declared.content.Subject.TheVariants.{Row, Backgrounds}
-use Rattle.memory_desc.specs.declared.fault.MemoryFault.{MemoryFault}
-use Rattle.memory_desc.specs.declared.fault.MemoryFault.TheVariants.{Repeated}
 use Rattle.memory_desc.proofs.Repeats.{self_same}
 use Rattle.memory_desc.proofs.BackLines.{numbered}
 use Rattle.memory_desc.proofs.BackDigits.{decimal_value}
@@ -43,13 +32,10 @@ itself t ss =
     ap (λ (b : Bool). is_other t.line (cond b (Some t) (find (is_about (subject t.content)) ss))) (self_same (subject t.content))
     ∙ ap not (eq-eqb t.line t.line refl)
 
-no_repeat : (ss : List Statement) → Distinct ss → find (is_repeat ss) ss ≡ None
+pub no_repeat : (ss : List Statement) → Distinct ss → find (is_repeat ss) ss ≡ None
 no_repeat [] h = refl
 no_repeat (t ∷ ss) h =
     ap (λ (b : Bool). cond b (Some t) (find (is_repeat (t ∷ ss)) ss)) (itself t ss) ∙ another t ss ss h.0 ∙ no_repeat ss h.1
-
-pub not_repeated : (ss : List Statement) → Distinct ss → repeated ss ≡ None
-not_repeated ss h = ap (at_line (λ n. Repeated n)) (no_repeat ss h)
 
 -- ---- the rows
 
@@ -120,11 +106,6 @@ pub unsaid : (q : Subject) (s : Scrambling) (n i k : ℕ) (ws : List (List ℕ))
 unsaid q s n i zero ws f g = later q (record { line = n; content = backgrounds ws }) [] g
 unsaid q s n i (suc k) ws f g =
     later q (record { line = n; content = row_content s i }) (numbered (n + 1) (body s (i + 1) k ws)) (f (digits_value 10 (decimal i))) ∙ unsaid q s (n + 1) (i + 1) k ws f g
-
--- what is said is there
-pub is_there : (fault : MemoryFault) (o : Option Statement) (c : Content) → content_of o ≡ Some c → unless_there fault o ≡ None
-is_there fault None c e = let z : ⊥ = cc in absurd z
-is_there fault (Some s) c e = refl
 
 -- ---- no statement that is refused
 

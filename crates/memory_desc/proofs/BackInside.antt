@@ -1,21 +1,8 @@
 -- No line feed stands inside a printed line, and the lines make up the text.
-use Rattle.std.proofs.Common.{◌≡◌, ℕ, zero, suc, ◌+◌, ◌/◌, ◌<◌, Bool, true, false, not, if◌then◌else◌, List, [], ◌∷◌, ◌++◌, ◌∙◌, map, refl, sym, ap, arith, append_assoc, codes}
-use Rattle.std.specs.Prelude.{decimal}
-use Rattle.std.specs.Int.{bit_at}
-use Rattle.std.specs.List.{list_all}
-use Rattle.std.proofs.Math.Nat.{zero-add}
-use Rattle.std.proofs.Math.Path.{ap₂}
-use Rattle.std.proofs.lemmas.Bool.{and_parts, and_from}
-use Rattle.std.proofs.lemmas.List.Folds.{list_all-append}
-use Rattle.bist_text.specs.Numbers.{hex_digits}
-use Rattle.scrambler.specs.Scrambling.{Scrambling, row, is_identity}
-use Rattle.memory_desc.specs.Descriptions.{Description}
-use Rattle.memory_desc.specs.Names.{is_digit, is_letter, is_name_byte, is_identifier}
-use Rattle.memory_desc.specs.LineText.{Term, index_bit, constant, is_hex, is_term, term_text}
-use Rattle.memory_desc.specs.Printed.{joined, row_terms, row_line, row_lines, background_texts, backgrounds_line, number_line, name_line, size_lines, is_plain, version_text, polarity_line, port_lines, later_lines, head_lines, printed}
+use Rattle.memory_desc.proofs.Common.{Bool, Description, List, Scrambling, Term, [], and_from, and_parts, ap, apart, append_assoc, ap₂, arith, background_texts, backgrounds_line, bit_at, codes, constant, decimal, false, head_lines, hex_digits, if◌then◌else◌, index_bit, is_digit, is_hex, is_identifier, is_identity, is_letter, is_name_byte, is_plain, is_term, joined, later_lines, list_all, list_all-append, map, name_line, not, number_line, polarity_line, port_lines, printed, refl, row_line, row_lines, row_terms, size_lines, suc, sym, term_text, true, version_text, zero, zero-add, ℕ, ◌++◌, ◌+◌, ◌/◌, ◌<◌, ◌∙◌, ◌∷◌, ◌≡◌}
+use Rattle.scrambler.specs.Scrambling.{row}
 use Rattle.memory_desc.proofs.BackDigits.{decimal_digits, hex_digits_hex}
 use Rattle.memory_desc.proofs.BackLines.{is_inside, with_feeds, with_feeds_more}
-use Rattle.bist_text.proofs.LinePieces.{apart}
 
 -- ---- no line feed
 

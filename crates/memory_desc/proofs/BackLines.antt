@@ -1,11 +1,7 @@
 -- A text of lines that each end with a line feed, and what its lines say.
-use Rattle.std.proofs.Common.{◌≡◌, ℕ, ◌+◌, Bool, true, false, not, cond, List, [], ◌∷◌, ◌++◌, ◌∙◌, length, Some, refl, sym, ap, append_assoc}
-use Rattle.std.proofs.lemmas.Bool.{and_parts}
-use Rattle.std.specs.Char.{is_newline}
-use Rattle.std.specs.List.{slice_split, onto_first, list_all}
-use Rattle.bist_text.specs.Lines.{TextLine, lines_of_parts, lines_from}
-use Rattle.memory_desc.specs.LineText.{Content, ContentText}
-use Rattle.memory_desc.specs.Statements.{Statement, Say}
+use Rattle.memory_desc.proofs.Common.{Bool, Content, ContentText, List, MatchResult, None, Option, Say, Some, Statement, TextLine, [], and_parts, ap, append_assoc, cond, false, gives, inr, is_newline, length, lines_from, lines_of_parts, list_all, not, onto_first, refl, slice_split, stands, subst, sym, true, version, version_in, ℕ, ◌++◌, ◌+◌, ◌∙◌, ◌∷◌, ◌≡◌}
+use Rattle.memory_desc.specs.Statements.{stated}
+use Rattle.memory_desc.specs.declared.content.Version.{Version}
 
 -- a line of text has no line feed
 abbrev pub is_inside : ℕ → Bool
@@ -67,10 +63,30 @@ first_line number start x rest h =
     ap (lines_of_parts number start) (first_part x rest h ∙ ap (λ (p : List (List ℕ)). x ∷ p) some.2)
     ∙ ap (λ (p : List (List ℕ)). whole_line number start x ∷ lines_of_parts (number + 1) (start + length x + 1) p) (sym some.2)
 
-pub lines_say : (number start : ℕ) (xs : List (List ℕ)) (cs : List Content) → Written xs cs → Say (lines_from number start (with_feeds xs)) (numbered number cs)
-lines_say number start [] [] h = refl
-lines_say number start [] (c ∷ cs) h = absurd h
-lines_say number start (x ∷ xs) [] h = absurd h
-lines_say number start (x ∷ xs) (c ∷ cs) h =
+-- what lines say where a version is known, and may stand there
+abbrev Says : List TextLine → Option Version → List Statement → Type 0
+Says = Say ContentText stands version_in stated
+
+lines_say : (v : Version) (number start : ℕ) (xs : List (List ℕ)) (cs : List Content) → Written xs cs → list_all (stands (Some v)) cs ≡ true
+    → Says (lines_from number start (with_feeds xs)) (Some v) (numbered number cs)
+lines_say v number start [] [] h t = refl
+lines_say v number start [] (c ∷ cs) h t = absurd h
+lines_say v number start (x ∷ xs) [] h t = absurd h
+lines_say v number start (x ∷ xs) (c ∷ cs) h t =
+    let p = and_parts (stands (Some v) c) (list_all (stands (Some v)) cs) t in
     rw (first_line number start x (with_feeds xs) h.0)
-    (Some c, numbered (number + 1) cs, h.1, lines_say (number + 1) (start + length x + 1) xs cs h.2, refl)
+    (Some c, numbered (number + 1) cs, inr (c, p.0, refl, h.1), lines_say v (number + 1) (start + length x + 1) xs cs h.2 p.1, refl)
+
+-- the same behind a line that gives the version
+pub lines_open : (v : Version) (ds : List ℕ) (number start : ℕ) (xs : List (List ℕ)) (cs : List Content) → version_in (version ds) ≡ Some v → Written xs (version ds ∷ cs)
+    → list_all (stands (Some v)) cs ≡ true → Says (lines_from number start (with_feeds xs)) None (numbered number (version ds ∷ cs))
+lines_open v ds number start [] cs e h t = absurd h
+lines_open v ds number start (x ∷ xs) cs e h t =
+    rw (first_line number start x (with_feeds xs) h.0) (
+      Some (version ds),
+      numbered (number + 1) cs,
+      inr (version ds, refl, refl, h.1),
+      subst (λ (o : Option Version). MatchResult (gives o) (λ next. Says (lines_from (number + 1) (start + length x + 1) (with_feeds xs)) next (numbered (number + 1) cs)) (λ fault. ⊥)) (sym e)
+          (lines_say v (number + 1) (start + length x + 1) xs cs h.2 t),
+      refl,
+    )

@@ -1,11 +1,7 @@
 -- Scramblings that change nothing, and the rows of one that is invertible.
-use Rattle.std.proofs.Common.{◌≡◌, ℕ, ◌^◌, ◌<◌, ◌∙◌, sym, ap, arith}
-use Rattle.std.specs.Int.{bit_at}
-use Rattle.std.proofs.Math.Pow.{pow-lt}
-use Rattle.std.proofs.lemmas.Nat.Bits.{bit_at-pow_same}
+use Rattle.memory_desc.proofs.Common.{IsInvertible, Scrambling, ap, arith, bit_at, bit_at-number, bit_at-pow_same, dot-zero_left, dot_below, pow-lt, product, sym, ℕ, ◌<◌, ◌^◌, ◌∙◌, ◌≡◌}
 use Rattle.scrambler.specs.Linear.{dot}
-use Rattle.scrambler.specs.Scrambling.{Scrambling, row, product, IsInvertible}
-use Rattle.scrambler.proofs.LinearLemmas.{dot_below, dot-zero_left, bit_at-number}
+use Rattle.scrambler.specs.Scrambling.{row}
 
 -- ---- no row of an invertible matrix is empty
 

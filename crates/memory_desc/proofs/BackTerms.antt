@@ -1,22 +1,6 @@
 -- The terms of a printed row name its bits.
-use Rattle.std.proofs.Common.{◌≡◌, ℕ, zero, suc, ◌*◌, ◌^◌, ◌<◌, ◌≤◌, ◌==◌, ◌||◌, Bool, true, false, if◌then◌else◌, List, [], ◌∷◌, ◌++◌, ◌∙◌, map, refl, sym, ap, subst, arith, inl, inr, bit_xor, append_assoc}
-use Rattle.std.specs.Prelude.{decimal, nat_le}
-use Rattle.std.specs.Int.{bit_at, from_bool}
-use Rattle.std.specs.Int.Bits.{xor_shifted, xor_assoc, xor_zero_r}
-use Rattle.std.specs.List.{list_all, list_any}
-use Rattle.std.specs.Str.Parse.{digits_value}
-use Rattle.std.proofs.Math.Nat.{zero-mul, one-mul}
-use Rattle.std.proofs.lemmas.Bool.{and_from, lt-leb}
-use Rattle.std.proofs.lemmas.List.{map-append}
-use Rattle.std.proofs.lemmas.List.Folds.{list_all-append, list_any-append}
-use Rattle.std.proofs.lemmas.Nat.{xor_comm}
-use Rattle.std.proofs.lemmas.Nat.Bits.{bit_at-lt}
+use Rattle.memory_desc.proofs.Common.{Bool, List, Term, [], and_from, ap, append_assoc, arith, bit_at, bit_at-lt, bit_xor, constant, constant_of, decimal, digits_value, false, from_bool, if◌then◌else◌, index_bit, index_bits, index_terms, inl, inr, is_term, is_term_too_wide, list_all, list_all-append, list_any, list_any-append, lt-leb, map, map-append, nat_le, number-below, number-bits, one-mul, refl, row_terms, subst, suc, sym, term_text, true, two_digits, xor_assoc, xor_comm, xor_shifted, xor_zero_r, zero, zero-mul, ℕ, ◌*◌, ◌++◌, ◌<◌, ◌==◌, ◌^◌, ◌||◌, ◌∙◌, ◌∷◌, ◌≡◌, ◌≤◌}
 use Rattle.scrambler.specs.Linear.{number}
-use Rattle.scrambler.proofs.LinearLemmas.{two_digits, number-below, number-bits}
-use Rattle.memory_desc.specs.LineText.{Term, index_bit, constant, is_term, term_text}
-use Rattle.memory_desc.specs.Printed.{index_terms, row_terms}
-use Rattle.memory_desc.specs.Table.{is_term_too_wide}
-use Rattle.memory_desc.specs.Values.{index_bits, constant_of}
 use Rattle.memory_desc.proofs.BackDigits.{decimal_value, decimal_number}
 
 -- the index bit n, where it is named

@@ -1,16 +1,7 @@
 -- Each printed line is a line of the grammar.
-use Rattle.std.proofs.Common.{◌≡◌, ℕ, ◌+◌, ◌/◌, ◌<◌, ◌≤◌, true, List, [], ◌∷◌, ◌++◌, map, refl, subst, inr, append-nil, codes, arith}
-use Rattle.std.specs.Prelude.{decimal}
-use Rattle.std.specs.List.{list_all}
-use Rattle.std.proofs.lemmas.Bool.{and_from}
-use Rattle.bist_text.specs.Grammar.{byte, word, is_blank}
-use Rattle.bist_text.specs.Numbers.{hex_digits}
-use Rattle.bist_text.proofs.Pieces.{many_none, word_on}
-use Rattle.memory_desc.specs.Names.{is_identifier}
-use Rattle.memory_desc.specs.LineText.{Term, Content, version, name, words, bits, latency, polarity, pause, scramble, backgrounds, is_word, is_term, is_formed, term_text, more_terms, equation, more_words, argument, key_text, kind_of, ContentText}
-use Rattle.memory_desc.specs.Printed.{joined, background_texts}
+use Rattle.memory_desc.proofs.Common.{Content, ContentText, List, Term, [], and_from, append-nil, argument, arith, background_texts, backgrounds, bits, byte, codes, decimal, equation, gap, hex_digits, inr, is_blank, is_formed, is_identifier, is_term, joined, key_text, kind_of, latency, list_all, many_none, map, more_terms, more_words, name, pause, polarity, refl, scramble, space, subst, tail, term_text, true, version, word, word_on, words, ℕ, ◌++◌, ◌+◌, ◌/◌, ◌<◌, ◌∷◌, ◌≡◌, ◌≤◌}
+use Rattle.memory_desc.specs.LineText.{is_word}
 use Rattle.memory_desc.proofs.BackDigits.{decimal_number, hex_word}
-use Rattle.bist_text.specs.LineGrammar.{space, gap, tail}
 
 -- a word at a line's end
 word_last : (w : List ℕ) (K : List ℕ → Type 0) → K [] → word w K w

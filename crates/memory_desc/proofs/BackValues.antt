@@ -1,29 +1,16 @@
 -- The values that the statements of a printed memory give.
-use Rattle.std.proofs.Common.{◌≡◌, ℕ, zero, suc, ◌+◌, ◌/◌, ◌^◌, ◌<◌, ◌≤◌, ◌==◌, ◌||◌, Bool, true, false, if◌then◌else◌, List, [], ◌∷◌, ◌++◌, ◌∙◌, length, take, slice_index, map, Some, None, refl, sym, ap, arith}
-use Rattle.std.specs.Prelude.{decimal, nat_le, All, Contains}
-use Rattle.std.specs.Int.{bit_at, from_bool}
-use Rattle.std.specs.List.{list_any}
-use Rattle.std.specs.Str.Parse.{digits_value}
-use Rattle.std.proofs.Math.Path.{ap₂}
-use Rattle.std.proofs.lemmas.Bool.{lt-leb, eq-eqb}
-use Rattle.std.proofs.lemmas.List.{take_more, take_all}
-use Rattle.std.proofs.lemmas.Nat.Bits.{bit_at-lt}
+use Rattle.memory_desc.proofs.Common.{All, Bool, Content, Description, IsFull, IsSome, List, Scrambling, Some, Statement, [], about, ap, ap₂, arith, backgrounds, bit_at, bit_at-lt, bits, constant_of, decimal, digits_value, false, from_bool, index_bits, is_row, is_term_too_wide, latency, list_any, lt-leb, map, matrix_said, name, nat_le, number-bits, pause, polarity, refl, rows_said, suc, sym, take, take_all, take_more, terms_in, terms_said, true, version, word_values, words, zero, ℕ, ◌++◌, ◌+◌, ◌/◌, ◌<◌, ◌^◌, ◌∙◌, ◌∷◌, ◌≡◌, ◌≤◌}
 use Rattle.scrambler.specs.Linear.{number}
-use Rattle.scrambler.specs.Scrambling.{Scrambling, IsFull, row}
-use Rattle.scrambler.proofs.LinearLemmas.{number_same, number-bits}
-use Rattle.memory_desc.specs.Descriptions.{Description}
-use Rattle.memory_desc.specs.LineText.{Content, version, name, words, bits, latency, polarity, pause, backgrounds}
-use Rattle.memory_desc.specs.Statements.{Statement}
-use Rattle.memory_desc.specs.Subjects.{said, about}
-use Rattle.memory_desc.specs.Values.{index_bits, constant_of, terms_in, terms_said, rows_said, matrix_said, word_values}
-use Rattle.memory_desc.specs.Table.{is_row, is_scrambled, is_too_wide, is_term_too_wide, missing_row, first_refusal, too_many, without_solid}
+use Rattle.scrambler.specs.Scrambling.{row}
+use Rattle.scrambler.proofs.LinearLemmas.{number_same}
+use Rattle.memory_desc.specs.Subjects.{said}
+use Rattle.memory_desc.specs.Table.{is_scrambled, is_too_wide}
 use Rattle.memory_desc.specs.declared.content.Subject.TheVariants.{Row}
-use Rattle.memory_desc.specs.declared.fault.Field.TheVariants.{Row as RowField}
-use Rattle.memory_desc.specs.declared.fault.MemoryFault.TheVariants.{Missing, TooManyBackgrounds, NoSolidBackground}
 use Rattle.bist_text.proofs.Powers.{word_digits}
+use Rattle.memory_desc.proofs.Checks.{said_there}
 use Rattle.memory_desc.proofs.BackLines.{numbered}
 use Rattle.memory_desc.proofs.BackDigits.{decimal_value, hex_digits_value}
-use Rattle.memory_desc.proofs.BackFound.{row_content, body, said_row, is_there}
+use Rattle.memory_desc.proofs.BackFound.{row_content, body, said_row}
 use Rattle.memory_desc.proofs.BackTerms.{terms_of, terms_bits, terms_constant, terms_within, neither_too_wide}
 use Rattle.memory_desc.proofs.BackTexts.{digits_of_word}
 
@@ -64,11 +51,8 @@ terms_here : (d : Description) (plain : Bool) (k j : ℕ) → j < k → k ≤ 16
     → terms_said (statements d plain k) j ≡ terms_of (row d.scramble j) (bit_at d.scramble.constant j) d.scramble.width
 terms_here d plain k j h small = ap terms_in (said_here d plain k j h small)
 
-pub no_row_missing : (d : Description) (plain : Bool) (k n : ℕ) → n ≤ k → k ≤ 16 → missing_row (statements d plain k) n ≡ None
-no_row_missing d plain k zero h small = refl
-no_row_missing d plain k (suc n) h small =
-    ap₂ first_refusal (no_row_missing d plain k n (omega arith) small)
-    (is_there (Missing (RowField n)) (about (Row n) (statements d plain k)) (row_content d.scramble n) (said_here d plain k n (omega arith) small))
+pub row_there : (d : Description) (plain : Bool) (k j : ℕ) → j < k → k ≤ 16 → IsSome (about (Row j) (statements d plain k))
+row_there d plain k j h small = said_there (about (Row j) (statements d plain k)) (row_content d.scramble j) (said_here d plain k j h small)
 
 rows_are : (d : Description) (plain : Bool) (k n : ℕ) → IsFull d.scramble → k ≡ d.scramble.width → k ≤ 16 → n ≤ k → rows_said (statements d plain k) n ≡ take n d.scramble.rows
 rows_are d plain k zero full e small h = refl
@@ -122,18 +106,3 @@ words_within width size (w ∷ ws) h =
     let fits : w < 2 ^ size = h 0 w (omega arith) in
     neither_too_wide (nat_le (2 ^ size) (digits_value 16 (digits_of_word size w))) (is_too_wide width size (backgrounds (map (digits_of_word size) ws)))
     (ap (nat_le (2 ^ size)) (word_value size w fits) ∙ lt-leb (2 ^ size) w fits) (words_within width size ws (λ k x l. h (suc k) x (omega arith)))
-
-pub few_enough : (set : List ℕ) → length set ≤ 8 → too_many set ≡ None
-few_enough set h = ap (λ (b : Bool). if b then Some TooManyBackgrounds else None) (lt-leb (suc 8) (length set) (omega arith))
-
-has_zero : (set : List ℕ) (k : ℕ) → k < length set → slice_index set k ≡ 0 → list_any (λ w. w == 0) set ≡ true
-has_zero [] k h e = absurd (omega arith)
-has_zero (w ∷ ws) zero h e = ap (λ (b : Bool). b || list_any (λ w. w == 0) ws) (eq-eqb w 0 e)
-has_zero (w ∷ ws) (suc k) h e = ap (λ (b : Bool). (w == 0) || b) (has_zero ws k (omega arith) e) ∙ or_true (w == 0)
-  where
-    or_true : (b : Bool) → (b || true) ≡ true
-    or_true true = refl
-    or_true false = refl
-
-pub solid_enough : (set : List ℕ) → Contains set 0 → without_solid set ≡ None
-solid_enough set h = ap (λ (b : Bool). if b then None else Some NoSolidBackground) (has_zero set h.0 h.1 h.2)

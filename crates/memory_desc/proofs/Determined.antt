@@ -1,43 +1,16 @@
 -- A list of statements describes one memory, or is refused in one way.
-use Rattle.std.proofs.Common.{◌≡◌, ℕ, zero, suc, ◌+◌, ◌-◌, ◌*◌, ◌%◌, ◌^◌, ◌<◌, ◌≤◌, Bool, true, false, List, [], ◌∷◌, length, slice_index, Option, Some, None, Result, Ok, Err, refl, sym, ◌∙◌, ap, subst, arith, add-one, bit_xor, inl, inr}
-use Rattle.std.proofs.Math.Path.{ap₂}
-use Rattle.std.proofs.Math.Nat.{zero-mul, one-mul}
-use Rattle.std.proofs.lemmas.Bool.{cases_lt}
-use Rattle.std.proofs.lemmas.Nat.Bits.{same_from_bits_below, bit_at-lt, bit_at_xor}
-use Rattle.std.specs.Prelude.{MatchBool, MatchResult}
-use Rattle.std.specs.Int.{bit_at}
-use Rattle.std.specs.Int.Bits.{xor_self, xor_assoc, xor_comm, xor_zero_l, xor_zero_r}
-use Rattle.bist_bits.specs.Width.{IsWidthOf}
-use Rattle.backgrounds.specs.Backgrounds.{IsLogarithm, IsStripe, IsLogSet}
+use Rattle.memory_desc.proofs.Common.{AreBackgrounds, AreOfMemory, AreRefusedBy, Bool, Contains, Content, DependsOn, Describes, Description, Err, IsLast, IsLeastDependence, IsLogSet, IsLogarithm, IsScrambling, IsStripe, IsWidthOf, List, MemoryFault, Missing, None, Ok, Option, Repeated, Result, ScrambleNeedsPowerOfTwo, Scrambling, Singular, Some, Statement, [], about, add-one, ap, ap₂, arith, backgrounds, bit_at, bit_at-lt, bit_at-number, bit_at_xor, bit_xor, bits_said, cases_lt, described, false, find, if◌then◌else◌, inl, inr, is_power_of_two, length, matrix_said, missing, not, number-below, one-mul, out_of_range, refl, repeated, same_from_bits_below, slice_index, subst, suc, sym, too_wide, true, two_digits, unfit, unrowed, unscramblable, unserved, unsized, word_values, words_said, xor_assoc, xor_comm, xor_self, xor_zero_l, xor_zero_r, zero, zero-mul, ℕ, ◌%◌, ◌&&◌, ◌*◌, ◌+◌, ◌-◌, ◌<◌, ◌^◌, ◌∙◌, ◌∷◌, ◌≡◌, ◌≤◌, ◌⊎◌}
 use Rattle.scrambler.specs.Linear.{number, combination}
-use Rattle.scrambler.specs.Scrambling.{Scrambling, IsLeastDependence, DependsOn, row, identity}
-use Rattle.scrambler.proofs.LinearLemmas.{two_digits, number-below, bit_at-number}
+use Rattle.scrambler.specs.Scrambling.{row}
 use Rattle.scrambler.proofs.ScramblingLemmas.{singular}
-use Rattle.memory_desc.specs.Descriptions.{Description}
-use Rattle.memory_desc.specs.LineText.{Content, backgrounds}
-use Rattle.memory_desc.specs.Statements.{Statement}
+use Rattle.memory_desc.specs.Described.{is_repeat, is_out_of_range, is_too_wide, is_scrambled}
 use Rattle.memory_desc.specs.Subjects.{said}
-use Rattle.memory_desc.specs.Values.{words_said, bits_said, matrix_said, AreBackgrounds}
-use Rattle.memory_desc.specs.Table.{Unless, described, Inverts, Scrambles, StatesBackgrounds, Builds, Describes, repeated, missing, out_of_range, unscramblable, too_wide, is_scrambled, missing_row, too_many, without_solid}
 use Rattle.memory_desc.specs.declared.content.Subject.TheVariants.{Name, Words, Bits, Backgrounds}
 use Rattle.memory_desc.specs.declared.fault.Field.TheVariants.{Name as NameField, Words as WordsField, Bits as BitsField}
-use Rattle.memory_desc.specs.declared.fault.MemoryFault.{MemoryFault}
-use Rattle.memory_desc.specs.declared.fault.MemoryFault.TheVariants.{Singular}
-
--- ---- chains
-
--- both are the refusal, or both are what follows where there is none
-pub unless_one : {A : Type 0} (o : Option MemoryFault) (q r : Result A MemoryFault) (P Q : Type 0) → (P → Q → q ≡ r) → Unless o q P → Unless o r Q → q ≡ r
-unless_one None q r P Q f p s = f p s
-unless_one (Some fault) q r P Q f p s = p ∙ sym s
-
--- both are the fault of what comes first, or both are what follows its value
-pub after_one : {A B : Type 0} (x y : Result A MemoryFault) (q r : Result B MemoryFault) (P Q : A → Type 0) → x ≡ y → ((a : A) → P a → Q a → q ≡ r)
-    → MatchResult x P (λ fault. q ≡ Err fault) → MatchResult y Q (λ fault. r ≡ Err fault) → q ≡ r
-after_one (Ok a) (Ok b) q r P Q e f p s = (let k : b ≡ a = cc in f a p (subst Q k s))
-after_one (Ok a) (Err b) q r P Q e f p s = (let z : ⊥ = cc in absurd z)
-after_one (Err a) (Ok b) q r P Q e f p s = (let z : ⊥ = cc in absurd z)
-after_one (Err a) (Err b) q r P Q e f p s = (let k : a ≡ b = cc in p ∙ ap Err k ∙ sym s)
+use Rattle.memory_desc.specs.declared.fault.MemoryFault.TheVariants.{OutOfRange}
+use Rattle.memory_desc.proofs.Checks.{next, at_none, some_same, there}
+use Rattle.memory_desc.proofs.Chosen.{served}
+use Rattle.memory_desc.proofs.Scrambles.{invertible, no_row_missed, scrambling_one}
 
 -- ---- widths
 
@@ -81,13 +54,6 @@ pub backgrounds_one : (o : Option Content) (size : ℕ) (xs ys : List ℕ) → A
 backgrounds_one None size xs ys p q = log_set_one size xs ys p q
 backgrounds_one (Some (backgrounds ws)) size xs ys p q = p ∙ sym q
 backgrounds_one o size xs ys p q = log_set_one size xs ys p q
-
-pub tests_one : (ss : List Statement) (q r : Result (List ℕ) MemoryFault) → StatesBackgrounds ss q → StatesBackgrounds ss r → q ≡ r
-tests_one ss q r (xs, p, f) (ys, s, g) =
-    let k : ys ≡ xs = backgrounds_one (said Backgrounds ss) (bits_said ss) ys xs s p in
-    let g' = subst (λ (set : List ℕ). Unless (too_many set) r (Unless (without_solid set) r (r ≡ Ok set))) k g in
-    unless_one (too_many xs) q r (Unless (without_solid xs) q (q ≡ Ok xs)) (Unless (without_solid xs) r (r ≡ Ok xs))
-    (unless_one (without_solid xs) q r (q ≡ Ok xs) (r ≡ Ok xs) (λ a b. a ∙ sym b)) f g'
 
 -- ---- combinations of rows
 
@@ -206,80 +172,86 @@ dependence_one m a b p q =
     (same_sets (row m) p.last p.others q.others (λ j set h f e. p.least j set h (record { below = f; sum = e })) (p.depends.sum ∙ sym d.sum)) in
     p.together ∙ ap₂ (λ (i set : ℕ). 2 ^ i + set) (sym last) others ∙ sym q.together
 
--- ---- the scrambling
-
-pub inverts_one : (m : Scrambling) (q r : Result Scrambling MemoryFault) → Inverts m q → Inverts m r → q ≡ r
-inverts_one m (Ok s) (Ok t) p h = ap Ok (p.1 ∙ sym h.1)
-inverts_one m (Ok s) (Err (Singular rows)) p h = absurd (singular m rows h p.0)
-inverts_one m (Ok s) (Err other) p h = absurd h
-inverts_one m (Err (Singular rows)) (Ok t) p h = absurd (singular m rows p h.0)
-inverts_one m (Err (Singular a)) (Err (Singular b)) p h = ap (λ (rows : ℕ). Err (Singular rows)) (dependence_one m a b p h)
-inverts_one m (Err (Singular rows)) (Err other) p h = absurd h
-inverts_one m (Err other) r p h = absurd p
-
-bool_one : {A : Type 0} (b : Bool) (P Q R S : Type 0) (x y : A) → (P → R → x ≡ y) → (Q → S → x ≡ y) → MatchBool b P Q → MatchBool b R S → x ≡ y
-bool_one true P Q R S x y f g p r = f p r
-bool_one false P Q R S x y f g p r = g p r
-
-pub scrambles_one : (ss : List Statement) (width : ℕ) (q r : Result Scrambling MemoryFault) → Scrambles ss width q → Scrambles ss width r → q ≡ r
-scrambles_one ss width q r p h =
-    let m = matrix_said ss width in
-    bool_one (is_scrambled ss) (Unless (missing_row ss width) q (Inverts m q)) (q ≡ Ok (identity width))
-    (Unless (missing_row ss width) r (Inverts m r)) (r ≡ Ok (identity width)) q r
-    (unless_one (missing_row ss width) q r (Inverts m q) (Inverts m r) (inverts_one m q r)) (λ a b. a ∙ sym b) p h
-
 -- ---- the whole
 
--- what is left of `Builds` once the scrambling is there
-abbrev Finishes : List Statement → Scrambling → Result Description MemoryFault → Type 0
-Finishes ss s r =
-    (tests : Result (List ℕ) MemoryFault) × StatesBackgrounds ss tests × MatchResult tests (λ set.
-    r ≡ Ok (described ss s set))
-    (λ fault. r ≡ Err fault)
+some_one : (o : Option MemoryFault) (f g : MemoryFault) → o ≡ Some f → o ≡ Some g → f ≡ g
+some_one o f g h k = some_same f g (sym h ∙ k)
 
-finishes_one : (ss : List Statement) (s : Scrambling) (q r : Result Description MemoryFault) → Finishes ss s q → Finishes ss s r → q ≡ r
-finishes_one ss s q r (x, tx, f) (y, ty, g) =
-    after_one x y q r (λ set. q ≡ Ok (described ss s set)) (λ set. r ≡ Ok (described ss s set)) (tests_one ss x y tx ty) (λ set a b. a ∙ sym b) f g
+not_both : {A : Type 0} (o : Option MemoryFault) (f : MemoryFault) → o ≡ Some f → o ≡ None → A
+not_both o f h k = (let z : ⊥ = cc in absurd z)
 
--- what is left of it once no row is refused
-abbrev Continues : List Statement → ℕ → Result Description MemoryFault → Type 0
-Continues ss width r =
-    (scrambling : Result Scrambling MemoryFault) × Scrambles ss width scrambling × MatchResult scrambling (λ s. Finishes ss s r) (λ fault. r ≡ Err fault)
+last_one : (ss : List Statement) (width : ℕ) (f g : MemoryFault) → IsLast ss width f → IsLast ss width g → f ≡ g
+last_one ss width f g h k =
+    let m = matrix_said ss width in
+    elim h [
+      | inl a ↦ elim k [ inl b ↦ a.3 ∙ ap Singular (dependence_one m a.0 b.0 a.2 b.2) ∙ sym b.3 | inr b ↦ absurd (singular m a.0 a.2 (b.0 a.1)) ]
+      | inr a ↦ elim k [ inl b ↦ absurd (singular m b.0 b.2 (a.0 b.1)) | inr b ↦ some_one (unserved (said Backgrounds ss)) f g a.1 b.1 ]
+    ]
 
-continues_one : (ss : List Statement) (width : ℕ) (q r : Result Description MemoryFault) → Continues ss width q → Continues ss width r → q ≡ r
-continues_one ss width q r (x, sx, f) (y, sy, g) =
-    after_one x y q r (λ s. Finishes ss s q) (λ s. Finishes ss s r) (scrambles_one ss width x y sx sy) (λ s. finishes_one ss s q r) f g
+refused_one : (ss : List Statement) (f g : MemoryFault) → AreRefusedBy ss f → AreRefusedBy ss g → f ≡ g
+refused_one ss f g h k = elim h [
+  | inl a ↦ elim k [ inl b ↦ some_one (unsized ss) f g a b | inr b ↦ not_both (unsized ss) f a b.0 ]
+  | inr a ↦ elim k [ inl b ↦ not_both (unsized ss) g b a.0 | inr b ↦ sized a.1 a.3 (subst (λ w. Sized w g) (width_one (words_said ss - 1) b.1 a.1 b.2 a.2) b.3) ]
+]
+  where
+    Sized : ℕ → MemoryFault → Type 0
+    Sized w f = (unfit ss w ≡ Some f) ⊎ ((unfit ss w ≡ None) × IsLast ss w f)
 
-pub builds_one : (ss : List Statement) (width : ℕ) (q r : Result Description MemoryFault) → Builds ss width q → Builds ss width r → q ≡ r
-builds_one ss width q r p h =
-    unless_one (unscramblable ss) q r
-    (Unless (too_wide ss width (bits_said ss)) q (Continues ss width q)) (Unless (too_wide ss width (bits_said ss)) r (Continues ss width r))
-    (unless_one (too_wide ss width (bits_said ss)) q r (Continues ss width q) (Continues ss width r) (continues_one ss width q r)) p h
+    sized : (w : ℕ) → Sized w f → Sized w g → f ≡ g
+    sized w h k = elim h [
+      | inl a ↦ elim k [ inl b ↦ some_one (unfit ss w) f g a b | inr b ↦ not_both (unfit ss w) f a b.0 ]
+      | inr a ↦ elim k [ inl b ↦ not_both (unfit ss w) g b a.0 | inr b ↦ last_one ss w f g a.1 b.1 ]
+    ]
 
--- what is left of `Describes` once all the fields are there, and once those before are
-abbrev Fits : List Statement → Result Description MemoryFault → Type 0
-Fits ss r = (width : ℕ) × IsWidthOf (words_said ss - 1) width × Builds ss width r
+memory_one : (ss : List Statement) (d e : Description) → AreOfMemory ss d → AreOfMemory ss e → d ≡ e
+memory_one ss d e m n =
+    let width = width_one (words_said ss - 1) n.width m.width n.addresses m.addresses in
+    let scrambling = scrambling_one ss m.width m.scrambling n.scrambling m.is_scrambling (subst (λ w. IsScrambling ss w n.scrambling) width n.is_scrambling) in
+    m.described_as ∙ ap₂ (described ss) scrambling (backgrounds_one (said Backgrounds ss) (bits_said ss) m.set n.set m.are_backgrounds n.are_backgrounds) ∙ sym n.described_as
 
-abbrev BehindBits : List Statement → Result Description MemoryFault → Type 0
-BehindBits ss r = Unless (out_of_range ss) r (Fits ss r)
+-- statements that describe a memory are not refused
+module _ (ss : List Statement) (d : Description) (m : AreOfMemory ss d) where
+  all_sized : unsized ss ≡ None
+  all_sized =
+      next (repeated ss) (at_none (λ n. Repeated n) (find (is_repeat ss) ss) m.once) ∙ next (missing Name NameField ss) (there (Missing NameField) (about Name ss) m.has_name)
+      ∙ next (missing Words WordsField ss) (there (Missing WordsField) (about Words ss) m.has_words) ∙ next (missing Bits BitsField ss) (there (Missing BitsField) (about Bits ss) m.has_bits)
+      ∙ next (out_of_range ss) (at_none (λ n. OutOfRange n) (find (λ s. is_out_of_range s.content) ss) m.in_range)
 
-abbrev BehindWords : List Statement → Result Description MemoryFault → Type 0
-BehindWords ss r = Unless (missing Bits BitsField ss) r (BehindBits ss r)
+  all_fit : unfit ss m.width ≡ None
+  all_fit =
+      next (unscramblable ss) (none_if (is_scrambled ss) (is_power_of_two (words_said ss)) m.scramblable)
+      ∙ next (too_wide ss m.width (bits_said ss)) (at_none (λ n. OutOfRange n) (find (λ s. is_too_wide m.width (bits_said ss) s.content) ss) m.fit)
+      ∙ next (unrowed ss m.width) (no_row_missed ss m.width m.scrambling m.is_scrambling)
+    where
+      none_if : (rows power : Bool) → (rows ≡ true → power ≡ true) → (if rows && not power then Some ScrambleNeedsPowerOfTwo else None) ≡ None
+      none_if true true f = refl
+      none_if true false f = (let e = f refl in let z : ⊥ = cc in absurd z)
+      none_if false power f = refl
 
-abbrev BehindName : List Statement → Result Description MemoryFault → Type 0
-BehindName ss r = Unless (missing Words WordsField ss) r (BehindWords ss r)
+  all_served : unserved (said Backgrounds ss) ≡ None
+  all_served = go (said Backgrounds ss) m.are_backgrounds
+    where
+      go : (c : Option Content) → AreBackgrounds c (bits_said ss) m.set → unserved c ≡ None
+      go (Some (backgrounds ws)) e = served (word_values ws) (subst (λ s. length s ≤ 8) e m.few) (subst (λ s. Contains s 0) e m.solid)
+      go c e = refl
 
-abbrev Begins : List Statement → Result Description MemoryFault → Type 0
-Begins ss r = Unless (missing Name NameField ss) r (BehindName ss r)
-
-fits_one : (ss : List Statement) (q r : Result Description MemoryFault) → Fits ss q → Fits ss r → q ≡ r
-fits_one ss q r (v, wv, p) (w, ww, h) =
-    builds_one ss v q r p (subst (λ (width : ℕ). Builds ss width r) (width_one (words_said ss - 1) w v ww wv) h)
+  not_refused : (f : MemoryFault) → AreRefusedBy ss f → ⊥
+  not_refused f h = elim h [
+    | inl a ↦ not_both (unsized ss) f a all_sized
+    | inr a ↦ elim (subst Sized (width_one (words_said ss - 1) a.1 m.width a.2 m.addresses) a.3) [
+      | inl b ↦ not_both (unfit ss m.width) f b all_fit
+      | inr b ↦ elim b.1 [
+        | inl c ↦ singular (matrix_said ss m.width) c.0 c.2 (invertible ss m.width m.scrambling m.is_scrambling c.1)
+        | inr c ↦ not_both (unserved (said Backgrounds ss)) f c.1 all_served
+      ]
+    ]
+  ]
+    where
+      Sized : ℕ → Type 0
+      Sized w = (unfit ss w ≡ Some f) ⊎ ((unfit ss w ≡ None) × IsLast ss w f)
 
 pub describes_one : (ss : List Statement) (q r : Result Description MemoryFault) → Describes ss q → Describes ss r → q ≡ r
-describes_one ss q r p h =
-    unless_one (repeated ss) q r (Begins ss q) (Begins ss r)
-    (unless_one (missing Name NameField ss) q r (BehindName ss q) (BehindName ss r)
-    (unless_one (missing Words WordsField ss) q r (BehindWords ss q) (BehindWords ss r)
-    (unless_one (missing Bits BitsField ss) q r (BehindBits ss q) (BehindBits ss r)
-    (unless_one (out_of_range ss) q r (Fits ss q) (Fits ss r) (fits_one ss q r))))) p h
+describes_one ss (Ok d) (Ok e) p h = ap Ok (memory_one ss d e p h)
+describes_one ss (Ok d) (Err f) p h = absurd (not_refused ss d p f h)
+describes_one ss (Err f) (Ok d) p h = absurd (not_refused ss d h f p)
+describes_one ss (Err f) (Err g) p h = ap Err (refused_one ss f g p h)

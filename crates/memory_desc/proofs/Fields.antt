@@ -1,29 +1,12 @@
 -- The name and the numbers that the statements give, each in its range.
-use Rattle.std.proofs.Common.{◌⊎◌, inl, inr, arith, ◌≡◌, ℕ, ◌-◌, ◌^◌, ◌<◌, ◌≤◌, ◌||◌, true, false, List, [], ◌∷◌, ◌++◌, Bool, cond, refl, length, Option, Some, None, Result, sym, ◌∙◌, ap, subst}
-use Rattle.std.specs.Prelude.{nat_lt, find}
-use Rattle.std.specs.Str.Parse.{digits_value}
-use Rattle.std.proofs.lemmas.Bool.{or_parts, ltb-false, leb-false}
-use Rattle.bist_bits.specs.Width.{IsWidthOf}
-use Rattle.bist_text.specs.Lines.{TextLine}
-use Rattle.memory_desc.specs.Descriptions.{Description}
-use Rattle.memory_desc.specs.LineText.{Content, name, polarity, is_formed}
-use Rattle.memory_desc.specs.Names.{IsName}
-use Rattle.bist_text.specs.ReservedWords.{is_among, reserved_words}
-use Rattle.memory_desc.specs.inner.Standing.{is_ranged, least, most, value_in, number_in_seen, polarity_in_seen, name_in_seen, StandsAt}
-use Rattle.memory_desc.specs.Statements.{Statement, stated as stated_line}
-use Rattle.memory_desc.specs.Subjects.{about, is_about, content_of, said}
-use Rattle.memory_desc.specs.Table.{missing, unless_there, repeated, out_of_range, too_wide, Builds, Describes}
-use Rattle.memory_desc.specs.Values.{name_in, polarity_in, name_said, words_said, polarity_said, latency_in, pause_in}
+use Rattle.memory_desc.proofs.Common.{Bool, Content, IsName, List, Missing, None, Option, Some, StandsAt, Statement, Subject, TextLine, [], about, ap, arith, cond, content_of, digits_value, false, find, inl, inr, is_about, is_among, is_formed, is_ranged, latency_in, least, leb-false, length, ltb-false, missing, most, name, name_in, name_in_seen, name_said, nat_lt, number_in_seen, or_parts, out_of_range, pause_in, plain_content, polarity, polarity_in, polarity_in_seen, polarity_said, refl, reserved_words, subst, sym, too_wide, true, unless_there, value_in, ℕ, ◌++◌, ◌<◌, ◌^◌, ◌||◌, ◌∙◌, ◌∷◌, ◌≡◌, ◌≤◌, ◌⊎◌}
+use Rattle.memory_desc.specs.Statements.{stated as stated_line}
+use Rattle.memory_desc.specs.Subjects.{said}
 use Rattle.memory_desc.specs.inner.Heard.{said as said_by, statements}
-use Rattle.memory_desc.specs.inner.Seen.{plain_content}
 use Rattle.memory_desc.specs.declared.content.Statement.{Statement as ReadStatement}
-use Rattle.memory_desc.specs.declared.content.Subject.{Subject}
-use Rattle.memory_desc.specs.declared.content.Subject.TheVariants.{Name, Words, Bits, Polarity, Latency, Pause}
+use Rattle.memory_desc.specs.declared.content.Subject.TheVariants.{Name, Polarity, Latency, Pause}
 use Rattle.memory_desc.specs.declared.fault.Field.{Field}
-use Rattle.memory_desc.specs.declared.fault.Field.TheVariants.{Name as NameField, Words as WordsField, Bits as BitsField}
-use Rattle.memory_desc.specs.declared.fault.MemoryFault.{MemoryFault}
-use Rattle.memory_desc.specs.declared.fault.MemoryFault.TheVariants.{Missing}
-use Rattle.memory_desc.proofs.LineReads.{text_said}
+use Rattle.memory_desc.proofs.OneText.{formed_said}
 use Rattle.memory_desc.proofs.Stated.{stated, says, unstated, name_stated, polarity_stated, in_range, within, has_digits}
 
 -- a field whose line is there isn't missing
@@ -106,7 +89,7 @@ formed_found p (l ∷ ls) s e = go (said_by l.text) refl e (λ e. formed_found p
   where
     at : (c : Content) → said_by l.text ≡ Some c → (t : Bool) → cond t (Some (record { line = l.number; content = c })) (find p (statements ls)) ≡ Some s
         → (find p (statements ls) ≡ Some s → is_formed s.content ≡ true) → is_formed s.content ≡ true
-    at c k true e again = (let same : (let x : Statement = record { line = l.number; content = c } in x) ≡ s = cc in ap (λ s. is_formed s.content) (sym same) ∙ (text_said l.text c k).0)
+    at c k true e again = (let same : (let x : Statement = record { line = l.number; content = c } in x) ≡ s = cc in ap (λ s. is_formed s.content) (sym same) ∙ formed_said l.text c k)
     at c k false e again = again e
 
     go : (v : Option Content) → said_by l.text ≡ v → find p (stated_line l.number v ++ statements ls) ≡ Some s → (find p (statements ls) ≡ Some s → is_formed s.content ≡ true) → is_formed s.content ≡ true
@@ -124,7 +107,3 @@ name_given ls l b h r f =
     let content : at.statement.content ≡ name s.0 = (let e = ap content_of at.found in let k = s.1.said_is in cc) in
     let is_name : IsName s.0 = record { identifier = ap is_formed (sym content) ∙ formed_found (is_about Name) ls at.statement at.found; short = ltb-false 48 (length s.0) parts.0; free = parts.1 } in
     (same ∙ sym (ap name_in s.1.said_is), subst IsName (sym same) is_name)
-
-pub describes_by : (ss : List Statement) (r : Result Description MemoryFault) → repeated ss ≡ None → missing Name NameField ss ≡ None → missing Words WordsField ss ≡ None
-    → missing Bits BitsField ss ≡ None → out_of_range ss ≡ None → (width : ℕ) × IsWidthOf (words_said ss - 1) width × Builds ss width r → Describes ss r
-describes_by ss r a b c d e h = rw (a, b, c, d, e) h

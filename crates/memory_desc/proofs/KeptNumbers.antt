@@ -1,22 +1,13 @@
 -- Numbers of which the first ascend: a search in both parts finds a number just where it is one of them.
-use Rattle.std.proofs.Common.{◌≡◌, ◌↔◌, ℕ, ◌+◌, ◌<◌, ◌≤◌, ◌||◌, ◌==◌, IsTrue, Bool, true, false, List, ◌∷◌, [], ◌++◌, Result, Ok, Err, MatchResult, Contains, length, take, refl, sym, ◌∙◌, ap, subst, arith, inl, inr, nat_eq}
-use Rattle.std.proofs.Math.ListN.{get_or, drop}
-use Rattle.std.proofs.Math.Nat.{le_antisymm}
-use Rattle.std.proofs.Math.Path.{ap₂}
-use Rattle.std.proofs.Math.Seq.{take-append_seam, take-length}
-use Rattle.std.proofs.lemmas.List.{length-append}
-use Rattle.std.proofs.lemmas.Bool.{eqb-true, eq-eqb, cases_lt}
-use Rattle.std.proofs.lemmas.Grind.{get_or_default_zero}
+use Rattle.memory_desc.proofs.Common.{Bool, Contains, Err, IsTrue, List, MatchResult, MayHave, Ok, Result, [], ap, ap₂, arith, at_bool, cases_lt, eq-eqb, eqb-true, false, get_or, get_or_default_zero, inl, inr, le_antisymm, length, length-append, list_any, nat_eq, refill, refl, subst, sym, take, take-append_seam, take-length, true, ℕ, ◌++◌, ◌+◌, ◌<◌, ◌==◌, ◌||◌, ◌↔◌, ◌∙◌, ◌∷◌, ◌≡◌, ◌≤◌}
+use Rattle.std.proofs.Math.ListN.{drop}
 use Rattle.std.proofs.lemmas.Cmp.{nat_eq_equiv}
 use Rattle.std.proofs.lemmas.List.Elements.{Contains-get_or, Contains-append_left, Contains-append_right, Contains-append_cases}
 use Rattle.std.proofs.lemmas.List.Sorted.{searched, length_permutation, Contains-permutation, IsNonDecreasingBy-from_sort}
 use Rattle.std.proofs.lemmas.Map.Views.{Contains-from_any, list_any-from_Contains}
-use Rattle.std.specs.List.{list_any, refill}
 use Rattle.std.specs.List.Sorted.{IsNonDecreasing, IsBinarySearchResult, IsPermutation, IsSorted}
 use Rattle.std.specs.Ordering.{nat_cmp}
 use Rattle.std.specs.Result.{is_ok}
-use Rattle.memory_desc.specs.inner.Met.{MayHave}
-use Rattle.bist_text.proofs.LinePieces.{at_bool}
 
 eqb_turns : (i j : ℕ) → (i == j) ≡ (j == i)
 eqb_turns i j =

@@ -1,16 +1,16 @@
+pub mod Common
 pub mod TermLaws
 pub mod TermReads
 pub mod WordLaws
 pub mod WordReads
 pub mod LineLaws
-pub mod LineReads
-pub mod LineChecking
 pub mod OneText
 pub mod NameBytes
 pub mod SeenLaws
 pub mod Stated
 pub mod Rows
 pub mod Chosen
+pub mod Checks
 pub mod Scrambles
 pub mod Built
 pub mod Fields
@@ -29,7 +29,6 @@ pub mod BackInside
 pub mod BackValues
 pub mod ReadBack
 pub mod BackDescribed
-pub mod DescribedLaws
 pub mod LineTests
 pub mod Searches
 pub mod KeptNumbers

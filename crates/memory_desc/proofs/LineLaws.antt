@@ -1,31 +1,18 @@
 -- Each kind of line is read as the grammar says.
-use Rattle.std.proofs.Common.{◌≡◌, ◌⊎◌, ℕ, suc, ◌==◌, Bool, true, List, [], ◌∷◌, codes, Option, Some, None, refl, ◌↔◌, inl, inr, sym, ap, subst, ◌∙◌, arith}
-use Rattle.std.proofs.lemmas.Bool.{eqb-true, and_parts, and_from}
-use Rattle.std.specs.List.{list_all}
-use Rattle.std.specs.Prelude.{slice_get, nat_lt}
-use Rattle.bist_text.specs.Grammar.{is_blank, byte, word}
-use Rattle.bist_text.specs.LineGrammar.{space, tail}
+use Rattle.memory_desc.proofs.Common.{Bool, Byte, Class, Content, ContentText, Either, Ends, IsPlain, IsTable, LineOf, List, Memory, None, Number, One, Option, Read, Scramble, Shuns, Some, Space, Term, Two, [], and_from, and_parts, ap, apart, argument, argument_of, arith, backgrounds, begins_small, bits, blank_run, blank_word, byte, byte_of, byte_only, byte_shuns, byte_told, codes, digit_begun, digit_later, digits_plain, either_told, ends_told, ends_with, eqb-true, equation, fewer, fits_of, heard, inl, inr, is_blank, is_digit, is_formed, is_hex, is_l, is_letter, is_name_byte, is_number, is_term, key_text, keys_in, keys_of, kind_of, latency, length, line_told, list_all, log, many_map, many_pull, may_stand, more_terms, more_words, name, name_is, nat_lt, no_mark, one_word, onward, pause, polarity, refl, run_is, same, scramble, slice_get, space, space_told, spaced, stands, stuck, subst, suc, sym, tail, term_of, term_text, told_exact, told_iff, took, true, version, when_false, when_holds, when_true, word, word_map, word_of, word_pull, word_told, words, words_of, ℕ, ◌==◌, ◌↔◌, ◌∙◌, ◌∷◌, ◌≡◌, ◌⊎◌}
 use Rattle.bist_text.specs.inner.Keywords.{are_apart}
-use Rattle.bist_text.specs.keyed.Reading.{Read, took, stuck, onward}
-use Rattle.bist_text.specs.keyed.Parts.{spaced, byte_of, Class, fits_of, is_word, word_of, ends_with}
-use Rattle.bist_text.specs.declared.keyed_lines.Class.TheVariants.{Number, Word as HexWord, Name as NameWord}
+use Rattle.bist_text.specs.keyed.Parts.{is_word}
+use Rattle.bist_text.specs.declared.keyed_lines.Class.TheVariants.{Word as HexWord, Name as NameWord}
 use Rattle.bist_text.proofs.KeywordLaws.{IsOf, is_at, is_passed}
-use Rattle.bist_text.proofs.LinePieces.{when_true, when_holds, when_false, apart}
-use Rattle.bist_text.proofs.LineStops.{IsPlain, no_mark, blank_run, blank_word}
-use Rattle.bist_text.proofs.Pieces.{same}
-use Rattle.bist_text.proofs.RunPieces.{many_map, many_pull, word_map, word_pull}
-use Rattle.bist_text.proofs.keyed.Told.{told_iff}
-use Rattle.bist_text.proofs.keyed.PartLaws.{Hears, fewer, Shuns, Space, space_told, Byte, byte_told, Ends, ends_told, Words, word_told, Either, either_told}
-use Rattle.bist_text.proofs.keyed.Classes.{run_is, name_is}
-use Rattle.bist_text.proofs.keyed.LineLaws.{SaysOf as Says, Arg as Behind, OneWord as HasOneWord, one_word, digit_begun, digit_later, digits_plain, begins_small, IsTable, Line as AnyLine, byte_shuns, byte_only}
-use Rattle.memory_desc.specs.LineFaults.{may_stand, LineOf}
-use Rattle.memory_desc.specs.LineText.{Term, Content, version, name, words, bits, latency, polarity, pause, scramble, log, backgrounds, is_hex, is_number, is_term, is_word as is_hex_word, is_formed, term_text, more_terms, equation, more_words, argument, kind_of, key_text}
-use Rattle.memory_desc.specs.Names.{is_digit, is_letter, is_name_byte}
+use Rattle.bist_text.proofs.keyed.PartLaws.{Hears, Words}
+use Rattle.bist_text.proofs.keyed.LineLaws.{SaysOf as Says, Arg as Behind, OneWord as HasOneWord, Line as AnyLine}
+use Rattle.bist_text.specs.inner.Machine.{IsExact}
+use Rattle.bist_text.specs.keyed.Lines.{line_of}
+use Rattle.memory_desc.specs.LineText.{is_word as is_hex_word}
 use Rattle.memory_desc.specs.declared.content.Key.{Key}
-use Rattle.memory_desc.specs.declared.content.Key.TheVariants.{Memory, Name, Words as WordsKey, Bits, Latency, Polarity, Pause, Scramble, Backgrounds}
+use Rattle.memory_desc.specs.declared.content.Key.TheVariants.{Name, Words as WordsKey, Bits, Latency, Polarity, Pause, Backgrounds}
 use Rattle.memory_desc.specs.declared.content.Version.{Version}
-use Rattle.memory_desc.specs.declared.content.Version.TheVariants.{One, Two}
-use Rattle.memory_desc.specs.inner.Heard.{term_of, terms_of, words_of, is_l, argument_of, keys_in, keys_of}
+use Rattle.memory_desc.specs.inner.Heard.{terms_of}
 use Rattle.memory_desc.proofs.TermLaws.{OneTerm, term_told, More, terms_told, more_no_digits, SaysOne, Whole, one_whole, whole_one, term_shuns}
 use Rattle.memory_desc.proofs.WordLaws.{hex_plain, hex_begun, MoreWords, all_words_told, words_no_hex, Hex, hex_whole, whole_hex, begins_hex, no_hex}
 
@@ -329,14 +316,7 @@ first_key (Some Two) = refl
 
 small : (k : Key) → begins_small (key_text k) ≡ true
 small Memory = refl
-small Name = refl
-small WordsKey = refl
-small Bits = refl
-small Latency = refl
-small Polarity = refl
-small Pause = refl
-small Scramble = refl
-small Backgrounds = refl
+small k = refl
 
 pub table : (n : ℕ) (given : Option Version) → IsTable kind_of is_formed (λ c. argument c tail) key_text (keys_in given) n argument_of
 table n given = record { fine = fine given; first = Memory; begins = first_key given; small = small; shuns = argument_shuns; told = argument_told n }
@@ -359,21 +339,11 @@ there : (given : Option Version) (k : Key) → may_stand given k ≡ true → sl
 there None Memory e = refl
 there None k e = (let z : ⊥ = cc in absurd z)
 there (Some Two) Memory e = refl
-there (Some Two) Name e = refl
-there (Some Two) WordsKey e = refl
-there (Some Two) Bits e = refl
-there (Some Two) Latency e = refl
-there (Some Two) Polarity e = refl
-there (Some Two) Pause e = refl
-there (Some Two) Scramble e = refl
-there (Some Two) Backgrounds e = refl
-there (Some One) Memory e = refl
-there (Some One) Name e = refl
-there (Some One) WordsKey e = refl
-there (Some One) Bits e = refl
-there (Some One) Scramble e = refl
-there (Some One) Backgrounds e = refl
-there (Some One) k e = (let z : ⊥ = cc in absurd z)
+there (Some Two) k e = refl
+there (Some One) Latency e = (let z : ⊥ = cc in absurd z)
+there (Some One) Polarity e = (let z : ⊥ = cc in absurd z)
+there (Some One) Pause e = (let z : ⊥ = cc in absurd z)
+there (Some One) k e = refl
 
 all_stand : (given : Option Version) → list_all (may_stand given) (keys_in given) ≡ true
 all_stand None = refl
@@ -383,8 +353,15 @@ all_stand (Some Two) = refl
 is_of : (given : Option Version) (k : Key) → IsOf (keys_in given) k ↔ (may_stand given k ≡ true)
 is_of given k = (λ h. is_passed (may_stand given) (keys_in given) k (all_stand given) h, λ e. is_at (keys_in given) (index k) k (there given k e))
 
-pub line_is : (given : Option Version) (x : List ℕ) (v : Option Content) → AnyLine kind_of is_formed (λ c. argument c tail) key_text (keys_in given) x v ↔ LineOf given x v
+line_is : (given : Option Version) (x : List ℕ) (v : Option Content) → AnyLine kind_of is_formed (λ c. argument c tail) key_text (keys_in given) x v ↔ LineOf ContentText stands given x v
 line_is given x v = (
   λ h. elim h [ inl a ↦ inl a | inr a ↦ (let s = a.0 in inr (s.content, (is_of given (kind_of s.content)).0 s.stands, s.says, (s.formed, a.1))) ],
   λ h. elim h [ inl a ↦ inl a | inr a ↦ inr (record { content = a.0; stands = (is_of given (kind_of a.0)).1 a.1; formed = a.3.0; says = a.2 }, a.3.1) ],
 )
+
+-- The reader of a line is exact.
+pub line_exact : (given : Option Version) (b : List ℕ) → IsExact (LineOf ContentText stands given) b (heard given b)
+line_exact given b =
+    told_exact (LineOf ContentText stands given) b (line_of (keys_of given) argument_of b)
+    (told_iff (AnyLine kind_of is_formed (λ c. argument c tail) key_text (keys_in given)) (LineOf ContentText stands given) b (line_of (keys_of given) argument_of b) (line_is given)
+    (line_told kind_of is_formed (λ c. argument c tail) key_text (keys_in given) (length b) argument_of (table (length b) given) b (omega arith)))

@@ -1,16 +1,5 @@
 -- What a test of a content says, where the code has its greatest part alone.
-use Rattle.std.proofs.Common.{◌≡◌, ℕ, ◌-◌, ◌^◌, ◌<◌, ◌≤◌, ◌||◌, false, not, ◌==◌, List, [], ◌∷◌, ◌∙◌, Option, Some, None, refl, sym, ap, inl, inr, arith, bit_or, max}
-use Rattle.std.proofs.lemmas.Bool.{cases_lt, lt-leb, le-leb, lt-ltb, le-ltb}
-use Rattle.std.proofs.lemmas.Nat.{pow_pos, or_lt, le_or_l, le_or_r}
-use Rattle.std.specs.Prelude.{nat_le, nat_lt}
-use Rattle.std.specs.List.{list_any}
-use Rattle.std.specs.Str.Parse.{digits_value}
-use Rattle.memory_desc.specs.LineText.{Term, index_bit, constant}
-use Rattle.memory_desc.specs.Statements.{Statement}
-use Rattle.memory_desc.specs.Table.{is_other, is_term_too_wide}
-use Rattle.memory_desc.specs.Values.{word_values}
-use Rattle.memory_desc.specs.inner.Seen.{begun_row, no_words, with_terms, with_words}
-use Rattle.memory_desc.specs.inner.Standing.{highest_of, union_of, StandsAt}
+use Rattle.memory_desc.proofs.Common.{List, None, Option, Some, StandsAt, Statement, Term, [], ap, arith, begun_row, bit_or, cases_lt, constant, digits_value, false, highest_of, index_bit, inl, inr, is_other, is_term_too_wide, le-leb, le-ltb, le_or_l, le_or_r, list_any, lt-leb, lt-ltb, max, nat_le, nat_lt, no_words, not, or_lt, pow_pos, refl, sym, union_of, with_terms, with_words, word_values, ℕ, ◌-◌, ◌<◌, ◌==◌, ◌^◌, ◌||◌, ◌∙◌, ◌∷◌, ◌≡◌, ◌≤◌}
 use Rattle.memory_desc.specs.declared.content.Statement.{Statement as ReadStatement}
 use Rattle.memory_desc.proofs.SeenLaws.{row_is, union_is}
 

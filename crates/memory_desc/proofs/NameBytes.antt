@@ -1,10 +1,6 @@
 -- The bytes of a name are ASCII.
-use Rattle.std.proofs.Common.{◌≡◌, ℕ, zero, suc, ◌<◌, ◌==◌, ◌&&◌, ◌||◌, true, List, [], ◌∷◌, arith, inl, inr}
-use Rattle.std.proofs.lemmas.Bool.{and_parts, or_cases, leb-true, eqb-true}
-use Rattle.std.specs.List.{list_all}
+use Rattle.memory_desc.proofs.Common.{List, [], and_parts, arith, eqb-true, inl, inr, is_digit, is_identifier, is_letter, is_name_byte, leb-true, list_all, nat_le, or_cases, suc, true, zero, ℕ, ◌&&◌, ◌<◌, ◌==◌, ◌||◌, ◌∷◌, ◌≡◌}
 use Rattle.std.specs.Str.{IsAscii}
-use Rattle.std.specs.Prelude.{nat_le}
-use Rattle.memory_desc.specs.Names.{is_letter, is_digit, is_name_byte, is_identifier}
 
 -- a byte of a range that ends below 128
 in_range : (c low high : ℕ) → (nat_le low c && nat_le c high) ≡ true → high < 128 → c < 128

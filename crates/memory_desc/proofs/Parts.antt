@@ -1,16 +1,5 @@
 -- The parts of a memory.
-use Rattle.std.proofs.Common.{◌≡◌, ◌≢◌, ℕ, zero, suc, ◌+◌, ◌-◌, ◌*◌, ◌%◌, ◌^◌, ◌<◌, ◌≤◌, List, length, slice_index, slice_set, replicate, sym, ◌∙◌, ap, subst, arith, bit_and, bit_or, inl, inr, lit≤, Bool, true, false}
-use Rattle.std.proofs.Math.Pow.{pow-lt}
-use Rattle.std.proofs.Math.Nat.{zero-mul, one-mul, mod-eq_of_lt}
-use Rattle.std.proofs.lemmas.Bool.{cases_lt}
-use Rattle.std.proofs.lemmas.Nat.{pow_pos, or_lt, and_mask, mod_below}
-use Rattle.std.proofs.lemmas.List.{get_or-replicate, get_or_past, length-replicate, get_or-set_same, get_or-set_other, length-set}
-use Rattle.std.proofs.lemmas.Grind.{get_or_default_zero}
-use Rattle.std.specs.Int.{from_bool}
-use Rattle.bist_bits.specs.Width.{IsWidthOf}
-use Rattle.backgrounds.specs.Backgrounds.{IsLogSet}
-use Rattle.scrambler.specs.Scrambling.{IsWithin}
-use Rattle.memory_desc.specs.Descriptions.{IsBackgrounds}
+use Rattle.memory_desc.proofs.Common.{Bool, IsBackgrounds, IsLogSet, IsWidthOf, IsWithin, List, and_mask, ap, arith, bit_and, bit_or, cases_lt, false, from_bool, get_or-replicate, get_or-set_other, get_or-set_same, get_or_default_zero, get_or_past, inl, inr, length, length-replicate, length-set, lit≤, mod-eq_of_lt, mod_below, one-mul, or_lt, pow-lt, pow_pos, replicate, slice_index, slice_set, subst, suc, sym, true, zero, zero-mul, ℕ, ◌%◌, ◌*◌, ◌+◌, ◌-◌, ◌<◌, ◌^◌, ◌∙◌, ◌≡◌, ◌≢◌, ◌≤◌}
 
 -- ---- the logarithmic set serves every memory
 

@@ -1,9 +1,5 @@
 -- The printer's steps, one text behind another.
-use Rattle.std.proofs.Common.{◌≡◌, ℕ, ◌+◌, ◌/◌, false, cond, List, [], ◌∷◌, ◌++◌, codes, ◌∙◌, ap, append_assoc}
-use Rattle.bist_text.specs.Numbers.{hex_digits}
-use Rattle.scrambler.specs.Scrambling.{Scrambling}
-use Rattle.memory_desc.specs.Descriptions.{Description}
-use Rattle.memory_desc.specs.Printed.{number_line, name_line, size_lines, polarity_line, port_lines, later_lines, version_text, is_plain, head_lines, scramble_lines, backgrounds_line, printed}
+use Rattle.memory_desc.proofs.Common.{Description, List, Scrambling, [], ap, append_assoc, backgrounds_line, codes, cond, false, head_lines, hex_digits, is_plain, later_lines, name_line, number_line, polarity_line, port_lines, printed, scramble_lines, size_lines, version_text, ℕ, ◌++◌, ◌+◌, ◌/◌, ◌∙◌, ◌∷◌, ◌≡◌}
 
 -- one text behind another
 both : (a b c x y : List ℕ) → b ≡ a ++ x → c ≡ b ++ y → c ≡ a ++ (x ++ y)

@@ -1,7 +1,5 @@
 -- The printed form, piece by piece.
-use Rattle.std.proofs.Common.{◌≡◌, ℕ, ◌+◌, ◌<◌, List, [], ◌∷◌, ◌++◌, length, take, slice_index, refl, sym, ◌∙◌, ap, append_assoc, append-nil}
-use Rattle.std.proofs.lemmas.List.{take_more}
-use Rattle.memory_desc.specs.Printed.{background_text, background_texts}
+use Rattle.memory_desc.proofs.Common.{List, [], ap, append-nil, append_assoc, background_text, background_texts, length, refl, slice_index, sym, take, take_more, ℕ, ◌++◌, ◌+◌, ◌<◌, ◌∙◌, ◌∷◌, ◌≡◌}
 
 -- ---- backgrounds
 

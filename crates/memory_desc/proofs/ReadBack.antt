@@ -1,22 +1,10 @@
 -- The printed form of a memory is read back as this memory: its lines are statements that describe exactly it.
-use Rattle.std.proofs.Common.{◌≡◌, ℕ, zero, suc, ◌+◌, ◌-◌, ◌<◌, ◌≤◌, Bool, true, false, if◌then◌else◌, List, [], ◌∷◌, ◌++◌, ◌∙◌, length, map, Ok, refl, sym, ap, subst, arith, codes}
-use Rattle.std.specs.Prelude.{decimal}
-use Rattle.std.specs.Int.{bit_at}
-use Rattle.std.specs.List.{list_all}
-use Rattle.bist_text.specs.Lines.{text_lines}
-use Rattle.scrambler.specs.Scrambling.{Scrambling, IsFull, IsInvertible, row, is_identity}
-use Rattle.memory_desc.specs.Descriptions.{Description, IsMemory}
-use Rattle.memory_desc.specs.LineText.{Term, Content, version, scramble, backgrounds, ContentText, is_term, term_text}
-use Rattle.memory_desc.specs.Printed.{joined, background_texts, is_plain, version_text, printed}
-use Rattle.memory_desc.specs.Statements.{Say, is_said_in, IsOfVersion}
+use Rattle.memory_desc.proofs.Common.{AreStatements, Bool, Content, ContentText, Description, IsFull, IsInvertible, IsMemory, List, Ok, One, Reads, Scrambling, Some, Term, Two, [], ap, arith, background_texts, backgrounds, bit_at, bits, codes, decimal, false, if◌then◌else◌, index_bits, is_identity, is_plain, is_term, joined, length, list_all, map, name, printed, refl, scramble, stands, subst, suc, sym, term_text, true, version, version_in, version_text, words, zero, ℕ, ◌++◌, ◌+◌, ◌-◌, ◌<◌, ◌∙◌, ◌∷◌, ◌≡◌, ◌≤◌}
+use Rattle.scrambler.specs.Scrambling.{row}
 use Rattle.memory_desc.specs.declared.content.Version.{Version}
-use Rattle.memory_desc.specs.declared.content.Version.TheVariants.{One, Two}
-use Rattle.memory_desc.specs.Values.{index_bits}
-use Rattle.memory_desc.specs.Table.{Reads, AreStatements}
 use Rattle.memory_desc.proofs.Parts.{width_small}
-use Rattle.memory_desc.proofs.BackLines.{is_inside, numbered, Written, written_more, lines_say}
+use Rattle.memory_desc.proofs.BackLines.{is_inside, Written, written_more, lines_open}
 use Rattle.memory_desc.proofs.BackDescribed.{describes_it}
-use Rattle.memory_desc.proofs.DescribedLaws.{spells}
 use Rattle.memory_desc.proofs.BackFound.{row_content, rows_from, body}
 use Rattle.memory_desc.proofs.BackInside.{decimal_inside, name_inside, row_inside, backgrounds_inside, polarity_inside, row_written, texts_from, later_of, lines_of, rows_printed, printed_lines}
 use Rattle.memory_desc.proofs.BackScrambling.{row_some}
@@ -112,24 +100,31 @@ abbrev version_printed : Bool → Version
 version_printed true = One
 version_printed false = Two
 
-rows_tabled : (v : Version) (s : Scrambling) (n i k : ℕ) (ws : List (List ℕ)) → list_all (is_said_in v) (numbered n (body s i k ws)) ≡ true
-rows_tabled One s n i zero ws = refl
-rows_tabled Two s n i zero ws = refl
-rows_tabled One s n i (suc k) ws = rows_tabled One s (n + 1) (i + 1) k ws
-rows_tabled Two s n i (suc k) ws = rows_tabled Two s (n + 1) (i + 1) k ws
+rows_tabled : (v : Version) (s : Scrambling) (i k : ℕ) (ws : List (List ℕ)) → list_all (stands (Some v)) (body s i k ws) ≡ true
+rows_tabled One s i zero ws = refl
+rows_tabled Two s i zero ws = refl
+rows_tabled One s i (suc k) ws = rows_tabled One s (i + 1) k ws
+rows_tabled Two s i (suc k) ws = rows_tabled Two s (i + 1) k ws
 
-of_version : (d : Description) (plain : Bool) (k : ℕ) → IsOfVersion (statements d plain k) (version_printed plain)
-of_version d true k = record { first = refl; tabled = rows_tabled One d.scramble 5 0 k (map (digits_of_word d.bits) d.backgrounds) }
-of_version d false k = record { first = refl; tabled = rows_tabled Two d.scramble 8 0 k (map (digits_of_word d.bits) d.backgrounds) }
+of_version : (plain : Bool) → version_in (version (version_digits plain)) ≡ Some (version_printed plain)
+of_version true = refl
+of_version false = refl
+
+-- the contents behind the version
+abbrev behind_version : Description → Bool → ℕ → List Content
+behind_version d plain k = name d.name ∷ words (decimal d.words) ∷ bits (decimal d.bits) ∷ (later_said d plain ++ body d.scramble 0 k (map (digits_of_word d.bits) d.backgrounds))
+
+tabled : (d : Description) (plain : Bool) (k : ℕ) → list_all (stands (Some (version_printed plain))) (behind_version d plain k) ≡ true
+tabled d true k = rows_tabled One d.scramble 0 k (map (digits_of_word d.bits) d.backgrounds)
+tabled d false k = rows_tabled Two d.scramble 0 k (map (digits_of_word d.bits) d.backgrounds)
 
 pub are_statements : (d : Description) → IsMemory d → IsFull d.scramble → d.scramble.width ≤ 16 → AreStatements (printed d) (statements d (is_plain d) (rows_printed d.scramble))
 are_statements d mem full small =
     let k = rows_printed d.scramble in
-    let few : k ≤ d.scramble.width = by_test (is_identity d.scramble) in (
-      subst (λ (text : List ℕ). Say (text_lines text) (statements d (is_plain d) k)) (printed_lines d)
-          (lines_say 1 0 (lines_of d (is_plain d) k) (contents d (is_plain d) k) (lines_written d (is_plain d) k mem full small few)),
-      (version_printed (is_plain d), of_version d (is_plain d) k),
-    )
+    let plain = is_plain d in
+    let few : k ≤ d.scramble.width = by_test (is_identity d.scramble) in
+    subst (λ (text : List ℕ). AreStatements text (statements d plain k)) (printed_lines d)
+    (lines_open (version_printed plain) (version_digits plain) 1 0 (lines_of d plain k) (behind_version d plain k) (of_version plain) (lines_written d plain k mem full small few) (tabled d plain k))
   where
     by_test : (t : Bool) → (if t then 0 else d.scramble.width) ≤ d.scramble.width
     by_test true = omega arith
@@ -144,4 +139,4 @@ read_back d mem =
     let some = mem.words_low in
     let small : d.scramble.width ≤ 16 = (width_small (d.words - 1) d.scramble.width (omega arith) mem.address).1 in
     let k = rows_printed d.scramble in
-    spells (printed d) d (statements d (is_plain d) k, are_statements d mem mem.full small, describes_it d mem mem.full small)
+    (statements d (is_plain d) k, are_statements d mem mem.full small, describes_it d mem mem.full small)

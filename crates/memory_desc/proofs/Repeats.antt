@@ -1,23 +1,9 @@
 -- The search for a repeated line: a line that is the first about something repeats none.
-use Rattle.std.proofs.Common.{◌≡◌, ℕ, Bool, true, false, cond, not, List, [], ◌∷◌, ◌++◌, ◌∙◌, Option, Some, None, Ok, Err, refl, sym, ap, subst}
-use Rattle.std.proofs.lemmas.Bool.{eq-eqb, eqb-true}
-use Rattle.std.proofs.lemmas.List.Folds.{find-append}
-use Rattle.std.proofs.lemmas.List.{append_assoc}
-use Rattle.std.specs.List.{find}
-use Rattle.std.specs.Option.{option_or}
-use Rattle.std.specs.Prelude.{option_map}
-use Rattle.bist_text.specs.Lines.{TextLine}
-use Rattle.memory_desc.specs.LineText.{Content}
-use Rattle.memory_desc.specs.inner.Met.{MayHave, MayBeMet}
-use Rattle.memory_desc.specs.Statements.{Statement, stated}
+use Rattle.memory_desc.proofs.Common.{Bool, Content, Err, List, MayBeMet, MayHave, None, Ok, Option, Repeated, Seen, Some, Statement, Subject, TextLine, [], about, ap, append_assoc, at_line, checked, cond, eq-eqb, eqb-true, false, find, find-append, is_about, is_other, is_same, not, option_map, option_or, refl, repeated, seen, subject, subject_of, subst, sym, true, ℕ, ◌++◌, ◌∙◌, ◌∷◌, ◌≡◌}
+use Rattle.memory_desc.specs.Statements.{stated}
 use Rattle.memory_desc.specs.inner.Heard.{said, statements}
-use Rattle.memory_desc.specs.inner.Seen.{Seen, seen, subject_of}
-use Rattle.memory_desc.specs.inner.Standing.{checked}
-use Rattle.memory_desc.specs.Subjects.{subject, is_same, is_about, about}
-use Rattle.memory_desc.specs.Table.{is_other, is_repeat, repeated, at_line}
-use Rattle.memory_desc.specs.declared.content.Subject.{Subject}
+use Rattle.memory_desc.specs.Table.{is_repeat}
 use Rattle.memory_desc.specs.declared.content.Subject.TheVariants.{Version, Name, Words, Bits, Latency, Polarity, Pause, Row, Backgrounds}
-use Rattle.memory_desc.specs.declared.fault.MemoryFault.TheVariants.{Repeated}
 use Rattle.memory_desc.proofs.Searches.{subject_seen}
 
 -- the search has come to the lines that are left: none of the statements that it passed repeats one, or is about a subject that can't have been met

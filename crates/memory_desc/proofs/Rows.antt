@@ -1,30 +1,13 @@
 -- The rows of the scrambling, one after another.
-use Rattle.std.proofs.Common.{◌≡◌, ℕ, zero, suc, ◌+◌, ◌-◌, ◌*◌, ◌%◌, ◌^◌, ◌<◌, ◌≤◌, Bool, true, false, List, [], ◌∷◌, ◌++◌, length, take, slice_set, replicate, Option, Some, None, refl, sym, ◌∙◌, ap, subst, arith, bit_and, bit_or, inl, inr, add-one, lit<}
-use Rattle.std.proofs.Math.Pow.{pow-lt, pow_pos}
-use Rattle.std.proofs.Math.Nat.{mod-eq_of_lt}
-use Rattle.std.proofs.Math.Path.{ap₂}
-use Rattle.std.proofs.Math.Seq.{take-suc-set}
-use Rattle.std.proofs.lemmas.Bool.{or_parts, leb-false, cases_lt}
-use Rattle.std.proofs.lemmas.Nat.{xor_lt, and_mask}
-use Rattle.std.specs.Int.{from_bool}
-use Rattle.std.specs.List.{list_any}
-use Rattle.std.specs.Prelude.{nat_le}
-use Rattle.std.specs.Str.Parse.{digits_value}
+use Rattle.memory_desc.proofs.Common.{Bool, IsRow, List, MemoryFault, Missing, None, Some, StandsAt, Statement, Term, [], about, add-one, and_mask, ap, ap₂, arith, bit_and, bit_or, cases_lt, constant, constant_of, digits_value, false, from_bool, highest_of, index_bit, index_bits, inl, inr, is_term_too_wide, leb-false, length, list_any, lit<, missing, missing_row, mod-eq_of_lt, nat_le, or_else, or_parts, plain_content, pow-lt, pow_pos, refl, replicate, row_in_seen, rows_said, scramble, slice_set, subst, suc, sym, take, take-suc-set, terms_in, terms_said, too_wide, true, unless_there, xor_lt, zero, ℕ, ◌%◌, ◌*◌, ◌++◌, ◌+◌, ◌-◌, ◌<◌, ◌^◌, ◌∙◌, ◌∷◌, ◌≡◌, ◌≤◌}
 use Rattle.scrambler.specs.Linear.{number}
 use Rattle.scrambler.proofs.Steps.{product_begun, product_more}
-use Rattle.memory_desc.specs.LineText.{Content, Term, index_bit, constant, scramble}
-use Rattle.memory_desc.specs.Statements.{Statement}
-use Rattle.memory_desc.specs.Subjects.{about, said, content_of}
-use Rattle.memory_desc.specs.inner.Standing.{row_in_seen, IsRow, StandsAt, highest_of}
-use Rattle.memory_desc.specs.Table.{is_term_too_wide, too_wide, missing, missing_row, first_refusal, unless_there}
-use Rattle.memory_desc.specs.Values.{index_bits, constant_of, terms_said, terms_in, rows_said}
-use Rattle.memory_desc.specs.inner.Seen.{plain_content}
+use Rattle.memory_desc.specs.Subjects.{said}
 use Rattle.memory_desc.specs.declared.content.Row.{Row}
 use Rattle.memory_desc.specs.declared.content.Statement.{Statement as ReadStatement}
 use Rattle.memory_desc.specs.declared.content.Subject.TheVariants.{Row as BitRow}
 use Rattle.memory_desc.specs.declared.fault.Field.TheVariants.{Row as RowField}
-use Rattle.memory_desc.specs.declared.fault.MemoryFault.{MemoryFault}
-use Rattle.memory_desc.specs.declared.fault.MemoryFault.TheVariants.{Missing}
+use Rattle.memory_desc.proofs.Checks.{there, said_there}
 use Rattle.memory_desc.proofs.Parts.{RowsFit, rows_begun, rows_more}
 use Rattle.memory_desc.proofs.SeenLaws.{row_is}
 use Rattle.memory_desc.proofs.Stated.{within, stated, row_stated}
@@ -78,16 +61,12 @@ missing_kept : (ss : List Statement) (k n : ℕ) (fault : MemoryFault) → missi
 missing_kept ss k zero fault h l = let z : k ≡ 0 = omega arith in subst (λ (x : ℕ). missing_row ss x ≡ Some fault) z h
 missing_kept ss k (suc n) fault h l = elim (cases_lt n k) [
   | inl m ↦ let z : k ≡ suc n = omega arith in subst (λ (x : ℕ). missing_row ss x ≡ Some fault) z h
-  | inr m ↦ ap (λ r. first_refusal r (unless_there (Missing (RowField n)) (about (BitRow n) ss))) (missing_kept ss k n fault h m)
+  | inr m ↦ ap (λ r. or_else r (unless_there (Missing (RowField n)) (about (BitRow n) ss))) (missing_kept ss k n fault h m)
 ]
 
 pub row_missing : (ss : List Statement) (width bit : ℕ) (fault : MemoryFault) → missing_row ss bit ≡ None → bit < width → missing (BitRow bit) (RowField bit) ss ≡ Some fault
     → missing_row ss width ≡ Some fault
-row_missing ss width bit fault h l m = missing_kept ss (suc bit) width fault (ap (λ r. first_refusal r (missing (BitRow bit) (RowField bit) ss)) h ∙ m) l
-
-there_said : (fault : MemoryFault) (o : Option Statement) (c : Content) → content_of o ≡ Some c → unless_there fault o ≡ None
-there_said fault None c e = (let z : ⊥ = cc in absurd z)
-there_said fault (Some s) c e = refl
+row_missing ss width bit fault h l m = missing_kept ss (suc bit) width fault (ap (λ r. or_else r (missing (BitRow bit) (RowField bit) ss)) h ∙ m) l
 
 -- one more row
 module _ (ss : List Statement) (width size bit : ℕ) (rows : List ℕ) (constants : ℕ) (row : Row) (count : length rows ≡ 16) (below : bit < width) (narrow : width ≤ 16)
@@ -105,8 +84,8 @@ module _ (ss : List Statement) (width size bit : ℕ) (rows : List ℕ) (constan
       masked row.names width given.1 (given.3.names (omega arith)) fit.names ∙ ap index_bits (sym terms_are)
 
   there_more : missing_row ss (suc bit) ≡ None
-  there_more = ap (λ r. first_refusal r (missing (BitRow bit) (RowField bit) ss)) so_far.there
-      ∙ there_said (Missing (RowField bit)) (about (BitRow bit) ss) (scramble given.0 given.1) given.2
+  there_more = ap (λ r. or_else r (missing (BitRow bit) (RowField bit) ss)) so_far.there
+      ∙ there (Missing (RowField bit)) (about (BitRow bit) ss) (said_there (about (BitRow bit) ss) (scramble given.0 given.1) given.2)
 
   rows_are_more_at : take (suc bit) (slice_set rows bit (bit_and row.names (2 ^ width - 1))) ≡ rows_said ss (suc bit)
   rows_are_more_at =

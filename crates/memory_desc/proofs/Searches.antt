@@ -1,79 +1,34 @@
 -- A search in what the code has of the lines finds what one in the statements finds.
-use Rattle.std.proofs.Common.{◌≡◌, ℕ, Bool, true, false, cond, is_some, ◌||◌, List, [], ◌∷◌, ◌++◌, ◌∙◌, map, Option, Some, None, Err, Ok, refl, ap}
-use Rattle.std.specs.List.{find, list_any}
-use Rattle.std.specs.Prelude.{option_map}
-use Rattle.bist_text.specs.Lines.{TextLine}
-use Rattle.memory_desc.specs.LineText.{Content, version, name, words, bits, latency, polarity, pause, scramble, log, backgrounds}
-use Rattle.memory_desc.specs.Statements.{Statement, stated}
-use Rattle.memory_desc.specs.Subjects.{subject, is_same}
-use Rattle.memory_desc.specs.Table.{at_line, is_row, is_out_of_range, is_too_wide}
+use Rattle.memory_desc.proofs.Common.{About, Bool, Content, Err, IsPosed, List, None, Ok, Option, SeenStatement, Some, StandsAt, Statement, TextLine, TooWide, [], ap, at_line, backgrounds, checked, cond, false, find, first_sought, is_row, is_same, is_some, is_sought, list_any, map, option_map, plain_statement, refl, scramble, seen, seen_stated, seen_statements, subject, subject_of, subst, tests, true, version, ℕ, ◌++◌, ◌||◌, ◌∙◌, ◌∷◌, ◌≡◌}
+use Rattle.memory_desc.specs.Statements.{stated}
+use Rattle.memory_desc.specs.Table.{is_out_of_range, is_too_wide}
 use Rattle.memory_desc.specs.inner.Heard.{said, statements}
-use Rattle.memory_desc.specs.inner.Seeking.{is_sought, first_sought, IsPosed}
-use Rattle.memory_desc.specs.inner.Seen.{SeenStatement, seen, subject_of, plain_statement, seen_stated, seen_statements}
-use Rattle.memory_desc.specs.inner.Standing.{StandsAt, checked}
 use Rattle.memory_desc.specs.declared.content.Statement.{Statement as ReadStatement}
 use Rattle.memory_desc.specs.declared.content.Subject.TheVariants as S
 use Rattle.memory_desc.specs.declared.fault.MemoryFault.TheVariants.{OutOfRange as OutOfRangeAt}
 use Rattle.memory_desc.specs.declared.search.Sought.{Sought}
-use Rattle.memory_desc.specs.declared.search.Sought.TheVariants.{About, OutOfRange, Row, TooWide}
+use Rattle.memory_desc.specs.declared.search.Sought.TheVariants.{OutOfRange, Row}
 use Rattle.memory_desc.proofs.LineTests.{row_too_wide, words_too_wide}
 use Rattle.memory_desc.proofs.SeenLaws.{row_is}
 
 -- ---- what is sought, said of contents
 
-abbrev pub tests : Sought → Content → Bool
-tests (About q) c = is_same q (subject c)
-tests OutOfRange c = is_out_of_range c
-tests Row c = is_row c
-tests (TooWide width size) c = is_too_wide width size c
-
 pub subject_seen : (c : Content) → subject_of (seen c) ≡ subject c
-subject_seen (version ds) = refl
-subject_seen (name b) = refl
-subject_seen (words ds) = refl
-subject_seen (bits ds) = refl
-subject_seen (latency ds) = refl
-subject_seen (polarity w) = refl
-subject_seen (pause ds) = refl
 subject_seen (scramble i ts) = ap S.Row (row_is i ts).bit
-subject_seen log = refl
-subject_seen (backgrounds ws) = refl
+subject_seen c = refl
 
 ranged : (c : Content) → is_sought OutOfRange (seen c) ≡ is_out_of_range c
 ranged (version ds) = refl
-ranged (name b) = refl
-ranged (words ds) = refl
-ranged (bits ds) = refl
-ranged (latency ds) = refl
-ranged (polarity w) = refl
-ranged (pause ds) = refl
-ranged (scramble i ts) = refl
-ranged log = refl
-ranged (backgrounds ws) = refl
+ranged c = refl
 
 rowed : (c : Content) → is_sought Row (seen c) ≡ is_row c
-rowed (version ds) = refl
-rowed (name b) = refl
-rowed (words ds) = refl
-rowed (bits ds) = refl
-rowed (latency ds) = refl
-rowed (polarity w) = refl
-rowed (pause ds) = refl
 rowed (scramble i ts) = refl
-rowed log = refl
-rowed (backgrounds ws) = refl
+rowed c = refl
 
 widened : (width size : ℕ) → IsPosed (TooWide width size) → (c : Content) → is_sought (TooWide width size) (seen c) ≡ is_too_wide width size c
-widened width size p (version ds) = refl
-widened width size p (name b) = refl
-widened width size p (words ds) = refl
-widened width size p (bits ds) = refl
-widened width size p (latency ds) = refl
-widened width size p (polarity w) = refl
-widened width size p (pause ds) = refl
 widened width size p (scramble i ts) = row_too_wide width i ts p.0
-widened width size p log = refl
 widened width size p (backgrounds ws) = words_too_wide size ws
+widened width size p c = refl
 
 sought_seen : (q : Sought) → IsPosed q → (c : Content) → is_sought q (seen c) ≡ tests q c
 sought_seen (About q) p c = ap (is_same q) (subject_seen c)
@@ -115,13 +70,13 @@ found q p ls o e = stands o (find (λ s. tests q s.content) (statements ls)) (e 
 
 -- ---- what is made of it
 
-pub line_refused : (o : Option Statement) (l : ReadStatement) → StandsAt (Some l) o → Err (OutOfRangeAt l.line) ≡ checked (at_line (λ n. OutOfRangeAt n) o)
-line_refused None l h = absurd h
-line_refused (Some s) l h = ap (λ n. Err (OutOfRangeAt n)) h.0
+pub line_refused : (o : Option Statement) (r : Option ReadStatement) (l : ReadStatement) → r ≡ Some l → StandsAt r o → Err (OutOfRangeAt l.line) ≡ checked (at_line (λ n. OutOfRangeAt n) o)
+line_refused None r l e h = absurd (subst (λ r. StandsAt r None) e h)
+line_refused (Some s) r l e h = ap (λ n. Err (OutOfRangeAt n)) (subst (λ r. StandsAt r (Some s)) e h).0
 
-pub none_refused : (o : Option Statement) → StandsAt None o → Ok tt ≡ checked (at_line (λ n. OutOfRangeAt n) o)
-none_refused None h = refl
-none_refused (Some s) h = absurd h
+pub none_refused : (o : Option Statement) (r : Option ReadStatement) → r ≡ None → StandsAt r o → Ok tt ≡ checked (at_line (λ n. OutOfRangeAt n) o)
+none_refused None r e h = refl
+none_refused (Some s) r e h = absurd (subst (λ r. StandsAt r (Some s)) e h)
 
 pub any_found : (q : Statement → Bool) (ss : List Statement) (r : Option ReadStatement) (b : Bool) → StandsAt r (find q ss) → b ≡ is_some r → b ≡ list_any q ss
 any_found q ss r b h e = e ∙ go ss r h

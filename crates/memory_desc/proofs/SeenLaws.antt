@@ -1,21 +1,6 @@
 -- What the code has of a line's content is what the line says.
-use Rattle.std.proofs.Common.{◌≡◌, ℕ, ◌+◌, ◌<◌, ◌≤◌, ◌^◌, ◌%◌, ◌==◌, Bool, true, false, not, if◌then◌else◌, List, [], ◌∷◌, ◌++◌, ◌∙◌, length, take, refl, sym, ap, arith, bit_or, append_assoc, append-nil}
-use Rattle.std.proofs.lemmas.Bool.{eqb-true, lt-ltb}
-use Rattle.std.proofs.lemmas.Bool.Decides.{nat_tests}
-use Rattle.std.proofs.lemmas.List.{take-append-le, take_all, length-append}
-use Rattle.std.proofs.lemmas.Nat.Bits.{same_from_bits, bit_at_or}
-use Rattle.std.proofs.Math.Nat.{zero-max, max-zero, mod-eq_of_lt}
-use Rattle.std.proofs.Math.Pow.{pow-lt}
-use Rattle.std.specs.Int.{bit_at}
-use Rattle.std.specs.Int.Bits.{xor_assoc, xor_zero_l, xor_zero_r, or_zero_l, or_zero_r}
-use Rattle.std.specs.Prelude.{bit_xor, max, nat_lt}
-use Rattle.std.specs.Str.Parse.{digits_value}
-use Rattle.memory_desc.specs.LineText.{Term, index_bit, constant}
-use Rattle.memory_desc.specs.Values.{index_bits, constant_of, word_values}
-use Rattle.memory_desc.specs.inner.Seen.{SeenWords, begun_row, no_words, plain_words, summand, with_term, with_terms, with_word, with_words}
-use Rattle.memory_desc.specs.inner.Standing.{highest_of, union_of, IsRow, AreWords}
+use Rattle.memory_desc.proofs.Common.{AreWords, Bool, IsRow, List, SeenWords, Term, WordList, [], ap, append-nil, append_assoc, arith, begun_row, bit_at, bit_at_or, bit_or, bit_xor, constant, constant_of, digits_value, eqb-true, false, highest_of, if◌then◌else◌, index_bit, index_bits, length, length-append, lt-ltb, max, max-zero, mod-eq_of_lt, nat_lt, nat_tests, no_words, not, or_zero_l, or_zero_r, plain_words, pow-lt, refl, same_from_bits, summand, sym, take, take-append-le, take_all, true, union_of, with_term, with_terms, with_word, with_words, word_values, xor_assoc, xor_zero_l, xor_zero_r, zero-max, ℕ, ◌%◌, ◌++◌, ◌+◌, ◌<◌, ◌==◌, ◌^◌, ◌∙◌, ◌∷◌, ◌≡◌, ◌≤◌}
 use Rattle.memory_desc.specs.declared.content.Row.{Row}
-use Rattle.memory_desc.specs.declared.content.WordList.{WordList}
 
 -- ---- rows
 

@@ -1,18 +1,11 @@
 -- What the statement about something says, where its line is known.
-use Rattle.std.specs.Str.Parse.{digits_value}
-use Rattle.std.proofs.Common.{◌≡◌, ℕ, ◌||◌, Bool, true, false, List, [], ◌∷◌, Option, Some, None, refl, sym, ◌∙◌, ap, subst, cond}
-use Rattle.std.specs.Prelude.{find, nat_lt}
-use Rattle.memory_desc.specs.LineText.{Content, Term, name, words, bits, latency, polarity, pause, scramble, log, backgrounds, kind_of}
-use Rattle.memory_desc.specs.Statements.{Statement}
-use Rattle.memory_desc.specs.Subjects.{subject, is_same, is_about, about, said, content_of}
-use Rattle.memory_desc.specs.inner.Standing.{StandsAt, number_in_seen, is_ranged, least, most, value_in}
-use Rattle.memory_desc.specs.Table.{at_line, is_too_wide, too_wide, is_out_of_range, out_of_range}
+use Rattle.memory_desc.proofs.Common.{Bool, Content, List, None, Option, Seen, Some, StandsAt, Statement, Subject, Term, [], about, ap, backgrounds, bits, cond, content_of, digits_value, false, find, is_about, is_ranged, is_same, kind_of, latency, least, log, most, name, nat_lt, number_in_seen, out_of_range, pause, plain_content, polarity, refl, scramble, seen, subject, subst, sym, too_wide, true, value_in, words, ℕ, ◌||◌, ◌∙◌, ◌∷◌, ◌≡◌}
+use Rattle.memory_desc.specs.Subjects.{said}
+use Rattle.memory_desc.proofs.Checks.{none_at}
+use Rattle.memory_desc.specs.Table.{is_too_wide, is_out_of_range}
 use Rattle.memory_desc.specs.declared.content.Key.TheVariants.{Backgrounds as BackgroundsKey}
 use Rattle.memory_desc.specs.declared.content.Statement.{Statement as ReadStatement}
-use Rattle.memory_desc.specs.declared.content.Subject.{Subject}
-use Rattle.memory_desc.specs.inner.Seen.{Seen, plain_content, seen}
 use Rattle.memory_desc.specs.declared.content.Subject.TheVariants.{Name, Words, Bits, Latency, Polarity, Pause, Row, Backgrounds}
-use Rattle.memory_desc.specs.declared.fault.MemoryFault.{MemoryFault}
 use Rattle.memory_desc.specs.declared.fault.MemoryFault.TheVariants.{OutOfRange}
 
 -- ---- what is found
@@ -35,10 +28,6 @@ passes_step q x y o f false e b = f b
 found_passes : {X : Type 0} (q : X → Bool) (xs : List X) (x : X) → find q xs ≡ Some x → q x ≡ true
 found_passes q [] x b = (let z : ⊥ = cc in absurd z)
 found_passes q (y ∷ xs) x b = passes_step q x y (find q xs) (found_passes q xs x) (q y) refl b
-
-at_line_none : (f : ℕ → MemoryFault) (o : Option Statement) → at_line f o ≡ None → o ≡ None
-at_line_none f None e = refl
-at_line_none f (Some s) e = (let z : ⊥ = cc in absurd z)
 
 -- ---- the statement that is read
 
@@ -127,7 +116,7 @@ checked_content : (q : Subject) (ss : List Statement) (c : Content) (p : Content
 checked_content q ss c p h n = let r = found_of q ss c (λ s. p s.content) (about q ss) refl h n in ap p (sym r.2) ∙ r.1
 
 pub within : (ss : List Statement) (width size : ℕ) (q : Subject) (c : Content) → too_wide ss width size ≡ None → said q ss ≡ Some c → is_too_wide width size c ≡ false
-within ss width size q c n h = checked_content q ss c (is_too_wide width size) h (at_line_none (λ k. OutOfRange k) (find (λ s. is_too_wide width size s.content) ss) n)
+within ss width size q c n h = checked_content q ss c (is_too_wide width size) h (none_at (λ k. OutOfRange k) (find (λ s. is_too_wide width size s.content) ss) n)
 
 pub in_range : (ss : List Statement) (q : Subject) (c : Content) → out_of_range ss ≡ None → said q ss ≡ Some c → is_out_of_range c ≡ false
-in_range ss q c n h = checked_content q ss c is_out_of_range h (at_line_none (λ k. OutOfRange k) (find (λ s. is_out_of_range s.content) ss) n)
+in_range ss q c n h = checked_content q ss c is_out_of_range h (none_at (λ k. OutOfRange k) (find (λ s. is_out_of_range s.content) ss) n)

@@ -1,24 +1,7 @@
 -- The terms of a row are read as the grammar says.
-use Rattle.std.proofs.Common.{◌≡◌, ◌⊎◌, ℕ, zero, suc, ◌≤◌, ◌==◌, true, false, if◌then◌else◌, List, [], ◌∷◌, length, Option, Some, None, refl, ◌↔◌, inl, inr, sym, subst, arith}
-use Rattle.std.proofs.lemmas.Bool.{and_parts, and_from}
-use Rattle.std.specs.List.{list_all}
-use Rattle.bist_text.specs.Grammar.{Continues, are_bytes, is_blank, byte, word}
-use Rattle.bist_text.specs.LineGrammar.{space, comment, tail}
-use Rattle.bist_text.specs.keyed.Reading.{Read, took, stuck, onward}
-use Rattle.bist_text.specs.keyed.Parts.{spaced, byte_of, remark_of, fits_of, word_of, by_byte, by_item, items_from}
-use Rattle.bist_text.specs.declared.keyed_lines.Class.TheVariants.{Number}
-use Rattle.bist_text.proofs.LinePieces.{at_bool, when_true, when_false, when_holds, apart}
-use Rattle.bist_text.proofs.LineStops.{no_tail, no_mark}
-use Rattle.bist_text.proofs.Pieces.{at_byte}
-use Rattle.bist_text.proofs.RunPieces.{many_map, many_pull, word_map, word_pull}
-use Rattle.bist_text.proofs.keyed.Told.{Behind, Never, Told, told_iff}
-use Rattle.bist_text.proofs.keyed.PartLaws.{Hears, fewer, Shuns, alive, Space, space_told, Byte, byte_told, Remark, remark_told, Words, word_told, Either, either_told}
-use Rattle.bist_text.proofs.keyed.Classes.{run_is}
-use Rattle.bist_text.proofs.keyed.Items.{onward_on, no_item, one_item, spaced_shorter, Shorter, weaker, made_shorter, Shortens, some_shortens, remark_shortens, IsNext, items_made}
-use Rattle.bist_text.proofs.keyed.LineLaws.{digit_begun, digits_plain, byte_shuns, byte_only, remark_shuns, remark_only, remark_end, either_shuns}
-use Rattle.memory_desc.specs.Names.{is_digit}
-use Rattle.memory_desc.specs.LineText.{Term, index_bit, constant, is_term, term_text, more_terms}
-use Rattle.memory_desc.specs.inner.Heard.{term_of, is_caret, marked_term_of, next_term_of, terms_of}
+use Rattle.memory_desc.proofs.Common.{Behind, Byte, Continues, Either, IsNext, List, Never, None, Number, Option, Read, Remark, Shortens, Shorter, Shuns, Some, Space, Term, Told, [], alive, and_from, and_parts, apart, are_bytes, arith, at_bool, at_byte, by_byte, by_item, byte, byte_of, byte_only, byte_shuns, byte_told, comment, constant, digit_begun, digits_plain, either_shuns, either_told, false, fewer, fits_of, if◌then◌else◌, index_bit, inl, inr, is_blank, is_caret, is_digit, is_term, items_from, items_made, length, list_all, made_shorter, many_map, many_pull, marked_term_of, more_terms, next_term_of, no_item, no_mark, no_tail, one_item, onward, onward_on, refl, remark_end, remark_of, remark_only, remark_shortens, remark_shuns, remark_told, run_is, some_shortens, space, space_told, spaced, spaced_shorter, stuck, subst, suc, sym, tail, term_of, term_text, told_iff, took, true, weaker, when_false, when_holds, when_true, word, word_map, word_of, word_pull, word_told, zero, ℕ, ◌==◌, ◌↔◌, ◌∷◌, ◌≡◌, ◌≤◌, ◌⊎◌}
+use Rattle.bist_text.proofs.keyed.PartLaws.{Hears, Words}
+use Rattle.memory_desc.specs.inner.Heard.{terms_of}
 
 -- ---- a term
 

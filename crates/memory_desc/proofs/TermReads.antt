@@ -1,16 +1,10 @@
 -- The readers of terms, by the first byte and one after another.
-use Rattle.std.proofs.Common.{◌≡◌, ℕ, ◌-◌, ◌≤◌, ◌<◌, Option, Some, None, true, false, List, [], ◌∷◌, length, take, drop, sym, ap, ◌∙◌, arith, take_all}
-use Rattle.std.specs.Prelude.{get_or, option_map}
-use Rattle.bist_text.specs.keyed.Reading.{Read, took, stuck, onward}
-use Rattle.memory_desc.specs.LineText.{Term, Content, index_bit, constant, scramble}
-use Rattle.bist_text.specs.keyed.Parts.{spaced, byte_of, fits_of, word_of}
-use Rattle.bist_text.specs.declared.keyed_lines.Class.TheVariants.{Number}
-use Rattle.memory_desc.specs.inner.Heard.{term_of, marked_term_of, next_term_of, terms_of, row_of}
-use Rattle.memory_desc.specs.inner.Seen.{summand, with_term, with_terms}
+use Rattle.memory_desc.proofs.Common.{Content, List, None, Number, Option, Read, Some, Term, [], ap, arith, byte_of, constant, false, fits_of, gather_end, gather_on, gather_smaller, gather_stuck, get_or, index_bit, length, marked_term_of, next_term_of, onward, option_map, row_of, scramble, spaced, stuck, summand, sym, take, take_all, term_of, took, true, with_term, with_terms, word_of, ℕ, ◌-◌, ◌<◌, ◌∙◌, ◌∷◌, ◌≡◌, ◌≤◌}
+use Rattle.std.proofs.Common.{drop}
+use Rattle.memory_desc.specs.inner.Heard.{terms_of}
 use Rattle.memory_desc.specs.declared.content.Row.{Row}
 use Rattle.memory_desc.specs.declared.row_reader.Summand.{Summand}
 use Rattle.memory_desc.proofs.TermLaws.{term_next}
-use Rattle.bist_text.proofs.keyed.Items.{gather_on, gather_smaller, gather_end, gather_stuck}
 
 abbrev Rest : List ℕ → List ℕ
 Rest b = take (length b - 1) (drop 1 b)

@@ -1,11 +1,5 @@
 -- The terms of a row, one after another.
-use Rattle.std.proofs.Common.{◌≡◌, ◌≢◌, ℕ, ◌+◌, ◌/◌, ◌^◌, Bool, true, false, List, [], ◌∷◌, ◌++◌, ◌==◌, if◌then◌else◌, codes, refl, sym, ◌∙◌, ap, append_assoc, append-nil, bit_and, decimal, add-one}
-use Rattle.std.proofs.Math.Path.{ap₂}
-use Rattle.std.proofs.lemmas.Bool.{eq-eqb, ne_eqb}
-use Rattle.std.proofs.lemmas.Nat.Bits.{shr_and_one}
-use Rattle.std.specs.Int.{bit_at}
-use Rattle.memory_desc.specs.Printed.{index_terms, joined, row_terms}
-use Rattle.memory_desc.specs.inner.Printed.{is_none, separator, term_after}
+use Rattle.memory_desc.proofs.Common.{Bool, List, [], add-one, ap, append-nil, append_assoc, ap₂, bit_and, bit_at, codes, decimal, eq-eqb, false, if◌then◌else◌, index_terms, is_none, joined, ne_eqb, refl, row_terms, separator, shr_and_one, sym, term_after, true, ℕ, ◌++◌, ◌+◌, ◌/◌, ◌==◌, ◌^◌, ◌∙◌, ◌∷◌, ◌≡◌, ◌≢◌}
 
 -- one more term
 joined-more : (ts : List (List ℕ)) (t : List ℕ) → joined (ts ++ t ∷ []) ≡ joined ts ++ term_after (is_none ts) t

@@ -1,22 +1,9 @@
 -- The words of a list are read as the grammar says.
-use Rattle.std.proofs.Common.{◌≡◌, ◌⊎◌, ℕ, zero, suc, ◌≤◌, ◌==◌, ◌&&◌, true, false, if◌then◌else◌, List, [], ◌∷◌, length, Option, None, refl, ◌↔◌, inl, inr, sym, ap, subst, arith}
-use Rattle.std.proofs.lemmas.Bool.{eqb-true, and_parts, and_from}
-use Rattle.std.specs.List.{list_all}
-use Rattle.bist_text.specs.Grammar.{Continues, is_blank, word}
-use Rattle.bist_text.specs.LineGrammar.{space, comment, tail}
-use Rattle.bist_text.specs.keyed.Reading.{Read, took, onward}
-use Rattle.bist_text.specs.keyed.Parts.{spaced, remark_of, fits_of, is_word, word_of, by_byte, by_item, items_from}
+use Rattle.memory_desc.proofs.Common.{AtEnd, Begun, Behind, Continues, Either, IsNext, IsPlain, List, Never, None, Option, Read, Remark, Shortens, Shuns, Space, Told, [], and_from, and_parts, ap, arith, at_bool, by_byte, by_item, comment, either_shuns, either_told, eqb-true, false, fits_of, gap_off, gap_on, hex_word_of, if◌then◌else◌, inl, inr, is_blank, is_hex, items_from, items_made, length, list_all, longer, many_map, more_words, next_word_of, no_item, no_tail, of_blank, one_item, onward, plain_blank, refl, remark_end, remark_of, remark_shortens, remark_shuns, remark_told, run_is, space, space_told, spaced, spaced_shorter, spaced_word_of, subst, suc, sym, tail, tail_blank, tail_other, told_from, told_iff, took, true, when_holds, when_true, word, word_map, word_of, word_pull, word_shortens, word_told, words_of, zero, ℕ, ◌&&◌, ◌==◌, ◌↔◌, ◌∷◌, ◌≡◌, ◌≤◌, ◌⊎◌}
+use Rattle.bist_text.specs.keyed.Parts.{is_word}
 use Rattle.bist_text.specs.declared.keyed_lines.Class.TheVariants.{Word as HexWord}
-use Rattle.bist_text.proofs.LinePieces.{at_bool, when_true, when_holds, of_blank, tail_blank, tail_other, gap_on, gap_off}
-use Rattle.bist_text.proofs.LineStops.{IsPlain, plain_blank, no_tail}
-use Rattle.bist_text.proofs.RunPieces.{many_map, word_map, word_pull}
-use Rattle.bist_text.proofs.keyed.Told.{Behind, Never, AtEnd, Told, told_iff, told_from}
-use Rattle.bist_text.proofs.keyed.PartLaws.{Hears, Shuns, Space, space_told, Remark, remark_told, Words, Begun, word_told, Either, either_told}
-use Rattle.bist_text.proofs.keyed.Classes.{run_is}
-use Rattle.bist_text.proofs.keyed.Items.{no_item, one_item, spaced_shorter, Shortens, longer, word_shortens, remark_shortens, IsNext, items_made}
-use Rattle.bist_text.proofs.keyed.LineLaws.{remark_shuns, remark_end, either_shuns}
-use Rattle.memory_desc.specs.LineText.{is_hex, is_word as is_hex_word, more_words}
-use Rattle.memory_desc.specs.inner.Heard.{hex_word_of, spaced_word_of, next_word_of, words_of}
+use Rattle.bist_text.proofs.keyed.PartLaws.{Hears, Words}
+use Rattle.memory_desc.specs.LineText.{is_word as is_hex_word}
 
 pub hex_plain : IsPlain is_hex
 hex_plain = record { space_no = refl; tab_no = refl; return_no = refl; hash_no = refl }

@@ -1,14 +1,6 @@
 -- The readers of words, and the loop over those of a list.
-use Rattle.std.proofs.Common.{◌≡◌, ◌<◌, ℕ, List, ◌∷◌, length, Option, Some, None, refl, ap, ◌∙◌, ◌≢◌, [], Bool, true, if◌then◌else◌, slice_index}
-use Rattle.std.specs.Prelude.{option_map}
-use Rattle.std.specs.Str.Parse.{digits_value}
-use Rattle.bist_text.specs.keyed.Reading.{Read, took, stuck, onward}
-use Rattle.bist_text.specs.keyed.Parts.{byte_of, end_of, ends_with, remark_of, Class, fits_of, word_of}
+use Rattle.memory_desc.proofs.Common.{Bool, Class, List, None, Option, Read, SeenWords, Some, [], ap, backgrounds, byte_of, digits_value, end_of, ends_with, fits_of, gather_end, gather_on, gather_smaller, gather_stuck, hex_word_of, if◌then◌else◌, is_hex, length, listed_of, log, log_of, next_word_of, onward, option_map, refl, remark_of, slice_index, spaced_word_of, stuck, took, true, with_word, with_words, word_of, words_of, ℕ, ◌<◌, ◌∙◌, ◌∷◌, ◌≡◌, ◌≢◌}
 use Rattle.bist_text.specs.declared.keyed_lines.Class.TheVariants.{Word as HexWord}
-use Rattle.bist_text.proofs.keyed.Items.{gather_on, gather_smaller, gather_end, gather_stuck}
-use Rattle.memory_desc.specs.LineText.{log, backgrounds, is_hex}
-use Rattle.memory_desc.specs.inner.Heard.{next_word_of, words_of, listed_of, log_of, hex_word_of, spaced_word_of}
-use Rattle.memory_desc.specs.inner.Seen.{SeenWords, with_word, with_words}
 use Rattle.memory_desc.proofs.WordLaws.{word_next}
 
 abbrev pub Gathered : SeenWords → List ℕ → Read SeenWords

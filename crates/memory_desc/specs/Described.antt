@@ -5,20 +5,20 @@ use Rattle.std.specs.List.{list_any}
 use Rattle.std.specs.Option.{IsSome}
 use Rattle.std.specs.Str.Parse.{digits_value}
 use Rattle.bist_bits.specs.Width.{IsWidthOf}
+use Rattle.bist_text.specs.KeyedTexts.{Say}
 use Rattle.bist_text.specs.Lines.{text_lines}
 use Rattle.bist_text.specs.ReservedWords.{is_among, reserved_words}
 use Rattle.scrambler.specs.Scrambling.{Scrambling, IsInvertible, identity}
 use Rattle.memory_desc.specs.Descriptions.{Description, assembled}
-use Rattle.memory_desc.specs.LineText.{Term, index_bit, constant, Content, name, words, bits, latency, polarity, pause, scramble, backgrounds}
-use Rattle.memory_desc.specs.Statements.{Statement, Say, IsOfVersion}
+use Rattle.memory_desc.specs.LineText.{Term, index_bit, constant, Content, name, words, bits, latency, polarity, pause, scramble, backgrounds, ContentText}
+use Rattle.memory_desc.specs.Statements.{Statement, stands, version_in, stated}
 use Rattle.memory_desc.specs.Subjects.{subject, about, said}
 use Rattle.memory_desc.specs.Values.{name_said, words_said, bits_said, latency_said, polarity_said, pause_said, matrix_said, AreBackgrounds}
 use Rattle.memory_desc.specs.declared.content.Subject.TheVariants.{Name, Words, Bits, Row, Backgrounds}
-use Rattle.memory_desc.specs.declared.content.Version.{Version}
 
 -- the statements of a text's lines, of which the first is version 1 or 2, and each is of its version's table
 abbrev pub AreStatements : List ℕ → List Statement → Type 0
-AreStatements bytes ss = Say (text_lines bytes) ss × ((version : Version) × IsOfVersion ss version)
+AreStatements bytes ss = Say ContentText stands version_in stated (text_lines bytes) None ss
 
 -- whether a statement speaks of what an earlier one speaks of
 abbrev pub is_other : ℕ → Option Statement → Bool

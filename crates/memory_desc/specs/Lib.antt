@@ -3,7 +3,6 @@ pub mod Descriptions
 pub mod LineText
 pub mod Printed
 pub mod Statements
-pub mod LineFaults
 pub mod Subjects
 pub mod Values
 pub mod Described

@@ -1,5 +1,5 @@
 -- Trusted. The grammar of one line of a memory description, without its line feed.
-use Rattle.std.specs.Prelude.{◌≡◌, ℕ, ◌||◌, ◌&&◌, nat_le, Bool, true, false, Option, Some, None, List, [], ◌∷◌, length, codes}
+use Rattle.std.specs.Prelude.{◌≡◌, ℕ, ◌||◌, ◌&&◌, nat_le, Bool, true, false, List, [], ◌∷◌, length, codes}
 use Rattle.std.specs.List.{list_all}
 use Rattle.bist_text.specs.Grammar.{byte, word}
 use Rattle.memory_desc.specs.Names.{is_digit, is_identifier}
@@ -120,8 +120,3 @@ key_text Backgrounds = codes "backgrounds"
 -- A content line.
 abbrev pub ContentText : List ℕ → Content → Type 0
 ContentText b c = (is_formed c ≡ true) × space (word (key_text (kind_of c)) (gap (argument c tail))) b
-
--- A line: blanks and a comment alone, or a content line.
-abbrev pub LineText : List ℕ → Option Content → Type 0
-LineText b None = tail b
-LineText b (Some c) = ContentText b c

@@ -4,4 +4,3 @@ pub mod Printed
 pub mod Seeking
 pub mod Seen
 pub mod Standing
-pub mod Walk

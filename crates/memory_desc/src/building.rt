@@ -4,13 +4,14 @@ ghost use Rattle.std.specs.Prelude.{◌≡◌, ◌≤◌, ◌↔◌, ℕ, false,
 ghost use Rattle.bist_text.specs.Lines.{text_lines};
 ghost use Rattle.scrambler.specs.Scrambling.{IsFull, IsInvertible, IsWithin, identity};
 ghost use Rattle.memory_desc.specs.Descriptions.{IsBackgrounds};
-ghost use Rattle.memory_desc.specs.Table.{is_scrambled, too_wide, Scrambles, AcceptsBackgrounds, SelectsBackgrounds, StatesBackgrounds};
-ghost use Rattle.memory_desc.specs.LineText.{Content as LineContent, kind_of};
+ghost use Rattle.memory_desc.specs.Subjects.{said};
+ghost use Rattle.memory_desc.specs.Table.{is_scrambled, too_wide};
+ghost use Rattle.memory_desc.specs.LineText.{Content as LineContent, backgrounds as backgrounds_line, kind_of};
 ghost use Rattle.memory_desc.specs.declared.content.Key.TheVariants.{Backgrounds};
+ghost use Rattle.memory_desc.specs.declared.content.Subject.TheVariants.{Backgrounds as OfBackgrounds};
 ghost use Rattle.memory_desc.specs.inner.Heard.{statements};
 ghost use Rattle.memory_desc.specs.inner.Seen.{plain_content, seen};
-ghost use Rattle.memory_desc.specs.inner.Standing.{row_in_seen, AreWords, GivesMatrix};
-ghost use Rattle.memory_desc.specs.Values.{bits_said, word_values};
+ghost use Rattle.memory_desc.specs.inner.Standing.{row_in_seen, AreWords, GivesBackgrounds, GivesMatrix, GivesScrambling};
 
 use crate::content::{Content, Row, Subject, WordList};
 use crate::fault::{Field, MemoryFault};
@@ -65,7 +66,7 @@ pub fn scramble_from(bytes: &[u8], scrambled: bool, width: u8) -> Result<Scrambl
     ensures invertible { IfOk result IsInvertible }
     ensures unscrambled { IfOk result (λ s. scrambled ≡ false → s ≡ identity width) }
     ensures rows { (size : ℕ) → too_wide (statements (text_lines bytes.now)) width size ≡ None → scrambled ≡ is_scrambled (statements (text_lines bytes.now))
-        → Scrambles (statements (text_lines bytes.now)) width result }
+        → GivesScrambling (statements (text_lines bytes.now)) width result }
 {
     if !scrambled {
         return Ok(Scramble::identity(width));
@@ -81,7 +82,8 @@ pub fn scramble_from(bytes: &[u8], scrambled: bool, width: u8) -> Result<Scrambl
 
 /// The backgrounds of a list.
 fn listed(words: WordList) -> Result<ArrayVec<u64, 8>, MemoryFault>
-    ensures { (ws : List (List ℕ)) → AreWords ws words → MatchResult result (λ b. AcceptsBackgrounds (word_values ws) (Ok b.items)) (λ fault. AcceptsBackgrounds (word_values ws) (Err fault)) }
+    ensures { (ws : List (List ℕ)) (size : ℕ) → AreWords ws words
+        → MatchResult result (λ b. GivesBackgrounds (Some (backgrounds_line ws)) size (Ok b.items)) (λ fault. GivesBackgrounds (Some (backgrounds_line ws)) size (Err fault)) }
 {
     if words.count > 8 {
         return Err(MemoryFault::TooManyBackgrounds);
@@ -96,7 +98,7 @@ fn listed(words: WordList) -> Result<ArrayVec<u64, 8>, MemoryFault>
 fn backgrounds_of(content: Content<'_>, bits: u8) -> Result<ArrayVec<u64, 8>, MemoryFault>
     requires { (1 ≤ bits) × (bits ≤ 64) }
     ensures { (c : LineContent) → plain_content content.entry ≡ seen c → kind_of c ≡ Backgrounds
-        → MatchResult result (λ b. SelectsBackgrounds (Some c) bits (Ok b.items)) (λ fault. SelectsBackgrounds (Some c) bits (Err fault)) }
+        → MatchResult result (λ b. GivesBackgrounds (Some c) bits (Ok b.items)) (λ fault. GivesBackgrounds (Some c) bits (Err fault)) }
 {
     match content {
         Content::Backgrounds(words) => listed(words),
@@ -109,8 +111,8 @@ pub fn backgrounds_from(bytes: &[u8], bits: u8) -> Result<ArrayVec<u64, 8>, Memo
     requires bits { (1 ≤ bits) × (bits ≤ 64) }
     requires fit { (width : ℕ) × (too_wide (statements (text_lines bytes.now)) width bits ≡ None) }
     ensures set { IfOk result (λ b. IsBackgrounds bits b.items) }
-    ensures tests { bits ≡ bits_said (statements (text_lines bytes.now))
-        → MatchResult result (λ b. StatesBackgrounds (statements (text_lines bytes.now)) (Ok b.items)) (λ fault. StatesBackgrounds (statements (text_lines bytes.now)) (Err fault)) }
+    ensures tests { MatchResult result (λ b. GivesBackgrounds (said OfBackgrounds (statements (text_lines bytes.now))) bits (Ok b.items))
+        (λ fault. GivesBackgrounds (said OfBackgrounds (statements (text_lines bytes.now))) bits (Err fault)) }
 {
     match statement_about(bytes, Subject::Backgrounds) {
         Some(statement) => backgrounds_of(statement.content, bits),

@@ -1,34 +1,17 @@
 //! The lines of a description: each must be one of the table, and the first with content a `memory` line.
 
 ghost use Rattle.std.specs.Prelude.{◌≡◌, None, Some};
-ghost use Rattle.bist_text.specs.Lines.{plain_line, text_lines};
+ghost use Rattle.bist_text.specs.Lines.{text_lines};
+ghost use Rattle.bist_text.specs.keyed.Texts.{checked, walk};
 ghost use Rattle.memory_desc.specs.Statements.{version_of};
+ghost use Rattle.memory_desc.specs.inner.Heard.{version_at};
 ghost use Rattle.memory_desc.specs.inner.Seen.{plain_content};
-ghost use Rattle.memory_desc.specs.inner.Standing.{checked};
-ghost use Rattle.memory_desc.specs.inner.Walk.{line_refusal, lines_refusal, opening, refusal_at, version_in};
+ghost use Rattle.memory_desc.specs.inner.Standing.{version_in_seen};
 
 use crate::content::{Content, Version};
-use crate::fault::MemoryFault;
 use crate::line_reader::read_line;
-use bist_text::keyed_lines::LineFault;
-use bist_text::{Line, Lines};
-
-/// A line's refusal. Where a line feed ends the line, it is the byte that can't stand there.
-fn refused(line: &Line<'_>, fault: LineFault) -> MemoryFault
-    ensures { result ≡ refusal_at (plain_line line.now) fault }
-{
-    match fault {
-        LineFault::Unexpected(byte) => MemoryFault::Unexpected {
-            line: line.number,
-            byte,
-        },
-        LineFault::Truncated if line.ended => MemoryFault::Unexpected {
-            line: line.number,
-            byte: line.text.len(),
-        },
-        LineFault::Truncated => MemoryFault::Truncated,
-    }
-}
+use bist_text::Lines;
+use bist_text::keyed_lines::{LineFault, TextFault, known_behind};
 
 /// The version of a number.
 fn version_from(number: u32) -> Option<Version>
@@ -43,7 +26,7 @@ fn version_from(number: u32) -> Option<Version>
 
 /// The version that a line's content gives.
 fn version_in(content: &Content<'_>) -> Option<Version>
-    ensures { result ≡ version_in (plain_content content.now) }
+    ensures { result ≡ version_in_seen (plain_content content.now) }
 {
     match content {
         Content::Version(number) => version_from(*number),
@@ -51,44 +34,26 @@ fn version_in(content: &Content<'_>) -> Option<Version>
     }
 }
 
-/// The version that a line gives, where it may only be a `memory` line; None of a line without content.
-fn opening(line: &Line<'_>) -> Result<Option<Version>, MemoryFault>
-    ensures { result ≡ opening (plain_line line.now) }
+/// The version that a line gives, where it has content.
+fn version_at(text: &[u8], given: Option<Version>) -> Result<Option<Option<Version>>, LineFault>
+    ensures { result ≡ version_at given text.now }
 {
-    match read_line(line.text, None) {
-        Ok(None) => Ok(None),
-        Ok(Some(content)) => match version_in(&content) {
-            Some(version) => Ok(Some(version)),
-            None => Err(MemoryFault::OtherVersion),
-        },
-        Err(fault) => Err(refused(line, fault)),
-    }
-}
-
-/// A line must be one of a version's table.
-fn check_line(line: &Line<'_>, version: Version) -> Result<(), MemoryFault>
-    ensures { result ≡ checked (line_refusal (Some version) (plain_line line.now)) }
-{
-    match read_line(line.text, Some(version)) {
-        Ok(_) => Ok(()),
-        Err(fault) => Err(refused(line, fault)),
+    match read_line(text, given)? {
+        Some(content) => Ok(Some(version_in(&content))),
+        None => Ok(None),
     }
 }
 
 /// The first content line must be a `memory` line of version 1 or 2, and each later one a line of its version's table.
-pub fn check_lines(bytes: &[u8]) -> Result<(), MemoryFault>
-    ensures { result ≡ checked (lines_refusal None (text_lines bytes.now)) }
+pub fn check_lines(bytes: &[u8]) -> Result<(), TextFault>
+    ensures { result ≡ checked (walk version_at (text_lines bytes.now) None) }
 {
     let mut version = None;
     for line in Lines::new(bytes) {
-        if let Some(given) = version {
-            check_line(&line, given)?;
-        } else {
-            version = opening(&line)?;
-        }
+        version = known_behind(version, &line, version_at(line.text, version))?;
     }
     match version {
         Some(_) => Ok(()),
-        None => Err(MemoryFault::Truncated),
+        None => Err(TextFault::Truncated),
     }
 }

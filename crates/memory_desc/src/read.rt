@@ -1,18 +1,18 @@
 //! The reader of memory descriptions.
 
-ghost use Rattle.std.specs.Prelude.{◌≡◌, ◌≤◌, ◌↔◌, ◌-◌, ℕ, false, List, None, Ok, Err, OnOk};
+ghost use Rattle.std.specs.Prelude.{◌≡◌, ◌↔◌, false, List, Some, None, Ok, Err, OnOk, MatchResult};
 ghost use Rattle.std.specs.Int.{is_power_of_two};
-ghost use Rattle.bist_bits.specs.Width.{IsWidthOf};
 ghost use Rattle.bist_text.specs.Lines.{text_lines};
+ghost use Rattle.bist_text.specs.keyed.Texts.{checked};
 ghost use Rattle.memory_desc.specs.declared.fault.MemoryFault.{MemoryFault};
 ghost use Rattle.memory_desc.specs.Descriptions.{Description};
 ghost use Rattle.memory_desc.specs.Names.{IsName};
 ghost use Rattle.memory_desc.specs.Statements.{Statement};
-ghost use Rattle.memory_desc.specs.Values.{name_said, words_said, bits_said};
+ghost use Rattle.memory_desc.specs.Values.{words_said};
 ghost use Rattle.memory_desc.specs.inner.Heard.{statements};
 ghost use Rattle.memory_desc.specs.inner.Seen.{plain_content};
-ghost use Rattle.memory_desc.specs.inner.Standing.{checked, name_in_seen};
-ghost use Rattle.memory_desc.specs.Table.{is_scrambled, unscramblable, out_of_range, AreStatements, Builds, Describes, Reads};
+ghost use Rattle.memory_desc.specs.inner.Standing.{name_in_seen, AreFields};
+ghost use Rattle.memory_desc.specs.Table.{is_scrambled, of_lines, unscramblable, unsized, AreStatements, Describes, Reads};
 
 use crate::building::{backgrounds_from, scramble_from};
 use crate::content::{Content, Subject};
@@ -23,6 +23,7 @@ use crate::search::{check_ranges, check_repeats, check_widths, field, is_scrambl
 use crate::timing::{cycles_from, number_of, polarity_from};
 use arrayvec::ArrayString;
 use bist_bits::width_of;
+use bist_text::keyed_lines::TextFault;
 use std::str;
 
 /// The text of a name.
@@ -46,6 +47,14 @@ fn name_of<'a>(content: &Content<'a>) -> &'a [u8]
     }
 }
 
+/// The fields that a description must have.
+#[derive(Clone, Copy)]
+struct Fields<'a> {
+    name: &'a [u8],
+    words: u32,
+    bits: u8,
+}
+
 /// A scrambling needs a number of words that is a power of two.
 fn check_power_of_two(scrambled: bool, words: u32) -> Result<(), MemoryFault>
     ensures plain { OnOk result (is_power_of_two words ≡ false → scrambled ≡ false) }
@@ -58,19 +67,35 @@ fn check_power_of_two(scrambled: bool, words: u32) -> Result<(), MemoryFault>
     }
 }
 
-/// The memory of a name, a number of words and a number of bits, with what the text says besides.
+/// The fields that a description must have. No two lines speak of the same, and each is within its range.
+fn stated_fields(bytes: &[u8]) -> Result<Fields<'_>, MemoryFault>
+    ensures { MatchResult result (λ f. (unsized (statements (text_lines bytes.now)) ≡ None) × AreFields (statements (text_lines bytes.now)) f.name.now f.words f.bits)
+        (λ fault. unsized (statements (text_lines bytes.now)) ≡ Some fault) }
+{
+    check_repeats(bytes)?;
+    let name_line = field(bytes, Subject::Name, Field::Name)?;
+    let words_line = field(bytes, Subject::Words, Field::Words)?;
+    let bits_line = field(bytes, Subject::Bits, Field::Bits)?;
+    check_ranges(bytes)?;
+    let words = number_of(&words_line.content);
+    let bits = number_of(&bits_line.content);
+    Ok(Fields {
+        name: name_of(&name_line.content),
+        words,
+        bits: bits as u8,
+    })
+}
+
+/// The memory of these fields, with what the text says besides.
 fn memory_of(
     bytes: &[u8],
     name: ArrayString<48>,
     words: u32,
     bits: u8,
 ) -> Result<Memory, MemoryFault>
-    requires ranged { out_of_range (statements (text_lines bytes.now)) ≡ None }
-    requires name { IsName name.bytes }
-    requires words { (2 ≤ words) × (words ≤ 65536) }
-    requires bits { (1 ≤ bits) × (bits ≤ 64) }
-    ensures { name.bytes ≡ name_said (statements (text_lines bytes.now)) → words ≡ words_said (statements (text_lines bytes.now))
-        → bits ≡ bits_said (statements (text_lines bytes.now)) → (width : ℕ) × IsWidthOf (words - 1) width × Builds (statements (text_lines bytes.now)) width result }
+    requires unrefused { unsized (statements (text_lines bytes.now)) ≡ None }
+    requires fields { AreFields (statements (text_lines bytes.now)) name.bytes words bits }
+    ensures { Describes (statements (text_lines bytes.now)) result }
 {
     let width = width_of(u64::from(words - 1));
     let scrambled = is_scrambled(bytes);
@@ -90,15 +115,19 @@ fn memory_of(
 fn described(bytes: &[u8]) -> Result<Memory, MemoryFault>
     ensures { Describes (statements (text_lines bytes.now)) result }
 {
-    check_repeats(bytes)?;
-    let name_line = field(bytes, Subject::Name, Field::Name)?;
-    let words_line = field(bytes, Subject::Words, Field::Words)?;
-    let bits_line = field(bytes, Subject::Bits, Field::Bits)?;
-    check_ranges(bytes)?;
-    let words = number_of(&words_line.content);
-    let bits = number_of(&bits_line.content);
-    let name = name_from(name_of(&name_line.content));
-    memory_of(bytes, name, words, bits as u8)
+    let fields = stated_fields(bytes)?;
+    memory_of(bytes, name_from(fields.name), fields.words, fields.bits)
+}
+
+/// The refusal of a text for its lines.
+fn of_lines(fault: TextFault) -> MemoryFault
+    ensures { result ≡ of_lines fault }
+{
+    match fault {
+        TextFault::Unexpected { line, byte } => MemoryFault::Unexpected { line, byte },
+        TextFault::Truncated => MemoryFault::Truncated,
+        TextFault::OtherVersion => MemoryFault::OtherVersion,
+    }
 }
 
 /// Reads a memory description. The first refusal decides, in the order of the table.
@@ -113,6 +142,8 @@ pub fn read_memory(bytes: &[u8]) -> Result<Memory, MemoryFault>
     // A text has no two readings.
     ensures one_reading { (ss : List Statement) (ts : List Statement) → AreStatements bytes.now ss → AreStatements bytes.now ts → ss ≡ ts }
 {
-    check_lines(bytes)?;
-    described(bytes)
+    match check_lines(bytes) {
+        Ok(()) => described(bytes),
+        Err(fault) => Err(of_lines(fault)),
+    }
 }

@@ -1,15 +1,17 @@
 //! Searches in the lines of a text.
 
-ghost use Rattle.std.specs.Prelude.{◌≡◌, ◌≤◌, ◌||◌, nat_lt, length, false, List, None, option_map};
+ghost use Rattle.std.specs.Prelude.{◌≡◌, ◌≤◌, ◌||◌, nat_lt, length, false, List, None, find, option_map};
 ghost use Rattle.bist_text.specs.ReservedWords.{is_among, reserved_words};
 ghost use Rattle.bist_text.specs.Lines.{text_lines};
+ghost use Rattle.bist_text.specs.keyed.Texts.{checked};
+ghost use Rattle.memory_desc.specs.declared.fault.MemoryFault.TheVariants.{OutOfRange};
 ghost use Rattle.memory_desc.specs.Subjects.{about};
-ghost use Rattle.memory_desc.specs.Table.{is_other, is_scrambled, repeated, out_of_range, too_wide};
+ghost use Rattle.memory_desc.specs.Table.{at_line, is_other, is_scrambled, repeated, out_of_range, too_wide};
 ghost use Rattle.memory_desc.specs.inner.Heard.{statements};
 ghost use Rattle.memory_desc.specs.inner.Met.{MayBeMet};
-ghost use Rattle.memory_desc.specs.inner.Seeking.{first_sought, is_out_of_range, is_outside, is_row, is_sought, is_too_wide, IsPosed};
+ghost use Rattle.memory_desc.specs.inner.Seeking.{first_sought, is_out_of_range, is_outside, is_row, is_sought, is_too_wide, tests, IsPosed};
 ghost use Rattle.memory_desc.specs.inner.Seen.{plain_content, plain_statement, seen_statements};
-ghost use Rattle.memory_desc.specs.inner.Standing.{StandsAt, GivesField, checked};
+ghost use Rattle.memory_desc.specs.inner.Standing.{StandsAt, GivesField};
 
 use crate::content::{Content, Statement, Subject, subject_of};
 use crate::fault::{Field, MemoryFault};
@@ -154,16 +156,24 @@ fn is_too_wide(content: &Content<'_>, width: u8, bits: u8) -> bool
     }
 }
 
-/// Names, numbers of words and of bits, latencies and pauses stay within their ranges.
-pub fn check_ranges(bytes: &[u8]) -> Result<(), MemoryFault>
-    ensures { result ≡ checked (out_of_range (statements (text_lines bytes.now))) }
+/// No content line is sought, else the first is out of its range.
+fn check(bytes: &[u8], sought: Sought) -> Result<(), MemoryFault>
+    requires { IsPosed sought }
+    ensures { result ≡ checked (at_line OutOfRange (find (λ s. tests sought s.content) (statements (text_lines bytes.now)))) }
 {
-    match first_line(bytes, Sought::OutOfRange) {
+    match first_line(bytes, sought) {
         Some(statement) => Err(MemoryFault::OutOfRange {
             line: statement.line,
         }),
         None => Ok(()),
     }
+}
+
+/// Names, numbers of words and of bits, latencies and pauses stay within their ranges.
+pub fn check_ranges(bytes: &[u8]) -> Result<(), MemoryFault>
+    ensures { result ≡ checked (out_of_range (statements (text_lines bytes.now))) }
+{
+    check(bytes, Sought::OutOfRange)
 }
 
 /// Rows stay within the address, and backgrounds and polarities within the word.
@@ -172,12 +182,7 @@ pub fn check_widths(bytes: &[u8], width: u8, bits: u8) -> Result<(), MemoryFault
     requires bits { (1 ≤ bits) × (bits ≤ 64) }
     ensures { result ≡ checked (too_wide (statements (text_lines bytes.now)) width bits) }
 {
-    match first_line(bytes, Sought::TooWide { width, bits }) {
-        Some(statement) => Err(MemoryFault::OutOfRange {
-            line: statement.line,
-        }),
-        None => Ok(()),
-    }
+    check(bytes, Sought::TooWide { width, bits })
 }
 
 /// Whether there is a row.

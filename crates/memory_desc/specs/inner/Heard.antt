@@ -1,16 +1,18 @@
 -- Inner. For proofs and private contracts alone: what the reader hears in a line, as functions of its bytes.
-use Rattle.std.specs.Prelude.{ℕ, ◌==◌, Bool, true, false, if◌then◌else◌, List, [], ◌∷◌, ◌++◌, Option, Some, None}
+use Rattle.std.specs.Prelude.{ℕ, ◌==◌, Bool, true, false, if◌then◌else◌, List, [], ◌∷◌, Option, Some, None, Result}
 use Rattle.bist_text.specs.Grammar.{is_blank}
 use Rattle.bist_text.specs.Keywords.{Word}
 use Rattle.bist_text.specs.inner.Keywords.{all_words}
 use Rattle.bist_text.specs.Lines.{TextLine}
-use Rattle.bist_text.specs.Machine.{Outcome, read}
+use Rattle.bist_text.specs.Machine.{Outcome}
 use Rattle.bist_text.specs.keyed.Reading.{Read, took, stuck, onward, outcome}
 use Rattle.bist_text.specs.keyed.Parts.{spaced, byte_of, fits_of, word_of, ends_with, remark_of, by_byte, items_of}
-use Rattle.bist_text.specs.keyed.Lines.{line_of}
+use Rattle.bist_text.specs.keyed.Lines.{line_of, answer}
+use Rattle.bist_text.specs.keyed.Texts.{said_in, all_stated, versions}
+use Rattle.bist_text.specs.declared.keyed_lines.LineFault.{LineFault}
 use Rattle.bist_text.specs.declared.keyed_lines.Class.TheVariants.{Number, Word as HexWord, Name as NameWord}
 use Rattle.memory_desc.specs.LineText.{Term, index_bit, constant, Content, version, name, words, bits, latency, polarity, pause, scramble, log, backgrounds, is_hex, key_text}
-use Rattle.memory_desc.specs.Statements.{Statement, stated}
+use Rattle.memory_desc.specs.Statements.{Statement, stated, version_in}
 use Rattle.memory_desc.specs.declared.content.Key.{Key}
 use Rattle.memory_desc.specs.declared.content.Key.TheVariants.{Memory, Name, Words, Bits, Latency, Polarity, Pause, Scramble, Backgrounds}
 use Rattle.memory_desc.specs.declared.content.Version.{Version}
@@ -99,14 +101,13 @@ keys_of given = all_words (λ k. key_text k ∷ []) (keys_in given)
 abbrev pub heard : Option Version → List ℕ → Outcome (Option Content)
 heard given b = outcome b (line_of (keys_of given) argument_of b)
 
-abbrev pub said_in : Outcome (Option Content) → Option Content
-said_in (read v) = v
-said_in other = None
-
 -- what a line says
 abbrev pub said : List ℕ → Option Content
 said b = said_in (heard (Some Two) b)
 
 abbrev pub statements : List TextLine → List Statement
-statements [] = []
-statements (l ∷ ls) = stated l.number (said l.text) ++ statements ls
+statements ls = all_stated stated said ls
+
+-- the version that a line gives, where it has content
+abbrev pub version_at : Option Version → List ℕ → Result (Option (Option Version)) LineFault
+version_at given b = versions version_in (answer (heard given b))

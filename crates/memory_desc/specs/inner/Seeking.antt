@@ -1,7 +1,9 @@
 -- Inner. What a search in the lines of a text looks for.
 use Rattle.std.specs.Prelude.{ℕ, ◌≤◌, ◌^◌, ◌||◌, Bool, true, false, List, Option, length, max, nat_le, nat_lt, find}
 use Rattle.bist_text.specs.ReservedWords.{is_among, reserved_words}
-use Rattle.memory_desc.specs.Subjects.{is_same}
+use Rattle.memory_desc.specs.LineText.{Content}
+use Rattle.memory_desc.specs.Subjects.{is_same, subject}
+use Rattle.memory_desc.specs.Table.{is_out_of_range as is_out_of_range_content, is_row as is_row_content, is_too_wide as is_too_wide_content}
 use Rattle.memory_desc.specs.inner.Seen.{Seen, SeenStatement, numbered, named, inverted, row, listed, subject_of}
 use Rattle.memory_desc.specs.declared.content.Key.TheVariants.{Words, Bits, Latency, Pause}
 use Rattle.memory_desc.specs.declared.search.Sought.{Sought}
@@ -41,3 +43,10 @@ IsPosed other = Unit {0}
 
 abbrev pub first_sought : Sought → List SeenStatement → Option SeenStatement
 first_sought q ss = find (λ s. is_sought q s.content) ss
+
+-- the same, said of contents
+abbrev pub tests : Sought → Content → Bool
+tests (About q) c = is_same q (subject c)
+tests OutOfRange c = is_out_of_range_content c
+tests Row c = is_row_content c
+tests (TooWide width size) c = is_too_wide_content width size c

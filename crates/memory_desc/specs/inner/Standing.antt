@@ -1,13 +1,17 @@
 -- Inner. What parts of the reader answer, said of the statements of the text.
-use Rattle.std.specs.Prelude.{◌≡◌, ◌<◌, ℕ, Bool, true, false, List, [], ◌∷◌, length, take, Option, Some, None, Result, Ok, Err, bit_or, max}
+use Rattle.std.specs.Prelude.{◌≡◌, ◌⊎◌, ◌<◌, ◌≤◌, ℕ, Bool, true, false, List, [], ◌∷◌, length, take, Contains, Option, Some, None, Result, Ok, Err, bit_or, max}
 use Rattle.std.specs.Str.Parse.{digits_value}
 use Rattle.scrambler.specs.declared.matrix.Matrix.{Matrix}
-use Rattle.scrambler.specs.Scrambling.{matrix_of}
+use Rattle.scrambler.specs.Scrambling.{Scrambling, IsLeastDependence, matrix_of}
+use Rattle.memory_desc.specs.Described.{IsScrambling}
+use Rattle.memory_desc.specs.Names.{IsName}
 use Rattle.memory_desc.specs.LineText.{Term, index_bit, constant, Content}
-use Rattle.memory_desc.specs.Statements.{Statement}
+use Rattle.memory_desc.specs.Statements.{Statement, version_of}
+use Rattle.memory_desc.specs.declared.content.Key.TheVariants.{Memory}
+use Rattle.memory_desc.specs.declared.content.Version.{Version}
 use Rattle.memory_desc.specs.Subjects.{about}
-use Rattle.memory_desc.specs.Values.{number_in, latency_in, pause_in, index_bits, constant_of, word_values, matrix_said}
-use Rattle.memory_desc.specs.Table.{missing, missing_row}
+use Rattle.memory_desc.specs.Values.{number_in, latency_in, pause_in, index_bits, constant_of, word_values, matrix_said, name_said, words_said, bits_said, AreBackgrounds}
+use Rattle.memory_desc.specs.Table.{is_scrambled, missing, missing_row, unrowed, unserved}
 use Rattle.memory_desc.specs.declared.content.Subject.{Subject}
 use Rattle.memory_desc.specs.declared.content.Subject.TheVariants.{Words as OfWords, Bits as OfBits, Latency as OfLatency, Pause as OfPause}
 use Rattle.memory_desc.specs.declared.content.Row.{Row}
@@ -16,12 +20,17 @@ use Rattle.memory_desc.specs.declared.content.WordList.{WordList}
 use Rattle.memory_desc.specs.inner.Seen.{Seen, numbered, named, inverted, row, seen, plain_content, begun_row}
 use Rattle.memory_desc.specs.declared.fault.Field.{Field}
 use Rattle.memory_desc.specs.declared.fault.MemoryFault.{MemoryFault}
+use Rattle.memory_desc.specs.declared.fault.MemoryFault.TheVariants.{Singular}
 
 -- ---- what a content gives
 
 abbrev pub number_in_seen : Seen → ℕ
 number_in_seen (numbered key n) = n
 number_in_seen other = 0
+
+abbrev pub version_in_seen : Seen → Option Version
+version_in_seen (numbered Memory n) = version_of n
+version_in_seen other = None
 
 abbrev pub polarity_in_seen : Seen → ℕ
 polarity_in_seen (inverted w) = w
@@ -96,11 +105,6 @@ StandsAt None None = Unit {0}
 StandsAt (Some l) (Some s) = (l.line ≡ s.line) × (plain_content l.content ≡ seen s.content)
 StandsAt other s = ⊥
 
--- a check: the refusal, where there is one
-abbrev pub checked : Option MemoryFault → Result (Unit {0}) MemoryFault
-checked None = Ok tt
-checked (Some fault) = Err fault
-
 -- the statement of a field that must be there
 abbrev pub GivesField : List Statement → Subject → Field → Result ReadStatement MemoryFault → Type 0
 GivesField ss q field (Ok l) = StandsAt (Some l) (about q ss)
@@ -110,3 +114,26 @@ GivesField ss q field (Err fault) = missing q field ss ≡ Some fault
 abbrev pub GivesMatrix : List Statement → ℕ → Result Matrix MemoryFault → Type 0
 GivesMatrix ss width (Ok m) = (missing_row ss width ≡ None) × (matrix_of m.width m.rows m.constant ≡ matrix_said ss width)
 GivesMatrix ss width (Err fault) = missing_row ss width ≡ Some fault
+
+-- the fields that must be there, within their ranges
+pub record AreFields (ss : List Statement) (name : List ℕ) (words bits : ℕ) : Type 0 where
+  pub name_is : name ≡ name_said ss
+  pub is_name : IsName name
+  pub words_are : words ≡ words_said ss
+  pub words_low : 2 ≤ words
+  pub words_high : words ≤ 65536
+  pub bits_are : bits ≡ bits_said ss
+  pub bits_low : 1 ≤ bits
+  pub bits_high : bits ≤ 64
+
+-- the scrambling of the rows, or the identity where there are none
+abbrev pub GivesScrambling : List Statement → ℕ → Result Scrambling MemoryFault → Type 0
+GivesScrambling ss width (Ok s) = (unrowed ss width ≡ None) × IsScrambling ss width s
+GivesScrambling ss width (Err fault) =
+    (unrowed ss width ≡ Some fault)
+    ⊎ ((unrowed ss width ≡ None) × (rows : ℕ) × (is_scrambled ss ≡ true) × IsLeastDependence (matrix_said ss width) rows × (fault ≡ Singular rows))
+
+-- the backgrounds where this is said of them
+abbrev pub GivesBackgrounds : Option Content → ℕ → Result (List ℕ) MemoryFault → Type 0
+GivesBackgrounds c size (Ok set) = AreBackgrounds c size set × (length set ≤ 8) × Contains set 0
+GivesBackgrounds c size (Err fault) = unserved c ≡ Some fault

@@ -1,12 +1,6 @@
-use Rattle.std.proofs.Common.{◌∙◌, Err, sym, ap, subst}
+use Rattle.chip_desc.proofs.Common.{Err, IsName, ap, heavier_than, out_of_range, passed, plain_statement, statements, subst, sym, text_lines, ◌∙◌}
 use Rattle.std.proofs.lemmas.Result.{err_from_is_err_and}
-use Rattle.bist_text.specs.Lines.{text_lines}
-use Rattle.memory_desc.specs.Names.{IsName}
-use Rattle.chip_desc.specs.ChipTable.{out_of_range}
-use Rattle.chip_desc.specs.inner.Heard.{statements, plain_statement}
-use Rattle.chip_desc.specs.inner.Seeking.{heavier_than}
 use Rattle.chip_desc.proofs.Described.{named, is_chip, comes_to, is_refused, is_described, parts_same}
-use Rattle.chip_desc.proofs.LineChecking.{unchecked}
 use Rattle.chip_desc.proofs.read.described.Goals as goal
 
 pub returns-in_err-check_weights : goal.returns-in_err-check_weights
@@ -23,18 +17,18 @@ returns-in_err-check_weights c =
 pub name_from-name-requires : goal.name_from-name-requires
 name_from-name-requires c =
     let ls = text_lines c.args.bytes.now in
-    subst IsName (sym c.name_of.ensures) (named ls (plain_statement c.in_ok-name_line.name_line) (unchecked (out_of_range (statements ls)) tt (sym c.in_ok-check_ranges.ensures)) c.in_ok-name_line.ensures)
+    subst IsName (sym c.name_of.ensures) (named ls (plain_statement c.in_ok-name_line.name_line) (passed (out_of_range (statements ls)) c.in_ok-check_ranges.ensures) c.in_ok-name_line.ensures)
 
 pub new-requires : goal.new-requires
 new-requires c =
     let ls = text_lines c.args.bytes.now in
     let ss = statements ls in
     let n = c.budget_of-budget.result in
-    let inside = unchecked (out_of_range ss) tt (sym c.in_ok-check_ranges.ensures) in
+    let inside = passed (out_of_range ss) c.in_ok-check_ranges.ensures in
     is_chip ls (plain_statement c.in_ok-budget_line.budget_line) (plain_statement c.in_ok-field.field-0) c.name_from-name.result.bytes n c.in_ok-units.units.items
     (subst IsName (sym (c.name_from-name.ensures ∙ c.name_of.ensures)) (named ls (plain_statement c.in_ok-name_line.name_line) inside c.in_ok-name_line.ensures))
     c.in_ok-budget_line.ensures c.in_ok-field.ensures inside c.budget_of-budget.ensures c.in_ok-units.ensures.0 c.in_ok-units.ensures.1
-    (unchecked (heavier_than n ss) tt (sym c.in_ok-check_weights.ensures))
+    (passed (heavier_than n ss) c.in_ok-check_weights.ensures)
 
 pub returns : goal.returns
 returns c =

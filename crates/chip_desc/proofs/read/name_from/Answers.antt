@@ -1,4 +1,4 @@
-use Rattle.std.proofs.lemmas.Str.{IsUtf8-from_ascii}
+use Rattle.chip_desc.proofs.Common.{IsUtf8-from_ascii}
 use Rattle.memory_desc.proofs.NameBytes.{identifier_ascii}
 use Rattle.chip_desc.proofs.read.name_from.Goals as goal
 

@@ -1,7 +1,4 @@
-use Rattle.std.proofs.Common.{◌≡◌, find}
-use Rattle.bist_text.specs.Lines.{lines_left, text_lines}
-use Rattle.chip_desc.specs.inner.Heard.{statements}
-use Rattle.chip_desc.specs.inner.Seeking.{is_sought}
+use Rattle.chip_desc.proofs.Common.{find, is_sought, lines_left, statements, text_lines, ◌≡◌}
 use Rattle.chip_desc.proofs.search.first_line.Given as goal
 
 abbrev pub invariant-loop-line : goal.invariant-loop-line

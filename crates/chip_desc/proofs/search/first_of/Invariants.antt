@@ -1,7 +1,4 @@
-use Rattle.std.proofs.Common.{◌≡◌}
-use Rattle.bist_text.specs.Lines.{lines_left, text_lines}
-use Rattle.chip_desc.specs.ChipTable.{first_of}
-use Rattle.chip_desc.specs.inner.Heard.{statements}
+use Rattle.chip_desc.proofs.Common.{first_of, lines_left, statements, text_lines, ◌≡◌}
 use Rattle.chip_desc.proofs.search.first_of.Given as goal
 
 abbrev pub invariant-loop-line : goal.invariant-loop-line

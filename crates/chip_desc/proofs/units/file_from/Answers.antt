@@ -1,4 +1,4 @@
-use Rattle.std.proofs.lemmas.Str.{IsUtf8-from_ascii}
+use Rattle.chip_desc.proofs.Common.{IsUtf8-from_ascii}
 use Rattle.chip_desc.proofs.UnitLines.{file_ascii}
 use Rattle.chip_desc.proofs.units.file_from.Goals as goal
 

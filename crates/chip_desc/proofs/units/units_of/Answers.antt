@@ -1,7 +1,4 @@
-use Rattle.std.proofs.Common.{length, sym, ◌∙◌}
-use Rattle.std.proofs.lemmas.Bool.{eqb-true}
-use Rattle.bist_text.specs.Lines.{text_lines}
-use Rattle.chip_desc.specs.inner.Heard.{statements}
+use Rattle.chip_desc.proofs.Common.{eqb-true, length, statements, sym, text_lines, ◌∙◌}
 use Rattle.chip_desc.proofs.UnitLines.{unit_fits, one_too_many}
 use Rattle.chip_desc.proofs.units.units_of.Goals as goal
 

@@ -1,8 +1,4 @@
-use Rattle.std.proofs.Common.{◌≡◌, ◌++◌, ◌≤◌, None, length, map}
-use Rattle.bist_text.specs.Lines.{lines_left, text_lines}
-use Rattle.chip_desc.specs.Chips.{unit_of}
-use Rattle.chip_desc.specs.ChipTable.{out_of_range, units_said}
-use Rattle.chip_desc.specs.inner.Heard.{statements}
+use Rattle.chip_desc.proofs.Common.{None, length, lines_left, map, out_of_range, statements, text_lines, unit_of, units_said, ◌++◌, ◌≡◌, ◌≤◌}
 use Rattle.chip_desc.proofs.units.units_of.Given as goal
 
 abbrev pub invariant-loop-line : goal.invariant-loop-line

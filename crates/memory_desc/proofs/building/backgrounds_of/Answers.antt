@@ -1,5 +1,4 @@
-use Rattle.std.proofs.Common.{◌∙◌, sym, ap}
-use Rattle.memory_desc.specs.inner.Seen.{plain_content}
+use Rattle.memory_desc.proofs.Common.{ap, plain_content, sym, ◌∙◌}
 use Rattle.memory_desc.proofs.Chosen.{chooses_listed, chooses_log, not_listed}
 use Rattle.memory_desc.proofs.building.backgrounds_of.Goals as goal
 

@@ -1,7 +1,4 @@
-use Rattle.std.proofs.Common.{◌≡◌, ℕ, Some, subst}
-use Rattle.std.proofs.lemmas.Result.{err_from_is_err_and}
-use Rattle.bist_text.specs.Lines.{text_lines}
-use Rattle.memory_desc.specs.Table.{missing}
+use Rattle.memory_desc.proofs.Common.{Some, err_from_is_err_and, missing, subst, text_lines, ℕ, ◌≡◌}
 use Rattle.memory_desc.specs.declared.content.Subject.TheVariants.{Row}
 use Rattle.memory_desc.specs.declared.fault.Field.TheVariants.{Row as RowField}
 use Rattle.memory_desc.specs.inner.Heard.{statements}

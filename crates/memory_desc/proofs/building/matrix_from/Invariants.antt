@@ -1,4 +1,4 @@
-use Rattle.bist_text.specs.Lines.{text_lines}
+use Rattle.memory_desc.proofs.Common.{text_lines}
 use Rattle.memory_desc.specs.inner.Heard.{statements}
 use Rattle.memory_desc.proofs.Rows.{Gathered}
 use Rattle.memory_desc.proofs.building.matrix_from.Given as goal

@@ -1,7 +1,5 @@
-use Rattle.std.proofs.Common.{◌∙◌, ap}
-use Rattle.memory_desc.specs.LineText.{version, words, bits, latency, pause}
-use Rattle.memory_desc.specs.declared.content.Key.TheVariants.{Memory, Words, Bits, Latency, Pause}
-use Rattle.memory_desc.specs.inner.Heard.{argument_of}
+use Rattle.memory_desc.proofs.Common.{Memory, ap, argument_of, bits, latency, pause, version, words, ◌∙◌}
+use Rattle.memory_desc.specs.declared.content.Key.TheVariants.{Words, Bits, Latency, Pause}
 use Rattle.memory_desc.specs.inner.Seen.{numbered}
 use Rattle.memory_desc.proofs.line_reader.argument.Goals as goal
 

@@ -1,7 +1,5 @@
-use Rattle.std.proofs.Common.{Some, refl}
-use Rattle.bist_text.specs.keyed.Parts.{fits_of}
+use Rattle.memory_desc.proofs.Common.{Some, fits_of, name, refl}
 use Rattle.bist_text.specs.declared.keyed_lines.Class.TheVariants.{Name}
-use Rattle.memory_desc.specs.LineText.{name}
 use Rattle.memory_desc.proofs.WordReads.{argument_took}
 use Rattle.memory_desc.proofs.line_reader.name.Goals as goal
 

@@ -1,8 +1,4 @@
-use Rattle.std.proofs.Common.{Some, ap}
-use Rattle.bist_text.specs.keyed.Parts.{fits_of}
-use Rattle.bist_text.specs.declared.keyed_lines.Class.TheVariants.{Word}
-use Rattle.memory_desc.specs.LineText.{polarity}
-use Rattle.memory_desc.specs.inner.Seen.{inverted}
+use Rattle.memory_desc.proofs.Common.{Some, Word, ap, fits_of, inverted, polarity}
 use Rattle.memory_desc.proofs.WordReads.{argument_took}
 use Rattle.memory_desc.proofs.line_reader.polarity.Goals as goal
 

@@ -1,8 +1,4 @@
-use Rattle.std.proofs.Common.{List, ℕ, ◌++◌, ◌∷◌, [], codes, slice_index, take, sym, ◌∙◌, ap, append_assoc, arith}
-use Rattle.std.proofs.lemmas.List.{take_all}
-use Rattle.std.proofs.lemmas.Result.{on_ok_weaker}
-use Rattle.bist_text.specs.Numbers.{word_text}
-use Rattle.memory_desc.specs.Printed.{background_texts}
+use Rattle.memory_desc.proofs.Common.{List, [], ap, append_assoc, arith, background_texts, codes, on_ok_weaker, slice_index, sym, take, take_all, word_text, ℕ, ◌++◌, ◌∙◌, ◌∷◌}
 use Rattle.memory_desc.proofs.Printing.{words_more}
 use Rattle.memory_desc.proofs.print.put_backgrounds.Goals as goal
 

@@ -1,5 +1,4 @@
-use Rattle.std.proofs.Common.{◌≡◌, ◌++◌, take}
-use Rattle.memory_desc.specs.Printed.{background_texts}
+use Rattle.memory_desc.proofs.Common.{background_texts, take, ◌++◌, ◌≡◌}
 use Rattle.memory_desc.proofs.print.put_backgrounds.Given as goal
 
 abbrev pub invariant-loop-word : goal.invariant-loop-word

@@ -1,6 +1,4 @@
-use Rattle.std.proofs.Common.{◌++◌, ◌∙◌, ap}
-use Rattle.std.proofs.lemmas.Result.{on_ok_weaker}
-use Rattle.memory_desc.specs.Printed.{version_text}
+use Rattle.memory_desc.proofs.Common.{ap, on_ok_weaker, version_text, ◌++◌, ◌∙◌}
 use Rattle.memory_desc.proofs.PrintSteps.{head_printed}
 use Rattle.memory_desc.proofs.print.put_head.Goals as goal
 

@@ -1,6 +1,4 @@
-use Rattle.std.proofs.Common.{◌≡◌, ◌++◌}
-use Rattle.memory_desc.specs.Printed.{index_terms, joined}
-use Rattle.memory_desc.specs.inner.Printed.{is_none}
+use Rattle.memory_desc.proofs.Common.{index_terms, is_none, joined, ◌++◌, ◌≡◌}
 use Rattle.memory_desc.proofs.print.put_index_terms.Given as goal
 
 abbrev pub invariant-loop-j : goal.invariant-loop-j

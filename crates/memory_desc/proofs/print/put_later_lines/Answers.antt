@@ -1,5 +1,4 @@
-use Rattle.std.proofs.Common.{◌∙◌}
-use Rattle.std.proofs.lemmas.Result.{on_ok_weaker}
+use Rattle.memory_desc.proofs.Common.{on_ok_weaker, ◌∙◌}
 use Rattle.memory_desc.proofs.PrintSteps.{later_printed}
 use Rattle.memory_desc.proofs.print.put_later_lines.Goals as goal
 

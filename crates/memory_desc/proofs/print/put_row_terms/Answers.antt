@@ -1,4 +1,4 @@
-use Rattle.std.proofs.Common.{List, ℕ, ◌++◌, ◌∷◌, [], ◌∙◌, ap}
+use Rattle.memory_desc.proofs.Common.{List, [], ap, ℕ, ◌++◌, ◌∙◌, ◌∷◌}
 use Rattle.memory_desc.proofs.Terms.{constant_written}
 use Rattle.memory_desc.proofs.print.put_row_terms.Goals as goal
 

@@ -1,6 +1,4 @@
-use Rattle.std.proofs.Common.{◌≡◌, ◌+◌, ◌++◌, [], suc, cond, sym, ap, ◌∙◌, arith, append_assoc}
-use Rattle.std.proofs.Math.Nat.{le_antisymm}
-use Rattle.memory_desc.specs.Printed.{row_lines, row_line}
+use Rattle.memory_desc.proofs.Common.{[], ap, append_assoc, arith, cond, le_antisymm, row_line, row_lines, suc, sym, ◌++◌, ◌+◌, ◌∙◌, ◌≡◌}
 use Rattle.memory_desc.proofs.print.put_scramble.Goals as goal
 
 pub loop-i-preserved : goal.loop-i-preserved

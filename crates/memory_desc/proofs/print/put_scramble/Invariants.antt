@@ -1,5 +1,4 @@
-use Rattle.std.proofs.Common.{◌≡◌, ◌++◌}
-use Rattle.memory_desc.specs.Printed.{row_lines}
+use Rattle.memory_desc.proofs.Common.{row_lines, ◌++◌, ◌≡◌}
 use Rattle.memory_desc.proofs.print.put_scramble.Given as goal
 
 abbrev pub invariant-loop-i : goal.invariant-loop-i

@@ -1,4 +1,4 @@
-use Rattle.std.proofs.Common.{Some, ap}
+use Rattle.memory_desc.proofs.Common.{Some, ap}
 use Rattle.memory_desc.proofs.TermReads.{marked_took}
 use Rattle.memory_desc.proofs.row_reader.marked_term.Goals as goal
 

@@ -1,7 +1,5 @@
-use Rattle.std.proofs.Common.{◌∙◌, ◌∷◌, ap}
-use Rattle.std.proofs.Math.Path.{ap₂}
-use Rattle.memory_desc.specs.LineText.{scramble}
-use Rattle.memory_desc.specs.inner.Seen.{row, begun_row, with_term, with_terms}
+use Rattle.memory_desc.proofs.Common.{ap, ap₂, begun_row, scramble, with_term, with_terms, ◌∙◌, ◌∷◌}
+use Rattle.memory_desc.specs.inner.Seen.{row}
 use Rattle.memory_desc.proofs.TermReads.{row_took}
 use Rattle.memory_desc.proofs.row_reader.row.Goals as goal
 

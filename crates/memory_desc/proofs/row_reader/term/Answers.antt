@@ -1,5 +1,4 @@
-use Rattle.std.proofs.Common.{true, false, refl}
-use Rattle.memory_desc.specs.LineText.{constant}
+use Rattle.memory_desc.proofs.Common.{constant, false, refl, true}
 use Rattle.memory_desc.proofs.TermReads.{zero_took, one_took}
 use Rattle.memory_desc.proofs.row_reader.term.Goals as goal
 

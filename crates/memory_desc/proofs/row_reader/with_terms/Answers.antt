@@ -1,5 +1,4 @@
-use Rattle.std.proofs.Common.{refl}
-use Rattle.std.proofs.lemmas.Result.{err_from_is_err_and}
+use Rattle.memory_desc.proofs.Common.{err_from_is_err_and, refl}
 use Rattle.memory_desc.proofs.TermReads.{terms_on, terms_smaller, terms_end, terms_stuck}
 use Rattle.memory_desc.proofs.row_reader.with_terms.Goals as goal
 

@@ -1,4 +1,4 @@
-use Rattle.std.proofs.Common.{◌≡◌, length}
+use Rattle.memory_desc.proofs.Common.{length, ◌≡◌}
 use Rattle.memory_desc.proofs.TermReads.{Gathered}
 use Rattle.memory_desc.proofs.row_reader.with_terms.Given as goal
 

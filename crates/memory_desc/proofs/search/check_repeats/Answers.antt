@@ -1,5 +1,4 @@
-use Rattle.std.proofs.Common.{sym, ap, ◌∙◌}
-use Rattle.memory_desc.specs.inner.Seen.{plain_line_content}
+use Rattle.memory_desc.proofs.Common.{ap, plain_line_content, sym, ◌∙◌}
 use Rattle.memory_desc.proofs.Repeats.{passing_on, repeat_stops, repeat_ends}
 use Rattle.memory_desc.proofs.search.check_repeats.Goals as goal
 

@@ -1,4 +1,4 @@
-use Rattle.bist_text.specs.Lines.{lines_left, text_lines}
+use Rattle.memory_desc.proofs.Common.{lines_left, text_lines}
 use Rattle.memory_desc.proofs.Repeats.{Passing}
 use Rattle.memory_desc.proofs.search.check_repeats.Given as goal
 

@@ -1,7 +1,4 @@
-use Rattle.std.proofs.Common.{◌≡◌}
-use Rattle.bist_text.specs.Lines.{lines_left, text_lines}
-use Rattle.memory_desc.specs.inner.Seeking.{first_sought}
-use Rattle.memory_desc.specs.inner.Seen.{seen_statements}
+use Rattle.memory_desc.proofs.Common.{first_sought, lines_left, seen_statements, text_lines, ◌≡◌}
 use Rattle.memory_desc.proofs.search.first_line.Given as goal
 
 abbrev pub invariant-loop-line : goal.invariant-loop-line

@@ -1,6 +1,4 @@
-use Rattle.std.proofs.Common.{sym}
-use Rattle.bist_text.specs.Lines.{text_lines}
-use Rattle.memory_desc.specs.Subjects.{about}
+use Rattle.memory_desc.proofs.Common.{about, sym, text_lines}
 use Rattle.memory_desc.specs.inner.Heard.{statements}
 use Rattle.memory_desc.proofs.LineTests.{first_differs, none_differs}
 use Rattle.memory_desc.proofs.search.is_repeat.Goals as goal

@@ -1,5 +1,4 @@
-use Rattle.bist_text.specs.Lines.{text_lines}
-use Rattle.memory_desc.specs.Table.{is_row}
+use Rattle.memory_desc.proofs.Common.{is_row, text_lines}
 use Rattle.memory_desc.specs.inner.Heard.{statements}
 use Rattle.memory_desc.specs.declared.search.Sought.TheVariants.{Row}
 use Rattle.memory_desc.proofs.Searches.{found, any_found}

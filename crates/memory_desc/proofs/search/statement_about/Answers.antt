@@ -1,5 +1,4 @@
-use Rattle.bist_text.specs.Lines.{text_lines}
-use Rattle.memory_desc.specs.declared.search.Sought.TheVariants.{About}
+use Rattle.memory_desc.proofs.Common.{About, text_lines}
 use Rattle.memory_desc.proofs.Searches.{found}
 use Rattle.memory_desc.proofs.search.statement_about.Goals as goal
 

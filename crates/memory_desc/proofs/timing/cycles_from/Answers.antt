@@ -1,4 +1,4 @@
-use Rattle.bist_text.specs.Lines.{text_lines}
+use Rattle.memory_desc.proofs.Common.{text_lines}
 use Rattle.memory_desc.specs.inner.Heard.{statements}
 use Rattle.memory_desc.proofs.Fields.{number_given, number_same, number_unsaid, is_cycles, cycles_least, cycles_unsaid}
 use Rattle.memory_desc.proofs.timing.cycles_from.Goals as goal

@@ -1,5 +1,4 @@
-use Rattle.std.proofs.lemmas.Nat.{pow_pos}
-use Rattle.bist_text.specs.Lines.{text_lines}
+use Rattle.memory_desc.proofs.Common.{pow_pos, text_lines}
 use Rattle.memory_desc.specs.inner.Heard.{statements}
 use Rattle.memory_desc.proofs.Fields.{polarity_fits, polarity_same, polarity_unsaid}
 use Rattle.memory_desc.proofs.timing.polarity_from.Goals as goal

@@ -1,6 +1,4 @@
-use Rattle.std.proofs.Common.{ℕ, List, ◌∙◌, ◌∷◌, ap}
-use Rattle.memory_desc.specs.LineText.{backgrounds}
-use Rattle.memory_desc.specs.inner.Seen.{SeenWords, listed, no_words, with_word, with_words}
+use Rattle.memory_desc.proofs.Common.{List, SeenWords, ap, backgrounds, listed, no_words, with_word, with_words, ℕ, ◌∙◌, ◌∷◌}
 use Rattle.memory_desc.proofs.WordReads.{listed_took}
 use Rattle.memory_desc.proofs.word_reader.listed.Goals as goal
 

@@ -1,5 +1,4 @@
-use Rattle.std.proofs.Common.{refl}
-use Rattle.memory_desc.specs.LineText.{log}
+use Rattle.memory_desc.proofs.Common.{log, refl}
 use Rattle.memory_desc.proofs.WordReads.{log_took}
 use Rattle.memory_desc.proofs.word_reader.log.Goals as goal
 

@@ -1,4 +1,4 @@
-use Rattle.std.proofs.Common.{Some, ap, sym, ◌∙◌, length, arith}
+use Rattle.memory_desc.proofs.Common.{Some, ap, arith, length, sym, ◌∙◌}
 use Rattle.memory_desc.proofs.WordReads.{word_took}
 use Rattle.memory_desc.proofs.word_reader.spaced_word.Goals as goal
 

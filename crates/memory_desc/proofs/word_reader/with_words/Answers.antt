@@ -1,6 +1,4 @@
-use Rattle.std.proofs.Common.{refl, ap, arith}
-use Rattle.std.proofs.lemmas.Result.{err_from_is_err_and}
-use Rattle.memory_desc.specs.inner.Seen.{plain_words}
+use Rattle.memory_desc.proofs.Common.{ap, arith, err_from_is_err_and, plain_words, refl}
 use Rattle.memory_desc.proofs.WordReads.{words_on, words_smaller, words_end, words_stuck}
 use Rattle.memory_desc.proofs.word_reader.with_words.Goals as goal
 

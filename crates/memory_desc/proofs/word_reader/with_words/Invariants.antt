@@ -1,5 +1,4 @@
-use Rattle.std.proofs.Common.{◌≡◌, ◌+◌, ◌≤◌, length}
-use Rattle.memory_desc.specs.inner.Seen.{plain_words}
+use Rattle.memory_desc.proofs.Common.{length, plain_words, ◌+◌, ◌≡◌, ◌≤◌}
 use Rattle.memory_desc.proofs.WordReads.{Gathered}
 use Rattle.memory_desc.proofs.word_reader.with_words.Given as goal
 

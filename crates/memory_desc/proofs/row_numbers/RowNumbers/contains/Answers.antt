@@ -1,4 +1,4 @@
-use Rattle.std.proofs.Common.{◌∙◌, sym}
+use Rattle.memory_desc.proofs.Common.{sym, ◌∙◌}
 use Rattle.memory_desc.proofs.KeptNumbers.{among_recent, among_ascending, rising_by}
 use Rattle.memory_desc.proofs.row_numbers.RowNumbers.contains.Goals as goal
 

@@ -1,4 +1,4 @@
-use Rattle.std.proofs.Common.{◌∙◌, ap, arith, length}
+use Rattle.memory_desc.proofs.Common.{ap, arith, length, ◌∙◌}
 use Rattle.memory_desc.proofs.KeptNumbers.{rising_whole}
 use Rattle.memory_desc.proofs.row_numbers.RowNumbers.settle.Goals as goal
 

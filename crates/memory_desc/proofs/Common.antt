@@ -1,0 +1,66 @@
+-- The names that several proofs cite, passed on from one place. Declares nothing.
+pub use Rattle.std.proofs.Common.{Bool, Err, Global, IsTrue, List, None, Ok, Option, Result, Some, Vec, [], add-one, ap, append-nil, append_assoc, arith, bit_and, bit_or, bit_xor, codes, cond, false, get_or, if◌then◌else◌, inl, inr, is_some, length, lit<, lit≤, map, max, nat_eq, not, refl, replicate, slice_index, slice_set, subst, suc, sym, take, true, zero, ℕ, ◌%◌, ◌&&◌, ◌*◌, ◌++◌, ◌+◌, ◌-◌, ◌/◌, ◌<◌, ◌==◌, ◌^◌, ◌||◌, ◌↔◌, ◌∙◌, ◌∷◌, ◌≡◌, ◌≢◌, ◌≤◌, ◌⊎◌}
+pub use Rattle.std.proofs.Math.Nat.{le_antisymm, max-zero, mod-eq_of_lt, one-mul, pow-suc, zero-add, zero-max, zero-mul}
+pub use Rattle.std.proofs.Math.Path.{ap₂}
+pub use Rattle.std.proofs.Math.Pow.{pow-lt}
+pub use Rattle.std.proofs.Math.Seq.{take-append_seam, take-length, take-suc-set}
+pub use Rattle.std.proofs.lemmas.Bool.{and_from, and_parts, cases_lt, eq-eqb, eqb-true, le-leb, le-ltb, leb-false, leb-true, lt-leb, lt-ltb, ltb-false, ne_eqb, or_cases, or_left, or_parts, or_right}
+pub use Rattle.std.proofs.lemmas.Bool.Decides.{eqb_tells, nat_tests}
+pub use Rattle.std.proofs.lemmas.Grind.{get_or_default_zero}
+pub use Rattle.std.proofs.lemmas.List.{get_or-replicate, get_or-set_other, get_or-set_same, get_or_past, length-append, length-map, length-replicate, length-set, map-append, take-append-le, take_all, take_more}
+pub use Rattle.std.proofs.lemmas.List.Folds.{find-append, list_all-append, list_any-append}
+pub use Rattle.std.proofs.lemmas.Nat.{and_mask, le_or_l, le_or_r, mod_below, or_lt, pow_pos, xor_comm, xor_lt}
+pub use Rattle.std.proofs.lemmas.Nat.Bits.{bit_at-lt, bit_at-pow_same, bit_at_or, bit_at_xor, same_from_bits, same_from_bits_below, shr_and_one}
+pub use Rattle.std.proofs.lemmas.Result.{err_from_is_err_and, on_ok_weaker}
+pub use Rattle.std.specs.Char.{digit_value, is_newline}
+pub use Rattle.std.specs.Int.{bit_at, from_bool, is_power_of_two}
+pub use Rattle.std.specs.Int.Bits.{or_zero_l, or_zero_r, xor_assoc, xor_self, xor_shifted, xor_zero_l, xor_zero_r}
+pub use Rattle.std.specs.List.{list_all, list_any, onto_first, refill, slice_split}
+pub use Rattle.std.specs.Option.{IsSome, option_or}
+pub use Rattle.std.specs.Prelude.{All, Contains, IfOk, MatchBool, MatchResult, decimal, find, nat_le, nat_lt, option_map, slice_get}
+pub use Rattle.std.specs.Str.Parse.{AllDigits, digits_value}
+pub use Rattle.backgrounds.specs.Backgrounds.{IsLogSet, IsLogarithm, IsStripe}
+pub use Rattle.bist_bits.specs.Width.{IsWidthOf}
+pub use Rattle.bist_text.proofs.LinePieces.{apart, at_bool, gap_off, gap_on, of_blank, tail_blank, tail_other, when_false, when_holds, when_true}
+pub use Rattle.bist_text.proofs.LineStops.{IsPlain, blank_run, blank_word, no_mark, no_tail, plain_blank}
+pub use Rattle.bist_text.proofs.Pieces.{at_byte, many_none, same, word_on}
+pub use Rattle.bist_text.proofs.RunPieces.{many_map, many_pull, word_map, word_pull}
+pub use Rattle.bist_text.proofs.keyed.Classes.{name_is, run_is}
+pub use Rattle.bist_text.proofs.keyed.Items.{IsNext, Shortens, Shorter, gather_end, gather_on, gather_smaller, gather_stuck, items_made, longer, made_shorter, no_item, one_item, onward_on, remark_shortens, some_shortens, spaced_shorter, weaker, word_shortens}
+pub use Rattle.bist_text.proofs.keyed.LineLaws.{IsTable, begins_small, byte_only, byte_shuns, digit_begun, digit_later, digits_plain, either_shuns, line_told, one_word, remark_end, remark_only, remark_shuns}
+pub use Rattle.bist_text.proofs.keyed.PartLaws.{Begun, Byte, Either, Ends, Remark, Shuns, Space, alive, byte_told, either_told, ends_told, fewer, remark_told, space_told, word_told}
+pub use Rattle.bist_text.proofs.keyed.Told.{AtEnd, Behind, Never, Told, told_exact, told_from, told_iff}
+pub use Rattle.bist_text.specs.Grammar.{Continues, are_bytes, byte, is_blank, word}
+pub use Rattle.bist_text.specs.KeyedTexts.{LineOf, Say, first_refusal, gives, or_else, unless_there}
+pub use Rattle.bist_text.specs.LineGrammar.{comment, gap, space, tail}
+pub use Rattle.bist_text.specs.Lines.{TextLine, lines_from, lines_left, lines_of_parts, text_lines}
+pub use Rattle.bist_text.specs.Numbers.{hex_digits, word_text}
+pub use Rattle.bist_text.specs.ReservedWords.{is_among, reserved_words}
+pub use Rattle.bist_text.specs.declared.keyed_lines.Class.TheVariants.{Number, Word}
+pub use Rattle.bist_text.specs.keyed.Parts.{Class, by_byte, by_item, byte_of, end_of, ends_with, fits_of, items_from, remark_of, spaced, word_of}
+pub use Rattle.bist_text.specs.keyed.Reading.{Read, onward, stuck, took}
+pub use Rattle.bist_text.specs.keyed.Texts.{checked, walk}
+pub use Rattle.memory_desc.specs.Described.{AreOfMemory, IsScrambling, described}
+pub use Rattle.memory_desc.specs.Descriptions.{Description, IsBackgrounds, IsMemory, assembled}
+pub use Rattle.memory_desc.specs.LineText.{Content, ContentText, Term, argument, backgrounds, bits, constant, equation, index_bit, is_formed, is_hex, is_number, is_term, key_text, kind_of, latency, log, more_terms, more_words, name, pause, polarity, scramble, term_text, version, words}
+pub use Rattle.memory_desc.specs.Names.{IsName, is_digit, is_identifier, is_letter, is_name_byte}
+pub use Rattle.memory_desc.specs.Printed.{background_text, background_texts, backgrounds_line, head_lines, index_terms, is_plain, joined, later_lines, name_line, number_line, polarity_line, port_lines, printed, row_line, row_lines, row_terms, scramble_lines, size_lines, version_text}
+pub use Rattle.memory_desc.specs.Statements.{Statement, may_stand, stands, version_in}
+pub use Rattle.memory_desc.specs.Subjects.{about, content_of, is_about, is_same, subject}
+pub use Rattle.memory_desc.specs.Table.{AreRefusedBy, AreStatements, Describes, IsLast, Reads, at_line, is_other, is_row, is_term_too_wide, missing, missing_row, of_lines, out_of_range, repeated, too_many, too_wide, unfit, unrowed, unscramblable, unserved, unsized, without_solid}
+pub use Rattle.memory_desc.specs.Values.{AreBackgrounds, bits_said, constant_of, index_bits, latency_in, latency_said, matrix_said, name_in, name_said, pause_in, pause_said, polarity_in, polarity_said, rows_said, terms_in, terms_said, word_values, words_said}
+pub use Rattle.memory_desc.specs.declared.content.Key.TheVariants.{Memory, Scramble}
+pub use Rattle.memory_desc.specs.declared.content.Subject.{Subject}
+pub use Rattle.memory_desc.specs.declared.content.Version.TheVariants.{One, Two}
+pub use Rattle.memory_desc.specs.declared.content.WordList.{WordList}
+pub use Rattle.memory_desc.specs.declared.fault.MemoryFault.{MemoryFault}
+pub use Rattle.memory_desc.specs.declared.fault.MemoryFault.TheVariants.{Missing, NoSolidBackground, Repeated, ScrambleNeedsPowerOfTwo, Singular, TooManyBackgrounds}
+pub use Rattle.memory_desc.specs.declared.search.Sought.TheVariants.{About, TooWide}
+pub use Rattle.memory_desc.specs.inner.Heard.{argument_of, heard, hex_word_of, is_caret, is_l, keys_in, keys_of, listed_of, log_of, marked_term_of, next_term_of, next_word_of, row_of, spaced_word_of, term_of, version_at, words_of}
+pub use Rattle.memory_desc.specs.inner.Met.{MayBeMet, MayHave}
+pub use Rattle.memory_desc.specs.inner.Printed.{is_none, separator, term_after}
+pub use Rattle.memory_desc.specs.inner.Seeking.{IsPosed, first_sought, is_sought, tests}
+pub use Rattle.memory_desc.specs.inner.Seen.{Seen, SeenStatement, SeenWords, begun_row, inverted, listed, no_words, plain_content, plain_line_content, plain_statement, plain_words, seen, seen_stated, seen_statements, subject_of, summand, with_term, with_terms, with_word, with_words}
+pub use Rattle.memory_desc.specs.inner.Standing.{AreFields, AreWords, GivesBackgrounds, GivesScrambling, IsRow, StandsAt, highest_of, is_ranged, least, most, name_in_seen, number_in_seen, polarity_in_seen, row_in_seen, union_of, value_in}
+pub use Rattle.scrambler.proofs.LinearLemmas.{bit_at-number, dot-zero_left, dot_below, number-below, number-bits, two_digits}
+pub use Rattle.scrambler.specs.Scrambling.{DependsOn, IsFull, IsInvertible, IsLeastDependence, IsWithin, Scrambling, identity, is_identity, matrix_of, product}
