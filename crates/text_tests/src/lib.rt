@@ -1,6 +1,6 @@
 //! Tests of the texts of marches, primitives, lists, memories and chips, through public calls: rows of text and
 //! answer, which cost no proof each, and a few tests that rows can't say. `rows.rt` tells the form of a row and reads
-//! it, for the tests of Verilog too.
+//! it, for the tests of Verilog and of the commands too.
 //!
 //! ```
 //! use text_tests::read_rows;
@@ -28,4 +28,4 @@ mod refusals;
 mod rows;
 
 pub use refusals::refusal_text;
-pub use rows::{Row, cut, read_rows};
+pub use rows::{Row, RowLine, cut, put_meant, read_lines, read_rows};

@@ -25,7 +25,10 @@ memory D4 bits: memory 1\nwords 2\nname b
 memory D5 line 2: memory 1\nbits 65\nwords 1\nname module\n
 memory D5 line 2: memory 1\nname module\nwords 2\nbits 1\n
 memory D5 line 2: memory 1\nname b23456789_123456789_123456789_123456789_123456789\nwords 2\nbits 1\n
+memory D1 line 3 byte 15: memory 1\nname n\nwords 1000000000\nbits 1\n
+memory D5 line 3: memory 1\nname n\nwords 999999999\nbits 1\n
 memory D5 line 3: memory 1\nname b\nwords 65537\nbits 1\n
+memory D5 line 3: memory 1\nname n\nwords 1\nbits 1\n
 memory D5 line 5: memory 1\nname b\nwords 4\nbits 4\nbackgrounds 0 10\n
 memory D8: memory 1\nname b\nwords 2\nbits 8\nbackgrounds aa\n
 memory D9: memory 1\nname b\nwords 2\nbits 8\nbackgrounds 1 1 1 1 1 1 1 1 1\n
@@ -63,6 +66,7 @@ memory D5 line 5: memory 2\nname two\nwords 2\nbits 1\nlatency 0\n
 memory D5 line 5: memory 2\nname two\nwords 2\nbits 1\npause 0\n
 memory D5 line 3: memory 2\nname two\npause 65536\nwords 2\nbits 1\n
 memory D5 line 5: memory 2\nname two\nwords 2\nbits 1\npolarity 2\n
+memory D5 line 6: memory 2\nname n\nwords 65536\nbits 64\nlatency 3\npause 155353\n
 memory D1 line 5 byte 0: memory 1\nname two\nwords 2\nbits 1\nlatency 1\n
 memory D1 line 5 byte 0: memory 1\nname two\nwords 2\nbits 1\npause 1\n
 

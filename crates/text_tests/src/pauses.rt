@@ -1,11 +1,8 @@
-//! Pauses as values: in marches, in primitives, and what they do to cells.
+//! Pauses as values: in marches, and what they do to cells.
 
 ghost use Rattle.std.specs.Prelude.{◌≡◌, None, IfOk};
 
-use fault_core::{
-    Act, Class, Places, Prim, PrimFault, Sense, class_of, members, pause_cells, retention,
-};
-use fault_syntax::print_prim;
+use fault_core::{Act, Places, Prim, PrimFault, Sense, pause_cells};
 use march_core::{March, MarchBuilder, MarchFault, Order};
 use std::test::Fail;
 
@@ -38,28 +35,6 @@ fn a_pause_has_no_order(rt: HostRuntime) -> Result<(), Fail> {
     assert!(rt; ends_with_pause(&march));
     assert!(rt; has_one_direction(&march));
     Ok(())
-}
-
-const FORMS: [&str; 2] = ["<0t/1/->", "<1t/0/->"];
-
-/// Whether the primitive is printed in this form, and of the class `DRF`.
-fn is_retention(prim: &Prim, form: &str) -> bool {
-    print_prim(prim).as_str() == form && class_of(prim) == Class::DRF
-}
-
-fn are_retention(prims: &[Prim], forms: &[&str]) -> bool {
-    for (prim, form) in prims.iter().zip(forms) {
-        if !is_retention(prim, form) {
-            return false;
-        }
-    }
-    true
-}
-
-#[test]
-fn states_are_lost_over_a_pause(rt: HostRuntime) {
-    assert!(rt; are_retention(&retention(), &FORMS));
-    assert!(rt; are_retention(members(Class::DRF).as_slice(), &FORMS));
 }
 
 /// `<0t/1/->`.

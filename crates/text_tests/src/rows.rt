@@ -1,16 +1,25 @@
-//! Rows of worked answers as text.
+//! Rows of worked answers as text. Lines are read for every kind of them:
 //!
-//! - `KIND ANSWER: TEXT`: what is asked, the answer, and the text that it is asked of.
-//! - `= ANSWER`: the answer of the row above, where it is long.
 //! - `| TEXT`: a further line of the text above.
 //! - `# ..`: a remark.
 //!
 //! `\n`, `\r` and `\t` are what they are in Rust, `\s` is a blank, `\xe2` the byte 226, and `\64{any(w0);\}` so many
-//! times what stands between the braces.
+//! times what stands between the braces. A row of a text and an answer is
+//!
+//! - `KIND ANSWER: TEXT`: what is asked, the answer, and the text that it is asked of.
+//! - `= ANSWER`: the answer of the row above, where it is long.
 
 use bist_text::{Lines, decimal, hex};
 use std::alloc::Global;
 use std::str;
+
+/// A line that is no remark, its number, and what is meant by the further lines of its text.
+#[derive(Drop)]
+pub struct RowLine<'a> {
+    pub number: usize,
+    pub line: &'a [u8],
+    pub more: Vec<u8>,
+}
 
 /// What is asked of a text, and the answer. The number is that of its line.
 #[derive(Drop)]
@@ -58,7 +67,7 @@ fn repeat(alloc: Global, bytes: &mut Vec<u8>, (begin, times): (usize, u32)) -> O
 }
 
 /// Appends what is meant by a text.
-fn extend(alloc: Global, bytes: &mut Vec<u8>, text: &[u8]) -> Option<()> {
+pub fn put_meant(alloc: Global, bytes: &mut Vec<u8>, text: &[u8]) -> Option<()> {
     let parts: Vec<&str> = str::from_utf8(text).ok()?.split('\\').collect(alloc).ok()?;
     let (plain, escapes) = parts.split_first()?;
     bytes.extend_from_slice(plain.as_bytes()).ok()?;
@@ -86,44 +95,63 @@ fn extend(alloc: Global, bytes: &mut Vec<u8>, text: &[u8]) -> Option<()> {
     Some(())
 }
 
-/// A line that begins a row.
-fn row_of(alloc: Global, number: usize, line: &[u8]) -> Option<Row<'_>> {
-    let (question, text) = cut(line, b':');
+/// Takes a line that isn't empty.
+fn heed<'a>(
+    alloc: Global,
+    lines: &mut Vec<RowLine<'a>>,
+    number: usize,
+    line: &'a [u8],
+) -> Option<()> {
+    match cut(line, b' ') {
+        (b"#", _) => Some(()),
+        (b"|", rest) => {
+            let more = &mut lines.last_mut()?.more;
+            put_meant(alloc, more, rest)?;
+            more.push(b'\n').ok()
+        }
+        _ => {
+            let more = Vec::new(alloc);
+            lines.push(RowLine { number, line, more }).ok()
+        }
+    }
+}
+
+/// The lines of a text, or nothing where one can't be read.
+pub fn read_lines<'a>(alloc: Global, text: &'a [u8]) -> Option<Vec<RowLine<'a>>> {
+    let mut lines = Vec::new(alloc);
+    for line in Lines::new(text) {
+        if !line.text.is_empty() {
+            heed(alloc, &mut lines, line.number, line.text)?;
+        }
+    }
+    Some(lines)
+}
+
+/// The row of a line.
+fn row_of<'a>(alloc: Global, line: &RowLine<'a>) -> Option<Row<'a>> {
+    let (question, text) = cut(line.line, b':');
     let (kind, answer) = cut(question, b' ');
     let mut row = Row {
-        number,
+        number: line.number,
         kind,
         answer: Vec::new(alloc),
         text: Vec::new(alloc),
     };
-    extend(alloc, &mut row.answer, answer)?;
+    put_meant(alloc, &mut row.answer, answer)?;
     if let Some((b' ', text)) = text.split_first() {
-        extend(alloc, &mut row.text, text)?;
+        put_meant(alloc, &mut row.text, text)?;
     }
+    row.text.extend_from_slice(&line.more).ok()?;
     Some(row)
-}
-
-/// Takes a line that isn't empty.
-fn heed<'a>(alloc: Global, rows: &mut Vec<Row<'a>>, number: usize, line: &'a [u8]) -> Option<()> {
-    let (first, rest) = cut(line, b' ');
-    match first {
-        b"#" => Some(()),
-        b"=" => extend(alloc, &mut rows.last_mut()?.answer, rest),
-        b"|" => {
-            let text = &mut rows.last_mut()?.text;
-            extend(alloc, text, rest)?;
-            text.push(b'\n').ok()
-        }
-        _ => rows.push(row_of(alloc, number, line)?).ok(),
-    }
 }
 
 /// The rows of a text, or nothing where a line can't be read.
 pub fn read_rows<'a>(alloc: Global, text: &'a [u8]) -> Option<Vec<Row<'a>>> {
-    let mut rows = Vec::new(alloc);
-    for line in Lines::new(text) {
-        if !line.text.is_empty() {
-            heed(alloc, &mut rows, line.number, line.text)?;
+    let mut rows: Vec<Row<'a>> = Vec::new(alloc);
+    for line in &read_lines(alloc, text)? {
+        match cut(line.line, b' ') {
+            (b"=", rest) => put_meant(alloc, &mut rows.last_mut()?.answer, rest)?,
+            _ => rows.push(row_of(alloc, line)?).ok()?,
         }
     }
     Some(rows)
