@@ -1,8 +1,7 @@
 -- Each array has the shape of a small one, which is not after it; and from four cells on each size has every shape.
-use Rattle.std.proofs.Common.{◌≡◌, ◌≢◌, ◌+◌, ◌-◌, ◌<◌, ◌≤◌, ℕ, zero, suc, min, Bool, true, false, cond, nat_lt, is_some, Option, Some, None, List, ◌⊎◌, inl, inr, ⊎_elim, refl, ap, sym, ◌∙◌, arith}
+use Rattle.std.proofs.Common.{◌≡◌, ◌≢◌, ◌+◌, ◌-◌, ◌<◌, ◌≤◌, ℕ, zero, suc, min, Bool, true, false, cond, is_some, Option, Some, None, List, ◌⊎◌, inl, inr, ⊎_elim, refl, ap, sym, ◌∙◌, arith}
 use Rattle.std.specs.List.{AllByRecursion}
 use Rattle.std.proofs.lemmas.Bool.{lt-ltb, cases_lt}
-use Rattle.std.proofs.lemmas.Bool.Decides.{nat_tests}
 use Rattle.std.proofs.lemmas.List.{get_or_past}
 use Rattle.fault_core.specs.declared.cells.Places.{Places}
 use Rattle.fault_core.specs.Cells.{cell}
@@ -17,6 +16,7 @@ use Rattle.dynamic_prover.specs.declared.spot.Spot.{Spot}
 use Rattle.dynamic_prover.specs.inner.Own.{own_as}
 use Rattle.dynamic_prover.specs.inner.Shapes.{is_some_cell, shape_as, shape_of}
 use Rattle.dynamic_prover.specs.inner.Spots.{spot_as, one_cell_spots, two_cell_spots, spots_of, shape_at, content_from}
+use Rattle.pair_tracker.proofs.Sides.{not_less}
 use Rattle.dynamic_prover.proofs.Sized.{beside_of, own_start}
 use Rattle.dynamic_prover.proofs.Ordered.{PlacesBelow, length-content, cell-content, victim_bit, aggressor_bit}
 use Rattle.dynamic_prover.proofs.Listed.{IsIn, in_at, all_in}
@@ -36,9 +36,6 @@ at_most_one false = omega arith
 cell_number : (b : Bool) → is_some_cell (number b) ≡ b
 cell_number true = refl
 cell_number false = refl
-
-not_less : (a v : ℕ) → v ≤ a → nat_lt a v ≡ false
-not_less a v h = grind (arith, nat_tests)
 
 -- of two places, the lower one first, the aggressor's and the victim's
 abbrev agg_of : Bool → ℕ → ℕ → Option ℕ

@@ -193,9 +193,6 @@ over_one p a v n l r s e Downward q ops =
     ap (λ x. tags_run p q x ops) (map-reverse a v (range_with_len 0 n) ∙ ap reverse e ∙ reverse-one l r s)
     ∙ does_behind p ops r s (others l) (block l) (does_side p ops s (others l) (block l) (does_last p ops l)) q
 
-not_less : (a v : ℕ) → v ≤ a → nat_lt a v ≡ false
-not_less a v h = grind (arith, nat_tests)
-
 -- two cells of the array
 pub over_pair : (p : DynamicPrimitive) (a v n : ℕ) → a ≢ v → a < n → v < n → DoesSame p a v n (shape_of (Some a) v n)
 over_pair p a v n ne an vn = go (nat_lt a v) refl

@@ -3,7 +3,7 @@ use Rattle.std.proofs.Common.{◌≡◌, ◌≢◌, ◌<◌, ℕ, Bool, true, fa
 use Rattle.std.specs.Prelude.{if◌then◌else◌, ◌==◌, slice_set}
 use Rattle.std.specs.Option.{option_map}
 use Rattle.std.proofs.lemmas.Bool.{eq-eqb, ne_eqb}
-use Rattle.std.proofs.lemmas.List.{length-set, get_or-set_same, get_or-set_other}
+use Rattle.std.proofs.lemmas.List.{get_or-set_same, get_or-set_other}
 use Rattle.fault_core.specs.declared.primitive.Act.{Act}
 use Rattle.fault_core.specs.declared.primitive.Act.TheVariants.{Write, Read, Pause}
 use Rattle.fault_core.specs.declared.cells.Places.{Places}
@@ -14,7 +14,7 @@ use Rattle.cell_machine.specs.declared.pair.Side.{Side}
 use Rattle.cell_machine.specs.declared.pair.Side.TheVariants.{A, V}
 use Rattle.cell_machine.specs.Pairs.{pair_of, with_victim, bit_on, plain_pair, plain_reply}
 use Rattle.cell_machine.specs.Seen.{pair_at, place_of}
-use Rattle.cell_machine.proofs.Projection.{length-plain_cells, cell-plain_cells_other}
+use Rattle.cell_machine.proofs.Projection.{length-set_if, length-plain_cells, cell-set_if_other, cell-plain_cells_other}
 use Rattle.dynamic_core.specs.declared.stepping.Actor.{Actor}
 use Rattle.dynamic_core.specs.Primitive.{TwoActs, DynamicSense, DynamicPrimitive, left_by}
 use Rattle.dynamic_core.specs.Dynamic.{actor_on, agg_actor, actor_or, actor_of, agg_state_holds, all_states_hold, Held, held_as, matches_of, arms_of, set_where, dyn_cells, dyn_step, dyn_answer}
@@ -104,14 +104,10 @@ after_seen true cells a v bit ne within =
     ∙ ap (pair_of (cell cells a)) (get_or-set_same cells v bit false within)
 after_seen false cells a v bit ne within = refl
 
-length-set_where : (hit : Bool) (cells : List Bool) (v : ℕ) (bit : Bool) → length (set_where hit cells v bit) ≡ length cells
-length-set_where true cells v bit = length-set cells v bit
-length-set_where false cells v bit = refl
-
 pub length-dyn_step : (p : DynamicPrimitive) (at : Places) (h : Held) (x : ℕ) (act : Act) → length (dyn_step p at h x act).cells ≡ length h.cells
 unfolding dyn_step dyn_cells
 length-dyn_step p at h x act =
-    length-set_where (matches_of (actor_of p at) h.armed x act) (plain_cells h.cells x act) at.vic p.after ∙ length-plain_cells h.cells x act
+    length-set_if (matches_of (actor_of p at) h.armed x act) (plain_cells h.cells x act) at.vic p.after ∙ length-plain_cells h.cells x act
 
 reply_seen : (cells : List Bool) (a v : ℕ) (s : Side) (act : Act) → plain_answer cells (place_of a v s) act ≡ plain_reply (pair_at cells a v) s act
 reply_seen cells a v s (Write bit) = refl
@@ -159,14 +155,10 @@ step_seen p at a n ab h s act within size =
     ∙ ap (λ q. own_arms (own_actor_of p) (own_holds p (pair_at h.cells a at.vic)) q s act) cells)
 
 -- each other cell stays
-other_after : (hit : Bool) (cells : List Bool) (v y : ℕ) (bit : Bool) → y ≢ v → cell (set_where hit cells v bit) y ≡ cell cells y
-other_after true cells v y bit ne = get_or-set_other cells v y bit false ne
-other_after false cells v y bit ne = refl
-
 pub others_stay : (p : DynamicPrimitive) (at : Places) (h : Held) (x : ℕ) (act : Act) (y : ℕ) → y ≢ x → y ≢ at.vic → cell (dyn_step p at h x act).cells y ≡ cell h.cells y
 unfolding dyn_step dyn_cells
 others_stay p at h x act y ne off =
-    other_after (matches_of (actor_of p at) h.armed x act) (plain_cells h.cells x act) at.vic y p.after off ∙ cell-plain_cells_other h.cells x act y ne
+    cell-set_if_other (matches_of (actor_of p at) h.armed x act) (plain_cells h.cells x act) at.vic y p.after off ∙ cell-plain_cells_other h.cells x act y ne
 
 -- an act on another cell: its plain part, and nothing is armed
 not_placed : (a v x : ℕ) (o : Side) → x ≢ a → x ≢ v → (place_of a v o == x) ≡ false

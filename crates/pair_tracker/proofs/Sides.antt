@@ -76,7 +76,7 @@ only_aggressor a v k (suc m) ha low high =
     (λ (h : (eqb k a ≡ false) × (k ≢ a)). let s : k ≢ a = h.1 in rw h.0 (only_aggressor a v (k + 1) m (omega arith) (omega arith) (omega arith)))
     (eqb_tells k a))
 
-not_less : (a v : ℕ) → v ≤ a → nat_lt a v ≡ false
+pub not_less : (a v : ℕ) → v ≤ a → nat_lt a v ≡ false
 not_less a v h = grind (arith, nat_tests)
 
 -- the two sides in the order of their addresses
