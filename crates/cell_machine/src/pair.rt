@@ -1,6 +1,6 @@
 ghost use Rattle.std.specs.Prelude.{◌≡◌, ◌≢◌};
 ghost use Rattle.fault_core.specs.Primitive.{is_retention};
-ghost use Rattle.fault_core.specs.Cells.{has_act, has_this_act, close_of, step_cells, step_answer, pause_cells};
+ghost use Rattle.fault_core.specs.Cells.{has_act, close_of, step_cells, step_answer, pause_cells};
 ghost use Rattle.cell_machine.specs.Pairs.{side_holds, pair_holds, pair_close, agg_act_of, act_on, pair_acts, plain_pair, plain_reply, pair_step, pair_answer, pair_pause};
 ghost use Rattle.cell_machine.specs.Seen.{cells_of, pair_places, place_of};
 
@@ -65,22 +65,12 @@ fn has_any_act(prim: &Prim) -> bool
     own_act(prim, Side::V).is_some() || own_act(prim, Side::A).is_some()
 }
 
-fn is_this_act(own: Option<Act>, act: Act) -> bool
-    ensures { result ≡ has_this_act own act }
-{
-    match (own, act) {
-        (Some(Act::Read), Act::Read) | (Some(Act::Pause), Act::Pause) => true,
-        (Some(Act::Write(a)), Act::Write(b)) => a == b,
-        _ => false,
-    }
-}
-
 /// Whether this act on this side is the primitive's own, on contents where its states hold.
 #[tactic(auto, unfolding(crate::specs::Pairs::pair_acts))]
 fn does_act(prim: &Prim, pair: Pair, on: Side, act: Act) -> bool
     ensures { result ≡ pair_acts prim.now pair on act }
 {
-    is_this_act(own_act(prim, on), act) && do_states_hold(prim, pair)
+    own_act(prim, on) == Some(act) && do_states_hold(prim, pair)
 }
 
 /// Closes the pair: a primitive without an act sets its victim where its states hold.

@@ -1,4 +1,4 @@
--- Public. For proofs and private contracts alone: the two acts as an array, and the test of the parts, by cases on the acts.
+-- Public. The two acts of a dynamic primitive as an array, and back.
 use Rattle.std.specs.Prelude.{◌≡◌, Option, Some, None, List, [], ◌∷◌, length, refl}
 use Rattle.fault_core.specs.declared.primitive.Act.{Act}
 use Rattle.fault_core.specs.declared.primitive.Act.TheVariants.{Read}

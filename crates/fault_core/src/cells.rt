@@ -1,6 +1,6 @@
 ghost use Rattle.std.specs.Prelude.{◌≡◌, ◌≢◌, ◌<◌, Some, length, false, IsTrue, if◌then◌else◌, slice_set, ◌&&◌};
 ghost use Rattle.fault_core.specs.Primitive.{same_bit, agg_has_act, is_retention};
-ghost use Rattle.fault_core.specs.Cells.{FitsPlace, FitsAgg, states_hold, agg_holds, has_act, close_of, acts, agg_acts, has_this_act, same_act, step_cells, step_answer, pause_cells, acted, plain_cells, plain_answer};
+ghost use Rattle.fault_core.specs.Cells.{FitsPlace, FitsAgg, states_hold, agg_holds, has_act, close_of, acts, agg_acts, same_act, step_cells, step_answer, pause_cells, acted, plain_cells, plain_answer};
 
 use crate::primitive::{Act, FaultPrimitive, Sense, has_agg_act, is_pause};
 
@@ -52,27 +52,14 @@ pub fn close_cells(prim: &FaultPrimitive, places: Places, cells: &mut [bool])
 pub fn is_same_act(one: Act, other: Act) -> bool
     ensures { result ≡ same_act one other }
 {
-    match (one, other) {
-        (Act::Read, Act::Read) | (Act::Pause, Act::Pause) => true,
-        (Act::Write(a), Act::Write(b)) => a == b,
-        _ => false,
-    }
-}
-
-fn is_this_act(own: Option<Act>, act: Act) -> bool
-    ensures { result ≡ has_this_act own act }
-{
-    match own {
-        Some(own) => is_same_act(own, act),
-        None => false,
-    }
+    one == other
 }
 
 fn does_agg_act(agg: Option<Sense>, place: Option<usize>, at: usize, act: Act) -> bool
     ensures { result ≡ agg_acts agg place at act }
 {
     match (agg, place) {
-        (Some(sense), Some(own)) => own == at && is_this_act(sense.act, act),
+        (Some(sense), Some(own)) => own == at && sense.act == Some(act),
         _ => false,
     }
 }
@@ -83,7 +70,7 @@ fn does_act(prim: &FaultPrimitive, places: Places, cells: &[bool], at: usize, ac
     requires { FitsPlace prim.now places (length cells.now) }
     ensures { result ≡ acts prim.now places cells.now at act }
 {
-    ((places.vic == at && is_this_act(prim.vic().act, act))
+    ((places.vic == at && prim.vic().act == Some(act))
         || does_agg_act(prim.agg(), places.agg, at, act))
         && do_states_hold(prim, places, cells)
 }

@@ -1,13 +1,11 @@
 -- What the parts of a primitive stand for is one primitive, or none.
-use Rattle.std.proofs.Common.{◌≡◌, ◌+◌, ◌<◌, ◌≤◌, ◌↔◌, Bool, true, false, ◌&&◌, List, [], ◌∷◌, ◌∙◌, length, Option, Some, None, is_some, Result, Ok, Err, IsOk, IfOk, IfErr, refl, sym, ap, subst, arith, if◌then◌else◌}
+use Rattle.std.proofs.Common.{◌≡◌, ◌+◌, ◌<◌, ◌≤◌, Bool, true, false, List, [], ◌∷◌, ◌∙◌, length, Option, Some, None, is_some, sym, ap, arith}
 use Rattle.fault_core.specs.declared.primitive.Act.{Act}
 use Rattle.fault_core.specs.declared.primitive.Sense.{Sense}
-use Rattle.fault_core.specs.declared.primitive.PrimFault.{PrimFault}
-use Rattle.fault_core.specs.declared.primitive.PrimFault.TheVariants.{NotAFault, TooManyOperations}
-use Rattle.fault_core.specs.Primitive.{Primitive, IsPrimitive, agg_has_act, refusal_of}
+use Rattle.fault_core.specs.Primitive.{Primitive, IsPrimitive, agg_has_act}
 use Rattle.fault_syntax.specs.declared.words.Operation.{Operation}
 use Rattle.fault_syntax.specs.declared.words.Operation.TheVariants.{Write, Read, Pause}
-use Rattle.fault_syntax.specs.Parts.{AreAct, IsSense, IsAggressor, StandsFor, agg_ops, op_count, Refuses, Judges}
+use Rattle.fault_syntax.specs.Parts.{AreAct, IsSense, IsAggressor, StandsFor, agg_ops, op_count}
 use Rattle.fault_syntax.specs.PrimText.{SenseText, PrimParts}
 
 -- ---- one reading
@@ -35,40 +33,13 @@ prim_same a b u v c d e f h i j k = cc
 pub stands_one : (text : PrimParts) (p q : Primitive) → StandsFor text p → StandsFor text q → p ≡ q
 stands_one text p q h k = prim_same p.agg q.agg p.vic q.vic p.after q.after p.answer q.answer (agg_one text.agg p.agg q.agg h.agg k.agg) (sense_one text.vic p.vic q.vic h.vic k.vic) (h.after ∙ sym k.after) (h.answer ∙ sym k.answer)
 
--- ---- two operations
-
--- an act is an operation
-act_counts : (state : Bool) (os : List Operation) (a : Option Act) → AreAct state os a → (is_some a ≡ true → 0 < length os) × (length os ≤ 1)
-act_counts state [] a h = (λ e. let k : is_some a ≡ false = ap is_some h in cc, omega arith)
-act_counts state (o ∷ []) a h = (λ e. omega arith, omega arith)
-act_counts state (o ∷ p ∷ os) a h = absurd h
-
-agg_counts : (t : Option SenseText) (a : Option Sense) → IsAggressor t a → (agg_has_act a ≡ true → 0 < length (agg_ops t))
-agg_counts None a h e = let k : agg_has_act a ≡ false = ap agg_has_act h in cc
-agg_counts (Some t) a h e = (act_counts t.state t.ops (h.0).act (h.2).1).0 (ap agg_has_act (sym h.1) ∙ e)
-
--- with one operation at most, the refusal is F3
-one_fault : (text : PrimParts) (p : Primitive) → op_count text ≤ 1 → StandsFor text p → refusal_of p ≡ NotAFault
-one_fault text p n h = go (agg_has_act p.agg) (is_some p.vic.act) (agg_counts text.agg p.agg h.agg) (act_counts text.vic.state text.vic.ops p.vic.act (h.vic).1).0
-  where
-    go : (t u : Bool) → (t ≡ true → 0 < length (agg_ops text.agg)) → (u ≡ true → 0 < length text.vic.ops) → (if t && u then TooManyOperations else NotAFault) ≡ NotAFault
-    go true true f g = let a : 0 < length (agg_ops text.agg) = f refl in let b : 0 < length text.vic.ops = g refl in absurd (omega arith)
-    go true false f g = refl
-    go false u f g = refl
-
--- ---- what is answered
-
-pub no_aggressor : (text : PrimParts) → op_count text ≤ 1 → ((a : Option Sense) → IsAggressor text.agg a → ⊥) → Refuses text NotAFault
-no_aggressor text n f = (n, λ p h i. f p.agg h.agg)
-
-pub judged : (text : PrimParts) (p : Primitive) (r : Result Primitive PrimFault) → op_count text ≤ 1 → StandsFor text p → (IsOk r ↔ IsPrimitive p) → IfOk r (λ q. q ≡ p) → IfErr r (λ fault. fault ≡ refusal_of p) → Judges text r
-judged text p (Ok q) n h ok same bad = (subst (StandsFor text) (sym same) h, subst IsPrimitive (sym same) (ok.0 refl))
-judged text p (Err fault) n h ok same bad = subst (Refuses text) (sym (bad ∙ one_fault text p n h)) (n, λ q k i. not_ok (ok.1 (subst IsPrimitive (stands_one text q p k h) i)))
-  where
-    not_ok : (let b : Bool = false in b ≡ true) → ⊥
-    not_ok e = cc
-
 -- ---- a primitive has one operation at most
+
+-- an act is at most one
+act_short : (state : Bool) (os : List Operation) (a : Option Act) → AreAct state os a → length os ≤ 1
+act_short state [] a h = omega arith
+act_short state (o ∷ []) a h = omega arith
+act_short state (o ∷ p ∷ os) a h = absurd h
 
 act_there : (state : Bool) (os : List Operation) (a : Option Act) → AreAct state os a → 0 < length os → is_some a ≡ true
 act_there state [] a h n = absurd (omega arith)
@@ -79,10 +50,10 @@ act_there state (o ∷ p ∷ os) a h n = absurd h
 
 agg_there : (t : Option SenseText) (a : Option Sense) → IsAggressor t a → (length (agg_ops t) ≤ 1) × (0 < length (agg_ops t) → agg_has_act a ≡ true)
 agg_there None a h = (omega arith, λ n. absurd (omega arith))
-agg_there (Some t) a h = ((act_counts t.state t.ops (h.0).act (h.2).1).1, λ n. ap agg_has_act h.1 ∙ act_there t.state t.ops (h.0).act (h.2).1 n)
+agg_there (Some t) a h = (act_short t.state t.ops (h.0).act (h.2).1, λ n. ap agg_has_act h.1 ∙ act_there t.state t.ops (h.0).act (h.2).1 n)
 
 pub one_operation : (text : PrimParts) (p : Primitive) → StandsFor text p → IsPrimitive p → op_count text ≤ 1
-one_operation text p h i = go (agg_ops text.agg) text.vic.ops (agg_there text.agg p.agg h.agg) (act_counts text.vic.state text.vic.ops p.vic.act (h.vic).1).1 (act_there text.vic.state text.vic.ops p.vic.act (h.vic).1)
+one_operation text p h i = go (agg_ops text.agg) text.vic.ops (agg_there text.agg p.agg h.agg) (act_short text.vic.state text.vic.ops p.vic.act (h.vic).1) (act_there text.vic.state text.vic.ops p.vic.act (h.vic).1)
   where
     go : (os qs : List Operation) → (length os ≤ 1) × (0 < length os → agg_has_act p.agg ≡ true) → length qs ≤ 1 → (0 < length qs → is_some p.vic.act ≡ true) → length os + length qs ≤ 1
     go [] qs f n g = omega arith

@@ -13,9 +13,6 @@ pub record Stands (b : List ℕ) (l : Form) (reader : Reader) (i : ℕ) : Type 0
   pub reached : scan (step l) (value l) b start 0 ≡ scan (step l) (value l) (drop i b) state i
   pub kept : reader ≡ reader_of state
 
-pub stands_start : (b : List ℕ) (l : Form) (r : Reader) → r ≡ reader_of start → Stands b l r 0
-stands_start b l r e = record { state = start; reached = refl; kept = e }
-
 -- the state behind a kept one
 behind : (o : Option State) (r : Reader) → Some r ≡ option_map reader_of o → (t : State) × (o ≡ Some t) × (r ≡ reader_of t)
 behind None r e = cc

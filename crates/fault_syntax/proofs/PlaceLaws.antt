@@ -268,20 +268,6 @@ no_more (o ∷ os) L c b w e f g k h = neither (no_op o (more_ops os L) c b e f 
 
 -- ---- marks
 
-mark_blank : (m : ℕ) (X : List ℕ → Type 0) (c : ℕ) (b : List ℕ) → is_blank c ≡ true → (c == m) ≡ false → ws (word (m ∷ []) X) (c ∷ b) ↔ ws (word (m ∷ []) X) b
-mark_blank m X c b w e = go (c == m) (is_blank c) e w
-  where
-    go : (t u : Bool) → t ≡ false → u ≡ true → (when t (X b) ⊎ when u (many is_blank (word (m ∷ []) X) b)) ↔ many is_blank (word (m ∷ []) X) b
-    go true u e w = absurd (differ e)
-      where
-        differ : (let t : Bool = true in t ≡ false) → ⊥
-        differ e = cc
-    go false true e w = skip (λ z. z)
-    go false false e w = absurd (differ w)
-      where
-        differ : (let t : Bool = false in t ≡ true) → ⊥
-        differ e = cc
-
 -- ---- behind a sense
 
 -- of the two that may follow a sense

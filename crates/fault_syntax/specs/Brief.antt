@@ -1,4 +1,4 @@
--- Public. For proofs and private contracts alone: what a reader keeps of what it has read.
+-- Public. What the reader of a primitive keeps of it: of the operations of a cell the first two, and whether there are more.
 use Rattle.std.specs.Prelude.{Bool, true, false, Option, Some, None, List, [], ◌∷◌, option_map}
 use Rattle.fault_syntax.specs.declared.words.Operation.{Operation}
 use Rattle.fault_syntax.specs.declared.reader.Brief.{Brief}

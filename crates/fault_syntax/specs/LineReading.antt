@@ -1,4 +1,4 @@
--- Public. For proofs and private contracts alone: what a line is read to.
+-- Public. What a line of a fault list is read to, as the reader keeps it.
 use Rattle.std.specs.Prelude.{◌≡◌, false, Option, Result, Ok, Err}
 use Rattle.bist_text.specs.Grammar.{IsTruncated}
 use Rattle.bist_text.specs.Lines.{TextLine}

@@ -1,4 +1,4 @@
--- Public. Only helps proofs: the code's walk over the addresses of an element.
+-- Public. The addresses of an element in the order of its direction.
 use Rattle.std.specs.Prelude.{◌-◌, ℕ, Bool, true, false}
 use Rattle.march_core.specs.Visits.{Direction, Upward, Downward}
 

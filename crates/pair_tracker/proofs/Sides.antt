@@ -49,21 +49,23 @@ below_range : (k m n : ℕ) → k + m ≤ n → AllBelow n (range_with_len k m)
 below_range k zero n h = tt
 below_range k (suc m) n h = (omega arith, below_range (k + 1) m n (omega arith))
 
-no_sides : (a v k m : ℕ) → a < k → v < k → sides_of a v (range_with_len k m) ≡ []
-no_sides a v k zero ha hv = refl
-no_sides a v k (suc m) ha hv =
-    let na : k ≢ a = omega arith in
+no_sides : (a v k m : ℕ) → ((x : ℕ) → k ≤ x → x < k + m → x ≢ a) → v < k → sides_of a v (range_with_len k m) ≡ []
+no_sides a v k zero out hv = refl
+no_sides a v k (suc m) out hv =
+    let na : k ≢ a = out k (omega arith) (omega arith) in
     let nv : k ≢ v = omega arith in
-    rw (ne_eqb k a na, ne_eqb k v nv) (no_sides a v (k + 1) m (omega arith) (omega arith))
+    rw (ne_eqb k a na, ne_eqb k v nv) (no_sides a v (k + 1) m (λ x l h. out x (omega arith) (omega arith)) (omega arith))
 
-only_victim : (a v k m : ℕ) → a < k → k ≤ v → v < k + m → sides_of a v (range_with_len k m) ≡ V ∷ []
-only_victim a v k zero ha low high = absurd (omega arith)
-only_victim a v k (suc m) ha low high =
-    let na : k ≢ a = omega arith in
+-- the victim alone, where the other address is none of these
+only_victim : (a v k m : ℕ) → ((x : ℕ) → k ≤ x → x < k + m → x ≢ a) → k ≤ v → v < k + m → sides_of a v (range_with_len k m) ≡ V ∷ []
+only_victim a v k zero out low high = absurd (omega arith)
+only_victim a v k (suc m) out low high =
+    let na : k ≢ a = out k (omega arith) (omega arith) in
+    let rest : (x : ℕ) → k + 1 ≤ x → x < k + 1 + m → x ≢ a = λ x l h. out x (omega arith) (omega arith) in
     rw (ne_eqb k a na)
     (⊎_elim
-    (λ (h : (eqb k v ≡ true) × (k ≡ v)). let s : k ≡ v = h.1 in rw h.0 (ap (λ l. V ∷ l) (no_sides a v (k + 1) m (omega arith) (omega arith))))
-    (λ (h : (eqb k v ≡ false) × (k ≢ v)). let s : k ≢ v = h.1 in rw h.0 (only_victim a v (k + 1) m (omega arith) (omega arith) (omega arith)))
+    (λ (h : (eqb k v ≡ true) × (k ≡ v)). let s : k ≡ v = h.1 in rw h.0 (ap (λ l. V ∷ l) (no_sides a v (k + 1) m rest (omega arith))))
+    (λ (h : (eqb k v ≡ false) × (k ≢ v)). let s : k ≢ v = h.1 in rw h.0 (only_victim a v (k + 1) m rest (omega arith) (omega arith)))
     (eqb_tells k v))
 
 only_aggressor : (a v k m : ℕ) → v < k → k ≤ a → a < k + m → sides_of a v (range_with_len k m) ≡ A ∷ []
@@ -72,7 +74,7 @@ only_aggressor a v k (suc m) ha low high =
     let nv : k ≢ v = omega arith in
     rw (ne_eqb k v nv)
     (⊎_elim
-    (λ (h : (eqb k a ≡ true) × (k ≡ a)). let s : k ≡ a = h.1 in rw h.0 (ap (λ l. A ∷ l) (no_sides a v (k + 1) m (omega arith) (omega arith))))
+    (λ (h : (eqb k a ≡ true) × (k ≡ a)). let s : k ≡ a = h.1 in rw h.0 (ap (λ l. A ∷ l) (no_sides a v (k + 1) m (λ x l h. omega arith) (omega arith))))
     (λ (h : (eqb k a ≡ false) × (k ≢ a)). let s : k ≢ a = h.1 in rw h.0 (only_aggressor a v (k + 1) m (omega arith) (omega arith) (omega arith)))
     (eqb_tells k a))
 
@@ -90,7 +92,7 @@ range_sides a v k (suc m) ne ka kv am vm =
     ⊎_elim
     (λ (h : (eqb k a ≡ true) × (k ≡ a)).
     let s : k ≡ a = h.1 in
-    rw h.0 (ap (λ l. A ∷ l) (only_victim a v (k + 1) m (omega arith) (omega arith) (omega arith)) ∙ sym (ap sides_up (lt-ltb a v (omega arith)))))
+    rw h.0 (ap (λ l. A ∷ l) (only_victim a v (k + 1) m (λ x l h. omega arith) (omega arith) (omega arith)) ∙ sym (ap sides_up (lt-ltb a v (omega arith)))))
     (λ (h : (eqb k a ≡ false) × (k ≢ a)).
     let r : k ≢ a = h.1 in
     rw h.0
@@ -205,26 +207,8 @@ addresses_sides a v n Downward ne ha hv =
     down true = refl
     down false = refl
 
-no_sides_past : (a v k m : ℕ) → k + m ≤ a → v < k → sides_of a v (range_with_len k m) ≡ []
-no_sides_past a v k zero ha hv = refl
-no_sides_past a v k (suc m) ha hv =
-    let na : k ≢ a = omega arith in
-    let nv : k ≢ v = omega arith in
-    rw (ne_eqb k a na, ne_eqb k v nv) (no_sides_past a v (k + 1) m (omega arith) (omega arith))
-
--- the victim alone, where the other address is past the array
-range_victim : (a v k m : ℕ) → k + m ≤ a → k ≤ v → v < k + m → sides_of a v (range_with_len k m) ≡ V ∷ []
-range_victim a v k zero high low within = absurd (omega arith)
-range_victim a v k (suc m) high low within =
-    let na : k ≢ a = omega arith in
-    rw (ne_eqb k a na)
-    (⊎_elim
-    (λ (h : (eqb k v ≡ true) × (k ≡ v)). let s : k ≡ v = h.1 in rw h.0 (ap (λ l. V ∷ l) (no_sides_past a v (k + 1) m (omega arith) (omega arith))))
-    (λ (h : (eqb k v ≡ false) × (k ≢ v)). let s : k ≢ v = h.1 in rw h.0 (range_victim a v (k + 1) m (omega arith) (omega arith) (omega arith)))
-    (eqb_tells k v))
-
 pub addresses_victim : (a v n : ℕ) (d : Direction) → n ≤ a → v < n → sides_of a v (addresses d n) ≡ V ∷ []
 unfolding addresses
-addresses_victim a v n Upward high within = range_victim a v 0 n (omega arith) (omega arith) (omega arith)
+addresses_victim a v n Upward high within = only_victim a v 0 n (λ x l h. omega arith) (omega arith) (omega arith)
 addresses_victim a v n Downward high within =
-    sides_of-reverse a v (range_with_len 0 n) ∙ ap reverse (range_victim a v 0 n (omega arith) (omega arith) (omega arith))
+    sides_of-reverse a v (range_with_len 0 n) ∙ ap reverse (only_victim a v 0 n (λ x l h. omega arith) (omega arith) (omega arith))

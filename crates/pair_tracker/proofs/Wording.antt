@@ -6,7 +6,7 @@ use Rattle.march_core.specs.March.{MarchElement, order_of}
 use Rattle.march_core.specs.Visits.{Direction, Upward, Downward, allows, is_direction, direction_at}
 use Rattle.pair_tracker.specs.Legs.{directions_between}
 use Rattle.pair_tracker.specs.Tracking.{weight_in, IsSpanWord}
-use Rattle.pair_tracker.proofs.Words.{span_below, span_fits, span_join, IsSplit, span_split, directions_join, span_one, directions_one, one_split}
+use Rattle.pair_tracker.proofs.Words.{span_below, span_join, IsSplit, span_split, directions_join, span_one, directions_one, one_split}
 use Rattle.pair_tracker.specs.Ways.{ways_word, IsNotAfter}
 
 pub record IsWordOf (ds : List Direction) (i j word : ℕ) : Type 0 where
@@ -32,11 +32,6 @@ is_word (d ∷ ds) i j e h =
       stands = directions_join i (i + 1) j one (ways_word (i + 1) ds) (omega arith) (omega arith) h first rest.span
           ∙ ap (λ l. l ++ directions_between (ways_word (i + 1) ds) (i + 1) j) (directions_one i d) ∙ ap (λ l. d ∷ l) rest.stands;
     }
-
-pub word_below : (ds : List Direction) (i : ℕ) → i + length ds ≤ 64 → ways_word i ds < 2 ^ 64
-word_below ds i h =
-    let w = is_word ds i (i + length ds) refl h in
-    span_fits i (i + length ds) (ways_word i ds) (omega arith) h w.span
 
 -- each word is that of its directions
 pub word_again : (n i j w : ℕ) → j ≡ i + n → j ≤ 64 → IsSpanWord i j w → w ≡ ways_word i (directions_between w i j)

@@ -1,12 +1,13 @@
-ghost use Rattle.std.specs.Prelude.{◌≡◌, ◌+◌, ◌<◌, length};
+ghost use Rattle.std.specs.Prelude.{◌≡◌, ◌+◌, ◌<◌, length, true, None};
 ghost use Rattle.fault_core.specs.Primitive.{IsPrimitive};
 ghost use Rattle.march_core.specs.March.{IsMarch};
+ghost use Rattle.cell_machine.specs.Pairs.{pair_close};
 ghost use Rattle.pair_tracker.specs.Placements.{FitsPlacement, pair_in};
 ghost use Rattle.pair_tracker.specs.Tracking.{is_below};
-ghost use Rattle.pair_tracker.specs.Survivors.{AreSurvivors, IsLeastWord};
+ghost use Rattle.pair_tracker.specs.Survivors.{AreSurvivors, IsLeastWord, pair_number};
 ghost use Rattle.pair_tracker.specs.Legs.{SumsUp, AreLegEnds, ends_from};
 ghost use Rattle.pair_tracker.specs.Pairs.{machine_of};
-ghost use Rattle.pair_tracker.specs.Reached.{is_wanted, word_to, AreDeadEnds, KnowsOf};
+ghost use Rattle.pair_tracker.specs.Reached.{is_wanted, word_to, is_dead, StaysDead, AreDeadEnds, KnowsOf};
 
 use crate::placement::{Placement, Survivor};
 use crate::search::{DeadEnds, Search, word_from};
@@ -134,6 +135,8 @@ impl<'a> Summary<'a> {
         requires { AreDeadEnds (is_wanted wanted) (machine_of self.now.prim) (is_below self.now.placement) self.now.march self.now.end dead_ends.old }
         ensures word { result ≡ word_to (is_wanted wanted) (machine_of self.now.prim) (is_below self.now.placement) self.now.march self.now.first self.now.end start }
         ensures dead { AreDeadEnds (is_wanted wanted) (machine_of self.now.prim) (is_below self.now.placement) self.now.march self.now.end dead_ends.new }
+        ensures kept { StaysDead dead_ends.old dead_ends.new }
+        ensures noted { result ≡ None → self.now.first < self.now.end → is_dead dead_ends.new self.now.first (pair_number start) ≡ true }
     {
         let search = Search {
             march: self.march,
@@ -181,6 +184,8 @@ impl<'a> Summary<'a> {
         requires dead { KnowsOf self.now dead_ends.old }
         ensures word { IsLeastWord self.now.march self.now.prim self.now.placement content result }
         ensures dead { KnowsOf self.now dead_ends.new }
+        ensures kept { StaysDead dead_ends.old dead_ends.new }
+        ensures noted { result ≡ None → 0 < self.now.end → is_dead dead_ends.new 0 (pair_number (pair_close self.now.prim (pair_in self.now.placement content))) ≡ true }
     {
         let start = close(&self.prim, start_of(self.placement, content));
         self.word(start, None, dead_ends)

@@ -24,9 +24,6 @@ one_letter_more word k =
     ∙ flat_map-append letter (map (direction_at word) (range_with_len 0 k)) (direction_at word k ∷ [])
     ∙ ap (λ l. flat_map letter (map (direction_at word) (range_with_len 0 k)) ++ l) (append-nil (letter (direction_at word k)))
 
-pub regroup : (o p c k d x : List ℕ) → ((((o ++ p) ++ c) ++ k) ++ d) ++ x ≡ o ++ ((((p ++ c) ++ k) ++ d) ++ x)
-regroup o p c k d x = simp append_assoc
-
 pub class_line_more : (js : List JudgedItem) (k : ℕ) → k < 16
     → class_lines (take (k + 1) class_order) js
     ≡ class_lines (take k class_order) js

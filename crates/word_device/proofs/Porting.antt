@@ -230,11 +230,3 @@ answers_of_slots shape (s ∷ ss) (cmd ∷ cmds) are chip =
     ap (λ own. own ∷ own_answers shape (chip_after shape chip cmd) cmds) (own_same shape chip s cmd are.0)
     ∙ ap (λ c. own_answer shape chip (command_in s) ∷ own_answers shape c cmds) (chip_same shape chip s cmd are.0)
     ∙ ap (λ l. own_answer shape chip (command_in s) ∷ l) (answers_of_slots shape ss cmds are.1 (chip_after shape chip (command_in s)))
-
-command_is : (o : PortOp) → IsCommand o (command_in (Some o))
-command_is o = record { enabled = refl; write = refl; address = refl; word = λ write. ap (λ (b : Bool). if b then o.word else 0) write }
-
-pub slots_are : (ss : List (Option PortOp)) → AreSlots ss (map command_in ss)
-slots_are [] = tt
-slots_are (None ∷ ss) = (refl, slots_are ss)
-slots_are (Some o ∷ ss) = (command_is o, slots_are ss)

@@ -1,4 +1,4 @@
--- Public. For proofs and private contracts alone: the index of an address, by its low and its high byte.
+-- Public. The index of an address, by its low and its high byte.
 use Rattle.std.specs.Prelude.{◌≡◌, ◌<◌, ◌/◌, ◌%◌, ◌^◌, ℕ, Option, Some, None, slice_index, bit_xor}
 use Rattle.scrambler.specs.Scrambling.{Scrambling, logical}
 use Rattle.word_device.specs.declared.way_back.WayBack.{WayBack}

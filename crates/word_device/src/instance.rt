@@ -1,6 +1,6 @@
 ghost use Rattle.std.specs.Prelude.{◌≡◌, ◌<◌, ◌↔◌, if◌then◌else◌, IsTrue, IsOk, IfErr, is_some, length, Some, None};
 ghost use Rattle.fault_core.specs.Primitive.{agg_has_act, has_aggressor, is_retention};
-ghost use Rattle.fault_core.specs.Cells.{has_act, has_this_act};
+ghost use Rattle.fault_core.specs.Cells.{has_act};
 ghost use Rattle.word_device.specs.Boxes.{FitsBox};
 ghost use Rattle.word_device.specs.Chips.{bit_in, with_bit_in, agg_bit_holds, bits_hold, closed_words, paused_words, act_on, falls_on, falls_on_agg, matches, plain_words, plain_reply, answered, words_after, reply_to, FitsMemory, FitsAggPlace};
 
@@ -99,16 +99,6 @@ pub(crate) fn pause(planted: &Planted, words: &mut [u64])
     take_effect(planted, words, own);
 }
 
-fn is_this_act(own: Option<Act>, act: Act) -> bool
-    ensures { result ≡ has_this_act own act }
-{
-    match (own, act) {
-        (Some(Act::Read), Act::Read) | (Some(Act::Pause), Act::Pause) => true,
-        (Some(Act::Write(a)), Act::Write(b)) => a == b,
-        _ => false,
-    }
-}
-
 /// What an operation does to a bit of its word.
 fn act_on(op: WordOp, bit: u8) -> Act
     requires { bit < 64 }
@@ -125,7 +115,7 @@ fn does_fall_on(act: Option<Act>, at: Place, op: WordOp) -> bool
     requires { at.bit < 64 }
     ensures { result ≡ falls_on act at op }
 {
-    at.word == op.index && is_this_act(act, act_on(op, at.bit))
+    at.word == op.index && act == Some(act_on(op, at.bit))
 }
 
 fn does_fall_on_agg(

@@ -1,4 +1,4 @@
--- Inner. For proofs and private contracts alone, beside Testing: the two acts as an array, and the test of the parts, by cases on the acts.
+-- Inner. For proofs and private contracts alone, beside Testing: the test of the parts, by cases on the acts.
 use Rattle.std.specs.Prelude.{Bool, true, false, not, ◌&&◌, ◌||◌, Option, Some, None}
 use Rattle.fault_core.specs.declared.primitive.Act.{Act}
 use Rattle.fault_core.specs.declared.primitive.Act.TheVariants.{Write, Read, Pause}

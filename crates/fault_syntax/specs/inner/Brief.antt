@@ -1,4 +1,4 @@
--- Inner. For proofs and private contracts alone, beside Brief: for proofs and private contracts alone: what a reader keeps of what it has read.
+-- Inner. For proofs and private contracts alone, beside Brief: the reader of a state, and its answer.
 use Rattle.std.specs.Prelude.{Option, Result, Ok, Err, option_map}
 use Rattle.bist_text.specs.Machine.{Outcome, read, unexpected, truncated}
 use Rattle.fault_syntax.specs.declared.reader.Reader.{Reader}

@@ -1,4 +1,4 @@
--- Inner. For proofs and private contracts alone, beside LineReading: for proofs and private contracts alone: what a line is read to.
+-- Inner. For proofs and private contracts alone, beside LineReading: what is said of a line's bytes.
 use Rattle.std.specs.Prelude.{◌≡◌, ℕ, Option, List, Result, Ok, Err}
 use Rattle.bist_text.specs.Grammar.{IsUnexpected, IsTruncated}
 use Rattle.fault_syntax.specs.declared.reader.ReadItem.{ReadItem}

@@ -1,5 +1,5 @@
--- Inner. For proofs and private contracts alone, beside Addresses: only helps proofs: the code's walk over the addresses of an element.
-use Rattle.std.specs.Prelude.{◌-◌, List, map}
+-- Inner. For proofs and private contracts alone, beside Addresses: visits as steps of a march.
+use Rattle.std.specs.Prelude.{List, map}
 use Rattle.march_core.specs.Visits.{Visit, MarchStep, visiting}
 
 -- visits as steps of a march

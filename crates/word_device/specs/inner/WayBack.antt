@@ -1,4 +1,4 @@
--- Inner. For proofs and private contracts alone, beside WayBack: for proofs and private contracts alone: the index of an address, by its low and its high byte.
+-- Inner. For proofs and private contracts alone, beside WayBack: what the two tables of a way back lead to, byte by byte.
 use Rattle.std.specs.Prelude.{◌≡◌, ◌<◌, ◌≤◌, ◌*◌, ◌^◌, ℕ, List, slice_index, bit_xor}
 use Rattle.scrambler.specs.Scrambling.{Scrambling, logical}
 

@@ -36,26 +36,9 @@ ran p at cells closed march ds miss left size closes miss_is left_is =
       stopped = stopped p at (close_of p at cells) steps miss left named leaves;
     }
 
-pub returns-clause-caught : goal.returns-clause-caught
-returns-clause-caught c =
-    (ran c.args.instance.now.prim (places_of c.args.instance.now) c.args.cells.now c.close_cells.new.cells c.args.march.now
+pub returns : goal.returns
+returns c =
+    let r = ran c.args.instance.now.prim (places_of c.args.instance.now) c.args.cells.now c.close_cells.new.cells c.args.march.now
     (directions_of c.args.directions (length c.args.march.now)) c.run_elements.result c.run_elements.new.cells (omega arith) c.close_cells.ensures
-    c.run_elements.ensures.miss c.run_elements.ensures.cells).caught
-
-pub returns-clause-first : goal.returns-clause-first
-returns-clause-first c =
-    (ran c.args.instance.now.prim (places_of c.args.instance.now) c.args.cells.now c.close_cells.new.cells c.args.march.now
-    (directions_of c.args.directions (length c.args.march.now)) c.run_elements.result c.run_elements.new.cells (omega arith) c.close_cells.ensures
-    c.run_elements.ensures.miss c.run_elements.ensures.cells).first
-
-pub returns-clause-passed : goal.returns-clause-passed
-returns-clause-passed c =
-    (ran c.args.instance.now.prim (places_of c.args.instance.now) c.args.cells.now c.close_cells.new.cells c.args.march.now
-    (directions_of c.args.directions (length c.args.march.now)) c.run_elements.result c.run_elements.new.cells (omega arith) c.close_cells.ensures
-    c.run_elements.ensures.miss c.run_elements.ensures.cells).passed
-
-pub returns-clause-stopped : goal.returns-clause-stopped
-returns-clause-stopped c =
-    (ran c.args.instance.now.prim (places_of c.args.instance.now) c.args.cells.now c.close_cells.new.cells c.args.march.now
-    (directions_of c.args.directions (length c.args.march.now)) c.run_elements.result c.run_elements.new.cells (omega arith) c.close_cells.ensures
-    c.run_elements.ensures.miss c.run_elements.ensures.cells).stopped
+    c.run_elements.ensures.miss c.run_elements.ensures.cells in
+    record { caught = r.caught; first = r.first; passed = r.passed; stopped = r.stopped }
