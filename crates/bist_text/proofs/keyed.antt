@@ -7,3 +7,4 @@ pub mod LineLaws
 pub mod Items
 pub mod Checks
 pub mod Texts
+pub mod Found

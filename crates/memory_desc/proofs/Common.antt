@@ -60,7 +60,7 @@ pub use Rattle.memory_desc.specs.inner.Heard.{argument_of, heard, hex_word_of, i
 pub use Rattle.memory_desc.specs.inner.Met.{MayBeMet, MayHave}
 pub use Rattle.memory_desc.specs.inner.Printed.{is_none, separator, term_after}
 pub use Rattle.memory_desc.specs.inner.Seeking.{IsPosed, first_sought, is_sought, tests}
-pub use Rattle.memory_desc.specs.inner.Seen.{Seen, SeenStatement, SeenWords, begun_row, inverted, listed, no_words, plain_content, plain_line_content, plain_statement, plain_words, seen, seen_stated, seen_statements, subject_of, summand, with_term, with_terms, with_word, with_words}
+pub use Rattle.memory_desc.specs.inner.Seen.{Seen, SeenStatement, SeenWords, begun_row, inverted, listed, no_words, plain_content, plain_line_content, plain_statement, plain_words, seen, seen_statements, subject_of, summand, with_term, with_terms, with_word, with_words}
 pub use Rattle.memory_desc.specs.inner.Standing.{AreFields, AreWords, GivesBackgrounds, GivesScrambling, IsRow, StandsAt, highest_of, is_ranged, least, most, name_in_seen, number_in_seen, polarity_in_seen, row_in_seen, union_of, value_in}
 pub use Rattle.scrambler.proofs.LinearLemmas.{bit_at-number, dot-zero_left, dot_below, number-below, number-bits, two_digits}
 pub use Rattle.scrambler.specs.Scrambling.{DependsOn, IsFull, IsInvertible, IsLeastDependence, IsWithin, Scrambling, identity, is_identity, matrix_of, product}

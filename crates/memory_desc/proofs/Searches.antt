@@ -1,5 +1,5 @@
 -- A search in what the code has of the lines finds what one in the statements finds.
-use Rattle.memory_desc.proofs.Common.{About, Bool, Content, Err, IsPosed, List, None, Ok, Option, SeenStatement, Some, StandsAt, Statement, TextLine, TooWide, [], ap, at_line, backgrounds, checked, cond, false, find, first_sought, is_row, is_same, is_some, is_sought, list_any, map, option_map, plain_statement, refl, scramble, seen, seen_stated, seen_statements, subject, subject_of, subst, tests, true, version, ℕ, ◌++◌, ◌||◌, ◌∙◌, ◌∷◌, ◌≡◌}
+use Rattle.memory_desc.proofs.Common.{About, Bool, Content, Err, IsPosed, List, None, Ok, Option, SeenStatement, Some, StandsAt, Statement, TextLine, TooWide, [], ap, at_line, backgrounds, checked, cond, false, find, first_sought, is_row, is_same, is_some, is_sought, list_any, map, option_map, plain_statement, refl, scramble, seen, seen_statements, subject, subject_of, subst, tests, true, version, ℕ, ◌++◌, ◌||◌, ◌∙◌, ◌∷◌, ◌≡◌}
 use Rattle.memory_desc.specs.Statements.{stated}
 use Rattle.memory_desc.specs.Table.{is_out_of_range, is_too_wide}
 use Rattle.memory_desc.specs.inner.Heard.{said, statements}
@@ -45,7 +45,7 @@ seen_is : (ls : List TextLine) → seen_statements ls ≡ map seen_statement (st
 seen_is [] = refl
 seen_is (l ∷ ls) = go (said l.text) (seen_is ls)
   where
-    go : (v : Option Content) → seen_statements ls ≡ map seen_statement (statements ls) → seen_stated l.number (option_map seen v) ++ seen_statements ls ≡ map seen_statement (stated l.number v ++ statements ls)
+    go : (v : Option Content) → seen_statements ls ≡ map seen_statement (statements ls) → stated l.number (option_map seen v) ++ seen_statements ls ≡ map seen_statement (stated l.number v ++ statements ls)
     go None e = e
     go (Some c) e = ap (λ (ss : List SeenStatement). seen_statement (record { line = l.number; content = c }) ∷ ss) e
 
