@@ -1,6 +1,5 @@
 -- The chip that statements describe is within the limits, and is what the reader makes.
-use Rattle.bist_text.proofs.keyed.Found.{found_fails, found_passes, none_at, said_found}
-use Rattle.chip_desc.proofs.Common.{All, Bool, Budget, Chip, ChipDescription, ChipFault, ChipUnit, Content, Err, IsChip, IsName, IsUnit, Key, List, Missing, Name, None, Ok, Some, Statement, TextLine, TooManyUnits, UnitDescription, [], alone, ap, arith, budget, budget_in, budget_said, by_statements, checked, cond, content_of, described, described_as, false, find, first_of, heavier_than, is_formed, is_heavier, is_key, is_out_of_range, is_outside, kind_of, length, length-append, ltb-false, map, missing, name, name_in, name_said, nat_lt, next, or_parts, out_of_range, passed, refl, refusal, repeated, said, statements, stopped, subst, sym, too_heavy, too_many, true, unit_in, unit_of, units_said, unless_there, ℕ, ◌++◌, ◌+◌, ◌∙◌, ◌∷◌, ◌≡◌, ◌≤◌}
+use Rattle.chip_desc.proofs.Common.{All, Bool, Budget, Chip, ChipDescription, ChipFault, ChipUnit, Content, Err, IsChip, IsName, IsUnit, Key, List, Missing, Name, None, Ok, Some, Statement, TextLine, TooManyUnits, UnitDescription, [], alone, ap, arith, budget, budget_in, budget_said, by_statements, checked, cond, content_of, described, described_as, false, find, first_of, found_fails, found_passes, heavier_than, is_formed, is_heavier, is_key, is_out_of_range, is_outside, kind_of, length, length-append, ltb-false, map, missing, name, name_in, name_said, nat_lt, next, none_at, or_parts, out_of_range, passed, refl, refusal, repeated, said, said_found, statements, stopped, subst, sym, too_heavy, too_many, true, unit_in, unit_of, units_said, unless_there, ℕ, ◌++◌, ◌+◌, ◌∙◌, ◌∷◌, ◌≡◌, ◌≤◌}
 use Rattle.bist_text.specs.ReservedWords.{is_among, reserved_words}
 use Rattle.chip_desc.specs.declared.fault.ChipField.{ChipField}
 use Rattle.chip_desc.specs.declared.fault.ChipField.TheVariants.{Name as NameField, Budget as BudgetField, Unit as UnitField}

@@ -1,9 +1,9 @@
 -- A text is read in one way: as what the reader hears in it.
 use Rattle.chip_desc.proofs.Common.{AreStatements, ChipDescription, ChipFault, Content, ContentText, Err, List, None, Ok, Option, Reads, Result, Some, Statement, Version, ap, by_lines, by_statements, described, heard, inl, inr, is_formed, of_lines, reading, refl, refusal, said, stands, statements, sym, text_lines, true, version_at, version_in, walk, ℕ, ◌↔◌, ◌∙◌, ◌≡◌}
 use Rattle.bist_text.specs.declared.keyed_lines.TextFault.{TextFault}
-use Rattle.bist_text.proofs.keyed.Texts as Texts
 use Rattle.chip_desc.specs.declared.content.Version.TheVariants.{One}
 use Rattle.chip_desc.proofs.ArgumentLaws.{line_exact}
+use Rattle.bist_text.proofs.keyed.Texts as Texts
 
 wide : (v : Option Version) (c : Content) → stands v c ≡ true → stands (Some One) c ≡ true
 wide v c h = refl

@@ -1,6 +1,5 @@
 -- The units of the lines of a text.
-use Rattle.bist_text.proofs.keyed.Found.{none_at}
-use Rattle.chip_desc.proofs.Common.{All, Bool, ChipUnit, Content, IsFile, IsUnit, List, None, Option, Some, Statement, TextLine, TooManyUnits, UnitDescription, [], and_parts, ap, arith, budget, cond, false, find, if◌then◌else◌, is_file, is_formed, is_heavier, is_key, is_out_of_range, is_outside, kind_of, leb-true, length, length-append, length-map, list_all, lt-ltb, ltb-false, map, name, nat_le, nat_lt, not, or_parts, out_of_range, plain_unit, refl, said, stated, statements, suc, sym, too_many, true, unit, unit_in, unit_of, unit_said, units_said, version, zero, ℕ, ◌&&◌, ◌++◌, ◌+◌, ◌<◌, ◌==◌, ◌||◌, ◌∙◌, ◌∷◌, ◌≡◌, ◌≤◌}
+use Rattle.chip_desc.proofs.Common.{All, Bool, ChipUnit, Content, IsFile, IsUnit, List, None, Option, Some, Statement, TextLine, TooManyUnits, UnitDescription, [], and_parts, ap, arith, budget, cond, false, find, if◌then◌else◌, is_file, is_formed, is_heavier, is_key, is_out_of_range, is_outside, kind_of, leb-true, length, length-append, length-map, list_all, lt-ltb, ltb-false, map, name, nat_le, nat_lt, none_at, not, or_parts, out_of_range, plain_unit, refl, said, stated, statements, suc, sym, too_many, true, unit, unit_in, unit_of, unit_said, units_said, version, zero, ℕ, ◌&&◌, ◌++◌, ◌+◌, ◌<◌, ◌==◌, ◌||◌, ◌∙◌, ◌∷◌, ◌≡◌, ◌≤◌}
 use Rattle.std.specs.Option.{option_map}
 use Rattle.std.specs.Str.{IsAscii}
 use Rattle.std.proofs.lemmas.List.Elements.{All-cons, All-nil}

@@ -1,13 +1,13 @@
 -- A list of statements describes one memory, or is refused in one way.
-use Rattle.memory_desc.proofs.Common.{AreBackgrounds, AreOfMemory, AreRefusedBy, Bool, Contains, Content, Describes, Description, Err, IsLast, IsLogSet, IsLogarithm, IsScrambling, IsStripe, IsWidthOf, List, MemoryFault, Missing, None, Ok, Option, Repeated, Result, ScrambleNeedsPowerOfTwo, Singular, Some, Statement, [], about, add-one, ap, ap₂, arith, backgrounds, bits_said, described, false, find, if◌then◌else◌, inl, inr, is_power_of_two, length, matrix_said, missing, not, out_of_range, refl, repeated, same_from_bits_below, slice_index, subst, suc, sym, too_wide, true, unfit, unrowed, unscramblable, unserved, unsized, word_values, words_said, zero, ℕ, ◌&&◌, ◌+◌, ◌-◌, ◌<◌, ◌∙◌, ◌∷◌, ◌≡◌, ◌≤◌, ◌⊎◌}
+use Rattle.memory_desc.proofs.Common.{AreBackgrounds, AreOfMemory, AreRefusedBy, Bool, Contains, Content, Describes, Description, Err, IsLast, IsLogSet, IsLogarithm, IsScrambling, IsStripe, IsWidthOf, List, MemoryFault, Missing, None, Ok, Option, Repeated, Result, ScrambleNeedsPowerOfTwo, Singular, Some, Statement, [], about, add-one, ap, ap₂, arith, backgrounds, bits_said, described, false, if◌then◌else◌, inl, inr, is_power_of_two, length, matrix_said, missing, next, not, out_of_range, refl, repeated, same_from_bits_below, slice_index, some_same, subst, suc, sym, there, too_wide, true, unfit, unrowed, unscramblable, unserved, unsized, word_values, words_said, zero, ℕ, ◌&&◌, ◌+◌, ◌-◌, ◌<◌, ◌∙◌, ◌∷◌, ◌≡◌, ◌≤◌, ◌⊎◌}
+use Rattle.bist_text.specs.KeyedTexts.{at_line}
 use Rattle.scrambler.proofs.Dependences.{dependence_one}
 use Rattle.scrambler.proofs.ScramblingLemmas.{singular}
-use Rattle.memory_desc.specs.Described.{is_repeat, is_out_of_range, is_too_wide, is_scrambled}
+use Rattle.memory_desc.specs.Described.{is_scrambled}
 use Rattle.memory_desc.specs.Subjects.{said}
 use Rattle.memory_desc.specs.declared.content.Subject.TheVariants.{Name, Words, Bits, Backgrounds}
 use Rattle.memory_desc.specs.declared.fault.Field.TheVariants.{Name as NameField, Words as WordsField, Bits as BitsField}
 use Rattle.memory_desc.specs.declared.fault.MemoryFault.TheVariants.{OutOfRange}
-use Rattle.memory_desc.proofs.Checks.{next, at_none, some_same, there}
 use Rattle.memory_desc.proofs.Chosen.{served}
 use Rattle.memory_desc.proofs.Scrambles.{invertible, no_row_missed, scrambling_one}
 
@@ -95,14 +95,14 @@ memory_one ss d e m n =
 module _ (ss : List Statement) (d : Description) (m : AreOfMemory ss d) where
   all_sized : unsized ss ≡ None
   all_sized =
-      next (repeated ss) (at_none (λ n. Repeated n) (find (is_repeat ss) ss) m.once) ∙ next (missing Name NameField ss) (there (Missing NameField) (about Name ss) m.has_name)
+      next (repeated ss) (ap (at_line (λ n. Repeated n)) m.once) ∙ next (missing Name NameField ss) (there (Missing NameField) (about Name ss) m.has_name)
       ∙ next (missing Words WordsField ss) (there (Missing WordsField) (about Words ss) m.has_words) ∙ next (missing Bits BitsField ss) (there (Missing BitsField) (about Bits ss) m.has_bits)
-      ∙ next (out_of_range ss) (at_none (λ n. OutOfRange n) (find (λ s. is_out_of_range s.content) ss) m.in_range)
+      ∙ next (out_of_range ss) (ap (at_line (λ n. OutOfRange n)) m.in_range)
 
   all_fit : unfit ss m.width ≡ None
   all_fit =
       next (unscramblable ss) (none_if (is_scrambled ss) (is_power_of_two (words_said ss)) m.scramblable)
-      ∙ next (too_wide ss m.width (bits_said ss)) (at_none (λ n. OutOfRange n) (find (λ s. is_too_wide m.width (bits_said ss) s.content) ss) m.fit)
+      ∙ next (too_wide ss m.width (bits_said ss)) (ap (at_line (λ n. OutOfRange n)) m.fit)
       ∙ next (unrowed ss m.width) (no_row_missed ss m.width m.scrambling m.is_scrambling)
     where
       none_if : (rows power : Bool) → (rows ≡ true → power ≡ true) → (if rows && not power then Some ScrambleNeedsPowerOfTwo else None) ≡ None

@@ -1,11 +1,10 @@
 -- The name and the numbers that the statements give, each in its range.
-use Rattle.memory_desc.proofs.Common.{IsName, List, Missing, None, Some, StandsAt, Statement, Subject, TextLine, about, ap, arith, content_of, digits_value, false, inl, inr, is_about, is_among, is_formed, is_ranged, latency_in, least, leb-false, length, ltb-false, missing, most, name, name_in, name_in_seen, name_said, nat_lt, number_in_seen, or_parts, out_of_range, pause_in, plain_content, polarity, polarity_in, polarity_in_seen, polarity_said, reserved_words, subst, sym, too_wide, true, unless_there, value_in, ℕ, ◌<◌, ◌^◌, ◌||◌, ◌∙◌, ◌≡◌, ◌≤◌, ◌⊎◌}
+use Rattle.memory_desc.proofs.Common.{IsName, List, Missing, None, Some, StandsAt, Statement, Subject, TextLine, about, ap, arith, content_of, digits_value, false, inl, inr, is_about, is_among, is_formed, is_ranged, latency_in, least, leb-false, length, ltb-false, missing, most, name, name_in, name_in_seen, name_said, nat_lt, number_in_seen, or_parts, out_of_range, pause_in, plain_content, polarity, polarity_in, polarity_in_seen, polarity_said, reserved_words, said_found, subst, sym, too_wide, true, unless_there, value_in, ℕ, ◌<◌, ◌^◌, ◌||◌, ◌∙◌, ◌≡◌, ◌≤◌, ◌⊎◌}
 use Rattle.memory_desc.specs.Subjects.{said}
 use Rattle.memory_desc.specs.inner.Heard.{said as said_by, statements}
 use Rattle.memory_desc.specs.declared.content.Statement.{Statement as ReadStatement}
 use Rattle.memory_desc.specs.declared.content.Subject.TheVariants.{Name, Polarity, Latency, Pause}
 use Rattle.memory_desc.specs.declared.fault.Field.{Field}
-use Rattle.memory_desc.proofs.Checks.{said_found}
 use Rattle.memory_desc.proofs.OneText.{formed_said}
 use Rattle.memory_desc.proofs.Stated.{stated, says, unstated, name_stated, polarity_stated, in_range, within, has_digits}
 

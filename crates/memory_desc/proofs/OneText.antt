@@ -1,9 +1,9 @@
 -- The statements of a text are those that the reader hears in it.
 use Rattle.memory_desc.proofs.Common.{AreStatements, Content, ContentText, List, None, Option, Some, Statement, Two, heard, is_formed, refl, stands, sym, text_lines, true, version_at, version_in, walk, ℕ, ◌∙◌, ◌≡◌}
-use Rattle.bist_text.proofs.keyed.Texts as Texts
 use Rattle.memory_desc.specs.inner.Heard.{said, statements}
 use Rattle.memory_desc.specs.declared.content.Version.{Version}
 use Rattle.memory_desc.proofs.LineLaws.{line_exact}
+use Rattle.bist_text.proofs.keyed.Texts as Texts
 
 wide : (v : Option Version) (c : Content) → stands v c ≡ true → stands (Some Two) c ≡ true
 wide v c h = refl

@@ -4,12 +4,12 @@ use Rattle.memory_desc.specs.Statements.{stated}
 use Rattle.memory_desc.specs.Table.{is_out_of_range, is_too_wide}
 use Rattle.memory_desc.specs.inner.Heard.{said, statements}
 use Rattle.memory_desc.specs.declared.content.Statement.{Statement as ReadStatement}
-use Rattle.memory_desc.specs.declared.content.Subject.TheVariants as S
 use Rattle.memory_desc.specs.declared.fault.MemoryFault.TheVariants.{OutOfRange as OutOfRangeAt}
 use Rattle.memory_desc.specs.declared.search.Sought.{Sought}
 use Rattle.memory_desc.specs.declared.search.Sought.TheVariants.{OutOfRange, Row}
 use Rattle.memory_desc.proofs.LineTests.{row_too_wide, words_too_wide}
 use Rattle.memory_desc.proofs.SeenLaws.{row_is}
+use Rattle.memory_desc.specs.declared.content.Subject.TheVariants as S
 
 -- ---- what is sought, said of contents
 

@@ -1,7 +1,6 @@
 -- What the statement about something says, where its line is known.
-use Rattle.memory_desc.proofs.Common.{Bool, Content, List, None, Option, Seen, Some, StandsAt, Statement, Subject, Term, about, ap, backgrounds, bits, content_of, digits_value, false, find, is_about, is_ranged, is_same, kind_of, latency, least, log, most, name, nat_lt, number_in_seen, out_of_range, pause, plain_content, polarity, refl, scramble, seen, subject, subst, sym, too_wide, true, value_in, words, ℕ, ◌||◌, ◌∙◌, ◌≡◌}
+use Rattle.memory_desc.proofs.Common.{Bool, Content, List, None, Option, Seen, Some, StandsAt, Statement, Subject, Term, about, ap, backgrounds, bits, content_of, digits_value, false, find, found_fails, found_passes, is_about, is_ranged, is_same, kind_of, latency, least, log, most, name, nat_lt, none_at, number_in_seen, out_of_range, pause, plain_content, polarity, refl, scramble, seen, subject, subst, sym, too_wide, true, value_in, words, ℕ, ◌||◌, ◌∙◌, ◌≡◌}
 use Rattle.memory_desc.specs.Subjects.{said}
-use Rattle.memory_desc.proofs.Checks.{found_fails, found_passes, none_at}
 use Rattle.memory_desc.specs.Table.{is_too_wide, is_out_of_range}
 use Rattle.memory_desc.specs.declared.content.Key.TheVariants.{Backgrounds as BackgroundsKey}
 use Rattle.memory_desc.specs.declared.content.Statement.{Statement as ReadStatement}

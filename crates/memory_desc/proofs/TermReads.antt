@@ -1,6 +1,5 @@
 -- The readers of terms, by the first byte and one after another.
-use Rattle.memory_desc.proofs.Common.{Content, List, None, Number, Option, Read, Some, Term, [], ap, arith, byte_of, constant, false, fits_of, gather_end, gather_on, gather_smaller, gather_stuck, get_or, index_bit, length, marked_term_of, next_term_of, onward, option_map, row_of, scramble, spaced, stuck, summand, sym, take, take_all, term_of, took, true, with_term, with_terms, word_of, ℕ, ◌-◌, ◌<◌, ◌∙◌, ◌∷◌, ◌≡◌, ◌≤◌}
-use Rattle.std.proofs.Common.{drop}
+use Rattle.memory_desc.proofs.Common.{Content, List, None, Number, Option, Read, Some, Term, [], ap, arith, byte_of, constant, drop, false, fits_of, gather_end, gather_on, gather_smaller, gather_stuck, get_or, index_bit, length, marked_term_of, next_term_of, onward, option_map, row_of, scramble, spaced, stuck, summand, sym, take, take_all, term_of, took, true, with_term, with_terms, word_of, ℕ, ◌-◌, ◌<◌, ◌∙◌, ◌∷◌, ◌≡◌, ◌≤◌}
 use Rattle.memory_desc.specs.inner.Heard.{terms_of}
 use Rattle.memory_desc.specs.declared.content.Row.{Row}
 use Rattle.memory_desc.specs.declared.row_reader.Summand.{Summand}
