@@ -11,7 +11,7 @@ pub use Rattle.std.proofs.lemmas.Grind.{get_or_default_zero}
 pub use Rattle.std.proofs.lemmas.List.{get_or-replicate, get_or-set_other, get_or-set_same, get_or_past, length-append, length-map, length-replicate, length-set, map-append, take-append-le, take_all, take_more}
 pub use Rattle.std.proofs.lemmas.List.Folds.{find-append, list_all-append, list_any-append}
 pub use Rattle.std.proofs.lemmas.Nat.{and_mask, le_or_l, le_or_r, mod_below, or_lt, pow_pos, xor_comm, xor_lt}
-pub use Rattle.std.proofs.lemmas.Nat.Bits.{bit_at-lt, bit_at-pow_same, bit_at_or, same_from_bits, same_from_bits_below, shr_and_one}
+pub use Rattle.std.proofs.lemmas.Nat.Bits.{bit_at-lt, bit_at-pow_same, bit_at_or, same_from_bits, shr_and_one}
 pub use Rattle.std.proofs.lemmas.Result.{err_from_is_err_and, on_ok_weaker}
 pub use Rattle.std.specs.Char.{digit_value, is_newline}
 pub use Rattle.std.specs.Int.{bit_at, from_bool, is_power_of_two}
@@ -20,7 +20,7 @@ pub use Rattle.std.specs.List.{list_all, list_any, onto_first, refill, slice_spl
 pub use Rattle.std.specs.Option.{IsSome, option_or}
 pub use Rattle.std.specs.Prelude.{All, Contains, IfOk, MatchBool, MatchResult, decimal, find, nat_le, nat_lt, option_map, slice_get}
 pub use Rattle.std.specs.Str.Parse.{AllDigits, digits_value}
-pub use Rattle.backgrounds.specs.Backgrounds.{IsLogSet, IsLogarithm, IsStripe}
+pub use Rattle.backgrounds.specs.Backgrounds.{IsLogSet}
 pub use Rattle.bist_bits.specs.Width.{IsWidthOf}
 pub use Rattle.bist_text.proofs.LinePieces.{apart, at_bool, gap_off, gap_on, of_blank, tail_blank, tail_other, when_false, when_holds, when_true}
 pub use Rattle.bist_text.proofs.LineStops.{IsPlain, blank_run, blank_word, no_mark, no_tail, plain_blank}

@@ -1,5 +1,6 @@
 -- A list of statements describes one memory, or is refused in one way.
-use Rattle.memory_desc.proofs.Common.{AreBackgrounds, AreOfMemory, AreRefusedBy, Bool, Contains, Content, Describes, Description, Err, IsLast, IsLogSet, IsLogarithm, IsScrambling, IsStripe, IsWidthOf, List, MemoryFault, Missing, None, Ok, Option, Repeated, Result, ScrambleNeedsPowerOfTwo, Singular, Some, Statement, [], about, add-one, ap, ap₂, arith, backgrounds, bits_said, described, false, if◌then◌else◌, inl, inr, is_power_of_two, length, matrix_said, missing, next, not, out_of_range, refl, repeated, same_from_bits_below, slice_index, some_same, subst, suc, sym, there, too_wide, true, unfit, unrowed, unscramblable, unserved, unsized, word_values, words_said, zero, ℕ, ◌&&◌, ◌+◌, ◌-◌, ◌<◌, ◌∙◌, ◌∷◌, ◌≡◌, ◌≤◌, ◌⊎◌}
+pub use Rattle.backgrounds.proofs.OneSet.{log_set_one}
+use Rattle.memory_desc.proofs.Common.{AreBackgrounds, AreOfMemory, AreRefusedBy, Bool, Contains, Content, Describes, Description, Err, IsLast, IsScrambling, IsWidthOf, List, MemoryFault, Missing, None, Ok, Option, Repeated, Result, ScrambleNeedsPowerOfTwo, Singular, Some, Statement, about, ap, ap₂, arith, backgrounds, bits_said, described, false, if◌then◌else◌, inl, inr, is_power_of_two, length, matrix_said, missing, next, not, out_of_range, refl, repeated, some_same, subst, sym, there, too_wide, true, unfit, unrowed, unscramblable, unserved, unsized, word_values, words_said, ℕ, ◌&&◌, ◌-◌, ◌∙◌, ◌≡◌, ◌≤◌, ◌⊎◌}
 use Rattle.bist_text.specs.KeyedTexts.{at_line}
 use Rattle.scrambler.proofs.Dependences.{dependence_one}
 use Rattle.scrambler.proofs.ScramblingLemmas.{singular}
@@ -13,41 +14,10 @@ use Rattle.memory_desc.proofs.Scrambles.{invertible, no_row_missed, scrambling_o
 
 -- ---- widths
 
-at_most_each : (a b : ℕ) → a ≤ b → b ≤ a → a ≡ b
-at_most_each a b p q = omega arith
-
 pub width_one : (n v w : ℕ) → IsWidthOf n v → IsWidthOf n w → v ≡ w
-width_one n v w p q = at_most_each v w (p.least w q.positive q.holds) (q.least v p.positive p.holds)
+width_one n v w p q = let a = p.least w q.positive q.holds in let b = q.least v p.positive p.holds in omega arith
 
 -- ---- backgrounds
-
-logarithm_one : (size m n : ℕ) → IsLogarithm size m → IsLogarithm size n → m ≡ n
-logarithm_one size m n p q = at_most_each m n (p.least n q.enough) (q.least m p.enough)
-
-stripe_one : (size k a b : ℕ) → IsStripe size k a → IsStripe size k b → a ≡ b
-stripe_one size k a b p q = same_from_bits_below size a b p.fits q.fits (λ j h. p.bit j h ∙ sym (q.bit j h))
-
--- two lists of one length with the same entries
-same_entries : (xs ys : List ℕ) → length xs ≡ length ys → ((i : ℕ) → i < length xs → slice_index xs i ≡ slice_index ys i) → xs ≡ ys
-same_entries [] [] e h = refl
-same_entries [] (y ∷ ys) e h = absurd (omega arith)
-same_entries (x ∷ xs) [] e h = absurd (omega arith)
-same_entries (x ∷ xs) (y ∷ ys) e h =
-    ap₂ (λ (z : ℕ) (zs : List ℕ). z ∷ zs) (h 0 (omega arith)) (same_entries xs ys (omega arith) (λ i p. h (suc i) (omega arith)))
-
-pub log_set_one : (size : ℕ) (xs ys : List ℕ) → IsLogSet size xs → IsLogSet size ys → xs ≡ ys
-log_set_one size xs ys p q =
-    let some_x = p.some in
-    let some_y = q.some in
-    let n = logarithm_one size (length xs - 1) (length ys - 1) p.count q.count in
-    let len : length xs ≡ length ys = omega arith in
-    same_entries xs ys len (at len)
-  where
-    at : length xs ≡ length ys → (i : ℕ) → i < length xs → slice_index xs i ≡ slice_index ys i
-    at len zero h = p.solid ∙ sym q.solid
-    at len (suc k) h =
-        subst (λ (i : ℕ). slice_index xs i ≡ slice_index ys i) (add-one k)
-        (stripe_one size k (slice_index xs (k + 1)) (slice_index ys (k + 1)) (p.stripes k (omega arith)) (q.stripes k (omega arith)))
 
 pub backgrounds_one : (o : Option Content) (size : ℕ) (xs ys : List ℕ) → AreBackgrounds o size xs → AreBackgrounds o size ys → xs ≡ ys
 backgrounds_one None size xs ys p q = log_set_one size xs ys p q

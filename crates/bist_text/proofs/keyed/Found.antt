@@ -1,9 +1,5 @@
 -- What is found among statements.
-use Rattle.std.proofs.Common.{◌≡◌, ◌∙◌, ℕ, Bool, true, false, cond, List, [], ◌∷◌, ◌++◌, Option, Some, None, find, refl, sym, ap}
-use Rattle.std.specs.Option.{IsSome}
-use Rattle.bist_text.specs.KeyedTexts.{Statement, stated, at_line, content_of}
-use Rattle.bist_text.specs.Lines.{TextLine}
-use Rattle.bist_text.specs.keyed.Texts.{all_stated}
+use Rattle.bist_text.proofs.keyed.Common.{Bool, IsSome, List, None, Option, Some, Statement, TextLine, [], all_stated, ap, at_line, cond, content_of, false, find, refl, stated, sym, true, ℕ, ◌++◌, ◌∙◌, ◌∷◌, ◌≡◌}
 
 found_step : {X : Type 0} (p q : X → Bool) (x y : X) (r o : Option X) → (r ≡ None → o ≡ Some x → p x ≡ false) → (s t : Bool) → p y ≡ s
     → cond s (Some y) r ≡ None → cond t (Some y) o ≡ Some x → p x ≡ false

@@ -1,25 +1,8 @@
 -- Lines of a first word and what stands behind it, whatever the words are and what they say.
-use Rattle.std.proofs.Common.{◌≡◌, ◌⊎◌, ℕ, suc, ◌==◌, Bool, true, false, List, [], ◌∷◌, length, Option, Some, None, refl, ◌↔◌, inl, inr, sym, ap, subst, ◌∙◌, arith}
-use Rattle.std.proofs.lemmas.Bool.{eqb-true, and_parts}
-use Rattle.std.specs.Prelude.{slice_get, nat_lt}
-use Rattle.bist_text.specs.Grammar.{is_blank, word, one_of}
-use Rattle.bist_text.specs.Keywords.{Word}
-use Rattle.bist_text.specs.inner.Keywords.{are_apart, all_words}
-use Rattle.bist_text.specs.inner.Machine.{IsExact}
+use Rattle.bist_text.proofs.keyed.Common.{Bool, Class, IsExact, IsOf, IsPlain, LineOf, List, None, Option, Read, Some, Word, [], all_words, and_parts, ap, apart, are_apart, arith, by_byte, comment, digits_value, ends_with, eqb-true, false, fits_of, gap, gap_of, in_identifier, inl, inr, is_blank, is_digit, is_hash, is_identifier, is_word, keyed_of, length, line_of, many_none, nat_lt, no_tail, number_of, of_blank, one_of, onward, outcome, plain_blank, refl, remark_of, slice_get, space, stands_all, stuck, subst, suc, sym, tail, took, true, when_false, when_holds, when_true, word, word_of, ℕ, ◌==◌, ◌↔◌, ◌∙◌, ◌∷◌, ◌≡◌, ◌⊎◌}
 use Rattle.bist_text.specs.inner.LineGrammar.{is_small}
-use Rattle.bist_text.specs.LineGrammar.{space, gap, comment, tail}
-use Rattle.bist_text.proofs.KeywordLaws.{IsOf, stands_all}
-use Rattle.bist_text.proofs.LinePieces.{when_true, when_holds, when_false, apart, of_blank}
-use Rattle.bist_text.proofs.LineStops.{IsPlain, plain_blank, no_tail}
-use Rattle.bist_text.proofs.Pieces.{many_none}
 use Rattle.bist_text.proofs.RunPieces.{many_map, gap_map, gap_pull, word_map, word_pull}
-use Rattle.bist_text.specs.keyed.Reading.{Read, took, stuck, onward, outcome}
-use Rattle.std.specs.Str.Parse.{digits_value}
-use Rattle.bist_text.specs.Identifiers.{is_digit, in_identifier, is_identifier}
-use Rattle.bist_text.specs.KeyedTexts.{LineOf}
 use Rattle.bist_text.proofs.keyed.Classes.{name_is}
-use Rattle.bist_text.specs.keyed.Parts.{gap_of, Class, is_word, word_of, number_of, fits_of, by_byte, remark_of, ends_with, is_hash}
-use Rattle.bist_text.specs.keyed.Lines.{keyed_of, line_of}
 use Rattle.bist_text.specs.declared.keyed_lines.Class.TheVariants.{Number, Name as NameWord}
 use Rattle.bist_text.proofs.keyed.Told.{Never, AtEnd, Told, told_iff, told_exact}
 use Rattle.bist_text.proofs.keyed.PartLaws.{Hears, fewer, Shuns, Space, space_told, Gap, gap_told, Byte, Ends, ends_told, Remark, remark_told, Words, Begun, word_told, Either, either_told, Keys, key_told}

@@ -1,13 +1,6 @@
 -- The lines of a text are refused as the grammar says, and say what the grammar says, whatever the table of their lines is.
-use Rattle.std.proofs.Common.{◌≡◌, ◌⊎◌, ◌∙◌, ℕ, Bool, true, false, if◌then◌else◌, List, [], ◌∷◌, ◌++◌, length, Option, Some, None, Result, Ok, Err, refl, inl, inr, sym, ap, subst}
+use Rattle.bist_text.proofs.keyed.Common.{AreRefused, Bool, Err, IsExact, IsLineFault, LineOf, List, MatchResult, None, Ok, Option, Outcome, Result, Say, Some, Statement, TextLine, [], all_stated, answer, ap, carried, false, if◌then◌else◌, inl, inr, known, length, option_map, read, refl, said_in, stated, step, subst, sym, true, truncated, unexpected, versions, walk, ℕ, ◌++◌, ◌∙◌, ◌∷◌, ◌≡◌, ◌⊎◌}
 use Rattle.std.proofs.Math.Path.{ap₂}
-use Rattle.std.specs.Prelude.{MatchResult, option_map}
-use Rattle.bist_text.specs.KeyedTexts.{LineOf, known, IsLineFault, Say, AreRefused, Statement, stated}
-use Rattle.bist_text.specs.Lines.{TextLine}
-use Rattle.bist_text.specs.Machine.{Outcome, read, unexpected, truncated}
-use Rattle.bist_text.specs.inner.Machine.{IsExact}
-use Rattle.bist_text.specs.keyed.Lines.{answer}
-use Rattle.bist_text.specs.keyed.Texts.{step, carried, walk, versions, said_in, all_stated}
 use Rattle.bist_text.proofs.keyed.Checks.{some_same}
 use Rattle.bist_text.specs.declared.keyed_lines.LineFault.{LineFault}
 use Rattle.bist_text.specs.declared.keyed_lines.TextFault.{TextFault}
