@@ -1,1 +1,2 @@
 pub mod StripeLemmas
+pub mod OneSet

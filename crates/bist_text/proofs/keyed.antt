@@ -1,3 +1,4 @@
+pub mod Common
 pub mod Told
 pub mod PartLaws
 pub mod Classes
@@ -7,3 +8,4 @@ pub mod LineLaws
 pub mod Items
 pub mod Checks
 pub mod Texts
+pub mod Found

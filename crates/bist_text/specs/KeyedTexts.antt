@@ -1,7 +1,7 @@
 -- Trusted. Texts whose first line with content gives a version, which says what the later ones may be: what their lines say, and why
 -- they are refused. `text` says which bytes are a content line, `stands` which contents may stand where a version, or none, is
 -- known, and `version_in` which version a content gives.
-use Rattle.std.specs.Prelude.{◌≡◌, ◌⊎◌, ℕ, Bool, true, false, List, [], ◌∷◌, ◌++◌, length, Option, Some, None, Result, Ok, Err, MatchResult}
+use Rattle.std.specs.Prelude.{◌≡◌, ◌⊎◌, ℕ, ◌==◌, not, Bool, true, false, List, [], ◌∷◌, ◌++◌, length, Option, Some, None, Result, Ok, Err, MatchResult}
 use Rattle.bist_text.specs.Grammar.{IsUnexpected, IsTruncated}
 use Rattle.bist_text.specs.LineGrammar.{tail}
 use Rattle.bist_text.specs.Lines.{TextLine}
@@ -22,6 +22,15 @@ known version_in (Some v) k = Ok (Some v)
 known version_in None None = Ok None
 known version_in None (Some c) = gives (version_in c)
 
+-- a content line: its number, and what it says
+pub record Statement (C : Type 0) : Type 0 where
+  pub line : ℕ
+  pub content : C
+
+abbrev pub stated : {C : Type 0} → ℕ → Option C → List (Statement C)
+stated number None = []
+stated number (Some c) = (record { line = number; content = c }) ∷ []
+
 -- why a line is none of these: of a line that ended too early and has a line feed, that is the byte that can't stand there
 abbrev pub IsLineFault : {C V : Type 0} → (List ℕ → C → Type 0) → (Option V → C → Bool) → Option V → TextLine → TextFault → Type 0
 IsLineFault text stands given l (Unexpected line byte) = (line ≡ l.number)
@@ -30,12 +39,12 @@ IsLineFault text stands given l Truncated = (l.ended ≡ false) × IsTruncated (
 IsLineFault text stands given l OtherVersion = ⊥
 
 -- these are the statements of the lines, each of which may stand
-abbrev pub Say : {C V S : Type 0} → (List ℕ → C → Type 0) → (Option V → C → Bool) → (C → Option V) → (ℕ → Option C → List S) → List TextLine → Option V → List S → Type 0
-Say text stands version_in stated [] None ss = ⊥
-Say text stands version_in stated [] (Some v) ss = ss ≡ []
-Say {C} {V} {S} text stands version_in stated (l ∷ ls) given ss =
-    (k : Option C) × (more : List S) × LineOf text stands given l.text k
-    × MatchResult (known version_in given k) (λ next. Say text stands version_in stated ls next more) (λ fault. ⊥) × (ss ≡ stated l.number k ++ more)
+abbrev pub Say : {C V : Type 0} → (List ℕ → C → Type 0) → (Option V → C → Bool) → (C → Option V) → List TextLine → Option V → List (Statement C) → Type 0
+Say text stands version_in [] None ss = ⊥
+Say text stands version_in [] (Some v) ss = ss ≡ []
+Say {C} text stands version_in (l ∷ ls) given ss =
+    (k : Option C) × (more : List (Statement C)) × LineOf text stands given l.text k
+    × MatchResult (known version_in given k) (λ next. Say text stands version_in ls next more) (λ fault. ⊥) × (ss ≡ stated l.number k ++ more)
 
 -- the first line that may not stand, or no line gives a version
 abbrev pub AreRefused : {C V : Type 0} → (List ℕ → C → Type 0) → (Option V → C → Bool) → (C → Option V) → List TextLine → Option V → TextFault → Type 0
@@ -60,3 +69,17 @@ first_refusal (r ∷ rs) = or_else r (first_refusal rs)
 abbrev pub unless_there : {A F : Type 0} → F → Option A → Option F
 unless_there fault None = Some fault
 unless_there fault (Some x) = None
+
+-- a refusal at a line, where there is one
+abbrev pub at_line : {C F : Type 0} → (ℕ → F) → Option (Statement C) → Option F
+at_line fault None = None
+at_line fault (Some s) = Some (fault s.line)
+
+-- whether there is a line, and another than this
+abbrev pub is_other : {C : Type 0} → ℕ → Option (Statement C) → Bool
+is_other line None = false
+is_other line (Some s) = not (s.line == line)
+
+abbrev pub content_of : {C : Type 0} → Option (Statement C) → Option C
+content_of None = None
+content_of (Some s) = Some s.content

@@ -1,5 +1,5 @@
 -- What stands behind the first word of a line of a chip file is read as the grammar says.
-use Rattle.chip_desc.proofs.Common.{Bool, Budget, Chip, Content, ContentText, Key, LineOf, List, Name, None, Option, Some, Version, [], and_from, and_parts, ap, argument, argument_of, arith, budget, file_of, heard, inl, inr, is_file, is_formed, key_text, keys_in, keys_of, kind_of, le-leb, length, list_all, may_stand, name, nat_le, refl, stands, subst, suc, sym, true, unit, version, ℕ, ◌↔◌, ◌∙◌, ◌∷◌, ◌≡◌}
+use Rattle.chip_desc.proofs.Common.{Bool, Budget, Chip, Content, ContentText, Key, LineOf, List, Name, None, Option, Some, Version, [], and_from, and_parts, ap, argument, argument_of, arith, budget, file_of, heard, inl, inr, is_file, is_formed, key_text, keys_in, kind_of, le-leb, length, list_all, may_stand, name, nat_le, refl, stands, subst, suc, sym, true, unit, version, ℕ, ◌↔◌, ◌∙◌, ◌∷◌, ◌≡◌}
 use Rattle.std.specs.Str.Parse.{digits_value}
 use Rattle.bist_text.specs.Grammar.{is_blank, word}
 use Rattle.bist_text.specs.Identifiers.{is_digit, begins_identifier, in_identifier}
@@ -8,15 +8,14 @@ use Rattle.bist_text.proofs.KeywordLaws.{IsOf}
 use Rattle.bist_text.proofs.LineStops.{IsPlain, gap_stops, tail_stops, blank_run, blank_word}
 use Rattle.bist_text.proofs.RunPieces.{gap_map, gap_pull, word_map, word_pull}
 use Rattle.bist_text.specs.inner.Machine.{IsExact}
-use Rattle.bist_text.specs.keyed.Lines.{line_of}
 use Rattle.bist_text.specs.keyed.Numbers.{is_number}
 use Rattle.bist_text.specs.keyed.Reading.{Read, onward}
 use Rattle.bist_text.specs.keyed.Parts.{gap_of, Class, fits_of, is_word, is_file_byte, word_of, ends_with}
 use Rattle.bist_text.specs.declared.keyed_lines.Class.TheVariants.{Number, Name as NameWord, File as FileWord}
-use Rattle.bist_text.proofs.keyed.Told.{Told, told_iff, told_exact}
+use Rattle.bist_text.proofs.keyed.Told.{Told, told_iff}
 use Rattle.bist_text.proofs.keyed.PartLaws.{Hears, fewer, Shuns, Gap, gap_told, Ends, ends_told, Words, Begun, word_told}
-use Rattle.bist_text.proofs.keyed.Classes.{run_is, name_is, all_of_is}
-use Rattle.bist_text.proofs.keyed.LineLaws.{Arg as Behind, OneWord as HasOneWord, one_word, one_number, valued, digit_begun, digit_later, digits_plain, begins_small, IsTable, Line as AnyLine, line_told, word_shuns}
+use Rattle.bist_text.proofs.keyed.Classes.{run_is, all_of_is}
+use Rattle.bist_text.proofs.keyed.LineLaws.{Arg as Behind, OneWord as HasOneWord, one_word, one_number, valued, digit_begun, digit_later, digits_plain, begins_small, IsTable, name_word as named, line_exact as table_exact, word_shuns}
 use Rattle.chip_desc.specs.declared.content.Key.TheVariants.{Unit as OfUnit}
 
 abbrev Arg : Key → List ℕ → Option Content → Type 0
@@ -58,23 +57,12 @@ budget_word = record {
     out (budget n) x k f h = (h.0, (is_digits h.0).1 h.1, ap budget (sym h.2), h.3)
     out c x k f h = (let z : ⊥ = cc in absurd z)
 
-names_plain : IsPlain in_identifier
-names_plain = record { space_no = refl; tab_no = refl; return_no = refl; hash_no = refl }
-
 name_word : OneWord Name name (fits_of NameWord) in_identifier
-name_word = record {
-  kind = λ w. refl;
-  formed = λ w h. sym (name_is w) ∙ h;
-  into = λ w x h t. t;
-  out = out;
-  begun = record { first = 97; fitting = refl; small = refl };
-  within = λ n c h. h;
-  plain = names_plain;
-}
+name_word = named kind_of is_formed (λ c. argument c tail) Name name (λ w. refl) (λ w. refl) (λ w x. (λ h. h, λ h. h)) only
   where
-    out : (c : Content) (x : List ℕ) → kind_of c ≡ Name → is_formed c ≡ true → argument c tail x → (w : List ℕ) × (is_word (fits_of NameWord) w ≡ true) × (c ≡ name w) × word w tail x
-    out (name w) x k f h = (w, name_is w ∙ f, refl, h)
-    out c x k f h = (let z : ⊥ = cc in absurd z)
+    only : (c : Content) → kind_of c ≡ Name → (w : List ℕ) × (c ≡ name w)
+    only (name w) e = (w, refl)
+    only c e = (let z : ⊥ = cc in absurd z)
 
 -- ---- units
 
@@ -235,15 +223,6 @@ is_of (Some v) OfUnit = (λ h. refl, λ e. inr (inr (inr (inl refl))))
 is_of None Chip = (λ h. refl, λ e. inl refl)
 is_of None k = (λ h. elim h [ inl a ↦ (let z : ⊥ = cc in absurd z) | inr a ↦ absurd a ], λ e. (let z : ⊥ = cc in absurd z))
 
-line_is : (given : Option Version) (x : List ℕ) (v : Option Content) → AnyLine kind_of is_formed (λ c. argument c tail) key_text (keys_in given) x v ↔ LineOf ContentText stands given x v
-line_is given x v = (
-  λ h. elim h [ inl a ↦ inl a | inr a ↦ (let s = a.0 in inr (s.content, (is_of given (kind_of s.content)).0 s.stands, s.says, (s.formed, a.1))) ],
-  λ h. elim h [ inl a ↦ inl a | inr a ↦ inr (record { content = a.0; stands = (is_of given (kind_of a.0)).1 a.1; formed = a.3.0; says = a.2 }, a.3.1) ],
-)
-
 -- The reader of a line is exact.
 pub line_exact : (given : Option Version) (b : List ℕ) → IsExact (LineOf ContentText stands given) b (heard given b)
-line_exact given b =
-    told_exact (LineOf ContentText stands given) b (line_of (keys_of given) argument_of b)
-    (told_iff (AnyLine kind_of is_formed (λ c. argument c tail) key_text (keys_in given)) (LineOf ContentText stands given) b (line_of (keys_of given) argument_of b) (line_is given)
-    (line_told kind_of is_formed (λ c. argument c tail) key_text (keys_in given) (length b) argument_of (table (length b) given) b (omega arith)))
+line_exact given b = table_exact kind_of is_formed (λ c. argument c tail) key_text (keys_in given) stands given (λ c. is_of given (kind_of c)) b argument_of (table (length b) given)

@@ -1,30 +1,13 @@
 -- The chip that statements describe is within the limits, and is what the reader makes.
-use Rattle.chip_desc.proofs.Common.{All, Bool, Budget, Chip, ChipDescription, ChipFault, ChipUnit, Content, Err, IsChip, IsName, IsUnit, Key, List, Missing, Name, None, Ok, Option, Some, Statement, TextLine, TooManyUnits, UnitDescription, [], alone, ap, arith, budget, budget_in, budget_said, by_statements, checked, cond, content_of, described, described_as, false, find, first_of, heavier_than, is_formed, is_heavier, is_key, is_out_of_range, is_outside, kind_of, length, length-append, ltb-false, map, missing, name, name_in, name_said, nat_lt, next, or_parts, out_of_range, passed, refl, refusal, repeated, said, stated, statements, stopped, subst, sym, too_heavy, too_many, true, unit_in, unit_of, units_said, unless_there, ℕ, ◌++◌, ◌+◌, ◌∙◌, ◌∷◌, ◌≡◌, ◌≤◌}
+use Rattle.chip_desc.proofs.Common.{All, Bool, Budget, Chip, ChipDescription, ChipFault, ChipUnit, Content, Err, IsChip, IsName, IsUnit, Key, List, Missing, Name, None, Ok, Some, Statement, TextLine, TooManyUnits, UnitDescription, [], alone, ap, arith, budget, budget_in, budget_said, by_statements, checked, cond, content_of, described, described_as, false, find, first_of, found_fails, found_passes, heavier_than, is_formed, is_heavier, is_key, is_out_of_range, is_outside, kind_of, length, length-append, ltb-false, map, missing, name, name_in, name_said, nat_lt, next, none_at, or_parts, out_of_range, passed, refl, refusal, repeated, said, said_found, statements, stopped, subst, sym, too_heavy, too_many, true, unit_in, unit_of, units_said, unless_there, ℕ, ◌++◌, ◌+◌, ◌∙◌, ◌∷◌, ◌≡◌, ◌≤◌}
 use Rattle.bist_text.specs.ReservedWords.{is_among, reserved_words}
 use Rattle.chip_desc.specs.declared.fault.ChipField.{ChipField}
 use Rattle.chip_desc.specs.declared.fault.ChipField.TheVariants.{Name as NameField, Budget as BudgetField, Unit as UnitField}
 use Rattle.chip_desc.specs.declared.content.Key.TheVariants.{Unit as OfUnit}
 use Rattle.chip_desc.proofs.OneText.{formed_said}
-use Rattle.chip_desc.proofs.UnitLines.{all_units, find_past, none_at, some_unit, unit_key}
+use Rattle.chip_desc.proofs.UnitLines.{all_units, some_unit, unit_key}
 
 -- ---- the statement of a line that is found
-
-find_sat : (p : Statement → Bool) (ss : List Statement) (s : Statement) → find p ss ≡ Some s → p s ≡ true
-find_sat p [] s e = (let z : ⊥ = cc in absurd z)
-find_sat p (x ∷ xs) s e = go (p x) refl e (λ h. find_sat p xs s h)
-  where
-    go : (t : Bool) → p x ≡ t → cond t (Some x) (find p xs) ≡ Some s → (find p xs ≡ Some s → p s ≡ true) → p s ≡ true
-    go true h e again = (let same : x ≡ s = cc in ap p (sym same) ∙ h)
-    go false h e again = again e
-
--- what is found by one search is passed over by one that finds nothing
-found_passes : (p q : Statement → Bool) (ss : List Statement) (s : Statement) → find p ss ≡ Some s → find q ss ≡ None → q s ≡ false
-found_passes p q [] s e n = (let z : ⊥ = cc in absurd z)
-found_passes p q (x ∷ xs) s e n = let w = find_past q x xs n in go (p x) e w.0 (λ h. found_passes p q xs s h w.1)
-  where
-    go : (t : Bool) → cond t (Some x) (find p xs) ≡ Some s → q x ≡ false → (find p xs ≡ Some s → q s ≡ false) → q s ≡ false
-    go true e h again = (let same : x ≡ s = cc in ap q (sym same) ∙ h)
-    go false e h again = again e
 
 key_is : (k l : Key) → is_key k l ≡ true → l ≡ k
 key_is Chip Chip e = refl
@@ -35,28 +18,14 @@ key_is k l e = (let z : ⊥ = cc in absurd z)
 
 -- the statement of a kind that is found
 kind_found : (k : Key) (ss : List Statement) (s : Statement) → first_of k ss ≡ Some s → kind_of s.content ≡ k
-kind_found k ss s e = key_is k (kind_of s.content) (find_sat (λ s. is_key k (kind_of s.content)) ss s e)
+kind_found k ss s e = key_is k (kind_of s.content) (found_passes (λ s. is_key k (kind_of s.content)) ss s e)
 
 -- a field whose line is there isn't missing
 pub not_missing : (k : Key) (field : ChipField) (ss : List Statement) (s : Statement) → first_of k ss ≡ Some s → missing k field ss ≡ None
 not_missing k field ss s e = ap (unless_there (Missing field)) e
 
 in_range : (k : Key) (ss : List Statement) (s : Statement) → first_of k ss ≡ Some s → out_of_range ss ≡ None → is_out_of_range s.content ≡ false
-in_range k ss s e r = found_passes (λ s. is_key k (kind_of s.content)) (λ s. is_out_of_range s.content) ss s e (none_at _ (find (λ s. is_out_of_range s.content) ss) r)
-
--- what is found in the lines of a text was said by one of them, and so is formed
-formed_found : (p : Statement → Bool) (ls : List TextLine) (s : Statement) → find p (statements ls) ≡ Some s → is_formed s.content ≡ true
-formed_found p [] s e = (let z : ⊥ = cc in absurd z)
-formed_found p (l ∷ ls) s e = go (said l.text) refl e (λ e. formed_found p ls s e)
-  where
-    at : (c : Content) → said l.text ≡ Some c → (t : Bool) → cond t (Some (record { line = l.number; content = c })) (find p (statements ls)) ≡ Some s
-        → (find p (statements ls) ≡ Some s → is_formed s.content ≡ true) → is_formed s.content ≡ true
-    at c k true e again = (let same : (let x : Statement = record { line = l.number; content = c } in x) ≡ s = cc in ap (λ s. is_formed s.content) (sym same) ∙ formed_said l.text c k)
-    at c k false e again = again e
-
-    go : (v : Option Content) → said l.text ≡ v → find p (stated l.number v ++ statements ls) ≡ Some s → (find p (statements ls) ≡ Some s → is_formed s.content ≡ true) → is_formed s.content ≡ true
-    go None k e again = again e
-    go (Some c) k e again = at c k (p (record { line = l.number; content = c })) e again
+in_range k ss s e r = found_fails (λ s. is_out_of_range s.content) (λ s. is_key k (kind_of s.content)) ss s (none_at _ (find (λ s. is_out_of_range s.content) ss) r) e
 
 -- ---- the name and the budget
 
@@ -73,7 +42,7 @@ is_inside c k o = (let z : ⊥ = cc in absurd z)
 module _ (ls : List TextLine) (s : Statement) (r : out_of_range (statements ls) ≡ None) where
   pub named : first_of Name (statements ls) ≡ Some s → IsName (name_in (Some s.content))
   named e =
-      is_a_name s.content (kind_found Name (statements ls) s e) (formed_found (λ s. is_key Name (kind_of s.content)) ls s e) (in_range Name (statements ls) s e r)
+      is_a_name s.content (kind_found Name (statements ls) s e) (said_found said is_formed formed_said (λ s. is_key Name (kind_of s.content)) ls s e) (in_range Name (statements ls) s e r)
 
   pub budget_inside : first_of Budget (statements ls) ≡ Some s → is_outside (budget_in (Some s.content)) ≡ false
   budget_inside e = is_inside s.content (kind_found Budget (statements ls) s e) (in_range Budget (statements ls) s e r)

@@ -1,20 +1,20 @@
 -- A text is read in one way: as what the reader hears in it.
-use Rattle.chip_desc.proofs.Common.{AreStatements, ChipDescription, ChipFault, Content, ContentText, Err, List, None, Ok, Option, Reads, Result, Some, Statement, Version, ap, by_lines, by_statements, described, heard, inl, inr, is_formed, of_lines, reading, refl, refusal, said, stands, stated, statements, sym, text_lines, true, version_at, version_in, walk, ℕ, ◌↔◌, ◌∙◌, ◌≡◌}
+use Rattle.chip_desc.proofs.Common.{AreStatements, ChipDescription, ChipFault, Content, ContentText, Err, List, None, Ok, Option, Reads, Result, Some, Statement, Version, ap, by_lines, by_statements, described, heard, inl, inr, is_formed, of_lines, reading, refl, refusal, said, stands, statements, sym, text_lines, true, version_at, version_in, walk, ℕ, ◌↔◌, ◌∙◌, ◌≡◌}
 use Rattle.bist_text.specs.declared.keyed_lines.TextFault.{TextFault}
-use Rattle.bist_text.proofs.keyed.Texts as Texts
 use Rattle.chip_desc.specs.declared.content.Version.TheVariants.{One}
 use Rattle.chip_desc.proofs.ArgumentLaws.{line_exact}
+use Rattle.bist_text.proofs.keyed.Texts as Texts
 
 wide : (v : Option Version) (c : Content) → stands v c ≡ true → stands (Some One) c ≡ true
 wide v c h = refl
 
 -- what a line says is formed
 pub formed_said : (b : List ℕ) (c : Content) → said b ≡ Some c → is_formed c ≡ true
-formed_said b c e = (Texts.text_said ContentText stands version_in heard line_exact stated One wide b c e).0
+formed_said b c e = (Texts.text_said ContentText stands version_in heard line_exact One wide b c e).0
 
 statements_read : (bytes : List ℕ) (ss : List Statement) (o : Option ChipFault) → AreStatements bytes ss → refusal ss ≡ o → reading bytes ≡ by_statements o ss
 statements_read bytes ss o a e =
-    let q = Texts.say_heard ContentText stands version_in heard line_exact stated One wide (text_lines bytes) None ss a in
+    let q = Texts.say_heard ContentText stands version_in heard line_exact One wide (text_lines bytes) None ss a in
     ap (λ f. by_lines f (statements (text_lines bytes))) q.0 ∙ ap (λ ss. by_statements (refusal ss) ss) q.1 ∙ ap (λ o. by_statements o ss) e
 
 pub reads_heard : (bytes : List ℕ) (r : Result ChipDescription ChipFault) → Reads bytes r → reading bytes ≡ r
@@ -44,7 +44,7 @@ heard_reads bytes r e = lines (walk version_at (text_lines bytes) None) refl r e
 
     lines : (o : Option TextFault) → walk version_at (text_lines bytes) None ≡ o → (r : Result ChipDescription ChipFault) → reading bytes ≡ r → Reads bytes r
     lines None n r e =
-        by_refusal (Texts.heard_say ContentText stands version_in heard line_exact stated One wide (text_lines bytes) None n) (refusal ss) refl r (sym (ap (λ f. by_lines f ss) n) ∙ e)
+        by_refusal (Texts.heard_say ContentText stands version_in heard line_exact One wide (text_lines bytes) None n) (refusal ss) refl r (sym (ap (λ f. by_lines f ss) n) ∙ e)
     lines (Some g) n (Ok d) e = (let k : ◌≡◌ {A = Result ChipDescription ChipFault} (Err (of_lines g)) (Ok d) = sym (ap (λ f. by_lines f ss) n) ∙ e in let z : ⊥ = cc in absurd z)
     lines (Some g) n (Err f) e =
         let k : ◌≡◌ {A = Result ChipDescription ChipFault} (Err (of_lines g)) (Err f) = sym (ap (λ f. by_lines f ss) n) ∙ e in

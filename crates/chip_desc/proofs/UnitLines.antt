@@ -1,5 +1,5 @@
 -- The units of the lines of a text.
-use Rattle.chip_desc.proofs.Common.{All, Bool, ChipFault, ChipUnit, Content, IsFile, IsUnit, List, None, Option, Some, Statement, TextLine, TooManyUnits, UnitDescription, [], and_parts, ap, arith, at_line, budget, cond, false, find, if◌then◌else◌, is_file, is_formed, is_heavier, is_key, is_out_of_range, is_outside, kind_of, leb-true, length, length-append, length-map, list_all, lt-ltb, ltb-false, map, name, nat_le, nat_lt, not, or_parts, out_of_range, plain_unit, refl, said, stated, statements, suc, sym, too_many, true, unit, unit_in, unit_of, unit_said, units_said, version, zero, ℕ, ◌&&◌, ◌++◌, ◌+◌, ◌<◌, ◌==◌, ◌||◌, ◌∙◌, ◌∷◌, ◌≡◌, ◌≤◌}
+use Rattle.chip_desc.proofs.Common.{All, Bool, ChipUnit, Content, IsFile, IsUnit, List, None, Option, Some, Statement, TextLine, TooManyUnits, UnitDescription, [], and_parts, ap, arith, budget, cond, false, find, if◌then◌else◌, is_file, is_formed, is_heavier, is_key, is_out_of_range, is_outside, kind_of, leb-true, length, length-append, length-map, list_all, lt-ltb, ltb-false, map, name, nat_le, nat_lt, none_at, not, or_parts, out_of_range, plain_unit, refl, said, stated, statements, suc, sym, too_many, true, unit, unit_in, unit_of, unit_said, units_said, version, zero, ℕ, ◌&&◌, ◌++◌, ◌+◌, ◌<◌, ◌==◌, ◌||◌, ◌∙◌, ◌∷◌, ◌≡◌, ◌≤◌}
 use Rattle.std.specs.Option.{option_map}
 use Rattle.std.specs.Str.{IsAscii}
 use Rattle.std.proofs.lemmas.List.Elements.{All-cons, All-nil}
@@ -39,10 +39,6 @@ content_is (Some c) u e = ap Some (unit_is c u e)
 
 abbrev is_out : Statement → Bool
 is_out s = is_out_of_range s.content
-
-pub none_at : (fault : ℕ → ChipFault) (o : Option Statement) → at_line fault o ≡ None → o ≡ None
-none_at fault None e = refl
-none_at fault (Some s) e = (let z : ⊥ = cc in absurd z)
 
 -- nothing is found: neither here nor behind
 pub find_past : (p : Statement → Bool) (s : Statement) (ss : List Statement) → find p (s ∷ ss) ≡ None → (p s ≡ false) × (find p ss ≡ None)

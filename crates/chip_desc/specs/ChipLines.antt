@@ -1,8 +1,8 @@
 -- Trusted. The lines of a chip file, and what they say. Blanks, comments, numbers and names are those of memory descriptions.
-use Rattle.std.specs.Prelude.{◌≡◌, ℕ, ◌==◌, ◌&&◌, Bool, true, false, if◌then◌else◌, Option, Some, None, List, [], ◌∷◌, codes}
+use Rattle.std.specs.Prelude.{◌≡◌, ℕ, ◌==◌, ◌&&◌, Bool, true, false, if◌then◌else◌, Option, Some, None, List, codes}
 use Rattle.bist_text.specs.Grammar.{word}
 use Rattle.bist_text.specs.Identifiers.{is_identifier}
-use Rattle.bist_text.specs.KeyedTexts.{Say}
+use Rattle.bist_text.specs.KeyedTexts.{Say, Statement as TextStatement}
 use Rattle.bist_text.specs.Lines.{text_lines}
 use Rattle.bist_text.specs.keyed.Numbers.{number}
 use Rattle.chip_desc.specs.Chips.{is_file}
@@ -51,14 +51,9 @@ ContentText b c = (is_formed c ≡ true) × space (word (key_text (kind_of c)) (
 
 -- ---- what the lines say
 
--- a content line: its number, and what it says
-pub record Statement : Type 0 where
-  pub line : ℕ
-  pub content : Content
-
-abbrev pub stated : ℕ → Option Content → List Statement
-stated number None = []
-stated number (Some c) = (record { line = number; content = c }) ∷ []
+-- a content line
+abbrev pub Statement : Type 0
+Statement = TextStatement Content
 
 -- the kinds of content lines that may stand: a `chip` line alone before there was one, and behind it any
 abbrev pub may_stand : Option Version → Key → Bool
@@ -76,4 +71,4 @@ version_in c = None
 
 -- The statements of a text's lines, of which the first gives the version 1.
 abbrev pub AreStatements : List ℕ → List Statement → Type 0
-AreStatements bytes ss = Say ContentText stands version_in stated (text_lines bytes) None ss
+AreStatements bytes ss = Say ContentText stands version_in (text_lines bytes) None ss

@@ -1,5 +1,6 @@
 -- Trusted. The refusals of a chip file whose lines are all of the table, in their order, and the chip that it describes.
-use Rattle.std.specs.Prelude.{◌≡◌, ◌⊎◌, ℕ, ◌==◌, ◌||◌, ◌&&◌, Bool, true, false, not, nat_lt, if◌then◌else◌, List, [], ◌∷◌, ◌++◌, length, Option, Some, None, Result, Ok, Err, find}
+use Rattle.std.specs.Prelude.{◌≡◌, ◌⊎◌, ℕ, ◌||◌, ◌&&◌, Bool, true, false, not, nat_lt, if◌then◌else◌, List, [], ◌∷◌, ◌++◌, length, Option, Some, None, Result, Ok, Err, find}
+pub use Rattle.bist_text.specs.KeyedTexts.{at_line, content_of, is_other}
 use Rattle.bist_text.specs.KeyedTexts.{AreRefused, first_refusal, unless_there}
 use Rattle.bist_text.specs.Lines.{text_lines}
 use Rattle.bist_text.specs.ReservedWords.{is_among, reserved_words}
@@ -25,16 +26,7 @@ is_key k l = false
 abbrev pub first_of : Key → List Statement → Option Statement
 first_of key ss = find (λ s. is_key key (kind_of s.content)) ss
 
--- a refusal at a line, where there is one
-abbrev pub at_line : (ℕ → ChipFault) → Option Statement → Option ChipFault
-at_line fault None = None
-at_line fault (Some s) = Some (fault s.line)
-
 -- ---- C3: an earlier line of a kind of which there is one
-
-abbrev pub is_other : ℕ → Option Statement → Bool
-is_other line None = false
-is_other line (Some s) = not (s.line == line)
 
 abbrev pub is_repeat : List Statement → Statement → Bool
 is_repeat ss s = not (is_key OfUnit (kind_of s.content)) && is_other s.line (first_of (kind_of s.content) ss)
@@ -62,10 +54,6 @@ abbrev pub out_of_range : List Statement → Option ChipFault
 out_of_range ss = at_line (λ n. OutOfRange n) (find (λ s. is_out_of_range s.content) ss)
 
 -- ---- the values that the statements give
-
-abbrev pub content_of : Option Statement → Option Content
-content_of None = None
-content_of (Some s) = Some s.content
 
 abbrev pub name_in : Option Content → List ℕ
 name_in (Some (name b)) = b

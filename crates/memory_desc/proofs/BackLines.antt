@@ -1,6 +1,5 @@
 -- A text of lines that each end with a line feed, and what its lines say.
 use Rattle.memory_desc.proofs.Common.{Bool, Content, ContentText, List, MatchResult, None, Option, Say, Some, Statement, TextLine, [], and_parts, ap, append_assoc, cond, false, gives, inr, is_newline, length, lines_from, lines_of_parts, list_all, not, onto_first, refl, slice_split, stands, subst, sym, true, version, version_in, ℕ, ◌++◌, ◌+◌, ◌∙◌, ◌∷◌, ◌≡◌}
-use Rattle.memory_desc.specs.Statements.{stated}
 use Rattle.memory_desc.specs.declared.content.Version.{Version}
 
 -- a line of text has no line feed
@@ -65,7 +64,7 @@ first_line number start x rest h =
 
 -- what lines say where a version is known, and may stand there
 abbrev Says : List TextLine → Option Version → List Statement → Type 0
-Says = Say ContentText stands version_in stated
+Says = Say ContentText stands version_in
 
 lines_say : (v : Version) (number start : ℕ) (xs : List (List ℕ)) (cs : List Content) → Written xs cs → list_all (stands (Some v)) cs ≡ true
     → Says (lines_from number start (with_feeds xs)) (Some v) (numbered number cs)

@@ -1,5 +1,5 @@
 -- The values that the statements of a printed memory give.
-use Rattle.memory_desc.proofs.Common.{All, Bool, Content, Description, IsFull, IsSome, List, Scrambling, Some, Statement, [], about, ap, ap₂, arith, backgrounds, bit_at, bit_at-lt, bits, constant_of, decimal, digits_value, false, from_bool, index_bits, is_row, is_term_too_wide, latency, list_any, lt-leb, map, matrix_said, name, nat_le, number-bits, pause, polarity, refl, rows_said, suc, sym, take, take_all, take_more, terms_in, terms_said, true, version, word_values, words, zero, ℕ, ◌++◌, ◌+◌, ◌/◌, ◌<◌, ◌^◌, ◌∙◌, ◌∷◌, ◌≡◌, ◌≤◌}
+use Rattle.memory_desc.proofs.Common.{All, Bool, Content, Description, IsFull, IsSome, List, Scrambling, Some, Statement, [], about, ap, ap₂, arith, backgrounds, bit_at, bit_at-lt, bits, constant_of, decimal, digits_value, false, from_bool, index_bits, is_row, is_term_too_wide, latency, list_any, lt-leb, map, matrix_said, name, nat_le, number-bits, pause, polarity, refl, rows_said, said_there, suc, sym, take, take_all, take_more, terms_in, terms_said, true, version, word_values, words, zero, ℕ, ◌++◌, ◌+◌, ◌/◌, ◌<◌, ◌^◌, ◌∙◌, ◌∷◌, ◌≡◌, ◌≤◌}
 use Rattle.scrambler.specs.Linear.{number}
 use Rattle.scrambler.specs.Scrambling.{row}
 use Rattle.scrambler.proofs.LinearLemmas.{number_same}
@@ -7,7 +7,6 @@ use Rattle.memory_desc.specs.Subjects.{said}
 use Rattle.memory_desc.specs.Table.{is_scrambled, is_too_wide}
 use Rattle.memory_desc.specs.declared.content.Subject.TheVariants.{Row}
 use Rattle.bist_text.proofs.Powers.{word_digits}
-use Rattle.memory_desc.proofs.Checks.{said_there}
 use Rattle.memory_desc.proofs.BackLines.{numbered}
 use Rattle.memory_desc.proofs.BackDigits.{decimal_value, hex_digits_value}
 use Rattle.memory_desc.proofs.BackFound.{row_content, body, said_row}

@@ -1,8 +1,7 @@
 -- The memory that is made where no check refused.
-use Rattle.memory_desc.proofs.Common.{AreBackgrounds, AreFields, AreOfMemory, AreRefusedBy, Bool, Description, Err, GivesBackgrounds, GivesScrambling, IsWidthOf, List, MemoryFault, Missing, None, Ok, Option, Repeated, ScrambleNeedsPowerOfTwo, Scrambling, Some, Statement, about, ap, assembled, bits_said, checked, false, find, if◌then◌else◌, inl, inr, is_power_of_two, latency_said, missing, not, out_of_range, pause_said, polarity_said, refl, repeated, subst, sym, too_wide, true, unfit, unrowed, unscramblable, unsized, words_said, ℕ, ◌&&◌, ◌-◌, ◌∙◌, ◌≡◌}
+use Rattle.memory_desc.proofs.Common.{AreBackgrounds, AreFields, AreOfMemory, AreRefusedBy, Bool, Description, Err, GivesBackgrounds, GivesScrambling, IsWidthOf, List, MemoryFault, Missing, None, Ok, Option, Repeated, ScrambleNeedsPowerOfTwo, Scrambling, Some, Statement, about, alone, ap, assembled, bits_said, checked, false, find, here, if◌then◌else◌, inl, inr, is_power_of_two, is_there, latency_said, missing, next, none_at, none_first, not, out_of_range, passed, pause_said, polarity_said, refl, repeated, stopped, subst, sym, too_wide, true, unfit, unrowed, unscramblable, unsized, words_said, ℕ, ◌&&◌, ◌-◌, ◌∙◌, ◌≡◌}
 use Rattle.memory_desc.specs.Described.{is_repeat, is_out_of_range, is_too_wide, is_scrambled}
 use Rattle.memory_desc.specs.Subjects.{said}
-use Rattle.memory_desc.proofs.Checks.{alone, here, next, none_first, none_at, is_there, passed, stopped}
 use Rattle.memory_desc.proofs.Scrambles.{invertible}
 use Rattle.memory_desc.specs.declared.content.Subject.TheVariants.{Name, Words, Bits, Backgrounds}
 use Rattle.memory_desc.specs.declared.fault.Field.TheVariants.{Name as NameField, Words as WordsField, Bits as BitsField}

@@ -5,11 +5,11 @@ use Rattle.memory_desc.specs.Table.{is_too_wide}
 use Rattle.memory_desc.specs.declared.content.Key.TheVariants.{Backgrounds as BackgroundsKey}
 use Rattle.memory_desc.specs.declared.content.Subject.TheVariants.{Backgrounds}
 use Rattle.memory_desc.specs.declared.content.Content.{Content as ReadContent}
-use Rattle.memory_desc.specs.declared.content.Content.TheVariants as R
 use Rattle.memory_desc.specs.declared.content.Statement.{Statement as ReadStatement}
 use Rattle.memory_desc.proofs.Parts.{log_set_serves}
 use Rattle.memory_desc.proofs.SeenLaws.{words_are}
 use Rattle.memory_desc.proofs.Stated.{stated, says, of_backgrounds, unstated, within}
+use Rattle.memory_desc.specs.declared.content.Content.TheVariants as R
 
 -- ---- whether one is 0
 

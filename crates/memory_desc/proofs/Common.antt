@@ -1,5 +1,6 @@
 -- The names that several proofs cite, passed on from one place. Declares nothing.
 pub use Rattle.std.proofs.Common.{Bool, Err, Global, IsTrue, List, None, Ok, Option, Result, Some, Vec, [], add-one, ap, append-nil, append_assoc, arith, bit_and, bit_or, bit_xor, codes, cond, false, get_or, if◌then◌else◌, inl, inr, is_some, length, lit<, lit≤, map, max, nat_eq, not, refl, replicate, slice_index, slice_set, subst, suc, sym, take, true, zero, ℕ, ◌%◌, ◌&&◌, ◌*◌, ◌++◌, ◌+◌, ◌-◌, ◌/◌, ◌<◌, ◌==◌, ◌^◌, ◌||◌, ◌↔◌, ◌∙◌, ◌∷◌, ◌≡◌, ◌≢◌, ◌≤◌, ◌⊎◌}
+pub use Rattle.std.proofs.Math.ListN.{drop}
 pub use Rattle.std.proofs.Math.Nat.{le_antisymm, max-zero, mod-eq_of_lt, one-mul, pow-suc, zero-add, zero-max, zero-mul}
 pub use Rattle.std.proofs.Math.Path.{ap₂}
 pub use Rattle.std.proofs.Math.Pow.{pow-lt}
@@ -10,26 +11,28 @@ pub use Rattle.std.proofs.lemmas.Grind.{get_or_default_zero}
 pub use Rattle.std.proofs.lemmas.List.{get_or-replicate, get_or-set_other, get_or-set_same, get_or_past, length-append, length-map, length-replicate, length-set, map-append, take-append-le, take_all, take_more}
 pub use Rattle.std.proofs.lemmas.List.Folds.{find-append, list_all-append, list_any-append}
 pub use Rattle.std.proofs.lemmas.Nat.{and_mask, le_or_l, le_or_r, mod_below, or_lt, pow_pos, xor_comm, xor_lt}
-pub use Rattle.std.proofs.lemmas.Nat.Bits.{bit_at-lt, bit_at-pow_same, bit_at_or, bit_at_xor, same_from_bits, same_from_bits_below, shr_and_one}
+pub use Rattle.std.proofs.lemmas.Nat.Bits.{bit_at-lt, bit_at-pow_same, bit_at_or, same_from_bits, shr_and_one}
 pub use Rattle.std.proofs.lemmas.Result.{err_from_is_err_and, on_ok_weaker}
 pub use Rattle.std.specs.Char.{digit_value, is_newline}
 pub use Rattle.std.specs.Int.{bit_at, from_bool, is_power_of_two}
-pub use Rattle.std.specs.Int.Bits.{or_zero_l, or_zero_r, xor_assoc, xor_self, xor_shifted, xor_zero_l, xor_zero_r}
+pub use Rattle.std.specs.Int.Bits.{or_zero_l, or_zero_r, xor_assoc, xor_shifted, xor_zero_l, xor_zero_r}
 pub use Rattle.std.specs.List.{list_all, list_any, onto_first, refill, slice_split}
 pub use Rattle.std.specs.Option.{IsSome, option_or}
 pub use Rattle.std.specs.Prelude.{All, Contains, IfOk, MatchBool, MatchResult, decimal, find, nat_le, nat_lt, option_map, slice_get}
 pub use Rattle.std.specs.Str.Parse.{AllDigits, digits_value}
-pub use Rattle.backgrounds.specs.Backgrounds.{IsLogSet, IsLogarithm, IsStripe}
+pub use Rattle.backgrounds.specs.Backgrounds.{IsLogSet}
 pub use Rattle.bist_bits.specs.Width.{IsWidthOf}
 pub use Rattle.bist_text.proofs.LinePieces.{apart, at_bool, gap_off, gap_on, of_blank, tail_blank, tail_other, when_false, when_holds, when_true}
 pub use Rattle.bist_text.proofs.LineStops.{IsPlain, blank_run, blank_word, no_mark, no_tail, plain_blank}
 pub use Rattle.bist_text.proofs.Pieces.{at_byte, many_none, same, word_on}
 pub use Rattle.bist_text.proofs.RunPieces.{many_map, many_pull, word_map, word_pull}
-pub use Rattle.bist_text.proofs.keyed.Classes.{name_is, run_is}
+pub use Rattle.bist_text.proofs.keyed.Checks.{alone, here, is_there, next, none_first, passed, some_same, stopped, there}
+pub use Rattle.bist_text.proofs.keyed.Classes.{run_is}
+pub use Rattle.bist_text.proofs.keyed.Found.{found_fails, found_passes, none_at, said_found, said_there}
 pub use Rattle.bist_text.proofs.keyed.Items.{IsNext, Shortens, Shorter, gather_end, gather_on, gather_smaller, gather_stuck, items_made, longer, made_shorter, no_item, one_item, onward_on, remark_shortens, some_shortens, spaced_shorter, weaker, word_shortens}
-pub use Rattle.bist_text.proofs.keyed.LineLaws.{IsTable, begins_small, byte_only, byte_shuns, digit_begun, digit_later, digits_plain, either_shuns, line_told, one_word, remark_end, remark_only, remark_shuns}
+pub use Rattle.bist_text.proofs.keyed.LineLaws.{IsTable, begins_small, byte_only, byte_shuns, digit_begun, digit_later, digits_plain, either_shuns, one_word, remark_end, remark_only, remark_shuns, tested_word}
 pub use Rattle.bist_text.proofs.keyed.PartLaws.{Begun, Byte, Either, Ends, Remark, Shuns, Space, alive, byte_told, either_told, ends_told, fewer, remark_told, space_told, word_told}
-pub use Rattle.bist_text.proofs.keyed.Told.{AtEnd, Behind, Never, Told, told_exact, told_from, told_iff}
+pub use Rattle.bist_text.proofs.keyed.Told.{AtEnd, Behind, Never, Told, told_from, told_iff}
 pub use Rattle.bist_text.specs.Grammar.{Continues, are_bytes, byte, is_blank, word}
 pub use Rattle.bist_text.specs.KeyedTexts.{LineOf, Say, first_refusal, gives, or_else, unless_there}
 pub use Rattle.bist_text.specs.LineGrammar.{comment, gap, space, tail}
@@ -60,7 +63,7 @@ pub use Rattle.memory_desc.specs.inner.Heard.{argument_of, heard, hex_word_of, i
 pub use Rattle.memory_desc.specs.inner.Met.{MayBeMet, MayHave}
 pub use Rattle.memory_desc.specs.inner.Printed.{is_none, separator, term_after}
 pub use Rattle.memory_desc.specs.inner.Seeking.{IsPosed, first_sought, is_sought, tests}
-pub use Rattle.memory_desc.specs.inner.Seen.{Seen, SeenStatement, SeenWords, begun_row, inverted, listed, no_words, plain_content, plain_line_content, plain_statement, plain_words, seen, seen_stated, seen_statements, subject_of, summand, with_term, with_terms, with_word, with_words}
+pub use Rattle.memory_desc.specs.inner.Seen.{Seen, SeenStatement, SeenWords, begun_row, inverted, listed, no_words, plain_content, plain_line_content, plain_statement, plain_words, seen, seen_statements, subject_of, summand, with_term, with_terms, with_word, with_words}
 pub use Rattle.memory_desc.specs.inner.Standing.{AreFields, AreWords, GivesBackgrounds, GivesScrambling, IsRow, StandsAt, highest_of, is_ranged, least, most, name_in_seen, number_in_seen, polarity_in_seen, row_in_seen, union_of, value_in}
 pub use Rattle.scrambler.proofs.LinearLemmas.{bit_at-number, dot-zero_left, dot_below, number-below, number-bits, two_digits}
-pub use Rattle.scrambler.specs.Scrambling.{DependsOn, IsFull, IsInvertible, IsLeastDependence, IsWithin, Scrambling, identity, is_identity, matrix_of, product}
+pub use Rattle.scrambler.specs.Scrambling.{IsFull, IsInvertible, IsLeastDependence, IsWithin, Scrambling, identity, is_identity, matrix_of, product}

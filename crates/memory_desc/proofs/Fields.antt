@@ -1,6 +1,5 @@
 -- The name and the numbers that the statements give, each in its range.
-use Rattle.memory_desc.proofs.Common.{Bool, Content, IsName, List, Missing, None, Option, Some, StandsAt, Statement, Subject, TextLine, [], about, ap, arith, cond, content_of, digits_value, false, find, inl, inr, is_about, is_among, is_formed, is_ranged, latency_in, least, leb-false, length, ltb-false, missing, most, name, name_in, name_in_seen, name_said, nat_lt, number_in_seen, or_parts, out_of_range, pause_in, plain_content, polarity, polarity_in, polarity_in_seen, polarity_said, refl, reserved_words, subst, sym, too_wide, true, unless_there, value_in, ℕ, ◌++◌, ◌<◌, ◌^◌, ◌||◌, ◌∙◌, ◌∷◌, ◌≡◌, ◌≤◌, ◌⊎◌}
-use Rattle.memory_desc.specs.Statements.{stated as stated_line}
+use Rattle.memory_desc.proofs.Common.{IsName, List, Missing, None, Some, StandsAt, Statement, Subject, TextLine, about, ap, arith, content_of, digits_value, false, inl, inr, is_about, is_among, is_formed, is_ranged, latency_in, least, leb-false, length, ltb-false, missing, most, name, name_in, name_in_seen, name_said, nat_lt, number_in_seen, or_parts, out_of_range, pause_in, plain_content, polarity, polarity_in, polarity_in_seen, polarity_said, reserved_words, said_found, subst, sym, too_wide, true, unless_there, value_in, ℕ, ◌<◌, ◌^◌, ◌||◌, ◌∙◌, ◌≡◌, ◌≤◌, ◌⊎◌}
 use Rattle.memory_desc.specs.Subjects.{said}
 use Rattle.memory_desc.specs.inner.Heard.{said as said_by, statements}
 use Rattle.memory_desc.specs.declared.content.Statement.{Statement as ReadStatement}
@@ -82,20 +81,6 @@ number_unsaid q ss (inr e) h = (let z : ⊥ = cc in absurd z)
 pub polarity_unsaid : (ss : List Statement) → StandsAt None (about Polarity ss) → 0 ≡ polarity_said ss
 polarity_unsaid ss h = sym (ap polarity_in (unstated Polarity ss h))
 
--- what is found in the lines of a text was said by one of them, and so is formed
-formed_found : (p : Statement → Bool) (ls : List TextLine) (s : Statement) → find p (statements ls) ≡ Some s → is_formed s.content ≡ true
-formed_found p [] s e = (let z : ⊥ = cc in absurd z)
-formed_found p (l ∷ ls) s e = go (said_by l.text) refl e (λ e. formed_found p ls s e)
-  where
-    at : (c : Content) → said_by l.text ≡ Some c → (t : Bool) → cond t (Some (record { line = l.number; content = c })) (find p (statements ls)) ≡ Some s
-        → (find p (statements ls) ≡ Some s → is_formed s.content ≡ true) → is_formed s.content ≡ true
-    at c k true e again = (let same : (let x : Statement = record { line = l.number; content = c } in x) ≡ s = cc in ap (λ s. is_formed s.content) (sym same) ∙ formed_said l.text c k)
-    at c k false e again = again e
-
-    go : (v : Option Content) → said_by l.text ≡ v → find p (stated_line l.number v ++ statements ls) ≡ Some s → (find p (statements ls) ≡ Some s → is_formed s.content ≡ true) → is_formed s.content ≡ true
-    go None k e again = again e
-    go (Some c) k e again = at c k (p (record { line = l.number; content = c })) e again
-
 pub name_given : (ls : List TextLine) (l : ReadStatement) (b : List ℕ) → StandsAt (Some l) (about Name (statements ls)) → out_of_range (statements ls) ≡ None
     → b ≡ name_in_seen (plain_content l.content) → (b ≡ name_said (statements ls)) × IsName b
 name_given ls l b h r f =
@@ -105,5 +90,5 @@ name_given ls l b h r f =
     let same : b ≡ s.0 = f ∙ ap name_in_seen s.1.written in
     let parts = or_parts (nat_lt 48 (length s.0)) (is_among s.0 reserved_words) (in_range ss Name (name s.0) r s.1.said_is) in
     let content : at.statement.content ≡ name s.0 = (let e = ap content_of at.found in let k = s.1.said_is in cc) in
-    let is_name : IsName s.0 = record { identifier = ap is_formed (sym content) ∙ formed_found (is_about Name) ls at.statement at.found; short = ltb-false 48 (length s.0) parts.0; free = parts.1 } in
+    let is_name : IsName s.0 = record { identifier = ap is_formed (sym content) ∙ said_found said_by is_formed formed_said (is_about Name) ls at.statement at.found; short = ltb-false 48 (length s.0) parts.0; free = parts.1 } in
     (same ∙ sym (ap name_in s.1.said_is), subst IsName (sym same) is_name)

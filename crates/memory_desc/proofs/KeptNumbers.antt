@@ -1,6 +1,5 @@
 -- Numbers of which the first ascend: a search in both parts finds a number just where it is one of them.
-use Rattle.memory_desc.proofs.Common.{Bool, Contains, Err, IsTrue, List, MatchResult, MayHave, Ok, Result, [], ap, ap₂, arith, at_bool, cases_lt, eq-eqb, eqb-true, false, get_or, get_or_default_zero, inl, inr, le_antisymm, length, length-append, list_any, nat_eq, refill, refl, subst, sym, take, take-append_seam, take-length, true, ℕ, ◌++◌, ◌+◌, ◌<◌, ◌==◌, ◌||◌, ◌↔◌, ◌∙◌, ◌∷◌, ◌≡◌, ◌≤◌}
-use Rattle.std.proofs.Math.ListN.{drop}
+use Rattle.memory_desc.proofs.Common.{Bool, Contains, Err, IsTrue, List, MatchResult, MayHave, Ok, Result, [], ap, ap₂, arith, at_bool, cases_lt, drop, eq-eqb, eqb-true, false, get_or, get_or_default_zero, inl, inr, le_antisymm, length, length-append, list_any, nat_eq, refill, refl, subst, sym, take, take-append_seam, take-length, true, ℕ, ◌++◌, ◌+◌, ◌<◌, ◌==◌, ◌||◌, ◌↔◌, ◌∙◌, ◌∷◌, ◌≡◌, ◌≤◌}
 use Rattle.std.proofs.lemmas.Cmp.{nat_eq_equiv}
 use Rattle.std.proofs.lemmas.List.Elements.{Contains-get_or, Contains-append_left, Contains-append_right, Contains-append_cases}
 use Rattle.std.proofs.lemmas.List.Sorted.{searched, length_permutation, Contains-permutation, IsNonDecreasingBy-from_sort}

@@ -10,7 +10,6 @@ pub mod SeenLaws
 pub mod Stated
 pub mod Rows
 pub mod Chosen
-pub mod Checks
 pub mod Scrambles
 pub mod Built
 pub mod Fields

@@ -1,13 +1,11 @@
 -- Each kind of line is read as the grammar says.
-use Rattle.memory_desc.proofs.Common.{Bool, Byte, Class, Content, ContentText, Either, Ends, IsPlain, IsTable, LineOf, List, Memory, None, Number, One, Option, Read, Scramble, Shuns, Some, Space, Term, Two, [], and_from, and_parts, ap, apart, argument, argument_of, arith, backgrounds, begins_small, bits, blank_run, blank_word, byte, byte_of, byte_only, byte_shuns, byte_told, codes, digit_begun, digit_later, digits_plain, either_told, ends_told, ends_with, eqb-true, equation, fewer, fits_of, heard, inl, inr, is_blank, is_digit, is_formed, is_hex, is_l, is_letter, is_name_byte, is_number, is_term, key_text, keys_in, keys_of, kind_of, latency, length, line_told, list_all, log, many_map, many_pull, may_stand, more_terms, more_words, name, name_is, nat_lt, no_mark, one_word, onward, pause, polarity, refl, run_is, same, scramble, slice_get, space, space_told, spaced, stands, stuck, subst, suc, sym, tail, term_of, term_text, told_exact, told_iff, took, true, version, when_false, when_holds, when_true, word, word_map, word_of, word_pull, word_told, words, words_of, ℕ, ◌==◌, ◌↔◌, ◌∙◌, ◌∷◌, ◌≡◌, ◌⊎◌}
+use Rattle.memory_desc.proofs.Common.{Bool, Byte, Class, Content, ContentText, Either, Ends, IsTable, LineOf, List, Memory, None, Number, One, Option, Read, Scramble, Shuns, Some, Space, Term, Two, [], and_from, and_parts, ap, apart, argument, argument_of, arith, backgrounds, begins_small, bits, blank_run, blank_word, byte, byte_of, byte_only, byte_shuns, byte_told, codes, digit_begun, digit_later, digits_plain, either_told, ends_told, ends_with, eqb-true, equation, fewer, fits_of, heard, inl, inr, is_blank, is_digit, is_formed, is_hex, is_l, is_letter, is_name_byte, is_number, is_term, key_text, keys_in, keys_of, kind_of, latency, length, list_all, log, many_map, many_pull, may_stand, more_terms, more_words, name, nat_lt, no_mark, one_word, onward, pause, polarity, refl, run_is, same, scramble, slice_get, space, space_told, spaced, stands, stuck, suc, tail, term_of, term_text, tested_word, told_iff, took, true, version, when_false, when_holds, when_true, word, word_map, word_of, word_pull, word_told, words, words_of, ℕ, ◌==◌, ◌↔◌, ◌∷◌, ◌≡◌, ◌⊎◌}
 use Rattle.bist_text.specs.inner.Keywords.{are_apart}
-use Rattle.bist_text.specs.keyed.Parts.{is_word}
 use Rattle.bist_text.specs.declared.keyed_lines.Class.TheVariants.{Word as HexWord, Name as NameWord}
 use Rattle.bist_text.proofs.KeywordLaws.{IsOf, is_at, is_passed}
 use Rattle.bist_text.proofs.keyed.PartLaws.{Hears, Words}
-use Rattle.bist_text.proofs.keyed.LineLaws.{SaysOf as Says, Arg as Behind, OneWord as HasOneWord, Line as AnyLine}
+use Rattle.bist_text.proofs.keyed.LineLaws.{SaysOf as Says, Arg as Behind, OneWord as HasOneWord, name_word as named, line_exact as table_exact}
 use Rattle.bist_text.specs.inner.Machine.{IsExact}
-use Rattle.bist_text.specs.keyed.Lines.{line_of}
 use Rattle.memory_desc.specs.LineText.{is_word as is_hex_word}
 use Rattle.memory_desc.specs.declared.content.Key.{Key}
 use Rattle.memory_desc.specs.declared.content.Key.TheVariants.{Name, Words as WordsKey, Bits, Latency, Polarity, Pause, Backgrounds}
@@ -28,23 +26,10 @@ abbrev OneWord : Key → (List ℕ → Content) → Class → (ℕ → Bool) →
 OneWord = HasOneWord kind_of is_formed (λ c. argument c tail)
 
 -- of a number
-module _ (key : Key) (made : List ℕ → Content) (kind : (ds : List ℕ) → kind_of (made ds) ≡ key) (formed : (ds : List ℕ) → is_formed (made ds) ≡ is_number ds)
-    (there : (ds x : List ℕ) → argument (made ds) tail x ↔ word ds tail x) (only : (c : Content) → kind_of c ≡ key → (ds : List ℕ) × (c ≡ made ds)) where
-  numbered : OneWord key made (fits_of Number) is_digit
-  numbered = record {
-    kind = kind;
-    formed = λ w h. formed w ∙ (run_is is_digit 9 w).0 h;
-    into = λ w x h t. (there w x).1 t;
-    out = λ c x e f h. (let o = only c e in (
-      o.0,
-      (run_is is_digit 9 o.0).1 (sym (formed o.0) ∙ ap is_formed (sym o.1) ∙ f),
-      o.1,
-      (there o.0 x).0 (subst (λ c. argument c tail x) o.1 h),
-    ));
-    begun = digit_begun;
-    within = digit_later;
-    plain = digits_plain;
-  }
+numbered : (key : Key) (made : List ℕ → Content) → ((w : List ℕ) → kind_of (made w) ≡ key) → ((w : List ℕ) → is_formed (made w) ≡ is_number w) → ((w x : List ℕ) → argument (made w) tail x ↔ word w tail x)
+    → ((c : Content) → kind_of c ≡ key → (w : List ℕ) × (c ≡ made w)) → OneWord key made (fits_of Number) is_digit
+numbered key made kind formed there only =
+    tested_word kind_of is_formed (λ c. argument c tail) key made (fits_of Number) is_digit is_number (run_is is_digit 9) kind formed there only digit_begun digit_later digits_plain
 
 version_word : OneWord Memory version (fits_of Number) is_digit
 version_word = numbered Memory version (λ w. refl) (λ w. refl) (λ w x. same) only
@@ -82,37 +67,20 @@ pause_word = numbered Pause pause (λ w. refl) (λ w. refl) (λ w x. same) only
     only c e = (let z : ⊥ = cc in absurd z)
 
 polarity_word : OneWord Polarity polarity (fits_of HexWord) is_hex
-polarity_word = record {
-  kind = λ w. refl;
-  formed = λ w h. (run_is is_hex 16 w).0 h;
-  into = λ w x h t. t;
-  out = out;
-  begun = hex_begun;
-  within = λ n c h. (and_parts (is_hex c) (nat_lt (suc n) 16) h).0;
-  plain = hex_plain;
-}
+polarity_word =
+    tested_word kind_of is_formed (λ c. argument c tail) Polarity polarity (fits_of HexWord) is_hex is_hex_word (run_is is_hex 16) (λ w. refl) (λ w. refl) (λ w x. same) only hex_begun
+    (λ n c h. (and_parts (is_hex c) (nat_lt (suc n) 16) h).0) hex_plain
   where
-    out : (c : Content) (x : List ℕ) → kind_of c ≡ Polarity → is_formed c ≡ true → argument c tail x → (w : List ℕ) × (is_word (fits_of HexWord) w ≡ true) × (c ≡ polarity w) × word w tail x
-    out (polarity w) x k f h = (w, (run_is is_hex 16 w).1 f, refl, h)
-    out c x k f h = (let z : ⊥ = cc in absurd z)
-
-names_plain : IsPlain is_name_byte
-names_plain = record { space_no = refl; tab_no = refl; return_no = refl; hash_no = refl }
+    only : (c : Content) → kind_of c ≡ Polarity → (w : List ℕ) × (c ≡ polarity w)
+    only (polarity w) e = (w, refl)
+    only c e = (let z : ⊥ = cc in absurd z)
 
 name_word : OneWord Name name (fits_of NameWord) is_name_byte
-name_word = record {
-  kind = λ w. refl;
-  formed = λ w h. sym (name_is w) ∙ h;
-  into = λ w x h t. t;
-  out = out;
-  begun = record { first = 97; fitting = refl; small = refl };
-  within = λ n c h. h;
-  plain = names_plain;
-}
+name_word = named kind_of is_formed (λ c. argument c tail) Name name (λ w. refl) (λ w. refl) (λ w x. same) only
   where
-    out : (c : Content) (x : List ℕ) → kind_of c ≡ Name → is_formed c ≡ true → argument c tail x → (w : List ℕ) × (is_word (fits_of NameWord) w ≡ true) × (c ≡ name w) × word w tail x
-    out (name w) x k f h = (w, name_is w ∙ f, refl, h)
-    out c x k f h = (let z : ⊥ = cc in absurd z)
+    only : (c : Content) → kind_of c ≡ Name → (w : List ℕ) × (c ≡ name w)
+    only (name w) e = (w, refl)
+    only c e = (let z : ⊥ = cc in absurd z)
 
 -- ---- a row
 
@@ -353,15 +321,6 @@ all_stand (Some Two) = refl
 is_of : (given : Option Version) (k : Key) → IsOf (keys_in given) k ↔ (may_stand given k ≡ true)
 is_of given k = (λ h. is_passed (may_stand given) (keys_in given) k (all_stand given) h, λ e. is_at (keys_in given) (index k) k (there given k e))
 
-line_is : (given : Option Version) (x : List ℕ) (v : Option Content) → AnyLine kind_of is_formed (λ c. argument c tail) key_text (keys_in given) x v ↔ LineOf ContentText stands given x v
-line_is given x v = (
-  λ h. elim h [ inl a ↦ inl a | inr a ↦ (let s = a.0 in inr (s.content, (is_of given (kind_of s.content)).0 s.stands, s.says, (s.formed, a.1))) ],
-  λ h. elim h [ inl a ↦ inl a | inr a ↦ inr (record { content = a.0; stands = (is_of given (kind_of a.0)).1 a.1; formed = a.3.0; says = a.2 }, a.3.1) ],
-)
-
 -- The reader of a line is exact.
 pub line_exact : (given : Option Version) (b : List ℕ) → IsExact (LineOf ContentText stands given) b (heard given b)
-line_exact given b =
-    told_exact (LineOf ContentText stands given) b (line_of (keys_of given) argument_of b)
-    (told_iff (AnyLine kind_of is_formed (λ c. argument c tail) key_text (keys_in given)) (LineOf ContentText stands given) b (line_of (keys_of given) argument_of b) (line_is given)
-    (line_told kind_of is_formed (λ c. argument c tail) key_text (keys_in given) (length b) argument_of (table (length b) given) b (omega arith)))
+line_exact given b = table_exact kind_of is_formed (λ c. argument c tail) key_text (keys_in given) stands given (λ c. is_of given (kind_of c)) b argument_of (table (length b) given)

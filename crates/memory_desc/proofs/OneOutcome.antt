@@ -1,12 +1,11 @@
 -- A text is read as one memory, or refused in one way.
-use Rattle.memory_desc.proofs.Common.{AreStatements, ContentText, Describes, Description, Err, List, MemoryFault, None, Ok, Reads, Result, Some, Statement, ap, heard, inl, inr, of_lines, refl, stands, subst, sym, text_lines, version_at, version_in, walk, ℕ, ◌↔◌, ◌∙◌, ◌≡◌, ◌⊎◌}
+use Rattle.memory_desc.proofs.Common.{AreStatements, ContentText, Describes, Description, Err, List, MemoryFault, None, Ok, Reads, Result, Some, Statement, ap, heard, inl, inr, of_lines, refl, some_same, stands, subst, sym, text_lines, version_at, version_in, walk, ℕ, ◌↔◌, ◌∙◌, ◌≡◌, ◌⊎◌}
 use Rattle.bist_text.specs.declared.keyed_lines.TextFault.{TextFault}
-use Rattle.bist_text.proofs.keyed.Checks.{some_same}
-use Rattle.bist_text.proofs.keyed.Texts as Texts
 use Rattle.memory_desc.specs.inner.Heard.{statements}
 use Rattle.memory_desc.proofs.Determined.{describes_one}
 use Rattle.memory_desc.proofs.LineLaws.{line_exact}
 use Rattle.memory_desc.proofs.OneText.{are_heard, heard_are}
+use Rattle.bist_text.proofs.keyed.Texts as Texts
 
 -- what the reader hears: a line is refused, or the statements describe a memory or are refused
 abbrev pub Hears : List ℕ → Result Description MemoryFault → Type 0

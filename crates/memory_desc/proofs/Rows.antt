@@ -1,5 +1,5 @@
 -- The rows of the scrambling, one after another.
-use Rattle.memory_desc.proofs.Common.{Bool, IsRow, List, MemoryFault, Missing, None, Some, StandsAt, Statement, Term, [], about, add-one, and_mask, ap, ap₂, arith, bit_and, bit_or, cases_lt, constant, constant_of, digits_value, false, from_bool, highest_of, index_bit, index_bits, inl, inr, is_term_too_wide, leb-false, length, list_any, lit<, missing, missing_row, mod-eq_of_lt, nat_le, or_else, or_parts, plain_content, pow-lt, pow_pos, refl, replicate, row_in_seen, rows_said, scramble, slice_set, subst, suc, sym, take, take-suc-set, terms_in, terms_said, too_wide, true, unless_there, xor_lt, zero, ℕ, ◌%◌, ◌*◌, ◌++◌, ◌+◌, ◌-◌, ◌<◌, ◌^◌, ◌∙◌, ◌∷◌, ◌≡◌, ◌≤◌}
+use Rattle.memory_desc.proofs.Common.{Bool, IsRow, List, MemoryFault, Missing, None, Some, StandsAt, Statement, Term, [], about, add-one, and_mask, ap, ap₂, arith, bit_and, bit_or, cases_lt, constant, constant_of, digits_value, false, from_bool, highest_of, index_bit, index_bits, inl, inr, is_term_too_wide, leb-false, length, list_any, lit<, missing, missing_row, mod-eq_of_lt, nat_le, or_else, or_parts, plain_content, pow-lt, pow_pos, refl, replicate, row_in_seen, rows_said, said_there, scramble, slice_set, subst, suc, sym, take, take-suc-set, terms_in, terms_said, there, too_wide, true, unless_there, xor_lt, zero, ℕ, ◌%◌, ◌*◌, ◌++◌, ◌+◌, ◌-◌, ◌<◌, ◌^◌, ◌∙◌, ◌∷◌, ◌≡◌, ◌≤◌}
 use Rattle.scrambler.specs.Linear.{number}
 use Rattle.scrambler.proofs.Steps.{product_begun, product_more}
 use Rattle.memory_desc.specs.Subjects.{said}
@@ -7,7 +7,6 @@ use Rattle.memory_desc.specs.declared.content.Row.{Row}
 use Rattle.memory_desc.specs.declared.content.Statement.{Statement as ReadStatement}
 use Rattle.memory_desc.specs.declared.content.Subject.TheVariants.{Row as BitRow}
 use Rattle.memory_desc.specs.declared.fault.Field.TheVariants.{Row as RowField}
-use Rattle.memory_desc.proofs.Checks.{there, said_there}
 use Rattle.memory_desc.proofs.Parts.{RowsFit, rows_begun, rows_more}
 use Rattle.memory_desc.proofs.SeenLaws.{row_is}
 use Rattle.memory_desc.proofs.Stated.{within, stated, row_stated}

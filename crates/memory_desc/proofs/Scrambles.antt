@@ -1,7 +1,6 @@
 -- The scrambling of the rows, each of which is there.
-use Rattle.memory_desc.proofs.Common.{Bool, Err, GivesScrambling, IsInvertible, IsLeastDependence, IsScrambling, IsSome, List, MemoryFault, Missing, None, Ok, Scrambling, Singular, Some, Statement, about, ap, arith, cases_lt, false, identity, inl, inr, matrix_said, missing_row, or_else, refl, subst, suc, sym, true, unless_there, unrowed, zero, ℕ, ◌<◌, ◌∙◌, ◌≡◌}
+use Rattle.memory_desc.proofs.Common.{Bool, Err, GivesScrambling, IsInvertible, IsLeastDependence, IsScrambling, IsSome, List, MemoryFault, Missing, None, Ok, Scrambling, Singular, Some, Statement, about, ap, arith, cases_lt, false, identity, inl, inr, is_there, matrix_said, missing_row, none_first, or_else, refl, subst, suc, sym, there, true, unless_there, unrowed, zero, ℕ, ◌<◌, ◌∙◌, ◌≡◌}
 use Rattle.memory_desc.specs.Table.{is_scrambled}
-use Rattle.memory_desc.proofs.Checks.{none_first, is_there, there}
 use Rattle.memory_desc.specs.declared.content.Subject.TheVariants.{Row}
 use Rattle.memory_desc.specs.declared.fault.Field.TheVariants.{Row as RowField}
 

@@ -1,15 +1,15 @@
 -- A search in what the code has of the lines finds what one in the statements finds.
-use Rattle.memory_desc.proofs.Common.{About, Bool, Content, Err, IsPosed, List, None, Ok, Option, SeenStatement, Some, StandsAt, Statement, TextLine, TooWide, [], ap, at_line, backgrounds, checked, cond, false, find, first_sought, is_row, is_same, is_some, is_sought, list_any, map, option_map, plain_statement, refl, scramble, seen, seen_stated, seen_statements, subject, subject_of, subst, tests, true, version, ℕ, ◌++◌, ◌||◌, ◌∙◌, ◌∷◌, ◌≡◌}
+use Rattle.memory_desc.proofs.Common.{About, Bool, Content, Err, IsPosed, List, None, Ok, Option, SeenStatement, Some, StandsAt, Statement, TextLine, TooWide, [], ap, at_line, backgrounds, checked, cond, false, find, first_sought, is_row, is_same, is_some, is_sought, list_any, map, option_map, plain_statement, refl, scramble, seen, seen_statements, subject, subject_of, subst, tests, true, version, ℕ, ◌++◌, ◌||◌, ◌∙◌, ◌∷◌, ◌≡◌}
 use Rattle.memory_desc.specs.Statements.{stated}
 use Rattle.memory_desc.specs.Table.{is_out_of_range, is_too_wide}
 use Rattle.memory_desc.specs.inner.Heard.{said, statements}
 use Rattle.memory_desc.specs.declared.content.Statement.{Statement as ReadStatement}
-use Rattle.memory_desc.specs.declared.content.Subject.TheVariants as S
 use Rattle.memory_desc.specs.declared.fault.MemoryFault.TheVariants.{OutOfRange as OutOfRangeAt}
 use Rattle.memory_desc.specs.declared.search.Sought.{Sought}
 use Rattle.memory_desc.specs.declared.search.Sought.TheVariants.{OutOfRange, Row}
 use Rattle.memory_desc.proofs.LineTests.{row_too_wide, words_too_wide}
 use Rattle.memory_desc.proofs.SeenLaws.{row_is}
+use Rattle.memory_desc.specs.declared.content.Subject.TheVariants as S
 
 -- ---- what is sought, said of contents
 
@@ -45,7 +45,7 @@ seen_is : (ls : List TextLine) → seen_statements ls ≡ map seen_statement (st
 seen_is [] = refl
 seen_is (l ∷ ls) = go (said l.text) (seen_is ls)
   where
-    go : (v : Option Content) → seen_statements ls ≡ map seen_statement (statements ls) → seen_stated l.number (option_map seen v) ++ seen_statements ls ≡ map seen_statement (stated l.number v ++ statements ls)
+    go : (v : Option Content) → seen_statements ls ≡ map seen_statement (statements ls) → stated l.number (option_map seen v) ++ seen_statements ls ≡ map seen_statement (stated l.number v ++ statements ls)
     go None e = e
     go (Some c) e = ap (λ (ss : List SeenStatement). seen_statement (record { line = l.number; content = c }) ∷ ss) e
 

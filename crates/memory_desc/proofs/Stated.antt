@@ -1,33 +1,11 @@
 -- What the statement about something says, where its line is known.
-use Rattle.memory_desc.proofs.Common.{Bool, Content, List, None, Option, Seen, Some, StandsAt, Statement, Subject, Term, [], about, ap, backgrounds, bits, cond, content_of, digits_value, false, find, is_about, is_ranged, is_same, kind_of, latency, least, log, most, name, nat_lt, number_in_seen, out_of_range, pause, plain_content, polarity, refl, scramble, seen, subject, subst, sym, too_wide, true, value_in, words, ℕ, ◌||◌, ◌∙◌, ◌∷◌, ◌≡◌}
+use Rattle.memory_desc.proofs.Common.{Bool, Content, List, None, Option, Seen, Some, StandsAt, Statement, Subject, Term, about, ap, backgrounds, bits, content_of, digits_value, false, find, found_fails, found_passes, is_about, is_ranged, is_same, kind_of, latency, least, log, most, name, nat_lt, none_at, number_in_seen, out_of_range, pause, plain_content, polarity, refl, scramble, seen, subject, subst, sym, too_wide, true, value_in, words, ℕ, ◌||◌, ◌∙◌, ◌≡◌}
 use Rattle.memory_desc.specs.Subjects.{said}
-use Rattle.memory_desc.proofs.Checks.{none_at}
 use Rattle.memory_desc.specs.Table.{is_too_wide, is_out_of_range}
 use Rattle.memory_desc.specs.declared.content.Key.TheVariants.{Backgrounds as BackgroundsKey}
 use Rattle.memory_desc.specs.declared.content.Statement.{Statement as ReadStatement}
 use Rattle.memory_desc.specs.declared.content.Subject.TheVariants.{Name, Words, Bits, Latency, Polarity, Pause, Row, Backgrounds}
 use Rattle.memory_desc.specs.declared.fault.MemoryFault.TheVariants.{OutOfRange}
-
--- ---- what is found
-
-found_step : {X : Type 0} (p q : X → Bool) (x y : X) (r o : Option X) → (r ≡ None → o ≡ Some x → p x ≡ false) → (s t : Bool) → p y ≡ s
-    → cond s (Some y) r ≡ None → cond t (Some y) o ≡ Some x → p x ≡ false
-found_step p q x y r o f true t e a b = (let z : ⊥ = cc in absurd z)
-found_step p q x y r o f false true e a b = (let z : y ≡ x = cc in ap p (sym z) ∙ e)
-found_step p q x y r o f false false e a b = f a b
-
--- nothing passes a test, so what passes another doesn't pass it
-found_fails : {X : Type 0} (p q : X → Bool) (xs : List X) (x : X) → find p xs ≡ None → find q xs ≡ Some x → p x ≡ false
-found_fails p q [] x a b = (let z : ⊥ = cc in absurd z)
-found_fails p q (y ∷ xs) x a b = found_step p q x y (find p xs) (find q xs) (found_fails p q xs x) (p y) (q y) refl a b
-
-passes_step : {X : Type 0} (q : X → Bool) (x y : X) (o : Option X) → (o ≡ Some x → q x ≡ true) → (t : Bool) → q y ≡ t → cond t (Some y) o ≡ Some x → q x ≡ true
-passes_step q x y o f true e b = (let z : y ≡ x = cc in ap q (sym z) ∙ e)
-passes_step q x y o f false e b = f b
-
-found_passes : {X : Type 0} (q : X → Bool) (xs : List X) (x : X) → find q xs ≡ Some x → q x ≡ true
-found_passes q [] x b = (let z : ⊥ = cc in absurd z)
-found_passes q (y ∷ xs) x b = passes_step q x y (find q xs) (found_passes q xs x) (q y) refl b
 
 -- ---- the statement that is read
 

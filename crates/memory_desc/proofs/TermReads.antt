@@ -1,10 +1,7 @@
 -- The readers of terms, by the first byte and one after another.
-use Rattle.memory_desc.proofs.Common.{Content, List, None, Number, Option, Read, Some, Term, [], ap, arith, byte_of, constant, false, fits_of, gather_end, gather_on, gather_smaller, gather_stuck, get_or, index_bit, length, marked_term_of, next_term_of, onward, option_map, row_of, scramble, spaced, stuck, summand, sym, take, take_all, term_of, took, true, with_term, with_terms, word_of, ℕ, ◌-◌, ◌<◌, ◌∙◌, ◌∷◌, ◌≡◌, ◌≤◌}
-use Rattle.std.proofs.Common.{drop}
+use Rattle.memory_desc.proofs.Common.{Content, List, Number, Option, Read, Some, Term, [], ap, arith, byte_of, constant, drop, false, fits_of, get_or, index_bit, length, marked_term_of, onward, row_of, scramble, spaced, stuck, sym, take, take_all, term_of, took, true, with_terms, word_of, ℕ, ◌-◌, ◌∙◌, ◌∷◌, ◌≡◌, ◌≤◌}
 use Rattle.memory_desc.specs.inner.Heard.{terms_of}
 use Rattle.memory_desc.specs.declared.content.Row.{Row}
-use Rattle.memory_desc.specs.declared.row_reader.Summand.{Summand}
-use Rattle.memory_desc.proofs.TermLaws.{term_next}
 
 abbrev Rest : List ℕ → List ℕ
 Rest b = take (length b - 1) (drop 1 b)
@@ -40,23 +37,6 @@ marked_took b x y left t h e k =
 
 abbrev pub Gathered : Row → List ℕ → Read Row
 Gathered r b = onward (terms_of b) (λ ts x. took (with_terms r ts) x)
-
--- the next is read
-abbrev IsRead : List ℕ → Option Summand → List ℕ → Type 0
-IsRead b n x = (o : Option Term) × (next_term_of b ≡ took o x) × (n ≡ option_map summand o)
-
-pub terms_on : {all : Read Row} {n : Option Summand} {s : Summand} (b x : List ℕ) (r new : Row) → Gathered r b ≡ all → IsRead b n x → n ≡ Some s → new ≡ with_term r s → Gathered new x ≡ all
-terms_on = gather_on next_term_of term_next summand with_term
-
-pub terms_smaller : {n : Option Summand} {s : Summand} (b x : List ℕ) → IsRead b n x → n ≡ Some s → length x < length b
-terms_smaller = gather_smaller next_term_of term_next summand with_term
-
-pub terms_end : {n : Option Summand} (all b x : List ℕ) (first r : Row) → Gathered r b ≡ Gathered first all → IsRead b n x → n ≡ None
-    → (ts : List Term) × (terms_of all ≡ took ts x) × (r ≡ with_terms first ts)
-terms_end = gather_end next_term_of term_next summand with_term
-
-pub terms_stuck : (all b x : List ℕ) (first r : Row) → Gathered r b ≡ Gathered first all → next_term_of b ≡ stuck x → terms_of all ≡ stuck x
-terms_stuck = gather_stuck next_term_of term_next summand with_term
 
 -- ---- the whole row
 

@@ -1,27 +1,9 @@
 -- The readers of words, and the loop over those of a list.
-use Rattle.memory_desc.proofs.Common.{Bool, Class, List, None, Option, Read, SeenWords, Some, [], ap, backgrounds, byte_of, digits_value, end_of, ends_with, fits_of, gather_end, gather_on, gather_smaller, gather_stuck, hex_word_of, if◌then◌else◌, is_hex, length, listed_of, log, log_of, next_word_of, onward, option_map, refl, remark_of, slice_index, spaced_word_of, stuck, took, true, with_word, with_words, word_of, words_of, ℕ, ◌<◌, ◌∙◌, ◌∷◌, ◌≡◌, ◌≢◌}
+use Rattle.memory_desc.proofs.Common.{Bool, Class, List, None, Read, SeenWords, Some, [], ap, backgrounds, byte_of, end_of, ends_with, fits_of, hex_word_of, if◌then◌else◌, is_hex, listed_of, log, log_of, onward, refl, remark_of, slice_index, spaced_word_of, took, true, with_words, word_of, words_of, ℕ, ◌∙◌, ◌∷◌, ◌≡◌, ◌≢◌}
 use Rattle.bist_text.specs.declared.keyed_lines.Class.TheVariants.{Word as HexWord}
-use Rattle.memory_desc.proofs.WordLaws.{word_next}
 
 abbrev pub Gathered : SeenWords → List ℕ → Read SeenWords
 Gathered r b = onward (words_of b) (λ ws x. took (with_words r ws) x)
-
--- the next is read
-abbrev IsRead : List ℕ → Option ℕ → List ℕ → Type 0
-IsRead b n x = (o : Option (List ℕ)) × (next_word_of b ≡ took o x) × (n ≡ option_map (digits_value 16) o)
-
-pub words_on : {all : Read SeenWords} {n : Option ℕ} {w : ℕ} (b x : List ℕ) (r new : SeenWords) → Gathered r b ≡ all → IsRead b n x → n ≡ Some w → new ≡ with_word r w → Gathered new x ≡ all
-words_on = gather_on next_word_of word_next (digits_value 16) with_word
-
-pub words_smaller : {n : Option ℕ} {w : ℕ} (b x : List ℕ) → IsRead b n x → n ≡ Some w → length x < length b
-words_smaller = gather_smaller next_word_of word_next (digits_value 16) with_word
-
-pub words_end : {n : Option ℕ} (all b x : List ℕ) (first r : SeenWords) → Gathered r b ≡ Gathered first all → IsRead b n x → n ≡ None
-    → (ws : List (List ℕ)) × (words_of all ≡ took ws x) × (r ≡ with_words first ws)
-words_end = gather_end next_word_of word_next (digits_value 16) with_word
-
-pub words_stuck : (all b x : List ℕ) (first r : SeenWords) → Gathered r b ≡ Gathered first all → next_word_of b ≡ stuck x → words_of all ≡ stuck x
-words_stuck = gather_stuck next_word_of word_next (digits_value 16) with_word
 
 pub listed_took : (b x left w : List ℕ) (ws : List (List ℕ)) → word_of (fits_of HexWord) b ≡ took w x → words_of x ≡ took ws left → listed_of b ≡ took (Some (backgrounds (w ∷ ws))) left
 listed_took b x left w ws h k =

@@ -1,30 +1,27 @@
 -- Trusted. The memory that a text describes.
-use Rattle.std.specs.Prelude.{◌≡◌, ℕ, ◌-◌, ◌^◌, ◌<◌, ◌≤◌, ◌==◌, ◌||◌, Bool, true, false, not, nat_lt, nat_le, List, length, Option, Some, None, MatchBool, Contains, find}
+use Rattle.std.specs.Prelude.{◌≡◌, ℕ, ◌-◌, ◌^◌, ◌<◌, ◌≤◌, ◌||◌, Bool, true, false, nat_lt, nat_le, List, length, None, MatchBool, Contains, find}
 use Rattle.std.specs.Int.{is_power_of_two}
 use Rattle.std.specs.List.{list_any}
 use Rattle.std.specs.Option.{IsSome}
 use Rattle.std.specs.Str.Parse.{digits_value}
 use Rattle.bist_bits.specs.Width.{IsWidthOf}
+pub use Rattle.bist_text.specs.KeyedTexts.{is_other}
 use Rattle.bist_text.specs.KeyedTexts.{Say}
 use Rattle.bist_text.specs.Lines.{text_lines}
 use Rattle.bist_text.specs.ReservedWords.{is_among, reserved_words}
 use Rattle.scrambler.specs.Scrambling.{Scrambling, IsInvertible, identity}
 use Rattle.memory_desc.specs.Descriptions.{Description, assembled}
 use Rattle.memory_desc.specs.LineText.{Term, index_bit, constant, Content, name, words, bits, latency, polarity, pause, scramble, backgrounds, ContentText}
-use Rattle.memory_desc.specs.Statements.{Statement, stands, version_in, stated}
+use Rattle.memory_desc.specs.Statements.{Statement, stands, version_in}
 use Rattle.memory_desc.specs.Subjects.{subject, about, said}
 use Rattle.memory_desc.specs.Values.{name_said, words_said, bits_said, latency_said, polarity_said, pause_said, matrix_said, AreBackgrounds}
 use Rattle.memory_desc.specs.declared.content.Subject.TheVariants.{Name, Words, Bits, Row, Backgrounds}
 
 -- the statements of a text's lines, of which the first is version 1 or 2, and each is of its version's table
 abbrev pub AreStatements : List ℕ → List Statement → Type 0
-AreStatements bytes ss = Say ContentText stands version_in stated (text_lines bytes) None ss
+AreStatements bytes ss = Say ContentText stands version_in (text_lines bytes) None ss
 
 -- whether a statement speaks of what an earlier one speaks of
-abbrev pub is_other : ℕ → Option Statement → Bool
-is_other line None = false
-is_other line (Some s) = not (s.line == line)
-
 abbrev pub is_repeat : List Statement → Statement → Bool
 is_repeat ss s = is_other s.line (about (subject s.content) ss)
 

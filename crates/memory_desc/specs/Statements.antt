@@ -1,20 +1,17 @@
 -- Trusted. What the lines of a description say, and which lines may stand.
-use Rattle.std.specs.Prelude.{ℕ, ◌==◌, Bool, true, false, if◌then◌else◌, ◌∷◌, [], List, Option, Some, None}
+use Rattle.std.specs.Prelude.{ℕ, ◌==◌, Bool, true, false, if◌then◌else◌, Option, Some, None}
 use Rattle.std.specs.Str.Parse.{digits_value}
+use Rattle.bist_text.specs.KeyedTexts.{Statement as TextStatement}
+pub use Rattle.bist_text.specs.KeyedTexts.{stated}
 use Rattle.memory_desc.specs.declared.content.Key.{Key}
 use Rattle.memory_desc.specs.declared.content.Key.TheVariants.{Memory}
 use Rattle.memory_desc.specs.declared.content.Version.{Version}
 use Rattle.memory_desc.specs.declared.content.Version.TheVariants.{One, Two}
 use Rattle.memory_desc.specs.LineText.{Content, version, kind_of, in_table}
 
--- a content line: its number, and what it says
-pub record Statement : Type 0 where
-  pub line : ℕ
-  pub content : Content
-
-abbrev pub stated : ℕ → Option Content → List Statement
-stated number None = []
-stated number (Some c) = (record { line = number; content = c }) ∷ []
+-- a content line
+abbrev pub Statement : Type 0
+Statement = TextStatement Content
 
 -- the version of a number
 abbrev pub version_of : ℕ → Option Version

@@ -1,7 +1,8 @@
 -- Trusted. What statements speak of, and the statements about something.
-use Rattle.std.specs.Prelude.{◌==◌, Bool, true, false, List, Option, Some, None, find}
+use Rattle.std.specs.Prelude.{◌==◌, Bool, true, false, List, Option, find}
 use Rattle.std.specs.Str.Parse.{digits_value}
 use Rattle.memory_desc.specs.LineText.{Content, version, name, words, bits, latency, polarity, pause, scramble, log, backgrounds}
+pub use Rattle.bist_text.specs.KeyedTexts.{content_of}
 use Rattle.memory_desc.specs.Statements.{Statement}
 use Rattle.memory_desc.specs.declared.content.Subject.{Subject}
 use Rattle.memory_desc.specs.declared.content.Subject.TheVariants.{Version, Name, Words, Bits, Latency, Polarity, Pause, Row, Backgrounds}
@@ -36,10 +37,6 @@ is_about q s = is_same q (subject s.content)
 -- the first statement about something
 abbrev pub about : Subject → List Statement → Option Statement
 about q ss = find (is_about q) ss
-
-abbrev pub content_of : Option Statement → Option Content
-content_of None = None
-content_of (Some s) = Some s.content
 
 -- what the first statement about something says
 abbrev pub said : Subject → List Statement → Option Content

@@ -3,6 +3,7 @@ use Rattle.std.specs.Prelude.{◌≡◌, ℕ, zero, suc, ◌-◌, ◌==◌, ◌&
 use Rattle.std.specs.Int.{is_power_of_two}
 use Rattle.std.specs.List.{list_any}
 use Rattle.bist_bits.specs.Width.{IsWidthOf}
+pub use Rattle.bist_text.specs.KeyedTexts.{at_line}
 use Rattle.bist_text.specs.KeyedTexts.{AreRefused, first_refusal, or_else, unless_there}
 use Rattle.bist_text.specs.declared.keyed_lines.TextFault.{TextFault}
 use Rattle.bist_text.specs.declared.keyed_lines.TextFault.TheVariants as T
@@ -20,11 +21,6 @@ use Rattle.memory_desc.specs.declared.fault.Field.{Field}
 use Rattle.memory_desc.specs.declared.fault.Field.TheVariants.{Name as NameField, Words as WordsField, Bits as BitsField, Row as RowField}
 use Rattle.memory_desc.specs.declared.fault.MemoryFault.{MemoryFault}
 use Rattle.memory_desc.specs.declared.fault.MemoryFault.TheVariants.{Unexpected, Truncated, OtherVersion, Repeated, Missing, OutOfRange, Singular, ScrambleNeedsPowerOfTwo, NoSolidBackground, TooManyBackgrounds}
-
--- a refusal at a line, where there is one
-abbrev pub at_line : (ℕ → MemoryFault) → Option Statement → Option MemoryFault
-at_line fault None = None
-at_line fault (Some s) = Some (fault s.line)
 
 -- ---- D3: an earlier line speaks of the same
 

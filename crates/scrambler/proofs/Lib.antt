@@ -4,3 +4,4 @@ pub mod Steps
 pub mod Clearing
 pub mod ScramblingLemmas
 pub mod Identity
+pub mod Dependences

@@ -92,7 +92,7 @@ singular m d dep inv =
 
 -- ---- the rows of a dependence cancel
 
-combination_same : (vector : ℕ → ℕ) (n set other : ℕ) → ((i : ℕ) → i < n → bit_at set i ≡ bit_at other i)
+pub combination_same : (vector : ℕ → ℕ) (n set other : ℕ) → ((i : ℕ) → i < n → bit_at set i ≡ bit_at other i)
     → combination vector n set ≡ combination vector n other
 unfolding combination
 combination_same vector zero set other h = refl

@@ -1,8 +1,5 @@
 -- What checks answered, and the first of some refusals.
-use Rattle.std.proofs.Common.{◌≡◌, Option, Some, None, Ok, Err, refl, ap}
-use Rattle.std.specs.Option.{IsSome}
-use Rattle.bist_text.specs.KeyedTexts.{or_else, unless_there}
-use Rattle.bist_text.specs.keyed.Texts.{checked}
+use Rattle.bist_text.proofs.keyed.Common.{Err, IsSome, None, Ok, Option, Some, ap, checked, or_else, refl, unless_there, ◌≡◌}
 
 pub passed : {F : Type 0} (o : Option F) → Ok tt ≡ checked o → o ≡ None
 passed None e = refl

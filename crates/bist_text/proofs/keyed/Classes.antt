@@ -1,11 +1,5 @@
 -- Words of a class, as grammars say them.
-use Rattle.std.proofs.Common.{◌≡◌, ℕ, suc, ◌+◌, ◌≤◌, ◌<◌, ◌&&◌, Bool, true, List, [], ◌∷◌, length, refl, ◌↔◌, sym, ap, ◌∙◌, arith, zero-le}
-use Rattle.std.proofs.lemmas.Bool.{and_parts, and_from, lt-ltb, ltb-true}
-use Rattle.std.specs.List.{list_all}
-use Rattle.std.specs.Prelude.{nat_lt}
-use Rattle.bist_text.specs.Identifiers.{begins_identifier, in_identifier, is_identifier}
-use Rattle.bist_text.proofs.LineStops.{is_run, run_parts, run_of}
-use Rattle.bist_text.specs.keyed.Parts.{Class, later, all_fit, is_word, up_to, all_of, begun_by}
+use Rattle.bist_text.proofs.keyed.Common.{Bool, Class, List, [], all_fit, all_of, and_from, and_parts, ap, arith, begins_identifier, begun_by, in_identifier, is_identifier, is_run, is_word, later, length, list_all, lt-ltb, ltb-true, nat_lt, refl, run_of, run_parts, suc, sym, true, up_to, zero-le, ℕ, ◌&&◌, ◌+◌, ◌<◌, ◌↔◌, ◌∙◌, ◌∷◌, ◌≡◌, ◌≤◌}
 
 pub all_of_is : (p : ℕ → Bool) (w : List ℕ) → all_fit (all_of p) w ≡ list_all p w
 all_of_is p [] = refl

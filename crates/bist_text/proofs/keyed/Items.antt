@@ -1,10 +1,5 @@
 -- Items one after another, where each takes a byte at least.
-use Rattle.std.proofs.Common.{◌≡◌, ℕ, zero, suc, ◌-◌, ◌<◌, ◌≤◌, ◌==◌, if◌then◌else◌, List, [], ◌∷◌, length, Option, Some, None, refl, sym, ap, ◌∙◌, arith, zero-le}
-use Rattle.std.specs.Prelude.{option_map}
-use Rattle.bist_text.specs.Grammar.{is_blank}
-use Rattle.bist_text.specs.keyed.Parts.{spaced, comment_of, remark_of, Class, later, front_of, behind_of, word_of, by_item, items_from, items_of, gathered}
-use Rattle.bist_text.specs.keyed.Reading.{Read, took, stuck, onward}
-use Rattle.bist_text.proofs.LinePieces.{at_bool}
+use Rattle.bist_text.proofs.keyed.Common.{Class, List, None, Option, Read, Some, [], ap, arith, at_bool, behind_of, by_item, comment_of, front_of, gathered, if◌then◌else◌, is_blank, items_from, items_of, later, length, onward, option_map, refl, remark_of, spaced, stuck, suc, sym, took, word_of, zero, zero-le, ℕ, ◌-◌, ◌<◌, ◌==◌, ◌∙◌, ◌∷◌, ◌≡◌, ◌≤◌}
 
 pub onward_on : {A B C : Type 0} (o : Read A) (f : A → List ℕ → Read B) (g : B → List ℕ → Read C) → onward (onward o f) g ≡ onward o (λ a x. onward (f a x) g)
 onward_on (took a x) f g = refl

@@ -1,24 +1,9 @@
 -- Lines of a first word and what stands behind it, whatever the words are and what they say.
-use Rattle.std.proofs.Common.{◌≡◌, ◌⊎◌, ℕ, suc, ◌==◌, Bool, true, false, List, [], ◌∷◌, length, Option, Some, None, refl, ◌↔◌, inl, inr, sym, ap, subst, ◌∙◌, arith}
-use Rattle.std.proofs.lemmas.Bool.{eqb-true, and_parts}
-use Rattle.std.specs.Prelude.{slice_get, nat_lt}
-use Rattle.bist_text.specs.Grammar.{is_blank, word, one_of}
-use Rattle.bist_text.specs.Keywords.{Word}
-use Rattle.bist_text.specs.inner.Keywords.{are_apart, all_words}
-use Rattle.bist_text.specs.inner.Machine.{IsExact}
+use Rattle.bist_text.proofs.keyed.Common.{Bool, Class, IsExact, IsOf, IsPlain, LineOf, List, None, Option, Read, Some, Word, [], all_words, and_parts, ap, apart, are_apart, arith, by_byte, comment, digits_value, ends_with, eqb-true, false, fits_of, gap, gap_of, in_identifier, inl, inr, is_blank, is_digit, is_hash, is_identifier, is_word, keyed_of, length, line_of, many_none, nat_lt, no_tail, number_of, of_blank, one_of, onward, outcome, plain_blank, refl, remark_of, slice_get, space, stands_all, stuck, subst, suc, sym, tail, took, true, when_false, when_holds, when_true, word, word_of, ℕ, ◌==◌, ◌↔◌, ◌∙◌, ◌∷◌, ◌≡◌, ◌⊎◌}
 use Rattle.bist_text.specs.inner.LineGrammar.{is_small}
-use Rattle.bist_text.specs.LineGrammar.{space, gap, comment, tail}
-use Rattle.bist_text.proofs.KeywordLaws.{IsOf, stands_all}
-use Rattle.bist_text.proofs.LinePieces.{when_true, when_holds, when_false, apart, of_blank}
-use Rattle.bist_text.proofs.LineStops.{IsPlain, plain_blank, no_tail}
-use Rattle.bist_text.proofs.Pieces.{many_none}
 use Rattle.bist_text.proofs.RunPieces.{many_map, gap_map, gap_pull, word_map, word_pull}
-use Rattle.bist_text.specs.keyed.Reading.{Read, took, stuck, onward, outcome}
-use Rattle.std.specs.Str.Parse.{digits_value}
-use Rattle.bist_text.specs.Identifiers.{is_digit}
-use Rattle.bist_text.specs.keyed.Parts.{gap_of, Class, is_word, word_of, number_of, fits_of, by_byte, remark_of, ends_with, is_hash}
-use Rattle.bist_text.specs.keyed.Lines.{keyed_of, line_of}
-use Rattle.bist_text.specs.declared.keyed_lines.Class.TheVariants.{Number}
+use Rattle.bist_text.proofs.keyed.Classes.{name_is}
+use Rattle.bist_text.specs.declared.keyed_lines.Class.TheVariants.{Number, Name as NameWord}
 use Rattle.bist_text.proofs.keyed.Told.{Never, AtEnd, Told, told_iff, told_exact}
 use Rattle.bist_text.proofs.keyed.PartLaws.{Hears, fewer, Shuns, Space, space_told, Gap, gap_told, Byte, Ends, ends_told, Remark, remark_told, Words, Begun, word_told, Either, either_told, Keys, key_told}
 
@@ -108,6 +93,27 @@ module _ {K C : Type 0} (kind_of : C → K) (is_formed : C → Bool) (argument :
     pub begun : Begun fits
     pub within : (n c : ℕ) → fits (suc n) c ≡ true → p c ≡ true
     pub plain : IsPlain p
+
+  -- such a kind, where the words are those that pass a test
+  pub tested_word : (key : K) (made : List ℕ → C) (fits : Class) (p : ℕ → Bool) (test : List ℕ → Bool) → ((w : List ℕ) → (is_word fits w ≡ true) ↔ (test w ≡ true)) → ((w : List ℕ) → kind_of (made w) ≡ key)
+      → ((w : List ℕ) → is_formed (made w) ≡ test w) → ((w x : List ℕ) → argument (made w) x ↔ word w tail x) → ((c : C) → kind_of c ≡ key → (w : List ℕ) × (c ≡ made w)) → Begun fits
+      → ((n c : ℕ) → fits (suc n) c ≡ true → p c ≡ true) → IsPlain p → OneWord key made fits p
+  tested_word key made fits p test same kind formed there only begun within plain = record {
+    kind = kind;
+    formed = λ w h. formed w ∙ (same w).0 h;
+    into = λ w x h t. (there w x).1 t;
+    out = λ c x e f h. (let o = only c e in (o.0, (same o.0).1 (sym (formed o.0) ∙ ap is_formed (sym o.1) ∙ f), o.1, (there o.0 x).0 (subst (λ c. argument c x) o.1 h)));
+    begun = begun;
+    within = within;
+    plain = plain;
+  }
+
+  -- such a kind whose word is an identifier
+  pub name_word : (key : K) (made : List ℕ → C) → ((w : List ℕ) → kind_of (made w) ≡ key) → ((w : List ℕ) → is_formed (made w) ≡ is_identifier w) → ((w x : List ℕ) → argument (made w) x ↔ word w tail x)
+      → ((c : C) → kind_of c ≡ key → (w : List ℕ) × (c ≡ made w)) → OneWord key made (fits_of NameWord) in_identifier
+  name_word key made kind formed there only =
+      tested_word key made (fits_of NameWord) in_identifier is_identifier (λ w. (λ h. sym (name_is w) ∙ h, λ h. name_is w ∙ h)) kind formed there only
+      (record { first = 97; fitting = refl; small = refl }) (λ n c h. h) (record { space_no = refl; tab_no = refl; return_no = refl; hash_no = refl })
 
   pub one_word : (n : ℕ) (key : K) (made : List ℕ → C) (fits : Class) (p : ℕ → Bool) → OneWord key made fits p
       → Hears (suc n) (Arg key) (λ b. onward (word_of fits b) (λ w x. ends_with (Some (made w)) x))
@@ -234,6 +240,18 @@ module _ {K C : Type 0} (kind_of : C → K) (is_formed : C → Bool) (argument :
         (key_told n words_of t.fine (record { text = key_text t.first; value = t.first }) t.begins (λ k. Gap (Arg k)) (λ k x. onward (gap_of x) (λ _ x. argument_of k x))
         (λ k. fewer n (suc n) (Gap (Arg k)) (λ x. onward (gap_of x) (λ _ x. argument_of k x)) (omega arith) (gap_told n (Arg k) (argument_of k) (t.shuns k) (t.told k)))))) b l)
 
-    -- The reader of a line is exact.
-    pub line_exact : (b : List ℕ) (argument_of : K → List ℕ → Read (Option C)) → IsTable (length b) argument_of → IsExact Line b (outcome b (line_of words_of argument_of b))
-    line_exact b argument_of t = told_exact Line b (line_of words_of argument_of b) (line_told (length b) argument_of t b (omega arith))
+    -- The reader of a line is exact, where the kinds of the table are those that may stand.
+    pub line_exact : {V : Type 0} (stands : Option V → C → Bool) (given : Option V) → ((c : C) → IsOf keys (kind_of c) ↔ (stands given c ≡ true)) → (b : List ℕ) (argument_of : K → List ℕ → Read (Option C))
+        → IsTable (length b) argument_of
+        → IsExact (LineOf (λ b c. (is_formed c ≡ true) × space (word (key_text (kind_of c)) (gap (argument c))) b) stands given) b (outcome b (line_of words_of argument_of b))
+    line_exact stands given of b argument_of t =
+        told_exact (LineOf text stands given) b (line_of words_of argument_of b) (told_iff Line (LineOf text stands given) b (line_of words_of argument_of b) is (line_told (length b) argument_of t b (omega arith)))
+      where
+        text : List ℕ → C → Type 0
+        text b c = (is_formed c ≡ true) × space (word (key_text (kind_of c)) (gap (argument c))) b
+
+        is : (x : List ℕ) (v : Option C) → Line x v ↔ LineOf text stands given x v
+        is x v = (
+          λ h. elim h [ inl a ↦ inl a | inr a ↦ (let s = a.0 in inr (s.content, (of s.content).0 s.stands, s.says, (s.formed, a.1))) ],
+          λ h. elim h [ inl a ↦ inl a | inr a ↦ inr (record { content = a.0; stands = (of a.0).1 a.1; formed = a.3.0; says = a.2 }, a.3.1) ],
+        )

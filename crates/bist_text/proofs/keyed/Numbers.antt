@@ -1,17 +1,9 @@
 -- What the words that are taken write.
-use Rattle.std.proofs.Common.{◌≡◌, ℕ, true, if◌then◌else◌, List, [], ◌∷◌, Option, Some, None, SomeIff, unwrap_or, refl, subst, ◌∙◌, ◌<◌, arith}
-use Rattle.std.proofs.lemmas.Bool.{and_from, and_parts}
+use Rattle.bist_text.proofs.keyed.Common.{AllDigits, Class, List, None, Option, Some, SomeIff, [], all_fit, and_from, and_parts, arith, at_bool, behind_of, digits_value, front_of, if◌then◌else◌, is_digit, is_hex_digit, is_run, is_word, later, list_all, refl, run_parts, stuck, subst, took, true, unwrap_or, up_to, word_of, ℕ, ◌<◌, ◌∙◌, ◌∷◌, ◌≡◌}
 use Rattle.std.proofs.lemmas.Bool.Decides.{nat_tests}
-use Rattle.std.specs.List.{list_all}
-use Rattle.std.specs.Str.Parse.{AllDigits, digits_value}
 use Rattle.std.specs.Char.{digit_value}
 use Rattle.bist_text.specs.Numbers.{IsNumber}
-use Rattle.bist_text.proofs.LinePieces.{at_bool}
-use Rattle.bist_text.proofs.LineStops.{is_run, run_parts}
-use Rattle.bist_text.specs.keyed.Reading.{took, stuck}
-use Rattle.bist_text.specs.keyed.Parts.{Class, later, all_fit, is_word, is_hex_digit, up_to, front_of, behind_of, word_of}
 use Rattle.bist_text.proofs.keyed.Classes.{run_is}
-use Rattle.bist_text.specs.Identifiers.{is_digit}
 
 front_fits : (fits : Class) (b : List ℕ) → all_fit fits (front_of fits b) ≡ true
 front_fits fits [] = refl

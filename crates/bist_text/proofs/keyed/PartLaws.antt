@@ -1,21 +1,10 @@
 -- The readers of the parts of a line are right byte by byte, where what reads on behind them is.
-use Rattle.std.proofs.Common.{◌≡◌, ◌⊎◌, ℕ, suc, ◌≤◌, ◌==◌, Bool, true, false, if◌then◌else◌, List, [], ◌∷◌, ◌++◌, length, Option, Some, None, refl, ◌↔◌, inl, inr, sym, ap, subst, ◌∙◌, arith, zero-le}
-use Rattle.std.proofs.lemmas.Bool.{eqb-true, eq-eqb, and_parts, and_from}
-use Rattle.std.specs.Prelude.{slice_get, nat_lt}
+use Rattle.bist_text.proofs.keyed.Common.{Bool, Class, Continues, Holds, List, None, Option, Read, Some, Word, [], all_fit, and_from, and_parts, ap, are_apart, are_bytes, arith, at_bool, back, behind_of, by_byte, by_letter, byte, byte_of, comment, comment_of, end_of, eq-eqb, eqb-true, false, front_of, gap, gap_of, gap_off, gap_on, if◌then◌else◌, inl, inr, is_blank, is_word, key_from, key_of, later, left, length, letters_of, many_none, nat_lt, no_letters, onward, refl, same, slice_get, space, space_off, space_on, spaced, spell, spell_alive, spell_ends, spell_law, stands, stuck, subst, suc, sym, tail, tail_blank, tail_other, took, true, when_false, when_holds, when_true, word, word_of, zero-le, ℕ, ◌++◌, ◌==◌, ◌↔◌, ◌∙◌, ◌∷◌, ◌≡◌, ◌≤◌, ◌⊎◌}
 use Rattle.bist_text.specs.declared.keywords.Letters.{Letters}
 use Rattle.bist_text.specs.declared.keywords.Spelled.{Spelled}
 use Rattle.bist_text.specs.declared.keywords.Spelled.TheVariants.{More, Whole}
-use Rattle.bist_text.specs.Grammar.{Continues, are_bytes, is_blank, byte, word}
-use Rattle.bist_text.specs.Keywords.{Word, letters_of, front_of as letters_in, spell}
-use Rattle.bist_text.specs.inner.Keywords.{stands, left, are_apart}
-use Rattle.bist_text.specs.LineGrammar.{space, gap, comment, tail}
-use Rattle.bist_text.specs.Machine.{Holds}
+use Rattle.bist_text.specs.Keywords.{front_of as letters_in}
 use Rattle.bist_text.proofs.Bytes.{are_bytes-append}
-use Rattle.bist_text.proofs.KeywordLaws.{spell_law, spell_ends, spell_alive}
-use Rattle.bist_text.proofs.LinePieces.{at_bool, when_true, when_false, when_holds, space_on, space_off, gap_on, gap_off, tail_blank, tail_other}
-use Rattle.bist_text.proofs.Pieces.{back, same, many_none}
-use Rattle.bist_text.specs.keyed.Reading.{Read, took, stuck, onward}
-use Rattle.bist_text.specs.keyed.Parts.{spaced, gap_of, byte_of, comment_of, end_of, Class, later, all_fit, is_word, front_of, behind_of, word_of, by_letter, key_from, no_letters, key_of, by_byte}
 use Rattle.bist_text.proofs.keyed.Told.{Behind, Never, AtEnd, Told, told_alive, told_iff, told_from, end_iff}
 
 -- a reader is right of each text of at most n bytes

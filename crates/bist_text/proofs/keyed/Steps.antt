@@ -1,9 +1,5 @@
 -- Steps of the loops over what is left of a line.
-use Rattle.std.proofs.Common.{◌≡◌, ℕ, suc, ◌+◌, ◌-◌, ◌<◌, ◌≤◌, Bool, true, false, if◌then◌else◌, List, [], ◌∷◌, length, take, drop, refl, sym, ap, subst, ◌∙◌, arith, take_all, drop-cons, length-drop}
-use Rattle.std.specs.Prelude.{get_or}
-use Rattle.bist_text.specs.Grammar.{is_blank}
-use Rattle.bist_text.specs.keyed.Reading.{took, stuck}
-use Rattle.bist_text.specs.keyed.Parts.{spaced, gap_of, Class, later, front_of, behind_of, word_of, length_of}
+use Rattle.bist_text.proofs.keyed.Common.{Bool, Class, List, [], ap, arith, behind_of, drop, drop-cons, false, front_of, gap_of, get_or, if◌then◌else◌, is_blank, later, length, length-drop, length_of, refl, spaced, stuck, subst, suc, sym, take, take_all, took, true, word_of, ℕ, ◌+◌, ◌-◌, ◌<◌, ◌∙◌, ◌∷◌, ◌≡◌, ◌≤◌}
 
 at_head : (b : List ℕ) (i : ℕ) → i < length b → drop i b ≡ get_or b i 0 ∷ drop (i + 1) b
 at_head b i l = (let e : suc i ≡ i + 1 = omega arith in drop-cons b i 0 l ∙ ap (λ (k : ℕ). get_or b i 0 ∷ drop k b) e)

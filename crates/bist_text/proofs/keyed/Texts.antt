@@ -1,13 +1,6 @@
 -- The lines of a text are refused as the grammar says, and say what the grammar says, whatever the table of their lines is.
-use Rattle.std.proofs.Common.{◌≡◌, ◌⊎◌, ◌∙◌, ℕ, Bool, true, false, if◌then◌else◌, List, [], ◌∷◌, ◌++◌, length, Option, Some, None, Result, Ok, Err, refl, inl, inr, sym, ap, subst}
+use Rattle.bist_text.proofs.keyed.Common.{AreRefused, Bool, Err, IsExact, IsLineFault, LineOf, List, MatchResult, None, Ok, Option, Outcome, Result, Say, Some, Statement, TextLine, [], all_stated, answer, ap, carried, false, if◌then◌else◌, inl, inr, known, length, option_map, read, refl, said_in, stated, step, subst, sym, true, truncated, unexpected, versions, walk, ℕ, ◌++◌, ◌∙◌, ◌∷◌, ◌≡◌, ◌⊎◌}
 use Rattle.std.proofs.Math.Path.{ap₂}
-use Rattle.std.specs.Prelude.{MatchResult, option_map}
-use Rattle.bist_text.specs.KeyedTexts.{LineOf, known, IsLineFault, Say, AreRefused}
-use Rattle.bist_text.specs.Lines.{TextLine}
-use Rattle.bist_text.specs.Machine.{Outcome, read, unexpected, truncated}
-use Rattle.bist_text.specs.inner.Machine.{IsExact}
-use Rattle.bist_text.specs.keyed.Lines.{answer}
-use Rattle.bist_text.specs.keyed.Texts.{step, carried, walk, versions, said_in, all_stated}
 use Rattle.bist_text.proofs.keyed.Checks.{some_same}
 use Rattle.bist_text.specs.declared.keyed_lines.LineFault.{LineFault}
 use Rattle.bist_text.specs.declared.keyed_lines.TextFault.{TextFault}
@@ -95,15 +88,15 @@ module _ {C V : Type 0} (text : List ℕ → C → Type 0) (stands : Option V �
 
   -- ---- statements, where one version has all lines
 
-  module _ {S : Type 0} (stated : ℕ → Option C → List S) (widest : V) (wide : (v : Option V) (c : C) → stands v c ≡ true → stands (Some widest) c ≡ true) where
+  module _ (widest : V) (wide : (v : Option V) (c : C) → stands v c ≡ true → stands (Some widest) c ≡ true) where
     abbrev said : List ℕ → Option C
     said b = said_in (heard (Some widest) b)
 
-    abbrev statements : List TextLine → List S
-    statements = all_stated stated said
+    abbrev statements : List TextLine → List (Statement C)
+    statements = all_stated said
 
-    abbrev Says : List TextLine → Option V → List S → Type 0
-    Says = Say text stands version_in stated
+    abbrev Says : List TextLine → Option V → List (Statement C) → Type 0
+    Says = Say text stands version_in
 
     pub says : (v : Option V) (b : List ℕ) (k : Option C) → Line v b k → said b ≡ k
     says v b k h = ap said_in (((exact (Some widest) b).reads k).1 (elim h [ inl a ↦ inl a | inr a ↦ inr (a.0, wide v a.0 a.1, a.2, a.3) ]))
@@ -120,13 +113,13 @@ module _ {C V : Type 0} (text : List ℕ → C → Type 0) (stands : Option V �
         go (unexpected i) h = let n : said b ≡ None = ap said_in h in let z : ⊥ = cc in absurd z
         go truncated h = let n : said b ≡ None = ap said_in h in let z : ⊥ = cc in absurd z
 
-    pub say_heard : (ls : List TextLine) (given : Option V) (ss : List S) → Says ls given ss → (walk reader ls given ≡ None) × (statements ls ≡ ss)
+    pub say_heard : (ls : List TextLine) (given : Option V) (ss : List (Statement C)) → Says ls given ss → (walk reader ls given ≡ None) × (statements ls ≡ ss)
     say_heard [] None ss h = absurd h
     say_heard [] (Some v) ss h = (refl, sym h)
     say_heard (l ∷ ls) given ss h =
         let q = go (known version_in given h.0) h.3 (λ next. say_heard ls next h.1) in (
           ap (λ r. carried r (λ next. walk reader ls next)) (line_known given l h.0 h.2) ∙ q.0,
-          ap₂ (λ (k : Option C) (more : List S). stated l.number k ++ more) (says given l.text h.0 h.2) q.1 ∙ sym h.4,
+          ap₂ (λ (k : Option C) (more : List (Statement C)). stated l.number k ++ more) (says given l.text h.0 h.2) q.1 ∙ sym h.4,
         )
       where
         go : (r : Result (Option V) TextFault) → MatchResult r (λ next. Says ls next h.1) (λ fault. ⊥) → ((next : Option V) → Says ls next h.1 → (walk reader ls next ≡ None) × (statements ls ≡ h.1))

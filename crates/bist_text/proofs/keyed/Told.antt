@@ -1,10 +1,6 @@
 -- What a reader answers is right, byte by byte; from that: exact, as its grammar says.
-use Rattle.std.proofs.Common.{◌≡◌, ◌⊎◌, ℕ, zero, suc, ◌+◌, ◌-◌, ◌<◌, ◌≤◌, List, [], ◌∷◌, ◌++◌, length, take, drop, refl, ◌↔◌, inl, inr, sym, ap, subst, ◌∙◌, arith, append_assoc, take_all, take-take}
-use Rattle.bist_text.specs.Grammar.{Continues}
-use Rattle.bist_text.specs.Machine.{Outcome, read, unexpected, truncated}
-use Rattle.bist_text.specs.inner.Machine.{Answers, IsExact}
+use Rattle.bist_text.proofs.keyed.Common.{Answers, Continues, IsExact, List, Outcome, Read, [], ap, append_assoc, arith, drop, inl, inr, length, outcome, read, refl, stuck, subst, suc, sym, take, take-take, take_all, took, truncated, unexpected, zero, ℕ, ◌++◌, ◌+◌, ◌-◌, ◌<◌, ◌↔◌, ◌∙◌, ◌∷◌, ◌≡◌, ◌≤◌, ◌⊎◌}
 use Rattle.bist_text.proofs.Settled.{split_at}
-use Rattle.bist_text.specs.keyed.Reading.{Read, took, stuck, outcome}
 
 -- ---- byte by byte
 

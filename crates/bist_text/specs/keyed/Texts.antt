@@ -1,6 +1,6 @@
 -- Public. For proofs and contracts between these crates: the refusal of a text's lines, as a function of what a reader makes of each.
 use Rattle.std.specs.Prelude.{ℕ, if◌then◌else◌, List, [], ◌∷◌, ◌++◌, length, Option, Some, None, Result, Ok, Err, option_map}
-use Rattle.bist_text.specs.KeyedTexts.{known}
+use Rattle.bist_text.specs.KeyedTexts.{known, Statement, stated}
 use Rattle.bist_text.specs.Lines.{TextLine}
 use Rattle.bist_text.specs.Machine.{Outcome, read}
 use Rattle.bist_text.specs.declared.keyed_lines.LineFault.{LineFault}
@@ -34,9 +34,9 @@ abbrev pub said_in : {C : Type 0} → Outcome (Option C) → Option C
 said_in (read k) = k
 said_in other = None
 
-abbrev pub all_stated : {C S : Type 0} → (ℕ → Option C → List S) → (List ℕ → Option C) → List TextLine → List S
-all_stated stated said [] = []
-all_stated stated said (l ∷ ls) = stated l.number (said l.text) ++ all_stated stated said ls
+abbrev pub all_stated : {C : Type 0} → (List ℕ → Option C) → List TextLine → List (Statement C)
+all_stated said [] = []
+all_stated said (l ∷ ls) = stated l.number (said l.text) ++ all_stated said ls
 
 -- a check: the refusal, where there is one
 abbrev pub checked : {F : Type 0} → Option F → Result (Unit {0}) F

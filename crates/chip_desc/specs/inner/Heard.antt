@@ -12,7 +12,7 @@ use Rattle.bist_text.specs.declared.keyed_lines.TextFault.{TextFault}
 use Rattle.bist_text.specs.declared.keyed_lines.Class.TheVariants.{Name as NameWord, File}
 use Rattle.bist_text.specs.declared.keyed_lines.LineFault.{LineFault}
 use Rattle.chip_desc.specs.Chips.{ChipDescription, UnitDescription}
-use Rattle.chip_desc.specs.ChipLines.{Content, version, name, budget, unit, key_text, Statement, stated, version_in}
+use Rattle.chip_desc.specs.ChipLines.{Content, version, name, budget, unit, key_text, Statement, version_in}
 use Rattle.chip_desc.specs.ChipTable.{refusal, described, of_lines}
 use Rattle.chip_desc.specs.declared.content.Content.{Content as ReadContent}
 use Rattle.chip_desc.specs.declared.content.Content.TheVariants as C
@@ -53,7 +53,7 @@ abbrev pub said : List ℕ → Option Content
 said b = said_in (heard (Some One) b)
 
 abbrev pub statements : List TextLine → List Statement
-statements ls = all_stated stated said ls
+statements ls = all_stated said ls
 
 -- the version that a line gives, where it has content
 abbrev pub version_at : Option Version → List ℕ → Result (Option (Option Version)) LineFault

@@ -12,7 +12,7 @@ use Rattle.bist_text.specs.keyed.Texts.{said_in, all_stated, versions}
 use Rattle.bist_text.specs.declared.keyed_lines.LineFault.{LineFault}
 use Rattle.bist_text.specs.declared.keyed_lines.Class.TheVariants.{Number, Word as HexWord, Name as NameWord}
 use Rattle.memory_desc.specs.LineText.{Term, index_bit, constant, Content, version, name, words, bits, latency, polarity, pause, scramble, log, backgrounds, is_hex, key_text}
-use Rattle.memory_desc.specs.Statements.{Statement, stated, version_in}
+use Rattle.memory_desc.specs.Statements.{Statement, version_in}
 use Rattle.memory_desc.specs.declared.content.Key.{Key}
 use Rattle.memory_desc.specs.declared.content.Key.TheVariants.{Memory, Name, Words, Bits, Latency, Polarity, Pause, Scramble, Backgrounds}
 use Rattle.memory_desc.specs.declared.content.Version.{Version}
@@ -106,7 +106,7 @@ abbrev pub said : List ℕ → Option Content
 said b = said_in (heard (Some Two) b)
 
 abbrev pub statements : List TextLine → List Statement
-statements ls = all_stated stated said ls
+statements ls = all_stated said ls
 
 -- the version that a line gives, where it has content
 abbrev pub version_at : Option Version → List ℕ → Result (Option (Option Version)) LineFault

@@ -1,7 +1,9 @@
 -- Inner. What the code has of a line's content, as a value.
-use Rattle.std.specs.Prelude.{◌≡◌, ℕ, ◌+◌, ◌%◌, ◌^◌, ◌==◌, true, false, not, if◌then◌else◌, nat_lt, List, [], ◌∷◌, ◌++◌, length, Option, Some, None, Result, Ok, Err, bit_or, bit_xor, max, option_map}
+use Rattle.std.specs.Prelude.{◌≡◌, ℕ, ◌+◌, ◌%◌, ◌^◌, ◌==◌, true, false, not, if◌then◌else◌, nat_lt, List, [], ◌∷◌, ◌++◌, length, Option, Some, Result, Ok, Err, bit_or, bit_xor, max, option_map}
 use Rattle.std.specs.Str.Parse.{digits_value}
+use Rattle.bist_text.specs.KeyedTexts.{Statement as TextStatement}
 use Rattle.bist_text.specs.Lines.{TextLine}
+use Rattle.bist_text.specs.keyed.Texts.{all_stated}
 use Rattle.bist_text.specs.keyed.Parts.{gathered}
 use Rattle.bist_text.specs.keyed.Reading.{Read, took}
 use Rattle.bist_text.specs.declared.keyed_lines.LineFault.{LineFault}
@@ -126,17 +128,11 @@ subject_of (listed ws) = S.Backgrounds
 
 -- ---- statements
 
-pub record SeenStatement : Type 0 where
-  pub line : ℕ
-  pub content : Seen
+abbrev pub SeenStatement : Type 0
+SeenStatement = TextStatement Seen
 
 abbrev pub plain_statement : ReadStatement → SeenStatement
 plain_statement s = record { line = s.line; content = plain_content s.content }
 
-abbrev pub seen_stated : ℕ → Option Seen → List SeenStatement
-seen_stated number None = []
-seen_stated number (Some c) = (record { line = number; content = c }) ∷ []
-
 abbrev pub seen_statements : List TextLine → List SeenStatement
-seen_statements [] = []
-seen_statements (l ∷ ls) = seen_stated l.number (option_map seen (said l.text)) ++ seen_statements ls
+seen_statements ls = all_stated (λ b. option_map seen (said b)) ls

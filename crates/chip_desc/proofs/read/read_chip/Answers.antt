@@ -1,7 +1,7 @@
 use Rattle.chip_desc.proofs.Common.{Err, None, ap, by_lines, passed, reading, statements, stopped, sym, text_lines, version_at, walk, ◌∙◌, ◌≡◌}
 use Rattle.chip_desc.proofs.OneText.{reads_ok, reads_refused}
-use Rattle.chip_desc.proofs.read.read_chip.Goals as goal
 use Rattle.chip_desc.proofs.read.read_chip.Goals.{After-described, After-of_lines}
+use Rattle.chip_desc.proofs.read.read_chip.Goals as goal
 
 described : (c : After-described) → c.described.result ≡ reading c.args.bytes.now
 described c =

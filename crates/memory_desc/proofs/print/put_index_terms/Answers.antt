@@ -1,7 +1,7 @@
 use Rattle.memory_desc.proofs.Common.{Global, Vec, ap, ℕ, ◌∙◌}
 use Rattle.memory_desc.proofs.Terms.{taken_written, taken_some, left_written, left_none}
-use Rattle.memory_desc.proofs.print.put_index_terms.Goals as goal
 use Rattle.memory_desc.proofs.print.put_index_terms.Goals.{then-names-j-eq1+in_ok-put_index_term, else-names-j-eq1}
+use Rattle.memory_desc.proofs.print.put_index_terms.Goals as goal
 
 pub loop-j-preserved : goal.loop-j-preserved
 loop-j-preserved c =

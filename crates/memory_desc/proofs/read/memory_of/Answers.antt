@@ -1,7 +1,6 @@
-use Rattle.memory_desc.proofs.Common.{IsWidthOf, ap, arith, err_from_is_err_and, identity, subst, sym, text_lines, ℕ, ◌-◌, ◌∙◌}
+use Rattle.memory_desc.proofs.Common.{IsWidthOf, ap, arith, err_from_is_err_and, identity, passed, subst, sym, text_lines, ℕ, ◌-◌, ◌∙◌}
 use Rattle.memory_desc.specs.inner.Heard.{statements}
 use Rattle.memory_desc.proofs.Built.{backgrounds_refused, is_memory, power_refused, ranges_passed, scrambling_refused, width_refused}
-use Rattle.memory_desc.proofs.Checks.{passed}
 use Rattle.memory_desc.proofs.Parts.{width_small}
 use Rattle.memory_desc.proofs.read.memory_of.Goals as goal
 

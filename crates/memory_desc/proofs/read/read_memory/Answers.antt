@@ -1,8 +1,7 @@
-use Rattle.memory_desc.proofs.Common.{Err, None, ap, inl, inr, text_lines, version_at, walk}
-use Rattle.memory_desc.proofs.Checks.{passed, stopped}
+use Rattle.memory_desc.proofs.Common.{Err, None, ap, inl, inr, passed, stopped, text_lines, version_at, walk}
 use Rattle.memory_desc.proofs.OneOutcome.{Hears, reading}
-use Rattle.memory_desc.proofs.read.read_memory.Goals as goal
 use Rattle.memory_desc.proofs.read.read_memory.Goals.{After-described, After-of_lines}
+use Rattle.memory_desc.proofs.read.read_memory.Goals as goal
 
 described : (c : After-described) → Hears c.args.bytes.now c.described.result
 described c = inr (passed (walk version_at (text_lines c.args.bytes.now) None) c.in-Ok.ensures, c.described.ensures)

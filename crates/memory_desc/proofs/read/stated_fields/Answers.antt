@@ -1,8 +1,7 @@
-use Rattle.memory_desc.proofs.Common.{arith, missing, out_of_range, refl, repeated, text_lines, ◌∙◌}
+use Rattle.memory_desc.proofs.Common.{arith, missing, next, out_of_range, passed, refl, repeated, text_lines, ◌∙◌}
 use Rattle.memory_desc.specs.inner.Heard.{statements}
 use Rattle.memory_desc.specs.declared.content.Subject.TheVariants.{Name, Words, Bits}
 use Rattle.memory_desc.specs.declared.fault.Field.TheVariants.{Name as NameField, Words as WordsField, Bits as BitsField}
-use Rattle.memory_desc.proofs.Checks.{next, passed}
 use Rattle.memory_desc.proofs.Fields.{name_given, not_missing, number_given}
 use Rattle.memory_desc.proofs.read.stated_fields.Goals as goal
 
