@@ -32,18 +32,14 @@ uses_clear x m h u = low_clear (clear m) (under_uses taint 1 m x h u)
 -- each clear name is assigned what uses clear names alone
 abbrev Pure : List ModuleItem → Type 0
 Pure [] = Unit {0}
-Pure (WireItem n k ∷ is) = Pure is
-Pure (RegItem n k ∷ is) = Pure is
 Pure (AssignItem n x ∷ is) = (clear n ≡ true → Under taint 1 x) × Pure is
-Pure (AlwaysItem c ss ∷ is) = Pure is
+Pure (other ∷ is) = Pure is
 
 pure_clear : (is : List ModuleItem) → Pure is → AreClear clear is
 pure_clear [] h n m l c = absurd l
-pure_clear (WireItem k v ∷ is) h n m l c = pure_clear is h n m l c
-pure_clear (RegItem k v ∷ is) h n m l c = pure_clear is h n m l c
 pure_clear (AssignItem k x ∷ is) h n m l c =
     elim l [ inl v ↦ uses_clear x m (h.0 (subst (λ (j : List ℕ). clear j ≡ true) v.0 c)) v.1 | inr v ↦ pure_clear is h.1 n m v c ]
-pure_clear (AlwaysItem k v ∷ is) h n m l c = pure_clear is h n m l c
+pure_clear (other ∷ is) h n m l c = pure_clear is h n m l c
 
 one_pure : (wide : Bool) (rest : List ModuleItem) → Pure rest → Pure (L.one_reg wide ++ rest)
 one_pure true rest h = h

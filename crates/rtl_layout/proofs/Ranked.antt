@@ -6,7 +6,7 @@ use Rattle.std.proofs.lemmas.List.{length-drop}
 use Rattle.std.proofs.lemmas.Nat.{pow_pos}
 use Rattle.std.specs.Prelude.{slice_index_or}
 use Rattle.std.specs.Str.{bytes_eq}
-use Rattle.verilog_tree.specs.Plain.{Expression, Net, BitSelect, PartSelect, Literal, Concatenation, Prefixed, Infixed, Conditional, Expressions, NoMore, Followed, statements, ModuleItem, WireItem, RegItem, AssignItem, AlwaysItem}
+use Rattle.verilog_tree.specs.Plain.{Expression, Net, BitSelect, PartSelect, Literal, Concatenation, Prefixed, Infixed, Conditional, Expressions, NoMore, Followed, statements, ModuleItem, AssignItem, AlwaysItem}
 use Rattle.verilog_tree.specs.Meaning.{bit}
 use Rattle.verilog_tree.specs.Wires.{Uses, UsesAny, Leads, Falls}
 use Rattle.rtl_layout.specs.Build.{lit, choose, bit_of, leaf, below, pick, rotated, counted, number_of}
@@ -82,17 +82,13 @@ mutual
 -- the rank falls along each assign
 abbrev pub Ranked : (List ℕ → ℕ) → List ModuleItem → Type 0
 Ranked rank [] = Unit {0}
-Ranked rank (WireItem n k ∷ is) = Ranked rank is
-Ranked rank (RegItem n k ∷ is) = Ranked rank is
 Ranked rank (AssignItem n x ∷ is) = Under rank (rank n) x × Ranked rank is
-Ranked rank (AlwaysItem c ss ∷ is) = Ranked rank is
+Ranked rank (other ∷ is) = Ranked rank is
 
 falls : (rank : List ℕ → ℕ) (is : List ModuleItem) → Ranked rank is → (n m : List ℕ) → Leads is n m → rank m < rank n
 falls rank [] h n m l = absurd l
-falls rank (WireItem k v ∷ is) h n m l = falls rank is h n m l
-falls rank (RegItem k v ∷ is) h n m l = falls rank is h n m l
 falls rank (AssignItem k x ∷ is) h n m l = elim l [ inl v ↦ rw v.0 (under_uses rank (rank k) m x h.0 v.1) | inr v ↦ falls rank is h.1 n m v ]
-falls rank (AlwaysItem c ss ∷ is) h n m l = falls rank is h n m l
+falls rank (other ∷ is) h n m l = falls rank is h n m l
 
 one_ranked : (rank : List ℕ → ℕ) (wide : Bool) (rest : List ModuleItem) → Ranked rank rest → Ranked rank (L.one_reg wide ++ rest)
 one_ranked rank true rest h = h

@@ -4,7 +4,8 @@ use Rattle.std.proofs.lemmas.Bool.{le-leb, lt-ltb, and_from, leb-true, ltb-true,
 use Rattle.std.proofs.lemmas.Bool.Decides.{Decides-eqb}
 use Rattle.std.proofs.lemmas.List.{length-append}
 use Rattle.std.proofs.lemmas.Slice.Eq.{starts_is}
-use Rattle.std.specs.List.{starts_with}
+use Rattle.std.specs.List.{starts_with, list_all}
+use Rattle.bist_text.specs.Identifiers.{in_identifier}
 use Rattle.bist_text.specs.Lexed.{Both}
 use Rattle.bist_text.specs.Machine.{Holds}
 use Rattle.verilog_tree.specs.Formed.{is_width, is_literal}
@@ -17,11 +18,12 @@ use Rattle.verilog_text.specs.Answering.{Move, Stops, while_live, within, read_o
 use Rattle.verilog_text.specs.inner.Answering.{read_within}
 use Rattle.verilog_read.specs.inner.Told.{Scanned}
 use Rattle.verilog_text.specs.inner.Expected.{Numbers, AllNumbers, ZeroAlone, NoNumber, numbers, taken_as}
-use Rattle.verilog_text.specs.Expected.{else_behind, words_behind, with_else, place_words, words, takes_names, taken, takes_literals, some_begins, live, most_of, name_fits, number_fits}
+use Rattle.verilog_text.specs.Expected.{words, takes_names, taken, takes_literals, some_begins, live, most_of, name_fits, number_fits}
 use Rattle.verilog_read.specs.inner.Lexemes.{lexer_of, tokens_of, Fits, IsLong, IsLarge, IsWrong, IsSize, Scans}
 use Rattle.verilog_text.specs.Lexing.{Lexer, InWord, InNumber, Quoted, Lettered, InDigits, Whole, lex}
-use Rattle.verilog_text.specs.Places.{Around, InAlways, InBlock, InThen, InElse, InArm, InDefault, WantStmt, DefaultRead, Block, HaveStmt, ItemPlace, Begin, WantPort, InputRead, OutputRead, WantItem, ClockOpen, State, AtExpr, AtStmt, AtItem}
+use Rattle.verilog_text.specs.Places.{State}
 use Rattle.verilog_text.proofs.Expectations.{number_taken}
+use Rattle.verilog_text.proofs.Extends.{all_words, words_are}
 
 size_is : (n : ℕ) → IsSize n → is_width n ≡ true
 size_is n h = and_from (nat_le 1 n) (nat_le n 64) (le-leb 1 n h.0) (le-leb n 64 h.1)
@@ -80,54 +82,21 @@ wrong_numbers most (Quoted n) h = fails (is_width n) (λ e. h (width_size n e))
 wrong_numbers most (InDigits n base v) h = fails (is_literal (record { width = n; value = v })) (λ e. let p = and_parts (is_width n) (nat_lt v (2 ^ n)) e in let q = width_size n p.0 in h (record { positive = q.0; narrow = q.1; fits = ltb-true v (2 ^ n) p.1 }))
 wrong_numbers most l h = absurd h
 
-abbrev all_short : List (List ℕ) → Bool
-all_short [] = true
-all_short (w ∷ ws) = nat_le (length w) 64 && all_short ws
-
 -- a word of more than 64 bytes begins no reserved word
-long_begins : (w : List ℕ) (ws : List (List ℕ)) → 64 < length w → all_short ws ≡ true → some_begins w ws ≡ false
+long_begins : (w : List ℕ) (ws : List (List ℕ)) → 64 < length w → all_words ws ≡ true → some_begins w ws ≡ false
 long_begins w [] h e = refl
 long_begins w (v ∷ vs) h e =
-    let p = and_parts (nat_le (length v) 64) (all_short vs) e in
+    let p = and_parts (list_all in_identifier v && nat_le (length v) 63) (all_words vs) e in
+    let q = and_parts (list_all in_identifier v) (nat_le (length v) 63) p.0 in
     or_from (starts_with nat_eq v w) (some_begins w vs) (fails (starts_with nat_eq v w) (λ k.
     let whole : v ≡ w ++ drop (length w) v = (starts_is (λ x y. Decides-eqb x y) v w (starts_with nat_eq v w) refl).0 k in
     let same : length v ≡ length w + length (drop (length w) v) = ap length whole ∙ length-append w (drop (length w) v) in
-    let short : length v ≤ 64 = leb-true (length v) 64 p.0 in omega (arith, h, same, short)))
+    let short : length v ≤ 63 = leb-true (length v) 63 q.1 in omega (arith, h, same, short)))
     (long_begins w vs h p.1)
-
-else_short : (b : Bool) (ws : List (List ℕ)) → all_short ws ≡ true → all_short (with_else b ws) ≡ true
-else_short true ws e = e
-else_short false ws e = e
-
-behind_short : (a : Around) → all_short (words_behind a) ≡ true
-behind_short (InThen r c a) = behind_short a
-behind_short (InElse r c s a) = behind_short a
-behind_short (InAlways h c) = refl
-behind_short (InBlock r old a) = refl
-behind_short (InArm r x as' ls a) = refl
-behind_short (InDefault r x as' a) = refl
-
-words_short : (s : State) → all_short (words s) ≡ true
-words_short (AtExpr p) = refl
-words_short (AtStmt (HaveStmt q s a)) = else_short (else_behind a) (words_behind a) (behind_short a)
-words_short (AtStmt (WantStmt q a)) = refl
-words_short (AtStmt (DefaultRead r q x as' a)) = refl
-words_short (AtStmt (Block p r old a)) = refl
-words_short (AtStmt p) = refl
-words_short (AtItem p) = item_short p
-  where
-    item_short : (p : ItemPlace) → all_short (place_words p) ≡ true
-    item_short (Begin y) = refl
-    item_short (WantPort h) = refl
-    item_short (InputRead h) = refl
-    item_short (OutputRead h) = refl
-    item_short (WantItem h) = refl
-    item_short (ClockOpen h) = refl
-    item_short p = refl
 
 -- a long word goes on where names come
 pub long_live : (s : State) (l : Lexer) → IsLong l → live s l ≡ takes_names s
-long_live s (InWord w) h = ap (λ b. takes_names s || b) (long_begins w (words s) h (words_short s)) ∙ or_false (takes_names s)
+long_live s (InWord w) h = ap (λ b. takes_names s || b) (long_begins w (words s) h (words_are s)) ∙ or_false (takes_names s)
   where
     or_false : (b : Bool) → (b || false) ≡ b
     or_false true = refl

@@ -56,7 +56,7 @@ word_lexing (c ∷ u) w h =
     ∙ ap (λ x. Some (Identifier x ∷ [], InGap Between)) (append_assoc w (c ∷ []) u)
 
 -- words of the lists are identifiers, of at most 63 bytes
-abbrev all_words : List (List ℕ) → Bool
+abbrev pub all_words : List (List ℕ) → Bool
 all_words [] = true
 all_words (w ∷ ws) = (list_all in_identifier w && nat_le (length w) 63) && all_words ws
 
@@ -72,7 +72,7 @@ behind_words (InBlock r old a) = refl
 behind_words (InArm r x as' ls a) = refl
 behind_words (InDefault r x as' a) = refl
 
-words_are : (s : State) → all_words (words s) ≡ true
+pub words_are : (s : State) → all_words (words s) ≡ true
 words_are (AtExpr p) = refl
 words_are (AtStmt (HaveStmt q s a)) = else_words (else_behind a) (words_behind a) (behind_words a)
 words_are (AtStmt (WantStmt q a)) = refl
@@ -83,11 +83,6 @@ words_are (AtItem p) = item_words_are p
   where
     item_words_are : (p : ItemPlace) → all_words (place_words p) ≡ true
     item_words_are (Begin y) = refl
-    item_words_are (WantPort h) = refl
-    item_words_are (InputRead h) = refl
-    item_words_are (OutputRead h) = refl
-    item_words_are (WantItem h) = refl
-    item_words_are (ClockOpen h) = refl
     item_words_are p = refl
 
 all_behind : (w u : List ℕ) → list_all in_identifier (w ++ u) ≡ true → list_all in_identifier u ≡ true
