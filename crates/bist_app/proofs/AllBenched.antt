@@ -30,9 +30,6 @@ box_seen march d tells failed right end =
 
 -- ---- the boxes one after another
 
-pub goes_first : (march : List MarchElement) (d : Description) (boxes : Boxes) → GoesOn march d boxes boxes 0
-goes_first march d boxes later h = (later, h, omega arith)
-
 failing_more : (failing : ℕ) (seen : Option Seen) (later : List (Option Seen)) → failing + failing_of (seen ∷ later) ≡ more_failing failing (is_some seen) + failing_of later
 failing_more failing None later = refl
 failing_more failing (Some s) later = omega arith
@@ -78,12 +75,6 @@ boxes_benched f march d items failing count done (seen, are, fails) counted is =
   done_is = is ∙ ap (λ n. all_done n failing) (counted ∙ sym (length-map items f)) ∙ ap (all_done (length (map f items))) fails;
 }
 
--- as many boxes as there are told ones
-pub some_stay : {B : Type 0} (f : B → Told) (now next : List B) → 0 < length now → map f next ≡ map f now → 0 < length next
-some_stay f now next some same =
-    let count : length next ≡ length now = sym (length-map next f) ∙ ap length same ∙ length-map now f in
-    omega (arith, some, count)
-
 pub all_gone : {B : Type 0} (f : B → Told) (boxes : Boxes) (next : List B) → next ≡ [] → AreGone boxes (map f next)
 all_gone f boxes next none = (length boxes, ap (map f) none ∙ sym (drop_all (length boxes) boxes (omega arith)))
 
@@ -111,14 +102,8 @@ map_drop : {A B : Type 0} (f : A → B) (xs : List A) → map f (drop 1 xs) ≡ 
 map_drop f [] = refl
 map_drop f (x ∷ xs) = refl
 
-pub none_gone : (boxes : Boxes) → AreGone boxes boxes
-none_gone boxes = (0, refl)
-
 pub one_gone : {B : Type 0} (f : B → Told) (boxes : Boxes) (now next : List B) → AreGone boxes (map f now) → next ≡ drop 1 now → AreGone boxes (map f next)
 one_gone f boxes now next (k, is) gone = (suc k, ap (map f) gone ∙ map_drop f now ∙ ap (drop 1) is ∙ drop_more k boxes)
-
-pub still_gone : (boxes now next : Boxes) → AreGone boxes now → next ≡ now → AreGone boxes next
-still_gone boxes now next gone same = subst (AreGone boxes) (sym same) gone
 
 pub one_less : {A : Type 0} (now next : List A) → 0 < length now → next ≡ drop 1 now → length next + 1 ≡ length now
 one_less [] next some gone = absurd (omega (arith, some))

@@ -1,5 +1,5 @@
 -- What a run against the first box leaves.
-use Rattle.bist_app.proofs.Common.{◌≡◌, ◌<◌, ◌*◌, ◌+◌, ◌%◌, ◌/◌, ◌^◌, ◌∙◌, ℕ, zero, suc, false, List, [], ◌∷◌, length, map, replicate, Option, None, Some, is_some, Bool, Result, Ok, Err, IfOk, IfErr, bit_xor, refl, sym, ap, ap₂, subst, arith, MarchElement, Description, Planted, Chip, shape_of, planted_chip, Tells, TellsChip, TellsScript, TellsNothing, Told, pattern, filled_chip, blank, AllRight, IsPlain, PassesAlone, run_word, Seen, IsFirstRead, EndsSelfTest, IsSeenOf, IsWrongRead, SelfTest, ModuleTree, Plan, Refusal, Done, done_of, plain, OrNoMemory, IsOwnRefusal, range_with_len, length-replicate, one-le-pow, mod-eq_of_lt, closed_words, IfOk-weaker}
+use Rattle.bist_app.proofs.Common.{◌≡◌, ◌<◌, ◌*◌, ◌+◌, ◌%◌, ◌/◌, ◌^◌, ◌∙◌, ℕ, zero, suc, false, List, [], ◌∷◌, length, map, replicate, Option, None, Some, is_some, Bool, Result, Ok, Err, IfOk, IfErr, bit_xor, refl, sym, ap, ap₂, subst, arith, MarchElement, Description, Planted, Chip, shape_of, planted_chip, Tells, TellsChip, TellsScript, TellsNothing, Told, pattern, filled_chip, blank, AllRight, IsPlain, PassesAlone, run_word, Seen, IsFirstRead, EndsSelfTest, IsSeenOf, IsWrongRead, SelfTest, ModuleTree, Plan, Refusal, Done, done_of, plain, OrNoMemory, range_with_len, length-replicate, one-le-pow, mod-eq_of_lt, closed_words, IfOk-weaker}
 use Rattle.word_device.specs.declared.shape.Shape.{Shape}
 use Rattle.bench.specs.Endings.{Runs}
 use Rattle.bist_bits.specs.declared.NoMemory.{NoMemory}
@@ -88,11 +88,6 @@ tested tells items mo march d planted (Err e) test h = tt
 pub or_no_memory : (P : Done → Type 0) (r : Result Plan Refusal) → IfErr r (λ e. e ≡ Refusal.NoMemory) → IfOk r (λ plan. P (done_of plan)) → OrNoMemory P (plain r)
 or_no_memory P (Ok plan) wants h = h
 or_no_memory P (Err e) wants h = subst (λ (x : Refusal). OrNoMemory P (Err x)) (sym wants) tt
-
--- want of memory is no refusal of a file's reading
-pub wants_own : {A : Type 0} (r : Result A Refusal) → IfErr r (λ e. e ≡ Refusal.NoMemory) → IfErr r (λ e. IsOwnRefusal e)
-wants_own (Ok a) wants = tt
-wants_own (Err e) wants = subst (λ (x : Refusal). IsOwnRefusal x) (sym wants) tt
 
 pub file_benched : {B : Type 0} (f : B → Told) (items : List B) (mo : ModuleTree) (march : List MarchElement) (d : Description) (r : Result Plan Refusal) → 0 < length items
     → IfErr r (λ e. e ≡ Refusal.NoMemory) → IfOk r (λ plan. (b : B) (rest : List B) → items ≡ b ∷ rest → RunsBeside mo march d (ready d None (f b).tells) (done_of plan))

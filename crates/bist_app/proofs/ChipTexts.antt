@@ -36,9 +36,6 @@ tested_more [] (v ∷ us) m u all test = absurd all
 tested_more (n ∷ ms) [] m u all test = absurd all
 tested_more (n ∷ ms) (v ∷ us) m u all test = (all.0, tested_more ms us m u all.1 test)
 
-pub no_tests : (t : UnitTable) → PutSelfTests t 0 []
-no_tests t us h = record { trees = []; fit = tt; tested = tt; are = refl }
-
 -- the element at a place, among what a function gives of a list
 at_place : {X Y : Type 0} (f : X → Y) (xs : List X) (ys : List Y) (i : ℕ) (x : X) (y : Y) → ys ≡ map f xs → i < length xs → y ≡ get_or ys i y → f (get_or xs i x) ≡ y
 at_place f xs ys i x y are within is =
@@ -180,11 +177,6 @@ pub light_weights : (chip : ChipDescription) (t : UnitTable) (us : List TestUnit
     → All (λ w. (1 ≤ w) × (w ≤ budget)) ws
 light_weights chip t us budget ws b w r =
     subst (λ n. All (λ (x : ℕ). (1 ≤ x) × (x ≤ n)) ws) (sym b) (subst (All (λ (x : ℕ). (1 ≤ x) × (x ≤ chip.budget))) (sym (w ∙ r.table.weights)) (light_units chip t us r))
-
-pub many_weights : (chip : ChipDescription) (t : UnitTable) (us : List TestUnit) (ws : List ℕ) → ws ≡ t.weights.items → IsRead chip t us → (1 ≤ length ws) × (length ws ≤ 16)
-many_weights chip t us ws w r =
-    let many : length us ≡ length ws = sym (length-map us (λ (u : TestUnit). u.weight)) ∙ ap length (sym (w ∙ r.table.weights)) in
-    (subst (λ n. 1 ≤ n) many (some_units chip t us r), subst (λ n. n ≤ 16) many (few_units chip t us r))
 
 pub starts : (chip : ChipDescription) (t : UnitTable) (us : List TestUnit) (budget : ℕ) (ws groups ls : List ℕ) → budget ≡ chip.budget → ws ≡ t.weights.items → ls ≡ t.lengths.items → IsRead chip t us
     → FirstFit budget [] ws groups → CanStart groups ls

@@ -2,7 +2,6 @@ pub mod Common
 mod Causes
 pub mod Refusing
 pub mod Listed
-pub mod SameBoxes
 pub mod Statuses
 pub mod Headline
 pub mod Conformance

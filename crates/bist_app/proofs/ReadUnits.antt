@@ -1,10 +1,10 @@
 -- The units of a chip, read one after another into their table.
-use Rattle.bist_app.proofs.Common.{◌≡◌, ◌∙◌, ◌≤◌, ◌<◌, ◌+◌, ◌++◌, ◌∷◌, [], ℕ, zero, suc, All, List, length, map, Option, Some, None, Result, Ok, Err, refl, sym, ap, subst, arith, append-nil, append_assoc, add-one, get_or, take, drop, ◌-◌, Files, MarchElement, Description, UnitDescription, unit_of, TestUnit, test_length, lengths, Refusal, FileMarch, UnitMarch, UnitMemory, map-append, length-map, length-append, take_all}
+use Rattle.bist_app.proofs.Common.{◌≡◌, ◌∙◌, ◌≤◌, ◌<◌, ◌+◌, ◌++◌, ◌∷◌, [], ℕ, zero, suc, All, List, length, map, Option, Some, None, Result, Ok, Err, refl, sym, ap, subst, arith, append-nil, append_assoc, add-one, get_or, take, drop, ◌-◌, Files, MarchElement, Description, UnitDescription, unit_of, TestUnit, test_length, lengths, Refusal, FileMarch, UnitMarch, UnitMemory, map-append, length-append, take_all}
 use Rattle.std.proofs.lemmas.List.Elements.{All-append}
 use Rattle.chip_desc.specs.declared.chip.ChipUnit.{ChipUnit}
 use Rattle.bist_app.specs.declared.units.UnitTable.{UnitTable}
 use Rattle.bist_app.specs.Chip.{GivesUnit, GivesUnits}
-use Rattle.bist_app.specs.inner.UnitTables.{IsTableOf, HasUnits, HasRoom, Grows, AppendsUnit, AppendsUnits}
+use Rattle.bist_app.specs.inner.UnitTables.{IsTableOf, HasUnits, Grows, AppendsUnit, AppendsUnits}
 
 -- ---- the table
 
@@ -23,13 +23,6 @@ pushed old new us u long h march memory weight along is some most = record {
   lengths = along ∙ ap (λ xs. xs ++ long ∷ []) h.lengths ∙ ap (λ n. lengths us ++ n ∷ []) is ∙ sym (map-append test_length us (u ∷ []));
   short = subst (λ ls. All (λ (l : ℕ). (1 ≤ l) × (l ≤ 200000000)) ls) (sym along) (All-append (λ (l : ℕ). (1 ≤ l) × (l ≤ 200000000)) old.lengths.items (long ∷ []) h.short (only_one (λ (l : ℕ). (1 ≤ l) × (l ≤ 200000000)) long (some, most)));
 }
-
--- as many as it has units, below 16
-pub with_room : (t : UnitTable) (n more : ℕ) → HasUnits t n → n + more ≤ 16 → 1 ≤ more → HasRoom t
-with_room t n more (us, h, many) few some =
-    let w : length t.weights.items ≡ n = ap length h.weights ∙ length-map us (λ (u : TestUnit). u.weight) ∙ many in
-    let l : length t.lengths.items ≡ n = ap length h.lengths ∙ length-map us test_length ∙ many in
-    (omega arith, omega arith)
 
 pub one_more : (old new : UnitTable) (n : ℕ) (u : TestUnit) → HasUnits old n → Grows old new (u ∷ []) → HasUnits new (n + 1)
 one_more old new n u (us, h, many) grows = (us ++ u ∷ [], grows us h, length-append us (u ∷ []) ∙ ap (λ k. k + 1) many)

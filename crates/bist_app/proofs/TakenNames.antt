@@ -9,9 +9,6 @@ use Rattle.bist_app.specs.Chip.{IsEarlier, HasTakenName, HasOwnNames}
 
 -- ---- one after another
 
-pub none_earlier : (ds : List Description) (name : List ℕ) → IsEarlier ds 0 name → ⊥
-none_earlier ds name (i, d, below, at, is) = absurd (omega (arith, below))
-
 same_at : (ds : List Description) (i : ℕ) (d e : Description) → slice_get ds i ≡ Some d → slice_get ds i ≡ Some e → d ≡ e
 same_at ds i d e p q = cc
 

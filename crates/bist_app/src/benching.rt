@@ -1,6 +1,6 @@
 //! A module against a box, and the line that tells how the run ended. The self-test module is made, written and read back before.
 
-ghost use Rattle.std.specs.Prelude.{◌≡◌, ◌≤◌, ◌<◌, ◌++◌, ◌∷◌, [], Some, None, true, IsTrue, IfOk, IfErr, OnOk, codes, decimal, map, vec_len};
+ghost use Rattle.std.specs.Prelude.{◌≡◌, ◌≤◌, ◌<◌, ◌++◌, ◌∷◌, [], Some, None, true, IsTrue, IfOk, IfErr, OnOk, map, vec_len};
 ghost use Rattle.verilog_tree.specs.declared.fault.TreeFault.{TreeFault};
 ghost use Rattle.verilog_tree.specs.Plain.{ModuleTree, plain_module};
 ghost use Rattle.verilog_tree.specs.Rules.{first_break};
@@ -242,13 +242,9 @@ pub fn run_beside(
     ensures outputs { IfOk result (λ plan. (done_of plan).outputs ≡ []) }
     ensures left { LeavesFirst (map (λ b. told b) devices.old.items) (map (λ b. told b) devices.new.items) (plain result) }
 {
-    let Ok(device) = take_first(devices, memory, planted) else {
-        return Err(Refusal::NoMemory);
-    };
-    match run_plan(alloc, design, march, memory, device) {
-        Ok(plan) => Ok(plan),
-        Err(NoMemory) => Err(Refusal::NoMemory),
-    }
+    let device = take_first(devices, memory, planted)?;
+    let plan = run_plan(alloc, design, march, memory, device)?;
+    Ok(plan)
 }
 
 /// Runs the self-test of the memory by the march against the first box, which is fitted, planted and taken.
@@ -268,8 +264,6 @@ pub fn test_beside(
     ensures outputs { IfOk result (λ plan. (done_of plan).outputs ≡ []) }
     ensures left { LeavesFirst (map (λ b. told b) devices.old.items) (map (λ b. told b) devices.new.items) (plain result) }
 {
-    let Ok(mut design) = self_test_design(alloc, march, memory) else {
-        return Err(Refusal::NoMemory);
-    };
+    let mut design = self_test_design(alloc, march, memory)?;
     run_beside(alloc, &mut design, march, memory, planted, devices)
 }

@@ -1,6 +1,6 @@
 //! The self-test module against each box of a list: the module is made, written and read back once, and the line counts the boxes that fail.
 
-ghost use Rattle.std.specs.Prelude.{◌≡◌, ◌⊎◌, ◌≤◌, ◌<◌, ◌++◌, ◌∷◌, [], None, Some, IfErr, IfOk, OnOk, OnErr, codes, decimal, length, map, drop, replicate};
+ghost use Rattle.std.specs.Prelude.{◌≡◌, ◌<◌, [], None, Some, IfErr, IfOk, OnOk, OnErr, length, map, replicate};
 ghost use Rattle.verilog_cycle.specs.Design.{Fit, registers_of};
 ghost use Rattle.self_test.specs.SelfTest.{SelfTest};
 ghost use Rattle.word_device.specs.Ports.{shape_of as memory_shape};
@@ -14,13 +14,12 @@ ghost use Rattle.bist_app.specs.inner.BenchedBoxes.{IsEnd, CountsFailing, more_f
 
 use crate::benching::{run_design, self_test_design};
 use crate::boxes::take_first;
-use crate::parts::put_number;
 use bist_bits::NoMemory;
-use bist_endings::{Plan, Refusal};
+use bist_endings::{Plan, Refusal, put_number};
 use bist_text::put;
 use march_core::March;
 use memory_desc::Memory;
-use std::alloc::{AllocError, Global};
+use std::alloc::Global;
 use verilog_cycle::Design;
 use word_device::{Device, unplanted_passes};
 
@@ -36,8 +35,8 @@ fn all_boxes_line(alloc: Global, count: usize, failing: usize) -> Result<Vec<u8>
     ensures { IfOk result (λ line. line.items ≡ all_line count failing) }
 {
     let mut line = Vec::new(alloc);
-    put_number(&mut line, b"boxes ", count as u64)?;
-    put_number(&mut line, b" failing ", failing as u64)?;
+    put_number(&mut line, b"boxes ", count)?;
+    put_number(&mut line, b" failing ", failing)?;
     put(&mut line, b"\n")?;
     Ok(line)
 }
@@ -115,10 +114,7 @@ fn bench_boxes(
 fn zeros_for(alloc: Global, design: &Design) -> Result<Vec<u64>, NoMemory>
     ensures { IfOk result (λ zeros. zeros.items ≡ replicate (length design.now.registers) 0) }
 {
-    match Vec::from_elem(alloc, 0, design.register_count()) {
-        Ok(zeros) => Ok(zeros),
-        Err(AllocError) => Err(NoMemory),
-    }
+    Vec::from_elem(alloc, 0, design.register_count()).map_err(|_| NoMemory)
 }
 
 /// The plan of the runs of the self-test against each box, which is fitted and taken.

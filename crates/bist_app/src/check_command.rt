@@ -1,7 +1,7 @@
 //! The command `check`: whether the module of a file issues the commands of a march, whatever its registers hold at first and whatever
 //! words return.
 
-ghost use Rattle.std.specs.Prelude.{◌≡◌, ◌≤◌, ◌++◌, List, [], Some, Err, IfOk, IfErr, OnOk};
+ghost use Rattle.std.specs.Prelude.{◌≡◌, ◌++◌, List, [], Some, Err, IfOk, IfErr, OnOk};
 ghost use Rattle.bist_host.specs.Files.{OnlyReads};
 ghost use Rattle.verilog_tree.specs.Plain.{ModuleTree};
 ghost use Rattle.march_core.specs.March.{MarchElement};
@@ -13,23 +13,25 @@ ghost use Rattle.bist_inputs.specs.Inputs.{HasCause, IsOwnRefusal};
 ghost use Rattle.bist_app.specs.Forms.{HasForm};
 ghost use Rattle.bist_app.specs.Check.{is_amiss, at_text, check_line, check_done, ChecksRun, DecidesRun, DecidesCheck, check_form};
 
-use bist_endings::{Plan, Refusal, VerilogRefusal, numbered, push_number};
+use bist_bits::NoMemory;
+use bist_endings::{Plan, Refusal, VerilogRefusal, numbered, put_number};
 use bist_host::Host;
 use bist_inputs::{Style, read_design_input, read_march_input, read_memory_input};
+use bist_text::put;
 use march_core::March;
 use memory_desc::Memory;
 use port_check::{CheckFault, PortAnswer, check_run};
-use std::alloc::{AllocError, Global};
+use std::alloc::Global;
 use verilog_cycle::Design;
 use verilog_tree::Name;
 
 /// Appends a text, a cycle and a port.
-fn push_place(line: &mut Vec<u8>, text: &[u8], cycle: u64, port: &Name) -> Result<(), AllocError>
+fn put_place(line: &mut Vec<u8>, text: &[u8], cycle: u64, port: &Name) -> Result<(), NoMemory>
     ensures { OnOk result (line.new.items ≡ line.old.items ++ text.now ++ at_text cycle port.now.bytes) }
 {
-    push_number(line, text, cycle as usize)?;
-    line.extend_from_slice(b" port ")?;
-    line.extend_from_slice(port.as_str().as_bytes())
+    put_number(line, text, cycle as usize)?;
+    put(line, b" port ")?;
+    put(line, port.as_str().as_bytes())
 }
 
 /// The line of a port that has another number than it should.
@@ -39,29 +41,29 @@ fn differs_line(
     port: &Name,
     expected: u64,
     got: u64,
-) -> Result<Vec<u8>, AllocError>
+) -> Result<Vec<u8>, NoMemory>
     ensures { IfOk result (λ line. line.items ≡ check_line (PortAnswer.Differs cycle port.now expected got)) }
 {
     let mut line = Vec::new(alloc);
-    push_place(&mut line, b"differs cycle ", cycle, port)?;
-    push_number(&mut line, b" expected ", expected as usize)?;
-    push_number(&mut line, b" got ", got as usize)?;
-    line.extend_from_slice(b"\n")?;
+    put_place(&mut line, b"differs cycle ", cycle, port)?;
+    put_number(&mut line, b" expected ", expected as usize)?;
+    put_number(&mut line, b" got ", got as usize)?;
+    put(&mut line, b"\n")?;
     Ok(line)
 }
 
 /// The line of a port that has no number.
-fn unknown_line(alloc: Global, cycle: u64, port: &Name) -> Result<Vec<u8>, AllocError>
+fn unknown_line(alloc: Global, cycle: u64, port: &Name) -> Result<Vec<u8>, NoMemory>
     ensures { IfOk result (λ line. line.items ≡ check_line (PortAnswer.Unknown cycle port.now)) }
 {
     let mut line = Vec::new(alloc);
-    push_place(&mut line, b"unknown cycle ", cycle, port)?;
-    line.extend_from_slice(b"\n")?;
+    put_place(&mut line, b"unknown cycle ", cycle, port)?;
+    put(&mut line, b"\n")?;
     Ok(line)
 }
 
 /// The line of an answer.
-fn answer_line(alloc: Global, answer: &PortAnswer) -> Result<Vec<u8>, AllocError>
+fn answer_line(alloc: Global, answer: &PortAnswer) -> Result<Vec<u8>, NoMemory>
     ensures { IfOk result (λ line. line.items ≡ check_line answer.now) }
 {
     match answer {
@@ -86,18 +88,6 @@ fn is_amiss(answer: &PortAnswer) -> bool
     }
 }
 
-/// The plan of an answer.
-fn answer_plan(alloc: Global, answer: &PortAnswer) -> Result<Plan, AllocError>
-    ensures { IfOk result (λ plan. done_of plan ≡ check_done answer.now) }
-{
-    let line = answer_line(alloc, answer)?;
-    Ok(Plan {
-        found: is_amiss(answer),
-        outputs: Vec::new(alloc),
-        line,
-    })
-}
-
 /// Why nothing was run, as a refusal of the command.
 fn run_refusal(fault: CheckFault) -> Refusal
     ensures answer { (mo : ModuleTree) (march : List MarchElement) (d : Description) → Refuses march d mo.ports (Some fault) → ChecksRun mo march d (Err result) }
@@ -115,10 +105,12 @@ fn plan_answer(alloc: Global, answer: &PortAnswer) -> Result<Plan, Refusal>
     ensures done { IfOk result (λ plan. done_of plan ≡ check_done answer.now) }
     ensures wants { IfErr result (λ refusal. refusal ≡ Refusal.NoMemory) }
 {
-    match answer_plan(alloc, answer) {
-        Ok(plan) => Ok(plan),
-        Err(AllocError) => Err(Refusal::NoMemory),
-    }
+    let line = answer_line(alloc, answer)?;
+    Ok(Plan {
+        found: is_amiss(answer),
+        outputs: Vec::new(alloc),
+        line,
+    })
 }
 
 /// Runs a design with all that is not known left open.

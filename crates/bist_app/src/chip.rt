@@ -1,6 +1,6 @@
 //! The command `chip`: several memories of one chip, each tested by a march, within a power budget.
 
-ghost use Rattle.std.specs.Prelude.{◌≡◌, ◌<◌, ◌≤◌, ◌↔◌, [], ℕ, List, IfOk, IfErr, IsTrue, OnOk, length, suc};
+ghost use Rattle.std.specs.Prelude.{◌≡◌, ◌<◌, ◌≤◌, ◌↔◌, [], List, IfOk, IfErr, IsTrue, OnOk, length, suc};
 ghost use Rattle.bist_host.specs.Files.{OnlyReads};
 ghost use Rattle.chip_plan.specs.Groups.{FirstFit, last_group, end_of};
 ghost use Rattle.chip_rtl.specs.ChipTest.{TestUnit, lengths};
@@ -13,10 +13,10 @@ ghost use Rattle.bist_app.specs.Chip.{IsEarlier, HasTakenName, HasOwnNames, chip
 ghost use Rattle.bist_app.specs.inner.UnitTables.{IsTableOf};
 ghost use Rattle.bist_app.specs.inner.ChipParts.{IsRead, IsReady, PutsSelfTest, PutSelfTests, CanStart, MakesFile};
 
-use crate::parts::{one_output, put_number};
+use crate::parts::one_output;
 use crate::units::{UnitTable, no_units, read_units};
 use bist_bits::NoMemory;
-use bist_endings::{ChipRefusal, Plan, Refusal};
+use bist_endings::{ChipRefusal, Plan, Refusal, put_number};
 use bist_host::Host;
 use bist_inputs::read_chip_input;
 use bist_text::put;
@@ -120,9 +120,9 @@ fn chip_line(alloc: Global, groups: &[u8], lengths: &[u64]) -> Result<Vec<u8>, N
     ensures { IfOk result (λ line. line.items ≡ chip_line (length groups.now) (suc (last_group groups.now)) (end_of groups.now lengths.now)) }
 {
     let mut line = Vec::new(alloc);
-    put_number(&mut line, b"chip units ", groups.len() as u64)?;
-    put_number(&mut line, b" groups ", u64::from(last_group(groups)) + 1)?;
-    put_number(&mut line, b" done ", end_of(groups, lengths))?;
+    put_number(&mut line, b"chip units ", groups.len())?;
+    put_number(&mut line, b" groups ", last_group(groups) as usize + 1)?;
+    put_number(&mut line, b" done ", end_of(groups, lengths) as usize)?;
     put(&mut line, b"\n")?;
     Ok(line)
 }

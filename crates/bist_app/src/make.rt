@@ -1,6 +1,6 @@
 //! The command `make`: large inputs that a number makes, compiled, and a summary.
 
-ghost use Rattle.std.specs.Prelude.{◌≡◌, ◌≤◌, ◌++◌, ◌∷◌, [], ℕ, Ok, IfOk, IfErr, OnOk, MatchOption, map, length, decimal};
+ghost use Rattle.std.specs.Prelude.{◌≡◌, ◌≤◌, ◌++◌, Ok, IfOk, IfErr, OnOk, map, length};
 ghost use Rattle.march_core.specs.March.{all_ops};
 ghost use Rattle.word_march.specs.Commands.{command_count};
 ghost use Rattle.memory_desc.specs.Descriptions.{IsMemory};
@@ -15,10 +15,9 @@ ghost use Rattle.bist_app.specs.Forms.{HasForm};
 ghost use Rattle.bist_endings.specs.Then.{SaysOwn};
 
 use crate::compile::module_text;
-use crate::parts::put_number;
 use crate::reporting::report_list;
 use bist_bits::NoMemory;
-use bist_endings::{Output, Plan, Refusal, number_of};
+use bist_endings::{Output, Plan, Refusal, number_of, put_number};
 use bist_text::put;
 use dynamic_core::Item;
 use made_inputs::{items_of_list, list_text, march_of, march_text, memory_of};
@@ -60,17 +59,17 @@ fn put_sizes(
 ) -> Result<(), NoMemory>
     ensures { OnOk result (line.new.items ≡ line.old.items ++ sizes_text elements operations commands) }
 {
-    put_number(line, b"made elements ", elements as u64)?;
-    put_number(line, b" operations ", operations as u64)?;
-    put_number(line, b" commands ", commands)
+    put_number(line, b"made elements ", elements)?;
+    put_number(line, b" operations ", operations)?;
+    put_number(line, b" commands ", commands as usize)
 }
 
 /// Appends how many of the primitives are covered, and ends the line.
 fn put_covered(line: &mut Vec<u8>, covered: usize, count: usize) -> Result<(), NoMemory>
     ensures { OnOk result (line.new.items ≡ line.old.items ++ covered_text covered count) }
 {
-    put_number(line, b" covered ", covered as u64)?;
-    put_number(line, b" of ", count as u64)?;
+    put_number(line, b" covered ", covered)?;
+    put_number(line, b" of ", count)?;
     put(line, b"\n")
 }
 

@@ -1,11 +1,10 @@
-//! What several plans are made of: one file, and lines with numbers.
+//! What several plans are made of.
 
-ghost use Rattle.std.specs.Prelude.{◌≡◌, ◌++◌, ◌∷◌, [], IfOk, OnOk, decimal, map};
+ghost use Rattle.std.specs.Prelude.{◌≡◌, ◌∷◌, [], IfOk, map};
 ghost use Rattle.bist_endings.specs.Ending.{written_of};
 
 use bist_bits::NoMemory;
 use bist_endings::Output;
-use bist_text::{put, put_decimal};
 use std::alloc::Global;
 
 /// The file that one word names.
@@ -17,12 +16,4 @@ pub fn one_output(alloc: Global, position: usize, bytes: Vec<u8>) -> Result<Vec<
         Ok(()) => Ok(outputs),
         Err(_) => Err(NoMemory),
     }
-}
-
-/// Appends a text and a number.
-pub fn put_number(line: &mut Vec<u8>, text: &[u8], number: u64) -> Result<(), NoMemory>
-    ensures { OnOk result (line.new.items ≡ line.old.items ++ text.now ++ decimal number) }
-{
-    put(line, text)?;
-    put_decimal(line, number)
 }

@@ -1,9 +1,9 @@
 //! The verdicts on a list as a report and its last line, which `judge` and `compile` share.
 
-ghost use Rattle.std.specs.Prelude.{◌≡◌, IfOk, List, length};
+ghost use Rattle.std.specs.Prelude.{IfOk, List};
 ghost use Rattle.std.specs.Option.{option_copied};
-ghost use Rattle.report.specs.Items.{AreJudged, covered_count};
-ghost use Rattle.report.specs.Report.{total_line, DetectsOf};
+ghost use Rattle.report.specs.Items.{AreJudged};
+ghost use Rattle.report.specs.Report.{DetectsOf};
 ghost use Rattle.bist_app.specs.Reported.{Reports};
 
 use bist_bits::NoMemory;
@@ -22,13 +22,6 @@ pub struct Reported {
     pub covered: usize,
 }
 
-/// The report's last line.
-fn total(alloc: Global, judged: &[JudgedItem]) -> Result<Vec<u8>, NoMemory>
-    ensures { IfOk result (λ line. line.items ≡ total_line (length judged.now) (covered_count judged.now)) }
-{
-    total_text(alloc, judged.len(), count_covered(judged))
-}
-
 /// The report of these judged items.
 fn report_of(
     alloc: Global,
@@ -39,9 +32,9 @@ fn report_of(
     ensures reports { IfOk result (λ r. (items : List Item) → AreJudged march.now items judged.now → Reports march.now (option_copied memory.entry) items r.found r.bytes.items r.line.items) }
     ensures covered { IfOk result (λ r. (items : List Item) → AreJudged march.now items judged.now → DetectsOf march.now items r.covered) }
 {
-    let bytes = write_judged(alloc, march, memory, judged)?;
-    let line = total(alloc, judged)?;
     let covered = count_covered(judged);
+    let bytes = write_judged(alloc, march, memory, judged)?;
+    let line = total_text(alloc, judged.len(), covered)?;
     Ok(Reported {
         found: covered < judged.len(),
         bytes,

@@ -15,9 +15,11 @@ ghost use Rattle.bist_endings.specs.Then.{SaysOwn};
 
 use crate::directions::{direction_word, fit_directions};
 use array_sim::{Instance, simulate};
-use bist_endings::{Misfit, Plan, Refusal, number_of, push_number};
+use bist_bits::NoMemory;
+use bist_endings::{Misfit, Plan, Refusal, number_of, put_number};
 use bist_host::Host;
 use bist_inputs::{give_prim, read_march_input};
+use bist_text::put;
 use fault_core::{Places, Prim};
 use march_core::{March, Miss};
 use std::alloc::{AllocError, Global};
@@ -100,23 +102,23 @@ fn cells_of(alloc: Global, digits: &[u8]) -> Result<Vec<bool>, AllocError>
     digits.iter().map(|digit| *digit == b'1').collect(alloc)
 }
 
-fn caught(alloc: Global, miss: Miss) -> Result<Vec<u8>, AllocError>
+fn caught(alloc: Global, miss: Miss) -> Result<Vec<u8>, NoMemory>
     ensures { IfOk result (λ line. line.items ≡ caught_line miss) }
 {
     let mut line = Vec::new(alloc);
-    push_number(&mut line, b"caught element ", miss.element)?;
-    push_number(&mut line, b" address ", miss.address)?;
-    push_number(&mut line, b" operation ", miss.op)?;
-    line.extend_from_slice(b"\n")?;
+    put_number(&mut line, b"caught element ", miss.element)?;
+    put_number(&mut line, b" address ", miss.address)?;
+    put_number(&mut line, b" operation ", miss.op)?;
+    put(&mut line, b"\n")?;
     Ok(line)
 }
 
 /// The line of a run.
-fn line_of(alloc: Global, miss: Option<Miss>) -> Result<Vec<u8>, AllocError>
+fn line_of(alloc: Global, miss: Option<Miss>) -> Result<Vec<u8>, NoMemory>
     ensures { IfOk result (λ line. line.items ≡ sim_line miss) }
 {
     match miss {
-        None => Vec::from_slice(alloc, b"passes\n"),
+        None => Vec::from_slice(alloc, b"passes\n").map_err(|_| NoMemory),
         Some(miss) => caught(alloc, miss),
     }
 }
@@ -186,14 +188,12 @@ fn plan_sim(
         return Err(Refusal::NoMemory);
     };
     let miss = run_array(march, prim, places, cells.as_mut_slice(), letters);
-    match line_of(alloc, miss) {
-        Ok(line) => Ok(Plan {
-            found: miss.is_some(),
-            outputs: Vec::new(alloc),
-            line,
-        }),
-        Err(AllocError) => Err(Refusal::NoMemory),
-    }
+    let line = line_of(alloc, miss)?;
+    Ok(Plan {
+        found: miss.is_some(),
+        outputs: Vec::new(alloc),
+        line,
+    })
 }
 
 /// Where the instance stands, which fits the primitive.

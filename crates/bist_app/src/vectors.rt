@@ -18,7 +18,7 @@ use bist_inputs::{read_march_input, read_memory_input};
 use bist_text::{put, put_decimal, put_word};
 use march_core::March;
 use memory_desc::Memory;
-use std::alloc::{AllocError, Global};
+use std::alloc::Global;
 use word_march::{PortOp, port_ops};
 
 /// The word that names the file of the commands.
@@ -57,7 +57,7 @@ fn put_commands(alloc: Global, march: &March, memory: &Memory) -> Result<Vec<u8>
 }
 
 /// The line that tells how many commands there are.
-fn count_line(alloc: Global, march: &March, memory: &Memory) -> Result<Vec<u8>, AllocError>
+fn count_line(alloc: Global, march: &March, memory: &Memory) -> Result<Vec<u8>, NoMemory>
     ensures { IfOk result (λ line. line.items ≡ vectors_line (command_count march.now memory.now)) }
 {
     numbered(
@@ -75,15 +75,13 @@ fn plan_vectors(alloc: Global, march: &March, memory: &Memory) -> Result<Plan, R
     ensures outputs { IfOk result (λ plan. done_of plan ≡ vectors_done march.now memory.now) }
 {
     let text = put_commands(alloc, march, memory)?;
+    let line = count_line(alloc, march, memory)?;
     let outputs = one_output(alloc, OUT, text)?;
-    match count_line(alloc, march, memory) {
-        Ok(line) => Ok(Plan {
-            found: false,
-            outputs,
-            line,
-        }),
-        Err(AllocError) => Err(Refusal::NoMemory),
-    }
+    Ok(Plan {
+        found: false,
+        outputs,
+        line,
+    })
 }
 
 /// Lists the commands of a march on a memory.

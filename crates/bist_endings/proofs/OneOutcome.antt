@@ -33,25 +33,6 @@ then_one {A} {B} first rest one each r s (Err e, f, x) (Err d, g, y) rs ss =
     refused_alike r s e d x y
     (same_refusal {A = A} e d (Err e) (Err d) refl refl (one (Err e) (Err d) f g (settled_of r e x rs) (settled_of s d y ss)))
 
--- checks with one outcome have one answer
-pub outcome_answer : {Tells : Type 0} (checks : Result Done Refusal → Type 0) → HasOneOutcome checks → HasOneAnswer Tells checks
-outcome_answer checks one r s tells f g rs ss = ap answer_of (one r s f g rs ss)
-
-pub then_answer : {A Tells : Type 0} (first : Result A Refusal → Type 0) (rest : A → Result Done Refusal → Type 0)
-    → HasOneOutcome first → ((a : A) → HasOneAnswer Tells (rest a)) → HasOneAnswer Tells (Then first rest)
-then_answer {A} first rest one each r s tells (Ok a, f, x) (Ok b, g, y) rs ss =
-    let same : a ≡ b = same_value a b (Ok a) (Ok b) refl refl (one (Ok a) (Ok b) f g tt tt) in
-    each b r s tells (subst (λ (c : A). rest c r) same x) y rs ss
-then_answer {A} first rest one each r s tells (Ok a, f, x) (Err e, g, y) rs ss =
-    absurd (never_both a e (Ok a) (Err e) refl refl (one (Ok a) (Err e) f g tt (settled_of s e y ss)))
-then_answer {A} first rest one each r s tells (Err e, f, x) (Ok b, g, y) rs ss =
-    absurd (never_both b e (Ok b) (Err e) refl refl (sym (one (Err e) (Ok b) f g (settled_of r e x rs) tt)))
-then_answer {A} first rest one each r s tells (Err e, f, x) (Err d, g, y) rs ss =
-    ap answer_of (refused_alike r s e d x y
-    (same_refusal {A = A} e d (Err e) (Err d) refl refl (one (Err e) (Err d) f g (settled_of r e x rs) (settled_of s d y ss))))
-
--- ---- the same where the names of a loop of wires may differ
-
 -- checks with one answer have it whatever the names of loops
 pub but_names : {Tells : Type 0} (checks : Result Done Refusal → Type 0) → HasOneAnswer Tells checks → HasOneAnswerButNames Tells checks
 but_names checks one r s tells f g rs ss = inl (one r s tells f g rs ss)

@@ -95,7 +95,7 @@ fault_text (FaultFault.Truncated line) = codes "F2 line " ++ decimal line
 fault_text (FaultFault.NotAFault line) = codes "F3 line " ++ decimal line
 fault_text (FaultFault.TooManyOperations line) = codes "F4 line " ++ decimal line
 fault_text (FaultFault.TooManyPrimitives line) = codes "F5 line " ++ decimal line
-fault_text FaultFault.NoMemory = codes "F6"
+fault_text FaultFault.NoMemory = codes "no memory"
 
 -- a field that is missing
 abbrev pub field_text : Field → List ℕ
@@ -139,7 +139,7 @@ read_fault_text ReadFault.Truncated = codes "L2"
 read_fault_text (ReadFault.TooDeep byte) = codes "L3 byte " ++ decimal byte
 read_fault_text (ReadFault.LongName byte) = codes "L4 byte " ++ decimal byte
 read_fault_text (ReadFault.OutOfRange byte) = codes "L5 byte " ++ decimal byte
-read_fault_text ReadFault.NoMemory = codes "L6"
+read_fault_text ReadFault.NoMemory = codes "no memory"
 
 -- names in their order, each behind a blank
 abbrev pub names_text : List ArrayString → List ℕ
@@ -155,7 +155,7 @@ tree_fault_text (TreeFault.TwoBlocks name) = codes "N4 " ++ name.bytes
 tree_fault_text (TreeFault.NotAssignable name) = codes "N5 " ++ name.bytes
 tree_fault_text (TreeFault.SelectRange name) = codes "N6 " ++ name.bytes
 tree_fault_text (TreeFault.Loop names) = codes "N7" ++ names_text names.items
-tree_fault_text TreeFault.NoMemory = codes "N8"
+tree_fault_text TreeFault.NoMemory = codes "no memory"
 tree_fault_text (TreeFault.Undriven name) = codes "N9 " ++ name.bytes
 tree_fault_text (TreeFault.Clock name) = codes "N10 " ++ name.bytes
 

@@ -1,15 +1,17 @@
-ghost use Rattle.std.specs.Prelude.{◌≡◌, ◌≤◌, ◌<◌, length, map, IfOk, codes};
+ghost use Rattle.std.specs.Prelude.{◌≡◌, ◌≤◌, ◌<◌, ◌++◌, map, IfOk, OnOk};
 ghost use Rattle.bist_host.specs.Files.{OnlyWrites, OnlySays, WritesRose, SaysPrefix};
-ghost use Rattle.bist_endings.specs.Ending.{plain, written_of, input_status, status_of, refusal_line, numbered_line, done_of, no_memory_line, write_failed_line};
+ghost use Rattle.bist_endings.specs.Ending.{plain, written_of, input_status, status_of, refusal_line, done_of, no_memory_line, write_failed_line};
 ghost use Rattle.bist_endings.specs.Conclude.{NamesWords, WritesInOrder, HasWriteCause, SaysLine, RefusalEnds, SaysDone, DoneEnds, Ends};
 
-use crate::chip_lines::{chip_line, unit_line};
+use crate::chip_lines::{put_chip, put_unit};
 use crate::ending::{Ended, InputRefusal, Misfit, Output, Plan, Refusal};
-use crate::lines::{device_line, fault_line, march_line, numbered};
-use crate::memory_lines::memory_line;
-use crate::verilog_lines::verilog_line;
+use crate::lines::{numbered, put_device, put_fault, put_march, put_numbered};
+use crate::memory_lines::put_memory;
+use crate::verilog_lines::put_verilog;
+use bist_bits::NoMemory;
 use bist_host::{Host, HostFault};
-use std::alloc::{AllocError, Global};
+use bist_text::put;
+use std::alloc::Global;
 
 /// Why the writes stopped. A position is that of a word.
 #[derive(Clone, Copy)]
@@ -55,27 +57,36 @@ fn say_line<H: Host>(host: &mut H, line: &[u8]) -> SayEnd
     }
 }
 
-/// The line of a refusal.
-fn line_of_refusal(alloc: Global, refusal: Refusal) -> Result<Vec<u8>, AllocError>
-    ensures { IfOk result (λ line. line.items ≡ refusal_line refusal) }
+/// Appends the line of a refusal.
+fn put_refusal(line: &mut Vec<u8>, refusal: Refusal) -> Result<(), NoMemory>
+    ensures { OnOk result (line.new.items ≡ line.old.items ++ refusal_line refusal) }
 {
     match refusal {
-        Refusal::Usage => Vec::from_slice(alloc, b"usage\n"),
-        Refusal::March(fault) => march_line(alloc, fault),
-        Refusal::Memory(fault) => memory_line(alloc, fault),
-        Refusal::Fault(fault) => fault_line(alloc, fault),
-        Refusal::TooLarge { position } => numbered(alloc, b"too large ", position),
-        Refusal::ReadFailed { position } => numbered(alloc, b"read failed ", position),
-        Refusal::Absent { position } => numbered(alloc, b"absent ", position),
-        Refusal::TooLong { cycles } => numbered(alloc, b"too long ", cycles as usize),
-        Refusal::Misfit(Misfit::Aggressor) => Vec::from_slice(alloc, b"misfit aggressor\n"),
-        Refusal::Misfit(Misfit::Directions) => Vec::from_slice(alloc, b"misfit directions\n"),
-        Refusal::Device(refusal) => device_line(alloc, refusal),
-        Refusal::Verilog(refusal) => verilog_line(alloc, refusal),
-        Refusal::Chip(refusal) => chip_line(alloc, refusal),
-        Refusal::Unit { unit, refusal } => unit_line(alloc, unit, refusal),
-        Refusal::NoMemory => Vec::from_slice(alloc, b"no memory\n"),
+        Refusal::Usage => put(line, b"usage\n"),
+        Refusal::March(fault) => put_march(line, fault),
+        Refusal::Memory(fault) => put_memory(line, fault),
+        Refusal::Fault(fault) => put_fault(line, fault),
+        Refusal::TooLarge { position } => put_numbered(line, b"too large ", position),
+        Refusal::ReadFailed { position } => put_numbered(line, b"read failed ", position),
+        Refusal::Absent { position } => put_numbered(line, b"absent ", position),
+        Refusal::TooLong { cycles } => put_numbered(line, b"too long ", cycles as usize),
+        Refusal::Misfit(Misfit::Aggressor) => put(line, b"misfit aggressor\n"),
+        Refusal::Misfit(Misfit::Directions) => put(line, b"misfit directions\n"),
+        Refusal::Device(refusal) => put_device(line, refusal),
+        Refusal::Verilog(refusal) => put_verilog(line, refusal),
+        Refusal::Chip(refusal) => put_chip(line, refusal),
+        Refusal::Unit { unit, refusal } => put_unit(line, unit, refusal),
+        Refusal::NoMemory => put(line, b"no memory\n"),
     }
+}
+
+/// The line of a refusal.
+fn line_of_refusal(alloc: Global, refusal: Refusal) -> Result<Vec<u8>, NoMemory>
+    ensures { IfOk result (λ line. line.items ≡ refusal_line refusal) }
+{
+    let mut line = Vec::new(alloc);
+    put_refusal(&mut line, refusal)?;
+    Ok(line)
 }
 
 fn input_status(refusal: InputRefusal) -> u8
@@ -123,7 +134,7 @@ fn refuse<H: Host>(alloc: Global, host: &mut H, refusal: Refusal) -> Ended
             SayEnd::Failed => Ended { status },
             SayEnd::NoMemory => Ended { status: 9 },
         },
-        Err(AllocError) => end_without_memory(host),
+        Err(NoMemory) => end_without_memory(host),
     }
 }
 

@@ -27,5 +27,5 @@ pub use concluding::conclude;
 pub use ending::{
     ChipRefusal, DeviceRefusal, Ended, InputRefusal, Misfit, Output, Plan, Refusal, VerilogRefusal,
 };
-pub use lines::{numbered, push_number};
+pub use lines::{numbered, put_number};
 pub use words::{are_plain, number_of};

@@ -2,14 +2,12 @@
 
 use crate::rows::first_wrong;
 
-static SIM: &[u8] = br"# sim
-
-m = {any(w0);any(r0);any(r0);any(r0);any(r0);any(r0);any(r0);any(r0);any(r0);any(r0);any(r0);any(r0);any(r0);any(r0);any(r0);any(r0);any(r0);any(r0);any(r0);any(r0);any(r0);any(r0);any(r0);any(r0);any(r0);any(r0);any(r0);any(r0);any(r0);any(r0);any(r0);any(r0);any(r0);any(r0);any(r0);any(r0);any(r0);any(r0);any(r0);any(r0);any(r0);any(r0);any(r0);any(r0);any(r0);any(r0);any(r0);any(r0);any(r0);any(r0);any(r0);any(r0);any(r0);any(r0);any(r0);any(r0);any(r0);any(r0);any(r0);any(r0);any(r0);any(r0);any(r0);any(r0)}
-> sim m <0/1/-> 2 00 none 0 uuuuuuuuuuuuuuuuuuuuuuuuuuuuuuuuuuuuuuuuuuuuuuuuuuuuuuuuuuuuuuuu
+static SIM: &[u8] = br"# ARRAYS
+m = {any(w0)\63{;any(r0)\}}
+> sim m <0/1/-> 2 00 none 0 \64{u\}
 1 caught element 1 address 0 operation 0
-> sim m <0/1/-> 2 00 none 0 uuuuuuuuuuuuuuuuuuuuuuuuuuuuuuuuuuuuuuuuuuuuuuuuuuuuuuuuuuuuuuuuu
+> sim m <0/1/-> 2 00 none 0 \65{u\}
 2 usage
-
 m = $mats
 > sim m <0w1/0/-> 2 00 none 0 uud
 1 caught element 2 address 0 operation 0
@@ -37,39 +35,33 @@ m = $mats
 5 fault F4 line 1
 > sim m <0w1/0> 2 00 none 0 uud
 5 fault F1 line 1 byte 6
-
 m = {up(r0,w1)}
 > sim m <0w1/0/-> 2 00 none 0 u
 3 march M7 element 0 operation 0
-
 m = {any(w2)}
-> sim m <0w1/0/-> 2 00 none 0 u
 3 march M1 byte 6
-
 m = {any(w0);up(r0,
-> sim m <0w1/0/-> 2 00 none 0 u
 3 march M2
-
 anew
 > sim m <0w1/0/-> 2 00 none 0 uud
 10 absent 1
-
 m = $retention
 > sim m <0t/1/-> 2 00 none 1 uuu
 1 caught element 2 address 1 operation 0
 > sim m <0t/1/-> 2 00 none 1 udu
 13 misfit directions
-
 m = $mats
 > sim m <0w1r1/0/0> 2 00 none 0 uud
 5 fault F4 line 1
-
+> sim m <0w1/0/-> 4096 \4096{0\} none 0 uud
+1 caught element 2 address 0 operation 0
+> sim m <0w1/0/-> 4097 \4097{0\} none 0 uud
+2 usage
 # as many blanks as an input may have, and one more
-m repeats 1048576 \s
+m = \1048576{\s\}
 > sim m <0w1/0/-> 2 00 none 0 uud
 3 march M3
-m repeats 1048577 \s
-> sim m <0w1/0/-> 2 00 none 0 uud
+m = \1048577{\s\}
 6 too large 1
 ";
 

@@ -3,10 +3,9 @@
 use crate::rows::first_wrong;
 
 static CHECK: &[u8] = br"# CONTROLLERS
-
 m = $w0
 d = $two
-z =
+$f =
 | module f(input clk, input reset, input rdata, output en, output we,
 |   output addr, output wdata, output done, output fail);
 | reg [2:0] t;
@@ -18,9 +17,9 @@ z =
 | assign fail = 1'd0 & rdata;
 | always @(posedge clk) if (reset) t <= 3'd0; else if (t != 3'd3) t <= t + 3'd1;
 | endmodule
+z = $f
 > check z m d
 0 conforms 5
-
 z =
 | module g(output fail, output done, output wdata, output addr,
 |   output we, output en, input rdata, input reset, input clk);
@@ -33,71 +32,25 @@ z =
 | assign fail = (1'd0 & rdata);
 | always @(posedge clk) if (reset) t <= 3'd0; else if ((t != 3'd3)) t <= (t + 3'd1);
 | endmodule
-> check z m d
 0 conforms 5
-
-z =
-| module f(input clk, input reset, input rdata, output en, output we,
-|   output addr, output wdata, output done, output fail);
-| reg [2:0] t;
-| assign en = !reset && t < 3'd3;
-| assign we = 1'd1;
-| assign addr = t == 3'd1;
-| assign wdata = 1'd0;
-| assign done = !reset && t == 3'd3;
-| assign fail = 1'd0 & rdata;
-| always @(posedge clk) if (reset) t <= 3'd0; else if (t != 3'd3) t <= t + 3'd1;
-| endmodule
-> check z m d
+z = $f
+z swaps t < 3'd2 => t < 3'd3
 1 differs cycle 3 port en expected 0 got 1
-
-z =
-| module f(input clk, input reset, input rdata, output en, output we,
-|   output addr, output wdata, output done, output fail);
-| reg [2:0] t;
-| assign en = !reset && t < 3'd2;
-| assign we = 1'd1;
-| assign addr = t == 3'd1;
-| assign wdata = rdata;
-| assign done = !reset && t == 3'd3;
-| assign fail = 1'd0 & rdata;
-| always @(posedge clk) if (reset) t <= 3'd0; else if (t != 3'd3) t <= t + 3'd1;
-| endmodule
-> check z m d
+z = $f
+z swaps wdata = 1'd0 => wdata = rdata
 1 unknown cycle 1 port wdata
-
-z =
-| module f(input clk, input reset, input rdata, output en, output we,
-|   output addr, output wdata, output done, output fail);
-| reg [2:0] t;
-| assign en = t < 3'd2;
-| assign we = 1'd1;
-| assign addr = t == 3'd1;
-| assign wdata = 1'd0;
-| assign done = !reset && t == 3'd3;
-| assign fail = 1'd0 & rdata;
-| always @(posedge clk) if (reset) t <= 3'd0; else if (t != 3'd3) t <= t + 3'd1;
-| endmodule
-> check z m d
+z = $f
+z swaps en = !reset && t => en = t
 1 unknown cycle 0 port en
-
-z =
-| module f(input clk, input rdata, output en, output we,
-|   output addr, output wdata, output done, output fail);
-| reg [2:0] t;
-| assign en = !1'd0 && t < 3'd2;
-| assign we = 1'd1;
-| assign addr = t == 3'd1;
-| assign wdata = 1'd0;
-| assign done = !1'd0 && t == 3'd3;
-| assign fail = 1'd0 & rdata;
-| always @(posedge clk) if (1'd0) t <= 3'd0; else if (t != 3'd3) t <= t + 3'd1;
-| endmodule
-> check z m d
+# no reset
+z = $f
+z swaps input reset, input rdata => input rdata
+z swaps !reset && t < => !1'd0 && t <
+z swaps !reset && t == => !1'd0 && t ==
+z swaps if (reset) => if (1'd0)
 14 verilog B2 reset
 
 # REFUSED
-
 m = $long
 d = memory 2\nname buf0\nwords 16\nbits 1\npause 64515\n
 z =
@@ -106,92 +59,41 @@ z =
 | assign en=1'd0;assign we=1'd0;assign addr=4'd0;assign wdata=1'd0;
 | assign done=1'd0;assign fail=1'd0;
 | endmodule
-> check z m d
 1 differs cycle 1 port en expected 1 got 0
-
 d = memory 2\nname buf0\nwords 16\nbits 1\nlatency 2\npause 64515\n
-> check z m d
 12 too long 2000001
-
-z =
-| module f(input clk, input reset, input rdata, output en, output we,
-|   output addr, output wdata, output done, output fail);
-| reg [2:0] t;
-| assign en = !reset && t < 3'd2;
-| assign we = 1'd1;
-| assign addr = t == 3'd1;
-| assign wdata = 1'd0;
-| assign done = !reset && t == 3'd3;
-| assign fail = 1'd0 & rdata;
-| always @(posedge clk) if (reset) t <= 3'd0; else if (t != 3'd3) t <= t + 3'd1;
-| endmodule
-> check z m d
+z = $f
 12 too long 2000001
-
 m = $c
 d = $16
-> check z m d
 14 verilog B2 addr
-
 z =
-> check z m d
 14 verilog L2
-
 z = module m(output a);assign a=1'd0&&&1'd0;endmodule
-> check z m d
 14 verilog L1 byte 34
-
-z = module m(output a);assign a=1'd0|1'd0|1'd0|1'd0|1'd0|1'd0|1'd0|1'd0|1'd0|1'd0|1'd0|1'd0|1'd0|1'd0|1'd0|1'd0|1'd0|1'd0|1'd0|1'd0|1'd0|1'd0|1'd0|1'd0|1'd0|1'd0|1'd0|1'd0|1'd0|1'd0|1'd0|1'd0|1'd0|1'd0|1'd0|1'd0|1'd0|1'd0|1'd0|1'd0|1'd0|1'd0|1'd0|1'd0|1'd0|1'd0|1'd0|1'd0|1'd0|1'd0|1'd0|1'd0|1'd0|1'd0|1'd0|1'd0|1'd0|1'd0|1'd0|1'd0|1'd0|1'd0|1'd0|1'd0|1'd0|1'd0|1'd0|1'd0|1'd0|1'd0|1'd0|1'd0|1'd0|1'd0|1'd0|1'd0|1'd0|1'd0|1'd0|1'd0|1'd0|1'd0|1'd0|1'd0|1'd0|1'd0|1'd0|1'd0|1'd0|1'd0|1'd0|1'd0|1'd0|1'd0|1'd0|1'd0|1'd0|1'd0|1'd0|1'd0|1'd0|1'd0|1'd0|1'd0|1'd0|1'd0|1'd0|1'd0|1'd0|1'd0|1'd0|1'd0|1'd0|1'd0|1'd0|1'd0|1'd0|1'd0|1'd0|1'd0|1'd0|1'd0|1'd0|1'd0|1'd0|1'd0|1'd0|1'd0|1'd0|1'd0|1'd0|1'd0|1'd0|1'd0|1'd0|1'd0|1'd0|1'd0|1'd0|1'd0|1'd0|1'd0|1'd0|1'd0|1'd0|1'd0|1'd0|1'd0|1'd0|1'd0|1'd0|1'd0|1'd0|1'd0|1'd0|1'd0|1'd0|1'd0|1'd0|1'd0|1'd0|1'd0|1'd0|1'd0|1'd0|1'd0|1'd0|1'd0|1'd0|1'd0|1'd0|1'd0|1'd0|1'd0|1'd0|1'd0|1'd0|1'd0|1'd0|1'd0|1'd0|1'd0|1'd0|1'd0|1'd0|1'd0|1'd0|1'd0|1'd0|1'd0|1'd0|1'd0|1'd0|1'd0|1'd0|1'd0|1'd0|1'd0|1'd0|1'd0|1'd0|1'd0|1'd0|1'd0|1'd0|1'd0|1'd0|1'd0|1'd0|1'd0|1'd0|1'd0|1'd0|1'd0|1'd0|1'd0|1'd0|1'd0|1'd0|1'd0|1'd0|1'd0|1'd0|1'd0|1'd0|1'd0|1'd0|1'd0|1'd0|1'd0|1'd0|1'd0|1'd0|1'd0|1'd0|1'd0|1'd0|1'd0|1'd0|1'd0|1'd0|1'd0|1'd0|1'd0|1'd0|1'd0|1'd0|1'd0|1'd0|1'd0|1'd0|1'd0|1'd0|1'd0|1'd0|1'd0|1'd0|
-> check z m d
+z = module m(output a);assign a=\257{1'd0|\}
 14 verilog L3 byte 1312
-
 z = module m(output a);wire b;assign a=b|c;endmodule
-> check z m d
 14 verilog N1 c
-
 z = module m(output b);endmodule
-> check z m d
 14 verilog N9 b
-
 no z
 m =
 d =
-> check z m d
 10 absent 1
-
 z =
-> check z m d
 14 verilog L2
-
-z =
-| module f(input clk, input reset, input rdata, output en, output we,
-|   output addr, output wdata, output done, output fail);
-| reg [2:0] t;
-| assign en = !reset && t < 3'd2;
-| assign we = 1'd1;
-| assign addr = t == 3'd1;
-| assign wdata = 1'd0;
-| assign done = !reset && t == 3'd3;
-| assign fail = 1'd0 & rdata;
-| always @(posedge clk) if (reset) t <= 3'd0; else if (t != 3'd3) t <= t + 3'd1;
-| endmodule
-> check z m d
+z = $f
 3 march M3
-
 m = $w0
-> check z m d
 4 memory D2
-
 no d
-> check z m d
 10 absent 3
-
 d = $two
 > check z m z
 2 usage
 > benchfile z m d
 14 verilog L1 byte 149
-
 # a module that the program writes
 anew
 m = $c

@@ -1,9 +1,8 @@
-//! Worked examples of `compile`.
+//! Worked examples of `compile` and `make`.
 
 use crate::rows::first_wrong;
 
 static COMPILE: &[u8] = br"# COMPILED
-
 m = $c
 d = $16
 l = SF
@@ -18,10 +17,8 @@ r ==
 | total 2 covered 2 escapes 0
 v begins module buf0_bist(\n  input clk,\n  input reset,\n  input rdata,\n
 v ends endmodule\n
-
 d = memory 1\nname buf0\nwords 5\nbits 1\n
 l = <0w0/1/->
-> compile m d l v r
 1 total 1 covered 0 escapes 1
 r ==
 | march {any(w0);up(r0,w1);up(r1,w0);down(r0,w1);down(r1,w0);any(r0)}
@@ -30,10 +27,8 @@ r ==
 | class WDF 1 covered 0
 | total 1 covered 0 escapes 1
 v begins
-
 d = $16
 l = <1w0r0/1/1>\n<r0w1/0/->\n
-> compile m d l v r
 1 total 2 covered 1 escapes 1
 r ==
 | march {any(w0);up(r0,w1);up(r1,w0);down(r0,w1);down(r1,w0);any(r0)}
@@ -44,7 +39,42 @@ r ==
 | total 2 covered 1 escapes 1
 ";
 
+static MAKE: &[u8] = br"# MADE
+> make 1 a b c v r
+1 made elements 6 operations 10 commands 210 covered 672 of 1008
+> make 0 a b c v r
+0 made elements 64 operations 254 commands 3556 covered 1008 of 1008
+> make 1000 a b c v r
+0 made elements 64 operations 254 commands 1781556 covered 1008 of 1008
+a begins {any(w0);up(r0,r0,w0,r0,w1);up(r1,r1,w1,r1,w0);down(r0,r0,w0,r0,w1);down(r1,r1,w1,r1,w0);any(r0);down(r0,w0,r0,w1);
+a ends )}\n
+b ==
+| memory 1
+| name made
+| words 1002
+| bits 64
+| backgrounds 0000000000000000 aaaaaaaaaaaaaaaa cccccccccccccccc f0f0f0f0f0f0f0f0 ff00ff00ff00ff00 ffff0000ffff0000 ffffffff00000000
+c == \21{all\n\}
+v begins module made_bist(\n
+r ends total 1008 covered 1008 escapes 0\n
+> make 65534 a b c v r
+0 made elements 64 operations 254 commands 116523008 covered 1008 of 1008
+> make 65535 a b c v r
+2 usage
+> make 01 a b c v r
+2 usage
+> make 0 a b c
+2 usage
+> make 0 a b c v a
+2 usage
+";
+
 #[test]
 fn compilations(rt: HostRuntime) {
     assert_eq!(rt; first_wrong(rt.alloc(), COMPILE), None);
+}
+
+#[test]
+fn made_inputs(rt: HostRuntime) {
+    assert_eq!(rt; first_wrong(rt.alloc(), MAKE), None);
 }

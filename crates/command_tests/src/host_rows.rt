@@ -2,43 +2,62 @@
 
 use crate::rows::first_wrong;
 
-static FAILING: &[u8] = br"m = $mats
+static FAILING: &[u8] = br"# CALLS
+m = $mats
 fails 1
 > sim m <0w1/0/-> 2 00 none 0 uud
 7 read failed 1
-
 fails 2
-> sim m <0w1/0/-> 2 00 none 0 uud
 8
-
 l = one
 fails 3
 > judge m l r
 8 write failed 3
-
 anew
 s = chip 1\nname one\nbudget 1\nunit 1 w t2\n
 w = $w0
-t2 = memory 1\nname t2\nwords 2\nbits 1\n
+memories 2 1 t2
 fails 1
 > chip s v
 7 read failed 1
-
 fails 2
-> chip s v
 7 unit 0 read failed 1
-
 fails 3
-> chip s v
 7 unit 0 read failed 2
-
 fails 4
-> chip s v
 8 write failed 2
-
 fails 5
-> chip s v
 8
+
+# HALVES
+anew
+m = $c
+d = $16
+l = SF
+> compile m d l v r
+0 total 2 covered 2 escapes 0
+$v = @v
+$r = @r
+fails 1
+7 read failed 1
+fails 2
+7 read failed 2
+fails 3
+7 read failed 3
+fails 1 2
+7
+fails 4
+8 write failed 4
+v half $v
+r absent
+fails 5
+8 write failed 5
+v == $v
+r half $r
+fails 6
+8
+v == $v
+r == $r
 ";
 
 #[test]

@@ -3,7 +3,6 @@
 use crate::rows::first_wrong;
 
 static JUDGE: &[u8] = br"# JUDGE
-
 m = $w0
 l = CFir\nCFdr\nCFrd\nCFtr\nCFst
 > judge m l r
@@ -36,97 +35,77 @@ r ==
 | class CFdr 4 covered 0
 | class CFir 4 covered 0
 | total 20 covered 0 escapes 20
-
 m = {any(w0);del;any(r0,w1);del;any(r1)}
 l = DRF
-> judge m l r
 0 total 2 covered 2 escapes 0
-
 m = $retention
-> judge m l r
 1 total 2 covered 1 escapes 1
-
-m = $c
-l = one
-> judge m l r
-1 total 12 covered 8 escapes 4
-
+r ==
+| march {any(w0);del;any(r0)}
+| covered <0t/1/-> DRF
+| escape <1t/0/-> DRF aggressor none victim 0 content 00 directions uuu
+| class DRF 2 covered 1
+| total 2 covered 1 escapes 1
 m = $mats
-> judge m l r
+l = one
 1 total 12 covered 7 escapes 5
-
 m = $c
 l = two
-> judge m l r
 1 total 36 covered 24 escapes 12
-
 m = $ss
 l = all
-> judge m l r
 0 total 48 covered 48 escapes 0
-
 m = $w0
-> judge m l r
 1 total 48 covered 0 escapes 48
-
 m = {any(w0);up(r0,w1);down(r1,w0);any(r0)}\n
 l = <0/1/->
-> judge m l r
 0 total 1 covered 1 escapes 0
-
 m = $mats
 l =
-> judge m l r
 0 total 0 covered 0 escapes 0
-
+# each of 2^64 choices of direction finds them, which no prover could try one by one
+m = {\63{any(w0);\}any(w1,r1)}
+l = <0w1/0/->\n<0w1r1/0/0>
+0 total 2 covered 2 escapes 0
 m = {any(w0);any(w1,r1)}
-l = <0w1r1/0/0>
-> judge m l r
-0 total 1 covered 1 escapes 0
-
+l = <0w1r1/0/0>\n<0w1/0/->\n<0w1r1;0/1/->\n<0w1r1/0/0>\n
+1 total 4 covered 3 escapes 1
+r ==
+| march {any(w0);any(w1,r1)}
+| covered <0w1r1/0/0> DYN1
+| covered <0w1/0/-> TF
+| escape <0w1r1;0/1/-> DYN2 cells 2 aggressor 0 victim 1 content 00 directions uu
+| covered <0w1r1/0/0> DYN1
+| class TF 1 covered 1
+| class DYN1 2 covered 2
+| class DYN2 1 covered 0
+| total 4 covered 3 escapes 1
 m = $c
 l = dyn1
-> judge m l r
 1 total 30 covered 2 escapes 28
-
 l =  dyn2 # two cells\n
-> judge m l r
 1 total 96 covered 8 escapes 88
-
 l = all\nDRF\ndyn1\ndyn2\n
-> judge m l r
 1 total 176 covered 42 escapes 134
 
 # REFUSED
-
 m = {del}
 l = DRF
-> judge m l r
 3 march M3
-
 no l
 m = $mats
 > compile m d l v l
 2 usage
-
 l = <0w1r1w0/1/->
 > judge m l r
 5 fault F4 line 1
-
 l = dyn1\n<0w1;0r0/1/0>\n
-> judge m l r
 5 fault F4 line 2
-
 l = <0w1r0/0/1>
-> judge m l r
 5 fault F3 line 1
-
 l = one\n<0w1/0
-> judge m l r
 5 fault F2 line 2
-
 no l
-> judge m l r
 10 absent 2
 > judge m m r
 2 usage
@@ -136,38 +115,13 @@ no l
 10 absent 2
 > vectors m l m
 2 usage
-
-l =
-| all
-| all
-| all
-| all
-| all
-| all
-| all
-| all
-| all
-| all
-| all
-| all
-| all
-| all
-| all
-| all
-| all
-| all
-| all
-| all
-| all
-| all
+l = \22{all\n\}
 > judge m l r
 5 fault F5 line 22
 
 # REPORTS
-
 m = $c
 l = one
-> judge m l r
 1 total 12 covered 8 escapes 4
 r ==
 | march {any(w0);up(r0,w1);up(r1,w0);down(r0,w1);down(r1,w0);any(r0)}
@@ -190,10 +144,8 @@ r ==
 | class DRDF 2 covered 0
 | class IRF 2 covered 2
 | total 12 covered 8 escapes 4
-
 m = $mats
 l = WDF # both\n<0w1;0/1/->\n
-> judge m l r
 1 total 3 covered 0 escapes 3
 r ==
 | march {any(w0);up(r0,w1);down(r1,w0)}
@@ -203,20 +155,16 @@ r ==
 | class WDF 2 covered 0
 | class CFds 1 covered 0
 | total 3 covered 0 escapes 3
-
 m = {any(w0);any(r0,w1);any(w0);down(r0,w1)}
 l = <0w1;0/1/->
-> judge m l r
 1 total 1 covered 0 escapes 1
 r ==
 | march {any(w0);any(r0,w1);any(w0);down(r0,w1)}
 | escape <0w1;0/1/-> CFds aggressor 0 victim 1 content 00 directions udud
 | class CFds 1 covered 0
 | total 1 covered 0 escapes 1
-
 m = $c
 l = DRF
-> judge m l r
 1 total 2 covered 0 escapes 2
 r ==
 | march {any(w0);up(r0,w1);up(r1,w0);down(r0,w1);down(r1,w0);any(r0)}
@@ -224,9 +172,7 @@ r ==
 | escape <1t/0/-> DRF aggressor none victim 0 content 00 directions uuuddu
 | class DRF 2 covered 0
 | total 2 covered 0 escapes 2
-
 l = CFwd
-> judge m l r
 1 total 4 covered 0 escapes 4
 r ==
 | march {any(w0);up(r0,w1);up(r1,w0);down(r0,w1);down(r1,w0);any(r0)}
@@ -236,20 +182,16 @@ r ==
 | escape <1;1w1/0/-> CFwd aggressor 0 victim 1 content 00 directions uuuddu
 | class CFwd 4 covered 0
 | total 4 covered 0 escapes 4
-
 m = {any(w0);up(w1);down(r1);up(w0);down(w1);up(r1)}
 l = <0w1r1/0/0>
-> judge m l r
 1 total 1 covered 0 escapes 1
 r ==
 | march {any(w0);up(w1);down(r1);up(w0);down(w1);up(r1)}
 | escape <0w1r1/0/0> DYN1 cells 3 aggressor none victim 1 content 000 directions uududu
 | class DYN1 1 covered 0
 | total 1 covered 0 escapes 1
-
 m = $c
 l = DRF\n<1w0r0/1/1>\nSF\n<0r0w1;0/1/->\n<1w0r0/1/1>\n
-> judge m l r
 1 total 7 covered 3 escapes 4
 r ==
 | march {any(w0);up(r0,w1);up(r1,w0);down(r0,w1);down(r1,w0);any(r0)}
@@ -265,10 +207,8 @@ r ==
 | class DYN1 2 covered 0
 | class DYN2 1 covered 1
 | total 7 covered 3 escapes 4
-
 m = $mats
 l = <0;0w1r1/0/0>
-> judge m l r
 1 total 1 covered 0 escapes 1
 r ==
 | march {any(w0);up(r0,w1);down(r1,w0)}

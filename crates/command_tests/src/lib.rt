@@ -14,17 +14,9 @@ mod chip_rows;
 #[cfg(test)]
 mod compile_rows;
 #[cfg(test)]
-mod file_rows;
-#[cfg(test)]
-mod half_files;
-#[cfg(test)]
 mod host_rows;
 #[cfg(test)]
-mod hosts;
-#[cfg(test)]
 mod judge_rows;
-#[cfg(test)]
-mod make_rows;
 #[cfg(test)]
 mod rows;
 #[cfg(test)]

@@ -1,41 +1,14 @@
-//! What rows can't say: a large array, either name of a loop, halves of files, real files, the words of a box.
+//! What rows can't say: real files, and the words of a box.
 
-use crate::hosts::{MARCH_C, MATS, SIXTEEN, failing_host, host_of, run_alone};
 use bist_app::run;
-use bist_host::{Host, MemHost, RealHost};
+use bist_host::{Host, RealHost};
 use memory_desc::read_memory;
 use std::alloc::Global;
 use std::test::Fail;
 use std::{env, fs, process};
 use word_device::{ArrayDevice, Device, PortCmd, shape_of};
 
-/// An array of so many cells that hold 0, what `sim` says of it, and its status.
-type Cells = (usize, &'static [u8], u8);
-
-static CELLS: [Cells; 2] = [
-    (4096, b"caught element 2 address 0 operation 0\n", 1),
-    (4097, b"usage\n", 2),
-];
-
-/// Whether `sim` of so many cells ends as the row says. `None` is want of memory.
-fn are_cells(alloc: Global, row: &Cells) -> Option<bool> {
-    let mut host = host_of(alloc, &[("m", MATS)])?;
-    let count = row.0;
-    let mut command = format!(in alloc; "sim m <0w1/0/-> {count} ").ok()?;
-    for _ in 0..count {
-        command.push('0').ok()?;
-    }
-    command.push_str(" none 0 uud").ok()?;
-    let status = run_alone(alloc, &command, &mut host).ok()?;
-    Some(status == row.2 && host.said() == row.1)
-}
-
-#[test]
-fn large_arrays(rt: HostRuntime) {
-    for row in &CELLS {
-        assert!(rt; are_cells(rt.alloc(), row) == Some(true));
-    }
-}
+const MATS: &[u8] = b"{any(w0);up(r0,w1);down(r1,w0)}";
 
 /// The status of `sim` of a march whose file's name may hold spaces.
 fn sim_of<H: Host>(alloc: Global, name: &str, host: &mut H) -> u8 {
@@ -54,24 +27,6 @@ fn real_files(rt: HostRuntime) -> Result<(), Fail> {
     assert_eq!(rt; sim_of(rt.alloc(), name, &mut host), 1);
     fs::remove_file(&rt, name)?;
     Ok(())
-}
-
-const LOOP: &[u8] = b"module m(output a);wire b;assign a = b;assign b = a;endmodule";
-
-/// Whether a loop is told, from either of its names. `None` is want of memory.
-fn is_loop_told(alloc: Global) -> Option<bool> {
-    let mut host = host_of(alloc, &[("m", MARCH_C), ("d", SIXTEEN), ("z", LOOP)])?;
-    let status = run_alone(alloc, "benchfile z m d", &mut host).ok()?;
-    let said = host.said();
-    Some(
-        status == 14
-            && (said == b"verilog N7 a b\n".as_slice() || said == b"verilog N7 b a\n".as_slice()),
-    )
-}
-
-#[test]
-fn a_loop(rt: HostRuntime) {
-    assert!(rt; is_loop_told(rt.alloc()) == Some(true));
 }
 
 #[test]

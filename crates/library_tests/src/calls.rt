@@ -4,7 +4,7 @@
 ghost use Rattle.std.specs.Prelude.{◌≡◌, None, IfOk};
 ghost use Rattle.march_core.specs.Visits.{FitsWord};
 
-use array_sim::{Instance, act_of, simulate};
+use array_sim::act_of;
 use arrayvec::ArrayString;
 use backgrounds::{log_set, separates, word_of};
 use bist_bits::{Bits, NoMemory, all_ones, concat, parity, select, width_of};
@@ -15,7 +15,7 @@ use fault_core::{
     Act, Class, Places, Prim, PrimFault, Sense, class_of, close_cells, do_plainly, is_same_act,
     members, one_cell, step, two_cell,
 };
-use march_core::{March, MarchBuilder, MarchFault, Miss, Op, Order, address_of, is_down, is_wrong};
+use march_core::{March, MarchBuilder, MarchFault, Op, Order, address_of, is_down, is_wrong};
 use march_syntax::read_march;
 use memory_desc::{Memory, read_memory};
 use pair_tracker::{Placement, Survivor, survivors};
@@ -239,19 +239,6 @@ fn acts_on_cells(rt: HostRuntime) -> Result<(), Fail> {
     Ok(())
 }
 
-/// Where a march first misses that the first of two cells keeps its zero.
-fn first_miss(march: &March, directions: u64) -> Result<Option<Miss>, PrimFault>
-    requires { FitsWord march.now directions }
-{
-    let instance = Instance {
-        prim: failed_transition(false)?,
-        agg: None,
-        vic: 0,
-    };
-    let mut cells = [false, false];
-    Ok(simulate(march, &instance, &mut cells, directions))
-}
-
 /// Whether a cell that keeps its one passes a march in this way alone.
 fn survives_alone(march: &March, survivor: Survivor) -> Result<bool, PrimFault> {
     let keeps_one = failed_transition(true)?;
@@ -262,13 +249,6 @@ fn survives_alone(march: &March, survivor: Survivor) -> Result<bool, PrimFault> 
 #[test]
 fn arrays_of_two_cells(rt: HostRuntime) -> Result<(), Fail> {
     let march = read_march(MATS_PLUS)?;
-    assert!(rt; march.fits_directions(UP_UP_DOWN));
-    let miss = Miss {
-        element: 2,
-        address: 0,
-        op: 0,
-    };
-    assert!(rt; first_miss(&march, UP_UP_DOWN)? == Some(miss));
     let pair = Pair { a: false, v: true };
     let directions = UP_UP_DOWN;
     assert!(rt; survives_alone(&march, Survivor { pair, directions })?);

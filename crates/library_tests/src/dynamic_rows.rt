@@ -1,39 +1,19 @@
-//! Rows of dynamic primitives: what one array shows, and the verdicts.
+//! Dynamic primitives in parts, and what one array shows of them.
 
 ghost use Rattle.std.specs.Prelude.{◌≡◌, ◌<◌, None, IfOk};
 ghost use Rattle.march_core.specs.Visits.{FitsWord};
 
-use crate::calls::failed_transition;
-use coverage::{Verdict, judge};
 use dynamic_core::{DynInstance, DynPrim, DynSense, dyn_one, dyn_two, print_dyn, simulate_dyn};
-use dynamic_prover::{DynVerdict, judge_dyn};
 use fault_core::{Act, PrimFault};
-use march_core::{March, MarchFault, Miss};
+use march_core::{March, Miss};
 use march_syntax::read_march;
 use std::test::Fail;
 
 /// A write of 1 and its read stand side by side at the end cells alone.
 const ENDS: &[u8] = b"{any(w0);up(w1);down(r1);up(w0);down(w1);up(r1)}";
 
-const MARCH_C: &[u8] = b"{any(w0);up(r0,w1);up(r1,w0);down(r0,w1);down(r1,w0);any(r0)}";
-
-const BOTH: &[u8] = b"{any(w0);any(w1,r1)}";
-
-/// Elements of order any that write zeros, and a last one that writes a one and reads it.
-const SIXTY_FOUR: &[u8] = br"{any(w0);any(w0);any(w0);any(w0);any(w0);any(w0);any(w0);any(w0);
-any(w0);any(w0);any(w0);any(w0);any(w0);any(w0);any(w0);any(w0);
-any(w0);any(w0);any(w0);any(w0);any(w0);any(w0);any(w0);any(w0);
-any(w0);any(w0);any(w0);any(w0);any(w0);any(w0);any(w0);any(w0);
-any(w0);any(w0);any(w0);any(w0);any(w0);any(w0);any(w0);any(w0);
-any(w0);any(w0);any(w0);any(w0);any(w0);any(w0);any(w0);any(w0);
-any(w0);any(w0);any(w0);any(w0);any(w0);any(w0);any(w0);any(w0);
-any(w0);any(w0);any(w0);any(w0);any(w0);any(w0);any(w0);any(w1,r1)}";
-
 /// `uududu`.
 const DOWN_AT_2_AND_4: u64 = 0b101 << 59;
-
-/// `uuuddd`.
-const DOWN_FROM_3: u64 = 0b111 << 58;
 
 /// `<0w1r1/0/0>`.
 fn loses_a_written_one() -> Result<DynPrim, PrimFault>
@@ -94,65 +74,5 @@ fn a_middle_cell_passes(rt: HostRuntime) -> Result<(), Fail> {
         op: 0,
     };
     assert!(rt; first_miss(&march, DOWN_AT_2_AND_4, 2)? == Some(miss));
-    Ok(())
-}
-
-fn verdict_on(text: &[u8], prim: &DynPrim) -> Result<DynVerdict, MarchFault> {
-    let march = read_march(text)?;
-    Ok(judge_dyn(&march, prim))
-}
-
-/// The size, the victim and the directions of an escape.
-fn escape_of(verdict: &DynVerdict) -> Option<(u8, u8, u64)> {
-    match verdict {
-        DynVerdict::Covered => None,
-        DynVerdict::Escape(escape) => Some((escape.size, escape.vic, escape.directions)),
-    }
-}
-
-/// Whether it is an escape of one cell among zeros.
-fn is_blank(verdict: &DynVerdict) -> bool {
-    match verdict {
-        DynVerdict::Covered => false,
-        DynVerdict::Escape(escape) => {
-            escape.agg.is_none() && escape.content == [false, false, false, false, false]
-        }
-    }
-}
-
-/// Whether it is the escape of the middle one of three zeros.
-fn is_middle_escape(verdict: &DynVerdict) -> bool {
-    is_blank(verdict) && escape_of(verdict) == Some((3, 1, DOWN_AT_2_AND_4))
-}
-
-#[test]
-fn verdicts_on_a_lost_one(rt: HostRuntime) -> Result<(), Fail> {
-    let prim = loses_a_written_one()?;
-    assert!(rt; is_middle_escape(&verdict_on(ENDS, &prim)?));
-    assert!(rt; escape_of(&verdict_on(BOTH, &prim)?).is_none());
-    Ok(())
-}
-
-#[test]
-fn a_verdict_on_a_flipped_zero(rt: HostRuntime) -> Result<(), Fail> {
-    let acts = Some([Act::Write(false), Act::Read]);
-    let state = true;
-    let flips = DynPrim::new(None, DynSense { state, acts }, true, Some(true))?;
-    let verdict = verdict_on(MARCH_C, &flips)?;
-    assert!(rt; escape_of(&verdict) == Some((2, 0, DOWN_FROM_3)));
-    Ok(())
-}
-
-/// Each of 2^64 choices of direction finds them, which no prover could try one by one.
-#[test]
-fn many_choices_of_direction(rt: HostRuntime) -> Result<(), Fail> {
-    let march = read_march(SIXTY_FOUR)?;
-    assert!(rt; matches!(judge(&march, &failed_transition(false)?), Verdict::Covered));
-    assert!(rt;
-        matches!(
-            judge_dyn(&march, &loses_a_written_one()?),
-            DynVerdict::Covered
-        )
-    );
     Ok(())
 }

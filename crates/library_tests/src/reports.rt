@@ -1,18 +1,15 @@
-//! Reports of plain and of dynamic primitives, by classes and of a memory, and the verdicts that they print.
+//! Reports by each call that writes one, and the verdicts that they print.
 
 use crate::calls::{MATS_PLUS, failed_transition, is_worked_escape};
 use bist_bits::NoMemory;
 use coverage::{Verdict, judge, judge_all};
-use dynamic_core::{Item, read_items};
+use dynamic_core::Item;
 use fault_core::{Prim, PrimFault};
 use march_core::March;
 use march_syntax::read_march;
-use memory_desc::{Memory, read_memory};
 use report::{count_covered, judge_items, total_text, write_judged, write_mixed, write_report};
 use std::alloc::Global;
 use std::test::Fail;
-
-const MARCH_C: &[u8] = b"{any(w0);up(r0,w1);up(r1,w0);down(r0,w1);down(r1,w0);any(r0)}";
 
 fn is_text(text: Vec<u8>, wanted: &[u8]) -> bool {
     text.as_slice() == wanted
@@ -88,90 +85,5 @@ fn reports_of_items(rt: HostRuntime) -> Result<(), Fail> {
 fn a_total(rt: HostRuntime) -> Result<(), Fail> {
     let total = b"total 5 covered 3 escapes 2\n";
     assert!(rt; is_text(total_text(rt.alloc(), 5, 3)?, total));
-    Ok(())
-}
-
-/// Whether this is the report of the items of a list.
-fn is_reported(
-    alloc: Global,
-    march: &March,
-    memory: Option<&Memory>,
-    list: &[u8],
-    wanted: &[u8],
-) -> bool {
-    let Ok(items) = read_items(alloc, list) else {
-        return false;
-    };
-    match write_mixed(alloc, march, memory, &items) {
-        Ok(text) => is_text(text, wanted),
-        Err(NoMemory) => false,
-    }
-}
-
-const MIXED: &[u8] = b"march {any(w0);any(w1,r1)}
-covered <0w1r1/0/0> DYN1
-covered <0w1/0/-> TF
-escape <0w1r1;0/1/-> DYN2 cells 2 aggressor 0 victim 1 content 00 directions uu
-covered <0w1r1/0/0> DYN1
-class TF 1 covered 1
-class DYN1 2 covered 2
-class DYN2 1 covered 0
-total 4 covered 3 escapes 1
-";
-
-const LIST: &[u8] = b"<0w1r1/0/0>\n<0w1/0/->\n<0w1r1;0/1/->\n<0w1r1/0/0>\n";
-
-#[test]
-fn a_mixed_report(rt: HostRuntime) -> Result<(), Fail> {
-    let march = read_march(b"{any(w0);any(w1,r1)}")?;
-    let items = read_items(rt.alloc(), LIST).ok().ok_or("a list")?;
-    assert!(rt; matches!(items.first(), Some(Item::Dyn(_))));
-    assert!(rt; covered(rt.alloc(), &march, &items)? == 3);
-    assert!(rt; is_reported(rt.alloc(), &march, None, LIST, MIXED));
-    Ok(())
-}
-
-const BY_CLASSES: &[u8] = b"march {any(w0);up(r0,w1);up(r1,w0);down(r0,w1);down(r1,w0);any(r0)}
-covered <0/1/-> SF
-covered <1/0/-> SF
-covered <0w1/0/-> TF
-covered <1w0/1/-> TF
-escape <0w0/1/-> WDF aggressor none victim 0 content 10 directions uuuddu
-escape <1w1/0/-> WDF aggressor none victim 0 content 00 directions uuuddu
-covered <0r0/1/1> RDF
-covered <1r1/0/0> RDF
-escape <0r0/1/0> DRDF aggressor none victim 0 content 00 directions uuuddu
-escape <1r1/0/1> DRDF aggressor none victim 0 content 00 directions uuuddu
-covered <0r0/0/1> IRF
-covered <1r1/1/0> IRF
-class SF 2 covered 2
-class TF 2 covered 2
-class WDF 2 covered 0
-class RDF 2 covered 2
-class DRDF 2 covered 0
-class IRF 2 covered 2
-total 12 covered 8 escapes 4
-";
-
-#[test]
-fn classes_are_counted(rt: HostRuntime) -> Result<(), Fail> {
-    let march = read_march(MARCH_C)?;
-    assert!(rt; is_reported(rt.alloc(), &march, None, b"one", BY_CLASSES));
-    Ok(())
-}
-
-const WITH_A_MEMORY: &[u8] = b"march {any(w0);up(r0,w1);up(r1,w0);down(r0,w1);down(r1,w0);any(r0)}
-memory buf0 words 16 bits 1 backgrounds 1 commands 160
-covered <0/1/-> SF
-covered <1/0/-> SF
-class SF 2 covered 2
-total 2 covered 2 escapes 0
-";
-
-#[test]
-fn a_memory_has_a_line(rt: HostRuntime) -> Result<(), Fail> {
-    let march = read_march(MARCH_C)?;
-    let memory = read_memory(b"memory 1\nname buf0\nwords 16\nbits 1\n")?;
-    assert!(rt; is_reported(rt.alloc(), &march, Some(&memory), b"SF", WITH_A_MEMORY));
     Ok(())
 }

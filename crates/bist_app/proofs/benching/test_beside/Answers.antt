@@ -3,8 +3,8 @@ use Rattle.bist_app.proofs.Benched.{tested}
 use Rattle.bist_app.proofs.benching.test_beside.Goals as goal
 
 pub run_beside-requires-clause-ports : goal.run_beside-requires-clause-ports
-run_beside-requires-clause-ports g c = test_ports c.in-Ok.design.tree c.args.march.now c.args.memory.now c.in-Ok.ensures.test
+run_beside-requires-clause-ports g c = test_ports c.in_ok-design.design.tree c.args.march.now c.args.memory.now c.in_ok-design.ensures.test
 
 pub returns-clause-benched : goal.returns-clause-benched
 returns-clause-benched g c =
-    tested _ c.args.devices.now.items c.in-Ok.design.tree c.args.march.now c.args.memory.now c.args.planted.now c.run_beside.result c.in-Ok.ensures.test c.run_beside.ensures.run
+    tested _ c.args.devices.now.items c.in_ok-design.design.tree c.args.march.now c.args.memory.now c.args.planted.now c.run_beside.result c.in_ok-design.ensures.test c.run_beside.ensures.run

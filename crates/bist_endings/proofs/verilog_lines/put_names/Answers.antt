@@ -1,12 +1,12 @@
 use Rattle.std.proofs.Common.{◌++◌}
 use Rattle.bist_endings.specs.Ending.{names_text}
 use Rattle.bist_endings.proofs.Names.{names_more, names_all}
-use Rattle.bist_endings.proofs.verilog_lines.push_names.Goals as goal
+use Rattle.bist_endings.proofs.verilog_lines.put_names.Goals as goal
 
 pub loop-name-preserved : goal.loop-name-preserved
 loop-name-preserved c =
-    names_more (c.args.line.now.items ++ names_text c.args.names.now) c.loop-name.line.items c.push_name.new.line.items c.args.names.now c.loop-name.name-index c.name-item.result
-    c.loop-name-test.true c.name-item.is c.in_ok-push_name.ensures c.loop-name.invariant
+    names_more (c.args.line.now.items ++ names_text c.args.names.now) c.loop-name.line.items c.put_name.new.line.items c.args.names.now c.loop-name.name-index c.name-item.result
+    c.loop-name-test.true c.name-item.is c.in_ok-put_name.ensures c.loop-name.invariant
 
 pub returns : goal.returns
 returns c =
