@@ -221,28 +221,21 @@ pub element_visit : (p : Primitive) (at : Places) (a v n : ℕ) (m : Machine) (I
 element_visit p at a v n m IsClosed laws ne e ops last next scanned [] cells distinct below size closed agrees =
     (refl, refl, record { size = size; closed = closed; agrees = λ y yn ya yv bit is. agrees y yn ya yv bit is })
 element_visit p at a v n m IsClosed laws ne e ops last next scanned (x ∷ xs) cells distinct below size closed agrees =
-    ⊎_elim
-    (λ (h : (eqb x a ≡ true) × (x ≡ a)).
-    let own : x ≢ a → x ≢ v → ⊥ = λ xa xv. xa h.1 in
-    let first = subst (λ y. Shows a v (ops_run m (pair_at cells a v) A ops) (run_of p at cells (steps_of (cell_visits e y 0 ops))) (Keeps a v n IsClosed cells)) (sym h.1)
-    (own_visit p at a v n m IsClosed laws e 0 A (subst (λ y. y < n) h.1 below.0) ops cells size closed) in
-    rw h.0
-    (shows_on p at a v cells (steps_of (cell_visits e x 0 ops)) (address_steps e ops xs) (ops_run m (pair_at cells a v) A ops) (λ q. sides_run m q (sides_of a v xs) ops)
+    let own : (s : Side) → x ≡ place_of a v s → (x ≢ a → x ≢ v → ⊥)
+    → Shows a v (sides_run m (pair_at cells a v) (s ∷ sides_of a v xs) ops) (run_of p at cells (address_steps e ops (x ∷ xs))) (Leaves a v n IsClosed next) =
+    λ s is one.
+    let first = subst (λ y. Shows a v (ops_run m (pair_at cells a v) s ops) (run_of p at cells (steps_of (cell_visits e y 0 ops))) (Keeps a v n IsClosed cells)) (sym is)
+    (own_visit p at a v n m IsClosed laws e 0 s (subst (λ y. y < n) is below.0) ops cells size closed) in
+    shows_on p at a v cells (steps_of (cell_visits e x 0 ops)) (address_steps e ops xs) (ops_run m (pair_at cells a v) s ops) (λ q. sides_run m q (sides_of a v xs) ops)
     (Keeps a v n IsClosed cells) (Leaves a v n IsClosed next) first
     (λ c kept. element_visit p at a v n m IsClosed laws ne e ops last next scanned xs c distinct.1 below.1 kept.size kept.closed
-    (own_off a v n x xs last next IsClosed cells c own distinct.0 agrees kept))))
+    (own_off a v n x xs last next IsClosed cells c one distinct.0 agrees kept)) in
+    ⊎_elim
+    (λ (h : (eqb x a ≡ true) × (x ≡ a)). rw h.0 (own A h.1 (λ xa xv. xa h.1)))
     (λ (h : (eqb x a ≡ false) × (x ≢ a)).
     rw h.0
     (⊎_elim
-    (λ (g : (eqb x v ≡ true) × (x ≡ v)).
-    let own : x ≢ a → x ≢ v → ⊥ = λ xa xv. xv g.1 in
-    let first = subst (λ y. Shows a v (ops_run m (pair_at cells a v) V ops) (run_of p at cells (steps_of (cell_visits e y 0 ops))) (Keeps a v n IsClosed cells)) (sym g.1)
-    (own_visit p at a v n m IsClosed laws e 0 V (subst (λ y. y < n) g.1 below.0) ops cells size closed) in
-    rw g.0
-    (shows_on p at a v cells (steps_of (cell_visits e x 0 ops)) (address_steps e ops xs) (ops_run m (pair_at cells a v) V ops) (λ q. sides_run m q (sides_of a v xs) ops)
-    (Keeps a v n IsClosed cells) (Leaves a v n IsClosed next) first
-    (λ c kept. element_visit p at a v n m IsClosed laws ne e ops last next scanned xs c distinct.1 below.1 kept.size kept.closed
-    (own_off a v n x xs last next IsClosed cells c own distinct.0 agrees kept))))
+    (λ (g : (eqb x v ≡ true) × (x ≡ v)). rw g.0 (own V g.1 (λ xa xv. xv g.1)))
     (λ (g : (eqb x v ≡ false) × (x ≢ v)).
     let held : (bit : Bool) → last ≡ Some bit → cell cells x ≡ bit =
     λ bit is. agrees x below.0 h.1 g.1 bit (ap (λ b. cond (b || contains x xs) last next) (eq-eqb x x refl) ∙ is) in

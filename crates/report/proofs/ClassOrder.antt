@@ -1,8 +1,9 @@
 -- The numbers of the classes are their places in the order of the report, and classes of one number have one name.
-use Rattle.std.proofs.Common.{◌≡◌, ◌↔◌, ◌+◌, ◌==◌, ℕ, zero, suc, Option, Some, None, List, [], ◌∷◌, if◌then◌else◌, refl, ap, sym, ◌∙◌, arith}
+use Rattle.std.proofs.Common.{◌≡◌, ◌↔◌, ◌+◌, ◌==◌, ℕ, zero, suc, Option, Some, None, List, [], ◌∷◌, if◌then◌else◌, refl, ap, sym, subst, ◌∙◌, arith}
 use Rattle.std.proofs.lemmas.Bool.Decides.{Decides-eqb, same_from_decides}
 use Rattle.std.proofs.lemmas.Slice.Eq.{bytes_eq-Decides}
 use Rattle.std.specs.Bool.{Decides}
+use Rattle.std.specs.List.{AllByRecursion}
 use Rattle.std.specs.Prelude.{slice_get}
 use Rattle.std.specs.Str.{bytes_eq}
 use Rattle.fault_core.specs.declared.table.Class.TheVariants.{SF, TF, WDF, RDF, DRDF, IRF, CFst, CFds, CFtr, CFwd, CFrd, CFdr, CFir, DRF}
@@ -59,23 +60,16 @@ abbrev named : List ℕ → List ItemClass → Option ItemClass
 named w [] = None
 named w (c ∷ cs) = if bytes_eq w (class_text c) then Some c else named w cs
 
+-- what is so of each class in an order is so of the class at a place
+each_at : (P : ItemClass → Type 0) (cs : List ItemClass) → AllByRecursion P cs → (i : ℕ) (c : ItemClass) → slice_get cs i ≡ Some c → P c
+each_at P [] all i c e = cc
+each_at P (x ∷ cs) all zero c e = let same : x ≡ c = cc in subst P same all.0
+each_at P (x ∷ cs) all (suc i) c e = each_at P cs all.1 i c e
+
 by_its_name : (c : ItemClass) → named (class_text c) class_order ≡ Some c
-by_its_name (Static SF) = refl
-by_its_name (Static TF) = refl
-by_its_name (Static WDF) = refl
-by_its_name (Static RDF) = refl
-by_its_name (Static DRDF) = refl
-by_its_name (Static IRF) = refl
-by_its_name (Static CFst) = refl
-by_its_name (Static CFds) = refl
-by_its_name (Static CFtr) = refl
-by_its_name (Static CFwd) = refl
-by_its_name (Static CFrd) = refl
-by_its_name (Static CFdr) = refl
-by_its_name (Static CFir) = refl
-by_its_name (Static DRF) = refl
-by_its_name DynOne = refl
-by_its_name DynTwo = refl
+by_its_name c =
+    each_at (λ c. named (class_text c) class_order ≡ Some c) class_order
+    (refl, (refl, (refl, (refl, (refl, (refl, (refl, (refl, (refl, (refl, (refl, (refl, (refl, (refl, (refl, (refl, tt)))))))))))))))) (class_number c) c (at_its_number c)
 
 same_class : (c d : ItemClass) (o : Option ItemClass) → o ≡ Some c → o ≡ Some d → c ≡ d
 same_class c d o e f = cc
