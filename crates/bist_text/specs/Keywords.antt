@@ -15,7 +15,7 @@ pub record Word (N : Type 0) : Type 0 where
 abbrev pub word_of : {N : Type 0} → Keyword N → Word N
 word_of k = record { text = k.0.now; value = k.1 }
 
--- ---- for proofs, and contracts between these crates: what a reader does, letter by letter
+-- ---- what a reader does, letter by letter
 
 -- the first letters of a word, where there are more of it
 abbrev pub front_of : {N : Type 0} → Option (Word N) → ℕ → List ℕ

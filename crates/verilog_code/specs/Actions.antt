@@ -1,4 +1,4 @@
--- Public. For proofs and private contracts alone: what statements over numbered values do to the next values.
+-- Public. What statements over numbered values do to the next values.
 use Rattle.std.specs.Prelude.{ℕ, Bool, false, cond, nat_eq, ◌||◌, List, [], ◌∷◌, map}
 use Rattle.verilog_tree.specs.Meaning.{truth}
 use Rattle.verilog_code.specs.declared.action.Action.{Action}

@@ -1,4 +1,4 @@
--- Public. For proofs and private contracts alone: what an expression over numbered values is worth.
+-- Public. What an expression over numbered values is worth.
 use Rattle.std.specs.Prelude.{ℕ, ◌+◌, ◌-◌, ◌*◌, ◌/◌, ◌%◌, ◌^◌, List, cond, nat_eq, nat_lt, bit_and, get_or}
 use Rattle.verilog_tree.specs.declared.tree.UnOp.TheVariants as U
 use Rattle.verilog_tree.specs.declared.tree.BinOp.TheVariants as B

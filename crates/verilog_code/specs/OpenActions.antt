@@ -1,4 +1,4 @@
--- Public. For proofs and private contracts alone: what statements over numbered values do to the next values where some are open.
+-- Public. What statements over numbered values do to the next values where some are open.
 use Rattle.std.specs.Prelude.{ℕ, cond, List, [], ◌∷◌, Option, Some, None}
 use Rattle.verilog_tree.specs.Meaning.{truth}
 use Rattle.verilog_code.specs.declared.action.Action.{Action}

@@ -1,4 +1,4 @@
--- Public. For proofs and private contracts alone: what an expression over numbered values is worth where some of these are open: a number, or nothing.
+-- Public. What an expression over numbered values is worth where some of these are open: a number, or nothing.
 use Rattle.std.specs.Prelude.{ℕ, ◌+◌, ◌-◌, ◌%◌, ◌^◌, List, cond, nat_eq, bit_and, get_or, Option, Some, None, option_map}
 use Rattle.verilog_tree.specs.declared.tree.UnOp.TheVariants as U
 use Rattle.verilog_tree.specs.declared.tree.BinOp.TheVariants as B

@@ -1,4 +1,4 @@
--- Public. For proofs and private contracts alone: values that stand at places, of whatever kind.
+-- Public. Values that stand at places, of whatever kind.
 use Rattle.std.specs.Prelude.{ℕ, ◌+◌, cond, nat_lt, List, [], ◌∷◌, length, slice_set}
 use Rattle.verilog_code.specs.declared.code.Code.{Code}
 

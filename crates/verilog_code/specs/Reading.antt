@@ -1,4 +1,4 @@
--- Public. For proofs and private contracts alone: which places an expression reads, and what is known of a net whose code reads no place that changed.
+-- Public. Which places an expression reads, and what is known of a net whose code reads no place that changed.
 use Rattle.std.specs.Prelude.{◌≡◌, ◌≢◌, ℕ, ◌+◌, ◌-◌, ◌%◌, ◌^◌, List, [], ◌∷◌, Some, bit_and, get_or}
 use Rattle.std.specs.Int.{bit_at}
 use Rattle.verilog_code.specs.declared.code.Code.{Code}

@@ -1,4 +1,4 @@
--- Public. For proofs and private contracts alone: what the actions of statements have to do.
+-- Public. What the actions of statements have to do.
 use Rattle.std.specs.Prelude.{◌≡◌, ℕ, ◌^◌, ◌<◌, Bool, true, false, List, [], ◌∷◌, None}
 use Rattle.verilog_tree.specs.Plain.{Statement, Statements, Arms, ModuleItem, AlwaysItem}
 use Rattle.verilog_tree.specs.Formed.{statement_formed, statements_formed, arms_formed}

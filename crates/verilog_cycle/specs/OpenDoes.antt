@@ -1,4 +1,4 @@
--- Public. For proofs and private contracts alone: what the actions of statements have to do where some values are open.
+-- Public. What the actions of statements have to do where some values are open.
 use Rattle.std.specs.Prelude.{◌≡◌, ℕ, true, List, Option, None}
 use Rattle.verilog_tree.specs.Plain.{Statement, Statements, Arms, ModuleItem}
 use Rattle.verilog_tree.specs.Formed.{statement_formed, statements_formed, arms_formed}

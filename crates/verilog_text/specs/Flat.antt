@@ -1,4 +1,4 @@
--- Public. For proofs and private contracts alone: the same expressions flat: operands with operators between, and the tree that comes of taking one after another.
+-- Public. Expressions flat: operands with operators between, and the tree that comes of taking one after another.
 use Rattle.std.specs.Prelude.{ℕ, ◌+◌, true, false, List, [], ◌∷◌, Option, Some, None, nat_le, if◌then◌else◌}
 use Rattle.bist_bits.specs.Vector.{Vector}
 use Rattle.verilog_tree.specs.declared.tokens.Mark.TheVariants.{Open, Close, OpenBracket, CloseBracket, OpenBrace, CloseBrace, Comma, Colon, Question}

@@ -1,4 +1,4 @@
--- Public. For proofs and contracts between these crates: what a reader makes of a line, by what it makes of what stands behind a first word.
+-- Public. What a reader makes of a line, by what it makes of what stands behind a first word.
 use Rattle.std.specs.Prelude.{ℕ, ◌-◌, suc, List, [], ◌∷◌, length, Option, None, Result, Ok, Err}
 use Rattle.bist_text.specs.Keywords.{Word}
 use Rattle.bist_text.specs.Machine.{Outcome, read, unexpected, truncated}

@@ -1,4 +1,4 @@
--- Public. For proofs and contracts between these crates: what readers of the parts of a line make of what is left of it.
+-- Public. What readers of the parts of a line make of what is left of it.
 use Rattle.std.specs.Prelude.{ℕ, ◌==◌, ◌&&◌, Bool, true, false, if◌then◌else◌, List, [], ◌∷◌, length, Option, Some, None, zero, suc, ◌+◌, ◌||◌, not, nat_lt, nat_le}
 use Rattle.std.specs.Str.Parse.{digits_value}
 use Rattle.bist_text.specs.declared.keywords.Letters.{Letters}

@@ -1,4 +1,4 @@
--- Public. For proofs and contracts between these crates: what readers make of what is left of a line.
+-- Public. What readers make of what is left of a line.
 use Rattle.std.specs.Prelude.{ℕ, List, [], ◌∷◌, length, ◌-◌, suc}
 use Rattle.bist_text.specs.Machine.{Outcome, read, unexpected, truncated}
 

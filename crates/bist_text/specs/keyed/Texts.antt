@@ -1,4 +1,4 @@
--- Public. For proofs and contracts between these crates: the refusal of a text's lines, as a function of what a reader makes of each.
+-- Public. The refusal of a text's lines, as a function of what a reader makes of each.
 use Rattle.std.specs.Prelude.{ℕ, if◌then◌else◌, List, [], ◌∷◌, ◌++◌, length, Option, Some, None, Result, Ok, Err, option_map}
 use Rattle.bist_text.specs.KeyedTexts.{known, Statement, stated}
 use Rattle.bist_text.specs.Lines.{TextLine}
