@@ -11,6 +11,6 @@ pub enum FaultFault {
     TooManyOperations { line: usize },
     /// F5: the line brings more than 1,024 primitives in all.
     TooManyPrimitives { line: usize },
-    /// F6: there was no memory.
+    /// There was no memory.
     NoMemory,
 }

@@ -20,7 +20,7 @@ pub enum ReadFault {
     /// L5: at this byte a number in brackets exceeds 63, the size of a literal 64, or its value what its size
     /// holds; or it is the `'` after a size of 0.
     OutOfRange { byte: usize },
-    /// L6: there was no memory.
+    /// There was no memory.
     NoMemory,
 }
 
@@ -43,7 +43,7 @@ pub enum TreeFault {
     SelectRange { name: Name },
     /// N7: each of these names has an expression that uses the next, and the last uses the first.
     Loop { names: Vec<Name> },
-    /// N8: there was no memory.
+    /// There was no memory.
     NoMemory,
     /// N9: no `assign` names this wire or plain output.
     Undriven { name: Name },
