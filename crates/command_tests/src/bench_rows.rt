@@ -157,6 +157,8 @@ z = module m(output b);endmodule
 14 verilog N9 b
 z = module m(output a);assign a=a;endmodule
 14 verilog N7 a
+z = module m(output a);wire b;assign a = b;assign b = a;endmodule
+14 verilog N7 a b
 z = module m(input a,output reg b);always@(posedge a)b<=1'd0;endmodule
 14 verilog N10 a
 # a module that the program writes

@@ -42,6 +42,8 @@ s = chip 1\nname soc\nbudget 5\nunit 3 c.m m16\nunit 3 c.m m16\n
 c.m = $c
 memories 16 1 m16
 15 chip C8 unit 1
+s = chip 1\nname soc\nbudget 5\nunit 6 c.m m16\n
+15 chip C9 line 4
 anew
 s = chip 1\nname soc\nbudget 5\nunit 1 w t2\nunit 1 w a\nunit 1 w b\n
 w = $w0

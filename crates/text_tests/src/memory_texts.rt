@@ -41,6 +41,13 @@ memory D5 line 5: memory 1\nname s4\nwords 4\nbits 1\nscramble a2 = p0\n
 memory D6 rows a0 a1: memory 1\nname s4\nwords 4\nbits 1\nscramble a0 = p0\nscramble a1 = p0\n
 memory D6 rows a0: memory 1\nname s4\nwords 4\nbits 1\nscramble a0 = p0 ^ p0\nscramble a1 = p0\n
 memory D7: memory 1\nname s4\nwords 3\nbits 1\nscramble a0 = p0 ^ p1\nscramble a1 = p1\n
+# Which of two comes first.
+memory D4 bits: memory 1\nname module\nwords 1\n
+memory D5 line 2: memory 1\nname wire\nwords 3\nbits 1\nscramble a0 = p0\n
+memory D7: memory 1\nname b\nwords 3\nbits 1\nscramble a9 = p0\n
+memory D4 a1: memory 1\nname b\nwords 4\nbits 1\nscramble a0 = p0 ^ p0\n
+memory D6 rows a0 a1: memory 1\nname b\nwords 4\nbits 1\nscramble a0 = p0\nscramble a1 = p0\nbackgrounds 1\n
+memory D6 rows a0 a1: memory 1\nname b\nwords 4\nbits 1\nscramble a0 = p0\nscramble a1 = p0\nbackgrounds 0 1 0 1 0 1 0 1 0\n
 
 # PRINTED
 

@@ -31,6 +31,7 @@ run ; 2 9 6 > 9 6; 4 9 6 > 9 9; 0 9 6 > 6 6: module m(input [3:0]c,input [3:0]a,
 # NO DESIGN
 
 design N7 b c: module m(output y);wire b;wire c;assign y=b;assign b=c;assign c=b;endmodule
+design N7 a b: module m(output a);wire b;assign a = b;assign b = a;endmodule
 design N7 y: module m(output y);assign y=y;endmodule
 # What `check` refuses comes first.
 design N9 z: module m(output y,output z);assign y=y;endmodule
@@ -45,6 +46,20 @@ rule N5: module m(input clk,input [3:0]a,input [2:0]b,output [3:0]y);assign a=a;
 rule N6: module m(input clk,input [3:0]a,input [2:0]b,output [3:0]y);assign y=a[4:1];endmodule
 rule N2: module m(input clk,input [3:0]a,input [2:0]b,output [3:0]y);assign y=a;assign y=a;endmodule
 rule N3: module m(input clk,input [3:0]a,input [2:0]b,output [3:0]y);assign y=(a+b);endmodule
+rule ok: module m(input clk,input [3:0]a,input [2:0]b,output [3:0]y);assign y=(a<<b);endmodule
+rule ok: module m(input clk,input [3:0]a,input [2:0]b,output [3:0]y);assign y=(a>>b);endmodule
+rule ok: module m(input clk,input [3:0]a,input [2:0]b,output [3:0]y);assign y={3'h0,(a&&b)};endmodule
+rule ok: module m(input clk,input [3:0]a,input [2:0]b,output [3:0]y);assign y={3'h0,(a||b)};endmodule
+rule N3: module m(input clk,input [3:0]a,input [2:0]b,output [3:0]y);assign y=(a-b);endmodule
+rule N3: module m(input clk,input [3:0]a,input [2:0]b,output [3:0]y);assign y=(a&b);endmodule
+rule N3: module m(input clk,input [3:0]a,input [2:0]b,output [3:0]y);assign y=(a|b);endmodule
+rule N3: module m(input clk,input [3:0]a,input [2:0]b,output [3:0]y);assign y=(a^b);endmodule
+rule N3: module m(input clk,input [3:0]a,input [2:0]b,output [3:0]y);assign y={3'h0,(a<b)};endmodule
+rule N3: module m(input clk,input [3:0]a,input [2:0]b,output [3:0]y);assign y={3'h0,(a<=b)};endmodule
+rule N3: module m(input clk,input [3:0]a,input [2:0]b,output [3:0]y);assign y={3'h0,(a>b)};endmodule
+rule N3: module m(input clk,input [3:0]a,input [2:0]b,output [3:0]y);assign y={3'h0,(a>=b)};endmodule
+rule N3: module m(input clk,input [3:0]a,input [2:0]b,output [3:0]y);assign y={3'h0,(a==b)};endmodule
+rule N3: module m(input clk,input [3:0]a,input [2:0]b,output [3:0]y);assign y={3'h0,(a!=b)};endmodule
 rule N4: module m(input clk,input [3:0]a,input [2:0]b,output [3:0]y);reg [3:0]r;always@(posedge clk)r<=4'h9;always@(posedge clk)r<=4'h9;assign y=r;endmodule
 rule N9: module m(input clk,input [3:0]a,input [2:0]b,output [3:0]y);endmodule
 ";

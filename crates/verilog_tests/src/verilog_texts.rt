@@ -112,6 +112,15 @@ groups (((((((((a+b)<<c)<a)==b)&c)^a)|b)&&c)||a): a+b<<c<a==b&c^a|b&&c||a
 groups ((a<<b)>>c): a<<b>>c
 groups ((((a<b)<=c)>a)>=b): a<b<=c>a>=b
 groups ((a==b)!=c): a==b!=c
+groups (a<(b-c)): a<b-c
+groups (c<<(a-b)): c<<a-b
+groups (a<(b>>c)): a<b>>c
+groups (a==(b>=c)): a==b>=c
+groups (a&(b!=c)): a&b!=c
+groups ((a-b)<c): a-b<c
+groups ((a>>b)<c): a>>b<c
+groups ((a>=b)==c): a>=b==c
+groups ((a!=b)&c): a!=b&c
 groups (a&&(&b)): a && &b
 groups (a&(&b)): a & &b
 groups ((~a)+b): ~a+b
