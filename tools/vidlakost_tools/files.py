@@ -87,7 +87,8 @@ def write_own(folder: pathlib.Path, texts: dict[str, str], inputs: list[str]) ->
     """Writes files that may be written anew where nobody changed them, all of them or none. Those without a line that says
     whose they are are told with their sums in the list beside them."""
     refuse_strangers(folder, list(texts))
-    refuse_another_list(folder, texts.get(LIST, ""))
+    if LIST in texts:
+        refuse_another_list(folder, texts[LIST])
     told = [f"// {name} ({sum_of(text)})" for name, text in texts.items() if not OWN.search(text.partition("\n")[0])]
     if told and LIST in texts:
         head, line, rest = texts[LIST].partition("\n")
