@@ -31,6 +31,7 @@ chip C3 line 3: chip 1\nname c\nchip 2\n
 chip C3 line 5: chip 1\nbudget 0\nunit 1 m n\nunit 1 m n\nbudget 1\n
 chip C3 line 3: chip 1\nname c\nname c
 chip C4 name: chip 1
+chip C4 budget: chip 1\nname c\n
 chip C4 budget: chip 1\nunit 1 m n\nname wire
 chip C4 unit: chip 1\nbudget 0\nname c
 chip C5 line 4: chip 1\nbudget 1\nunit 1 m n\nname wire\n

@@ -42,6 +42,10 @@ memory D6 rows a0 a1: memory 1\nname s4\nwords 4\nbits 1\nscramble a0 = p0\nscra
 memory D6 rows a0: memory 1\nname s4\nwords 4\nbits 1\nscramble a0 = p0 ^ p0\nscramble a1 = p0\n
 memory D7: memory 1\nname s4\nwords 3\nbits 1\nscramble a0 = p0 ^ p1\nscramble a1 = p1\n
 # Which of two comes first.
+memory D4 words: memory 1\nname b\n
+memory D4 a0: memory 1\nname b\nwords 8\nbits 1\nscramble a2 = p0\n
+memory D1 line 4 byte 0: memory 1\nname b\nmemory 2\nlatency 1\n
+memory D5 line 5: memory 1\nname b\nwords 2\nbits 1\nbackgrounds 2\n
 memory D4 bits: memory 1\nname module\nwords 1\n
 memory D5 line 2: memory 1\nname wire\nwords 3\nbits 1\nscramble a0 = p0\n
 memory D7: memory 1\nname b\nwords 3\nbits 1\nscramble a9 = p0\n

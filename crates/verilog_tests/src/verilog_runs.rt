@@ -25,6 +25,8 @@ run ; f 4 > 0 0; f 3 > 8 1; 9 0 > 9 9: module m(input [3:0]a,input [3:0]b,output
 run ; f 1 > 0 e; 0 1 > 1 f; 8 8 > 0 0: module m(input [3:0]a,input [3:0]b,output [3:0]y,output [3:0]z);assign y=(a+b);assign z=(a-b);endmodule
 run ; ffffffffffffffff > 0 1 0: module m(input [63:0]a,output [63:0]y,output z,output [63:0]w);assign y=(a+64'h1);assign z=(&a);assign w=(~a);endmodule
 run ; a5 > 5a 2; 0 > 0 1; 1 > 10 6: module m(input [7:0]a,output [7:0]y,output [2:0]z);assign y={a[3:0],a[7],a[6:4]};assign z={(^a),(|a),(!a)};endmodule
+run ; e > 0; f > 1; 0 > 0: module m(input [3:0]a,output z);assign z=(&a);endmodule
+run ; c a > 8 e 6: module m(input [3:0]a,input [3:0]b,output [3:0]x,output [3:0]y,output [3:0]z);assign x=(a&b);assign y=(a|b);assign z=(a^b);endmodule
 run ; 3 3 > 25 3; 0 3 > 1c 1; 3 0 > 13 1; 0 0 > 25 0: module m(input [3:0]a,input [3:0]b,output [5:0]y,output [1:0]z);assign y={(a==b),(a!=b),(a<b),(a<=b),(a>b),(a>=b)};assign z={(a&&b),(a||b)};endmodule
 run ; 2 9 6 > 9 6; 4 9 6 > 9 9; 0 9 6 > 6 6: module m(input [3:0]c,input [3:0]a,input [3:0]b,output [3:0]y,output [3:0]z);assign y=(c?a:b);assign z=(c[2]?a:b);endmodule
 
