@@ -13,5 +13,6 @@ pub mod KeywordLaws
 pub mod LinePieces
 pub mod LineStops
 pub mod RunPieces
+pub mod Carried
 pub mod Blanks
 pub mod keyed

@@ -4,6 +4,8 @@ pub mod PartLaws
 pub mod Classes
 pub mod Numbers
 pub mod Steps
+pub mod Taken
+pub mod Table
 pub mod LineLaws
 pub mod Items
 pub mod Checks
