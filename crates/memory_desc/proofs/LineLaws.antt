@@ -1,18 +1,20 @@
 -- Each kind of line is read as the grammar says.
-use Rattle.memory_desc.proofs.Common.{Bool, Byte, Class, Content, ContentText, Either, Ends, IsTable, LineOf, List, Memory, None, Number, One, Option, Read, Scramble, Shuns, Some, Space, Term, Two, [], and_from, and_parts, ap, apart, argument, argument_of, arith, backgrounds, begins_small, bits, blank_run, blank_word, byte, byte_of, byte_only, byte_shuns, byte_told, codes, digit_begun, digit_later, digits_plain, either_told, ends_told, ends_with, eqb-true, equation, fewer, fits_of, heard, inl, inr, is_blank, is_digit, is_formed, is_hex, is_l, is_letter, is_name_byte, is_number, is_term, key_text, keys_in, keys_of, kind_of, latency, length, list_all, log, many_map, many_pull, may_stand, more_terms, more_words, name, nat_lt, no_mark, one_word, onward, pause, polarity, refl, run_is, same, scramble, slice_get, space, space_told, spaced, stands, stuck, suc, tail, term_of, term_text, tested_word, told_iff, took, true, version, when_false, when_holds, when_true, word, word_map, word_of, word_pull, word_told, words, words_of, ℕ, ◌==◌, ◌↔◌, ◌∷◌, ◌≡◌, ◌⊎◌}
+use Rattle.memory_desc.proofs.Common.{digits_value, onward_on, subst, sym, ◌∙◌, Told, Bool, Byte, Class, Content, ContentText, Either, Ends, IsTable, LineOf, List, Memory, None, Number, One, Option, Read, Scramble, Shuns, Some, Space, Term, Two, [], and_parts, ap, apart, argument, argument_of, arith, backgrounds, begins_small, bits, blank_run, blank_word, byte, byte_of, byte_only, byte_shuns, byte_told, codes, digit_begun, digit_later, digits_plain, either_told, ends_told, ends_with, eqb-true, equation, fewer, fits_of, heard, inl, inr, is_blank, is_digit, is_formed, is_hex, is_l, is_letter, is_name_byte, key_text, keys_in, keys_of, kind_of, latency, length, list_all, log, many_map, many_pull, may_stand, more_terms, more_words, name, nat_lt, no_mark, one_word, onward, pause, polarity, refl, run_is, same, scramble, slice_get, space, space_told, spaced, stands, stuck, suc, tail, term_of, told_iff, took, true, version, when_false, when_holds, when_true, word, word_map, word_of, word_pull, words, words_of, ℕ, ◌==◌, ◌↔◌, ◌∷◌, ◌≡◌, ◌⊎◌}
 use Rattle.bist_text.specs.inner.Keywords.{are_apart}
 use Rattle.bist_text.specs.declared.keyed_lines.Class.TheVariants.{Word as HexWord, Name as NameWord}
 use Rattle.bist_text.proofs.KeywordLaws.{IsOf, is_at, is_passed}
 use Rattle.bist_text.proofs.keyed.PartLaws.{Hears, Words}
-use Rattle.bist_text.proofs.keyed.LineLaws.{SaysOf as Says, Arg as Behind, OneWord as HasOneWord, name_word as named, line_exact as table_exact}
+use Rattle.bist_text.proofs.keyed.LineLaws.{one_number, SaysOf as Says, Arg as Behind, OneWord as HasOneWord, name_word as named, line_exact as table_exact}
 use Rattle.bist_text.specs.inner.Machine.{IsExact}
-use Rattle.memory_desc.specs.LineText.{is_word as is_hex_word}
+use Rattle.bist_text.specs.keyed.Numbers.{number}
+use Rattle.bist_text.specs.keyed.Parts.{is_word, number_of}
+use Rattle.memory_desc.specs.LineText.{term}
 use Rattle.memory_desc.specs.declared.content.Key.{Key}
 use Rattle.memory_desc.specs.declared.content.Key.TheVariants.{Name, Words as WordsKey, Bits, Latency, Polarity, Pause, Backgrounds}
 use Rattle.memory_desc.specs.declared.content.Version.{Version}
-use Rattle.memory_desc.specs.inner.Heard.{terms_of}
-use Rattle.memory_desc.proofs.TermLaws.{OneTerm, term_told, More, terms_told, more_no_digits, SaysOne, Whole, one_whole, whole_one, term_shuns}
-use Rattle.memory_desc.proofs.WordLaws.{hex_plain, hex_begun, MoreWords, all_words_told, words_no_hex, Hex, hex_whole, whole_hex, begins_hex, no_hex}
+use Rattle.memory_desc.specs.inner.Heard.{terms_of, hex_number_of}
+use Rattle.memory_desc.proofs.TermLaws.{byte_map, byte_pull, number_told, OneTerm, term_told, More, terms_told, more_no_digits, SaysOne, Whole, one_whole, whole_one, term_shuns}
+use Rattle.memory_desc.proofs.WordLaws.{hex_told, hex_plain, hex_begun, MoreWords, all_words_told, words_no_hex, Hex, hex_whole, whole_hex, begins_hex, no_hex}
 
 abbrev Arg : Key → List ℕ → Option Content → Type 0
 Arg = Behind kind_of is_formed (λ c. argument c tail)
@@ -26,54 +28,67 @@ abbrev OneWord : Key → (List ℕ → Content) → Class → (ℕ → Bool) →
 OneWord = HasOneWord kind_of is_formed (λ c. argument c tail)
 
 -- of a number
-numbered : (key : Key) (made : List ℕ → Content) → ((w : List ℕ) → kind_of (made w) ≡ key) → ((w : List ℕ) → is_formed (made w) ≡ is_number w) → ((w x : List ℕ) → argument (made w) tail x ↔ word w tail x)
-    → ((c : Content) → kind_of c ≡ key → (w : List ℕ) × (c ≡ made w)) → OneWord key made (fits_of Number) is_digit
-numbered key made kind formed there only =
-    tested_word kind_of is_formed (λ c. argument c tail) key made (fits_of Number) is_digit is_number (run_is is_digit 9) kind formed there only digit_begun digit_later digits_plain
+numbered : (key : Key) (made : ℕ → Content) → ((n : ℕ) → kind_of (made n) ≡ key) → ((n : ℕ) → is_formed (made n) ≡ true) → ((n : ℕ) (x : List ℕ) → argument (made n) tail x ↔ number n tail x)
+    → ((c : Content) → kind_of c ≡ key → (n : ℕ) × (c ≡ made n)) → OneWord key (λ ds. made (digits_value 10 ds)) (fits_of Number) is_digit
+numbered key made kind formed there only = record {
+  kind = λ w. kind (digits_value 10 w);
+  formed = λ w h. formed (digits_value 10 w);
+  into = λ w x h t. (there (digits_value 10 w) x).1 (w, (run_is is_digit 9 w).0 h, refl, t);
+  out = λ c x k f h. (let o = only c k in let d = (there o.0 x).0 (subst (λ c. argument c tail x) o.1 h) in (d.0, (run_is is_digit 9 d.0).1 d.1, o.1 ∙ ap made (sym d.2), d.3));
+  begun = digit_begun;
+  within = digit_later;
+  plain = digits_plain;
+}
 
-version_word : OneWord Memory version (fits_of Number) is_digit
-version_word = numbered Memory version (λ w. refl) (λ w. refl) (λ w x. same) only
+version_word : OneWord Memory (λ ds. version (digits_value 10 ds)) (fits_of Number) is_digit
+version_word = numbered Memory version (λ n. refl) (λ n. refl) (λ n x. same) only
   where
-    only : (c : Content) → kind_of c ≡ Memory → (ds : List ℕ) × (c ≡ version ds)
-    only (version ds) e = (ds, refl)
+    only : (c : Content) → kind_of c ≡ Memory → (n : ℕ) × (c ≡ version n)
+    only (version n) e = (n, refl)
     only c e = (let z : ⊥ = cc in absurd z)
 
-words_word : OneWord WordsKey words (fits_of Number) is_digit
-words_word = numbered WordsKey words (λ w. refl) (λ w. refl) (λ w x. same) only
+words_word : OneWord WordsKey (λ ds. words (digits_value 10 ds)) (fits_of Number) is_digit
+words_word = numbered WordsKey words (λ n. refl) (λ n. refl) (λ n x. same) only
   where
-    only : (c : Content) → kind_of c ≡ WordsKey → (ds : List ℕ) × (c ≡ words ds)
-    only (words ds) e = (ds, refl)
+    only : (c : Content) → kind_of c ≡ WordsKey → (n : ℕ) × (c ≡ words n)
+    only (words n) e = (n, refl)
     only c e = (let z : ⊥ = cc in absurd z)
 
-bits_word : OneWord Bits bits (fits_of Number) is_digit
-bits_word = numbered Bits bits (λ w. refl) (λ w. refl) (λ w x. same) only
+bits_word : OneWord Bits (λ ds. bits (digits_value 10 ds)) (fits_of Number) is_digit
+bits_word = numbered Bits bits (λ n. refl) (λ n. refl) (λ n x. same) only
   where
-    only : (c : Content) → kind_of c ≡ Bits → (ds : List ℕ) × (c ≡ bits ds)
-    only (bits ds) e = (ds, refl)
+    only : (c : Content) → kind_of c ≡ Bits → (n : ℕ) × (c ≡ bits n)
+    only (bits n) e = (n, refl)
     only c e = (let z : ⊥ = cc in absurd z)
 
-latency_word : OneWord Latency latency (fits_of Number) is_digit
-latency_word = numbered Latency latency (λ w. refl) (λ w. refl) (λ w x. same) only
+latency_word : OneWord Latency (λ ds. latency (digits_value 10 ds)) (fits_of Number) is_digit
+latency_word = numbered Latency latency (λ n. refl) (λ n. refl) (λ n x. same) only
   where
-    only : (c : Content) → kind_of c ≡ Latency → (ds : List ℕ) × (c ≡ latency ds)
-    only (latency ds) e = (ds, refl)
+    only : (c : Content) → kind_of c ≡ Latency → (n : ℕ) × (c ≡ latency n)
+    only (latency n) e = (n, refl)
     only c e = (let z : ⊥ = cc in absurd z)
 
-pause_word : OneWord Pause pause (fits_of Number) is_digit
-pause_word = numbered Pause pause (λ w. refl) (λ w. refl) (λ w x. same) only
+pause_word : OneWord Pause (λ ds. pause (digits_value 10 ds)) (fits_of Number) is_digit
+pause_word = numbered Pause pause (λ n. refl) (λ n. refl) (λ n x. same) only
   where
-    only : (c : Content) → kind_of c ≡ Pause → (ds : List ℕ) × (c ≡ pause ds)
-    only (pause ds) e = (ds, refl)
+    only : (c : Content) → kind_of c ≡ Pause → (n : ℕ) × (c ≡ pause n)
+    only (pause n) e = (n, refl)
     only c e = (let z : ⊥ = cc in absurd z)
 
-polarity_word : OneWord Polarity polarity (fits_of HexWord) is_hex
-polarity_word =
-    tested_word kind_of is_formed (λ c. argument c tail) Polarity polarity (fits_of HexWord) is_hex is_hex_word (run_is is_hex 16) (λ w. refl) (λ w. refl) (λ w x. same) only hex_begun
-    (λ n c h. (and_parts (is_hex c) (nat_lt (suc n) 16) h).0) hex_plain
+polarity_word : OneWord Polarity (λ ds. polarity (digits_value 16 ds)) (fits_of HexWord) is_hex
+polarity_word = record {
+  kind = λ w. refl;
+  formed = λ w h. refl;
+  into = λ w x h t. (w, (run_is is_hex 16 w).0 h, refl, t);
+  out = out;
+  begun = hex_begun;
+  within = λ n c h. (and_parts (is_hex c) (nat_lt (suc n) 16) h).0;
+  plain = hex_plain;
+}
   where
-    only : (c : Content) → kind_of c ≡ Polarity → (w : List ℕ) × (c ≡ polarity w)
-    only (polarity w) e = (w, refl)
-    only c e = (let z : ⊥ = cc in absurd z)
+    out : (c : Content) (x : List ℕ) → kind_of c ≡ Polarity → is_formed c ≡ true → argument c tail x → (w : List ℕ) × (is_word (fits_of HexWord) w ≡ true) × (c ≡ polarity (digits_value 16 w)) × word w tail x
+    out (polarity w) x k f h = (h.0, (run_is is_hex 16 h.0).1 h.1, ap polarity (sym h.2), h.3)
+    out c x k f h = (let z : ⊥ = cc in absurd z)
 
 name_word : OneWord Name name (fits_of NameWord) is_name_byte
 name_word = named kind_of is_formed (λ c. argument c tail) Name name (λ w. refl) (λ w. refl) (λ w x. same) only
@@ -84,114 +99,108 @@ name_word = named kind_of is_formed (λ c. argument c tail) Name name (λ w. ref
 
 -- ---- a row
 
-byte_pull : {A : Type 0} (d : ℕ) (P : A → List ℕ → Type 0) (b : List ℕ) → byte d (λ x. (a : A) × P a x) b → (a : A) × byte d (P a) b
-byte_pull d P [] h = absurd h
-byte_pull {A} d P (c ∷ b) h = let q = when_holds (c == d) ((a : A) × P a b) h in (q.1.0, (when_true (c == d) (P q.1.0 b) q.0).1 q.1.1)
-
-byte_map : (d : ℕ) (K L : List ℕ → Type 0) → ((x : List ℕ) → K x → L x) → (b : List ℕ) → byte d K b → byte d L b
-byte_map d K L f [] h = h
-byte_map d K L f (c ∷ b) h = let q = when_holds (c == d) (K b) h in (when_true (c == d) (L b) q.0).1 (f b q.1)
-
-abbrev RowTerms : List ℕ → List ℕ → Option Content → Type 0
+abbrev RowTerms : ℕ → List ℕ → Option Content → Type 0
 RowTerms i = OneTerm (λ t. More (λ ts. Some (scramble i (t ∷ ts))))
 
-abbrev RowLeft : List ℕ → Option Content → Type 0
-RowLeft = Byte 97 (Words (fits_of Number) (λ i. Space (Byte 61 (Space (RowTerms i)))))
+abbrev Equals : ℕ → List ℕ → Option Content → Type 0
+Equals i = Space (Byte 61 (Space (RowTerms i)))
 
-abbrev row_says : List ℕ → List Term → Option Content
+abbrev RowLeft : List ℕ → Option Content → Type 0
+RowLeft = Byte 97 (Words (fits_of Number) (λ ds. Equals (digits_value 10 ds)))
+
+abbrev row_says : ℕ → List Term → Option Content
 row_says i ts = Some (scramble i ts)
 
 row_iff : (x : List ℕ) (v : Option Content) → RowLeft x v ↔ Arg Scramble x v
-row_iff x v = (from x, λ h. to h.0.content h.0.kind h.0.formed h.0.says x h.1)
+row_iff x v = (from x, λ h. to h.0.content h.0.kind h.0.says x h.1)
   where
-    Equation : (i : List ℕ) → SaysOne (row_says i) v → List ℕ → Type 0
-    Equation i s y = space (byte 61 (space (word (term_text s.term) (more_terms s.terms tail)))) y
+    Equation : (i : ℕ) → SaysOne (row_says i) v → List ℕ → Type 0
+    Equation i s y = space (byte 61 (space (term s.first (more_terms s.terms tail)))) y
 
-    pulled : (i : List ℕ) (y : List ℕ) → space (byte 61 (space (λ z. RowTerms i z v))) y → (s : SaysOne (row_says i) v) × Equation i s y
+    pulled : (i : ℕ) (y : List ℕ) → Equals i y v → (s : SaysOne (row_says i) v) × Equation i s y
     pulled i y h =
-        many_pull is_blank (λ (s : SaysOne (row_says i) v) z. byte 61 (space (word (term_text s.term) (more_terms s.terms tail))) z) y
-        (many_map is_blank (byte 61 (space (λ z. RowTerms i z v))) (λ z. (s : SaysOne (row_says i) v) × byte 61 (space (word (term_text s.term) (more_terms s.terms tail))) z)
-        (λ z k. byte_pull 61 (λ (s : SaysOne (row_says i) v) u. space (word (term_text s.term) (more_terms s.terms tail)) u) z
-        (byte_map 61 (space (λ z. RowTerms i z v)) (λ u. (s : SaysOne (row_says i) v) × space (word (term_text s.term) (more_terms s.terms tail)) u)
-        (λ u m. many_pull is_blank (λ (s : SaysOne (row_says i) v) w. word (term_text s.term) (more_terms s.terms tail) w) u
+        many_pull is_blank (λ (s : SaysOne (row_says i) v) z. byte 61 (space (term s.first (more_terms s.terms tail))) z) y
+        (many_map is_blank (byte 61 (space (λ z. RowTerms i z v))) (λ z. (s : SaysOne (row_says i) v) × byte 61 (space (term s.first (more_terms s.terms tail))) z)
+        (λ z k. byte_pull 61 (λ (s : SaysOne (row_says i) v) u. space (term s.first (more_terms s.terms tail)) u) z
+        (byte_map 61 (space (λ z. RowTerms i z v)) (λ u. (s : SaysOne (row_says i) v) × space (term s.first (more_terms s.terms tail)) u)
+        (λ u m. many_pull is_blank (λ (s : SaysOne (row_says i) v) w. term s.first (more_terms s.terms tail) w) u
         (many_map is_blank (λ w. RowTerms i w v) (Whole (row_says i) v) (one_whole (row_says i) v) u m)) z k)) y h)
 
     from : (x : List ℕ) → RowLeft x v → Arg Scramble x v
     from [] h = absurd h
     from (c ∷ x) h =
-        let q = when_holds (c == 97) (Words (fits_of Number) (λ i. Space (Byte 61 (Space (RowTerms i)))) x v) h in
-        let i = q.1.0 in
-        let a = word_pull i (λ (s : SaysOne (row_says i) v) y. Equation i s y) x (word_map i (λ y. space (byte 61 (space (λ z. RowTerms i z v))) y) (λ y. (s : SaysOne (row_says i) v) × Equation i s y) (pulled i) x q.1.2) in (
+        let q = when_holds (c == 97) (Words (fits_of Number) (λ ds. Equals (digits_value 10 ds)) x v) h in
+        let ds = q.1.0 in
+        let i = digits_value 10 ds in
+        let a = word_pull ds (λ (s : SaysOne (row_says i) v) y. Equation i s y) x (word_map ds (λ y. Equals i y v) (λ y. (s : SaysOne (row_says i) v) × Equation i s y) (pulled i) x q.1.2) in (
           record {
-            content = scramble i (a.0.term ∷ a.0.terms);
+            content = scramble i (a.0.first ∷ a.0.terms);
             kind = refl;
-            formed = and_from (is_number i) (list_all is_term (a.0.term ∷ a.0.terms)) ((run_is is_digit 9 i).0 q.1.1) a.0.formed;
+            formed = refl;
             says = a.0.says;
           },
-          (when_true (c == 97) (word i (equation (a.0.term ∷ a.0.terms) tail) x) q.0).1 a.1,
+          (when_true (c == 97) (number i (equation (a.0.first ∷ a.0.terms) tail) x) q.0).1 (ds, (run_is is_digit 9 ds).0 q.1.1, refl, a.1),
         )
 
-    to : (c : Content) → kind_of c ≡ Scramble → is_formed c ≡ true → v ≡ Some c → (x : List ℕ) → argument c tail x → RowLeft x v
-    to (scramble i []) k f e [] h = absurd h
-    to (scramble i []) k f e (c ∷ x) h = absurd (no_equation i x (when_holds (c == 97) (word i (equation [] tail) x) h).1)
+    to : (c : Content) → kind_of c ≡ Scramble → v ≡ Some c → (x : List ℕ) → argument c tail x → RowLeft x v
+    to (scramble i []) k e [] h = absurd h
+    to (scramble i []) k e (c ∷ x) h = (let n = (when_holds (c == 97) (number i (equation [] tail) x) h).1 in absurd (no_equation n.0 x n.3))
       where
         no_equation : (w x : List ℕ) → word w (equation [] tail) x → ⊥
         no_equation [] x h = h
         no_equation (d ∷ w) [] h = h
         no_equation (d ∷ w) (c ∷ x) h = no_equation w x (when_holds (c == d) (word w (equation [] tail) x) h).1
-    to (scramble i (t ∷ ts)) k f e [] h = absurd h
-    to (scramble i (t ∷ ts)) k f e (c ∷ x) h =
-        let q = when_holds (c == 97) (word i (equation (t ∷ ts) tail) x) h in
-        let p = and_parts (is_number i) (list_all is_term (t ∷ ts)) f in
-        let s : SaysOne (row_says i) v = record { term = t; terms = ts; formed = p.1; says = e } in
-        (when_true (c == 97) (Words (fits_of Number) (λ i. Space (Byte 61 (Space (RowTerms i)))) x v) q.0).1 (
-          i,
-          (run_is is_digit 9 i).1 p.0,
-          word_map i (equation (t ∷ ts) tail) (λ y. space (byte 61 (space (λ z. RowTerms i z v))) y)
-              (many_map is_blank (byte 61 (space (word (term_text t) (more_terms ts tail)))) (byte 61 (space (λ z. RowTerms i z v)))
-              (byte_map 61 (space (word (term_text t) (more_terms ts tail))) (space (λ z. RowTerms i z v))
-              (many_map is_blank (word (term_text t) (more_terms ts tail)) (λ z. RowTerms i z v) (whole_one (row_says i) v s)))) x q.1,
+    to (scramble i (t ∷ ts)) k e [] h = absurd h
+    to (scramble i (t ∷ ts)) k e (c ∷ x) h =
+        let q = when_holds (c == 97) (number i (equation (t ∷ ts) tail) x) h in
+        let n = q.1 in
+        let s : SaysOne (row_says i) v = record { first = t; terms = ts; says = e } in
+        (when_true (c == 97) (Words (fits_of Number) (λ ds. Equals (digits_value 10 ds)) x v) q.0).1 (
+          n.0,
+          (run_is is_digit 9 n.0).1 n.1,
+          subst (λ i. word n.0 (λ y. Equals i y v) x) (sym n.2)
+              (word_map n.0 (equation (t ∷ ts) tail) (λ y. Equals i y v)
+              (many_map is_blank (byte 61 (space (term t (more_terms ts tail)))) (byte 61 (space (λ z. RowTerms i z v)))
+              (byte_map 61 (space (term t (more_terms ts tail))) (space (λ z. RowTerms i z v))
+              (many_map is_blank (term t (more_terms ts tail)) (λ z. RowTerms i z v) (whole_one (row_says i) v s)))) x n.3),
         )
-    to c k f e x h = (let z : ⊥ = cc in absurd z)
+    to c k e x h = (let z : ⊥ = cc in absurd z)
 
 row_told : (n : ℕ) → Hears n (Arg Scramble) (argument_of Scramble)
 row_told n b l =
     told_iff RowLeft (Arg Scramble) b (argument_of Scramble b) row_iff
     (fewer n (suc n) RowLeft (argument_of Scramble) (omega arith)
-    (byte_told n 97 Numbered (λ x. onward (word_of (fits_of Number) x) after_number) refl
-    (fewer n (suc n) Numbered (λ x. onward (word_of (fits_of Number) x) after_number) (omega arith)
-    (word_told n (fits_of Number) (λ i. Space (Equals i)) after_number digit_begun
-    (λ m c w x v i k. no_mark is_digit c 61 (space (λ z. RowTerms w z v)) x digits_plain (and_parts (is_digit c) _ i).0 refl k)
-    (λ i _. space_told n (Equals i) (λ x. onward (byte_of 61 x) (λ _ x. onward (term_of (spaced x)) (item i))) (byte_shuns is_blank 61 (Space (RowTerms i)) refl)
-    (fewer n (suc n) (Equals i) (λ x. onward (byte_of 61 x) (λ _ x. onward (term_of (spaced x)) (item i))) (omega arith)
+    (byte_told n 97 Numbered (λ x. onward (number_of x) after_number) refl
+    (fewer n (suc n) Numbered (λ x. onward (number_of x) after_number) (omega arith)
+    (number_told n Equals after_number
+    (λ i c x v d k. no_mark is_digit c 61 (space (λ z. RowTerms i z v)) x digits_plain d refl k)
+    (λ i. space_told n (Byte 61 (Space (RowTerms i))) (λ x. onward (byte_of 61 x) (λ _ x. onward (term_of (spaced x)) (item i))) (byte_shuns is_blank 61 (Space (RowTerms i)) refl)
+    (fewer n (suc n) (Byte 61 (Space (RowTerms i))) (λ x. onward (byte_of 61 x) (λ _ x. onward (term_of (spaced x)) (item i))) (omega arith)
     (byte_told n 61 (Space (RowTerms i)) (λ x. onward (term_of (spaced x)) (item i)) refl
     (space_told n (RowTerms i) (λ x. onward (term_of x) (item i)) (term_shuns (λ t. More (λ ts. Some (scramble i (t ∷ ts)))))
     (fewer n (suc n) (RowTerms i) (λ x. onward (term_of x) (item i)) (omega arith)
     (term_told n (λ t. More (λ ts. Some (scramble i (t ∷ ts)))) (item i) (λ t c b v. more_no_digits (λ ts. Some (scramble i (t ∷ ts))) c b v)
     (λ t. terms_told n (λ ts. Some (scramble i (t ∷ ts))))))))))))) b l)
   where
-    item : List ℕ → Term → List ℕ → Read (Option Content)
+    item : ℕ → Term → List ℕ → Read (Option Content)
     item i t x = onward (terms_of x) (λ ts x. took (Some (scramble i (t ∷ ts))) x)
 
-    after_number : List ℕ → List ℕ → Read (Option Content)
+    after_number : ℕ → List ℕ → Read (Option Content)
     after_number i x = onward (byte_of 61 (spaced x)) (λ _ x. onward (term_of (spaced x)) (λ t x. item i t x))
 
-    Equals : List ℕ → List ℕ → Option Content → Type 0
-    Equals i = Byte 61 (Space (RowTerms i))
-
     Numbered : List ℕ → Option Content → Type 0
-    Numbered = Words (fits_of Number) (λ i. Space (Equals i))
+    Numbered = Words (fits_of Number) (λ ds. Equals (digits_value 10 ds))
 
 -- ---- backgrounds
 
 abbrev LogLeft : List ℕ → Option Content → Type 0
 LogLeft = Byte 108 (Byte 111 (Byte 103 (Ends (Some log))))
 
-abbrev listed : List (List ℕ) → Option Content
+abbrev listed : List ℕ → Option Content
 listed ws = Some (backgrounds ws)
 
 backgrounds_iff : (x : List ℕ) (v : Option Content) → Either LogLeft (Hex listed) x v ↔ Arg Backgrounds x v
-backgrounds_iff x v = (elim [ inl h ↦ by_log h | inr h ↦ by_words h ], λ h. to h.0.content h.0.kind h.0.formed h.0.says x h.1)
+backgrounds_iff x v = (elim [ inl h ↦ by_log h | inr h ↦ by_words h ], λ h. to h.0.content h.0.kind h.0.says x h.1)
   where
     log_there : v ≡ Some log → SaysOf Backgrounds v
     log_there e = record { content = log; kind = refl; formed = refl; says = e }
@@ -200,52 +209,58 @@ backgrounds_iff x v = (elim [ inl h ↦ by_log h | inr h ↦ by_words h ], λ h.
     by_log h = (let a = word_pull (codes "log") (λ (_ : v ≡ Some log) y. tail y) x h in (log_there a.0, a.1))
 
     by_words : Hex listed x v → Arg Backgrounds x v
-    by_words h = (let a = hex_whole listed v x h in (record { content = backgrounds (a.0.first ∷ a.0.words); kind = refl; formed = a.0.formed; says = a.0.says }, a.1))
+    by_words h = (let a = hex_whole listed v x h in (record { content = backgrounds (a.0.first ∷ a.0.words); kind = refl; formed = refl; says = a.0.says }, a.1))
 
-    to : (c : Content) → kind_of c ≡ Backgrounds → is_formed c ≡ true → v ≡ Some c → (x : List ℕ) → argument c tail x → LogLeft x v ⊎ Hex listed x v
-    to log k f e x h = inl (word_map (codes "log") tail (λ y. Ends (Some log) y v) (λ y t. (e, t)) x h)
-    to (backgrounds []) k f e x h = absurd h
-    to (backgrounds (w ∷ ws)) k f e x h = inr (whole_hex listed v (record { first = w; words = ws; formed = f; says = e }) x h)
-    to c k f e x h = (let z : ⊥ = cc in absurd z)
+    to : (c : Content) → kind_of c ≡ Backgrounds → v ≡ Some c → (x : List ℕ) → argument c tail x → LogLeft x v ⊎ Hex listed x v
+    to log k e x h = inl (word_map (codes "log") tail (λ y. Ends (Some log) y v) (λ y t. (e, t)) x h)
+    to (backgrounds []) k e x h = absurd h
+    to (backgrounds (w ∷ ws)) k e x h = inr (whole_hex listed v (record { first = w; words = ws; says = e }) x h)
+    to c k e x h = (let z : ⊥ = cc in absurd z)
 
 backgrounds_told : (n : ℕ) → Hears n (Arg Backgrounds) (argument_of Backgrounds)
 backgrounds_told n b l =
     told_iff (Either LogLeft (Hex listed)) (Arg Backgrounds) b (argument_of Backgrounds b) backgrounds_iff
     (either_told n is_l LogLeft (Hex listed) by_log by_words (stuck []) (byte_only 108 (Byte 111 (Byte 103 (Ends (Some log)))))
-    (λ c e. begins_hex (λ w. MoreWords (λ ws. listed (w ∷ ws))) c (ap is_hex (eqb-true c 108 e)))
-    (refl, λ w h. elim h [ inl a ↦ a | inr a ↦ no_hex (λ w. MoreWords (λ ws. listed (w ∷ ws))) w a ])
+    (λ c e. begins_hex (λ ds. MoreWords (λ ws. listed (digits_value 16 ds ∷ ws))) c (ap is_hex (eqb-true c 108 e)))
+    (refl, λ w h. elim h [ inl a ↦ a | inr a ↦ no_hex (λ ds. MoreWords (λ ws. listed (digits_value 16 ds ∷ ws))) w a ])
     (fewer n (suc n) LogLeft by_log (omega arith) (byte_told n 108 (Byte 111 (Byte 103 (Ends (Some log)))) (λ x. onward (byte_of 111 x) (λ _ x. onward (byte_of 103 x) (λ _ x. ends_with (Some log) x))) refl
     (fewer n (suc n) (Byte 111 (Byte 103 (Ends (Some log)))) (λ x. onward (byte_of 111 x) (λ _ x. onward (byte_of 103 x) (λ _ x. ends_with (Some log) x))) (omega arith)
     (byte_told n 111 (Byte 103 (Ends (Some log))) (λ x. onward (byte_of 103 x) (λ _ x. ends_with (Some log) x)) refl
     (fewer n (suc n) (Byte 103 (Ends (Some log))) (λ x. onward (byte_of 103 x) (λ _ x. ends_with (Some log) x)) (omega arith)
     (byte_told n 103 (Ends (Some log)) (ends_with (Some log)) refl (ends_told n (Some log))))))))
     (fewer n (suc n) (Hex listed) by_words (omega arith)
-    (word_told n (fits_of HexWord) (λ w. MoreWords (λ ws. listed (w ∷ ws))) (λ w x. onward (words_of x) (λ ws x. took (listed (w ∷ ws)) x)) hex_begun
-    (λ m c w x v i k. words_no_hex (λ ws. listed (w ∷ ws)) c x v (and_parts (is_hex c) _ i).0 k) (λ w _. all_words_told n (λ ws. listed (w ∷ ws)))))
+    (hex_told n (λ w. MoreWords (λ ws. listed (w ∷ ws))) (λ w x. onward (words_of x) (λ ws x. took (listed (w ∷ ws)) x))
+    (λ w c x v i k. words_no_hex (λ ws. listed (w ∷ ws)) c x v i k) (λ w. all_words_told n (λ ws. listed (w ∷ ws)))))
     b l)
   where
     by_log : List ℕ → Read (Option Content)
     by_log x = onward (byte_of 108 x) (λ _ x. onward (byte_of 111 x) (λ _ x. onward (byte_of 103 x) (λ _ x. ends_with (Some log) x)))
 
     by_words : List ℕ → Read (Option Content)
-    by_words x = onward (word_of (fits_of HexWord) x) (λ w x. onward (words_of x) (λ ws x. took (listed (w ∷ ws)) x))
+    by_words x = onward (hex_number_of x) (λ w x. onward (words_of x) (λ ws x. took (listed (w ∷ ws)) x))
 
 -- ---- all kinds
 
--- a kind whose lines have one word
-told_word : (n : ℕ) (key : Key) (made : List ℕ → Content) (fits : Class) (p : ℕ → Bool) → OneWord key made fits p
-    → Hears n (Arg key) (λ b. onward (word_of fits b) (λ w x. ends_with (Some (made w)) x))
-told_word n key made fits p o =
-    fewer n (suc n) (Arg key) (λ b. onward (word_of fits b) (λ w x. ends_with (Some (made w)) x)) (omega arith) (one_word kind_of is_formed (λ c. argument c tail) n key made fits p o)
+-- a kind whose lines have a number
+told_number : (n : ℕ) (key : Key) (made : ℕ → Content) → OneWord key (λ ds. made (digits_value 10 ds)) (fits_of Number) is_digit
+    → Hears n (Arg key) (λ b. onward (number_of b) (λ m x. ends_with (Some (made m)) x))
+told_number n key made o =
+    fewer n (suc n) (Arg key) (λ b. onward (number_of b) (λ m x. ends_with (Some (made m)) x)) (omega arith) (one_number kind_of is_formed (λ c. argument c tail) n key made o)
+
+polarity_told : (n : ℕ) → Hears (suc n) (Arg Polarity) (argument_of Polarity)
+polarity_told n b l =
+    subst (Told (Arg Polarity) b) (sym (onward_on (word_of (fits_of HexWord) b) (λ ds x. took (digits_value 16 ds) x) (λ w x. ends_with (Some (polarity w)) x)))
+    (one_word kind_of is_formed (λ c. argument c tail) n Polarity (λ ds. polarity (digits_value 16 ds)) (fits_of HexWord) is_hex polarity_word b l)
 
 argument_told : (n : ℕ) (key : Key) → Hears n (Arg key) (argument_of key)
-argument_told n Memory = told_word n Memory version (fits_of Number) is_digit version_word
-argument_told n Name = told_word n Name name (fits_of NameWord) is_name_byte name_word
-argument_told n WordsKey = told_word n WordsKey words (fits_of Number) is_digit words_word
-argument_told n Bits = told_word n Bits bits (fits_of Number) is_digit bits_word
-argument_told n Latency = told_word n Latency latency (fits_of Number) is_digit latency_word
-argument_told n Polarity = told_word n Polarity polarity (fits_of HexWord) is_hex polarity_word
-argument_told n Pause = told_word n Pause pause (fits_of Number) is_digit pause_word
+argument_told n Memory = told_number n Memory version version_word
+argument_told n Name =
+    fewer n (suc n) (Arg Name) (argument_of Name) (omega arith) (one_word kind_of is_formed (λ c. argument c tail) n Name name (fits_of NameWord) is_name_byte name_word)
+argument_told n WordsKey = told_number n WordsKey words words_word
+argument_told n Bits = told_number n Bits bits bits_word
+argument_told n Latency = told_number n Latency latency latency_word
+argument_told n Polarity = fewer n (suc n) (Arg Polarity) (argument_of Polarity) (omega arith) (polarity_told n)
+argument_told n Pause = told_number n Pause pause pause_word
 argument_told n Scramble = row_told n
 argument_told n Backgrounds = backgrounds_told n
 
@@ -253,22 +268,22 @@ argument_told n Backgrounds = backgrounds_told n
 argument_shuns : (key : Key) → Shuns is_blank (Arg key)
 argument_shuns key c b v e h = go h.0.content h.0.formed h.1
   where
-    number : (w : List ℕ) → is_number w ≡ true → word w tail (c ∷ b) → ⊥
-    number w f k = blank_run is_digit 9 w tail c b refl refl refl f e k
+    a_number : (n : ℕ) → number n tail (c ∷ b) → ⊥
+    a_number n k = blank_run is_digit 9 k.0 tail c b refl refl refl k.1 e k.3
 
     go : (x : Content) → is_formed x ≡ true → argument x tail (c ∷ b) → ⊥
-    go (version ds) f k = number ds f k
-    go (words ds) f k = number ds f k
-    go (bits ds) f k = number ds f k
-    go (latency ds) f k = number ds f k
-    go (pause ds) f k = number ds f k
-    go (polarity w) f k = blank_run is_hex 16 w tail c b refl refl refl f e k
+    go (version n) f k = a_number n k
+    go (words n) f k = a_number n k
+    go (bits n) f k = a_number n k
+    go (latency n) f k = a_number n k
+    go (pause n) f k = a_number n k
+    go (polarity w) f k = blank_run is_hex 16 k.0 tail c b refl refl refl k.1 e k.3
     go (name []) f k = (let z : ⊥ = cc in z)
     go (name (d ∷ ds)) f k = blank_word is_letter d ds tail c b refl refl refl (and_parts (is_letter d) (list_all is_name_byte ds) f).0 e k
-    go (scramble i ts) f k = when_false (c == 97) (word i (equation ts tail) b) (apart is_blank c 97 e refl) k
+    go (scramble i ts) f k = when_false (c == 97) (number i (equation ts tail) b) (apart is_blank c 97 e refl) k
     go log f k = when_false (c == 108) (word (codes "og") tail b) (apart is_blank c 108 e refl) k
     go (backgrounds []) f k = k
-    go (backgrounds (w ∷ ws)) f k = blank_run is_hex 16 w (more_words ws tail) c b refl refl refl (and_parts (is_hex_word w) (list_all is_hex_word ws) f).0 e k
+    go (backgrounds (w ∷ ws)) f k = blank_run is_hex 16 k.0 (more_words ws tail) c b refl refl refl k.1 e k.3
 
 -- ---- a line
 
