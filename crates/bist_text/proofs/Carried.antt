@@ -1,8 +1,8 @@
 -- What follows a piece of a grammar, and what that says, drawn out of the piece.
 use Rattle.std.proofs.Common.{ℕ, ◌==◌, ◌≡◌, ◌⊎◌, ◌↔◌, Bool, true, false, List, [], ◌∷◌, inl, inr}
+use Rattle.std.specs.Str.Parse.{digits_value}
 use Rattle.bist_text.specs.Grammar.{byte, word, many, is_blank}
 use Rattle.bist_text.specs.LineGrammar.{space, gap}
-use Rattle.bist_text.specs.keyed.Numbers.{number}
 use Rattle.bist_text.proofs.LinePieces.{when_true, when_holds}
 
 -- where each text that follows has a value, the piece has one
@@ -40,11 +40,18 @@ pub word_carries : (w : List ℕ) → Carries (word w)
 word_carries [] = record { draw = λ A K P f b h. f b h }
 word_carries (d ∷ w) = record { draw = λ A K P f b h. (byte_carries d).draw A (word w K) (λ a. word w (P a)) ((word_carries w).draw A K P f) b h }
 
-pub number_carries : (n : ℕ) → Carries (number n)
-number_carries n = record { draw = λ A K P f b h. (let r = (word_carries h.0).draw A K P f b h.3 in (r.0, (h.0, h.1, h.2, r.1))) }
+-- digits that pass a test, with this value
+abbrev pub Valued : ℕ → (List ℕ → Bool) → ℕ → (List ℕ → Type 0) → List ℕ → Type 0
+Valued base test n K b = (ds : List ℕ) × (test ds ≡ true) × (digits_value base ds ≡ n) × word ds K b
+
+pub value_carries : (base : ℕ) (test : List ℕ → Bool) (n : ℕ) → Carries (Valued base test n)
+value_carries base test n = record { draw = λ A K P f b h. (let r = (word_carries h.0).draw A K P f b h.3 in (r.0, (h.0, h.1, h.2, r.1))) }
 
 pub onto : {T : (List ℕ → Type 0) → List ℕ → Type 0} → Carries T → (K L : List ℕ → Type 0) → ((x : List ℕ) → K x → L x) → (b : List ℕ) → T K b → T L b
 onto t K L f b h = (t.draw (Unit {0}) K (λ _. L) (λ x k. (tt, f x k)) b h).1
+
+pub nothing : {T : (List ℕ → Type 0) → List ℕ → Type 0} → Carries T → (b : List ℕ) → T (λ _. ⊥) b → ⊥
+nothing t b h = (t.draw ⊥ (λ _. ⊥) (λ _ _. ⊥) (λ x k. (k, k)) b h).0
 
 pub either : {T : (List ℕ → Type 0) → List ℕ → Type 0} → Carries T → (K L : List ℕ → Type 0) (b : List ℕ) → T (λ x. K x ⊎ L x) b → T K b ⊎ T L b
 either {T} t K L b h = (let r = t.draw _ (λ x. K x ⊎ L x) Part (λ x. elim [ inl k ↦ (true, k) | inr l ↦ (false, l) ]) b h in of r.0 r.1)

@@ -6,7 +6,7 @@ pub mod Numbers
 pub mod Steps
 pub mod Taken
 pub mod Table
-pub mod LineLaws
+pub mod Listed
 pub mod Items
 pub mod Checks
 pub mod Texts

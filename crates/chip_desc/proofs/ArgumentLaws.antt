@@ -8,7 +8,7 @@ use Rattle.bist_text.specs.declared.keyed_lines.Class.TheVariants.{Name as NameW
 use Rattle.bist_text.proofs.KeywordLaws.{IsOf}
 use Rattle.bist_text.proofs.keyed.Classes.{all_of_is, name_is}
 use Rattle.bist_text.proofs.keyed.Table.{begins_small, IsTable, line_exact as table_exact}
-use Rattle.bist_text.proofs.keyed.Taken.{Takes, Worded, digits, ends_taken, file_bytes, gap_taken, name_bytes, number_taken, word_taken}
+use Rattle.bist_text.proofs.keyed.Taken.{Takes, Worded, digits, ends_taken, file_bytes, gap_taken, less, name_bytes, number_taken, word_taken}
 use Rattle.chip_desc.specs.declared.content.Key.TheVariants.{Unit as OfUnit}
 
 -- a file's name as a word of its class
@@ -33,11 +33,11 @@ made Budget a = budget a.0
 made OfUnit a = unit a.0 a.1.0 a.1.2.0
 
 -- the formed contents are those
-parts : (c : Content) → is_formed c ≡ true → (a : Form (kind_of c)) × (c ≡ made (kind_of c) a)
-parts (version n) f = ((n, tt), refl)
-parts (name b) f = ((b, name_is b ∙ f, tt), refl)
-parts (budget n) f = ((n, tt), refl)
-parts (unit n m d) f = (let p = and_parts (is_file m) (is_file d) f in ((n, (m, (file_is m).1 p.0, (d, (file_is d).1 p.1, tt))), refl))
+parts : (c : Content) (x : List ℕ) → is_formed c ≡ true → argument c tail x → (a : Form (kind_of c)) × (c ≡ made (kind_of c) a)
+parts (version n) x f h = ((n, tt), refl)
+parts (name b) x f h = ((b, name_is b ∙ f, tt), refl)
+parts (budget n) x f h = ((n, tt), refl)
+parts (unit n m d) x f h = (let p = and_parts (is_file m) (is_file d) f in ((n, (m, (file_is m).1 p.0, (d, (file_is d).1 p.1, tt))), refl))
 
 kind : (k : Key) (a : Form k) → kind_of (made k a) ≡ k
 kind Chip a = refl
@@ -51,12 +51,12 @@ formed Name a = sym (name_is a.0) ∙ a.1
 formed Budget a = refl
 formed OfUnit a = and_from (is_file a.1.0) (is_file a.1.2.0) ((file_is a.1.0).0 a.1.1) ((file_is a.1.2.0).0 a.1.2.1)
 
-taken : (k : Key) → Takes is_blank (λ a. Some (made k a)) (λ a. argument (made k a) tail) (argument_of k)
-taken Chip = number_taken (λ n. ends_taken (Some (version n)) digits.plain)
-taken Name = word_taken name_bytes (λ b. ends_taken (Some (name b)) name_bytes.plain)
-taken Budget = number_taken (λ n. ends_taken (Some (budget n)) digits.plain)
-taken OfUnit =
-    number_taken (λ n. gap_taken digits.plain (word_taken file_bytes (λ m. gap_taken file_bytes.plain (word_taken file_bytes (λ d. ends_taken (Some (unit n m d)) file_bytes.plain)))))
+taken : (n : ℕ) (k : Key) → Takes n is_blank (λ a. Some (made k a)) (λ a. argument (made k a) tail) (argument_of k)
+taken n Chip = number_taken (λ m. ends_taken (Some (version m)) digits.plain)
+taken n Name = word_taken name_bytes (λ b. ends_taken (Some (name b)) name_bytes.plain)
+taken n Budget = number_taken (λ m. ends_taken (Some (budget m)) digits.plain)
+taken n OfUnit =
+    number_taken (λ w. less (gap_taken digits.plain (word_taken file_bytes (λ m. less (gap_taken file_bytes.plain (word_taken file_bytes (λ d. ends_taken (Some (unit w m d)) file_bytes.plain)))))))
 
 small : (k : Key) → begins_small (key_text k) ≡ true
 small Chip = refl

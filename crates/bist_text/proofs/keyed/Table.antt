@@ -40,8 +40,8 @@ module _ {K C : Type 0} (kind_of : C → K) (is_formed : C → Bool) (argument :
     pub small : (k : K) → begins_small (key_text k) ≡ true
     pub kind : (k : K) (a : Form k) → kind_of (made k a) ≡ k
     pub formed : (k : K) (a : Form k) → is_formed (made k a) ≡ true
-    pub parts : (c : C) → is_formed c ≡ true → (a : Form (kind_of c)) × (c ≡ made (kind_of c) a)
-    pub taken : (k : K) → Takes is_blank (λ a. Some (made k a)) (λ a. argument (made k a)) (argument_of k)
+    pub parts : (c : C) (x : List ℕ) → is_formed c ≡ true → argument c x → (a : Form (kind_of c)) × (c ≡ made (kind_of c) a)
+    pub taken : (n : ℕ) (k : K) → Takes n is_blank (λ a. Some (made k a)) (λ a. argument (made k a)) (argument_of k)
 
   module _ (argument_of : K → List ℕ → Read (Option C)) (t : IsTable argument_of) where
     abbrev Behind : K → List ℕ → Option C → Type 0
@@ -84,9 +84,14 @@ module _ {K C : Type 0} (kind_of : C → K) (is_formed : C → Bool) (argument :
 
         to : (s : Standing) → v ≡ Some s.content → text s.content x → Keyed x v
         to s e w =
-            let k = kind_of s.content in
-            let p = t.parts s.content s.formed in
-            (k, (stands_all (λ k. key_text k ∷ []) keys k (λ y. Gap (Behind k) y v) x).1 (s.stands, inl ((on k x v).1 (p.0, e ∙ ap Some p.1, subst (λ c. word (key_text k) (gap (argument c)) x) p.1 w))))
+            let c = s.content in
+            let k = kind_of c in
+            let r = (word_carries (key_text k)).draw Parts (gap (argument c)) (λ a. gap (argument (made k a.0)))
+            (gap_carries.draw Parts (argument c) (λ a. argument (made k a.0)) (λ y m. (let p = t.parts c y s.formed m in (p, subst (λ c. argument c y) p.1 m)))) x w in
+            (k, (stands_all (λ k. key_text k ∷ []) keys k (λ y. Gap (Behind k) y v) x).1 (s.stands, inl ((on k x v).1 (r.0.0, e ∙ ap Some r.0.1, r.1))))
+          where
+            Parts : Type 0
+            Parts = (a : Form (kind_of s.content)) × (s.content ≡ made (kind_of s.content) a)
 
     abbrev keyed : List ℕ → Read (Option C)
     keyed b = keyed_of words_of argument_of b
@@ -94,7 +99,7 @@ module _ {K C : Type 0} (kind_of : C → K) (is_formed : C → Bool) (argument :
     keyed_told : (n : ℕ) → Hears n Keyed keyed
     keyed_told n b l =
         key_told n words_of t.fine (record { text = key_text t.first; value = t.first }) t.begins (λ k. Gap (Behind k)) (λ k x. onward (gap_of x) (λ _ x. argument_of k x))
-        (λ k y i. gap_told n (Behind k) (argument_of k) (λ c x v e h. (t.taken k).shuns h.0 c x e h.2) (λ x _. (t.taken k).told x) y (omega arith)) b (omega arith)
+        (λ k y i. gap_told n (Behind k) (argument_of k) (λ c x v e h. (t.taken n k).shuns h.0 c x e h.2) (t.taken n k).told y (omega arith)) b (omega arith)
 
     -- a first word begins neither with a blank nor with #
     stops : (p : ℕ → Bool) → ((c : ℕ) → is_small c ≡ true → p c ≡ true → ⊥) → (c : ℕ) (x : List ℕ) (v : Option C) → p c ≡ true → Keyed (c ∷ x) v → ⊥
