@@ -4,8 +4,8 @@ ghost use Rattle.std.specs.Prelude.{◌≡◌, ◌↔◌, ℕ, Some, Ok, Err, Re
 ghost use Rattle.bist_text.specs.Lines.{text_lines};
 ghost use Rattle.memory_desc.specs.Names.{IsName};
 ghost use Rattle.chip_desc.specs.Chips.{ChipDescription, IsChip};
-ghost use Rattle.chip_desc.specs.ChipTable.{Reads, of_lines, refusal, name_in, budget_in};
-ghost use Rattle.chip_desc.specs.inner.Heard.{by_statements, plain_content, statements, reading};
+ghost use Rattle.chip_desc.specs.ChipTable.{Reads, by_statements, of_lines, refusal, name_in, budget_in};
+ghost use Rattle.chip_desc.specs.inner.Heard.{plain_content, statements, reading};
 ghost use Rattle.chip_desc.specs.declared.fault.ChipFault.{ChipFault};
 
 use crate::chip::ChipDesc;

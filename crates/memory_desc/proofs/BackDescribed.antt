@@ -1,84 +1,58 @@
 -- The statements of a printed memory describe it.
-use Rattle.memory_desc.proofs.Common.{AreBackgrounds, AreOfMemory, Bool, Content, Description, IsFull, IsInvertible, IsMemory, IsScrambling, IsSome, IsWidthOf, List, MatchBool, None, Option, Scrambling, Some, Statement, Subject, about, and_parts, ap, ap₂, arith, assembled, backgrounds, bits, bits_said, decimal, described, digits_value, eqb-true, false, find, identity, if◌then◌else◌, is_among, is_identity, is_plain, is_power_of_two, is_same, latency, latency_in, latency_said, length, lt-leb, map, matrix_said, name, nat_le, nat_lt, pause, pause_in, pause_said, polarity, polarity_in, polarity_said, refl, reserved_words, subst, suc, sym, true, words, words_said, ℕ, ◌&&◌, ◌++◌, ◌+◌, ◌-◌, ◌<◌, ◌==◌, ◌^◌, ◌||◌, ◌∙◌, ◌∷◌, ◌≡◌, ◌≤◌}
+use Rattle.memory_desc.proofs.Common.{AreBackgrounds, AreOfMemory, Bool, Content, Description, IsFull, IsInvertible, IsMemory, IsScrambling, IsSome, List, MatchBool, None, Option, Some, Statement, Subject, about, and_parts, ap, ap₂, arith, assembled, backgrounds, bits, bits_said, described, eqb-true, false, find, identity, if◌then◌else◌, is_among, is_identity, is_plain, is_power_of_two, is_same, latency, latency_in, latency_said, length, lt-leb, matrix_said, name, nat_lt, pause, pause_in, pause_said, polarity, polarity_in, polarity_said, refl, reserved_words, subst, suc, sym, true, words, words_said, ℕ, ◌&&◌, ◌++◌, ◌+◌, ◌<◌, ◌==◌, ◌^◌, ◌||◌, ◌∙◌, ◌∷◌, ◌≡◌, ◌≤◌}
 use Rattle.memory_desc.specs.Subjects.{said}
 use Rattle.memory_desc.specs.Described.{is_out_of_range, is_scrambled, is_too_wide}
 use Rattle.memory_desc.specs.declared.content.Subject.TheVariants.{Version, Name, Words, Bits, Latency, Polarity, Pause, Row, Backgrounds}
 use Rattle.memory_desc.proofs.BackLines.{numbered}
-use Rattle.memory_desc.proofs.BackDigits.{decimal_value}
 use Rattle.memory_desc.proofs.BackFound.{Others, Distinct, no_repeat, others_head, rows_distinct, said_backgrounds, unsaid, found_none, none_found, row_content, body}
 use Rattle.memory_desc.proofs.BackInside.{rows_printed}
 use Rattle.scrambler.proofs.Identity.{identity_is_identity, identity_by_rows}
 use Rattle.memory_desc.proofs.BackTerms.{neither_too_wide}
-use Rattle.memory_desc.proofs.BackTexts.{digits_of_word}
-use Rattle.memory_desc.proofs.BackValues.{statements, later_said, word_value, some_rows, row_there, matrix_is, row_within, words_are, words_within}
+use Rattle.memory_desc.proofs.BackValues.{statements, later_said, some_rows, row_there, matrix_is, row_within, words_within}
 
 -- ---- the numbers
-
-small_words : (d : Description) → IsMemory d → d.words < 1000000000
-small_words d mem = let h = mem.words_high in omega arith
-
-small_bits : (d : Description) → IsMemory d → d.bits < 1000000000
-small_bits d mem = let h = mem.bits_high in omega arith
-
-small_latency : (d : Description) → IsMemory d → d.latency < 1000000000
-small_latency d mem = let h = mem.latency_high in omega arith
-
-small_pause : (d : Description) → IsMemory d → d.pause < 1000000000
-small_pause d mem = let h = mem.pause_high in omega arith
 
 -- where version 1 is printed, it says all
 abbrev pub IsEnough : Description → Bool → Type 0
 IsEnough d plain = plain ≡ true → (d.latency ≡ 1) × (d.polarity ≡ 0) × (d.pause ≡ 1)
 
-module _ (d : Description) (k : ℕ) (mem : IsMemory d) where
-  ws : List (List ℕ)
-  ws = map (digits_of_word d.bits) d.backgrounds
-
-  words_are_said : (plain : Bool) → words_said (statements d plain k) ≡ d.words
-  words_are_said plain = decimal_value d.words (small_words d mem)
-
-  bits_are_said : (plain : Bool) → bits_said (statements d plain k) ≡ d.bits
-  bits_are_said plain = decimal_value d.bits (small_bits d mem)
-
+module _ (d : Description) (k : ℕ) where
   latency_is_said : (plain : Bool) → IsEnough d plain → latency_said (statements d plain k) ≡ d.latency
-  unfolding ws
-  latency_is_said true enough = ap latency_in (unsaid Latency d.scramble 5 0 k ws (λ j. refl) refl) ∙ sym (enough refl).0
-  latency_is_said false enough = decimal_value d.latency (small_latency d mem)
+  latency_is_said true enough = ap latency_in (unsaid Latency d.scramble 5 0 k d.backgrounds (λ j. refl) refl) ∙ sym (enough refl).0
+  latency_is_said false enough = refl
 
   polarity_is_said : (plain : Bool) → IsEnough d plain → polarity_said (statements d plain k) ≡ d.polarity
-  unfolding ws
-  polarity_is_said true enough = ap polarity_in (unsaid Polarity d.scramble 5 0 k ws (λ j. refl) refl) ∙ sym (enough refl).1
-  polarity_is_said false enough = word_value d.bits d.polarity mem.polarity
+  polarity_is_said true enough = ap polarity_in (unsaid Polarity d.scramble 5 0 k d.backgrounds (λ j. refl) refl) ∙ sym (enough refl).1
+  polarity_is_said false enough = refl
 
   pause_is_said : (plain : Bool) → IsEnough d plain → pause_said (statements d plain k) ≡ d.pause
-  unfolding ws
-  pause_is_said true enough = ap pause_in (unsaid Pause d.scramble 5 0 k ws (λ j. refl) refl) ∙ sym (enough refl).2
-  pause_is_said false enough = decimal_value d.pause (small_pause d mem)
+  pause_is_said true enough = ap pause_in (unsaid Pause d.scramble 5 0 k d.backgrounds (λ j. refl) refl) ∙ sym (enough refl).2
+  pause_is_said false enough = refl
 
-  backgrounds_are_said : (plain : Bool) → said Backgrounds (statements d plain k) ≡ Some (backgrounds (map (digits_of_word d.bits) d.backgrounds))
-  backgrounds_are_said true = said_backgrounds d.scramble 5 0 k (map (digits_of_word d.bits) d.backgrounds)
-  backgrounds_are_said false = said_backgrounds d.scramble 8 0 k (map (digits_of_word d.bits) d.backgrounds)
+  backgrounds_are_said : (plain : Bool) → said Backgrounds (statements d plain k) ≡ Some (backgrounds d.backgrounds)
+  backgrounds_are_said true = said_backgrounds d.scramble 5 0 k d.backgrounds
+  backgrounds_are_said false = said_backgrounds d.scramble 8 0 k d.backgrounds
 
 -- ---- no refusal
 
-all_distinct : (d : Description) (plain : Bool) (k : ℕ) → k ≤ 16 → Distinct (statements d plain k)
-all_distinct d true k h =
+all_distinct : (d : Description) (plain : Bool) (k : ℕ) → Distinct (statements d plain k)
+all_distinct d true k =
     let s = d.scramble in
-    let ws = map (digits_of_word d.bits) d.backgrounds in
+    let ws = d.backgrounds in
     let after : (q : Subject) → ((j : ℕ) → is_same (Row j) q ≡ false) → is_same Backgrounds q ≡ false → Others q (numbered 5 (body s 0 k ws)) =
     λ q f g. others_head q s 5 0 k ws f g in (
       (refl, (refl, (refl, after Version (λ j. refl) refl))),
       (
         (refl, (refl, after Name (λ j. refl) refl)),
-        ((refl, after Words (λ j. refl) refl), (after Bits (λ j. refl) refl, rows_distinct s 5 0 k ws (omega arith))),
+        ((refl, after Words (λ j. refl) refl), (after Bits (λ j. refl) refl, rows_distinct s 5 0 k ws)),
       ),
     )
-all_distinct d false k h =
+all_distinct d false k =
     let s = d.scramble in
-    let ws = map (digits_of_word d.bits) d.backgrounds in
+    let ws = d.backgrounds in
     let after : (q : Subject) → ((j : ℕ) → is_same (Row j) q ≡ false) → is_same Backgrounds q ≡ false → Others q (numbered 8 (body s 0 k ws)) =
     λ q f g. others_head q s 8 0 k ws f g in
-    let pauses : Distinct (numbered 7 (pause (decimal d.pause) ∷ body s 0 k ws)) = (after Pause (λ j. refl) refl, rows_distinct s 8 0 k ws (omega arith)) in
+    let pauses : Distinct (numbered 7 (pause d.pause ∷ body s 0 k ws)) = (after Pause (λ j. refl) refl, rows_distinct s 8 0 k ws) in
     let ports : Distinct (numbered 5 (later_said d false ++ body s 0 k ws)) =
     ((refl, (refl, after Latency (λ j. refl) refl)), ((refl, after Polarity (λ j. refl) refl), pauses)) in (
       (refl, (refl, (refl, (refl, (refl, (refl, after Version (λ j. refl) refl)))))),
@@ -88,49 +62,48 @@ all_distinct d false k h =
       ),
     )
 
-in_range : (low high n : ℕ) (ds : List ℕ) → digits_value 10 ds ≡ n → low ≤ n → n ≤ high → (nat_lt (digits_value 10 ds) low || nat_lt high (digits_value 10 ds)) ≡ false
-in_range low high n ds e l h =
-    neither_too_wide (nat_lt (digits_value 10 ds) low) (nat_lt high (digits_value 10 ds)) (lt-leb (suc (digits_value 10 ds)) low (omega arith)) (lt-leb (suc high) (digits_value 10 ds) (omega arith))
+in_range : (low high n : ℕ) → low ≤ n → n ≤ high → (nat_lt n low || nat_lt high n) ≡ false
+in_range low high n l h = neither_too_wide (nat_lt n low) (nat_lt high n) (lt-leb (suc n) low (omega arith)) (lt-leb (suc high) n (omega arith))
 
 name_in_range : (b : List ℕ) → length b ≤ 48 → is_among b reserved_words ≡ false → is_out_of_range (name b) ≡ false
 name_in_range b h free = neither_too_wide (nat_lt 48 (length b)) (is_among b reserved_words) (lt-leb (suc 48) (length b) (omega arith)) free
 
 -- no content behind the first four lines passes a test
-later_pass : (p : Content → Bool) (d : Description) (plain : Bool) (k : ℕ) → p (latency (decimal d.latency)) ≡ false → p (polarity (digits_of_word d.bits d.polarity)) ≡ false
-    → p (pause (decimal d.pause)) ≡ false → ((j : ℕ) → j < 0 + k → p (row_content d.scramble j) ≡ false) → p (backgrounds (map (digits_of_word d.bits) d.backgrounds)) ≡ false
-    → find (λ t. p t.content) (numbered 5 (later_said d plain ++ body d.scramble 0 k (map (digits_of_word d.bits) d.backgrounds))) ≡ None
-later_pass p d true k a b c rows set = none_found p d.scramble 5 0 k (map (digits_of_word d.bits) d.backgrounds) rows set
+later_pass : (p : Content → Bool) (d : Description) (plain : Bool) (k : ℕ) → p (latency d.latency) ≡ false → p (polarity d.polarity) ≡ false
+    → p (pause d.pause) ≡ false → ((j : ℕ) → j < 0 + k → p (row_content d.scramble j) ≡ false) → p (backgrounds d.backgrounds) ≡ false
+    → find (λ t. p t.content) (numbered 5 (later_said d plain ++ body d.scramble 0 k d.backgrounds)) ≡ None
+later_pass p d true k a b c rows set = none_found p d.scramble 5 0 k d.backgrounds rows set
 later_pass p d false k a b c rows set =
-    let more = body d.scramble 0 k (map (digits_of_word d.bits) d.backgrounds) in
+    let more = body d.scramble 0 k d.backgrounds in
     let q : Statement → Bool = λ t. p t.content in
-    found_none q (record { line = 5; content = latency (decimal d.latency) }) (numbered 6 (polarity (digits_of_word d.bits d.polarity) ∷ pause (decimal d.pause) ∷ more)) a
-    (found_none q (record { line = 6; content = polarity (digits_of_word d.bits d.polarity) }) (numbered 7 (pause (decimal d.pause) ∷ more)) b
-    (found_none q (record { line = 7; content = pause (decimal d.pause) }) (numbered 8 more) c
-    (none_found p d.scramble 8 0 k (map (digits_of_word d.bits) d.backgrounds) rows set)))
+    found_none q (record { line = 5; content = latency d.latency }) (numbered 6 (polarity d.polarity ∷ pause d.pause ∷ more)) a
+    (found_none q (record { line = 6; content = polarity d.polarity }) (numbered 7 (pause d.pause ∷ more)) b
+    (found_none q (record { line = 7; content = pause d.pause }) (numbered 8 more) c
+    (none_found p d.scramble 8 0 k d.backgrounds rows set)))
 
 all_in_range : (d : Description) (plain : Bool) (k : ℕ) → IsMemory d → find (λ s. is_out_of_range s.content) (statements d plain k) ≡ None
 all_in_range d plain k mem =
-    let ws = map (digits_of_word d.bits) d.backgrounds in
+    let ws = d.backgrounds in
     let p : Statement → Bool = λ t. is_out_of_range t.content in
     let rows = numbered 5 (later_said d plain ++ body d.scramble 0 k ws) in
-    let bits_line : Statement = record { line = 4; content = bits (decimal d.bits) } in
-    let words_line : Statement = record { line = 3; content = words (decimal d.words) } in
+    let bits_line : Statement = record { line = 4; content = bits d.bits } in
+    let words_line : Statement = record { line = 3; content = words d.words } in
     let name_line : Statement = record { line = 2; content = name d.name } in
     let from_rows : find p rows ≡ None =
-    later_pass is_out_of_range d plain k (in_range 1 4 d.latency (decimal d.latency) (decimal_value d.latency (small_latency d mem)) mem.latency_low mem.latency_high) refl
-    (in_range 1 65535 d.pause (decimal d.pause) (decimal_value d.pause (small_pause d mem)) mem.pause_low mem.pause_high) (λ j l. refl) refl in
+    later_pass is_out_of_range d plain k (in_range 1 4 d.latency mem.latency_low mem.latency_high) refl
+    (in_range 1 65535 d.pause mem.pause_low mem.pause_high) (λ j l. refl) refl in
     let from_bits : find p (bits_line ∷ rows) ≡ None =
-    found_none p bits_line rows (in_range 1 64 d.bits (decimal d.bits) (decimal_value d.bits (small_bits d mem)) mem.bits_low mem.bits_high) from_rows in
+    found_none p bits_line rows (in_range 1 64 d.bits mem.bits_low mem.bits_high) from_rows in
     let from_words : find p (words_line ∷ bits_line ∷ rows) ≡ None =
-    found_none p words_line (bits_line ∷ rows) (in_range 2 65536 d.words (decimal d.words) (decimal_value d.words (small_words d mem)) mem.words_low mem.words_high) from_bits in
+    found_none p words_line (bits_line ∷ rows) (in_range 2 65536 d.words mem.words_low mem.words_high) from_bits in
     found_none p name_line (words_line ∷ bits_line ∷ rows) (name_in_range d.name mem.name.short mem.name.free) from_words
 
-none_too_wide : (d : Description) (plain : Bool) (k : ℕ) → IsMemory d → d.scramble.width ≤ 16 → k ≤ d.scramble.width
+none_too_wide : (d : Description) (plain : Bool) (k : ℕ) → IsMemory d → k ≤ d.scramble.width
     → find (λ t. is_too_wide d.scramble.width d.bits t.content) (statements d plain k) ≡ None
-none_too_wide d plain k mem small h =
+none_too_wide d plain k mem h =
     let s = d.scramble in
-    later_pass (is_too_wide s.width d.bits) d plain k refl (ap (nat_le (2 ^ d.bits)) (word_value d.bits d.polarity mem.polarity) ∙ lt-leb (2 ^ d.bits) d.polarity mem.polarity) refl
-    (λ j l. row_within s d.bits j (omega arith) small) (words_within s.width d.bits d.backgrounds mem.tested.fit)
+    later_pass (is_too_wide s.width d.bits) d plain k refl (lt-leb (2 ^ d.bits) d.polarity mem.polarity) refl
+    (λ j l. row_within s d.bits j (omega arith)) (words_within s.width d.bits d.backgrounds mem.tested.fit)
 
 -- ---- the scrambling
 
@@ -151,62 +124,57 @@ given_identity : (d : Description) (plain : Bool) → IsFull d.scramble → is_i
 given_identity d true full e = record { few = omega arith; scramblable = λ h. (let f : false ≡ true = h in let z : ⊥ = cc in absurd z); scrambling = identity_by_rows d.scramble full.count e }
 given_identity d false full e = record { few = omega arith; scramblable = λ h. (let f : false ≡ true = h in let z : ⊥ = cc in absurd z); scrambling = identity_by_rows d.scramble full.count e }
 
-given_rows : (d : Description) (plain : Bool) → IsMemory d → IsFull d.scramble → d.scramble.width ≤ 16 → is_identity d.scramble ≡ false → Given d plain d.scramble.width
-given_rows d plain mem full small e =
+given_rows : (d : Description) (plain : Bool) → IsMemory d → IsFull d.scramble → is_identity d.scramble ≡ false → Given d plain d.scramble.width
+given_rows d plain mem full e =
     let s = d.scramble in
     let ss = statements d plain s.width in
-    let same : matrix_said ss s.width ≡ s = matrix_is d plain full small in
+    let same : matrix_said ss s.width ≡ s = matrix_is d plain full in
     record {
       few = omega arith;
-      scramblable = λ _. ap is_power_of_two (words_are_said d s.width mem plain) ∙ power_by_rows d mem e (is_power_of_two d.words) refl;
+      scramblable = λ _. power_by_rows d mem e (is_power_of_two d.words) refl;
       scrambling =
           subst (λ (b : Bool). MatchBool b (((i : ℕ) → i < s.width → IsSome (about (Row i) ss)) × IsInvertible (matrix_said ss s.width) × (s ≡ matrix_said ss s.width)) (s ≡ identity s.width))
-          (sym (some_rows d plain s.width mem.address.positive)) (λ i h. row_there d plain s.width i h small, subst IsInvertible (sym same) mem.invertible, sym same);
+          (sym (some_rows d plain s.width mem.address.positive)) (λ i h. row_there d plain s.width i h, subst IsInvertible (sym same) mem.invertible, sym same);
     }
 
-given_by_test : (d : Description) (plain : Bool) → IsMemory d → IsFull d.scramble → d.scramble.width ≤ 16 → (t : Bool) → is_identity d.scramble ≡ t
+given_by_test : (d : Description) (plain : Bool) → IsMemory d → IsFull d.scramble → (t : Bool) → is_identity d.scramble ≡ t
     → Given d plain (if t then 0 else d.scramble.width)
-given_by_test d plain mem full small true e = given_identity d plain full e
-given_by_test d plain mem full small false e = given_rows d plain mem full small e
+given_by_test d plain mem full true e = given_identity d plain full e
+given_by_test d plain mem full false e = given_rows d plain mem full e
 
 -- ---- the whole
 
-described_as : List ℕ → Scrambling → List ℕ → ℕ → ℕ → ℕ → ℕ → ℕ → Description
-described_as n s set w b l p z = assembled n w b l p z s set
+with_ports : Description → ℕ → ℕ → ℕ → Description
+with_ports d l p z = assembled d.name d.words d.bits l p z d.scramble d.backgrounds
 
-same_description : (d : Description) (plain : Bool) (k : ℕ) → IsMemory d → IsEnough d plain
-    → described_as d.name d.scramble d.backgrounds d.words d.bits d.latency d.polarity d.pause ≡ described (statements d plain k) d.scramble d.backgrounds
-unfolding described_as
-same_description d plain k mem enough =
-    let at = described_as d.name d.scramble d.backgrounds in
-    let ss = statements d plain k in
-    ap₂ (λ (w b : ℕ). at w b d.latency d.polarity d.pause) (sym (words_are_said d k mem plain)) (sym (bits_are_said d k mem plain))
-    ∙ ap₂ (λ (l p : ℕ). at (words_said ss) (bits_said ss) l p d.pause) (sym (latency_is_said d k mem plain enough)) (sym (polarity_is_said d k mem plain enough))
-    ∙ ap (λ (z : ℕ). at (words_said ss) (bits_said ss) (latency_said ss) (polarity_said ss) z) (sym (pause_is_said d k mem plain enough))
+same_description : (d : Description) (plain : Bool) (k : ℕ) → IsEnough d plain → with_ports d d.latency d.polarity d.pause ≡ described (statements d plain k) d.scramble d.backgrounds
+unfolding with_ports
+same_description d plain k enough =
+    ap₂ (λ (l p : ℕ). with_ports d l p d.pause) (sym (latency_is_said d k plain enough)) (sym (polarity_is_said d k plain enough))
+    ∙ ap (λ (z : ℕ). with_ports d (latency_said (statements d plain k)) (polarity_said (statements d plain k)) z) (sym (pause_is_said d k plain enough))
 
-describes_with : (d : Description) (plain : Bool) (k : ℕ) → IsMemory d → IsEnough d plain → d.scramble.width ≤ 16 → Given d plain k → AreOfMemory (statements d plain k) d
-unfolding described_as
-describes_with d plain k mem enough small given =
+describes_with : (d : Description) (plain : Bool) (k : ℕ) → IsMemory d → IsEnough d plain → Given d plain k → AreOfMemory (statements d plain k) d
+unfolding with_ports
+describes_with d plain k mem enough given =
     let ss = statements d plain k in
     let few = given.few in
     record {
-      once = no_repeat ss (all_distinct d plain k (omega arith));
+      once = no_repeat ss (all_distinct d plain k);
       has_name = refl;
       has_words = refl;
       has_bits = refl;
       in_range = all_in_range d plain k mem;
       width = d.scramble.width;
-      addresses = subst (λ (n : ℕ). IsWidthOf (n - 1) d.scramble.width) (sym (words_are_said d k mem plain)) mem.address;
-      fit = subst (λ (size : ℕ). find (λ t. is_too_wide d.scramble.width size t.content) ss ≡ None) (sym (bits_are_said d k mem plain)) (none_too_wide d plain k mem small few);
+      addresses = mem.address;
+      fit = none_too_wide d plain k mem few;
       scramblable = given.scramblable;
       scrambling = d.scramble;
       is_scrambling = given.scrambling;
       set = d.backgrounds;
-      are_backgrounds =
-          subst (λ (o : Option Content). AreBackgrounds o (bits_said ss) d.backgrounds) (sym (backgrounds_are_said d k mem plain)) (sym (words_are d.bits d.backgrounds mem.tested.fit));
+      are_backgrounds = subst (λ (o : Option Content). AreBackgrounds o (bits_said ss) d.backgrounds) (sym (backgrounds_are_said d k plain)) refl;
       few = mem.tested.few;
       solid = mem.tested.solid;
-      described_as = same_description d plain k mem enough;
+      described_as = same_description d plain k enough;
     }
 
 enough_by_test : (d : Description) → IsEnough d (is_plain d)
@@ -215,6 +183,5 @@ enough_by_test d e =
     let inner = and_parts (d.latency == 1) (d.polarity == 0) outer.0 in
     (eqb-true d.latency 1 inner.0, eqb-true d.polarity 0 inner.1, eqb-true d.pause 1 outer.1)
 
-pub describes_it : (d : Description) → IsMemory d → IsFull d.scramble → d.scramble.width ≤ 16 → AreOfMemory (statements d (is_plain d) (rows_printed d.scramble)) d
-describes_it d mem full small =
-    describes_with d (is_plain d) (rows_printed d.scramble) mem (enough_by_test d) small (given_by_test d (is_plain d) mem full small (is_identity d.scramble) refl)
+pub describes_it : (d : Description) → IsMemory d → IsFull d.scramble → AreOfMemory (statements d (is_plain d) (rows_printed d.scramble)) d
+describes_it d mem full = describes_with d (is_plain d) (rows_printed d.scramble) mem (enough_by_test d) (given_by_test d (is_plain d) mem full (is_identity d.scramble) refl)

@@ -1,9 +1,10 @@
 -- Numbers as they are printed are numbers as they are read.
-use Rattle.memory_desc.proofs.Common.{AllDigits, List, [], and_from, arith, decimal, digit_value, digits_value, false, hex_digits, is_digit, is_hex, is_number, le-leb, length, length-append, list_all, list_all-append, lit<, nat_le, pow-suc, refl, suc, sym, true, zero, ℕ, ◌%◌, ◌/◌, ◌<◌, ◌^◌, ◌∙◌, ◌∷◌, ◌≡◌, ◌≤◌}
+use Rattle.memory_desc.proofs.Common.{AllDigits, List, [], and_from, arith, decimal, digit_value, digits_value, false, hex_digits, is_digit, is_hex, le-leb, length, length-append, list_all, list_all-append, lit<, nat_le, pow-suc, refl, suc, sym, true, zero, ℕ, ◌%◌, ◌/◌, ◌<◌, ◌^◌, ◌∙◌, ◌∷◌, ◌≡◌, ◌≤◌}
 use Rattle.std.specs.Fmt.{digit_glyph}
 use Rattle.std.proofs.lemmas.Fmt.{decimal_is_IsNumeral, length-decimal-le, decimal_nonempty}
 use Rattle.std.proofs.lemmas.Int.Digits.{digits_value_push}
 use Rattle.std.proofs.lemmas.Str.Parse.{digit_from_value}
+use Rattle.bist_text.specs.keyed.Numbers.{is_number}
 use Rattle.memory_desc.specs.LineText.{is_word}
 
 -- ---- decimal
@@ -76,8 +77,8 @@ hex_digits_value (suc k) w h =
     let whole = digits_value_push 16 (hex_digits k (w / 16)) (digit_glyph false (w % 16)) in
     omega arith
 
-pub hex_word : (k w : ℕ) → 1 ≤ k → k ≤ 16 → is_word (hex_digits k w) ≡ true
-hex_word k w p h =
+pub hex_formed : (k w : ℕ) → 1 ≤ k → k ≤ 16 → is_word (hex_digits k w) ≡ true
+hex_formed k w p h =
     let size = hex_digits_length k w in
     let some : nat_le 1 (length (hex_digits k w)) ≡ true = le-leb 1 (length (hex_digits k w)) (omega arith) in
     let few : nat_le (length (hex_digits k w)) 16 ≡ true = le-leb (length (hex_digits k w)) 16 (omega arith) in

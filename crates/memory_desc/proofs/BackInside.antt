@@ -1,7 +1,8 @@
 -- No line feed stands inside a printed line, and the lines make up the text.
-use Rattle.memory_desc.proofs.Common.{Bool, Description, List, Scrambling, Term, [], and_from, and_parts, ap, apart, append_assoc, ap₂, arith, background_texts, backgrounds_line, bit_at, codes, constant, decimal, false, head_lines, hex_digits, if◌then◌else◌, index_bit, is_digit, is_hex, is_identifier, is_identity, is_letter, is_name_byte, is_plain, is_term, joined, later_lines, list_all, list_all-append, map, name_line, not, number_line, polarity_line, port_lines, printed, refl, row_line, row_lines, row_terms, size_lines, suc, sym, term_text, true, version_text, zero, zero-add, ℕ, ◌++◌, ◌+◌, ◌/◌, ◌<◌, ◌∙◌, ◌∷◌, ◌≡◌}
+use Rattle.memory_desc.proofs.Common.{is_term_too_wide, leb-false, list_any, or_parts, ◌≤◌, Bool, Description, List, Scrambling, Term, [], and_from, and_parts, ap, apart, append_assoc, ap₂, arith, background_texts, backgrounds_line, bit_at, codes, constant, decimal, false, head_lines, hex_digits, if◌then◌else◌, index_bit, is_digit, is_hex, is_identifier, is_identity, is_letter, is_name_byte, is_plain, joined, later_lines, list_all, list_all-append, map, name_line, not, number_line, polarity_line, port_lines, printed, refl, row_line, row_lines, row_terms, size_lines, suc, sym, true, version_text, zero, zero-add, ℕ, ◌++◌, ◌+◌, ◌/◌, ◌<◌, ◌∙◌, ◌∷◌, ◌≡◌}
 use Rattle.scrambler.specs.Scrambling.{row}
 use Rattle.memory_desc.proofs.BackDigits.{decimal_digits, hex_digits_hex}
+use Rattle.memory_desc.proofs.BackTerms.{term_text}
 use Rattle.memory_desc.proofs.BackLines.{is_inside, with_feeds, with_feeds_more}
 
 -- ---- no line feed
@@ -24,21 +25,21 @@ name_inside (c ∷ b) h =
     let parts = and_parts (is_letter c) (list_all is_name_byte b) h in
     and_from (is_inside c) (list_all is_inside b) (ap not (apart is_letter c 10 parts.0 refl)) (inside is_name_byte refl b parts.1)
 
-term_inside : (t : Term) → is_term t ≡ true → list_all is_inside (term_text t) ≡ true
-term_inside (index_bit ds) h = inside is_digit refl ds (and_parts _ _ (and_parts _ _ h).0).0
-term_inside (constant true) h = refl
-term_inside (constant false) h = refl
+term_inside : (width : ℕ) (t : Term) → width ≤ 1000000000 → is_term_too_wide width t ≡ false → list_all is_inside (term_text t) ≡ true
+term_inside width (index_bit n) l h = (let low : n < width = leb-false width n h in decimal_inside n (omega arith))
+term_inside width (constant true) l h = refl
+term_inside width (constant false) l h = refl
 
-joined_inside : (ts : List Term) → list_all is_term ts ≡ true → list_all is_inside (joined (map term_text ts)) ≡ true
-joined_inside [] h = refl
-joined_inside (t ∷ []) h = term_inside t (and_parts (is_term t) true h).0
-joined_inside (t ∷ u ∷ ts) h =
-    let parts = and_parts (is_term t) (list_all is_term (u ∷ ts)) h in
-    both (term_text t) (codes " ^ " ++ joined (map term_text (u ∷ ts))) (term_inside t parts.0) (joined_inside (u ∷ ts) parts.1)
+joined_inside : (width : ℕ) (ts : List Term) → width ≤ 1000000000 → list_any (is_term_too_wide width) ts ≡ false → list_all is_inside (joined (map term_text ts)) ≡ true
+joined_inside width [] l h = refl
+joined_inside width (t ∷ []) l h = term_inside width t l (or_parts (is_term_too_wide width t) false h).0
+joined_inside width (t ∷ u ∷ ts) l h =
+    let parts = or_parts (is_term_too_wide width t) (list_any (is_term_too_wide width) (u ∷ ts)) h in
+    both (term_text t) (codes " ^ " ++ joined (map term_text (u ∷ ts))) (term_inside width t l parts.0) (joined_inside width (u ∷ ts) l parts.1)
 
-pub row_inside : (i : ℕ) (ts : List Term) → i < 1000000000 → list_all is_term ts ≡ true
+pub row_inside : (width i : ℕ) (ts : List Term) → width ≤ 1000000000 → i < 1000000000 → list_any (is_term_too_wide width) ts ≡ false
     → list_all is_inside (codes "scramble a" ++ (decimal i ++ (codes " = " ++ joined (map term_text ts)))) ≡ true
-row_inside i ts small h = both (decimal i) (codes " = " ++ joined (map term_text ts)) (decimal_inside i small) (joined_inside ts h)
+row_inside width i ts l small h = both (decimal i) (codes " = " ++ joined (map term_text ts)) (decimal_inside i small) (joined_inside width ts l h)
 
 pub backgrounds_inside : (size : ℕ) (set : List ℕ) → list_all is_inside (background_texts size set) ≡ true
 backgrounds_inside size [] = refl

@@ -77,14 +77,14 @@ lines_say v number start (x ∷ xs) (c ∷ cs) h t =
     (Some c, numbered (number + 1) cs, inr (c, p.0, refl, h.1), lines_say v (number + 1) (start + length x + 1) xs cs h.2 p.1, refl)
 
 -- the same behind a line that gives the version
-pub lines_open : (v : Version) (ds : List ℕ) (number start : ℕ) (xs : List (List ℕ)) (cs : List Content) → version_in (version ds) ≡ Some v → Written xs (version ds ∷ cs)
-    → list_all (stands (Some v)) cs ≡ true → Says (lines_from number start (with_feeds xs)) None (numbered number (version ds ∷ cs))
-lines_open v ds number start [] cs e h t = absurd h
-lines_open v ds number start (x ∷ xs) cs e h t =
+pub lines_open : (v : Version) (n number start : ℕ) (xs : List (List ℕ)) (cs : List Content) → version_in (version n) ≡ Some v → Written xs (version n ∷ cs)
+    → list_all (stands (Some v)) cs ≡ true → Says (lines_from number start (with_feeds xs)) None (numbered number (version n ∷ cs))
+lines_open v n number start [] cs e h t = absurd h
+lines_open v n number start (x ∷ xs) cs e h t =
     rw (first_line number start x (with_feeds xs) h.0) (
-      Some (version ds),
+      Some (version n),
       numbered (number + 1) cs,
-      inr (version ds, refl, refl, h.1),
+      inr (version n, refl, refl, h.1),
       subst (λ (o : Option Version). MatchResult (gives o) (λ next. Says (lines_from (number + 1) (start + length x + 1) (with_feeds xs)) next (numbered (number + 1) cs)) (λ fault. ⊥)) (sym e)
           (lines_say v (number + 1) (start + length x + 1) xs cs h.2 t),
       refl,

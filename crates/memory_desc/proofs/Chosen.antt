@@ -1,5 +1,5 @@
 -- The backgrounds that are chosen, and that they serve a memory.
-use Rattle.memory_desc.proofs.Common.{All, AreWords, Contains, Content, Err, GivesBackgrounds, IfOk, IsBackgrounds, IsLogSet, List, MatchResult, MemoryFault, NoSolidBackground, None, Ok, Option, Result, Some, StandsAt, Statement, TooManyBackgrounds, WordList, [], about, ap, arith, backgrounds, digits_value, eq-eqb, eqb-true, false, first_refusal, get_or, inl, inr, kind_of, le-ltb, leb-false, length, length-map, list_any, listed, log, lt-ltb, nat_le, no_words, or_cases, or_left, or_parts, or_right, plain_content, plain_words, refl, seen, slice_index, subst, suc, sym, take, take_all, too_many, too_wide, true, unserved, with_words, without_solid, word_values, zero, ℕ, ◌<◌, ◌==◌, ◌^◌, ◌∙◌, ◌∷◌, ◌≡◌, ◌≤◌}
+use Rattle.memory_desc.proofs.Common.{All, AreWords, Contains, Content, Err, GivesBackgrounds, IfOk, IsBackgrounds, IsLogSet, List, MatchResult, MemoryFault, NoSolidBackground, None, Ok, Option, Result, Some, StandsAt, Statement, TooManyBackgrounds, WordList, [], about, ap, arith, backgrounds, eq-eqb, eqb-true, false, first_refusal, get_or, inl, inr, kind_of, le-ltb, leb-false, length, list_any, listed, log, lt-ltb, nat_le, no_words, or_cases, or_left, or_parts, or_right, plain_content, plain_words, refl, seen, slice_index, subst, suc, sym, take, take_all, too_many, too_wide, true, unserved, with_words, without_solid, zero, ℕ, ◌<◌, ◌==◌, ◌^◌, ◌∙◌, ◌∷◌, ◌≡◌, ◌≤◌}
 use Rattle.memory_desc.specs.Subjects.{said}
 use Rattle.memory_desc.specs.Table.{is_too_wide}
 use Rattle.memory_desc.specs.declared.content.Key.TheVariants.{Backgrounds as BackgroundsKey}
@@ -31,21 +31,21 @@ zero_found (w ∷ set) (suc k) l e = or_right (w == 0) (list_any (λ v. v == 0) 
 pub served : (set : List ℕ) → length set ≤ 8 → Contains set 0 → first_refusal (too_many set ∷ without_solid set ∷ []) ≡ None
 served set few c = rw (le-ltb 8 (length set) few, zero_found set c.0 c.1 c.2) refl
 
-few_words : (ws : List (List ℕ)) (count : ℕ) → count ≡ length ws → count ≤ 8 → length (word_values ws) ≤ 8
-few_words ws count n h = let m = length-map ws (digits_value 16) in omega arith
+few_words : (ws : List ℕ) (count : ℕ) → count ≡ length ws → count ≤ 8 → length ws ≤ 8
+few_words ws count n h = omega arith
 
-whole : (ws : List (List ℕ)) (first : List ℕ) (count : ℕ) → first ≡ take 8 (word_values ws) → count ≡ length ws → count ≤ 8 → first ≡ word_values ws
-whole ws first count e n h = e ∙ take_all 8 (word_values ws) (few_words ws count n h)
+whole : (ws : List ℕ) (first : List ℕ) (count : ℕ) → first ≡ take 8 ws → count ≡ length ws → count ≤ 8 → first ≡ ws
+whole ws first count e n h = e ∙ take_all 8 ws (few_words ws count n h)
 
-pub too_many_listed : (ws : List (List ℕ)) (count : ℕ) → count ≡ length ws → 8 < count → unserved (Some (backgrounds ws)) ≡ Some TooManyBackgrounds
-too_many_listed ws count e h = rw (lt-ltb 8 (length (word_values ws)) (let m = length-map ws (digits_value 16) in omega arith)) refl
+pub too_many_listed : (ws : List ℕ) (count : ℕ) → count ≡ length ws → 8 < count → unserved (Some (backgrounds ws)) ≡ Some TooManyBackgrounds
+too_many_listed ws count e h = rw (lt-ltb 8 (length ws) (omega arith)) refl
 
-pub without_solid_listed : (ws : List (List ℕ)) (first : List ℕ) (count : ℕ) → first ≡ take 8 (word_values ws) → count ≡ length ws → count ≤ 8 → list_any (λ w. w == 0) first ≡ false
+pub without_solid_listed : (ws : List ℕ) (first : List ℕ) (count : ℕ) → first ≡ take 8 ws → count ≡ length ws → count ≤ 8 → list_any (λ w. w == 0) first ≡ false
     → unserved (Some (backgrounds ws)) ≡ Some NoSolidBackground
 without_solid_listed ws first count e n h none =
-    rw (le-ltb 8 (length (word_values ws)) (few_words ws count n h), ap (list_any (λ w. w == 0)) (sym (whole ws first count e n h)) ∙ none) refl
+    rw (le-ltb 8 (length ws) (few_words ws count n h), ap (list_any (λ w. w == 0)) (sym (whole ws first count e n h)) ∙ none) refl
 
-pub keeps_listed : (ws : List (List ℕ)) (size : ℕ) (first : List ℕ) (count : ℕ) → first ≡ take 8 (word_values ws) → count ≡ length ws → count ≤ 8 → list_any (λ w. w == 0) first ≡ true
+pub keeps_listed : (ws : List ℕ) (size : ℕ) (first : List ℕ) (count : ℕ) → first ≡ take 8 ws → count ≡ length ws → count ≤ 8 → list_any (λ w. w == 0) first ≡ true
     → GivesBackgrounds (Some (backgrounds ws)) size (Ok first)
 keeps_listed ws size first count e n h some =
     let same = whole ws first count e n h in
@@ -53,13 +53,13 @@ keeps_listed ws size first count e n h some =
 
 -- ---- what a line, or none, chooses
 
-pub chooses_log : (c : Content) (size : ℕ) (set : List ℕ) → kind_of c ≡ BackgroundsKey → ((ws : List (List ℕ)) → c ≡ backgrounds ws → ⊥) → size ≤ 64 → IsLogSet size set → GivesBackgrounds (Some c) size (Ok set)
+pub chooses_log : (c : Content) (size : ℕ) (set : List ℕ) → kind_of c ≡ BackgroundsKey → ((ws : List ℕ) → c ≡ backgrounds ws → ⊥) → size ≤ 64 → IsLogSet size set → GivesBackgrounds (Some c) size (Ok set)
 chooses_log log size set k e h s = (let b = log_set_serves size set h s in (s, b.few, b.solid))
 chooses_log (backgrounds ws) size set k e h s = absurd (e ws refl)
 chooses_log c size set k e h s = (let z : ⊥ = cc in absurd z)
 
 -- a content that is no list of words
-pub not_listed : (r : ReadContent) (c : Content) → ((x : WordList) → r ≡ R.Backgrounds x → ⊥) → plain_content r ≡ seen c → (ws : List (List ℕ)) → c ≡ backgrounds ws → ⊥
+pub not_listed : (r : ReadContent) (c : Content) → ((x : WordList) → r ≡ R.Backgrounds x → ⊥) → plain_content r ≡ seen c → (ws : List ℕ) → c ≡ backgrounds ws → ⊥
 not_listed r c f e ws same = go r f (e ∙ ap seen same)
   where
     go : (r : ReadContent) → ((x : WordList) → r ≡ R.Backgrounds x → ⊥) → plain_content r ≡ listed (with_words no_words ws) → ⊥
@@ -71,19 +71,19 @@ abbrev pub Answers : {A : Type 0} → (A → List ℕ) → Option Content → �
 Answers items c size r = MatchResult r (λ b. GivesBackgrounds c size (Ok (items b))) (λ fault. GivesBackgrounds c size (Err fault))
 
 pub chooses_listed : {A : Type 0} (items : A → List ℕ) (list : WordList) (c : Content) (size : ℕ) (r : Result A MemoryFault) → listed (plain_words list) ≡ seen c
-    → ((ws : List (List ℕ)) (size : ℕ) → AreWords ws list → Answers items (Some (backgrounds ws)) size r) → Answers items (Some c) size r
+    → ((ws : List ℕ) (size : ℕ) → AreWords ws list → Answers items (Some (backgrounds ws)) size r) → Answers items (Some c) size r
 chooses_listed items list (backgrounds ws) size r e f = f ws size (words_are ws list (let same : plain_words list ≡ with_words no_words ws = cc in same))
 chooses_listed items list c size r e f = (let z : ⊥ = cc in absurd z)
 
 -- ---- what is chosen serves a memory
 
-words_fit : (size : ℕ) (ws : List (List ℕ)) → list_any (λ w. nat_le (2 ^ size) (digits_value 16 w)) ws ≡ false → (k d : ℕ) → k < length (word_values ws)
-    → get_or (word_values ws) k d < 2 ^ size
+words_fit : (size : ℕ) (ws : List ℕ) → list_any (nat_le (2 ^ size)) ws ≡ false → (k d : ℕ) → k < length ws
+    → get_or ws k d < 2 ^ size
 words_fit size [] h k d l = absurd (omega arith)
 words_fit size (w ∷ ws) h zero d l =
-    leb-false (2 ^ size) (digits_value 16 w) (or_parts (nat_le (2 ^ size) (digits_value 16 w)) (list_any (λ v. nat_le (2 ^ size) (digits_value 16 v)) ws) h).0
+    leb-false (2 ^ size) w (or_parts (nat_le (2 ^ size) w) (list_any (nat_le (2 ^ size)) ws) h).0
 words_fit size (w ∷ ws) h (suc k) d l =
-    words_fit size ws (or_parts (nat_le (2 ^ size) (digits_value 16 w)) (list_any (λ v. nat_le (2 ^ size) (digits_value 16 v)) ws) h).1 k d (omega arith)
+    words_fit size ws (or_parts (nat_le (2 ^ size) w) (list_any (nat_le (2 ^ size)) ws) h).1 k d (omega arith)
 
 chosen_serves : (c : Option Content) (width size : ℕ) (set : List ℕ) → size ≤ 64 → ((x : Content) → c ≡ Some x → is_too_wide width size x ≡ false)
     → GivesBackgrounds c size (Ok set) → IsBackgrounds size set

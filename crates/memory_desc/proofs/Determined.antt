@@ -1,6 +1,6 @@
 -- A list of statements describes one memory, or is refused in one way.
 pub use Rattle.backgrounds.proofs.OneSet.{log_set_one}
-use Rattle.memory_desc.proofs.Common.{AreBackgrounds, AreOfMemory, AreRefusedBy, Bool, Contains, Content, Describes, Description, Err, IsLast, IsScrambling, IsWidthOf, List, MemoryFault, Missing, None, Ok, Option, Repeated, Result, ScrambleNeedsPowerOfTwo, Singular, Some, Statement, about, ap, ap₂, arith, backgrounds, bits_said, described, false, if◌then◌else◌, inl, inr, is_power_of_two, length, matrix_said, missing, next, not, out_of_range, refl, repeated, some_same, subst, sym, there, too_wide, true, unfit, unrowed, unscramblable, unserved, unsized, word_values, words_said, ℕ, ◌&&◌, ◌-◌, ◌∙◌, ◌≡◌, ◌≤◌, ◌⊎◌}
+use Rattle.memory_desc.proofs.Common.{AreBackgrounds, AreOfMemory, AreRefusedBy, Bool, Contains, Content, Describes, Description, Err, IsLast, IsScrambling, IsWidthOf, List, MemoryFault, Missing, None, Ok, Option, Repeated, Result, ScrambleNeedsPowerOfTwo, Singular, Some, Statement, about, ap, ap₂, arith, backgrounds, bits_said, described, false, if◌then◌else◌, inl, inr, is_power_of_two, length, matrix_said, missing, next, not, out_of_range, refl, repeated, some_same, subst, sym, there, too_wide, true, unfit, unrowed, unscramblable, unserved, unsized, words_said, ℕ, ◌&&◌, ◌-◌, ◌∙◌, ◌≡◌, ◌≤◌, ◌⊎◌}
 use Rattle.bist_text.specs.KeyedTexts.{at_line}
 use Rattle.scrambler.proofs.Dependences.{dependence_one}
 use Rattle.scrambler.proofs.ScramblingLemmas.{singular}
@@ -84,7 +84,7 @@ module _ (ss : List Statement) (d : Description) (m : AreOfMemory ss d) where
   all_served = go (said Backgrounds ss) m.are_backgrounds
     where
       go : (c : Option Content) → AreBackgrounds c (bits_said ss) m.set → unserved c ≡ None
-      go (Some (backgrounds ws)) e = served (word_values ws) (subst (λ s. length s ≤ 8) e m.few) (subst (λ s. Contains s 0) e m.solid)
+      go (Some (backgrounds ws)) e = served ws (subst (λ s. length s ≤ 8) e m.few) (subst (λ s. Contains s 0) e m.solid)
       go c e = refl
 
   not_refused : (f : MemoryFault) → AreRefusedBy ss f → ⊥

@@ -1,12 +1,12 @@
 -- The name and the numbers that the statements give, each in its range.
-use Rattle.memory_desc.proofs.Common.{IsName, List, Missing, None, Some, StandsAt, Statement, Subject, TextLine, about, ap, arith, content_of, digits_value, false, inl, inr, is_about, is_among, is_formed, is_ranged, latency_in, least, leb-false, length, ltb-false, missing, most, name, name_in, name_in_seen, name_said, nat_lt, number_in_seen, or_parts, out_of_range, pause_in, plain_content, polarity, polarity_in, polarity_in_seen, polarity_said, reserved_words, said_found, subst, sym, too_wide, true, unless_there, value_in, ℕ, ◌<◌, ◌^◌, ◌||◌, ◌∙◌, ◌≡◌, ◌≤◌, ◌⊎◌}
+use Rattle.memory_desc.proofs.Common.{IsName, List, Missing, None, Some, StandsAt, Statement, Subject, TextLine, about, ap, arith, content_of, false, inl, inr, is_about, is_among, is_formed, is_ranged, latency_in, least, leb-false, length, ltb-false, missing, most, name, name_in, name_in_seen, name_said, nat_lt, number_in_seen, or_parts, out_of_range, pause_in, plain_content, polarity, polarity_in, polarity_in_seen, polarity_said, reserved_words, said_found, subst, sym, too_wide, true, unless_there, value_in, ℕ, ◌<◌, ◌^◌, ◌||◌, ◌∙◌, ◌≡◌, ◌≤◌, ◌⊎◌}
 use Rattle.memory_desc.specs.Subjects.{said}
 use Rattle.memory_desc.specs.inner.Heard.{said as said_by, statements}
 use Rattle.memory_desc.specs.declared.content.Statement.{Statement as ReadStatement}
 use Rattle.memory_desc.specs.declared.content.Subject.TheVariants.{Name, Polarity, Latency, Pause}
 use Rattle.memory_desc.specs.declared.fault.Field.{Field}
 use Rattle.memory_desc.proofs.OneText.{formed_said}
-use Rattle.memory_desc.proofs.Stated.{stated, says, unstated, name_stated, polarity_stated, in_range, within, has_digits}
+use Rattle.memory_desc.proofs.Stated.{stated, says, unstated, name_stated, polarity_stated, in_range, within, has_number}
 
 -- a field whose line is there isn't missing
 pub not_missing : (q : Subject) (field : Field) (ss : List Statement) (l : ReadStatement) → StandsAt (Some l) (about q ss) → missing q field ss ≡ None
@@ -33,7 +33,7 @@ pub number_same : (q : Subject) (ss : List Statement) (l : ReadStatement) (n : �
 number_same q ss l n k h f =
     let s = stated q ss l h in
     let c = s.statement.content in
-    let d = has_digits q c k s.same in
+    let d = has_number q c k s.same in
     f ∙ ap number_in_seen s.written ∙ d.read ∙ sym d.value ∙ sym (ap (value_in q) (says q ss (plain_content l.content) s).said_is)
 
 pub number_given : (q : Subject) (ss : List Statement) (l : ReadStatement) (n : ℕ) → is_ranged q ≡ true → StandsAt (Some l) (about q ss) → out_of_range ss ≡ None
@@ -41,8 +41,8 @@ pub number_given : (q : Subject) (ss : List Statement) (l : ReadStatement) (n : 
 number_given q ss l n k h r f =
     let s = stated q ss l h in
     let c = s.statement.content in
-    let d = has_digits q c k s.same in
-    given (value_in q (said q ss)) (least q) (most q) n (digits_value 10 d.digits) (f ∙ ap number_in_seen s.written ∙ d.read)
+    let d = has_number q c k s.same in
+    given (value_in q (said q ss)) (least q) (most q) n d.number (f ∙ ap number_in_seen s.written ∙ d.read)
     (ap (value_in q) (says q ss (plain_content l.content) s).said_is ∙ d.value) (sym d.tested ∙ in_range ss q c r (says q ss (plain_content l.content) s).said_is)
 
 pub polarity_same : (ss : List Statement) (l : ReadStatement) (n : ℕ) → StandsAt (Some l) (about Polarity ss)
@@ -53,7 +53,7 @@ pub polarity_fits : (ss : List Statement) (l : ReadStatement) (n width size : �
     → n ≡ polarity_in_seen (plain_content l.content) → n < 2 ^ size
 polarity_fits ss l n width size h r f =
     let s = polarity_stated ss (plain_content l.content) (stated Polarity ss l h) in
-    subst (λ (x : ℕ). x < 2 ^ size) (sym (f ∙ ap polarity_in_seen s.1.written)) (leb-false (2 ^ size) (digits_value 16 s.0) (within ss width size Polarity (polarity s.0) r s.1.said_is))
+    subst (λ (x : ℕ). x < 2 ^ size) (sym (f ∙ ap polarity_in_seen s.1.written)) (leb-false (2 ^ size) s.0 (within ss width size Polarity (polarity s.0) r s.1.said_is))
 
 -- a latency or a pause
 abbrev pub IsCycles : Subject → Type 0

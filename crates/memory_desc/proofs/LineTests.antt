@@ -1,5 +1,5 @@
 -- What a test of a content says, where the code has its greatest part alone.
-use Rattle.memory_desc.proofs.Common.{List, None, Option, Some, StandsAt, Statement, Term, [], ap, arith, begun_row, bit_or, cases_lt, constant, digits_value, false, highest_of, index_bit, inl, inr, is_other, is_term_too_wide, le-leb, le-ltb, le_or_l, le_or_r, list_any, lt-leb, lt-ltb, max, nat_le, nat_lt, no_words, not, or_lt, pow_pos, refl, sym, union_of, with_terms, with_words, word_values, ℕ, ◌-◌, ◌<◌, ◌==◌, ◌^◌, ◌||◌, ◌∙◌, ◌∷◌, ◌≡◌, ◌≤◌}
+use Rattle.memory_desc.proofs.Common.{List, None, Option, Some, StandsAt, Statement, Term, [], ap, arith, begun_row, bit_or, cases_lt, constant, false, highest_of, index_bit, inl, inr, is_other, is_term_too_wide, le-leb, le-ltb, le_or_l, le_or_r, list_any, lt-leb, lt-ltb, max, nat_le, nat_lt, no_words, not, or_lt, pow_pos, refl, sym, union_of, with_terms, with_words, ℕ, ◌-◌, ◌<◌, ◌==◌, ◌^◌, ◌||◌, ◌∙◌, ◌∷◌, ◌≡◌, ◌≤◌}
 use Rattle.memory_desc.specs.declared.content.Statement.{Statement as ReadStatement}
 use Rattle.memory_desc.proofs.SeenLaws.{row_is, union_is}
 
@@ -29,30 +29,30 @@ max_reaches w a b = either_le w a b (max a b) (λ h. omega arith) (λ h. omega a
 
 highest_too_wide : (w : ℕ) (ts : List Term) → 1 ≤ w → nat_le w (highest_of ts) ≡ list_any (is_term_too_wide w) ts
 highest_too_wide w [] h = lt-leb w 0 h
-highest_too_wide w (index_bit ds ∷ ts) h = max_reaches w (digits_value 10 ds) (highest_of ts) ∙ ap (λ x. nat_le w (digits_value 10 ds) || x) (highest_too_wide w ts h)
+highest_too_wide w (index_bit n ∷ ts) h = max_reaches w n (highest_of ts) ∙ ap (λ x. nat_le w n || x) (highest_too_wide w ts h)
 highest_too_wide w (constant b ∷ ts) h = highest_too_wide w ts h
 
-union_too_wide : (size : ℕ) (ws : List (List ℕ)) → nat_le (2 ^ size) (union_of (word_values ws)) ≡ list_any (λ w. nat_le (2 ^ size) (digits_value 16 w)) ws
+union_too_wide : (size : ℕ) (ws : List ℕ) → nat_le (2 ^ size) (union_of ws) ≡ list_any (nat_le (2 ^ size)) ws
 union_too_wide size [] = lt-leb (2 ^ size) 0 (pow_pos size)
 union_too_wide size (w ∷ ws) =
-    let a : ℕ = digits_value 16 w in
-    let b : ℕ = union_of (word_values ws) in
+    let a : ℕ = w in
+    let b : ℕ = union_of ws in
     let left = le_or_l a b in
     let right = le_or_r a b in
     either_le (2 ^ size) a b (bit_or a b) (λ h. omega (arith, left)) (λ h. omega (arith, right)) (λ p q. or_lt size a b p q)
     ∙ ap (λ x. nat_le (2 ^ size) a || x) (union_too_wide size ws)
 
-pub row_too_wide : (width : ℕ) (i : List ℕ) (ts : List Term) → 1 ≤ width
-    → nat_le width (max (with_terms (begun_row (digits_value 10 i)) ts).bit (with_terms (begun_row (digits_value 10 i)) ts).highest) ≡ (nat_le width (digits_value 10 i) || list_any (is_term_too_wide width) ts)
+pub row_too_wide : (width : ℕ) (i : ℕ) (ts : List Term) → 1 ≤ width
+    → nat_le width (max (with_terms (begun_row i) ts).bit (with_terms (begun_row i) ts).highest) ≡ (nat_le width i || list_any (is_term_too_wide width) ts)
 row_too_wide width i ts p =
-    let row = with_terms (begun_row (digits_value 10 i)) ts in
+    let row = with_terms (begun_row i) ts in
     let r = row_is i ts in
     max_reaches width row.bit row.highest
     ∙ ap (λ n. nat_le width n || nat_le width row.highest) r.bit
-    ∙ ap (λ n. nat_le width (digits_value 10 i) || nat_le width n) r.highest
-    ∙ ap (λ x. nat_le width (digits_value 10 i) || x) (highest_too_wide width ts p)
+    ∙ ap (λ n. nat_le width i || nat_le width n) r.highest
+    ∙ ap (λ x. nat_le width i || x) (highest_too_wide width ts p)
 
-pub words_too_wide : (size : ℕ) (ws : List (List ℕ)) → nat_le (2 ^ size) (with_words no_words ws).union ≡ list_any (λ w. nat_le (2 ^ size) (digits_value 16 w)) ws
+pub words_too_wide : (size : ℕ) (ws : List ℕ) → nat_le (2 ^ size) (with_words no_words ws).union ≡ list_any (nat_le (2 ^ size)) ws
 words_too_wide size ws = ap (nat_le (2 ^ size)) (union_is ws) ∙ union_too_wide size ws
 
 -- past the greatest number that fits

@@ -1,5 +1,5 @@
 -- The printed form of a memory is read back as this memory: its lines are statements that describe exactly it.
-use Rattle.memory_desc.proofs.Common.{AreStatements, Bool, Content, ContentText, Description, IsFull, IsInvertible, IsMemory, List, Ok, One, Reads, Scrambling, Some, Term, Two, [], ap, arith, background_texts, backgrounds, bit_at, bits, codes, decimal, false, if◌then◌else◌, index_bits, is_identity, is_plain, is_term, joined, length, list_all, map, name, printed, refl, scramble, stands, subst, suc, sym, term_text, true, version, version_in, version_text, words, zero, ℕ, ◌++◌, ◌+◌, ◌-◌, ◌<◌, ◌∙◌, ◌∷◌, ◌≡◌, ◌≤◌}
+use Rattle.memory_desc.proofs.Common.{All, list_any, ◌^◌, AreStatements, Bool, Content, ContentText, Description, IsFull, IsInvertible, IsMemory, List, Ok, One, Reads, Scrambling, Some, Term, Two, [], ap, arith, background_texts, backgrounds, bit_at, bits, codes, decimal, false, if◌then◌else◌, index_bits, is_identity, is_plain, is_term_too_wide, joined, length, list_all, map, name, printed, refl, scramble, stands, subst, suc, sym, true, version, version_in, version_text, words, zero, ℕ, ◌++◌, ◌+◌, ◌-◌, ◌<◌, ◌∙◌, ◌∷◌, ◌≡◌, ◌≤◌}
 use Rattle.scrambler.specs.Scrambling.{row}
 use Rattle.memory_desc.specs.declared.content.Version.{Version}
 use Rattle.memory_desc.proofs.Parts.{width_small}
@@ -8,9 +8,9 @@ use Rattle.memory_desc.proofs.BackDescribed.{describes_it}
 use Rattle.memory_desc.proofs.BackFound.{row_content, rows_from, body}
 use Rattle.memory_desc.proofs.BackInside.{decimal_inside, name_inside, row_inside, backgrounds_inside, polarity_inside, row_written, texts_from, later_of, lines_of, rows_printed, printed_lines}
 use Rattle.memory_desc.proofs.BackScrambling.{row_some}
-use Rattle.memory_desc.proofs.BackTerms.{terms_of, terms_text, terms_formed, terms_bits}
-use Rattle.memory_desc.proofs.BackTexts.{version_one, version_two, name_text, words_text, bits_text, latency_text, polarity_text, pause_text, row_text, backgrounds_text, digits_of_word}
-use Rattle.memory_desc.proofs.BackValues.{version_digits, later_said, contents, statements}
+use Rattle.memory_desc.proofs.BackTerms.{term_text, terms_of, terms_text, terms_within, terms_bits}
+use Rattle.memory_desc.proofs.BackTexts.{version_one, version_two, name_text, words_text, bits_text, latency_text, polarity_text, pause_text, row_text, backgrounds_text}
+use Rattle.memory_desc.proofs.BackValues.{version_number, later_said, contents, statements}
 
 -- ---- the lines are statements
 
@@ -20,19 +20,19 @@ terms_written i ts = codes "scramble a" ++ (decimal i ++ (codes " = " ++ joined 
 abbrev pub IsLine : List ℕ → Content → Type 0
 IsLine x c = (list_all is_inside x ≡ true) × ContentText x c
 
-terms_line : (i : ℕ) (ts : List Term) → i < 1000000000 → list_all is_term ts ≡ true → (ts ≡ [] → ⊥) → IsLine (terms_written i ts) (scramble (decimal i) ts)
-terms_line i [] small f some = absurd (some refl)
-terms_line i (t ∷ ts) small f some = (row_inside i (t ∷ ts) small f, row_text i t ts small f)
+terms_line : (width i : ℕ) (ts : List Term) → width ≤ 1000000000 → i < 1000000000 → list_any (is_term_too_wide width) ts ≡ false → (ts ≡ [] → ⊥) → IsLine (terms_written i ts) (scramble i ts)
+terms_line width i [] l small f some = absurd (some refl)
+terms_line width i (t ∷ ts) l small f some = (row_inside width i (t ∷ ts) l small f, row_text width i t ts l small f)
 
 row_line_is : (s : Scrambling) (i : ℕ) → IsFull s → IsInvertible s → s.width ≤ 16 → i < s.width → IsLine (row_written s i) (row_content s i)
 row_line_is s i full inv small h =
     let names = row s i in
     let bit = bit_at s.constant i in
     let some : terms_of names bit s.width ≡ [] → ⊥ =
-    λ e. row_some s i inv h (sym (terms_bits names bit s.width (omega arith) (full.rows_fit i h)) ∙ ap index_bits e) in
+    λ e. row_some s i inv h (sym (terms_bits names bit s.width (full.rows_fit i h)) ∙ ap index_bits e) in
     subst (λ (ts : List (List ℕ)). IsLine (codes "scramble a" ++ (decimal i ++ (codes " = " ++ joined ts))) (row_content s i))
     (sym (terms_text names bit s.width))
-    (terms_line i (terms_of names bit s.width) (omega arith) (terms_formed names bit s.width (omega arith)) some)
+    (terms_line s.width i (terms_of names bit s.width) (omega arith) (omega arith) (terms_within names bit s.width) some)
 
 rows_written : (s : Scrambling) (i k : ℕ) → IsFull s → IsInvertible s → s.width ≤ 16 → i + k ≤ s.width → Written (texts_from s i k) (rows_from s i k)
 rows_written s i zero full inv small h = tt
@@ -40,12 +40,12 @@ rows_written s i (suc k) full inv small h =
     let line = row_line_is s i full inv small (omega arith) in
     (line.0, line.1, rows_written s (i + 1) k full inv small (omega arith))
 
-backgrounds_line_is : (size : ℕ) (set : List ℕ) → 1 ≤ size → size ≤ 64 → 1 ≤ length set
-    → ContentText (codes "backgrounds" ++ background_texts size set) (backgrounds (map (digits_of_word size) set))
-backgrounds_line_is size [] p h some = absurd (omega arith)
-backgrounds_line_is size (w ∷ ws) p h some = backgrounds_text size w ws p h
+backgrounds_line_is : (size : ℕ) (set : List ℕ) → 1 ≤ size → size ≤ 64 → 1 ≤ length set → All (λ b. b < 2 ^ size) set
+    → ContentText (codes "backgrounds" ++ background_texts size set) (backgrounds set)
+backgrounds_line_is size [] p h some fit = absurd (omega arith)
+backgrounds_line_is size (w ∷ ws) p h some fit = backgrounds_text size w ws p h fit
 
-version_line_is : (plain : Bool) → IsLine (version_text plain) (version (version_digits plain))
+version_line_is : (plain : Bool) → IsLine (version_text plain) (version (version_number plain))
 version_line_is true = (refl, version_one)
 version_line_is false = (refl, version_two)
 
@@ -60,7 +60,7 @@ later_written d false mem =
       latency_text d.latency l,
       (
         polarity_inside d.bits d.polarity,
-        polarity_text d.bits d.polarity mem.bits_low mem.bits_high,
+        polarity_text d.bits d.polarity mem.bits_low mem.bits_high mem.polarity,
         (decimal_inside d.pause p, pause_text d.pause p, tt),
       ),
     )
@@ -74,9 +74,9 @@ lines_written d plain k mem full small h =
     let b : d.bits < 1000000000 = omega arith in
     let whole : 0 + k ≤ d.scramble.width = omega arith in
     let first = version_line_is plain in
-    let rows : Written (texts_from d.scramble 0 k ++ ((codes "backgrounds" ++ background_texts d.bits d.backgrounds) ∷ [])) (body d.scramble 0 k (map (digits_of_word d.bits) d.backgrounds)) =
+    let rows : Written (texts_from d.scramble 0 k ++ ((codes "backgrounds" ++ background_texts d.bits d.backgrounds) ∷ [])) (body d.scramble 0 k d.backgrounds) =
     written_more (texts_from d.scramble 0 k) _ (rows_from d.scramble 0 k) _ (rows_written d.scramble 0 k full mem.invertible small whole)
-    (backgrounds_inside d.bits d.backgrounds, backgrounds_line_is d.bits d.backgrounds mem.bits_low mem.bits_high mem.tested.some, tt) in (
+    (backgrounds_inside d.bits d.backgrounds, backgrounds_line_is d.bits d.backgrounds mem.bits_low mem.bits_high mem.tested.some mem.tested.fit, tt) in (
       first.0,
       first.1,
       (
@@ -100,23 +100,23 @@ abbrev version_printed : Bool → Version
 version_printed true = One
 version_printed false = Two
 
-rows_tabled : (v : Version) (s : Scrambling) (i k : ℕ) (ws : List (List ℕ)) → list_all (stands (Some v)) (body s i k ws) ≡ true
+rows_tabled : (v : Version) (s : Scrambling) (i k : ℕ) (ws : List ℕ) → list_all (stands (Some v)) (body s i k ws) ≡ true
 rows_tabled One s i zero ws = refl
 rows_tabled Two s i zero ws = refl
 rows_tabled One s i (suc k) ws = rows_tabled One s (i + 1) k ws
 rows_tabled Two s i (suc k) ws = rows_tabled Two s (i + 1) k ws
 
-of_version : (plain : Bool) → version_in (version (version_digits plain)) ≡ Some (version_printed plain)
+of_version : (plain : Bool) → version_in (version (version_number plain)) ≡ Some (version_printed plain)
 of_version true = refl
 of_version false = refl
 
 -- the contents behind the version
 abbrev behind_version : Description → Bool → ℕ → List Content
-behind_version d plain k = name d.name ∷ words (decimal d.words) ∷ bits (decimal d.bits) ∷ (later_said d plain ++ body d.scramble 0 k (map (digits_of_word d.bits) d.backgrounds))
+behind_version d plain k = name d.name ∷ words d.words ∷ bits d.bits ∷ (later_said d plain ++ body d.scramble 0 k d.backgrounds)
 
 tabled : (d : Description) (plain : Bool) (k : ℕ) → list_all (stands (Some (version_printed plain))) (behind_version d plain k) ≡ true
-tabled d true k = rows_tabled One d.scramble 0 k (map (digits_of_word d.bits) d.backgrounds)
-tabled d false k = rows_tabled Two d.scramble 0 k (map (digits_of_word d.bits) d.backgrounds)
+tabled d true k = rows_tabled One d.scramble 0 k d.backgrounds
+tabled d false k = rows_tabled Two d.scramble 0 k d.backgrounds
 
 pub are_statements : (d : Description) → IsMemory d → IsFull d.scramble → d.scramble.width ≤ 16 → AreStatements (printed d) (statements d (is_plain d) (rows_printed d.scramble))
 are_statements d mem full small =
@@ -124,7 +124,7 @@ are_statements d mem full small =
     let plain = is_plain d in
     let few : k ≤ d.scramble.width = by_test (is_identity d.scramble) in
     subst (λ (text : List ℕ). AreStatements text (statements d plain k)) (printed_lines d)
-    (lines_open (version_printed plain) (version_digits plain) 1 0 (lines_of d plain k) (behind_version d plain k) (of_version plain) (lines_written d plain k mem full small few) (tabled d plain k))
+    (lines_open (version_printed plain) (version_number plain) 1 0 (lines_of d plain k) (behind_version d plain k) (of_version plain) (lines_written d plain k mem full small few) (tabled d plain k))
   where
     by_test : (t : Bool) → (if t then 0 else d.scramble.width) ≤ d.scramble.width
     by_test true = omega arith
@@ -139,4 +139,4 @@ read_back d mem =
     let some = mem.words_low in
     let small : d.scramble.width ≤ 16 = (width_small (d.words - 1) d.scramble.width (omega arith) mem.address).1 in
     let k = rows_printed d.scramble in
-    (statements d (is_plain d) k, are_statements d mem mem.full small, describes_it d mem mem.full small)
+    (statements d (is_plain d) k, are_statements d mem mem.full small, describes_it d mem mem.full)

@@ -1,5 +1,5 @@
 -- The rows of the scrambling, one after another.
-use Rattle.memory_desc.proofs.Common.{Bool, IsRow, List, MemoryFault, Missing, None, Some, StandsAt, Statement, Term, [], about, add-one, and_mask, ap, ap₂, arith, bit_and, bit_or, cases_lt, constant, constant_of, digits_value, false, from_bool, highest_of, index_bit, index_bits, inl, inr, is_term_too_wide, leb-false, length, list_any, lit<, missing, missing_row, mod-eq_of_lt, nat_le, or_else, or_parts, plain_content, pow-lt, pow_pos, refl, replicate, row_in_seen, rows_said, said_there, scramble, slice_set, subst, suc, sym, take, take-suc-set, terms_in, terms_said, there, too_wide, true, unless_there, xor_lt, zero, ℕ, ◌%◌, ◌*◌, ◌++◌, ◌+◌, ◌-◌, ◌<◌, ◌^◌, ◌∙◌, ◌∷◌, ◌≡◌, ◌≤◌}
+use Rattle.memory_desc.proofs.Common.{Bool, IsRow, List, MemoryFault, Missing, None, Some, StandsAt, Statement, Term, [], about, add-one, and_mask, ap, ap₂, arith, bit_and, bit_or, cases_lt, constant, constant_of, false, from_bool, highest_of, index_bit, index_bits, inl, inr, is_term_too_wide, leb-false, length, list_any, lit<, missing, missing_row, mod-eq_of_lt, nat_le, or_else, or_parts, plain_content, pow-lt, pow_pos, refl, replicate, row_in_seen, rows_said, said_there, scramble, slice_set, subst, suc, sym, take, take-suc-set, terms_in, terms_said, there, too_wide, true, unless_there, xor_lt, zero, ℕ, ◌%◌, ◌*◌, ◌++◌, ◌+◌, ◌-◌, ◌<◌, ◌^◌, ◌∙◌, ◌∷◌, ◌≡◌, ◌≤◌}
 use Rattle.scrambler.specs.Linear.{number}
 use Rattle.scrambler.proofs.Steps.{product_begun, product_more}
 use Rattle.memory_desc.specs.Subjects.{said}
@@ -19,11 +19,11 @@ pub record TermsFit (width : ℕ) (ts : List Term) : Type 0 where
 
 pub terms_fit : (width : ℕ) (ts : List Term) → 0 < width → list_any (is_term_too_wide width) ts ≡ false → TermsFit width ts
 terms_fit width [] p h = record { highest = p; names = pow_pos width }
-terms_fit width (index_bit ds ∷ ts) p h =
-    let parts = or_parts (nat_le width (digits_value 10 ds)) (list_any (is_term_too_wide width) ts) h in
-    let low : digits_value 10 ds < width = leb-false width (digits_value 10 ds) parts.0 in
+terms_fit width (index_bit n ∷ ts) p h =
+    let parts = or_parts (nat_le width n) (list_any (is_term_too_wide width) ts) h in
+    let low : n < width = leb-false width n parts.0 in
     let rest = terms_fit width ts p parts.1 in
-    record { highest = omega (arith, rest.highest); names = xor_lt width (2 ^ digits_value 10 ds) (index_bits ts) (pow-lt low) rest.names }
+    record { highest = omega (arith, rest.highest); names = xor_lt width (2 ^ n) (index_bits ts) (pow-lt low) rest.names }
 terms_fit width (constant b ∷ ts) p h =
     let rest = terms_fit width ts p h in
     record { highest = rest.highest; names = rest.names }
@@ -35,7 +35,7 @@ masked names width ts e h = ap (λ (n : ℕ). bit_and n (2 ^ width - 1)) e ∙ a
 -- ---- the row of a bit
 
 abbrev pub RowIs : List Statement → ℕ → Row → Type 0
-RowIs ss bit row = (i : List ℕ) × (ts : List Term) × (said (BitRow bit) ss ≡ Some (scramble i ts)) × IsRow i ts row
+RowIs ss bit row = (i : ℕ) × (ts : List Term) × (said (BitRow bit) ss ≡ Some (scramble i ts)) × IsRow i ts row
 
 pub row_given : (ss : List Statement) (bit number : ℕ) (l : ReadStatement) (row : Row) → number ≡ bit → StandsAt (Some l) (about (BitRow number) ss) → row ≡ row_in_seen (plain_content l.content) → RowIs ss bit row
 row_given ss bit number l row e h f =
@@ -74,7 +74,7 @@ module _ (ss : List Statement) (width size bit : ℕ) (rows : List ℕ) (constan
   terms_are = ap terms_in given.2
 
   fit : TermsFit width given.1
-  fit = terms_fit width given.1 (omega arith) (or_parts (nat_le width (digits_value 10 given.0)) (list_any (is_term_too_wide width) given.1)
+  fit = terms_fit width given.1 (omega arith) (or_parts (nat_le width given.0) (list_any (is_term_too_wide width) given.1)
       (within ss width size (BitRow bit) (scramble given.0 given.1) passed given.2)).1
 
   value : bit_and row.names (2 ^ width - 1) ≡ index_bits (terms_said ss bit)

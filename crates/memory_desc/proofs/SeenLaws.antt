@@ -1,5 +1,5 @@
 -- What the code has of a line's content is what the line says.
-use Rattle.memory_desc.proofs.Common.{AreWords, Bool, IsRow, List, SeenWords, Term, WordList, [], ap, append-nil, append_assoc, arith, begun_row, bit_at, bit_at_or, bit_or, bit_xor, constant, constant_of, digits_value, eqb-true, false, highest_of, if◌then◌else◌, index_bit, index_bits, length, length-append, lt-ltb, max, max-zero, mod-eq_of_lt, nat_lt, nat_tests, no_words, not, or_zero_l, or_zero_r, plain_words, pow-lt, refl, same_from_bits, summand, sym, take, take-append-le, take_all, true, union_of, with_term, with_terms, with_word, with_words, word_values, xor_assoc, xor_zero_l, xor_zero_r, zero-max, ℕ, ◌%◌, ◌++◌, ◌+◌, ◌<◌, ◌==◌, ◌^◌, ◌∙◌, ◌∷◌, ◌≡◌, ◌≤◌}
+use Rattle.memory_desc.proofs.Common.{AreWords, Bool, IsRow, List, SeenWords, Term, WordList, [], ap, append-nil, append_assoc, arith, begun_row, bit_at, bit_at_or, bit_or, bit_xor, constant, constant_of, eqb-true, false, highest_of, if◌then◌else◌, index_bit, index_bits, length, length-append, lt-ltb, max, max-zero, mod-eq_of_lt, nat_lt, nat_tests, no_words, not, or_zero_l, or_zero_r, plain_words, pow-lt, refl, same_from_bits, sym, take, take-append-le, take_all, true, union_of, with_term, with_terms, with_word, with_words, xor_assoc, xor_zero_l, xor_zero_r, zero-max, ℕ, ◌%◌, ◌++◌, ◌+◌, ◌<◌, ◌==◌, ◌^◌, ◌∙◌, ◌∷◌, ◌≡◌, ◌≤◌}
 use Rattle.memory_desc.specs.declared.content.Row.{Row}
 
 -- ---- rows
@@ -27,9 +27,8 @@ kept_name names n l =
 
 adds : (ts : List Term) (r : Row) → Adds r (with_terms r ts) ts
 adds [] r = record { bit = refl; highest = sym (max-zero r.highest); names = λ _. sym (xor_zero_r r.names); constant = same_bit r.constant }
-adds (index_bit ds ∷ ts) r =
-    let n = digits_value 10 ds in
-    let more = adds ts (with_term r (summand (index_bit ds))) in
+adds (index_bit n ∷ ts) r =
+    let more = adds ts (with_term r (index_bit n)) in
     record {
       bit = more.bit;
       highest = (let h = more.highest in omega arith);
@@ -38,12 +37,12 @@ adds (index_bit ds ∷ ts) r =
     }
 adds (constant false ∷ ts) r = (let more = adds ts r in record { bit = more.bit; highest = more.highest; names = more.names; constant = more.constant })
 adds (constant true ∷ ts) r =
-    let more = adds ts (with_term r (summand (constant true))) in
+    let more = adds ts (with_term r (constant true)) in
     record { bit = more.bit; highest = more.highest; names = more.names; constant = more.constant ∙ turned_bit r.constant (constant_of ts) }
 
-pub row_is : (i : List ℕ) (ts : List Term) → IsRow i ts (with_terms (begun_row (digits_value 10 i)) ts)
+pub row_is : (i : ℕ) (ts : List Term) → IsRow i ts (with_terms (begun_row i) ts)
 row_is i ts =
-    let a = adds ts (begun_row (digits_value 10 i)) in
+    let a = adds ts (begun_row i) in
     record { bit = a.bit; highest = a.highest ∙ zero-max (highest_of ts); names = λ l. a.names l ∙ xor_zero_l (index_bits ts); constant = a.constant }
 
 -- ---- words
@@ -57,10 +56,10 @@ bit_or_assoc a b c =
     left ∙ same ∙ sym right)
 
 -- words with those of a list are these
-record Gathers (r new : SeenWords) (ws : List (List ℕ)) : Type 0 where
-  pub first : new.first ≡ take 8 (r.first ++ word_values ws)
+record Gathers (r new : SeenWords) (ws : List ℕ) : Type 0 where
+  pub first : new.first ≡ take 8 (r.first ++ ws)
   pub count : new.count ≡ r.count + length ws
-  pub union : new.union ≡ bit_or r.union (union_of (word_values ws))
+  pub union : new.union ≡ bit_or r.union (union_of ws)
 
 -- the first eight, with one more behind them
 one_more : (xs : List ℕ) (x : ℕ) (ys : List ℕ) → length xs ≤ 8 → (t : Bool) → (length xs == 8) ≡ t
@@ -73,26 +72,26 @@ one_more xs x ys l false e =
     let more : length (xs ++ x ∷ []) ≡ length xs + 1 = length-append xs (x ∷ []) in
     (omega arith, ap (λ (l : List ℕ). take 8 l) (append_assoc xs (x ∷ []) ys))
 
-gathers : (ws : List (List ℕ)) (r : SeenWords) → length r.first ≤ 8 → Gathers r (with_words r ws) ws
+gathers : (ws : List ℕ) (r : SeenWords) → length r.first ≤ 8 → Gathers r (with_words r ws) ws
 gathers [] r l = record {
   first = sym (take_all 8 r.first l) ∙ ap (λ (l : List ℕ). take 8 l) (sym (append-nil r.first));
   count = omega arith;
   union = sym (or_zero_r r.union);
 }
 gathers (w ∷ ws) r l =
-    let v = digits_value 16 w in
-    let one = one_more r.first v (word_values ws) l (length r.first == 8) refl in
+    let v = w in
+    let one = one_more r.first v ws l (length r.first == 8) refl in
     let more = gathers ws (with_word r v) one.0 in
     record {
       first = more.first ∙ one.1;
       count = (let n = more.count in omega arith);
-      union = more.union ∙ bit_or_assoc r.union v (union_of (word_values ws));
+      union = more.union ∙ bit_or_assoc r.union v (union_of ws);
     }
 
-pub union_is : (ws : List (List ℕ)) → (with_words no_words ws).union ≡ union_of (word_values ws)
-union_is ws = (gathers ws no_words (omega arith)).union ∙ or_zero_l (union_of (word_values ws))
+pub union_is : (ws : List ℕ) → (with_words no_words ws).union ≡ union_of ws
+union_is ws = (gathers ws no_words (omega arith)).union ∙ or_zero_l (union_of ws)
 
-pub words_are : (ws : List (List ℕ)) (r : WordList) → plain_words r ≡ with_words no_words ws → AreWords ws r
+pub words_are : (ws : List ℕ) (r : WordList) → plain_words r ≡ with_words no_words ws → AreWords ws r
 words_are ws r e =
     let g = gathers ws no_words (omega arith) in
     let none : 0 + length ws ≡ length ws = omega arith in

@@ -1,5 +1,5 @@
 -- What the statement about something says, where its line is known.
-use Rattle.memory_desc.proofs.Common.{Bool, Content, List, None, Option, Seen, Some, StandsAt, Statement, Subject, Term, about, ap, backgrounds, bits, content_of, digits_value, false, find, found_fails, found_passes, is_about, is_ranged, is_same, kind_of, latency, least, log, most, name, nat_lt, none_at, number_in_seen, out_of_range, pause, plain_content, polarity, refl, scramble, seen, subject, subst, sym, too_wide, true, value_in, words, ℕ, ◌||◌, ◌∙◌, ◌≡◌}
+use Rattle.memory_desc.proofs.Common.{Bool, Content, List, None, Option, Seen, Some, StandsAt, Statement, Subject, Term, about, ap, backgrounds, bits, content_of, false, find, found_fails, found_passes, is_about, is_ranged, is_same, kind_of, latency, least, log, most, name, nat_lt, none_at, number_in_seen, out_of_range, pause, plain_content, polarity, refl, scramble, seen, subject, subst, sym, too_wide, true, value_in, words, ℕ, ◌||◌, ◌∙◌, ◌≡◌}
 use Rattle.memory_desc.specs.Subjects.{said}
 use Rattle.memory_desc.specs.Table.{is_too_wide, is_out_of_range}
 use Rattle.memory_desc.specs.declared.content.Key.TheVariants.{Backgrounds as BackgroundsKey}
@@ -31,11 +31,11 @@ pub record Says (q : Subject) (ss : List Statement) (read : Seen) (c : Content) 
 pub says : (q : Subject) (ss : List Statement) (read : Seen) (r : Stated q ss read) → Says q ss read r.statement.content
 says q ss read r = record { said_is = ap content_of r.found; written = r.written }
 
-of_row : (bit : ℕ) (c : Content) → is_same (Row bit) (subject c) ≡ true → (i : List ℕ) × (ts : List Term) × (c ≡ scramble i ts)
+of_row : (bit : ℕ) (c : Content) → is_same (Row bit) (subject c) ≡ true → (i : ℕ) × (ts : List Term) × (c ≡ scramble i ts)
 of_row bit (scramble i ts) e = (i, ts, refl)
 of_row bit c e = (let z : ⊥ = cc in absurd z)
 
-pub row_stated : (bit : ℕ) (ss : List Statement) (read : Seen) → Stated (Row bit) ss read → (i : List ℕ) × (ts : List Term) × Says (Row bit) ss read (scramble i ts)
+pub row_stated : (bit : ℕ) (ss : List Statement) (read : Seen) → Stated (Row bit) ss read → (i : ℕ) × (ts : List Term) × Says (Row bit) ss read (scramble i ts)
 row_stated bit ss read r = let c = of_row bit r.statement.content r.same in (c.0, c.1, subst (Says (Row bit) ss read) c.2 (says (Row bit) ss read r))
 
 of_name : (c : Content) → is_same Name (subject c) ≡ true → (b : List ℕ) × (c ≡ name b)
@@ -45,28 +45,28 @@ of_name c e = (let z : ⊥ = cc in absurd z)
 pub name_stated : (ss : List Statement) (read : Seen) → Stated Name ss read → (b : List ℕ) × Says Name ss read (name b)
 name_stated ss read r = let c = of_name r.statement.content r.same in (c.0, subst (Says Name ss read) c.1 (says Name ss read r))
 
-of_polarity : (c : Content) → is_same Polarity (subject c) ≡ true → (ds : List ℕ) × (c ≡ polarity ds)
-of_polarity (polarity ds) e = (ds, refl)
+of_polarity : (c : Content) → is_same Polarity (subject c) ≡ true → (w : ℕ) × (c ≡ polarity w)
+of_polarity (polarity w) e = (w, refl)
 of_polarity c e = (let z : ⊥ = cc in absurd z)
 
-pub polarity_stated : (ss : List Statement) (read : Seen) → Stated Polarity ss read → (ds : List ℕ) × Says Polarity ss read (polarity ds)
+pub polarity_stated : (ss : List Statement) (read : Seen) → Stated Polarity ss read → (w : ℕ) × Says Polarity ss read (polarity w)
 polarity_stated ss read r = let c = of_polarity r.statement.content r.same in (c.0, subst (Says Polarity ss read) c.1 (says Polarity ss read r))
 
 -- ---- numbers
 
--- the digits of a content about such a subject
-pub record HasDigits (q : Subject) (c : Content) : Type 0 where
-  pub digits : List ℕ
-  pub read : number_in_seen (seen c) ≡ digits_value 10 digits
-  pub value : value_in q (Some c) ≡ digits_value 10 digits
-  pub tested : is_out_of_range c ≡ (nat_lt (digits_value 10 digits) (least q) || nat_lt (most q) (digits_value 10 digits))
+-- the number of a content about such a subject
+pub record HasNumber (q : Subject) (c : Content) : Type 0 where
+  pub number : ℕ
+  pub read : number_in_seen (seen c) ≡ number
+  pub value : value_in q (Some c) ≡ number
+  pub tested : is_out_of_range c ≡ (nat_lt number (least q) || nat_lt (most q) number)
 
-pub has_digits : (q : Subject) (c : Content) → is_ranged q ≡ true → is_same q (subject c) ≡ true → HasDigits q c
-has_digits Words (words ds) h e = record { digits = ds; read = refl; value = refl; tested = refl }
-has_digits Bits (bits ds) h e = record { digits = ds; read = refl; value = refl; tested = refl }
-has_digits Latency (latency ds) h e = record { digits = ds; read = refl; value = refl; tested = refl }
-has_digits Pause (pause ds) h e = record { digits = ds; read = refl; value = refl; tested = refl }
-has_digits q c h e = (let z : ⊥ = cc in absurd z)
+pub has_number : (q : Subject) (c : Content) → is_ranged q ≡ true → is_same q (subject c) ≡ true → HasNumber q c
+has_number Words (words n) h e = record { number = n; read = refl; value = refl; tested = refl }
+has_number Bits (bits n) h e = record { number = n; read = refl; value = refl; tested = refl }
+has_number Latency (latency n) h e = record { number = n; read = refl; value = refl; tested = refl }
+has_number Pause (pause n) h e = record { number = n; read = refl; value = refl; tested = refl }
+has_number q c h e = (let z : ⊥ = cc in absurd z)
 
 -- ---- backgrounds
 

@@ -1,11 +1,16 @@
 -- The readers of words, and the loop over those of a list.
-use Rattle.memory_desc.proofs.Common.{Bool, Class, List, None, Read, SeenWords, Some, [], ap, backgrounds, byte_of, end_of, ends_with, fits_of, hex_word_of, if◌then◌else◌, is_hex, listed_of, log, log_of, onward, refl, remark_of, slice_index, spaced_word_of, took, true, with_words, word_of, words_of, ℕ, ◌∙◌, ◌∷◌, ◌≡◌, ◌≢◌}
+use Rattle.memory_desc.proofs.Common.{digits_value, sym, Bool, List, None, Read, SeenWords, Some, [], ap, backgrounds, byte_of, end_of, ends_with, fits_of, hex_word_of, if◌then◌else◌, is_hex, listed_of, log, log_of, onward, refl, remark_of, slice_index, spaced_word_of, took, true, with_words, word_of, words_of, ℕ, ◌∙◌, ◌∷◌, ◌≡◌, ◌≢◌}
 use Rattle.bist_text.specs.declared.keyed_lines.Class.TheVariants.{Word as HexWord}
+use Rattle.memory_desc.specs.inner.Heard.{hex_number_of}
 
 abbrev pub Gathered : SeenWords → List ℕ → Read SeenWords
 Gathered r b = onward (words_of b) (λ ws x. took (with_words r ws) x)
 
-pub listed_took : (b x left w : List ℕ) (ws : List (List ℕ)) → word_of (fits_of HexWord) b ≡ took w x → words_of x ≡ took ws left → listed_of b ≡ took (Some (backgrounds (w ∷ ws))) left
+-- the value of a word that is read
+pub hex_took : (b x : List ℕ) (w : ℕ) → (ds : List ℕ) × (word_of (fits_of HexWord) b ≡ took ds x) × (w ≡ digits_value 16 ds) → hex_number_of b ≡ took w x
+hex_took b x w h = ap (λ o. onward o (λ ds x. took (digits_value 16 ds) x)) h.1 ∙ ap (λ n. took n x) (sym h.2)
+
+pub listed_took : (b x left : List ℕ) (w : ℕ) (ws : List ℕ) → hex_number_of b ≡ took w x → words_of x ≡ took ws left → listed_of b ≡ took (Some (backgrounds (w ∷ ws))) left
 listed_took b x left w ws h k =
     ap (λ o. onward o (λ w x. onward (words_of x) (λ ws x. took (Some (backgrounds (w ∷ ws))) x))) h ∙ ap (λ o. onward o (λ ws x. took (Some (backgrounds (w ∷ ws))) x)) k
 
@@ -14,11 +19,11 @@ log_took b x y z left h k l m =
     ap (λ o. onward o (λ _ x. onward (byte_of 111 x) (λ _ x. onward (byte_of 103 x) (λ _ x. ends_with (Some log) x)))) h ∙ ap (λ o. onward o (λ _ x. onward (byte_of 103 x) (λ _ x. ends_with (Some log) x))) k
     ∙ ap (λ o. onward o (λ _ x. ends_with (Some log) x)) l ∙ ap (λ o. onward o (λ _ x. took (Some log) x)) m
 
-pub word_took : (b x w : List ℕ) → b ≢ [] → is_hex (slice_index b 0) ≡ true → word_of (fits_of HexWord) b ≡ took w x → spaced_word_of b ≡ took (Some w) x
+pub word_took : (b x : List ℕ) (w : ℕ) → b ≢ [] → is_hex (slice_index b 0) ≡ true → hex_number_of b ≡ took w x → spaced_word_of b ≡ took (Some w) x
 word_took [] x w n e h = absurd (n refl)
 word_took (c ∷ b) x w n e h =
     ap (λ (t : Bool). if t then hex_word_of (c ∷ b) else remark_of None (c ∷ b)) e ∙ ap (λ o. onward o (λ w x. took (Some w) x)) h
 
--- a word to the end of the line
-pub argument_took : {A : Type 0} (fits : Class) (f : List ℕ → A) (b x left w : List ℕ) → word_of fits b ≡ took w x → end_of x ≡ took tt left → onward (word_of fits b) (λ w x. ends_with (f w) x) ≡ took (f w) left
-argument_took fits f b x left w h k = ap (λ o. onward o (λ w x. ends_with (f w) x)) h ∙ ap (λ o. onward o (λ _ x. took (f w) x)) k
+-- a value to the end of the line
+pub argument_took : {A V : Type 0} (o : Read V) (f : V → A) (x left : List ℕ) (v : V) → o ≡ took v x → end_of x ≡ took tt left → onward o (λ v x. ends_with (f v) x) ≡ took (f v) left
+argument_took o f x left v h k = ap (λ o. onward o (λ v x. ends_with (f v) x)) h ∙ ap (λ o. onward o (λ _ x. took (f v) x)) k

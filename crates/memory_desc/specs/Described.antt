@@ -3,7 +3,6 @@ use Rattle.std.specs.Prelude.{◌≡◌, ℕ, ◌-◌, ◌^◌, ◌<◌, ◌≤�
 use Rattle.std.specs.Int.{is_power_of_two}
 use Rattle.std.specs.List.{list_any}
 use Rattle.std.specs.Option.{IsSome}
-use Rattle.std.specs.Str.Parse.{digits_value}
 use Rattle.bist_bits.specs.Width.{IsWidthOf}
 pub use Rattle.bist_text.specs.KeyedTexts.{is_other}
 use Rattle.bist_text.specs.KeyedTexts.{Say}
@@ -28,10 +27,10 @@ is_repeat ss s = is_other s.line (about (subject s.content) ss)
 -- whether a name, a number of words or of bits, a latency or a pause is outside its range
 abbrev pub is_out_of_range : Content → Bool
 is_out_of_range (name b) = nat_lt 48 (length b) || is_among b reserved_words
-is_out_of_range (words ds) = nat_lt (digits_value 10 ds) 2 || nat_lt 65536 (digits_value 10 ds)
-is_out_of_range (bits ds) = nat_lt (digits_value 10 ds) 1 || nat_lt 64 (digits_value 10 ds)
-is_out_of_range (latency ds) = nat_lt (digits_value 10 ds) 1 || nat_lt 4 (digits_value 10 ds)
-is_out_of_range (pause ds) = nat_lt (digits_value 10 ds) 1 || nat_lt 65535 (digits_value 10 ds)
+is_out_of_range (words n) = nat_lt n 2 || nat_lt 65536 n
+is_out_of_range (bits n) = nat_lt n 1 || nat_lt 64 n
+is_out_of_range (latency n) = nat_lt n 1 || nat_lt 4 n
+is_out_of_range (pause n) = nat_lt n 1 || nat_lt 65535 n
 is_out_of_range other = false
 
 -- whether a row of the scrambling is given
@@ -44,13 +43,13 @@ is_scrambled ss = list_any (λ s. is_row s.content) ss
 
 -- whether a row or an index bit is past an address of this width, or a background or a polarity past a word of this size
 abbrev pub is_term_too_wide : ℕ → Term → Bool
-is_term_too_wide width (index_bit ds) = nat_le width (digits_value 10 ds)
+is_term_too_wide width (index_bit n) = nat_le width n
 is_term_too_wide width (constant b) = false
 
 abbrev pub is_too_wide : ℕ → ℕ → Content → Bool
-is_too_wide width size (scramble i ts) = nat_le width (digits_value 10 i) || list_any (is_term_too_wide width) ts
-is_too_wide width size (backgrounds ws) = list_any (λ w. nat_le (2 ^ size) (digits_value 16 w)) ws
-is_too_wide width size (polarity w) = nat_le (2 ^ size) (digits_value 16 w)
+is_too_wide width size (scramble i ts) = nat_le width i || list_any (is_term_too_wide width) ts
+is_too_wide width size (backgrounds ws) = list_any (nat_le (2 ^ size)) ws
+is_too_wide width size (polarity w) = nat_le (2 ^ size) w
 is_too_wide width size other = false
 
 -- The scrambling of addresses of this width: the matrix of the rows, each of which is there, or the identity where no row is.

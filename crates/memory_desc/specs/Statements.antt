@@ -1,6 +1,5 @@
 -- Trusted. What the lines of a description say, and which lines may stand.
 use Rattle.std.specs.Prelude.{ℕ, ◌==◌, Bool, true, false, if◌then◌else◌, Option, Some, None}
-use Rattle.std.specs.Str.Parse.{digits_value}
 use Rattle.bist_text.specs.KeyedTexts.{Statement as TextStatement}
 pub use Rattle.bist_text.specs.KeyedTexts.{stated}
 use Rattle.memory_desc.specs.declared.content.Key.{Key}
@@ -19,7 +18,7 @@ version_of n = if n == 1 then Some One else if n == 2 then Some Two else None
 
 -- the version that a content gives, where it is one
 abbrev pub version_in : Content → Option Version
-version_in (version ds) = version_of (digits_value 10 ds)
+version_in (version n) = version_of n
 version_in c = None
 
 -- the kinds of content lines that may stand: a `memory` line alone before a version is known, and then those of its table

@@ -1,6 +1,5 @@
 -- Trusted. What statements speak of, and the statements about something.
 use Rattle.std.specs.Prelude.{◌==◌, Bool, true, false, List, Option, find}
-use Rattle.std.specs.Str.Parse.{digits_value}
 use Rattle.memory_desc.specs.LineText.{Content, version, name, words, bits, latency, polarity, pause, scramble, log, backgrounds}
 pub use Rattle.bist_text.specs.KeyedTexts.{content_of}
 use Rattle.memory_desc.specs.Statements.{Statement}
@@ -8,14 +7,14 @@ use Rattle.memory_desc.specs.declared.content.Subject.{Subject}
 use Rattle.memory_desc.specs.declared.content.Subject.TheVariants.{Version, Name, Words, Bits, Latency, Polarity, Pause, Row, Backgrounds}
 
 abbrev pub subject : Content → Subject
-subject (version ds) = Version
+subject (version n) = Version
 subject (name b) = Name
-subject (words ds) = Words
-subject (bits ds) = Bits
-subject (latency ds) = Latency
+subject (words n) = Words
+subject (bits n) = Bits
+subject (latency n) = Latency
 subject (polarity w) = Polarity
-subject (pause ds) = Pause
-subject (scramble i ts) = Row (digits_value 10 i)
+subject (pause n) = Pause
+subject (scramble i ts) = Row i
 subject log = Backgrounds
 subject (backgrounds ws) = Backgrounds
 

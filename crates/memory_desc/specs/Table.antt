@@ -14,7 +14,7 @@ pub use Rattle.memory_desc.specs.Described.{is_other, is_repeat, is_out_of_range
 use Rattle.memory_desc.specs.LineText.{Content, backgrounds, ContentText}
 use Rattle.memory_desc.specs.Statements.{Statement, stands, version_in}
 use Rattle.memory_desc.specs.Subjects.{about, said}
-use Rattle.memory_desc.specs.Values.{words_said, bits_said, matrix_said, word_values}
+use Rattle.memory_desc.specs.Values.{words_said, bits_said, matrix_said}
 use Rattle.memory_desc.specs.declared.content.Subject.{Subject}
 use Rattle.memory_desc.specs.declared.content.Subject.TheVariants.{Name, Words, Bits, Row, Backgrounds}
 use Rattle.memory_desc.specs.declared.fault.Field.{Field}
@@ -66,7 +66,7 @@ without_solid set = if list_any (λ w. w == 0) set then None else Some NoSolidBa
 
 -- of words that are listed; the logarithmic set is never refused
 abbrev pub unserved : Option Content → Option MemoryFault
-unserved (Some (backgrounds ws)) = first_refusal (too_many (word_values ws) ∷ without_solid (word_values ws) ∷ [])
+unserved (Some (backgrounds ws)) = first_refusal (too_many ws ∷ without_solid ws ∷ [])
 unserved other = None
 
 -- ---- the whole

@@ -1,7 +1,6 @@
 -- Trusted. The values that a description's statements give.
-use Rattle.std.specs.Prelude.{◌≡◌, ℕ, zero, suc, ◌^◌, Bool, true, false, not, List, [], ◌∷◌, ◌++◌, Option, Some, map, bit_xor}
+use Rattle.std.specs.Prelude.{◌≡◌, ℕ, zero, suc, ◌^◌, Bool, true, false, not, List, [], ◌∷◌, ◌++◌, Option, Some, bit_xor}
 use Rattle.std.specs.Int.{from_bool}
-use Rattle.std.specs.Str.Parse.{digits_value}
 use Rattle.backgrounds.specs.Backgrounds.{IsLogSet}
 use Rattle.scrambler.specs.Linear.{number}
 use Rattle.scrambler.specs.Scrambling.{Scrambling}
@@ -13,8 +12,8 @@ use Rattle.memory_desc.specs.declared.content.Subject.TheVariants.{Name, Words, 
 -- ---- names and numbers
 
 abbrev pub number_in : Option Content → ℕ
-number_in (Some (words ds)) = digits_value 10 ds
-number_in (Some (bits ds)) = digits_value 10 ds
+number_in (Some (words n)) = n
+number_in (Some (bits n)) = n
 number_in other = 0
 
 abbrev pub name_in : Option Content → List ℕ
@@ -32,15 +31,15 @@ bits_said ss = number_in (said Bits ss)
 
 -- where nothing is said of them, the latency and the pause are one cycle, and no bit is stored inverted
 abbrev pub latency_in : Option Content → ℕ
-latency_in (Some (latency ds)) = digits_value 10 ds
+latency_in (Some (latency n)) = n
 latency_in other = 1
 
 abbrev pub polarity_in : Option Content → ℕ
-polarity_in (Some (polarity w)) = digits_value 16 w
+polarity_in (Some (polarity w)) = w
 polarity_in other = 0
 
 abbrev pub pause_in : Option Content → ℕ
-pause_in (Some (pause ds)) = digits_value 10 ds
+pause_in (Some (pause n)) = n
 pause_in other = 1
 
 abbrev pub latency_said : List Statement → ℕ
@@ -57,13 +56,13 @@ pause_said ss = pause_in (said Pause ss)
 -- the exclusive or of the index bits that terms name: equal terms cancel
 abbrev pub index_bits : List Term → ℕ
 index_bits [] = 0
-index_bits (index_bit ds ∷ ts) = bit_xor (2 ^ digits_value 10 ds) (index_bits ts)
+index_bits (index_bit n ∷ ts) = bit_xor (2 ^ n) (index_bits ts)
 index_bits (constant b ∷ ts) = index_bits ts
 
 -- the exclusive or of the constants
 abbrev pub constant_of : List Term → Bool
 constant_of [] = false
-constant_of (index_bit ds ∷ ts) = constant_of ts
+constant_of (index_bit n ∷ ts) = constant_of ts
 constant_of (constant true ∷ ts) = not (constant_of ts)
 constant_of (constant false ∷ ts) = constant_of ts
 
@@ -87,10 +86,7 @@ matrix_said ss width =
 
 -- ---- backgrounds
 
-abbrev pub word_values : List (List ℕ) → List ℕ
-word_values ws = map (digits_value 16) ws
-
 -- the words that are listed, or the logarithmic set
 abbrev pub AreBackgrounds : Option Content → ℕ → List ℕ → Type 0
-AreBackgrounds (Some (backgrounds ws)) size set = set ≡ word_values ws
+AreBackgrounds (Some (backgrounds ws)) size set = set ≡ ws
 AreBackgrounds other size set = IsLogSet size set

@@ -82,7 +82,7 @@ pub fn scramble_from(bytes: &[u8], scrambled: bool, width: u8) -> Result<Scrambl
 
 /// The backgrounds of a list.
 fn listed(words: WordList) -> Result<ArrayVec<u64, 8>, MemoryFault>
-    ensures { (ws : List (List ℕ)) (size : ℕ) → AreWords ws words
+    ensures { (ws : List ℕ) (size : ℕ) → AreWords ws words
         → MatchResult result (λ b. GivesBackgrounds (Some (backgrounds_line ws)) size (Ok b.items)) (λ fault. GivesBackgrounds (Some (backgrounds_line ws)) size (Err fault)) }
 {
     if words.count > 8 {

@@ -41,6 +41,13 @@ pub enum Subject {
     Backgrounds,
 }
 
+/// A term of a row.
+#[derive(Clone, Copy)]
+pub enum Term {
+    IndexBit(u32),
+    Constant(bool),
+}
+
 /// A scrambling row as it is written.
 #[derive(Clone, Copy)]
 pub struct Row {

@@ -1,7 +1,6 @@
 //! The reader of one line.
 
 ghost use Rattle.std.specs.Prelude.{◌≡◌, ℕ, List, Option, Some, MatchResult, map, option_map};
-ghost use Rattle.std.specs.Str.Parse.{digits_value};
 ghost use Rattle.bist_text.specs.Keywords.{word_of};
 ghost use Rattle.bist_text.specs.keyed.Lines.{answer, keyed_of};
 ghost use Rattle.bist_text.specs.keyed.Reading.{took, stuck};
@@ -44,7 +43,7 @@ fn keys_of(given: Option<Version>) -> &'static [Keyword<Key>]
 
 /// A number, to the end of the line.
 fn numbered(text: &[u8]) -> Read<'_, u32>
-    ensures { (f : List ℕ → LineContent) → MatchResult result (λ r. (ds : List ℕ) × (numbered_of f text.now ≡ took (Some (f ds)) r.1.now) × (r.0 ≡ digits_value 10 ds)) (λ left. numbered_of f text.now ≡ stuck left.now) }
+    ensures { (f : ℕ → LineContent) → MatchResult result (λ r. numbered_of f text.now ≡ took (Some (f r.0)) r.1.now) (λ left. numbered_of f text.now ≡ stuck left.now) }
 {
     let (number, text) = number(text)?;
     let ((), text) = end(text)?;

@@ -1,7 +1,6 @@
 //! The reader of backgrounds: what stands behind the first word of a `backgrounds` line.
 
 ghost use Rattle.std.specs.Prelude.{◌≡◌, ◌+◌, ◌<◌, ◌^◌, ℕ, List, Option, MatchResult, length, option_map};
-ghost use Rattle.std.specs.Str.Parse.{digits_value};
 ghost use Rattle.bist_text.specs.Grammar.{is_blank};
 ghost use Rattle.bist_text.specs.keyed.Reading.{took, stuck};
 ghost use Rattle.memory_desc.specs.inner.Heard.{backgrounds_of, listed_of, log_of, next_word_of, spaced_word_of, words_of};
@@ -14,7 +13,7 @@ use bist_text::keyed_lines::{Read, blanks, byte, comment, end, hex_number};
 
 /// A word behind blanks; None at the end of the line.
 fn spaced_word(text: &[u8]) -> Read<'_, Option<u64>>
-    ensures { MatchResult result (λ r. (o : Option (List ℕ)) × (spaced_word_of text.now ≡ took o r.1.now) × (r.0 ≡ option_map (digits_value 16) o)) (λ left. spaced_word_of text.now ≡ stuck left.now) }
+    ensures { MatchResult result (λ r. spaced_word_of text.now ≡ took r.0 r.1.now) (λ left. spaced_word_of text.now ≡ stuck left.now) }
 {
     match text {
         [] => Ok((None, text)),
@@ -32,7 +31,7 @@ fn spaced_word(text: &[u8]) -> Read<'_, Option<u64>>
 /// The next word; None at the end of the line.
 #[tactic(auto, using(bist_text::proofs::Blanks::blanks_have))]
 fn next_word(text: &[u8]) -> Read<'_, Option<u64>>
-    ensures { MatchResult result (λ r. (o : Option (List ℕ)) × (next_word_of text.now ≡ took o r.1.now) × (r.0 ≡ option_map (digits_value 16) o)) (λ left. next_word_of text.now ≡ stuck left.now) }
+    ensures { MatchResult result (λ r. next_word_of text.now ≡ took r.0 r.1.now) (λ left. next_word_of text.now ≡ stuck left.now) }
 {
     match text {
         [] => Ok((None, text)),
@@ -64,7 +63,7 @@ fn with_word(mut words: WordList, word: u64) -> WordList
 /// The words with those that follow, to the end of the line.
 fn with_words<'a>(text: &'a [u8], words: WordList) -> Read<'a, WordList>
     requires { words.count + length text.now < 2 ^ 64 }
-    ensures { MatchResult result (λ r. (ws : List (List ℕ)) × (words_of text.now ≡ took ws r.1.now) × (plain_words r.0 ≡ with_words (plain_words words) ws)) (λ left. words_of text.now ≡ stuck left.now) }
+    ensures { MatchResult result (λ r. (ws : List ℕ) × (words_of text.now ≡ took ws r.1.now) × (plain_words r.0 ≡ with_words (plain_words words) ws)) (λ left. words_of text.now ≡ stuck left.now) }
 {
     let mut words = words;
     let mut left = text;

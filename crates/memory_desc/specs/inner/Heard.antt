@@ -1,16 +1,17 @@
 -- Inner. For proofs and private contracts alone: what the reader hears in a line, as functions of its bytes.
 use Rattle.std.specs.Prelude.{ℕ, ◌==◌, Bool, true, false, if◌then◌else◌, List, [], ◌∷◌, Option, Some, None, Result}
+use Rattle.std.specs.Str.Parse.{digits_value}
 use Rattle.bist_text.specs.Grammar.{is_blank}
 use Rattle.bist_text.specs.Keywords.{Word}
 use Rattle.bist_text.specs.inner.Keywords.{all_words}
 use Rattle.bist_text.specs.Lines.{TextLine}
 use Rattle.bist_text.specs.Machine.{Outcome}
 use Rattle.bist_text.specs.keyed.Reading.{Read, took, stuck, onward, outcome}
-use Rattle.bist_text.specs.keyed.Parts.{spaced, byte_of, fits_of, word_of, ends_with, remark_of, by_byte, items_of}
+use Rattle.bist_text.specs.keyed.Parts.{spaced, byte_of, fits_of, word_of, number_of, ends_with, remark_of, by_byte, items_of}
 use Rattle.bist_text.specs.keyed.Lines.{line_of, answer}
 use Rattle.bist_text.specs.keyed.Texts.{said_in, all_stated, versions}
 use Rattle.bist_text.specs.declared.keyed_lines.LineFault.{LineFault}
-use Rattle.bist_text.specs.declared.keyed_lines.Class.TheVariants.{Number, Word as HexWord, Name as NameWord}
+use Rattle.bist_text.specs.declared.keyed_lines.Class.TheVariants.{Word as HexWord, Name as NameWord}
 use Rattle.memory_desc.specs.LineText.{Term, index_bit, constant, Content, version, name, words, bits, latency, polarity, pause, scramble, log, backgrounds, is_hex, key_text}
 use Rattle.memory_desc.specs.Statements.{Statement, version_in}
 use Rattle.memory_desc.specs.declared.content.Key.{Key}
@@ -23,7 +24,7 @@ use Rattle.memory_desc.specs.declared.content.Version.TheVariants.{One, Two}
 abbrev pub term_of : List ℕ → Read Term
 term_of [] = stuck []
 term_of (c ∷ b) =
-    if c == 112 then onward (word_of (fits_of Number) b) (λ ds x. took (index_bit ds) x) else if c == 48 then took (constant false) b
+    if c == 112 then onward (number_of b) (λ n x. took (index_bit n) x) else if c == 48 then took (constant false) b
     else if c == 49 then took (constant true) b else stuck (c ∷ b)
 
 abbrev pub is_caret : ℕ → Bool
@@ -41,34 +42,38 @@ terms_of b = items_of next_term_of b
 
 -- ---- the words of a list
 
-abbrev pub hex_word_of : List ℕ → Read (Option (List ℕ))
-hex_word_of b = onward (word_of (fits_of HexWord) b) (λ w x. took (Some w) x)
+-- the value of a word
+abbrev pub hex_number_of : List ℕ → Read ℕ
+hex_number_of b = onward (word_of (fits_of HexWord) b) (λ ds x. took (digits_value 16 ds) x)
 
-abbrev pub spaced_word_of : List ℕ → Read (Option (List ℕ))
+abbrev pub hex_word_of : List ℕ → Read (Option ℕ)
+hex_word_of b = onward (hex_number_of b) (λ w x. took (Some w) x)
+
+abbrev pub spaced_word_of : List ℕ → Read (Option ℕ)
 spaced_word_of b = by_byte is_hex hex_word_of (remark_of None) (took None []) b
 
 -- a further word, behind blanks, or the end of the line
-abbrev pub next_word_of : List ℕ → Read (Option (List ℕ))
+abbrev pub next_word_of : List ℕ → Read (Option ℕ)
 next_word_of b = by_byte is_blank (λ x. spaced_word_of (spaced x)) (remark_of None) (took None []) b
 
-abbrev pub words_of : List ℕ → Read (List (List ℕ))
+abbrev pub words_of : List ℕ → Read (List ℕ)
 words_of b = items_of next_word_of b
 
 -- ---- what stands behind a first word and blanks
 
-abbrev pub numbered_of : (List ℕ → Content) → List ℕ → Read (Option Content)
-numbered_of f b = onward (word_of (fits_of Number) b) (λ ds x. ends_with (Some (f ds)) x)
+abbrev pub numbered_of : (ℕ → Content) → List ℕ → Read (Option Content)
+numbered_of f b = onward (number_of b) (λ n x. ends_with (Some (f n)) x)
 
 abbrev pub row_of : List ℕ → Read (Option Content)
 row_of b =
-    onward (byte_of 97 b) (λ _ x. onward (word_of (fits_of Number) x) (λ i x. onward (byte_of 61 (spaced x)) (λ _ x.
+    onward (byte_of 97 b) (λ _ x. onward (number_of x) (λ i x. onward (byte_of 61 (spaced x)) (λ _ x.
     onward (term_of (spaced x)) (λ t x. onward (terms_of x) (λ ts x. took (Some (scramble i (t ∷ ts))) x)))))
 
 abbrev pub log_of : List ℕ → Read (Option Content)
 log_of b = onward (byte_of 108 b) (λ _ x. onward (byte_of 111 x) (λ _ x. onward (byte_of 103 x) (λ _ x. ends_with (Some log) x)))
 
 abbrev pub listed_of : List ℕ → Read (Option Content)
-listed_of b = onward (word_of (fits_of HexWord) b) (λ w x. onward (words_of x) (λ ws x. took (Some (backgrounds (w ∷ ws))) x))
+listed_of b = onward (hex_number_of b) (λ w x. onward (words_of x) (λ ws x. took (Some (backgrounds (w ∷ ws))) x))
 
 abbrev pub is_l : ℕ → Bool
 is_l c = c == 108
@@ -82,7 +87,7 @@ argument_of Name b = onward (word_of (fits_of NameWord) b) (λ n x. ends_with (S
 argument_of Words b = numbered_of words b
 argument_of Bits b = numbered_of bits b
 argument_of Latency b = numbered_of latency b
-argument_of Polarity b = onward (word_of (fits_of HexWord) b) (λ w x. ends_with (Some (polarity w)) x)
+argument_of Polarity b = onward (hex_number_of b) (λ w x. ends_with (Some (polarity w)) x)
 argument_of Pause b = numbered_of pause b
 argument_of Scramble b = row_of b
 argument_of Backgrounds b = backgrounds_of b

@@ -1,6 +1,5 @@
 -- Inner. What the code has of a line's content, as a value.
 use Rattle.std.specs.Prelude.{◌≡◌, ℕ, ◌+◌, ◌%◌, ◌^◌, ◌==◌, true, false, not, if◌then◌else◌, nat_lt, List, [], ◌∷◌, ◌++◌, length, Option, Some, Result, Ok, Err, bit_or, bit_xor, max, option_map}
-use Rattle.std.specs.Str.Parse.{digits_value}
 use Rattle.bist_text.specs.KeyedTexts.{Statement as TextStatement}
 use Rattle.bist_text.specs.Lines.{TextLine}
 use Rattle.bist_text.specs.keyed.Texts.{all_stated}
@@ -18,28 +17,22 @@ use Rattle.memory_desc.specs.declared.content.Statement.{Statement as ReadStatem
 use Rattle.memory_desc.specs.declared.content.Subject.{Subject}
 use Rattle.memory_desc.specs.declared.content.Subject.TheVariants as S
 use Rattle.memory_desc.specs.declared.content.WordList.{WordList}
-use Rattle.memory_desc.specs.declared.row_reader.Summand.{Summand}
-use Rattle.memory_desc.specs.declared.row_reader.Summand.TheVariants.{IndexBit, Constant}
 
 -- ---- rows
 
-abbrev pub summand : Term → Summand
-summand (index_bit ds) = IndexBit (digits_value 10 ds)
-summand (constant b) = Constant b
-
 -- index bits past those of any address are only known by the greatest
-abbrev pub with_term : Row → Summand → Row
-with_term r (IndexBit bit) = record {
+abbrev pub with_term : Row → Term → Row
+with_term r (index_bit bit) = record {
   bit = r.bit;
   names = if nat_lt bit 16 then bit_xor r.names (2 ^ bit % 65536) else r.names;
   constant = r.constant;
   highest = max r.highest bit;
 }
-with_term r (Constant false) = r
-with_term r (Constant true) = record { bit = r.bit; names = r.names; constant = not r.constant; highest = r.highest }
+with_term r (constant false) = r
+with_term r (constant true) = record { bit = r.bit; names = r.names; constant = not r.constant; highest = r.highest }
 
 abbrev pub with_terms : Row → List Term → Row
-with_terms = gathered (λ r t. with_term r (summand t))
+with_terms = gathered with_term
 
 abbrev pub begun_row : ℕ → Row
 begun_row bit = record { bit = bit; names = 0; constant = false; highest = 0 }
@@ -58,8 +51,8 @@ plain_words r = record { first = r.first.items; count = r.count; union = r.union
 abbrev pub with_word : SeenWords → ℕ → SeenWords
 with_word r w = record { first = if length r.first == 8 then r.first else r.first ++ w ∷ []; count = r.count + 1; union = bit_or r.union w }
 
-abbrev pub with_words : SeenWords → List (List ℕ) → SeenWords
-with_words = gathered (λ r w. with_word r (digits_value 16 w))
+abbrev pub with_words : SeenWords → List ℕ → SeenWords
+with_words = gathered with_word
 
 abbrev pub no_words : SeenWords
 no_words = record { first = []; count = 0; union = 0 }
@@ -75,14 +68,14 @@ pub data Seen : Type 0 where
   listed : SeenWords → Seen
 
 abbrev pub seen : Content → Seen
-seen (version ds) = numbered Memory (digits_value 10 ds)
+seen (version n) = numbered Memory n
 seen (name b) = named b
-seen (words ds) = numbered Words (digits_value 10 ds)
-seen (bits ds) = numbered Bits (digits_value 10 ds)
-seen (latency ds) = numbered Latency (digits_value 10 ds)
-seen (polarity w) = inverted (digits_value 16 w)
-seen (pause ds) = numbered Pause (digits_value 10 ds)
-seen (scramble i ts) = row (with_terms (begun_row (digits_value 10 i)) ts)
+seen (words n) = numbered Words n
+seen (bits n) = numbered Bits n
+seen (latency n) = numbered Latency n
+seen (polarity w) = inverted w
+seen (pause n) = numbered Pause n
+seen (scramble i ts) = row (with_terms (begun_row i) ts)
 seen log = log_set
 seen (backgrounds ws) = listed (with_words no_words ws)
 

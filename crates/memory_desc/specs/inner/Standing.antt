@@ -1,6 +1,5 @@
 -- Inner. What parts of the reader answer, said of the statements of the text.
 use Rattle.std.specs.Prelude.{◌≡◌, ◌⊎◌, ◌<◌, ◌≤◌, ℕ, Bool, true, false, List, [], ◌∷◌, length, take, Contains, Option, Some, None, Result, Ok, Err, bit_or, max}
-use Rattle.std.specs.Str.Parse.{digits_value}
 use Rattle.scrambler.specs.declared.matrix.Matrix.{Matrix}
 use Rattle.scrambler.specs.Scrambling.{Scrambling, IsLeastDependence, matrix_of}
 use Rattle.memory_desc.specs.Described.{IsScrambling}
@@ -10,7 +9,7 @@ use Rattle.memory_desc.specs.Statements.{Statement, version_of}
 use Rattle.memory_desc.specs.declared.content.Key.TheVariants.{Memory}
 use Rattle.memory_desc.specs.declared.content.Version.{Version}
 use Rattle.memory_desc.specs.Subjects.{about}
-use Rattle.memory_desc.specs.Values.{number_in, latency_in, pause_in, index_bits, constant_of, word_values, matrix_said, name_said, words_said, bits_said, AreBackgrounds}
+use Rattle.memory_desc.specs.Values.{number_in, latency_in, pause_in, index_bits, constant_of, matrix_said, name_said, words_said, bits_said, AreBackgrounds}
 use Rattle.memory_desc.specs.Table.{is_scrambled, missing, missing_row, unrowed, unserved}
 use Rattle.memory_desc.specs.declared.content.Subject.{Subject}
 use Rattle.memory_desc.specs.declared.content.Subject.TheVariants.{Words as OfWords, Bits as OfBits, Latency as OfLatency, Pause as OfPause}
@@ -76,12 +75,12 @@ value_in q o = number_in o
 -- the greatest index bit that is named
 abbrev pub highest_of : List Term → ℕ
 highest_of [] = 0
-highest_of (index_bit ds ∷ ts) = max (digits_value 10 ds) (highest_of ts)
+highest_of (index_bit n ∷ ts) = max n (highest_of ts)
 highest_of (constant b ∷ ts) = highest_of ts
 
 -- a row is read as these terms
-pub record IsRow (i : List ℕ) (ts : List Term) (row : Row) : Type 0 where
-  pub bit : row.bit ≡ digits_value 10 i
+pub record IsRow (i : ℕ) (ts : List Term) (row : Row) : Type 0 where
+  pub bit : row.bit ≡ i
   pub highest : row.highest ≡ highest_of ts
   pub names : highest_of ts < 16 → row.names ≡ index_bits ts
   pub constant : row.constant ≡ constant_of ts
@@ -92,10 +91,10 @@ union_of [] = 0
 union_of (w ∷ ws) = bit_or w (union_of ws)
 
 -- words are read: the first eight, how many there are, and each bit that some have
-pub record AreWords (ws : List (List ℕ)) (r : WordList) : Type 0 where
-  pub first : r.first.items ≡ take 8 (word_values ws)
+pub record AreWords (ws : List ℕ) (r : WordList) : Type 0 where
+  pub first : r.first.items ≡ take 8 ws
   pub count : r.count ≡ length ws
-  pub union : r.union ≡ union_of (word_values ws)
+  pub union : r.union ≡ union_of ws
 
 -- ---- what the lines say
 
