@@ -1,6 +1,7 @@
 -- The rows of the scrambling, one after another.
-use Rattle.memory_desc.proofs.Common.{Content, IsSome, content_of, Option, option_map, plain_content, none_at, find, sym, too_wide, Bool, List, MemoryFault, Missing, None, Some, Statement, Term, [], about, add-one, ap, ap₂, arith, bit_or, cases_lt, constant, constant_of, false, from_bool, index_bit, index_bits, inl, inr, is_term_too_wide, leb-false, length, list_any, lit<, missing, missing_row, nat_le, or_else, or_parts, pow-lt, pow_pos, refl, replicate, rows_said, said_there, scramble, slice_set, subst, suc, take, take-suc-set, terms_in, terms_said, there, true, unless_there, xor_lt, zero, ℕ, ◌%◌, ◌*◌, ◌++◌, ◌+◌, ◌<◌, ◌^◌, ◌∙◌, ◌∷◌, ◌≡◌, ◌≤◌}
+use Rattle.memory_desc.proofs.Common.{IsWithin, Scrambling, get_or-set_other, get_or-set_same, length-set, matrix_of, matrix_said, number-below, slice_index, ◌≢◌, Content, IsSome, content_of, Option, option_map, plain_content, none_at, find, sym, too_wide, Bool, List, MemoryFault, Missing, None, Some, Statement, Term, [], about, add-one, ap, ap₂, arith, bit_or, cases_lt, constant, constant_of, false, from_bool, index_bit, index_bits, inl, inr, is_term_too_wide, leb-false, length, list_any, lit<, missing, missing_row, nat_le, or_else, or_parts, pow-lt, pow_pos, refl, replicate, rows_said, said_there, scramble, slice_set, subst, suc, take, terms_in, terms_said, there, true, unless_there, xor_lt, zero, ℕ, ◌%◌, ◌*◌, ◌++◌, ◌+◌, ◌<◌, ◌^◌, ◌∙◌, ◌∷◌, ◌≡◌, ◌≤◌}
 use Rattle.scrambler.specs.Linear.{number}
+use Rattle.std.proofs.Math.Seq.{take-suc}
 use Rattle.scrambler.proofs.Steps.{product_begun, product_more}
 use Rattle.memory_desc.specs.Subjects.{said}
 use Rattle.memory_desc.specs.declared.content.Subject.TheVariants.{Row as BitRow}
@@ -8,7 +9,6 @@ use Rattle.memory_desc.specs.declared.fault.Field.TheVariants.{Row as RowField}
 use Rattle.memory_desc.specs.Described.{is_too_wide}
 use Rattle.memory_desc.specs.declared.content.Content.{Content as ReadContent}
 use Rattle.memory_desc.specs.declared.fault.MemoryFault.TheVariants.{OutOfRange}
-use Rattle.memory_desc.proofs.Parts.{RowsFit, rows_begun, rows_more}
 use Rattle.memory_desc.proofs.Within.{Passes, passes}
 
 -- ---- a row
@@ -46,13 +46,17 @@ terms_within ss width size bit h = go (said (BitRow bit) ss) (passes (BitRow bit
 
 -- ---- the rows so far
 
+abbrev bit_said : List Statement → ℕ → ℕ
+bit_said ss i = from_bool (constant_of (terms_said ss i))
+
 pub record RowsAre (ss : List Statement) (bit : ℕ) (rows : List ℕ) (constants : ℕ) : Type 0 where
   pub there : missing_row ss bit ≡ None
-  pub rows_are : take bit rows ≡ rows_said ss bit
-  pub constants_are : constants ≡ number (λ i. from_bool (constant_of (terms_said ss i))) bit
+  pub count : length rows ≡ 16
+  pub each : (i : ℕ) → i < bit → slice_index rows i ≡ index_bits (terms_said ss i)
+  pub constants_are : constants ≡ number (bit_said ss) bit
 
-pub rows_are_begun : (ss : List Statement) (rows : List ℕ) → RowsAre ss 0 rows 0
-rows_are_begun ss rows = record { there = refl; rows_are = refl; constants_are = product_begun (λ i. from_bool (constant_of (terms_said ss i))) }
+pub rows_begun : (ss : List Statement) → RowsAre ss 0 (replicate 16 0) 0
+rows_begun ss = record { there = refl; count = refl; each = λ i l. absurd (omega arith); constants_are = product_begun (bit_said ss) }
 
 byte_of : (b : Bool) → from_bool b < 2
 byte_of false = lit< tt
@@ -70,40 +74,41 @@ pub row_missing : (ss : List Statement) (width bit : ℕ) (fault : MemoryFault) 
 row_missing ss width bit fault h l m = missing_kept ss (suc bit) width fault (ap (λ r. or_else r (missing (BitRow bit) (RowField bit) ss)) h ∙ m) l
 
 -- one more row
-module _ (ss : List Statement) (width bit : ℕ) (rows : List ℕ) (constants names : ℕ) (named : Bool) (count : length rows ≡ 16) (below : bit < width) (narrow : width ≤ 16)
-    (given : IsSome (about (BitRow bit) ss)) (names_are : names ≡ index_bits (terms_said ss bit)) (named_is : named ≡ constant_of (terms_said ss bit)) (so_far : RowsAre ss bit rows constants) where
-  there_more : missing_row ss (suc bit) ≡ None
-  there_more = ap (λ r. or_else r (missing (BitRow bit) (RowField bit) ss)) so_far.there ∙ there (Missing (RowField bit)) (about (BitRow bit) ss) given
-
-  rows_are_more_at : take (suc bit) (slice_set rows bit names) ≡ rows_said ss (suc bit)
-  rows_are_more_at = take-suc-set rows bit names (omega arith) ∙ ap₂ (λ (xs : List ℕ) (x : ℕ). xs ++ x ∷ []) so_far.rows_are names_are
-
-  constants_more : bit_or constants (from_bool named * 2 ^ bit % 65536) ≡ number (λ i. from_bool (constant_of (terms_said ss i))) (bit + 1)
-  constants_more =
-      ap (λ (b : Bool). bit_or constants (from_bool b * 2 ^ bit % 65536)) named_is
-      ∙ product_more (λ i. from_bool (constant_of (terms_said ss i))) bit constants (λ j. byte_of (constant_of (terms_said ss j))) (omega arith) so_far.constants_are
-
-  rows_are_more : RowsAre ss (bit + 1) (slice_set rows bit names) (bit_or constants (from_bool named * 2 ^ bit % 65536))
-  rows_are_more = record {
-    there = subst (λ (n : ℕ). missing_row ss n ≡ None) (sym (add-one bit)) there_more;
-    rows_are = subst (λ (n : ℕ). take n (slice_set rows bit names) ≡ rows_said ss n) (sym (add-one bit)) rows_are_more_at;
-    constants_are = constants_more;
-  }
+pub rows_more : (ss : List Statement) (width bit : ℕ) (rows : List ℕ) (constants names : ℕ) (named : Bool) → bit < width → width ≤ 16 → IsSome (about (BitRow bit) ss)
+    → names ≡ index_bits (terms_said ss bit) → named ≡ constant_of (terms_said ss bit) → RowsAre ss bit rows constants
+    → RowsAre ss (bit + 1) (slice_set rows bit names) (bit_or constants (from_bool named * 2 ^ bit % 65536))
+rows_more ss width bit rows constants names named below narrow given n k s = record {
+  there = rw add-one (ap (λ r. or_else r (missing (BitRow bit) (RowField bit) ss)) s.there ∙ there (Missing (RowField bit)) (about (BitRow bit) ss) given);
+  count = length-set rows bit names ∙ s.count;
+  each = λ i l. elim (cases_lt i bit) [
+    | inl q ↦ let other : i ≢ bit = omega arith in get_or-set_other rows bit i names 0 other ∙ s.each i q
+    | inr q ↦ let e : bit ≡ i = omega arith in
+        subst (λ (i : ℕ). slice_index (slice_set rows bit names) i ≡ index_bits (terms_said ss i)) e (get_or-set_same rows bit names 0 (let sixteen = s.count in omega arith) ∙ n)
+  ];
+  constants_are =
+      ap (λ (b : Bool). bit_or constants (from_bool b * 2 ^ bit % 65536)) k ∙ product_more (bit_said ss) bit constants (λ j. byte_of (constant_of (terms_said ss j))) (omega arith) s.constants_are;
+}
 
 -- ---- the whole matrix
 
--- what the loop over the rows keeps
-pub record Gathered (ss : List Statement) (width bit : ℕ) (rows : List ℕ) (constants : ℕ) : Type 0 where
-  pub fits : RowsFit width rows constants
-  pub so_far : RowsAre ss bit rows constants
+taken : (ss : List Statement) (rows : List ℕ) (n : ℕ) → n ≤ length rows → ((i : ℕ) → i < n → slice_index rows i ≡ index_bits (terms_said ss i)) → take n rows ≡ rows_said ss n
+taken ss rows zero l f = refl
+taken ss rows (suc n) l f =
+    take-suc rows n 0 (omega arith) ∙ ap₂ (λ (xs : List ℕ) (x : ℕ). xs ++ x ∷ []) (taken ss rows n (omega arith) (λ i p. f i (omega arith))) (f n (omega arith))
 
-pub gathered_begun : (ss : List Statement) (width : ℕ) → Gathered ss width 0 (replicate 16 0) 0
-gathered_begun ss width = record { fits = rows_begun width; so_far = rows_are_begun ss (replicate 16 0) }
+module _ (ss : List Statement) (width bit : ℕ) (rows : List ℕ) (constants : ℕ) (narrow : width ≤ 16) (end : bit ≡ width) (s : RowsAre ss bit rows constants) where
+  whole : RowsAre ss width rows constants
+  whole = subst (λ n. RowsAre ss n rows constants) end s
 
-pub gathered_more : (ss : List Statement) (width size bit : ℕ) (rows : List ℕ) (constants names : ℕ) (named : Bool) → bit < width → width ≤ 16 → too_wide ss width size ≡ None
-    → IsSome (about (BitRow bit) ss) → names ≡ index_bits (terms_said ss bit) → named ≡ constant_of (terms_said ss bit) → Gathered ss width bit rows constants
-    → Gathered ss width (bit + 1) (slice_set rows bit names) (bit_or constants (from_bool named * 2 ^ bit % 65536))
-gathered_more ss width size bit rows constants names named below narrow fit given n k g = record {
-  fits = rows_more width rows constants bit names named g.fits (subst (λ (x : ℕ). x < 2 ^ width) (sym n) (terms_fit width (terms_said ss bit) (terms_within ss width size bit fit))) below narrow;
-  so_far = rows_are_more ss width bit rows constants names named g.fits.count below narrow given n k g.so_far;
-}
+  pub matrix_is : (missing_row ss width ≡ None) × (matrix_of width rows constants ≡ matrix_said ss width)
+  matrix_is =
+      let made : List ℕ → ℕ → Scrambling = λ rows constants. record { width = width; rows = rows; constant = constants } in
+      (whole.there, ap₂ made (taken ss rows width (let sixteen = whole.count in omega arith) whole.each) whole.constants_are)
+
+  pub rows_within : (size : ℕ) → too_wide ss width size ≡ None → 1 ≤ width → IsWithin width rows constants
+  rows_within size fit some = record {
+    positive = some;
+    narrow = narrow;
+    rows_fit = λ i l. subst (λ (x : ℕ). x < 2 ^ width) (sym (whole.each i l)) (terms_fit width (terms_said ss i) (terms_within ss width size i fit));
+    constant_fits = subst (λ (x : ℕ). x < 2 ^ width) (sym whole.constants_are) (number-below (bit_said ss) width (λ i _. byte_of (constant_of (terms_said ss i))));
+  }

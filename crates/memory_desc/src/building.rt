@@ -51,7 +51,6 @@ fn row_of(terms: Terms<'_>) -> Row
 }
 
 /// The matrix of the rows; each row of the address must be there.
-#[tactic(auto, using(crate::proofs::Parts::rows_within))]
 fn matrix_from(bytes: &[u8], width: u8) -> Result<Matrix, MemoryFault>
     requires width { (1 ≤ width) × (width ≤ 16) }
     requires fit { (size : ℕ) × (too_wide (statements (text_lines bytes.now)) width size ≡ None) }

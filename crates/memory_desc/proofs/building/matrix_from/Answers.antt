@@ -1,10 +1,10 @@
-use Rattle.memory_desc.proofs.Common.{ap, constant_of, index_bits, is_term_too_wide, list_any, text_lines, ◌∙◌}
+use Rattle.memory_desc.proofs.Common.{ap, arith, refl, constant_of, index_bits, is_term_too_wide, list_any, text_lines, ◌∙◌}
 use Rattle.memory_desc.specs.inner.Heard.{statements}
-use Rattle.memory_desc.proofs.Rows.{gathered_begun, gathered_more, none_there, row_missing, row_there, terms_are, terms_within}
+use Rattle.memory_desc.proofs.Rows.{matrix_is, none_there, row_missing, row_there, rows_begun, rows_more, rows_within, terms_are, terms_within}
 use Rattle.memory_desc.proofs.building.matrix_from.Goals as goal
 
 pub loop-bit-init : goal.loop-bit-init
-loop-bit-init c = gathered_begun (statements (text_lines c.args.bytes.now)) c.args.width
+loop-bit-init c = rows_begun (statements (text_lines c.args.bytes.now))
 
 pub row_of-row-requires : goal.row_of-row-requires
 row_of-row-requires c =
@@ -18,11 +18,21 @@ loop-bit-preserved c =
     let l = c.loop-bit in
     let row = c.row_of-row in
     let same = c.terms_in.ensures ∙ terms_are l.bit ss c.content_about.result c.from.ensures c.content_about.ensures c.in-Some.content c.in-Some.is in
-    gathered_more ss c.args.width c.requires.fit.0 l.bit l.rows l.constant row.result.names row.result.constant c.loop-bit-test.true c.requires.width.1 c.requires.fit.1
+    rows_more ss c.args.width l.bit l.rows l.constant row.result.names row.result.constant c.loop-bit-test.true c.requires.width.1
     (row_there l.bit ss c.content_about.result c.from.ensures c.content_about.ensures c.in-Some.content c.in-Some.is) (row.ensures.names ∙ ap index_bits same) (row.ensures.constant ∙ ap constant_of same) l.invariant
 
 pub returns-in_default-clause-rows : goal.returns-in_default-clause-rows
 returns-in_default-clause-rows c =
     let ss = statements (text_lines c.args.bytes.now) in
     let l = c.loop-bit in
-    row_missing ss c.args.width l.bit _ l.invariant.so_far.there c.loop-bit-test.true (none_there l.bit ss c.content_about.result c.from.ensures c.content_about.ensures c.in_default.is)
+    row_missing ss c.args.width l.bit _ l.invariant.there c.loop-bit-test.true (none_there l.bit ss c.content_about.result c.from.ensures c.content_about.ensures c.in_default.is)
+
+pub returns-clause-within : goal.returns-clause-within
+returns-clause-within c =
+    let l = c.loop-bit in
+    let fit = c.requires.fit in
+    (refl, rows_within (statements (text_lines c.args.bytes.now)) c.args.width l.bit l.rows l.constant c.requires.width.1 (omega (arith, l.auto.bit-end, c.loop-bit-test.false)) l.invariant fit.0 fit.1 c.requires.width.0)
+
+pub returns-clause-rows : goal.returns-clause-rows
+returns-clause-rows c =
+    let l = c.loop-bit in matrix_is (statements (text_lines c.args.bytes.now)) c.args.width l.bit l.rows l.constant c.requires.width.1 (omega (arith, l.auto.bit-end, c.loop-bit-test.false)) l.invariant
