@@ -3,7 +3,7 @@ pub use Rattle.std.proofs.Common.{Bool, Err, List, None, Ok, Option, Result, Som
 pub use Rattle.std.proofs.lemmas.Bool.{and_from, and_parts, eq-eqb, eqb-true, lt-ltb, ltb-true}
 pub use Rattle.std.specs.List.{list_all}
 pub use Rattle.std.specs.Option.{IsSome}
-pub use Rattle.std.specs.Prelude.{MatchResult, get_or, nat_lt, option_map, slice_get}
+pub use Rattle.std.specs.Prelude.{MatchResult, get_or, nat_le, nat_lt, option_map, slice_get}
 pub use Rattle.std.specs.Str.Parse.{AllDigits, digits_value}
 pub use Rattle.bist_text.proofs.KeywordLaws.{IsOf, spell_alive, spell_ends, spell_law, stands_all}
 pub use Rattle.bist_text.proofs.LinePieces.{apart, at_bool, gap_off, gap_on, of_blank, space_off, space_on, tail_blank, tail_other, when_false, when_holds, when_true}

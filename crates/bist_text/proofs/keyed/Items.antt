@@ -1,5 +1,5 @@
 -- Items one after another, where each takes a byte at least.
-use Rattle.bist_text.proofs.keyed.Common.{Class, List, None, Option, Read, Some, [], ap, arith, at_bool, behind_of, by_item, comment_of, front_of, gathered, if◌then◌else◌, is_blank, items_from, items_of, later, length, onward, option_map, refl, remark_of, spaced, stuck, suc, sym, took, word_of, zero, zero-le, ℕ, ◌-◌, ◌<◌, ◌==◌, ◌∙◌, ◌∷◌, ◌≡◌, ◌≤◌}
+use Rattle.bist_text.proofs.keyed.Common.{Bool, by_byte, Class, List, None, Option, Read, Some, [], ap, arith, at_bool, behind_of, by_item, comment_of, front_of, gathered, if◌then◌else◌, is_blank, items_from, items_of, later, length, onward, option_map, refl, remark_of, spaced, stuck, suc, sym, took, word_of, zero, zero-le, ℕ, ◌-◌, ◌<◌, ◌==◌, ◌∙◌, ◌∷◌, ◌≡◌, ◌≤◌}
 
 pub onward_on : {A B C : Type 0} (o : Read A) (f : A → List ℕ → Read B) (g : B → List ℕ → Read C) → onward (onward o f) g ≡ onward o (λ a x. onward (f a x) g)
 onward_on (took a x) f g = refl
@@ -67,6 +67,12 @@ some_shortens m n (stuck x) h l = tt
 pub remark_shortens : (A : Type 0) (n : ℕ) (b : List ℕ) → Shortens {A = A} n (remark_of None b)
 remark_shortens A n [] = tt
 remark_shortens A n (c ∷ b) = at_bool (λ t. Shortens {A = A} n (onward (if t then took tt [] else stuck (c ∷ b)) (λ _ x. took None x))) (c == 35) (λ e. tt) (λ e. tt)
+
+-- a next item by the next byte, where there is one
+pub choice_shortens : {A : Type 0} (n : ℕ) (p : ℕ → Bool) (m : List ℕ → Read (Option A)) (b : List ℕ) → length b ≤ n → ((y : List ℕ) → length y ≤ n → Shortens n (m y))
+    → Shortens n (by_byte p m (remark_of None) (took None []) b)
+choice_shortens n p m [] l h = tt
+choice_shortens {A} n p m (c ∷ b) l h = at_bool (λ t. Shortens n (if t then m (c ∷ b) else remark_of None (c ∷ b))) (p c) (λ e. h (c ∷ b) l) (λ e. remark_shortens A n (c ∷ b))
 
 pub word_shortens : (fits : Class) (b : List ℕ) → Shortens (length b) (onward (word_of fits b) (λ w x. took (Some w) x))
 word_shortens fits [] = tt
