@@ -7,7 +7,7 @@ use Rattle.bist_text.proofs.keyed.Listed.{Begins, IsItem, by_first, choice_told}
 use Rattle.bist_text.proofs.keyed.PartLaws.{Either, Ends, Hears, word_never, word_none}
 use Rattle.bist_text.proofs.keyed.Taken.{Takes, hex_digits, value_taken}
 use Rattle.memory_desc.specs.LineText.{hex_word, is_word}
-use Rattle.memory_desc.specs.inner.Heard.{hex_number_of}
+use Rattle.bist_text.specs.keyed.Parts.{hex_number_of}
 
 pub hex_taken : {A V : Type 0} {n : ℕ} {f : ℕ → A → V} {T : ℕ → A → List ℕ → Type 0} {r : ℕ → List ℕ → Read V} → ((w : ℕ) → Takes n is_hex (f w) (T w) (r w))
     → Takes n is_blank (λ (q : ℕ × A). f q.0 q.1) (λ q. hex_word q.0 (T q.0 q.1)) (λ b. onward (hex_number_of b) r)

@@ -19,6 +19,6 @@ pub use Rattle.bist_text.specs.Machine.{Holds, Outcome, read, truncated, unexpec
 pub use Rattle.bist_text.specs.inner.Keywords.{all_words, are_apart, left, stands}
 pub use Rattle.bist_text.specs.inner.Machine.{Answers, IsExact}
 pub use Rattle.bist_text.specs.keyed.Lines.{answer, keyed_of, line_of}
-pub use Rattle.bist_text.specs.keyed.Parts.{Class, all_fit, all_of, begun_by, behind_of, by_byte, by_item, by_letter, byte_of, comment_of, end_of, ends_with, fits_of, front_of, gap_of, gathered, is_hash, is_hex_digit, is_word, items_from, items_of, key_from, key_of, later, length_of, no_letters, number_of, remark_of, spaced, up_to, word_of}
+pub use Rattle.bist_text.specs.keyed.Parts.{Class, all_fit, all_of, begun_by, behind_of, by_byte, by_item, by_letter, byte_of, comment_of, end_of, ends_with, fits_of, front_of, gap_of, is_hash, is_hex_digit, is_word, items_from, items_of, key_from, key_of, later, length_of, no_letters, number_of, remark_of, spaced, up_to, word_of}
 pub use Rattle.bist_text.specs.keyed.Reading.{Read, onward, outcome, stuck, took}
 pub use Rattle.bist_text.specs.keyed.Texts.{all_stated, carried, checked, said_in, step, versions, walk}
