@@ -1,5 +1,5 @@
 -- The backgrounds that are chosen, and that they serve a memory.
-use Rattle.memory_desc.proofs.Common.{All, Contains, Content, GivesBackgrounds, IsBackgrounds, IsLogSet, List, NoSolidBackground, None, Ok, Option, Some, Statement, TooManyBackgrounds, [], arith, backgrounds, eq-eqb, eqb-true, false, find, first_refusal, get_or, inl, inr, le-ltb, leb-false, length, list_any, lt-ltb, nat_le, or_cases, or_left, or_parts, or_right, refl, slice_index, subst, suc, sym, too_many, true, unserved, without_solid, zero, ℕ, ◌<◌, ◌==◌, ◌^◌, ◌∷◌, ◌≡◌, ◌≤◌}
+use Rattle.memory_desc.proofs.Common.{All, Contains, Content, GivesBackgrounds, IsBackgrounds, List, None, Ok, Option, Some, Statement, [], arith, backgrounds, eq-eqb, false, find, first_refusal, get_or, le-ltb, leb-false, length, list_any, nat_le, or_left, or_parts, or_right, refl, slice_index, subst, suc, sym, too_many, true, without_solid, zero, ℕ, ◌<◌, ◌==◌, ◌^◌, ◌∷◌, ◌≡◌, ◌≤◌}
 use Rattle.memory_desc.specs.Subjects.{said}
 use Rattle.memory_desc.specs.Described.{is_too_wide}
 use Rattle.memory_desc.specs.declared.content.Subject.TheVariants.{Backgrounds}
@@ -7,13 +7,6 @@ use Rattle.memory_desc.proofs.Parts.{log_set_serves}
 use Rattle.memory_desc.proofs.Within.{Passes, passes}
 
 -- ---- whether one is 0
-
-zero_in : (set : List ℕ) → list_any (λ w. w == 0) set ≡ true → Contains set 0
-zero_in [] e = (let z : ⊥ = cc in absurd z)
-zero_in (w ∷ set) e = elim (or_cases (w == 0) (list_any (λ v. v == 0) set) e) [
-  | inl h ↦ (0, omega arith, eqb-true w 0 h)
-  | inr h ↦ (let c = zero_in set h in (suc c.0, (let l = c.1 in omega arith), c.2))
-]
 
 zero_found : (set : List ℕ) (k : ℕ) → k < length set → slice_index set k ≡ 0 → list_any (λ w. w == 0) set ≡ true
 zero_found [] k l e = absurd (omega arith)
@@ -25,16 +18,6 @@ zero_found (w ∷ set) (suc k) l e = or_right (w == 0) (list_any (λ v. v == 0) 
 -- at most 8 words of which one is 0 are not refused
 pub served : (set : List ℕ) → length set ≤ 8 → Contains set 0 → first_refusal (too_many set ∷ without_solid set ∷ []) ≡ None
 served set few c = rw (le-ltb 8 (length set) few, zero_found set c.0 c.1 c.2) refl
-
-pub many_refused : (ws : List ℕ) → 8 < length ws → unserved (Some (backgrounds ws)) ≡ Some TooManyBackgrounds
-many_refused ws h = rw (lt-ltb 8 (length ws) h) refl
-
-module _ (ws set : List ℕ) (same : set ≡ ws) (few : length set ≤ 8) where
-  pub unsolid_refused : list_any (λ w. w == 0) set ≡ false → unserved (Some (backgrounds ws)) ≡ Some NoSolidBackground
-  unsolid_refused none = subst (λ ws. unserved (Some (backgrounds ws)) ≡ Some NoSolidBackground) same (rw (le-ltb 8 (length set) few, none) refl)
-
-  pub serves : (size : ℕ) → list_any (λ w. w == 0) set ≡ true → GivesBackgrounds (Some (backgrounds ws)) size (Ok set)
-  serves size some = (same, few, zero_in set some)
 
 -- ---- what is chosen serves a memory
 
@@ -54,8 +37,3 @@ chosen_serves ss width size set h n r = go (said Backgrounds ss) (passes Backgro
       solid = r.2;
     }
     go o f r = log_set_serves size set h r.0
-
--- the logarithmic set, where no words are listed
-pub log_chosen : (o : Option Content) (size : ℕ) (set : List ℕ) → ((ws : List ℕ) → o ≡ Some (backgrounds ws) → ⊥) → size ≤ 64 → IsLogSet size set → GivesBackgrounds o size (Ok set)
-log_chosen (Some (backgrounds ws)) size set n h s = absurd (n ws refl)
-log_chosen o size set n h s = (let b = log_set_serves size set h s in (s, b.few, b.solid))

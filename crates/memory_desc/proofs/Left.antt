@@ -1,15 +1,11 @@
 -- What is left of the items of a line, where they are read one after another.
-use Rattle.memory_desc.proofs.Common.{IsNext, IsWhole, List, None, length, ◌<◌, Option, Read, Some, [], ap, items_in, onward, refl, stuck, sym, took, ℕ, ◌∙◌, ◌∷◌, ◌≡◌}
+use Rattle.memory_desc.proofs.Common.{IsNext, IsWhole, List, None, length, ◌<◌, Option, Read, Some, ap, items_in, onward, stuck, sym, took, ℕ, ◌∙◌, ◌∷◌, ◌≡◌}
 use Rattle.bist_text.specs.keyed.Parts.{items_of}
 use Rattle.bist_text.proofs.keyed.Items.{items_on, items_end, items_stuck, made_of, next_shorter, unmade}
 
 -- how items end, whatever they are
 abbrev pub Ended : {A : Type 0} → Read A → Read (Unit {0})
 Ended o = onward o (λ _ x. took tt x)
-
-same_in : {A : Type 0} (o : Read (List A)) → items_in (onward o (λ xs x. took xs x)) ≡ items_in o
-same_in (took xs x) = refl
-same_in (stuck x) = refl
 
 module _ {A : Type 0} (next : List ℕ → Read (Option A)) (is_next : IsNext next) where
   -- ---- the loop to their end
@@ -35,9 +31,3 @@ module _ {A : Type 0} (next : List ℕ → Read (Option A)) (is_next : IsNext ne
       go (took xs y) (took ys z) e w = (tt, (let same : xs ≡ a ∷ ys = cc in same))
       go (took xs y) (stuck z) e w = (let z : ⊥ = cc in absurd z)
       go (stuck y) p e w = absurd w
-
-  pub none_left : (b x : List ℕ) → next b ≡ took None x → items_in (items_of next b) ≡ []
-  none_left b x e = sym (same_in (items_of next b)) ∙ ap items_in (items_end next is_next (λ xs. xs) b x e)
-
-  pub stuck_left : (b x : List ℕ) → next b ≡ stuck x → items_in (items_of next b) ≡ []
-  stuck_left b x e = sym (same_in (items_of next b)) ∙ ap items_in (items_stuck next is_next (λ xs. xs) b x e)
