@@ -12,6 +12,6 @@ pub mod Settled
 pub mod KeywordLaws
 pub mod LinePieces
 pub mod LineStops
-pub mod RunPieces
+pub mod Carried
 pub mod Blanks
 pub mod keyed

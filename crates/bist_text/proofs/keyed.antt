@@ -4,7 +4,9 @@ pub mod PartLaws
 pub mod Classes
 pub mod Numbers
 pub mod Steps
-pub mod LineLaws
+pub mod Taken
+pub mod Table
+pub mod Listed
 pub mod Items
 pub mod Checks
 pub mod Texts

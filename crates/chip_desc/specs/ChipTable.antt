@@ -110,8 +110,13 @@ of_lines (T.Unexpected line byte) = Unexpected line byte
 of_lines T.Truncated = Truncated
 of_lines T.OtherVersion = OtherVersion
 
+-- the chip that statements describe, or their refusal
+abbrev pub by_statements : Option ChipFault → List Statement → Result ChipDescription ChipFault
+by_statements None ss = Ok (described ss)
+by_statements (Some fault) ss = Err fault
+
 -- What a text is read as: a line is refused, or its statements are refused or describe a chip.
-abbrev pub Reads : List ℕ → Result ChipDescription ChipFault → Type 0
-Reads bytes (Ok d) = (ss : List Statement) × AreStatements bytes ss × (refusal ss ≡ None) × (d ≡ described ss)
-Reads bytes (Err fault) =
-    ((f : TextFault) × AreRefused ContentText stands version_in (text_lines bytes) None f × (fault ≡ of_lines f)) ⊎ ((ss : List Statement) × AreStatements bytes ss × (refusal ss ≡ Some fault))
+unfoldable pub Reads : List ℕ → Result ChipDescription ChipFault → Type 0
+Reads bytes r =
+    ((fault : TextFault) × AreRefused ContentText stands version_in (text_lines bytes) None fault × (r ≡ Err (of_lines fault)))
+    ⊎ ((ss : List Statement) × AreStatements bytes ss × (r ≡ by_statements (refusal ss) ss))

@@ -23,14 +23,12 @@ pub use Rattle.std.specs.Str.Parse.{AllDigits, digits_value}
 pub use Rattle.backgrounds.specs.Backgrounds.{IsLogSet}
 pub use Rattle.bist_bits.specs.Width.{IsWidthOf}
 pub use Rattle.bist_text.proofs.LinePieces.{apart, at_bool, gap_off, gap_on, of_blank, tail_blank, tail_other, when_false, when_holds, when_true}
-pub use Rattle.bist_text.proofs.LineStops.{IsPlain, blank_run, blank_word, no_mark, no_tail, plain_blank}
+pub use Rattle.bist_text.proofs.LineStops.{no_mark, no_tail}
 pub use Rattle.bist_text.proofs.Pieces.{at_byte, many_none, same, word_on}
-pub use Rattle.bist_text.proofs.RunPieces.{many_map, many_pull, word_map, word_pull}
 pub use Rattle.bist_text.proofs.keyed.Checks.{alone, here, is_there, next, none_first, passed, some_same, stopped, there}
 pub use Rattle.bist_text.proofs.keyed.Classes.{run_is}
 pub use Rattle.bist_text.proofs.keyed.Found.{found_fails, found_passes, none_at, said_found, said_there}
-pub use Rattle.bist_text.proofs.keyed.Items.{IsNext, Shortens, Shorter, gather_end, gather_on, gather_smaller, gather_stuck, items_made, longer, made_shorter, no_item, one_item, onward_on, remark_shortens, some_shortens, spaced_shorter, weaker, word_shortens}
-pub use Rattle.bist_text.proofs.keyed.LineLaws.{IsTable, begins_small, byte_only, byte_shuns, digit_begun, digit_later, digits_plain, either_shuns, one_word, remark_end, remark_only, remark_shuns, tested_word}
+pub use Rattle.bist_text.proofs.keyed.Items.{IsNext, choice_shortens, Shortens, Shorter, items_made, longer, made_shorter, no_item, one_item, onward_on, remark_shortens, some_shortens, spaced_shorter, weaker, word_shortens}
 pub use Rattle.bist_text.proofs.keyed.PartLaws.{Begun, Byte, Either, Ends, Remark, Shuns, Space, alive, byte_told, either_told, ends_told, fewer, remark_told, space_told, word_told}
 pub use Rattle.bist_text.proofs.keyed.Told.{AtEnd, Behind, Never, Told, told_from, told_iff}
 pub use Rattle.bist_text.specs.Grammar.{Continues, are_bytes, byte, is_blank, word}

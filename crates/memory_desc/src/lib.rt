@@ -29,4 +29,5 @@ mod word_reader;
 pub use fault::{Field, MemoryFault};
 pub use memory::Memory;
 pub use print::print_memory;
-pub use read::read_memory;
+pub use read::{name_from, read_memory};
+pub use search::is_name_outside;

@@ -26,7 +26,7 @@ use bist_text::keyed_lines::TextFault;
 use std::str;
 
 /// The text of a name.
-fn name_from(bytes: &[u8]) -> ArrayString<48>
+pub fn name_from(bytes: &[u8]) -> ArrayString<48>
     requires { IsName bytes.now }
     ensures { result.bytes ≡ bytes.now }
 {

@@ -123,7 +123,8 @@ fn is_outside(value: u32, least: u32, most: u32) -> bool
     value < least || value > most
 }
 
-fn is_name_outside(name: &[u8]) -> bool
+/// Whether a name has more than 48 bytes or is a reserved word.
+pub fn is_name_outside(name: &[u8]) -> bool
     ensures { result ≡ (nat_lt 48 (length name.now) || is_among name.now reserved_words) }
 {
     name.len() > 48 || is_reserved(name)

@@ -191,7 +191,7 @@ word_on {V} fits G c x v e = (
         let q = when_holds (c == d) (word w (λ y. G (d ∷ w) y v) x) k in
         (w, (and_parts (fits 0 d) (all_fit (later fits) w) a).1, subst (λ (d : ℕ). word w (λ y. G (d ∷ w) y v) x) (sym (eqb-true c d q.0)) q.1)
 
-word_never : {V : Type 0} (fits : Class) (G : List ℕ → List ℕ → V → Type 0) (c : ℕ) → fits 0 c ≡ false → Never c (Words fits G)
+pub word_never : {V : Type 0} (fits : Class) (G : List ℕ → List ℕ → V → Type 0) (c : ℕ) → fits 0 c ≡ false → Never c (Words fits G)
 word_never {V} fits G c e x v h = to h.0 h.1 h.2
   where
     to : (w : List ℕ) → is_word fits w ≡ true → word w (λ y. G w y v) (c ∷ x) → ⊥
@@ -201,7 +201,7 @@ word_never {V} fits G c e x v h = to h.0 h.1 h.2
         let i : fits 0 c ≡ true = ap (fits 0) (eqb-true c d q.0) ∙ (and_parts (fits 0 d) (all_fit (later fits) w) a).0 in
         (let z : ⊥ = cc in z)
 
-word_none : {V : Type 0} (fits : Class) (G : List ℕ → List ℕ → V → Type 0) (v : V) → Words fits G [] v → ⊥
+pub word_none : {V : Type 0} (fits : Class) (G : List ℕ → List ℕ → V → Type 0) (v : V) → Words fits G [] v → ⊥
 word_none {V} fits G v h = to h.0 h.1 h.2
   where
     to : (w : List ℕ) → is_word fits w ≡ true → word w (λ y. G w y v) [] → ⊥

@@ -13,7 +13,7 @@ use Rattle.bist_text.specs.declared.keyed_lines.Class.TheVariants.{Name as NameW
 use Rattle.bist_text.specs.declared.keyed_lines.LineFault.{LineFault}
 use Rattle.chip_desc.specs.Chips.{ChipDescription, UnitDescription}
 use Rattle.chip_desc.specs.ChipLines.{Content, version, name, budget, unit, key_text, Statement, version_in}
-use Rattle.chip_desc.specs.ChipTable.{refusal, described, of_lines}
+use Rattle.chip_desc.specs.ChipTable.{by_statements, refusal, of_lines}
 use Rattle.chip_desc.specs.declared.content.Content.{Content as ReadContent}
 use Rattle.chip_desc.specs.declared.content.Content.TheVariants as C
 use Rattle.chip_desc.specs.declared.content.Key.{Key}
@@ -81,10 +81,6 @@ plain_said (Ok v) = Ok (plain_line_content v)
 plain_said (Err f) = Err f
 
 -- ---- answers
-
-abbrev pub by_statements : Option ChipFault → List Statement → Result ChipDescription ChipFault
-by_statements None ss = Ok (described ss)
-by_statements (Some fault) ss = Err fault
 
 abbrev pub by_lines : Option TextFault → List Statement → Result ChipDescription ChipFault
 by_lines None ss = by_statements (refusal ss) ss

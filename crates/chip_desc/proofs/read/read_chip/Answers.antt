@@ -1,5 +1,5 @@
-use Rattle.chip_desc.proofs.Common.{Err, None, ap, by_lines, passed, reading, statements, stopped, sym, text_lines, version_at, walk, ◌∙◌, ◌≡◌}
-use Rattle.chip_desc.proofs.OneText.{reads_ok, reads_refused}
+use Rattle.chip_desc.proofs.Common.{Err, None, Ok, ap, by_lines, passed, reading, statements, stopped, sym, text_lines, version_at, walk, ◌∙◌, ◌≡◌}
+use Rattle.chip_desc.proofs.OneText.{reads_as}
 use Rattle.chip_desc.proofs.read.read_chip.Goals.{After-described, After-of_lines}
 use Rattle.chip_desc.proofs.read.read_chip.Goals as goal
 
@@ -9,10 +9,10 @@ described c =
     c.described.ensures ∙ sym (ap (λ o. by_lines o (statements ls)) (passed (walk version_at ls None) c.in-Ok.ensures))
 
 pub returns-in-Ok-clause-ok : goal.returns-in-Ok-clause-ok
-returns-in-Ok-clause-ok c = reads_ok c.args.bytes.now c.described.result (described c)
+returns-in-Ok-clause-ok c d = reads_as c.args.bytes.now c.described.result (described c) (Ok d)
 
 pub returns-in-Ok-clause-refused : goal.returns-in-Ok-clause-refused
-returns-in-Ok-clause-refused c = reads_refused c.args.bytes.now c.described.result (described c)
+returns-in-Ok-clause-refused c f = reads_as c.args.bytes.now c.described.result (described c) (Err f)
 
 refused : (c : After-of_lines) → Err c.of_lines.result ≡ reading c.args.bytes.now
 refused c =
@@ -20,7 +20,7 @@ refused c =
     ap Err c.of_lines.ensures ∙ sym (ap (λ o. by_lines o (statements ls)) (stopped (walk version_at ls None) c.in-Err.fault c.in-Err.ensures))
 
 pub returns-in-Err-clause-ok : goal.returns-in-Err-clause-ok
-returns-in-Err-clause-ok c = reads_ok c.args.bytes.now (Err c.of_lines.result) (refused c)
+returns-in-Err-clause-ok c d = reads_as c.args.bytes.now (Err c.of_lines.result) (refused c) (Ok d)
 
 pub returns-in-Err-clause-refused : goal.returns-in-Err-clause-refused
-returns-in-Err-clause-refused c = reads_refused c.args.bytes.now (Err c.of_lines.result) (refused c)
+returns-in-Err-clause-refused c f = reads_as c.args.bytes.now (Err c.of_lines.result) (refused c) (Err f)
