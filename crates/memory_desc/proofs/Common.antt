@@ -47,7 +47,7 @@ pub use Rattle.memory_desc.specs.Described.{AreOfMemory, IsScrambling, described
 pub use Rattle.memory_desc.specs.Descriptions.{Description, IsBackgrounds, IsMemory, assembled}
 pub use Rattle.memory_desc.specs.LineText.{Content, ContentText, Term, argument, backgrounds, bits, constant, equation, index_bit, is_formed, is_hex, key_text, kind_of, latency, log, more_terms, more_words, name, pause, polarity, scramble, version, words}
 pub use Rattle.memory_desc.specs.Names.{IsName, is_digit, is_identifier, is_letter, is_name_byte}
-pub use Rattle.memory_desc.specs.Printed.{contents, index_terms, is_plain, line_text, lines_text, one_term, printed, row_terms, rows_printed, term_text, terms_text, version_number, with_head, with_ports, with_rows, words_text}
+pub use Rattle.memory_desc.specs.Printed.{argument_text, contents, index_terms, is_plain, line_text, lines_text, one_term, printed, row_terms, rows_printed, term_text, terms_text, version_number, with_head, with_ports, with_rows, words_text}
 pub use Rattle.memory_desc.specs.Statements.{Statement, may_stand, stands, version_in}
 pub use Rattle.memory_desc.specs.Subjects.{about, content_of, is_about, is_same, subject}
 pub use Rattle.memory_desc.specs.Table.{AreRefusedBy, AreStatements, Describes, IsLast, Reads, at_line, is_other, is_row, is_term_too_wide, missing, missing_row, of_lines, out_of_range, repeated, too_many, too_wide, unfit, unrowed, unscramblable, unserved, unsized, without_solid}
