@@ -51,19 +51,18 @@ pub use Rattle.memory_desc.specs.Printed.{argument_text, contents, index_terms, 
 pub use Rattle.memory_desc.specs.Statements.{Statement, may_stand, stands, version_in}
 pub use Rattle.memory_desc.specs.Subjects.{about, content_of, is_about, is_same, subject}
 pub use Rattle.memory_desc.specs.Table.{AreRefusedBy, AreStatements, Describes, IsLast, Reads, at_line, is_other, is_row, is_term_too_wide, missing, missing_row, of_lines, out_of_range, repeated, too_many, too_wide, unfit, unrowed, unscramblable, unserved, unsized, without_solid}
-pub use Rattle.memory_desc.specs.Values.{AreBackgrounds, bits_said, constant_of, index_bits, latency_in, latency_said, matrix_said, name_in, name_said, pause_in, pause_said, polarity_in, polarity_said, rows_said, terms_in, terms_said, words_said}
+pub use Rattle.memory_desc.specs.Values.{AreBackgrounds, bits_said, constant_of, index_bits, latency_in, latency_said, matrix_said, name_in, name_said, number_in, pause_in, pause_said, polarity_in, polarity_said, rows_said, terms_in, terms_said, words_said}
 pub use Rattle.memory_desc.specs.declared.content.Key.TheVariants.{Memory, Scramble}
 pub use Rattle.memory_desc.specs.declared.content.Subject.{Subject}
 pub use Rattle.memory_desc.specs.declared.content.Version.TheVariants.{One, Two}
-pub use Rattle.memory_desc.specs.declared.content.WordList.{WordList}
 pub use Rattle.memory_desc.specs.declared.fault.MemoryFault.{MemoryFault}
 pub use Rattle.memory_desc.specs.declared.fault.MemoryFault.TheVariants.{Missing, NoSolidBackground, Repeated, ScrambleNeedsPowerOfTwo, Singular, TooManyBackgrounds}
 pub use Rattle.memory_desc.specs.declared.search.Sought.TheVariants.{About, TooWide}
-pub use Rattle.memory_desc.specs.inner.Heard.{argument_of, heard, hex_word_of, is_caret, is_l, keys_in, keys_of, listed_of, log_of, marked_term_of, next_term_of, next_word_of, row_of, spaced_word_of, term_of, version_at, words_of}
+pub use Rattle.memory_desc.specs.inner.Heard.{IsWhole, argument_of, heard, items_after, items_in, hex_word_of, is_caret, is_l, keys_in, keys_of, listed_of, log_of, marked_term_of, next_term_of, next_word_of, row_of, spaced_word_of, term_of, version_at, words_of}
 pub use Rattle.memory_desc.specs.inner.Met.{MayBeMet, MayHave}
 pub use Rattle.memory_desc.specs.inner.Printed.{Adds, number_line}
-pub use Rattle.memory_desc.specs.inner.Seeking.{IsPosed, first_sought, is_sought, tests}
-pub use Rattle.memory_desc.specs.inner.Seen.{Seen, SeenStatement, SeenWords, begun_row, inverted, listed, no_words, plain_content, plain_line_content, plain_statement, plain_words, seen, seen_statements, subject_of, with_term, with_terms, with_word, with_words}
-pub use Rattle.memory_desc.specs.inner.Standing.{AreFields, AreWords, GivesBackgrounds, GivesScrambling, IsRow, StandsAt, highest_of, is_ranged, least, most, name_in_seen, number_in_seen, polarity_in_seen, row_in_seen, union_of, value_in}
+pub use Rattle.memory_desc.specs.inner.Seeking.{IsPosed, is_sought}
+pub use Rattle.memory_desc.specs.inner.Seen.{plain_content, plain_line_content, plain_statement}
+pub use Rattle.memory_desc.specs.inner.Standing.{GivesBackgrounds, GivesScrambling}
 pub use Rattle.scrambler.proofs.LinearLemmas.{bit_at-number, dot-zero_left, dot_below, number-below, number-bits, two_digits}
 pub use Rattle.scrambler.specs.Scrambling.{IsFull, IsInvertible, IsLeastDependence, IsWithin, Scrambling, identity, is_identity, matrix_of, product}

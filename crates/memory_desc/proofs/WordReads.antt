@@ -1,10 +1,7 @@
 -- The readers of words, and the loop over those of a list.
-use Rattle.memory_desc.proofs.Common.{digits_value, sym, Bool, List, None, Read, SeenWords, Some, [], ap, backgrounds, byte_of, end_of, ends_with, fits_of, hex_word_of, if◌then◌else◌, is_hex, listed_of, log, log_of, onward, refl, remark_of, slice_index, spaced_word_of, took, true, with_words, word_of, words_of, ℕ, ◌∙◌, ◌∷◌, ◌≡◌, ◌≢◌}
+use Rattle.memory_desc.proofs.Common.{digits_value, sym, Bool, List, None, Read, Some, [], ap, backgrounds, byte_of, end_of, ends_with, fits_of, hex_word_of, if◌then◌else◌, is_hex, listed_of, log, log_of, onward, refl, remark_of, slice_index, spaced_word_of, took, true, word_of, words_of, ℕ, ◌∙◌, ◌∷◌, ◌≡◌, ◌≢◌}
 use Rattle.bist_text.specs.declared.keyed_lines.Class.TheVariants.{Word as HexWord}
 use Rattle.memory_desc.specs.inner.Heard.{hex_number_of}
-
-abbrev pub Gathered : SeenWords → List ℕ → Read SeenWords
-Gathered r b = onward (words_of b) (λ ws x. took (with_words r ws) x)
 
 -- the value of a word that is read
 pub hex_took : (b x : List ℕ) (w : ℕ) → (ds : List ℕ) × (word_of (fits_of HexWord) b ≡ took ds x) × (w ≡ digits_value 16 ds) → hex_number_of b ≡ took w x

@@ -23,7 +23,7 @@ mod read;
 mod row_numbers;
 mod row_reader;
 mod search;
-mod timing;
+mod values;
 mod word_reader;
 
 pub use fault::{Field, MemoryFault};

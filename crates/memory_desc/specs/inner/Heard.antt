@@ -59,6 +59,21 @@ next_word_of b = by_byte is_blank (λ x. spaced_word_of (spaced x)) (remark_of N
 abbrev pub words_of : List ℕ → Read (List ℕ)
 words_of b = items_of next_word_of b
 
+-- ---- items that are left
+
+abbrev pub items_in : {A : Type 0} → Read (List A) → List A
+items_in (took xs x) = xs
+items_in (stuck x) = []
+
+-- the next, and those behind it
+abbrev pub items_after : {A : Type 0} → Option A → Read (List A) → List A
+items_after None o = []
+items_after (Some a) o = a ∷ items_in o
+
+abbrev pub IsWhole : {A : Type 0} → Read A → Type 0
+IsWhole (took a x) = Unit {0}
+IsWhole (stuck x) = ⊥
+
 -- ---- what stands behind a first word and blanks
 
 abbrev pub numbered_of : (ℕ → Content) → List ℕ → Read (Option Content)
