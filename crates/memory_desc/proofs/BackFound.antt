@@ -1,119 +1,93 @@
--- What is found among the statements of a printed memory.
-use Rattle.memory_desc.proofs.Common.{Bool, Content, List, None, Option, Scrambling, Some, Statement, Subject, [], ap, arith, backgrounds, bit_at, cases_lt, cond, content_of, eq-eqb, eqb_tells, false, find, inl, inr, is_about, is_other, is_same, not, refl, scramble, subject, suc, sym, true, zero, ℕ, ◌++◌, ◌+◌, ◌<◌, ◌==◌, ◌∙◌, ◌∷◌, ◌≡◌, ◌≤◌}
-use Rattle.scrambler.specs.Scrambling.{row}
-use Rattle.memory_desc.specs.Subjects.{said}
+-- What is found among contents that are numbered as lines, some of them rows.
+use Rattle.memory_desc.proofs.Common.{Bool, Content, List, None, Scrambling, Some, Subject, [], about, ap, arith, cases_lt, cond, content_of, eq-eqb, false, find, inl, inr, is_about, is_other, is_row, is_same, list_any, not, refl, row_terms, scramble, subject, subst, suc, sym, true, with_rows, zero, ℕ, ◌+◌, ◌<◌, ◌==◌, ◌||◌, ◌∙◌, ◌∷◌, ◌≡◌, ◌≤◌}
+use Rattle.std.proofs.lemmas.Bool.Decides.{nat_tests}
 use Rattle.memory_desc.specs.Table.{is_repeat}
-use Rattle.memory_desc.specs.declared.content.Subject.TheVariants.{Row, Backgrounds}
-use Rattle.memory_desc.proofs.Repeats.{self_same}
-use Rattle.memory_desc.proofs.BackLines.{numbered}
-use Rattle.memory_desc.proofs.BackTerms.{terms_of}
+use Rattle.memory_desc.specs.declared.content.Subject.TheVariants.{Row}
+use Rattle.memory_desc.proofs.Repeats.{same_is}
+use Rattle.memory_desc.proofs.BackLines.{Each, numbered}
 
--- ---- statements about different things
+-- ---- what is found is a content with its number
 
--- none of them is about q
-abbrev pub Others : Subject → List Statement → Type 0
-Others q [] = Unit {0}
-Others q (s ∷ ss) = (is_same (subject s.content) q ≡ false) × Others q ss
+pub content_found : (p : Content → Bool) (n : ℕ) (cs : List Content) → content_of (find (λ s. p s.content) (numbered n cs)) ≡ find p cs
+content_found p n [] = refl
+content_found p n (c ∷ cs) = go (p c) (content_found p (n + 1) cs)
+  where
+    go : (t : Bool) → content_of (find (λ s. p s.content) (numbered (n + 1) cs)) ≡ find p cs
+        → content_of (cond t (Some (record { line = n; content = c })) (find (λ s. p s.content) (numbered (n + 1) cs))) ≡ cond t (Some c) (find p cs)
+    go true h = refl
+    go false h = h
 
-abbrev pub Distinct : List Statement → Type 0
-Distinct [] = Unit {0}
-Distinct (s ∷ ss) = Others (subject s.content) ss × Distinct ss
+-- nothing, where no content passes
+pub none_found : (P : Content → Type 0) (p : Content → Bool) (n : ℕ) (cs : List Content) → ((c : Content) → P c → p c ≡ false) → Each P cs
+    → find (λ s. p s.content) (numbered n cs) ≡ None
+none_found P p n [] f h = refl
+none_found P p n (c ∷ cs) f h = rw (f c h.0) (none_found P p (n + 1) cs f h.1)
 
--- a statement about something else makes no repeat
-another : (t : Statement) (ss more : List Statement) → Others (subject t.content) more → find (is_repeat (t ∷ ss)) more ≡ find (is_repeat ss) more
-another t ss [] h = refl
-another t ss (s ∷ more) h =
-    ap (λ (b : Bool). cond (is_other s.line (cond b (Some t) (find (is_about (subject s.content)) ss))) (Some s) (find (is_repeat (t ∷ ss)) more)) h.0
-    ∙ ap (λ (o : Option Statement). cond (is_repeat ss s) (Some s) o) (another t ss more h.1)
+pub any_found : (p : Content → Bool) (n : ℕ) (cs : List Content) → list_any (λ s. p s.content) (numbered n cs) ≡ list_any p cs
+any_found p n [] = refl
+any_found p n (c ∷ cs) = ap (λ (t : Bool). p c || t) (any_found p (n + 1) cs)
 
-itself : (t : Statement) (ss : List Statement) → is_repeat (t ∷ ss) t ≡ false
-itself t ss =
-    ap (λ (b : Bool). is_other t.line (cond b (Some t) (find (is_about (subject t.content)) ss))) (self_same (subject t.content))
-    ∙ ap not (eq-eqb t.line t.line refl)
-
-pub no_repeat : (ss : List Statement) → Distinct ss → find (is_repeat ss) ss ≡ None
-no_repeat [] h = refl
-no_repeat (t ∷ ss) h =
-    ap (λ (b : Bool). cond b (Some t) (find (is_repeat (t ∷ ss)) ss)) (itself t ss) ∙ another t ss ss h.0 ∙ no_repeat ss h.1
-
--- ---- the rows
+-- ---- among rows
 
 abbrev pub row_content : Scrambling → ℕ → Content
-row_content s i = scramble i (terms_of (row s i) (bit_at s.constant i) s.width)
+row_content s i = scramble i (row_terms s i)
 
--- what k rows from row i say
-abbrev pub rows_from : Scrambling → ℕ → ℕ → List Content
-rows_from s i zero = []
-rows_from s i (suc k) = row_content s i ∷ rows_from s (i + 1) k
+pub each_row : (P : Content → Type 0) (s : Scrambling) (k : ℕ) (cs : List Content) → ((i : ℕ) → i < k → P (row_content s i)) → Each P cs → Each P (with_rows s k cs)
+each_row P s zero cs f h = h
+each_row P s (suc k) cs f h = each_row P s k (row_content s k ∷ cs) (λ i l. f i (omega arith)) (f k (omega arith), h)
 
--- and what stands behind them
-abbrev pub body : Scrambling → ℕ → ℕ → List ℕ → List Content
-body s i k ws = rows_from s i k ++ (backgrounds ws ∷ [])
+-- rows that don't pass are passed over
+pub past_rows : (p : Content → Bool) (s : Scrambling) (k : ℕ) (cs : List Content) → ((i : ℕ) → i < k → p (row_content s i) ≡ false) → find p (with_rows s k cs) ≡ find p cs
+past_rows p s zero cs f = refl
+past_rows p s (suc k) cs f = past_rows p s k (row_content s k ∷ cs) (λ i l. f i (omega arith)) ∙ rw (f k (omega arith)) refl
 
-pub others_head : (q : Subject) (s : Scrambling) (n i k : ℕ) (ws : List ℕ) → ((j : ℕ) → is_same (Row j) q ≡ false) → is_same Backgrounds q ≡ false
-    → Others q (numbered n (body s i k ws))
-others_head q s n i zero ws f g = (g, tt)
-others_head q s n i (suc k) ws f g = (f i, others_head q s (n + 1) (i + 1) k ws f g)
-
-differ : (i j : ℕ) → i < j → (j == i) ≡ false
-differ i j h = elim (eqb_tells j i) [ inl r ↦ (let e = r.1 in absurd (omega arith)) | inr r ↦ r.0 ]
-
-others_row : (s : Scrambling) (n i j k : ℕ) (ws : List ℕ) → i < j
-    → Others (Row i) (numbered n (body s j k ws))
-others_row s n i j zero ws h = (refl, tt)
-others_row s n i j (suc k) ws h = (
-  differ i j h,
-  others_row s (n + 1) i (j + 1) k ws (omega arith),
-)
-
-pub rows_distinct : (s : Scrambling) (n i k : ℕ) (ws : List ℕ) → Distinct (numbered n (body s i k ws))
-rows_distinct s n i zero ws = (tt, tt)
-rows_distinct s n i (suc k) ws =
-    (others_row s (n + 1) i (i + 1) k ws (omega arith), rows_distinct s (n + 1) (i + 1) k ws)
-
--- ---- what is said
-
-here : (q : Subject) (t : Statement) (ss : List Statement) → is_same q (subject t.content) ≡ true → said q (t ∷ ss) ≡ Some t.content
-here q t ss e = ap (λ (b : Bool). content_of (cond b (Some t) (find (is_about q) ss))) e
-
-later : (q : Subject) (t : Statement) (ss : List Statement) → is_same q (subject t.content) ≡ false → said q (t ∷ ss) ≡ said q ss
-later q t ss e = ap (λ (b : Bool). content_of (cond b (Some t) (find (is_about q) ss))) e
-
-pub said_row : (s : Scrambling) (n i j k : ℕ) (ws : List ℕ) → i ≤ j → j < i + k
-    → said (Row j) (numbered n (body s i k ws)) ≡ Some (row_content s j)
-said_row s n i j zero ws h l = absurd (omega arith)
-said_row s n i j (suc k) ws h l =
-    elim (cases_lt i j) [
-      | inl q ↦
-          later (Row j) (record { line = n; content = row_content s i }) (numbered (n + 1) (body s (i + 1) k ws))
-          (differ i j q)
-          ∙ said_row s (n + 1) (i + 1) j k ws (omega arith) (omega arith)
-      | inr q ↦ let e : i ≡ j = omega arith in
-          here (Row j) (record { line = n; content = row_content s i }) (numbered (n + 1) (body s (i + 1) k ws))
-          (eq-eqb j i (sym e))
-          ∙ ap (λ (x : ℕ). Some (row_content s x)) e
+pub row_found : (s : Scrambling) (j k : ℕ) (cs : List Content) → j < k → find (λ c. is_same (Row j) (subject c)) (with_rows s k cs) ≡ Some (row_content s j)
+row_found s j zero cs h = absurd (omega arith)
+row_found s j (suc k) cs h =
+    elim (cases_lt j k) [
+      | inl q ↦ row_found s j k (row_content s k ∷ cs) q
+      | inr q ↦ let e : k ≡ j = omega arith in
+          past_rows (λ c. is_same (Row j) (subject c)) s k (row_content s k ∷ cs) (λ i l. other i (omega arith))
+          ∙ rw (e, eq-eqb j j refl) refl
     ]
+  where
+    other : (i : ℕ) → i < j → (j == i) ≡ false
+    other i l = grind (arith, nat_tests)
 
-pub said_backgrounds : (s : Scrambling) (n i k : ℕ) (ws : List ℕ) → said Backgrounds (numbered n (body s i k ws)) ≡ Some (backgrounds ws)
-said_backgrounds s n i zero ws = refl
-said_backgrounds s n i (suc k) ws = said_backgrounds s (n + 1) (i + 1) k ws
+before_some : (s : Scrambling) (k : ℕ) (cs : List Content) → list_any is_row cs ≡ true → list_any is_row (with_rows s k cs) ≡ true
+before_some s zero cs h = h
+before_some s (suc k) cs h = before_some s k (row_content s k ∷ cs) refl
 
--- nothing is said of what is neither a row nor backgrounds
-pub unsaid : (q : Subject) (s : Scrambling) (n i k : ℕ) (ws : List ℕ) → ((j : ℕ) → is_same q (Row j) ≡ false) → is_same q Backgrounds ≡ false
-    → said q (numbered n (body s i k ws)) ≡ None
-unsaid q s n i zero ws f g = later q (record { line = n; content = backgrounds ws }) [] g
-unsaid q s n i (suc k) ws f g =
-    later q (record { line = n; content = row_content s i }) (numbered (n + 1) (body s (i + 1) k ws)) (f i) ∙ unsaid q s (n + 1) (i + 1) k ws f g
+pub some_rows : (s : Scrambling) (k : ℕ) (cs : List Content) → 1 ≤ k → list_any is_row (with_rows s k cs) ≡ true
+some_rows s zero cs h = absurd (omega arith)
+some_rows s (suc k) cs h = before_some s k (row_content s k ∷ cs) refl
 
--- ---- no statement that is refused
+-- ---- no repeats, where the subject alone says which line it is
 
-pub found_none : (p : Statement → Bool) (t : Statement) (ss : List Statement) → p t ≡ false → find p ss ≡ None → find p (t ∷ ss) ≡ None
-found_none p t ss e f = ap (λ (b : Bool). cond b (Some t) (find p ss)) e ∙ f
+abbrev pub Placed : (Subject → ℕ) → ℕ → List Content → Type 0
+Placed place n [] = Unit {0}
+Placed place n (c ∷ cs) = (place (subject c) ≡ n) × Placed place (n + 1) cs
 
-pub none_found : (p : Content → Bool) (s : Scrambling) (n i k : ℕ) (ws : List ℕ)
-    → ((j : ℕ) → j < i + k → p (row_content s j) ≡ false) → p (backgrounds ws) ≡ false
-    → find (λ t. p t.content) (numbered n (body s i k ws)) ≡ None
-none_found p s n i zero ws f g = found_none (λ t. p t.content) (record { line = n; content = backgrounds ws }) [] g refl
-none_found p s n i (suc k) ws f g =
-    found_none (λ t. p t.content) (record { line = n; content = row_content s i }) (numbered (n + 1) (body s (i + 1) k ws)) (f i (omega arith))
-    (none_found p s (n + 1) (i + 1) k ws (λ j l. f j (omega arith)) g)
+pub placed_rows : (place : Subject → ℕ) (s : Scrambling) (n k : ℕ) (cs : List Content) → ((i : ℕ) → place (Row i) ≡ n + i) → Placed place (n + k) cs → Placed place n (with_rows s k cs)
+placed_rows place s n zero cs f h = (let e : n + 0 ≡ n = omega arith in subst (λ (m : ℕ). Placed place m cs) e h)
+placed_rows place s n (suc k) cs f h =
+    let e : n + suc k ≡ (n + k) + 1 = omega arith in
+    placed_rows place s n k (row_content s k ∷ cs) f (f k, subst (λ (m : ℕ). Placed place m cs) e h)
+
+-- what is found of a subject stands in its place
+in_place : (place : Subject → ℕ) (q : Subject) (n : ℕ) (cs : List Content) → Placed place n cs → is_other (place q) (about q (numbered n cs)) ≡ false
+in_place place q n [] h = refl
+in_place place q n (c ∷ cs) h = go (is_same q (subject c)) refl (in_place place q (n + 1) cs h.1)
+  where
+    go : (t : Bool) → is_same q (subject c) ≡ t → is_other (place q) (about q (numbered (n + 1) cs)) ≡ false → is_other (place q) (cond t (Some (record { line = n; content = c })) (find (is_about q) (numbered (n + 1) cs))) ≡ false
+    go true e i = ap not (eq-eqb n (place q) (sym h.0 ∙ ap place (sym (same_is q (subject c) e))))
+    go false e i = i
+
+pub no_repeat : (place : Subject → ℕ) (n : ℕ) (cs : List Content) → Placed place n cs → find (is_repeat (numbered n cs)) (numbered n cs) ≡ None
+no_repeat place n cs h = each n cs h
+  where
+    each : (m : ℕ) (ds : List Content) → Placed place m ds → find (is_repeat (numbered n cs)) (numbered m ds) ≡ None
+    each m [] g = refl
+    each m (d ∷ ds) g =
+        let none : is_other m (about (subject d) (numbered n cs)) ≡ false = subst (λ (l : ℕ). is_other l (about (subject d) (numbered n cs)) ≡ false) g.0 (in_place place (subject d) n cs h) in
+        rw none (each (m + 1) ds g.1)

@@ -21,7 +21,7 @@ pub self_same : (q : Subject) → is_same q q ≡ true
 self_same (Row i) = eq-eqb i i refl
 self_same q = refl
 
-same_is : (q r : Subject) → is_same q r ≡ true → q ≡ r
+pub same_is : (q r : Subject) → is_same q r ≡ true → q ≡ r
 same_is Version Version e = refl
 same_is Name Name e = refl
 same_is Words Words e = refl

@@ -4,77 +4,90 @@ use Rattle.std.specs.Int.{bit_at}
 use Rattle.bist_text.specs.Numbers.{word_text}
 use Rattle.scrambler.specs.Scrambling.{Scrambling, row, is_identity}
 use Rattle.memory_desc.specs.Descriptions.{Description}
+use Rattle.memory_desc.specs.LineText.{Term, index_bit, constant, Content, version, name, words, bits, latency, polarity, pause, scramble, log, backgrounds, kind_of, key_text}
 
--- a word, a number, and the line's end
-abbrev pub number_line : List ℕ → ℕ → List ℕ
-number_line word n = word ++ (decimal n ++ (10 ∷ []))
+-- ---- the text of a line
 
--- a background, behind a blank, in as many digits as the word needs
-abbrev pub background_text : ℕ → ℕ → List ℕ
-background_text bits word = 32 ∷ word_text bits word
+abbrev pub term_text : Term → List ℕ
+term_text (index_bit n) = 112 ∷ decimal n
+term_text (constant false) = codes "0"
+term_text (constant true) = codes "1"
 
-abbrev pub background_texts : ℕ → List ℕ → List ℕ
-background_texts bits [] = []
-background_texts bits (w ∷ ws) = background_text bits w ++ background_texts bits ws
+-- terms, the first behind this mark and each later one behind ^, with a blank on either side
+abbrev pub terms_text : ℕ → List Term → List ℕ
+terms_text mark [] = []
+terms_text mark (t ∷ ts) = 32 ∷ mark ∷ 32 ∷ (term_text t ++ terms_text 94 ts)
 
-abbrev pub backgrounds_line : ℕ → List ℕ → List ℕ
-backgrounds_line bits set = codes "backgrounds" ++ (background_texts bits set ++ (10 ∷ []))
+-- words of so many bits, each behind a blank, in as many digits as they need
+abbrev pub words_text : ℕ → List ℕ → List ℕ
+words_text size [] = []
+words_text size (w ∷ ws) = 32 ∷ (word_text size w ++ words_text size ws)
 
--- the index bits below n that a row names, in ascending order
-abbrev pub index_terms : ℕ → ℕ → List (List ℕ)
-index_terms names zero = []
-index_terms names (suc n) = index_terms names n ++ (if bit_at names n == 1 then (112 ∷ decimal n) ∷ [] else [])
+-- what stands behind a line's first word
+abbrev pub argument_text : ℕ → Content → List ℕ
+argument_text size (version n) = 32 ∷ decimal n
+argument_text size (name b) = 32 ∷ b
+argument_text size (words n) = 32 ∷ decimal n
+argument_text size (bits n) = 32 ∷ decimal n
+argument_text size (latency n) = 32 ∷ decimal n
+argument_text size (polarity w) = words_text size (w ∷ [])
+argument_text size (pause n) = 32 ∷ decimal n
+argument_text size (scramble i ts) = 32 ∷ 97 ∷ (decimal i ++ terms_text 61 ts)
+argument_text size log = codes " log"
+argument_text size (backgrounds ws) = words_text size ws
 
--- the terms, with ^ between them
-abbrev pub joined : List (List ℕ) → List ℕ
-joined [] = []
-joined (t ∷ []) = t
-joined (t ∷ u ∷ ts) = t ++ (codes " ^ " ++ joined (u ∷ ts))
+abbrev pub line_text : ℕ → Content → List ℕ
+line_text size c = key_text (kind_of c) ++ argument_text size c
 
--- the terms of a row: its index bits, and 1 where its constant is 1
-abbrev pub row_terms : ℕ → ℕ → ℕ → List (List ℕ)
-row_terms names constant width = index_terms names width ++ (if constant == 1 then (49 ∷ []) ∷ [] else [])
+-- each line ends with a line feed
+abbrev pub lines_text : ℕ → List Content → List ℕ
+lines_text size [] = []
+lines_text size (c ∷ cs) = line_text size c ++ (10 ∷ lines_text size cs)
 
-abbrev pub row_line : Scrambling → ℕ → List ℕ
-row_line s i = codes "scramble a" ++ (decimal i ++ (codes " = " ++ (joined (row_terms (row s i) (bit_at s.constant i) s.width) ++ (10 ∷ []))))
+-- ---- the lines of a memory
 
--- the lines of the first n rows
-abbrev pub row_lines : Scrambling → ℕ → List ℕ
-row_lines s zero = []
-row_lines s (suc n) = row_lines s n ++ row_line s n
+-- the index bits below n that a row names, in ascending order, and then these terms
+abbrev pub index_terms : ℕ → ℕ → List Term → List Term
+index_terms names zero ts = ts
+index_terms names (suc n) ts = index_terms names n (if bit_at names n == 1 then index_bit n ∷ ts else ts)
 
-abbrev pub scramble_lines : Scrambling → List ℕ
-scramble_lines s = if is_identity s then [] else row_lines s s.width
+-- 1, where a row's constant is 1
+abbrev pub one_term : ℕ → List Term
+one_term bit = if bit == 1 then constant true ∷ [] else []
 
-abbrev pub name_line : List ℕ → List ℕ
-name_line name = codes "name " ++ (name ++ (10 ∷ []))
+-- the terms of a row: its index bits, and then its constant
+abbrev pub row_terms : Scrambling → ℕ → List Term
+row_terms s i = index_terms (row s i) s.width (one_term (bit_at s.constant i))
 
-abbrev pub size_lines : ℕ → ℕ → List ℕ
-size_lines words bits = number_line (codes "words ") words ++ number_line (codes "bits ") bits
+-- the first n rows, and then these lines
+abbrev pub with_rows : Scrambling → ℕ → List Content → List Content
+with_rows s zero cs = cs
+with_rows s (suc n) cs = with_rows s n (scramble n (row_terms s n) ∷ cs)
+
+-- how many rows are printed: none where they change nothing
+abbrev pub rows_printed : Scrambling → ℕ
+rows_printed s = if is_identity s then 0 else s.width
 
 -- version 1 can say it: the latency and the pause are one cycle, and no bit is stored inverted
 abbrev pub is_plain : Description → Bool
 is_plain d = (d.latency == 1) && (d.polarity == 0) && (d.pause == 1)
 
-abbrev pub version_text : Bool → List ℕ
-version_text true = codes "memory 1"
-version_text false = codes "memory 2"
+abbrev pub version_number : Bool → ℕ
+version_number plain = if plain then 1 else 2
 
-abbrev pub head_lines : Description → List ℕ
-head_lines d = version_text (is_plain d) ++ (10 ∷ (name_line d.name ++ size_lines d.words d.bits))
+-- the lines of every version, and then these
+abbrev pub with_head : Description → Bool → List Content → List Content
+with_head d plain cs = version (version_number plain) ∷ name d.name ∷ words d.words ∷ bits d.bits ∷ cs
 
--- the polarity, in as many digits as the word needs
-abbrev pub polarity_line : ℕ → ℕ → List ℕ
-polarity_line bits word = codes "polarity " ++ (word_text bits word ++ (10 ∷ []))
+-- what version 2 says besides, and then these lines
+abbrev pub with_ports : Description → Bool → List Content → List Content
+with_ports d true cs = cs
+with_ports d false cs = latency d.latency ∷ polarity d.polarity ∷ pause d.pause ∷ cs
 
-abbrev pub port_lines : Description → List ℕ
-port_lines d = number_line (codes "latency ") d.latency ++ (polarity_line d.bits d.polarity ++ number_line (codes "pause ") d.pause)
+-- the lines in version 1, where it is plain, or 2, with the first so many rows
+abbrev pub contents : Description → Bool → ℕ → List Content
+contents d plain rows = with_head d plain (with_ports d plain (with_rows d.scramble rows (backgrounds d.backgrounds ∷ [])))
 
--- what version 2 says besides
-abbrev pub later_lines : Description → List ℕ
-later_lines d = if is_plain d then [] else port_lines d
-
--- the printed form: the version, 1 where it can say it, the name, the words and the bits, in version 2 the latency, the polarity
--- and the pause, the scrambling unless it is the identity, and the backgrounds
+-- the printed form: in version 1 where it can say it, and with the scrambling unless it is the identity
 abbrev pub printed : Description → List ℕ
-printed d = head_lines d ++ (later_lines d ++ (scramble_lines d.scramble ++ backgrounds_line d.bits d.backgrounds))
+printed d = lines_text d.bits (contents d (is_plain d) (rows_printed d.scramble))

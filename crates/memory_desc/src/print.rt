@@ -1,10 +1,11 @@
 //! The printer of memory descriptions.
 
-ghost use Rattle.std.specs.Prelude.{◌≡◌, ◌+◌, ◌<◌, ◌≤◌, ◌^◌, ◌++◌, ◌∷◌, All, Ok, OnOk, IfOk, decimal};
+ghost use Rattle.std.specs.Prelude.{◌≡◌, ℕ, ◌+◌, ◌<◌, ◌≤◌, ◌^◌, ◌++◌, [], ◌∷◌, All, Ok, OnOk, IfOk, codes, decimal};
 ghost use Rattle.memory_desc.specs.Descriptions.{IsMemory};
+ghost use Rattle.memory_desc.specs.LineText.{Content};
 ghost use Rattle.memory_desc.specs.Table.{Reads};
-ghost use Rattle.memory_desc.specs.Printed.{number_line, name_line, is_plain, version_text, later_lines, backgrounds_line, head_lines, index_terms, joined, row_terms, row_line, scramble_lines, printed};
-ghost use Rattle.memory_desc.specs.inner.Printed.{is_none, separator, term_after};
+ghost use Rattle.memory_desc.specs.Printed.{index_terms, is_plain, one_term, printed, row_terms, rows_printed, terms_text, version_number, with_head, with_ports, with_rows, words_text};
+ghost use Rattle.memory_desc.specs.inner.Printed.{Adds, number_line};
 
 use crate::memory::Memory;
 use bist_bits::NoMemory;
@@ -20,14 +21,6 @@ fn put_number_line(out: &mut Vec<u8>, word: &[u8], n: u64) -> Result<(), NoMemor
     put(out, b"\n")
 }
 
-fn put_name_line(out: &mut Vec<u8>, name: &str) -> Result<(), NoMemory>
-    ensures { OnOk result (out.new.items ≡ out.old.items ++ name_line name.now) }
-{
-    put(out, b"name ")?;
-    put(out, name.as_bytes())?;
-    put(out, b"\n")
-}
-
 /// Whether version 1 can say all of a memory.
 fn is_plain(memory: &Memory) -> bool
     ensures { result ≡ is_plain memory.now }
@@ -35,29 +28,27 @@ fn is_plain(memory: &Memory) -> bool
     memory.latency() == 1 && memory.polarity() == 0 && memory.pause() == 1
 }
 
-fn put_version(out: &mut Vec<u8>, plain: bool) -> Result<(), NoMemory>
-    ensures { OnOk result (out.new.items ≡ out.old.items ++ version_text plain) }
+fn version_number(plain: bool) -> u64
+    ensures { result ≡ version_number plain }
 {
-    if plain {
-        put(out, b"memory 1")
-    } else {
-        put(out, b"memory 2")
-    }
+    if plain { 1 } else { 2 }
 }
 
 fn put_head(out: &mut Vec<u8>, memory: &Memory) -> Result<(), NoMemory>
-    ensures { OnOk result (out.new.items ≡ out.old.items ++ head_lines memory.now) }
+    ensures { OnOk result (Adds memory.now.bits (with_head memory.now (is_plain memory.now)) out.old.items out.new.items) }
 {
-    put_version(out, is_plain(memory))?;
+    put_number_line(out, b"memory ", version_number(is_plain(memory)))?;
+    put(out, b"name ")?;
+    put(out, memory.name().as_bytes())?;
     put(out, b"\n")?;
-    put_name_line(out, memory.name())?;
     put_number_line(out, b"words ", u64::from(memory.words()))?;
-    put_number_line(out, b"bits ", u64::from(memory.bits()))
+    put_number_line(out, b"bits ", u64::from(memory.bits()))?;
+    Ok(())
 }
 
 /// What version 2 says besides, where it is needed.
-fn put_later_lines(out: &mut Vec<u8>, memory: &Memory) -> Result<(), NoMemory>
-    ensures { OnOk result (out.new.items ≡ out.old.items ++ later_lines memory.now) }
+fn put_ports(out: &mut Vec<u8>, memory: &Memory) -> Result<(), NoMemory>
+    ensures { OnOk result (Adds memory.now.bits (with_ports memory.now (is_plain memory.now)) out.old.items out.new.items) }
 {
     if is_plain(memory) {
         return Ok(());
@@ -66,71 +57,44 @@ fn put_later_lines(out: &mut Vec<u8>, memory: &Memory) -> Result<(), NoMemory>
     put(out, b"polarity ")?;
     put_word(out, memory.bits(), memory.polarity())?;
     put(out, b"\n")?;
-    put_number_line(out, b"pause ", u64::from(memory.pause()))
+    put_number_line(out, b"pause ", u64::from(memory.pause()))?;
+    Ok(())
 }
 
-/// What stands between two terms, and nothing before the first.
-fn put_separator(out: &mut Vec<u8>, first: bool) -> Result<(), NoMemory>
-    ensures { OnOk result (out.new.items ≡ out.old.items ++ separator first) }
-{
-    if first {
-        return Ok(());
-    }
-    put(out, b" ^ ")
-}
-
-fn put_index_term(out: &mut Vec<u8>, first: bool, j: u8) -> Result<(), NoMemory>
-    ensures { OnOk result (out.new.items ≡ out.old.items ++ term_after first (112 ∷ decimal j)) }
-{
-    put_separator(out, first)?;
-    put(out, b"p")?;
-    put_decimal(out, u64::from(j))
-}
-
-/// The index bits that a row names; answers whether there are none.
-fn put_index_terms(out: &mut Vec<u8>, names: u16, width: u8) -> Result<bool, NoMemory>
+/// The terms of a row, whose constant is 0 or 1, behind `=`.
+fn put_terms(out: &mut Vec<u8>, names: u16, constant: u16, width: u8) -> Result<(), NoMemory>
     requires { width ≤ 16 }
-    ensures terms { OnOk result (out.new.items ≡ out.old.items ++ joined (index_terms names width)) }
-    ensures none { IfOk result (λ none. none ≡ is_none (index_terms names width)) }
+    ensures { OnOk result (out.new.items ≡ out.old.items ++ terms_text 61 (index_terms names width (one_term constant))) }
 {
-    let mut none = true;
+    let mut mark = b'=';
     for j in 0..width {
         if (names >> j) & 1 == 1 {
-            put_index_term(out, none, j)?;
-            none = false;
+            put(out, &[b' ', mark, b' ', b'p'])?;
+            put_decimal(out, u64::from(j))?;
+            mark = b'^';
         }
     }
-    Ok(none)
-}
-
-/// The terms of a row, whose constant is 0 or 1.
-fn put_row_terms(out: &mut Vec<u8>, names: u16, constant: u16, width: u8) -> Result<(), NoMemory>
-    requires { width ≤ 16 }
-    ensures { OnOk result (out.new.items ≡ out.old.items ++ joined (row_terms names constant width)) }
-{
-    let none = put_index_terms(out, names, width)?;
     if constant == 1 {
-        put_separator(out, none)?;
-        put(out, b"1")?;
+        put(out, &[b' ', mark, b' ', b'1'])?;
     }
     Ok(())
 }
 
 fn put_row(out: &mut Vec<u8>, scramble: &Scramble, i: u8) -> Result<(), NoMemory>
     requires { i < scramble.now.width }
-    ensures { OnOk result (out.new.items ≡ out.old.items ++ row_line scramble.now i) }
+    ensures { OnOk result (out.new.items ≡ out.old.items ++ (codes "scramble a" ++ (decimal i ++ (terms_text 61 (row_terms scramble.now i) ++ codes "\n")))) }
 {
     put(out, b"scramble a")?;
     put_decimal(out, u64::from(i))?;
-    put(out, b" = ")?;
     let width = scramble.width();
     let constant = (scramble.constant() >> i) & 1;
-    put_row_terms(out, scramble.row(i), constant, width)?;
+    put_terms(out, scramble.row(i), constant, width)?;
     put(out, b"\n")
 }
 
-fn put_scramble(out: &mut Vec<u8>, scramble: &Scramble) -> Result<(), NoMemory>
-    ensures { OnOk result (out.new.items ≡ out.old.items ++ scramble_lines scramble.now) }
+/// The rows, unless they change nothing.
+fn put_rows(out: &mut Vec<u8>, scramble: &Scramble) -> Result<(), NoMemory>
+    ensures { OnOk result ((size : ℕ) → Adds size (with_rows scramble.now (rows_printed scramble.now)) out.old.items out.new.items) }
 {
     if scramble.is_identity() {
         return Ok(());
@@ -141,18 +105,17 @@ fn put_scramble(out: &mut Vec<u8>, scramble: &Scramble) -> Result<(), NoMemory>
     Ok(())
 }
 
-/// The backgrounds, each behind a blank, in as many digits as a word needs.
-fn put_backgrounds(out: &mut Vec<u8>, set: &[u64], bits: u8) -> Result<(), NoMemory>
-    requires width { (1 ≤ bits) × (bits ≤ 64) }
+/// Words, each behind a blank, in as many digits as they need.
+fn put_words(out: &mut Vec<u8>, set: &[u64], bits: u8) -> Result<(), NoMemory>
+    requires width { bits ≤ 64 }
     requires fit { All (λ b. b < 2 ^ bits) set.now }
-    ensures { OnOk result (out.new.items ≡ out.old.items ++ backgrounds_line bits set.now) }
+    ensures { OnOk result (out.new.items ≡ out.old.items ++ words_text bits set.now) }
 {
-    put(out, b"backgrounds")?;
     for word in set {
         put(out, b" ")?;
         put_word(out, bits, *word)?;
     }
-    put(out, b"\n")
+    Ok(())
 }
 
 /// The printed form.
@@ -162,10 +125,11 @@ fn printed_text(alloc: Global, memory: &Memory) -> Result<Vec<u8>, NoMemory>
 {
     let mut out = Vec::new(alloc);
     put_head(&mut out, memory)?;
-    put_later_lines(&mut out, memory)?;
-    put_scramble(&mut out, memory.scramble())?;
-    let bits = memory.bits();
-    put_backgrounds(&mut out, memory.backgrounds(), bits)?;
+    put_ports(&mut out, memory)?;
+    put_rows(&mut out, memory.scramble())?;
+    put(&mut out, b"backgrounds")?;
+    put_words(&mut out, memory.backgrounds(), memory.bits())?;
+    put(&mut out, b"\n")?;
     Ok(out)
 }
 

@@ -1,10 +1,12 @@
-use Rattle.memory_desc.proofs.Common.{ap, on_ok_weaker, version_text, ◌++◌, ◌∙◌}
-use Rattle.memory_desc.proofs.PrintSteps.{head_printed}
+use Rattle.memory_desc.proofs.Common.{ap, append_assoc, version_number, ◌∙◌}
 use Rattle.memory_desc.proofs.print.put_head.Goals as goal
 
 pub returns : goal.returns
 returns c =
-    on_ok_weaker _
-    (head_printed c.args.memory.now c.args.out.now.items _ _ _ _ _ _ _ _ c.name.ensures (c.from.ensures ∙ c.words.ensures.value) (c.from-2.ensures ∙ c.bits.ensures.value)
-    (c.in_ok-put_version.ensures ∙ ap (λ t. c.args.out.now.items ++ version_text t) c.is_plain.ensures) c.in_ok-put.ensures.ok c.in_ok-put_name_line.ensures c.in_ok-put_number_line.ensures)
-    c.put_number_line-2.ensures
+    let number = c.version_number.ensures ∙ ap version_number c.is_plain.ensures in
+    let name = c.as_bytes.ensures.value ∙ c.name.ensures in
+    let words = c.from.ensures ∙ c.words.ensures.value in
+    let bits = c.from-2.ensures ∙ c.bits.ensures.value in
+    λ cs.
+    simp (c.in_ok-put_number_line-3.ensures, c.in_ok-put_number_line-2.ensures, c.in_ok-put-3.ensures.ok, c.in_ok-put-2.ensures.ok, append_assoc)
+    (simp (c.in_ok-put.ensures.ok, c.in_ok-put_number_line.ensures, number, name, words, bits, append_assoc))
