@@ -36,9 +36,13 @@ gap_carries = record { draw = go }
     go A K P f [] h = absurd h
     go A K P f (c ∷ b) h = let q = when_holds (is_blank c) (space K b) h in let r = (many_carries is_blank).draw A K P f b q.1 in (r.0, (when_true (is_blank c) (space (P r.0) b) q.0).1 r.1)
 
+-- a piece, and then another
+pub after : {T U : (List ℕ → Type 0) → List ℕ → Type 0} → Carries T → Carries U → Carries (λ K. T (U K))
+after {U = U} t u = record { draw = λ A K P f b h. t.draw A (U K) (λ a. U (P a)) (u.draw A K P f) b h }
+
 pub word_carries : (w : List ℕ) → Carries (word w)
 word_carries [] = record { draw = λ A K P f b h. f b h }
-word_carries (d ∷ w) = record { draw = λ A K P f b h. (byte_carries d).draw A (word w K) (λ a. word w (P a)) ((word_carries w).draw A K P f) b h }
+word_carries (d ∷ w) = after (byte_carries d) (word_carries w)
 
 -- digits that pass a test, with this value
 abbrev pub Valued : ℕ → (List ℕ → Bool) → ℕ → (List ℕ → Type 0) → List ℕ → Type 0

@@ -1,7 +1,7 @@
 -- Where pieces of a line can't begin, and runs of a class that begin.
-use Rattle.std.proofs.Common.{◌≡◌, ℕ, ◌==◌, Bool, true, false, List, [], ◌∷◌, refl, ap, ◌∙◌, ◌≤◌, length, arith, ◌&&◌}
-use Rattle.std.proofs.lemmas.Bool.{eqb-true, and_parts, and_from, le-leb, leb-true}
-use Rattle.bist_text.specs.Grammar.{byte, word, is_blank}
+use Rattle.std.proofs.Common.{◌≡◌, ℕ, ◌==◌, Bool, true, false, List, ◌∷◌, refl, ◌≤◌, length, ◌&&◌}
+use Rattle.std.proofs.lemmas.Bool.{and_parts, and_from, le-leb, leb-true}
+use Rattle.bist_text.specs.Grammar.{byte, is_blank}
 use Rattle.std.specs.List.{list_all}
 use Rattle.std.specs.Prelude.{nat_le}
 use Rattle.bist_text.specs.LineGrammar.{space, tail, gap}
@@ -31,15 +31,6 @@ no_tail p c b q h = tail_never c b (plain_blank p c q h) (apart p c 35 h q.hash_
 pub no_mark : (p : ℕ → Bool) (c k : ℕ) (K : List ℕ → Type 0) (b : List ℕ) → IsPlain p → p c ≡ true → p k ≡ false → space (byte k K) (c ∷ b) → ⊥
 no_mark p c k K b q h n s = when_false (c == k) (K b) (apart p c k h n) ((space_off (byte k K) c b (plain_blank p c q h)).0 s)
 
--- no blank begins a word of bytes of a class
-pub blank_word : (p : ℕ → Bool) (m : ℕ) (ms : List ℕ) (K : List ℕ → Type 0) (c : ℕ) (b : List ℕ) → p 32 ≡ false → p 9 ≡ false → p 13 ≡ false
-    → p m ≡ true → is_blank c ≡ true → word (m ∷ ms) K (c ∷ b) → ⊥
-blank_word p m ms K c b a d f h e w =
-    let same_byte : c ≡ m = eqb-true c m (when_holds (c == m) (word ms K b) w).0 in
-    let of_class : p c ≡ true = ap p same_byte ∙ h in
-    let other = not_blank p c of_class a d f in
-    let z : ⊥ = cc in z
-
 -- no text of K begins with a byte of the class
 abbrev pub Stops : (ℕ → Bool) → (List ℕ → Type 0) → Type 0
 Stops p K = (c : ℕ) (b : List ℕ) → p c ≡ true → K (c ∷ b) → ⊥
@@ -64,9 +55,3 @@ pub run_of : (p : ℕ → Bool) (most : ℕ) (ds : List ℕ) → list_all p ds �
 run_of p most ds a l m =
     and_from (list_all p ds && nat_le 1 (length ds)) (nat_le (length ds) most)
     (and_from (list_all p ds) (nat_le 1 (length ds)) a (le-leb 1 (length ds) l)) (le-leb (length ds) most m)
-
-pub blank_run : (p : ℕ → Bool) (most : ℕ) (ds : List ℕ) (K : List ℕ → Type 0) (c : ℕ) (b : List ℕ) → p 32 ≡ false → p 9 ≡ false → p 13 ≡ false
-    → is_run p most ds ≡ true → is_blank c ≡ true → word ds K (c ∷ b) → ⊥
-blank_run p most [] K c b x y z r e w = (let parts = run_parts p most [] r in let l = parts.1 in absurd (omega arith))
-blank_run p most (d ∷ ds) K c b x y z r e w =
-    blank_word p d ds K c b x y z (and_parts (p d) (list_all p ds) (run_parts p most (d ∷ ds) r).0).0 e w

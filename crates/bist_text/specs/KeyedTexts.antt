@@ -31,7 +31,8 @@ abbrev pub stated : {C : Type 0} → ℕ → Option C → List (Statement C)
 stated number None = []
 stated number (Some c) = (record { line = number; content = c }) ∷ []
 
--- why a line is none of these: of a line that ended too early and has a line feed, that is the byte that can't stand there
+-- why a line is none of these: it is refused at a byte, or it ended too early. One that ended too early and has a line feed is
+-- refused at the place of the line feed.
 abbrev pub IsLineFault : {C V : Type 0} → (List ℕ → C → Type 0) → (Option V → C → Bool) → Option V → TextLine → TextFault → Type 0
 IsLineFault text stands given l (Unexpected line byte) = (line ≡ l.number)
     × (IsUnexpected (LineOf text stands given) l.text byte ⊎ ((l.ended ≡ true) × IsTruncated (LineOf text stands given) l.text × (byte ≡ length l.text)))

@@ -1,4 +1,3 @@
 pub mod Keywords
 pub mod Lexed
-pub mod LineGrammar
 pub mod Machine

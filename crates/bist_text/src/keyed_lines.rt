@@ -1,12 +1,10 @@
 //! Lines of a first word and what stands behind it: readers of their parts, which stop where a line can't go on.
 
-ghost use Rattle.std.specs.Prelude.{◌≡◌, ◌≤◌, ℕ, List, MatchResult, length, map};
-ghost use Rattle.std.specs.Str.Parse.{digits_value};
+ghost use Rattle.std.specs.Prelude.{◌≡◌, ◌≤◌, MatchResult, length, map};
 ghost use Rattle.bist_text.specs.Grammar.{is_blank};
 ghost use Rattle.bist_text.specs.Keywords.{word_of as word_of_table};
-ghost use Rattle.bist_text.specs.declared.keyed_lines.Class.TheVariants.{Number, Word as HexWord};
 ghost use Rattle.bist_text.specs.keyed.Lines.{fault_of};
-ghost use Rattle.bist_text.specs.keyed.Parts.{spaced, gap_of, byte_of, comment_of, end_of, fits_of, key_of, word_of, number_of, length_of};
+ghost use Rattle.bist_text.specs.keyed.Parts.{spaced, gap_of, byte_of, comment_of, end_of, fits_of, key_of, word_of, number_of, hex_number_of, length_of};
 ghost use Rattle.bist_text.specs.keyed.Reading.{took, stuck};
 ghost use Rattle.bist_text.specs.keyed.Texts.{refusal_at, step};
 ghost use Rattle.bist_text.specs.Lines.{plain_line};
@@ -147,8 +145,7 @@ pub fn word(text: &[u8], class: Class) -> Read<'_, &[u8]>
 
 /// A number of one to nine digits.
 pub fn number(text: &[u8]) -> Read<'_, u32>
-    ensures value { MatchResult result (λ r. number_of text.now ≡ took r.0 r.1.now) (λ left. number_of text.now ≡ stuck left.now) }
-    ensures digits { MatchResult result (λ r. (ds : List ℕ) × (word_of (fits_of Number) text.now ≡ took ds r.1.now) × (r.0 ≡ digits_value 10 ds)) (λ left. word_of (fits_of Number) text.now ≡ stuck left.now) }
+    ensures { MatchResult result (λ r. number_of text.now ≡ took r.0 r.1.now) (λ left. number_of text.now ≡ stuck left.now) }
 {
     let (digits, text) = word(text, Class::Number)?;
     let value = decimal(digits).unwrap_or(0);
@@ -157,7 +154,7 @@ pub fn number(text: &[u8]) -> Read<'_, u32>
 
 /// A number of one to sixteen hexadecimal digits.
 pub fn hex_number(text: &[u8]) -> Read<'_, u64>
-    ensures { MatchResult result (λ r. (ds : List ℕ) × (word_of (fits_of HexWord) text.now ≡ took ds r.1.now) × (r.0 ≡ digits_value 16 ds)) (λ left. word_of (fits_of HexWord) text.now ≡ stuck left.now) }
+    ensures { MatchResult result (λ r. hex_number_of text.now ≡ took r.0 r.1.now) (λ left. hex_number_of text.now ≡ stuck left.now) }
 {
     let (digits, text) = word(text, Class::Word)?;
     let value = hex(digits).unwrap_or(0);

@@ -2,7 +2,6 @@
 
 ghost use Rattle.std.specs.Prelude.{◌≡◌, ◌↔◌, ℕ, Some, Ok, Err, Result};
 ghost use Rattle.bist_text.specs.Lines.{text_lines};
-ghost use Rattle.memory_desc.specs.Names.{IsName};
 ghost use Rattle.chip_desc.specs.Chips.{ChipDescription, IsChip};
 ghost use Rattle.chip_desc.specs.ChipTable.{Reads, by_statements, of_lines, refusal, name_in, budget_in};
 ghost use Rattle.chip_desc.specs.inner.Heard.{plain_content, statements, reading};
@@ -14,20 +13,8 @@ use crate::fault::{ChipFault, ChipField};
 use crate::lines::check_lines;
 use crate::search::{check_ranges, check_repeats, check_weights, field};
 use crate::units::units_of;
-use arrayvec::ArrayString;
 use bist_text::keyed_lines::TextFault;
-use std::str;
-
-/// The text of a name.
-fn name_from(bytes: &[u8]) -> ArrayString<48>
-    requires { IsName bytes.now }
-    ensures { result.bytes ≡ bytes.now }
-{
-    let Ok(text) = str::from_utf8(bytes) else {
-        unreachable!()
-    };
-    ArrayString::from(text).unwrap()
-}
+use memory_desc::name_from;
 
 /// The name that a `name` line gives.
 fn name_of<'a>(content: &Content<'a>) -> &'a [u8]

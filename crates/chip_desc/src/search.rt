@@ -1,7 +1,6 @@
 //! Searches in the lines of a text.
 
 ghost use Rattle.std.specs.Prelude.{◌≡◌, ◌||◌, nat_lt, length, option_map, find};
-ghost use Rattle.bist_text.specs.ReservedWords.{is_among, reserved_words};
 ghost use Rattle.bist_text.specs.Lines.{text_lines};
 ghost use Rattle.bist_text.specs.keyed.Texts.{checked};
 ghost use Rattle.chip_desc.specs.ChipTable.{first_of, is_heavier, is_out_of_range, is_outside, is_repeat, repeated, out_of_range};
@@ -11,7 +10,8 @@ ghost use Rattle.chip_desc.specs.inner.Seeking.{is_sought, heavier_than, line_of
 use crate::content::{Content, Key, Statement, UnitLine, kind_of};
 use crate::fault::{ChipFault, ChipField};
 use crate::line_reader::said;
-use bist_text::{Lines, is_reserved};
+use bist_text::Lines;
+use memory_desc::is_name_outside;
 
 /// What is sought in the lines of a text.
 #[derive(Clone, Copy)]
@@ -90,12 +90,6 @@ fn is_outside(value: u32) -> bool
     ensures { result ≡ is_outside value }
 {
     value < 1 || value > 1_000_000
-}
-
-fn is_name_outside(name: &[u8]) -> bool
-    ensures { result ≡ (nat_lt 48 (length name.now) || is_among name.now reserved_words) }
-{
-    name.len() > 48 || is_reserved(name)
 }
 
 fn is_unit_outside(unit: &UnitLine<'_>) -> bool

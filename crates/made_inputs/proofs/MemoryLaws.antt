@@ -1,6 +1,5 @@
 -- The text of a number's memory is the printed form of a memory, which is read back.
-use Rattle.std.proofs.Common.{◌≡◌, ℕ, zero, suc, ◌+◌, ◌-◌, ◌^◌, ◌<◌, ◌≤◌, ◌==◌, ◌&&◌, inl, inr, if◌then◌else◌, Bool, true, false, List, [], ◌∷◌, ◌++◌, ◌∙◌, Ok, slice_index, refl, sym, ap, subst, arith, lit<, lit≤, codes, append_assoc}
-use Rattle.std.specs.Prelude.{decimal}
+use Rattle.std.proofs.Common.{◌≡◌, ℕ, zero, suc, ◌+◌, ◌-◌, ◌^◌, ◌<◌, ◌≤◌, ◌==◌, ◌&&◌, inl, inr, if◌then◌else◌, Bool, true, List, [], ◌∷◌, ◌∙◌, Ok, slice_index, refl, sym, ap, subst, arith, lit<, lit≤, codes}
 use Rattle.std.specs.Fmt.{digits}
 use Rattle.std.specs.Int.{bit_at}
 use Rattle.std.specs.Int.Count.{count_leading_zeros}
@@ -8,18 +7,18 @@ use Rattle.std.proofs.lemmas.Bool.{and_parts, cases_lt, eqb-true}
 use Rattle.std.proofs.lemmas.List.Elements.{All-from_recursion}
 use Rattle.bist_bits.specs.Width.{IsWidthOf}
 use Rattle.bist_bits.proofs.BitLemmas.{width_by_leading_zeros}
-use Rattle.scrambler.specs.Scrambling.{IsFull, IsInvertible, identity, is_identity}
+use Rattle.scrambler.specs.Scrambling.{IsFull, IsInvertible, identity}
 use Rattle.scrambler.proofs.ScramblingLemmas.{units, units_undone, identity_is, invertible, matrix_is_full}
 use Rattle.backgrounds.specs.Backgrounds.{IsStripe, IsLogSet}
 use Rattle.memory_desc.specs.Descriptions.{Description, IsMemory, IsBackgrounds, assembled}
 use Rattle.memory_desc.specs.Names.{IsName}
-use Rattle.memory_desc.specs.Printed.{number_line, backgrounds_line, scramble_lines, printed, row_lines}
+use Rattle.memory_desc.specs.Printed.{contents, lines_text, printed}
 use Rattle.memory_desc.specs.Table.{Reads}
 use Rattle.scrambler.proofs.Identity.{identity_is_identity}
 use Rattle.memory_desc.proofs.Parts.{width_small}
 use Rattle.memory_desc.proofs.ReadBack.{read_back}
 use Rattle.made_inputs.specs.MadeMemory.{IsMadeMemory}
-use Rattle.made_inputs.specs.inner.MadeMemory.{head, tail, written}
+use Rattle.made_inputs.specs.inner.MadeMemory.{written}
 
 -- ---- the backgrounds
 
@@ -126,29 +125,14 @@ made_is_made number width wide = record {
 
 -- ---- its text
 
--- no scrambling is printed
-not_scrambled : (width : ℕ) (rest : List ℕ) (same : Bool) → same ≡ true → (if same then [] else row_lines (identity width) width) ++ rest ≡ rest
-not_scrambled width rest true h = refl
-not_scrambled width rest false h = cc
-
-joined_sizes : (digits sized rest : List ℕ) → ((digits ++ (10 ∷ [])) ++ sized) ++ rest ≡ digits ++ (10 ∷ (sized ++ rest))
-joined_sizes digits sized rest = append_assoc (digits ++ (10 ∷ [])) sized rest ∙ append_assoc digits (10 ∷ []) (sized ++ rest)
-
-tail_is_written : 10 ∷ (number_line (codes "bits ") 64 ++ backgrounds_line 64 log_words) ≡ tail
+without_rows : (number width : ℕ) → lines_text 64 (contents (made number width) true 0) ≡ written number
 unfolding digits
-tail_is_written = refl
+without_rows number width = refl
 
-tail_is : (width : ℕ) → 10 ∷ (number_line (codes "bits ") 64 ++ (scramble_lines (identity width) ++ backgrounds_line 64 log_words)) ≡ tail
-tail_is width =
-    ap (λ (t : List ℕ). 10 ∷ (number_line (codes "bits ") 64 ++ t))
-    (not_scrambled width (backgrounds_line 64 log_words) (is_identity (identity width)) (identity_is_identity width))
-    ∙ tail_is_written
-
+-- no scrambling is printed
 printed_is : (number width : ℕ) → printed (made number width) ≡ written number
 printed_is number width =
-    ap (λ (t : List ℕ). head ++ t)
-    (joined_sizes (decimal (number + 2)) (number_line (codes "bits ") 64) (scramble_lines (identity width) ++ backgrounds_line 64 log_words)
-    ∙ ap (λ (t : List ℕ). decimal (number + 2) ++ t) (tail_is width))
+    ap (λ (same : Bool). lines_text 64 (contents (made number width) true (if same then 0 else width))) (identity_is_identity width) ∙ without_rows number width
 
 abbrev pub HasMemory : ℕ → Type 0
 HasMemory number = (d : Description) × IsMadeMemory number d × Reads (written number) (Ok d)

@@ -1,5 +1,5 @@
 -- Each printed line is a line of the grammar, without a line feed.
-use Rattle.memory_desc.proofs.Common.{AllDigits, Bool, Content, ContentText, equation, scramble, List, Term, [], and_from, and_parts, ap, apart, append-nil, argument, arith, byte, constant, decimal, digit_value, digits_value, false, gap, hex_digits, index_bit, inr, is_blank, is_digit, is_formed, is_hex, is_identifier, is_letter, is_name_byte, is_term_too_wide, key_text, kind_of, le-leb, leb-false, length, length-append, list_all, list_all-append, list_any, lit<, many_none, more_terms, more_words, nat_le, not, or_parts, pow-suc, refl, space, subst, suc, tail, term_text, terms_text, true, word, word_on, word_text, words_text, zero, ℕ, ◌%◌, ◌++◌, ◌+◌, ◌/◌, ◌<◌, ◌^◌, ◌∙◌, ◌∷◌, ◌≡◌, ◌≤◌}
+use Rattle.memory_desc.proofs.Common.{AllDigits, argument_text, line_text, Bool, Content, equation, scramble, List, Term, [], and_from, and_parts, ap, apart, append-nil, argument, arith, byte, constant, decimal, digit_value, digits_value, false, gap, hex_digits, index_bit, inr, is_blank, is_digit, is_formed, is_hex, is_identifier, is_letter, is_name_byte, is_term_too_wide, key_text, kind_of, le-leb, leb-false, length, length-append, list_all, list_all-append, list_any, lit<, many_none, more_terms, more_words, nat_le, not, or_parts, pow-suc, refl, space, subst, suc, tail, term_text, terms_text, true, word, word_on, word_text, words_text, zero, ℕ, ◌%◌, ◌++◌, ◌+◌, ◌/◌, ◌<◌, ◌^◌, ◌∙◌, ◌∷◌, ◌≡◌, ◌≤◌}
 use Rattle.std.specs.Fmt.{digit_glyph}
 use Rattle.std.proofs.lemmas.Bool.Decides.{nat_tests}
 use Rattle.std.proofs.lemmas.Fmt.{decimal_is_IsNumeral, length-decimal-le, decimal_nonempty}
@@ -8,7 +8,7 @@ use Rattle.std.proofs.lemmas.Str.Parse.{digit_from_value}
 use Rattle.bist_text.specs.keyed.Numbers.{number, is_number}
 use Rattle.bist_text.proofs.Powers.{word_digits}
 use Rattle.memory_desc.specs.LineText.{term, hex_word, is_word}
-use Rattle.memory_desc.proofs.BackLines.{is_inside, Line}
+use Rattle.memory_desc.proofs.BackLines.{is_inside, IsLine, Line}
 
 -- ---- a piece, and what stands behind it
 
@@ -116,11 +116,12 @@ more_line width (t ∷ ts) l h =
 -- ---- lines
 
 -- a line begins with its word
-pub headed : (c : Content) (b : List ℕ) → is_formed c ≡ true → list_all is_inside (key_text (kind_of c)) ≡ true → Line (gap (argument c tail)) b
-    → Line (λ b. ContentText b c) (key_text (kind_of c) ++ b)
-headed c b f i h =
-    let w = on_word (key_text (kind_of c)) (gap (argument c tail)) b i h in
-    (w.0, (f, many_none is_blank (word (key_text (kind_of c)) (gap (argument c tail))) (key_text (kind_of c) ++ b) w.1))
+pub headed : (size : ℕ) (c : Content) → is_formed c ≡ true → list_all is_inside (key_text (kind_of c)) ≡ true → Line (gap (argument c tail)) (argument_text size c)
+    → IsLine size c
+headed size c f i h =
+    let key = key_text (kind_of c) in
+    let w = on_word key (gap (argument c tail)) (argument_text size c) i h in
+    (w.0, (f, many_none is_blank (word key (gap (argument c tail))) (line_text size c) w.1))
 
 pub number_line_is : (n : ℕ) → n < 1000000000 → Line (gap (number n tail)) (32 ∷ decimal n)
 number_line_is n h = on_gap (number n tail) (decimal n) (subst (Line (number n tail)) (append-nil (decimal n)) (on_number n tail [] h (refl, tt)))

@@ -23,12 +23,12 @@ pub use Rattle.std.specs.Str.Parse.{AllDigits, digits_value}
 pub use Rattle.backgrounds.specs.Backgrounds.{IsLogSet}
 pub use Rattle.bist_bits.specs.Width.{IsWidthOf}
 pub use Rattle.bist_text.proofs.LinePieces.{apart, at_bool, gap_off, gap_on, of_blank, tail_blank, tail_other, when_false, when_holds, when_true}
-pub use Rattle.bist_text.proofs.LineStops.{IsPlain, blank_run, blank_word, no_mark, no_tail, plain_blank}
+pub use Rattle.bist_text.proofs.LineStops.{no_mark, no_tail}
 pub use Rattle.bist_text.proofs.Pieces.{at_byte, many_none, same, word_on}
 pub use Rattle.bist_text.proofs.keyed.Checks.{alone, here, is_there, next, none_first, passed, some_same, stopped, there}
 pub use Rattle.bist_text.proofs.keyed.Classes.{run_is}
 pub use Rattle.bist_text.proofs.keyed.Found.{found_fails, found_passes, none_at, said_found, said_there}
-pub use Rattle.bist_text.proofs.keyed.Items.{IsNext, Shortens, Shorter, gather_end, gather_on, gather_smaller, gather_stuck, items_made, longer, made_shorter, no_item, one_item, onward_on, remark_shortens, some_shortens, spaced_shorter, weaker, word_shortens}
+pub use Rattle.bist_text.proofs.keyed.Items.{IsNext, choice_shortens, Shortens, Shorter, items_made, longer, made_shorter, no_item, one_item, onward_on, remark_shortens, some_shortens, spaced_shorter, weaker, word_shortens}
 pub use Rattle.bist_text.proofs.keyed.PartLaws.{Begun, Byte, Either, Ends, Remark, Shuns, Space, alive, byte_told, either_told, ends_told, fewer, remark_told, space_told, word_told}
 pub use Rattle.bist_text.proofs.keyed.Told.{AtEnd, Behind, Never, Told, told_from, told_iff}
 pub use Rattle.bist_text.specs.Grammar.{Continues, are_bytes, byte, is_blank, word}
@@ -45,23 +45,22 @@ pub use Rattle.memory_desc.specs.Described.{AreOfMemory, IsScrambling, described
 pub use Rattle.memory_desc.specs.Descriptions.{Description, IsBackgrounds, IsMemory, assembled}
 pub use Rattle.memory_desc.specs.LineText.{Content, ContentText, Term, argument, backgrounds, bits, constant, equation, index_bit, is_formed, is_hex, key_text, kind_of, latency, log, more_terms, more_words, name, pause, polarity, scramble, version, words}
 pub use Rattle.memory_desc.specs.Names.{IsName, is_digit, is_identifier, is_letter, is_name_byte}
-pub use Rattle.memory_desc.specs.Printed.{contents, index_terms, is_plain, line_text, lines_text, one_term, printed, row_terms, rows_printed, term_text, terms_text, version_number, with_head, with_ports, with_rows, words_text}
+pub use Rattle.memory_desc.specs.Printed.{argument_text, contents, index_terms, is_plain, line_text, lines_text, one_term, printed, row_terms, rows_printed, term_text, terms_text, version_number, with_head, with_ports, with_rows, words_text}
 pub use Rattle.memory_desc.specs.Statements.{Statement, may_stand, stands, version_in}
 pub use Rattle.memory_desc.specs.Subjects.{about, content_of, is_about, is_same, subject}
 pub use Rattle.memory_desc.specs.Table.{AreRefusedBy, AreStatements, Describes, IsLast, Reads, at_line, is_other, is_row, is_term_too_wide, missing, missing_row, of_lines, out_of_range, repeated, too_many, too_wide, unfit, unrowed, unscramblable, unserved, unsized, without_solid}
-pub use Rattle.memory_desc.specs.Values.{AreBackgrounds, bits_said, constant_of, index_bits, latency_in, latency_said, matrix_said, name_in, name_said, pause_in, pause_said, polarity_in, polarity_said, rows_said, terms_in, terms_said, words_said}
+pub use Rattle.memory_desc.specs.Values.{AreBackgrounds, bits_said, constant_of, index_bits, latency_in, latency_said, matrix_said, name_in, name_said, number_in, pause_in, pause_said, polarity_in, polarity_said, rows_said, terms_in, terms_said, words_said}
 pub use Rattle.memory_desc.specs.declared.content.Key.TheVariants.{Memory, Scramble}
 pub use Rattle.memory_desc.specs.declared.content.Subject.{Subject}
 pub use Rattle.memory_desc.specs.declared.content.Version.TheVariants.{One, Two}
-pub use Rattle.memory_desc.specs.declared.content.WordList.{WordList}
 pub use Rattle.memory_desc.specs.declared.fault.MemoryFault.{MemoryFault}
 pub use Rattle.memory_desc.specs.declared.fault.MemoryFault.TheVariants.{Missing, NoSolidBackground, Repeated, ScrambleNeedsPowerOfTwo, Singular, TooManyBackgrounds}
 pub use Rattle.memory_desc.specs.declared.search.Sought.TheVariants.{About, TooWide}
-pub use Rattle.memory_desc.specs.inner.Heard.{argument_of, heard, hex_word_of, is_caret, is_l, keys_in, keys_of, listed_of, log_of, marked_term_of, next_term_of, next_word_of, row_of, spaced_word_of, term_of, version_at, words_of}
+pub use Rattle.memory_desc.specs.inner.Heard.{IsWhole, argument_of, heard, items_after, items_in, hex_word_of, is_caret, is_l, keys_in, keys_of, listed_of, log_of, marked_term_of, next_term_of, next_word_of, row_of, spaced_word_of, term_of, version_at, words_of}
 pub use Rattle.memory_desc.specs.inner.Met.{MayBeMet, MayHave}
 pub use Rattle.memory_desc.specs.inner.Printed.{Adds, number_line}
-pub use Rattle.memory_desc.specs.inner.Seeking.{IsPosed, first_sought, is_sought, tests}
-pub use Rattle.memory_desc.specs.inner.Seen.{Seen, SeenStatement, SeenWords, begun_row, inverted, listed, no_words, plain_content, plain_line_content, plain_statement, plain_words, seen, seen_statements, subject_of, with_term, with_terms, with_word, with_words}
-pub use Rattle.memory_desc.specs.inner.Standing.{AreFields, AreWords, GivesBackgrounds, GivesScrambling, IsRow, StandsAt, highest_of, is_ranged, least, most, name_in_seen, number_in_seen, polarity_in_seen, row_in_seen, union_of, value_in}
+pub use Rattle.memory_desc.specs.inner.Seeking.{IsPosed, is_sought}
+pub use Rattle.memory_desc.specs.inner.Seen.{plain_content, plain_line_content, plain_statement}
+pub use Rattle.memory_desc.specs.inner.Standing.{GivesBackgrounds, GivesScrambling}
 pub use Rattle.scrambler.proofs.LinearLemmas.{bit_at-number, dot-zero_left, dot_below, number-below, number-bits, two_digits}
 pub use Rattle.scrambler.specs.Scrambling.{IsFull, IsInvertible, IsLeastDependence, IsWithin, Scrambling, identity, is_identity, matrix_of, product}

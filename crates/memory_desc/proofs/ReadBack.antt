@@ -1,5 +1,5 @@
 -- The printed form of a memory is read back as this memory: its lines are statements that describe exactly it.
-use Rattle.memory_desc.proofs.Common.{All, ContentText, MatchResult, Say, gives, lines_from, version_in, latency_in, polarity_in, pause_in, None, Option, AreBackgrounds, AreStatements, Bool, Content, Description, IsFull, IsInvertible, IsMemory, IsScrambling, IsSome, List, Ok, Reads, Scrambling, Some, Statement, Subject, [], about, and_parts, ap, ap₂, arith, backgrounds, bit_at, bits, constant_of, contents, decimal, terms_text, words_text, described, eqb-true, false, find, from_bool, if◌then◌else◌, index_bits, inr, is_identity, is_plain, is_power_of_two, is_row, is_same, latency, latency_said, length, line_text, lines_text, lit<, list_any, lt-leb, matrix_said, name, nat_le, nat_lt, number-bits, pause, pause_said, polarity, polarity_said, printed, refl, row_terms, rows_printed, rows_said, said_there, scramble, stands, subject, subst, suc, sym, take, take_all, take_more, terms_in, terms_said, true, version, version_number, with_ports, with_rows, words, words_said, zero, ℕ, ◌&&◌, ◌++◌, ◌+◌, ◌-◌, ◌<◌, ◌==◌, ◌^◌, ◌||◌, ◌∙◌, ◌∷◌, ◌≡◌, ◌≤◌}
+use Rattle.memory_desc.proofs.Common.{All, latency_in, polarity_in, pause_in, None, Option, AreBackgrounds, AreStatements, Bool, Content, Description, IsFull, IsInvertible, IsMemory, IsScrambling, IsSome, List, Ok, Reads, Scrambling, Some, Statement, Subject, [], about, and_parts, ap, ap₂, arith, backgrounds, bit_at, bits, constant_of, contents, described, eqb-true, false, find, from_bool, if◌then◌else◌, index_bits, inr, is_identity, is_plain, is_power_of_two, is_row, is_same, latency, latency_said, length, line_text, lines_text, lit<, list_any, lt-leb, matrix_said, name, nat_le, nat_lt, number-bits, pause, pause_said, polarity, polarity_said, printed, refl, row_terms, rows_printed, rows_said, said_there, scramble, stands, subject, subst, suc, sym, take, take_all, take_more, terms_in, terms_said, true, version, version_number, with_ports, with_rows, words, words_said, zero, ℕ, ◌&&◌, ◌++◌, ◌+◌, ◌-◌, ◌<◌, ◌==◌, ◌^◌, ◌||◌, ◌∙◌, ◌∷◌, ◌≡◌, ◌≤◌}
 use Rattle.scrambler.specs.Linear.{number}
 use Rattle.scrambler.specs.Scrambling.{row}
 use Rattle.scrambler.proofs.Identity.{identity_is_identity, identity_by_rows}
@@ -28,7 +28,8 @@ version_printed plain = if plain then One else Two
 -- ---- each line
 
 -- of a line that either version has
-kept : (d : Description) (v : Version) (c : Content) → stands (Some One) c ≡ true → IsLine d.bits c → is_out_of_range c ≡ false → is_too_wide d.scramble.width d.bits c ≡ false → IsKept d v c
+kept : (d : Description) (v : Version) (c : Content) → stands (Some One) c ≡ true → IsLine d.bits c → is_out_of_range c ≡ false
+    → is_too_wide d.scramble.width d.bits c ≡ false → IsKept d v c
 kept d One c s l r w = ((l, s), r, w)
 kept d Two c s l r w = ((l, refl), r, w)
 
@@ -48,7 +49,7 @@ rows_kept d v k mem small few =
 
     words : (ws : List ℕ) → 1 ≤ length ws → list_any (nat_le (2 ^ d.bits)) ws ≡ false → IsLine d.bits (backgrounds ws)
     words [] some fit = absurd (omega arith)
-    words (w ∷ ws) some fit = headed (backgrounds (w ∷ ws)) (words_text d.bits (w ∷ ws)) refl refl (words_line d.bits (w ∷ ws) mem.bits_low mem.bits_high fit)
+    words (w ∷ ws) some fit = headed d.bits (backgrounds (w ∷ ws)) refl refl (words_line d.bits (w ∷ ws) mem.bits_low mem.bits_high fit)
 
     row : (i : ℕ) → i < d.scramble.width → IsKept d v (row_content d.scramble i)
     row i l =
@@ -56,7 +57,7 @@ rows_kept d v k mem small few =
         let ts = row_terms s i in
         let within = terms_within s i in
         let some : ts ≡ [] → ⊥ = λ e. row_some s i mem.invertible l (sym (terms_bits s i (mem.full.rows_fit i l)) ∙ ap index_bits e) in
-        kept d v (row_content s i) refl (headed (scramble i ts) (32 ∷ 97 ∷ (decimal i ++ terms_text 61 ts)) refl refl (row_line_is s.width i ts small l within some)) refl
+        kept d v (row_content s i) refl (headed d.bits (scramble i ts) refl refl (row_line_is s.width i ts small l within some)) refl
         (rw (lt-leb s.width i l) within)
 
 ports_kept : (d : Description) (plain : Bool) (cs : List Content) → IsMemory d → Each (IsKept d (version_printed plain)) cs → Each (IsKept d (version_printed plain)) (with_ports d plain cs)
@@ -68,57 +69,56 @@ ports_kept d false cs mem h =
     let line = number_line_is d.latency (omega arith) in
     let word = words_line d.bits (d.polarity ∷ []) mem.bits_low mem.bits_high (rw fits refl) in
     let last = number_line_is d.pause (omega arith) in (
-      ((headed (latency d.latency) (32 ∷ decimal d.latency) refl refl line, refl), in_range 1 4 d.latency mem.latency_low cycles, refl),
+      ((headed d.bits (latency d.latency) refl refl line, refl), in_range 1 4 d.latency mem.latency_low cycles, refl),
       (
-        ((headed (polarity d.polarity) (words_text d.bits (d.polarity ∷ [])) refl refl word, refl), refl, fits),
-        (((headed (pause d.pause) (32 ∷ decimal d.pause) refl refl last, refl), in_range 1 65535 d.pause mem.pause_low long, refl), h),
-      ),
-    )
-
-sizes_kept : (d : Description) (plain : Bool) (k : ℕ) → IsMemory d → d.scramble.width ≤ 16 → k ≤ d.scramble.width
-    → Each (IsKept d (version_printed plain)) (behind_version d plain k)
-sizes_kept d plain k mem small few =
-    let v = version_printed plain in
-    let many = mem.words_high in
-    let wide = mem.bits_high in
-    let short = mem.name.short in
-    let number = number_line_is d.words (omega arith) in
-    let size = number_line_is d.bits (omega arith) in
-    let ranged : is_out_of_range (name d.name) ≡ false = rw (lt-leb 49 (length d.name) (omega arith)) mem.name.free in (
-      kept d v (name d.name) refl (headed (name d.name) (32 ∷ d.name) mem.name.identifier refl (name_line_is d.name mem.name.identifier)) ranged refl,
-      (
-        kept d v (words d.words) refl (headed (words d.words) (32 ∷ decimal d.words) refl refl number) (in_range 2 65536 d.words mem.words_low many) refl,
-        (
-          kept d v (bits d.bits) refl (headed (bits d.bits) (32 ∷ decimal d.bits) refl refl size) (in_range 1 64 d.bits mem.bits_low wide) refl,
-          ports_kept d plain (with_rows d.scramble k (backgrounds d.backgrounds ∷ [])) mem (rows_kept d v k mem small few),
-        ),
+        ((headed d.bits (polarity d.polarity) refl refl word, refl), refl, fits),
+        (((headed d.bits (pause d.pause) refl refl last, refl), in_range 1 65535 d.pause mem.pause_low long, refl), h),
       ),
     )
 
 lines_kept : (d : Description) (plain : Bool) (k : ℕ) → IsMemory d → d.scramble.width ≤ 16 → k ≤ d.scramble.width → Each (IsKept d (version_printed plain)) (contents d plain k)
 lines_kept d plain k mem small few =
+    let v = version_printed plain in
     let n = version_number plain in
-    (kept d (version_printed plain) (version n) refl (headed (version n) (32 ∷ decimal n) refl refl (number_line_is n (one_digit plain))) refl refl, sizes_kept d plain k mem small few)
+    let many = mem.words_high in
+    let wide = mem.bits_high in
+    let short = mem.name.short in
+    let first = number_line_is n (one_digit plain) in
+    let named = name_line_is d.name mem.name.identifier in
+    let number = number_line_is d.words (omega arith) in
+    let size = number_line_is d.bits (omega arith) in
+    let free : is_out_of_range (name d.name) ≡ false = rw (lt-leb 49 (length d.name) (omega arith)) mem.name.free in (
+      kept d v (version n) refl (headed d.bits (version n) refl refl first) refl refl,
+      (
+        kept d v (name d.name) refl (headed d.bits (name d.name) mem.name.identifier refl named) free refl,
+        (
+          kept d v (words d.words) refl (headed d.bits (words d.words) refl refl number) (in_range 2 65536 d.words mem.words_low many) refl,
+          (
+            kept d v (bits d.bits) refl (headed d.bits (bits d.bits) refl refl size) (in_range 1 64 d.bits mem.bits_low wide) refl,
+            ports_kept d plain (with_rows d.scramble k (backgrounds d.backgrounds ∷ [])) mem (rows_kept d v k mem small few),
+          ),
+        ),
+      ),
+    )
   where
     one_digit : (t : Bool) → version_number t < 1000000000
     one_digit true = lit< tt
     one_digit false = lit< tt
 
-opened : (d : Description) (v : Version) (n : ℕ) (cs : List Content) → version_in (version n) ≡ Some v → Each (IsKept d v) (version n ∷ cs) → AreStatements (lines_text d.bits (version n ∷ cs)) (numbered 1 (version n ∷ cs))
-opened d v n cs e h =
+are_statements : (d : Description) (plain : Bool) (k : ℕ) → Each (IsKept d (version_printed plain)) (contents d plain k)
+    → AreStatements (lines_text d.bits (contents d plain k)) (statements d plain k)
+are_statements d true k h =
     let line = h.0.0.0 in
-    let start = 0 + length (line_text d.bits (version n)) + 1 in
-    rw (first_line 1 0 (line_text d.bits (version n)) (lines_text d.bits cs) line.0) (
-      Some (version n),
-      numbered 2 cs,
-      inr (version n, refl, refl, line.1),
-      subst (λ (o : Option Version). MatchResult (gives o) (λ next. Say ContentText stands version_in (lines_from 2 start (lines_text d.bits cs)) next (numbered 2 cs)) (λ fault. ⊥)) (sym e) (lines_say d v 2 start cs h.1),
-      refl,
-    )
-
-are_statements : (d : Description) (plain : Bool) (k : ℕ) → Each (IsKept d (version_printed plain)) (contents d plain k) → AreStatements (lines_text d.bits (contents d plain k)) (statements d plain k)
-are_statements d true k h = opened d One 1 (behind_version d true k) refl h
-are_statements d false k h = opened d Two 2 (behind_version d false k) refl h
+    let more = behind_version d true k in
+    let start = 0 + length (line_text d.bits (version 1)) + 1 in
+    rw (first_line 1 0 (line_text d.bits (version 1)) (lines_text d.bits more) line.0)
+    (Some (version 1), numbered 2 more, inr (version 1, refl, refl, line.1), lines_say d One 2 start more h.1, refl)
+are_statements d false k h =
+    let line = h.0.0.0 in
+    let more = behind_version d false k in
+    let start = 0 + length (line_text d.bits (version 2)) + 1 in
+    rw (first_line 1 0 (line_text d.bits (version 2)) (lines_text d.bits more) line.0)
+    (Some (version 2), numbered 2 more, inr (version 2, refl, refl, line.1), lines_say d Two 2 start more h.1, refl)
 
 -- ---- the values that they give
 
@@ -131,7 +131,8 @@ module _ (d : Description) (k : ℕ) where
   told q plain = content_found (λ c. is_same q (subject c)) 1 (contents d plain k)
 
   -- the rows are passed over
-  past : (q : Subject) → ((i : ℕ) → is_same q (S.Row i) ≡ false) → find (λ c. is_same q (subject c)) (with_rows d.scramble k last) ≡ find (λ c. is_same q (subject c)) last
+  past : (q : Subject) → ((i : ℕ) → is_same q (S.Row i) ≡ false)
+      → find (λ c. is_same q (subject c)) (with_rows d.scramble k last) ≡ find (λ c. is_same q (subject c)) last
   past q f = past_rows (λ c. is_same q (subject c)) d.scramble k last (λ i l. f i)
 
   backgrounds_are_said : (plain : Bool) → said S.Backgrounds (statements d plain k) ≡ Some (backgrounds d.backgrounds)
@@ -148,9 +149,12 @@ module _ (d : Description) (k : ℕ) where
   same_description true e =
       let outer = and_parts ((d.latency == 1) && (d.polarity == 0)) (d.pause == 1) e in
       let inner = and_parts (d.latency == 1) (d.polarity == 0) outer.0 in
-      let l : latency_said (statements d true k) ≡ d.latency = ap latency_in (told S.Latency true ∙ past S.Latency (λ i. refl)) ∙ sym (eqb-true d.latency 1 inner.0) in
-      let p : polarity_said (statements d true k) ≡ d.polarity = ap polarity_in (told S.Polarity true ∙ past S.Polarity (λ i. refl)) ∙ sym (eqb-true d.polarity 0 inner.1) in
-      let z : pause_said (statements d true k) ≡ d.pause = ap pause_in (told S.Pause true ∙ past S.Pause (λ i. refl)) ∙ sym (eqb-true d.pause 1 outer.1) in
+      let l : latency_said (statements d true k) ≡ d.latency =
+      ap latency_in (told S.Latency true ∙ past S.Latency (λ i. refl)) ∙ sym (eqb-true d.latency 1 inner.0) in
+      let p : polarity_said (statements d true k) ≡ d.polarity =
+      ap polarity_in (told S.Polarity true ∙ past S.Polarity (λ i. refl)) ∙ sym (eqb-true d.polarity 0 inner.1) in
+      let z : pause_said (statements d true k) ≡ d.pause =
+      ap pause_in (told S.Pause true ∙ past S.Pause (λ i. refl)) ∙ sym (eqb-true d.pause 1 outer.1) in
       rw (l, p, z) refl
 
   -- which line speaks of a subject, where the rows begin at this one
@@ -166,8 +170,10 @@ module _ (d : Description) (k : ℕ) where
   line_of first S.Backgrounds = first + k
 
   once : (plain : Bool) → find (is_repeat (statements d plain k)) (statements d plain k) ≡ None
-  once true = no_repeat (line_of 5) 1 (contents d true k) (refl, (refl, (refl, (refl, placed_rows (line_of 5) d.scramble 5 k last (λ i. refl) (refl, tt)))))
-  once false = no_repeat (line_of 8) 1 (contents d false k) (refl, (refl, (refl, (refl, (refl, (refl, (refl, placed_rows (line_of 8) d.scramble 8 k last (λ i. refl) (refl, tt))))))))
+  once true = no_repeat (line_of 5) 1 (contents d true k)
+      (refl, (refl, (refl, (refl, placed_rows (line_of 5) d.scramble 5 k last (λ i. refl) (refl, tt)))))
+  once false = no_repeat (line_of 8) 1 (contents d false k)
+      (refl, (refl, (refl, (refl, (refl, (refl, (refl, placed_rows (line_of 8) d.scramble 8 k last (λ i. refl) (refl, tt))))))))
 
 -- ---- the scrambling
 
@@ -220,7 +226,8 @@ scrambled d plain true mem e = (λ h. (let z : ⊥ = cc (no_rows plain) in absur
 scrambled d plain false mem e =
     let s = d.scramble in
     let same = matrix_is d plain mem.full in
-    let there : (i : ℕ) → i < s.width → IsSome (about (S.Row i) (statements d plain s.width)) = λ i h. said_there (about (S.Row i) (statements d plain s.width)) (row_content s i) (row_is_said d s.width plain i h) in
+    let there : (i : ℕ) → i < s.width → IsSome (about (S.Row i) (statements d plain s.width)) =
+    λ i h. said_there (about (S.Row i) (statements d plain s.width)) (row_content s i) (row_is_said d s.width plain i h) in
     (λ _. power (is_power_of_two d.words) refl, rw (has_rows plain) (there, subst IsInvertible (sym same) mem.invertible, sym same))
   where
     has_rows : (plain : Bool) → is_scrambled (statements d plain d.scramble.width) ≡ true
@@ -229,7 +236,9 @@ scrambled d plain false mem e =
 
     power : (t : Bool) → is_power_of_two d.words ≡ t → t ≡ true
     power true p = refl
-    power false p = (let z : true ≡ false = sym (identity_is_identity d.scramble.width) ∙ ap is_identity (sym (mem.unscrambled p)) ∙ e in let y : ⊥ = cc in absurd y)
+    power false p =
+        let same : true ≡ false = sym (identity_is_identity d.scramble.width) ∙ ap is_identity (sym (mem.unscrambled p)) ∙ e in
+        let none : ⊥ = cc in absurd none
 
 pub read_back : (d : Description) → IsMemory d → Reads (printed d) (Ok d)
 read_back d mem =

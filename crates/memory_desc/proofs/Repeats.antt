@@ -1,10 +1,9 @@
 -- The search for a repeated line: a line that is the first about something repeats none.
-use Rattle.memory_desc.proofs.Common.{Bool, Content, Err, List, MayBeMet, MayHave, None, Ok, Option, Repeated, Seen, Some, Statement, Subject, TextLine, [], about, ap, append_assoc, at_line, checked, cond, eq-eqb, eqb-true, false, find, find-append, is_about, is_other, is_same, not, option_map, option_or, refl, repeated, seen, subject, subject_of, subst, sym, true, ℕ, ◌++◌, ◌∙◌, ◌∷◌, ◌≡◌}
+use Rattle.memory_desc.proofs.Common.{Bool, Content, Err, List, MayBeMet, MayHave, None, Ok, Option, Repeated, Some, Statement, Subject, TextLine, [], about, ap, append_assoc, at_line, checked, cond, eq-eqb, eqb-true, false, find, find-append, is_about, is_other, is_same, not, option_or, refl, repeated, subject, subst, sym, true, ℕ, ◌++◌, ◌∙◌, ◌∷◌, ◌≡◌}
 use Rattle.memory_desc.specs.Statements.{stated}
 use Rattle.memory_desc.specs.inner.Heard.{said, statements}
 use Rattle.memory_desc.specs.Table.{is_repeat}
 use Rattle.memory_desc.specs.declared.content.Subject.TheVariants.{Version, Name, Words, Bits, Latency, Polarity, Pause, Row, Backgrounds}
-use Rattle.memory_desc.proofs.Searches.{subject_seen}
 
 -- the search has come to the lines that are left: none of the statements that it passed repeats one, or is about a subject that can't have been met
 pub record Passing (lines left : List TextLine) (met : List ℕ) : Type 0 where
@@ -55,29 +54,19 @@ first_repeats_none passed more ss s e f =
 -- ---- one line further
 
 -- a content line, of which a test says whether it repeats one
-module _ {lines before left : List TextLine} {l : TextLine} {t : Bool} {old : List ℕ} {read : Seen} (q : Subject) (s : Passing lines before old) (step : before ≡ l ∷ left) (there : Some read ≡ option_map seen (said l.text))
-    (own : q ≡ subject_of read) (tested : ((MayBeMet old q → ⊥) → is_other l.number (about q (statements lines)) ≡ false) → t ≡ is_other l.number (about q (statements lines))) where
-  abbrev said_content : (v : Option Content) → Some read ≡ option_map seen v → (c : Content) × (v ≡ Some c) × (read ≡ seen c)
-  said_content None e = (let z : ⊥ = cc in absurd z)
-  said_content (Some c) e = (c, refl, (let same : read ≡ seen c = cc in same))
-
-  abbrev content : Content
-  content = (said_content (said l.text) there).0
-
-  own_is : q ≡ subject content
-  own_is = own ∙ ap subject_of (said_content (said l.text) there).2 ∙ subject_seen content
-
+module _ {lines before left : List TextLine} {l : TextLine} {t : Bool} {old : List ℕ} {content : Content} (q : Subject) (s : Passing lines before old) (step : before ≡ l ∷ left) (there : Some content ≡ said l.text)
+    (own : q ≡ subject content) (tested : ((MayBeMet old q → ⊥) → is_other l.number (about q (statements lines)) ≡ false) → t ≡ is_other l.number (about q (statements lines))) where
   abbrev here : Statement
   here = record { line = l.number; content = content }
 
   whole : statements lines ≡ s.passed ++ here ∷ statements left
-  whole = s.parts ∙ ap (λ ls. s.passed ++ statements ls) step ∙ ap (λ (v : Option Content). s.passed ++ (stated l.number v ++ statements left)) (said_content (said l.text) there).1
+  whole = s.parts ∙ ap (λ ls. s.passed ++ statements ls) step ∙ ap (λ (v : Option Content). s.passed ++ (stated l.number v ++ statements left)) (sym there)
 
   repeats : t ≡ is_repeat (statements lines) here
   repeats =
-      tested (λ n. ap (λ r. is_other l.number (about r (statements lines))) own_is
-      ∙ first_repeats_none s.passed (statements left) (statements lines) here whole (s.new (subject content) (subst (λ r. MayBeMet old r → ⊥) own_is n)))
-      ∙ ap (λ r. is_other l.number (about r (statements lines))) own_is
+      tested (λ n. ap (λ r. is_other l.number (about r (statements lines))) own
+      ∙ first_repeats_none s.passed (statements left) (statements lines) here whole (s.new (subject content) (subst (λ r. MayBeMet old r → ⊥) own n)))
+      ∙ ap (λ r. is_other l.number (about r (statements lines))) own
 
   pub passing_on : {met : List ℕ} → t ≡ false → MayBeMet met q → ((r : Subject) → MayBeMet old r → MayBeMet met r) → Passing lines left met
   passing_on {met} f kept stay = record {
@@ -89,7 +78,7 @@ module _ {lines before left : List TextLine} {l : TextLine} {t : Bool} {old : Li
     where
       apart : (r : Subject) → (MayBeMet met r → ⊥) → (b : Bool) → is_same r (subject content) ≡ b → is_same r (subject content) ≡ false
       apart r n false e = e
-      apart r n true e = absurd (n (subst (MayBeMet met) (own_is ∙ sym (same_is r (subject content) e)) kept))
+      apart r n true e = absurd (n (subst (MayBeMet met) (own ∙ sym (same_is r (subject content) e)) kept))
 
   -- a line that repeats one is the first
   pub repeat_stops : t ≡ true → Err (Repeated l.number) ≡ checked (repeated (statements lines))

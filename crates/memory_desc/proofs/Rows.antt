@@ -1,56 +1,62 @@
 -- The rows of the scrambling, one after another.
-use Rattle.memory_desc.proofs.Common.{Bool, IsRow, List, MemoryFault, Missing, None, Some, StandsAt, Statement, Term, [], about, add-one, and_mask, ap, ap₂, arith, bit_and, bit_or, cases_lt, constant, constant_of, false, from_bool, highest_of, index_bit, index_bits, inl, inr, is_term_too_wide, leb-false, length, list_any, lit<, missing, missing_row, mod-eq_of_lt, nat_le, or_else, or_parts, plain_content, pow-lt, pow_pos, refl, replicate, row_in_seen, rows_said, said_there, scramble, slice_set, subst, suc, sym, take, take-suc-set, terms_in, terms_said, there, too_wide, true, unless_there, xor_lt, zero, ℕ, ◌%◌, ◌*◌, ◌++◌, ◌+◌, ◌-◌, ◌<◌, ◌^◌, ◌∙◌, ◌∷◌, ◌≡◌, ◌≤◌}
+use Rattle.memory_desc.proofs.Common.{IsWithin, Scrambling, get_or-set_other, get_or-set_same, length-set, matrix_of, matrix_said, number-below, slice_index, ◌≢◌, Content, IsSome, content_of, Option, option_map, plain_content, none_at, find, sym, too_wide, Bool, List, MemoryFault, Missing, None, Some, Statement, Term, [], about, add-one, ap, ap₂, arith, bit_or, cases_lt, constant, constant_of, false, from_bool, index_bit, index_bits, inl, inr, is_term_too_wide, leb-false, length, list_any, lit<, missing, missing_row, nat_le, or_else, or_parts, pow-lt, pow_pos, refl, replicate, rows_said, said_there, scramble, slice_set, subst, suc, take, terms_in, terms_said, there, true, unless_there, xor_lt, zero, ℕ, ◌%◌, ◌*◌, ◌++◌, ◌+◌, ◌<◌, ◌^◌, ◌∙◌, ◌∷◌, ◌≡◌, ◌≤◌}
 use Rattle.scrambler.specs.Linear.{number}
+use Rattle.std.proofs.Math.Seq.{take-suc}
 use Rattle.scrambler.proofs.Steps.{product_begun, product_more}
 use Rattle.memory_desc.specs.Subjects.{said}
-use Rattle.memory_desc.specs.declared.content.Row.{Row}
-use Rattle.memory_desc.specs.declared.content.Statement.{Statement as ReadStatement}
 use Rattle.memory_desc.specs.declared.content.Subject.TheVariants.{Row as BitRow}
 use Rattle.memory_desc.specs.declared.fault.Field.TheVariants.{Row as RowField}
-use Rattle.memory_desc.proofs.Parts.{RowsFit, rows_begun, rows_more}
-use Rattle.memory_desc.proofs.SeenLaws.{row_is}
-use Rattle.memory_desc.proofs.Stated.{within, stated, row_stated}
+use Rattle.memory_desc.specs.Described.{is_too_wide}
+use Rattle.memory_desc.specs.declared.content.Content.{Content as ReadContent}
+use Rattle.memory_desc.specs.declared.fault.MemoryFault.TheVariants.{OutOfRange}
+use Rattle.memory_desc.proofs.Within.{Passes, passes}
 
--- ---- terms within the width
+-- ---- a row
 
-pub record TermsFit (width : ℕ) (ts : List Term) : Type 0 where
-  pub highest : highest_of ts < width
-  pub names : index_bits ts < 2 ^ width
+pub terms_fit : (width : ℕ) (ts : List Term) → list_any (is_term_too_wide width) ts ≡ false → index_bits ts < 2 ^ width
+terms_fit width [] h = pow_pos width
+terms_fit width (index_bit n ∷ ts) h =
+    let parts = or_parts (nat_le width n) (list_any (is_term_too_wide width) ts) h in xor_lt width (2 ^ n) (index_bits ts) (pow-lt (leb-false width n parts.0)) (terms_fit width ts parts.1)
+terms_fit width (constant b ∷ ts) h = terms_fit width ts h
 
-pub terms_fit : (width : ℕ) (ts : List Term) → 0 < width → list_any (is_term_too_wide width) ts ≡ false → TermsFit width ts
-terms_fit width [] p h = record { highest = p; names = pow_pos width }
-terms_fit width (index_bit n ∷ ts) p h =
-    let parts = or_parts (nat_le width n) (list_any (is_term_too_wide width) ts) h in
-    let low : n < width = leb-false width n parts.0 in
-    let rest = terms_fit width ts p parts.1 in
-    record { highest = omega (arith, rest.highest); names = xor_lt width (2 ^ n) (index_bits ts) (pow-lt low) rest.names }
-terms_fit width (constant b ∷ ts) p h =
-    let rest = terms_fit width ts p h in
-    record { highest = rest.highest; names = rest.names }
+-- the terms that are said of a bit, and whether there are some
+module _ {n : ℕ} (bit : ℕ) (ss : List Statement) (o : Option ReadContent) (e : n ≡ bit) (h : option_map plain_content o ≡ said (BitRow n) ss) where
+  row_said : option_map plain_content o ≡ said (BitRow bit) ss
+  row_said = h ∙ ap (λ n. said (BitRow n) ss) e
 
--- the mask changes no row that is within the width
-masked : (names width : ℕ) (ts : List Term) → names ≡ index_bits ts → index_bits ts < 2 ^ width → bit_and names (2 ^ width - 1) ≡ index_bits ts
-masked names width ts e h = ap (λ (n : ℕ). bit_and n (2 ^ width - 1)) e ∙ and_mask (index_bits ts) width ∙ mod-eq_of_lt h
+  pub row_there : (c : ReadContent) → o ≡ Some c → IsSome (about (BitRow bit) ss)
+  row_there c k = said_there (about (BitRow bit) ss) (plain_content c) (sym row_said ∙ ap (option_map plain_content) k)
 
--- ---- the row of a bit
+  pub terms_are : (c : ReadContent) → o ≡ Some c → terms_in (Some (plain_content c)) ≡ terms_said ss bit
+  terms_are c k = ap terms_in (sym (ap (option_map plain_content) k) ∙ row_said)
 
-abbrev pub RowIs : List Statement → ℕ → Row → Type 0
-RowIs ss bit row = (i : ℕ) × (ts : List Term) × (said (BitRow bit) ss ≡ Some (scramble i ts)) × IsRow i ts row
+  pub none_there : o ≡ None → missing (BitRow bit) (RowField bit) ss ≡ Some (Missing (RowField bit))
+  none_there k = go (about (BitRow bit) ss) (sym row_said ∙ ap (option_map plain_content) k)
+    where
+      go : (r : Option Statement) → content_of r ≡ None → unless_there (Missing (RowField bit)) r ≡ Some (Missing (RowField bit))
+      go None e = refl
+      go (Some s) e = (let z : ⊥ = cc in absurd z)
 
-pub row_given : (ss : List Statement) (bit number : ℕ) (l : ReadStatement) (row : Row) → number ≡ bit → StandsAt (Some l) (about (BitRow number) ss) → row ≡ row_in_seen (plain_content l.content) → RowIs ss bit row
-row_given ss bit number l row e h f =
-    let r = row_stated bit ss (plain_content l.content) (stated (BitRow bit) ss l (subst (λ (b : ℕ). StandsAt (Some l) (about (BitRow b) ss)) e h)) in
-    (r.0, r.1, r.2.said_is, subst (IsRow r.0 r.1) (sym (f ∙ ap row_in_seen r.2.written)) (row_is r.0 r.1))
+pub terms_within : (ss : List Statement) (width size bit : ℕ) → too_wide ss width size ≡ None → list_any (is_term_too_wide width) (terms_said ss bit) ≡ false
+terms_within ss width size bit h = go (said (BitRow bit) ss) (passes (BitRow bit) (is_too_wide width size) ss (none_at (λ n. OutOfRange n) (find (λ s. is_too_wide width size s.content) ss) h))
+  where
+    go : (o : Option Content) → Passes (BitRow bit) (is_too_wide width size) o → list_any (is_term_too_wide width) (terms_in o) ≡ false
+    go (Some (scramble i ts)) f = (or_parts (nat_le width i) (list_any (is_term_too_wide width) ts) (f (scramble i ts) refl).1).1
+    go o f = refl
 
 -- ---- the rows so far
 
+abbrev bit_said : List Statement → ℕ → ℕ
+bit_said ss i = from_bool (constant_of (terms_said ss i))
+
 pub record RowsAre (ss : List Statement) (bit : ℕ) (rows : List ℕ) (constants : ℕ) : Type 0 where
   pub there : missing_row ss bit ≡ None
-  pub rows_are : take bit rows ≡ rows_said ss bit
-  pub constants_are : constants ≡ number (λ i. from_bool (constant_of (terms_said ss i))) bit
+  pub count : length rows ≡ 16
+  pub each : (i : ℕ) → i < bit → slice_index rows i ≡ index_bits (terms_said ss i)
+  pub constants_are : constants ≡ number (bit_said ss) bit
 
-pub rows_are_begun : (ss : List Statement) (rows : List ℕ) → RowsAre ss 0 rows 0
-rows_are_begun ss rows = record { there = refl; rows_are = refl; constants_are = product_begun (λ i. from_bool (constant_of (terms_said ss i))) }
+pub rows_begun : (ss : List Statement) → RowsAre ss 0 (replicate 16 0) 0
+rows_begun ss = record { there = refl; count = refl; each = λ i l. absurd (omega arith); constants_are = product_begun (bit_said ss) }
 
 byte_of : (b : Bool) → from_bool b < 2
 byte_of false = lit< tt
@@ -68,54 +74,41 @@ pub row_missing : (ss : List Statement) (width bit : ℕ) (fault : MemoryFault) 
 row_missing ss width bit fault h l m = missing_kept ss (suc bit) width fault (ap (λ r. or_else r (missing (BitRow bit) (RowField bit) ss)) h ∙ m) l
 
 -- one more row
-module _ (ss : List Statement) (width size bit : ℕ) (rows : List ℕ) (constants : ℕ) (row : Row) (count : length rows ≡ 16) (below : bit < width) (narrow : width ≤ 16)
-    (passed : too_wide ss width size ≡ None) (given : RowIs ss bit row) (so_far : RowsAre ss bit rows constants) where
-  terms_are : terms_said ss bit ≡ given.1
-  terms_are = ap terms_in given.2
-
-  fit : TermsFit width given.1
-  fit = terms_fit width given.1 (omega arith) (or_parts (nat_le width given.0) (list_any (is_term_too_wide width) given.1)
-      (within ss width size (BitRow bit) (scramble given.0 given.1) passed given.2)).1
-
-  value : bit_and row.names (2 ^ width - 1) ≡ index_bits (terms_said ss bit)
-  value =
-      let low = fit.highest in
-      masked row.names width given.1 (given.3.names (omega arith)) fit.names ∙ ap index_bits (sym terms_are)
-
-  there_more : missing_row ss (suc bit) ≡ None
-  there_more = ap (λ r. or_else r (missing (BitRow bit) (RowField bit) ss)) so_far.there
-      ∙ there (Missing (RowField bit)) (about (BitRow bit) ss) (said_there (about (BitRow bit) ss) (scramble given.0 given.1) given.2)
-
-  rows_are_more_at : take (suc bit) (slice_set rows bit (bit_and row.names (2 ^ width - 1))) ≡ rows_said ss (suc bit)
-  rows_are_more_at =
-      take-suc-set rows bit (bit_and row.names (2 ^ width - 1)) (omega arith)
-      ∙ ap₂ (λ (xs : List ℕ) (x : ℕ). xs ++ x ∷ []) so_far.rows_are value
-
-  constants_more : bit_or constants (from_bool row.constant * 2 ^ bit % 65536) ≡ number (λ i. from_bool (constant_of (terms_said ss i))) (bit + 1)
-  constants_more =
-      ap (λ (b : Bool). bit_or constants (from_bool b * 2 ^ bit % 65536)) (given.3.constant ∙ ap constant_of (sym terms_are))
-      ∙ product_more (λ i. from_bool (constant_of (terms_said ss i))) bit constants (λ j. byte_of (constant_of (terms_said ss j))) (omega arith) so_far.constants_are
-
-  pub rows_are_more : RowsAre ss (bit + 1) (slice_set rows bit (bit_and row.names (2 ^ width - 1))) (bit_or constants (from_bool row.constant * 2 ^ bit % 65536))
-  rows_are_more = record {
-    there = subst (λ (n : ℕ). missing_row ss n ≡ None) (sym (add-one bit)) there_more;
-    rows_are = subst (λ (n : ℕ). take n (slice_set rows bit (bit_and row.names (2 ^ width - 1))) ≡ rows_said ss n) (sym (add-one bit)) rows_are_more_at;
-    constants_are = constants_more;
-  }
+pub rows_more : (ss : List Statement) (width bit : ℕ) (rows : List ℕ) (constants names : ℕ) (named : Bool) → bit < width → width ≤ 16 → IsSome (about (BitRow bit) ss)
+    → names ≡ index_bits (terms_said ss bit) → named ≡ constant_of (terms_said ss bit) → RowsAre ss bit rows constants
+    → RowsAre ss (bit + 1) (slice_set rows bit names) (bit_or constants (from_bool named * 2 ^ bit % 65536))
+rows_more ss width bit rows constants names named below narrow given n k s = record {
+  there = rw add-one (ap (λ r. or_else r (missing (BitRow bit) (RowField bit) ss)) s.there ∙ there (Missing (RowField bit)) (about (BitRow bit) ss) given);
+  count = length-set rows bit names ∙ s.count;
+  each = λ i l. elim (cases_lt i bit) [
+    | inl q ↦ let other : i ≢ bit = omega arith in get_or-set_other rows bit i names 0 other ∙ s.each i q
+    | inr q ↦ let e : bit ≡ i = omega arith in
+        subst (λ (i : ℕ). slice_index (slice_set rows bit names) i ≡ index_bits (terms_said ss i)) e (get_or-set_same rows bit names 0 (let sixteen = s.count in omega arith) ∙ n)
+  ];
+  constants_are =
+      ap (λ (b : Bool). bit_or constants (from_bool b * 2 ^ bit % 65536)) k ∙ product_more (bit_said ss) bit constants (λ j. byte_of (constant_of (terms_said ss j))) (omega arith) s.constants_are;
+}
 
 -- ---- the whole matrix
 
--- what the loop over the rows keeps
-pub record Gathered (ss : List Statement) (width bit : ℕ) (rows : List ℕ) (constants : ℕ) : Type 0 where
-  pub fits : RowsFit width rows constants
-  pub so_far : (size : ℕ) → too_wide ss width size ≡ None → RowsAre ss bit rows constants
+taken : (ss : List Statement) (rows : List ℕ) (n : ℕ) → n ≤ length rows → ((i : ℕ) → i < n → slice_index rows i ≡ index_bits (terms_said ss i)) → take n rows ≡ rows_said ss n
+taken ss rows zero l f = refl
+taken ss rows (suc n) l f =
+    take-suc rows n 0 (omega arith) ∙ ap₂ (λ (xs : List ℕ) (x : ℕ). xs ++ x ∷ []) (taken ss rows n (omega arith) (λ i p. f i (omega arith))) (f n (omega arith))
 
-pub gathered_begun : (ss : List Statement) (width : ℕ) → Gathered ss width 0 (replicate 16 0) 0
-gathered_begun ss width = record { fits = rows_begun width; so_far = λ size passed. rows_are_begun ss (replicate 16 0) }
+module _ (ss : List Statement) (width bit : ℕ) (rows : List ℕ) (constants : ℕ) (narrow : width ≤ 16) (end : bit ≡ width) (s : RowsAre ss bit rows constants) where
+  whole : RowsAre ss width rows constants
+  whole = subst (λ n. RowsAre ss n rows constants) end s
 
-pub gathered_more : (ss : List Statement) (width bit : ℕ) (rows : List ℕ) (constants : ℕ) (row : Row) → bit < width → width ≤ 16 → RowIs ss bit row → Gathered ss width bit rows constants
-    → Gathered ss width (bit + 1) (slice_set rows bit (bit_and row.names (2 ^ width - 1))) (bit_or constants (from_bool row.constant * 2 ^ bit % 65536))
-gathered_more ss width bit rows constants row below narrow given g = record {
-  fits = rows_more width rows constants bit row.names row.constant g.fits below narrow;
-  so_far = λ size passed. rows_are_more ss width size bit rows constants row g.fits.count below narrow passed given (g.so_far size passed);
-}
+  pub matrix_is : (missing_row ss width ≡ None) × (matrix_of width rows constants ≡ matrix_said ss width)
+  matrix_is =
+      let made : List ℕ → ℕ → Scrambling = λ rows constants. record { width = width; rows = rows; constant = constants } in
+      (whole.there, ap₂ made (taken ss rows width (let sixteen = whole.count in omega arith) whole.each) whole.constants_are)
+
+  pub rows_within : (size : ℕ) → too_wide ss width size ≡ None → 1 ≤ width → IsWithin width rows constants
+  rows_within size fit some = record {
+    positive = some;
+    narrow = narrow;
+    rows_fit = λ i l. subst (λ (x : ℕ). x < 2 ^ width) (sym (whole.each i l)) (terms_fit width (terms_said ss i) (terms_within ss width size i fit));
+    constant_fits = subst (λ (x : ℕ). x < 2 ^ width) (sym whole.constants_are) (number-below (bit_said ss) width (λ i _. byte_of (constant_of (terms_said ss i))));
+  }

@@ -1,5 +1,5 @@
 -- The terms of a row are taken as the grammar says.
-use Rattle.memory_desc.proofs.Common.{digits_value, Behind, IsNext, List, None, Read, Shortens, Shorter, Some, Term, Told, [], Continues, inl, and_from, apart, are_bytes, arith, at_bool, at_byte, by_byte, byte_of, constant, false, fits_of, if◌then◌else◌, index_bit, inr, is_blank, is_caret, is_digit, length, made_shorter, marked_term_of, more_terms, next_term_of, no_mark, no_tail, one_item, onward, onward_on, refl, remark_of, remark_shortens, same, some_shortens, space, spaced, spaced_shorter, stuck, subst, sym, tail, term_of, told_iff, took, true, weaker, when_false, word_of, ℕ, Number, ◌==◌, ◌↔◌, ◌∷◌, ◌≡◌, ◌≤◌}
+use Rattle.memory_desc.proofs.Common.{choice_shortens, digits_value, Behind, IsNext, List, Read, Shortens, Shorter, Some, Term, Told, [], Continues, inl, and_from, apart, are_bytes, arith, at_bool, at_byte, byte_of, constant, false, fits_of, if◌then◌else◌, index_bit, inr, is_blank, is_caret, is_digit, length, made_shorter, marked_term_of, more_terms, next_term_of, no_mark, no_tail, one_item, onward, onward_on, refl, same, some_shortens, space, spaced, spaced_shorter, stuck, subst, sym, tail, term_of, told_iff, took, true, weaker, when_false, word_of, ℕ, Number, ◌==◌, ◌↔◌, ◌∷◌, ◌≡◌, ◌≤◌}
 use Rattle.std.proofs.Common.{zero-le}
 use Rattle.bist_text.specs.keyed.Numbers.{number}
 use Rattle.bist_text.specs.keyed.Parts.{number_of, by_item}
@@ -104,11 +104,10 @@ term_shorter (c ∷ b) =
     (λ f. at_bool (λ t. Shorter (length (c ∷ b)) (if t then took (constant true) b else stuck (c ∷ b))) (c == 49) (λ g. omega arith) (λ g. tt)))
 
 pub term_next : IsNext next_term_of
-term_next = record { none = refl; shorter = λ b. go (length b) (spaced b) (spaced_shorter b) }
+term_next = record { none = refl; shorter = λ b. choice_shortens (length b) is_caret marked_term_of (spaced b) (spaced_shorter b) (marked (length b)) }
   where
-    go : (n : ℕ) (y : List ℕ) → length y ≤ n → Shortens n (by_byte is_caret marked_term_of (remark_of None) (took None []) y)
-    go n [] l = tt
-    go n (c ∷ y) l =
-        at_bool (λ t. Shortens n (if t then onward (if t then took tt y else stuck (c ∷ y)) (λ _ x. onward (term_of (spaced x)) (λ t x. took (Some t) x)) else remark_of None (c ∷ y))) (c == 94)
-        (λ e. (let less = spaced_shorter y in some_shortens (length (spaced y)) n (term_of (spaced y)) (term_shorter (spaced y)) (omega arith)))
-        (λ e. remark_shortens Term n (c ∷ y))
+    marked : (n : ℕ) (y : List ℕ) → length y ≤ n → Shortens n (marked_term_of y)
+    marked n [] l = tt
+    marked n (c ∷ y) l =
+        at_bool (λ t. Shortens n (onward (if t then took tt y else stuck (c ∷ y)) (λ _ x. onward (term_of (spaced x)) (λ t x. took (Some t) x)))) (c == 94)
+        (λ e. (let less = spaced_shorter y in some_shortens (length (spaced y)) n (term_of (spaced y)) (term_shorter (spaced y)) (omega arith))) (λ e. tt)

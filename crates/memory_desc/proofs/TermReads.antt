@@ -1,9 +1,7 @@
 -- The readers of terms, by the first byte and one after another.
-use Rattle.memory_desc.proofs.Common.{IsNext, None, refl, Content, List, Option, Read, Some, Term, [], ap, arith, byte_of, constant, drop, false, get_or, index_bit, length, marked_term_of, onward, row_of, scramble, spaced, stuck, sym, take, take_all, term_of, took, true, with_terms, ℕ, ◌-◌, ◌∙◌, ◌∷◌, ◌≡◌, ◌≤◌}
-use Rattle.bist_text.proofs.keyed.Items.{IsRead}
+use Rattle.memory_desc.proofs.Common.{Content, List, Option, Read, Some, Term, [], ap, arith, byte_of, constant, drop, false, get_or, index_bit, length, marked_term_of, onward, row_of, scramble, spaced, stuck, sym, take, take_all, term_of, took, true, ℕ, ◌-◌, ◌∙◌, ◌∷◌, ◌≡◌, ◌≤◌}
 use Rattle.bist_text.specs.keyed.Parts.{number_of}
 use Rattle.memory_desc.specs.inner.Heard.{terms_of}
-use Rattle.memory_desc.specs.declared.content.Row.{Row}
 
 abbrev Rest : List ℕ → List ℕ
 Rest b = take (length b - 1) (drop 1 b)
@@ -34,16 +32,6 @@ one_took (c ∷ b) l e = ap (λ (c : ℕ). term_of (c ∷ b)) e ∙ ap (λ (x : 
 pub marked_took : (b x y left : List ℕ) (t : Term) → byte_of 94 b ≡ took tt x → y ≡ spaced x → term_of y ≡ took t left → marked_term_of b ≡ took (Some t) left
 marked_took b x y left t h e k =
     ap (λ o. onward o (λ _ x. onward (term_of (spaced x)) (λ t x. took (Some t) x))) h ∙ ap (λ o. onward o (λ t x. took (Some t) x)) (ap term_of (sym e) ∙ k)
-
--- ---- the loop over the terms of a row
-
--- an item that is read is itself what the code has of it
-pub is_read : {A G : Type 0} (next : List ℕ → Read (Option A)) (is_next : IsNext next) (add : G → A → G) (b x : List ℕ) (o : Option A) → next b ≡ took o x → IsRead next is_next (λ (a : A). a) add b o x
-is_read next is_next add b x None e = (None, e, refl)
-is_read next is_next add b x (Some a) e = (Some a, e, refl)
-
-abbrev pub Gathered : Row → List ℕ → Read Row
-Gathered r b = onward (terms_of b) (λ ts x. took (with_terms r ts) x)
 
 -- ---- the whole row
 

@@ -1,5 +1,5 @@
 -- The words of a list are taken as the grammar says.
-use Rattle.memory_desc.proofs.Common.{Behind, Continues, IsNext, List, None, Read, Remark, Shortens, Some, Told, [], ap, arith, at_bool, by_item, digits_value, fits_of, gap_off, gap_on, hex_word_of, if◌then◌else◌, inl, inr, is_blank, is_hex, length, longer, more_words, next_word_of, no_item, one_item, onward, refl, remark_of, remark_shortens, remark_told, run_is, same, space, spaced, spaced_shorter, spaced_word_of, stuck, subst, suc, sym, tail, tail_blank, tail_other, told_from, told_iff, took, true, word_of, word_shortens, ℕ, ◌&&◌, ◌∷◌, ◌≡◌, ◌≤◌}
+use Rattle.memory_desc.proofs.Common.{choice_shortens, Behind, Continues, IsNext, List, None, Read, Remark, Shortens, Some, Told, [], ap, arith, at_bool, by_item, digits_value, fits_of, gap_off, gap_on, hex_word_of, if◌then◌else◌, inl, inr, is_blank, is_hex, length, longer, more_words, next_word_of, no_item, one_item, onward, refl, remark_of, remark_told, run_is, same, space, spaced, spaced_shorter, spaced_word_of, stuck, subst, suc, sym, tail, tail_blank, tail_other, told_from, told_iff, took, true, word_of, word_shortens, ℕ, ◌&&◌, ◌∷◌, ◌≡◌}
 use Rattle.bist_text.specs.declared.keyed_lines.Class.TheVariants.{Word as HexWord}
 use Rattle.bist_text.proofs.Carried.{Said}
 use Rattle.bist_text.proofs.LineStops.{gap_stops, tail_stops}
@@ -7,7 +7,7 @@ use Rattle.bist_text.proofs.keyed.Listed.{Begins, IsItem, by_first, choice_told}
 use Rattle.bist_text.proofs.keyed.PartLaws.{Either, Ends, Hears, word_never, word_none}
 use Rattle.bist_text.proofs.keyed.Taken.{Takes, hex_digits, value_taken}
 use Rattle.memory_desc.specs.LineText.{hex_word, is_word}
-use Rattle.memory_desc.specs.inner.Heard.{hex_number_of}
+use Rattle.bist_text.specs.keyed.Parts.{hex_number_of}
 
 pub hex_taken : {A V : Type 0} {n : ℕ} {f : ℕ → A → V} {T : ℕ → A → List ℕ → Type 0} {r : ℕ → List ℕ → Read V} → ((w : ℕ) → Takes n is_hex (f w) (T w) (r w))
     → Takes n is_blank (λ (q : ℕ × A). f q.0 q.1) (λ q. hex_word q.0 (T q.0 q.1)) (λ b. onward (hex_number_of b) r)
@@ -68,16 +68,9 @@ hex_shortens b = go (word_of (fits_of HexWord) b) (word_shortens (fits_of HexWor
     go (stuck x) h = tt
 
 pub word_next : IsNext next_word_of
-word_next = record { none = refl; shorter = shorter }
-  where
-    go : (n : ℕ) (y : List ℕ) → length y ≤ n → Shortens n (spaced_word_of y)
-    go n [] l = tt
-    go n (d ∷ y) l =
-        at_bool (λ t. Shortens n (if t then hex_word_of (d ∷ y) else remark_of None (d ∷ y))) (is_hex d)
-        (λ e. longer (length (d ∷ y)) n (hex_word_of (d ∷ y)) l (hex_shortens (d ∷ y))) (λ e. remark_shortens ℕ n (d ∷ y))
-
-    shorter : (b : List ℕ) → Shortens (length b) (next_word_of b)
-    shorter [] = tt
-    shorter (c ∷ b) =
-        at_bool (λ t. Shortens (length (c ∷ b)) (if t then spaced_word_of (if t then spaced b else c ∷ b) else remark_of None (c ∷ b))) (is_blank c)
-        (λ e. (let less = spaced_shorter b in go (length (c ∷ b)) (spaced b) (omega arith))) (λ e. remark_shortens ℕ (length (c ∷ b)) (c ∷ b))
+word_next = record {
+  none = refl;
+  shorter = λ b.
+      choice_shortens (length b) is_blank (λ x. spaced_word_of (spaced x)) b (omega arith)
+      (λ y l. choice_shortens (length b) is_hex hex_word_of (spaced y) (let less = spaced_shorter y in omega arith) (λ z i. longer (length z) (length b) (hex_word_of z) i (hex_shortens z)));
+}

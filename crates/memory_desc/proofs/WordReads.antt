@@ -1,14 +1,6 @@
 -- The readers of words, and the loop over those of a list.
-use Rattle.memory_desc.proofs.Common.{digits_value, sym, Bool, List, None, Read, SeenWords, Some, [], ap, backgrounds, byte_of, end_of, ends_with, fits_of, hex_word_of, if◌then◌else◌, is_hex, listed_of, log, log_of, onward, refl, remark_of, slice_index, spaced_word_of, took, true, with_words, word_of, words_of, ℕ, ◌∙◌, ◌∷◌, ◌≡◌, ◌≢◌}
-use Rattle.bist_text.specs.declared.keyed_lines.Class.TheVariants.{Word as HexWord}
-use Rattle.memory_desc.specs.inner.Heard.{hex_number_of}
-
-abbrev pub Gathered : SeenWords → List ℕ → Read SeenWords
-Gathered r b = onward (words_of b) (λ ws x. took (with_words r ws) x)
-
--- the value of a word that is read
-pub hex_took : (b x : List ℕ) (w : ℕ) → (ds : List ℕ) × (word_of (fits_of HexWord) b ≡ took ds x) × (w ≡ digits_value 16 ds) → hex_number_of b ≡ took w x
-hex_took b x w h = ap (λ o. onward o (λ ds x. took (digits_value 16 ds) x)) h.1 ∙ ap (λ n. took n x) (sym h.2)
+use Rattle.memory_desc.proofs.Common.{Bool, List, None, Read, Some, [], ap, backgrounds, byte_of, end_of, ends_with, hex_word_of, if◌then◌else◌, is_hex, listed_of, log, log_of, onward, refl, remark_of, slice_index, spaced_word_of, took, true, words_of, ℕ, ◌∙◌, ◌∷◌, ◌≡◌, ◌≢◌}
+use Rattle.bist_text.specs.keyed.Parts.{hex_number_of}
 
 pub listed_took : (b x left : List ℕ) (w : ℕ) (ws : List ℕ) → hex_number_of b ≡ took w x → words_of x ≡ took ws left → listed_of b ≡ took (Some (backgrounds (w ∷ ws))) left
 listed_took b x left w ws h k =

@@ -1,54 +1,71 @@
 //! The scrambling and the backgrounds of a text whose lines are all lines of a description.
 
-ghost use Rattle.std.specs.Prelude.{◌≡◌, ◌≤◌, ◌↔◌, ℕ, false, List, Some, None, Ok, Err, IsTrue, Contains, IfOk, MatchResult};
+ghost use Rattle.std.specs.Prelude.{◌≡◌, ◌≤◌, ℕ, false, None, Some, Ok, Err, IfOk, MatchResult};
+ghost use Rattle.std.specs.List.{list_any};
 ghost use Rattle.bist_text.specs.Lines.{text_lines};
-ghost use Rattle.scrambler.specs.Scrambling.{IsFull, IsInvertible, IsWithin, identity};
-ghost use Rattle.memory_desc.specs.Descriptions.{IsBackgrounds};
+ghost use Rattle.scrambler.specs.Scrambling.{IsFull, IsInvertible, IsWithin};
 ghost use Rattle.memory_desc.specs.Subjects.{said};
-ghost use Rattle.memory_desc.specs.Table.{is_scrambled, too_wide};
-ghost use Rattle.memory_desc.specs.LineText.{Content as LineContent, backgrounds as backgrounds_line, kind_of};
-ghost use Rattle.memory_desc.specs.declared.content.Key.TheVariants.{Backgrounds};
+ghost use Rattle.memory_desc.specs.Table.{is_scrambled, is_term_too_wide, too_wide};
+ghost use Rattle.memory_desc.specs.LineText.{backgrounds as backgrounds_line};
+ghost use Rattle.memory_desc.specs.Values.{constant_of, index_bits};
 ghost use Rattle.memory_desc.specs.declared.content.Subject.TheVariants.{Backgrounds as OfBackgrounds};
 ghost use Rattle.memory_desc.specs.inner.Heard.{statements};
-ghost use Rattle.memory_desc.specs.inner.Seen.{plain_content, seen};
-ghost use Rattle.memory_desc.specs.inner.Standing.{row_in_seen, AreWords, GivesBackgrounds, GivesMatrix, GivesScrambling};
+ghost use Rattle.memory_desc.specs.inner.Standing.{GivesBackgrounds, GivesMatrix, GivesScrambling};
 
-use crate::content::{Content, Row, Subject, WordList};
+use crate::content::{Content, Subject, Term};
 use crate::fault::{Field, MemoryFault};
-use crate::search::{field, statement_about};
+use crate::row_reader::Terms;
+use crate::search::content_about;
+use crate::values::terms_in;
+use crate::word_reader::Words;
 use arrayvec::ArrayVec;
 use backgrounds::log_set;
-use bist_bits::all_ones;
 use scrambler::{Matrix, Scramble, invert};
 
-/// The row that a `scramble` line gives.
-fn row_of(content: &Content<'_>) -> Row
-    ensures { result ≡ row_in_seen (plain_content content.now) }
+/// A row of the matrix.
+#[derive(Clone, Copy)]
+struct Row {
+    /// The index bits that it names an odd number of times.
+    names: u16,
+    constant: bool,
+}
+
+/// The row of terms that all stay within the address.
+fn row_of(terms: Terms<'_>) -> Row
+    requires { (width : ℕ) × (width ≤ 16) × (list_any (is_term_too_wide width) terms ≡ false) }
+    ensures names { result.names ≡ index_bits terms.entry }
+    ensures constant { result.constant ≡ constant_of terms.entry }
 {
-    match content {
-        Content::Scramble(row) => *row,
-        _ => Row {
-            bit: 0,
-            names: 0,
-            constant: false,
-            highest: 0,
-        },
+    let mut row = Row {
+        names: 0,
+        constant: false,
+    };
+    for term in terms {
+        match term {
+            Term::IndexBit(bit) => row.names ^= 1 << bit,
+            Term::Constant(true) => row.constant = !row.constant,
+            Term::Constant(false) => {}
+        }
     }
+    row
 }
 
 /// The matrix of the rows; each row of the address must be there.
-#[tactic(auto, using(crate::proofs::Parts::rows_within))]
 fn matrix_from(bytes: &[u8], width: u8) -> Result<Matrix, MemoryFault>
-    requires { (1 ≤ width) × (width ≤ 16) }
+    requires width { (1 ≤ width) × (width ≤ 16) }
+    requires fit { (size : ℕ) × (too_wide (statements (text_lines bytes.now)) width size ≡ None) }
     ensures within { IfOk result (λ m. (m.width ≡ width) × IsWithin m.width m.rows m.constant) }
-    ensures rows { (size : ℕ) → too_wide (statements (text_lines bytes.now)) width size ≡ None → GivesMatrix (statements (text_lines bytes.now)) width result }
+    ensures rows { GivesMatrix (statements (text_lines bytes.now)) width result }
 {
     let mut rows = [0; 16];
     let mut constant = 0;
     for bit in 0..width {
-        let statement = field(bytes, Subject::Row(u32::from(bit)), Field::Row(bit))?;
-        let row = row_of(&statement.content);
-        rows[bit as usize] = row.names & (all_ones(width) as u16);
+        let Some(content) = content_about(bytes, Subject::Row(u32::from(bit))) else {
+            let field = Field::Row(bit);
+            return Err(MemoryFault::Missing { field });
+        };
+        let row = row_of(terms_in(content));
+        rows[bit as usize] = row.names;
         constant |= (row.constant as u16) << bit;
     }
     Ok(Matrix {
@@ -60,13 +77,13 @@ fn matrix_from(bytes: &[u8], width: u8) -> Result<Matrix, MemoryFault>
 
 /// The scrambling of the rows, or the identity where there are none.
 pub fn scramble_from(bytes: &[u8], scrambled: bool, width: u8) -> Result<Scramble, MemoryFault>
-    requires { (1 ≤ width) × (width ≤ 16) }
+    requires width { (1 ≤ width) × (width ≤ 16) }
+    requires fit { (size : ℕ) × (too_wide (statements (text_lines bytes.now)) width size ≡ None) }
+    requires rows { scrambled ≡ is_scrambled (statements (text_lines bytes.now)) }
     ensures width { IfOk result (λ s. s.width ≡ width) }
     ensures full { IfOk result IsFull }
     ensures invertible { IfOk result IsInvertible }
-    ensures unscrambled { IfOk result (λ s. scrambled ≡ false → s ≡ identity width) }
-    ensures rows { (size : ℕ) → too_wide (statements (text_lines bytes.now)) width size ≡ None → scrambled ≡ is_scrambled (statements (text_lines bytes.now))
-        → GivesScrambling (statements (text_lines bytes.now)) width result }
+    ensures gives { GivesScrambling (statements (text_lines bytes.now)) width result }
 {
     if !scrambled {
         return Ok(Scramble::identity(width));
@@ -81,41 +98,30 @@ pub fn scramble_from(bytes: &[u8], scrambled: bool, width: u8) -> Result<Scrambl
 }
 
 /// The backgrounds of a list.
-fn listed(words: WordList) -> Result<ArrayVec<u64, 8>, MemoryFault>
-    ensures { (ws : List ℕ) (size : ℕ) → AreWords ws words
-        → MatchResult result (λ b. GivesBackgrounds (Some (backgrounds_line ws)) size (Ok b.items)) (λ fault. GivesBackgrounds (Some (backgrounds_line ws)) size (Err fault)) }
+fn listed(words: Words<'_>) -> Result<ArrayVec<u64, 8>, MemoryFault>
+    ensures { (size : ℕ) → MatchResult result (λ b. GivesBackgrounds (Some (backgrounds_line words.entry)) size (Ok b.items)) (λ fault. GivesBackgrounds (Some (backgrounds_line words.entry)) size (Err fault)) }
 {
-    if words.count > 8 {
-        return Err(MemoryFault::TooManyBackgrounds);
+    let mut set = ArrayVec::new();
+    for word in words {
+        if set.is_full() {
+            return Err(MemoryFault::TooManyBackgrounds);
+        }
+        set.push(word);
     }
-    if !words.first.as_slice().contains(&0) {
+    if !set.as_slice().contains(&0) {
         return Err(MemoryFault::NoSolidBackground);
     }
-    Ok(words.first)
-}
-
-/// The backgrounds of a `backgrounds` line.
-fn backgrounds_of(content: Content<'_>, bits: u8) -> Result<ArrayVec<u64, 8>, MemoryFault>
-    requires { (1 ≤ bits) × (bits ≤ 64) }
-    ensures { (c : LineContent) → plain_content content.entry ≡ seen c → kind_of c ≡ Backgrounds
-        → MatchResult result (λ b. GivesBackgrounds (Some c) bits (Ok b.items)) (λ fault. GivesBackgrounds (Some c) bits (Err fault)) }
-{
-    match content {
-        Content::Backgrounds(words) => listed(words),
-        _ => Ok(log_set(bits)),
-    }
+    Ok(set)
 }
 
 /// The backgrounds that are listed, or the logarithmic set where none are.
 pub fn backgrounds_from(bytes: &[u8], bits: u8) -> Result<ArrayVec<u64, 8>, MemoryFault>
-    requires bits { (1 ≤ bits) × (bits ≤ 64) }
-    requires fit { (width : ℕ) × (too_wide (statements (text_lines bytes.now)) width bits ≡ None) }
-    ensures set { IfOk result (λ b. IsBackgrounds bits b.items) }
-    ensures tests { MatchResult result (λ b. GivesBackgrounds (said OfBackgrounds (statements (text_lines bytes.now))) bits (Ok b.items))
+    requires { (1 ≤ bits) × (bits ≤ 64) }
+    ensures { MatchResult result (λ b. GivesBackgrounds (said OfBackgrounds (statements (text_lines bytes.now))) bits (Ok b.items))
         (λ fault. GivesBackgrounds (said OfBackgrounds (statements (text_lines bytes.now))) bits (Err fault)) }
 {
-    match statement_about(bytes, Subject::Backgrounds) {
-        Some(statement) => backgrounds_of(statement.content, bits),
-        None => Ok(log_set(bits)),
+    match content_about(bytes, Subject::Backgrounds) {
+        Some(Content::Backgrounds(words)) => listed(words),
+        _ => Ok(log_set(bits)),
     }
 }

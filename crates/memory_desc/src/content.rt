@@ -1,9 +1,11 @@
 //! What a line of a memory description says.
 
 ghost use Rattle.std.specs.Prelude.{◌≡◌};
-ghost use Rattle.memory_desc.specs.inner.Seen.{plain_content, subject_of};
+ghost use Rattle.memory_desc.specs.Subjects.{subject};
+ghost use Rattle.memory_desc.specs.inner.Seen.{plain_content};
 
-use arrayvec::ArrayVec;
+use crate::row_reader::Terms;
+use crate::word_reader::Words;
 
 /// The kinds of content lines, by their first word.
 #[derive(Clone, Copy)]
@@ -48,28 +50,6 @@ pub enum Term {
     Constant(bool),
 }
 
-/// A scrambling row as it is written.
-#[derive(Clone, Copy)]
-pub struct Row {
-    /// The bit of the address.
-    pub bit: u32,
-    /// The index bits below 16 that it names an odd number of times.
-    pub names: u16,
-    pub constant: bool,
-    /// The greatest index bit that is written.
-    pub highest: u32,
-}
-
-/// Background words as they are written.
-#[derive(Drop)]
-pub struct WordList {
-    /// The first eight.
-    pub first: ArrayVec<u64, 8>,
-    pub count: usize,
-    /// Each bit that some word has.
-    pub union: u64,
-}
-
 /// What a content line says.
 #[derive(Drop)]
 pub enum Content<'a> {
@@ -80,10 +60,11 @@ pub enum Content<'a> {
     Latency(u32),
     Polarity(u64),
     Pause(u32),
-    Scramble(Row),
+    /// The bit of the address, and the terms of its row.
+    Scramble(u32, Terms<'a>),
     /// The logarithmic set of backgrounds.
     Log,
-    Backgrounds(WordList),
+    Backgrounds(Words<'a>),
 }
 
 /// A content line: its number, from 1, and what it says.
@@ -95,7 +76,7 @@ pub struct Statement<'a> {
 
 /// What a content line speaks of.
 pub fn subject_of(content: &Content<'_>) -> Subject
-    ensures { result ≡ subject_of (plain_content content.now) }
+    ensures { result ≡ subject (plain_content content.now) }
 {
     match content {
         Content::Version(_) => Subject::Version,
@@ -105,7 +86,7 @@ pub fn subject_of(content: &Content<'_>) -> Subject
         Content::Latency(_) => Subject::Latency,
         Content::Polarity(_) => Subject::Polarity,
         Content::Pause(_) => Subject::Pause,
-        Content::Scramble(row) => Subject::Row(row.bit),
+        Content::Scramble(bit, _) => Subject::Row(*bit),
         Content::Log | Content::Backgrounds(_) => Subject::Backgrounds,
     }
 }

@@ -23,10 +23,11 @@ mod read;
 mod row_numbers;
 mod row_reader;
 mod search;
-mod timing;
+mod values;
 mod word_reader;
 
 pub use fault::{Field, MemoryFault};
 pub use memory::Memory;
 pub use print::print_memory;
-pub use read::read_memory;
+pub use read::{name_from, read_memory};
+pub use search::is_name_outside;

@@ -1,13 +1,13 @@
 //! The reader of one line.
 
-ghost use Rattle.std.specs.Prelude.{◌≡◌, ℕ, List, Option, Some, MatchResult, map, option_map};
+ghost use Rattle.std.specs.Prelude.{◌≡◌, ℕ, Option, Some, MatchResult, map};
 ghost use Rattle.bist_text.specs.Keywords.{word_of};
 ghost use Rattle.bist_text.specs.keyed.Lines.{answer, keyed_of};
 ghost use Rattle.bist_text.specs.keyed.Reading.{took, stuck};
 ghost use Rattle.memory_desc.specs.LineText.{Content as LineContent};
 ghost use Rattle.memory_desc.specs.declared.content.Key.TheVariants.{Name, Polarity};
 ghost use Rattle.memory_desc.specs.inner.Heard.{argument_of, heard, keys_of, numbered_of, said};
-ghost use Rattle.memory_desc.specs.inner.Seen.{plain_content, plain_line_content, plain_said, seen, seen_answer, Took};
+ghost use Rattle.memory_desc.specs.inner.Seen.{plain_content, plain_line_content, plain_said};
 
 use crate::content::{Content, Key, Version};
 use crate::row_reader::row;
@@ -51,7 +51,7 @@ fn numbered(text: &[u8]) -> Read<'_, u32>
 }
 
 fn name<'a>(text: &'a [u8]) -> Read<'a, Content<'a>>
-    ensures { MatchResult result (λ r. Took (argument_of Name text.now) (plain_content r.0) r.1.now) (λ left. argument_of Name text.now ≡ stuck left.now) }
+    ensures { MatchResult result (λ r. argument_of Name text.now ≡ took (Some (plain_content r.0)) r.1.now) (λ left. argument_of Name text.now ≡ stuck left.now) }
 {
     let (name, text) = word(text, Class::Name)?;
     let ((), text) = end(text)?;
@@ -59,7 +59,7 @@ fn name<'a>(text: &'a [u8]) -> Read<'a, Content<'a>>
 }
 
 fn polarity<'a>(text: &'a [u8]) -> Read<'a, Content<'a>>
-    ensures { MatchResult result (λ r. Took (argument_of Polarity text.now) (plain_content r.0) r.1.now) (λ left. argument_of Polarity text.now ≡ stuck left.now) }
+    ensures { MatchResult result (λ r. argument_of Polarity text.now ≡ took (Some (plain_content r.0)) r.1.now) (λ left. argument_of Polarity text.now ≡ stuck left.now) }
 {
     let (word, text) = hex_number(text)?;
     let ((), text) = end(text)?;
@@ -68,7 +68,7 @@ fn polarity<'a>(text: &'a [u8]) -> Read<'a, Content<'a>>
 
 /// What stands behind a first word and blanks.
 fn argument<'a>(text: &'a [u8], key: Key) -> Read<'a, Content<'a>>
-    ensures { MatchResult result (λ r. Took (argument_of key text.now) (plain_content r.0) r.1.now) (λ left. argument_of key text.now ≡ stuck left.now) }
+    ensures { MatchResult result (λ r. argument_of key text.now ≡ took (Some (plain_content r.0)) r.1.now) (λ left. argument_of key text.now ≡ stuck left.now) }
 {
     match key {
         Key::Memory => {
@@ -100,7 +100,7 @@ fn argument<'a>(text: &'a [u8], key: Key) -> Read<'a, Content<'a>>
 
 /// A content line.
 fn keyed<'a>(text: &'a [u8], given: Option<Version>) -> Read<'a, Content<'a>>
-    ensures { MatchResult result (λ r. Took (keyed_of (keys_of given) argument_of text.now) (plain_content r.0) r.1.now) (λ left. keyed_of (keys_of given) argument_of text.now ≡ stuck left.now) }
+    ensures { MatchResult result (λ r. keyed_of (keys_of given) argument_of text.now ≡ took (Some (plain_content r.0)) r.1.now) (λ left. keyed_of (keys_of given) argument_of text.now ≡ stuck left.now) }
 {
     let (key, text) = key(text, keys_of(given))?;
     let ((), text) = gap(text)?;
@@ -112,7 +112,7 @@ pub fn read_line<'a>(
     text: &'a [u8],
     given: Option<Version>,
 ) -> Result<Option<Content<'a>>, LineFault>
-    ensures { plain_said result ≡ seen_answer (answer (heard given text.now)) }
+    ensures { plain_said result ≡ answer (heard given text.now) }
 {
     let content = blanks(text);
     match content {
@@ -131,7 +131,7 @@ pub fn read_line<'a>(
 
 /// What a line says that is one of a table; None of another.
 pub fn said<'a>(text: &'a [u8]) -> Option<Content<'a>>
-    ensures { plain_line_content result ≡ option_map seen (said text.now) }
+    ensures { plain_line_content result ≡ said text.now }
 {
     read_line(text, Some(Version::Two)).unwrap_or(None)
 }

@@ -3,10 +3,9 @@
 ghost use Rattle.std.specs.Prelude.{◌≡◌, None, Some};
 ghost use Rattle.bist_text.specs.Lines.{text_lines};
 ghost use Rattle.bist_text.specs.keyed.Texts.{checked, walk};
-ghost use Rattle.memory_desc.specs.Statements.{version_of};
+ghost use Rattle.memory_desc.specs.Statements.{version_in, version_of};
 ghost use Rattle.memory_desc.specs.inner.Heard.{version_at};
 ghost use Rattle.memory_desc.specs.inner.Seen.{plain_content};
-ghost use Rattle.memory_desc.specs.inner.Standing.{version_in_seen};
 
 use crate::content::{Content, Version};
 use crate::line_reader::read_line;
@@ -26,7 +25,7 @@ fn version_from(number: u32) -> Option<Version>
 
 /// The version that a line's content gives.
 fn version_in(content: &Content<'_>) -> Option<Version>
-    ensures { result ≡ version_in_seen (plain_content content.now) }
+    ensures { result ≡ version_in (plain_content content.now) }
 {
     match content {
         Content::Version(number) => version_from(*number),

@@ -21,14 +21,6 @@ fn put_number_line(out: &mut Vec<u8>, word: &[u8], n: u64) -> Result<(), NoMemor
     put(out, b"\n")
 }
 
-fn put_name_line(out: &mut Vec<u8>, name: &str) -> Result<(), NoMemory>
-    ensures { OnOk result (out.new.items ≡ out.old.items ++ (codes "name " ++ (name.now ++ codes "\n"))) }
-{
-    put(out, b"name ")?;
-    put(out, name.as_bytes())?;
-    put(out, b"\n")
-}
-
 /// Whether version 1 can say all of a memory.
 fn is_plain(memory: &Memory) -> bool
     ensures { result ≡ is_plain memory.now }
@@ -46,7 +38,9 @@ fn put_head(out: &mut Vec<u8>, memory: &Memory) -> Result<(), NoMemory>
     ensures { OnOk result (Adds memory.now.bits (with_head memory.now (is_plain memory.now)) out.old.items out.new.items) }
 {
     put_number_line(out, b"memory ", version_number(is_plain(memory)))?;
-    put_name_line(out, memory.name())?;
+    put(out, b"name ")?;
+    put(out, memory.name().as_bytes())?;
+    put(out, b"\n")?;
     put_number_line(out, b"words ", u64::from(memory.words()))?;
     put_number_line(out, b"bits ", u64::from(memory.bits()))?;
     Ok(())
@@ -98,22 +92,14 @@ fn put_row(out: &mut Vec<u8>, scramble: &Scramble, i: u8) -> Result<(), NoMemory
     put(out, b"\n")
 }
 
-/// How many rows are printed.
-fn rows_printed(scramble: &Scramble) -> u8
-    ensures value { result ≡ rows_printed scramble.now }
-    ensures few { result ≤ scramble.now.width }
-{
-    if scramble.is_identity() {
-        0
-    } else {
-        scramble.width()
-    }
-}
-
+/// The rows, unless they change nothing.
 fn put_rows(out: &mut Vec<u8>, scramble: &Scramble) -> Result<(), NoMemory>
     ensures { OnOk result ((size : ℕ) → Adds size (with_rows scramble.now (rows_printed scramble.now)) out.old.items out.new.items) }
 {
-    for i in 0..rows_printed(scramble) {
+    if scramble.is_identity() {
+        return Ok(());
+    }
+    for i in 0..scramble.width() {
         put_row(out, scramble, i)?;
     }
     Ok(())
@@ -121,7 +107,7 @@ fn put_rows(out: &mut Vec<u8>, scramble: &Scramble) -> Result<(), NoMemory>
 
 /// Words, each behind a blank, in as many digits as they need.
 fn put_words(out: &mut Vec<u8>, set: &[u64], bits: u8) -> Result<(), NoMemory>
-    requires width { (1 ≤ bits) × (bits ≤ 64) }
+    requires width { bits ≤ 64 }
     requires fit { All (λ b. b < 2 ^ bits) set.now }
     ensures { OnOk result (out.new.items ≡ out.old.items ++ words_text bits set.now) }
 {

@@ -1,13 +1,14 @@
 //! The reader of a row: what stands behind the first word of a `scramble` line.
 
-ghost use Rattle.std.specs.Prelude.{◌≡◌, List, Option, MatchResult, option_map};
+ghost use Rattle.std.specs.Prelude.{◌≡◌, ◌∷◌, [], List, Some, MatchResult};
 ghost use Rattle.bist_text.specs.keyed.Reading.{took, stuck};
 ghost use Rattle.memory_desc.specs.LineText.{Term as TermOf};
 ghost use Rattle.memory_desc.specs.inner.Heard.{row_of, term_of, marked_term_of, next_term_of, terms_of};
-ghost use Rattle.memory_desc.specs.inner.Seen.{plain_content, with_term, with_terms, Took};
+ghost use Rattle.memory_desc.specs.inner.Seen.{plain_content};
 
-use crate::content::{Content, Row, Term};
+use crate::content::{Content, Term};
 use bist_text::keyed_lines::{Read, blanks, byte, comment, number};
+use std::marker::Model;
 
 /// A term.
 #[tactic(auto, using(crate::proofs::TermReads::index_took, crate::proofs::TermReads::index_stuck, crate::proofs::TermReads::zero_took, crate::proofs::TermReads::one_took))]
@@ -57,58 +58,87 @@ fn next_term(text: &[u8]) -> Read<'_, Option<Term>>
     }
 }
 
-/// A row with one more term.
-fn with_term(row: Row, term: Term) -> Row
-    ensures { result ≡ with_term row term }
-{
-    match term {
-        Term::IndexBit(bit) => Row {
-            names: if bit < 16 {
-                row.names ^ (1 << bit)
-            } else {
-                row.names
-            },
-            highest: row.highest.max(bit),
-            ..row
-        },
-        Term::Constant(false) => row,
-        Term::Constant(true) => Row {
-            constant: !row.constant,
-            ..row
-        },
+/// The terms of a row, one after another.
+#[derive(Drop)]
+pub struct Terms<'a> {
+    next: Option<Term>,
+    /// What stands behind the next.
+    left: &'a [u8],
+}
+
+impl<'a> Model for Terms<'a> {
+    ghost use Rattle.std.specs.Prelude.{List};
+    ghost use Rattle.memory_desc.specs.LineText.{Term};
+    ghost use Rattle.memory_desc.specs.inner.Heard.{items_after, terms_of, IsWhole};
+
+    ghost Value = { List Term };
+
+    ghost view = { λ s. items_after s.next (terms_of s.left.now) };
+
+    ghost invariant = { λ s. IsWhole (terms_of s.left.now) };
+}
+
+impl<'a> Terms<'a> {
+    pub fn none() -> Terms<'a>
+        ensures { result ≡ [] }
+    {
+        let next = None;
+        Terms { next, left: &[] }
+    }
+
+    /// The same once more.
+    pub fn again(&self) -> Terms<'a>
+        ensures { result ≡ self.now }
+    {
+        let Terms { next, left } = *self;
+        Terms { next, left }
     }
 }
 
-/// A row with the terms that follow, to the end of the line.
-fn with_terms<'a>(text: &'a [u8], row: Row) -> Read<'a, Row>
-    ensures { MatchResult result (λ r. (ts : List TermOf) × (terms_of text.now ≡ took ts r.1.now) × (r.0 ≡ with_terms row ts)) (λ left. terms_of text.now ≡ stuck left.now) }
+impl<'a> Iterator for Terms<'a> {
+    ghost use Rattle.std.specs.Iterator.{YieldsFirst, item_count};
+
+    type Item = Term;
+
+    ghost next_gives = { YieldsFirst (λ s. s) };
+
+    ghost remaining = { item_count (λ s. s) };
+
+    fn next(&mut self) -> Option<Term> {
+        let term = self.next?;
+        if let Ok((Some(next), left)) = next_term(self.left) {
+            self.next = Some(next);
+            self.left = left;
+        } else {
+            self.next = None;
+        }
+        Some(term)
+    }
+}
+
+/// This term and those that follow, to the end of the line.
+fn terms_from<'a>(first: Term, text: &'a [u8]) -> Read<'a, Terms<'a>>
+    ensures { MatchResult result (λ r. (ts : List TermOf) × (terms_of text.now ≡ took ts r.1.now) × (r.0 ≡ first ∷ ts)) (λ left. terms_of text.now ≡ stuck left.now) }
 {
-    let mut row = row;
     let mut left = text;
     loop {
         let (next, rest) = next_term(left)?;
-        let Some(term) = next else {
-            return Ok((row, rest));
+        let Some(_) = next else {
+            let next = Some(first);
+            return Ok((Terms { next, left: text }, rest));
         };
-        row = with_term(row, term);
         left = rest;
     }
 }
 
 /// The row of a `scramble` line.
 pub fn row(text: &[u8]) -> Read<'_, Content<'_>>
-    ensures { MatchResult result (λ r. Took (row_of text.now) (plain_content r.0) r.1.now) (λ left. row_of text.now ≡ stuck left.now) }
+    ensures { MatchResult result (λ r. row_of text.now ≡ took (Some (plain_content r.0)) r.1.now) (λ left. row_of text.now ≡ stuck left.now) }
 {
     let ((), text) = byte(text, b'a')?;
     let (bit, text) = number(text)?;
     let ((), text) = byte(blanks(text), b'=')?;
     let (first, text) = term(blanks(text))?;
-    let row = Row {
-        bit,
-        names: 0,
-        constant: false,
-        highest: 0,
-    };
-    let (row, text) = with_terms(text, with_term(row, first))?;
-    Ok((Content::Scramble(row), text))
+    let (terms, text) = terms_from(first, text)?;
+    Ok((Content::Scramble(bit, terms), text))
 }

@@ -1,22 +1,24 @@
 //! Searches in the lines of a text.
 
-ghost use Rattle.std.specs.Prelude.{◌≡◌, ◌≤◌, ◌||◌, nat_lt, length, false, List, None, find, option_map};
+ghost use Rattle.std.specs.Prelude.{◌≡◌, ◌≤◌, ◌^◌, ◌||◌, nat_le, nat_lt, length, false, find, option_map};
+ghost use Rattle.std.specs.List.{list_any};
 ghost use Rattle.bist_text.specs.ReservedWords.{is_among, reserved_words};
 ghost use Rattle.bist_text.specs.Lines.{text_lines};
 ghost use Rattle.bist_text.specs.keyed.Texts.{checked};
 ghost use Rattle.memory_desc.specs.declared.fault.MemoryFault.TheVariants.{OutOfRange};
-ghost use Rattle.memory_desc.specs.Subjects.{about};
-ghost use Rattle.memory_desc.specs.Table.{at_line, is_other, is_scrambled, repeated, out_of_range, too_wide};
+ghost use Rattle.memory_desc.specs.Subjects.{about, said};
+ghost use Rattle.memory_desc.specs.Table.{at_line, is_other, is_out_of_range, is_scrambled, is_term_too_wide, is_too_wide, missing, repeated, out_of_range, too_wide};
 ghost use Rattle.memory_desc.specs.inner.Heard.{statements};
 ghost use Rattle.memory_desc.specs.inner.Met.{MayBeMet};
-ghost use Rattle.memory_desc.specs.inner.Seeking.{first_sought, is_out_of_range, is_outside, is_row, is_sought, is_too_wide, tests, IsPosed};
-ghost use Rattle.memory_desc.specs.inner.Seen.{plain_content, plain_statement, seen_statements};
-ghost use Rattle.memory_desc.specs.inner.Standing.{StandsAt, GivesField};
+ghost use Rattle.memory_desc.specs.inner.Seeking.{is_outside, is_sought, IsPosed};
+ghost use Rattle.memory_desc.specs.inner.Seen.{plain_content, plain_statement};
 
-use crate::content::{Content, Statement, Subject, subject_of};
+use crate::content::{Content, Statement, Subject, Term, subject_of};
 use crate::fault::{Field, MemoryFault};
 use crate::line_reader::said;
 use crate::row_numbers::RowNumbers;
+use crate::row_reader::Terms;
+use crate::word_reader::Words;
 use bist_bits::all_ones;
 use bist_text::{Lines, is_reserved};
 
@@ -40,7 +42,7 @@ fn is_sought(content: &Content<'_>, sought: Sought) -> bool
     match sought {
         Sought::About(wanted) => subject_of(content) == wanted,
         Sought::OutOfRange => is_out_of_range(content),
-        Sought::Row => matches!(content, Content::Scramble(_)),
+        Sought::Row => matches!(content, Content::Scramble(..)),
         Sought::TooWide { width, bits } => is_too_wide(content, width, bits),
     }
 }
@@ -48,7 +50,7 @@ fn is_sought(content: &Content<'_>, sought: Sought) -> bool
 /// The first content line that is sought.
 fn first_line<'a>(bytes: &'a [u8], sought: Sought) -> Option<Statement<'a>>
     requires { IsPosed sought }
-    ensures { option_map plain_statement result ≡ first_sought sought (seen_statements (text_lines bytes.now)) }
+    ensures { option_map plain_statement result ≡ find (λ s. is_sought sought s.content) (statements (text_lines bytes.now)) }
 {
     for line in Lines::new(bytes) {
         let Some(content) = said(line.text) else {
@@ -64,22 +66,22 @@ fn first_line<'a>(bytes: &'a [u8], sought: Sought) -> Option<Statement<'a>>
     None
 }
 
-/// The first content line about something.
-pub fn statement_about<'a>(bytes: &'a [u8], wanted: Subject) -> Option<Statement<'a>>
-    ensures { StandsAt result (about wanted (statements (text_lines bytes.now))) }
+/// What the first content line about something says.
+pub fn content_about<'a>(bytes: &'a [u8], wanted: Subject) -> Option<Content<'a>>
+    ensures { option_map plain_content result ≡ said wanted (statements (text_lines bytes.now)) }
 {
-    first_line(bytes, Sought::About(wanted))
+    let statement = first_line(bytes, Sought::About(wanted))?;
+    Some(statement.content)
 }
 
-/// The line of a field that must be there.
-pub fn field<'a>(
-    bytes: &'a [u8],
-    wanted: Subject,
-    field: Field,
-) -> Result<Statement<'a>, MemoryFault>
-    ensures { GivesField (statements (text_lines bytes.now)) wanted field result }
+/// A field must be there.
+pub fn check_there(bytes: &[u8], wanted: Subject, field: Field) -> Result<(), MemoryFault>
+    ensures { result ≡ checked (missing wanted field (statements (text_lines bytes.now))) }
 {
-    statement_about(bytes, wanted).ok_or(MemoryFault::Missing { field })
+    match first_line(bytes, Sought::About(wanted)) {
+        Some(_) => Ok(()),
+        None => Err(MemoryFault::Missing { field }),
+    }
 }
 
 /// Whether an earlier line than this one speaks of the same, where the numbers of the earlier rows were met.
@@ -92,7 +94,7 @@ fn is_repeat(bytes: &[u8], line: usize, subject: Subject, met: &mut RowNumbers) 
     if met.is_new(subject) {
         return false;
     }
-    match statement_about(bytes, subject) {
+    match first_line(bytes, Sought::About(subject)) {
         Some(first) => first.line != line,
         None => false,
     }
@@ -121,7 +123,8 @@ fn is_outside(value: u32, least: u32, most: u32) -> bool
     value < least || value > most
 }
 
-fn is_name_outside(name: &[u8]) -> bool
+/// Whether a name has more than 48 bytes or is a reserved word.
+pub fn is_name_outside(name: &[u8]) -> bool
     ensures { result ≡ (nat_lt 48 (length name.now) || is_among name.now reserved_words) }
 {
     name.len() > 48 || is_reserved(name)
@@ -141,17 +144,61 @@ fn is_out_of_range(content: &Content<'_>) -> bool
     }
 }
 
-/// Whether a row goes past the address, or a background or a polarity past the word.
+/// Whether a term goes past the address.
+fn is_term_too_wide(term: Term, width: u8) -> bool
+    ensures { result ≡ is_term_too_wide width term }
+{
+    match term {
+        Term::IndexBit(bit) => bit >= u32::from(width),
+        Term::Constant(_) => false,
+    }
+}
+
+/// Whether one of some terms goes past the address.
+fn is_any_term_too_wide(terms: Terms<'_>, width: u8) -> bool
+    ensures { result ≡ list_any (is_term_too_wide width) terms.entry }
+{
+    for term in terms {
+        if is_term_too_wide(term, width) {
+            return true;
+        }
+    }
+    false
+}
+
+/// Whether a background or a polarity goes past the word.
 #[tactic(auto, using(crate::proofs::LineTests::past_ones))]
+fn is_word_too_wide(word: u64, bits: u8) -> bool
+    requires { (1 ≤ bits) × (bits ≤ 64) }
+    ensures { result ≡ nat_le (2 ^ bits) word }
+{
+    word > all_ones(bits)
+}
+
+/// Whether one of some words goes past the bits of a word.
+fn is_any_word_too_wide(words: Words<'_>, bits: u8) -> bool
+    requires { (1 ≤ bits) × (bits ≤ 64) }
+    ensures { result ≡ list_any (nat_le (2 ^ bits)) words.entry }
+{
+    for word in words {
+        if is_word_too_wide(word, bits) {
+            return true;
+        }
+    }
+    false
+}
+
+/// Whether a row goes past the address, or a background or a polarity past the word.
 fn is_too_wide(content: &Content<'_>, width: u8, bits: u8) -> bool
-    requires width { 1 ≤ width }
-    requires bits { (1 ≤ bits) × (bits ≤ 64) }
+    requires { (1 ≤ bits) × (bits ≤ 64) }
     ensures { result ≡ is_too_wide width bits (plain_content content.now) }
 {
     match content {
-        Content::Scramble(row) => row.bit.max(row.highest) >= u32::from(width),
-        Content::Polarity(word) => *word > all_ones(bits),
-        Content::Backgrounds(words) => words.union > all_ones(bits),
+        Content::Scramble(bit, terms) => {
+            *bit >= u32::from(width) || is_any_term_too_wide(terms.again(), width)
+        }
+        Content::Polarity(word) => is_word_too_wide(*word, bits),
+        Content::Backgrounds(words) => is_any_word_too_wide(words.again(), bits),
         _ => false,
     }
 }
@@ -159,7 +206,7 @@ fn is_too_wide(content: &Content<'_>, width: u8, bits: u8) -> bool
 /// No content line is sought, else the first is out of its range.
 fn check(bytes: &[u8], sought: Sought) -> Result<(), MemoryFault>
     requires { IsPosed sought }
-    ensures { result ≡ checked (at_line OutOfRange (find (λ s. tests sought s.content) (statements (text_lines bytes.now)))) }
+    ensures { result ≡ checked (at_line OutOfRange (find (λ s. is_sought sought s.content) (statements (text_lines bytes.now)))) }
 {
     match first_line(bytes, sought) {
         Some(statement) => Err(MemoryFault::OutOfRange {
@@ -178,8 +225,7 @@ pub fn check_ranges(bytes: &[u8]) -> Result<(), MemoryFault>
 
 /// Rows stay within the address, and backgrounds and polarities within the word.
 pub fn check_widths(bytes: &[u8], width: u8, bits: u8) -> Result<(), MemoryFault>
-    requires width { 1 ≤ width }
-    requires bits { (1 ≤ bits) × (bits ≤ 64) }
+    requires { (1 ≤ bits) × (bits ≤ 64) }
     ensures { result ≡ checked (too_wide (statements (text_lines bytes.now)) width bits) }
 {
     check(bytes, Sought::TooWide { width, bits })

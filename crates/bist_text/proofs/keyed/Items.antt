@@ -1,5 +1,5 @@
 -- Items one after another, where each takes a byte at least.
-use Rattle.bist_text.proofs.keyed.Common.{Class, List, None, Option, Read, Some, [], ap, arith, at_bool, behind_of, by_item, comment_of, front_of, gathered, if◌then◌else◌, is_blank, items_from, items_of, later, length, onward, option_map, refl, remark_of, spaced, stuck, suc, sym, took, word_of, zero, zero-le, ℕ, ◌-◌, ◌<◌, ◌==◌, ◌∙◌, ◌∷◌, ◌≡◌, ◌≤◌}
+use Rattle.bist_text.proofs.keyed.Common.{Bool, by_byte, Class, List, None, Option, Read, Some, [], ap, arith, at_bool, behind_of, by_item, comment_of, front_of, if◌then◌else◌, is_blank, items_from, items_of, later, length, onward, refl, remark_of, spaced, stuck, suc, sym, took, word_of, zero, zero-le, ℕ, ◌-◌, ◌<◌, ◌==◌, ◌∙◌, ◌∷◌, ◌≡◌, ◌≤◌}
 
 pub onward_on : {A B C : Type 0} (o : Read A) (f : A → List ℕ → Read B) (g : B → List ℕ → Read C) → onward (onward o f) g ≡ onward o (λ a x. onward (f a x) g)
 onward_on (took a x) f g = refl
@@ -67,6 +67,12 @@ some_shortens m n (stuck x) h l = tt
 pub remark_shortens : (A : Type 0) (n : ℕ) (b : List ℕ) → Shortens {A = A} n (remark_of None b)
 remark_shortens A n [] = tt
 remark_shortens A n (c ∷ b) = at_bool (λ t. Shortens {A = A} n (onward (if t then took tt [] else stuck (c ∷ b)) (λ _ x. took None x))) (c == 35) (λ e. tt) (λ e. tt)
+
+-- a next item by the next byte, where there is one
+pub choice_shortens : {A : Type 0} (n : ℕ) (p : ℕ → Bool) (m : List ℕ → Read (Option A)) (b : List ℕ) → length b ≤ n → ((y : List ℕ) → length y ≤ n → Shortens n (m y))
+    → Shortens n (by_byte p m (remark_of None) (took None []) b)
+choice_shortens n p m [] l h = tt
+choice_shortens {A} n p m (c ∷ b) l h = at_bool (λ t. Shortens n (if t then m (c ∷ b) else remark_of None (c ∷ b))) (p c) (λ e. h (c ∷ b) l) (λ e. remark_shortens A n (c ∷ b))
 
 pub word_shortens : (fits : Class) (b : List ℕ) → Shortens (length b) (onward (word_of fits b) (λ w x. took (Some w) x))
 word_shortens fits [] = tt
@@ -143,41 +149,3 @@ module _ {A : Type 0} (next : List ℕ → Read (Option A)) (is_next : IsNext ne
 
   pub items_stuck : {V : Type 0} (f : List A → V) (b x : List ℕ) → next b ≡ stuck x → onward (items_of next b) (λ xs x. took (f xs) x) ≡ stuck x
   items_stuck f b x e = by_next f b (stuck x) e
-
--- ---- a loop over items
-
-some_of : {A S : Type 0} (seen : A → S) (o : Option A) (s : S) → Some s ≡ option_map seen o → (a : A) × (o ≡ Some a) × (s ≡ seen a)
-some_of seen None s e = (let z : ⊥ = cc in absurd z)
-some_of seen (Some a) s e = (a, refl, (let same : s ≡ seen a = cc in same))
-
-none_of : {A S : Type 0} (seen : A → S) (o : Option A) → None ≡ option_map seen o → o ≡ None
-none_of seen None e = refl
-none_of seen (Some a) e = (let z : ⊥ = cc in absurd z)
-
--- what a loop has of items, and how it adds one
-module _ {A S G : Type 0} (next : List ℕ → Read (Option A)) (is_next : IsNext next) (seen : A → S) (add : G → S → G) where
-  abbrev pub added : G → List A → G
-  added = gathered (λ g a. add g (seen a))
-
-  -- the whole, where this is left
-  abbrev pub Gathered : G → List ℕ → Read G
-  Gathered g b = onward (items_of next b) (λ xs x. took (added g xs) x)
-
-  -- the next is read
-  abbrev pub IsRead : List ℕ → Option S → List ℕ → Type 0
-  IsRead b n x = (o : Option A) × (next b ≡ took o x) × (n ≡ option_map seen o)
-
-  pub gather_on : {all : Read G} {n : Option S} {s : S} (b x : List ℕ) (g new : G) → Gathered g b ≡ all → IsRead b n x → n ≡ Some s → new ≡ add g s → Gathered new x ≡ all
-  gather_on b x g new h r e k =
-      let a = some_of seen r.0 _ (sym e ∙ r.2) in
-      ap (λ g. Gathered g x) (k ∙ ap (add g) a.2) ∙ sym (items_on next is_next (added g) b x a.0 (r.1 ∙ ap (λ o. took o x) a.1)) ∙ h
-
-  pub gather_smaller : {n : Option S} {s : S} (b x : List ℕ) → IsRead b n x → n ≡ Some s → length x < length b
-  gather_smaller b x r e = (let a = some_of seen r.0 _ (sym e ∙ r.2) in next_shorter next is_next b x a.0 (r.1 ∙ ap (λ o. took o x) a.1))
-
-  pub gather_end : {n : Option S} (all b x : List ℕ) (first g : G) → Gathered g b ≡ Gathered first all → IsRead b n x → n ≡ None → (xs : List A) × (items_of next all ≡ took xs x) × (g ≡ added first xs)
-  gather_end all b x first g h r e =
-      made_of (added first) (items_of next all) g x (sym h ∙ items_end next is_next (added g) b x (r.1 ∙ ap (λ o. took o x) (none_of seen r.0 (sym e ∙ r.2))))
-
-  pub gather_stuck : (all b x : List ℕ) (first g : G) → Gathered g b ≡ Gathered first all → next b ≡ stuck x → items_of next all ≡ stuck x
-  gather_stuck all b x first g h e = unmade (added first) (items_of next all) x (sym h ∙ items_stuck next is_next (added g) b x e)

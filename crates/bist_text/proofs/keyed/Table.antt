@@ -1,13 +1,15 @@
 -- Lines of a first word and what stands behind it, whatever the words are and what they say.
-use Rattle.bist_text.proofs.keyed.Common.{Bool, IsExact, IsOf, LineOf, List, None, Option, Read, Some, Word, [], all_words, ap, are_apart, arith, by_byte, comment, eqb-true, false, gap, gap_of, inl, inr, is_blank, is_hash, keyed_of, length, line_of, of_blank, onward, outcome, refl, remark_of, slice_get, space, stands_all, subst, sym, took, true, when_false, when_holds, word, ℕ, ◌==◌, ◌↔◌, ◌∙◌, ◌∷◌, ◌≡◌, ◌⊎◌}
-use Rattle.bist_text.specs.inner.LineGrammar.{is_small}
-use Rattle.bist_text.proofs.Carried.{Said, either, gap_carries, many_carries, onto, said_on, word_carries}
+use Rattle.bist_text.proofs.keyed.Common.{nat_le, ◌&&◌, Bool, IsExact, IsOf, LineOf, List, None, Option, Read, Some, Word, [], all_words, ap, are_apart, arith, by_byte, comment, eqb-true, false, gap, gap_of, inl, inr, is_blank, is_hash, keyed_of, length, line_of, of_blank, onward, outcome, refl, remark_of, slice_get, space, stands_all, subst, sym, took, true, when_false, when_holds, word, ℕ, ◌==◌, ◌↔◌, ◌∙◌, ◌∷◌, ◌≡◌, ◌⊎◌}
+use Rattle.bist_text.proofs.Carried.{Said, after, either, gap_carries, many_carries, onto, said_on, word_carries}
 use Rattle.bist_text.proofs.LinePieces.{apart}
 use Rattle.bist_text.proofs.keyed.PartLaws.{Either, Gap, Hears, Keys, Remark, Space, either_told, gap_told, key_told, remark_told, space_told}
 use Rattle.bist_text.proofs.keyed.Taken.{Takes}
 use Rattle.bist_text.proofs.keyed.Told.{told_exact, told_iff}
 
 -- a word that begins with a small letter
+abbrev is_small : ℕ → Bool
+is_small c = nat_le 97 c && nat_le c 122
+
 abbrev pub begins_small : List ℕ → Bool
 begins_small [] = false
 begins_small (c ∷ w) = is_small c
@@ -63,11 +65,7 @@ module _ {K C : Type 0} (kind_of : C → K) (is_formed : C → Bool) (argument :
     Whole = Said (λ (s : Standing). Some s.content) (λ s. text s.content)
 
     on : (k : K) (x : List ℕ) (v : Option C) → word (key_text k) (λ y. Gap (Behind k) y v) x ↔ Said (λ a. Some (made k a)) (λ a. word (key_text k) (gap (argument (made k a)))) x v
-    on k x v = (
-      λ h. (said_on (word_carries (key_text k)) (λ a. Some (made k a)) (λ a. gap (argument (made k a))) x v).0
-          (onto (word_carries (key_text k)) (λ y. Gap (Behind k) y v) (λ y. Said (λ a. Some (made k a)) (λ a. gap (argument (made k a))) y v) (λ y. (said_on gap_carries (λ a. Some (made k a)) (λ a. argument (made k a)) y v).0) x h),
-      λ h. onto (word_carries (key_text k)) (gap (argument (made k h.0))) (λ y. Gap (Behind k) y v) (λ y m. (said_on gap_carries (λ a. Some (made k a)) (λ a. argument (made k a)) y v).1 (h.0, h.1, m)) x h.2,
-    )
+    on k x v = said_on (after (word_carries (key_text k)) gap_carries) (λ a. Some (made k a)) (λ a. argument (made k a)) x v
 
     keyed_iff : (x : List ℕ) (v : Option C) → Keyed x v ↔ Whole x v
     keyed_iff x v = (λ h. from h.0 ((stands_all (λ k. key_text k ∷ []) keys h.0 (λ y. Gap (Behind h.0) y v) x).0 h.1), λ h. to h.0 h.1 h.2)
@@ -86,8 +84,7 @@ module _ {K C : Type 0} (kind_of : C → K) (is_formed : C → Bool) (argument :
         to s e w =
             let c = s.content in
             let k = kind_of c in
-            let r = (word_carries (key_text k)).draw Parts (gap (argument c)) (λ a. gap (argument (made k a.0)))
-            (gap_carries.draw Parts (argument c) (λ a. argument (made k a.0)) (λ y m. (let p = t.parts c y s.formed m in (p, subst (λ c. argument c y) p.1 m)))) x w in
+            let r = (after (word_carries (key_text k)) gap_carries).draw Parts (argument c) (λ a. argument (made k a.0)) (λ y m. (let p = t.parts c y s.formed m in (p, subst (λ c. argument c y) p.1 m))) x w in
             (k, (stands_all (λ k. key_text k ∷ []) keys k (λ y. Gap (Behind k) y v) x).1 (s.stands, inl ((on k x v).1 (r.0.0, e ∙ ap Some r.0.1, r.1))))
           where
             Parts : Type 0

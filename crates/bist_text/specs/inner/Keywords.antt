@@ -1,4 +1,5 @@
--- Inner. For proofs and private contracts alone, beside Keywords: words of a table that are read letter by letter. The letters that are read are the front of a word; what may follow is.
+-- Inner. For proofs and private contracts alone: what may follow the letters that are read of a table's words, and when no word begins
+-- another.
 use Rattle.std.specs.Prelude.{◌≡◌, ℕ, ◌==◌, ◌&&◌, ◌||◌, not, Bool, true, false, List, [], ◌∷◌, ◌++◌, slice_get, Some}
 use Rattle.bist_text.specs.declared.keywords.Spelled.{Spelled}
 use Rattle.bist_text.specs.declared.keywords.Spelled.TheVariants.{More, Whole}

@@ -1,4 +1,4 @@
--- Inner. For proofs and private contracts alone, beside Lexed: a reader of tokens over a reader of bytes: a lexer gives tokens, a parser takes them, and the two together.
+-- Inner. For proofs and private contracts alone: the laws of a lexer and of a parser, and what may still follow for both.
 use Rattle.std.specs.Prelude.{◌≡◌, ℕ, Bool, true, List, [], ◌∷◌, ◌↔◌, Option, Some, None}
 use Rattle.bist_text.specs.Grammar.{are_bytes}
 use Rattle.bist_text.specs.Machine.{Holds}

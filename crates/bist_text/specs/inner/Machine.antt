@@ -1,4 +1,4 @@
--- Inner. For proofs and private contracts alone, beside Machine: a reader as a machine over bytes: what may still follow in a state is a relation between texts and values.
+-- Inner. For proofs and private contracts alone: the laws of a reader that is a machine over bytes, and what an exact reader answers.
 use Rattle.std.specs.Prelude.{◌≡◌, ℕ, List, [], ◌∷◌, ◌++◌, ◌↔◌, Option, Some}
 use Rattle.bist_text.specs.Grammar.{Continues, IsUnexpected, IsTruncated}
 use Rattle.bist_text.specs.Machine.{Holds, Outcome, read, unexpected, truncated}

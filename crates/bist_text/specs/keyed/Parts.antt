@@ -109,6 +109,10 @@ fits_of File = all_of is_file_byte
 abbrev pub number_of : List ℕ → Read ℕ
 number_of b = onward (word_of (fits_of Number) b) (λ ds x. took (digits_value 10 ds) x)
 
+-- the value of one to sixteen hexadecimal digits
+abbrev pub hex_number_of : List ℕ → Read ℕ
+hex_number_of b = onward (word_of (fits_of HexWord) b) (λ ds x. took (digits_value 16 ds) x)
+
 -- ---- words of a table
 
 abbrev pub by_letter : {N : Type 0} → Option (Spelled N) → ℕ → List ℕ → (Letters → Read N) → Read N
@@ -147,8 +151,3 @@ items_from next (suc n) f b = onward (next b) (λ o x. by_item o (took (f []) x)
 -- all of them; each takes a byte at least
 abbrev pub items_of : {A : Type 0} → (List ℕ → Read (Option A)) → List ℕ → Read (List A)
 items_of next b = items_from next (length b) (λ xs. xs) b
-
--- what items come to, one after another
-abbrev pub gathered : {A G : Type 0} → (G → A → G) → G → List A → G
-gathered add g [] = g
-gathered add g (a ∷ xs) = gathered add (add g a) xs

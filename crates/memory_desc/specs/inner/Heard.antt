@@ -1,17 +1,16 @@
 -- Inner. For proofs and private contracts alone: what the reader hears in a line, as functions of its bytes.
 use Rattle.std.specs.Prelude.{ℕ, ◌==◌, Bool, true, false, if◌then◌else◌, List, [], ◌∷◌, Option, Some, None, Result}
-use Rattle.std.specs.Str.Parse.{digits_value}
 use Rattle.bist_text.specs.Grammar.{is_blank}
 use Rattle.bist_text.specs.Keywords.{Word}
 use Rattle.bist_text.specs.inner.Keywords.{all_words}
 use Rattle.bist_text.specs.Lines.{TextLine}
 use Rattle.bist_text.specs.Machine.{Outcome}
 use Rattle.bist_text.specs.keyed.Reading.{Read, took, stuck, onward, outcome}
-use Rattle.bist_text.specs.keyed.Parts.{spaced, byte_of, fits_of, word_of, number_of, ends_with, remark_of, by_byte, items_of}
+use Rattle.bist_text.specs.keyed.Parts.{spaced, byte_of, fits_of, word_of, number_of, hex_number_of, ends_with, remark_of, by_byte, items_of}
 use Rattle.bist_text.specs.keyed.Lines.{line_of, answer}
 use Rattle.bist_text.specs.keyed.Texts.{said_in, all_stated, versions}
 use Rattle.bist_text.specs.declared.keyed_lines.LineFault.{LineFault}
-use Rattle.bist_text.specs.declared.keyed_lines.Class.TheVariants.{Word as HexWord, Name as NameWord}
+use Rattle.bist_text.specs.declared.keyed_lines.Class.TheVariants.{Name as NameWord}
 use Rattle.memory_desc.specs.LineText.{Term, index_bit, constant, Content, version, name, words, bits, latency, polarity, pause, scramble, log, backgrounds, is_hex, key_text}
 use Rattle.memory_desc.specs.Statements.{Statement, version_in}
 use Rattle.memory_desc.specs.declared.content.Key.{Key}
@@ -42,10 +41,6 @@ terms_of b = items_of next_term_of b
 
 -- ---- the words of a list
 
--- the value of a word
-abbrev pub hex_number_of : List ℕ → Read ℕ
-hex_number_of b = onward (word_of (fits_of HexWord) b) (λ ds x. took (digits_value 16 ds) x)
-
 abbrev pub hex_word_of : List ℕ → Read (Option ℕ)
 hex_word_of b = onward (hex_number_of b) (λ w x. took (Some w) x)
 
@@ -58,6 +53,21 @@ next_word_of b = by_byte is_blank (λ x. spaced_word_of (spaced x)) (remark_of N
 
 abbrev pub words_of : List ℕ → Read (List ℕ)
 words_of b = items_of next_word_of b
+
+-- ---- items that are left
+
+abbrev pub items_in : {A : Type 0} → Read (List A) → List A
+items_in (took xs x) = xs
+items_in (stuck x) = []
+
+-- the next, and those behind it
+abbrev pub items_after : {A : Type 0} → Option A → Read (List A) → List A
+items_after None o = []
+items_after (Some a) o = a ∷ items_in o
+
+abbrev pub IsWhole : {A : Type 0} → Read A → Type 0
+IsWhole (took a x) = Unit {0}
+IsWhole (stuck x) = ⊥
 
 -- ---- what stands behind a first word and blanks
 

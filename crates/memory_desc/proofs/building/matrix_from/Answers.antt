@@ -1,26 +1,38 @@
-use Rattle.memory_desc.proofs.Common.{Some, err_from_is_err_and, missing, subst, text_lines, ℕ, ◌≡◌}
-use Rattle.memory_desc.specs.declared.content.Subject.TheVariants.{Row}
-use Rattle.memory_desc.specs.declared.fault.Field.TheVariants.{Row as RowField}
+use Rattle.memory_desc.proofs.Common.{ap, arith, refl, constant_of, index_bits, is_term_too_wide, list_any, text_lines, ◌∙◌}
 use Rattle.memory_desc.specs.inner.Heard.{statements}
-use Rattle.memory_desc.proofs.Rows.{gathered_begun, gathered_more, row_given, row_missing}
+use Rattle.memory_desc.proofs.Rows.{matrix_is, none_there, row_missing, row_there, rows_begun, rows_more, rows_within, terms_are, terms_within}
 use Rattle.memory_desc.proofs.building.matrix_from.Goals as goal
 
 pub loop-bit-init : goal.loop-bit-init
-loop-bit-init c = gathered_begun (statements (text_lines c.args.bytes.now)) c.args.width
+loop-bit-init c = rows_begun (statements (text_lines c.args.bytes.now))
+
+pub row_of-row-requires : goal.row_of-row-requires
+row_of-row-requires c =
+    let ss = statements (text_lines c.args.bytes.now) in
+    let same = c.terms_in.ensures ∙ terms_are c.loop-bit.bit ss c.content_about.result c.from.ensures c.content_about.ensures c.in-Some.content c.in-Some.is in
+    (c.args.width, c.requires.width.1, ap (list_any (is_term_too_wide c.args.width)) same ∙ terms_within ss c.args.width c.requires.fit.0 c.loop-bit.bit c.requires.fit.1)
 
 pub loop-bit-preserved : goal.loop-bit-preserved
 loop-bit-preserved c =
-    let l = c.loop-bit in
     let ss = statements (text_lines c.args.bytes.now) in
-    rw c.all_ones.ensures
-    (gathered_more ss c.args.width l.bit l.rows l.constant c.row_of-row.result c.loop-bit-test.true c.requires.1
-    (row_given ss l.bit c.from.result c.in_ok-statement.statement c.row_of-row.result c.from.ensures c.in_ok-statement.ensures c.row_of-row.ensures) l.invariant)
+    let l = c.loop-bit in
+    let row = c.row_of-row in
+    let same = c.terms_in.ensures ∙ terms_are l.bit ss c.content_about.result c.from.ensures c.content_about.ensures c.in-Some.content c.in-Some.is in
+    rows_more ss c.args.width l.bit l.rows l.constant row.result.names row.result.constant c.loop-bit-test.true c.requires.width.1
+    (row_there l.bit ss c.content_about.result c.from.ensures c.content_about.ensures c.in-Some.content c.in-Some.is) (row.ensures.names ∙ ap index_bits same) (row.ensures.constant ∙ ap constant_of same) l.invariant
 
-pub returns-in_err-statement-clause-rows : goal.returns-in_err-statement-clause-rows
-returns-in_err-statement-clause-rows c size passed =
-    let l = c.loop-bit in
+pub returns-in_default-clause-rows : goal.returns-in_default-clause-rows
+returns-in_default-clause-rows c =
     let ss = statements (text_lines c.args.bytes.now) in
-    let there = (l.invariant.so_far size passed).there in
-    let p = err_from_is_err_and c.from_residual.result c.from_residual.ensures.1 in
-    rw (p.1, p.2) (row_missing ss c.args.width l.bit c.in_err-statement.field-0.0 there c.loop-bit-test.true
-    (subst (λ (b : ℕ). missing (Row b) (RowField l.bit) ss ≡ Some c.in_err-statement.field-0.0) c.from.ensures c.in_err-statement.ensures))
+    let l = c.loop-bit in
+    row_missing ss c.args.width l.bit _ l.invariant.there c.loop-bit-test.true (none_there l.bit ss c.content_about.result c.from.ensures c.content_about.ensures c.in_default.is)
+
+pub returns-clause-within : goal.returns-clause-within
+returns-clause-within c =
+    let l = c.loop-bit in
+    let fit = c.requires.fit in
+    (refl, rows_within (statements (text_lines c.args.bytes.now)) c.args.width l.bit l.rows l.constant c.requires.width.1 (omega (arith, l.auto.bit-end, c.loop-bit-test.false)) l.invariant fit.0 fit.1 c.requires.width.0)
+
+pub returns-clause-rows : goal.returns-clause-rows
+returns-clause-rows c =
+    let l = c.loop-bit in matrix_is (statements (text_lines c.args.bytes.now)) c.args.width l.bit l.rows l.constant c.requires.width.1 (omega (arith, l.auto.bit-end, c.loop-bit-test.false)) l.invariant

@@ -1,7 +1,10 @@
-use Rattle.memory_desc.proofs.Common.{AreFields, subst, sym, text_lines}
+use Rattle.memory_desc.proofs.Common.{ap, arith, number_in, passed, text_lines, unsized, ◌∙◌}
 use Rattle.memory_desc.specs.inner.Heard.{statements}
+use Rattle.memory_desc.proofs.Built.{sized_bits}
 use Rattle.memory_desc.proofs.read.described.Goals as goal
 
-pub memory_of-requires-clause-fields : goal.memory_of-requires-clause-fields
-memory_of-requires-clause-fields c =
-    subst (λ n. AreFields (statements (text_lines c.args.bytes.now)) n c.in_ok-fields.fields.words c.in_ok-fields.fields.bits) (sym c.name_from.ensures) c.in_ok-fields.ensures.1
+pub overflow_cast-bits : goal.overflow_cast-bits
+overflow_cast-bits c =
+    let ss = statements (text_lines c.args.bytes.now) in
+    let few = (sized_bits ss (passed (unsized ss) c.in_ok-check_fields.ensures) (c.number_in-bits.ensures ∙ ap number_in c.content_about-2.ensures)).1 in
+    omega arith

@@ -1,91 +1,99 @@
-use Rattle.memory_desc.proofs.Common.{IsWidthOf, ap, arith, err_from_is_err_and, identity, passed, subst, sym, text_lines, ℕ, ◌-◌, ◌∙◌}
+use Rattle.memory_desc.proofs.Common.{IsMemory, IsName, ap, arith, assembled, described, err_from_is_err_and, latency_in, name_in, pause_in, polarity_in, subst, sym, text_lines, ◌∙◌, ◌≡◌}
 use Rattle.memory_desc.specs.inner.Heard.{statements}
-use Rattle.memory_desc.proofs.Built.{backgrounds_refused, is_memory, power_refused, ranges_passed, scrambling_refused, width_refused}
+use Rattle.memory_desc.specs.Described.{AreOfMemory}
+use Rattle.memory_desc.proofs.Built.{are_sized, backgrounds_refused, is_memory, of_memory, power_refused, same_memory, scrambling_refused, sized_bits, sized_words, width_refused}
 use Rattle.memory_desc.proofs.Parts.{width_small}
+use Rattle.memory_desc.proofs.Within.{latency_inside, named}
+use Rattle.memory_desc.proofs.read.memory_of.Goals.{After-polarity_in-polarity}
 use Rattle.memory_desc.proofs.read.memory_of.Goals as goal
 
-pub scramble_from-requires : goal.scramble_from-requires
-scramble_from-requires c =
-    let few = c.requires.fields.words_high in
-    let width = c.width_of-width.result in
-    width_small (c.args.words - 1) width (omega arith) (subst (λ (n : ℕ). IsWidthOf n width) c.from.ensures c.width_of-width.ensures.width)
+pub overflow_sub-words : goal.overflow_sub-words
+overflow_sub-words c = (let low = (sized_words (statements (text_lines c.args.bytes.now)) c.requires.unrefused c.requires.words).0 in omega arith)
 
-pub backgrounds_from-requires-clause-fit : goal.backgrounds_from-requires-clause-fit
-backgrounds_from-requires-clause-fit c = (c.width_of-width.result, passed _ c.in_ok-check_widths.ensures)
+pub check_widths-requires : goal.check_widths-requires
+check_widths-requires c = sized_bits (statements (text_lines c.args.bytes.now)) c.requires.unrefused c.requires.bits
 
-pub polarity_from-polarity-requires : goal.polarity_from-polarity-requires
-polarity_from-polarity-requires c = (c.width_of-width.result, passed _ c.in_ok-check_widths.ensures)
+pub scramble_from-requires-clause-width : goal.scramble_from-requires-clause-width
+scramble_from-requires-clause-width c =
+    let high = (sized_words (statements (text_lines c.args.bytes.now)) c.requires.unrefused c.requires.words).1 in
+    width_small c.from.result c.width_of-width.result (let same = c.from.ensures in omega arith) c.width_of-width.ensures.width
 
-pub cycles_from-requires-clause-ranged : goal.cycles_from-requires-clause-ranged
-cycles_from-requires-clause-ranged c = ranges_passed (statements (text_lines c.args.bytes.now)) c.requires.unrefused
+pub backgrounds_from-requires : goal.backgrounds_from-requires
+backgrounds_from-requires c = sized_bits (statements (text_lines c.args.bytes.now)) c.requires.unrefused c.requires.bits
 
-pub new-requires : goal.new-requires
-new-requires c =
-    let f = c.requires.fields in
-    let width = c.in_ok-scramble.ensures.width in
-    let wide = subst (λ (n : ℕ). IsWidthOf n c.width_of-width.result) c.from.ensures c.width_of-width.ensures.width in
-    record {
-      name = f.is_name;
-      words_low = f.words_low;
-      words_high = f.words_high;
-      bits_low = f.bits_low;
-      bits_high = f.bits_high;
-      latency_low = c.cycles_from.ensures.range.0;
-      latency_high = c.cycles_from.ensures.range.1;
-      polarity = c.polarity_from-polarity.ensures.fits;
-      pause_low = c.cycles_from-2.ensures.range.0;
-      pause_high = c.cycles_from-2.ensures.range.1;
-      address = subst (λ (n : ℕ). IsWidthOf (c.args.words - 1) n) (sym width) wide;
-      full = c.in_ok-scramble.ensures.full;
-      invertible = c.in_ok-scramble.ensures.invertible;
-      unscrambled = λ power. c.in_ok-scramble.ensures.unscrambled (c.in_ok-check_power_of_two.ensures.plain power) ∙ ap identity (sym width);
-      tested = c.in_ok-backgrounds.ensures.set;
-    }
+pub name_from-name-requires : goal.name_from-name-requires
+name_from-name-requires c =
+    let ls = text_lines c.args.bytes.now in
+    let f = are_sized (statements ls) c.requires.unrefused in
+    subst IsName (sym (c.name_in.ensures ∙ ap name_in c.content_about.ensures)) (named ls f.in_range f.has_name)
+
+pub overflow_cast-timing : goal.overflow_cast-timing
+overflow_cast-timing c =
+    let ss = statements (text_lines c.args.bytes.now) in
+    let small = (latency_inside ss (are_sized ss c.requires.unrefused).in_range).1 in
+    let same = c.latency_in.ensures ∙ ap latency_in c.content_about-2.ensures in
+    omega arith
 
 -- ---- the refusals, and the memory
 
 pub returns-in_err-check_power_of_two : goal.returns-in_err-check_power_of_two
 returns-in_err-check_power_of_two c =
     let ss = statements (text_lines c.args.bytes.now) in
-    let f = c.requires.fields in
     let p = err_from_is_err_and c.from_residual.result c.from_residual.ensures.1 in
-    rw (p.1, p.2) (power_refused c.requires.unrefused f c.from.ensures c.width_of-width.ensures.width _ (c.in_err-check_power_of_two.ensures.check ss c.is_scrambled-scrambled.ensures f.words_are))
+    rw (p.1, p.2) (power_refused ss c.requires.unrefused c.requires.words c.requires.bits c.from.ensures c.width_of-width.ensures.width _ (c.in_err-check_power_of_two.ensures ss c.is_scrambled-scrambled.ensures c.requires.words))
 
 pub returns-in_err-check_widths : goal.returns-in_err-check_widths
 returns-in_err-check_widths c =
-    let f = c.requires.fields in
+    let ss = statements (text_lines c.args.bytes.now) in
     let r = c.from_residual-in_err-check_widths in
     let p = err_from_is_err_and r.result r.ensures.1 in
-    let power = c.in_ok-check_power_of_two.ensures.check (statements (text_lines c.args.bytes.now)) c.is_scrambled-scrambled.ensures f.words_are in
-    rw (p.1, p.2) (width_refused c.requires.unrefused f c.from.ensures c.width_of-width.ensures.width power _ c.in_err-check_widths.ensures)
+    let power = c.in_ok-check_power_of_two.ensures ss c.is_scrambled-scrambled.ensures c.requires.words in
+    rw (p.1, p.2) (width_refused ss c.requires.unrefused c.requires.words c.requires.bits c.from.ensures c.width_of-width.ensures.width power _ c.in_err-check_widths.ensures)
 
 pub returns-in_err-scramble : goal.returns-in_err-scramble
 returns-in_err-scramble c =
-    let f = c.requires.fields in
+    let ss = statements (text_lines c.args.bytes.now) in
     let r = c.from_residual-in_err-scramble in
     let p = err_from_is_err_and r.result r.ensures.1 in
-    let scrambled = c.is_scrambled-scrambled.ensures in
-    let power = c.in_ok-check_power_of_two.ensures.check (statements (text_lines c.args.bytes.now)) scrambled f.words_are in
-    let narrow = c.in_ok-check_widths.ensures in
-    rw (p.1, p.2) (scrambling_refused c.requires.unrefused f c.from.ensures c.width_of-width.ensures.width power narrow _ (c.in_err-scramble.ensures.rows c.args.bits (passed _ narrow) scrambled))
+    let power = c.in_ok-check_power_of_two.ensures ss c.is_scrambled-scrambled.ensures c.requires.words in
+    rw (p.1, p.2) (scrambling_refused ss c.requires.unrefused c.requires.words c.requires.bits c.from.ensures c.width_of-width.ensures.width power c.in_ok-check_widths.ensures _ c.in_err-scramble.ensures.gives)
 
 pub returns-in_err-backgrounds : goal.returns-in_err-backgrounds
 returns-in_err-backgrounds c =
-    let f = c.requires.fields in
+    let ss = statements (text_lines c.args.bytes.now) in
     let r = c.from_residual-in_err-backgrounds in
     let p = err_from_is_err_and r.result r.ensures.1 in
-    let scrambled = c.is_scrambled-scrambled.ensures in
-    let power = c.in_ok-check_power_of_two.ensures.check (statements (text_lines c.args.bytes.now)) scrambled f.words_are in
-    let narrow = c.in_ok-check_widths.ensures in
-    rw (p.1, p.2) (backgrounds_refused c.requires.unrefused f c.from.ensures c.width_of-width.ensures.width power narrow c.in_ok-scramble.scramble
-    (c.in_ok-scramble.ensures.rows c.args.bits (passed _ narrow) scrambled) _ c.in_err-backgrounds.ensures.tests)
+    let power = c.in_ok-check_power_of_two.ensures ss c.is_scrambled-scrambled.ensures c.requires.words in
+    rw (p.1, p.2) (backgrounds_refused ss c.requires.unrefused c.requires.words c.requires.bits c.from.ensures c.width_of-width.ensures.width power c.in_ok-check_widths.ensures c.in_ok-scramble.scramble
+    c.in_ok-scramble.ensures.gives _ c.in_err-backgrounds.ensures)
+
+same : (c : After-polarity_in-polarity) → assembled c.name_from-name.result.bytes c.args.words c.args.bits c.latency_in.result c.polarity_in-polarity.result c.pause_in.result c.in_ok-scramble.scramble c.in_ok-backgrounds.backgrounds.items
+    ≡ described (statements (text_lines c.args.bytes.now)) c.in_ok-scramble.scramble c.in_ok-backgrounds.backgrounds.items
+same c =
+    same_memory (statements (text_lines c.args.bytes.now)) c.in_ok-scramble.scramble c.in_ok-backgrounds.backgrounds.items (c.name_from-name.ensures ∙ c.name_in.ensures ∙ ap name_in c.content_about.ensures)
+    c.requires.words c.requires.bits (c.latency_in.ensures ∙ ap latency_in c.content_about-2.ensures) (c.polarity_in-polarity.ensures ∙ ap polarity_in c.content_about-4.ensures)
+    (c.pause_in.ensures ∙ ap pause_in c.content_about-3.ensures)
+
+pub new-requires : goal.new-requires
+new-requires c =
+    let ls = text_lines c.args.bytes.now in
+    let ss = statements ls in
+    let f = are_sized ss c.requires.unrefused in
+    let s = c.in_ok-scramble in
+    let power = c.in_ok-check_power_of_two.ensures ss c.is_scrambled-scrambled.ensures c.requires.words in
+    subst IsMemory (sym (same c))
+    (is_memory ss c.requires.unrefused c.requires.words c.requires.bits c.from.ensures c.width_of-width.ensures.width power c.in_ok-check_widths.ensures s.scramble s.ensures.gives c.in_ok-backgrounds.backgrounds.items
+    c.in_ok-backgrounds.ensures (named ls f.in_range f.has_name) s.ensures.width s.ensures.full s.ensures.invertible)
 
 pub returns : goal.returns
 returns c =
-    let f = c.requires.fields in
-    let scrambled = c.is_scrambled-scrambled.ensures in
-    let power = c.in_ok-check_power_of_two.ensures.check (statements (text_lines c.args.bytes.now)) scrambled f.words_are in
-    let narrow = c.in_ok-check_widths.ensures in
-    is_memory c.requires.unrefused f c.from.ensures c.width_of-width.ensures.width power narrow c.in_ok-scramble.scramble (c.in_ok-scramble.ensures.rows c.args.bits (passed _ narrow) scrambled)
-    c.in_ok-backgrounds.backgrounds.items c.cycles_from.result c.polarity_from-polarity.result c.cycles_from-2.result c.in_ok-backgrounds.ensures.tests c.cycles_from.ensures.said
-    c.polarity_from-polarity.ensures.said c.cycles_from-2.ensures.said c.new.result c.new.ensures
+    let ss = statements (text_lines c.args.bytes.now) in
+    let s = c.in_ok-scramble in
+    let power = c.in_ok-check_power_of_two.ensures ss c.is_scrambled-scrambled.ensures c.requires.words in
+    subst (AreOfMemory ss)
+    (sym (c.new.ensures
+    ∙ same_memory ss s.scramble c.in_ok-backgrounds.backgrounds.items (c.name_from-name.ensures ∙ c.name_in.ensures ∙ ap name_in c.content_about.ensures)
+    c.requires.words c.requires.bits (c.latency_in.ensures ∙ ap latency_in c.content_about-2.ensures) (c.polarity_in-polarity.ensures ∙ ap polarity_in c.content_about-4.ensures)
+    (c.pause_in.ensures ∙ ap pause_in c.content_about-3.ensures)))
+    (of_memory ss c.requires.unrefused c.requires.words c.requires.bits c.from.ensures c.width_of-width.ensures.width power c.in_ok-check_widths.ensures s.scramble s.ensures.gives c.in_ok-backgrounds.backgrounds.items
+    c.in_ok-backgrounds.ensures)
