@@ -1,6 +1,5 @@
 -- What is found among contents that are numbered as lines, some of them rows.
-use Rattle.memory_desc.proofs.Common.{Bool, Content, List, None, Scrambling, Some, Subject, [], about, ap, arith, cases_lt, cond, content_of, eq-eqb, false, find, inl, inr, is_about, is_other, is_row, is_same, list_any, not, refl, row_terms, scramble, subject, subst, suc, sym, true, with_rows, zero, ℕ, ◌+◌, ◌<◌, ◌==◌, ◌||◌, ◌∙◌, ◌∷◌, ◌≡◌, ◌≤◌}
-use Rattle.std.proofs.lemmas.Bool.Decides.{nat_tests}
+use Rattle.memory_desc.proofs.Common.{Bool, Content, List, None, Scrambling, Some, Subject, [], about, ap, arith, cases_lt, cond, content_of, eq-eqb, false, find, inl, inr, is_about, is_other, is_row, is_same, list_any, nat_tests, not, refl, row_terms, scramble, subject, subst, suc, sym, true, with_rows, zero, ℕ, ◌+◌, ◌<◌, ◌==◌, ◌||◌, ◌∙◌, ◌∷◌, ◌≡◌, ◌≤◌}
 use Rattle.memory_desc.specs.Table.{is_repeat}
 use Rattle.memory_desc.specs.declared.content.Subject.TheVariants.{Row}
 use Rattle.memory_desc.proofs.Repeats.{same_is}
@@ -68,7 +67,8 @@ abbrev pub Placed : (Subject → ℕ) → ℕ → List Content → Type 0
 Placed place n [] = Unit {0}
 Placed place n (c ∷ cs) = (place (subject c) ≡ n) × Placed place (n + 1) cs
 
-pub placed_rows : (place : Subject → ℕ) (s : Scrambling) (n k : ℕ) (cs : List Content) → ((i : ℕ) → place (Row i) ≡ n + i) → Placed place (n + k) cs → Placed place n (with_rows s k cs)
+pub placed_rows : (place : Subject → ℕ) (s : Scrambling) (n k : ℕ) (cs : List Content) → ((i : ℕ) → place (Row i) ≡ n + i)
+    → Placed place (n + k) cs → Placed place n (with_rows s k cs)
 placed_rows place s n zero cs f h = (let e : n + 0 ≡ n = omega arith in subst (λ (m : ℕ). Placed place m cs) e h)
 placed_rows place s n (suc k) cs f h =
     let e : n + suc k ≡ (n + k) + 1 = omega arith in
@@ -79,7 +79,8 @@ in_place : (place : Subject → ℕ) (q : Subject) (n : ℕ) (cs : List Content)
 in_place place q n [] h = refl
 in_place place q n (c ∷ cs) h = go (is_same q (subject c)) refl (in_place place q (n + 1) cs h.1)
   where
-    go : (t : Bool) → is_same q (subject c) ≡ t → is_other (place q) (about q (numbered (n + 1) cs)) ≡ false → is_other (place q) (cond t (Some (record { line = n; content = c })) (find (is_about q) (numbered (n + 1) cs))) ≡ false
+    go : (t : Bool) → is_same q (subject c) ≡ t → is_other (place q) (about q (numbered (n + 1) cs)) ≡ false
+        → is_other (place q) (cond t (Some (record { line = n; content = c })) (find (is_about q) (numbered (n + 1) cs))) ≡ false
     go true e i = ap not (eq-eqb n (place q) (sym h.0 ∙ ap place (sym (same_is q (subject c) e))))
     go false e i = i
 
@@ -89,5 +90,5 @@ no_repeat place n cs h = each n cs h
     each : (m : ℕ) (ds : List Content) → Placed place m ds → find (is_repeat (numbered n cs)) (numbered m ds) ≡ None
     each m [] g = refl
     each m (d ∷ ds) g =
-        let none : is_other m (about (subject d) (numbered n cs)) ≡ false = subst (λ (l : ℕ). is_other l (about (subject d) (numbered n cs)) ≡ false) g.0 (in_place place (subject d) n cs h) in
+        let none = subst (λ (l : ℕ). is_other l (about (subject d) (numbered n cs)) ≡ false) g.0 (in_place place (subject d) n cs h) in
         rw none (each (m + 1) ds g.1)

@@ -1,7 +1,6 @@
 -- Each printed line is a line of the grammar, without a line feed.
-use Rattle.memory_desc.proofs.Common.{AllDigits, argument_text, line_text, Bool, Content, equation, scramble, List, Term, [], and_from, and_parts, ap, apart, append-nil, argument, arith, byte, constant, decimal, digit_value, digits_value, false, gap, hex_digits, index_bit, inr, is_blank, is_digit, is_formed, is_hex, is_identifier, is_letter, is_name_byte, is_term_too_wide, key_text, kind_of, le-leb, leb-false, length, length-append, list_all, list_all-append, list_any, lit<, many_none, more_terms, more_words, nat_le, not, or_parts, pow-suc, refl, space, subst, suc, tail, term_text, terms_text, true, word, word_on, word_text, words_text, zero, ℕ, ◌%◌, ◌++◌, ◌+◌, ◌/◌, ◌<◌, ◌^◌, ◌∙◌, ◌∷◌, ◌≡◌, ◌≤◌}
+use Rattle.memory_desc.proofs.Common.{AllDigits, argument_text, line_text, Bool, Content, equation, scramble, List, Term, [], and_from, and_parts, ap, apart, append-nil, argument, arith, byte, constant, decimal, digit_value, digits_value, false, gap, hex_digits, index_bit, inr, is_blank, is_digit, is_formed, is_hex, is_identifier, is_letter, is_name_byte, is_term_too_wide, key_text, kind_of, le-leb, leb-false, length, length-append, list_all, list_all-append, list_any, lit<, many_none, more_terms, more_words, nat_le, nat_tests, not, or_parts, pow-suc, refl, space, subst, suc, tail, term_text, terms_text, true, word, word_on, word_text, words_text, zero, ℕ, ◌%◌, ◌++◌, ◌+◌, ◌/◌, ◌<◌, ◌^◌, ◌∙◌, ◌∷◌, ◌≡◌, ◌≤◌}
 use Rattle.std.specs.Fmt.{digit_glyph}
-use Rattle.std.proofs.lemmas.Bool.Decides.{nat_tests}
 use Rattle.std.proofs.lemmas.Fmt.{decimal_is_IsNumeral, length-decimal-le, decimal_nonempty}
 use Rattle.std.proofs.lemmas.Int.Digits.{digits_value_push}
 use Rattle.std.proofs.lemmas.Str.Parse.{digit_from_value}

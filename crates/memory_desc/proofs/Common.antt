@@ -32,7 +32,7 @@ pub use Rattle.bist_text.proofs.keyed.Items.{IsNext, choice_shortens, Shortens, 
 pub use Rattle.bist_text.proofs.keyed.PartLaws.{Begun, Byte, Either, Ends, Remark, Shuns, Space, alive, byte_told, either_told, ends_told, fewer, remark_told, space_told, word_told}
 pub use Rattle.bist_text.proofs.keyed.Told.{AtEnd, Behind, Never, Told, told_from, told_iff}
 pub use Rattle.bist_text.specs.Grammar.{Continues, are_bytes, byte, is_blank, word}
-pub use Rattle.bist_text.specs.KeyedTexts.{LineOf, Say, first_refusal, gives, or_else, unless_there}
+pub use Rattle.bist_text.specs.KeyedTexts.{LineOf, Say, first_refusal, or_else, unless_there}
 pub use Rattle.bist_text.specs.LineGrammar.{comment, gap, space, tail}
 pub use Rattle.bist_text.specs.Lines.{TextLine, lines_from, lines_left, lines_of_parts, text_lines}
 pub use Rattle.bist_text.specs.Numbers.{hex_digits, word_text}
@@ -45,7 +45,7 @@ pub use Rattle.memory_desc.specs.Described.{AreOfMemory, IsScrambling, described
 pub use Rattle.memory_desc.specs.Descriptions.{Description, IsBackgrounds, IsMemory, assembled}
 pub use Rattle.memory_desc.specs.LineText.{Content, ContentText, Term, argument, backgrounds, bits, constant, equation, index_bit, is_formed, is_hex, key_text, kind_of, latency, log, more_terms, more_words, name, pause, polarity, scramble, version, words}
 pub use Rattle.memory_desc.specs.Names.{IsName, is_digit, is_identifier, is_letter, is_name_byte}
-pub use Rattle.memory_desc.specs.Printed.{argument_text, contents, index_terms, is_plain, line_text, lines_text, one_term, printed, row_terms, rows_printed, term_text, terms_text, version_number, with_head, with_ports, with_rows, words_text}
+pub use Rattle.memory_desc.specs.Printed.{argument_text, contents, index_terms, is_plain, line_text, lines_text, one_term, printed, row_terms, rows_printed, term_text, terms_text, version_number, with_ports, with_rows, words_text}
 pub use Rattle.memory_desc.specs.Statements.{Statement, may_stand, stands, version_in}
 pub use Rattle.memory_desc.specs.Subjects.{about, content_of, is_about, is_same, subject}
 pub use Rattle.memory_desc.specs.Table.{AreRefusedBy, AreStatements, Describes, IsLast, Reads, at_line, is_other, is_row, is_term_too_wide, missing, missing_row, of_lines, out_of_range, repeated, too_many, too_wide, unfit, unrowed, unscramblable, unserved, unsized, without_solid}
@@ -58,7 +58,7 @@ pub use Rattle.memory_desc.specs.declared.fault.MemoryFault.TheVariants.{Missing
 pub use Rattle.memory_desc.specs.declared.search.Sought.TheVariants.{About, TooWide}
 pub use Rattle.memory_desc.specs.inner.Heard.{IsWhole, argument_of, heard, items_after, items_in, hex_word_of, is_caret, is_l, keys_in, keys_of, listed_of, log_of, marked_term_of, next_term_of, next_word_of, row_of, spaced_word_of, term_of, version_at, words_of}
 pub use Rattle.memory_desc.specs.inner.Met.{MayBeMet, MayHave}
-pub use Rattle.memory_desc.specs.inner.Printed.{Adds, number_line}
+pub use Rattle.memory_desc.specs.inner.Printed.{Adds}
 pub use Rattle.memory_desc.specs.inner.Seeking.{IsPosed, is_sought}
 pub use Rattle.memory_desc.specs.inner.Seen.{plain_content, plain_line_content, plain_statement}
 pub use Rattle.memory_desc.specs.inner.Standing.{GivesBackgrounds, GivesScrambling}

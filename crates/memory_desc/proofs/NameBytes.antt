@@ -1,7 +1,6 @@
 -- The bytes of a name are ASCII.
-use Rattle.memory_desc.proofs.Common.{List, [], and_parts, arith, is_identifier, is_letter, is_name_byte, list_all, suc, true, zero, ℕ, ◌<◌, ◌∷◌, ◌≡◌}
+use Rattle.memory_desc.proofs.Common.{List, [], and_parts, arith, is_identifier, is_letter, is_name_byte, list_all, nat_tests, suc, true, zero, ℕ, ◌<◌, ◌∷◌, ◌≡◌}
 use Rattle.std.specs.Str.{IsAscii}
-use Rattle.std.proofs.lemmas.Bool.Decides.{nat_tests}
 
 letter_low : (c : ℕ) → is_letter c ≡ true → c < 128
 letter_low c h = grind (arith, nat_tests)

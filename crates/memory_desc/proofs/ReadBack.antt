@@ -36,7 +36,8 @@ kept d Two c s l r w = ((l, refl), r, w)
 in_range : (low high n : ℕ) → low ≤ n → n ≤ high → (nat_lt n low || nat_lt high n) ≡ false
 in_range low high n l h = rw (lt-leb (suc n) low (omega arith), lt-leb (suc high) n (omega arith)) refl
 
-rows_kept : (d : Description) (v : Version) (k : ℕ) → IsMemory d → d.scramble.width ≤ 16 → k ≤ d.scramble.width → Each (IsKept d v) (with_rows d.scramble k (backgrounds d.backgrounds ∷ []))
+rows_kept : (d : Description) (v : Version) (k : ℕ) → IsMemory d → d.scramble.width ≤ 16 → k ≤ d.scramble.width
+    → Each (IsKept d v) (with_rows d.scramble k (backgrounds d.backgrounds ∷ []))
 rows_kept d v k mem small few =
     let s = d.scramble in
     let set = words_within d.backgrounds mem.tested.fit in
