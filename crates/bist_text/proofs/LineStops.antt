@@ -24,9 +24,6 @@ pub record IsPlain (p : ℕ → Bool) : Type 0 where
 pub plain_blank : (p : ℕ → Bool) (c : ℕ) → IsPlain p → p c ≡ true → is_blank c ≡ false
 plain_blank p c q h = not_blank p c h q.space_no q.tab_no q.return_no
 
-pub no_tail : (p : ℕ → Bool) (c : ℕ) (b : List ℕ) → IsPlain p → p c ≡ true → tail (c ∷ b) → ⊥
-no_tail p c b q h = tail_never c b (plain_blank p c q h) (apart p c 35 h q.hash_no)
-
 -- a space and then the byte k, where k isn't of the class
 pub no_mark : (p : ℕ → Bool) (c k : ℕ) (K : List ℕ → Type 0) (b : List ℕ) → IsPlain p → p c ≡ true → p k ≡ false → space (byte k K) (c ∷ b) → ⊥
 no_mark p c k K b q h n s = when_false (c == k) (K b) (apart p c k h n) ((space_off (byte k K) c b (plain_blank p c q h)).0 s)
@@ -40,7 +37,7 @@ gap_stops p K off c b on h =
     (let blank : is_blank c ≡ true = (when_holds (is_blank c) (space K b) h).0 in let other = plain_blank p c off on in let z : ⊥ = cc in z)
 
 pub tail_stops : (p : ℕ → Bool) → IsPlain p → Stops p tail
-tail_stops p off c b on h = no_tail p c b off on h
+tail_stops p off c b on h = tail_never c b (plain_blank p c off on) (apart p c 35 on off.hash_no) h
 
 abbrev pub is_run : (ℕ → Bool) → ℕ → List ℕ → Bool
 is_run p most ds = list_all p ds && nat_le 1 (length ds) && nat_le (length ds) most

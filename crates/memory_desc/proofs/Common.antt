@@ -23,7 +23,7 @@ pub use Rattle.std.specs.Str.Parse.{AllDigits, digits_value}
 pub use Rattle.backgrounds.specs.Backgrounds.{IsLogSet}
 pub use Rattle.bist_bits.specs.Width.{IsWidthOf}
 pub use Rattle.bist_text.proofs.LinePieces.{apart, at_bool, gap_off, gap_on, of_blank, tail_blank, tail_other, when_false, when_holds, when_true}
-pub use Rattle.bist_text.proofs.LineStops.{no_mark, no_tail}
+pub use Rattle.bist_text.proofs.LineStops.{no_mark}
 pub use Rattle.bist_text.proofs.Pieces.{at_byte, many_none, same, word_on}
 pub use Rattle.bist_text.proofs.keyed.Checks.{alone, here, is_there, next, none_first, passed, some_same, stopped, there}
 pub use Rattle.bist_text.proofs.keyed.Classes.{run_is}

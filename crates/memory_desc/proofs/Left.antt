@@ -1,7 +1,7 @@
 -- What is left of the items of a line, where they are read one after another.
-use Rattle.memory_desc.proofs.Common.{IsNext, IsWhole, List, None, length, ◌<◌, Option, Read, Some, ap, items_in, onward, stuck, sym, took, ℕ, ◌∙◌, ◌∷◌, ◌≡◌}
+use Rattle.memory_desc.proofs.Common.{IsNext, IsWhole, List, length, ◌<◌, Option, Read, Some, ap, items_in, onward, stuck, sym, took, ℕ, ◌∙◌, ◌∷◌, ◌≡◌}
 use Rattle.bist_text.specs.keyed.Parts.{items_of}
-use Rattle.bist_text.proofs.keyed.Items.{items_on, items_end, items_stuck, made_of, next_shorter, unmade}
+use Rattle.bist_text.proofs.keyed.Items.{items_on, next_shorter}
 
 -- how items end, whatever they are
 abbrev pub Ended : {A : Type 0} → Read A → Read (Unit {0})
@@ -9,12 +9,6 @@ Ended o = onward o (λ _ x. took tt x)
 
 module _ {A : Type 0} (next : List ℕ → Read (Option A)) (is_next : IsNext next) where
   -- ---- the loop to their end
-
-  pub ends : (all b x : List ℕ) → Ended (items_of next b) ≡ Ended (items_of next all) → next b ≡ took None x → (xs : List A) × (items_of next all ≡ took xs x)
-  ends all b x h e = (let m = made_of (λ _. tt) (items_of next all) tt x (sym h ∙ items_end next is_next (λ _. tt) b x e) in (m.0, m.1))
-
-  pub stops : (all b x : List ℕ) → Ended (items_of next b) ≡ Ended (items_of next all) → next b ≡ stuck x → items_of next all ≡ stuck x
-  stops all b x h e = unmade (λ _. tt) (items_of next all) x (sym h ∙ items_stuck next is_next (λ _. tt) b x e)
 
   pub goes_on : {o : Option A} (all b x : List ℕ) (a : A) → Ended (items_of next b) ≡ Ended (items_of next all) → next b ≡ took o x → o ≡ Some a → Ended (items_of next x) ≡ Ended (items_of next all)
   goes_on all b x a h e k = sym (items_on next is_next (λ _. tt) b x a (e ∙ ap (λ o. took o x) k)) ∙ h

@@ -1,5 +1,5 @@
 -- The scrambling of the rows, each of which is there.
-use Rattle.memory_desc.proofs.Common.{Bool, GivesScrambling, IsInvertible, IsScrambling, IsSome, List, Missing, None, Ok, Scrambling, Statement, about, ap, arith, cases_lt, false, identity, inl, inr, is_there, matrix_said, missing_row, none_first, or_else, refl, subst, suc, sym, there, true, unless_there, unrowed, zero, ℕ, ◌<◌, ◌∙◌, ◌≡◌}
+use Rattle.memory_desc.proofs.Common.{Bool, GivesScrambling, IsInvertible, IsScrambling, IsSome, List, Missing, None, Ok, Scrambling, Statement, about, ap, arith, cases_lt, false, inl, inr, is_there, matrix_said, missing_row, none_first, or_else, refl, subst, suc, sym, there, true, unless_there, unrowed, zero, ℕ, ◌<◌, ◌∙◌, ◌≡◌}
 use Rattle.memory_desc.specs.Table.{is_scrambled}
 use Rattle.memory_desc.specs.declared.content.Subject.TheVariants.{Row}
 use Rattle.memory_desc.specs.declared.fault.Field.TheVariants.{Row as RowField}
@@ -21,9 +21,6 @@ no_row_missing ss (suc n) f =
     ∙ there (Missing (RowField n)) (about (Row n) ss) (f n (omega arith))
 
 module _ (ss : List Statement) (width : ℕ) where
-  pub unscrambled : (s : Scrambling) → is_scrambled ss ≡ false → s ≡ identity width → GivesScrambling ss width (Ok s)
-  unscrambled s e h = (rw e refl, rw e h)
-
   pub scrambled : (m s : Scrambling) → is_scrambled ss ≡ true → missing_row ss width ≡ None → m ≡ matrix_said ss width → s ≡ m → IsInvertible s → GivesScrambling ss width (Ok s)
   scrambled m s e f g h i =
       let same : s ≡ matrix_said ss width = h ∙ g in

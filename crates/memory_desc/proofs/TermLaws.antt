@@ -1,9 +1,10 @@
 -- The terms of a row are taken as the grammar says.
-use Rattle.memory_desc.proofs.Common.{choice_shortens, digits_value, Behind, IsNext, List, Read, Shortens, Shorter, Some, Term, Told, [], Continues, inl, and_from, apart, are_bytes, arith, at_bool, at_byte, byte_of, constant, false, fits_of, if◌then◌else◌, index_bit, inr, is_blank, is_caret, is_digit, length, made_shorter, marked_term_of, more_terms, next_term_of, no_mark, no_tail, one_item, onward, onward_on, refl, same, some_shortens, space, spaced, spaced_shorter, stuck, subst, sym, tail, term_of, told_iff, took, true, weaker, when_false, word_of, ℕ, Number, ◌==◌, ◌↔◌, ◌∷◌, ◌≡◌, ◌≤◌}
+use Rattle.memory_desc.proofs.Common.{choice_shortens, digits_value, Behind, IsNext, List, Read, Shortens, Shorter, Some, Term, Told, [], Continues, inl, and_from, apart, are_bytes, arith, at_bool, at_byte, byte_of, constant, false, fits_of, if◌then◌else◌, index_bit, inr, is_blank, is_caret, is_digit, length, made_shorter, marked_term_of, more_terms, next_term_of, no_mark, one_item, onward, onward_on, refl, same, some_shortens, space, spaced, spaced_shorter, stuck, subst, sym, tail, term_of, told_iff, took, true, weaker, when_false, word_of, ℕ, Number, ◌==◌, ◌↔◌, ◌∷◌, ◌≡◌, ◌≤◌}
 use Rattle.std.proofs.Common.{zero-le}
 use Rattle.bist_text.specs.keyed.Numbers.{number}
 use Rattle.bist_text.specs.keyed.Parts.{number_of, by_item}
 use Rattle.bist_text.proofs.Carried.{Said}
+use Rattle.bist_text.proofs.LineStops.{tail_stops}
 use Rattle.bist_text.proofs.keyed.Listed.{IsItem, by_first, choice_told}
 use Rattle.bist_text.proofs.keyed.PartLaws.{Either, Ends}
 use Rattle.bist_text.proofs.keyed.Taken.{Takes, byte_taken, digits, number_taken, space_taken}
@@ -84,7 +85,7 @@ term_item = record {
 }
   where
     shuns : (ts : List Term) (c : ℕ) (b : List ℕ) → is_digit c ≡ true → more_terms ts tail (c ∷ b) → ⊥
-    shuns [] c b e h = no_tail is_digit c b digits.plain e h
+    shuns [] c b e h = tail_stops is_digit digits.plain c b e h
     shuns (t ∷ ts) c b e h = no_mark is_digit c 94 (space (term t (more_terms ts tail))) b digits.plain e refl h
 
     marked : {V : Type 0} (v : V) (k : Term → List ℕ → Read V) (o : Read (Unit {0})) → onward (onward o (λ _ x. onward (term_of (spaced x)) (λ t x. took (Some t) x))) (λ o x. by_item o (took v x) (λ t. k t x))

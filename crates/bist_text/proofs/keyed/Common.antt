@@ -7,7 +7,7 @@ pub use Rattle.std.specs.Prelude.{MatchResult, get_or, nat_le, nat_lt, option_ma
 pub use Rattle.std.specs.Str.Parse.{AllDigits, digits_value}
 pub use Rattle.bist_text.proofs.KeywordLaws.{IsOf, spell_alive, spell_ends, spell_law, stands_all}
 pub use Rattle.bist_text.proofs.LinePieces.{apart, at_bool, gap_off, gap_on, of_blank, space_off, space_on, tail_blank, tail_other, when_false, when_holds, when_true}
-pub use Rattle.bist_text.proofs.LineStops.{IsPlain, is_run, no_tail, plain_blank, run_of, run_parts}
+pub use Rattle.bist_text.proofs.LineStops.{IsPlain, is_run, plain_blank, run_of, run_parts}
 pub use Rattle.bist_text.proofs.Pieces.{back, many_none, same}
 pub use Rattle.bist_text.specs.Grammar.{Continues, are_bytes, byte, is_blank, one_of, word}
 pub use Rattle.bist_text.specs.Identifiers.{begins_identifier, in_identifier, is_digit, is_identifier}

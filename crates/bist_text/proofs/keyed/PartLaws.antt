@@ -1,5 +1,6 @@
 -- The readers of the parts of a line are right byte by byte, where what reads on behind them is.
 use Rattle.bist_text.proofs.keyed.Common.{Bool, Class, Continues, Holds, List, None, Option, Read, Some, Word, [], all_fit, and_from, and_parts, ap, are_apart, are_bytes, arith, at_bool, back, behind_of, by_byte, by_letter, byte, byte_of, comment, comment_of, end_of, eq-eqb, eqb-true, false, front_of, gap, gap_of, gap_off, gap_on, if◌then◌else◌, inl, inr, is_blank, is_word, key_from, key_of, later, left, length, letters_of, many_none, nat_lt, no_letters, onward, refl, same, slice_get, space, space_off, space_on, spaced, spell, spell_alive, spell_ends, spell_law, stands, stuck, subst, suc, sym, tail, tail_blank, tail_other, took, true, when_false, when_holds, when_true, word, word_of, zero-le, ℕ, ◌++◌, ◌==◌, ◌↔◌, ◌∙◌, ◌∷◌, ◌≡◌, ◌≤◌, ◌⊎◌}
+use Rattle.bist_text.proofs.Pieces.{also}
 use Rattle.bist_text.specs.declared.keywords.Letters.{Letters}
 use Rattle.bist_text.specs.declared.keywords.Spelled.{Spelled}
 use Rattle.bist_text.specs.declared.keywords.Spelled.TheVariants.{More, Whole}
@@ -121,15 +122,15 @@ Parted {V} fits G = (n c : ℕ) (w b : List ℕ) (v : V) → fits n c ≡ true �
 front_alive : {V : Type 0} (fits : Class) (G : List ℕ → List ℕ → V → Type 0) → Continues (G []) [] → Continues (Front fits G) []
 front_alive fits G a = (a.0, a.1, a.2, ([], refl, a.3))
 
-front_on : {V : Type 0} (fits : Class) (G : List ℕ → List ℕ → V → Type 0) → Parted fits G → (c : ℕ) (x : List ℕ) (v : V) → fits 0 c ≡ true
+front_on : {V : Type 0} (fits : Class) (G : List ℕ → List ℕ → V → Type 0) (c : ℕ) (x : List ℕ) (v : V) → (G [] (c ∷ x) v → ⊥) → fits 0 c ≡ true
     → Front (later fits) (λ w. G (c ∷ w)) x v ↔ Front fits G (c ∷ x) v
-front_on {V} fits G f c x v e = (
+front_on {V} fits G c x v f e = (
   λ h. (c ∷ h.0, and_from (fits 0 c) (all_fit (later fits) h.0) e h.1, (when_true (c == c) (word h.0 (λ y. G (c ∷ h.0) y v) x) (eq-eqb c c refl)).1 h.2),
   λ h. to h.0 h.1 h.2,
 )
   where
     to : (w : List ℕ) → all_fit fits w ≡ true → word w (λ y. G w y v) (c ∷ x) → Front (later fits) (λ w. G (c ∷ w)) x v
-    to [] a k = absurd (f 0 c [] x v e k)
+    to [] a k = absurd (f k)
     to (d ∷ w) a k =
         let q = when_holds (c == d) (word w (λ y. G (d ∷ w) y v) x) k in
         (w, (and_parts (fits 0 d) (all_fit (later fits) w) a).1, subst (λ (d : ℕ). word w (λ y. G (d ∷ w) y v) x) (sym (eqb-true c d q.0)) q.1)
@@ -159,7 +160,7 @@ front_told n fits G r f h (c ∷ b) l =
     (λ e. (
       front_alive fits G (alive n (G []) (r []) (h [] refl)),
       inr (told_iff (Front (later fits) (λ w. G (c ∷ w))) (Behind c (Front fits G)) b (r (c ∷ front_of (later fits) b) (behind_of (later fits) b))
-          (λ x v. front_on fits G f c x v e)
+          (λ x v. front_on fits G c x v (f 0 c [] x v e) e)
           (front_told n (later fits) (λ w. G (c ∷ w)) (λ w. r (c ∷ w)) (λ m d w y v i k. f (suc m) d (c ∷ w) y v i k) (λ w a. h (c ∷ w) (and_from (fits 0 c) (all_fit (later fits) w) e a)) b (omega arith))),
     ))
     (λ e. told_from (G []) (Front fits G) c b (r [] (c ∷ b)) (front_alive fits G (alive n (G []) (r []) (h [] refl))) (λ x v. front_off fits G c x v e) (h [] refl (c ∷ b) l))
@@ -178,35 +179,30 @@ word_alive fits G s a = (
   (s.first ∷ [], and_from (fits 0 s.first) true s.fitting refl, (when_true (s.first == s.first) (G (s.first ∷ []) a.0 a.1) (eq-eqb s.first s.first refl)).1 a.3),
 )
 
-word_on : {V : Type 0} (fits : Class) (G : List ℕ → List ℕ → V → Type 0) (c : ℕ) (x : List ℕ) (v : V) → fits 0 c ≡ true
-    → Front (later fits) (λ w. G (c ∷ w)) x v ↔ Words fits G (c ∷ x) v
-word_on {V} fits G c x v e = (
-  λ h. (c ∷ h.0, and_from (fits 0 c) (all_fit (later fits) h.0) e h.1, (when_true (c == c) (word h.0 (λ y. G (c ∷ h.0) y v) x) (eq-eqb c c refl)).1 h.2),
-  λ h. to h.0 h.1 h.2,
-)
+-- what follows a word of some bytes
+abbrev Later : {V : Type 0} → (List ℕ → List ℕ → V → Type 0) → List ℕ → List ℕ → V → Type 0
+Later G [] x v = ⊥
+Later G (c ∷ w) x v = G (c ∷ w) x v
+
+words_front : {V : Type 0} (fits : Class) (G : List ℕ → List ℕ → V → Type 0) (x : List ℕ) (v : V) → Front fits (Later G) x v ↔ Words fits G x v
+words_front {V} fits G x v = (λ h. from h.0 h.1 h.2, λ h. to h.0 h.1 h.2)
   where
-    to : (w : List ℕ) → is_word fits w ≡ true → word w (λ y. G w y v) (c ∷ x) → Front (later fits) (λ w. G (c ∷ w)) x v
+    from : (w : List ℕ) → all_fit fits w ≡ true → word w (λ y. Later G w y v) x → Words fits G x v
+    from [] a k = absurd k
+    from (c ∷ w) a k = (c ∷ w, a, k)
+
+    to : (w : List ℕ) → is_word fits w ≡ true → word w (λ y. G w y v) x → Front fits (Later G) x v
     to [] a k = (let z : ⊥ = cc in absurd z)
-    to (d ∷ w) a k =
-        let q = when_holds (c == d) (word w (λ y. G (d ∷ w) y v) x) k in
-        (w, (and_parts (fits 0 d) (all_fit (later fits) w) a).1, subst (λ (d : ℕ). word w (λ y. G (d ∷ w) y v) x) (sym (eqb-true c d q.0)) q.1)
+    to (c ∷ w) a k = (c ∷ w, a, k)
+
+word_on : {V : Type 0} (fits : Class) (G : List ℕ → List ℕ → V → Type 0) (c : ℕ) (x : List ℕ) (v : V) → fits 0 c ≡ true → Front (later fits) (λ w. G (c ∷ w)) x v ↔ Words fits G (c ∷ x) v
+word_on fits G c x v e = also (front_on fits (Later G) c x v (λ h. h) e) (words_front fits G (c ∷ x) v)
 
 pub word_never : {V : Type 0} (fits : Class) (G : List ℕ → List ℕ → V → Type 0) (c : ℕ) → fits 0 c ≡ false → Never c (Words fits G)
-word_never {V} fits G c e x v h = to h.0 h.1 h.2
-  where
-    to : (w : List ℕ) → is_word fits w ≡ true → word w (λ y. G w y v) (c ∷ x) → ⊥
-    to [] a k = cc
-    to (d ∷ w) a k =
-        let q = when_holds (c == d) (word w (λ y. G (d ∷ w) y v) x) k in
-        let i : fits 0 c ≡ true = ap (fits 0) (eqb-true c d q.0) ∙ (and_parts (fits 0 d) (all_fit (later fits) w) a).0 in
-        (let z : ⊥ = cc in z)
+word_never fits G c e x v h = (front_off fits (Later G) c x v e).1 ((words_front fits G (c ∷ x) v).1 h)
 
 pub word_none : {V : Type 0} (fits : Class) (G : List ℕ → List ℕ → V → Type 0) (v : V) → Words fits G [] v → ⊥
-word_none {V} fits G v h = to h.0 h.1 h.2
-  where
-    to : (w : List ℕ) → is_word fits w ≡ true → word w (λ y. G w y v) [] → ⊥
-    to [] a k = cc
-    to (d ∷ w) a k = k
+word_none fits G v h = (front_end fits (Later G) v).1 ((words_front fits G [] v).1 h)
 
 pub word_told : {V : Type 0} (n : ℕ) (fits : Class) (G : List ℕ → List ℕ → V → Type 0) (r : List ℕ → List ℕ → Read V) → Begun fits → Parted (later fits) G
     → ((w : List ℕ) → is_word fits w ≡ true → Hears n (G w) (r w)) → Hears (suc n) (Words fits G) (λ b. onward (word_of fits b) r)

@@ -1,5 +1,5 @@
 -- What is left of a line is taken as the grammar says, part by part.
-use Rattle.bist_text.proofs.keyed.Common.{apart, byte, byte_of, space, spaced, when_false, ◌==◌, ◌↔◌, Bool, Class, List, Read, and_parts, ap, arith, begins_identifier, digits_value, ends_with, false, fits_of, gap, gap_of, in_identifier, is_blank, is_digit, is_hex_digit, is_word, nat_lt, number_of, of_blank, onward, refl, subst, suc, sym, tail, took, true, word, word_of, ℕ, ◌∙◌, ◌∷◌, ◌≡◌}
+use Rattle.bist_text.proofs.keyed.Common.{apart, byte, byte_of, space, spaced, when_false, ◌==◌, ◌↔◌, Bool, Class, List, Read, and_parts, ap, arith, digits_value, ends_with, false, fits_of, gap, gap_of, in_identifier, is_blank, is_digit, is_hex_digit, is_word, nat_lt, number_of, of_blank, onward, refl, subst, suc, sym, tail, took, true, word, word_of, ℕ, ◌∙◌, ◌∷◌, ◌≡◌}
 use Rattle.bist_text.specs.declared.keyed_lines.Class.TheVariants.{Number, Word as HexWord, Name, File}
 use Rattle.bist_text.specs.keyed.Numbers.{is_number, number}
 use Rattle.bist_text.specs.keyed.Parts.{is_file_byte}
@@ -43,37 +43,26 @@ pub record IsClass (fits : Class) (p : ℕ → Bool) : Type 0 where
   pub later : (n c : ℕ) → fits (suc n) c ≡ true → p c ≡ true
   pub plain : IsPlain p
 
-pub digits : IsClass (fits_of Number) is_digit
-digits = record {
-  begun = record { first = 48; fitting = refl; small = refl };
-  blank = λ c e. of_blank (λ k. fits_of Number 0 k ≡ false) c e refl refl refl;
-  later = λ n c h. (and_parts (is_digit c) (nat_lt (suc n) 9) h).0;
-  plain = record { space_no = refl; tab_no = refl; return_no = refl; hash_no = refl };
+class : (fits : Class) (p : ℕ → Bool) (first : ℕ) → fits 0 first ≡ true → nat_lt first 256 ≡ true → fits 0 32 ≡ false → fits 0 9 ≡ false → fits 0 13 ≡ false
+    → ((n c : ℕ) → fits (suc n) c ≡ true → p c ≡ true) → p 32 ≡ false → p 9 ≡ false → p 13 ≡ false → p 35 ≡ false → IsClass fits p
+class fits p first f s a b d later e g h i = record {
+  begun = record { first = first; fitting = f; small = s };
+  blank = λ c k. of_blank (λ k. fits 0 k ≡ false) c k a b d;
+  later = later;
+  plain = record { space_no = e; tab_no = g; return_no = h; hash_no = i };
 }
+
+pub digits : IsClass (fits_of Number) is_digit
+digits = class (fits_of Number) is_digit 48 refl refl refl refl refl (λ n c h. (and_parts (is_digit c) (nat_lt (suc n) 9) h).0) refl refl refl refl
 
 pub hex_digits : IsClass (fits_of HexWord) is_hex_digit
-hex_digits = record {
-  begun = record { first = 48; fitting = refl; small = refl };
-  blank = λ c e. of_blank (λ k. fits_of HexWord 0 k ≡ false) c e refl refl refl;
-  later = λ n c h. (and_parts (is_hex_digit c) (nat_lt (suc n) 16) h).0;
-  plain = record { space_no = refl; tab_no = refl; return_no = refl; hash_no = refl };
-}
+hex_digits = class (fits_of HexWord) is_hex_digit 48 refl refl refl refl refl (λ n c h. (and_parts (is_hex_digit c) (nat_lt (suc n) 16) h).0) refl refl refl refl
 
 pub name_bytes : IsClass (fits_of Name) in_identifier
-name_bytes = record {
-  begun = record { first = 97; fitting = refl; small = refl };
-  blank = λ c e. of_blank (λ k. begins_identifier k ≡ false) c e refl refl refl;
-  later = λ n c h. h;
-  plain = record { space_no = refl; tab_no = refl; return_no = refl; hash_no = refl };
-}
+name_bytes = class (fits_of Name) in_identifier 97 refl refl refl refl refl (λ n c h. h) refl refl refl refl
 
 pub file_bytes : IsClass (fits_of File) is_file_byte
-file_bytes = record {
-  begun = record { first = 97; fitting = refl; small = refl };
-  blank = λ c e. of_blank (λ k. is_file_byte k ≡ false) c e refl refl refl;
-  later = λ n c h. h;
-  plain = record { space_no = refl; tab_no = refl; return_no = refl; hash_no = refl };
-}
+file_bytes = class (fits_of File) is_file_byte 97 refl refl refl refl refl (λ n c h. h) refl refl refl refl
 
 -- a word of a class, and what is behind it
 abbrev pub Worded : Class → Type 0 → Type 0
