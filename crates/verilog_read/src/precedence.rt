@@ -7,10 +7,10 @@ ghost use Rattle.verilog_tree.specs.Spells.{bounded};
 ghost use Rattle.verilog_tree.specs.Grammar.{deeper};
 ghost use Rattle.verilog_tree.specs.Tokens.{Token, Sign};
 ghost use Rattle.verilog_text.specs.Places as Q;
-ghost use Rattle.verilog_text.specs.Places.{InRound, IfTrue, Alone, AtExpr, WantOperand, WantPrim, Named, Have, Linked, more_parts};
+ghost use Rattle.verilog_text.specs.Places.{InRound, InList, IfTrue, Alone, AtExpr, WantOperand, WantPrim, Named, Have, Linked, more_parts};
 ghost use Rattle.verilog_text.specs.Steps.{in_room, prim_step, operand_step, close_step, have_step};
 ghost use Rattle.verilog_read.specs.inner.Waiting.{lefts_of};
-ghost use Rattle.verilog_read.specs.inner.Holding.{token_of, nest, nests_of, is_expected, IsList, ExprSteps, Closes, PoppedNest};
+ghost use Rattle.verilog_read.specs.inner.Holding.{token_of, nest, nests_of, is_expected, ExprSteps, Closes, PoppedNest};
 
 use crate::fault::ParseFault;
 use crate::lexemes::Lexeme;
@@ -331,30 +331,28 @@ fn in_list(
     alloc: Global,
     nests: &mut Vec<Nest>,
     inner: u8,
-    outer: Nest,
+    depth: u8,
+    parts: Vec<Expr>,
+    chain: Chain,
     count: Count,
     x: Expr,
     token: &Lexeme,
 ) -> Result<Closed, ParseFault>
-    ensures { (b : Alone) → IsList outer → Closes (close_step inner count (plain x) (nest outer (nests_of nests.old.items b)) (token_of token.now)) result inner b (nests_of nests.new.items b) (token_of token.now) }
+    ensures { (b : Alone) → Closes (close_step inner count (plain x) (InList depth (expressions (map plain parts.items)) chain.count (lefts_of chain.lefts.items) chain.mark (nests_of nests.old.items b)) (token_of token.now)) result inner b (nests_of nests.new.items b) (token_of token.now) }
 {
-    let Nest::List(depth, parts, before, lefts, mark) = outer else {
-        return Err(ParseFault::Unexpected);
-    };
+    let parts = with_part(parts, x)?;
     match token {
         Lexeme::Sign(Mark::Comma) => {
-            let parts = with_part(parts, x)?;
-            let outer = Nest::List(depth, parts, before, lefts, mark);
+            let outer = Nest::List(depth, parts, chain.count, chain.lefts, chain.mark);
             Ok(Closed::Inner(begun(alloc, nests, outer, inner, count)?))
         }
         Lexeme::Sign(Mark::CloseBrace) => {
-            let parts = with_part(parts, x)?;
             Ok(Closed::Inner(ExprPlace {
                 spot: ExprSpot::Have(depth, Expr::Concat(parts)),
                 chain: Chain {
-                    count: behind(before, count),
-                    lefts,
-                    mark,
+                    count: behind(chain.count, count),
+                    lefts: chain.lefts,
+                    mark: chain.mark,
                 },
             }))
         }
@@ -400,8 +398,12 @@ fn close(
                 return in_round(r, before, count, lefts, mark, last, token);
             }
             Nest::List(r, parts, before, lefts, mark) => {
-                let outer = Nest::List(r, parts, before, lefts, mark);
-                return in_list(alloc, nests, depth, outer, count, last, token);
+                let chain = Chain {
+                    count: before,
+                    lefts,
+                    mark,
+                };
+                return in_list(alloc, nests, depth, r, parts, chain, count, last, token);
             }
             Nest::IfTrue(c) => {
                 return in_choice(alloc, nests, depth, count, c, last, token);

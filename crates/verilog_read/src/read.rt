@@ -78,7 +78,7 @@ fn take(
     let held = mem::replace(place, Place::InItem(ItemSpot::Begin));
     match step(alloc, outer, held, token) {
         Ok(next) => {
-            *place = next;
+            drop(mem::replace(place, next));
             Ok(())
         }
         Err(ParseFault::NoMemory) => Err(ByteFault::NoMemory),
@@ -286,7 +286,10 @@ fn scan_text(alloc: Global, style: Style, bytes: &[u8]) -> Result<Module, ReadFa
 {
     let mut outer = Outer::new(alloc, style);
     let mut place = Place::InItem(ItemSpot::Begin);
-    scan_all(alloc, &mut outer, &mut place, bytes)
+    let read = scan_all(alloc, &mut outer, &mut place, bytes);
+    drop(place);
+    drop(outer);
+    read
 }
 
 /// Reads the text of a module. The first byte at which one of L1, L3, L4 and L5 stands decides.

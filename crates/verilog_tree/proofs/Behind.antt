@@ -30,13 +30,6 @@ pub all_found : (ds es : List Declaration) (n : List ℕ) → lookup (with_all d
 all_found ds [] n = ap (λ l. lookup l n) (sym (append-nil ds))
 all_found ds (e ∷ es) n = all_found (with_declared ds e) es n ∙ one_declared ds es e n (is_some (lookup ds e.name)) refl
 
-all_append : (ds es fs : List Declaration) → with_all (with_all ds es) fs ≡ with_all ds (es ++ fs)
-all_append ds [] fs = refl
-all_append ds (e ∷ es) fs = all_append (with_declared ds e) es fs
-
-pub both_found : (es fs : List Declaration) (n : List ℕ) → lookup (with_all (with_all [] es) fs) n ≡ lookup (es ++ fs) n
-both_found es fs n = ap (λ l. lookup l n) (all_append [] es fs) ∙ all_found [] (es ++ fs) n
-
 -- what is declared, once an item keeps the rules
 new_last : (ds : List Declaration) (d : Declaration) → lookup ds d.name ≡ None → with_declared ds d ≡ ds ++ d ∷ []
 new_last ds d h = ap (λ o. cond (is_some o) ds (ds ++ d ∷ [])) h

@@ -12,14 +12,15 @@ use crate::words::is_name;
 fn expr_fits(room: u8, x: &Expr) -> bool
     ensures { result ≡ expression_fits room (plain x.now) }
 {
+    let inner = room.saturating_sub(1);
     match x {
         Expr::Name(name) | Expr::Bit(name, _) | Expr::Part(name, _, _) => is_name(name),
         Expr::Lit(_) => true,
-        Expr::Concat(parts) => 0 < room && exprs_fit(room - 1, parts),
-        Expr::Unary(_, a) => 0 < room && expr_fits(room - 1, a),
-        Expr::Binary(_, a, b) => 0 < room && expr_fits(room - 1, a) && expr_fits(room - 1, b),
+        Expr::Concat(parts) => 0 < room && exprs_fit(inner, parts),
+        Expr::Unary(_, a) => 0 < room && expr_fits(inner, a),
+        Expr::Binary(_, a, b) => 0 < room && expr_fits(inner, a) && expr_fits(inner, b),
         Expr::Choose(c, a, b) => {
-            0 < room && expr_fits(room - 1, c) && expr_fits(room - 1, a) && expr_fits(room - 1, b)
+            0 < room && expr_fits(inner, c) && expr_fits(inner, a) && expr_fits(inner, b)
         }
     }
 }
@@ -40,16 +41,14 @@ fn exprs_fit(room: u8, parts: &[Expr]) -> bool
 fn stmt_fits(room: u8, s: &Stmt) -> bool
     ensures { result ≡ statement_fits room (plain_stmt s.now) }
 {
+    let inner = room.saturating_sub(2);
     match s {
         Stmt::Set(name, x) => is_name(name) && expr_fits(room, x),
         Stmt::If(c, a, b) => {
-            1 < room && expr_fits(room - 2, c) && stmts_fit(room - 2, a) && stmts_fit(room - 2, b)
+            1 < room && expr_fits(inner, c) && stmts_fit(inner, a) && stmts_fit(inner, b)
         }
         Stmt::Case(x, choices, other) => {
-            1 < room
-                && expr_fits(room - 2, x)
-                && arms_fit(room - 2, choices)
-                && stmts_fit(room - 2, other)
+            1 < room && expr_fits(inner, x) && arms_fit(inner, choices) && stmts_fit(inner, other)
         }
     }
 }

@@ -2,8 +2,9 @@
 //!
 //! Contracts see a module as a plain tree (`specs/Plain.antt`): names are their bytes, vectors are lists, a
 //! box is what it holds. Of such a tree the definitions say which bytes spell it (`Spells.antt`), which rule
-//! it breaks first (`Rules.antt`), what its names are worth in a cycle and after an edge of the clock
-//! (`Meaning.antt`), and when its wires form a loop (`Wires.antt`). Values are unsigned and two-valued.
+//! it breaks first (`Rules.antt`), what its operators give (`Operators.antt`), what its names are worth in a
+//! cycle and after an edge of the clock (`Meaning.antt`), and when its wires form a loop (`Wires.antt`).
+//! Values are unsigned and two-valued. The functions of `build` make each part of a module of its parts.
 //!
 //! ```
 //! use arrayvec::ArrayString;

@@ -1,12 +1,12 @@
 //! The rules that a module must keep.
-ghost use Rattle.std.specs.Prelude.{◌≡◌, ℕ, IsTrue, [], ◌∷◌, ◌++◌, map, OnOk};
+ghost use Rattle.std.specs.Prelude.{◌≡◌, ℕ, IsTrue, [], ◌∷◌, ◌++◌, map, IfOk, OnOk};
 ghost use Rattle.verilog_tree.specs.Plain.{plain_item, plain_port, plain_module};
 ghost use Rattle.verilog_tree.specs.Names.{is_wire, port_declarations, item_declarations, width_of};
 ghost use Rattle.verilog_tree.specs.Formed.{formed};
 ghost use Rattle.verilog_tree.specs.Rules.{has_kind, Refuses, Unknown, SelectRange, NotAssignable, TwoBlocks, Clock, mentions, first_bad, is_unknown, is_out_of_range, assignable, is_wrong_target, is_wrong_clock, declares_clk, port_twice, port_clock, undriven, first_of, items_break, first_break};
 ghost use Rattle.verilog_tree.specs.Meaning.{names_widths};
 ghost use Rattle.verilog_tree.specs.inner.Seen.{mention};
-ghost use Rattle.verilog_tree.specs.inner.Tables.{RefusesElse, among, again, is_target_among, with_targets, break_behind, declared_behind, assigned_behind, set_behind, breaks_behind, all_assigned, unassigned};
+ghost use Rattle.verilog_tree.specs.inner.Tables.{among, again, is_target_among, with_targets, break_behind, declared_behind, assigned_behind, set_behind, breaks_behind, all_assigned, unassigned};
 
 use crate::fault::TreeFault;
 use crate::mentions::{Mention, mentions};
@@ -193,21 +193,6 @@ struct Before {
     set: NameSet,
 }
 
-impl Before {
-    // Only these ports.
-    fn behind(alloc: Global, ports: Declarations) -> Before
-        ensures declared { result.declared ≡ ports }
-        ensures assigned { result.assigned ≡ [] }
-        ensures set { result.set ≡ [] }
-    {
-        Before {
-            declared: ports,
-            assigned: NameSet::new(alloc),
-            set: NameSet::new(alloc),
-        }
-    }
-}
-
 #[tactic(auto, using(crate::proofs::Refusals::tells_now, crate::proofs::Refusals::tells_later, crate::proofs::Refusals::none_more), unfolding(crate::specs::inner::Tables::break_behind))]
 fn check_item(
     widths: &Declarations,
@@ -286,13 +271,20 @@ fn add_ports_once(all: &mut Declarations, ports: &[Port]) -> Result<(), TreeFaul
     Ok(())
 }
 
-// N2 in the ports, which it gives.
-fn ports_once(alloc: Global, ports: &[Port]) -> Result<Declarations, TreeFault>
-    ensures { RefusesElse (port_twice [] (port_declarations (map plain_port ports.now))) (port_declarations (map plain_port ports.now)) result }
+// N2 in the ports, behind which it stands.
+fn behind_ports(alloc: Global, ports: &[Port]) -> Result<Before, TreeFault>
+    ensures refuses { Refuses (port_twice [] (port_declarations (map plain_port ports.now))) result }
+    ensures declared { IfOk result (λ before. before.declared ≡ port_declarations (map plain_port ports.now)) }
+    ensures assigned { IfOk result (λ before. before.assigned ≡ []) }
+    ensures set { IfOk result (λ before. before.set ≡ []) }
 {
-    let mut all = Declarations::new(alloc);
-    add_ports_once(&mut all, ports)?;
-    Ok(all)
+    let mut declared = Declarations::new(alloc);
+    add_ports_once(&mut declared, ports)?;
+    Ok(Before {
+        declared,
+        assigned: NameSet::new(alloc),
+        set: NameSet::new(alloc),
+    })
 }
 
 // N10 in the ports.
@@ -387,7 +379,6 @@ pub fn check(alloc: Global, module: &Module) -> Result<(), TreeFault>
     requires { IsTrue (formed (plain_module «module».now)) }
     ensures { Refuses (first_break (plain_module «module».now)) result }
 {
-    let ports = ports_once(alloc, &module.ports)?;
-    let mut before = Before::behind(alloc, ports);
+    let mut before = behind_ports(alloc, &module.ports)?;
     check_behind_ports(alloc, &mut before, module)
 }

@@ -1,8 +1,8 @@
 //! Names looked up by their hash.
 ghost use Rattle.std.specs.Prelude.{◌≡◌, ℕ, List, [], map, IfOk, OnOk};
 ghost use Rattle.std.specs.Option.{option_map};
-ghost use Rattle.verilog_tree.specs.Plain.{plain_item, plain_port, plain_module};
-ghost use Rattle.verilog_tree.specs.Names.{lookup, width_of, port_declarations, item_declarations, declarations};
+ghost use Rattle.verilog_tree.specs.Plain.{plain_item, plain_module};
+ghost use Rattle.verilog_tree.specs.Names.{lookup, width_of, declarations};
 ghost use Rattle.verilog_tree.specs.Seen.{declaration};
 ghost use Rattle.verilog_tree.specs.inner.Tables.{same_name, with_all, declared_behind};
 ghost use Rattle.verilog_tree.specs.Tables.{with_declared, with_name};
@@ -10,8 +10,8 @@ ghost use Rattle.indexmap.specs.IndexMap.{insert_entry};
 ghost use Rattle.indexmap.specs.IndexSet.{insert_key};
 ghost use Rattle.bist_text.specs.ReservedWords.{is_among};
 
-use crate::names::{Declared, Kind, declared_item, declared_port};
-use crate::tree::{Item, Module, Name, Port};
+use crate::names::{Declared, Kind, all_declared, declared_item};
+use crate::tree::{Item, Module, Name};
 use bist_bits::NoMemory;
 use indexmap::{IndexMap, IndexSet};
 use std::alloc::Global;
@@ -109,29 +109,20 @@ pub(crate) fn add_item(all: &mut Declarations, item: &Item) -> Result<(), NoMemo
     }
 }
 
-fn add_items(all: &mut Declarations, items: &[Item]) -> Result<(), NoMemory>
-    ensures { OnOk result (all.new ≡ with_all all.old (item_declarations (map plain_item items.now))) }
+fn add_all(all: &mut Declarations, more: &[Declared]) -> Result<(), NoMemory>
+    ensures { OnOk result (all.new ≡ with_all all.old (map declaration more.now)) }
 {
-    for item in items {
-        add_item(all, item)?;
+    for declared in more {
+        all.add(*declared)?;
     }
     Ok(())
 }
 
-fn add_ports(all: &mut Declarations, ports: &[Port]) -> Result<(), NoMemory>
-    ensures { OnOk result (all.new ≡ with_all all.old (port_declarations (map plain_port ports.now))) }
+fn declare_all(alloc: Global, all: &mut Declarations, module: &Module) -> Result<(), NoMemory>
+    ensures { OnOk result (all.new ≡ with_all all.old (declarations (plain_module «module».now).ports (plain_module «module».now).items)) }
 {
-    for port in ports {
-        all.add(declared_port(port))?;
-    }
-    Ok(())
-}
-
-fn declare_all(all: &mut Declarations, module: &Module) -> Result<(), NoMemory>
-    ensures { OnOk result (all.new ≡ with_all (with_all all.old (port_declarations (plain_module «module».now).ports)) (item_declarations (plain_module «module».now).items)) }
-{
-    add_ports(all, &module.ports)?;
-    add_items(all, &module.items)
+    let declared = all_declared(alloc, module)?;
+    add_all(all, &declared)
 }
 
 /// What a module declares, by name.
@@ -139,7 +130,7 @@ pub fn all_declarations(alloc: Global, module: &Module) -> Result<Declarations, 
     ensures { IfOk result (λ all. (n : List ℕ) → lookup all n ≡ lookup (declarations (plain_module «module».now).ports (plain_module «module».now).items) n) }
 {
     let mut all = Declarations::new(alloc);
-    declare_all(&mut all, module)?;
+    declare_all(alloc, &mut all, module)?;
     Ok(all)
 }
 

@@ -73,7 +73,3 @@ PoppedNest b old (Some n) new = old ≡ nest n new
 abbrev pub is_expected : Mark → Token → Bool
 is_expected m (Sign n) = is_sign m n
 is_expected m _ = false
-
-abbrev pub IsList : Nest → Type 0
-IsList (N.List r xs n ls u) = ⊤
-IsList _ = ⊥

@@ -1,12 +1,11 @@
 -- Inner. For proofs and private contracts alone, beside Tables: tables of names, and what they keep.
-use Rattle.std.specs.Prelude.{◌≡◌, ℕ, Bool, false, cond, not, ◌&&◌, List, [], ◌∷◌, Option, Some, None, is_some, Result, Ok, Err}
+use Rattle.std.specs.Prelude.{◌≡◌, ℕ, Bool, false, cond, not, ◌&&◌, List, [], ◌∷◌, Option, Some, None, is_some}
 use Rattle.std.specs.Str.{bytes_eq}
 use Rattle.arrayvec.specs.ArrayString.{ArrayString}
 use Rattle.bist_text.specs.ReservedWords.{is_among}
-use Rattle.verilog_tree.specs.declared.fault.TreeFault.{TreeFault}
 use Rattle.verilog_tree.specs.Plain.{ModuleItem, WireItem, RegItem, AssignItem, AlwaysItem}
 use Rattle.verilog_tree.specs.Names.{Declaration, declared_by, lookup, is_wire}
-use Rattle.verilog_tree.specs.Rules.{Break, Unknown, Twice, SelectRange, NotAssignable, TwoBlocks, Undriven, Clock, Mention, AsClock, AsTarget, Whole, Selected, mentions, statements_mentions, first_of, first_bad, has_kind, is_unknown, is_out_of_range, item_widths, is_wrong_target, assignable, declares_clk, is_wrong_clock, is_assigned, Tells}
+use Rattle.verilog_tree.specs.Rules.{Break, Unknown, Twice, SelectRange, NotAssignable, TwoBlocks, Undriven, Clock, Mention, AsClock, AsTarget, Whole, Selected, mentions, statements_mentions, first_of, first_bad, has_kind, is_unknown, is_out_of_range, item_widths, is_wrong_target, assignable, declares_clk, is_wrong_clock, is_assigned}
 use Rattle.verilog_tree.specs.Tables.{with_declared, with_name}
 
 -- keys are equal where their bytes are
@@ -89,11 +88,6 @@ all_assigned ns (i ∷ is) = all_assigned (assigned_behind ns i) is
 abbrev pub unassigned : (List ℕ → Bool) → List Declaration → Option Break
 unassigned assigned [] = None
 unassigned assigned (d ∷ ds) = cond (is_wire d.kind && not (assigned d.name)) (Some (Undriven d.name)) (unassigned assigned ds)
-
--- What has this first break is refused for it, and else the answer is x.
-abbrev pub RefusesElse : {A : Type 0} → Option Break → A → Result A TreeFault → Type 0
-RefusesElse o x (Ok y) = (o ≡ None) × (y ≡ x)
-RefusesElse o x (Err f) = Tells f o
 
 -- these names are what items assign
 abbrev pub Assigned : List (List ℕ) → List ModuleItem → Type 0

@@ -11,5 +11,5 @@ returns c =
     let mo = plain_module c.args.module.now in
     let ds = port_declarations mo.ports in
     behind_one (port_twice [] ds) (port_clock ds ∷ items_break (names_widths mo) mo.ports [] mo.items ∷ undriven mo.items ds ∷ undriven mo.items (item_declarations mo.items) ∷ []) c.check_behind_ports.result
-    (ap (λ l. port_twice [] (port_declarations (map plain_port l))) (sym c.deref.ensures.value) ∙ c.in_ok-ports.ensures.0)
+    (ap (λ l. port_twice [] (port_declarations (map plain_port l))) (sym c.deref.ensures.value) ∙ c.in_ok-before.ensures.refuses)
     c.check_behind_ports.ensures
