@@ -32,11 +32,20 @@ pub(crate) fn written(alloc: Global, module: &Module) -> Option<Vec<u8>> {
     }
 }
 
+/// What is written of the module of a text in full parentheses.
+fn whole_form(alloc: Global, text: &[u8]) -> Option<Vec<u8>> {
+    written(alloc, &read_module(alloc, text).ok()?)
+}
+
+/// Whether this is written of the module of a text whose operators bind by precedence.
+fn is_free_form(alloc: Global, text: &[u8], form: &[u8]) -> Option<bool> {
+    Some(written(alloc, &read_free(alloc, text).ok()?)?.as_slice() == form)
+}
+
 /// What is written of a module, where that is read as it is written.
 fn form(alloc: Global, module: &Module) -> Option<Vec<u8>> {
     let form = written(alloc, module)?;
-    let again = written(alloc, &read_module(alloc, &form).ok()?)?;
-    (again.as_slice() == form.as_slice()).then_some(form)
+    (whole_form(alloc, &form)?.as_slice() == form.as_slice()).then_some(form)
 }
 
 /// The printed form of a module.
@@ -109,8 +118,7 @@ fn is_read_back(alloc: Global, march: &[u8]) -> Option<bool> {
     let march = read_march(march).ok()?;
     let memory = read_memory(MEMORY).ok()?;
     let form = written(alloc, &generate(alloc, &march, &memory).ok()?)?;
-    let again = written(alloc, &read_free(alloc, &form).ok()?)?;
-    Some(again.as_slice() == form.as_slice())
+    is_free_form(alloc, &form, &form)
 }
 
 static PARTS: [&[u8]; 5] = [
@@ -136,10 +144,8 @@ fn around(alloc: Global, x: &[u8]) -> Result<Vec<u8>, NoMemory> {
 fn are_alike(alloc: Global, free: &[u8], whole: &[u8]) -> Option<bool> {
     let text = around(alloc, free).ok()?;
     let same = around(alloc, whole).ok()?;
-    let expected = written(alloc, &read_module(alloc, &same).ok()?)?;
-    let first = written(alloc, &read_free(alloc, &text).ok()?)?;
-    let second = written(alloc, &read_free(alloc, &same).ok()?)?;
-    Some(first.as_slice() == expected.as_slice() && second.as_slice() == expected.as_slice())
+    let form = whole_form(alloc, &same)?;
+    Some(is_free_form(alloc, &text, &form)? && is_free_form(alloc, &same, &form)?)
 }
 
 /// Hexadecimal numbers with blanks between them.
@@ -168,23 +174,33 @@ fn shows(alloc: Global, design: &mut Design, cycle: &str) -> Option<bool> {
     Some(design.clock(&inputs) == outputs.as_slice())
 }
 
-/// Whether a module runs so: the values of its registers, and in each cycle the inputs, in port order without the
-/// clock, and then the values of the output ports.
-fn runs_so(alloc: Global, text: &[u8], run: &[u8]) -> Option<bool> {
-    let mut design = designed(alloc, text)?;
-    let parts: Vec<&str> = str::from_utf8(run).ok()?.split(';').collect(alloc).ok()?;
-    let (registers, cycles) = parts.split_first()?;
+/// Gives the registers these values.
+fn set_registers(alloc: Global, design: &mut Design, registers: &str) -> Option<()> {
     let registers = numbers(alloc, registers)?;
     if !design.registers_fit(&registers) {
         return None;
     }
     design.set_registers(&registers);
-    for cycle in cycles {
-        if !shows(alloc, &mut design, cycle)? {
+    Some(())
+}
+
+/// Whether a design shows these cycles, with `;` between them.
+fn shows_all(alloc: Global, design: &mut Design, cycles: &str) -> Option<bool> {
+    for cycle in cycles.split(';') {
+        if !shows(alloc, design, cycle)? {
             return Some(false);
         }
     }
     Some(true)
+}
+
+/// Whether a module runs so: the values of its registers, and in each cycle the inputs, in port order without the
+/// clock, and then the values of the output ports.
+fn runs_so(alloc: Global, text: &[u8], run: &[u8]) -> Option<bool> {
+    let (registers, cycles) = str::from_utf8(run).ok()?.split_once(';')?;
+    let mut design = designed(alloc, text)?;
+    set_registers(alloc, &mut design, registers)?;
+    shows_all(alloc, &mut design, cycles)
 }
 
 /// The answer to the question of a row.

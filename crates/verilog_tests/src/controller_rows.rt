@@ -81,7 +81,7 @@ fn steps_of_a_march(rt: HostRuntime) -> Result<(), Fail> {
 }
 
 /// A march, a memory, the cycles of its commands, and the first cycle in which it is done.
-const RUNS: [(&[u8], &[u8], &[u64], u64); 3] = [
+const RUNS: [(&[u8], &[u8], &[u64], u8); 3] = [
     (
         b"{any(w0)}",
         b"memory 1\nname two\nwords 2\nbits 1\n",
@@ -103,10 +103,10 @@ const RUNS: [(&[u8], &[u8], &[u64], u64); 3] = [
 ];
 
 /// Whether the ports show the commands in these cycles, and that the march is done from this one on.
-fn shows_its_cycles(march: &March, memory: &Memory, commands: &[u64], done: u64) -> bool
-    requires march { IsMarch march.now }
-    requires soon { done < 16 }
+fn shows_its_cycles(march: &March, memory: &Memory, commands: &[u64], done: u8) -> bool
+    requires { IsMarch march.now }
 {
+    let done = u64::from(done);
     let code = assemble(march);
     let mut control = Control::reset(&code, memory);
     for cycle in 1..done + 2 {

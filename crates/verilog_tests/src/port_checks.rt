@@ -99,14 +99,13 @@ fn put_name(text: &mut Vec<u8>, name: &Name) -> Option<()> {
     put(text, name.as_str().as_bytes()).ok()
 }
 
-/// What the check answers: `differs 3 en 0 1` where the port is wanted to be 0 in cycle 3, and is 1.
-fn answer_text(alloc: Global, answer: &Result<PortAnswer, CheckFault>) -> Option<Vec<u8>> {
-    let mut text = Vec::new(alloc);
+/// Puts what the check answers: `differs 3 en 0 1` where the port is wanted to be 0 in cycle 3, and is 1.
+fn put_answer(text: &mut Vec<u8>, answer: &Result<PortAnswer, CheckFault>) -> Option<()> {
     match answer {
-        Ok(PortAnswer::Conforms { cycles }) => put_number(&mut text, b"conforms ", *cycles)?,
+        Ok(PortAnswer::Conforms { cycles }) => put_number(text, b"conforms ", *cycles),
         Ok(PortAnswer::Unknown { cycle, port }) => {
-            put_number(&mut text, b"unknown ", *cycle)?;
-            put_name(&mut text, port)?;
+            put_number(text, b"unknown ", *cycle)?;
+            put_name(text, port)
         }
         Ok(
             PortAnswer::Differs {
@@ -116,19 +115,18 @@ fn answer_text(alloc: Global, answer: &Result<PortAnswer, CheckFault>) -> Option
                 got,
             },
         ) => {
-            put_number(&mut text, b"differs ", *cycle)?;
-            put_name(&mut text, port)?;
-            put_number(&mut text, b" ", *expected)?;
-            put_number(&mut text, b" ", *got)?;
+            put_number(text, b"differs ", *cycle)?;
+            put_name(text, port)?;
+            put_number(text, b" ", *expected)?;
+            put_number(text, b" ", *got)
         }
         Err(CheckFault::WrongPorts { name }) => {
-            put(&mut text, b"wrong").ok()?;
-            put_name(&mut text, name)?;
+            put(text, b"wrong").ok()?;
+            put_name(text, name)
         }
-        Err(CheckFault::TooLong { cycles }) => put_number(&mut text, b"too long ", *cycles)?,
-        Err(CheckFault::NoMemory) => return None,
+        Err(CheckFault::TooLong { cycles }) => put_number(text, b"too long ", *cycles),
+        Err(CheckFault::NoMemory) => None,
     }
-    Some(text)
 }
 
 /// What the check of a module answers.
@@ -139,7 +137,9 @@ fn checked(alloc: Global, module: Module, march: &[u8], memory: &[u8]) -> Option
     let design = elaborate(alloc, module).ok()?;
     let march = read_march(march).ok()?;
     let memory = read_memory(memory).ok()?;
-    answer_text(alloc, &check_run(alloc, &design, &march, &memory))
+    let mut text = Vec::new(alloc);
+    put_answer(&mut text, &check_run(alloc, &design, &march, &memory))?;
+    Some(text)
 }
 
 /// What the check of the controller with these parts answers.
