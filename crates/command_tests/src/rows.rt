@@ -275,10 +275,9 @@ fn swap(alloc: Global, stage: &mut Stage<'_>, name: &[u8], parts: &[u8]) -> Opti
 
 /// Files that describe memories of their names and of this size.
 fn put_memories(alloc: Global, stage: &mut Stage<'_>, line: &[u8]) -> Option<()> {
-    let words = words_of(alloc, line)?;
-    let (count, rest) = words.split_first()?;
-    let (bits, names) = rest.split_first()?;
-    for name in names {
+    let (count, rest) = str::from_utf8(line).ok()?.split_once(' ')?;
+    let (bits, names) = rest.split_once(' ')?;
+    for name in names.split(' ') {
         let parts = [
             "memory 1\nname ",
             name,
@@ -295,12 +294,14 @@ fn put_memories(alloc: Global, stage: &mut Stage<'_>, line: &[u8]) -> Option<()>
 
 /// Whether what stands of a file is so.
 fn stands(held: Option<&[u8]>, verb: &[u8], text: &[u8]) -> bool {
-    match (held, verb) {
-        (None, b"absent") => true,
-        (Some(held), b"==") => held == text,
-        (Some(held), b"begins") => held.starts_with(text),
-        (Some(held), b"ends") => held.ends_with(text),
-        (Some(held), b"half") => held == &text[..text.len() / 2],
+    let Some(held) = held else {
+        return verb == b"absent".as_slice();
+    };
+    match verb {
+        b"==" => held == text,
+        b"begins" => held.starts_with(text),
+        b"ends" => held.ends_with(text),
+        b"half" => held == &text[..text.len() / 2],
         _ => false,
     }
 }
