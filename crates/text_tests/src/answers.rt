@@ -2,6 +2,7 @@
 
 use crate::refusals::refusal_text;
 use crate::rows::{Row, read_rows};
+use bist_bits::NoMemory;
 use bist_endings::{ChipRefusal, Refusal};
 use bist_text::{put, put_decimal, put_hex};
 use chip_desc::{ChipDesc, ChipFault, ChipUnit, read_chip};
@@ -47,15 +48,27 @@ fn is_march_answer(alloc: Global, text: &[u8]) -> Option<Vec<u8>> {
 fn prim_answer(alloc: Global, text: &[u8]) -> Option<Vec<u8>> {
     match read_prim(text) {
         Ok(prim) => print_prim(&prim).as_str().as_bytes().to_vec(alloc).ok(),
-        Err(fault) => refusal_text(alloc, Refusal::Fault(fault)),
+        Err(fault) => fault_refusal(alloc, fault),
     }
 }
 
-/// How many primitives a list has.
-fn count_answer(alloc: Global, count: Result<usize, FaultFault>) -> Option<Vec<u8>> {
-    match count {
-        Ok(count) => number_text(alloc, count),
-        Err(fault) => refusal_text(alloc, Refusal::Fault(fault)),
+fn fault_refusal(alloc: Global, fault: FaultFault) -> Option<Vec<u8>> {
+    refusal_text(alloc, Refusal::Fault(fault))
+}
+
+/// How many primitives a list of static ones has.
+fn list_answer(alloc: Global, text: &[u8]) -> Option<Vec<u8>> {
+    match read_list(alloc, text) {
+        Ok(prims) => number_text(alloc, prims.len()),
+        Err(fault) => fault_refusal(alloc, fault),
+    }
+}
+
+/// How many primitives of both kinds a list has.
+fn items_answer(alloc: Global, text: &[u8]) -> Option<Vec<u8>> {
+    match read_items(alloc, text) {
+        Ok(items) => number_text(alloc, items.len()),
+        Err(fault) => fault_refusal(alloc, fault),
     }
 }
 
@@ -99,16 +112,21 @@ fn memory_answer(alloc: Global, text: &[u8]) -> Option<Vec<u8>> {
     }
 }
 
+/// Appends the latency, the polarity with all its digits, and the pause of a memory, a blank behind each.
+fn put_timing(answer: &mut Vec<u8>, memory: &Memory) -> Result<(), NoMemory> {
+    put_decimal(answer, u64::from(memory.latency()))?;
+    put(answer, b" ")?;
+    put_hex(answer, memory.polarity(), 16)?;
+    put(answer, b" ")?;
+    put_decimal(answer, u64::from(memory.pause()))?;
+    put(answer, b" ")
+}
+
 /// The latency, the polarity with all its digits, the pause, and the printed form of a memory.
 fn timed_answer(alloc: Global, text: &[u8]) -> Option<Vec<u8>> {
     let memory = read_memory(text).ok()?;
     let mut answer = Vec::new(alloc);
-    put_decimal(&mut answer, u64::from(memory.latency())).ok()?;
-    put(&mut answer, b" ").ok()?;
-    put_hex(&mut answer, memory.polarity(), 16).ok()?;
-    put(&mut answer, b" ").ok()?;
-    put_decimal(&mut answer, u64::from(memory.pause())).ok()?;
-    put(&mut answer, b" ").ok()?;
+    put_timing(&mut answer, &memory).ok()?;
     put(&mut answer, &memory_form(alloc, &memory)?).ok()?;
     Some(answer)
 }
@@ -168,8 +186,8 @@ fn answer_of(alloc: Global, row: &Row<'_>) -> Option<Vec<u8>> {
         b"march" => march_answer(alloc, text),
         b"is_march" => is_march_answer(alloc, text),
         b"prim" => prim_answer(alloc, text),
-        b"list" => count_answer(alloc, read_list(alloc, text).map(|list| list.len())),
-        b"items" => count_answer(alloc, read_items(alloc, text).map(|list| list.len())),
+        b"list" => list_answer(alloc, text),
+        b"items" => items_answer(alloc, text),
         b"item" => item_answer(alloc, text),
         b"memory" => memory_answer(alloc, text),
         b"timed" => timed_answer(alloc, text),

@@ -66,31 +66,39 @@ fn repeat(alloc: Global, bytes: &mut Vec<u8>, (begin, times): (usize, u32)) -> O
     Some(())
 }
 
+/// Appends what is meant by the text behind a backslash; the piece that is to be repeated begins somewhere.
+fn put_escape(
+    alloc: Global,
+    bytes: &mut Vec<u8>,
+    piece: &mut (usize, u32),
+    escape: &[u8],
+) -> Option<()> {
+    let rest = match escape.split_first()? {
+        (b'}', rest) => {
+            repeat(alloc, bytes, *piece)?;
+            rest
+        }
+        (b'0'..=b'9', _) => {
+            let (times, rest) = cut(escape, b'{');
+            *piece = (bytes.len(), decimal(times)?);
+            rest
+        }
+        _ => {
+            let (byte, rest) = meant(escape)?;
+            bytes.push(byte).ok()?;
+            rest
+        }
+    };
+    bytes.extend_from_slice(rest).ok()
+}
+
 /// Appends what is meant by a text.
 pub fn put_meant(alloc: Global, bytes: &mut Vec<u8>, text: &[u8]) -> Option<()> {
-    let parts: Vec<&str> = str::from_utf8(text).ok()?.split('\\').collect(alloc).ok()?;
-    let (plain, escapes) = parts.split_first()?;
-    bytes.extend_from_slice(plain.as_bytes()).ok()?;
+    let mut parts = str::from_utf8(text).ok()?.split('\\');
+    bytes.extend_from_slice(parts.next()?.as_bytes()).ok()?;
     let mut piece = (0, 0);
-    for escape in escapes {
-        let escape = escape.as_bytes();
-        let rest = match escape.split_first()? {
-            (b'}', rest) => {
-                repeat(alloc, bytes, piece)?;
-                rest
-            }
-            (b'0'..=b'9', _) => {
-                let (times, rest) = cut(escape, b'{');
-                piece = (bytes.len(), decimal(times)?);
-                rest
-            }
-            _ => {
-                let (byte, rest) = meant(escape)?;
-                bytes.push(byte).ok()?;
-                rest
-            }
-        };
-        bytes.extend_from_slice(rest).ok()?;
+    for escape in parts {
+        put_escape(alloc, bytes, &mut piece, escape.as_bytes())?;
     }
     Some(())
 }
@@ -145,14 +153,19 @@ fn row_of<'a>(alloc: Global, line: &RowLine<'a>) -> Option<Row<'a>> {
     Some(row)
 }
 
+/// Takes a line that is a row, or goes on with the answer of the last one.
+fn heed_row<'a>(alloc: Global, rows: &mut Vec<Row<'a>>, line: &RowLine<'a>) -> Option<()> {
+    match cut(line.line, b' ') {
+        (b"=", rest) => put_meant(alloc, &mut rows.last_mut()?.answer, rest),
+        _ => rows.push(row_of(alloc, line)?).ok(),
+    }
+}
+
 /// The rows of a text, or nothing where a line can't be read.
 pub fn read_rows<'a>(alloc: Global, text: &'a [u8]) -> Option<Vec<Row<'a>>> {
-    let mut rows: Vec<Row<'a>> = Vec::new(alloc);
+    let mut rows = Vec::new(alloc);
     for line in &read_lines(alloc, text)? {
-        match cut(line.line, b' ') {
-            (b"=", rest) => put_meant(alloc, &mut rows.last_mut()?.answer, rest)?,
-            _ => rows.push(row_of(alloc, line)?).ok()?,
-        }
+        heed_row(alloc, &mut rows, line)?;
     }
     Some(rows)
 }
