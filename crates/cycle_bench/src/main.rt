@@ -7,13 +7,13 @@
 //! precedence.
 #![tactic(auto)]
 
-use bist_host::{Host, HostFault, RealHost};
+use bist_host::{Host, RealHost};
 use std::alloc::{AllocError, Global};
 use std::process::ExitCode;
 use std::{env, io};
 use verilog_cycle::{Design, elaborate};
 use verilog_read::{read_free, read_module};
-use verilog_tree::{Module, ReadFault, TreeFault, formed};
+use verilog_tree::{Module, ReadFault, formed};
 
 /// The most bytes of a module's text.
 const LIMIT: usize = 1 << 20;
@@ -21,24 +21,24 @@ const LIMIT: usize = 1 << 20;
 const WORDS: usize = 1 << 16;
 
 /// Why nothing was run.
-#[derive(Drop)]
+#[derive(Clone, Copy)]
 enum Refusal {
     Usage,
-    File(HostFault),
-    Text(ReadFault),
-    Rules(TreeFault),
+    File,
+    Text,
+    Rules,
     /// The ports aren't those of a self-test.
     Ports,
     NoMemory,
 }
 
 impl Refusal {
-    fn status(&self) -> u8 {
+    fn status(self) -> u8 {
         match self {
             Refusal::Usage => 2,
-            Refusal::File(_) => 3,
-            Refusal::Text(_) => 4,
-            Refusal::Rules(_) => 5,
+            Refusal::File => 3,
+            Refusal::Text => 4,
+            Refusal::Rules => 5,
             Refusal::Ports => 6,
             Refusal::NoMemory => 9,
         }
@@ -136,6 +136,14 @@ fn read(alloc: Global, text: &[u8], free: bool) -> Result<Module, ReadFault> {
     }
 }
 
+fn design_of(alloc: Global, text: &[u8], free: bool) -> Result<Design, Refusal> {
+    let module = read(alloc, text, free).map_err(|_| Refusal::Text)?;
+    if !formed(&module) {
+        return Err(Refusal::Usage);
+    }
+    elaborate(alloc, module).map_err(|_| Refusal::Rules)
+}
+
 fn timed<H: Host>(alloc: Global, words: &[&str], host: &mut H) -> Result<(u64, Shown), Refusal> {
     let (file, cycles, latency, free) = match *words {
         [file, cycles, latency] => (file, cycles, latency, false),
@@ -145,22 +153,9 @@ fn timed<H: Host>(alloc: Global, words: &[&str], host: &mut H) -> Result<(u64, S
     let (Ok(cycles), Ok(latency)) = (cycles.parse::<u64>(), latency.parse::<usize>()) else {
         return Err(Refusal::Usage);
     };
-    let text = match host.read_file(file, LIMIT) {
-        Ok(text) => text,
-        Err(fault) => return Err(Refusal::File(fault)),
-    };
-    let module = match read(alloc, &text, free) {
-        Ok(module) => module,
-        Err(fault) => return Err(Refusal::Text(fault)),
-    };
-    if !formed(&module) {
-        return Err(Refusal::Usage);
-    }
-    let mut design = match elaborate(alloc, module) {
-        Ok(design) => design,
-        Err(fault) => return Err(Refusal::Rules(fault)),
-    };
+    let text = host.read_file(file, LIMIT).map_err(|_| Refusal::File)?;
     let mut memory = Memory::new(alloc, latency)?;
+    let mut design = design_of(alloc, &text, free)?;
     let shown = run(&mut design, &mut memory, cycles)?;
     Ok((cycles, shown))
 }
