@@ -84,10 +84,10 @@ def gate(folder: pathlib.Path) -> list[Figure]:
     if call.status or "whole" not in costs:
         raise SystemExit(f"bench/gate ends with {call.status}: {call.said[-2000:]}")
     whole = costs.pop("whole")
-    parts = [Figure("the whole gate", whole[4], "minutes")]
-    parts += [Figure(f"its {kind}", cost, "minutes") for kind, cost in zip(("proofs", "tests", "wrong bodies"), whole)]
+    kinds = ("of proofs", "of tests", "of wrong bodies")
+    parts = [Figure("the whole gate", cost, unit) for cost, unit in zip((whole[4], *whole), ("minutes", *kinds))]
     dearest = sorted(costs, key=lambda name: -costs[name][4])[:3]
-    return [*parts, *(Figure(f"`{name}`", costs[name][4], "minutes") for name in dearest)]
+    return [*parts, *(Figure("its dearest crates", costs[name][4], f"`{name}`") for name in dearest)]
 
 
 def first(folder: pathlib.Path) -> list[Figure]:

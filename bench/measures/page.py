@@ -2,7 +2,6 @@
 from __future__ import annotations
 
 import os
-import platform
 import re
 
 from measures.parts import ROOT, Figure, short
@@ -12,8 +11,8 @@ PAGE = ROOT / "docs" / "MEASURED.md"
 HEAD = """# What was measured
 
 Nothing on this page is proved. `bench/run --all --markdown` makes it, and `bench/run NAME --markdown` one section anew; the
-last line of a section tells when, at which commit and where. Times are the best of several calls. A ratio is what stands
-beside ours, by ours: above 1 the other takes so many times as much; of megahertz it is so many times as fast.
+last line of a section tells when, at which commit and where. Times are the best of several calls, on x86-64. A ratio is
+what stands beside ours, by ours: above 1 the other takes so many times as much; of megahertz it is so many times as fast.
 """
 
 
@@ -54,7 +53,7 @@ def table(figures: list[Figure]) -> list[str]:
 def measured() -> str:
     """When and where figures were measured."""
     _, date, commit = version()
-    return f"{date}, {commit}, {os.cpu_count()} processors of {platform.machine()}, load {os.getloadavg()[0]:.1f}."
+    return f"{date}, {commit}, {os.cpu_count()} processors, load {os.getloadavg()[0]:.1f}."
 
 
 def section(name: str, line: str, figures: list[Figure], ending: str) -> str:
