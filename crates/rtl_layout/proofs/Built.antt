@@ -1,8 +1,11 @@
 -- Expressions whose parts are told otherwise.
-use Rattle.std.proofs.Common.{◌≡◌, Result, IfOk, ap, ◌∙◌, subst}
+use Rattle.std.proofs.Common.{◌≡◌, ◌≢◌, ℕ, ◌<◌, Bool, cond, nat_eq, List, [], ◌∷◌, length, get_or, Result, IfOk, ap, ◌∙◌, subst, arith}
+use Rattle.std.specs.Prelude.{slice_index_or}
+use Rattle.std.proofs.lemmas.Bool.Decides.{nat_tests}
 use Rattle.verilog_tree.specs.declared.tree.Expr.{Expr}
 use Rattle.verilog_tree.specs.declared.tree.BinOp.{BinOp}
 use Rattle.verilog_tree.specs.Plain.{Expression, Infixed, Conditional, plain}
+use Rattle.rtl_layout.specs.Layout.{turning}
 
 pub told : {E : Type 0} (r : Result Expr E) (x y : Expression) → x ≡ y → IfOk r (λ t. plain t ≡ x) → IfOk r (λ t. plain t ≡ y)
 told r x y same h = subst (λ e. IfOk r (λ t. plain t ≡ e)) same h
@@ -12,3 +15,16 @@ chosen c c' a a' b b' p q r = ap (λ x. Conditional x a b) p ∙ ap (λ x. Condi
 
 pub joined : (op : BinOp) (a a' b b' : Expression) → a ≡ a' → b ≡ b' → Infixed op a b ≡ Infixed op a' b'
 joined op a a' b b' p q = ap (λ x. Infixed op x b) p ∙ ap (λ x. Infixed op a' x) q
+
+pub turned : (r r' : List ℕ) (b b' : Bool) (n n' a a' m m' : Expression) → r ≡ r' → b ≡ b' → n ≡ n' → a ≡ a' → m ≡ m' → turning r b n a m ≡ turning r' b' n' a' m'
+turned r r' b b' n n' a a' m m' same first next again more =
+    ap (λ x. turning x b n a m) same ∙ ap (λ x. turning r' x n a m) first ∙ ap (λ x. turning r' b' x a m) next ∙ ap (λ x. turning r' b' n' x m) again ∙ ap (turning r' b' n' a') more
+
+-- where a number is not 0, the second of two
+pub unless_none : {A : Type 0} (n : ℕ) (x y : A) → n ≢ 0 → y ≡ cond (nat_eq n 0) x y
+unless_none n x y h = grind (arith, nat_tests)
+
+-- what stands first in a list that has something
+pub first_of : {A : Type 0} (xs ys : List A) (x d : A) → xs ≡ ys → 0 < length ys → x ≡ get_or xs 0 x → x ≡ slice_index_or ys 0 d
+first_of xs [] x d e some same = absurd (omega arith)
+first_of xs (y ∷ ys) x d e some same = same ∙ ap (λ l. get_or l 0 x) e
