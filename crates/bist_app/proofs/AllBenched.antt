@@ -55,13 +55,6 @@ pub few_more : (failing : ℕ) (failed : Bool) → more_failing failing failed �
 few_more failing false = omega arith
 few_more failing true = omega arith
 
-pub all_left : (left count : ℕ) → count ≡ left → 0 + left ≤ count
-all_left left count is = omega arith
-
--- before the first box
-pub nothing_yet : (march : List MarchElement) (d : Description) (boxes : Boxes) → GoesOn march d boxes boxes 0
-nothing_yet march d boxes later h = (later, h, omega arith)
-
 all_counted : (march : List MarchElement) (d : Description) (boxes : Boxes) (failing : ℕ) → GoesOn march d boxes [] failing → CountsFailing march d boxes failing
 all_counted march d boxes failing on =
     let all = on [] tt in
@@ -111,14 +104,6 @@ map_drop f (x ∷ xs) = refl
 
 pub one_gone : {B : Type 0} (f : B → Told) (boxes : Boxes) (now next : List B) → AreGone boxes (map f now) → next ≡ drop 1 now → AreGone boxes (map f next)
 one_gone f boxes now next (k, is) gone = (suc k, ap (map f) gone ∙ map_drop f now ∙ ap (drop 1) is ∙ drop_more k boxes)
-
-pub still_gone : (boxes now next : Boxes) → next ≡ now → AreGone boxes now → AreGone boxes next
-still_gone boxes now next same (k, is) = (k, same ∙ is)
-
-pub still_some : {B : Type 0} (f : B → Told) (now next : List B) → 0 < length now → map f next ≡ map f now → 0 < length next
-still_some f now next some same =
-    let count : length next ≡ length now = sym (length-map next f) ∙ ap length same ∙ length-map now f in
-    omega (arith, some, count)
 
 pub one_less : {A : Type 0} (now next : List A) → 0 < length now → next ≡ drop 1 now → length next + 1 ≡ length now
 one_less [] next some gone = absurd (omega (arith, some))

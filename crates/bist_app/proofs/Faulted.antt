@@ -1,5 +1,5 @@
 -- What a run against the first box leaves, where an instance is planted.
-use Rattle.bist_app.proofs.Common.{◌≡◌, ◌<◌, ◌∙◌, ℕ, true, List, [], ◌∷◌, length, map, Option, Some, None, is_some, Result, IfOk, IfErr, refl, subst, arith, MarchElement, Primitive, has_aggressor, Description, Planted, Chip, Tells, TellsChip, Told, SomeWrong, run_word, Seen, IsFirstRead, Plan, Refusal, Done, done_of, plain, IsTrue, IfOk-weaker, FitsAggPlace, Boxes}
+use Rattle.bist_app.proofs.Common.{◌≡◌, ◌<◌, ◌∙◌, ℕ, true, List, [], ◌∷◌, length, map, Option, Some, None, is_some, Result, IfOk, IfErr, refl, subst, arith, MarchElement, Primitive, has_aggressor, Description, Planted, Chip, Tells, TellsChip, Told, SomeWrong, run_word, Seen, IsFirstRead, Plan, Refusal, Done, done_of, plain, IsTrue, IfOk-weaker, FitsAggPlace}
 use Rattle.fault_core.specs.declared.primitive.Sense.{Sense}
 use Rattle.array_sim.specs.Detection.{Detects}
 use Rattle.bist_app.specs.declared.benchfault_command.NamedPlace.{NamedPlace}
@@ -53,8 +53,3 @@ fault_benched f (b ∷ items) march d i r some wrong wants h =
       benched = run;
       caught = λ chip is detects. planted_found march d i (f b).tells (done_of plan) chip (wrong detects) run is;
     }) h)
-
--- what is left where this instance is planted is left where the same is
-pub planted_leaves : (march : List MarchElement) (d : Description) (boxes : Boxes) (same i : Planted) (r : Result Done Refusal) → same ≡ i
-    → LeavesFault march d same boxes r → LeavesFault march d i boxes r
-planted_leaves march d boxes same i r is h = subst (λ (x : Planted). LeavesFault march d x boxes r) is h

@@ -22,7 +22,6 @@ pub mod Making
 pub mod Caught
 pub mod Faulted
 pub mod AllBenched
-pub mod FirstFitted
 pub mod Fitting
 pub mod Facts
 pub mod SharedFacts

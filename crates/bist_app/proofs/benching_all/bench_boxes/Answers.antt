@@ -1,20 +1,10 @@
-use Rattle.bist_app.proofs.Common.{rules, refl, ◌≡◌, ◌∙◌, ◌<◌, length, arith, subst, sym}
+use Rattle.bist_app.proofs.Common.{rules, ◌≡◌, ◌∙◌, ◌<◌, length, arith, subst, sym}
 use Rattle.bist_app.specs.inner.BenchedBoxes.{GoesOn}
-use Rattle.bist_app.proofs.AllBenched.{few_more, all_left, nothing_yet, goes_more, boxes_counted, one_gone, one_less, still_gone, still_some, first_has_room, rest_have_room}
-use Rattle.bist_app.proofs.Refusing.{or_stopped}
+use Rattle.bist_app.proofs.AllBenched.{few_more, goes_more, boxes_counted, one_gone, one_less, first_has_room, rest_have_room}
 use Rattle.bist_app.proofs.benching_all.bench_boxes.Goals as goal
 
 pub take_first-requires-clause-room : goal.take_first-requires-clause-room
 take_first-requires-clause-room g c = first_has_room _ _ c.loop-devices.invariant.rooms
-
-pub loop-devices-init : goal.loop-devices-init
-loop-devices-init g c = record {
-  tree = refl;
-  bound = all_left _ _ c.requires.count;
-  gone = (0, refl);
-  rooms = c.requires.rooms;
-  goes_on = nothing_yet c.args.march.now c.args.memory.now _;
-}
 
 pub loop-devices-preserved : goal.loop-devices-preserved
 loop-devices-preserved g c =
@@ -36,11 +26,3 @@ returns-clause-counts g c =
     let none : length c.loop-devices.devices.items ≡ 0 = search rules in
     boxes_counted _ c.args.march.now c.args.memory.now c.args.devices.now.items c.loop-devices.devices.items c.loop-devices.failing
     c.loop-devices.invariant.goes_on none
-
-pub returns-in_err-device-clause-gone : goal.returns-in_err-device-clause-gone
-returns-in_err-device-clause-gone g c = or_stopped c.from_residual.result (still_gone _ _ _ c.in_err-device.ensures.kept c.loop-devices.invariant.gone)
-
-pub returns-in_err-device-clause-stays : goal.returns-in_err-device-clause-stays
-returns-in_err-device-clause-stays g c =
-    let some : 0 < length c.loop-devices.devices.items = search rules in
-    or_stopped c.from_residual.result (still_some _ c.loop-devices.devices.items c.take_first.new.devices.items some c.in_err-device.ensures.kept)

@@ -1,5 +1,4 @@
 use Rattle.bist_app.proofs.Refusing.{stopped}
-use Rattle.bist_app.proofs.Causes.{wider_cause}
 use Rattle.bist_app.proofs.ReadUnits.{nothing_read, units_stop, units_go_on}
 use Rattle.bist_app.proofs.units.+read_units.Goals as goal
 
@@ -17,7 +16,3 @@ returns-in_ok-read_unit-in-len1-up-clause-answer g t c =
     units_go_on (g.H.Host.state c.args.host.now).files (g.H.Host.state c.read_unit.new.host).files c.args.number c.args.units.now c.first-item.result c.args.table.now c.read_unit.new.table
     c.read_units.new.table c.read_units.result c.in-len1-up.len_at_least c.first-item.is c.in_ok-read_unit-in-len1-up.ensures.kept.files
     c.in_ok-read_unit-in-len1-up.ensures.answer c.read_units.ensures.answer
-
-pub returns-in_ok-read_unit-in-len1-up-clause-cause : goal.returns-in_ok-read_unit-in-len1-up-clause-cause
-returns-in_ok-read_unit-in-len1-up-clause-cause g t c =
-    wider_cause _ _ _ _ _ c.read_units.result c.in_ok-read_unit-in-len1-up.ensures.kept.files c.in_ok-read_unit-in-len1-up.ensures.kept.reads c.read_units.ensures.cause
