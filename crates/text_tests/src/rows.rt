@@ -66,7 +66,8 @@ fn repeat(alloc: Global, bytes: &mut Vec<u8>, (begin, times): (usize, u32)) -> O
     Some(())
 }
 
-/// Appends what is meant by the text behind a backslash; the piece that is to be repeated begins somewhere.
+/// Appends what is meant by the text behind a backslash. A piece that is to be repeated is kept as where it begins and
+/// how often it is to stand.
 fn put_escape(
     alloc: Global,
     bytes: &mut Vec<u8>,
