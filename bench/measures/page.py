@@ -53,7 +53,7 @@ def table(figures: list[Figure]) -> list[str]:
 def measured() -> str:
     """When and where figures were measured."""
     _, date, commit = version()
-    return f"{date}, {commit}, {os.cpu_count()} processors, load {os.getloadavg()[0]:.1f}."
+    return f"{date}, {commit}, {len(os.sched_getaffinity(0))} processors, load {os.getloadavg()[0]:.1f}."
 
 
 def section(name: str, line: str, figures: list[Figure], ending: str) -> str:
