@@ -85,7 +85,7 @@ def vectors(folder: pathlib.Path) -> list[Figure]:
 
 
 def check(folder: pathlib.Path) -> list[Figure]:
-    """`check` beside `bench` on the same module, and controllers written by hand (`bench/peer`), which have to conform."""
+    """`check` beside `bench` on the same module, and controllers that `bench/peer` makes as one would write them by hand."""
     march, memory, none = write(folder, march=C, memory=memory_text("wide", 24000, 64), none="")
     asked("compile", march, memory, none, folder / "wide_bist.v", folder / "report")
     bench = best(3, PROGRAM, "bench", march, memory)
@@ -98,7 +98,7 @@ def check(folder: pathlib.Path) -> list[Figure]:
     wrong = [path.name for count, path in enumerate(paths) if not conforms(path, *SIZES[count % len(SIZES)], folder)]
     if wrong:
         raise SystemExit(f"by hand, and do not conform: {', '.join(wrong)}")
-    return [*made, Figure("`check`, controllers by hand that conform", len(paths), f"of {len(paths)}")]
+    return [*made, Figure("`check`, controllers of `bench/peer` that conform", len(paths), f"of {len(paths)}")]
 
 
 def conforms(march: pathlib.Path, words: int, bits: int, folder: pathlib.Path) -> bool:

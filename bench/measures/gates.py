@@ -74,7 +74,9 @@ def area(folder: pathlib.Path) -> list[Figure]:
 
 
 def cells(folder: pathlib.Path) -> list[Figure]:
-    """The area and the megahertz behind buffers, by vesta and OpenSTA; a minute and more a row."""
+    """Area and megahertz behind buffers, by vesta and OpenSTA: of seven orders of lines, which scatter by a fifth, the middle.
+
+    A row takes a minute and more."""
     if flow.missing():
         raise Skipped(f"{', '.join(flow.missing())} is missing")
     made = []

@@ -11,8 +11,9 @@ PAGE = ROOT / "docs" / "MEASURED.md"
 HEAD = """# What was measured
 
 Nothing on this page is proved. `bench/run --all --markdown` makes it, and `bench/run NAME --markdown` one section anew; the
-last line of a section tells when, at which commit and where. Times are the best of several calls, on x86-64. A ratio is
-what stands beside ours, by ours: above 1 the other takes so many times as much; of megahertz it is so many times as fast.
+last line of a section tells when, at which commit and where. Times are the best of several calls, on x86-64; those of `gate`,
+of `first` and of compilers are of one. A ratio is what stands beside ours, by ours: above 1 the other takes so many times as
+much; of megahertz it is so many times as fast.
 """
 
 
