@@ -1,4 +1,4 @@
-//! Vidlakost: which memory faults a march test detects.
+//! Vidlakost: the program round the top call, which does what its words ask.
 #![tactic(auto)]
 
 ghost use Rattle.std.specs.Prelude.{◌≡◌, IfOk, IfErr, map, drop, string_bytes};

@@ -1,4 +1,4 @@
-//! Runs the self-test module in a file so many cycles on a memory that answers what was written, for `bench/run clock`:
+//! Runs the self-test module in a file so many cycles on a memory that answers what was written, for `bench/run` and `bench/modules`:
 //!
 //!     cycle_bench MODULE CYCLES LATENCY [free]
 //!
