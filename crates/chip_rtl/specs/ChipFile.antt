@@ -2,10 +2,12 @@
 use Rattle.std.specs.Prelude.{◌≡◌, ℕ, true, List, [], ◌∷◌, map}
 use Rattle.verilog_tree.specs.Plain.{ModuleTree}
 use Rattle.verilog_tree.specs.Words.{is_name}
+use Rattle.verilog_tree.specs.Spells.{all_limits}
 use Rattle.memory_desc.specs.Descriptions.{Description}
 use Rattle.self_test.specs.SelfTest.{module_name}
 use Rattle.chip_plan.specs.Groups.{FirstFit}
 use Rattle.chip_rtl.specs.ChipTree.{ChipTree}
+use Rattle.chip_rtl.specs.ChipGrammar.{ChipText}
 use Rattle.chip_rtl.specs.ChipTest.{TestUnit, ChipTest}
 use Rattle.chip_rtl.specs.ChipLaws.{AllTested, IsPlan, memories, weights, chip_of}
 use Rattle.chip_rtl.specs.Together.{Differ, IsChip}
@@ -17,14 +19,16 @@ use Rattle.chip_rtl.specs.TopFits.{TopFits, AllFit}
 abbrev pub IsChipTextOf : List ℕ → ChipTree → Type 0
 IsChipTextOf bytes c = AllFit c.units × TopFits c.top × (bytes ≡ printed_chip c)
 
--- The bytes are the text of one chip and of no other, which keeps its rules. Its modules are self-tests of these units, one for
--- each in their order; it has this name and the ports of their memories, and tests them within the budget, in the groups of the
--- first fit.
+-- The bytes are the text of one chip and of no other, and spell it and no other by the grammar; it keeps its rules. Its modules are
+-- self-tests of these units, one for each in their order; it has this name and the ports of their memories, and tests them within
+-- the budget, in the groups of the first fit.
 pub record ChipFile (b name : List ℕ) (us : List TestUnit) (budget : ℕ) : Type 0 where
   pub chip : ChipTree
   pub groups : List ℕ
   pub text : IsChipTextOf b chip
   pub only : (other : ChipTree) → IsChipTextOf b other → other ≡ chip
+  pub spells : ChipText all_limits b chip
+  pub no_other : (other : ChipTree) → ChipText all_limits b other → other ≡ chip
   pub legal : IsChip chip
   pub modules : AllTested chip.units us
   pub named : chip.top.name ≡ name
