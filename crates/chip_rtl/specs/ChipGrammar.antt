@@ -1,4 +1,4 @@
--- Public. The grammar of a chip's text: modules one behind another, then a top that places them.
+-- Trusted. The grammar of a chip's text: modules one behind another, then a top that places them.
 use Rattle.std.specs.Prelude.{◌≡◌, ℕ, true, List, [], ◌∷◌, ◌++◌, map, codes}
 use Rattle.verilog_tree.specs.declared.tokens.Mark.TheVariants.{Open, Close, Comma, Semicolon, FullStop}
 use Rattle.verilog_tree.specs.Plain.{ModuleTree}
