@@ -10,7 +10,7 @@ use Rattle.std.proofs.lemmas.List.Splits.{slice_split_first}
 use Rattle.bist_text.specs.Lines.{lines_of_parts, lines_from}
 
 -- a text has at least one part
-split_some : (b : List ℕ) → (x : List ℕ) × (more : List (List ℕ)) × (slice_split is_newline b ≡ x ∷ more)
+pub split_some : (b : List ℕ) → (x : List ℕ) × (more : List (List ℕ)) × (slice_split is_newline b ≡ x ∷ more)
 split_some [] = ([], [], refl)
 split_some (c ∷ b) = go (is_newline c) (slice_split is_newline b) (split_some b)
   where

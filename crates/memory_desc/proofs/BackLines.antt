@@ -1,5 +1,6 @@
 -- A text of lines that each end with a line feed, and what its lines say.
 use Rattle.memory_desc.proofs.Common.{Bool, Content, ContentText, Description, List, Say, Some, Statement, TextLine, [], and_parts, ap, cond, false, inr, is_newline, length, line_text, lines_text, lines_from, lines_of_parts, list_all, not, onto_first, refl, slice_split, stands, sym, true, version_in, ℕ, ◌++◌, ◌+◌, ◌∙◌, ◌∷◌, ◌≡◌}
+use Rattle.bist_text.proofs.LineLemmas.{split_some}
 use Rattle.memory_desc.specs.Described.{is_out_of_range, is_too_wide}
 use Rattle.memory_desc.specs.declared.content.Version.{Version}
 
@@ -11,15 +12,6 @@ is_inside c = not (is_newline c)
 abbrev pub numbered : ℕ → List Content → List Statement
 numbered n [] = []
 numbered n (c ∷ cs) = (record { line = n; content = c }) ∷ numbered (n + 1) cs
-
--- a text has at least one part
-some_part : (b : List ℕ) → (x : List ℕ) × (more : List (List ℕ)) × (slice_split is_newline b ≡ x ∷ more)
-some_part [] = ([], [], refl)
-some_part (c ∷ b) = go (is_newline c) (slice_split is_newline b) (some_part b)
-  where
-    go : (t : Bool) (parts : List (List ℕ)) → (x : List ℕ) × (more : List (List ℕ)) × (parts ≡ x ∷ more) → (x : List ℕ) × (more : List (List ℕ)) × (cond t ([] ∷ parts) (onto_first c parts) ≡ x ∷ more)
-    go true parts h = ([], parts, refl)
-    go false parts h = (c ∷ h.0, h.1, ap (onto_first c) h.2)
 
 -- the first part ends at the first line feed
 first_part : (x rest : List ℕ) → list_all is_inside x ≡ true → slice_split is_newline (x ++ (10 ∷ rest)) ≡ x ∷ slice_split is_newline rest
@@ -38,7 +30,7 @@ whole_line number start x = record { number = number; start = start; text = x; e
 pub first_line : (number start : ℕ) (x rest : List ℕ) → list_all is_inside x ≡ true
     → lines_from number start (x ++ (10 ∷ rest)) ≡ whole_line number start x ∷ lines_from (number + 1) (start + length x + 1) rest
 first_line number start x rest h =
-    let some = some_part rest in
+    let some = split_some rest in
     ap (lines_of_parts number start) (first_part x rest h ∙ ap (λ (p : List (List ℕ)). x ∷ p) some.2)
     ∙ ap (λ (p : List (List ℕ)). whole_line number start x ∷ lines_of_parts (number + 1) (start + length x + 1) p) (sym some.2)
 

@@ -42,9 +42,6 @@ use Rattle.verilog_text.proofs.LexingOn.{lexing, lexed_on}
 
 -- ---- words
 
-blank_word : (w : List ℕ) → lexing (32 ∷ []) (InWord w) ≡ Some (Identifier w ∷ [], InGap Between)
-blank_word w = refl
-
 -- letters, and a blank
 word_lexing : (u w : List ℕ) → list_all in_identifier u ≡ true → lexing (u ++ (32 ∷ [])) (InWord w) ≡ Some (Identifier (w ++ u) ∷ [], InGap Between)
 word_lexing [] w h = ap (λ x. Some (Identifier x ∷ [], InGap Between)) (sym (append-nil w))

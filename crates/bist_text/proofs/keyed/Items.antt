@@ -10,10 +10,6 @@ pub made_of : {A B : Type 0} (f : A → B) (o : Read A) (v : B) (x : List ℕ) �
 made_of f (took a y) v x e = (let here : y ≡ x = cc in let there : f a ≡ v = cc in (a, ap (took a) here, sym there))
 made_of f (stuck y) v x e = (let z : ⊥ = cc in absurd z)
 
-pub unmade : {A B : Type 0} (f : A → B) (o : Read A) (x : List ℕ) → onward o (λ a x. took (f a) x) ≡ stuck x → o ≡ stuck x
-unmade f (took a y) x e = (let z : ⊥ = cc in absurd z)
-unmade f (stuck y) x e = (let here : y ≡ x = cc in ap stuck here)
-
 -- no item, and an item, with what is made of them
 pub no_item : {A V : Type 0} (v : V) (k : A → List ℕ → Read V) (b : List ℕ) → onward (remark_of None b) (λ o x. by_item o (took v x) (λ a. k a x)) ≡ remark_of v b
 no_item v k b = onward_on (comment_of b) (λ _ x. took None x) (λ o x. by_item o (took v x) (λ a. k a x))
