@@ -15,7 +15,7 @@ from vidlakost_tools.hold_text import holds_of
 from vidlakost_tools.macro_pins import Macro, Word, not_tested, read_macro
 from vidlakost_tools.march import elements_of
 from vidlakost_tools.memory import Memory
-from vidlakost_tools.tool import ToolError, write_all
+from vidlakost_tools.tool import ToolError, permissions, write_all
 
 PINS = ["macro ram", "clk ck", "en ~ce", "we wen 2", "addr a", "wdata d", "rdata q"]
 PORT = ["port addr b", "port rdata p", "port wdata e", "port we v 4"]
@@ -192,6 +192,17 @@ class Files(unittest.TestCase):
             write_all({self.folder / "a.v": "new\n", self.folder / "b.v": "\ud800"})
         self.assertIn("1\n", (self.folder / "a.v").read_text())
         self.assertEqual(sorted(path.name for path in self.folder.iterdir()), ["a.v", "b.v"])
+
+    def test_a_file_with_two_names_keeps_both(self) -> None:
+        (self.folder / "one").write_text("old\n")
+        os.link(self.folder / "one", self.folder / "other")
+        write_all({self.folder / "one": "new\n"})
+        self.assertEqual((self.folder / "other").read_text(), "new\n")
+
+    def test_another_group_gets_no_more(self) -> None:
+        for mode, wanted in ((0o640, 0o600), (0o664, 0o644), (0o606, 0o600), (0o755, 0o755)):
+            before = os.stat_result((0o100000 | mode, 0, 0, 1, 0, 5, 0, 0, 0, 0))
+            self.assertEqual((permissions(before, 5), permissions(before, 0)), (mode, wanted))
 
 
 if __name__ == "__main__":

@@ -174,11 +174,12 @@ def write_whole(target: Path, text: str) -> None:
 
 
 def write_all(texts: Mapping[pathlib.Path, str]) -> None:
-    """Writes several files: none takes its place before the texts of all are on the disk."""
+    """Writes several files: none takes its place before the texts of all are on the disk. What is no plain file, a link and a
+    file with several names are written as they are."""
     staged: dict[pathlib.Path, str] = {}
     try:
         for path, text in texts.items():
-            if path.exists() and not path.is_file() or path.is_symlink():
+            if path.is_symlink() or path.exists() and (not path.is_file() or path.stat().st_nlink > 1):
                 path.write_text(text, encoding="utf-8")
             else:
                 staged[path] = beside(path, text)
@@ -192,8 +193,8 @@ def write_all(texts: Mapping[pathlib.Path, str]) -> None:
 
 def beside(path: pathlib.Path, text: str) -> str:
     """The name of a new file beside another, which has the text and the other's permissions."""
-    mode = path.stat().st_mode & 0o777 if path.exists() else None
-    if mode is not None and not os.access(path, os.W_OK):
+    before = path.stat() if path.exists() else None
+    if before is not None and not os.access(path, os.W_OK):
         raise ToolError(f"{path}: Permission denied")
     try:
         number, name = tempfile.mkstemp(prefix=".vidlakost-", dir=path.parent)
@@ -204,10 +205,20 @@ def beside(path: pathlib.Path, text: str) -> str:
             file.write(text)
             file.flush()
             os.fsync(number)
-        umask = os.umask(0)
-        os.umask(umask)
-        os.chmod(name, 0o666 & ~umask if mode is None else mode)
+        os.chmod(name, permissions(before, os.stat(name).st_gid))
     except BaseException:
         os.unlink(name)
         raise
     return name
+
+
+def permissions(before: os.stat_result | None, group: int) -> int:
+    """Those of a new file of this group: where it takes the place of another, what that had; but of one of another group the
+    group and others get what both had, since who was kept out by the one could come in by the other."""
+    if before is None:
+        umask = os.umask(0)
+        os.umask(umask)
+        return 0o666 & ~umask
+    mode = before.st_mode & 0o777
+    both = mode >> 3 & mode & 0o7
+    return mode if before.st_gid == group else mode & 0o700 | both << 3 | both
