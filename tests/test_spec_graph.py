@@ -6,6 +6,8 @@ import tempfile
 import unittest
 
 from vidlakost_tools.spec_graph import Graph, Key, imported, split_names
+from vidlakost_tools.tool import ToolError
+from vidlakost_tools.trusted_pages import wrong_claims
 
 
 class Uses(unittest.TestCase):
@@ -185,6 +187,23 @@ class Graphs(unittest.TestCase):
     def test_a_call_that_is_made_public(self) -> None:
         found = [one.call for one in self.graph(source=("fn hidden", "pub fn hidden")).clauses]
         self.assertEqual(found, ["high::shown", "high::hidden"])
+
+    def test_no_part_of_a_definition_is_lost(self) -> None:
+        for line in ("Half n = n ≤ 1", "  many : Nat → Kind", "  Odd n = Even n × Half n"):
+            with self.assertRaises(ToolError, msg=line):
+                self.graph(low=(line, f"-- ---- the rest\n{line}"))
+
+    def test_claims_name_what_there_is(self) -> None:
+        graph = self.graph(source=("fn hidden", "pub fn hidden"))
+        for line, wanted in (
+            ("- `high::shown` (`told`), with `hidden`: they show.", []),
+            ("- `high::shown`, with `seen`: they show.", ["1: there is no public call seen beside high::shown"]),
+            ("- `high::seen` and `high::hidden`: they show.", ["1: there is no public call high::seen"]),
+            ("- `high::shown` (`told`, `heard`): it shows.", ["1: high::shown has no clause heard"]),
+            ("- `shown`: it shows.", ["1: names no call"]),
+            ("Of `seen` nothing is claimed.", []),
+        ):
+            self.assertEqual(wrong_claims(graph, line), wanted, line)
 
 
 if __name__ == "__main__":

@@ -10,6 +10,8 @@ import pathlib
 import re
 from collections.abc import Iterable, Iterator
 
+from vidlakost_tools.tool import ToolError
+
 NAME = re.compile(r"[^\W\d][\w']*(?:\.[^\W\d][\w']*)*")
 USE = re.compile(r"^\s*(?:ghost |unfoldable )?(?:pub )?use ([\w.]+?)(?:\.\{(.*)\})?(?: as (\w+))?;?$")
 HEAD = re.compile(r"^(?:(?:abbrev|unfoldable|opaque) )*(?:pub )?(?:(record|data) )?([^\s(){}:]+)")
@@ -153,6 +155,8 @@ class SpecReader:
         elif line.startswith((" ", "}")):
             if self.current:
                 self.current.lines.append(line)
+            elif line.strip() != "}":
+                raise ToolError(f"{self.spec.path}:{number}: this line belongs to no definition")
         else:
             self.take_code(number, line)
 
@@ -184,7 +188,7 @@ class SpecReader:
             return
         found = HEAD.match(line)
         if found is None:
-            raise ValueError(f"{self.spec.path}:{number}: this line begins no definition")
+            raise ToolError(f"{self.spec.path}:{number}: this line begins no definition")
         kind = "block" if is_block(line) else found[1] or "definition"
         name = found[2]
         self.current = Definition(
@@ -363,6 +367,8 @@ class Graph:
                 self.add(definition)
 
     def add(self, definition: Definition) -> None:
+        if definition.key in self.by_key:
+            raise ToolError(f"{definition.path}:{definition.line}: {definition.key.name} is defined twice")
         self.by_key[definition.key] = definition
         for name in definition.names:
             self.by_name[(definition.key.crate, definition.key.file, name)] = definition

@@ -150,3 +150,32 @@ def index_page(graph: Graph) -> str:
     made += ["## The headline", ""] + table(graph, headline) + [""] + index_lines(graph, headline)
     made += ["## The other clauses of the top call", ""] + table(graph, others) + [""] + index_lines(graph, others)
     return "\n".join(made).rstrip() + "\n"
+
+
+# ---- the claims
+
+CLAIM = re.compile(r"`(\w+(?:::\w+)+)`(?: \((`\w+`(?:, `\w+`)*)\))?")
+
+
+def wrong_claims(graph: Graph, page: str) -> list[str]:
+    """The lines of a page of claims that name a call or a clause that does not exist, and what of it. A name alone is that of
+    a call of a crate that its line names."""
+    calls: dict[str, set[str]] = {}
+    for clause in graph.clauses:
+        calls.setdefault(clause.call, set()).add(clause.name)
+    wrong = []
+    for number, line in enumerate(page.splitlines(), 1):
+        begun = line.split(": ", 1)[0] if line.startswith("- ") else ""
+        found = list(CLAIM.finditer(begun))
+        if begun and not found:
+            wrong.append(f"{number}: names no call")
+        for call, clauses in (one.groups() for one in found):
+            names = re.findall(r"\w+", clauses or "")
+            if call not in calls:
+                wrong.append(f"{number}: there is no public call {call}")
+            wrong += [f"{number}: {call} has no clause {name}" for name in names if name not in calls.get(call, names)]
+        crates = {one[1].split("::")[0] for one in found}
+        beside = {call.rsplit("::", 1)[-1] for call in calls if call.split("::")[0] in crates}
+        alone = re.findall(r"`(\w+)`", CLAIM.sub("", begun)) if found else []
+        wrong += [f"{number}: there is no public call {name} beside {found[0][1]}" for name in alone if name not in beside]
+    return wrong
