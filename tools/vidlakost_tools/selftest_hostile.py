@@ -120,6 +120,7 @@ def controllers(bench: Bench) -> None:
             done = bench.run(words)
             refused = "two drivers" in done.stderr or "multiple conflicting drivers" in done.stderr
             bench.is_so(done.returncode == 1 and refused, f"{what}: {words[0]} says {done.stdout!r} {done.stderr!r}")
+        bench.look(["tools/foreign", "edited.v", *judged], 14, "", "foreign: verilog N")
 
 
 # ---- the launcher
