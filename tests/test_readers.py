@@ -131,6 +131,10 @@ class Reports(unittest.TestCase):
             ("victim 1", "victim 2"),
             ("aggressor 0", "aggressor none"),
             ("class SF 1 covered 1", "class SF one covered 1"),
+            ("class SF 1 covered 1", "class SF 2 covered 1"),
+            ("class CFds 1 covered 0", "class CFds 1 covered 1"),
+            ("class CFds 1 covered 0\n", ""),
+            ("class SF 1", "class TF 1 covered 1\nclass SF 1"),
             ("<0/1/->", "<0/1>"),
         ):
             with self.assertRaises(ToolError, msg=new):

@@ -1,6 +1,7 @@
 """Reports of `judge` and `compile`: their reader, line by line, and their escapes as arrays."""
 from __future__ import annotations
 
+import collections
 import dataclasses
 import pathlib
 import re
@@ -129,6 +130,13 @@ def check_escape(verdict: Verdict, elements: list[Element]) -> str | None:
     return None
 
 
+def classes_of(verdicts: list[Verdict]) -> dict[str, tuple[int, int]]:
+    """Of each class how many primitives there are, and how many of them are covered."""
+    count = collections.Counter(verdict.kind for verdict in verdicts)
+    covered = collections.Counter(verdict.kind for verdict in verdicts if verdict.covered)
+    return {kind: (of, covered[kind]) for kind, of in count.items()}
+
+
 def read_report(path: Path) -> Report:
     """The report of a file, line by line; what is none is refused with the line that shows it."""
     lines = lines_of(read_text(path))
@@ -157,6 +165,8 @@ def read_report(path: Path) -> Report:
             f"the total says {report.total[0]} primitives, {report.total[1]} covered and {report.total[2]} "
             f"escapes, and the lines are {counts[0]}, {counts[1]} and {counts[2]}",
         )
+    if report.classes != classes_of(report.verdicts):
+        refuse(len(lines), "the lines of the classes above are not those of the primitives")
     return report
 
 

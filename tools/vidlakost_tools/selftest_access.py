@@ -15,6 +15,10 @@ LATE = (
     "memory 2\nname late\nwords 8\nbits 5\nlatency 4\npolarity 15\npause 7\nscramble a0 = p0 ^ p1\nscramble a1 = p1\n"
     "scramble a2 = p2 ^ 1\nbackgrounds 0 0a\n"
 )
+SIZED = (
+    "march {any(w0);up(r0)}\nmemory s words 4 bits 1 backgrounds 1 commands 8\ncovered <0/1/-> SF\nclass SF 1 covered 1\n"
+    "total 1 covered 1 escapes 0\n"
+)
 FILES.update(
     {
         "access.m": MARCH + "\n",
@@ -28,6 +32,8 @@ FILES.update(
         "none.log": "fail 1\n",
         "right.log": "cycle 13 returned 15\n",
         "two.log": "module a(input clk);\nendmodule\nmodule b(input clk);\nendmodule\n",
+        "sized.report": SIZED,
+        "again.report": SIZED.replace("backgrounds 1 commands 8", "backgrounds 4 commands 32"),
         "judged.report": "march {any(w0);up(r0)}\ncovered <0/1/-> SF\nclass SF 1 covered 1\ntotal 1 covered 1 escapes 0\n",
     }
 )
@@ -72,6 +78,14 @@ CALLS = [
     ("", ["tools/vhdl", "two.log", "acc"], 2, "", "vhdl: two.log:3: this is no module of the subset: more stands behind"),
     ("", ["tools/vhdl", "access.m", "acc"], 2, "", "vhdl: access.m:1: this is no module of the subset"),
     ("", ["tools/vhdl", "two.log", "acc", "access.m"], 2, "", "vhdl: a march and a memory stand together"),
+    ("", ["tools/report", "--all", "sized.report", "--csv", "--memory", "s.mem"], 0, "s,4,1,1,", ""),
+    (
+        "",
+        ["tools/report", "--all", "again.report", "--csv", "--memory", "s.mem"],
+        2,
+        "",
+        "report: again.report: s has another size or another test in its description",
+    ),
     ("", ["tools/report", "--all", "judged.report", "--csv"], 2, "", "report: judged.report: this report is of `judge`"),
     ("", ["tools/report", "--all", "judged.report"], 2, "", "report: --all is with --csv or with --html FILE"),
     ("", ["tools/report", "--tester", "pair.chip", "--html", "pair.html"], 0, "", ""),

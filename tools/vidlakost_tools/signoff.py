@@ -14,6 +14,7 @@ from vidlakost_tools.march import Element, length_of, march_of
 from vidlakost_tools.memory import Memory, read_memory
 from vidlakost_tools.reads import spans
 from vidlakost_tools.report import Report, read_report
+from vidlakost_tools.stream import number_of_commands
 from vidlakost_tools.tool import ToolError
 
 FOOT = (
@@ -42,6 +43,11 @@ class Row:
         return self.memory.cycles(self.report.elements) if self.memory else None
 
 
+def told_of(memory: Memory, report: Report) -> tuple[int, int, int, int]:
+    """What the report of a memory tells of it: words, bits, backgrounds and commands."""
+    return memory.words, memory.bits, len(memory.backgrounds), number_of_commands(memory, report.elements)
+
+
 def rows_of(reports: list[str], memories: list[str]) -> list[Row]:
     """A row for each report; a description belongs to the reports of its name."""
     known = {memory.name: memory for memory in map(read_memory, memories)}
@@ -51,8 +57,8 @@ def rows_of(reports: list[str], memories: list[str]) -> list[Row]:
         if report.memory is None:
             raise ToolError(f"{name}: this report is of `judge` and tells no memory; --all wants reports of `compile`")
         memory = known.get(str(report.memory["name"]))
-        if memory and (memory.words, memory.bits) != (report.memory["words"], report.memory["bits"]):
-            raise ToolError(f"{name}: {memory.name} has another size in its description")
+        if memory and told_of(memory, report) != tuple(report.memory[key] for key in ("words", "bits", "backgrounds", "commands")):
+            raise ToolError(f"{name}: {memory.name} has another size or another test in its description")
         rows.append(Row(report, memory))
     unused = set(known) - {str(row.report.memory["name"]) for row in rows if row.report.memory}
     if unused:
