@@ -146,6 +146,9 @@ def in_ghdl(bench: Bench) -> None:
     for more, told in (("", "fail 0 done"), (" -gplant=13", "fail 1 done")):
         done = bench.run(["bash", "-c", call + more])
         bench.is_so(told in done.stdout and not done.returncode, f"vhdl: {done.stdout}{done.stderr}")
+    for spoil in ("sed -i 20q", "truncate -s 0"):
+        done = bench.run(["bash", "-c", f"{spoil} vhdl/late_bist_cycles.txt; {call}"])
+        bench.is_so("could not be read" in done.stdout + done.stderr and done.returncode != 0, f"vhdl, {spoil}: {done.stdout}")
 
 
 def free_port() -> int:

@@ -393,6 +393,7 @@ begin
       if cycle = plant then failed := true; end if;
       cycle := cycle + 1;
     end loop;
+    assert cycle = {cycles} report "the cycles could not be read" severity failure;
     assert wrong = 0 report "the ports are not as the march's commands say" severity failure;
     if fails then
       report "fail 1 done " & integer'image(cycle - 1);
@@ -413,7 +414,7 @@ def vector_compare(name: str, width: int, first: int) -> str:
     return f"      for i in 0 to {width - 1} loop\n{each}      end loop;\n"
 
 
-def bench(module: Module, memory: Memory) -> str:
+def bench(module: Module, elements: list[Element], memory: Memory) -> str:
     """The testbench of a self-test module."""
     wanted = ["clk", "reset", "rdata", "en", "we", "addr", "wdata", "done", "fail"]
     if sorted(port.token.text for port in module.ports) != sorted(wanted):
@@ -452,5 +453,6 @@ def bench(module: Module, memory: Memory) -> str:
         compares=vector_compare("addr", memory.width, 3) + vector_compare("wdata", memory.bits, 3 + memory.width),
         done=done,
         fail=done + 1,
+        cycles=memory.cycles(elements),
     )
     return text.replace(f"        {low} <= not PLANT;\n", flip)
