@@ -145,6 +145,20 @@ def with_text(text: str, use: Callable[[pathlib.Path], Answer]) -> Answer:
         return use(path)
 
 
+def take_module(path: Path, text: str) -> None:
+    """Hands on what the program refuses of the module of a file. One that it takes, with or without full parentheses, it has
+    read when it misses the march behind it."""
+
+    def ask_both(copy: pathlib.Path) -> None:
+        missing = [copy.with_name(name) for name in ("march", "memory")]
+        answers = [run(command, copy, *missing) for command in ("benchfile", "check")]
+        if "absent 2" not in [said for _, said in answers]:
+            status, said = answers[-1]
+            raise Refused(["check", str(path), "MARCH", "MEMORY"], said, status)
+
+    with_text(text, ask_both)
+
+
 def vectors_of(march: Path, memory: Path) -> list[str]:
     """The lines of `vectors`; a march or a memory that is refused is told."""
     with tempfile.TemporaryDirectory() as folder:

@@ -75,8 +75,9 @@ CALLS = [
     ("", ["tools/vhdl", "a.vhd", "."], 2, "", "vhdl: 'a.vhd' is what is read"),
     ("", ["tools/share", "late.mem", "3", "acc"], 0, "acc/late_share.v", ""),
     ("", ["tools/share", "late.mem", "17", "acc"], 2, "", "share: N is 2 to 16, and not 17"),
-    ("", ["tools/vhdl", "two.log", "acc"], 2, "", "vhdl: two.log:3: this is no module of the subset: more stands behind"),
-    ("", ["tools/vhdl", "access.m", "acc"], 2, "", "vhdl: access.m:1: this is no module of the subset"),
+    ("", ["tools/vhdl", "two.log", "acc"], 14, "", "vhdl: verilog L1 byte 31\ntwo.log:3:1: error: "),
+    ("", ["tools/vhdl", "access.m", "acc"], 14, "", "vhdl: verilog L1 byte 0\n"),
+    ("", ["tools/vhdl", "wide.v", "acc"], 14, "", "vhdl: verilog N3 2 3\n"),
     ("", ["tools/vhdl", "two.log", "acc", "access.m"], 2, "", "vhdl: a march and a memory stand together"),
     ("", ["tools/report", "--all", "sized.report", "--csv", "--memory", "s.mem"], 0, "s,4,1,1,", ""),
     (
