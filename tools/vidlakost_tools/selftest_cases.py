@@ -364,6 +364,7 @@ CALLS: List[Tuple[str, List[str], int, str, str]] = [
     ("", ["tools/locate", "c.m", "scrambled.mem", "3"], 2, "", "locate: in cycle 3 no answer comes"),
     ("", ["tools/locate", "c.m", "scrambled.mem", "x"], 2, "", "locate: CYCLE is a number"),
     ("", ["tools/locate", "c.m", "scrambled.mem", "999999"], 2, "", "locate: answers of this test stand"),
+    ("", ["tools/locate", "c.m", "scrambled.mem", "11", "4", "5"], 2, "", "locate: the expected word is 4, and this march"),
     ("", ["tools/locate", "c.m", "scrambled.mem", "11", "zz", "1"], 2, "", "locate: 'zz' is no hexadecimal word"),
     ("", ["tools/locate", "c.m", "rows.mem", "11"], 4, "", "locate: memory D6"),
     ("", ["tools/locate", "c.m", "scrambled.mem"], 2, "", "locate: a cycle, or a cycle and two words"),
