@@ -73,7 +73,7 @@ def check_with_program(path: str | os.PathLike[str]) -> None:
     """Hands on a refusal of the program."""
     with tempfile.TemporaryDirectory() as folder:
         status, said = run("chip", path, pathlib.Path(folder) / "chip.v")
-    if status > 2 or status < 0:
+    if status > 1 or status < 0:
         raise Refused(["chip", str(path), "chip.v"], said, status)
 
 
