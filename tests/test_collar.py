@@ -10,7 +10,7 @@ import unittest
 
 from vidlakost_tools import collar_lanes, macro_pins
 from vidlakost_tools.collar_text import Names, collar
-from vidlakost_tools.files import is_own, write_own
+from vidlakost_tools.files import COMMENTS, is_own, marked, refuse_twins, write_own
 from vidlakost_tools.hold_text import holds_of
 from vidlakost_tools.macro_pins import Macro, Word, not_tested, read_macro
 from vidlakost_tools.march import elements_of
@@ -182,9 +182,28 @@ class Files(unittest.TestCase):
         with self.assertRaises(ToolError):
             self.write(**texts)
 
-    def test_names_that_differ_in_case(self) -> None:
+    def test_each_kind_of_file_has_a_mark(self) -> None:
+        for ending in COMMENTS:
+            texts = marked("access", {f"m{ending}": "text\n"})
+            for _ in range(2):
+                with contextlib.redirect_stdout(io.StringIO()) as said:
+                    write_own(self.folder, texts, [])
+                self.assertEqual(said.getvalue(), f"{self.folder}/m{ending}\n")
+            path = self.folder / f"m{ending}"
+            self.assertRegex(path.read_text(), r"made by vidlakost access \([0-9a-f]{16}\).*\ntext\n$")
+            path.write_text(path.read_text().replace("text", "mine"))
+            with self.assertRaises(ToolError, msg=ending):
+                write_own(self.folder, texts, [])
+
+    def test_an_input_stays(self) -> None:
         with self.assertRaises(ToolError):
-            self.write(a_v="// made by vidlakost top\n", A_v="// made by vidlakost top\n")
+            write_own(self.folder, marked("sdc", {"m.sdc": "text\n"}), [str(self.folder / "m.sdc")])
+        self.assertFalse((self.folder / "m.sdc").exists())
+
+    def test_names_that_differ_in_case(self) -> None:
+        refuse_twins(["a.v", "a.sv"])
+        with self.assertRaises(ToolError):
+            refuse_twins(["a.v", "A.v"])
 
     def test_all_or_none(self) -> None:
         self.write()

@@ -5,6 +5,7 @@ import hashlib
 import os
 import pathlib
 import re
+from typing import Collection, Iterable
 
 from vidlakost_tools.text import lines_of, read_described, shown
 from vidlakost_tools.tool import ToolError, refuse_inputs, write_all
@@ -15,19 +16,20 @@ SUM = re.compile(r"(made by vidlakost [a-z]+) \(([0-9a-f]{16})\)")
 # where a list of files tells the sum of one that has no such line
 LISTED = re.compile(r"// ([A-Za-z0-9_.]+) \(([0-9a-f]{16})\)")
 LIST = "files.f"
+# how a comment stands in a file of each kind
+COMMENTS = {
+    **dict.fromkeys((".v", ".sv", ".hex", ".cpp", ".rdl", ".icl"), "// {}"),
+    **dict.fromkeys((".vhd", ".bsdl", ".txt"), "-- {}"),
+    **dict.fromkeys((".sdc", ".cfg", ".pdl"), "# {}"),
+    ".svf": "! {}",
+    ".md": "<!-- {} -->",
+}
 
 
-def write_files(folder: pathlib.Path, texts: dict[str, str], inputs: list[str]) -> None:
-    """Writes the files, none of them over an input, and only then says their names: who closes the pipe behind the
-    first line has them all."""
-    for name in texts:
-        refuse_inputs(str(folder / name), [("what is read", given) for given in inputs])
-    folder.mkdir(parents=True, exist_ok=True)
-    write_all({folder / name: text for name, text in texts.items()})
-    print("\n".join(str(folder / name) for name in texts), flush=True)
-
-
-# ---- files that may be written anew where nobody changed them
+def marked(tool: str, texts: dict[str, str]) -> dict[str, str]:
+    """The texts, each behind a line that says whose it is."""
+    lines = {name: COMMENTS[pathlib.PurePath(name).suffix].format(f"made by vidlakost {tool}") for name in texts}
+    return {name: f"{lines[name]}\n{text}" for name, text in texts.items()}
 
 
 def sum_of(text: str) -> str:
@@ -57,13 +59,16 @@ def is_own(path: pathlib.Path) -> bool:
     return any(match is not None and (match[1], match[2]) == (path.name, sum_of(text)) for match in matches)
 
 
-def refuse_strangers(folder: pathlib.Path, names: list[str]) -> None:
-    """Refuses to write over a file that no tool wrote or somebody changed, over a link, and over two names that differ in
-    case alone."""
+def refuse_twins(names: Collection[str]) -> None:
+    """Refuses two names that differ in case alone, of which a file system may keep one."""
     lower = [name.lower() for name in names]
     twice = next((name for name in names if lower.count(name.lower()) > 1), None)
     if twice:
         raise ToolError(f"two files would have the name {shown(twice)}, but for small and great letters")
+
+
+def refuse_strangers(folder: pathlib.Path, names: Iterable[str]) -> None:
+    """Refuses to write over a file that no tool wrote or somebody changed, and over a link."""
     for name in names:
         path = folder / name
         if os.path.lexists(path) and (path.is_symlink() or not path.is_file() or not is_own(path)):
@@ -83,14 +88,19 @@ def refuse_another_list(folder: pathlib.Path, text: str) -> None:
         raise ToolError(f"{path} is the list of {shown(first)}, so nothing is written: take a folder for each")
 
 
-def write_own(folder: pathlib.Path, texts: dict[str, str], inputs: list[str]) -> None:
-    """Writes files that may be written anew where nobody changed them, all of them or none. Those without a line that says
-    whose they are are told with their sums in the list beside them."""
-    refuse_strangers(folder, list(texts))
+def write_own(folder: pathlib.Path, texts: dict[str, str], inputs: list[str], told: list[str] | None = None) -> None:
+    """Writes files that may be written anew where nobody changed them, all of them or none, and no one over an input. Those
+    without a line that says whose they are are told with their sums in the list beside them. Only then it says their names,
+    or those in `told`: who closes the pipe behind the first line has them all."""
+    for name in texts:
+        refuse_inputs(str(folder / name), [("what is read", given) for given in inputs])
+    refuse_strangers(folder, texts)
     if LIST in texts:
         refuse_another_list(folder, texts[LIST])
-    told = [f"// {name} ({sum_of(text)})" for name, text in texts.items() if not OWN.search(text.partition("\n")[0])]
-    if told and LIST in texts:
+    listed = [f"// {name} ({sum_of(text)})" for name, text in texts.items() if not OWN.search(text.partition("\n")[0])]
+    if listed and LIST in texts:
         head, line, rest = texts[LIST].partition("\n")
-        texts = {**texts, LIST: "\n".join([head, *told, rest])}
-    write_files(folder, {name: summed(text) for name, text in texts.items()}, inputs)
+        texts = {**texts, LIST: "\n".join([head, *listed, rest])}
+    folder.mkdir(parents=True, exist_ok=True)
+    write_all({folder / name: summed(text) for name, text in texts.items()})
+    print("\n".join(str(folder / name) for name in told or texts), flush=True)

@@ -247,4 +247,31 @@ def in_opensta(bench: Bench) -> None:
     bench.is_so("unconstrained endpoints" in told, f"sta without output delays: {told}")
 
 
-PARTS = (in_icarus, in_ghdl, in_openocd, in_opensta)
+def kept(bench: Bench) -> None:
+    """What somebody changed of the files of a tool stays, and so does what a link leads to."""
+    (bench.folder / "kept").mkdir()
+    for words, name in (
+        (["tools/access", "late.mem", "kept", "--jtag", "--march", "access.m"], "late.cfg"),
+        (["tools/share", "late.mem", "2", "kept"], "late_share.v"),
+        (["tools/sdc", "late.mem", "kept", "--mhz", "100"], "late_test.sdc"),
+        (["tools/vhdl", "a.vhd", "kept"], "a.vhd"),
+        (["tools/testbench", "access.m", "late.mem", "kept"], "late_commands.hex"),
+    ):
+        for _ in range(2):
+            bench.look(words, 0, "kept/", "")
+        path, mine = bench.folder / "kept" / name, bench.folder / "kept" / "mine"
+        path.write_text(path.read_text() + "mine\n")
+        changed = path.read_text()
+        tool = words[0].partition("/")[2]
+        bench.look(words, 2, "", f"{tool}: kept/{name} is there and was not written by vidlakost, or was changed since")
+        bench.is_so(path.read_text() == changed, f"{tool} wrote over what somebody changed")
+        path.replace(mine)
+        path.symlink_to("mine")
+        bench.look(words, 2, "", f"{tool}: kept/{name} is there")
+        bench.is_so(mine.read_text() == changed, f"{tool} wrote through a link")
+        path.unlink()
+    bench.look(["bash", "-c", "cp a.report kept/r && ln -s none kept/r.m && tools/replay kept/r"], 2, "", "replay: kept/r.m: No such file")
+    bench.is_so(not (bench.folder / "kept" / "none").exists(), "replay wrote through a link")
+
+
+PARTS = (kept, in_icarus, in_ghdl, in_openocd, in_opensta)

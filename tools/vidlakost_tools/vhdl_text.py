@@ -326,9 +326,9 @@ def rows(elements: list[Element], memory: Memory, commands: list[str]) -> Iterat
         yield f"{ports}{int(cycle == last)}0{answer}"
 
 
-BENCH = """-- Compares the ports of {name} in each cycle with {file}, a line a cycle: en, we, addr, wdata, done, fail,
--- and the word on rdata, where - is open. With the generic plant the lowest bit of rdata is wrong in that cycle, and
--- fail has to rise behind it.
+BENCH = """-- Compares the ports of {name} in each cycle with {file}, below its head a line a cycle: en, we, addr,
+-- wdata, done, fail, and the word on rdata, where - is open. With the generic plant the lowest bit of rdata is wrong
+-- in that cycle, and fail has to rise behind it.
 library ieee;
 use ieee.std_logic_1164.all;
 use std.textio.all;
@@ -370,6 +370,7 @@ begin
       end if;
     end compare;
   begin
+    if not endfile(table) then readline(table, row); end if;
     while not endfile(table) loop
       readline(table, row);
       read(row, wanted);
