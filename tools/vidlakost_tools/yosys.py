@@ -209,6 +209,29 @@ def written_contents(module: dict[str, Any]) -> str:
 
 # what nothing drives is open: it may have any number in any cycle
 OPEN = "setundef -undriven -anyseq\n"
+# So is a bit beyond the word of which a part is selected: Yosys' own passes take any other bit for it. A part that is always
+# within its word stays as it is.
+BEYOND = """(* techmap_celltype = "$shiftx" *)
+module selected(A, B, Y);
+  parameter A_SIGNED = 0;
+  parameter B_SIGNED = 0;
+  parameter A_WIDTH = 1;
+  parameter B_WIDTH = 1;
+  parameter Y_WIDTH = 1;
+  input [A_WIDTH-1:0] A;
+  input [B_WIDTH-1:0] B;
+  output [Y_WIDTH-1:0] Y;
+  wire _TECHMAP_FAIL_ = !B_SIGNED && B_WIDTH < 16 && (1 << B_WIDTH) - 1 + Y_WIDTH <= A_WIDTH;
+  wire [Y_WIDTH-1:0] word, inside, open;
+  \\$shift #(.A_SIGNED(0), .B_SIGNED(B_SIGNED), .A_WIDTH(A_WIDTH), .B_WIDTH(B_WIDTH), .Y_WIDTH(Y_WIDTH))
+    words(.A(A), .B(B), .Y(word)), insides(.A({A_WIDTH{1'b1}}), .B(B), .Y(inside));
+  \\$anyseq #(.WIDTH(Y_WIDTH)) opens(.Y(open));
+  genvar at;
+  generate
+    for (at = 0; at < Y_WIDTH; at = at + 1) assign Y[at] = inside[at] ? word[at] : open[at];
+  endgenerate
+endmodule
+"""
 
 
 @dataclasses.dataclass
@@ -286,7 +309,9 @@ def read(files: list[str], options: Mapping[str, Any], folder: pathlib.Path) -> 
     dropped = written_contents(module)
     if had or dropped:
         warnings.append("initial values are left out")
-    script = f"{begin}{dropped}setattr -unset init w:*\n{OPEN}check -assert\n"
+    beyond = folder / "beyond.v"
+    beyond.write_text(BEYOND)
+    script = f"{begin}{dropped}setattr -unset init w:*\n{OPEN}techmap -map {quoted(beyond)} t:$shiftx\ncheck -assert\n"
     return Sources(script, name, module, warnings)
 
 
