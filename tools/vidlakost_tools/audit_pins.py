@@ -16,6 +16,16 @@ PIN = re.compile("[A-Za-z_][A-Za-z0-9_$]{0,63}")
 BASES = {"b": 2, "o": 8, "d": 10, "h": 16}
 
 
+def ports_of(memory: Memory) -> set[tuple[str, str, int]]:
+    """The ports of a memory's self-test: of each its way, its name and its width."""
+    widths = {"rdata": memory.bits, "wdata": memory.bits, "addr": memory.width}
+    return {("input" if port in INPUTS else "output", port, widths.get(port, 1)) for port in (*INPUTS, *OUTPUTS)}
+
+
+def told_ports(ports: set[tuple[str, str, int]]) -> str:
+    return ", ".join(f"{way} {port} of {width} bit{'s' if width > 1 else ''}" for way, port, width in sorted(ports))
+
+
 @dataclasses.dataclass
 class Pin:
     """A pin, and whether it is active low."""

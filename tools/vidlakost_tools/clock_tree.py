@@ -20,6 +20,8 @@ LATCH = re.compile(r"\$dlatch$|\$_DLATCH_([NP])_$")
 PLAIN = re.compile(r"\$dff$|\$_DFF_([NP])_$")
 WORD = re.compile(r"\$(dff|adff|dffsr|sdff|sdffc)(e?)$")
 FINE = re.compile(r"\$_(DFF|DFFSR|SDFF|DFFE|DFFSRE|SDFFE|SDFFCE)_([NP])([NP01]*)_$")
+# what else has a state, or knows the first cycle, as somebody may write it who names Yosys' own cells
+STATEFUL = re.compile(r"\$[a-z]*dff|\$_[A-Z]*DFF|\$mem(_v2)?$|\$(fsm|anyinit|initstate)$")
 # those that stand behind `proc` or in a library of cells: they take an enable
 BARE = ("$dff", "$adff", "$dffsr")
 BARE_FINE = ("DFF", "DFFSR")
@@ -165,7 +167,7 @@ def edges_of(tree: Tree) -> dict[str, Edge]:
             found[name] = Edge(path, bool(level) ^ path.is_inverted)
             if written and (path.enables or path.is_inverted):
                 tree.refuse(cell, "a memory whose clock is gated or inverted is outside the subset")
-        elif re.match(r"\$[a-z]*dff|\$_[A-Z]*DFF", cell["type"]) and not is_refused(cell["type"]):
+        elif STATEFUL.match(cell["type"]) and not is_refused(cell["type"]):
             tree.refuse(cell, f"a register of the kind {cell['type']} is outside the subset")
     return found
 
@@ -185,7 +187,7 @@ def settled(sources: yosys.Sources, pins: Pins | None, folder: pathlib.Path) -> 
         if edge.rises != wanted:
             falling = "falling" if wanted else "rising"
             is_one = len({other.rises for other in registers.values()}) == 1
-            hint = f"; 'clk ~{port}' in a file of pins says so" if is_one and wanted else ""
+            hint = f"; 'clk ~{port}' in a file of pins tells audit so" if is_one and wanted else ""
             tree.refuse(tree.cells[name], f"it takes at the {falling} edge of {port}{hint}")
     clock = Clock(port, resets_of(tree))
     if all(edge.rises and not edge.path.enables and not edge.path.is_inverted for edge in registers.values()):

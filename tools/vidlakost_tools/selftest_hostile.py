@@ -90,6 +90,16 @@ TWO_DRIVERS = [
     ("a second register", [("reg failed;", "reg failed; always @(posedge clk) second <= 1'b0;")]),
     ("a second assign", [("reg failed;", "reg failed; assign en = reset;")]),
 ]
+# what Yosys' model checker passes over, with the words that refuse it
+GATED = "reg go; always @(posedge clk) go <= 1; wire gated = clk & go;"
+UNSEEN = [
+    ([("@(posedge clk)", "@(negedge clk)")], "it takes at the falling edge of clk"),
+    ([("@(posedge clk)", "@(posedge reset)")], "the registers' clock is reset"),
+    ([("reg failed;", f"reg failed; {GATED}"), ("  always @(posedge clk)", "  always @(posedge gated)")], "its clock is gated"),
+    ([("reg failed;", "reg failed; reg hold; always @* if (state[1]) hold = 0;"), HELD], "a latch is outside the subset"),
+    ([("output we,", "output [3:0] we,")], "a self-test of four has the ports output we of 1 bit"),
+    ([("[1:0] addr", "[2:0] addr"), ("addr = word", "addr = {1'b1, word}")], "a self-test of four has the ports output addr of 2"),
+]
 
 
 def controller(bench: Bench, edits: list[tuple[str, str]]) -> None:
@@ -101,7 +111,8 @@ def controller(bench: Bench, edits: list[tuple[str, str]]) -> None:
 
 
 def controllers(bench: Bench) -> None:
-    """What nothing drives stays open in `tools/plain` and `tools/formal`, and two drivers are refused."""
+    """What nothing drives stays open in `tools/plain` and `tools/formal`, and two drivers are refused, as is in `tools/formal`
+    what its judge would pass over."""
     if not shutil.which("yosys"):
         print("yosys is not installed, so no edited controller is judged")
         return
@@ -124,6 +135,10 @@ def controllers(bench: Bench) -> None:
             refused = "two drivers" in done.stderr or "multiple conflicting drivers" in done.stderr
             bench.is_so(done.returncode == 1 and refused, f"{what}: {words[0]} says {done.stdout!r} {done.stderr!r}")
         bench.look(["tools/foreign", "edited.v", *judged], 14, "", "foreign: verilog N")
+    for edits, said in UNSEEN:
+        controller(bench, edits)
+        done = bench.run(["tools/formal", "edited.v", *judged])
+        bench.is_so(done.returncode == 1 and said in done.stderr, f"tools/formal says {done.stdout!r} {done.stderr!r} of {said!r}")
 
 
 # ---- the launcher
