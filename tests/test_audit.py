@@ -1,10 +1,12 @@
 """Parts of `audit` by themselves, without any program: `PYTHONPATH=tools python3 -m unittest discover tests`."""
 from __future__ import annotations
 
+import pathlib
+import tempfile
 import unittest
 from typing import Any
 
-from vidlakost_tools import audit_pins, clock_tree, lanes
+from vidlakost_tools import audit_pins, clock_tree, lanes, yosys
 from vidlakost_tools.audit_pins import Pin, Pins
 from vidlakost_tools.audit_wave import code_of, shown
 from vidlakost_tools.tool import ToolError
@@ -188,8 +190,25 @@ class Texts(unittest.TestCase):
         self.assertNotIn("no name", text)
 
     def test_what_is_in_comments_asks_nothing(self) -> None:
-        self.assertEqual(blanked('a /* YOSYS\n*/ b "YOSYS" c // YOSYS\nd').split(), ["a", "b", "c", "d"])
-        self.assertIn('"x.vh"', blanked('`include "x.vh" // "y.vh"', but_texts=True))
+        for text in blanked('a /* YOSYS\n*/ b "YOSYS" c // YOSYS\nd'):
+            self.assertEqual(text.split(), ["a", "b", "c", "d"])
+        for text in blanked('`include "x.vh" // "y.vh"', but_texts=True):
+            self.assertEqual(text.split(), ["`include", '"x.vh"'])
+
+    def test_escaped_name_hides_nothing(self) -> None:
+        for line in ("wire \\x// ; `ifdef YOSYS", 'wire \\y" ; `ifdef YOSYS wire \\z" ;', "wire \\x/* ; `ifdef YOSYS /* */"):
+            self.assertTrue(any("`ifdef YOSYS" in text for text in blanked(line)), line)
+
+    def test_source_that_yosys_reads_otherwise(self) -> None:
+        with tempfile.TemporaryDirectory() as name:
+            source = pathlib.Path(name) / "a.v"
+            source.write_bytes(b"`ifdef YO\rSYS\n`endif\n")
+            with self.assertRaisesRegex(ToolError, "asks whether Yosys reads it"):
+                yosys.asked([str(source)])
+            for content in (b"\x1f\x8bYOSYS", b"module a; endmodule \0 YOSYS"):
+                source.write_bytes(content)
+                with self.assertRaisesRegex(ToolError, "no source"):
+                    yosys.asked([str(source)])
 
     def test_literals(self) -> None:
         found = [literal_of(text) for text in ('"010"', "'1'", "wrap_a", "n1_o", "a and b")]

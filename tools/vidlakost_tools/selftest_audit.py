@@ -14,6 +14,7 @@ PORTS = (
 NAMES = "other_names.v"
 FILES = {
     "asks.v": "`ifdef YOSYS\nmodule t(input clk);\nendmodule\n`endif\n",
+    "escapes.v": "module t(input clk);\n  wire \\x// ; `ifdef YOSYS\n  wire y;\n`endif\nendmodule\n",
     "includes.v": "`include \"inner.vh\"\n",
     "inner.vh": "`ifdef // of no\n YOSYS\nmodule t(input clk);\nendmodule\n`endif\n",
     "no_clear.v": f"module no_clear({PORTS}  assign en = later;\nendmodule\n",
@@ -47,6 +48,7 @@ CALLS: List[Tuple[str, List[str], int, str, str]] = [
     ("yosys", ["tools/audit", "no_clear.v", "c.m", "s.mem"], 1, "en hangs on later", "audit: "),
     ("yosys", ["tools/audit", NAMES, "c.m", "s.mem"], 1, "", "audit: a self-test of s has the ports"),
     ("yosys", ["tools/audit", "simulated.v", "c.m", "s.mem"], 1, "", "audit: simulated.v:3: $time is a call"),
+    ("yosys", ["tools/audit", "escapes.v", "c.m", "s.mem"], 1, "audit: refused", "audit: 'escapes.v':2: it asks whether"),
     ("yosys", ["tools/audit", NAMES, "c.m", "s.mem", "--pins", "twice.pins"], 2, "", "audit: twice.pins: the pin 'ck'"),
     ("yosys", ["tools/audit", NAMES, "c.m", "s.mem", "--pins", "unsaid.pins"], 2, "", "audit: unsaid.pins: the input q"),
     ("", ["tools/audit", NAMES, "c.m", "s.mem", "--pins", "word.pins"], 2, "", "audit: word.pins:1: there is no line"),

@@ -245,19 +245,33 @@ class Sources:
     warnings: list[str]
 
 
-# a text or a comment, in which a word means nothing to the preprocessor
-SAID = re.compile(r'"(?:\\.|[^"\\\n])*"|//[^\n]*|/\*.*?\*/', re.DOTALL)
-ASKED = re.compile(r"\b(YOSYS|SYNTHESIS)\b")
+# a text or a comment, in which a word means nothing to the preprocessor: as it is read without escaped names, and as Yosys
+# reads it, to which neither begins in such a name, and a text may go over several lines
+READINGS = [
+    re.compile(pattern, re.DOTALL)
+    for pattern in (r'"(?:\\.|[^"\\\n])*"|//[^\n]*|/\*.*?\*/', r'\\[!-~]+|"(?:\\.|[^"\\])*"|//[^\n]*|/\*.*?\*/')
+]
+ASKED = re.compile(r"\b(YOSYS|SYNTHESIS)\b", re.ASCII)
 INCLUDED = re.compile(r"`include\s*(\S*)")
 
 
-def blanked(text: str, but_texts: bool = False) -> str:
-    """A source with blanks for its comments, and for what stands in quotes unless that is kept."""
+def blanked(text: str, but_texts: bool = False) -> list[str]:
+    """A source in each reading, with blanks for its comments, and for what stands in quotes unless that is kept."""
 
     def blank(match: re.Match[str]) -> str:
-        return match[0] if but_texts and match[0].startswith('"') else re.sub(r"[^\n]", " ", match[0])
+        is_kept = match[0].startswith("\\") or but_texts and match[0].startswith('"')
+        return match[0] if is_kept else re.sub(r"[^\n]", " ", match[0])
 
-    return SAID.sub(blank, text)
+    return [reading.sub(blank, text) for reading in READINGS]
+
+
+def plain_text(file: str) -> str:
+    """A source as Yosys' preprocessor sees it, which passes over carriage returns. It unpacks what is packed, and takes a byte
+    0 for the end: such a file is refused."""
+    content = pathlib.Path(file).read_bytes()
+    if content.startswith(b"\x1f\x8b") or b"\0" in content:
+        raise ToolError(f"{shown(file)} is packed, or has a byte 0, and is no source", 1)
+    return content.decode("utf-8", "replace").replace("\r", "")
 
 
 def with_included(files: list[str]) -> list[tuple[str, str]]:
@@ -268,8 +282,8 @@ def with_included(files: list[str]) -> list[tuple[str, str]]:
         file = waiting.pop(0)
         if file in found:
             continue
-        found[file] = pathlib.Path(file).read_bytes().decode("utf-8", "replace")
-        for match in INCLUDED.finditer(blanked(found[file], but_texts=True)):
+        found[file] = plain_text(file)
+        for match in (match for text in blanked(found[file], but_texts=True) for match in INCLUDED.finditer(text)):
             name = match[1].strip('"')
             if match[1] != f'"{name}"':
                 raise ToolError(f"{shown(file)}: it includes {shown(match[1])}, which is no name in quotes", 1)
@@ -282,13 +296,13 @@ def asked(files: list[str]) -> list[str]:
     """What there is to warn of in sources that say something else to a simulator; those that ask for Yosys are refused, since
     what is found would hold of no other tool's reading."""
     warnings = []
-    for file, text in with_included(files):
-        for match in ASKED.finditer(blanked(text)):
-            place = f"{shown(file)}:{text.count(chr(10), 0, match.start()) + 1}"
+    for file, source in with_included(files):
+        for match in (match for text in blanked(source) for match in ASKED.finditer(text)):
+            place = f"{shown(file)}:{source.count(chr(10), 0, match.start()) + 1}"
             if match[1] == "YOSYS":
                 raise ToolError(f"{place}: it asks whether Yosys reads it, and any other tool reads something else", 1)
             warnings.append(f"{place}: it is read as with SYNTHESIS; a simulator may read something else")
-    return warnings
+    return list(dict.fromkeys(warnings))
 
 
 def read(files: list[str], options: Mapping[str, Any], folder: pathlib.Path) -> Sources:
