@@ -1,6 +1,7 @@
 """Parts of `audit` by themselves, without any program: `PYTHONPATH=tools python3 -m unittest discover tests`."""
 from __future__ import annotations
 
+import json
 import pathlib
 import tempfile
 import unittest
@@ -209,6 +210,13 @@ class Texts(unittest.TestCase):
                 source.write_bytes(content)
                 with self.assertRaisesRegex(ToolError, "no source"):
                     yosys.asked([str(source)])
+
+    def test_note_of_a_part_is_no_cell(self) -> None:
+        cells = {"one": cell("$not", A=[2], Y=[3]), "part": cell("$scopeinfo")}
+        with tempfile.TemporaryDirectory() as name:
+            parts = pathlib.Path(name) / "parts.json"
+            parts.write_text(json.dumps({"modules": {"t": {**module(cells), "attributes": {"top": "1"}}}}))
+            self.assertEqual(list(yosys.top_module(parts)[1]["cells"]), ["one"])
 
     def test_literals(self) -> None:
         found = [literal_of(text) for text in ('"010"', "'1'", "wrap_a", "n1_o", "a and b")]

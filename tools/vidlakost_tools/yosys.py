@@ -330,6 +330,8 @@ def read(files: list[str], options: Mapping[str, Any], folder: pathlib.Path) -> 
 
 
 def top_module(path: pathlib.Path) -> tuple[str, dict[str, Any]]:
-    """The name of the top and what it is made of."""
+    """The name of the top and what it is made of, without the cells in which newer versions note where a part began."""
     modules = json.loads(path.read_bytes().decode("utf-8", "replace"))["modules"]
-    return next((name, module) for name, module in modules.items() if "top" in module["attributes"])
+    name, module = next((name, module) for name, module in modules.items() if "top" in module["attributes"])
+    cells = {label: cell for label, cell in module["cells"].items() if cell["type"] != "$scopeinfo"}
+    return name, {**module, "cells": cells}
