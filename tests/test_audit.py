@@ -9,6 +9,7 @@ from typing import Any
 
 from vidlakost_tools import audit_pins, clock_tree, lanes, yosys
 from vidlakost_tools.audit_pins import Pin, Pins
+from vidlakost_tools.audit_random import agree
 from vidlakost_tools.audit_wave import code_of, shown
 from vidlakost_tools.tool import ToolError
 from vidlakost_tools.vhdl import literal_of, placed, with_defaults
@@ -217,6 +218,15 @@ class Texts(unittest.TestCase):
             parts = pathlib.Path(name) / "parts.json"
             parts.write_text(json.dumps({"modules": {"t": {**module(cells), "attributes": {"top": "1"}}}}))
             self.assertEqual(list(yosys.top_module(parts)[1]["cells"]), ["one"])
+
+    def test_judges_agree_where_both_judge(self) -> None:
+        right, differs = (0, "each port is in each cycle as it has to be"), (1, "differs in cycle 3")
+        self.assertTrue(agree((0, "audit: conforms, fail is exact"), right))
+        self.assertTrue(agree((1, "audit: conforms, fail is unknown in cycle 3"), right))
+        self.assertFalse(agree((0, "audit: conforms, fail is exact"), differs))
+        for nothing in ("audit: refused", "KeyError: 'Q'", ""):
+            self.assertFalse(agree((1, nothing), differs))
+        self.assertFalse(agree((1, "audit: differs cycle 1 port en expected 1 got 0"), (1, "formal: yosys refuses it")))
 
     def test_literals(self) -> None:
         found = [literal_of(text) for text in ('"010"', "'1'", "wrap_a", "n1_o", "a and b")]

@@ -38,6 +38,15 @@ def told(tool: str, files: list[pathlib.Path]) -> tuple[int, str]:
     return done.returncode, (done.stdout.strip().splitlines() or [""])[-1]
 
 
+def agree(audited: tuple[int, str], judged: tuple[int, str]) -> bool:
+    """Whether `audit` and `formal` both judged a module, and say the same of it where `audit` knows. Either may also have
+    refused it, or have come to nothing, with the status of a module that is wrong."""
+    (status, line), (other_status, other) = audited, judged
+    is_told = line.startswith("audit: ") and line != "audit: refused"
+    is_judged = other_status == 0 or other.startswith("differs in cycle ")
+    return is_told and is_judged and ((status == 0) == (other_status == 0) or "unknown" in line)
+
+
 def compare(number: int, chance: random.Random) -> int:
     """Both say the same of each module, and the first cycle that differs is the same where `audit` knows it."""
     wrong = 0
@@ -51,12 +60,13 @@ def compare(number: int, chance: random.Random) -> int:
             (folder / "list").write_text("")
             ask("compile", *files[1:], folder / "list", files[0], folder / "report")
             text = damaged(files, chance) if chance.random() < 0.9 else files[0].read_text()
-            (status, line), (judged, other) = told("audit", files), told("formal", files)
+            audited, judged = told("audit", files), told("formal", files)
+            (status, line), (other_status, other) = audited, judged
             kind = "right" if status == 0 else "unknown" if "unknown" in line else "wrong"
             said_of[kind] += 1
             # what is unknown may be right: then it is said, and counted
-            said_of["unknown and right"] += kind == "unknown" and judged == 0
-            if (status == 0) != (judged == 0) and kind != "unknown" or judged not in (0, 1):
+            said_of["unknown and right"] += kind == "unknown" and other_status == 0
+            if not agree(audited, judged):
                 wrong += 1
                 print(f"audit says '{line}', and formal '{other}'\n{files[1].read_text()}\n{files[2].read_text()}{text}")
     print(f"{number} modules, {wrong} differences; " + ", ".join(f"{count} {kind}" for kind, count in sorted(said_of.items())))
