@@ -130,8 +130,13 @@ class PinsFile(unittest.TestCase):
         self.assertEqual((pins.pins, pins.ties, pins.opens), ([("reset", Pin("rst_n", True))], {"mode": 2}, ["busy"]))
 
     def test_wrong_lines(self) -> None:
-        for line in ("tie a", "tie a x", "clok c", "en ~~c", "open ~c", "en a b", "tie a 1'b2"):
+        for line in ("tie a", "tie a x", "clok c", "en ~~c", "open ~c", "en a b", "tie a 1'b2", "tie a 4'h1f"):
             self.assertIsNotNone(audit_pins.take_line(Pins("p"), line.split()), line)
+
+    def test_pin_is_tied_once(self) -> None:
+        pins = self.told("tie start 4'hf")
+        self.assertEqual(audit_pins.take_line(pins, ["tie", "start", "0"]), "the pin is tied twice")
+        self.assertEqual(pins.ties, {"start": 15})
 
     def test_each_pin_is_told(self) -> None:
         ports = {name: port("input", 2) for name in ("clk", "reset", "rdata")}

@@ -107,14 +107,15 @@ class Pins:
 
 
 def number_in(text: str) -> int | None:
-    """The number of a literal or of decimal digits; None where it is none."""
-    match = re.fullmatch(r"(?:\d+'([bodhBODH]))?([0-9a-fA-F_]+)", text)
+    """The number of a literal, which has to fit its size, or of decimal digits; None where it is none."""
+    match = re.fullmatch(r"(?:(\d+)'([bodhBODH]))?([0-9a-fA-F_]+)", text, re.ASCII)
     if match is None:
         return None
     try:
-        return int(match[2].replace("_", ""), BASES[match[1].lower()] if match[1] else 10)
+        value = int(match[3].replace("_", ""), BASES[match[2].lower()] if match[2] else 10)
     except ValueError:
         return None
+    return None if match[1] and value.bit_length() > int(match[1]) else value
 
 
 def take_line(pins: Pins, words: list[str]) -> str | None:
@@ -124,8 +125,10 @@ def take_line(pins: Pins, words: list[str]) -> str | None:
         value = number_in(rest[1]) if len(rest) == 2 else None
         if value is None or not PIN.fullmatch(rest[0]):
             return "a tied input is told by its name and a number, as 'tie scan_en 0'"
+        if rest[0] in pins.ties:
+            return "the pin is tied twice"
         pins.ties[rest[0]] = value
-        return "the pin is tied twice" if sum(name == rest[0] for name in pins.ties) > 1 else None
+        return None
     if kind not in ("open", *INPUTS, *OUTPUTS):
         return f"there is no line '{kind}': they begin with {', '.join((*INPUTS, *OUTPUTS))}, tie or open"
     name = rest[0].lstrip("~") if len(rest) == 1 else ""
