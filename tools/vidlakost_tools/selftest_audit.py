@@ -23,6 +23,8 @@ FILES = {
     "  assign {cen, wen, a, d, ready, error} = {7{r}};\nendmodule\n",
     "twice.pins": "clk ck\nreset ~rst_n\nen ck\n",
     "unsaid.pins": "clk ck\nreset ~rst_n\n",
+    "upside.v": f"module upside({PORTS.replace('rdata', '[1:0] rdata').replace('wdata', '[1:0] wdata')}  wire right;\n"
+    "  walk inner(clk, reset, rdata, en, right, done, fail, addr, wdata);\n  assign we = !right;\nendmodule\n",
     "word.pins": "clok ck\n",
     "simulated.v": f"module simulated({PORTS}  assign en = $time;\nendmodule\n",
 }
@@ -41,19 +43,22 @@ def rows() -> list[tuple[str, list[str], int, str, str]]:
     return found
 
 
+WALK = [f"{FOLDER}styles/walk.vhd", "examples/mats_plus.m", f"{FOLDER}four.mem"]
 CALLS: List[Tuple[str, List[str], int, str, str]] = [
     ("yosys", ["tools/audit", "asks.v", "c.m", "s.mem"], 1, "audit: refused", "audit: 'asks.v':1: it asks whether Yosys"),
     ("yosys", ["tools/audit", "includes.v", "c.m", "s.mem"], 1, "audit: refused", "audit: 'inner.vh':2: it asks whether"),
+    ("yosys", ["tools/audit", "escapes.v", "c.m", "s.mem"], 1, "audit: refused", "audit: 'escapes.v':2: it asks whether"),
     ("yosys", ["tools/audit", "latch.v", "c.m", "s.mem"], 1, "audit: refused", "audit: "),
     ("yosys", ["tools/audit", "no_clear.v", "c.m", "s.mem"], 1, "en hangs on later", "audit: "),
     ("yosys", ["tools/audit", NAMES, "c.m", "s.mem"], 1, "", "audit: a self-test of s has the ports"),
     ("yosys", ["tools/audit", "simulated.v", "c.m", "s.mem"], 1, "", "audit: simulated.v:3: $time is a call"),
-    ("yosys", ["tools/audit", "escapes.v", "c.m", "s.mem"], 1, "audit: refused", "audit: 'escapes.v':2: it asks whether"),
     ("yosys", ["tools/audit", NAMES, "c.m", "s.mem", "--pins", "twice.pins"], 2, "", "audit: twice.pins: the pin 'ck'"),
     ("yosys", ["tools/audit", NAMES, "c.m", "s.mem", "--pins", "unsaid.pins"], 2, "", "audit: unsaid.pins: the input q"),
     ("", ["tools/audit", NAMES, "c.m", "s.mem", "--pins", "word.pins"], 2, "", "audit: word.pins:1: there is no line"),
     ("", ["tools/audit", NAMES, "c.m"], 2, "", "audit: too few words"),
     ("", ["tools/audit", NAMES, "wrong.m", "s.mem"], 3, "", "audit: march M8"),
     ("", ["tools/audit", NAMES, "c.m", "s.mem", "--vcd", "c.m"], 2, "", "audit: 'c.m' is the march"),
+    ("ghdl", ["tools/audit", "upside.v", *WALK], 2, "", "audit: some of the sources are Verilog and some VHDL"),
+    ("ghdl", ["tools/audit", "upside.v", *WALK, "--top", "upside"], 1, "audit: differs cycle 1 port we", ""),
     *rows(),
 ]

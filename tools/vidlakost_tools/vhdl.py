@@ -26,9 +26,14 @@ def verilog_of(files: list[str], options: dict[str, Any], folder: pathlib.Path) 
     entities = [name for text in texts for name in re.findall(r"^\s*entity\s+(\w+)\s+is", text, re.MULTILINE | re.IGNORECASE)]
     if not entities:
         raise ToolError(f"{vhdl[-1]} has no entity")
+    is_mixed = len(vhdl) < len(files)
+    if is_mixed and "--top" not in options:
+        raise ToolError("some of the sources are Verilog and some VHDL, so --top has to name the top")
     top = identifier(options.get("--top", entities[-1]), "the top")
+    # a top in Verilog has the last entity as a part
+    entity = entities[-1] if is_mixed and top.lower() not in map(str.lower, entities) else top
     names = [str(pathlib.Path(file).resolve()) for file in vhdl]
-    text = with_defaults(synthesized("verilog", names, top, folder), synthesized("vhdl", names, top, folder))
+    text = with_defaults(synthesized("verilog", names, entity, folder), synthesized("vhdl", names, entity, folder))
     text = placed(text, dict(zip(vhdl, texts)))
     modules = [name for name in re.findall(r"^module (\w+)", text, re.MULTILINE) if name.lower() == top.lower()]
     made = folder / "vhdl.v"
