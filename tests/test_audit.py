@@ -10,7 +10,7 @@ from typing import Any
 from vidlakost_tools import audit_pins, clock_tree, lanes, yosys
 from vidlakost_tools.audit_pins import Pin, Pins
 from vidlakost_tools.audit_random import agree
-from vidlakost_tools.audit_wave import code_of, shown
+from vidlakost_tools.audit_wave import code_of, shown, write_save
 from vidlakost_tools.tool import ToolError
 from vidlakost_tools.vhdl import literal_of, placed, with_defaults
 from vidlakost_tools.words import NotWords, Writer
@@ -236,6 +236,15 @@ class Texts(unittest.TestCase):
     def test_literals(self) -> None:
         found = [literal_of(text) for text in ('"010"', "'1'", "wrap_a", "n1_o", "a and b")]
         self.assertEqual(found, ["3'b010", "1'b1", "a", "n1_o", None])
+
+    def test_save_file_of_somebody_stays(self) -> None:
+        with tempfile.TemporaryDirectory() as name:
+            save = pathlib.Path(name) / "run.gtkw"
+            for cycle in (1, 2):
+                self.assertTrue(write_save(save, f"[*] made by vidlakost audit\n*4.0 {cycle}\n"))
+            save.write_text(save.read_text() + "ports.en\n")
+            self.assertFalse(write_save(save, "[*] made by vidlakost audit\n*4.0 3\n"))
+            self.assertIn("*4.0 2\nports.en\n", save.read_text())
 
     def test_waveform(self) -> None:
         self.assertEqual(shown([(1, 0), (0, 1), (0, 0)]), "x01")

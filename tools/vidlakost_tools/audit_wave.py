@@ -1,9 +1,11 @@
 """A run with open registers and words as a waveform, x being open, beside the ports that are due; and GTKWave's save file."""
 from __future__ import annotations
 
+import os
 import pathlib
 from typing import Any, Iterator
 
+from vidlakost_tools.files import is_own, summed
 from vidlakost_tools.front_end import Plain
 from vidlakost_tools.gates import Machine, gates_of
 from vidlakost_tools.memory import Memory
@@ -67,8 +69,21 @@ def runs_of(plain: Plain, commands: list[Any], memory: Memory, last: int) -> Ite
         yield cycle, {"clk": "", "reset": str(int(cycle == 0)), **words, **{f"due.{port}": word for port, word in due.items()}}
 
 
-def write_wave(file: str, plain: Plain, commands: list[Any], memory: Memory, cycle: int) -> None:
-    """Writes the cycles round the one that was found, and a save file at it."""
+def save_of(file: str) -> pathlib.Path:
+    """The save file beside a waveform."""
+    return pathlib.Path(file).with_suffix(".gtkw")
+
+
+def write_save(path: pathlib.Path, text: str) -> bool:
+    """Writes a save file, unless another stands there: GTKWave saves the signals that somebody chose under that name."""
+    is_free = not os.path.lexists(path) or not path.is_symlink() and is_own(path)
+    if is_free:
+        write_whole(path, summed(text))
+    return is_free
+
+
+def write_wave(file: str, plain: Plain, commands: list[Any], memory: Memory, cycle: int) -> bool:
+    """Writes the cycles round the one that was found, and a save file at it; whether that is new."""
     lines: list[str] = []
     codes: dict[str, str] = {}
     last: dict[str, str] = {}
@@ -85,7 +100,7 @@ def write_wave(file: str, plain: Plain, commands: list[Any], memory: Memory, cyc
         lines += [f"1{codes['clk']}", f"#{here * CYCLE + CYCLE // 2}", f"0{codes['clk']}"]
         last = words
     write_whole(file, "\n".join(lines) + "\n")
-    write_whole(pathlib.Path(file).with_suffix(".gtkw"), save_file(file, codes, last, cycle))
+    return write_save(save_of(file), save_file(file, codes, last, cycle))
 
 
 def header(words: dict[str, str], codes: dict[str, str]) -> list[str]:
@@ -101,7 +116,7 @@ def header(words: dict[str, str], codes: dict[str, str]) -> list[str]:
 
 
 def save_file(file: str, codes: dict[str, str], words: dict[str, str], cycle: int) -> str:
-    lines = [f'[dumpfile] "{pathlib.Path(file).resolve()}"', f"*4.0 {cycle * CYCLE}", "@28"]
+    lines = ["[*] made by vidlakost audit", f'[dumpfile] "{pathlib.Path(file).resolve()}"', f"*4.0 {cycle * CYCLE}", "@28"]
     pairs = [name for port in PORTS for name in (f"ports.{port}", f"due.{port}") if name in codes]
     for name in ["clk", "reset", *pairs, *(name for name in codes if name.startswith("registers."))]:
         width = len(words[name])

@@ -44,6 +44,7 @@ def rows() -> list[tuple[str, list[str], int, str, str]]:
 
 
 WALK = [f"{FOLDER}styles/walk.vhd", "examples/mats_plus.m", f"{FOLDER}four.mem"]
+PINNED = ["tools/audit", NAMES, "c.m", "s.mem", "--pins", "unsaid.pins"]
 CALLS: List[Tuple[str, List[str], int, str, str]] = [
     ("yosys", ["tools/audit", "asks.v", "c.m", "s.mem"], 1, "audit: refused", "audit: 'asks.v':1: it asks whether Yosys"),
     ("yosys", ["tools/audit", "includes.v", "c.m", "s.mem"], 1, "audit: refused", "audit: 'inner.vh':2: it asks whether"),
@@ -58,6 +59,9 @@ CALLS: List[Tuple[str, List[str], int, str, str]] = [
     ("", ["tools/audit", NAMES, "c.m"], 2, "", "audit: too few words"),
     ("", ["tools/audit", NAMES, "wrong.m", "s.mem"], 3, "", "audit: march M8"),
     ("", ["tools/audit", NAMES, "c.m", "s.mem", "--vcd", "c.m"], 2, "", "audit: 'c.m' is the march"),
+    ("", [*PINNED, "--vcd", "unsaid.pins"], 2, "", "audit: 'unsaid.pins' is what is read"),
+    ("", [*PINNED, "--liberty", "cells.lib", "--vcd", "./cells.lib"], 2, "", "audit: './cells.lib' is what is read"),
+    ("", [*PINNED, "--vcd", "run.gtkw"], 2, "", "audit: 'run.gtkw' is the name of the save file"),
     ("ghdl", ["tools/audit", "upside.v", *WALK], 2, "", "audit: some of the sources are Verilog and some VHDL"),
     ("ghdl", ["tools/audit", "upside.v", *WALK, "--top", "upside"], 1, "audit: differs cycle 1 port we", ""),
     *rows(),
