@@ -195,6 +195,18 @@ class Files(unittest.TestCase):
             with self.assertRaises(ToolError, msg=ending):
                 write_own(self.folder, texts, [])
 
+    def test_an_older_file_without_a_mark_is_replaced(self) -> None:
+        texts = marked("sdc", {"m.sdc": "text\n"})
+        (self.folder / "m.sdc").write_text("text\n")
+        os.link(self.folder / "m.sdc", self.folder / "copy")
+        with contextlib.redirect_stdout(io.StringIO()):
+            write_own(self.folder, texts, [])
+        self.assertTrue(is_own(self.folder / "m.sdc"))
+        self.assertEqual((self.folder / "copy").read_text(), "text\n")
+        (self.folder / "m.sdc").write_text("mine\n")
+        with self.assertRaises(ToolError):
+            write_own(self.folder, texts, [])
+
     def test_an_input_stays(self) -> None:
         with self.assertRaises(ToolError):
             write_own(self.folder, marked("sdc", {"m.sdc": "text\n"}), [str(self.folder / "m.sdc")])

@@ -88,13 +88,19 @@ def refuse_another_list(folder: pathlib.Path, text: str) -> None:
         raise ToolError(f"{path} is the list of {shown(first)}, so nothing is written: take a folder for each")
 
 
+def is_unmarked(path: pathlib.Path, text: str) -> bool:
+    """Whether a file holds what is to be written but for the line that says whose it is, as older versions wrote it."""
+    head, _, rest = text.partition("\n")
+    return OWN.search(head) is not None and path.is_file() and not path.is_symlink() and read_described(path) == rest
+
+
 def write_own(folder: pathlib.Path, texts: dict[str, str], inputs: list[str], told: list[str] | None = None) -> None:
     """Writes files that may be written anew where nobody changed them, all of them or none, and no one over an input. Those
     without a line that says whose they are are told with their sums in the list beside them. Only then it says their names,
     or those in `told`: who closes the pipe behind the first line has them all."""
     for name in texts:
         refuse_inputs(str(folder / name), [("what is read", given) for given in inputs])
-    refuse_strangers(folder, texts)
+    refuse_strangers(folder, [name for name, text in texts.items() if not is_unmarked(folder / name, text)])
     if LIST in texts:
         refuse_another_list(folder, texts[LIST])
     listed = [f"// {name} ({sum_of(text)})" for name, text in texts.items() if not OWN.search(text.partition("\n")[0])]
@@ -102,5 +108,5 @@ def write_own(folder: pathlib.Path, texts: dict[str, str], inputs: list[str], to
         head, line, rest = texts[LIST].partition("\n")
         texts = {**texts, LIST: "\n".join([head, *listed, rest])}
     folder.mkdir(parents=True, exist_ok=True)
-    write_all({folder / name: summed(text) for name, text in texts.items()})
+    write_all({folder / name: summed(text) for name, text in texts.items()}, keeps_names=False)
     print("\n".join(str(folder / name) for name in told or texts), flush=True)

@@ -173,13 +173,13 @@ def write_whole(target: Path, text: str) -> None:
     write_all({pathlib.Path(target): text})
 
 
-def write_all(texts: Mapping[pathlib.Path, str]) -> None:
-    """Writes several files: none takes its place before the texts of all are on the disk. What is no plain file, a link and a
-    file with several names are written as they are."""
+def write_all(texts: Mapping[pathlib.Path, str], keeps_names: bool = True) -> None:
+    """Writes several files: none takes its place before the texts of all are on the disk. What is no plain file and a link are
+    written as they are, and so is a file with several names, unless the other names are to keep the old text."""
     staged: dict[pathlib.Path, str] = {}
     try:
         for path, text in texts.items():
-            if path.is_symlink() or path.exists() and (not path.is_file() or path.stat().st_nlink > 1):
+            if path.is_symlink() or path.exists() and (not path.is_file() or keeps_names and path.stat().st_nlink > 1):
                 path.write_text(text, encoding="utf-8")
             else:
                 staged[path] = beside(path, text)
