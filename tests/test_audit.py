@@ -206,6 +206,18 @@ class Texts(unittest.TestCase):
         for line in ("wire \\x// ; `ifdef YOSYS", 'wire \\y" ; `ifdef YOSYS wire \\z" ;', "wire \\x/* ; `ifdef YOSYS /* */"):
             self.assertTrue(any("`ifdef YOSYS" in text for text in blanked(line)), line)
 
+    def test_source_that_means_something_else_to_yosys(self) -> None:
+        typed = "typedef struct packed { logic [1:0] a; } t; t s;"
+        with tempfile.TemporaryDirectory() as name:
+            source = pathlib.Path(name) / "a.v"
+            for text in ("(* \\wand *) wire a;", "(* a = (1), wor *) wire a;", f"{typed} assign b = s.a[i];", f"{typed} x = |s.a [i +: 2];"):
+                source.write_text(text)
+                with self.assertRaises(ToolError, msg=text):
+                    yosys.asked([str(source)])
+            for text in ("always @(*) begin end wand w;", "(* keep *) wire wor_x;", f"{typed} sub u(.a(x[i])); x = s.a[1];", "a = u.b[i];"):
+                source.write_text(text)
+                self.assertEqual(yosys.asked([str(source)]), [], text)
+
     def test_source_that_yosys_reads_otherwise(self) -> None:
         with tempfile.TemporaryDirectory() as name:
             source = pathlib.Path(name) / "a.v"

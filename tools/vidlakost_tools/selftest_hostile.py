@@ -79,6 +79,7 @@ OPEN = {
     "an x": "wire hold; assign hold = 1'bx;",
     "a bit that is not there": "reg [2:0] n; always @(posedge clk) n <= 0; wire hold = n[{1'b1, !second}];",
     "a bit that is far beyond": "reg [2:0] n; always @(posedge clk) n <= 0; wire hold = n[{!second, 2'b00}];",
+    "a part below its word": "reg [3:0] n; always @(posedge clk) n[second -: 2] <= second ? 2'b00 : 2'b10; wire hold = n[0];",
     "a word that is not there": TABLE.replace("[0:1]", "[0:2]").replace("[second]", "[{1'b1, !second}]"),
     "a table that is written": TABLE.replace("end wire", "end always @(posedge clk) if (state[1] && second) t[0] <= 0; wire"),
 }

@@ -11,6 +11,7 @@ from typing import Any, Mapping
 
 from vidlakost_tools.text import Path, lines_of, shown
 from vidlakost_tools.tool import ToolError, identifier
+from vidlakost_tools.vhdl import is_vhdl
 
 
 def want() -> None:
@@ -210,7 +211,7 @@ def written_contents(module: dict[str, Any]) -> str:
 # what nothing drives is open: it may have any number in any cycle
 OPEN = "setundef -undriven -anyseq\n"
 # So is a bit beyond the word of which a part is selected: Yosys' own passes take any other bit for it. A part that is always
-# within its word stays as it is.
+# within its word stays as it is. And so is what is written to a part that begins below its word, which Yosys drops whole.
 BEYOND = """(* techmap_celltype = "$shiftx" *)
 module selected(A, B, Y);
   parameter A_SIGNED = 0;
@@ -230,6 +231,26 @@ module selected(A, B, Y);
   generate
     for (at = 0; at < Y_WIDTH; at = at + 1) assign Y[at] = inside[at] ? word[at] : open[at];
   endgenerate
+endmodule
+
+(* techmap_celltype = "$shift" *)
+module written(A, B, Y);
+  parameter A_SIGNED = 0;
+  parameter B_SIGNED = 0;
+  parameter A_WIDTH = 1;
+  parameter B_WIDTH = 1;
+  parameter Y_WIDTH = 1;
+  input [A_WIDTH-1:0] A;
+  input [B_WIDTH-1:0] B;
+  output [Y_WIDTH-1:0] Y;
+  wire _TECHMAP_FAIL_ = !B_SIGNED || B_WIDTH != 33;
+  wire [Y_WIDTH-1:0] far, near, open;
+  \\$shift #(.A_SIGNED(A_SIGNED), .B_SIGNED(1), .A_WIDTH(A_WIDTH), .B_WIDTH(34), .Y_WIDTH(Y_WIDTH))
+    fars(.A(A), .B({B[B_WIDTH-1], B}), .Y(far));
+  \\$shift #(.A_SIGNED(A_SIGNED), .B_SIGNED(1), .A_WIDTH(A_WIDTH), .B_WIDTH(32), .Y_WIDTH(Y_WIDTH))
+    nears(.A(A), .B(B[31:0]), .Y(near));
+  \\$anyseq #(.WIDTH(Y_WIDTH)) opens(.Y(open));
+  assign Y = far == near ? far : open;
 endmodule
 """
 
@@ -252,6 +273,11 @@ READINGS = [
     for pattern in (r'"(?:\\.|[^"\\\n])*"|//[^\n]*|/\*.*?\*/', r'\\[!-~]+|"(?:\\.|[^"\\])*"|//[^\n]*|/\*.*?\*/')
 ]
 ASKED = re.compile(r"\b(YOSYS|SYNTHESIS)\b", re.ASCII)
+# attributes that make another net of one, or drive it, for Yosys alone
+ATTRIBUTE = re.compile(r"\(\*(?!\s*\))(?:(?!\*\)).)*?\b(defaultvalue|wand|wor)\b", re.DOTALL)
+STRUCTURE = re.compile(r"\b(struct|union)\b")
+# a bit or a part of a member, whose place is no number
+MEMBER = re.compile(r"[\w\])]\s*\.\s*\w+\s*\[[^\]:]*[A-Za-z_]")
 INCLUDED = re.compile(r"`include\s*(\S*)")
 
 
@@ -292,11 +318,27 @@ def with_included(files: list[str]) -> list[tuple[str, str]]:
     return list(found.items())
 
 
+def included(files: list[str]) -> list[str]:
+    """The sources, and what those in Verilog include."""
+    verilog = [file for file in files if not is_vhdl(file)]
+    return list(dict.fromkeys([*files, *(file for file, _ in with_included(verilog))]))
+
+
+def refuse_found(pattern: re.Pattern[str], sources: list[tuple[str, str]], why: str) -> None:
+    """Refuses sources in which this stands, with its place."""
+    for file, source in sources:
+        for match in (match for text in blanked(source) for match in pattern.finditer(text)):
+            raise ToolError(f"{shown(file)}:{source.count(chr(10), 0, match.end()) + 1}: {why}", 1)
+
+
 def asked(files: list[str]) -> list[str]:
     """What there is to warn of in sources that say something else to a simulator; those that ask for Yosys are refused, since
     what is found would hold of no other tool's reading."""
-    warnings = []
-    for file, source in with_included(files):
+    warnings, sources = [], with_included(files)
+    refuse_found(ATTRIBUTE, sources, "an attribute that means something to Yosys alone")
+    if any(STRUCTURE.search(text) for _, source in sources for text in blanked(source)):
+        refuse_found(MEMBER, sources, "a part of a structure's member, beyond which Yosys takes another member's bit")
+    for file, source in sources:
         for match in (match for text in blanked(source) for match in ASKED.finditer(text)):
             place = f"{shown(file)}:{source.count(chr(10), 0, match.start()) + 1}"
             if match[1] == "YOSYS":
@@ -313,7 +355,7 @@ def read(files: list[str], options: Mapping[str, Any], folder: pathlib.Path) -> 
     said = run(f"{reading}write_rtlil {quoted(raw)}\n", folder, "-q")
     text, had = without_initial(raw.read_bytes().decode("utf-8", "surrogateescape"))
     plain.write_bytes(text.encode("utf-8", "surrogateescape"))
-    begin = f"read_rtlil {quoted(plain)}\nproc -noopt -norom\nflatten\n"
+    begin = f"read_rtlil {quoted(plain)}\nsetattr -mod -unset keep_hierarchy\nproc -noopt -norom\nflatten\n"
     said += run(f"{begin}write_rtlil {quoted(first)}\nwrite_json {quoted(parts)}\ncheck\n", folder, "-q")
     name, module = top_module(parts)
     twice = driven_twice(first.read_bytes().decode("utf-8", "replace")) or driven_constant(module)
@@ -325,7 +367,7 @@ def read(files: list[str], options: Mapping[str, Any], folder: pathlib.Path) -> 
         warnings.append("initial values are left out")
     beyond = folder / "beyond.v"
     beyond.write_text(BEYOND)
-    script = f"{begin}{dropped}setattr -unset init w:*\n{OPEN}techmap -map {quoted(beyond)} t:$shiftx\ncheck -assert\n"
+    script = f"{begin}{dropped}setattr -unset init w:*\n{OPEN}techmap -map {quoted(beyond)} t:$shiftx t:$shift\ncheck -assert\n"
     return Sources(script, name, module, warnings)
 
 
