@@ -48,7 +48,7 @@ def agree(audited: tuple[int, str], judged: tuple[int, str]) -> bool:
 
 
 def compare(number: int, chance: random.Random) -> int:
-    """Both say the same of each module, and the first cycle that differs is the same where `audit` knows it."""
+    """Both say the same of each module that `audit` knows: that it is right, or that it is wrong."""
     wrong = 0
     said_of: collections.Counter[str] = collections.Counter()
     with tempfile.TemporaryDirectory() as name:
