@@ -3,10 +3,14 @@ from __future__ import annotations
 
 import os
 import pathlib
+import re
 import subprocess
 
 from vidlakost_tools.program import ROOT
 from vidlakost_tools.selftest_cases import FILES
+
+# what the launcher says after ten seconds, which a machine under load may take for any run of a module
+SLOW = re.compile(r"^vidlakost: still running: .*\n", re.MULTILINE)
 
 
 class Bench:
@@ -52,7 +56,7 @@ class Bench:
             self.tell(call, f"status {status} is wanted", done)
         elif out not in done.stdout:
             self.tell(call, f"{out!r} is wanted on standard output", done)
-        elif not done.stderr.startswith(error) or not error and done.stderr:
+        elif not any(said.startswith(error) and (error or not said) for said in (done.stderr, SLOW.sub("", done.stderr))):
             self.tell(call, f"{error!r} is wanted on standard error", done)
 
     def is_so(self, holds: bool, what: str) -> None:
