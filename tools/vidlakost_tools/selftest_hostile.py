@@ -206,14 +206,11 @@ def launcher(bench: Bench) -> None:
     bench.look(["bash", "-c", broken], 8, "w 512 00000000", "vidlakost: error: the line of the answer could not be written")
     (bench.folder / "numbers").mkdir()
     bench.look(["bash", "-c", "cd numbers && ../vidlakost make 1 ./1 b c d e"], 1, "made elements 6", "")
-    bench.look(["./vidlakost", "judge", *map(str, range(3000))], 2, "usage", "vidlakost: error: judge takes 3 words")
-    begun = time.monotonic()
-    bench.run(["./vidlakost", "judge", *map(str, range(3000))])
-    bench.is_so(time.monotonic() - begun < 5, "3,000 words take more than five seconds")
+    # seconds of a processor, so that other work does not count
+    within = ["bash", "-c", 'ulimit -t "$1" && shift && exec ./vidlakost "$@"', "bash"]
+    bench.look([*within, "5", "judge", *map(str, range(3000))], 2, "usage", "vidlakost: error: judge takes 3 words")
     (bench.folder / "many.chip").write_text("unit 1 c.m s.mem\n" * 60000)
-    begun = time.monotonic()
-    bench.look(["./vidlakost", "chip", "many.chip", "many.v"], 15, "chip C1", "many.chip:1:1: error: the first line")
-    bench.is_so(time.monotonic() - begun < 10, "a chip file of 60,000 units takes more than ten seconds")
+    bench.look([*within, "10", "chip", "many.chip", "many.v"], 15, "chip C1", "many.chip:1:1: error: the first line")
     for words in (["judge", "", "tf.list", "r"], ["judge", "c.m", "tf.list", ""], ["chip", "", "r"]):
         bench.look(["./vidlakost", *words], 2, "usage", "vidlakost: error: ")
     once = "came by a pipe or a device, so its place is not shown"
