@@ -74,20 +74,24 @@ def selftest(folder: pathlib.Path) -> list[Figure]:
 
 
 def gate(folder: pathlib.Path) -> list[Figure]:
-    """Every proof, test and wrong body from nothing, in minutes of a processor; the dearest crates; it takes an hour."""
+    """Every proof, test and wrong body from nothing, in minutes of a processor; calm are those of cores that nothing else shares."""
     log = ROOT / "build" / "gate.log"
     log.parent.mkdir(exist_ok=True)
     # what it says can be read meanwhile
     call = timed("bash", "-c", f"set -o pipefail; '{ROOT}/bench/gate' --anew 2>&1 | tee '{log}'")
     rows = [line.split() for line in call.said.splitlines()]
-    costs = {row[0]: [float(number) / 60 for number in row[1:]] for row in rows if re.fullmatch(r"[a-z_]+( +\d+){5}", " ".join(row))}
+    costs = {row[0]: [float(number) / 60 for number in row[1:]] for row in rows if re.fullmatch(r"[a-z_]+( +\d+){6}", " ".join(row))}
     if call.status or "whole" not in costs:
         raise SystemExit(f"bench/gate ends with {call.status}: {call.said[-2000:]}")
-    whole = costs.pop("whole")
+    whole, calm = costs.pop("whole"), costs.pop("calm")
     kinds = ("of proofs", "of tests", "of wrong bodies")
-    parts = [Figure("the whole gate", cost, unit) for cost, unit in zip((whole[4], *whole), ("minutes", *kinds))]
-    dearest = sorted(costs, key=lambda name: -costs[name][4])[:3]
-    return [*parts, *(Figure("its dearest crates", costs[name][4], f"`{name}`") for name in dearest)]
+    parts = [
+        Figure(name, cost, unit)
+        for name, row in (("the whole gate", whole), ("the whole gate, calm", calm))
+        for cost, unit in zip((row[4], *row), ("minutes", *kinds))
+    ]
+    dearest = sorted(costs, key=lambda name: -costs[name][5])[:3]
+    return [*parts, *(Figure("its dearest crates, calm", costs[name][5], f"`{name}`") for name in dearest)]
 
 
 def first(folder: pathlib.Path) -> list[Figure]:
