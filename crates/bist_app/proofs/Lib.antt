@@ -36,3 +36,5 @@ pub mod ChipTexts
 pub mod ChipChecks
 pub mod OneChip
 pub mod TestedChip
+pub mod Conforming
+pub mod ReadTexts

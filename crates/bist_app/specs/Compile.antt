@@ -8,11 +8,14 @@ use Rattle.march_core.specs.March.{MarchElement}
 use Rattle.dynamic_core.specs.declared.item.Item.{Item}
 use Rattle.memory_desc.specs.Descriptions.{Description}
 use Rattle.verilog_tree.specs.Plain.{ModuleTree}
-use Rattle.verilog_tree.specs.Spells.{Spells}
+use Rattle.verilog_tree.specs.Spells.{Spells, FreelySpells}
 use Rattle.verilog_emit.specs.Written.{IsTextOf}
 use Rattle.self_test.specs.SelfTest.{SelfTest}
 use Rattle.self_test.specs.Expected.{ShowsExpected}
 use Rattle.self_test.specs.Numbers.{ShowsNumbers}
+use Rattle.word_march.specs.Commands.{cycle_count}
+use Rattle.port_check.specs.declared.answer.PortAnswer.{PortAnswer}
+use Rattle.port_check.specs.Answers.{IsAnswer}
 use Rattle.bist_endings.specs.declared.ending.Refusal.{Refusal}
 use Rattle.bist_endings.specs.Ending.{Done}
 use Rattle.bist_endings.specs.Then.{Then, OrNoMemory}
@@ -22,17 +25,23 @@ use Rattle.bist_inputs.specs.Memories.{InputMemory}
 use Rattle.bist_app.specs.Reported.{Reports}
 use Rattle.bist_app.specs.Forms.{Form, Row, without_boxes}
 
--- The bytes are the text of a module and of no other, and spell it and no other, as the reader of modules takes them. It is a self-test of
--- the memory by the march, shows on `wdata` what each read expects, and shows numbers where its registers are open at first.
+-- The bytes are the text of a module and of no other, and spell it and no other, as the readers of modules take them, with all parentheses or
+-- with operators that bind by precedence. It is a self-test of the memory by the march, and shows on `wdata` what each read expects. Where its
+-- registers are open at first, and `rdata` but where the answer of a read stands there, it shows numbers behind the reset, and in it on `en`,
+-- `done` and `fail`. The answer of its open run, by which `check` tells, is that it conforms, and no other.
 pub record IsSelfTestText (march : List MarchElement) (d : Description) (text : List ℕ) : Type 0 where
   pub tree : ModuleTree
   pub is_text : IsTextOf text tree
   pub one_tree : (other : ModuleTree) → IsTextOf text other → other ≡ tree
   pub spells : Spells text tree
   pub no_other : (other : ModuleTree) → Spells text other → other ≡ tree
+  pub freely : FreelySpells text tree
+  pub freely_no_other : (other : ModuleTree) → FreelySpells text other → other ≡ tree
   pub self_test : SelfTest tree march d
   pub expected : ShowsExpected tree march d
   pub numbers : ShowsNumbers tree march d
+  pub conforms : IsAnswer tree march d (PortAnswer.Conforms (cycle_count march d))
+  pub conforms_alone : (other : PortAnswer) → IsAnswer tree march d other → other ≡ PortAnswer.Conforms (cycle_count march d)
 
 -- The file that the fourth word names has the module's text, and that of the fifth word the report of the list, whose last
 -- line is said.

@@ -34,10 +34,11 @@ InputHas files name P = FileHas files name (λ bytes. (length bytes ≤ input_li
 
 -- The files MARCH, MEMORY and FAULTS were read as a march, a memory and a list, and spell no others. Now the bytes of VERILOG are the text of a
 -- module and of no other: its layout, with parentheses round each operator and begin and end round each body, where its names are legal and its
--- literals hold their values. (By the grammar of the reader they spell no other module either: the clause answer says that.) The module is a
--- self-test of that memory by that march; `wdata` has what a read expects in the cycle of each; and where nothing is known of its registers at
--- first each output has a number all the same. The bytes of REPORT are the report of the list. Some item isn't detected exactly where the
--- status is 1. How many there are and how many are detected was said, and all other files are as before.
+-- literals hold their values. (By the grammars of the readers they spell no other module either, and the answer of its open run is that it
+-- conforms: the clause answer says that.) The module is a self-test of that memory by that march; `wdata` has what a read expects in the cycle
+-- of each; and where nothing is known of its registers at first, nor of `rdata` but where the answer of a read stands there, each output has a
+-- number behind the reset, and in it `en`, `done` and `fail` have 0. The bytes of REPORT are the report of the list. Some item isn't detected
+-- exactly where the status is 1. How many there are and how many are detected was said, and all other files are as before.
 pub record IsCompilation (words : Words) (files files' : Files) (said said' : Option (List ℕ)) (status : ℕ) : Type 0 where
   pub shape : HasForm compile_form words
   pub march : List MarchElement

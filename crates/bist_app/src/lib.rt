@@ -28,6 +28,7 @@ mod compile;
 mod directions;
 mod forms;
 mod judge;
+pub mod laws;
 mod make;
 mod parts;
 mod reporting;

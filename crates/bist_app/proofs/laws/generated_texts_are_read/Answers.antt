@@ -1,5 +1,5 @@
-use Rattle.generated_check.proofs.Texts.{reads_itself, reads_no_other}
-use Rattle.generated_check.proofs.laws.generated_texts_are_read.Goals as goal
+use Rattle.bist_app.proofs.ReadTexts.{reads_itself, reads_no_other}
+use Rattle.bist_app.proofs.laws.generated_texts_are_read.Goals as goal
 
 pub returns-clause-its_own : goal.returns-clause-its_own
 returns-clause-its_own c = reads_itself

@@ -1,4 +1,4 @@
-//! Laws, each the contract of a function that does nothing.
+//! Laws of the generator's modules, as `check` reads and judges them, each the contract of a function that does nothing.
 ghost use Rattle.std.specs.Prelude.{◌≡◌, List};
 ghost use Rattle.verilog_tree.specs.Plain.{ModuleTree};
 ghost use Rattle.verilog_tree.specs.Spells.{FreelySpells};

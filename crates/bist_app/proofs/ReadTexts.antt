@@ -1,5 +1,5 @@
 -- The bytes of the generator's module, read by precedence, are that module.
-use Rattle.std.proofs.Common.{◌≡◌, true, Some, arith}
+use Rattle.std.proofs.Common.{◌≡◌, ◌∙◌, ℕ, true, List, Some, sym, ap, subst, arith}
 use Rattle.verilog_tree.specs.Plain.{ModuleTree}
 use Rattle.verilog_tree.specs.Fits.{fits}
 use Rattle.verilog_tree.specs.Spells.{all_limits, FreelySpells}
@@ -21,3 +21,11 @@ module _ (p : Plan) (plan : IsPlan p) where
 
   pub reads_no_other : (mo : ModuleTree) → FreelySpells (printed (L.self_test p)) mo → mo ≡ L.self_test p
   reads_no_other mo h = nothing_else (printed (L.self_test p)) (L.self_test p) mo (printed_spells (L.self_test p) fitting) h
+
+-- the text of a module that is made of a plan
+pub layout_reads : (text : List ℕ) (mo : ModuleTree) → (p : Plan) × IsPlan p × (mo ≡ L.self_test p) → text ≡ printed mo → FreelySpells text mo × ((other : ModuleTree) → FreelySpells text other → other ≡ mo)
+layout_reads text mo (p, plan, same) form =
+    let is : text ≡ printed (L.self_test p) = form ∙ ap printed same in (
+      subst (λ (x : ModuleTree). FreelySpells text x) (sym same) (subst (λ t. FreelySpells t (L.self_test p)) (sym is) (reads_itself p plan)),
+      λ other h. reads_no_other p plan other (subst (λ t. FreelySpells t other) is h) ∙ sym same,
+    )

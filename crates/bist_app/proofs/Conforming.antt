@@ -2,6 +2,7 @@
 use Rattle.std.proofs.Common.{◌≡◌, ℕ, zero, suc, ◌<◌, ◌^◌, Bool, true, false, ◌==◌, if◌then◌else◌, List, [], ◌∷◌, ◌++◌, Option, Some, None, slice_index, codes, refl, sym, ap, ◌∙◌, subst}
 use Rattle.std.proofs.lemmas.Nat.{pow_pos}
 use Rattle.verilog_tree.specs.Formed.{formed}
+use Rattle.verilog_tree.specs.Plain.{ModuleTree}
 use Rattle.verilog_tree.specs.Meaning.{Env, bit}
 use Rattle.march_core.specs.March.{MarchElement}
 use Rattle.memory_desc.specs.Descriptions.{Description}
@@ -133,3 +134,10 @@ generated_conform march d p plan test =
       record { run = run; is_run = r; is = (refl, λ t l. right march d p plan test run r t) },
       λ a h. conforms march d p plan test h.run h.is_run a h.is,
     )
+
+-- the same of a module that is made of a plan
+pub layout_conforms : (march : List MarchElement) (d : Description) (mo : ModuleTree) → (p : Plan) × IsPlan p × (mo ≡ L.self_test p) → SelfTest mo march d
+    → IsAnswer mo march d (A.Conforms (cycle_count march d)) × ((a : PortAnswer) → IsAnswer mo march d a → a ≡ A.Conforms (cycle_count march d))
+layout_conforms march d mo (p, plan, same) test =
+    subst (λ (x : ModuleTree). IsAnswer x march d (A.Conforms (cycle_count march d)) × ((a : PortAnswer) → IsAnswer x march d a → a ≡ A.Conforms (cycle_count march d))) (sym same)
+    (generated_conform march d p plan (subst (λ (x : ModuleTree). SelfTest x march d) same test))

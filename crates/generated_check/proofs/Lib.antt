@@ -1,2 +1,0 @@
-pub mod Conforming
-pub mod Texts
