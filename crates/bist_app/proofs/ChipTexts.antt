@@ -1,5 +1,5 @@
 -- The text of a chip's self-tests, and its file.
-use Rattle.bist_app.proofs.Common.{◌≡◌, ◌∙◌, ◌≤◌, ◌<◌, ◌+◌, ◌++◌, ◌&&◌, ◌∷◌, [], ℕ, zero, suc, ◌⊎◌, inl, inr, true, false, not, All, List, length, map, take, get_or, Some, slice_get, Contains, refl, sym, ap, subst, arith, append-nil, append_assoc, add-one, MarchElement, Description, ModuleTree, SelfTest, ChipDescription, Seat, IsFirstRoom, FirstFit, last_group, end_of, TestUnit, lengths, AllTested, IsPlan, weights, Written, length-map, take_all, option_map}
+use Rattle.bist_app.proofs.Common.{◌≡◌, ◌∙◌, ◌≤◌, ◌<◌, ◌+◌, ◌++◌, ◌&&◌, ◌∷◌, [], ℕ, zero, suc, ◌⊎◌, inl, inr, true, false, not, All, List, length, map, take, get_or, Some, slice_get, Contains, refl, sym, ap, subst, arith, append-nil, append_assoc, add-one, MarchElement, Description, ModuleTree, SelfTest, ChipDescription, Seat, IsFirstRoom, FirstFit, last_group, end_of, TestUnit, lengths, ShowsAll, AllTested, AllShow, IsPlan, weights, Written, length-map, take_all, option_map}
 use Rattle.std.proofs.Math.Path.{ap₂}
 use Rattle.std.proofs.Math.Seq.{take-suc}
 use Rattle.std.proofs.lemmas.Bool.{le-leb}
@@ -36,6 +36,12 @@ tested_more [] (v ∷ us) m u all test = absurd all
 tested_more (n ∷ ms) [] m u all test = absurd all
 tested_more (n ∷ ms) (v ∷ us) m u all test = (all.0, tested_more ms us m u all.1 test)
 
+shown_more : (ms : List ModuleTree) (us : List TestUnit) (m : ModuleTree) (u : TestUnit) → AllShow ms us → ShowsAll m u.march u.memory → AllShow (ms ++ m ∷ []) (us ++ u ∷ [])
+shown_more [] [] m u all shows = (shows, tt)
+shown_more [] (v ∷ us) m u all shows = absurd all
+shown_more (n ∷ ms) [] m u all shows = absurd all
+shown_more (n ∷ ms) (v ∷ us) m u all shows = (all.0, shown_more ms us m u all.1 shows)
+
 -- the element at a place, among what a function gives of a list
 at_place : {X Y : Type 0} (f : X → Y) (xs : List X) (ys : List Y) (i : ℕ) (x : X) (y : Y) → ys ≡ map f xs → i < length xs → y ≡ get_or ys i y → f (get_or xs i x) ≡ y
 at_place f xs ys i x y are within is =
@@ -47,10 +53,12 @@ test_more : (us : List TestUnit) (i : ℕ) (u : TestUnit) (march : List MarchEle
     → u.march ≡ march → u.memory ≡ memory → AreSelfTests (take i us) old → PutsSelfTest march memory old new → AreSelfTests (take (suc i) us) new
 test_more us i u march memory old new split m d h p =
     let test : SelfTest p.tree u.march u.memory = subst (SelfTest p.tree u.march) (sym d) (subst (λ x. SelfTest p.tree x memory) (sym m) p.tests) in
+    let shows : ShowsAll p.tree u.march u.memory = subst (ShowsAll p.tree u.march) (sym d) (subst (λ x. ShowsAll p.tree x memory) (sym m) p.shows) in
     record {
       trees = h.trees ++ p.tree ∷ [];
       fit = fit_more h.trees p.tree h.fit p.fit;
       tested = subst (AllTested (h.trees ++ p.tree ∷ [])) (sym split) (tested_more h.trees (take i us) p.tree u h.tested test);
+      shown = subst (AllShow (h.trees ++ p.tree ∷ [])) (sym split) (shown_more h.trees (take i us) p.tree u h.shown shows);
       are = p.text ∙ ap (λ t. t ++ printed p.tree) h.are ∙ sym (printed_more h.trees p.tree);
     }
 
@@ -119,7 +127,8 @@ makes_file chip t groups old new name ds called are put given us ready fitted =
     let r = ready.has_read in
     let many : length us ≤ length t.memories.items = let n : length t.memories.items ≡ length us = ap length r.table.memories ∙ length-map us (λ (u : TestUnit). u.memory) in omega (arith, n) in
     let tests : AreSelfTests us old = subst (λ vs. AreSelfTests vs old) (take_all (length t.memories.items) us many) (put us r.table) in
-    ends us chip.budget tests.trees (sym r.table.memories) tests.are (plan chip t us groups r fitted) tests.tested tests.fit (all_differ chip.name us ready.names)
+    let file = ends us chip.budget tests.trees (sym r.table.memories) tests.are (plan chip t us groups r fitted) tests.tested tests.fit (all_differ chip.name us ready.names) in
+    (file.0, subst (λ ms. AllShow ms us) (sym file.1) tests.shown)
 
 -- ---- the starts
 
@@ -189,11 +198,12 @@ pub tests_table : (chip : ChipDescription) (t : UnitTable) (budget : ℕ) (ws gr
 tests_table chip t budget ws groups ls text line outputs b w l f makes said out us ready =
     let r = ready.has_read in
     let fit = fitted_units chip t us budget ws groups b w r f in
-    let file = makes us ready fit in
+    let made = makes us ready fit in
+    let file = made.0 in
     let same : groups ≡ file.groups = fit_one chip.budget [] (weights us) groups file.groups fit file.fitted in
     let many : length groups ≡ length us = (counted us chip.budget groups (plan chip t us groups r fit)).many ∙ length-map us (λ (u : TestUnit). u.memory) in
     let lines : line ≡ chip_line (length us) (suc (last_group file.groups)) (end_of file.groups (lengths us)) =
     said ∙ ap (λ n. chip_line n (suc (last_group groups)) (end_of groups ls)) many
     ∙ ap (λ x. chip_line (length us) (suc (last_group groups)) (end_of groups x)) (l ∙ r.table.lengths)
     ∙ ap (λ x. chip_line (length us) (suc (last_group x)) (end_of x (lengths us))) same in
-    record { text = text; file = file; done_is = λ j. record { found = false; outputs = out j; line = lines j } }
+    record { text = text; file = file; shown = made.1; done_is = λ j. record { found = false; outputs = out j; line = lines j } }

@@ -34,7 +34,7 @@ pub use Rattle.bench.specs.Laws.{EndsSelfTest, IsSeenOf, IsWrongRead, done_at, s
 pub use Rattle.fault_core.specs.Primitive.{IsPrimitive, Primitive, has_aggressor}
 pub use Rattle.chip_desc.specs.Chips.{ChipDescription, IsChip, UnitDescription, unit_of}
 pub use Rattle.chip_rtl.specs.ChipTest.{TestUnit, lengths, test_length}
-pub use Rattle.chip_rtl.specs.ChipLaws.{AllTested, IsPlan, memories, weights}
+pub use Rattle.chip_rtl.specs.ChipLaws.{ShowsAll, AllTested, AllShow, IsPlan, memories, weights}
 pub use Rattle.chip_plan.specs.Groups.{FirstFit, IsFirstRoom, Seat, end_of, last_group}
 pub use Rattle.bist_app.specs.Shared.{Before, Boxes, FirstTells, FitsAggressor, FitsLength, LeavesFirst}
 pub use Rattle.bist_app.specs.inner.RunsBeside.{FirstHasRoom}

@@ -110,6 +110,7 @@ tested_chip words files old new n s =
           text = t.text;
           is_written = w.is_written;
           file = t.file;
+          shown = t.shown;
           says = subst (λ (d : Done). Says old.said new.said d.line) t.done_is s.says;
           others = w.others;
         },

@@ -7,7 +7,7 @@ use Rattle.self_test.specs.SelfTest.{module_name}
 use Rattle.chip_desc.specs.Chips.{ChipDescription, UnitDescription}
 use Rattle.chip_plan.specs.Groups.{last_group, end_of}
 use Rattle.chip_rtl.specs.ChipTest.{TestUnit, lengths}
-use Rattle.chip_rtl.specs.ChipLaws.{memories}
+use Rattle.chip_rtl.specs.ChipLaws.{AllShow, memories}
 use Rattle.chip_rtl.specs.ChipFile.{ChipFile}
 use Rattle.bist_endings.specs.declared.ending.ChipRefusal.{ChipRefusal}
 use Rattle.bist_endings.specs.declared.ending.Refusal.{Refusal}
@@ -58,10 +58,12 @@ abbrev pub chip_line : ℕ → ℕ → ℕ → List ℕ
 chip_line units groups cycle = codes "chip units " ++ decimal units ++ codes " groups " ++ decimal groups ++ codes " done " ++ decimal cycle ++ codes "\n"
 
 -- The file that the second word names has a text that spells one chip and no other. It has this name and the ports of these memories, and
--- tests them within the budget, in the groups of the first fit, of which the line tells.
+-- tests them within the budget, in the groups of the first fit, of which the line tells. Its modules show on `wdata` what each read expects
+-- (and so does the chip), and behind the reset numbers where their registers are open at first.
 pub record IsChipTested (name : List ℕ) (us : List TestUnit) (budget : ℕ) (done : Done) : Type 0 where
   pub text : List ℕ
   pub file : ChipFile text name us budget
+  pub shown : AllShow file.chip.units us
   pub done_is : done ≡ (record {
     found = false;
     outputs = (record { position = 2; bytes = text }) ∷ [];

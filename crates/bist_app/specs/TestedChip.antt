@@ -8,6 +8,7 @@ use Rattle.chip_desc.specs.Chips.{ChipDescription, UnitDescription, IsChip}
 use Rattle.chip_desc.specs.ChipTable.{Reads as ReadsChip}
 use Rattle.chip_plan.specs.Groups.{last_group, end_of}
 use Rattle.chip_rtl.specs.ChipTest.{TestUnit, lengths}
+use Rattle.chip_rtl.specs.ChipLaws.{AllShow}
 use Rattle.chip_rtl.specs.ChipFile.{ChipFile}
 use Rattle.bist_endings.specs.Words.{Words, word}
 use Rattle.bist_app.specs.Forms.{HasForm}
@@ -30,8 +31,9 @@ AreUnitsOf files (d ∷ ds) (u ∷ us) = IsUnitOf files d u × AreUnitsOf files 
 
 -- CHIPFILE was read as the description of a chip, and the files that it names as the marches and memories of its units. Now the bytes of VERILOG
 -- spell one chip and no other, which has the described name and tests these memories by their marches, whatever its registers hold at first
--- and whatever words return, in the groups of the first fit within the described budget. How many units and groups there are was said,
--- and the first cycle in which every test is over; and all other files are as before.
+-- and whatever words return, in the groups of the first fit within the described budget. Its modules show on `wdata` what each read expects, and
+-- so does the chip; and behind the reset they show numbers where their registers are open at first. How many units and groups there are was
+-- said, and the first cycle in which every test is over; and all other files are as before.
 pub record IsTestedChip (words : Words) (files files' : Files) (said said' : Option (List ℕ)) : Type 0 where
   pub shape : HasForm chip_form words
   pub chip : ChipDescription
@@ -42,6 +44,7 @@ pub record IsTestedChip (words : Words) (files files' : Files) (said said' : Opt
   pub text : List ℕ
   pub is_written : files' (word words 2) ≡ Some text
   pub file : ChipFile text chip.name units chip.budget
+  pub shown : AllShow file.chip.units units
   pub says : Says said said' (chip_line (length units) (suc (last_group file.groups)) (end_of file.groups (lengths units)))
   pub others : (name : List ℕ) → name ≢ word words 2 → files' name ≡ files name
 

@@ -24,7 +24,7 @@ planned_top ds groups name t p n e =
 
 pub file_ended : (old new name groups : List ℕ) (ds : List Description) (t : TopTree) (text : List ℕ) → is_name name ≡ true → t ≡ top_of name groups ds → text ≡ printed_top t → new ≡ old ++ text → EndsFile old new name groups ds
 file_ended old new name groups ds t text n e f g us budget ms same printed p tested fit differ =
-    subst (λ (b : List ℕ). ChipFile b name us budget)
+    subst (λ (b : List ℕ). (f : ChipFile b name us budget) × (f.chip.units ≡ ms))
     (sym (g ∙ ap (λ x. x ++ text) printed ∙ ap (λ x. printed_units ms ++ x) (f ∙ ap printed_top (e ∙ ap (top_of name groups) (sym same)))))
     (plans_are_written name us budget groups ms p tested fit n differ)
 

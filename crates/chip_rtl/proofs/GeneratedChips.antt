@@ -12,18 +12,20 @@ pub plans_are_written : PlansAreWritten
 plans_are_written name us budget groups ms p tested fit named differ =
     let c = chip_of name groups us ms in
     let b : List ℕ = printed_chip c in
-    let h : IsChipTextOf b c = (fit, generated_fit name us budget groups p named, refl) in
-    record {
-      chip = c;
-      groups = groups;
-      text = h;
-      only = λ other k. no_other_chip b c other h (text_derived b other k);
-      spells = text_derived b c h;
-      no_other = λ other k. no_other_chip b c other h k;
-      legal = top_is_legal name us budget groups ms p tested differ;
-      modules = tested;
-      named = refl;
-      ports = refl;
-      fitted = p.fitted;
-      tests = top_tests name us budget groups ms p tested;
-    }
+    let h : IsChipTextOf b c = (fit, generated_fit name us budget groups p named, refl) in (
+      record {
+        chip = c;
+        groups = groups;
+        text = h;
+        only = λ other k. no_other_chip b c other h (text_derived b other k);
+        spells = text_derived b c h;
+        no_other = λ other k. no_other_chip b c other h k;
+        legal = top_is_legal name us budget groups ms p tested differ;
+        modules = tested;
+        named = refl;
+        ports = refl;
+        fitted = p.fitted;
+        tests = top_tests name us budget groups ms p tested;
+      },
+      refl,
+    )

@@ -36,20 +36,20 @@ pub record ChipFile (b name : List ℕ) (us : List TestUnit) (budget : ℕ) : Ty
   pub fitted : FirstFit budget [] (weights us) groups
   pub tests : ChipTest chip us budget groups
 
--- The printed self-tests of a plan, and behind them its printed top, are such a file, where all names differ.
+-- The printed self-tests of a plan, and behind them its printed top, are such a file of these modules, where all names differ.
 abbrev pub PlansAreWritten : Type 0
 PlansAreWritten =
     (name : List ℕ) (us : List TestUnit) (budget : ℕ) (groups : List ℕ) (ms : List ModuleTree)
     → IsPlan us budget groups → AllTested ms us → AllFit ms → is_name name ≡ true
-    → Differ (name ∷ map (λ u. module_name u.memory.name) us) → ChipFile (printed_chip (chip_of name groups us ms)) name us budget
+    → Differ (name ∷ map (λ u. module_name u.memory.name) us) → (f : ChipFile (printed_chip (chip_of name groups us ms)) name us budget) × (f.chip.units ≡ ms)
 
 -- the groups are those of a plan of units with these memories
 abbrev pub IsPlanOf : List Description → List ℕ → Type 0
 IsPlanOf ds groups = (us : List TestUnit) × (budget : ℕ) × (memories us ≡ ds) × IsPlan us budget groups
 
--- Behind the printed self-tests of any plan with these memories and groups stands now what makes them its file.
+-- Behind the printed self-tests of any plan with these memories and groups stands now what makes them its file, of these modules.
 abbrev pub EndsFile : List ℕ → List ℕ → List ℕ → List ℕ → List Description → Type 0
 EndsFile old new name groups ds =
     (us : List TestUnit) (budget : ℕ) (ms : List ModuleTree)
     → memories us ≡ ds → old ≡ printed_units ms → IsPlan us budget groups → AllTested ms us → AllFit ms
-    → Differ (name ∷ map (λ u. module_name u.memory.name) us) → ChipFile new name us budget
+    → Differ (name ∷ map (λ u. module_name u.memory.name) us) → (f : ChipFile new name us budget) × (f.chip.units ≡ ms)

@@ -28,7 +28,7 @@ pub fn one_chip_text()
     ensures chips { NoTwoTexts }
 {}
 
-/// The text of a chip is one by the grammar, which derives no other chip; and each byte of it is a line feed, a blank or another
+/// The text of a chip is one by the grammar, which derives no other chip; and each byte of it is a line feed, a space or another
 /// printable one, and no `/`.
 pub fn chip_texts_are_of_one_chip()
     ensures derived { (bytes : List ℕ) (chip : ChipTree) → IsChipTextOf bytes chip → ChipText all_limits bytes chip }

@@ -9,7 +9,7 @@ use Rattle.self_test.specs.SelfTest.{SelfTest}
 use Rattle.chip_desc.specs.Chips.{ChipDescription, IsChip}
 use Rattle.chip_plan.specs.Groups.{FirstFit, last_group}
 use Rattle.chip_rtl.specs.ChipTest.{TestUnit}
-use Rattle.chip_rtl.specs.ChipLaws.{AllTested, memories, weights}
+use Rattle.chip_rtl.specs.ChipLaws.{ShowsAll, AllTested, AllShow, memories, weights}
 use Rattle.chip_rtl.specs.PrintedTop.{printed_units}
 use Rattle.chip_rtl.specs.TopFits.{AllFit}
 use Rattle.chip_rtl.specs.ChipFile.{ChipFile}
@@ -34,6 +34,7 @@ pub record PutsSelfTest (march : List MarchElement) (d : Description) (old new :
   pub tree : ModuleTree
   pub fit : fits tree ≡ true
   pub tests : SelfTest tree march d
+  pub shows : ShowsAll tree march d
   pub text : new ≡ old ++ printed tree
 
 -- the text is that of self-test modules of these units, one behind another
@@ -41,6 +42,7 @@ pub record AreSelfTests (us : List TestUnit) (text : List ℕ) : Type 0 where
   pub trees : List ModuleTree
   pub fit : AllFit trees
   pub tested : AllTested trees us
+  pub shown : AllShow trees us
   pub are : text ≡ printed_units trees
 
 -- the same of the first units of a table
@@ -58,4 +60,4 @@ pub record CanStart (groups lengths : List ℕ) : Type 0 where
 
 -- in the groups of the first fit, the text is the chip's file
 abbrev pub MakesFile : ChipDescription → UnitTable → List ℕ → List ℕ → Type 0
-MakesFile chip t groups text = (us : List TestUnit) → IsReady chip t us → FirstFit chip.budget [] (weights us) groups → ChipFile text chip.name us chip.budget
+MakesFile chip t groups text = (us : List TestUnit) → IsReady chip t us → FirstFit chip.budget [] (weights us) groups → (file : ChipFile text chip.name us chip.budget) × AllShow file.chip.units us
