@@ -42,6 +42,11 @@ class Chip:
     units: list[Unit]
 
     @property
+    def files(self) -> list[str]:
+        """The files that its units name."""
+        return [name for unit in self.units for name in (unit.march, unit.memory_file)]
+
+    @property
     def groups(self) -> int:
         return 1 + max(unit.group for unit in self.units)
 

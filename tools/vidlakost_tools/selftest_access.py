@@ -68,6 +68,8 @@ CALLS = [
     ("", ["tools/bitmap", "right.log", "access.m", "late.mem", "--mux", "3"], 2, "", "bitmap: --mux 3 does not divide the 8 words"),
     ("", ["tools/bitmap", "right.log", "pair.chip", "--unit", "2"], 2, "", "bitmap: --unit is 0 to 1, and not 2"),
     ("", ["tools/bitmap", "right.log", "access.m", "late.mem", "--csv", "late.mem"], 2, "", "bitmap: 'late.mem' is what is read"),
+    ("", ["tools/bitmap", "right.log", "pair.chip", "--unit", "0", "--svg", "odd.mem"], 2, "", "bitmap: 'odd.mem' is what is read"),
+    ("", ["tools/bitmap", "right.log", "pair.chip", "--unit", "0", "--svg", "a", "--csv", "./a"], 2, "", "bitmap: './a' is the picture"),
     ("", ["tools/collar", "eight.mem", "--macro", "ram.pins", "bus", "--through", "jtag"], 2, "", "collar: ram.pins: s has latency 1"),
     ("", ["tools/collar", "latency.mem", "--macro", "ram.pins", "bus", "--through", "apb"], 0, "bus/s_collar.v", ""),
     ("", ["tools/collar", "latency.mem", "--macro", "ram.pins", "bus", "--through", "usb"], 2, "", "collar: --through is one of"),
@@ -90,6 +92,7 @@ CALLS = [
     ("", ["tools/report", "--all", "judged.report", "--csv"], 2, "", "report: judged.report: this report is of `judge`"),
     ("", ["tools/report", "--all", "judged.report"], 2, "", "report: --all is with --csv or with --html FILE"),
     ("", ["tools/report", "--tester", "pair.chip", "--html", "pair.html"], 0, "", ""),
+    ("", ["tools/report", "--tester", "pair.chip", "--html", "./late.mem"], 2, "", "report: './late.mem' is what is read"),
 ]
 # what is planted: an address of late, a bit, the value at which it is stuck, and the index of the address
 PLANTED = [(3, 0, 1, 6), (4, 4, 0, 0), (1, 2, 1, 5)]
