@@ -37,6 +37,7 @@ FILES.update(
     }
 )
 
+RIGHT = ["examples/foreign/one_hot.v", "examples/mats_plus.m", "examples/foreign/four.mem"]
 # a tool that a call needs, its words, its status, a part of its output, and the beginning of standard error
 CALLS: List[Tuple[str, List[str], int, str, str]] = [
     ("", ["tools/summary", "c.m", "loose.mem"], 0, "\ns           4 ", ""),
@@ -48,6 +49,7 @@ CALLS: List[Tuple[str, List[str], int, str, str]] = [
     ("", ["tools/collar", "s.mem", "--macro", "loose.pins", "harm"], 0, "harm/ram.v\n", ""),
     ("", ["tools/collar", "s.mem", "--macro", "named.pins", "harm"], 2, "", "collar: named.pins:1: the name of a pin"),
     ("", ["tools/collar", "s.mem", "--macro", "tied.pins", "harm"], 2, "", "collar: tied.pins:7: what an input is tied to"),
+    ("yosys", ["tools/audit", *RIGHT, "--vcd", "latin\udce9.vcd"], 2, "fail is exact", "audit: a name that is no UTF-8 would stand"),
     ("", ["tools/trace", "bell.report"], 2, "", "trace: bell.report:2: the line is none of a report's"),
     ("", ["tools/replay", "bell.report"], 2, "", "replay: bell.report:2: the line is none of a report's"),
     ("", ["tools/report", "mark.report", "--html", "m.html"], 2, "", "report: mark.report:4: the line is none of a report's"),

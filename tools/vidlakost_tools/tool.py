@@ -98,8 +98,8 @@ def start(main: Callable[[], int | None]) -> None:
         # nobody reads any more, which is no failure of the tool; nothing more may be written at exit
         os.dup2(os.open(os.devnull, os.O_WRONLY), 1)
         os._exit(141)
-    except UnicodeDecodeError as error:
-        tell(f"{name}: a file is not UTF-8: {error.reason} at byte {error.start}")
+    except UnicodeError as error:
+        tell(f"{name}: {no_text(error)}")
         sys.exit(2)
     except OSError as error:
         tell(f"{name}: {error.filename or 'what was written'}: {error.strerror or error}")
@@ -112,6 +112,13 @@ def start(main: Callable[[], int | None]) -> None:
         sys.exit(2)
     except KeyboardInterrupt:
         sys.exit(130)
+
+
+def no_text(error: UnicodeError) -> str:
+    """What is said of bytes that are no text: those of a file that is read, or of a name that is to be written."""
+    if isinstance(error, UnicodeDecodeError):
+        return f"a file is not UTF-8: {error.reason} at byte {error.start}"
+    return "a name that is no UTF-8 would stand in what is written"
 
 
 def stop(number: int, frame: object) -> None:
