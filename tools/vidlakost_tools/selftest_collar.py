@@ -282,6 +282,14 @@ def odd_names(bench: Bench) -> None:
         bench.is_so(done.stdout == told and not done.stderr, f"top: {done.stdout}{done.stderr}")
 
 
+def model_of_later(bench: Bench) -> None:
+    """A macro whose model is named when one was written already stands in the list once."""
+    for words in ([*TOP, "later"], [*TOP, "later", "--model", "shown.v"]):
+        bench.run(words)
+    listed = (bench.folder / "later" / "files.f").read_text().splitlines()
+    bench.is_so(listed[-2:] == ["ram4x2.v", str((bench.folder / "shown.v").resolve())] and "ram4x1.v" not in listed, f"top: {listed}")
+
+
 def flows(bench: Bench) -> None:
     """The makefile of the six memories ends well, and one whose march finds no tied address doesn't."""
     if not all(map(shutil.which, ("make", "iverilog"))):
@@ -327,4 +335,4 @@ def holds(bench: Bench) -> None:
         bench.is_so(done.stdout == told and not done.stderr, f"hold of {march}: {done.stdout}{done.stderr}")
 
 
-PARTS = (lists, models, systems, odd_names, flows, holds)
+PARTS = (lists, models, systems, odd_names, model_of_later, flows, holds)
