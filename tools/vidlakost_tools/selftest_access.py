@@ -34,6 +34,7 @@ FILES.update(
         "two.log": "module a(input clk);\nendmodule\nmodule b(input clk);\nendmodule\n",
         "sized.report": SIZED,
         "again.report": SIZED.replace("backgrounds 1 commands 8", "backgrounds 4 commands 32"),
+        "slow.mem": "memory 2\nname s\nwords 4\nbits 1\nlatency 4\n",
         "judged.report": "march {any(w0);up(r0)}\ncovered <0/1/-> SF\nclass SF 1 covered 1\ntotal 1 covered 1 escapes 0\n",
     }
 )
@@ -88,6 +89,13 @@ CALLS = [
         2,
         "",
         "report: again.report: s has another size or another test in its description",
+    ),
+    (
+        "",
+        ["tools/report", "--all", "sized.report", "--csv", "--memory", "s.mem", "--memory", "slow.mem"],
+        2,
+        "",
+        "report: slow.mem: another description of s is given",
     ),
     ("", ["tools/report", "--all", "judged.report", "--csv"], 2, "", "report: judged.report: this report is of `judge`"),
     ("", ["tools/report", "--all", "judged.report"], 2, "", "report: --all is with --csv or with --html FILE"),

@@ -50,7 +50,11 @@ def told_of(memory: Memory, report: Report) -> tuple[int, int, int, int]:
 
 def rows_of(reports: list[str], memories: list[str]) -> list[Row]:
     """A row for each report; a description belongs to the reports of its name."""
-    known = {memory.name: memory for memory in map(read_memory, memories)}
+    known: dict[str, Memory] = {}
+    for name in memories:
+        one = read_memory(name)
+        if known.setdefault(one.name, one) != one:
+            raise ToolError(f"{name}: another description of {one.name} is given, and its test may take other cycles")
     rows = []
     for name in reports:
         report = read_report(name)
