@@ -7,7 +7,9 @@ import unittest
 
 from vidlakost_tools.faults import Array, Step, read_primitive
 from vidlakost_tools.march import elements_of
-from vidlakost_tools.open_run import told
+from vidlakost_tools.memory import parse_memory
+from vidlakost_tools.open_run import commands_of, compared, told
+from vidlakost_tools.reads import due_numbers
 from vidlakost_tools.tool import ToolError
 
 
@@ -40,6 +42,14 @@ class Arrays(unittest.TestCase):
         self.assertTrue(last("<0w1r1/0/0>", None, 0, "00", "{any(w0);any(w1,r1)}", "uu").differs)
         self.assertFalse(last("<0w1r1/0/0>", None, 0, "00", "{any(w0);any(w1);any(r1)}", "uuu").differs)
         self.assertFalse(last("<0w1r1/0/0>", None, 0, "00", "{any(w0);any(w1);del;any(r1)}", "uuuu").differs)
+
+    def test_what_is_due_is_what_is_compared(self) -> None:
+        elements = elements_of("{up(w1);del;down(r1,w0);any(r0)}")
+        text = "memory 2\nname m\nwords 4\nbits 3\nlatency 2\npolarity 5\npause 3\nscramble a0 = p1\nscramble a1 = p0 ^ 1\n"
+        memory = parse_memory(text)
+        commands = [None, *commands_of(elements, memory), *[None] * (memory.latency + 1)]
+        for cycle, command in enumerate(commands):
+            self.assertEqual(due_numbers(elements, memory, cycle), dict(compared(command, cycle == len(commands) - 1)), cycle)
 
     def test_a_wrong_answer(self) -> None:
         step = last("<0r0/1/0>", None, 0, "00", "{any(w0);up(r0,r0)}", "uu")

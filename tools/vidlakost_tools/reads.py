@@ -96,6 +96,22 @@ def visit_lines(visit: Visit, element: Element, memory: Memory) -> list[str]:
     ]
 
 
+def due_numbers(elements: list[Element], memory: Memory, cycle: int) -> dict[str, int]:
+    """Of each port that has to have a number in a cycle of the test this number."""
+    last = last_command(elements, memory)
+    due = {"en": 0, "done": int(cycle == last + memory.latency + 1)}
+    span = span_of(elements, memory, cycle) if 1 <= cycle <= last else None
+    if span is None or span.element.is_pause:
+        return due
+    visit = visit_of(span, memory, cycle)
+    operation = span.element.operations[visit.operation]
+    due.update(en=1, we=int(operation[0] == "w"), addr=memory.address_of(visit.index))
+    if operation[0] == "w":
+        ones = (1 << memory.bits) - 1 if operation == "w1" else 0
+        due["wdata"] = memory.backgrounds[visit.background] ^ memory.polarity ^ ones
+    return due
+
+
 def due_lines(elements: list[Element], memory: Memory, cycle: int) -> list[str]:
     """What is due at the ports in a cycle of the test, in words."""
     last = last_command(elements, memory)

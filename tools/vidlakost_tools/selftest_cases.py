@@ -388,6 +388,8 @@ CALLS: List[Tuple[str, List[str], int, str, str]] = [
         "",
     ),
     ("", ["tools/locate", "c.m", "scrambled.mem", "--line", "unknown cycle 0 port en"], 0, "the reset", ""),
+    ("", ["tools/locate", "c.m", "scrambled.mem", "--line", "differs cycle 9 port addr expected 4 got 0"], 0, "address 4", ""),
+    ("", ["tools/locate", "c.m", "scrambled.mem", "--line", "differs cycle 9 port addr expected 5 got 0"], 2, "", "locate: the line expects 5"),
     ("", ["tools/locate", "c.m", "scrambled.mem", "--line", "unknown cycle 162 port en"], 0, "the last answer comes", ""),
     ("", ["tools/locate", "c.m", "scrambled.mem", "--line", "differs cycle 163 port done expected 1 got 0"], 0, "done", ""),
     (
