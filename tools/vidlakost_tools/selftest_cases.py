@@ -363,6 +363,7 @@ CALLS: List[Tuple[str, List[str], int, str, str]] = [
     ("", ["tools/locate", "c.m", "scrambled.mem", "11"], 0, "element 1 up(r0,w1)\noperation 0 r0\nindex 0\naddress 4\n", ""),
     ("", ["tools/locate", "c.m", "scrambled.mem", "11", "5", "4"], 0, "bits 0\nstored 0 expected, 1 returned", ""),
     ("", ["tools/locate", "c.m", "scrambled.mem", "--line", "fail 1 done 9 cycle 11 expected 5 returned 4"], 0, "bits 0", ""),
+    ("", ["tools/locate", "c.m", "scrambled.mem", "13", "5", "7", "--mux", "4"], 0, "index 1 row 0\naddress 5\nbits 1\ncolumns 5\n", ""),
     ("", ["tools/locate", "c.m", "scrambled.mem", "--line", "fail 0 done 9"], 2, "", "locate: the line names no read"),
     ("", ["tools/locate", "c.m", "scrambled.mem", "3"], 2, "", "locate: in cycle 3 no answer comes"),
     ("", ["tools/locate", "c.m", "scrambled.mem", "x"], 2, "", "locate: CYCLE is a number"),
