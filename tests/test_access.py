@@ -2,10 +2,11 @@
 from __future__ import annotations
 
 import pathlib
+import re
 import tempfile
 import unittest
 
-from vidlakost_tools import access_block, tap, tester, vhdl_text
+from vidlakost_tools import access_block, standards, tap, tester, vhdl_text
 from vidlakost_tools.access_block import Target, Unit
 from vidlakost_tools.fail_log import Entry, read_log
 from vidlakost_tools.march import elements_of
@@ -71,6 +72,16 @@ class Register(unittest.TestCase):
         for text in ("", "x", "2", "b", "100000000000", "5500000007f", "4400000007f", "4500000008f"):
             with self.assertRaises(ToolError, msg=text):
                 tester.of_register(self.target, [elements_of(MARCH)], text, 1)
+
+
+class Waits(unittest.TestCase):
+    def test_a_test_is_over_before_it_is_read(self) -> None:
+        """Whatever the clock, a player that reads the seconds, or whole microseconds of them, waits as long as the test goes."""
+        for cycles, mhz in ((1_234_400, 100.0), (41, 200.0), (62_725, 33.3), (2_000_000_000, 999.0)):
+            text = standards.svf(access_block.of_memory(memory(), cycles), mhz)
+            said = re.search(r"^RUNTEST IDLE (\S+) SEC;\nRUNTEST IDLE 16 TCK;$", text, re.MULTILINE)
+            assert said is not None
+            self.assertGreaterEqual(int(1e6 * float(said[1])) * mhz, cycles)
 
 
 class Bits(unittest.TestCase):

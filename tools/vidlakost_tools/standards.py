@@ -2,6 +2,7 @@
 (IEEE 1687), and procedures in PDL."""
 from __future__ import annotations
 
+import math
 import re
 
 from vidlakost_tools.access_block import Target
@@ -21,7 +22,7 @@ SIR 4 TDI (8);
 SDR {length} TDI ({zeros});
 RUNTEST IDLE 16 TCK;
 SDR {length} TDI ({start});
-RUNTEST IDLE {turns} TCK{seconds};
+{seconds}RUNTEST IDLE {turns} TCK;
 SDR {length} TDI ({start}) TDO ({wanted}) MASK ({mask});
 SDR {length} TDI ({zeros});
 RUNTEST IDLE 16 TCK;
@@ -44,7 +45,8 @@ def svf(target: Target, mhz: float | None) -> str:
         zeros="0" * digits,
         start=f"{1:0{digits}X}",
         turns=16 if mhz else target.length + 16,
-        seconds="" if mhz is None else f" {(target.length + 16) / mhz / 1e6:.3E} SEC",
+        # whole microseconds, since a player may count no others, and one more; then the state has to come over to TCK
+        seconds="" if mhz is None else f"RUNTEST IDLE {(math.ceil((target.length + 16) / mhz) + 1) / 1e6:.9E} SEC;\n",
         wanted=f"{3:0{digits}X}",
         mask=f"{mask:0{digits}X}",
     )
