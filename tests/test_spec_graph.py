@@ -160,6 +160,12 @@ class Graphs(unittest.TestCase):
         self.assertEqual(self.uses(graph, "Shadows"), [])
         self.assertEqual(self.uses(graph, "Quotes"), [])
 
+    def test_a_record_that_is_changed_in_a_type_binds_nothing(self) -> None:
+        kind = "data Kind : Type where\n  one : Kind\n  many : Nat → Kind"
+        many = "(p : Pair) → double p.left ≡ 1 → p ≡ record p { left = 0 } → Kind"
+        graph = self.graph(low=(kind, kind.replace("data", "double : Nat → Nat\ndouble n = n\n\ndata").replace("Nat → Kind", many)))
+        self.assertEqual(self.uses(graph, "Kind"), ["Pair", "double"])
+
     def test_clauses_of_public_calls(self) -> None:
         graph = self.graph()
         found = [(one.call, one.name) for one in graph.clauses]

@@ -258,7 +258,9 @@ def bound_in(lines: Iterable[str], own: Iterable[str]) -> set[str]:
         words = stripped.split()
         if words and words[0] in own and "=" in words:
             pattern = stripped[: stripped.index(" =")] if " =" in stripped else stripped
-            bound.update(word for word in NAME.findall(pattern)[1:] if word[0].islower())
+            # a constructor has its type behind a colon, in which a record may be changed
+            if " : " not in pattern:
+                bound.update(word for word in NAME.findall(pattern)[1:] if word[0].islower())
         for found in re.finditer(r"\blet ([^\W\d][\w']*)", line):
             bound.add(found[1])
     return bound - own
