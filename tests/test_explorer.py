@@ -48,6 +48,12 @@ class Steps(unittest.TestCase):
         kinds = [command[0] if command else None for command in given]
         self.assertEqual(kinds, [None, "w", "w", None, None, "r", "r", "w", "w", None, None, None])
 
+    def test_done_rises_where_the_test_is_over(self) -> None:
+        memory = parse_memory("memory 1\nname s\nwords 2\nbits 1\n")
+        given = cycles_picture.first_cycles(elements_of("{any(w0)}"), memory, ["w 0 0", "w 1 0"])
+        done = dict(cycles_picture.signals(given, memory.latency, memory.cycles(elements_of("{any(w0)}")) - 1))["done"]
+        self.assertEqual(done, [0] * 4 + [1] * 8)
+
 
 class Bounds(unittest.TestCase):
     def test_no_more_is_read_than_may_be(self) -> None:

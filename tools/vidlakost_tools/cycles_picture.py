@@ -48,8 +48,8 @@ def words(y: float, wide: float, values: list[str]) -> list[str]:
     return made
 
 
-def signals(given: list[Command], latency: int) -> list[tuple[str, list[int] | list[str] | None]]:
-    """The ports, each with its value in each cycle; the clock has none."""
+def signals(given: list[Command], latency: int, done: int) -> list[tuple[str, list[int] | list[str] | None]]:
+    """The ports, each with its value in each cycle, the test being done from one on; the clock has none."""
     answers = [given[cycle - latency] if cycle >= latency else None for cycle in range(COUNT)]
     return [
         ("clk", None),
@@ -59,7 +59,7 @@ def signals(given: list[Command], latency: int) -> list[tuple[str, list[int] | l
         ("addr", [command[1] if command else "" for command in given]),
         ("wdata", [command[2] if command and command[0] == "w" else "" for command in given]),
         ("rdata", [answer[2] if answer and answer[0] == "r" else "" for answer in answers]),
-        ("done", [0] * COUNT),
+        ("done", [int(cycle >= done) for cycle in range(COUNT)]),
         ("fail", [0] * COUNT),
     ]
 
@@ -105,7 +105,8 @@ def first_cycles(elements: list[Element], memory: Memory, told: list[str]) -> li
 
 def picture(march: str, memory: Memory, told: list[str]) -> str:
     """The first cycles of a march, from its printed form and the first lines of `vectors`."""
-    given = first_cycles(elements_of(march), memory, told)
+    elements = elements_of(march)
+    given = first_cycles(elements, memory, told)
     wide = max(
         LEAST,
         round(12 + DIGIT * max((len(word) for command in given if command for word in command), default=1)),
@@ -113,7 +114,7 @@ def picture(march: str, memory: Memory, told: list[str]) -> str:
     shown = march if len(march) <= 60 else march[:57] + "..."
     on = f"{memory.words} words of {memory.bits} bits, latency {memory.latency}"
     title = f"The first {COUNT} cycles of {shown} on {on}"
-    rows = signals(given, memory.latency)
+    rows = signals(given, memory.latency, memory.cycles(elements) - 1)
     made = [text(LEFT, 16, title, 12, more=' font-weight="bold"')]
     for cycle in range(COUNT + 1):
         x = LEFT + cycle * wide
