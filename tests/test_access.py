@@ -6,7 +6,7 @@ import re
 import tempfile
 import unittest
 
-from vidlakost_tools import access_block, standards, tap, tester, vhdl_text
+from vidlakost_tools import access_block, signoff, standards, tap, tester, vhdl_text
 from vidlakost_tools.access_block import Target, Unit
 from vidlakost_tools.fail_log import Entry, read_log
 from vidlakost_tools.march import elements_of
@@ -107,6 +107,12 @@ class Logs(unittest.TestCase):
         for text in ("", "fail 1\n", "cycle 7 returned 14\n", "cycle x returned 4\n"):
             with self.assertRaises(ToolError):
                 self.read(text)
+
+
+class Pages(unittest.TestCase):
+    def test_a_call_to_copy_runs_no_name(self) -> None:
+        self.assertEqual(signoff.locating(["a b;c.m", "d.mem"], False), "vidlakost locate 'a b;c.m' d.mem --tdr HEX")
+        self.assertEqual(signoff.locating(["$(x).chip"], True), "vidlakost locate '$(x).chip' --chip --tdr HEX")
 
 
 class Vhdl(unittest.TestCase):

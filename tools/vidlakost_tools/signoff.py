@@ -5,6 +5,7 @@ import csv
 import dataclasses
 import html
 import io
+import shlex
 from typing import Iterator
 
 from vidlakost_tools import access_block, apb, tap
@@ -147,11 +148,15 @@ def holds(elements: list[Element], memory: Memory, start: int) -> Iterator[str]:
             yield f"{first} to {last}" if last > first else str(first)
 
 
+def locating(words: list[str], is_chip: bool) -> str:
+    """The call that decodes the register, as a shell takes it: who has the page has not chosen the names of the files."""
+    return shlex.join(["vidlakost", "locate", *words, *(["--chip"] if is_chip else []), "--tdr", "HEX"])
+
+
 def tester_page(words: list[str], mhz: float) -> str:
     """How to start a test, how long it takes, what to read, where to hold, how to decode."""
     target, units = tested(words)
     done = target.done or 0
-    what = f"{words[0]} --chip" if target.is_chip else " ".join(words)
     rows = []
     for number, (march, elements, memory, start) in enumerate(units):
         pauses = ", ".join(holds(elements, memory, start)) or "none"
@@ -175,6 +180,6 @@ def tester_page(words: list[str], mhz: float) -> str:
         "<h2>The registers of the APB block</h2>",
         table(["address", "register", "field", "meaning"], registers),
         "<h2>Which cell it was</h2>",
-        f"<pre>vidlakost locate {html.escape(what)} --tdr HEX</pre>",
+        f"<pre>{html.escape(locating(words, target.is_chip))}</pre>",
     ]
     return document(f"To test {target.name}", body)
