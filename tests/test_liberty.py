@@ -40,6 +40,12 @@ class Libraries(unittest.TestCase):
         self.assertEqual((lines[6], left), ("power vss 0", 2))
         self.assertTrue(all(line.startswith("# ") and "\n" not in line for line in lines[7:]))
 
+    def test_a_bundle_is_no_pin(self) -> None:
+        text = CELL.replace("pin(cen)", "bundle(we) { members(we0, we1); direction : input; } pin(cen)")
+        lines, left = pin_names.pins("ram", memory_cell("l.lib", text, "ram")[2])
+        self.assertIn("# we, an input of ? bits: tie we WIDTH'h0, or pass we WIDTH", lines)
+        self.assertEqual(left, 3)
+
     def test_what_is_no_library(self) -> None:
         for text in ("", "library", "library(l){", 'library(l){ x"', "library(l){ a b }", CELL.replace("memory()", "memories()")):
             with self.assertRaises(ToolError, msg=text):

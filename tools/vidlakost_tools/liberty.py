@@ -171,7 +171,8 @@ def pin_of(group: Group, types: dict[str, int]) -> Found:
     if group.kind == "pg_pin":
         return Found(group.name, "inout", power="0" if "ground" in group.said.get("pg_type", "") else "1")
     inner = [group, *group.of("pin")]
-    width = width_of(group, types) if group.kind == "bus" else 1
+    # the pins of a bundle have names of their own, and none has the bundle's
+    width = {"bus": width_of(group, types), "bundle": 0}.get(group.kind, 1)
     found = Found(group.name, next((one.said["direction"] for one in inner if "direction" in one.said), ""), width)
     found.is_clock = any(one.said.get("clock") == "true" for one in inner)
     for one in inner:
