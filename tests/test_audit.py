@@ -229,6 +229,14 @@ class Texts(unittest.TestCase):
                 with self.assertRaisesRegex(ToolError, "no source"):
                     yosys.asked([str(source)])
 
+    def test_brace_in_a_name_hides_no_driver(self) -> None:
+        wires = "module \\t\n  wire \\x}\n  attribute \\src \"a.v:3.1\"\n  wire width 2 \\y\n"
+        for first in ("{ \\x} \\y } 3'110", "{ \\y \\x} } 3'110", "\\y [1] 1'1", "{ \\x} \\y [1:0] } 3'110"):
+            for second in ("\\y 2'00", "{ \\y [1] \\x} [0] } 2'00"):
+                told = yosys.driven_twice(f"{wires}  connect {first}\n  connect {second}\nend\n") or ""
+                self.assertIn(" has two drivers", told, (first, second))
+        self.assertIsNone(yosys.driven_twice(f"{wires}  connect {{ \\x}} \\y [0] }} 2'10\n  connect \\y [1] 1'0\nend\n"))
+
     def test_note_of_a_part_is_no_cell(self) -> None:
         cells = {"one": cell("$not", A=[2], Y=[3]), "part": cell("$scopeinfo")}
         with tempfile.TemporaryDirectory() as name:

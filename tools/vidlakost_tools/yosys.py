@@ -97,7 +97,7 @@ def warnings_in(lines: list[str]) -> list[str]:
 
 def parts_of(signal: str) -> list[str]:
     """The parts of a signal as RTLIL writes it: `\\a`, `\\a [3]`, `\\a [3:0]`, a constant, or several in braces."""
-    return re.findall(r"[\\$][^ ]+(?: \[[0-9:]+\])?|[0-9]+'[^ ]+", signal.strip().strip("{}"))
+    return re.findall(r"[\\$][^ ]+(?: \[[0-9:]+\])?|[0-9]+'[^ ]+", signal)
 
 
 def bits_of(part: str, widths: Mapping[str, int]) -> list[tuple[str, int]]:
@@ -115,7 +115,8 @@ def left_of(line: str) -> str:
     """The left side of a connection."""
     body = line[len("connect ") :]
     if body.startswith("{"):
-        return body[: body.index("}") + 1]
+        # a name may have a brace in it, but none begins with one
+        return body[: body.index(" }") + 2]
     found = re.match(r"[^ ]+(?: \[[0-9:]+\])?", body)
     return found[0] if found else ""
 
