@@ -8,7 +8,7 @@ import unittest
 from vidlakost_tools.faults import Array, Step, read_primitive
 from vidlakost_tools.march import elements_of
 from vidlakost_tools.memory import parse_memory
-from vidlakost_tools.open_run import commands_of, compared, told
+from vidlakost_tools.open_run import Run, Value, commands_of, compared, order_of, told
 from vidlakost_tools.reads import due_numbers
 from vidlakost_tools.tool import ToolError
 
@@ -90,6 +90,14 @@ class OpenRuns(unittest.TestCase):
         self.assertEqual(self.said(MODULE.replace("wdata = 1'd0", "wdata = (rdata & 1'd0)")), "conforms 5")
         self.assertEqual(self.said(MODULE.replace("wdata = 1'd0", "wdata = (rdata ? 1'd0 : 1'd0)")), "conforms 5")
         self.assertEqual(self.said(MODULE.replace("wdata = 1'd0", "wdata = rdata")), "unknown cycle 1 port wdata")
+
+    def test_a_way_through_wires_may_be_long(self) -> None:
+        names = [f"w{number}" for number in range(30000)]
+        zero = Value(1, lambda _: 0)
+        run = Run(assigns=dict.fromkeys(names, zero), reads={one: {other} for one, other in zip(names, [*names[1:], "reset"])})
+        self.assertEqual(order_of(run), names[::-1])
+        run.reads["w29999"] = {"w7"}
+        self.assertRaises(ToolError, order_of, run)
 
     def test_what_is_no_module(self) -> None:
         for old, new in (("t[0]", "u[0]"), ("assign we", "assin we"), ("output done", "output over")):

@@ -226,20 +226,19 @@ def concatenation(parts: list[Value]) -> Value:
 def order_of(module: Run) -> list[str]:
     """The wires and plain outputs, each behind those that it reads."""
     order: dict[str, bool] = {}
-
-    def place(name: str) -> None:
-        if name not in module.assigns or order.get(name):
-            return
-        if name in order:
-            raise ToolError(f"'{name}' stands in a loop of wires")
-        order[name] = False
-        for read in sorted(module.reads[name]):
-            place(read)
-        del order[name]
-        order[name] = True
-
     for name in module.assigns:
-        place(name)
+        # a way through the wires may be longer than calls can be nested
+        todo = [(name, False)]
+        while todo:
+            here, is_ready = todo.pop()
+            if is_ready:
+                del order[here]
+                order[here] = True
+            elif here in module.assigns and not order.get(here):
+                if here in order:
+                    raise ToolError(f"'{here}' stands in a loop of wires")
+                order[here] = False
+                todo += [(here, True), *((read, False) for read in sorted(module.reads[here], reverse=True))]
     return list(order)
 
 
