@@ -6,6 +6,7 @@ import tempfile
 import unittest
 
 from vidlakost_tools import chip, report, text, verilog
+from vidlakost_tools.diagnose import another_kind
 from vidlakost_tools.faults import place_of, read_primitive
 from vidlakost_tools.march import elements_of, length_of, read_elements
 from vidlakost_tools.memory import logarithmic, parse_memory, rows_of, terms_of
@@ -33,6 +34,15 @@ class Texts(unittest.TestCase):
         self.assertEqual(identifier("a$1"), "a$1")
         for name in ("../x", "1a", "", "a b", "a" * 65, "a\n"):
             self.assertRaises(ToolError, identifier, name)
+
+
+class Kinds(unittest.TestCase):
+    def test_what_a_text_looks_like(self) -> None:
+        comments = b"/* a */\n" * 400
+        self.assertEqual(list(another_kind("VERILOG", "verilog", comments + b"`timescale 1ns/1ns\nmodule m;")), [])
+        self.assertEqual(list(another_kind("VERILOG", "verilog", comments + b"module m;")), [])
+        (said,) = another_kind("MARCH", "march", comments + b"module m;")
+        self.assertIn("the file looks like a module of Verilog", said)
 
 
 class Marches(unittest.TestCase):

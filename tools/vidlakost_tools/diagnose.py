@@ -106,12 +106,12 @@ def other_reader(command: str) -> list[str]:
     return ["`vidlakost audit` takes a controller in any Verilog, and with other names of its ports"] if command == "check" else []
 
 
-# how a text of each kind begins
+# how a text of each kind begins; a comment ends at its first end alone, or many of them are tried in each division
 BEGINS = {
     "a march": rb"\s*(?:\{\s*)?(?:any|up|down|del|[v^*])\b\s*[(;}]",
     "a memory description": rb"(?:\s|#[^\n]*\n)*memory\b",
     "a chip file": rb"(?:\s|#[^\n]*\n)*chip\b",
-    "a module of Verilog": rb"(?:\s|//[^\n]*\n|/\*.*?\*/)*module\b",
+    "a module of Verilog": rb"(?:\s|//[^\n]*\n|/\*(?:(?!\*/).)*\*/)*module\b",
     "a list of primitives": rb"(?:\s|#[^\n]*\n)*(?:<|(?:SF|TF|WDF|D?RDF|IRF|CF[a-z]{2}|DRF|one|two|all|dyn[12])\b)",
 }
 KINDS = {
