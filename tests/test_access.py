@@ -103,8 +103,18 @@ class Logs(unittest.TestCase):
         entries, more = self.read("note\ncycle 7 returned 4\nread cycle 9 expected 5 returned D\nmore\n")
         self.assertEqual(([(entry.cycle, entry.word) for entry in entries], more), ([(7, 4), (9, 13)], True))
 
+    def test_the_last_word_of_a_log_is_whole(self) -> None:
+        with tempfile.TemporaryDirectory() as folder:
+            path = pathlib.Path(folder) / "log"
+            path.write_text("cycle 7 returned f8\ncycle 9 returned 0f")
+            self.assertEqual(read_log(str(path), plain("m", 8))[0], [Entry(7, 0xF8), Entry(9, 0xF)])
+            path.write_text("cycle 7 returned f8\ncycle 9 returned f")
+            with self.assertRaisesRegex(ToolError, "the text ends within the word f"):
+                read_log(str(path), plain("m", 8))
+
     def test_what_is_no_log(self) -> None:
-        for text in ("", "fail 1\n", "cycle 7 returned 14\n", "cycle x returned 4\n"):
+        twice, cut = "cycle 7 returned 4\ncycle 7 returned 4\n", "cycle 7 returned 4\ncycle 9 retur"
+        for text in (twice, cut, "", "fail 1\n", "cycle 7 returned 14\n", "cycle x returned 4\n"):
             with self.assertRaises(ToolError):
                 self.read(text)
 

@@ -154,15 +154,22 @@ class Entry:
 
 
 def read_log(path: str, memory: Memory) -> tuple[list[Entry], bool]:
-    """The entries of a log, and whether more came. A line has `cycle C` and `returned W`; other lines are left."""
-    entries, more = [], False
-    for count, line in enumerate(lines_of(read_text(path)), 1):
+    """The entries of a log, and whether more came. A line has `cycle C` and `returned W`; other lines are left. They come in
+    the order of their cycles, and the last one may be cut off where a run was ended."""
+    entries: list[Entry] = []
+    more, text = False, read_text(path)
+    for count, line in enumerate(lines_of(text), 1):
         match = re.search(r"\bcycle ([0-9]{1,10})\b.*\breturned ([0-9a-fA-F]{1,16})\b", line)
         if match:
-            word = int(match[2], 16)
-            if word >> memory.bits:
+            entry = Entry(int(match[1]), int(match[2], 16))
+            if entry.word >> memory.bits:
                 raise ToolError(f"{path}:{count}: {match[2]} is no word of {memory.bits} bits")
-            entries.append(Entry(int(match[1]), word))
+            if entries and entry.cycle <= entries[-1].cycle:
+                told = f"cycle {entry.cycle} stands behind cycle {entries[-1].cycle}: is this the log of two runs?"
+                raise ToolError(f"{path}:{count}: {told}")
+            if text.endswith(match[2]) and len(match[2]) < len(memory.digits(0)):
+                raise ToolError(f"{path}:{count}: the text ends within the word {match[2]}")
+            entries.append(entry)
         elif re.search(r"\bcycle\b", line):
             raise ToolError(f"{path}:{count}: an entry is 'cycle C returned W'; the word is hexadecimal")
         more = more or line.strip() == "more"
