@@ -7,6 +7,7 @@ import os
 import pathlib
 import tempfile
 import unittest
+import unittest.mock
 
 from vidlakost_tools import collar_lanes, macro_pins
 from vidlakost_tools.collar_text import Names, collar
@@ -223,6 +224,15 @@ class Files(unittest.TestCase):
             write_all({self.folder / "a.v": "new\n", self.folder / "b.v": "\ud800"})
         self.assertIn("1\n", (self.folder / "a.v").read_text())
         self.assertEqual(sorted(path.name for path in self.folder.iterdir()), ["a.v", "b.v"])
+
+    def test_a_signal_behind_a_renaming_leaves_nothing(self) -> None:
+        def replaced_and_ended(*names: str) -> None:
+            os.rename(*names)
+            raise SystemExit(143)
+
+        with unittest.mock.patch("os.replace", replaced_and_ended), self.assertRaises(SystemExit):
+            write_all({self.folder / "a.v": "new\n", self.folder / "b.v": "new\n"})
+        self.assertEqual([path.name for path in self.folder.iterdir()], ["a.v"])
 
     def test_a_file_with_two_names_keeps_both(self) -> None:
         (self.folder / "one").write_text("old\n")

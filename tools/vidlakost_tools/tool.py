@@ -4,6 +4,7 @@ A tool calls `start(main)` once. What goes wrong in it (a file that is missing, 
 program refuses, a reader that closes the pipe) becomes a line on standard error and a status there, and nowhere else."""
 from __future__ import annotations
 
+import contextlib
 import io
 import os
 import pathlib
@@ -195,7 +196,9 @@ def write_all(texts: Mapping[pathlib.Path, str], keeps_names: bool = True) -> No
             del staged[path]
     finally:
         for name in staged.values():
-            os.unlink(name)
+            # a signal may have come right behind the renaming
+            with contextlib.suppress(FileNotFoundError):
+                os.unlink(name)
 
 
 def beside(path: pathlib.Path, text: str) -> str:
