@@ -172,6 +172,10 @@ class Graphs(unittest.TestCase):
         self.assertEqual(found, [("high::shown", "told")])
         self.assertEqual([key.name for key in graph.below(graph.clauses[0].uses)], ["Half", "Uses"])
 
+    def test_a_clause_with_a_star_is_one(self) -> None:
+        graph = self.graph(source=("ensures told { Uses n }", "ensures* told { Uses n }"))
+        self.assertEqual([(one.call, one.name, [key.name for key in one.uses]) for one in graph.clauses], [("high::shown", "told", ["Uses"])])
+
     def test_declared_types_stand_on_their_parts(self) -> None:
         graph = self.graph()
         self.assertEqual(self.uses(graph, "Boxed"), ["Inner"])

@@ -480,7 +480,7 @@ def clauses_of(lines: list[str], of_all: bool) -> Iterator[tuple[str, str, str]]
         if found:
             is_public = of_all or found[1] == "pub " or block_is_trait(lines, index)
             call = (f"{owner}::" if owner and line.startswith(" ") else "") + found[2] if is_public else ""
-        starts = re.match(r"(?:(ensures|requires|returns)\b ?(\w*)|ghost (Value|view|invariant|\w+)\s*[:=]) ?\{", stripped)
+        starts = re.match(r"(?:(ensures|requires|returns)\b\*? ?(\w*)|ghost (Value|view|invariant|\w+)\s*[:=]) ?\{", stripped)
         if starts and (call or starts[3]):
             text = stripped
             while text.count("{") > text.count("}") and index + 1 < len(lines):
