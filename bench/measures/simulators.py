@@ -92,6 +92,13 @@ def microseconds(none: Timed, whole: Timed, cycles: int) -> float:
     return max(whole.seconds - none.seconds, 1e-9) / cycles * 1e6
 
 
+def of_loop(call: Timed) -> float:
+    """The time of a closed loop, which ends with `fail` at 0; one that does not, or does not run, is not measured."""
+    if not re.search(r"^fail 0 done \d+$", call.said, re.MULTILINE):
+        raise SystemExit(f"a closed loop fails, or does not run: {call.said}")
+    return call.seconds
+
+
 def ours(name: str, latency: int, folder: pathlib.Path) -> float:
     runs = [best(6, CYCLE_BENCH, folder / f"{name}.v", cycles, latency) for cycles in (0, CYCLES)]
     return microseconds(runs[0], runs[1], CYCLES)
@@ -136,18 +143,19 @@ def clock(folder: pathlib.Path) -> list[Figure]:
 def closed_loop(folder: pathlib.Path) -> list[Figure]:
     """`bench` on 1,680,000 commands, beside simulators that run the module and the memory of `vidlakost testbench`."""
     march, memory, none = write(folder, march=C, memory=memory_text("wide", 24000, 64), none="")
-    loop = best(6, PROGRAM, "bench", march, memory).seconds
+    loop = of_loop(best(6, PROGRAM, "bench", march, memory))
     asked("compile", march, memory, none, folder / "wide_bist.v", folder / "report")
     timed(sys.executable, ROOT / "tools" / "testbench", march, memory, folder)
     files = ["wide_tb.v", "wide_bist.v"]
     made = []
     if shutil.which("iverilog"):
         timed("iverilog", "-g2005", "-o", "tb", *files, folder=folder)
-        made.append(Figure("`bench`, 1,680,000 commands", loop, "s", "Icarus", best(3, "vvp", "-n", "tb", folder=folder).seconds))
+        run = of_loop(best(3, "vvp", "-n", "tb", folder=folder))
+        made.append(Figure("`bench`, 1,680,000 commands", loop, "s", "Icarus", run))
     if has_verilator():
         build = ["verilator", "--binary", "-O3", "-Wno-fatal", "-Wno-lint", "--top-module", "wide_tb", "--Mdir", "built"]
         built = timed(*build, *files, folder=folder).seconds
-        run = best(3, "./built/Vwide_tb", folder=folder).seconds
+        run = of_loop(best(3, "./built/Vwide_tb", folder=folder))
         made.append(Figure("`bench`, 1,680,000 commands", loop, "s", "Verilator", run))
         made.append(Figure("Verilator compiles that testbench", built, "s"))
     return made or [Figure("`bench`, 1,680,000 commands", loop, "s")]
