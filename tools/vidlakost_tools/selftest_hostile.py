@@ -103,6 +103,11 @@ UNSEEN = [
     ([("output we,", "output [3:0] we,")], "a self-test of four has the ports output we of 1 bit"),
     ([("[1:0] addr", "[2:0] addr"), ("addr = word", "addr = {1'b1, word}")], "a self-test of four has the ports output addr of 2"),
 ]
+# what Yosys alone reads so, of a controller that is none to others: what holds `hold`, what stands in front of the module, and
+# the words that refuse it
+OF_YOSYS = [
+    ("wire [31:0] n = abs(0); wire hold = 0;", 'import "DPI-C" function integer abs(integer a);\n', "Found DPI function"),
+]
 
 
 def controller(bench: Bench, edits: list[tuple[str, str]]) -> None:
@@ -142,6 +147,12 @@ def controllers(bench: Bench) -> None:
         controller(bench, edits)
         done = bench.run(["tools/formal", "edited.v", *judged])
         bench.is_so(done.returncode == 1 and said in done.stderr, f"tools/formal says {done.stdout!r} {done.stderr!r} of {said!r}")
+    for more, front, said in OF_YOSYS:
+        controller(bench, [HELD, ("reg failed;", f"reg failed; {more}"), ("module one_hot", front + "module one_hot")])
+        for words in (["tools/plain", "edited.plain.v", "edited.v"], ["tools/formal", "edited.v", *judged]):
+            done = bench.run(words)
+            refused = done.returncode in (1, 2) and said in done.stderr
+            bench.is_so(refused, f"{words[0]} says {done.stdout!r} {done.stderr!r} of {front}{more}")
 
 
 # ---- the launcher
