@@ -105,7 +105,11 @@ UNSEEN = [
 ]
 # what Yosys alone reads so, of a controller that is none to others: what holds `hold`, what stands in front of the module, and
 # the words that refuse it
+CELL = "module \\$and (A, B, Y); parameter {}; input A, B; output Y; assign Y = 0; endmodule\n".format(
+    ", ".join(f"{pin}_{what} = 0" for pin in "ABY" for what in ("SIGNED", "WIDTH"))
+)
 OF_YOSYS = [
+    ("wire hold = second & 1'b1;", CELL, "$"),
     ("wire [31:0] n = abs(0); wire hold = 0;", 'import "DPI-C" function integer abs(integer a);\n', "Found DPI function"),
 ]
 

@@ -352,8 +352,10 @@ def read(files: list[str], options: Mapping[str, Any], folder: pathlib.Path) -> 
     """The sources; a signal with two drivers is refused."""
     asks = asked(files)
     raw, plain, first, parts = (folder / name for name in ("raw.il", "plain.il", "first.il", "first.json"))
-    # without -nodpi Yosys would run a function of C that a source names, in its own process
-    reading = f"{libraries_of(options)}read_verilog -sv -icells -nodpi {sources_of(files)}\nhierarchy -check {top_of(options)}\n"
+    # without -nodpi Yosys would run a function of C that a source names, in its own process; and a module with the name of one
+    # of its cells would take the place of each such cell
+    reading = f"{libraries_of(options)}read_verilog -sv -icells -nodpi {sources_of(files)}\nselect -assert-none $*\n"
+    reading += f"hierarchy -check {top_of(options)}\n"
     said = run(f"{reading}write_rtlil {quoted(raw)}\n", folder, "-q")
     text, had = without_initial(raw.read_bytes().decode("utf-8", "surrogateescape"))
     plain.write_bytes(text.encode("utf-8", "surrogateescape"))
