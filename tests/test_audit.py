@@ -237,6 +237,15 @@ class Texts(unittest.TestCase):
                 self.assertIn(" has two drivers", told, (first, second))
         self.assertIsNone(yosys.driven_twice(f"{wires}  connect {{ \\x}} \\y [0] }} 2'10\n  connect \\y [1] 1'0\nend\n"))
 
+    def test_top_is_the_one_that_may_be_meant(self) -> None:
+        ports = "  wire input 1 \\clk\n  wire width 2 output 2 \\q\n"
+        one = f"module \\one\n{ports}  cell $array:0:2:\\sub \\u\n    connect \\a 1'0\n  end\nend\n"
+        modules = f"{one}module \\sub\n  wire input 1 \\a\nend\nmodule \\helper\n  wire input 1 \\b\nend\n"
+        yosys.refuse_other_top(modules, "one")
+        for more, top, said in ((f"module \\two\n{ports}end\n", "one", "'two' has its ports too"), ("", "sub", "a part of another")):
+            with self.assertRaisesRegex(ToolError, said):
+                yosys.refuse_other_top(modules + more, top)
+
     def test_note_of_a_part_is_no_cell(self) -> None:
         cells = {"one": cell("$not", A=[2], Y=[3]), "part": cell("$scopeinfo")}
         with tempfile.TemporaryDirectory() as name:

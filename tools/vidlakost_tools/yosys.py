@@ -351,17 +351,19 @@ def asked(files: list[str]) -> list[str]:
 def read(files: list[str], options: Mapping[str, Any], folder: pathlib.Path) -> Sources:
     """The sources; a signal with two drivers is refused."""
     asks = asked(files)
-    raw, plain, first, parts = (folder / name for name in ("raw.il", "plain.il", "first.il", "first.json"))
+    given, raw, plain, first, parts = (folder / name for name in ("given.il", "raw.il", "plain.il", "first.il", "first.json"))
     # without -nodpi Yosys would run a function of C that a source names, in its own process; and a module with the name of one
     # of its cells would take the place of each such cell
-    reading = f"{libraries_of(options)}read_verilog -sv -icells -nodpi {sources_of(files)}\nselect -assert-none $*\n"
-    reading += f"hierarchy -check {top_of(options)}\n"
+    reading = f"read_verilog -sv -icells -nodpi {sources_of(files)}\nwrite_rtlil {quoted(given)}\n{libraries_of(options)}"
+    reading += f"select -assert-none $*\nhierarchy -check {top_of(options)}\n"
     said = run(f"{reading}write_rtlil {quoted(raw)}\n", folder, "-q")
     text, had = without_initial(raw.read_bytes().decode("utf-8", "surrogateescape"))
     plain.write_bytes(text.encode("utf-8", "surrogateescape"))
     begin = f"read_rtlil {quoted(plain)}\nsetattr -mod -unset keep_hierarchy\nproc -noopt -norom\nflatten\n"
     said += run(f"{begin}write_rtlil {quoted(first)}\nwrite_json {quoted(parts)}\ncheck\n", folder, "-q")
     name, module = top_module(parts)
+    if "--top" not in options:
+        refuse_other_top(given.read_bytes().decode("utf-8", "replace"), name)
     twice = driven_twice(first.read_bytes().decode("utf-8", "replace")) or driven_constant(module)
     if twice:
         raise ToolError(twice, 1)
@@ -373,6 +375,21 @@ def read(files: list[str], options: Mapping[str, Any], folder: pathlib.Path) -> 
     beyond.write_text(BEYOND)
     script = f"{begin}{dropped}setattr -unset init w:*\n{OPEN}techmap -map {quoted(beyond)} t:$shiftx t:$shift\ncheck -assert\n"
     return Sources(script, name, module, warnings)
+
+
+def refuse_other_top(rtlil: str, top: str) -> None:
+    """Refuses a top that Yosys chose where it is a part of another module, or another top has its ports too."""
+    ports: dict[str, set[str]] = {}
+    parts: set[str] = set()
+    for text in re.split(r"^module ", rtlil, flags=re.MULTILINE)[1:]:
+        name = text.split("\n", 1)[0]
+        ports[name] = set(re.findall(r"^  wire (?:.* )?(?:input|output|inout) [0-9]+ (\S+)$", text, re.MULTILINE))
+        parts |= set(re.findall(r"^  cell (?:\$array:[0-9:]+)?(\S+) ", text, re.MULTILINE))
+    chosen = f"\\{top}"
+    same = [name for name in ports if name not in parts | {chosen} and ports[name] >= ports.get(chosen, set())]
+    if chosen in parts or same:
+        other = f"{shown(same[0][1:])} has its ports too" if same else "it is a part of another module"
+        raise ToolError(f"{shown(top)} need not be the top that is meant, since {other}: --top names one")
 
 
 def top_module(path: pathlib.Path) -> tuple[str, dict[str, Any]]:
