@@ -210,7 +210,7 @@ class Texts(unittest.TestCase):
         typed = "typedef struct packed { logic [1:0] a; } t; t s;"
         with tempfile.TemporaryDirectory() as name:
             source = pathlib.Path(name) / "a.v"
-            for text in ("(* \\wand *) wire a;", "(* a = (1), wor *) wire a;", f"{typed} assign b = s.a[i];", f"{typed} x = |s.a [i +: 2];"):
+            for text in ("(* \\wand *) wire a;", "(* a = (1), wor *) wire a;", "(* hierconn *) wire \\u.x ;", f"{typed} assign b = s.a[i];", f"{typed} x = |s.a [i +: 2];"):
                 source.write_text(text)
                 with self.assertRaises(ToolError, msg=text):
                     yosys.asked([str(source)])

@@ -108,7 +108,10 @@ UNSEEN = [
 CELL = "module \\$and (A, B, Y); parameter {}; input A, B; output Y; assign Y = 0; endmodule\n".format(
     ", ".join(f"{pin}_{what} = 0" for pin in "ABY" for what in ("SIGNED", "WIDTH"))
 )
+SUB_OPEN = "module sub(input zero, output o); wire x; assign o = x | zero; endmodule\n"
 OF_YOSYS = [
+    ("(* hierconn *) wire \\u.x ; assign \\u.x = 0; wire hold; sub u(.zero(1'b0), .o(hold));", SUB_OPEN, "means something to Yosys alone"),
+    ("wire zero = 0, x = 0; wire hold; (* wildcard_port_conns *) sub u(.o(hold));", SUB_OPEN, "means something to Yosys alone"),
     ("wire hold = second & 1'b1;", CELL, "$"),
     ("wire [31:0] n = abs(0); wire hold = 0;", 'import "DPI-C" function integer abs(integer a);\n', "Found DPI function"),
 ]

@@ -274,8 +274,10 @@ READINGS = [
     for pattern in (r'"(?:\\.|[^"\\\n])*"|//[^\n]*|/\*.*?\*/', r'\\[!-~]+|"(?:\\.|[^"\\])*"|//[^\n]*|/\*.*?\*/')
 ]
 ASKED = re.compile(r"\b(YOSYS|SYNTHESIS)\b", re.ASCII)
-# attributes that make another net of one, or drive it, for Yosys alone
-ATTRIBUTE = re.compile(r"\(\*(?!\s*\))(?:(?!\*\)).)*?\b(defaultvalue|wand|wor)\b", re.DOTALL)
+# attributes that make another net of one, or drive it, and that put other cells or connections in a place, for Yosys alone
+ATTRIBUTE = re.compile(
+    r"\(\*(?!\s*\))(?:(?!\*\)).)*?\b(defaultvalue|wand|wor|hierconn|via_celltype|wildcard_port_conns)\b", re.DOTALL
+)
 STRUCTURE = re.compile(r"\b(struct|union)\b")
 # a bit or a part of a member, whose place is no number
 MEMBER = re.compile(r"[\w\])]\s*\.\s*\w+\s*\[[^\]:]*[A-Za-z_]")
