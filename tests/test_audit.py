@@ -246,6 +246,18 @@ class Texts(unittest.TestCase):
             with self.assertRaisesRegex(ToolError, said):
                 yosys.refuse_other_top(modules + more, top)
 
+    def test_names_that_are_one_to_yosys(self) -> None:
+        for text in (
+            "wire \\$random = 0; x = $random;",
+            "wire \\u.x = 0; sub u(.o(o)); y = u . x;",
+            "wire \\g[0].x = 0; y = g[0].x;",
+            "wire \\p::x = 0; y = p::x;",
+        ):
+            with self.assertRaisesRegex(ToolError, "'a.v':1: .* is one with a name behind a backslash", msg=text):
+                yosys.refuse_one_name("a.v", text)
+        for text in ("sub u(.a(b), .c(d)); wire \\u1.x ; x = 1.5;", 'wire \\a.b ; \\$_AND_ u(.A(a)); $display("a.b"); // a.b', "y = u.x;"):
+            yosys.refuse_one_name("a.v", text)
+
     def test_note_of_a_part_is_no_cell(self) -> None:
         cells = {"one": cell("$not", A=[2], Y=[3]), "part": cell("$scopeinfo")}
         with tempfile.TemporaryDirectory() as name:

@@ -281,6 +281,11 @@ ATTRIBUTE = re.compile(
 STRUCTURE = re.compile(r"\b(struct|union)\b")
 # a bit or a part of a member, whose place is no number
 MEMBER = re.compile(r"[\w\])]\s*\.\s*\w+\s*\[[^\]:]*[A-Za-z_]")
+# a name behind a backslash; and without one a name of the system or of something elsewhere
+ESCAPED = re.compile(r"\\([!-~]+)")
+ELSEWHERE = re.compile(
+    r"(?<![\w$\\.:])(?:\$[A-Za-z_][\w$]*|[A-Za-z_][\w$]*(?:\s*\[[^\]\n]*\])?(?:\s*(?:\.|::)\s*[A-Za-z_][\w$]*(?:\s*\[[^\]\n]*\])?)+)"
+)
 INCLUDED = re.compile(r"`include\s*(\S*)")
 
 
@@ -342,12 +347,24 @@ def asked(files: list[str]) -> list[str]:
     if any(STRUCTURE.search(text) for _, source in sources for text in blanked(source)):
         refuse_found(MEMBER, sources, "a part of a structure's member, beyond which Yosys takes another member's bit")
     for file, source in sources:
+        refuse_one_name(file, source)
         for match in (match for text in blanked(source) for match in ASKED.finditer(text)):
             place = f"{shown(file)}:{source.count(chr(10), 0, match.start()) + 1}"
             if match[1] == "YOSYS":
                 raise ToolError(f"{place}: it asks whether Yosys reads it, and any other tool reads something else", 1)
             warnings.append(f"{place}: it is read as with SYNTHESIS; a simulator may read something else")
     return list(dict.fromkeys(warnings))
+
+
+def refuse_one_name(file: str, source: str) -> None:
+    """Refuses a name that is one with another behind a backslash to Yosys alone, which takes `$random` for the name of a wire
+    `\\$random`, and `u.x` for that of a wire `\\u.x`."""
+    for text in blanked(source):
+        escaped = set(ESCAPED.findall(text))
+        for match in ELSEWHERE.finditer(text) if escaped else ():
+            if re.sub(r"\s", "", match[0]) in escaped:
+                place = f"{shown(file)}:{source.count(chr(10), 0, match.start()) + 1}"
+                raise ToolError(f"{place}: {shown(match[0])} is one with a name behind a backslash to Yosys alone", 1)
 
 
 def read(files: list[str], options: Mapping[str, Any], folder: pathlib.Path) -> Sources:
