@@ -237,6 +237,12 @@ class Texts(unittest.TestCase):
                 self.assertIn(" has two drivers", told, (first, second))
         self.assertIsNone(yosys.driven_twice(f"{wires}  connect {{ \\x}} \\y [0] }} 2'10\n  connect \\y [1] 1'0\nend\n"))
 
+    def test_fraction_that_becomes_0_is_refused(self) -> None:
+        said = "a.v:14: Warning: converting real value {} to binary {}."
+        with self.assertRaisesRegex(ToolError, "^a.v:14: the number 4.0e-01 is no 0"):
+            yosys.refuse_rounded(["a line", said.format("4.0e-01", "0")])
+        yosys.refuse_rounded([said.format("1.5e+00", "10"), said.format("0.0e+00", "0")])
+
     def test_top_is_the_one_that_may_be_meant(self) -> None:
         ports = "  wire input 1 \\clk\n  wire width 2 output 2 \\q\n"
         one = f"module \\one\n{ports}  cell $array:0:2:\\sub \\u\n    connect \\a 1'0\n  end\nend\n"

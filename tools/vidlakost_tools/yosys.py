@@ -376,6 +376,7 @@ def read(files: list[str], options: Mapping[str, Any], folder: pathlib.Path) -> 
     reading = f"read_verilog -sv -icells -nodpi {sources_of(files)}\nwrite_rtlil {quoted(given)}\n{libraries_of(options)}"
     reading += f"select -assert-none $*\nhierarchy -check {top_of(options)}\n"
     said = run(f"{reading}write_rtlil {quoted(raw)}\n", folder, "-q")
+    refuse_rounded(said)
     text, had = without_initial(raw.read_bytes().decode("utf-8", "surrogateescape"))
     plain.write_bytes(text.encode("utf-8", "surrogateescape"))
     begin = f"read_rtlil {quoted(plain)}\nsetattr -mod -unset keep_hierarchy\nproc -noopt -norom\nflatten\n"
@@ -394,6 +395,14 @@ def read(files: list[str], options: Mapping[str, Any], folder: pathlib.Path) -> 
     beyond.write_text(BEYOND)
     script = f"{begin}{dropped}setattr -unset init w:*\n{OPEN}techmap -map {quoted(beyond)} t:$shiftx t:$shift\ncheck -assert\n"
     return Sources(script, name, module, warnings)
+
+
+def refuse_rounded(said: list[str]) -> None:
+    """Refuses a number with a fraction of which Yosys makes 0: as a condition it is true to any other tool."""
+    for line in said:
+        found = re.match(r"(.*?):? ?Warning: converting real value (\S+) to binary 0+\.", line)
+        if found and float(found[2]):
+            raise ToolError(f"{found[1]}: the number {found[2]} is no 0, and Yosys makes one of it", 1)
 
 
 def refuse_other_top(rtlil: str, top: str) -> None:
