@@ -210,11 +210,11 @@ class Texts(unittest.TestCase):
         typed = "typedef struct packed { logic [1:0] a; } t; t s;"
         with tempfile.TemporaryDirectory() as name:
             source = pathlib.Path(name) / "a.v"
-            for text in ("(* \\wand *) wire a;", "(* a = (1), wor *) wire a;", "(* hierconn *) wire \\u.x ;", f"{typed} assign b = s.a[i];", f"{typed} x = |s.a [i +: 2];"):
+            for text in ("(* \\wand *) wire a;", "(* a = (1), wor *) wire a;", "(* hierconn *) wire \\u.x ;", f"{typed} assign b = s.a[i];", f"{typed} x = |s.a [i +: 2];", f"{typed} x = s.a[2];", f"{typed} x = |s.a[2:1];", "struct packed { logic [W-1:0] w; } s; x = s.w[1];", "struct packed { logic [3:1] w; } s; x = s.w[0];", f"{typed} logic [W:0] a; x = s.a[1]; // [9:0] a"):
                 source.write_text(text)
                 with self.assertRaises(ToolError, msg=text):
                     yosys.asked([str(source)])
-            for text in ("always @(*) begin end wand w;", "(* keep *) wire wor_x;", f"{typed} sub u(.a(x[i])); x = s.a[1];", "a = u.b[i];"):
+            for text in ("always @(*) begin end wand w;", "(* keep *) wire wor_x;", f"{typed} sub u(.a(x[i])); x = s.a[1];", "a = u.b[i];", "struct packed { logic [W-1:0] w; } s; x = s.w[0];"):
                 source.write_text(text)
                 self.assertEqual(yosys.asked([str(source)]), [], text)
 

@@ -110,6 +110,7 @@ CELL = "module \\$and (A, B, Y); parameter {}; input A, B; output Y; assign Y = 
 )
 SUB_OPEN = "module sub(input zero, output o); wire x; assign o = x | zero; endmodule\n"
 OF_YOSYS = [
+    ("struct packed { logic [1:0] b; logic [1:0] a; } n; always @(posedge clk) n <= 0; wire hold = n.a[2];", "", "another member's bit"),
     ("wire hold = second && 0.4;", "", "is no 0, and Yosys makes one of it"),
     ("wire [31:0] \\$random = 0; wire hold = $random != 0;", "", "is one with a name behind a backslash"),
     ("(* hierconn *) wire \\u.x ; assign \\u.x = 0; wire hold; sub u(.zero(1'b0), .o(hold));", SUB_OPEN, "means something to Yosys alone"),

@@ -281,6 +281,8 @@ ATTRIBUTE = re.compile(
 STRUCTURE = re.compile(r"\b(struct|union)\b")
 # a bit or a part of a member, whose place is no number
 MEMBER = re.compile(r"[\w\])]\s*\.\s*\w+\s*\[[^\]:]*[A-Za-z_]")
+BEYOND_MEMBER = "a part of a structure's member, beyond which Yosys takes another member's bit"
+SELECTED = re.compile(r"\.\s*(\w+)\s*\[([^\]]*)\]")
 # a name behind a backslash; and without one a name of the system or of something elsewhere
 ESCAPED = re.compile(r"\\([!-~]+)")
 ELSEWHERE = re.compile(
@@ -345,7 +347,9 @@ def asked(files: list[str]) -> list[str]:
     warnings, sources = [], with_included(files)
     refuse_found(ATTRIBUTE, sources, "an attribute that means something to Yosys alone")
     if any(STRUCTURE.search(text) for _, source in sources for text in blanked(source)):
-        refuse_found(MEMBER, sources, "a part of a structure's member, beyond which Yosys takes another member's bit")
+        refuse_found(MEMBER, sources, BEYOND_MEMBER)
+        for file, source in sources:
+            refuse_members(file, source, "\n".join(text for _, other in sources for text in blanked(other)))
     for file, source in sources:
         refuse_one_name(file, source)
         for match in (match for text in blanked(source) for match in ASKED.finditer(text)):
@@ -354,6 +358,20 @@ def asked(files: list[str]) -> list[str]:
                 raise ToolError(f"{place}: it asks whether Yosys reads it, and any other tool reads something else", 1)
             warnings.append(f"{place}: it is read as with SYNTHESIS; a simulator may read something else")
     return list(dict.fromkeys(warnings))
+
+
+def refuse_members(file: str, source: str, whole: str) -> None:
+    """Refuses a bit or a part of a member that does not lie in each range with which the sources declare the name; where one of
+    these is no numbers, all but bit 0."""
+    for text in blanked(source):
+        for match in SELECTED.finditer(text):
+            ends = [int(number) for number in re.findall(r"[0-9]+", match[2])]
+            ranges = re.findall(rf"\[([^\]]*)\]\s*(?:\w+\s*,\s*)*{match[1]}\b", whole)
+            declared = [re.fullmatch(r"\s*([0-9]+)\s*:\s*([0-9]+)\s*", one) for one in ranges]
+            is_beyond = any(one and not int(one[2]) <= end <= int(one[1]) for one in declared for end in ends)
+            is_open = any(ends) and (not declared or None in declared)
+            if is_beyond or is_open or not re.fullmatch(r"\s*[0-9]+\s*(?::\s*[0-9]+\s*)?", match[2]):
+                raise ToolError(f"{shown(file)}:{source.count(chr(10), 0, match.start()) + 1}: {BEYOND_MEMBER}", 1)
 
 
 def refuse_one_name(file: str, source: str) -> None:
