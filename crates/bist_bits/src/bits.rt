@@ -5,7 +5,7 @@ use crate::all_ones;
 use std::marker::Model;
 
 /// A bit vector: a width from 1 to 64 and a value below two to the width.
-#[derive(Clone, Copy, Debug, PartialEq, Eq)]
+#[derive(Clone, Copy, PartialEq, Eq)]
 pub struct Bits {
     width: u8,
     value: u64,

@@ -6,7 +6,7 @@ use crate::byte_set::ByteSet;
 use std::marker::Model;
 
 /// A place in a text that goes from its start to its end.
-#[derive(Debug, Drop)]
+#[derive(Drop)]
 pub struct Cursor<'a> {
     bytes: &'a [u8],
     place: usize,

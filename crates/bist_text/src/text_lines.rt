@@ -3,7 +3,7 @@ ghost use Rattle.std.specs.List.{position_or_len};
 ghost use Rattle.std.specs.Char.{is_newline};
 
 /// A line of a text.
-#[derive(Clone, Copy, Debug)]
+#[derive(Clone, Copy)]
 pub struct Line<'a> {
     /// Its number, from 1 on.
     pub number: usize,
@@ -16,7 +16,7 @@ pub struct Line<'a> {
 }
 
 /// The lines of a text, one after another. The bytes after the last line feed are a line where there are any.
-#[derive(Debug, Drop)]
+#[derive(Drop)]
 pub struct Lines<'a> {
     rest: &'a [u8],
     number: usize,

@@ -8,14 +8,14 @@ use fault_core::{Act, Prim, Sense};
 
 /// The contents of the two cells of an instance: its aggressor's, or a bystander's where it has no
 /// aggressor, and its victim's.
-#[derive(Clone, Copy, Debug, PartialEq, Eq)]
+#[derive(Clone, Copy, PartialEq, Eq)]
 pub struct Pair {
     pub a: bool,
     pub v: bool,
 }
 
 /// One of the two cells.
-#[derive(Clone, Copy, Debug, PartialEq, Eq)]
+#[derive(Clone, Copy, PartialEq, Eq)]
 pub enum Side {
     /// The aggressor, or the bystander.
     A,

@@ -5,7 +5,7 @@ use arrayvec::{ArrayString, ArrayVec};
 use std::marker::Model;
 
 /// A memory of a chip.
-#[derive(Clone, Copy, Debug, Default)]
+#[derive(Clone, Copy, Default)]
 pub struct ChipUnit {
     /// What its test weighs against the budget.
     pub weight: u32,

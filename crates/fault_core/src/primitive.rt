@@ -5,7 +5,7 @@ ghost use Rattle.fault_core.specs.inner.Testing.{is_fault_of, pauses_alone};
 use std::marker::Model;
 
 /// What is done to a cell: a write of a bit, a read, or nothing over a pause, in which a cell can lose its content.
-#[derive(Clone, Copy, Debug, PartialEq)]
+#[derive(Clone, Copy, PartialEq)]
 pub enum Act {
     Write(bool),
     Read,
@@ -13,7 +13,7 @@ pub enum Act {
 }
 
 /// A state, and at most one act.
-#[derive(Clone, Copy, Debug, PartialEq)]
+#[derive(Clone, Copy, PartialEq)]
 pub struct Sense {
     pub state: bool,
     pub act: Option<Act>,

@@ -10,7 +10,7 @@ use arrayvec::ArrayVec;
 
 /// The classes of static unlinked faults, in the order in which they are printed: those of one cell, those of
 /// two, and that of pauses.
-#[derive(Clone, Copy, Debug, PartialEq)]
+#[derive(Clone, Copy, PartialEq)]
 pub enum Class {
     /// State fault: the cell doesn't hold a state.
     SF,

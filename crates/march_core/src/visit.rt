@@ -3,7 +3,7 @@ ghost use Rattle.march_core.specs.Addresses.{direction_of, address_at};
 
 /// A read that didn't answer what the march expects: its element, its cell and its number in the element,
 /// all counted from 0.
-#[derive(Clone, Copy, Debug, PartialEq, Eq)]
+#[derive(Clone, Copy, PartialEq, Eq)]
 pub struct Miss {
     pub element: usize,
     pub address: usize,

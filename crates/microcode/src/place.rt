@@ -7,7 +7,7 @@ use crate::code::Instr;
 
 /// How often the parts of a march are gone through: an element at each word, a pause for so many cycles, and the whole in so
 /// many runs.
-#[derive(Clone, Copy, Debug)]
+#[derive(Clone, Copy)]
 pub struct Extent {
     pub words: u32,
     pub pause: u32,
@@ -15,7 +15,7 @@ pub struct Extent {
 }
 
 /// Where in a code its run stands: four digits, and the number of the element's first instruction.
-#[derive(Clone, Copy, Debug)]
+#[derive(Clone, Copy)]
 pub struct Place {
     pub first: usize,
     pub oper: usize,

@@ -1,7 +1,7 @@
 use cell_machine::Pair;
 
 /// Where an instance stands in an array of two cells.
-#[derive(Clone, Copy, Debug, PartialEq, Eq)]
+#[derive(Clone, Copy, PartialEq, Eq)]
 pub enum Placement {
     /// The victim of a primitive of one cell at 0.
     Alone,
@@ -13,7 +13,7 @@ pub enum Placement {
 
 /// A final pair that the march lets through, with the least direction word that does so. Element `i` stands at
 /// bit `63-i` of the word, with 1 for downward.
-#[derive(Clone, Copy, Debug, PartialEq, Eq)]
+#[derive(Clone, Copy, PartialEq, Eq)]
 pub struct Survivor {
     pub pair: Pair,
     pub directions: u64,

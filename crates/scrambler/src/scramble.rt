@@ -10,7 +10,7 @@ use std::marker::Model;
 /// An invertible matrix and a constant, with the way back.
 ///
 /// Contracts see the matrix alone: its width, its rows and its constant.
-#[derive(Debug, Drop)]
+#[derive(Drop)]
 pub struct Scramble {
     matrix: Matrix,
     vectors: [u16; 16],

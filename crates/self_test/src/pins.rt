@@ -9,7 +9,7 @@ use crate::naming::is_input;
 use verilog_tree::Port;
 
 /// The places of the outputs among the outputs, and the order of the two inputs besides the clock.
-#[derive(Clone, Copy, Debug)]
+#[derive(Clone, Copy)]
 pub struct Pins {
     /// Whether `reset` stands before `rdata`.
     pub reset_first: bool,

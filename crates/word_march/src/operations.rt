@@ -1,5 +1,5 @@
 /// An operation on a whole word.
-#[derive(Clone, Copy, Debug, PartialEq, Eq)]
+#[derive(Clone, Copy, PartialEq, Eq)]
 pub struct WordOp {
     /// Whether it writes; else it reads.
     pub write: bool,
@@ -10,7 +10,7 @@ pub struct WordOp {
 }
 
 /// A command at the memory's port.
-#[derive(Clone, Copy, Debug, PartialEq, Eq)]
+#[derive(Clone, Copy, PartialEq, Eq)]
 pub struct PortOp {
     /// Whether it writes; else it reads.
     pub write: bool,

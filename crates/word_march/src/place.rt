@@ -13,7 +13,7 @@ use march_core::{March, Op, Order};
 use memory_desc::Memory;
 
 /// Where in the operations of a march on a memory an iterator stands.
-#[derive(Clone, Copy, Debug)]
+#[derive(Clone, Copy)]
 pub struct Place {
     pub background: usize,
     pub element: usize,
