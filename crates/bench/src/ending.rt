@@ -2,7 +2,7 @@ use self_test::RunFault;
 use word_device::Device;
 
 /// The first read that was not answered by its expected word.
-#[derive(Clone, Copy, PartialEq, Eq)]
+#[derive(Clone, Copy)]
 pub struct Seen {
     /// The cycle in which its answer stood on `rdata`; the reset is cycle 0.
     pub cycle: u32,

@@ -8,7 +8,7 @@ use memory_desc::MemoryFault;
 use verilog_tree::{Name, ReadFault, TreeFault};
 
 /// What the program ends with.
-#[derive(Clone, Copy, PartialEq, Eq)]
+#[derive(Clone, Copy)]
 pub struct Ended {
     pub status: u8,
 }

@@ -1,6 +1,6 @@
 /// A set of bytes: byte `b` below 128 is in it where bit `b` of `low` is 1, and any other byte where bit
 /// `b - 128` of `high` is 1.
-#[derive(Clone, Copy, PartialEq, Eq)]
+#[derive(Clone, Copy)]
 pub struct ByteSet {
     pub low: u128,
     pub high: u128,

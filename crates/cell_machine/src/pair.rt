@@ -15,7 +15,7 @@ pub struct Pair {
 }
 
 /// One of the two cells.
-#[derive(Clone, Copy, PartialEq, Eq)]
+#[derive(Clone, Copy)]
 pub enum Side {
     /// The aggressor, or the bystander.
     A,

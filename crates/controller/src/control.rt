@@ -18,7 +18,7 @@ use std::marker::Model;
 
 /// The values of the outputs in a cycle. `addr` is the logical address and `wdata` the word as it stands at the port; both
 /// mean something in a cycle with `en` alone, and `wdata` in that of a write.
-#[derive(Clone, Copy, PartialEq, Eq)]
+#[derive(Clone, Copy)]
 pub struct Ports {
     pub en: bool,
     pub we: bool,

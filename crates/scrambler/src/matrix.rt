@@ -2,7 +2,7 @@
 ///
 /// Bit `j` of row `i` is 1 where the row names index bit `j`; bit `i` of the constant belongs to row `i`.
 /// The rows from `width` on play no part.
-#[derive(Clone, Copy, PartialEq, Eq)]
+#[derive(Clone, Copy)]
 pub struct Matrix {
     pub width: u8,
     pub rows: [u16; 16],

@@ -6,7 +6,7 @@ use crate::shape::Shape;
 use fault_core::Prim;
 
 /// A bit of a word, by the word's physical index.
-#[derive(Clone, Copy, PartialEq, Eq)]
+#[derive(Clone, Copy)]
 pub struct Place {
     pub word: u32,
     pub bit: u8,
@@ -22,7 +22,7 @@ pub struct Planted {
 }
 
 /// What stands at the port in a cycle.
-#[derive(Clone, Copy, PartialEq, Eq)]
+#[derive(Clone, Copy)]
 pub struct PortCmd {
     /// Whether the memory is enabled; else the cycle is idle.
     pub en: bool,
