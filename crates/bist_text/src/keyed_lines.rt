@@ -117,7 +117,6 @@ pub fn end(text: &[u8]) -> Read<'_, ()>
 }
 
 /// How many bytes from the front on a word of a class can have.
-#[tactic(auto, using(crate::proofs::keyed::Steps::fit_on, crate::proofs::keyed::Steps::fit_stop, crate::proofs::keyed::Steps::fit_end))]
 fn fit_len(text: &[u8], class: Class) -> usize
     ensures value { result ≡ length_of (fits_of class) 0 text.now }
     ensures within { result ≤ length text.now }
