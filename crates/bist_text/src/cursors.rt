@@ -82,7 +82,6 @@ impl<'a> Cursor<'a> {
 }
 
 /// How many bytes from the front on are in a set.
-#[tactic(auto, using(crate::proofs::Runs::run_on, crate::proofs::Runs::run_stop, crate::proofs::Runs::run_end))]
 fn run_len(bytes: &[u8], set: ByteSet) -> usize
     ensures value { result ≡ prefix_len (in_set set) bytes.now }
     ensures within { result ≤ length bytes.now }
