@@ -1,5 +1,7 @@
 -- Steps of the loops over what is left of a line.
-use Rattle.bist_text.proofs.keyed.Common.{Bool, Class, List, [], ap, arith, behind_of, drop, drop-cons, false, front_of, gap_of, get_or, if◌then◌else◌, is_blank, later, length, length-drop, length_of, refl, spaced, stuck, subst, suc, sym, take, take_all, took, true, word_of, ℕ, ◌+◌, ◌-◌, ◌<◌, ◌∙◌, ◌∷◌, ◌≡◌, ◌≤◌}
+use Rattle.bist_text.proofs.keyed.Common.{Bool, Class, List, None, Option, Read, Word, [], ap, arith, behind_of, by_letter, drop, drop-cons, false, front_of, gap_of, get_or, if◌then◌else◌, is_blank, key_from, later, length, length-drop, length_of, refl, spaced, spell, stuck, subst, suc, sym, take, take_all, took, true, word_of, ℕ, ◌+◌, ◌-◌, ◌<◌, ◌∙◌, ◌∷◌, ◌≡◌, ◌≤◌}
+use Rattle.bist_text.specs.declared.keywords.Letters.{Letters}
+use Rattle.bist_text.specs.declared.keywords.Spelled.{Spelled}
 
 at_head : (b : List ℕ) (i : ℕ) → i < length b → drop i b ≡ get_or b i 0 ∷ drop (i + 1) b
 at_head b i l = (let e : suc i ≡ i + 1 = omega arith in drop-cons b i 0 l ∙ ap (λ (k : ℕ). get_or b i 0 ∷ drop k b) e)
@@ -93,3 +95,12 @@ word_some fits (c ∷ b) x y n h z p q = go (fits 0 c) refl
         ∙ ap (λ (w : List ℕ). took x w) right
 
 -- ---- first words
+
+pub rest_of : (b : List ℕ) (i : ℕ) → drop i b ≡ take (length b - i) (drop i b)
+rest_of b i = sym (take_all (length b - i) (drop i b) (omega (arith, length-drop i b)))
+
+pub key_read : {N : Type 0} (ws : List (Word N)) (q : Letters) (b : List ℕ) (i : ℕ) (o : Option (Spelled N)) (x : Read N) → i < length b → o ≡ spell ws q (get_or b i 0) → key_from ws q (drop i b) ≡ x → by_letter o (get_or b i 0) (drop (i + 1) b) (λ p. key_from ws p (drop (i + 1) b)) ≡ x
+key_read ws q b i o x l e h = ap (λ o. by_letter o (get_or b i 0) (drop (i + 1) b) (λ p. key_from ws p (drop (i + 1) b))) e ∙ sym (ap (key_from ws q) (at_head b i l)) ∙ h
+
+pub key_stuck : {N : Type 0} (ws : List (Word N)) (q : Letters) (b : List ℕ) (i : ℕ) (x : Read N) → i < length b → None ≡ spell ws q (get_or b i 0) → key_from ws q (drop i b) ≡ x → stuck (drop i b) ≡ x
+key_stuck ws q b i x l e h = ap stuck (at_head b i l) ∙ key_read ws q b i None x l e h
