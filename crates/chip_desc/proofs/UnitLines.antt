@@ -1,10 +1,13 @@
 -- The units of the lines of a text.
 use Rattle.chip_desc.proofs.Common.{All, Bool, ChipUnit, Content, IsFile, IsUnit, List, None, Option, Some, Statement, TextLine, TooManyUnits, UnitDescription, [], and_parts, ap, arith, budget, cond, false, find, if◌then◌else◌, is_file, is_formed, is_heavier, is_key, is_out_of_range, is_outside, kind_of, leb-true, length, length-append, length-map, list_all, lt-ltb, ltb-false, map, name, nat_le, nat_lt, none_at, not, or_parts, out_of_range, plain_unit, refl, said, stated, statements, suc, sym, too_many, true, unit, unit_in, unit_of, unit_said, units_said, version, zero, ℕ, ◌&&◌, ◌++◌, ◌+◌, ◌<◌, ◌==◌, ◌||◌, ◌∙◌, ◌∷◌, ◌≡◌, ◌≤◌}
+use Rattle.std.proofs.Common.{append-nil, le-ltb}
 use Rattle.std.specs.Option.{option_map}
 use Rattle.std.specs.Str.{IsAscii}
 use Rattle.std.proofs.lemmas.List.Elements.{All-cons, All-nil}
 use Rattle.chip_desc.specs.Chips.{is_file_byte}
+use Rattle.chip_desc.specs.ChipTable.{at_line}
 use Rattle.chip_desc.specs.declared.content.UnitLine.{UnitLine}
+use Rattle.chip_desc.specs.declared.fault.ChipFault.TheVariants.{OutOfRange}
 use Rattle.chip_desc.specs.declared.content.Key.TheVariants.{Unit as OfUnit}
 use Rattle.chip_desc.proofs.OneText.{formed_said}
 
@@ -103,6 +106,34 @@ unit_ranged c u e f o =
     let s = or_parts (is_outside u.weight) (nat_lt 255 (length u.march)) r.0 in
     (record { bytes = p.0; short = ltb-false 255 (length u.march) s.1 }, record { bytes = p.1; short = ltb-false 255 (length u.memory) r.1 })
 
+pushed : (us : List ChipUnit) (u : ChipUnit) (ds : List UnitDescription) → map unit_of (us ++ u ∷ []) ++ ds ≡ map unit_of us ++ unit_of u ∷ ds
+pushed [] u ds = refl
+pushed (v ∷ us) u ds = ap (λ ds. unit_of v ∷ ds) (pushed us u ds)
+
+-- behind a line that says no unit, and behind any line
+pub no_unit : {before left : List TextLine} {l : TextLine} → before ≡ l ∷ left → None ≡ unit_said (said l.text) → units_said (statements before) ≡ units_said (statements left)
+no_unit {before} {left} {l} step h = ap (λ ls. units_said (statements ls)) step ∙ go (said l.text) h
+  where
+    go : (v : Option Content) → None ≡ unit_said v → units_said (stated l.number v ++ statements left) ≡ units_said (statements left)
+    go None h = refl
+    go (Some (unit w m f)) h = (let z : ⊥ = cc in absurd z)
+    go (Some c) h = refl
+
+pub still_ranged : {before left : List TextLine} {l : TextLine} → before ≡ l ∷ left → out_of_range (statements before) ≡ None → out_of_range (statements left) ≡ None
+still_ranged {before} {left} {l} step r = go (said l.text) (sym (ap (λ ls. out_of_range (statements ls)) step) ∙ r)
+  where
+    go : (v : Option Content) → out_of_range (stated l.number v ++ statements left) ≡ None → out_of_range (statements left) ≡ None
+    go None r = r
+    go (Some c) r =
+        let s : Statement = record { line = l.number; content = c } in
+        ap (at_line (λ n. OutOfRange n)) (find_past is_out s (statements left) (none_at _ (find is_out (s ∷ statements left)) r)).1
+
+-- the units where no line is left
+pub few_units : (us : List ChipUnit) (ls : List TextLine) (ss : List Statement) → ls ≡ [] → length us ≤ 16 → map unit_of us ++ units_said (statements ls) ≡ units_said ss → (too_many ss ≡ None) × (map unit_of us ≡ units_said ss)
+few_units us ls ss e n t =
+    let same : map unit_of us ≡ units_said ss = sym (append-nil _) ∙ ap (λ ls. map unit_of us ++ units_said (statements ls)) (sym e) ∙ t in
+    (ap (λ b. if b then Some TooManyUnits else None) (le-ltb 16 (length (units_said ss)) (omega (arith, ap length same, length-map us unit_of))), same)
+
 module _ {before left : List TextLine} {l : TextLine} (step : before ≡ l ∷ left) (o : Option UnitLine) (u : UnitLine) (s : option_map plain_unit o ≡ unit_said (said l.text)) (e : o ≡ Some u) where
   says_unit : said l.text ≡ Some (unit u.weight u.march.now u.memory.now)
   says_unit = content_is (said l.text) (plain_unit u) (sym s ∙ ap (option_map plain_unit) e)
@@ -114,10 +145,16 @@ module _ {before left : List TextLine} {l : TextLine} (step : before ≡ l ∷ l
       let here : find is_out ((record { line = l.number; content = c }) ∷ statements left) ≡ None = ap (λ v. find is_out (stated l.number v ++ statements left)) (sym says_unit) ∙ none in
       unit_ranged c (plain_unit u) refl (formed_said l.text c says_unit) (find_past is_out (record { line = l.number; content = c }) (statements left) here).0
 
+  more : units_said (statements before) ≡ plain_unit u ∷ units_said (statements left)
+  more = ap (λ ls. units_said (statements ls)) step ∙ ap (λ v. units_said (stated l.number v ++ statements left)) says_unit
+
+  pub one_more : (us vs : List ChipUnit) (v : ChipUnit) (ds : List UnitDescription) → vs ≡ us ++ v ∷ [] → unit_of v ≡ plain_unit u → map unit_of us ++ units_said (statements before) ≡ ds → map unit_of vs ++ units_said (statements left) ≡ ds
+  one_more us vs v ds e h t =
+      ap (λ vs. map unit_of vs ++ units_said (statements left)) e ∙ pushed us v (units_said (statements left)) ∙ ap (λ d. map unit_of us ++ d ∷ units_said (statements left)) h
+      ∙ ap (λ ds. map unit_of us ++ ds) (sym more) ∙ t
+
   pub one_too_many : (us : List ChipUnit) (ss : List Statement) → length us ≡ 16 → map unit_of us ++ units_said (statements before) ≡ units_said ss → too_many ss ≡ Some TooManyUnits
   one_too_many us ss n t =
-      let more : units_said (statements before) ≡ (plain_unit u) ∷ units_said (statements left) =
-      ap (λ ls. units_said (statements ls)) step ∙ ap (λ v. units_said (stated l.number v ++ statements left)) says_unit in
       let all : length (units_said ss) ≡ length (map unit_of us) + suc (length (units_said (statements left))) =
       ap length (sym t) ∙ length-append (map unit_of us) (units_said (statements before)) ∙ ap (λ xs. length (map unit_of us) + length xs) more in
       let same : length (map unit_of us) ≡ length us = length-map us unit_of in
