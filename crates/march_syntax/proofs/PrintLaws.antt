@@ -1,11 +1,13 @@
 -- The printed form of a march is a text of it, and how it is written part by part.
-use Rattle.std.proofs.Common.{◌≡◌, ℕ, ◌+◌, ◌<◌, ◌≤◌, suc, zero, true, false, ⊎_elim, List, [], ◌∷◌, ◌++◌, ◌∙◌, length, drop, inl, subst, sym, ap, append_assoc, refl, arith, add-one}
+use Rattle.std.proofs.Common.{◌≡◌, ℕ, ◌+◌, ◌<◌, ◌≤◌, suc, zero, true, false, ⊎_elim, List, [], ◌∷◌, ◌++◌, ◌∙◌, length, drop, drop-cons, get_or, inl, subst, sym, ap, append_assoc, refl, arith, add-one}
 use Rattle.std.specs.List.{AllByRecursion}
+use Rattle.std.proofs.lemmas.List.{drop_all}
 use Rattle.bist_text.specs.Grammar.{word, one_of}
 use Rattle.bist_text.proofs.Pieces.{many_none, word_on}
 use Rattle.march_core.specs.declared.operation.Order.{Order}
 use Rattle.march_core.specs.declared.operation.Order.TheVariants.{Up, Down, Any}
 use Rattle.march_core.specs.declared.operation.Op.{Op}
+use Rattle.march_core.specs.declared.operation.Op.TheVariants.{W0}
 use Rattle.march_core.specs.March.{MarchElement, pause, sweep, is_pause, IsElement, IsMarch, element_at, order_at, ops_at, is_pause_at}
 use Rattle.march_syntax.specs.MarchText.{is_white, ws, spellings, op_text, more_ops, ops, body, element, more_elements, close, listed, MarchText}
 use Rattle.march_syntax.specs.Printed.{order_text, more_ops_text, ops_text, element_text, more_elements_text, elements_text, printed}
@@ -68,16 +70,36 @@ elements_step [] zero h = absurd (omega arith)
 elements_step (e ∷ es) zero h = refl
 elements_step es (suc i) h = ap more_elements_text (drop_element es (suc i) h)
 
--- an element more is written
+ops_step : (os : List Op) (i : ℕ) → i < length os → ops_from i os ≡ separator 44 i ++ (op_text (get_or os i W0) ++ ops_from (suc i) os)
+ops_step [] zero h = absurd (omega arith)
+ops_step (o ∷ os) zero h = refl
+ops_step os (suc i) h = ap more_ops_text (drop-cons os (suc i) W0 h)
+
+-- a part more is written
+part_written : (old mid new whole mark text left rest : List ℕ) → mid ≡ old ++ mark → new ≡ mid ++ text → left ≡ mark ++ (text ++ rest) → old ++ left ≡ whole → new ++ rest ≡ whole
+part_written old mid new whole mark text left rest m n s e =
+    ap (λ x. x ++ rest) (n ∙ ap (λ x. x ++ text) m) ∙ append_assoc (old ++ mark) text rest ∙ append_assoc old mark (text ++ rest) ∙ ap (λ x. old ++ x) (sym s) ∙ e
+
+pub op_written : (old mid new whole : List ℕ) (os : List Op) (i : ℕ) → mid ≡ old ++ separator 44 i
+    → new ≡ mid ++ op_text (get_or os i W0) → i < length os → old ++ ops_from i os ≡ whole → new ++ ops_from (i + 1) os ≡ whole
+op_written old mid new whole os i m n l e =
+    rw add-one (part_written old mid new whole (separator 44 i) (op_text (get_or os i W0)) (ops_from i os) (ops_from (suc i) os) m n (ops_step os i l) e)
+
 pub element_written : (old mid new whole : List ℕ) (es : List MarchElement) (i : ℕ) → mid ≡ old ++ separator 59 i
     → new ≡ mid ++ element_text (element_at es i) → i < length es → old ++ elements_from i es ≡ whole → new ++ elements_from (i + 1) es ≡ whole
 element_written old mid new whole es i m n l e =
-    let text : List ℕ = element_text (element_at es i) in
-    let written : new ≡ (old ++ separator 59 i) ++ text = n ∙ ap (λ x. x ++ text) m in
-    rw (written, add-one)
-    (append_assoc (old ++ separator 59 i) text (elements_from (suc i) es)
-    ∙ append_assoc old (separator 59 i) (text ++ elements_from (suc i) es)
-    ∙ ap (λ x. old ++ x) (sym (elements_step es i l)) ∙ e)
+    rw add-one (part_written old mid new whole (separator 59 i) (element_text (element_at es i)) (elements_from i es) (elements_from (suc i) es) m n (elements_step es i l) e)
+
+-- no part is left
+pub no_ops : (os : List Op) (i : ℕ) → length os ≤ i → ops_from i os ≡ []
+no_ops [] zero h = refl
+no_ops (o ∷ os) zero h = absurd (omega arith)
+no_ops os (suc i) h = ap more_ops_text (drop_all (suc i) os h)
+
+pub no_elements : (es : List MarchElement) (i : ℕ) → length es ≤ i → elements_from i es ≡ []
+no_elements [] zero h = refl
+no_elements (e ∷ es) zero h = absurd (omega arith)
+no_elements es (suc i) h = ap more_elements_text (drop_all (suc i) es h)
 
 -- an element by its parts
 pub pause_there : (es : List MarchElement) (i : ℕ) → is_pause_at es i ≡ true → element_at es i ≡ pause
