@@ -48,7 +48,6 @@ impl Class {
 }
 
 /// What stands behind the blanks.
-#[tactic(auto, using(crate::proofs::Blanks::blanks_have, crate::proofs::keyed::Steps::blank_on, crate::proofs::keyed::Steps::blank_stop, crate::proofs::keyed::Steps::blank_end))]
 pub fn blanks(text: &[u8]) -> &[u8]
     ensures { result.now ≡ spaced text.now }
 {

@@ -71,7 +71,6 @@ impl<'a> Iterator for Lines<'a> {
 }
 
 /// How many bytes stand before the first line feed, or in all where there is none.
-#[tactic(auto, using(crate::proofs::LineLemmas::feed_on, crate::proofs::LineLemmas::feed_stop, crate::proofs::LineLemmas::feed_end))]
 fn line_len(bytes: &[u8]) -> usize
     ensures value { result ≡ position_or_len is_newline bytes.now }
     ensures within { result ≤ length bytes.now }
