@@ -192,7 +192,6 @@ fn append<const N: usize>(prims: &mut ArrayVec<Prim, N>, class: Class)
 }
 
 /// The twelve primitives of one cell that need no pause, in order.
-#[tactic(auto, using(crate::proofs::EveryPrimitive::one_cell_has, crate::proofs::EveryPrimitive::one_cell_are, crate::proofs::EveryPrimitive::one_cell_differ))]
 pub fn one_cell() -> [Prim; 12]
     ensures rows { result ≡ one_cell_table }
     ensures every { (p : Primitive) → IsPrimitive p → has_aggressor p ≡ false → is_retention p ≡ false → Contains result p }
