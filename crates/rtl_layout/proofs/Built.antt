@@ -1,11 +1,15 @@
 -- Expressions whose parts are told otherwise.
-use Rattle.std.proofs.Common.{◌≡◌, ◌≢◌, ℕ, ◌<◌, Bool, cond, nat_eq, List, [], ◌∷◌, length, get_or, Result, IfOk, ap, ◌∙◌, subst, arith}
+use Rattle.std.proofs.Common.{◌≡◌, ◌≢◌, ℕ, suc, ◌-◌, ◌<◌, Bool, cond, nat_eq, List, [], ◌∷◌, length, get_or, take, drop, Result, IfOk, sym, ap, ◌∙◌, subst, arith}
 use Rattle.std.specs.Prelude.{slice_index_or}
+use Rattle.std.proofs.lemmas.List.{take_all}
 use Rattle.std.proofs.lemmas.Bool.Decides.{nat_tests}
 use Rattle.verilog_tree.specs.declared.tree.Expr.{Expr}
 use Rattle.verilog_tree.specs.declared.tree.BinOp.{BinOp}
 use Rattle.verilog_tree.specs.Plain.{Expression, Infixed, Conditional, plain}
+use Rattle.rtl_layout.specs.Control.{nothing}
 use Rattle.rtl_layout.specs.Layout.{turning}
+use Rattle.rtl_layout.specs.Plan.{Element, Plan}
+use Rattle.rtl_layout.specs.Shows.{Ready}
 
 pub told : {E : Type 0} (r : Result Expr E) (x y : Expression) → x ≡ y → IfOk r (λ t. plain t ≡ x) → IfOk r (λ t. plain t ≡ y)
 told r x y same h = subst (λ e. IfOk r (λ t. plain t ≡ e)) same h
@@ -28,3 +32,16 @@ unless_none n x y h = grind (arith, nat_tests)
 pub first_of : {A : Type 0} (xs ys : List A) (x d : A) → xs ≡ ys → 0 < length ys → x ≡ get_or xs 0 x → x ≡ slice_index_or ys 0 d
 first_of xs [] x d e some same = absurd (omega arith)
 first_of xs (y ∷ ys) x d e some same = same ∙ ap (λ l. get_or l 0 x) e
+
+-- the first element of a plan has an operation
+pub first_has : (p : Plan) (xs : List Element) (x : Element) → Ready p → xs ≡ p.elements → x ≡ get_or xs 0 x → 0 < length x.operations
+first_has p xs x ready e same = subst (λ (y : Element). 0 < length y.operations) (sym (first_of xs p.elements x nothing e ready.has_element same)) (ready.has_operation 0)
+
+-- and so has each element
+pub each_has : (p : Plan) (xs : List Element) → Ready p → xs ≡ p.elements → (k : ℕ) → 0 < length (slice_index_or xs k nothing).operations
+each_has p xs ready e k = subst (λ (l : List Element). 0 < length (slice_index_or l k nothing).operations) (sym e) (ready.has_operation k)
+
+-- and each of those behind the first
+pub each_behind : (xs : List Element) → 0 < length xs → ((k : ℕ) → 0 < length (slice_index_or xs k nothing).operations) → (k : ℕ) → 0 < length (slice_index_or (take (length xs - 1) (drop 1 xs)) k nothing).operations
+each_behind [] some each k = absurd (omega arith)
+each_behind (x ∷ xs) some each k = subst (λ (l : List Element). 0 < length (slice_index_or l k nothing).operations) (sym (take_all (length (x ∷ xs) - 1) xs (omega arith))) (each (suc k))

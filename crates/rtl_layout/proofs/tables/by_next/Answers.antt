@@ -3,6 +3,7 @@ use Rattle.verilog_tree.specs.Meaning.{bit}
 use Rattle.rtl_layout.specs.Build.{lit, rotated}
 use Rattle.rtl_layout.specs.inner.Flags.{element_flag}
 use Rattle.rtl_layout.specs.Plan.{Element}
+use Rattle.rtl_layout.proofs.Built.{each_has, each_behind, first_has}
 use Rattle.rtl_layout.proofs.Rows.{length_rotated}
 use Rattle.rtl_layout.proofs.Tabled.{rotated_leaves, behind_first, picked, few_leaves}
 use Rattle.rtl_layout.proofs.tables.by_next.Goals as goal
@@ -28,3 +29,14 @@ returns c =
     (c.flag.ensures ∙ ap (λ b. lit 1 (bit b)) c.of_element.ensures) (c.in_ok-leaves.ensures ∙ ap (map (λ (x : Element). lit 1 (bit (element_flag c.args.which x)))) (behind_first xs))
     ∙ ap (λ l. map (λ (x : Element). lit 1 (bit (element_flag c.args.which x))) (rotated l)) c.as_slice-elements.ensures.value)
     c.pick_leaf.ensures
+
+pub element_leaves-requires : goal.element_leaves-requires
+element_leaves-requires c =
+    let some : 0 < length c.as_slice-elements.result.now = subst (λ l. 0 < length l) (sym c.as_slice-elements.ensures.value) c.args.plan.now.is_plan.ready.has_element in
+    each_behind c.as_slice-elements.result.now some (each_has _ _ c.args.plan.now.is_plan.ready c.as_slice-elements.ensures.value)
+
+pub bounds-elements-0 : goal.bounds-elements-0
+bounds-elements-0 c = subst (λ l. 0 < length l) (sym c.as_slice-elements.ensures.value) c.args.plan.now.is_plan.ready.has_element
+
+pub of_element-requires : goal.of_element-requires
+of_element-requires c = first_has _ _ _ c.args.plan.now.is_plan.ready c.as_slice-elements.ensures.value c.index-elements-0.is
