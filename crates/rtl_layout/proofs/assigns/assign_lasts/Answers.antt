@@ -1,4 +1,4 @@
-use Rattle.std.proofs.Common.{[], ◌∷◌, ◌-◌, map, ap, ◌∙◌}
+use Rattle.std.proofs.Common.{ℕ, ◌-◌, ◌^◌, ◌<◌, ◌≤◌, [], ◌∷◌, map, sym, ap, ◌∙◌, subst}
 use Rattle.verilog_tree.specs.Plain.{Net, Infixed, AssignItem, plain_item}
 use Rattle.verilog_tree.specs.declared.tree.BinOp.TheVariants.{Eq}
 use Rattle.rtl_layout.specs.Build.{lit}
@@ -15,3 +15,15 @@ returns c =
     (
     named AssignItem _ _ _ _ _ _ c.name-4.ensures (c.in_ok-back.ensures ∙ ap (λ n. Infixed Eq (Net n) (lit p.back_width (c.len-2.result - 1))) c.name-3.ensures ∙ ap (λ k. Infixed Eq (Net L.back) (lit p.back_width (k - 1))) c.len-2.ensures.value) c.in_ok-assign-2.ensures
     )
+
+pub is_last-requires-clause-some : goal.is_last-requires-clause-some
+is_last-requires-clause-some c = subst (λ (n : ℕ). 0 < n) (sym c.len.ensures.value) c.args.plan.now.is_plan.ready.has_element
+
+pub is_last-requires-clause-fits : goal.is_last-requires-clause-fits
+is_last-requires-clause-fits c = subst (λ (n : ℕ). n ≤ 2 ^ c.args.plan.now.element_width) (sym c.len.ensures.value) c.args.plan.now.is_plan.ready.elements_fit
+
+pub is_last-requires-2-clause-some : goal.is_last-requires-2-clause-some
+is_last-requires-2-clause-some c = subst (λ (n : ℕ). 0 < n) (sym c.len-2.ensures.value) c.args.plan.now.is_plan.ready.has_background
+
+pub is_last-requires-2-clause-fits : goal.is_last-requires-2-clause-fits
+is_last-requires-2-clause-fits c = subst (λ (n : ℕ). n ≤ 2 ^ c.args.plan.now.back_width) (sym c.len-2.ensures.value) c.args.plan.now.is_plan.ready.backgrounds_fit
