@@ -1,13 +1,13 @@
 -- Choices as the recursion makes them.
-use Rattle.std.proofs.Common.{◌≡◌, ℕ, zero, suc, ◌+◌, ◌-◌, ◌*◌, ◌%◌, ◌^◌, ◌<◌, ◌≤◌, cond, List, [], ◌∷◌, length, take, drop, map, get_or, lit<, sym, ap, ◌∙◌, subst, arith}
+use Rattle.std.proofs.Common.{◌≡◌, ℕ, zero, suc, ◌+◌, ◌-◌, ◌*◌, ◌%◌, ◌^◌, ◌<◌, ◌≤◌, cond, List, [], ◌∷◌, ◌++◌, length, take, drop, map, get_or, lit<, sym, ap, ◌∙◌, subst, arith}
 use Rattle.std.proofs.lemmas.Bool.{le-leb, lt-leb}
-use Rattle.std.proofs.lemmas.List.{drop-drop, drop-take, take-map, take_all}
+use Rattle.std.proofs.lemmas.List.{drop-drop, drop-take, take-map, take_all, drop_all, drop-map, length-append, take-append-le, drop-append-le}
 use Rattle.std.proofs.Math.Nat.{mod-eq_of_lt, pow-le-pow_right}
 use Rattle.verilog_tree.specs.declared.tree.Expr.{Expr}
 use Rattle.verilog_tree.specs.Plain.{Expression, Net, Conditional, plain}
 use Rattle.arrayvec.specs.declared.array_string.ArrayString.{ArrayString}
 use Rattle.std.proofs.lemmas.Nat.{pow_pos}
-use Rattle.rtl_layout.specs.Build.{choose, bit_of, below, step_while}
+use Rattle.rtl_layout.specs.Build.{choose, bit_of, leaf, below, step_while}
 use Rattle.rtl_layout.proofs.Choice.{double}
 
 -- where the leaves are few, the highest bit chooses nothing
@@ -50,6 +50,16 @@ choice_taken n w i s old mid b high low some many p q t r =
     ap (λ x. Conditional x (plain high) (plain low)) p ∙ ap (λ x. Conditional (bit_of n w (i - 1)) x (plain low)) high_is
     ∙ ap (λ x. Conditional (bit_of n w (i - 1)) (below n w (i - 1) (drop (2 ^ (i - 1)) (drop s (map plain old)))) x) low_is
     ∙ sym (choice_split n w i (drop s (map plain old)) some many)
+
+-- where no bit is left, the last leaf is alone
+pub last_leaf : (n : List ℕ) (w i s : ℕ) (old new : List Expr) (x : Expr) → i ≡ 0 → old ≡ new ++ x ∷ [] → s < length old → length old ≤ s + 2 ^ i → (plain x ≡ below n w i (drop s (map plain old))) × (new ≡ take s old)
+last_leaf n w (suc i) s old new x none e some few = absurd (omega arith)
+last_leaf n w zero s old new x none e some few =
+    let size = ap length e ∙ length-append new (x ∷ []) in
+    let ends : s ≡ length new = omega arith in (
+      sym (ap (λ l. leaf l 0) (drop-map plain s old ∙ ap (map plain) (ap (drop s) e ∙ drop-append-le s new (x ∷ []) (omega arith) ∙ ap (λ l. l ++ x ∷ []) (drop_all s new (omega arith))))),
+      sym (ap (take s) e ∙ take-append-le s new (x ∷ []) (omega arith) ∙ take_all s new (omega arith)),
+    )
 
 -- one condition more in front
 pub step_taken : (cs : List (ArrayString 64)) (c : ArrayString 64) (x : Expression) (test inner kept : Expr) (k : List ℕ) → 1 ≤ length cs → c ≡ get_or cs 0 c → plain test ≡ Net c.bytes → plain kept ≡ Net k
