@@ -57,7 +57,6 @@ fn most_at(place: &Place, outer: &Outer) -> u8
 }
 
 /// What the lexer does at a byte.
-#[tactic(auto, using(crate::proofs::Scanning::scanned))]
 fn scan(place: &Place, outer: &Outer, lexer: Scanner, c: u8) -> Result<Read, LexFault>
     ensures { Scanned (both_of place.now outer.now lexer) (byte_move (both_of place.now outer.now lexer) c) result }
 {
