@@ -15,7 +15,7 @@ pub struct Pair {
 }
 
 /// One of the two cells.
-#[derive(Clone, Copy)]
+#[derive(Clone, Copy, PartialEq, Eq)]
 pub enum Side {
     /// The aggressor, or the bystander.
     A,

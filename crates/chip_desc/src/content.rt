@@ -5,7 +5,7 @@ ghost use Rattle.chip_desc.specs.ChipLines.{kind_of};
 ghost use Rattle.chip_desc.specs.inner.Heard.{plain_content};
 
 /// The kinds of content lines, by their first word.
-#[derive(Clone, Copy)]
+#[derive(Clone, Copy, PartialEq)]
 pub enum Key {
     Chip,
     Name,

@@ -1,7 +1,7 @@
 use cell_machine::Pair;
 
 /// Where an instance stands in an array of two cells.
-#[derive(Clone, Copy)]
+#[derive(Clone, Copy, PartialEq, Eq)]
 pub enum Placement {
     /// The victim of a primitive of one cell at 0.
     Alone,

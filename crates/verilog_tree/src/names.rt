@@ -12,7 +12,7 @@ use bist_bits::NoMemory;
 use std::alloc::Global;
 
 /// What may give a name its value: the module's user, an `assign`, or an `always` block.
-#[derive(Clone, Copy)]
+#[derive(Clone, Copy, PartialEq, Eq)]
 pub enum Kind {
     Input,
     /// Also a plain output.

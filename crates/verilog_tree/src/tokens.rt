@@ -1,7 +1,7 @@
 //! Parts of the tokens of a text.
 
 /// An operator or a sign, named by its look.
-#[derive(Clone, Copy)]
+#[derive(Clone, Copy, PartialEq, Eq)]
 pub enum Mark {
     Open,
     Close,
