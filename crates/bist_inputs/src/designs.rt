@@ -45,10 +45,10 @@ fn text_refusal(bytes: &[u8], fault: ReadFault) -> Refusal
     ensures answer { (y : Written) → (fault ≡ ReadFault.NoMemory) ⊎ IsFirstIn y bytes.now fault → GivesTree y bytes.now (Err result) }
     ensures own { IsOwnRefusal result }
 {
-    if fault == ReadFault::NoMemory {
-        return Refusal::NoMemory;
+    match fault {
+        ReadFault::NoMemory => Refusal::NoMemory,
+        _ => Refusal::Verilog(VerilogRefusal::Read(fault)),
     }
-    Refusal::Verilog(VerilogRefusal::Read(fault))
 }
 
 /// The module that a text spells.

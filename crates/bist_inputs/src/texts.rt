@@ -31,10 +31,10 @@ fn list_refusal(bytes: &[u8], fault: FaultFault) -> Refusal
     ensures answer { GivesList bytes.now (Err result) }
     ensures own { IsOwnRefusal result }
 {
-    if fault == FaultFault::NoMemory {
-        return Refusal::NoMemory;
+    match fault {
+        FaultFault::NoMemory => Refusal::NoMemory,
+        _ => Refusal::Fault(fault),
     }
-    Refusal::Fault(fault)
 }
 
 /// The items of a list.

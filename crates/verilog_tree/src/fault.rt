@@ -6,7 +6,7 @@ use crate::tree::Name;
 use bist_bits::NoMemory;
 
 /// Why a text is refused. The first byte at which one of L1, L3, L4 and L5 stands decides.
-#[derive(Clone, Copy, Debug, PartialEq, Eq)]
+#[derive(Clone, Copy)]
 pub enum ReadFault {
     /// L1: with this byte no text of the grammar begins so.
     Unexpected { byte: usize },
