@@ -143,7 +143,7 @@ fn fits_its_directions(march: &March) -> bool {
 #[test]
 fn a_march_in_parts(rt: HostRuntime) -> Result<(), Fail> {
     let empty = MarchBuilder::new().finish();
-    assert!(rt; empty.err() == Some(MarchFault::Empty));
+    assert!(rt; matches!(empty, Err(MarchFault::Empty)));
     let march = two_elements()?;
     assert!(rt; has_two_elements(&march));
     assert!(rt; fits_its_directions(&march));
@@ -328,7 +328,7 @@ fn like_rows_depend() -> bool {
         rows: [1; 16],
         constant: 0b01,
     };
-    invert(&matrix).err() == Some(Dependence { rows: 0b11 })
+    matches!(invert(&matrix), Err(Dependence { rows: 0b11 }))
 }
 
 #[test]

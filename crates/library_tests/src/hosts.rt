@@ -34,7 +34,7 @@ fn is_whole(host: &mut FailHost) -> Result<bool, HostFault> {
 fn the_second_call_fails(host: &mut FailHost) -> Result<bool, HostFault> {
     host.write_file("a", b"whole")?;
     let fault = is_whole(host).err();
-    Ok(fault == Some(HostFault::ReadFailed) && is_whole(host)?)
+    Ok(matches!(fault, Some(HostFault::ReadFailed)) && is_whole(host)?)
 }
 
 /// Whether a write fails, and of two sayings the second.

@@ -6,8 +6,8 @@
 //! let mut builder = MarchBuilder::new();
 //! builder.element(Order::Any)?;
 //! builder.op(Op::R1)?;
-//! let fault = builder.finish().err();
-//! assert!(rt; fault == Some(MarchFault::ReadBeforeWrite { element: 0, op: 0 }));
+//! let march = builder.finish();
+//! assert!(rt; matches!(march, Err(MarchFault::ReadBeforeWrite { element: 0, op: 0 })));
 //! ```
 //!
 //! It never reads text.

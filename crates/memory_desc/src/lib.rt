@@ -5,8 +5,8 @@
 //!
 //! let memory = read_memory(b"memory 1\nname buffer\nwords 16\nbits 1\n")?;
 //! assert!(rt; memory.words() == 16 && memory.address_bits() == 4 && memory.latency() == 1);
-//! let fault = read_memory(b"memory 1\nname buffer\nbits 1\n").err();
-//! assert!(rt; fault == Some(MemoryFault::Missing { field: Field::Words }));
+//! let refused = read_memory(b"memory 1\nname buffer\nbits 1\n");
+//! assert!(rt; matches!(refused, Err(MemoryFault::Missing { field: Field::Words })));
 //! ```
 //!
 //! It never judges a march.

@@ -82,7 +82,7 @@ fn marches(rt: HostRuntime) {
 /// Whether each first part of the text is refused as truncated.
 fn is_truncated(text: &[u8]) -> bool {
     for end in 1..text.len() {
-        if read_march(&text[..end]).err() != Some(MarchFault::Truncated) {
+        if !matches!(read_march(&text[..end]), Err(MarchFault::Truncated)) {
             return false;
         }
     }
