@@ -1,9 +1,9 @@
 //! Expressions over numbered values, in the form that runs fast: a leaf is read without a call, and a choice by a
 //! whole value or by one bit is one node, of which only the chosen side is worked out.
-ghost use Rattle.std.specs.Prelude.{◌≡◌, ◌+◌, ◌-◌, ◌%◌, ◌^◌, cond, if◌then◌else◌, nat_eq, bit_and};
-ghost use Rattle.verilog_tree.specs.Meaning.{infixed};
-ghost use Rattle.verilog_tree.specs.declared.tree.BinOp.TheVariants as B;
-ghost use Rattle.verilog_code.specs.Code.{at, lowered, raised, odd, meaning};
+ghost use Rattle.std.specs.Prelude.{◌≡◌, cond, nat_eq};
+ghost use Rattle.verilog_code.specs.Code.{at, lowered, raised, odd, prefixed_code, infixed_code, meaning};
+
+use verilog_tree::{BinOp, UnOp};
 
 /// An expression. A number stands for the place of a value, a `u64` beside an operator for the ones of its width.
 #[derive(Drop)]
@@ -17,26 +17,10 @@ pub enum Code {
     /// A choice by one bit of a value.
     PickBit(usize, u8, Box<Code>, Box<Code>),
     Choose(Box<Code>, Box<Code>, Box<Code>),
-    Not(Box<Code>),
-    Invert(u64, Box<Code>),
-    AllOnes(u64, Box<Code>),
-    AnyOne(Box<Code>),
-    Parity(Box<Code>),
+    Prefixed(UnOp, u64, Box<Code>),
     /// Whether an odd number of these bits of a value are 1.
     Odd(usize, u64),
-    Add(u64, Box<Code>, Box<Code>),
-    Sub(u64, Box<Code>, Box<Code>),
-    And(Box<Code>, Box<Code>),
-    Or(u64, Box<Code>, Box<Code>),
-    Xor(Box<Code>, Box<Code>),
-    Eq(Box<Code>, Box<Code>),
-    Ne(Box<Code>, Box<Code>),
-    Lt(Box<Code>, Box<Code>),
-    Le(Box<Code>, Box<Code>),
-    LogAnd(Box<Code>, Box<Code>),
-    LogOr(Box<Code>, Box<Code>),
-    Shl(u64, Box<Code>, Box<Code>),
-    Shr(Box<Code>, Box<Code>),
+    Infixed(BinOp, u64, Box<Code>, Box<Code>),
     /// The first above the low bits that the second has.
     Concat(u64, Box<Code>, Box<Code>),
 }
@@ -71,6 +55,44 @@ pub fn raised(value: u64, by: u64) -> u64
     ensures { result ≡ raised value by }
 {
     if by < 64 { value << by } else { 0 }
+}
+
+/// The value of an operator, where its operand's width has these ones.
+#[inline]
+pub(crate) fn prefixed(op: UnOp, ones: u64, a: u64) -> u64
+    ensures { result ≡ prefixed_code op ones a }
+{
+    match op {
+        UnOp::Not => (a == 0) as u64,
+        UnOp::Invert => ones.saturating_sub(a),
+        UnOp::AllOnes => (a == ones) as u64,
+        UnOp::AnyOne => (a != 0) as u64,
+        UnOp::Parity => odd(a),
+    }
+}
+
+/// The value of an operator, where the width of its left operand has these ones.
+#[inline]
+pub(crate) fn infixed(op: BinOp, ones: u64, a: u64, b: u64) -> u64
+    ensures { result ≡ infixed_code op ones a b }
+{
+    match op {
+        BinOp::Add => a.wrapping_add(b) & ones,
+        BinOp::Sub => a.wrapping_sub(b) & ones,
+        BinOp::And => a & b,
+        BinOp::Or => a | b,
+        BinOp::Xor => a ^ b,
+        BinOp::Eq => (a == b) as u64,
+        BinOp::Ne => (a != b) as u64,
+        BinOp::Lt => (a < b) as u64,
+        BinOp::Le => (a <= b) as u64,
+        BinOp::Gt => (a > b) as u64,
+        BinOp::Ge => (a >= b) as u64,
+        BinOp::LogAnd => (a != 0 && b != 0) as u64,
+        BinOp::LogOr => (a != 0 || b != 0) as u64,
+        BinOp::Shl => raised(a, b) & ones,
+        BinOp::Shr => lowered(a, b),
+    }
 }
 
 /// The value of an expression.
@@ -128,24 +150,6 @@ fn chosen(condition: u64, a: &Code, b: &Code, values: &[u64]) -> u64
     }
 }
 
-// Whether neither is 0. The second is worked out only where the first isn't.
-#[inline]
-#[cycle(code_value)]
-fn are_both_true(a: &Code, b: &Code, values: &[u64]) -> bool
-    ensures { (if result then 1 else 0) ≡ infixed B.LogAnd 1 (meaning values.now a.now) (meaning values.now b.now) }
-{
-    quick(a, values) != 0 && quick(b, values) != 0
-}
-
-// Whether one isn't 0. The second is worked out only where the first is.
-#[inline]
-#[cycle(code_value)]
-fn is_one_true(a: &Code, b: &Code, values: &[u64]) -> bool
-    ensures { (if result then 1 else 0) ≡ infixed B.LogOr 1 (meaning values.now a.now) (meaning values.now b.now) }
-{
-    quick(a, values) != 0 || quick(b, values) != 0
-}
-
 // The value, where the expression is an operator's. It stands apart so that `value` is a loop that saves no registers.
 #[inline(never)]
 #[cycle(code_value)]
@@ -154,25 +158,9 @@ fn operated(x: &Code, values: &[u64]) -> u64
 {
     match x {
         Code::Choose(c, a, b) => chosen(quick(c, values), a, b, values),
-        Code::Not(a) => (quick(a, values) == 0) as u64,
-        Code::Invert(ones, a) => (*ones).saturating_sub(quick(a, values)),
-        Code::AllOnes(ones, a) => (quick(a, values) == *ones) as u64,
-        Code::AnyOne(a) => (quick(a, values) != 0) as u64,
-        Code::Parity(a) => odd(quick(a, values)),
+        Code::Prefixed(op, ones, a) => prefixed(*op, *ones, quick(a, values)),
         Code::Odd(place, mask) => odd(at(values, *place) & *mask),
-        Code::Add(ones, a, b) => quick(a, values).wrapping_add(quick(b, values)) & *ones,
-        Code::Sub(ones, a, b) => quick(a, values).wrapping_sub(quick(b, values)) & *ones,
-        Code::And(a, b) => quick(a, values) & quick(b, values),
-        Code::Or(_, a, b) => quick(a, values) | quick(b, values),
-        Code::Xor(a, b) => quick(a, values) ^ quick(b, values),
-        Code::Eq(a, b) => (quick(a, values) == quick(b, values)) as u64,
-        Code::Ne(a, b) => (quick(a, values) != quick(b, values)) as u64,
-        Code::Lt(a, b) => (quick(a, values) < quick(b, values)) as u64,
-        Code::Le(a, b) => (quick(a, values) <= quick(b, values)) as u64,
-        Code::LogAnd(a, b) => are_both_true(a, b, values) as u64,
-        Code::LogOr(a, b) => is_one_true(a, b, values) as u64,
-        Code::Shl(ones, a, b) => raised(quick(a, values), quick(b, values)) & *ones,
-        Code::Shr(a, b) => lowered(quick(a, values), quick(b, values)),
+        Code::Infixed(op, ones, a, b) => infixed(*op, *ones, quick(a, values), quick(b, values)),
         Code::Concat(low, a, b) => raised(quick(a, values), *low).wrapping_add(quick(b, values)),
         Code::Lit(v) => *v,
         Code::Net(place) => at(values, *place),

@@ -5,10 +5,7 @@ ghost use Rattle.std.specs.Prelude.{◌≡◌};
 ghost use Rattle.verilog_code.specs.OpenCode.{open_at, picked, open_meaning};
 
 use crate::code::Code;
-use crate::open_operators::{
-    add, agreed, all_ones, and, any_one, concat, eq, invert, kept_odd, le, log_and, log_or, lt, ne,
-    not, or, parity, part, shl, shr, sub, xor,
-};
+use crate::open_operators::{agreed, concat, kept_odd, open_infixed, open_prefixed, part};
 
 /// What stands at a place, 0 where there is none.
 #[inline]
@@ -79,25 +76,11 @@ fn open_operated(x: &Code, values: &[Option<u64>]) -> Option<u64>
 {
     match x {
         Code::Choose(c, a, b) => chosen(open_quick(c, values), a, b, values),
-        Code::Not(a) => not(open_quick(a, values)),
-        Code::Invert(ones, a) => invert(*ones, open_quick(a, values)),
-        Code::AllOnes(ones, a) => all_ones(*ones, open_quick(a, values)),
-        Code::AnyOne(a) => any_one(open_quick(a, values)),
-        Code::Parity(a) => parity(open_quick(a, values)),
+        Code::Prefixed(op, ones, a) => open_prefixed(*op, *ones, open_quick(a, values)),
         Code::Odd(place, mask) => kept_odd(open_at(values, *place), *mask),
-        Code::Add(ones, a, b) => add(*ones, open_quick(a, values), open_quick(b, values)),
-        Code::Sub(ones, a, b) => sub(*ones, open_quick(a, values), open_quick(b, values)),
-        Code::And(a, b) => and(open_quick(a, values), open_quick(b, values)),
-        Code::Or(ones, a, b) => or(*ones, open_quick(a, values), open_quick(b, values)),
-        Code::Xor(a, b) => xor(open_quick(a, values), open_quick(b, values)),
-        Code::Eq(a, b) => eq(open_quick(a, values), open_quick(b, values)),
-        Code::Ne(a, b) => ne(open_quick(a, values), open_quick(b, values)),
-        Code::Lt(a, b) => lt(open_quick(a, values), open_quick(b, values)),
-        Code::Le(a, b) => le(open_quick(a, values), open_quick(b, values)),
-        Code::LogAnd(a, b) => log_and(open_quick(a, values), open_quick(b, values)),
-        Code::LogOr(a, b) => log_or(open_quick(a, values), open_quick(b, values)),
-        Code::Shl(ones, a, b) => shl(*ones, open_quick(a, values), open_quick(b, values)),
-        Code::Shr(a, b) => shr(open_quick(a, values), open_quick(b, values)),
+        Code::Infixed(op, ones, a, b) => {
+            open_infixed(*op, *ones, open_quick(a, values), open_quick(b, values))
+        }
         Code::Concat(low, a, b) => concat(*low, open_quick(a, values), open_quick(b, values)),
         Code::Lit(v) => Some(*v),
         Code::Net(place) => open_at(values, *place),

@@ -1,14 +1,13 @@
 //! What operators give where a number may be missing.
-ghost use Rattle.std.specs.Prelude.{◌≡◌, ℕ, ◌-◌, ◌+◌, ◌*◌, ◌%◌, ◌^◌, Some, None, cond, nat_eq, bit_and};
+ghost use Rattle.std.specs.Prelude.{◌≡◌, ◌+◌, ◌%◌, ◌^◌, Some, cond, nat_eq, bit_and};
 ghost use Rattle.std.specs.Option.{option_map};
-ghost use Rattle.verilog_tree.specs.Meaning.{infixed, prefixed};
 ghost use Rattle.verilog_tree.specs.declared.tree.BinOp.TheVariants as B;
-ghost use Rattle.verilog_tree.specs.declared.tree.UnOp.TheVariants as U;
 ghost use Rattle.verilog_tree.specs.Partial.{agreed, both};
-ghost use Rattle.verilog_code.specs.Code.{lowered, raised, odd};
-ghost use Rattle.verilog_code.specs.OpenCode.{weak, any};
+ghost use Rattle.verilog_code.specs.Code.{lowered, raised, odd, prefixed_code};
+ghost use Rattle.verilog_code.specs.OpenCode.{alone_code, open_infixed_code};
 
-use crate::code::{lowered, odd, raised};
+use crate::code::{infixed, lowered, odd, prefixed, raised};
+use verilog_tree::{BinOp, UnOp};
 
 /// What both are.
 #[inline]
@@ -32,86 +31,47 @@ fn where_equal(a: u64, value: u64, gives: u64) -> Option<u64>
     if a == value { Some(gives) } else { None }
 }
 
-/// 0 where one is, and else what both give.
-#[inline]
-pub(crate) fn and(a: Option<u64>, b: Option<u64>) -> Option<u64>
-    ensures { result ≡ weak 0 0 (infixed B.And 1) a b }
+/// What one operand alone decides.
+fn alone(op: BinOp, ones: u64, a: u64) -> Option<u64>
+    ensures { result ≡ alone_code op ones a }
+{
+    match op {
+        BinOp::And => where_equal(a, 0, 0),
+        BinOp::Or => where_equal(a, ones, a),
+        BinOp::LogAnd => where_equal(a, 0, 0),
+        BinOp::LogOr => { if a == 0 { None } else { Some(1) } }
+        _ => None,
+    }
+}
+
+/// What an operator gives of two operands.
+pub(crate) fn open_infixed(op: BinOp, ones: u64, a: Option<u64>, b: Option<u64>) -> Option<u64>
+    ensures { result ≡ open_infixed_code op ones a b }
 {
     match a {
         None => match b {
             None => None,
-            Some(y) => where_equal(y, 0, 0),
+            Some(y) => alone(op, ones, y),
         },
         Some(x) => match b {
-            None => where_equal(x, 0, 0),
-            Some(y) => Some(x & y),
+            None => alone(op, ones, x),
+            Some(y) => Some(infixed(op, ones, x, y)),
         },
     }
 }
 
-/// All ones where one is, and else what both give.
-#[inline]
-pub(crate) fn or(ones: u64, a: Option<u64>, b: Option<u64>) -> Option<u64>
-    ensures { result ≡ weak ones ones (infixed B.Or 1) a b }
+/// What an operator gives of one operand.
+pub(crate) fn open_prefixed(op: UnOp, ones: u64, a: Option<u64>) -> Option<u64>
+    ensures { result ≡ option_map (prefixed_code op ones) a }
 {
-    match a {
-        None => match b {
-            None => None,
-            Some(y) => where_equal(y, ones, ones),
-        },
-        Some(x) => match b {
-            None => where_equal(x, ones, ones),
-            Some(y) => Some(x | y),
-        },
-    }
-}
-
-/// 0 where one is, and else what both give.
-#[inline]
-pub(crate) fn log_and(a: Option<u64>, b: Option<u64>) -> Option<u64>
-    ensures { result ≡ weak 0 0 (infixed B.LogAnd 1) a b }
-{
-    match a {
-        None => match b {
-            None => None,
-            Some(y) => where_equal(y, 0, 0),
-        },
-        Some(x) => match b {
-            None => where_equal(x, 0, 0),
-            Some(y) => Some((x != 0 && y != 0) as u64),
-        },
-    }
-}
-
-// One number alone, where it isn't 0.
-#[inline]
-fn where_true(a: u64) -> Option<u64>
-    ensures { result ≡ cond (nat_eq a 0) None (Some 1) }
-{
-    if a == 0 { None } else { Some(1) }
-}
-
-/// 1 where one is true, and else what both give.
-#[inline]
-pub(crate) fn log_or(a: Option<u64>, b: Option<u64>) -> Option<u64>
-    ensures { result ≡ any a b }
-{
-    match a {
-        None => match b {
-            None => None,
-            Some(y) => where_true(y),
-        },
-        Some(x) => match b {
-            None => where_true(x),
-            Some(y) => Some((x != 0 || y != 0) as u64),
-        },
-    }
+    let x = a?;
+    Some(prefixed(op, ones, x))
 }
 
 /// The parity of some bits of a value.
 #[inline]
 pub(crate) fn kept_odd(a: Option<u64>, mask: u64) -> Option<u64>
-    ensures { result ≡ option_map odd (weak 0 0 bit_and a (Some mask)) }
+    ensures { result ≡ option_map odd (open_infixed_code B.And 0 a (Some mask)) }
 {
     match a {
         None => { if mask == 0 { Some(odd(0)) } else { None } }
@@ -126,141 +86,6 @@ pub(crate) fn part(a: Option<u64>, low: u8, ones: u64) -> Option<u64>
 {
     let x = a?;
     Some(lowered(x, low as u64) & ones)
-}
-
-/// Whether it is 0.
-#[inline]
-pub(crate) fn not(a: Option<u64>) -> Option<u64>
-    ensures { result ≡ option_map (prefixed U.Not 1) a }
-{
-    let x = a?;
-    Some((x == 0) as u64)
-}
-
-/// Each bit turned.
-#[inline]
-pub(crate) fn invert(ones: u64, a: Option<u64>) -> Option<u64>
-    ensures { result ≡ option_map (λ v. ones - v) a }
-{
-    let x = a?;
-    Some(ones.saturating_sub(x))
-}
-
-/// Whether all bits are 1.
-#[inline]
-pub(crate) fn all_ones(ones: u64, a: Option<u64>) -> Option<u64>
-    ensures { result ≡ option_map (λ v. cond (nat_eq v ones) 1 0) a }
-{
-    let x = a?;
-    Some((x == ones) as u64)
-}
-
-/// Whether a bit is 1.
-#[inline]
-pub(crate) fn any_one(a: Option<u64>) -> Option<u64>
-    ensures { result ≡ option_map (prefixed U.AnyOne 1) a }
-{
-    let x = a?;
-    Some((x != 0) as u64)
-}
-
-/// Whether an odd number of bits are 1.
-#[inline]
-pub(crate) fn parity(a: Option<u64>) -> Option<u64>
-    ensures { result ≡ option_map odd a }
-{
-    let x = a?;
-    Some(odd(x))
-}
-
-/// The sum.
-#[inline]
-pub(crate) fn add(ones: u64, a: Option<u64>, b: Option<u64>) -> Option<u64>
-    ensures { result ≡ both (λ x y. bit_and ((x + y) % 2 ^ 64) ones) a b }
-{
-    let x = a?;
-    let y = b?;
-    Some(x.wrapping_add(y) & ones)
-}
-
-/// The difference.
-#[inline]
-pub(crate) fn sub(ones: u64, a: Option<u64>, b: Option<u64>) -> Option<u64>
-    ensures { result ≡ both (λ x y. bit_and ((x + 2 ^ 64 - y) % 2 ^ 64) ones) a b }
-{
-    let x = a?;
-    let y = b?;
-    Some(x.wrapping_sub(y) & ones)
-}
-
-/// The bits that differ.
-#[inline]
-pub(crate) fn xor(a: Option<u64>, b: Option<u64>) -> Option<u64>
-    ensures { result ≡ both (infixed B.Xor 1) a b }
-{
-    let x = a?;
-    let y = b?;
-    Some(x ^ y)
-}
-
-/// Whether they are equal.
-#[inline]
-pub(crate) fn eq(a: Option<u64>, b: Option<u64>) -> Option<u64>
-    ensures { result ≡ both (infixed B.Eq 1) a b }
-{
-    let x = a?;
-    let y = b?;
-    Some((x == y) as u64)
-}
-
-/// Whether they differ.
-#[inline]
-pub(crate) fn ne(a: Option<u64>, b: Option<u64>) -> Option<u64>
-    ensures { result ≡ both (infixed B.Ne 1) a b }
-{
-    let x = a?;
-    let y = b?;
-    Some((x != y) as u64)
-}
-
-/// Whether the first is below.
-#[inline]
-pub(crate) fn lt(a: Option<u64>, b: Option<u64>) -> Option<u64>
-    ensures { result ≡ both (infixed B.Lt 1) a b }
-{
-    let x = a?;
-    let y = b?;
-    Some((x < y) as u64)
-}
-
-/// Whether the first is not above.
-#[inline]
-pub(crate) fn le(a: Option<u64>, b: Option<u64>) -> Option<u64>
-    ensures { result ≡ both (infixed B.Le 1) a b }
-{
-    let x = a?;
-    let y = b?;
-    Some((x <= y) as u64)
-}
-
-/// The first moved up by the second.
-#[inline]
-pub(crate) fn shl(ones: u64, a: Option<u64>, b: Option<u64>) -> Option<u64>
-    ensures { result ≡ both (λ x y. bit_and (raised x y) ones) a b }
-{
-    let x = a?;
-    let y = b?;
-    Some(raised(x, y) & ones)
-}
-
-/// The first moved down by the second.
-#[inline]
-pub(crate) fn shr(a: Option<u64>, b: Option<u64>) -> Option<u64>
-    ensures { result ≡ both lowered a b }
-{
-    let x = a?;
-    let y = b?;
-    Some(lowered(x, y))
 }
 
 /// The first above the low bits that the second has.

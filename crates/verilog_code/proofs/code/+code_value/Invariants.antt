@@ -14,9 +14,3 @@ decreases-quick l = 4 * the_size l.x.now + 2
 
 abbrev pub decreases-chosen : goal.decreases-chosen
 decreases-chosen l = 4 * max (the_size l.a.now) (the_size l.b.now) + 2
-
-abbrev pub decreases-are_both_true : goal.decreases-are_both_true
-decreases-are_both_true l = 4 * max (the_size l.a.now) (the_size l.b.now) + 3
-
-abbrev pub decreases-is_one_true : goal.decreases-is_one_true
-decreases-is_one_true l = 4 * max (the_size l.a.now) (the_size l.b.now) + 3
