@@ -1,25 +1,14 @@
-use Rattle.std.proofs.Common.{[], ◌∷◌, ◌++◌, ap, ◌∙◌, map}
-use Rattle.verilog_tree.specs.Plain.{AssignItem, plain_item}
-use Rattle.verilog_tree.specs.Meaning.{bit}
-use Rattle.rtl_layout.specs.Plan.{is_single}
+use Rattle.std.proofs.Common.{ap}
+use Rattle.verilog_tree.specs.Plain.{AssignItem}
 use Rattle.rtl_layout.specs.Layout as L
 use Rattle.rtl_layout.specs.Seen.{seen}
-use Rattle.rtl_layout.proofs.Joined.{join, named}
+use Rattle.rtl_layout.proofs.Built.{told}
+use Rattle.rtl_layout.proofs.Joined.{more, last}
 use Rattle.rtl_layout.proofs.assigns.assign_ends.Goals as goal
 
 pub returns : goal.returns
 returns c =
-    let p = seen c.args.plan.now in
-    join (map plain_item c.args.items.now.items) _ _ (AssignItem L.ends_more (L.in_row p L.ends) ∷ []) (AssignItem L.ends_again (L.by_element p 1 (λ x. bit (is_single x))) ∷ [] ++ (AssignItem L.ends_next (L.by_next p (λ x. bit (is_single x))) ∷ [] ++ (AssignItem L.pause_next (L.by_next p (λ x. bit x.pause)) ∷ [])))
-    (named AssignItem _ _ _ _ _ _ c.name-2.ensures (c.in_ok-more.ensures ∙ ap (L.in_row p) c.name.ensures) c.in_ok-assign.ensures)
-    (
-    join (map plain_item c.assign.new.items.items) _ _ (AssignItem L.ends_again (L.by_element p 1 (λ x. bit (is_single x))) ∷ []) (AssignItem L.ends_next (L.by_next p (λ x. bit (is_single x))) ∷ [] ++ (AssignItem L.pause_next (L.by_next p (λ x. bit x.pause)) ∷ []))
-    (named AssignItem _ _ _ _ _ _ c.name-3.ensures c.in_ok-again.ensures c.in_ok-assign-2.ensures)
-    (
-    join (map plain_item c.assign-2.new.items.items) _ _ (AssignItem L.ends_next (L.by_next p (λ x. bit (is_single x))) ∷ []) (AssignItem L.pause_next (L.by_next p (λ x. bit x.pause)) ∷ [])
-    (named AssignItem _ _ _ _ _ _ c.name-4.ensures c.in_ok-next.ensures c.in_ok-assign-3.ensures)
-    (
-    named AssignItem _ _ _ _ _ _ c.name-5.ensures c.in_ok-pause.ensures c.in_ok-assign-4.ensures
-    )
-    )
-    )
+    more _ _ _ _ _ _ (c.in_ok-assign_built.ensures _ (told c.in_row-more.result _ _ (ap (L.in_row (seen c.args.plan.now)) c.name.ensures) c.in_row-more.ensures))
+    (more _ _ _ _ _ _ (c.in_ok-assign_built-2.ensures _ c.by_element-again.ensures)
+    (more _ _ _ _ _ _ (c.in_ok-assign_built-3.ensures _ c.by_next-next.ensures)
+    (last c.assign_built-4.result c.by_next-pause.result (AssignItem L.pause_next) _ _ _ c.assign_built-4.ensures c.by_next-pause.ensures)))

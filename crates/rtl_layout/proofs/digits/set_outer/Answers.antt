@@ -1,14 +1,13 @@
-use Rattle.std.proofs.Common.{[], ◌∷◌, map, refl}
-use Rattle.verilog_tree.specs.Plain.{SetTo, plain_stmt}
-use Rattle.rtl_layout.specs.Layout as L
-use Rattle.rtl_layout.specs.Seen.{seen}
-use Rattle.rtl_layout.proofs.Joined.{join, counter_set, nets}
+use Rattle.std.proofs.Common.{[], refl}
+use Rattle.verilog_tree.specs.Plain.{SetTo}
+use Rattle.rtl_layout.proofs.Joined.{more, last, last_told, named, counter_told, nets}
 use Rattle.rtl_layout.proofs.digits.set_outer.Goals as goal
 
 pub returns : goal.returns
 returns c =
-    let p = seen c.args.plan.now in
-    join (map plain_stmt c.args.block.now.items) _ _ (SetTo L.element (L.element_next p) ∷ []) (SetTo L.back (L.back_next p) ∷ [])
-    (counter_set _ _ _ _ _ _ _ _ _ c.name.ensures (nets _ _ _ _ c.name-run.ensures (nets _ _ _ _ c.name-last_oper.ensures (nets _ _ [] [] c.name-last_visit.ensures refl))) c.name-last_element.ensures c.in_ok-set_counter.ensures)
-    (counter_set _ _ _ _ _ _ _ _ _ c.name-2.ensures
-    (nets _ _ _ _ c.name-run.ensures (nets _ _ _ _ c.name-last_oper.ensures (nets _ _ _ _ c.name-last_visit.ensures (nets _ _ [] [] c.name-last_element.ensures refl)))) c.name-3.ensures c.in_ok-set_counter-2.ensures)
+    let visit = nets _ _ [] [] c.name-last_visit.ensures refl in
+    let element = nets _ _ _ _ c.name-last_visit.ensures (nets _ _ [] [] c.name-last_element.ensures refl) in
+    more _ _ _ _ _ _
+    (named SetTo _ _ _ _ _ _ c.name-element.ensures (counter_told _ _ _ _ _ _ _ c.name-element.ensures (nets _ _ _ _ c.name-run.ensures (nets _ _ _ _ c.name-last_oper.ensures visit)) c.name-last_element.ensures) (c.in_ok-set.ensures _ c.counting-next.ensures))
+    (last_told c.set-2.result SetTo _ _ _ _ _ _ c.name-back.ensures (counter_told _ _ _ _ _ _ _ c.name-back.ensures (nets _ _ _ _ c.name-run.ensures (nets _ _ _ _ c.name-last_oper.ensures element)) c.name.ensures)
+    (last c.set-2.result c.counting-next-2.result (SetTo c.name-back.result.bytes) _ _ _ c.set-2.ensures c.counting-next-2.ensures))

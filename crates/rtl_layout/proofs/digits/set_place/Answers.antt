@@ -1,15 +1,9 @@
-use Rattle.std.proofs.Common.{[], ◌∷◌, map}
-use Rattle.verilog_tree.specs.Plain.{SetTo, plain_stmt}
-use Rattle.rtl_layout.specs.Layout as L
-use Rattle.rtl_layout.specs.Seen.{seen}
-use Rattle.rtl_layout.proofs.Joined.{join, named}
+use Rattle.std.proofs.Common.{refl}
+use Rattle.verilog_tree.specs.Plain.{SetTo}
+use Rattle.rtl_layout.proofs.Joined.{more, last, last_told, named}
 use Rattle.rtl_layout.proofs.digits.set_place.Goals as goal
 
 pub returns : goal.returns
 returns c =
-    let p = seen c.args.plan.now in
-    join (map plain_stmt c.args.block.now.items) _ _ (SetTo L.last_oper (L.last_oper_next p) ∷ []) (SetTo L.last_visit (L.last_visit_next p) ∷ [])
-    (named SetTo _ _ _ _ _ _ c.name.ensures c.in_ok-oper.ensures c.in_ok-set.ensures)
-    (
-    named SetTo _ _ _ _ _ _ c.name-2.ensures c.in_ok-visit.ensures c.in_ok-set-2.ensures
-    )
+    more _ _ _ _ _ _ (named SetTo _ _ _ _ _ _ c.name.ensures refl (c.in_ok-set.ensures _ c.last_oper_next-oper.ensures))
+    (last_told c.set-2.result SetTo _ _ _ _ _ _ c.name-2.ensures refl (last c.set-2.result c.last_visit_next-visit.result (SetTo c.name-2.result.bytes) _ _ _ c.set-2.ensures c.last_visit_next-visit.ensures))

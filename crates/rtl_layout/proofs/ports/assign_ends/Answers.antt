@@ -1,13 +1,11 @@
-use Rattle.std.proofs.Common.{suc, [], ◌∷◌, map}
-use Rattle.verilog_tree.specs.Plain.{AssignItem, Net, plain_item}
+use Rattle.std.proofs.Common.{codes, ap, ◌∙◌}
+use Rattle.verilog_tree.specs.Plain.{AssignItem, Net}
 use Rattle.rtl_layout.specs.Layout as L
-use Rattle.rtl_layout.proofs.Joined.{join, named, gated_net, over_next}
+use Rattle.rtl_layout.proofs.Built.{told}
+use Rattle.rtl_layout.proofs.Joined.{more, last, aged_next}
 use Rattle.rtl_layout.proofs.ports.assign_ends.Goals as goal
 
 pub returns : goal.returns
 returns c =
-    join (map plain_item c.args.items.now.items) _ _ (AssignItem L.done (L.gated (Net (L.over_at (suc c.args.delay)))) ∷ []) (AssignItem L.fail (L.gated (Net L.bad)) ∷ [])
-    (named AssignItem _ _ _ _ _ _ c.name.ensures (gated_net _ _ _ _ (over_next _ c.args.delay c.aged.ensures) c.net.ensures c.in_ok-done.ensures) c.in_ok-assign.ensures)
-    (
-    named AssignItem _ _ _ _ _ _ c.name-3.ensures (gated_net _ _ _ _ c.name-2.ensures c.net-2.ensures c.in_ok-fail.ensures) c.in_ok-assign-2.ensures
-    )
+    more _ _ _ _ _ _ (c.in_ok-assign_built.ensures _ (told c.gate-done.result _ _ (ap L.gated (c.net.ensures ∙ ap Net (aged_next (codes "over") _ c.args.delay c.aged.ensures))) c.gate-done.ensures))
+    (last c.assign_built-2.result c.gate-fail.result (AssignItem L.fail) _ _ _ c.assign_built-2.ensures (told c.gate-fail.result _ _ (ap L.gated (c.net-2.ensures ∙ ap Net c.name.ensures)) c.gate-fail.ensures))
