@@ -11,7 +11,6 @@ use crate::flags::{ElementFlag, RowFlag};
 use crate::parts::assign_built;
 use crate::plan::Plan;
 use crate::tables::{by_element, by_next, flag_row, has_several_bits, in_row, pattern, word_of};
-use crate::trees::low;
 use std::alloc::{AllocError, Global};
 use verilog_tree::build::{binary, choose, flag, literal, name, net};
 use verilog_tree::{BinOp, Expr, Item, Name};
@@ -32,17 +31,16 @@ fn is_last(alloc: Global, digit: Name, width: u8, count: usize) -> Result<Expr, 
     )
 }
 
-fn live(alloc: Global) -> Result<Expr, AllocError>
-    ensures { IfOk result (λ x. plain x ≡ L.is_live) }
-{
-    choose(alloc, net(name("pause")), flag(false), net(name("run")))
-}
-
 // The number of the visited word, from the lowest up.
 fn visited(plan: &Plan) -> Expr
     ensures { plain result ≡ L.visited (seen plan.now) }
 {
-    low(name("visit"), plan.visit_width, plan.addr_width)
+    let visit = name("visit");
+    if plan.addr_width == plan.visit_width {
+        Expr::Name(visit)
+    } else {
+        Expr::Part(visit, plan.addr_width - 1, 0)
+    }
 }
 
 fn index(alloc: Global, plan: &Plan) -> Result<Expr, AllocError>
@@ -99,7 +97,8 @@ fn assign_flags(items: &mut Vec<Item>, alloc: Global, plan: &Plan) -> Result<(),
     assign_built(items, "pause", pause)
 }
 
-// Whether the next operation is the last of its element, and whether the next element is a pause.
+// Whether the next operation is the last of its element, whether the next element is a pause, and what ends at this place
+// of the march.
 fn assign_ends(items: &mut Vec<Item>, alloc: Global, plan: &Plan) -> Result<(), AllocError>
     ensures { OnOk result (map plain_item items.new.items ≡ map plain_item items.old.items ++ LInner.end_assigns (seen plan.now)) }
 {
@@ -110,13 +109,7 @@ fn assign_ends(items: &mut Vec<Item>, alloc: Global, plan: &Plan) -> Result<(), 
     let next = by_next(alloc, plan, ElementFlag::Single);
     assign_built(items, "ends_next", next)?;
     let pause = by_next(alloc, plan, ElementFlag::Pause);
-    assign_built(items, "pause_next", pause)
-}
-
-// What ends at this place of the march.
-fn assign_lasts(items: &mut Vec<Item>, alloc: Global, plan: &Plan) -> Result<(), AllocError>
-    ensures { OnOk result (map plain_item items.new.items ≡ map plain_item items.old.items ++ L.last_assigns (seen plan.now)) }
-{
+    assign_built(items, "pause_next", pause)?;
     let element = is_last(
         alloc,
         name("element"),
@@ -132,7 +125,8 @@ fn assign_lasts(items: &mut Vec<Item>, alloc: Global, plan: &Plan) -> Result<(),
 fn assign_command(items: &mut Vec<Item>, alloc: Global, plan: &Plan) -> Result<(), AllocError>
     ensures { OnOk result (map plain_item items.new.items ≡ map plain_item items.old.items ++ L.command_assigns (seen plan.now)) }
 {
-    assign_built(items, "live", live(alloc))?;
+    let live = choose(alloc, net(name("pause")), flag(false), net(name("run")));
+    assign_built(items, "live", live)?;
     assign_built(items, "index", index(alloc, plan))?;
     let zeros = pattern(alloc, plan, name("back"));
     assign_built(items, "pattern", zeros)?;
@@ -148,6 +142,5 @@ pub fn assign_wires(items: &mut Vec<Item>, alloc: Global, plan: &Plan) -> Result
     assign_rows(items, alloc, plan)?;
     assign_flags(items, alloc, plan)?;
     assign_ends(items, alloc, plan)?;
-    assign_lasts(items, alloc, plan)?;
     assign_command(items, alloc, plan)
 }

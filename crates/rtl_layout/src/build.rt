@@ -8,7 +8,7 @@ ghost use Rattle.rtl_layout.specs.Seen.{seen};
 
 use crate::ages::{aged, back_at, declare_ages, set_ages, value_at};
 use crate::assigns::assign_wires;
-use crate::digits::{set_digits, set_one};
+use crate::digits::set_digits;
 use crate::parts::{set, wires};
 use crate::plan::Plan;
 use crate::ports::{assign_ports, ports};
@@ -102,7 +102,6 @@ fn set_all(block: &mut Vec<Stmt>, alloc: Global, plan: &Plan) -> Result<(), Allo
     ensures { OnOk result (map plain_stmt block.new.items ≡ map plain_stmt block.old.items ++ L.sets_all (seen plan.now)) }
 {
     set_digits(block, alloc, plan)?;
-    set_one(block, alloc, plan)?;
     let many = is_several(plan);
     set_ages(block, alloc, many, plan.back_width, plan.delay)?;
     set(block, name("want"), want_next(alloc, plan))?;

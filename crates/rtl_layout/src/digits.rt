@@ -16,15 +16,18 @@ use std::alloc::{AllocError, Global};
 use verilog_tree::build::{binary, choose, flag, literal, name, net};
 use verilog_tree::{BinOp, Expr, Name, Stmt};
 
-// `oper` and `visit`.
-fn set_inner(block: &mut Vec<Stmt>, alloc: Global, plan: &Plan) -> Result<(), AllocError>
-    ensures { OnOk result (map plain_stmt block.new.items ≡ map plain_stmt block.old.items ++ LInner.inner_sets (seen plan.now)) }
+// What counts the operations, the visits, the elements and the backgrounds.
+fn set_counters(block: &mut Vec<Stmt>, alloc: Global, plan: &Plan) -> Result<(), AllocError>
+    ensures { OnOk result (map plain_stmt block.new.items ≡ map plain_stmt block.old.items ++ LInner.counter_sets (seen plan.now)) }
 {
     let run = name("run");
     let oper = name("oper");
     let visit = name("visit");
+    let element = name("element");
+    let back = name("back");
     let last_oper = name("last_oper");
     let last_visit = name("last_visit");
+    let last_element = name("last_element");
     let next = counting(alloc, oper, plan.oper_width, &[run], last_oper);
     set(block, oper, next)?;
     let next = counting(
@@ -34,19 +37,7 @@ fn set_inner(block: &mut Vec<Stmt>, alloc: Global, plan: &Plan) -> Result<(), Al
         &[run, last_oper],
         last_visit,
     );
-    set(block, visit, next)
-}
-
-// `element` and `back`.
-fn set_outer(block: &mut Vec<Stmt>, alloc: Global, plan: &Plan) -> Result<(), AllocError>
-    ensures { OnOk result (map plain_stmt block.new.items ≡ map plain_stmt block.old.items ++ LInner.outer_sets (seen plan.now)) }
-{
-    let run = name("run");
-    let element = name("element");
-    let back = name("back");
-    let last_oper = name("last_oper");
-    let last_visit = name("last_visit");
-    let last_element = name("last_element");
+    set(block, visit, next)?;
     let next = counting(
         alloc,
         element,
@@ -126,16 +117,6 @@ fn one_next(alloc: Global, plan: &Plan) -> Result<Expr, AllocError>
     turning(alloc, name("one"), first, next, again, more)
 }
 
-/// The bit of the operation, where a register holds it.
-pub fn set_one(block: &mut Vec<Stmt>, alloc: Global, plan: &Plan) -> Result<(), AllocError>
-    ensures { OnOk result (map plain_stmt block.new.items ≡ map plain_stmt block.old.items ++ L.one_set (seen plan.now) (several_bits (seen plan.now))) }
-{
-    if has_several_bits(plan) {
-        return set(block, name("one"), one_next(alloc, plan));
-    }
-    Ok(())
-}
-
 // How often an element is visited.
 fn limit(plan: &Plan, element: &Element) -> u32
     ensures { result ≡ limit (seen plan.now) element.now }
@@ -186,22 +167,25 @@ fn last_visit_next(alloc: Global, plan: &Plan) -> Result<Expr, AllocError>
     after_reset(alloc, flag(first == 1), stepped)
 }
 
-// What the next operation and visit have.
+// What the next operation and visit have, and the operation's bit where a register holds it.
 fn set_place(block: &mut Vec<Stmt>, alloc: Global, plan: &Plan) -> Result<(), AllocError>
     ensures { OnOk result (map plain_stmt block.new.items ≡ map plain_stmt block.old.items ++ LInner.place_sets (seen plan.now)) }
 {
     let oper = last_oper_next(alloc, plan);
     set(block, name("last_oper"), oper)?;
     let visit = last_visit_next(alloc, plan);
-    set(block, name("last_visit"), visit)
+    set(block, name("last_visit"), visit)?;
+    if has_several_bits(plan) {
+        return set(block, name("one"), one_next(alloc, plan));
+    }
+    Ok(())
 }
 
 /// The place in the march, and whether the run goes on.
 pub fn set_digits(block: &mut Vec<Stmt>, alloc: Global, plan: &Plan) -> Result<(), AllocError>
-    ensures { OnOk result (map plain_stmt block.new.items ≡ map plain_stmt block.old.items ++ L.digit_sets (seen plan.now)) }
+    ensures { OnOk result (map plain_stmt block.new.items ≡ map plain_stmt block.old.items ++ (L.digit_sets (seen plan.now) ++ L.one_set (seen plan.now) (several_bits (seen plan.now)))) }
 {
-    set_inner(block, alloc, plan)?;
-    set_outer(block, alloc, plan)?;
+    set_counters(block, alloc, plan)?;
     set(block, name("run"), run_next(alloc))?;
     set_place(block, alloc, plan)
 }

@@ -75,30 +75,17 @@ fn address(alloc: Global, plan: &Plan) -> Result<Expr, AllocError>
     Ok(concat(bits))
 }
 
-fn assign_command(items: &mut Vec<Item>, alloc: Global, plan: &Plan) -> Result<(), AllocError>
-    ensures { OnOk result (map plain_item items.new.items ≡ map plain_item items.old.items ++ L.command_outputs (seen plan.now)) }
+/// All outputs.
+pub fn assign_ports(items: &mut Vec<Item>, alloc: Global, plan: &Plan) -> Result<(), AllocError>
+    ensures { OnOk result (map plain_item items.new.items ≡ map plain_item items.old.items ++ L.port_assigns (seen plan.now)) }
 {
     let en = gate(alloc, net(name("live")));
     assign_built(items, "en", en)?;
     assign(items, name("we"), net(name("write")))?;
     assign_built(items, "addr", address(alloc, plan))?;
-    assign(items, name("wdata"), net(name("word")))
-}
-
-fn assign_ends(items: &mut Vec<Item>, alloc: Global, delay: u8) -> Result<(), AllocError>
-    requires { delay ≤ 3 }
-    ensures { OnOk result (map plain_item items.new.items ≡ map plain_item items.old.items ++ L.end_outputs delay) }
-{
-    let done = gate(alloc, net(aged("over", delay + 1)));
+    assign(items, name("wdata"), net(name("word")))?;
+    let done = gate(alloc, net(aged("over", plan.delay + 1)));
     assign_built(items, "done", done)?;
     let fail = gate(alloc, net(name("bad")));
     assign_built(items, "fail", fail)
-}
-
-/// All outputs.
-pub fn assign_ports(items: &mut Vec<Item>, alloc: Global, plan: &Plan) -> Result<(), AllocError>
-    ensures { OnOk result (map plain_item items.new.items ≡ map plain_item items.old.items ++ L.port_assigns (seen plan.now)) }
-{
-    assign_command(items, alloc, plan)?;
-    assign_ends(items, alloc, plan.delay)
 }

@@ -9,5 +9,4 @@ returns c =
     let p = seen c.args.plan.now in
     grown c.assign_command.result _ _ _ (L.row_assigns p) _ c.in_ok-assign_rows.ensures
     (grown _ _ _ _ (L.flag_assigns p) _ c.in_ok-assign_flags.ensures
-    (grown _ _ _ _ (LInner.end_assigns p) _ c.in_ok-assign_ends.ensures
-    (grown _ _ _ _ (L.last_assigns p) _ c.in_ok-assign_lasts.ensures c.assign_command.ensures)))
+    (grown _ _ _ _ (LInner.end_assigns p) _ c.in_ok-assign_ends.ensures c.assign_command.ensures))

@@ -8,6 +8,5 @@ use Rattle.rtl_layout.proofs.digits.set_digits.Goals as goal
 pub returns : goal.returns
 returns c =
     let p = seen c.args.plan.now in
-    grown c.set_place.result _ _ _ (LInner.inner_sets p) _ c.in_ok-set_inner.ensures
-    (grown _ _ _ _ (LInner.outer_sets p) _ c.in_ok-set_outer.ensures
-    (more _ _ _ _ _ _ (named SetTo _ _ _ _ _ _ c.name.ensures refl (c.in_ok-set.ensures _ c.run_next.ensures)) c.set_place.ensures))
+    grown c.set_place.result _ _ _ (LInner.counter_sets p) _ c.in_ok-set_counters.ensures
+    (more _ _ _ _ _ _ (named SetTo _ _ _ _ _ _ c.name.ensures refl (c.in_ok-set.ensures _ c.run_next.ensures)) c.set_place.ensures)
