@@ -35,8 +35,9 @@ class_line_more js k h =
     ∙ ap (λ l. flat_map line (take k class_order) ++ l) (append-nil (line last))
 
 -- a text that grew by four parts
-pub four_parts : (o a b c d p q r s : List ℕ) → p ≡ o ++ a → q ≡ p ++ b → r ≡ q ++ c → s ≡ r ++ d → s ≡ o ++ (((a ++ b) ++ c) ++ d)
-four_parts o a b c d p q r s ep eq er es =
+pub four_parts : {E : Type 0} (result : Result (Unit {0}) E) (o a b c d p q r s : List ℕ) → p ≡ o ++ a → q ≡ p ++ b → r ≡ q ++ c → OnOk result (s ≡ r ++ d) → OnOk result (s ≡ o ++ (((a ++ b) ++ c) ++ d))
+four_parts (Err e) o a b c d p q r s ep eq er es = tt
+four_parts (Ok u) o a b c d p q r s ep eq er es =
     es ∙ ap (λ l. l ++ d) (er ∙ ap (λ l. l ++ c) (eq ∙ ap (λ l. l ++ b) ep)) ∙ simp append_assoc
 
 -- a text that grew by the text of one element more, and by those of all
@@ -53,6 +54,10 @@ pub all_texts : {X : Type 0} (f : X → List ℕ) (xs : List X) (i : ℕ) (old n
 all_texts f xs i old now h inv = inv ∙ ap (λ l. old ++ flat_map f l) (take_all i xs h)
 
 -- one that grew by three parts, and by five
+pub two_parts : {E : Type 0} (result : Result (Unit {0}) E) (o a b c p q : List ℕ) → p ≡ o ++ a → OnOk result (q ≡ p ++ (b ++ c)) → OnOk result (q ≡ o ++ ((a ++ b) ++ c))
+two_parts (Err e) o a b c p q ep eq = tt
+two_parts (Ok u) o a b c p q ep eq = eq ∙ ap (λ l. l ++ (b ++ c)) ep ∙ simp append_assoc
+
 pub three_parts : {E : Type 0} (result : Result (Unit {0}) E) (o a b c d p q r : List ℕ) → p ≡ o ++ a → q ≡ p ++ b → OnOk result (r ≡ q ++ c) → c ≡ d → OnOk result (r ≡ o ++ ((a ++ b) ++ d))
 three_parts (Err e) o a b c d p q r ep eq er ec = tt
 three_parts (Ok u) o a b c d p q r ep eq er ec = er ∙ ap (λ l. q ++ l) ec ∙ ap (λ l. l ++ d) (eq ∙ ap (λ l. l ++ b) ep) ∙ simp append_assoc
@@ -74,11 +79,11 @@ class_written result class (suc n) covered o p q r s t some ep eq er es et =
     joined : (a b c d e f g : List ℕ) → ((((a ++ b) ++ c) ++ ((d ++ e) ++ f)) ++ g) ≡ ((((((a ++ b) ++ c) ++ d) ++ e) ++ f) ++ g)
     joined a b c d e f g = simp append_assoc
 
-pub total_written : {E : Type 0} (result : Result (Unit {0}) E) (count covered : ℕ) (o p q r s t : List ℕ) → p ≡ o ++ codes "total " → q ≡ p ++ (decimal count ++ codes " covered " ++ decimal covered)
-    → r ≡ q ++ codes " escapes " → s ≡ r ++ decimal (count - covered) → OnOk result (t ≡ s ++ codes "\n") → OnOk result (t ≡ o ++ total_line count covered)
-total_written result count covered o p q r s t ep eq er es et =
+pub total_written : {E : Type 0} (result : Result (Unit {0}) E) (count covered : ℕ) (o p q s t : List ℕ) → p ≡ o ++ codes "total " → q ≡ p ++ (decimal count ++ codes " covered " ++ decimal covered)
+    → s ≡ q ++ (codes " escapes " ++ decimal (count - covered)) → OnOk result (t ≡ s ++ codes "\n") → OnOk result (t ≡ o ++ total_line count covered)
+total_written result count covered o p q s t ep eq es et =
     subst (λ x. OnOk result (t ≡ o ++ x)) (joined (codes "total ") (decimal count) (codes " covered ") (decimal covered) (codes " escapes ") (decimal (count - covered)) (codes "\n"))
-    (five_parts result o (codes "total ") (decimal count ++ codes " covered " ++ decimal covered) (codes " escapes ") (decimal (count - covered)) (codes "\n") p q r s t ep eq er es et)
+    (five_parts result o (codes "total ") (decimal count ++ codes " covered " ++ decimal covered) (codes " escapes ") (decimal (count - covered)) (codes "\n") p q (q ++ codes " escapes ") s t ep eq refl (es ∙ sym (append_assoc q (codes " escapes ") (decimal (count - covered)))) et)
   where
     joined : (a b c d e f g : List ℕ) → ((((a ++ ((b ++ c) ++ d)) ++ e) ++ f) ++ g) ≡ ((((((a ++ b) ++ c) ++ d) ++ e) ++ f) ++ g)
     joined a b c d e f g = simp append_assoc

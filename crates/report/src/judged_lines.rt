@@ -106,8 +106,7 @@ fn write_passing(
     put(out, b" content ")?;
     write_content(out, content)?;
     put(out, b" directions ")?;
-    write_directions(out, directions, size)?;
-    Ok(())
+    write_directions(out, directions, size)
 }
 
 /// Appends an escape of a march with so many elements.

@@ -2,8 +2,9 @@ ghost use Rattle.std.specs.Prelude.{◌≡◌, ◌++◌, OnOk};
 ghost use Rattle.std.specs.Option.{option_copied};
 ghost use Rattle.report.specs.Report.{size_text, work_text, memory_line};
 
+use crate::total::put_number;
 use bist_bits::NoMemory;
-use bist_text::{put, put_decimal};
+use bist_text::put;
 use march_core::March;
 use memory_desc::Memory;
 use word_march::length;
@@ -14,21 +15,16 @@ fn write_size(out: &mut Vec<u8>, memory: &Memory) -> Result<(), NoMemory>
 {
     put(out, b"memory ")?;
     put(out, memory.name().as_bytes())?;
-    put(out, b" words ")?;
-    put_decimal(out, u64::from(memory.words()))?;
-    put(out, b" bits ")?;
-    put_decimal(out, u64::from(memory.bits()))
+    put_number(out, b" words ", u64::from(memory.words()))?;
+    put_number(out, b" bits ", u64::from(memory.bits()))
 }
 
 /// Appends how often the march runs on a memory, and with how many commands in all.
 fn write_work(out: &mut Vec<u8>, march: &March, memory: &Memory) -> Result<(), NoMemory>
     ensures { OnOk result (out.new.items ≡ out.old.items ++ work_text march.now memory.now) }
 {
-    put(out, b" backgrounds ")?;
-    put_decimal(out, memory.backgrounds().len() as u64)?;
-    put(out, b" commands ")?;
-    put_decimal(out, length(march, memory))?;
-    Ok(())
+    put_number(out, b" backgrounds ", memory.backgrounds().len() as u64)?;
+    put_number(out, b" commands ", length(march, memory))
 }
 
 /// Appends the line of a memory, where there is one.

@@ -29,13 +29,20 @@ pub fn count_covered(judged: &[JudgedItem]) -> usize
     judged.iter().filter(|item| is_item_covered(item)).count()
 }
 
+/// Appends a text and a number behind it.
+pub(crate) fn put_number(out: &mut Vec<u8>, text: &[u8], number: u64) -> Result<(), NoMemory>
+    ensures { OnOk result (out.new.items ≡ out.old.items ++ (text.now ++ decimal number)) }
+{
+    put(out, text)?;
+    put_decimal(out, number)
+}
+
 /// Appends how many items there are, and how many of them are covered.
 pub(crate) fn put_counts(out: &mut Vec<u8>, count: usize, covered: usize) -> Result<(), NoMemory>
     ensures { OnOk result (out.new.items ≡ out.old.items ++ (decimal count ++ codes " covered " ++ decimal covered)) }
 {
     put_decimal(out, count as u64)?;
-    put(out, b" covered ")?;
-    put_decimal(out, covered as u64)
+    put_number(out, b" covered ", covered as u64)
 }
 
 /// Appends the line of the total. After want of memory `out` ends in a part of the line, or in none of it.
@@ -45,8 +52,7 @@ pub(crate) fn write_total(out: &mut Vec<u8>, count: usize, covered: usize) -> Re
 {
     put(out, b"total ")?;
     put_counts(out, count, covered)?;
-    put(out, b" escapes ")?;
-    put_decimal(out, (count - covered) as u64)?;
+    put_number(out, b" escapes ", (count - covered) as u64)?;
     put(out, b"\n")
 }
 

@@ -1,8 +1,8 @@
 -- One age more.
 use Rattle.std.proofs.Common.{◌≡◌, ℕ, suc, ◌+◌, ◌-◌, ◌<◌, ◌≤◌, Bool, List, [], ◌∷◌, ◌++◌, codes, true, false, refl, sym, ap, ◌∙◌, arith, append_assoc}
-use Rattle.verilog_tree.specs.Plain.{Expression, Statement, SetTo, ModuleItem, RegItem}
-use Rattle.rtl_layout.specs.Layout.{aged, reads_at, over_at, stage_regs, gated, feed_reads, feed_over, stage_sets}
-use Rattle.rtl_layout.specs.inner.Layout.{age_regs, end_age_sets, age_sets}
+use Rattle.verilog_tree.specs.Plain.{Statement, ModuleItem, RegItem}
+use Rattle.rtl_layout.specs.Layout.{aged, reads_at, over_at, stage_regs, stage_sets}
+use Rattle.rtl_layout.specs.inner.Layout.{age_regs, age_sets}
 
 pub ages_turn : (many : Bool) (w i d : ℕ) (xs ys q : List ModuleItem) → i < d → ys ≡ xs ++ age_regs many w (i + 1) → xs ++ stage_regs many w i (d - i) ≡ q → ys ++ stage_regs many w (i + 1) (d - (i + 1)) ≡ q
 ages_turn many w i d xs ys q lt is h =
@@ -41,14 +41,3 @@ sets_turn many w i d xs ys q lt is h =
     ∙ ap (λ l. xs ++ l) (sym (next_sets many w i (d - (i + 1))))
     ∙ ap (λ k. xs ++ stage_sets many w i k) left
     ∙ h
-
--- the two registers of an age that has no value
-pub ends_are : (i : ℕ) (xs ys zs : List Statement) (r o : List ℕ) (x y : Expression) → r ≡ aged (codes "reads") (i + 1) → o ≡ aged (codes "over") (i + 1) → x ≡ gated (feed_reads i) → y ≡ gated (feed_over i)
-    → ys ≡ xs ++ SetTo r x ∷ [] → zs ≡ ys ++ SetTo o y ∷ [] → zs ≡ xs ++ end_age_sets i
-ends_are i xs ys zs r o x y rn on xe ye first then_ =
-    let up : i + 1 ≡ suc i = omega arith in
-    let one : SetTo r x ≡ SetTo (reads_at (suc i)) (gated (feed_reads i)) = ap (λ n. SetTo n x) (rn ∙ ap (λ k. aged (codes "reads") k) up) ∙ ap (SetTo (reads_at (suc i))) xe in
-    let two : SetTo o y ≡ SetTo (over_at (suc i)) (gated (feed_over i)) = ap (λ n. SetTo n y) (on ∙ ap (λ k. aged (codes "over") k) up) ∙ ap (SetTo (over_at (suc i))) ye in
-    then_ ∙ ap (λ l. l ++ SetTo o y ∷ []) first ∙ ap (λ s. (xs ++ s ∷ []) ++ SetTo o y ∷ []) one
-    ∙ ap (λ s. (xs ++ SetTo (reads_at (suc i)) (gated (feed_reads i)) ∷ []) ++ s ∷ []) two
-    ∙ append_assoc xs (SetTo (reads_at (suc i)) (gated (feed_reads i)) ∷ []) (SetTo (over_at (suc i)) (gated (feed_over i)) ∷ [])

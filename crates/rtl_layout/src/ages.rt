@@ -4,7 +4,7 @@ ghost use Rattle.verilog_tree.specs.Plain.{plain, plain_item, plain_stmt};
 ghost use Rattle.rtl_layout.specs.Layout as L;
 ghost use Rattle.rtl_layout.specs.inner.Layout as LInner;
 
-use crate::digits::set;
+use crate::parts::set;
 use crate::trees::{after_reset, gate};
 use arrayvec::ArrayString;
 use std::alloc::{AllocError, Global};
@@ -124,22 +124,27 @@ fn set_ends(block: &mut Vec<Stmt>, alloc: Global, age: u8) -> Result<(), AllocEr
     requires { age ≤ 3 }
     ensures { OnOk result (map plain_stmt block.new.items ≡ map plain_stmt block.old.items ++ LInner.end_age_sets age) }
 {
-    let reads = gated_reads(alloc, age)?;
-    set(block, aged("reads", age + 1), reads)?;
-    let over = gated_over(alloc, age)?;
-    set(block, aged("over", age + 1), over)?;
-    Ok(())
+    set(block, aged("reads", age + 1), gated_reads(alloc, age))?;
+    set(block, aged("over", age + 1), gated_over(alloc, age))
 }
 
-// The number of its background.
-fn set_back(block: &mut Vec<Stmt>, alloc: Global, width: u8, age: u8) -> Result<(), AllocError>
+// The number of its background, where there are several.
+fn set_back(
+    block: &mut Vec<Stmt>,
+    alloc: Global,
+    many: bool,
+    width: u8,
+    age: u8,
+) -> Result<(), AllocError>
     requires few { age ≤ 3 }
     requires positive { 1 ≤ width }
     requires narrow { width ≤ 64 }
-    ensures { OnOk result (map plain_stmt block.new.items ≡ map plain_stmt block.old.items ++ L.back_set width age ∷ []) }
+    ensures { OnOk result (map plain_stmt block.new.items ≡ map plain_stmt block.old.items ++ L.maybe many (L.back_set width age)) }
 {
-    let back = after_reset(alloc, literal(width, 0), net(back_at(true, age)))?;
-    set(block, aged("back", age + 1), back)?;
+    if many {
+        let back = after_reset(alloc, literal(width, 0), net(back_at(true, age)));
+        return set(block, aged("back", age + 1), back);
+    }
     Ok(())
 }
 
@@ -157,12 +162,9 @@ fn set_age(
     ensures { OnOk result (map plain_stmt block.new.items ≡ map plain_stmt block.old.items ++ LInner.age_sets many width age) }
 {
     set_ends(block, alloc, age)?;
-    let value = gate(alloc, net(value_at(age)))?;
+    let value = gate(alloc, net(value_at(age)));
     set(block, aged("value", age + 1), value)?;
-    if many {
-        set_back(block, alloc, width, age)?;
-    }
-    Ok(())
+    set_back(block, alloc, many, width, age)
 }
 
 /// What all ages take, of which `delay` have a value.
@@ -181,6 +183,5 @@ pub fn set_ages(
     for i in 0..delay {
         set_age(block, alloc, many, width, i)?;
     }
-    set_ends(block, alloc, delay)?;
-    Ok(())
+    set_ends(block, alloc, delay)
 }

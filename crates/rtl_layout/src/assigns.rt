@@ -8,11 +8,11 @@ ghost use Rattle.rtl_layout.specs.inner.Layout as LInner;
 ghost use Rattle.rtl_layout.specs.Seen.{seen};
 
 use crate::flags::{ElementFlag, RowFlag};
+use crate::parts::assign_built;
 use crate::plan::Plan;
 use crate::tables::{by_element, by_next, flag_row, has_several_bits, in_row, pattern, word_of};
-use crate::trees::low;
 use std::alloc::{AllocError, Global};
-use verilog_tree::build::{assign, binary, choose, flag, literal, name, net};
+use verilog_tree::build::{binary, choose, flag, literal, name, net};
 use verilog_tree::{BinOp, Expr, Item, Name};
 
 // Whether a digit is at the last of so many.
@@ -31,17 +31,16 @@ fn is_last(alloc: Global, digit: Name, width: u8, count: usize) -> Result<Expr, 
     )
 }
 
-fn live(alloc: Global) -> Result<Expr, AllocError>
-    ensures { IfOk result (λ x. plain x ≡ L.is_live) }
-{
-    choose(alloc, net(name("pause")), flag(false), net(name("run")))
-}
-
 // The number of the visited word, from the lowest up.
 fn visited(plan: &Plan) -> Expr
     ensures { plain result ≡ L.visited (seen plan.now) }
 {
-    low(name("visit"), plan.visit_width, plan.addr_width)
+    let visit = name("visit");
+    if plan.addr_width == plan.visit_width {
+        Expr::Name(visit)
+    } else {
+        Expr::Part(visit, plan.addr_width - 1, 0)
+    }
 }
 
 fn index(alloc: Global, plan: &Plan) -> Result<Expr, AllocError>
@@ -50,18 +49,6 @@ fn index(alloc: Global, plan: &Plan) -> Result<Expr, AllocError>
     let top = literal(plan.addr_width, u64::from(plan.words - 1));
     let downward = binary(alloc, BinOp::Sub, top, visited(plan))?;
     choose(alloc, net(name("down")), downward, visited(plan))
-}
-
-// The word of the background and the value.
-fn word(alloc: Global) -> Result<Expr, AllocError>
-    ensures { IfOk result (λ x. plain x ≡ L.word_of L.value (Net L.pattern)) }
-{
-    word_of(
-        alloc,
-        name("value"),
-        net(name("pattern")),
-        net(name("pattern")),
-    )
 }
 
 // Whether the bits of its operations are 1, or of those behind them where a register holds the operation's bit.
@@ -90,74 +77,62 @@ fn value_now(alloc: Global, plan: &Plan) -> Result<Expr, AllocError>
 fn assign_rows(items: &mut Vec<Item>, alloc: Global, plan: &Plan) -> Result<(), AllocError>
     ensures { OnOk result (map plain_item items.new.items ≡ map plain_item items.old.items ++ L.row_assigns (seen plan.now)) }
 {
-    let writes = flag_row(alloc, plan, RowFlag::Write)?;
-    assign(items, name("writes"), writes)?;
-    let ones = ones_row(alloc, plan)?;
-    assign(items, name("ones"), ones)?;
-    let ends = flag_row(alloc, plan, RowFlag::EndsBehind)?;
-    assign(items, name("ends"), ends)?;
-    Ok(())
+    let writes = flag_row(alloc, plan, RowFlag::Write);
+    assign_built(items, "writes", writes)?;
+    assign_built(items, "ones", ones_row(alloc, plan))?;
+    let ends = flag_row(alloc, plan, RowFlag::EndsBehind);
+    assign_built(items, "ends", ends)
 }
 
 // What stands at this place of the march.
 fn assign_flags(items: &mut Vec<Item>, alloc: Global, plan: &Plan) -> Result<(), AllocError>
     ensures { OnOk result (map plain_item items.new.items ≡ map plain_item items.old.items ++ L.flag_assigns (seen plan.now)) }
 {
-    let write = in_row(alloc, plan, name("writes"))?;
-    assign(items, name("write"), write)?;
-    let value = value_now(alloc, plan)?;
-    assign(items, name("value"), value)?;
-    let down = by_element(alloc, plan, ElementFlag::Down)?;
-    assign(items, name("down"), down)?;
-    let pause = by_element(alloc, plan, ElementFlag::Pause)?;
-    assign(items, name("pause"), pause)?;
-    Ok(())
+    let write = in_row(alloc, plan, name("writes"));
+    assign_built(items, "write", write)?;
+    assign_built(items, "value", value_now(alloc, plan))?;
+    let down = by_element(alloc, plan, ElementFlag::Down);
+    assign_built(items, "down", down)?;
+    let pause = by_element(alloc, plan, ElementFlag::Pause);
+    assign_built(items, "pause", pause)
 }
 
-// Whether the next operation is the last of its element, and whether the next element is a pause.
+// Whether the next operation is the last of its element, whether the next element is a pause, and what ends at this place
+// of the march.
 fn assign_ends(items: &mut Vec<Item>, alloc: Global, plan: &Plan) -> Result<(), AllocError>
     ensures { OnOk result (map plain_item items.new.items ≡ map plain_item items.old.items ++ LInner.end_assigns (seen plan.now)) }
 {
-    let more = in_row(alloc, plan, name("ends"))?;
-    assign(items, name("ends_more"), more)?;
-    let again = by_element(alloc, plan, ElementFlag::Single)?;
-    assign(items, name("ends_again"), again)?;
-    let next = by_next(alloc, plan, ElementFlag::Single)?;
-    assign(items, name("ends_next"), next)?;
-    let pause = by_next(alloc, plan, ElementFlag::Pause)?;
-    assign(items, name("pause_next"), pause)?;
-    Ok(())
-}
-
-// What ends at this place of the march.
-fn assign_lasts(items: &mut Vec<Item>, alloc: Global, plan: &Plan) -> Result<(), AllocError>
-    ensures { OnOk result (map plain_item items.new.items ≡ map plain_item items.old.items ++ L.last_assigns (seen plan.now)) }
-{
+    let more = in_row(alloc, plan, name("ends"));
+    assign_built(items, "ends_more", more)?;
+    let again = by_element(alloc, plan, ElementFlag::Single);
+    assign_built(items, "ends_again", again)?;
+    let next = by_next(alloc, plan, ElementFlag::Single);
+    assign_built(items, "ends_next", next)?;
+    let pause = by_next(alloc, plan, ElementFlag::Pause);
+    assign_built(items, "pause_next", pause)?;
     let element = is_last(
         alloc,
         name("element"),
         plan.element_width,
         plan.elements.len(),
-    )?;
-    assign(items, name("last_element"), element)?;
-    let back = is_last(alloc, name("back"), plan.back_width, plan.backgrounds.len())?;
-    assign(items, name("last_back"), back)?;
-    Ok(())
+    );
+    assign_built(items, "last_element", element)?;
+    let back = is_last(alloc, name("back"), plan.back_width, plan.backgrounds.len());
+    assign_built(items, "last_back", back)
 }
 
 // The command.
 fn assign_command(items: &mut Vec<Item>, alloc: Global, plan: &Plan) -> Result<(), AllocError>
     ensures { OnOk result (map plain_item items.new.items ≡ map plain_item items.old.items ++ L.command_assigns (seen plan.now)) }
 {
-    let live = live(alloc)?;
-    assign(items, name("live"), live)?;
-    let index = index(alloc, plan)?;
-    assign(items, name("index"), index)?;
-    let pattern = pattern(alloc, plan, name("back"))?;
-    assign(items, name("pattern"), pattern)?;
-    let word = word(alloc)?;
-    assign(items, name("word"), word)?;
-    Ok(())
+    let live = choose(alloc, net(name("pause")), flag(false), net(name("run")));
+    assign_built(items, "live", live)?;
+    assign_built(items, "index", index(alloc, plan))?;
+    let zeros = pattern(alloc, plan, name("back"));
+    assign_built(items, "pattern", zeros)?;
+    let pattern = name("pattern");
+    let word = word_of(alloc, name("value"), net(pattern), net(pattern));
+    assign_built(items, "word", word)
 }
 
 /// All wires.
@@ -167,7 +142,5 @@ pub fn assign_wires(items: &mut Vec<Item>, alloc: Global, plan: &Plan) -> Result
     assign_rows(items, alloc, plan)?;
     assign_flags(items, alloc, plan)?;
     assign_ends(items, alloc, plan)?;
-    assign_lasts(items, alloc, plan)?;
-    assign_command(items, alloc, plan)?;
-    Ok(())
+    assign_command(items, alloc, plan)
 }

@@ -8,13 +8,14 @@ ghost use Rattle.rtl_layout.specs.Seen.{seen};
 
 use crate::ages::{aged, back_at, declare_ages, set_ages, value_at};
 use crate::assigns::assign_wires;
-use crate::digits::{set, set_digits, set_one};
+use crate::digits::set_digits;
+use crate::parts::{set, wires};
 use crate::plan::Plan;
 use crate::ports::{assign_ports, ports};
 use crate::tables::{has_several_bits, pattern, row_width, word_of};
 use crate::trees::gate;
 use std::alloc::{AllocError, Global};
-use verilog_tree::build::{binary, choose, flag, name, net, register, wire};
+use verilog_tree::build::{binary, choose, flag, name, net, register};
 use verilog_tree::{BinOp, Expr, Item, Module, Stmt};
 
 fn is_several(plan: &Plan) -> bool
@@ -32,8 +33,7 @@ fn declare_digits(items: &mut Vec<Item>, plan: &Plan) -> Result<(), AllocError>
     register(items, name("back"), plan.back_width)?;
     register(items, name("run"), 1)?;
     register(items, name("last_oper"), 1)?;
-    register(items, name("last_visit"), 1)?;
-    Ok(())
+    register(items, name("last_visit"), 1)
 }
 
 fn declare_one(items: &mut Vec<Item>, plan: &Plan) -> Result<(), AllocError>
@@ -53,60 +53,23 @@ fn declare_registers(items: &mut Vec<Item>, plan: &Plan) -> Result<(), AllocErro
     declare_one(items, plan)?;
     declare_ages(items, is_several(plan), plan.back_width, plan.delay)?;
     register(items, name("want"), plan.bits)?;
-    register(items, name("bad"), 1)?;
-    Ok(())
-}
-
-fn declare_flags(items: &mut Vec<Item>, row: u8) -> Result<(), AllocError>
-    ensures { OnOk result (map plain_item items.new.items ≡ map plain_item items.old.items ++ L.flag_wires row) }
-{
-    wire(items, name("writes"), row)?;
-    wire(items, name("ones"), row)?;
-    wire(items, name("ends"), row)?;
-    wire(items, name("write"), 1)?;
-    wire(items, name("value"), 1)?;
-    wire(items, name("down"), 1)?;
-    wire(items, name("pause"), 1)?;
-    Ok(())
-}
-
-fn declare_nexts(items: &mut Vec<Item>) -> Result<(), AllocError>
-    ensures { OnOk result (map plain_item items.new.items ≡ map plain_item items.old.items ++ L.next_wires) }
-{
-    wire(items, name("ends_more"), 1)?;
-    wire(items, name("ends_again"), 1)?;
-    wire(items, name("ends_next"), 1)?;
-    wire(items, name("pause_next"), 1)?;
-    Ok(())
-}
-
-fn declare_lasts(items: &mut Vec<Item>) -> Result<(), AllocError>
-    ensures { OnOk result (map plain_item items.new.items ≡ map plain_item items.old.items ++ L.last_wires) }
-{
-    wire(items, name("last_element"), 1)?;
-    wire(items, name("last_back"), 1)?;
-    Ok(())
-}
-
-fn declare_command(items: &mut Vec<Item>, plan: &Plan) -> Result<(), AllocError>
-    ensures { OnOk result (map plain_item items.new.items ≡ map plain_item items.old.items ++ L.command_wires (seen plan.now)) }
-{
-    wire(items, name("live"), 1)?;
-    wire(items, name("index"), plan.addr_width)?;
-    wire(items, name("pattern"), plan.bits)?;
-    wire(items, name("word"), plan.bits)?;
-    Ok(())
+    register(items, name("bad"), 1)
 }
 
 // All wires.
 fn declare_wires(items: &mut Vec<Item>, plan: &Plan) -> Result<(), AllocError>
     ensures { OnOk result (map plain_item items.new.items ≡ map plain_item items.old.items ++ L.wires (seen plan.now)) }
 {
-    declare_flags(items, row_width(plan))?;
-    declare_nexts(items)?;
-    declare_lasts(items)?;
-    declare_command(items, plan)?;
-    Ok(())
+    wires(items, &["writes", "ones", "ends"], row_width(plan))?;
+    wires(items, &["write", "value", "down", "pause"], 1)?;
+    wires(
+        items,
+        &["ends_more", "ends_again", "ends_next", "pause_next"],
+        1,
+    )?;
+    wires(items, &["last_element", "last_back", "live"], 1)?;
+    wires(items, &["index"], plan.addr_width)?;
+    wires(items, &["pattern", "word"], plan.bits)
 }
 
 // The word that the read of the last age expects.
@@ -134,62 +97,43 @@ fn bad_next(alloc: Global, delay: u8) -> Result<Expr, AllocError>
     gate(alloc, bad)
 }
 
-fn set_ends(block: &mut Vec<Stmt>, alloc: Global, plan: &Plan) -> Result<(), AllocError>
-    ensures { OnOk result (map plain_stmt block.new.items ≡ map plain_stmt block.old.items ++ L.end_sets (seen plan.now)) }
-{
-    let want = want_next(alloc, plan)?;
-    set(block, name("want"), want)?;
-    let bad = bad_next(alloc, plan.delay)?;
-    set(block, name("bad"), bad)?;
-    Ok(())
-}
-
 // What all registers take.
-fn block(alloc: Global, plan: &Plan) -> Result<Vec<Stmt>, AllocError>
-    ensures { IfOk result (λ v. map plain_stmt v.items ≡ L.sets_all (seen plan.now)) }
+fn set_all(block: &mut Vec<Stmt>, alloc: Global, plan: &Plan) -> Result<(), AllocError>
+    ensures { OnOk result (map plain_stmt block.new.items ≡ map plain_stmt block.old.items ++ L.sets_all (seen plan.now)) }
 {
-    let mut block = Vec::new(alloc);
-    set_digits(&mut block, alloc, plan)?;
-    set_one(&mut block, alloc, plan)?;
+    set_digits(block, alloc, plan)?;
     let many = is_several(plan);
-    set_ages(&mut block, alloc, many, plan.back_width, plan.delay)?;
-    set_ends(&mut block, alloc, plan)?;
-    Ok(block)
-}
-
-fn declare_all(items: &mut Vec<Item>, plan: &Plan) -> Result<(), AllocError>
-    ensures { OnOk result (map plain_item items.new.items ≡ map plain_item items.old.items ++ (LInner.registers (seen plan.now) ++ L.wires (seen plan.now))) }
-{
-    declare_registers(items, plan)?;
-    declare_wires(items, plan)?;
-    Ok(())
+    set_ages(block, alloc, many, plan.back_width, plan.delay)?;
+    set(block, name("want"), want_next(alloc, plan))?;
+    set(block, name("bad"), bad_next(alloc, plan.delay))
 }
 
 fn add_block(items: &mut Vec<Item>, alloc: Global, plan: &Plan) -> Result<(), AllocError>
     ensures { OnOk result (map plain_item items.new.items ≡ map plain_item items.old.items ++ AlwaysItem L.clk (statements (L.sets_all (seen plan.now))) ∷ []) }
 {
-    let block = block(alloc, plan)?;
+    let mut block = Vec::new(alloc);
+    set_all(&mut block, alloc, plan)?;
     items.push(Item::Always(name("clk"), block))?;
     Ok(())
 }
 
-fn items(alloc: Global, plan: &Plan) -> Result<Vec<Item>, AllocError>
-    ensures { IfOk result (λ v. map plain_item v.items ≡ L.items (seen plan.now)) }
+fn add_items(items: &mut Vec<Item>, alloc: Global, plan: &Plan) -> Result<(), AllocError>
+    ensures { OnOk result (map plain_item items.new.items ≡ map plain_item items.old.items ++ L.items (seen plan.now)) }
 {
-    let mut items = Vec::new(alloc);
-    declare_all(&mut items, plan)?;
-    assign_wires(&mut items, alloc, plan)?;
-    assign_ports(&mut items, alloc, plan)?;
-    add_block(&mut items, alloc, plan)?;
-    Ok(items)
+    declare_registers(items, plan)?;
+    declare_wires(items, plan)?;
+    assign_wires(items, alloc, plan)?;
+    assign_ports(items, alloc, plan)?;
+    add_block(items, alloc, plan)
 }
 
 /// The module of a plan.
 pub fn module(alloc: Global, plan: &Plan) -> Result<Module, AllocError>
     ensures { IfOk result (λ m. plain_module m ≡ L.self_test (seen plan.now)) }
 {
+    let mut items = Vec::new(alloc);
+    add_items(&mut items, alloc, plan)?;
     let ports = ports(alloc, plan)?;
-    let items = items(alloc, plan)?;
     Ok(Module {
         name: plan.name,
         ports,

@@ -1,7 +1,6 @@
 //! The statements of the four digits of the place.
-ghost use Rattle.std.specs.Prelude.{◌≡◌, ◌≤◌, IfOk, OnOk, map, ◌++◌, ◌∷◌, []};
-ghost use Rattle.verilog_tree.specs.Plain.{plain, plain_stmt, Net, SetTo};
-ghost use Rattle.rtl_layout.specs.Build.{counter};
+ghost use Rattle.std.specs.Prelude.{◌≡◌, ◌≤◌, IfOk, OnOk, map, ◌++◌};
+ghost use Rattle.verilog_tree.specs.Plain.{plain, plain_stmt};
 ghost use Rattle.rtl_layout.specs.Layout as L;
 ghost use Rattle.rtl_layout.specs.Plan.{limit, several_bits};
 ghost use Rattle.rtl_layout.specs.inner.Layout as LInner;
@@ -9,6 +8,7 @@ ghost use Rattle.rtl_layout.specs.Seen.{seen};
 
 use crate::element::Element;
 use crate::flags::ElementFlag;
+use crate::parts::set;
 use crate::plan::Plan;
 use crate::tables::{by_element, by_next, has_several_bits, in_row, of_element};
 use crate::trees::{after_reset, counting, while_all};
@@ -16,82 +16,44 @@ use std::alloc::{AllocError, Global};
 use verilog_tree::build::{binary, choose, flag, literal, name, net};
 use verilog_tree::{BinOp, Expr, Name, Stmt};
 
-/// One register's next value more.
-pub fn set(block: &mut Vec<Stmt>, register: Name, value: Expr) -> Result<(), AllocError>
-    ensures { OnOk result (map plain_stmt block.new.items ≡ map plain_stmt block.old.items ++ SetTo register.bytes (plain value) ∷ []) }
-{
-    block.push(Stmt::Set(register, value))?;
-    Ok(())
-}
-
-// A digit, which goes on where all the named conditions hold.
-fn set_counter(
-    block: &mut Vec<Stmt>,
-    alloc: Global,
-    register: Name,
-    width: u8,
-    conditions: &[Name],
-    last: Name,
-) -> Result<(), AllocError>
-    requires positive { 1 ≤ width }
-    requires narrow { width ≤ 64 }
-    ensures { OnOk result (map plain_stmt block.new.items ≡ map plain_stmt block.old.items ++ SetTo register.bytes (counter register.bytes width (map (λ c. Net c.bytes) conditions.now) last.bytes) ∷ []) }
-{
-    let next = counting(alloc, register, width, conditions, last)?;
-    set(block, register, next)?;
-    Ok(())
-}
-
-// `oper` and `visit`.
-fn set_inner(block: &mut Vec<Stmt>, alloc: Global, plan: &Plan) -> Result<(), AllocError>
-    ensures { OnOk result (map plain_stmt block.new.items ≡ map plain_stmt block.old.items ++ LInner.inner_sets (seen plan.now)) }
+// What counts the operations, the visits, the elements and the backgrounds.
+fn set_counters(block: &mut Vec<Stmt>, alloc: Global, plan: &Plan) -> Result<(), AllocError>
+    ensures { OnOk result (map plain_stmt block.new.items ≡ map plain_stmt block.old.items ++ LInner.counter_sets (seen plan.now)) }
 {
     let run = name("run");
-    let last_oper = name("last_oper");
-    set_counter(
-        block,
-        alloc,
-        name("oper"),
-        plan.oper_width,
-        &[run],
-        last_oper,
-    )?;
-    set_counter(
-        block,
-        alloc,
-        name("visit"),
-        plan.visit_width,
-        &[run, last_oper],
-        name("last_visit"),
-    )?;
-    Ok(())
-}
-
-// `element` and `back`.
-fn set_outer(block: &mut Vec<Stmt>, alloc: Global, plan: &Plan) -> Result<(), AllocError>
-    ensures { OnOk result (map plain_stmt block.new.items ≡ map plain_stmt block.old.items ++ LInner.outer_sets (seen plan.now)) }
-{
-    let run = name("run");
+    let oper = name("oper");
+    let visit = name("visit");
+    let element = name("element");
+    let back = name("back");
     let last_oper = name("last_oper");
     let last_visit = name("last_visit");
     let last_element = name("last_element");
-    set_counter(
-        block,
+    let next = counting(alloc, oper, plan.oper_width, &[run], last_oper);
+    set(block, oper, next)?;
+    let next = counting(
         alloc,
-        name("element"),
+        visit,
+        plan.visit_width,
+        &[run, last_oper],
+        last_visit,
+    );
+    set(block, visit, next)?;
+    let next = counting(
+        alloc,
+        element,
         plan.element_width,
         &[run, last_oper, last_visit],
         last_element,
-    )?;
-    set_counter(
-        block,
+    );
+    set(block, element, next)?;
+    let next = counting(
         alloc,
-        name("back"),
+        back,
         plan.back_width,
         &[run, last_oper, last_visit, last_element],
         name("last_back"),
-    )?;
-    Ok(())
+    );
+    set(block, back, next)
 }
 
 // Whether the run goes on.
@@ -155,17 +117,6 @@ fn one_next(alloc: Global, plan: &Plan) -> Result<Expr, AllocError>
     turning(alloc, name("one"), first, next, again, more)
 }
 
-/// The bit of the operation, where a register holds it.
-pub fn set_one(block: &mut Vec<Stmt>, alloc: Global, plan: &Plan) -> Result<(), AllocError>
-    ensures { OnOk result (map plain_stmt block.new.items ≡ map plain_stmt block.old.items ++ L.one_set (seen plan.now) (several_bits (seen plan.now))) }
-{
-    if has_several_bits(plan) {
-        let one = one_next(alloc, plan)?;
-        set(block, name("one"), one)?;
-    }
-    Ok(())
-}
-
 // How often an element is visited.
 fn limit(plan: &Plan, element: &Element) -> u32
     ensures { result ≡ limit (seen plan.now) element.now }
@@ -216,25 +167,25 @@ fn last_visit_next(alloc: Global, plan: &Plan) -> Result<Expr, AllocError>
     after_reset(alloc, flag(first == 1), stepped)
 }
 
-// What the next operation and visit have.
+// What the next operation and visit have, and the operation's bit where a register holds it.
 fn set_place(block: &mut Vec<Stmt>, alloc: Global, plan: &Plan) -> Result<(), AllocError>
     ensures { OnOk result (map plain_stmt block.new.items ≡ map plain_stmt block.old.items ++ LInner.place_sets (seen plan.now)) }
 {
-    let oper = last_oper_next(alloc, plan)?;
+    let oper = last_oper_next(alloc, plan);
     set(block, name("last_oper"), oper)?;
-    let visit = last_visit_next(alloc, plan)?;
+    let visit = last_visit_next(alloc, plan);
     set(block, name("last_visit"), visit)?;
+    if has_several_bits(plan) {
+        return set(block, name("one"), one_next(alloc, plan));
+    }
     Ok(())
 }
 
 /// The place in the march, and whether the run goes on.
 pub fn set_digits(block: &mut Vec<Stmt>, alloc: Global, plan: &Plan) -> Result<(), AllocError>
-    ensures { OnOk result (map plain_stmt block.new.items ≡ map plain_stmt block.old.items ++ L.digit_sets (seen plan.now)) }
+    ensures { OnOk result (map plain_stmt block.new.items ≡ map plain_stmt block.old.items ++ (L.digit_sets (seen plan.now) ++ L.one_set (seen plan.now) (several_bits (seen plan.now)))) }
 {
-    set_inner(block, alloc, plan)?;
-    set_outer(block, alloc, plan)?;
-    let run = run_next(alloc)?;
-    set(block, name("run"), run)?;
-    set_place(block, alloc, plan)?;
-    Ok(())
+    set_counters(block, alloc, plan)?;
+    set(block, name("run"), run_next(alloc))?;
+    set_place(block, alloc, plan)
 }

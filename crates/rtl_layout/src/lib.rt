@@ -18,6 +18,7 @@ mod digits;
 mod element;
 mod flags;
 mod laws;
+mod parts;
 mod plan;
 mod ports;
 mod row;

@@ -6,42 +6,30 @@ ghost use Rattle.rtl_layout.specs.Seen.{seen};
 ghost use Rattle.rtl_layout.specs.Shows.{no_row};
 
 use crate::ages::aged;
+use crate::parts::assign_built;
 use crate::plan::Plan;
 use crate::row::Row;
 use crate::trees::gate;
 use std::alloc::{AllocError, Global};
-use verilog_tree::build::{assign, binary, concat, flag, literal, name, net, push_port, unary};
+use verilog_tree::build::{assign, binary, concat, flag, literal, name, net, port, unary};
 use verilog_tree::{BinOp, Dir, Expr, Item, Port, UnOp};
-
-fn push_inputs(ports: &mut Vec<Port>, bits: u8) -> Result<(), AllocError>
-    ensures { OnOk result (map plain_port ports.new.items ≡ map plain_port ports.old.items ++ L.input_ports bits) }
-{
-    push_port(ports, Dir::Input, name("clk"), 1)?;
-    push_port(ports, Dir::Input, name("reset"), 1)?;
-    push_port(ports, Dir::Input, name("rdata"), bits)?;
-    Ok(())
-}
-
-fn push_command(ports: &mut Vec<Port>, addr: u8, bits: u8) -> Result<(), AllocError>
-    ensures { OnOk result (map plain_port ports.new.items ≡ map plain_port ports.old.items ++ L.command_ports addr bits) }
-{
-    push_port(ports, Dir::Output, name("en"), 1)?;
-    push_port(ports, Dir::Output, name("we"), 1)?;
-    push_port(ports, Dir::Output, name("addr"), addr)?;
-    push_port(ports, Dir::Output, name("wdata"), bits)?;
-    Ok(())
-}
 
 /// The ports in their order.
 pub fn ports(alloc: Global, plan: &Plan) -> Result<Vec<Port>, AllocError>
     ensures { IfOk result (λ v. map plain_port v.items ≡ L.ports (seen plan.now)) }
 {
-    let mut ports = Vec::new(alloc);
-    push_inputs(&mut ports, plan.bits)?;
-    push_command(&mut ports, plan.addr_width, plan.bits)?;
-    push_port(&mut ports, Dir::Output, name("done"), 1)?;
-    push_port(&mut ports, Dir::Output, name("fail"), 1)?;
-    Ok(ports)
+    let ports = [
+        port(Dir::Input, "clk", 1),
+        port(Dir::Input, "reset", 1),
+        port(Dir::Input, "rdata", plan.bits),
+        port(Dir::Output, "en", 1),
+        port(Dir::Output, "we", 1),
+        port(Dir::Output, "addr", plan.addr_width),
+        port(Dir::Output, "wdata", plan.bits),
+        port(Dir::Output, "done", 1),
+        port(Dir::Output, "fail", 1),
+    ];
+    Vec::from_array(alloc, ports).map_err(|_| AllocError)
 }
 
 // A bit of the address.
@@ -87,34 +75,17 @@ fn address(alloc: Global, plan: &Plan) -> Result<Expr, AllocError>
     Ok(concat(bits))
 }
 
-fn assign_command(items: &mut Vec<Item>, alloc: Global, plan: &Plan) -> Result<(), AllocError>
-    ensures { OnOk result (map plain_item items.new.items ≡ map plain_item items.old.items ++ L.command_outputs (seen plan.now)) }
-{
-    let en = gate(alloc, net(name("live")))?;
-    assign(items, name("en"), en)?;
-    assign(items, name("we"), net(name("write")))?;
-    let addr = address(alloc, plan)?;
-    assign(items, name("addr"), addr)?;
-    assign(items, name("wdata"), net(name("word")))?;
-    Ok(())
-}
-
-fn assign_ends(items: &mut Vec<Item>, alloc: Global, delay: u8) -> Result<(), AllocError>
-    requires { delay ≤ 3 }
-    ensures { OnOk result (map plain_item items.new.items ≡ map plain_item items.old.items ++ L.end_outputs delay) }
-{
-    let done = gate(alloc, net(aged("over", delay + 1)))?;
-    assign(items, name("done"), done)?;
-    let fail = gate(alloc, net(name("bad")))?;
-    assign(items, name("fail"), fail)?;
-    Ok(())
-}
-
 /// All outputs.
 pub fn assign_ports(items: &mut Vec<Item>, alloc: Global, plan: &Plan) -> Result<(), AllocError>
     ensures { OnOk result (map plain_item items.new.items ≡ map plain_item items.old.items ++ L.port_assigns (seen plan.now)) }
 {
-    assign_command(items, alloc, plan)?;
-    assign_ends(items, alloc, plan.delay)?;
-    Ok(())
+    let en = gate(alloc, net(name("live")));
+    assign_built(items, "en", en)?;
+    assign(items, name("we"), net(name("write")))?;
+    assign_built(items, "addr", address(alloc, plan))?;
+    assign(items, name("wdata"), net(name("word")))?;
+    let done = gate(alloc, net(aged("over", plan.delay + 1)));
+    assign_built(items, "done", done)?;
+    let fail = gate(alloc, net(name("bad")));
+    assign_built(items, "fail", fail)
 }

@@ -14,7 +14,6 @@ use crate::element::{Element, Operation};
 use crate::flags::{ElementFlag, RowFlag};
 use crate::plan::Plan;
 use crate::trees::{bit, pick_leaf};
-use bist_bits::all_ones;
 use std::alloc::{AllocError, Global};
 use verilog_tree::build::{choose, flag, literal, name, net, unary};
 use verilog_tree::{Expr, Name, UnOp};
@@ -77,16 +76,6 @@ fn row_number(element: &Element, width: u8, which: RowFlag) -> u64
     row
 }
 
-// The same as a literal.
-fn row_literal(element: &Element, width: u8, which: RowFlag) -> Expr
-    requires some { 0 < length element.now.operations }
-    requires positive { 1 ≤ width }
-    requires narrow { width ≤ 64 }
-    ensures { plain result ≡ lit width (number_of (map (row_flag which element.now) (counted width))) }
-{
-    literal(width, row_number(element, width, which))
-}
-
 fn row_leaves(
     alloc: Global,
     width: u8,
@@ -100,7 +89,7 @@ fn row_leaves(
 {
     let mut leaves = Vec::new(alloc);
     for element in elements {
-        leaves.push(row_literal(element, width, which))?;
+        leaves.push(literal(width, row_number(element, width, which)))?;
     }
     Ok(leaves)
 }
@@ -174,35 +163,14 @@ pub fn by_next(alloc: Global, plan: &Plan, which: ElementFlag) -> Result<Expr, A
     pick_leaf(alloc, name("element"), plan.element_width, &mut leaves)
 }
 
-// A background's word with a bit, as it stands on a port.
-fn word_on_port(plan: &Plan, bit: bool, background: u64) -> u64
-    requires { background < 2 ^ plan.now.bits }
-    ensures { result ≡ port_word (seen plan.now) bit background }
-{
-    let word = if bit {
-        all_ones(plan.bits) - background
-    } else {
-        background
-    };
-    word ^ plan.polarity
-}
-
-// The same as a literal.
-fn word_literal(plan: &Plan, bit: bool, background: u64) -> Expr
-    requires { background < 2 ^ plan.now.bits }
-    ensures { plain result ≡ lit plan.now.bits (port_word (seen plan.now) bit background) }
-{
-    let word = word_on_port(plan, bit, background);
-    literal(plan.bits, word)
-}
-
+// The words of the value 0 of the backgrounds, as they stand on a port.
 fn pattern_leaves(alloc: Global, plan: &Plan, backgrounds: &[u64]) -> Result<Vec<Expr>, AllocError>
     requires { (k : ℕ) → k < length backgrounds.now → slice_index backgrounds.now k < 2 ^ plan.now.bits }
     ensures { IfOk result (λ v. map plain v.items ≡ map (λ b. lit plan.now.bits (port_word (seen plan.now) false b)) backgrounds.now) }
 {
     let mut leaves = Vec::new(alloc);
     for background in backgrounds {
-        leaves.push(word_literal(plan, false, *background))?;
+        leaves.push(literal(plan.bits, *background ^ plan.polarity))?;
     }
     Ok(leaves)
 }

@@ -3,7 +3,7 @@ ghost use Rattle.std.specs.Prelude.{◌≡◌, ◌+◌, ◌^◌, ◌<◌, ◌≤
 ghost use Rattle.verilog_tree.specs.Plain.{plain, Net};
 ghost use Rattle.verilog_tree.specs.Meaning.{bit};
 ghost use Rattle.rtl_layout.specs.Layout.{gated};
-ghost use Rattle.rtl_layout.specs.Build.{bit_of, low_bits, below, pick, counter, at_reset, step_while};
+ghost use Rattle.rtl_layout.specs.Build.{bit_of, below, pick, counter, at_reset, step_while};
 
 use std::alloc::{AllocError, Global};
 use verilog_tree::build::{binary, choose, flag, literal, name, net};
@@ -17,18 +17,6 @@ pub fn bit(name: Name, width: u8, i: u8) -> Expr
         Expr::Name(name)
     } else {
         Expr::Bit(name, i)
-    }
-}
-
-/// The lowest bits of a name of `width` bits.
-pub fn low(name: Name, width: u8, bits: u8) -> Expr
-    requires { 1 ≤ bits }
-    ensures { plain result ≡ low_bits name.bytes width bits }
-{
-    if bits == width {
-        Expr::Name(name)
-    } else {
-        Expr::Part(name, bits - 1, 0)
     }
 }
 

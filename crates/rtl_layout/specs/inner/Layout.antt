@@ -1,9 +1,15 @@
 -- Inner. For proofs and private contracts alone, beside Layout: the self-test module of a plan.
-use Rattle.std.specs.Prelude.{ℕ, suc, Bool, List, [], ◌∷◌, ◌++◌}
+use Rattle.std.specs.Prelude.{ℕ, suc, Bool, true, false, cond, nat_le, List, [], ◌∷◌, ◌++◌, length}
+use Rattle.std.specs.Borrow.{Bor}
 use Rattle.verilog_tree.specs.Plain.{Net, Statement, SetTo, ModuleItem, RegItem, AssignItem}
 use Rattle.verilog_tree.specs.Meaning.{bit}
 use Rattle.rtl_layout.specs.Plan.{Plan, several, several_bits, is_single}
-use Rattle.rtl_layout.specs.Layout.{ends, ends_more, ends_again, ends_next, pause_next, in_row, by_element, by_next, oper, visit, element, oper_next, visit_next, element_next, back_next, last_oper, last_visit, last_oper_next, last_visit_next, back, value, aged, reads_at, over_at, value_at, gated, digit_regs, maybe, one_reg, stage_regs, end_regs, feed_reads, feed_over, back_set}
+use Rattle.rtl_layout.specs.Layout.{ends, ends_more, ends_again, ends_next, pause_next, in_row, by_element, by_next, oper, visit, element, oper_next, visit_next, element_next, back_next, last_oper, last_visit, last_oper_next, last_visit_next, back, value, aged, reads_at, over_at, value_at, gated, digit_regs, maybe, one_reg, stage_regs, end_regs, feed_reads, feed_over, back_set, one_set, next_assigns, last_assigns}
+
+-- whether each text fits a name
+abbrev pub are_names : List (Bor (List ℕ)) → Bool
+are_names [] = true
+are_names (text ∷ texts) = cond (nat_le (length text.now) 64) (are_names texts) false
 
 -- ---- registers
 
@@ -17,22 +23,17 @@ registers p = digit_regs p ++ (one_reg (several_bits p) ++ (stage_regs (several 
 
 -- ---- what they are assigned and set to
 
--- whether the next operation is the last of its element, and whether the next element is a pause
+-- whether the next operation is the last of its element, whether the next element is a pause, and what ends here
 abbrev pub end_assigns : Plan → List ModuleItem
-end_assigns p =
-    AssignItem ends_more (in_row p ends) ∷ AssignItem ends_again (by_element p 1 (λ x. bit (is_single x))) ∷ AssignItem ends_next (by_next p (λ x. bit (is_single x)))
-    ∷ AssignItem pause_next (by_next p (λ x. bit x.pause)) ∷ []
+end_assigns p = next_assigns p ++ last_assigns p
 
--- the digits: the operation and the visit, the element and the background
-abbrev pub inner_sets : Plan → List Statement
-inner_sets p = SetTo oper (oper_next p) ∷ SetTo visit (visit_next p) ∷ []
+-- the digits: the operation, the visit, the element and the background
+abbrev pub counter_sets : Plan → List Statement
+counter_sets p = SetTo oper (oper_next p) ∷ SetTo visit (visit_next p) ∷ SetTo element (element_next p) ∷ SetTo back (back_next p) ∷ []
 
-abbrev pub outer_sets : Plan → List Statement
-outer_sets p = SetTo element (element_next p) ∷ SetTo back (back_next p) ∷ []
-
--- what the next operation and visit have
+-- what the next operation and visit have, and the operation's bit
 abbrev pub place_sets : Plan → List Statement
-place_sets p = SetTo last_oper (last_oper_next p) ∷ SetTo last_visit (last_visit_next p) ∷ []
+place_sets p = SetTo last_oper (last_oper_next p) ∷ SetTo last_visit (last_visit_next p) ∷ one_set p (several_bits p)
 
 -- what age suc i takes from age i
 abbrev pub end_age_sets : ℕ → List Statement

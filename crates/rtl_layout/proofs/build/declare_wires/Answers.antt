@@ -1,23 +1,16 @@
-use Rattle.std.proofs.Common.{◌++◌, ap, ◌∙◌, map}
-use Rattle.verilog_tree.specs.Plain.{plain_item}
+use Rattle.std.proofs.Common.{ℕ, List, [], ◌∷◌, ◌++◌, ap, ◌∙◌, map}
+use Rattle.verilog_tree.specs.Plain.{ModuleItem, WireItem, plain_item}
 use Rattle.rtl_layout.specs.Layout as L
 use Rattle.rtl_layout.specs.Seen.{seen}
-use Rattle.rtl_layout.proofs.Joined.{join}
+use Rattle.rtl_layout.proofs.Joined.{more, grown}
 use Rattle.rtl_layout.proofs.build.declare_wires.Goals as goal
 
 pub returns : goal.returns
 returns c =
     let p = seen c.args.plan.now in
-    join (map plain_item c.args.items.now.items) _ _ (L.flag_wires (L.row_width p)) (L.next_wires ++ (L.last_wires ++ (L.command_wires p)))
-    (c.in_ok-declare_flags.ensures ∙ ap (λ w. map plain_item c.args.items.now.items ++ L.flag_wires w) c.row_width.ensures)
-    (
-    join (map plain_item c.declare_flags.new.items.items) _ _ (L.next_wires) (L.last_wires ++ (L.command_wires p))
-    (c.in_ok-declare_nexts.ensures)
-    (
-    join (map plain_item c.declare_nexts.new.items.items) _ _ (L.last_wires) (L.command_wires p)
-    (c.in_ok-declare_lasts.ensures)
-    (
-    c.in_ok-declare_command.ensures
-    )
-    )
-    )
+    let rows : ℕ → List ModuleItem = λ w. WireItem L.writes w ∷ WireItem L.ones w ∷ WireItem L.ends w ∷ [] in
+    grown c.wires-6.result _ _ _ (rows (L.row_width p)) _ (c.in_ok-wires.ensures ∙ ap (λ w. map plain_item c.args.items.now.items ++ rows w) c.row_width.ensures)
+    (grown _ _ _ _ (WireItem L.write 1 ∷ WireItem L.value 1 ∷ WireItem L.down 1 ∷ WireItem L.pause 1 ∷ []) _ c.in_ok-wires-2.ensures
+    (grown _ _ _ _ L.next_wires _ c.in_ok-wires-3.ensures
+    (grown _ _ _ _ (WireItem L.last_element 1 ∷ WireItem L.last_back 1 ∷ WireItem L.live 1 ∷ []) _ c.in_ok-wires-4.ensures
+    (more _ _ _ _ _ _ c.in_ok-wires-5.ensures c.wires-6.ensures))))

@@ -1,0 +1,46 @@
+//! Items and statements of the module, added under their names.
+ghost use Rattle.std.specs.Prelude.{◌≡◌, ◌≤◌, IfOk, IsTrue, OnOk, length, map, ◌++◌, ◌∷◌, []};
+ghost use Rattle.verilog_tree.specs.Plain.{Expression, plain, plain_item, plain_stmt, AssignItem, SetTo, WireItem};
+ghost use Rattle.rtl_layout.specs.inner.Layout.{are_names};
+
+use std::alloc::AllocError;
+use verilog_tree::build::{assign, name, wire};
+use verilog_tree::{Expr, Item, Name, Stmt};
+
+/// Wires of `width` bits, one of each name.
+pub fn wires(items: &mut Vec<Item>, names: &[&str], width: u8) -> Result<(), AllocError>
+    requires { IsTrue (are_names names.now) }
+    ensures { OnOk result (map plain_item items.new.items ≡ map plain_item items.old.items ++ map (λ n. WireItem n.now width) names.now) }
+{
+    match names {
+        [] => Ok(()),
+        [first, rest @ ..] => {
+            wire(items, name(first), width)?;
+            wires(items, rest, width)
+        }
+    }
+}
+
+/// One assignment more, of what was built for it.
+pub fn assign_built(
+    items: &mut Vec<Item>,
+    target: &str,
+    built: Result<Expr, AllocError>,
+) -> Result<(), AllocError>
+    requires { length target.now ≤ 64 }
+    ensures { OnOk result ((value : Expression) → IfOk built (λ x. plain x ≡ value) → map plain_item items.new.items ≡ map plain_item items.old.items ++ AssignItem target.now value ∷ []) }
+{
+    assign(items, name(target), built?)
+}
+
+/// One register's next value more, of what was built for it.
+pub fn set(
+    block: &mut Vec<Stmt>,
+    register: Name,
+    built: Result<Expr, AllocError>,
+) -> Result<(), AllocError>
+    ensures { OnOk result ((value : Expression) → IfOk built (λ x. plain x ≡ value) → map plain_stmt block.new.items ≡ map plain_stmt block.old.items ++ SetTo register.bytes value ∷ []) }
+{
+    block.push(Stmt::Set(register, built?))?;
+    Ok(())
+}
