@@ -178,9 +178,10 @@ pub(crate) fn parity(a: Option<u64>) -> Option<u64>
 pub(crate) fn add(ones: u64, a: Option<u64>, b: Option<u64>) -> Option<u64>
     ensures { result ≡ both (λ x y. bit_and ((x + y) % 2 ^ 64) ones) a b }
 {
-    let x = a?;
-    let y = b?;
-    Some(x.wrapping_add(y) & ones)
+    match (a, b) {
+        (Some(x), Some(y)) => Some(x.wrapping_add(y) & ones),
+        _ => None,
+    }
 }
 
 /// The difference.
@@ -188,9 +189,10 @@ pub(crate) fn add(ones: u64, a: Option<u64>, b: Option<u64>) -> Option<u64>
 pub(crate) fn sub(ones: u64, a: Option<u64>, b: Option<u64>) -> Option<u64>
     ensures { result ≡ both (λ x y. bit_and ((x + 2 ^ 64 - y) % 2 ^ 64) ones) a b }
 {
-    let x = a?;
-    let y = b?;
-    Some(x.wrapping_sub(y) & ones)
+    match (a, b) {
+        (Some(x), Some(y)) => Some(x.wrapping_sub(y) & ones),
+        _ => None,
+    }
 }
 
 /// The bits that differ.
@@ -198,9 +200,10 @@ pub(crate) fn sub(ones: u64, a: Option<u64>, b: Option<u64>) -> Option<u64>
 pub(crate) fn xor(a: Option<u64>, b: Option<u64>) -> Option<u64>
     ensures { result ≡ both (infixed B.Xor 1) a b }
 {
-    let x = a?;
-    let y = b?;
-    Some(x ^ y)
+    match (a, b) {
+        (Some(x), Some(y)) => Some(x ^ y),
+        _ => None,
+    }
 }
 
 /// Whether they are equal.
@@ -208,9 +211,10 @@ pub(crate) fn xor(a: Option<u64>, b: Option<u64>) -> Option<u64>
 pub(crate) fn eq(a: Option<u64>, b: Option<u64>) -> Option<u64>
     ensures { result ≡ both (infixed B.Eq 1) a b }
 {
-    let x = a?;
-    let y = b?;
-    Some((x == y) as u64)
+    match (a, b) {
+        (Some(x), Some(y)) => Some((x == y) as u64),
+        _ => None,
+    }
 }
 
 /// Whether they differ.
@@ -218,9 +222,10 @@ pub(crate) fn eq(a: Option<u64>, b: Option<u64>) -> Option<u64>
 pub(crate) fn ne(a: Option<u64>, b: Option<u64>) -> Option<u64>
     ensures { result ≡ both (infixed B.Ne 1) a b }
 {
-    let x = a?;
-    let y = b?;
-    Some((x != y) as u64)
+    match (a, b) {
+        (Some(x), Some(y)) => Some((x != y) as u64),
+        _ => None,
+    }
 }
 
 /// Whether the first is below.
@@ -228,9 +233,10 @@ pub(crate) fn ne(a: Option<u64>, b: Option<u64>) -> Option<u64>
 pub(crate) fn lt(a: Option<u64>, b: Option<u64>) -> Option<u64>
     ensures { result ≡ both (infixed B.Lt 1) a b }
 {
-    let x = a?;
-    let y = b?;
-    Some((x < y) as u64)
+    match (a, b) {
+        (Some(x), Some(y)) => Some((x < y) as u64),
+        _ => None,
+    }
 }
 
 /// Whether the first is not above.
@@ -238,9 +244,10 @@ pub(crate) fn lt(a: Option<u64>, b: Option<u64>) -> Option<u64>
 pub(crate) fn le(a: Option<u64>, b: Option<u64>) -> Option<u64>
     ensures { result ≡ both (infixed B.Le 1) a b }
 {
-    let x = a?;
-    let y = b?;
-    Some((x <= y) as u64)
+    match (a, b) {
+        (Some(x), Some(y)) => Some((x <= y) as u64),
+        _ => None,
+    }
 }
 
 /// The first moved up by the second.
@@ -248,9 +255,10 @@ pub(crate) fn le(a: Option<u64>, b: Option<u64>) -> Option<u64>
 pub(crate) fn shl(ones: u64, a: Option<u64>, b: Option<u64>) -> Option<u64>
     ensures { result ≡ both (λ x y. bit_and (raised x y) ones) a b }
 {
-    let x = a?;
-    let y = b?;
-    Some(raised(x, y) & ones)
+    match (a, b) {
+        (Some(x), Some(y)) => Some(raised(x, y) & ones),
+        _ => None,
+    }
 }
 
 /// The first moved down by the second.
@@ -258,9 +266,10 @@ pub(crate) fn shl(ones: u64, a: Option<u64>, b: Option<u64>) -> Option<u64>
 pub(crate) fn shr(a: Option<u64>, b: Option<u64>) -> Option<u64>
     ensures { result ≡ both lowered a b }
 {
-    let x = a?;
-    let y = b?;
-    Some(lowered(x, y))
+    match (a, b) {
+        (Some(x), Some(y)) => Some(lowered(x, y)),
+        _ => None,
+    }
 }
 
 /// The first above the low bits that the second has.
@@ -268,7 +277,8 @@ pub(crate) fn shr(a: Option<u64>, b: Option<u64>) -> Option<u64>
 pub(crate) fn concat(low: u64, a: Option<u64>, b: Option<u64>) -> Option<u64>
     ensures { result ≡ both (λ x y. (raised x low + y) % 2 ^ 64) a b }
 {
-    let x = a?;
-    let y = b?;
-    Some(raised(x, low).wrapping_add(y))
+    match (a, b) {
+        (Some(x), Some(y)) => Some(raised(x, low).wrapping_add(y)),
+        _ => None,
+    }
 }
