@@ -1,5 +1,4 @@
 //! What a token does at each place in an expression, and behind one that stands in no other.
-ghost use Rattle.std.specs.Prelude.{◌≡◌};
 ghost use Rattle.verilog_tree.specs.Plain.{plain, AssignItem, SetTo};
 ghost use Rattle.verilog_tree.specs.Grammar.{alone};
 ghost use Rattle.verilog_tree.specs.Spells.{bounded};
