@@ -1,8 +1,8 @@
 //! Statements over the places of values.
 ghost use Rattle.std.specs.Prelude.{◌≡◌, cond, map};
 ghost use Rattle.verilog_code.specs.Actions.{Run, labelled, run_branch, action_run, actions_run, branch_run};
-ghost use Rattle.verilog_code.specs.Places.{put};
 
+use crate::cells::set;
 use crate::code::{Code, value};
 
 /// A statement. A number stands for the place of a register's value.
@@ -21,14 +21,6 @@ pub enum Action {
 pub struct Branch {
     pub labels: Vec<u64>,
     pub body: Vec<Action>,
-}
-
-fn set(next: &mut [u64], place: usize, value: u64)
-    ensures { next.new ≡ put next.old place value }
-{
-    if place < next.len() {
-        next[place] = value;
-    }
 }
 
 pub fn has_label(labels: &[u64], subject: u64) -> bool

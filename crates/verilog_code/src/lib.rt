@@ -17,6 +17,7 @@
 #![tactic(auto)]
 
 pub mod action;
+mod cells;
 pub mod code;
 pub mod open_action;
 pub mod open_code;

@@ -1,19 +1,11 @@
 //! Statements over the places of values of which some are open.
 ghost use Rattle.std.specs.Prelude.{◌≡◌, cond, map, None};
 ghost use Rattle.verilog_code.specs.OpenActions.{OpenValues, open_run_all, forget_all, forget_branches, open_run_branch, open_action, open_branch};
-ghost use Rattle.verilog_code.specs.Places.{put};
 
 use crate::action::{Action, Branch, has_label};
+use crate::cells::set;
 use crate::code::Code;
 use crate::open_code::open_value;
-
-fn set(next: &mut [Option<u64>], place: usize, value: Option<u64>)
-    ensures { next.new ≡ put next.old place value }
-{
-    if place < next.len() {
-        next[place] = value;
-    }
-}
 
 // What becomes of the next values where it isn't known whether this is done.
 #[cycle(forget)]

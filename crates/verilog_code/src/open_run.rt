@@ -7,18 +7,10 @@ ghost use Rattle.verilog_code.specs.OpenActions.{open_action, open_run_blocks};
 ghost use Rattle.verilog_code.specs.OpenCode.{open_at, open_meaning};
 
 use crate::action::Action;
+use crate::cells::put;
 use crate::open_action::act_all;
 use crate::open_code::{open_at, open_value};
 use crate::step::{Step, bit};
-
-fn put(values: &mut Vec<Option<u64>>, place: usize, x: Option<u64>)
-    ensures len { length values.new.items ≡ length values.old.items }
-    ensures items { values.new.items ≡ put values.old.items place x }
-{
-    if place < values.len() {
-        values[place] = x;
-    }
-}
 
 /// Puts these from a place on.
 pub fn put_all(values: &mut Vec<Option<u64>>, first: usize, all: &[Option<u64>])

@@ -7,17 +7,9 @@ ghost use Rattle.verilog_code.specs.Actions.{action_run, run_blocks};
 ghost use Rattle.verilog_code.specs.Code.{at, meaning};
 
 use crate::action::{Action, act_all};
+use crate::cells::put;
 use crate::code::{at, value};
 use crate::step::{Step, bit};
-
-fn put(values: &mut Vec<u64>, place: usize, x: u64)
-    ensures len { length values.new.items ≡ length values.old.items }
-    ensures items { values.new.items ≡ put values.old.items place x }
-{
-    if place < values.len() {
-        values[place] = x;
-    }
-}
 
 /// Puts these from a place on.
 pub fn put_all(values: &mut Vec<u64>, first: usize, all: &[u64])

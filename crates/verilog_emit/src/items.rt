@@ -1,15 +1,14 @@
 //! Ports and items.
 ghost use Rattle.std.specs.Prelude.{◌≡◌, ℕ, ◌+◌, ◌++◌, OnOk, codes, map, true};
 ghost use Rattle.verilog_tree.specs.Fits.{item_fits, items_fit};
-ghost use Rattle.verilog_tree.specs.Plain.{plain, plain_stmts, plain_item, plain_port, AssignItem, AlwaysItem};
+ghost use Rattle.verilog_tree.specs.Plain.{plain_stmts, plain_item, plain_port, AlwaysItem};
 ghost use Rattle.verilog_emit.specs.Printed.{line, range_text, direction_text, port_text, comma, ports_text, item_text, items_text};
 
-use crate::expressions::put_expr;
-use crate::statements::put_stmts;
+use crate::statements::{put_assignment, put_stmts};
 use crate::writing::{put_line, put_margin, put_name, put_name_line, put_range};
 use bist_bits::NoMemory;
 use bist_text::put;
-use verilog_tree::{Decl, Dir, Expr, Item, Name, Port, Stmt};
+use verilog_tree::{Decl, Dir, Item, Name, Port, Stmt};
 
 fn direction_text(dir: Dir) -> &'static [u8]
     ensures { result.now ≡ direction_text dir }
@@ -60,17 +59,6 @@ fn put_declared(out: &mut Vec<u8>, word: &[u8], declared: &Decl) -> Result<(), N
     put(out, b";\n")
 }
 
-fn put_assign(out: &mut Vec<u8>, name: &Name, x: &Expr) -> Result<(), NoMemory>
-    ensures { OnOk result (out.new.items ≡ out.old.items ++ item_text (AssignItem name.now.bytes (plain x.now))) }
-{
-    put_margin(out, 1)?;
-    put(out, b"assign ")?;
-    put_name(out, name)?;
-    put(out, b" = ")?;
-    put_expr(out, x)?;
-    put(out, b";\n")
-}
-
 #[tactic(auto, using(crate::proofs::Bodies::block_shallow))]
 fn put_always(out: &mut Vec<u8>, clock: &Name, body: &[Stmt]) -> Result<(), NoMemory>
     requires { item_fits 64 (AlwaysItem clock.now.bytes (plain_stmts body.now)) ≡ true }
@@ -88,7 +76,7 @@ fn put_item(out: &mut Vec<u8>, item: &Item) -> Result<(), NoMemory>
     match item {
         Item::Wire(declared) => put_declared(out, b"wire ", declared),
         Item::Reg(declared) => put_declared(out, b"reg ", declared),
-        Item::Assign(name, x) => put_assign(out, name, x),
+        Item::Assign(name, x) => put_assignment(out, 1, b"assign ", name, b" = ", x),
         Item::Always(clock, body) => put_always(out, clock, body),
     }
 }

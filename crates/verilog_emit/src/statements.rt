@@ -1,6 +1,6 @@
 //! Statements, with begin and end round each body.
 ghost use Rattle.std.specs.Prelude.{◌≡◌, ℕ, ◌+◌, ◌<◌, ◌&&◌, ◌++◌, OnOk, codes, map, true, nat_lt};
-ghost use Rattle.verilog_tree.specs.Plain.{plain, plain_stmt, plain_stmts, arms, SetTo};
+ghost use Rattle.verilog_tree.specs.Plain.{plain, plain_stmt, plain_stmts, arms};
 ghost use Rattle.verilog_tree.specs.inner.Plain.{plain_arm};
 ghost use Rattle.verilog_emit.specs.Printed.{line, expression_text, statement_text, statements_text, arms_text, labels_text};
 ghost use Rattle.verilog_emit.specs.inner.Printed.{else_text, default_text};
@@ -29,12 +29,21 @@ fn put_expr_line(
     put(out, b"\n")
 }
 
-fn put_set(out: &mut Vec<u8>, depth: u8, name: &Name, x: &Expr) -> Result<(), NoMemory>
-    ensures { OnOk result (out.new.items ≡ out.old.items ++ statement_text depth (SetTo name.now.bytes (plain x.now))) }
+/// Appends a line that gives a name an expression.
+pub fn put_assignment(
+    out: &mut Vec<u8>,
+    depth: u8,
+    before: &[u8],
+    name: &Name,
+    sign: &[u8],
+    x: &Expr,
+) -> Result<(), NoMemory>
+    ensures { OnOk result (out.new.items ≡ out.old.items ++ line depth (before.now ++ name.now.bytes ++ sign.now ++ expression_text (plain x.now) ++ codes ";")) }
 {
     put_margin(out, depth)?;
+    put(out, before)?;
     put_name(out, name)?;
-    put(out, b" <= ")?;
+    put(out, sign)?;
     put_expr(out, x)?;
     put(out, b";\n")
 }
@@ -55,7 +64,7 @@ fn put_stmt(out: &mut Vec<u8>, depth: u8, s: &Stmt) -> Result<(), NoMemory>
     ensures { OnOk result (out.new.items ≡ out.old.items ++ statement_text depth (plain_stmt s.now)) }
 {
     match s {
-        Stmt::Set(name, x) => put_set(out, depth, name, x),
+        Stmt::Set(name, x) => put_assignment(out, depth, b"", name, b" <= ", x),
         Stmt::If(c, a, b) => {
             put_expr_line(out, depth, b"if (", c, b") begin")?;
             put_stmts(out, depth + 1, a)?;

@@ -100,8 +100,8 @@ innermost_takes ns n b m r h e f = f ∙ ap (λ o. closes o m) (sym (nests_last 
 choice_ends : (n : Nest) (o : Q.Nest) (m : Mark) → ends_choice n ≡ true → closes (nest n o) m ≡ closes o m
 choice_ends (N.IfFalse c x) o m h = refl
 choice_ends (N.IfTrue c) o m h = cc
-choice_ends (N.Round r n ls u) o m h = cc
-choice_ends (N.List r xs n ls u) o m h = cc
+choice_ends (N.Round r ws) o m h = cc
+choice_ends (N.List r xs ws) o m h = cc
 
 pub others_take : (ns : List Nest) (n : Nest) (b : Alone) (m : Mark) → 1 ≤ length ns → n ≡ get_or ns (length ns - 1) n → ends_choice n ≡ true → closes (nests_of (take (length ns - 1) ns) b) m ≡ closes (nests_of ns b) m
 others_take ns n b m h e t = sym (choice_ends n (nests_of (take (length ns - 1) ns) b) m t) ∙ ap (λ o. closes o m) (sym (nests_last ns n b h e))

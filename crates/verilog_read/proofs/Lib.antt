@@ -6,5 +6,4 @@ pub mod Scanning
 pub mod LexerLimits
 pub mod FrameLemmas
 pub mod ExprExpectations
-pub mod ExprGoes
 pub mod PlaceSteps

@@ -51,7 +51,7 @@ numbers_fit most (Whole (Based x)) h = absurd h
 numbers_fit most l h = refl
 
 -- a test that can't hold
-fails : (t : Bool) → (t ≡ true → ⊥) → t ≡ false
+pub fails : (t : Bool) → (t ≡ true → ⊥) → t ≡ false
 fails true f = absurd (f refl)
 fails false f = refl
 

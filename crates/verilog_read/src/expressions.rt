@@ -1,19 +1,17 @@
-//! What a token does in an expression, however its operators are counted, and behind one that stands in no other.
-ghost use Rattle.std.specs.Prelude.{◌≡◌, Option};
+//! What a token does at each place in an expression, and behind one that stands in no other.
 ghost use Rattle.verilog_tree.specs.Plain.{plain, AssignItem, SetTo};
 ghost use Rattle.verilog_tree.specs.Grammar.{alone};
 ghost use Rattle.verilog_tree.specs.Spells.{bounded};
-ghost use Rattle.verilog_text.specs.Places.{State, Linked, AtStmt, AtItem, WantItem, WantStmt, HaveStmt, InThen, with_item};
-ghost use Rattle.verilog_text.specs.Steps.{alone_step, expects, prim_step, operand_step, have_step, step_expr};
-ghost use Rattle.verilog_read.specs.inner.Waiting.{lefts_of};
-ghost use Rattle.verilog_read.specs.inner.Holding.{token_of, standing, nests_of, ExprSteps};
+ghost use Rattle.verilog_text.specs.Places.{AtStmt, AtItem, WantItem, WantStmt, HaveStmt, InThen, with_item};
+ghost use Rattle.verilog_text.specs.Steps.{alone_step, expects, step_expr};
+ghost use Rattle.verilog_read.specs.inner.Holding.{token_of, standing, nests_of};
 ghost use Rattle.verilog_read.specs.inner.Frames.{alone_of, around_of, head_of};
 ghost use Rattle.verilog_read.specs.inner.Answers.{Goes};
 
 use crate::fault::ParseFault;
 use crate::lexemes::Lexeme;
 use crate::places::{Base, Holder, ItemSpot, Outer, Place, StmtSpot};
-use crate::precedence::{Chain, Closed, ExprPlace, ExprSpot, have, is_mark, operand, prim};
+use crate::precedence::{Chain, ExprSpot, have, is_mark, operand, prim};
 use crate::stacks::{add_item, hold};
 use crate::trees::only;
 use std::alloc::Global;
@@ -91,64 +89,6 @@ pub(crate) fn have_whole(
     }
 }
 
-/// A place in an expression, in the whole text.
-fn entered(outer: &Outer, next: Result<ExprPlace, ParseFault>) -> Result<Place, ParseFault>
-    ensures { (st : Option State) → ExprSteps st next (nests_of outer.now.nests.items (alone_of outer.now)) → Goes st result outer.now }
-{
-    match next {
-        Ok(place) => Ok(Place::InExpr(place)),
-        Err(ParseFault::Unexpected) => Err(ParseFault::Unexpected),
-        Err(ParseFault::NoMemory) => Err(ParseFault::NoMemory),
-    }
-}
-
-/// Where an operand is wanted.
-fn in_operand(
-    alloc: Global,
-    outer: &mut Outer,
-    depth: u8,
-    chain: Chain,
-    token: &Lexeme,
-) -> Result<Place, ParseFault>
-    ensures { Goes (operand_step bounded depth chain.count (lefts_of chain.lefts.items) (nests_of outer.old.nests.items (alone_of outer.old)) (token_of token.now)) result outer.new }
-{
-    let count = chain.count;
-    let next = operand(alloc, &mut outer.nests, depth, count, chain.lefts, token);
-    entered(outer, next)
-}
-
-/// Where an operand is wanted behind its mark.
-fn in_prim(
-    alloc: Global,
-    outer: &mut Outer,
-    depth: u8,
-    chain: Chain,
-    token: &Lexeme,
-) -> Result<Place, ParseFault>
-    ensures { Goes (prim_step bounded depth chain.count (lefts_of chain.lefts.items) chain.mark (nests_of outer.old.nests.items (alone_of outer.old)) (token_of token.now)) result outer.new }
-{
-    let next = prim(alloc, &mut outer.nests, depth, chain, token);
-    entered(outer, next)
-}
-
-/// What a token does behind an operand: in what it stands in, or behind the whole expression.
-fn have_expr(
-    alloc: Global,
-    outer: &mut Outer,
-    depth: u8,
-    x: Expr,
-    chain: Chain,
-    token: &Lexeme,
-) -> Result<Place, ParseFault>
-    ensures { Goes (have_step bounded depth (plain x) (Linked chain.count (lefts_of chain.lefts.items) chain.mark (nests_of outer.old.nests.items (alone_of outer.old))) (token_of token.now)) result outer.new }
-{
-    match have(alloc, &mut outer.nests, depth, x, chain, token) {
-        Ok(Closed::Inner(place)) => Ok(Place::InExpr(place)),
-        Ok(Closed::Whole(whole)) => have_whole(alloc, outer, depth, whole, token),
-        Err(fault) => Err(fault),
-    }
-}
-
 /// What a token does in an expression.
 #[tactic(auto, using(crate::proofs::HoldingLemmas::expects_is))]
 pub(crate) fn step_expr(
@@ -161,11 +101,11 @@ pub(crate) fn step_expr(
     ensures { Goes (step_expr bounded (standing spot chain (nests_of outer.old.nests.items (alone_of outer.old))) (token_of token.now)) result outer.new }
 {
     let next = match spot {
-        ExprSpot::Operand(depth) => return in_operand(alloc, outer, depth, chain, token),
-        ExprSpot::Prim(depth) => return in_prim(alloc, outer, depth, chain, token),
+        ExprSpot::Operand(depth) => return operand(alloc, outer, depth, chain, token),
+        ExprSpot::Prim(depth) => return prim(alloc, outer, depth, chain, token),
         ExprSpot::Named(depth, name) => match token {
             Lexeme::Sign(Mark::OpenBracket) => ExprSpot::Bracket(depth, name),
-            _ => return have_expr(alloc, outer, depth, Expr::Name(name), chain, token),
+            _ => return have(alloc, outer, depth, Expr::Name(name), chain, token),
         },
         ExprSpot::Bracket(depth, name) => match token {
             Lexeme::Number(_, high) => ExprSpot::HighRead(depth, name, high.value),
@@ -186,7 +126,7 @@ pub(crate) fn step_expr(
             }
             ExprSpot::Have(depth, Expr::Part(name, high, low))
         }
-        ExprSpot::Have(depth, x) => return have_expr(alloc, outer, depth, x, chain, token),
+        ExprSpot::Have(depth, x) => return have(alloc, outer, depth, x, chain, token),
     };
-    Ok(Place::InExpr(ExprPlace { spot: next, chain }))
+    Ok(Place::InExpr(next, chain))
 }

@@ -1,9 +1,7 @@
 //! What a token does between statements.
-ghost use Rattle.std.specs.Prelude.{◌≡◌, Some, OnOk, IfErr, ◌∷◌, []};
+ghost use Rattle.std.specs.Prelude.{◌≡◌, Some};
 ghost use Rattle.verilog_tree.specs.Spells.{bounded};
-ghost use Rattle.verilog_tree.specs.Plain.{plain_port};
 ghost use Rattle.verilog_text.specs.Places.{HeadOpen, ClockRead, AtItem};
-ghost use Rattle.verilog_text.specs.Following.{with_ports};
 ghost use Rattle.verilog_text.specs.Steps.{declared, takes_name, range_step, name_step, port_step, input_step, output_step, step_item, step};
 ghost use Rattle.verilog_read.specs.inner.Holding.{token_of};
 ghost use Rattle.verilog_read.specs.inner.Frames.{styled, head_of};
@@ -45,14 +43,6 @@ fn is_zero(token: &Lexeme) -> bool
     }
 }
 
-fn add_port(outer: &mut Outer, port: Port) -> Result<(), ParseFault>
-    ensures added { OnOk result (head_of outer.new ≡ with_ports (head_of outer.old) (plain_port port ∷ [])) }
-    ensures fault { IfErr result (λ e. e ≡ ParseFault.NoMemory) }
-{
-    outer.tree.ports.push(port)?;
-    Ok(())
-}
-
 /// A name is declared.
 fn declare(outer: &mut Outer, what: &Use, width: u8, name: Name) -> Result<Place, ParseFault>
     ensures { Goes (Some (declared (use_of what.now (head_of outer.old)) width name.bytes)) result outer.new }
@@ -60,14 +50,10 @@ fn declare(outer: &mut Outer, what: &Use, width: u8, name: Name) -> Result<Place
     match what {
         Use::Wire => add_item(outer, Item::Wire(Decl { name, width }))?,
         Use::Reg => add_item(outer, Item::Reg(Decl { name, width }))?,
-        Use::Port(dir) => add_port(
-            outer,
-            Port {
-                dir: *dir,
-                name,
-                width,
-            },
-        )?,
+        Use::Port(dir) => {
+            let dir = *dir;
+            outer.tree.ports.push(Port { dir, name, width })?;
+        }
     }
     Ok(Place::InItem(ItemSpot::NameRead(*what, width)))
 }
@@ -240,7 +226,7 @@ pub(crate) fn step(
     ensures { Goes (step bounded (state_of place outer.old) (token_of token.now)) result outer.new }
 {
     match place {
-        Place::InExpr(place) => step_expr(alloc, outer, place.spot, place.chain, token),
+        Place::InExpr(spot, chain) => step_expr(alloc, outer, spot, chain, token),
         Place::InStmt(spot) => step_stmt(alloc, outer, spot, token),
         Place::InItem(spot) => step_item(alloc, outer, &spot, token),
     }

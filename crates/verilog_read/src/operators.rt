@@ -5,8 +5,8 @@ ghost use Rattle.verilog_text.specs.Flat.{settle, settle_all, linked};
 ghost use Rattle.verilog_read.specs.inner.Waiting.{lefts_of, waiting_of};
 
 use crate::fault::ParseFault;
-use crate::trees::infixed;
 use std::alloc::Global;
+use verilog_tree::build::binary;
 use verilog_tree::{BinOp, Expr, height};
 
 /// An operator that waits for its second operand, behind its first.
@@ -33,7 +33,7 @@ pub(crate) fn settle(
             lefts.push(left)?;
             return Ok(last);
         }
-        last = infixed(alloc, left.operator, left.operand, last)?;
+        last = binary(alloc, left.operator, left.operand, last)?;
     }
     Ok(last)
 }
@@ -46,7 +46,7 @@ pub(crate) fn settle_all(alloc: Global, lefts: &mut Vec<Left>, x: Expr) -> Resul
 {
     let mut last = x;
     while let Some(left) = lefts.pop() {
-        last = infixed(alloc, left.operator, left.operand, last)?;
+        last = binary(alloc, left.operator, left.operand, last)?;
     }
     Ok(last)
 }

@@ -1,25 +1,27 @@
-//! What a token does in an expression, within the expression alone.
-ghost use Rattle.std.specs.Prelude.{◌≡◌, ℕ, ◌+◌, ◌<◌, length, Some, IfSome, IfOk, IfErr, OnOk, [], ◌∷◌, map};
-ghost use Rattle.verilog_tree.specs.Plain.{plain, Literal, expressions, Followed, NoMore};
+//! What a token does in an expression, however its operators are counted.
+ghost use Rattle.std.specs.Prelude.{◌≡◌, ◌<◌, length, Some, IfSome, IfOk, IfErr, [], map};
+ghost use Rattle.verilog_tree.specs.Plain.{plain, expressions, Followed, NoMore};
 ghost use Rattle.verilog_tree.specs.Free.{signed};
 ghost use Rattle.verilog_text.specs.Flat.{one_more, in_parens, in_braces, behind, settle_all, linked};
 ghost use Rattle.verilog_tree.specs.Spells.{bounded};
 ghost use Rattle.verilog_tree.specs.Grammar.{deeper};
-ghost use Rattle.verilog_tree.specs.Tokens.{Token, Sign};
-ghost use Rattle.verilog_text.specs.Places as Q;
-ghost use Rattle.verilog_text.specs.Places.{InRound, InList, IfTrue, Alone, AtExpr, WantOperand, WantPrim, Named, Have, Linked, more_parts};
-ghost use Rattle.verilog_text.specs.Steps.{in_room, prim_step, operand_step, close_step, have_step};
+ghost use Rattle.verilog_text.specs.Places.{Have, InList, IfTrue, AtExpr, WantOperand, Linked, more_parts};
+ghost use Rattle.verilog_text.specs.Steps.{in_room, expects, prim_step, operand_step, close_step, have_step};
 ghost use Rattle.verilog_read.specs.inner.Waiting.{lefts_of};
-ghost use Rattle.verilog_read.specs.inner.Holding.{token_of, nest, nests_of, is_expected, ExprSteps, Closes, PoppedNest};
+ghost use Rattle.verilog_read.specs.inner.Holding.{token_of, nest, nests_of, is_expected, PoppedNest};
+ghost use Rattle.verilog_read.specs.inner.Frames.{alone_of};
+ghost use Rattle.verilog_read.specs.inner.Answers.{Goes};
+ghost use Rattle.verilog_read.specs.declared.places.Outer.{Outer};
 
+use crate::expressions::have_whole;
 use crate::fault::ParseFault;
 use crate::lexemes::Lexeme;
 use crate::operators::{Left, link, settle_all};
-use crate::trees::{conditional, prefixed};
-use bist_bits::Bits;
+use crate::places::{Outer, Place};
 use bist_text::is_reserved;
 use std::alloc::Global;
 use verilog_text::Count;
+use verilog_tree::build::{choose, unary};
 use verilog_tree::{BinOp, Expr, Mark, Name, UnOp, infix_of, unary_of};
 
 /// How many openings may be open at once, and how many operators an expression may have that stands in no other.
@@ -39,8 +41,8 @@ pub struct Chain {
 /// What such operands stand in.
 #[derive(Drop)]
 pub enum Nest {
-    Round(u8, Count, Vec<Left>, Option<UnOp>),
-    List(u8, Vec<Expr>, Count, Vec<Left>, Option<UnOp>),
+    Round(u8, Chain),
+    List(u8, Vec<Expr>, Chain),
     IfTrue(Expr),
     IfFalse(Expr, Expr),
 }
@@ -56,19 +58,6 @@ pub enum ExprSpot {
     ColonRead(u8, Name, u8),
     LowRead(u8, Name, u8, u8),
     Have(u8, Expr),
-}
-
-#[derive(Drop)]
-pub struct ExprPlace {
-    pub spot: ExprSpot,
-    pub chain: Chain,
-}
-
-/// Behind a token that may end an expression: a place in what it stands in, or it is whole.
-#[derive(Drop)]
-pub enum Closed {
-    Inner(ExprPlace),
-    Whole(Expr),
 }
 
 pub(crate) fn deeper(depth: u8) -> Option<u8>
@@ -134,13 +123,13 @@ fn signed(alloc: Global, mark: Option<UnOp>, x: Expr) -> Result<Expr, ParseFault
     ensures fault { IfErr result (λ f. f ≡ ParseFault.NoMemory) }
 {
     match mark {
-        Some(op) => prefixed(alloc, op, x),
+        Some(op) => Ok(unary(alloc, op, x)?),
         None => Ok(x),
     }
 }
 
 #[tactic(auto, using(crate::proofs::HoldingLemmas::parts_push))]
-pub(crate) fn with_part(parts: Vec<Expr>, x: Expr) -> Result<Vec<Expr>, ParseFault>
+fn with_part(parts: Vec<Expr>, x: Expr) -> Result<Vec<Expr>, ParseFault>
     ensures value { IfOk result (λ ys. expressions (map plain ys.items) ≡ more_parts (expressions (map plain parts.items)) (Followed (plain x) NoMore)) }
     ensures fault { IfErr result (λ f. f ≡ ParseFault.NoMemory) }
 {
@@ -150,59 +139,46 @@ pub(crate) fn with_part(parts: Vec<Expr>, x: Expr) -> Result<Vec<Expr>, ParseFau
 }
 
 #[tactic(auto, using(crate::proofs::HoldingLemmas::nests_push))]
-fn push(nests: &mut Vec<Nest>, inner: Nest) -> Result<(), ParseFault>
-    ensures pushed { OnOk result ((b : Alone) → nests_of nests.new.items b ≡ nest inner (nests_of nests.old.items b)) }
-    ensures fault { IfErr result (λ f. f ≡ ParseFault.NoMemory) }
+fn pop(outer: &mut Outer) -> Option<Nest>
+    ensures popped { PoppedNest (alone_of outer.old) (nests_of outer.old.nests.items (alone_of outer.old)) result (nests_of outer.new.nests.items (alone_of outer.new)) }
+    ensures same { alone_of outer.new ≡ alone_of outer.old }
+    ensures fewer { IfSome result (λ n. length outer.new.nests.items < length outer.old.nests.items) }
 {
-    nests.push(inner)?;
-    Ok(())
-}
-
-#[tactic(auto, using(crate::proofs::HoldingLemmas::nests_push))]
-fn pop(nests: &mut Vec<Nest>) -> Option<Nest>
-    ensures popped { (b : Alone) → PoppedNest b (nests_of nests.old.items b) result (nests_of nests.new.items b) }
-    ensures fewer { IfSome result (λ n. length nests.new.items < length nests.old.items) }
-{
-    nests.pop()
+    outer.nests.pop()
 }
 
 /// An expression begins within another.
+#[tactic(auto, using(crate::proofs::HoldingLemmas::nests_push))]
 fn begun(
     alloc: Global,
-    nests: &mut Vec<Nest>,
-    outer: Nest,
+    outer: &mut Outer,
+    around: Nest,
     depth: u8,
     count: Count,
-) -> Result<ExprPlace, ParseFault>
-    ensures { (b : Alone) → ExprSteps (Some (AtExpr (WantOperand depth count [] (nest outer (nests_of nests.old.items b))))) result (nests_of nests.new.items b) }
+) -> Result<Place, ParseFault>
+    ensures { Goes (Some (AtExpr (WantOperand depth count [] (nest around (nests_of outer.old.nests.items (alone_of outer.old)))))) result outer.new }
 {
-    push(nests, outer)?;
-    Ok(ExprPlace {
-        spot: ExprSpot::Operand(depth),
-        chain: Chain {
-            count,
-            lefts: Vec::new(alloc),
-            mark: None,
-        },
-    })
+    outer.nests.push(around)?;
+    let chain = Chain {
+        count,
+        lefts: Vec::new(alloc),
+        mark: None,
+    };
+    Ok(Place::InExpr(ExprSpot::Operand(depth), chain))
 }
 
-fn opened_round(
+/// An expression begins behind an opening, where one more may be open.
+fn opened(
     alloc: Global,
-    nests: &mut Vec<Nest>,
+    outer: &mut Outer,
+    around: Nest,
     depth: u8,
-    chain: Chain,
-) -> Result<ExprPlace, ParseFault>
-    ensures { (b : Alone) → ExprSteps (prim_step bounded depth chain.count (lefts_of chain.lefts.items) chain.mark (nests_of nests.old.items b) (Sign Mark.Open)) result (nests_of nests.new.items b) }
+    count: Count,
+) -> Result<Place, ParseFault>
+    ensures { Goes (in_room (deeper bounded depth) (λ q. AtExpr (WantOperand q count [] (nest around (nests_of outer.old.nests.items (alone_of outer.old)))))) result outer.new }
 {
     match deeper(depth) {
-        Some(inner) => begun(
-            alloc,
-            nests,
-            Nest::Round(depth, chain.count, chain.lefts, chain.mark),
-            inner,
-            in_parens(chain.count),
-        ),
+        Some(inner) => begun(alloc, outer, around, inner, count),
         None => Err(ParseFault::Unexpected),
     }
 }
@@ -210,83 +186,62 @@ fn opened_round(
 /// Where a name, a literal, a parenthesis or a brace is wanted.
 pub(crate) fn prim(
     alloc: Global,
-    nests: &mut Vec<Nest>,
+    outer: &mut Outer,
     depth: u8,
     chain: Chain,
     token: &Lexeme,
-) -> Result<ExprPlace, ParseFault>
-    ensures { (b : Alone) → ExprSteps (prim_step bounded depth chain.count (lefts_of chain.lefts.items) chain.mark (nests_of nests.old.items b) (token_of token.now)) result (nests_of nests.new.items b) }
+) -> Result<Place, ParseFault>
+    ensures { Goes (prim_step bounded depth chain.count (lefts_of chain.lefts.items) chain.mark (nests_of outer.old.nests.items (alone_of outer.old)) (token_of token.now)) result outer.new }
 {
-    match token {
-        Lexeme::Word(name) => {
-            if is_reserved(name.as_str().as_bytes()) {
-                Err(ParseFault::Unexpected)
-            } else {
-                Ok(ExprPlace {
-                    spot: ExprSpot::Named(depth, *name),
-                    chain,
-                })
-            }
+    let count = chain.count;
+    let spot = match token {
+        Lexeme::Word(name) if !is_reserved(name.as_str().as_bytes()) => {
+            ExprSpot::Named(depth, *name)
         }
-        Lexeme::Constant(bits) => Ok(ExprPlace {
-            spot: ExprSpot::Have(depth, Expr::Lit(*bits)),
-            chain,
-        }),
-        Lexeme::Sign(Mark::Open) => opened_round(alloc, nests, depth, chain),
-        Lexeme::Sign(Mark::OpenBrace) => match deeper(depth) {
-            Some(inner) => {
-                let outer = Nest::List(
-                    depth,
-                    Vec::new(alloc),
-                    chain.count,
-                    chain.lefts,
-                    chain.mark,
-                );
-                begun(alloc, nests, outer, inner, in_braces(chain.count))
-            }
-            None => Err(ParseFault::Unexpected),
-        },
-        _ => Err(ParseFault::Unexpected),
-    }
+        Lexeme::Constant(bits) => ExprSpot::Have(depth, Expr::Lit(*bits)),
+        Lexeme::Sign(Mark::Open) => {
+            return opened(
+                alloc,
+                outer,
+                Nest::Round(depth, chain),
+                depth,
+                in_parens(count),
+            );
+        }
+        Lexeme::Sign(Mark::OpenBrace) => {
+            let around = Nest::List(depth, Vec::new(alloc), chain);
+            return opened(alloc, outer, around, depth, in_braces(count));
+        }
+        _ => return Err(ParseFault::Unexpected),
+    };
+    Ok(Place::InExpr(spot, chain))
 }
 
-/// Where an operand is wanted.
+/// Where an operand is wanted: a mark may stand before it.
 pub(crate) fn operand(
     alloc: Global,
-    nests: &mut Vec<Nest>,
+    outer: &mut Outer,
     depth: u8,
-    count: Count,
-    lefts: Vec<Left>,
+    chain: Chain,
     token: &Lexeme,
-) -> Result<ExprPlace, ParseFault>
-    ensures { (b : Alone) → ExprSteps (operand_step bounded depth count (lefts_of lefts.items) (nests_of nests.old.items b) (token_of token.now)) result (nests_of nests.new.items b) }
+) -> Result<Place, ParseFault>
+    ensures { Goes (operand_step bounded depth chain.count (lefts_of chain.lefts.items) (nests_of outer.old.nests.items (alone_of outer.old)) (token_of token.now)) result outer.new }
 {
-    if let Lexeme::Sign(mark) = token {
-        if let Some(op) = unary_of(*mark) {
-            return match one_more(count) {
-                Some(more) => Ok(ExprPlace {
-                    spot: ExprSpot::Prim(depth),
-                    chain: Chain {
-                        count: more,
-                        lefts,
-                        mark: Some(op),
-                    },
-                }),
-                None => Err(ParseFault::Unexpected),
-            };
-        }
+    let mut chain = chain;
+    chain.mark = match token {
+        Lexeme::Sign(mark) => unary_of(*mark),
+        _ => None,
+    };
+    if chain.mark.is_none() {
+        return prim(alloc, outer, depth, chain, token);
     }
-    prim(
-        alloc,
-        nests,
-        depth,
-        Chain {
-            count,
-            lefts,
-            mark: None,
-        },
-        token,
-    )
+    match one_more(chain.count) {
+        Some(more) => {
+            chain.count = more;
+            Ok(Place::InExpr(ExprSpot::Prim(depth), chain))
+        }
+        None => Err(ParseFault::Unexpected),
+    }
 }
 
 /// Whether a token is this mark.
@@ -303,33 +258,27 @@ pub(crate) fn is_mark(mark: Mark, token: &Lexeme) -> bool
 /// A parenthesis closes: what it holds is an operand.
 #[tactic(auto, using(crate::proofs::HoldingLemmas::expects_is))]
 fn in_round(
+    outer: &Outer,
     depth: u8,
-    before: Count,
+    chain: Chain,
     inside: Count,
-    lefts: Vec<Left>,
-    mark: Option<UnOp>,
     x: Expr,
     token: &Lexeme,
-) -> Result<Closed, ParseFault>
-    ensures { (p : ℕ) (b : Alone) (o : Q.Nest) → Closes (close_step p inside (plain x) (InRound depth before (lefts_of lefts.items) mark o) (token_of token.now)) result p b o (token_of token.now) }
+) -> Result<Place, ParseFault>
+    ensures { Goes (expects Mark.Close (AtExpr (Have depth (plain x) (Linked (behind chain.count inside) (lefts_of chain.lefts.items) chain.mark (nests_of outer.now.nests.items (alone_of outer.now))))) (token_of token.now)) result outer.now }
 {
     if !is_mark(Mark::Close, token) {
         return Err(ParseFault::Unexpected);
     }
-    Ok(Closed::Inner(ExprPlace {
-        spot: ExprSpot::Have(depth, x),
-        chain: Chain {
-            count: behind(before, inside),
-            lefts,
-            mark,
-        },
-    }))
+    let mut chain = chain;
+    chain.count = behind(chain.count, inside);
+    Ok(Place::InExpr(ExprSpot::Have(depth, x), chain))
 }
 
 /// A part of a concatenation ends.
 fn in_list(
     alloc: Global,
-    nests: &mut Vec<Nest>,
+    outer: &mut Outer,
     inner: u8,
     depth: u8,
     parts: Vec<Expr>,
@@ -337,24 +286,18 @@ fn in_list(
     count: Count,
     x: Expr,
     token: &Lexeme,
-) -> Result<Closed, ParseFault>
-    ensures { (b : Alone) → Closes (close_step inner count (plain x) (InList depth (expressions (map plain parts.items)) chain.count (lefts_of chain.lefts.items) chain.mark (nests_of nests.old.items b)) (token_of token.now)) result inner b (nests_of nests.new.items b) (token_of token.now) }
+) -> Result<Place, ParseFault>
+    ensures { Goes (close_step inner count (plain x) (InList depth (expressions (map plain parts.items)) chain.count (lefts_of chain.lefts.items) chain.mark (nests_of outer.old.nests.items (alone_of outer.old))) (token_of token.now)) result outer.new }
 {
     let parts = with_part(parts, x)?;
     match token {
         Lexeme::Sign(Mark::Comma) => {
-            let outer = Nest::List(depth, parts, chain.count, chain.lefts, chain.mark);
-            Ok(Closed::Inner(begun(alloc, nests, outer, inner, count)?))
+            begun(alloc, outer, Nest::List(depth, parts, chain), inner, count)
         }
         Lexeme::Sign(Mark::CloseBrace) => {
-            Ok(Closed::Inner(ExprPlace {
-                spot: ExprSpot::Have(depth, Expr::Concat(parts)),
-                chain: Chain {
-                    count: behind(chain.count, count),
-                    lefts: chain.lefts,
-                    mark: chain.mark,
-                },
-            }))
+            let mut chain = chain;
+            chain.count = behind(chain.count, count);
+            Ok(Place::InExpr(ExprSpot::Have(depth, Expr::Concat(parts)), chain))
         }
         _ => Err(ParseFault::Unexpected),
     }
@@ -364,78 +307,66 @@ fn in_list(
 #[tactic(auto, using(crate::proofs::HoldingLemmas::expects_is))]
 fn in_choice(
     alloc: Global,
-    nests: &mut Vec<Nest>,
+    outer: &mut Outer,
     depth: u8,
     count: Count,
     c: Expr,
     x: Expr,
     token: &Lexeme,
-) -> Result<Closed, ParseFault>
-    ensures { (b : Alone) → Closes (close_step depth count (plain x) (IfTrue (plain c) (nests_of nests.old.items b)) (token_of token.now)) result depth b (nests_of nests.new.items b) (token_of token.now) }
+) -> Result<Place, ParseFault>
+    ensures { Goes (close_step depth count (plain x) (IfTrue (plain c) (nests_of outer.old.nests.items (alone_of outer.old))) (token_of token.now)) result outer.new }
 {
     if !is_mark(Mark::Colon, token) {
         return Err(ParseFault::Unexpected);
     }
-    Ok(Closed::Inner(begun(alloc, nests, Nest::IfFalse(c, x), depth, count)?))
+    begun(alloc, outer, Nest::IfFalse(c, x), depth, count)
 }
 
 /// What a token does behind a whole expression: each choice whose last part it was ends with it.
 fn close(
     alloc: Global,
-    nests: &mut Vec<Nest>,
+    outer: &mut Outer,
     depth: u8,
     count: Count,
     x: Expr,
     token: &Lexeme,
-) -> Result<Closed, ParseFault>
-    ensures { (b : Alone) → Closes (close_step depth count (plain x) (nests_of nests.old.items b) (token_of token.now)) result depth b (nests_of nests.new.items b) (token_of token.now) }
+) -> Result<Place, ParseFault>
+    ensures { Goes (close_step depth count (plain x) (nests_of outer.old.nests.items (alone_of outer.old)) (token_of token.now)) result outer.new }
 {
     let mut last = x;
-    while let Some(inner) = pop(nests) {
-        match inner {
-            Nest::IfFalse(c, yes) => last = conditional(alloc, c, yes, last)?,
-            Nest::Round(r, before, lefts, mark) => {
-                return in_round(r, before, count, lefts, mark, last, token);
+    while let Some(around) = pop(outer) {
+        match around {
+            Nest::IfFalse(c, yes) => last = choose(alloc, c, yes, last)?,
+            Nest::Round(before, chain) => {
+                return in_round(outer, before, chain, count, last, token);
             }
-            Nest::List(r, parts, before, lefts, mark) => {
-                let chain = Chain {
-                    count: before,
-                    lefts,
-                    mark,
-                };
-                return in_list(alloc, nests, depth, r, parts, chain, count, last, token);
+            Nest::List(before, parts, chain) => {
+                return in_list(
+                    alloc, outer, depth, before, parts, chain, count, last, token,
+                );
             }
-            Nest::IfTrue(c) => {
-                return in_choice(alloc, nests, depth, count, c, last, token);
-            }
+            Nest::IfTrue(c) => return in_choice(alloc, outer, depth, count, c, last, token),
         }
     }
-    Ok(Closed::Whole(last))
+    have_whole(alloc, outer, depth, last, token)
 }
 
 /// An operator comes behind an operand.
 fn joined_by(
     alloc: Global,
     depth: u8,
-    count: Count,
     op: BinOp,
-    lefts: Vec<Left>,
+    chain: Chain,
     x: Expr,
-) -> Result<Closed, ParseFault>
-    ensures { (b : Alone) (o : Q.Nest) (t : Token) → Closes (in_room (one_more bounded count) (λ j. AtExpr (WantOperand depth j (linked op (lefts_of lefts.items) (plain x)) o))) result depth b o t }
+) -> Result<Place, ParseFault>
+    ensures { (w : Outer) → Goes (in_room (one_more bounded chain.count) (λ j. AtExpr (WantOperand depth j (linked op (lefts_of chain.lefts.items) (plain x)) (nests_of w.nests.items (alone_of w))))) result w }
 {
-    match one_more(count) {
+    let mut chain = chain;
+    match one_more(chain.count) {
         Some(more) => {
-            let mut lefts = lefts;
-            link(alloc, op, &mut lefts, x)?;
-            Ok(Closed::Inner(ExprPlace {
-                spot: ExprSpot::Operand(depth),
-                chain: Chain {
-                    count: more,
-                    lefts,
-                    mark: None,
-                },
-            }))
+            link(alloc, op, &mut chain.lefts, x)?;
+            chain.count = more;
+            Ok(Place::InExpr(ExprSpot::Operand(depth), chain))
         }
         None => Err(ParseFault::Unexpected),
     }
@@ -444,20 +375,15 @@ fn joined_by(
 /// A choice comes behind its condition.
 fn asked(
     alloc: Global,
-    nests: &mut Vec<Nest>,
+    outer: &mut Outer,
     depth: u8,
     count: Count,
-    lefts: Vec<Left>,
-    x: Expr,
-) -> Result<ExprPlace, ParseFault>
-    ensures { (b : Alone) → ExprSteps (in_room (one_more bounded count) (λ j. AtExpr (WantOperand depth j [] (IfTrue (settle_all (lefts_of lefts.items) (plain x)) (nests_of nests.old.items b))))) result (nests_of nests.new.items b) }
+    c: Expr,
+) -> Result<Place, ParseFault>
+    ensures { Goes (in_room (one_more bounded count) (λ j. AtExpr (WantOperand depth j [] (IfTrue (plain c) (nests_of outer.old.nests.items (alone_of outer.old)))))) result outer.new }
 {
     match one_more(count) {
-        Some(more) => {
-            let mut lefts = lefts;
-            let c = settle_all(alloc, &mut lefts, x)?;
-            begun(alloc, nests, Nest::IfTrue(c), depth, more)
-        }
+        Some(more) => begun(alloc, outer, Nest::IfTrue(c), depth, more),
         None => Err(ParseFault::Unexpected),
     }
 }
@@ -466,25 +392,25 @@ fn asked(
 #[tactic(auto, using(crate::proofs::HoldingLemmas::ask_is))]
 pub(crate) fn have(
     alloc: Global,
-    nests: &mut Vec<Nest>,
+    outer: &mut Outer,
     depth: u8,
     x: Expr,
     chain: Chain,
     token: &Lexeme,
-) -> Result<Closed, ParseFault>
-    ensures { (b : Alone) → Closes (have_step bounded depth (plain x) (Linked chain.count (lefts_of chain.lefts.items) chain.mark (nests_of nests.old.items b)) (token_of token.now)) result depth b (nests_of nests.new.items b) (token_of token.now) }
+) -> Result<Place, ParseFault>
+    ensures { Goes (have_step bounded depth (plain x) (Linked chain.count (lefts_of chain.lefts.items) chain.mark (nests_of outer.old.nests.items (alone_of outer.old))) (token_of token.now)) result outer.new }
 {
-    let count = chain.count;
+    let mut chain = chain;
     let x = signed(alloc, chain.mark, x)?;
     if let Lexeme::Sign(mark) = token {
         if let Some(op) = infix_of(*mark) {
-            return joined_by(alloc, depth, count, op, chain.lefts, x);
-        }
-        if *mark == Mark::Question {
-            return Ok(Closed::Inner(asked(alloc, nests, depth, count, chain.lefts, x)?));
+            return joined_by(alloc, depth, op, chain, x);
         }
     }
-    let mut lefts = chain.lefts;
-    let whole = settle_all(alloc, &mut lefts, x)?;
-    close(alloc, nests, depth, count, whole, token)
+    let whole = settle_all(alloc, &mut chain.lefts, x)?;
+    if is_mark(Mark::Question, token) {
+        asked(alloc, outer, depth, chain.count, whole)
+    } else {
+        close(alloc, outer, depth, chain.count, whole, token)
+    }
 }

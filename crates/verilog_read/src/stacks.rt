@@ -12,7 +12,7 @@ ghost use Rattle.verilog_read.specs.inner.Answers.{Released};
 use crate::fault::ParseFault;
 use crate::lexemes::Lexeme;
 use crate::places::{Base, Holder, Outer, Place, Style};
-use crate::precedence::{Chain, ExprPlace, ExprSpot};
+use crate::precedence::{Chain, ExprSpot};
 use std::alloc::Global;
 use verilog_text::Count;
 use verilog_tree::Item;
@@ -52,14 +52,12 @@ pub(crate) fn begin(alloc: Global, outer: &mut Outer, whole: Base, depth: u8) ->
 {
     outer.base = whole;
     outer.nests.clear();
-    Place::InExpr(ExprPlace {
-        spot: ExprSpot::Operand(depth),
-        chain: Chain {
-            count: none_yet(outer.style),
-            lefts: Vec::new(alloc),
-            mark: None,
-        },
-    })
+    let chain = Chain {
+        count: none_yet(outer.style),
+        lefts: Vec::new(alloc),
+        mark: None,
+    };
+    Place::InExpr(ExprSpot::Operand(depth), chain)
 }
 
 pub(crate) fn add_item(outer: &mut Outer, item: Item) -> Result<(), ParseFault>

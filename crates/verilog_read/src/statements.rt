@@ -1,82 +1,61 @@
 //! What a token does in a statement.
-ghost use Rattle.std.specs.Prelude.{◌≡◌, Option, Some, map, codes};
+ghost use Rattle.std.specs.Prelude.{Some, map, codes};
 ghost use Rattle.verilog_tree.specs.Spells.{bounded};
 ghost use Rattle.verilog_tree.specs.Plain.{plain, plain_stmts, arms, AlwaysItem};
 ghost use Rattle.verilog_tree.specs.inner.Plain.{plain_arm};
 ghost use Rattle.verilog_tree.specs.Grammar.{then_all};
 ghost use Rattle.verilog_text.specs.Following.{case_of};
-ghost use Rattle.verilog_text.specs.Places.{Around, State, with_item, AtStmt, WantStmt, HaveStmt, InElse, style_of};
+ghost use Rattle.verilog_text.specs.Places.{with_item, AtStmt, WantStmt, HaveStmt, InElse, style_of};
 ghost use Rattle.verilog_text.specs.Steps.{word_step, want_stmt_step, block_step, arm_step, want_item_step, have_stmt_step, step_stmt, expects_word};
 ghost use Rattle.verilog_read.specs.inner.Holding.{token_of};
-ghost use Rattle.verilog_read.specs.inner.Frames.{alone, holder, around_of, head_of};
+ghost use Rattle.verilog_read.specs.inner.Frames.{alone, around_of, head_of};
 ghost use Rattle.verilog_read.specs.declared.places.Outer.{Outer};
-ghost use Rattle.verilog_read.specs.declared.places.StmtSpot.TheVariants.{Target, FirstLabel, Labels, NextLabel, DefaultRead};
+ghost use Rattle.verilog_read.specs.declared.places.StmtSpot.TheVariants.{Target, Labels, NextLabel, DefaultRead};
 ghost use Rattle.verilog_read.specs.inner.Spots.{stmt_spot};
-ghost use Rattle.verilog_read.specs.inner.Answers.{StmtSteps, Goes, opens_expr};
+ghost use Rattle.verilog_read.specs.inner.Answers.{Goes, opens_expr};
 
 use crate::fault::ParseFault;
 use crate::lexemes::Lexeme;
 use crate::places::{Base, Holder, ItemSpot, Outer, Place, StmtSpot, Use};
 use crate::precedence::{deeper, is_mark};
 use crate::stacks::{add_item, begin, hold, is_word, release};
-use crate::trees::{case_of, condition, join, with_arm, with_label};
+use crate::trees::{join, only, with_arm};
 use bist_bits::Bits;
 use bist_text::is_reserved;
 use std::alloc::Global;
 use verilog_tree::{Arm, Expr, Item, Mark, Name, Stmt};
 
-fn begin_stmt(alloc: Global, outer: &Outer, depth: u8, name: &Name) -> Result<StmtSpot, ParseFault>
-    ensures { StmtSteps (word_step bounded depth (around_of outer.now) name.now.bytes) result (around_of outer.now) }
+/// A statement begins with a word.
+#[tactic(auto, using(crate::proofs::PlaceSteps::free_word, crate::proofs::PlaceSteps::full_word))]
+fn begin_stmt(alloc: Global, outer: &Outer, depth: u8, name: &Name) -> Result<Place, ParseFault>
+    ensures { Goes (word_step bounded depth (around_of outer.now) name.now.bytes) result outer.now }
 {
     let word = name.as_str();
-    if word == "begin" {
-        match deeper(depth) {
-            Some(inner) => Ok(StmtSpot::Block(inner, depth, Vec::new(alloc))),
-            None => Err(ParseFault::Unexpected),
-        }
-    } else if word == "if" {
-        match deeper(depth) {
-            Some(inner) => Ok(StmtSpot::IfRead(depth, inner)),
-            None => Err(ParseFault::Unexpected),
-        }
-    } else if word == "case" {
-        match deeper(depth) {
-            Some(inner) => Ok(StmtSpot::CaseRead(depth, inner)),
-            None => Err(ParseFault::Unexpected),
-        }
-    } else if is_reserved(word.as_bytes()) {
-        Err(ParseFault::Unexpected)
-    } else {
-        Ok(StmtSpot::Target(depth, *name))
+    if !is_reserved(word.as_bytes()) {
+        return Ok(Place::InStmt(StmtSpot::Target(depth, *name)));
     }
+    let Some(inner) = deeper(depth) else {
+        return Err(ParseFault::Unexpected);
+    };
+    let spot = if word == "begin" {
+        StmtSpot::Block(inner, depth, Vec::new(alloc))
+    } else if word == "if" {
+        StmtSpot::IfRead(depth, inner)
+    } else if word == "case" {
+        StmtSpot::CaseRead(depth, inner)
+    } else {
+        return Err(ParseFault::Unexpected);
+    };
+    Ok(Place::InStmt(spot))
 }
 
-fn want_stmt(
-    alloc: Global,
-    outer: &Outer,
-    depth: u8,
-    token: &Lexeme,
-) -> Result<StmtSpot, ParseFault>
-    ensures { StmtSteps (want_stmt_step bounded depth (around_of outer.now) (token_of token.now)) result (around_of outer.now) }
+fn want_stmt(alloc: Global, outer: &Outer, depth: u8, token: &Lexeme) -> Result<Place, ParseFault>
+    ensures { Goes (want_stmt_step bounded depth (around_of outer.now) (token_of token.now)) result outer.now }
 {
     match token {
         Lexeme::Word(name) => begin_stmt(alloc, outer, depth, name),
         _ => Err(ParseFault::Unexpected),
     }
-}
-
-/// A statement begins in a holder.
-fn want_held(
-    alloc: Global,
-    outer: &mut Outer,
-    h: Holder,
-    depth: u8,
-    token: &Lexeme,
-) -> Result<StmtSpot, ParseFault>
-    ensures { StmtSteps (want_stmt_step bounded depth (holder h (around_of outer.old)) (token_of token.now)) result (around_of outer.new) }
-{
-    hold(outer, h)?;
-    want_stmt(alloc, outer, depth, token)
 }
 
 fn in_block(
@@ -86,14 +65,14 @@ fn in_block(
     depth: u8,
     old: Vec<Stmt>,
     token: &Lexeme,
-) -> Result<StmtSpot, ParseFault>
-    ensures { StmtSteps (block_step bounded inner depth (plain_stmts old.items) (around_of outer.old) (token_of token.now)) result (around_of outer.new) }
+) -> Result<Place, ParseFault>
+    ensures { Goes (block_step bounded inner depth (plain_stmts old.items) (around_of outer.old) (token_of token.now)) result outer.new }
 {
     if is_word("end", token) {
-        Ok(StmtSpot::HaveStmt(depth, old))
-    } else {
-        want_held(alloc, outer, Holder::Block(depth, old), inner, token)
+        return Ok(Place::InStmt(StmtSpot::HaveStmt(depth, old)));
     }
+    hold(outer, Holder::Block(depth, old))?;
+    want_stmt(alloc, outer, inner, token)
 }
 
 pub(crate) fn want_item(outer: &Outer, token: &Lexeme) -> Result<Place, ParseFault>
@@ -139,9 +118,8 @@ fn in_case(
 ) -> Result<Place, ParseFault>
     ensures { Goes (arm_step depth inner (plain x) (arms (map plain_arm choices.items)) (around_of outer.now) (token_of token.now)) result outer.now }
 {
-    if let Lexeme::Constant(label) = token {
-        let labels = with_label(Vec::new(alloc), *label)?;
-        return Ok(Place::InStmt(StmtSpot::Labels(depth, inner, x, choices, labels)));
+    if let Lexeme::Constant(_) = token {
+        return next_label(depth, inner, x, choices, Vec::new(alloc), token);
     }
     if is_word("default", token) {
         return Ok(Place::InStmt(StmtSpot::DefaultRead(depth, inner, x, choices)));
@@ -149,7 +127,7 @@ fn in_case(
     if !is_word("endcase", token) {
         return Err(ParseFault::Unexpected);
     }
-    let body = case_of(alloc, x, choices, Vec::new(alloc))?;
+    let body = only(alloc, Stmt::Case(x, choices, Vec::new(alloc)))?;
     Ok(Place::InStmt(StmtSpot::HaveStmt(depth, body)))
 }
 
@@ -166,8 +144,7 @@ fn have_block(
     ensures { Goes (block_step bounded inner depth (then_all (plain_stmts old.items) (plain_stmts body.items)) (around_of outer.old) (token_of token.now)) result outer.new }
 {
     let old = join(old, body)?;
-    let next = in_block(alloc, outer, inner, depth, old, token)?;
-    Ok(Place::InStmt(next))
+    in_block(alloc, outer, inner, depth, old, token)
 }
 
 /// The else of an `if` begins.
@@ -199,7 +176,7 @@ fn have_default(
     if !is_word("endcase", token) {
         return Err(ParseFault::Unexpected);
     }
-    let body = case_of(alloc, x, choices, other)?;
+    let body = only(alloc, Stmt::Case(x, choices, other))?;
     Ok(Place::InStmt(StmtSpot::HaveStmt(depth, body)))
 }
 
@@ -222,11 +199,11 @@ fn have_stmt(
             if is_word("else", token) {
                 return begin_else(outer, depth, above, c, body);
             }
-            let body = condition(alloc, c, body, Vec::new(alloc))?;
+            let body = only(alloc, Stmt::If(c, body, Vec::new(alloc)))?;
             have_stmt(alloc, outer, above, body, token)
         }
         Some(Holder::Else(above, c, yes)) => {
-            let body = condition(alloc, c, yes, body)?;
+            let body = only(alloc, Stmt::If(c, yes, body))?;
             have_stmt(alloc, outer, above, body, token)
         }
         Some(Holder::Labelled(above, x, arms, labels)) => {
@@ -275,26 +252,7 @@ fn behind_target(
     Ok(begin(alloc, outer, Base::Set(name), depth))
 }
 
-/// Where the first label of a case comes.
-fn first_label(
-    alloc: Global,
-    depth: u8,
-    inner: u8,
-    x: Expr,
-    token: &Lexeme,
-) -> Result<StmtSpot, ParseFault>
-    ensures { (a : Around) → StmtSteps (step_stmt bounded (stmt_spot (FirstLabel depth inner x) a) (token_of token.now)) result a }
-{
-    match token {
-        Lexeme::Constant(label) => {
-            let labels = with_label(Vec::new(alloc), *label)?;
-            Ok(StmtSpot::Labels(depth, inner, x, Vec::new(alloc), labels))
-        }
-        _ => Err(ParseFault::Unexpected),
-    }
-}
-
-/// Where a label of an arm comes, behind those before it.
+/// Where a label of an arm comes, behind those before it, if there are any.
 fn next_label(
     depth: u8,
     inner: u8,
@@ -302,13 +260,14 @@ fn next_label(
     choices: Vec<Arm>,
     labels: Vec<Bits>,
     token: &Lexeme,
-) -> Result<StmtSpot, ParseFault>
-    ensures { (a : Around) → StmtSteps (step_stmt bounded (stmt_spot (NextLabel depth inner x choices labels) a) (token_of token.now)) result a }
+) -> Result<Place, ParseFault>
+    ensures { (w : Outer) → Goes (step_stmt bounded (stmt_spot (NextLabel depth inner x choices labels) (around_of w)) (token_of token.now)) result w }
 {
     match token {
         Lexeme::Constant(label) => {
-            let labels = with_label(labels, *label)?;
-            Ok(StmtSpot::Labels(depth, inner, x, choices, labels))
+            let mut labels = labels;
+            labels.push(*label)?;
+            Ok(Place::InStmt(StmtSpot::Labels(depth, inner, x, choices, labels)))
         }
         _ => Err(ParseFault::Unexpected),
     }
@@ -323,14 +282,16 @@ fn behind_label(
     choices: Vec<Arm>,
     labels: Vec<Bits>,
     token: &Lexeme,
-) -> Result<StmtSpot, ParseFault>
-    ensures { StmtSteps (step_stmt bounded (stmt_spot (Labels depth inner x choices labels) (around_of outer.old)) (token_of token.now)) result (around_of outer.new) }
+) -> Result<Place, ParseFault>
+    ensures { Goes (step_stmt bounded (stmt_spot (Labels depth inner x choices labels) (around_of outer.old)) (token_of token.now)) result outer.new }
 {
     match token {
-        Lexeme::Sign(Mark::Comma) => { Ok(StmtSpot::NextLabel(depth, inner, x, choices, labels)) }
+        Lexeme::Sign(Mark::Comma) => Ok(Place::InStmt(StmtSpot::NextLabel(
+            depth, inner, x, choices, labels,
+        ))),
         Lexeme::Sign(Mark::Colon) => {
             hold(outer, Holder::Labelled(depth, x, choices, labels))?;
-            Ok(StmtSpot::WantStmt(inner))
+            Ok(Place::InStmt(StmtSpot::WantStmt(inner)))
         }
         _ => Err(ParseFault::Unexpected),
     }
@@ -345,26 +306,13 @@ fn behind_default(
     x: Expr,
     choices: Vec<Arm>,
     token: &Lexeme,
-) -> Result<StmtSpot, ParseFault>
-    ensures { StmtSteps (step_stmt bounded (stmt_spot (DefaultRead depth inner x choices) (around_of outer.old)) (token_of token.now)) result (around_of outer.new) }
+) -> Result<Place, ParseFault>
+    ensures { Goes (step_stmt bounded (stmt_spot (DefaultRead depth inner x choices) (around_of outer.old)) (token_of token.now)) result outer.new }
 {
-    let h = Holder::Other(depth, x, choices);
+    hold(outer, Holder::Other(depth, x, choices))?;
     match token {
-        Lexeme::Sign(Mark::Colon) => {
-            hold(outer, h)?;
-            Ok(StmtSpot::WantStmt(inner))
-        }
-        _ => want_held(alloc, outer, h, inner, token),
-    }
-}
-
-/// The place of a step that stays in a statement.
-fn in_stmt(spot: Result<StmtSpot, ParseFault>) -> Result<Place, ParseFault>
-    ensures { (st : Option State) (w : Outer) → StmtSteps st spot (around_of w) → Goes st result w }
-{
-    match spot {
-        Ok(spot) => Ok(Place::InStmt(spot)),
-        Err(fault) => Err(fault),
+        Lexeme::Sign(Mark::Colon) => Ok(Place::InStmt(StmtSpot::WantStmt(inner))),
+        _ => want_stmt(alloc, outer, inner, token),
     }
 }
 
@@ -378,7 +326,7 @@ pub(crate) fn step_stmt(
     ensures { Goes (step_stmt bounded (stmt_spot place (around_of outer.old)) (token_of token.now)) result outer.new }
 {
     match place {
-        StmtSpot::WantStmt(depth) => in_stmt(want_stmt(alloc, outer, depth, token)),
+        StmtSpot::WantStmt(depth) => want_stmt(alloc, outer, depth, token),
         StmtSpot::Target(depth, name) => behind_target(alloc, outer, depth, name, token),
         StmtSpot::IfRead(depth, inner) => {
             opened(alloc, outer, inner, Base::Test(depth, inner), token)
@@ -387,20 +335,20 @@ pub(crate) fn step_stmt(
             opened(alloc, outer, inner, Base::Pick(depth, inner), token)
         }
         StmtSpot::FirstLabel(depth, inner, x) => {
-            in_stmt(first_label(alloc, depth, inner, x, token))
+            let choices = Vec::new(alloc);
+            let labels = Vec::new(alloc);
+            next_label(depth, inner, x, choices, labels, token)
         }
         StmtSpot::Labels(depth, inner, x, choices, labels) => {
-            in_stmt(behind_label(outer, depth, inner, x, choices, labels, token))
+            behind_label(outer, depth, inner, x, choices, labels, token)
         }
         StmtSpot::NextLabel(depth, inner, x, choices, labels) => {
-            in_stmt(next_label(depth, inner, x, choices, labels, token))
+            next_label(depth, inner, x, choices, labels, token)
         }
         StmtSpot::DefaultRead(depth, inner, x, choices) => {
-            in_stmt(behind_default(alloc, outer, depth, inner, x, choices, token))
+            behind_default(alloc, outer, depth, inner, x, choices, token)
         }
-        StmtSpot::Block(inner, depth, old) => {
-            in_stmt(in_block(alloc, outer, inner, depth, old, token))
-        }
+        StmtSpot::Block(inner, depth, old) => in_block(alloc, outer, inner, depth, old, token),
         StmtSpot::HaveStmt(depth, body) => have_stmt(alloc, outer, depth, body, token),
     }
 }

@@ -4,7 +4,7 @@ ghost use Rattle.verilog_tree.specs.Plain.{Expression};
 ghost use Rattle.verilog_tree.specs.Tokens.{Number, Sign};
 ghost use Rattle.verilog_tree.specs.Grammar.{is_sign};
 ghost use Rattle.verilog_text.specs.Places as Q;
-ghost use Rattle.verilog_read.specs.inner.Ends.{ends_choice, closes, links, goes_on, may, prefixes, opens, starts};
+ghost use Rattle.verilog_read.specs.inner.Ends.{ends_choice, closes, links, goes_on, may, opens, starts};
 ghost use Rattle.verilog_read.specs.inner.Holding.{token_of, nest, standing, nests_of};
 ghost use Rattle.verilog_read.specs.declared.precedence.Chain.{Chain};
 ghost use Rattle.verilog_text.specs.Expected.{is_step, taken, live, longer_marks, some_taken};
@@ -17,11 +17,11 @@ ghost use Rattle.verilog_text.specs.Steps.{alone_step};
 use crate::lexemes::Lexeme;
 use crate::lexer::Scanner;
 use crate::places::{Base, ItemSpot, Outer, Place, StmtSpot, Use};
-use crate::precedence::{ExprPlace, ExprSpot, Nest};
+use crate::precedence::{ExprSpot, Nest};
 use crate::words::expected_at;
 use bist_text::is_reserved;
 use verilog_text::Count;
-use verilog_tree::Mark;
+use verilog_tree::{Mark, infix_of, unary_of};
 
 /// Whether a mark may come behind an expression that stands in no other.
 fn base_takes(outer: &Outer, mark: Mark) -> bool
@@ -45,8 +45,8 @@ fn nest_takes(inner: &Nest, mark: Mark) -> bool
     ensures { (o : Q.Nest) → ends_choice inner.now ≡ false → result ≡ closes (nest inner.now o) mark }
 {
     match inner {
-        Nest::Round(_, _, _, _) => matches!(mark, Mark::Close),
-        Nest::List(_, _, _, _, _) => matches!(mark, Mark::Comma | Mark::CloseBrace),
+        Nest::Round(_, _) => matches!(mark, Mark::Close),
+        Nest::List(_, _, _) => matches!(mark, Mark::Comma | Mark::CloseBrace),
         Nest::IfTrue(_) => matches!(mark, Mark::Colon),
         Nest::IfFalse(_, _) => false,
     }
@@ -71,25 +71,7 @@ fn nests_take(nests: &[Nest], outer: &Outer, mark: Mark) -> bool
 fn links(mark: Mark) -> bool
     ensures { result ≡ links mark }
 {
-    matches!(
-        mark,
-        Mark::Question
-            | Mark::Plus
-            | Mark::Minus
-            | Mark::Ampersand
-            | Mark::Bar
-            | Mark::Caret
-            | Mark::TwoEquals
-            | Mark::BangEquals
-            | Mark::Less
-            | Mark::LessEquals
-            | Mark::Greater
-            | Mark::GreaterEquals
-            | Mark::TwoAmpersands
-            | Mark::TwoBars
-            | Mark::TwoLess
-            | Mark::TwoGreater
-    )
+    matches!(mark, Mark::Question) || infix_of(mark).is_some()
 }
 
 /// Whether one operator more may be, if there were no limit.
@@ -113,16 +95,6 @@ fn operand_takes(count: Count, outer: &Outer, mark: Mark) -> bool
     }
 }
 
-/// Whether a mark may stand before an operand.
-fn prefixes(mark: Mark) -> bool
-    ensures { result ≡ prefixes mark }
-{
-    matches!(
-        mark,
-        Mark::Bang | Mark::Tilde | Mark::Ampersand | Mark::Bar | Mark::Caret
-    )
-}
-
 /// Whether an operand may begin with a mark.
 fn opens(mark: Mark) -> bool
     ensures { result ≡ opens mark }
@@ -133,7 +105,7 @@ fn opens(mark: Mark) -> bool
 fn starts(count: Count, mark: Mark) -> bool
     ensures { result ≡ starts count mark }
 {
-    if prefixes(mark) {
+    if unary_of(mark).is_some() {
         may_link(count)
     } else {
         opens(mark)
@@ -198,7 +170,7 @@ fn takes_mark(place: &Place, outer: &Outer, mark: Mark) -> bool
     ensures { result ≡ taken (state_of place.now outer.now) (Sign mark) }
 {
     match place {
-        Place::InExpr(place) => expr_takes(&place.spot, place.chain.count, outer, mark),
+        Place::InExpr(spot, chain) => expr_takes(spot, chain.count, outer, mark),
         Place::InStmt(spot) => stmt_takes(spot, outer, mark),
         Place::InItem(spot) => item_takes(spot, outer, mark),
     }
@@ -210,13 +182,8 @@ pub(crate) fn takes_number(place: &Place, outer: &Outer, long: bool, value: u8) 
     ensures { result ≡ taken (state_of place.now outer.now) (Number long value) }
 {
     match place {
-        Place::InExpr(
-            ExprPlace {
-                spot: ExprSpot::Bracket(_, _) | ExprSpot::ColonRead(_, _, _),
-                ..
-            },
-        ) => true,
-        Place::InItem(ItemSpot::WantHigh(_)) => true,
+        Place::InExpr(ExprSpot::Bracket(_, _) | ExprSpot::ColonRead(_, _, _), _)
+        | Place::InItem(ItemSpot::WantHigh(_)) => true,
         Place::InItem(ItemSpot::WantZero(_, _)) => !long && value == 0,
         _ => false,
     }

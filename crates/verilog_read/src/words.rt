@@ -192,7 +192,7 @@ pub(crate) fn expected_at(place: &Place, outer: &Outer) -> Expected
     ensures { Expects result (state_of place.now outer.now) }
 {
     match place {
-        Place::InExpr(place) => expected_in_expr(&place.spot),
+        Place::InExpr(spot, _) => expected_in_expr(spot),
         Place::InStmt(spot) => expected_in_stmt(spot, outer),
         Place::InItem(spot) => expected_in_item(spot, outer),
     }

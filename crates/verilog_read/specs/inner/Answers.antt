@@ -7,15 +7,14 @@ use Rattle.verilog_tree.specs.Tokens.{Token, Identifier, Number}
 use Rattle.verilog_tree.specs.declared.tokens.Mark.TheVariants.{Open}
 use Rattle.arrayvec.specs.ArrayString.{ArrayString}
 use Rattle.verilog_read.specs.inner.Frames.{holder}
-use Rattle.verilog_text.specs.Places.{Head, Around, InAlways, Alone, begin_expr, State, AtExpr, AtStmt}
-use Rattle.verilog_read.specs.inner.Spots.{stmt_spot, state_of}
+use Rattle.verilog_text.specs.Places.{Head, Around, InAlways, Alone, begin_expr, State, AtExpr}
+use Rattle.verilog_read.specs.inner.Spots.{state_of}
 use Rattle.verilog_text.specs.Steps.{in_room}
 use Rattle.verilog_read.specs.declared.places.Holder.{Holder}
 use Rattle.verilog_read.specs.declared.places.Outer.{Outer}
 use Rattle.verilog_read.specs.declared.fault.ParseFault.TheVariants.{Unexpected, NoMemory}
 use Rattle.verilog_read.specs.declared.fault.ParseFault.{ParseFault}
 use Rattle.verilog_read.specs.declared.places.Place.{Place}
-use Rattle.verilog_read.specs.declared.places.StmtSpot.{StmtSpot}
 
 -- the holder that was the innermost, or there was none
 abbrev pub Released : Around → Option Holder → Around → Head → List ℕ → Type 0
@@ -27,11 +26,6 @@ abbrev pub Goes : Option State → Result Place ParseFault → Outer → Type 0
 Goes st (Ok p) w = st ≡ Some (state_of p w)
 Goes st (Err Unexpected) w = st ≡ None
 Goes st (Err NoMemory) w = ⊤
-
-abbrev pub StmtSteps : Option State → Result StmtSpot ParseFault → Around → Type 0
-StmtSteps st (Ok s) a = st ≡ Some (AtStmt (stmt_spot s a))
-StmtSteps st (Err Unexpected) a = st ≡ None
-StmtSteps st (Err NoMemory) a = ⊤
 
 -- an expression in parentheses begins, where there is room
 abbrev pub opens_expr : Limit → ℕ → Style → Alone → Token → Option State

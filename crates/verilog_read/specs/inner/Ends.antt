@@ -1,5 +1,5 @@
 -- Inner. Which marks may come behind a whole expression by precedence, and behind an operand.
-use Rattle.std.specs.Prelude.{Bool, true, false, Option, Some, None, if◌then◌else◌}
+use Rattle.std.specs.Prelude.{Bool, ◌||◌, true, false, Option, Some, None, if◌then◌else◌}
 use Rattle.verilog_tree.specs.declared.tokens.Mark.{Mark}
 use Rattle.verilog_tree.specs.declared.tokens.Mark.TheVariants.{Open, OpenBrace, Close, CloseBrace, Comma, Semicolon, Colon, Question}
 use Rattle.verilog_tree.specs.declared.tree.BinOp.{BinOp}
@@ -39,8 +39,7 @@ is_operator (Some b) = true
 
 -- an operator, or the ? of a choice
 abbrev pub links : Mark → Bool
-links Question = true
-links m = is_operator (infix_of m)
+links m = is_sign Question m || is_operator (infix_of m)
 
 -- whether one operator more may be, if there were no limit
 abbrev pub may : Count → Bool
@@ -54,17 +53,14 @@ abbrev pub is_prefix : Option UnOp → Bool
 is_prefix None = false
 is_prefix (Some u) = true
 
--- a mark that may stand before an operand, one with which an operand may begin, and either
-abbrev pub prefixes : Mark → Bool
-prefixes m = is_prefix (unary_of m)
-
+-- a mark with which an operand may begin, and one that may stand before it or begins it
 abbrev pub opens : Mark → Bool
 opens Open = true
 opens OpenBrace = true
 opens _ = false
 
 abbrev pub starts : Count → Mark → Bool
-starts n m = if prefixes m then may n else opens m
+starts n m = if is_prefix (unary_of m) then may n else opens m
 
 -- an operand may begin
 abbrev pub begins : ExprSpot → Bool

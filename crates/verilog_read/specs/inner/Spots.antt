@@ -60,6 +60,6 @@ item_spot I.Ended w = Ended (head_of w)
 
 -- the state of the machine
 abbrev pub state_of : Place → Outer → State
-state_of (InExpr p) w = AtExpr (standing p.spot p.chain (nests_of w.nests.items (alone_of w)))
+state_of (InExpr s c) w = AtExpr (standing s c (nests_of w.nests.items (alone_of w)))
 state_of (InStmt s) w = AtStmt (stmt_spot s (around_of w))
 state_of (InItem s) w = AtItem (item_spot s w)

@@ -1,5 +1,0 @@
-use Rattle.verilog_read.specs.inner.Frames.{alone_of}
-use Rattle.verilog_read.proofs.expressions.in_prim.Goals as goal
-
-pub returns : goal.returns
-returns c = c.entered.ensures _ (c.prim-next.ensures (alone_of c.args.outer.now))
