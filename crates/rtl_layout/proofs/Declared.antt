@@ -1,7 +1,7 @@
 -- One age more.
 use Rattle.std.proofs.Common.{◌≡◌, ℕ, suc, ◌+◌, ◌-◌, ◌<◌, ◌≤◌, Bool, List, [], ◌∷◌, ◌++◌, codes, true, false, refl, sym, ap, ◌∙◌, arith, append_assoc}
 use Rattle.verilog_tree.specs.Plain.{Statement, ModuleItem, RegItem}
-use Rattle.rtl_layout.specs.Layout.{aged, reads_at, over_at, stage_regs, stage_sets}
+use Rattle.rtl_layout.specs.Layout.{aged, reads_at, stage_regs, stage_sets}
 use Rattle.rtl_layout.specs.inner.Layout.{age_regs, age_sets}
 
 pub ages_turn : (many : Bool) (w i d : ℕ) (xs ys q : List ModuleItem) → i < d → ys ≡ xs ++ age_regs many w (i + 1) → xs ++ stage_regs many w i (d - i) ≡ q → ys ++ stage_regs many w (i + 1) (d - (i + 1)) ≡ q

@@ -1,5 +1,5 @@
 //! The statements of the four digits of the place.
-ghost use Rattle.std.specs.Prelude.{◌≡◌, ◌≤◌, IfOk, OnOk, map, ◌++◌};
+ghost use Rattle.std.specs.Prelude.{◌≡◌, IfOk, OnOk, map, ◌++◌};
 ghost use Rattle.verilog_tree.specs.Plain.{plain, plain_stmt};
 ghost use Rattle.rtl_layout.specs.Layout as L;
 ghost use Rattle.rtl_layout.specs.Plan.{limit, several_bits};
