@@ -115,6 +115,14 @@ pub fn end(text: &[u8]) -> Read<'_, ()>
     comment(blanks(text))
 }
 
+/// A value that was read, where the line ends behind it.
+pub fn ended<'a, T: Drop>(text: &'a [u8], value: T) -> Read<'a, T>
+    ensures { MatchResult result (λ r. (r.0 ≡ value) × (end_of text.now ≡ took tt r.1.now)) (λ left. end_of text.now ≡ stuck left.now) }
+{
+    let ((), text) = end(text)?;
+    Ok((value, text))
+}
+
 /// How many bytes from the front on a word of a class can have.
 fn fit_len(text: &[u8], class: Class) -> usize
     ensures value { result ≡ length_of (fits_of class) 0 text.now }
