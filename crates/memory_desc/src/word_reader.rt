@@ -114,14 +114,11 @@ fn listed(text: &[u8]) -> Read<'_, Content<'_>>
     loop {
         let (next, rest) = next_word(left)?;
         let Some(_) = next else {
-            let next = Some(first);
-            return Ok((
-                Content::Backgrounds(Words {
-                    next,
-                    left: further,
-                }),
-                rest,
-            ));
+            let words = Words {
+                next: Some(first),
+                left: further,
+            };
+            return Ok((Content::Backgrounds(words), rest));
         };
         left = rest;
     }
