@@ -4,9 +4,9 @@ ghost use Rattle.report.specs.Items.{item_of};
 ghost use Rattle.report.specs.Report.{class_text, class_number, item_class, is_in_class, is_covered_in, class_size, class_covered, class_line, class_lines, class_order};
 
 use crate::judged::JudgedItem;
-use crate::total::{is_item_covered, put_counts};
+use crate::total::is_item_covered;
 use bist_bits::NoMemory;
-use bist_text::put;
+use bist_text::{put_between, put_number};
 use dynamic_core::DynPrim;
 use fault_core::{Class, class_of};
 
@@ -159,11 +159,9 @@ fn put_class(
     requires { 0 < count }
     ensures { OnOk result (out.new.items ≡ out.old.items ++ class_line class count covered) }
 {
-    put(out, b"class ")?;
-    put(out, class_name(class))?;
-    put(out, b" ")?;
-    put_counts(out, count, covered)?;
-    put(out, b"\n")
+    put_between(out, b"class ", class_name(class), b" ")?;
+    put_number(out, b"", count as u64, b" covered ")?;
+    put_number(out, b"", covered as u64, b"\n")
 }
 
 /// Appends a line for each class that occurs.
