@@ -1,5 +1,6 @@
 pub mod Fitting
 pub mod Graph
+pub mod Kinds
 pub mod Numbering
 pub mod Parts
 pub mod Program

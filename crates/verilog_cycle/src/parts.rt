@@ -9,11 +9,11 @@ ghost use Rattle.verilog_cycle.specs.Seen.{plain_names};
 ghost use Rattle.verilog_cycle.specs.Design.{registers_of, inputs_of, AreNets};
 ghost use Rattle.verilog_cycle.specs.inner.Parts.{ArePartsOf};
 
-use crate::nets::{inputs, registers};
+use crate::nets::all_of;
 use crate::program::{Cells, Program};
 use bist_bits::NoMemory;
 use std::alloc::Global;
-use verilog_tree::{Declared, Module, Name};
+use verilog_tree::{Declared, Kind, Module, Name};
 
 /// The parts of a design.
 #[derive(Drop)]
@@ -40,8 +40,8 @@ impl Parts {
         requires nets { AreNets (plain_module «module».now) (plain_names nets.items) }
         ensures { IfOk result (ArePartsOf (plain_module «module».now)) }
     {
-        let registers = registers(alloc, declared)?;
-        let inputs = inputs(alloc, declared)?;
+        let registers = all_of(alloc, declared, Kind::Register)?;
+        let inputs = all_of(alloc, declared, Kind::Input)?;
         Parts::with(alloc, module, registers, inputs, nets)
     }
 

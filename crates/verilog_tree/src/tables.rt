@@ -118,19 +118,13 @@ fn add_all(all: &mut Declarations, more: &[Declared]) -> Result<(), NoMemory>
     Ok(())
 }
 
-fn declare_all(alloc: Global, all: &mut Declarations, module: &Module) -> Result<(), NoMemory>
-    ensures { OnOk result (all.new ≡ with_all all.old (declarations (plain_module «module».now).ports (plain_module «module».now).items)) }
-{
-    let declared = all_declared(alloc, module)?;
-    add_all(all, &declared)
-}
-
 /// What a module declares, by name.
 pub fn all_declarations(alloc: Global, module: &Module) -> Result<Declarations, NoMemory>
     ensures { IfOk result (λ all. (n : List ℕ) → lookup all n ≡ lookup (declarations (plain_module «module».now).ports (plain_module «module».now).items) n) }
 {
+    let declared = all_declared(alloc, module)?;
     let mut all = Declarations::new(alloc);
-    declare_all(alloc, &mut all, module)?;
+    add_all(&mut all, &declared)?;
     Ok(all)
 }
 
