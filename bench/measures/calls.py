@@ -5,7 +5,6 @@ import pathlib
 import sys
 
 from measures.parts import (
-    CYCLE_BENCH,
     EIGHT,
     LAUNCHER,
     PROGRAM,
@@ -13,23 +12,22 @@ from measures.parts import (
     SS,
     C,
     Figure,
+    Timed,
     asked,
     best,
     long_march,
     memory_text,
     of_call,
     timed,
-    want,
     write,
 )
+from vidlakost_tools.program import quick_program
 
 # 1,024 primitives, static and dynamic ones
 LARGE = "all\n" * 21 + "one\nCFst\n"
 DYNAMIC = "dyn2\n" * 10 + "dyn1\n" * 2 + "<0w1r1/0/0>\n" * 4
 # words and bits of the memories of the controllers written by hand, taken in turn
 SIZES = [(16, 1), (37, 5), (64, 8), (2, 3), (1000, 32), (300, 64), (4096, 2)]
-# what the program of crates/cycle_bench ends with where a text is refused
-REFUSED = 4
 
 
 def launcher(folder: pathlib.Path) -> list[Figure]:
@@ -140,17 +138,22 @@ def text_of(size: int) -> str:
         length += len(part)
 
 
+def read(text: pathlib.Path, command: str) -> Timed:
+    """A call that ends where the text does: the module is the first file that is read, and the others are not there."""
+    call = best(5, quick_program() or PROGRAM, command, text, text.with_name("no_march"), text.with_name("no_memory"))
+    if call.said != "verilog L2":
+        raise SystemExit(f"{command} says {call.said} of a text without its end")
+    return call
+
+
 def verilog(folder: pathlib.Path) -> list[Figure]:
     """How long the text of a module takes to be read, for 16 KiB to 1 MiB of it, with both readers."""
-    want(CYCLE_BENCH)
     made = []
     (word,) = write(folder, word="module")
-    start = best(5, CYCLE_BENCH, word, 0, 1).seconds
+    start = read(word, "benchfile").seconds
     for size in (1 << k for k in range(14, 21, 3)):
         (text,) = write(folder, text=text_of(size))
-        calls = [best(5, CYCLE_BENCH, text, 0, 1, *reader) for reader in ((), ("free",))]
-        if any(call.status != REFUSED for call in calls):
-            raise SystemExit(f"{CYCLE_BENCH} does not refuse a text without its end")
+        calls = [read(text, command) for command in ("benchfile", "check")]
         plain, free = (max(call.seconds - start, 1e-9) * 1e3 for call in calls)
         made.append(Figure(f"a module of {size >> 10} KiB is read", plain, "ms", "by precedence", free))
         made.append(Figure(f"a module of {size >> 10} KiB is read", calls[0].held, "MiB"))

@@ -13,7 +13,6 @@ import time
 ROOT = pathlib.Path(__file__).resolve().parent.parent.parent
 LAUNCHER = str(ROOT / "vidlakost")
 PROGRAM = os.environ.get("VIDLAKOST") or LAUNCHER
-CYCLE_BENCH = ROOT / "crates" / "cycle_bench" / "out" / "cycle_bench"
 GNU_TIME = "/usr/bin/time"
 
 C = "{any(w0);up(r0,w1);up(r1,w0);down(r0,w1);down(r1,w0);any(r0)}"

@@ -1,4 +1,4 @@
-"""Self-test modules beside Icarus and Verilator: the cycle simulator alone, and the closed loop with a memory."""
+"""Self-test modules beside Icarus and Verilator: a cycle of a run beside a plain memory, and the closed loop as a call."""
 from __future__ import annotations
 
 import pathlib
@@ -6,9 +6,9 @@ import re
 import shutil
 import sys
 
-from measures.parts import CYCLE_BENCH, PROGRAM, ROOT, C, Figure, Timed, asked, best, memory_text, timed, want, write
+from measures.parts import PROGRAM, ROOT, C, Figure, Timed, asked, best, memory_text, timed, write
+from vidlakost_tools.program import quick_program
 
-CYCLES = 2_000_000
 SCRAMBLED = "".join(f"scramble a{bit} = p{bit} ^ p{bit + 1}\n" for bit in range(13)) + "scramble a13 = p13 ^ 1\n"
 STORED = "latency 2\npolarity aaaaaaaaaaaaaaaa\npause 1000\n"
 # name, march, memory, words, cycles to answer
@@ -31,7 +31,7 @@ ICARUS = """module bench;
   wire [63:0] wdata;
   wire [%(top)d:0] addr;
   reg failed = 0;
-  integer cycle, place;
+  integer cycle, place, first = -1;
   %(name)s_bist dut(.clk(clk), .reset(reset), .rdata(answers[0]), .en(en), .we(we), .addr(addr), .wdata(wdata),
     .done(done), .fail(fail));
   initial begin
@@ -39,6 +39,7 @@ ICARUS = """module bench;
     for (place = 0; place <= %(latency)d; place = place + 1) answers[place] = 0;
     for (cycle = 0; cycle < %(cycles)d; cycle = cycle + 1) begin
       #1 failed = failed | fail;
+      if (done && first < 0) first = cycle;
       if (en & we) memory[addr] = wdata;
       answers[%(latency)d] = en & ~we ? memory[addr] : 64'd0;
       #1 clk = 1;
@@ -46,7 +47,7 @@ ICARUS = """module bench;
       reset = 0;
       clk = 0;
     end
-    $display("failed %%0d", failed);
+    $display("fail %%0d done %%0d", failed, first);
   end
 endmodule
 """
@@ -59,13 +60,14 @@ int main(int, char **words) {
   std::vector<uint64_t> memory(65536);
   uint64_t answers[%(latency)d + 1] = {0};
   bool failed = false;
-  long cycles = atol(words[1]);
+  long cycles = atol(words[1]), first = -1;
   dut.clk = 0;
   dut.reset = 1;
   for (long cycle = 0; cycle < cycles; cycle++) {
     dut.rdata = answers[0];
     dut.eval();
     failed |= dut.fail;
+    if (dut.done && first < 0) first = cycle;
     if (dut.en && dut.we) memory[dut.addr] = dut.wdata;
     answers[%(latency)d] = dut.en && !dut.we ? memory[dut.addr] : 0;
     dut.clk = 1;
@@ -75,7 +77,7 @@ int main(int, char **words) {
     dut.clk = 0;
   }
   dut.eval();
-  printf("failed %%d\\n", failed);
+  printf("fail %%d done %%ld\\n", failed, first);
 }
 """
 
@@ -86,8 +88,8 @@ def has_verilator() -> bool:
 
 
 def microseconds(none: Timed, whole: Timed, cycles: int) -> float:
-    """The time of a cycle: a run of no cycles is taken off. A module that fails is not measured."""
-    if not re.search(r"failed (?:0|false)|not done", whole.said):
+    """The time of a cycle: a run of no cycles is taken off. One that does not end as a self-test has to is not measured."""
+    if whole.said != f"fail 0 done {cycles - 1}":
         raise SystemExit(f"a module fails, or does not run: {whole.said}")
     return max(whole.seconds - none.seconds, 1e-9) / cycles * 1e6
 
@@ -99,42 +101,54 @@ def of_loop(call: Timed) -> float:
     return call.seconds
 
 
-def ours(name: str, latency: int, folder: pathlib.Path) -> float:
-    runs = [best(6, CYCLE_BENCH, folder / f"{name}.v", cycles, latency) for cycles in (0, CYCLES)]
-    return microseconds(runs[0], runs[1], CYCLES)
+def ours(name: str, folder: pathlib.Path) -> tuple[float, int]:
+    """The time of a cycle of `benchfile`, and the cycles of its run, which ends with the first `done`. Taken off is a call
+    that reads the module and makes it run, and ends where the march is not there."""
+    program, files = quick_program() or PROGRAM, [folder / "march", folder / "memory"]
+    none = best(6, program, "benchfile", folder / f"{name}.v", folder / "absent", folder / "memory")
+    if none.said != "absent 2":
+        raise SystemExit(f"without a march `benchfile` says {none.said}")
+    whole = best(6, program, "benchfile", folder / f"{name}.v", *files)
+    cycles = int(whole.said.split()[-1]) + 1 if re.fullmatch(r"fail 0 done \d+", whole.said) else 0
+    return microseconds(none, whole, cycles), cycles
 
 
-def icarus(name: str, words: int, latency: int, folder: pathlib.Path) -> float:
-    runs, few = [], CYCLES // 20
-    for cycles in (0, few):
-        values = {"name": name, "last": words - 1, "latency": latency, "cycles": cycles, "top": (words - 1).bit_length() - 1}
+def icarus(name: str, words: int, latency: int, cycles: int, folder: pathlib.Path) -> float:
+    runs = []
+    for count in (0, cycles):
+        values = {"name": name, "last": words - 1, "latency": latency, "cycles": count, "top": (words - 1).bit_length() - 1}
         (bench,) = write(folder, **{"bench.v": ICARUS % values})
         timed("iverilog", "-g2005", "-o", folder / "bench", bench, folder / f"{name}.v")
         runs.append(best(3, folder / "bench"))
-    return microseconds(runs[0], runs[1], few)
+    return microseconds(runs[0], runs[1], cycles)
 
 
-def verilator(name: str, latency: int, folder: pathlib.Path) -> tuple[float, float]:
+def verilator(name: str, latency: int, cycles: int, folder: pathlib.Path) -> tuple[float, float]:
     """The time of a cycle, and of building."""
     (main,) = write(folder, **{f"{name}.cpp": VERILATOR % {"name": name, "latency": latency}})
     build = ["verilator", "--cc", "--exe", "--build", "-O3", "-CFLAGS", "-O3", "-Wno-fatal", "--top-module", f"{name}_bist"]
     built = timed(*build, "--Mdir", folder / f"{name}_made", folder / f"{name}.v", main)
-    runs = [best(6, folder / f"{name}_made" / f"V{name}_bist", cycles) for cycles in (0, CYCLES)]
-    return microseconds(runs[0], runs[1], CYCLES), built.seconds
+    runs = [best(6, folder / f"{name}_made" / f"V{name}_bist", count) for count in (0, cycles)]
+    return microseconds(runs[0], runs[1], cycles), built.seconds
 
 
 def clock(folder: pathlib.Path) -> list[Figure]:
-    """The cycle simulator on two self-test modules, with a memory that answers what was written, from reset on."""
-    want(CYCLE_BENCH)
+    """A cycle of a whole self-test: `benchfile`, with its box and the words that the march expects, and plain memories beside.
+
+    The simulators run the same module for the same cycles, from reset to `done`, beside a memory that is an array. Ours has
+    in it besides what `benchfile` does in each cycle: the box, which looks for an address's word and knows of faults and
+    pauses, and the march, whose word each answer is compared with."""
     made = []
     for name, march, memory, words, latency in MODULES:
         files = write(folder, march=march, memory=memory, none="")
         asked("compile", *files, folder / f"{name}.v", folder / "report")
-        each = ours(name, latency, folder)
+        each, cycles = ours(name, folder)
+        made.append(Figure(f"a run of {TOLD[name]}", cycles, "cycles"))
         if shutil.which("iverilog"):
-            made.append(Figure(f"a cycle of {TOLD[name]}", each, "microseconds", "Icarus", icarus(name, words, latency, folder)))
+            beside = icarus(name, words, latency, cycles, folder)
+            made.append(Figure(f"a cycle of {TOLD[name]}", each, "microseconds", "Icarus", beside))
         if shutil.which("verilator"):
-            compiled, building = verilator(name, latency, folder)
+            compiled, building = verilator(name, latency, cycles, folder)
             made.append(Figure(f"a cycle of {TOLD[name]}", each, "microseconds", "Verilator", compiled))
             made.append(Figure(f"Verilator compiles {TOLD[name]}", building, "s"))
     return made
