@@ -4,7 +4,7 @@ ghost use Rattle.std.specs.Prelude.{◌≡◌, ◌≤◌, MatchResult, length, m
 ghost use Rattle.bist_text.specs.Grammar.{is_blank};
 ghost use Rattle.bist_text.specs.Keywords.{word_of as word_of_table};
 ghost use Rattle.bist_text.specs.keyed.Lines.{fault_of};
-ghost use Rattle.bist_text.specs.keyed.Parts.{spaced, gap_of, byte_of, comment_of, end_of, fits_of, key_of, word_of, number_of, hex_number_of, length_of};
+ghost use Rattle.bist_text.specs.keyed.Parts.{spaced, gap_of, byte_of, end_of, fits_of, key_of, word_of, number_of, hex_number_of, length_of};
 ghost use Rattle.bist_text.specs.keyed.Reading.{took, stuck};
 ghost use Rattle.bist_text.specs.keyed.Texts.{refusal_at, step};
 ghost use Rattle.bist_text.specs.Lines.{plain_line};
@@ -92,27 +92,21 @@ pub fn byte(text: &[u8], wanted: u8) -> Read<'_, ()>
     }
 }
 
-/// Nothing, or a comment.
-pub fn comment(text: &[u8]) -> Read<'_, ()>
-    ensures { MatchResult result (λ r. comment_of text.now ≡ took r.0 r.1.now) (λ left. comment_of text.now ≡ stuck left.now) }
+/// A value that was read, where the line ends behind it: with blanks and a comment, if any.
+pub fn ended<'a, T: Drop>(text: &'a [u8], value: T) -> Read<'a, T>
+    ensures { MatchResult result (λ r. (r.0 ≡ value) × (end_of text.now ≡ took tt r.1.now)) (λ left. end_of text.now ≡ stuck left.now) }
 {
+    let text = blanks(text);
     match text {
-        [] => Ok(((), text)),
+        [] => Ok((value, text)),
         [first, _rest @ ..] => {
             if *first == b'#' {
-                Ok(((), &[]))
+                Ok((value, &[]))
             } else {
                 Err(text)
             }
         }
     }
-}
-
-/// The end of a line: blanks and a comment.
-pub fn end(text: &[u8]) -> Read<'_, ()>
-    ensures { MatchResult result (λ r. end_of text.now ≡ took r.0 r.1.now) (λ left. end_of text.now ≡ stuck left.now) }
-{
-    comment(blanks(text))
 }
 
 /// How many bytes from the front on a word of a class can have.

@@ -3,7 +3,6 @@ ghost use Rattle.std.specs.Prelude.{◌≡◌, [], map};
 ghost use Rattle.bist_text.specs.Keywords.{word_of, letters_of, goes_on, spelled_as, seek, spell};
 
 /// A word of a table, and what it stands for.
-#[derive(Clone, Copy)]
 pub struct Keyword<T>(pub &'static str, pub T);
 
 /// The letters of a word that are read: the first so many of a word of a table, and not all of them.
@@ -14,7 +13,7 @@ pub struct Letters {
 }
 
 /// What a further letter makes of the letters that are read.
-#[derive(Clone, Copy)]
+#[derive(Drop)]
 pub enum Spelled<T> {
     /// They begin a word.
     More(Letters),

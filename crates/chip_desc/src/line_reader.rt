@@ -9,7 +9,7 @@ ghost use Rattle.chip_desc.specs.inner.Heard.{argument_of, heard, keys_of, plain
 use crate::content::{Content, Key, UnitLine, Version};
 use bist_text::Keyword;
 use bist_text::keyed_lines::{
-    Class, LineFault, Read, blanks, end, fault_at, gap, key, number, word,
+    Class, LineFault, Read, blanks, ended, fault_at, gap, key, number, word,
 };
 
 /// The first words.
@@ -30,30 +30,6 @@ fn keys_of(given: Option<Version>) -> &'static [Keyword<Key>]
     }
 }
 
-fn version<'a>(text: &'a [u8]) -> Read<'a, Content<'a>>
-    ensures { MatchResult result (λ r. argument_of Key.Chip text.now ≡ took (Some (plain_content r.0)) r.1.now) (λ left. argument_of Key.Chip text.now ≡ stuck left.now) }
-{
-    let (number, text) = number(text)?;
-    let ((), text) = end(text)?;
-    Ok((Content::Version(number), text))
-}
-
-fn name<'a>(text: &'a [u8]) -> Read<'a, Content<'a>>
-    ensures { MatchResult result (λ r. argument_of Key.Name text.now ≡ took (Some (plain_content r.0)) r.1.now) (λ left. argument_of Key.Name text.now ≡ stuck left.now) }
-{
-    let (name, text) = word(text, Class::Name)?;
-    let ((), text) = end(text)?;
-    Ok((Content::Name(name), text))
-}
-
-fn budget<'a>(text: &'a [u8]) -> Read<'a, Content<'a>>
-    ensures { MatchResult result (λ r. argument_of Key.Budget text.now ≡ took (Some (plain_content r.0)) r.1.now) (λ left. argument_of Key.Budget text.now ≡ stuck left.now) }
-{
-    let (most, text) = number(text)?;
-    let ((), text) = end(text)?;
-    Ok((Content::Budget(most), text))
-}
-
 fn unit<'a>(text: &'a [u8]) -> Read<'a, Content<'a>>
     ensures { MatchResult result (λ r. argument_of Key.Unit text.now ≡ took (Some (plain_content r.0)) r.1.now) (λ left. argument_of Key.Unit text.now ≡ stuck left.now) }
 {
@@ -62,13 +38,12 @@ fn unit<'a>(text: &'a [u8]) -> Read<'a, Content<'a>>
     let (march, text) = word(text, Class::File)?;
     let ((), text) = gap(text)?;
     let (memory, text) = word(text, Class::File)?;
-    let ((), text) = end(text)?;
     let line = UnitLine {
         weight,
         march,
         memory,
     };
-    Ok((Content::Unit(line), text))
+    ended(text, Content::Unit(line))
 }
 
 /// What stands behind a first word and blanks.
@@ -76,9 +51,18 @@ fn argument<'a>(text: &'a [u8], key: Key) -> Read<'a, Content<'a>>
     ensures { MatchResult result (λ r. argument_of key text.now ≡ took (Some (plain_content r.0)) r.1.now) (λ left. argument_of key text.now ≡ stuck left.now) }
 {
     match key {
-        Key::Chip => version(text),
-        Key::Name => name(text),
-        Key::Budget => budget(text),
+        Key::Chip => {
+            let (number, text) = number(text)?;
+            ended(text, Content::Version(number))
+        }
+        Key::Name => {
+            let (name, text) = word(text, Class::Name)?;
+            ended(text, Content::Name(name))
+        }
+        Key::Budget => {
+            let (most, text) = number(text)?;
+            ended(text, Content::Budget(most))
+        }
         Key::Unit => unit(text),
     }
 }

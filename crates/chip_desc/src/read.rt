@@ -11,7 +11,7 @@ use crate::chip::ChipDesc;
 use crate::content::{Content, Key};
 use crate::fault::{ChipFault, ChipField};
 use crate::lines::check_lines;
-use crate::search::{check_ranges, check_repeats, check_weights, field};
+use crate::search::{Sought, check_none, field};
 use crate::units::units_of;
 use bist_text::keyed_lines::TextFault;
 use memory_desc::name_from;
@@ -40,14 +40,14 @@ fn budget_of(content: &Content<'_>) -> u32
 fn described(bytes: &[u8]) -> Result<ChipDesc, ChipFault>
     ensures { result ≡ by_statements (refusal (statements (text_lines bytes.now))) (statements (text_lines bytes.now)) }
 {
-    check_repeats(bytes)?;
+    check_none(bytes, Sought::Repeat)?;
     let name_line = field(bytes, Key::Name, ChipField::Name)?;
     let budget_line = field(bytes, Key::Budget, ChipField::Budget)?;
     field(bytes, Key::Unit, ChipField::Unit)?;
-    check_ranges(bytes)?;
+    check_none(bytes, Sought::OutOfRange)?;
     let units = units_of(bytes)?;
     let budget = budget_of(&budget_line.content);
-    check_weights(bytes, budget)?;
+    check_none(bytes, Sought::Heavier(budget))?;
     let name = name_from(name_of(&name_line.content));
     Ok(ChipDesc::new(name, budget, units))
 }

@@ -3,9 +3,9 @@
 ghost use Rattle.std.specs.Prelude.{◌≡◌, ◌||◌, nat_lt, length, option_map, find};
 ghost use Rattle.bist_text.specs.Lines.{text_lines};
 ghost use Rattle.bist_text.specs.keyed.Texts.{checked};
-ghost use Rattle.chip_desc.specs.ChipTable.{first_of, is_heavier, is_out_of_range, is_outside, is_repeat, repeated, out_of_range};
+ghost use Rattle.chip_desc.specs.ChipTable.{at_line, first_of, is_heavier, is_out_of_range, is_outside, is_repeat};
 ghost use Rattle.chip_desc.specs.inner.Heard.{plain_content, plain_statement, statements};
-ghost use Rattle.chip_desc.specs.inner.Seeking.{is_sought, heavier_than, line_of, GivesField};
+ghost use Rattle.chip_desc.specs.inner.Seeking.{fault_of, is_sought, line_of, GivesField};
 
 use crate::content::{Content, Key, Statement, UnitLine, kind_of};
 use crate::fault::{ChipFault, ChipField};
@@ -15,7 +15,7 @@ use memory_desc::is_name_outside;
 
 /// What is sought in the lines of a text.
 #[derive(Clone, Copy)]
-enum Sought {
+pub enum Sought {
     /// A line of a kind of which there is one, behind another.
     Repeat,
     /// A name, a budget, a weight or the name of a file outside its range.
@@ -127,32 +127,23 @@ pub fn field<'a>(bytes: &'a [u8], wanted: Key, field: ChipField) -> Result<State
     first_of(bytes, wanted).ok_or(ChipFault::Missing { field })
 }
 
-/// Only `unit` lines may stand more than once.
-pub fn check_repeats(bytes: &[u8]) -> Result<(), ChipFault>
-    ensures { result ≡ checked (repeated (statements (text_lines bytes.now))) }
+/// The refusal of a line that is sought.
+fn fault_at(line: usize, sought: Sought) -> ChipFault
+    ensures { result ≡ fault_of sought line }
 {
-    match first_line(bytes, Sought::Repeat) {
-        Some(line) => Err(ChipFault::Repeated { line }),
-        None => Ok(()),
+    match sought {
+        Sought::Repeat => ChipFault::Repeated { line },
+        Sought::OutOfRange => ChipFault::OutOfRange { line },
+        Sought::Heavier(_) => ChipFault::TooHeavy { line },
     }
 }
 
-/// Names, budgets, weights and names of files stay within their ranges.
-pub fn check_ranges(bytes: &[u8]) -> Result<(), ChipFault>
-    ensures { result ≡ checked (out_of_range (statements (text_lines bytes.now))) }
+/// No line is sought, else the first is refused.
+pub fn check_none(bytes: &[u8], sought: Sought) -> Result<(), ChipFault>
+    ensures { result ≡ checked (at_line (fault_of sought) (find (is_sought sought (statements (text_lines bytes.now))) (statements (text_lines bytes.now)))) }
 {
-    match first_line(bytes, Sought::OutOfRange) {
-        Some(line) => Err(ChipFault::OutOfRange { line }),
-        None => Ok(()),
-    }
-}
-
-/// No unit weighs more than the budget.
-pub fn check_weights(bytes: &[u8], budget: u32) -> Result<(), ChipFault>
-    ensures { result ≡ checked (heavier_than budget (statements (text_lines bytes.now))) }
-{
-    match first_line(bytes, Sought::Heavier(budget)) {
-        Some(line) => Err(ChipFault::TooHeavy { line }),
+    match first_line(bytes, sought) {
+        Some(line) => Err(fault_at(line, sought)),
         None => Ok(()),
     }
 }

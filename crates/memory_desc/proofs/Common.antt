@@ -38,7 +38,7 @@ pub use Rattle.bist_text.specs.Lines.{TextLine, lines_from, lines_left, lines_of
 pub use Rattle.bist_text.specs.Numbers.{hex_digits, word_text}
 pub use Rattle.bist_text.specs.ReservedWords.{is_among, reserved_words}
 pub use Rattle.bist_text.specs.declared.keyed_lines.Class.TheVariants.{Number}
-pub use Rattle.bist_text.specs.keyed.Parts.{by_item, byte_of, end_of, ends_with, fits_of, remark_of, spaced, word_of}
+pub use Rattle.bist_text.specs.keyed.Parts.{by_byte, by_item, byte_of, end_of, ends_with, fits_of, remark_of, spaced, word_of}
 pub use Rattle.bist_text.specs.keyed.Reading.{Read, onward, stuck, took}
 pub use Rattle.bist_text.specs.keyed.Texts.{checked, walk}
 pub use Rattle.memory_desc.specs.Described.{AreOfMemory, IsScrambling, described}
@@ -55,11 +55,11 @@ pub use Rattle.memory_desc.specs.declared.content.Subject.{Subject}
 pub use Rattle.memory_desc.specs.declared.content.Version.TheVariants.{One, Two}
 pub use Rattle.memory_desc.specs.declared.fault.MemoryFault.{MemoryFault}
 pub use Rattle.memory_desc.specs.declared.fault.MemoryFault.TheVariants.{Missing, Repeated, ScrambleNeedsPowerOfTwo, Singular}
-pub use Rattle.memory_desc.specs.inner.Heard.{IsWhole, argument_of, heard, items_after, items_in, hex_word_of, is_caret, is_l, keys_in, keys_of, listed_of, log_of, marked_term_of, next_term_of, next_word_of, row_of, spaced_word_of, term_of, version_at, words_of}
+pub use Rattle.memory_desc.specs.inner.Heard.{IsWhole, argument_of, backgrounds_of, heard, items_after, items_in, hex_word_of, is_caret, is_l, keys_in, keys_of, listed_of, log_end_of, log_of, marked_term_of, next_term_of, next_word_of, row_from_of, row_of, spaced_word_of, term_of, version_at, words_of}
 pub use Rattle.memory_desc.specs.inner.Met.{MayBeMet, MayHave}
-pub use Rattle.memory_desc.specs.inner.Printed.{Adds}
+pub use Rattle.memory_desc.specs.inner.Printed.{Adds, further}
 pub use Rattle.memory_desc.specs.inner.Seeking.{is_sought}
-pub use Rattle.memory_desc.specs.inner.Seen.{plain_content, plain_line_content, plain_statement}
+pub use Rattle.memory_desc.specs.inner.Seen.{number_or, plain_content, plain_line_content, plain_statement}
 pub use Rattle.memory_desc.specs.inner.Standing.{GivesBackgrounds, GivesScrambling}
 pub use Rattle.scrambler.proofs.LinearLemmas.{bit_at-number, dot-zero_left, dot_below, number-below, number-bits, two_digits}
 pub use Rattle.scrambler.specs.Scrambling.{IsFull, IsInvertible, IsWithin, Scrambling, identity, is_identity, matrix_of, product}

@@ -2,7 +2,6 @@ pub mod Common
 pub mod TermLaws
 pub mod TermReads
 pub mod WordLaws
-pub mod WordReads
 pub mod LineLaws
 pub mod Left
 pub mod OneText
@@ -15,6 +14,7 @@ pub mod Scrambles
 pub mod Built
 pub mod Determined
 pub mod Parts
+pub mod Passed
 pub mod BackLines
 pub mod BackTexts
 pub mod BackRows

@@ -1,12 +1,11 @@
 -- The readers of terms, by the first byte and one after another.
-use Rattle.memory_desc.proofs.Common.{Content, List, Option, Read, Some, Term, [], ap, arith, byte_of, constant, drop, false, get_or, index_bit, length, marked_term_of, onward, row_of, scramble, spaced, stuck, sym, take, take_all, term_of, took, true, ℕ, ◌-◌, ◌∙◌, ◌∷◌, ◌≡◌, ◌≤◌}
-use Rattle.bist_text.specs.keyed.Parts.{number_of}
-use Rattle.memory_desc.specs.inner.Heard.{terms_of}
+use Rattle.memory_desc.proofs.Common.{Bool, List, None, Option, Read, [], ap, arith, at_bool, by_byte, constant, drop, end_of, false, get_or, if◌then◌else◌, index_bit, is_blank, length, onward, refl, remark_of, spaced, stuck, sym, take, take_all, term_of, took, true, ℕ, ◌-◌, ◌∙◌, ◌∷◌, ◌≡◌, ◌≤◌}
+use Rattle.bist_text.specs.keyed.Parts.{comment_of, number_of}
 
-abbrev Rest : List ℕ → List ℕ
+abbrev pub Rest : List ℕ → List ℕ
 Rest b = take (length b - 1) (drop 1 b)
 
-rest_is : (c : ℕ) (b : List ℕ) → Rest (c ∷ b) ≡ b
+pub rest_is : (c : ℕ) (b : List ℕ) → Rest (c ∷ b) ≡ b
 rest_is c b = take_all (length (c ∷ b) - 1) b (omega arith)
 
 -- what a term that begins with p is read as
@@ -29,23 +28,19 @@ pub one_took : (b : List ℕ) → 1 ≤ length b → get_or b 0 0 ≡ 49 → ter
 one_took [] l e = absurd (omega arith)
 one_took (c ∷ b) l e = ap (λ (c : ℕ). term_of (c ∷ b)) e ∙ ap (λ (x : List ℕ). took (constant true) x) (sym (rest_is c b))
 
-pub marked_took : (b x y left : List ℕ) (t : Term) → byte_of 94 b ≡ took tt x → y ≡ spaced x → term_of y ≡ took t left → marked_term_of b ≡ took (Some t) left
-marked_took b x y left t h e k =
-    ap (λ o. onward o (λ _ x. onward (term_of (spaced x)) (λ t x. took (Some t) x))) h ∙ ap (λ o. onward o (λ t x. took (Some t) x)) (ap term_of (sym e) ∙ k)
+-- ---- behind an item: blanks, and the end of the line
 
--- ---- the whole row
+spaced_twice : (b : List ℕ) → spaced (spaced b) ≡ spaced b
+spaced_twice [] = refl
+spaced_twice (c ∷ b) = at_bool (λ t. spaced (if t then spaced b else c ∷ b) ≡ (if t then spaced b else c ∷ b)) (is_blank c) (λ e. spaced_twice b) (λ e. ap (λ (t : Bool). if t then spaced b else c ∷ b) e)
 
-pub row_took : (b x y z u v w left : List ℕ) (i : ℕ) (t : Term) (ts : List Term) → byte_of 97 b ≡ took tt x → number_of x ≡ took i y → z ≡ spaced y → byte_of 61 z ≡ took tt u
-    → v ≡ spaced u → term_of v ≡ took t w → terms_of w ≡ took ts left → row_of b ≡ took (Some (scramble i (t ∷ ts))) left
-row_took b x y z u v w left i t ts h k e l f m n =
-    ap (λ o. onward o (λ _ x. onward (number_of x) behind_number)) h ∙ ap (λ o. onward o behind_number) k ∙ ap (λ o. onward o (λ _ x. onward (term_of (spaced x)) behind_term)) (ap (byte_of 61) (sym e) ∙ l)
-    ∙ ap (λ o. onward o behind_term) (ap term_of (sym f) ∙ m) ∙ ap (λ o. onward o (λ ts x. took (Some (scramble i (t ∷ ts))) x)) n
+pub over : {A : Type 0} (p : ℕ → Bool) (r : List ℕ → Read (Option A)) (a b : List ℕ) (o : Read (Unit {0})) → b ≡ spaced a → 1 ≤ length b → p (get_or b 0 0) ≡ false → end_of b ≡ o
+    → by_byte p r (remark_of None) (took None []) (spaced a) ≡ onward o (λ _ x. took None x)
+over {A} p r a b o e l f h = ap choice (sym e) ∙ go b l f ∙ ap (λ o. onward o (λ _ x. took None x)) (ap comment_of (sym (ap spaced e ∙ spaced_twice a ∙ sym e)) ∙ h)
   where
-    behind_term_of : ℕ → Term → List ℕ → Read (Option Content)
-    behind_term_of = λ (i : ℕ) (t : Term) (x : List ℕ). onward (terms_of x) (λ ts x. took (Some (scramble i (t ∷ ts))) x)
+    choice : List ℕ → Read (Option A)
+    choice = by_byte p r (remark_of None) (took None [])
 
-    behind_term : Term → List ℕ → Read (Option Content)
-    behind_term = behind_term_of i
-
-    behind_number : ℕ → List ℕ → Read (Option Content)
-    behind_number = λ (i : ℕ) (x : List ℕ). onward (byte_of 61 (spaced x)) (λ _ x. onward (term_of (spaced x)) (behind_term_of i))
+    go : (b : List ℕ) → 1 ≤ length b → p (get_or b 0 0) ≡ false → choice b ≡ remark_of None b
+    go [] l f = absurd (omega arith)
+    go (c ∷ b) l f = ap (λ (t : Bool). if t then r (c ∷ b) else remark_of None (c ∷ b)) f

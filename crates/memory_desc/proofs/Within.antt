@@ -1,5 +1,5 @@
 -- What is said of each subject, where no line is outside its range.
-use Rattle.memory_desc.proofs.Common.{[], cond, list_any, option_map, ◌∷◌, Bool, Content, IsName, IsSome, List, None, Option, Some, Statement, Subject, TextLine, about, ap, arith, bits, bits_said, content_of, false, find, found_fails, found_passes, is_about, is_among, is_formed, is_same, is_some, latency, latency_in, latency_said, leb-false, length, ltb-false, name, name_in, name_said, nat_lt, number_in, or_parts, pause, pause_in, pause_said, polarity, polarity_in, polarity_said, pow_pos, refl, reserved_words, said_found, subject, sym, true, words, words_said, ℕ, ◌<◌, ◌^◌, ◌||◌, ◌∙◌, ◌≡◌, ◌≤◌}
+use Rattle.memory_desc.proofs.Common.{Bool, Content, IsName, IsSome, List, None, Option, Some, Statement, Subject, TextLine, [], about, ap, arith, bits, bits_said, cond, content_of, false, find, found_fails, found_passes, is_about, is_among, is_formed, is_same, is_some, latency, latency_in, latency_said, leb-false, length, list_any, ltb-false, name, name_in, name_said, nat_lt, number_in, number_or, option_map, or_parts, pause, pause_in, pause_said, polarity, polarity_in, polarity_said, pow_pos, refl, reserved_words, said_found, subject, sym, true, words, words_said, ℕ, ◌<◌, ◌^◌, ◌||◌, ◌∙◌, ◌∷◌, ◌≡◌, ◌≤◌}
 use Rattle.memory_desc.specs.Subjects.{said}
 use Rattle.memory_desc.specs.Described.{is_out_of_range, is_too_wide}
 use Rattle.memory_desc.specs.inner.Heard.{said as said_by, statements}
@@ -18,6 +18,50 @@ passes q p ss n c e = go (about q ss) refl e
     go (Some s) k e =
         let same : s.content ≡ c = cc in
         (ap (λ c. is_same q (subject c)) (sym same) ∙ found_passes (is_about q) ss s k, ap p (sym same) ∙ found_fails (λ s. p s.content) (is_about q) ss s n k)
+
+-- ---- the number that is said of something, whatever kind of number may be said
+
+abbrev IsAbout : Subject → Option Content → Type 0
+IsAbout q o = (c : Content) → o ≡ Some c → is_same q (subject c) ≡ true
+
+is_about_it : (q : Subject) (ss : List Statement) → IsAbout q (said q ss)
+is_about_it q ss c e = go (about q ss) refl e
+  where
+    go : (o : Option Statement) → about q ss ≡ o → content_of o ≡ Some c → is_same q (subject c) ≡ true
+    go None k e = (let z : ⊥ = cc in absurd z)
+    go (Some s) k e = (let same : s.content ≡ c = cc in ap (λ c. is_same q (subject c)) (sym same) ∙ found_passes (is_about q) ss s k)
+
+pub words_are : (ss : List Statement) → number_or 0 (said Words ss) ≡ words_said ss
+words_are ss = go (said Words ss) (is_about_it Words ss)
+  where
+    go : (o : Option Content) → IsAbout Words o → number_or 0 o ≡ number_in o
+    go None f = refl
+    go (Some (words n)) f = refl
+    go (Some c) f = (let e = f c refl in let z : ⊥ = cc in absurd z)
+
+pub bits_are : (ss : List Statement) → number_or 0 (said Bits ss) ≡ bits_said ss
+bits_are ss = go (said Bits ss) (is_about_it Bits ss)
+  where
+    go : (o : Option Content) → IsAbout Bits o → number_or 0 o ≡ number_in o
+    go None f = refl
+    go (Some (bits n)) f = refl
+    go (Some c) f = (let e = f c refl in let z : ⊥ = cc in absurd z)
+
+pub latency_is : (ss : List Statement) → number_or 1 (said Latency ss) ≡ latency_said ss
+latency_is ss = go (said Latency ss) (is_about_it Latency ss)
+  where
+    go : (o : Option Content) → IsAbout Latency o → number_or 1 o ≡ latency_in o
+    go None f = refl
+    go (Some (latency n)) f = refl
+    go (Some c) f = (let e = f c refl in let z : ⊥ = cc in absurd z)
+
+pub pause_is : (ss : List Statement) → number_or 1 (said Pause ss) ≡ pause_said ss
+pause_is ss = go (said Pause ss) (is_about_it Pause ss)
+  where
+    go : (o : Option Content) → IsAbout Pause o → number_or 1 o ≡ pause_in o
+    go None f = refl
+    go (Some (pause n)) f = refl
+    go (Some c) f = (let e = f c refl in let z : ⊥ = cc in absurd z)
 
 inside : (low high n : ℕ) → (nat_lt n low || nat_lt high n) ≡ false → (low ≤ n) × (n ≤ high)
 inside low high n h = let p = or_parts (nat_lt n low) (nat_lt high n) h in (ltb-false n low p.0, ltb-false high n p.1)

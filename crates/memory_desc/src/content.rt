@@ -50,16 +50,22 @@ pub enum Term {
     Constant(bool),
 }
 
+/// What a number in a line is.
+#[derive(Clone, Copy)]
+pub enum Quantity {
+    Version,
+    Words,
+    Bits,
+    Latency,
+    Pause,
+}
+
 /// What a content line says.
 #[derive(Drop)]
 pub enum Content<'a> {
-    Version(u32),
+    Number(Quantity, u32),
     Name(&'a [u8]),
-    Words(u32),
-    Bits(u32),
-    Latency(u32),
     Polarity(u64),
-    Pause(u32),
     /// The bit of the address, and the terms of its row.
     Scramble(u32, Terms<'a>),
     /// The logarithmic set of backgrounds.
@@ -79,13 +85,13 @@ pub fn subject_of(content: &Content<'_>) -> Subject
     ensures { result ≡ subject (plain_content content.now) }
 {
     match content {
-        Content::Version(_) => Subject::Version,
+        Content::Number(Quantity::Version, _) => Subject::Version,
+        Content::Number(Quantity::Words, _) => Subject::Words,
+        Content::Number(Quantity::Bits, _) => Subject::Bits,
+        Content::Number(Quantity::Latency, _) => Subject::Latency,
+        Content::Number(Quantity::Pause, _) => Subject::Pause,
         Content::Name(_) => Subject::Name,
-        Content::Words(_) => Subject::Words,
-        Content::Bits(_) => Subject::Bits,
-        Content::Latency(_) => Subject::Latency,
         Content::Polarity(_) => Subject::Polarity,
-        Content::Pause(_) => Subject::Pause,
         Content::Scramble(bit, _) => Subject::Row(*bit),
         Content::Log | Content::Backgrounds(_) => Subject::Backgrounds,
     }

@@ -1,20 +1,18 @@
 //! The reader of one line.
 
-ghost use Rattle.std.specs.Prelude.{◌≡◌, ℕ, Option, Some, MatchResult, map};
+ghost use Rattle.std.specs.Prelude.{◌≡◌, Some, MatchResult, map};
 ghost use Rattle.bist_text.specs.Keywords.{word_of};
 ghost use Rattle.bist_text.specs.keyed.Lines.{answer, keyed_of};
 ghost use Rattle.bist_text.specs.keyed.Reading.{took, stuck};
-ghost use Rattle.memory_desc.specs.LineText.{Content as LineContent};
-ghost use Rattle.memory_desc.specs.declared.content.Key.TheVariants.{Name, Polarity};
 ghost use Rattle.memory_desc.specs.inner.Heard.{argument_of, heard, keys_of, numbered_of, said};
-ghost use Rattle.memory_desc.specs.inner.Seen.{plain_content, plain_line_content, plain_said};
+ghost use Rattle.memory_desc.specs.inner.Seen.{number_content, plain_content, plain_line_content, plain_said};
 
-use crate::content::{Content, Key, Version};
+use crate::content::{Content, Key, Quantity, Version};
 use crate::row_reader::row;
 use crate::word_reader::backgrounds;
 use bist_text::Keyword;
 use bist_text::keyed_lines::{
-    Class, LineFault, Read, blanks, end, fault_at, gap, hex_number, key, number, word,
+    Class, LineFault, Read, blanks, ended, fault_at, gap, hex_number, key, number, word,
 };
 
 /// The first words of lines: those of a line of any version, and those that came with version 2.
@@ -42,28 +40,11 @@ fn keys_of(given: Option<Version>) -> &'static [Keyword<Key>]
 }
 
 /// A number, to the end of the line.
-fn numbered(text: &[u8]) -> Read<'_, u32>
-    ensures { (f : ℕ → LineContent) → MatchResult result (λ r. numbered_of f text.now ≡ took (Some (f r.0)) r.1.now) (λ left. numbered_of f text.now ≡ stuck left.now) }
+fn numbered<'a>(text: &'a [u8], quantity: Quantity) -> Read<'a, Content<'a>>
+    ensures { MatchResult result (λ r. numbered_of (number_content quantity) text.now ≡ took (Some (plain_content r.0)) r.1.now) (λ left. numbered_of (number_content quantity) text.now ≡ stuck left.now) }
 {
     let (number, text) = number(text)?;
-    let ((), text) = end(text)?;
-    Ok((number, text))
-}
-
-fn name<'a>(text: &'a [u8]) -> Read<'a, Content<'a>>
-    ensures { MatchResult result (λ r. argument_of Name text.now ≡ took (Some (plain_content r.0)) r.1.now) (λ left. argument_of Name text.now ≡ stuck left.now) }
-{
-    let (name, text) = word(text, Class::Name)?;
-    let ((), text) = end(text)?;
-    Ok((Content::Name(name), text))
-}
-
-fn polarity<'a>(text: &'a [u8]) -> Read<'a, Content<'a>>
-    ensures { MatchResult result (λ r. argument_of Polarity text.now ≡ took (Some (plain_content r.0)) r.1.now) (λ left. argument_of Polarity text.now ≡ stuck left.now) }
-{
-    let (word, text) = hex_number(text)?;
-    let ((), text) = end(text)?;
-    Ok((Content::Polarity(word), text))
+    ended(text, Content::Number(quantity, number))
 }
 
 /// What stands behind a first word and blanks.
@@ -71,28 +52,19 @@ fn argument<'a>(text: &'a [u8], key: Key) -> Read<'a, Content<'a>>
     ensures { MatchResult result (λ r. argument_of key text.now ≡ took (Some (plain_content r.0)) r.1.now) (λ left. argument_of key text.now ≡ stuck left.now) }
 {
     match key {
-        Key::Memory => {
-            let (number, text) = numbered(text)?;
-            Ok((Content::Version(number), text))
+        Key::Memory => numbered(text, Quantity::Version),
+        Key::Name => {
+            let (name, text) = word(text, Class::Name)?;
+            ended(text, Content::Name(name))
         }
-        Key::Name => name(text),
-        Key::Words => {
-            let (number, text) = numbered(text)?;
-            Ok((Content::Words(number), text))
+        Key::Words => numbered(text, Quantity::Words),
+        Key::Bits => numbered(text, Quantity::Bits),
+        Key::Latency => numbered(text, Quantity::Latency),
+        Key::Polarity => {
+            let (word, text) = hex_number(text)?;
+            ended(text, Content::Polarity(word))
         }
-        Key::Bits => {
-            let (number, text) = numbered(text)?;
-            Ok((Content::Bits(number), text))
-        }
-        Key::Latency => {
-            let (number, text) = numbered(text)?;
-            Ok((Content::Latency(number), text))
-        }
-        Key::Polarity => polarity(text),
-        Key::Pause => {
-            let (number, text) = numbered(text)?;
-            Ok((Content::Pause(number), text))
-        }
+        Key::Pause => numbered(text, Quantity::Pause),
         Key::Scramble => row(text),
         Key::Backgrounds => backgrounds(text),
     }

@@ -3,32 +3,22 @@
 ghost use Rattle.std.specs.Prelude.{◌≡◌, None, Some};
 ghost use Rattle.bist_text.specs.Lines.{text_lines};
 ghost use Rattle.bist_text.specs.keyed.Texts.{checked, walk};
-ghost use Rattle.memory_desc.specs.Statements.{version_in, version_of};
+ghost use Rattle.memory_desc.specs.Statements.{version_in};
 ghost use Rattle.memory_desc.specs.inner.Heard.{version_at};
 ghost use Rattle.memory_desc.specs.inner.Seen.{plain_content};
 
-use crate::content::{Content, Version};
+use crate::content::{Content, Quantity, Version};
 use crate::line_reader::read_line;
 use bist_text::Lines;
 use bist_text::keyed_lines::{LineFault, TextFault, known_behind};
-
-/// The version of a number.
-fn version_from(number: u32) -> Option<Version>
-    ensures { result ≡ version_of number }
-{
-    match number {
-        1 => Some(Version::One),
-        2 => Some(Version::Two),
-        _ => None,
-    }
-}
 
 /// The version that a line's content gives.
 fn version_in(content: &Content<'_>) -> Option<Version>
     ensures { result ≡ version_in (plain_content content.now) }
 {
     match content {
-        Content::Version(number) => version_from(*number),
+        Content::Number(Quantity::Version, 1) => Some(Version::One),
+        Content::Number(Quantity::Version, 2) => Some(Version::Two),
         _ => None,
     }
 }

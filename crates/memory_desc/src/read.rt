@@ -16,10 +16,8 @@ use crate::content::Subject;
 use crate::fault::{Field, MemoryFault};
 use crate::lines::check_lines;
 use crate::memory::{Memory, Timing};
-use crate::search::{
-    check_ranges, check_repeats, check_there, check_widths, content_about, is_scrambled,
-};
-use crate::values::{latency_in, name_in, number_in, pause_in, polarity_in};
+use crate::search::{Sought, check_none, check_repeats, check_there, is_scrambled};
+use crate::values::{name_in, number_in, polarity_in};
 use arrayvec::ArrayString;
 use bist_bits::width_of;
 use bist_text::keyed_lines::TextFault;
@@ -55,7 +53,7 @@ fn check_fields(bytes: &[u8]) -> Result<(), MemoryFault>
     check_there(bytes, Subject::Name, Field::Name)?;
     check_there(bytes, Subject::Words, Field::Words)?;
     check_there(bytes, Subject::Bits, Field::Bits)?;
-    check_ranges(bytes)
+    check_none(bytes, Sought::OutOfRange)
 }
 
 /// The memory of so many words of so many bits, with what the text says besides.
@@ -68,15 +66,15 @@ fn memory_of(bytes: &[u8], words: u32, bits: u8) -> Result<Memory, MemoryFault>
     let width = width_of(u64::from(words - 1));
     let scrambled = is_scrambled(bytes);
     check_power_of_two(scrambled, words)?;
-    check_widths(bytes, width, bits)?;
+    check_none(bytes, Sought::TooWide { width, bits })?;
     let scramble = scramble_from(bytes, scrambled, width)?;
     let backgrounds = backgrounds_from(bytes, bits)?;
-    let name = name_from(name_in(content_about(bytes, Subject::Name)));
+    let name = name_from(name_in(bytes));
     let timing = Timing {
-        latency: latency_in(content_about(bytes, Subject::Latency)) as u8,
-        pause: pause_in(content_about(bytes, Subject::Pause)),
+        latency: number_in(bytes, Subject::Latency, 1) as u8,
+        pause: number_in(bytes, Subject::Pause, 1),
     };
-    let polarity = polarity_in(content_about(bytes, Subject::Polarity));
+    let polarity = polarity_in(bytes);
     Ok(Memory::new(name, words, bits, timing, polarity, scramble, backgrounds))
 }
 
@@ -85,8 +83,8 @@ fn described(bytes: &[u8]) -> Result<Memory, MemoryFault>
     ensures { Describes (statements (text_lines bytes.now)) result }
 {
     check_fields(bytes)?;
-    let words = number_in(content_about(bytes, Subject::Words));
-    let bits = number_in(content_about(bytes, Subject::Bits));
+    let words = number_in(bytes, Subject::Words, 0);
+    let bits = number_in(bytes, Subject::Bits, 0);
     memory_of(bytes, words, bits as u8)
 }
 

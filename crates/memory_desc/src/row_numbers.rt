@@ -1,9 +1,9 @@
 //! The numbers of the rows that a search has met.
 
-ghost use Rattle.std.specs.Prelude.{◌≡◌, ◌≤◌, ◌↔◌, ℕ, IsTrue, Contains, length, take};
+ghost use Rattle.std.specs.Prelude.{◌≡◌, ◌≤◌, ◌↔◌, IsTrue, Contains, length, take};
 ghost use Rattle.std.specs.List.Sorted.{IsNonDecreasing, IsPermutation};
 ghost use Rattle.std.proofs.Props.{props};
-ghost use Rattle.memory_desc.specs.inner.Met.{MayHave, MayBeMet};
+ghost use Rattle.memory_desc.specs.inner.Met.{MayBeMet};
 
 use crate::content::Subject;
 use arrayvec::ArrayVec;
@@ -44,29 +44,20 @@ impl RowNumbers {
         self.sorted = self.numbers.len();
     }
 
-    /// Keeps a number, and answers whether it is a new one. Where there is no room none is said to be new.
-    fn insert(&mut self, number: u32) -> bool
-        ensures new { IsTrue result → MayHave self.old.numbers.items number → ⊥ }
-        ensures kept { MayHave self.new.numbers.items number }
-        ensures stay { (n : ℕ) → MayHave self.old.numbers.items n → MayHave self.new.numbers.items n }
+    /// Whether a subject is surely a new one; the number of a row is kept. Where there is no room none is said to be new.
+    pub fn is_new(&mut self, subject: Subject) -> bool
+        ensures new { IsTrue result → MayBeMet self.old.numbers.items subject → ⊥ }
+        ensures kept { MayBeMet self.new.numbers.items subject }
+        ensures stay { (q : Subject) → MayBeMet self.old.numbers.items q → MayBeMet self.new.numbers.items q }
     {
+        let Subject::Row(number) = subject else {
+            return false;
+        };
         if self.numbers.is_full() || self.contains(number) {
             return false;
         }
         self.numbers.push(number);
         self.settle();
         true
-    }
-
-    /// Whether a subject is surely a new one; the number of a row is kept.
-    pub fn is_new(&mut self, subject: Subject) -> bool
-        ensures new { IsTrue result → MayBeMet self.old.numbers.items subject → ⊥ }
-        ensures kept { MayBeMet self.new.numbers.items subject }
-        ensures stay { (q : Subject) → MayBeMet self.old.numbers.items q → MayBeMet self.new.numbers.items q }
-    {
-        match subject {
-            Subject::Row(number) => self.insert(number),
-            _ => false,
-        }
     }
 }

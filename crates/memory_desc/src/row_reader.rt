@@ -1,13 +1,12 @@
 //! The reader of a row: what stands behind the first word of a `scramble` line.
 
-ghost use Rattle.std.specs.Prelude.{◌≡◌, ◌∷◌, [], List, Some, MatchResult};
+ghost use Rattle.std.specs.Prelude.{◌≡◌, [], Some, MatchResult};
 ghost use Rattle.bist_text.specs.keyed.Reading.{took, stuck};
-ghost use Rattle.memory_desc.specs.LineText.{Term as TermOf};
-ghost use Rattle.memory_desc.specs.inner.Heard.{row_of, term_of, marked_term_of, next_term_of, terms_of};
+ghost use Rattle.memory_desc.specs.inner.Heard.{next_term_of, row_from_of, row_of, term_of};
 ghost use Rattle.memory_desc.specs.inner.Seen.{plain_content};
 
 use crate::content::{Content, Term};
-use bist_text::keyed_lines::{Read, blanks, byte, comment, number};
+use bist_text::keyed_lines::{Read, blanks, byte, ended, number};
 use std::marker::Model;
 
 /// A term.
@@ -32,15 +31,6 @@ fn term(text: &[u8]) -> Read<'_, Term>
     }
 }
 
-/// ^ and a term.
-fn marked_term(text: &[u8]) -> Read<'_, Option<Term>>
-    ensures { MatchResult result (λ r. marked_term_of text.now ≡ took r.0 r.1.now) (λ left. marked_term_of text.now ≡ stuck left.now) }
-{
-    let ((), text) = byte(text, b'^')?;
-    let (term, text) = term(blanks(text))?;
-    Ok((Some(term), text))
-}
-
 /// The next term, behind ^; None at the end of the line.
 fn next_term(text: &[u8]) -> Read<'_, Option<Term>>
     ensures { MatchResult result (λ r. next_term_of text.now ≡ took r.0 r.1.now) (λ left. next_term_of text.now ≡ stuck left.now) }
@@ -48,12 +38,12 @@ fn next_term(text: &[u8]) -> Read<'_, Option<Term>>
     let text = blanks(text);
     match text {
         [] => Ok((None, text)),
-        [first, _rest @ ..] => {
-            if *first == b'^' {
-                return marked_term(text);
+        [first, rest @ ..] => {
+            if *first != b'^' {
+                return ended(text, None);
             }
-            let ((), text) = comment(text)?;
-            Ok((None, text))
+            let (term, text) = term(blanks(rest))?;
+            Ok((Some(term), text))
         }
     }
 }
@@ -116,16 +106,16 @@ impl<'a> Iterator for Terms<'a> {
     }
 }
 
-/// This term and those that follow, to the end of the line.
-fn terms_from<'a>(first: Term, text: &'a [u8]) -> Read<'a, Terms<'a>>
-    ensures { MatchResult result (λ r. (ts : List TermOf) × (terms_of text.now ≡ took ts r.1.now) × (r.0 ≡ first ∷ ts)) (λ left. terms_of text.now ≡ stuck left.now) }
+/// The row of a bit, whose first term was read.
+fn row_from<'a>(bit: u32, first: Term, text: &'a [u8]) -> Read<'a, Content<'a>>
+    ensures { MatchResult result (λ r. row_from_of bit first text.now ≡ took (Some (plain_content r.0)) r.1.now) (λ left. row_from_of bit first text.now ≡ stuck left.now) }
 {
     let mut left = text;
     loop {
         let (next, rest) = next_term(left)?;
         let Some(_) = next else {
             let next = Some(first);
-            return Ok((Terms { next, left: text }, rest));
+            return Ok((Content::Scramble(bit, Terms { next, left: text }), rest));
         };
         left = rest;
     }
@@ -139,6 +129,5 @@ pub fn row(text: &[u8]) -> Read<'_, Content<'_>>
     let (bit, text) = number(text)?;
     let ((), text) = byte(blanks(text), b'=')?;
     let (first, text) = term(blanks(text))?;
-    let (terms, text) = terms_from(first, text)?;
-    Ok((Content::Scramble(bit, terms), text))
+    row_from(bit, first, text)
 }

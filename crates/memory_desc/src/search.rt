@@ -7,13 +7,13 @@ ghost use Rattle.bist_text.specs.Lines.{text_lines};
 ghost use Rattle.bist_text.specs.keyed.Texts.{checked};
 ghost use Rattle.memory_desc.specs.declared.fault.MemoryFault.TheVariants.{OutOfRange};
 ghost use Rattle.memory_desc.specs.Subjects.{about, said};
-ghost use Rattle.memory_desc.specs.Table.{at_line, is_other, is_out_of_range, is_scrambled, is_term_too_wide, is_too_wide, missing, repeated, out_of_range, too_wide};
+ghost use Rattle.memory_desc.specs.Table.{at_line, is_other, is_out_of_range, is_scrambled, is_term_too_wide, is_too_wide, missing, repeated};
 ghost use Rattle.memory_desc.specs.inner.Heard.{statements};
 ghost use Rattle.memory_desc.specs.inner.Met.{MayBeMet};
 ghost use Rattle.memory_desc.specs.inner.Seeking.{is_outside, is_sought, IsPosed};
 ghost use Rattle.memory_desc.specs.inner.Seen.{plain_content, plain_statement};
 
-use crate::content::{Content, Statement, Subject, Term, subject_of};
+use crate::content::{Content, Quantity, Statement, Subject, Term, subject_of};
 use crate::fault::{Field, MemoryFault};
 use crate::line_reader::said;
 use crate::row_numbers::RowNumbers;
@@ -24,7 +24,7 @@ use bist_text::{Lines, is_reserved};
 
 /// What is sought in the lines of a text.
 #[derive(Clone, Copy)]
-enum Sought {
+pub enum Sought {
     /// A line about something.
     About(Subject),
     /// A name, a number of words or of bits, a latency or a pause outside its range.
@@ -136,10 +136,10 @@ fn is_out_of_range(content: &Content<'_>) -> bool
 {
     match content {
         Content::Name(name) => is_name_outside(name),
-        Content::Words(count) => is_outside(*count, 2, 65536),
-        Content::Bits(count) => is_outside(*count, 1, 64),
-        Content::Latency(cycles) => is_outside(*cycles, 1, 4),
-        Content::Pause(cycles) => is_outside(*cycles, 1, 65535),
+        Content::Number(Quantity::Words, count) => is_outside(*count, 2, 65536),
+        Content::Number(Quantity::Bits, count) => is_outside(*count, 1, 64),
+        Content::Number(Quantity::Latency, cycles) => is_outside(*cycles, 1, 4),
+        Content::Number(Quantity::Pause, cycles) => is_outside(*cycles, 1, 65535),
         _ => false,
     }
 }
@@ -204,7 +204,7 @@ fn is_too_wide(content: &Content<'_>, width: u8, bits: u8) -> bool
 }
 
 /// No content line is sought, else the first is out of its range.
-fn check(bytes: &[u8], sought: Sought) -> Result<(), MemoryFault>
+pub fn check_none(bytes: &[u8], sought: Sought) -> Result<(), MemoryFault>
     requires { IsPosed sought }
     ensures { result ≡ checked (at_line OutOfRange (find (λ s. is_sought sought s.content) (statements (text_lines bytes.now)))) }
 {
@@ -214,21 +214,6 @@ fn check(bytes: &[u8], sought: Sought) -> Result<(), MemoryFault>
         }),
         None => Ok(()),
     }
-}
-
-/// Names, numbers of words and of bits, latencies and pauses stay within their ranges.
-pub fn check_ranges(bytes: &[u8]) -> Result<(), MemoryFault>
-    ensures { result ≡ checked (out_of_range (statements (text_lines bytes.now))) }
-{
-    check(bytes, Sought::OutOfRange)
-}
-
-/// Rows stay within the address, and backgrounds and polarities within the word.
-pub fn check_widths(bytes: &[u8], width: u8, bits: u8) -> Result<(), MemoryFault>
-    requires { (1 ≤ bits) × (bits ≤ 64) }
-    ensures { result ≡ checked (too_wide (statements (text_lines bytes.now)) width bits) }
-{
-    check(bytes, Sought::TooWide { width, bits })
 }
 
 /// Whether there is a row.

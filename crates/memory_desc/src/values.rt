@@ -1,59 +1,43 @@
-//! The values that contents of lines give.
+//! The values that a text gives, whose lines are all lines of a description.
 
-ghost use Rattle.std.specs.Prelude.{◌≡◌, Some, option_map};
-ghost use Rattle.memory_desc.specs.Values.{name_in, number_in, latency_in, polarity_in, pause_in, terms_in};
-ghost use Rattle.memory_desc.specs.inner.Seen.{plain_content};
+ghost use Rattle.std.specs.Prelude.{◌≡◌, Some};
+ghost use Rattle.bist_text.specs.Lines.{text_lines};
+ghost use Rattle.memory_desc.specs.Subjects.{said};
+ghost use Rattle.memory_desc.specs.Values.{name_said, polarity_said, terms_in};
+ghost use Rattle.memory_desc.specs.inner.Heard.{statements};
+ghost use Rattle.memory_desc.specs.inner.Seen.{number_or, plain_content};
 
-use crate::content::Content;
+use crate::content::{Content, Subject};
 use crate::row_reader::Terms;
+use crate::search::content_about;
 
-/// The name that a `name` line gives.
-pub fn name_in<'a>(content: Option<Content<'a>>) -> &'a [u8]
-    ensures { result.now ≡ name_in (option_map plain_content content.entry) }
+/// The name.
+pub fn name_in(bytes: &[u8]) -> &[u8]
+    ensures { result.now ≡ name_said (statements (text_lines bytes.now)) }
 {
-    match content {
+    match content_about(bytes, Subject::Name) {
         Some(Content::Name(name)) => name,
         _ => &[],
     }
 }
 
-/// The number of words or of bits.
-pub fn number_in(content: Option<Content<'_>>) -> u32
-    ensures { result ≡ number_in (option_map plain_content content.entry) }
+/// The number that a text gives; another where it says nothing of it.
+pub fn number_in(bytes: &[u8], wanted: Subject, otherwise: u32) -> u32
+    ensures { result ≡ number_or otherwise (said wanted (statements (text_lines bytes.now))) }
 {
-    match content {
-        Some(Content::Words(number) | Content::Bits(number)) => number,
-        _ => 0,
-    }
-}
-
-/// The latency; one cycle where nothing is said of it.
-pub fn latency_in(content: Option<Content<'_>>) -> u32
-    ensures { result ≡ latency_in (option_map plain_content content.entry) }
-{
-    match content {
-        Some(Content::Latency(cycles)) => cycles,
-        _ => 1,
+    match content_about(bytes, wanted) {
+        Some(Content::Number(_, number)) => number,
+        _ => otherwise,
     }
 }
 
 /// The polarity; no bit is inverted where nothing is said of it.
-pub fn polarity_in(content: Option<Content<'_>>) -> u64
-    ensures { result ≡ polarity_in (option_map plain_content content.entry) }
+pub fn polarity_in(bytes: &[u8]) -> u64
+    ensures { result ≡ polarity_said (statements (text_lines bytes.now)) }
 {
-    match content {
+    match content_about(bytes, Subject::Polarity) {
         Some(Content::Polarity(word)) => word,
         _ => 0,
-    }
-}
-
-/// The pause; one cycle where nothing is said of it.
-pub fn pause_in(content: Option<Content<'_>>) -> u32
-    ensures { result ≡ pause_in (option_map plain_content content.entry) }
-{
-    match content {
-        Some(Content::Pause(cycles)) => cycles,
-        _ => 1,
     }
 }
 

@@ -1,29 +1,30 @@
 //! The reader of backgrounds: what stands behind the first word of a `backgrounds` line.
 
-ghost use Rattle.std.specs.Prelude.{◌≡◌, ◌∷◌, ℕ, List, Some, MatchResult};
+ghost use Rattle.std.specs.Prelude.{◌≡◌, Some, MatchResult};
 ghost use Rattle.bist_text.specs.Grammar.{is_blank};
+ghost use Rattle.bist_text.specs.keyed.Parts.{spaced};
 ghost use Rattle.bist_text.specs.keyed.Reading.{took, stuck};
-ghost use Rattle.memory_desc.specs.inner.Heard.{backgrounds_of, listed_of, log_of, next_word_of, spaced_word_of, words_of};
+ghost use Rattle.memory_desc.specs.inner.Heard.{backgrounds_of, listed_of, log_end_of, next_word_of, spaced_word_of};
 ghost use Rattle.memory_desc.specs.inner.Seen.{plain_content};
 
 use crate::content::Content;
 use bist_text::byte_sets::BLANKS;
-use bist_text::keyed_lines::{Read, blanks, byte, comment, end, hex_number};
+use bist_text::keyed_lines::{Read, blanks, byte, ended, hex_number};
 use std::marker::Model;
 
 /// A word behind blanks; None at the end of the line.
 fn spaced_word(text: &[u8]) -> Read<'_, Option<u64>>
-    ensures { MatchResult result (λ r. spaced_word_of text.now ≡ took r.0 r.1.now) (λ left. spaced_word_of text.now ≡ stuck left.now) }
+    ensures { MatchResult result (λ r. spaced_word_of (spaced text.now) ≡ took r.0 r.1.now) (λ left. spaced_word_of (spaced text.now) ≡ stuck left.now) }
 {
+    let text = blanks(text);
     match text {
         [] => Ok((None, text)),
         [first, _rest @ ..] => {
-            if first.is_ascii_hexdigit() {
-                let (word, text) = hex_number(text)?;
-                return Ok((Some(word), text));
+            if !first.is_ascii_hexdigit() {
+                return ended(text, None);
             }
-            let ((), text) = comment(text)?;
-            Ok((None, text))
+            let (word, text) = hex_number(text)?;
+            Ok((Some(word), text))
         }
     }
 }
@@ -37,10 +38,10 @@ fn next_word(text: &[u8]) -> Read<'_, Option<u64>>
         [] => Ok((None, text)),
         [first, _rest @ ..] => {
             if BLANKS.contains(*first) {
-                return spaced_word(blanks(text));
+                spaced_word(text)
+            } else {
+                ended(text, None)
             }
-            let ((), text) = comment(text)?;
-            Ok((None, text))
         }
     }
 }
@@ -95,37 +96,32 @@ impl<'a> Iterator for Words<'a> {
     }
 }
 
-/// This word and those that follow, to the end of the line.
-fn words_from<'a>(first: u64, text: &'a [u8]) -> Read<'a, Words<'a>>
-    ensures { MatchResult result (λ r. (ws : List ℕ) × (words_of text.now ≡ took ws r.1.now) × (r.0 ≡ first ∷ ws)) (λ left. words_of text.now ≡ stuck left.now) }
+/// What stands behind the first letter of `log`.
+fn log_end(text: &[u8]) -> Read<'_, Content<'_>>
+    ensures { MatchResult result (λ r. log_end_of text.now ≡ took (Some (plain_content r.0)) r.1.now) (λ left. log_end_of text.now ≡ stuck left.now) }
 {
-    let mut left = text;
-    loop {
-        let (next, rest) = next_word(left)?;
-        let Some(_) = next else {
-            let next = Some(first);
-            return Ok((Words { next, left: text }, rest));
-        };
-        left = rest;
-    }
-}
-
-fn log(text: &[u8]) -> Read<'_, Content<'_>>
-    ensures { MatchResult result (λ r. log_of text.now ≡ took (Some (plain_content r.0)) r.1.now) (λ left. log_of text.now ≡ stuck left.now) }
-{
-    let ((), text) = byte(text, b'l')?;
     let ((), text) = byte(text, b'o')?;
     let ((), text) = byte(text, b'g')?;
-    let ((), text) = end(text)?;
-    Ok((Content::Log, text))
+    ended(text, Content::Log)
 }
 
+/// A list of words, to the end of the line.
 fn listed(text: &[u8]) -> Read<'_, Content<'_>>
     ensures { MatchResult result (λ r. listed_of text.now ≡ took (Some (plain_content r.0)) r.1.now) (λ left. listed_of text.now ≡ stuck left.now) }
 {
-    let (first, text) = hex_number(text)?;
-    let (words, text) = words_from(first, text)?;
-    Ok((Content::Backgrounds(words), text))
+    let (first, further) = hex_number(text)?;
+    let mut left = further;
+    loop {
+        let (next, rest) = next_word(left)?;
+        let Some(_) = next else {
+            let words = Words {
+                next: Some(first),
+                left: further,
+            };
+            return Ok((Content::Backgrounds(words), rest));
+        };
+        left = rest;
+    }
 }
 
 /// The backgrounds of a `backgrounds` line.
@@ -134,9 +130,9 @@ pub fn backgrounds(text: &[u8]) -> Read<'_, Content<'_>>
 {
     match text {
         [] => Err(text),
-        [first, _rest @ ..] => {
+        [first, rest @ ..] => {
             if *first == b'l' {
-                log(text)
+                log_end(rest)
             } else {
                 listed(text)
             }

@@ -9,7 +9,7 @@ use Rattle.chip_desc.specs.declared.content.Key.{Key}
 use Rattle.chip_desc.specs.declared.content.Statement.{Statement as ReadStatement}
 use Rattle.chip_desc.specs.declared.fault.ChipField.{ChipField}
 use Rattle.chip_desc.specs.declared.fault.ChipFault.{ChipFault}
-use Rattle.chip_desc.specs.declared.fault.ChipFault.TheVariants.{TooHeavy}
+use Rattle.chip_desc.specs.declared.fault.ChipFault.TheVariants.{Repeated, OutOfRange as OutOfRangeLine, TooHeavy}
 use Rattle.chip_desc.specs.declared.search.Sought.{Sought}
 use Rattle.chip_desc.specs.declared.search.Sought.TheVariants.{Repeat, OutOfRange, Heavier}
 
@@ -17,6 +17,12 @@ abbrev pub is_sought : Sought → List Statement → Statement → Bool
 is_sought Repeat ss = λ s. is_repeat ss s
 is_sought OutOfRange ss = λ s. is_out_of_range s.content
 is_sought (Heavier most) ss = λ s. is_heavier most s.content
+
+-- the refusal of a line that is sought
+abbrev pub fault_of : Sought → ℕ → ChipFault
+fault_of Repeat n = Repeated n
+fault_of OutOfRange n = OutOfRangeLine n
+fault_of (Heavier most) n = TooHeavy n
 
 abbrev pub line_of : Option Statement → Option ℕ
 line_of o = option_map (λ s. s.line) o

@@ -74,13 +74,20 @@ IsWhole (stuck x) = ⊥
 abbrev pub numbered_of : (ℕ → Content) → List ℕ → Read (Option Content)
 numbered_of f b = onward (number_of b) (λ n x. ends_with (Some (f n)) x)
 
+-- the row of a bit, whose first term was read
+abbrev pub row_from_of : ℕ → Term → List ℕ → Read (Option Content)
+row_from_of i t b = onward (terms_of b) (λ ts x. took (Some (scramble i (t ∷ ts))) x)
+
 abbrev pub row_of : List ℕ → Read (Option Content)
 row_of b =
-    onward (byte_of 97 b) (λ _ x. onward (number_of x) (λ i x. onward (byte_of 61 (spaced x)) (λ _ x.
-    onward (term_of (spaced x)) (λ t x. onward (terms_of x) (λ ts x. took (Some (scramble i (t ∷ ts))) x)))))
+    onward (byte_of 97 b) (λ _ x. onward (number_of x) (λ i x. onward (byte_of 61 (spaced x)) (λ _ x. onward (term_of (spaced x)) (λ t x. row_from_of i t x))))
+
+-- behind the first letter of `log`
+abbrev pub log_end_of : List ℕ → Read (Option Content)
+log_end_of b = onward (byte_of 111 b) (λ _ x. onward (byte_of 103 x) (λ _ x. ends_with (Some log) x))
 
 abbrev pub log_of : List ℕ → Read (Option Content)
-log_of b = onward (byte_of 108 b) (λ _ x. onward (byte_of 111 x) (λ _ x. onward (byte_of 103 x) (λ _ x. ends_with (Some log) x)))
+log_of b = onward (byte_of 108 b) (λ _ x. log_end_of x)
 
 abbrev pub listed_of : List ℕ → Read (Option Content)
 listed_of b = onward (hex_number_of b) (λ w x. onward (words_of x) (λ ws x. took (Some (backgrounds (w ∷ ws))) x))

@@ -3,40 +3,40 @@ use Rattle.std.proofs.lemmas.Result.{err_from_is_err_and}
 use Rattle.chip_desc.proofs.Described.{named, is_chip, comes_to, is_refused, is_described, parts_same}
 use Rattle.chip_desc.proofs.read.described.Goals as goal
 
-pub returns-in_err-check_weights : goal.returns-in_err-check_weights
-returns-in_err-check_weights c =
+pub returns-in_err-check_none-3 : goal.returns-in_err-check_none-3
+returns-in_err-check_none-3 c =
     let ss = statements (text_lines c.args.bytes.now) in
     let n = c.budget_of-budget.result in
-    let p = err_from_is_err_and c.from_residual-in_err-check_weights.result c.from_residual-in_err-check_weights.ensures.1 in
+    let p = err_from_is_err_and c.from_residual-in_err-check_none-3.result c.from_residual-in_err-check_none-3.ensures.1 in
     p.1 ∙ ap Err p.2
     ∙ is_refused ss n _
-    (comes_to ss n (plain_statement c.in_ok-name_line.name_line) (plain_statement c.in_ok-budget_line.budget_line) (plain_statement c.in_ok-field.field-0) c.in_ok-check_repeats.ensures
-    c.in_ok-name_line.ensures c.in_ok-budget_line.ensures c.in_ok-field.ensures c.in_ok-check_ranges.ensures c.in_ok-units.ensures.0 c.budget_of-budget.ensures)
-    c.in_err-check_weights.ensures
+    (comes_to ss n (plain_statement c.in_ok-name_line.name_line) (plain_statement c.in_ok-budget_line.budget_line) (plain_statement c.in_ok-field.field-0) c.in_ok-check_none.ensures
+    c.in_ok-name_line.ensures c.in_ok-budget_line.ensures c.in_ok-field.ensures c.in_ok-check_none-2.ensures c.in_ok-units.ensures.0 c.budget_of-budget.ensures)
+    c.in_err-check_none-3.ensures
 
 pub name_from-name-requires : goal.name_from-name-requires
 name_from-name-requires c =
     let ls = text_lines c.args.bytes.now in
-    subst IsName (sym c.name_of.ensures) (named ls (plain_statement c.in_ok-name_line.name_line) (passed (out_of_range (statements ls)) c.in_ok-check_ranges.ensures) c.in_ok-name_line.ensures)
+    subst IsName (sym c.name_of.ensures) (named ls (plain_statement c.in_ok-name_line.name_line) (passed (out_of_range (statements ls)) c.in_ok-check_none-2.ensures) c.in_ok-name_line.ensures)
 
 pub new-requires : goal.new-requires
 new-requires c =
     let ls = text_lines c.args.bytes.now in
     let ss = statements ls in
     let n = c.budget_of-budget.result in
-    let inside = passed (out_of_range ss) c.in_ok-check_ranges.ensures in
+    let inside = passed (out_of_range ss) c.in_ok-check_none-2.ensures in
     is_chip ls (plain_statement c.in_ok-budget_line.budget_line) (plain_statement c.in_ok-field.field-0) c.name_from-name.result.bytes n c.in_ok-units.units.items
     (subst IsName (sym (c.name_from-name.ensures ∙ c.name_of.ensures)) (named ls (plain_statement c.in_ok-name_line.name_line) inside c.in_ok-name_line.ensures))
     c.in_ok-budget_line.ensures c.in_ok-field.ensures inside c.budget_of-budget.ensures c.in_ok-units.ensures.0 c.in_ok-units.ensures.1
-    (passed (heavier_than n ss) c.in_ok-check_weights.ensures)
+    (passed (heavier_than n ss) c.in_ok-check_none-3.ensures)
 
 pub returns : goal.returns
 returns c =
     let ss = statements (text_lines c.args.bytes.now) in
     let n = c.budget_of-budget.result in
     is_described ss c.new.result n
-    (comes_to ss n (plain_statement c.in_ok-name_line.name_line) (plain_statement c.in_ok-budget_line.budget_line) (plain_statement c.in_ok-field.field-0) c.in_ok-check_repeats.ensures
-    c.in_ok-name_line.ensures c.in_ok-budget_line.ensures c.in_ok-field.ensures c.in_ok-check_ranges.ensures c.in_ok-units.ensures.0 c.budget_of-budget.ensures)
-    c.in_ok-check_weights.ensures
+    (comes_to ss n (plain_statement c.in_ok-name_line.name_line) (plain_statement c.in_ok-budget_line.budget_line) (plain_statement c.in_ok-field.field-0) c.in_ok-check_none.ensures
+    c.in_ok-name_line.ensures c.in_ok-budget_line.ensures c.in_ok-field.ensures c.in_ok-check_none-2.ensures c.in_ok-units.ensures.0 c.budget_of-budget.ensures)
+    c.in_ok-check_none-3.ensures
     (parts_same ss c.new.result (plain_statement c.in_ok-name_line.name_line) (plain_statement c.in_ok-budget_line.budget_line) c.name_from-name.result.bytes n c.in_ok-units.units.items c.new.ensures
     c.in_ok-name_line.ensures (c.name_from-name.ensures ∙ c.name_of.ensures) c.in_ok-budget_line.ensures c.budget_of-budget.ensures c.in_ok-units.ensures.1)

@@ -1,9 +1,10 @@
-use Rattle.memory_desc.proofs.Common.{ap, arith, length, sym, ◌∙◌}
-use Rattle.memory_desc.proofs.WordReads.{word_took}
+use Rattle.memory_desc.proofs.Common.{None, Read, ap, end_of, hex_word_of, is_hex, onward, spaced, spaced_word_of, stuck, sym, took, ◌∙◌, ◌≡◌}
+use Rattle.memory_desc.proofs.Passed.{on_both}
+use Rattle.memory_desc.proofs.TermReads.{over}
 use Rattle.memory_desc.proofs.word_reader.spaced_word.Goals as goal
 
-pub returns-then-is_ascii_hexdigit : goal.returns-then-is_ascii_hexdigit
-returns-then-is_ascii_hexdigit c =
-    let w = c.in_ok-word-in-len1-up in
-    word_took c.args.text.now w.text.now w.word (λ e. (let none = ap length e in let some = c.in-len1-up.len_at_least in omega arith)) (sym c.is_ascii_hexdigit.ensures.value ∙ c.if-is_ascii_hexdigit.true)
-    w.ensures
+pub returns-then-not-is_ascii_hexdigit : goal.returns-then-not-is_ascii_hexdigit
+returns-then-not-is_ascii_hexdigit c =
+    let b = c.blanks-text.result.now in
+    let ends : (o : Read (Unit {0})) → end_of b ≡ o → spaced_word_of (spaced c.args.text.now) ≡ onward o (λ _ x. took None x) = λ o. over is_hex hex_word_of c.args.text.now b o c.blanks-text.ensures c.in-len1-up.len_at_least (sym c.is_ascii_hexdigit.ensures.value ∙ c.if-not-is_ascii_hexdigit.true) in
+    on_both c.ended.result c.ended.ensures (λ r h. ends (took tt r.1.now) h.1 ∙ ap (λ v. took v r.1.now) (sym h.0)) (λ left h. ends (stuck left.now) h)

@@ -1,7 +1,7 @@
 use Rattle.memory_desc.proofs.Common.{next_term_of}
 use Rattle.memory_desc.proofs.TermLaws.{term_next}
 use Rattle.memory_desc.proofs.Left.{goes_on, shorter}
-use Rattle.memory_desc.proofs.row_reader.terms_from.Goals as goal
+use Rattle.memory_desc.proofs.row_reader.row_from.Goals as goal
 
 pub loop-next-smaller : goal.loop-next-smaller
 loop-next-smaller c = shorter next_term_of term_next c.loop-next.left.now c.in_ok-next.rest.now c.in-Some.field-0 c.in_ok-next.ensures c.in-Some.is
