@@ -20,7 +20,7 @@ pub struct Sense {
 }
 
 /// Why the parts are no primitive.
-#[derive(Clone, Copy)]
+#[derive(Clone, Copy, Debug)]
 pub enum PrimFault {
     /// F3: they describe no static fault.
     NotAFault,
