@@ -15,6 +15,7 @@
 //! the classes of their words, and of texts of lines that the first with content gives a version.
 #![tactic(auto)]
 
+mod between;
 mod byte_set;
 pub mod byte_sets;
 mod cursors;
@@ -26,6 +27,7 @@ mod reserved_words;
 mod text_lines;
 mod writing;
 
+pub use between::{put_between, put_number};
 pub use byte_set::ByteSet;
 pub use cursors::Cursor;
 pub use identifiers::{begins_identifier, in_identifier, is_identifier};

@@ -1,26 +1,21 @@
 //! Tops, with a line for each placed module.
-ghost use Rattle.std.specs.Prelude.{◌≡◌, ◌++◌, OnOk, IfOk, codes, map, true};
+ghost use Rattle.std.specs.Prelude.{◌≡◌, ◌++◌, OnOk, IfOk, map, true};
 ghost use Rattle.chip_rtl.specs.TopSeen.{plain_link, plain_placed, plain_top};
-ghost use Rattle.chip_rtl.specs.PrintedTop.{link_text, links_text, placed_text, placed_texts, top_begun, printed_top};
+ghost use Rattle.chip_rtl.specs.PrintedTop.{link_text, links_text, placed_text, placed_texts, printed_top};
 ghost use Rattle.chip_rtl.specs.TopFits.{TopFits};
 ghost use Rattle.chip_rtl.specs.PrintedLaws.{EndsChips};
 
 use crate::{Link, Placed, Top};
 use bist_bits::NoMemory;
-use bist_text::put;
+use bist_text::{put, put_between};
 use std::alloc::Global;
-use verilog_emit::{
-    put_items, put_line, put_margin, put_name, put_name_line, put_ports, put_separator,
-};
+use verilog_emit::{put_items, put_line, put_name_line, put_ports, put_separator};
 
 fn put_link(out: &mut Vec<u8>, link: &Link) -> Result<(), NoMemory>
     ensures { OnOk result (out.new.items ≡ out.old.items ++ link_text (plain_link link.now)) }
 {
-    put(out, b".")?;
-    put_name(out, &link.port)?;
-    put(out, b"(")?;
-    put_name(out, &link.net)?;
-    put(out, b")")
+    put_between(out, b".", link.port.as_str().as_bytes(), b"(")?;
+    put_between(out, b"", link.net.as_str().as_bytes(), b")")
 }
 
 fn put_links(out: &mut Vec<u8>, links: &[Link]) -> Result<(), NoMemory>
@@ -35,21 +30,11 @@ fn put_links(out: &mut Vec<u8>, links: &[Link]) -> Result<(), NoMemory>
     Ok(())
 }
 
-/// Appends what stands before the links.
-fn put_placing(out: &mut Vec<u8>, placed: &Placed) -> Result<(), NoMemory>
-    ensures { OnOk result (out.new.items ≡ out.old.items ++ (codes "  " ++ («placed».now.«module».bytes ++ codes " " ++ «placed».now.name.bytes ++ codes "("))) }
-{
-    put_margin(out, 1)?;
-    put_name(out, &placed.module)?;
-    put(out, b" ")?;
-    put_name(out, &placed.name)?;
-    put(out, b"(")
-}
-
 fn put_placed(out: &mut Vec<u8>, placed: &Placed) -> Result<(), NoMemory>
     ensures { OnOk result (out.new.items ≡ out.old.items ++ placed_text (plain_placed placed.now)) }
 {
-    put_placing(out, placed)?;
+    put_between(out, b"  ", placed.module.as_str().as_bytes(), b" ")?;
+    put_between(out, b"", placed.name.as_str().as_bytes(), b"(")?;
     put_links(out, &placed.links)?;
     put(out, b");\n")
 }
@@ -64,22 +49,15 @@ fn put_all_placed(out: &mut Vec<u8>, all: &[Placed]) -> Result<(), NoMemory>
     Ok(())
 }
 
-/// Appends what stands before the placed modules.
-fn put_begun(out: &mut Vec<u8>, top: &Top) -> Result<(), NoMemory>
-    requires { TopFits (plain_top top.now) }
-    ensures { OnOk result (out.new.items ≡ out.old.items ++ top_begun (plain_top top.now)) }
-{
-    put_name_line(out, 0, b"module ", &top.name, b"(")?;
-    put_ports(out, &top.ports)?;
-    put_line(out, 0, b");")?;
-    put_items(out, &top.items)
-}
-
+/// Appends a top.
 fn put_top(out: &mut Vec<u8>, top: &Top) -> Result<(), NoMemory>
     requires { TopFits (plain_top top.now) }
     ensures { OnOk result (out.new.items ≡ out.old.items ++ printed_top (plain_top top.now)) }
 {
-    put_begun(out, top)?;
+    put_name_line(out, 0, b"module ", &top.name, b"(")?;
+    put_ports(out, &top.ports)?;
+    put_line(out, 0, b");")?;
+    put_items(out, &top.items)?;
     put_all_placed(out, &top.placed)?;
     put_line(out, 0, b"endmodule")
 }

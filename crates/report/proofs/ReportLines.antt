@@ -1,5 +1,5 @@
 -- Texts that grow by one line, or by one letter.
-use Rattle.std.proofs.Common.{◌≡◌, ◌+◌, ◌-◌, ◌<◌, ◌≤◌, ℕ, List, [], ◌∷◌, ◌++◌, map, take, get_or, length, Result, Ok, Err, OnOk, zero, suc, refl, ap, sym, subst, ◌∙◌, append_assoc, append-nil, arith}
+use Rattle.std.proofs.Common.{◌≡◌, ◌+◌, ◌-◌, ◌<◌, ◌≤◌, ℕ, List, [], ◌∷◌, ◌++◌, map, take, get_or, length, Result, Ok, Err, OnOk, zero, suc, refl, ap, sym, ◌∙◌, append_assoc, append-nil, arith}
 use Rattle.std.proofs.lemmas.List.{take_more, take_all, flat_map_more}
 use Rattle.std.proofs.lemmas.Grind.{flat_map-append}
 use Rattle.std.proofs.lemmas.List.FromFn.{map-range_with_len_more}
@@ -35,9 +35,8 @@ class_line_more js k h =
     ∙ ap (λ l. flat_map line (take k class_order) ++ l) (append-nil (line last))
 
 -- a text that grew by four parts
-pub four_parts : {E : Type 0} (result : Result (Unit {0}) E) (o a b c d p q r s : List ℕ) → p ≡ o ++ a → q ≡ p ++ b → r ≡ q ++ c → OnOk result (s ≡ r ++ d) → OnOk result (s ≡ o ++ (((a ++ b) ++ c) ++ d))
-four_parts (Err e) o a b c d p q r s ep eq er es = tt
-four_parts (Ok u) o a b c d p q r s ep eq er es =
+pub four_parts : (o a b c d p q r s : List ℕ) → p ≡ o ++ a → q ≡ p ++ b → r ≡ q ++ c → s ≡ r ++ d → s ≡ o ++ (((a ++ b) ++ c) ++ d)
+four_parts o a b c d p q r s ep eq er es =
     es ∙ ap (λ l. l ++ d) (er ∙ ap (λ l. l ++ c) (eq ∙ ap (λ l. l ++ b) ep)) ∙ simp append_assoc
 
 -- a text that grew by the text of one element more, and by those of all
@@ -53,37 +52,33 @@ text_more f xs i d x old so_far now h is inv grown =
 pub all_texts : {X : Type 0} (f : X → List ℕ) (xs : List X) (i : ℕ) (old now : List ℕ) → length xs ≤ i → now ≡ old ++ flat_map f (take i xs) → now ≡ old ++ flat_map f xs
 all_texts f xs i old now h inv = inv ∙ ap (λ l. old ++ flat_map f l) (take_all i xs h)
 
--- one that grew by three parts, and by five
-pub two_parts : {E : Type 0} (result : Result (Unit {0}) E) (o a b c p q : List ℕ) → p ≡ o ++ a → OnOk result (q ≡ p ++ (b ++ c)) → OnOk result (q ≡ o ++ ((a ++ b) ++ c))
-two_parts (Err e) o a b c p q ep eq = tt
-two_parts (Ok u) o a b c p q ep eq = eq ∙ ap (λ l. l ++ (b ++ c)) ep ∙ simp append_assoc
-
-pub three_parts : {E : Type 0} (result : Result (Unit {0}) E) (o a b c d p q r : List ℕ) → p ≡ o ++ a → q ≡ p ++ b → OnOk result (r ≡ q ++ c) → c ≡ d → OnOk result (r ≡ o ++ ((a ++ b) ++ d))
-three_parts (Err e) o a b c d p q r ep eq er ec = tt
-three_parts (Ok u) o a b c d p q r ep eq er ec = er ∙ ap (λ l. q ++ l) ec ∙ ap (λ l. l ++ d) (eq ∙ ap (λ l. l ++ b) ep) ∙ simp append_assoc
-
-pub five_parts : {E : Type 0} (result : Result (Unit {0}) E) (o a b c d e p q r s t : List ℕ) → p ≡ o ++ a → q ≡ p ++ b → r ≡ q ++ c → s ≡ r ++ d
-    → OnOk result (t ≡ s ++ e) → OnOk result (t ≡ o ++ ((((a ++ b) ++ c) ++ d) ++ e))
-five_parts (Err x) o a b c d e p q r s t ep eq er es et = tt
-five_parts (Ok u) o a b c d e p q r s t ep eq er es et =
-    et ∙ ap (λ l. l ++ e) (es ∙ ap (λ l. l ++ d) (er ∙ ap (λ l. l ++ c) (eq ∙ ap (λ l. l ++ b) ep))) ∙ simp append_assoc
-
 -- the line of a class that occurs, and that of the total
-pub class_written : {E : Type 0} (result : Result (Unit {0}) E) (class : ItemClass) (count covered : ℕ) (o p q r s t : List ℕ) → 0 < count → p ≡ o ++ codes "class " → q ≡ p ++ class_text class
-    → r ≡ q ++ codes " " → s ≡ r ++ (decimal count ++ codes " covered " ++ decimal covered) → OnOk result (t ≡ s ++ codes "\n") → OnOk result (t ≡ o ++ class_line class count covered)
-class_written result class zero covered o p q r s t some ep eq er es et = absurd (omega (arith, some))
-class_written result class (suc n) covered o p q r s t some ep eq er es et =
-    subst (λ x. OnOk result (t ≡ o ++ x)) (joined (codes "class ") (class_text class) (codes " ") (decimal (suc n)) (codes " covered ") (decimal covered) (codes "\n"))
-    (five_parts result o (codes "class ") (class_text class) (codes " ") (decimal (suc n) ++ codes " covered " ++ decimal covered) (codes "\n") p q r s t ep eq er es et)
-  where
-    joined : (a b c d e f g : List ℕ) → ((((a ++ b) ++ c) ++ ((d ++ e) ++ f)) ++ g) ≡ ((((((a ++ b) ++ c) ++ d) ++ e) ++ f) ++ g)
-    joined a b c d e f g = simp append_assoc
+seven_parts : {E : Type 0} (result : Result (Unit {0}) E) (o a b c d e f g p q t : List ℕ) → p ≡ o ++ (a ++ b ++ c) → q ≡ p ++ (d ++ e) → OnOk result (t ≡ q ++ (f ++ g)) → OnOk result (t ≡ o ++ (a ++ b ++ c ++ d ++ e ++ f ++ g))
+seven_parts (Err x) o a b c d e f g p q t ep eq et = tt
+seven_parts (Ok u) o a b c d e f g p q t ep eq et = et ∙ ap (λ l. l ++ (f ++ g)) (eq ∙ ap (λ l. l ++ (d ++ e)) ep) ∙ simp append_assoc
 
-pub total_written : {E : Type 0} (result : Result (Unit {0}) E) (count covered : ℕ) (o p q s t : List ℕ) → p ≡ o ++ codes "total " → q ≡ p ++ (decimal count ++ codes " covered " ++ decimal covered)
-    → s ≡ q ++ (codes " escapes " ++ decimal (count - covered)) → OnOk result (t ≡ s ++ codes "\n") → OnOk result (t ≡ o ++ total_line count covered)
-total_written result count covered o p q s t ep eq es et =
-    subst (λ x. OnOk result (t ≡ o ++ x)) (joined (codes "total ") (decimal count) (codes " covered ") (decimal covered) (codes " escapes ") (decimal (count - covered)) (codes "\n"))
-    (five_parts result o (codes "total ") (decimal count ++ codes " covered " ++ decimal covered) (codes " escapes ") (decimal (count - covered)) (codes "\n") p q (q ++ codes " escapes ") s t ep eq refl (es ∙ sym (append_assoc q (codes " escapes ") (decimal (count - covered)))) et)
+pub class_written : {E : Type 0} (result : Result (Unit {0}) E) (class : ItemClass) (count covered : ℕ) (o p q t : List ℕ) → 0 < count → p ≡ o ++ (codes "class " ++ class_text class ++ codes " ")
+    → q ≡ p ++ (decimal count ++ codes " covered ") → OnOk result (t ≡ q ++ (decimal covered ++ codes "\n")) → OnOk result (t ≡ o ++ class_line class count covered)
+class_written result class zero covered o p q t some ep eq et = absurd (omega (arith, some))
+class_written result class (suc n) covered o p q t some ep eq et =
+    seven_parts result o (codes "class ") (class_text class) (codes " ") (decimal (suc n)) (codes " covered ") (decimal covered) (codes "\n") p q t ep eq et
+
+pub total_written : {E : Type 0} (result : Result (Unit {0}) E) (count covered : ℕ) (o p q t : List ℕ) → p ≡ o ++ (codes "total " ++ decimal count ++ codes " covered ")
+    → q ≡ p ++ (decimal covered ++ codes " escapes ") → OnOk result (t ≡ q ++ (decimal (count - covered) ++ codes "\n")) → OnOk result (t ≡ o ++ total_line count covered)
+total_written result count covered o p q t ep eq et =
+    seven_parts result o (codes "total ") (decimal count) (codes " covered ") (decimal covered) (codes " escapes ") (decimal (count - covered)) (codes "\n") p q t ep eq et
+
+-- an item and its class behind a verdict
+pub item_written : {E : Type 0} (result : Result (Unit {0}) E) (o verdict item class name p r : List ℕ) → p ≡ o ++ (verdict ++ item ++ codes " ") → OnOk result (r ≡ p ++ class) → class ≡ name → OnOk result (r ≡ o ++ (verdict ++ (item ++ codes " " ++ name)))
+item_written (Err e) o verdict item class name p r ep er ec = tt
+item_written (Ok u) o verdict item class name p r ep er ec = er ∙ ap (λ l. p ++ l) ec ∙ ap (λ l. l ++ name) ep ∙ joined (codes " ")
   where
-    joined : (a b c d e f g : List ℕ) → ((((a ++ ((b ++ c) ++ d)) ++ e) ++ f) ++ g) ≡ ((((((a ++ b) ++ c) ++ d) ++ e) ++ f) ++ g)
-    joined a b c d e f g = simp append_assoc
+    joined : (blank : List ℕ) → (o ++ (verdict ++ item ++ blank)) ++ name ≡ o ++ (verdict ++ (item ++ blank ++ name))
+    joined blank = simp append_assoc
+
+-- the line of a memory
+pub memory_written : {E : Type 0} (result : Result (Unit {0}) E) (o a name b words c bits d backgrounds e commands f p q r s t : List ℕ) → p ≡ o ++ (a ++ name ++ b) → q ≡ p ++ (words ++ c) → r ≡ q ++ (bits ++ d) → s ≡ r ++ (backgrounds ++ e)
+    → OnOk result (t ≡ s ++ (commands ++ f)) → OnOk result (t ≡ o ++ ((a ++ name ++ b ++ words ++ c ++ bits) ++ (d ++ backgrounds ++ e ++ commands) ++ f))
+memory_written (Err x) o a name b words c bits d backgrounds e commands f p q r s t ep eq er es et = tt
+memory_written (Ok u) o a name b words c bits d backgrounds e commands f p q r s t ep eq er es et =
+    et ∙ ap (λ l. l ++ (commands ++ f)) (es ∙ ap (λ l. l ++ (backgrounds ++ e)) (er ∙ ap (λ l. l ++ (bits ++ d)) (eq ∙ ap (λ l. l ++ (words ++ c)) ep))) ∙ simp append_assoc

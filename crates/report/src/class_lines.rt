@@ -1,12 +1,12 @@
-ghost use Rattle.std.specs.Prelude.{◌≡◌, ◌<◌, ◌≤◌, ◌++◌, OnOk, length, map};
+ghost use Rattle.std.specs.Prelude.{◌≡◌, ◌<◌, ◌++◌, OnOk, map};
 ghost use Rattle.dynamic_core.specs.declared.item.Item.TheVariants.{Dyn};
 ghost use Rattle.report.specs.Items.{item_of};
 ghost use Rattle.report.specs.Report.{class_text, class_number, item_class, is_in_class, is_covered_in, class_size, class_covered, class_line, class_lines, class_order};
 
 use crate::judged::JudgedItem;
-use crate::total::{is_item_covered, put_counts};
+use crate::total::is_item_covered;
 use bist_bits::NoMemory;
-use bist_text::put;
+use bist_text::{put_between, put_number};
 use dynamic_core::DynPrim;
 use fault_core::{Class, class_of};
 
@@ -110,18 +110,6 @@ fn is_of_class(judged: &JudgedItem, class: ItemClass) -> bool
     number_of(judged_class(judged)) == number_of(class)
 }
 
-/// How many judged items are of a class.
-#[tactic(auto, using(crate::proofs::Counts::class_size_of))]
-fn count_class(class: ItemClass, judged: &[JudgedItem]) -> usize
-    ensures value { result ≡ class_size class (map item_of judged.now) }
-    ensures within { result ≤ length judged.now }
-{
-    judged
-        .iter()
-        .filter(|item| is_of_class(item, class))
-        .count()
-}
-
 /// Whether a judged item is of a class and covered.
 fn is_covered_there(class: ItemClass, judged: &JudgedItem) -> bool
     ensures { result ≡ is_covered_in class judged.now }
@@ -129,25 +117,35 @@ fn is_covered_there(class: ItemClass, judged: &JudgedItem) -> bool
     is_of_class(judged, class) && is_item_covered(judged)
 }
 
-/// How many judged items of a class are covered.
-fn count_class_covered(class: ItemClass, judged: &[JudgedItem]) -> usize
-    ensures { result ≡ class_covered class judged.now }
+/// How many judged items are of a class, and how many of these are covered.
+#[derive(Clone, Copy)]
+struct ClassCounts {
+    count: usize,
+    covered: usize,
+}
+
+fn count_class(class: ItemClass, judged: &[JudgedItem]) -> ClassCounts
+    ensures count { result.count ≡ class_size class (map item_of judged.now) }
+    ensures covered { result.covered ≡ class_covered class judged.now }
 {
-    judged
-        .iter()
-        .filter(|item| is_covered_there(class, item))
-        .count()
+    let mut count = 0;
+    let mut covered = 0;
+    for item in judged {
+        count += usize::from(is_of_class(item, class));
+        covered += usize::from(is_covered_there(class, item));
+    }
+    ClassCounts { count, covered }
 }
 
 /// Appends the line of a class that occurs.
 fn write_class(out: &mut Vec<u8>, class: ItemClass, judged: &[JudgedItem]) -> Result<(), NoMemory>
     ensures { OnOk result (out.new.items ≡ out.old.items ++ class_line class (class_size class (map item_of judged.now)) (class_covered class judged.now)) }
 {
-    let count = count_class(class, judged);
-    if count == 0 {
+    let counts = count_class(class, judged);
+    if counts.count == 0 {
         return Ok(());
     }
-    put_class(out, class, count, count_class_covered(class, judged))
+    put_class(out, class, counts.count, counts.covered)
 }
 
 fn put_class(
@@ -159,11 +157,9 @@ fn put_class(
     requires { 0 < count }
     ensures { OnOk result (out.new.items ≡ out.old.items ++ class_line class count covered) }
 {
-    put(out, b"class ")?;
-    put(out, class_name(class))?;
-    put(out, b" ")?;
-    put_counts(out, count, covered)?;
-    put(out, b"\n")
+    put_between(out, b"class ", class_name(class), b" ")?;
+    put_number(out, b"", count as u64, b" covered ")?;
+    put_number(out, b"", covered as u64, b"\n")
 }
 
 /// Appends a line for each class that occurs.

@@ -1,13 +1,13 @@
-ghost use Rattle.std.specs.Prelude.{◌≡◌, ◌<◌, ◌≤◌, ◌++◌, OnOk, length, take};
+ghost use Rattle.std.specs.Prelude.{◌≡◌, ◌<◌, ◌≤◌, ◌++◌, OnOk, codes, length, take};
 ghost use Rattle.march_core.specs.Visits.{direction_at};
 ghost use Rattle.dynamic_core.specs.declared.item.Item.TheVariants.{Plain, Dyn};
 ghost use Rattle.fault_syntax.specs.PrimText.{bit_text};
-ghost use Rattle.report.specs.Report.{letter, item_text, aggressor_text, content_text, directions_text, places_text, passing_text, escape_text, dyn_places_text, dyn_escape_text, judged_line, judged_lines};
+ghost use Rattle.report.specs.Report.{letter, item_text, aggressor_text, content_text, directions_text, places_text, passing_text, escape_text, dyn_escape_text, judged_line, judged_lines};
 
 use crate::class_lines::{ItemClass, class_name, dyn_class};
 use crate::judged::JudgedItem;
 use bist_bits::NoMemory;
-use bist_text::{put, put_decimal};
+use bist_text::{put, put_between, put_decimal, put_number};
 use coverage::Verdict;
 use dynamic_core::{DynPrim, print_dyn};
 use dynamic_prover::{DynEscape, DynVerdict};
@@ -16,30 +16,28 @@ use fault_core::{Prim, class_of};
 use fault_syntax::print_prim;
 use march_core::is_down;
 
-/// Appends a static primitive and its class.
-fn write_prim(out: &mut Vec<u8>, prim: &Prim) -> Result<(), NoMemory>
-    ensures { OnOk result (out.new.items ≡ out.old.items ++ item_text (Plain prim.now)) }
+/// Appends a verdict, a static primitive and its class.
+fn write_prim(out: &mut Vec<u8>, verdict: &[u8], prim: &Prim) -> Result<(), NoMemory>
+    ensures { OnOk result (out.new.items ≡ out.old.items ++ (verdict.now ++ item_text (Plain prim.now))) }
 {
-    put(out, print_prim(prim).as_str().as_bytes())?;
-    put(out, b" ")?;
+    put_between(out, verdict, print_prim(prim).as_str().as_bytes(), b" ")?;
     put(out, class_name(ItemClass::Static(class_of(prim))))
 }
 
-/// Appends a dynamic primitive and its class.
-fn write_dyn(out: &mut Vec<u8>, prim: &DynPrim) -> Result<(), NoMemory>
-    ensures { OnOk result (out.new.items ≡ out.old.items ++ item_text (Dyn prim.now)) }
+/// Appends a verdict, a dynamic primitive and its class.
+fn write_dyn(out: &mut Vec<u8>, verdict: &[u8], prim: &DynPrim) -> Result<(), NoMemory>
+    ensures { OnOk result (out.new.items ≡ out.old.items ++ (verdict.now ++ item_text (Dyn prim.now))) }
 {
-    put(out, print_dyn(prim).as_str().as_bytes())?;
-    put(out, b" ")?;
+    put_between(out, verdict, print_dyn(prim).as_str().as_bytes(), b" ")?;
     put(out, class_name(dyn_class(prim)))
 }
 
 fn write_aggressor(out: &mut Vec<u8>, agg: Option<u8>) -> Result<(), NoMemory>
-    ensures { OnOk result (out.new.items ≡ out.old.items ++ aggressor_text agg) }
+    ensures { OnOk result (out.new.items ≡ out.old.items ++ (codes " aggressor " ++ aggressor_text agg ++ codes " victim ")) }
 {
     match agg {
-        None => put(out, b"none"),
-        Some(cell) => put_decimal(out, u64::from(cell)),
+        None => put(out, b" aggressor none victim "),
+        Some(cell) => put_number(out, b" aggressor ", u64::from(cell), b" victim "),
     }
 }
 
@@ -87,9 +85,7 @@ fn write_content(out: &mut Vec<u8>, content: &[bool]) -> Result<(), NoMemory>
 fn write_places(out: &mut Vec<u8>, agg: Option<u8>, vic: u8) -> Result<(), NoMemory>
     ensures { OnOk result (out.new.items ≡ out.old.items ++ places_text agg vic) }
 {
-    put(out, b" aggressor ")?;
     write_aggressor(out, agg)?;
-    put(out, b" victim ")?;
     put_decimal(out, u64::from(vic))
 }
 
@@ -128,21 +124,13 @@ fn cells_of(escape: &DynEscape) -> &[bool]
     &content[..count]
 }
 
-/// Appends the size of an escape's array, and where its instance stands.
-fn write_dyn_places(out: &mut Vec<u8>, escape: &DynEscape) -> Result<(), NoMemory>
-    ensures { OnOk result (out.new.items ≡ out.old.items ++ dyn_places_text escape.now) }
-{
-    put(out, b" cells ")?;
-    put_decimal(out, u64::from(escape.size))?;
-    write_places(out, escape.agg, escape.vic)
-}
-
 /// Appends an escape of a dynamic primitive, with a digit for each of its cells.
 fn write_dyn_escape(out: &mut Vec<u8>, escape: &DynEscape, size: usize) -> Result<(), NoMemory>
     requires { size ≤ 64 }
     ensures { OnOk result (out.new.items ≡ out.old.items ++ dyn_escape_text size escape.now) }
 {
-    write_dyn_places(out, escape)?;
+    put_number(out, b" cells ", u64::from(escape.size), b"")?;
+    write_places(out, escape.agg, escape.vic)?;
     write_passing(out, cells_of(escape), escape.directions, size)
 }
 
@@ -158,12 +146,10 @@ fn write_plain_line(
 {
     match verdict {
         Verdict::Covered => {
-            put(out, b"covered ")?;
-            write_prim(out, prim)?;
+            write_prim(out, b"covered ", prim)?;
         }
         Verdict::Escape(escape) => {
-            put(out, b"escape ")?;
-            write_prim(out, prim)?;
+            write_prim(out, b"escape ", prim)?;
             write_escape(out, escape, size)?;
         }
     }
@@ -182,12 +168,10 @@ fn write_dyn_line(
 {
     match verdict {
         DynVerdict::Covered => {
-            put(out, b"covered ")?;
-            write_dyn(out, prim)?;
+            write_dyn(out, b"covered ", prim)?;
         }
         DynVerdict::Escape(escape) => {
-            put(out, b"escape ")?;
-            write_dyn(out, prim)?;
+            write_dyn(out, b"escape ", prim)?;
             write_dyn_escape(out, escape, size)?;
         }
     }

@@ -1,10 +1,10 @@
-ghost use Rattle.std.specs.Prelude.{◌≡◌, ◌≤◌, ◌++◌, IfOk, OnOk, length, codes, decimal};
+ghost use Rattle.std.specs.Prelude.{◌≡◌, ◌≤◌, ◌++◌, IfOk, OnOk, length};
 ghost use Rattle.report.specs.Items.{covered_count, is_covered};
 ghost use Rattle.report.specs.Report.{total_line};
 
 use crate::judged::JudgedItem;
 use bist_bits::NoMemory;
-use bist_text::{put, put_decimal};
+use bist_text::put_number;
 use coverage::Verdict;
 use dynamic_prover::DynVerdict;
 use std::alloc::Global;
@@ -29,31 +29,14 @@ pub fn count_covered(judged: &[JudgedItem]) -> usize
     judged.iter().filter(|item| is_item_covered(item)).count()
 }
 
-/// Appends a text and a number behind it.
-pub(crate) fn put_number(out: &mut Vec<u8>, text: &[u8], number: u64) -> Result<(), NoMemory>
-    ensures { OnOk result (out.new.items ≡ out.old.items ++ (text.now ++ decimal number)) }
-{
-    put(out, text)?;
-    put_decimal(out, number)
-}
-
-/// Appends how many items there are, and how many of them are covered.
-pub(crate) fn put_counts(out: &mut Vec<u8>, count: usize, covered: usize) -> Result<(), NoMemory>
-    ensures { OnOk result (out.new.items ≡ out.old.items ++ (decimal count ++ codes " covered " ++ decimal covered)) }
-{
-    put_decimal(out, count as u64)?;
-    put_number(out, b" covered ", covered as u64)
-}
-
 /// Appends the line of the total. After want of memory `out` ends in a part of the line, or in none of it.
 pub(crate) fn write_total(out: &mut Vec<u8>, count: usize, covered: usize) -> Result<(), NoMemory>
     requires { covered ≤ count }
     ensures { OnOk result (out.new.items ≡ out.old.items ++ total_line count covered) }
 {
-    put(out, b"total ")?;
-    put_counts(out, count, covered)?;
-    put_number(out, b" escapes ", (count - covered) as u64)?;
-    put(out, b"\n")
+    put_number(out, b"total ", count as u64, b" covered ")?;
+    put_number(out, b"", covered as u64, b" escapes ")?;
+    put_number(out, b"", (count - covered) as u64, b"\n")
 }
 
 /// The line of the total.

@@ -10,7 +10,7 @@ use crate::judged_lines::write_lines;
 use crate::memory_line::write_memory;
 use crate::total::{count_covered, write_total};
 use bist_bits::NoMemory;
-use bist_text::put;
+use bist_text::put_between;
 use dynamic_core::Item;
 use march_core::March;
 use march_syntax::print_march;
@@ -21,9 +21,7 @@ use std::alloc::Global;
 fn write_march(alloc: Global, out: &mut Vec<u8>, march: &March) -> Result<(), NoMemory>
     ensures { OnOk result (out.new.items ≡ out.old.items ++ march_line march.now) }
 {
-    put(out, b"march ")?;
-    put(out, print_march(alloc, march)?.as_slice())?;
-    put(out, b"\n")
+    put_between(out, b"march ", print_march(alloc, march)?.as_slice(), b"\n")
 }
 
 /// The lines of the report, one part behind another.

@@ -46,21 +46,25 @@ five_parts before o1 o2 o3 o4 out x y z u v e f g h i = three_parts before o3 o4
 pub four_parts : (before o1 o2 o3 out x y z u : List ℕ) → o1 ≡ before ++ x → o2 ≡ o1 ++ y → o3 ≡ o2 ++ z → out ≡ o3 ++ u → out ≡ before ++ (x ++ y ++ z ++ u)
 four_parts before o1 o2 o3 out x y z u e f g h = two_parts before o3 out (x ++ y ++ z) u (three_parts before o1 o2 o3 x y z e f g) h
 
--- the text of an expression with an operator of two operands: its blanks are written with the operator
-pub infix_written : (before o1 o2 o3 out : List ℕ) (o : BinOp) (x y : Expression) → o1 ≡ before ++ (codes "(" ++ expression_text x) → o2 ≡ o1 ++ (codes " " ++ mark_text (binary_mark o) ++ codes " ") → o3 ≡ o2 ++ expression_text y → out ≡ o3 ++ codes ")" → out ≡ before ++ expression_text (Infixed o x y)
-infix_written before o1 o2 o3 out o x y e f g h =
-    let mark : List ℕ = mark_text (binary_mark o) in
-    let first : List ℕ = codes "(" ++ expression_text x in
-    four_parts before o1 o2 o3 out first (codes " " ++ mark ++ codes " ") (expression_text y) (codes ")") e f g h
-    ∙ ap (λ (w : List ℕ). before ++ (w ++ expression_text y ++ codes ")")) (sym (append_assoc first (codes " " ++ mark) (codes " ")) ∙ ap (λ (w : List ℕ). w ++ codes " ") (sym (append_assoc first (codes " ") mark)))
+-- parts with a text between two others behind them
+pub behind_all : (m a x b : List ℕ) → m ++ (a ++ x ++ b) ≡ m ++ a ++ x ++ b
+behind_all m a x b = sym (append_assoc m (a ++ x) b) ∙ ap (λ (w : List ℕ). w ++ b) (sym (append_assoc m a x))
 
--- and that of a choice: each of its marks is written with the expression behind it
-pub choice_written : (before o1 o2 o3 out : List ℕ) (c x y : Expression) → o1 ≡ before ++ (codes "(" ++ expression_text c) → o2 ≡ o1 ++ (codes " ? " ++ expression_text x) → o3 ≡ o2 ++ (codes " : " ++ expression_text y) → out ≡ o3 ++ codes ")" → out ≡ before ++ expression_text (Conditional c x y)
-choice_written before o1 o2 o3 out c x y e f g h =
-    let first : List ℕ = codes "(" ++ expression_text c in
-    let second : List ℕ = codes " ? " ++ expression_text x in
-    four_parts before o1 o2 o3 out first second (codes " : " ++ expression_text y) (codes ")") e f g h
-    ∙ ap (λ (w : List ℕ). before ++ (w ++ codes ")")) (sym (append_assoc (first ++ second) (codes " : ") (expression_text y)) ∙ ap (λ (w : List ℕ). w ++ codes " : " ++ expression_text y) (sym (append_assoc first (codes " ? ") (expression_text x))))
+-- the text of an expression with an operator of two operands: each blank beside it is written with an operand
+pub infix_written : (before o1 o2 out : List ℕ) (o : BinOp) (x y : Expression) → o1 ≡ before ++ (codes "(" ++ expression_text x ++ codes " ") → o2 ≡ o1 ++ mark_text (binary_mark o) → out ≡ o2 ++ (codes " " ++ expression_text y ++ codes ")") → out ≡ before ++ expression_text (Infixed o x y)
+infix_written before o1 o2 out o x y e f g =
+    let mark : List ℕ = mark_text (binary_mark o) in
+    let first : List ℕ = codes "(" ++ expression_text x ++ codes " " in
+    three_parts before o1 o2 out first mark (codes " " ++ expression_text y ++ codes ")") e f g
+    ∙ ap (λ (w : List ℕ). before ++ w) (behind_all (first ++ mark) (codes " ") (expression_text y) (codes ")"))
+
+-- and that of a choice: each of its marks is written with the expression before it
+pub choice_written : (before o1 o2 out : List ℕ) (c x y : Expression) → o1 ≡ before ++ (codes "(" ++ expression_text c ++ codes " ? ") → o2 ≡ o1 ++ (expression_text x ++ codes " : ") → out ≡ o2 ++ (expression_text y ++ codes ")") → out ≡ before ++ expression_text (Conditional c x y)
+choice_written before o1 o2 out c x y e f g =
+    let first : List ℕ = codes "(" ++ expression_text c ++ codes " ? " in
+    let second : List ℕ = expression_text x ++ codes " : " in
+    three_parts before o1 o2 out first second (expression_text y ++ codes ")") e f g
+    ∙ ap (λ (w : List ℕ). before ++ w) (behind_all (first ++ second) [] (expression_text y) (codes ")") ∙ ap (λ (w : List ℕ). w ++ expression_text y ++ codes ")") (append-nil (first ++ second) ∙ behind_all first [] (expression_text x) (codes " : ") ∙ ap (λ (w : List ℕ). w ++ expression_text x ++ codes " : ") (append-nil first)))
 
 -- what was written, told of the value that the tree was found to be
 pub told : {T E A B : Type 0} (plainly : A → B) (text : B → List ℕ) (x y : A) (z : B) → x ≡ y → plainly y ≡ z → (r : Result T E) (before out : List ℕ) → OnOk r (out ≡ before ++ text z) → OnOk r (out ≡ before ++ text (plainly x))

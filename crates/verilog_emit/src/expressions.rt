@@ -1,42 +1,26 @@
 //! Expressions, with parentheses round each operator.
 ghost use Rattle.std.specs.Prelude.{◌≡◌, ℕ, ◌+◌, ◌++◌, OnOk, codes, map, true};
 ghost use Rattle.verilog_tree.specs.Plain.{plain, expressions, BitSelect, PartSelect};
-ghost use Rattle.verilog_tree.specs.Grammar.{binary_mark};
-ghost use Rattle.verilog_tree.specs.Tokens.{mark_text};
 ghost use Rattle.verilog_emit.specs.Printed.{expression_text, parts_text};
 
 use crate::writing::{put_literal, put_name, put_separator};
 use bist_bits::NoMemory;
-use bist_text::{put, put_decimal};
-use verilog_tree::{BinOp, Expr, Name, binary_text, unary_text};
+use bist_text::{put, put_number};
+use verilog_tree::{Expr, Name, binary_text, unary_text};
 
 fn put_bit(out: &mut Vec<u8>, name: &Name, place: u8) -> Result<(), NoMemory>
     ensures { OnOk result (out.new.items ≡ out.old.items ++ expression_text (BitSelect name.now.bytes place)) }
 {
     put_name(out, name)?;
-    put(out, b"[")?;
-    put_decimal(out, u64::from(place))?;
-    put(out, b"]")
+    put_number(out, b"[", u64::from(place), b"]")
 }
 
 fn put_part(out: &mut Vec<u8>, name: &Name, high: u8, low: u8) -> Result<(), NoMemory>
     ensures { OnOk result (out.new.items ≡ out.old.items ++ expression_text (PartSelect name.now.bytes high low)) }
 {
     put_name(out, name)?;
-    put(out, b"[")?;
-    put_decimal(out, u64::from(high))?;
-    put(out, b":")?;
-    put_decimal(out, u64::from(low))?;
-    put(out, b"]")
-}
-
-/// Appends an operator of two operands, with a blank before and behind it.
-fn put_operator(out: &mut Vec<u8>, op: BinOp) -> Result<(), NoMemory>
-    ensures { OnOk result (out.new.items ≡ out.old.items ++ (codes " " ++ mark_text (binary_mark op) ++ codes " ")) }
-{
-    put(out, b" ")?;
-    put(out, binary_text(op))?;
-    put(out, b" ")
+    put_number(out, b"[", u64::from(high), b":")?;
+    put_number(out, b"", u64::from(low), b"]")
 }
 
 /// Appends an expression.
@@ -49,50 +33,50 @@ pub fn put_expr(out: &mut Vec<u8>, x: &Expr) -> Result<(), NoMemory>
         Expr::Bit(name, place) => put_bit(out, name, *place),
         Expr::Part(name, high, low) => put_part(out, name, *high, *low),
         Expr::Lit(bits) => put_literal(out, *bits),
-        Expr::Concat(parts) => {
-            put(out, b"{")?;
-            put_parts(out, parts)?;
-            put(out, b"}")
-        }
+        Expr::Concat(parts) => put_parts(out, parts),
         Expr::Unary(op, a) => {
             put(out, b"(")?;
-            put_behind(out, unary_text(*op), a)?;
-            put(out, b")")
+            put_enclosed(out, unary_text(*op), a, b")")
         }
         Expr::Binary(op, a, b) => {
-            put_behind(out, b"(", a)?;
-            put_operator(out, *op)?;
-            put_expr(out, b)?;
-            put(out, b")")
+            put_enclosed(out, b"(", a, b" ")?;
+            put(out, binary_text(*op))?;
+            put_enclosed(out, b" ", b, b")")
         }
         Expr::Choose(c, a, b) => {
-            put_behind(out, b"(", c)?;
-            put_behind(out, b" ? ", a)?;
-            put_behind(out, b" : ", b)?;
-            put(out, b")")
+            put_enclosed(out, b"(", c, b" ? ")?;
+            put_enclosed(out, b"", a, b" : ")?;
+            put_enclosed(out, b"", b, b")")
         }
     }
 }
 
-/// Appends an expression behind a text.
+/// Appends an expression between two texts.
 #[cycle(put_expr)]
-fn put_behind(out: &mut Vec<u8>, before: &[u8], x: &Expr) -> Result<(), NoMemory>
-    ensures { OnOk result (out.new.items ≡ out.old.items ++ (before.now ++ expression_text (plain x.now))) }
+pub fn put_enclosed(
+    out: &mut Vec<u8>,
+    before: &[u8],
+    x: &Expr,
+    behind: &[u8],
+) -> Result<(), NoMemory>
+    ensures { OnOk result (out.new.items ≡ out.old.items ++ (before.now ++ expression_text (plain x.now) ++ behind.now)) }
 {
     put(out, before)?;
-    put_expr(out, x)
+    put_expr(out, x)?;
+    put(out, behind)
 }
 
-/// Appends the parts of a concatenation.
+/// Appends a concatenation.
 #[cycle(put_expr)]
 fn put_parts(out: &mut Vec<u8>, parts: &[Expr]) -> Result<(), NoMemory>
-    ensures { OnOk result (out.new.items ≡ out.old.items ++ parts_text true (expressions (map plain parts.now))) }
+    ensures { OnOk result (out.new.items ≡ out.old.items ++ (codes "{" ++ parts_text true (expressions (map plain parts.now)) ++ codes "}")) }
 {
+    put(out, b"{")?;
     let mut first = true;
     for part in parts {
         put_separator(out, first)?;
         put_expr(out, part)?;
         first = false;
     }
-    Ok(())
+    put(out, b"}")
 }

@@ -1,39 +1,46 @@
 //! Ports and items.
-ghost use Rattle.std.specs.Prelude.{◌≡◌, ℕ, ◌+◌, ◌++◌, OnOk, codes, map, true};
+ghost use Rattle.std.specs.Prelude.{◌≡◌, ℕ, ◌+◌, ◌++◌, OnOk, map, true};
 ghost use Rattle.verilog_tree.specs.Fits.{item_fits, items_fit};
 ghost use Rattle.verilog_tree.specs.Plain.{plain_stmts, plain_item, plain_port, AlwaysItem};
-ghost use Rattle.verilog_emit.specs.Printed.{line, range_text, direction_text, port_text, comma, ports_text, item_text, items_text};
+ghost use Rattle.verilog_emit.specs.Printed.{margin, line, range_text, direction_text, port_text, comma, ports_text, item_text, items_text};
 
-use crate::statements::{put_assignment, put_stmts};
-use crate::writing::{put_line, put_margin, put_name, put_name_line, put_range};
+use crate::statements::{put_assigned, put_stmts};
+use crate::writing::{put_line, put_name_line, put_range};
 use bist_bits::NoMemory;
-use bist_text::put;
-use verilog_tree::{Decl, Dir, Item, Name, Port, Stmt};
+use bist_text::{put, put_between};
+use verilog_tree::{Dir, Item, Name, Port, Stmt};
 
-fn direction_text(dir: Dir) -> &'static [u8]
-    ensures { result.now ≡ direction_text dir }
+/// The words of a port, behind the blanks before its line.
+fn port_words(dir: Dir) -> &'static [u8]
+    ensures { result.now ≡ margin 1 ++ direction_text dir }
 {
     match dir {
-        Dir::Input => b"input ",
-        Dir::Output => b"output ",
-        Dir::OutputReg => b"output reg ",
+        Dir::Input => b"  input ",
+        Dir::Output => b"  output ",
+        Dir::OutputReg => b"  output reg ",
     }
 }
 
-fn put_port(out: &mut Vec<u8>, port: &Port) -> Result<(), NoMemory>
-    ensures { OnOk result (out.new.items ≡ out.old.items ++ port_text (plain_port port.now)) }
+/// Appends the line of a declaration or a port, behind its words.
+fn put_declared(
+    out: &mut Vec<u8>,
+    words: &[u8],
+    width: u8,
+    name: &Name,
+    behind: &[u8],
+) -> Result<(), NoMemory>
+    ensures { OnOk result (out.new.items ≡ out.old.items ++ (words.now ++ range_text width ++ name.now.bytes ++ behind.now)) }
 {
-    put(out, direction_text(port.dir))?;
-    put_range(out, port.width)?;
-    put_name(out, &port.name)
+    put(out, words)?;
+    put_range(out, width)?;
+    put_between(out, b"", name.as_str().as_bytes(), behind)
 }
 
 fn put_port_line(out: &mut Vec<u8>, port: &Port, last: bool) -> Result<(), NoMemory>
     ensures { OnOk result (out.new.items ≡ out.old.items ++ line 1 (port_text (plain_port port.now) ++ comma last)) }
 {
-    put_margin(out, 1)?;
-    put_port(out, port)?;
-    put(out, if last { b"\n" } else { b",\n" })
+    let behind: &[u8] = if last { b"\n" } else { b",\n" };
+    put_declared(out, port_words(port.dir), port.width, &port.name, behind)
 }
 
 /// Appends the ports, a line each.
@@ -46,17 +53,6 @@ pub fn put_ports(out: &mut Vec<u8>, ports: &[Port]) -> Result<(), NoMemory>
         left = behind;
     }
     Ok(())
-}
-
-/// Appends a declaration, behind its word.
-fn put_declared(out: &mut Vec<u8>, word: &[u8], declared: &Decl) -> Result<(), NoMemory>
-    ensures { OnOk result (out.new.items ≡ out.old.items ++ line 1 (word.now ++ range_text declared.now.width ++ declared.now.name.bytes ++ codes ";")) }
-{
-    put_margin(out, 1)?;
-    put(out, word)?;
-    put_range(out, declared.width)?;
-    put_name(out, &declared.name)?;
-    put(out, b";\n")
 }
 
 #[tactic(auto, using(crate::proofs::Bodies::block_shallow))]
@@ -74,9 +70,15 @@ fn put_item(out: &mut Vec<u8>, item: &Item) -> Result<(), NoMemory>
     ensures { OnOk result (out.new.items ≡ out.old.items ++ item_text (plain_item item.now)) }
 {
     match item {
-        Item::Wire(declared) => put_declared(out, b"wire ", declared),
-        Item::Reg(declared) => put_declared(out, b"reg ", declared),
-        Item::Assign(name, x) => put_assignment(out, 1, b"assign ", name, b" = ", x),
+        Item::Wire(declared) => put_declared(
+            out,
+            b"  wire ",
+            declared.width,
+            &declared.name,
+            b";\n",
+        ),
+        Item::Reg(declared) => put_declared(out, b"  reg ", declared.width, &declared.name, b";\n"),
+        Item::Assign(name, x) => put_assigned(out, 1, b"assign ", name, b" = ", x),
         Item::Always(clock, body) => put_always(out, clock, body),
     }
 }

@@ -6,10 +6,10 @@ ghost use Rattle.verilog_emit.specs.Printed.{line, expression_text, statement_te
 ghost use Rattle.verilog_emit.specs.inner.Printed.{else_text, default_text};
 ghost use Rattle.verilog_emit.specs.inner.Shallow.{statement_shallow, statements_shallow, arms_shallow};
 
-use crate::expressions::put_expr;
-use crate::writing::{put_labels, put_line, put_margin, put_name};
+use crate::expressions::put_enclosed;
+use crate::writing::{put_labels, put_line, put_margin};
 use bist_bits::{Bits, NoMemory};
-use bist_text::put;
+use bist_text::{put, put_between};
 use verilog_tree::{Arm, Expr, Name, Stmt};
 
 /// Appends a line of an expression between these texts.
@@ -23,29 +23,24 @@ fn put_expr_line(
     ensures { OnOk result (out.new.items ≡ out.old.items ++ line depth (before.now ++ expression_text (plain x.now) ++ behind.now)) }
 {
     put_margin(out, depth)?;
-    put(out, before)?;
-    put_expr(out, x)?;
-    put(out, behind)?;
+    put_enclosed(out, before, x, behind)?;
     put(out, b"\n")
 }
 
-/// Appends a line that gives a name an expression.
-pub fn put_assignment(
+/// Appends the line that gives a net an expression, behind a word and with a mark between the two.
+pub fn put_assigned(
     out: &mut Vec<u8>,
     depth: u8,
-    before: &[u8],
+    word: &[u8],
     name: &Name,
-    sign: &[u8],
+    mark: &[u8],
     x: &Expr,
 ) -> Result<(), NoMemory>
-    ensures { OnOk result (out.new.items ≡ out.old.items ++ line depth (before.now ++ name.now.bytes ++ sign.now ++ expression_text (plain x.now) ++ codes ";")) }
+    ensures { OnOk result (out.new.items ≡ out.old.items ++ line depth (word.now ++ name.now.bytes ++ mark.now ++ expression_text (plain x.now) ++ codes ";")) }
 {
     put_margin(out, depth)?;
-    put(out, before)?;
-    put_name(out, name)?;
-    put(out, sign)?;
-    put_expr(out, x)?;
-    put(out, b";\n")
+    put_between(out, word, name.as_str().as_bytes(), mark)?;
+    put_enclosed(out, b"", x, b";\n")
 }
 
 /// Appends the line that begins an arm.
@@ -64,7 +59,7 @@ fn put_stmt(out: &mut Vec<u8>, depth: u8, s: &Stmt) -> Result<(), NoMemory>
     ensures { OnOk result (out.new.items ≡ out.old.items ++ statement_text depth (plain_stmt s.now)) }
 {
     match s {
-        Stmt::Set(name, x) => put_assignment(out, depth, b"", name, b" <= ", x),
+        Stmt::Set(name, x) => put_assigned(out, depth, b"", name, b" <= ", x),
         Stmt::If(c, a, b) => {
             put_expr_line(out, depth, b"if (", c, b") begin")?;
             put_stmts(out, depth + 1, a)?;

@@ -3,7 +3,7 @@ ghost use Rattle.std.specs.Prelude.{◌≡◌, ℕ, ◌+◌, ◌<◌, ◌≤◌,
 ghost use Rattle.verilog_emit.specs.Printed.{margin, line, literal_text, range_text, separator, labels_text};
 
 use bist_bits::{Bits, NoMemory};
-use bist_text::{put, put_decimal, put_word};
+use bist_text::{put, put_between, put_number, put_word};
 use verilog_tree::Name;
 
 /// Appends the blanks before a line: two for each depth.
@@ -43,9 +43,7 @@ pub fn put_name_line(
     ensures { OnOk result (out.new.items ≡ out.old.items ++ line depth (before.now ++ name.now.bytes ++ behind.now)) }
 {
     put_margin(out, depth)?;
-    put(out, before)?;
-    put_name(out, name)?;
-    put(out, behind)?;
+    put_between(out, before, name.as_str().as_bytes(), behind)?;
     put(out, b"\n")
 }
 
@@ -53,8 +51,7 @@ pub fn put_name_line(
 pub fn put_literal(out: &mut Vec<u8>, x: Bits) -> Result<(), NoMemory>
     ensures { OnOk result (out.new.items ≡ out.old.items ++ literal_text x) }
 {
-    put_decimal(out, u64::from(x.width()))?;
-    put(out, b"'h")?;
+    put_number(out, b"", u64::from(x.width()), b"'h")?;
     put_word(out, x.width(), x.value())
 }
 
@@ -88,7 +85,5 @@ pub fn put_range(out: &mut Vec<u8>, width: u8) -> Result<(), NoMemory>
     if width <= 1 {
         return Ok(());
     }
-    put(out, b"[")?;
-    put_decimal(out, u64::from(width - 1))?;
-    put(out, b":0] ")
+    put_number(out, b"[", u64::from(width - 1), b":0] ")
 }

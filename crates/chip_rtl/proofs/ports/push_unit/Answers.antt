@@ -1,11 +1,9 @@
-use Rattle.std.proofs.Common.{refl}
-use Rattle.chip_rtl.proofs.Building.{ports_told, last_port}
+use Rattle.verilog_tree.specs.Plain.{plain_port}
+use Rattle.chip_rtl.specs.inner.Parts.{unit_port}
+use Rattle.chip_rtl.proofs.Appended.{extended, same_five}
 use Rattle.chip_rtl.proofs.ports.push_unit.Goals as goal
 
 pub returns : goal.returns
 returns c =
-    ports_told _ _ _ _ _ _ _ _ _ _ c.numbered.ensures c.bits-bits.ensures.value c.in_ok-push_port.ensures
-    (ports_told _ _ _ _ _ _ _ _ _ _ c.numbered-2.ensures refl c.in_ok-push_port-2.ensures
-    (ports_told _ _ _ _ _ _ _ _ _ _ c.numbered-3.ensures refl c.in_ok-push_port-3.ensures
-    (ports_told _ _ _ _ _ _ _ _ _ _ c.numbered-4.ensures c.address_bits-address.ensures.value c.in_ok-push_port-4.ensures
-    (last_port c.push_port-5.result _ _ _ _ _ _ _ c.numbered-5.ensures c.bits-bits.ensures.value c.push_port-5.ensures))))
+    extended plain_port c.extend_from_slice.result _ _ _ (unit_port c.args.i c.args.memory.now) c.extend_from_slice.ensures.items
+    (same_five _ _ _ _ _ _ _ _ _ _ (rw c.bits.ensures.value at c.unit_port.ensures) c.unit_port-2.ensures c.unit_port-3.ensures (rw c.address_bits.ensures.value at c.unit_port-4.ensures) (rw c.bits-2.ensures.value at c.unit_port-5.ensures))

@@ -2,12 +2,12 @@ use Rattle.std.proofs.Common.{ap, ◌∙◌, ◌++◌}
 use Rattle.std.specs.Prelude.{codes}
 use Rattle.dynamic_core.specs.declared.item.Item.TheVariants.{Dyn}
 use Rattle.report.specs.Report.{printed_item, class_text, item_class}
-use Rattle.report.proofs.ReportLines.{three_parts}
+use Rattle.report.proofs.ReportLines.{item_written}
 use Rattle.report.proofs.judged_lines.write_dyn.Goals as goal
 
 pub returns : goal.returns
 returns c =
-    three_parts c.put-3.result c.args.out.now.items (printed_item (Dyn c.args.prim.now)) (codes " ") c.class_name.result.now (class_text (item_class (Dyn c.args.prim.now)))
-    c.put.new.out.items c.put-2.new.out.items c.put-3.new.out.items
-    (c.in_ok-put.ensures.ok ∙ ap (λ l. c.args.out.now.items ++ l) (c.as_bytes.ensures.value ∙ c.as_str.ensures.value ∙ c.print_dyn.ensures.form)) c.in_ok-put-2.ensures.ok
-    c.put-3.ensures.ok (c.class_name.ensures ∙ ap class_text c.dyn_class.ensures)
+    let prim = c.args.prim.now in
+    item_written c.put.result c.args.out.now.items c.args.verdict.now (printed_item (Dyn prim)) c.class_name.result.now (class_text (item_class (Dyn prim))) c.put_between.new.out.items c.put.new.out.items
+    (c.in_ok-put_between.ensures ∙ ap (λ l. c.args.out.now.items ++ (c.args.verdict.now ++ l ++ codes " ")) (c.as_bytes.ensures.value ∙ c.as_str.ensures.value ∙ c.print_dyn.ensures.form)) c.put.ensures.ok
+    (c.class_name.ensures ∙ ap class_text c.dyn_class.ensures)
