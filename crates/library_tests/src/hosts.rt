@@ -22,7 +22,7 @@ fn keeps_the_last_text(host: &mut MemHost) -> Result<bool, HostFault> {
 fn memory_host_holds_what_was_written_and_said(rt: HostRuntime) {
     let mut host = MemHost::new(rt.alloc());
     assert!(rt; host.put("a", b"first").is_ok());
-    assert!(rt; keeps_the_last_text(&mut host) == Ok(true));
+    assert!(rt; matches!(keeps_the_last_text(&mut host), Ok(true)));
 }
 
 fn is_whole(host: &mut FailHost) -> Result<bool, HostFault> {
@@ -42,8 +42,10 @@ fn the_next_writes_fail(host: &mut FailHost) -> Result<bool, HostFault> {
     let written = host.write_file("a", b"other");
     host.say(b"said")?;
     let said = host.say(b"lost");
-    let lost = Err(HostFault::WriteFailed);
-    Ok(written == lost && said == lost)
+    Ok(
+        matches!(written, Err(HostFault::WriteFailed))
+            && matches!(said, Err(HostFault::WriteFailed)),
+    )
 }
 
 /// Whether the half of a text is in the file, and only the first words were said.
@@ -60,8 +62,8 @@ fn failing_host(alloc: Global) -> Result<FailHost, AllocError> {
 #[test]
 fn listed_calls_fail(rt: HostRuntime) -> Result<(), Fail> {
     let mut host = failing_host(rt.alloc())?;
-    assert!(rt; the_second_call_fails(&mut host) == Ok(true));
-    assert!(rt; the_next_writes_fail(&mut host) == Ok(true));
+    assert!(rt; matches!(the_second_call_fails(&mut host), Ok(true)));
+    assert!(rt; matches!(the_next_writes_fail(&mut host), Ok(true)));
     assert!(rt; holds_what_came_before(host.inner()));
     Ok(())
 }

@@ -1,10 +1,10 @@
 //! The answers of the readers as text: what is read, as it is printed or counted, or why the text is refused.
 
+use crate::module_answers::{design_answer, free_answer, module_answer, rule_answer, worth_answer};
+use crate::port_checks::port_answer;
 use crate::refusals::refusal_text;
-use crate::rows::{Row, read_rows};
-use bist_bits::NoMemory;
+use crate::rows::Text;
 use bist_endings::{ChipRefusal, Refusal};
-use bist_text::{put, put_decimal, put_hex};
 use chip_desc::{ChipDesc, ChipFault, ChipUnit, read_chip};
 use dynamic_core::{Item, print_dyn, read_items, read_list};
 use fault_syntax::{FaultFault, print_prim, read_prim};
@@ -14,10 +14,10 @@ use memory_desc::{Memory, MemoryFault, print_memory, read_memory};
 use std::alloc::Global;
 
 /// A number in decimal.
-fn number_text(alloc: Global, number: usize) -> Option<Vec<u8>> {
-    let mut text = Vec::new(alloc);
-    put_decimal(&mut text, number as u64).ok()?;
-    Some(text)
+pub(crate) fn number_text(alloc: Global, number: u64) -> Option<Vec<u8>> {
+    let mut text = Text::new(alloc);
+    text.put_number(number);
+    text.finish()
 }
 
 fn march_refusal(alloc: Global, fault: MarchFault) -> Option<Vec<u8>> {
@@ -59,7 +59,7 @@ fn fault_refusal(alloc: Global, fault: FaultFault) -> Option<Vec<u8>> {
 /// How many primitives a list of static ones has.
 fn list_answer(alloc: Global, text: &[u8]) -> Option<Vec<u8>> {
     match read_list(alloc, text) {
-        Ok(prims) => number_text(alloc, prims.len()),
+        Ok(prims) => number_text(alloc, prims.len() as u64),
         Err(fault) => fault_refusal(alloc, fault),
     }
 }
@@ -67,7 +67,7 @@ fn list_answer(alloc: Global, text: &[u8]) -> Option<Vec<u8>> {
 /// How many primitives of both kinds a list has.
 fn items_answer(alloc: Global, text: &[u8]) -> Option<Vec<u8>> {
     match read_items(alloc, text) {
-        Ok(items) => number_text(alloc, items.len()),
+        Ok(items) => number_text(alloc, items.len() as u64),
         Err(fault) => fault_refusal(alloc, fault),
     }
 }
@@ -112,45 +112,46 @@ fn memory_answer(alloc: Global, text: &[u8]) -> Option<Vec<u8>> {
     }
 }
 
-/// Appends the latency, the polarity with all its digits, and the pause of a memory, a blank behind each.
-fn put_timing(answer: &mut Vec<u8>, memory: &Memory) -> Result<(), NoMemory> {
-    put_decimal(answer, u64::from(memory.latency()))?;
-    put(answer, b" ")?;
-    put_hex(answer, memory.polarity(), 16)?;
-    put(answer, b" ")?;
-    put_decimal(answer, u64::from(memory.pause()))?;
-    put(answer, b" ")
+/// The latency, the polarity with all its digits, the pause, and the printed form of a memory.
+fn timed_form(alloc: Global, memory: &Memory) -> Option<Vec<u8>> {
+    let mut answer = Text::new(alloc);
+    answer.put_number(u64::from(memory.latency()));
+    answer.put(b" ");
+    answer.put_long(memory.polarity());
+    answer.put(b" ");
+    answer.put_number(u64::from(memory.pause()));
+    answer.put(b"\n");
+    answer.put(&memory_form(alloc, memory)?);
+    answer.finish()
 }
 
-/// The latency, the polarity with all its digits, the pause, and the printed form of a memory.
 fn timed_answer(alloc: Global, text: &[u8]) -> Option<Vec<u8>> {
-    let memory = read_memory(text).ok()?;
-    let mut answer = Vec::new(alloc);
-    put_timing(&mut answer, &memory).ok()?;
-    put(&mut answer, &memory_form(alloc, &memory)?).ok()?;
-    Some(answer)
+    match read_memory(text) {
+        Ok(memory) => timed_form(alloc, &memory),
+        Err(fault) => refusal_text(alloc, Refusal::Memory(fault)),
+    }
 }
 
 /// Appends a unit: its weight and its files, each behind a blank.
-fn put_unit(answer: &mut Vec<u8>, unit: &ChipUnit) -> Option<()> {
-    put(answer, b" ").ok()?;
-    put_decimal(answer, u64::from(unit.weight)).ok()?;
-    for file in [unit.march.as_str(), unit.memory.as_str()] {
-        put(answer, b" ").ok()?;
-        put(answer, file.as_bytes()).ok()?;
-    }
-    Some(())
+fn put_unit(answer: &mut Text, unit: &ChipUnit) {
+    answer.put(b" ");
+    answer.put_number(u64::from(unit.weight));
+    answer.put(b" ");
+    answer.put(unit.march.as_bytes());
+    answer.put(b" ");
+    answer.put(unit.memory.as_bytes());
 }
 
 /// The name of a chip, its budget and its units.
 fn chip_form(alloc: Global, chip: &ChipDesc) -> Option<Vec<u8>> {
-    let mut answer = chip.name().as_bytes().to_vec(alloc).ok()?;
-    put(&mut answer, b" ").ok()?;
-    put_decimal(&mut answer, u64::from(chip.budget())).ok()?;
+    let mut answer = Text::new(alloc);
+    answer.put(chip.name().as_bytes());
+    answer.put(b" ");
+    answer.put_number(u64::from(chip.budget()));
     for unit in chip.units() {
-        put_unit(&mut answer, unit)?;
+        put_unit(&mut answer, unit);
     }
-    Some(answer)
+    answer.finish()
 }
 
 fn chip_answer(alloc: Global, text: &[u8]) -> Option<Vec<u8>> {
@@ -163,7 +164,7 @@ fn chip_answer(alloc: Global, text: &[u8]) -> Option<Vec<u8>> {
 /// How many units a chip has.
 fn units_answer(alloc: Global, text: &[u8]) -> Option<Vec<u8>> {
     match read_chip(text) {
-        Ok(chip) => number_text(alloc, chip.units().len()),
+        Ok(chip) => number_text(alloc, chip.units().len() as u64),
         Err(fault) => chip_refusal(alloc, fault),
     }
 }
@@ -174,46 +175,31 @@ fn march_name_answer(alloc: Global, text: &[u8]) -> Option<Vec<u8>> {
         return b"refused".to_vec(alloc).ok();
     };
     match chip.units() {
-        [unit] => number_text(alloc, unit.march.len()),
+        [unit] => number_text(alloc, unit.march.len() as u64),
         _ => None,
     }
 }
 
-/// The answer to the question of a row.
-fn answer_of(alloc: Global, row: &Row<'_>) -> Option<Vec<u8>> {
-    let text = row.text.as_slice();
-    match row.kind {
-        b"march" => march_answer(alloc, text),
-        b"is_march" => is_march_answer(alloc, text),
-        b"prim" => prim_answer(alloc, text),
-        b"list" => list_answer(alloc, text),
-        b"items" => items_answer(alloc, text),
-        b"item" => item_answer(alloc, text),
-        b"memory" => memory_answer(alloc, text),
-        b"timed" => timed_answer(alloc, text),
-        b"chip" => chip_answer(alloc, text),
-        b"units" => units_answer(alloc, text),
-        b"march_name" => march_name_answer(alloc, text),
+/// The answer to a question about a text.
+pub(crate) fn answer_of(alloc: Global, kind: &str, text: &[u8]) -> Option<Vec<u8>> {
+    match kind {
+        "march" => march_answer(alloc, text),
+        "is_march" => is_march_answer(alloc, text),
+        "prim" => prim_answer(alloc, text),
+        "list" => list_answer(alloc, text),
+        "items" => items_answer(alloc, text),
+        "item" => item_answer(alloc, text),
+        "memory" => memory_answer(alloc, text),
+        "timed" => timed_answer(alloc, text),
+        "chip" => chip_answer(alloc, text),
+        "units" => units_answer(alloc, text),
+        "march_name" => march_name_answer(alloc, text),
+        "module" => module_answer(alloc, text),
+        "free" => free_answer(alloc, text),
+        "design" => design_answer(alloc, text),
+        "rule" => rule_answer(alloc, text),
+        "worth" => worth_answer(alloc, text),
+        "ports" => port_answer(alloc, text),
         _ => None,
     }
-}
-
-fn is_right(alloc: Global, row: &Row<'_>) -> bool {
-    match answer_of(alloc, row) {
-        Some(answer) => answer.as_slice() == row.answer.as_slice(),
-        None => false,
-    }
-}
-
-/// The number of the first row that is wrong, where one is; 0 where a line can't be read.
-pub fn first_wrong(alloc: Global, text: &[u8]) -> Option<usize> {
-    let Some(rows) = read_rows(alloc, text) else {
-        return Some(0);
-    };
-    for row in &rows {
-        if !is_right(alloc, row) {
-            return Some(row.number);
-        }
-    }
-    None
 }

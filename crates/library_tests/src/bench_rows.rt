@@ -1,34 +1,35 @@
 //! Worked examples of the commands that clock the module of a memory against boxes.
 
-use crate::rows::first_wrong;
+use crate::commands::first_wrong;
+use crate::rows::are_right;
 
-static BENCH: &[u8] = br"# BOXES
+static BENCH: &str = r"# BOXES
 m = $c
 d = $16
-boxes sound 65536 sound 16
+boxes sound:65536 sound:16
 > bench m d
 0+1 fail 0 done 162
-boxes zeros 65536
+boxes zeros:65536
 1 fail 1 done 162 cycle 50 expected 1 returned 0
-boxes ones 65536
+boxes ones:65536
 1 fail 1 done 162 cycle 18 expected 0 returned 1
-boxes count 65536
+boxes count:65536
 1 fail 1 done 162 cycle 18 expected 0 returned 1
-boxes no_fit 65536
+boxes no_fit:65536
 9+1 no memory
-boxes sound 8
+boxes sound:8
 11+1 device V1 words 16 room 8
-boxes sound 15 sound 16
+boxes sound:15 sound:16
 11+2 device V1 words 16 room 15
 boxes
 11 device V4
 d = memory 2\nname buf0\nwords 16\nbits 1\nlatency 3\n
-boxes sound 65536
+boxes sound:65536
 0 fail 0 done 164
-boxes zeros 65536
+boxes zeros:65536
 1 fail 1 done 164 cycle 52 expected 1 returned 0
 d = memory 1\nname large_one\nwords 65536\nbits 64\n
-boxes sound 65536
+boxes sound:65536
 12+1 too long 4587523
 m = $ss
 12+1 too long 10092547
@@ -54,22 +55,22 @@ boxes
 > benchfault m d <0w0/1/-> 2.0 3.0
 13 misfit aggressor
 d = memory 1\nname buf8\nwords 8\nbits 8\n
-boxes sound 65536
+boxes sound:65536
 > benchfault m d <0w1;0/1/-> 6.3 1.5
 1 fail 1 done 322 cycle 54 expected 00 returned 20
 > benchfault m d <0w1;0/1/-> 6.3 6.5
 11+1 device V2
-boxes sound 7
+boxes sound:7
 > benchfault m d <0w1;0/1/-> 6.3 8.5
 11+1 device V2
-boxes sound 8
+boxes sound:8
 > benchfault m d <0w1;0/1/-> 6.8 1.5
 11+1 device V2
-boxes sound 7
+boxes sound:7
 > benchfault m d <0w1;0/1/-> 6.3 1.5
 11+1 device V1 words 8 room 7
 d = memory 2\nname buf8\nwords 8\nbits 8\nlatency 3\npolarity ff\n
-boxes sound 65536
+boxes sound:65536
 1 fail 1 done 324 cycle 56 expected ff returned df
 m = $retention
 d = memory 2\nname buf0\nwords 16\nbits 1\npause 4\n
@@ -94,20 +95,20 @@ d = memory 2\nname two\nwords 2\nbits 1\npause 5\n
 # ALL
 m = $c
 d = $16
-boxes sound 65536 zeros 65536 count 65536
+boxes sound:65536 zeros:65536 count:65536
 > benchall m d
 1 boxes 3 failing 2
-boxes sound 65536 zeros 8 count 65536
+boxes sound:65536 zeros:8 count:65536
 11+3 device V1 words 16 room 8
-boxes sound 65536 no_fit 65536 count 65536
+boxes sound:65536 no_fit:65536 count:65536
 9+2 no memory
-boxes sound 65536 sound 16
+boxes sound:65536 sound:16
 0 boxes 2 failing 0
 boxes
 11 device V4
 ";
 
-static FILES: &[u8] = br"# FILES
+static FILES: &str = r"# FILES
 m = {any(w1);any(r1)}
 d = memory 1\nname buf0\nwords 2\nbits 1\n
 z =
@@ -116,7 +117,7 @@ z =
 | assign en=1'd0;assign we=1'd0;assign addr=1'd0;assign wdata=1'd0;
 | assign done=1'd0;assign fail=1'd0;
 | endmodule
-boxes sound 65536
+boxes sound:65536
 > benchfile z m d
 0 fail 0 done none cycle 4 expected 1 returned 0
 m = {any(w0);any(r0)}
@@ -169,19 +170,19 @@ l = SF
 > compile m d l v r
 0 total 2 covered 2 escapes 0
 z = @v
-boxes sound 65536
+boxes sound:65536
 > benchfile z m d
 0 fail 0 done 162
-boxes zeros 65536
+boxes zeros:65536
 1 fail 1 done 162 cycle 50 expected 1 returned 0
 ";
 
 #[test]
 fn boxes(rt: HostRuntime) {
-    assert_eq!(rt; first_wrong(rt.alloc(), BENCH), None);
+    are_right(&rt, first_wrong(rt.alloc(), BENCH));
 }
 
 #[test]
 fn modules_of_files(rt: HostRuntime) {
-    assert_eq!(rt; first_wrong(rt.alloc(), FILES), None);
+    are_right(&rt, first_wrong(rt.alloc(), FILES));
 }

@@ -1,8 +1,9 @@
 //! Worked examples of `sim`.
 
-use crate::rows::first_wrong;
+use crate::commands::first_wrong;
+use crate::rows::are_right;
 
-static SIM: &[u8] = br"# ARRAYS
+static SIM: &str = r"# ARRAYS
 m = {any(w0)\63{;any(r0)\}}
 > sim m <0/1/-> 2 00 none 0 \64{u\}
 1 caught element 1 address 0 operation 0
@@ -67,5 +68,5 @@ m = \1048577{\s\}
 
 #[test]
 fn arrays(rt: HostRuntime) {
-    assert_eq!(rt; first_wrong(rt.alloc(), SIM), None);
+    are_right(&rt, first_wrong(rt.alloc(), SIM));
 }

@@ -1,8 +1,9 @@
 //! Texts of chip files, and what the reader says of them.
 
-use crate::answers::first_wrong;
+use crate::questions::first_wrong;
+use crate::rows::are_right;
 
-static CHIPS: &[u8] = br"# REFUSED LINES
+static CHIPS: &str = r"# REFUSED LINES
 
 chip C2:
 chip C2:  \t\r\n# a comment\n
@@ -66,5 +67,5 @@ march_name refused: chip 1\nname c\nbudget 1\nunit 1 \256{m\} n\n
 
 #[test]
 fn chips(rt: HostRuntime) {
-    assert_eq!(rt; first_wrong(rt.alloc(), CHIPS), None);
+    are_right(&rt, first_wrong(rt.alloc(), CHIPS));
 }

@@ -1,8 +1,9 @@
 //! Worked examples of `compile` and `make`.
 
-use crate::rows::first_wrong;
+use crate::commands::first_wrong;
+use crate::rows::are_right;
 
-static COMPILE: &[u8] = br"# COMPILED
+static COMPILE: &str = r"# COMPILED
 m = $c
 d = $16
 l = SF
@@ -39,7 +40,7 @@ r ==
 | total 2 covered 1 escapes 1
 ";
 
-static MAKE: &[u8] = br"# MADE
+static MAKE: &str = r"# MADE
 > make 1 a b c v r
 1 made elements 6 operations 10 commands 210 covered 672 of 1008
 > make 0 a b c v r
@@ -71,10 +72,10 @@ r ends total 1008 covered 1008 escapes 0\n
 
 #[test]
 fn compilations(rt: HostRuntime) {
-    assert_eq!(rt; first_wrong(rt.alloc(), COMPILE), None);
+    are_right(&rt, first_wrong(rt.alloc(), COMPILE));
 }
 
 #[test]
 fn made_inputs(rt: HostRuntime) {
-    assert_eq!(rt; first_wrong(rt.alloc(), MAKE), None);
+    are_right(&rt, first_wrong(rt.alloc(), MAKE));
 }

@@ -1,8 +1,9 @@
 //! Worked examples of `judge`, and refusals of other commands.
 
-use crate::rows::first_wrong;
+use crate::commands::first_wrong;
+use crate::rows::are_right;
 
-static JUDGE: &[u8] = br"# JUDGE
+static JUDGE: &str = r"# JUDGE
 m = $w0
 l = CFir\nCFdr\nCFrd\nCFtr\nCFst
 > judge m l r
@@ -219,5 +220,5 @@ r ==
 
 #[test]
 fn verdicts(rt: HostRuntime) {
-    assert_eq!(rt; first_wrong(rt.alloc(), JUDGE), None);
+    are_right(&rt, first_wrong(rt.alloc(), JUDGE));
 }

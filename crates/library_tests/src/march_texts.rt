@@ -1,10 +1,11 @@
 //! Texts of marches, and what the reader says of them.
 
-use crate::answers::first_wrong;
+use crate::questions::first_wrong;
+use crate::rows::are_right;
 use march_core::MarchFault;
 use march_syntax::read_march;
 
-static MARCHES: &[u8] = br"# REFUSED
+static MARCHES: &str = r"# REFUSED
 
 march M3:
 march M3: {}
@@ -76,7 +77,7 @@ march {del;any(w0)}: del;*(w0)
 
 #[test]
 fn marches(rt: HostRuntime) {
-    assert_eq!(rt; first_wrong(rt.alloc(), MARCHES), None);
+    are_right(&rt, first_wrong(rt.alloc(), MARCHES));
 }
 
 /// Whether each first part of the text is refused as truncated.

@@ -1,12 +1,13 @@
 //! Texts of modules, and what the readers say of them.
 
-use crate::answers::first_wrong;
+use crate::questions::first_wrong;
+use crate::rows::are_right;
 use crate::trees::name;
 use std::alloc::Global;
 use verilog_read::read_module;
 use verilog_tree::{Module, ReadFault, fits};
 
-static TEXTS: &[u8] = br"# CUT
+static TEXTS: &str = r"# CUT
 
 module L2:
 module L2:  \t\r\n\x0c
@@ -77,26 +78,104 @@ module L4 byte 71: module \65{a\}(
 # READ, AND HOW THEIR MODULES ARE PRINTED
 
 module: module t(input [3:0]a,output y);assign y=(&a[2:1]);endmodule
-= module t(\n  input [3:0] a,\n  output y\n);\n  assign y = (&a[2:1]);\nendmodule\n
+| module t(
+|   input [3:0] a,
+|   output y
+| );
+|   assign y = (&a[2:1]);
+| endmodule
 module: /**/module t (input wire[03:0]a , output wire y);assign y = ((&a[2:1]));endmodule//
-= module t(\n  input [3:0] a,\n  output y\n);\n  assign y = (&a[2:1]);\nendmodule\n
+| module t(
+|   input [3:0] a,
+|   output y
+| );
+|   assign y = (&a[2:1]);
+| endmodule
 module: module t(output[3:0]y);wire x;reg[1:0]p,q;assign y=(x?04'b0_001:4'hF);endmodule /* end */
-= module t(\n  output [3:0] y\n);\n  wire x;\n  reg [1:0] p;\n  reg [1:0] q;\n  assign y = (x ? 4'h1 : 4'hf);\nendmodule\n
+| module t(
+|   output [3:0] y
+| );
+|   wire x;
+|   reg [1:0] p;
+|   reg [1:0] q;
+|   assign y = (x ? 4'h1 : 4'hf);
+| endmodule
 module: module t(output[3:0]y);wire x;reg[1:0]p,q;assign y=(x?4'd1:4'o17);endmodule\n
-= module t(\n  output [3:0] y\n);\n  wire x;\n  reg [1:0] p;\n  reg [1:0] q;\n  assign y = (x ? 4'h1 : 4'hf);\nendmodule\n
+| module t(
+|   output [3:0] y
+| );
+|   wire x;
+|   reg [1:0] p;
+|   reg [1:0] q;
+|   assign y = (x ? 4'h1 : 4'hf);
+| endmodule
 module: module f(input clk,input d,output reg q);always@(posedge clk)begin if(d)if(d)q<=1'd0;else q<=1'h1;begin case(d)1'b0,1'o1:q<=1'd0;default q<=1'd1;endcase end end endmodule
-= module f(\n  input clk,\n  input d,\n  output reg q\n);\n  always @(posedge clk) begin\n    if (d) begin\n      if (d) begin\n        q <= 1'h0;\n      end else begin\n        q <= 1'h1;\n      end\n    end\n    case (d)\n      1'h0, 1'h1: begin\n        q <= 1'h0;\n      end\n      default: begin\n        q <= 1'h1;\n      end\n    endcase\n  end\nendmodule\n
+| module f(
+|   input clk,
+|   input d,
+|   output reg q
+| );
+|   always @(posedge clk) begin
+|     if (d) begin
+|       if (d) begin
+|         q <= 1'h0;
+|       end else begin
+|         q <= 1'h1;
+|       end
+|     end
+|     case (d)
+|       1'h0, 1'h1: begin
+|         q <= 1'h0;
+|       end
+|       default: begin
+|         q <= 1'h1;
+|       end
+|     endcase
+|   end
+| endmodule
 # Each form of an item, a statement and an expression.
 module: module m2(input clk,input [7:0]d,output reg [7:0]q,output p);wire [2:0]w;reg r;assign p=(d[3]?1'h1:w[0]);assign w={d[7:6],r};always@(posedge clk)begin if((!d))begin if(r)q<=(q+8'hf);end else r<=1'h0;case(w)3'h0,3'h5:q<=d;default r<=r;endcase case(w)3'h0,3'h5:q<=d;endcase end endmodule
-= module m2(\n  input clk,\n  input [7:0] d,\n  output reg [7:0] q,\n  output p\n);\n  wire [2:0] w;\n  reg r;\n  assign p = (d[3] ? 1'h1 : w[0]);\n  assign w = {d[7:6], r};\n  always @(posedge clk) begin\n    if ((!d)) begin\n      if (r) begin\n        q <= (q + 8'h0f);\n      end\n    end else begin\n      r <= 1'h0;\n    end\n    case (w)\n      3'h0, 3'h5: begin\n        q <= d;\n      end\n      default: begin\n        r <= r;\n      end\n    endcase\n    case (w)\n      3'h0, 3'h5: begin\n        q <= d;\n      end\n    endcase\n  end\nendmodule\n
+| module m2(
+|   input clk,
+|   input [7:0] d,
+|   output reg [7:0] q,
+|   output p
+| );
+|   wire [2:0] w;
+|   reg r;
+|   assign p = (d[3] ? 1'h1 : w[0]);
+|   assign w = {d[7:6], r};
+|   always @(posedge clk) begin
+|     if ((!d)) begin
+|       if (r) begin
+|         q <= (q + 8'h0f);
+|       end
+|     end else begin
+|       r <= 1'h0;
+|     end
+|     case (w)
+|       3'h0, 3'h5: begin
+|         q <= d;
+|       end
+|       default: begin
+|         r <= r;
+|       end
+|     endcase
+|     case (w)
+|       3'h0, 3'h5: begin
+|         q <= d;
+|       end
+|     endcase
+|   end
+| endmodule
 ";
 
 #[test]
 fn texts(rt: HostRuntime) {
-    assert_eq!(rt; first_wrong(rt.alloc(), TEXTS), None);
+    are_right(&rt, first_wrong(rt.alloc(), TEXTS));
 }
 
-static FREE: &[u8] = br"# EXPRESSIONS, AND THE SAME WITH EACH OPERATOR IN PARENTHESES OF ITS OWN
+static FREE: &str = r"# EXPRESSIONS, AND THE SAME WITH EACH OPERATOR IN PARENTHESES OF ITS OWN
 
 groups (a|(b&c)): a|b&c
 groups ((a-b)-c): a-b-c
@@ -104,9 +183,9 @@ groups (a-(b-c)): a-(b-c)
 groups a: (a)
 groups a: ((a))
 groups: a?b:c?a:b
-= (a?b:(c?a:b))
+| (a?b:(c?a:b))
 groups: a?b?c:a:b
-= (a?(b?c:a):b)
+| (a?(b?c:a):b)
 groups (a||(b&&(c|(a^(b&(c==(a<(b<<(c+a))))))))): a||b&&c|a^b&c==a<b<<c+a
 groups (((((((((a+b)<<c)<a)==b)&c)^a)|b)&&c)||a): a+b<<c<a==b&c^a|b&&c||a
 groups ((a<<b)>>c): a<<b>>c
@@ -127,16 +206,16 @@ groups ((~a)+b): ~a+b
 groups (!(a|b)): !(a|b)
 groups ((a|b)&{a,(b-c)}): (a|b)&{a,b-c}
 groups: {a?b:c,a}
-= {(a?b:c),a}
+| {(a?b:c),a}
 groups: d[3]+d[2:1]
-= (d[3]+d[2:1])
+| (d[3]+d[2:1])
 groups: a||b?c:a||b
-= ((a||b)?c:(a||b))
+| ((a||b)?c:(a||b))
 groups: (a?b:c)?a:b
-= ((a?b:c)?a:b)
+| ((a?b:c)?a:b)
 groups (4'b0101^{a,b,c,a}): 4'b0101^{a,b,c,a}
 groups: !a?~b:^c
-= ((!a)?(~b):(^c))
+| ((!a)?(~b):(^c))
 
 # REFUSED
 
@@ -189,7 +268,7 @@ read_back: {\15{any(w0,r0,w1,r1,w0,r0,w1,r1,w0,r0,w1,r1,w0,r0,w1,r1);\}up(w0,r0,
 
 #[test]
 fn texts_whose_operators_bind_by_precedence(rt: HostRuntime) {
-    assert_eq!(rt; first_wrong(rt.alloc(), FREE), None);
+    are_right(&rt, first_wrong(rt.alloc(), FREE));
 }
 
 static EMPTY: &[u8] = b"module m(input clk);endmodule";

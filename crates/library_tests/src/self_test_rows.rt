@@ -1,6 +1,6 @@
 //! Self-test modules: one printed whole, and ports that are wrong.
 
-use crate::answers::written;
+use crate::module_answers::written;
 use crate::trees::port;
 use march_syntax::read_march;
 use memory_desc::{Memory, MemoryFault, read_memory};

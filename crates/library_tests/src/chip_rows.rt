@@ -1,8 +1,9 @@
 //! Worked examples of `chip`.
 
-use crate::rows::first_wrong;
+use crate::commands::first_wrong;
+use crate::rows::are_right;
 
-static CHIP: &[u8] = br"# TESTED
+static CHIP: &str = r"# TESTED
 s = chip 1\nname soc\nbudget 5\nunit 3 c.m m16\nunit 3 c.m m8\nunit 2 mats.m t2\n
 c.m = $c
 mats.m = $mats
@@ -100,5 +101,5 @@ w = \1048577{\s\}
 
 #[test]
 fn chips(rt: HostRuntime) {
-    assert_eq!(rt; first_wrong(rt.alloc(), CHIP), None);
+    are_right(&rt, first_wrong(rt.alloc(), CHIP));
 }

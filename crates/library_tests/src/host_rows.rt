@@ -1,8 +1,9 @@
 //! Commands over a host whose calls fail.
 
-use crate::rows::first_wrong;
+use crate::commands::first_wrong;
+use crate::rows::are_right;
 
-static FAILING: &[u8] = br"# CALLS
+static FAILING: &str = r"# CALLS
 m = $mats
 fails 1
 > sim m <0w1/0/-> 2 00 none 0 uud
@@ -62,5 +63,5 @@ r == $r
 
 #[test]
 fn failing_calls(rt: HostRuntime) {
-    assert_eq!(rt; first_wrong(rt.alloc(), FAILING), None);
+    are_right(&rt, first_wrong(rt.alloc(), FAILING));
 }

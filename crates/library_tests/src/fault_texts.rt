@@ -1,8 +1,9 @@
 //! Texts of primitives and of lists, and what the readers say of them.
 
-use crate::answers::first_wrong;
+use crate::questions::first_wrong;
+use crate::rows::are_right;
 
-static FAULTS: &[u8] = br"# REFUSED PRIMITIVES
+static FAULTS: &str = r"# REFUSED PRIMITIVES
 
 prim F3 line 1: <0r0/0/0>
 prim F3 line 1: <1r0/0/0>
@@ -46,10 +47,10 @@ prim <0w1;0/1/->: <0w1 ;0/1/->
 
 #[test]
 fn primitives_and_lists(rt: HostRuntime) {
-    assert_eq!(rt; first_wrong(rt.alloc(), FAULTS), None);
+    are_right(&rt, first_wrong(rt.alloc(), FAULTS));
 }
 
-static PAUSES: &[u8] = br"# REFUSED PRIMITIVES
+static PAUSES: &str = r"# REFUSED PRIMITIVES
 
 prim F3 line 1: <0t/0/->
 prim F3 line 1: <0t/1/0>
@@ -85,10 +86,10 @@ list F4 line 2: DRF\n<0tt/1/->
 
 #[test]
 fn pauses_in_primitives(rt: HostRuntime) {
-    assert_eq!(rt; first_wrong(rt.alloc(), PAUSES), None);
+    are_right(&rt, first_wrong(rt.alloc(), PAUSES));
 }
 
-static DYNAMIC: &[u8] = br"# REFUSED
+static DYNAMIC: &str = r"# REFUSED
 
 items F3 line 1: <0w1r0/0/1>
 items F3 line 1: <0w1r1/1/1>
@@ -131,5 +132,5 @@ item <1;0r0r0/1/0>: <1; r0 r0/1/0>
 
 #[test]
 fn dynamic_primitives(rt: HostRuntime) {
-    assert_eq!(rt; first_wrong(rt.alloc(), DYNAMIC), None);
+    are_right(&rt, first_wrong(rt.alloc(), DYNAMIC));
 }

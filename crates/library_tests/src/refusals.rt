@@ -6,7 +6,7 @@ use bist_host::MemHost;
 use std::alloc::Global;
 
 /// The code of a refusal and what stands behind it: `M1 byte 6`.
-pub fn refusal_text(alloc: Global, refusal: Refusal) -> Option<Vec<u8>> {
+pub(crate) fn refusal_text(alloc: Global, refusal: Refusal) -> Option<Vec<u8>> {
     let mut host = MemHost::new(alloc);
     conclude(alloc, &[], &mut host, Err(refusal));
     let (said, _) = cut(host.said(), b'\n');

@@ -1,15 +1,15 @@
 //! The answers to rows on modules, as text: what is read, what a module does, or why it is refused.
 
-use crate::port_checks::port_answer;
-use bist_bits::NoMemory;
+use crate::answers::number_text;
+use crate::refusals::refusal_text;
+use crate::rows::{Text, cut};
 use bist_endings::{Refusal, VerilogRefusal};
-use bist_text::{decimal, hex, put};
+use bist_text::hex;
 use march_syntax::read_march;
 use memory_desc::read_memory;
 use rtl_gen::generate;
 use std::alloc::Global;
 use std::str;
-use text_tests::{Row, cut, read_rows, refusal_text};
 use verilog_cycle::{Design, elaborate};
 use verilog_emit::emit;
 use verilog_read::{read_free, read_module};
@@ -49,7 +49,7 @@ fn form(alloc: Global, module: &Module) -> Option<Vec<u8>> {
 }
 
 /// The printed form of a module.
-fn module_answer(alloc: Global, text: &[u8]) -> Option<Vec<u8>> {
+pub(crate) fn module_answer(alloc: Global, text: &[u8]) -> Option<Vec<u8>> {
     match read_module(alloc, text) {
         Ok(module) => form(alloc, &module),
         Err(fault) => read_refusal(alloc, fault),
@@ -57,7 +57,7 @@ fn module_answer(alloc: Global, text: &[u8]) -> Option<Vec<u8>> {
 }
 
 /// Whether operators that bind by precedence give a module.
-fn free_answer(alloc: Global, text: &[u8]) -> Option<Vec<u8>> {
+pub(crate) fn free_answer(alloc: Global, text: &[u8]) -> Option<Vec<u8>> {
     match read_free(alloc, text) {
         Ok(_) => b"yes".to_vec(alloc).ok(),
         Err(fault) => read_refusal(alloc, fault),
@@ -78,12 +78,12 @@ pub(crate) fn designed(alloc: Global, text: &[u8]) -> Option<Design> {
     design_of(alloc, text)?.ok()
 }
 
-fn design_answer(alloc: Global, text: &[u8]) -> Option<Vec<u8>> {
+pub(crate) fn design_answer(alloc: Global, text: &[u8]) -> Option<Vec<u8>> {
     tree_refusal(alloc, design_of(alloc, text)?.err()?)
 }
 
 /// The code of the rule that a module breaks, or `ok`.
-fn rule_answer(alloc: Global, text: &[u8]) -> Option<Vec<u8>> {
+pub(crate) fn rule_answer(alloc: Global, text: &[u8]) -> Option<Vec<u8>> {
     let module = read_module(alloc, text).ok()?;
     if !formed(&module) {
         return None;
@@ -95,7 +95,7 @@ fn rule_answer(alloc: Global, text: &[u8]) -> Option<Vec<u8>> {
 }
 
 /// What the output of a module is worth where its two inputs are 1.
-fn worth(alloc: Global, text: &[u8]) -> Option<u64> {
+pub(crate) fn worth_answer(alloc: Global, text: &[u8]) -> Option<Vec<u8>> {
     let module = read_free(alloc, text).ok()?;
     if !formed(&module) || check(alloc, &module).is_err() {
         return None;
@@ -106,7 +106,7 @@ fn worth(alloc: Global, text: &[u8]) -> Option<u64> {
         return None;
     }
     match *design.outputs(&inputs) {
-        [y] => Some(y),
+        [y] => number_text(alloc, y),
         _ => None,
     }
 }
@@ -114,48 +114,43 @@ fn worth(alloc: Global, text: &[u8]) -> Option<u64> {
 static MEMORY: &[u8] = b"memory 1\nname buffer\nwords 1000\nbits 64\n";
 
 /// Whether the module of a march is read as it is written.
-fn is_read_back(alloc: Global, march: &[u8]) -> Option<bool> {
+pub(crate) fn is_read_back(alloc: Global, march: &[u8]) -> Option<bool> {
     let march = read_march(march).ok()?;
     let memory = read_memory(MEMORY).ok()?;
     let form = written(alloc, &generate(alloc, &march, &memory).ok()?)?;
     is_free_form(alloc, &form, &form)
 }
 
-static PARTS: [&[u8]; 5] = [
-    b"module m(input clk,input a,input b,input c,input [3:0] d,output y,output reg q);assign y=",
-    b";always@(posedge clk)begin if(",
-    b")q<=",
-    b";case(",
-    b")1'b1:q<=a;default q<=b;endcase end endmodule",
-];
-
 /// The text that has an expression in each of the four places where one may stand.
-fn around(alloc: Global, x: &[u8]) -> Result<Vec<u8>, NoMemory> {
-    let mut text = Vec::new(alloc);
-    for part in &PARTS[..4] {
-        put(&mut text, part)?;
-        put(&mut text, x)?;
-    }
-    put(&mut text, PARTS[4])?;
-    Ok(text)
+fn around(alloc: Global, x: &[u8]) -> Option<Vec<u8>> {
+    let mut text = Text::new(alloc);
+    text.put(
+        b"module m(input clk,input a,input b,input c,input [3:0] d,output y,output reg q);assign y=",
+    );
+    text.put(x);
+    text.put(b";always@(posedge clk)begin if(");
+    text.put(x);
+    text.put(b")q<=");
+    text.put(x);
+    text.put(b";case(");
+    text.put(x);
+    text.put(b")1'b1:q<=a;default q<=b;endcase end endmodule");
+    text.finish()
 }
 
 /// Whether the reader makes the same of both, and of the second what the reader of full parentheses makes of it.
-fn are_alike(alloc: Global, free: &[u8], whole: &[u8]) -> Option<bool> {
-    let text = around(alloc, free).ok()?;
-    let same = around(alloc, whole).ok()?;
+pub(crate) fn are_alike(alloc: Global, free: &[u8], whole: &[u8]) -> Option<bool> {
+    let text = around(alloc, free)?;
+    let same = around(alloc, whole)?;
     let form = whole_form(alloc, &same)?;
     Some(is_free_form(alloc, &text, &form)? && is_free_form(alloc, &same, &form)?)
 }
 
 /// Hexadecimal numbers with blanks between them.
 fn numbers(alloc: Global, words: &str) -> Option<Vec<u64>> {
-    let words: Vec<&str> = words.split(' ').collect(alloc).ok()?;
     let mut numbers = Vec::new(alloc);
-    for word in &words {
-        if !word.is_empty() {
-            numbers.push(hex(word.as_bytes())?).ok()?;
-        }
+    for word in words.split_whitespace() {
+        numbers.push(hex(word.as_bytes())?).ok()?;
     }
     Some(numbers)
 }
@@ -196,45 +191,9 @@ fn shows_all(alloc: Global, design: &mut Design, cycles: &str) -> Option<bool> {
 
 /// Whether a module runs so: the values of its registers, and in each cycle the inputs, in port order without the
 /// clock, and then the values of the output ports.
-fn runs_so(alloc: Global, text: &[u8], run: &[u8]) -> Option<bool> {
+pub(crate) fn runs_so(alloc: Global, text: &[u8], run: &[u8]) -> Option<bool> {
     let (registers, cycles) = str::from_utf8(run).ok()?.split_once(';')?;
     let mut design = designed(alloc, text)?;
     set_registers(alloc, &mut design, registers)?;
     shows_all(alloc, &mut design, cycles)
-}
-
-/// The answer to the question of a row.
-fn answer_of(alloc: Global, kind: &[u8], text: &[u8]) -> Option<Vec<u8>> {
-    match kind {
-        b"module" => module_answer(alloc, text),
-        b"free" => free_answer(alloc, text),
-        b"design" => design_answer(alloc, text),
-        b"rule" => rule_answer(alloc, text),
-        b"ports" => port_answer(alloc, text),
-        _ => None,
-    }
-}
-
-/// Whether the text of a row is answered so.
-fn is_right(alloc: Global, row: &Row<'_>) -> Option<bool> {
-    match row.kind {
-        b"read_back" => is_read_back(alloc, &row.text),
-        b"groups" => are_alike(alloc, &row.text, &row.answer),
-        b"run" => runs_so(alloc, &row.text, &row.answer),
-        b"worth" => Some(worth(alloc, &row.text)? == u64::from(decimal(&row.answer)?)),
-        kind => Some(answer_of(alloc, kind, &row.text)?.as_slice() == row.answer.as_slice()),
-    }
-}
-
-/// The number of the first row that is wrong, where one is; 0 where a line can't be read.
-pub(crate) fn first_wrong(alloc: Global, text: &[u8]) -> Option<usize> {
-    let Some(rows) = read_rows(alloc, text) else {
-        return Some(0);
-    };
-    for row in &rows {
-        if is_right(alloc, row) != Some(true) {
-            return Some(row.number);
-        }
-    }
-    None
 }

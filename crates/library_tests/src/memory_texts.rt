@@ -1,8 +1,9 @@
 //! Texts of memory descriptions, and what the reader says of them.
 
-use crate::answers::first_wrong;
+use crate::questions::first_wrong;
+use crate::rows::are_right;
 
-static MEMORIES: &[u8] = br"# REFUSED LINES
+static MEMORIES: &str = r"# REFUSED LINES
 
 memory D2:
 memory D2:  \t\r\n# a comment\n
@@ -56,11 +57,25 @@ memory D6 rows a0 a1: memory 1\nname b\nwords 4\nbits 1\nscramble a0 = p0\nscram
 # PRINTED
 
 memory : memory 01\n words 8 # eight\nname buf8\nbits\t8\n
-= memory 1\nname buf8\nwords 8\nbits 8\nbackgrounds 00 aa cc f0\n
+| memory 1
+| name buf8
+| words 8
+| bits 8
+| backgrounds 00 aa cc f0
 memory : memory 1\nname s4\nwords 4\nbits 1\nscramble a1=p1^1#\nscramble a0 = p1 ^ p0 ^ 0\n
-= memory 1\nname s4\nwords 4\nbits 1\nscramble a0 = p0 ^ p1\nscramble a1 = p1 ^ 1\nbackgrounds 0\n
+| memory 1
+| name s4
+| words 4
+| bits 1
+| scramble a0 = p0 ^ p1
+| scramble a1 = p1 ^ 1
+| backgrounds 0
 memory : memory 1\nname n\nwords 3\nbits 5\nbackgrounds 1F 000 1f\n
-= memory 1\nname n\nwords 3\nbits 5\nbackgrounds 1f 00 1f\n
+| memory 1
+| name n
+| words 3
+| bits 5
+| backgrounds 1f 00 1f
 
 # REFUSED IN VERSION 2
 
@@ -84,16 +99,46 @@ memory D1 line 5 byte 0: memory 1\nname two\nwords 2\nbits 1\npause 1\n
 # LATENCY, POLARITY, PAUSE AND PRINTED FORM IN VERSION 2
 
 timed : memory 2\nname two\nwords 2\nbits 1\nlatency 1\npolarity 0\npause 1\n
-= 1 0000000000000000 1 memory 1\nname two\nwords 2\nbits 1\nbackgrounds 0\n
+| 1 0000000000000000 1
+| memory 1
+| name two
+| words 2
+| bits 1
+| backgrounds 0
 timed : memory 2\npolarity F\nlatency 3\nname n\nwords 3\nbits 8\nbackgrounds 0\n
-= 3 000000000000000f 1 memory 2\nname n\nwords 3\nbits 8\nlatency 3\npolarity 0f\npause 1\nbackgrounds 00\n
+| 3 000000000000000f 1
+| memory 2
+| name n
+| words 3
+| bits 8
+| latency 3
+| polarity 0f
+| pause 1
+| backgrounds 00
 timed : memory 2\npause 500 # cycles\nname n\nwords 2\nbits 1\nscramble a0 = p0 ^ 1\n
-= 1 0000000000000000 500 memory 2\nname n\nwords 2\nbits 1\nlatency 1\npolarity 0\npause 500\nscramble a0 = p0 ^ 1\nbackgrounds 0\n
+| 1 0000000000000000 500
+| memory 2
+| name n
+| words 2
+| bits 1
+| latency 1
+| polarity 0
+| pause 500
+| scramble a0 = p0 ^ 1
+| backgrounds 0
 timed : memory 2\nname b23456789_123456789_123456789_123456789_12345678\nwords 65536\nbits 64\nlatency 4\npolarity FFFFFFFFFFFFFFFF\npause 65535\nbackgrounds FFFFFFFFFFFFFFFF 8000000000000000 ffffffff 0 aaaaaaaaaaaaaaaa CCCCCCCCCCCCCCCC 1 f0f0f0f0f0f0f0f0\n
-= 4 ffffffffffffffff 65535 memory 2\nname b23456789_123456789_123456789_123456789_12345678\nwords 65536\nbits 64\nlatency 4\npolarity ffffffffffffffff\npause 65535\nbackgrounds ffffffffffffffff 8000000000000000 00000000ffffffff 0000000000000000 aaaaaaaaaaaaaaaa cccccccccccccccc 0000000000000001 f0f0f0f0f0f0f0f0\n
+| 4 ffffffffffffffff 65535
+| memory 2
+| name b23456789_123456789_123456789_123456789_12345678
+| words 65536
+| bits 64
+| latency 4
+| polarity ffffffffffffffff
+| pause 65535
+| backgrounds ffffffffffffffff 8000000000000000 00000000ffffffff 0000000000000000 aaaaaaaaaaaaaaaa cccccccccccccccc 0000000000000001 f0f0f0f0f0f0f0f0
 ";
 
 #[test]
 fn memories(rt: HostRuntime) {
-    assert_eq!(rt; first_wrong(rt.alloc(), MEMORIES), None);
+    are_right(&rt, first_wrong(rt.alloc(), MEMORIES));
 }

@@ -1,8 +1,9 @@
 //! Worked examples of `check`.
 
-use crate::rows::first_wrong;
+use crate::commands::first_wrong;
+use crate::rows::are_right;
 
-static CHECK: &[u8] = br"# CONTROLLERS
+static CHECK: &str = r"# CONTROLLERS
 m = $w0
 d = $two
 $f =
@@ -108,5 +109,5 @@ z = @v
 
 #[test]
 fn checks(rt: HostRuntime) {
-    assert_eq!(rt; first_wrong(rt.alloc(), CHECK), None);
+    are_right(&rt, first_wrong(rt.alloc(), CHECK));
 }

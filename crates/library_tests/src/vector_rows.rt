@@ -1,8 +1,9 @@
 //! Worked examples of `vectors`, and of how its files are refused.
 
-use crate::rows::first_wrong;
+use crate::commands::first_wrong;
+use crate::rows::are_right;
 
-static VECTORS: &[u8] = br"# VECTORS
+static VECTORS: &str = r"# VECTORS
 $each = w 0 0\nw 1 0\nw 2 0\nw 3 0\nw 4 0\nw 5 0\nw 6 0\nw 7 0\nw 8 0\nw 9 0\nw 10 0\nw 11 0\nw 12 0\nw 13 0\nw 14 0\nw 15 0\nr 0 0\nr 1 0\nr 2 0\nr 3 0\nr 4 0\nr 5 0\nr 6 0\nr 7 0\nr 8 0\nr 9 0\nr 10 0\nr 11 0\nr 12 0\nr 13 0\nr 14 0\nr 15 0\n
 m = $long
 d = memory 2\nname buf0\nwords 16\nbits 1\nlatency 1\npause 64515\n
@@ -51,5 +52,5 @@ d = memory 2\nname buf0\nwords 16\nbits 1\nlatency 2\npause 64515\n
 
 #[test]
 fn vectors(rt: HostRuntime) {
-    assert_eq!(rt; first_wrong(rt.alloc(), VECTORS), None);
+    are_right(&rt, first_wrong(rt.alloc(), VECTORS));
 }

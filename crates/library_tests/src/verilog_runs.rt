@@ -1,10 +1,12 @@
 //! Modules, what they do cycle by cycle, and the rules that they break.
 
-use crate::answers::{designed, first_wrong};
+use crate::module_answers::designed;
+use crate::questions::first_wrong;
+use crate::rows::are_right;
 use std::test::Fail;
 use verilog_cycle::Design;
 
-static RUNS: &[u8] = br"# REGISTERS
+static RUNS: &str = r"# REGISTERS
 
 # Both take the value from before the edge.
 run 1 0; > 1 0; > 0 1; > 1 0: module m(input clk,output reg a,output reg b);always@(posedge clk)begin a<=b;b<=a;end endmodule
@@ -68,7 +70,7 @@ rule N9: module m(input clk,input [3:0]a,input [2:0]b,output [3:0]y);endmodule
 
 #[test]
 fn runs_and_rules(rt: HostRuntime) {
-    assert_eq!(rt; first_wrong(rt.alloc(), RUNS), None);
+    are_right(&rt, first_wrong(rt.alloc(), RUNS));
 }
 
 fn three_nets(design: &Design, first: &str, second: &str, third: &str) -> bool {
