@@ -112,7 +112,7 @@ def long_march(elements: int) -> str:
 
 
 def want(*tools: object) -> None:
-    """Skips a measure where a tool, or a program that `rt ci` builds, is missing."""
+    """Skips a measure where a tool is missing."""
     lacking = [str(tool) for tool in tools if shutil.which(str(tool)) is None]
     if lacking:
         raise Skipped(f"{', '.join(lacking)} is missing")
