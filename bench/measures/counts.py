@@ -74,7 +74,7 @@ def selftest(folder: pathlib.Path) -> list[Figure]:
 
 
 def gate(folder: pathlib.Path) -> list[Figure]:
-    """Every proof, test and wrong body from nothing, in minutes of a processor; calm is what it costs at the best pace of a loop beside it."""
+    """Every proof, test and wrong body from nothing, in minutes of a processor; calm is what it costs where a loop beside it runs at its best."""
     log = ROOT / "build" / "gate.log"
     log.parent.mkdir(exist_ok=True)
     # what it says can be read meanwhile
