@@ -20,7 +20,12 @@ pub fn put_between(
 }
 
 /// Appends a number in decimal, without leading zeros, between two texts.
-pub fn put_number(out: &mut Vec<u8>, before: &[u8], n: u64, behind: &[u8]) -> Result<(), NoMemory>
+pub fn put_number_between(
+    out: &mut Vec<u8>,
+    before: &[u8],
+    n: u64,
+    behind: &[u8],
+) -> Result<(), NoMemory>
     ensures { OnOk result (out.new.items ≡ out.old.items ++ (before.now ++ decimal n ++ behind.now)) }
 {
     put(out, before)?;

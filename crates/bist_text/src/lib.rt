@@ -27,7 +27,7 @@ mod reserved_words;
 mod text_lines;
 mod writing;
 
-pub use between::{put_between, put_number};
+pub use between::{put_between, put_number_between};
 pub use byte_set::ByteSet;
 pub use cursors::Cursor;
 pub use identifiers::{begins_identifier, in_identifier, is_identifier};

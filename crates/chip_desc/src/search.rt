@@ -128,7 +128,7 @@ pub fn field<'a>(bytes: &'a [u8], wanted: Key, field: ChipField) -> Result<State
 }
 
 /// The refusal of a line that is sought.
-fn fault_at(line: usize, sought: Sought) -> ChipFault
+fn fault_of(sought: Sought, line: usize) -> ChipFault
     ensures { result ≡ fault_of sought line }
 {
     match sought {
@@ -143,7 +143,7 @@ pub fn check_none(bytes: &[u8], sought: Sought) -> Result<(), ChipFault>
     ensures { result ≡ checked (at_line (fault_of sought) (find (is_sought sought (statements (text_lines bytes.now))) (statements (text_lines bytes.now)))) }
 {
     match first_line(bytes, sought) {
-        Some(line) => Err(fault_at(line, sought)),
+        Some(line) => Err(fault_of(sought, line)),
         None => Ok(()),
     }
 }

@@ -10,7 +10,7 @@ use dynamic_core::{Item, print_dyn, read_items, read_list};
 use fault_syntax::{FaultFault, print_prim, read_prim};
 use march_core::MarchFault;
 use march_syntax::{print_march, read_march};
-use memory_desc::{Memory, MemoryFault, print_memory, read_memory};
+use memory_desc::{Memory, print_memory, read_memory};
 use std::alloc::Global;
 
 /// A number in decimal.

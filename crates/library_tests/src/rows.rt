@@ -105,6 +105,7 @@ impl Text {
     /// Appends further copies of the piece, until there are so many.
     fn repeat(&mut self, alloc: Global) {
         let Some((_, piece)) = self.bytes.split_at_checked(self.begin) else {
+            self.whole = false;
             return;
         };
         match piece.to_vec(alloc) {

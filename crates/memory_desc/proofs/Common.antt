@@ -12,7 +12,7 @@ pub use Rattle.std.proofs.lemmas.List.{get_or-set_other, get_or-set_same, length
 pub use Rattle.std.proofs.lemmas.List.Folds.{find-append, list_all-append}
 pub use Rattle.std.proofs.lemmas.Nat.{pow_pos, xor_comm, xor_lt}
 pub use Rattle.std.proofs.lemmas.Nat.Bits.{bit_at-lt, bit_at-pow_same, shr_and_one}
-pub use Rattle.std.proofs.lemmas.Result.{err_from_is_err_and}
+pub use Rattle.std.proofs.lemmas.Result.{err_from_is_err_and, on_ok_weaker}
 pub use Rattle.std.specs.Char.{digit_value, is_newline}
 pub use Rattle.std.specs.Int.{bit_at, from_bool, is_power_of_two}
 pub use Rattle.std.specs.Int.Bits.{xor_assoc, xor_shifted, xor_zero_l, xor_zero_r}
@@ -38,7 +38,7 @@ pub use Rattle.bist_text.specs.Lines.{TextLine, lines_from, lines_left, lines_of
 pub use Rattle.bist_text.specs.Numbers.{hex_digits, word_text}
 pub use Rattle.bist_text.specs.ReservedWords.{is_among, reserved_words}
 pub use Rattle.bist_text.specs.declared.keyed_lines.Class.TheVariants.{Number}
-pub use Rattle.bist_text.specs.keyed.Parts.{by_byte, by_item, byte_of, end_of, ends_with, fits_of, remark_of, spaced, word_of}
+pub use Rattle.bist_text.specs.keyed.Parts.{by_byte, by_item, byte_of, end_of, fits_of, remark_of, spaced, word_of}
 pub use Rattle.bist_text.specs.keyed.Reading.{Read, onward, stuck, took}
 pub use Rattle.bist_text.specs.keyed.Texts.{checked, walk}
 pub use Rattle.memory_desc.specs.Described.{AreOfMemory, IsScrambling, described}
@@ -55,7 +55,7 @@ pub use Rattle.memory_desc.specs.declared.content.Subject.{Subject}
 pub use Rattle.memory_desc.specs.declared.content.Version.TheVariants.{One, Two}
 pub use Rattle.memory_desc.specs.declared.fault.MemoryFault.{MemoryFault}
 pub use Rattle.memory_desc.specs.declared.fault.MemoryFault.TheVariants.{Missing, Repeated, ScrambleNeedsPowerOfTwo, Singular}
-pub use Rattle.memory_desc.specs.inner.Heard.{IsWhole, argument_of, backgrounds_of, heard, items_after, items_in, hex_word_of, is_caret, is_l, keys_in, keys_of, listed_of, log_end_of, log_of, marked_term_of, next_term_of, next_word_of, row_from_of, row_of, spaced_word_of, term_of, version_at, words_of}
+pub use Rattle.memory_desc.specs.inner.Heard.{IsWhole, argument_of, heard, items_after, items_in, hex_word_of, is_caret, is_l, keys_in, keys_of, listed_of, log_of, marked_term_of, next_term_of, next_word_of, spaced_word_of, term_of, version_at, words_of}
 pub use Rattle.memory_desc.specs.inner.Met.{MayBeMet, MayHave}
 pub use Rattle.memory_desc.specs.inner.Printed.{Adds, further}
 pub use Rattle.memory_desc.specs.inner.Seeking.{is_sought}

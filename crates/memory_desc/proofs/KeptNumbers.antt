@@ -1,5 +1,5 @@
 -- Numbers of which the first ascend: a search in both parts finds a number just where it is one of them.
-use Rattle.memory_desc.proofs.Common.{Bool, Contains, Err, IsTrue, List, MatchResult, MayHave, Ok, Result, [], ap, ap₂, arith, at_bool, cases_lt, drop, eq-eqb, eqb-true, false, get_or, get_or_default_zero, inl, inr, le_antisymm, length, length-append, list_any, nat_eq, refill, refl, subst, sym, take, take-append_seam, take-length, true, ℕ, ◌++◌, ◌+◌, ◌<◌, ◌==◌, ◌||◌, ◌↔◌, ◌∙◌, ◌∷◌, ◌≡◌, ◌≤◌}
+use Rattle.memory_desc.proofs.Common.{Bool, Contains, Err, IsTrue, List, MatchResult, MayHave, Ok, Result, [], ap, ap₂, arith, at_bool, cases_lt, drop, eq-eqb, eqb-true, false, get_or, get_or_default_zero, inl, inr, length, length-append, list_any, nat_eq, refill, refl, subst, sym, take, take-append_seam, take-length, true, ℕ, ◌++◌, ◌+◌, ◌<◌, ◌==◌, ◌||◌, ◌↔◌, ◌∙◌, ◌∷◌, ◌≡◌, ◌≤◌}
 use Rattle.std.proofs.lemmas.Cmp.{nat_eq_equiv}
 use Rattle.std.proofs.lemmas.List.Elements.{Contains-get_or, Contains-append_left, Contains-append_right, Contains-append_cases}
 use Rattle.std.proofs.lemmas.List.Sorted.{searched, length_permutation, Contains-permutation, IsNonDecreasingBy-from_sort}
@@ -61,12 +61,6 @@ stays_kept old more new number e p n (inl h) =
     let same = length_permutation more new p in
     let longer : length more ≡ length old + 1 = ap length e ∙ length-append old (number ∷ []) in
     inl (omega (arith, h, same, longer))
-
-pub never_met : (items : List ℕ) (number : ℕ) → length items ≤ 65536 → false ≡ (length items == 65536) → (Contains items number → IsTrue false) → MayHave items number → ⊥
-never_met items number fits room out (inl h) =
-    let full : (length items == 65536) ≡ true = ap (λ n. n == 65536) (le_antisymm fits h) in
-    let z : ⊥ = cc in z
-never_met items number fits room out (inr h) = let said : false ≡ true = out h in let z : ⊥ = cc in z
 
 pub is_kept : (old more new : List ℕ) (number : ℕ) → more ≡ old ++ number ∷ [] → IsPermutation more new → MayHave new number
 is_kept old more new number e p =

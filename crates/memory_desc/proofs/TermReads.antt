@@ -1,4 +1,4 @@
--- The readers of terms, by the first byte and one after another.
+-- What a term is read as, by its first byte; and that behind the last term or word of a line its end is read.
 use Rattle.memory_desc.proofs.Common.{Bool, List, None, Option, Read, [], ap, arith, at_bool, by_byte, constant, drop, end_of, false, get_or, if◌then◌else◌, index_bit, is_blank, length, onward, refl, remark_of, spaced, stuck, sym, take, take_all, term_of, took, true, ℕ, ◌-◌, ◌∙◌, ◌∷◌, ◌≡◌, ◌≤◌}
 use Rattle.bist_text.specs.keyed.Parts.{comment_of, number_of}
 

@@ -17,7 +17,7 @@ use crate::fault::{Field, MemoryFault};
 use crate::lines::check_lines;
 use crate::memory::{Memory, Timing};
 use crate::search::{Sought, check_none, check_repeats, check_there, is_scrambled};
-use crate::values::{name_in, number_in, polarity_in};
+use crate::values::{name_said, number_said, polarity_said};
 use arrayvec::ArrayString;
 use bist_bits::width_of;
 use bist_text::keyed_lines::TextFault;
@@ -69,12 +69,12 @@ fn memory_of(bytes: &[u8], words: u32, bits: u8) -> Result<Memory, MemoryFault>
     check_none(bytes, Sought::TooWide { width, bits })?;
     let scramble = scramble_from(bytes, scrambled, width)?;
     let backgrounds = backgrounds_from(bytes, bits)?;
-    let name = name_from(name_in(bytes));
+    let name = name_from(name_said(bytes));
     let timing = Timing {
-        latency: number_in(bytes, Subject::Latency, 1) as u8,
-        pause: number_in(bytes, Subject::Pause, 1),
+        latency: number_said(bytes, Subject::Latency, 1) as u8,
+        pause: number_said(bytes, Subject::Pause, 1),
     };
-    let polarity = polarity_in(bytes);
+    let polarity = polarity_said(bytes);
     Ok(Memory::new(name, words, bits, timing, polarity, scramble, backgrounds))
 }
 
@@ -83,8 +83,8 @@ fn described(bytes: &[u8]) -> Result<Memory, MemoryFault>
     ensures { Describes (statements (text_lines bytes.now)) result }
 {
     check_fields(bytes)?;
-    let words = number_in(bytes, Subject::Words, 0);
-    let bits = number_in(bytes, Subject::Bits, 0);
+    let words = number_said(bytes, Subject::Words, 0);
+    let bits = number_said(bytes, Subject::Bits, 0);
     memory_of(bytes, words, bits as u8)
 }
 

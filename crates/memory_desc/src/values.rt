@@ -12,7 +12,7 @@ use crate::row_reader::Terms;
 use crate::search::content_about;
 
 /// The name.
-pub fn name_in(bytes: &[u8]) -> &[u8]
+pub fn name_said(bytes: &[u8]) -> &[u8]
     ensures { result.now ≡ name_said (statements (text_lines bytes.now)) }
 {
     match content_about(bytes, Subject::Name) {
@@ -22,7 +22,7 @@ pub fn name_in(bytes: &[u8]) -> &[u8]
 }
 
 /// The number that a text gives; another where it says nothing of it.
-pub fn number_in(bytes: &[u8], wanted: Subject, otherwise: u32) -> u32
+pub fn number_said(bytes: &[u8], wanted: Subject, otherwise: u32) -> u32
     ensures { result ≡ number_or otherwise (said wanted (statements (text_lines bytes.now))) }
 {
     match content_about(bytes, wanted) {
@@ -32,7 +32,7 @@ pub fn number_in(bytes: &[u8], wanted: Subject, otherwise: u32) -> u32
 }
 
 /// The polarity; no bit is inverted where nothing is said of it.
-pub fn polarity_in(bytes: &[u8]) -> u64
+pub fn polarity_said(bytes: &[u8]) -> u64
     ensures { result ≡ polarity_said (statements (text_lines bytes.now)) }
 {
     match content_about(bytes, Subject::Polarity) {

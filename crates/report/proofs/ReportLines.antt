@@ -52,17 +52,19 @@ text_more f xs i d x old so_far now h is inv grown =
 pub all_texts : {X : Type 0} (f : X → List ℕ) (xs : List X) (i : ℕ) (old now : List ℕ) → length xs ≤ i → now ≡ old ++ flat_map f (take i xs) → now ≡ old ++ flat_map f xs
 all_texts f xs i old now h inv = inv ∙ ap (λ l. old ++ flat_map f l) (take_all i xs h)
 
--- the line of a class that occurs, and that of the total
+-- a text that grew by seven parts, in three steps
 seven_parts : {E : Type 0} (result : Result (Unit {0}) E) (o a b c d e f g p q t : List ℕ) → p ≡ o ++ (a ++ b ++ c) → q ≡ p ++ (d ++ e) → OnOk result (t ≡ q ++ (f ++ g)) → OnOk result (t ≡ o ++ (a ++ b ++ c ++ d ++ e ++ f ++ g))
 seven_parts (Err x) o a b c d e f g p q t ep eq et = tt
 seven_parts (Ok u) o a b c d e f g p q t ep eq et = et ∙ ap (λ l. l ++ (f ++ g)) (eq ∙ ap (λ l. l ++ (d ++ e)) ep) ∙ simp append_assoc
 
+-- the line of a class that occurs
 pub class_written : {E : Type 0} (result : Result (Unit {0}) E) (class : ItemClass) (count covered : ℕ) (o p q t : List ℕ) → 0 < count → p ≡ o ++ (codes "class " ++ class_text class ++ codes " ")
     → q ≡ p ++ (decimal count ++ codes " covered ") → OnOk result (t ≡ q ++ (decimal covered ++ codes "\n")) → OnOk result (t ≡ o ++ class_line class count covered)
 class_written result class zero covered o p q t some ep eq et = absurd (omega (arith, some))
 class_written result class (suc n) covered o p q t some ep eq et =
     seven_parts result o (codes "class ") (class_text class) (codes " ") (decimal (suc n)) (codes " covered ") (decimal covered) (codes "\n") p q t ep eq et
 
+-- the line of the total
 pub total_written : {E : Type 0} (result : Result (Unit {0}) E) (count covered : ℕ) (o p q t : List ℕ) → p ≡ o ++ (codes "total " ++ decimal count ++ codes " covered ")
     → q ≡ p ++ (decimal covered ++ codes " escapes ") → OnOk result (t ≡ q ++ (decimal (count - covered) ++ codes "\n")) → OnOk result (t ≡ o ++ total_line count covered)
 total_written result count covered o p q t ep eq et =

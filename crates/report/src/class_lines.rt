@@ -6,7 +6,7 @@ ghost use Rattle.report.specs.Report.{class_text, class_number, item_class, is_i
 use crate::judged::JudgedItem;
 use crate::total::is_item_covered;
 use bist_bits::NoMemory;
-use bist_text::{put_between, put_number};
+use bist_text::{put_between, put_number_between};
 use dynamic_core::DynPrim;
 use fault_core::{Class, class_of};
 
@@ -158,8 +158,8 @@ fn put_class(
     ensures { OnOk result (out.new.items ≡ out.old.items ++ class_line class count covered) }
 {
     put_between(out, b"class ", class_name(class), b" ")?;
-    put_number(out, b"", count as u64, b" covered ")?;
-    put_number(out, b"", covered as u64, b"\n")
+    put_number_between(out, b"", count as u64, b" covered ")?;
+    put_number_between(out, b"", covered as u64, b"\n")
 }
 
 /// Appends a line for each class that occurs.

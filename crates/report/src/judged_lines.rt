@@ -7,7 +7,7 @@ ghost use Rattle.report.specs.Report.{letter, item_text, aggressor_text, content
 use crate::class_lines::{ItemClass, class_name, dyn_class};
 use crate::judged::JudgedItem;
 use bist_bits::NoMemory;
-use bist_text::{put, put_between, put_decimal, put_number};
+use bist_text::{put, put_between, put_decimal, put_number_between};
 use coverage::Verdict;
 use dynamic_core::{DynPrim, print_dyn};
 use dynamic_prover::{DynEscape, DynVerdict};
@@ -37,7 +37,7 @@ fn write_aggressor(out: &mut Vec<u8>, agg: Option<u8>) -> Result<(), NoMemory>
 {
     match agg {
         None => put(out, b" aggressor none victim "),
-        Some(cell) => put_number(out, b" aggressor ", u64::from(cell), b" victim "),
+        Some(cell) => put_number_between(out, b" aggressor ", u64::from(cell), b" victim "),
     }
 }
 
@@ -129,7 +129,7 @@ fn write_dyn_escape(out: &mut Vec<u8>, escape: &DynEscape, size: usize) -> Resul
     requires { size ≤ 64 }
     ensures { OnOk result (out.new.items ≡ out.old.items ++ dyn_escape_text size escape.now) }
 {
-    put_number(out, b" cells ", u64::from(escape.size), b"")?;
+    put_number_between(out, b" cells ", u64::from(escape.size), b"")?;
     write_places(out, escape.agg, escape.vic)?;
     write_passing(out, cells_of(escape), escape.directions, size)
 }

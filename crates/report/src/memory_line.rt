@@ -3,7 +3,7 @@ ghost use Rattle.std.specs.Option.{option_copied};
 ghost use Rattle.report.specs.Report.{size_text, work_text, memory_line};
 
 use bist_bits::NoMemory;
-use bist_text::{put_between, put_number};
+use bist_text::{put_between, put_number_between};
 use march_core::March;
 use memory_desc::Memory;
 use word_march::length;
@@ -13,10 +13,10 @@ fn write_described(out: &mut Vec<u8>, march: &March, memory: &Memory) -> Result<
     ensures { OnOk result (out.new.items ≡ out.old.items ++ (size_text memory.now ++ work_text march.now memory.now ++ codes "\n")) }
 {
     put_between(out, b"memory ", memory.name().as_bytes(), b" words ")?;
-    put_number(out, b"", u64::from(memory.words()), b" bits ")?;
-    put_number(out, b"", u64::from(memory.bits()), b" backgrounds ")?;
-    put_number(out, b"", memory.backgrounds().len() as u64, b" commands ")?;
-    put_number(out, b"", length(march, memory), b"\n")
+    put_number_between(out, b"", u64::from(memory.words()), b" bits ")?;
+    put_number_between(out, b"", u64::from(memory.bits()), b" backgrounds ")?;
+    put_number_between(out, b"", memory.backgrounds().len() as u64, b" commands ")?;
+    put_number_between(out, b"", length(march, memory), b"\n")
 }
 
 /// Appends the line of a memory, where there is one.

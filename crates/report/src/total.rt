@@ -4,7 +4,7 @@ ghost use Rattle.report.specs.Report.{total_line};
 
 use crate::judged::JudgedItem;
 use bist_bits::NoMemory;
-use bist_text::put_number;
+use bist_text::put_number_between;
 use coverage::Verdict;
 use dynamic_prover::DynVerdict;
 use std::alloc::Global;
@@ -34,9 +34,9 @@ pub(crate) fn write_total(out: &mut Vec<u8>, count: usize, covered: usize) -> Re
     requires { covered ≤ count }
     ensures { OnOk result (out.new.items ≡ out.old.items ++ total_line count covered) }
 {
-    put_number(out, b"total ", count as u64, b" covered ")?;
-    put_number(out, b"", covered as u64, b" escapes ")?;
-    put_number(out, b"", (count - covered) as u64, b"\n")
+    put_number_between(out, b"total ", count as u64, b" covered ")?;
+    put_number_between(out, b"", covered as u64, b" escapes ")?;
+    put_number_between(out, b"", (count - covered) as u64, b"\n")
 }
 
 /// The line of the total.

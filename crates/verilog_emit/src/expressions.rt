@@ -5,22 +5,22 @@ ghost use Rattle.verilog_emit.specs.Printed.{expression_text, parts_text};
 
 use crate::writing::{put_literal, put_name, put_separator};
 use bist_bits::NoMemory;
-use bist_text::{put, put_number};
+use bist_text::{put, put_number_between};
 use verilog_tree::{Expr, Name, binary_text, unary_text};
 
 fn put_bit(out: &mut Vec<u8>, name: &Name, place: u8) -> Result<(), NoMemory>
     ensures { OnOk result (out.new.items ≡ out.old.items ++ expression_text (BitSelect name.now.bytes place)) }
 {
     put_name(out, name)?;
-    put_number(out, b"[", u64::from(place), b"]")
+    put_number_between(out, b"[", u64::from(place), b"]")
 }
 
 fn put_part(out: &mut Vec<u8>, name: &Name, high: u8, low: u8) -> Result<(), NoMemory>
     ensures { OnOk result (out.new.items ≡ out.old.items ++ expression_text (PartSelect name.now.bytes high low)) }
 {
     put_name(out, name)?;
-    put_number(out, b"[", u64::from(high), b":")?;
-    put_number(out, b"", u64::from(low), b"]")
+    put_number_between(out, b"[", u64::from(high), b":")?;
+    put_number_between(out, b"", u64::from(low), b"]")
 }
 
 /// Appends an expression.

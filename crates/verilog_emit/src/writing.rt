@@ -3,7 +3,7 @@ ghost use Rattle.std.specs.Prelude.{◌≡◌, ℕ, ◌+◌, ◌<◌, ◌≤◌,
 ghost use Rattle.verilog_emit.specs.Printed.{margin, line, literal_text, range_text, separator, labels_text};
 
 use bist_bits::{Bits, NoMemory};
-use bist_text::{put, put_between, put_number, put_word};
+use bist_text::{put, put_between, put_number_between, put_word};
 use verilog_tree::Name;
 
 /// Appends the blanks before a line: two for each depth.
@@ -51,7 +51,7 @@ pub fn put_name_line(
 pub fn put_literal(out: &mut Vec<u8>, x: Bits) -> Result<(), NoMemory>
     ensures { OnOk result (out.new.items ≡ out.old.items ++ literal_text x) }
 {
-    put_number(out, b"", u64::from(x.width()), b"'h")?;
+    put_number_between(out, b"", u64::from(x.width()), b"'h")?;
     put_word(out, x.width(), x.value())
 }
 
@@ -85,5 +85,5 @@ pub fn put_range(out: &mut Vec<u8>, width: u8) -> Result<(), NoMemory>
     if width <= 1 {
         return Ok(());
     }
-    put_number(out, b"[", u64::from(width - 1), b":0] ")
+    put_number_between(out, b"[", u64::from(width - 1), b":0] ")
 }

@@ -4,7 +4,7 @@ use Rattle.memory_desc.specs.Described.{AreOfMemory}
 use Rattle.memory_desc.proofs.Built.{are_sized, backgrounds_refused, is_memory, of_memory, power_refused, same_memory, scrambling_refused, sized_bits, sized_words, width_refused}
 use Rattle.memory_desc.proofs.Parts.{width_small}
 use Rattle.memory_desc.proofs.Within.{latency_inside, latency_is, named, pause_is}
-use Rattle.memory_desc.proofs.read.memory_of.Goals.{After-polarity_in-polarity}
+use Rattle.memory_desc.proofs.read.memory_of.Goals.{After-polarity_said-polarity}
 use Rattle.memory_desc.proofs.read.memory_of.Goals as goal
 
 pub overflow_sub-words : goal.overflow_sub-words
@@ -25,13 +25,13 @@ pub name_from-name-requires : goal.name_from-name-requires
 name_from-name-requires c =
     let ls = text_lines c.args.bytes.now in
     let f = are_sized (statements ls) c.requires.unrefused in
-    subst IsName (sym c.name_in.ensures) (named ls f.in_range f.has_name)
+    subst IsName (sym c.name_said.ensures) (named ls f.in_range f.has_name)
 
 pub overflow_cast-timing : goal.overflow_cast-timing
 overflow_cast-timing c =
     let ss = statements (text_lines c.args.bytes.now) in
     let small = (latency_inside ss (are_sized ss c.requires.unrefused).in_range).1 in
-    let same = c.number_in.ensures ∙ latency_is ss in
+    let same = c.number_said.ensures ∙ latency_is ss in
     omega arith
 
 -- ---- the refusals, and the memory
@@ -67,12 +67,12 @@ returns-in_err-backgrounds c =
     rw (p.1, p.2) (backgrounds_refused ss c.requires.unrefused c.requires.words c.requires.bits c.from.ensures c.width_of-width.ensures.width power c.in_ok-check_none.ensures c.in_ok-scramble.scramble
     c.in_ok-scramble.ensures.gives _ c.in_err-backgrounds.ensures)
 
-same : (c : After-polarity_in-polarity) → assembled c.name_from-name.result.bytes c.args.words c.args.bits c.number_in.result c.polarity_in-polarity.result c.number_in-2.result c.in_ok-scramble.scramble c.in_ok-backgrounds.backgrounds.items
+same : (c : After-polarity_said-polarity) → assembled c.name_from-name.result.bytes c.args.words c.args.bits c.number_said.result c.polarity_said-polarity.result c.number_said-2.result c.in_ok-scramble.scramble c.in_ok-backgrounds.backgrounds.items
     ≡ described (statements (text_lines c.args.bytes.now)) c.in_ok-scramble.scramble c.in_ok-backgrounds.backgrounds.items
 same c =
     let ss = statements (text_lines c.args.bytes.now) in
-    same_memory ss c.in_ok-scramble.scramble c.in_ok-backgrounds.backgrounds.items (c.name_from-name.ensures ∙ c.name_in.ensures)
-    c.requires.words c.requires.bits (c.number_in.ensures ∙ latency_is ss) c.polarity_in-polarity.ensures (c.number_in-2.ensures ∙ pause_is ss)
+    same_memory ss c.in_ok-scramble.scramble c.in_ok-backgrounds.backgrounds.items (c.name_from-name.ensures ∙ c.name_said.ensures)
+    c.requires.words c.requires.bits (c.number_said.ensures ∙ latency_is ss) c.polarity_said-polarity.ensures (c.number_said-2.ensures ∙ pause_is ss)
 
 pub new-requires : goal.new-requires
 new-requires c =
@@ -92,8 +92,8 @@ returns c =
     let power = c.in_ok-check_power_of_two.ensures ss c.is_scrambled-scrambled.ensures c.requires.words in
     subst (AreOfMemory ss)
     (sym (c.new.ensures
-    ∙ same_memory ss s.scramble c.in_ok-backgrounds.backgrounds.items (c.name_from-name.ensures ∙ c.name_in.ensures)
-    c.requires.words c.requires.bits (c.number_in.ensures ∙ latency_is ss) c.polarity_in-polarity.ensures (c.number_in-2.ensures ∙ pause_is ss)))
+    ∙ same_memory ss s.scramble c.in_ok-backgrounds.backgrounds.items (c.name_from-name.ensures ∙ c.name_said.ensures)
+    c.requires.words c.requires.bits (c.number_said.ensures ∙ latency_is ss) c.polarity_said-polarity.ensures (c.number_said-2.ensures ∙ pause_is ss)))
     (of_memory ss c.requires.unrefused c.requires.words c.requires.bits c.from.ensures c.width_of-width.ensures.width power c.in_ok-check_none.ensures s.scramble s.ensures.gives c.in_ok-backgrounds.backgrounds.items
     c.in_ok-backgrounds.ensures)
 
