@@ -8,11 +8,8 @@ use Rattle.verilog_tree.specs.declared.tree.Expr as E
 use Rattle.verilog_tree.specs.declared.tree.Stmt.{Stmt}
 use Rattle.verilog_tree.specs.declared.tree.Stmt as S
 use Rattle.verilog_tree.specs.declared.tree.Arm.{Arm}
-use Rattle.verilog_tree.specs.Plain.{plain, expressions, plain_stmt, plain_stmts, arms, Concatenation, Prefixed, Infixed, Conditional, SetTo, IfElse, CaseOf}
+use Rattle.verilog_tree.specs.Plain.{plain, plain_stmt, plain_stmts, arms, Prefixed, Infixed, Conditional, SetTo, IfElse, CaseOf}
 use Rattle.verilog_tree.specs.inner.Plain.{plain_arm}
-
-pub plain_concat : (xs : Vec Expr Global) → plain (E.Concat xs) ≡ Concatenation (expressions (map plain xs.items))
-plain_concat xs = search E.the_lemmas
 
 pub plain_unary : (o : UnOp) (x : Box Expr Global) → plain (E.Unary o x) ≡ Prefixed o (plain x.value)
 plain_unary o x = search E.the_lemmas

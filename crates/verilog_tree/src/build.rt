@@ -88,14 +88,6 @@ pub fn port(dir: Dir, text: &str, width: u8) -> Port
     }
 }
 
-/// One port more.
-pub fn push_port(ports: &mut Vec<Port>, dir: Dir, name: Name, width: u8) -> Result<(), AllocError>
-    ensures { OnOk result (map plain_port ports.new.items ≡ map plain_port ports.old.items ++ (record { dir = dir; name = name.bytes; width = width }) ∷ []) }
-{
-    ports.push(Port { dir, name, width })?;
-    Ok(())
-}
-
 /// One wire more.
 pub fn wire(items: &mut Vec<Item>, name: Name, width: u8) -> Result<(), AllocError>
     ensures { OnOk result (map plain_item items.new.items ≡ map plain_item items.old.items ++ WireItem name.bytes width ∷ []) }
