@@ -25,7 +25,7 @@ fn put_part(out: &mut Vec<u8>, name: &Name, high: u8, low: u8) -> Result<(), NoM
 
 /// Appends an expression.
 #[cycle(put_expr)]
-pub fn put_expr(out: &mut Vec<u8>, x: &Expr) -> Result<(), NoMemory>
+fn put_expr(out: &mut Vec<u8>, x: &Expr) -> Result<(), NoMemory>
     ensures { OnOk result (out.new.items ≡ out.old.items ++ expression_text (plain x.now)) }
 {
     match x {

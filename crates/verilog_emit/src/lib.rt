@@ -32,7 +32,7 @@ mod writing;
 
 pub use items::{put_items, put_ports};
 pub use laws::texts_are_of_one_module;
-pub use writing::{put_line, put_margin, put_name, put_name_line, put_separator};
+pub use writing::{put_line, put_name_line, put_separator};
 
 /// Appends a module.
 fn put_module(out: &mut Vec<u8>, module: &Module) -> Result<(), NoMemory>
