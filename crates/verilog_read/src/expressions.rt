@@ -1,4 +1,5 @@
-//! What a token does at each place in an expression, and behind one that stands in no other.
+//! The places within an expression, the brackets behind a name among them, and what a token does behind an expression that
+//! stands in no other.
 ghost use Rattle.verilog_tree.specs.Plain.{plain, AssignItem, SetTo};
 ghost use Rattle.verilog_tree.specs.Grammar.{alone};
 ghost use Rattle.verilog_tree.specs.Spells.{bounded};

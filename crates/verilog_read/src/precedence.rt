@@ -1,4 +1,5 @@
-//! What a token does in an expression, however its operators are counted.
+//! Operands and what joins them, operators, parentheses, braces and choices: what a token does where an operand is wanted,
+//! and behind one.
 ghost use Rattle.std.specs.Prelude.{◌≡◌, ◌<◌, length, Some, IfSome, IfOk, IfErr, [], map};
 ghost use Rattle.verilog_tree.specs.Plain.{plain, expressions, Followed, NoMore};
 ghost use Rattle.verilog_tree.specs.Free.{signed};
@@ -29,8 +30,8 @@ const MOST_OPENINGS: u8 = 64;
 
 const MOST_OPERATORS: u16 = 256;
 
-/// The operands that are read one behind another: how many operators are counted so far, those that wait for an operand,
-/// and the mark before the operand that is read.
+/// What is read of an expression before the operand that comes: how many operators are counted so far, those that wait
+/// for their second operand, each behind its first, and the mark before the operand.
 #[derive(Drop)]
 pub struct Chain {
     pub count: Count,
@@ -337,13 +338,11 @@ fn close(
     while let Some(around) = pop(outer) {
         match around {
             Nest::IfFalse(c, yes) => last = choose(alloc, c, yes, last)?,
-            Nest::Round(before, chain) => {
-                return in_round(outer, before, chain, count, last, token);
+            Nest::Round(above, chain) => {
+                return in_round(outer, above, chain, count, last, token);
             }
-            Nest::List(before, parts, chain) => {
-                return in_list(
-                    alloc, outer, depth, before, parts, chain, count, last, token,
-                );
+            Nest::List(above, parts, chain) => {
+                return in_list(alloc, outer, depth, above, parts, chain, count, last, token);
             }
             Nest::IfTrue(c) => return in_choice(alloc, outer, depth, count, c, last, token),
         }
