@@ -2,7 +2,6 @@
 ghost use Rattle.std.specs.Prelude.{◌≡◌, ℕ, false};
 ghost use Rattle.verilog_tree.specs.Plain.{Expression};
 ghost use Rattle.verilog_tree.specs.Tokens.{Number, Sign};
-ghost use Rattle.verilog_tree.specs.Grammar.{is_sign};
 ghost use Rattle.verilog_text.specs.Places as Q;
 ghost use Rattle.verilog_read.specs.inner.Ends.{ends_choice, closes, links, goes_on, may, opens, starts};
 ghost use Rattle.verilog_read.specs.inner.Holding.{token_of, nest, standing, nests_of};
@@ -112,12 +111,6 @@ fn starts(count: Count, mark: Mark) -> bool
     }
 }
 
-fn opens_select(mark: Mark) -> bool
-    ensures { result ≡ is_sign Mark.OpenBracket mark }
-{
-    matches!(mark, Mark::OpenBracket)
-}
-
 #[tactic(auto, using(crate::proofs::Ends::named_takes, crate::proofs::Ends::linked_takes, crate::proofs::Ends::operand_is, crate::proofs::Ends::prim_is))]
 fn expr_takes(place: &ExprSpot, count: Count, outer: &Outer, mark: Mark) -> bool
     ensures { (c : Chain) → c.count ≡ count → result ≡ taken (AtExpr (standing place.now c (nests_of outer.now.nests.items (alone_of outer.now)))) (Sign mark) }
@@ -125,7 +118,8 @@ fn expr_takes(place: &ExprSpot, count: Count, outer: &Outer, mark: Mark) -> bool
     match place {
         ExprSpot::Operand(_) => starts(count, mark),
         ExprSpot::Prim(_) => opens(mark),
-        ExprSpot::Named(_, _) => opens_select(mark) || operand_takes(count, outer, mark),
+        ExprSpot::Named(_, _) => matches!(mark, Mark::OpenBracket)
+            || operand_takes(count, outer, mark),
         ExprSpot::Bracket(_, _) | ExprSpot::ColonRead(_, _, _) => false,
         ExprSpot::HighRead(_, _, _) => matches!(mark, Mark::CloseBracket | Mark::Colon),
         ExprSpot::LowRead(_, _, _, _) => matches!(mark, Mark::CloseBracket),
@@ -140,8 +134,8 @@ fn stmt_takes(place: &StmtSpot, outer: &Outer, mark: Mark) -> bool
     match place {
         StmtSpot::Target(_, _) => matches!(mark, Mark::LessEquals),
         StmtSpot::IfRead(_, _) | StmtSpot::CaseRead(_, _) => matches!(mark, Mark::Open),
-        StmtSpot::Labels(_, _, _, _, _) => matches!(mark, Mark::Comma | Mark::Colon),
-        StmtSpot::DefaultRead(_, _, _, _) => matches!(mark, Mark::Colon),
+        StmtSpot::Labels(_, _, _) => matches!(mark, Mark::Comma | Mark::Colon),
+        StmtSpot::DefaultRead(_, _) => matches!(mark, Mark::Colon),
         _ => false,
     }
 }
@@ -198,7 +192,7 @@ pub(crate) fn takes(place: &Place, outer: &Outer, token: &Lexeme) -> bool
         Lexeme::Word(name) => {
             let expected = expected_at(place, outer);
             let word = name.as_str().as_bytes();
-            expected.lists(word) || (expected.names && !is_reserved(word))
+            expected.lists(word, false) || (expected.names && !is_reserved(word))
         }
         Lexeme::Number(long, n) => takes_number(place, outer, *long, n.value),
         Lexeme::Constant(_) => expected_at(place, outer).literals,
@@ -235,7 +229,7 @@ pub(crate) fn is_live(place: &Place, outer: &Outer, lexer: &Scanner) -> bool
         Scanner::InGap(_) => true,
         Scanner::InWord(name) => {
             let expected = expected_at(place, outer);
-            expected.names || expected.lists_longer(name.as_str().as_bytes())
+            expected.names || expected.lists(name.as_str().as_bytes(), true)
         }
         Scanner::InNumber(long, n) => {
             takes_number(place, outer, *long, n.value) || expected_at(place, outer).literals

@@ -20,4 +20,4 @@ pub returns-in-HaveStmt : goal.returns-in-HaveStmt
 returns-in-HaveStmt c = stmt_stepped _ _ _ _ _ _ c.in-HaveStmt.is c.have_stmt.ensures
 
 pub returns-in-FirstLabel : goal.returns-in-FirstLabel
-returns-in-FirstLabel c = stmt_stepped _ _ _ _ _ _ c.in-FirstLabel.is (first_stepped _ _ _ c.new-choices.result.items c.new-labels.result.items _ _ _ _ c.new-choices.ensures.items c.new-labels.ensures.items (c.next_label.ensures c.args.outer.now))
+returns-in-FirstLabel c = stmt_stepped _ _ _ _ _ _ c.in-FirstLabel.is (first_stepped _ _ _ _ _ _ _ _ _ c.new.ensures.items (c.next_label.ensures c.args.outer.now))
