@@ -168,22 +168,29 @@ pub(crate) fn prim(
 ) -> Result<Place, ParseFault>
     ensures { Goes (prim_step bounded depth chain.count (lefts_of chain.lefts.items) chain.mark (nests_of outer.old.nests.items (alone_of outer.old)) (token_of token.now)) result outer.new }
 {
-    let inside = within(chain.count, is_mark(Mark::Open, token));
-    let around = match token {
+    let count = chain.count;
+    let spot = match token {
         Lexeme::Word(name) if !is_reserved(name.as_str().as_bytes()) => {
-            return Ok(Place::InExpr(ExprSpot::Named(depth, *name), chain));
+            ExprSpot::Named(depth, *name)
         }
-        Lexeme::Constant(bits) => {
-            return Ok(Place::InExpr(ExprSpot::Have(depth, Expr::Lit(*bits)), chain));
+        Lexeme::Constant(bits) => ExprSpot::Have(depth, Expr::Lit(*bits)),
+        Lexeme::Sign(Mark::Open) => {
+            let Some(inner) = deeper(depth) else {
+                return Err(ParseFault::Unexpected);
+            };
+            let around = Nest::Round(depth, chain);
+            return begun(alloc, outer, around, inner, within(count, true));
         }
-        Lexeme::Sign(Mark::Open) => Nest::Round(depth, chain),
-        Lexeme::Sign(Mark::OpenBrace) => Nest::List(depth, Vec::new(alloc), chain),
+        Lexeme::Sign(Mark::OpenBrace) => {
+            let Some(inner) = deeper(depth) else {
+                return Err(ParseFault::Unexpected);
+            };
+            let around = Nest::List(depth, Vec::new(alloc), chain);
+            return begun(alloc, outer, around, inner, within(count, false));
+        }
         _ => return Err(ParseFault::Unexpected),
     };
-    match deeper(depth) {
-        Some(inner) => begun(alloc, outer, around, inner, inside),
-        None => Err(ParseFault::Unexpected),
-    }
+    Ok(Place::InExpr(spot, chain))
 }
 
 /// Where an operand is wanted: a mark may stand before it.

@@ -17,7 +17,7 @@ use crate::lexemes::Lexeme;
 use crate::places::{Base, Case, Holder, ItemSpot, Outer, Place, StmtSpot, Use};
 use crate::precedence::{deeper, is_mark};
 use crate::stacks::{add_item, begin, begin_in, hold, is_word, release};
-use crate::trees::{join, only, with_arm};
+use crate::trees::{add_arm, join, only};
 use bist_bits::Bits;
 use bist_text::is_reserved;
 use std::alloc::Global;
@@ -150,7 +150,8 @@ fn have_stmt(
             have_stmt(alloc, outer, above, body, token)
         }
         Some(Holder::Labelled(case, labels)) => {
-            let case = with_arm(case, labels, body)?;
+            let mut case = case;
+            add_arm(&mut case, labels, body)?;
             in_case(alloc, outer, depth, case, token)
         }
         Some(Holder::Other(case)) => end_case(alloc, outer, case, body, token),

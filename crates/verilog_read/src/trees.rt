@@ -1,5 +1,5 @@
 //! Parts of trees, each built of its parts.
-ghost use Rattle.std.specs.Prelude.{◌≡◌, IfOk, IfErr};
+ghost use Rattle.std.specs.Prelude.{◌≡◌, OnOk, IfOk, IfErr};
 ghost use Rattle.verilog_tree.specs.Plain.{plain_stmt, plain_stmts, ArmOf, NoArm};
 ghost use Rattle.verilog_tree.specs.inner.Plain.{plain_arm};
 ghost use Rattle.verilog_tree.specs.Grammar.{then_all, alone};
@@ -16,7 +16,9 @@ pub(crate) fn only(alloc: Global, stmt: Stmt) -> Result<Vec<Stmt>, ParseFault>
     ensures value { IfOk result (λ b. plain_stmts b.items ≡ alone (plain_stmt stmt)) }
     ensures fault { IfErr result (λ e. e ≡ ParseFault.NoMemory) }
 {
-    Ok(Vec::from_array(alloc, [stmt])?)
+    let mut body = Vec::new(alloc);
+    body.push(stmt)?;
+    Ok(body)
 }
 
 #[tactic(auto, using(crate::proofs::FrameLemmas::stmts_join))]
@@ -39,13 +41,12 @@ fn arm_of(labels: Vec<Bits>, body: Vec<Stmt>) -> Arm
 }
 
 #[tactic(auto, using(crate::proofs::FrameLemmas::arms_push))]
-pub(crate) fn with_arm(case: Case, labels: Vec<Bits>, body: Vec<Stmt>) -> Result<Case, ParseFault>
-    ensures depth { IfOk result (λ k. k.depth ≡ case.depth) }
-    ensures subject { IfOk result (λ k. k.subject ≡ case.subject) }
-    ensures arms { IfOk result (λ k. arms_of k ≡ more_arms (arms_of case) (ArmOf labels.items (plain_stmts body.items) NoArm)) }
+pub(crate) fn add_arm(case: &mut Case, labels: Vec<Bits>, body: Vec<Stmt>) -> Result<(), ParseFault>
+    ensures depth { case.new.depth ≡ case.old.depth }
+    ensures subject { case.new.subject ≡ case.old.subject }
+    ensures arms { OnOk result (arms_of case.new ≡ more_arms (arms_of case.old) (ArmOf labels.items (plain_stmts body.items) NoArm)) }
     ensures fault { IfErr result (λ e. e ≡ ParseFault.NoMemory) }
 {
-    let mut case = case;
     case.arms.push(arm_of(labels, body))?;
-    Ok(case)
+    Ok(())
 }
