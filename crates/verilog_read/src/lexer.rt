@@ -2,7 +2,7 @@
 ghost use Rattle.std.specs.Prelude.{◌≡◌, ◌+◌, ◌*◌, ◌∷◌, [], ◌++◌, true, Some, None, ◌≤◌, ◌<◌, ◌↔◌, length, IsOk, IfOk, IfErr};
 ghost use Rattle.verilog_tree.specs.Tokens.{is_space, is_query, mark_of, lengthened, spoils};
 ghost use Rattle.bist_text.specs.Identifiers.{is_digit};
-ghost use Rattle.verilog_tree.specs.Words.{digit_value, radix, is_digit_of, base_of};
+ghost use Rattle.verilog_tree.specs.Words.{digit_value, radix, is_digit_of};
 ghost use Rattle.verilog_text.specs.Lexing.{begin, lex, last, InGap, InWord, InNumber, Quoted, Lettered, InDigits, Marked};
 ghost use Rattle.verilog_read.specs.inner.Holding.{token_of};
 ghost use Rattle.verilog_read.specs.inner.Lexemes.{lexer_of, tokens_of, behind, ends_of, Scans};
@@ -87,18 +87,6 @@ fn radix(base: Base) -> u8
         Base::Octal => 8,
         Base::Decimal => 10,
         Base::Hexadecimal => 16,
-    }
-}
-
-fn base_of(c: u8) -> Option<Base>
-    ensures { result ≡ base_of c }
-{
-    match c {
-        b'b' | b'B' => Some(Base::Binary),
-        b'o' | b'O' => Some(Base::Octal),
-        b'd' | b'D' => Some(Base::Decimal),
-        b'h' | b'H' => Some(Base::Hexadecimal),
-        _ => None,
     }
 }
 
@@ -307,10 +295,14 @@ fn lex_first_digit(size: Bits, base: Base, c: u8) -> Result<Read, LexFault>
 fn lex_base(size: Bits, c: u8) -> Result<Read, LexFault>
     ensures { Scans 63 64 (lex (Quoted size.width) c) result }
 {
-    match base_of(c) {
-        Some(base) => Ok(silent(Scanner::Lettered(size, base))),
-        None => Err(LexFault::Unexpected),
-    }
+    let base = match c {
+        b'b' | b'B' => Base::Binary,
+        b'o' | b'O' => Base::Octal,
+        b'd' | b'D' => Base::Decimal,
+        b'h' | b'H' => Base::Hexadecimal,
+        _ => return Err(LexFault::Unexpected),
+    };
+    Ok(silent(Scanner::Lettered(size, base)))
 }
 
 fn lex_mark(mark: Mark, c: u8) -> Result<Read, LexFault>

@@ -114,7 +114,10 @@ fn signed(alloc: Global, mark: Option<UnOp>, x: Expr) -> Result<Expr, ParseFault
     ensures fault { IfErr result (λ f. f ≡ ParseFault.NoMemory) }
 {
     match mark {
-        Some(op) => Ok(unary(alloc, op, x)?),
+        Some(op) => match unary(alloc, op, x) {
+            Ok(marked) => Ok(marked),
+            Err(_) => Err(ParseFault::NoMemory),
+        },
         None => Ok(x),
     }
 }

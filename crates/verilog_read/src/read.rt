@@ -1,14 +1,13 @@
 //! The reader of a module's text.
-ghost use Rattle.std.specs.Prelude.{true, ◌≡◌, ◌||◌, ◌↔◌, ◌≤◌, Some, None, Err, IfOk, IfErr, MatchResult};
+ghost use Rattle.std.specs.Prelude.{true, ◌≡◌, ◌↔◌, ◌≤◌, Some, None, Err, IfOk, IfErr, MatchResult};
 ghost use Rattle.verilog_tree.specs.Formed.{formed};
 ghost use Rattle.verilog_tree.specs.Plain.{ModuleTree, plain_module};
 ghost use Rattle.verilog_tree.specs.Spells.{Spells, FreelySpells};
 ghost use Rattle.verilog_tree.specs.Grammar.{ByPrecedence};
-ghost use Rattle.verilog_tree.specs.Tokens.{Number};
 ghost use Rattle.verilog_text.specs.Answering.{Stops, take_token, stuck, arrive, while_live, byte_move, fault_at, value_answer, end_answer, answer, run};
 ghost use Rattle.verilog_text.specs.inner.Answering.{read_within};
 ghost use Rattle.verilog_read.specs.inner.Told.{Takes, Moves, Scanned, Gives, both_of};
-ghost use Rattle.verilog_text.specs.Expected.{most_of, taken, takes_literals};
+ghost use Rattle.verilog_text.specs.Expected.{most_of};
 ghost use Rattle.verilog_text.specs.Refusals.{Says, SaysIn, IsFirst, IsFirstIn};
 ghost use Rattle.verilog_read.specs.inner.Holding.{token_of};
 ghost use Rattle.verilog_read.specs.declared.lexer.Scanner.TheVariants.{InGap};
@@ -24,7 +23,7 @@ use crate::items::step;
 use crate::lexemes::Lexeme;
 use crate::lexer::{LexFault, Read, Scanner, last, lex};
 use crate::places::{ItemSpot, Outer, Place, Style, blank_module};
-use crate::takes::{is_live, takes, takes_number};
+use crate::takes::{is_live, takes, takes_digits, takes_number};
 use crate::words::expected_at;
 use std::alloc::Global;
 use std::mem;
@@ -146,13 +145,6 @@ fn beyond(expected: bool, fault: ByteFault) -> ByteFault
     }
 }
 
-/// Whether a number of more than one digit or a literal may come.
-fn takes_digits(place: &Place, outer: &Outer) -> bool
-    ensures { result ≡ (taken (state_of place.now outer.now) (Number true 0) || takes_literals (state_of place.now outer.now)) }
-{
-    takes_number(place, outer, true, 0) || expected_at(place, outer).literals
-}
-
 /// What a byte does.
 fn step_byte(
     alloc: Global,
@@ -171,7 +163,7 @@ fn step_byte(
             ByteFault::LongName,
         )),
         Err(LexFault::LargeNumber) => {
-            Err(beyond(takes_digits(place, outer), ByteFault::OutOfRange))
+            Err(beyond(takes_digits(place, outer, true, 0), ByteFault::OutOfRange))
         }
         Err(LexFault::WrongLiteral) => Err(beyond(
             expected_at(place, outer).literals,

@@ -3,7 +3,6 @@ ghost use Rattle.std.specs.Prelude.{◌≡◌, ◌<◌, length, IfSome, Some, On
 ghost use Rattle.verilog_tree.specs.Plain.{plain_item};
 ghost use Rattle.verilog_text.specs.Places.{AtExpr, AtStmt, WantStmt, with_item, style_of, begin_expr};
 ghost use Rattle.verilog_text.specs.Steps.{is_word};
-ghost use Rattle.verilog_text.specs.Flat.{none_yet};
 ghost use Rattle.verilog_read.specs.inner.Holding.{token_of};
 ghost use Rattle.verilog_read.specs.inner.Frames.{styled, holder, alone, around_of, head_of};
 ghost use Rattle.verilog_read.specs.inner.Spots.{state_of};
@@ -42,16 +41,6 @@ pub(crate) fn release(outer: &mut Outer) -> Option<Holder>
     outer.holders.pop()
 }
 
-/// No operator is read yet.
-fn none_yet(style: Style) -> Count
-    ensures { result ≡ none_yet (styled style) }
-{
-    match style {
-        Style::Parenthesised => Count::Apart(false),
-        Style::ByPrecedence => Count::Together(0),
-    }
-}
-
 /// An expression begins, which stands in no other.
 #[tactic(auto, using(crate::proofs::FrameLemmas::style_held))]
 pub(crate) fn begin(alloc: Global, outer: &mut Outer, whole: Base, depth: u8) -> Place
@@ -60,8 +49,12 @@ pub(crate) fn begin(alloc: Global, outer: &mut Outer, whole: Base, depth: u8) ->
 {
     outer.base = whole;
     outer.nests.clear();
+    let count = match outer.style {
+        Style::Parenthesised => Count::Apart(false),
+        Style::ByPrecedence => Count::Together(0),
+    };
     let chain = Chain {
-        count: none_yet(outer.style),
+        count,
         lefts: Vec::new(alloc),
         mark: None,
     };
