@@ -4,7 +4,6 @@ ghost use Rattle.verilog_tree.specs.Tokens.{is_space, is_query, mark_of, lengthe
 ghost use Rattle.bist_text.specs.Identifiers.{is_digit};
 ghost use Rattle.verilog_tree.specs.Words.{digit_value, radix, is_digit_of};
 ghost use Rattle.verilog_text.specs.Lexing.{begin, lex, last, InGap, InWord, InNumber, Quoted, Lettered, InDigits, Marked};
-ghost use Rattle.verilog_read.specs.inner.Holding.{token_of};
 ghost use Rattle.verilog_read.specs.inner.Lexemes.{lexer_of, tokens_of, behind, ends_of, Scans};
 
 use crate::lexemes::{Lexeme, SmallNumber};

@@ -13,7 +13,7 @@ ghost use Rattle.verilog_read.specs.inner.Holding.{token_of};
 ghost use Rattle.verilog_read.specs.declared.lexer.Scanner.TheVariants.{InGap};
 ghost use Rattle.verilog_tree.specs.declared.tokens.Within.TheVariants.{Between};
 ghost use Rattle.verilog_read.specs.inner.Frames.{styled};
-ghost use Rattle.verilog_read.specs.inner.Lexemes.{tokens_of, lexer_of, ends_of};
+ghost use Rattle.verilog_read.specs.inner.Lexemes.{tokens_of, lexer_of};
 ghost use Rattle.verilog_text.specs.Lexing.{last};
 ghost use Rattle.verilog_read.specs.inner.Spots.{state_of};
 ghost use Rattle.verilog_text.specs.Steps.{value};

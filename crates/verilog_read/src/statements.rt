@@ -8,7 +8,7 @@ ghost use Rattle.verilog_text.specs.Steps.{want_stmt_step, block_step, arm_step,
 ghost use Rattle.verilog_read.specs.inner.Holding.{token_of};
 ghost use Rattle.verilog_read.specs.inner.Frames.{alone, arms_of, around_of, head_of};
 ghost use Rattle.verilog_read.specs.declared.places.Outer.{Outer};
-ghost use Rattle.verilog_read.specs.declared.places.StmtSpot.TheVariants.{Target, Labels, NextLabel, DefaultRead};
+ghost use Rattle.verilog_read.specs.declared.places.StmtSpot.TheVariants.{NextLabel};
 ghost use Rattle.verilog_read.specs.inner.Spots.{stmt_spot};
 ghost use Rattle.verilog_read.specs.inner.Answers.{Goes, opens_expr};
 
@@ -21,7 +21,7 @@ use crate::trees::{add_arm, join, only};
 use bist_bits::Bits;
 use bist_text::is_reserved;
 use std::alloc::Global;
-use verilog_tree::{Item, Mark, Name, Stmt};
+use verilog_tree::{Item, Mark, Stmt};
 
 /// Where a statement begins.
 #[tactic(auto, using(crate::proofs::PlaceSteps::free_word, crate::proofs::PlaceSteps::full_word))]
@@ -177,23 +177,6 @@ fn opened(
     }
 }
 
-/// Behind the name that is assigned.
-#[tactic(auto, using(crate::proofs::HoldingLemmas::expects_is))]
-fn behind_target(
-    alloc: Global,
-    outer: &mut Outer,
-    depth: u8,
-    name: Name,
-    token: &Lexeme,
-) -> Result<Place, ParseFault>
-    ensures { Goes (step_stmt bounded (stmt_spot (Target depth name) (around_of outer.old)) (token_of token.now)) result outer.new }
-{
-    if !is_mark(Mark::LessEquals, token) {
-        return Err(ParseFault::Unexpected);
-    }
-    Ok(begin(alloc, outer, Base::Set(name), depth))
-}
-
 /// Where a label of an arm comes, behind those before it, if there are any.
 fn next_label(inner: u8, case: Case, labels: Vec<Bits>, token: &Lexeme) -> Result<Place, ParseFault>
     ensures { (w : Outer) → Goes (step_stmt bounded (stmt_spot (NextLabel inner case labels) (around_of w)) (token_of token.now)) result w }
@@ -208,41 +191,8 @@ fn next_label(inner: u8, case: Case, labels: Vec<Bits>, token: &Lexeme) -> Resul
     }
 }
 
-/// Behind a label of an arm.
-fn behind_label(
-    outer: &mut Outer,
-    inner: u8,
-    case: Case,
-    labels: Vec<Bits>,
-    token: &Lexeme,
-) -> Result<Place, ParseFault>
-    ensures { Goes (step_stmt bounded (stmt_spot (Labels inner case labels) (around_of outer.old)) (token_of token.now)) result outer.new }
-{
-    match token {
-        Lexeme::Sign(Mark::Comma) => { Ok(Place::InStmt(StmtSpot::NextLabel(inner, case, labels))) }
-        Lexeme::Sign(Mark::Colon) => begin_in(outer, Holder::Labelled(case, labels), inner),
-        _ => Err(ParseFault::Unexpected),
-    }
-}
-
-/// Behind the word of a default, with or without its colon.
-fn behind_default(
-    alloc: Global,
-    outer: &mut Outer,
-    inner: u8,
-    case: Case,
-    token: &Lexeme,
-) -> Result<Place, ParseFault>
-    ensures { Goes (step_stmt bounded (stmt_spot (DefaultRead inner case) (around_of outer.old)) (token_of token.now)) result outer.new }
-{
-    hold(outer, Holder::Other(case))?;
-    match token {
-        Lexeme::Sign(Mark::Colon) => Ok(Place::InStmt(StmtSpot::WantStmt(inner))),
-        _ => want_stmt(alloc, outer, inner, token),
-    }
-}
-
 /// What a token does in a statement.
+#[tactic(auto, using(crate::proofs::HoldingLemmas::expects_is))]
 pub(crate) fn step_stmt(
     alloc: Global,
     outer: &mut Outer,
@@ -253,7 +203,12 @@ pub(crate) fn step_stmt(
 {
     match place {
         StmtSpot::WantStmt(depth) => want_stmt(alloc, outer, depth, token),
-        StmtSpot::Target(depth, name) => behind_target(alloc, outer, depth, name, token),
+        StmtSpot::Target(depth, name) => {
+            if !is_mark(Mark::LessEquals, token) {
+                return Err(ParseFault::Unexpected);
+            }
+            Ok(begin(alloc, outer, Base::Set(name), depth))
+        }
         StmtSpot::IfRead(depth, inner) => {
             opened(alloc, outer, inner, Base::Test(depth, inner), token)
         }
@@ -261,9 +216,21 @@ pub(crate) fn step_stmt(
             opened(alloc, outer, inner, Base::Pick(depth, inner), token)
         }
         StmtSpot::FirstLabel(inner, case) => next_label(inner, case, Vec::new(alloc), token),
-        StmtSpot::Labels(inner, case, labels) => behind_label(outer, inner, case, labels, token),
+        StmtSpot::Labels(inner, case, labels) => match token {
+            Lexeme::Sign(Mark::Comma) => {
+                Ok(Place::InStmt(StmtSpot::NextLabel(inner, case, labels)))
+            }
+            Lexeme::Sign(Mark::Colon) => begin_in(outer, Holder::Labelled(case, labels), inner),
+            _ => Err(ParseFault::Unexpected),
+        },
         StmtSpot::NextLabel(inner, case, labels) => next_label(inner, case, labels, token),
-        StmtSpot::DefaultRead(inner, case) => behind_default(alloc, outer, inner, case, token),
+        StmtSpot::DefaultRead(inner, case) => {
+            hold(outer, Holder::Other(case))?;
+            match token {
+                Lexeme::Sign(Mark::Colon) => Ok(Place::InStmt(StmtSpot::WantStmt(inner))),
+                _ => want_stmt(alloc, outer, inner, token),
+            }
+        }
         StmtSpot::Block(inner, depth, old) => in_block(alloc, outer, inner, depth, old, token),
         StmtSpot::HaveStmt(depth, body) => have_stmt(alloc, outer, depth, body, token),
     }
