@@ -3,7 +3,7 @@ ghost use Rattle.std.specs.Prelude.{◌≡◌, ◌+◌, ◌*◌, ◌∷◌, [], 
 ghost use Rattle.verilog_tree.specs.Tokens.{is_space, is_query, mark_of, lengthened, spoils};
 ghost use Rattle.bist_text.specs.Identifiers.{is_digit};
 ghost use Rattle.verilog_tree.specs.Words.{digit_value, radix, is_digit_of};
-ghost use Rattle.verilog_text.specs.Lexing.{begin, lex, last, InGap, InWord, InNumber, Quoted, Lettered, InDigits, Marked};
+ghost use Rattle.verilog_text.specs.Lexing.{begin, lex, last, InGap, InWord, InNumber, Quoted, InDigits, Marked};
 ghost use Rattle.verilog_read.specs.inner.Lexemes.{lexer_of, tokens_of, behind, ends_of, Scans};
 
 use crate::lexemes::{Lexeme, SmallNumber};
@@ -279,17 +279,6 @@ fn lex_digits(base: Base, bits: Bits, c: u8) -> Result<Read, LexFault>
     }
 }
 
-/// Behind the letter of a literal's base.
-fn lex_first_digit(size: Bits, base: Base, c: u8) -> Result<Read, LexFault>
-    ensures { Scans 63 64 (lex (Lettered size.width base) c) result }
-{
-    if is_digit_of(base, c) {
-        pushed(base, size.width(), 0, c)
-    } else {
-        Err(LexFault::Unexpected)
-    }
-}
-
 /// Behind the `'` of a literal.
 fn lex_base(size: Bits, c: u8) -> Result<Read, LexFault>
     ensures { Scans 63 64 (lex (Quoted size.width) c) result }
@@ -326,7 +315,13 @@ pub(crate) fn lex(lexer: Scanner, c: u8, most: u8) -> Result<Read, LexFault>
         Scanner::InWord(name) => lex_word(name, c),
         Scanner::InNumber(long, n) => lex_number(long, n, c, most),
         Scanner::Quoted(size) => lex_base(size, c),
-        Scanner::Lettered(size, base) => lex_first_digit(size, base, c),
+        Scanner::Lettered(size, base) => {
+            if is_digit_of(base, c) {
+                pushed(base, size.width(), 0, c)
+            } else {
+                Err(LexFault::Unexpected)
+            }
+        }
         Scanner::InDigits(base, bits) => lex_digits(base, bits, c),
         Scanner::Marked(mark) => lex_mark(mark, c),
         Scanner::Whole(token) => begin(Some(token), c),

@@ -4,7 +4,7 @@ ghost use Rattle.verilog_tree.specs.Formed.{formed};
 ghost use Rattle.verilog_tree.specs.Plain.{ModuleTree, plain_module};
 ghost use Rattle.verilog_tree.specs.Spells.{Spells, FreelySpells};
 ghost use Rattle.verilog_tree.specs.Grammar.{ByPrecedence};
-ghost use Rattle.verilog_text.specs.Answering.{Stops, take_token, stuck, arrive, while_live, byte_move, fault_at, value_answer, end_answer, answer, run};
+ghost use Rattle.verilog_text.specs.Answering.{Stops, take_token, arrive, while_live, byte_move, fault_at, value_answer, end_answer, answer, run};
 ghost use Rattle.verilog_text.specs.inner.Answering.{read_within};
 ghost use Rattle.verilog_read.specs.inner.Told.{Takes, Moves, Scanned, Gives, both_of};
 ghost use Rattle.verilog_text.specs.Expected.{most_of};
@@ -118,22 +118,6 @@ fn read_on(
     }
 }
 
-/// A byte with which no token goes on and none begins: it is unexpected, unless the token that it ends is an opening
-/// too many.
-fn stuck(
-    alloc: Global,
-    outer: &mut Outer,
-    place: &mut Place,
-    lexer: Scanner,
-) -> Result<Next, ByteFault>
-    ensures { Moves (stuck (state_of place.old outer.old) (last (lexer_of lexer))) result place.new outer.new }
-{
-    if let Some(Some(token)) = last(lexer) {
-        take(alloc, outer, place, &token)?;
-    }
-    Err(ByteFault::Unexpected)
-}
-
 /// A limit counts only where what exceeds it may come.
 fn beyond(expected: bool, fault: ByteFault) -> ByteFault
     ensures { while_live expected (Stops fault) ≡ Stops result }
@@ -157,7 +141,13 @@ fn step_byte(
 {
     match scan(place, outer, lexer, c) {
         Ok(read) => read_on(alloc, outer, place, &lexer, read),
-        Err(LexFault::Unexpected) => stuck(alloc, outer, place, lexer),
+        // The byte is unexpected, unless the token that it ends is an opening too many.
+        Err(LexFault::Unexpected) => {
+            if let Some(Some(token)) = last(lexer) {
+                take(alloc, outer, place, &token)?;
+            }
+            Err(ByteFault::Unexpected)
+        }
         Err(LexFault::LongName) => Err(beyond(
             expected_at(place, outer).names,
             ByteFault::LongName,
