@@ -1,11 +1,13 @@
 -- Which marks may come behind a whole expression by precedence, and behind an operand.
-use Rattle.std.proofs.Common.{◌≡◌, ◌∙◌, ◌||◌, ℕ, Bool, true, false, List, ◌-◌, ◌≤◌, length, take, get_or, Option, Some, [], ◌∷◌, ◌<◌, refl, sym, ap, arith}
+use Rattle.std.proofs.Common.{◌≡◌, ◌∙◌, ◌||◌, ℕ, Bool, true, false, List, ◌-◌, ◌≤◌, length, take, get_or, Option, Some, None, [], ◌∷◌, ◌<◌, refl, sym, ap, arith}
 use Rattle.std.proofs.lemmas.List.{length-take-le}
 use Rattle.verilog_tree.specs.Plain as P
 use Rattle.verilog_tree.specs.Plain.{Expression}
 use Rattle.verilog_tree.specs.declared.tokens.Mark.{Mark}
 use Rattle.verilog_tree.specs.declared.tokens.Mark.TheVariants.{Open, OpenBrace, Bang, Tilde, OpenBracket, Close, Semicolon, Colon, Comma, CloseBrace, Question, Plus, Minus, Ampersand, Bar, Caret, TwoEquals, BangEquals, Less, LessEquals, Greater, GreaterEquals, TwoAmpersands, TwoBars, TwoLess, TwoGreater}
 use Rattle.verilog_tree.specs.declared.tree.UnOp.{UnOp}
+use Rattle.verilog_read.specs.declared.places.Base.TheVariants as B
+use Rattle.verilog_read.specs.declared.places.Base.{Base}
 use Rattle.verilog_read.specs.declared.precedence.Nest.{Nest}
 use Rattle.verilog_read.specs.declared.precedence.Nest.TheVariants as N
 use Rattle.verilog_tree.specs.Grammar.{unlimited, is_sign}
@@ -13,15 +15,16 @@ use Rattle.verilog_tree.specs.Free.{signed}
 use Rattle.verilog_text.specs.Flat.{one_more, Left, settle_all}
 use Rattle.verilog_text.specs.declared.count.Count.{Count}
 use Rattle.verilog_text.specs.declared.count.Count.TheVariants.{Together, Apart}
-use Rattle.verilog_tree.specs.Tokens.{Sign}
+use Rattle.verilog_tree.specs.Tokens.{Token, Sign}
 use Rattle.verilog_text.specs.Places as Q
-use Rattle.verilog_text.specs.Places.{Alone, AsDriver, AsCondition, AsSubject, AsValue, Only, InRound, InList, IfTrue, IfFalse, Linked, Named, WantOperand, WantPrim, AtExpr, State}
-use Rattle.verilog_read.specs.inner.Holding.{nest, nests_of}
+use Rattle.verilog_text.specs.Places.{Head, Around, Alone, AsDriver, AsCondition, AsSubject, AsValue, Only, InRound, InList, IfTrue, IfFalse, Linked, Named, WantOperand, WantPrim, AtExpr, State}
+use Rattle.verilog_read.specs.inner.Frames.{alone}
+use Rattle.verilog_read.specs.inner.Holding.{nest, nests_of, is_expected}
 use Rattle.verilog_text.specs.Expected.{is_step, taken}
-use Rattle.verilog_text.specs.Steps.{in_room, only_where, alone_step, parts_step, close_step, have_step}
-use Rattle.verilog_read.specs.inner.Ends.{ends, splits, closes, goes_on, ends_choice, may, opens, starts}
+use Rattle.verilog_text.specs.Steps.{in_room, expects, only_where, alone_step, parts_step, close_step, have_step}
+use Rattle.verilog_read.specs.inner.Ends.{ends, end_of, splits, closes, goes_on, ends_choice, may, opens, starts}
 use Rattle.verilog_read.proofs.FrameLemmas.{last_split}
-use Rattle.verilog_read.proofs.HoldingLemmas.{nests_push}
+use Rattle.verilog_read.proofs.HoldingLemmas.{nests_push, expects_is}
 
 where_is : (b : Bool) (s : State) → is_step (only_where b (Some s)) ≡ b
 where_is true s = refl
@@ -32,6 +35,16 @@ ends_is p x (AsDriver h n) m = where_is (is_sign Semicolon m) _
 ends_is p x (AsCondition r q a) m = where_is (is_sign Close m) _
 ends_is p x (AsSubject r q a) m = where_is (is_sign Close m) _
 ends_is p x (AsValue n a) m = where_is (is_sign Semicolon m) _
+
+-- another token ends it not
+not_expected : (m : Mark) (s : State) (t : Token) → is_expected m t ≡ false → expects m s t ≡ None
+not_expected m s t e = expects_is m s t ∙ ap (λ b. only_where b (Some s)) e
+
+pub ends_not : (p : ℕ) (x : Expression) (b : Base) (h : Head) (a : Around) (t : Token) → is_expected (end_of b) t ≡ false → alone_step p x (alone b h a) t ≡ None
+ends_not p x (B.Drive n) h a t e = not_expected Semicolon _ t e
+ends_not p x (B.Test r q) h a t e = not_expected Close _ t e
+ends_not p x (B.Pick r q) h a t e = not_expected Close _ t e
+ends_not p x (B.Set n) h a t e = not_expected Semicolon _ t e
 
 splits_is : (p : ℕ) (c : Count) (r : ℕ) (old : P.Expressions) (x : Expression) (n : Count) (ws : List Left) (u : Option UnOp) (o : Q.Nest) (m : Mark) → is_step (parts_step p c r old x n ws u o m) ≡ splits m
 splits_is p c r old x n ws u o Comma = refl

@@ -36,8 +36,8 @@ style_held [] a = refl
 style_held (H.Block r old ∷ hs) a = style_held hs (holder (H.Block r old) a)
 style_held (H.Then r c ∷ hs) a = style_held hs (holder (H.Then r c) a)
 style_held (H.Else r c s ∷ hs) a = style_held hs (holder (H.Else r c s) a)
-style_held (H.Labelled r x bs ls ∷ hs) a = style_held hs (holder (H.Labelled r x bs ls) a)
-style_held (H.Other r x bs ∷ hs) a = style_held hs (holder (H.Other r x bs) a)
+style_held (H.Labelled k ls ∷ hs) a = style_held hs (holder (H.Labelled k ls) a)
+style_held (H.Other k ∷ hs) a = style_held hs (holder (H.Other k) a)
 
 found_is : (b : Bool) (n : List ℕ) (f : List ℕ → State) → unless b (f n) ≡ found (name_unless b n) f
 found_is true n f = refl

@@ -1,6 +1,5 @@
 -- What the parts of the lexer answer, for the whole.
 use Rattle.std.proofs.Common.{true, false, ◌≡◌, ℕ, ◌≤◌, Option, Some, None, Result, Ok, Err, ap, arith}
-use Rattle.std.specs.Option.{ok_or}
 use Rattle.std.proofs.lemmas.Nat.{pow_pos}
 use Rattle.bist_bits.specs.Vector.{IsVector}
 use Rattle.bist_text.specs.Machine.{Holds}
@@ -8,9 +7,8 @@ use Rattle.verilog_tree.specs.Tokens.{Token}
 use Rattle.verilog_read.specs.declared.lexer.LexFault.{LexFault}
 use Rattle.verilog_read.specs.declared.lexer.LexFault.TheVariants.{Unexpected, LongName, LargeNumber, WrongLiteral}
 use Rattle.verilog_read.specs.declared.lexer.Read.{Read}
-use Rattle.verilog_read.specs.declared.lexer.Scanner.{Scanner}
-use Rattle.verilog_read.specs.inner.Lexemes.{lexer_of, Fits, IsLarge, IsSize, Scans, BeginsAs, Stays}
-use Rattle.verilog_text.specs.Lexing.{Lexer, InWord, InNumber, silent}
+use Rattle.verilog_read.specs.inner.Lexemes.{lexer_of, Fits, IsLarge, IsSize, Scans, behind}
+use Rattle.verilog_text.specs.Lexing.{Lexer, silent, with_token, InWord, InNumber}
 
 fits_more : (most : ℕ) (l : Lexer) → 63 ≤ most → Fits 63 l → Fits most l
 fits_more most (InNumber long n) h f = omega (arith, f, h)
@@ -34,9 +32,14 @@ any_numbers most o (Err LongName) l h s = s
 any_numbers most o (Err LargeNumber) l h s = holds_large most o h s
 any_numbers most o (Err WrongLiteral) l h s = s
 
-pub begins_stays : (o : Option Lexer) (r : Option Scanner) → BeginsAs o r → Stays (silent o) (ok_or r Unexpected)
-begins_stays o (Some s) h = (ap silent h.0, h.1)
-begins_stays o None h = ap silent h
+-- what a byte begins
+pub begins_behind : (t : Option Token) (o : Option Lexer) (l : Lexer) → o ≡ Some l → behind t o ≡ Some (l, t)
+begins_behind None o l e = ap silent e
+begins_behind (Some t) o l e = ap (with_token t) e
+
+pub none_behind : (t : Option Token) (o : Option Lexer) → o ≡ None → behind t o ≡ None
+none_behind None o e = ap silent e
+none_behind (Some t) o e = ap (with_token t) e
 
 -- a size is that of a vector
 pub size_vector : (n : ℕ) → IsSize n → IsVector n 0

@@ -1,15 +1,13 @@
 -- Steps, each where the parser stands.
-use Rattle.std.proofs.Common.{◌≡◌, ◌∙◌, ℕ, Bool, true, false, List, [], Option, Some, None, Result, codes, if◌then◌else◌, map, refl, subst, sym, ap}
+use Rattle.std.proofs.Common.{◌≡◌, ◌∙◌, ℕ, Bool, true, false, List, [], Option, Some, None, Result, codes, if◌then◌else◌, refl, subst, sym, ap}
 use Rattle.std.specs.Str.{bytes_eq}
 use Rattle.std.proofs.lemmas.Slice.Eq.{bytes_eq-Decides}
 use Rattle.bist_bits.specs.Vector.{Vector}
 use Rattle.bist_text.specs.ReservedWords.{is_among, reserved_words}
 use Rattle.verilog_tree.specs.Grammar.{Limit, deeper}
 use Rattle.verilog_tree.specs.Plain as P
-use Rattle.verilog_tree.specs.inner.Plain.{plain_arm}
 use Rattle.verilog_tree.specs.Spells.{bounded}
 use Rattle.verilog_tree.specs.Tokens.{Token, Identifier, Number, Based, Unused, Sign}
-use Rattle.verilog_tree.specs.declared.tree.Arm.{Arm}
 use Rattle.verilog_text.specs.Places.{Around, State, AtStmt, Target, FirstLabel, NextLabel}
 use Rattle.verilog_text.specs.Steps.{step_stmt, word_step, target_step, arm_step, in_room}
 use Rattle.verilog_read.specs.declared.fault.ParseFault.{ParseFault}
@@ -29,19 +27,18 @@ pub stmt_stepped : (p q : StmtSpot) (a : Around) (t : Token) (r : Result Place P
 stmt_stepped p q a t r w is h = subst (λ x. Goes (step_stmt bounded (stmt_spot x a) t) r w) (sym is) h
 
 -- the first label comes where none is read
-first_is : (r q : ℕ) (e : P.Expression) (a : Around) (t : Token) → step_stmt bounded (FirstLabel r q e P.NoArm a) t ≡ step_stmt bounded (NextLabel r q e P.NoArm [] a) t
-first_is r q e a (Identifier n) = refl
-first_is r q e a (Number l n) = refl
-first_is r q e a (Based x) = refl
-first_is r q e a Unused = refl
-first_is r q e a (Sign m) = refl
+first_is : (r q : ℕ) (e : P.Expression) (bs : P.Arms) (a : Around) (t : Token) → step_stmt bounded (FirstLabel r q e bs a) t ≡ step_stmt bounded (NextLabel r q e bs [] a) t
+first_is r q e bs a (Identifier n) = refl
+first_is r q e bs a (Number l n) = refl
+first_is r q e bs a (Based x) = refl
+first_is r q e bs a Unused = refl
+first_is r q e bs a (Sign m) = refl
 
-pub first_stepped : (r q : ℕ) (e : P.Expression) (bs : List Arm) (ls : List Vector) (a : Around) (t : Token) (o : Result Place ParseFault) (w : Outer) → bs ≡ [] → ls ≡ [] → Goes (step_stmt bounded (NextLabel r q e (P.arms (map plain_arm bs)) ls a) t) o w
-    → Goes (step_stmt bounded (FirstLabel r q e P.NoArm a) t) o w
-first_stepped r q e bs ls a t o w f g h =
-    let k = subst (λ x. Goes (step_stmt bounded (NextLabel r q e (P.arms (map plain_arm x)) ls a) t) o w) f h in
-    let j = subst (λ x. Goes (step_stmt bounded (NextLabel r q e P.NoArm x a) t) o w) g k in
-    subst (λ (s : Option State). Goes s o w) (sym (first_is r q e a t)) j
+pub first_stepped : (r q : ℕ) (e : P.Expression) (bs : P.Arms) (ls : List Vector) (a : Around) (t : Token) (o : Result Place ParseFault) (w : Outer) → ls ≡ [] → Goes (step_stmt bounded (NextLabel r q e bs ls a) t) o w
+    → Goes (step_stmt bounded (FirstLabel r q e bs a) t) o w
+first_stepped r q e bs ls a t o w g h =
+    let j = subst (λ x. Goes (step_stmt bounded (NextLabel r q e bs x a) t) o w) g h in
+    subst (λ (s : Option State). Goes s o w) (sym (first_is r q e bs a t)) j
 
 -- the first label of an arm comes where none is read
 pub arm_stepped : (r q : ℕ) (e : P.Expression) (bs : P.Arms) (ls : List Vector) (a : Around) (t : Lexeme) (x : Vector) (o : Result Place ParseFault) (w : Outer) → t ≡ X.Constant x → ls ≡ [] → Goes (step_stmt bounded (NextLabel r q e bs ls a) (token_of t)) o w

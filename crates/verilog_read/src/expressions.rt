@@ -1,74 +1,35 @@
 //! The places within an expression, the brackets behind a name among them, and what a token does behind an expression that
 //! stands in no other.
-ghost use Rattle.verilog_tree.specs.Plain.{plain, AssignItem, SetTo};
-ghost use Rattle.verilog_tree.specs.Grammar.{alone};
+ghost use Rattle.std.specs.Prelude.{◌≡◌};
+ghost use Rattle.verilog_tree.specs.Plain.{plain};
 ghost use Rattle.verilog_tree.specs.Spells.{bounded};
-ghost use Rattle.verilog_text.specs.Places.{AtStmt, AtItem, WantItem, WantStmt, HaveStmt, InThen, with_item};
-ghost use Rattle.verilog_text.specs.Steps.{alone_step, expects, step_expr};
+ghost use Rattle.verilog_text.specs.Steps.{alone_step, step_expr};
+ghost use Rattle.verilog_read.specs.inner.Ends.{end_of};
 ghost use Rattle.verilog_read.specs.inner.Holding.{token_of, standing, nests_of};
-ghost use Rattle.verilog_read.specs.inner.Frames.{alone_of, around_of, head_of};
+ghost use Rattle.verilog_read.specs.inner.Frames.{alone_of};
 ghost use Rattle.verilog_read.specs.inner.Answers.{Goes};
 
 use crate::fault::ParseFault;
 use crate::lexemes::Lexeme;
-use crate::places::{Base, Holder, ItemSpot, Outer, Place, StmtSpot};
+use crate::places::{Base, Case, Holder, ItemSpot, Outer, Place, StmtSpot};
 use crate::precedence::{Chain, ExprSpot, have, is_mark, operand, prim};
-use crate::stacks::{add_item, hold};
+use crate::stacks::{add_item, begin_in};
 use crate::trees::only;
 use std::alloc::Global;
 use verilog_tree::{Expr, Item, Mark, Name, Stmt};
 
-/// The expression of an `assign` ends.
-#[tactic(auto, using(crate::proofs::HoldingLemmas::expects_is))]
-fn driven(outer: &mut Outer, name: Name, x: Expr, token: &Lexeme) -> Result<Place, ParseFault>
-    ensures { Goes (expects Mark.Semicolon (AtItem (WantItem (with_item (head_of outer.old) (AssignItem name.bytes (plain x))))) (token_of token.now)) result outer.new }
+/// The mark that ends an expression that stands in no other.
+pub(crate) fn end_of(base: &Base) -> Mark
+    ensures { result ≡ end_of base.now }
 {
-    if !is_mark(Mark::Semicolon, token) {
-        return Err(ParseFault::Unexpected);
+    match base {
+        Base::Drive(_) | Base::Set(_) => Mark::Semicolon,
+        Base::Test(_, _) | Base::Pick(_, _) => Mark::Close,
     }
-    add_item(outer, Item::Assign(name, x))?;
-    Ok(Place::InItem(ItemSpot::Want))
-}
-
-/// The condition of an `if` ends.
-#[tactic(auto, using(crate::proofs::HoldingLemmas::expects_is))]
-fn tested(
-    outer: &mut Outer,
-    depth: u8,
-    inner: u8,
-    x: Expr,
-    token: &Lexeme,
-) -> Result<Place, ParseFault>
-    ensures { Goes (expects Mark.Close (AtStmt (WantStmt inner (InThen depth (plain x) (around_of outer.old)))) (token_of token.now)) result outer.new }
-{
-    if !is_mark(Mark::Close, token) {
-        return Err(ParseFault::Unexpected);
-    }
-    hold(outer, Holder::Then(depth, x))?;
-    Ok(Place::InStmt(StmtSpot::WantStmt(inner)))
-}
-
-/// The value that a statement sets ends.
-#[tactic(auto, using(crate::proofs::HoldingLemmas::expects_is))]
-fn set(
-    alloc: Global,
-    outer: &Outer,
-    depth: u8,
-    name: Name,
-    x: Expr,
-    token: &Lexeme,
-) -> Result<Place, ParseFault>
-    ensures { Goes (expects Mark.Semicolon (AtStmt (HaveStmt depth (alone (SetTo name.bytes (plain x))) (around_of outer.now))) (token_of token.now)) result outer.now }
-{
-    if !is_mark(Mark::Semicolon, token) {
-        return Err(ParseFault::Unexpected);
-    }
-    let body = only(alloc, Stmt::Set(name, x))?;
-    Ok(Place::InStmt(StmtSpot::HaveStmt(depth, body)))
 }
 
 /// What a token does behind an expression that stands in no other.
-#[tactic(auto, using(crate::proofs::HoldingLemmas::expects_is))]
+#[tactic(auto, using(crate::proofs::HoldingLemmas::expects_is, crate::proofs::Ends::ends_not))]
 pub(crate) fn have_whole(
     alloc: Global,
     outer: &mut Outer,
@@ -79,14 +40,27 @@ pub(crate) fn have_whole(
     ensures { Goes (alone_step depth (plain x) (alone_of outer.old) (token_of token.now)) result outer.new }
 {
     let base = outer.base;
-    match &base {
-        Base::Drive(name) => driven(outer, *name, x, token),
-        Base::Test(depth, inner) => tested(outer, *depth, *inner, x, token),
-        Base::Pick(depth, inner) if is_mark(Mark::Close, token) => {
-            Ok(Place::InStmt(StmtSpot::FirstLabel(*depth, *inner, x)))
+    if !is_mark(end_of(&base), token) {
+        return Err(ParseFault::Unexpected);
+    }
+    match base {
+        Base::Drive(name) => {
+            add_item(outer, Item::Assign(name, x))?;
+            Ok(Place::InItem(ItemSpot::Want))
         }
-        Base::Pick(_, _) => Err(ParseFault::Unexpected),
-        Base::Set(name) => set(alloc, outer, depth, *name, x, token),
+        Base::Test(above, inner) => begin_in(outer, Holder::Then(above, x), inner),
+        Base::Pick(above, inner) => {
+            let case = Case {
+                depth: above,
+                subject: x,
+                arms: Vec::new(alloc),
+            };
+            Ok(Place::InStmt(StmtSpot::FirstLabel(inner, case)))
+        }
+        Base::Set(name) => {
+            let body = only(alloc, Stmt::Set(name, x))?;
+            Ok(Place::InStmt(StmtSpot::HaveStmt(depth, body)))
+        }
     }
 }
 

@@ -1,10 +1,9 @@
 //! What a token does between statements.
 ghost use Rattle.std.specs.Prelude.{◌≡◌, Some};
 ghost use Rattle.verilog_tree.specs.Spells.{bounded};
-ghost use Rattle.verilog_text.specs.Places.{HeadOpen, ClockRead, AtItem};
-ghost use Rattle.verilog_text.specs.Steps.{declared, takes_name, range_step, name_step, port_step, input_step, output_step, step_item, step};
+ghost use Rattle.verilog_text.specs.Steps.{declared, takes_name, range_step, name_step, input_step, output_step, step_item, step};
 ghost use Rattle.verilog_read.specs.inner.Holding.{token_of};
-ghost use Rattle.verilog_read.specs.inner.Frames.{styled, head_of};
+ghost use Rattle.verilog_read.specs.inner.Frames.{head_of};
 ghost use Rattle.verilog_read.specs.inner.Spots.{use_of, item_spot, state_of};
 ghost use Rattle.verilog_read.specs.inner.Answers.{Goes, a_name, bytes_of, is_zero_number};
 
@@ -78,37 +77,19 @@ fn want_range(outer: &mut Outer, what: Use, token: &Lexeme) -> Result<Place, Par
     }
 }
 
-fn in_port(outer: &Outer, token: &Lexeme) -> Result<Place, ParseFault>
-    ensures { Goes (port_step (head_of outer.now) (token_of token.now)) result outer.now }
-{
-    if is_word("input", token) {
-        Ok(Place::InItem(ItemSpot::InputRead))
-    } else if is_word("output", token) {
-        Ok(Place::InItem(ItemSpot::OutputRead))
-    } else {
-        Err(ParseFault::Unexpected)
-    }
-}
-
-fn in_input(outer: &mut Outer, token: &Lexeme) -> Result<Place, ParseFault>
-    ensures { Goes (input_step (head_of outer.old) (token_of token.now)) result outer.new }
+/// What a token does behind the direction of a port.
+fn behind_dir(outer: &mut Outer, dir: Dir, token: &Lexeme) -> Result<Place, ParseFault>
+    ensures input { dir ≡ Dir.Input → Goes (input_step (head_of outer.old) (token_of token.now)) result outer.new }
+    ensures output { dir ≡ Dir.Output → Goes (output_step (head_of outer.old) (token_of token.now)) result outer.new }
 {
     if is_word("wire", token) {
-        Ok(Place::InItem(ItemSpot::WantRange(Use::Port(Dir::Input))))
-    } else {
-        want_range(outer, Use::Port(Dir::Input), token)
+        return Ok(Place::InItem(ItemSpot::WantRange(Use::Port(dir))));
     }
-}
-
-fn in_output(outer: &mut Outer, token: &Lexeme) -> Result<Place, ParseFault>
-    ensures { Goes (output_step (head_of outer.old) (token_of token.now)) result outer.new }
-{
-    if is_word("wire", token) {
-        Ok(Place::InItem(ItemSpot::WantRange(Use::Port(Dir::Output))))
-    } else if is_word("reg", token) {
-        Ok(Place::InItem(ItemSpot::WantRange(Use::Port(Dir::OutputReg))))
-    } else {
-        want_range(outer, Use::Port(Dir::Output), token)
+    match dir {
+        Dir::Output if is_word("reg", token) => {
+            Ok(Place::InItem(ItemSpot::WantRange(Use::Port(Dir::OutputReg))))
+        }
+        _ => want_range(outer, Use::Port(dir), token),
     }
 }
 
@@ -143,15 +124,22 @@ pub(crate) fn step_item(
 {
     let next = match place {
         ItemSpot::Begin if is_word("module", token) => ItemSpot::HeadName,
-        ItemSpot::HeadName => return head_name(outer, token),
+        ItemSpot::HeadName => match name_in(token) {
+            Some(name) => {
+                outer.tree.name = name;
+                ItemSpot::HeadOpen
+            }
+            None => return Err(ParseFault::Unexpected),
+        },
         ItemSpot::HeadOpen if is_mark(Mark::Open, token) => {
             outer.tree.ports.clear();
             outer.tree.items.clear();
             ItemSpot::WantPort
         }
-        ItemSpot::WantPort => return in_port(outer, token),
-        ItemSpot::InputRead => return in_input(outer, token),
-        ItemSpot::OutputRead => return in_output(outer, token),
+        ItemSpot::WantPort if is_word("input", token) => ItemSpot::InputRead,
+        ItemSpot::WantPort if is_word("output", token) => ItemSpot::OutputRead,
+        ItemSpot::InputRead => return behind_dir(outer, Dir::Input, token),
+        ItemSpot::OutputRead => return behind_dir(outer, Dir::Output, token),
         ItemSpot::WantRange(what) => return want_range(outer, *what, token),
         ItemSpot::WantHigh(what) => match token {
             Lexeme::Number(_, high) => ItemSpot::WantColon(*what, *high),
@@ -178,7 +166,13 @@ pub(crate) fn step_item(
         ItemSpot::AlwaysRead if is_mark(Mark::At, token) => ItemSpot::AtRead,
         ItemSpot::AtRead if is_mark(Mark::Open, token) => ItemSpot::ClockOpen,
         ItemSpot::ClockOpen if is_word("posedge", token) => ItemSpot::EdgeRead,
-        ItemSpot::EdgeRead => return clock_name(outer, token),
+        ItemSpot::EdgeRead => match name_in(token) {
+            Some(name) => {
+                outer.clock = name;
+                ItemSpot::ClockRead
+            }
+            None => return Err(ParseFault::Unexpected),
+        },
         ItemSpot::ClockRead if is_mark(Mark::Close, token) => {
             outer.holders.clear();
             return Ok(Place::InStmt(StmtSpot::WantStmt(0)));
@@ -186,34 +180,6 @@ pub(crate) fn step_item(
         _ => return Err(ParseFault::Unexpected),
     };
     Ok(Place::InItem(next))
-}
-
-/// The name of the module.
-#[tactic(auto, using(crate::proofs::FrameLemmas::takes_name_is))]
-fn head_name(outer: &mut Outer, token: &Lexeme) -> Result<Place, ParseFault>
-    ensures { Goes (takes_name (λ n. AtItem (HeadOpen (styled outer.old.style) n)) (token_of token.now)) result outer.new }
-{
-    match name_in(token) {
-        Some(name) => {
-            outer.tree.name = name;
-            Ok(Place::InItem(ItemSpot::HeadOpen))
-        }
-        None => Err(ParseFault::Unexpected),
-    }
-}
-
-/// The name of a clock.
-#[tactic(auto, using(crate::proofs::FrameLemmas::takes_name_is))]
-fn clock_name(outer: &mut Outer, token: &Lexeme) -> Result<Place, ParseFault>
-    ensures { Goes (takes_name (λ c. AtItem (ClockRead (head_of outer.old) c)) (token_of token.now)) result outer.new }
-{
-    match name_in(token) {
-        Some(name) => {
-            outer.clock = name;
-            Ok(Place::InItem(ItemSpot::ClockRead))
-        }
-        None => Err(ParseFault::Unexpected),
-    }
 }
 
 /// What a token does where the parser stands.

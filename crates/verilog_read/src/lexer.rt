@@ -2,10 +2,9 @@
 ghost use Rattle.std.specs.Prelude.{◌≡◌, ◌+◌, ◌*◌, ◌∷◌, [], ◌++◌, true, Some, None, ◌≤◌, ◌<◌, ◌↔◌, length, IsOk, IfOk, IfErr};
 ghost use Rattle.verilog_tree.specs.Tokens.{is_space, is_query, mark_of, lengthened, spoils};
 ghost use Rattle.bist_text.specs.Identifiers.{is_digit};
-ghost use Rattle.verilog_tree.specs.Words.{digit_value, radix, is_digit_of, base_of};
-ghost use Rattle.verilog_text.specs.Lexing.{begin, lex, last, with_token, InGap, InWord, InNumber, Quoted, Lettered, InDigits, Marked};
-ghost use Rattle.verilog_read.specs.inner.Holding.{token_of};
-ghost use Rattle.verilog_read.specs.inner.Lexemes.{lexer_of, ends_of, Scans, Begins, BeginsAs, Stays};
+ghost use Rattle.verilog_tree.specs.Words.{digit_value, radix, is_digit_of};
+ghost use Rattle.verilog_text.specs.Lexing.{begin, lex, last, InGap, InWord, InNumber, Quoted, InDigits, Marked};
+ghost use Rattle.verilog_read.specs.inner.Lexemes.{lexer_of, tokens_of, behind, ends_of, Scans};
 
 use crate::lexemes::{Lexeme, SmallNumber};
 use bist_bits::Bits;
@@ -90,18 +89,6 @@ fn radix(base: Base) -> u8
     }
 }
 
-fn base_of(c: u8) -> Option<Base>
-    ensures { result ≡ base_of c }
-{
-    match c {
-        b'b' | b'B' => Some(Base::Binary),
-        b'o' | b'O' => Some(Base::Octal),
-        b'd' | b'D' => Some(Base::Decimal),
-        b'h' | b'H' => Some(Base::Hexadecimal),
-        _ => None,
-    }
-}
-
 fn is_query(base: Base, c: u8) -> bool
     ensures { result ≡ is_query base c }
 {
@@ -182,35 +169,26 @@ fn longer(name: Name, c: u8) -> Result<Name, LexFault>
     }
 }
 
-/// What a byte begins, in white space or behind a token.
-fn begin(c: u8) -> Option<Scanner>
-    ensures { BeginsAs (begin c) result }
+/// What a byte begins, behind a token or in white space.
+#[tactic(auto, using(crate::proofs::LexerLimits::begins_behind, crate::proofs::LexerLimits::none_behind))]
+fn begin(token: Option<Lexeme>, c: u8) -> Result<Read, LexFault>
+    ensures { Scans 63 64 (behind (tokens_of token) (begin c)) result }
 {
-    if is_space(c) {
-        return Some(Scanner::InGap(Within::Between));
-    }
-    if c == b'/' {
-        return Some(Scanner::InGap(Within::Slash));
-    }
-    if begins_identifier(c) {
-        return Some(Scanner::InWord(longer(Name::new(), c).ok()?));
-    }
-    if is_digit(c) {
-        return Some(Scanner::InNumber(false, SmallNumber { value: c - b'0' }));
-    }
-    Some(Scanner::Marked(mark_of(c)?))
-}
-
-fn with_token(token: Lexeme, c: u8) -> Result<Read, LexFault>
-    ensures { Scans 63 64 (with_token (token_of token) (begin c)) result }
-{
-    match begin(c) {
-        Some(lexer) => Ok(Read {
-            lexer,
-            token: Some(token),
-        }),
-        None => Err(LexFault::Unexpected),
-    }
+    let lexer = if is_space(c) {
+        Scanner::InGap(Within::Between)
+    } else if c == b'/' {
+        Scanner::InGap(Within::Slash)
+    } else if begins_identifier(c) {
+        Scanner::InWord(longer(Name::new(), c)?)
+    } else if is_digit(c) {
+        Scanner::InNumber(false, SmallNumber { value: c - b'0' })
+    } else {
+        match mark_of(c) {
+            Some(mark) => Scanner::Marked(mark),
+            None => return Err(LexFault::Unexpected),
+        }
+    };
+    Ok(Read { lexer, token })
 }
 
 fn silent(lexer: Scanner) -> Read
@@ -221,27 +199,19 @@ fn silent(lexer: Scanner) -> Read
 }
 
 /// What a byte does in white space.
-#[tactic(auto, using(crate::proofs::LexerLimits::begins_stays))]
-fn gap(within: Within, c: u8) -> Result<Scanner, LexFault>
-    ensures { Stays (lex (InGap within) c) result }
-{
-    match (within, c) {
-        (Within::Between, _) => begin(c).ok_or(LexFault::Unexpected),
-        (Within::Line, b'\n') => Ok(Scanner::InGap(Within::Between)),
-        (Within::Slash, b'/') | (Within::Line, _) => Ok(Scanner::InGap(Within::Line)),
-        (Within::Slash, b'*') => Ok(Scanner::InGap(Within::Block)),
-        (Within::Slash, _) => Err(LexFault::Unexpected),
-        (Within::Block | Within::Star, b'*') => Ok(Scanner::InGap(Within::Star)),
-        (Within::Star, b'/') => Ok(Scanner::InGap(Within::Between)),
-        (Within::Block | Within::Star, _) => Ok(Scanner::InGap(Within::Block)),
-    }
-}
-
 fn lex_gap(within: Within, c: u8) -> Result<Read, LexFault>
     ensures { Scans 63 64 (lex (InGap within) c) result }
 {
-    let next = gap(within, c)?;
-    Ok(silent(next))
+    let next = match (within, c) {
+        (Within::Between, _) => return begin(None, c),
+        (Within::Line, b'\n') | (Within::Star, b'/') => Within::Between,
+        (Within::Slash, b'/') | (Within::Line, _) => Within::Line,
+        (Within::Slash, b'*') => Within::Block,
+        (Within::Slash, _) => return Err(LexFault::Unexpected),
+        (Within::Block | Within::Star, b'*') => Within::Star,
+        (Within::Block | Within::Star, _) => Within::Block,
+    };
+    Ok(silent(Scanner::InGap(next)))
 }
 
 fn lex_word(name: Name, c: u8) -> Result<Read, LexFault>
@@ -251,22 +221,12 @@ fn lex_word(name: Name, c: u8) -> Result<Read, LexFault>
         let longer = longer(name, c)?;
         Ok(silent(Scanner::InWord(longer)))
     } else {
-        with_token(Lexeme::Word(name), c)
-    }
-}
-
-/// Behind the `'` of a literal of this size.
-#[tactic(auto, using(crate::proofs::LexerLimits::size_vector))]
-fn sized(n: SmallNumber) -> Result<Scanner, LexFault>
-    ensures { Begins 63 64 (Some (Quoted n.value)) result }
-{
-    match Bits::try_new(n.value, 0) {
-        Some(size) => Ok(Scanner::Quoted(size)),
-        None => Err(LexFault::WrongLiteral),
+        begin(Some(Lexeme::Word(name)), c)
     }
 }
 
 /// Behind the digits of a number, which may be at most `most`.
+#[tactic(auto, using(crate::proofs::LexerLimits::size_vector))]
 fn lex_number(long: bool, n: SmallNumber, c: u8, most: u8) -> Result<Read, LexFault>
     requires low { 63 ≤ most }
     requires high { most ≤ 64 }
@@ -279,17 +239,19 @@ fn lex_number(long: bool, n: SmallNumber, c: u8, most: u8) -> Result<Read, LexFa
         let value = n.value * 10 + (c - b'0');
         Ok(silent(Scanner::InNumber(true, SmallNumber { value })))
     } else if c == b'\'' {
-        let size = sized(n)?;
-        Ok(silent(size))
+        match Bits::try_new(n.value, 0) {
+            Some(size) => Ok(silent(Scanner::Quoted(size))),
+            None => Err(LexFault::WrongLiteral),
+        }
     } else {
-        with_token(Lexeme::Number(long, n), c)
+        begin(Some(Lexeme::Number(long, n)), c)
     }
 }
 
 /// The digits so far, and a further one.
-fn pushed(base: Base, size: u8, value: u64, c: u8) -> Result<Scanner, LexFault>
+fn pushed(base: Base, size: u8, value: u64, c: u8) -> Result<Read, LexFault>
     requires { is_digit_of base c ≡ true }
-    ensures { Begins 63 64 (Some (InDigits size base (value * radix base + digit_value c))) result }
+    ensures { Scans 63 64 (Some (InDigits size base (value * radix base + digit_value c), None)) result }
 {
     let Some(shifted) = value.checked_mul(u64::from(radix(base))) else {
         return Err(LexFault::WrongLiteral);
@@ -298,7 +260,7 @@ fn pushed(base: Base, size: u8, value: u64, c: u8) -> Result<Scanner, LexFault>
         return Err(LexFault::WrongLiteral);
     };
     match Bits::try_new(size, value) {
-        Some(bits) => Ok(Scanner::InDigits(base, bits)),
+        Some(bits) => Ok(silent(Scanner::InDigits(base, bits))),
         None => Err(LexFault::WrongLiteral),
     }
 }
@@ -307,36 +269,28 @@ fn lex_digits(base: Base, bits: Bits, c: u8) -> Result<Read, LexFault>
     ensures { Scans 63 64 (lex (InDigits bits.width base bits.value) c) result }
 {
     if is_digit_of(base, c) {
-        let digits = pushed(base, bits.width(), bits.value(), c)?;
-        Ok(silent(digits))
+        pushed(base, bits.width(), bits.value(), c)
     } else if c == b'_' {
         Ok(silent(Scanner::InDigits(base, bits)))
     } else if is_query(base, c) {
         Ok(silent(Scanner::Whole(Lexeme::Unused)))
     } else {
-        with_token(Lexeme::Constant(bits), c)
+        begin(Some(Lexeme::Constant(bits)), c)
     }
-}
-
-/// Behind the letter of a literal's base.
-fn lex_first_digit(size: Bits, base: Base, c: u8) -> Result<Read, LexFault>
-    ensures { Scans 63 64 (lex (Lettered size.width base) c) result }
-{
-    if !is_digit_of(base, c) {
-        return Err(LexFault::Unexpected);
-    }
-    let digits = pushed(base, size.width(), 0, c)?;
-    Ok(silent(digits))
 }
 
 /// Behind the `'` of a literal.
 fn lex_base(size: Bits, c: u8) -> Result<Read, LexFault>
     ensures { Scans 63 64 (lex (Quoted size.width) c) result }
 {
-    match base_of(c) {
-        Some(base) => Ok(silent(Scanner::Lettered(size, base))),
-        None => Err(LexFault::Unexpected),
-    }
+    let base = match c {
+        b'b' | b'B' => Base::Binary,
+        b'o' | b'O' => Base::Octal,
+        b'd' | b'D' => Base::Decimal,
+        b'h' | b'H' => Base::Hexadecimal,
+        _ => return Err(LexFault::Unexpected),
+    };
+    Ok(silent(Scanner::Lettered(size, base)))
 }
 
 fn lex_mark(mark: Mark, c: u8) -> Result<Read, LexFault>
@@ -345,7 +299,7 @@ fn lex_mark(mark: Mark, c: u8) -> Result<Read, LexFault>
     match lengthened(mark, c) {
         Some(longer) => Ok(silent(Scanner::Marked(longer))),
         None if spoils(mark, c) => Ok(silent(Scanner::Whole(Lexeme::Unused))),
-        None => with_token(Lexeme::Sign(mark), c),
+        None => begin(Some(Lexeme::Sign(mark)), c),
     }
 }
 
@@ -361,10 +315,16 @@ pub(crate) fn lex(lexer: Scanner, c: u8, most: u8) -> Result<Read, LexFault>
         Scanner::InWord(name) => lex_word(name, c),
         Scanner::InNumber(long, n) => lex_number(long, n, c, most),
         Scanner::Quoted(size) => lex_base(size, c),
-        Scanner::Lettered(size, base) => lex_first_digit(size, base, c),
+        Scanner::Lettered(size, base) => {
+            if is_digit_of(base, c) {
+                pushed(base, size.width(), 0, c)
+            } else {
+                Err(LexFault::Unexpected)
+            }
+        }
         Scanner::InDigits(base, bits) => lex_digits(base, bits, c),
         Scanner::Marked(mark) => lex_mark(mark, c),
-        Scanner::Whole(token) => with_token(token, c),
+        Scanner::Whole(token) => begin(Some(token), c),
     }
 }
 

@@ -1,7 +1,7 @@
 //! The operators of an expression that wait for their second operand.
 ghost use Rattle.std.specs.Prelude.{◌≡◌, IfOk, IfErr};
 ghost use Rattle.verilog_tree.specs.Plain.{plain};
-ghost use Rattle.verilog_text.specs.Flat.{settle, settle_all, linked};
+ghost use Rattle.verilog_text.specs.Flat.{settle};
 ghost use Rattle.verilog_read.specs.inner.Waiting.{lefts_of, waiting_of};
 
 use crate::fault::ParseFault;
@@ -15,6 +15,9 @@ pub struct Left {
     pub operand: Expr,
     pub operator: BinOp,
 }
+
+/// The height of the operators that bind most loosely.
+pub(crate) const MOST_HEIGHT: u8 = 9;
 
 /// The operators that bind at least as tightly as one of this height take what is behind them.
 #[tactic(auto, using(crate::proofs::WaitingLemmas::lefts_push))]
@@ -36,33 +39,4 @@ pub(crate) fn settle(
         last = binary(alloc, left.operator, left.operand, last)?;
     }
     Ok(last)
-}
-
-/// All operators take what is behind them.
-#[tactic(auto, using(crate::proofs::WaitingLemmas::lefts_push))]
-pub(crate) fn settle_all(alloc: Global, lefts: &mut Vec<Left>, x: Expr) -> Result<Expr, ParseFault>
-    ensures settled { IfOk result (λ y. plain y ≡ settle_all (lefts_of lefts.old.items) (plain x)) }
-    ensures fault { IfErr result (λ f. f ≡ ParseFault.NoMemory) }
-{
-    let mut last = x;
-    while let Some(left) = lefts.pop() {
-        last = binary(alloc, left.operator, left.operand, last)?;
-    }
-    Ok(last)
-}
-
-/// An operator comes behind an operand: it waits, once those before it that bind as tightly have theirs.
-#[tactic(auto, using(crate::proofs::WaitingLemmas::lefts_push))]
-pub(crate) fn link(
-    alloc: Global,
-    operator: BinOp,
-    lefts: &mut Vec<Left>,
-    x: Expr,
-) -> Result<(), ParseFault>
-    ensures linked { IfOk result (λ u. lefts_of lefts.new.items ≡ linked operator (lefts_of lefts.old.items) (plain x)) }
-    ensures fault { IfErr result (λ f. f ≡ ParseFault.NoMemory) }
-{
-    let operand = settle(alloc, height(operator), lefts, x)?;
-    lefts.push(Left { operand, operator })?;
-    Ok(())
 }

@@ -1,13 +1,13 @@
 //! Operands and what joins them, operators, parentheses, braces and choices: what a token does where an operand is wanted,
 //! and behind one.
-ghost use Rattle.std.specs.Prelude.{◌≡◌, ◌<◌, length, Some, IfSome, IfOk, IfErr, [], map};
+ghost use Rattle.std.specs.Prelude.{◌≡◌, ◌<◌, if◌then◌else◌, length, Some, IfSome, IfOk, IfErr, [], map};
 ghost use Rattle.verilog_tree.specs.Plain.{plain, expressions, Followed, NoMore};
 ghost use Rattle.verilog_tree.specs.Free.{signed};
-ghost use Rattle.verilog_text.specs.Flat.{one_more, in_parens, in_braces, behind, settle_all, linked};
+ghost use Rattle.verilog_text.specs.Flat.{one_more, in_parens, in_braces, behind, linked};
 ghost use Rattle.verilog_tree.specs.Spells.{bounded};
 ghost use Rattle.verilog_tree.specs.Grammar.{deeper};
-ghost use Rattle.verilog_text.specs.Places.{Have, InList, IfTrue, AtExpr, WantOperand, Linked, more_parts};
-ghost use Rattle.verilog_text.specs.Steps.{in_room, expects, prim_step, operand_step, close_step, have_step};
+ghost use Rattle.verilog_text.specs.Places.{InList, AtExpr, WantOperand, Linked, more_parts};
+ghost use Rattle.verilog_text.specs.Steps.{in_room, prim_step, operand_step, close_step, have_step};
 ghost use Rattle.verilog_read.specs.inner.Waiting.{lefts_of};
 ghost use Rattle.verilog_read.specs.inner.Holding.{token_of, nest, nests_of, is_expected, PoppedNest};
 ghost use Rattle.verilog_read.specs.inner.Frames.{alone_of};
@@ -17,13 +17,13 @@ ghost use Rattle.verilog_read.specs.declared.places.Outer.{Outer};
 use crate::expressions::have_whole;
 use crate::fault::ParseFault;
 use crate::lexemes::Lexeme;
-use crate::operators::{Left, link, settle_all};
+use crate::operators::{Left, MOST_HEIGHT, settle};
 use crate::places::{Outer, Place};
 use bist_text::is_reserved;
 use std::alloc::Global;
 use verilog_text::Count;
 use verilog_tree::build::{choose, unary};
-use verilog_tree::{BinOp, Expr, Mark, Name, UnOp, infix_of, unary_of};
+use verilog_tree::{BinOp, Expr, Mark, Name, UnOp, height, infix_of, unary_of};
 
 /// How many openings may be open at once, and how many operators an expression may have that stands in no other.
 const MOST_OPENINGS: u8 = 64;
@@ -88,23 +88,13 @@ fn one_more(count: Count) -> Option<Count>
     }
 }
 
-/// Inside of a parenthesis.
-fn in_parens(count: Count) -> Count
-    ensures { result ≡ in_parens count }
+/// Inside of a parenthesis, or of braces.
+fn within(count: Count, parenthesis: bool) -> Count
+    ensures { result ≡ (if parenthesis then in_parens count else in_braces count) }
 {
     match count {
         Count::Together(operators) => Count::Together(operators),
-        Count::Apart(_) => Count::Apart(true),
-    }
-}
-
-/// Inside of braces.
-fn in_braces(count: Count) -> Count
-    ensures { result ≡ in_braces count }
-{
-    match count {
-        Count::Together(operators) => Count::Together(operators),
-        Count::Apart(_) => Count::Apart(false),
+        Count::Apart(_) => Count::Apart(parenthesis),
     }
 }
 
@@ -124,7 +114,10 @@ fn signed(alloc: Global, mark: Option<UnOp>, x: Expr) -> Result<Expr, ParseFault
     ensures fault { IfErr result (λ f. f ≡ ParseFault.NoMemory) }
 {
     match mark {
-        Some(op) => Ok(unary(alloc, op, x)?),
+        Some(op) => match unary(alloc, op, x) {
+            Ok(marked) => Ok(marked),
+            Err(_) => Err(ParseFault::NoMemory),
+        },
         None => Ok(x),
     }
 }
@@ -168,22 +161,6 @@ fn begun(
     Ok(Place::InExpr(ExprSpot::Operand(depth), chain))
 }
 
-/// An expression begins behind an opening, where one more may be open.
-fn opened(
-    alloc: Global,
-    outer: &mut Outer,
-    around: Nest,
-    depth: u8,
-    count: Count,
-) -> Result<Place, ParseFault>
-    ensures { Goes (in_room (deeper bounded depth) (λ q. AtExpr (WantOperand q count [] (nest around (nests_of outer.old.nests.items (alone_of outer.old)))))) result outer.new }
-{
-    match deeper(depth) {
-        Some(inner) => begun(alloc, outer, around, inner, count),
-        None => Err(ParseFault::Unexpected),
-    }
-}
-
 /// Where a name, a literal, a parenthesis or a brace is wanted.
 pub(crate) fn prim(
     alloc: Global,
@@ -201,17 +178,18 @@ pub(crate) fn prim(
         }
         Lexeme::Constant(bits) => ExprSpot::Have(depth, Expr::Lit(*bits)),
         Lexeme::Sign(Mark::Open) => {
-            return opened(
-                alloc,
-                outer,
-                Nest::Round(depth, chain),
-                depth,
-                in_parens(count),
-            );
+            let Some(inner) = deeper(depth) else {
+                return Err(ParseFault::Unexpected);
+            };
+            let around = Nest::Round(depth, chain);
+            return begun(alloc, outer, around, inner, within(count, true));
         }
         Lexeme::Sign(Mark::OpenBrace) => {
+            let Some(inner) = deeper(depth) else {
+                return Err(ParseFault::Unexpected);
+            };
             let around = Nest::List(depth, Vec::new(alloc), chain);
-            return opened(alloc, outer, around, depth, in_braces(count));
+            return begun(alloc, outer, around, inner, within(count, false));
         }
         _ => return Err(ParseFault::Unexpected),
     };
@@ -256,26 +234,6 @@ pub(crate) fn is_mark(mark: Mark, token: &Lexeme) -> bool
     }
 }
 
-/// A parenthesis closes: what it holds is an operand.
-#[tactic(auto, using(crate::proofs::HoldingLemmas::expects_is))]
-fn in_round(
-    outer: &Outer,
-    depth: u8,
-    chain: Chain,
-    inside: Count,
-    x: Expr,
-    token: &Lexeme,
-) -> Result<Place, ParseFault>
-    ensures { Goes (expects Mark.Close (AtExpr (Have depth (plain x) (Linked (behind chain.count inside) (lefts_of chain.lefts.items) chain.mark (nests_of outer.now.nests.items (alone_of outer.now))))) (token_of token.now)) result outer.now }
-{
-    if !is_mark(Mark::Close, token) {
-        return Err(ParseFault::Unexpected);
-    }
-    let mut chain = chain;
-    chain.count = behind(chain.count, inside);
-    Ok(Place::InExpr(ExprSpot::Have(depth, x), chain))
-}
-
 /// A part of a concatenation ends.
 fn in_list(
     alloc: Global,
@@ -304,26 +262,8 @@ fn in_list(
     }
 }
 
-/// The first choice ends.
-#[tactic(auto, using(crate::proofs::HoldingLemmas::expects_is))]
-fn in_choice(
-    alloc: Global,
-    outer: &mut Outer,
-    depth: u8,
-    count: Count,
-    c: Expr,
-    x: Expr,
-    token: &Lexeme,
-) -> Result<Place, ParseFault>
-    ensures { Goes (close_step depth count (plain x) (IfTrue (plain c) (nests_of outer.old.nests.items (alone_of outer.old))) (token_of token.now)) result outer.new }
-{
-    if !is_mark(Mark::Colon, token) {
-        return Err(ParseFault::Unexpected);
-    }
-    begun(alloc, outer, Nest::IfFalse(c, x), depth, count)
-}
-
 /// What a token does behind a whole expression: each choice whose last part it was ends with it.
+#[tactic(auto, using(crate::proofs::HoldingLemmas::expects_is))]
 fn close(
     alloc: Global,
     outer: &mut Outer,
@@ -338,57 +278,51 @@ fn close(
     while let Some(around) = pop(outer) {
         match around {
             Nest::IfFalse(c, yes) => last = choose(alloc, c, yes, last)?,
-            Nest::Round(above, chain) => {
-                return in_round(outer, above, chain, count, last, token);
-            }
             Nest::List(above, parts, chain) => {
                 return in_list(alloc, outer, depth, above, parts, chain, count, last, token);
             }
-            Nest::IfTrue(c) => return in_choice(alloc, outer, depth, count, c, last, token),
+            Nest::Round(above, chain) => {
+                if !is_mark(Mark::Close, token) {
+                    return Err(ParseFault::Unexpected);
+                }
+                let mut chain = chain;
+                chain.count = behind(chain.count, count);
+                return Ok(Place::InExpr(ExprSpot::Have(above, last), chain));
+            }
+            Nest::IfTrue(c) => {
+                if !is_mark(Mark::Colon, token) {
+                    return Err(ParseFault::Unexpected);
+                }
+                return begun(alloc, outer, Nest::IfFalse(c, last), depth, count);
+            }
         }
     }
     have_whole(alloc, outer, depth, last, token)
 }
 
-/// An operator comes behind an operand.
+/// An operator comes behind an operand: it waits, once those before it that bind as tightly have their second.
+#[tactic(auto, using(crate::proofs::WaitingLemmas::lefts_push))]
 fn joined_by(
     alloc: Global,
     depth: u8,
-    op: BinOp,
+    operator: BinOp,
     chain: Chain,
     x: Expr,
 ) -> Result<Place, ParseFault>
-    ensures { (w : Outer) → Goes (in_room (one_more bounded chain.count) (λ j. AtExpr (WantOperand depth j (linked op (lefts_of chain.lefts.items) (plain x)) (nests_of w.nests.items (alone_of w))))) result w }
+    ensures { (w : Outer) → Goes (in_room (one_more bounded chain.count) (λ j. AtExpr (WantOperand depth j (linked operator (lefts_of chain.lefts.items) (plain x)) (nests_of w.nests.items (alone_of w))))) result w }
 {
+    let Some(more) = one_more(chain.count) else {
+        return Err(ParseFault::Unexpected);
+    };
     let mut chain = chain;
-    match one_more(chain.count) {
-        Some(more) => {
-            link(alloc, op, &mut chain.lefts, x)?;
-            chain.count = more;
-            Ok(Place::InExpr(ExprSpot::Operand(depth), chain))
-        }
-        None => Err(ParseFault::Unexpected),
-    }
-}
-
-/// A choice comes behind its condition.
-fn asked(
-    alloc: Global,
-    outer: &mut Outer,
-    depth: u8,
-    count: Count,
-    c: Expr,
-) -> Result<Place, ParseFault>
-    ensures { Goes (in_room (one_more bounded count) (λ j. AtExpr (WantOperand depth j [] (IfTrue (plain c) (nests_of outer.old.nests.items (alone_of outer.old)))))) result outer.new }
-{
-    match one_more(count) {
-        Some(more) => begun(alloc, outer, Nest::IfTrue(c), depth, more),
-        None => Err(ParseFault::Unexpected),
-    }
+    chain.count = more;
+    let operand = settle(alloc, height(operator), &mut chain.lefts, x)?;
+    chain.lefts.push(Left { operand, operator })?;
+    Ok(Place::InExpr(ExprSpot::Operand(depth), chain))
 }
 
 /// What a token does behind an operand.
-#[tactic(auto, using(crate::proofs::HoldingLemmas::ask_is))]
+#[tactic(auto, using(crate::proofs::HoldingLemmas::ask_is, crate::proofs::WaitingLemmas::settled_all))]
 pub(crate) fn have(
     alloc: Global,
     outer: &mut Outer,
@@ -406,10 +340,12 @@ pub(crate) fn have(
             return joined_by(alloc, depth, op, chain, x);
         }
     }
-    let whole = settle_all(alloc, &mut chain.lefts, x)?;
-    if is_mark(Mark::Question, token) {
-        asked(alloc, outer, depth, chain.count, whole)
-    } else {
-        close(alloc, outer, depth, chain.count, whole, token)
+    let whole = settle(alloc, MOST_HEIGHT, &mut chain.lefts, x)?;
+    if !is_mark(Mark::Question, token) {
+        return close(alloc, outer, depth, chain.count, whole, token);
+    }
+    match one_more(chain.count) {
+        Some(more) => begun(alloc, outer, Nest::IfTrue(whole), depth, more),
+        None => Err(ParseFault::Unexpected),
     }
 }

@@ -1,20 +1,19 @@
 //! The reader of a module's text.
-ghost use Rattle.std.specs.Prelude.{true, ◌≡◌, ◌||◌, ◌↔◌, ◌≤◌, Some, None, Err, IfOk, IfErr, MatchResult};
+ghost use Rattle.std.specs.Prelude.{true, ◌≡◌, ◌↔◌, ◌≤◌, Some, None, Err, IfOk, IfErr, MatchResult};
 ghost use Rattle.verilog_tree.specs.Formed.{formed};
 ghost use Rattle.verilog_tree.specs.Plain.{ModuleTree, plain_module};
 ghost use Rattle.verilog_tree.specs.Spells.{Spells, FreelySpells};
 ghost use Rattle.verilog_tree.specs.Grammar.{ByPrecedence};
-ghost use Rattle.verilog_tree.specs.Tokens.{Number};
-ghost use Rattle.verilog_text.specs.Answering.{Stops, take_token, stuck, arrive, while_live, is_between, byte_move, fault_at, value_answer, end_answer, last_answer, answer, run};
+ghost use Rattle.verilog_text.specs.Answering.{Stops, take_token, arrive, while_live, byte_move, fault_at, value_answer, end_answer, answer, run};
 ghost use Rattle.verilog_text.specs.inner.Answering.{read_within};
-ghost use Rattle.verilog_read.specs.inner.Told.{Takes, Moves, Scanned, Reads, Gives, both_of};
-ghost use Rattle.verilog_text.specs.Expected.{most_of, taken, takes_literals};
+ghost use Rattle.verilog_read.specs.inner.Told.{Takes, Moves, Scanned, Gives, both_of};
+ghost use Rattle.verilog_text.specs.Expected.{most_of};
 ghost use Rattle.verilog_text.specs.Refusals.{Says, SaysIn, IsFirst, IsFirstIn};
 ghost use Rattle.verilog_read.specs.inner.Holding.{token_of};
 ghost use Rattle.verilog_read.specs.declared.lexer.Scanner.TheVariants.{InGap};
 ghost use Rattle.verilog_tree.specs.declared.tokens.Within.TheVariants.{Between};
 ghost use Rattle.verilog_read.specs.inner.Frames.{styled};
-ghost use Rattle.verilog_read.specs.inner.Lexemes.{tokens_of, lexer_of, ends_of};
+ghost use Rattle.verilog_read.specs.inner.Lexemes.{tokens_of, lexer_of};
 ghost use Rattle.verilog_text.specs.Lexing.{last};
 ghost use Rattle.verilog_read.specs.inner.Spots.{state_of};
 ghost use Rattle.verilog_text.specs.Steps.{value};
@@ -24,7 +23,7 @@ use crate::items::step;
 use crate::lexemes::Lexeme;
 use crate::lexer::{LexFault, Read, Scanner, last, lex};
 use crate::places::{ItemSpot, Outer, Place, Style, blank_module};
-use crate::takes::{is_live, takes, takes_number};
+use crate::takes::{is_live, takes, takes_digits, takes_number};
 use crate::words::expected_at;
 use std::alloc::Global;
 use std::mem;
@@ -97,12 +96,6 @@ fn arrive(outer: &Outer, place: &Place, lexer: Scanner, fresh: bool) -> Result<N
     }
 }
 
-fn is_between(lexer: &Scanner) -> bool
-    ensures { result ≡ is_between (lexer_of lexer.now) }
-{
-    matches!(lexer, Scanner::InGap(Within::Between))
-}
-
 /// A byte that the lexer takes.
 fn read_on(
     alloc: Global,
@@ -118,24 +111,11 @@ fn read_on(
             take(alloc, outer, place, token)?;
             arrive(outer, place, read.lexer, true)
         }
-        None => arrive(outer, place, read.lexer, is_between(lexer)),
+        None => {
+            let fresh = matches!(lexer, Scanner::InGap(Within::Between));
+            arrive(outer, place, read.lexer, fresh)
+        }
     }
-}
-
-/// A byte with which no token goes on and none begins: it is unexpected, unless the token that it ends is an opening
-/// too many.
-fn stuck(
-    alloc: Global,
-    outer: &mut Outer,
-    place: &mut Place,
-    lexer: Scanner,
-) -> Result<Next, ByteFault>
-    ensures { Moves (stuck (state_of place.old outer.old) (last (lexer_of lexer))) result place.new outer.new }
-{
-    if let Some(Some(token)) = last(lexer) {
-        take(alloc, outer, place, &token)?;
-    }
-    Err(ByteFault::Unexpected)
 }
 
 /// A limit counts only where what exceeds it may come.
@@ -147,13 +127,6 @@ fn beyond(expected: bool, fault: ByteFault) -> ByteFault
     } else {
         ByteFault::Unexpected
     }
-}
-
-/// Whether a number of more than one digit or a literal may come.
-fn takes_digits(place: &Place, outer: &Outer) -> bool
-    ensures { result ≡ (taken (state_of place.now outer.now) (Number true 0) || takes_literals (state_of place.now outer.now)) }
-{
-    takes_number(place, outer, true, 0) || expected_at(place, outer).literals
 }
 
 /// What a byte does.
@@ -168,13 +141,19 @@ fn step_byte(
 {
     match scan(place, outer, lexer, c) {
         Ok(read) => read_on(alloc, outer, place, &lexer, read),
-        Err(LexFault::Unexpected) => stuck(alloc, outer, place, lexer),
+        // The byte is unexpected, unless the token that it ends is an opening too many.
+        Err(LexFault::Unexpected) => {
+            if let Some(Some(token)) = last(lexer) {
+                take(alloc, outer, place, &token)?;
+            }
+            Err(ByteFault::Unexpected)
+        }
         Err(LexFault::LongName) => Err(beyond(
             expected_at(place, outer).names,
             ByteFault::LongName,
         )),
         Err(LexFault::LargeNumber) => {
-            Err(beyond(takes_digits(place, outer), ByteFault::OutOfRange))
+            Err(beyond(takes_digits(place, outer, true, 0), ByteFault::OutOfRange))
         }
         Err(LexFault::WrongLiteral) => Err(beyond(
             expected_at(place, outer).literals,
@@ -193,25 +172,7 @@ fn value(alloc: Global, outer: &mut Outer, place: &Place) -> Result<Module, Read
     }
 }
 
-/// The text ends with a token that began at byte `start`.
-fn end_token(
-    alloc: Global,
-    outer: &mut Outer,
-    place: &mut Place,
-    token: &Lexeme,
-    start: usize,
-) -> Result<Module, ReadFault>
-    ensures { Gives (last_answer (take_token (state_of place.old outer.old) (token_of token.now)) start) result }
-{
-    match take(alloc, outer, place, token) {
-        Ok(()) => value(alloc, outer, place),
-        Err(ByteFault::TooDeep) => Err(ReadFault::TooDeep { byte: start }),
-        Err(ByteFault::NoMemory) => Err(ReadFault::NoMemory),
-        Err(_) => Err(ReadFault::Truncated),
-    }
-}
-
-/// The text ends.
+/// The text ends, where the token that is read began at byte `start`.
 fn finish(
     alloc: Global,
     outer: &mut Outer,
@@ -221,10 +182,17 @@ fn finish(
 ) -> Result<Module, ReadFault>
     ensures { Gives (end_answer (state_of place.old outer.old) (last (lexer_of lexer)) start) result }
 {
-    match last(lexer) {
-        Some(Some(token)) => end_token(alloc, outer, place, &token, start),
-        Some(None) => value(alloc, outer, place),
-        None => Err(ReadFault::Truncated),
+    let Some(end) = last(lexer) else {
+        return Err(ReadFault::Truncated);
+    };
+    let Some(token) = end else {
+        return value(alloc, outer, place);
+    };
+    match take(alloc, outer, place, &token) {
+        Ok(()) => value(alloc, outer, place),
+        Err(ByteFault::TooDeep) => Err(ReadFault::TooDeep { byte: start }),
+        Err(ByteFault::NoMemory) => Err(ReadFault::NoMemory),
+        Err(_) => Err(ReadFault::Truncated),
     }
 }
 
@@ -241,31 +209,7 @@ fn fault_at(fault: ByteFault, start: usize, byte: usize) -> ReadFault
     }
 }
 
-/// Reads the bytes one after another, until one is refused, and gives where the token that is read last began.
-fn scan_bytes(
-    alloc: Global,
-    outer: &mut Outer,
-    place: &mut Place,
-    lexer: &mut Scanner,
-    bytes: &[u8],
-) -> Result<usize, ReadFault>
-    ensures { Reads (run bytes.now (both_of place.old outer.old lexer.old) 0 0) result (both_of place.new outer.new lexer.new) }
-{
-    let mut start = 0;
-    for (i, c) in bytes.iter().enumerate() {
-        let next = match step_byte(alloc, outer, place, *lexer, *c) {
-            Ok(next) => next,
-            Err(fault) => return Err(fault_at(fault, start, i)),
-        };
-        *lexer = next.lexer;
-        if next.fresh {
-            start = i;
-        }
-    }
-    Ok(start)
-}
-
-/// Reads the bytes, and the text ends.
+/// Reads the bytes one after another, until one is refused or the text ends.
 fn scan_all(
     alloc: Global,
     outer: &mut Outer,
@@ -275,7 +219,17 @@ fn scan_all(
     ensures { Gives (run bytes.now (both_of place.old outer.old (InGap Between)) 0 0) result }
 {
     let mut lexer = Scanner::InGap(Within::Between);
-    let start = scan_bytes(alloc, outer, place, &mut lexer, bytes)?;
+    let mut start = 0;
+    for (i, c) in bytes.iter().enumerate() {
+        let next = match step_byte(alloc, outer, place, lexer, *c) {
+            Ok(next) => next,
+            Err(fault) => return Err(fault_at(fault, start, i)),
+        };
+        lexer = next.lexer;
+        if next.fresh {
+            start = i;
+        }
+    }
     finish(alloc, outer, place, lexer, start)
 }
 

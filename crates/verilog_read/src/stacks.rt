@@ -1,17 +1,16 @@
 //! What waits while a part of the text is read, and tests of tokens.
 ghost use Rattle.std.specs.Prelude.{◌≡◌, ◌<◌, length, IfSome, Some, OnOk, IfErr};
 ghost use Rattle.verilog_tree.specs.Plain.{plain_item};
-ghost use Rattle.verilog_text.specs.Places.{AtExpr, with_item, style_of, begin_expr};
+ghost use Rattle.verilog_text.specs.Places.{AtExpr, AtStmt, WantStmt, with_item, style_of, begin_expr};
 ghost use Rattle.verilog_text.specs.Steps.{is_word};
-ghost use Rattle.verilog_text.specs.Flat.{none_yet};
 ghost use Rattle.verilog_read.specs.inner.Holding.{token_of};
 ghost use Rattle.verilog_read.specs.inner.Frames.{styled, holder, alone, around_of, head_of};
 ghost use Rattle.verilog_read.specs.inner.Spots.{state_of};
-ghost use Rattle.verilog_read.specs.inner.Answers.{Released};
+ghost use Rattle.verilog_read.specs.inner.Answers.{Goes, Released};
 
 use crate::fault::ParseFault;
 use crate::lexemes::Lexeme;
-use crate::places::{Base, Holder, Outer, Place, Style};
+use crate::places::{Base, Holder, Outer, Place, StmtSpot, Style};
 use crate::precedence::{Chain, ExprSpot};
 use std::alloc::Global;
 use verilog_text::Count;
@@ -26,22 +25,20 @@ pub(crate) fn hold(outer: &mut Outer, h: Holder) -> Result<(), ParseFault>
     Ok(())
 }
 
+/// A statement begins that stands in this.
+pub(crate) fn begin_in(outer: &mut Outer, h: Holder, depth: u8) -> Result<Place, ParseFault>
+    ensures { Goes (Some (AtStmt (WantStmt depth (holder h (around_of outer.old))))) result outer.new }
+{
+    hold(outer, h)?;
+    Ok(Place::InStmt(StmtSpot::WantStmt(depth)))
+}
+
 #[tactic(auto, using(crate::proofs::FrameLemmas::holders_push))]
 pub(crate) fn release(outer: &mut Outer) -> Option<Holder>
     ensures released { Released (around_of outer.old) result (around_of outer.new) (head_of outer.new) outer.new.clock.bytes }
     ensures fewer { IfSome result (λ h. length outer.new.holders.items < length outer.old.holders.items) }
 {
     outer.holders.pop()
-}
-
-/// No operator is read yet.
-fn none_yet(style: Style) -> Count
-    ensures { result ≡ none_yet (styled style) }
-{
-    match style {
-        Style::Parenthesised => Count::Apart(false),
-        Style::ByPrecedence => Count::Together(0),
-    }
 }
 
 /// An expression begins, which stands in no other.
@@ -52,8 +49,12 @@ pub(crate) fn begin(alloc: Global, outer: &mut Outer, whole: Base, depth: u8) ->
 {
     outer.base = whole;
     outer.nests.clear();
+    let count = match outer.style {
+        Style::Parenthesised => Count::Apart(false),
+        Style::ByPrecedence => Count::Together(0),
+    };
     let chain = Chain {
-        count: none_yet(outer.style),
+        count,
         lefts: Vec::new(alloc),
         mark: None,
     };

@@ -1,35 +1,36 @@
 //! What a token does in a statement.
-ghost use Rattle.std.specs.Prelude.{Some, map, codes};
+ghost use Rattle.std.specs.Prelude.{codes};
 ghost use Rattle.verilog_tree.specs.Spells.{bounded};
-ghost use Rattle.verilog_tree.specs.Plain.{plain, plain_stmts, arms, AlwaysItem};
-ghost use Rattle.verilog_tree.specs.inner.Plain.{plain_arm};
-ghost use Rattle.verilog_tree.specs.Grammar.{then_all};
+ghost use Rattle.verilog_tree.specs.Plain.{plain, plain_stmts};
 ghost use Rattle.verilog_text.specs.Following.{case_of};
-ghost use Rattle.verilog_text.specs.Places.{with_item, AtStmt, WantStmt, HaveStmt, InElse, style_of};
-ghost use Rattle.verilog_text.specs.Steps.{word_step, want_stmt_step, block_step, arm_step, want_item_step, have_stmt_step, step_stmt, expects_word};
+ghost use Rattle.verilog_text.specs.Places.{AtStmt, HaveStmt, style_of};
+ghost use Rattle.verilog_text.specs.Steps.{want_stmt_step, block_step, arm_step, want_item_step, have_stmt_step, step_stmt, expects_word};
 ghost use Rattle.verilog_read.specs.inner.Holding.{token_of};
-ghost use Rattle.verilog_read.specs.inner.Frames.{alone, around_of, head_of};
+ghost use Rattle.verilog_read.specs.inner.Frames.{alone, arms_of, around_of, head_of};
 ghost use Rattle.verilog_read.specs.declared.places.Outer.{Outer};
-ghost use Rattle.verilog_read.specs.declared.places.StmtSpot.TheVariants.{Target, Labels, NextLabel, DefaultRead};
+ghost use Rattle.verilog_read.specs.declared.places.StmtSpot.TheVariants.{NextLabel};
 ghost use Rattle.verilog_read.specs.inner.Spots.{stmt_spot};
 ghost use Rattle.verilog_read.specs.inner.Answers.{Goes, opens_expr};
 
 use crate::fault::ParseFault;
 use crate::lexemes::Lexeme;
-use crate::places::{Base, Holder, ItemSpot, Outer, Place, StmtSpot, Use};
+use crate::places::{Base, Case, Holder, ItemSpot, Outer, Place, StmtSpot, Use};
 use crate::precedence::{deeper, is_mark};
-use crate::stacks::{add_item, begin, hold, is_word, release};
-use crate::trees::{join, only, with_arm};
+use crate::stacks::{add_item, begin, begin_in, hold, is_word, release};
+use crate::trees::{add_arm, join, only};
 use bist_bits::Bits;
 use bist_text::is_reserved;
 use std::alloc::Global;
-use verilog_tree::{Arm, Expr, Item, Mark, Name, Stmt};
+use verilog_tree::{Item, Mark, Stmt};
 
-/// A statement begins with a word.
+/// Where a statement begins.
 #[tactic(auto, using(crate::proofs::PlaceSteps::free_word, crate::proofs::PlaceSteps::full_word))]
-fn begin_stmt(alloc: Global, outer: &Outer, depth: u8, name: &Name) -> Result<Place, ParseFault>
-    ensures { Goes (word_step bounded depth (around_of outer.now) name.now.bytes) result outer.now }
+fn want_stmt(alloc: Global, outer: &Outer, depth: u8, token: &Lexeme) -> Result<Place, ParseFault>
+    ensures { Goes (want_stmt_step bounded depth (around_of outer.now) (token_of token.now)) result outer.now }
 {
+    let Lexeme::Word(name) = token else {
+        return Err(ParseFault::Unexpected);
+    };
     let word = name.as_str();
     if !is_reserved(word.as_bytes()) {
         return Ok(Place::InStmt(StmtSpot::Target(depth, *name)));
@@ -37,25 +38,13 @@ fn begin_stmt(alloc: Global, outer: &Outer, depth: u8, name: &Name) -> Result<Pl
     let Some(inner) = deeper(depth) else {
         return Err(ParseFault::Unexpected);
     };
-    let spot = if word == "begin" {
-        StmtSpot::Block(inner, depth, Vec::new(alloc))
-    } else if word == "if" {
-        StmtSpot::IfRead(depth, inner)
-    } else if word == "case" {
-        StmtSpot::CaseRead(depth, inner)
-    } else {
-        return Err(ParseFault::Unexpected);
+    let spot = match word {
+        "begin" => StmtSpot::Block(inner, depth, Vec::new(alloc)),
+        "if" => StmtSpot::IfRead(depth, inner),
+        "case" => StmtSpot::CaseRead(depth, inner),
+        _ => return Err(ParseFault::Unexpected),
     };
     Ok(Place::InStmt(spot))
-}
-
-fn want_stmt(alloc: Global, outer: &Outer, depth: u8, token: &Lexeme) -> Result<Place, ParseFault>
-    ensures { Goes (want_stmt_step bounded depth (around_of outer.now) (token_of token.now)) result outer.now }
-{
-    match token {
-        Lexeme::Word(name) => begin_stmt(alloc, outer, depth, name),
-        _ => Err(ParseFault::Unexpected),
-    }
 }
 
 fn in_block(
@@ -81,102 +70,51 @@ pub(crate) fn want_item(outer: &Outer, token: &Lexeme) -> Result<Place, ParseFau
     let Lexeme::Word(name) = token else {
         return Err(ParseFault::Unexpected);
     };
-    let word = name.as_str();
-    let next = if word == "wire" {
-        ItemSpot::WantRange(Use::Wire)
-    } else if word == "reg" {
-        ItemSpot::WantRange(Use::Reg)
-    } else if word == "assign" {
-        ItemSpot::AssignRead
-    } else if word == "always" {
-        ItemSpot::AlwaysRead
-    } else if word == "endmodule" {
-        ItemSpot::Ended
-    } else {
-        return Err(ParseFault::Unexpected);
+    let next = match name.as_str() {
+        "wire" => ItemSpot::WantRange(Use::Wire),
+        "reg" => ItemSpot::WantRange(Use::Reg),
+        "assign" => ItemSpot::AssignRead,
+        "always" => ItemSpot::AlwaysRead,
+        "endmodule" => ItemSpot::Ended,
+        _ => return Err(ParseFault::Unexpected),
     };
     Ok(Place::InItem(next))
-}
-
-fn have_always(outer: &mut Outer, body: Vec<Stmt>, token: &Lexeme) -> Result<Place, ParseFault>
-    ensures { Goes (want_item_step (with_item (head_of outer.old) (AlwaysItem outer.old.clock.bytes (plain_stmts body.items))) (token_of token.now)) result outer.new }
-{
-    let clock = outer.clock;
-    add_item(outer, Item::Always(clock, body))?;
-    want_item(outer, token)
 }
 
 /// Where an arm, the default or the end of a case may come.
 fn in_case(
     alloc: Global,
     outer: &Outer,
-    depth: u8,
     inner: u8,
-    x: Expr,
-    choices: Vec<Arm>,
+    case: Case,
     token: &Lexeme,
 ) -> Result<Place, ParseFault>
-    ensures { Goes (arm_step depth inner (plain x) (arms (map plain_arm choices.items)) (around_of outer.now) (token_of token.now)) result outer.now }
+    ensures { Goes (arm_step case.depth inner (plain case.subject) (arms_of case) (around_of outer.now) (token_of token.now)) result outer.now }
 {
     if let Lexeme::Constant(_) = token {
-        return next_label(depth, inner, x, choices, Vec::new(alloc), token);
+        return next_label(inner, case, Vec::new(alloc), token);
     }
     if is_word("default", token) {
-        return Ok(Place::InStmt(StmtSpot::DefaultRead(depth, inner, x, choices)));
+        return Ok(Place::InStmt(StmtSpot::DefaultRead(inner, case)));
     }
-    if !is_word("endcase", token) {
-        return Err(ParseFault::Unexpected);
-    }
-    let body = only(alloc, Stmt::Case(x, choices, Vec::new(alloc)))?;
-    Ok(Place::InStmt(StmtSpot::HaveStmt(depth, body)))
+    end_case(alloc, outer, case, Vec::new(alloc), token)
 }
 
-/// A statement of a block ends.
-fn have_block(
-    alloc: Global,
-    outer: &mut Outer,
-    inner: u8,
-    depth: u8,
-    old: Vec<Stmt>,
-    body: Vec<Stmt>,
-    token: &Lexeme,
-) -> Result<Place, ParseFault>
-    ensures { Goes (block_step bounded inner depth (then_all (plain_stmts old.items) (plain_stmts body.items)) (around_of outer.old) (token_of token.now)) result outer.new }
-{
-    let old = join(old, body)?;
-    in_block(alloc, outer, inner, depth, old, token)
-}
-
-/// The else of an `if` begins.
-fn begin_else(
-    outer: &mut Outer,
-    inner: u8,
-    depth: u8,
-    c: Expr,
-    yes: Vec<Stmt>,
-) -> Result<Place, ParseFault>
-    ensures { Goes (Some (AtStmt (WantStmt inner (InElse depth (plain c) (plain_stmts yes.items) (around_of outer.old))))) result outer.new }
-{
-    hold(outer, Holder::Else(depth, c, yes))?;
-    Ok(Place::InStmt(StmtSpot::WantStmt(inner)))
-}
-
-/// The statement of a default ends.
-fn have_default(
+/// Where a case ends, with the statements of its default.
+fn end_case(
     alloc: Global,
     outer: &Outer,
-    depth: u8,
-    x: Expr,
-    choices: Vec<Arm>,
+    case: Case,
     other: Vec<Stmt>,
     token: &Lexeme,
 ) -> Result<Place, ParseFault>
-    ensures { Goes (expects_word (codes "endcase") (AtStmt (HaveStmt depth (case_of (plain x) (arms (map plain_arm choices.items)) (plain_stmts other.items)) (around_of outer.now))) (token_of token.now)) result outer.now }
+    ensures { Goes (expects_word (codes "endcase") (AtStmt (HaveStmt case.depth (case_of (plain case.subject) (arms_of case) (plain_stmts other.items)) (around_of outer.now))) (token_of token.now)) result outer.now }
 {
     if !is_word("endcase", token) {
         return Err(ParseFault::Unexpected);
     }
-    let body = only(alloc, Stmt::Case(x, choices, other))?;
+    let depth = case.depth;
+    let body = only(alloc, Stmt::Case(case.subject, case.arms, other))?;
     Ok(Place::InStmt(StmtSpot::HaveStmt(depth, body)))
 }
 
@@ -191,13 +129,18 @@ fn have_stmt(
     ensures { Goes (have_stmt_step bounded (around_of outer.old) depth (plain_stmts body.items) (token_of token.now)) result outer.new }
 {
     match release(outer) {
-        None => have_always(outer, body, token),
+        None => {
+            let clock = outer.clock;
+            add_item(outer, Item::Always(clock, body))?;
+            want_item(outer, token)
+        }
         Some(Holder::Block(above, old)) => {
-            have_block(alloc, outer, depth, above, old, body, token)
+            let old = join(old, body)?;
+            in_block(alloc, outer, depth, above, old, token)
         }
         Some(Holder::Then(above, c)) => {
             if is_word("else", token) {
-                return begin_else(outer, depth, above, c, body);
+                return begin_in(outer, Holder::Else(above, c, body), depth);
             }
             let body = only(alloc, Stmt::If(c, body, Vec::new(alloc)))?;
             have_stmt(alloc, outer, above, body, token)
@@ -206,13 +149,12 @@ fn have_stmt(
             let body = only(alloc, Stmt::If(c, yes, body))?;
             have_stmt(alloc, outer, above, body, token)
         }
-        Some(Holder::Labelled(above, x, arms, labels)) => {
-            let arms = with_arm(arms, labels, body)?;
-            in_case(alloc, outer, above, depth, x, arms, token)
+        Some(Holder::Labelled(case, labels)) => {
+            let mut case = case;
+            add_arm(&mut case, labels, body)?;
+            in_case(alloc, outer, depth, case, token)
         }
-        Some(Holder::Other(above, x, arms)) => {
-            have_default(alloc, outer, above, x, arms, body, token)
-        }
+        Some(Holder::Other(case)) => end_case(alloc, outer, case, body, token),
     }
 }
 
@@ -235,88 +177,22 @@ fn opened(
     }
 }
 
-/// Behind the name that is assigned.
-#[tactic(auto, using(crate::proofs::HoldingLemmas::expects_is))]
-fn behind_target(
-    alloc: Global,
-    outer: &mut Outer,
-    depth: u8,
-    name: Name,
-    token: &Lexeme,
-) -> Result<Place, ParseFault>
-    ensures { Goes (step_stmt bounded (stmt_spot (Target depth name) (around_of outer.old)) (token_of token.now)) result outer.new }
-{
-    if !is_mark(Mark::LessEquals, token) {
-        return Err(ParseFault::Unexpected);
-    }
-    Ok(begin(alloc, outer, Base::Set(name), depth))
-}
-
 /// Where a label of an arm comes, behind those before it, if there are any.
-fn next_label(
-    depth: u8,
-    inner: u8,
-    x: Expr,
-    choices: Vec<Arm>,
-    labels: Vec<Bits>,
-    token: &Lexeme,
-) -> Result<Place, ParseFault>
-    ensures { (w : Outer) → Goes (step_stmt bounded (stmt_spot (NextLabel depth inner x choices labels) (around_of w)) (token_of token.now)) result w }
+fn next_label(inner: u8, case: Case, labels: Vec<Bits>, token: &Lexeme) -> Result<Place, ParseFault>
+    ensures { (w : Outer) → Goes (step_stmt bounded (stmt_spot (NextLabel inner case labels) (around_of w)) (token_of token.now)) result w }
 {
     match token {
         Lexeme::Constant(label) => {
             let mut labels = labels;
             labels.push(*label)?;
-            Ok(Place::InStmt(StmtSpot::Labels(depth, inner, x, choices, labels)))
+            Ok(Place::InStmt(StmtSpot::Labels(inner, case, labels)))
         }
         _ => Err(ParseFault::Unexpected),
-    }
-}
-
-/// Behind a label of an arm.
-fn behind_label(
-    outer: &mut Outer,
-    depth: u8,
-    inner: u8,
-    x: Expr,
-    choices: Vec<Arm>,
-    labels: Vec<Bits>,
-    token: &Lexeme,
-) -> Result<Place, ParseFault>
-    ensures { Goes (step_stmt bounded (stmt_spot (Labels depth inner x choices labels) (around_of outer.old)) (token_of token.now)) result outer.new }
-{
-    match token {
-        Lexeme::Sign(Mark::Comma) => Ok(Place::InStmt(StmtSpot::NextLabel(
-            depth, inner, x, choices, labels,
-        ))),
-        Lexeme::Sign(Mark::Colon) => {
-            hold(outer, Holder::Labelled(depth, x, choices, labels))?;
-            Ok(Place::InStmt(StmtSpot::WantStmt(inner)))
-        }
-        _ => Err(ParseFault::Unexpected),
-    }
-}
-
-/// Behind the word of a default, with or without its colon.
-fn behind_default(
-    alloc: Global,
-    outer: &mut Outer,
-    depth: u8,
-    inner: u8,
-    x: Expr,
-    choices: Vec<Arm>,
-    token: &Lexeme,
-) -> Result<Place, ParseFault>
-    ensures { Goes (step_stmt bounded (stmt_spot (DefaultRead depth inner x choices) (around_of outer.old)) (token_of token.now)) result outer.new }
-{
-    hold(outer, Holder::Other(depth, x, choices))?;
-    match token {
-        Lexeme::Sign(Mark::Colon) => Ok(Place::InStmt(StmtSpot::WantStmt(inner))),
-        _ => want_stmt(alloc, outer, inner, token),
     }
 }
 
 /// What a token does in a statement.
+#[tactic(auto, using(crate::proofs::HoldingLemmas::expects_is))]
 pub(crate) fn step_stmt(
     alloc: Global,
     outer: &mut Outer,
@@ -327,26 +203,33 @@ pub(crate) fn step_stmt(
 {
     match place {
         StmtSpot::WantStmt(depth) => want_stmt(alloc, outer, depth, token),
-        StmtSpot::Target(depth, name) => behind_target(alloc, outer, depth, name, token),
+        StmtSpot::Target(depth, name) => {
+            if !is_mark(Mark::LessEquals, token) {
+                return Err(ParseFault::Unexpected);
+            }
+            Ok(begin(alloc, outer, Base::Set(name), depth))
+        }
         StmtSpot::IfRead(depth, inner) => {
             opened(alloc, outer, inner, Base::Test(depth, inner), token)
         }
         StmtSpot::CaseRead(depth, inner) => {
             opened(alloc, outer, inner, Base::Pick(depth, inner), token)
         }
-        StmtSpot::FirstLabel(depth, inner, x) => {
-            let choices = Vec::new(alloc);
-            let labels = Vec::new(alloc);
-            next_label(depth, inner, x, choices, labels, token)
-        }
-        StmtSpot::Labels(depth, inner, x, choices, labels) => {
-            behind_label(outer, depth, inner, x, choices, labels, token)
-        }
-        StmtSpot::NextLabel(depth, inner, x, choices, labels) => {
-            next_label(depth, inner, x, choices, labels, token)
-        }
-        StmtSpot::DefaultRead(depth, inner, x, choices) => {
-            behind_default(alloc, outer, depth, inner, x, choices, token)
+        StmtSpot::FirstLabel(inner, case) => next_label(inner, case, Vec::new(alloc), token),
+        StmtSpot::Labels(inner, case, labels) => match token {
+            Lexeme::Sign(Mark::Comma) => {
+                Ok(Place::InStmt(StmtSpot::NextLabel(inner, case, labels)))
+            }
+            Lexeme::Sign(Mark::Colon) => begin_in(outer, Holder::Labelled(case, labels), inner),
+            _ => Err(ParseFault::Unexpected),
+        },
+        StmtSpot::NextLabel(inner, case, labels) => next_label(inner, case, labels, token),
+        StmtSpot::DefaultRead(inner, case) => {
+            hold(outer, Holder::Other(case))?;
+            match token {
+                Lexeme::Sign(Mark::Colon) => Ok(Place::InStmt(StmtSpot::WantStmt(inner))),
+                _ => want_stmt(alloc, outer, inner, token),
+            }
         }
         StmtSpot::Block(inner, depth, old) => in_block(alloc, outer, inner, depth, old, token),
         StmtSpot::HaveStmt(depth, body) => have_stmt(alloc, outer, depth, body, token),

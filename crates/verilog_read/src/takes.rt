@@ -1,13 +1,12 @@
 //! Whether a text may go on with a token, and with what is begun of one.
-ghost use Rattle.std.specs.Prelude.{◌≡◌, ℕ, false};
+ghost use Rattle.std.specs.Prelude.{◌≡◌, ◌||◌, ℕ, false};
 ghost use Rattle.verilog_tree.specs.Plain.{Expression};
 ghost use Rattle.verilog_tree.specs.Tokens.{Number, Sign};
-ghost use Rattle.verilog_tree.specs.Grammar.{is_sign};
 ghost use Rattle.verilog_text.specs.Places as Q;
-ghost use Rattle.verilog_read.specs.inner.Ends.{ends_choice, closes, links, goes_on, may, opens, starts};
+ghost use Rattle.verilog_read.specs.inner.Ends.{ends_choice, closes, goes_on, may, opens};
 ghost use Rattle.verilog_read.specs.inner.Holding.{token_of, nest, standing, nests_of};
 ghost use Rattle.verilog_read.specs.declared.precedence.Chain.{Chain};
-ghost use Rattle.verilog_text.specs.Expected.{is_step, taken, live, longer_marks, some_taken};
+ghost use Rattle.verilog_text.specs.Expected.{is_step, taken, takes_literals, live, longer_marks, some_taken};
 ghost use Rattle.verilog_read.specs.inner.Lexemes.{lexer_of};
 ghost use Rattle.verilog_read.specs.inner.Frames.{alone_of, around_of};
 ghost use Rattle.verilog_text.specs.Places.{AtExpr, AtStmt, AtItem};
@@ -67,13 +66,6 @@ fn nests_take(nests: &[Nest], outer: &Outer, mark: Mark) -> bool
     base_takes(outer, mark)
 }
 
-/// Whether a mark is an operator, or the ? of a choice.
-fn links(mark: Mark) -> bool
-    ensures { result ≡ links mark }
-{
-    matches!(mark, Mark::Question) || infix_of(mark).is_some()
-}
-
 /// Whether one operator more may be, if there were no limit.
 fn may_link(count: Count) -> bool
     ensures { result ≡ may count }
@@ -88,7 +80,7 @@ fn may_link(count: Count) -> bool
 fn operand_takes(count: Count, outer: &Outer, mark: Mark) -> bool
     ensures { result ≡ goes_on count (nests_of outer.now.nests.items (alone_of outer.now)) mark }
 {
-    if links(mark) {
+    if matches!(mark, Mark::Question) || infix_of(mark).is_some() {
         may_link(count)
     } else {
         nests_take(outer.nests.as_slice(), outer, mark)
@@ -102,30 +94,16 @@ fn opens(mark: Mark) -> bool
     matches!(mark, Mark::Open | Mark::OpenBrace)
 }
 
-fn starts(count: Count, mark: Mark) -> bool
-    ensures { result ≡ starts count mark }
-{
-    if unary_of(mark).is_some() {
-        may_link(count)
-    } else {
-        opens(mark)
-    }
-}
-
-fn opens_select(mark: Mark) -> bool
-    ensures { result ≡ is_sign Mark.OpenBracket mark }
-{
-    matches!(mark, Mark::OpenBracket)
-}
-
 #[tactic(auto, using(crate::proofs::Ends::named_takes, crate::proofs::Ends::linked_takes, crate::proofs::Ends::operand_is, crate::proofs::Ends::prim_is))]
 fn expr_takes(place: &ExprSpot, count: Count, outer: &Outer, mark: Mark) -> bool
     ensures { (c : Chain) → c.count ≡ count → result ≡ taken (AtExpr (standing place.now c (nests_of outer.now.nests.items (alone_of outer.now)))) (Sign mark) }
 {
     match place {
-        ExprSpot::Operand(_) => starts(count, mark),
+        ExprSpot::Operand(_) if unary_of(mark).is_some() => may_link(count),
+        ExprSpot::Operand(_) => opens(mark),
         ExprSpot::Prim(_) => opens(mark),
-        ExprSpot::Named(_, _) => opens_select(mark) || operand_takes(count, outer, mark),
+        ExprSpot::Named(_, _) => matches!(mark, Mark::OpenBracket)
+            || operand_takes(count, outer, mark),
         ExprSpot::Bracket(_, _) | ExprSpot::ColonRead(_, _, _) => false,
         ExprSpot::HighRead(_, _, _) => matches!(mark, Mark::CloseBracket | Mark::Colon),
         ExprSpot::LowRead(_, _, _, _) => matches!(mark, Mark::CloseBracket),
@@ -140,8 +118,8 @@ fn stmt_takes(place: &StmtSpot, outer: &Outer, mark: Mark) -> bool
     match place {
         StmtSpot::Target(_, _) => matches!(mark, Mark::LessEquals),
         StmtSpot::IfRead(_, _) | StmtSpot::CaseRead(_, _) => matches!(mark, Mark::Open),
-        StmtSpot::Labels(_, _, _, _, _) => matches!(mark, Mark::Comma | Mark::Colon),
-        StmtSpot::DefaultRead(_, _, _, _) => matches!(mark, Mark::Colon),
+        StmtSpot::Labels(_, _, _) => matches!(mark, Mark::Comma | Mark::Colon),
+        StmtSpot::DefaultRead(_, _) => matches!(mark, Mark::Colon),
         _ => false,
     }
 }
@@ -198,7 +176,7 @@ pub(crate) fn takes(place: &Place, outer: &Outer, token: &Lexeme) -> bool
         Lexeme::Word(name) => {
             let expected = expected_at(place, outer);
             let word = name.as_str().as_bytes();
-            expected.lists(word) || (expected.names && !is_reserved(word))
+            expected.lists(word, false) || (expected.names && !is_reserved(word))
         }
         Lexeme::Number(long, n) => takes_number(place, outer, *long, n.value),
         Lexeme::Constant(_) => expected_at(place, outer).literals,
@@ -227,6 +205,13 @@ fn takes_longer(place: &Place, outer: &Outer, mark: Mark) -> bool
     }
 }
 
+/// Whether a number, told likewise, or a literal may come.
+pub(crate) fn takes_digits(place: &Place, outer: &Outer, long: bool, value: u8) -> bool
+    ensures { result ≡ (taken (state_of place.now outer.now) (Number long value) || takes_literals (state_of place.now outer.now)) }
+{
+    takes_number(place, outer, long, value) || expected_at(place, outer).literals
+}
+
 /// Whether what the lexer has begun can go on to a token with which a text may go on.
 pub(crate) fn is_live(place: &Place, outer: &Outer, lexer: &Scanner) -> bool
     ensures { result ≡ live (state_of place.now outer.now) (lexer_of lexer.now) }
@@ -235,11 +220,9 @@ pub(crate) fn is_live(place: &Place, outer: &Outer, lexer: &Scanner) -> bool
         Scanner::InGap(_) => true,
         Scanner::InWord(name) => {
             let expected = expected_at(place, outer);
-            expected.names || expected.lists_longer(name.as_str().as_bytes())
+            expected.names || expected.lists(name.as_str().as_bytes(), true)
         }
-        Scanner::InNumber(long, n) => {
-            takes_number(place, outer, *long, n.value) || expected_at(place, outer).literals
-        }
+        Scanner::InNumber(long, n) => { takes_digits(place, outer, *long, n.value) }
         Scanner::Quoted(_) | Scanner::Lettered(_, _) | Scanner::InDigits(_, _) => {
             expected_at(place, outer).literals
         }

@@ -1,13 +1,11 @@
 //! The words, names and literals that may come where the parser stands.
 ghost use Rattle.std.specs.Prelude.{◌≡◌, ℕ, List, false, map};
-ghost use Rattle.bist_text.specs.ReservedWords.{is_among};
-ghost use Rattle.verilog_text.specs.Expected.{some_begins};
 ghost use Rattle.verilog_text.specs.Places.{Nest, Head, InAlways, AtExpr, AtStmt, AtItem};
 ghost use Rattle.verilog_read.specs.inner.Frames.{holders, around_of};
 ghost use Rattle.verilog_read.specs.inner.Spots.{stmt_spot, item_spot, state_of};
 ghost use Rattle.verilog_read.specs.inner.Holding.{standing};
 ghost use Rattle.verilog_read.specs.declared.precedence.Chain.{Chain};
-ghost use Rattle.verilog_read.specs.inner.WordSets.{words_of, Expects, ExpectsBehind};
+ghost use Rattle.verilog_read.specs.inner.WordSets.{words_of, lists, Expects, ExpectsBehind};
 ghost use Rattle.verilog_read.specs.inner.Ends.{begins};
 
 use crate::places::{Holder, ItemSpot, Outer, Place, StmtSpot};
@@ -38,22 +36,17 @@ pub struct Expected {
     pub literals: bool,
 }
 
-fn is_among(word: &[u8], words: &[&str]) -> bool
-    ensures { result ≡ is_among word.now (map (λ w. w.now) words.now) }
+/// Whether one of these words is this one, or begins with it where it is a part of one.
+fn is_listed(words: &[&str], word: &[u8], part: bool) -> bool
+    ensures { result ≡ lists part word.now (map (λ w. w.now) words.now) }
 {
     for other in words {
-        if word == other.as_bytes() {
-            return true;
-        }
-    }
-    false
-}
-
-fn some_begins(prefix: &[u8], words: &[&str]) -> bool
-    ensures { result ≡ some_begins prefix.now (map (λ w. w.now) words.now) }
-{
-    for word in words {
-        if word.as_bytes().starts_with(prefix) {
+        let fits = if part {
+            other.as_bytes().starts_with(word)
+        } else {
+            word == other.as_bytes()
+        };
+        if fits {
             return true;
         }
     }
@@ -79,24 +72,17 @@ fn words_of(set: WordSet) -> &'static [&'static str]
 }
 
 impl Expected {
-    ghost use Rattle.verilog_text.specs.Expected.{with_else, some_begins};
+    ghost use Rattle.verilog_text.specs.Expected.{with_else};
     ghost use Rattle.verilog_read.specs.inner.Holding.{standing};
     ghost use Rattle.verilog_read.specs.declared.precedence.Chain.{Chain};
-    ghost use Rattle.verilog_read.specs.inner.WordSets.{words_of};
+    ghost use Rattle.verilog_read.specs.inner.WordSets.{words_of, lists};
 
-    /// Whether a word is one of those that may come.
-    pub(crate) fn lists(self, word: &[u8]) -> bool
-        ensures { result ≡ is_among word.now (with_else self.alternative (words_of self.words)) }
+    /// Whether a word is one of those that may come, or one of them begins with it where it is a part of one.
+    pub(crate) fn lists(self, word: &[u8], part: bool) -> bool
+        ensures { result ≡ lists part word.now (with_else self.alternative (words_of self.words)) }
     {
-        (self.alternative && word == b"else".as_slice()) || is_among(word, words_of(self.words))
-    }
-
-    /// Whether one of the words that may come begins so.
-    pub(crate) fn lists_longer(self, prefix: &[u8]) -> bool
-        ensures { result ≡ some_begins prefix.now (with_else self.alternative (words_of self.words)) }
-    {
-        (self.alternative && b"else".starts_with(prefix))
-            || some_begins(prefix, words_of(self.words))
+        (self.alternative && is_listed(&["else"], word, part))
+            || is_listed(words_of(self.words), word, part)
     }
 }
 
@@ -132,8 +118,8 @@ fn expected_behind(waiting: &[Holder]) -> Expected
             }
         }
         Holder::Else(_, _, _) => expected_behind(outer),
-        Holder::Labelled(_, _, _, _) => plain(WordSet::Arms, false, true),
-        Holder::Other(_, _, _) => plain(WordSet::CaseEnd, false, false),
+        Holder::Labelled(_, _) => plain(WordSet::Arms, false, true),
+        Holder::Other(_) => plain(WordSet::CaseEnd, false, false),
     }
 }
 
@@ -156,11 +142,11 @@ fn expected_in_stmt(place: &StmtSpot, outer: &Outer) -> Expected
     ensures { Expects result (AtStmt (stmt_spot place.now (around_of outer.now))) }
 {
     match place {
-        StmtSpot::WantStmt(_) | StmtSpot::DefaultRead(_, _, _, _) => {
+        StmtSpot::WantStmt(_) | StmtSpot::DefaultRead(_, _) => {
             plain(WordSet::Statements, true, false)
         }
         StmtSpot::Block(_, _, _) => plain(WordSet::Block, true, false),
-        StmtSpot::FirstLabel(_, _, _) | StmtSpot::NextLabel(_, _, _, _, _) => {
+        StmtSpot::FirstLabel(_, _) | StmtSpot::NextLabel(_, _, _) => {
             plain(WordSet::Nothing, false, true)
         }
         StmtSpot::HaveStmt(_, _) => expected_behind(outer.holders.as_slice()),

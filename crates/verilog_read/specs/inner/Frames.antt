@@ -6,18 +6,22 @@ use Rattle.verilog_tree.specs.inner.Plain as PInner
 use Rattle.verilog_text.specs.Places.{Head, Around, InAlways, InBlock, InThen, InElse, InArm, InDefault, Alone, AsDriver, AsCondition, AsSubject, AsValue}
 use Rattle.verilog_read.specs.declared.places.Base.TheVariants as B
 use Rattle.verilog_read.specs.declared.places.Base.{Base}
+use Rattle.verilog_read.specs.declared.places.Case.{Case}
 use Rattle.verilog_read.specs.declared.places.Holder.TheVariants as H
 use Rattle.verilog_read.specs.declared.places.Holder.{Holder}
 use Rattle.verilog_read.specs.declared.places.Outer.{Outer}
 use Rattle.verilog_read.specs.declared.places.Style.TheVariants as S
 use Rattle.verilog_read.specs.declared.places.Style.{Style}
 
+abbrev pub arms_of : Case → P.Arms
+arms_of k = P.arms (map PInner.plain_arm k.arms.items)
+
 abbrev pub holder : Holder → Around → Around
 holder (H.Block r old) a = InBlock r (P.plain_stmts old.items) a
 holder (H.Then r c) a = InThen r (P.plain c) a
 holder (H.Else r c s) a = InElse r (P.plain c) (P.plain_stmts s.items) a
-holder (H.Labelled r x bs ls) a = InArm r (P.plain x) (P.arms (map PInner.plain_arm bs.items)) ls.items a
-holder (H.Other r x bs) a = InDefault r (P.plain x) (P.arms (map PInner.plain_arm bs.items)) a
+holder (H.Labelled k ls) a = InArm k.depth (P.plain k.subject) (arms_of k) ls.items a
+holder (H.Other k) a = InDefault k.depth (P.plain k.subject) (arms_of k) a
 
 abbrev pub holders : List Holder → Around → Around
 holders [] a = a

@@ -10,11 +10,16 @@ use Rattle.verilog_read.specs.declared.lexer.LexFault.TheVariants.{Unexpected, L
 use Rattle.verilog_read.specs.declared.lexer.Read.{Read}
 use Rattle.verilog_read.specs.declared.lexer.Scanner.{Scanner}
 use Rattle.verilog_read.specs.declared.lexer.Scanner.TheVariants as S
-use Rattle.verilog_text.specs.Lexing.{Lexer, InGap, InWord, InNumber, Quoted, Lettered, InDigits, Marked, Whole}
+use Rattle.verilog_text.specs.Lexing.{Lexer, silent, with_token, InGap, InWord, InNumber, Quoted, Lettered, InDigits, Marked, Whole}
 
 abbrev pub tokens_of : Option Lexeme → Option Token
 tokens_of None = None
 tokens_of (Some t) = Some (token_of t)
+
+-- what is begun behind a token, or in white space
+abbrev pub behind : Option Token → Option Lexer → Option (Lexer × Option Token)
+behind None o = silent o
+behind (Some t) o = with_token t o
 
 abbrev pub ends_of : Option (Option Lexeme) → Option (Option Token)
 ends_of None = None
@@ -75,24 +80,3 @@ Scans most limit o (Err Unexpected) = o ≡ None
 Scans most limit o (Err LongName) = Holds o (λ r. (r.1 ≡ None) × IsLong r.0)
 Scans most limit o (Err LargeNumber) = Holds o (λ r. (r.1 ≡ None) × IsLarge limit r.0)
 Scans most limit o (Err WrongLiteral) = Holds o (λ r. (r.1 ≡ None) × IsWrong r.0)
-
--- the same, of the state alone
-abbrev pub Begins : ℕ → ℕ → Option Lexer → Result Scanner LexFault → Type 0
-Begins most limit o (Ok s) = (o ≡ Some (lexer_of s)) × Fits most (lexer_of s)
-Begins most limit o (Err Unexpected) = o ≡ None
-Begins most limit o (Err LongName) = Holds o (λ l. IsLong l)
-Begins most limit o (Err LargeNumber) = Holds o (λ l. IsLarge limit l)
-Begins most limit o (Err WrongLiteral) = Holds o (λ l. IsWrong l)
-
--- the same of a state that is new
-abbrev pub BeginsAs : Option Lexer → Option Scanner → Type 0
-BeginsAs o None = o ≡ None
-BeginsAs o (Some s) = (o ≡ Some (lexer_of s)) × Fits 63 (lexer_of s)
-
--- the same of white space
-abbrev pub Stays : Option (Lexer × Option Token) → Result Scanner LexFault → Type 0
-Stays o (Ok s) = (o ≡ Some (lexer_of s, None)) × Fits 63 (lexer_of s)
-Stays o (Err Unexpected) = o ≡ None
-Stays o (Err LongName) = ⊥
-Stays o (Err LargeNumber) = ⊥
-Stays o (Err WrongLiteral) = ⊥

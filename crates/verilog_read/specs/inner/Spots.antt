@@ -1,8 +1,6 @@
 -- Inner. What the code's places are.
-use Rattle.std.specs.Prelude.{map}
 use Rattle.verilog_tree.specs.Plain as P
-use Rattle.verilog_tree.specs.inner.Plain as PInner
-use Rattle.verilog_read.specs.inner.Frames.{styled, head_of, around_of, alone_of}
+use Rattle.verilog_read.specs.inner.Frames.{styled, arms_of, head_of, around_of, alone_of}
 use Rattle.verilog_read.specs.inner.Holding.{standing, nests_of}
 use Rattle.verilog_text.specs.Places as Q
 use Rattle.verilog_text.specs.Places.{Head, Around, StmtPlace, WantStmt, Target, IfRead, CaseRead, FirstLabel, Labels, NextLabel, DefaultRead, Block, HaveStmt, ItemPlace, Begin, HeadName, HeadOpen, WantPort, InputRead, OutputRead, WantRange, WantHigh, WantColon, WantZero, WantBracket, WantName, NameRead, PortsRead, WantItem, AssignRead, DriveRead, AlwaysRead, AtRead, ClockOpen, EdgeRead, ClockRead, Ended, AsWire, AsReg, AsPort, State, AtExpr, AtStmt, AtItem}
@@ -21,10 +19,10 @@ stmt_spot (T.WantStmt q) a = WantStmt q a
 stmt_spot (T.Target q n) a = Target q n.bytes a
 stmt_spot (T.IfRead r q) a = IfRead r q a
 stmt_spot (T.CaseRead r q) a = CaseRead r q a
-stmt_spot (T.FirstLabel r q x) a = FirstLabel r q (P.plain x) P.NoArm a
-stmt_spot (T.Labels r q x bs ls) a = Labels r q (P.plain x) (P.arms (map PInner.plain_arm bs.items)) ls.items a
-stmt_spot (T.NextLabel r q x bs ls) a = NextLabel r q (P.plain x) (P.arms (map PInner.plain_arm bs.items)) ls.items a
-stmt_spot (T.DefaultRead r q x bs) a = DefaultRead r q (P.plain x) (P.arms (map PInner.plain_arm bs.items)) a
+stmt_spot (T.FirstLabel q k) a = FirstLabel k.depth q (P.plain k.subject) (arms_of k) a
+stmt_spot (T.Labels q k ls) a = Labels k.depth q (P.plain k.subject) (arms_of k) ls.items a
+stmt_spot (T.NextLabel q k ls) a = NextLabel k.depth q (P.plain k.subject) (arms_of k) ls.items a
+stmt_spot (T.DefaultRead q k) a = DefaultRead k.depth q (P.plain k.subject) (arms_of k) a
 stmt_spot (T.Block p r old) a = Block p r (P.plain_stmts old.items) a
 stmt_spot (T.HaveStmt q s) a = HaveStmt q (P.plain_stmts s.items) a
 

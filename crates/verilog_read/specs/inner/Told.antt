@@ -1,5 +1,5 @@
 -- Inner. For proofs and private contracts alone: what the code answers, by what the machine does.
-use Rattle.std.specs.Prelude.{◌≡◌, ◌||◌, ℕ, ⊤, true, Result, Ok, Err}
+use Rattle.std.specs.Prelude.{◌≡◌, ◌||◌, ⊤, true, Result, Ok, Err}
 use Rattle.bist_text.specs.Lexed.{Both}
 use Rattle.verilog_tree.specs.declared.tree.Module.{Module}
 use Rattle.verilog_tree.specs.Plain.{plain_module}
@@ -15,7 +15,7 @@ use Rattle.verilog_read.specs.declared.lexer.LexFault.{LexFault}
 use Rattle.verilog_read.specs.declared.lexer.LexFault.TheVariants as L
 use Rattle.verilog_read.specs.declared.lexer.Read.{Read}
 use Rattle.verilog_read.specs.declared.lexer.Scanner.{Scanner}
-use Rattle.verilog_text.specs.Answering.{Taking, Leads, Refused, OneTooMany, Move, Goes, Stops, Answer, Finished, Faulty, while_live, stuck, end_answer}
+use Rattle.verilog_text.specs.Answering.{Taking, Leads, Refused, OneTooMany, Move, Goes, Stops, Answer, Finished, Faulty, while_live, stuck}
 use Rattle.verilog_text.specs.inner.Answering.{read_within}
 use Rattle.verilog_text.specs.Expected.{taken, takes_names, takes_literals}
 use Rattle.verilog_read.specs.inner.Lexemes.{lexer_of, tokens_of}
@@ -50,12 +50,6 @@ Scanned q m (Err L.Unexpected) = m ≡ stuck q.parser (last q.lexer)
 Scanned q m (Err L.LongName) = m ≡ while_live (takes_names q.parser) (Stops LongName)
 Scanned q m (Err L.LargeNumber) = m ≡ while_live (taken q.parser (Number true 0) || takes_literals q.parser) (Stops OutOfRange)
 Scanned q m (Err L.WrongLiteral) = m ≡ while_live (takes_literals q.parser) (Stops OutOfRange)
-
--- the text ends, where a token began at this byte; or the fault of a byte; or there was no memory
-abbrev pub Reads : Answer → Result ℕ ReadFault → Both State Lexer → Type 0
-Reads a (Ok k) q = a ≡ end_answer q.parser (last q.lexer) k
-Reads a (Err R.NoMemory) q = ⊤
-Reads a (Err fault) q = a ≡ Faulty fault
 
 -- the module that is read, or the fault; or there was no memory
 abbrev pub Gives : Answer → Result Module ReadFault → Type 0
