@@ -1,4 +1,4 @@
-ghost use Rattle.std.specs.Prelude.{◌≡◌, ◌++◌, ◌∷◌, [], IfOk, OnOk, IfSome, Contains};
+ghost use Rattle.std.specs.Prelude.{◌≡◌, IfOk, IfSome, Contains};
 ghost use Rattle.std.specs.List.{AllByRecursion};
 ghost use Rattle.report.specs.Items.{AreJudged, IsJudged, item_of};
 
@@ -51,17 +51,6 @@ fn judge_once(judged: &[JudgedItem], march: &March, item: &Item) -> JudgedItem
     }
 }
 
-/// Judges one item more.
-fn judge_next(judged: &mut Vec<JudgedItem>, march: &March, item: &Item) -> Result<(), NoMemory>
-    ensures { OnOk result ((j : JudgedItem) × (judged.new.items ≡ judged.old.items ++ j ∷ []) × (item_of j ≡ item.now) × (AllByRecursion (IsJudged march.now) judged.old.items → IsJudged march.now j)) }
-{
-    let next = judge_once(judged, march, item);
-    match judged.push(next) {
-        Ok(()) => Ok(()),
-        Err(_) => Err(NoMemory),
-    }
-}
-
 /// The items of a list with their verdicts, in their order. The only refusal is want of memory.
 pub fn judge_items(
     alloc: Global,
@@ -72,7 +61,10 @@ pub fn judge_items(
 {
     let mut judged = Vec::new(alloc);
     for item in items {
-        judge_next(&mut judged, march, item)?;
+        let next = judge_once(judged.as_slice(), march, item);
+        if judged.push(next).is_err() {
+            return Err(NoMemory);
+        }
     }
     Ok(judged)
 }

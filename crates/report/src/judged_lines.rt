@@ -134,7 +134,7 @@ fn write_dyn_escape(out: &mut Vec<u8>, escape: &DynEscape, size: usize) -> Resul
     write_passing(out, cells_of(escape), escape.directions, size)
 }
 
-/// Appends the line of a static primitive with its verdict.
+/// Appends the line of a static primitive with its verdict, without its end.
 fn write_plain_line(
     out: &mut Vec<u8>,
     prim: &Prim,
@@ -142,21 +142,18 @@ fn write_plain_line(
     size: usize,
 ) -> Result<(), NoMemory>
     requires { size ≤ 64 }
-    ensures { OnOk result (out.new.items ≡ out.old.items ++ judged_line size (JudgedItem.Plain prim.now verdict.now)) }
+    ensures { OnOk result (out.new.items ++ codes "\n" ≡ out.old.items ++ judged_line size (JudgedItem.Plain prim.now verdict.now)) }
 {
     match verdict {
-        Verdict::Covered => {
-            write_prim(out, b"covered ", prim)?;
-        }
+        Verdict::Covered => write_prim(out, b"covered ", prim),
         Verdict::Escape(escape) => {
             write_prim(out, b"escape ", prim)?;
-            write_escape(out, escape, size)?;
+            write_escape(out, escape, size)
         }
     }
-    put(out, b"\n")
 }
 
-/// Appends the line of a dynamic primitive with its verdict.
+/// Appends the line of a dynamic primitive with its verdict, without its end.
 fn write_dyn_line(
     out: &mut Vec<u8>,
     prim: &DynPrim,
@@ -164,24 +161,21 @@ fn write_dyn_line(
     size: usize,
 ) -> Result<(), NoMemory>
     requires { size ≤ 64 }
-    ensures { OnOk result (out.new.items ≡ out.old.items ++ judged_line size (JudgedItem.Dyn prim.now verdict.now)) }
+    ensures { OnOk result (out.new.items ++ codes "\n" ≡ out.old.items ++ judged_line size (JudgedItem.Dyn prim.now verdict.now)) }
 {
     match verdict {
-        DynVerdict::Covered => {
-            write_dyn(out, b"covered ", prim)?;
-        }
+        DynVerdict::Covered => write_dyn(out, b"covered ", prim),
         DynVerdict::Escape(escape) => {
             write_dyn(out, b"escape ", prim)?;
-            write_dyn_escape(out, escape, size)?;
+            write_dyn_escape(out, escape, size)
         }
     }
-    put(out, b"\n")
 }
 
-/// Appends the line of a judged item.
+/// Appends the line of a judged item, without its end.
 fn write_line(out: &mut Vec<u8>, judged: &JudgedItem, size: usize) -> Result<(), NoMemory>
     requires { size ≤ 64 }
-    ensures { OnOk result (out.new.items ≡ out.old.items ++ judged_line size judged.now) }
+    ensures { OnOk result (out.new.items ++ codes "\n" ≡ out.old.items ++ judged_line size judged.now) }
 {
     match judged {
         JudgedItem::Plain(prim, verdict) => write_plain_line(out, prim, verdict, size),
@@ -200,6 +194,7 @@ pub(crate) fn write_lines(
 {
     for item in judged {
         write_line(out, item, size)?;
+        put(out, b"\n")?;
     }
     Ok(())
 }
