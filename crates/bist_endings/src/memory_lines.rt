@@ -19,23 +19,14 @@ fn put_row(line: &mut Vec<u8>, rows: u16, row: u8) -> Result<(), NoMemory>
     }
 }
 
-/// Appends rows in ascending order, each behind a blank.
-#[tactic(auto, using(crate::proofs::Rows::rows_more))]
-fn put_rows(line: &mut Vec<u8>, rows: u16) -> Result<(), NoMemory>
-    ensures { OnOk result (line.new.items ≡ line.old.items ++ rows_text rows 16) }
-{
-    for row in 0..16 {
-        put_row(line, rows, row)?;
-    }
-    Ok(())
-}
-
-/// Appends the line of rows that depend on one another.
+/// Appends the line of rows that depend on one another, in ascending order.
 fn put_singular(line: &mut Vec<u8>, rows: u16) -> Result<(), NoMemory>
     ensures { OnOk result (line.new.items ≡ line.old.items ++ (codes "memory D6 rows" ++ rows_text rows 16 ++ codes "\n")) }
 {
     put(line, b"memory D6 rows")?;
-    put_rows(line, rows)?;
+    for row in 0..16 {
+        put_row(line, rows, row)?;
+    }
     put(line, b"\n")
 }
 

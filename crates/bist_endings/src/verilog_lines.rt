@@ -14,22 +14,14 @@ fn put_named(line: &mut Vec<u8>, text: &[u8], name: &Name) -> Result<(), NoMemor
     put_between(line, text, name.as_str().as_bytes(), b"\n")
 }
 
-/// Appends names, each behind a blank.
-fn put_names(line: &mut Vec<u8>, names: &[Name]) -> Result<(), NoMemory>
-    ensures { OnOk result (line.new.items ≡ line.old.items ++ names_text names.now) }
-{
-    for name in names {
-        put_between(line, b" ", name.as_str().as_bytes(), b"")?;
-    }
-    Ok(())
-}
-
 /// Appends the line of a loop of wires.
 fn put_loop(line: &mut Vec<u8>, names: &[Name]) -> Result<(), NoMemory>
     ensures { OnOk result (line.new.items ≡ line.old.items ++ (codes "verilog N7" ++ names_text names.now ++ codes "\n")) }
 {
     put(line, b"verilog N7")?;
-    put_names(line, names)?;
+    for name in names {
+        put_between(line, b" ", name.as_str().as_bytes(), b"")?;
+    }
     put(line, b"\n")
 }
 
