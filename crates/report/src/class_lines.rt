@@ -1,4 +1,4 @@
-ghost use Rattle.std.specs.Prelude.{◌≡◌, ◌<◌, ◌++◌, OnOk, map};
+ghost use Rattle.std.specs.Prelude.{◌≡◌, ◌++◌, OnOk, map};
 ghost use Rattle.dynamic_core.specs.declared.item.Item.TheVariants.{Dyn};
 ghost use Rattle.report.specs.Items.{item_of};
 ghost use Rattle.report.specs.Report.{class_text, item_class, is_in_class, is_covered_in, class_size, class_covered, class_line, class_lines, class_order};
@@ -113,21 +113,9 @@ fn write_class(out: &mut Vec<u8>, class: ItemClass, judged: &[JudgedItem]) -> Re
     if counts.count == 0 {
         return Ok(());
     }
-    put_class(out, class, counts.count, counts.covered)
-}
-
-fn put_class(
-    out: &mut Vec<u8>,
-    class: ItemClass,
-    count: usize,
-    covered: usize,
-) -> Result<(), NoMemory>
-    requires { 0 < count }
-    ensures { OnOk result (out.new.items ≡ out.old.items ++ class_line class count covered) }
-{
     put_between(out, b"class ", class_name(class), b" ")?;
-    put_number_between(out, b"", count as u64, b" covered ")?;
-    put_number_between(out, b"", covered as u64, b"\n")
+    put_number_between(out, b"", counts.count as u64, b" covered ")?;
+    put_number_between(out, b"", counts.covered as u64, b"\n")
 }
 
 /// Appends a line for each class that occurs.
